@@ -1,0 +1,132 @@
+-- Runs in pieces, and code that stands in memory.
+use Rattle.std.proofs.Common.{◌≡◌, ℕ, zero, suc, ◌+◌, ◌-◌, ◌*◌, ◌%◌, ◌^◌, ◌<◌, ◌≤◌, Bool, true, false, List, [], ◌∷◌, ◌++◌, length, Option, Some, None, refl, sym, ap, ◌∙◌, subst, arith}
+use Rattle.std.specs.Prelude.{map, slice_get}
+use Rattle.std.proofs.Math.Nat.{mod-eq_of_lt}
+use Rattle.guest_types.specs.Memory.{Memory, fetched}
+use Rattle.word_rows.specs.Row.{Instruction, IsInstruction, reads, spells}
+use Rattle.word_rows.proofs.Laws.{reads-spells}
+use Rattle.a64_code.specs.Table.{Name, row, a64_names}
+use Rattle.a64_code.proofs.Valid.{a64_table}
+use Rattle.machine_model.specs.declared.outcome.StopKind.{StopKind}
+use Rattle.machine_model.specs.declared.outcome.StopKind.TheVariants.{Undefined}
+use Rattle.machine_model.specs.Machine.{State, Step, Went, Ended, Stopped}
+use Rattle.machine_model.specs.OneStep.{step, does, do_word, reads_word}
+use Rattle.machine_model.specs.Run.{Outcome, End, Stop, Spent, run, go_on, after_steps, is_over, steps_taken}
+
+-- ---- runs
+
+-- the machine goes from s to t in n steps
+pub record Leads (n : ℕ) (s t : State) : Type 0 where
+  pub by : (j k taken : ℕ) → j ≡ k + n → run j taken s ≡ run k (taken + n) t
+
+pub leads_none : (s : State) → Leads 0 s s
+leads_none s = record { by = λ j k taken e.
+    let e1 : j ≡ k = omega arith in
+    let e2 : taken ≡ taken + 0 = omega arith in
+    ap (λ n. run n taken s) e1 ∙ ap (λ n. run k n s) e2 }
+
+pub leads_one : (s t : State) → step s ≡ Went t → Leads 1 s t
+leads_one s t h = record { by = λ j k taken e.
+    let e1 : j ≡ suc k = omega arith in
+    ap (λ n. run n taken s) e1 ∙ ap (λ r. go_on r s (taken + 1) (run k (taken + 1))) h }
+
+pub leads_on : (m n : ℕ) (s t u : State) → Leads m s t → Leads n t u → Leads (m + n) s u
+leads_on m n s t u a b = record { by = λ j k taken e.
+    let e2 : taken + m + n ≡ taken + (m + n) = omega arith in
+    a.by j (k + n) taken (omega arith) ∙ b.by (k + n) k (taken + m) refl ∙ ap (λ c. run k c u) e2 }
+
+went_on : (o : Step) (n : ℕ) (s t : State) → step s ≡ o → elim o as (λ o. Option State) [ Went u ↦ after_steps n u | Ended result ↦ None | Stopped kind pc at memory ↦ None ] ≡ Some t → ((u : State) → after_steps n u ≡ Some t → Leads n u t) → Leads (suc n) s t
+went_on (Went u) n s t e h rest =
+    let two : 1 + n ≡ suc n = omega arith in
+    subst (λ k. Leads k s t) two (leads_on 1 n s u t (leads_one s u e) (rest u h))
+went_on (Ended r) n s t e h rest = cc
+went_on (Stopped k p a m) n s t e h rest = cc
+
+-- the steps that all go on lead to their state
+pub leads_after : (n : ℕ) (s t : State) → after_steps n s ≡ Some t → Leads n s t
+leads_after zero s t h = let e : s ≡ t = cc in subst (λ u. Leads 0 s u) e (leads_none s)
+leads_after (suc n) s t h = went_on (step s) n s t refl h (λ u e. leads_after n u t e)
+
+-- a run that comes to an end has it at every number of steps from then on
+pub ends : (n steps r : ℕ) (s t : State) → Leads n s t → step t ≡ Ended r → n + 1 ≤ steps → run steps 0 s ≡ End t.memory r (n + 1)
+ends n steps r s t leads e h =
+    let k = steps - (n + 1) in
+    let e1 : steps ≡ suc k + n = omega arith in
+    let e2 : 0 + n + 1 ≡ n + 1 = omega arith in
+    leads.by steps (suc k) 0 e1
+    ∙ ap (λ o. go_on o t (0 + n + 1) (run k (0 + n + 1))) e
+    ∙ ap (λ c. End t.memory r c) e2
+
+over_on : (o : Step) (s : State) (n m taken : ℕ) → is_over (go_on o s (taken + 1) (run n (taken + 1))) ≡ true → ((u : State) → is_over (run n (taken + 1) u) ≡ true → run m (taken + 1) u ≡ run n (taken + 1) u) → go_on o s (taken + 1) (run m (taken + 1)) ≡ go_on o s (taken + 1) (run n (taken + 1))
+over_on (Went u) s n m taken h rest = rest u h
+over_on (Ended r) s n m taken h rest = refl
+over_on (Stopped k p a memory) s n m taken h rest = refl
+
+-- a run that is over stays as it is at every greater number of steps
+pub settled : (n m taken : ℕ) (s : State) → n ≤ m → is_over (run n taken s) ≡ true → run m taken s ≡ run n taken s
+settled zero m taken s h over = cc
+settled (suc n) zero taken s h over = absurd (omega arith)
+settled (suc n) (suc m) taken s h over = over_on (step s) s n m taken over (λ u e. settled n m (taken + 1) u (omega arith) e)
+
+count_on : (o : Step) (s : State) (n taken : ℕ) → ((u : State) → steps_taken (run n (taken + 1) u) ≤ taken + 1 + n) → steps_taken (go_on o s (taken + 1) (run n (taken + 1))) ≤ taken + suc n
+count_on (Went u) s n taken rest = let h = rest u in omega (arith, h)
+count_on (Ended r) s n taken rest = omega arith
+count_on (Stopped k p a memory) s n taken rest = omega arith
+
+pub within : (n taken : ℕ) (s : State) → steps_taken (run n taken s) ≤ taken + n
+within zero taken s = omega arith
+within (suc n) taken s = count_on (step s) s n taken (λ u. within n (taken + 1) u)
+
+-- ---- code
+
+-- the place of the next word
+abbrev pub word_after : ℕ → ℕ
+word_after pc = (pc + 4) % 2 ^ 64
+
+-- these instructions stand one after another from a place on
+abbrev pub HasCode : Memory → ℕ → List (Instruction Name) → Type 0
+HasCode memory pc [] = Unit {0}
+HasCode memory pc (i ∷ is) = (fetched memory pc ≡ Some (spells row i)) × IsInstruction row a64_names i × HasCode memory (word_after pc) is
+
+-- the place after so many instructions
+abbrev pub place_after : ℕ → List (Instruction Name) → ℕ
+place_after pc [] = pc
+place_after pc (i ∷ is) = place_after (word_after pc) is
+
+-- what is spelled is read
+pub read_word : (i : Instruction Name) → IsInstruction row a64_names i → reads_word (spells row i) ≡ Some i
+unfolding reads_word
+read_word i h = reads-spells row a64_names a64_table i h
+
+-- one step
+pub step_is : (s : State) (i : Instruction Name) (is : List (Instruction Name)) → HasCode s.memory s.pc (i ∷ is) → step s ≡ does i s
+step_is s i is h =
+    ap (λ o. do_word o s) h.0
+    ∙ ap (λ o. elim o as (λ o. Step) [ None ↦ Stopped Undefined s.pc (spells row i) s.memory | Some j ↦ does j s ]) (read_word i h.1)
+
+-- code in two parts
+pub code_front : (memory : Memory) (pc : ℕ) (front back : List (Instruction Name)) → HasCode memory pc (front ++ back) → HasCode memory pc front
+code_front memory pc [] back h = tt
+code_front memory pc (i ∷ front) back h = (h.0, h.1, code_front memory (word_after pc) front back h.2)
+
+pub code_back : (memory : Memory) (pc : ℕ) (front back : List (Instruction Name)) → HasCode memory pc (front ++ back) → HasCode memory (place_after pc front) back
+code_back memory pc [] back h = h
+code_back memory pc (i ∷ front) back h = code_back memory (word_after pc) front back h.2
+
+-- instructions that all have a row
+abbrev pub AllListed : List (Instruction Name) → Type 0
+AllListed [] = Unit {0}
+AllListed (i ∷ is) = IsInstruction row a64_names i × AllListed is
+
+-- the words of instructions
+abbrev pub words_of : List (Instruction Name) → List ℕ
+words_of is = map (spells row) is
+
+-- code whose words are fetched at their places
+pub code_from : (memory : Memory) (is : List (Instruction Name)) (pc : ℕ) → AllListed is → pc + 4 * length is < 2 ^ 64 → ((k w : ℕ) → slice_get (words_of is) k ≡ Some w → fetched memory (pc + 4 * k) ≡ Some w) → HasCode memory pc is
+code_from memory [] pc listed fits f = tt
+code_from memory (i ∷ is) pc listed fits f =
+    let e0 : pc + 4 * 0 ≡ pc = omega arith in
+    let e1 : word_after pc ≡ pc + 4 = mod-eq_of_lt (omega arith) in
+    let rest = code_from memory is (pc + 4) listed.1 (omega arith) (λ k w at. let e : pc + 4 * suc k ≡ pc + 4 + 4 * k = omega arith in subst (λ p. fetched memory p ≡ Some w) e (f (suc k) w at)) in
+    (subst (λ p. fetched memory p ≡ Some (spells row i)) e0 (f 0 (spells row i) refl), listed.0, subst (λ p. HasCode memory p is) (sym e1) rest)

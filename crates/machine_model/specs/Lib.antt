@@ -1,0 +1,7 @@
+pub mod Machine
+pub mod Arithmetic
+pub mod Effects
+pub mod OneStep
+pub mod Load
+pub mod Written
+pub mod Run

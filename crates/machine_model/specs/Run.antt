@@ -1,0 +1,62 @@
+-- Runs of the machine.
+use Rattle.std.specs.Prelude.{ℕ, zero, suc, ◌+◌, ◌-◌, List, ◌++◌, length, replicate, Result, Ok, Err, Option, Some, None, Bool, true, false}
+use Rattle.guest_types.specs.Memory.{Memory, merged}
+use Rattle.machine_model.specs.declared.outcome.StopKind.{StopKind}
+use Rattle.machine_model.specs.Machine.{State, Step, Went, Ended, Stopped}
+use Rattle.machine_model.specs.OneStep.{step}
+use Rattle.machine_model.specs.Load.{Image, load}
+
+-- How a run comes out, with the memory left and the number of steps taken. A step that ends or stops is counted.
+pub data Outcome : Type 0 where
+  End : (memory : Memory) (result steps : ℕ) → Outcome
+  Stop : (kind : StopKind) (pc at : ℕ) (memory : Memory) (steps : ℕ) → Outcome
+  Spent : (pc : ℕ) (memory : Memory) (steps : ℕ) → Outcome
+
+abbrev pub go_on : Step → State → ℕ → (State → Outcome) → Outcome
+go_on (Went state) s steps go = go state
+go_on (Ended result) s steps go = End s.memory result steps
+go_on (Stopped kind pc at memory) s steps go = Stop kind pc at memory steps
+
+-- at most n steps, after so many that were taken
+abbrev pub run : ℕ → ℕ → State → Outcome
+run zero taken s = Spent s.pc s.memory taken
+run (suc n) taken s = go_on (step s) s (taken + 1) (run n (taken + 1))
+
+-- the arguments in X0 on, and zero in the other registers
+abbrev pub start_x : List ℕ → List ℕ
+start_x args = args ++ replicate (31 - length args) 0
+
+-- Where a run starts: the image's pages with the given ones, PC at the entry, and zero in all other registers.
+unfoldable pub start : Image → List ℕ → Memory → ℕ → State
+start image args pages vl = record {
+  memory = merged image.pages pages;
+  pc = image.entry;
+  x = start_x args;
+  sp = 0;
+  flags = record { n = false; z = false; c = false; v = false };
+  z = replicate 32 (replicate 256 0);
+  p = replicate 16 (replicate 32 0);
+  ffr = replicate 32 0;
+  vl = vl;
+}
+
+-- the state after n steps, where each of them went on
+abbrev pub after_steps : ℕ → State → Option State
+after_steps zero s = Some s
+after_steps (suc n) s = elim (step s) [ Went t ↦ after_steps n t | Ended result ↦ None | Stopped kind pc at memory ↦ None ]
+
+-- the run ended or stopped
+abbrev pub is_over : Outcome → Bool
+is_over (End memory result steps) = true
+is_over (Stop kind pc at memory steps) = true
+is_over (Spent pc memory steps) = false
+
+abbrev pub steps_taken : Outcome → ℕ
+steps_taken (End memory result steps) = steps
+steps_taken (Stop kind pc at memory steps) = steps
+steps_taken (Spent pc memory steps) = steps
+
+-- the machine's run of a file, where it can be loaded
+abbrev pub machine_run : List ℕ → List ℕ → Memory → ℕ → ℕ → Option Outcome
+machine_run file args pages vl steps =
+    elim (load file) [ Ok image ↦ Some (run steps 0 (start image args pages vl)) | Err fault ↦ None ]

@@ -1,0 +1,28 @@
+//! Laws of the definitions: what runs owe one another, and what a written file is loaded as.
+
+ghost use Rattle.std.specs.Prelude.{◌≡◌, ℕ, ◌+◌, ◌*◌, ◌^◌, ◌<◌, ◌≤◌, true, List, length, slice_get, Some, None, Ok, All};
+ghost use Rattle.guest_types.specs.Memory.{Memory, DoNotMeet, fetched, merged};
+ghost use Rattle.machine_model.specs.Machine.{State};
+ghost use Rattle.machine_model.specs.Load.{load};
+ghost use Rattle.machine_model.specs.Written.{file_of, code_base, image_of_words};
+ghost use Rattle.machine_model.specs.Run.{Spent, run, after_steps, is_over, steps_taken};
+
+/// A run whose first steps go on is the run from the state that they lead to, with their number counted.
+pub fn runs_compose()
+    ensures onward { (n k taken : ℕ) (s t : State) → after_steps n s ≡ Some t → run (n + k) taken s ≡ run k (taken + n) t }
+    ensures spent { (n taken : ℕ) (s t : State) → after_steps n s ≡ Some t → run n taken s ≡ Spent t.pc t.memory (taken + n) }
+{}
+
+/// A run that ended or stopped within some steps is the same for every greater number of them.
+pub fn runs_settle()
+    ensures settled { (n m taken : ℕ) (s : State) → n ≤ m → is_over (run n taken s) ≡ true → run m taken s ≡ run n taken s }
+    ensures within { (n taken : ℕ) (s : State) → steps_taken (run n taken s) ≤ taken + n }
+{}
+
+/// A written file is loaded as the image of its words, beside any pages that do not meet it, with each word in its place.
+pub fn written_file_loads()
+    ensures loads { (words : List ℕ) → length words ≤ 65536 → load (file_of words) ≡ Ok (image_of_words words) }
+    ensures fetches { (words : List ℕ) (pages : Memory) (k w : ℕ) → length words ≤ 65536 → All (λ word. word < 2 ^ 32) words
+        → DoNotMeet (image_of_words words).pages pages → slice_get words k ≡ Some w
+        → fetched (merged (image_of_words words).pages pages) (code_base + 4 * k) ≡ Some w }
+{}

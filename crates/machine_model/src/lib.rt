@@ -1,0 +1,6 @@
+//! The machine: its instructions, its state, its files and its runs, as definitions that all other crates cite.
+#![tactic(auto)]
+
+pub mod elf_fault;
+pub mod laws;
+pub mod outcome;
