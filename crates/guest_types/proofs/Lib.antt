@@ -1,0 +1,7 @@
+pub mod Numbers
+pub mod Registers
+pub mod Widths
+pub mod Predicates
+pub mod Folds
+pub mod Writes
+pub mod Merges

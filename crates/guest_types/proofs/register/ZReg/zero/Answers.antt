@@ -1,0 +1,8 @@
+use Rattle.std.proofs.Common.{ap, sym, ◌-◌, replicate}
+use Rattle.std.proofs.Math.Nat.{mul-zero}
+use Rattle.guest_types.specs.Elements.{elements}
+use Rattle.guest_types.proofs.register.ZReg.zero.Goals as goal
+
+pub returns : goal.returns
+unfolding elements
+returns c k f = ap (λ n. replicate (256 - n) 0) (sym (mul-zero k))

@@ -1,0 +1,4 @@
+pub mod Length
+pub mod Memory
+pub mod Elements
+pub mod Lanes

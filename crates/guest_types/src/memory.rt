@@ -1,0 +1,108 @@
+// Pages of 4,096 bytes, and refused accesses.
+
+ghost use Rattle.std.specs.Prelude.{◌≡◌, ℕ, ◌<◌, ◌^◌, List, length, IsSome, IfSome, ◌↔◌, slice_set};
+
+use std::marker::Model;
+
+/// What a page may be used for. Every page is readable.
+#[derive(Clone, Copy, PartialEq, Eq)]
+pub enum Perm {
+    Read,
+    ReadWrite,
+    ReadExec,
+}
+
+/// An access that the memory refuses.
+///
+/// `address` is that of the first refused byte, counted from the address of the access.
+#[derive(Clone, Copy, PartialEq, Eq)]
+pub struct AccessFault {
+    pub address: u64,
+    pub write: bool,
+}
+
+/// The number of a page: its first address over 4,096, below 2^36.
+#[derive(Clone, Copy)]
+pub struct PageNo {
+    number: u64,
+}
+
+impl Model for PageNo {
+    ghost Value = { ℕ };
+
+    ghost view = { λ p. p.number };
+
+    ghost invariant = { λ p. p.number < 2 ^ 36 };
+
+    ghost inverse = { λ n. record { number = n } };
+}
+
+impl PageNo {
+    /// The page with this number, where there is one.
+    pub fn new(number: u64) -> Option<Self>
+        ensures valid { IsSome result ↔ (number < 2 ^ 36) }
+        ensures value { IfSome result (λ page. page ≡ number) }
+    {
+        if number < 1 << 36 {
+            Some(PageNo { number })
+        } else {
+            None
+        }
+    }
+
+    /// The page's number.
+    pub fn number(self) -> u64
+        ensures value { result ≡ self }
+        ensures valid { self < 2 ^ 36 }
+    {
+        self.number
+    }
+}
+
+/// The bytes of a page, of which there are exactly 4,096.
+#[derive(Drop)]
+pub struct PageBytes {
+    bytes: Vec<u8>,
+}
+
+impl Model for PageBytes {
+    ghost Value = { List ℕ };
+
+    ghost view = { λ p. p.bytes.items };
+
+    ghost invariant = { λ p. length p.bytes.items ≡ 4096 };
+}
+
+impl PageBytes {
+    /// A page of these bytes.
+    pub fn new(bytes: Vec<u8>) -> Self
+        requires { length bytes.items ≡ 4096 }
+        ensures { result ≡ bytes.items }
+    {
+        PageBytes { bytes }
+    }
+
+    /// The bytes, from the lowest address on.
+    pub fn as_slice(&self) -> &[u8]
+        ensures bytes { result.now ≡ self.now }
+        ensures whole { length self.now ≡ 4096 }
+    {
+        &self.bytes
+    }
+
+    /// Replaces one byte, by its place in the page.
+    pub fn put(&mut self, at: usize, byte: u8)
+        requires { at < 4096 }
+        ensures { self.new ≡ slice_set self.old at byte }
+    {
+        self.bytes[at] = byte;
+    }
+}
+
+/// A page with its number and permission.
+#[derive(Drop)]
+pub struct PageSpec {
+    pub page: PageNo,
+    pub perm: Perm,
+    pub bytes: PageBytes,
+}
