@@ -4,7 +4,7 @@ use Rattle.std.specs.Prelude.{◌&&◌, slice_index, nat_eq, nat_lt, nat_le, opt
 use Rattle.std.specs.Int.{to_le_bytes, from_le_bytes, byte_at as byte_of_number, w32}
 use Rattle.std.specs.List.{range_with_len}
 use Rattle.std.proofs.lemmas.Nat.{from_le_bytes-to_le_bytes_4}
-use Rattle.std.proofs.lemmas.Bool.{lt-ltb, le-leb, cond-true, cond-false, ne_eqb, eq-eqb, and_from, cases_eq}
+use Rattle.std.proofs.lemmas.Bool.{lt-ltb, le-leb, cond-true, cond-false, ne_eqb, eq-eqb, eqb-true, and_from, cases_eq}
 use Rattle.std.proofs.lemmas.List.FromFn.{get_or-map-range_with_len}
 use Rattle.std.proofs.Math.Nat.{mod-eq_of_lt}
 use Rattle.guest_types.specs.Memory.{Page, Memory, page_at, byte_at, byte_of, number_at, byte_or_zero, after, fetched, is_executable}
@@ -108,3 +108,38 @@ module _ (words : List ℕ) (i : ℕ) (more : Memory) (h : i < length words) (fe
       cond-true _ _ _ aligned
       ∙ ap (option_and_then f) page
       ∙ ap Some number
+
+-- ---- the fetch beside other pages
+
+byte_same : (m n : Memory) (a : ℕ) → page_at n (a / 4096) ≡ page_at m (a / 4096) → byte_or_zero n a ≡ byte_or_zero m a
+byte_same m n a e = ap (λ o. unwrap_or (option_map (λ page. byte_of page a) o) 0) e
+
+-- numbers that lie in one page are the same where that page is
+number_same : (m n : Memory) (page a size : ℕ) → a + size < 2 ^ 64 → page_at n page ≡ page_at m page → ((j : ℕ) → j < size → (a + j) / 4096 ≡ page) → number_at n a size ≡ number_at m a size
+number_same m n page a zero h e at = refl
+number_same m n page a (suc size) h e at =
+    let e0 : a + 0 ≡ a = omega arith in
+    let here : a / 4096 ≡ page = subst (λ k. k / 4096 ≡ page) e0 (at 0 (omega arith)) in
+    let next : after a ≡ a + 1 = mod-eq_of_lt (omega arith) in
+    let byte = byte_same m n a (ap (page_at n) here ∙ e ∙ ap (page_at m) (sym here)) in
+    let rest = number_same m n page (a + 1) size (omega arith) e (λ j lt. let e1 : a + suc j ≡ a + 1 + j = omega arith in subst (λ k. k / 4096 ≡ page) e1 (at (suc j) (omega arith))) in
+    ap (λ b. b + 256 * number_at n (after a) size) byte
+    ∙ ap (λ k. byte_or_zero m a + 256 * number_at n k size) next
+    ∙ ap (λ k. byte_or_zero m a + 256 * k) rest
+    ∙ ap (λ k. byte_or_zero m a + 256 * number_at m k size) (sym next)
+
+fetch_in_page : (m n : Memory) (pc : ℕ) (page : Page) → pc + 4 < 2 ^ 64 → page_at m (pc / 4096) ≡ Some page → page_at n (pc / 4096) ≡ Some page → (aligned : Bool) → nat_eq (pc % 4) 0 ≡ aligned → fetched n pc ≡ fetched m pc
+fetch_in_page m n pc page h em en true e =
+    let four : pc % 4 ≡ 0 = eqb-true _ _ e in
+    let same = number_same m n (pc / 4096) pc 4 h (en ∙ sym em) (λ j lt. omega (arith, four)) in
+    let f = λ (k : ℕ) (p : Page). if is_executable p.perm then Some k else None in
+    cond-true _ _ _ e
+    ∙ ap (option_and_then (f (number_at n pc 4))) en
+    ∙ ap (λ k. f k page) same
+    ∙ sym (ap (option_and_then (f (number_at m pc 4))) em)
+    ∙ sym (cond-true _ _ _ e)
+fetch_in_page m n pc page h em en false e = cond-false _ _ _ e ∙ sym (cond-false _ _ _ e)
+
+-- a word that is fetched from a page is fetched where that page is
+pub fetched_same : (m n : Memory) (pc : ℕ) (page : Page) → pc + 4 < 2 ^ 64 → page_at m (pc / 4096) ≡ Some page → page_at n (pc / 4096) ≡ Some page → fetched n pc ≡ fetched m pc
+fetched_same m n pc page h em en = fetch_in_page m n pc page h em en (nat_eq (pc % 4) 0) refl

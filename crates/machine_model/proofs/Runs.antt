@@ -20,20 +20,26 @@ pub record Leads (n : ℕ) (s t : State) : Type 0 where
   pub by : (j k taken : ℕ) → j ≡ k + n → run j taken s ≡ run k (taken + n) t
 
 pub leads_none : (s : State) → Leads 0 s s
-leads_none s = record { by = λ j k taken e.
-    let e1 : j ≡ k = omega arith in
-    let e2 : taken ≡ taken + 0 = omega arith in
-    ap (λ n. run n taken s) e1 ∙ ap (λ n. run k n s) e2 }
+leads_none s = record {
+  by = λ j k taken e.
+      let e1 : j ≡ k = omega arith in
+      let e2 : taken ≡ taken + 0 = omega arith in
+      ap (λ n. run n taken s) e1 ∙ ap (λ n. run k n s) e2;
+}
 
 pub leads_one : (s t : State) → step s ≡ Went t → Leads 1 s t
-leads_one s t h = record { by = λ j k taken e.
-    let e1 : j ≡ suc k = omega arith in
-    ap (λ n. run n taken s) e1 ∙ ap (λ r. go_on r s (taken + 1) (run k (taken + 1))) h }
+leads_one s t h = record {
+  by = λ j k taken e.
+      let e1 : j ≡ suc k = omega arith in
+      ap (λ n. run n taken s) e1 ∙ ap (λ r. go_on r s (taken + 1) (run k (taken + 1))) h;
+}
 
 pub leads_on : (m n : ℕ) (s t u : State) → Leads m s t → Leads n t u → Leads (m + n) s u
-leads_on m n s t u a b = record { by = λ j k taken e.
-    let e2 : taken + m + n ≡ taken + (m + n) = omega arith in
-    a.by j (k + n) taken (omega arith) ∙ b.by (k + n) k (taken + m) refl ∙ ap (λ c. run k c u) e2 }
+leads_on m n s t u a b = record {
+  by = λ j k taken e.
+      let e2 : taken + m + n ≡ taken + (m + n) = omega arith in
+      a.by j (k + n) taken (omega arith) ∙ b.by (k + n) k (taken + m) refl ∙ ap (λ c. run k c u) e2;
+}
 
 went_on : (o : Step) (n : ℕ) (s t : State) → step s ≡ o → elim o as (λ o. Option State) [ Went u ↦ after_steps n u | Ended result ↦ None | Stopped kind pc at memory ↦ None ] ≡ Some t → ((u : State) → after_steps n u ≡ Some t → Leads n u t) → Leads (suc n) s t
 went_on (Went u) n s t e h rest =

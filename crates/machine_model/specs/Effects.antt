@@ -32,16 +32,16 @@ write_with_flags s rd left right = Went (next (record (with_x s rd (difference l
 abbrev pub load_to : State → ℕ → ℕ → ℕ → (ℕ → ℕ) → Step
 load_to s rt address size extended =
     elim (loaded s.memory address size) [
-      Ok v ↦ write s rt (extended v)
-    | Err fault ↦ Stopped Read s.pc fault.address s.memory
+      | Ok v ↦ write s rt (extended v)
+      | Err fault ↦ Stopped Read s.pc fault.address s.memory
     ]
 
 -- a store of the low bytes of a register
 abbrev pub store_from : State → ℕ → ℕ → ℕ → Step
 store_from s rt address size =
     elim (stored s.memory address size (x_at s rt)) [
-      Ok memory ↦ Went (next (record s { memory = memory }))
-    | Err fault ↦ Stopped Write s.pc fault.address s.memory
+      | Ok memory ↦ Went (next (record s { memory = memory }))
+      | Err fault ↦ Stopped Write s.pc fault.address s.memory
     ]
 
 abbrev pub as_it_is : ℕ → ℕ

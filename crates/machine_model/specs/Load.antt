@@ -105,7 +105,7 @@ perm_of segment = if has_flag segment 1 then ReadWrite else if has_flag segment 
 abbrev pub segment_byte : List ℕ → Segment → ℕ → ℕ
 segment_byte bytes segment address =
     if nat_le segment.vaddr address && nat_lt address (segment.vaddr + segment.filesz) then
-      slice_index bytes (segment.offset + (address - segment.vaddr))
+    slice_index bytes (segment.offset + (address - segment.vaddr))
     else 0
 
 -- a page of a segment
@@ -151,12 +151,12 @@ abbrev pub load_segments : List ℕ → ℕ → List Segment → Result Image El
 load_segments bytes entry segments =
     if any_segment is_dynamic segments then Err NotStatic
     else elim (first_bad (length bytes) 0 segments) [
-      Some index ↦ Err (BadSegment index)
-    | None ↦
-      let loaded = filter is_loaded segments in
-      if nat_lt 16384 (sum_by page_count loaded) then Err TooManyPages
-      else if clash loaded then Err SegmentsClash
-      else Ok (image_of bytes entry loaded)
+      | Some index ↦ Err (BadSegment index)
+      | None ↦
+          let loaded = filter is_loaded segments in
+          if nat_lt 16384 (sum_by page_count loaded) then Err TooManyPages
+          else if clash loaded then Err SegmentsClash
+          else Ok (image_of bytes entry loaded)
     ]
 
 abbrev pub load : List ℕ → Result Image ElfFault
