@@ -4,4 +4,5 @@ pub mod Widths
 pub mod Predicates
 pub mod Folds
 pub mod Writes
+pub mod Stores
 pub mod Merges

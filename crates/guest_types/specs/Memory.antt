@@ -1,5 +1,5 @@
 -- A guest's memory: pages of 4,096 bytes, little-endian, with no alignment faults.
-use Rattle.std.specs.Prelude.{◌≡◌, ◌≢◌, ℕ, zero, suc, ◌+◌, ◌*◌, ◌/◌, ◌%◌, ◌^◌, ◌<◌, Bool, true, false, List, [], ◌∷◌, map, length, Option, Some, None, Result, Ok, Err, nat_eq, nat_lt, is_none, slice_index, slice_set, option_map, option_and_then, if◌then◌else◌, find, unwrap_or, All}
+use Rattle.std.specs.Prelude.{◌≡◌, ◌≢◌, ℕ, zero, suc, ◌+◌, ◌*◌, ◌/◌, ◌%◌, ◌^◌, ◌<◌, Bool, true, false, List, [], ◌∷◌, map, length, Option, Some, None, Result, Ok, Err, nat_eq, nat_lt, is_some, slice_index, slice_set, option_map, option_and_then, if◌then◌else◌, find, unwrap_or, All}
 use Rattle.std.specs.List.Sorted.{IsStrictlyIncreasing}
 use Rattle.guest_types.specs.declared.memory.Perm.{Perm}
 use Rattle.guest_types.specs.declared.memory.Perm.TheVariants.{Read, ReadWrite, ReadExec}
@@ -55,11 +55,16 @@ is_executable ReadExec = true
 
 -- the address is readable
 abbrev pub can_read : Memory → ℕ → Bool
-can_read memory address = elim (page_at memory (address / 4096)) [ None ↦ false | Some page ↦ true ]
+can_read memory address = is_some (page_at memory (address / 4096))
+
+-- there is a page, which may be written
+abbrev pub may_write : Option Page → Bool
+may_write None = false
+may_write (Some page) = is_writable page.perm
 
 -- the address is writable
 abbrev pub can_write : Memory → ℕ → Bool
-can_write memory address = elim (page_at memory (address / 4096)) [ None ↦ false | Some page ↦ is_writable page.perm ]
+can_write memory address = may_write (page_at memory (address / 4096))
 
 -- the next address
 abbrev pub after : ℕ → ℕ
@@ -132,3 +137,7 @@ merged (page ∷ pages) others = merged_before page (merged pages) others
 -- two memories have no page number in common
 abbrev pub DoNotMeet : Memory → Memory → Type 0
 DoNotMeet memory other = All (λ page. page_at other page.page ≡ None) memory
+
+-- no byte from address a on, of n, is one of the k bytes from address c on
+abbrev pub Disjoint : (a n c k : ℕ) → Type 0
+Disjoint a n c k = (i j : ℕ) → i < n → j < k → (a + i) % 2 ^ 64 ≢ (c + j) % 2 ^ 64
