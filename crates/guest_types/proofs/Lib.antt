@@ -3,6 +3,7 @@ pub mod Registers
 pub mod Widths
 pub mod Predicates
 pub mod Folds
+pub mod AtWidths
 pub mod Writes
 pub mod Stores
 pub mod Merges

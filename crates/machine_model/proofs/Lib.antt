@@ -1,3 +1,4 @@
 pub mod Runs
 pub mod Files
 pub mod Fetch
+pub mod Rows
