@@ -6,9 +6,11 @@ pub mod ast;
 pub mod checked;
 pub mod fault;
 pub mod lexeme;
+pub mod make;
 pub mod mark;
 pub mod name;
 pub mod ops;
+mod print;
 pub mod token;
 
 pub use ast::{Answer, Expr, Kernel, Loop, Param, Shape, Stmt, Var};
