@@ -190,3 +190,11 @@ faithful k ok =
       ends = λ args pages vl steps begins le.
         let r = runs_to terms few h args pages vl steps begins.few begins.apart (omega (arith, le)) in
         (r.0, omega (arith, r.1), ap (λ l. elim l as (λ x. Option Outcome) [ Ok image ↦ Some (run steps 0 (start image args pages vl)) | Err fault ↦ None ]) loads ∙ ap Some (r.2 ∙ ap (λ v. End (merged (image_of_words (words_of (sum_code terms))).pages pages) v r.0) (same_result k.params k.answer args))) }
+
+pub short_at : (k : SumKernel) (terms : List Term) (words : List ℕ) → IsSumKernel k → terms_of k ≡ terms → words ≡ words_of (sum_code terms) → length words ≤ 65536
+short_at k terms words ok et e =
+    subst (λ l. length l ≤ 65536) (sym (e ∙ ap (λ ts. words_of (sum_code ts)) (sym et))) (short_words (terms_of k) (few_of k.answer ok.few_terms) (terms_ok k.answer ok.terms))
+
+pub faithful_at : (k : SumKernel) (terms : List Term) (words : List ℕ) → IsSumKernel k → terms_of k ≡ terms → words ≡ words_of (sum_code terms) → Faithful k (file_of words)
+faithful_at k terms words ok et e =
+    subst (λ l. Faithful k (file_of l)) (sym (e ∙ ap (λ ts. words_of (sum_code ts)) (sym et))) (faithful k ok)

@@ -1,3 +1,6 @@
 pub mod Sum
 pub mod Faithful
 pub mod SumCode
+pub mod Reads
+pub mod Seen
+pub mod Views

@@ -5,10 +5,12 @@ ghost use Rattle.word_rows.specs.Row.{spells};
 ghost use Rattle.a64_code.specs.Table.{row};
 ghost use Rattle.a64_code.specs.Seen.{seen};
 ghost use Rattle.machine_model.specs.Written.{file_of};
-ghost use Rattle.early_kernel.specs.Sum.{SumKernel, IsTerm};
+ghost use Rattle.early_kernel.specs.Sum.{IsSumKernel, IsTerm};
+ghost use Rattle.early_kernel.specs.Faithful.{Faithful};
+ghost use Rattle.early_kernel.specs.Seen.{kernel_seen};
 ghost use Rattle.early_kernel.specs.SumCode.{add_of, wide_of, svc_of, term_code, sum_code, words_of};
 
-use crate::kernel::Term;
+use crate::kernel::{EarlyKernel, Term};
 use a64_code::{A64, AddSubOp, AddSubShift, ExceptionOp, MoveWideOp, encode};
 use std::alloc::{AllocError, Global};
 use word_rows::Bits;
@@ -18,6 +20,19 @@ const CALL_NUMBER: u32 = 8;
 const SUM: u32 = 10;
 const NUMBER: u32 = 26;
 const ZERO: u32 = 31;
+
+/// The words of a kernel's program. The file that holds them does what the kernel says.
+#[tactic(auto, using(crate::proofs::Whole::short_at, crate::proofs::Whole::faithful_at))]
+pub fn compile_sum(alloc: Global, kernel: &EarlyKernel) -> Result<Vec<u32>, AllocError>
+    requires { IsSumKernel (kernel_seen kernel.now) }
+    ensures few { IfOk result (λ words. length words.items ≤ 65536) }
+    ensures faithful { IfOk result (λ words. Faithful (kernel_seen kernel.now) (file_of words.items)) }
+{
+    match &kernel.answer {
+        Some(terms) => emit_sum(alloc, terms),
+        None => emit_sum(alloc, &[]),
+    }
+}
 
 /// The words that add up the terms, give the sum modulo 2^64 as the result, and exit.
 pub fn emit_sum(alloc: Global, terms: &[Term]) -> Result<Vec<u32>, AllocError>

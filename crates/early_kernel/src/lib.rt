@@ -3,3 +3,4 @@
 
 pub mod emit;
 pub mod kernel;
+pub mod read;
