@@ -1,11 +1,11 @@
 -- Code that goes on throughout, and leaves memory as it was.
-use Rattle.std.proofs.Common.{◌≡◌, ℕ, zero, suc, ◌+◌, List, [], ◌∷◌, ◌++◌, length, refl, sym, ap, ◌∙◌, subst, arith, length-append}
+use Rattle.std.proofs.Common.{◌≡◌, ℕ, ◌+◌, List, [], ◌∷◌, ◌++◌, length, refl, sym, ap, ◌∙◌, subst, arith, length-append}
 use Rattle.guest_types.specs.Memory.{Memory}
 use Rattle.word_rows.specs.Row.{Instruction}
 use Rattle.a64_code.specs.Table.{Name}
 use Rattle.machine_model.specs.Machine.{State, Went}
-use Rattle.machine_model.specs.OneStep.{step, does}
-use Rattle.machine_model.proofs.Runs.{Leads, leads_none, leads_one, leads_on, HasCode, word_after, place_after, step_is, code_front, code_back}
+use Rattle.machine_model.specs.OneStep.{does}
+use Rattle.machine_model.proofs.Runs.{Leads, leads_none, leads_one, leads_on, HasCode, word_after, place_after, step_is, code_back}
 
 -- the machine goes through these instructions from s to t, and what follows them still stands
 pub record Passes (is : List (Instruction Name)) (s t : State) : Type 0 where
@@ -27,7 +27,8 @@ pass_one i is s u t h e em ep rest =
     record {
       leads = subst (λ k. Leads k s t) n (leads_on 1 (length is) s u t (leads_one s u (step_is s i is h ∙ e)) r.leads);
       memory = r.memory ∙ em;
-      pc = r.pc ∙ ap (λ p. place_after p is) ep }
+      pc = r.pc ∙ ap (λ p. place_after p is) ep;
+    }
 
 place_after-append : (pc : ℕ) (a b : List (Instruction Name)) → place_after pc (a ++ b) ≡ place_after (place_after pc a) b
 place_after-append pc [] b = refl
@@ -42,4 +43,5 @@ pass_on a b s t u p q =
     record {
       leads = subst (λ k. Leads k s u) (sym (length-append a b)) (leads_on (length a) (length b) s t u p.leads q.leads);
       memory = q.memory ∙ p.memory;
-      pc = q.pc ∙ ap (λ x. place_after x b) p.pc ∙ sym (place_after-append s.pc a b) }
+      pc = q.pc ∙ ap (λ x. place_after x b) p.pc ∙ sym (place_after-append s.pc a b);
+    }

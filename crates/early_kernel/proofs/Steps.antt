@@ -1,6 +1,6 @@
 -- Readings by the number of parameters and terms that may still come.
-use Rattle.std.proofs.Common.{◌≡◌, ℕ, zero, suc, ◌-◌, ◌≢◌, List, [], ◌∷◌, ◌++◌, Option, refl, sym, ap, arith}
-use Rattle.std.specs.Prelude.{option_and_then, option_map}
+use Rattle.std.proofs.Common.{◌≡◌, ℕ, zero, suc, ◌-◌, ◌≢◌, List, [], ◌∷◌, ◌++◌, refl, ap, arith}
+use Rattle.std.specs.Prelude.{option_and_then}
 use Rattle.kernel_tree.specs.Word.{Word}
 use Rattle.early_kernel.specs.declared.kernel.Term.{Term}
 use Rattle.early_kernel.specs.Reads.{Names, parameter_at, parameters_at, parameters_behind, no_more, term_at, terms_at, terms_behind, no_term}

@@ -1,15 +1,14 @@
 -- The code of a sum adds its terms up.
-use Rattle.std.proofs.Common.{◌≡◌, ◌≢◌, ℕ, zero, suc, ◌+◌, ◌-◌, ◌*◌, ◌/◌, ◌%◌, ◌^◌, ◌<◌, ◌≤◌, Bool, true, false, List, [], ◌∷◌, ◌++◌, length, get_or, replicate, refl, sym, ap, ◌∙◌, subst, arith, append_assoc, length-append, length-set, get_or-set_same, get_or-set_other}
+use Rattle.std.proofs.Common.{◌≡◌, ◌≢◌, ℕ, ◌+◌, ◌*◌, ◌/◌, ◌%◌, ◌^◌, ◌<◌, ◌≤◌, List, [], ◌∷◌, length, refl, ap, ◌∙◌, subst, arith, length-set, get_or-set_same, get_or-set_other}
 use Rattle.std.specs.Prelude.{All, slice_index, slice_set, flat_map, sum_by}
 use Rattle.std.proofs.lemmas.List.Elements.{All-head, All-tail}
 use Rattle.std.proofs.lemmas.List.Sums.{sum_by-cons}
 use Rattle.std.proofs.Math.Nat.{mod-eq_of_lt, div-eq_of_lt}
 use Rattle.std.proofs.Math.Pow.{pow_mono}
-use Rattle.guest_types.specs.Memory.{Memory}
 use Rattle.word_rows.specs.Row.{Instruction}
 use Rattle.a64_code.specs.Table.{Name}
 use Rattle.a64_code.specs.declared.MoveWideOp.TheVariants.{Movz, Movk}
-use Rattle.machine_model.specs.Machine.{State, Went, x_at, with_x, next}
+use Rattle.machine_model.specs.Machine.{State, x_at, with_x, next}
 use Rattle.machine_model.specs.Arithmetic.{sum, shifted, replaced}
 use Rattle.machine_model.proofs.Runs.{HasCode, code_front}
 use Rattle.early_kernel.specs.declared.kernel.Term.{Term}
@@ -45,13 +44,15 @@ added_sums : (args : List ℕ) (v w m : ℕ) (s : State) → Sums args v s → x
 added_sums args v w m s h e = record {
   size = length-set s.x 10 _ ∙ h.size;
   acc = same_at s.x 10 _ h.size (omega arith) ∙ ap (λ n. (n + x_at s m * 1 % 2 ^ 64) % 2 ^ 64) h.acc ∙ ap (λ n. (v + n * 1 % 2 ^ 64) % 2 ^ 64) e ∙ add_mod v w;
-  kept = λ i lt. other_at s.x 10 i _ (omega arith) ∙ h.kept i lt }
+  kept = λ i lt. other_at s.x 10 i _ (omega arith) ∙ h.kept i lt;
+}
 
 moved_sums : (args : List ℕ) (v n : ℕ) (s : State) → Sums args v s → Sums args v (moved n s)
 moved_sums args v n s h = record {
   size = length-set s.x 26 n ∙ h.size;
   acc = other_at s.x 26 10 n (omega arith) ∙ h.acc;
-  kept = λ i lt. other_at s.x 26 i n (omega arith) ∙ h.kept i lt }
+  kept = λ i lt. other_at s.x 26 i n (omega arith) ∙ h.kept i lt;
+}
 
 put_next : (v k imm : ℕ) → v < 2 ^ k → replaced v k imm ≡ v + imm * 2 ^ k
 put_next v k imm h =
@@ -81,7 +82,8 @@ pub term_comes : (args : List ℕ) (v : ℕ) (s : State) (t : Term) → IsTerm t
 term_comes args v s (Param i) h sums code = record {
   to = added i s;
   passes = pass_one (add_of 10 10 i) [] s (added i s) (added i s) code refl refl refl (λ k. pass_none (added i s));
-  sums = added_sums args v (slice_index args i) i s sums (sums.kept i h) }
+  sums = added_sums args v (slice_index args i) i s sums (sums.kept i h);
+}
 term_comes args v s (Number n) h sums code =
     let v0 = n % 65536 * 2 ^ (16 * 0) in
     let s1 = moved v0 s in
@@ -107,12 +109,13 @@ term_comes args v s (Number n) h sums code =
     record {
       to = s5;
       passes =
-        pass_one (wide_of Movz 26 (n % 65536) 0) _ s s1 s5 code refl refl refl (λ c1.
-        pass_one (wide_of Movk 26 (n / 65536 % 65536) 1) _ s1 s2 s5 c1 refl refl refl (λ c2.
-        pass_one (wide_of Movk 26 (n / 4294967296 % 65536) 2) _ s2 s3 s5 c2 refl refl refl (λ c3.
-        pass_one (wide_of Movk 26 (n / 281474976710656 % 65536) 3) _ s3 s4 s5 c3 refl refl refl (λ c4.
-        pass_one (add_of 10 10 26) [] s4 s5 s5 c4 refl refl refl (λ c5. pass_none s5)))));
-      sums = added_sums args v n 26 s4 h4 (e4 ∙ f3 ∙ four_parts n h) }
+          pass_one (wide_of Movz 26 (n % 65536) 0) _ s s1 s5 code refl refl refl (λ c1.
+          pass_one (wide_of Movk 26 (n / 65536 % 65536) 1) _ s1 s2 s5 c1 refl refl refl (λ c2.
+          pass_one (wide_of Movk 26 (n / 4294967296 % 65536) 2) _ s2 s3 s5 c2 refl refl refl (λ c3.
+          pass_one (wide_of Movk 26 (n / 281474976710656 % 65536) 3) _ s3 s4 s5 c3 refl refl refl (λ c4.
+          pass_one (add_of 10 10 26) [] s4 s5 s5 c4 refl refl refl (λ c5. pass_none s5)))));
+      sums = added_sums args v n 26 s4 h4 (e4 ∙ f3 ∙ four_parts n h);
+    }
 
 -- ---- all terms
 pub terms_come : (args : List ℕ) (terms : List Term) (v : ℕ) (s : State) → All IsTerm terms → v < 2 ^ 64 → Sums args v s → HasCode s.memory s.pc (flat_map term_code terms) → Comes (flat_map term_code terms) args ((v + sum_by (value_of args) terms) % 2 ^ 64) s
@@ -129,4 +132,5 @@ terms_come args (t ∷ terms) v s h lt sums code =
     record {
       to = all.to;
       passes = pass_on (term_code t) (flat_map term_code terms) s one.to all.to one.passes all.passes;
-      sums = subst (λ n. Sums args n all.to) e all.sums }
+      sums = subst (λ n. Sums args n all.to) e all.sums;
+    }

@@ -1,32 +1,30 @@
 -- The file of a sum's code is faithful.
-use Rattle.std.proofs.Common.{◌≡◌, ℕ, zero, suc, ◌+◌, ◌-◌, ◌*◌, ◌/◌, ◌%◌, ◌^◌, ◌<◌, ◌≤◌, Bool, true, false, List, [], ◌∷◌, ◌++◌, map, length, get_or, replicate, Option, Some, None, Result, Ok, Err, refl, sym, ap, ◌∙◌, subst, arith, append_assoc, length-append, length-set}
-use Rattle.std.specs.Prelude.{All, slice_index, flat_map, sum_by, unwrap_or, IfSome}
+use Rattle.std.proofs.Common.{◌≡◌, ℕ, zero, suc, ◌+◌, ◌-◌, ◌*◌, ◌/◌, ◌%◌, ◌^◌, ◌<◌, ◌≤◌, List, [], ◌∷◌, ◌++◌, length, get_or, replicate, Option, Some, None, Ok, Err, refl, sym, ap, ◌∙◌, subst, arith, append_assoc, length-append, length-set}
+use Rattle.std.specs.Prelude.{All, flat_map, sum_by, unwrap_or, IfSome}
 use Rattle.std.proofs.lemmas.List.{length-map, length-replicate, get_or_past}
-use Rattle.std.proofs.lemmas.List.Elements.{All-head, All-tail, All-nil, All-cons}
-use Rattle.std.proofs.lemmas.Option.{slice_get_within}
+use Rattle.std.proofs.lemmas.List.Elements.{All-head, All-tail, All-nil}
 use Rattle.std.proofs.Math.Dec.{lit<, lit≤}
 use Rattle.std.proofs.lemmas.Bool.{cond-true, eq-eqb}
 use Rattle.guest_types.specs.Memory.{Memory, DoNotMeet, merged}
 use Rattle.word_rows.specs.Row.{Instruction, IsInstruction, spells}
 use Rattle.a64_code.specs.Table.{Name, row, a64_names, add_sub_imm, add_sub_shifted, logical, move_wide, multiply_add, shift_variable, bitfield, select, branch, branch_if, branch_zero, ret_form, exception}
 use Rattle.a64_code.specs.declared.MoveWideOp.TheVariants.{Movz, Movk}
-use Rattle.machine_model.specs.declared.elf_fault.ElfFault.{ElfFault}
 use Rattle.machine_model.specs.Machine.{State, Ended, x_at, with_x, next}
 use Rattle.machine_model.specs.Arithmetic.{sum, shifted}
-use Rattle.machine_model.specs.OneStep.{step, does}
-use Rattle.machine_model.specs.Load.{Image, load}
-use Rattle.machine_model.specs.Written.{file_of, code_base, image_of_words}
+use Rattle.machine_model.specs.OneStep.{does}
+use Rattle.machine_model.specs.Load.{Image}
+use Rattle.machine_model.specs.Written.{file_of, image_of_words}
 use Rattle.machine_model.specs.Run.{Outcome, End, run, start, start_x}
-use Rattle.machine_model.proofs.Runs.{HasCode, AllListed, code_front, step_is, ends, place_after}
+use Rattle.machine_model.proofs.Runs.{HasCode, AllListed, code_front, step_is, ends}
 use Rattle.machine_model.proofs.Files.{load-file_of}
 use Rattle.machine_model.proofs.Standing.{code_stands}
 use Rattle.early_kernel.specs.declared.kernel.Term.{Term}
 use Rattle.early_kernel.specs.declared.kernel.Term.TheVariants.{Number, Param}
-use Rattle.early_kernel.specs.Sum.{SumKernel, IsSumKernel, IsTerm, value_of, result_of, size_of, bound}
+use Rattle.early_kernel.specs.Sum.{SumKernel, IsSumKernel, IsTerm, value_of, result_of}
 use Rattle.early_kernel.specs.SumCode.{wide_of, add_of, svc_of, term_code, end_code, sum_code, program, words_of}
-use Rattle.early_kernel.specs.Faithful.{IsStart, Faithful}
+use Rattle.early_kernel.specs.Faithful.{Faithful}
 use Rattle.early_kernel.proofs.Passes.{Passes, pass_none, pass_one, pass_on, after_front}
-use Rattle.early_kernel.proofs.Sums.{Sums, same_at, other_at, Comes, terms_come}
+use Rattle.early_kernel.proofs.Sums.{Sums, same_at, other_at, terms_come}
 
 -- ---- every instruction has a row
 
@@ -48,12 +46,19 @@ svc_listed imm h = record { place = 27; listed = refl; fits = (h, tt); admitted 
 
 term_listed : (t : Term) → IsTerm t → AllListed (term_code t)
 term_listed (Param i) h = (add_listed 10 10 i (lit< tt) (lit< tt) (omega arith), tt)
-term_listed (Number n) h =
-    (movz_listed 26 (n % 65536) 0 (lit< tt) (omega arith) (lit< tt),
-    (movk_listed 26 (n / 65536 % 65536) 1 (lit< tt) (omega arith) (lit< tt),
-    (movk_listed 26 (n / 4294967296 % 65536) 2 (lit< tt) (omega arith) (lit< tt),
-    (movk_listed 26 (n / 281474976710656 % 65536) 3 (lit< tt) (omega arith) (lit< tt),
-    (add_listed 10 10 26 (lit< tt) (lit< tt) (lit< tt), tt)))))
+term_listed (Number n) h = (
+  movz_listed 26 (n % 65536) 0 (lit< tt) (omega arith) (lit< tt),
+  (
+    movk_listed 26 (n / 65536 % 65536) 1 (lit< tt) (omega arith) (lit< tt),
+    (
+      movk_listed 26 (n / 4294967296 % 65536) 2 (lit< tt) (omega arith) (lit< tt),
+      (
+        movk_listed 26 (n / 281474976710656 % 65536) 3 (lit< tt) (omega arith) (lit< tt),
+        (add_listed 10 10 26 (lit< tt) (lit< tt) (lit< tt), tt),
+      ),
+    ),
+  ),
+)
 
 append_listed : (front back : List (Instruction Name)) → AllListed front → AllListed back → AllListed (front ++ back)
 append_listed [] back h k = k
@@ -64,10 +69,11 @@ terms_listed [] h = tt
 terms_listed (t ∷ terms) h = append_listed (term_code t) (flat_map term_code terms) (term_listed t (All-head IsTerm t terms h)) (terms_listed terms (All-tail IsTerm t terms h))
 
 listed : (terms : List Term) → All IsTerm terms → AllListed (sum_code terms)
-listed terms h =
-    (movz_listed 10 0 0 (lit< tt) (lit< tt) (lit< tt),
-    append_listed (flat_map term_code terms) end_code (terms_listed terms h)
-    (add_listed 0 10 31 (lit< tt) (lit< tt) (lit< tt), (movz_listed 8 93 0 (lit< tt) (lit< tt) (lit< tt), (svc_listed 0 (lit< tt), tt))))
+listed terms h = (
+  movz_listed 10 0 0 (lit< tt) (lit< tt) (lit< tt),
+  append_listed (flat_map term_code terms) end_code (terms_listed terms h)
+      (add_listed 0 10 31 (lit< tt) (lit< tt) (lit< tt), (movz_listed 8 93 0 (lit< tt) (lit< tt) (lit< tt), (svc_listed 0 (lit< tt), tt))),
+)
 
 term_length : (t : Term) → length (term_code t) ≤ 5
 term_length (Number n) = lit≤ tt
@@ -98,7 +104,8 @@ start_sums image args pages vl h =
     record {
       size = length-set x 10 0 ∙ size;
       acc = same_at x 10 0 size (omega arith);
-      kept = λ i lt. other_at x 10 i 0 (omega arith) ∙ start_at args (31 - length args) i }
+      kept = λ i lt. other_at x 10 i 0 (omega arith) ∙ start_at args (31 - length args) i;
+    }
 
 -- ---- the whole
 
@@ -137,7 +144,8 @@ ends_in terms args s h sums code =
       at = t3;
       passes = pass_on (wide_of Movz 10 0 0 ∷ []) (flat_map term_code terms ++ tail) s s1 t3 one (pass_on (flat_map term_code terms) tail s1 t1 t3 all.passes last);
       result = other_at t2.x 8 0 93 (omega arith) ∙ same_at t1.x 0 _ all.sums.size (omega arith) ∙ value;
-      call = same_at t2.x 8 93 size2 (omega arith) }
+      call = same_at t2.x 8 93 size2 (omega arith);
+    }
 
 last_step : (s : State) (r : ℕ) → x_at s 0 ≡ r → x_at s 8 ≡ 93 → does (svc_of 0) s ≡ Ended r
 last_step s r e f = cond-true _ _ _ (eq-eqb (x_at s 8) 93 f) ∙ ap Ended e
@@ -174,7 +182,7 @@ few_of : (answer : Option (List Term)) → IfSome answer (λ terms. length terms
 few_of None h = lit≤ tt
 few_of (Some terms) h = h
 
-terms_ok : (answer : Option (List Term)) → IfSome answer (λ terms. All IsTerm terms) → All IsTerm (unwrap_or answer [])
+pub terms_ok : (answer : Option (List Term)) → IfSome answer (λ terms. All IsTerm terms) → All IsTerm (unwrap_or answer [])
 terms_ok None h = All-nil IsTerm
 terms_ok (Some terms) h = h
 
@@ -188,13 +196,14 @@ faithful k ok =
       image = image_of_words (words_of (sum_code terms));
       loaded = loads;
       ends = λ args pages vl steps begins le.
-        let r = runs_to terms few h args pages vl steps begins.few begins.apart (omega (arith, le)) in
-        (r.0, omega (arith, r.1), ap (λ l. elim l as (λ x. Option Outcome) [ Ok image ↦ Some (run steps 0 (start image args pages vl)) | Err fault ↦ None ]) loads ∙ ap Some (r.2 ∙ ap (λ v. End (merged (image_of_words (words_of (sum_code terms))).pages pages) v r.0) (same_result k.params k.answer args))) }
+          let r = runs_to terms few h args pages vl steps begins.few begins.apart (omega (arith, le)) in
+          (r.0, omega (arith, r.1), ap (λ l. elim l as (λ x. Option Outcome) [ Ok image ↦ Some (run steps 0 (start image args pages vl)) | Err fault ↦ None ]) loads ∙ ap Some (r.2 ∙ ap (λ v. End (merged (image_of_words (words_of (sum_code terms))).pages pages) v r.0) (same_result k.params k.answer args)));
+    }
 
-pub short_at : (k : SumKernel) (terms : List Term) (words : List ℕ) → IsSumKernel k → terms_of k ≡ terms → words ≡ words_of (sum_code terms) → length words ≤ 65536
+pub short_at : (k : SumKernel) (terms : List Term) (words : List ℕ) → IsSumKernel k → terms ≡ unwrap_or k.answer [] → words ≡ words_of (sum_code terms) → length words ≤ 65536
 short_at k terms words ok et e =
-    subst (λ l. length l ≤ 65536) (sym (e ∙ ap (λ ts. words_of (sum_code ts)) (sym et))) (short_words (terms_of k) (few_of k.answer ok.few_terms) (terms_ok k.answer ok.terms))
+    subst (λ l. length l ≤ 65536) (sym (e ∙ ap (λ ts. words_of (sum_code ts)) et)) (short_words (terms_of k) (few_of k.answer ok.few_terms) (terms_ok k.answer ok.terms))
 
-pub faithful_at : (k : SumKernel) (terms : List Term) (words : List ℕ) → IsSumKernel k → terms_of k ≡ terms → words ≡ words_of (sum_code terms) → Faithful k (file_of words)
+pub faithful_at : (k : SumKernel) (terms : List Term) (words : List ℕ) → IsSumKernel k → terms ≡ unwrap_or k.answer [] → words ≡ words_of (sum_code terms) → Faithful k (file_of words)
 faithful_at k terms words ok et e =
-    subst (λ l. Faithful k (file_of l)) (sym (e ∙ ap (λ ts. words_of (sum_code ts)) (sym et))) (faithful k ok)
+    subst (λ l. Faithful k (file_of l)) (sym (e ∙ ap (λ ts. words_of (sum_code ts)) et)) (faithful k ok)

@@ -20,4 +20,4 @@ pub record Faithful (k : SumKernel) (file : List ℕ) : Type 0 where
   pub image : Image
   pub loaded : load file ≡ Ok image
   pub ends : (args : List ℕ) (pages : Memory) (vl steps : ℕ) → IsStart image args pages vl → bound k ≤ steps
-    → (taken : ℕ) × (taken ≤ bound k) × (machine_run file args pages vl steps ≡ Some (End (merged image.pages pages) (result_of k args) taken))
+      → (taken : ℕ) × (taken ≤ bound k) × (machine_run file args pages vl steps ≡ Some (End (merged image.pages pages) (result_of k args) taken))

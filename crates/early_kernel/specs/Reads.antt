@@ -1,12 +1,12 @@
 -- The token lists of these kernels: `kernel` NAME `(` at most eight different parameters `)` and then either `{` `}`, or
 -- `->` `u64` `{` `return`, one to twelve terms divided by `+`, `;` and `}`. A parameter is NAME `:` `u64`, and a term is the
 -- name of a parameter or a number of 64 bits. What is read from a place is given with the words behind it.
-use Rattle.std.specs.Prelude.{ℕ, zero, suc, ◌^◌, List, [], ◌∷◌, ◌++◌, length, Option, Some, None, option_map, option_and_then, is_some, Bool, false, Result, Ok, Err, nat_lt, nat_le, bytes_eq, if◌then◌else◌}
+use Rattle.std.specs.Prelude.{ℕ, zero, suc, ◌^◌, List, [], ◌∷◌, ◌++◌, length, Option, Some, None, option_map, option_and_then, is_some, Bool, false, Ok, Err, nat_lt, nat_le, bytes_eq, if◌then◌else◌}
 use Rattle.std.specs.List.{position_or_len}
 use Rattle.kernel_tree.specs.declared.ops.Ty.TheVariants as ty
 use Rattle.kernel_tree.specs.declared.mark.Mark.{Mark}
 use Rattle.kernel_tree.specs.declared.mark.Mark.TheVariants as mark
-use Rattle.kernel_tree.specs.Word.{Word, IsName, IsNumber, IsType, IsCompare, IsUpdate, IsMark}
+use Rattle.kernel_tree.specs.Word.{Word, IsName, IsNumber, IsType, IsMark}
 use Rattle.kernel_tree.specs.Plain.{same}
 use Rattle.kernel_tree.specs.Tokens.{tokens_of}
 use Rattle.early_kernel.specs.declared.kernel.Term.{Term}
@@ -47,7 +47,7 @@ place_of names x =
 unfoldable pub parameter_at : Names → List Word → Option (Names × List Word)
 parameter_at before words =
     option_and_then (λ x. option_and_then (λ type. option_and_then (λ rest.
-      if is_some (place_of before x.0) then None else Some (before ++ x.0 ∷ [], rest)) (behind_type type)) (behind mark.Colon x.1)) (name_at words)
+    if is_some (place_of before x.0) then None else Some (before ++ x.0 ∷ [], rest)) (behind_type type)) (behind mark.Colon x.1)) (name_at words)
 
 -- the parenthesis, or a comma and what may follow it
 unfoldable pub parameters_behind : (Names → List Word → Option (Names × List Word)) → Names → List Word → Option (Names × List Word)
@@ -84,7 +84,7 @@ ends_by m _ = false
 unfoldable pub terms_behind : (List Term → List Word → Option (List Term)) → List Term → List Word → Option (List Term)
 terms_behind more terms words =
     given (behind mark.Semicolon words) (λ rest. if ends_by mark.CloseBrace rest then Some terms else None)
-      (option_and_then (more terms) (behind mark.Plus words))
+    (option_and_then (more terms) (behind mark.Plus words))
 
 abbrev pub no_term : List Term → List Word → Option (List Term)
 no_term terms words = None
@@ -104,19 +104,19 @@ with_answer names answer = record { params = length names; answer = answer }
 unfoldable pub answer_at : Names → List Word → Option SumKernel
 answer_at names words =
     option_and_then (λ brace. option_and_then (λ body. option_and_then (λ from.
-      option_map (λ terms. with_answer names (Some terms)) (terms_at names 11 [] from)) (behind mark.Return body)) (behind mark.OpenBrace brace)) (behind_type words)
+    option_map (λ terms. with_answer names (Some terms)) (terms_at names 11 [] from)) (behind mark.Return body)) (behind mark.OpenBrace brace)) (behind_type words)
 
 -- what stands behind the parameters
 unfoldable pub tail_at : Names → List Word → Option SumKernel
 tail_at names words =
     given (behind mark.Arrow words) (answer_at names)
-      (option_and_then (λ rest. if ends_by mark.CloseBrace rest then Some (with_answer names None) else None) (behind mark.OpenBrace words))
+    (option_and_then (λ rest. if ends_by mark.CloseBrace rest then Some (with_answer names None) else None) (behind mark.OpenBrace words))
 
 -- the kernel of a token list, where it is one of these
 unfoldable pub sum_kernel_at : List Word → Option SumKernel
 sum_kernel_at words =
     option_and_then (λ name. option_and_then (λ x. option_and_then (λ from.
-      option_and_then (λ p. tail_at p.0 p.1) (heading_at from)) (behind mark.OpenParen x.1)) (name_at name)) (behind mark.Kernel words)
+    option_and_then (λ p. tail_at p.0 p.1) (heading_at from)) (behind mark.OpenParen x.1)) (name_at name)) (behind mark.Kernel words)
 
 abbrev pub most_bytes : ℕ
 most_bytes = 4096

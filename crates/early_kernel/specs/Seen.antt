@@ -1,5 +1,5 @@
 -- A kernel as plain data.
-use Rattle.std.specs.Prelude.{ℕ, List, Option, Some, None, Vec}
+use Rattle.std.specs.Prelude.{List, Option, Some, None, Vec}
 use Rattle.early_kernel.specs.declared.kernel.Term.{Term}
 use Rattle.early_kernel.specs.declared.kernel.EarlyKernel.{EarlyKernel}
 use Rattle.early_kernel.specs.Sum.{SumKernel}

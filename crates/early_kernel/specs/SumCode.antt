@@ -1,5 +1,5 @@
 -- The instructions of such a kernel.
-use Rattle.std.specs.Prelude.{ℕ, ◌/◌, ◌%◌, ◌^◌, List, [], ◌∷◌, ◌++◌, map, flat_map, unwrap_or}
+use Rattle.std.specs.Prelude.{ℕ, ◌/◌, ◌%◌, List, [], ◌∷◌, ◌++◌, map, flat_map, unwrap_or}
 use Rattle.word_rows.specs.Row.{Instruction, spells}
 use Rattle.a64_code.specs.Table.{Name, row, add, svc}
 use Rattle.a64_code.specs.Seen.{move_wide_name}

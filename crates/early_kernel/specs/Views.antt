@@ -1,5 +1,5 @@
 -- What the reader's values stand for.
-use Rattle.std.specs.Prelude.{◌≡◌, ℕ, List, ◌++◌, map, Bool, true, false, Option, Some, None, String, string_bytes, Vec}
+use Rattle.std.specs.Prelude.{ℕ, List, map, String, string_bytes, Vec}
 use Rattle.std.specs.Borrow.{Bor}
 use Rattle.kernel_tree.specs.declared.token.Token.{Token}
 use Rattle.kernel_tree.specs.declared.name.Name.{Name}

@@ -1,6 +1,6 @@
 //! Code for sums.
 
-ghost use Rattle.std.specs.Prelude.{◌≡◌, ℕ, ◌<◌, ◌≤◌, ◌∷◌, [], ◌++◌, ◌^◌, length, All, IfOk, OnOk};
+ghost use Rattle.std.specs.Prelude.{◌≡◌, ℕ, ◌<◌, ◌≤◌, ◌∷◌, [], ◌++◌, ◌^◌, length, All, IfOk, OnOk, unwrap_or};
 ghost use Rattle.word_rows.specs.Row.{spells};
 ghost use Rattle.a64_code.specs.Table.{row};
 ghost use Rattle.a64_code.specs.Seen.{seen};
@@ -16,21 +16,36 @@ use std::alloc::{AllocError, Global};
 use word_rows::Bits;
 
 const EXIT: u32 = 93;
+
 const CALL_NUMBER: u32 = 8;
+
 const SUM: u32 = 10;
+
 const NUMBER: u32 = 26;
+
 const ZERO: u32 = 31;
 
 /// The words of a kernel's program. The file that holds them does what the kernel says.
-#[tactic(auto, using(crate::proofs::Whole::short_at, crate::proofs::Whole::faithful_at))]
 pub fn compile_sum(alloc: Global, kernel: &EarlyKernel) -> Result<Vec<u32>, AllocError>
     requires { IsSumKernel (kernel_seen kernel.now) }
     ensures few { IfOk result (λ words. length words.items ≤ 65536) }
     ensures faithful { IfOk result (λ words. Faithful (kernel_seen kernel.now) (file_of words.items)) }
 {
+    let terms = terms_of(kernel);
+    let words = emit_sum(alloc, terms)?;
+    Ok(words)
+}
+
+// The terms of the sum; a kernel without a return has none.
+#[tactic(auto, using(crate::proofs::Whole::terms_ok))]
+fn terms_of(kernel: &EarlyKernel) -> &[Term]
+    requires { IsSumKernel (kernel_seen kernel.now) }
+    ensures terms { result.now ≡ unwrap_or (kernel_seen kernel.now).answer [] }
+    ensures fits { All IsTerm result.now }
+{
     match &kernel.answer {
-        Some(terms) => emit_sum(alloc, terms),
-        None => emit_sum(alloc, &[]),
+        Some(terms) => terms,
+        None => &[],
     }
 }
 
@@ -59,9 +74,23 @@ fn emit_term(words: &mut Vec<u32>, term: Term) -> Result<(), AllocError>
         Term::Param(place) => put(words, add(SUM, SUM, place)),
         Term::Number(n) => {
             put(words, wide(MoveWideOp::Movz, NUMBER, (n % 65536) as u32, 0))?;
-            put(words, wide(MoveWideOp::Movk, NUMBER, (n / 65536 % 65536) as u32, 1))?;
-            put(words, wide(MoveWideOp::Movk, NUMBER, (n / 4294967296 % 65536) as u32, 2))?;
-            put(words, wide(MoveWideOp::Movk, NUMBER, (n / 281474976710656 % 65536) as u32, 3))?;
+            put(
+                words,
+                wide(MoveWideOp::Movk, NUMBER, (n / 65536 % 65536) as u32, 1),
+            )?;
+            put(
+                words,
+                wide(MoveWideOp::Movk, NUMBER, (n / 4294967296 % 65536) as u32, 2),
+            )?;
+            put(
+                words,
+                wide(
+                    MoveWideOp::Movk,
+                    NUMBER,
+                    (n / 281474976710656 % 65536) as u32,
+                    3,
+                ),
+            )?;
             put(words, add(SUM, SUM, NUMBER))
         }
     }
@@ -107,5 +136,8 @@ fn wide(op: MoveWideOp, rd: u32, imm: u32, hw: u32) -> A64
 fn call() -> A64
     ensures { seen result ≡ svc_of 0 }
 {
-    A64::Exception { op: ExceptionOp::Svc, imm16: Bits { number: 0 } }
+    A64::Exception {
+        op: ExceptionOp::Svc,
+        imm16: Bits { number: 0 },
+    }
 }

@@ -105,7 +105,11 @@ fn place_of(names: &[String], name: &Name) -> Option<usize>
     ensures { result ≡ place_of (texts names.now) (name_of name.now) }
 {
     let place = place_or_end(names, name);
-    if place < names.len() { Some(place) } else { None }
+    if place < names.len() {
+        Some(place)
+    } else {
+        None
+    }
 }
 
 // The place of a name among these, or their number where it is none of them.
@@ -198,7 +202,11 @@ fn sum(
     };
     terms.push(term)?;
     if let Some(rest) = accept(behind, Mark::Semicolon) {
-        return Ok(if ends_by(rest, Mark::CloseBrace) { Some(terms) } else { None });
+        return Ok(if ends_by(rest, Mark::CloseBrace) {
+            Some(terms)
+        } else {
+            None
+        });
     }
     let Some(rest) = accept(behind, Mark::Plus) else {
         return Ok(None);
@@ -211,7 +219,11 @@ fn sum(
 
 // The returned sum of a kernel with these parameters.
 #[tactic(auto, unfolding(crate::specs::Reads::answer_at))]
-fn answer(alloc: Global, names: &[String], tokens: &[Token]) -> Result<Option<EarlyKernel>, AllocError>
+fn answer(
+    alloc: Global,
+    names: &[String],
+    tokens: &[Token],
+) -> Result<Option<EarlyKernel>, AllocError>
     requires { length names.now ≤ 8 }
     ensures read { IfOk result (λ o. option_map kernel_seen o ≡ answer_at (texts names.now) (words_of tokens.now)) }
     ensures fits { IfOk result (λ o. IfSome o (λ kernel. IsSumKernel (kernel_seen kernel))) }
@@ -226,14 +238,21 @@ fn answer(alloc: Global, names: &[String], tokens: &[Token]) -> Result<Option<Ea
         return Ok(None);
     };
     match sum(names, from, 11, Vec::new(alloc))? {
-        Some(terms) => Ok(Some(EarlyKernel { params: names.len() as u32, answer: Some(terms) })),
+        Some(terms) => Ok(Some(EarlyKernel {
+            params: names.len() as u32,
+            answer: Some(terms),
+        })),
         None => Ok(None),
     }
 }
 
 // What stands behind the parameters.
 #[tactic(auto, unfolding(crate::specs::Reads::tail_at))]
-fn tail(alloc: Global, names: &[String], tokens: &[Token]) -> Result<Option<EarlyKernel>, AllocError>
+fn tail(
+    alloc: Global,
+    names: &[String],
+    tokens: &[Token],
+) -> Result<Option<EarlyKernel>, AllocError>
     requires { length names.now ≤ 8 }
     ensures read { IfOk result (λ o. option_map kernel_seen o ≡ tail_at (texts names.now) (words_of tokens.now)) }
     ensures fits { IfOk result (λ o. IfSome o (λ kernel. IsSumKernel (kernel_seen kernel))) }
@@ -245,7 +264,10 @@ fn tail(alloc: Global, names: &[String], tokens: &[Token]) -> Result<Option<Earl
         return Ok(None);
     };
     if ends_by(rest, Mark::CloseBrace) {
-        Ok(Some(EarlyKernel { params: names.len() as u32, answer: None }))
+        Ok(Some(EarlyKernel {
+            params: names.len() as u32,
+            answer: None,
+        }))
     } else {
         Ok(None)
     }
