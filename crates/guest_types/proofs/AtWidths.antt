@@ -1,13 +1,12 @@
 -- Registers at the four widths, element by element.
-use Rattle.std.proofs.Common.{◌≡◌, ◌≢◌, ℕ, zero, suc, ◌+◌, ◌-◌, ◌*◌, ◌/◌, ◌%◌, ◌^◌, ◌<◌, ◌≤◌, Bool, true, false, ◌&&◌, cond, eqb, ltb, List, [], ◌∷◌, ◌++◌, length, get_or, replicate, refl, sym, ap, ap₂, ◌∙◌, subst, arith, inl, inr, add-one, append_assoc}
-use Rattle.std.specs.Prelude.{nat_eq, nat_lt, if◌then◌else◌}
-use Rattle.std.proofs.lemmas.Bool.{cases_eq, cases_lt, cond-true, cond-false, eq-eqb, ne_eqb, eqb-true, eqb-false, lt-ltb, le-ltb, ltb-true, and_left, and_right}
+use Rattle.std.proofs.Common.{◌≡◌, ◌≢◌, ℕ, zero, suc, ◌+◌, ◌-◌, ◌*◌, ◌/◌, ◌%◌, ◌<◌, ◌≤◌, Bool, true, false, ◌&&◌, cond, eqb, ltb, List, ◌∷◌, ◌++◌, length, get_or, replicate, refl, sym, ap, ◌∙◌, subst, arith, append_assoc}
+use Rattle.std.proofs.lemmas.Bool.{cond-true, cond-false, eq-eqb, ne_eqb, lt-ltb, le-ltb, ltb-true, and_left, and_right}
 use Rattle.std.proofs.lemmas.List.{append-nil, replicate-append-replicate}
-use Rattle.std.proofs.Math.Nat.{add-suc, add-zero, mul-zero, mul-suc, mul-le-mul_left, mul-mod_right, mul-div_cancel_left, mod-one, div-one}
+use Rattle.std.proofs.Math.Nat.{add-suc, add-zero, mul-suc, mul-le-mul_left, mul-mod_right, mul-div_cancel_left, div-one}
 use Rattle.guest_types.specs.declared.length.Width.{Width}
 use Rattle.guest_types.specs.declared.length.Width.TheVariants.{B, H, S, D}
-use Rattle.guest_types.specs.Length.{IsLength, width_bits, width_bytes, lanes, all_lanes, modulus}
-use Rattle.guest_types.specs.Elements.{number_of, bytes_of, element, elements, register, at, bit, bits_of, active, element_bit, predicate, written_bit, with_active}
+use Rattle.guest_types.specs.Length.{IsLength, width_bytes, lanes, all_lanes, modulus}
+use Rattle.guest_types.specs.Elements.{bytes_of, elements, register, at, bit, bits_of, active, element_bit, predicate, written_bit, with_active}
 use Rattle.guest_types.proofs.Registers.{element-register, length-register, register-ext, elements-of}
 use Rattle.guest_types.proofs.Predicates.{bits-ext, bit-bits_of, bits-small, length-bits_of}
 use Rattle.guest_types.proofs.Widths.{modulus-is, whole-register, some-bytes, lane-inside}
@@ -79,8 +78,8 @@ first_of-past f n e l = cond-false _ _ _ (le-ltb e n l)
 pub at-register_past : (w : Width) (f : ℕ → ℕ) (n e : ℕ) → n ≤ e → e < all_lanes w → at w (register (width_bytes w) f n) e ≡ 0
 at-register_past w f n e past inside =
     let same : register (width_bytes w) f n ≡ register (width_bytes w) (first_of f n) (all_lanes w) =
-      register-ext (width_bytes w) f (first_of f n) n (first_of-below f n)
-      ∙ sym (register-all_lanes w (first_of f n) n (omega arith) (λ i least below. first_of-past f n i least)) in
+    register-ext (width_bytes w) f (first_of f n) n (first_of-below f n)
+    ∙ sym (register-all_lanes w (first_of f n) n (omega arith) (λ i least below. first_of-past f n i least)) in
     ap (λ z. at w z e) same ∙ at-register w (first_of f n) (all_lanes w) e inside ∙ ap (λ v. v % modulus w) (first_of-past f n e past) ∙ zero_mod w
   where
     zero_mod : (w : Width) → 0 % modulus w ≡ 0

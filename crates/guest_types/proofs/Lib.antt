@@ -5,6 +5,7 @@ pub mod Predicates
 pub mod Folds
 pub mod AtWidths
 pub mod Shifts
+mod Examples
 pub mod Writes
 pub mod Stores
 pub mod Merges
