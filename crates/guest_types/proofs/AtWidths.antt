@@ -39,6 +39,12 @@ bytes_of-zero : (k : ℕ) → bytes_of k 0 ≡ replicate k 0
 bytes_of-zero zero = refl
 bytes_of-zero (suc k) = ap (λ l. 0 ∷ l) (bytes_of-zero k)
 
+zeros_more : (xs : List ℕ) (k r s : ℕ) → k + r ≡ s → (xs ++ bytes_of k 0) ++ replicate r 0 ≡ xs ++ replicate s 0
+zeros_more xs k r s room =
+    ap (λ l. (xs ++ l) ++ replicate r 0) (bytes_of-zero k)
+    ∙ append_assoc xs (replicate k 0) (replicate r 0)
+    ∙ ap (λ l. xs ++ l) (replicate-append-replicate k r 0 ∙ ap (λ m. replicate m 0) room)
+
 -- elements that are zero need not be made
 pub register-zeros : (k : ℕ) (f : ℕ → ℕ) (n d : ℕ) → k * (n + d) ≤ 256 → ((e : ℕ) → n ≤ e → e < n + d → f e ≡ 0) → register k f (n + d) ≡ register k f n
 unfolding elements
@@ -47,12 +53,11 @@ register-zeros k f n (suc d) fits none =
     let next : n + suc d ≡ suc (n + d) = add-suc n d in
     let wide : k * (n + suc d) ≡ k * (n + d) + k = ap (λ j. k * j) next ∙ mul-suc k (n + d) in
     let room : k + (256 - k * (n + suc d)) ≡ 256 - k * (n + d) = omega (arith, wide, fits) in
+    let rest : register k f (n + d) ≡ register k f n = register-zeros k f n d (omega (arith, wide, fits)) (λ e least below. none e least (omega arith)) in
     ap (λ j. elements k f j ++ replicate (256 - k * (n + suc d)) 0) next
     ∙ ap (λ v. (elements k f (n + d) ++ bytes_of k v) ++ replicate (256 - k * (n + suc d)) 0) (none (n + d) (omega arith) (omega arith))
-    ∙ ap (λ l. (elements k f (n + d) ++ l) ++ replicate (256 - k * (n + suc d)) 0) (bytes_of-zero k)
-    ∙ append_assoc (elements k f (n + d)) (replicate k 0) (replicate (256 - k * (n + suc d)) 0)
-    ∙ ap (λ l. elements k f (n + d) ++ l) (replicate-append-replicate k (256 - k * (n + suc d)) 0 ∙ ap (λ r. replicate r 0) room)
-    ∙ register-zeros k f n d (omega (arith, wide, fits)) (λ e least below. none e least (omega arith))
+    ∙ zeros_more (elements k f (n + d)) k (256 - k * (n + suc d)) (256 - k * (n + d)) room
+    ∙ rest
 
 -- where the elements past the vector length are zero, the whole register is made of those below it
 pub register-all_lanes : (w : Width) (f : ℕ → ℕ) (n : ℕ) → n ≤ all_lanes w → ((e : ℕ) → n ≤ e → e < all_lanes w → f e ≡ 0) → register (width_bytes w) f (all_lanes w) ≡ register (width_bytes w) f n

@@ -1,5 +1,5 @@
 -- The definitions at values worked out by hand.
-use Rattle.std.proofs.Common.{◌≡◌, ℕ, ◌-◌, ◌^◌, Bool, true, false, [], ◌∷◌, replicate, Some, None, Ok, Err, refl}
+use Rattle.std.proofs.Common.{List, ◌+◌, ◌≡◌, ℕ, ◌-◌, ◌^◌, Bool, true, false, [], ◌∷◌, replicate, Some, None, Ok, Err, refl}
 use Rattle.std.specs.Prelude.{nat_lt}
 use Rattle.guest_types.specs.declared.length.Width.TheVariants.{B, H, S, D}
 use Rattle.guest_types.specs.declared.memory.AccessFault.{AccessFault}
@@ -12,7 +12,9 @@ use Rattle.guest_types.specs.declared.operation.ReduceOp.TheVariants.{UAdd, SMax
 use Rattle.guest_types.specs.declared.operation.LaneCompare.TheVariants.{Hi, Ge, Gt}
 use Rattle.guest_types.specs.Length.{modulus}
 use Rattle.guest_types.specs.Memory.{Page, Memory, byte_at, number_at, put_number, loaded, stored, fetched, merged, after}
-use Rattle.guest_types.specs.Elements.{at, active, bits_of, pred_test, nzcv}
+use Rattle.guest_types.specs.Elements.{elements, at, active, bits_of, pred_test, nzcv}
+use Rattle.guest_types.specs.Spans.{has_span, has_span_mut, span_of, with_span}
+use Rattle.guest_types.specs.LaneMemory.{load_form, load_form_of, lane_address, lane_faults, plain_load, first_fault_load, non_fault_load, store_lanes, StoreFault}
 use Rattle.guest_types.specs.Lanes.{lane, unary, shifted, is_true, identity, joined, all_at, while_at, while_of, brk_of, broken}
 
 -- ---- memory
@@ -171,3 +173,63 @@ identities = (refl, refl, refl, refl)
 -- UADDV keeps 64 bits at each width
 wide_sum : joined UAdd (modulus B) 0xFF 0xFF ≡ 0x1FE
 wide_sum = refl
+
+-- ---- lanes in memory
+
+signed_forms : (load_form 4 ≡ load_form_of S D true) × (load_form 8 ≡ load_form_of H D true) × (load_form 14 ≡ load_form_of B H true) × (load_form 15 ≡ load_form_of D D false)
+signed_forms = (refl, refl, refl, refl)
+
+address_of : ℕ → ℕ → ℕ
+address_of base e = lane_address base 0 1 e
+
+all_set : List ℕ
+all_set = replicate 32 255
+
+-- LD1B of two halfwords across a page edge
+loads_across : plain_load (load_form 1) memory all_at (address_of 4095) 2 all_set ≡ Ok (record { z = 0x11 ∷ 0 ∷ 0x22 ∷ replicate 253 0; ffr = all_set })
+unfolding memory page_of address_of all_set elements
+loads_across = refl
+
+-- its second element is unmapped
+load_refused : plain_load (load_form 1) memory all_at (address_of 16383) 2 all_set ≡ Err (refused 16384 false)
+unfolding memory page_of refused address_of all_set elements
+load_refused = refl
+
+first_only : ℕ → Bool
+first_only e = nat_lt e 1
+
+-- and is not looked at where it is not active
+load_inactive : plain_load (load_form 1) memory first_only (address_of 16383) 2 all_set ≡ Ok (record { z = 0x44 ∷ replicate 255 0; ffr = all_set })
+unfolding memory page_of address_of all_set elements first_only
+load_inactive = refl
+
+-- LDFF1B stops before it and clears FFR from its bit on
+first_fault_stops : first_fault_load (load_form 0) memory (lane_faults (load_form 0) memory (address_of 16382)) all_at (address_of 16382) 4 all_set ≡ Ok (record { z = 0x44 ∷ 0x44 ∷ replicate 254 0; ffr = 0x03 ∷ replicate 31 0 })
+unfolding memory page_of address_of all_set elements bits_of
+first_fault_stops = refl
+
+-- but faults at its first active element
+first_fault_refused : first_fault_load (load_form 0) memory (lane_faults (load_form 0) memory (address_of 16384)) all_at (address_of 16384) 4 all_set ≡ Err (refused 16384 false)
+unfolding memory page_of refused address_of all_set elements bits_of
+first_fault_refused = refl
+
+-- where LDNF1B gives zeros
+non_fault_stops : non_fault_load (load_form 0) memory (lane_faults (load_form 0) memory (address_of 16384)) all_at (address_of 16384) 4 all_set ≡ Ok (record { z = replicate 256 0; ffr = replicate 32 0 })
+unfolding memory page_of address_of all_set elements bits_of
+non_fault_stops = refl
+
+counted : ℕ → ℕ
+counted e = e + 7
+
+-- ST1B writes the elements below the first that faults
+store_stops : store_lanes all_at (address_of 8190) counted 1 4 0 memory ≡ StoreFault (refused 8192 true) (put_number memory 8190 2 0x0807)
+unfolding memory page_of refused address_of counted
+store_stops = refl
+
+lends : (has_span memory 4095 1 ≡ true) × (has_span memory 4095 2 ≡ false) × (has_span memory 0 0 ≡ false) × (has_span memory 8192 4096 ≡ true) × (has_span_mut memory 8192 4096 ≡ false)
+unfolding memory page_of
+lends = (refl, refl, refl, refl, refl)
+
+spans : (span_of memory 12286 2 ≡ 0x33 ∷ 0x33 ∷ []) × (with_span memory 4096 (1 ∷ 2 ∷ []) ≡ put_number memory 4096 2 0x0201)
+unfolding memory page_of
+spans = (refl, refl)

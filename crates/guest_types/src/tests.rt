@@ -1,7 +1,7 @@
 use crate::bytes::{number, put_number};
 use crate::image::Image;
 use crate::length::{Vl, Width};
-use crate::memory::{PageBytes, PageNo};
+use crate::memory::{PageBytes, PageNo, PageSpec, Perm};
 use crate::operation::{LaneCompare, LaneOp, LaneUnary, PredOp, ReduceOp, ShiftOp};
 use crate::predicate::PReg;
 use crate::register::ZReg;
@@ -44,6 +44,8 @@ fn pages(rt: HostRuntime) -> Result<(), Fail> {
     bytes.put(4095, 9);
     assert_eq!(rt; bytes.as_slice()[4095], 9);
     assert_eq!(rt; bytes.as_slice()[4094], 0);
+    let spec = PageSpec::new(page, Perm::ReadWrite, bytes);
+    assert!(rt; spec.perm == Perm::ReadWrite);
     let image = Image::empty(rt.alloc());
     assert_eq!(rt; image.pages.len(), 0);
     assert_eq!(rt; image.entry, 0);
@@ -51,9 +53,16 @@ fn pages(rt: HostRuntime) -> Result<(), Fail> {
 }
 
 #[test]
-fn rows(rt: HostRuntime) {
+fn rows(rt: HostRuntime) -> Result<(), Fail> {
     assert!(rt; LoadRow::new(15).is_some());
     assert!(rt; LoadRow::new(16).is_none());
+    let load = LoadRow::new(8).ok_or("no row")?;
+    assert!(rt; load.memory() == Width::H);
+    assert!(rt; load.element() == Width::D);
+    assert!(rt; load.is_signed());
+    let store = StoreRow::new(0, 2).ok_or("no row")?;
+    assert!(rt; store.memory() == Width::B);
+    assert!(rt; store.element() == Width::S);
     for (msz, size, valid) in [
         (0, 0, true),
         (3, 3, true),
@@ -67,6 +76,7 @@ fn rows(rt: HostRuntime) {
             "at {msz}, {size}"
         );
     }
+    Ok(())
 }
 
 #[test]
