@@ -1,9 +1,5 @@
 -- The code of a written file stands in memory, beside any pages that do not meet the file's.
-<<<<<<< HEAD
-use Rattle.std.proofs.Common.{◌≡◌, ℕ, zero, suc, ◌+◌, ◌-◌, ◌*◌, ◌^◌, ◌<◌, ◌≤◌, Bool, true, false, List, [], ◌∷◌, length, Option, Some, None, refl, sym, ap, ◌∙◌, subst, arith}
-=======
 use Rattle.std.proofs.Common.{◌≡◌, ℕ, zero, suc, ◌+◌, ◌*◌, ◌^◌, ◌<◌, ◌≤◌, Bool, true, List, [], ◌∷◌, length, Some, refl, subst, arith}
->>>>>>> af062316b57e1a79b58edfedfb3e400a5e8cb1b9
 use Rattle.std.specs.Prelude.{All, ◌&&◌, nat_lt, nat_le, slice_get, bit_or}
 use Rattle.std.proofs.Math.Pow.{pow_mono}
 use Rattle.std.proofs.Math.Dec.{lit<}
@@ -15,11 +11,7 @@ use Rattle.std.proofs.lemmas.List.{length-map}
 use Rattle.std.proofs.lemmas.List.Elements.{All-nil, All-cons}
 use Rattle.guest_types.specs.Memory.{Memory, DoNotMeet, merged}
 use Rattle.word_rows.specs.Field.{Field}
-<<<<<<< HEAD
-use Rattle.word_rows.specs.Row.{Row, Instruction, IsInstruction, Fill, or_into, spells}
-=======
 use Rattle.word_rows.specs.Row.{Instruction, IsInstruction, Fill, or_into, spells}
->>>>>>> af062316b57e1a79b58edfedfb3e400a5e8cb1b9
 use Rattle.a64_code.specs.Table.{Name, row, a64_names, add_sub_imm, add_sub_shifted, logical, move_wide, multiply_add, shift_variable, bitfield, select, branch, branch_if, branch_zero, ret_form, exception, nop_form, umov_form, byte_imm, wide_imm, byte_register, wide_register}
 use Rattle.machine_model.specs.Written.{code_base, image_of_words}
 use Rattle.machine_model.proofs.Runs.{HasCode, AllListed, words_of, code_from}
@@ -79,8 +71,4 @@ pub code_stands : (is : List (Instruction Name)) (pages : Memory) → length is 
 code_stands is pages few listed apart =
     let n = length-map is (spells row) in
     code_from (merged (image_of_words (words_of is)).pages pages) is code_base listed (omega (arith, few))
-<<<<<<< HEAD
-      (λ k w at. fetch_beside (words_of is) pages k w (omega (arith, n, few)) (words_below is listed) apart at)
-=======
     (λ k w at. fetch_beside (words_of is) pages k w (omega (arith, n, few)) (words_below is listed) apart at)
->>>>>>> af062316b57e1a79b58edfedfb3e400a5e8cb1b9
