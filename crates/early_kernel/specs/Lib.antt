@@ -4,3 +4,4 @@ pub mod SumCode
 pub mod Reads
 pub mod Seen
 pub mod Views
+pub mod Compiles
