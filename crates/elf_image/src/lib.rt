@@ -1,0 +1,10 @@
+//! The ELF64 files of programs for the guest machine: writing the file of some words, and loading a file as an image.
+#![tactic(auto)]
+
+mod fields;
+mod header;
+mod program_header;
+pub mod write;
+
+pub use machine_model::elf_fault::ElfFault;
+pub use write::write_elf;
