@@ -4,6 +4,7 @@
 mod fields;
 mod header;
 mod program_header;
+mod segments;
 pub mod write;
 
 pub use machine_model::elf_fault::ElfFault;
