@@ -3,6 +3,7 @@
 
 mod fields;
 mod header;
+mod order;
 mod program_header;
 mod segments;
 pub mod write;
