@@ -4,6 +4,7 @@
 mod fields;
 mod header;
 mod order;
+mod pages;
 mod program_header;
 mod segments;
 pub mod write;

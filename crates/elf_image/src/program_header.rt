@@ -1,8 +1,8 @@
 // Program headers, as far as they are read.
 
-ghost use Rattle.std.specs.Prelude.{◌≡◌, ℕ, ◌+◌, ◌*◌, ◌^◌, ◌<◌, ◌≤◌, length, nat_eq};
+ghost use Rattle.std.specs.Prelude.{◌≡◌, ℕ, ◌+◌, ◌*◌, ◌^◌, ◌<◌, ◌≤◌, length, if◌then◌else◌, Option, Some, None};
 ghost use Rattle.guest_types.specs.declared.memory.Perm.{Perm};
-ghost use Rattle.machine_model.specs.Load.{Segment, segment_at, has_flag, is_loaded, is_dynamic, is_bad, first_page, page_count, perm_of, holds_entry};
+ghost use Rattle.machine_model.specs.Load.{Segment, segment_at, has_flag, is_loaded, is_dynamic, is_bad, first_page, page_count, perm_of, holds_entry, segment_byte};
 ghost use Rattle.elf_image.specs.Loadable.{IsLoadable};
 
 use crate::fields::{read_u32, read_u64};
@@ -111,6 +111,40 @@ impl ProgramHeader {
     {
         let end = u128::from(self.vaddr) + u128::from(self.memsz);
         end.saturating_sub(1) / u128::from(PAGE) + 1 - u128::from(self.first_page())
+    }
+
+    // The number after that of the last page that holds bytes of the segment.
+    pub fn end_page(&self) -> u64
+        requires { (size : ℕ) × IsLoadable size self.now }
+        ensures end { result ≡ first_page self.now + page_count self.now }
+        ensures bound { result ≤ 2 ^ 36 }
+    {
+        (self.vaddr + self.memsz - 1) / PAGE + 1
+    }
+
+    // The byte that the segment puts at an address.
+    pub fn byte_at(&self, bytes: &[u8], address: u64) -> u8
+        requires { IsLoadable (length bytes.now) self.now }
+        ensures { result ≡ segment_byte bytes.now self.now address }
+    {
+        if self.vaddr <= address && address < self.vaddr + self.filesz {
+            bytes[(self.offset + (address - self.vaddr)) as usize]
+        } else {
+            0
+        }
+    }
+
+    // The address after the segment's file bytes, where they hold this one and may be executed.
+    pub fn end_of_code(&self, entry: u64) -> Option<u64>
+        requires { (size : ℕ) × IsLoadable size self.now }
+        ensures { result ≡ (if holds_entry entry self.now then Some (self.now.vaddr + self.now.filesz) else None) }
+    {
+        let end = self.vaddr + self.filesz;
+        if self.has_flag(EXECUTE_BIT) && self.vaddr <= entry && entry < end {
+            Some(end)
+        } else {
+            None
+        }
     }
 
     // What the segment's pages may be used for.
