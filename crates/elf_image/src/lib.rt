@@ -3,11 +3,13 @@
 
 mod fields;
 mod header;
+pub mod load;
 mod order;
 mod pages;
 mod program_header;
 mod segments;
 pub mod write;
 
+pub use load::load_elf;
 pub use machine_model::elf_fault::ElfFault;
 pub use write::write_elf;

@@ -40,7 +40,7 @@ fn put_pages(
     ensures { IfOk result (λ _. pages.new.items ≡ pages.old.items ++ pages_of bytes.now segment.now) }
 {
     let first = segment.first_page();
-    let end = segment.end_page();
+    let end = segment.end_page(bytes.len());
     for number in first..end {
         let page_bytes = bytes_of_page(alloc, bytes, segment, number)?;
         let Some(page) = PageNo::new(number) else {

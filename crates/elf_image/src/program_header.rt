@@ -114,8 +114,8 @@ impl ProgramHeader {
     }
 
     // The number after that of the last page that holds bytes of the segment.
-    pub fn end_page(&self) -> u64
-        requires { (size : ℕ) × IsLoadable size self.now }
+    pub fn end_page(&self, size: usize) -> u64
+        requires { IsLoadable size self.now }
         ensures end { result ≡ first_page self.now + page_count self.now }
         ensures bound { result ≤ 2 ^ 36 }
     {
@@ -135,8 +135,8 @@ impl ProgramHeader {
     }
 
     // The address after the segment's file bytes, where they hold this one and may be executed.
-    pub fn end_of_code(&self, entry: u64) -> Option<u64>
-        requires { (size : ℕ) × IsLoadable size self.now }
+    pub fn end_of_code(&self, size: usize, entry: u64) -> Option<u64>
+        requires { IsLoadable size self.now }
         ensures { result ≡ (if holds_entry entry self.now then Some (self.now.vaddr + self.now.filesz) else None) }
     {
         let end = self.vaddr + self.filesz;
