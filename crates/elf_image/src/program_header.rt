@@ -1,8 +1,8 @@
 // Program headers, as far as they are read.
 
-ghost use Rattle.std.specs.Prelude.{◌≡◌, ℕ, ◌+◌, ◌*◌, ◌^◌, ◌<◌, ◌≤◌, length, if◌then◌else◌, Option, Some, None};
+ghost use Rattle.std.specs.Prelude.{◌≡◌, ℕ, ◌+◌, ◌*◌, ◌-◌, ◌^◌, ◌<◌, ◌≤◌, take, drop, length, if◌then◌else◌, Option, Some, None};
 ghost use Rattle.guest_types.specs.declared.memory.Perm.{Perm};
-ghost use Rattle.machine_model.specs.Load.{Segment, segment_at, has_flag, is_loaded, is_dynamic, is_bad, first_page, page_count, perm_of, holds_entry, segment_byte};
+ghost use Rattle.machine_model.specs.Load.{Segment, segment_at, has_flag, is_loaded, is_dynamic, is_bad, first_page, page_count, perm_of, holds_entry};
 ghost use Rattle.elf_image.specs.Loadable.{IsLoadable};
 
 use crate::fields::{read_u32, read_u64};
@@ -122,16 +122,32 @@ impl ProgramHeader {
         (self.vaddr + self.memsz - 1) / PAGE + 1
     }
 
-    // The byte that the segment puts at an address.
-    pub fn byte_at(&self, bytes: &[u8], address: u64) -> u8
-        requires { IsLoadable (length bytes.now) self.now }
-        ensures { result ≡ segment_byte bytes.now self.now address }
+    // The address of the segment's first byte.
+    pub fn vaddr(&self) -> u64
+        ensures { result ≡ self.now.vaddr }
     {
-        if self.vaddr <= address && address < self.vaddr + self.filesz {
-            bytes[(self.offset + (address - self.vaddr)) as usize]
-        } else {
-            0
-        }
+        self.vaddr
+    }
+
+    // The address after the segment's file bytes.
+    pub fn file_end(&self, size: usize) -> u64
+        requires { IsLoadable size self.now }
+        ensures { result ≡ self.now.vaddr + self.now.filesz }
+    {
+        self.vaddr + self.filesz
+    }
+
+    // The segment's file bytes from one address until another.
+    pub fn file_bytes<'a>(&self, bytes: &'a [u8], from: u64, end: u64) -> &'a [u8]
+        requires loadable { IsLoadable (length bytes.now) self.now }
+        requires low { self.now.vaddr ≤ from }
+        requires order { from ≤ end }
+        requires high { end ≤ self.now.vaddr + self.now.filesz }
+        ensures { result.now ≡ take (end - from) (drop (self.now.offset + (from - self.now.vaddr)) bytes.now) }
+    {
+        let at = (self.offset + (from - self.vaddr)) as usize;
+        let count = (end - from) as usize;
+        &bytes[at..at + count]
     }
 
     // The address after the segment's file bytes, where they hold this one and may be executed.

@@ -1,16 +1,31 @@
-use Rattle.std.proofs.Common.{◌≡◌, ◌+◌, ◌*◌, refl, arith}
-use Rattle.std.proofs.lemmas.List.FromFn.{map-range_with_len_more}
+use Rattle.std.proofs.Common.{◌≡◌, ℕ, ◌+◌, ◌-◌, ◌*◌, ◌≤◌, ◌++◌, length, replicate, ap, ◌∙◌, arith}
 use Rattle.machine_model.specs.Load.{segment_byte}
-use Rattle.elf_image.proofs.Laid.{is_page_bytes}
+use Rattle.elf_image.proofs.Laid.{filled, length_filled, page_bytes_are}
 use Rattle.elf_image.proofs.pages.bytes_of_page.Goals as goal
 
-pub loop-at-preserved : goal.loop-at-preserved
-loop-at-preserved c =
-    let bytes = c.args.bytes.now in
+pub put_zeros-requires-2 : goal.put_zeros-requires-2
+put_zeros-requires-2 c =
+    let f = segment_byte c.args.bytes.now c.args.segment.now in
     let start = 4096 * c.args.number in
-    let more = map-range_with_len_more (segment_byte bytes c.args.segment.now) start c.loop-at.at (start + c.loop-at.at) refl in
-    cc (c.in_ok-push.ensures.items)
+    let from = c.clamp-from.result in
+    let end = c.clamp-end.result in
+    let e = filled f _ _ _ start from end c.in_ok-page.ensures.items c.in_ok-put_zeros.ensures c.in_ok-put_file_bytes.ensures in
+    let size = length_filled f _ start from end (omega arith) (omega arith) e in
+    omega arith
 
 pub returns : goal.returns
 returns c =
-    is_page_bytes c.args.bytes.now _ c.args.segment.now c.args.number c.loop-at.at (omega arith) c.loop-at.invariant
+    let bytes = c.args.bytes.now in
+    let s = c.args.segment.now in
+    let f = segment_byte bytes s in
+    let start = 4096 * c.args.number in
+    let from = c.clamp-from.result in
+    let end = c.clamp-end.result in
+    let second = c.put_file_bytes.new.page.items in
+    let e = filled f _ _ second start from end c.in_ok-page.ensures.items c.in_ok-put_zeros.ensures c.in_ok-put_file_bytes.ensures in
+    let size = length_filled f second start from end (omega arith) (omega arith) e in
+    let count : 4096 - length second ≡ start + 4096 - end = omega arith in
+    c.in_ok-put_zeros-2.ensures
+    ∙ ap (λ k. second ++ replicate k 0) count
+    ∙ ap (λ r. r ++ replicate (start + 4096 - end) 0) e
+    ∙ page_bytes_are bytes s c.args.number from end (omega arith) (omega arith) (omega arith) (λ h. omega arith) (λ h. omega arith)
