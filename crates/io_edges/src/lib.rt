@@ -1,0 +1,7 @@
+//! The outside as values that a caller hands in: files by name, places for bytes to go to and
+//! sources that they come from, in memory and over the real thing.
+#![tactic(auto)]
+
+pub mod files;
+pub mod sink;
+pub mod source;
