@@ -5,9 +5,13 @@ use Rattle.io_edges.specs.declared.files.FileAnswer.{FileAnswer}
 use Rattle.io_edges.specs.declared.files.FileAnswer.TheVariants.{Failed, TooLong}
 use Rattle.io_edges.specs.declared.files.TheConstants.{MAX_FILE}
 
+-- one more, in a count of 64 bits that stays at its last value
+abbrev pub one_more : ℕ → ℕ
+one_more count = min (count + 1) (2 ^ 64 - 1)
+
 -- a count of faults has gone up, or stands at its last value
 abbrev pub Rose : ℕ → ℕ → Type 0
-Rose before now = min (before + 1) (2 ^ 64 - 1) ≤ now
+Rose before now = one_more before ≤ now
 
 -- the count of faults never falls, and `Failed` is answered only where it rose
 pub record HasCause {T : Type 0} (before now : ℕ) (result : Result T FileAnswer) : Type 0 where

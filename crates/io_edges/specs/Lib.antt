@@ -1,3 +1,5 @@
 pub mod Files
 pub mod Sink
 pub mod Source
+pub mod Calls
+pub mod Memory

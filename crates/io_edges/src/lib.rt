@@ -2,6 +2,9 @@
 //! sources that they come from, in memory and over the real thing.
 #![tactic(auto)]
 
+mod calls;
 pub mod files;
+pub mod memory_sink;
+pub mod memory_source;
 pub mod sink;
 pub mod source;
