@@ -39,7 +39,7 @@ abbrev pub Reads : Option (List (List ℕ × List ℕ)) → List ℕ → List �
 Reads held name old new result = IfSome held (λ files. ReadsFrom (content files name) old new result)
 
 -- after an `Ok` the name has these bytes, and every other name has what it had
-pub record Replaces (name bytes : List ℕ) (old new : List (List ℕ × List ℕ)) (result : Result (Unit {0}) FileAnswer) : Type 0 where
+pub record Replaces {E : Type 0} (name bytes : List ℕ) (old new : List (List ℕ × List ℕ)) (result : Result (Unit {0}) E) : Type 0 where
   pub written : OnOk result (content new name ≡ Some bytes)
   pub others : (other : List ℕ) → other ≢ name → content new other ≡ content old other
 

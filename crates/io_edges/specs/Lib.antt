@@ -3,3 +3,4 @@ pub mod Sink
 pub mod Source
 pub mod Calls
 pub mod Memory
+pub mod NamedFile

@@ -4,6 +4,7 @@
 
 mod calls;
 pub mod files;
+pub mod memory_files;
 pub mod memory_sink;
 pub mod memory_source;
 pub mod sink;
