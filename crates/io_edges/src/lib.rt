@@ -9,3 +9,6 @@ pub mod memory_sink;
 pub mod memory_source;
 pub mod sink;
 pub mod source;
+pub mod std_files;
+pub mod std_sink;
+pub mod std_source;

@@ -1,6 +1,7 @@
 // Files in memory.
 
 ghost use Rattle.std.specs.Prelude.{◌≡◌, ◌≢◌, ◌↔◌, ◌<◌, ◌||◌, ℕ, List, Some, None, length, is_none, IsTrue, IsFalse, IfSome, OnErr, MatchOption, position, refl};
+ghost use Rattle.std.specs.Option.{option_copied};
 ghost use Rattle.io_edges.specs.Files.{content, names_differ, HasCause, Reads, ReadsFrom, Replaces, Writes, ReadsSteadily, WritesSteadily};
 ghost use Rattle.io_edges.specs.Calls.{no_calls, fails_next, fails_no_more, after_call};
 ghost use Rattle.io_edges.specs.NamedFile.{entries, has_name};
@@ -116,7 +117,7 @@ impl MemoryFiles {
 
     /// The bytes of the file with the name, where there is one.
     pub fn bytes(&self, name: &str) -> Option<&[u8]>
-        ensures { MatchOption result (content self.now.held name.now ≡ None) (λ bytes. content self.now.held name.now ≡ Some bytes.now) }
+        ensures { option_copied result ≡ content self.now.held name.now }
     {
         bytes_of(&self.files, name)
     }
