@@ -1,6 +1,6 @@
 // Files in memory.
 
-ghost use Rattle.std.specs.Prelude.{◌≡◌, ◌≢◌, ◌↔◌, ◌<◌, ◌||◌, ℕ, List, Some, None, length, is_none, IsTrue, IsFalse, IfSome, OnErr, MatchOption, position, refl};
+ghost use Rattle.std.specs.Prelude.{◌≡◌, ◌≢◌, ◌↔◌, ◌<◌, ◌||◌, ℕ, List, [], Some, None, length, is_none, IsTrue, IsFalse, IfSome, OnErr, MatchOption, position, refl};
 ghost use Rattle.std.specs.Option.{option_copied};
 ghost use Rattle.io_edges.specs.Files.{content, names_differ, HasCause, Reads, ReadsFrom, Replaces, Writes, ReadsSteadily, WritesSteadily};
 ghost use Rattle.io_edges.specs.Calls.{no_calls, fails_next, fails_no_more, after_call};
@@ -108,6 +108,7 @@ impl MemoryFiles {
         requires { IsTrue (names_differ (entries files.items)) }
         ensures held { result.held ≡ entries files.items }
         ensures calls { result.calls ≡ no_calls fail.items }
+        ensures steady { IsTrue (fails_no_more result.calls) ↔ (fail.items ≡ []) }
     {
         MemoryFiles {
             files,

@@ -9,7 +9,7 @@ loop-at-preserved g c =
     let bytes = rw (take_rest c.args.bytes.now c.loop-at.at) at c.in_ok-n.ensures.bytes in
     record {
       within = omega (arith, some, length-drop c.loop-at.at c.args.bytes.now);
-      so_far = puts_more _ _ _ c.args.bytes.now c.loop-at.at c.in_ok-n.n c.loop-at.invariant.so_far bytes;
+      so_far = puts_more (g.S.Sink.taken c.args.sink.now) (g.S.Sink.taken c.loop-at.sink) (g.S.Sink.taken c.put.new.self) c.args.bytes.now c.loop-at.at c.in_ok-n.n c.loop-at.invariant.so_far bytes;
       untold = λ h. puts_untold _ _ _ _ (c.loop-at.invariant.untold h) bytes;
       later = omega (arith, c.in_ok-n.ensures.cause.later);
     }
