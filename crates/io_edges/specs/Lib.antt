@@ -1,0 +1,6 @@
+pub mod Files
+pub mod Sink
+pub mod Source
+pub mod Calls
+pub mod Memory
+pub mod NamedFile
