@@ -1,6 +1,6 @@
-// The heads of pages, and the search for one.
+// The heads of pages.
 
-ghost use Rattle.std.specs.Prelude.{◌≡◌, IsTrue, ◌↔◌};
+ghost use Rattle.std.specs.Prelude.{◌≡◌};
 ghost use Rattle.guest_types.specs.Memory.{is_writable, is_executable};
 
 use guest_types::memory::Perm;

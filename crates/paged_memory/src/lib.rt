@@ -3,3 +3,4 @@
 
 pub mod head;
 pub mod pages;
+pub mod place;
