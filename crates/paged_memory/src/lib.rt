@@ -1,6 +1,7 @@
 //! The memory of a guest as pages, found by number in a few steps.
 #![tactic(auto)]
 
-pub mod head;
+mod head;
+mod number;
 pub mod pages;
-pub mod place;
+mod place;
