@@ -3,6 +3,8 @@ pub mod Registers
 pub mod Widths
 pub mod Predicates
 pub mod Folds
+pub mod AtWidths
+pub mod Shifts
 pub mod Writes
 pub mod Stores
 pub mod Merges
