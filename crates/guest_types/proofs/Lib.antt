@@ -4,6 +4,7 @@ pub mod Widths
 pub mod Predicates
 pub mod Folds
 pub mod AtWidths
+pub mod Shifts
 pub mod Writes
 pub mod Stores
 pub mod Merges

@@ -1,0 +1,8 @@
+use Rattle.std.proofs.Common.{◌≡◌, ◌+◌, ◌*◌, ◌-◌, ◌%◌, ◌^◌, ◌∙◌, length, refl, sym, ap, arith}
+use Rattle.std.proofs.lemmas.Nat.{and_mask}
+use Rattle.paged_memory.specs.Numbers.{number_in, with_number}
+use Rattle.paged_memory.proofs.Bytes.{number_in-bytes, put-number, low_bytes, low_bytes-mod}
+use Rattle.paged_memory.proofs.number.put_half_word.Goals as goal
+
+pub returns : goal.returns
+returns c = put-number c.args.bytes.now c.args.at _ 2 c.args.value _ (omega arith) (c.copy_from_slice.ensures.after ∙ c.to_le_bytes.ensures ∙ low_bytes-mod 2 c.args.value _ (and_mask c.args.value 16))

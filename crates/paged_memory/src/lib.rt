@@ -1,0 +1,7 @@
+//! The memory of a guest as pages, found by number in a few steps.
+#![tactic(auto)]
+
+mod head;
+mod number;
+pub mod pages;
+mod place;
