@@ -5,7 +5,10 @@ mod accesses;
 mod arithmetic;
 mod bit_fields;
 mod conditions;
+mod control;
 mod core_state;
+mod data;
 mod registers;
+mod writes;
 
 pub use core_state::Core;
