@@ -1,8 +1,10 @@
 -- Numbers among bytes, byte by byte.
-use Rattle.std.proofs.Common.{◌≡◌, ℕ, zero, suc, ◌+◌, ◌*◌, ◌/◌, ◌%◌, ◌^◌, ◌<◌, ◌≤◌, List, [], ◌∷◌, ◌++◌, length, get_or, set, take, drop, refl, sym, ap, ap₂, ◌∙◌, subst, arith, length-set}
+use Rattle.std.proofs.Common.{◌≡◌, ℕ, zero, suc, ◌+◌, ◌-◌, ◌*◌, ◌/◌, ◌%◌, ◌^◌, ◌<◌, ◌≤◌, List, [], ◌∷◌, ◌++◌, length, get_or, set, take, drop, refl, sym, ap, ap₂, ◌∙◌, subst, arith, length-set}
 use Rattle.std.specs.Prelude.{slice_index, slice_set}
 use Rattle.std.specs.Int.{bytes_low_first, byte_at}
 use Rattle.std.proofs.lemmas.List.{drop_more, take_more_set, drop-set-lt, append_assoc, drop-drop, take-append-drop}
+use Rattle.std.proofs.Math.Nat.{pow-le-pow_right, pow-suc}
+use Rattle.std.proofs.Math.Dec.{lit<}
 use borrow.Rule.Slice.PartMut.{put_mid}
 use Rattle.guest_types.proofs.Numbers.{shifted, bytes_of-mod}
 use Rattle.guest_types.specs.Elements.{number_of, bytes_of}
@@ -72,3 +74,16 @@ length-with_number bs at (suc k) v l =
 -- the low bytes of a number, of which more was cut off
 pub low_bytes-mod : (k n m : ℕ) → m ≡ n % 256 ^ k → bytes_low_first 0 k m ≡ bytes_of k n
 low_bytes-mod k n m e = low_bytes k m ∙ ap (bytes_of k) e ∙ bytes_of-mod k n
+
+-- ---- one byte more
+
+pub more_bytes : (s b r : ℕ) → 0 < s → b < 256 → r < 256 ^ (s - 1) → b + 256 * r < 256 ^ s
+more_bytes zero b r z h k = absurd (omega arith)
+more_bytes (suc s) b r z h k =
+    let e : 256 ^ suc s ≡ 256 ^ s * 256 = pow-suc 256 s in
+    let d : suc s - 1 ≡ s = omega arith in
+    let lt = subst (λ n. r < 256 ^ n) d k in
+    omega (arith, e, lt)
+
+pub eight_bytes : (s : ℕ) → s ≤ 8 → 256 ^ s ≤ 2 ^ 64
+eight_bytes s h = pow-le-pow_right (lit< tt) h

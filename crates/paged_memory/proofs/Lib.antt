@@ -1,2 +1,5 @@
 pub mod Bytes
+pub mod Found
 pub mod Places
+pub mod Puts
+pub mod Within

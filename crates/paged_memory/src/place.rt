@@ -38,3 +38,69 @@ pub fn stands_at(heads: &[Head], number: u64, place: usize) -> bool
 {
     place < heads.len() && heads[place].number == number
 }
+
+/// The places where the last look-ups of each kind ended. A page that stands at one of them is
+/// found with no search.
+#[derive(Drop)]
+pub struct Recent {
+    pub fetched: Cell<usize>,
+    pub written: Cell<usize>,
+    pub read: Cell<usize>,
+    pub read_before: Cell<usize>,
+}
+
+impl Recent {
+    pub fn new() -> Self {
+        Recent {
+            fetched: Cell::new(0),
+            written: Cell::new(0),
+            read: Cell::new(0),
+            read_before: Cell::new(0),
+        }
+    }
+}
+
+/// The place of the page with a number, which is remembered.
+#[inline(never)]
+fn search_again(heads: &[Head], recent: &Cell<usize>, number: u64) -> Option<usize>
+    requires { IsStrictlyIncreasing (head_numbers heads.now) }
+    ensures found { IfSome result (StandsAt heads.now number) }
+    ensures absent { IfNone result (All (λ here. here ≢ number) (head_numbers heads.now)) }
+{
+    let place = search(heads, number)?;
+    recent.set(place);
+    Some(place)
+}
+
+/// The place of the page with a number, where the last look-up may have ended.
+#[inline(always)]
+pub fn place_of(heads: &[Head], recent: &Cell<usize>, number: u64) -> Option<usize>
+    requires { IsStrictlyIncreasing (head_numbers heads.now) }
+    ensures found { IfSome result (StandsAt heads.now number) }
+    ensures absent { IfNone result (All (λ here. here ≢ number) (head_numbers heads.now)) }
+{
+    let place = recent.get();
+    if stands_at(heads, number, place) {
+        return Some(place);
+    }
+    search_again(heads, recent, number)
+}
+
+/// The place of the page with a number to be read, where one of the last two reads may have ended.
+#[inline(always)]
+pub fn read_place_of(heads: &[Head], recent: &Recent, number: u64) -> Option<usize>
+    requires { IsStrictlyIncreasing (head_numbers heads.now) }
+    ensures found { IfSome result (StandsAt heads.now number) }
+    ensures absent { IfNone result (All (λ here. here ≢ number) (head_numbers heads.now)) }
+{
+    let place = recent.read.get();
+    if stands_at(heads, number, place) {
+        return Some(place);
+    }
+    let before = recent.read_before.get();
+    if stands_at(heads, number, before) {
+        return Some(before);
+    }
+    recent.read_before.set(place);
+    search_again(heads, &recent.read, number)
+}
