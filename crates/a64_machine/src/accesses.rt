@@ -5,7 +5,7 @@ ghost use Rattle.machine_model.specs.Answers.{IsAnswer};
 ghost use Rattle.machine_model.specs.Effects.{load_to, store_from, from_byte, from_half, from_word};
 ghost use Rattle.machine_model.specs.declared.outcome.StopKind.TheVariants.{Read, Write};
 ghost use Rattle.a64_machine.specs.Cores.{Rest, state_of, UnlessWent};
-ghost use Rattle.a64_machine.specs.Accesses.{extended, byte_access, access, logarithm};
+ghost use Rattle.a64_machine.specs.Accesses.{extended, byte_access, access};
 
 use crate::core_state::Core;
 use a64_code::{LoadStoreByteOp, LoadStoreOp, Reg};
@@ -64,7 +64,14 @@ fn refused(core: &Core, kind: StopKind, fault: AccessFault) -> Step
 
 /// A load of `size` bytes to a register.
 #[inline(always)]
-fn load<M: GuestMemory>(core: &mut Core, memory: &M, rt: Reg, address: u64, size: u32, extension: Extension) -> Step
+fn load<M: GuestMemory>(
+    core: &mut Core,
+    memory: &M,
+    rt: Reg,
+    address: u64,
+    size: u32,
+    extension: Extension,
+) -> Step
     requires { (size ≡ 1) ⊎ (size ≡ 2) ⊎ (size ≡ 4) ⊎ (size ≡ 8) }
     ensures answer { (rest : Rest) → let before = state_of core.old (M.memory memory.now) rest in
         IsAnswer (load_to before rt.number address size (extended extension)) result before (state_of core.new (M.memory memory.now) rest) }
@@ -101,7 +108,13 @@ fn store<M: GuestMemory>(core: &mut Core, memory: &mut M, rt: Reg, address: u64,
 
 /// A load or a store of one byte.
 #[inline(never)]
-pub fn byte_access<M: GuestMemory>(core: &mut Core, memory: &mut M, op: LoadStoreByteOp, rt: Reg, address: u64) -> Step
+pub fn byte_access<M: GuestMemory>(
+    core: &mut Core,
+    memory: &mut M,
+    op: LoadStoreByteOp,
+    rt: Reg,
+    address: u64,
+) -> Step
     ensures answer { (rest : Rest) → let before = state_of core.old (M.memory memory.old) rest in
         IsAnswer (byte_access op before rt.number address) result before (state_of core.new (M.memory memory.new) rest) }
     ensures kept { UnlessWent result (core.new ≡ core.old) }
@@ -116,7 +129,13 @@ pub fn byte_access<M: GuestMemory>(core: &mut Core, memory: &mut M, op: LoadStor
 
 /// A load or a store of two, four or eight bytes.
 #[inline(never)]
-pub fn access<M: GuestMemory>(core: &mut Core, memory: &mut M, op: LoadStoreOp, rt: Reg, address: u64) -> Step
+pub fn access<M: GuestMemory>(
+    core: &mut Core,
+    memory: &mut M,
+    op: LoadStoreOp,
+    rt: Reg,
+    address: u64,
+) -> Step
     ensures answer { (rest : Rest) → let before = state_of core.old (M.memory memory.old) rest in
         IsAnswer (access op before rt.number address) result before (state_of core.new (M.memory memory.new) rest) }
     ensures kept { UnlessWent result (core.new ≡ core.old) }
@@ -131,17 +150,5 @@ pub fn access<M: GuestMemory>(core: &mut Core, memory: &mut M, op: LoadStoreOp, 
         LoadStoreOp::Strh => store(core, memory, rt, address, 2),
         LoadStoreOp::StrW => store(core, memory, rt, address, 4),
         LoadStoreOp::StrX => store(core, memory, rt, address, 8),
-    }
-}
-
-/// The logarithm of the number of bytes that a load or a store accesses.
-#[inline(always)]
-pub fn logarithm(op: LoadStoreOp) -> u32
-    ensures { result ≡ logarithm op }
-{
-    match op {
-        LoadStoreOp::Ldrh | LoadStoreOp::Ldrsh | LoadStoreOp::Strh => 1,
-        LoadStoreOp::LdrW | LoadStoreOp::Ldrsw | LoadStoreOp::StrW => 2,
-        LoadStoreOp::LdrX | LoadStoreOp::StrX => 3,
     }
 }

@@ -33,7 +33,12 @@ pub fn flags_of(a: u64, b: u64) -> u8
     let left = a >= 1 << 63;
     let right = b >= 1 << 63;
     let negative = difference >= 1 << 63;
-    nzcv(negative, difference == 0, a >= b, (left != right) & (left != negative))
+    nzcv(
+        negative,
+        difference == 0,
+        a >= b,
+        (left != right) & (left != negative),
+    )
 }
 
 /// Whether a condition holds.

@@ -1,9 +1,10 @@
 // Branches and exceptions.
 
-ghost use Rattle.std.specs.Prelude.{◌≡◌, [], ◌∷◌};
+ghost use Rattle.std.specs.Prelude.{◌≡◌, [], ◌∷◌, slice_index};
 ghost use Rattle.guest_types.specs.Memory.{Memory};
 ghost use Rattle.a64_code.specs.Seen.{branch_zero_name, exception_name, cond_number};
-ghost use Rattle.a64_code.specs.Table.{b, b_cond, ret};
+ghost use Rattle.a64_code.specs.Table.{b_cond};
+ghost use Rattle.machine_model.specs.Arithmetic.{target};
 ghost use Rattle.machine_model.specs.Machine.{Went};
 ghost use Rattle.machine_model.specs.Answers.{IsAnswer};
 ghost use Rattle.machine_model.specs.Effects.{act};
@@ -20,7 +21,7 @@ use word_rows::Bits;
 /// "B".
 #[inline(always)]
 pub fn branch(core: &mut Core, imm26: Bits<26>)
-    ensures { (memory : Memory) (rest : Rest) → act b (imm26.number ∷ []) (state_of core.old memory rest) ≡ Went (state_of core.new memory rest) }
+    ensures { core.new ≡ record core.old { pc = target core.old.pc 26 imm26.number } }
 {
     core.pc = target(core.pc, 26, imm26.number);
 }
@@ -53,7 +54,7 @@ pub fn compare_branch(core: &mut Core, op: CompareBranchOp, rt: Reg, imm19: Bits
 /// "RET".
 #[inline(always)]
 pub fn return_to(core: &mut Core, rn: Reg)
-    ensures { (memory : Memory) (rest : Rest) → act ret (rn.number ∷ []) (state_of core.old memory rest) ≡ Went (state_of core.new memory rest) }
+    ensures { core.new ≡ record core.old { pc = slice_index core.old.x rn.number } }
 {
     core.pc = core.register(rn);
 }
@@ -72,9 +73,17 @@ pub fn exception(core: &Core, op: ExceptionOp, imm16: Bits<16>) -> Step
             if (imm16.number == 0) & (call == 93) {
                 Step::Ended
             } else {
-                Step::Stopped(Stop { kind: StopKind::Call, pc, at: call })
+                Step::Stopped(Stop {
+                    kind: StopKind::Call,
+                    pc,
+                    at: call,
+                })
             }
         }
-        ExceptionOp::Brk => Step::Stopped(Stop { kind: StopKind::Break, pc, at: u64::from(imm16.number) }),
+        ExceptionOp::Brk => Step::Stopped(Stop {
+            kind: StopKind::Break,
+            pc,
+            at: u64::from(imm16.number),
+        }),
     }
 }

@@ -1,10 +1,10 @@
 // Data processing.
 
-ghost use Rattle.std.specs.Prelude.{◌≡◌, ◌*◌, ◌^◌, [], ◌∷◌, if◌then◌else◌};
+ghost use Rattle.std.specs.Prelude.{◌≡◌, ◌+◌, ◌*◌, ◌%◌, ◌^◌, [], ◌∷◌, slice_set, if◌then◌else◌};
 ghost use Rattle.guest_types.specs.Memory.{Memory};
 ghost use Rattle.word_rows.specs.Field.{flag_number};
 ghost use Rattle.a64_code.specs.Seen.{add_sub_imm_name, add_sub_shifted_name, logical_name, move_wide_name, multiply_add_name, shift_variable_name, bitfield_name, select_name, add_sub_shift_number, shift_number, cond_number};
-ghost use Rattle.machine_model.specs.Machine.{Went, with_x, next};
+ghost use Rattle.machine_model.specs.Machine.{Went};
 ghost use Rattle.machine_model.specs.Effects.{act};
 ghost use Rattle.a64_machine.specs.Cores.{Rest, state_of};
 
@@ -49,7 +49,15 @@ pub fn add_sub_immediate(core: &mut Core, op: AddSubOp, rd: Reg, rn: Reg, imm12:
 
 /// "ADD (shifted register)", "SUB (shifted register)", "SUBS (shifted register)".
 #[inline(always)]
-pub fn add_sub_shifted(core: &mut Core, op: AddSubOp, rd: Reg, rn: Reg, imm6: Bits<6>, rm: Reg, shift: AddSubShift)
+pub fn add_sub_shifted(
+    core: &mut Core,
+    op: AddSubOp,
+    rd: Reg,
+    rn: Reg,
+    imm6: Bits<6>,
+    rm: Reg,
+    shift: AddSubShift,
+)
     ensures { (memory : Memory) (rest : Rest) →
         act (add_sub_shifted_name op) (rd.number ∷ rn.number ∷ imm6.number ∷ rm.number ∷ add_sub_shift_number shift ∷ []) (state_of core.old memory rest)
         ≡ Went (state_of core.new memory rest) }
@@ -66,7 +74,15 @@ pub fn add_sub_shifted(core: &mut Core, op: AddSubOp, rd: Reg, rn: Reg, imm6: Bi
 /// "AND (shifted register)", "ORR (shifted register)", "EOR (shifted register)", "ORN (shifted
 /// register)".
 #[inline(always)]
-pub fn logical(core: &mut Core, op: LogicalOp, rd: Reg, rn: Reg, imm6: Bits<6>, rm: Reg, shift: Shift)
+pub fn logical(
+    core: &mut Core,
+    op: LogicalOp,
+    rd: Reg,
+    rn: Reg,
+    imm6: Bits<6>,
+    rm: Reg,
+    shift: Shift,
+)
     ensures { (memory : Memory) (rest : Rest) →
         act (logical_name op) (rd.number ∷ rn.number ∷ imm6.number ∷ rm.number ∷ shift_number shift ∷ []) (state_of core.old memory rest)
         ≡ Went (state_of core.new memory rest) }
@@ -165,7 +181,7 @@ pub fn conditional_select(core: &mut Core, op: SelectOp, rd: Reg, rn: Reg, cond:
 /// "UMOV", from doubleword 0.
 #[inline(always)]
 pub fn move_from_vector(core: &mut Core, rd: Reg)
-    ensures { (memory : Memory) (rest : Rest) → state_of core.new memory rest ≡ next (with_x (state_of core.old memory rest) rd.number core.old.vzero) }
+    ensures { core.new ≡ record core.old { x = slice_set core.old.x rd.number core.old.vzero; pc = (core.old.pc + 4) % 2 ^ 64 } }
 {
     let value = core.vzero;
     write(core, rd, value);

@@ -8,7 +8,10 @@ mod conditions;
 mod control;
 mod core_state;
 mod data;
+mod load_store;
+mod one_step;
 mod registers;
 mod writes;
 
 pub use core_state::Core;
+pub use one_step::a64_step;

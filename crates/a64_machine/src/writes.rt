@@ -32,8 +32,11 @@ pub fn write_or_sp(core: &mut Core, rd: Reg, value: u64)
 #[inline(always)]
 pub fn write_with_flags(core: &mut Core, rd: Reg, left: u64, right: u64)
     ensures flags { flags_in core.new.nzcv ≡ flags_of left right }
-    ensures value { core.new ≡ record core.old { x = slice_set core.old.x rd.number (difference left right); pc = (core.old.pc + 4) % 2 ^ 64;
-        nzcv = core.new.nzcv } }
+    ensures value { core.new ≡ record core.old {
+      x = slice_set core.old.x rd.number (difference left right);
+      pc = (core.old.pc + 4) % 2 ^ 64;
+      nzcv = core.new.nzcv;
+    } }
 {
     core.set_register(rd, left.wrapping_sub(right));
     core.nzcv = flags_of(left, right);
@@ -46,5 +49,9 @@ pub fn jump_if(core: &mut Core, taken: bool, place: u64)
     ensures { (memory : Memory) (rest : Rest) → state_of core.new memory rest ≡
         (if taken then jump (state_of core.old memory rest) place else next (state_of core.old memory rest)) }
 {
-    core.pc = if taken { place } else { core.pc.wrapping_add(4) };
+    core.pc = if taken {
+        place
+    } else {
+        core.pc.wrapping_add(4)
+    };
 }
