@@ -1,13 +1,10 @@
-use Rattle.std.proofs.Common.{◌∙◌, ap, sym, ◌*◌, ◌%◌, ◌^◌}
 use Rattle.word_rows.specs.Field.{flag_number}
-use Rattle.machine_model.specs.Arithmetic.{sum}
-use Rattle.machine_model.specs.Machine.{x_or_sp, x_at}
 use Rattle.a64_machine.specs.Cores.{state_of}
-use Rattle.a64_machine.specs.Accesses.{access}
 use Rattle.a64_machine.proofs.Forms.{wide_register, answer_as}
 use Rattle.a64_machine.proofs.load_store.wide_register.Goals as goal
 
 pub returns-clause-answer : goal.returns-clause-answer
 returns-clause-answer g c rest =
     let before = state_of c.args.core.now (g.M.GuestMemory.memory c.args.memory.now) rest in
-    answer_as _ _ _ _ _ (wide_register c.args.op c.args.rt.number c.args.rn.number (flag_number c.args.scaled) c.args.rm.number before ∙ ap (access c.args.op before c.args.rt.number) (sym (c.at_scaled-address.ensures ∙ ap (λ k. sum (x_or_sp before c.args.rn.number) (x_at before c.args.rm.number * 2 ^ k % 2 ^ 64)) c.scale.ensures.value))) (c.access.ensures.answer rest)
+    let e = wide_register c.args.op c.args.rt.number c.args.rn.number (flag_number c.args.scaled) c.args.rm.number c.at_scaled-address.result c.scale.result before c.at_scaled-address.ensures c.scale.ensures.value in
+    answer_as _ _ _ _ _ e (c.access.ensures.answer rest)
