@@ -1,12 +1,11 @@
 -- What the pages of a memory give, by the places of their heads.
-use Rattle.std.proofs.Common.{◌≡◌, ◌≢◌, ℕ, ◌+◌, ◌*◌, ◌/◌, ◌%◌, ◌^◌, ◌<◌, ◌≤◌, Bool, true, false, cond, List, length, get_or, drop, Option, Some, None, Result, Ok, Err, refl, sym, ap, ap₂, ◌∙◌, subst, arith}
-use Rattle.std.specs.Prelude.{nat_eq, is_some, option_map, option_and_then, slice_index, if◌then◌else◌}
+use Rattle.std.proofs.Common.{◌≡◌, ◌≢◌, ℕ, ◌+◌, ◌*◌, ◌/◌, ◌%◌, ◌^◌, ◌<◌, ◌≤◌, Bool, true, false, List, length, get_or, drop, Option, Some, None, Ok, refl, sym, ap, ◌∙◌, subst, arith}
+use Rattle.std.specs.Prelude.{nat_eq, option_map, option_and_then, slice_index, if◌then◌else◌}
 use Rattle.std.specs.List.{All}
 use Rattle.std.specs.List.Sorted.{IsStrictlyIncreasing}
-use Rattle.std.proofs.lemmas.Bool.{cond-true, cond-false, eq-eqb, cases_eq, ne_eqb}
+use Rattle.std.proofs.lemmas.Bool.{cond-true, cond-false, eq-eqb, ne_eqb}
 use Rattle.std.proofs.lemmas.List.{get_or_read, get_or-take, get_or-drop}
-use Rattle.guest_types.specs.declared.memory.AccessFault.{AccessFault}
-use Rattle.guest_types.specs.Memory.{Page, Memory, page_at, byte_at, byte_of, can_read, can_write, may_write, is_writable, is_executable, number_at, loaded, stored, fetched, put_byte, put_number, after}
+use Rattle.guest_types.specs.Memory.{Page, Memory, page_at, byte_at, byte_of, can_write, may_write, is_writable, is_executable, number_at, loaded, stored, fetched, put_byte, put_number}
 use Rattle.guest_types.proofs.Writes.{put_byte-unmapped}
 use Rattle.paged_memory.specs.declared.head.Head.{Head}
 use Rattle.paged_memory.specs.Layout.{memory_of, head_numbers, IsLaidOut, StandsAt}
@@ -42,7 +41,7 @@ pub byte-found : (heads : List Head) (bs : List ℕ) (m : Memory) (a i x : ℕ) 
 byte-found heads bs m a i x is laid here e =
     let rest = drop (4096 * i) bs in
     let byte : slice_index (page_of heads bs i).bytes (a % 4096) ≡ slice_index bs (4096 * i + a % 4096) =
-      get_or-take 4096 rest (a % 4096) 0 (omega arith) ∙ get_or-drop (4096 * i) bs (a % 4096) 0 in
+    get_or-take 4096 rest (a % 4096) 0 (omega arith) ∙ get_or-drop (4096 * i) bs (a % 4096) 0 in
     ap Some (get_or_read bs (4096 * i + a % 4096) x (omega (arith, here.below, laid.whole)) e 0 ∙ sym byte)
     ∙ sym (ap (λ o. option_map (λ page. byte_of page a) o) (found heads bs m (a / 4096) i is laid here))
 
@@ -59,8 +58,8 @@ write-found m a p here = sym (ap may_write here)
 pub load-found : (heads : List Head) (bs : List ℕ) (m : Memory) (a s i n : ℕ) → memory_of heads bs ≡ m → IsLaidOut heads bs → StandsAt heads (a / 4096) i → a < 2 ^ 64 → a % 4096 + s ≤ 4096 → n ≡ number_in bs (4096 * i + a % 4096) s → Ok n ≡ loaded m a s
 load-found heads bs m a s i n is laid here low fits e =
     sym (
-      loaded-within m a s (page_of heads bs i) low (found heads bs m (a / 4096) i is laid here) (length-page_of heads bs i laid here.below) fits
-      ∙ ap Ok (number_in-page_of heads bs i (a % 4096) s fits ∙ sym e)
+    loaded-within m a s (page_of heads bs i) low (found heads bs m (a / 4096) i is laid here) (length-page_of heads bs i laid here.below) fits
+    ∙ ap Ok (number_in-page_of heads bs i (a % 4096) s fits ∙ sym e)
     )
 
 -- ---- fetching

@@ -1,5 +1,6 @@
 pub mod Bytes
 pub mod Found
+pub mod Merging
 pub mod Places
 pub mod Puts
 pub mod Within

@@ -1,11 +1,11 @@
 -- Writes within one page of a memory, among the bytes of all pages.
-use Rattle.std.proofs.Common.{◌≡◌, ◌≢◌, ℕ, zero, suc, ◌+◌, ◌*◌, ◌/◌, ◌%◌, ◌^◌, ◌<◌, ◌≤◌, Bool, true, false, cond, List, [], ◌∷◌, length, get_or, set, take, drop, Option, Some, None, Result, Ok, Err, refl, sym, ap, ap₂, ◌∙◌, subst, arith}
+use Rattle.std.proofs.Common.{◌≡◌, ◌≢◌, ℕ, zero, suc, ◌+◌, ◌*◌, ◌/◌, ◌%◌, ◌^◌, ◌<◌, ◌≤◌, true, List, [], ◌∷◌, length, take, drop, Ok, refl, sym, ap, ap₂, ◌∙◌, subst, arith}
 use Rattle.std.specs.Prelude.{slice_index, slice_set}
 use Rattle.std.proofs.Math.Nat.{mul-suc}
 use Rattle.std.proofs.Math.Seq.{take-set-lt}
 use Rattle.std.proofs.lemmas.Bool.{cond-true, cond-false, eq-eqb, ne_eqb}
 use Rattle.std.proofs.lemmas.List.{length-set, length-map, take-set-le, drop-set-lt, drop-set-add}
-use Rattle.guest_types.specs.Memory.{Page, Memory, IsMemory, page_at, put_byte, put_number, with_byte, after, first_fault, can_write, is_writable, stored}
+use Rattle.guest_types.specs.Memory.{IsMemory, put_byte, put_number, after, is_writable, stored}
 use Rattle.guest_types.proofs.Stores.{IsMemory-put_number, stored-done}
 use Rattle.paged_memory.specs.declared.head.Head.{Head}
 use Rattle.paged_memory.specs.Layout.{memory_of, head_numbers, IsLaidOut, StandsAt}
@@ -30,8 +30,8 @@ put_byte-first (head ∷ heads) bs a b zero l here first =
     let o = a % 4096 in
     cond-true _ _ _ (eq-eqb head.number (a / 4096) here)
     ∙ ap₂ (λ page rest. record { page = head.number; perm = head.perm; bytes = page } ∷ memory_of heads rest)
-      (sym (take-set-lt 4096 bs o b (omega arith)))
-      (sym (drop-set-lt 4096 bs o b (omega arith)))
+    (sym (take-set-lt 4096 bs o b (omega arith)))
+    (sym (drop-set-lt 4096 bs o b (omega arith)))
     ∙ ap (λ n. memory_of (head ∷ heads) (slice_set bs n b)) (let e : o ≡ 4096 * 0 + o = omega arith in e)
 put_byte-first (head ∷ heads) bs a b (suc i) l here first =
     let o = a % 4096 in
@@ -40,8 +40,8 @@ put_byte-first (head ∷ heads) bs a b (suc i) l here first =
     cond-false _ _ _ (ne_eqb head.number (a / 4096) (first 0 (omega arith)))
     ∙ ap (λ m. record { page = head.number; perm = head.perm; bytes = take 4096 bs } ∷ m) (put_byte-first heads (drop 4096 bs) a b i (omega arith) here (λ k l. first (suc k) (omega arith)))
     ∙ ap₂ (λ page rest. record { page = head.number; perm = head.perm; bytes = page } ∷ memory_of heads rest)
-      (sym (take-set-le 4096 bs (4096 + at) b (omega arith)))
-      (sym (drop-set-add 4096 bs at b))
+    (sym (take-set-le 4096 bs (4096 + at) b (omega arith)))
+    (sym (drop-set-add 4096 bs at b))
     ∙ ap (λ n. memory_of (head ∷ heads) (slice_set bs n b)) e
 
 put_number-first : (heads : List Head) (bs : List ℕ) (a s v n i : ℕ) → IsFirst heads n i → StandsAt heads n i → a < 2 ^ 64 → a / 4096 ≡ n → a % 4096 + s ≤ 4096 → length bs ≡ 4096 * length heads → put_number (memory_of heads bs) a s v ≡ memory_of heads (with_number bs (4096 * i + a % 4096) s v)

@@ -1,5 +1,5 @@
 -- How the pages of a guest lie: their heads in order, and beside them the bytes of all pages one after another.
-use Rattle.std.specs.Prelude.{◌≡◌, ℕ, ◌*◌, ◌≤◌, ◌<◌, List, [], ◌∷◌, map, length, take, drop, slice_index}
+use Rattle.std.specs.Prelude.{◌≡◌, ℕ, ◌*◌, ◌≤◌, ◌<◌, List, [], ◌∷◌, map, length, take, drop, slice_index, nat_le, Bool, true, false}
 use Rattle.guest_types.specs.Memory.{Memory, IsMemory}
 use Rattle.paged_memory.specs.declared.head.Head.{Head}
 
@@ -23,3 +23,9 @@ pub record IsLaidOut (heads : List Head) (bs : List ℕ) : Type 0 where
 pub record StandsAt (heads : List Head) (number place : ℕ) : Type 0 where
   pub below : place < length heads
   pub here : slice_index (head_numbers heads) place ≡ number
+
+-- of what is left of two memories, the next page of their merge is the first of the one on the left
+abbrev pub comes_first : Memory → Memory → Bool
+comes_first [] others = false
+comes_first (page ∷ pages) [] = true
+comes_first (page ∷ pages) (other ∷ others) = nat_le page.page other.page

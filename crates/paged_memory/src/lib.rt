@@ -2,6 +2,7 @@
 #![tactic(auto)]
 
 mod head;
+mod merge;
 mod number;
 pub mod pages;
 mod place;

@@ -1,13 +1,16 @@
 // The pages of a guest.
 
-ghost use Rattle.std.specs.Prelude.{◌≡◌, ℕ, ◌+◌, ◌^◌, ◌<◌, ◌≤◌, Ok, Err, OnOk, OnErr, IfErr};
-ghost use Rattle.guest_types.specs.Memory.{byte_at, byte_or_zero, can_read, can_write, first_fault, loaded, stored, number_at, put_byte, put_number, fetched};
+ghost use Rattle.std.specs.Prelude.{◌≡◌, ℕ, ◌+◌, ◌^◌, ◌<◌, ◌≤◌, length, Ok, Err, OnOk, OnErr, IfOk, IfErr};
+ghost use Rattle.guest_types.specs.Memory.{byte_at, byte_or_zero, can_read, can_write, first_fault, loaded, stored, number_at, put_byte, put_number, fetched, merged, DoNotMeet};
 
 use crate::head::Head;
+use crate::merge::lay_out;
 use crate::number;
 use crate::place::{Recent, place_of, read_place_of};
 use guest_types::guest::GuestMemory;
+use guest_types::image::{Image, PageMap};
 use guest_types::memory::AccessFault;
+use std::alloc::{AllocError, Global};
 use std::marker::Model;
 
 /// The pages of a guest, in the order of their numbers.
@@ -30,6 +33,20 @@ impl Model for Pages {
 }
 
 impl Pages {
+    /// The pages of an image and of a map beside it. It takes all memory that later calls need.
+    pub fn build(alloc: Global, image: &Image, map: &PageMap) -> Result<Pages, AllocError>
+        requires apart { DoNotMeet image.now.pages.items map.now.pages.items }
+        requires few { length image.now.pages.items + length map.now.pages.items ≤ 16384 }
+        ensures { IfOk result (λ pages. pages ≡ merged image.now.pages.items map.now.pages.items) }
+    {
+        let (heads, bytes) = lay_out(alloc, &image.pages, &map.pages)?;
+        Ok(Pages {
+            heads,
+            bytes,
+            recent: Recent::new(),
+        })
+    }
+
     /// The word at an address, where that is a multiple of 4 in a page whose instructions may be
     /// fetched.
     pub fn fetch(&self, address: u64) -> Option<u32>

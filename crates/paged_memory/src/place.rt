@@ -86,7 +86,21 @@ pub fn place_of(heads: &[Head], recent: &Cell<usize>, number: u64) -> Option<usi
     search_again(heads, recent, number)
 }
 
-/// The place of the page with a number to be read, where one of the last two reads may have ended.
+/// The place of the page with a number, which is remembered before that of the last read.
+#[inline(never)]
+fn search_read_again(heads: &[Head], recent: &Recent, number: u64) -> Option<usize>
+    requires { IsStrictlyIncreasing (head_numbers heads.now) }
+    ensures found { IfSome result (StandsAt heads.now number) }
+    ensures absent { IfNone result (All (λ here. here ≢ number) (head_numbers heads.now)) }
+{
+    let place = search(heads, number)?;
+    recent.read_before.set(recent.read.get());
+    recent.read.set(place);
+    Some(place)
+}
+
+/// The place of the page with a number to be read, where one of the last two searches for a read
+/// may have ended.
 #[inline(always)]
 pub fn read_place_of(heads: &[Head], recent: &Recent, number: u64) -> Option<usize>
     requires { IsStrictlyIncreasing (head_numbers heads.now) }
@@ -101,6 +115,5 @@ pub fn read_place_of(heads: &[Head], recent: &Recent, number: u64) -> Option<usi
     if stands_at(heads, number, before) {
         return Some(before);
     }
-    recent.read_before.set(place);
-    search_again(heads, &recent.read, number)
+    search_read_again(heads, recent, number)
 }

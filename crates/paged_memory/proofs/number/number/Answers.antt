@@ -1,7 +1,6 @@
-use Rattle.std.proofs.Common.{◌≡◌, ◌+◌, ◌*◌, ◌-◌, ◌%◌, ◌^◌, ◌∙◌, length, refl, sym, ap, arith}
-use Rattle.std.proofs.lemmas.Nat.{and_mask}
-use Rattle.paged_memory.specs.Numbers.{number_in, with_number}
-use Rattle.paged_memory.proofs.Bytes.{number_in-bytes, put-number, low_bytes, low_bytes-mod}
+use Rattle.std.proofs.Common.{◌≡◌, ap, arith}
+use Rattle.paged_memory.specs.Numbers.{number_in}
+use Rattle.paged_memory.proofs.Bytes.{number_in-bytes}
 use Rattle.paged_memory.proofs.number.number.Goals as goal
 
 pub returns-in-1 : goal.returns-in-1

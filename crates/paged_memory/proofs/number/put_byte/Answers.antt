@@ -1,6 +1,5 @@
-use Rattle.std.proofs.Common.{◌≡◌, ◌+◌, ◌*◌, ◌-◌, ◌%◌, ◌^◌, ◌∙◌, length, refl, sym, ap, arith}
+use Rattle.std.proofs.Common.{◌∙◌, sym, ap, arith}
 use Rattle.std.proofs.lemmas.Nat.{and_mask}
-use Rattle.paged_memory.specs.Numbers.{number_in, with_number}
 use Rattle.paged_memory.proofs.Bytes.{with_number-zero, with_number-suc}
 use Rattle.std.specs.Prelude.{slice_set}
 use Rattle.paged_memory.proofs.number.put_byte.Goals as goal

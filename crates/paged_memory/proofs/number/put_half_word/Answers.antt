@@ -1,7 +1,6 @@
-use Rattle.std.proofs.Common.{◌≡◌, ◌+◌, ◌*◌, ◌-◌, ◌%◌, ◌^◌, ◌∙◌, length, refl, sym, ap, arith}
+use Rattle.std.proofs.Common.{◌∙◌, arith}
 use Rattle.std.proofs.lemmas.Nat.{and_mask}
-use Rattle.paged_memory.specs.Numbers.{number_in, with_number}
-use Rattle.paged_memory.proofs.Bytes.{number_in-bytes, put-number, low_bytes, low_bytes-mod}
+use Rattle.paged_memory.proofs.Bytes.{put-number, low_bytes-mod}
 use Rattle.paged_memory.proofs.number.put_half_word.Goals as goal
 
 pub returns : goal.returns

@@ -1,4 +1,4 @@
-use Rattle.std.proofs.Common.{◌≡◌, ◌<◌, ◌-◌, ◌^◌, arith}
+use Rattle.std.proofs.Common.{arith}
 use Rattle.paged_memory.proofs.Bytes.{more_bytes, eight_bytes}
 use Rattle.paged_memory.proofs.pages.Pages.+number.Goals as goal
 

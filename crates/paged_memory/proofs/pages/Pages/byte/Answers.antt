@@ -1,6 +1,5 @@
-use Rattle.std.proofs.Common.{◌≡◌, ◌+◌, ◌*◌, ◌/◌, ◌%◌, ◌<◌, ◌≤◌, true, false, length, get_or, sym, ap, ◌∙◌, arith}
-use Rattle.paged_memory.proofs.Places.{no_head, page_of}
-use Rattle.paged_memory.proofs.Found.{rising, stands, found, absent, head-read, byte-none, byte-found, write-none, write-found, load-found, fetch-none, fetch-refused, fetch-found, laid-written, number-written, byte-written, byte-unmapped, store-found}
+use Rattle.std.proofs.Common.{◌/◌}
+use Rattle.paged_memory.proofs.Found.{rising, stands, absent, byte-none, byte-found}
 use Rattle.paged_memory.proofs.pages.Pages.byte.Goals as goal
 
 pub read_place_of-requires : goal.read_place_of-requires

@@ -1,9 +1,7 @@
-use Rattle.std.proofs.Common.{◌≡◌, ◌+◌, ◌*◌, ◌/◌, ◌%◌, ◌<◌, ◌≤◌, true, false, length, get_or, sym, ap, ◌∙◌, arith}
-use Rattle.std.proofs.lemmas.List.{with_items_is}
-use Rattle.guest_types.specs.Memory.{is_writable, is_executable, put_number}
-use Rattle.paged_memory.specs.Numbers.{number_in, with_number}
-use Rattle.paged_memory.proofs.Places.{no_head, page_of}
-use Rattle.paged_memory.proofs.Found.{rising, stands, found, absent, head-read, byte-none, byte-found, write-none, write-found, load-found, fetch-none, fetch-unaligned, fetch-refused, fetch-found, laid-written, number-written, byte-written, byte-unmapped, store-found}
+use Rattle.std.proofs.Common.{◌/◌, ap, ◌∙◌}
+use Rattle.guest_types.specs.Memory.{is_writable}
+use Rattle.paged_memory.proofs.Places.{page_of}
+use Rattle.paged_memory.proofs.Found.{rising, stands, found, absent, head-read, write-none, write-found}
 use Rattle.paged_memory.proofs.pages.Pages.can_write.Goals as goal
 
 pub place_of-requires : goal.place_of-requires
