@@ -1,0 +1,73 @@
+-- Loads and stores of each address form do what their operation does at the form's address.
+use Rattle.std.proofs.Common.{◌≡◌, ℕ, ◌*◌, ◌^◌, ◌%◌, [], ◌∷◌, refl, sym, subst, ap, ◌∙◌}
+use Rattle.word_rows.specs.Field.{flag_number}
+use Rattle.a64_code.specs.declared.LoadStoreByteOp.{LoadStoreByteOp}
+use Rattle.a64_code.specs.declared.LoadStoreByteOp.TheVariants.{Ldrb, Ldrsb, Strb}
+use Rattle.a64_code.specs.declared.LoadStoreOp.{LoadStoreOp}
+use Rattle.a64_code.specs.declared.LoadStoreOp.TheVariants.{Ldrh, LdrW, LdrX, Ldrsh, Ldrsw, Strh, StrW, StrX}
+use Rattle.a64_code.specs.Seen.{byte_imm_name, wide_imm_name, byte_register_name, wide_register_name}
+use Rattle.machine_model.specs.Arithmetic.{sum}
+use Rattle.machine_model.specs.Machine.{State, Step, x_at, x_or_sp}
+use Rattle.machine_model.specs.Answers.{IsAnswer}
+use Rattle.machine_model.specs.declared.outcome.Step.{Step as StepAnswer}
+use Rattle.machine_model.specs.Effects.{act}
+use Rattle.a64_machine.specs.Accesses.{byte_access, access, logarithm}
+
+byte_immediate_here : (op : LoadStoreByteOp) (rt rn imm : ℕ) (s : State)
+    → act (byte_imm_name op) (rt ∷ rn ∷ imm ∷ []) s ≡ byte_access op s rt (sum (x_or_sp s rn) (imm * 2 ^ 0))
+byte_immediate_here Ldrb rt rn imm s = refl
+byte_immediate_here Ldrsb rt rn imm s = refl
+byte_immediate_here Strb rt rn imm s = refl
+
+wide_immediate_here : (op : LoadStoreOp) (rt rn imm : ℕ) (s : State)
+    → act (wide_imm_name op) (rt ∷ rn ∷ imm ∷ []) s ≡ access op s rt (sum (x_or_sp s rn) (imm * 2 ^ logarithm op))
+wide_immediate_here Ldrh rt rn imm s = refl
+wide_immediate_here LdrW rt rn imm s = refl
+wide_immediate_here LdrX rt rn imm s = refl
+wide_immediate_here Ldrsh rt rn imm s = refl
+wide_immediate_here Ldrsw rt rn imm s = refl
+wide_immediate_here Strh rt rn imm s = refl
+wide_immediate_here StrW rt rn imm s = refl
+wide_immediate_here StrX rt rn imm s = refl
+
+byte_register_here : (op : LoadStoreByteOp) (rt rn rm : ℕ) (s : State)
+    → act (byte_register_name op) (rt ∷ rn ∷ rm ∷ []) s ≡ byte_access op s rt (sum (x_or_sp s rn) (x_at s rm))
+byte_register_here Ldrb rt rn rm s = refl
+byte_register_here Ldrsb rt rn rm s = refl
+byte_register_here Strb rt rn rm s = refl
+
+wide_register_here : (op : LoadStoreOp) (rt rn scaled rm : ℕ) (s : State)
+    → act (wide_register_name op) (rt ∷ rn ∷ scaled ∷ rm ∷ []) s
+    ≡ access op s rt (sum (x_or_sp s rn) (x_at s rm * 2 ^ (logarithm op * scaled) % 2 ^ 64))
+wide_register_here Ldrh rt rn scaled rm s = refl
+wide_register_here LdrW rt rn scaled rm s = refl
+wide_register_here LdrX rt rn scaled rm s = refl
+wide_register_here Ldrsh rt rn scaled rm s = refl
+wide_register_here Ldrsw rt rn scaled rm s = refl
+wide_register_here Strh rt rn scaled rm s = refl
+wide_register_here StrW rt rn scaled rm s = refl
+wide_register_here StrX rt rn scaled rm s = refl
+
+-- the answer to what the model says is the answer to what equals it
+pub answer_as : (m n : Step) (r : StepAnswer) (before after : State) → n ≡ m → IsAnswer m r before after → IsAnswer n r before after
+answer_as m n r before after e h = subst (λ (x : Step). IsAnswer x r before after) (sym e) h
+
+-- the same at an address that is the form's
+pub byte_immediate : (op : LoadStoreByteOp) (rt rn imm address : ℕ) (s : State) → address ≡ sum (x_or_sp s rn) (imm * 2 ^ 0)
+    → act (byte_imm_name op) (rt ∷ rn ∷ imm ∷ []) s ≡ byte_access op s rt address
+byte_immediate op rt rn imm address s e = byte_immediate_here op rt rn imm s ∙ ap (byte_access op s rt) (sym e)
+
+pub wide_immediate : (op : LoadStoreOp) (rt rn imm address unit : ℕ) (s : State) → address ≡ sum (x_or_sp s rn) (imm * 2 ^ unit) → unit ≡ logarithm op
+    → act (wide_imm_name op) (rt ∷ rn ∷ imm ∷ []) s ≡ access op s rt address
+wide_immediate op rt rn imm address unit s e u =
+    wide_immediate_here op rt rn imm s ∙ ap (λ k. access op s rt (sum (x_or_sp s rn) (imm * 2 ^ k))) (sym u) ∙ ap (access op s rt) (sym e)
+
+pub byte_register : (op : LoadStoreByteOp) (rt rn rm address : ℕ) (s : State) → address ≡ sum (x_or_sp s rn) (x_at s rm)
+    → act (byte_register_name op) (rt ∷ rn ∷ rm ∷ []) s ≡ byte_access op s rt address
+byte_register op rt rn rm address s e = byte_register_here op rt rn rm s ∙ ap (byte_access op s rt) (sym e)
+
+pub wide_register : (op : LoadStoreOp) (rt rn scaled rm address by : ℕ) (s : State) → address ≡ sum (x_or_sp s rn) (x_at s rm * 2 ^ by % 2 ^ 64)
+    → by ≡ logarithm op * scaled → act (wide_register_name op) (rt ∷ rn ∷ scaled ∷ rm ∷ []) s ≡ access op s rt address
+wide_register op rt rn scaled rm address by s e u =
+    wide_register_here op rt rn scaled rm s ∙ ap (λ k. access op s rt (sum (x_or_sp s rn) (x_at s rm * 2 ^ k % 2 ^ 64))) (sym u)
+    ∙ ap (access op s rt) (sym e)

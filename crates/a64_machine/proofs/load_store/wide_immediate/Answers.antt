@@ -1,0 +1,9 @@
+use Rattle.a64_machine.specs.Cores.{state_of}
+use Rattle.a64_machine.proofs.Forms.{wide_immediate, answer_as}
+use Rattle.a64_machine.proofs.load_store.wide_immediate.Goals as goal
+
+pub returns-clause-answer : goal.returns-clause-answer
+returns-clause-answer g c rest =
+    let before = state_of c.args.core.now (g.M.GuestMemory.memory c.args.memory.now) rest in
+    let e = wide_immediate c.args.op c.args.rt.number c.args.rn.number c.args.imm12.number c.at_offset-address.result c.logarithm.result before c.at_offset-address.ensures c.logarithm.ensures.value in
+    answer_as _ _ _ _ _ e (c.access.ensures.answer rest)

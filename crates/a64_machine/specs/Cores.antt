@@ -1,0 +1,49 @@
+-- The machine's state from the registers that A64 instructions use, the memory, and the rest.
+use Rattle.std.specs.Prelude.{◌≡◌, ℕ, ◌/◌, ◌%◌, ◌^◌, Bool, List, [], nat_eq, slice_index_or}
+use Rattle.guest_types.specs.Memory.{Memory}
+use Rattle.guest_types.specs.Elements.{Flags, element}
+use Rattle.a64_code.specs.declared.A64.{A64}
+use Rattle.a64_code.specs.declared.A64.TheVariants.{Umov}
+use Rattle.machine_model.specs.Machine.{State}
+use Rattle.machine_model.specs.declared.outcome.Step.{Step}
+use Rattle.machine_model.specs.declared.outcome.Step.TheVariants.{Went, Ended, Stopped}
+use Rattle.a64_machine.specs.declared.core_state.Core.{Core}
+
+-- the parts of the state that A64 instructions leave alone
+pub record Rest : Type 0 where
+  pub z : List (List ℕ)
+  pub p : List (List ℕ)
+  pub ffr : List ℕ
+  pub vl : ℕ
+
+-- bit k of a number is 1
+abbrev pub is_set : ℕ → ℕ → Bool
+is_set number k = nat_eq (number / 2 ^ k % 2) 1
+
+-- the flags in the lowest four bits of a number, V the lowest
+abbrev pub flags_in : ℕ → Flags
+flags_in number = record { n = is_set number 3; z = is_set number 2; c = is_set number 1; v = is_set number 0 }
+
+abbrev pub state_of : Core → Memory → Rest → State
+state_of core memory rest = record {
+  memory = memory;
+  pc = core.pc;
+  x = core.x;
+  sp = core.sp;
+  flags = flags_in core.nzcv;
+  z = rest.z;
+  p = rest.p;
+  ffr = rest.ffr;
+  vl = rest.vl;
+}
+
+-- Where the instruction is UMOV, `vzero` is doubleword 0 of the vector register that it reads.
+abbrev pub HasVector : A64 → Core → Rest → Type 0
+HasVector (Umov rd vn) core rest = core.vzero ≡ element 8 (slice_index_or rest.z vn.number []) 0
+HasVector _ core rest = Unit {0}
+
+-- where a step ends or stops, the fact
+abbrev pub UnlessWent : Step → Type 0 → Type 0
+UnlessWent Went fact = Unit {0}
+UnlessWent Ended fact = fact
+UnlessWent (Stopped stop) fact = fact

@@ -1,0 +1,135 @@
+// One instruction.
+
+ghost use Rattle.std.specs.Prelude.{◌≡◌};
+ghost use Rattle.a64_code.specs.Seen.{seen};
+ghost use Rattle.machine_model.specs.OneStep.{does};
+ghost use Rattle.machine_model.specs.Answers.{IsAnswer};
+ghost use Rattle.a64_machine.specs.Cores.{Rest, state_of, HasVector, UnlessWent};
+
+use crate::control::{branch, branch_conditional, compare_branch, exception, return_to};
+use crate::core_state::Core;
+use crate::data::{
+    add_sub_immediate, add_sub_shifted, bitfield, conditional_select, logical, move_from_vector,
+    move_wide, multiply_add, shift_variable,
+};
+use crate::load_store::{byte_immediate, byte_register, wide_immediate, wide_register};
+use a64_code::A64;
+use machine_model::outcome::Step;
+use paged_memory::pages::Pages;
+
+/// One A64 instruction.
+///
+/// Where it is UMOV, `core.vzero` has to be doubleword 0 of the vector register that it reads. PC is
+/// left at the next instruction to be done.
+pub fn a64_step(core: &mut Core, pages: &mut Pages, word: A64) -> Step
+    ensures answer { (rest : Rest) → HasVector word core.old rest → let before = state_of core.old pages.old rest in
+        IsAnswer (does (seen word) before) result before (state_of core.new pages.new rest) }
+    ensures kept { UnlessWent result (core.new ≡ core.old) }
+    ensures kept_memory { UnlessWent result (pages.new ≡ pages.old) }
+{
+    match word {
+        A64::AddSubImmediate {
+            op,
+            rd,
+            rn,
+            imm12,
+            sh,
+        } => {
+            add_sub_immediate(core, op, rd, rn, imm12, sh);
+            Step::Went
+        }
+        A64::AddSubShifted {
+            op,
+            rd,
+            rn,
+            imm6,
+            rm,
+            shift,
+        } => {
+            add_sub_shifted(core, op, rd, rn, imm6, rm, shift);
+            Step::Went
+        }
+        A64::LogicalShifted {
+            op,
+            rd,
+            rn,
+            imm6,
+            rm,
+            shift,
+        } => {
+            logical(core, op, rd, rn, imm6, rm, shift);
+            Step::Went
+        }
+        A64::MoveWide { op, rd, imm16, hw } => {
+            move_wide(core, op, rd, imm16, hw);
+            Step::Went
+        }
+        A64::MultiplyAdd { op, rd, rn, ra, rm } => {
+            multiply_add(core, op, rd, rn, ra, rm);
+            Step::Went
+        }
+        A64::ShiftVariable { op, rd, rn, rm } => {
+            shift_variable(core, op, rd, rn, rm);
+            Step::Went
+        }
+        A64::Bitfield {
+            op,
+            rd,
+            rn,
+            imms,
+            immr,
+        } => {
+            bitfield(core, op, rd, rn, imms, immr);
+            Step::Went
+        }
+        A64::ConditionalSelect {
+            op,
+            rd,
+            rn,
+            cond,
+            rm,
+        } => {
+            conditional_select(core, op, rd, rn, cond, rm);
+            Step::Went
+        }
+        A64::Branch { imm26 } => {
+            branch(core, imm26);
+            Step::Went
+        }
+        A64::BranchConditional { cond, imm19 } => {
+            branch_conditional(core, cond, imm19);
+            Step::Went
+        }
+        A64::CompareBranch { op, rt, imm19 } => {
+            compare_branch(core, op, rt, imm19);
+            Step::Went
+        }
+        A64::Ret { rn } => {
+            return_to(core, rn);
+            Step::Went
+        }
+        A64::Exception { op, imm16 } => exception(core, op, imm16),
+        A64::Nop => {
+            core.go_on();
+            Step::Went
+        }
+        A64::Umov { rd, vn: _ } => {
+            move_from_vector(core, rd);
+            Step::Went
+        }
+        A64::LoadStoreByteImmediate { op, rt, rn, imm12 } => byte_immediate(
+            core, pages, op, rt, rn, imm12,
+        ),
+        A64::LoadStoreImmediate { op, rt, rn, imm12 } => wide_immediate(
+            core, pages, op, rt, rn, imm12,
+        ),
+        A64::LoadStoreByteRegister { op, rt, rn, rm } => byte_register(core, pages, op, rt, rn, rm),
+        A64::LoadStoreRegister {
+            op,
+            rt,
+            rn,
+            scaled,
+            rm,
+        } => wide_register(core, pages, op, rt, rn, scaled, rm),
+    }
+}
