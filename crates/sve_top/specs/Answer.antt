@@ -1,5 +1,5 @@
 -- What a command answers, and what it leaves.
-use Rattle.std.specs.Prelude.{◌≡◌, ◌≢◌, ℕ, ◌⊎◌, ◌≤◌, Bool, List, [], ◌∷◌, ◌++◌, take, length, Option, Some, None, IfSome, IsSome, IsTrue, Result, Ok, Err, codes, nat_lt, if◌then◌else◌}
+use Rattle.std.specs.Prelude.{◌≡◌, ◌≢◌, ℕ, ◌⊎◌, ◌≤◌, Bool, List, [], ◌∷◌, ◌++◌, take, length, Option, Some, None, IfSome, IsSome, IsTrue, Result, Ok, Err, codes, nat_eq, nat_lt, if◌then◌else◌}
 use Rattle.io_edges.specs.Files.{Rose, content}
 use Rattle.io_edges.specs.declared.files.TheConstants.{MAX_FILE}
 use Rattle.io_edges.specs.declared.files.FileAnswer.{FileAnswer}
@@ -75,12 +75,9 @@ told (Err refusal) = line_of_refusal refusal
 
 -- the same by the status
 abbrev pub told_by : ℕ → List ℕ
-told_by 0 = []
-told_by 2 = line_of_refusal Usage
-told_by 3 = line_of_refusal NotYet
-told_by 4 = line_of_refusal TooLong
-told_by 7 = line_of_refusal Memory
-told_by _ = line_of_refusal File
+told_by status =
+    if nat_eq status 0 then [] else if nat_eq status 2 then line_of_refusal Usage else if nat_eq status 3 then line_of_refusal NotYet
+    else if nat_eq status 4 then line_of_refusal TooLong else if nat_eq status 7 then line_of_refusal Memory else line_of_refusal File
 
 -- Where it tells what it has taken: the text was appended, or a part of it from the front where the count of faults rose.
 abbrev pub Gains : Option (List ℕ) → Option (List ℕ) → (before now : ℕ) → List ℕ → Type 0
