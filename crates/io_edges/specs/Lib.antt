@@ -4,3 +4,4 @@ pub mod Source
 pub mod Calls
 pub mod Memory
 pub mod NamedFile
+pub mod Real

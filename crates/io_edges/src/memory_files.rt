@@ -68,7 +68,7 @@ fn bytes_of<'a>(files: &'a [NamedFile], name: &str) -> Option<&'a [u8]>
 fn read_bytes(bytes: &[u8], into: &mut Vec<u8>) -> Result<(), FileAnswer>
     ensures bytes { ReadsFrom (Some bytes.now) into.old.items into.new.items result }
     ensures err { OnErr result (into.new.items ≡ into.old.items) }
-    ensures held { result ≢ Err FileAnswer.Failed }
+    ensures not_failed { result ≢ Err FileAnswer.Failed }
     ensures long { MAX_FILE < length bytes.now → result ≡ Err FileAnswer.TooLong }
 {
     if bytes.len() > MAX_FILE {

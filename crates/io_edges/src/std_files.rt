@@ -1,8 +1,8 @@
 // The files of the system.
 
-ghost use Rattle.std.specs.Prelude.{◌≡◌, ◌≢◌, None, min, ◌+◌, ◌-◌, ◌^◌, false, refl};
+ghost use Rattle.std.specs.Prelude.{◌≡◌, ◌≢◌, None, false};
 ghost use Rattle.std.specs.Io.{StartsWith};
-ghost use Rattle.io_edges.specs.Files.{one_more};
+ghost use Rattle.std.proofs.lemmas.Bool.{false≢true};
 
 use crate::files::{FileAnswer, Files, MAX_FILE};
 use std::alloc::Global;
@@ -60,7 +60,7 @@ impl<R: rt::Files + Drop> Files for StdFiles<R> {
 
     ghost steady = { λ _. false };
 
-    ghost told = { λ f steady. Prim.cc };
+    ghost told = { λ f steady. absurd (false≢true steady) };
 
     fn read(&mut self, _alloc: Global, name: &str, into: &mut Vec<u8>) -> Result<(), FileAnswer> {
         let before = into.len();

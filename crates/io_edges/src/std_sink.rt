@@ -1,13 +1,15 @@
 // An output of the system.
 
-ghost use Rattle.std.specs.Prelude.{◌≡◌, None};
+ghost use Rattle.std.specs.Prelude.{◌≡◌, ◌<◌, ◌≤◌, None, take, length, IfOk};
+ghost use Rattle.std.specs.Io.KnownBytes.{Appends};
+ghost use Rattle.io_edges.specs.Sink.{Puts, HasCause};
 
 use crate::sink::{Failed, Sink};
 use std::io::Write;
 use std::marker::Model;
 
-/// An output. It tells nothing of what it has taken, and clauses see it as the count of its
-/// failures: the errors of the writer, and the writes that took nothing.
+/// An output. As a sink it tells nothing of what it has taken. It counts its failures: the errors
+/// of the writer, and the writes that took nothing.
 #[derive(Drop)]
 pub struct StdSink<W: Write> {
     out: W,
@@ -15,17 +17,18 @@ pub struct StdSink<W: Write> {
 }
 
 impl<W: Write> Model for StdSink<W> {
-    ghost use Rattle.std.specs.Prelude.{ℕ};
+    ghost use Rattle.io_edges.specs.Real.{Output};
 
-    ghost Value = { ℕ };
+    ghost Value = { Output };
 
-    ghost view = { λ s. s.faults };
+    ghost view = { λ s. record { contents = W.contents s.out; faults = s.faults } };
 }
 
 impl<W: Write> StdSink<W> {
     /// A sink that writes to `out`, and does not flush it.
     pub fn new(out: W) -> StdSink<W>
-        ensures { result ≡ 0 }
+        ensures contents { result.contents ≡ W.contents out }
+        ensures faults { result.faults ≡ 0 }
     {
         StdSink { out, faults: 0 }
     }
@@ -34,9 +37,17 @@ impl<W: Write> StdSink<W> {
 impl<W: Write> Sink for StdSink<W> {
     ghost taken = { λ _. None };
 
-    ghost faults = { λ s. s };
+    ghost faults = { λ s. s.faults };
 
-    fn put(&mut self, bytes: &[u8]) -> Result<usize, Failed> {
+    fn put(&mut self, bytes: &[u8]) -> Result<usize, Failed>
+        requires { 0 < length bytes.now }
+        ensures some { IfOk result (λ n. (0 < n) × (n ≤ length bytes.now)) }
+        ensures bytes { Puts None None bytes.now result }
+        ensures cause { HasCause self.old.faults self.new.faults result }
+
+        // What the writer is known to hold grows by what was taken.
+        ensures written { IfOk result (λ n. Appends self.old.contents self.new.contents (take n bytes.now)) }
+    {
         match self.out.write(bytes) {
             Ok(0) | Err(_) => {
                 self.faults = self.faults.saturating_add(1);
