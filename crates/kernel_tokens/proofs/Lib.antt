@@ -1,3 +1,0 @@
-pub mod Runs
-pub mod Digits
-pub mod Scans
