@@ -10,6 +10,7 @@ pub mod make;
 pub mod mark;
 pub mod name;
 pub mod ops;
+mod place;
 mod print;
 pub mod token;
 
