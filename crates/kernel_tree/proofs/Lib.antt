@@ -1,3 +1,5 @@
 pub mod Rows
 pub mod Marks
 pub mod TokenList
+pub mod Well
+pub mod Printed

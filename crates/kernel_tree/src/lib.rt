@@ -18,3 +18,4 @@ pub use ast::{Answer, Expr, Kernel, Loop, Param, Shape, Stmt, Var};
 pub use checked::Checked;
 pub use name::Name;
 pub use ops::{BinaryOp, CompareOp, Ty, UnaryOp, UpdateOp};
+pub use print::print_kernel;

@@ -1,5 +1,5 @@
 use Rattle.std.proofs.Common.{◌∙◌}
-use Rattle.kernel_tree.proofs.print.+terms.Goals as goal
+use Rattle.kernel_tree.proofs.print.expr.+terms.Goals as goal
 
 pub print_between-returns : goal.print_between-returns
 print_between-returns t c rest = c.in_ok-close.ensures rest ∙ c.in_ok-print_expr-2.ensures _ ∙ c.in_ok-put_mark.ensures _ ∙ c.in_ok-print_expr.ensures _ ∙ c.in_ok-open.ensures _

@@ -2,7 +2,7 @@ use Rattle.std.proofs.Common.{◌+◌, ◌*◌}
 use Rattle.std.specs.Prelude.{max}
 use Rattle.kernel_tree.specs.Plain.{term_of}
 use Rattle.kernel_tree.specs.Limits.{term_depth}
-use Rattle.kernel_tree.proofs.print.+terms.Given as goal
+use Rattle.kernel_tree.proofs.print.expr.+terms.Given as goal
 
 -- an expression stands above what prints it by its kind, and that above its operands
 abbrev pub decreases-print_expr : goal.decreases-print_expr
