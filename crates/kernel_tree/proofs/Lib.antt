@@ -3,3 +3,6 @@ pub mod Marks
 pub mod TokenList
 pub mod Well
 pub mod Printed
+pub mod Lexed
+pub mod PrintedTokens
+pub mod PrintedKernel
