@@ -8,6 +8,8 @@ mod token;
 ghost use Rattle.std.specs.Prelude.{◌≡◌, ◌∷◌, ◌++◌, List, [], IfOk, string_bytes};
 ghost use Rattle.kernel_tree.specs.Word.{Word, IsName, IsMark};
 ghost use Rattle.kernel_tree.specs.Plain.{Program, program_of};
+ghost use Rattle.kernel_tree.specs.Grammar.{IsTree};
+ghost use Rattle.kernel_tree.specs.Text.{IsTextOf};
 ghost use Rattle.kernel_tree.specs.Printing.{spaced, kernel_words, canonical_text, print_params, print_arrow, print_vars, print_turns, print_answer};
 
 use crate::ast::Kernel;
@@ -43,7 +45,9 @@ fn put_inside(out: &mut String, kernel: &Kernel) -> Result<(), AllocError>
 /// The canonical text of a kernel: its tokens joined by single spaces, literals in decimal, and an operand in
 /// parentheses where it is itself an operator or a negative literal.
 pub fn print_kernel(alloc: Global, kernel: &Kernel) -> Result<String, AllocError>
-    ensures { IfOk result (λ text. string_bytes text ≡ canonical_text (program_of kernel.now)) }
+    ensures canonical { IfOk result (λ text. string_bytes text ≡ canonical_text (program_of kernel.now)) }
+    // The text of a kernel that is the tree of some tokens has that kernel as its tree.
+    ensures reads_back { IfOk result (λ text. IsTree (program_of kernel.now) → IsTextOf (program_of kernel.now) (string_bytes text)) }
 {
     let mut text = String::from_str(alloc, "kernel")?;
     put_head(&mut text, kernel)?;
