@@ -5,7 +5,7 @@ ghost use Rattle.std.specs.Prelude.{◌≡◌, ℕ, ◌<◌, ◌^◌, List, leng
 use std::marker::Model;
 
 /// What a page may be used for. Every page is readable.
-#[derive(Clone, Copy, PartialEq, Eq)]
+#[derive(Clone, Copy, Debug, PartialEq, Eq)]
 pub enum Perm {
     Read,
     ReadWrite,
@@ -15,7 +15,7 @@ pub enum Perm {
 /// An access that the memory refuses.
 ///
 /// `address` is that of the first refused byte, counted from the address of the access.
-#[derive(Clone, Copy, PartialEq, Eq)]
+#[derive(Clone, Copy, Debug, PartialEq, Eq)]
 pub struct AccessFault {
     pub address: u64,
     pub write: bool,
