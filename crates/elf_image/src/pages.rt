@@ -1,8 +1,8 @@
 // The pages of segments.
 
-ghost use Rattle.std.specs.Prelude.{◌≡◌, ℕ, ◌+◌, ◌*◌, ◌^◌, ◌<◌, ◌≤◌, ◌++◌, ◌-◌, length, replicate, map, flat_map, IfOk};
+ghost use Rattle.std.specs.Prelude.{◌≡◌, ◌+◌, ◌*◌, ◌^◌, ◌<◌, ◌≤◌, ◌++◌, ◌-◌, length, replicate, map, flat_map, IfOk};
 ghost use Rattle.std.specs.List.{range_with_len};
-ghost use Rattle.machine_model.specs.Load.{Segment, segment_byte, page_bytes, pages_of, first_page, page_count};
+ghost use Rattle.machine_model.specs.Load.{segment_byte, page_bytes, pages_of};
 ghost use Rattle.elf_image.specs.Loadable.{IsLoadable, AllLoadable};
 
 use crate::program_header::ProgramHeader;

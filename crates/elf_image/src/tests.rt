@@ -45,8 +45,22 @@ static EDITS: [(usize, u8, ElfFault); 16] = [
     (54, 57, ElfFault::NotElf),
     (18, 0xb6, ElfFault::NotAarch64),
     (16, 3, ElfFault::NotStatic),
-    (32, 77, ElfFault::Short { need: 133, have: 132 }),
-    (56, 2, ElfFault::Short { need: 176, have: 132 }),
+    (
+        32,
+        77,
+        ElfFault::Short {
+            need: 133,
+            have: 132,
+        },
+    ),
+    (
+        56,
+        2,
+        ElfFault::Short {
+            need: 176,
+            have: 132,
+        },
+    ),
     (64, 2, ElfFault::NotStatic),
     (64, 3, ElfFault::NotStatic),
     (96, 0x85, ElfFault::BadSegment { index: 0 }),
@@ -137,7 +151,10 @@ fn writes_the_example(rt: HostRuntime) -> Result<(), Fail> {
 #[test]
 fn loads_the_example(rt: HostRuntime) -> Result<(), Fail> {
     let image = load_elf(rt.alloc(), example())?;
-    assert_eq!(rt; (image.entry, image.code_from, image.code_end), (0x400078, 0x400078, 0x400084));
+    assert_eq!(rt;
+        (image.entry, image.code_from, image.code_end),
+        (0x400078, 0x400078, 0x400084)
+    );
     let pages = pages_of(rt.alloc(), &image)?;
     assert_eq!(rt; pages.as_slice(), [(0x400, 'x', 0)].as_slice());
     assert!(rt; stand_at(page(&image, 0), 0, example()));
@@ -148,11 +165,25 @@ fn loads_the_example(rt: HostRuntime) -> Result<(), Fail> {
 #[test]
 fn loads_a_linked_program(rt: HostRuntime) -> Result<(), Fail> {
     let image = load_elf(rt.alloc(), linked())?;
-    assert_eq!(rt; (image.entry, image.code_from, image.code_end), (0x400100, 0x400100, 0x400114));
+    assert_eq!(rt;
+        (image.entry, image.code_from, image.code_end),
+        (0x400100, 0x400100, 0x400114)
+    );
     let pages = pages_of(rt.alloc(), &image)?;
-    let wanted = [(0x400, 'x', 0), (0x410, 'w', 0), (0x411, 'w', 0), (0x412, 'w', 0)];
+    let wanted = [
+        (0x400, 'x', 0),
+        (0x410, 'w', 0),
+        (0x411, 'w', 0),
+        (0x412, 'w', 0),
+    ];
     assert_eq!(rt; pages.as_slice(), wanted.as_slice());
-    assert!(rt; stand_at(page(&image, 0), 256, &[0x81, 0, 0, 0x90, 0x20, 0, 0x40, 0xf9]));
+    assert!(rt;
+        stand_at(
+            page(&image, 0),
+            256,
+            &[0x81, 0, 0, 0x90, 0x20, 0, 0x40, 0xf9]
+        )
+    );
     assert!(rt; stand_at(page(&image, 1), 0, &[42, 0, 0, 0, 0, 0, 0, 0, 0]));
     Ok(())
 }
@@ -170,9 +201,15 @@ fn refuses_one_wrong_byte(rt: HostRuntime) -> Result<(), Fail> {
 fn refuses_a_short_file(rt: HostRuntime) -> Result<(), Fail> {
     let mut file = example().to_vec(rt.alloc())?;
     file.truncate(131);
-    assert_eq!(rt; fault_of(rt.alloc(), &file), Some(ElfFault::BadSegment { index: 0 }));
+    assert_eq!(rt;
+        fault_of(rt.alloc(), &file),
+        Some(ElfFault::BadSegment { index: 0 })
+    );
     file.truncate(63);
-    assert_eq!(rt; fault_of(rt.alloc(), &file), Some(ElfFault::Short { need: 64, have: 63 }));
+    assert_eq!(rt;
+        fault_of(rt.alloc(), &file),
+        Some(ElfFault::Short { need: 64, have: 63 })
+    );
     Ok(())
 }
 
