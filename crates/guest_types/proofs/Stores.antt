@@ -1,13 +1,13 @@
 -- What a number written changes, and what it leaves.
-use Rattle.std.proofs.Common.{◌≡◌, ◌≢◌, ℕ, zero, suc, ◌+◌, ◌*◌, ◌/◌, ◌%◌, ◌^◌, ◌<◌, ◌≤◌, Bool, true, false, cond, List, [], ◌∷◌, Option, Some, None, Result, Ok, Err, refl, sym, ap, ap₂, ◌∙◌, subst, arith, inl, inr, ◌⊎◌}
+use Rattle.std.proofs.Common.{◌≡◌, ◌≢◌, ℕ, zero, suc, ◌+◌, ◌*◌, ◌/◌, ◌%◌, ◌^◌, ◌<◌, ◌≤◌, Bool, true, false, cond, Option, Some, None, Result, Ok, Err, refl, sym, ap, ap₂, ◌∙◌, subst, arith}
 use Rattle.std.specs.Prelude.{is_some, nat_eq, option_map, option_and_then, unwrap_or, if◌then◌else◌}
-use Rattle.std.proofs.lemmas.Bool.{cond-true, cond-false, eq-eqb, ne_eqb, eqb-true, eqb-false}
+use Rattle.std.proofs.lemmas.Bool.{cond-true, cond-false, eqb-true}
 use Rattle.std.proofs.Math.Nat.{pow-suc, mod-one, one-le-pow}
 use lib.Arith.{mod-mul}
 use Rattle.guest_types.specs.declared.memory.AccessFault.{AccessFault}
 use Rattle.guest_types.specs.declared.memory.Perm.{Perm}
 use Rattle.guest_types.specs.declared.memory.Perm.TheVariants.{Read, ReadWrite, ReadExec}
-use Rattle.guest_types.specs.Memory.{Page, Memory, IsMemory, page_at, page_numbers, put_byte, with_byte, put_number, byte_at, byte_of, byte_or_zero, number_at, after, first_fault, can_read, can_write, may_write, is_writable, is_executable, loaded, stored, fetched, Disjoint}
+use Rattle.guest_types.specs.Memory.{Page, Memory, IsMemory, page_at, page_numbers, put_byte, with_byte, put_number, byte_at, number_at, after, first_fault, can_read, can_write, may_write, is_writable, is_executable, loaded, stored, fetched, Disjoint}
 use Rattle.guest_types.proofs.Writes.{after_write, page_at-put_byte, byte_at-put_byte_same, byte_at-put_byte_other, can_read-put_byte, can_write-put_byte, page_numbers-put_byte, IsMemory-put_byte, put_byte-put_byte_other}
 
 -- ---- addresses apart
@@ -134,7 +134,7 @@ stored-stored memory m both a n v c k w la lc apart first second =
     let done : stored memory c k w ≡ Ok other = stored-done memory c k w (sym (write_faults-stored memory m a n v c k first) ∙ two.0) in
     let faults : first_fault (can_write other) a n ≡ None = write_faults-stored memory other c k w a n done ∙ one.0 in
     let same : put_number other a n v ≡ both =
-      sym (put_number-put_number_other memory a n v c k w la lc apart) ∙ ap (λ m. put_number m c k w) (sym one.1) ∙ sym two.1 in
+    sym (put_number-put_number_other memory a n v c k w la lc apart) ∙ ap (λ m. put_number m c k w) (sym one.1) ∙ sym two.1 in
     (other, done, stored-done other a n v faults ∙ ap Ok same)
 
 -- ---- the number that was written
@@ -157,7 +157,7 @@ number_at-put_number_same memory a (suc n) v is low short readable = go (can_rea
     go true e readable rest =
         let apart : Disjoint (after a) n a 1 = λ i j li lj h. omega arith in
         let here : byte_at (put_number (put_byte memory a (v % 256)) (after a) n (v / 256)) a ≡ Some (v % 256) =
-          byte_at-put_number_other (put_byte memory a (v % 256)) (after a) n (v / 256) a (omega arith) low apart ∙ byte_at-put_byte_same memory a (v % 256) is e in
+        byte_at-put_number_other (put_byte memory a (v % 256)) (after a) n (v / 256) a (omega arith) low apart ∙ byte_at-put_byte_same memory a (v % 256) is e in
         let some : 0 < 256 ^ n = omega (arith, one-le-pow n 256 (omega arith)) in
         let split : v % 256 ^ suc n ≡ (v / 256 % 256 ^ n) * 256 + v % 256 = ap (λ n. v % n) (pow-suc 256 n) ∙ mod-mul v {m = 256 ^ n} {c = 256} some (omega arith) in
         ap₂ (λ low rest. low + 256 * rest) (ap (λ o. unwrap_or o 0) here) (rest (first_fault-ext (can_read (put_byte memory a (v % 256))) (can_read memory) (after a) n (λ c. can_read-put_byte memory a (v % 256) c) ∙ readable))

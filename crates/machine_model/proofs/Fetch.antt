@@ -1,15 +1,16 @@
 -- The words of a loaded file are fetched from its image.
-use Rattle.std.proofs.Common.{◌≡◌, ℕ, zero, suc, ◌+◌, ◌-◌, ◌*◌, ◌/◌, ◌%◌, ◌^◌, ◌<◌, ◌≤◌, Bool, true, false, cond, List, [], ◌∷◌, ◌++◌, map, length, drop, get_or, Option, Some, None, refl, sym, ap, ◌∙◌, subst, arith, eqb, ltb, leb, length-append, get_or-drop, ⊎_elim}
-use Rattle.std.specs.Prelude.{◌&&◌, slice_index, nat_eq, nat_lt, nat_le, option_map, option_and_then, unwrap_or, if◌then◌else◌, All}
-use Rattle.std.specs.Int.{to_le_bytes, from_le_bytes, byte_at as byte_of_number, w32}
-use Rattle.std.specs.List.{range_with_len}
+use Rattle.std.proofs.Common.{◌≡◌, ℕ, zero, suc, ◌+◌, ◌-◌, ◌*◌, ◌/◌, ◌%◌, ◌^◌, ◌<◌, ◌≤◌, Bool, true, false, List, [], ◌∷◌, ◌++◌, length, get_or, Some, None, refl, sym, ap, ◌∙◌, subst, arith, get_or-drop, ⊎_elim}
+use Rattle.std.specs.Prelude.{slice_get, nat_eq, nat_lt, nat_le, option_map, option_and_then, unwrap_or, if◌then◌else◌, All}
+use Rattle.std.specs.Int.{to_le_bytes, byte_at as byte_of_number, w32}
 use Rattle.std.proofs.lemmas.Nat.{from_le_bytes-to_le_bytes_4}
 use Rattle.std.proofs.lemmas.Bool.{lt-ltb, le-leb, cond-true, cond-false, ne_eqb, eq-eqb, eqb-true, and_from, cases_eq}
 use Rattle.std.proofs.lemmas.List.FromFn.{get_or-map-range_with_len}
 use Rattle.std.proofs.Math.Nat.{mod-eq_of_lt}
-use Rattle.guest_types.specs.Memory.{Page, Memory, page_at, byte_at, byte_of, number_at, byte_or_zero, after, fetched, is_executable}
-use Rattle.machine_model.specs.Written.{file_of, word_bytes, whole, code_base}
-use Rattle.machine_model.specs.Load.{Image, Segment, page_bytes, pages_from, pages_of, first_page, page_count, perm_of, segment_byte}
+use Rattle.guest_types.specs.Memory.{Page, Memory, page_at, byte_at, byte_of, number_at, byte_or_zero, after, fetched, is_executable, merged, DoNotMeet}
+use Rattle.std.proofs.lemmas.Option.{slice_get_within, get_or_from_slice_get}
+use Rattle.guest_types.proofs.Merges.{page_at-merged_left}
+use Rattle.machine_model.specs.Written.{file_of, word_bytes, whole, code_base, image_of_words}
+use Rattle.machine_model.specs.Load.{Segment, page_bytes, pages_from, pages_of, first_page, page_count, perm_of, segment_byte}
 
 -- ---- the bytes of words
 
@@ -34,7 +35,7 @@ file_byte words i j h k = sym (get_or-drop 120 (file_of words) (4 * i + j) 0) �
 
 -- ---- the pages of a segment
 
-page_of : List ℕ → Segment → ℕ → Page
+pub page_of : List ℕ → Segment → ℕ → Page
 page_of bytes segment n = record { page = n; perm = perm_of segment; bytes = page_bytes bytes segment n }
 
 page_at_from : (bytes : List ℕ) (segment : Segment) (count m n : ℕ) (more : Memory) → m ≤ n → n < m + count → page_at (pages_from bytes segment m count ++ more) n ≡ Some (page_of bytes segment n)
@@ -96,6 +97,10 @@ module _ (words : List ℕ) (i : ℕ) (more : Memory) (h : i < length words) (fe
       byte_at_of (file_of words) (whole (120 + 4 * length words)) (code_base + 4 * i + j) more (omega arith) (omega arith)
       ∙ ap Some (in_segment j k)
 
+  pub word_page : page_at (pages_of (file_of words) (whole (120 + 4 * length words)) ++ more) ((code_base + 4 * i) / 4096) ≡ Some (page_of (file_of words) (whole (120 + 4 * length words)) ((code_base + 4 * i) / 4096))
+  unfolding pages_of
+  word_page = page_at_from (file_of words) (whole (120 + 4 * length words)) (page_count (whole (120 + 4 * length words))) 1024 ((code_base + 4 * i) / 4096) more (omega arith) (omega arith)
+
   pub fetch_word : fetched (pages_of (file_of words) (whole (120 + 4 * length words)) ++ more) (code_base + 4 * i) ≡ Some (get_or words i 0)
   unfolding pages_of page_of
   fetch_word =
@@ -143,3 +148,14 @@ fetch_in_page m n pc page h em en false e = cond-false _ _ _ e ∙ sym (cond-fal
 -- a word that is fetched from a page is fetched where that page is
 pub fetched_same : (m n : Memory) (pc : ℕ) (page : Page) → pc + 4 < 2 ^ 64 → page_at m (pc / 4096) ≡ Some page → page_at n (pc / 4096) ≡ Some page → fetched n pc ≡ fetched m pc
 fetched_same m n pc page h em en = fetch_in_page m n pc page h em en (nat_eq (pc % 4) 0) refl
+
+-- each word of a written file, beside pages that do not meet its own
+pub fetch_beside : (words : List ℕ) (pages : Memory) (k w : ℕ) → length words ≤ 65536 → All (λ word. word < 2 ^ 32) words → DoNotMeet (image_of_words words).pages pages → slice_get words k ≡ Some w → fetched (merged (image_of_words words).pages pages) (code_base + 4 * k) ≡ Some w
+fetch_beside words pages k w few small apart at =
+    let h = slice_get_within words k w at in
+    let own = (image_of_words words).pages in
+    let page = word_page words k [] h few small in
+    let other = page_at-merged_left own pages ((code_base + 4 * k) / 4096) _ apart page in
+    fetched_same own (merged own pages) (code_base + 4 * k) _ (omega arith) page other
+    ∙ fetch_word words k [] h few small
+    ∙ ap Some (get_or_from_slice_get words k w 0 at)

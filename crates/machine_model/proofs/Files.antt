@@ -1,12 +1,11 @@
 -- The file of some words is loaded as their image.
-use Rattle.std.proofs.Common.{◌≡◌, ℕ, zero, suc, ◌+◌, ◌-◌, ◌*◌, ◌/◌, ◌%◌, ◌^◌, ◌<◌, ◌≤◌, Bool, true, false, cond, List, [], ◌∷◌, ◌++◌, map, length, Option, Some, None, Result, Ok, Err, refl, sym, ap, ◌∙◌, subst, arith, eqb, ltb, leb, length-append}
-use Rattle.std.specs.Prelude.{◌&&◌, ◌||◌, not, slice_get, slice_index, nat_eq, nat_lt, nat_le, if◌then◌else◌, flat_map, filter}
-use Rattle.std.specs.Int.{to_le_bytes, from_le_bytes, byte_at, w32, w64}
-use Rattle.std.proofs.lemmas.Nat.{from_le_bytes-to_le_bytes_8, from_le_bytes-to_le_bytes_4}
-use Rattle.std.proofs.lemmas.Bool.{le-ltb, lt-ltb, cond-true, cond-false, ne_eqb, not_from_false, and_right}
-use Rattle.guest_types.specs.Memory.{Page, Memory}
+use Rattle.std.proofs.Common.{◌≡◌, ℕ, ◌+◌, ◌*◌, ◌^◌, ◌<◌, ◌≤◌, true, false, List, [], ◌∷◌, length, None, Ok, refl, ap, ◌∙◌, arith, length-append}
+use Rattle.std.specs.Prelude.{nat_lt, filter}
+use Rattle.std.specs.Int.{to_le_bytes, w32, w64}
+use Rattle.std.proofs.lemmas.Nat.{from_le_bytes-to_le_bytes_8}
+use Rattle.std.proofs.lemmas.Bool.{le-ltb, cond-true, cond-false, ne_eqb, not_from_false, and_right}
 use Rattle.machine_model.specs.Written.{file_of, word_bytes, whole}
-use Rattle.machine_model.specs.Load.{Image, Segment, le_at, segment_at, load, load_segments, image_of, pages_of, is_loaded, is_bad, first_bad, page_count}
+use Rattle.machine_model.specs.Load.{le_at, segment_at, load, load_segments, image_of, is_loaded, is_bad, first_bad, page_count}
 
 length_bytes : (words : List ℕ) → length (word_bytes words) ≡ 4 * length words
 length_bytes [] = refl

@@ -1,17 +1,16 @@
 -- Runs in pieces, and code that stands in memory.
-use Rattle.std.proofs.Common.{◌≡◌, ℕ, zero, suc, ◌+◌, ◌-◌, ◌*◌, ◌%◌, ◌^◌, ◌<◌, ◌≤◌, Bool, true, false, List, [], ◌∷◌, ◌++◌, length, Option, Some, None, refl, sym, ap, ◌∙◌, subst, arith}
+use Rattle.std.proofs.Common.{◌≡◌, ℕ, zero, suc, ◌+◌, ◌-◌, ◌*◌, ◌%◌, ◌^◌, ◌<◌, ◌≤◌, true, List, [], ◌∷◌, ◌++◌, length, Option, Some, None, refl, sym, ap, ◌∙◌, subst, arith}
 use Rattle.std.specs.Prelude.{map, slice_get}
 use Rattle.std.proofs.Math.Nat.{mod-eq_of_lt}
 use Rattle.guest_types.specs.Memory.{Memory, fetched}
-use Rattle.word_rows.specs.Row.{Instruction, IsInstruction, reads, spells}
+use Rattle.word_rows.specs.Row.{Instruction, IsInstruction, spells}
 use Rattle.word_rows.proofs.Laws.{reads-spells}
 use Rattle.a64_code.specs.Table.{Name, row, a64_names}
 use Rattle.a64_code.proofs.Valid.{a64_table}
-use Rattle.machine_model.specs.declared.outcome.StopKind.{StopKind}
 use Rattle.machine_model.specs.declared.outcome.StopKind.TheVariants.{Undefined}
 use Rattle.machine_model.specs.Machine.{State, Step, Went, Ended, Stopped}
 use Rattle.machine_model.specs.OneStep.{step, does, do_word, reads_word}
-use Rattle.machine_model.specs.Run.{Outcome, End, Stop, Spent, run, go_on, after_steps, is_over, steps_taken}
+use Rattle.machine_model.specs.Run.{End, run, go_on, after_steps, is_over, steps_taken}
 
 -- ---- runs
 

@@ -1,6 +1,6 @@
 -- What each A64 instruction does (Arm DDI 0487, "A64 Base Instruction Descriptions"). An instruction is the name of its row and
 -- the numbers of that row's fields, from the lowest field of the word to the highest.
-use Rattle.std.specs.Prelude.{ℕ, ◌*◌, ◌%◌, ◌^◌, Bool, not, ◌&&◌, List, [], Result, Ok, Err, nat_eq, bit_and, bit_or, bit_xor, slice_index, slice_index_or, if◌then◌else◌}
+use Rattle.std.specs.Prelude.{ℕ, ◌*◌, ◌%◌, ◌^◌, Bool, not, ◌&&◌, List, [], Ok, Err, nat_eq, bit_and, bit_or, bit_xor, slice_index, slice_index_or, if◌then◌else◌}
 use Rattle.std.specs.Int.{w8, w16, w32, w64, cast_signed, cast_unsigned}
 use Rattle.guest_types.specs.Memory.{loaded, stored}
 use Rattle.guest_types.specs.Elements.{element}

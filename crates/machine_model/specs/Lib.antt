@@ -5,3 +5,5 @@ pub mod OneStep
 pub mod Load
 pub mod Written
 pub mod Run
+pub mod Answers
+pub mod OutcomeText

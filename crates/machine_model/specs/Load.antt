@@ -1,11 +1,10 @@
 -- Loading an ELF64 file of a static AArch64 program (System V ABI, "Object Files" and "Program Loading"; ELF for the Arm
 -- 64-bit Architecture). All sums are of plain numbers.
-use Rattle.std.specs.Prelude.{◌≡◌, ℕ, zero, suc, ◌+◌, ◌-◌, ◌*◌, ◌/◌, ◌%◌, ◌^◌, ◌<◌, ◌≤◌, Bool, true, false, ◌&&◌, ◌||◌, not, cond, List, [], ◌∷◌, ◌++◌, map, length, Option, Some, None, Result, Ok, Err, nat_eq, nat_lt, nat_le, slice_index, if◌then◌else◌, flat_map, filter, sum_by}
+use Rattle.std.specs.Prelude.{ℕ, zero, suc, ◌+◌, ◌-◌, ◌*◌, ◌/◌, ◌%◌, ◌^◌, Bool, false, ◌&&◌, ◌||◌, not, List, [], ◌∷◌, map, length, Option, Some, None, Result, Ok, Err, nat_eq, nat_lt, nat_le, slice_index, if◌then◌else◌, flat_map, filter, sum_by}
 use Rattle.std.specs.List.{range_with_len}
-use Rattle.std.specs.Int.{to_le_bytes, w32, w64}
 use Rattle.guest_types.specs.declared.memory.Perm.{Perm}
 use Rattle.guest_types.specs.declared.memory.Perm.TheVariants.{Read, ReadWrite, ReadExec}
-use Rattle.guest_types.specs.Memory.{Page, Memory}
+use Rattle.guest_types.specs.Memory.{Memory}
 use Rattle.machine_model.specs.declared.elf_fault.ElfFault.{ElfFault}
 use Rattle.machine_model.specs.declared.elf_fault.ElfFault.TheVariants.{Short, NotElf, NotAarch64, NotStatic, BadSegment, SegmentsClash, TooManyPages}
 

@@ -18,3 +18,10 @@ pub fn runs_settle()
     ensures settled { (n m taken : ℕ) (s : State) → n ≤ m → is_over (run n taken s) ≡ true → run m taken s ≡ run n taken s }
     ensures within { (n taken : ℕ) (s : State) → steps_taken (run n taken s) ≤ taken + n }
 {}
+/// A written file is loaded as the image of its words, beside any pages that do not meet it, with each word in its place.
+pub fn written_file_loads()
+    ensures loads { (words : List ℕ) → length words ≤ 65536 → load (file_of words) ≡ Ok (image_of_words words) }
+    ensures fetches { (words : List ℕ) (pages : Memory) (k w : ℕ) → length words ≤ 65536 → All (λ word. word < 2 ^ 32) words
+        → DoNotMeet (image_of_words words).pages pages → slice_get words k ≡ Some w
+        → fetched (merged (image_of_words words).pages pages) (code_base + 4 * k) ≡ Some w }
+{}

@@ -1,4 +1,4 @@
-use Rattle.std.proofs.Common.{◌≡◌, ◌+◌, ◌∙◌, refl, arith}
+use Rattle.std.proofs.Common.{◌+◌, arith}
 use Rattle.machine_model.proofs.Runs.{leads_after}
 use Rattle.machine_model.proofs.laws.runs_compose.Goals as goal
 

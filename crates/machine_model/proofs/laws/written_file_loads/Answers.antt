@@ -1,0 +1,9 @@
+use Rattle.machine_model.proofs.Files.{load-file_of}
+use Rattle.machine_model.proofs.Fetch.{fetch_beside}
+use Rattle.machine_model.proofs.laws.written_file_loads.Goals as goal
+
+pub returns-clause-loads : goal.returns-clause-loads
+returns-clause-loads c = load-file_of
+
+pub returns-clause-fetches : goal.returns-clause-fetches
+returns-clause-fetches c = fetch_beside
