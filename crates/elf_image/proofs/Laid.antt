@@ -1,15 +1,11 @@
 -- The pages of segments, laid one after another.
-use Rattle.std.proofs.Common.{◌≡◌, ℕ, zero, suc, ◌+◌, ◌-◌, ◌*◌, ◌/◌, ◌^◌, ◌<◌, ◌≤◌, Bool, true, false, cond, List, [], ◌∷◌, ◌++◌, map, length, get_or, take, drop, replicate, All, flat_map, refl, ap, ◌∙◌, sym, subst, arith, append_assoc}
-use Rattle.std.specs.Prelude.{◌&&◌, nat_le, nat_lt, slice_index}
+use Rattle.std.proofs.Common.{◌≡◌, ℕ, zero, suc, ◌+◌, ◌-◌, ◌*◌, ◌<◌, ◌≤◌, List, [], ◌∷◌, ◌++◌, map, length, get_or, take, drop, replicate, refl, ap, ◌∙◌, sym, arith, append_assoc}
 use Rattle.std.specs.List.{range_with_len}
-use Rattle.std.specs.List.Sorted.{IsStrictlyIncreasing}
 use Rattle.std.proofs.lemmas.List.{drop_more, length-append, length-replicate}
-use Rattle.std.proofs.lemmas.List.FromFn.{length-map-range_with_len, map-range_with_len_more}
-use Rattle.std.proofs.lemmas.List.Elements.{All-nil, All-cons, All-append, All-map, All-head, All-tail}
+use Rattle.std.proofs.lemmas.List.FromFn.{length-map-range_with_len}
 use Rattle.std.proofs.lemmas.Bool.Decides.{nat_tests}
-use Rattle.guest_types.specs.Memory.{Page, Memory, IsPage, IsMemory, page_numbers}
+use Rattle.guest_types.specs.Memory.{Page, Memory}
 use Rattle.machine_model.specs.Load.{Segment, segment_byte, page_bytes, pages_from, pages_of, perm_of, first_page, page_count}
-use Rattle.elf_image.specs.Loadable.{IsLoadable, AllLoadable, meets_from}
 
 -- a number of values of a function, in two parts
 map-range_append : (f : ℕ → ℕ) (start a b : ℕ) → map f (range_with_len start (a + b)) ≡ map f (range_with_len start a) ++ map f (range_with_len (start + a) b)

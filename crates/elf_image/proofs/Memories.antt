@@ -1,12 +1,12 @@
 -- The pages of segments that do not meet are a memory.
-use Rattle.std.proofs.Common.{◌≡◌, ℕ, zero, suc, ◌+◌, ◌-◌, ◌*◌, ◌/◌, ◌^◌, ◌<◌, ◌≤◌, Bool, true, false, cond, List, [], ◌∷◌, ◌++◌, map, length, get_or, All, flat_map, refl, ap, ◌∙◌, sym, subst, arith}
-use Rattle.std.specs.Prelude.{◌%◌, ◌&&◌, ◌||◌, nat_eq, nat_le, nat_lt, slice_index, if◌then◌else◌, Result, Ok, Err}
+use Rattle.std.proofs.Common.{◌≡◌, ℕ, zero, suc, ◌+◌, ◌-◌, ◌*◌, ◌^◌, ◌<◌, ◌≤◌, Bool, true, false, cond, List, [], ◌∷◌, ◌++◌, get_or, All, flat_map, refl, ap, ◌∙◌, sym, subst, arith}
+use Rattle.std.specs.Prelude.{◌%◌, ◌&&◌, ◌||◌, nat_eq, nat_le, nat_lt, slice_index, if◌then◌else◌, Ok}
 use Rattle.std.specs.List.{range_with_len}
 use Rattle.std.specs.List.Sorted.{IsStrictlyIncreasing}
 use Rattle.std.proofs.lemmas.Bool.{ltb-false, cond-false}
 use Rattle.std.proofs.lemmas.List.Elements.{All-nil, All-cons, All-append, All-map, All-head, All-tail}
-use Rattle.guest_types.specs.Memory.{Page, Memory, IsPage, IsMemory, page_numbers}
-use Rattle.machine_model.specs.Load.{Image, clash, code_end_of, in_order, Segment, segment_byte, page_bytes, pages_from, pages_of, perm_of, first_page, page_count}
+use Rattle.guest_types.specs.Memory.{Memory, IsPage, IsMemory, page_numbers}
+use Rattle.machine_model.specs.Load.{Image, clash, code_end_of, in_order, Segment, segment_byte, page_bytes, pages_from, pages_of, first_page, page_count}
 use Rattle.elf_image.specs.Loadable.{IsLoadable, AllLoadable, meets_from, placed}
 use Rattle.elf_image.proofs.Laid.{length_page_bytes, laid}
 

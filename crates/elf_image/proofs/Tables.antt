@@ -1,9 +1,9 @@
 -- Tables of program headers.
-use Rattle.std.proofs.Common.{◌≡◌, ℕ, zero, suc, ◌+◌, ◌*◌, ◌<◌, ◌≤◌, Bool, true, false, cond, List, [], ◌∷◌, ◌++◌, length, filter, All, Option, Some, None, refl, ap, ◌∙◌, sym, arith}
-use Rattle.std.specs.Prelude.{◌&&◌, ◌||◌, not, nat_lt, nat_eq}
+use Rattle.std.proofs.Common.{◌≡◌, ℕ, zero, suc, ◌+◌, ◌*◌, Bool, true, false, cond, List, [], ◌∷◌, ◌++◌, length, filter, Option, Some, None, refl, ap, ◌∙◌, arith}
+use Rattle.std.specs.Prelude.{◌&&◌}
 use Rattle.std.proofs.lemmas.List.Elements.{All-nil, All-cons}
 use Rattle.std.proofs.lemmas.Bool.Decides.{nat_tests}
-use Rattle.machine_model.specs.Load.{Segment, segment_at, segments_from, first_bad, is_loaded, is_bad, has_flag}
+use Rattle.machine_model.specs.Load.{Segment, segment_at, segments_from, first_bad, is_loaded, is_bad}
 use Rattle.elf_image.specs.Loadable.{IsLoadable, AllLoadable}
 
 -- one program header more

@@ -1,7 +1,7 @@
 // The header of a file.
 
-ghost use Rattle.std.specs.Prelude.{◌≡◌, ℕ, ◌+◌, ◌*◌, ◌<◌, ◌≤◌, ◌&&◌, length, IfOk, IfErr, Err, nat_eq};
-ghost use Rattle.machine_model.specs.Load.{load, load_segments, segments_from, has_ident, le_at};
+ghost use Rattle.std.specs.Prelude.{◌≡◌, ◌+◌, ◌*◌, ◌<◌, ◌≤◌, ◌&&◌, length, IfOk, IfErr, Err};
+ghost use Rattle.machine_model.specs.Load.{load, load_segments, segments_from, has_ident};
 
 use crate::fields::{read_u16, read_u64};
 use machine_model::elf_fault::ElfFault;

@@ -8,6 +8,8 @@ mod order;
 mod pages;
 mod program_header;
 mod segments;
+#[cfg(test)]
+mod tests;
 pub mod write;
 
 pub use load::load_elf;

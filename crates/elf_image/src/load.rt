@@ -1,8 +1,9 @@
 // Loading a file as an image.
 
-ghost use Rattle.std.specs.Prelude.{◌≡◌, ℕ, ◌+◌, ◌*◌, ◌%◌, ◌<◌, ◌≤◌, length, nat_eq, if◌then◌else◌, IfOk, IfErr, Ok, Err};
+ghost use Rattle.std.specs.Prelude.{◌≡◌, ◌%◌, ◌<◌, length, nat_eq, if◌then◌else◌, IfOk, IfErr, Ok, Err};
 ghost use Rattle.machine_model.specs.Load.{load, code_end_of};
-ghost use Rattle.elf_image.specs.Loadable.{AllLoadable, Refuses, plain, placed};
+ghost use Rattle.elf_image.specs.Loaded.{Refuses, plain};
+ghost use Rattle.elf_image.specs.Loadable.{AllLoadable, placed};
 
 use crate::header::FileHeader;
 use crate::order::{any_meet, in_order};

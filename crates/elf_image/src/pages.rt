@@ -1,8 +1,8 @@
 // The pages of segments.
 
-ghost use Rattle.std.specs.Prelude.{◌≡◌, ℕ, ◌+◌, ◌*◌, ◌^◌, ◌<◌, ◌≤◌, ◌++◌, ◌-◌, length, replicate, map, flat_map, IfOk};
+ghost use Rattle.std.specs.Prelude.{◌≡◌, ◌+◌, ◌*◌, ◌^◌, ◌<◌, ◌≤◌, ◌++◌, ◌-◌, length, replicate, map, flat_map, IfOk};
 ghost use Rattle.std.specs.List.{range_with_len};
-ghost use Rattle.machine_model.specs.Load.{Segment, segment_byte, page_bytes, pages_of, first_page, page_count};
+ghost use Rattle.machine_model.specs.Load.{segment_byte, page_bytes, pages_of};
 ghost use Rattle.elf_image.specs.Loadable.{IsLoadable, AllLoadable};
 
 use crate::program_header::ProgramHeader;
@@ -22,7 +22,13 @@ fn put_zeros(page: &mut Vec<u8>, size: usize) -> Result<(), AllocError>
 }
 
 // Appends the file bytes of a segment that stand from one address until another.
-fn put_file_bytes(page: &mut Vec<u8>, bytes: &[u8], segment: &ProgramHeader, from: u64, end: u64) -> Result<(), AllocError>
+fn put_file_bytes(
+    page: &mut Vec<u8>,
+    bytes: &[u8],
+    segment: &ProgramHeader,
+    from: u64,
+    end: u64,
+) -> Result<(), AllocError>
     requires loadable { IsLoadable (length bytes.now) segment.now }
     requires low { from < end → segment.now.vaddr ≤ from }
     requires high { from < end → end ≤ segment.now.vaddr + segment.now.filesz }
@@ -36,7 +42,12 @@ fn put_file_bytes(page: &mut Vec<u8>, bytes: &[u8], segment: &ProgramHeader, fro
 }
 
 // The bytes of a page of a segment, by its number: zeros, those of the file, and zeros.
-fn bytes_of_page(alloc: Global, bytes: &[u8], segment: &ProgramHeader, number: u64) -> Result<Vec<u8>, AllocError>
+fn bytes_of_page(
+    alloc: Global,
+    bytes: &[u8],
+    segment: &ProgramHeader,
+    number: u64,
+) -> Result<Vec<u8>, AllocError>
     requires loadable { IsLoadable (length bytes.now) segment.now }
     requires within { number < 2 ^ 36 }
     ensures { IfOk result (λ page. page.items ≡ page_bytes bytes.now segment.now number) }

@@ -1,7 +1,6 @@
 // Program headers, as far as they are read.
 
-ghost use Rattle.std.specs.Prelude.{◌≡◌, ℕ, ◌+◌, ◌*◌, ◌-◌, ◌^◌, ◌<◌, ◌≤◌, take, drop, length, if◌then◌else◌, Option, Some, None};
-ghost use Rattle.guest_types.specs.declared.memory.Perm.{Perm};
+ghost use Rattle.std.specs.Prelude.{◌≡◌, ◌+◌, ◌-◌, ◌^◌, ◌<◌, ◌≤◌, take, drop, length, if◌then◌else◌, Some, None};
 ghost use Rattle.machine_model.specs.Load.{Segment, segment_at, has_flag, is_loaded, is_dynamic, is_bad, first_page, page_count, perm_of, holds_entry};
 ghost use Rattle.elf_image.specs.Loadable.{IsLoadable};
 

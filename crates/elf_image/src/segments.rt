@@ -1,8 +1,9 @@
 // The segments of a file that are loaded.
 
-ghost use Rattle.std.specs.Prelude.{◌≡◌, ℕ, ◌+◌, ◌*◌, ◌^◌, ◌<◌, ◌≤◌, length, filter, sum_by, nat_lt, IfOk, IfErr, IfSome, MatchOption, Option, Some, None, option_map, Err, true, false};
-ghost use Rattle.machine_model.specs.Load.{Segment, Image, load_segments, segments_from, any_segment, is_dynamic, is_loaded, first_bad, page_count, load_segments, clash, image_of};
-ghost use Rattle.elf_image.specs.Loadable.{AllLoadable, Refuses, placed};
+ghost use Rattle.std.specs.Prelude.{◌≡◌, ◌+◌, ◌*◌, ◌^◌, ◌<◌, ◌≤◌, length, filter, sum_by, nat_lt, IfOk, IfErr};
+ghost use Rattle.machine_model.specs.Load.{load_segments, segments_from, any_segment, is_dynamic, is_loaded, first_bad, page_count};
+ghost use Rattle.elf_image.specs.Loaded.{Refuses};
+ghost use Rattle.elf_image.specs.Loadable.{AllLoadable, placed};
 
 use crate::header::FileHeader;
 use crate::program_header::ProgramHeader;
@@ -12,8 +13,8 @@ use std::alloc::{AllocError, Global};
 // The most pages that the segments of a file may have, counted together.
 const MOST_PAGES: u128 = 16384;
 
-#[tactic(auto, using(crate::proofs::Tables::segments_from_more))]
 // So many program headers, from an offset on.
+#[tactic(auto, using(crate::proofs::Tables::segments_from_more))]
 fn read_all(
     alloc: Global,
     bytes: &[u8],
@@ -30,8 +31,8 @@ fn read_all(
     Ok(segments)
 }
 
-#[tactic(auto, using(crate::proofs::Tables::length_segments))]
 // The program headers of a file.
+#[tactic(auto, using(crate::proofs::Tables::length_segments))]
 fn program_headers(
     alloc: Global,
     bytes: &[u8],

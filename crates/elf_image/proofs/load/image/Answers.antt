@@ -1,8 +1,7 @@
-use Rattle.std.proofs.Common.{◌≡◌, ℕ, ◌+◌, ◌%◌, ◌<◌, Bool, true, false, cond, List, [], length, flat_map, refl, ap, ◌∙◌, sym, arith, rules}
-use Rattle.std.specs.Prelude.{slice_index, nat_eq, Result, Ok, Err}
-use Rattle.std.proofs.lemmas.Grind.{common_steps}
-use Rattle.machine_model.specs.Load.{Segment, Image, clash, in_order, pages_of, image_of}
-use Rattle.elf_image.specs.Loadable.{AllLoadable, meets_from, placed}
+use Rattle.std.proofs.Common.{◌≡◌, ℕ, ◌<◌, true, false, length, flat_map, refl, ap, ◌∙◌, arith, rules}
+use Rattle.std.specs.Prelude.{slice_index}
+use Rattle.machine_model.specs.Load.{in_order, pages_of}
+use Rattle.elf_image.specs.Loadable.{meets_from}
 use Rattle.elf_image.proofs.Ordering.{clash_from_meets, all_in_order}
 use Rattle.elf_image.proofs.Memories.{is_memory, image_is}
 use Rattle.elf_image.proofs.load.image.Goals as goal

@@ -1,4 +1,4 @@
-use Rattle.std.proofs.Common.{◌≡◌, ℕ, ◌+◌, ◌-◌, ◌*◌, ◌≤◌, ◌++◌, length, replicate, ap, ◌∙◌, arith}
+use Rattle.std.proofs.Common.{◌≡◌, ◌+◌, ◌-◌, ◌*◌, ◌++◌, length, replicate, ap, ◌∙◌, arith}
 use Rattle.machine_model.specs.Load.{segment_byte}
 use Rattle.elf_image.proofs.Laid.{filled, length_filled, page_bytes_are}
 use Rattle.elf_image.proofs.pages.bytes_of_page.Goals as goal

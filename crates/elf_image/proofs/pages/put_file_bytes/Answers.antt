@@ -1,4 +1,4 @@
-use Rattle.std.proofs.Common.{◌≡◌, ◌-◌, arith}
+use Rattle.std.proofs.Common.{◌-◌, arith}
 use Rattle.elf_image.proofs.Laid.{file_bytes_are}
 use Rattle.elf_image.proofs.pages.put_file_bytes.Goals as goal
 

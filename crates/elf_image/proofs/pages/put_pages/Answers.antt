@@ -1,5 +1,5 @@
-use Rattle.std.proofs.Common.{◌≡◌, ◌+◌, ◌-◌, ◌++◌, ◌∷◌, [], length, refl, ap, ◌∙◌, sym, arith, append_assoc}
-use Rattle.machine_model.specs.Load.{pages_from, first_page, page_count}
+use Rattle.std.proofs.Common.{◌≡◌, ◌+◌, ◌-◌, ◌∷◌, [], length, ap, ◌∙◌, arith, append_assoc}
+use Rattle.machine_model.specs.Load.{pages_from}
 use Rattle.elf_image.proofs.Laid.{length_page_bytes, pages_from_more, is_pages_of, laid}
 use Rattle.elf_image.proofs.pages.put_pages.Goals as goal
 

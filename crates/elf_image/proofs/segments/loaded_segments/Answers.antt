@@ -1,5 +1,5 @@
-use Rattle.std.proofs.Common.{◌≡◌, List, length, filter, Option, None, sym, ap, ◌∙◌, subst, rules}
-use Rattle.machine_model.specs.Load.{Segment, first_bad, is_loaded}
+use Rattle.std.proofs.Common.{◌≡◌, List, length, None, sym, subst}
+use Rattle.machine_model.specs.Load.{Segment, first_bad}
 use Rattle.elf_image.specs.Loadable.{AllLoadable}
 use Rattle.elf_image.proofs.Tables.{loadable_from_none}
 use Rattle.elf_image.proofs.segments.loaded_segments.Goals as goal

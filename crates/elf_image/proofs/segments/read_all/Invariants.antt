@@ -1,4 +1,4 @@
-use Rattle.std.proofs.Common.{◌≡◌, ◌+◌, ◌-◌, ◌*◌, ◌++◌}
+use Rattle.std.proofs.Common.{◌≡◌}
 use Rattle.machine_model.specs.Load.{segments_from}
 use Rattle.elf_image.proofs.segments.read_all.Given as goal
 
