@@ -1,5 +1,5 @@
 -- Laws of fields of bits.
-use Rattle.std.proofs.Common.{◌≡◌, ℕ, zero, suc, ◌+◌, ◌-◌, ◌*◌, ◌/◌, ◌%◌, ◌^◌, ◌<◌, ◌≤◌, refl, arith, sym, ◌∙◌, ap, bit_and, mod-eq_of_lt, add-mul, one-mul, mul-lt-mul_of_pos_right, nat_le, false, if◌then◌else◌}
+use Rattle.std.proofs.Common.{◌≡◌, ℕ, zero, suc, ◌+◌, ◌-◌, ◌*◌, ◌/◌, ◌%◌, ◌^◌, ◌<◌, ◌≤◌, arith, sym, ◌∙◌, ap, bit_and, mod-eq_of_lt, add-mul, one-mul, mul-lt-mul_of_pos_right, nat_le, false, if◌then◌else◌}
 use Rattle.std.proofs.lemmas.Bool.Decides.{nat_tests}
 use Rattle.machine_model.specs.Arithmetic.{field_taken, field_width, field_place, unsigned_field}
 use Rattle.std.proofs.lemmas.Nat.{pow_pos, pow-add, div-mul-add, and_mask}

@@ -1,6 +1,5 @@
 -- Loads and stores of each address form do what their operation does at the form's address.
 use Rattle.std.proofs.Common.{◌≡◌, ℕ, ◌*◌, ◌^◌, ◌%◌, [], ◌∷◌, refl, sym, subst, ap, ◌∙◌}
-use Rattle.word_rows.specs.Field.{flag_number}
 use Rattle.a64_code.specs.declared.LoadStoreByteOp.{LoadStoreByteOp}
 use Rattle.a64_code.specs.declared.LoadStoreByteOp.TheVariants.{Ldrb, Ldrsb, Strb}
 use Rattle.a64_code.specs.declared.LoadStoreOp.{LoadStoreOp}

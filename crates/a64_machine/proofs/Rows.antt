@@ -1,14 +1,13 @@
 -- Outside values, by computation: what instructions leave, worked out by hand from the manual's descriptions.
 use Rattle.std.proofs.Common.{◌≡◌, ℕ, zero, suc, List, [], ◌∷◌, Bool, true, false, take, replicate, refl}
-use Rattle.word_rows.specs.Row.{Instruction}
 use Rattle.guest_types.specs.Memory.{Memory, number_at}
 use Rattle.guest_types.specs.Elements.{Flags, nzcv}
 use Rattle.guest_types.specs.declared.memory.Perm.TheVariants.{Read, ReadWrite}
-use Rattle.a64_code.specs.Table.{Name, add_imm, sub_imm, subs_imm, add, sub, subs, orn, movz, movk, movn, madd, msub, lslv, lsrv, asrv, sbfm, ubfm, csel, csinc, b, b_cond, cbz, cbnz, ret, svc, brk, ldrb, ldrsb, ldrh, ldrsh, ldr_w, ldrsw, ldr_x, strb, str_x, ldr_x_register, strh_register}
+use Rattle.a64_code.specs.Table.{Name, add_imm, sub_imm, subs_imm, add, sub, subs, orn, movz, movk, movn, madd, msub, lslv, lsrv, asrv, csel, csinc, b, b_cond, cbz, cbnz, ret, svc, brk, ldrb, ldrsb, ldrh, ldrsh, ldr_w, ldrsw, ldr_x, strb, str_x, ldr_x_register, strh_register}
 use Rattle.machine_model.specs.declared.outcome.StopKind.{StopKind}
 use Rattle.machine_model.specs.declared.outcome.StopKind.TheVariants.{Read as ReadStop, Write as WriteStop, Call, Break}
-use Rattle.machine_model.specs.Arithmetic.{flags_of, signed_field, unsigned_field, holds, replaced, shifted}
-use Rattle.machine_model.specs.Machine.{State, Step, Went, Ended, Stopped, x_at}
+use Rattle.machine_model.specs.Arithmetic.{flags_of, signed_field, unsigned_field, holds, shifted}
+use Rattle.machine_model.specs.Machine.{State, Step, Went, Ended, Stopped}
 use Rattle.machine_model.specs.OneStep.{does}
 
 -- ---- the flags of a - b, N the highest of four bits

@@ -8,10 +8,15 @@ mod conditions;
 mod control;
 mod core_state;
 mod data;
+mod laws;
 mod load_store;
 mod one_step;
 mod registers;
 mod writes;
 
 pub use core_state::Core;
+pub use laws::flags_are_kept;
 pub use one_step::a64_step;
+
+#[cfg(test)]
+mod tests;

@@ -2,9 +2,12 @@
 
 ghost use Rattle.std.specs.Prelude.{◌≡◌};
 ghost use Rattle.a64_code.specs.Seen.{seen};
+ghost use Rattle.guest_types.specs.Memory.{Memory};
+ghost use Rattle.machine_model.specs.Machine.{Went};
 ghost use Rattle.machine_model.specs.OneStep.{does};
 ghost use Rattle.machine_model.specs.Answers.{IsAnswer};
 ghost use Rattle.a64_machine.specs.Cores.{Rest, state_of, HasVector, UnlessWent};
+ghost use Rattle.a64_machine.specs.Forms.{IsOnRegisters, IsData};
 
 use crate::control::{branch, branch_conditional, compare_branch, exception, return_to};
 use crate::core_state::Core;
@@ -28,102 +31,9 @@ pub fn a64_step(core: &mut Core, pages: &mut Pages, word: A64) -> Step
     ensures kept_memory { UnlessWent result (pages.new ≡ pages.old) }
 {
     match word {
-        A64::AddSubImmediate {
-            op,
-            rd,
-            rn,
-            imm12,
-            sh,
-        } => {
-            add_sub_immediate(core, op, rd, rn, imm12, sh);
-            Step::Went
+        A64::LoadStoreImmediate { op, rt, rn, imm12 } => {
+            wide_immediate(core, pages, op, rt, rn, imm12)
         }
-        A64::AddSubShifted {
-            op,
-            rd,
-            rn,
-            imm6,
-            rm,
-            shift,
-        } => {
-            add_sub_shifted(core, op, rd, rn, imm6, rm, shift);
-            Step::Went
-        }
-        A64::LogicalShifted {
-            op,
-            rd,
-            rn,
-            imm6,
-            rm,
-            shift,
-        } => {
-            logical(core, op, rd, rn, imm6, rm, shift);
-            Step::Went
-        }
-        A64::MoveWide { op, rd, imm16, hw } => {
-            move_wide(core, op, rd, imm16, hw);
-            Step::Went
-        }
-        A64::MultiplyAdd { op, rd, rn, ra, rm } => {
-            multiply_add(core, op, rd, rn, ra, rm);
-            Step::Went
-        }
-        A64::ShiftVariable { op, rd, rn, rm } => {
-            shift_variable(core, op, rd, rn, rm);
-            Step::Went
-        }
-        A64::Bitfield {
-            op,
-            rd,
-            rn,
-            imms,
-            immr,
-        } => {
-            bitfield(core, op, rd, rn, imms, immr);
-            Step::Went
-        }
-        A64::ConditionalSelect {
-            op,
-            rd,
-            rn,
-            cond,
-            rm,
-        } => {
-            conditional_select(core, op, rd, rn, cond, rm);
-            Step::Went
-        }
-        A64::Branch { imm26 } => {
-            branch(core, imm26);
-            Step::Went
-        }
-        A64::BranchConditional { cond, imm19 } => {
-            branch_conditional(core, cond, imm19);
-            Step::Went
-        }
-        A64::CompareBranch { op, rt, imm19 } => {
-            compare_branch(core, op, rt, imm19);
-            Step::Went
-        }
-        A64::Ret { rn } => {
-            return_to(core, rn);
-            Step::Went
-        }
-        A64::Exception { op, imm16 } => exception(core, op, imm16),
-        A64::Nop => {
-            core.go_on();
-            Step::Went
-        }
-        A64::Umov { rd, vn: _ } => {
-            move_from_vector(core, rd);
-            Step::Went
-        }
-        A64::LoadStoreByteImmediate { op, rt, rn, imm12 } => byte_immediate(
-            core, pages, op, rt, rn, imm12,
-        ),
-        A64::LoadStoreImmediate { op, rt, rn, imm12 } => wide_immediate(
-            core, pages, op, rt, rn, imm12,
-        ),
-        A64::LoadStoreByteRegister { op, rt, rn, rm } => byte_register(core, pages, op, rt, rn, rm),
         A64::LoadStoreRegister {
             op,
             rt,
@@ -131,5 +41,82 @@ pub fn a64_step(core: &mut Core, pages: &mut Pages, word: A64) -> Step
             scaled,
             rm,
         } => wide_register(core, pages, op, rt, rn, scaled, rm),
+        A64::LoadStoreByteImmediate { op, rt, rn, imm12 } => {
+            byte_immediate(core, pages, op, rt, rn, imm12)
+        }
+        A64::LoadStoreByteRegister { op, rt, rn, rm } => byte_register(core, pages, op, rt, rn, rm),
+        A64::Exception { op, imm16 } => exception(core, op, imm16),
+        _ => {
+            on_registers(core, word);
+            Step::Went
+        }
+    }
+}
+
+/// An instruction that is no load, no store and no exception.
+#[inline(always)]
+fn on_registers(core: &mut Core, word: A64)
+    ensures { (memory : Memory) (rest : Rest) → IsOnRegisters word → HasVector word core.old rest →
+        does (seen word) (state_of core.old memory rest) ≡ Went (state_of core.new memory rest) }
+{
+    match word {
+        A64::Branch { imm26 } => branch(core, imm26),
+        A64::BranchConditional { cond, imm19 } => branch_conditional(core, cond, imm19),
+        A64::CompareBranch { op, rt, imm19 } => compare_branch(core, op, rt, imm19),
+        A64::Ret { rn } => return_to(core, rn),
+        A64::Nop => core.go_on(),
+        _ => data(core, word),
+    }
+}
+
+/// An instruction that computes a register from registers.
+#[inline(always)]
+fn data(core: &mut Core, word: A64)
+    ensures { (memory : Memory) (rest : Rest) → IsData word → HasVector word core.old rest →
+        does (seen word) (state_of core.old memory rest) ≡ Went (state_of core.new memory rest) }
+{
+    match word {
+        A64::AddSubImmediate {
+            op,
+            rd,
+            rn,
+            imm12,
+            sh,
+        } => add_sub_immediate(core, op, rd, rn, imm12, sh),
+        A64::AddSubShifted {
+            op,
+            rd,
+            rn,
+            imm6,
+            rm,
+            shift,
+        } => add_sub_shifted(core, op, rd, rn, imm6, rm, shift),
+        A64::LogicalShifted {
+            op,
+            rd,
+            rn,
+            imm6,
+            rm,
+            shift,
+        } => logical(core, op, rd, rn, imm6, rm, shift),
+        A64::MoveWide { op, rd, imm16, hw } => move_wide(core, op, rd, imm16, hw),
+        A64::MultiplyAdd { op, rd, rn, ra, rm } => multiply_add(core, op, rd, rn, ra, rm),
+        A64::ShiftVariable { op, rd, rn, rm } => shift_variable(core, op, rd, rn, rm),
+        A64::Bitfield {
+            op,
+            rd,
+            rn,
+            imms,
+            immr,
+        } => bitfield(core, op, rd, rn, imms, immr),
+        A64::ConditionalSelect {
+            op,
+            rd,
+            rn,
+            cond,
+            rm,
+        } => conditional_select(core, op, rd, rn, cond, rm),
+        A64::Umov { rd, vn: _ } => move_from_vector(core, rd),
+        _ => {}
     }
 }
