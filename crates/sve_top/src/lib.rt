@@ -3,4 +3,6 @@
 
 mod compile;
 pub mod refusal;
+#[cfg(test)]
+mod tests;
 pub mod top;
