@@ -1,9 +1,8 @@
 -- Runs of pages.
-use Rattle.std.proofs.Common.{◌≡◌, ◌≢◌, ℕ, zero, suc, ◌+◌, ◌<◌, ◌≤◌, List, [], ◌∷◌, ◌++◌, length, Option, None, refl, sym, ap, ◌∙◌, subst, arith}
-use Rattle.std.specs.List.{All}
+use Rattle.std.proofs.Common.{◌≡◌, ◌≢◌, ℕ, ◌+◌, ◌<◌, ◌≤◌, [], ◌∷◌, ◌++◌, None, refl, sym, ap, ◌∙◌, subst, arith}
 use Rattle.std.proofs.lemmas.List.{length_push}
 use Rattle.std.proofs.lemmas.List.Elements.{All-nil, All-weaker, All-push}
-use Rattle.guest_types.specs.Memory.{Page, Memory, IsPage, IsMemory, page_at, DoNotMeet}
+use Rattle.guest_types.specs.Memory.{Page, Memory, IsPage, page_at, DoNotMeet}
 use Rattle.guest_types.proofs.Merges.{empty_memory, IsMemory-push, page_at-absent}
 use Rattle.paged_memory.specs.Runs.{IsRun}
 

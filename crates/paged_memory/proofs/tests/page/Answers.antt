@@ -1,4 +1,4 @@
-use Rattle.std.proofs.Common.{◌≡◌, ◌<◌, ◌^◌, ◌∙◌, length, sym, ap, subst, arith, IfSome, All}
+use Rattle.std.proofs.Common.{◌≡◌, ◌<◌, ◌∙◌, length, sym, ap, subst, arith, IfSome, All}
 use Rattle.paged_memory.proofs.tests.page.Goals as goal
 
 pub returns-clause-valid : goal.returns-clause-valid

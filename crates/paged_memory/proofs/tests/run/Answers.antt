@@ -1,4 +1,4 @@
-use Rattle.std.proofs.Common.{◌≡◌, ◌+◌, sym, subst}
+use Rattle.std.proofs.Common.{◌+◌, sym, subst}
 use Rattle.guest_types.specs.Memory.{Memory}
 use Rattle.paged_memory.specs.Runs.{IsRun}
 use Rattle.paged_memory.proofs.RunLaws.{run-push}
