@@ -1,10 +1,10 @@
 -- The tokens of tokens joined by single spaces are these tokens.
-use Rattle.std.proofs.Common.{◌≡◌, ℕ, zero, suc, ◌+◌, ◌*◌, ◌-◌, ◌≤◌, ◌<◌, ◌^◌, List, [], ◌∷◌, ◌++◌, length, take, drop, Bool, true, false, cond, Option, Some, None, Result, Ok, Err, refl, sym, ap, ap₂, subst, ◌∙◌, arith, eqb, leb, ltb}
+use Rattle.std.proofs.Common.{◌≡◌, ℕ, zero, suc, ◌+◌, ◌*◌, ◌-◌, ◌≤◌, ◌<◌, ◌^◌, List, [], ◌∷◌, ◌++◌, length, Bool, true, false, Option, Some, None, Ok, refl, sym, ap, ap₂, ◌∙◌, arith, eqb, ltb}
 use Rattle.std.specs.Prelude.{IsTrue, ◌&&◌, is_none, decimal}
 use Rattle.std.specs.List.{prefix_len, list_all, fold}
 use Rattle.std.specs.Char.{digit_value as std_value}
 use Rattle.std.specs.Str.Parse.{AllDigits, digits_value_after}
-use Rattle.std.proofs.lemmas.Bool.{ltb-true, lt-ltb}
+use Rattle.std.proofs.lemmas.Bool.{ltb-true}
 use Rattle.std.proofs.lemmas.Bool.Decides.{nat_tests}
 use Rattle.std.proofs.lemmas.Fmt.{decimal_is_IsNumeral_wide}
 use Rattle.std.proofs.lemmas.Str.Parse.{tells_digits}
@@ -18,7 +18,7 @@ use Rattle.kernel_tree.specs.declared.ops.UpdateOp.TheVariants as update
 use Rattle.kernel_tree.specs.declared.mark.Mark.{Mark}
 use Rattle.kernel_tree.specs.declared.mark.Mark.TheVariants as mark
 use Rattle.kernel_tree.specs.Word.{Word, IsName, IsNumber, IsType, IsCompare, IsUpdate, IsMark}
-use Rattle.kernel_tree.specs.Tokens.{is_digit, is_hex_digit, is_letter, is_name_byte, is_blank, is_run, is_name, reserved_type, reserved_mark, by_reserved, run_word, digit_value, appended, value_of, begins_hex, Piece, Token, piece, run_from, run_piece, literal, decimal_from, number_piece, before, by_piece, scan, tokens_of, is_token}
+use Rattle.kernel_tree.specs.Tokens.{is_digit, is_hex_digit, is_letter, is_name_byte, is_blank, is_run, is_name, reserved_type, reserved_mark, by_reserved, digit_value, appended, value_of, begins_hex, Piece, Token, piece, run_from, run_piece, literal, decimal_from, number_piece, before, by_piece, scan, tokens_of, is_token}
 use Rattle.kernel_tree.specs.Printing.{type_text, compare_text, update_text, mark_text, word_text, spaced, joined_text}
 use Rattle.kernel_tree.proofs.Well.{Tokens}
 

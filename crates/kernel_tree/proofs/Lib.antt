@@ -6,3 +6,6 @@ pub mod Printed
 pub mod Lexed
 pub mod PrintedTokens
 pub mod PrintedKernel
+mod Examples
+pub mod OneTerm
+pub mod OneTree

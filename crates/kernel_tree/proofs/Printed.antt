@@ -1,13 +1,11 @@
 -- What is printed is spelled so.
-use Rattle.std.proofs.Common.{◌≡◌, ℕ, zero, suc, List, [], ◌∷◌, Bool, true, false, Option, Some, None, refl, subst}
+use Rattle.std.proofs.Common.{◌≡◌, ℕ, zero, suc, List, ◌∷◌, Bool, true, false, Some, None, refl, subst}
 use Rattle.std.specs.Prelude.{ℤ, pos, negsuc}
-use Rattle.kernel_tree.specs.declared.ops.Ty.{Ty}
 use Rattle.kernel_tree.specs.declared.ops.UnaryOp.{UnaryOp}
 use Rattle.kernel_tree.specs.declared.ops.UnaryOp.TheVariants as unary
 use Rattle.kernel_tree.specs.declared.ops.BinaryOp.{BinaryOp}
 use Rattle.kernel_tree.specs.declared.ops.BinaryOp.TheVariants as binary
 use Rattle.kernel_tree.specs.declared.ops.CompareOp.{CompareOp}
-use Rattle.kernel_tree.specs.declared.ast.Shape.TheVariants as shape
 use Rattle.kernel_tree.specs.declared.place.Place.{Place}
 use Rattle.kernel_tree.specs.declared.place.Place.TheVariants as site
 use Rattle.kernel_tree.specs.declared.mark.Mark.{Mark}
@@ -17,11 +15,11 @@ use Rattle.kernel_tree.specs.declared.mark.Joint.TheVariants as joint
 use Rattle.kernel_tree.specs.declared.mark.Operator.TheVariants as operator
 use Rattle.kernel_tree.specs.declared.mark.Opening.TheVariants as opening
 use Rattle.kernel_tree.specs.declared.mark.Sign.TheVariants as sign
-use Rattle.kernel_tree.specs.Word.{Word, IsName, IsNumber, IsType, IsCompare, IsUpdate, IsMark}
+use Rattle.kernel_tree.specs.Word.{Word, IsNumber, IsType, IsCompare, IsMark}
 use Rattle.kernel_tree.specs.Plain.{Term, Literal, Variable, Element, Unary, Operation, Shift, Conversion, Choice, Comparison, Both, Either, Not}
-use Rattle.kernel_tree.specs.Grammar.{Spells, number, name, element, group, pair, absolute, choice, negative, prefix, up, conversion, shift, operation, comparison, operator_of, level_of, opening_of_mark, joined, number_at, number_behind}
+use Rattle.kernel_tree.specs.Grammar.{Spells, number, name, element, group, pair, absolute, choice, negative, prefix, up, conversion, shift, operation, comparison, operator_of, level_of, opening_of_mark, joined, number_at}
 use Rattle.kernel_tree.proofs.Well.{Well, IsCount}
-use Rattle.kernel_tree.specs.Printing.{opened, closed, number_opened, number_closed, print_literal, print_count, mark_of_binary, mark_of_call, mark_of_shift, print_between, print_call, print_binary, print_unary, print_term}
+use Rattle.kernel_tree.specs.Printing.{opened, closed, number_opened, number_closed, print_literal, print_count, mark_of_binary, mark_of_shift, print_between, print_call, print_binary, print_unary, print_term}
 
 -- the level that a place asks for
 abbrev level_at : Place → ℕ

@@ -1,5 +1,5 @@
 -- What is printed of a kernel has that kernel as its tree, and its text can be read back.
-use Rattle.std.proofs.Common.{◌≡◌, ℕ, zero, suc, ◌≤◌, List, [], ◌∷◌, length, Bool, true, false, Option, Some, None, refl, arith}
+use Rattle.std.proofs.Common.{ℕ, zero, suc, ◌≤◌, List, [], ◌∷◌, length, Bool, true, false, Option, Some, None, arith}
 use Rattle.kernel_tree.specs.declared.ops.Ty.{Ty}
 use Rattle.kernel_tree.specs.declared.ast.Shape.{Shape}
 use Rattle.kernel_tree.specs.declared.ast.Shape.TheVariants as shape

@@ -1,5 +1,5 @@
 -- What is printed of a kernel is a list of tokens.
-use Rattle.std.proofs.Common.{◌≡◌, List, [], ◌∷◌, Bool, true, false, Option, Some, None, refl}
+use Rattle.std.proofs.Common.{List, [], ◌∷◌, Bool, true, false, Option, Some, None, refl}
 use Rattle.std.specs.Prelude.{ℤ, pos, negsuc, IsTrue}
 use Rattle.kernel_tree.specs.declared.ops.Ty.{Ty}
 use Rattle.kernel_tree.specs.declared.ops.UnaryOp.{UnaryOp}
@@ -13,7 +13,7 @@ use Rattle.kernel_tree.specs.declared.mark.Mark.{Mark}
 use Rattle.kernel_tree.specs.Word.{Word, IsCompare, IsMark}
 use Rattle.kernel_tree.specs.Tokens.{is_token}
 use Rattle.kernel_tree.specs.Plain.{Term, Literal, Variable, Element, Unary, Operation, Shift, Conversion, Choice, Comparison, Both, Either, Not, Action, Define, Put, Update, Choose, Leave, Block, Done, Then, Otherwise, Nothing, Else, Parameter, Accumulator, Turns, Returned, Program}
-use Rattle.kernel_tree.specs.Printing.{opened, closed, number_opened, number_closed, print_literal, print_count, mark_of_binary, mark_of_call, mark_of_shift, print_between, print_call, print_binary, print_unary, print_term, print_type, print_action, print_block, print_otherwise, print_shape, print_param, print_others, print_params, print_vars, print_turns, print_arrow, print_answer, canonical_words}
+use Rattle.kernel_tree.specs.Printing.{opened, closed, number_opened, number_closed, print_literal, print_count, mark_of_binary, print_between, print_binary, print_unary, print_term, print_type, print_action, print_block, print_otherwise, print_shape, print_others, print_params, print_vars, print_turns, print_arrow, print_answer, canonical_words}
 use Rattle.kernel_tree.proofs.Well.{Tokens, IsCount, Well, WellAction, WellBlock, WellOtherwise, WellParams, WellVars, WellTurns, WellAnswer, WellProgram}
 
 opened_tokens : (place : Place) (rest : List Word) → Tokens rest → Tokens (opened place rest)

@@ -1,10 +1,10 @@
 -- A row of statements as a list.
-use Rattle.std.proofs.Common.{◌≡◌, ℕ, List, [], ◌∷◌, Option, None, Some, Vec, Global, refl, ap, sym, ◌∙◌}
-use Rattle.kernel_tree.specs.declared.ast.Stmt.{Stmt, Row_of-Stmt, end_of-Stmt, more_of-Stmt, items-the_row-Stmt, items_hidden-the_row-Stmt-0, the_lemmas}
+use Rattle.std.proofs.Common.{◌≡◌, Option, None, Some, Vec, Global, refl, ap, ◌∙◌}
+use Rattle.kernel_tree.specs.declared.ast.Stmt.{Stmt, Row_of-Stmt, end_of-Stmt, more_of-Stmt, items-the_row-Stmt, items_hidden-the_row-Stmt-0}
 use Rattle.kernel_tree.specs.declared.ast.Stmt.TheBlock.{hidden-the_row-Stmt-0}
 use Rattle.kernel_tree.specs.declared.ast.Stmt.TheVariants as stmt
 use Rattle.kernel_tree.specs.declared.ast.Expr.{Expr}
-use Rattle.kernel_tree.specs.Plain.{Block, Otherwise, Done, Then, Choose, Nothing, Else, term_of, action_of, row_of, block_of}
+use Rattle.kernel_tree.specs.Plain.{Block, Otherwise, Then, Choose, Nothing, Else, term_of, action_of, row_of, block_of}
 
 pub rows : (m : _) (k : Row_of-Stmt m) → row_of k ≡ block_of (items-the_row-Stmt m k)
 rows m end_of-Stmt = refl

@@ -1,5 +1,5 @@
 -- What a tree of tokens holds: names that are names, numbers in range, breaks in the loop's own block alone.
-use Rattle.std.proofs.Common.{◌≡◌, ℕ, zero, suc, ◌≤◌, List, [], ◌∷◌, length, Bool, true, false, Option, Some, None, refl, arith, subst}
+use Rattle.std.proofs.Common.{◌≡◌, ℕ, zero, suc, ◌≤◌, List, [], ◌∷◌, length, Bool, true, false, Option, Some, None, refl, arith}
 use Rattle.std.specs.Prelude.{ℤ, pos, negsuc, neg_ℤ, IsTrue, ◌&&◌, ◌^◌, nat_lt, unsigned_abs}
 use Rattle.kernel_tree.specs.declared.mark.Joint.{Joint}
 use Rattle.kernel_tree.specs.declared.mark.Joint.TheVariants as joint

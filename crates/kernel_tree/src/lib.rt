@@ -5,6 +5,7 @@
 pub mod ast;
 pub mod checked;
 pub mod fault;
+pub mod laws;
 pub mod lexeme;
 pub mod make;
 pub mod mark;
@@ -19,3 +20,6 @@ pub use checked::Checked;
 pub use name::Name;
 pub use ops::{BinaryOp, CompareOp, Ty, UnaryOp, UpdateOp};
 pub use print::print_kernel;
+
+#[cfg(test)]
+mod tests;

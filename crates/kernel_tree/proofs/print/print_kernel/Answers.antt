@@ -1,4 +1,4 @@
-use Rattle.std.proofs.Common.{◌≡◌, List, [], ◌++◌, ℕ, sym, ap, subst, ◌∙◌}
+use Rattle.std.proofs.Common.{List, [], ◌++◌, ℕ, sym, ap, subst, ◌∙◌}
 use Rattle.std.specs.Prelude.{string_bytes}
 use Rattle.std.proofs.lemmas.List.{append-nil}
 use Rattle.kernel_tree.specs.Plain.{program_of}
