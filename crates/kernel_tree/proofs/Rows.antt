@@ -4,7 +4,7 @@ use Rattle.kernel_tree.specs.declared.ast.Stmt.{Stmt, Row_of-Stmt, end_of-Stmt, 
 use Rattle.kernel_tree.specs.declared.ast.Stmt.TheBlock.{hidden-the_row-Stmt-0}
 use Rattle.kernel_tree.specs.declared.ast.Stmt.TheVariants as stmt
 use Rattle.kernel_tree.specs.declared.ast.Expr.{Expr}
-use Rattle.kernel_tree.specs.Plain.{Block, Done, Then, Choose, Nothing, Else, term_of, action_of, row_of, block_of}
+use Rattle.kernel_tree.specs.Plain.{Block, Otherwise, Done, Then, Choose, Nothing, Else, term_of, action_of, row_of, block_of}
 
 pub rows : (m : _) (k : Row_of-Stmt m) → row_of k ≡ block_of (items-the_row-Stmt m k)
 rows m end_of-Stmt = refl
@@ -19,3 +19,12 @@ choose-is c v = ap (λ (b : Block). Choose (term_of c) b Nothing) (held_rows v)
 
 pub choose_else-is : (c : Expr) (v w : Vec Stmt Global) → action_of (stmt.If c v (Some w)) ≡ Choose (term_of c) (block_of v.items) (Else (block_of w.items))
 choose_else-is c v w = ap (λ (b : Block). Choose (term_of c) b (Else (row_of (hidden-the_row-Stmt-0 w)))) (held_rows v) ∙ ap (λ (b : Block). Choose (term_of c) (block_of v.items) (Else b)) (held_rows w)
+
+abbrev pub otherwise_of : Option (Vec Stmt Global) → Otherwise
+otherwise_of None = Nothing
+otherwise_of (Some v) = Else (block_of v.items)
+
+-- a choice, whether it has a second block or not
+pub if-is : (c : Expr) (v : Vec Stmt Global) (o : Option (Vec Stmt Global)) → action_of (stmt.If c v o) ≡ Choose (term_of c) (block_of v.items) (otherwise_of o)
+if-is c v None = choose-is c v
+if-is c v (Some w) = choose_else-is c v w

@@ -8,4 +8,5 @@ pub mod Limits
 pub mod Wrap
 pub mod Typing
 pub mod Printing
+pub mod Text
 pub mod Checked

@@ -14,38 +14,34 @@ use Rattle.kernel_tree.specs.declared.ast.Shape.{Shape}
 use Rattle.kernel_tree.specs.declared.ast.Shape.TheVariants as shape
 use Rattle.kernel_tree.specs.declared.mark.Mark.{Mark}
 use Rattle.kernel_tree.specs.declared.mark.Mark.TheVariants as mark
+use Rattle.kernel_tree.specs.declared.place.Place.{Place}
+use Rattle.kernel_tree.specs.declared.place.Place.TheVariants as site
 use Rattle.kernel_tree.specs.Word.{Word, IsName, IsNumber, IsType, IsCompare, IsUpdate, IsMark}
 use Rattle.kernel_tree.specs.Plain.{Term, Literal, Variable, Element, Unary, Operation, Shift, Conversion, Choice, Comparison, Both, Either, Not, Action, Define, Put, Update, Choose, Leave, Block, Done, Then, Otherwise, Nothing, Else, Parameter, Accumulator, Turns, Returned, Program}
 
 -- ---- expressions
 
--- where an expression stands: by itself, as an operand, or behind a minus
-pub data Place : Type 0 where
-  Alone : Place
-  Operand : Place
-  Negated : Place
-
 -- parentheses open where an operator or a negative literal is an operand, and close behind it
-abbrev pub opened : Place → List Word → List Word
-opened Alone rest = rest
-opened Operand rest = IsMark mark.OpenParen ∷ rest
-opened Negated rest = IsMark mark.OpenParen ∷ rest
+unfoldable pub opened : Place → List Word → List Word
+opened site.Alone rest = rest
+opened site.Operand rest = IsMark mark.OpenParen ∷ rest
+opened site.Negated rest = IsMark mark.OpenParen ∷ rest
 
-abbrev pub closed : Place → List Word → List Word
-closed Alone rest = rest
-closed Operand rest = IsMark mark.CloseParen ∷ rest
-closed Negated rest = IsMark mark.CloseParen ∷ rest
+unfoldable pub closed : Place → List Word → List Word
+closed site.Alone rest = rest
+closed site.Operand rest = IsMark mark.CloseParen ∷ rest
+closed site.Negated rest = IsMark mark.CloseParen ∷ rest
 
 -- a literal that is not negative stands in parentheses behind a minus alone
-abbrev pub number_opened : Place → List Word → List Word
-number_opened Alone rest = rest
-number_opened Operand rest = rest
-number_opened Negated rest = IsMark mark.OpenParen ∷ rest
+unfoldable pub number_opened : Place → List Word → List Word
+number_opened site.Alone rest = rest
+number_opened site.Operand rest = rest
+number_opened site.Negated rest = IsMark mark.OpenParen ∷ rest
 
-abbrev pub number_closed : Place → List Word → List Word
-number_closed Alone rest = rest
-number_closed Operand rest = rest
-number_closed Negated rest = IsMark mark.CloseParen ∷ rest
+unfoldable pub number_closed : Place → List Word → List Word
+number_closed site.Alone rest = rest
+number_closed site.Operand rest = rest
+number_closed site.Negated rest = IsMark mark.CloseParen ∷ rest
 
 abbrev pub print_literal : ℤ → Place → List Word → List Word
 print_literal (pos n) place rest = number_opened place (IsNumber n ∷ number_closed place rest)
@@ -77,33 +73,33 @@ mark_of_shift false = mark.ShiftRight
 
 -- an operator and its operands, in parentheses where it is an operand itself
 abbrev pub print_between : (Place → List Word → List Word) → Word → (Place → List Word → List Word) → Place → List Word → List Word
-print_between a w b place rest = opened place (a Operand (w ∷ b Operand (closed place rest)))
+print_between a w b place rest = opened place (a site.Operand (w ∷ b site.Operand (closed place rest)))
 
 abbrev pub print_call : Mark → (Place → List Word → List Word) → (Place → List Word → List Word) → List Word → List Word
-print_call m a b rest = IsMark m ∷ IsMark mark.OpenParen ∷ a Alone (IsMark mark.Comma ∷ b Alone (IsMark mark.CloseParen ∷ rest))
+print_call m a b rest = IsMark m ∷ IsMark mark.OpenParen ∷ a site.Alone (IsMark mark.Comma ∷ b site.Alone (IsMark mark.CloseParen ∷ rest))
 
 abbrev pub print_binary : Option Mark → BinaryOp → (Place → List Word → List Word) → (Place → List Word → List Word) → Place → List Word → List Word
 print_binary (Some m) op a b place rest = print_between a (IsMark m) b place rest
 print_binary None op a b place rest = print_call (mark_of_call op) a b rest
 
 abbrev pub print_unary : UnaryOp → (Place → List Word → List Word) → Place → List Word → List Word
-print_unary unary.Neg e place rest = opened place (IsMark mark.Minus ∷ e Negated (closed place rest))
-print_unary unary.Flip e place rest = opened place (IsMark mark.Tilde ∷ e Operand (closed place rest))
-print_unary unary.Abs e place rest = IsMark mark.Abs ∷ IsMark mark.OpenParen ∷ e Alone (IsMark mark.CloseParen ∷ rest)
+print_unary unary.Neg e place rest = opened place (IsMark mark.Minus ∷ e site.Negated (closed place rest))
+print_unary unary.Flip e place rest = opened place (IsMark mark.Tilde ∷ e site.Operand (closed place rest))
+print_unary unary.Abs e place rest = IsMark mark.Abs ∷ IsMark mark.OpenParen ∷ e site.Alone (IsMark mark.CloseParen ∷ rest)
 
 abbrev pub print_term : Term → Place → List Word → List Word
 print_term (Literal n) place rest = print_literal n place rest
 print_term (Variable x) place rest = IsName x ∷ rest
-print_term (Element a i) place rest = IsName a ∷ IsMark mark.OpenBracket ∷ print_term i Alone (IsMark mark.CloseBracket ∷ rest)
+print_term (Element a i) place rest = IsName a ∷ IsMark mark.OpenBracket ∷ print_term i site.Alone (IsMark mark.CloseBracket ∷ rest)
 print_term (Unary op e) place rest = print_unary op (print_term e) place rest
 print_term (Operation op a b) place rest = print_binary (mark_of_binary op) op (print_term a) (print_term b) place rest
-print_term (Shift left e n) place rest = opened place (print_term e Operand (IsMark (mark_of_shift left) ∷ print_count n (closed place rest)))
-print_term (Conversion e t) place rest = opened place (print_term e Operand (IsMark mark.As ∷ IsType t ∷ closed place rest))
-print_term (Choice c a b) place rest = IsMark mark.Select ∷ IsMark mark.OpenParen ∷ print_term c Alone (IsMark mark.Comma ∷ print_term a Alone (IsMark mark.Comma ∷ print_term b Alone (IsMark mark.CloseParen ∷ rest)))
+print_term (Shift left e n) place rest = opened place (print_term e site.Operand (IsMark (mark_of_shift left) ∷ print_count n (closed place rest)))
+print_term (Conversion e t) place rest = opened place (print_term e site.Operand (IsMark mark.As ∷ IsType t ∷ closed place rest))
+print_term (Choice c a b) place rest = IsMark mark.Select ∷ IsMark mark.OpenParen ∷ print_term c site.Alone (IsMark mark.Comma ∷ print_term a site.Alone (IsMark mark.Comma ∷ print_term b site.Alone (IsMark mark.CloseParen ∷ rest)))
 print_term (Comparison op a b) place rest = print_between (print_term a) (IsCompare op) (print_term b) place rest
 print_term (Both a b) place rest = print_between (print_term a) (IsMark mark.AndAnd) (print_term b) place rest
 print_term (Either a b) place rest = print_between (print_term a) (IsMark mark.OrOr) (print_term b) place rest
-print_term (Not e) place rest = opened place (IsMark mark.Bang ∷ print_term e Operand (closed place rest))
+print_term (Not e) place rest = opened place (IsMark mark.Bang ∷ print_term e site.Operand (closed place rest))
 
 -- ---- statements
 
@@ -114,11 +110,11 @@ print_type (Some t) rest = IsMark mark.Colon ∷ IsType t ∷ rest
 -- a statement, and statements with the brace behind them
 abbrev mutual
   pub print_action : Action → List Word → List Word
-  print_action (Define x t e) rest = IsMark mark.Let ∷ IsName x ∷ print_type t (IsMark mark.Equals ∷ print_term e Alone (IsMark mark.Semicolon ∷ rest))
-  print_action (Put a i e) rest = IsName a ∷ IsMark mark.OpenBracket ∷ print_term i Alone (IsMark mark.CloseBracket ∷ IsMark mark.Equals ∷ print_term e Alone (IsMark mark.Semicolon ∷ rest))
-  print_action (Update x op e) rest = IsName x ∷ IsUpdate op ∷ print_term e Alone (IsMark mark.Semicolon ∷ rest)
-  print_action (Choose c b d) rest = IsMark mark.If ∷ print_term c Alone (IsMark mark.OpenBrace ∷ print_block b (print_otherwise d rest))
-  print_action (Leave c) rest = IsMark mark.Break ∷ IsMark mark.If ∷ print_term c Alone (IsMark mark.Semicolon ∷ rest)
+  print_action (Define x t e) rest = IsMark mark.Let ∷ IsName x ∷ print_type t (IsMark mark.Equals ∷ print_term e site.Alone (IsMark mark.Semicolon ∷ rest))
+  print_action (Put a i e) rest = IsName a ∷ IsMark mark.OpenBracket ∷ print_term i site.Alone (IsMark mark.CloseBracket ∷ IsMark mark.Equals ∷ print_term e site.Alone (IsMark mark.Semicolon ∷ rest))
+  print_action (Update x op e) rest = IsName x ∷ IsUpdate op ∷ print_term e site.Alone (IsMark mark.Semicolon ∷ rest)
+  print_action (Choose c b d) rest = IsMark mark.If ∷ print_term c site.Alone (IsMark mark.OpenBrace ∷ print_block b (print_otherwise d rest))
+  print_action (Leave c) rest = IsMark mark.Break ∷ IsMark mark.If ∷ print_term c site.Alone (IsMark mark.Semicolon ∷ rest)
 
   pub print_block : Block → List Word → List Word
   print_block Done rest = IsMark mark.CloseBrace ∷ rest
@@ -148,7 +144,7 @@ print_params (p ∷ ps) rest = print_param p (print_others ps rest)
 
 abbrev pub print_vars : List Accumulator → List Word → List Word
 print_vars [] rest = rest
-print_vars (v ∷ vs) rest = IsMark mark.Var ∷ IsName v.name ∷ IsMark mark.Colon ∷ IsType v.type ∷ IsMark mark.Equals ∷ print_term v.init Alone (IsMark mark.Semicolon ∷ print_vars vs rest)
+print_vars (v ∷ vs) rest = IsMark mark.Var ∷ IsName v.name ∷ IsMark mark.Colon ∷ IsType v.type ∷ IsMark mark.Equals ∷ print_term v.init site.Alone (IsMark mark.Semicolon ∷ print_vars vs rest)
 
 abbrev pub print_turns : Option Turns → List Word → List Word
 print_turns None rest = rest
@@ -161,7 +157,7 @@ print_arrow (Some a) rest = IsMark mark.Arrow ∷ IsType a.type ∷ rest
 
 abbrev pub print_answer : Option Returned → List Word → List Word
 print_answer None rest = rest
-print_answer (Some a) rest = IsMark mark.Return ∷ print_term a.value Alone (IsMark mark.Semicolon ∷ rest)
+print_answer (Some a) rest = IsMark mark.Return ∷ print_term a.value site.Alone (IsMark mark.Semicolon ∷ rest)
 
 -- the canonical tokens of a kernel behind its first one, which is `kernel`
 abbrev pub kernel_words : Program → List Word
@@ -199,21 +195,25 @@ update_text update.Xor = codes "^="
 update_text update.Min = codes "min="
 update_text update.Max = codes "max="
 
+-- a reserved word that is no type, and nothing for a symbol
+abbrev pub reserved_text : Mark → List ℕ
+reserved_text mark.Kernel = codes "kernel"
+reserved_text mark.Var = codes "var"
+reserved_text mark.For = codes "for"
+reserved_text mark.In = codes "in"
+reserved_text mark.Let = codes "let"
+reserved_text mark.If = codes "if"
+reserved_text mark.Else = codes "else"
+reserved_text mark.Break = codes "break"
+reserved_text mark.Return = codes "return"
+reserved_text mark.Select = codes "select"
+reserved_text mark.Min = codes "min"
+reserved_text mark.Max = codes "max"
+reserved_text mark.Abs = codes "abs"
+reserved_text mark.As = codes "as"
+reserved_text _ = []
+
 abbrev pub mark_text : Mark → List ℕ
-mark_text mark.Kernel = codes "kernel"
-mark_text mark.Var = codes "var"
-mark_text mark.For = codes "for"
-mark_text mark.In = codes "in"
-mark_text mark.Let = codes "let"
-mark_text mark.If = codes "if"
-mark_text mark.Else = codes "else"
-mark_text mark.Break = codes "break"
-mark_text mark.Return = codes "return"
-mark_text mark.Select = codes "select"
-mark_text mark.Min = codes "min"
-mark_text mark.Max = codes "max"
-mark_text mark.Abs = codes "abs"
-mark_text mark.As = codes "as"
 mark_text mark.OpenParen = codes "("
 mark_text mark.CloseParen = codes ")"
 mark_text mark.OpenBracket = codes "["
@@ -238,6 +238,7 @@ mark_text mark.AndAnd = codes "&&"
 mark_text mark.OrOr = codes "||"
 mark_text mark.Tilde = codes "~"
 mark_text mark.Bang = codes "!"
+mark_text m = reserved_text m
 
 -- the text of a token, a number in decimal
 abbrev pub word_text : Word → List ℕ
@@ -249,7 +250,7 @@ word_text (IsUpdate op) = update_text op
 word_text (IsMark m) = mark_text m
 
 -- tokens with a space before each
-abbrev pub spaced : List Word → List ℕ
+unfoldable pub spaced : List Word → List ℕ
 spaced [] = []
 spaced (w ∷ ws) = 32 ∷ word_text w ++ spaced ws
 

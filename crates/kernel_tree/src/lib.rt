@@ -10,6 +10,7 @@ pub mod make;
 pub mod mark;
 pub mod name;
 pub mod ops;
+mod place;
 mod print;
 pub mod token;
 
@@ -17,3 +18,4 @@ pub use ast::{Answer, Expr, Kernel, Loop, Param, Shape, Stmt, Var};
 pub use checked::Checked;
 pub use name::Name;
 pub use ops::{BinaryOp, CompareOp, Ty, UnaryOp, UpdateOp};
+pub use print::print_kernel;

@@ -1,70 +1,56 @@
 //! The canonical text of a kernel: its tokens joined by single spaces.
 
-ghost use Rattle.std.specs.Prelude.{◌≡◌, ◌∷◌, ◌++◌, ℕ, List, IfOk, option_map, string_bytes, option_copied, Option};
-ghost use Rattle.std.specs.Int.{cast_unsigned};
-ghost use Rattle.kernel_tree.specs.Word.{Word, IsName, IsNumber, IsType, IsCompare, IsUpdate, IsMark};
-ghost use Rattle.kernel_tree.specs.Plain.{name_of, term_of};
-ghost use Rattle.kernel_tree.specs.Printing.{Place, spaced, type_text, compare_text, update_text, opened, closed, number_opened, number_closed, print_literal, print_count, print_term};
+mod expr;
+mod parts;
+mod stmt;
+mod token;
 
-use crate::ast::Expr;
-use crate::name::Name;
-use crate::ops::{BinaryOp, CompareOp, Ty, UnaryOp, UpdateOp};
-use itoa::Buffer;
-use std::alloc::AllocError;
+ghost use Rattle.std.specs.Prelude.{◌≡◌, ◌∷◌, ◌++◌, List, [], IfOk, string_bytes};
+ghost use Rattle.kernel_tree.specs.Word.{Word, IsName, IsMark};
+ghost use Rattle.kernel_tree.specs.Plain.{Program, program_of};
+ghost use Rattle.kernel_tree.specs.Grammar.{IsTree};
+ghost use Rattle.kernel_tree.specs.Text.{IsTextOf};
+ghost use Rattle.kernel_tree.specs.Printing.{spaced, kernel_words, canonical_text, print_params, print_arrow, print_vars, print_turns, print_answer};
 
-/// Where an expression stands.
-#[derive(Clone, Copy, PartialEq, Eq, Debug)]
-enum Site {
-    /// By itself, as in brackets.
-    Alone,
-    /// As an operand.
-    Operand,
-    /// Behind a minus.
-    Negated,
-}
+use crate::ast::Kernel;
+use crate::mark::Mark;
+use parts::{put_answer, put_arrow, put_loop, put_params, put_vars};
+use std::alloc::{AllocError, Global};
+use token::{put_mark, put_name};
 
-// Appends a space and a token.
-fn put(out: &mut String, token: &str) -> Result<(), AllocError>
-    ensures { IfOk result (λ _. (rest : List ℕ) → string_bytes out.old ++ (32 ∷ (token.now ++ rest)) ≡ string_bytes out.new ++ rest) }
+// The name, the parameters and the type that is returned.
+fn put_head(out: &mut String, kernel: &Kernel) -> Result<(), AllocError>
+    ensures { let k = program_of kernel.now in IfOk result (λ _. (rest : List Word) → string_bytes out.new ++ spaced rest ≡ string_bytes out.old ++ spaced (IsName k.name ∷ IsMark Mark.OpenParen ∷ print_params k.params (IsMark Mark.CloseParen ∷ print_arrow k.answer (IsMark Mark.OpenBrace ∷ rest)))) }
 {
-    out.push_str(" ")?;
-    out.push_str(token)?;
+    put_name(out, &kernel.name)?;
+    put_mark(out, Mark::OpenParen)?;
+    put_params(out, &kernel.params)?;
+    put_mark(out, Mark::CloseParen)?;
+    put_arrow(out, &kernel.answer)?;
+    put_mark(out, Mark::OpenBrace)?;
     Ok(())
 }
 
-fn put_name(out: &mut String, name: &Name) -> Result<(), AllocError>
-    ensures { IfOk result (λ _. (rest : List Word) → string_bytes out.old ++ spaced (IsName (name_of name.now) ∷ rest) ≡ string_bytes out.new ++ spaced rest) }
+// What stands in the braces.
+fn put_inside(out: &mut String, kernel: &Kernel) -> Result<(), AllocError>
+    ensures { let k = program_of kernel.now in IfOk result (λ _. (rest : List Word) → string_bytes out.new ++ spaced rest ≡ string_bytes out.old ++ spaced (print_vars k.vars (print_turns k.turns (print_answer k.answer (IsMark Mark.CloseBrace ∷ rest))))) }
 {
-    put(out, name.text())?;
+    put_vars(out, &kernel.vars)?;
+    put_loop(out, &kernel.body)?;
+    put_answer(out, &kernel.answer)?;
+    put_mark(out, Mark::CloseBrace)?;
     Ok(())
 }
 
-fn put_number(out: &mut String, n: u128) -> Result<(), AllocError>
-    ensures { IfOk result (λ _. (rest : List Word) → string_bytes out.old ++ spaced (IsNumber n ∷ rest) ≡ string_bytes out.new ++ spaced rest) }
+/// The canonical text of a kernel: its tokens joined by single spaces, literals in decimal, and an operand in
+/// parentheses where it is itself an operator or a negative literal.
+pub fn print_kernel(alloc: Global, kernel: &Kernel) -> Result<String, AllocError>
+    ensures canonical { IfOk result (λ text. string_bytes text ≡ canonical_text (program_of kernel.now)) }
+    // The text of a kernel that is the tree of some tokens has that kernel as its tree.
+    ensures reads_back { IfOk result (λ text. IsTree (program_of kernel.now) → IsTextOf (program_of kernel.now) (string_bytes text)) }
 {
-    let mut buffer = Buffer::new();
-    put(out, buffer.format(n))?;
-    Ok(())
-}
-
-fn type_str(ty: Ty) -> &'static str
-    ensures { result.now ≡ type_text ty }
-{
-    match ty {
-        Ty::I8 => "i8",
-        Ty::I16 => "i16",
-        Ty::I32 => "i32",
-        Ty::I64 => "i64",
-        Ty::U8 => "u8",
-        Ty::U16 => "u16",
-        Ty::U32 => "u32",
-        Ty::U64 => "u64",
-    }
-}
-
-fn put_type(out: &mut String, ty: Ty) -> Result<(), AllocError>
-    ensures { IfOk result (λ _. (rest : List Word) → string_bytes out.old ++ spaced (IsType ty ∷ rest) ≡ string_bytes out.new ++ spaced rest) }
-{
-    put(out, type_str(ty))?;
-    Ok(())
+    let mut text = String::from_str(alloc, "kernel")?;
+    put_head(&mut text, kernel)?;
+    put_inside(&mut text, kernel)?;
+    Ok(text)
 }
