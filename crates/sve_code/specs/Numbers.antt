@@ -1,4 +1,4 @@
--- The numbers that fields hold for sizes, types and shifts.
+-- The numbers that fields hold for sizes, types and shifts (Arm DDI 0487, chapter C8, "SVE Instruction Descriptions").
 use Rattle.std.specs.Prelude.{ℕ, ◌*◌, ◌-◌, ◌^◌, ◌==◌, ◌||◌, Bool, nat_lt, if◌then◌else◌, [], ◌∷◌, slice_index}
 use Rattle.sve_code.specs.declared.parts.Size.{Size}
 use Rattle.sve_code.specs.declared.parts.Size.TheVariants as sizes

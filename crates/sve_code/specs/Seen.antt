@@ -1,4 +1,4 @@
--- What contracts see of an instruction: its row, and the numbers of that row's fields.
+-- What contracts see of an instruction: its row, and the numbers of that row's fields, lowest field first.
 use Rattle.std.specs.Prelude.{◌/◌, ◌%◌, [], ◌∷◌}
 use Rattle.word_rows.specs.Row.{Instruction}
 use Rattle.sve_code.specs.Numbers.{size_number, size_from_h_number, size_from_s_number, dtype_number}

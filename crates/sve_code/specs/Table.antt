@@ -1,4 +1,5 @@
--- The SVE rows: each with its base word, and its fields from the lowest to the highest.
+-- The SVE rows: each with its base word, and its fields from the lowest to the highest, as the encoding diagrams of
+-- Arm DDI 0487, chapter C8, "SVE Instruction Descriptions", give them.
 use Rattle.std.specs.Prelude.{ℕ, ◌+◌, ◌*◌, ◌^◌, Bool, ◌&&◌, nat_le, slice_index, bit_or, List, [], ◌∷◌, ◌++◌}
 use Rattle.word_rows.specs.Field.{Field, from_to}
 use Rattle.word_rows.specs.Row.{Row, all_numbers, only_below}

@@ -1,0 +1,4 @@
+pub mod Parts
+pub mod A64Text
+pub mod SveText
+pub mod Text
