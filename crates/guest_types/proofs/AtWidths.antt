@@ -1,13 +1,12 @@
 -- Registers at the four widths, element by element.
-use Rattle.std.proofs.Common.{◌≡◌, ◌≢◌, ℕ, zero, suc, ◌+◌, ◌-◌, ◌*◌, ◌/◌, ◌%◌, ◌^◌, ◌<◌, ◌≤◌, Bool, true, false, ◌&&◌, cond, eqb, ltb, List, [], ◌∷◌, ◌++◌, length, get_or, replicate, refl, sym, ap, ap₂, ◌∙◌, subst, arith, inl, inr, add-one, append_assoc}
-use Rattle.std.specs.Prelude.{nat_eq, nat_lt, if◌then◌else◌}
-use Rattle.std.proofs.lemmas.Bool.{cases_eq, cases_lt, cond-true, cond-false, eq-eqb, ne_eqb, eqb-true, eqb-false, lt-ltb, le-ltb, ltb-true, and_left, and_right}
+use Rattle.std.proofs.Common.{◌≡◌, ◌≢◌, ℕ, zero, suc, ◌+◌, ◌-◌, ◌*◌, ◌/◌, ◌%◌, ◌<◌, ◌≤◌, Bool, true, false, ◌&&◌, cond, eqb, ltb, List, ◌∷◌, ◌++◌, length, get_or, replicate, refl, sym, ap, ◌∙◌, subst, arith, append_assoc}
+use Rattle.std.proofs.lemmas.Bool.{cond-true, cond-false, eq-eqb, ne_eqb, lt-ltb, le-ltb, ltb-true, and_left, and_right}
 use Rattle.std.proofs.lemmas.List.{append-nil, replicate-append-replicate}
-use Rattle.std.proofs.Math.Nat.{add-suc, add-zero, mul-zero, mul-suc, mul-le-mul_left, mul-mod_right, mul-div_cancel_left, mod-one, div-one}
+use Rattle.std.proofs.Math.Nat.{add-suc, add-zero, mul-suc, mul-le-mul_left, mul-mod_right, mul-div_cancel_left, div-one}
 use Rattle.guest_types.specs.declared.length.Width.{Width}
 use Rattle.guest_types.specs.declared.length.Width.TheVariants.{B, H, S, D}
-use Rattle.guest_types.specs.Length.{IsLength, width_bits, width_bytes, lanes, all_lanes, modulus}
-use Rattle.guest_types.specs.Elements.{number_of, bytes_of, element, elements, register, at, bit, bits_of, active, element_bit, predicate, written_bit, with_active}
+use Rattle.guest_types.specs.Length.{IsLength, width_bytes, lanes, all_lanes, modulus}
+use Rattle.guest_types.specs.Elements.{bytes_of, elements, register, at, bit, bits_of, active, element_bit, predicate, written_bit, with_active}
 use Rattle.guest_types.proofs.Registers.{element-register, length-register, register-ext, elements-of}
 use Rattle.guest_types.proofs.Predicates.{bits-ext, bit-bits_of, bits-small, length-bits_of}
 use Rattle.guest_types.proofs.Widths.{modulus-is, whole-register, some-bytes, lane-inside}
@@ -40,6 +39,12 @@ bytes_of-zero : (k : ℕ) → bytes_of k 0 ≡ replicate k 0
 bytes_of-zero zero = refl
 bytes_of-zero (suc k) = ap (λ l. 0 ∷ l) (bytes_of-zero k)
 
+zeros_more : (xs : List ℕ) (k r s : ℕ) → k + r ≡ s → (xs ++ bytes_of k 0) ++ replicate r 0 ≡ xs ++ replicate s 0
+zeros_more xs k r s room =
+    ap (λ l. (xs ++ l) ++ replicate r 0) (bytes_of-zero k)
+    ∙ append_assoc xs (replicate k 0) (replicate r 0)
+    ∙ ap (λ l. xs ++ l) (replicate-append-replicate k r 0 ∙ ap (λ m. replicate m 0) room)
+
 -- elements that are zero need not be made
 pub register-zeros : (k : ℕ) (f : ℕ → ℕ) (n d : ℕ) → k * (n + d) ≤ 256 → ((e : ℕ) → n ≤ e → e < n + d → f e ≡ 0) → register k f (n + d) ≡ register k f n
 unfolding elements
@@ -48,12 +53,11 @@ register-zeros k f n (suc d) fits none =
     let next : n + suc d ≡ suc (n + d) = add-suc n d in
     let wide : k * (n + suc d) ≡ k * (n + d) + k = ap (λ j. k * j) next ∙ mul-suc k (n + d) in
     let room : k + (256 - k * (n + suc d)) ≡ 256 - k * (n + d) = omega (arith, wide, fits) in
+    let rest : register k f (n + d) ≡ register k f n = register-zeros k f n d (omega (arith, wide, fits)) (λ e least below. none e least (omega arith)) in
     ap (λ j. elements k f j ++ replicate (256 - k * (n + suc d)) 0) next
     ∙ ap (λ v. (elements k f (n + d) ++ bytes_of k v) ++ replicate (256 - k * (n + suc d)) 0) (none (n + d) (omega arith) (omega arith))
-    ∙ ap (λ l. (elements k f (n + d) ++ l) ++ replicate (256 - k * (n + suc d)) 0) (bytes_of-zero k)
-    ∙ append_assoc (elements k f (n + d)) (replicate k 0) (replicate (256 - k * (n + suc d)) 0)
-    ∙ ap (λ l. elements k f (n + d) ++ l) (replicate-append-replicate k (256 - k * (n + suc d)) 0 ∙ ap (λ r. replicate r 0) room)
-    ∙ register-zeros k f n d (omega (arith, wide, fits)) (λ e least below. none e least (omega arith))
+    ∙ zeros_more (elements k f (n + d)) k (256 - k * (n + suc d)) (256 - k * (n + d)) room
+    ∙ rest
 
 -- where the elements past the vector length are zero, the whole register is made of those below it
 pub register-all_lanes : (w : Width) (f : ℕ → ℕ) (n : ℕ) → n ≤ all_lanes w → ((e : ℕ) → n ≤ e → e < all_lanes w → f e ≡ 0) → register (width_bytes w) f (all_lanes w) ≡ register (width_bytes w) f n
@@ -79,8 +83,8 @@ first_of-past f n e l = cond-false _ _ _ (le-ltb e n l)
 pub at-register_past : (w : Width) (f : ℕ → ℕ) (n e : ℕ) → n ≤ e → e < all_lanes w → at w (register (width_bytes w) f n) e ≡ 0
 at-register_past w f n e past inside =
     let same : register (width_bytes w) f n ≡ register (width_bytes w) (first_of f n) (all_lanes w) =
-      register-ext (width_bytes w) f (first_of f n) n (first_of-below f n)
-      ∙ sym (register-all_lanes w (first_of f n) n (omega arith) (λ i least below. first_of-past f n i least)) in
+    register-ext (width_bytes w) f (first_of f n) n (first_of-below f n)
+    ∙ sym (register-all_lanes w (first_of f n) n (omega arith) (λ i least below. first_of-past f n i least)) in
     ap (λ z. at w z e) same ∙ at-register w (first_of f n) (all_lanes w) e inside ∙ ap (λ v. v % modulus w) (first_of-past f n e past) ∙ zero_mod w
   where
     zero_mod : (w : Width) → 0 % modulus w ≡ 0

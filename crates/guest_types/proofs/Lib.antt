@@ -5,6 +5,9 @@ pub mod Predicates
 pub mod Folds
 pub mod AtWidths
 pub mod Shifts
+pub mod SpanLaws
+pub mod LaneSteps
+mod Examples
 pub mod Writes
 pub mod Stores
 pub mod Merges

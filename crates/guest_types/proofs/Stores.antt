@@ -1,14 +1,14 @@
 -- What a number written changes, and what it leaves.
-use Rattle.std.proofs.Common.{◌≡◌, ◌≢◌, ℕ, zero, suc, ◌+◌, ◌*◌, ◌/◌, ◌%◌, ◌^◌, ◌<◌, ◌≤◌, Bool, true, false, cond, List, [], ◌∷◌, Option, Some, None, Result, Ok, Err, refl, sym, ap, ap₂, ◌∙◌, subst, arith, inl, inr, ◌⊎◌}
+use Rattle.std.proofs.Common.{◌≡◌, ◌≢◌, ℕ, zero, suc, ◌+◌, ◌*◌, ◌/◌, ◌%◌, ◌^◌, ◌<◌, ◌≤◌, Bool, true, false, cond, Option, Some, None, Result, Ok, Err, refl, sym, ap, ap₂, ◌∙◌, subst, arith}
 use Rattle.std.specs.Prelude.{is_some, nat_eq, option_map, option_and_then, unwrap_or, if◌then◌else◌}
-use Rattle.std.proofs.lemmas.Bool.{cond-true, cond-false, eq-eqb, ne_eqb, eqb-true, eqb-false}
+use Rattle.std.proofs.lemmas.Bool.{cond-true, cond-false, eqb-true}
 use Rattle.std.proofs.Math.Nat.{pow-suc, mod-one, one-le-pow}
 use lib.Arith.{mod-mul}
 use Rattle.guest_types.specs.declared.memory.AccessFault.{AccessFault}
 use Rattle.guest_types.specs.declared.memory.Perm.{Perm}
 use Rattle.guest_types.specs.declared.memory.Perm.TheVariants.{Read, ReadWrite, ReadExec}
-use Rattle.guest_types.specs.Memory.{Page, Memory, IsMemory, page_at, page_numbers, put_byte, with_byte, put_number, byte_at, byte_of, byte_or_zero, number_at, after, first_fault, can_read, can_write, may_write, is_writable, is_executable, loaded, stored, fetched, Disjoint}
-use Rattle.guest_types.proofs.Writes.{after_write, page_at-put_byte, byte_at-put_byte_same, byte_at-put_byte_other, can_read-put_byte, can_write-put_byte, page_numbers-put_byte, IsMemory-put_byte, put_byte-put_byte_other}
+use Rattle.guest_types.specs.Memory.{Page, Memory, IsPage, IsMemory, page_at, page_numbers, put_byte, with_byte, put_number, byte_at, number_at, after, first_fault, can_read, can_write, may_write, is_writable, is_executable, loaded, stored, fetched, Disjoint, byte_or_zero, byte_of}
+use Rattle.guest_types.proofs.Writes.{after_write, page_at-put_byte, byte_at-put_byte_same, byte_at-put_byte_other, can_read-put_byte, can_write-put_byte, page_numbers-put_byte, IsMemory-put_byte, put_byte-put_byte_other, All-page_at, page_at-number}
 
 -- ---- addresses apart
 
@@ -134,7 +134,7 @@ stored-stored memory m both a n v c k w la lc apart first second =
     let done : stored memory c k w ≡ Ok other = stored-done memory c k w (sym (write_faults-stored memory m a n v c k first) ∙ two.0) in
     let faults : first_fault (can_write other) a n ≡ None = write_faults-stored memory other c k w a n done ∙ one.0 in
     let same : put_number other a n v ≡ both =
-      sym (put_number-put_number_other memory a n v c k w la lc apart) ∙ ap (λ m. put_number m c k w) (sym one.1) ∙ sym two.1 in
+    sym (put_number-put_number_other memory a n v c k w la lc apart) ∙ ap (λ m. put_number m c k w) (sym one.1) ∙ sym two.1 in
     (other, done, stored-done other a n v faults ∙ ap Ok same)
 
 -- ---- the number that was written
@@ -157,7 +157,7 @@ number_at-put_number_same memory a (suc n) v is low short readable = go (can_rea
     go true e readable rest =
         let apart : Disjoint (after a) n a 1 = λ i j li lj h. omega arith in
         let here : byte_at (put_number (put_byte memory a (v % 256)) (after a) n (v / 256)) a ≡ Some (v % 256) =
-          byte_at-put_number_other (put_byte memory a (v % 256)) (after a) n (v / 256) a (omega arith) low apart ∙ byte_at-put_byte_same memory a (v % 256) is e in
+        byte_at-put_number_other (put_byte memory a (v % 256)) (after a) n (v / 256) a (omega arith) low apart ∙ byte_at-put_byte_same memory a (v % 256) is e in
         let some : 0 < 256 ^ n = omega (arith, one-le-pow n 256 (omega arith)) in
         let split : v % 256 ^ suc n ≡ (v / 256 % 256 ^ n) * 256 + v % 256 = ap (λ n. v % n) (pow-suc 256 n) ∙ mod-mul v {m = 256 ^ n} {c = 256} some (omega arith) in
         ap₂ (λ low rest. low + 256 * rest) (ap (λ o. unwrap_or o 0) here) (rest (first_fault-ext (can_read (put_byte memory a (v % 256))) (can_read memory) (after a) n (λ c. can_read-put_byte memory a (v % 256) c) ∙ readable))
@@ -238,3 +238,51 @@ loaded-stored_same memory m a n v is low short h =
     ap₂ (λ o x. elim o as (λ _. Result ℕ AccessFault) [ None ↦ Ok x | Some fault ↦ Err (record { address = fault; write = false }) ])
     (read_faults-stored memory m a n v a n h ∙ readable)
     (ap (λ m. number_at m a n) done.1 ∙ number_at-put_number_same memory a n v is low short readable)
+
+-- ---- bounds
+
+-- a mapped address is below 2^48
+pub can_read-below : (memory : Memory) (a : ℕ) → IsMemory memory → can_read memory a ≡ true → a < 2 ^ 48
+can_read-below memory a is readable = go (page_at memory (a / 4096)) refl
+  where
+    go : (o : Option Page) → page_at memory (a / 4096) ≡ o → a < 2 ^ 48
+    go None found = let clash : false ≡ true = sym (ap is_some found) ∙ readable in cc
+    go (Some p) found =
+        let below = (All-page_at IsPage memory (a / 4096) p is.pages found).below in
+        omega (arith, below, page_at-number memory (a / 4096) p found)
+
+pub byte_or_zero-below : (memory : Memory) (a : ℕ) → IsMemory memory → byte_or_zero memory a < 256
+byte_or_zero-below memory a is = go (page_at memory (a / 4096)) refl
+  where
+    go : (o : Option Page) → page_at memory (a / 4096) ≡ o → byte_or_zero memory a < 256
+    go None found = subst (λ b. b < 256) (ap (λ o. unwrap_or (option_map (λ page. byte_of page a) o) 0) (sym found)) (omega arith)
+    go (Some p) found =
+        let page = All-page_at IsPage memory (a / 4096) p is.pages found in
+        subst (λ b. b < 256) (ap (λ o. unwrap_or (option_map (λ page. byte_of page a) o) 0) (sym found)) (page.small (a % 4096) 0 (omega (arith, page.whole)))
+
+-- a number of n bytes
+pub number_at-below : (memory : Memory) (a n : ℕ) → IsMemory memory → number_at memory a n < 256 ^ n
+number_at-below memory a zero is = omega arith
+number_at-below memory a (suc n) is =
+    omega (arith, pow-suc 256 n, byte_or_zero-below memory a is, number_at-below memory (after a) n is)
+
+loaded_cases : (memory : Memory) (a n v : ℕ) (o : Option ℕ) → elim o as (λ _. Result ℕ AccessFault) [ None ↦ Ok (number_at memory a n) | Some fault ↦ Err (record { address = fault; write = false }) ] ≡ Ok v → (o ≡ None) × (v ≡ number_at memory a n)
+loaded_cases memory a n v None h = (refl, cc)
+loaded_cases memory a n v (Some f) h = cc
+
+-- a load is done exactly where each byte is readable
+pub loaded-Ok : (memory : Memory) (a n v : ℕ) → loaded memory a n ≡ Ok v → (first_fault (can_read memory) a n ≡ None) × (v ≡ number_at memory a n)
+loaded-Ok memory a n v h = loaded_cases memory a n v (first_fault (can_read memory) a n) h
+
+pub loaded-done : (memory : Memory) (a n : ℕ) → first_fault (can_read memory) a n ≡ None → loaded memory a n ≡ Ok (number_at memory a n)
+loaded-done memory a n h = ap (λ o. elim o as (λ _. Result ℕ AccessFault) [ None ↦ Ok (number_at memory a n) | Some fault ↦ Err (record { address = fault; write = false }) ]) h
+
+-- where a byte is not readable, or not writable, the access is refused with the first such byte's address
+pub loaded-fault : (memory : Memory) (a n f : ℕ) → first_fault (can_read memory) a n ≡ Some f → loaded memory a n ≡ Err (record { address = f; write = false })
+loaded-fault memory a n f h = ap (λ o. elim o as (λ _. Result ℕ AccessFault) [ None ↦ Ok (number_at memory a n) | Some fault ↦ Err (record { address = fault; write = false }) ]) h
+
+pub stored-fault : (memory : Memory) (a n v f : ℕ) → first_fault (can_write memory) a n ≡ Some f → stored memory a n v ≡ Err (record { address = f; write = true })
+stored-fault memory a n v f h = ap (λ o. elim o as (λ _. Result Memory AccessFault) [ None ↦ Ok (put_number memory a n v) | Some fault ↦ Err (record { address = fault; write = true }) ]) h
+
+pub loaded-below : (memory : Memory) (a n v : ℕ) → IsMemory memory → loaded memory a n ≡ Ok v → v < 256 ^ n
+loaded-below memory a n v is h = subst (λ x. x < 256 ^ n) (sym (loaded-Ok memory a n v h).1) (number_at-below memory a n is)

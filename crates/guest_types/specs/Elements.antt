@@ -1,7 +1,7 @@
 -- Elements of vector and predicate registers (Arm DDI 0584). A vector register is the list of its 256 bytes and a
 -- predicate register the list of the 32 bytes that hold its 256 bits, the lowest first in both. What lies past the
 -- vector length is zero.
-use Rattle.std.specs.Prelude.{ℕ, zero, suc, ◌+◌, ◌-◌, ◌*◌, ◌/◌, ◌%◌, ◌^◌, List, [], ◌∷◌, ◌++◌, take, drop, Bool, true, false, not, ◌&&◌, map, nat_eq, nat_lt, cond, slice_index, slice_set, bit_or, Option, Some, None, is_none, if◌then◌else◌}
+use Rattle.std.specs.Prelude.{ℕ, zero, suc, ◌+◌, ◌-◌, ◌*◌, ◌/◌, ◌%◌, ◌^◌, List, [], ◌∷◌, ◌++◌, take, drop, Bool, false, not, ◌&&◌, map, nat_eq, nat_lt, cond, slice_index, slice_set, bit_or, Option, Some, None, is_none, if◌then◌else◌}
 use Rattle.std.specs.List.{range_with_len}
 use lib.ListN.{replicate}
 use lib.Lanes.{number_l, digits_l, chunk, mask_l}

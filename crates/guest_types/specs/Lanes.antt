@@ -1,6 +1,6 @@
 -- What the lane operations give, element by element (Arm DDI 0584, the instructions of the same names). m is the
 -- number of values of an element, 2 to its width; an element is a number below m, signed ones in two's complement.
-use Rattle.std.specs.Prelude.{◌≡◌, ℕ, zero, suc, ◌+◌, ◌-◌, ◌*◌, ◌/◌, ◌%◌, ◌^◌, ◌<◌, ◌≤◌, List, Bool, true, false, not, ◌&&◌, ◌||◌, max, min, nat_eq, nat_lt, nat_le, cond, bit_and, bit_or, bit_xor}
+use Rattle.std.specs.Prelude.{ℕ, zero, suc, ◌+◌, ◌-◌, ◌*◌, ◌/◌, ◌%◌, ◌^◌, ◌<◌, ◌≤◌, List, Bool, true, false, not, ◌&&◌, ◌||◌, max, min, nat_eq, nat_lt, nat_le, cond, bit_and, bit_or, bit_xor}
 use Rattle.guest_types.specs.declared.length.Width.{Width}
 use Rattle.guest_types.specs.declared.operation.LaneOp.{LaneOp}
 use Rattle.guest_types.specs.declared.operation.LaneOp.TheVariants.{Add, Sub, Mul, And, Or, Xor, Bic, SMin, SMax, UMin, UMax}

@@ -1,4 +1,6 @@
 pub mod Length
 pub mod Memory
+pub mod Spans
 pub mod Elements
 pub mod Lanes
+pub mod LaneMemory

@@ -22,7 +22,7 @@ impl Model for Vl {
 }
 
 /// The width of an element: 8, 16, 32 or 64 bits.
-#[derive(Clone, Copy, PartialEq, Eq)]
+#[derive(Clone, Copy, Debug, PartialEq, Eq)]
 pub enum Width {
     B,
     H,

@@ -11,3 +11,5 @@ pub mod operation;
 pub mod predicate;
 pub mod register;
 pub mod row;
+#[cfg(test)]
+mod tests;

@@ -1,11 +1,11 @@
 // Pages of 4,096 bytes, and refused accesses.
 
-ghost use Rattle.std.specs.Prelude.{◌≡◌, ℕ, ◌<◌, ◌^◌, List, length, IsSome, IfSome, ◌↔◌, slice_set};
+ghost use Rattle.std.specs.Prelude.{◌≡◌, ℕ, ◌<◌, ◌^◌, List, length, IsSome, IfSome, ◌↔◌, slice_set, All};
 
 use std::marker::Model;
 
 /// What a page may be used for. Every page is readable.
-#[derive(Clone, Copy, PartialEq, Eq)]
+#[derive(Clone, Copy, Debug, PartialEq, Eq)]
 pub enum Perm {
     Read,
     ReadWrite,
@@ -15,7 +15,7 @@ pub enum Perm {
 /// An access that the memory refuses.
 ///
 /// `address` is that of the first refused byte, counted from the address of the access.
-#[derive(Clone, Copy, PartialEq, Eq)]
+#[derive(Clone, Copy, Debug, PartialEq, Eq)]
 pub struct AccessFault {
     pub address: u64,
     pub write: bool,
@@ -86,8 +86,10 @@ impl PageBytes {
     pub fn as_slice(&self) -> &[u8]
         ensures bytes { result.now ≡ self.now }
         ensures whole { length self.now ≡ 4096 }
+        ensures small { All (λ b. b < 256) self.now }
     {
-        &self.bytes
+        let bytes = self.bytes.as_slice();
+        bytes
     }
 
     /// Replaces one byte, by its place in the page.
@@ -105,4 +107,20 @@ pub struct PageSpec {
     pub page: PageNo,
     pub perm: Perm,
     pub bytes: PageBytes,
+}
+
+impl PageSpec {
+    ghost use Rattle.guest_types.specs.Memory.{IsPage};
+
+    /// A page of a memory, of which callers learn that it is one.
+    pub fn new(page: PageNo, perm: Perm, bytes: PageBytes) -> Self
+        ensures page { result.page ≡ page }
+        ensures perm { result.perm ≡ perm }
+        ensures bytes { result.bytes ≡ bytes }
+        ensures is_page { IsPage result }
+    {
+        let _number = page.number();
+        let _bytes = bytes.as_slice();
+        PageSpec { page, perm, bytes }
+    }
 }

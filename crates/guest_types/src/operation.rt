@@ -107,20 +107,8 @@ impl LaneOp {
             LaneOp::Or => a | b,
             LaneOp::Xor => a ^ b,
             LaneOp::Bic => a & (width.max() - b),
-            LaneOp::SMin => {
-                if signed_lt(width, a, b) {
-                    a
-                } else {
-                    b
-                }
-            }
-            LaneOp::SMax => {
-                if signed_lt(width, a, b) {
-                    b
-                } else {
-                    a
-                }
-            }
+            LaneOp::SMin => { if signed_lt(width, a, b) { a } else { b } }
+            LaneOp::SMax => { if signed_lt(width, a, b) { b } else { a } }
             LaneOp::UMin => a.min(b),
             LaneOp::UMax => a.max(b),
         }
@@ -241,11 +229,7 @@ pub fn shifted_down(a: u64, count: u32) -> u64
     requires { count ≤ 64 }
     ensures { result ≡ a / 2 ^ count }
 {
-    if count < 64 {
-        a >> count
-    } else {
-        0
-    }
+    if count < 64 { a >> count } else { 0 }
 }
 
 impl ShiftOp {

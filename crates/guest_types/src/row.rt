@@ -1,6 +1,9 @@
 // The forms of vector loads and stores.
 
 ghost use Rattle.std.specs.Prelude.{◌≡◌, ◌<◌, ◌≤◌, IsSome, IfSome, ◌↔◌};
+ghost use Rattle.guest_types.specs.LaneMemory.{load_form, width_of_size};
+
+use crate::length::Width;
 
 /// How a vector load treats an element that would fault: LD1, LDFF1 and LDNF1.
 #[derive(Clone, Copy, PartialEq, Eq)]
@@ -10,7 +13,7 @@ pub enum LoadMode {
     NonFault,
 }
 
-/// The memory and element size of a vector load, by the number in its field `dtype`.
+/// The memory and element width of a vector load, by the number in its field `dtype`.
 #[derive(Clone, Copy)]
 pub struct LoadRow {
     pub dtype: u32,
@@ -29,9 +32,40 @@ impl LoadRow {
             None
         }
     }
+
+    /// The width of an element in memory.
+    pub fn memory(self) -> Width
+        ensures { result ≡ (load_form self.dtype).memory }
+    {
+        match self.dtype {
+            0 | 1 | 2 | 3 | 12 | 13 | 14 => Width::B,
+            5 | 6 | 7 | 8 | 9 => Width::H,
+            4 | 10 | 11 => Width::S,
+            _ => Width::D,
+        }
+    }
+
+    /// The width of an element in the register.
+    pub fn element(self) -> Width
+        ensures { result ≡ (load_form self.dtype).element }
+    {
+        match self.dtype {
+            0 => Width::B,
+            1 | 5 | 14 => Width::H,
+            2 | 6 | 9 | 10 | 13 => Width::S,
+            _ => Width::D,
+        }
+    }
+
+    /// Whether the element is the sign extension of what was read.
+    pub fn is_signed(self) -> bool
+        ensures { result ≡ (load_form self.dtype).signed }
+    {
+        matches!(self.dtype, 4 | 8 | 9 | 12 | 13 | 14)
+    }
 }
 
-/// The memory and element size of a vector store, as logarithms of bytes.
+/// The memory and element width of a vector store, as logarithms of bytes.
 #[derive(Clone, Copy)]
 pub struct StoreRow {
     pub msz: u32,
@@ -51,5 +85,32 @@ impl StoreRow {
         } else {
             None
         }
+    }
+
+    /// The width of an element in memory.
+    pub fn memory(self) -> Width
+        ensures { result ≡ width_of_size self.msz }
+    {
+        width_of_size(self.msz)
+    }
+
+    /// The width of an element in the register.
+    pub fn element(self) -> Width
+        ensures { result ≡ width_of_size self.size }
+    {
+        width_of_size(self.size)
+    }
+}
+
+// The width of so many bytes by their logarithm.
+fn width_of_size(size: u32) -> Width
+    requires { size ≤ 3 }
+    ensures { result ≡ width_of_size size }
+{
+    match size {
+        0 => Width::B,
+        1 => Width::H,
+        2 => Width::S,
+        _ => Width::D,
     }
 }

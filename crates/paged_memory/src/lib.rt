@@ -6,3 +6,5 @@ mod merge;
 mod number;
 pub mod pages;
 mod place;
+#[cfg(test)]
+mod tests;

@@ -1,6 +1,6 @@
 // The places of pages among their heads.
 
-ghost use Rattle.std.specs.Prelude.{◌≡◌, ◌≢◌, ℕ, ◌<◌, ◌≤◌, All, IfSome, IfNone, IsTrue};
+ghost use Rattle.std.specs.Prelude.{◌≡◌, ◌≢◌, ℕ, ◌<◌, ◌≤◌, ◌↔◌, All, IfSome, IfNone, IsTrue};
 ghost use Rattle.std.specs.List.Sorted.{IsStrictlyIncreasing};
 ghost use Rattle.paged_memory.specs.Layout.{head_numbers, StandsAt};
 
@@ -34,7 +34,7 @@ pub fn search(heads: &[Head], number: u64) -> Option<usize>
 /// Whether the page with a number stands at a place.
 #[inline(always)]
 pub fn stands_at(heads: &[Head], number: u64, place: usize) -> bool
-    ensures { IsTrue result → StandsAt heads.now number place }
+    ensures { IsTrue result ↔ StandsAt heads.now number place }
 {
     place < heads.len() && heads[place].number == number
 }
@@ -86,7 +86,7 @@ pub fn place_of(heads: &[Head], recent: &Cell<usize>, number: u64) -> Option<usi
     search_again(heads, recent, number)
 }
 
-/// The place of the page with a number, which is remembered before that of the last read.
+/// The place of the page with a number, which is remembered beside the last one before it.
 #[inline(never)]
 fn search_read_again(heads: &[Head], recent: &Recent, number: u64) -> Option<usize>
     requires { IsStrictlyIncreasing (head_numbers heads.now) }

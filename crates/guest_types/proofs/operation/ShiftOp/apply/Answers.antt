@@ -1,5 +1,5 @@
-use Rattle.std.proofs.Common.{◌≡◌, ◌+◌, ◌-◌, ◌/◌, ◌^◌, ◌∙◌, ap, subst, sym, arith}
-use Rattle.guest_types.specs.Length.{width_bits, modulus}
+use Rattle.std.proofs.Common.{◌≡◌, ◌/◌, ◌^◌, ◌∙◌, ap, subst, sym, arith}
+use Rattle.guest_types.specs.Length.{modulus}
 use Rattle.guest_types.specs.Lanes.{shifted, ShiftFits}
 use Rattle.guest_types.proofs.Shifts.{shifted-negative}
 use Rattle.guest_types.proofs.operation.ShiftOp.apply.Goals as goal
