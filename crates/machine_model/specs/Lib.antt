@@ -6,3 +6,4 @@ pub mod Load
 pub mod Written
 pub mod Run
 pub mod Answers
+pub mod OutcomeText

@@ -1,0 +1,4 @@
+pub mod Passes
+pub mod Sums
+pub mod Whole
+pub mod Steps

@@ -1,0 +1,5 @@
+pub mod Places
+pub mod Tables
+pub mod Ordering
+pub mod Laid
+pub mod Memories

@@ -1,0 +1,17 @@
+//! The ELF64 files of programs for the guest machine: writing the file of some words, and loading a file as an image.
+#![tactic(auto)]
+
+mod fields;
+mod header;
+pub mod load;
+mod order;
+mod pages;
+mod program_header;
+mod segments;
+#[cfg(test)]
+mod tests;
+pub mod write;
+
+pub use load::load_elf;
+pub use machine_model::elf_fault::ElfFault;
+pub use write::write_elf;

@@ -1,0 +1,87 @@
+// Writing the file of some words.
+
+ghost use Rattle.std.specs.Prelude.{◌≡◌, ℕ, ◌+◌, ◌*◌, ◌≤◌, ◌++◌, List, [], take, length, IfOk, Ok};
+ghost use Rattle.machine_model.specs.Load.{load};
+ghost use Rattle.machine_model.specs.Written.{file_of, image_of_words, word_bytes};
+
+use crate::fields::{put_u16, put_u32, put_u64};
+use std::alloc::{AllocError, Global};
+
+// e_ident: the magic number, the class of 64 bits, little-endian data, the version, and padding.
+const IDENT: [u8; 16] = [0x7f, 0x45, 0x4c, 0x46, 2, 1, 1, 0, 0, 0, 0, 0, 0, 0, 0, 0];
+
+// e_type of an executable file.
+const ET_EXEC: u16 = 2;
+
+// e_machine of AArch64.
+const EM_AARCH64: u16 = 183;
+
+// e_version.
+const EV_CURRENT: u32 = 1;
+
+// p_type of a segment that is loaded.
+const PT_LOAD: u32 = 1;
+
+// p_flags of a segment that is read and executed.
+const READ_EXECUTE: u32 = 5;
+
+// The sizes of the file header and of a program header, in bytes.
+const HEADER_SIZE: u16 = 64;
+
+const PROGRAM_HEADER_SIZE: u16 = 56;
+
+// The address at which the file stands in memory, and that of its first word.
+const BASE: u64 = 0x400000;
+
+const ENTRY: u64 = 0x400078;
+
+// The file header of a program with one segment, in a vector with this much room.
+fn file_header(alloc: Global, room: usize) -> Result<Vec<u8>, AllocError>
+    ensures { IfOk result (λ file. file.items ≡ take 64 (file_of [])) }
+{
+    let mut file = Vec::with_capacity(alloc, room)?;
+    file.extend_from_slice(&IDENT)?;
+    put_u16(&mut file, ET_EXEC)?;
+    put_u16(&mut file, EM_AARCH64)?;
+    put_u32(&mut file, EV_CURRENT)?;
+    put_u64(&mut file, ENTRY)?;
+    put_u64(&mut file, u64::from(HEADER_SIZE))?;
+    put_u64(&mut file, 0)?;
+    put_u32(&mut file, 0)?;
+    put_u16(&mut file, HEADER_SIZE)?;
+    put_u16(&mut file, PROGRAM_HEADER_SIZE)?;
+    put_u16(&mut file, 1)?;
+    file.extend_from_slice(&[0; 6])?;
+    Ok(file)
+}
+
+// Appends the program header of a segment that is the whole file, of this size in bytes.
+fn put_program_header(file: &mut Vec<u8>, size: u64) -> Result<(), AllocError>
+    requires { file.old.items ≡ take 64 (file_of []) }
+    ensures { IfOk result (λ _. (words : List ℕ) → size ≡ 120 + 4 * length words → file.new.items ++ word_bytes words ≡ file_of words) }
+{
+    put_u32(file, PT_LOAD)?;
+    put_u32(file, READ_EXECUTE)?;
+    put_u64(file, 0)?;
+    put_u64(file, BASE)?;
+    put_u64(file, BASE)?;
+    put_u64(file, size)?;
+    put_u64(file, size)?;
+    put_u64(file, 4096)?;
+    Ok(())
+}
+
+/// The file of these words, the first of which stands at 0x400078 in memory.
+pub fn write_elf(alloc: Global, words: &[u32]) -> Result<Vec<u8>, AllocError>
+    requires { length words.now ≤ 65536 }
+    ensures file { IfOk result (λ file. file.items ≡ file_of words.now) }
+    ensures loads { IfOk result (λ file. load file.items ≡ Ok (image_of_words words.now)) }
+{
+    let size = 120 + 4 * words.len();
+    let mut file = file_header(alloc, size)?;
+    put_program_header(&mut file, size as u64)?;
+    for word in words {
+        put_u32(&mut file, *word)?;
+    }
+    Ok(file)
+}

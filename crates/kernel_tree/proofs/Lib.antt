@@ -1,0 +1,8 @@
+pub mod Rows
+pub mod Marks
+pub mod TokenList
+pub mod Well
+pub mod Printed
+pub mod Lexed
+pub mod PrintedTokens
+pub mod PrintedKernel

@@ -1,0 +1,24 @@
+-- A list of tokens is one that some text has.
+use Rattle.std.proofs.Common.{◌≡◌, ℕ, ◌<◌, ◌^◌, Bool, true, false, List, [], ◌∷◌, refl}
+use Rattle.std.proofs.lemmas.Bool.{lt-ltb}
+use Rattle.std.specs.Prelude.{◌&&◌, IsTrue}
+use Rattle.kernel_tree.specs.declared.token.Token.{Token}
+use Rattle.kernel_tree.specs.declared.token.Token.TheVariants as token
+use Rattle.kernel_tree.specs.Tokens.{is_token, are_tokens}
+use Rattle.kernel_tree.specs.Plain.{word_of, words_of}
+
+both : (a b : Bool) → IsTrue a → IsTrue b → IsTrue (a && b)
+both true b p q = q
+both false b p q = absurd cc
+
+token_is : (t : Token) → IsTrue (is_token (word_of t))
+token_is (token.Name x) = x.is_name
+token_is (token.Number n) = lt-ltb n.value (2 ^ 127) n.in_range
+token_is (token.Type t) = refl
+token_is (token.Compare op) = refl
+token_is (token.Update op) = refl
+token_is (token.Mark m) = refl
+
+pub tokens_are : (ts : List Token) → IsTrue (are_tokens (words_of ts))
+tokens_are [] = refl
+tokens_are (t ∷ ts) = both (is_token (word_of t)) (are_tokens (words_of ts)) (token_is t) (tokens_are ts)

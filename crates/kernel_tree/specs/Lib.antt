@@ -1,0 +1,12 @@
+pub mod Word
+pub mod Tokens
+pub mod Plain
+pub mod Grammar
+pub mod Front
+pub mod Items
+pub mod Limits
+pub mod Wrap
+pub mod Typing
+pub mod Printing
+pub mod Text
+pub mod Checked

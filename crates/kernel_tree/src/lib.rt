@@ -1,0 +1,21 @@
+//! The syntax tree of the kernel language: its types, its tokens, its grammar, its typing and its
+//! canonical text.
+#![tactic(auto)]
+
+pub mod ast;
+pub mod checked;
+pub mod fault;
+pub mod lexeme;
+pub mod make;
+pub mod mark;
+pub mod name;
+pub mod ops;
+mod place;
+mod print;
+pub mod token;
+
+pub use ast::{Answer, Expr, Kernel, Loop, Param, Shape, Stmt, Var};
+pub use checked::Checked;
+pub use name::Name;
+pub use ops::{BinaryOp, CompareOp, Ty, UnaryOp, UpdateOp};
+pub use print::print_kernel;

@@ -1,0 +1,12 @@
+//! Where an expression stands in a text.
+
+/// Where an expression stands.
+#[derive(Clone, Copy, PartialEq, Eq, Debug)]
+pub enum Place {
+    /// By itself, as in brackets.
+    Alone,
+    /// As an operand.
+    Operand,
+    /// Behind a minus.
+    Negated,
+}

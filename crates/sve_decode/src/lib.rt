@@ -1,0 +1,116 @@
+//! The SVE instruction of a word.
+#![tactic(auto)]
+
+ghost use Rattle.std.specs.Prelude.{◌≡◌, ℕ, Some, None, IfSome};
+ghost use Rattle.std.specs.Option.{option_map};
+ghost use Rattle.word_rows.specs.Row.{Instruction, reads, spells};
+ghost use Rattle.a64_code.specs.Table as a64;
+ghost use Rattle.sve_code.specs.declared.Sve.{Sve};
+ghost use Rattle.sve_code.specs.Table.{row, sve_names, compare, duplicate, select, store};
+ghost use Rattle.sve_code.specs.Seen.{seen};
+ghost use Rattle.sve_decode.specs.Groups.{moves};
+
+mod memory;
+mod predicates;
+mod vectors;
+
+use memory::{loads_of, store_of};
+use predicates::predicates_of;
+use sve_code::{Size, Sve, VectorCompareOp};
+use vectors::vectors_of;
+use word_rows::Bits;
+
+/// The instruction of a word, where the word is in a row of the SVE table.
+pub fn decode(word: u32) -> Option<Sve>
+    ensures table { option_map seen result ≡ reads row sve_names word }
+    ensures spelled { IfSome result (λ x. spells row (seen x) ≡ word) }
+    ensures inverts { (x : Sve) → word ≡ spells row (seen x) → result ≡ Some x }
+{
+    by_top_byte(word)
+}
+
+/// No word is both an A64 and an SVE instruction.
+pub fn no_word_in_both_tables()
+    ensures { (word : ℕ) (i : Instruction a64.Name) → reads a64.row a64.a64_names word ≡ Some i → reads row sve_names word ≡ None }
+{}
+
+/// The instruction of a word, sought only among the rows that have its top byte.
+fn by_top_byte(word: u32) -> Option<Sve>
+    ensures { option_map seen result ≡ reads row sve_names word }
+{
+    match word >> 24 {
+        0x04 => vectors_of(word),
+        0x05 => moves_of(word),
+        0x24 => compare_of(word),
+        0x25 => predicates_of(word),
+        0xa4 | 0xa5 => loads_of(word),
+        0xe4 | 0xe5 => store_of(word),
+        _ => None,
+    }
+}
+
+#[tactic(auto, using(word_rows::proofs::Laws::tables), unfolding(crate::specs::Groups::moves))]
+fn moves_of(word: u32) -> Option<Sve>
+    ensures { option_map seen result ≡ reads row moves word }
+{
+    if let Some(found) = duplicate_of(word) {
+        return Some(found);
+    }
+    select_of(word)
+}
+
+#[tactic(auto, unfolding(word_rows::specs::Row::reads, sve_code::specs::Table::duplicate))]
+fn duplicate_of(word: u32) -> Option<Sve>
+    ensures { option_map seen result ≡ reads row duplicate word }
+{
+    if word & 0xff3f_fc00 != 0x0520_3800 {
+        return None;
+    }
+    Some(Sve::DupScalar {
+        zd: Bits::at(word, 0),
+        rn: Bits::at(word, 5),
+        size: Size::at(word, 22),
+    })
+}
+
+#[tactic(auto, unfolding(word_rows::specs::Row::reads, sve_code::specs::Table::select))]
+fn select_of(word: u32) -> Option<Sve>
+    ensures { option_map seen result ≡ reads row select word }
+{
+    if word & 0xff20_c000 != 0x0520_c000 {
+        return None;
+    }
+    Some(Sve::Sel {
+        zd: Bits::at(word, 0),
+        zn: Bits::at(word, 5),
+        pg: Bits::at(word, 10),
+        zm: Bits::at(word, 16),
+        size: Size::at(word, 22),
+    })
+}
+
+#[tactic(auto, unfolding(word_rows::specs::Row::reads, sve_code::specs::Table::compare))]
+fn compare_of(word: u32) -> Option<Sve>
+    ensures { option_map seen result ≡ reads row compare word }
+{
+    let op = match word & 0xff20_e010 {
+        0x2400_0000 => VectorCompareOp::Hs,
+        0x2400_0010 => VectorCompareOp::Hi,
+        0x2400_8000 => VectorCompareOp::Ge,
+        0x2400_8010 => VectorCompareOp::Gt,
+        0x2400_a000 => VectorCompareOp::Eq,
+        0x2400_a010 => VectorCompareOp::Ne,
+        _ => return None,
+    };
+    Some(Sve::CompareVectors {
+        op,
+        pd: Bits::at(word, 0),
+        zn: Bits::at(word, 5),
+        pg: Bits::at(word, 10),
+        zm: Bits::at(word, 16),
+        size: Size::at(word, 22),
+    })
+}
+
+#[cfg(test)]
+mod tests;

@@ -1,0 +1,86 @@
+//! Loads and stores.
+ghost use Rattle.std.specs.Prelude.{◌≡◌};
+ghost use Rattle.std.specs.Option.{option_map};
+ghost use Rattle.word_rows.specs.Row.{reads};
+ghost use Rattle.sve_code.specs.Table.{row, load, load_first_fault, load_no_fault, store};
+ghost use Rattle.sve_code.specs.Seen.{seen};
+ghost use Rattle.sve_decode.specs.Groups.{loads};
+
+use sve_code::{Dtype, OffsetReg, Size, StoreSizes, Sve};
+use word_rows::{Bits, field};
+
+#[tactic(auto, using(word_rows::proofs::Laws::tables), unfolding(crate::specs::Groups::loads))]
+pub fn loads_of(word: u32) -> Option<Sve>
+    ensures { option_map seen result ≡ reads row loads word }
+{
+    if let Some(found) = load_of(word) {
+        return Some(found);
+    }
+    if let Some(found) = load_first_fault_of(word) {
+        return Some(found);
+    }
+    load_no_fault_of(word)
+}
+
+#[tactic(auto, unfolding(word_rows::specs::Row::reads, sve_code::specs::Table::load))]
+fn load_of(word: u32) -> Option<Sve>
+    ensures { option_map seen result ≡ reads row load word }
+{
+    if word & 0xfe00_e000 != 0xa400_4000 {
+        return None;
+    }
+    Some(Sve::ContiguousLoad {
+        zt: Bits::at(word, 0),
+        rn: Bits::at(word, 5),
+        pg: Bits::at(word, 10),
+        offset: OffsetReg::of(field(word, 16, 5))?,
+        dtype: Dtype::at(word),
+    })
+}
+
+#[tactic(auto, unfolding(word_rows::specs::Row::reads, sve_code::specs::Table::load_first_fault))]
+fn load_first_fault_of(word: u32) -> Option<Sve>
+    ensures { option_map seen result ≡ reads row load_first_fault word }
+{
+    if word & 0xfe00_e000 != 0xa400_6000 {
+        return None;
+    }
+    Some(Sve::FirstFaultLoad {
+        zt: Bits::at(word, 0),
+        rn: Bits::at(word, 5),
+        pg: Bits::at(word, 10),
+        rm: Bits::at(word, 16),
+        dtype: Dtype::at(word),
+    })
+}
+
+#[tactic(auto, unfolding(word_rows::specs::Row::reads, sve_code::specs::Table::load_no_fault))]
+fn load_no_fault_of(word: u32) -> Option<Sve>
+    ensures { option_map seen result ≡ reads row load_no_fault word }
+{
+    if word & 0xfe1f_e000 != 0xa410_a000 {
+        return None;
+    }
+    Some(Sve::NonFaultLoad {
+        zt: Bits::at(word, 0),
+        rn: Bits::at(word, 5),
+        pg: Bits::at(word, 10),
+        dtype: Dtype::at(word),
+    })
+}
+
+#[tactic(auto, unfolding(word_rows::specs::Row::reads, sve_code::specs::Table::store))]
+pub fn store_of(word: u32) -> Option<Sve>
+    ensures { option_map seen result ≡ reads row store word }
+{
+    if word & 0xfe00_e000 != 0xe400_4000 {
+        return None;
+    }
+    Some(Sve::ContiguousStore {
+        zt: Bits::at(word, 0),
+        rn: Bits::at(word, 5),
+        pg: Bits::at(word, 10),
+        offset: OffsetReg::of(field(word, 16, 5))?,
+        sizes: StoreSizes::of(Size::at(word, 23), Size::at(word, 21))?,
+    })
+}

@@ -1,0 +1,6 @@
+//! The commands of svec.
+#![tactic(auto)]
+
+mod compile;
+pub mod refusal;
+pub mod top;
