@@ -1,0 +1,1 @@
+kernel f(x: u64) -> u64 { return x + 1; }
