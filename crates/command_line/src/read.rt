@@ -223,3 +223,81 @@ pub fn read_line(alloc: Global, words: &[String]) -> Result<Option<Command>, All
     }
     Ok(None)
 }
+
+#[cfg(test)]
+mod tests {
+    use super::*;
+    use std::test::Fail;
+
+    fn read(alloc: Global, line: &str) -> Result<Option<Command>, AllocError> {
+        let mut words = Vec::new(alloc);
+        for word in line.split(' ') {
+            words.push(String::from_str(alloc, word)?)?;
+        }
+        read_line(alloc, &words)
+    }
+
+    #[test]
+    fn refused(rt: HostRuntime) -> Result<(), Fail> {
+        let lines = [
+            "",
+            "run",
+            "compile a",
+            "compile -a b",
+            "run --vl 130 e1.elf",
+            "run --steps 1 --steps 1 e1.elf",
+            "run e1.elf -5",
+            "run e1.elf --vl 128",
+            "run e1.elf 1 2 3 4 5 6 7 8 9",
+        ];
+        for line in lines {
+            assert!(rt; read(rt.alloc(), line)?.is_none());
+        }
+        let none = Vec::new(rt.alloc());
+        assert!(rt; read_line(rt.alloc(), &none)?.is_none());
+        Ok(())
+    }
+
+    fn is_run(command: &Option<Command>, vl: u32, steps: u64, arg: u64) -> bool {
+        match command {
+            Some(Command::Run(run)) => {
+                run.vl.bits() == vl && run.steps == steps && run.args.as_slice() == [arg].as_slice()
+            }
+            _ => false,
+        }
+    }
+
+    #[test]
+    fn runs(rt: HostRuntime) -> Result<(), Fail> {
+        let rows = [
+            (
+                "run f.elf -- -2",
+                128,
+                100_000_000,
+                18_446_744_073_709_551_614,
+            ),
+            (
+                "run --vl=0x80 --steps 0 f 0xffffffffffffffff",
+                128,
+                0,
+                18_446_744_073_709_551_615,
+            ),
+        ];
+        for (line, vl, steps, arg) in rows {
+            let command = read(rt.alloc(), line)?;
+            assert!(rt; is_run(&command, vl, steps, arg));
+        }
+        Ok(())
+    }
+
+    #[test]
+    fn compiles(rt: HostRuntime) -> Result<(), Fail> {
+        let command = read(rt.alloc(), "compile -- -a b")?;
+        let good = match &command {
+            Some(Command::Compile { from, to }) => from.as_str() == "-a" && to.as_str() == "b",
+            _ => false,
+        };
+        assert!(rt; good);
+        Ok(())
+    }
+}
