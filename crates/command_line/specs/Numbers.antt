@@ -1,5 +1,5 @@
 -- Numbers of 64 bits in the words of a command.
-use Rattle.std.specs.Prelude.{ℕ, ◌+◌, ◌*◌, ◌-◌, ◌%◌, ◌^◌, ◌==◌, ◌&&◌, ◌||◌, List, [], ◌∷◌, length, Option, Some, None, option_and_then, Bool, true, false, nat_lt, nat_le, codes, if◌then◌else◌}
+use Rattle.std.specs.Prelude.{ℕ, ◌+◌, ◌*◌, ◌-◌, ◌%◌, ◌^◌, ◌==◌, ◌&&◌, ◌||◌, List, [], ◌∷◌, length, Option, Some, None, option_and_then, Bool, nat_lt, nat_le, codes, if◌then◌else◌}
 use Rattle.std.specs.List.{fold, list_all}
 
 -- a choice by what may be there

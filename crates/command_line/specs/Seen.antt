@@ -1,5 +1,5 @@
 -- What the reader's values stand for.
-use Rattle.std.specs.Prelude.{ℕ, ◌≤◌, ⊤, List, length, map, Option, String, string_bytes, Vec}
+use Rattle.std.specs.Prelude.{ℕ, ◌≤◌, ⊤, List, length, map, String, string_bytes, Vec}
 use Rattle.std.specs.Borrow.{Bor}
 use Rattle.command_line.specs.declared.command.Command.{Command}
 use Rattle.command_line.specs.declared.command.Command.TheVariants.{Compile, Run}
