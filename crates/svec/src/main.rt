@@ -14,6 +14,13 @@ fn main(rt: HostRuntime) -> io::Result<ExitCode> {
     let mut input = StdSource::new(rt.reader());
     let mut output = StdSink::new(rt.stdout().lock());
     let mut errors = StdSink::new(rt.stderr().lock());
-    let status = top(rt.alloc(), &words, &mut files, &mut input, &mut output, &mut errors);
+    let status = top(
+        rt.alloc(),
+        &words,
+        &mut files,
+        &mut input,
+        &mut output,
+        &mut errors,
+    );
     Ok(ExitCode::from(status))
 }
