@@ -94,3 +94,6 @@ fn kind_name(kind: StopKind) -> &'static [u8]
         StopKind::Break => b"break",
     }
 }
+
+#[cfg(test)]
+mod tests;
