@@ -1,0 +1,5 @@
+pub mod Reading
+pub mod Statements
+pub mod Headers
+pub mod Nesting
+pub mod Refusals
