@@ -9,3 +9,4 @@ pub mod Lists
 pub mod Deep
 pub mod Outcomes
 pub mod Rooms
+pub mod Rows

@@ -3,3 +3,4 @@ pub mod Statements
 pub mod Headers
 pub mod Nesting
 pub mod Refusals
+pub mod Signs

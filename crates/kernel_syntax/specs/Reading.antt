@@ -159,6 +159,18 @@ unfoldable pub signed_by : (List Word → Outcome) → Sign → List Word → Ou
 signed_by inner s words =
     given (number_behind s words) (λ x. Ok (Literal (neg_ℤ (pos x.0)), x.1)) (inner words >>= (λ e. Ok (signed s e.0, e.1)))
 
+abbrev pub sign_of : Option Opening → List Word → Option (Sign × List Word)
+sign_of (Some (opening.Signed s)) rest = Some (s, rest)
+sign_of (Some opening.Group) rest = None
+sign_of (Some (opening.Pair op)) rest = None
+sign_of (Some opening.Absolute) rest = None
+sign_of (Some opening.Choice) rest = None
+sign_of None rest = None
+
+-- the sign at the front, and the words behind it
+unfoldable pub sign_front : List Word → Option (Sign × List Word)
+sign_front words = given (mark_at words) (λ x. sign_of (opening_of_mark x.0) x.1) None
+
 abbrev pub opened_by : (List Word → Outcome) → (List Word → Outcome) → Option Opening → List Word → Outcome
 opened_by read inner None rest = Err (suc (length rest))
 opened_by read inner (Some opening.Group) rest = term_before read mark.CloseParen rest

@@ -3,17 +3,18 @@
 ghost use Rattle.std.specs.Prelude.{◌≡◌, ◌≤◌, ◌<◌, length, IfOk, IfSome, option_map};
 ghost use Rattle.kernel_tree.specs.Plain.{term_of, name_of, words_of};
 ghost use Rattle.kernel_tree.specs.Grammar.{number_behind, opening_of_mark};
-ghost use Rattle.kernel_syntax.specs.Reading.{Gives, chain_at, unary_at, term_before, name_by, pair_by, absolute_by, choice_by, signed_by, opened_by, unary_by};
+ghost use Rattle.kernel_syntax.specs.Reading.{Gives, chain_at, unary_at, term_before, name_by, pair_by, absolute_by, choice_by, signed_by, opened_by, unary_by, sign_front};
+ghost use Rattle.kernel_syntax.specs.Signs.{all_signed};
 
 use crate::fault::Stop;
 use crate::front::{
-    accept, copy_name, expect, expect_number, expect_type, front_number, front_operator,
+    accept, copy_name, expect, expect_number, expect_type, front_mark, front_number, front_operator,
 };
 use crate::{build, class};
 use kernel_tree::mark::{Mark, Opening, Operator, Sign};
 use kernel_tree::token::{Number, Token};
 use kernel_tree::{BinaryOp, Expr, Name, UnaryOp};
-use std::alloc::Global;
+use std::alloc::{AllocError, Global};
 
 // The loosest level, that of any expression.
 const ANY: u8 = 10;
@@ -213,10 +214,41 @@ fn signed_number(sign: Sign, tokens: &[Token]) -> Option<(Number, &[Token])>
     }
 }
 
-// What stands behind a sign.
+// The sign at the front, and the tokens behind it.
+#[tactic(auto, unfolding(crate::specs::Reading::sign_front))]
+fn front_sign(tokens: &[Token]) -> Option<(Sign, &[Token])>
+    ensures value { option_map (λ x. (x.0, words_of x.1.now)) result ≡ sign_front (words_of tokens.now) }
+    ensures shorter { IfSome result (λ x. length x.1.now < length tokens.now) }
+{
+    match front_mark(tokens) {
+        Some((mark, rest)) => match class::opening(mark) {
+            Some(Opening::Signed(sign)) => Some((sign, rest)),
+            Some(Opening::Group) => None,
+            Some(Opening::Pair(_)) => None,
+            Some(Opening::Absolute) => None,
+            Some(Opening::Choice) => None,
+            None => None,
+        },
+        None => None,
+    }
+}
+
+// An expression behind signs, of which the last one is the innermost.
+fn behind_signs(alloc: Global, signs: Vec<Sign>, arg: Expr) -> Result<Expr, AllocError>
+    ensures { IfOk result (λ e. term_of e ≡ all_signed signs.items (term_of arg)) }
+{
+    let mut left = signs;
+    let mut expr = arg;
+    'more: while let Some(sign) = left.pop() {
+        expr = build::sign(alloc, sign, expr)?;
+    }
+    Ok(expr)
+}
+
+// What stands behind the last of some signs.
 #[cycle(expression)]
 #[tactic(auto, unfolding(crate::specs::Reading::signed_by))]
-fn signed<'a>(
+fn operand<'a>(
     alloc: Global,
     sign: Sign,
     tokens: &'a [Token],
@@ -232,4 +264,32 @@ fn signed<'a>(
             Ok((build::sign(alloc, sign, arg)?, rest))
         }
     }
+}
+
+// What stands behind a sign. A row of signs is read with no recursion.
+#[cycle(expression)]
+fn signed<'a>(
+    alloc: Global,
+    sign: Sign,
+    tokens: &'a [Token],
+    room: usize,
+) -> Result<(Expr, &'a [Token]), Stop>
+    ensures value { Gives (λ x. (term_of x.0, words_of x.1.now)) result (signed_by (unary_at room) sign (words_of tokens.now)) }
+    ensures shorter { IfOk result (λ x. length x.1.now < length tokens.now) }
+{
+    let mut signs = Vec::new(alloc);
+    let mut last = sign;
+    let mut rest = tokens;
+    let mut inner = room;
+    'more: while let Some((next, behind)) = front_sign(rest) {
+        if inner == 0 {
+            return Err(Stop::Syntax { left: rest.len() });
+        }
+        signs.push(last)?;
+        last = next;
+        rest = behind;
+        inner -= 1;
+    }
+    let (arg, end) = operand(alloc, last, rest, inner)?;
+    Ok((behind_signs(alloc, signs, arg)?, end))
 }

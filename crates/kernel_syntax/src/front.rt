@@ -13,7 +13,7 @@ use kernel_tree::{Name, Ty, UpdateOp};
 use std::alloc::{AllocError, Global};
 
 // The mark at the front, and the tokens behind it.
-fn front_mark(tokens: &[Token]) -> Option<(Mark, &[Token])>
+pub fn front_mark(tokens: &[Token]) -> Option<(Mark, &[Token])>
     ensures value { option_map (λ x. (x.0, words_of x.1.now)) result ≡ mark_at (words_of tokens.now) }
     ensures shorter { IfSome result (λ x. length x.1.now < length tokens.now) }
 {
