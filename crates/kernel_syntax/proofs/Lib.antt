@@ -1,0 +1,12 @@
+pub mod Chain
+pub mod Blocks
+pub mod Sound
+pub mod Complete
+pub mod ActionSound
+pub mod KernelSound
+pub mod KernelComplete
+pub mod Lists
+pub mod Deep
+pub mod Outcomes
+pub mod Rooms
+pub mod Rows

@@ -1,0 +1,95 @@
+use Rattle.std.proofs.Common.{◌≡◌, ◌-◌, ◌<◌, length, Err, Some, None, sym, ◌∙◌, ap, arith, subst}
+use Rattle.std.proofs.lemmas.Result.{err_from_is_err_and}
+use Rattle.std.proofs.lemmas.List.{length-map}
+use Rattle.kernel_tree.specs.Plain.{term_of, words_of, word_of}
+use Rattle.kernel_tree.specs.declared.mark.Operator.TheVariants.{Joined, Compared, Shifted, As}
+use Rattle.kernel_syntax.specs.Reading.{Gives, Fails, operator_at, chain_at, unary_at, signed_by}
+use Rattle.kernel_syntax.proofs.Chain.{chain-zero, chain-above, fails_on, Goes, begins, ends, goes_joined, goes_shifted, goes_as, ends_compared, fails_joined, fails_compared, fails_shifted, fails_as}
+use Rattle.kernel_syntax.proofs.Rooms.{unary-some}
+use Rattle.kernel_syntax.proofs.Rows.{wraps_none, wraps_more, wraps_fails, wraps_stops, wraps_all}
+use Rattle.kernel_syntax.proofs.expression.+expression.Goals as goal
+
+pub chain-returns-then-level-eq0-clause-value : goal.chain-returns-then-level-eq0-clause-value
+chain-returns-then-level-eq0-clause-value t c = rw (chain-zero (unary_at c.args.room) c.args.level (words_of c.args.tokens.now) c.if-level-eq0.true) c.unary.ensures.value
+
+pub chain-returns-in_err-first-clause-value : goal.chain-returns-in_err-first-clause-value
+chain-returns-in_err-first-clause-value t c =
+    let p = err_from_is_err_and c.from_residual.result c.from_residual.ensures.1 in
+    rw (p.1, p.2) (fails_on _ (chain_at (unary_at c.args.room) (c.args.level - 1) (words_of c.args.tokens.now)) _ _ (chain-above (unary_at c.args.room) c.args.level (words_of c.args.tokens.now) (omega arith)) c.in_err-first.ensures.value)
+
+pub chain-more-init : goal.chain-more-init
+chain-more-init t c = (c.in_ok-first.ensures.shorter, begins (unary_at c.args.room) c.args.level (words_of c.args.tokens.now) _ _ (omega arith) c.in_ok-first.ensures.value)
+
+pub chain-returns-in_err-right-in-Joined-clause-value : goal.chain-returns-in_err-right-in-Joined-clause-value
+chain-returns-in_err-right-in-Joined-clause-value t c =
+    let found : Some (Joined c.in-Joined.joint, words_of c.in-Some.after.now) ≡ operator_at c.args.level (words_of c.more.rest.now) = rw c.in-Joined.is at c.in-Some.ensures.value in
+    let p = err_from_is_err_and c.from_residual-in_err-right-in-Joined.result c.from_residual-in_err-right-in-Joined.ensures.1 in
+    rw (p.1, p.2) (fails_joined (unary_at c.args.room) c.args.level (words_of c.args.tokens.now) (term_of c.more.left) (words_of c.more.rest.now) c.more.invariant.1 c.in-Joined.joint (words_of c.in-Some.after.now) _ found c.in_err-right-in-Joined.ensures.value)
+
+pub chain-more-preserved-in-Joined : goal.chain-more-preserved-in-Joined
+chain-more-preserved-in-Joined t c =
+    let found : Some (Joined c.in-Joined.joint, words_of c.in-Some.after.now) ≡ operator_at c.args.level (words_of c.more.rest.now) = rw c.in-Joined.is at c.in-Some.ensures.value in
+    let short : length (words_of c.in_ok-right-in-Joined.next.now) < length (words_of c.more.rest.now) = omega (arith, c.in_ok-right-in-Joined.ensures.shorter, c.in-Some.ensures.shorter, length-map c.in_ok-right-in-Joined.next.now word_of, length-map c.more.rest.now word_of) in
+    (omega (arith, c.in_ok-right-in-Joined.ensures.shorter, c.in-Some.ensures.shorter), rw c.in_ok-left-in-Joined.ensures (goes_joined (unary_at c.args.room) c.args.level (words_of c.args.tokens.now) (term_of c.more.left) (words_of c.more.rest.now) c.more.invariant.1 c.in-Joined.joint (words_of c.in-Some.after.now) _ _ found c.in_ok-right-in-Joined.ensures.value short))
+
+pub chain-returns-in_err-right-in-Compared-clause-value : goal.chain-returns-in_err-right-in-Compared-clause-value
+chain-returns-in_err-right-in-Compared-clause-value t c =
+    let found : Some (Compared c.in-Compared.op, words_of c.in-Some.after.now) ≡ operator_at c.args.level (words_of c.more.rest.now) = rw c.in-Compared.is at c.in-Some.ensures.value in
+    let p = err_from_is_err_and c.from_residual-in_err-right-in-Compared.result c.from_residual-in_err-right-in-Compared.ensures.1 in
+    rw (p.1, p.2) (fails_compared (unary_at c.args.room) c.args.level (words_of c.args.tokens.now) (term_of c.more.left) (words_of c.more.rest.now) c.more.invariant.1 c.in-Compared.op (words_of c.in-Some.after.now) _ found c.in_err-right-in-Compared.ensures.value)
+
+pub chain-returns-in-Compared-clause-value : goal.chain-returns-in-Compared-clause-value
+chain-returns-in-Compared-clause-value t c =
+    let found : Some (Compared c.in-Compared.op, words_of c.in-Some.after.now) ≡ operator_at c.args.level (words_of c.more.rest.now) = rw c.in-Compared.is at c.in-Some.ensures.value in
+    rw c.in_ok-compare-in-Compared.ensures (ends_compared (unary_at c.args.room) c.args.level (words_of c.args.tokens.now) (term_of c.more.left) (words_of c.more.rest.now) c.more.invariant.1 c.in-Compared.op (words_of c.in-Some.after.now) _ _ found c.in_ok-right-in-Compared.ensures.value)
+
+pub chain-returns-in_err-count-in-Shifted-clause-value : goal.chain-returns-in_err-count-in-Shifted-clause-value
+chain-returns-in_err-count-in-Shifted-clause-value t c =
+    let found : Some (Shifted c.in-Shifted.to_left, words_of c.in-Some.after.now) ≡ operator_at c.args.level (words_of c.more.rest.now) = rw c.in-Shifted.is at c.in-Some.ensures.value in
+    let p = err_from_is_err_and c.from_residual-in_err-count-in-Shifted.result c.from_residual-in_err-count-in-Shifted.ensures.1 in
+    rw (p.1, p.2) (fails_shifted (unary_at c.args.room) c.args.level (words_of c.args.tokens.now) (term_of c.more.left) (words_of c.more.rest.now) c.more.invariant.1 c.in-Shifted.to_left (words_of c.in-Some.after.now) _ found c.in_err-count-in-Shifted.ensures.value)
+
+pub chain-more-preserved-in-Shifted : goal.chain-more-preserved-in-Shifted
+chain-more-preserved-in-Shifted t c =
+    let found : Some (Shifted c.in-Shifted.to_left, words_of c.in-Some.after.now) ≡ operator_at c.args.level (words_of c.more.rest.now) = rw c.in-Shifted.is at c.in-Some.ensures.value in
+    let short : length (words_of c.in_ok-count-in-Shifted.next.now) < length (words_of c.more.rest.now) = omega (arith, c.in_ok-count-in-Shifted.ensures.shorter, c.in-Some.ensures.shorter, length-map c.in_ok-count-in-Shifted.next.now word_of, length-map c.more.rest.now word_of) in
+    (omega (arith, c.in_ok-count-in-Shifted.ensures.shorter, c.in-Some.ensures.shorter), rw c.in_ok-left-in-Shifted.ensures (goes_shifted (unary_at c.args.room) c.args.level (words_of c.args.tokens.now) (term_of c.more.left) (words_of c.more.rest.now) c.more.invariant.1 c.in-Shifted.to_left (words_of c.in-Some.after.now) _ _ found c.in_ok-count-in-Shifted.ensures.value short))
+
+pub chain-returns-in_err-ty-in-As-clause-value : goal.chain-returns-in_err-ty-in-As-clause-value
+chain-returns-in_err-ty-in-As-clause-value t c =
+    let found : Some (As, words_of c.in-Some.after.now) ≡ operator_at c.args.level (words_of c.more.rest.now) = rw c.in-As.is at c.in-Some.ensures.value in
+    let p = err_from_is_err_and c.from_residual-in_err-ty-in-As.result c.from_residual-in_err-ty-in-As.ensures.1 in
+    rw (p.1, p.2) (fails_as (unary_at c.args.room) c.args.level (words_of c.args.tokens.now) (term_of c.more.left) (words_of c.more.rest.now) c.more.invariant.1 (words_of c.in-Some.after.now) _ found c.in_err-ty-in-As.ensures.value)
+
+pub chain-more-preserved : goal.chain-more-preserved
+chain-more-preserved t c =
+    let found : Some (As, words_of c.in-Some.after.now) ≡ operator_at c.args.level (words_of c.more.rest.now) = rw c.in-As.is at c.in-Some.ensures.value in
+    let short : length (words_of c.in_ok-ty-in-As.next.now) < length (words_of c.more.rest.now) = omega (arith, c.in_ok-ty-in-As.ensures.shorter, c.in-Some.ensures.shorter, length-map c.in_ok-ty-in-As.next.now word_of, length-map c.more.rest.now word_of) in
+    (omega (arith, c.in_ok-ty-in-As.ensures.shorter, c.in-Some.ensures.shorter), rw c.in_ok-left-in-As.ensures (goes_as (unary_at c.args.room) c.args.level (words_of c.args.tokens.now) (term_of c.more.left) (words_of c.more.rest.now) c.more.invariant.1 (words_of c.in-Some.after.now) _ _ found c.in_ok-ty-in-As.ensures.value short))
+
+pub chain-returns-clause-value : goal.chain-returns-clause-value
+chain-returns-clause-value t c = ends (unary_at c.args.room) c.args.level (words_of c.args.tokens.now) (term_of c.more.left) (words_of c.more.rest.now) c.more.invariant.1 c.in_default.ensures.value
+
+pub unary-returns-clause-value : goal.unary-returns-clause-value
+unary-returns-clause-value t c = rw (unary-some c.args.room (words_of c.args.tokens.now) (omega arith)) c.begun.ensures.value
+
+pub signed-more-init : goal.signed-more-init
+signed-more-init t c = record { short = omega arith; less = omega arith; wraps = rw c.new-signs.ensures.items (wraps_none (signed_by (unary_at c.args.room) c.args.sign (words_of c.args.tokens.now))) }
+
+pub signed-returns-then-inner-eq0-clause-value : goal.signed-returns-then-inner-eq0-clause-value
+signed-returns-then-inner-eq0-clause-value t c = wraps_stops _ c.more.signs.items c.more.inner c.more.last (words_of c.more.rest.now) c.in-Some.next (words_of c.in-Some.behind.now) c.more.invariant.wraps c.if-inner-eq0.true c.in-Some.ensures.value ∙ ap Err (length-map c.more.rest.now word_of)
+
+pub signed-more-preserved : goal.signed-more-preserved
+signed-more-preserved t c = record {
+  short = omega (arith, c.in-Some.ensures.shorter);
+  less = omega arith;
+  wraps = rw c.in_ok-push.ensures.items (wraps_more _ c.more.signs.items c.more.inner c.more.last (words_of c.more.rest.now) c.in-Some.next (words_of c.in-Some.behind.now) c.more.invariant.wraps (omega arith) c.in-Some.ensures.value);
+}
+
+pub signed-returns-in_err-arg-clause-value : goal.signed-returns-in_err-arg-clause-value
+signed-returns-in_err-arg-clause-value t c =
+    let p = err_from_is_err_and c.from_residual-in_err-arg.result c.from_residual-in_err-arg.ensures.1 in
+    rw (p.1, p.2) (wraps_fails _ c.more.signs.items _ _ c.more.invariant.wraps c.in_err-arg.ensures.value)
+
+pub signed-returns-clause-value : goal.signed-returns-clause-value
+signed-returns-clause-value t c = rw c.in_ok-behind_signs.ensures (wraps_all _ c.more.signs.items _ _ _ c.more.invariant.wraps c.in_ok-arg.ensures.value)

@@ -1,0 +1,34 @@
+use Rattle.std.proofs.Common.{◌≡◌, ℕ, ◌-◌, ◌<◌, ◌≤◌, List, [], ◌∷◌, ◌++◌, length, false, Some, None, sym, ◌∙◌, ap, arith, subst}
+use Rattle.std.proofs.lemmas.Result.{err_from_is_err_and}
+use Rattle.std.proofs.lemmas.List.{length-map}
+use Rattle.kernel_tree.specs.declared.ast.Stmt.{Stmt}
+use Rattle.kernel_tree.specs.Plain.{words_of, word_of, action_of}
+use Rattle.kernel_syntax.specs.Statements.{Statements, statement_by, block_at}
+use Rattle.kernel_syntax.proofs.Blocks.{Follows, starts, closes, fails_inside, takes, block-none, block-some}
+use Rattle.kernel_syntax.proofs.statement.+block.Goals as goal
+
+pub block-returns-then-room-eq0-clause-value : goal.block-returns-then-room-eq0-clause-value
+block-returns-then-room-eq0-clause-value t c = block-none c.args.whole c.args.room (words_of c.args.tokens.now) _ c.if-room-eq0.true (length-map c.args.tokens.now word_of)
+
+pub block-more-init : goal.block-more-init
+block-more-init t c =
+    let words = words_of c.args.tokens.now in
+    let inner = statement_by c.args.whole (block_at false (c.args.room - 1)) in
+    let first : Follows inner (block_at c.args.whole c.args.room words) [] words = subst (λ (w : Statements). Follows inner w [] words) (sym (block-some c.args.whole c.args.room words (omega arith))) (starts inner words) in
+    (omega arith, subst (λ (s : List Stmt). Follows inner (block_at c.args.whole c.args.room words) s words) (sym c.new-stmts.ensures.items) first)
+
+pub block-returns-in-Some-clause-value : goal.block-returns-in-Some-clause-value
+block-returns-in-Some-clause-value t c = closes (statement_by c.args.whole (block_at false (c.args.room - 1))) (block_at c.args.whole c.args.room (words_of c.args.tokens.now)) c.more.stmts.items (words_of c.more.rest.now) c.more.invariant.1 (words_of c.in-Some.behind.now) c.in-Some.ensures.value
+
+pub block-returns-in_err-stmt-in-None-clause-value : goal.block-returns-in_err-stmt-in-None-clause-value
+block-returns-in_err-stmt-in-None-clause-value t c =
+    let p = err_from_is_err_and c.from_residual.result c.from_residual.ensures.1 in
+    rw (p.1, p.2) (fails_inside (statement_by c.args.whole (block_at false (c.args.room - 1))) (block_at c.args.whole c.args.room (words_of c.args.tokens.now)) c.more.stmts.items (words_of c.more.rest.now) c.more.invariant.1 _ c.in-None.ensures.value c.in_err-stmt-in-None.ensures.value)
+
+pub block-more-preserved : goal.block-more-preserved
+block-more-preserved t c =
+    let next = c.in_ok-stmt-in-None.next.now in
+    let short : length (words_of next) < length (words_of c.more.rest.now) = omega (arith, c.in_ok-stmt-in-None.ensures.shorter, length-map next word_of, length-map c.more.rest.now word_of) in (
+      omega (arith, c.in_ok-stmt-in-None.ensures.shorter),
+      rw c.in_ok-push-in-None.ensures.items (takes (statement_by c.args.whole (block_at false (c.args.room - 1))) (block_at c.args.whole c.args.room (words_of c.args.tokens.now)) c.more.stmts.items (words_of c.more.rest.now) c.more.invariant.1 c.in_ok-stmt-in-None.stmt (words_of next) c.in-None.ensures.value c.in_ok-stmt-in-None.ensures.value short),
+    )

@@ -1,0 +1,6 @@
+pub mod Reading
+pub mod Statements
+pub mod Headers
+pub mod Nesting
+pub mod Refusals
+pub mod Signs

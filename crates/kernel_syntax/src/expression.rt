@@ -1,0 +1,295 @@
+//! Expressions.
+
+ghost use Rattle.std.specs.Prelude.{◌≡◌, ◌≤◌, ◌<◌, length, IfOk, IfSome, option_map};
+ghost use Rattle.kernel_tree.specs.Plain.{term_of, name_of, words_of};
+ghost use Rattle.kernel_tree.specs.Grammar.{number_behind, opening_of_mark};
+ghost use Rattle.kernel_syntax.specs.Reading.{Gives, chain_at, unary_at, term_before, name_by, pair_by, absolute_by, choice_by, signed_by, opened_by, unary_by, sign_front};
+ghost use Rattle.kernel_syntax.specs.Signs.{all_signed};
+
+use crate::fault::Stop;
+use crate::front::{
+    accept, copy_name, expect, expect_number, expect_type, front_mark, front_number, front_operator,
+};
+use crate::{build, class};
+use kernel_tree::mark::{Mark, Opening, Operator, Sign};
+use kernel_tree::token::{Number, Token};
+use kernel_tree::{BinaryOp, Expr, Name, UnaryOp};
+use std::alloc::{AllocError, Global};
+
+// The loosest level, that of any expression.
+const ANY: u8 = 10;
+
+// An expression of a level.
+#[cycle(expression)]
+fn chain<'a>(
+    alloc: Global,
+    tokens: &'a [Token],
+    level: u8,
+    room: usize,
+) -> Result<(Expr, &'a [Token]), Stop>
+    requires { level ≤ 10 }
+    ensures value { Gives (λ x. (term_of x.0, words_of x.1.now)) result (chain_at (unary_at room) level (words_of tokens.now)) }
+    ensures shorter { IfOk result (λ x. length x.1.now < length tokens.now) }
+{
+    if level == 0 {
+        return unary(alloc, tokens, room);
+    }
+    let (first, behind) = chain(alloc, tokens, level - 1, room)?;
+    let mut left = first;
+    let mut rest = behind;
+    'more: while let Some((operator, after)) = front_operator(rest, level) {
+        match operator {
+            Operator::Joined(joint) => {
+                let (right, next) = chain(alloc, after, level - 1, room)?;
+                left = build::join(alloc, joint, left, right)?;
+                rest = next;
+            }
+            Operator::Compared(op) => {
+                let (right, next) = chain(alloc, after, level - 1, room)?;
+                return Ok((build::compare(alloc, op, left, right)?, next));
+            }
+            Operator::Shifted(to_left) => {
+                let (count, next) = expect_number(after)?;
+                left = build::shift(alloc, to_left, left, count)?;
+                rest = next;
+            }
+            Operator::As => {
+                let (ty, next) = expect_type(after)?;
+                left = build::cast(alloc, left, ty)?;
+                rest = next;
+            }
+        }
+    }
+    Ok((left, rest))
+}
+
+// A unary expression. No more than room of them stand inside one another.
+#[cycle(expression)]
+#[tactic(auto, unfolding(crate::specs::Reading::unary_at))]
+fn unary<'a>(alloc: Global, tokens: &'a [Token], room: usize) -> Result<(Expr, &'a [Token]), Stop>
+    ensures value { Gives (λ x. (term_of x.0, words_of x.1.now)) result (unary_at room (words_of tokens.now)) }
+    ensures shorter { IfOk result (λ x. length x.1.now < length tokens.now) }
+{
+    if room == 0 {
+        return Err(Stop::Syntax { left: tokens.len() });
+    }
+    begun(alloc, tokens, room - 1)
+}
+
+// A unary expression by its first token.
+#[cycle(expression)]
+fn begun<'a>(alloc: Global, tokens: &'a [Token], room: usize) -> Result<(Expr, &'a [Token]), Stop>
+    ensures value { Gives (λ x. (term_of x.0, words_of x.1.now)) result (unary_by (chain_at (unary_at room) 10) (unary_at room) (words_of tokens.now)) }
+    ensures shorter { IfOk result (λ x. length x.1.now < length tokens.now) }
+{
+    match tokens {
+        [] => Err(Stop::Syntax { left: 0 }),
+        [Token::Number(n), rest @ ..] => Ok((Expr::Lit(n.value as i128), rest)),
+        [Token::Name(name), rest @ ..] => named(alloc, name, rest, room),
+        [Token::Mark(mark), rest @ ..] => opened(alloc, *mark, rest, room),
+        [Token::Type(_), ..] => Err(Stop::Syntax { left: tokens.len() }),
+        [Token::Compare(_), ..] => Err(Stop::Syntax { left: tokens.len() }),
+        [Token::Update(_), ..] => Err(Stop::Syntax { left: tokens.len() }),
+    }
+}
+
+// What begins with a mark.
+#[cycle(expression)]
+fn opened<'a>(
+    alloc: Global,
+    mark: Mark,
+    tokens: &'a [Token],
+    room: usize,
+) -> Result<(Expr, &'a [Token]), Stop>
+    ensures value { Gives (λ x. (term_of x.0, words_of x.1.now)) result (opened_by (chain_at (unary_at room) 10) (unary_at room) (opening_of_mark mark) (words_of tokens.now)) }
+    ensures shorter { IfOk result (λ x. length x.1.now < length tokens.now) }
+{
+    match class::opening(mark) {
+        Some(Opening::Group) => term_then(alloc, tokens, Mark::CloseParen, room),
+        Some(Opening::Pair(op)) => pair(alloc, op, tokens, room),
+        Some(Opening::Absolute) => absolute(alloc, tokens, room),
+        Some(Opening::Choice) => choice(alloc, tokens, room),
+        Some(Opening::Signed(sign)) => signed(alloc, sign, tokens, room),
+        None => Err(Stop::Syntax {
+            left: tokens.len() + 1,
+        }),
+    }
+}
+
+// An expression and a mark behind it.
+#[cycle(expression)]
+#[tactic(auto, unfolding(crate::specs::Reading::term_before))]
+pub fn term_then<'a>(
+    alloc: Global,
+    tokens: &'a [Token],
+    mark: Mark,
+    room: usize,
+) -> Result<(Expr, &'a [Token]), Stop>
+    ensures value { Gives (λ x. (term_of x.0, words_of x.1.now)) result (term_before (chain_at (unary_at room) 10) mark (words_of tokens.now)) }
+    ensures shorter { IfOk result (λ x. length x.1.now < length tokens.now) }
+{
+    let (e, behind) = chain(alloc, tokens, ANY, room)?;
+    Ok((e, expect(behind, mark)?))
+}
+
+// What begins with a name.
+#[cycle(expression)]
+#[tactic(auto, unfolding(crate::specs::Reading::name_by))]
+fn named<'a>(
+    alloc: Global,
+    name: &Name,
+    tokens: &'a [Token],
+    room: usize,
+) -> Result<(Expr, &'a [Token]), Stop>
+    ensures value { Gives (λ x. (term_of x.0, words_of x.1.now)) result (name_by (chain_at (unary_at room) 10) (name_of name.now) (words_of tokens.now)) }
+    ensures shorter { IfOk result (λ x. length x.1.now ≤ length tokens.now) }
+{
+    let name = copy_name(alloc, name)?;
+    match accept(tokens, Mark::OpenBracket) {
+        Some(from) => {
+            let (index, rest) = term_then(alloc, from, Mark::CloseBracket, room)?;
+            Ok((build::element(alloc, name, index)?, rest))
+        }
+        None => Ok((Expr::Var(name), tokens)),
+    }
+}
+
+// The two arguments of a call.
+#[cycle(expression)]
+#[tactic(auto, unfolding(crate::specs::Reading::pair_by))]
+fn pair<'a>(
+    alloc: Global,
+    op: BinaryOp,
+    tokens: &'a [Token],
+    room: usize,
+) -> Result<(Expr, &'a [Token]), Stop>
+    ensures value { Gives (λ x. (term_of x.0, words_of x.1.now)) result (pair_by (chain_at (unary_at room) 10) op (words_of tokens.now)) }
+    ensures shorter { IfOk result (λ x. length x.1.now < length tokens.now) }
+{
+    let from = expect(tokens, Mark::OpenParen)?;
+    let (left, next) = term_then(alloc, from, Mark::Comma, room)?;
+    let (right, rest) = term_then(alloc, next, Mark::CloseParen, room)?;
+    Ok((build::binary(alloc, op, left, right)?, rest))
+}
+
+// The argument of an absolute value.
+#[cycle(expression)]
+#[tactic(auto, unfolding(crate::specs::Reading::absolute_by))]
+fn absolute<'a>(
+    alloc: Global,
+    tokens: &'a [Token],
+    room: usize,
+) -> Result<(Expr, &'a [Token]), Stop>
+    ensures value { Gives (λ x. (term_of x.0, words_of x.1.now)) result (absolute_by (chain_at (unary_at room) 10) (words_of tokens.now)) }
+    ensures shorter { IfOk result (λ x. length x.1.now < length tokens.now) }
+{
+    let from = expect(tokens, Mark::OpenParen)?;
+    let (arg, rest) = term_then(alloc, from, Mark::CloseParen, room)?;
+    Ok((build::unary(alloc, UnaryOp::Abs, arg)?, rest))
+}
+
+// The three arguments of a choice.
+#[cycle(expression)]
+#[tactic(auto, unfolding(crate::specs::Reading::choice_by))]
+fn choice<'a>(alloc: Global, tokens: &'a [Token], room: usize) -> Result<(Expr, &'a [Token]), Stop>
+    ensures value { Gives (λ x. (term_of x.0, words_of x.1.now)) result (choice_by (chain_at (unary_at room) 10) (words_of tokens.now)) }
+    ensures shorter { IfOk result (λ x. length x.1.now < length tokens.now) }
+{
+    let from = expect(tokens, Mark::OpenParen)?;
+    let (cond, next) = term_then(alloc, from, Mark::Comma, room)?;
+    let (yes, last) = term_then(alloc, next, Mark::Comma, room)?;
+    let (no, rest) = term_then(alloc, last, Mark::CloseParen, room)?;
+    Ok((build::select(alloc, cond, yes, no)?, rest))
+}
+
+// The number that belongs to a sign in front of it.
+fn signed_number(sign: Sign, tokens: &[Token]) -> Option<(Number, &[Token])>
+    ensures value { option_map (λ x. (x.0.value, words_of x.1.now)) result ≡ number_behind sign (words_of tokens.now) }
+    ensures shorter { IfSome result (λ x. length x.1.now < length tokens.now) }
+{
+    match sign {
+        Sign::Minus => front_number(tokens),
+        Sign::Flip => None,
+        Sign::Not => None,
+    }
+}
+
+// The sign at the front, and the tokens behind it.
+#[tactic(auto, unfolding(crate::specs::Reading::sign_front))]
+fn front_sign(tokens: &[Token]) -> Option<(Sign, &[Token])>
+    ensures value { option_map (λ x. (x.0, words_of x.1.now)) result ≡ sign_front (words_of tokens.now) }
+    ensures shorter { IfSome result (λ x. length x.1.now < length tokens.now) }
+{
+    match front_mark(tokens) {
+        Some((mark, rest)) => match class::opening(mark) {
+            Some(Opening::Signed(sign)) => Some((sign, rest)),
+            Some(Opening::Group) => None,
+            Some(Opening::Pair(_)) => None,
+            Some(Opening::Absolute) => None,
+            Some(Opening::Choice) => None,
+            None => None,
+        },
+        None => None,
+    }
+}
+
+// An expression behind signs, of which the last one is the innermost.
+fn behind_signs(alloc: Global, signs: Vec<Sign>, arg: Expr) -> Result<Expr, AllocError>
+    ensures { IfOk result (λ e. term_of e ≡ all_signed signs.items (term_of arg)) }
+{
+    let mut left = signs;
+    let mut expr = arg;
+    'more: while let Some(sign) = left.pop() {
+        expr = build::sign(alloc, sign, expr)?;
+    }
+    Ok(expr)
+}
+
+// What stands behind the last of some signs.
+#[cycle(expression)]
+#[tactic(auto, unfolding(crate::specs::Reading::signed_by))]
+fn operand<'a>(
+    alloc: Global,
+    sign: Sign,
+    tokens: &'a [Token],
+    room: usize,
+) -> Result<(Expr, &'a [Token]), Stop>
+    ensures value { Gives (λ x. (term_of x.0, words_of x.1.now)) result (signed_by (unary_at room) sign (words_of tokens.now)) }
+    ensures shorter { IfOk result (λ x. length x.1.now < length tokens.now) }
+{
+    match signed_number(sign, tokens) {
+        Some((n, rest)) => Ok((Expr::Lit(-(n.value as i128)), rest)),
+        None => {
+            let (arg, rest) = unary(alloc, tokens, room)?;
+            Ok((build::sign(alloc, sign, arg)?, rest))
+        }
+    }
+}
+
+// What stands behind a sign. A row of signs is read with no recursion.
+#[cycle(expression)]
+fn signed<'a>(
+    alloc: Global,
+    sign: Sign,
+    tokens: &'a [Token],
+    room: usize,
+) -> Result<(Expr, &'a [Token]), Stop>
+    ensures value { Gives (λ x. (term_of x.0, words_of x.1.now)) result (signed_by (unary_at room) sign (words_of tokens.now)) }
+    ensures shorter { IfOk result (λ x. length x.1.now < length tokens.now) }
+{
+    let mut signs = Vec::new(alloc);
+    let mut last = sign;
+    let mut rest = tokens;
+    let mut inner = room;
+    'more: while let Some((next, behind)) = front_sign(rest) {
+        if inner == 0 {
+            return Err(Stop::Syntax { left: rest.len() });
+        }
+        signs.push(last)?;
+        last = next;
+        rest = behind;
+        inner -= 1;
+    }
+    let (arg, end) = operand(alloc, last, rest, inner)?;
+    Ok((behind_signs(alloc, signs, arg)?, end))
+}

@@ -1,0 +1,187 @@
+//! Single tokens at the front of some tokens.
+
+ghost use Rattle.std.specs.Prelude.{◌≡◌, ◌≤◌, ◌<◌, length, IfOk, IfSome, option_map};
+ghost use Rattle.kernel_tree.specs.Plain.{name_of, words_of};
+ghost use Rattle.kernel_tree.specs.Grammar.{number_at};
+ghost use Rattle.kernel_syntax.specs.Reading.{Gives, mark_at, name_front, type_front, update_front, behind, after, name_at, type_at, count_at, operator_at};
+
+use crate::class;
+use crate::fault::Stop;
+use kernel_tree::mark::{Mark, Operator};
+use kernel_tree::token::{Number, Token};
+use kernel_tree::{Name, Ty, UpdateOp};
+use std::alloc::{AllocError, Global};
+
+// The mark at the front, and the tokens behind it.
+pub fn front_mark(tokens: &[Token]) -> Option<(Mark, &[Token])>
+    ensures value { option_map (λ x. (x.0, words_of x.1.now)) result ≡ mark_at (words_of tokens.now) }
+    ensures shorter { IfSome result (λ x. length x.1.now < length tokens.now) }
+{
+    match tokens {
+        [] => None,
+        [Token::Mark(mark), rest @ ..] => Some((*mark, rest)),
+        [Token::Name(_), ..] => None,
+        [Token::Number(_), ..] => None,
+        [Token::Type(_), ..] => None,
+        [Token::Compare(_), ..] => None,
+        [Token::Update(_), ..] => None,
+    }
+}
+
+// The name at the front, and the tokens behind it.
+fn front_name(tokens: &[Token]) -> Option<(&Name, &[Token])>
+    ensures value { option_map (λ x. (name_of x.0.now, words_of x.1.now)) result ≡ name_front (words_of tokens.now) }
+    ensures shorter { IfSome result (λ x. length x.1.now < length tokens.now) }
+{
+    match tokens {
+        [] => None,
+        [Token::Name(name), rest @ ..] => Some((name, rest)),
+        [Token::Mark(_), ..] => None,
+        [Token::Number(_), ..] => None,
+        [Token::Type(_), ..] => None,
+        [Token::Compare(_), ..] => None,
+        [Token::Update(_), ..] => None,
+    }
+}
+
+// The number at the front, and the tokens behind it.
+pub fn front_number(tokens: &[Token]) -> Option<(Number, &[Token])>
+    ensures value { option_map (λ x. (x.0.value, words_of x.1.now)) result ≡ number_at (words_of tokens.now) }
+    ensures shorter { IfSome result (λ x. length x.1.now < length tokens.now) }
+{
+    match tokens {
+        [] => None,
+        [Token::Number(number), rest @ ..] => Some((*number, rest)),
+        [Token::Mark(_), ..] => None,
+        [Token::Name(_), ..] => None,
+        [Token::Type(_), ..] => None,
+        [Token::Compare(_), ..] => None,
+        [Token::Update(_), ..] => None,
+    }
+}
+
+// The type at the front, and the tokens behind it.
+fn front_type(tokens: &[Token]) -> Option<(Ty, &[Token])>
+    ensures value { option_map (λ x. (x.0, words_of x.1.now)) result ≡ type_front (words_of tokens.now) }
+    ensures shorter { IfSome result (λ x. length x.1.now < length tokens.now) }
+{
+    match tokens {
+        [] => None,
+        [Token::Type(ty), rest @ ..] => Some((*ty, rest)),
+        [Token::Mark(_), ..] => None,
+        [Token::Name(_), ..] => None,
+        [Token::Number(_), ..] => None,
+        [Token::Compare(_), ..] => None,
+        [Token::Update(_), ..] => None,
+    }
+}
+
+// The update at the front, and the tokens behind it.
+pub fn front_update(tokens: &[Token]) -> Option<(UpdateOp, &[Token])>
+    ensures value { option_map (λ x. (x.0, words_of x.1.now)) result ≡ update_front (words_of tokens.now) }
+    ensures shorter { IfSome result (λ x. length x.1.now < length tokens.now) }
+{
+    match tokens {
+        [] => None,
+        [Token::Update(op), rest @ ..] => Some((*op, rest)),
+        [Token::Mark(_), ..] => None,
+        [Token::Name(_), ..] => None,
+        [Token::Number(_), ..] => None,
+        [Token::Type(_), ..] => None,
+        [Token::Compare(_), ..] => None,
+    }
+}
+
+// The tokens behind a mark, where it stands at the front.
+#[tactic(auto, unfolding(crate::specs::Reading::behind))]
+pub fn accept<'a>(tokens: &'a [Token], mark: Mark) -> Option<&'a [Token]>
+    ensures value { option_map (λ rest. words_of rest.now) result ≡ behind mark (words_of tokens.now) }
+    ensures shorter { IfSome result (λ rest. length rest.now < length tokens.now) }
+{
+    match front_mark(tokens) {
+        Some((found, rest)) => { if found == mark { Some(rest) } else { None } }
+        None => None,
+    }
+}
+
+// The tokens behind a mark, which must stand at the front.
+#[tactic(auto, unfolding(crate::specs::Reading::after))]
+pub fn expect<'a>(tokens: &'a [Token], mark: Mark) -> Result<&'a [Token], Stop>
+    ensures value { Gives (λ rest. words_of rest.now) result (after mark (words_of tokens.now)) }
+    ensures shorter { IfOk result (λ rest. length rest.now < length tokens.now) }
+{
+    match accept(tokens, mark) {
+        Some(rest) => Ok(rest),
+        None => Err(Stop::Syntax { left: tokens.len() }),
+    }
+}
+
+/// The same name again.
+pub fn copy_name(alloc: Global, name: &Name) -> Result<Name, AllocError>
+    ensures { IfOk result (λ n. name_of n ≡ name_of name.now) }
+{
+    match Name::new(alloc, name.text())? {
+        Some(copy) => Ok(copy),
+        None => unreachable!(),
+    }
+}
+
+// The name that must stand at the front.
+#[tactic(auto, unfolding(crate::specs::Reading::name_at))]
+pub fn expect_name<'a>(alloc: Global, tokens: &'a [Token]) -> Result<(Name, &'a [Token]), Stop>
+    ensures value { Gives (λ x. (name_of x.0, words_of x.1.now)) result (name_at (words_of tokens.now)) }
+    ensures shorter { IfOk result (λ x. length x.1.now < length tokens.now) }
+{
+    match front_name(tokens) {
+        Some((name, rest)) => {
+            let copy = copy_name(alloc, name)?;
+            Ok((copy, rest))
+        }
+        None => Err(Stop::Syntax { left: tokens.len() }),
+    }
+}
+
+// The type that must stand at the front.
+#[tactic(auto, unfolding(crate::specs::Reading::type_at))]
+pub fn expect_type<'a>(tokens: &'a [Token]) -> Result<(Ty, &'a [Token]), Stop>
+    ensures value { Gives (λ x. (x.0, words_of x.1.now)) result (type_at (words_of tokens.now)) }
+    ensures shorter { IfOk result (λ x. length x.1.now < length tokens.now) }
+{
+    match front_type(tokens) {
+        Some((ty, rest)) => Ok((ty, rest)),
+        None => Err(Stop::Syntax { left: tokens.len() }),
+    }
+}
+
+// The number that must stand at the front.
+#[tactic(auto, unfolding(crate::specs::Reading::count_at))]
+pub fn expect_number<'a>(tokens: &'a [Token]) -> Result<(Number, &'a [Token]), Stop>
+    ensures value { Gives (λ x. (x.0.value, words_of x.1.now)) result (count_at (words_of tokens.now)) }
+    ensures shorter { IfOk result (λ x. length x.1.now < length tokens.now) }
+{
+    match front_number(tokens) {
+        Some((number, rest)) => Ok((number, rest)),
+        None => Err(Stop::Syntax { left: tokens.len() }),
+    }
+}
+
+// The operator at the front, where it is of a level, and the tokens behind it.
+#[tactic(auto, unfolding(crate::specs::Reading::operator_at))]
+pub fn front_operator<'a>(tokens: &'a [Token], level: u8) -> Option<(Operator, &'a [Token])>
+    ensures value { option_map (λ x. (x.0, words_of x.1.now)) result ≡ operator_at level (words_of tokens.now) }
+    ensures shorter { IfSome result (λ x. length x.1.now < length tokens.now) }
+{
+    match tokens {
+        [] => None,
+        [first, rest @ ..] => match class::operator(first) {
+            Some(operator) => {
+                if class::level(operator) == level {
+                    Some((operator, rest))
+                } else {
+                    None
+                }
+            }
+            None => None,
+        },
+    }
+}

@@ -1,0 +1,15 @@
+//! The reader of the kernel language.
+#![tactic(auto)]
+
+mod build;
+mod class;
+mod expression;
+mod fault;
+mod front;
+mod header;
+mod kernel;
+mod nesting;
+mod statement;
+
+pub use fault::ReadFault;
+pub use kernel::read_kernel;

@@ -1,0 +1,213 @@
+//! Statements.
+
+ghost use Rattle.std.specs.Prelude.{◌≡◌, ◌≤◌, ◌<◌, length, false, IfOk, IfSome, option_map};
+ghost use Rattle.kernel_tree.specs.Plain.{term_of, name_of, words_of, action_of, block_of};
+ghost use Rattle.kernel_tree.specs.Grammar.{beginning_of_mark};
+ghost use Rattle.kernel_syntax.specs.Reading.{Gives};
+ghost use Rattle.kernel_syntax.specs.Statements.{term_at, type_part, define_at, put_at, update_at, target_at, leave_at, choose_by, begun_by, statement_by, block_at};
+
+use crate::class;
+use crate::expression::term_then;
+use crate::fault::Stop;
+use crate::front::{accept, copy_name, expect, expect_name, expect_type, front_update};
+use kernel_tree::mark::{Beginning, Mark};
+use kernel_tree::token::Token;
+use kernel_tree::{Expr, Name, Stmt, Ty, UpdateOp, make};
+use std::alloc::Global;
+
+// An expression and a mark behind it.
+#[tactic(auto, unfolding(crate::specs::Statements::term_at))]
+pub fn term<'a>(alloc: Global, tokens: &'a [Token], mark: Mark) -> Result<(Expr, &'a [Token]), Stop>
+    ensures value { Gives (λ x. (term_of x.0, words_of x.1.now)) result (term_at mark (words_of tokens.now)) }
+    ensures shorter { IfOk result (λ x. length x.1.now < length tokens.now) }
+{
+    term_then(alloc, tokens, mark, tokens.len())
+}
+
+// The type that a definition may give.
+#[tactic(auto, unfolding(crate::specs::Statements::type_part))]
+fn declared_type<'a>(tokens: &'a [Token]) -> Result<(Option<Ty>, &'a [Token]), Stop>
+    ensures value { Gives (λ x. (x.0, words_of x.1.now)) result (type_part (words_of tokens.now)) }
+    ensures shorter { IfOk result (λ x. length x.1.now ≤ length tokens.now) }
+{
+    match accept(tokens, Mark::Colon) {
+        Some(from) => {
+            let (ty, rest) = expect_type(from)?;
+            Ok((Some(ty), rest))
+        }
+        None => Ok((None, tokens)),
+    }
+}
+
+// What stands behind a let.
+#[tactic(auto, unfolding(crate::specs::Statements::define_at))]
+fn definition<'a>(alloc: Global, tokens: &'a [Token]) -> Result<(Stmt, &'a [Token]), Stop>
+    ensures value { Gives (λ x. (action_of x.0, words_of x.1.now)) result (define_at (words_of tokens.now)) }
+    ensures shorter { IfOk result (λ x. length x.1.now < length tokens.now) }
+{
+    let (name, behind) = expect_name(alloc, tokens)?;
+    let (ty, next) = declared_type(behind)?;
+    let from = expect(next, Mark::Equals)?;
+    let (value, rest) = term(alloc, from, Mark::Semicolon)?;
+    Ok((Stmt::Let { name, ty, value }, rest))
+}
+
+// What stands behind the bracket of the element that a store writes.
+#[tactic(auto, unfolding(crate::specs::Statements::put_at))]
+fn store<'a>(alloc: Global, array: &Name, tokens: &'a [Token]) -> Result<(Stmt, &'a [Token]), Stop>
+    ensures value { Gives (λ x. (action_of x.0, words_of x.1.now)) result (put_at (name_of array.now) (words_of tokens.now)) }
+    ensures shorter { IfOk result (λ x. length x.1.now < length tokens.now) }
+{
+    let array = copy_name(alloc, array)?;
+    let (index, behind) = term(alloc, tokens, Mark::CloseBracket)?;
+    let next = expect(behind, Mark::Equals)?;
+    let (value, rest) = term(alloc, next, Mark::Semicolon)?;
+    Ok((
+        Stmt::Store {
+            array,
+            index,
+            value,
+        },
+        rest,
+    ))
+}
+
+// What stands behind the operator of an update.
+#[tactic(auto, unfolding(crate::specs::Statements::update_at))]
+fn update<'a>(
+    alloc: Global,
+    name: &Name,
+    op: UpdateOp,
+    tokens: &'a [Token],
+) -> Result<(Stmt, &'a [Token]), Stop>
+    ensures value { Gives (λ x. (action_of x.0, words_of x.1.now)) result (update_at (name_of name.now) op (words_of tokens.now)) }
+    ensures shorter { IfOk result (λ x. length x.1.now < length tokens.now) }
+{
+    let name = copy_name(alloc, name)?;
+    let (value, rest) = term(alloc, tokens, Mark::Semicolon)?;
+    Ok((Stmt::Update { name, op, value }, rest))
+}
+
+// What stands behind the name of what a statement changes.
+#[tactic(auto, unfolding(crate::specs::Statements::target_at))]
+fn target<'a>(alloc: Global, name: &Name, tokens: &'a [Token]) -> Result<(Stmt, &'a [Token]), Stop>
+    ensures value { Gives (λ x. (action_of x.0, words_of x.1.now)) result (target_at (name_of name.now) (words_of tokens.now)) }
+    ensures shorter { IfOk result (λ x. length x.1.now < length tokens.now) }
+{
+    if let Some(from) = accept(tokens, Mark::OpenBracket) {
+        return store(alloc, name, from);
+    }
+    match front_update(tokens) {
+        Some((op, from)) => update(alloc, name, op, from),
+        None => Err(Stop::Syntax { left: tokens.len() }),
+    }
+}
+
+// What stands behind a break, in the loop's own block or in another.
+#[tactic(auto, unfolding(crate::specs::Statements::leave_at))]
+fn leaving<'a>(alloc: Global, tokens: &'a [Token], whole: bool) -> Result<(Stmt, &'a [Token]), Stop>
+    ensures value { Gives (λ x. (action_of x.0, words_of x.1.now)) result (leave_at whole (words_of tokens.now)) }
+    ensures shorter { IfOk result (λ x. length x.1.now < length tokens.now) }
+{
+    if !whole {
+        return Err(Stop::Syntax {
+            left: tokens.len() + 1,
+        });
+    }
+    let from = expect(tokens, Mark::If)?;
+    let (cond, rest) = term(alloc, from, Mark::Semicolon)?;
+    Ok((Stmt::Break { cond }, rest))
+}
+
+// What stands behind an if.
+#[cycle(block)]
+#[tactic(auto, unfolding(crate::specs::Statements::choose_by))]
+fn choice<'a>(alloc: Global, tokens: &'a [Token], room: usize) -> Result<(Stmt, &'a [Token]), Stop>
+    ensures value { Gives (λ x. (action_of x.0, words_of x.1.now)) result (choose_by (block_at false room) (words_of tokens.now)) }
+    ensures shorter { IfOk result (λ x. length x.1.now < length tokens.now) }
+{
+    let (cond, from) = term(alloc, tokens, Mark::OpenBrace)?;
+    let (then_part, behind) = block(alloc, from, false, room)?;
+    match accept(behind, Mark::Else) {
+        Some(rest) => {
+            let from = expect(rest, Mark::OpenBrace)?;
+            let (other, rest) = block(alloc, from, false, room)?;
+            Ok((make::choose_else(cond, then_part, other), rest))
+        }
+        None => Ok((make::choose(cond, then_part), behind)),
+    }
+}
+
+// What begins with a mark.
+#[cycle(block)]
+fn begun<'a>(
+    alloc: Global,
+    mark: Mark,
+    tokens: &'a [Token],
+    whole: bool,
+    room: usize,
+) -> Result<(Stmt, &'a [Token]), Stop>
+    ensures value { Gives (λ x. (action_of x.0, words_of x.1.now)) result (begun_by whole (block_at false room) (beginning_of_mark mark) (words_of tokens.now)) }
+    ensures shorter { IfOk result (λ x. length x.1.now < length tokens.now) }
+{
+    match class::beginning(mark) {
+        Some(Beginning::Definition) => definition(alloc, tokens),
+        Some(Beginning::Choice) => choice(alloc, tokens, room),
+        Some(Beginning::Leaving) => leaving(alloc, tokens, whole),
+        None => Err(Stop::Syntax {
+            left: tokens.len() + 1,
+        }),
+    }
+}
+
+// A statement of the loop's own block or of another.
+#[cycle(block)]
+#[tactic(auto, unfolding(crate::specs::Statements::statement_by))]
+fn statement<'a>(
+    alloc: Global,
+    tokens: &'a [Token],
+    whole: bool,
+    room: usize,
+) -> Result<(Stmt, &'a [Token]), Stop>
+    ensures value { Gives (λ x. (action_of x.0, words_of x.1.now)) result (statement_by whole (block_at false room) (words_of tokens.now)) }
+    ensures shorter { IfOk result (λ x. length x.1.now < length tokens.now) }
+{
+    match tokens {
+        [] => Err(Stop::Syntax { left: 0 }),
+        [Token::Name(name), rest @ ..] => target(alloc, name, rest),
+        [Token::Mark(mark), rest @ ..] => begun(alloc, *mark, rest, whole, room),
+        [Token::Number(_), ..] => Err(Stop::Syntax { left: tokens.len() }),
+        [Token::Type(_), ..] => Err(Stop::Syntax { left: tokens.len() }),
+        [Token::Compare(_), ..] => Err(Stop::Syntax { left: tokens.len() }),
+        [Token::Update(_), ..] => Err(Stop::Syntax { left: tokens.len() }),
+    }
+}
+
+/// The statements up to the brace behind them, of the loop's own block where whole holds. No more than
+/// room blocks stand inside one another.
+#[cycle(block)]
+pub fn block<'a>(
+    alloc: Global,
+    tokens: &'a [Token],
+    whole: bool,
+    room: usize,
+) -> Result<(Vec<Stmt>, &'a [Token]), Stop>
+    ensures value { Gives (λ x. (block_of x.0.items, words_of x.1.now)) result (block_at whole room (words_of tokens.now)) }
+    ensures shorter { IfOk result (λ x. length x.1.now < length tokens.now) }
+{
+    if room == 0 {
+        return Err(Stop::Syntax { left: tokens.len() });
+    }
+    let mut stmts = Vec::new(alloc);
+    let mut rest = tokens;
+    'more: loop {
+        match accept(rest, Mark::CloseBrace) {
+            Some(behind) => return Ok((stmts, behind)),
+            None => {
+                let (stmt, next) = statement(alloc, rest, whole, room - 1)?;
+                stmts.push(stmt)?;
+                rest = next;
+            }
+        }
+    }
+}
