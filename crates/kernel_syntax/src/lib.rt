@@ -10,6 +10,8 @@ mod header;
 mod kernel;
 mod nesting;
 mod statement;
+#[cfg(test)]
+mod tests;
 
 pub use fault::ReadFault;
 pub use kernel::read_kernel;
