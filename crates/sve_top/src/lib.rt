@@ -3,6 +3,6 @@
 
 mod compile;
 pub mod refusal;
-#[cfg(test)]
-mod tests;
+mod run;
+mod told;
 pub mod top;

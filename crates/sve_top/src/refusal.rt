@@ -1,13 +1,37 @@
-//! Why a command is refused.
+//! What a command comes to.
 
-ghost use Rattle.std.specs.Prelude.{◌≡◌, Err};
-ghost use Rattle.sve_top.specs.Answer.{line_of_refusal, status_of, of_files, of_kernel};
+ghost use Rattle.std.specs.Prelude.{◌≡◌};
+ghost use Rattle.sve_top.specs.Answer.{status_of_done, status_of_refusal, of_files, of_kernel, of_elf};
 
 use early_kernel::compile::EarlyFault;
 use io_edges::files::FileAnswer;
+use io_edges::sink::Failed;
+use machine_model::elf_fault::ElfFault;
+use std::alloc::AllocError;
 use thiserror::Error;
 
-/// Why a command is refused, with the line that tells it.
+/// How a command that is done came out. `Stopped` and `Spent` are of runs alone.
+#[derive(Clone, Copy, Debug, PartialEq, Eq)]
+pub enum Done {
+    Ended,
+    Stopped,
+    Spent,
+}
+
+impl Done {
+    /// The exit status.
+    pub fn status(self) -> u8
+        ensures { result ≡ status_of_done self }
+    {
+        match self {
+            Done::Ended => 0,
+            Done::Stopped => 5,
+            Done::Spent => 6,
+        }
+    }
+}
+
+/// Why a command is refused.
 #[derive(Clone, Copy, Debug, PartialEq, Eq, Error)]
 pub enum Refusal {
     #[error("usage")]
@@ -17,36 +41,30 @@ pub enum Refusal {
     NotYet,
     #[error("file: too long")]
     TooLong,
+    /// The file is no program that can be loaded.
+    #[error("file: {0}")]
+    Elf(ElfFault),
     #[error("out of memory")]
     Memory,
     #[error("file failed")]
     File,
+    #[error("output or input failed")]
+    Output,
 }
 
 impl Refusal {
     /// The exit status.
     pub fn status(self) -> u8
-        ensures { result ≡ status_of (Err self) }
+        ensures { result ≡ status_of_refusal self }
     {
         match self {
             Refusal::Usage => 2,
             Refusal::NotYet => 3,
             Refusal::TooLong => 4,
+            Refusal::Elf(_) => 4,
             Refusal::Memory => 7,
             Refusal::File => 8,
-        }
-    }
-
-    /// The line for the error output.
-    pub fn line(self) -> &'static [u8]
-        ensures { result.now ≡ line_of_refusal self }
-    {
-        match self {
-            Refusal::Usage => b"svec: usage\n",
-            Refusal::NotYet => b"svec: kernel: not yet\n",
-            Refusal::TooLong => b"svec: file: too long\n",
-            Refusal::Memory => b"svec: out of memory\n",
-            Refusal::File => b"svec: file failed\n",
+            Refusal::Output => 9,
         }
     }
 }
@@ -71,5 +89,36 @@ impl From<EarlyFault> for Refusal {
             EarlyFault::NotYet => Refusal::NotYet,
             EarlyFault::Memory => Refusal::Memory,
         }
+    }
+}
+
+impl From<ElfFault> for Refusal {
+    ghost from_gives = { λ fault refusal. refusal ≡ of_elf fault };
+
+    fn from(fault: ElfFault) -> Refusal {
+        match fault {
+            ElfFault::Memory => Refusal::Memory,
+            _ => Refusal::Elf(fault),
+        }
+    }
+}
+
+impl From<Failed> for Refusal {
+    ghost use Rattle.sve_top.specs.declared.refusal.Refusal.{Refusal};
+
+    ghost from_gives = { λ _ refusal. refusal ≡ Refusal.Output };
+
+    fn from(_failed: Failed) -> Refusal {
+        Refusal::Output
+    }
+}
+
+impl From<AllocError> for Refusal {
+    ghost use Rattle.sve_top.specs.declared.refusal.Refusal.{Refusal};
+
+    ghost from_gives = { λ _ refusal. refusal ≡ Refusal.Memory };
+
+    fn from(_error: AllocError) -> Refusal {
+        Refusal::Memory
     }
 }

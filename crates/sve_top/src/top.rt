@@ -1,78 +1,108 @@
 //! The call that does a command.
 
-ghost use Rattle.std.specs.Prelude.{◌≡◌, ◌≢◌, ◌↔◌, ◌⊎◌, ℕ, List, Some, None, IfSome, IsSome, IsTrue, Ok, Err, OnOk};
-ghost use Rattle.io_edges.specs.Files.{Rose, content};
-ghost use Rattle.sve_top.specs.Command.{line_of, texts, is_name};
-ghost use Rattle.sve_top.specs.Answer.{wanted, status_of, IsStatus, Compiled, OthersKept, Gains, told_by};
+ghost use Rattle.std.specs.Prelude.{◌≡◌, ◌≢◌, ◌≤◌, ◌⊎◌, Some, None, IfSome, IsTrue, Err, OnOk, []};
+ghost use Rattle.io_edges.specs.Files.{Rose};
+ghost use Rattle.command_line.specs.Line.{line_of};
+ghost use Rattle.command_line.specs.Seen.{texts, command_seen, FewArguments};
+ghost use Rattle.sve_top.specs.Answer.{wanted, told, IsAnswer, IsStatus, IsOf, IsListed, IsKept, IsQuiet, IsSilent, IsHeld, Compiled, OthersKept, text_wanted, Prints, PrintsBy, Gains, told_by};
 
 use crate::compile::compile;
-use crate::refusal::Refusal;
+use crate::refusal::{Done, Refusal};
+use crate::run::run;
+use crate::told::put_refusal;
+use command_line::command::Command;
+use command_line::read::read_line;
 use io_edges::files::Files;
-use io_edges::sink::{Sink, put_all};
+use io_edges::sink::Sink;
 use io_edges::source::Source;
 use std::alloc::Global;
 
 /// Does the command that the words spell, and answers its status. The words are those after the program's name.
 ///
-/// 0 done; 2 the words are no command; 3 the kernel is refused; 4 a file is refused; 7 memory is short; 8 a file failed.
-/// At every status but 0 one line on `err` tells the cause; a failure of `err` changes no status.
+/// 0 done; 2 the words are no command; 3 the kernel is refused; 4 a file is refused; 5 the program stopped; 6 its steps are
+/// spent; 7 memory is short; 8 a file failed; 9 the output failed. A run puts its outcome on `out`. At every status but 0, 5
+/// and 6 one line on `err` tells the cause; a failure of `err` changes no status.
 pub fn top<F: Files, I: Source, S: Sink, E: Sink>(
     alloc: Global,
     words: &[String],
     files: &mut F,
     _input: &mut I,
-    _out: &mut S,
+    out: &mut S,
     err: &mut E,
 ) -> u8
-    ensures usage { (result ≡ 2) ↔ (line_of (texts words.now) ≡ None) }
-    ensures status { IfSome (F.held files.old) (λ held. IsStatus (F.faults files.old) (F.faults files.new) (wanted held (line_of (texts words.now))) result) }
-    ensures listed { (result ≡ 0) ⊎ (result ≡ 2) ⊎ (result ≡ 3) ⊎ (result ≡ 4) ⊎ (result ≡ 7) ⊎ (result ≡ 8) }
-    ensures file { result ≡ 0 → IfSome (line_of (texts words.now)) (λ names. IfSome (F.held files.old) (λ old. IfSome (F.held files.new) (λ new. Compiled old new names))) }
+    ensures usage { result ≡ 2 → line_of (texts words.now) ≡ None }
+    ensures listed { IsListed (line_of (texts words.now)) result }
+    ensures status { IfSome (F.held files.old) (λ held. IsStatus (F.faults files.old) (F.faults files.new) (S.faults out.old) (S.faults out.new) (wanted held (line_of (texts words.now))) result) }
+    ensures file { result ≡ 0 → IfSome (line_of (texts words.now)) (λ line. IfSome (F.held files.old) (λ old. IfSome (F.held files.new) (λ new. Compiled old new line))) }
     ensures others { IfSome (F.held files.old) (λ old. IfSome (F.held files.new) (λ new. OthersKept old new (line_of (texts words.now)))) }
-    ensures kept { (result ≡ 2) ⊎ (result ≡ 3) ⊎ (result ≡ 4) → F.held files.new ≡ F.held files.old }
+    ensures kept { (result ≡ 2) ⊎ (result ≡ 3) ⊎ (result ≡ 4) ⊎ (result ≡ 5) ⊎ (result ≡ 6) ⊎ (result ≡ 9) → F.held files.new ≡ F.held files.old }
     ensures failed { result ≡ 8 → Rose (F.faults files.old) (F.faults files.new) }
-    ensures steady { IsTrue (F.steady files.old) → IfSome (line_of (texts words.now)) (λ names. IfSome (F.held files.old) (λ held. IsSome (content held names.0) → result ≢ 8)) }
-    ensures quiet { _out.new ≡ _out.old }
+    ensures output { result ≡ 9 → Rose (S.faults out.old) (S.faults out.new) }
+    ensures steady { IsTrue (F.steady files.old) → IfSome (line_of (texts words.now)) (λ line. IfSome (F.held files.old) (λ held. IsHeld held line → result ≢ 8)) }
+    ensures printed { IfSome (F.held files.old) (λ held. PrintsBy (S.taken out.old) (S.taken out.new) (text_wanted held (line_of (texts words.now))) result) }
+    ensures quiet { (result ≡ 2) ⊎ (result ≡ 3) ⊎ (result ≡ 4) ⊎ (result ≡ 8) → out.new ≡ out.old }
+    ensures silent { IsSilent (line_of (texts words.now)) → out.new ≡ out.old }
     ensures unread { _input.new ≡ _input.old }
-    ensures told { Gains (E.taken err.old) (E.taken err.new) (E.faults err.old) (E.faults err.new) (told_by result) }
+    ensures told { IfSome (F.held files.old) (λ held. Gains (E.taken err.old) (E.taken err.new) (E.faults err.old) (E.faults err.new) (told_by (told (wanted held (line_of (texts words.now)))) result)) }
+    ensures told_alike { result ≢ 4 → Gains (E.taken err.old) (E.taken err.new) (E.faults err.old) (E.faults err.new) (told_by [] result) }
 {
-    match do_words(alloc, words, files) {
-        Ok(()) => 0,
+    match do_words(alloc, words, files, out) {
+        Ok(done) => done.status(),
         Err(refusal) => {
-            let _ = put_all(err, refusal.line());
+            let _ = put_refusal(err, refusal);
             refusal.status()
         }
     }
 }
 
 // Does the command of some words.
-fn do_words<F: Files>(alloc: Global, words: &[String], files: &mut F) -> Result<(), Refusal>
-    ensures usage { (result ≡ Err Refusal.Usage) ↔ (line_of (texts words.now) ≡ None) }
-    ensures status { IfSome (F.held files.old) (λ held. IsStatus (F.faults files.old) (F.faults files.new) (wanted held (line_of (texts words.now))) (status_of result)) }
-    ensures file { OnOk result (IfSome (line_of (texts words.now)) (λ names. IfSome (F.held files.old) (λ old. IfSome (F.held files.new) (λ new. Compiled old new names)))) }
+fn do_words<F: Files, S: Sink>(
+    alloc: Global,
+    words: &[String],
+    files: &mut F,
+    out: &mut S,
+) -> Result<Done, Refusal>
+    ensures answer { IfSome (F.held files.old) (λ held. IsAnswer (F.faults files.old) (F.faults files.new) (S.faults out.old) (S.faults out.new) (wanted held (line_of (texts words.now))) result) }
+    ensures listed { IsOf (line_of (texts words.now)) result }
+    ensures file { OnOk result (IfSome (line_of (texts words.now)) (λ line. IfSome (F.held files.old) (λ old. IfSome (F.held files.new) (λ new. Compiled old new line)))) }
     ensures others { IfSome (F.held files.old) (λ old. IfSome (F.held files.new) (λ new. OthersKept old new (line_of (texts words.now)))) }
-    ensures unknown { result ≡ Err Refusal.Usage → F.held files.new ≡ F.held files.old }
-    ensures kept { result ≡ Err Refusal.NotYet → F.held files.new ≡ F.held files.old }
-    ensures not_read { result ≡ Err Refusal.TooLong → F.held files.new ≡ F.held files.old }
+    ensures kept { IsKept result → F.held files.new ≡ F.held files.old }
     ensures failed { result ≡ Err Refusal.File → Rose (F.faults files.old) (F.faults files.new) }
-    ensures steady { IsTrue (F.steady files.old) → IfSome (line_of (texts words.now)) (λ names. IfSome (F.held files.old) (λ held. IsSome (content held names.0) → result ≢ Err Refusal.File)) }
+    ensures output { result ≡ Err Refusal.Output → Rose (S.faults out.old) (S.faults out.new) }
+    ensures steady { IsTrue (F.steady files.old) → IfSome (line_of (texts words.now)) (λ line. IfSome (F.held files.old) (λ held. IsHeld held line → result ≢ Err Refusal.File)) }
+    ensures printed { IfSome (F.held files.old) (λ held. Prints (S.taken out.old) (S.taken out.new) (text_wanted held (line_of (texts words.now))) result) }
+    ensures quiet { IsQuiet result → out.new ≡ out.old }
+    ensures silent { IsSilent (line_of (texts words.now)) → out.new ≡ out.old }
 {
-    match words {
-        [command, from, to] => {
-            if command.as_str() != "compile" || !is_name(from.as_str()) || !is_name(to.as_str()) {
-                return Err(Refusal::Usage);
-            }
-            compile(alloc, from.as_str(), to.as_str(), files)
-        }
-        _ => Err(Refusal::Usage),
-    }
+    let Some(command) = read_line(alloc, words)? else {
+        return Err(Refusal::Usage);
+    };
+    let done = do_command(alloc, &command, files, out)?;
+    Ok(done)
 }
 
-fn is_name(word: &str) -> bool
-    ensures { result ≡ is_name word.now }
+// Does a command.
+fn do_command<F: Files, S: Sink>(
+    alloc: Global,
+    command: &Command,
+    files: &mut F,
+    out: &mut S,
+) -> Result<Done, Refusal>
+    requires { FewArguments command.now }
+    ensures answer { IfSome (F.held files.old) (λ held. IsAnswer (F.faults files.old) (F.faults files.new) (S.faults out.old) (S.faults out.new) (wanted held (Some (command_seen command.now))) result) }
+    ensures listed { IsOf (Some (command_seen command.now)) result }
+    ensures file { OnOk result (IfSome (F.held files.old) (λ old. IfSome (F.held files.new) (λ new. Compiled old new (command_seen command.now)))) }
+    ensures others { IfSome (F.held files.old) (λ old. IfSome (F.held files.new) (λ new. OthersKept old new (Some (command_seen command.now)))) }
+    ensures kept { IsKept result → F.held files.new ≡ F.held files.old }
+    ensures failed { result ≡ Err Refusal.File → Rose (F.faults files.old) (F.faults files.new) }
+    ensures output { result ≡ Err Refusal.Output → Rose (S.faults out.old) (S.faults out.new) }
+    ensures steady { IsTrue (F.steady files.old) → IfSome (F.held files.old) (λ held. IsHeld held (command_seen command.now) → result ≢ Err Refusal.File) }
+    ensures printed { IfSome (F.held files.old) (λ held. Prints (S.taken out.old) (S.taken out.new) (text_wanted held (Some (command_seen command.now))) result) }
+    ensures quiet { IsQuiet result → out.new ≡ out.old }
+    ensures silent { IsSilent (Some (command_seen command.now)) → out.new ≡ out.old }
 {
-    match word.as_bytes() {
-        [] => false,
-        [first, ..] => *first != b'-',
+    match command {
+        Command::Compile { from, to } => compile(alloc, from.as_str(), to.as_str(), files),
+        Command::Run(line) => run(alloc, line, files, out),
     }
 }

@@ -1,0 +1,14 @@
+use Rattle.std.proofs.Common.{◌≡◌, length, List, ◌∙◌, subst}
+use Rattle.std.specs.Prelude.{◌++◌, map}
+use Rattle.sve_top.specs.Answer.{PutsText}
+use Rattle.sve_top.proofs.Puts.{puts_then, parts_cons}
+use Rattle.sve_top.proofs.told.+put_parts.Goals as goal
+
+pub returns : goal.returns
+returns g t c =
+    let h = c.put_all.ensures in
+    subst
+    (λ text. PutsText (g.S.Sink.taken c.args.sink.now) (g.S.Sink.taken c.put_parts.new.sink) (g.S.Sink.faults c.args.sink.now) (g.S.Sink.faults c.put_parts.new.sink) text c.put_parts.result)
+    (parts_cons c.args.parts.now _ c.in-len1-up.len_at_least)
+    (puts_then (g.S.Sink.taken c.args.sink.now) (g.S.Sink.taken c.put_all.new.sink) (g.S.Sink.taken c.put_parts.new.sink) (g.S.Sink.faults c.args.sink.now) (g.S.Sink.faults c.put_all.new.sink) (g.S.Sink.faults c.put_parts.new.sink) _ _ c.put_all.result c.put_parts.result c.in_ok-put_all.was
+    (record { all = h.all; part = h.prefix; untold = h.untold; cause = h.cause }) c.put_parts.ensures)
