@@ -1,6 +1,6 @@
 -- What is put on outputs.
-use Rattle.std.proofs.Common.{◌≡◌, ℕ, ◌+◌, ◌≤◌, ◌⊎◌, inl, inr, List, [], ◌++◌, take, length, Option, Some, None, Result, Ok, Err, refl, sym, ap, ◌∙◌, subst, append-nil, append_assoc, arith, length-append, ◌∷◌, ◌-◌, map, drop, get_or, Bor}
-use Rattle.std.specs.Prelude.{IfSome, OnOk, OnErr}
+use Rattle.std.proofs.Common.{◌≡◌, ℕ, ◌+◌, ◌≤◌, List, [], ◌++◌, take, length, Option, Some, None, Result, Ok, Err, refl, sym, ap, ◌∙◌, subst, append-nil, append_assoc, arith, length-append, ◌∷◌, ◌-◌, map, drop, get_or, Bor}
+use Rattle.std.specs.Prelude.{IfSome, OnOk}
 use Rattle.std.specs.List.{concat}
 use Rattle.command_line.specs.Seen.{bytes_left, command_seen}
 use Rattle.command_line.specs.declared.command.Command.{Command}
@@ -10,9 +10,8 @@ use Rattle.std.specs.Global.{Global}
 use Rattle.std.proofs.Math.Seq.{take-append-add, take-length}
 use Rattle.std.proofs.lemmas.List.{take-append-le}
 use Rattle.io_edges.specs.declared.sink.Failed.{Failed}
-use Rattle.io_edges.specs.Files.{Rose, one_more}
+use Rattle.io_edges.specs.Files.{Rose}
 use Rattle.io_edges.specs.Sink.{HasCause}
-use Rattle.sve_top.specs.declared.refusal.Refusal.{Refusal}
 use Rattle.sve_top.specs.Answer.{PutsText, GainsPart, Prints, Answer, Held, text_wanted}
 
 -- a text of which nothing was put, and nothing of an empty text

@@ -1,5 +1,5 @@
 -- What a command answers, and what it leaves.
-use Rattle.std.specs.Prelude.{◌≡◌, ◌≢◌, ℕ, ◌⊎◌, ◌≤◌, Bool, ◌||◌, List, [], ◌∷◌, ◌++◌, take, length, Option, Some, None, IfSome, IsSome, IsTrue, OnOk, Result, Ok, Err, nat_eq, nat_lt, if◌then◌else◌}
+use Rattle.std.specs.Prelude.{◌≡◌, ◌≢◌, ℕ, ◌⊎◌, ◌≤◌, Bool, ◌||◌, List, [], ◌++◌, take, length, Option, Some, None, IfSome, IsSome, IsTrue, OnOk, Result, Ok, Err, nat_eq, nat_lt, if◌then◌else◌}
 use Rattle.io_edges.specs.Files.{Rose, content}
 use Rattle.io_edges.specs.Sink.{HasCause}
 use Rattle.io_edges.specs.declared.files.TheConstants.{MAX_FILE}

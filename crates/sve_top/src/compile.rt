@@ -11,7 +11,12 @@ use io_edges::files::Files;
 use std::alloc::Global;
 
 /// Compiles the kernel under one name to an executable under another.
-pub fn compile<F: Files>(alloc: Global, from: &str, to: &str, files: &mut F) -> Result<Done, Refusal>
+pub fn compile<F: Files>(
+    alloc: Global,
+    from: &str,
+    to: &str,
+    files: &mut F,
+) -> Result<Done, Refusal>
     ensures answer { IfSome (F.held files.old) (λ held. IsFileAnswer (F.faults files.old) (F.faults files.new) (answer_of_file answer_of_text (content held from.now)) result) }
     ensures file { OnOk result (IfSome (F.held files.old) (λ old. IfSome (F.held files.new) (λ new. Compiled old new (CompileLine from.now to.now)))) }
     ensures others { IfSome (F.held files.old) (λ old. IfSome (F.held files.new) (λ new. OthersKept old new (Some (CompileLine from.now to.now)))) }

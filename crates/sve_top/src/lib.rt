@@ -4,5 +4,7 @@
 mod compile;
 pub mod refusal;
 mod run;
+#[cfg(test)]
+mod tests;
 mod told;
 pub mod top;

@@ -1,4 +1,4 @@
-use Rattle.std.proofs.Common.{◌≡◌, Ok, ◌∙◌, ap, sym}
+use Rattle.std.proofs.Common.{Ok, ◌∙◌, ap, sym}
 use Rattle.elf_image.specs.Loaded.{plain}
 use Rattle.command_line.specs.Seen.{run_seen}
 use Rattle.outcome_text.specs.Shown.{text_of}

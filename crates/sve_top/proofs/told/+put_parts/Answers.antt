@@ -1,5 +1,4 @@
-use Rattle.std.proofs.Common.{◌≡◌, length, List, ◌∙◌, subst}
-use Rattle.std.specs.Prelude.{◌++◌, map}
+use Rattle.std.proofs.Common.{subst}
 use Rattle.sve_top.specs.Answer.{PutsText}
 use Rattle.sve_top.proofs.Puts.{puts_then, parts_cons}
 use Rattle.sve_top.proofs.told.+put_parts.Goals as goal

@@ -1,4 +1,4 @@
-use Rattle.std.proofs.Common.{◌≡◌, ◌∷◌, [], ◌∙◌, subst}
+use Rattle.std.proofs.Common.{◌∙◌, subst}
 use Rattle.std.specs.Prelude.{codes, decimal}
 use Rattle.sve_top.specs.Lines.{line_feed}
 use Rattle.sve_top.specs.Answer.{PutsText}

@@ -1,0 +1,213 @@
+// The commands over files in memory: worked rows with outside values.
+
+use crate::top::top;
+use io_edges::memory_files::{MemoryFiles, NamedFile, have_different_names};
+use io_edges::memory_sink::MemorySink;
+use io_edges::memory_source::MemorySource;
+use std::alloc::{AllocError, Global};
+use std::test::Fail;
+
+// The first 24 bytes of an executable for 64-bit Arm, from another linker's output for the same layout.
+const HEADER: [u8; 24] = [
+    0x7f, 0x45, 0x4c, 0x46, 2, 1, 1, 0, 0, 0, 0, 0, 0, 0, 0, 0, 2, 0, 0xb7, 0, 1, 0, 0, 0,
+];
+
+// A program of three words: add x0, x0, #1; movz x8, #93; svc #0.
+const E1: [u8; 132] = [
+    0x7f, 0x45, 0x4c, 0x46, 0x02, 0x01, 0x01, 0x00, 0x00, 0x00, 0x00, 0x00, 0x00, 0x00, 0x00, 0x00,
+    0x02, 0x00, 0xb7, 0x00, 0x01, 0x00, 0x00, 0x00, 0x78, 0x00, 0x40, 0x00, 0x00, 0x00, 0x00, 0x00,
+    0x40, 0x00, 0x00, 0x00, 0x00, 0x00, 0x00, 0x00, 0x00, 0x00, 0x00, 0x00, 0x00, 0x00, 0x00, 0x00,
+    0x00, 0x00, 0x00, 0x00, 0x40, 0x00, 0x38, 0x00, 0x01, 0x00, 0x00, 0x00, 0x00, 0x00, 0x00, 0x00,
+    0x01, 0x00, 0x00, 0x00, 0x05, 0x00, 0x00, 0x00, 0x00, 0x00, 0x00, 0x00, 0x00, 0x00, 0x00, 0x00,
+    0x00, 0x00, 0x40, 0x00, 0x00, 0x00, 0x00, 0x00, 0x00, 0x00, 0x40, 0x00, 0x00, 0x00, 0x00, 0x00,
+    0x84, 0x00, 0x00, 0x00, 0x00, 0x00, 0x00, 0x00, 0x84, 0x00, 0x00, 0x00, 0x00, 0x00, 0x00, 0x00,
+    0x00, 0x10, 0x00, 0x00, 0x00, 0x00, 0x00, 0x00, 0x00, 0x04, 0x00, 0x91, 0xa8, 0x0b, 0x80, 0xd2,
+    0x01, 0x00, 0x00, 0xd4,
+];
+
+// What a command came to: its status, whether `out` is held and begins with the header, and what it put on the output and on the
+// error output.
+#[derive(Drop)]
+struct Came {
+    status: u8,
+    written: bool,
+    printed: Vec<u8>,
+    told: Vec<u8>,
+}
+
+// The calls that are to fail, of the files and of the output.
+#[derive(Drop)]
+struct Fails {
+    files: Vec<u64>,
+    output: Vec<u64>,
+}
+
+impl Fails {
+    fn none(alloc: Global) -> Fails {
+        Fails {
+            files: Vec::new(alloc),
+            output: Vec::new(alloc),
+        }
+    }
+}
+
+// A command over one file `in`.
+fn done(alloc: Global, line: &str, file: &[u8], fails: Fails) -> Result<Option<Came>, AllocError> {
+    let name = String::from_str(alloc, "in")?;
+    let bytes = file.to_vec(alloc)?;
+    let listed = vec![in alloc; NamedFile { name, bytes }]?;
+    if !have_different_names(&listed) {
+        return Ok(None);
+    }
+    let mut files = MemoryFiles::new(listed, fails.files);
+    let mut texts = Vec::new(alloc);
+    for word in line.split(' ') {
+        texts.push(String::from_str(alloc, word)?)?;
+    }
+    let came = done_over(alloc, &texts, &mut files, fails.output)?;
+    Ok(Some(came))
+}
+
+fn done_over(
+    alloc: Global,
+    words: &[String],
+    files: &mut MemoryFiles,
+    fail: Vec<u64>,
+) -> Result<Came, AllocError> {
+    let mut input = MemorySource::new(Vec::new(alloc), Vec::new(alloc));
+    let mut out = MemorySink::new(alloc, 100, fail)?;
+    let mut err = MemorySink::new(alloc, 100, Vec::new(alloc))?;
+    let status = top(alloc, words, files, &mut input, &mut out, &mut err);
+    let written = match files.bytes("out") {
+        Some(file) => file.starts_with(&HEADER),
+        None => false,
+    };
+    Ok(Came {
+        status,
+        written,
+        printed: out.bytes().to_vec(alloc)?,
+        told: err.bytes().to_vec(alloc)?,
+    })
+}
+
+// The file as bytes is the text of `compile`, and the program of `run`.
+const ADD_ONE: &[u8] = b"kernel f(x: u64) -> u64 { return x + 1; }";
+
+#[test]
+fn kernel_is_compiled(rt: HostRuntime) -> Result<(), Fail> {
+    let none = Fails::none(rt.alloc());
+    let came = done(rt.alloc(), "compile in out", ADD_ONE, none)?.expect(&rt, "a command");
+    assert_eq!(rt; came.status, 0);
+    assert!(rt; came.written);
+    assert_eq!(rt; came.printed.len(), 0);
+    assert_eq!(rt; came.told.len(), 0);
+    Ok(())
+}
+
+#[test]
+fn other_texts_are_refused(rt: HostRuntime) -> Result<(), Fail> {
+    let texts = [
+        b"kernel f(x: u64) -> u64 { return x + ; }".as_slice(),
+        b"kernel f(x: u8) { }".as_slice(),
+        b"".as_slice(),
+    ];
+    for text in texts {
+        let none = Fails::none(rt.alloc());
+        let came = done(rt.alloc(), "compile in out", text, none)?.expect(&rt, "a command");
+        assert_eq!(rt; came.status, 3);
+        assert!(rt; !came.written);
+        assert_eq!(rt; came.told.as_slice(), b"svec: kernel: not yet\n".as_slice());
+    }
+    Ok(())
+}
+
+#[test]
+fn failing_files_are_told(rt: HostRuntime) -> Result<(), Fail> {
+    let rows = [("compile in out", 0), ("compile in out", 1), ("run in", 0)];
+    for (line, call) in rows {
+        let fails = Fails {
+            files: vec![in rt.alloc(); call]?,
+            output: Vec::new(rt.alloc()),
+        };
+        let came = done(rt.alloc(), line, ADD_ONE, fails)?.expect(&rt, "a command");
+        assert_eq!(rt; came.status, 8);
+        assert!(rt; !came.written);
+        assert_eq!(rt; came.told.as_slice(), b"svec: file failed\n".as_slice());
+    }
+    Ok(())
+}
+
+#[test]
+fn other_words_are_no_command(rt: HostRuntime) -> Result<(), Fail> {
+    for line in ["", "run in -5", "run --vl 130 in", "compile in"] {
+        let none = Fails::none(rt.alloc());
+        let came = done(rt.alloc(), line, &E1, none)?.expect(&rt, "a command");
+        assert_eq!(rt; came.status, 2);
+        assert_eq!(rt; came.told.as_slice(), b"svec: usage\n".as_slice());
+    }
+    Ok(())
+}
+
+#[test]
+fn programs_run(rt: HostRuntime) -> Result<(), Fail> {
+    let mut undefined = E1;
+    undefined[121] = 0;
+    undefined[123] = 0;
+    let rows = [
+        (
+            "run in 41",
+            E1,
+            0,
+            b"result 0x000000000000002a\nsteps 3\n".as_slice(),
+        ),
+        (
+            "run --steps 2 in 41",
+            E1,
+            6,
+            b"spent pc 0x0000000000400080\nsteps 2\n".as_slice(),
+        ),
+        (
+            "run in",
+            undefined,
+            5,
+            b"stop undefined pc 0x0000000000400078 at 0x0000000000000000\nsteps 1\n".as_slice(),
+        ),
+    ];
+    for (line, file, status, text) in rows {
+        let none = Fails::none(rt.alloc());
+        let came = done(rt.alloc(), line, &file, none)?.expect(&rt, "a command");
+        assert_eq!(rt; came.status, status);
+        assert_eq!(rt; came.printed.as_slice(), text);
+        assert_eq!(rt; came.told.len(), 0);
+    }
+    Ok(())
+}
+
+#[test]
+fn short_file_is_refused(rt: HostRuntime) -> Result<(), Fail> {
+    let none = Fails::none(rt.alloc());
+    let came = done(rt.alloc(), "run in", &E1[..63], none)?.expect(&rt, "a command");
+    assert_eq!(rt; came.status, 4);
+    assert_eq!(rt; came.printed.len(), 0);
+    assert_eq!(rt;
+        came.told.as_slice(),
+        b"svec: file: short 64 63\n".as_slice()
+    );
+    Ok(())
+}
+
+#[test]
+fn failing_output_is_told(rt: HostRuntime) -> Result<(), Fail> {
+    let fails = Fails {
+        files: Vec::new(rt.alloc()),
+        output: vec![in rt.alloc(); 0]?,
+    };
+    let came = done(rt.alloc(), "run in 41", &E1, fails)?.expect(&rt, "a command");
+    assert_eq!(rt; came.status, 9);
+    assert_eq!(rt; came.printed.len(), 0);
+    assert_eq!(rt;
+        came.told.as_slice(),
+        b"svec: output or input failed\n".as_slice()
+    );
+    Ok(())
+}
