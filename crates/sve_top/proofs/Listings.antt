@@ -1,5 +1,6 @@
 -- Lines of consecutive words, and how many there may be.
 use Rattle.std.proofs.Common.{◌≡◌, ℕ, zero, suc, ◌+◌, ◌-◌, ◌*◌, ◌≤◌, List, [], ◌++◌, Option, Result, Ok, Err, refl, ap, sym, ◌∙◌, subst, arith, append_assoc, append-nil}
+use Rattle.std.specs.Prelude.{IsErr}
 use Rattle.io_edges.specs.declared.sink.Failed.{Failed}
 use Rattle.guest_types.specs.Memory.{Memory, number_at}
 use Rattle.list_text.specs.Text.{list_text, line_text}
@@ -10,7 +11,10 @@ use Rattle.sve_top.proofs.Puts.{puts_then, puts_cut, puts_nothing}
 -- some words, and those behind them
 pub join : (m : Memory) (a n k j : ℕ) → j ≡ n + k → lines_from m a j ≡ lines_from m a n ++ lines_from m (a + 4 * n) k
 unfolding lines_from words_from list_text
-join m a zero k j e = ap (λ i. lines_from m a i) e ∙ ap (λ b. lines_from m b k) (omega arith)
+join m a zero k j e =
+    let count : j ≡ k = omega (arith, e) in
+    let place : a ≡ a + 4 * 0 = omega arith in
+    ap (λ i. lines_from m a i) count ∙ ap (λ b. lines_from m b k) place
 join m a (suc n) k zero e = absurd (omega arith)
 join m a (suc n) k (suc j) e =
     let line = line_text a (number_at m a 4) in
@@ -42,10 +46,12 @@ puts_more m a n k old mid new x y z text result is p q =
     subst (λ t. PutsText old new x z t result) whole (puts_then old mid new x y z (lines_from m a n) text (Ok tt) result refl p q)
 
 -- the output failed among the first lines
-pub puts_short : (m : Memory) (a n count : ℕ) (old new : Option (List ℕ)) (x z : ℕ) (failed : Failed) → n ≤ count → PutsText old new x z (lines_from m a n) (Err failed) → PutsText old new x z (lines_from m a count) (Err failed)
-puts_short m a n count old new x z failed most p =
-    subst (λ t. PutsText old new x z t (Err failed)) (sym (join m a n (count - n) count (omega arith)))
-    (puts_cut old new x z (lines_from m a n) (lines_from m (a + 4 * n) (count - n)) (Err failed) failed refl p)
+pub puts_short : (m : Memory) (a n count : ℕ) (old new : Option (List ℕ)) (x z : ℕ) (first result : Result (Unit {0}) Failed) (failed : Failed) → first ≡ Err failed → IsErr result → n ≤ count → PutsText old new x z (lines_from m a n) first → PutsText old new x z (lines_from m a count) result
+puts_short m a n count old new x z first (Ok done) failed is err most p = absurd cc
+puts_short m a n count old new x z first (Err other) failed is err most p =
+    let cut : PutsText old new x z (lines_from m a n ++ lines_from m (a + 4 * n) (count - n)) (Err failed) = puts_cut old new x z (lines_from m a n) (lines_from m (a + 4 * n) (count - n)) first failed is p in
+    let whole : PutsText old new x z (lines_from m a count) (Err failed) = subst (λ t. PutsText old new x z t (Err failed)) (sym (join m a n (count - n) count (omega arith))) cut in
+    record { all = tt; part = whole.part; untold = whole.untold; cause = record { later = whole.cause.later; failed = whole.cause.failed } }
 
 -- no lines were put
 pub puts_none : (m : Memory) (a : ℕ) (old : Option (List ℕ)) (x : ℕ) → PutsText old old x x (lines_from m a 0) (Ok tt)

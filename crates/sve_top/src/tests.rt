@@ -244,14 +244,17 @@ fn programs_are_listed(rt: HostRuntime) -> Result<(), Fail> {
     unlisted[122] = 0;
     unlisted[123] = 0;
     let rows = [
-        (E1, b"0000000000400078: 91000400 add x0, x0, #1\n".as_slice()),
+        (
+            E1,
+            b"0000000000400078: 91000400 add x0, x0, #1\n".as_slice(),
+        ),
         (
             unlisted,
             b"0000000000400078: 00000000 .word 0x00000000\n".as_slice(),
         ),
     ];
-    let rest = b"000000000040007c: d2800ba8 movz x8, #93\n0000000000400080: d4000001 svc #0\n"
-        .as_slice();
+    let rest =
+        b"000000000040007c: d2800ba8 movz x8, #93\n0000000000400080: d4000001 svc #0\n".as_slice();
     for (file, first) in rows {
         let none = Fails::none(rt.alloc());
         let came = done(rt.alloc(), "list in", &file, none)?.expect(&rt, "a command");
@@ -279,7 +282,14 @@ fn listing_ends_where_the_output_fails(rt: HostRuntime) -> Result<(), Fail> {
         faults: 0,
     };
     let mut err = MemorySink::new(rt.alloc(), 100, Vec::new(rt.alloc()))?;
-    let status = top(rt.alloc(), &words, &mut files, &mut input, &mut out, &mut err);
+    let status = top(
+        rt.alloc(),
+        &words,
+        &mut files,
+        &mut input,
+        &mut out,
+        &mut err,
+    );
     assert_eq!(rt; status, 9);
     assert_eq!(rt; out.bytes.as_slice(), b"0".as_slice());
     Ok(())
