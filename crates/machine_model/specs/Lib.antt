@@ -7,3 +7,4 @@ pub mod Written
 pub mod Run
 pub mod Answers
 pub mod OutcomeText
+pub mod DumpText
