@@ -1,6 +1,7 @@
 pub mod Machine
 pub mod Arithmetic
 pub mod Effects
+pub mod InstructionTable
 pub mod OneStep
 pub mod Load
 pub mod Written
