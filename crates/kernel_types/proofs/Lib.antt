@@ -1,3 +1,4 @@
 pub mod Least
-pub mod Streams
 pub mod Views
+pub mod Growth
+pub mod Choices

@@ -1,7 +1,7 @@
 //! The size and the depth of a kernel. A kernel may be some thousand levels deep here.
 
 ghost use Rattle.std.specs.Prelude.{◌≡◌, ◌<◌, ◌^◌, option_map};
-ghost use Rattle.kernel_tree.specs.Plain.{term_of, action_of, block_of, accumulators_of, turns_of, returned_of, program_of};
+ghost use Rattle.kernel_tree.specs.Plain.{Choose, Nothing, Else, term_of, action_of, block_of, accumulators_of, turns_of, returned_of, program_of};
 ghost use Rattle.kernel_tree.specs.Items as items;
 ghost use Rattle.kernel_tree.specs.Limits as limits;
 ghost use Rattle.kernel_types.specs.Scopes.{text_of};
@@ -10,7 +10,6 @@ use crate::own::stream_distance;
 use kernel_tree::{Answer, Expr, Kernel, Loop, Stmt, Var};
 
 // How many items an expression makes.
-#[tactic(auto, using(crate::proofs::Streams::stream_cases))]
 fn term_size(index: Option<&str>, expr: &Expr) -> u32
     requires { items.term_size (option_map text_of index) (term_of expr.now) < 2 ^ 32 }
     ensures { result ≡ items.term_size (option_map text_of index.entry) (term_of expr.now) }
@@ -49,15 +48,29 @@ fn stmt_size(index: Option<&str>, stmt: &Stmt) -> u32
             cond,
             then_part,
             else_part,
-        } => {
-            let first = term_size(index, cond) + 1 + block_size(index, then_part);
-            match else_part {
-                None => first + 1,
-                Some(other) => first + 1 + block_size(index, other) + 1,
-            }
-        }
+        } => match else_part {
+            None => if_size(index, cond, then_part),
+            Some(other) => if_else_size(index, cond, then_part, other),
+        },
         Stmt::Break { cond } => term_size(index, cond) + 1,
     }
+}
+
+#[cycle(sizes)]
+fn if_size(index: Option<&str>, cond: &Expr, block: &[Stmt]) -> u32
+    requires { items.action_size (option_map text_of index) (Choose (term_of cond.now) (block_of block.now) Nothing) < 2 ^ 32 }
+    ensures { result ≡ items.action_size (option_map text_of index.entry) (Choose (term_of cond.now) (block_of block.now) Nothing) }
+{
+    term_size(index, cond) + 1 + block_size(index, block) + 1
+}
+
+#[cycle(sizes)]
+fn if_else_size(index: Option<&str>, cond: &Expr, block: &[Stmt], other: &[Stmt]) -> u32
+    requires { items.action_size (option_map text_of index) (Choose (term_of cond.now) (block_of block.now) (Else (block_of other.now))) < 2 ^ 32 }
+    ensures { result ≡ items.action_size (option_map text_of index.entry) (Choose (term_of cond.now) (block_of block.now) (Else (block_of other.now))) }
+{
+    let first = term_size(index, cond) + 1 + block_size(index, block);
+    first + 1 + block_size(index, other) + 1
 }
 
 // How many items statements make.
@@ -159,16 +172,29 @@ fn stmt_depth(stmt: &Stmt) -> u32
             cond,
             then_part,
             else_part,
-        } => {
-            let first = block_depth(then_part);
-            let second = match else_part {
-                None => 0,
-                Some(other) => block_depth(other),
-            };
-            term_depth(cond).max(first.max(second)) + 1
-        }
+        } => match else_part {
+            None => if_depth(cond, then_part),
+            Some(other) => if_else_depth(cond, then_part, other),
+        },
         Stmt::Break { cond } => term_depth(cond) + 1,
     }
+}
+
+#[cycle(depths)]
+fn if_depth(cond: &Expr, block: &[Stmt]) -> u32
+    requires { limits.action_depth (Choose (term_of cond.now) (block_of block.now) Nothing) < 2 ^ 32 }
+    ensures { result ≡ limits.action_depth (Choose (term_of cond.now) (block_of block.now) Nothing) }
+{
+    term_depth(cond).max(block_depth(block)) + 1
+}
+
+#[cycle(depths)]
+fn if_else_depth(cond: &Expr, block: &[Stmt], other: &[Stmt]) -> u32
+    requires { limits.action_depth (Choose (term_of cond.now) (block_of block.now) (Else (block_of other.now))) < 2 ^ 32 }
+    ensures { result ≡ limits.action_depth (Choose (term_of cond.now) (block_of block.now) (Else (block_of other.now))) }
+{
+    let blocks = block_depth(block).max(block_depth(other));
+    term_depth(cond).max(blocks) + 1
 }
 
 #[cycle(depths)]

@@ -1,11 +1,10 @@
 //! Goes over statements, item by item.
 
-ghost use Rattle.std.specs.Prelude.{◌≡◌, ◌∷◌, ◌++◌, [], ◌+◌, ◌<◌, ◌^◌, None, IfOk};
+ghost use Rattle.std.specs.Prelude.{◌≡◌, ◌++◌, ◌+◌, ◌<◌, ◌^◌, IfOk};
 ghost use Rattle.kernel_tree.specs.declared.ops.UpdateOp.TheVariants as update;
-ghost use Rattle.kernel_tree.specs.Plain.{name_of, term_of, action_of, block_of, Define, Put, Update, Leave, Else};
+ghost use Rattle.kernel_tree.specs.Plain.{name_of, term_of, action_of, block_of, Define, Put, Update, Choose, Leave, Nothing, Else};
 ghost use Rattle.kernel_tree.specs.Items as items;
 ghost use Rattle.kernel_tree.specs.Typing as typing;
-ghost use Rattle.kernel_tree.specs.Typing.{Condition};
 ghost use Rattle.kernel_types.specs.Scopes.{scope_of};
 
 use crate::names::{define, is_taken, leave, lookup};
@@ -104,19 +103,16 @@ fn walk_stmt<'a>(notes: &mut Notes, scope: &mut Scope<'a>, stmt: &'a Stmt) -> Re
             cond,
             then_part,
             else_part,
-        } => {
-            walk_then(notes, scope, cond, then_part)?;
-            match else_part {
-                None => {
-                    end(notes, None, None)?;
-                    Ok(())
-                }
-                Some(other) => {
-                    walk_else(notes, scope, other)?;
-                    Ok(())
-                }
+        } => match else_part {
+            None => {
+                walk_if(notes, scope, cond, then_part)?;
+                Ok(())
             }
-        }
+            Some(other) => {
+                walk_if_else(notes, scope, cond, then_part, other)?;
+                Ok(())
+            }
+        },
         Stmt::Break { cond } => {
             walk_break(notes, scope, cond)?;
             Ok(())
@@ -124,34 +120,38 @@ fn walk_stmt<'a>(notes: &mut Notes, scope: &mut Scope<'a>, stmt: &'a Stmt) -> Re
     }
 }
 
-// The condition of an `if`, `then`, and the block.
+// An `if` with one block.
 #[cycle(statements)]
 #[tactic(auto, using(crate::proofs::Least::sooner_rules))]
-fn walk_then<'a>(notes: &mut Notes, scope: &mut Scope<'a>, cond: &Expr, block: &'a [Stmt]) -> Result<(), AllocError>
-    requires { notes.old.next + (items.term_size (scope_of scope.old).index (term_of cond.now) + 1 + items.block_size (scope_of scope.old).index (block_of block.now)) < 2 ^ 32 }
-    ensures scope { IfOk result (λ _. scope_of scope.new ≡ typing.left (scope_of scope.old) (typing.after_block (scope_of scope.old) (block_of block.now))) }
-    ensures next { IfOk result (λ _. notes.new.next ≡ notes.old.next + (items.term_size (scope_of scope.old).index (term_of cond.now) + 1 + items.block_size (scope_of scope.old).index (block_of block.now))) }
-    ensures found { IfOk result (λ _. notes.new.found ≡ typing.sooner notes.old.found (typing.least (typing.faults (scope_of scope.old) notes.old.next Condition (term_of cond.now) ++ typing.block_faults (scope_of scope.old) (notes.old.next + items.term_size (scope_of scope.old).index (term_of cond.now) + 1) (block_of block.now)))) }
-    ensures types { IfOk result (λ _. notes.new.types.items ≡ notes.old.types.items ++ (typing.term_types (scope_of scope.old) Condition (term_of cond.now) ++ (None ∷ typing.block_types (scope_of scope.old) (block_of block.now)))) }
+fn walk_if<'a>(notes: &mut Notes, scope: &mut Scope<'a>, cond: &Expr, block: &'a [Stmt]) -> Result<(), AllocError>
+    requires { notes.old.next + items.action_size (scope_of scope.old).index (Choose (term_of cond.now) (block_of block.now) Nothing) < 2 ^ 32 }
+    ensures scope { IfOk result (λ _. scope_of scope.new ≡ typing.after_action (scope_of scope.old) (Choose (term_of cond.now) (block_of block.now) Nothing)) }
+    ensures next { IfOk result (λ _. notes.new.next ≡ notes.old.next + items.action_size (scope_of scope.old).index (Choose (term_of cond.now) (block_of block.now) Nothing)) }
+    ensures found { IfOk result (λ _. notes.new.found ≡ typing.sooner notes.old.found (typing.least (typing.action_faults (scope_of scope.old) notes.old.next (Choose (term_of cond.now) (block_of block.now) Nothing)))) }
+    ensures types { IfOk result (λ _. notes.new.types.items ≡ notes.old.types.items ++ typing.action_types (scope_of scope.old) (Choose (term_of cond.now) (block_of block.now) Nothing)) }
 {
     walk_expr(notes, scope, Role::Condition, cond)?;
     end(notes, None, None)?;
     walk_inner(notes, scope, block)?;
+    end(notes, None, None)?;
     Ok(())
 }
 
-// `else`, its block, and the end of the `if`.
+// An `if` with two blocks.
 #[cycle(statements)]
 #[tactic(auto, using(crate::proofs::Least::sooner_rules))]
-fn walk_else<'a>(notes: &mut Notes, scope: &mut Scope<'a>, block: &'a [Stmt]) -> Result<(), AllocError>
-    requires { notes.old.next + (1 + items.block_size (scope_of scope.old).index (block_of block.now) + 1) < 2 ^ 32 }
-    ensures scope { IfOk result (λ _. scope_of scope.new ≡ typing.left (scope_of scope.old) (typing.after_block (scope_of scope.old) (block_of block.now))) }
-    ensures next { IfOk result (λ _. notes.new.next ≡ notes.old.next + (1 + items.block_size (scope_of scope.old).index (block_of block.now) + 1)) }
-    ensures found { IfOk result (λ _. notes.new.found ≡ typing.sooner notes.old.found (typing.least (typing.block_faults (scope_of scope.old) (notes.old.next + 1) (block_of block.now)))) }
-    ensures types { IfOk result (λ _. notes.new.types.items ≡ notes.old.types.items ++ (None ∷ (typing.block_types (scope_of scope.old) (block_of block.now) ++ None ∷ []))) }
+fn walk_if_else<'a>(notes: &mut Notes, scope: &mut Scope<'a>, cond: &Expr, block: &'a [Stmt], other: &'a [Stmt]) -> Result<(), AllocError>
+    requires { notes.old.next + items.action_size (scope_of scope.old).index (Choose (term_of cond.now) (block_of block.now) (Else (block_of other.now))) < 2 ^ 32 }
+    ensures scope { IfOk result (λ _. scope_of scope.new ≡ typing.after_action (scope_of scope.old) (Choose (term_of cond.now) (block_of block.now) (Else (block_of other.now)))) }
+    ensures next { IfOk result (λ _. notes.new.next ≡ notes.old.next + items.action_size (scope_of scope.old).index (Choose (term_of cond.now) (block_of block.now) (Else (block_of other.now)))) }
+    ensures found { IfOk result (λ _. notes.new.found ≡ typing.sooner notes.old.found (typing.least (typing.action_faults (scope_of scope.old) notes.old.next (Choose (term_of cond.now) (block_of block.now) (Else (block_of other.now)))))) }
+    ensures types { IfOk result (λ _. notes.new.types.items ≡ notes.old.types.items ++ typing.action_types (scope_of scope.old) (Choose (term_of cond.now) (block_of block.now) (Else (block_of other.now)))) }
 {
+    walk_expr(notes, scope, Role::Condition, cond)?;
     end(notes, None, None)?;
     walk_inner(notes, scope, block)?;
+    end(notes, None, None)?;
+    walk_inner(notes, scope, other)?;
     end(notes, None, None)?;
     Ok(())
 }

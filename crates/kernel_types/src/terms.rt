@@ -65,6 +65,21 @@ fn walk_name(notes: &mut Notes, scope: &Scope, role: Role, name: &Name) -> Resul
     Ok(())
 }
 
+// Goes past a shift by a count.
+#[tactic(auto, using(crate::proofs::Least::sooner_rules))]
+fn end_shift(notes: &mut Notes, role: Role, count: i128) -> Result<(), AllocError>
+    requires { notes.old.next + 1 < 2 ^ 32 }
+    ensures next { IfOk result (λ _. notes.new.next ≡ notes.old.next + 1) }
+    ensures found { IfOk result (λ _. notes.new.found ≡ typing.sooner notes.old.found (typing.least (typing.as_value notes.old.next (role_of role) ++ typing.shift_faults notes.old.next (typing.wanted (role_of role)) count))) }
+    ensures types { IfOk result (λ _. notes.new.types.items ≡ notes.old.types.items ++ typing.wanted (role_of role) ∷ []) }
+{
+    let ty = wanted(role);
+    let item = notes.next;
+    let found = sooner(as_value(item, role), shift_fault(item, ty, count));
+    end(notes, found, ty)?;
+    Ok(())
+}
+
 /// Goes over an expression in a place of this role.
 #[cycle(terms)]
 #[tactic(auto, using(crate::proofs::Least::sooner_rules))]
@@ -165,11 +180,8 @@ fn walk_shift(notes: &mut Notes, scope: &Scope, role: Role, arg: &Expr, count: i
     ensures found { IfOk result (λ _. notes.new.found ≡ typing.sooner notes.old.found (typing.least (typing.faults (scope_of scope.now) notes.old.next (role_of role) (Shift true (term_of arg.now) count)))) }
     ensures types { IfOk result (λ _. notes.new.types.items ≡ notes.old.types.items ++ typing.term_types (scope_of scope.now) (role_of role) (Shift true (term_of arg.now) count)) }
 {
-    let ty = wanted(role);
-    walk_expr(notes, scope, Role::Value(ty), arg)?;
-    let item = notes.next;
-    let found = sooner(as_value(item, role), shift_fault(item, ty, count));
-    end(notes, found, ty)?;
+    walk_expr(notes, scope, Role::Value(wanted(role)), arg)?;
+    end_shift(notes, role, count)?;
     Ok(())
 }
 
