@@ -22,9 +22,9 @@ stays s = record { more = []; visible = sym (append-nil s.visible); names = []; 
 further : (s t u : Scope) → Grows s t → Grows t u → Grows s u
 further s t u g h = record {
   more = g.more ++ h.more;
-  visible = h.visible ∙ ap (λ (ls : List Local). ls ++ h.more) g.visible ∙ append_assoc;
+  visible = h.visible ∙ ap (λ (ls : List Local). ls ++ h.more) g.visible ∙ append_assoc s.visible g.more h.more;
   names = g.names ++ h.names;
-  taken = h.taken ∙ ap (λ (xs : List (List ℕ)). xs ++ h.names) g.taken ∙ append_assoc;
+  taken = h.taken ∙ ap (λ (xs : List (List ℕ)). xs ++ h.names) g.taken ∙ append_assoc s.taken g.names h.names;
   index = h.index ∙ g.index;
   inside = h.inside ∙ g.inside;
 }

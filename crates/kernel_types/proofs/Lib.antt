@@ -2,3 +2,4 @@ pub mod Least
 pub mod Views
 pub mod Growth
 pub mod Choices
+pub mod Steps

@@ -1,8 +1,13 @@
 -- What the code keeps, as the rules of typing speak of it.
-use Rattle.std.specs.Prelude.{ℕ, ℤ, unsigned_abs, List, [], ◌∷◌, ◌++◌, map, take, Option, option_map, Bool, true, false, bytes_eq}
+use Rattle.std.specs.Prelude.{ℕ, ℤ, unsigned_abs, List, [], ◌∷◌, ◌++◌, map, take, Option, Some, None, option_map, ◌+◌, Bool, true, false, bytes_eq}
 use Rattle.std.specs.List.{find, list_any}
 use Rattle.std.specs.Borrow.{Bor}
+use Rattle.kernel_tree.specs.declared.ops.Ty.{Ty}
+use Rattle.kernel_tree.specs.declared.fault.Found.{Found}
 use Rattle.kernel_tree.specs.declared.fault.Binding.{Binding}
+use Rattle.kernel_tree.specs.declared.fault.Binding.TheVariants as binding
+use Rattle.kernel_tree.specs.Plain.{Parameter, Accumulator}
+use Rattle.kernel_tree.specs.Items.{term_size}
 use Rattle.kernel_tree.specs.Typing as typing
 use Rattle.kernel_types.specs.declared.scope.Local.{Local}
 use Rattle.kernel_types.specs.declared.scope.Scope.{Scope}
@@ -64,3 +69,17 @@ in_body scope = record scope { inside = true }
 -- behind the loop: so many names stay visible, and so many declared
 abbrev pub closed : ℕ → ℕ → typing.Scope → typing.Scope
 closed visible taken scope = record scope { visible = take visible scope.visible; taken = take taken scope.taken; inside = false }
+
+-- what a parameter and an accumulator declare
+abbrev pub after_param : typing.Scope → Parameter → typing.Scope
+after_param scope p = typing.declared scope p.name (typing.binding_of_shape p.shape)
+
+abbrev pub after_var : typing.Scope → Accumulator → typing.Scope
+after_var scope v = typing.declared scope v.name (binding.Accumulator v.type)
+
+-- the faults of an accumulator and of its initial value, and the wanted types of their items
+abbrev pub var_faults : typing.Scope → ℕ → Accumulator → List Found
+var_faults scope from v = typing.faults scope from (typing.Value (Some v.type)) v.init ++ typing.twice (from + term_size scope.index v.init) scope v.name
+
+abbrev pub var_types : typing.Scope → Accumulator → List (Option Ty)
+var_types scope v = typing.term_types scope (typing.Value (Some v.type)) v.init ++ None ∷ []

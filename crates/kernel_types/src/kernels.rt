@@ -1,10 +1,10 @@
 //! Goes over a kernel, item by item.
 
-ghost use Rattle.std.specs.Prelude.{◌≡◌, ◌∷◌, ◌++◌, [], ◌+◌, ◌<◌, ◌^◌, false, true, None, Some, IfOk, length, option_map};
-ghost use Rattle.kernel_tree.specs.Plain.{block_of, parameters_of, accumulators_of, turns_of, returned_of, program_of};
+ghost use Rattle.std.specs.Prelude.{◌≡◌, ◌∷◌, ◌++◌, [], ◌+◌, ◌<◌, ◌^◌, false, None, Some, IfOk, length, option_map};
+ghost use Rattle.kernel_tree.specs.Plain.{name_of, term_of, block_of, parameter_of, parameters_of, accumulator_of, accumulators_of, turns_of, returned_of, program_of};
 ghost use Rattle.kernel_tree.specs.Items as items;
 ghost use Rattle.kernel_tree.specs.Typing as typing;
-ghost use Rattle.kernel_types.specs.Scopes.{scope_of, text_of, in_body};
+ghost use Rattle.kernel_types.specs.Scopes.{scope_of, in_body, after_param, after_var, var_faults, var_types};
 
 use crate::measure::loop_index;
 use crate::names::{close, declare, is_taken, lookup};
@@ -13,7 +13,7 @@ use crate::scope::{Notes, Role, Scope};
 use crate::statements::walk_block;
 use crate::terms::{end, walk_expr};
 use kernel_tree::fault::Binding;
-use kernel_tree::{Answer, Kernel, Loop, Name, Param, Shape, Stmt, Var};
+use kernel_tree::{Answer, Kernel, Loop, Param, Shape, Stmt, Var};
 use std::alloc::{AllocError, Global};
 
 fn shape_binding(shape: Shape) -> Binding
@@ -25,36 +25,73 @@ fn shape_binding(shape: Shape) -> Binding
     }
 }
 
-/// Goes over parameters.
 #[tactic(auto, using(crate::proofs::Least::sooner_rules))]
-fn walk_params<'a>(notes: &mut Notes, scope: &mut Scope<'a>, params: &'a [Param]) -> Result<(), AllocError>
-    requires room { notes.old.next + length params.now < 2 ^ 32 }
+fn walk_param<'a>(
+    notes: &mut Notes,
+    scope: &mut Scope<'a>,
+    param: &'a Param,
+) -> Result<(), AllocError>
+    requires { notes.old.next + 1 < 2 ^ 32 }
+    ensures scope { IfOk result (λ _. scope_of scope.new ≡ after_param (scope_of scope.old) (parameter_of param.now)) }
+    ensures next { IfOk result (λ _. notes.new.next ≡ notes.old.next + 1) }
+    ensures found { IfOk result (λ _. notes.new.found ≡ typing.sooner notes.old.found (typing.least (typing.twice notes.old.next (scope_of scope.old) (name_of param.now.name)))) }
+    ensures types { IfOk result (λ _. notes.new.types.items ≡ notes.old.types.items ++ None ∷ []) }
+{
+    let found = twice(notes.next, is_taken(scope, &param.name));
+    end(notes, found, None)?;
+    declare(scope, &param.name, shape_binding(param.shape))?;
+    Ok(())
+}
+
+fn walk_params<'a>(
+    notes: &mut Notes,
+    scope: &mut Scope<'a>,
+    params: &'a [Param],
+) -> Result<(), AllocError>
+    requires { notes.old.next + length params.now < 2 ^ 32 }
     ensures scope { IfOk result (λ _. scope_of scope.new ≡ typing.after_params (scope_of scope.old) (parameters_of params.now)) }
     ensures next { IfOk result (λ _. notes.new.next ≡ notes.old.next + length params.now) }
     ensures found { IfOk result (λ _. notes.new.found ≡ typing.sooner notes.old.found (typing.least (typing.params_faults (scope_of scope.old) notes.old.next (parameters_of params.now)))) }
     ensures types { IfOk result (λ _. notes.new.types.items ≡ notes.old.types.items ++ typing.params_types (parameters_of params.now)) }
 {
     for param in params {
-        let found = twice(notes.next, is_taken(scope, &param.name));
-        end(notes, found, None)?;
-        declare(scope, &param.name, shape_binding(param.shape))?;
+        walk_param(notes, scope, param)?;
     }
     Ok(())
 }
 
 #[tactic(auto, using(crate::proofs::Least::sooner_rules))]
-fn walk_vars<'a>(notes: &mut Notes, scope: &mut Scope<'a>, vars: &'a [Var]) -> Result<(), AllocError>
-    requires room { notes.old.next + items.vars_size (scope_of scope.old).index (accumulators_of vars.now) < 2 ^ 32 }
+fn walk_var<'a>(
+    notes: &mut Notes,
+    scope: &mut Scope<'a>,
+    var: &'a Var,
+) -> Result<(), AllocError>
+    requires { notes.old.next + items.term_size (scope_of scope.old).index (term_of var.now.init) + 1 < 2 ^ 32 }
+    ensures scope { IfOk result (λ _. scope_of scope.new ≡ after_var (scope_of scope.old) (accumulator_of var.now)) }
+    ensures next { IfOk result (λ _. notes.new.next ≡ notes.old.next + (items.term_size (scope_of scope.old).index (term_of var.now.init) + 1)) }
+    ensures found { IfOk result (λ _. notes.new.found ≡ typing.sooner notes.old.found (typing.least (var_faults (scope_of scope.old) notes.old.next (accumulator_of var.now)))) }
+    ensures types { IfOk result (λ _. notes.new.types.items ≡ notes.old.types.items ++ var_types (scope_of scope.old) (accumulator_of var.now)) }
+{
+    walk_expr(notes, scope, Role::Value(Some(var.ty)), &var.init)?;
+    let found = twice(notes.next, is_taken(scope, &var.name));
+    end(notes, found, None)?;
+    declare(scope, &var.name, Binding::Accumulator(var.ty))?;
+    Ok(())
+}
+
+fn walk_vars<'a>(
+    notes: &mut Notes,
+    scope: &mut Scope<'a>,
+    vars: &'a [Var],
+) -> Result<(), AllocError>
+    requires { notes.old.next + items.vars_size (scope_of scope.old).index (accumulators_of vars.now) < 2 ^ 32 }
     ensures scope { IfOk result (λ _. scope_of scope.new ≡ typing.after_vars (scope_of scope.old) (accumulators_of vars.now)) }
     ensures next { IfOk result (λ _. notes.new.next ≡ notes.old.next + items.vars_size (scope_of scope.old).index (accumulators_of vars.now)) }
     ensures found { IfOk result (λ _. notes.new.found ≡ typing.sooner notes.old.found (typing.least (typing.vars_faults (scope_of scope.old) notes.old.next (accumulators_of vars.now)))) }
     ensures types { IfOk result (λ _. notes.new.types.items ≡ notes.old.types.items ++ typing.vars_types (scope_of scope.old) (accumulators_of vars.now)) }
 {
     for var in vars {
-        walk_expr(notes, scope, Role::Value(Some(var.ty)), &var.init)?;
-        let found = twice(notes.next, is_taken(scope, &var.name));
-        end(notes, found, None)?;
-        declare(scope, &var.name, Binding::Accumulator(var.ty))?;
+        walk_var(notes, scope, var)?;
     }
     Ok(())
 }
