@@ -3,3 +3,4 @@ pub mod Views
 pub mod Growth
 pub mod Choices
 pub mod Steps
+pub mod Whole
