@@ -4,3 +4,5 @@ pub mod Growth
 pub mod Choices
 pub mod Steps
 pub mod Whole
+pub mod Bounds
+pub mod Refused
