@@ -2,9 +2,17 @@
 //! accesses of the loop, and the width of its lanes.
 #![tactic(auto)]
 
+pub mod class;
+mod entries;
 pub mod entry;
 pub mod item;
+mod listing;
+pub mod needs;
 mod part;
 mod size;
+pub mod span;
+pub mod stream;
+mod streams;
 mod take_apart;
 mod walk;
+

@@ -9,7 +9,7 @@ use crate::part::Part;
 use crate::take_apart::parts;
 use kernel_tree::{BinaryOp, Checked, Expr, Name, Stmt, Var};
 
-// Whether a name is that of the loop variable.
+/// Whether a name is that of the loop variable.
 #[tactic(auto, unfolding(crate::specs::Seen::program))]
 pub fn is_loop_variable(kernel: &Checked, name: &Name) -> bool
     ensures { result ≡ is_index (loop_index (program kernel.now)) (name_of name.now) }
@@ -20,8 +20,8 @@ pub fn is_loop_variable(kernel: &Checked, name: &Name) -> bool
     }
 }
 
-// Whether an expression is the loop variable.
-fn is_bare(kernel: &Checked, expr: &Expr) -> bool
+/// Whether an expression is the loop variable.
+pub fn is_bare(kernel: &Checked, expr: &Expr) -> bool
     ensures { result ≡ is_index_term (loop_index (program kernel.now)) (term_of expr.now) }
 {
     match expr {

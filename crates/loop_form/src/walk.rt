@@ -23,8 +23,8 @@ fn type_at(kernel: &Checked, item: u32) -> Option<Ty>
     kernel.ty(item)
 }
 
-// Appends an item.
-fn put<'a>(
+/// Appends an item.
+pub fn put<'a>(
     kernel: &Checked,
     entries: &mut ArrayVec<Entry<'a>, 1000>,
     item: u32,
@@ -236,8 +236,8 @@ fn list_stmt<'a>(
     }
 }
 
-// An expression and the statement that it ends in.
-fn list_ended<'a>(
+/// Lists an expression and the item that it ends in.
+pub fn list_ended<'a>(
     kernel: &Checked,
     entries: &mut ArrayVec<Entry<'a>, 1000>,
     from: u32,
