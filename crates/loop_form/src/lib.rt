@@ -5,6 +5,7 @@
 pub mod class;
 mod entries;
 pub mod entry;
+mod held;
 pub mod item;
 mod listing;
 pub mod needs;
@@ -15,4 +16,5 @@ pub mod stream;
 mod streams;
 mod take_apart;
 mod walk;
+mod wide;
 

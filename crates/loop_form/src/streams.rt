@@ -65,6 +65,7 @@ fn place(params: &[Param], name: &str) -> Option<u32>
 }
 
 // The access of an array with an index, where it is a stream index.
+#[tactic(auto, unfolding(crate::specs::Seen::program))]
 fn access(kernel: &Checked, array: &str, index: &Expr, store: bool, item: u32) -> Option<Stream>
     requires { IsNear (stream_offset (loop_index (program kernel.now)) (term_of index.now)) }
     ensures { let k = program kernel.now in result ≡ access (place_of array.now k.params) (stream_offset (loop_index k) (term_of index.now)) store item }
