@@ -15,9 +15,11 @@ use crate::walk::{list_block, list_ended, list_vars, put};
 use arrayvec::ArrayVec;
 use kernel_tree::{Answer, Checked, Loop, Param};
 
-// A checked kernel has at most 1,000 items.
-fn is_small(kernel: &Checked)
-    ensures { size_of (program kernel.now) ≤ 1000 }
+/// A checked kernel has at most 1,000 items.
+pub fn is_small(kernel: &Checked)
+    ensures size { size_of (program kernel.now) ≤ 1000 }
+    ensures params { length (program kernel.now).params ≤ 1000 }
+    ensures vars { length (program kernel.now).vars ≤ 1000 }
 {
 }
 

@@ -1,14 +1,17 @@
 //! What is held in registers throughout.
 
 ghost use Rattle.std.specs.Prelude.{◌≡◌, ◌≤◌, [], if◌then◌else◌, length, filter};
+ghost use Rattle.loop_form.specs.Entries.{loop_entries};
 ghost use Rattle.std.specs.List.{list_any};
 ghost use Rattle.kernel_tree.specs.Plain.{parameters_of, parameter_of, accumulators_of, accumulator_of};
 ghost use Rattle.kernel_tree.specs.Items.{loop_index};
 ghost use Rattle.kernel_tree.specs.Typing.{number_of_type};
 ghost use Rattle.loop_form.specs.Listing.{names};
-ghost use Rattle.loop_form.specs.Needs.{is_scalar, is_named_scalar, scalars, same_type, is_literal, is_constant, new_constant, constants, index_held, updates, is_updated};
+ghost use Rattle.loop_form.specs.Needs.{is_scalar, is_named_scalar, scalars, same_type, is_literal, is_constant, new_constant, constants, index_held, updates, is_updated, throughout};
 ghost use Rattle.loop_form.specs.Seen.{program, content_of, entry_of, seen};
 
+use crate::class::RegisterClass;
+use crate::entries::is_small;
 use crate::entry::{Content, Entry};
 use crate::listing::is_name;
 use kernel_tree::{Checked, Param, Shape, Ty, Var};
@@ -126,10 +129,12 @@ fn count_constants(entries: &[Entry<'_>]) -> u32
     ensures small { result ≤ length entries.now }
 {
     let mut count = 0;
-    for (place, entry) in entries.iter().enumerate() {
+    let mut place = 0;
+    for entry in entries {
         if is_new(&entries[..place], entry) {
             count += 1;
         }
+        place += 1;
     }
     count
 }
@@ -181,4 +186,20 @@ fn count_updated(entries: &[Entry<'_>], vars: &[Var]) -> u32
         }
     }
     count
+}
+
+/// How many values are held in Z registers throughout, by the items of the loop.
+#[tactic(auto, unfolding(crate::specs::Seen::program))]
+pub fn count_held(kernel: &Checked, entries: &[Entry<'_>]) -> u32
+    requires small { length entries.now ≤ 1000 }
+    requires of_loop { seen entries.now ≡ loop_entries (program kernel.now) }
+    ensures count { result ≡ length (throughout (program kernel.now) RegisterClass.Z) }
+    ensures small { result ≤ 4000 }
+{
+    is_small(kernel);
+    let tree = kernel.kernel();
+    let parameters = count_scalars(entries, &tree.params);
+    let literals = count_constants(entries);
+    let index = count_index(kernel, entries);
+    parameters + literals + index + count_updated(entries, &tree.vars)
 }

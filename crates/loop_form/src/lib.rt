@@ -3,6 +3,7 @@
 #![tactic(auto)]
 
 pub mod class;
+mod count;
 mod entries;
 pub mod entry;
 mod held;
@@ -15,6 +16,7 @@ pub mod span;
 pub mod stream;
 mod streams;
 mod take_apart;
+mod values;
 mod walk;
 mod wide;
 
