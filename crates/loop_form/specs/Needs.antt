@@ -11,7 +11,7 @@ use Rattle.kernel_tree.specs.Typing.{number_of_type}
 use Rattle.loop_form.specs.declared.class.RegisterClass.{RegisterClass}
 use Rattle.loop_form.specs.declared.class.RegisterClass.TheVariants.{Z, P, X}
 use Rattle.loop_form.specs.declared.span.Span.{Span}
-use Rattle.loop_form.specs.declared.needs.Needs.{Needs}
+use Rattle.loop_form.specs.declared.need.Needs.{Needs}
 use Rattle.loop_form.specs.Entries.{Content, IsLiteral, IsName, IsRead, IsLet, IsStore, IsUpdate, IsPlain, Entry, entries_of, loop_entries}
 use Rattle.loop_form.specs.Listing.{names, until_in}
 

@@ -2,21 +2,29 @@
 //! accesses of the loop, and the width of its lanes.
 #![tactic(auto)]
 
+mod access;
 pub mod class;
 mod count;
-mod entries;
 pub mod entry;
 mod held;
 pub mod item;
-mod listing;
-pub mod needs;
+mod lists;
+pub mod need;
 mod part;
 mod size;
 pub mod span;
 pub mod stream;
-mod streams;
 mod take_apart;
 mod values;
 mod walk;
+mod whole;
 mod wide;
 
+pub use access::{accesses, streams};
+pub use count::needs;
+pub use entry::{Content, Entry};
+pub use item::{Item, ItemKind};
+pub use lists::listing;
+pub use stream::Stream;
+pub use whole::{entries, loop_entries};
+pub use wide::lane_width;

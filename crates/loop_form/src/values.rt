@@ -6,7 +6,7 @@ ghost use Rattle.loop_form.specs.Seen.{entry_of, seen};
 
 use crate::class::RegisterClass;
 use crate::entry::Entry;
-use crate::listing::until_if_made;
+use crate::lists::until_if_made;
 use crate::span::Span;
 use std::alloc::{AllocError, Global};
 

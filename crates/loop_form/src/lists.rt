@@ -8,7 +8,7 @@ ghost use Rattle.loop_form.specs.Listing.{names, has_x, has_z, has_p, has_value,
 ghost use Rattle.loop_form.specs.Seen.{content_of, entry_of, seen};
 
 use crate::class::RegisterClass;
-use crate::entries::entries;
+use crate::whole::entries;
 use crate::entry::{Content, Entry};
 use crate::item::{Item, ItemKind};
 use kernel_tree::Checked;

@@ -3,7 +3,7 @@ use Rattle.std.specs.Prelude.{length}
 use Rattle.kernel_tree.specs.Plain.{parameters_of}
 use Rattle.loop_form.specs.Entries.{params_entries}
 use Rattle.loop_form.specs.Seen.{program, seen}
-use Rattle.loop_form.proofs.entries.list_params.Given as goal
+use Rattle.loop_form.proofs.whole.list_params.Given as goal
 
 abbrev pub invariant-loop-param : goal.invariant-loop-param
 invariant-loop-param l = record {

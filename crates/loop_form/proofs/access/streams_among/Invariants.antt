@@ -4,7 +4,7 @@ use Rattle.kernel_tree.specs.Items.{loop_index}
 use Rattle.loop_form.specs.Near.{AreNear}
 use Rattle.loop_form.specs.Seen.{program, seen}
 use Rattle.loop_form.specs.Streams.{stream_of}
-use Rattle.loop_form.proofs.streams.streams_among.Given as goal
+use Rattle.loop_form.proofs.access.streams_among.Given as goal
 
 abbrev pub invariant-loop-entry : goal.invariant-loop-entry
 invariant-loop-entry l = record {
