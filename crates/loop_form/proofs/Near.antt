@@ -52,8 +52,8 @@ term-near k (Element a i) s from role f u q h =
     let outer : as_value item role ++ (read_faults item s.inside (wanted role) (lookup s a) ++ index_faults item (stream_offset s.index i) (own s i)) ≡ [] = nil-right (inner_faults (stream_offset s.index i) (faults s from (Value (first (own s i) (Some ty.U64))) i)) _ h in
     let rest : index_faults item (stream_offset s.index i) (own s i) ≡ [] = nil-right (read_faults item s.inside (wanted role) (lookup s a)) _ (nil-right (as_value item role) _ outer) in
     near-append (loop_index k) _ _
-      (inner-near (loop_index k) (stream_offset (loop_index k) i) (term_entries k f (f + index_items (loop_index k) i) i) (faults s from (Value (first (own s i) (Some ty.U64))) i) (term-near k i s from (Value (first (own s i) (Some ty.U64))) f (f + index_items (loop_index k) i) q) (subst (λ (j : Option (List ℕ)). inner_faults (stream_offset j i) (faults s from (Value (first (own s i) (Some ty.U64))) i) ≡ []) q inner))
-      (subst (λ (j : Option (List ℕ)). IsNear (stream_offset j i)) q (index-near item (stream_offset s.index i) (own s i) rest), tt)
+    (inner-near (loop_index k) (stream_offset (loop_index k) i) (term_entries k f (f + index_items (loop_index k) i) i) (faults s from (Value (first (own s i) (Some ty.U64))) i) (term-near k i s from (Value (first (own s i) (Some ty.U64))) f (f + index_items (loop_index k) i) q) (subst (λ (j : Option (List ℕ)). inner_faults (stream_offset j i) (faults s from (Value (first (own s i) (Some ty.U64))) i) ≡ []) q inner))
+    (subst (λ (j : Option (List ℕ)). IsNear (stream_offset j i)) q (index-near item (stream_offset s.index i) (own s i) rest), tt)
 term-near k (Unary op e) s from role f u q h = near-append (loop_index k) _ _ (term-near k e s from (Value (wanted role)) f _ q (nil-left _ _ h)) (tt, tt)
 term-near k (Operation op a b) s from role f u q h = near-append (loop_index k) _ _ (term-near k a s _ _ f _ q (nil-left _ _ h)) (near-append (loop_index k) _ _ (term-near k b s _ _ _ _ q (nil-left _ _ (nil-right _ _ h))) (tt, tt))
 term-near k (Shift l e n) s from role f u q h = near-append (loop_index k) _ _ (term-near k e s _ _ f _ q (nil-left _ _ h)) (tt, tt)

@@ -9,10 +9,10 @@ ghost use Rattle.loop_form.specs.Near.{IsNear, HasNear, AreNear};
 ghost use Rattle.loop_form.specs.Seen.{program, content_of, entry_of, seen};
 ghost use Rattle.loop_form.specs.Streams.{place_of, access, stream_of, streams_of};
 
-use crate::whole::loop_entries;
 use crate::entry::{Content, Entry};
 use crate::size::{is_bare, is_loop_variable};
 use crate::stream::Stream;
+use crate::whole::loop_entries;
 use arrayvec::ArrayVec;
 use kernel_tree::{BinaryOp, Checked, Expr, Param};
 use std::alloc::{AllocError, Global};

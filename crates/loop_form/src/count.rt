@@ -9,11 +9,11 @@ ghost use Rattle.loop_form.specs.Needs.{spans_of, most_live, need, needs_of};
 ghost use Rattle.loop_form.specs.Seen.{program, seen};
 
 use crate::class::RegisterClass;
-use crate::whole::{entries, is_small, loop_entries};
 use crate::entry::Entry;
 use crate::held::count_held;
 use crate::need::Needs;
 use crate::values::{most_live_at, spans};
+use crate::whole::{entries, is_small, loop_entries};
 use kernel_tree::Checked;
 use std::alloc::{AllocError, Global};
 

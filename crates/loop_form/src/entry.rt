@@ -8,19 +8,10 @@ use kernel_tree::{Expr, Ty, UpdateOp};
 pub enum Content<'a> {
     Literal(i128),
     Name(&'a str),
-    Read {
-        array: &'a str,
-        index: &'a Expr,
-    },
+    Read { array: &'a str, index: &'a Expr },
     Let(&'a str),
-    Store {
-        array: &'a str,
-        index: &'a Expr,
-    },
-    Update {
-        name: &'a str,
-        op: UpdateOp,
-    },
+    Store { array: &'a str, index: &'a Expr },
+    Update { name: &'a str, op: UpdateOp },
     /// An item of any other kind.
     Plain(ItemKind),
 }

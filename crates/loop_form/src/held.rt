@@ -11,9 +11,9 @@ ghost use Rattle.loop_form.specs.Needs.{is_scalar, is_named_scalar, scalars, sam
 ghost use Rattle.loop_form.specs.Seen.{program, content_of, entry_of, seen};
 
 use crate::class::RegisterClass;
-use crate::whole::is_small;
 use crate::entry::{Content, Entry};
 use crate::lists::is_name;
+use crate::whole::is_small;
 use kernel_tree::{Checked, Param, Shape, Ty, Var};
 
 /// Whether a name is an item among these.

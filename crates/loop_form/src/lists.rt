@@ -8,9 +8,9 @@ ghost use Rattle.loop_form.specs.Listing.{names, has_x, has_z, has_p, has_value,
 ghost use Rattle.loop_form.specs.Seen.{content_of, entry_of, seen};
 
 use crate::class::RegisterClass;
-use crate::whole::entries;
 use crate::entry::{Content, Entry};
 use crate::item::{Item, ItemKind};
+use crate::whole::entries;
 use kernel_tree::Checked;
 use std::alloc::{AllocError, Global};
 
@@ -103,11 +103,7 @@ fn until(all: &[Entry<'_>], entry: &Entry<'_>) -> u32
 }
 
 /// The item that uses an item's value of a class last, where it makes one.
-pub fn until_if_made(
-    class: RegisterClass,
-    all: &[Entry<'_>],
-    entry: &Entry<'_>,
-) -> Option<u32>
+pub fn until_if_made(class: RegisterClass, all: &[Entry<'_>], entry: &Entry<'_>) -> Option<u32>
     ensures { result ≡ until_in class (seen all.now) (entry_of entry.now) }
 {
     if makes(class, kind(entry)) {

@@ -198,7 +198,13 @@ fn list_select<'a>(
     list_expr(kernel, entries, from, item, yes);
     list_expr(kernel, entries, next, item, no);
     list_expr(kernel, entries, last, item, cond);
-    put(kernel, entries, item, Content::Plain(ItemKind::Select), until);
+    put(
+        kernel,
+        entries,
+        item,
+        Content::Plain(ItemKind::Select),
+        until,
+    );
 }
 
 /// Lists a statement.
@@ -222,7 +228,13 @@ fn list_stmt<'a>(
             array,
             index,
             value,
-        } => list_ended(kernel, entries, from, value, Content::Store { array, index }),
+        } => list_ended(
+            kernel,
+            entries,
+            from,
+            value,
+            Content::Store { array, index },
+        ),
         Part::Update { name, op, value } => {
             list_ended(kernel, entries, from, value, Content::Update { name, op });
         }
@@ -272,7 +284,13 @@ fn list_then<'a>(
     let first = from + expr_size(kernel, cond);
     let behind = first + 1 + statements_size(kernel, block);
     list_expr(kernel, entries, from, behind, cond);
-    put(kernel, entries, first, Content::Plain(ItemKind::Then), first);
+    put(
+        kernel,
+        entries,
+        first,
+        Content::Plain(ItemKind::Then),
+        first,
+    );
     list_block(kernel, entries, first + 1, block);
     behind
 }
@@ -351,7 +369,13 @@ pub fn list_vars<'a>(
     let mut next = from;
     for var in vars {
         let size = expr_size(kernel, &var.init) + 1;
-        list_ended(kernel, entries, next, &var.init, Content::Plain(ItemKind::Var));
+        list_ended(
+            kernel,
+            entries,
+            next,
+            &var.init,
+            Content::Plain(ItemKind::Var),
+        );
         next += size;
     }
 }

@@ -20,14 +20,12 @@ pub fn is_small(kernel: &Checked)
     ensures size { size_of (program kernel.now) ≤ 1000 }
     ensures params { length (program kernel.now).params ≤ 1000 }
     ensures vars { length (program kernel.now).vars ≤ 1000 }
-{
-}
+{}
 
 // The offsets of its stream indexes are in range.
 fn is_near(kernel: &Checked)
     ensures { AreNear (loop_index (program kernel.now)) (loop_entries (program kernel.now)) }
-{
-}
+{}
 
 // The items of a loop.
 fn turns_size_of(kernel: &Checked, turns: &Option<Loop>) -> u32
@@ -41,11 +39,7 @@ fn turns_size_of(kernel: &Checked, turns: &Option<Loop>) -> u32
     }
 }
 
-fn list_params(
-    kernel: &Checked,
-    entries: &mut ArrayVec<Entry<'_>, 1000>,
-    params: &[Param],
-)
+fn list_params(kernel: &Checked, entries: &mut ArrayVec<Entry<'_>, 1000>, params: &[Param])
     requires { array_vec_len entries.old + length params.now ≤ 1000 }
     ensures items { seen entries.new.items ≡ seen entries.old.items ++ params_entries (program kernel.now) 0 (parameters_of params.now) }
     ensures len { array_vec_len entries.new ≡ array_vec_len entries.old + length params.now }
@@ -87,7 +81,13 @@ fn list_answer<'a>(
     ensures len { array_vec_len entries.new ≡ array_vec_len entries.old + answer_size (loop_index (program kernel.now)) (option_map returned_of answer.now) }
 {
     if let Some(answer) = answer {
-        list_ended(kernel, entries, from, &answer.value, Content::Plain(ItemKind::Return));
+        list_ended(
+            kernel,
+            entries,
+            from,
+            &answer.value,
+            Content::Plain(ItemKind::Return),
+        );
     }
 }
 

@@ -7,8 +7,8 @@ ghost use Rattle.kernel_tree.specs.Checked.{kernel_of};
 ghost use Rattle.loop_form.specs.Lanes.{width_of, wider, element_type, array_type, var_type, target_type, widest, lane_width_of};
 ghost use Rattle.loop_form.specs.Seen.{program, content_of, seen};
 
-use crate::whole::loop_entries;
 use crate::entry::{Content, Entry};
+use crate::whole::loop_entries;
 use guest_types::length::Width;
 use kernel_tree::{Checked, Param, Shape, Ty, Var};
 
