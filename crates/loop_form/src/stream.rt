@@ -1,0 +1,23 @@
+//! Accesses by stream index.
+
+/// An access of the loop by stream index: the place of its array among the parameters, its offset from the loop
+/// variable, whether it is a store, and its item.
+#[derive(Clone, Copy, PartialEq, Eq, Debug)]
+pub struct Stream {
+    pub param: u32,
+    pub offset: i32,
+    pub store: bool,
+    pub item: u32,
+}
+
+impl Default for Stream {
+    /// The blank of a buffer.
+    fn default() -> Self {
+        Stream {
+            param: 0,
+            offset: 0,
+            store: false,
+            item: 0,
+        }
+    }
+}
