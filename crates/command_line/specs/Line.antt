@@ -1,22 +1,31 @@
 -- The words of a command, as lists of bytes. The first word names the command. Behind it stand options, and then the
 -- positional words.
-use Rattle.std.specs.Prelude.{ℕ, ◌%◌, ◌&&◌, not, List, [], ◌∷◌, ◌++◌, length, Option, Some, None, option_map, option_and_then, is_some, Bool, true, false, nat_eq, nat_le, bytes_eq, codes, if◌then◌else◌}
-use Rattle.command_line.specs.Numbers.{given, after, number_of, argument_of}
+use Rattle.std.specs.Prelude.{ℕ, ◌+◌, ◌%◌, ◌^◌, ◌&&◌, not, List, [], ◌∷◌, ◌++◌, length, Option, Some, None, option_map, option_and_then, is_some, Bool, true, false, nat_eq, nat_le, bytes_eq, codes, if◌then◌else◌}
+use Rattle.command_line.specs.Numbers.{given, parted, number_of, argument_of}
 
 abbrev pub Words : Type 0
 Words = List (List ℕ)
 
--- a run: the vector length in bits, the most steps, the file, and the arguments as numbers of 64 bits
-pub record RunLine : Type 0 where
-  pub vl : ℕ
+-- bytes of memory: the address of the first, and how many they are
+pub record Extent : Type 0 where
+  pub address : ℕ
+  pub len : ℕ
+
+-- what is to be run: the most steps, the file of a page map, the bytes to dump behind the run, the file, and the arguments as
+-- numbers of 64 bits
+pub record Task : Type 0 where
   pub steps : ℕ
+  pub map : Option (List ℕ)
+  pub dump : Option Extent
   pub file : List ℕ
   pub args : List ℕ
 
+-- a run has a vector length in bits too
 pub data Line : Type 0 where
   CompileLine : (from to : List ℕ) → Line
+  CheckLine : (from : List ℕ) → Line
   ListLine : (from : List ℕ) → Line
-  Runs : RunLine → Line
+  RunLine : (vl : ℕ) → Task → Line
 
 -- ---- positional words
 
@@ -55,15 +64,21 @@ positional words = positional_from false [] words
 pub record Options : Type 0 where
   pub vl : Option ℕ
   pub steps : Option ℕ
+  pub map : Option (List ℕ)
+  pub dump : Option Extent
 
--- what stands behind the equals sign of an option of this name in one word
+-- the value of an option of this name, by what stands before and behind the equals sign of a word; it is not empty
+abbrev pub value_named : List ℕ → List ℕ × List ℕ → Option (List ℕ)
+value_named name p = if bytes_eq p.0 name && is_filled p.1 then Some p.1 else None
+
+-- the same of a whole word
 abbrev pub value_in : List ℕ → List ℕ → Option (List ℕ)
-value_in name word = option_and_then (after (codes "=")) (after name word)
+value_in name word = option_and_then (value_named name) (parted 61 word)
 
--- the word behind the name of an option
+-- the word behind the name of an option, which does not begin with a minus
 abbrev pub value_behind : Words → Option (List ℕ × Words)
 value_behind [] = None
-value_behind (value ∷ rest) = Some (value, rest)
+value_behind (value ∷ rest) = if is_plain value then Some (value, rest) else None
 
 -- the value of an option of this name at the front, and the words behind it
 unfoldable pub value_at : List ℕ → Words → Option (List ℕ × Words)
@@ -71,19 +86,54 @@ value_at name [] = None
 value_at name (word ∷ rest) =
     if bytes_eq word name then value_behind rest else option_map (λ value. (value, rest)) (value_in name word)
 
--- the number of an option that was not given before; a number is not empty and does not begin with a minus
-unfoldable pub once : Option ℕ → List ℕ → Option ℕ
-once before value = if is_some before then None else number_of value
+-- the value of an option that was not given before
+abbrev pub once : {A : Type 0} → Option A → Option A → Option A
+once before value = if is_some before then None else value
+
+-- `A:L` has at least one byte and at most 65,536, none of them at 2^64 or above
+abbrev pub extent : ℕ → ℕ → Option Extent
+extent address len =
+    if nat_le 1 len && nat_le len 65536 && nat_le (address + len) (2 ^ 64) then Some (record { address = address; len = len }) else None
+
+unfoldable pub extent_of : List ℕ → Option Extent
+extent_of word =
+    option_and_then (λ p. option_and_then (λ address. option_and_then (extent address) (number_of p.1)) (number_of p.0)) (parted 58 word)
+
+-- the options with one more, by its value
+unfoldable pub with_vl : Options → List ℕ → Option Options
+with_vl o value = option_map (λ n. record o { vl = Some n }) (once o.vl (number_of value))
+
+unfoldable pub with_steps : Options → List ℕ → Option Options
+with_steps o value = option_map (λ n. record o { steps = Some n }) (once o.steps (number_of value))
+
+unfoldable pub with_map : Options → List ℕ → Option Options
+with_map o value = option_map (λ name. record o { map = Some name }) (once o.map (Some value))
+
+unfoldable pub with_dump : Options → List ℕ → Option Options
+with_dump o value = option_map (λ e. record o { dump = Some e }) (once o.dump (extent_of value))
 
 -- the options behind one more that stands at the front, if one does
 unfoldable pub option_at : Options → Words → Option (Options × Words)
 option_at o words =
-    given (value_at (codes "--vl") words) (λ p. option_map (λ n. (record { vl = Some n; steps = o.steps }, p.1)) (once o.vl p.0))
-    (given (value_at (codes "--steps") words) (λ p. option_map (λ n. (record { vl = o.vl; steps = Some n }, p.1)) (once o.steps p.0))
-    (Some (o, words)))
+    given (value_at (codes "--vl") words) (λ p. option_map (λ n. (n, p.1)) (with_vl o p.0))
+    (given (value_at (codes "--steps") words) (λ p. option_map (λ n. (n, p.1)) (with_steps o p.0))
+    (given (value_at (codes "--map") words) (λ p. option_map (λ n. (n, p.1)) (with_map o p.0))
+    (given (value_at (codes "--dump") words) (λ p. option_map (λ n. (n, p.1)) (with_dump o p.0))
+    (Some (o, words)))))
 
 abbrev pub no_options : Options
-no_options = record { vl = None; steps = None }
+no_options = record { vl = None; steps = None; map = None; dump = None }
+
+-- the options that stand at the front, and the words behind them; there are four, and each stands at most once
+unfoldable pub options_of : Words → Option (Options × Words)
+options_of words =
+    option_and_then (λ one.
+    option_and_then (λ two.
+    option_and_then (λ three.
+    option_at three.0 three.1)
+    (option_at two.0 two.1))
+    (option_at one.0 one.1))
+    (option_at no_options words)
 
 -- ---- commands
 
@@ -104,18 +154,20 @@ arguments_from before (word ∷ words) = option_and_then (λ n. arguments_from (
 unfoldable pub arguments_of : Words → Option (List ℕ)
 arguments_of words = if nat_le (length words) 8 then arguments_from [] words else None
 
--- `run` with these options and positional words: 128 bits and 100,000,000 steps where no option tells
-unfoldable pub run_with : Options → Words → Option RunLine
-run_with o [] = None
-run_with o (file ∷ words) =
-    if is_length (or_default o.vl 128) then
-    option_map (λ args. record { vl = or_default o.vl 128; steps = or_default o.steps 100000000; file = file; args = args }) (arguments_of words)
-    else None
+-- what is to be run, by its options and positional words: 100,000,000 steps where no option tells
+unfoldable pub task_of : Options → Words → Option Task
+task_of o [] = None
+task_of o (file ∷ words) =
+    option_map (λ args. record { steps = or_default o.steps 100000000; map = o.map; dump = o.dump; file = file; args = args }) (arguments_of words)
 
--- `run [--vl N] [--steps N] FILE [ARG]..`: there are two options, and each stands at most once
-unfoldable pub run_of : Words → Option RunLine
-run_of words =
-    option_and_then (λ one. option_and_then (λ two. option_and_then (run_with two.0) (positional two.1)) (option_at one.0 one.1)) (option_at no_options words)
+-- `run` with these options and positional words: 128 bits where no option tells
+unfoldable pub run_with : Options → Words → Option Line
+run_with o words =
+    if is_length (or_default o.vl 128) then option_map (RunLine (or_default o.vl 128)) (task_of o words) else None
+
+-- `run [--vl N] [--steps N] [--map M] [--dump A:L] FILE [ARG]..`
+unfoldable pub run_of : Words → Option Line
+run_of words = option_and_then (λ p. option_and_then (run_with p.0) (positional p.1)) (options_of words)
 
 abbrev pub two_files : Words → Option Line
 two_files (from ∷ to ∷ []) = Some (CompileLine from to)
@@ -125,18 +177,19 @@ two_files _ = None
 unfoldable pub compile_of : Words → Option Line
 compile_of words = option_and_then two_files (positional words)
 
-abbrev pub one_file : Words → Option Line
-one_file (from ∷ []) = Some (ListLine from)
+abbrev pub one_file : Words → Option (List ℕ)
+one_file (from ∷ []) = Some from
 one_file _ = None
 
--- `list FILE`
-unfoldable pub list_of : Words → Option Line
-list_of words = option_and_then one_file (positional words)
+-- the one positional word, where there are no others
+unfoldable pub file_of : Words → Option (List ℕ)
+file_of words = option_and_then one_file (positional words)
 
 -- the command of some words, where they are one
 unfoldable pub line_of : Words → Option Line
 line_of [] = None
 line_of (name ∷ words) =
     if bytes_eq name (codes "compile") then compile_of words else
-    if bytes_eq name (codes "list") then list_of words else
-    if bytes_eq name (codes "run") then option_map Runs (run_of words) else None
+    if bytes_eq name (codes "check") then option_map CheckLine (file_of words) else
+    if bytes_eq name (codes "list") then option_map ListLine (file_of words) else
+    if bytes_eq name (codes "run") then run_of words else None

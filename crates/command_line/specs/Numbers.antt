@@ -1,6 +1,6 @@
 -- Numbers of 64 bits in the words of a command.
 use Rattle.std.specs.Prelude.{ℕ, ◌+◌, ◌*◌, ◌-◌, ◌%◌, ◌^◌, ◌==◌, ◌&&◌, ◌||◌, List, [], ◌∷◌, length, Option, Some, None, option_and_then, Bool, nat_lt, nat_le, codes, if◌then◌else◌}
-use Rattle.std.specs.List.{fold, list_all}
+use Rattle.std.specs.List.{fold, list_all, position_or_len, before_first, after_first}
 
 -- a choice by what may be there
 abbrev pub given : {A B : Type 0} → Option A → (A → B) → B → B
@@ -12,6 +12,11 @@ unfoldable pub after : List ℕ → List ℕ → Option (List ℕ)
 after [] word = Some word
 after (b ∷ front) [] = None
 after (b ∷ front) (c ∷ word) = if c == b then after front word else None
+
+-- the parts of a word before and behind the first byte of this value
+unfoldable pub parted : ℕ → List ℕ → Option (List ℕ × List ℕ)
+parted b word =
+    if nat_lt (position_or_len (λ c. c == b) word) (length word) then Some (before_first (λ c. c == b) word, after_first (λ c. c == b) word) else None
 
 abbrev pub is_digit : ℕ → Bool
 is_digit b = nat_le 48 b && nat_le b 57

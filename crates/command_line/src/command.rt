@@ -1,5 +1,7 @@
 //! Commands.
 
+ghost use Rattle.std.specs.Prelude.{◌+◌, ◌^◌, ◌≤◌, length};
+
 use guest_types::length::Vl;
 
 /// A command and what it works on.
@@ -7,18 +9,32 @@ use guest_types::length::Vl;
 pub enum Command {
     /// Compiles the kernel in the file `from` into the file `to`.
     Compile { from: String, to: String },
+    /// Tells the size, the class and the needs of the kernel in the file `from`.
+    Check { from: String },
     /// Lists the instructions of the program in the file `from`.
     List { from: String },
-    /// Runs a program.
-    Run(Run),
+    /// Runs a program at a vector length.
+    Run { vl: Vl, task: Task },
 }
 
-/// A run of the program in a file: its vector length, the most steps (instructions) that it may take, and the
-/// arguments that it begins with, the first in the first register.
+/// What is to be run.
+///
+/// `steps` is the most steps that it may take, `map` the file of a page map, `dump` the bytes of memory that are shown
+/// behind the run, and `file` the file that is run. The first of the arguments goes into the first register.
 #[derive(Drop)]
-pub struct Run {
-    pub vl: Vl,
+pub struct Task {
     pub steps: u64,
+    pub map: Option<String>,
+    pub dump: Option<Extent>,
     pub file: String,
     pub args: Vec<u64>,
+    pub ghost few: { length args.items ≤ 8 },
+}
+
+/// Bytes of memory: the address of the first, and how many they are.
+#[derive(Clone, Copy)]
+pub struct Extent {
+    pub address: u64,
+    pub len: u64,
+    pub ghost within: { address + len ≤ 2 ^ 64 },
 }

@@ -3,5 +3,6 @@
 
 pub mod command;
 mod number;
+mod options;
 pub mod read;
 mod word;

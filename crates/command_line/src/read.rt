@@ -1,21 +1,15 @@
 //! Reading the words of a command.
 
-ghost use Rattle.std.specs.Prelude.{◌≡◌, ◌≤◌, IfOk, IfSome, option_map, is_some, length, Some, None, []};
-ghost use Rattle.command_line.specs.Line.{Line, value_at, once, option_at, or_default, is_length, positional, arguments_from, arguments_of, run_with, run_of, compile_of, list_of, line_of};
-ghost use Rattle.command_line.specs.Seen.{texts, texts_in, items_in, value_and_rest, options_seen, options_and_rest, run_seen, command_seen, FewArguments};
+ghost use Rattle.std.specs.Prelude.{◌≡◌, ◌≤◌, IfOk, IfSome, option_map, is_some, length, [], string_bytes};
+ghost use Rattle.command_line.specs.Line.{is_length, positional, arguments_from, arguments_of, task_of, run_with, run_of, compile_of, file_of, line_of, CheckLine, ListLine};
+ghost use Rattle.command_line.specs.Seen.{texts, texts_in, items_in, bytes_left, options_seen, task_seen, command_seen};
 
-use crate::command::{Command, Run};
-use crate::number::{argument, number};
-use crate::word::{after, is_end, is_positional};
+use crate::command::{Command, Task};
+use crate::number::argument;
+use crate::options::{Settings, options};
+use crate::word::{is_end, is_positional};
 use guest_types::length::Vl;
 use std::alloc::{AllocError, Global};
-
-// The values of the options that were given.
-#[derive(Clone, Copy)]
-struct Settings {
-    vl: Option<u64>,
-    steps: Option<u64>,
-}
 
 // The positional words.
 #[tactic(auto, unfolding(crate::specs::Line::positional_from))]
@@ -38,64 +32,6 @@ fn positional(alloc: Global, words: &[String]) -> Result<Option<Vec<String>>, Al
         }
     }
     Ok(Some(found))
-}
-
-// The value of an option of this name at the front, and the words behind it.
-#[tactic(auto, unfolding(crate::specs::Line::value_at))]
-fn value_at<'a>(name: &str, words: &'a [String]) -> Option<(&'a [u8], &'a [String])>
-    ensures { option_map value_and_rest result ≡ value_at name.now (texts words.now) }
-{
-    let [word, rest @ ..] = words else {
-        return None;
-    };
-    if word.as_str() == name {
-        return match rest {
-            [value, behind @ ..] => Some((value.as_bytes(), behind)),
-            [] => None,
-        };
-    }
-    let behind = after(name.as_bytes(), word.as_bytes())?;
-    let value = after(b"=".as_slice(), behind)?;
-    Some((value, rest))
-}
-
-// The number of an option that was not given before.
-#[tactic(auto, unfolding(crate::specs::Line::once))]
-fn once(before: Option<u64>, value: &[u8]) -> Option<u64>
-    ensures { result ≡ once before value.now }
-{
-    if before.is_some() {
-        return None;
-    }
-    number(value)
-}
-
-// The options behind one more at the front, if one stands there.
-#[tactic(auto, unfolding(crate::specs::Line::option_at))]
-fn option_at(settings: Settings, words: &[String]) -> Option<(Settings, &[String])>
-    ensures { option_map options_and_rest result ≡ option_at (options_seen settings) (texts words.now) }
-{
-    if let Some((value, rest)) = value_at("--vl", words) {
-        let vl = once(settings.vl, value)?;
-        return Some((
-            Settings {
-                vl: Some(vl),
-                steps: settings.steps,
-            },
-            rest,
-        ));
-    }
-    if let Some((value, rest)) = value_at("--steps", words) {
-        let steps = once(settings.steps, value)?;
-        return Some((
-            Settings {
-                vl: settings.vl,
-                steps: Some(steps),
-            },
-            rest,
-        ));
-    }
-    Some((settings, words))
 }
 
 // The vector length of so many bits.
@@ -137,56 +73,72 @@ fn arguments(alloc: Global, words: &[String]) -> Result<Option<Vec<u64>>, AllocE
     all_arguments(alloc, words)
 }
 
-// A run with these options and positional words.
-#[tactic(auto, unfolding(crate::specs::Line::run_with))]
-fn run_with(alloc: Global, settings: Settings, words: &[String]) -> Result<Option<Run>, AllocError>
-    ensures read { IfOk result (λ o. option_map run_seen o ≡ run_with (options_seen settings) (texts words.now)) }
-    ensures few { IfOk result (λ o. IfSome o (λ run. length run.args.items ≤ 8)) }
+// A text of its own, where there is one.
+fn owned(alloc: Global, text: Option<&str>) -> Result<Option<String>, AllocError>
+    ensures { IfOk result (λ o. option_map string_bytes o ≡ option_map bytes_left text.entry) }
+{
+    match text {
+        Some(text) => Ok(Some(String::from_str(alloc, text)?)),
+        None => Ok(None),
+    }
+}
+
+// What is to be run, by its options and positional words.
+#[tactic(auto, unfolding(crate::specs::Line::task_of))]
+fn task(alloc: Global, settings: Settings<'_>, words: &[String]) -> Result<Option<Task>, AllocError>
+    ensures { IfOk result (λ o. option_map task_seen o ≡ task_of (options_seen settings.entry) (texts words.now)) }
 {
     let [file, rest @ ..] = words else {
-        return Ok(None);
-    };
-    let Some(vl) = length_of(settings.vl.unwrap_or(128)) else {
         return Ok(None);
     };
     let Some(args) = arguments(alloc, rest)? else {
         return Ok(None);
     };
-    Ok(Some(Run {
-        vl,
+    Ok(Some(Task {
         steps: settings.steps.unwrap_or(100_000_000),
+        map: owned(alloc, settings.map)?,
+        dump: settings.dump,
         file: String::from_str(alloc, file.as_str())?,
         args,
     }))
 }
 
-// A run of the words behind `run`.
-#[tactic(auto, unfolding(crate::specs::Line::run_of))]
-fn run(alloc: Global, words: &[String]) -> Result<Option<Run>, AllocError>
-    ensures read { IfOk result (λ o. option_map run_seen o ≡ run_of (texts words.now)) }
-    ensures few { IfOk result (λ o. IfSome o (λ run. length run.args.items ≤ 8)) }
+// A run with these options and positional words.
+#[tactic(auto, unfolding(crate::specs::Line::run_with))]
+fn run_with(
+    alloc: Global,
+    settings: Settings<'_>,
+    words: &[String],
+) -> Result<Option<Command>, AllocError>
+    ensures { IfOk result (λ o. option_map command_seen o ≡ run_with (options_seen settings.entry) (texts words.now)) }
 {
-    let none = Settings {
-        vl: None,
-        steps: None,
-    };
-    let Some((one, behind)) = option_at(none, words) else {
+    let Some(vl) = length_of(settings.vl.unwrap_or(128)) else {
         return Ok(None);
     };
-    let Some((two, rest)) = option_at(one, behind) else {
+    let Some(task) = task(alloc, settings, words)? else {
+        return Ok(None);
+    };
+    Ok(Some(Command::Run { vl, task }))
+}
+
+// The command of the words behind `run`.
+#[tactic(auto, unfolding(crate::specs::Line::run_of))]
+fn run(alloc: Global, words: &[String]) -> Result<Option<Command>, AllocError>
+    ensures { IfOk result (λ o. option_map command_seen o ≡ run_of (texts words.now)) }
+{
+    let Some((settings, rest)) = options(words) else {
         return Ok(None);
     };
     let Some(found) = positional(alloc, rest)? else {
         return Ok(None);
     };
-    run_with(alloc, two, &found)
+    run_with(alloc, settings, &found)
 }
 
 // The command of the words behind `compile`.
 #[tactic(auto, unfolding(crate::specs::Line::compile_of))]
 fn compile(alloc: Global, words: &[String]) -> Result<Option<Command>, AllocError>
-    ensures read { IfOk result (λ o. option_map command_seen o ≡ compile_of (texts words.now)) }
-    ensures few { IfOk result (λ o. IfSome o FewArguments) }
+    ensures { IfOk result (λ o. option_map command_seen o ≡ compile_of (texts words.now)) }
 {
     let Some(found) = positional(alloc, words)? else {
         return Ok(None);
@@ -200,11 +152,10 @@ fn compile(alloc: Global, words: &[String]) -> Result<Option<Command>, AllocErro
     }))
 }
 
-// The command of the words behind `list`.
-#[tactic(auto, unfolding(crate::specs::Line::list_of))]
-fn list(alloc: Global, words: &[String]) -> Result<Option<Command>, AllocError>
-    ensures read { IfOk result (λ o. option_map command_seen o ≡ list_of (texts words.now)) }
-    ensures few { IfOk result (λ o. IfSome o FewArguments) }
+// The one positional word, where there are no others.
+#[tactic(auto, unfolding(crate::specs::Line::file_of))]
+fn file(alloc: Global, words: &[String]) -> Result<Option<String>, AllocError>
+    ensures { IfOk result (λ o. option_map string_bytes o ≡ file_of (texts words.now)) }
 {
     let Some(found) = positional(alloc, words)? else {
         return Ok(None);
@@ -212,36 +163,48 @@ fn list(alloc: Global, words: &[String]) -> Result<Option<Command>, AllocError>
     let [from] = found.as_slice() else {
         return Ok(None);
     };
-    Ok(Some(Command::List {
-        from: String::from_str(alloc, from.as_str())?,
-    }))
+    Ok(Some(String::from_str(alloc, from.as_str())?))
+}
+
+// The command of the words behind `check`.
+fn check(alloc: Global, words: &[String]) -> Result<Option<Command>, AllocError>
+    ensures { IfOk result (λ o. option_map command_seen o ≡ option_map CheckLine (file_of (texts words.now))) }
+{
+    match file(alloc, words)? {
+        Some(from) => Ok(Some(Command::Check { from })),
+        None => Ok(None),
+    }
+}
+
+// The command of the words behind `list`.
+fn list(alloc: Global, words: &[String]) -> Result<Option<Command>, AllocError>
+    ensures { IfOk result (λ o. option_map command_seen o ≡ option_map ListLine (file_of (texts words.now))) }
+{
+    match file(alloc, words)? {
+        Some(from) => Ok(Some(Command::List { from })),
+        None => Ok(None),
+    }
 }
 
 /// The command that the words spell, where they are one. The words are those after the program's name.
 ///
 /// The first word names the command, options stand next and positional words last:
-/// `compile IN OUT`, `list FILE` and `run [--vl N] [--steps N] FILE [ARG]..`.
+/// `compile IN OUT`, `check IN`, `list FILE` and
+/// `run [--vl N] [--steps N] [--map M] [--dump A:L] FILE [ARG]..`.
 #[tactic(auto, unfolding(crate::specs::Line::line_of))]
 pub fn read_line(alloc: Global, words: &[String]) -> Result<Option<Command>, AllocError>
-    ensures read { IfOk result (λ o. option_map command_seen o ≡ line_of (texts words.now)) }
-    ensures few { IfOk result (λ o. IfSome o FewArguments) }
+    ensures { IfOk result (λ o. option_map command_seen o ≡ line_of (texts words.now)) }
 {
     let [name, rest @ ..] = words else {
         return Ok(None);
     };
-    if name.as_str() == "compile" {
-        return compile(alloc, rest);
+    match name.as_str() {
+        "compile" => compile(alloc, rest),
+        "check" => check(alloc, rest),
+        "list" => list(alloc, rest),
+        "run" => run(alloc, rest),
+        _ => Ok(None),
     }
-    if name.as_str() == "list" {
-        return list(alloc, rest);
-    }
-    if name.as_str() == "run" {
-        return match run(alloc, rest)? {
-            Some(run) => Ok(Some(Command::Run(run))),
-            None => Ok(None),
-        };
-    }
-    Ok(None)
 }
 
 #[cfg(test)]
@@ -271,6 +234,15 @@ mod tests {
             "run --steps 1 --steps 1 e1.elf",
             "run e1.elf -5",
             "run e1.elf --vl 128",
+            "check a b",
+            "run --map -m e1.elf",
+            "run --map= e1.elf",
+            "run --map m --map m e1.elf",
+            "run --dump 5 e1.elf",
+            "run --dump 5:0 e1.elf",
+            "run --dump 5:65537 e1.elf",
+            "run --dump 0xffffffffffffffff:2 e1.elf",
+            "run --dump 5:6:7 e1.elf",
             "run e1.elf 1 2 3 4 5 6 7 8 9",
         ];
         for line in lines {
@@ -283,8 +255,8 @@ mod tests {
 
     fn is_run(command: &Option<Command>, vl: u32, steps: u64, arg: u64) -> bool {
         match command {
-            Some(Command::Run(run)) => {
-                run.vl.bits() == vl && run.steps == steps && run.args.as_slice() == [arg].as_slice()
+            Some(Command::Run { vl: bits, task }) => {
+                bits.bits() == vl && task.steps == steps && task.args.as_slice() == [arg].as_slice()
             }
             _ => false,
         }
@@ -309,6 +281,47 @@ mod tests {
         for (line, vl, steps, arg) in rows {
             let command = read(rt.alloc(), line)?;
             assert!(rt; is_run(&command, vl, steps, arg));
+        }
+        Ok(())
+    }
+
+    #[test]
+    fn checks(rt: HostRuntime) -> Result<(), Fail> {
+        let check = read(rt.alloc(), "check k")?;
+        let good = match &check {
+            Some(Command::Check { from }) => from.as_str() == "k",
+            _ => false,
+        };
+        assert!(rt; good);
+        Ok(())
+    }
+
+    fn has(command: &Option<Command>, map: &str, address: u64, len: u64) -> bool {
+        match command {
+            Some(Command::Run { vl: _, task }) => match (&task.map, &task.dump) {
+                (Some(name), Some(dump)) => {
+                    name.as_str() == map && dump.address == address && dump.len == len
+                }
+                _ => false,
+            },
+            _ => false,
+        }
+    }
+
+    #[test]
+    fn maps_and_dumps(rt: HostRuntime) -> Result<(), Fail> {
+        let rows = [
+            ("run --map m --dump 0x1000:16 f", "m", 4096, 16),
+            (
+                "run --dump=0xffffffffffff0000:65536 --vl 256 --map=--a=b f",
+                "--a=b",
+                18_446_744_073_709_486_080,
+                65_536,
+            ),
+        ];
+        for (line, map, address, len) in rows {
+            let command = read(rt.alloc(), line)?;
+            assert!(rt; has(&command, map, address, len));
         }
         Ok(())
     }

@@ -1,3 +1,6 @@
 pub mod Lines
 pub mod Listing
 pub mod Answer
+pub mod Kernels
+pub mod Commands
+pub mod Outputs

@@ -1,7 +1,9 @@
 //! The commands of svec.
 #![tactic(auto)]
 
+mod check;
 mod compile;
+mod files;
 mod list;
 mod listing;
 pub mod refusal;

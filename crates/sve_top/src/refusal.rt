@@ -1,12 +1,16 @@
 //! What a command comes to.
 
 ghost use Rattle.std.specs.Prelude.{◌≡◌};
-ghost use Rattle.sve_top.specs.Answer.{status_of_done, status_of_refusal, of_files, of_kernel, of_elf};
+ghost use Rattle.sve_top.specs.Answer.{status_of_done, status_of_refusal, of_files, of_early, of_kernel, of_elf, of_map};
 
 use early_kernel::compile::EarlyFault;
 use io_edges::files::FileAnswer;
 use io_edges::sink::Failed;
+use kernel_front::KernelFault;
+use kernel_syntax::ReadFault;
+use kernel_types::TypeFault;
 use machine_model::elf_fault::ElfFault;
+use map_text::MapFault;
 use std::alloc::AllocError;
 use thiserror::Error;
 
@@ -36,14 +40,20 @@ impl Done {
 pub enum Refusal {
     #[error("usage")]
     Usage,
-    /// The kernel is none of those that are compiled yet.
+    /// The kernel is sound, and none of those that are compiled yet.
     #[error("kernel: not yet")]
     NotYet,
+    /// The text is no kernel, or one that breaks a rule.
+    #[error("kernel: {0}")]
+    Kernel(KernelFault),
     #[error("file: too long")]
     TooLong,
     /// The file is no program that can be loaded.
     #[error("file: {0}")]
     Elf(ElfFault),
+    /// The file is no page map that may stand beside the program.
+    #[error("map: {0}")]
+    Map(MapFault),
     #[error("out of memory")]
     Memory,
     #[error("file failed")]
@@ -60,8 +70,10 @@ impl Refusal {
         match self {
             Refusal::Usage => 2,
             Refusal::NotYet => 3,
+            Refusal::Kernel(_) => 3,
             Refusal::TooLong => 4,
             Refusal::Elf(_) => 4,
+            Refusal::Map(_) => 4,
             Refusal::Memory => 7,
             Refusal::File => 8,
             Refusal::Output => 9,
@@ -82,12 +94,35 @@ impl From<FileAnswer> for Refusal {
 }
 
 impl From<EarlyFault> for Refusal {
-    ghost from_gives = { λ fault refusal. refusal ≡ of_kernel fault };
+    ghost from_gives = { λ fault refusal. refusal ≡ of_early fault };
 
     fn from(fault: EarlyFault) -> Refusal {
         match fault {
             EarlyFault::NotYet => Refusal::NotYet,
             EarlyFault::Memory => Refusal::Memory,
+        }
+    }
+}
+
+impl From<KernelFault> for Refusal {
+    ghost from_gives = { λ fault refusal. refusal ≡ of_kernel fault };
+
+    fn from(fault: KernelFault) -> Refusal {
+        match fault {
+            KernelFault::Unread(ReadFault::Memory) => Refusal::Memory,
+            KernelFault::Broken(TypeFault::Memory) => Refusal::Memory,
+            _ => Refusal::Kernel(fault),
+        }
+    }
+}
+
+impl From<MapFault> for Refusal {
+    ghost from_gives = { λ fault refusal. refusal ≡ of_map fault };
+
+    fn from(fault: MapFault) -> Refusal {
+        match fault {
+            MapFault::Memory => Refusal::Memory,
+            _ => Refusal::Map(fault),
         }
     }
 }

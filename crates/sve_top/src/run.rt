@@ -1,23 +1,28 @@
 //! The command `run`.
 
-ghost use Rattle.std.specs.Prelude.{◌≡◌, ◌≢◌, ◌≤◌, None, Ok, Err, IfSome, IsSome, IfOk, IfErr, IsTrue, [], length, string_bytes};
-ghost use Rattle.io_edges.specs.Files.{Rose, content};
-ghost use Rattle.machine_model.specs.Load.{load};
-ghost use Rattle.machine_model.specs.Run.{start, run as run_from};
-ghost use Rattle.machine_model.specs.Answers.{outcome_of};
+ghost use Rattle.std.specs.Prelude.{◌≡◌, ◌≢◌, ◌≤◌, ◌+◌, ◌++◌, None, Ok, Err, IfSome, IfOk, IfErr, OnOk, IsTrue, length, option_map};
+ghost use Rattle.io_edges.specs.Files.{Rose};
+ghost use Rattle.guest_types.specs.Memory.{DoNotMeet};
+ghost use Rattle.machine_model.specs.Run.{start};
 ghost use Rattle.elf_image.specs.Loaded.{plain};
-ghost use Rattle.command_line.specs.Seen.{run_seen};
-ghost use Rattle.outcome_text.specs.Shown.{text_of};
-ghost use Rattle.sve_top.specs.Answer.{answer_of_file, answer_of_run, answer_of_program, text_of_file, text_of_run, text_of_program, IsAnswer, IsOfRun, IsQuiet, Prints, RefusesProgram, done_of};
+ghost use Rattle.command_line.specs.Line.{RunLine};
+ghost use Rattle.command_line.specs.Seen.{task_seen, extent_seen};
+ghost use Rattle.sve_top.specs.Answer.{answer_of, text_of, IsAnswer, IsQuiet};
+ghost use Rattle.sve_top.specs.Commands.{work_of_run, run_program, dump_of, done_of, played, RefusesProgram, IsOfRun, IsHeld};
+ghost use Rattle.sve_top.specs.Outputs.{Prints};
 
+use crate::files::{read_file, read_map_file};
 use crate::refusal::{Done, Refusal};
 use a64_run::Machine;
-use command_line::command::Run;
+use command_line::command::{Extent, Task};
+use dump_text::dump_text;
 use elf_image::load_elf;
 use guest_types::image::{Image, PageMap};
+use guest_types::length::Vl;
 use io_edges::files::Files;
 use io_edges::sink::{Sink, put_all};
 use machine_model::outcome::Outcome;
+use map_text::read_map;
 use outcome_text::outcome_text;
 use paged_memory::pages::Pages;
 use std::alloc::{AllocError, Global};
@@ -29,20 +34,23 @@ struct Played {
     text: Vec<u8>,
 }
 
-// A machine with the pages of an image alone.
-#[tactic(auto, unfolding(machine_model::specs::Run::start, a64_run::specs::Shown::start_of), using(crate::proofs::Programs::alone, crate::proofs::Programs::few_alone, crate::proofs::Programs::none_in_order))]
-fn machine_of(alloc: Global, image: &Image, run: &Run) -> Result<Machine, AllocError>
-    requires arguments { length run.now.args.items ≤ 8 }
-    requires pages { length image.now.pages.items ≤ 16384 }
-    ensures state { IfOk result (λ machine. machine.state ≡ start (plain image.now) run.now.args.items [] run.now.vl) }
+// A machine with the pages of an image and a map.
+#[tactic(auto, unfolding(machine_model::specs::Run::start, a64_run::specs::Shown::start_of))]
+fn machine_of(
+    alloc: Global,
+    image: &Image,
+    map: &PageMap,
+    vl: Vl,
+    task: &Task,
+) -> Result<Machine, AllocError>
+    requires apart { DoNotMeet image.now.pages.items map.now.pages.items }
+    requires few { length image.now.pages.items + length map.now.pages.items ≤ 16384 }
+    ensures state { IfOk result (λ machine. machine.state ≡ start (plain image.now) task.now.args.items map.now.pages.items vl) }
     ensures steps { IfOk result (λ machine. machine.steps ≡ 0) }
     ensures over { IfOk result (λ machine. machine.over ≡ None) }
 {
-    let map = PageMap {
-        pages: Vec::new(alloc),
-    };
-    let pages = Pages::build(alloc, image, &map)?;
-    Ok(Machine::new(pages, image.entry, &run.args, run.vl))
+    let pages = Pages::build(alloc, image, map)?;
+    Ok(Machine::new(pages, image.entry, &task.args, vl))
 }
 
 fn done_of(outcome: &Outcome) -> Done
@@ -55,44 +63,68 @@ fn done_of(outcome: &Outcome) -> Done
     }
 }
 
-// Runs the program of a file.
+// Puts the bytes that are asked for behind a text.
+fn push_dump(
+    text: &mut Vec<u8>,
+    alloc: Global,
+    pages: &Pages,
+    dump: Option<Extent>,
+) -> Result<(), AllocError>
+    ensures { OnOk result (text.new.items ≡ text.old.items ++ dump_of (option_map extent_seen dump) pages.now) }
+{
+    match dump {
+        Some(bytes) => {
+            let shown = dump_text(alloc, pages, bytes.address, bytes.len)?;
+            Ok(text.extend_from_slice(&shown)?)
+        }
+        None => Ok(()),
+    }
+}
+
+// Runs the program of a file beside the pages of a map.
 #[tactic(auto, using(crate::proofs::Programs::few_pages))]
-fn play(alloc: Global, bytes: &[u8], run: &Run) -> Result<Played, Refusal>
-    requires { length run.now.args.items ≤ 8 }
-    ensures answer { IfOk result (λ played. answer_of_program bytes.now (run_seen run.now) ≡ Ok played.done) }
-    ensures text { IfOk result (λ played. text_of_program bytes.now (run_seen run.now) ≡ played.text.items) }
-    ensures refusal { IfErr result (λ refusal. RefusesProgram (answer_of_program bytes.now (run_seen run.now)) refusal) }
+fn play(
+    alloc: Global,
+    vl: Vl,
+    task: &Task,
+    bytes: &[u8],
+    map: &[u8],
+) -> Result<Played, Refusal>
+    ensures work { IfOk result (λ p. run_program vl (task_seen task.now) bytes.now map.now ≡ played p) }
+    ensures refusal { IfErr result (λ refusal. RefusesProgram (run_program vl (task_seen task.now) bytes.now map.now) refusal) }
 {
     let image = load_elf(alloc, bytes)?;
-    let mut machine = machine_of(alloc, &image, run)?;
-    let outcome = machine.run(run.steps);
-    let text = outcome_text(alloc, &outcome, machine.pc(), machine.steps_done())?;
+    let map = read_map(alloc, map, &image)?;
+    let mut machine = machine_of(alloc, &image, &map, vl, task)?;
+    let outcome = machine.run(task.steps);
+    let mut text = outcome_text(alloc, &outcome, machine.pc(), machine.steps_done())?;
+    push_dump(&mut text, alloc, machine.pages(), task.dump)?;
     Ok(Played {
         done: done_of(&outcome),
         text,
     })
 }
 
-/// Runs the program in a file and puts the text of the outcome on the output.
+/// Runs the program in a file and puts the text of the outcome on the output, with the dump that is asked for behind it.
 pub fn run<F: Files, S: Sink>(
     alloc: Global,
-    run: &Run,
+    vl: Vl,
+    task: &Task,
     files: &mut F,
     out: &mut S,
 ) -> Result<Done, Refusal>
-    requires { length run.now.args.items ≤ 8 }
-    ensures answer { IfSome (F.held files.old) (λ held. IsAnswer (F.faults files.old) (F.faults files.new) (S.faults out.old) (S.faults out.new) (answer_of_file (answer_of_run (run_seen run.now)) (content held (string_bytes run.now.file))) result) }
+    ensures answer { IfSome (F.held files.old) (λ held. IsAnswer (F.faults files.old) (F.faults files.new) (S.faults out.old) (S.faults out.new) (answer_of (work_of_run held vl (task_seen task.now))) result) }
     ensures held { F.held files.new ≡ F.held files.old }
-    ensures printed { IfSome (F.held files.old) (λ held. Prints (S.taken out.old) (S.taken out.new) (text_of_file (text_of_run (run_seen run.now)) (content held (string_bytes run.now.file))) result) }
+    ensures printed { IfSome (F.held files.old) (λ held. Prints (S.taken out.old) (S.taken out.new) (text_of (work_of_run held vl (task_seen task.now))) result) }
     ensures quiet { IsQuiet result → out.new ≡ out.old }
     ensures failed { result ≡ Err Refusal.File → Rose (F.faults files.old) (F.faults files.new) }
     ensures output { result ≡ Err Refusal.Output → Rose (S.faults out.old) (S.faults out.new) }
-    ensures steady { IsTrue (F.steady files.old) → IfSome (F.held files.old) (λ held. IsSome (content held (string_bytes run.now.file)) → result ≢ Err Refusal.File) }
+    ensures steady { IsTrue (F.steady files.old) → IfSome (F.held files.old) (λ held. IsHeld held (RunLine vl (task_seen task.now)) → result ≢ Err Refusal.File) }
     ensures of_run { IsOfRun result }
 {
-    let mut bytes = Vec::new(alloc);
-    files.read(alloc, run.file.as_str(), &mut bytes)?;
-    let played = play(alloc, &bytes, run)?;
+    let bytes = read_file(alloc, task.file.as_str(), files)?;
+    let map = read_map_file(alloc, &task.map, files)?;
+    let played = play(alloc, vl, task, &bytes, &map)?;
     put_all(out, &played.text)?;
     Ok(played.done)
 }

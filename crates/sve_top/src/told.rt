@@ -3,13 +3,19 @@
 ghost use Rattle.std.specs.Prelude.{◌≡◌, map};
 ghost use Rattle.std.specs.List.{concat};
 ghost use Rattle.command_line.specs.Seen.{bytes_left};
-ghost use Rattle.sve_top.specs.Lines.{line_of_fault, line_of_refusal};
-ghost use Rattle.sve_top.specs.Answer.{PutsText};
+ghost use Rattle.sve_top.specs.Lines.{line_feed, numbered, mismatch, line_of_fault, line_of_reading, line_of_typing, line_of_kernel, line_of_map, line_of_refusal};
+ghost use Rattle.sve_top.specs.Outputs.{PutsText};
+ghost use Rattle.kernel_tree.specs.Printing.{type_text};
 
 use crate::refusal::Refusal;
 use io_edges::sink::{Failed, Sink, put_all};
 use itoa::Buffer;
+use kernel_front::KernelFault;
+use kernel_syntax::ReadFault;
+use kernel_tree::Ty;
+use kernel_types::TypeFault;
 use machine_model::elf_fault::ElfFault;
+use map_text::MapFault;
 
 // Puts texts one after another.
 fn put_parts<S: Sink>(sink: &mut S, parts: &[&[u8]]) -> Result<(), Failed>
@@ -49,20 +55,128 @@ fn put_short<S: Sink>(sink: &mut S, need: u128, have: u64) -> Result<(), Failed>
     )
 }
 
-// Puts which segment is bad.
-fn put_bad_segment<S: Sink>(sink: &mut S, index: u32) -> Result<(), Failed>
-    ensures { PutsText (S.taken sink.old) (S.taken sink.new) (S.faults sink.old) (S.faults sink.new) (line_of_fault (ElfFault.BadSegment index)) result }
+// Puts a line that ends with a number.
+fn put_numbered<S: Sink>(sink: &mut S, front: &[u8], number: u64) -> Result<(), Failed>
+    ensures { PutsText (S.taken sink.old) (S.taken sink.new) (S.faults sink.old) (S.faults sink.new) (numbered front.now number) result }
 {
-    let mut number = Buffer::new();
-    let number = number.format(index).as_bytes();
+    let mut buffer = Buffer::new();
+    let digits = buffer.format(number).as_bytes();
+    put_parts(sink, &[front, digits, b"\n".as_slice()])
+}
+
+// The word of a type.
+fn type_name(ty: Ty) -> &'static [u8]
+    ensures { result.now ≡ type_text ty }
+{
+    match ty {
+        Ty::I8 => b"i8",
+        Ty::I16 => b"i16",
+        Ty::I32 => b"i32",
+        Ty::I64 => b"i64",
+        Ty::U8 => b"u8",
+        Ty::U16 => b"u16",
+        Ty::U32 => b"u32",
+        Ty::U64 => b"u64",
+    }
+}
+
+// Puts a type that is wanted, and another that was found.
+fn put_mismatch<S: Sink>(sink: &mut S, item: u32, want: Ty, found: Ty) -> Result<(), Failed>
+    ensures { PutsText (S.taken sink.old) (S.taken sink.new) (S.faults sink.old) (S.faults sink.new) (mismatch item want found) result }
+{
+    let mut buffer = Buffer::new();
+    let digits = buffer.format(item).as_bytes();
     put_parts(
         sink,
         &[
-            b"svec: file: bad segment ".as_slice(),
-            number,
+            b"svec: kernel: want ".as_slice(),
+            type_name(want),
+            b" found ".as_slice(),
+            type_name(found),
+            b" at item ".as_slice(),
+            digits,
             b"\n".as_slice(),
         ],
     )
+}
+
+// Puts why a text could not be read as a kernel.
+fn put_reading<S: Sink>(sink: &mut S, fault: ReadFault) -> Result<(), Failed>
+    ensures { PutsText (S.taken sink.old) (S.taken sink.new) (S.faults sink.old) (S.faults sink.new) (line_of_reading fault) result }
+{
+    match fault {
+        ReadFault::TooLong => put(sink, b"svec: kernel: too long\n"),
+        ReadFault::BadByte { at } => put_numbered(sink, b"svec: kernel: bad byte at ", u64::from(at)),
+        ReadFault::TooDeep { token } => {
+            put_numbered(sink, b"svec: kernel: too deep at token ", u64::from(token))
+        }
+        ReadFault::Syntax { token } => {
+            put_numbered(sink, b"svec: kernel: syntax at token ", u64::from(token))
+        }
+        ReadFault::Memory => put(sink, b"svec: out of memory\n"),
+    }
+}
+
+// Puts why a kernel is refused.
+fn put_typing<S: Sink>(sink: &mut S, fault: TypeFault) -> Result<(), Failed>
+    ensures { PutsText (S.taken sink.old) (S.taken sink.new) (S.faults sink.old) (S.faults sink.new) (line_of_typing fault) result }
+{
+    match fault {
+        TypeFault::Unknown { item } => {
+            put_numbered(sink, b"svec: kernel: unknown name at item ", u64::from(item))
+        }
+        TypeFault::Twice { item } => {
+            put_numbered(sink, b"svec: kernel: name declared twice at item ", u64::from(item))
+        }
+        TypeFault::WrongKind { item } => {
+            put_numbered(sink, b"svec: kernel: wrong kind at item ", u64::from(item))
+        }
+        TypeFault::Mismatch { item, want, found } => put_mismatch(sink, item, want, found),
+        TypeFault::Untyped { item } => {
+            put_numbered(sink, b"svec: kernel: no type at item ", u64::from(item))
+        }
+        TypeFault::LiteralRange { item } => put_numbered(
+            sink,
+            b"svec: kernel: literal out of range at item ",
+            u64::from(item),
+        ),
+        TypeFault::ShiftRange { item } => {
+            put_numbered(sink, b"svec: kernel: shift out of range at item ", u64::from(item))
+        }
+        TypeFault::OffsetRange { item } => {
+            put_numbered(sink, b"svec: kernel: offset out of range at item ", u64::from(item))
+        }
+        TypeFault::TooLarge { size } => {
+            put_numbered(sink, b"svec: kernel: too large ", u64::from(size))
+        }
+        TypeFault::TooDeep { depth } => {
+            put_numbered(sink, b"svec: kernel: too deep ", u64::from(depth))
+        }
+        TypeFault::Memory => put(sink, b"svec: out of memory\n"),
+    }
+}
+
+// Puts why a text is no kernel that can be compiled or run.
+fn put_kernel<S: Sink>(sink: &mut S, fault: KernelFault) -> Result<(), Failed>
+    ensures { PutsText (S.taken sink.old) (S.taken sink.new) (S.faults sink.old) (S.faults sink.new) (line_of_kernel fault) result }
+{
+    match fault {
+        KernelFault::Unread(fault) => put_reading(sink, fault),
+        KernelFault::Broken(fault) => put_typing(sink, fault),
+    }
+}
+
+// Puts why a text is no page map that may stand beside a program.
+fn put_map<S: Sink>(sink: &mut S, fault: MapFault) -> Result<(), Failed>
+    ensures { PutsText (S.taken sink.old) (S.taken sink.new) (S.faults sink.old) (S.faults sink.new) (line_of_map fault) result }
+{
+    match fault {
+        MapFault::BadLine { line } => put_numbered(sink, b"svec: map: bad line ", line),
+        MapFault::Clash { line } => put_numbered(sink, b"svec: map: clash at line ", line),
+        MapFault::Unmapped { line } => put_numbered(sink, b"svec: map: unmapped at line ", line),
+        MapFault::TooManyPages => put(sink, b"svec: map: too many pages\n"),
+        MapFault::Memory => put(sink, b"svec: out of memory\n"),
+    }
 }
 
 // Puts why a file is no program that can be loaded.
@@ -74,7 +188,9 @@ fn put_fault<S: Sink>(sink: &mut S, fault: ElfFault) -> Result<(), Failed>
         ElfFault::NotElf => put(sink, b"svec: file: not elf\n"),
         ElfFault::NotAarch64 => put(sink, b"svec: file: not aarch64\n"),
         ElfFault::NotStatic => put(sink, b"svec: file: not static\n"),
-        ElfFault::BadSegment { index } => put_bad_segment(sink, index),
+        ElfFault::BadSegment { index } => {
+            put_numbered(sink, b"svec: file: bad segment ", u64::from(index))
+        }
         ElfFault::SegmentsClash => put(sink, b"svec: file: segments clash\n"),
         ElfFault::TooManyPages => put(sink, b"svec: file: too many pages\n"),
         ElfFault::Memory => put(sink, b"svec: out of memory\n"),
@@ -88,8 +204,10 @@ pub fn put_refusal<S: Sink>(sink: &mut S, refusal: Refusal) -> Result<(), Failed
     match refusal {
         Refusal::Usage => put(sink, b"svec: usage\n"),
         Refusal::NotYet => put(sink, b"svec: kernel: not yet\n"),
+        Refusal::Kernel(fault) => put_kernel(sink, fault),
         Refusal::TooLong => put(sink, b"svec: file: too long\n"),
         Refusal::Elf(fault) => put_fault(sink, fault),
+        Refusal::Map(fault) => put_map(sink, fault),
         Refusal::Memory => put(sink, b"svec: out of memory\n"),
         Refusal::File => put(sink, b"svec: file failed\n"),
         Refusal::Output => put(sink, b"svec: output or input failed\n"),

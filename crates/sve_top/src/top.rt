@@ -3,9 +3,13 @@
 ghost use Rattle.std.specs.Prelude.{◌≡◌, ◌≢◌, ◌≤◌, ◌⊎◌, Some, None, IfSome, IsTrue, Err, OnOk, []};
 ghost use Rattle.io_edges.specs.Files.{Rose};
 ghost use Rattle.command_line.specs.Line.{line_of};
-ghost use Rattle.command_line.specs.Seen.{texts, command_seen, FewArguments};
-ghost use Rattle.sve_top.specs.Answer.{wanted, told, IsAnswer, IsStatus, IsOf, IsListed, IsKept, IsQuiet, IsSilent, IsHeld, Compiled, OthersKept, text_wanted, Prints, PrintsBy, Gains, told_by};
+ghost use Rattle.command_line.specs.Seen.{texts, command_seen};
+ghost use Rattle.sve_top.specs.Answer.{answer_of, text_of, status_of_refusal, IsAnswer, IsStatus, IsKept, IsQuiet};
+ghost use Rattle.sve_top.specs.Commands.{Wants, OfWanted, IsOf, IsListed, IsSilent, IsHeld, Compiled, OthersKept};
+ghost use Rattle.sve_top.specs.Outputs.{Prints, PrintsBy, Gains, told, told_by};
+ghost use Rattle.sve_top.specs.Lines.{line_of_refusal};
 
+use crate::check::check;
 use crate::compile::compile;
 use crate::list::list;
 use crate::refusal::{Done, Refusal};
@@ -21,7 +25,7 @@ use std::alloc::Global;
 /// Does the command that the words spell, and answers its status. The words are those after the program's name.
 ///
 /// 0 done; 2 the words are no command; 3 the kernel is refused; 4 a file is refused; 5 the program stopped; 6 its steps are
-/// spent; 7 memory is short; 8 a file failed; 9 the output failed. A listing and a run put their text on `out`. At every status but 0, 5
+/// spent; 7 memory is short; 8 a file failed; 9 the output failed. A check, a listing and a run put their text on `out`. At every status but 0, 5
 /// and 6 one line on `err` tells the cause; a failure of `err` changes no status.
 pub fn top<F: Files, I: Source, S: Sink, E: Sink>(
     alloc: Global,
@@ -33,19 +37,20 @@ pub fn top<F: Files, I: Source, S: Sink, E: Sink>(
 ) -> u8
     ensures usage { result ≡ 2 → line_of (texts words.now) ≡ None }
     ensures listed { IsListed (line_of (texts words.now)) result }
-    ensures status { IfSome (F.held files.old) (λ held. IsStatus (F.faults files.old) (F.faults files.new) (S.faults out.old) (S.faults out.new) (wanted held (line_of (texts words.now))) result) }
+    ensures status { IfSome (F.held files.old) (λ held. OfWanted (Wants held (line_of (texts words.now))) (λ work. IsStatus (F.faults files.old) (F.faults files.new) (S.faults out.old) (S.faults out.new) (answer_of work) result)) }
     ensures file { result ≡ 0 → IfSome (line_of (texts words.now)) (λ line. IfSome (F.held files.old) (λ old. IfSome (F.held files.new) (λ new. Compiled old new line))) }
     ensures others { IfSome (F.held files.old) (λ old. IfSome (F.held files.new) (λ new. OthersKept old new (line_of (texts words.now)))) }
     ensures kept { (result ≡ 2) ⊎ (result ≡ 3) ⊎ (result ≡ 4) ⊎ (result ≡ 5) ⊎ (result ≡ 6) ⊎ (result ≡ 9) → F.held files.new ≡ F.held files.old }
     ensures failed { result ≡ 8 → Rose (F.faults files.old) (F.faults files.new) }
     ensures output { result ≡ 9 → Rose (S.faults out.old) (S.faults out.new) }
     ensures steady { IsTrue (F.steady files.old) → IfSome (line_of (texts words.now)) (λ line. IfSome (F.held files.old) (λ held. IsHeld held line → result ≢ 8)) }
-    ensures printed { IfSome (F.held files.old) (λ held. PrintsBy (S.taken out.old) (S.taken out.new) (text_wanted held (line_of (texts words.now))) result) }
+    ensures printed { IfSome (F.held files.old) (λ held. OfWanted (Wants held (line_of (texts words.now))) (λ work. PrintsBy (S.taken out.old) (S.taken out.new) (text_of work) result)) }
     ensures quiet { (result ≡ 2) ⊎ (result ≡ 3) ⊎ (result ≡ 4) ⊎ (result ≡ 8) → out.new ≡ out.old }
     ensures silent { IsSilent (line_of (texts words.now)) → out.new ≡ out.old }
     ensures unread { _input.new ≡ _input.old }
-    ensures told { IfSome (F.held files.old) (λ held. Gains (E.taken err.old) (E.taken err.new) (E.faults err.old) (E.faults err.new) (told_by (told (wanted held (line_of (texts words.now)))) result)) }
-    ensures told_alike { result ≢ 4 → Gains (E.taken err.old) (E.taken err.new) (E.faults err.old) (E.faults err.new) (told_by [] result) }
+    ensures told { IfSome (F.held files.old) (λ held. OfWanted (Wants held (line_of (texts words.now))) (λ work. Gains (E.taken err.old) (E.taken err.new) (E.faults err.old) (E.faults err.new) (told_by (told (answer_of work)) result))) }
+    ensures told_alike { result ≢ 3 → result ≢ 4 → Gains (E.taken err.old) (E.taken err.new) (E.faults err.old) (E.faults err.new) (told_by [] result) }
+    ensures told_some { (result ≡ 3) ⊎ (result ≡ 4) → (refusal : Refusal) × (status_of_refusal refusal ≡ result) × Gains (E.taken err.old) (E.taken err.new) (E.faults err.old) (E.faults err.new) (line_of_refusal refusal) }
 {
     match do_words(alloc, words, files, out) {
         Ok(done) => done.status(),
@@ -63,7 +68,7 @@ fn do_words<F: Files, S: Sink>(
     files: &mut F,
     out: &mut S,
 ) -> Result<Done, Refusal>
-    ensures answer { IfSome (F.held files.old) (λ held. IsAnswer (F.faults files.old) (F.faults files.new) (S.faults out.old) (S.faults out.new) (wanted held (line_of (texts words.now))) result) }
+    ensures answer { IfSome (F.held files.old) (λ held. OfWanted (Wants held (line_of (texts words.now))) (λ work. IsAnswer (F.faults files.old) (F.faults files.new) (S.faults out.old) (S.faults out.new) (answer_of work) result)) }
     ensures listed { IsOf (line_of (texts words.now)) result }
     ensures file { OnOk result (IfSome (line_of (texts words.now)) (λ line. IfSome (F.held files.old) (λ old. IfSome (F.held files.new) (λ new. Compiled old new line)))) }
     ensures others { IfSome (F.held files.old) (λ old. IfSome (F.held files.new) (λ new. OthersKept old new (line_of (texts words.now)))) }
@@ -71,7 +76,7 @@ fn do_words<F: Files, S: Sink>(
     ensures failed { result ≡ Err Refusal.File → Rose (F.faults files.old) (F.faults files.new) }
     ensures output { result ≡ Err Refusal.Output → Rose (S.faults out.old) (S.faults out.new) }
     ensures steady { IsTrue (F.steady files.old) → IfSome (line_of (texts words.now)) (λ line. IfSome (F.held files.old) (λ held. IsHeld held line → result ≢ Err Refusal.File)) }
-    ensures printed { IfSome (F.held files.old) (λ held. Prints (S.taken out.old) (S.taken out.new) (text_wanted held (line_of (texts words.now))) result) }
+    ensures printed { IfSome (F.held files.old) (λ held. OfWanted (Wants held (line_of (texts words.now))) (λ work. Prints (S.taken out.old) (S.taken out.new) (text_of work) result)) }
     ensures quiet { IsQuiet result → out.new ≡ out.old }
     ensures silent { IsSilent (line_of (texts words.now)) → out.new ≡ out.old }
 {
@@ -89,8 +94,7 @@ fn do_command<F: Files, S: Sink>(
     files: &mut F,
     out: &mut S,
 ) -> Result<Done, Refusal>
-    requires { FewArguments command.now }
-    ensures answer { IfSome (F.held files.old) (λ held. IsAnswer (F.faults files.old) (F.faults files.new) (S.faults out.old) (S.faults out.new) (wanted held (Some (command_seen command.now))) result) }
+    ensures answer { IfSome (F.held files.old) (λ held. OfWanted (Wants held (Some (command_seen command.now))) (λ work. IsAnswer (F.faults files.old) (F.faults files.new) (S.faults out.old) (S.faults out.new) (answer_of work) result)) }
     ensures listed { IsOf (Some (command_seen command.now)) result }
     ensures file { OnOk result (IfSome (F.held files.old) (λ old. IfSome (F.held files.new) (λ new. Compiled old new (command_seen command.now)))) }
     ensures others { IfSome (F.held files.old) (λ old. IfSome (F.held files.new) (λ new. OthersKept old new (Some (command_seen command.now)))) }
@@ -98,13 +102,14 @@ fn do_command<F: Files, S: Sink>(
     ensures failed { result ≡ Err Refusal.File → Rose (F.faults files.old) (F.faults files.new) }
     ensures output { result ≡ Err Refusal.Output → Rose (S.faults out.old) (S.faults out.new) }
     ensures steady { IsTrue (F.steady files.old) → IfSome (F.held files.old) (λ held. IsHeld held (command_seen command.now) → result ≢ Err Refusal.File) }
-    ensures printed { IfSome (F.held files.old) (λ held. Prints (S.taken out.old) (S.taken out.new) (text_wanted held (Some (command_seen command.now))) result) }
+    ensures printed { IfSome (F.held files.old) (λ held. OfWanted (Wants held (Some (command_seen command.now))) (λ work. Prints (S.taken out.old) (S.taken out.new) (text_of work) result)) }
     ensures quiet { IsQuiet result → out.new ≡ out.old }
     ensures silent { IsSilent (Some (command_seen command.now)) → out.new ≡ out.old }
 {
     match command {
         Command::Compile { from, to } => compile(alloc, from.as_str(), to.as_str(), files),
+        Command::Check { from } => check(alloc, from.as_str(), files, out),
         Command::List { from } => list(alloc, from.as_str(), files, out),
-        Command::Run(line) => run(alloc, line, files, out),
+        Command::Run { vl, task } => run(alloc, *vl, task, files, out),
     }
 }

@@ -1,0 +1,268 @@
+-- What each command comes to, and what it leaves.
+use Rattle.std.specs.Prelude.{◌≡◌, ◌≢◌, ℕ, ◌⊎◌, List, [], ◌++◌, length, Option, Some, None, IfSome, IsSome, Vec, Result, Ok, Err, nat_lt, if◌then◌else◌}
+use Rattle.io_edges.specs.Files.{content}
+use Rattle.io_edges.specs.declared.files.TheConstants.{MAX_FILE}
+use Rattle.early_kernel.specs.Sum.{SumKernel}
+use Rattle.early_kernel.specs.Reads.{sum_kernel_of}
+use Rattle.early_kernel.specs.Compiles.{CompilesTo}
+use Rattle.guest_types.specs.Memory.{Memory}
+use Rattle.machine_model.specs.declared.elf_fault.ElfFault.{ElfFault}
+use Rattle.machine_model.specs.declared.outcome.Outcome.{Outcome as OutcomeAnswer}
+use Rattle.machine_model.specs.declared.outcome.Outcome.TheVariants as outcomes
+use Rattle.machine_model.specs.DumpText.{dump_text}
+use Rattle.machine_model.specs.Load.{Image, load}
+use Rattle.machine_model.specs.OutcomeText.{outcome_text}
+use Rattle.machine_model.specs.Run.{Outcome, End, Stop, Spent, start, run}
+use Rattle.map_text.specs.declared.fault.MapFault.{MapFault}
+use Rattle.map_text.specs.Mapping.{map_of as pages_of}
+use Rattle.kernel_tree.specs.Plain.{Program}
+use Rattle.check_text.specs.CheckText.{check_text}
+use Rattle.command_line.specs.Line.{Line, Task, Extent, CompileLine, CheckLine, ListLine, RunLine}
+use Rattle.sve_top.specs.declared.refusal.Refusal.{Refusal}
+use Rattle.sve_top.specs.declared.refusal.Refusal.TheVariants.{Usage, NotYet, Kernel, TooLong, Elf, Map, Memory as NoMemory, File, Output}
+use Rattle.sve_top.specs.declared.refusal.Done.{Done}
+use Rattle.sve_top.specs.declared.refusal.Done.TheVariants as done
+use Rattle.sve_top.specs.declared.run.Played.{Played}
+use Rattle.sve_top.specs.Answer.{Held, Work, Answer}
+use Rattle.sve_top.specs.Kernels.{ByVerdict}
+use Rattle.sve_top.specs.Listing.{listing_of}
+
+-- what follows where nothing was refused
+abbrev pub and_then : {T : Type 0} → Result T Refusal → (T → Work) → Work
+and_then (Ok x) next = next x
+and_then (Err refusal) next = Err refusal
+
+-- ---- the files of a command
+
+-- the bytes of a file: one that is not held cannot be read, and one that is too long is refused
+abbrev pub bytes_of : Option (List ℕ) → Result (List ℕ) Refusal
+bytes_of None = Err File
+bytes_of (Some bytes) = if nat_lt MAX_FILE (length bytes) then Err TooLong else Ok bytes
+
+abbrev pub file_of : Held → List ℕ → Result (List ℕ) Refusal
+file_of held name = bytes_of (content held name)
+
+-- the text of a page map, which is empty where none is named
+abbrev pub map_of : Held → Option (List ℕ) → Result (List ℕ) Refusal
+map_of held None = Ok []
+map_of held (Some name) = file_of held name
+
+-- the bytes that a read answers
+abbrev pub bytes_in : {A B : Type 0} → Result (Vec A B) Refusal → Result (List A) Refusal
+bytes_in (Ok bytes) = Ok bytes.items
+bytes_in (Err refusal) = Err refusal
+
+-- a refusal of a read
+abbrev pub IsOfRead : {T : Type 0} → Result T Refusal → Type 0
+IsOfRead (Err TooLong) = Unit {0}
+IsOfRead (Err NoMemory) = Unit {0}
+IsOfRead (Err File) = Unit {0}
+IsOfRead (Err refusal) = ⊥
+IsOfRead (Ok x) = Unit {0}
+
+abbrev pub loaded : Result Image ElfFault → Result Image Refusal
+loaded (Ok image) = Ok image
+loaded (Err fault) = Err (Elf fault)
+
+-- the image of a program
+abbrev pub program_of : List ℕ → Result Image Refusal
+program_of bytes = loaded (load bytes)
+
+abbrev pub mapped : Result Memory MapFault → Result Memory Refusal
+mapped (Ok pages) = Ok pages
+mapped (Err fault) = Err (Map fault)
+
+-- the pages of a map beside those of an image
+abbrev pub beside : Image → List ℕ → Result Memory Refusal
+beside image text = mapped (pages_of text image.pages)
+
+-- ---- compile
+
+-- a command that is done and puts this text on the output
+abbrev pub ended : List ℕ → Work
+ended text = Ok (record { how = done.Ended; text = text })
+
+-- kernels that are not compiled yet
+abbrev pub not_compiled : Program → Work
+not_compiled k = Err NotYet
+
+abbrev pub CompilesEarly : Option SumKernel → List ℕ → Work → Type 0
+CompilesEarly (Some k) text work = work ≡ ended []
+CompilesEarly None text work = ByVerdict not_compiled text work
+
+-- what is wanted of the text of a kernel
+abbrev pub CompileWants : List ℕ → Work → Type 0
+CompileWants text work = CompilesEarly (sum_kernel_of text) text work
+
+-- ---- check
+
+abbrev pub checked : Program → Work
+checked k = ended (check_text k)
+
+abbrev pub CheckWants : List ℕ → Work → Type 0
+CheckWants text work = ByVerdict checked text work
+
+-- ---- list
+
+unfoldable pub list_program : List ℕ → Work
+list_program bytes = and_then (program_of bytes) (λ image. ended (listing_of image))
+
+abbrev pub work_of_list : Held → List ℕ → Work
+work_of_list held from = and_then (file_of held from) list_program
+
+-- ---- run
+
+abbrev pub done_by : Outcome → Done
+done_by (End memory result steps) = done.Ended
+done_by (Stop kind pc at memory steps) = done.Stopped
+done_by (Spent pc memory steps) = done.Spent
+
+abbrev pub memory_left : Outcome → Memory
+memory_left (End memory result steps) = memory
+memory_left (Stop kind pc at memory steps) = memory
+memory_left (Spent pc memory steps) = memory
+
+-- the dump of the bytes that are asked for
+abbrev pub dump_of : Option Extent → Memory → List ℕ
+dump_of None memory = []
+dump_of (Some e) memory = dump_text memory e.address e.len
+
+abbrev pub deed_of : Option Extent → Outcome → Work
+deed_of dump outcome = Ok (record { how = done_by outcome; text = outcome_text outcome ++ dump_of dump (memory_left outcome) })
+
+-- the machine's run of a program beside the pages of a map
+unfoldable pub run_program : ℕ → Task → List ℕ → List ℕ → Work
+run_program vl task bytes map =
+    and_then (program_of bytes) (λ image.
+    and_then (beside image map) (λ pages.
+    deed_of task.dump (run task.steps 0 (start image task.args pages vl))))
+
+abbrev pub work_of_run : Held → ℕ → Task → Work
+work_of_run held vl task =
+    and_then (file_of held task.file) (λ bytes.
+    and_then (map_of held task.map) (λ map.
+    run_program vl task bytes map))
+
+-- ---- all commands
+
+-- what is wanted once something was read
+abbrev pub AfterRead : {T : Type 0} → Result T Refusal → (T → Work → Type 0) → Work → Type 0
+AfterRead (Ok x) next work = next x work
+AfterRead (Err refusal) next work = work ≡ Err refusal
+
+-- What a command is to come to. There is one such work, but for the token that the line of a syntax fault names.
+abbrev pub Wants : Held → Option Line → Work → Type 0
+Wants held None work = work ≡ Err Usage
+Wants held (Some (CompileLine from to)) work = AfterRead (file_of held from) CompileWants work
+Wants held (Some (CheckLine from)) work = AfterRead (file_of held from) CheckWants work
+Wants held (Some (ListLine from)) work = work ≡ work_of_list held from
+Wants held (Some (RunLine vl task)) work = work ≡ work_of_run held vl task
+
+-- wherever some work is wanted, this holds of a work that is wanted
+abbrev pub OfWanted : (Work → Type 0) → (Work → Type 0) → Type 0
+OfWanted W P = (work : Work) → W work → (w : Work) × W w × P w
+
+-- ---- what comes of which command
+
+-- no answer of other commands: a compilation does not stop, spends no steps, loads no program and puts nothing on the output
+abbrev pub IsOfCompile : Answer → Type 0
+IsOfCompile (Ok how) = how ≡ done.Ended
+IsOfCompile (Err Usage) = ⊥
+IsOfCompile (Err (Elf fault)) = ⊥
+IsOfCompile (Err (Map fault)) = ⊥
+IsOfCompile (Err Output) = ⊥
+IsOfCompile (Err refusal) = Unit {0}
+
+abbrev pub IsOfCheck : Answer → Type 0
+IsOfCheck (Ok how) = how ≡ done.Ended
+IsOfCheck (Err Usage) = ⊥
+IsOfCheck (Err NotYet) = ⊥
+IsOfCheck (Err (Elf fault)) = ⊥
+IsOfCheck (Err (Map fault)) = ⊥
+IsOfCheck (Err refusal) = Unit {0}
+
+abbrev pub IsOfList : Answer → Type 0
+IsOfList (Ok how) = how ≡ done.Ended
+IsOfList (Err Usage) = ⊥
+IsOfList (Err NotYet) = ⊥
+IsOfList (Err (Kernel fault)) = ⊥
+IsOfList (Err (Map fault)) = ⊥
+IsOfList (Err refusal) = Unit {0}
+
+abbrev pub IsOfRun : Answer → Type 0
+IsOfRun (Err Usage) = ⊥
+IsOfRun (Err NotYet) = ⊥
+IsOfRun (Err (Kernel fault)) = ⊥
+IsOfRun answer = Unit {0}
+
+-- the answers of a command
+abbrev pub IsOf : Option Line → Answer → Type 0
+IsOf None answer = (answer ≡ Err Usage) ⊎ (answer ≡ Err NoMemory)
+IsOf (Some (CompileLine from to)) answer = IsOfCompile answer
+IsOf (Some (CheckLine from)) answer = IsOfCheck answer
+IsOf (Some (ListLine from)) answer = IsOfList answer
+IsOf (Some (RunLine vl task)) answer = IsOfRun answer
+
+-- the statuses of a command
+abbrev pub IsListed : Option Line → ℕ → Type 0
+IsListed None status = (status ≡ 2) ⊎ (status ≡ 7)
+IsListed (Some (CompileLine from to)) status = (status ≡ 0) ⊎ ((status ≡ 3) ⊎ ((status ≡ 4) ⊎ ((status ≡ 7) ⊎ (status ≡ 8))))
+IsListed (Some (CheckLine from)) status = (status ≡ 0) ⊎ ((status ≡ 3) ⊎ ((status ≡ 4) ⊎ ((status ≡ 7) ⊎ ((status ≡ 8) ⊎ (status ≡ 9)))))
+IsListed (Some (ListLine from)) status = (status ≡ 0) ⊎ ((status ≡ 4) ⊎ ((status ≡ 7) ⊎ ((status ≡ 8) ⊎ (status ≡ 9))))
+IsListed (Some (RunLine vl task)) status =
+    (status ≡ 0) ⊎ ((status ≡ 4) ⊎ ((status ≡ 5) ⊎ ((status ≡ 6) ⊎ ((status ≡ 7) ⊎ ((status ≡ 8) ⊎ (status ≡ 9))))))
+
+-- words that put nothing on the output
+abbrev pub IsSilent : Option Line → Type 0
+IsSilent None = Unit {0}
+IsSilent (Some (CompileLine from to)) = Unit {0}
+IsSilent line = ⊥
+
+-- a refusal of a program or its map is the wanted one, or want of memory
+abbrev pub RefusesProgram : Work → Refusal → Type 0
+RefusesProgram wanted NoMemory = Unit {0}
+RefusesProgram wanted (Elf fault) = wanted ≡ Err (Elf fault)
+RefusesProgram wanted (Map fault) = wanted ≡ Err (Map fault)
+RefusesProgram wanted refusal = ⊥
+
+-- a refusal of a kernel's text is wanted wherever something is, or it is want of memory
+abbrev pub RefusesText : (Work → Type 0) → Refusal → Type 0
+RefusesText W NoMemory = Unit {0}
+RefusesText W NotYet = (work : Work) → W work → W (Err NotYet)
+RefusesText W (Kernel fault) = (work : Work) → W work → W (Err (Kernel fault))
+RefusesText W refusal = ⊥
+
+-- what a run that was played comes to
+abbrev pub played : Played → Work
+played p = Ok (record { how = p.done; text = p.text.items })
+
+-- how an outcome comes out as the machine answers it
+abbrev pub done_of : OutcomeAnswer → Done
+done_of (outcomes.End result) = done.Ended
+done_of (outcomes.Stop stop) = done.Stopped
+done_of outcomes.Spent = done.Spent
+
+-- ---- what is left of the files
+
+-- at status 0 the one file compiles the kernel that the other held
+abbrev pub Compiled : Held → Held → Line → Type 0
+Compiled old new (CompileLine from to) =
+    IfSome (content old from) (λ text. (file : List ℕ) × (content new to ≡ Some file) × CompilesTo (sum_kernel_of text) file)
+Compiled old new line = Unit {0}
+
+-- every name but the output's of `compile` has what it had
+abbrev pub OthersKept : Held → Held → Option Line → Type 0
+OthersKept old new (Some (CompileLine from to)) = (name : List ℕ) → name ≢ to → content new name ≡ content old name
+OthersKept old new line = (name : List ℕ) → content new name ≡ content old name
+
+-- a file that is named is held
+abbrev pub IsMapHeld : Held → Option (List ℕ) → Type 0
+IsMapHeld held None = Unit {0}
+IsMapHeld held (Some name) = IsSome (content held name)
+
+-- the files that are read are held
+abbrev pub IsHeld : Held → Line → Type 0
+IsHeld held (CompileLine from to) = IsSome (content held from)
+IsHeld held (CheckLine from) = IsSome (content held from)
+IsHeld held (ListLine from) = IsSome (content held from)
+IsHeld held (RunLine vl task) = IsSome (content held task.file) × IsMapHeld held task.map

@@ -1,0 +1,37 @@
+-- What is wanted of the text of a kernel.
+use Rattle.std.specs.Prelude.{◌≡◌, ℕ, List, Err}
+use Rattle.kernel_tree.specs.Plain.{Program}
+use Rattle.kernel_syntax.specs.declared.fault.ReadFault.TheVariants as reading
+use Rattle.kernel_types.specs.declared.fault.TypeFault.TheVariants as typing
+use Rattle.kernel_front.specs.declared.fault.KernelFault.{KernelFault}
+use Rattle.kernel_front.specs.declared.fault.KernelFault.TheVariants as kernels
+use Rattle.kernel_front.specs.Verdict.{Verdict, Limited, NoKernel, Refused, Sound, IsVerdict, Explains}
+use Rattle.sve_top.specs.declared.refusal.Refusal.TheVariants.{Kernel}
+use Rattle.sve_top.specs.Answer.{Work}
+
+-- a fault that says something of a text: each but want of memory
+abbrev pub IsOfText : KernelFault → Type 0
+IsOfText (kernels.Unread reading.Memory) = ⊥
+IsOfText (kernels.Broken typing.Memory) = ⊥
+IsOfText fault = Unit {0}
+
+-- the command is refused with a fault that explains the verdict
+pub record IsRefusedFor (v : Verdict) (work : Work) : Type 0 where
+  pub fault : KernelFault
+  pub explains : Explains v fault
+  pub of_text : IsOfText fault
+  pub work_is : work ≡ Err (Kernel fault)
+
+-- What is wanted of a text by its verdict, where `sound` is wanted of a kernel. The line of a text whose tokens are no kernel may
+-- name any token.
+abbrev pub IsWorkOn : (Program → Work) → Verdict → Work → Type 0
+IsWorkOn sound (Limited fault) work = IsRefusedFor (Limited fault) work
+IsWorkOn sound NoKernel work = IsRefusedFor NoKernel work
+IsWorkOn sound (Refused refusal) work = IsRefusedFor (Refused refusal) work
+IsWorkOn sound (Sound k) work = work ≡ sound k
+
+-- what is wanted of a text, which has a verdict
+pub record ByVerdict (sound : Program → Work) (text : List ℕ) (work : Work) : Type 0 where
+  pub verdict : Verdict
+  pub has : IsVerdict text verdict
+  pub wanted : IsWorkOn sound verdict work

@@ -1,0 +1,48 @@
+//! The command `check IN`.
+
+ghost use Rattle.std.specs.Prelude.{◌≡◌, ◌≢◌, Some, Err, IfSome, IsSome, IfOk, IfErr, IsTrue};
+ghost use Rattle.io_edges.specs.Files.{Rose, content};
+ghost use Rattle.command_line.specs.Line.{CheckLine};
+ghost use Rattle.sve_top.specs.Answer.{answer_of, text_of, IsAnswer, IsQuiet};
+ghost use Rattle.sve_top.specs.Commands.{Wants, OfWanted, CheckWants, RefusesText, ended, IsOfCheck};
+ghost use Rattle.sve_top.specs.Outputs.{Prints};
+
+use crate::files::read_file;
+use crate::refusal::{Done, Refusal};
+use check_text::check_text;
+use io_edges::files::Files;
+use io_edges::sink::{Sink, put_all};
+use kernel_front::accept;
+use std::alloc::Global;
+
+// What is told of the kernel of a text.
+fn check_kernel(alloc: Global, text: &[u8]) -> Result<Vec<u8>, Refusal>
+    ensures wanted { IfOk result (λ told. CheckWants text.now (ended told.items)) }
+    ensures refusal { IfErr result (λ refusal. RefusesText (CheckWants text.now) refusal) }
+{
+    let kernel = accept(alloc, text)?;
+    let told = check_text(alloc, &kernel)?;
+    Ok(told)
+}
+
+/// Puts the size, the class and the needs of the kernel in a file on the output.
+pub fn check<F: Files, S: Sink>(
+    alloc: Global,
+    from: &str,
+    files: &mut F,
+    out: &mut S,
+) -> Result<Done, Refusal>
+    ensures answer { IfSome (F.held files.old) (λ held. OfWanted (Wants held (Some (CheckLine from.now))) (λ work. IsAnswer (F.faults files.old) (F.faults files.new) (S.faults out.old) (S.faults out.new) (answer_of work) result)) }
+    ensures held { F.held files.new ≡ F.held files.old }
+    ensures printed { IfSome (F.held files.old) (λ held. OfWanted (Wants held (Some (CheckLine from.now))) (λ work. Prints (S.taken out.old) (S.taken out.new) (text_of work) result)) }
+    ensures quiet { IsQuiet result → out.new ≡ out.old }
+    ensures failed { result ≡ Err Refusal.File → Rose (F.faults files.old) (F.faults files.new) }
+    ensures output { result ≡ Err Refusal.Output → Rose (S.faults out.old) (S.faults out.new) }
+    ensures steady { IsTrue (F.steady files.old) → IfSome (F.held files.old) (λ held. IsSome (content held from.now) → result ≢ Err Refusal.File) }
+    ensures of_check { IsOfCheck result }
+{
+    let text = read_file(alloc, from, files)?;
+    let told = check_kernel(alloc, &text)?;
+    put_all(out, &told)?;
+    Ok(Done::Ended)
+}
