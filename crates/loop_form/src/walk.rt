@@ -7,12 +7,11 @@ ghost use Rattle.kernel_tree.specs.Items.{loop_index, term_size, index_items, ac
 ghost use Rattle.loop_form.specs.Entries.{entry, term_entries, action_entries, block_entries, vars_entries, item_type, inner_entries, IsPlain, IsRead};
 ghost use Rattle.loop_form.specs.Seen.{program, content_of, seen};
 
-use crate::entry::{Content, Entry};
+use crate::entry::{Content, Entries, Entry};
 use crate::item::ItemKind;
 use crate::part::Part;
 use crate::size::{expr_size, is_stream, statements_size, stmt_size};
 use crate::take_apart::parts;
-use arrayvec::ArrayVec;
 use kernel_tree::{Checked, Expr, Name, Stmt, Ty, Var};
 
 // The type of a value item.
@@ -26,7 +25,7 @@ fn type_at(kernel: &Checked, item: u32) -> Option<Ty>
 /// Appends an item.
 pub fn put<'a>(
     kernel: &Checked,
-    entries: &mut ArrayVec<Entry<'a>, 1000>,
+    entries: &mut Entries<'a>,
     item: u32,
     content: Content<'a>,
     until: u32,
@@ -48,7 +47,7 @@ pub fn put<'a>(
 #[cycle(terms)]
 pub fn list_expr<'a>(
     kernel: &Checked,
-    entries: &mut ArrayVec<Entry<'a>, 1000>,
+    entries: &mut Entries<'a>,
     from: u32,
     until: u32,
     expr: &'a Expr,
@@ -86,7 +85,7 @@ pub fn list_expr<'a>(
 #[cycle(terms)]
 fn list_read<'a>(
     kernel: &Checked,
-    entries: &mut ArrayVec<Entry<'a>, 1000>,
+    entries: &mut Entries<'a>,
     from: u32,
     until: u32,
     array: &'a Name,
@@ -114,7 +113,7 @@ fn list_read<'a>(
 #[cycle(terms)]
 fn list_one<'a>(
     kernel: &Checked,
-    entries: &mut ArrayVec<Entry<'a>, 1000>,
+    entries: &mut Entries<'a>,
     from: u32,
     until: u32,
     arg: &'a Expr,
@@ -134,7 +133,7 @@ fn list_one<'a>(
 #[cycle(terms)]
 fn list_two<'a>(
     kernel: &Checked,
-    entries: &mut ArrayVec<Entry<'a>, 1000>,
+    entries: &mut Entries<'a>,
     from: u32,
     until: u32,
     left: &'a Expr,
@@ -157,7 +156,7 @@ fn list_two<'a>(
 #[cycle(terms)]
 fn list_or<'a>(
     kernel: &Checked,
-    entries: &mut ArrayVec<Entry<'a>, 1000>,
+    entries: &mut Entries<'a>,
     from: u32,
     until: u32,
     left: &'a Expr,
@@ -180,7 +179,7 @@ fn list_or<'a>(
 #[cycle(terms)]
 fn list_select<'a>(
     kernel: &Checked,
-    entries: &mut ArrayVec<Entry<'a>, 1000>,
+    entries: &mut Entries<'a>,
     from: u32,
     until: u32,
     yes: &'a Expr,
@@ -211,7 +210,7 @@ fn list_select<'a>(
 #[cycle(statements)]
 fn list_stmt<'a>(
     kernel: &Checked,
-    entries: &mut ArrayVec<Entry<'a>, 1000>,
+    entries: &mut Entries<'a>,
     from: u32,
     stmt: &'a Stmt,
 )
@@ -251,7 +250,7 @@ fn list_stmt<'a>(
 /// Lists an expression and the item that it ends in.
 pub fn list_ended<'a>(
     kernel: &Checked,
-    entries: &mut ArrayVec<Entry<'a>, 1000>,
+    entries: &mut Entries<'a>,
     from: u32,
     value: &'a Expr,
     content: Content<'a>,
@@ -270,7 +269,7 @@ pub fn list_ended<'a>(
 #[cycle(statements)]
 fn list_then<'a>(
     kernel: &Checked,
-    entries: &mut ArrayVec<Entry<'a>, 1000>,
+    entries: &mut Entries<'a>,
     from: u32,
     cond: &'a Expr,
     block: &'a [Stmt],
@@ -298,7 +297,7 @@ fn list_then<'a>(
 #[cycle(statements)]
 fn list_if<'a>(
     kernel: &Checked,
-    entries: &mut ArrayVec<Entry<'a>, 1000>,
+    entries: &mut Entries<'a>,
     from: u32,
     cond: &'a Expr,
     block: &'a [Stmt],
@@ -315,7 +314,7 @@ fn list_if<'a>(
 #[cycle(statements)]
 fn list_if_else<'a>(
     kernel: &Checked,
-    entries: &mut ArrayVec<Entry<'a>, 1000>,
+    entries: &mut Entries<'a>,
     from: u32,
     cond: &'a Expr,
     block: &'a [Stmt],
@@ -337,7 +336,7 @@ fn list_if_else<'a>(
 #[cycle(statements)]
 pub fn list_block<'a>(
     kernel: &Checked,
-    entries: &mut ArrayVec<Entry<'a>, 1000>,
+    entries: &mut Entries<'a>,
     from: u32,
     block: &'a [Stmt],
 )
@@ -357,7 +356,7 @@ pub fn list_block<'a>(
 /// Lists the accumulators with their initial values.
 pub fn list_vars<'a>(
     kernel: &Checked,
-    entries: &mut ArrayVec<Entry<'a>, 1000>,
+    entries: &mut Entries<'a>,
     from: u32,
     vars: &'a [Var],
 )
