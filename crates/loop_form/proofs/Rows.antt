@@ -1,16 +1,13 @@
 -- The definitions at worked kernels: what each kernel needs, its lane width and, of one, the whole listing.
-use Rattle.std.proofs.Common.{◌≡◌, ℕ, ◌+◌, ℤ, pos, negsuc, Bool, true, false, List, [], ◌∷◌, Option, Some, None, refl, zero, suc}
+use Rattle.std.proofs.Common.{◌≡◌, ℕ, ◌+◌, pos, true, false, List, [], ◌∷◌, Some, None, refl, zero, suc}
 use Rattle.guest_types.specs.declared.length.Width.TheVariants.{B, H, S, D}
 use Rattle.kernel_tree.specs.declared.ops.Ty.TheVariants as ty
 use Rattle.kernel_tree.specs.declared.ops.BinaryOp.TheVariants as binary
 use Rattle.kernel_tree.specs.declared.ops.CompareOp.TheVariants as compare
 use Rattle.kernel_tree.specs.declared.ops.UpdateOp.TheVariants as update
 use Rattle.kernel_tree.specs.declared.ast.Shape.TheVariants as shape
-use Rattle.kernel_tree.specs.Plain.{Term, Literal, Variable, Element, Unary, Operation, Shift, Conversion, Choice, Comparison, Both, Either, Not, Action, Define, Put, Update, Choose, Leave, Block, Done, Then, Otherwise, Nothing, Else, Program}
+use Rattle.kernel_tree.specs.Plain.{Term, Literal, Variable, Element, Operation, Conversion, Comparison, Either, Not, Define, Put, Update, Choose, Block, Done, Then, Nothing, Else, Program}
 use Rattle.loop_form.specs.declared.item.ItemKind.TheVariants as kind
-use Rattle.loop_form.specs.declared.item.Item.{Item}
-use Rattle.loop_form.specs.declared.need.Needs.{Needs}
-use Rattle.loop_form.specs.declared.stream.Stream.{Stream}
 use Rattle.loop_form.specs.Entries.{item_type}
 use Rattle.loop_form.specs.Listing.{last_use, listing_of}
 use Rattle.loop_form.specs.Streams.{streams_of}

@@ -208,12 +208,7 @@ fn list_select<'a>(
 
 /// Lists a statement.
 #[cycle(statements)]
-fn list_stmt<'a>(
-    kernel: &Checked,
-    entries: &mut Entries<'a>,
-    from: u32,
-    stmt: &'a Stmt,
-)
+fn list_stmt<'a>(kernel: &Checked, entries: &mut Entries<'a>, from: u32, stmt: &'a Stmt)
     requires behind { array_vec_len entries.old ≤ from }
     requires fits { from + action_size (loop_index (program kernel.now)) (action_of stmt.now) ≤ 1000 }
     ensures items { seen entries.new.items ≡ seen entries.old.items ++ action_entries (program kernel.now) from (action_of stmt.now) }
@@ -334,12 +329,7 @@ fn list_if_else<'a>(
 
 /// Lists the statements of a block.
 #[cycle(statements)]
-pub fn list_block<'a>(
-    kernel: &Checked,
-    entries: &mut Entries<'a>,
-    from: u32,
-    block: &'a [Stmt],
-)
+pub fn list_block<'a>(kernel: &Checked, entries: &mut Entries<'a>, from: u32, block: &'a [Stmt])
     requires behind { array_vec_len entries.old ≤ from }
     requires fits { from + block_size (loop_index (program kernel.now)) (block_of block.now) ≤ 1000 }
     ensures items { seen entries.new.items ≡ seen entries.old.items ++ block_entries (program kernel.now) from (block_of block.now) }
@@ -354,12 +344,7 @@ pub fn list_block<'a>(
 }
 
 /// Lists the accumulators with their initial values.
-pub fn list_vars<'a>(
-    kernel: &Checked,
-    entries: &mut Entries<'a>,
-    from: u32,
-    vars: &'a [Var],
-)
+pub fn list_vars<'a>(kernel: &Checked, entries: &mut Entries<'a>, from: u32, vars: &'a [Var])
     requires behind { array_vec_len entries.old ≤ from }
     requires fits { from + vars_size (loop_index (program kernel.now)) (accumulators_of vars.now) ≤ 1000 }
     ensures items { seen entries.new.items ≡ seen entries.old.items ++ vars_entries (program kernel.now) from (accumulators_of vars.now) }

@@ -50,12 +50,7 @@ fn list_params(kernel: &Checked, entries: &mut Entries<'_>, params: &[Param])
     }
 }
 
-fn list_turns<'a>(
-    kernel: &Checked,
-    entries: &mut Entries<'a>,
-    from: u32,
-    turns: &'a Option<Loop>,
-)
+fn list_turns<'a>(kernel: &Checked, entries: &mut Entries<'a>, from: u32, turns: &'a Option<Loop>)
     requires behind { array_vec_len entries.old ≤ from }
     requires fits { from + turns_size (option_map turns_of turns.now) ≤ 1000 }
     requires index { loop_index (program kernel.now) ≡ option_map index_of (option_map turns_of turns.now) }
