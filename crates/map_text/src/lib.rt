@@ -13,3 +13,6 @@ mod words;
 
 pub use fault::MapFault;
 pub use read::read_map;
+
+#[cfg(test)]
+mod tests;
