@@ -1,6 +1,6 @@
 -- A kernel that returns the sum of its parameter and a literal, and its tokens.
-use Rattle.std.proofs.Common.{◌≡◌, ℕ, ◌<◌, ◌^◌, List, [], ◌∷◌, ◌++◌, length, Bool, true, Option, Some, None, refl, sym, ap, ◌∙◌, arith, ltb}
-use Rattle.std.specs.Prelude.{ℤ, codes, pos, IsTrue}
+use Rattle.std.proofs.Common.{◌≡◌, ℕ, ◌<◌, ◌^◌, List, [], ◌∷◌, ◌++◌, true, Some, None, refl, arith}
+use Rattle.std.specs.Prelude.{ℤ, codes, pos}
 use Rattle.std.specs.Int.{w128, cast_signed, cast_unsigned}
 use Rattle.std.proofs.lemmas.Int.{ints}
 use Rattle.std.proofs.lemmas.Bool.{lt-ltb}
@@ -13,7 +13,7 @@ use Rattle.kernel_tree.specs.Tokens.{are_tokens}
 use Rattle.kernel_tree.specs.declared.ast.Param.{Param}
 use Rattle.kernel_tree.specs.declared.ast.Var.{Var}
 use Rattle.kernel_tree.specs.Plain.{Term, Literal, Variable, Operation, Program, name_of, parameters_of, accumulators_of}
-use Rattle.kernel_tree.specs.Grammar.{Spells, number, name, up, operation, SpellsParams, some, last, scalar, no_var, no_loop, Tree, function}
+use Rattle.kernel_tree.specs.Grammar.{number, name, up, operation, some, last, scalar, no_var, no_loop, Tree, function}
 use Rattle.kernel_types.specs.Short.{IsShort}
 
 -- kernel f(x: T) -> T { return x + n; }
