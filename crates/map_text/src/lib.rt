@@ -5,6 +5,7 @@ mod cut;
 pub mod fault;
 mod form;
 mod insert;
+pub mod laws;
 mod line;
 mod place;
 mod put;

@@ -108,6 +108,7 @@ fn bad_lines(rt: HostRuntime) -> Result<(), Fail> {
                 (b"map 0x1001 1 r", one),
                 (b"map 0xffffffff0000 17 r", one),
                 (b"map 0 18446744073709551615 r", one),
+                (b"map 0x1000 4503599627370496 r", one),
                 (b"map 0x1000 1 r\nset 0x1000 0", two),
                 (b"map 0x1000 1 r\nset 0x1000 00\r\n", two),
             ]
@@ -232,4 +233,21 @@ fn bytes_cross_pages(rt: HostRuntime) {
     assert!(rt; byte(&across, 0x1fff) == Some(0xaa));
     assert!(rt; byte(&across, 0x2000) == Some(0xbb));
     assert!(rt; byte(&across, 0x2001) == Some(0x0c));
+}
+
+fn told(alloc: Global, fault: MapFault) -> Result<String, AllocError> {
+    format!(in alloc; "{fault}")
+}
+
+#[test]
+fn faults_are_told(rt: HostRuntime) -> Result<(), Fail> {
+    let bad = told(rt.alloc(), MapFault::BadLine { line: 12 })?;
+    let clash = told(rt.alloc(), MapFault::Clash { line: 2 })?;
+    let unmapped = told(rt.alloc(), MapFault::Unmapped { line: 1 })?;
+    let many = told(rt.alloc(), MapFault::TooManyPages)?;
+    assert!(rt; bad.as_str() == "bad line 12");
+    assert!(rt; clash.as_str() == "clash at line 2");
+    assert!(rt; unmapped.as_str() == "unmapped at line 1");
+    assert!(rt; many.as_str() == "too many pages");
+    Ok(())
 }
