@@ -7,5 +7,6 @@ pub mod Lexed
 pub mod PrintedTokens
 pub mod PrintedKernel
 mod Examples
+mod Wraps
 pub mod OneTerm
 pub mod OneTree

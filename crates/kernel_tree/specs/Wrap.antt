@@ -1,6 +1,6 @@
 -- The values of a type.
-use Rattle.std.specs.Prelude.{ℕ, ℤ, pos, Bool, true, false, if◌then◌else◌}
-use Rattle.std.specs.Int.{Width, w8, w16, w32, w64, cast_signed, cast_unsigned}
+use Rattle.std.specs.Prelude.{ℕ, ◌-◌, ◌%◌, ◌^◌, ℤ, pos, negsuc, Bool, true, false, if◌then◌else◌}
+use Rattle.std.specs.Int.{Width, w8, w16, w32, w64, cast_signed}
 use Rattle.kernel_tree.specs.declared.ops.Ty.{Ty}
 use Rattle.kernel_tree.specs.declared.ops.Ty.TheVariants as ty
 
@@ -36,6 +36,11 @@ is_signed ty.U16 = false
 is_signed ty.U32 = false
 is_signed ty.U64 = false
 
+-- the number from 0 to 2^k - 1 that is congruent to z modulo 2^k
+abbrev pub residue : ℕ → ℤ → ℕ
+residue k (pos n) = n % 2 ^ k
+residue k (negsuc n) = 2 ^ k - 1 - n % 2 ^ k
+
 -- the value of the type that is congruent to z modulo 2 to its width
 abbrev pub wrap : Ty → ℤ → ℤ
-wrap t z = if is_signed t then cast_signed (width_of t) (cast_unsigned (width_of t) z) else pos (cast_unsigned (width_of t) z)
+wrap t z = if is_signed t then cast_signed (width_of t) (residue (bits_of t) z) else pos (residue (bits_of t) z)

@@ -1,0 +1,5 @@
+pub mod Operators
+pub mod Eval
+pub mod Iterate
+pub mod ScalarRun
+pub mod Reaches

@@ -1,0 +1,2 @@
+//! What a kernel means: its run, one iteration after another.
+#![tactic(auto)]
