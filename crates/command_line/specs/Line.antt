@@ -15,6 +15,7 @@ pub record RunLine : Type 0 where
 
 pub data Line : Type 0 where
   CompileLine : (from to : List ℕ) → Line
+  ListLine : (from : List ℕ) → Line
   Runs : RunLine → Line
 
 -- ---- positional words
@@ -124,9 +125,18 @@ two_files _ = None
 unfoldable pub compile_of : Words → Option Line
 compile_of words = option_and_then two_files (positional words)
 
+abbrev pub one_file : Words → Option Line
+one_file (from ∷ []) = Some (ListLine from)
+one_file _ = None
+
+-- `list FILE`
+unfoldable pub list_of : Words → Option Line
+list_of words = option_and_then one_file (positional words)
+
 -- the command of some words, where they are one
 unfoldable pub line_of : Words → Option Line
 line_of [] = None
 line_of (name ∷ words) =
     if bytes_eq name (codes "compile") then compile_of words else
+    if bytes_eq name (codes "list") then list_of words else
     if bytes_eq name (codes "run") then option_map Runs (run_of words) else None

@@ -2,10 +2,10 @@
 use Rattle.std.specs.Prelude.{ℕ, ◌≤◌, ⊤, List, length, map, String, string_bytes, Vec}
 use Rattle.std.specs.Borrow.{Bor}
 use Rattle.command_line.specs.declared.command.Command.{Command}
-use Rattle.command_line.specs.declared.command.Command.TheVariants.{Compile, Run}
+use Rattle.command_line.specs.declared.command.Command.TheVariants.{Compile, List as Listing, Run}
 use Rattle.command_line.specs.declared.command.Run.{Run as RunData}
 use Rattle.command_line.specs.declared.read.Settings.{Settings}
-use Rattle.command_line.specs.Line.{Words, Line, RunLine, CompileLine, Runs, Options}
+use Rattle.command_line.specs.Line.{Words, Line, RunLine, CompileLine, ListLine, Runs, Options}
 
 abbrev pub texts : {A : Type 0} → List (String A) → Words
 texts words = map string_bytes words
@@ -37,9 +37,11 @@ run_seen r = record { vl = r.vl; steps = r.steps; file = string_bytes r.file; ar
 -- the command as plain data
 abbrev pub command_seen : Command → Line
 command_seen (Compile from to) = CompileLine (string_bytes from) (string_bytes to)
+command_seen (Listing from) = ListLine (string_bytes from)
 command_seen (Run r) = Runs (run_seen r)
 
 -- a run has at most eight arguments
 abbrev pub FewArguments : Command → Type 0
 FewArguments (Compile from to) = ⊤
+FewArguments (Listing from) = ⊤
 FewArguments (Run r) = length r.args.items ≤ 8

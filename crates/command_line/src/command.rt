@@ -7,6 +7,8 @@ use guest_types::length::Vl;
 pub enum Command {
     /// Compiles the kernel in the file `from` into the file `to`.
     Compile { from: String, to: String },
+    /// Lists the instructions of the program in the file `from`.
+    List { from: String },
     /// Runs a program.
     Run(Run),
 }

@@ -1,7 +1,7 @@
 //! Reading the words of a command.
 
 ghost use Rattle.std.specs.Prelude.{◌≡◌, ◌≤◌, IfOk, IfSome, option_map, is_some, length, Some, None, []};
-ghost use Rattle.command_line.specs.Line.{Line, value_at, once, option_at, or_default, is_length, positional, arguments_from, arguments_of, run_with, run_of, compile_of, line_of};
+ghost use Rattle.command_line.specs.Line.{Line, value_at, once, option_at, or_default, is_length, positional, arguments_from, arguments_of, run_with, run_of, compile_of, list_of, line_of};
 ghost use Rattle.command_line.specs.Seen.{texts, texts_in, items_in, value_and_rest, options_seen, options_and_rest, run_seen, command_seen, FewArguments};
 
 use crate::command::{Command, Run};
@@ -200,10 +200,27 @@ fn compile(alloc: Global, words: &[String]) -> Result<Option<Command>, AllocErro
     }))
 }
 
+// The command of the words behind `list`.
+#[tactic(auto, unfolding(crate::specs::Line::list_of))]
+fn list(alloc: Global, words: &[String]) -> Result<Option<Command>, AllocError>
+    ensures read { IfOk result (λ o. option_map command_seen o ≡ list_of (texts words.now)) }
+    ensures few { IfOk result (λ o. IfSome o FewArguments) }
+{
+    let Some(found) = positional(alloc, words)? else {
+        return Ok(None);
+    };
+    let [from] = found.as_slice() else {
+        return Ok(None);
+    };
+    Ok(Some(Command::List {
+        from: String::from_str(alloc, from.as_str())?,
+    }))
+}
+
 /// The command that the words spell, where they are one. The words are those after the program's name.
 ///
 /// The first word names the command, options stand next and positional words last:
-/// `compile IN OUT` and `run [--vl N] [--steps N] FILE [ARG]..`.
+/// `compile IN OUT`, `list FILE` and `run [--vl N] [--steps N] FILE [ARG]..`.
 #[tactic(auto, unfolding(crate::specs::Line::line_of))]
 pub fn read_line(alloc: Global, words: &[String]) -> Result<Option<Command>, AllocError>
     ensures read { IfOk result (λ o. option_map command_seen o ≡ line_of (texts words.now)) }
@@ -214,6 +231,9 @@ pub fn read_line(alloc: Global, words: &[String]) -> Result<Option<Command>, All
     };
     if name.as_str() == "compile" {
         return compile(alloc, rest);
+    }
+    if name.as_str() == "list" {
+        return list(alloc, rest);
     }
     if name.as_str() == "run" {
         return match run(alloc, rest)? {
@@ -244,6 +264,9 @@ mod tests {
             "run",
             "compile a",
             "compile -a b",
+            "list",
+            "list a b",
+            "list --vl 128 f",
             "run --vl 130 e1.elf",
             "run --steps 1 --steps 1 e1.elf",
             "run e1.elf -5",
@@ -287,6 +310,17 @@ mod tests {
             let command = read(rt.alloc(), line)?;
             assert!(rt; is_run(&command, vl, steps, arg));
         }
+        Ok(())
+    }
+
+    #[test]
+    fn lists(rt: HostRuntime) -> Result<(), Fail> {
+        let command = read(rt.alloc(), "list -- --vl")?;
+        let good = match &command {
+            Some(Command::List { from }) => from.as_str() == "--vl",
+            _ => false,
+        };
+        assert!(rt; good);
         Ok(())
     }
 

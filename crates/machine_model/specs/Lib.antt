@@ -1,9 +1,11 @@
 pub mod Machine
 pub mod Arithmetic
 pub mod Effects
+pub mod InstructionTable
 pub mod OneStep
 pub mod Load
 pub mod Written
 pub mod Run
 pub mod Answers
 pub mod OutcomeText
+pub mod DumpText

@@ -1,11 +1,22 @@
-//! Laws of the definitions: what runs owe one another, and what a written file is loaded as.
+//! Laws of the definitions: that no word is in both tables, what runs owe one another, and what a written file is
+//! loaded as.
 
 ghost use Rattle.std.specs.Prelude.{◌≡◌, ℕ, ◌+◌, ◌*◌, ◌^◌, ◌<◌, ◌≤◌, true, List, length, slice_get, Some, None, Ok, All};
 ghost use Rattle.guest_types.specs.Memory.{Memory, DoNotMeet, fetched, merged};
+ghost use Rattle.word_rows.specs.Row.{Instruction, reads};
+ghost use Rattle.a64_code.specs.Table as a64;
+ghost use Rattle.sve_code.specs.Table as sve;
 ghost use Rattle.machine_model.specs.Machine.{State};
+ghost use Rattle.machine_model.specs.InstructionTable.{Vector, listed};
 ghost use Rattle.machine_model.specs.Load.{load};
 ghost use Rattle.machine_model.specs.Written.{file_of, code_base, image_of_words};
 ghost use Rattle.machine_model.specs.Run.{Spent, run, after_steps, is_over, steps_taken};
+
+/// No word is both an A64 and an SVE instruction, so the SVE instruction of a word is what the joint table has for it.
+pub fn no_word_in_both_tables()
+    ensures apart { (word : ℕ) (i : Instruction a64.Name) → reads a64.row a64.a64_names word ≡ Some i → reads sve.row sve.sve_names word ≡ None }
+    ensures vectors { (word : ℕ) (v : Instruction sve.Name) → reads sve.row sve.sve_names word ≡ Some v → listed word ≡ Some (Vector v) }
+{}
 
 /// A run whose first steps go on is the run from the state that they lead to, with their number counted.
 pub fn runs_compose()

@@ -1,10 +1,9 @@
 //! The SVE instruction of a word.
 #![tactic(auto)]
 
-ghost use Rattle.std.specs.Prelude.{◌≡◌, ℕ, Some, None, IfSome};
+ghost use Rattle.std.specs.Prelude.{◌≡◌, Some, IfSome};
 ghost use Rattle.std.specs.Option.{option_map};
-ghost use Rattle.word_rows.specs.Row.{Instruction, reads, spells};
-ghost use Rattle.a64_code.specs.Table as a64;
+ghost use Rattle.word_rows.specs.Row.{reads, spells};
 ghost use Rattle.sve_code.specs.declared.Sve.{Sve};
 ghost use Rattle.sve_code.specs.Table.{row, sve_names, compare, duplicate, select, store};
 ghost use Rattle.sve_code.specs.Seen.{seen};
@@ -28,11 +27,6 @@ pub fn decode(word: u32) -> Option<Sve>
 {
     by_top_byte(word)
 }
-
-/// No word is both an A64 and an SVE instruction.
-pub fn no_word_in_both_tables()
-    ensures { (word : ℕ) (i : Instruction a64.Name) → reads a64.row a64.a64_names word ≡ Some i → reads row sve_names word ≡ None }
-{}
 
 /// The instruction of a word, sought only among the rows that have its top byte.
 fn by_top_byte(word: u32) -> Option<Sve>

@@ -3,8 +3,8 @@ use Rattle.std.proofs.Common.{◌≡◌, ℕ, zero, suc, ◌+◌, ◌≤◌, Boo
 use Rattle.std.specs.Prelude.{nat_lt, nat_eq, sum_by, filter, ◌*◌, ◌&&◌, ◌||◌, not, IfErr, IsErrAnd, if◌then◌else◌}
 use Rattle.std.proofs.lemmas.Bool.{ltb-false}
 use Rattle.std.proofs.lemmas.List.Sums.{sum_by-cons}
-use Rattle.guest_types.specs.Memory.{Memory, IsMemory, DoNotMeet}
-use Rattle.guest_types.proofs.Merges.{empty_memory}
+use Rattle.guest_types.specs.Memory.{Memory, IsMemory, DoNotMeet, merged}
+use Rattle.guest_types.proofs.Merges.{empty_memory, merged-nil_right}
 use Rattle.machine_model.specs.declared.elf_fault.ElfFault.{ElfFault}
 use Rattle.machine_model.specs.declared.elf_fault.ElfFault.TheVariants.{Short, NotElf, NotAarch64, NotStatic, BadSegment, SegmentsClash, TooManyPages, Memory as NoMemory}
 use Rattle.machine_model.specs.declared.outcome.Outcome.{Outcome as OutcomeAnswer}
@@ -18,7 +18,9 @@ use Rattle.elf_image.specs.Loaded.{Refuses}
 use Rattle.command_line.specs.Line.{RunLine}
 use Rattle.sve_top.specs.declared.refusal.Refusal.{Refusal}
 use Rattle.sve_top.specs.declared.refusal.Refusal.TheVariants.{Elf}
-use Rattle.sve_top.specs.Answer.{answer_by, answer_of_program, run_of_file, text_by, text_of_program, done_by, done_of, of_elf, RefusesProgram}
+use Rattle.sve_top.specs.declared.refusal.Done.TheVariants as done
+use Rattle.sve_top.specs.Listing.{lines_from, listing_of, word_count}
+use Rattle.sve_top.specs.Answer.{Answer, answer_by, answer_of_program, answer_of_load, answer_of_list, run_of_file, text_by, text_of_program, text_of_load, text_of_list, done_by, done_of, of_elf, RefusesProgram}
 use Rattle.machine_model.specs.Load.{Image, Segment, load, load_segments, segments_from, le_at, image_of, is_loaded, first_bad, any_segment, is_dynamic, has_ident, pages_from, pages_of, page_count, first_page, put_in_order, in_order, clash}
 
 length-pages_from : (bytes : List ℕ) (s : Segment) (n count : ℕ) → length (pages_from bytes s n count) ≡ count
@@ -129,22 +131,46 @@ answer_refused bytes r fault e =
     let Q : Result Image ElfFault → Type 0 = λ l. answer_by (tried r l) l ≡ Err (Elf fault) in
     subst Q (sym e) refl
 
-pub program_refused : (bytes : List ℕ) (r : RunLine) (fault : ElfFault) (refusal : Refusal) → refusal ≡ of_elf fault → Refuses (load bytes) fault → RefusesProgram (answer_of_program bytes r) refusal
-program_refused bytes r fault refusal is h = subst (RefusesProgram (answer_of_program bytes r)) (sym is) (by fault h)
+-- a refusal of the loader is that of the command, where the command wants it
+program_refused : (loaded : Result Image ElfFault) (wanted : Answer) (fault : ElfFault) (refusal : Refusal) → ((fault : ElfFault) → loaded ≡ Err fault → wanted ≡ Err (Elf fault)) → refusal ≡ of_elf fault → Refuses loaded fault → RefusesProgram wanted refusal
+program_refused loaded wanted fault refusal all is h = subst (RefusesProgram wanted) (sym is) (by fault h)
   where
-    by : (fault : ElfFault) → Refuses (load bytes) fault → RefusesProgram (answer_of_program bytes r) (of_elf fault)
-    by (Short need have) h = answer_refused bytes r (Short need have) h
-    by NotElf h = answer_refused bytes r NotElf h
-    by NotAarch64 h = answer_refused bytes r NotAarch64 h
-    by NotStatic h = answer_refused bytes r NotStatic h
-    by (BadSegment index) h = answer_refused bytes r (BadSegment index) h
-    by SegmentsClash h = answer_refused bytes r SegmentsClash h
-    by TooManyPages h = answer_refused bytes r TooManyPages h
+    by : (fault : ElfFault) → Refuses loaded fault → RefusesProgram wanted (of_elf fault)
+    by (Short need have) h = all (Short need have) h
+    by NotElf h = all NotElf h
+    by NotAarch64 h = all NotAarch64 h
+    by NotStatic h = all NotStatic h
+    by (BadSegment index) h = all (BadSegment index) h
+    by SegmentsClash h = all SegmentsClash h
+    by TooManyPages h = all TooManyPages h
     by NoMemory h = tt
 
-pub error_refused : {T : Type 0} (bytes : List ℕ) (r : RunLine) (fault : ElfFault) (result : Result T Refusal) → IsErrAnd result (λ refusal. refusal ≡ of_elf fault) → Refuses (load bytes) fault → IfErr result (λ refusal. RefusesProgram (answer_of_program bytes r) refusal)
-error_refused bytes r fault (Ok value) is h = tt
-error_refused bytes r fault (Err refusal) is h = program_refused bytes r fault refusal is h
+error_refused : {T : Type 0} (loaded : Result Image ElfFault) (wanted : Answer) (fault : ElfFault) (result : Result T Refusal) → ((fault : ElfFault) → loaded ≡ Err fault → wanted ≡ Err (Elf fault)) → IsErrAnd result (λ refusal. refusal ≡ of_elf fault) → Refuses loaded fault → IfErr result (λ refusal. RefusesProgram wanted refusal)
+error_refused loaded wanted fault (Ok value) all is h = tt
+error_refused loaded wanted fault (Err refusal) all is h = program_refused loaded wanted fault refusal all is h
+
+pub run_refused : {T : Type 0} (bytes : List ℕ) (r : RunLine) (fault : ElfFault) (result : Result T Refusal) → IsErrAnd result (λ refusal. refusal ≡ of_elf fault) → Refuses (load bytes) fault → IfErr result (λ refusal. RefusesProgram (answer_of_program bytes r) refusal)
+run_refused bytes r fault result is h = error_refused (load bytes) (answer_of_program bytes r) fault result (answer_refused bytes r) is h
+
+listing_wanted : (bytes : List ℕ) (fault : ElfFault) → load bytes ≡ Err fault → answer_of_list bytes ≡ Err (Elf fault)
+unfolding answer_of_list
+listing_wanted bytes fault e = ap answer_of_load e
+
+pub list_refused : {T : Type 0} (bytes : List ℕ) (fault : ElfFault) (result : Result T Refusal) → IsErrAnd result (λ refusal. refusal ≡ of_elf fault) → Refuses (load bytes) fault → IfErr result (λ refusal. RefusesProgram (answer_of_list bytes) refusal)
+list_refused bytes fault result is h = error_refused (load bytes) (answer_of_list bytes) fault result (listing_wanted bytes) is h
+
+-- the answer and the text of a listing
+pub list_loaded : (bytes : List ℕ) (image : Image) → load bytes ≡ Ok image → answer_of_list bytes ≡ Ok done.Ended
+unfolding answer_of_list
+list_loaded bytes image e = ap answer_of_load e
+
+pub list_text_loaded : (bytes : List ℕ) (image : Image) (memory : Memory) (from count : ℕ) → load bytes ≡ Ok image → memory ≡ merged image.pages [] → from ≡ image.code_from → count ≡ word_count image → text_of_list bytes ≡ lines_from memory from count
+unfolding text_of_list listing_of
+list_text_loaded bytes image memory from count e pages start whole =
+    ap text_of_load e
+    ∙ ap (λ m. lines_from m image.code_from (word_count image)) (sym (pages ∙ merged-nil_right image.pages))
+    ∙ ap (λ a. lines_from memory a (word_count image)) (sym start)
+    ∙ ap (λ n. lines_from memory from n) (sym whole)
 
 answer_loaded : (bytes : List ℕ) (r : RunLine) (image : Image) → load bytes ≡ Ok image → answer_of_program bytes r ≡ Ok (done_by (run r.steps 0 (start image r.args [] r.vl)))
 unfolding answer_of_program run_of_file

@@ -74,7 +74,7 @@ puts_then (Some bytes) mid new a b c x y first result is p q =
     by (Err failed) h whole = tt
 
 -- a text at which the output failed, and so nothing of another
-puts_cut : (old new : Option (List ℕ)) (a b : ℕ) (x y : List ℕ) (first : Result (Unit {0}) Failed) (failed : Failed) → first ≡ Err failed → PutsText old new a b x first → PutsText old new a b (x ++ y) (Err failed)
+pub puts_cut : (old new : Option (List ℕ)) (a b : ℕ) (x y : List ℕ) (first : Result (Unit {0}) Failed) (failed : Failed) → first ≡ Err failed → PutsText old new a b x first → PutsText old new a b (x ++ y) (Err failed)
 puts_cut None new a b x y first failed is p = record { all = tt; part = tt; untold = p.untold; cause = subst (HasCause a b) is p.cause }
 puts_cut (Some bytes) new a b x y first failed is p =
     record { all = tt; part = part_more bytes x y new p.part; untold = p.untold; cause = subst (HasCause a b) is p.cause }

@@ -18,12 +18,13 @@ use Rattle.machine_model.specs.declared.outcome.Outcome.TheVariants as outcomes
 use Rattle.machine_model.specs.Load.{Image, load}
 use Rattle.machine_model.specs.Run.{Outcome, End, Stop, Spent, machine_run}
 use Rattle.machine_model.specs.OutcomeText.{outcome_text}
-use Rattle.command_line.specs.Line.{Line, RunLine, CompileLine, Runs}
+use Rattle.command_line.specs.Line.{Line, RunLine, CompileLine, ListLine, Runs}
 use Rattle.sve_top.specs.declared.refusal.Refusal.{Refusal}
 use Rattle.sve_top.specs.declared.refusal.Refusal.TheVariants.{Usage, NotYet, TooLong, Elf, Memory, File, Output}
 use Rattle.sve_top.specs.declared.refusal.Done.{Done}
 use Rattle.sve_top.specs.declared.refusal.Done.TheVariants as done
 use Rattle.sve_top.specs.Lines.{line_of_refusal}
+use Rattle.sve_top.specs.Listing.{listing_of}
 
 abbrev pub Held : Type 0
 Held = List (List ℕ × List ℕ)
@@ -86,8 +87,17 @@ answer_of_text text = answer_of_kernel (sum_kernel_of text)
 abbrev pub answer_of_run : RunLine → List ℕ → Answer
 answer_of_run run bytes = answer_of_program bytes run
 
+-- what a load comes to, where nothing of the program is run
+abbrev pub answer_of_load : Result Image ElfFault → Answer
+answer_of_load (Ok image) = Ok done.Ended
+answer_of_load (Err fault) = Err (Elf fault)
+
+unfoldable pub answer_of_list : List ℕ → Answer
+answer_of_list bytes = answer_of_load (load bytes)
+
 abbrev pub answer_of_line : Held → Line → Answer
 answer_of_line held (CompileLine from to) = answer_of_file answer_of_text (content held from)
+answer_of_line held (ListLine from) = answer_of_file answer_of_list (content held from)
 answer_of_line held (Runs run) = answer_of_file (answer_of_run run) (content held run.file)
 
 abbrev pub wanted : Held → Option Line → Answer
@@ -116,7 +126,13 @@ IsOfCompile (Err (Elf fault)) = ⊥
 IsOfCompile (Err Output) = ⊥
 IsOfCompile (Err refusal) = Unit {0}
 
--- no answer of other commands
+-- no answer of other commands: a listing does not stop, spends no steps and refuses no kernel
+abbrev pub IsOfList : Answer → Type 0
+IsOfList (Ok how) = how ≡ done.Ended
+IsOfList (Err Usage) = ⊥
+IsOfList (Err NotYet) = ⊥
+IsOfList (Err refusal) = Unit {0}
+
 abbrev pub IsOfRun : Answer → Type 0
 IsOfRun (Err Usage) = ⊥
 IsOfRun (Err NotYet) = ⊥
@@ -126,12 +142,14 @@ IsOfRun answer = Unit {0}
 abbrev pub IsOf : Option Line → Answer → Type 0
 IsOf None answer = (answer ≡ Err Usage) ⊎ (answer ≡ Err Memory)
 IsOf (Some (CompileLine from to)) answer = IsOfCompile answer
+IsOf (Some (ListLine from)) answer = IsOfList answer
 IsOf (Some (Runs run)) answer = IsOfRun answer
 
 -- the statuses of a command
 abbrev pub IsListed : Option Line → ℕ → Type 0
 IsListed None status = (status ≡ 2) ⊎ (status ≡ 7)
 IsListed (Some (CompileLine from to)) status = (status ≡ 0) ⊎ ((status ≡ 3) ⊎ ((status ≡ 4) ⊎ ((status ≡ 7) ⊎ (status ≡ 8))))
+IsListed (Some (ListLine from)) status = (status ≡ 0) ⊎ ((status ≡ 4) ⊎ ((status ≡ 7) ⊎ ((status ≡ 8) ⊎ (status ≡ 9))))
 IsListed (Some (Runs run)) status =
     (status ≡ 0) ⊎ ((status ≡ 4) ⊎ ((status ≡ 5) ⊎ ((status ≡ 6) ⊎ ((status ≡ 7) ⊎ ((status ≡ 8) ⊎ (status ≡ 9))))))
 
@@ -145,6 +163,7 @@ IsKept (Err refusal) = Unit {0}
 
 -- words that put nothing on the output
 abbrev pub IsSilent : Option Line → Type 0
+IsSilent (Some (ListLine from)) = ⊥
 IsSilent (Some (Runs run)) = ⊥
 IsSilent line = Unit {0}
 
@@ -173,17 +192,20 @@ done_of outcomes.Spent = done.Spent
 abbrev pub Compiled : Held → Held → Line → Type 0
 Compiled old new (CompileLine from to) =
     IfSome (content old from) (λ text. (file : List ℕ) × (content new to ≡ Some file) × CompilesTo (sum_kernel_of text) file)
+Compiled old new (ListLine from) = Unit {0}
 Compiled old new (Runs run) = Unit {0}
 
 -- every name but the output's of `compile` has what it had
 abbrev pub OthersKept : Held → Held → Option Line → Type 0
 OthersKept old new None = (name : List ℕ) → content new name ≡ content old name
 OthersKept old new (Some (CompileLine from to)) = (name : List ℕ) → name ≢ to → content new name ≡ content old name
+OthersKept old new (Some (ListLine from)) = (name : List ℕ) → content new name ≡ content old name
 OthersKept old new (Some (Runs run)) = (name : List ℕ) → content new name ≡ content old name
 
 -- the file that is read is held
 abbrev pub IsHeld : Held → Line → Type 0
 IsHeld held (CompileLine from to) = IsSome (content held from)
+IsHeld held (ListLine from) = IsSome (content held from)
 IsHeld held (Runs run) = IsSome (content held run.file)
 
 -- ---- the output
@@ -196,14 +218,27 @@ text_by (Some outcome) = outcome_text outcome
 unfoldable pub text_of_program : List ℕ → RunLine → List ℕ
 text_of_program bytes run = text_by (run_of_file bytes run)
 
-abbrev pub text_of_file : RunLine → Option (List ℕ) → List ℕ
-text_of_file run None = []
-text_of_file run (Some bytes) = text_of_program bytes run
+abbrev pub text_of_run : RunLine → List ℕ → List ℕ
+text_of_run run bytes = text_of_program bytes run
 
--- what is to be put on the output: the outcome's text of a run, and nothing of `compile`
+abbrev pub text_of_load : Result Image ElfFault → List ℕ
+text_of_load (Ok image) = listing_of image
+text_of_load (Err fault) = []
+
+-- the listing of a file
+unfoldable pub text_of_list : List ℕ → List ℕ
+text_of_list bytes = text_of_load (load bytes)
+
+-- a file that is not held has no text
+abbrev pub text_of_file : (List ℕ → List ℕ) → Option (List ℕ) → List ℕ
+text_of_file text None = []
+text_of_file text (Some bytes) = text bytes
+
+-- what is to be put on the output: the listing, the outcome's text of a run, and nothing of `compile`
 abbrev pub text_of_line : Held → Line → List ℕ
 text_of_line held (CompileLine from to) = []
-text_of_line held (Runs run) = text_of_file run (content held run.file)
+text_of_line held (ListLine from) = text_of_file text_of_list (content held from)
+text_of_line held (Runs run) = text_of_file (text_of_run run) (content held run.file)
 
 abbrev pub text_wanted : Held → Option Line → List ℕ
 text_wanted held None = []

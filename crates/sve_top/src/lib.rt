@@ -2,6 +2,8 @@
 #![tactic(auto)]
 
 mod compile;
+mod list;
+mod listing;
 pub mod refusal;
 mod run;
 #[cfg(test)]

@@ -8,7 +8,7 @@ ghost use Rattle.machine_model.specs.Answers.{outcome_of};
 ghost use Rattle.elf_image.specs.Loaded.{plain};
 ghost use Rattle.command_line.specs.Seen.{run_seen};
 ghost use Rattle.outcome_text.specs.Shown.{text_of};
-ghost use Rattle.sve_top.specs.Answer.{answer_of_file, answer_of_run, answer_of_program, text_of_file, text_of_program, IsAnswer, IsOfRun, IsQuiet, Prints, RefusesProgram, done_of};
+ghost use Rattle.sve_top.specs.Answer.{answer_of_file, answer_of_run, answer_of_program, text_of_file, text_of_run, text_of_program, IsAnswer, IsOfRun, IsQuiet, Prints, RefusesProgram, done_of};
 
 use crate::refusal::{Done, Refusal};
 use a64_run::Machine;
@@ -83,7 +83,7 @@ pub fn run<F: Files, S: Sink>(
     requires { length run.now.args.items ≤ 8 }
     ensures answer { IfSome (F.held files.old) (λ held. IsAnswer (F.faults files.old) (F.faults files.new) (S.faults out.old) (S.faults out.new) (answer_of_file (answer_of_run (run_seen run.now)) (content held (string_bytes run.now.file))) result) }
     ensures held { F.held files.new ≡ F.held files.old }
-    ensures printed { IfSome (F.held files.old) (λ held. Prints (S.taken out.old) (S.taken out.new) (text_of_file (run_seen run.now) (content held (string_bytes run.now.file))) result) }
+    ensures printed { IfSome (F.held files.old) (λ held. Prints (S.taken out.old) (S.taken out.new) (text_of_file (text_of_run (run_seen run.now)) (content held (string_bytes run.now.file))) result) }
     ensures quiet { IsQuiet result → out.new ≡ out.old }
     ensures failed { result ≡ Err Refusal.File → Rose (F.faults files.old) (F.faults files.new) }
     ensures output { result ≡ Err Refusal.Output → Rose (S.faults out.old) (S.faults out.new) }

@@ -1,9 +1,12 @@
 // The commands over files in memory: worked rows with outside values.
 
+ghost use Rattle.std.specs.Prelude.{Some};
+
 use crate::top::top;
 use io_edges::memory_files::{MemoryFiles, NamedFile, have_different_names};
 use io_edges::memory_sink::MemorySink;
 use io_edges::memory_source::MemorySource;
+use io_edges::sink::{Failed, Sink};
 use std::alloc::{AllocError, Global};
 use std::test::Fail;
 
@@ -51,6 +54,27 @@ impl Fails {
     }
 }
 
+// A sink that takes one byte at its first call, and fails at the others.
+#[derive(Drop)]
+struct OneByte {
+    bytes: Vec<u8>,
+    faults: u64,
+}
+
+impl Sink for OneByte {
+    ghost taken = { λ sink. Some sink.bytes.items };
+
+    ghost faults = { λ sink. sink.faults };
+
+    fn put(&mut self, bytes: &[u8]) -> Result<usize, Failed> {
+        if self.bytes.is_empty() && self.bytes.push(bytes[0]).is_ok() {
+            return Ok(1);
+        }
+        self.faults = self.faults.saturating_add(1);
+        Err(Failed)
+    }
+}
+
 // A command over one file `in`.
 fn done(alloc: Global, line: &str, file: &[u8], fails: Fails) -> Result<Option<Came>, AllocError> {
     let name = String::from_str(alloc, "in")?;
@@ -75,7 +99,7 @@ fn done_over(
     fail: Vec<u64>,
 ) -> Result<Came, AllocError> {
     let mut input = MemorySource::new(Vec::new(alloc), Vec::new(alloc));
-    let mut out = MemorySink::new(alloc, 100, fail)?;
+    let mut out = MemorySink::new(alloc, 200, fail)?;
     let mut err = MemorySink::new(alloc, 100, Vec::new(alloc))?;
     let status = top(alloc, words, files, &mut input, &mut out, &mut err);
     let written = match files.bytes("out") {
@@ -123,7 +147,12 @@ fn other_texts_are_refused(rt: HostRuntime) -> Result<(), Fail> {
 
 #[test]
 fn failing_files_are_told(rt: HostRuntime) -> Result<(), Fail> {
-    let rows = [("compile in out", 0), ("compile in out", 1), ("run in", 0)];
+    let rows = [
+        ("compile in out", 0),
+        ("compile in out", 1),
+        ("list in", 0),
+        ("run in", 0),
+    ];
     for (line, call) in rows {
         let fails = Fails {
             files: vec![in rt.alloc(); call]?,
@@ -139,7 +168,16 @@ fn failing_files_are_told(rt: HostRuntime) -> Result<(), Fail> {
 
 #[test]
 fn other_words_are_no_command(rt: HostRuntime) -> Result<(), Fail> {
-    for line in ["", "run in -5", "run --vl 130 in", "compile in"] {
+    let lines = [
+        "",
+        "run in -5",
+        "run --vl 130 in",
+        "compile in",
+        "list",
+        "list in out",
+        "list --vl 128 in",
+    ];
+    for line in lines {
         let none = Fails::none(rt.alloc());
         let came = done(rt.alloc(), line, &E1, none)?.expect(&rt, "a command");
         assert_eq!(rt; came.status, 2);
@@ -185,14 +223,75 @@ fn programs_run(rt: HostRuntime) -> Result<(), Fail> {
 
 #[test]
 fn short_file_is_refused(rt: HostRuntime) -> Result<(), Fail> {
-    let none = Fails::none(rt.alloc());
-    let came = done(rt.alloc(), "run in", &E1[..63], none)?.expect(&rt, "a command");
-    assert_eq!(rt; came.status, 4);
-    assert_eq!(rt; came.printed.len(), 0);
-    assert_eq!(rt;
-        came.told.as_slice(),
-        b"svec: file: short 64 63\n".as_slice()
+    for line in ["list in", "run in"] {
+        let none = Fails::none(rt.alloc());
+        let came = done(rt.alloc(), line, &E1[..63], none)?.expect(&rt, "a command");
+        assert_eq!(rt; came.status, 4);
+        assert_eq!(rt; came.printed.len(), 0);
+        assert_eq!(rt;
+            came.told.as_slice(),
+            b"svec: file: short 64 63\n".as_slice()
+        );
+    }
+    Ok(())
+}
+
+#[test]
+fn programs_are_listed(rt: HostRuntime) -> Result<(), Fail> {
+    let mut unlisted = E1;
+    unlisted[120] = 0;
+    unlisted[121] = 0;
+    unlisted[122] = 0;
+    unlisted[123] = 0;
+    let rows = [
+        (
+            E1,
+            b"0000000000400078: 91000400 add x0, x0, #1\n".as_slice(),
+        ),
+        (
+            unlisted,
+            b"0000000000400078: 00000000 .word 0x00000000\n".as_slice(),
+        ),
+    ];
+    let rest =
+        b"000000000040007c: d2800ba8 movz x8, #93\n0000000000400080: d4000001 svc #0\n".as_slice();
+    for (file, first) in rows {
+        let none = Fails::none(rt.alloc());
+        let came = done(rt.alloc(), "list in", &file, none)?.expect(&rt, "a command");
+        assert_eq!(rt; came.status, 0);
+        assert_eq!(rt; came.printed.strip_prefix(first), Some(rest));
+        assert_eq!(rt; came.told.len(), 0);
+    }
+    Ok(())
+}
+
+#[test]
+fn listing_ends_where_the_output_fails(rt: HostRuntime) -> Result<(), Fail> {
+    let mut words = Vec::new(rt.alloc());
+    for word in ["list", "in"] {
+        words.push(String::from_str(rt.alloc(), word)?)?;
+    }
+    let name = String::from_str(rt.alloc(), "in")?;
+    let bytes = E1.to_vec(rt.alloc())?;
+    let listed = vec![in rt.alloc(); NamedFile { name, bytes }]?;
+    assert!(rt; have_different_names(&listed));
+    let mut files = MemoryFiles::new(listed, Vec::new(rt.alloc()));
+    let mut input = MemorySource::new(Vec::new(rt.alloc()), Vec::new(rt.alloc()));
+    let mut out = OneByte {
+        bytes: Vec::new(rt.alloc()),
+        faults: 0,
+    };
+    let mut err = MemorySink::new(rt.alloc(), 100, Vec::new(rt.alloc()))?;
+    let status = top(
+        rt.alloc(),
+        &words,
+        &mut files,
+        &mut input,
+        &mut out,
+        &mut err,
     );
+    assert_eq!(rt; status, 9);
+    assert_eq!(rt; out.bytes.as_slice(), b"0".as_slice());
     Ok(())
 }
 

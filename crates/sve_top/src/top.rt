@@ -7,6 +7,7 @@ ghost use Rattle.command_line.specs.Seen.{texts, command_seen, FewArguments};
 ghost use Rattle.sve_top.specs.Answer.{wanted, told, IsAnswer, IsStatus, IsOf, IsListed, IsKept, IsQuiet, IsSilent, IsHeld, Compiled, OthersKept, text_wanted, Prints, PrintsBy, Gains, told_by};
 
 use crate::compile::compile;
+use crate::list::list;
 use crate::refusal::{Done, Refusal};
 use crate::run::run;
 use crate::told::put_refusal;
@@ -20,7 +21,7 @@ use std::alloc::Global;
 /// Does the command that the words spell, and answers its status. The words are those after the program's name.
 ///
 /// 0 done; 2 the words are no command; 3 the kernel is refused; 4 a file is refused; 5 the program stopped; 6 its steps are
-/// spent; 7 memory is short; 8 a file failed; 9 the output failed. A run puts its outcome on `out`. At every status but 0, 5
+/// spent; 7 memory is short; 8 a file failed; 9 the output failed. A listing and a run put their text on `out`. At every status but 0, 5
 /// and 6 one line on `err` tells the cause; a failure of `err` changes no status.
 pub fn top<F: Files, I: Source, S: Sink, E: Sink>(
     alloc: Global,
@@ -103,6 +104,7 @@ fn do_command<F: Files, S: Sink>(
 {
     match command {
         Command::Compile { from, to } => compile(alloc, from.as_str(), to.as_str(), files),
+        Command::List { from } => list(alloc, from.as_str(), files, out),
         Command::Run(line) => run(alloc, line, files, out),
     }
 }

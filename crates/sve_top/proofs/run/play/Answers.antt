@@ -2,12 +2,12 @@ use Rattle.std.proofs.Common.{Ok, ◌∙◌, ap, sym}
 use Rattle.elf_image.specs.Loaded.{plain}
 use Rattle.command_line.specs.Seen.{run_seen}
 use Rattle.outcome_text.specs.Shown.{text_of}
-use Rattle.sve_top.proofs.Programs.{few_pages, error_refused, answer_is, text_is}
+use Rattle.sve_top.proofs.Programs.{few_pages, run_refused, answer_is, text_is}
 use Rattle.sve_top.proofs.run.play.Goals as goal
 
 pub returns-in_err-image-clause-refusal : goal.returns-in_err-image-clause-refusal
 returns-in_err-image-clause-refusal c =
-    error_refused c.args.bytes.now (run_seen c.args.run.now) c.in_err-image.field-0.0 c.from_residual.result c.from_residual.ensures.1 c.in_err-image.ensures.refusal
+    run_refused c.args.bytes.now (run_seen c.args.run.now) c.in_err-image.field-0.0 c.from_residual.result c.from_residual.ensures.1 c.in_err-image.ensures.refusal
 
 pub machine_of-requires-clause-pages : goal.machine_of-requires-clause-pages
 machine_of-requires-clause-pages c = few_pages c.args.bytes.now (plain c.in_ok-image.image) c.in_ok-image.ensures.image

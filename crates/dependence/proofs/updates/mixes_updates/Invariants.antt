@@ -1,0 +1,8 @@
+use Rattle.std.proofs.Common.{◌≡◌, drop}
+use Rattle.std.specs.List.{list_any}
+use Rattle.loop_form.specs.Seen.{seen}
+use Rattle.dependence.specs.Classes.{is_mixed}
+use Rattle.dependence.proofs.updates.mixes_updates.Given as goal
+
+abbrev pub invariant-loop-entry : goal.invariant-loop-entry
+invariant-loop-entry l = list_any (is_mixed (seen l.entries)) (seen (drop l.entry-index l.entries)) ≡ list_any (is_mixed (seen l.entries)) (seen l.entries)

@@ -1,0 +1,10 @@
+use Rattle.std.proofs.Common.{◌≡◌, drop}
+use Rattle.loop_form.specs.Seen.{seen}
+use Rattle.dependence.specs.Classes.{before_break}
+use Rattle.dependence.proofs.updates.writes_before_break.Given as goal
+
+abbrev pub invariant-loop-entry : goal.invariant-loop-entry
+invariant-loop-entry l = record {
+  place : l.behind ≡ l.entry-index;
+  rest : before_break (seen (drop l.entry-index l.entries)) ≡ before_break (seen l.entries);
+}

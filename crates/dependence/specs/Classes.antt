@@ -1,0 +1,133 @@
+-- Whether the iterations of a loop may be done many at once, statement by statement, and why not.
+use Rattle.std.specs.Prelude.{ℕ, ℤ, ◌/◌, List, [], ◌∷◌, Option, Some, None, is_none, Bool, true, false, not, ◌&&◌, ◌||◌, ◌-ℤ◌, pos, int_lt, nat_eq, bytes_eq, if◌then◌else◌}
+use Rattle.std.specs.List.{list_any}
+use Rattle.guest_types.specs.declared.length.Width.{Width}
+use Rattle.guest_types.specs.Length.{width_bits}
+use Rattle.kernel_tree.specs.declared.ops.UpdateOp.{UpdateOp}
+use Rattle.kernel_tree.specs.declared.ops.UpdateOp.TheVariants as update
+use Rattle.kernel_tree.specs.Plain.{Accumulator, Program}
+use Rattle.kernel_tree.specs.Items.{stream_offset, loop_index}
+use Rattle.loop_form.specs.declared.item.ItemKind.TheVariants as kind
+use Rattle.loop_form.specs.declared.stream.Stream.{Stream}
+use Rattle.loop_form.specs.Entries.{Content, IsLiteral, IsName, IsRead, IsLet, IsStore, IsUpdate, IsPlain, Entry, loop_entries}
+use Rattle.loop_form.specs.Listing.{names}
+use Rattle.loop_form.specs.Streams.{streams_of}
+use Rattle.loop_form.specs.Lanes.{lane_width_of}
+use Rattle.dependence.specs.declared.reason.Class.{Class}
+use Rattle.dependence.specs.declared.reason.Class.TheVariants.{Vector, Scalar}
+use Rattle.dependence.specs.declared.reason.Why.{Why}
+use Rattle.dependence.specs.declared.reason.Why.TheVariants as why
+
+-- ---- an accumulator is read
+
+abbrev pub is_read : List Entry → Accumulator → Bool
+is_read es v = list_any (names v.name) es
+
+-- some accumulator is a name item
+abbrev pub accumulator_read : List Entry → List Accumulator → Bool
+accumulator_read es vs = list_any (is_read es) vs
+
+-- ---- two updates of one accumulator have different operators
+
+abbrev pub number_of_update : UpdateOp → ℕ
+number_of_update update.Add = 0
+number_of_update update.And = 1
+number_of_update update.Or = 2
+number_of_update update.Xor = 3
+number_of_update update.Min = 4
+number_of_update update.Max = 5
+
+-- an update of the accumulator by another operator
+abbrev pub other_update : List ℕ → UpdateOp → Content → Bool
+other_update x op (IsUpdate y o) = bytes_eq y x && not (nat_eq (number_of_update o) (number_of_update op))
+other_update x op _ = false
+
+abbrev pub updates_otherwise : List ℕ → UpdateOp → Entry → Bool
+updates_otherwise x op e = other_update x op e.content
+
+abbrev pub mixed_content : List Entry → Content → Bool
+mixed_content es (IsUpdate x op) = list_any (updates_otherwise x op) es
+mixed_content es _ = false
+
+-- an update of an accumulator that some item updates by another operator
+abbrev pub is_mixed : List Entry → Entry → Bool
+is_mixed es e = mixed_content es e.content
+
+abbrev pub mixed_update : List Entry → Bool
+mixed_update es = list_any (is_mixed es) es
+
+-- ---- a store or an update before a `break`
+
+abbrev pub write_content : Content → Bool
+write_content (IsStore a i) = true
+write_content (IsUpdate x op) = true
+write_content _ = false
+
+abbrev pub is_write : Entry → Bool
+is_write e = write_content e.content
+
+abbrev pub break_content : Content → Bool
+break_content (IsPlain kind.Break) = true
+break_content _ = false
+
+abbrev pub is_break : Entry → Bool
+is_break e = break_content e.content
+
+-- a store or an update is listed before some `break`
+unfoldable pub before_break : List Entry → Bool
+before_break [] = false
+before_break (e ∷ es) = (is_write e && list_any is_break es) || before_break es
+
+-- ---- a computed index
+
+abbrev pub computed_content : Option (List ℕ) → Content → Bool
+computed_content i (IsRead a e) = is_none (stream_offset i e)
+computed_content i _ = false
+
+-- a read by a computed index
+abbrev pub is_computed : Option (List ℕ) → Entry → Bool
+is_computed i e = computed_content i e.content
+
+-- ---- a value that is carried from one iteration to another
+
+-- two accesses of one parameter, at least one of them a store
+abbrev pub conflict : Stream → Stream → Bool
+conflict s t = nat_eq s.param t.param && (s.store || t.store)
+
+-- how far the later access stands ahead of the earlier one
+abbrev pub distance : Stream → Stream → ℤ
+distance s t = t.offset -ℤ s.offset
+
+-- a distance that lanes of one vector can have: at least 1 and below the number of lanes of the longest one, 2048 bits
+abbrev pub is_near : Width → ℤ → Bool
+is_near w d = int_lt (pos 0) d && int_lt d (pos (2048 / width_bits w))
+
+-- The later access comes to an element in one iteration that the earlier one comes to in a later iteration of the same
+-- vector, and at least one of them stores it.
+abbrev pub is_carried : Width → Stream → Stream → Bool
+is_carried w s t = conflict s t && is_near w (distance s t)
+
+-- two of the accesses, in their order
+unfoldable pub carried : Width → List Stream → Bool
+carried w [] = false
+carried w (s ∷ ss) = list_any (is_carried w s) ss || carried w ss
+
+-- ---- classes
+
+-- the first reason that applies to the items of a loop
+abbrev pub reason : Program → List Entry → Option Why
+reason k es =
+    if accumulator_read es k.vars then Some why.AccumulatorRead else
+    if mixed_update es then Some why.MixedUpdate else
+    if before_break es then Some why.BeforeBreak else
+    if list_any (is_computed (loop_index k)) es then Some why.ComputedIndex else
+    if carried (lane_width_of k) (streams_of k) then Some why.Carried else
+    None
+
+abbrev pub class_by : Option Why → Class
+class_by None = Vector
+class_by (Some w) = Scalar w
+
+-- the class of a kernel: scalar with the first reason that applies, else vector
+abbrev pub class_of : Program → Class
+class_of k = if is_none k.turns then Scalar why.NoLoop else class_by (reason k (loop_entries k))

@@ -1,0 +1,9 @@
+//! Whether the iterations of a kernel's loop may be done many at once, statement by statement.
+#![tactic(auto)]
+
+mod decide;
+mod elements;
+pub mod reason;
+mod updates;
+
+pub use decide::class;

@@ -1,0 +1,97 @@
+-- The walks over the parts of a kernel, put together.
+use Rattle.std.proofs.Common.{◌≡◌, ℕ, ◌+◌, ◌<◌, ◌^◌, List, [], ◌∷◌, ◌++◌, Option, Some, None, false, length, refl, sym, ap, ap₂, ◌∙◌, arith}
+use Rattle.std.proofs.lemmas.List.{length-map}
+use Rattle.kernel_tree.specs.declared.ast.Param.{Param}
+use Rattle.kernel_tree.specs.declared.fault.Found.{Found}
+use Rattle.kernel_tree.specs.Plain.{Parameter, Accumulator, Turns, Program, parameter_of, parameters_of}
+use Rattle.kernel_tree.specs.Items.{vars_size, turns_size, answer_size, loop_index, size_of}
+use Rattle.kernel_tree.specs.Typing.{Local, Scope, empty, after_params, after_vars, after_turns, param_scope, var_scope, params_faults, vars_faults, turns_faults, answer_faults, kernel_faults, sooner, least}
+use Rattle.kernel_types.proofs.Least.{sooner-assoc, least-append}
+use Rattle.kernel_types.specs.Scopes.{after_param, after_var}
+
+index_after_params : (s : Scope) (ps : List Parameter) → (after_params s ps).index ≡ s.index
+index_after_params s [] = refl
+index_after_params s (p ∷ ps) = index_after_params (after_param s p) ps
+
+inside_after_params : (s : Scope) (ps : List Parameter) → (after_params s ps).inside ≡ s.inside
+inside_after_params s [] = refl
+inside_after_params s (p ∷ ps) = inside_after_params (after_param s p) ps
+
+index_after_vars : (s : Scope) (vs : List Accumulator) → (after_vars s vs).index ≡ s.index
+index_after_vars s [] = refl
+index_after_vars s (v ∷ vs) = index_after_vars (after_var s v) vs
+
+inside_after_vars : (s : Scope) (vs : List Accumulator) → (after_vars s vs).inside ≡ s.inside
+inside_after_vars s [] = refl
+inside_after_vars s (v ∷ vs) = inside_after_vars (after_var s v) vs
+
+index_after_turns : (s : Scope) (o : Option Turns) → (after_turns s o).index ≡ s.index
+index_after_turns s None = refl
+index_after_turns s (Some l) = refl
+
+index_of_params : (k : Program) → (param_scope k).index ≡ loop_index k
+index_of_params k = index_after_params (empty (loop_index k)) k.params
+
+index_of_vars : (k : Program) → (var_scope k).index ≡ loop_index k
+index_of_vars k = index_after_vars (param_scope k) k.vars ∙ index_of_params k
+
+index_behind : (k : Program) → (after_turns (var_scope k) k.turns).index ≡ loop_index k
+index_behind k = index_after_turns (var_scope k) k.turns ∙ index_of_vars k
+
+index : Scope → Option (List ℕ)
+index s = s.index
+
+-- nothing is declared at the start
+pub begins : (ls : List Local) (xs : List (List ℕ)) (i j : Option (List ℕ)) → ls ≡ [] → xs ≡ [] → i ≡ j → record { visible = ls; taken = xs; index = i; inside = false } ≡ empty j
+begins ls xs i j e f g = rw (e, f, g) refl
+
+pub count_params : (ps xs : List Param) → xs ≡ ps → 0 + length xs ≡ length (parameters_of ps)
+count_params ps xs e = omega (arith, ap length e, length-map ps parameter_of)
+
+pub vars_index : (k : Program) (s : Scope) → s ≡ var_scope k → s.index ≡ loop_index k
+vars_index k s e = rw e (index_of_vars k)
+
+pub vars_outside : (k : Program) (s : Scope) → s ≡ var_scope k → s.inside ≡ false
+vars_outside k s e = rw e (inside_after_vars (param_scope k) k.vars ∙ inside_after_params (empty (loop_index k)) k.params)
+
+pub vars_room : (k : Program) (s : Scope) (n : ℕ) (vs : List Accumulator) → s ≡ param_scope k → n ≡ length k.params → vs ≡ k.vars → size_of k < 2 ^ 32 → n + vars_size s.index vs < 2 ^ 32
+vars_room k s n vs e f g h = rw (e, g) (rw (index_of_params k) (omega arith))
+
+pub turns_room : (k : Program) (n : ℕ) → n ≡ length k.params + vars_size (loop_index k) k.vars → size_of k < 2 ^ 32 → n + turns_size k.turns < 2 ^ 32
+turns_room k n e h = omega arith
+
+pub answer_room : (k : Program) (s : Scope) (n : ℕ) → s ≡ after_turns (var_scope k) k.turns → n ≡ length k.params + vars_size (loop_index k) k.vars + turns_size k.turns → size_of k < 2 ^ 32 → n + answer_size s.index k.answer < 2 ^ 32
+answer_room k s n e f h = rw e (rw (index_behind k) (omega arith))
+
+pub vars_count : (k : Program) (s : Scope) (n m : ℕ) (vs : List Accumulator) → s ≡ param_scope k → n ≡ length k.params → vs ≡ k.vars → m ≡ n + vars_size s.index vs → m ≡ length k.params + vars_size (loop_index k) k.vars
+vars_count k s n m vs e f g h = h ∙ ap₂ (λ i xs. n + vars_size i xs) (rw e (index_of_params k)) g ∙ ap (λ x. x + vars_size (loop_index k) k.vars) f
+
+-- the first fault of the kernel from those of its parts
+pub whole : (k : Program) (s₀ s₁ s₂ s₃ : Scope) (n₁ n₂ n₃ : ℕ) (ps : List Parameter) (vs : List Accumulator) (o₁ o₂ o₃ o₄ : Option Found) →
+    s₀ ≡ empty (loop_index k) → ps ≡ k.params → o₁ ≡ least (params_faults s₀ 0 ps) →
+    s₁ ≡ param_scope k → n₁ ≡ length k.params → vs ≡ k.vars → o₂ ≡ sooner o₁ (least (vars_faults s₁ n₁ vs)) →
+    s₂ ≡ var_scope k → n₂ ≡ length k.params + vars_size (loop_index k) k.vars → o₃ ≡ sooner o₂ (least (turns_faults s₂ n₂ k.turns)) →
+    s₃ ≡ after_turns (var_scope k) k.turns → n₃ ≡ length k.params + vars_size (loop_index k) k.vars + turns_size k.turns → o₄ ≡ sooner o₃ (least (answer_faults s₃ n₃ k.answer)) →
+    o₄ ≡ least (kernel_faults k)
+whole k s₀ s₁ s₂ s₃ n₁ n₂ n₃ ps vs o₁ o₂ o₃ o₄ a b c d e f g h i j l m n =
+    let turns = length k.params + vars_size (loop_index k) k.vars in
+    let p = params_faults (empty (loop_index k)) 0 k.params in
+    let v = vars_faults (param_scope k) (length k.params) k.vars in
+    let t = turns_faults (var_scope k) turns k.turns in
+    let r = answer_faults (after_turns (var_scope k) k.turns) (turns + turns_size k.turns) k.answer in
+    let first : o₁ ≡ least p = rw (← a, ← b) c in
+    let second : o₂ ≡ sooner (least p) (least v) = g ∙ parts o₁ (least p) (vars_faults s₁ n₁ vs) v first (rw (d, e, f) refl) in
+    let third : o₃ ≡ sooner (sooner (least p) (least v)) (least t) = j ∙ parts o₂ (sooner (least p) (least v)) (turns_faults s₂ n₂ k.turns) t second (rw (h, i) refl) in
+    let fourth : o₄ ≡ sooner (sooner (sooner (least p) (least v)) (least t)) (least r) = n ∙ parts o₃ (sooner (sooner (least p) (least v)) (least t)) (answer_faults s₃ n₃ k.answer) r third (rw (l, m) refl) in
+    fourth ∙ joined p v t r
+  where
+    parts : (o q : Option Found) (xs ys : List Found) → o ≡ q → xs ≡ ys → sooner o (least xs) ≡ sooner q (least ys)
+    parts o q xs ys e f = ap₂ (λ (x : Option Found) (zs : List Found). sooner x (least zs)) e f
+
+    joined : (p v t r : List Found) → sooner (sooner (sooner (least p) (least v)) (least t)) (least r) ≡ least (p ++ (v ++ (t ++ r)))
+    joined p v t r =
+        sooner-assoc (sooner (least p) (least v)) (least t) (least r)
+        ∙ ap (sooner (sooner (least p) (least v))) (sym (least-append t r))
+        ∙ sooner-assoc (least p) (least v) (least (t ++ r))
+        ∙ ap (sooner (least p)) (sym (least-append v (t ++ r)))
+        ∙ sym (least-append p (v ++ (t ++ r)))

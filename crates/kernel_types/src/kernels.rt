@@ -1,0 +1,201 @@
+//! Goes over a kernel, item by item.
+
+ghost use Rattle.std.specs.Prelude.{◌≡◌, ◌∷◌, ◌++◌, [], ◌+◌, ◌<◌, ◌^◌, false, None, Some, IfOk, length, option_map};
+ghost use Rattle.kernel_tree.specs.Plain.{name_of, term_of, block_of, parameter_of, parameters_of, accumulator_of, accumulators_of, turns_of, returned_of, program_of};
+ghost use Rattle.kernel_tree.specs.Items as items;
+ghost use Rattle.kernel_tree.specs.Typing as typing;
+ghost use Rattle.kernel_types.specs.Scopes.{scope_of, in_body, after_param, after_var, var_faults, var_types};
+
+use crate::measure::loop_index;
+use crate::names::{close, declare, is_taken, lookup};
+use crate::rules::{bound_fault, sooner, twice};
+use crate::scope::{Notes, Role, Scope};
+use crate::statements::walk_block;
+use crate::terms::{end, walk_expr};
+use kernel_tree::fault::Binding;
+use kernel_tree::{Answer, Kernel, Loop, Param, Shape, Stmt, Var};
+use std::alloc::{AllocError, Global};
+
+fn shape_binding(shape: Shape) -> Binding
+    ensures { result ≡ typing.binding_of_shape shape }
+{
+    match shape {
+        Shape::Scalar(ty) => Binding::Scalar(ty),
+        Shape::Array(ty) => Binding::Array(ty),
+    }
+}
+
+#[tactic(auto, using(crate::proofs::Least::sooner_rules))]
+fn walk_param<'a>(
+    notes: &mut Notes,
+    scope: &mut Scope<'a>,
+    param: &'a Param,
+) -> Result<(), AllocError>
+    requires { notes.old.next + 1 < 2 ^ 32 }
+    ensures scope { IfOk result (λ _. scope_of scope.new ≡ after_param (scope_of scope.old) (parameter_of param.now)) }
+    ensures next { IfOk result (λ _. notes.new.next ≡ notes.old.next + 1) }
+    ensures found { IfOk result (λ _. notes.new.found ≡ typing.sooner notes.old.found (typing.least (typing.twice notes.old.next (scope_of scope.old) (name_of param.now.name)))) }
+    ensures types { IfOk result (λ _. notes.new.types.items ≡ notes.old.types.items ++ None ∷ []) }
+{
+    let found = twice(notes.next, is_taken(scope, &param.name));
+    end(notes, found, None)?;
+    declare(scope, &param.name, shape_binding(param.shape))?;
+    Ok(())
+}
+
+fn walk_params<'a>(
+    notes: &mut Notes,
+    scope: &mut Scope<'a>,
+    params: &'a [Param],
+) -> Result<(), AllocError>
+    requires { notes.old.next + length params.now < 2 ^ 32 }
+    ensures scope { IfOk result (λ _. scope_of scope.new ≡ typing.after_params (scope_of scope.old) (parameters_of params.now)) }
+    ensures next { IfOk result (λ _. notes.new.next ≡ notes.old.next + length params.now) }
+    ensures found { IfOk result (λ _. notes.new.found ≡ typing.sooner notes.old.found (typing.least (typing.params_faults (scope_of scope.old) notes.old.next (parameters_of params.now)))) }
+    ensures types { IfOk result (λ _. notes.new.types.items ≡ notes.old.types.items ++ typing.params_types (parameters_of params.now)) }
+{
+    for param in params {
+        walk_param(notes, scope, param)?;
+    }
+    Ok(())
+}
+
+#[tactic(auto, using(crate::proofs::Least::sooner_rules))]
+fn walk_var<'a>(notes: &mut Notes, scope: &mut Scope<'a>, var: &'a Var) -> Result<(), AllocError>
+    requires { notes.old.next + items.term_size (scope_of scope.old).index (term_of var.now.init) + 1 < 2 ^ 32 }
+    ensures scope { IfOk result (λ _. scope_of scope.new ≡ after_var (scope_of scope.old) (accumulator_of var.now)) }
+    ensures next { IfOk result (λ _. notes.new.next ≡ notes.old.next + (items.term_size (scope_of scope.old).index (term_of var.now.init) + 1)) }
+    ensures found { IfOk result (λ _. notes.new.found ≡ typing.sooner notes.old.found (typing.least (var_faults (scope_of scope.old) notes.old.next (accumulator_of var.now)))) }
+    ensures types { IfOk result (λ _. notes.new.types.items ≡ notes.old.types.items ++ var_types (scope_of scope.old) (accumulator_of var.now)) }
+{
+    walk_expr(notes, scope, Role::Value(Some(var.ty)), &var.init)?;
+    let found = twice(notes.next, is_taken(scope, &var.name));
+    end(notes, found, None)?;
+    declare(scope, &var.name, Binding::Accumulator(var.ty))?;
+    Ok(())
+}
+
+fn walk_vars<'a>(
+    notes: &mut Notes,
+    scope: &mut Scope<'a>,
+    vars: &'a [Var],
+) -> Result<(), AllocError>
+    requires { notes.old.next + items.vars_size (scope_of scope.old).index (accumulators_of vars.now) < 2 ^ 32 }
+    ensures scope { IfOk result (λ _. scope_of scope.new ≡ typing.after_vars (scope_of scope.old) (accumulators_of vars.now)) }
+    ensures next { IfOk result (λ _. notes.new.next ≡ notes.old.next + items.vars_size (scope_of scope.old).index (accumulators_of vars.now)) }
+    ensures found { IfOk result (λ _. notes.new.found ≡ typing.sooner notes.old.found (typing.least (typing.vars_faults (scope_of scope.old) notes.old.next (accumulators_of vars.now)))) }
+    ensures types { IfOk result (λ _. notes.new.types.items ≡ notes.old.types.items ++ typing.vars_types (scope_of scope.old) (accumulators_of vars.now)) }
+{
+    for var in vars {
+        walk_var(notes, scope, var)?;
+    }
+    Ok(())
+}
+
+// Goes over the body of a loop, behind which what it declared is forgotten.
+#[tactic(auto, using(crate::proofs::Least::sooner_rules))]
+fn walk_body<'a>(
+    notes: &mut Notes,
+    scope: &mut Scope<'a>,
+    block: &'a [Stmt],
+) -> Result<(), AllocError>
+    requires room { notes.old.next + items.block_size (scope_of scope.old).index (block_of block.now) < 2 ^ 32 }
+    requires outside { scope.old.inside ≡ false }
+    ensures scope { IfOk result (λ _. scope_of scope.new ≡ (scope_of scope.old)) }
+    ensures next { IfOk result (λ _. notes.new.next ≡ notes.old.next + items.block_size (scope_of scope.old).index (block_of block.now)) }
+    ensures found { IfOk result (λ _. notes.new.found ≡ typing.sooner notes.old.found (typing.least (typing.block_faults (in_body (scope_of scope.old)) notes.old.next (block_of block.now)))) }
+    ensures types { IfOk result (λ _. notes.new.types.items ≡ notes.old.types.items ++ typing.block_types (in_body (scope_of scope.old)) (block_of block.now)) }
+{
+    let visible = scope.visible.len();
+    let taken = scope.taken.len();
+    scope.inside = true;
+    walk_block(notes, scope, block)?;
+    close(scope, visible, taken);
+    Ok(())
+}
+
+#[tactic(auto, using(crate::proofs::Least::sooner_rules))]
+fn walk_loop<'a>(
+    notes: &mut Notes,
+    scope: &mut Scope<'a>,
+    turns: &'a Loop,
+) -> Result<(), AllocError>
+    requires room { notes.old.next + items.turns_size (Some (turns_of turns.now)) < 2 ^ 32 }
+    requires outside { scope.old.inside ≡ false }
+    requires index { (scope_of scope.old).index ≡ Some (items.index_of (turns_of turns.now)) }
+    ensures scope { IfOk result (λ _. scope_of scope.new ≡ typing.after_turns (scope_of scope.old) (Some (turns_of turns.now))) }
+    ensures next { IfOk result (λ _. notes.new.next ≡ notes.old.next + items.turns_size (Some (turns_of turns.now))) }
+    ensures found { IfOk result (λ _. notes.new.found ≡ typing.sooner notes.old.found (typing.least (typing.turns_faults (scope_of scope.old) notes.old.next (Some (turns_of turns.now))))) }
+    ensures types { IfOk result (λ _. notes.new.types.items ≡ notes.old.types.items ++ typing.turns_types (scope_of scope.old) (Some (turns_of turns.now))) }
+{
+    let item = notes.next;
+    let bound = bound_fault(item, lookup(scope, &turns.bound));
+    let found = sooner(bound, twice(item, is_taken(scope, &turns.index)));
+    end(notes, found, None)?;
+    declare(scope, &turns.index, Binding::Index)?;
+    walk_body(notes, scope, &turns.body)?;
+    Ok(())
+}
+
+fn walk_turns<'a>(
+    notes: &mut Notes,
+    scope: &mut Scope<'a>,
+    turns: &'a Option<Loop>,
+) -> Result<(), AllocError>
+    requires room { notes.old.next + items.turns_size (option_map turns_of turns.now) < 2 ^ 32 }
+    requires outside { scope.old.inside ≡ false }
+    requires index { (scope_of scope.old).index ≡ option_map items.index_of (option_map turns_of turns.now) }
+    ensures scope { IfOk result (λ _. scope_of scope.new ≡ typing.after_turns (scope_of scope.old) (option_map turns_of turns.now)) }
+    ensures next { IfOk result (λ _. notes.new.next ≡ notes.old.next + items.turns_size (option_map turns_of turns.now)) }
+    ensures found { IfOk result (λ _. notes.new.found ≡ typing.sooner notes.old.found (typing.least (typing.turns_faults (scope_of scope.old) notes.old.next (option_map turns_of turns.now)))) }
+    ensures types { IfOk result (λ _. notes.new.types.items ≡ notes.old.types.items ++ typing.turns_types (scope_of scope.old) (option_map turns_of turns.now)) }
+{
+    match turns {
+        None => Ok(()),
+        Some(turns) => {
+            walk_loop(notes, scope, turns)?;
+            Ok(())
+        }
+    }
+}
+
+#[tactic(auto, using(crate::proofs::Least::sooner_rules))]
+fn walk_answer(notes: &mut Notes, scope: &Scope, answer: &Option<Answer>) -> Result<(), AllocError>
+    requires room { notes.old.next + items.answer_size (scope_of scope.now).index (option_map returned_of answer.now) < 2 ^ 32 }
+    ensures next { IfOk result (λ _. notes.new.next ≡ notes.old.next + items.answer_size (scope_of scope.now).index (option_map returned_of answer.now)) }
+    ensures found { IfOk result (λ _. notes.new.found ≡ typing.sooner notes.old.found (typing.least (typing.answer_faults (scope_of scope.now) notes.old.next (option_map returned_of answer.now)))) }
+    ensures types { IfOk result (λ _. notes.new.types.items ≡ notes.old.types.items ++ typing.answer_types (scope_of scope.now) (option_map returned_of answer.now)) }
+{
+    match answer {
+        None => Ok(()),
+        Some(answer) => {
+            walk_expr(notes, scope, Role::Value(Some(answer.ty)), &answer.value)?;
+            end(notes, None, None)?;
+            Ok(())
+        }
+    }
+}
+
+/// The first fault of a kernel but for its size and depth, and the wanted type of each of its items.
+pub fn walk_kernel(alloc: Global, kernel: &Kernel) -> Result<Notes, AllocError>
+    requires { items.size_of (program_of kernel.now) < 2 ^ 32 }
+    ensures found { IfOk result (λ notes. notes.found ≡ typing.least (typing.kernel_faults (program_of kernel.now))) }
+    ensures types { IfOk result (λ notes. notes.types.items ≡ typing.types_of (program_of kernel.now)) }
+{
+    let mut scope = Scope {
+        visible: Vec::new(alloc),
+        taken: Vec::new(alloc),
+        index: loop_index(&kernel.body),
+        inside: false,
+    };
+    let mut notes = Notes {
+        next: 0,
+        found: None,
+        types: Vec::new(alloc),
+    };
+    walk_params(&mut notes, &mut scope, &kernel.params)?;
+    walk_vars(&mut notes, &mut scope, &kernel.vars)?;
+    walk_turns(&mut notes, &mut scope, &kernel.body)?;
+    walk_answer(&mut notes, &scope, &kernel.answer)?;
+    Ok(notes)
+}

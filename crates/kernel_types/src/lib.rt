@@ -1,0 +1,16 @@
+//! The types of a kernel's expressions.
+#![tactic(auto)]
+
+mod checker;
+mod fault;
+mod kernels;
+mod measure;
+mod names;
+mod own;
+mod rules;
+mod scope;
+mod statements;
+mod terms;
+
+pub use checker::check;
+pub use fault::TypeFault;

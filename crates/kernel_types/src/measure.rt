@@ -1,0 +1,250 @@
+//! The size and the depth of a kernel. A kernel may be some thousand levels deep here.
+
+ghost use Rattle.std.specs.Prelude.{◌≡◌, ◌<◌, ◌^◌, option_map};
+ghost use Rattle.kernel_tree.specs.Plain.{Choose, Nothing, Else, term_of, action_of, block_of, accumulators_of, turns_of, returned_of, program_of};
+ghost use Rattle.kernel_tree.specs.Items as items;
+ghost use Rattle.kernel_tree.specs.Limits as limits;
+ghost use Rattle.kernel_types.specs.Scopes.{text_of};
+
+use crate::own::stream_distance;
+use kernel_tree::{Answer, Expr, Kernel, Loop, Stmt, Var};
+
+// How many items an expression makes.
+fn term_size(index: Option<&str>, expr: &Expr) -> u32
+    requires { items.term_size (option_map text_of index) (term_of expr.now) < 2 ^ 32 }
+    ensures { result ≡ items.term_size (option_map text_of index.entry) (term_of expr.now) }
+{
+    match expr {
+        Expr::Lit(_) => 1,
+        Expr::Var(_) => 1,
+        Expr::Read { index: at, .. } => match stream_distance(index, at) {
+            Some(_) => 1,
+            None => term_size(index, at) + 1,
+        },
+        Expr::Unary { arg, .. } => term_size(index, arg) + 1,
+        Expr::Binary { left, right, .. } => term_size(index, left) + term_size(index, right) + 1,
+        Expr::Shift { arg, .. } => term_size(index, arg) + 1,
+        Expr::Cast { arg, .. } => term_size(index, arg) + 1,
+        Expr::Select { cond, yes, no } => {
+            term_size(index, yes) + term_size(index, no) + term_size(index, cond) + 1
+        }
+        Expr::Compare { left, right, .. } => term_size(index, left) + term_size(index, right) + 1,
+        Expr::And { left, right } => term_size(index, left) + term_size(index, right) + 1,
+        Expr::Or { left, right } => term_size(index, left) + 1 + term_size(index, right) + 1,
+        Expr::Not { arg } => term_size(index, arg) + 1,
+    }
+}
+
+#[cycle(sizes)]
+fn stmt_size(index: Option<&str>, stmt: &Stmt) -> u32
+    requires { items.action_size (option_map text_of index) (action_of stmt.now) < 2 ^ 32 }
+    ensures { result ≡ items.action_size (option_map text_of index.entry) (action_of stmt.now) }
+{
+    match stmt {
+        Stmt::Let { value, .. } => term_size(index, value) + 1,
+        Stmt::Store { value, .. } => term_size(index, value) + 1,
+        Stmt::Update { value, .. } => term_size(index, value) + 1,
+        Stmt::If {
+            cond,
+            then_part,
+            else_part,
+        } => match else_part {
+            None => if_size(index, cond, then_part),
+            Some(other) => if_else_size(index, cond, then_part, other),
+        },
+        Stmt::Break { cond } => term_size(index, cond) + 1,
+    }
+}
+
+#[cycle(sizes)]
+fn if_size(index: Option<&str>, cond: &Expr, block: &[Stmt]) -> u32
+    requires { items.action_size (option_map text_of index) (Choose (term_of cond.now) (block_of block.now) Nothing) < 2 ^ 32 }
+    ensures { result ≡ items.action_size (option_map text_of index.entry) (Choose (term_of cond.now) (block_of block.now) Nothing) }
+{
+    term_size(index, cond) + 1 + block_size(index, block) + 1
+}
+
+#[cycle(sizes)]
+fn if_else_size(index: Option<&str>, cond: &Expr, block: &[Stmt], other: &[Stmt]) -> u32
+    requires { items.action_size (option_map text_of index) (Choose (term_of cond.now) (block_of block.now) (Else (block_of other.now))) < 2 ^ 32 }
+    ensures { result ≡ items.action_size (option_map text_of index.entry) (Choose (term_of cond.now) (block_of block.now) (Else (block_of other.now))) }
+{
+    let first = term_size(index, cond) + 1 + block_size(index, block);
+    first + 1 + block_size(index, other) + 1
+}
+
+// How many items statements make.
+#[cycle(sizes)]
+fn block_size(index: Option<&str>, block: &[Stmt]) -> u32
+    requires { items.block_size (option_map text_of index) (block_of block.now) < 2 ^ 32 }
+    ensures { result ≡ items.block_size (option_map text_of index.entry) (block_of block.now) }
+{
+    let mut size = 0;
+    for stmt in block {
+        size += stmt_size(index, stmt);
+    }
+    size
+}
+
+fn vars_size(index: Option<&str>, vars: &[Var]) -> u32
+    requires { items.vars_size (option_map text_of index) (accumulators_of vars.now) < 2 ^ 32 }
+    ensures { result ≡ items.vars_size (option_map text_of index.entry) (accumulators_of vars.now) }
+{
+    let mut size = 0;
+    for var in vars {
+        size += term_size(index, &var.init) + 1;
+    }
+    size
+}
+
+fn turns_size(turns: &Option<Loop>) -> u32
+    requires { items.turns_size (option_map turns_of turns.now) < 2 ^ 32 }
+    ensures { result ≡ items.turns_size (option_map turns_of turns.now) }
+{
+    match turns {
+        None => 0,
+        Some(turns) => 1 + block_size(Some(turns.index.text()), &turns.body),
+    }
+}
+
+fn answer_size(index: Option<&str>, answer: &Option<Answer>) -> u32
+    requires { items.answer_size (option_map text_of index) (option_map returned_of answer.now) < 2 ^ 32 }
+    ensures { result ≡ items.answer_size (option_map text_of index.entry) (option_map returned_of answer.now) }
+{
+    match answer {
+        None => 0,
+        Some(answer) => term_size(index, &answer.value) + 1,
+    }
+}
+
+/// The name of the loop variable.
+pub fn loop_index(turns: &Option<Loop>) -> Option<&str>
+    ensures { option_map text_of result ≡ option_map items.index_of (option_map turns_of turns.now) }
+{
+    match turns {
+        None => None,
+        Some(turns) => Some(turns.index.text()),
+    }
+}
+
+/// How many items a kernel makes.
+pub fn kernel_size(kernel: &Kernel) -> u32
+    requires { items.size_of (program_of kernel.now) < 2 ^ 32 }
+    ensures { result ≡ items.size_of (program_of kernel.now) }
+{
+    let index = loop_index(&kernel.body);
+    let before = kernel.params.len() as u32 + vars_size(index, &kernel.vars);
+    before + turns_size(&kernel.body) + answer_size(index, &kernel.answer)
+}
+
+fn term_depth(expr: &Expr) -> u32
+    requires { limits.term_depth (term_of expr.now) < 2 ^ 32 }
+    ensures { result ≡ limits.term_depth (term_of expr.now) }
+{
+    match expr {
+        Expr::Lit(_) => 1,
+        Expr::Var(_) => 1,
+        Expr::Read { index, .. } => term_depth(index) + 1,
+        Expr::Unary { arg, .. } => term_depth(arg) + 1,
+        Expr::Binary { left, right, .. } => term_depth(left).max(term_depth(right)) + 1,
+        Expr::Shift { arg, .. } => term_depth(arg) + 1,
+        Expr::Cast { arg, .. } => term_depth(arg) + 1,
+        Expr::Select { cond, yes, no } => {
+            term_depth(cond).max(term_depth(yes).max(term_depth(no))) + 1
+        }
+        Expr::Compare { left, right, .. } => term_depth(left).max(term_depth(right)) + 1,
+        Expr::And { left, right } => term_depth(left).max(term_depth(right)) + 1,
+        Expr::Or { left, right } => term_depth(left).max(term_depth(right)) + 1,
+        Expr::Not { arg } => term_depth(arg) + 1,
+    }
+}
+
+#[cycle(depths)]
+fn stmt_depth(stmt: &Stmt) -> u32
+    requires { limits.action_depth (action_of stmt.now) < 2 ^ 32 }
+    ensures { result ≡ limits.action_depth (action_of stmt.now) }
+{
+    match stmt {
+        Stmt::Let { value, .. } => term_depth(value) + 1,
+        Stmt::Store { index, value, .. } => term_depth(index).max(term_depth(value)) + 1,
+        Stmt::Update { value, .. } => term_depth(value) + 1,
+        Stmt::If {
+            cond,
+            then_part,
+            else_part,
+        } => match else_part {
+            None => if_depth(cond, then_part),
+            Some(other) => if_else_depth(cond, then_part, other),
+        },
+        Stmt::Break { cond } => term_depth(cond) + 1,
+    }
+}
+
+#[cycle(depths)]
+fn if_depth(cond: &Expr, block: &[Stmt]) -> u32
+    requires { limits.action_depth (Choose (term_of cond.now) (block_of block.now) Nothing) < 2 ^ 32 }
+    ensures { result ≡ limits.action_depth (Choose (term_of cond.now) (block_of block.now) Nothing) }
+{
+    term_depth(cond).max(block_depth(block)) + 1
+}
+
+#[cycle(depths)]
+fn if_else_depth(cond: &Expr, block: &[Stmt], other: &[Stmt]) -> u32
+    requires { limits.action_depth (Choose (term_of cond.now) (block_of block.now) (Else (block_of other.now))) < 2 ^ 32 }
+    ensures { result ≡ limits.action_depth (Choose (term_of cond.now) (block_of block.now) (Else (block_of other.now))) }
+{
+    let blocks = block_depth(block).max(block_depth(other));
+    term_depth(cond).max(blocks) + 1
+}
+
+#[cycle(depths)]
+fn block_depth(block: &[Stmt]) -> u32
+    requires { limits.block_depth (block_of block.now) < 2 ^ 32 }
+    ensures { result ≡ limits.block_depth (block_of block.now) }
+{
+    let mut depth: u32 = 0;
+    for stmt in block {
+        depth = depth.max(stmt_depth(stmt));
+    }
+    depth
+}
+
+fn vars_depth(vars: &[Var]) -> u32
+    requires { limits.vars_depth (accumulators_of vars.now) < 2 ^ 32 }
+    ensures { result ≡ limits.vars_depth (accumulators_of vars.now) }
+{
+    let mut depth: u32 = 0;
+    for var in vars {
+        depth = depth.max(term_depth(&var.init));
+    }
+    depth
+}
+
+fn turns_depth(turns: &Option<Loop>) -> u32
+    requires { limits.turns_depth (option_map turns_of turns.now) < 2 ^ 32 }
+    ensures { result ≡ limits.turns_depth (option_map turns_of turns.now) }
+{
+    match turns {
+        None => 0,
+        Some(turns) => block_depth(&turns.body),
+    }
+}
+
+fn answer_depth(answer: &Option<Answer>) -> u32
+    requires { limits.answer_depth (option_map returned_of answer.now) < 2 ^ 32 }
+    ensures { result ≡ limits.answer_depth (option_map returned_of answer.now) }
+{
+    match answer {
+        None => 0,
+        Some(answer) => term_depth(&answer.value),
+    }
+}
+
+/// The greatest depth of an initial value, a statement or the returned expression.
+pub fn kernel_depth(kernel: &Kernel) -> u32
+    requires { limits.depth_of (program_of kernel.now) < 2 ^ 32 }
+    ensures { result ≡ limits.depth_of (program_of kernel.now) }
+{
+    let body = turns_depth(&kernel.body).max(answer_depth(&kernel.answer));
+    vars_depth(&kernel.vars).max(body)
+}

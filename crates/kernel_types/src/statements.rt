@@ -1,0 +1,235 @@
+//! Goes over statements, item by item.
+
+ghost use Rattle.std.specs.Prelude.{◌≡◌, ◌++◌, ◌+◌, ◌<◌, ◌^◌, IfOk};
+ghost use Rattle.kernel_tree.specs.declared.ops.UpdateOp.TheVariants as update;
+ghost use Rattle.kernel_tree.specs.Plain.{name_of, term_of, action_of, block_of, Define, Put, Update, Choose, Leave, Nothing, Else};
+ghost use Rattle.kernel_tree.specs.Items as items;
+ghost use Rattle.kernel_tree.specs.Typing as typing;
+ghost use Rattle.kernel_types.specs.Scopes.{scope_of};
+
+use crate::names::{define, is_taken, leave, lookup};
+use crate::own::{accumulator_type, element_type, first, own_type, stream_distance};
+use crate::rules::{sooner, stream_fault, target_fault, twice, untyped, update_fault};
+use crate::scope::{Notes, Role, Scope};
+use crate::terms::{end, walk_expr};
+use kernel_tree::{Expr, Name, Stmt, Ty};
+use std::alloc::AllocError;
+
+#[tactic(auto, using(crate::proofs::Least::sooner_rules))]
+fn walk_let<'a>(
+    notes: &mut Notes,
+    scope: &mut Scope<'a>,
+    name: &'a Name,
+    ty: Option<Ty>,
+    value: &Expr,
+) -> Result<(), AllocError>
+    requires { notes.old.next + (items.action_size (scope_of scope.old).index (Define (name_of name.now) ty (term_of value.now))) < 2 ^ 32 }
+    ensures scope { IfOk result (λ _. scope_of scope.new ≡ typing.after_action (scope_of scope.old) (Define (name_of name.now) ty (term_of value.now))) }
+    ensures next { IfOk result (λ _. notes.new.next ≡ notes.old.next + (items.action_size (scope_of scope.old).index (Define (name_of name.now) ty (term_of value.now)))) }
+    ensures found { IfOk result (λ _. notes.new.found ≡ typing.sooner notes.old.found (typing.least (typing.action_faults (scope_of scope.old) notes.old.next (Define (name_of name.now) ty (term_of value.now))))) }
+    ensures types { IfOk result (λ _. notes.new.types.items ≡ notes.old.types.items ++ typing.action_types (scope_of scope.old) (Define (name_of name.now) ty (term_of value.now))) }
+{
+    let wanted = first(ty, own_type(scope, value));
+    walk_expr(notes, scope, Role::Value(wanted), value)?;
+    let item = notes.next;
+    let found = sooner(twice(item, is_taken(scope, name)), untyped(item, wanted));
+    end(notes, found, wanted)?;
+    define(scope, name, wanted)?;
+    Ok(())
+}
+
+#[tactic(auto, using(crate::proofs::Least::sooner_rules))]
+fn walk_store(
+    notes: &mut Notes,
+    scope: &Scope,
+    array: &Name,
+    index: &Expr,
+    value: &Expr,
+) -> Result<(), AllocError>
+    requires { notes.old.next + (items.action_size (scope_of scope.now).index (Put (name_of array.now) (term_of index.now) (term_of value.now))) < 2 ^ 32 }
+    ensures next { IfOk result (λ _. notes.new.next ≡ notes.old.next + (items.action_size (scope_of scope.now).index (Put (name_of array.now) (term_of index.now) (term_of value.now)))) }
+    ensures found { IfOk result (λ _. notes.new.found ≡ typing.sooner notes.old.found (typing.least (typing.action_faults (scope_of scope.now) notes.old.next (Put (name_of array.now) (term_of index.now) (term_of value.now))))) }
+    ensures types { IfOk result (λ _. notes.new.types.items ≡ notes.old.types.items ++ typing.action_types (scope_of scope.now) (Put (name_of array.now) (term_of index.now) (term_of value.now))) }
+{
+    let target = lookup(scope, array);
+    walk_expr(
+        notes,
+        scope,
+        Role::Value(target.and_then(element_type)),
+        value,
+    )?;
+    let item = notes.next;
+    let distance = stream_distance(scope.index, index);
+    let found = sooner(target_fault(item, target), stream_fault(item, distance));
+    end(notes, found, None)?;
+    Ok(())
+}
+
+#[tactic(auto, using(crate::proofs::Least::sooner_rules))]
+fn walk_update(
+    notes: &mut Notes,
+    scope: &Scope,
+    name: &Name,
+    value: &Expr,
+) -> Result<(), AllocError>
+    requires { notes.old.next + (items.action_size (scope_of scope.now).index (Update (name_of name.now) update.Add (term_of value.now))) < 2 ^ 32 }
+    ensures next { IfOk result (λ _. notes.new.next ≡ notes.old.next + (items.action_size (scope_of scope.now).index (Update (name_of name.now) update.Add (term_of value.now)))) }
+    ensures found { IfOk result (λ _. notes.new.found ≡ typing.sooner notes.old.found (typing.least (typing.action_faults (scope_of scope.now) notes.old.next (Update (name_of name.now) update.Add (term_of value.now))))) }
+    ensures types { IfOk result (λ _. notes.new.types.items ≡ notes.old.types.items ++ typing.action_types (scope_of scope.now) (Update (name_of name.now) update.Add (term_of value.now))) }
+{
+    let target = lookup(scope, name);
+    walk_expr(
+        notes,
+        scope,
+        Role::Value(target.and_then(accumulator_type)),
+        value,
+    )?;
+    end(notes, update_fault(notes.next, target), None)?;
+    Ok(())
+}
+
+#[tactic(auto, using(crate::proofs::Least::sooner_rules))]
+fn walk_break(notes: &mut Notes, scope: &Scope, cond: &Expr) -> Result<(), AllocError>
+    requires { notes.old.next + (items.action_size (scope_of scope.now).index (Leave (term_of cond.now))) < 2 ^ 32 }
+    ensures next { IfOk result (λ _. notes.new.next ≡ notes.old.next + (items.action_size (scope_of scope.now).index (Leave (term_of cond.now)))) }
+    ensures found { IfOk result (λ _. notes.new.found ≡ typing.sooner notes.old.found (typing.least (typing.action_faults (scope_of scope.now) notes.old.next (Leave (term_of cond.now))))) }
+    ensures types { IfOk result (λ _. notes.new.types.items ≡ notes.old.types.items ++ typing.action_types (scope_of scope.now) (Leave (term_of cond.now))) }
+{
+    walk_expr(notes, scope, Role::Condition, cond)?;
+    end(notes, None, None)?;
+    Ok(())
+}
+
+#[cycle(statements)]
+#[tactic(auto, using(crate::proofs::Least::sooner_rules))]
+fn walk_stmt<'a>(notes: &mut Notes, scope: &mut Scope<'a>, stmt: &'a Stmt) -> Result<(), AllocError>
+    requires { notes.old.next + (items.action_size (scope_of scope.old).index (action_of stmt.now)) < 2 ^ 32 }
+    ensures scope { IfOk result (λ _. scope_of scope.new ≡ typing.after_action (scope_of scope.old) (action_of stmt.now)) }
+    ensures next { IfOk result (λ _. notes.new.next ≡ notes.old.next + (items.action_size (scope_of scope.old).index (action_of stmt.now))) }
+    ensures found { IfOk result (λ _. notes.new.found ≡ typing.sooner notes.old.found (typing.least (typing.action_faults (scope_of scope.old) notes.old.next (action_of stmt.now)))) }
+    ensures types { IfOk result (λ _. notes.new.types.items ≡ notes.old.types.items ++ typing.action_types (scope_of scope.old) (action_of stmt.now)) }
+{
+    match stmt {
+        Stmt::Let { name, ty, value } => {
+            walk_let(notes, scope, name, *ty, value)?;
+            Ok(())
+        }
+        Stmt::Store {
+            array,
+            index,
+            value,
+        } => {
+            walk_store(notes, scope, array, index, value)?;
+            Ok(())
+        }
+        Stmt::Update { name, value, .. } => {
+            walk_update(notes, scope, name, value)?;
+            Ok(())
+        }
+        Stmt::If {
+            cond,
+            then_part,
+            else_part,
+        } => match else_part {
+            None => {
+                walk_if(notes, scope, cond, then_part)?;
+                Ok(())
+            }
+            Some(other) => {
+                walk_if_else(notes, scope, cond, then_part, other)?;
+                Ok(())
+            }
+        },
+        Stmt::Break { cond } => {
+            walk_break(notes, scope, cond)?;
+            Ok(())
+        }
+    }
+}
+
+// An `if` with one block.
+#[cycle(statements)]
+#[tactic(auto, using(crate::proofs::Least::sooner_rules))]
+fn walk_if<'a>(
+    notes: &mut Notes,
+    scope: &mut Scope<'a>,
+    cond: &Expr,
+    block: &'a [Stmt],
+) -> Result<(), AllocError>
+    requires { notes.old.next + items.action_size (scope_of scope.old).index (Choose (term_of cond.now) (block_of block.now) Nothing) < 2 ^ 32 }
+    ensures scope { IfOk result (λ _. scope_of scope.new ≡ typing.after_action (scope_of scope.old) (Choose (term_of cond.now) (block_of block.now) Nothing)) }
+    ensures next { IfOk result (λ _. notes.new.next ≡ notes.old.next + items.action_size (scope_of scope.old).index (Choose (term_of cond.now) (block_of block.now) Nothing)) }
+    ensures found { IfOk result (λ _. notes.new.found ≡ typing.sooner notes.old.found (typing.least (typing.action_faults (scope_of scope.old) notes.old.next (Choose (term_of cond.now) (block_of block.now) Nothing)))) }
+    ensures types { IfOk result (λ _. notes.new.types.items ≡ notes.old.types.items ++ typing.action_types (scope_of scope.old) (Choose (term_of cond.now) (block_of block.now) Nothing)) }
+{
+    walk_expr(notes, scope, Role::Condition, cond)?;
+    end(notes, None, None)?;
+    walk_inner(notes, scope, block)?;
+    end(notes, None, None)?;
+    Ok(())
+}
+
+// An `if` with two blocks.
+#[cycle(statements)]
+#[tactic(auto, using(crate::proofs::Least::sooner_rules))]
+fn walk_if_else<'a>(
+    notes: &mut Notes,
+    scope: &mut Scope<'a>,
+    cond: &Expr,
+    block: &'a [Stmt],
+    other: &'a [Stmt],
+) -> Result<(), AllocError>
+    requires { notes.old.next + items.action_size (scope_of scope.old).index (Choose (term_of cond.now) (block_of block.now) (Else (block_of other.now))) < 2 ^ 32 }
+    ensures scope { IfOk result (λ _. scope_of scope.new ≡ typing.after_action (scope_of scope.old) (Choose (term_of cond.now) (block_of block.now) (Else (block_of other.now)))) }
+    ensures next { IfOk result (λ _. notes.new.next ≡ notes.old.next + items.action_size (scope_of scope.old).index (Choose (term_of cond.now) (block_of block.now) (Else (block_of other.now)))) }
+    ensures found { IfOk result (λ _. notes.new.found ≡ typing.sooner notes.old.found (typing.least (typing.action_faults (scope_of scope.old) notes.old.next (Choose (term_of cond.now) (block_of block.now) (Else (block_of other.now)))))) }
+    ensures types { IfOk result (λ _. notes.new.types.items ≡ notes.old.types.items ++ typing.action_types (scope_of scope.old) (Choose (term_of cond.now) (block_of block.now) (Else (block_of other.now)))) }
+{
+    walk_expr(notes, scope, Role::Condition, cond)?;
+    end(notes, None, None)?;
+    walk_inner(notes, scope, block)?;
+    end(notes, None, None)?;
+    walk_inner(notes, scope, other)?;
+    end(notes, None, None)?;
+    Ok(())
+}
+
+// A block, behind which its names are visible no more.
+#[cycle(statements)]
+#[tactic(auto, using(crate::proofs::Least::sooner_rules))]
+fn walk_inner<'a>(
+    notes: &mut Notes,
+    scope: &mut Scope<'a>,
+    block: &'a [Stmt],
+) -> Result<(), AllocError>
+    requires { notes.old.next + (items.block_size (scope_of scope.old).index (block_of block.now)) < 2 ^ 32 }
+    ensures scope { IfOk result (λ _. scope_of scope.new ≡ typing.left (scope_of scope.old) (typing.after_block (scope_of scope.old) (block_of block.now))) }
+    ensures next { IfOk result (λ _. notes.new.next ≡ notes.old.next + (items.block_size (scope_of scope.old).index (block_of block.now))) }
+    ensures found { IfOk result (λ _. notes.new.found ≡ typing.sooner notes.old.found (typing.least (typing.block_faults (scope_of scope.old) notes.old.next (block_of block.now)))) }
+    ensures types { IfOk result (λ _. notes.new.types.items ≡ notes.old.types.items ++ typing.block_types (scope_of scope.old) (block_of block.now)) }
+{
+    let count = scope.visible.len();
+    walk_block(notes, scope, block)?;
+    leave(scope, count);
+    Ok(())
+}
+
+/// Goes over statements, behind which their names stay visible.
+#[cycle(statements)]
+#[tactic(auto, using(crate::proofs::Least::sooner_rules))]
+pub fn walk_block<'a>(
+    notes: &mut Notes,
+    scope: &mut Scope<'a>,
+    block: &'a [Stmt],
+) -> Result<(), AllocError>
+    requires { notes.old.next + (items.block_size (scope_of scope.old).index (block_of block.now)) < 2 ^ 32 }
+    ensures scope { IfOk result (λ _. scope_of scope.new ≡ typing.after_block (scope_of scope.old) (block_of block.now)) }
+    ensures next { IfOk result (λ _. notes.new.next ≡ notes.old.next + (items.block_size (scope_of scope.old).index (block_of block.now))) }
+    ensures found { IfOk result (λ _. notes.new.found ≡ typing.sooner notes.old.found (typing.least (typing.block_faults (scope_of scope.old) notes.old.next (block_of block.now)))) }
+    ensures types { IfOk result (λ _. notes.new.types.items ≡ notes.old.types.items ++ typing.block_types (scope_of scope.old) (block_of block.now)) }
+{
+    for stmt in block {
+        walk_stmt(notes, scope, stmt)?;
+    }
+    Ok(())
+}

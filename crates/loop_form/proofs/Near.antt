@@ -1,0 +1,124 @@
+-- In a kernel that meets the rules the offsets of all stream indexes are in range.
+use Rattle.std.proofs.Common.{◌≡◌, ℕ, ◌+◌, ◌≤◌, ℤ, Bool, true, false, cond, List, [], ◌∷◌, ◌++◌, Option, Some, None, refl, subst, ◌∙◌}
+use Rattle.std.proofs.lemmas.Bool.{leb-true}
+use Rattle.std.specs.Prelude.{unsigned_abs, nat_lt, nat_le, option_map}
+use Rattle.kernel_tree.specs.declared.ops.Ty.{Ty}
+use Rattle.kernel_tree.specs.declared.ops.Ty.TheVariants as ty
+use Rattle.kernel_tree.specs.declared.fault.Found.{Found}
+use Rattle.kernel_tree.specs.Plain.{Term, Literal, Variable, Element, Unary, Operation, Shift, Conversion, Choice, Comparison, Both, Either, Not, Action, Define, Put, Update, Choose, Leave, Block, Done, Then, Otherwise, Nothing, Else, Parameter, Accumulator, Turns, Program}
+use Rattle.kernel_tree.specs.Items.{stream_offset, loop_index, index_items, size_of}
+use Rattle.kernel_tree.specs.Limits.{most_items, most_depth, most_offset, depth_of}
+use Rattle.kernel_tree.specs.Typing.{TooLarge, TooDeep, Fails, Scope, Role, Value, lookup, as_value, read_faults, wanted, first, own, faults, inner_faults, index_faults, stream_faults, offset_faults, action_faults, block_faults, otherwise_faults, after_action, after_block, defined, left, in_loop, empty, after_params, after_vars, param_scope, var_scope, turns_faults, kernel_faults, sooner, least, check_fault}
+use Rattle.loop_form.specs.Entries.{Entry, inner_entries, term_entries, action_entries, block_entries, otherwise_entries, turns_entries, loop_entries, loop_start}
+use Rattle.loop_form.specs.Near.{IsNear, AreNear}
+
+nil-left : {A : Type 0} (xs ys : List A) → xs ++ ys ≡ [] → xs ≡ []
+nil-left [] ys e = refl
+nil-left (x ∷ xs) ys e = absurd cc
+
+nil-right : {A : Type 0} (xs ys : List A) → xs ++ ys ≡ [] → ys ≡ []
+nil-right [] ys e = e
+nil-right (x ∷ xs) ys e = absurd cc
+
+near-append : (i : Option (List ℕ)) (xs ys : List Entry) → AreNear i xs → AreNear i ys → AreNear i (xs ++ ys)
+near-append i [] ys p q = q
+near-append i (x ∷ xs) ys (h, p) q = (h, near-append i xs ys p q)
+
+is_empty : {A : Type 0} (b : Bool) (x : A) (xs : List A) → cond b [] (x ∷ xs) ≡ [] → b ≡ true
+is_empty true x xs e = refl
+is_empty false x xs e = absurd cc
+
+offset-near : (item : ℕ) (c : ℤ) → offset_faults item c ≡ [] → unsigned_abs c ≤ most_offset
+offset-near item c e = leb-true (unsigned_abs c) most_offset (is_empty (nat_le (unsigned_abs c) most_offset) _ _ e)
+
+index-near : (item : ℕ) (o : Option ℤ) (t : Option Ty) → index_faults item o t ≡ [] → IsNear o
+index-near item None t e = tt
+index-near item (Some c) t e = offset-near item c e
+
+stream-near : (item : ℕ) (o : Option ℤ) → stream_faults item o ≡ [] → IsNear o
+stream-near item None e = absurd cc
+stream-near item (Some c) e = offset-near item c e
+
+inner-near : (i : Option (List ℕ)) (o : Option ℤ) (es : List Entry) (fs : List Found) → (fs ≡ [] → AreNear i es) → inner_faults o fs ≡ [] → AreNear i (inner_entries o es)
+inner-near i None es fs f e = f e
+inner-near i (Some c) es fs f e = tt
+
+pub term-near : (k : Program) (t : Term) (s : Scope) (from : ℕ) (role : Role) (f u : ℕ) → s.index ≡ loop_index k → faults s from role t ≡ [] → AreNear (loop_index k) (term_entries k f u t)
+term-near k (Literal n) s from role f u q h = (tt, tt)
+term-near k (Variable x) s from role f u q h = (tt, tt)
+term-near k (Element a i) s from role f u q h =
+    let item : ℕ = from + index_items s.index i in
+    let inner : inner_faults (stream_offset s.index i) (faults s from (Value (first (own s i) (Some ty.U64))) i) ≡ [] = nil-left _ _ h in
+    let outer : as_value item role ++ (read_faults item s.inside (wanted role) (lookup s a) ++ index_faults item (stream_offset s.index i) (own s i)) ≡ [] = nil-right (inner_faults (stream_offset s.index i) (faults s from (Value (first (own s i) (Some ty.U64))) i)) _ h in
+    let rest : index_faults item (stream_offset s.index i) (own s i) ≡ [] = nil-right (read_faults item s.inside (wanted role) (lookup s a)) _ (nil-right (as_value item role) _ outer) in
+    near-append (loop_index k) _ _
+    (inner-near (loop_index k) (stream_offset (loop_index k) i) (term_entries k f (f + index_items (loop_index k) i) i) (faults s from (Value (first (own s i) (Some ty.U64))) i) (term-near k i s from (Value (first (own s i) (Some ty.U64))) f (f + index_items (loop_index k) i) q) (subst (λ (j : Option (List ℕ)). inner_faults (stream_offset j i) (faults s from (Value (first (own s i) (Some ty.U64))) i) ≡ []) q inner))
+    (subst (λ (j : Option (List ℕ)). IsNear (stream_offset j i)) q (index-near item (stream_offset s.index i) (own s i) rest), tt)
+term-near k (Unary op e) s from role f u q h = near-append (loop_index k) _ _ (term-near k e s from (Value (wanted role)) f _ q (nil-left _ _ h)) (tt, tt)
+term-near k (Operation op a b) s from role f u q h = near-append (loop_index k) _ _ (term-near k a s _ _ f _ q (nil-left _ _ h)) (near-append (loop_index k) _ _ (term-near k b s _ _ _ _ q (nil-left _ _ (nil-right _ _ h))) (tt, tt))
+term-near k (Shift l e n) s from role f u q h = near-append (loop_index k) _ _ (term-near k e s _ _ f _ q (nil-left _ _ h)) (tt, tt)
+term-near k (Conversion e t) s from role f u q h = near-append (loop_index k) _ _ (term-near k e s _ _ f _ q (nil-left _ _ h)) (tt, tt)
+term-near k (Choice c a b) s from role f u q h = near-append (loop_index k) _ _ (term-near k a s _ _ f _ q (nil-left _ _ h)) (near-append (loop_index k) _ _ (term-near k b s _ _ _ _ q (nil-left _ _ (nil-right _ _ h))) (near-append (loop_index k) _ _ (term-near k c s _ _ _ _ q (nil-left _ _ (nil-right _ _ (nil-right _ _ h)))) (tt, tt)))
+term-near k (Comparison op a b) s from role f u q h = near-append (loop_index k) _ _ (term-near k a s _ _ f _ q (nil-left _ _ h)) (near-append (loop_index k) _ _ (term-near k b s _ _ _ _ q (nil-left _ _ (nil-right _ _ h))) (tt, tt))
+term-near k (Both a b) s from role f u q h = near-append (loop_index k) _ _ (term-near k a s _ _ f _ q (nil-left _ _ h)) (near-append (loop_index k) _ _ (term-near k b s _ _ _ _ q (nil-left _ _ (nil-right _ _ h))) (tt, tt))
+term-near k (Either a b) s from role f u q h = near-append (loop_index k) _ _ (term-near k a s _ _ f _ q (nil-left _ _ h)) (tt, near-append (loop_index k) _ _ (term-near k b s _ _ _ _ q (nil-left _ _ (nil-right _ _ h))) (tt, tt))
+term-near k (Not e) s from role f u q h = near-append (loop_index k) _ _ (term-near k e s _ _ f _ q (nil-left _ _ h)) (tt, tt)
+
+defined-index : (s : Scope) (x : List ℕ) (o : Option Ty) → (defined s x o).index ≡ s.index
+defined-index s x None = refl
+defined-index s x (Some t) = refl
+
+action-index : (s : Scope) (a : Action) → (after_action s a).index ≡ s.index
+action-index s (Define x t e) = defined-index s x (first t (own s e))
+action-index s (Put a i e) = refl
+action-index s (Update x op e) = refl
+action-index s (Choose c b d) = refl
+action-index s (Leave c) = refl
+
+mutual
+  pub action-near : (k : Program) (a : Action) (s : Scope) (from f : ℕ) → s.index ≡ loop_index k → action_faults s from a ≡ [] → AreNear (loop_index k) (action_entries k f a)
+  action-near k (Define x t e) s from f q h = near-append (loop_index k) _ _ (term-near k e s _ _ f _ q (nil-left _ _ h)) (tt, tt)
+  action-near k (Put a i e) s from f q h =
+      let near : IsNear (stream_offset s.index i) = stream-near _ (stream_offset s.index i) (nil-right _ _ (nil-right _ _ h)) in
+      near-append (loop_index k) _ _ (term-near k e s _ _ f _ q (nil-left _ _ h)) (subst (λ (j : Option (List ℕ)). IsNear (stream_offset j i)) q near, tt)
+  action-near k (Update x op e) s from f q h = near-append (loop_index k) _ _ (term-near k e s _ _ f _ q (nil-left _ _ h)) (tt, tt)
+  action-near k (Choose c b d) s from f q h = near-append (loop_index k) _ _ (term-near k c s _ _ f _ q (nil-left _ _ h)) (tt, near-append (loop_index k) _ _ (block-near k b s _ _ q (nil-left _ _ (nil-right _ _ h))) (near-append (loop_index k) _ _ (otherwise-near k d (left s (after_block s b)) _ _ _ q (nil-right _ _ (nil-right _ _ h))) (tt, tt)))
+  action-near k (Leave c) s from f q h = near-append (loop_index k) _ _ (term-near k c s _ _ f _ q h) (tt, tt)
+
+  pub block-near : (k : Program) (b : Block) (s : Scope) (from f : ℕ) → s.index ≡ loop_index k → block_faults s from b ≡ [] → AreNear (loop_index k) (block_entries k f b)
+  block-near k Done s from f q h = tt
+  block-near k (Then a b) s from f q h = near-append (loop_index k) _ _ (action-near k a s from f q (nil-left _ _ h)) (block-near k b (after_action s a) _ _ (action-index s a ∙ q) (nil-right _ _ h))
+
+  pub otherwise-near : (k : Program) (d : Otherwise) (s : Scope) (from f end : ℕ) → s.index ≡ loop_index k → otherwise_faults s from d ≡ [] → AreNear (loop_index k) (otherwise_entries k f end d)
+  otherwise-near k Nothing s from f end q h = tt
+  otherwise-near k (Else b) s from f end q h = (tt, block-near k b s _ _ q h)
+
+turns-near : (k : Program) (s : Scope) (from f : ℕ) (o : Option Turns) → s.index ≡ loop_index k → turns_faults s from o ≡ [] → AreNear (loop_index k) (turns_entries k f o)
+turns-near k s from f None q h = tt
+turns-near k s from f (Some l) q h = (tt, block-near k l.body (in_loop s l) _ _ q (nil-right _ _ (nil-right _ _ h)))
+
+params-index : (s : Scope) (ps : List Parameter) → (after_params s ps).index ≡ s.index
+params-index s [] = refl
+params-index s (p ∷ ps) = params-index _ ps
+
+vars-index : (s : Scope) (vs : List Accumulator) → (after_vars s vs).index ≡ s.index
+vars-index s [] = refl
+vars-index s (v ∷ vs) = vars-index _ vs
+
+none : (fs : List Found) → option_map Fails (least fs) ≡ None → fs ≡ []
+none [] e = refl
+none (f ∷ fs) e = some-first (least fs) e
+  where
+    some-first : (o : Option Found) → option_map Fails (sooner (Some f) o) ≡ None → f ∷ fs ≡ []
+    some-first None e = absurd cc
+    some-first (Some g) e = absurd cc
+
+unrefused : {A : Type 0} (b : Bool) (x : A) (o : Option A) → cond b (Some x) o ≡ None → o ≡ None
+unrefused true x o e = absurd cc
+unrefused false x o e = e
+
+pub loop-near : (k : Program) → check_fault k ≡ None → AreNear (loop_index k) (loop_entries k)
+loop-near k e =
+    let inner : _ ≡ None = unrefused (nat_lt most_items (size_of k)) (TooLarge (size_of k)) _ e in
+    let faultless : kernel_faults k ≡ [] = none (kernel_faults k) (unrefused (nat_lt most_depth (depth_of k)) (TooDeep (depth_of k)) _ inner) in
+    turns-near k (var_scope k) _ (loop_start k) k.turns (vars-index (param_scope k) k.vars ∙ params-index (empty (loop_index k)) k.params) (nil-left _ _ (nil-right _ _ (nil-right _ _ faultless)))

@@ -1,0 +1,53 @@
+-- The width of a loop's lanes.
+use Rattle.std.specs.Prelude.{ℕ, List, [], ◌∷◌, Option, Some, None, nat_lt, bytes_eq, if◌then◌else◌}
+use Rattle.guest_types.specs.declared.length.Width.{Width}
+use Rattle.guest_types.specs.declared.length.Width.TheVariants.{B, H, S, D}
+use Rattle.guest_types.specs.Length.{width_bits}
+use Rattle.kernel_tree.specs.declared.ops.Ty.{Ty}
+use Rattle.kernel_tree.specs.declared.ops.Ty.TheVariants as ty
+use Rattle.kernel_tree.specs.declared.ast.Shape.{Shape}
+use Rattle.kernel_tree.specs.declared.ast.Shape.TheVariants as shape
+use Rattle.kernel_tree.specs.Plain.{Parameter, Accumulator, Program}
+use Rattle.loop_form.specs.Entries.{Content, IsStore, IsUpdate, Entry, loop_entries}
+
+abbrev pub width_of : Ty → Width
+width_of ty.I8 = B
+width_of ty.U8 = B
+width_of ty.I16 = H
+width_of ty.U16 = H
+width_of ty.I32 = S
+width_of ty.U32 = S
+width_of ty.I64 = D
+width_of ty.U64 = D
+
+-- the wider one of a width and that of a type, where there is one
+abbrev pub wider : Width → Option Ty → Width
+wider w None = w
+wider w (Some t) = if nat_lt (width_bits w) (width_bits (width_of t)) then width_of t else w
+
+abbrev pub element_type : Shape → Option Ty
+element_type (shape.Scalar t) = None
+element_type (shape.Array t) = Some t
+
+abbrev pub array_type : List ℕ → List Parameter → Option Ty
+array_type a [] = None
+array_type a (p ∷ ps) = if bytes_eq p.name a then element_type p.shape else array_type a ps
+
+abbrev pub var_type : List ℕ → List Accumulator → Option Ty
+var_type x [] = None
+var_type x (v ∷ vs) = if bytes_eq v.name x then Some v.type else var_type x vs
+
+-- the type of what a statement changes: a stored element or an updated accumulator
+abbrev pub target_type : Program → Content → Option Ty
+target_type k (IsStore a i) = array_type a k.params
+target_type k (IsUpdate x op) = var_type x k.vars
+target_type k _ = None
+
+-- the widest of a width, the types of the value items and the types of what is stored and updated
+unfoldable pub widest : Program → Width → List Entry → Width
+widest k w [] = w
+widest k w (e ∷ es) = widest k (wider (wider w e.type) (target_type k e.content)) es
+
+-- the lane width: that of the widest type in the loop, and 8 bits where there is none
+abbrev pub lane_width_of : Program → Width
+lane_width_of k = widest k B (loop_entries k)

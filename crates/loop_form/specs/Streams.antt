@@ -1,0 +1,33 @@
+-- The accesses of a loop by stream index: one element of an array in each iteration, at a fixed offset from the
+-- iteration's number.
+use Rattle.std.specs.Prelude.{ℕ, ◌+◌, ℤ, List, [], ◌∷◌, Option, Some, None, Bool, true, false, bytes_eq, if◌then◌else◌, filter_map}
+use Rattle.kernel_tree.specs.Plain.{Parameter, Program}
+use Rattle.kernel_tree.specs.Items.{stream_offset, loop_index}
+use Rattle.loop_form.specs.declared.stream.Stream.{Stream}
+use Rattle.loop_form.specs.Entries.{Content, IsRead, IsStore, Entry, loop_entries}
+
+-- the place of the parameter with a name, counted from a number
+abbrev pub place_from : List ℕ → ℕ → List Parameter → Option ℕ
+place_from x n [] = None
+place_from x n (p ∷ ps) = if bytes_eq p.name x then Some n else place_from x (n + 1) ps
+
+-- the place of the parameter with a name
+abbrev pub place_of : List ℕ → List Parameter → Option ℕ
+place_of x ps = place_from x 0 ps
+
+abbrev pub access : Option ℕ → Option ℤ → Bool → ℕ → Option Stream
+access (Some param) (Some offset) store item = Some (record { param = param; offset = offset; store = store; item = item })
+access _ _ store item = None
+
+abbrev pub access_of : Program → Content → ℕ → Option Stream
+access_of k (IsRead a i) item = access (place_of a k.params) (stream_offset (loop_index k) i) false item
+access_of k (IsStore a i) item = access (place_of a k.params) (stream_offset (loop_index k) i) true item
+access_of k _ item = None
+
+-- the access that an item is, where its index is a stream index
+abbrev pub stream_of : Program → Entry → Option Stream
+stream_of k e = access_of k e.content e.item
+
+-- the accesses of the loop, in their order
+abbrev pub streams_of : Program → List Stream
+streams_of k = filter_map (stream_of k) (loop_entries k)

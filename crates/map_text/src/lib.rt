@@ -1,0 +1,18 @@
+//! The text of a page map, and the pages that it maps beside an image.
+#![tactic(auto)]
+
+mod cut;
+pub mod fault;
+mod form;
+mod insert;
+mod line;
+mod place;
+mod put;
+mod read;
+mod words;
+
+pub use fault::MapFault;
+pub use read::read_map;
+
+#[cfg(test)]
+mod tests;

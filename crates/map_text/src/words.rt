@@ -1,0 +1,109 @@
+// The words of a line.
+
+ghost use Rattle.std.specs.Prelude.{◌≡◌, None, IfOk, IfSome, IfNone, option_map};
+ghost use Rattle.map_text.specs.Lines.{words_of, form_of_words, form_of};
+ghost use Rattle.map_text.specs.Seen.{span_seen, patch_seen, form_seen};
+ghost use Rattle.map_text.specs.Worded.{words_seen};
+
+use crate::cut::cut;
+use crate::form::{Form, Patch, Span};
+use crate::line::{patch, span};
+use std::alloc::{AllocError, Global};
+
+// The words of a line that has three or four.
+#[derive(Clone, Copy)]
+pub struct LineWords<'a> {
+    name: &'a [u8],
+    address: &'a [u8],
+    third: &'a [u8],
+    fourth: Option<&'a [u8]>,
+}
+
+// The words of a line, where there are three or four.
+#[tactic(auto, unfolding(crate::specs::Lines::form_of_words), using(crate::proofs::Parts::five_words, crate::proofs::Parts::some_part))]
+fn words(line: &[u8]) -> Option<LineWords<'_>>
+    ensures some { IfSome result (λ words. words_of line.now ≡ words_seen words) }
+    ensures none { IfNone result (form_of_words (words_of line.now) ≡ None) }
+{
+    let (name, Some(rest)) = cut(b' ', line) else {
+        return None;
+    };
+    let (address, Some(rest)) = cut(b' ', rest) else {
+        return None;
+    };
+    let (third, rest) = cut(b' ', rest);
+    let Some(rest) = rest else {
+        return Some(LineWords {
+            name,
+            address,
+            third,
+            fourth: None,
+        });
+    };
+    let (fourth, None) = cut(b' ', rest) else {
+        return None;
+    };
+    Some(LineWords {
+        name,
+        address,
+        third,
+        fourth: Some(fourth),
+    })
+}
+
+fn maps(span: Option<Span>) -> Option<Form>
+    ensures { option_map form_seen result ≡ option_map span_seen span }
+{
+    match span {
+        Some(span) => Some(Form::Maps(span)),
+        None => None,
+    }
+}
+
+fn sets(patch: Option<Patch>) -> Option<Form>
+    ensures { option_map form_seen result ≡ option_map patch_seen patch }
+{
+    match patch {
+        Some(patch) => Some(Form::Sets(patch)),
+        None => None,
+    }
+}
+
+// What some words say.
+#[tactic(auto, unfolding(crate::specs::Lines::form_of_words))]
+fn form_of_words(alloc: Global, words: LineWords<'_>) -> Result<Option<Form>, AllocError>
+    ensures { IfOk result (λ o. option_map form_seen o ≡ form_of_words (words_seen words.entry)) }
+{
+    match words.fourth {
+        None => {
+            if words.name != b"set".as_slice() {
+                return Ok(None);
+            }
+            Ok(sets(patch(alloc, words.address, words.third)?))
+        }
+        Some(perm) => {
+            if words.name != b"map".as_slice() {
+                return Ok(None);
+            }
+            Ok(maps(span(words.address, words.third, perm)))
+        }
+    }
+}
+
+// What a line says, where it has one of the forms.
+#[tactic(auto, unfolding(crate::specs::Lines::form_of))]
+pub fn form(alloc: Global, line: &[u8]) -> Result<Option<Form>, AllocError>
+    ensures { IfOk result (λ o. option_map form_seen o ≡ form_of line.now) }
+{
+    let [first, ..] = line else {
+        return Ok(Some(Form::Blank));
+    };
+    if *first == b'#' {
+        return Ok(Some(Form::Blank));
+    }
+    let Some(words) = words(line) else {
+        return Ok(None);
+    };
+    let form = form_of_words(alloc, words)?;
+    Ok(form)
+}

@@ -1,0 +1,66 @@
+//! The command `list FILE`.
+
+ghost use Rattle.std.specs.Prelude.{◌≡◌, ◌≢◌, ◌+◌, ◌*◌, ◌^◌, ◌<◌, Ok, Err, IfSome, IsSome, IfOk, IfErr, IsTrue};
+ghost use Rattle.io_edges.specs.Files.{Rose, content};
+ghost use Rattle.sve_top.specs.Listing.{lines_from};
+ghost use Rattle.sve_top.specs.Answer.{answer_of_file, answer_of_list, text_of_file, text_of_list, IsAnswer, IsOfList, IsQuiet, Prints, RefusesProgram};
+
+use crate::listing::put_lines;
+use crate::refusal::{Done, Refusal};
+use elf_image::load_elf;
+use guest_types::image::PageMap;
+use io_edges::files::Files;
+use io_edges::sink::Sink;
+use paged_memory::pages::Pages;
+use std::alloc::Global;
+
+// The words of a program: where the first of them stands, how many they are, and the pages.
+#[derive(Drop)]
+struct Words {
+    from: u64,
+    count: u64,
+    pages: Pages,
+}
+
+// The words of the program in a file.
+#[tactic(auto, using(crate::proofs::Programs::alone, crate::proofs::Programs::few_alone, crate::proofs::Programs::none_in_order))]
+fn words_of(alloc: Global, bytes: &[u8]) -> Result<Words, Refusal>
+    ensures answer { IfOk result (λ words. answer_of_list bytes.now ≡ Ok Done.Ended) }
+    ensures text { IfOk result (λ words. text_of_list bytes.now ≡ lines_from words.pages words.from words.count) }
+    ensures below { IfOk result (λ words. words.from + 4 * words.count < 2 ^ 64) }
+    ensures refusal { IfErr result (λ refusal. RefusesProgram (answer_of_list bytes.now) refusal) }
+{
+    let image = load_elf(alloc, bytes)?;
+    let map = PageMap {
+        pages: Vec::new(alloc),
+    };
+    let pages = Pages::build(alloc, &image, &map)?;
+    Ok(Words {
+        from: image.code_from,
+        count: image.code_end.saturating_sub(image.code_from) / 4,
+        pages,
+    })
+}
+
+/// Lists the instructions of the program in a file, from its first one to the end of the code, on the output.
+pub fn list<F: Files, S: Sink>(
+    alloc: Global,
+    from: &str,
+    files: &mut F,
+    out: &mut S,
+) -> Result<Done, Refusal>
+    ensures answer { IfSome (F.held files.old) (λ held. IsAnswer (F.faults files.old) (F.faults files.new) (S.faults out.old) (S.faults out.new) (answer_of_file answer_of_list (content held from.now)) result) }
+    ensures held { F.held files.new ≡ F.held files.old }
+    ensures printed { IfSome (F.held files.old) (λ held. Prints (S.taken out.old) (S.taken out.new) (text_of_file text_of_list (content held from.now)) result) }
+    ensures quiet { IsQuiet result → out.new ≡ out.old }
+    ensures failed { result ≡ Err Refusal.File → Rose (F.faults files.old) (F.faults files.new) }
+    ensures output { result ≡ Err Refusal.Output → Rose (S.faults out.old) (S.faults out.new) }
+    ensures steady { IsTrue (F.steady files.old) → IfSome (F.held files.old) (λ held. IsSome (content held from.now) → result ≢ Err Refusal.File) }
+    ensures of_list { IsOfList result }
+{
+    let mut bytes = Vec::new(alloc);
+    files.read(alloc, from, &mut bytes)?;
+    let words = words_of(alloc, &bytes)?;
+    put_lines(out, &words.pages, words.from, words.count)?;
+    Ok(Done::Ended)
+}
