@@ -1,6 +1,6 @@
 -- A resolved kernel does what its kernel does.
-use Rattle.std.proofs.Common.{◌≡◌, ℕ, zero, suc, ◌+◌, ◌-◌, ◌<◌, ◌≤◌, List, [], ◌∷◌, ◌++◌, Bool, true, false, cond, Option, Some, None, length, map, replicate, refl, sym, ap, ap₂, subst, ◌∙◌, append_assoc, arith, ltb}
-use Rattle.std.specs.Prelude.{ℤ, pos, option_map, option_and_then, nat_lt, min, slice_set, slice_index, drop, if◌then◌else◌}
+use Rattle.std.proofs.Common.{◌≡◌, ℕ, zero, suc, ◌+◌, ◌-◌, ◌<◌, ◌≤◌, List, [], ◌∷◌, ◌++◌, Option, Some, None, length, map, replicate, refl, sym, ap, ap₂, subst, ◌∙◌, append_assoc, arith}
+use Rattle.std.specs.Prelude.{ℤ, pos, option_map, option_and_then, nat_lt, min, slice_set, drop, if◌then◌else◌}
 use Rattle.std.proofs.lemmas.List.{length-set, length-append, length-map, length-replicate, append-nil}
 use Rattle.kernel_tree.specs.declared.fault.Binding.TheVariants as binding
 use Rattle.kernel_tree.specs.Plain.{Parameter, Accumulator, Turns, Returned, Program}
@@ -8,12 +8,12 @@ use Rattle.kernel_tree.specs.Typing.{Scope, Local, local, declared, in_loop, aft
 use Rattle.kernel_tree.specs.Items.{loop_index}
 use Rattle.guest_types.specs.Memory.{Memory}
 use Rattle.kernel_meaning.specs.Operators.{word}
-use Rattle.kernel_meaning.specs.Eval.{Names, Named, value_of, value_at, value}
-use Rattle.kernel_meaning.specs.Iterate.{Turn, Next, Broke, Faulted, named, with_name, cut, do_block, iterate}
-use Rattle.kernel_meaning.specs.ScalarRun.{argument, given, initial, Standing, Going, Left, Failed, go_on, course, bound_of, Run, End, Fault, begun, returned, ended, closed, started}
-use Rattle.kernel_meaning.specs.Slots.{Slots, Stand, Went, Quit, Stuck, slot_at, set_slot, then_go, do_tasks}
-use Rattle.kernel_meaning.specs.Resolve.{most_slots, resolved, resolved_block, slot_of}
-use Rattle.kernel_meaning.specs.Plans.{resolved_vars, resolved_loop, resolved_turns, resolved_answer, Planned, planned, filled, Course, Goes, Leaves, Fails, next_turn, turn, slot_course, slot_answer, slot_closed, Limited, Ended, Cut, slot_finish, slot_loop, slot_turns, slot_begun, slot_run}
+use Rattle.kernel_meaning.specs.Eval.{Names, value_of, value}
+use Rattle.kernel_meaning.specs.Iterate.{Turn, with_name, do_block, iterate}
+use Rattle.kernel_meaning.specs.ScalarRun.{given, initial, Standing, Going, Left, Failed, go_on, course, bound_of, Fault, returned, ended, closed, started}
+use Rattle.kernel_meaning.specs.Slots.{Slots, Stand, Went, Stuck, set_slot, then_go, do_tasks}
+use Rattle.kernel_meaning.specs.Resolve.{most_slots, resolved_block}
+use Rattle.kernel_meaning.specs.Plans.{resolved_vars, resolved_loop, resolved_turns, resolved_answer, planned, filled, Course, Goes, Leaves, Fails, next_turn, turn, slot_course, slot_answer, slot_closed, Limited, Ended, Cut, slot_finish, slot_loop, slot_turns, slot_begun, slot_run}
 use Rattle.kernel_meaning.proofs.Held.{Held, value-held, named-held, held-length}
 use Rattle.kernel_meaning.proofs.Sames.{same}
 use Rattle.kernel_meaning.proofs.Growth.{grows_by_block}

@@ -1,5 +1,7 @@
 mod Runs
 mod Walks
+mod Corners
+pub mod Example
 pub mod Lookups
 pub mod Residues
 pub mod Rows

@@ -1,9 +1,8 @@
 -- Names that the code keeps, as the scope of the rules of typing has them.
-use Rattle.std.proofs.Common.{◌≡◌, ℕ, List, [], ◌∷◌, ◌++◌, Bool, true, false, cond, Option, Some, None, map, take, refl, sym, ap, ◌∙◌}
-use Rattle.std.specs.Prelude.{bytes_eq, option_map}
+use Rattle.std.proofs.Common.{◌≡◌, ℕ, List, [], ◌∷◌, Bool, true, false, map, take, refl}
+use Rattle.std.specs.Prelude.{option_map}
 use Rattle.std.specs.List.{find}
 use Rattle.std.proofs.lemmas.List.{take-map}
-use Rattle.kernel_tree.specs.declared.fault.Binding.{Binding}
 use Rattle.kernel_tree.specs.Typing as typing
 use Rattle.kernel_meaning.specs.declared.scope.Local.{Local}
 use Rattle.kernel_meaning.specs.Scopes.{local_of, named, binding_among}

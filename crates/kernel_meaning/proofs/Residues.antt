@@ -1,12 +1,12 @@
 -- Integers modulo 2^64.
-use Rattle.std.proofs.Common.{◌≡◌, ℕ, ◌+◌, ◌-◌, ◌*◌, ◌/◌, ◌%◌, ◌^◌, ◌<◌, ◌≤◌, Bool, true, false, Option, Some, None, refl, sym, ap, ap₂, ◌∙◌, arith, ltb}
-use Rattle.std.specs.Prelude.{ℤ, pos, negsuc, ◌+ℤ◌, ◌-ℤ◌, ◌*ℤ◌, bit_and, bit_or, bit_xor, FitsSigned}
-use Rattle.std.specs.Int.{Width, w64, w128, cast_signed, cast_unsigned, int_wrapping_mul, int_wrap}
+use Rattle.std.proofs.Common.{◌≡◌, ℕ, ◌+◌, ◌-◌, ◌*◌, ◌%◌, ◌^◌, ◌<◌, Bool, true, false, Option, Some, None, refl, sym, ap, ap₂, ◌∙◌, arith, ltb}
+use Rattle.std.specs.Prelude.{ℤ, pos, negsuc, ◌+ℤ◌, ◌*ℤ◌, bit_or, FitsSigned}
+use Rattle.std.specs.Int.{w64, w128, cast_signed, cast_unsigned, int_wrapping_mul, int_wrap}
 use Rattle.std.proofs.lemmas.Bool.{ltb-false}
 use Rattle.std.proofs.lemmas.Nat.{mul-mod_second}
 use Rattle.guest_types.specs.declared.length.Width.TheVariants.{D}
 use Rattle.guest_types.proofs.Shifts.{or-below}
-use Rattle.std.proofs.lemmas.Int.{ints, wrapping_mul_is, wrapping_mul-bits, wrapping_add-bits, int_wrap-add_left, int_wrap-add_right, int_wrap-mul_left, int_wrap-mul_right, of_z-to_z, to_z-of_z, to_z_pos}
+use Rattle.std.proofs.lemmas.Int.{wrapping_mul_is, wrapping_mul-bits, wrapping_add-bits, int_wrap-add_left, int_wrap-add_right, int_wrap-mul_left, int_wrap-mul_right, of_z-to_z, to_z-of_z, to_z_pos}
 use Rattle.kernel_tree.specs.declared.ops.Ty.{Ty}
 use Rattle.kernel_tree.specs.declared.ops.Ty.TheVariants as ty
 use Rattle.kernel_tree.specs.Wrap.{wrap, residue}

@@ -1,17 +1,17 @@
 -- Runs of kernels that were worked out by hand.
-use Rattle.std.proofs.Common.{◌≡◌, ℕ, ◌+◌, List, [], ◌∷◌, ◌++◌, replicate, Some, None, refl, ap}
-use Rattle.std.specs.Prelude.{ℤ, codes, pos, negsuc}
+use Rattle.std.proofs.Common.{◌≡◌, ℕ, List, [], ◌∷◌, ◌++◌, replicate, Some, None, refl}
+use Rattle.std.specs.Prelude.{ℤ, codes, pos}
 use Rattle.kernel_tree.specs.declared.ops.Ty.{Ty}
 use Rattle.kernel_tree.specs.declared.ops.Ty.TheVariants as ty
 use Rattle.kernel_tree.specs.declared.ops.BinaryOp.TheVariants as binary
 use Rattle.kernel_tree.specs.declared.ops.CompareOp.TheVariants as compare
 use Rattle.kernel_tree.specs.declared.ops.UpdateOp.TheVariants as update
 use Rattle.kernel_tree.specs.declared.ast.Shape.TheVariants as shape
-use Rattle.kernel_tree.specs.Plain.{Term, Literal, Variable, Element, Operation, Conversion, Comparison, Either, Not, Block, Define, Put, Update, Choose, Leave, Done, Then, Nothing, Else, Parameter, Accumulator, Turns, Returned, Program}
+use Rattle.kernel_tree.specs.Plain.{Term, Literal, Variable, Element, Operation, Conversion, Comparison, Either, Block, Define, Put, Update, Choose, Leave, Done, Then, Nothing, Parameter, Turns, Program}
 use Rattle.guest_types.specs.declared.memory.Perm.{Perm}
 use Rattle.guest_types.specs.declared.memory.Perm.TheVariants.{Read, ReadWrite}
 use Rattle.guest_types.specs.Memory.{Page, Memory, number_at}
-use Rattle.kernel_meaning.specs.ScalarRun.{Run, End, Fault, course, scalar_run, memory_of, first_leave}
+use Rattle.kernel_meaning.specs.ScalarRun.{Run, End, Fault, course, scalar_run, first_leave}
 
 abbrev a : List ℕ
 a = codes "a"

@@ -1,9 +1,7 @@
 -- A resolved expression has the value of its expression.
-use Rattle.std.proofs.Common.{◌≡◌, ℕ, ◌+◌, ◌*◌, ◌%◌, ◌^◌, ◌<◌, ◌≤◌, List, Bool, Option, Some, None, length, refl, sym, ap, ap₂, subst, ◌∙◌, arith}
-use Rattle.std.specs.Prelude.{ℤ, pos, negsuc, ◌+ℤ◌, ◌*ℤ◌, option_map, option_and_then, not}
-use Rattle.std.specs.Int.{w64, cast_signed, cast_unsigned, int_wrap}
+use Rattle.std.proofs.Common.{◌≡◌, ℕ, ◌+◌, ◌*◌, ◌%◌, ◌^◌, ◌≤◌, List, Option, Some, None, length, refl, sym, ap, ap₂, subst, ◌∙◌, arith}
+use Rattle.std.specs.Prelude.{ℤ, pos, ◌+ℤ◌, ◌*ℤ◌, option_map, option_and_then, not}
 use Rattle.std.proofs.lemmas.List.{get_or_past}
-use Rattle.std.proofs.lemmas.Int.{wrapping_add-bits, int_wrap-add_left, int_wrap-add_right, of_z-to_z}
 use Rattle.kernel_tree.specs.declared.ops.Ty.{Ty}
 use Rattle.kernel_tree.specs.declared.ops.Ty.TheVariants as ty
 use Rattle.kernel_tree.specs.Wrap.{wrap}
@@ -11,11 +9,11 @@ use Rattle.kernel_tree.specs.Items.{stream_offset}
 use Rattle.kernel_tree.specs.Plain as plain
 use Rattle.kernel_tree.specs.Typing.{Scope, Local, own, lookup, element_type, index_type, side_type}
 use Rattle.guest_types.specs.Memory.{Memory, loaded}
-use Rattle.kernel_meaning.specs.Operators.{word, unary_value, binary_value, shift_value, compare_on, shift_count}
+use Rattle.kernel_meaning.specs.Operators.{word, unary_value, binary_value, shift_value, compare_on}
 use Rattle.kernel_meaning.specs.Eval.{Names, value_at, address, byte_count, read_value, read_element, iteration, element_number, on_both, chosen, and_then, or_else, value, holds}
 use Rattle.kernel_meaning.specs.Trees.{Tree}
 use Rattle.kernel_meaning.specs.Slots.{Slots, slot_at, tree_value, tree_holds}
-use Rattle.kernel_meaning.specs.Resolve.{most_slots, place, slot_of, index_slot, number_tree, stream_tree, resolved}
+use Rattle.kernel_meaning.specs.Resolve.{most_slots, index_slot, number_tree, resolved}
 use Rattle.kernel_meaning.proofs.Residues.{word-below, word-mul, word-add}
 use Rattle.kernel_meaning.proofs.Held.{Held, value-held}
 

@@ -6,7 +6,7 @@ use Rattle.guest_types.specs.Memory.{Memory}
 use Rattle.kernel_meaning.specs.Eval.{value_of}
 use Rattle.kernel_meaning.specs.ScalarRun.{argument, given}
 use Rattle.kernel_meaning.specs.Slots.{Slots, Stand}
-use Rattle.kernel_meaning.specs.Plans.{Looped, Course, Goes, next_turn, turn, slot_course}
+use Rattle.kernel_meaning.specs.Plans.{Looped, Goes, next_turn, turn, slot_course}
 
 pub course_step : (l : Looped) (count at : ℕ) (m : Memory) (vs : Slots) (stand : Stand) → at < count → stand ≡ turn l at m vs → next_turn stand at (slot_course l (count - (at + 1)) (at + 1)) ≡ slot_course l (count - at) at m vs
 unfolding slot_course

@@ -1,6 +1,6 @@
 -- Resolved statements do what their statements do.
 use Rattle.std.proofs.Common.{◌≡◌, ℕ, ◌+◌, ◌≤◌, List, [], ◌∷◌, ◌++◌, Bool, true, false, Option, Some, None, Result, Ok, Err, length, take, refl, sym, ap, subst, ◌∙◌, append_assoc, arith}
-use Rattle.std.specs.Prelude.{ℤ, pos, option_and_then, slice_set}
+use Rattle.std.specs.Prelude.{ℤ, option_and_then, slice_set}
 use Rattle.std.proofs.lemmas.List.{length-set, set_past, length-append, append-nil}
 use Rattle.kernel_tree.specs.declared.ops.Ty.{Ty}
 use Rattle.kernel_tree.specs.declared.ops.UpdateOp.{UpdateOp}
@@ -13,10 +13,10 @@ use Rattle.guest_types.specs.Memory.{Memory, stored}
 use Rattle.kernel_meaning.specs.Operators.{word, binary_value, operator_of}
 use Rattle.kernel_meaning.specs.Eval.{Names, value_at, address, byte_count, iteration, element_number, on_both, value, holds}
 use Rattle.kernel_meaning.specs.Iterate.{Turn, Next, Broke, Faulted, with_name, assigned, cut, define, update, write, put, choose, leave, then_do, act, do_block, do_otherwise}
-use Rattle.kernel_meaning.specs.Slots.{Slots, Stand, Went, Quit, Stuck, slot_at, tree_value, tree_holds, set_slot, write as write_slots, store, branch, quit, then_go, do_task, do_tasks}
+use Rattle.kernel_meaning.specs.Slots.{Slots, Stand, Went, Quit, Stuck, slot_at, tree_value, set_slot, write as write_slots, store, branch, quit, then_go, do_task, do_tasks}
 use Rattle.kernel_meaning.specs.Resolve.{most_slots, slot_of, let_slot, number_tree, resolved, resolved_action, resolved_block, resolved_otherwise}
 use Rattle.kernel_meaning.proofs.Held.{Held, value-held, assigned-held, named-held, cut-held, held-length}
-use Rattle.kernel_meaning.proofs.Sames.{Alike, Neither, Words, Same, same, number-alike, address-word}
+use Rattle.kernel_meaning.proofs.Sames.{Alike, Neither, Words, same, number-alike, address-word}
 use Rattle.kernel_meaning.proofs.Growth.{Grows, grows_by_block, grows_by_action}
 
 -- more names are visible

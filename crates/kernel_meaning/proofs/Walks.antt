@@ -1,11 +1,10 @@
 -- Walks of an iteration that were worked out by hand.
-use Rattle.std.proofs.Common.{◌≡◌, List, [], ◌∷◌, ◌++◌, Bool, true, false, Some, None, refl}
+use Rattle.std.proofs.Common.{◌≡◌, [], ◌∷◌, Bool, true, false, Some, None, refl}
 use Rattle.std.specs.Prelude.{codes, pos}
 use Rattle.kernel_tree.specs.declared.ops.Ty.TheVariants as ty
 use Rattle.kernel_tree.specs.declared.ops.CompareOp.TheVariants as compare
-use Rattle.kernel_tree.specs.declared.ops.UpdateOp.TheVariants as update
 use Rattle.kernel_tree.specs.declared.ast.Shape.TheVariants as shape
-use Rattle.kernel_tree.specs.Plain.{Term, Literal, Variable, Element, Comparison, Either, Both, Put, Update, Choose, Leave, Done, Then, Else, Program}
+use Rattle.kernel_tree.specs.Plain.{Term, Literal, Variable, Element, Comparison, Either, Both, Put, Choose, Leave, Done, Then, Else, Program}
 use Rattle.kernel_meaning.specs.Reaches.{reached}
 
 abbrev at : Term

@@ -1,11 +1,11 @@
 -- What a run of at most some iterations answers is what the whole run does.
-use Rattle.std.proofs.Common.{◌≡◌, ℕ, zero, suc, ◌+◌, ◌-◌, ◌*◌, ◌<◌, ◌≤◌, List, [], ◌∷◌, Bool, true, false, cond, Option, Some, None, length, refl, sym, ap, ap₂, subst, ◌∙◌, arith, ltb}
-use Rattle.std.specs.Prelude.{ℤ, pos, nat_lt, min, if◌then◌else◌, option_map}
+use Rattle.std.proofs.Common.{◌≡◌, ℕ, zero, suc, ◌+◌, ◌-◌, ◌<◌, ◌≤◌, List, [], ◌∷◌, Bool, true, false, cond, Option, Some, None, length, refl, sym, ap, ap₂, subst, ◌∙◌, arith, ltb}
+use Rattle.std.specs.Prelude.{pos, nat_lt, min}
 use Rattle.std.proofs.lemmas.Bool.{ltb-true, ltb-false}
-use Rattle.kernel_tree.specs.Plain.{Term, Action, Define, Put, Update, Choose, Leave, Block, Done, Then, Otherwise, Nothing, Else, Accumulator, Turns, Returned, Program}
-use Rattle.kernel_tree.specs.Items.{term_size, action_size, block_size, otherwise_size, vars_size, turns_size, answer_size, loop_index, size_of}
-use Rattle.kernel_tree.specs.Limits.{most_items, most_depth, depth_of}
-use Rattle.kernel_tree.specs.Typing.{Scope, after_turns, var_scope, check_fault, Refusal, TooLarge, TooDeep, Fails, least, kernel_faults}
+use Rattle.kernel_tree.specs.Plain.{Action, Define, Put, Update, Choose, Leave, Block, Done, Then, Otherwise, Nothing, Else, Accumulator, Turns, Returned, Program}
+use Rattle.kernel_tree.specs.Items.{action_size, block_size, otherwise_size, vars_size, turns_size, loop_index, size_of}
+use Rattle.kernel_tree.specs.Limits.{most_items}
+use Rattle.kernel_tree.specs.Typing.{Scope, after_turns, var_scope, check_fault, Refusal, TooLarge}
 use Rattle.guest_types.specs.Memory.{Memory}
 use Rattle.kernel_meaning.specs.Eval.{Names}
 use Rattle.kernel_meaning.specs.Iterate.{Turn, Next, Broke, Faulted, with_name, iterate}
@@ -14,7 +14,7 @@ use Rattle.kernel_meaning.specs.Answers.{IsOutcome}
 use Rattle.kernel_meaning.specs.declared.outcome.ScalarOutcome.{ScalarOutcome}
 use Rattle.kernel_meaning.specs.declared.outcome.ScalarOutcome.TheVariants as outcome
 use Rattle.kernel_meaning.specs.Resolve.{most_slots}
-use Rattle.kernel_meaning.specs.Plans.{Limited, Ended, Cut, limited_of}
+use Rattle.kernel_meaning.specs.Plans.{Ended, Cut, limited_of}
 use Rattle.kernel_meaning.proofs.Turns.{action_lets, block_lets, otherwise_lets}
 use Rattle.kernel_meaning.proofs.Courses.{finish_limited, loop_limited, turns_limited, run_limited, turns_lets}
 

@@ -1,16 +1,15 @@
 -- A resolved kernel as plain data, and what it does with a memory and the values of its slots.
-use Rattle.std.specs.Prelude.{ℕ, zero, suc, ◌+◌, ◌-◌, ℤ, pos, List, [], ◌∷◌, ◌++◌, map, length, replicate, Option, Some, None, option_map, nat_lt, min, slice_set, if◌then◌else◌, true}
+use Rattle.std.specs.Prelude.{ℕ, zero, suc, ◌+◌, ◌-◌, pos, List, [], ◌∷◌, ◌++◌, map, length, replicate, Option, Some, None, option_map, nat_lt, min, slice_set, if◌then◌else◌, true}
 use Rattle.kernel_tree.specs.declared.fault.Binding.TheVariants as binding
-use Rattle.kernel_tree.specs.Plain.{Parameter, Accumulator, Turns, Returned, Program}
+use Rattle.kernel_tree.specs.Plain.{Accumulator, Turns, Returned, Program}
 use Rattle.kernel_tree.specs.Typing.{Scope, declared, in_loop, after_turns, param_scope, var_scope}
 use Rattle.guest_types.specs.Memory.{Memory}
 use Rattle.kernel_meaning.specs.Operators.{word}
 use Rattle.kernel_meaning.specs.Eval.{Names, value_of}
 use Rattle.kernel_meaning.specs.ScalarRun.{Run, End, Fault, ended}
-use Rattle.kernel_meaning.specs.Trees.{Tree, Task, Set, Tasks, Done, Then, tree_of, tasks_of}
+use Rattle.kernel_meaning.specs.Trees.{Tree, Set, Tasks, Done, Then, tree_of, tasks_of}
 use Rattle.kernel_meaning.specs.Slots.{Slots, Stand, Went, Quit, Stuck, slot_at, tree_value, do_tasks}
 use Rattle.kernel_meaning.specs.Resolve.{most_slots, slot_of, resolved, resolved_block}
-use Rattle.kernel_meaning.specs.declared.node.Node.{Node}
 use Rattle.kernel_meaning.specs.declared.plan.Cycle.{Cycle}
 use Rattle.kernel_meaning.specs.declared.plan.Plan.{Plan}
 use Rattle.kernel_meaning.specs.declared.outcome.ScalarOutcome.{ScalarOutcome}

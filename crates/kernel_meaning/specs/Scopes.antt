@@ -1,5 +1,5 @@
 -- What the code keeps of a scope, as the rules of typing have it.
-use Rattle.std.specs.Prelude.{ℕ, ◌∷◌, ◌++◌, [], List, map, take, Option, option_map, ◌||◌, Bool, bytes_eq}
+use Rattle.std.specs.Prelude.{ℕ, ◌∷◌, ◌++◌, [], List, map, take, Option, option_map, Bool, bytes_eq}
 use Rattle.std.specs.Borrow.{Bor}
 use Rattle.std.specs.List.{find}
 use Rattle.kernel_tree.specs.declared.fault.Binding.{Binding}

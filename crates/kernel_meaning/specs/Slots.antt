@@ -1,5 +1,5 @@
 -- What a resolved kernel does with a memory and the values of its slots.
-use Rattle.std.specs.Prelude.{ℕ, zero, suc, ◌+◌, ℤ, pos, List, Option, Some, None, option_map, option_and_then, Result, Ok, Err, Bool, true, false, not, slice_index_or, slice_set}
+use Rattle.std.specs.Prelude.{ℕ, ℤ, pos, List, Option, Some, None, option_map, option_and_then, Result, Ok, Err, Bool, true, false, not, slice_index_or, slice_set}
 use Rattle.kernel_tree.specs.declared.ops.Ty.{Ty}
 use Rattle.guest_types.specs.declared.memory.AccessFault.{AccessFault}
 use Rattle.guest_types.specs.Memory.{Memory, stored}

@@ -8,12 +8,7 @@ use crate::node::Node;
 use kernel_tree::{BinaryOp, CompareOp, Ty, UnaryOp};
 use std::alloc::{AllocError, Global};
 
-pub fn element(
-    alloc: Global,
-    base: usize,
-    ty: Option<Ty>,
-    number: Node,
-) -> Result<Node, AllocError>
+pub fn element(alloc: Global, base: usize, ty: Option<Ty>, number: Node) -> Result<Node, AllocError>
     ensures { IfOk result (λ n. tree_of n ≡ trees.Element base ty (tree_of number)) }
 {
     Ok(Node::Element {

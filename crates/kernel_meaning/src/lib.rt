@@ -26,3 +26,6 @@ mod words;
 
 pub use evaluator::scalar_run;
 pub use outcome::ScalarOutcome;
+
+#[cfg(test)]
+mod tests;

@@ -100,12 +100,7 @@ pub fn unary(op: UnaryOp, ty: Option<Ty>, value: Option<i128>) -> Option<i128>
 }
 
 /// What a binary operator gives at a type, unless an operand faults.
-pub fn binary(
-    op: BinaryOp,
-    ty: Option<Ty>,
-    left: Option<i128>,
-    right: Option<i128>,
-) -> Option<i128>
+pub fn binary(op: BinaryOp, ty: Option<Ty>, left: Option<i128>, right: Option<i128>) -> Option<i128>
     ensures { result ≡ eval.on_both (operators.binary_value op ty) left right }
 {
     match (left, right) {

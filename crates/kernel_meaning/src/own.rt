@@ -114,13 +114,7 @@ pub fn stream_offset(index: Option<&str>, expr: &Expr) -> Option<i128>
     ensures { result ≡ option_map (wraps.wrap ty.U64) (items.stream_offset (option_map text_of index.entry) (term_of expr.now)) }
 {
     match expr {
-        Expr::Var(name) => {
-            if is_index(index, name) {
-                Some(0)
-            } else {
-                None
-            }
-        }
+        Expr::Var(name) => { if is_index(index, name) { Some(0) } else { None } }
         Expr::Binary { op, left, right } => {
             if is_index_term(index, left) {
                 moved_by(*op, literal_value(right))

@@ -165,12 +165,7 @@ fn resolve_compared(
 }
 
 #[cycle(nodes)]
-fn resolve_both(
-    alloc: Global,
-    scope: &Scope,
-    left: &Expr,
-    right: &Expr,
-) -> Result<Node, AllocError>
+fn resolve_both(alloc: Global, scope: &Scope, left: &Expr, right: &Expr) -> Result<Node, AllocError>
     ensures { IfOk result (λ n. tree_of n ≡ trees.And (resolving.resolved (scope_of scope.now) None (term_of left.now)) (resolving.resolved (scope_of scope.now) None (term_of right.now))) }
 {
     let left = resolve(alloc, scope, None, left)?;

@@ -38,12 +38,7 @@ fn iterate<M: GuestMemory>(cycle: &Cycle, at: u64, memory: &mut M, slots: &mut [
 }
 
 // So many iterations.
-fn follow<M: GuestMemory>(
-    cycle: &Cycle,
-    count: u64,
-    memory: &mut M,
-    slots: &mut [i128],
-) -> Progress
+fn follow<M: GuestMemory>(cycle: &Cycle, count: u64, memory: &mut M, slots: &mut [i128]) -> Progress
     ensures { course_of result (M.memory memory.new) slots.new ≡ plans.slot_course (looped_of cycle.now) count 0 (M.memory memory.old) slots.old }
 {
     for at in 0..count {
@@ -116,14 +111,7 @@ fn finish<M: GuestMemory>(
                 close(answer, cycle.index, memory, slots, count, count)
             }
         }
-        Progress::Left(at) => close(
-            answer,
-            cycle.index,
-            memory,
-            slots,
-            at.number,
-            at.number + 1,
-        ),
+        Progress::Left(at) => close(answer, cycle.index, memory, slots, at.number, at.number + 1),
         Progress::Failed(at) => ScalarOutcome::Fault {
             begun: at.number + 1,
         },

@@ -7,7 +7,10 @@ use kernel_tree::Ty;
 #[derive(Drop)]
 pub enum Step {
     /// A slot takes a value.
-    Set { slot: usize, value: Node },
+    Set {
+        slot: usize,
+        value: Node,
+    },
     /// An element of the array whose address is in a slot takes a value.
     Store {
         base: usize,
@@ -20,5 +23,7 @@ pub enum Step {
         yes: Vec<Step>,
         no: Vec<Step>,
     },
-    Break { cond: Node },
+    Break {
+        cond: Node,
+    },
 }

@@ -26,7 +26,12 @@ pub fn value<M: GuestMemory>(node: &Node, memory: &M, slots: &[i128]) -> Option<
         Node::Constant(value) => Some(*value),
         Node::Slot(slot) => Some(slot_at(slots, *slot)),
         Node::Element { base, ty, number } => {
-            read(memory, *ty, slot_at(slots, *base), value(number, memory, slots))
+            read(
+                memory,
+                *ty,
+                slot_at(slots, *base),
+                value(number, memory, slots),
+            )
         }
         Node::Unary { op, ty, arg } => unary(*op, *ty, value(arg, memory, slots)),
         Node::Binary {

@@ -1,4 +1,4 @@
-use Rattle.std.proofs.Common.{◌≡◌, ℤ, rules, ap, ◌∙◌, arith, FitsSigned}
+use Rattle.std.proofs.Common.{rules, ap, ◌∙◌, FitsSigned}
 use Rattle.std.specs.Int.{w128}
 use Rattle.std.proofs.lemmas.Int.{to_z-of_z}
 use Rattle.kernel_meaning.specs.Operators.{word, unary_on}

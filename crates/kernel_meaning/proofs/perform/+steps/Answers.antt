@@ -1,4 +1,4 @@
-use Rattle.std.proofs.Common.{◌≡◌, List, ap, sym, ◌∙◌, arith, Some}
+use Rattle.std.proofs.Common.{List, ap, sym, ◌∙◌, arith, Some}
 use Rattle.kernel_meaning.specs.declared.step.Step.{Step}
 use Rattle.kernel_meaning.specs.Trees.{tree_of, tasks_of, task_of, task_depth, tasks_depth}
 use Rattle.kernel_meaning.specs.Slots.{do_tasks}

@@ -28,4 +28,3 @@ decreases-resolve_either l = 3 * max (term_depth (term_of l.left.now)) (term_dep
 
 abbrev pub decreases-resolve_select : goal.decreases-resolve_select
 decreases-resolve_select l = 3 * max (term_depth (term_of l.cond.now)) (max (term_depth (term_of l.yes.now)) (term_depth (term_of l.no.now))) + 1
-

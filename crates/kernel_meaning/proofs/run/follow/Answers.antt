@@ -1,4 +1,4 @@
-use Rattle.std.proofs.Common.{◌-◌, sym, ◌∙◌, arith}
+use Rattle.std.proofs.Common.{◌-◌, ◌∙◌, arith}
 use Rattle.kernel_meaning.specs.Slots.{Went, Quit, Stuck}
 use Rattle.kernel_meaning.specs.Plans.{looped_of}
 use Rattle.kernel_meaning.proofs.Turned.{course_step, course_done}
