@@ -1,11 +1,11 @@
 -- The class of worked kernels.
-use Rattle.std.proofs.Common.{◌≡◌, ℕ, ℤ, pos, negsuc, Bool, true, false, List, [], ◌∷◌, Option, Some, None, refl}
+use Rattle.std.proofs.Common.{◌≡◌, ℕ, pos, List, [], ◌∷◌, Some, None, refl}
 use Rattle.kernel_tree.specs.declared.ops.Ty.TheVariants as ty
 use Rattle.kernel_tree.specs.declared.ops.BinaryOp.TheVariants as binary
 use Rattle.kernel_tree.specs.declared.ops.CompareOp.TheVariants as compare
 use Rattle.kernel_tree.specs.declared.ops.UpdateOp.TheVariants as update
 use Rattle.kernel_tree.specs.declared.ast.Shape.TheVariants as shape
-use Rattle.kernel_tree.specs.Plain.{Term, Literal, Variable, Element, Unary, Operation, Shift, Conversion, Choice, Comparison, Both, Either, Not, Action, Define, Put, Update, Choose, Leave, Block, Done, Then, Otherwise, Nothing, Else, Program}
+use Rattle.kernel_tree.specs.Plain.{Literal, Variable, Element, Operation, Conversion, Comparison, Define, Put, Update, Choose, Leave, Done, Then, Nothing, Program}
 use Rattle.loop_form.specs.Entries.{item_type}
 use Rattle.loop_form.specs.Lanes.{widest}
 use Rattle.dependence.specs.declared.reason.Class.TheVariants.{Vector, Scalar}
@@ -215,4 +215,3 @@ behind-class = refl
 ahead-class : class_of ahead ≡ Vector
 unfolding item_type widest before_break carried
 ahead-class = refl
-

@@ -10,21 +10,10 @@ ghost use Rattle.loop_form.specs.Seen.{program, seen};
 
 use crate::entry::{Content, Entries};
 use crate::item::ItemKind;
+use crate::laws::{few_items, near_offsets};
 use crate::size::{statements_size, vars_size_of};
 use crate::walk::{list_block, list_ended, list_vars, put};
 use kernel_tree::{Answer, Checked, Loop, Param};
-
-/// A checked kernel has at most 1,000 items.
-pub fn is_small(kernel: &Checked)
-    ensures size { size_of (program kernel.now) ≤ 1000 }
-    ensures params { length (program kernel.now).params ≤ 1000 }
-    ensures vars { length (program kernel.now).vars ≤ 1000 }
-{}
-
-// The offsets of its stream indexes are in range.
-fn is_near(kernel: &Checked)
-    ensures { AreNear (loop_index (program kernel.now)) (loop_entries (program kernel.now)) }
-{}
 
 // The items of a loop.
 fn turns_size_of(kernel: &Checked, turns: &Option<Loop>) -> u32
@@ -92,7 +81,7 @@ pub fn entries(kernel: &Checked) -> Entries<'_>
     ensures len { array_vec_len result ≡ size_of (program kernel.now) }
     ensures small { array_vec_len result ≤ 1000 }
 {
-    is_small(kernel);
+    few_items(kernel);
     let tree = kernel.kernel();
     let vars = tree.params.len() as u32;
     let start = vars + vars_size_of(kernel, &tree.vars);
@@ -112,8 +101,8 @@ pub fn loop_entries(kernel: &Checked) -> Entries<'_>
     ensures near { AreNear (loop_index (program kernel.now)) (seen result.items) }
     ensures small { array_vec_len result ≤ 1000 }
 {
-    is_small(kernel);
-    is_near(kernel);
+    few_items(kernel);
+    near_offsets(kernel);
     let tree = kernel.kernel();
     let start = tree.params.len() as u32 + vars_size_of(kernel, &tree.vars);
     let mut entries = Entries::new();
