@@ -9,7 +9,7 @@ use Rattle.kernel_tree.specs.Plain.{Accumulator, Program}
 use Rattle.kernel_tree.specs.Items.{stream_offset, loop_index}
 use Rattle.loop_form.specs.declared.item.ItemKind.TheVariants as kind
 use Rattle.loop_form.specs.declared.stream.Stream.{Stream}
-use Rattle.loop_form.specs.Entries.{Content, IsLiteral, IsName, IsRead, IsLet, IsStore, IsUpdate, IsPlain, Entry, loop_entries}
+use Rattle.loop_form.specs.Entries.{Content, IsRead, IsStore, IsUpdate, IsPlain, Entry, loop_entries}
 use Rattle.loop_form.specs.Listing.{names}
 use Rattle.loop_form.specs.Streams.{streams_of}
 use Rattle.loop_form.specs.Lanes.{lane_width_of}

@@ -1,14 +1,14 @@
 -- A kernel has no more than two items for each of its tokens, and is no deeper than it has tokens.
-use Rattle.std.proofs.Common.{◌≡◌, ℕ, suc, ◌+◌, ◌*◌, ◌<◌, ◌≤◌, ◌^◌, List, [], ◌∷◌, length, Bool, Option, Some, None, refl, arith}
+use Rattle.std.proofs.Common.{◌≡◌, ℕ, ◌+◌, ◌*◌, ◌<◌, ◌≤◌, ◌^◌, List, length, Bool, Option, Some, None, refl, arith}
 use Rattle.std.specs.Prelude.{ℤ, max}
 use Rattle.kernel_tree.specs.declared.mark.Joint.{Joint}
 use Rattle.kernel_tree.specs.declared.mark.Joint.TheVariants as joint
 use Rattle.kernel_tree.specs.declared.mark.Sign.{Sign}
 use Rattle.kernel_tree.specs.declared.mark.Sign.TheVariants as sign
 use Rattle.kernel_tree.specs.Word.{Word}
-use Rattle.kernel_tree.specs.Plain.{Term, Action, Block, Otherwise, Parameter, Accumulator, Turns, Returned, Program}
+use Rattle.kernel_tree.specs.Plain.{Term, Action, Block, Parameter, Accumulator, Turns, Program}
 use Rattle.kernel_tree.specs.Items.{stream_offset, index_size, term_size, action_size, block_size, vars_size, turns_size, loop_index, size_of}
-use Rattle.kernel_tree.specs.Limits.{most_tokens, term_depth, action_depth, block_depth, vars_depth, turns_depth, depth_of}
+use Rattle.kernel_tree.specs.Limits.{term_depth, action_depth, block_depth, vars_depth, turns_depth, depth_of}
 use Rattle.kernel_tree.specs.Grammar.{Spells, number, name, element, group, pair, absolute, choice, negative, prefix, up, conversion, shift, operation, comparison, joined, signed, SpellsType, untyped, typed, SpellsAction, define, put, update, choose, choose_else, leave, SpellsBlock, done, then, SpellsParam, scalar, array, SpellsSome, last, more, SpellsParams, none, some, SpellsVars, no_var, var, SpellsLoop, no_loop, loop, Tree, procedure, function}
 use Rattle.kernel_types.specs.Short.{IsShort}
 

@@ -1,5 +1,5 @@
 -- The first of two lists of faults is the first of what comes first in each.
-use Rattle.std.proofs.Common.{◌≡◌, ℕ, ◌+◌, ◌*◌, ◌<◌, ◌≤◌, Bool, true, false, cond, List, [], ◌∷◌, ◌++◌, Option, Some, None, refl, sym, ap, ap₂, ◌∙◌, arith, ltb, inl, inr}
+use Rattle.std.proofs.Common.{◌≡◌, ℕ, ◌+◌, ◌*◌, Bool, true, false, List, [], ◌∷◌, ◌++◌, Option, Some, None, refl, sym, ap, ap₂, ◌∙◌, arith, ltb}
 use Rattle.std.proofs.lemmas.Bool.{ltb-true, ltb-false}
 use Rattle.kernel_tree.specs.declared.fault.Found.{Found}
 use Rattle.kernel_tree.specs.Typing.{sooner, is_before, least, number_of}
@@ -35,6 +35,6 @@ pub ruleset sooner_rules = (sooner-none, sooner-assoc, least-append)
 pub part_and_item : (o p q : Option Found) (n m : ℕ) (fs gs : List Found) (at : ℕ → List Found) → n ≡ m → p ≡ sooner o (least fs) → fs ≡ gs → q ≡ sooner p (least (at n)) → q ≡ sooner o (least (gs ++ at m))
 part_and_item o p q n m fs gs at d e h f =
     f
-      ∙ ap₂ sooner (e ∙ ap (λ (xs : List Found). sooner o (least xs)) h) (ap (λ (k : ℕ). least (at k)) d)
-      ∙ sooner-assoc o (least gs) (least (at m))
-      ∙ ap (sooner o) (sym (least-append gs (at m)))
+    ∙ ap₂ sooner (e ∙ ap (λ (xs : List Found). sooner o (least xs)) h) (ap (λ (k : ℕ). least (at k)) d)
+    ∙ sooner-assoc o (least gs) (least (at m))
+    ∙ ap (sooner o) (sym (least-append gs (at m)))

@@ -6,3 +6,4 @@ pub mod Steps
 pub mod Whole
 pub mod Bounds
 pub mod Refused
+pub mod Example

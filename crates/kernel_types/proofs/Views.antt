@@ -1,5 +1,5 @@
 -- Names that the code keeps, as the scope of the rules of typing has them.
-use Rattle.std.proofs.Common.{◌≡◌, ℕ, List, [], ◌∷◌, ◌++◌, Bool, true, false, cond, Option, Some, None, map, take, refl, sym, ap, ◌∙◌}
+use Rattle.std.proofs.Common.{◌≡◌, ℕ, List, [], ◌∷◌, Bool, true, false, Option, map, take, refl, ap}
 use Rattle.std.specs.Prelude.{bytes_eq, option_map, ◌||◌}
 use Rattle.std.specs.List.{find, list_any}
 use Rattle.std.specs.Borrow.{Bor}
@@ -7,7 +7,7 @@ use Rattle.std.proofs.lemmas.List.{take-map}
 use Rattle.kernel_tree.specs.declared.fault.Binding.{Binding}
 use Rattle.kernel_tree.specs.Typing as typing
 use Rattle.kernel_types.specs.declared.scope.Local.{Local}
-use Rattle.kernel_types.specs.Scopes.{text_of, local_of, named, binding_in, binding_among, is_text, is_among}
+use Rattle.kernel_types.specs.Scopes.{text_of, local_of, named, binding_among, is_text, is_among}
 
 abbrev found : List Local → List ℕ → Option Binding
 found ls x = option_map typing.binding_of (find (typing.has_name x) (map local_of ls))
@@ -29,4 +29,3 @@ take_locals n ls = take-map local_of n ls
 
 pub take_texts : (n : ℕ) (ts : List (Bor (List ℕ))) → take n (map text_of ts) ≡ map text_of (take n ts)
 take_texts n ts = take-map text_of n ts
-

@@ -1,12 +1,12 @@
 -- The walks over the parts of a kernel, put together.
-use Rattle.std.proofs.Common.{◌≡◌, ℕ, ◌+◌, ◌<◌, ◌^◌, List, [], ◌∷◌, ◌++◌, Option, Some, None, Bool, false, length, map, refl, sym, ap, ap₂, ◌∙◌, arith}
+use Rattle.std.proofs.Common.{◌≡◌, ℕ, ◌+◌, ◌<◌, ◌^◌, List, [], ◌∷◌, ◌++◌, Option, Some, None, false, length, refl, sym, ap, ap₂, ◌∙◌, arith}
 use Rattle.std.proofs.lemmas.List.{length-map}
 use Rattle.kernel_tree.specs.declared.ast.Param.{Param}
 use Rattle.kernel_tree.specs.declared.fault.Found.{Found}
-use Rattle.kernel_tree.specs.Plain.{Parameter, Accumulator, Turns, Returned, Program, parameter_of, parameters_of}
+use Rattle.kernel_tree.specs.Plain.{Parameter, Accumulator, Turns, Program, parameter_of, parameters_of}
 use Rattle.kernel_tree.specs.Items.{vars_size, turns_size, answer_size, loop_index, size_of}
 use Rattle.kernel_tree.specs.Typing.{Local, Scope, empty, after_params, after_vars, after_turns, param_scope, var_scope, params_faults, vars_faults, turns_faults, answer_faults, kernel_faults, sooner, least}
-use Rattle.kernel_types.proofs.Least.{sooner-assoc, sooner-none, least-append}
+use Rattle.kernel_types.proofs.Least.{sooner-assoc, least-append}
 use Rattle.kernel_types.specs.Scopes.{after_param, after_var}
 
 index_after_params : (s : Scope) (ps : List Parameter) → (after_params s ps).index ≡ s.index
@@ -87,10 +87,11 @@ whole k s₀ s₁ s₂ s₃ n₁ n₂ n₃ ps vs o₁ o₂ o₃ o₄ a b c d e f
   where
     parts : (o q : Option Found) (xs ys : List Found) → o ≡ q → xs ≡ ys → sooner o (least xs) ≡ sooner q (least ys)
     parts o q xs ys e f = ap₂ (λ (x : Option Found) (zs : List Found). sooner x (least zs)) e f
+
     joined : (p v t r : List Found) → sooner (sooner (sooner (least p) (least v)) (least t)) (least r) ≡ least (p ++ (v ++ (t ++ r)))
     joined p v t r =
         sooner-assoc (sooner (least p) (least v)) (least t) (least r)
-          ∙ ap (sooner (sooner (least p) (least v))) (sym (least-append t r))
-          ∙ sooner-assoc (least p) (least v) (least (t ++ r))
-          ∙ ap (sooner (least p)) (sym (least-append v (t ++ r)))
-          ∙ sym (least-append p (v ++ (t ++ r)))
+        ∙ ap (sooner (sooner (least p) (least v))) (sym (least-append t r))
+        ∙ sooner-assoc (least p) (least v) (least (t ++ r))
+        ∙ ap (sooner (least p)) (sym (least-append v (t ++ r)))
+        ∙ sym (least-append p (v ++ (t ++ r)))

@@ -1,5 +1,5 @@
 -- What the answer to a kernel that is refused says of it.
-use Rattle.std.specs.Prelude.{◌≡◌, ℕ, Option, Some, None}
+use Rattle.std.specs.Prelude.{◌≡◌, ℕ, Option, Some}
 use Rattle.kernel_tree.specs.declared.fault.Fault.{Fault}
 use Rattle.kernel_tree.specs.declared.fault.Fault.TheVariants as fault
 use Rattle.kernel_tree.specs.Typing.{Refusal, TooLarge, TooDeep, Fails}

@@ -1,5 +1,5 @@
 -- Kernels whose text is not too long.
-use Rattle.std.specs.Prelude.{ℕ, ◌≤◌, List, length, IsTrue}
+use Rattle.std.specs.Prelude.{◌≤◌, List, length, IsTrue}
 use Rattle.kernel_tree.specs.Word.{Word}
 use Rattle.kernel_tree.specs.Tokens.{are_tokens}
 use Rattle.kernel_tree.specs.Plain.{Program}

@@ -61,11 +61,7 @@ fn walk_params<'a>(
 }
 
 #[tactic(auto, using(crate::proofs::Least::sooner_rules))]
-fn walk_var<'a>(
-    notes: &mut Notes,
-    scope: &mut Scope<'a>,
-    var: &'a Var,
-) -> Result<(), AllocError>
+fn walk_var<'a>(notes: &mut Notes, scope: &mut Scope<'a>, var: &'a Var) -> Result<(), AllocError>
     requires { notes.old.next + items.term_size (scope_of scope.old).index (term_of var.now.init) + 1 < 2 ^ 32 }
     ensures scope { IfOk result (λ _. scope_of scope.new ≡ after_var (scope_of scope.old) (accumulator_of var.now)) }
     ensures next { IfOk result (λ _. notes.new.next ≡ notes.old.next + (items.term_size (scope_of scope.old).index (term_of var.now.init) + 1)) }
@@ -98,7 +94,11 @@ fn walk_vars<'a>(
 
 // Goes over the body of a loop, behind which what it declared is forgotten.
 #[tactic(auto, using(crate::proofs::Least::sooner_rules))]
-fn walk_body<'a>(notes: &mut Notes, scope: &mut Scope<'a>, block: &'a [Stmt]) -> Result<(), AllocError>
+fn walk_body<'a>(
+    notes: &mut Notes,
+    scope: &mut Scope<'a>,
+    block: &'a [Stmt],
+) -> Result<(), AllocError>
     requires room { notes.old.next + items.block_size (scope_of scope.old).index (block_of block.now) < 2 ^ 32 }
     requires outside { scope.old.inside ≡ false }
     ensures scope { IfOk result (λ _. scope_of scope.new ≡ (scope_of scope.old)) }
@@ -115,7 +115,11 @@ fn walk_body<'a>(notes: &mut Notes, scope: &mut Scope<'a>, block: &'a [Stmt]) ->
 }
 
 #[tactic(auto, using(crate::proofs::Least::sooner_rules))]
-fn walk_loop<'a>(notes: &mut Notes, scope: &mut Scope<'a>, turns: &'a Loop) -> Result<(), AllocError>
+fn walk_loop<'a>(
+    notes: &mut Notes,
+    scope: &mut Scope<'a>,
+    turns: &'a Loop,
+) -> Result<(), AllocError>
     requires room { notes.old.next + items.turns_size (Some (turns_of turns.now)) < 2 ^ 32 }
     requires outside { scope.old.inside ≡ false }
     requires index { (scope_of scope.old).index ≡ Some (items.index_of (turns_of turns.now)) }
@@ -133,7 +137,11 @@ fn walk_loop<'a>(notes: &mut Notes, scope: &mut Scope<'a>, turns: &'a Loop) -> R
     Ok(())
 }
 
-fn walk_turns<'a>(notes: &mut Notes, scope: &mut Scope<'a>, turns: &'a Option<Loop>) -> Result<(), AllocError>
+fn walk_turns<'a>(
+    notes: &mut Notes,
+    scope: &mut Scope<'a>,
+    turns: &'a Option<Loop>,
+) -> Result<(), AllocError>
     requires room { notes.old.next + items.turns_size (option_map turns_of turns.now) < 2 ^ 32 }
     requires outside { scope.old.inside ≡ false }
     requires index { (scope_of scope.old).index ≡ option_map items.index_of (option_map turns_of turns.now) }

@@ -11,6 +11,8 @@ mod rules;
 mod scope;
 mod statements;
 mod terms;
+#[cfg(test)]
+mod tests;
 
 pub use checker::check;
 pub use fault::TypeFault;

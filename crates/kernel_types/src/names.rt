@@ -6,8 +6,8 @@ ghost use Rattle.kernel_tree.specs.Typing as typing;
 ghost use Rattle.kernel_types.specs.Scopes.{scope_of, binding_among, is_among, reserved, kept, closed};
 
 use crate::scope::{Local, Scope};
-use kernel_tree::{Name, Ty};
 use kernel_tree::fault::Binding;
+use kernel_tree::{Name, Ty};
 use std::alloc::AllocError;
 
 fn binding_among(locals: &[Local], text: &str) -> Option<Binding>

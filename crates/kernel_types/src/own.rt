@@ -109,13 +109,7 @@ pub fn stream_distance(index: Option<&str>, expr: &Expr) -> Option<u128>
     ensures { result ≡ distance_of (items.stream_offset (option_map text_of index.entry) (term_of expr.now)) }
 {
     match expr {
-        Expr::Var(name) => {
-            if is_index(index, name) {
-                Some(0)
-            } else {
-                None
-            }
-        }
+        Expr::Var(name) => { if is_index(index, name) { Some(0) } else { None } }
         Expr::Binary { op, left, right } => {
             if is_index_term(index, left) {
                 moved_by(*op, literal_value(right))

@@ -123,11 +123,7 @@ pub fn name_fault(item: u32, want: Option<Ty>, binding: Option<Binding>) -> Opti
 fn read_type(inside: bool, binding: Binding) -> Option<Ty>
     ensures { result ≡ typing.read_type inside binding }
 {
-    if inside {
-        element_type(binding)
-    } else {
-        None
-    }
+    if inside { element_type(binding) } else { None }
 }
 
 /// The array of a read.

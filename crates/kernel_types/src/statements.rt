@@ -16,7 +16,13 @@ use kernel_tree::{Expr, Name, Stmt, Ty};
 use std::alloc::AllocError;
 
 #[tactic(auto, using(crate::proofs::Least::sooner_rules))]
-fn walk_let<'a>(notes: &mut Notes, scope: &mut Scope<'a>, name: &'a Name, ty: Option<Ty>, value: &Expr) -> Result<(), AllocError>
+fn walk_let<'a>(
+    notes: &mut Notes,
+    scope: &mut Scope<'a>,
+    name: &'a Name,
+    ty: Option<Ty>,
+    value: &Expr,
+) -> Result<(), AllocError>
     requires { notes.old.next + (items.action_size (scope_of scope.old).index (Define (name_of name.now) ty (term_of value.now))) < 2 ^ 32 }
     ensures scope { IfOk result (λ _. scope_of scope.new ≡ typing.after_action (scope_of scope.old) (Define (name_of name.now) ty (term_of value.now))) }
     ensures next { IfOk result (λ _. notes.new.next ≡ notes.old.next + (items.action_size (scope_of scope.old).index (Define (name_of name.now) ty (term_of value.now)))) }
@@ -33,14 +39,25 @@ fn walk_let<'a>(notes: &mut Notes, scope: &mut Scope<'a>, name: &'a Name, ty: Op
 }
 
 #[tactic(auto, using(crate::proofs::Least::sooner_rules))]
-fn walk_store(notes: &mut Notes, scope: &Scope, array: &Name, index: &Expr, value: &Expr) -> Result<(), AllocError>
+fn walk_store(
+    notes: &mut Notes,
+    scope: &Scope,
+    array: &Name,
+    index: &Expr,
+    value: &Expr,
+) -> Result<(), AllocError>
     requires { notes.old.next + (items.action_size (scope_of scope.now).index (Put (name_of array.now) (term_of index.now) (term_of value.now))) < 2 ^ 32 }
     ensures next { IfOk result (λ _. notes.new.next ≡ notes.old.next + (items.action_size (scope_of scope.now).index (Put (name_of array.now) (term_of index.now) (term_of value.now)))) }
     ensures found { IfOk result (λ _. notes.new.found ≡ typing.sooner notes.old.found (typing.least (typing.action_faults (scope_of scope.now) notes.old.next (Put (name_of array.now) (term_of index.now) (term_of value.now))))) }
     ensures types { IfOk result (λ _. notes.new.types.items ≡ notes.old.types.items ++ typing.action_types (scope_of scope.now) (Put (name_of array.now) (term_of index.now) (term_of value.now))) }
 {
     let target = lookup(scope, array);
-    walk_expr(notes, scope, Role::Value(target.and_then(element_type)), value)?;
+    walk_expr(
+        notes,
+        scope,
+        Role::Value(target.and_then(element_type)),
+        value,
+    )?;
     let item = notes.next;
     let distance = stream_distance(scope.index, index);
     let found = sooner(target_fault(item, target), stream_fault(item, distance));
@@ -49,14 +66,24 @@ fn walk_store(notes: &mut Notes, scope: &Scope, array: &Name, index: &Expr, valu
 }
 
 #[tactic(auto, using(crate::proofs::Least::sooner_rules))]
-fn walk_update(notes: &mut Notes, scope: &Scope, name: &Name, value: &Expr) -> Result<(), AllocError>
+fn walk_update(
+    notes: &mut Notes,
+    scope: &Scope,
+    name: &Name,
+    value: &Expr,
+) -> Result<(), AllocError>
     requires { notes.old.next + (items.action_size (scope_of scope.now).index (Update (name_of name.now) update.Add (term_of value.now))) < 2 ^ 32 }
     ensures next { IfOk result (λ _. notes.new.next ≡ notes.old.next + (items.action_size (scope_of scope.now).index (Update (name_of name.now) update.Add (term_of value.now)))) }
     ensures found { IfOk result (λ _. notes.new.found ≡ typing.sooner notes.old.found (typing.least (typing.action_faults (scope_of scope.now) notes.old.next (Update (name_of name.now) update.Add (term_of value.now))))) }
     ensures types { IfOk result (λ _. notes.new.types.items ≡ notes.old.types.items ++ typing.action_types (scope_of scope.now) (Update (name_of name.now) update.Add (term_of value.now))) }
 {
     let target = lookup(scope, name);
-    walk_expr(notes, scope, Role::Value(target.and_then(accumulator_type)), value)?;
+    walk_expr(
+        notes,
+        scope,
+        Role::Value(target.and_then(accumulator_type)),
+        value,
+    )?;
     end(notes, update_fault(notes.next, target), None)?;
     Ok(())
 }
@@ -123,7 +150,12 @@ fn walk_stmt<'a>(notes: &mut Notes, scope: &mut Scope<'a>, stmt: &'a Stmt) -> Re
 // An `if` with one block.
 #[cycle(statements)]
 #[tactic(auto, using(crate::proofs::Least::sooner_rules))]
-fn walk_if<'a>(notes: &mut Notes, scope: &mut Scope<'a>, cond: &Expr, block: &'a [Stmt]) -> Result<(), AllocError>
+fn walk_if<'a>(
+    notes: &mut Notes,
+    scope: &mut Scope<'a>,
+    cond: &Expr,
+    block: &'a [Stmt],
+) -> Result<(), AllocError>
     requires { notes.old.next + items.action_size (scope_of scope.old).index (Choose (term_of cond.now) (block_of block.now) Nothing) < 2 ^ 32 }
     ensures scope { IfOk result (λ _. scope_of scope.new ≡ typing.after_action (scope_of scope.old) (Choose (term_of cond.now) (block_of block.now) Nothing)) }
     ensures next { IfOk result (λ _. notes.new.next ≡ notes.old.next + items.action_size (scope_of scope.old).index (Choose (term_of cond.now) (block_of block.now) Nothing)) }
@@ -140,7 +172,13 @@ fn walk_if<'a>(notes: &mut Notes, scope: &mut Scope<'a>, cond: &Expr, block: &'a
 // An `if` with two blocks.
 #[cycle(statements)]
 #[tactic(auto, using(crate::proofs::Least::sooner_rules))]
-fn walk_if_else<'a>(notes: &mut Notes, scope: &mut Scope<'a>, cond: &Expr, block: &'a [Stmt], other: &'a [Stmt]) -> Result<(), AllocError>
+fn walk_if_else<'a>(
+    notes: &mut Notes,
+    scope: &mut Scope<'a>,
+    cond: &Expr,
+    block: &'a [Stmt],
+    other: &'a [Stmt],
+) -> Result<(), AllocError>
     requires { notes.old.next + items.action_size (scope_of scope.old).index (Choose (term_of cond.now) (block_of block.now) (Else (block_of other.now))) < 2 ^ 32 }
     ensures scope { IfOk result (λ _. scope_of scope.new ≡ typing.after_action (scope_of scope.old) (Choose (term_of cond.now) (block_of block.now) (Else (block_of other.now)))) }
     ensures next { IfOk result (λ _. notes.new.next ≡ notes.old.next + items.action_size (scope_of scope.old).index (Choose (term_of cond.now) (block_of block.now) (Else (block_of other.now)))) }
@@ -159,7 +197,11 @@ fn walk_if_else<'a>(notes: &mut Notes, scope: &mut Scope<'a>, cond: &Expr, block
 // A block, behind which its names are visible no more.
 #[cycle(statements)]
 #[tactic(auto, using(crate::proofs::Least::sooner_rules))]
-fn walk_inner<'a>(notes: &mut Notes, scope: &mut Scope<'a>, block: &'a [Stmt]) -> Result<(), AllocError>
+fn walk_inner<'a>(
+    notes: &mut Notes,
+    scope: &mut Scope<'a>,
+    block: &'a [Stmt],
+) -> Result<(), AllocError>
     requires { notes.old.next + (items.block_size (scope_of scope.old).index (block_of block.now)) < 2 ^ 32 }
     ensures scope { IfOk result (λ _. scope_of scope.new ≡ typing.left (scope_of scope.old) (typing.after_block (scope_of scope.old) (block_of block.now))) }
     ensures next { IfOk result (λ _. notes.new.next ≡ notes.old.next + (items.block_size (scope_of scope.old).index (block_of block.now))) }
@@ -175,7 +217,11 @@ fn walk_inner<'a>(notes: &mut Notes, scope: &mut Scope<'a>, block: &'a [Stmt]) -
 /// Goes over statements, behind which their names stay visible.
 #[cycle(statements)]
 #[tactic(auto, using(crate::proofs::Least::sooner_rules))]
-pub fn walk_block<'a>(notes: &mut Notes, scope: &mut Scope<'a>, block: &'a [Stmt]) -> Result<(), AllocError>
+pub fn walk_block<'a>(
+    notes: &mut Notes,
+    scope: &mut Scope<'a>,
+    block: &'a [Stmt],
+) -> Result<(), AllocError>
     requires { notes.old.next + (items.block_size (scope_of scope.old).index (block_of block.now)) < 2 ^ 32 }
     ensures scope { IfOk result (λ _. scope_of scope.new ≡ typing.after_block (scope_of scope.old) (block_of block.now)) }
     ensures next { IfOk result (λ _. notes.new.next ≡ notes.old.next + (items.block_size (scope_of scope.old).index (block_of block.now))) }

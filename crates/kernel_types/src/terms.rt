@@ -83,7 +83,12 @@ fn end_shift(notes: &mut Notes, role: Role, count: i128) -> Result<(), AllocErro
 /// Goes over an expression in a place of this role.
 #[cycle(terms)]
 #[tactic(auto, using(crate::proofs::Least::sooner_rules))]
-pub fn walk_expr(notes: &mut Notes, scope: &Scope, role: Role, expr: &Expr) -> Result<(), AllocError>
+pub fn walk_expr(
+    notes: &mut Notes,
+    scope: &Scope,
+    role: Role,
+    expr: &Expr,
+) -> Result<(), AllocError>
     requires { notes.old.next + items.term_size (scope_of scope.now).index (term_of expr.now) < 2 ^ 32 }
     ensures next { IfOk result (λ _. notes.new.next ≡ notes.old.next + items.term_size (scope_of scope.now).index (term_of expr.now)) }
     ensures found { IfOk result (λ _. notes.new.found ≡ typing.sooner notes.old.found (typing.least (typing.faults (scope_of scope.now) notes.old.next (role_of role) (term_of expr.now)))) }
@@ -127,7 +132,13 @@ fn walk_index(notes: &mut Notes, scope: &Scope, index: &Expr) -> Result<(), Allo
 
 #[cycle(terms)]
 #[tactic(auto, using(crate::proofs::Least::sooner_rules))]
-fn walk_read(notes: &mut Notes, scope: &Scope, role: Role, array: &Name, index: &Expr) -> Result<(), AllocError>
+fn walk_read(
+    notes: &mut Notes,
+    scope: &Scope,
+    role: Role,
+    array: &Name,
+    index: &Expr,
+) -> Result<(), AllocError>
     requires { notes.old.next + items.term_size (scope_of scope.now).index (Element (name_of array.now) (term_of index.now)) < 2 ^ 32 }
     ensures next { IfOk result (λ _. notes.new.next ≡ notes.old.next + items.term_size (scope_of scope.now).index (Element (name_of array.now) (term_of index.now))) }
     ensures found { IfOk result (λ _. notes.new.found ≡ typing.sooner notes.old.found (typing.least (typing.faults (scope_of scope.now) notes.old.next (role_of role) (Element (name_of array.now) (term_of index.now))))) }
@@ -159,7 +170,13 @@ fn walk_unary(notes: &mut Notes, scope: &Scope, role: Role, arg: &Expr) -> Resul
 
 #[cycle(terms)]
 #[tactic(auto, using(crate::proofs::Least::sooner_rules))]
-fn walk_binary(notes: &mut Notes, scope: &Scope, role: Role, left: &Expr, right: &Expr) -> Result<(), AllocError>
+fn walk_binary(
+    notes: &mut Notes,
+    scope: &Scope,
+    role: Role,
+    left: &Expr,
+    right: &Expr,
+) -> Result<(), AllocError>
     requires { notes.old.next + items.term_size (scope_of scope.now).index (Operation binary.Add (term_of left.now) (term_of right.now)) < 2 ^ 32 }
     ensures next { IfOk result (λ _. notes.new.next ≡ notes.old.next + items.term_size (scope_of scope.now).index (Operation binary.Add (term_of left.now) (term_of right.now))) }
     ensures found { IfOk result (λ _. notes.new.found ≡ typing.sooner notes.old.found (typing.least (typing.faults (scope_of scope.now) notes.old.next (role_of role) (Operation binary.Add (term_of left.now) (term_of right.now))))) }
@@ -174,7 +191,13 @@ fn walk_binary(notes: &mut Notes, scope: &Scope, role: Role, left: &Expr, right:
 
 #[cycle(terms)]
 #[tactic(auto, using(crate::proofs::Least::sooner_rules))]
-fn walk_shift(notes: &mut Notes, scope: &Scope, role: Role, arg: &Expr, count: i128) -> Result<(), AllocError>
+fn walk_shift(
+    notes: &mut Notes,
+    scope: &Scope,
+    role: Role,
+    arg: &Expr,
+    count: i128,
+) -> Result<(), AllocError>
     requires { notes.old.next + items.term_size (scope_of scope.now).index (Shift true (term_of arg.now) count) < 2 ^ 32 }
     ensures next { IfOk result (λ _. notes.new.next ≡ notes.old.next + items.term_size (scope_of scope.now).index (Shift true (term_of arg.now) count)) }
     ensures found { IfOk result (λ _. notes.new.found ≡ typing.sooner notes.old.found (typing.least (typing.faults (scope_of scope.now) notes.old.next (role_of role) (Shift true (term_of arg.now) count)))) }
@@ -187,7 +210,13 @@ fn walk_shift(notes: &mut Notes, scope: &Scope, role: Role, arg: &Expr, count: i
 
 #[cycle(terms)]
 #[tactic(auto, using(crate::proofs::Least::sooner_rules))]
-fn walk_cast(notes: &mut Notes, scope: &Scope, role: Role, arg: &Expr, ty: Ty) -> Result<(), AllocError>
+fn walk_cast(
+    notes: &mut Notes,
+    scope: &Scope,
+    role: Role,
+    arg: &Expr,
+    ty: Ty,
+) -> Result<(), AllocError>
     requires { notes.old.next + items.term_size (scope_of scope.now).index (Conversion (term_of arg.now) ty) < 2 ^ 32 }
     ensures next { IfOk result (λ _. notes.new.next ≡ notes.old.next + items.term_size (scope_of scope.now).index (Conversion (term_of arg.now) ty)) }
     ensures found { IfOk result (λ _. notes.new.found ≡ typing.sooner notes.old.found (typing.least (typing.faults (scope_of scope.now) notes.old.next (role_of role) (Conversion (term_of arg.now) ty)))) }
@@ -204,7 +233,14 @@ fn walk_cast(notes: &mut Notes, scope: &Scope, role: Role, arg: &Expr, ty: Ty) -
 
 #[cycle(terms)]
 #[tactic(auto, using(crate::proofs::Least::sooner_rules))]
-fn walk_select(notes: &mut Notes, scope: &Scope, role: Role, cond: &Expr, yes: &Expr, no: &Expr) -> Result<(), AllocError>
+fn walk_select(
+    notes: &mut Notes,
+    scope: &Scope,
+    role: Role,
+    cond: &Expr,
+    yes: &Expr,
+    no: &Expr,
+) -> Result<(), AllocError>
     requires { notes.old.next + items.term_size (scope_of scope.now).index (Choice (term_of cond.now) (term_of yes.now) (term_of no.now)) < 2 ^ 32 }
     ensures next { IfOk result (λ _. notes.new.next ≡ notes.old.next + items.term_size (scope_of scope.now).index (Choice (term_of cond.now) (term_of yes.now) (term_of no.now))) }
     ensures found { IfOk result (λ _. notes.new.found ≡ typing.sooner notes.old.found (typing.least (typing.faults (scope_of scope.now) notes.old.next (role_of role) (Choice (term_of cond.now) (term_of yes.now) (term_of no.now))))) }
@@ -220,7 +256,13 @@ fn walk_select(notes: &mut Notes, scope: &Scope, role: Role, cond: &Expr, yes: &
 
 #[cycle(terms)]
 #[tactic(auto, using(crate::proofs::Least::sooner_rules))]
-fn walk_compare(notes: &mut Notes, scope: &Scope, role: Role, left: &Expr, right: &Expr) -> Result<(), AllocError>
+fn walk_compare(
+    notes: &mut Notes,
+    scope: &Scope,
+    role: Role,
+    left: &Expr,
+    right: &Expr,
+) -> Result<(), AllocError>
     requires { notes.old.next + items.term_size (scope_of scope.now).index (Comparison compare.Eq (term_of left.now) (term_of right.now)) < 2 ^ 32 }
     ensures next { IfOk result (λ _. notes.new.next ≡ notes.old.next + items.term_size (scope_of scope.now).index (Comparison compare.Eq (term_of left.now) (term_of right.now))) }
     ensures found { IfOk result (λ _. notes.new.found ≡ typing.sooner notes.old.found (typing.least (typing.faults (scope_of scope.now) notes.old.next (role_of role) (Comparison compare.Eq (term_of left.now) (term_of right.now))))) }
@@ -237,7 +279,13 @@ fn walk_compare(notes: &mut Notes, scope: &Scope, role: Role, left: &Expr, right
 
 #[cycle(terms)]
 #[tactic(auto, using(crate::proofs::Least::sooner_rules))]
-fn walk_and(notes: &mut Notes, scope: &Scope, role: Role, left: &Expr, right: &Expr) -> Result<(), AllocError>
+fn walk_and(
+    notes: &mut Notes,
+    scope: &Scope,
+    role: Role,
+    left: &Expr,
+    right: &Expr,
+) -> Result<(), AllocError>
     requires { notes.old.next + items.term_size (scope_of scope.now).index (Both (term_of left.now) (term_of right.now)) < 2 ^ 32 }
     ensures next { IfOk result (λ _. notes.new.next ≡ notes.old.next + items.term_size (scope_of scope.now).index (Both (term_of left.now) (term_of right.now))) }
     ensures found { IfOk result (λ _. notes.new.found ≡ typing.sooner notes.old.found (typing.least (typing.faults (scope_of scope.now) notes.old.next (role_of role) (Both (term_of left.now) (term_of right.now))))) }
@@ -251,7 +299,13 @@ fn walk_and(notes: &mut Notes, scope: &Scope, role: Role, left: &Expr, right: &E
 
 #[cycle(terms)]
 #[tactic(auto, using(crate::proofs::Least::sooner_rules))]
-fn walk_or(notes: &mut Notes, scope: &Scope, role: Role, left: &Expr, right: &Expr) -> Result<(), AllocError>
+fn walk_or(
+    notes: &mut Notes,
+    scope: &Scope,
+    role: Role,
+    left: &Expr,
+    right: &Expr,
+) -> Result<(), AllocError>
     requires { notes.old.next + items.term_size (scope_of scope.now).index (Either (term_of left.now) (term_of right.now)) < 2 ^ 32 }
     ensures next { IfOk result (λ _. notes.new.next ≡ notes.old.next + items.term_size (scope_of scope.now).index (Either (term_of left.now) (term_of right.now))) }
     ensures found { IfOk result (λ _. notes.new.found ≡ typing.sooner notes.old.found (typing.least (typing.faults (scope_of scope.now) notes.old.next (role_of role) (Either (term_of left.now) (term_of right.now))))) }

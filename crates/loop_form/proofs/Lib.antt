@@ -1,3 +1,4 @@
 pub mod Limits
 pub mod Near
 pub mod Lives
+mod Rows

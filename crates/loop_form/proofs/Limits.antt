@@ -1,10 +1,10 @@
 -- A kernel that meets the rules has at most 1,000 items.
-use Rattle.std.proofs.Common.{◌≡◌, ℕ, ◌≤◌, Bool, true, false, Option, Some, None, refl, sym, arith, ltb, cond, ◌∙◌}
-use Rattle.std.proofs.lemmas.Bool.{ltb-true, ltb-false}
+use Rattle.std.proofs.Common.{◌≡◌, ℕ, ◌≤◌, Bool, true, false, Option, Some, None, refl, arith, cond}
+use Rattle.std.proofs.lemmas.Bool.{ltb-false}
 use Rattle.kernel_tree.specs.Plain.{Accumulator, Program}
 use Rattle.kernel_tree.specs.Items.{size_of, loop_index, vars_size}
-use Rattle.kernel_tree.specs.Limits.{most_items, most_depth, depth_of}
-use Rattle.kernel_tree.specs.Typing.{Refusal, TooLarge, TooDeep, Fails, check_fault, kernel_faults, least}
+use Rattle.kernel_tree.specs.Limits.{most_items}
+use Rattle.kernel_tree.specs.Typing.{TooLarge, check_fault}
 use Rattle.std.specs.Prelude.{nat_lt, length, List, [], ◌∷◌}
 
 -- the size of a kernel, and the fault that is answered where its size is not too great

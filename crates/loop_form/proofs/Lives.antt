@@ -1,5 +1,5 @@
 -- One step of the greatest number of live values.
-use Rattle.std.proofs.Common.{◌≡◌, ℕ, suc, ◌+◌, ◌<◌, List, [], ◌∷◌, length, get_or, drop, refl, ap, sym, ◌∙◌, add-one, drop-cons}
+use Rattle.std.proofs.Common.{◌≡◌, ℕ, suc, ◌+◌, ◌<◌, List, ◌∷◌, length, get_or, drop, ap, sym, ◌∙◌, add-one, drop-cons}
 use Rattle.std.specs.Prelude.{max}
 use Rattle.loop_form.specs.declared.span.Span.{Span}
 use Rattle.loop_form.specs.declared.entry.Entry.{Entry}

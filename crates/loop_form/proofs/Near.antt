@@ -1,16 +1,16 @@
 -- In a kernel that meets the rules the offsets of all stream indexes are in range.
-use Rattle.std.proofs.Common.{◌≡◌, ℕ, ◌+◌, ◌≤◌, ℤ, Bool, true, false, cond, List, [], ◌∷◌, ◌++◌, Option, Some, None, refl, sym, ap, subst, ◌∙◌, arith, leb}
+use Rattle.std.proofs.Common.{◌≡◌, ℕ, ◌+◌, ◌≤◌, ℤ, Bool, true, false, cond, List, [], ◌∷◌, ◌++◌, Option, Some, None, refl, subst, ◌∙◌}
 use Rattle.std.proofs.lemmas.Bool.{leb-true}
-use Rattle.std.specs.Prelude.{unsigned_abs, nat_lt, nat_le, option_map, length}
+use Rattle.std.specs.Prelude.{unsigned_abs, nat_lt, nat_le, option_map}
 use Rattle.kernel_tree.specs.declared.ops.Ty.{Ty}
 use Rattle.kernel_tree.specs.declared.ops.Ty.TheVariants as ty
 use Rattle.kernel_tree.specs.declared.fault.Found.{Found}
-use Rattle.kernel_tree.specs.Plain.{Term, Literal, Variable, Element, Unary, Operation, Shift, Conversion, Choice, Comparison, Both, Either, Not, Action, Define, Put, Update, Choose, Leave, Block, Done, Then, Otherwise, Nothing, Else, Parameter, Accumulator, Turns, Returned, Program}
-use Rattle.kernel_tree.specs.Items.{stream_offset, loop_index, term_size, index_items, block_size, otherwise_size, vars_size, size_of}
+use Rattle.kernel_tree.specs.Plain.{Term, Literal, Variable, Element, Unary, Operation, Shift, Conversion, Choice, Comparison, Both, Either, Not, Action, Define, Put, Update, Choose, Leave, Block, Done, Then, Otherwise, Nothing, Else, Parameter, Accumulator, Turns, Program}
+use Rattle.kernel_tree.specs.Items.{stream_offset, loop_index, index_items, size_of}
 use Rattle.kernel_tree.specs.Limits.{most_items, most_depth, most_offset, depth_of}
-use Rattle.kernel_tree.specs.Typing.{Refusal, TooLarge, TooDeep, Fails, Scope, Role, Value, Condition, lookup, as_value, read_faults, wanted, first, own, faults, inner_faults, index_faults, stream_faults, offset_faults, action_faults, block_faults, otherwise_faults, after_action, after_block, defined, left, in_loop, declared, empty, after_params, after_vars, param_scope, var_scope, turns_faults, kernel_faults, sooner, least, check_fault}
-use Rattle.loop_form.specs.Entries.{Content, IsRead, IsStore, Entry, entry, inner_entries, term_entries, action_entries, block_entries, otherwise_entries, turns_entries, loop_entries, loop_start}
-use Rattle.loop_form.specs.Near.{IsNear, HasNear, AreNear}
+use Rattle.kernel_tree.specs.Typing.{TooLarge, TooDeep, Fails, Scope, Role, Value, lookup, as_value, read_faults, wanted, first, own, faults, inner_faults, index_faults, stream_faults, offset_faults, action_faults, block_faults, otherwise_faults, after_action, after_block, defined, left, in_loop, empty, after_params, after_vars, param_scope, var_scope, turns_faults, kernel_faults, sooner, least, check_fault}
+use Rattle.loop_form.specs.Entries.{Entry, inner_entries, term_entries, action_entries, block_entries, otherwise_entries, turns_entries, loop_entries, loop_start}
+use Rattle.loop_form.specs.Near.{IsNear, AreNear}
 
 nil-left : {A : Type 0} (xs ys : List A) → xs ++ ys ≡ [] → xs ≡ []
 nil-left [] ys e = refl

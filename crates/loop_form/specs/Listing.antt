@@ -6,7 +6,7 @@ use Rattle.loop_form.specs.declared.item.ItemKind.TheVariants as kind
 use Rattle.loop_form.specs.declared.item.Item.{Item}
 use Rattle.loop_form.specs.declared.class.RegisterClass.{RegisterClass}
 use Rattle.loop_form.specs.declared.class.RegisterClass.TheVariants.{Z, P, X}
-use Rattle.loop_form.specs.Entries.{Content, IsLiteral, IsName, IsRead, IsLet, IsStore, IsUpdate, IsPlain, Entry, kind_of, entries_of, loop_entries}
+use Rattle.loop_form.specs.Entries.{Content, IsName, IsLet, Entry, kind_of, entries_of}
 
 -- An item of these kinds makes a value in a Z register. A literal or a name makes none: it is held throughout the loop.
 abbrev pub has_z : ItemKind → Bool

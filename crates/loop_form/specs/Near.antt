@@ -1,9 +1,8 @@
 -- Offsets of stream indexes that are in range.
 use Rattle.std.specs.Prelude.{ℕ, ◌≤◌, ℤ, List, [], ◌∷◌, Option, Some, None, unsigned_abs}
-use Rattle.kernel_tree.specs.Plain.{Program}
-use Rattle.kernel_tree.specs.Items.{stream_offset, loop_index}
+use Rattle.kernel_tree.specs.Items.{stream_offset}
 use Rattle.kernel_tree.specs.Limits.{most_offset}
-use Rattle.loop_form.specs.Entries.{Content, IsLiteral, IsName, IsRead, IsLet, IsStore, IsUpdate, IsPlain, Entry}
+use Rattle.loop_form.specs.Entries.{Content, IsRead, IsStore, Entry}
 
 -- an offset, where there is one, of at most 1,024 to either side
 abbrev pub IsNear : Option ℤ → Type 0

@@ -1,6 +1,6 @@
 -- How many registers of each class a kernel needs: the values that are held throughout, and the greatest number of
 -- values that are live at one item.
-use Rattle.std.specs.Prelude.{ℕ, ◌+◌, ℤ, pos, negsuc, List, [], ◌∷◌, ◌++◌, length, map, filter, Option, Some, None, Bool, true, false, ◌&&◌, max, nat_le, nat_lt, nat_eq, bytes_eq, if◌then◌else◌, filter_map, option_map}
+use Rattle.std.specs.Prelude.{ℕ, ◌+◌, ℤ, pos, negsuc, List, [], ◌∷◌, ◌++◌, length, map, filter, Option, Some, None, Bool, true, false, ◌&&◌, max, nat_le, nat_lt, nat_eq, bytes_eq, if◌then◌else◌, filter_map}
 use Rattle.std.specs.List.{list_any, count_by}
 use Rattle.kernel_tree.specs.declared.ops.Ty.{Ty}
 use Rattle.kernel_tree.specs.declared.ast.Shape.{Shape}
@@ -12,7 +12,7 @@ use Rattle.loop_form.specs.declared.class.RegisterClass.{RegisterClass}
 use Rattle.loop_form.specs.declared.class.RegisterClass.TheVariants.{Z, P, X}
 use Rattle.loop_form.specs.declared.span.Span.{Span}
 use Rattle.loop_form.specs.declared.need.Needs.{Needs}
-use Rattle.loop_form.specs.Entries.{Content, IsLiteral, IsName, IsRead, IsLet, IsStore, IsUpdate, IsPlain, Entry, entries_of, loop_entries}
+use Rattle.loop_form.specs.Entries.{Content, IsLiteral, IsUpdate, Entry, entries_of, loop_entries}
 use Rattle.loop_form.specs.Listing.{names, until_in}
 
 -- ---- the values that are held throughout

@@ -1,5 +1,5 @@
 -- The listing as the code holds it.
-use Rattle.std.specs.Prelude.{ℕ, List, map}
+use Rattle.std.specs.Prelude.{List, map}
 use Rattle.kernel_tree.specs.declared.checked.Checked.{Checked}
 use Rattle.kernel_tree.specs.Plain.{Program, program_of, term_of}
 use Rattle.kernel_tree.specs.Checked.{kernel_of}

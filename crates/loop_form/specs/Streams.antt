@@ -4,7 +4,7 @@ use Rattle.std.specs.Prelude.{ℕ, ◌+◌, ℤ, List, [], ◌∷◌, Option, So
 use Rattle.kernel_tree.specs.Plain.{Parameter, Program}
 use Rattle.kernel_tree.specs.Items.{stream_offset, loop_index}
 use Rattle.loop_form.specs.declared.stream.Stream.{Stream}
-use Rattle.loop_form.specs.Entries.{Content, IsLiteral, IsName, IsRead, IsLet, IsStore, IsUpdate, IsPlain, Entry, loop_entries}
+use Rattle.loop_form.specs.Entries.{Content, IsRead, IsStore, Entry, loop_entries}
 
 -- the place of the parameter with a name, counted from a number
 abbrev pub place_from : List ℕ → ℕ → List Parameter → Option ℕ

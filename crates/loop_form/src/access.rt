@@ -11,9 +11,8 @@ ghost use Rattle.loop_form.specs.Streams.{place_of, access, stream_of, streams_o
 
 use crate::entry::{Content, Entry};
 use crate::size::{is_bare, is_loop_variable};
-use crate::stream::Stream;
+use crate::stream::{Stream, Streams};
 use crate::whole::loop_entries;
-use arrayvec::ArrayVec;
 use kernel_tree::{BinaryOp, Checked, Expr, Param};
 use std::alloc::{AllocError, Global};
 
@@ -92,12 +91,12 @@ fn stream(kernel: &Checked, entry: &Entry<'_>) -> Option<Stream>
     }
 }
 
-fn streams_among(kernel: &Checked, entries: &[Entry<'_>]) -> ArrayVec<Stream, 1000>
+fn streams_among(kernel: &Checked, entries: &[Entry<'_>]) -> Streams
     requires small { length entries.now ≤ 1000 }
     requires near { AreNear (loop_index (program kernel.now)) (seen entries.now) }
     ensures { result.items ≡ filter_map (stream_of (program kernel.now)) (seen entries.now) }
 {
-    let mut streams = ArrayVec::new();
+    let mut streams = Streams::new();
     for entry in entries {
         if let Some(stream) = stream(kernel, entry) {
             streams.push(stream);
@@ -107,7 +106,7 @@ fn streams_among(kernel: &Checked, entries: &[Entry<'_>]) -> ArrayVec<Stream, 10
 }
 
 /// The accesses of the loop by stream index, in their order, without taking memory.
-pub fn accesses(kernel: &Checked) -> ArrayVec<Stream, 1000>
+pub fn accesses(kernel: &Checked) -> Streams
     ensures { result.items ≡ streams_of (program kernel.now) }
 {
     let entries = loop_entries(kernel);

@@ -11,9 +11,10 @@ ghost use Rattle.loop_form.specs.Seen.{program, seen};
 use crate::class::RegisterClass;
 use crate::entry::Entry;
 use crate::held::count_held;
+use crate::laws::few_items;
 use crate::need::Needs;
 use crate::values::{most_live_at, spans};
-use crate::whole::{entries, is_small, loop_entries};
+use crate::whole::{entries, loop_entries};
 use kernel_tree::Checked;
 use std::alloc::{AllocError, Global};
 
@@ -39,7 +40,7 @@ fn live_at_once(
 pub fn needs(alloc: Global, kernel: &Checked) -> Result<Needs, AllocError>
     ensures { IfOk result (λ needs. needs ≡ needs_of (program_of (kernel_of kernel.now))) }
 {
-    is_small(kernel);
+    few_items(kernel);
     let all = entries(kernel);
     let turns = loop_entries(kernel);
     let vars = kernel.kernel().vars.len() as u32;

@@ -1,6 +1,7 @@
 //! Items of the listing with what stands in them.
 
 use crate::item::ItemKind;
+use arrayvec::ArrayVec;
 use kernel_tree::{Expr, Ty, UpdateOp};
 
 /// What an item is, with the names, the number and the index that stand in it.
@@ -37,3 +38,6 @@ impl Default for Entry<'_> {
         }
     }
 }
+
+/// Items of a kernel, of which there are at most 1,000.
+pub type Entries<'a> = ArrayVec<Entry<'a>, 1000>;

@@ -12,8 +12,8 @@ ghost use Rattle.loop_form.specs.Seen.{program, content_of, entry_of, seen};
 
 use crate::class::RegisterClass;
 use crate::entry::{Content, Entry};
+use crate::laws::few_items;
 use crate::lists::is_name;
-use crate::whole::is_small;
 use kernel_tree::{Checked, Param, Shape, Ty, Var};
 
 /// Whether a name is an item among these.
@@ -196,7 +196,7 @@ pub fn count_held(kernel: &Checked, entries: &[Entry<'_>]) -> u32
     ensures count { result ≡ length (throughout (program kernel.now) RegisterClass.Z) }
     ensures small { result ≤ 4000 }
 {
-    is_small(kernel);
+    few_items(kernel);
     let tree = kernel.kernel();
     let parameters = count_scalars(entries, &tree.params);
     let literals = count_constants(entries);

@@ -8,6 +8,7 @@ mod count;
 pub mod entry;
 mod held;
 pub mod item;
+mod laws;
 mod lists;
 pub mod need;
 mod part;

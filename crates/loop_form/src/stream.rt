@@ -1,5 +1,7 @@
 //! Accesses by stream index.
 
+use arrayvec::ArrayVec;
+
 /// An access of the loop by stream index: the place of its array among the parameters, its offset from the loop
 /// variable, whether it is a store, and its item.
 #[derive(Clone, Copy, PartialEq, Eq, Debug)]
@@ -21,3 +23,6 @@ impl Default for Stream {
         }
     }
 }
+
+/// Accesses of a loop, of which there are at most as many as items.
+pub type Streams = ArrayVec<Stream, 1000>;

@@ -60,6 +60,7 @@ fn count_live(spans: &[Span], item: u32) -> u32
     count
 }
 
+// The greater of two numbers.
 fn greater(left: u32, right: u32) -> u32
     ensures { result ≡ max left right }
 {

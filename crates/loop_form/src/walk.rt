@@ -7,12 +7,11 @@ ghost use Rattle.kernel_tree.specs.Items.{loop_index, term_size, index_items, ac
 ghost use Rattle.loop_form.specs.Entries.{entry, term_entries, action_entries, block_entries, vars_entries, item_type, inner_entries, IsPlain, IsRead};
 ghost use Rattle.loop_form.specs.Seen.{program, content_of, seen};
 
-use crate::entry::{Content, Entry};
+use crate::entry::{Content, Entries, Entry};
 use crate::item::ItemKind;
 use crate::part::Part;
 use crate::size::{expr_size, is_stream, statements_size, stmt_size};
 use crate::take_apart::parts;
-use arrayvec::ArrayVec;
 use kernel_tree::{Checked, Expr, Name, Stmt, Ty, Var};
 
 // The type of a value item.
@@ -26,7 +25,7 @@ fn type_at(kernel: &Checked, item: u32) -> Option<Ty>
 /// Appends an item.
 pub fn put<'a>(
     kernel: &Checked,
-    entries: &mut ArrayVec<Entry<'a>, 1000>,
+    entries: &mut Entries<'a>,
     item: u32,
     content: Content<'a>,
     until: u32,
@@ -48,7 +47,7 @@ pub fn put<'a>(
 #[cycle(terms)]
 pub fn list_expr<'a>(
     kernel: &Checked,
-    entries: &mut ArrayVec<Entry<'a>, 1000>,
+    entries: &mut Entries<'a>,
     from: u32,
     until: u32,
     expr: &'a Expr,
@@ -86,7 +85,7 @@ pub fn list_expr<'a>(
 #[cycle(terms)]
 fn list_read<'a>(
     kernel: &Checked,
-    entries: &mut ArrayVec<Entry<'a>, 1000>,
+    entries: &mut Entries<'a>,
     from: u32,
     until: u32,
     array: &'a Name,
@@ -114,7 +113,7 @@ fn list_read<'a>(
 #[cycle(terms)]
 fn list_one<'a>(
     kernel: &Checked,
-    entries: &mut ArrayVec<Entry<'a>, 1000>,
+    entries: &mut Entries<'a>,
     from: u32,
     until: u32,
     arg: &'a Expr,
@@ -134,7 +133,7 @@ fn list_one<'a>(
 #[cycle(terms)]
 fn list_two<'a>(
     kernel: &Checked,
-    entries: &mut ArrayVec<Entry<'a>, 1000>,
+    entries: &mut Entries<'a>,
     from: u32,
     until: u32,
     left: &'a Expr,
@@ -157,7 +156,7 @@ fn list_two<'a>(
 #[cycle(terms)]
 fn list_or<'a>(
     kernel: &Checked,
-    entries: &mut ArrayVec<Entry<'a>, 1000>,
+    entries: &mut Entries<'a>,
     from: u32,
     until: u32,
     left: &'a Expr,
@@ -180,7 +179,7 @@ fn list_or<'a>(
 #[cycle(terms)]
 fn list_select<'a>(
     kernel: &Checked,
-    entries: &mut ArrayVec<Entry<'a>, 1000>,
+    entries: &mut Entries<'a>,
     from: u32,
     until: u32,
     yes: &'a Expr,
@@ -209,12 +208,7 @@ fn list_select<'a>(
 
 /// Lists a statement.
 #[cycle(statements)]
-fn list_stmt<'a>(
-    kernel: &Checked,
-    entries: &mut ArrayVec<Entry<'a>, 1000>,
-    from: u32,
-    stmt: &'a Stmt,
-)
+fn list_stmt<'a>(kernel: &Checked, entries: &mut Entries<'a>, from: u32, stmt: &'a Stmt)
     requires behind { array_vec_len entries.old ≤ from }
     requires fits { from + action_size (loop_index (program kernel.now)) (action_of stmt.now) ≤ 1000 }
     ensures items { seen entries.new.items ≡ seen entries.old.items ++ action_entries (program kernel.now) from (action_of stmt.now) }
@@ -251,7 +245,7 @@ fn list_stmt<'a>(
 /// Lists an expression and the item that it ends in.
 pub fn list_ended<'a>(
     kernel: &Checked,
-    entries: &mut ArrayVec<Entry<'a>, 1000>,
+    entries: &mut Entries<'a>,
     from: u32,
     value: &'a Expr,
     content: Content<'a>,
@@ -270,7 +264,7 @@ pub fn list_ended<'a>(
 #[cycle(statements)]
 fn list_then<'a>(
     kernel: &Checked,
-    entries: &mut ArrayVec<Entry<'a>, 1000>,
+    entries: &mut Entries<'a>,
     from: u32,
     cond: &'a Expr,
     block: &'a [Stmt],
@@ -298,7 +292,7 @@ fn list_then<'a>(
 #[cycle(statements)]
 fn list_if<'a>(
     kernel: &Checked,
-    entries: &mut ArrayVec<Entry<'a>, 1000>,
+    entries: &mut Entries<'a>,
     from: u32,
     cond: &'a Expr,
     block: &'a [Stmt],
@@ -315,7 +309,7 @@ fn list_if<'a>(
 #[cycle(statements)]
 fn list_if_else<'a>(
     kernel: &Checked,
-    entries: &mut ArrayVec<Entry<'a>, 1000>,
+    entries: &mut Entries<'a>,
     from: u32,
     cond: &'a Expr,
     block: &'a [Stmt],
@@ -335,12 +329,7 @@ fn list_if_else<'a>(
 
 /// Lists the statements of a block.
 #[cycle(statements)]
-pub fn list_block<'a>(
-    kernel: &Checked,
-    entries: &mut ArrayVec<Entry<'a>, 1000>,
-    from: u32,
-    block: &'a [Stmt],
-)
+pub fn list_block<'a>(kernel: &Checked, entries: &mut Entries<'a>, from: u32, block: &'a [Stmt])
     requires behind { array_vec_len entries.old ≤ from }
     requires fits { from + block_size (loop_index (program kernel.now)) (block_of block.now) ≤ 1000 }
     ensures items { seen entries.new.items ≡ seen entries.old.items ++ block_entries (program kernel.now) from (block_of block.now) }
@@ -355,12 +344,7 @@ pub fn list_block<'a>(
 }
 
 /// Lists the accumulators with their initial values.
-pub fn list_vars<'a>(
-    kernel: &Checked,
-    entries: &mut ArrayVec<Entry<'a>, 1000>,
-    from: u32,
-    vars: &'a [Var],
-)
+pub fn list_vars<'a>(kernel: &Checked, entries: &mut Entries<'a>, from: u32, vars: &'a [Var])
     requires behind { array_vec_len entries.old ≤ from }
     requires fits { from + vars_size (loop_index (program kernel.now)) (accumulators_of vars.now) ≤ 1000 }
     ensures items { seen entries.new.items ≡ seen entries.old.items ++ vars_entries (program kernel.now) from (accumulators_of vars.now) }

@@ -8,24 +8,12 @@ ghost use Rattle.loop_form.specs.Entries.{params_entries, turns_entries, answer_
 ghost use Rattle.loop_form.specs.Near.{AreNear};
 ghost use Rattle.loop_form.specs.Seen.{program, seen};
 
-use crate::entry::{Content, Entry};
+use crate::entry::{Content, Entries};
 use crate::item::ItemKind;
+use crate::laws::{few_items, near_offsets};
 use crate::size::{statements_size, vars_size_of};
 use crate::walk::{list_block, list_ended, list_vars, put};
-use arrayvec::ArrayVec;
 use kernel_tree::{Answer, Checked, Loop, Param};
-
-/// A checked kernel has at most 1,000 items.
-pub fn is_small(kernel: &Checked)
-    ensures size { size_of (program kernel.now) ≤ 1000 }
-    ensures params { length (program kernel.now).params ≤ 1000 }
-    ensures vars { length (program kernel.now).vars ≤ 1000 }
-{}
-
-// The offsets of its stream indexes are in range.
-fn is_near(kernel: &Checked)
-    ensures { AreNear (loop_index (program kernel.now)) (loop_entries (program kernel.now)) }
-{}
 
 // The items of a loop.
 fn turns_size_of(kernel: &Checked, turns: &Option<Loop>) -> u32
@@ -39,7 +27,7 @@ fn turns_size_of(kernel: &Checked, turns: &Option<Loop>) -> u32
     }
 }
 
-fn list_params(kernel: &Checked, entries: &mut ArrayVec<Entry<'_>, 1000>, params: &[Param])
+fn list_params(kernel: &Checked, entries: &mut Entries<'_>, params: &[Param])
     requires { array_vec_len entries.old + length params.now ≤ 1000 }
     ensures items { seen entries.new.items ≡ seen entries.old.items ++ params_entries (program kernel.now) 0 (parameters_of params.now) }
     ensures len { array_vec_len entries.new ≡ array_vec_len entries.old + length params.now }
@@ -51,12 +39,7 @@ fn list_params(kernel: &Checked, entries: &mut ArrayVec<Entry<'_>, 1000>, params
     }
 }
 
-fn list_turns<'a>(
-    kernel: &Checked,
-    entries: &mut ArrayVec<Entry<'a>, 1000>,
-    from: u32,
-    turns: &'a Option<Loop>,
-)
+fn list_turns<'a>(kernel: &Checked, entries: &mut Entries<'a>, from: u32, turns: &'a Option<Loop>)
     requires behind { array_vec_len entries.old ≤ from }
     requires fits { from + turns_size (option_map turns_of turns.now) ≤ 1000 }
     requires index { loop_index (program kernel.now) ≡ option_map index_of (option_map turns_of turns.now) }
@@ -71,7 +54,7 @@ fn list_turns<'a>(
 
 fn list_answer<'a>(
     kernel: &Checked,
-    entries: &mut ArrayVec<Entry<'a>, 1000>,
+    entries: &mut Entries<'a>,
     from: u32,
     answer: &'a Option<Answer>,
 )
@@ -93,17 +76,17 @@ fn list_answer<'a>(
 
 /// The items of a kernel, in their order.
 #[tactic(auto, unfolding(crate::specs::Seen::program))]
-pub fn entries(kernel: &Checked) -> ArrayVec<Entry<'_>, 1000>
+pub fn entries(kernel: &Checked) -> Entries<'_>
     ensures items { seen result.items ≡ entries_of (program kernel.now) }
     ensures len { array_vec_len result ≡ size_of (program kernel.now) }
     ensures small { array_vec_len result ≤ 1000 }
 {
-    is_small(kernel);
+    few_items(kernel);
     let tree = kernel.kernel();
     let vars = tree.params.len() as u32;
     let start = vars + vars_size_of(kernel, &tree.vars);
     let end = start + turns_size_of(kernel, &tree.body);
-    let mut entries = ArrayVec::new();
+    let mut entries = Entries::new();
     list_params(kernel, &mut entries, &tree.params);
     list_vars(kernel, &mut entries, vars, &tree.vars);
     list_turns(kernel, &mut entries, start, &tree.body);
@@ -113,16 +96,16 @@ pub fn entries(kernel: &Checked) -> ArrayVec<Entry<'_>, 1000>
 
 /// The items of the loop, in their order.
 #[tactic(auto, unfolding(crate::specs::Seen::program))]
-pub fn loop_entries(kernel: &Checked) -> ArrayVec<Entry<'_>, 1000>
+pub fn loop_entries(kernel: &Checked) -> Entries<'_>
     ensures items { seen result.items ≡ loop_entries (program kernel.now) }
     ensures near { AreNear (loop_index (program kernel.now)) (seen result.items) }
     ensures small { array_vec_len result ≤ 1000 }
 {
-    is_small(kernel);
-    is_near(kernel);
+    few_items(kernel);
+    near_offsets(kernel);
     let tree = kernel.kernel();
     let start = tree.params.len() as u32 + vars_size_of(kernel, &tree.vars);
-    let mut entries = ArrayVec::new();
+    let mut entries = Entries::new();
     list_turns(kernel, &mut entries, start, &tree.body);
     entries
 }

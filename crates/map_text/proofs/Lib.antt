@@ -2,3 +2,4 @@ pub mod Parts
 pub mod Places
 pub mod Zeros
 pub mod Puts
+pub mod ByteLaws

@@ -1,11 +1,11 @@
 -- Parts of a text between bytes like a mark.
-use Rattle.std.proofs.Common.{◌≡◌, ◌≢◌, ℕ, suc, ◌+◌, ◌<◌, true, false, List, [], ◌∷◌, ◌++◌, length, take, drop, get_or, None, All, refl, sym, ap, ◌∙◌, subst, arith, add-one}
+use Rattle.std.proofs.Common.{◌≡◌, ◌≢◌, ℕ, ◌+◌, ◌<◌, false, List, [], ◌∷◌, ◌++◌, length, take, drop, get_or, None, All, refl, sym, ap, ◌∙◌, arith, add-one}
 use Rattle.std.proofs.lemmas.List.{take-append-drop}
 use Rattle.std.proofs.Math.Seq.{drop-cons}
-use Rattle.std.proofs.lemmas.List.Splits.{slice_split_at, slice_split_none, length-slice_split}
+use Rattle.std.proofs.lemmas.List.Splits.{slice_split_at, length-slice_split}
 use Rattle.std.proofs.lemmas.Bool.{eq-eqb}
 use Rattle.std.specs.List.{slice_split}
-use Rattle.map_text.specs.Lines.{Form, is_byte, form_of_words}
+use Rattle.map_text.specs.Lines.{is_byte, form_of_words}
 
 pub cut_at : (mark : ℕ) (text : List ℕ) (i : ℕ) → All (λ (b : ℕ). is_byte mark b ≡ false) (take i text) → i < length text → get_or text i 0 ≡ mark → slice_split (is_byte mark) text ≡ take i text ∷ slice_split (is_byte mark) (drop (i + 1) text)
 cut_at mark text i before inside here =

@@ -5,6 +5,7 @@ mod cut;
 pub mod fault;
 mod form;
 mod insert;
+pub mod laws;
 mod line;
 mod place;
 mod put;
@@ -13,3 +14,6 @@ mod words;
 
 pub use fault::MapFault;
 pub use read::read_map;
+
+#[cfg(test)]
+mod tests;

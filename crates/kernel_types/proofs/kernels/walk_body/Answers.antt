@@ -12,5 +12,5 @@ returns-clause-scope c =
     let visible : c.len-visible.result ≡ length scope.visible = omega (arith, c.len-visible.ensures, length-map old.visible.items local_of, old.visible.ok.0) in
     let taken : c.len-taken.result ≡ length scope.taken = omega (arith, c.len-taken.ensures, length-map old.taken.items text_of, old.taken.ok.0) in
     c.close.ensures
-      ∙ ap (closed c.len-visible.result c.len-taken.result) c.in_ok-walk_block.ensures.scope
-      ∙ closed-body scope c.len-visible.result c.len-taken.result (block_of c.args.block.now) visible taken c.requires.outside
+    ∙ ap (closed c.len-visible.result c.len-taken.result) c.in_ok-walk_block.ensures.scope
+    ∙ closed-body scope c.len-visible.result c.len-taken.result (block_of c.args.block.now) visible taken c.requires.outside

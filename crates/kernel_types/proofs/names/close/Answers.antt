@@ -8,5 +8,5 @@ pub returns : goal.returns
 returns c =
     let scope = c.args.scope.now in
     ap₂ (λ (ls : List typing.Local) (ts : List (List ℕ)). record (scope_of scope) { visible = ls; taken = ts; inside = false })
-      (ap (map local_of) c.truncate.ensures.items ∙ sym (take_locals c.args.visible scope.visible.items))
-      (ap (map text_of) c.truncate-2.ensures.items ∙ sym (take_texts c.args.taken scope.taken.items))
+    (ap (map local_of) c.truncate.ensures.items ∙ sym (take_locals c.args.visible scope.visible.items))
+    (ap (map text_of) c.truncate-2.ensures.items ∙ sym (take_texts c.args.taken scope.taken.items))

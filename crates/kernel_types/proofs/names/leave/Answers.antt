@@ -1,6 +1,5 @@
 use Rattle.std.proofs.Common.{List, map, sym, ap, ◌∙◌}
 use Rattle.kernel_tree.specs.Typing as typing
-use Rattle.kernel_types.specs.declared.scope.Local.{Local}
 use Rattle.kernel_types.specs.Scopes.{scope_of, local_of}
 use Rattle.kernel_types.proofs.Views.{take_locals}
 use Rattle.kernel_types.proofs.names.leave.Goals as goal

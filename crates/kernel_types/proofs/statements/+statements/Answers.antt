@@ -1,4 +1,4 @@
-use Rattle.std.proofs.Common.{◌≡◌, length, ◌+◌, ◌++◌, Option, List, sym, ap, ◌∙◌, arith, drop}
+use Rattle.std.proofs.Common.{◌≡◌, length, ◌+◌, ◌++◌, sym, ap, ◌∙◌, arith, drop}
 use Rattle.std.proofs.lemmas.List.{length-map}
 use Rattle.kernel_tree.specs.Plain.{Action, action_of, block_of}
 use Rattle.kernel_tree.specs.Items as items

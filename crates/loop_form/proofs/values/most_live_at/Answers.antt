@@ -1,7 +1,4 @@
-use Rattle.std.proofs.Common.{arith, ap, ◌∙◌}
-use Rattle.std.specs.Prelude.{max}
-use Rattle.loop_form.specs.Needs.{live, most_live}
-use Rattle.loop_form.specs.Seen.{seen}
+use Rattle.std.proofs.Common.{arith, ◌∙◌}
 use Rattle.loop_form.proofs.Lives.{most-step}
 use Rattle.loop_form.proofs.values.most_live_at.Goals as goal
 

@@ -1,6 +1,6 @@
-use Rattle.std.proofs.Common.{◌≡◌, ◌≢◌, ◌/◌, ◌<◌, ℕ, List, get_or, true, false, None, Some, length, ap, sym, ◌∙◌, arith}
+use Rattle.std.proofs.Common.{◌≡◌, ◌/◌, ◌<◌, ℕ, List, get_or, None, length, ap, sym, ◌∙◌, arith}
 use Rattle.std.specs.Prelude.{is_some, slice_index, slice_set}
-use Rattle.guest_types.specs.Memory.{Page, page_at, page_numbers}
+use Rattle.guest_types.specs.Memory.{page_at, page_numbers}
 use Rattle.guest_types.proofs.Merges.{page_at-place}
 use Rattle.guest_types.proofs.Writes.{put_byte-unmapped}
 use Rattle.map_text.proofs.Places.{no_page, put-place, number_at_place}

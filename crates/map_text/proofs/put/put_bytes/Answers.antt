@@ -1,8 +1,7 @@
-use Rattle.std.proofs.Common.{◌≡◌, ◌+◌, ◌%◌, ◌^◌, ◌<◌, ℕ, true, drop, get_or, ap, sym, ◌∙◌, subst, arith}
+use Rattle.std.proofs.Common.{◌≡◌, ◌+◌, ◌%◌, ◌^◌, true, drop, get_or, ap, sym, ◌∙◌, subst, arith}
 use Rattle.guest_types.specs.Memory.{Memory, IsMemory, can_read}
 use Rattle.guest_types.proofs.Writes.{IsMemory-put_byte}
 use Rattle.map_text.specs.Mapping.{put_bytes}
-use Rattle.map_text.specs.Seen.{IsBeside}
 use Rattle.map_text.proofs.Puts.{put_more, beside-put}
 use Rattle.map_text.proofs.put.put_bytes.Goals as goal
 

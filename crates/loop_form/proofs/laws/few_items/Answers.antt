@@ -2,7 +2,7 @@ use Rattle.loop_form.specs.Seen.{program}
 use Rattle.kernel_tree.specs.Plain.{program_of}
 use Rattle.kernel_tree.specs.Checked.{kernel_of}
 use Rattle.loop_form.proofs.Limits.{size-small, params-few, vars-few}
-use Rattle.loop_form.proofs.whole.is_small.Goals as goal
+use Rattle.loop_form.proofs.laws.few_items.Goals as goal
 
 pub returns : goal.returns
 unfolding program

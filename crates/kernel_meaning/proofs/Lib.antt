@@ -1,0 +1,16 @@
+mod Runs
+mod Walks
+mod Corners
+pub mod Example
+pub mod Lookups
+pub mod Residues
+pub mod Rows
+pub mod Growth
+pub mod Choices
+pub mod Steps
+pub mod Held
+pub mod Sames
+pub mod Turns
+pub mod Courses
+pub mod Whole
+pub mod Turned

@@ -1,0 +1,5 @@
+use Rattle.kernel_meaning.proofs.Rows.{if-is}
+use Rattle.kernel_meaning.proofs.make.branch.Goals as goal
+
+pub returns : goal.returns
+returns c = if-is c.args.cond c.args.yes c.args.no

@@ -1,0 +1,11 @@
+pub mod Operators
+pub mod Eval
+pub mod Iterate
+pub mod ScalarRun
+pub mod Reaches
+pub mod Answers
+pub mod Trees
+pub mod Slots
+pub mod Resolve
+pub mod Plans
+pub mod Scopes

@@ -1,0 +1,155 @@
+//! Resolves kernels.
+
+ghost use Rattle.std.specs.Prelude.{◌≡◌, IfOk, length, option_map};
+ghost use Rattle.kernel_tree.specs.declared.fault.Binding.TheVariants as binding;
+ghost use Rattle.kernel_tree.specs.Plain.{name_of, parameters_of, accumulators_of, turns_of, returned_of, program_of};
+ghost use Rattle.kernel_tree.specs.Items as items;
+ghost use Rattle.kernel_tree.specs.Typing as typing;
+ghost use Rattle.kernel_meaning.specs.Trees.{tree_of, tasks_of};
+ghost use Rattle.kernel_meaning.specs.Plans as plans;
+ghost use Rattle.kernel_meaning.specs.Scopes.{scope_of, text_of};
+
+use crate::names::{declare, slot, visible_count};
+use crate::node::Node;
+use crate::plan::{Cycle, Plan};
+use crate::resolve::resolve;
+use crate::scope::Scope;
+use crate::statements::resolve_block;
+use crate::step::Step;
+use kernel_tree::fault::Binding;
+use kernel_tree::{Answer, Kernel, Loop, Param, Shape, Var};
+use std::alloc::{AllocError, Global};
+
+// What a parameter stands for.
+fn binding(shape: Shape) -> Binding
+    ensures { result ≡ typing.binding_of_shape shape }
+{
+    match shape {
+        Shape::Scalar(ty) => Binding::Scalar(ty),
+        Shape::Array(ty) => Binding::Array(ty),
+    }
+}
+
+fn declare_params<'a>(scope: &mut Scope<'a>, params: &'a [Param]) -> Result<(), AllocError>
+    ensures { IfOk result (λ _. scope_of scope.new ≡ typing.after_params (scope_of scope.old) (parameters_of params.now)) }
+{
+    for param in params {
+        declare(scope, &param.name, binding(param.shape))?;
+    }
+    Ok(())
+}
+
+// The accumulators in their order.
+fn resolve_vars<'a>(
+    alloc: Global,
+    scope: &mut Scope<'a>,
+    vars: &'a [Var],
+) -> Result<Vec<Step>, AllocError>
+    ensures steps { IfOk result (λ v. tasks_of v.items ≡ plans.resolved_vars (scope_of scope.old) (accumulators_of vars.now)) }
+    ensures scope { IfOk result (λ _. scope_of scope.new ≡ typing.after_vars (scope_of scope.old) (accumulators_of vars.now)) }
+{
+    let mut steps = Vec::new(alloc);
+    for var in vars {
+        let slot = visible_count(scope);
+        let value = resolve(alloc, scope, Some(var.ty), &var.init)?;
+        steps.push(Step::Set { slot, value })?;
+        declare(scope, &var.name, Binding::Accumulator(var.ty))?;
+    }
+    Ok(steps)
+}
+
+fn resolve_answer(
+    alloc: Global,
+    scope: &Scope,
+    answer: &Option<Answer>,
+) -> Result<Option<Node>, AllocError>
+    ensures { IfOk result (λ o. option_map tree_of o ≡ plans.resolved_answer (scope_of scope.now) (option_map returned_of answer.now)) }
+{
+    match answer {
+        None => Ok(None),
+        Some(answer) => {
+            let node = resolve(alloc, scope, Some(answer.ty), &answer.value)?;
+            Ok(Some(node))
+        }
+    }
+}
+
+// The body of a loop whose variable is declared.
+fn resolve_body<'a>(
+    alloc: Global,
+    scope: &mut Scope<'a>,
+    turns: &'a Loop,
+) -> Result<Vec<Step>, AllocError>
+    ensures { IfOk result (λ v. tasks_of v.items ≡ plans.resolved_body (scope_of scope.old) (turns_of turns.now)) }
+{
+    scope.inside = true;
+    let steps = resolve_block(alloc, scope, &turns.body)?;
+    Ok(steps)
+}
+
+// The loop and the returned value behind it.
+fn resolve_loop<'a>(
+    alloc: Global,
+    scope: &mut Scope<'a>,
+    turns: &'a Loop,
+    answer: &Option<Answer>,
+) -> Result<(Cycle, Option<Node>), AllocError>
+    ensures cycle { IfOk result (λ p. plans.looped_of p.0 ≡ plans.resolved_loop (scope_of scope.old) (turns_of turns.now)) }
+    ensures answer { IfOk result (λ p. option_map tree_of p.1 ≡ plans.resolved_answer (typing.declared (scope_of scope.old) (name_of turns.now.index) binding.Index) (option_map returned_of answer.now)) }
+{
+    let bound = slot(scope, &turns.bound);
+    let index = visible_count(scope);
+    declare(scope, &turns.index, Binding::Index)?;
+    let answer = resolve_answer(alloc, scope, answer)?;
+    let body = resolve_body(alloc, scope, turns)?;
+    Ok((Cycle { bound, index, body }, answer))
+}
+
+// The name of the loop variable.
+fn index_of(turns: &Option<Loop>) -> Option<&str>
+    ensures { option_map text_of result ≡ option_map items.index_of (option_map turns_of turns.now) }
+{
+    match turns {
+        None => None,
+        Some(turns) => Some(turns.index.text()),
+    }
+}
+
+// No name is declared yet.
+fn empty<'a>(alloc: Global, index: Option<&'a str>) -> Scope<'a>
+    ensures { scope_of result ≡ typing.empty (option_map text_of index.entry) }
+{
+    Scope {
+        visible: Vec::new(alloc),
+        taken: Vec::new(alloc),
+        index,
+        inside: false,
+    }
+}
+
+/// A kernel with its names and types resolved.
+pub fn resolve_kernel(alloc: Global, kernel: &Kernel) -> Result<Plan, AllocError>
+    ensures { IfOk result (λ p. plans.planned_of p ≡ plans.planned (program_of kernel.now)) }
+{
+    let mut scope = empty(alloc, index_of(&kernel.body));
+    declare_params(&mut scope, &kernel.params)?;
+    let start = resolve_vars(alloc, &mut scope, &kernel.vars)?;
+    match &kernel.body {
+        None => {
+            let answer = resolve_answer(alloc, &scope, &kernel.answer)?;
+            Ok(Plan {
+                start,
+                turns: None,
+                answer,
+            })
+        }
+        Some(turns) => {
+            let (cycle, answer) = resolve_loop(alloc, &mut scope, turns, &kernel.answer)?;
+            Ok(Plan {
+                start,
+                turns: Some(cycle),
+                answer,
+            })
+        }
+    }
+}

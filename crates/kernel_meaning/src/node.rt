@@ -1,0 +1,58 @@
+//! Expressions with their types, in which each name is a slot.
+
+use kernel_tree::{BinaryOp, CompareOp, Ty, UnaryOp};
+
+/// A resolved expression: a value or a condition.
+#[derive(Drop)]
+pub enum Node {
+    Constant(i128),
+    Slot(usize),
+    /// An element of the array whose address is in a slot.
+    Element {
+        base: usize,
+        ty: Option<Ty>,
+        number: Box<Node>,
+    },
+    Unary {
+        op: UnaryOp,
+        ty: Option<Ty>,
+        arg: Box<Node>,
+    },
+    Binary {
+        op: BinaryOp,
+        ty: Option<Ty>,
+        left: Box<Node>,
+        right: Box<Node>,
+    },
+    Shift {
+        left_shift: bool,
+        count: i128,
+        ty: Option<Ty>,
+        arg: Box<Node>,
+    },
+    Cast {
+        ty: Ty,
+        arg: Box<Node>,
+    },
+    Select {
+        cond: Box<Node>,
+        yes: Box<Node>,
+        no: Box<Node>,
+    },
+    Compare {
+        op: CompareOp,
+        left: Box<Node>,
+        right: Box<Node>,
+    },
+    And {
+        left: Box<Node>,
+        right: Box<Node>,
+    },
+    Or {
+        left: Box<Node>,
+        right: Box<Node>,
+    },
+    Not {
+        arg: Box<Node>,
+    },
+}

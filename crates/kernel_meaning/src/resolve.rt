@@ -1,0 +1,188 @@
+//! Resolves expressions.
+
+ghost use Rattle.std.specs.Prelude.{◌≡◌, IfOk, None, option_map, option_and_then};
+ghost use Rattle.kernel_tree.specs.Plain.{name_of, term_of};
+ghost use Rattle.kernel_tree.specs.Items as items;
+ghost use Rattle.kernel_tree.specs.Typing as typing;
+ghost use Rattle.kernel_meaning.specs.Trees as trees;
+ghost use Rattle.kernel_meaning.specs.Trees.{tree_of};
+ghost use Rattle.kernel_meaning.specs.Resolve as resolving;
+ghost use Rattle.kernel_meaning.specs.Scopes.{scope_of};
+
+use crate::build;
+use crate::names::{index_slot, lookup, slot};
+use crate::node::Node;
+use crate::own::{element_type, first, own_type, stream_offset};
+use crate::scope::Scope;
+use crate::words::wrapped;
+use kernel_tree::{BinaryOp, CompareOp, Expr, Name, Ty};
+use std::alloc::{AllocError, Global};
+
+/// The type of the elements of an array.
+pub fn array_type(scope: &Scope, array: &Name) -> Option<Ty>
+    ensures { result ≡ option_and_then typing.element_type (typing.lookup (scope_of scope.now) (name_of array.now)) }
+{
+    lookup(scope, array).and_then(element_type)
+}
+
+/// The type that both sides of a comparison have.
+fn side_type(scope: &Scope, left: &Expr, right: &Expr) -> Option<Ty>
+    ensures { result ≡ typing.side_type (scope_of scope.now) (term_of left.now) (term_of right.now) }
+{
+    first(own_type(scope, left), own_type(scope, right))
+}
+
+// The number of an element at an offset from the loop variable.
+fn stream_number(alloc: Global, scope: &Scope, offset: i128) -> Result<Node, AllocError>
+    ensures { IfOk result (λ n. tree_of n ≡ resolving.stream_tree (scope_of scope.now) offset) }
+{
+    build::binary(
+        alloc,
+        BinaryOp::Add,
+        Some(Ty::U64),
+        Node::Slot(index_slot(scope)),
+        Node::Constant(offset),
+    )
+}
+
+/// An expression of which a type is wanted, or a condition.
+#[cycle(nodes)]
+pub fn resolve(
+    alloc: Global,
+    scope: &Scope,
+    want: Option<Ty>,
+    expr: &Expr,
+) -> Result<Node, AllocError>
+    ensures { IfOk result (λ n. tree_of n ≡ resolving.resolved (scope_of scope.now) want (term_of expr.now)) }
+{
+    match expr {
+        Expr::Lit(value) => Ok(Node::Constant(wrapped(want, *value))),
+        Expr::Var(name) => Ok(Node::Slot(slot(scope, name))),
+        Expr::Read { array, index } => resolve_read(alloc, scope, array, index),
+        Expr::Unary { op, arg } => {
+            let arg = resolve(alloc, scope, want, arg)?;
+            build::unary(alloc, *op, want, arg)
+        }
+        Expr::Binary { op, left, right } => resolve_binary(alloc, scope, *op, want, left, right),
+        Expr::Shift {
+            left_shift,
+            arg,
+            count,
+        } => {
+            let arg = resolve(alloc, scope, want, arg)?;
+            build::shift(alloc, *left_shift, *count, want, arg)
+        }
+        Expr::Cast { arg, ty } => {
+            let arg = resolve(alloc, scope, own_type(scope, arg), arg)?;
+            build::cast(alloc, *ty, arg)
+        }
+        Expr::Select { cond, yes, no } => resolve_select(alloc, scope, want, cond, yes, no),
+        Expr::Compare { op, left, right } => resolve_compared(alloc, scope, *op, left, right),
+        Expr::And { left, right } => resolve_both(alloc, scope, left, right),
+        Expr::Or { left, right } => resolve_either(alloc, scope, left, right),
+        Expr::Not { arg } => {
+            let arg = resolve(alloc, scope, None, arg)?;
+            build::negate(alloc, arg)
+        }
+    }
+}
+
+/// The number of an element, by its index.
+#[cycle(nodes)]
+pub fn resolve_number(alloc: Global, scope: &Scope, index: &Expr) -> Result<Node, AllocError>
+    ensures { IfOk result (λ n. tree_of n ≡ resolving.number_tree (scope_of scope.now) (items.stream_offset (scope_of scope.now).index (term_of index.now)) (resolving.resolved (scope_of scope.now) (typing.index_type (scope_of scope.now) (term_of index.now)) (term_of index.now))) }
+{
+    match stream_offset(scope.index, index) {
+        Some(offset) => stream_number(alloc, scope, offset),
+        None => {
+            let want = first(own_type(scope, index), Some(Ty::U64));
+            resolve(alloc, scope, want, index)
+        }
+    }
+}
+
+#[cycle(nodes)]
+fn resolve_read(
+    alloc: Global,
+    scope: &Scope,
+    array: &Name,
+    index: &Expr,
+) -> Result<Node, AllocError>
+    ensures { IfOk result (λ n. tree_of n ≡ resolving.element_tree (scope_of scope.now) (name_of array.now) (term_of index.now)) }
+{
+    let number = resolve_number(alloc, scope, index)?;
+    build::element(alloc, slot(scope, array), array_type(scope, array), number)
+}
+
+#[cycle(nodes)]
+fn resolve_binary(
+    alloc: Global,
+    scope: &Scope,
+    op: BinaryOp,
+    want: Option<Ty>,
+    left: &Expr,
+    right: &Expr,
+) -> Result<Node, AllocError>
+    ensures { IfOk result (λ n. tree_of n ≡ trees.Binary op want (resolving.resolved (scope_of scope.now) want (term_of left.now)) (resolving.resolved (scope_of scope.now) want (term_of right.now))) }
+{
+    let left = resolve(alloc, scope, want, left)?;
+    let right = resolve(alloc, scope, want, right)?;
+    build::binary(alloc, op, want, left, right)
+}
+
+#[cycle(nodes)]
+fn resolve_select(
+    alloc: Global,
+    scope: &Scope,
+    want: Option<Ty>,
+    cond: &Expr,
+    yes: &Expr,
+    no: &Expr,
+) -> Result<Node, AllocError>
+    ensures { IfOk result (λ n. tree_of n ≡ trees.Select (resolving.resolved (scope_of scope.now) None (term_of cond.now)) (resolving.resolved (scope_of scope.now) want (term_of yes.now)) (resolving.resolved (scope_of scope.now) want (term_of no.now))) }
+{
+    let cond = resolve(alloc, scope, None, cond)?;
+    let yes = resolve(alloc, scope, want, yes)?;
+    let no = resolve(alloc, scope, want, no)?;
+    build::select(alloc, cond, yes, no)
+}
+
+#[cycle(nodes)]
+fn resolve_compared(
+    alloc: Global,
+    scope: &Scope,
+    op: CompareOp,
+    left: &Expr,
+    right: &Expr,
+) -> Result<Node, AllocError>
+    ensures { let want = typing.side_type (scope_of scope.now) (term_of left.now) (term_of right.now) in
+        IfOk result (λ n. tree_of n ≡ trees.Compare op (resolving.resolved (scope_of scope.now) want (term_of left.now)) (resolving.resolved (scope_of scope.now) want (term_of right.now))) }
+{
+    let want = side_type(scope, left, right);
+    let left = resolve(alloc, scope, want, left)?;
+    let right = resolve(alloc, scope, want, right)?;
+    build::compare(alloc, op, left, right)
+}
+
+#[cycle(nodes)]
+fn resolve_both(alloc: Global, scope: &Scope, left: &Expr, right: &Expr) -> Result<Node, AllocError>
+    ensures { IfOk result (λ n. tree_of n ≡ trees.And (resolving.resolved (scope_of scope.now) None (term_of left.now)) (resolving.resolved (scope_of scope.now) None (term_of right.now))) }
+{
+    let left = resolve(alloc, scope, None, left)?;
+    let right = resolve(alloc, scope, None, right)?;
+    build::both(alloc, left, right)
+}
+
+#[cycle(nodes)]
+fn resolve_either(
+    alloc: Global,
+    scope: &Scope,
+    left: &Expr,
+    right: &Expr,
+) -> Result<Node, AllocError>
+    ensures { IfOk result (λ n. tree_of n ≡ trees.Or (resolving.resolved (scope_of scope.now) None (term_of left.now)) (resolving.resolved (scope_of scope.now) None (term_of right.now))) }
+{
+    let left = resolve(alloc, scope, None, left)?;
+    let right = resolve(alloc, scope, None, right)?;
+    build::either(alloc, left, right)
+}

@@ -1,0 +1,163 @@
+//! Runs resolved kernels.
+
+ghost use Rattle.std.specs.Prelude.{◌≡◌, Option, option_map, pos, slice_set};
+ghost use Rattle.guest_types.specs.Memory.{Memory};
+ghost use Rattle.kernel_meaning.specs.Operators as operators;
+ghost use Rattle.kernel_meaning.specs.ScalarRun as running;
+ghost use Rattle.kernel_meaning.specs.Trees.{tree_of};
+ghost use Rattle.kernel_meaning.specs.Slots.{stand_of};
+ghost use Rattle.kernel_meaning.specs.Slots as slots_of;
+ghost use Rattle.kernel_meaning.specs.Plans as plans;
+ghost use Rattle.kernel_meaning.specs.Plans.{limited_of, looped_of, planned_of, course_of};
+
+use crate::node::Node;
+use crate::outcome::ScalarOutcome;
+use crate::perform::perform;
+use crate::plan::{Cycle, Plan};
+use crate::progress::{At, Progress};
+use crate::turn::Turn;
+use crate::value::{slot_at, value};
+use crate::words::word;
+use guest_types::guest::GuestMemory;
+
+fn put(slots: &mut [i128], slot: usize, value: i128)
+    ensures { slots.new ≡ slice_set slots.old slot value }
+{
+    if slot < slots.len() {
+        slots[slot] = value;
+    }
+}
+
+// One iteration.
+fn iterate<M: GuestMemory>(cycle: &Cycle, at: u64, memory: &mut M, slots: &mut [i128]) -> Turn
+    ensures { stand_of result (M.memory memory.new) slots.new ≡ plans.turn (looped_of cycle.now) at (M.memory memory.old) slots.old }
+{
+    put(slots, cycle.index, at as i128);
+    let turn = perform(&cycle.body, memory, slots);
+    turn
+}
+
+// So many iterations.
+fn follow<M: GuestMemory>(cycle: &Cycle, count: u64, memory: &mut M, slots: &mut [i128]) -> Progress
+    ensures { course_of result (M.memory memory.new) slots.new ≡ plans.slot_course (looped_of cycle.now) count 0 (M.memory memory.old) slots.old }
+{
+    for at in 0..count {
+        match iterate(cycle, at, memory, slots) {
+            Turn::Next => {}
+            Turn::Broke => return Progress::Left(At { number: at }),
+            Turn::Faulted => return Progress::Failed(At { number: at }),
+        }
+    }
+    Progress::Going
+}
+
+// The result, unless its expression faults.
+fn result_of<M: GuestMemory>(answer: &Option<Node>, memory: &M, slots: &[i128]) -> Option<u64>
+    ensures { result ≡ plans.slot_answer (option_map tree_of answer.now) (M.memory memory.now) slots.now }
+{
+    match answer {
+        None => Some(0),
+        Some(node) => match value(node, memory, slots) {
+            None => None,
+            Some(value) => Some(word(value)),
+        },
+    }
+}
+
+fn ended(value: Option<u64>, begun: u64) -> ScalarOutcome
+    ensures { (memory : Memory) → limited_of result memory ≡ plans.Ended (running.ended memory begun value) }
+{
+    match value {
+        None => ScalarOutcome::Fault { begun },
+        Some(value) => ScalarOutcome::End {
+            result: value,
+            begun,
+        },
+    }
+}
+
+// The end of a loop.
+fn close<M: GuestMemory>(
+    answer: &Option<Node>,
+    index: usize,
+    memory: &M,
+    slots: &mut [i128],
+    done: u64,
+    begun: u64,
+) -> ScalarOutcome
+    ensures { limited_of result (M.memory memory.now) ≡ plans.Ended (plans.slot_closed (option_map tree_of answer.now) index (M.memory memory.now) slots.old done begun) }
+{
+    put(slots, index, done as i128);
+    ended(result_of(answer, memory, slots), begun)
+}
+
+// The end of a loop of `count` iterations, of which at most `limit` are done.
+fn finish<M: GuestMemory>(
+    cycle: &Cycle,
+    answer: &Option<Node>,
+    count: u64,
+    limit: u64,
+    progress: Progress,
+    memory: &M,
+    slots: &mut [i128],
+) -> ScalarOutcome
+    ensures { limited_of result (M.memory memory.now) ≡ plans.slot_finish (option_map tree_of answer.now) cycle.now.index count limit (course_of progress (M.memory memory.now) slots.old) }
+{
+    match progress {
+        Progress::Going => {
+            if limit < count {
+                ScalarOutcome::Spent
+            } else {
+                close(answer, cycle.index, memory, slots, count, count)
+            }
+        }
+        Progress::Left(at) => close(answer, cycle.index, memory, slots, at.number, at.number + 1),
+        Progress::Failed(at) => ScalarOutcome::Fault {
+            begun: at.number + 1,
+        },
+    }
+}
+
+fn run_loop<M: GuestMemory>(
+    cycle: &Cycle,
+    answer: &Option<Node>,
+    limit: u64,
+    memory: &mut M,
+    slots: &mut [i128],
+) -> ScalarOutcome
+    ensures { limited_of result (M.memory memory.new) ≡ plans.slot_loop (option_map tree_of answer.now) (looped_of cycle.now) limit (operators.word (slots_of.slot_at slots.old cycle.now.bound)) (M.memory memory.old) slots.old }
+{
+    let count = word(slot_at(slots, cycle.bound));
+    let progress = follow(cycle, count.min(limit), memory, slots);
+    finish(cycle, answer, count, limit, progress, &*memory, slots)
+}
+
+fn run_turns<M: GuestMemory>(
+    plan: &Plan,
+    limit: u64,
+    memory: &mut M,
+    slots: &mut [i128],
+) -> ScalarOutcome
+    ensures { limited_of result (M.memory memory.new) ≡ plans.slot_turns (planned_of plan.now).answer (planned_of plan.now).turns limit (M.memory memory.old) slots.old }
+{
+    match &plan.turns {
+        None => ended(result_of(&plan.answer, &*memory, slots), 0),
+        Some(cycle) => run_loop(cycle, &plan.answer, limit, memory, slots),
+    }
+}
+
+/// A run of at most `limit` iterations.
+pub fn run<M: GuestMemory>(
+    plan: &Plan,
+    limit: u64,
+    memory: &mut M,
+    slots: &mut [i128],
+) -> ScalarOutcome
+    ensures { limited_of result (M.memory memory.new) ≡ plans.slot_run (planned_of plan.now) limit (M.memory memory.old) slots.old }
+{
+    match perform(&plan.start, memory, slots) {
+        Turn::Next => run_turns(plan, limit, memory, slots),
+        Turn::Broke => ScalarOutcome::Fault { begun: 0 },
+        Turn::Faulted => ScalarOutcome::Fault { begun: 0 },
+    }
+}

@@ -1,0 +1,12 @@
+//! How statements end.
+
+/// How statements end.
+#[derive(Clone, Copy, PartialEq, Eq, Debug)]
+pub enum Turn {
+    /// The next one follows.
+    Next,
+    /// A `break` ended the loop.
+    Broke,
+    /// An access faulted.
+    Faulted,
+}
