@@ -1,3 +1,5 @@
 pub mod Puts
 pub mod Programs
 pub mod Listings
+pub mod Wanted
+pub mod Statuses

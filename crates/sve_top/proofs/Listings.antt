@@ -5,7 +5,7 @@ use Rattle.io_edges.specs.declared.sink.Failed.{Failed}
 use Rattle.guest_types.specs.Memory.{Memory, number_at}
 use Rattle.list_text.specs.Text.{list_text, line_text}
 use Rattle.sve_top.specs.Listing.{words_from, lines_from}
-use Rattle.sve_top.specs.Answer.{PutsText}
+use Rattle.sve_top.specs.Outputs.{PutsText}
 use Rattle.sve_top.proofs.Puts.{puts_then, puts_cut, puts_nothing}
 
 -- some words, and those behind them

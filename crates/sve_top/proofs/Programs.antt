@@ -1,5 +1,5 @@
 -- Programs that are loaded: their pages, and where their runs start.
-use Rattle.std.proofs.Common.{◌≡◌, ℕ, zero, suc, ◌+◌, ◌≤◌, Bool, true, false, cond, List, [], ◌∷◌, length, flat_map, Option, Some, None, Result, Ok, Err, refl, sym, ap, ◌∙◌, subst, arith, length-append}
+use Rattle.std.proofs.Common.{◌≡◌, ℕ, zero, suc, ◌+◌, ◌≤◌, Bool, true, false, cond, List, [], ◌∷◌, ◌++◌, length, flat_map, Option, Some, None, Result, Ok, Err, refl, sym, ap, ◌∙◌, subst, arith, length-append}
 use Rattle.std.specs.Prelude.{nat_lt, nat_eq, sum_by, filter, ◌*◌, ◌&&◌, ◌||◌, not, IfErr, IsErrAnd, if◌then◌else◌}
 use Rattle.std.proofs.lemmas.Bool.{ltb-false}
 use Rattle.std.proofs.lemmas.List.Sums.{sum_by-cons}
@@ -13,14 +13,19 @@ use Rattle.machine_model.specs.Answers.{outcome_of}
 use Rattle.machine_model.specs.Machine.{State}
 use Rattle.machine_model.specs.OutcomeText.{outcome_text}
 use Rattle.machine_model.specs.Run.{Outcome, run, start}
-use Rattle.outcome_text.specs.Shown.{text_of}
+use Rattle.outcome_text.specs.Shown.{text_of as text_of_outcome}
 use Rattle.elf_image.specs.Loaded.{Refuses}
-use Rattle.command_line.specs.Line.{RunLine}
+use Rattle.map_text.specs.declared.fault.MapFault.{MapFault}
+use Rattle.map_text.specs.declared.fault.MapFault.TheVariants as maps
+use Rattle.map_text.specs.Mapping.{map_of as pages_of_map}
+use Rattle.map_text.specs.Seen.{Refuses as RefusesMap}
+use Rattle.command_line.specs.Line.{Task}
 use Rattle.sve_top.specs.declared.refusal.Refusal.{Refusal}
-use Rattle.sve_top.specs.declared.refusal.Refusal.TheVariants.{Elf}
-use Rattle.sve_top.specs.declared.refusal.Done.TheVariants as done
+use Rattle.sve_top.specs.declared.refusal.Refusal.TheVariants.{Elf, Map}
+use Rattle.sve_top.specs.declared.refusal.Done.{Done}
 use Rattle.sve_top.specs.Listing.{lines_from, listing_of, word_count}
-use Rattle.sve_top.specs.Answer.{Answer, answer_by, answer_of_program, answer_of_load, answer_of_list, run_of_file, text_by, text_of_program, text_of_load, text_of_list, done_by, done_of, of_elf, RefusesProgram}
+use Rattle.sve_top.specs.Answer.{Work, of_elf, of_map}
+use Rattle.sve_top.specs.Commands.{and_then, loaded, mapped, beside, ended, list_program, run_program, deed_of, dump_of, memory_left, done_by, done_of, RefusesProgram}
 use Rattle.machine_model.specs.Load.{Image, Segment, load, load_segments, segments_from, le_at, image_of, is_loaded, first_bad, any_segment, is_dynamic, has_ident, pages_from, pages_of, page_count, first_page, put_in_order, in_order, clash}
 
 length-pages_from : (bytes : List ℕ) (s : Segment) (n count : ℕ) → length (pages_from bytes s n count) ≡ count
@@ -120,22 +125,13 @@ few_alone memory other e h = omega (arith, ap length e)
 pub none_in_order : (other : Memory) → other ≡ [] → IsMemory other
 none_in_order other e = subst IsMemory (sym e) empty_memory
 
--- ---- what a file's run comes to
-
-abbrev tried : RunLine → Result Image ElfFault → Option Outcome
-tried r loaded = elim loaded [ Ok image ↦ Some (run r.steps 0 (start image r.args [] r.vl)) | Err fault ↦ None ]
-
-answer_refused : (bytes : List ℕ) (r : RunLine) (fault : ElfFault) → load bytes ≡ Err fault → answer_of_program bytes r ≡ Err (Elf fault)
-unfolding answer_of_program run_of_file
-answer_refused bytes r fault e =
-    let Q : Result Image ElfFault → Type 0 = λ l. answer_by (tried r l) l ≡ Err (Elf fault) in
-    subst Q (sym e) refl
+-- ---- programs that are refused
 
 -- a refusal of the loader is that of the command, where the command wants it
-program_refused : (loaded : Result Image ElfFault) (wanted : Answer) (fault : ElfFault) (refusal : Refusal) → ((fault : ElfFault) → loaded ≡ Err fault → wanted ≡ Err (Elf fault)) → refusal ≡ of_elf fault → Refuses loaded fault → RefusesProgram wanted refusal
-program_refused loaded wanted fault refusal all is h = subst (RefusesProgram wanted) (sym is) (by fault h)
+program_refused : (image : Result Image ElfFault) (wanted : Work) (fault : ElfFault) (refusal : Refusal) → ((fault : ElfFault) → image ≡ Err fault → wanted ≡ Err (Elf fault)) → refusal ≡ of_elf fault → Refuses image fault → RefusesProgram wanted refusal
+program_refused image wanted fault refusal all is h = subst (RefusesProgram wanted) (sym is) (by fault h)
   where
-    by : (fault : ElfFault) → Refuses loaded fault → RefusesProgram wanted (of_elf fault)
+    by : (fault : ElfFault) → Refuses image fault → RefusesProgram wanted (of_elf fault)
     by (Short need have) h = all (Short need have) h
     by NotElf h = all NotElf h
     by NotAarch64 h = all NotAarch64 h
@@ -145,64 +141,102 @@ program_refused loaded wanted fault refusal all is h = subst (RefusesProgram wan
     by TooManyPages h = all TooManyPages h
     by NoMemory h = tt
 
-error_refused : {T : Type 0} (loaded : Result Image ElfFault) (wanted : Answer) (fault : ElfFault) (result : Result T Refusal) → ((fault : ElfFault) → loaded ≡ Err fault → wanted ≡ Err (Elf fault)) → IsErrAnd result (λ refusal. refusal ≡ of_elf fault) → Refuses loaded fault → IfErr result (λ refusal. RefusesProgram wanted refusal)
-error_refused loaded wanted fault (Ok value) all is h = tt
-error_refused loaded wanted fault (Err refusal) all is h = program_refused loaded wanted fault refusal all is h
+error_refused : {T : Type 0} (image : Result Image ElfFault) (wanted : Work) (fault : ElfFault) (result : Result T Refusal) → ((fault : ElfFault) → image ≡ Err fault → wanted ≡ Err (Elf fault)) → IsErrAnd result (λ refusal. refusal ≡ of_elf fault) → Refuses image fault → IfErr result (λ refusal. RefusesProgram wanted refusal)
+error_refused image wanted fault (Ok value) all is h = tt
+error_refused image wanted fault (Err refusal) all is h = program_refused image wanted fault refusal all is h
 
-pub run_refused : {T : Type 0} (bytes : List ℕ) (r : RunLine) (fault : ElfFault) (result : Result T Refusal) → IsErrAnd result (λ refusal. refusal ≡ of_elf fault) → Refuses (load bytes) fault → IfErr result (λ refusal. RefusesProgram (answer_of_program bytes r) refusal)
-run_refused bytes r fault result is h = error_refused (load bytes) (answer_of_program bytes r) fault result (answer_refused bytes r) is h
+-- the same of a map's refusal
+map_refused : (pages : Result Memory MapFault) (wanted : Work) (fault : MapFault) (refusal : Refusal) → ((fault : MapFault) → pages ≡ Err fault → wanted ≡ Err (Map fault)) → refusal ≡ of_map fault → RefusesMap pages fault → RefusesProgram wanted refusal
+map_refused pages wanted fault refusal all is h = subst (RefusesProgram wanted) (sym is) (by fault h)
+  where
+    by : (fault : MapFault) → RefusesMap pages fault → RefusesProgram wanted (of_map fault)
+    by (maps.BadLine line) h = all (maps.BadLine line) h
+    by (maps.Clash line) h = all (maps.Clash line) h
+    by (maps.Unmapped line) h = all (maps.Unmapped line) h
+    by maps.TooManyPages h = all maps.TooManyPages h
+    by maps.Memory h = tt
 
-listing_wanted : (bytes : List ℕ) (fault : ElfFault) → load bytes ≡ Err fault → answer_of_list bytes ≡ Err (Elf fault)
-unfolding answer_of_list
-listing_wanted bytes fault e = ap answer_of_load e
+map_error_refused : {T : Type 0} (pages : Result Memory MapFault) (wanted : Work) (fault : MapFault) (result : Result T Refusal) → ((fault : MapFault) → pages ≡ Err fault → wanted ≡ Err (Map fault)) → IsErrAnd result (λ refusal. refusal ≡ of_map fault) → RefusesMap pages fault → IfErr result (λ refusal. RefusesProgram wanted refusal)
+map_error_refused pages wanted fault (Ok value) all is h = tt
+map_error_refused pages wanted fault (Err refusal) all is h = map_refused pages wanted fault refusal all is h
 
-pub list_refused : {T : Type 0} (bytes : List ℕ) (fault : ElfFault) (result : Result T Refusal) → IsErrAnd result (λ refusal. refusal ≡ of_elf fault) → Refuses (load bytes) fault → IfErr result (λ refusal. RefusesProgram (answer_of_list bytes) refusal)
-list_refused bytes fault result is h = error_refused (load bytes) (answer_of_list bytes) fault result (listing_wanted bytes) is h
+-- ---- listings
 
--- the answer and the text of a listing
-pub list_loaded : (bytes : List ℕ) (image : Image) → load bytes ≡ Ok image → answer_of_list bytes ≡ Ok done.Ended
-unfolding answer_of_list
-list_loaded bytes image e = ap answer_of_load e
+list_is : (bytes : List ℕ) (image : Result Image ElfFault) → load bytes ≡ image → list_program bytes ≡ and_then (loaded image) (λ i. ended (listing_of i))
+unfolding list_program
+list_is bytes image e = ap (λ l. and_then (loaded l) (λ i. ended (listing_of i))) e
 
-pub list_text_loaded : (bytes : List ℕ) (image : Image) (memory : Memory) (from count : ℕ) → load bytes ≡ Ok image → memory ≡ merged image.pages [] → from ≡ image.code_from → count ≡ word_count image → text_of_list bytes ≡ lines_from memory from count
-unfolding text_of_list listing_of
-list_text_loaded bytes image memory from count e pages start whole =
-    ap text_of_load e
-    ∙ ap (λ m. lines_from m image.code_from (word_count image)) (sym (pages ∙ merged-nil_right image.pages))
-    ∙ ap (λ a. lines_from memory a (word_count image)) (sym start)
-    ∙ ap (λ n. lines_from memory from n) (sym whole)
+list_wanted : (bytes : List ℕ) (fault : ElfFault) → load bytes ≡ Err fault → list_program bytes ≡ Err (Elf fault)
+list_wanted bytes fault e = list_is bytes (Err fault) e
 
-answer_loaded : (bytes : List ℕ) (r : RunLine) (image : Image) → load bytes ≡ Ok image → answer_of_program bytes r ≡ Ok (done_by (run r.steps 0 (start image r.args [] r.vl)))
-unfolding answer_of_program run_of_file
-answer_loaded bytes r image e =
-    let Q : Result Image ElfFault → Type 0 = λ l. answer_by (tried r l) l ≡ Ok (done_by (run r.steps 0 (start image r.args [] r.vl))) in
-    subst Q (sym e) refl
+pub list_refused : {T : Type 0} (bytes : List ℕ) (fault : ElfFault) (result : Result T Refusal) → IsErrAnd result (λ refusal. refusal ≡ of_elf fault) → Refuses (load bytes) fault → IfErr result (λ refusal. RefusesProgram (list_program bytes) refusal)
+list_refused bytes fault result is h = error_refused (load bytes) (list_program bytes) fault result (list_wanted bytes) is h
 
-text_loaded : (bytes : List ℕ) (r : RunLine) (image : Image) → load bytes ≡ Ok image → text_of_program bytes r ≡ outcome_text (run r.steps 0 (start image r.args [] r.vl))
-unfolding text_of_program run_of_file
-text_loaded bytes r image e =
-    let Q : Result Image ElfFault → Type 0 = λ l. text_by (tried r l) ≡ outcome_text (run r.steps 0 (start image r.args [] r.vl)) in
-    subst Q (sym e) refl
+pub list_loaded : (bytes : List ℕ) (image : Image) (memory : Memory) (from count : ℕ) → load bytes ≡ Ok image → memory ≡ merged image.pages [] → from ≡ image.code_from → count ≡ word_count image → list_program bytes ≡ ended (lines_from memory from count)
+unfolding listing_of
+list_loaded bytes image memory from count e pages begin whole =
+    list_is bytes (Ok image) e
+    ∙ ap (λ m. ended (lines_from m image.code_from (word_count image))) (sym (pages ∙ merged-nil_right image.pages))
+    ∙ ap (λ a. ended (lines_from memory a (word_count image))) (sym begin)
+    ∙ ap (λ n. ended (lines_from memory from n)) (sym whole)
+
+-- ---- runs
+
+from_pages : ℕ → Task → Image → Memory → Work
+from_pages vl task image pages = deed_of task.dump (run task.steps 0 (start image task.args pages vl))
+
+from_image : ℕ → Task → List ℕ → Image → Work
+from_image vl task map image = and_then (beside image map) (from_pages vl task image)
+
+run_is : (vl : ℕ) (task : Task) (bytes map : List ℕ) (image : Result Image ElfFault) → load bytes ≡ image → run_program vl task bytes map ≡ and_then (loaded image) (from_image vl task map)
+unfolding run_program from_image from_pages
+run_is vl task bytes map image e = ap (λ l. and_then (loaded l) (from_image vl task map)) e
+
+run_wanted : (vl : ℕ) (task : Task) (bytes map : List ℕ) (fault : ElfFault) → load bytes ≡ Err fault → run_program vl task bytes map ≡ Err (Elf fault)
+run_wanted vl task bytes map fault e = run_is vl task bytes map (Err fault) e
+
+pub run_refused : {T : Type 0} (vl : ℕ) (task : Task) (bytes map : List ℕ) (fault : ElfFault) (result : Result T Refusal) → IsErrAnd result (λ refusal. refusal ≡ of_elf fault) → Refuses (load bytes) fault → IfErr result (λ refusal. RefusesProgram (run_program vl task bytes map) refusal)
+run_refused vl task bytes map fault result is h =
+    error_refused (load bytes) (run_program vl task bytes map) fault result (run_wanted vl task bytes map) is h
+
+beside_is : (vl : ℕ) (task : Task) (bytes map : List ℕ) (image : Image) (pages : Result Memory MapFault) → load bytes ≡ Ok image → pages_of_map map image.pages ≡ pages → run_program vl task bytes map ≡ and_then (mapped pages) (from_pages vl task image)
+unfolding from_image
+beside_is vl task bytes map image pages e h =
+    run_is vl task bytes map (Ok image) e ∙ ap (λ p. and_then (mapped p) (from_pages vl task image)) h
+
+map_wanted : (vl : ℕ) (task : Task) (bytes map : List ℕ) (image : Image) → load bytes ≡ Ok image → (fault : MapFault) → pages_of_map map image.pages ≡ Err fault → run_program vl task bytes map ≡ Err (Map fault)
+map_wanted vl task bytes map image e fault h = beside_is vl task bytes map image (Err fault) e h
+
+pub run_map_refused : {T : Type 0} (vl : ℕ) (task : Task) (bytes map : List ℕ) (image : Image) (fault : MapFault) (result : Result T Refusal) → load bytes ≡ Ok image → IsErrAnd result (λ refusal. refusal ≡ of_map fault) → RefusesMap (pages_of_map map image.pages) fault → IfErr result (λ refusal. RefusesProgram (run_program vl task bytes map) refusal)
+run_map_refused vl task bytes map image fault result e is h =
+    map_error_refused (pages_of_map map image.pages) (run_program vl task bytes map) fault result (map_wanted vl task bytes map image e) is h
 
 same_done : (o : OutcomeAnswer) (memory : Memory) (pc steps : ℕ) → done_by (outcome_of o memory pc steps) ≡ done_of o
 same_done (outcomes.End result) memory pc steps = refl
 same_done (outcomes.Stop stop) memory pc steps = refl
 same_done outcomes.Spent memory pc steps = refl
 
-same_text : (o : OutcomeAnswer) (memory : Memory) (pc steps : ℕ) → outcome_text (outcome_of o memory pc steps) ≡ text_of o pc steps
+same_text : (o : OutcomeAnswer) (memory : Memory) (pc steps : ℕ) → outcome_text (outcome_of o memory pc steps) ≡ text_of_outcome o pc steps
 same_text (outcomes.End result) memory pc steps = refl
 same_text (outcomes.Stop stop) memory pc steps = refl
 same_text outcomes.Spent memory pc steps = refl
 
-begun : (r : RunLine) (image : Image) (s : State) (taken : ℕ) (o : Outcome) → s ≡ start image r.args [] r.vl → taken ≡ 0 → run r.steps taken s ≡ o → run r.steps 0 (start image r.args [] r.vl) ≡ o
-begun r image s taken o state none is =
-    ap (λ t. run r.steps 0 t) (sym state) ∙ ap (λ n. run r.steps n s) (sym none) ∙ is
+same_memory : (o : OutcomeAnswer) (memory : Memory) (pc steps : ℕ) → memory_left (outcome_of o memory pc steps) ≡ memory
+same_memory (outcomes.End result) memory pc steps = refl
+same_memory (outcomes.Stop stop) memory pc steps = refl
+same_memory outcomes.Spent memory pc steps = refl
 
--- the answer and the text of a machine that ran from the start
-pub answer_is : (bytes : List ℕ) (r : RunLine) (image : Image) (s : State) (taken : ℕ) (o : OutcomeAnswer) (memory : Memory) (pc steps : ℕ) → load bytes ≡ Ok image → s ≡ start image r.args [] r.vl → taken ≡ 0 → run r.steps taken s ≡ outcome_of o memory pc steps → answer_of_program bytes r ≡ Ok (done_of o)
-answer_is bytes r image s taken o memory pc steps e state none is =
-    answer_loaded bytes r image e ∙ ap (λ k. Ok k) (ap done_by (begun r image s taken _ state none is) ∙ same_done o memory pc steps)
+begun : (vl : ℕ) (task : Task) (image : Image) (pages : Memory) (s : State) (taken : ℕ) (o : Outcome) → s ≡ start image task.args pages vl → taken ≡ 0 → run task.steps taken s ≡ o → run task.steps 0 (start image task.args pages vl) ≡ o
+begun vl task image pages s taken o state none is =
+    ap (λ t. run task.steps 0 t) (sym state) ∙ ap (λ n. run task.steps n s) (sym none) ∙ is
 
-pub text_is : (bytes : List ℕ) (r : RunLine) (image : Image) (s : State) (taken : ℕ) (o : OutcomeAnswer) (memory : Memory) (pc steps : ℕ) → load bytes ≡ Ok image → s ≡ start image r.args [] r.vl → taken ≡ 0 → run r.steps taken s ≡ outcome_of o memory pc steps → text_of_program bytes r ≡ text_of o pc steps
-text_is bytes r image s taken o memory pc steps e state none is =
-    text_loaded bytes r image e ∙ ap outcome_text (begun r image s taken _ state none is) ∙ same_text o memory pc steps
+-- what a machine that ran from the start comes to
+pub run_played : (vl : ℕ) (task : Task) (bytes map : List ℕ) (image : Image) (pages : Memory) (s : State) (taken : ℕ) (o : OutcomeAnswer) (memory : Memory) (pc steps : ℕ) (how : Done) (text : List ℕ) → load bytes ≡ Ok image → pages_of_map map image.pages ≡ Ok pages → s ≡ start image task.args pages vl → taken ≡ 0 → run task.steps taken s ≡ outcome_of o memory pc steps → how ≡ done_of o → text ≡ text_of_outcome o pc steps ++ dump_of task.dump memory → run_program vl task bytes map ≡ Ok (record { how = how; text = text })
+unfolding from_pages
+run_played vl task bytes map image pages s taken o memory pc steps how text e mapping state none is done shown =
+    let whole : text ≡ outcome_text (outcome_of o memory pc steps) ++ dump_of task.dump (memory_left (outcome_of o memory pc steps)) = shown ∙ ap (λ t. t ++ dump_of task.dump memory) (sym (same_text o memory pc steps)) ∙ ap (λ m. outcome_text (outcome_of o memory pc steps) ++ dump_of task.dump m) (sym (same_memory o memory pc steps)) in
+    let way : how ≡ done_by (outcome_of o memory pc steps) = done ∙ sym (same_done o memory pc steps) in
+    beside_is vl task bytes map image (Ok pages) e mapping
+    ∙ ap (deed_of task.dump) (begun vl task image pages s taken (outcome_of o memory pc steps) state none is)
+    ∙ ap (λ h. Ok (record { how = h; text = outcome_text (outcome_of o memory pc steps) ++ dump_of task.dump (memory_left (outcome_of o memory pc steps)) })) (sym way)
+    ∙ ap (λ t. Ok (record { how = how; text = t })) (sym whole)

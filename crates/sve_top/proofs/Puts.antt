@@ -2,17 +2,16 @@
 use Rattle.std.proofs.Common.{◌≡◌, ℕ, ◌+◌, ◌≤◌, List, [], ◌++◌, take, length, Option, Some, None, Result, Ok, Err, refl, sym, ap, ◌∙◌, subst, append-nil, append_assoc, arith, length-append, ◌∷◌, ◌-◌, map, drop, get_or, Bor}
 use Rattle.std.specs.Prelude.{IfSome, OnOk}
 use Rattle.std.specs.List.{concat}
-use Rattle.command_line.specs.Seen.{bytes_left, command_seen}
-use Rattle.command_line.specs.declared.command.Command.{Command}
-use Rattle.command_line.specs.declared.command.Command.TheVariants.{Compile}
-use Rattle.std.specs.Prelude.{String}
-use Rattle.std.specs.Global.{Global}
+use Rattle.command_line.specs.Seen.{bytes_left}
 use Rattle.std.proofs.Math.Seq.{take-append-add, take-length}
 use Rattle.std.proofs.lemmas.List.{take-append-le}
 use Rattle.io_edges.specs.declared.sink.Failed.{Failed}
 use Rattle.io_edges.specs.Files.{Rose}
 use Rattle.io_edges.specs.Sink.{HasCause}
-use Rattle.sve_top.specs.Answer.{PutsText, GainsPart, Prints, Answer, Held, text_wanted}
+use Rattle.sve_top.specs.declared.refusal.Refusal.{Refusal}
+use Rattle.sve_top.specs.declared.refusal.Done.{Done}
+use Rattle.sve_top.specs.Answer.{Answer}
+use Rattle.sve_top.specs.Outputs.{PutsText, GainsPart, Prints}
 
 -- a text of which nothing was put, and nothing of an empty text
 part_none : (bytes text : List ℕ) → GainsPart bytes (Some bytes) text
@@ -86,19 +85,32 @@ parts_cons (x ∷ xs) d h =
     let count : length (x ∷ xs) - 1 ≡ length xs = omega arith in
     ap (λ t. x.now ++ concat (map bytes_left t)) (ap (λ n. take n xs) count ∙ take-length xs)
 
--- one number in a line
+-- a number at the end of a line
 pub line_with : (front number back x y z : List ℕ) → x ≡ front → y ≡ number → z ≡ back → x ++ (y ++ (z ++ [])) ≡ front ++ (number ++ back)
 line_with front number back x y z ex ey ez =
     ap (λ t. t ++ (y ++ (z ++ []))) ex ∙ ap (λ t. front ++ (t ++ (z ++ []))) ey ∙ ap (λ t. front ++ (number ++ t)) (append-nil z ∙ ez)
 
+-- nothing was put on an output, and the command was refused
+pub prints_nothing : (old : Option (List ℕ)) (text : List ℕ) (refusal : Refusal) → Prints old old text (Err refusal)
+prints_nothing None text refusal = tt
+prints_nothing (Some bytes) text refusal = (tt, part_none bytes text)
+
 -- nothing was put on the output, where there is nothing to put
-prints_none : (old : Option (List ℕ)) (answer : Answer) → Prints old old [] answer
+pub prints_none : (old : Option (List ℕ)) (answer : Answer) → Prints old old [] answer
 prints_none None answer = tt
 prints_none (Some bytes) (Ok how) = (ap Some (sym (append-nil bytes)), part_none bytes [])
 prints_none (Some bytes) (Err refusal) = (tt, part_none bytes [])
 
--- `compile` puts nothing on the output
-pub prints_compile : (held : Option Held) (old : Option (List ℕ)) (answer : Answer) (command : Command) (from to : String Global) → command ≡ Compile from to → IfSome held (λ h. Prints old old (text_wanted h (Some (command_seen command))) answer)
-prints_compile None old answer command from to is = tt
-prints_compile (Some h) old answer command from to is =
-    subst (λ c. Prints old old (text_wanted h (Some (command_seen c))) answer) (sym is) (prints_none old answer)
+-- a part of a text was put on the output, and then it failed
+pub prints_part : (old new : Option (List ℕ)) (text : List ℕ) (refusal : Refusal) → IfSome old (λ bytes. GainsPart bytes new text) → Prints old new text (Err refusal)
+prints_part None new text refusal h = tt
+prints_part (Some bytes) new text refusal h = (tt, h)
+
+-- all of it was put
+pub prints_all : (old new : Option (List ℕ)) (text : List ℕ) (how : Done) → IfSome old (λ bytes. new ≡ Some (bytes ++ text)) → IfSome old (λ bytes. GainsPart bytes new text) → Prints old new text (Ok how)
+prints_all None new text how a h = tt
+prints_all (Some bytes) new text how a h = (a, h)
+
+-- a text that was put, under another name
+pub put_as : (old new : Option (List ℕ)) (a b : ℕ) (text line : List ℕ) (result : Result (Unit {0}) Failed) → text ≡ line → PutsText old new a b text result → PutsText old new a b line result
+put_as old new a b text line result e p = subst (λ t. PutsText old new a b t result) e p

@@ -19,6 +19,7 @@ use std::alloc::Global;
 fn check_kernel(alloc: Global, text: &[u8]) -> Result<Vec<u8>, Refusal>
     ensures wanted { IfOk result (λ told. CheckWants text.now (ended told.items)) }
     ensures refusal { IfErr result (λ refusal. RefusesText (CheckWants text.now) refusal) }
+    ensures of_check { IfErr result (λ refusal. IsOfCheck (Err refusal)) }
 {
     let kernel = accept(alloc, text)?;
     let told = check_text(alloc, &kernel)?;

@@ -20,10 +20,10 @@ fn why_not(alloc: Global, text: &[u8]) -> Refusal
     requires { sum_kernel_of text.now ≡ None }
     ensures { RefusesText (CompileWants text.now) result }
 {
-    match accept(alloc, text) {
-        Ok(_) => Refusal::NotYet,
-        Err(fault) => Refusal::from(fault),
-    }
+    let Err(fault) = accept(alloc, text) else {
+        return Refusal::NotYet;
+    };
+    Refusal::from(fault)
 }
 
 // The executable of a text.

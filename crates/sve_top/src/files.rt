@@ -10,11 +10,7 @@ use io_edges::files::Files;
 use std::alloc::Global;
 
 /// Reads a file.
-pub fn read_file<F: Files>(
-    alloc: Global,
-    name: &str,
-    files: &mut F,
-) -> Result<Vec<u8>, Refusal>
+pub fn read_file<F: Files>(alloc: Global, name: &str, files: &mut F) -> Result<Vec<u8>, Refusal>
     ensures answer { IfSome (F.held files.old) (λ held. IsFileAnswer (F.faults files.old) (F.faults files.new) (file_of held name.now) (bytes_in result)) }
     ensures held { F.held files.new ≡ F.held files.old }
     ensures later { F.faults files.old ≤ F.faults files.new }

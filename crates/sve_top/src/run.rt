@@ -83,13 +83,7 @@ fn push_dump(
 
 // Runs the program of a file beside the pages of a map.
 #[tactic(auto, using(crate::proofs::Programs::few_pages))]
-fn play(
-    alloc: Global,
-    vl: Vl,
-    task: &Task,
-    bytes: &[u8],
-    map: &[u8],
-) -> Result<Played, Refusal>
+fn play(alloc: Global, vl: Vl, task: &Task, bytes: &[u8], map: &[u8]) -> Result<Played, Refusal>
     ensures work { IfOk result (λ p. run_program vl (task_seen task.now) bytes.now map.now ≡ played p) }
     ensures refusal { IfErr result (λ refusal. RefusesProgram (run_program vl (task_seen task.now) bytes.now map.now) refusal) }
 {

@@ -106,7 +106,11 @@ fn put_reading<S: Sink>(sink: &mut S, fault: ReadFault) -> Result<(), Failed>
 {
     match fault {
         ReadFault::TooLong => put(sink, b"svec: kernel: too long\n"),
-        ReadFault::BadByte { at } => put_numbered(sink, b"svec: kernel: bad byte at ", u64::from(at)),
+        ReadFault::BadByte { at } => put_numbered(
+            sink,
+            b"svec: kernel: bad byte at ",
+            u64::from(at),
+        ),
         ReadFault::TooDeep { token } => {
             put_numbered(sink, b"svec: kernel: too deep at token ", u64::from(token))
         }
@@ -123,10 +127,18 @@ fn put_typing<S: Sink>(sink: &mut S, fault: TypeFault) -> Result<(), Failed>
 {
     match fault {
         TypeFault::Unknown { item } => {
-            put_numbered(sink, b"svec: kernel: unknown name at item ", u64::from(item))
+            put_numbered(
+                sink,
+                b"svec: kernel: unknown name at item ",
+                u64::from(item),
+            )
         }
         TypeFault::Twice { item } => {
-            put_numbered(sink, b"svec: kernel: name declared twice at item ", u64::from(item))
+            put_numbered(
+                sink,
+                b"svec: kernel: name declared twice at item ",
+                u64::from(item),
+            )
         }
         TypeFault::WrongKind { item } => {
             put_numbered(sink, b"svec: kernel: wrong kind at item ", u64::from(item))
@@ -141,10 +153,18 @@ fn put_typing<S: Sink>(sink: &mut S, fault: TypeFault) -> Result<(), Failed>
             u64::from(item),
         ),
         TypeFault::ShiftRange { item } => {
-            put_numbered(sink, b"svec: kernel: shift out of range at item ", u64::from(item))
+            put_numbered(
+                sink,
+                b"svec: kernel: shift out of range at item ",
+                u64::from(item),
+            )
         }
         TypeFault::OffsetRange { item } => {
-            put_numbered(sink, b"svec: kernel: offset out of range at item ", u64::from(item))
+            put_numbered(
+                sink,
+                b"svec: kernel: offset out of range at item ",
+                u64::from(item),
+            )
         }
         TypeFault::TooLarge { size } => {
             put_numbered(sink, b"svec: kernel: too large ", u64::from(size))

@@ -1,7 +1,7 @@
 use Rattle.std.proofs.Common.{refl, ◌∙◌, ap, ◌/◌}
 use Rattle.guest_types.specs.Memory.{merged}
 use Rattle.elf_image.specs.Loaded.{plain}
-use Rattle.sve_top.proofs.Programs.{few_pages, few_alone, list_refused, list_loaded, list_text_loaded}
+use Rattle.sve_top.proofs.Programs.{few_pages, few_alone, list_refused, list_loaded}
 use Rattle.sve_top.proofs.list.words_of.Goals as goal
 
 pub returns-in_err-image-clause-refusal : goal.returns-in_err-image-clause-refusal
@@ -13,11 +13,8 @@ build-requires-clause-few c =
     few_alone c.in_ok-image.image.pages.items c.new.result.items c.new.ensures.items
     (few_pages c.args.bytes.now (plain c.in_ok-image.image) c.in_ok-image.ensures.image)
 
-pub returns-clause-answer : goal.returns-clause-answer
-returns-clause-answer c = list_loaded c.args.bytes.now (plain c.in_ok-image.image) c.in_ok-image.ensures.image
-
-pub returns-clause-text : goal.returns-clause-text
-returns-clause-text c =
+pub returns-clause-work : goal.returns-clause-work
+returns-clause-work c =
     let image = plain c.in_ok-image.image in
-    list_text_loaded c.args.bytes.now image c.in_ok-pages.pages image.code_from (c.saturating_sub.result / 4)
+    list_loaded c.args.bytes.now image c.in_ok-pages.pages image.code_from (c.saturating_sub.result / 4)
     c.in_ok-image.ensures.image (c.in_ok-pages.ensures ∙ ap (merged image.pages) c.new.ensures.items) refl (ap (λ n. n / 4) c.saturating_sub.ensures)

@@ -1,6 +1,6 @@
 use Rattle.std.proofs.Common.{◌-◌, ◌≤◌, Ok}
 use Rattle.sve_top.specs.Listing.{lines_from}
-use Rattle.sve_top.specs.Answer.{PutsText}
+use Rattle.sve_top.specs.Outputs.{PutsText}
 use Rattle.sve_top.proofs.listing.put_lines.Given as goal
 
 abbrev pub invariant-loop-done : goal.invariant-loop-done

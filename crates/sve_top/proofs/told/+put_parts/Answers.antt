@@ -1,5 +1,5 @@
 use Rattle.std.proofs.Common.{subst}
-use Rattle.sve_top.specs.Answer.{PutsText}
+use Rattle.sve_top.specs.Outputs.{PutsText}
 use Rattle.sve_top.proofs.Puts.{puts_then, parts_cons}
 use Rattle.sve_top.proofs.told.+put_parts.Goals as goal
 

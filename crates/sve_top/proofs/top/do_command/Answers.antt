@@ -1,6 +1,38 @@
-use Rattle.sve_top.proofs.Puts.{prints_compile}
+use Rattle.std.proofs.Common.{Some, ap, sym, ◌∙◌}
+use Rattle.std.specs.Prelude.{string_bytes}
+use Rattle.command_line.specs.Line.{CompileLine, CheckLine}
+use Rattle.command_line.specs.Seen.{command_seen}
+use Rattle.sve_top.specs.Answer.{answer_of, text_of, IsAnswer}
+use Rattle.sve_top.specs.Commands.{Wants}
+use Rattle.sve_top.specs.Outputs.{Prints}
+use Rattle.sve_top.proofs.Wanted.{by_line, with_output, prints_silent}
 use Rattle.sve_top.proofs.top.do_command.Goals as goal
+
+pub returns-in-Compile-clause-answer : goal.returns-in-Compile-clause-answer
+returns-in-Compile-clause-answer g c =
+    by_line (g.F.Files.held c.args.files.now) (Some (command_seen c.args.command.now)) (Some (CompileLine c.as_str.result.now c.as_str-in-Compile.result.now))
+    (λ work. IsAnswer (g.F.Files.faults c.args.files.now) (g.F.Files.faults c.compile.new.files) (g.S.Sink.faults c.args.out.now) (g.S.Sink.faults c.args.out.now) (answer_of work) c.compile.result)
+    (ap (λ l. Some l) (ap command_seen c.in-Compile.is ∙ ap (λ a. CompileLine a (string_bytes c.in-Compile.to)) (sym c.as_str.ensures.value) ∙ ap (λ b. CompileLine c.as_str.result.now b) (sym c.as_str-in-Compile.ensures.value)))
+    (with_output (g.F.Files.faults c.args.files.now) (g.F.Files.faults c.compile.new.files) (g.S.Sink.faults c.args.out.now) (g.S.Sink.faults c.args.out.now)
+    (g.F.Files.held c.args.files.now) (λ h. Wants h (Some (CompileLine c.as_str.result.now c.as_str-in-Compile.result.now))) c.compile.result c.compile.ensures.answer)
 
 pub returns-in-Compile-clause-printed : goal.returns-in-Compile-clause-printed
 returns-in-Compile-clause-printed g c =
-    prints_compile (g.F.Files.held c.args.files.now) (g.S.Sink.taken c.args.out.now) _ c.args.command.now c.in-Compile.from c.in-Compile.to c.in-Compile.is
+    by_line (g.F.Files.held c.args.files.now) (Some (command_seen c.args.command.now)) (Some (CompileLine (string_bytes c.in-Compile.from) (string_bytes c.in-Compile.to)))
+    (λ work. Prints (g.S.Sink.taken c.args.out.now) (g.S.Sink.taken c.args.out.now) (text_of work) c.compile.result)
+    (ap (λ l. Some l) (ap command_seen c.in-Compile.is))
+    (prints_silent (g.F.Files.held c.args.files.now) (string_bytes c.in-Compile.from) (string_bytes c.in-Compile.to) (g.S.Sink.taken c.args.out.now) c.compile.result)
+
+pub returns-in-Check-clause-answer : goal.returns-in-Check-clause-answer
+returns-in-Check-clause-answer g c =
+    by_line (g.F.Files.held c.args.files.now) (Some (command_seen c.args.command.now)) (Some (CheckLine c.as_str-in-Check.result.now))
+    (λ work. IsAnswer (g.F.Files.faults c.args.files.now) (g.F.Files.faults c.check.new.files) (g.S.Sink.faults c.args.out.now) (g.S.Sink.faults c.check.new.out) (answer_of work) c.check.result)
+    (ap (λ l. Some l) (ap command_seen c.in-Check.is ∙ ap CheckLine (sym c.as_str-in-Check.ensures.value)))
+    c.check.ensures.answer
+
+pub returns-in-Check-clause-printed : goal.returns-in-Check-clause-printed
+returns-in-Check-clause-printed g c =
+    by_line (g.F.Files.held c.args.files.now) (Some (command_seen c.args.command.now)) (Some (CheckLine c.as_str-in-Check.result.now))
+    (λ work. Prints (g.S.Sink.taken c.args.out.now) (g.S.Sink.taken c.check.new.out) (text_of work) c.check.result)
+    (ap (λ l. Some l) (ap command_seen c.in-Check.is ∙ ap CheckLine (sym c.as_str-in-Check.ensures.value)))
+    c.check.ensures.printed

@@ -1,0 +1,206 @@
+-- What is wanted of a command that reads the text of a kernel.
+use mathlib.Core.Logic.{⊎_elim}
+use Rattle.std.proofs.Common.{◌≡◌, ℕ, List, [], Option, Some, None, Result, Ok, Err, inl, inr, refl, sym, ap, ◌∙◌, subst}
+use Rattle.std.specs.Prelude.{IfSome, IsErrAnd}
+use Rattle.early_kernel.specs.Sum.{SumKernel}
+use Rattle.early_kernel.specs.Reads.{sum_kernel_of}
+use Rattle.command_line.specs.Line.{Line, CompileLine}
+use Rattle.machine_model.specs.declared.elf_fault.ElfFault.{ElfFault}
+use Rattle.machine_model.specs.declared.elf_fault.ElfFault.TheVariants as elf
+use Rattle.kernel_tree.specs.Plain.{Program}
+use Rattle.kernel_syntax.specs.declared.fault.ReadFault.TheVariants as reading
+use Rattle.kernel_types.specs.declared.fault.TypeFault.TheVariants as typing
+use Rattle.kernel_front.specs.declared.fault.KernelFault.{KernelFault}
+use Rattle.kernel_front.specs.declared.fault.KernelFault.TheVariants as kernels
+use Rattle.kernel_front.specs.Verdict.{Verdict, Limited, NoKernel, Refused, Sound, IsVerdict, Explains}
+use Rattle.sve_top.specs.declared.refusal.Refusal.{Refusal}
+use Rattle.sve_top.specs.declared.refusal.Refusal.TheVariants.{Usage, NotYet, Kernel, TooLong, Elf, Map, Memory, File, Output}
+use Rattle.sve_top.specs.Answer.{Held, Work, Answer, answer_of, text_of, of_kernel, of_elf, IsFileAnswer, IsAnswer}
+use Rattle.sve_top.specs.Outputs.{Prints}
+use Rattle.sve_top.proofs.Puts.{prints_none}
+use Rattle.sve_top.specs.Kernels.{IsOfText, IsRefusedFor, IsWorkOn, ByVerdict}
+use Rattle.sve_top.specs.Commands.{AfterRead, OfWanted, RefusesText, Wants, file_of, ended, not_compiled, CompilesEarly, CompileWants, IsOfCheck, IsOfList}
+
+-- ---- verdicts
+
+-- a fault explains the verdict of no sound kernel
+not_sound : (k : Program) (fault : KernelFault) → IsOfText fault → Explains (Sound k) fault → ⊥
+not_sound k (kernels.Unread reading.TooLong) t e = absurd cc
+not_sound k (kernels.Unread (reading.BadByte at)) t e = absurd cc
+not_sound k (kernels.Unread (reading.TooDeep token)) t e = absurd cc
+not_sound k (kernels.Unread (reading.Syntax token)) t e = absurd cc
+not_sound k (kernels.Unread reading.Memory) t e = t
+not_sound k (kernels.Broken fault) t e = let is : Sound k ≡ Refused e.0 = e.1 in absurd cc
+
+refused_for : (sound : Program → Work) (v : Verdict) (fault : KernelFault) → IsOfText fault → Explains v fault → IsWorkOn sound v (Err (Kernel fault))
+refused_for sound (Limited f) fault t e = record { fault = fault; explains = e; of_text = t; work_is = refl }
+refused_for sound NoKernel fault t e = record { fault = fault; explains = e; of_text = t; work_is = refl }
+refused_for sound (Refused r) fault t e = record { fault = fault; explains = e; of_text = t; work_is = refl }
+refused_for sound (Sound k) fault t e = absurd (not_sound k fault t e)
+
+-- a fault of a text is wanted wherever something is
+of_text_refused : (sound : Program → Work) (text : List ℕ) (fault : KernelFault) → IsOfText fault → ((v : Verdict) → IsVerdict text v → Explains v fault) → (work : Work) → ByVerdict sound text work → ByVerdict sound text (Err (Kernel fault))
+of_text_refused sound text fault t all work w =
+    record { verdict = w.verdict; has = w.has; wanted = refused_for sound w.verdict fault t (all w.verdict w.has) }
+
+pub refused_text : (sound : Program → Work) (text : List ℕ) (fault : KernelFault) → ((v : Verdict) → IsVerdict text v → Explains v fault) → RefusesText (ByVerdict sound text) (of_kernel fault)
+refused_text sound text (kernels.Unread reading.TooLong) all = of_text_refused sound text _ tt all
+refused_text sound text (kernels.Unread (reading.BadByte at)) all = of_text_refused sound text _ tt all
+refused_text sound text (kernels.Unread (reading.TooDeep token)) all = of_text_refused sound text _ tt all
+refused_text sound text (kernels.Unread (reading.Syntax token)) all = of_text_refused sound text _ tt all
+refused_text sound text (kernels.Unread reading.Memory) all = tt
+refused_text sound text (kernels.Broken (typing.Unknown item)) all = of_text_refused sound text _ tt all
+refused_text sound text (kernels.Broken (typing.Twice item)) all = of_text_refused sound text _ tt all
+refused_text sound text (kernels.Broken (typing.WrongKind item)) all = of_text_refused sound text _ tt all
+refused_text sound text (kernels.Broken (typing.Mismatch item want found)) all = of_text_refused sound text _ tt all
+refused_text sound text (kernels.Broken (typing.Untyped item)) all = of_text_refused sound text _ tt all
+refused_text sound text (kernels.Broken (typing.LiteralRange item)) all = of_text_refused sound text _ tt all
+refused_text sound text (kernels.Broken (typing.ShiftRange item)) all = of_text_refused sound text _ tt all
+refused_text sound text (kernels.Broken (typing.OffsetRange item)) all = of_text_refused sound text _ tt all
+refused_text sound text (kernels.Broken (typing.TooLarge size)) all = of_text_refused sound text _ tt all
+refused_text sound text (kernels.Broken (typing.TooDeep depth)) all = of_text_refused sound text _ tt all
+refused_text sound text (kernels.Broken typing.Memory) all = tt
+
+pub sound_text : (sound : Program → Work) (text : List ℕ) (k : Program) → IsVerdict text (Sound k) → ByVerdict sound text (sound k)
+sound_text sound text k h = record { verdict = Sound k; has = h; wanted = refl }
+
+-- ---- a file that is read
+
+-- bytes that were read are those that are wanted
+read_is : (x y : ℕ) (wanted : Result (List ℕ) Refusal) (bytes : List ℕ) → IsFileAnswer x y wanted (Ok bytes) → Ok bytes ≡ wanted
+read_is x y wanted bytes h = ⊎_elim (λ e. e) (λ other. absurd (⊎_elim (λ e. not_err e) (λ p. not_err p.0) other)) h
+  where
+    not_err : {r : Refusal} → ◌≡◌ {A = Result (List ℕ) Refusal} (Ok bytes) (Err r) → ⊥
+    not_err e = absurd cc
+
+-- something that holds of a work that is wanted once the file was read
+pub of_read : (x y : ℕ) (held : Option Held) (from bytes : List ℕ) (found : Result (List ℕ) Refusal) (next : List ℕ → Work → Type 0) (work : Work) (P : Work → Type 0) → found ≡ Ok bytes → IfSome held (λ h. IsFileAnswer x y (file_of h from) found) → next bytes work → P work → IfSome held (λ h. OfWanted (AfterRead (file_of h from) next) P)
+of_read x y None from bytes found next work P is read w p = tt
+of_read x y (Some h) from bytes found next work P is read w p =
+    let e : Ok bytes ≡ file_of h from = read_is x y (file_of h from) bytes (subst (IsFileAnswer x y (file_of h from)) is read) in
+    λ other o. (work, subst (λ r. AfterRead r next work) e w, p)
+
+-- something that holds of each work holds of one that is wanted
+pub of_any : (held : Option Held) (from : List ℕ) (next : List ℕ → Work → Type 0) (P : Work → Type 0) → ((work : Work) → P work) → IfSome held (λ h. OfWanted (AfterRead (file_of h from) next) P)
+of_any None from next P all = tt
+of_any (Some h) from next P all = λ work w. (work, w, all work)
+
+-- a read that failed
+failed_read : (x y : ℕ) (wanted : Result (List ℕ) Refusal) (next : List ℕ → Work → Type 0) (refusal : Refusal) (result : Answer) → result ≡ Err refusal → IsFileAnswer x y wanted (Err refusal) → OfWanted (AfterRead wanted next) (λ work. IsFileAnswer x y (answer_of work) result)
+failed_read x y wanted next refusal result is h = λ work w. (
+  work,
+  w,
+  ⊎_elim
+      (λ e. let a : AfterRead (Err refusal) next work = subst (λ r. AfterRead r next work) (sym e) w in inl (is ∙ sym (ap answer_of a)))
+      (⊎_elim (λ e. inr (inl (is ∙ same Memory e))) (λ p. inr (inr (is ∙ same File p.0, p.1))))
+      h,
+)
+  where
+    same : (other : Refusal) → ◌≡◌ {A = Result (List ℕ) Refusal} (Err refusal) (Err other) → ◌≡◌ {A = Answer} (Err refusal) (Err other)
+    same other e = cc
+
+pub is_err : (refusal : Refusal) (result : Answer) → IsErrAnd result (λ r. r ≡ refusal) → result ≡ Err refusal
+is_err refusal (Ok how) h = absurd h
+is_err refusal (Err r) h = ap (λ e. Err e) h
+
+pub read_failed : (x y : ℕ) (held : Option Held) (from : List ℕ) (next : List ℕ → Work → Type 0) (found : Result (List ℕ) Refusal) (refusal : Refusal) (result : Answer) → found ≡ Err refusal → IsErrAnd result (λ r. r ≡ refusal) → IfSome held (λ h. IsFileAnswer x y (file_of h from) found) → IfSome held (λ h. OfWanted (AfterRead (file_of h from) next) (λ work. IsFileAnswer x y (answer_of work) result))
+read_failed x y None from next found refusal result is err read = tt
+read_failed x y (Some h) from next found refusal result is err read =
+    failed_read x y (file_of h from) next refusal result (is_err refusal result err) (subst (IsFileAnswer x y (file_of h from)) is read)
+
+-- a text that was read and is refused
+refused_one : (x y z : ℕ) (wanted : Result (List ℕ) Refusal) (next : List ℕ → Work → Type 0) (bytes : List ℕ) (refusal : Refusal) (result : Answer) → Ok bytes ≡ wanted → result ≡ Err refusal → RefusesText (next bytes) refusal → OfWanted (AfterRead wanted next) (λ work. IsFileAnswer x z (answer_of work) result)
+refused_one x y z wanted next bytes refusal result e is h = λ work w. by refusal is h work (subst (λ r. AfterRead r next work) (sym e) w) w
+  where
+    by : (refusal : Refusal) → result ≡ Err refusal → RefusesText (next bytes) refusal → (work : Work) → next bytes work → AfterRead wanted next work → (other : Work) × AfterRead wanted next other × IsFileAnswer x z (answer_of other) result
+    by Memory is h work n w = (work, w, inr (inl is))
+    by NotYet is h work n w = (Err NotYet, subst (λ r. AfterRead r next (Err NotYet)) e (h work n), inl is)
+    by (Kernel fault) is h work n w = (Err (Kernel fault), subst (λ r. AfterRead r next (Err (Kernel fault))) e (h work n), inl is)
+    by Usage is h work n w = absurd h
+    by TooLong is h work n w = absurd h
+    by (Elf fault) is h work n w = absurd h
+    by (Map fault) is h work n w = absurd h
+    by File is h work n w = absurd h
+    by Output is h work n w = absurd h
+
+pub text_refused : (x y z : ℕ) (held : Option Held) (from bytes : List ℕ) (next : List ℕ → Work → Type 0) (found : Result (List ℕ) Refusal) (refusal : Refusal) (result : Answer) → found ≡ Ok bytes → IsErrAnd result (λ r. r ≡ refusal) → IfSome held (λ h. IsFileAnswer x y (file_of h from) found) → RefusesText (next bytes) refusal → IfSome held (λ h. OfWanted (AfterRead (file_of h from) next) (λ work. IsFileAnswer x z (answer_of work) result))
+text_refused x y z None from bytes next found refusal result is err read h = tt
+text_refused x y z (Some held) from bytes next found refusal result is err read h =
+    refused_one x y z (file_of held from) next bytes refusal result (read_is x y (file_of held from) bytes (subst (IsFileAnswer x y (file_of held from)) is read)) (is_err refusal result err) h
+
+-- ---- answers of commands with an output
+
+pub with_output : (x y a b : ℕ) (held : Option Held) (W : Held → Work → Type 0) (result : Answer) → IfSome held (λ h. OfWanted (W h) (λ work. IsFileAnswer x y (answer_of work) result)) → IfSome held (λ h. OfWanted (W h) (λ work. IsAnswer x y a b (answer_of work) result))
+with_output x y a b None W result h = tt
+with_output x y a b (Some held) W result h = λ work w. let p = h work w in (p.0, p.1, inl p.2)
+
+-- the one work that is wanted
+pub of_one : (held : Option Held) (f : Held → Work) (P : Work → Type 0) → IfSome held (λ h. P (f h)) → IfSome held (λ h. OfWanted (λ work. work ≡ f h) P)
+of_one None f P h = tt
+of_one (Some held) f P h = λ work w. (f held, refl, h)
+
+pub of_each : (held : Option Held) (W : Held → Work → Type 0) (P Q : Work → Type 0) → ((work : Work) → P work → Q work) → IfSome held (λ h. OfWanted (W h) P) → IfSome held (λ h. OfWanted (W h) Q)
+of_each None W P Q all h = tt
+of_each (Some held) W P Q all h = λ work w. let p = h work w in (p.0, p.1, all p.0 p.2)
+
+-- ---- compile
+
+pub compiles_not_yet : (text : List ℕ) (k : Program) → sum_kernel_of text ≡ None → IsVerdict text (Sound k) → RefusesText (CompileWants text) NotYet
+compiles_not_yet text k e h = λ work w. subst (λ o. CompilesEarly o text (Err NotYet)) (sym e) (sound_text not_compiled text k h)
+
+pub compiles_never : (text : List ℕ) (fault : KernelFault) → sum_kernel_of text ≡ None → ((v : Verdict) → IsVerdict text v → Explains v fault) → RefusesText (CompileWants text) (of_kernel fault)
+compiles_never text fault e all = subst (λ o. RefusesText (λ work. CompilesEarly o text work) (of_kernel fault)) (sym e) (refused_text not_compiled text fault all)
+
+-- what is wanted of `compile` has no text
+no_text : (v : Verdict) (work : Work) → IsWorkOn not_compiled v work → text_of work ≡ []
+no_text (Limited fault) work w = ap text_of w.work_is
+no_text NoKernel work w = ap text_of w.work_is
+no_text (Refused refusal) work w = ap text_of w.work_is
+no_text (Sound k) work w = ap text_of w
+
+no_early_text : (o : Option SumKernel) (text : List ℕ) (work : Work) → CompilesEarly o text work → text_of work ≡ []
+no_early_text (Some k) text work w = ap text_of w
+no_early_text None text work w = no_text w.verdict work w.wanted
+
+pub compile_silent : (r : Result (List ℕ) Refusal) (work : Work) → AfterRead r CompileWants work → text_of work ≡ []
+compile_silent (Ok text) work w = no_early_text (sum_kernel_of text) text work w
+compile_silent (Err refusal) work w = ap text_of w
+
+-- ---- which refusals come of which command
+
+pub of_check : (fault : KernelFault) → IsOfCheck (Err (of_kernel fault))
+of_check (kernels.Unread reading.TooLong) = tt
+of_check (kernels.Unread (reading.BadByte at)) = tt
+of_check (kernels.Unread (reading.TooDeep token)) = tt
+of_check (kernels.Unread (reading.Syntax token)) = tt
+of_check (kernels.Unread reading.Memory) = tt
+of_check (kernels.Broken (typing.Unknown item)) = tt
+of_check (kernels.Broken (typing.Twice item)) = tt
+of_check (kernels.Broken (typing.WrongKind item)) = tt
+of_check (kernels.Broken (typing.Mismatch item want found)) = tt
+of_check (kernels.Broken (typing.Untyped item)) = tt
+of_check (kernels.Broken (typing.LiteralRange item)) = tt
+of_check (kernels.Broken (typing.ShiftRange item)) = tt
+of_check (kernels.Broken (typing.OffsetRange item)) = tt
+of_check (kernels.Broken (typing.TooLarge size)) = tt
+of_check (kernels.Broken (typing.TooDeep depth)) = tt
+of_check (kernels.Broken typing.Memory) = tt
+
+pub of_list : (fault : ElfFault) → IsOfList (Err (of_elf fault))
+of_list (elf.Short need have) = tt
+of_list elf.NotElf = tt
+of_list elf.NotAarch64 = tt
+of_list elf.NotStatic = tt
+of_list (elf.BadSegment index) = tt
+of_list elf.SegmentsClash = tt
+of_list elf.TooManyPages = tt
+of_list elf.Memory = tt
+
+-- ---- lines
+
+pub by_line : (held : Option Held) (c d : Option Line) (P : Work → Type 0) → c ≡ d → IfSome held (λ h. OfWanted (Wants h d) P) → IfSome held (λ h. OfWanted (Wants h c) P)
+by_line held c d P e h = subst (λ l. IfSome held (λ h. OfWanted (Wants h l) P)) (sym e) h
+
+pub prints_silent : (held : Option Held) (from to : List ℕ) (old : Option (List ℕ)) (result : Answer) → IfSome held (λ h. OfWanted (Wants h (Some (CompileLine from to))) (λ work. Prints old old (text_of work) result))
+prints_silent None from to old result = tt
+prints_silent (Some h) from to old result = λ work w. (work, w, subst (λ t. Prints old old t result) (sym (compile_silent (file_of h from) work w)) (prints_none old result))

@@ -1,0 +1,45 @@
+use Rattle.std.proofs.Common.{Some, Err, ap, sym, ◌∙◌, subst}
+use Rattle.std.specs.Prelude.{IfSome, option_map}
+use Rattle.command_line.specs.Line.{line_of}
+use Rattle.command_line.specs.Seen.{texts, command_seen}
+use Rattle.sve_top.specs.Answer.{answer_of, text_of, IsAnswer}
+use Rattle.sve_top.specs.Commands.{Wants, OfWanted}
+use Rattle.sve_top.specs.Outputs.{Prints}
+use Rattle.sve_top.proofs.Wanted.{by_line, is_err}
+use Rattle.sve_top.proofs.top.do_words.Goals as goal
+
+pub returns-in_err-done-clause-answer : goal.returns-in_err-done-clause-answer
+returns-in_err-done-clause-answer g c =
+    subst
+    (λ r. IfSome (g.F.Files.held c.args.files.now) (λ held. OfWanted (Wants held (line_of (texts c.args.words.now))) (λ work. IsAnswer (g.F.Files.faults c.args.files.now) (g.F.Files.faults c.do_command.new.files) (g.S.Sink.faults c.args.out.now) (g.S.Sink.faults c.do_command.new.out) (answer_of work) r)))
+    (c.in_err-done.was ∙ sym (is_err c.in_err-done.field-0.0 c.from_residual-in_err-done.result c.from_residual-in_err-done.ensures.1))
+    (by_line (g.F.Files.held c.args.files.now) (line_of (texts c.args.words.now)) (Some (command_seen c.in-Some.command))
+    (λ work. IsAnswer (g.F.Files.faults c.args.files.now) (g.F.Files.faults c.do_command.new.files) (g.S.Sink.faults c.args.out.now) (g.S.Sink.faults c.do_command.new.out) (answer_of work) c.do_command.result)
+    (sym c.in_ok-command.ensures ∙ ap (option_map command_seen) c.in-Some.is) c.do_command.ensures.answer)
+
+pub returns-in_err-done-clause-printed : goal.returns-in_err-done-clause-printed
+returns-in_err-done-clause-printed g c =
+    subst
+    (λ r. IfSome (g.F.Files.held c.args.files.now) (λ held. OfWanted (Wants held (line_of (texts c.args.words.now))) (λ work. Prints (g.S.Sink.taken c.args.out.now) (g.S.Sink.taken c.do_command.new.out) (text_of work) r)))
+    (c.in_err-done.was ∙ sym (is_err c.in_err-done.field-0.0 c.from_residual-in_err-done.result c.from_residual-in_err-done.ensures.1))
+    (by_line (g.F.Files.held c.args.files.now) (line_of (texts c.args.words.now)) (Some (command_seen c.in-Some.command))
+    (λ work. Prints (g.S.Sink.taken c.args.out.now) (g.S.Sink.taken c.do_command.new.out) (text_of work) c.do_command.result)
+    (sym c.in_ok-command.ensures ∙ ap (option_map command_seen) c.in-Some.is) c.do_command.ensures.printed)
+
+pub returns-clause-answer : goal.returns-clause-answer
+returns-clause-answer g c =
+    subst
+    (λ r. IfSome (g.F.Files.held c.args.files.now) (λ held. OfWanted (Wants held (line_of (texts c.args.words.now))) (λ work. IsAnswer (g.F.Files.faults c.args.files.now) (g.F.Files.faults c.do_command.new.files) (g.S.Sink.faults c.args.out.now) (g.S.Sink.faults c.do_command.new.out) (answer_of work) r)))
+    c.in_ok-done.was
+    (by_line (g.F.Files.held c.args.files.now) (line_of (texts c.args.words.now)) (Some (command_seen c.in-Some.command))
+    (λ work. IsAnswer (g.F.Files.faults c.args.files.now) (g.F.Files.faults c.do_command.new.files) (g.S.Sink.faults c.args.out.now) (g.S.Sink.faults c.do_command.new.out) (answer_of work) c.do_command.result)
+    (sym c.in_ok-command.ensures ∙ ap (option_map command_seen) c.in-Some.is) c.do_command.ensures.answer)
+
+pub returns-clause-printed : goal.returns-clause-printed
+returns-clause-printed g c =
+    subst
+    (λ r. IfSome (g.F.Files.held c.args.files.now) (λ held. OfWanted (Wants held (line_of (texts c.args.words.now))) (λ work. Prints (g.S.Sink.taken c.args.out.now) (g.S.Sink.taken c.do_command.new.out) (text_of work) r)))
+    c.in_ok-done.was
+    (by_line (g.F.Files.held c.args.files.now) (line_of (texts c.args.words.now)) (Some (command_seen c.in-Some.command))
+    (λ work. Prints (g.S.Sink.taken c.args.out.now) (g.S.Sink.taken c.do_command.new.out) (text_of work) c.do_command.result)
+    (sym c.in_ok-command.ensures ∙ ap (option_map command_seen) c.in-Some.is) c.do_command.ensures.printed)
