@@ -74,8 +74,8 @@ fn push_byte(text: &mut Vec<u8>, byte: u8) -> Result<(), AllocError>
     Ok(())
 }
 
-// A number of 64 bits.
-fn push_address(text: &mut Vec<u8>, address: u64) -> Result<(), AllocError>
+/// Appends a number of 64 bits in sixteen hexadecimal digits.
+pub fn push_address(text: &mut Vec<u8>, address: u64) -> Result<(), AllocError>
     ensures { OnOk result (text.new.items ≡ text.old.items ++ hex_digits 16 address) }
 {
     text.extend_from_slice(&address_digits(address))?;
