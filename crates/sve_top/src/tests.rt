@@ -10,6 +10,8 @@ use io_edges::sink::{Failed, Sink};
 use std::alloc::{AllocError, Global};
 use std::test::Fail;
 
+mod language;
+
 // The first 24 bytes of an executable for 64-bit Arm, from another linker's output for the same layout.
 const HEADER: [u8; 24] = [
     0x7f, 0x45, 0x4c, 0x46, 2, 1, 1, 0, 0, 0, 0, 0, 0, 0, 0, 0, 2, 0, 0xb7, 0, 1, 0, 0, 0,
@@ -75,11 +77,17 @@ impl Sink for OneByte {
     }
 }
 
-// A command over one file `in`.
+// A page map: two bytes at the front of a page.
+const MAP: &[u8] = b"map 0x10000 1 rw\nset 0x10000 0102\n";
+
+// A command over two files: `in`, and the page map `m`.
 fn done(alloc: Global, line: &str, file: &[u8], fails: Fails) -> Result<Option<Came>, AllocError> {
     let name = String::from_str(alloc, "in")?;
     let bytes = file.to_vec(alloc)?;
-    let listed = vec![in alloc; NamedFile { name, bytes }]?;
+    let file = NamedFile { name, bytes };
+    let name = String::from_str(alloc, "m")?;
+    let bytes = MAP.to_vec(alloc)?;
+    let listed = vec![in alloc; file, NamedFile { name, bytes }]?;
     if !have_different_names(&listed) {
         return Ok(None);
     }
@@ -130,17 +138,24 @@ fn kernel_is_compiled(rt: HostRuntime) -> Result<(), Fail> {
 
 #[test]
 fn other_texts_are_refused(rt: HostRuntime) -> Result<(), Fail> {
-    let texts = [
-        b"kernel f(x: u64) -> u64 { return x + ; }".as_slice(),
-        b"kernel f(x: u8) { }".as_slice(),
-        b"".as_slice(),
+    let rows = [
+        (
+            b"kernel f(x: u64) -> u64 { return x + ; }".as_slice(),
+            b"svec: kernel: syntax at token 13\n".as_slice(),
+        ),
+        (b"", b"svec: kernel: syntax at token 0\n"),
+        (b"kernel f(x: u8) { }", b"svec: kernel: not yet\n"),
+        (
+            b"kernel f(x: u64) -> u64 { return y + 1; }",
+            b"svec: kernel: unknown name at item 1\n",
+        ),
     ];
-    for text in texts {
+    for (text, line) in rows {
         let none = Fails::none(rt.alloc());
         let came = done(rt.alloc(), "compile in out", text, none)?.expect(&rt, "a command");
         assert_eq!(rt; came.status, 3);
         assert!(rt; !came.written);
-        assert_eq!(rt; came.told.as_slice(), b"svec: kernel: not yet\n".as_slice());
+        assert_eq!(rt; came.told.as_slice(), line);
     }
     Ok(())
 }
@@ -150,8 +165,10 @@ fn failing_files_are_told(rt: HostRuntime) -> Result<(), Fail> {
     let rows = [
         ("compile in out", 0),
         ("compile in out", 1),
+        ("check in", 0),
         ("list in", 0),
         ("run in", 0),
+        ("run --map m in", 1),
     ];
     for (line, call) in rows {
         let fails = Fails {
@@ -176,6 +193,8 @@ fn other_words_are_no_command(rt: HostRuntime) -> Result<(), Fail> {
         "list",
         "list in out",
         "list --vl 128 in",
+        "check",
+        "run --dump 0:0 in",
     ];
     for line in lines {
         let none = Fails::none(rt.alloc());
@@ -203,6 +222,12 @@ fn programs_run(rt: HostRuntime) -> Result<(), Fail> {
             E1,
             6,
             b"spent pc 0x0000000000400080\nsteps 2\n".as_slice(),
+        ),
+        (
+            "run --map m --dump 0xfffe:4 in 41",
+            E1,
+            0,
+            b"result 0x000000000000002a\nsteps 3\n000000000000fffe: -- -- 01 02\n".as_slice(),
         ),
         (
             "run in",
@@ -233,6 +258,16 @@ fn short_file_is_refused(rt: HostRuntime) -> Result<(), Fail> {
             b"svec: file: short 64 63\n".as_slice()
         );
     }
+    Ok(())
+}
+
+#[test]
+fn maps_are_refused(rt: HostRuntime) -> Result<(), Fail> {
+    let none = Fails::none(rt.alloc());
+    let came = done(rt.alloc(), "run --map in in", &E1, none)?.expect(&rt, "a command");
+    assert_eq!(rt; came.status, 4);
+    assert_eq!(rt; came.printed.len(), 0);
+    assert_eq!(rt; came.told.as_slice(), b"svec: map: bad line 1\n".as_slice());
     Ok(())
 }
 
