@@ -8,6 +8,7 @@ use Rattle.command_line.specs.Line.{Line, CompileLine}
 use Rattle.machine_model.specs.declared.elf_fault.ElfFault.{ElfFault}
 use Rattle.machine_model.specs.declared.elf_fault.ElfFault.TheVariants as elf
 use Rattle.kernel_tree.specs.Plain.{Program}
+use Rattle.kernel_tree.specs.Typing.{Refusal as Typing}
 use Rattle.kernel_syntax.specs.declared.fault.ReadFault.TheVariants as reading
 use Rattle.kernel_types.specs.declared.fault.TypeFault.TheVariants as typing
 use Rattle.kernel_front.specs.declared.fault.KernelFault.{KernelFault}
@@ -23,6 +24,9 @@ use Rattle.sve_top.specs.Commands.{AfterRead, OfWanted, RefusesText, Wants, file
 
 -- ---- verdicts
 
+not_refused : (k : Program) (r : Typing) → Sound k ≡ Refused r → ⊥
+not_refused k r e = absurd cc
+
 -- a fault explains the verdict of no sound kernel
 not_sound : (k : Program) (fault : KernelFault) → IsOfText fault → Explains (Sound k) fault → ⊥
 not_sound k (kernels.Unread reading.TooLong) t e = absurd cc
@@ -30,7 +34,17 @@ not_sound k (kernels.Unread (reading.BadByte at)) t e = absurd cc
 not_sound k (kernels.Unread (reading.TooDeep token)) t e = absurd cc
 not_sound k (kernels.Unread (reading.Syntax token)) t e = absurd cc
 not_sound k (kernels.Unread reading.Memory) t e = t
-not_sound k (kernels.Broken fault) t e = let is : Sound k ≡ Refused e.0 = e.1 in absurd cc
+not_sound k (kernels.Broken (typing.Unknown item)) t e = not_refused k e.0 e.1
+not_sound k (kernels.Broken (typing.Twice item)) t e = not_refused k e.0 e.1
+not_sound k (kernels.Broken (typing.WrongKind item)) t e = not_refused k e.0 e.1
+not_sound k (kernels.Broken (typing.Mismatch item want found)) t e = not_refused k e.0 e.1
+not_sound k (kernels.Broken (typing.Untyped item)) t e = not_refused k e.0 e.1
+not_sound k (kernels.Broken (typing.LiteralRange item)) t e = not_refused k e.0 e.1
+not_sound k (kernels.Broken (typing.ShiftRange item)) t e = not_refused k e.0 e.1
+not_sound k (kernels.Broken (typing.OffsetRange item)) t e = not_refused k e.0 e.1
+not_sound k (kernels.Broken (typing.TooLarge size)) t e = not_refused k e.0 e.1
+not_sound k (kernels.Broken (typing.TooDeep depth)) t e = not_refused k e.0 e.1
+not_sound k (kernels.Broken typing.Memory) t e = t
 
 refused_for : (sound : Program → Work) (v : Verdict) (fault : KernelFault) → IsOfText fault → Explains v fault → IsWorkOn sound v (Err (Kernel fault))
 refused_for sound (Limited f) fault t e = record { fault = fault; explains = e; of_text = t; work_is = refl }
