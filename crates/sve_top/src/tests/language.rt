@@ -238,11 +238,15 @@ struct Row {
     expected: String,
 }
 
-fn row_of(alloc: Global, row: &str) -> Result<Row, Fail> {
-    let (text, expected) = row.split_once('#').ok_or("no lines")?;
-    let said = check(alloc, text)?.ok_or("two files of one name")?;
+fn row_of(alloc: Global, row: &str) -> Result<Option<Row>, AllocError> {
+    let Some((text, expected)) = row.split_once('#') else {
+        return Ok(None);
+    };
+    let Some(said) = check(alloc, text)? else {
+        return Ok(None);
+    };
     let expected = lines(alloc, expected)?;
-    Ok(Row { said, expected })
+    Ok(Some(Row { said, expected }))
 }
 
 // A sum, or copies, of so many parts between a start and an end.
@@ -264,15 +268,15 @@ fn repeated(
 #[test]
 fn examples_of_the_document(rt: HostRuntime) -> Result<(), Fail> {
     for row in EXAMPLES.lines() {
-        let Row { said, expected } = row_of(rt.alloc(), row)?;
+        let Row { said, expected } = row_of(rt.alloc(), row)?.expect(&rt, "a row");
         if expected.as_str().starts_with("svec: ") {
             assert_eq!(rt; said.status, 3, "{row}");
             assert_eq!(rt; said.err.as_slice(), expected.as_bytes(), "{row}");
-            assert!(said.out.is_empty());
+            assert!(rt; said.out.is_empty());
         } else {
             assert_eq!(rt; said.status, 0, "{row}");
             assert_eq!(rt; said.out.as_slice(), expected.as_bytes(), "{row}");
-            assert!(said.err.is_empty());
+            assert!(rt; said.err.is_empty());
         }
     }
     Ok(())
@@ -281,10 +285,10 @@ fn examples_of_the_document(rt: HostRuntime) -> Result<(), Fail> {
 #[test]
 fn refused_kernels(rt: HostRuntime) -> Result<(), Fail> {
     for row in REFUSED.lines() {
-        let Row { said, expected } = row_of(rt.alloc(), row)?;
+        let Row { said, expected } = row_of(rt.alloc(), row)?.expect(&rt, "a row");
         assert_eq!(rt; said.status, 3, "{row}");
         assert_eq!(rt; said.err.as_slice(), expected.as_bytes(), "{row}");
-        assert!(said.out.is_empty());
+        assert!(rt; said.out.is_empty());
     }
     Ok(())
 }
@@ -292,10 +296,10 @@ fn refused_kernels(rt: HostRuntime) -> Result<(), Fail> {
 #[test]
 fn accepted_kernels(rt: HostRuntime) -> Result<(), Fail> {
     for row in ACCEPTED.lines() {
-        let Row { said, expected } = row_of(rt.alloc(), row)?;
+        let Row { said, expected } = row_of(rt.alloc(), row)?.expect(&rt, "a row");
         assert_eq!(rt; said.status, 0, "{row}");
-        assert!(said.out.ends_with(expected.as_bytes()));
-        assert!(said.err.is_empty());
+        assert!(rt; said.out.ends_with(expected.as_bytes()));
+        assert!(rt; said.err.is_empty());
     }
     Ok(())
 }
@@ -316,7 +320,7 @@ fn limits_of_kernels(rt: HostRuntime) -> Result<(), Fail> {
         (deeper, "svec: kernel: too deep 65\n"),
     ];
     for (text, line) in kernels {
-        let said = check(rt.alloc(), text.as_str())?.ok_or("two files of one name")?;
+        let said = check(rt.alloc(), text.as_str())?.expect(&rt, "different names");
         assert_eq!(rt; said.err.as_slice(), line.as_bytes());
     }
     Ok(())
@@ -325,8 +329,8 @@ fn limits_of_kernels(rt: HostRuntime) -> Result<(), Fail> {
 // Forty values that are live at once are more than there are registers, and are told all the same.
 #[test]
 fn many_live_values(rt: HostRuntime) -> Result<(), Fail> {
-    let said = check(rt.alloc(), MANY)?.ok_or("two files of one name")?;
+    let said = check(rt.alloc(), MANY)?.expect(&rt, "different names");
     assert_eq!(rt; said.status, 0);
-    assert!(said.out.ends_with(b"size 164\nclass vector 8\nneed z 40 p 0 x 40\n".as_slice()));
+    assert!(rt; said.out.ends_with(b"size 164\nclass vector 8\nneed z 40 p 0 x 40\n".as_slice()));
     Ok(())
 }
