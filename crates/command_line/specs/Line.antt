@@ -24,6 +24,7 @@ pub record Task : Type 0 where
 pub data Line : Type 0 where
   CompileLine : (from to : List ℕ) → Line
   CheckLine : (from : List ℕ) → Line
+  EvalLine : Task → Line
   ListLine : (from : List ℕ) → Line
   RunLine : (vl : ℕ) → Task → Line
 
@@ -185,11 +186,20 @@ one_file _ = None
 unfoldable pub file_of : Words → Option (List ℕ)
 file_of words = option_and_then one_file (positional words)
 
+-- `eval` with these options and positional words
+unfoldable pub eval_with : Options → Words → Option Line
+eval_with o words = if is_some o.vl then None else option_map EvalLine (task_of o words)
+
+-- `eval [--map M] [--steps N] [--dump A:L] IN [ARG]..`
+unfoldable pub eval_of : Words → Option Line
+eval_of words = option_and_then (λ p. option_and_then (eval_with p.0) (positional p.1)) (options_of words)
+
 -- the command of some words, where they are one
 unfoldable pub line_of : Words → Option Line
 line_of [] = None
 line_of (name ∷ words) =
     if bytes_eq name (codes "compile") then compile_of words else
     if bytes_eq name (codes "check") then option_map CheckLine (file_of words) else
+    if bytes_eq name (codes "eval") then eval_of words else
     if bytes_eq name (codes "list") then option_map ListLine (file_of words) else
     if bytes_eq name (codes "run") then run_of words else None

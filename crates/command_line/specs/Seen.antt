@@ -2,11 +2,11 @@
 use Rattle.std.specs.Prelude.{ℕ, List, map, Option, option_map, String, string_bytes, Vec}
 use Rattle.std.specs.Borrow.{Bor}
 use Rattle.command_line.specs.declared.command.Command.{Command}
-use Rattle.command_line.specs.declared.command.Command.TheVariants.{Compile, Check, List as Listing, Run}
+use Rattle.command_line.specs.declared.command.Command.TheVariants.{Compile, Check, Eval, List as Listing, Run}
 use Rattle.command_line.specs.declared.command.Extent.{Extent as ExtentData}
 use Rattle.command_line.specs.declared.command.Task.{Task as TaskData}
 use Rattle.command_line.specs.declared.options.Settings.{Settings}
-use Rattle.command_line.specs.Line.{Words, Line, Task, Extent, CompileLine, CheckLine, ListLine, RunLine, Options}
+use Rattle.command_line.specs.Line.{Words, Line, Task, Extent, CompileLine, CheckLine, EvalLine, ListLine, RunLine, Options}
 
 abbrev pub texts : {A : Type 0} → List (String A) → Words
 texts words = map string_bytes words
@@ -51,5 +51,6 @@ task_seen t = record {
 abbrev pub command_seen : Command → Line
 command_seen (Compile from to) = CompileLine (string_bytes from) (string_bytes to)
 command_seen (Check from) = CheckLine (string_bytes from)
+command_seen (Eval task) = EvalLine (task_seen task)
 command_seen (Listing from) = ListLine (string_bytes from)
 command_seen (Run vl task) = RunLine vl (task_seen task)

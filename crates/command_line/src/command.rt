@@ -11,6 +11,8 @@ pub enum Command {
     Compile { from: String, to: String },
     /// Tells the size, the class and the needs of the kernel in the file `from`.
     Check { from: String },
+    /// Evaluates a kernel; its steps are iterations.
+    Eval(Task),
     /// Lists the instructions of the program in the file `from`.
     List { from: String },
     /// Runs a program at a vector length.

@@ -1,7 +1,7 @@
 //! Reading the words of a command.
 
 ghost use Rattle.std.specs.Prelude.{◌≡◌, ◌≤◌, IfOk, IfSome, option_map, is_some, length, [], string_bytes};
-ghost use Rattle.command_line.specs.Line.{is_length, positional, arguments_from, arguments_of, task_of, run_with, run_of, compile_of, file_of, line_of, CheckLine, ListLine};
+ghost use Rattle.command_line.specs.Line.{is_length, positional, arguments_from, arguments_of, task_of, run_with, run_of, compile_of, file_of, eval_with, eval_of, line_of, CheckLine, ListLine};
 ghost use Rattle.command_line.specs.Seen.{texts, texts_in, items_in, bytes_left, options_seen, task_seen, command_seen};
 
 use crate::command::{Command, Task};
@@ -85,7 +85,11 @@ fn owned(alloc: Global, text: Option<&str>) -> Result<Option<String>, AllocError
 
 // What is to be run, by its options and positional words.
 #[tactic(auto, unfolding(crate::specs::Line::task_of))]
-fn task(alloc: Global, settings: Settings<'_>, words: &[String]) -> Result<Option<Task>, AllocError>
+fn task(
+    alloc: Global,
+    settings: Settings<'_>,
+    words: &[String],
+) -> Result<Option<Task>, AllocError>
     ensures { IfOk result (λ o. option_map task_seen o ≡ task_of (options_seen settings.entry) (texts words.now)) }
 {
     let [file, rest @ ..] = words else {
@@ -186,10 +190,42 @@ fn list(alloc: Global, words: &[String]) -> Result<Option<Command>, AllocError>
     }
 }
 
+// An evaluation with these options and positional words.
+#[tactic(auto, unfolding(crate::specs::Line::eval_with))]
+fn eval_with(
+    alloc: Global,
+    settings: Settings<'_>,
+    words: &[String],
+) -> Result<Option<Command>, AllocError>
+    ensures { IfOk result (λ o. option_map command_seen o ≡ eval_with (options_seen settings.entry) (texts words.now)) }
+{
+    if settings.vl.is_some() {
+        return Ok(None);
+    }
+    match task(alloc, settings, words)? {
+        Some(task) => Ok(Some(Command::Eval(task))),
+        None => Ok(None),
+    }
+}
+
+// The command of the words behind `eval`.
+#[tactic(auto, unfolding(crate::specs::Line::eval_of))]
+fn eval(alloc: Global, words: &[String]) -> Result<Option<Command>, AllocError>
+    ensures { IfOk result (λ o. option_map command_seen o ≡ eval_of (texts words.now)) }
+{
+    let Some((settings, rest)) = options(words) else {
+        return Ok(None);
+    };
+    let Some(found) = positional(alloc, rest)? else {
+        return Ok(None);
+    };
+    eval_with(alloc, settings, &found)
+}
+
 /// The command that the words spell, where they are one. The words are those after the program's name.
 ///
 /// The first word names the command, options stand next and positional words last:
-/// `compile IN OUT`, `check IN`, `list FILE` and
+/// `compile IN OUT`, `check IN`, `eval [--map M] [--steps N] [--dump A:L] IN [ARG]..`, `list FILE` and
 /// `run [--vl N] [--steps N] [--map M] [--dump A:L] FILE [ARG]..`.
 #[tactic(auto, unfolding(crate::specs::Line::line_of))]
 pub fn read_line(alloc: Global, words: &[String]) -> Result<Option<Command>, AllocError>
@@ -201,6 +237,7 @@ pub fn read_line(alloc: Global, words: &[String]) -> Result<Option<Command>, All
     match name.as_str() {
         "compile" => compile(alloc, rest),
         "check" => check(alloc, rest),
+        "eval" => eval(alloc, rest),
         "list" => list(alloc, rest),
         "run" => run(alloc, rest),
         _ => Ok(None),
@@ -235,6 +272,8 @@ mod tests {
             "run e1.elf -5",
             "run e1.elf --vl 128",
             "check a b",
+            "eval",
+            "eval --vl 128 k",
             "run --map -m e1.elf",
             "run --map= e1.elf",
             "run --map m --map m e1.elf",
@@ -256,7 +295,9 @@ mod tests {
     fn is_run(command: &Option<Command>, vl: u32, steps: u64, arg: u64) -> bool {
         match command {
             Some(Command::Run { vl: bits, task }) => {
-                bits.bits() == vl && task.steps == steps && task.args.as_slice() == [arg].as_slice()
+                bits.bits() == vl
+                    && task.steps == steps
+                    && task.args.as_slice() == [arg].as_slice()
             }
             _ => false,
         }
@@ -286,10 +327,20 @@ mod tests {
     }
 
     #[test]
-    fn checks(rt: HostRuntime) -> Result<(), Fail> {
+    fn kernels(rt: HostRuntime) -> Result<(), Fail> {
         let check = read(rt.alloc(), "check k")?;
         let good = match &check {
             Some(Command::Check { from }) => from.as_str() == "k",
+            _ => false,
+        };
+        assert!(rt; good);
+        let eval = read(rt.alloc(), "eval --steps=7 k -1")?;
+        assert!(rt; eval.is_none());
+        let eval = read(rt.alloc(), "eval --steps=7 k 5")?;
+        let good = match &eval {
+            Some(Command::Eval(task)) => {
+                task.steps == 7 && task.args.as_slice() == [5].as_slice()
+            }
             _ => false,
         };
         assert!(rt; good);

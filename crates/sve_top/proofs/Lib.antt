@@ -3,3 +3,4 @@ pub mod Programs
 pub mod Listings
 pub mod Wanted
 pub mod Statuses
+pub mod Evaluations

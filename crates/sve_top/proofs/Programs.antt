@@ -156,7 +156,7 @@ map_refused pages wanted fault refusal all is h = subst (RefusesProgram wanted) 
     by maps.TooManyPages h = all maps.TooManyPages h
     by maps.Memory h = tt
 
-map_error_refused : {T : Type 0} (pages : Result Memory MapFault) (wanted : Work) (fault : MapFault) (result : Result T Refusal) → ((fault : MapFault) → pages ≡ Err fault → wanted ≡ Err (Map fault)) → IsErrAnd result (λ refusal. refusal ≡ of_map fault) → RefusesMap pages fault → IfErr result (λ refusal. RefusesProgram wanted refusal)
+pub map_error_refused : {T : Type 0} (pages : Result Memory MapFault) (wanted : Work) (fault : MapFault) (result : Result T Refusal) → ((fault : MapFault) → pages ≡ Err fault → wanted ≡ Err (Map fault)) → IsErrAnd result (λ refusal. refusal ≡ of_map fault) → RefusesMap pages fault → IfErr result (λ refusal. RefusesProgram wanted refusal)
 map_error_refused pages wanted fault (Ok value) all is h = tt
 map_error_refused pages wanted fault (Err refusal) all is h = map_refused pages wanted fault refusal all is h
 

@@ -1,7 +1,7 @@
 -- What is wanted of a command that reads the text of a kernel.
 use mathlib.Core.Logic.{⊎_elim}
 use Rattle.std.proofs.Common.{◌≡◌, ℕ, List, [], Option, Some, None, Result, Ok, Err, inl, inr, refl, sym, ap, ◌∙◌, subst}
-use Rattle.std.specs.Prelude.{IfSome, IsErrAnd}
+use Rattle.std.specs.Prelude.{IfSome, IfErr, IsErrAnd}
 use Rattle.early_kernel.specs.Sum.{SumKernel}
 use Rattle.early_kernel.specs.Reads.{sum_kernel_of}
 use Rattle.command_line.specs.Line.{Line, CompileLine}
@@ -20,7 +20,7 @@ use Rattle.sve_top.specs.Answer.{Held, Work, Answer, answer_of, text_of, of_kern
 use Rattle.sve_top.specs.Outputs.{Prints}
 use Rattle.sve_top.proofs.Puts.{prints_none}
 use Rattle.sve_top.specs.Kernels.{IsOfText, IsRefusedFor, IsWorkOn, ByVerdict}
-use Rattle.sve_top.specs.Commands.{AfterRead, OfWanted, RefusesText, Wants, file_of, ended, not_compiled, CompilesEarly, CompileWants, IsOfCheck, IsOfList}
+use Rattle.sve_top.specs.Commands.{AfterRead, OfWanted, RefusesText, RefusesEval, RefusesProgram, IsOfEval, Wants, file_of, map_of, ended, not_compiled, CompilesEarly, CompileWants, IsOfCheck, IsOfList}
 
 -- ---- verdicts
 
@@ -218,3 +218,61 @@ by_line held c d P e h = subst (λ l. IfSome held (λ h. OfWanted (Wants h l) P)
 pub prints_silent : (held : Option Held) (from to : List ℕ) (old : Option (List ℕ)) (result : Answer) → IfSome held (λ h. OfWanted (Wants h (Some (CompileLine from to))) (λ work. Prints old old (text_of work) result))
 prints_silent None from to old result = tt
 prints_silent (Some h) from to old result = λ work w. (work, w, subst (λ t. Prints old old t result) (sym (compile_silent (file_of h from) work w)) (prints_none old result))
+
+-- ---- eval
+
+pub eval_refusal : {T : Type 0} (sound : Program → Work) (text : List ℕ) (k : Program) (refusal : Refusal) (result : Result T Refusal) → IsVerdict text (Sound k) → IsErrAnd result (λ r. r ≡ refusal) → RefusesProgram (sound k) refusal → IsOfEval (Err refusal) → IfErr result (λ r. RefusesEval (ByVerdict sound text) r)
+eval_refusal sound text k refusal (Ok x) v is h of = tt
+eval_refusal sound text k refusal (Err r) v is h of = subst (RefusesEval (ByVerdict sound text)) (sym is) (by refusal h of)
+  where
+    by : (refusal : Refusal) → RefusesProgram (sound k) refusal → IsOfEval (Err refusal) → RefusesEval (ByVerdict sound text) refusal
+    by Memory h of = tt
+    by (Map fault) h of = subst (ByVerdict sound text) h (sound_text sound text k v)
+    by (Elf fault) h of = absurd of
+    by Usage h of = absurd h
+    by NotYet h of = absurd h
+    by (Kernel fault) h of = absurd h
+    by TooLong h of = absurd h
+    by File h of = absurd h
+    by Output h of = absurd h
+
+-- something that holds of a work that is wanted once a kernel and a map were read
+pub of_both : (x y u z : ℕ) (held : Option Held) (from text map : List ℕ) (name : Option (List ℕ)) (found other : Result (List ℕ) Refusal) (next : List ℕ → List ℕ → Work → Type 0) (work : Work) (P : Work → Type 0) → found ≡ Ok text → IfSome held (λ h. IsFileAnswer x y (file_of h from) found) → other ≡ Ok map → IfSome held (λ h. IsFileAnswer u z (map_of h name) other) → next text map work → P work → IfSome held (λ h. OfWanted (AfterRead (file_of h from) (λ t. AfterRead (map_of h name) (next t))) P)
+of_both x y u z None from text map name found other next work P is read also mapped w p = tt
+of_both x y u z (Some h) from text map name found other next work P is read also mapped w p =
+    let e : Ok text ≡ file_of h from = read_is x y (file_of h from) text (subst (IsFileAnswer x y (file_of h from)) is read) in
+    let f : Ok map ≡ map_of h name = read_is u z (map_of h name) map (subst (IsFileAnswer u z (map_of h name)) also mapped) in
+    λ o q. (work, subst (λ r. AfterRead r (λ t. AfterRead (map_of h name) (next t)) work) e (subst (λ r. AfterRead r (next text) work) f w), p)
+
+refused_two : (x z : ℕ) (a b : Result (List ℕ) Refusal) (text map : List ℕ) (next : List ℕ → List ℕ → Work → Type 0) (refusal : Refusal) (result : Answer) → Ok text ≡ a → Ok map ≡ b → result ≡ Err refusal → RefusesEval (next text map) refusal → OfWanted (AfterRead a (λ t. AfterRead b (next t))) (λ work. IsFileAnswer x z (answer_of work) result)
+refused_two x z a b text map next refusal result e f is h = λ work w. by refusal is h work w
+  where
+    into : (work : Work) → next text map work → AfterRead a (λ t. AfterRead b (next t)) work
+    into work w = subst (λ r. AfterRead r (λ t. AfterRead b (next t)) work) e (subst (λ r. AfterRead r (next text) work) f w)
+
+    out : (work : Work) → AfterRead a (λ t. AfterRead b (next t)) work → next text map work
+    out work w = subst (λ r. AfterRead r (next text) work) (sym f) (subst (λ r. AfterRead r (λ t. AfterRead b (next t)) work) (sym e) w)
+
+    by : (refusal : Refusal) → result ≡ Err refusal → RefusesEval (next text map) refusal → (work : Work) → AfterRead a (λ t. AfterRead b (next t)) work → (other : Work) × AfterRead a (λ t. AfterRead b (next t)) other × IsFileAnswer x z (answer_of other) result
+    by Memory is h work w = (work, w, inr (inl is))
+    by (Kernel fault) is h work w = (Err (Kernel fault), into (Err (Kernel fault)) (h work (out work w)), inl is)
+    by (Map fault) is h work w = (Err (Map fault), into (Err (Map fault)) h, inl is)
+    by NotYet is h work w = absurd h
+    by Usage is h work w = absurd h
+    by TooLong is h work w = absurd h
+    by (Elf fault) is h work w = absurd h
+    by File is h work w = absurd h
+    by Output is h work w = absurd h
+
+pub refused_both : (x y u z : ℕ) (held : Option Held) (from text map : List ℕ) (name : Option (List ℕ)) (found other : Result (List ℕ) Refusal) (next : List ℕ → List ℕ → Work → Type 0) (refusal : Refusal) (result : Answer) → found ≡ Ok text → IfSome held (λ h. IsFileAnswer x y (file_of h from) found) → other ≡ Ok map → IfSome held (λ h. IsFileAnswer u z (map_of h name) other) → IsErrAnd result (λ r. r ≡ refusal) → RefusesEval (next text map) refusal → IfSome held (λ h. OfWanted (AfterRead (file_of h from) (λ t. AfterRead (map_of h name) (next t))) (λ work. IsFileAnswer x z (answer_of work) result))
+refused_both x y u z None from text map name found other next refusal result is read also mapped err h = tt
+refused_both x y u z (Some held) from text map name found other next refusal result is read also mapped err h =
+    refused_two x z (file_of held from) (map_of held name) text map next refusal result
+    (read_is x y (file_of held from) text (subst (IsFileAnswer x y (file_of held from)) is read))
+    (read_is u z (map_of held name) map (subst (IsFileAnswer u z (map_of held name)) also mapped))
+    (is_err refusal result err) h
+
+-- something that holds of each work holds of one that is wanted
+pub of_every : (held : Option Held) (W : Held → Work → Type 0) (P : Work → Type 0) → ((work : Work) → P work) → IfSome held (λ h. OfWanted (W h) P)
+of_every None W P all = tt
+of_every (Some h) W P all = λ work w. (work, w, all work)

@@ -1,5 +1,5 @@
 -- What each command comes to, and what it leaves.
-use Rattle.std.specs.Prelude.{◌≡◌, ◌≢◌, ℕ, ◌⊎◌, List, [], ◌++◌, length, Option, Some, None, IfSome, IsSome, Vec, Result, Ok, Err, nat_lt, if◌then◌else◌}
+use Rattle.std.specs.Prelude.{◌≡◌, ◌≢◌, ℕ, ◌⊎◌, List, [], ◌++◌, length, Option, Some, None, IfSome, IsSome, Vec, Result, Ok, Err, nat_lt, nat_le, if◌then◌else◌}
 use Rattle.io_edges.specs.Files.{content}
 use Rattle.io_edges.specs.declared.files.TheConstants.{MAX_FILE}
 use Rattle.early_kernel.specs.Sum.{SumKernel}
@@ -13,16 +13,21 @@ use Rattle.machine_model.specs.DumpText.{dump_text}
 use Rattle.machine_model.specs.Load.{Image, load}
 use Rattle.machine_model.specs.OutcomeText.{outcome_text}
 use Rattle.machine_model.specs.Run.{Outcome, End, Stop, Spent, start, run}
+use Rattle.kernel_meaning.specs.ScalarRun.{Run, scalar_run, first_leave}
+use Rattle.kernel_meaning.specs.ScalarRun as meaning
+use Rattle.kernel_meaning.specs.declared.outcome.ScalarOutcome.{ScalarOutcome}
+use Rattle.kernel_meaning.specs.declared.outcome.ScalarOutcome.TheVariants as scalar
+use Rattle.scalar_text.specs.ScalarText.{scalar_text}
 use Rattle.map_text.specs.declared.fault.MapFault.{MapFault}
 use Rattle.map_text.specs.Mapping.{map_of as pages_of}
 use Rattle.kernel_tree.specs.Plain.{Program}
 use Rattle.check_text.specs.CheckText.{check_text}
-use Rattle.command_line.specs.Line.{Line, Task, Extent, CompileLine, CheckLine, ListLine, RunLine}
+use Rattle.command_line.specs.Line.{Line, Task, Extent, CompileLine, CheckLine, EvalLine, ListLine, RunLine}
 use Rattle.sve_top.specs.declared.refusal.Refusal.{Refusal}
 use Rattle.sve_top.specs.declared.refusal.Refusal.TheVariants.{Usage, NotYet, Kernel, TooLong, Elf, Map, Memory as NoMemory, File, Output}
 use Rattle.sve_top.specs.declared.refusal.Done.{Done}
 use Rattle.sve_top.specs.declared.refusal.Done.TheVariants as done
-use Rattle.sve_top.specs.declared.run.Played.{Played}
+use Rattle.sve_top.specs.declared.played.Played.{Played}
 use Rattle.sve_top.specs.Answer.{Held, Work, Answer}
 use Rattle.sve_top.specs.Kernels.{ByVerdict}
 use Rattle.sve_top.specs.Listing.{listing_of}
@@ -143,6 +148,39 @@ work_of_run held vl task =
     and_then (map_of held task.map) (λ map.
     run_program vl task bytes map))
 
+-- ---- eval
+
+-- how a kernel's run comes out of at most so many iterations
+abbrev pub outcome_by : (limit : ℕ) → Run → ScalarOutcome
+outcome_by limit (meaning.End memory result n) = if nat_le n limit then scalar.End result n else scalar.Spent
+outcome_by limit (meaning.Fault memory n) = if nat_le n limit then scalar.Fault n else scalar.Spent
+
+-- the memory that is left, where `first` is what the first iterations leave
+abbrev pub left_by : (limit : ℕ) → Run → (first : Memory) → Memory
+left_by limit (meaning.End memory result n) first = if nat_le n limit then memory else first
+left_by limit (meaning.Fault memory n) first = if nat_le n limit then memory else first
+
+abbrev pub scalar_done : ScalarOutcome → Done
+scalar_done (scalar.End result n) = done.Ended
+scalar_done (scalar.Fault n) = done.Stopped
+scalar_done scalar.Spent = done.Spent
+
+abbrev pub scalar_deed : Option Extent → ScalarOutcome → Memory → Work
+scalar_deed dump outcome memory = Ok (record { how = scalar_done outcome; text = scalar_text outcome ++ dump_of dump memory })
+
+-- the run of a kernel over some pages
+abbrev pub eval_over : Task → Program → Memory → Work
+eval_over task k pages =
+    scalar_deed task.dump (outcome_by task.steps (scalar_run k task.args pages))
+    (left_by task.steps (scalar_run k task.args pages) (first_leave k task.args task.steps pages))
+
+-- the run of a kernel over the pages of a map alone
+unfoldable pub eval_kernel : Task → List ℕ → Program → Work
+eval_kernel task map k = and_then (mapped (pages_of map [])) (eval_over task k)
+
+abbrev pub EvalWants : Task → List ℕ → List ℕ → Work → Type 0
+EvalWants task text map work = ByVerdict (eval_kernel task map) text work
+
 -- ---- all commands
 
 -- what is wanted once something was read
@@ -155,6 +193,8 @@ abbrev pub Wants : Held → Option Line → Work → Type 0
 Wants held None work = work ≡ Err Usage
 Wants held (Some (CompileLine from to)) work = AfterRead (file_of held from) CompileWants work
 Wants held (Some (CheckLine from)) work = AfterRead (file_of held from) CheckWants work
+Wants held (Some (EvalLine task)) work =
+    AfterRead (file_of held task.file) (λ text. AfterRead (map_of held task.map) (EvalWants task text)) work
 Wants held (Some (ListLine from)) work = work ≡ work_of_list held from
 Wants held (Some (RunLine vl task)) work = work ≡ work_of_run held vl task
 
@@ -181,6 +221,12 @@ IsOfCheck (Err (Elf fault)) = ⊥
 IsOfCheck (Err (Map fault)) = ⊥
 IsOfCheck (Err refusal) = Unit {0}
 
+abbrev pub IsOfEval : Answer → Type 0
+IsOfEval (Err Usage) = ⊥
+IsOfEval (Err NotYet) = ⊥
+IsOfEval (Err (Elf fault)) = ⊥
+IsOfEval answer = Unit {0}
+
 abbrev pub IsOfList : Answer → Type 0
 IsOfList (Ok how) = how ≡ done.Ended
 IsOfList (Err Usage) = ⊥
@@ -200,6 +246,7 @@ abbrev pub IsOf : Option Line → Answer → Type 0
 IsOf None answer = (answer ≡ Err Usage) ⊎ (answer ≡ Err NoMemory)
 IsOf (Some (CompileLine from to)) answer = IsOfCompile answer
 IsOf (Some (CheckLine from)) answer = IsOfCheck answer
+IsOf (Some (EvalLine task)) answer = IsOfEval answer
 IsOf (Some (ListLine from)) answer = IsOfList answer
 IsOf (Some (RunLine vl task)) answer = IsOfRun answer
 
@@ -208,6 +255,8 @@ abbrev pub IsListed : Option Line → ℕ → Type 0
 IsListed None status = (status ≡ 2) ⊎ (status ≡ 7)
 IsListed (Some (CompileLine from to)) status = (status ≡ 0) ⊎ ((status ≡ 3) ⊎ ((status ≡ 4) ⊎ ((status ≡ 7) ⊎ (status ≡ 8))))
 IsListed (Some (CheckLine from)) status = (status ≡ 0) ⊎ ((status ≡ 3) ⊎ ((status ≡ 4) ⊎ ((status ≡ 7) ⊎ ((status ≡ 8) ⊎ (status ≡ 9)))))
+IsListed (Some (EvalLine task)) status =
+    (status ≡ 0) ⊎ ((status ≡ 3) ⊎ ((status ≡ 4) ⊎ ((status ≡ 5) ⊎ ((status ≡ 6) ⊎ ((status ≡ 7) ⊎ ((status ≡ 8) ⊎ (status ≡ 9)))))))
 IsListed (Some (ListLine from)) status = (status ≡ 0) ⊎ ((status ≡ 4) ⊎ ((status ≡ 7) ⊎ ((status ≡ 8) ⊎ (status ≡ 9))))
 IsListed (Some (RunLine vl task)) status =
     (status ≡ 0) ⊎ ((status ≡ 4) ⊎ ((status ≡ 5) ⊎ ((status ≡ 6) ⊎ ((status ≡ 7) ⊎ ((status ≡ 8) ⊎ (status ≡ 9))))))
@@ -231,6 +280,12 @@ RefusesText W NoMemory = Unit {0}
 RefusesText W NotYet = (work : Work) → W work → W (Err NotYet)
 RefusesText W (Kernel fault) = (work : Work) → W work → W (Err (Kernel fault))
 RefusesText W refusal = ⊥
+
+-- The same of `eval`, whose map may be refused too.
+abbrev pub RefusesEval : (Work → Type 0) → Refusal → Type 0
+RefusesEval W (Map fault) = W (Err (Map fault))
+RefusesEval W NotYet = ⊥
+RefusesEval W refusal = RefusesText W refusal
 
 -- what a run that was played comes to
 abbrev pub played : Played → Work
@@ -264,5 +319,6 @@ IsMapHeld held (Some name) = IsSome (content held name)
 abbrev pub IsHeld : Held → Line → Type 0
 IsHeld held (CompileLine from to) = IsSome (content held from)
 IsHeld held (CheckLine from) = IsSome (content held from)
+IsHeld held (EvalLine task) = IsSome (content held task.file) × IsMapHeld held task.map
 IsHeld held (ListLine from) = IsSome (content held from)
 IsHeld held (RunLine vl task) = IsSome (content held task.file) × IsMapHeld held task.map

@@ -3,9 +3,11 @@
 
 mod check;
 mod compile;
+mod eval;
 mod files;
 mod list;
 mod listing;
+mod played;
 pub mod refusal;
 mod run;
 #[cfg(test)]

@@ -1,21 +1,21 @@
 //! The command `run`.
 
-ghost use Rattle.std.specs.Prelude.{◌≡◌, ◌≢◌, ◌≤◌, ◌+◌, ◌++◌, None, Ok, Err, IfSome, IfOk, IfErr, OnOk, IsTrue, length, option_map};
+ghost use Rattle.std.specs.Prelude.{◌≡◌, ◌≢◌, ◌≤◌, ◌+◌, None, Ok, Err, IfSome, IfOk, IfErr, IsTrue, length};
 ghost use Rattle.io_edges.specs.Files.{Rose};
 ghost use Rattle.guest_types.specs.Memory.{DoNotMeet};
 ghost use Rattle.machine_model.specs.Run.{start};
 ghost use Rattle.elf_image.specs.Loaded.{plain};
 ghost use Rattle.command_line.specs.Line.{RunLine};
-ghost use Rattle.command_line.specs.Seen.{task_seen, extent_seen};
+ghost use Rattle.command_line.specs.Seen.{task_seen};
 ghost use Rattle.sve_top.specs.Answer.{answer_of, text_of, IsAnswer, IsQuiet};
-ghost use Rattle.sve_top.specs.Commands.{work_of_run, run_program, dump_of, done_of, played, RefusesProgram, IsOfRun, IsHeld};
+ghost use Rattle.sve_top.specs.Commands.{work_of_run, run_program, done_of, played, RefusesProgram, IsOfRun, IsHeld};
 ghost use Rattle.sve_top.specs.Outputs.{Prints};
 
 use crate::files::{read_file, read_map_file};
+use crate::played::{Played, push_dump};
 use crate::refusal::{Done, Refusal};
 use a64_run::Machine;
-use command_line::command::{Extent, Task};
-use dump_text::dump_text;
+use command_line::command::Task;
 use elf_image::load_elf;
 use guest_types::image::{Image, PageMap};
 use guest_types::length::Vl;
@@ -26,13 +26,6 @@ use map_text::read_map;
 use outcome_text::outcome_text;
 use paged_memory::pages::Pages;
 use std::alloc::{AllocError, Global};
-
-// How a run came out, and its text.
-#[derive(Drop)]
-struct Played {
-    done: Done,
-    text: Vec<u8>,
-}
 
 // A machine with the pages of an image and a map.
 #[tactic(auto, unfolding(machine_model::specs::Run::start, a64_run::specs::Shown::start_of))]
@@ -60,24 +53,6 @@ fn done_of(outcome: &Outcome) -> Done
         Outcome::End { .. } => Done::Ended,
         Outcome::Stop(_) => Done::Stopped,
         Outcome::Spent => Done::Spent,
-    }
-}
-
-// Puts the bytes that are asked for behind a text.
-fn push_dump(
-    text: &mut Vec<u8>,
-    alloc: Global,
-    pages: &Pages,
-    dump: Option<Extent>,
-) -> Result<(), AllocError>
-    ensures { OnOk result (text.new.items ≡ text.old.items ++ dump_of (option_map extent_seen dump) pages.now) }
-{
-    match dump {
-        Some(bytes) => {
-            let shown = dump_text(alloc, pages, bytes.address, bytes.len)?;
-            Ok(text.extend_from_slice(&shown)?)
-        }
-        None => Ok(()),
     }
 }
 

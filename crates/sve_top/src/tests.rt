@@ -10,6 +10,7 @@ use io_edges::sink::{Failed, Sink};
 use std::alloc::{AllocError, Global};
 use std::test::Fail;
 
+mod evaluation;
 mod language;
 
 // The first 24 bytes of an executable for 64-bit Arm, from another linker's output for the same layout.

@@ -11,6 +11,7 @@ ghost use Rattle.sve_top.specs.Lines.{line_of_refusal};
 
 use crate::check::check;
 use crate::compile::compile;
+use crate::eval::eval;
 use crate::list::list;
 use crate::refusal::{Done, Refusal};
 use crate::run::run;
@@ -109,6 +110,7 @@ fn do_command<F: Files, S: Sink>(
     match command {
         Command::Compile { from, to } => compile(alloc, from.as_str(), to.as_str(), files),
         Command::Check { from } => check(alloc, from.as_str(), files, out),
+        Command::Eval(task) => eval(alloc, task, files, out),
         Command::List { from } => list(alloc, from.as_str(), files, out),
         Command::Run { vl, task } => run(alloc, *vl, task, files, out),
     }

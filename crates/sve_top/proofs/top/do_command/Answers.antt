@@ -1,7 +1,7 @@
 use Rattle.std.proofs.Common.{Some, ap, sym, ◌∙◌}
 use Rattle.std.specs.Prelude.{string_bytes}
-use Rattle.command_line.specs.Line.{CompileLine, CheckLine}
-use Rattle.command_line.specs.Seen.{command_seen}
+use Rattle.command_line.specs.Line.{CompileLine, CheckLine, EvalLine}
+use Rattle.command_line.specs.Seen.{command_seen, task_seen}
 use Rattle.sve_top.specs.Answer.{answer_of, text_of, IsAnswer}
 use Rattle.sve_top.specs.Commands.{Wants}
 use Rattle.sve_top.specs.Outputs.{Prints}
@@ -36,3 +36,17 @@ returns-in-Check-clause-printed g c =
     (λ work. Prints (g.S.Sink.taken c.args.out.now) (g.S.Sink.taken c.check.new.out) (text_of work) c.check.result)
     (ap (λ l. Some l) (ap command_seen c.in-Check.is ∙ ap CheckLine (sym c.as_str-in-Check.ensures.value)))
     c.check.ensures.printed
+
+pub returns-in-Eval-clause-answer : goal.returns-in-Eval-clause-answer
+returns-in-Eval-clause-answer g c =
+    by_line (g.F.Files.held c.args.files.now) (Some (command_seen c.args.command.now)) (Some (EvalLine (task_seen c.in-Eval.task)))
+    (λ work. IsAnswer (g.F.Files.faults c.args.files.now) (g.F.Files.faults c.eval.new.files) (g.S.Sink.faults c.args.out.now) (g.S.Sink.faults c.eval.new.out) (answer_of work) c.eval.result)
+    (ap (λ l. Some l) (ap command_seen c.in-Eval.is))
+    c.eval.ensures.answer
+
+pub returns-in-Eval-clause-printed : goal.returns-in-Eval-clause-printed
+returns-in-Eval-clause-printed g c =
+    by_line (g.F.Files.held c.args.files.now) (Some (command_seen c.args.command.now)) (Some (EvalLine (task_seen c.in-Eval.task)))
+    (λ work. Prints (g.S.Sink.taken c.args.out.now) (g.S.Sink.taken c.eval.new.out) (text_of work) c.eval.result)
+    (ap (λ l. Some l) (ap command_seen c.in-Eval.is))
+    c.eval.ensures.printed
