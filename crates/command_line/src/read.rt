@@ -85,11 +85,7 @@ fn owned(alloc: Global, text: Option<&str>) -> Result<Option<String>, AllocError
 
 // What is to be run, by its options and positional words.
 #[tactic(auto, unfolding(crate::specs::Line::task_of))]
-fn task(
-    alloc: Global,
-    settings: Settings<'_>,
-    words: &[String],
-) -> Result<Option<Task>, AllocError>
+fn task(alloc: Global, settings: Settings<'_>, words: &[String]) -> Result<Option<Task>, AllocError>
     ensures { IfOk result (λ o. option_map task_seen o ≡ task_of (options_seen settings.entry) (texts words.now)) }
 {
     let [file, rest @ ..] = words else {
@@ -295,9 +291,7 @@ mod tests {
     fn is_run(command: &Option<Command>, vl: u32, steps: u64, arg: u64) -> bool {
         match command {
             Some(Command::Run { vl: bits, task }) => {
-                bits.bits() == vl
-                    && task.steps == steps
-                    && task.args.as_slice() == [arg].as_slice()
+                bits.bits() == vl && task.steps == steps && task.args.as_slice() == [arg].as_slice()
             }
             _ => false,
         }

@@ -1,5 +1,5 @@
 -- Runs of kernels.
-use Rattle.std.proofs.Common.{◌≡◌, ℕ, ◌<◌, ◌≤◌, List, [], ◌++◌, Result, Ok, Err, cond, sym, ap, ◌∙◌, subst}
+use Rattle.std.proofs.Common.{◌≡◌, ℕ, ◌<◌, ◌≤◌, List, [], ◌++◌, Result, Ok, Err, cond, sym, ap, ◌∙◌}
 use Rattle.std.proofs.lemmas.Bool.{lt-leb, le-leb}
 use Rattle.std.specs.Prelude.{IfErr, IsErrAnd}
 use Rattle.guest_types.specs.Memory.{Memory}
@@ -17,7 +17,7 @@ use Rattle.command_line.specs.Line.{Task}
 use Rattle.sve_top.specs.declared.refusal.Refusal.{Refusal}
 use Rattle.sve_top.specs.declared.refusal.Refusal.TheVariants.{Map}
 use Rattle.sve_top.specs.declared.refusal.Done.{Done}
-use Rattle.sve_top.specs.Answer.{Work, of_map}
+use Rattle.sve_top.specs.Answer.{of_map}
 use Rattle.sve_top.specs.Commands.{and_then, mapped, outcome_by, left_by, scalar_done, scalar_deed, dump_of, eval_over, eval_kernel, RefusesProgram}
 use Rattle.sve_top.proofs.Programs.{map_error_refused}
 

@@ -1,16 +1,15 @@
 -- Statuses, and what is told with them.
 use mathlib.Core.Logic.{⊎_elim}
 use Rattle.std.proofs.Common.{◌≡◌, ℕ, List, [], ◌++◌, append-nil, Option, Some, None, Result, Ok, Err, inl, inr, refl, sym, ap, ◌∙◌, subst}
-use Rattle.std.specs.Prelude.{IfSome, IsTrue, OnOk, OnErr}
-use Rattle.io_edges.specs.Files.{Rose}
+use Rattle.std.specs.Prelude.{IsTrue, OnOk}
 use Rattle.io_edges.specs.declared.sink.Failed.{Failed}
 use Rattle.sve_top.specs.declared.refusal.Refusal.{Refusal}
 use Rattle.sve_top.specs.declared.refusal.Refusal.TheVariants.{Usage, NotYet, Kernel, TooLong, Elf, Map, Memory, File, Output}
 use Rattle.sve_top.specs.declared.refusal.Done.{Done}
 use Rattle.sve_top.specs.declared.refusal.Done.TheVariants as done
 use Rattle.sve_top.specs.Lines.{line_of_refusal}
-use Rattle.sve_top.specs.Answer.{Work, Answer, answer_of, text_of, status_of, status_of_done, status_of_refusal, IsFileAnswer, IsAnswer, IsStatus}
-use Rattle.sve_top.specs.Outputs.{GainsPart, Prints, PrintsBy, is_done, told, told_by, Gains, PutsText}
+use Rattle.sve_top.specs.Answer.{Answer, status_of, status_of_done, status_of_refusal, IsAnswer, IsStatus}
+use Rattle.sve_top.specs.Outputs.{Prints, PrintsBy, is_done, told, told_by, Gains, PutsText}
 
 -- the status of an answer that is as wanted, or comes in its place
 pub status_is : (x y a b s : ℕ) (wanted result : Answer) → s ≡ status_of result → IsAnswer x y a b wanted result → IsStatus x y a b wanted s

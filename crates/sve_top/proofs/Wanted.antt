@@ -19,8 +19,8 @@ use Rattle.sve_top.specs.declared.refusal.Refusal.TheVariants.{Usage, NotYet, Ke
 use Rattle.sve_top.specs.Answer.{Held, Work, Answer, answer_of, text_of, of_kernel, of_elf, IsFileAnswer, IsAnswer}
 use Rattle.sve_top.specs.Outputs.{Prints}
 use Rattle.sve_top.proofs.Puts.{prints_none}
-use Rattle.sve_top.specs.Kernels.{IsOfText, IsRefusedFor, IsWorkOn, ByVerdict}
-use Rattle.sve_top.specs.Commands.{AfterRead, OfWanted, RefusesText, RefusesEval, RefusesProgram, IsOfEval, Wants, file_of, map_of, ended, not_compiled, CompilesEarly, CompileWants, IsOfCheck, IsOfList}
+use Rattle.sve_top.specs.Kernels.{IsOfText, IsWorkOn, ByVerdict}
+use Rattle.sve_top.specs.Commands.{AfterRead, OfWanted, RefusesText, RefusesEval, RefusesProgram, IsOfEval, Wants, file_of, map_of, not_compiled, CompilesEarly, CompileWants, IsOfCheck, IsOfList}
 
 -- ---- verdicts
 

@@ -2,7 +2,7 @@ use Rattle.std.proofs.Common.{◌≡◌, ◌++◌, Some, Ok, refl, ap, sym, ◌�
 use Rattle.std.specs.Prelude.{IfSome}
 use Rattle.sve_top.specs.declared.refusal.Done.TheVariants as done
 use Rattle.sve_top.specs.declared.refusal.Refusal.TheVariants.{Output}
-use Rattle.sve_top.specs.Answer.{answer_of, text_of, IsAnswer}
+use Rattle.sve_top.specs.Answer.{text_of}
 use Rattle.sve_top.specs.Commands.{AfterRead, CheckWants, file_of, bytes_in, ended}
 use Rattle.sve_top.specs.Outputs.{Prints, GainsPart}
 use Rattle.sve_top.proofs.Puts.{prints_part, prints_all}

@@ -1,6 +1,5 @@
-use Rattle.std.proofs.Common.{ap, sym, ◌∙◌}
-use Rattle.std.specs.Prelude.{codes}
-use Rattle.sve_top.specs.Lines.{numbered, line_of_map}
+use Rattle.std.proofs.Common.{ap, sym}
+use Rattle.sve_top.specs.Lines.{line_of_map}
 use Rattle.sve_top.proofs.Puts.{put_as}
 use Rattle.sve_top.proofs.told.put_map.Goals as goal
 

@@ -1,4 +1,4 @@
-use Rattle.std.proofs.Common.{Some, Err, ap, sym, ◌∙◌, subst}
+use Rattle.std.proofs.Common.{Some, ap, sym, ◌∙◌, subst}
 use Rattle.std.specs.Prelude.{IfSome, option_map}
 use Rattle.command_line.specs.Line.{line_of}
 use Rattle.command_line.specs.Seen.{texts, command_seen}

@@ -1,4 +1,4 @@
-use Rattle.std.proofs.Common.{Ok, Err, ap, sym, ◌∙◌, subst}
+use Rattle.std.proofs.Common.{ap, sym, ◌∙◌, subst}
 use Rattle.command_line.specs.Line.{line_of}
 use Rattle.command_line.specs.Seen.{texts}
 use Rattle.sve_top.specs.Answer.{answer_of, text_of, status_of, IsAnswer, IsStatus}
