@@ -48,7 +48,12 @@ struct Said {
     text: Vec<u8>,
 }
 
-fn said(alloc: Global, kernel: &str, map: &str, line: &str) -> Result<Option<Said>, AllocError> {
+fn evaluated(
+    alloc: Global,
+    kernel: &str,
+    map: &str,
+    line: &str,
+) -> Result<Option<Said>, AllocError> {
     let listed = vec![in alloc; file(alloc, "in", kernel)?, file(alloc, "m", map)?]?;
     if !have_different_names(&listed) {
         return Ok(None);
@@ -76,7 +81,7 @@ fn kernels_are_evaluated(rt: HostRuntime) -> Result<(), Fail> {
         let line = parts.next().expect(&rt, "a command");
         let status = parts.next().expect(&rt, "a status");
         let text = parts.next().expect(&rt, "a text");
-        let said = said(rt.alloc(), kernel, map, line)?.expect(&rt, "different names");
+        let said = evaluated(rt.alloc(), kernel, map, line)?.expect(&rt, "different names");
         let wanted = lines(rt.alloc(), text)?;
         assert_eq!(rt; u8::from_str_radix(status, 10), Ok(said.status), "{row}");
         assert_eq!(rt; said.text.as_slice(), wanted.as_bytes(), "{row}");
