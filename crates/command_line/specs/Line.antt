@@ -1,7 +1,8 @@
 -- The words of a command, as lists of bytes. The first word names the command. Behind it stand options, and then the
 -- positional words.
 use Rattle.std.specs.Prelude.{ℕ, ◌+◌, ◌%◌, ◌^◌, ◌&&◌, not, List, [], ◌∷◌, ◌++◌, length, Option, Some, None, option_map, option_and_then, is_some, Bool, true, false, nat_eq, nat_le, bytes_eq, codes, if◌then◌else◌}
-use Rattle.command_line.specs.Numbers.{given, parted, number_of, argument_of}
+use Rattle.number_text.specs.Numbers.{given, number_of}
+use Rattle.command_line.specs.Numbers.{parted, argument_of}
 
 abbrev pub Words : Type 0
 Words = List (List ℕ)

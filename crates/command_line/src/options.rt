@@ -2,12 +2,13 @@
 
 ghost use Rattle.std.specs.Prelude.{◌≡◌, option_map};
 ghost use Rattle.command_line.specs.Line.{value_named, value_in, value_behind, value_at, once, extent, extent_of, with_vl, with_steps, with_map, with_dump, option_at, options_of};
-ghost use Rattle.command_line.specs.Numbers.{parted, number_of};
+ghost use Rattle.command_line.specs.Numbers.{parted};
+ghost use Rattle.number_text.specs.Numbers.{number_of};
 ghost use Rattle.command_line.specs.Seen.{texts, bytes_left, both_left, value_and_rest, extent_seen, options_seen, options_and_rest};
 
 use crate::command::Extent;
-use crate::number::number;
 use crate::word::is_positional;
+use number_text::number;
 
 /// The values of the options that were given.
 #[derive(Clone, Copy)]

@@ -6,9 +6,9 @@ ghost use Rattle.std.specs.List.{list_all};
 ghost use Rattle.number_text.specs.Numbers.{after, is_digit, is_hex_digit, digit_value, value_of, small_value, are_digits, decimal_of, hexadecimal_of, number_of};
 ghost use Rattle.number_text.specs.Seen.{bytes_left};
 
-// What stands behind these bytes at the front of a word.
+/// What stands behind these bytes at the front of a word, where it begins with them.
 #[tactic(auto, unfolding(crate::specs::Numbers::after))]
-fn after<'a>(front: &[u8], word: &'a [u8]) -> Option<&'a [u8]>
+pub fn after<'a>(front: &[u8], word: &'a [u8]) -> Option<&'a [u8]>
     ensures { option_map bytes_left result ≡ after front.now word.now }
 {
     let [byte, others @ ..] = front else {
@@ -96,8 +96,9 @@ fn are_hexadecimal(bytes: &[u8]) -> bool
     bytes.len() > 0 && all_hexadecimal(bytes)
 }
 
+/// The number that decimal digits spell, where it is one of 64 bits.
 #[tactic(auto, unfolding(crate::specs::Numbers::decimal_of))]
-fn decimal(digits: &[u8]) -> Option<u64>
+pub fn decimal(digits: &[u8]) -> Option<u64>
     ensures { result ≡ decimal_of digits.now }
 {
     if are_decimal(digits) {

@@ -1,6 +1,6 @@
 // Numbers, and words that are none.
 
-use crate::number;
+use crate::{after, decimal, number};
 
 #[test]
 fn numbers(rt: HostRuntime) {
@@ -17,4 +17,12 @@ fn no_numbers(rt: HostRuntime) {
     assert!(rt; number(b"").is_none());
     assert!(rt; number(b"-1").is_none());
     assert!(rt; number(b"1f").is_none());
+}
+
+#[test]
+fn parts(rt: HostRuntime) {
+    assert!(rt; after(b"0x", b"0x1f") == Some(b"1f".as_slice()));
+    assert!(rt; after(b"0x", b"1f").is_none());
+    assert!(rt; decimal(b"0042") == Some(42));
+    assert!(rt; decimal(b"0x2a").is_none());
 }

@@ -1,7 +1,0 @@
-use Rattle.std.proofs.Common.{◌≡◌, ◌<◌, ◌^◌, drop}
-use Rattle.std.specs.List.{fold}
-use Rattle.command_line.specs.Numbers.{appended, value_of}
-use Rattle.command_line.proofs.number.value.Given as goal
-
-abbrev pub invariant-loop-d : goal.invariant-loop-d
-invariant-loop-d l = (l.n < 2 ^ 64) × (value_of l.base l.digits ≡ fold (appended l.base) l.n (drop l.d-index l.digits))
