@@ -50,11 +50,11 @@ front_by p x xs true e h =
     ap (list_all p) a ∙ b
 front_by p x xs false e h = rw e refl
 
-front_all : (p : ℕ → Bool) (xs : List ℕ) → list_all p (take (prefix_len p xs) xs) ≡ true
+pub front_all : (p : ℕ → Bool) (xs : List ℕ) → list_all p (take (prefix_len p xs) xs) ≡ true
 front_all p [] = refl
 front_all p (x ∷ xs) = front_by p x xs (p x) refl (front_all p xs)
 
-both_true : (a b : Bool) → a ≡ true → b ≡ true → (a && b) ≡ true
+pub both_true : (a b : Bool) → a ≡ true → b ≡ true → (a && b) ≡ true
 both_true true b h k = k
 both_true false b h k = absurd cc
 
