@@ -10,3 +10,4 @@ pub mod Deep
 pub mod Outcomes
 pub mod Rooms
 pub mod Rows
+pub mod Decided

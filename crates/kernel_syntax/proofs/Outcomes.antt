@@ -35,7 +35,7 @@ long_text text h = cond-true _ _ _ (above_is 65536 (length text) h)
 pub short_text : (text : List ℕ) (r : Result (List Word) ℕ) → length text ≤ 65536 → tokens_of text ≡ r → limit_fault text ≡ tokens_fault r
 short_text text r h e = cond-false _ _ _ (within_is 65536 (length text) h) ∙ ap tokens_fault e
 
-few_words : (words : List Word) → words_fault words ≡ None → length words ≤ 4096
+pub few_words : (words : List Word) → words_fault words ≡ None → length words ≤ 4096
 few_words words h = elim (leb_tells (suc 4096) (length words)) [ inl t ↦ absurd (some_none (sym (cond-true _ _ _ t.0) ∙ h)) | inr f ↦ omega (arith, f.1) ]
   where
     some_none : Some faults.TooLong ≡ None → ⊥

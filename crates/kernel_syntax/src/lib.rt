@@ -8,6 +8,7 @@ mod fault;
 mod front;
 mod header;
 mod kernel;
+mod laws;
 mod nesting;
 mod statement;
 #[cfg(test)]
@@ -15,3 +16,4 @@ mod tests;
 
 pub use fault::ReadFault;
 pub use kernel::read_kernel;
+pub use laws::read_or_no_tree;
