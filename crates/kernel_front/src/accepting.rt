@@ -41,3 +41,8 @@ pub fn accept(alloc: Global, text: &[u8]) -> Result<Checked, KernelFault>
 pub fn one_verdict()
     ensures { (text : List ℕ) (v w : Verdict) → IsVerdict text v → IsVerdict text w → v ≡ w }
 {}
+
+/// Each text has a verdict.
+pub fn some_verdict()
+    ensures { (text : List ℕ) → (v : Verdict) × IsVerdict text v }
+{}

@@ -3,6 +3,8 @@
 
 mod accepting;
 mod fault;
+#[cfg(test)]
+mod tests;
 
-pub use accepting::{accept, one_verdict};
+pub use accepting::{accept, one_verdict, some_verdict};
 pub use fault::KernelFault;
