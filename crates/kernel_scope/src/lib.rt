@@ -1,9 +1,9 @@
 //! The names at a place of a kernel, and the type that an expression has of its own there.
 #![tactic(auto)]
 
-mod names;
-mod own;
-mod scope;
+pub mod names;
+pub mod own;
+pub mod scope;
 
 pub use names::{
     close, declare, declared_count, define, empty, is_taken, leave, lookup, reserve, visible_count,
