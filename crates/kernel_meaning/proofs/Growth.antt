@@ -6,7 +6,7 @@ use Rattle.kernel_tree.specs.declared.ops.Ty.{Ty}
 use Rattle.kernel_tree.specs.declared.fault.Binding.TheVariants as binding
 use Rattle.kernel_tree.specs.Plain.{Action, Define, Put, Update, Choose, Leave, Block, Done, Then}
 use Rattle.kernel_tree.specs.Typing.{Local, Scope, local, first, own, left, defined, after_action, after_block, after_otherwise}
-use Rattle.kernel_meaning.specs.Scopes.{kept}
+use Rattle.kernel_scope.specs.Scopes.{kept}
 
 pub record Grows (s t : Scope) : Type 0 where
   pub more : List Local

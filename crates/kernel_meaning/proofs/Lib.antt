@@ -2,7 +2,6 @@ mod Runs
 mod Walks
 mod Corners
 pub mod Example
-pub mod Lookups
 pub mod Residues
 pub mod Rows
 pub mod Growth

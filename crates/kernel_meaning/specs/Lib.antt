@@ -8,4 +8,3 @@ pub mod Trees
 pub mod Slots
 pub mod Resolve
 pub mod Plans
-pub mod Scopes

@@ -7,15 +7,15 @@ ghost use Rattle.kernel_tree.specs.Items as items;
 ghost use Rattle.kernel_tree.specs.Typing as typing;
 ghost use Rattle.kernel_meaning.specs.Trees.{tree_of, tasks_of};
 ghost use Rattle.kernel_meaning.specs.Plans as plans;
-ghost use Rattle.kernel_meaning.specs.Scopes.{scope_of, text_of};
+ghost use Rattle.kernel_scope.specs.Scopes.{scope_of, text_of};
 
-use crate::names::{declare, slot, visible_count};
+use crate::names::slot;
 use crate::node::Node;
 use crate::plan::{Cycle, Plan};
 use crate::resolve::resolve;
-use crate::scope::Scope;
 use crate::statements::resolve_block;
 use crate::step::Step;
+use kernel_scope::{Scope, declare, empty, visible_count};
 use kernel_tree::fault::Binding;
 use kernel_tree::{Answer, Kernel, Loop, Param, Shape, Var};
 use std::alloc::{AllocError, Global};
@@ -112,18 +112,6 @@ fn index_of(turns: &Option<Loop>) -> Option<&str>
     match turns {
         None => None,
         Some(turns) => Some(turns.index.text()),
-    }
-}
-
-// No name is declared yet.
-fn empty<'a>(alloc: Global, index: Option<&'a str>) -> Scope<'a>
-    ensures { scope_of result ≡ typing.empty (option_map text_of index.entry) }
-{
-    Scope {
-        visible: Vec::new(alloc),
-        taken: Vec::new(alloc),
-        index,
-        inside: false,
     }
 }
 

@@ -7,14 +7,14 @@ ghost use Rattle.kernel_tree.specs.Typing as typing;
 ghost use Rattle.kernel_meaning.specs.Trees as trees;
 ghost use Rattle.kernel_meaning.specs.Trees.{tree_of};
 ghost use Rattle.kernel_meaning.specs.Resolve as resolving;
-ghost use Rattle.kernel_meaning.specs.Scopes.{scope_of};
+ghost use Rattle.kernel_scope.specs.Scopes.{scope_of};
 
 use crate::build;
-use crate::names::{index_slot, lookup, slot};
+use crate::names::{index_slot, slot};
 use crate::node::Node;
-use crate::own::{element_type, first, own_type, stream_offset};
-use crate::scope::Scope;
+use crate::offset::stream_offset;
 use crate::words::wrapped;
+use kernel_scope::{Scope, element_type, first, lookup, own_type};
 use kernel_tree::{BinaryOp, CompareOp, Expr, Name, Ty};
 use std::alloc::{AllocError, Global};
 

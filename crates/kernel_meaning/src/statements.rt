@@ -7,16 +7,15 @@ ghost use Rattle.kernel_tree.specs.Typing as typing;
 ghost use Rattle.kernel_meaning.specs.Operators as operators;
 ghost use Rattle.kernel_meaning.specs.Trees.{task_of, tasks_of};
 ghost use Rattle.kernel_meaning.specs.Resolve as resolving;
-ghost use Rattle.kernel_meaning.specs.Scopes.{scope_of};
+ghost use Rattle.kernel_scope.specs.Scopes.{scope_of};
 
 use crate::build::binary;
 use crate::make::branch;
-use crate::names::{MOST_SLOTS, define, leave, lookup, slot, visible_count};
+use crate::names::{MOST_SLOTS, slot};
 use crate::node::Node;
-use crate::own::{accumulator_type, first, own_type};
 use crate::resolve::{array_type, resolve, resolve_number};
-use crate::scope::Scope;
 use crate::step::Step;
+use kernel_scope::{Scope, accumulator_type, define, first, leave, lookup, own_type, visible_count};
 use kernel_tree::{BinaryOp, Expr, Name, Stmt, Ty, UpdateOp};
 use std::alloc::{AllocError, Global};
 

@@ -23,7 +23,7 @@ pub record Local : Type 0 where
   pub binding : Binding
 
 -- The names that are visible at a place, in the order of their declaration; all names that were declared before it,
--- which none may be again; the name of the kernel's loop variable; and whether the place stands in the loop.
+-- each once, which none may be again; the name of the kernel's loop variable; and whether the place stands in the loop.
 pub record Scope : Type 0 where
   pub visible : List Local
   pub taken : List (List ℕ)
@@ -46,9 +46,13 @@ is_taken scope x = list_any (bytes_eq x) scope.taken
 abbrev pub local : List ℕ → Binding → Local
 local x b = record { name = x; binding = b }
 
+-- the names declared so far and one more, each once, in the order of their declaration
+abbrev pub insert_name : List (List ℕ) → List ℕ → List (List ℕ)
+insert_name names x = if list_any (bytes_eq x) names then names else names ++ x ∷ []
+
 -- from here on the name is declared and visible
 abbrev pub declared : Scope → List ℕ → Binding → Scope
-declared scope x b = record scope { visible = scope.visible ++ local x b ∷ []; taken = scope.taken ++ x ∷ [] }
+declared scope x b = record scope { visible = scope.visible ++ local x b ∷ []; taken = insert_name scope.taken x }
 
 -- behind a block, what it declared is visible no more
 abbrev pub left : Scope → Scope → Scope
@@ -258,7 +262,7 @@ update_faults item (Some b) = kind_faults item (accumulator_type b)
 
 -- what a `let` declares: without a type it is not visible
 abbrev pub defined : Scope → List ℕ → Option Ty → Scope
-defined scope x None = record scope { taken = scope.taken ++ x ∷ [] }
+defined scope x None = record scope { taken = insert_name scope.taken x }
 defined scope x (Some t) = declared scope x (binding.Value t)
 
 -- the scope behind a statement and behind statements

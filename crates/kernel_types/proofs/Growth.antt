@@ -1,12 +1,13 @@
 -- What statements do to a scope: names are added to those that are visible and to those that are declared.
-use Rattle.std.proofs.Common.{◌≡◌, ℕ, List, [], ◌∷◌, ◌++◌, Option, Some, None, Bool, false, length, take, refl, sym, ap, ◌∙◌, append_assoc}
+use Rattle.std.proofs.Common.{◌≡◌, ℕ, List, [], ◌∷◌, ◌++◌, Option, Some, None, Bool, true, false, if◌then◌else◌, length, take, refl, sym, ap, ◌∙◌, append_assoc}
 use Rattle.std.proofs.lemmas.List.{append-nil}
 use Rattle.std.proofs.Math.Seq.{take-append_seam}
 use Rattle.kernel_tree.specs.declared.ops.Ty.{Ty}
 use Rattle.kernel_tree.specs.declared.fault.Binding.TheVariants as binding
 use Rattle.kernel_tree.specs.Plain.{Action, Define, Put, Update, Choose, Leave, Block, Done, Then, Otherwise, Nothing, Else}
-use Rattle.kernel_tree.specs.Typing.{Local, Scope, local, first, own, left, defined, after_action, after_block, after_otherwise}
-use Rattle.kernel_types.specs.Scopes.{kept, closed, in_body}
+use Rattle.kernel_tree.specs.Typing.{Local, Scope, local, is_taken, insert_name, first, own, left, defined, after_action, after_block, after_otherwise}
+use Rattle.kernel_scope.specs.Scopes.{kept, closed}
+use Rattle.kernel_types.specs.Parts.{in_body}
 
 pub record Grows (s t : Scope) : Type 0 where
   pub more : List Local
@@ -32,9 +33,20 @@ further s t u g h = record {
 behind : (s t : Scope) → Grows s t → Grows s (left s t)
 behind s t g = record { more = []; visible = sym (append-nil s.visible); names = g.names; taken = g.taken; index = refl; inside = refl }
 
+-- a name that is declared again is no new one
+no_more : (b : Bool) (names : List (List ℕ)) (x : List ℕ) → (if b then names else names ++ x ∷ []) ≡ names ++ (if b then [] else x ∷ [])
+no_more true names x = sym (append-nil names)
+no_more false names x = refl
+
+abbrev new_name : Scope → List ℕ → List (List ℕ)
+new_name s x = if is_taken s x then [] else x ∷ []
+
+one_more : (s : Scope) (x : List ℕ) → insert_name s.taken x ≡ s.taken ++ new_name s x
+one_more s x = no_more (is_taken s x) s.taken x
+
 define : (s : Scope) (x : List ℕ) (o : Option Ty) → Grows s (defined s x o)
-define s x None = record { more = []; visible = sym (append-nil s.visible); names = x ∷ []; taken = refl; index = refl; inside = refl }
-define s x (Some t) = record { more = local x (binding.Value t) ∷ []; visible = refl; names = x ∷ []; taken = refl; index = refl; inside = refl }
+define s x None = record { more = []; visible = sym (append-nil s.visible); names = new_name s x; taken = one_more s x; index = refl; inside = refl }
+define s x (Some t) = record { more = local x (binding.Value t) ∷ []; visible = refl; names = new_name s x; taken = one_more s x; index = refl; inside = refl }
 
 mutual
   pub grows_by_action : (a : Action) (s : Scope) → Grows s (after_action s a)

@@ -1,5 +1,4 @@
 pub mod Least
-pub mod Views
 pub mod Growth
 pub mod Choices
 pub mod Steps

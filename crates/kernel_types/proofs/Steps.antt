@@ -6,7 +6,7 @@ use Rattle.kernel_tree.specs.declared.fault.Found.{Found}
 use Rattle.kernel_tree.specs.Plain.{Action, Block, Then, Parameter, Accumulator, action_of, block_of}
 use Rattle.kernel_tree.specs.Items.{term_size, action_size, block_size, vars_size}
 use Rattle.kernel_tree.specs.Typing.{Scope, Value, after_action, after_block, after_params, after_vars, twice, faults, action_faults, block_faults, params_faults, vars_faults, term_types, action_types, block_types, params_types, vars_types, sooner, least}
-use Rattle.kernel_types.specs.Scopes.{after_param, after_var, var_faults, var_types}
+use Rattle.kernel_types.specs.Parts.{after_param, after_var, var_faults, var_types}
 use Rattle.kernel_types.proofs.Least.{sooner-assoc, least-append}
 use Rattle.kernel_types.proofs.Growth.{index_after_action}
 

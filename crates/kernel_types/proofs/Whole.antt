@@ -7,7 +7,7 @@ use Rattle.kernel_tree.specs.Plain.{Parameter, Accumulator, Turns, Program, para
 use Rattle.kernel_tree.specs.Items.{vars_size, turns_size, answer_size, loop_index, size_of}
 use Rattle.kernel_tree.specs.Typing.{Local, Scope, empty, after_params, after_vars, after_turns, param_scope, var_scope, params_faults, vars_faults, turns_faults, answer_faults, kernel_faults, sooner, least}
 use Rattle.kernel_types.proofs.Least.{sooner-assoc, least-append}
-use Rattle.kernel_types.specs.Scopes.{after_param, after_var}
+use Rattle.kernel_types.specs.Parts.{after_param, after_var}
 
 index_after_params : (s : Scope) (ps : List Parameter) → (after_params s ps).index ≡ s.index
 index_after_params s [] = refl
@@ -40,10 +40,6 @@ index_behind k = index_after_turns (var_scope k) k.turns ∙ index_of_vars k
 
 index : Scope → Option (List ℕ)
 index s = s.index
-
--- nothing is declared at the start
-pub begins : (ls : List Local) (xs : List (List ℕ)) (i j : Option (List ℕ)) → ls ≡ [] → xs ≡ [] → i ≡ j → record { visible = ls; taken = xs; index = i; inside = false } ≡ empty j
-begins ls xs i j e f g = rw (e, f, g) refl
 
 pub count_params : (ps xs : List Param) → xs ≡ ps → 0 + length xs ≡ length (parameters_of ps)
 count_params ps xs e = omega (arith, ap length e, length-map ps parameter_of)

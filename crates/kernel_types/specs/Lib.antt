@@ -1,3 +1,3 @@
-pub mod Scopes
+pub mod Parts
 pub mod Short
 pub mod Causes

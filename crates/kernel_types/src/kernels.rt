@@ -4,14 +4,15 @@ ghost use Rattle.std.specs.Prelude.{◌≡◌, ◌∷◌, ◌++◌, [], ◌+◌,
 ghost use Rattle.kernel_tree.specs.Plain.{name_of, term_of, block_of, parameter_of, parameters_of, accumulator_of, accumulators_of, turns_of, returned_of, program_of};
 ghost use Rattle.kernel_tree.specs.Items as items;
 ghost use Rattle.kernel_tree.specs.Typing as typing;
-ghost use Rattle.kernel_types.specs.Scopes.{scope_of, in_body, after_param, after_var, var_faults, var_types};
+ghost use Rattle.kernel_scope.specs.Scopes.{scope_of};
+ghost use Rattle.kernel_types.specs.Parts.{in_body, after_param, after_var, var_faults, var_types};
 
 use crate::measure::loop_index;
-use crate::names::{close, declare, is_taken, lookup};
+use crate::notes::{Notes, Role};
 use crate::rules::{bound_fault, sooner, twice};
-use crate::scope::{Notes, Role, Scope};
 use crate::statements::walk_block;
 use crate::terms::{end, walk_expr};
+use kernel_scope::{Scope, close, declare, declared_count, empty, is_taken, lookup, visible_count};
 use kernel_tree::fault::Binding;
 use kernel_tree::{Answer, Kernel, Loop, Param, Shape, Stmt, Var};
 use std::alloc::{AllocError, Global};
@@ -106,8 +107,8 @@ fn walk_body<'a>(
     ensures found { IfOk result (λ _. notes.new.found ≡ typing.sooner notes.old.found (typing.least (typing.block_faults (in_body (scope_of scope.old)) notes.old.next (block_of block.now)))) }
     ensures types { IfOk result (λ _. notes.new.types.items ≡ notes.old.types.items ++ typing.block_types (in_body (scope_of scope.old)) (block_of block.now)) }
 {
-    let visible = scope.visible.len();
-    let taken = scope.taken.len();
+    let visible = visible_count(scope);
+    let taken = declared_count(scope);
     scope.inside = true;
     walk_block(notes, scope, block)?;
     close(scope, visible, taken);
@@ -182,12 +183,7 @@ pub fn walk_kernel(alloc: Global, kernel: &Kernel) -> Result<Notes, AllocError>
     ensures found { IfOk result (λ notes. notes.found ≡ typing.least (typing.kernel_faults (program_of kernel.now))) }
     ensures types { IfOk result (λ notes. notes.types.items ≡ typing.types_of (program_of kernel.now)) }
 {
-    let mut scope = Scope {
-        visible: Vec::new(alloc),
-        taken: Vec::new(alloc),
-        index: loop_index(&kernel.body),
-        inside: false,
-    };
+    let mut scope = empty(alloc, loop_index(&kernel.body));
     let mut notes = Notes {
         next: 0,
         found: None,

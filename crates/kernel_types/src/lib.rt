@@ -2,13 +2,12 @@
 #![tactic(auto)]
 
 mod checker;
+mod distance;
 mod fault;
 mod kernels;
 mod measure;
-mod names;
-mod own;
+mod notes;
 mod rules;
-mod scope;
 mod statements;
 mod terms;
 #[cfg(test)]

@@ -4,9 +4,9 @@ ghost use Rattle.std.specs.Prelude.{◌≡◌, ◌<◌, ◌^◌, option_map};
 ghost use Rattle.kernel_tree.specs.Plain.{Choose, Nothing, Else, term_of, action_of, block_of, accumulators_of, turns_of, returned_of, program_of};
 ghost use Rattle.kernel_tree.specs.Items as items;
 ghost use Rattle.kernel_tree.specs.Limits as limits;
-ghost use Rattle.kernel_types.specs.Scopes.{text_of};
+ghost use Rattle.kernel_scope.specs.Scopes.{text_of};
 
-use crate::own::stream_distance;
+use crate::distance::stream_distance;
 use kernel_tree::{Answer, Expr, Kernel, Loop, Stmt, Var};
 
 // How many items an expression makes.

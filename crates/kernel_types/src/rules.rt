@@ -4,10 +4,10 @@ ghost use Rattle.std.specs.Prelude.{◌≡◌, [], ℤ, pos, unsigned_abs, Optio
 ghost use Rattle.kernel_tree.specs.declared.fault.Fault.TheVariants as fault;
 ghost use Rattle.kernel_tree.specs.Wrap.{bits_of, is_signed};
 ghost use Rattle.kernel_tree.specs.Typing as typing;
-ghost use Rattle.kernel_types.specs.Scopes.{role_of, distance_of};
+ghost use Rattle.kernel_types.specs.Parts.{role_of, distance_of};
 
-use crate::own::{accumulator_type, element_type, value_type};
-use crate::scope::Role;
+use crate::notes::Role;
+use kernel_scope::{accumulator_type, element_type, value_type};
 use kernel_tree::Ty;
 use kernel_tree::fault::{Binding, Fault, Found};
 

@@ -5,13 +5,16 @@ ghost use Rattle.kernel_tree.specs.declared.ops.UpdateOp.TheVariants as update;
 ghost use Rattle.kernel_tree.specs.Plain.{name_of, term_of, action_of, block_of, Define, Put, Update, Choose, Leave, Nothing, Else};
 ghost use Rattle.kernel_tree.specs.Items as items;
 ghost use Rattle.kernel_tree.specs.Typing as typing;
-ghost use Rattle.kernel_types.specs.Scopes.{scope_of};
+ghost use Rattle.kernel_scope.specs.Scopes.{scope_of};
 
-use crate::names::{define, is_taken, leave, lookup};
-use crate::own::{accumulator_type, element_type, first, own_type, stream_distance};
+use crate::distance::stream_distance;
+use crate::notes::{Notes, Role};
 use crate::rules::{sooner, stream_fault, target_fault, twice, untyped, update_fault};
-use crate::scope::{Notes, Role, Scope};
 use crate::terms::{end, walk_expr};
+use kernel_scope::{
+    Scope, accumulator_type, define, element_type, first, is_taken, leave, lookup, own_type,
+    visible_count,
+};
 use kernel_tree::{Expr, Name, Stmt, Ty};
 use std::alloc::AllocError;
 
@@ -208,7 +211,7 @@ fn walk_inner<'a>(
     ensures found { IfOk result (λ _. notes.new.found ≡ typing.sooner notes.old.found (typing.least (typing.block_faults (scope_of scope.old) notes.old.next (block_of block.now)))) }
     ensures types { IfOk result (λ _. notes.new.types.items ≡ notes.old.types.items ++ typing.block_types (scope_of scope.old) (block_of block.now)) }
 {
-    let count = scope.visible.len();
+    let count = visible_count(scope);
     walk_block(notes, scope, block)?;
     leave(scope, count);
     Ok(())

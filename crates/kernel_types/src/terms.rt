@@ -8,15 +8,16 @@ ghost use Rattle.kernel_tree.specs.Plain.{name_of, term_of, Element, Unary, Oper
 ghost use Rattle.kernel_tree.specs.Items as items;
 ghost use Rattle.kernel_tree.specs.Typing as typing;
 ghost use Rattle.kernel_tree.specs.Typing.{Value};
-ghost use Rattle.kernel_types.specs.Scopes.{scope_of, role_of};
+ghost use Rattle.kernel_scope.specs.Scopes.{scope_of};
+ghost use Rattle.kernel_types.specs.Parts.{role_of};
 
-use crate::names::lookup;
-use crate::own::{first, own_type, stream_distance};
+use crate::distance::stream_distance;
+use crate::notes::{Notes, Role};
 use crate::rules::{
     as_condition, as_value, index_fault, literal_fault, mismatch, name_fault, read_fault,
     shift_fault, sooner, untyped, wanted,
 };
-use crate::scope::{Notes, Role, Scope};
+use kernel_scope::{Scope, first, lookup, own_type};
 use kernel_tree::fault::Found;
 use kernel_tree::{Expr, Name, Ty};
 use std::alloc::AllocError;

@@ -1,7 +1,7 @@
 use Rattle.std.proofs.Common.{◌≡◌, drop}
 use Rattle.kernel_tree.specs.Plain.{parameters_of}
 use Rattle.kernel_tree.specs.Typing as typing
-use Rattle.kernel_meaning.specs.Scopes.{scope_of}
+use Rattle.kernel_scope.specs.Scopes.{scope_of}
 use Rattle.kernel_meaning.proofs.kernels.declare_params.Given as goal
 
 abbrev pub invariant-loop-param : goal.invariant-loop-param

@@ -2,7 +2,7 @@ use Rattle.std.proofs.Common.{◌+◌, List, sym, ap, ap₂, ◌∙◌, drop}
 use Rattle.std.proofs.Math.ListN.{drop_of_length-le}
 use Rattle.kernel_tree.specs.declared.ast.Var.{Var}
 use Rattle.kernel_tree.specs.Plain.{accumulator_of, accumulators_of}
-use Rattle.kernel_meaning.specs.Scopes.{scope_of}
+use Rattle.kernel_scope.specs.Scopes.{scope_of}
 use Rattle.kernel_meaning.specs.Trees.{Set, tasks_of, followed}
 use Rattle.kernel_meaning.specs.declared.step.Step.TheVariants as step
 use Rattle.kernel_meaning.specs.Plans as plans

@@ -1,7 +1,7 @@
 use Rattle.std.proofs.Common.{◌≡◌, drop}
 use Rattle.kernel_tree.specs.Plain.{accumulators_of}
 use Rattle.kernel_tree.specs.Typing as typing
-use Rattle.kernel_meaning.specs.Scopes.{scope_of}
+use Rattle.kernel_scope.specs.Scopes.{scope_of}
 use Rattle.kernel_meaning.specs.Trees.{tasks_of, followed}
 use Rattle.kernel_meaning.specs.Plans as plans
 use Rattle.kernel_meaning.proofs.kernels.resolve_vars.Given as goal

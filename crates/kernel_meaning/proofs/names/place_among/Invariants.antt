@@ -1,5 +1,5 @@
 use Rattle.std.proofs.Common.{◌≡◌, ◌+◌, map, drop}
-use Rattle.kernel_meaning.specs.Scopes.{local_of}
+use Rattle.kernel_scope.specs.Scopes.{local_of}
 use Rattle.kernel_meaning.specs.Resolve.{place}
 use Rattle.kernel_meaning.proofs.names.place_among.Given as goal
 

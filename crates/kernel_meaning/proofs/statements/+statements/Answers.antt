@@ -4,7 +4,7 @@ use Rattle.kernel_tree.specs.declared.ast.Stmt.{Stmt}
 use Rattle.kernel_tree.specs.Plain.{action_of, block_of}
 use Rattle.kernel_tree.specs.Limits.{action_depth, block_depth}
 use Rattle.kernel_tree.specs.Typing as typing
-use Rattle.kernel_meaning.specs.Scopes.{scope_of, kept}
+use Rattle.kernel_scope.specs.Scopes.{scope_of, kept}
 use Rattle.kernel_meaning.specs.Trees.{tasks_of, followed}
 use Rattle.kernel_meaning.specs.Resolve as resolving
 use Rattle.kernel_meaning.proofs.Choices.{one_block, two_blocks}

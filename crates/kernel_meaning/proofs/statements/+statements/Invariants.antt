@@ -3,7 +3,7 @@ use Rattle.std.specs.Prelude.{max}
 use Rattle.kernel_tree.specs.Plain.{action_of, block_of}
 use Rattle.kernel_tree.specs.Limits.{action_depth, block_depth}
 use Rattle.kernel_tree.specs.Typing as typing
-use Rattle.kernel_meaning.specs.Scopes.{scope_of}
+use Rattle.kernel_scope.specs.Scopes.{scope_of}
 use Rattle.kernel_meaning.specs.Trees.{tasks_of, followed}
 use Rattle.kernel_meaning.specs.Resolve as resolving
 use Rattle.kernel_meaning.proofs.statements.+statements.Given as goal

@@ -1,15 +1,15 @@
-use Rattle.std.proofs.Common.{◌≡◌, ℕ, ◌+◌, length, map, ap, ap₂, ◌∙◌}
+use Rattle.std.proofs.Common.{◌≡◌, ℕ, ◌+◌, length, ap, ap₂, ◌∙◌}
 use Rattle.kernel_tree.specs.Plain.{parameters_of, accumulators_of, program_of}
 use Rattle.kernel_tree.specs.Items.{turns_size}
-use Rattle.kernel_tree.specs.Typing.{Scope, after_params, after_vars, after_turns, param_scope, var_scope}
-use Rattle.kernel_types.specs.Scopes.{scope_of, local_of, text_of}
-use Rattle.kernel_types.proofs.Whole.{begins, count_params, vars_index, vars_outside, vars_room, turns_room, answer_room, vars_count, whole}
+use Rattle.kernel_tree.specs.Typing.{Scope, empty, after_params, after_vars, after_turns, param_scope, var_scope}
+use Rattle.kernel_scope.specs.Scopes.{scope_of}
+use Rattle.kernel_types.proofs.Whole.{count_params, vars_index, vars_outside, vars_room, turns_room, answer_room, vars_count, whole}
 use Rattle.kernel_types.proofs.kernels.walk_kernel.Goals as goal
 
 pub walk_vars-requires : goal.walk_vars-requires
 walk_vars-requires c =
     let k = program_of c.args.kernel.now in
-    let s0 = begins _ _ _ _ (ap (map local_of) c.new.ensures.items) (ap (map text_of) c.new-2.ensures.items) c.loop_index.ensures in
+    let s0 = c.empty-scope.ensures ∙ ap empty c.loop_index.ensures in
     let d1 = ap parameters_of c.deref.ensures.value in
     let s1 : scope_of c.walk_params.new.scope ≡ param_scope k = c.in_ok-walk_params.ensures.scope ∙ ap₂ after_params s0 d1 in
     let n1 : c.walk_params.new.notes.next ≡ length k.params = c.in_ok-walk_params.ensures.next ∙ count_params c.args.kernel.now.params.items c.deref.result.now c.deref.ensures.value in
@@ -19,7 +19,7 @@ walk_vars-requires c =
 pub walk_turns-requires-clause-room : goal.walk_turns-requires-clause-room
 walk_turns-requires-clause-room c =
     let k = program_of c.args.kernel.now in
-    let s0 = begins _ _ _ _ (ap (map local_of) c.new.ensures.items) (ap (map text_of) c.new-2.ensures.items) c.loop_index.ensures in
+    let s0 = c.empty-scope.ensures ∙ ap empty c.loop_index.ensures in
     let d1 = ap parameters_of c.deref.ensures.value in
     let s1 : scope_of c.walk_params.new.scope ≡ param_scope k = c.in_ok-walk_params.ensures.scope ∙ ap₂ after_params s0 d1 in
     let n1 : c.walk_params.new.notes.next ≡ length k.params = c.in_ok-walk_params.ensures.next ∙ count_params c.args.kernel.now.params.items c.deref.result.now c.deref.ensures.value in
@@ -30,7 +30,7 @@ walk_turns-requires-clause-room c =
 pub walk_turns-requires-clause-outside : goal.walk_turns-requires-clause-outside
 walk_turns-requires-clause-outside c =
     let k = program_of c.args.kernel.now in
-    let s0 = begins _ _ _ _ (ap (map local_of) c.new.ensures.items) (ap (map text_of) c.new-2.ensures.items) c.loop_index.ensures in
+    let s0 = c.empty-scope.ensures ∙ ap empty c.loop_index.ensures in
     let d1 = ap parameters_of c.deref.ensures.value in
     let s1 : scope_of c.walk_params.new.scope ≡ param_scope k = c.in_ok-walk_params.ensures.scope ∙ ap₂ after_params s0 d1 in
     let d2 = ap accumulators_of c.deref-2.ensures.value in
@@ -40,7 +40,7 @@ walk_turns-requires-clause-outside c =
 pub walk_turns-requires-clause-index : goal.walk_turns-requires-clause-index
 walk_turns-requires-clause-index c =
     let k = program_of c.args.kernel.now in
-    let s0 = begins _ _ _ _ (ap (map local_of) c.new.ensures.items) (ap (map text_of) c.new-2.ensures.items) c.loop_index.ensures in
+    let s0 = c.empty-scope.ensures ∙ ap empty c.loop_index.ensures in
     let d1 = ap parameters_of c.deref.ensures.value in
     let s1 : scope_of c.walk_params.new.scope ≡ param_scope k = c.in_ok-walk_params.ensures.scope ∙ ap₂ after_params s0 d1 in
     let d2 = ap accumulators_of c.deref-2.ensures.value in
@@ -50,7 +50,7 @@ walk_turns-requires-clause-index c =
 pub walk_answer-requires : goal.walk_answer-requires
 walk_answer-requires c =
     let k = program_of c.args.kernel.now in
-    let s0 = begins _ _ _ _ (ap (map local_of) c.new.ensures.items) (ap (map text_of) c.new-2.ensures.items) c.loop_index.ensures in
+    let s0 = c.empty-scope.ensures ∙ ap empty c.loop_index.ensures in
     let d1 = ap parameters_of c.deref.ensures.value in
     let s1 : scope_of c.walk_params.new.scope ≡ param_scope k = c.in_ok-walk_params.ensures.scope ∙ ap₂ after_params s0 d1 in
     let n1 : c.walk_params.new.notes.next ≡ length k.params = c.in_ok-walk_params.ensures.next ∙ count_params c.args.kernel.now.params.items c.deref.result.now c.deref.ensures.value in
@@ -64,7 +64,7 @@ walk_answer-requires c =
 pub returns-clause-found : goal.returns-clause-found
 returns-clause-found c =
     let k = program_of c.args.kernel.now in
-    let s0 = begins _ _ _ _ (ap (map local_of) c.new.ensures.items) (ap (map text_of) c.new-2.ensures.items) c.loop_index.ensures in
+    let s0 = c.empty-scope.ensures ∙ ap empty c.loop_index.ensures in
     let d1 = ap parameters_of c.deref.ensures.value in
     let s1 : scope_of c.walk_params.new.scope ≡ param_scope k = c.in_ok-walk_params.ensures.scope ∙ ap₂ after_params s0 d1 in
     let n1 : c.walk_params.new.notes.next ≡ length k.params = c.in_ok-walk_params.ensures.next ∙ count_params c.args.kernel.now.params.items c.deref.result.now c.deref.ensures.value in

@@ -1,7 +1,7 @@
 use Rattle.std.proofs.Common.{◌≡◌, ◌+◌, ◌++◌, drop}
 use Rattle.kernel_tree.specs.Plain.{parameters_of}
 use Rattle.kernel_tree.specs.Typing as typing
-use Rattle.kernel_types.specs.Scopes.{scope_of}
+use Rattle.kernel_scope.specs.Scopes.{scope_of}
 use Rattle.kernel_types.proofs.kernels.walk_params.Given as goal
 
 -- what is left of the parameters leads from here to where they all lead

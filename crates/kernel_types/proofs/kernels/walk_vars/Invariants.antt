@@ -2,7 +2,7 @@ use Rattle.std.proofs.Common.{◌≡◌, ◌+◌, ◌++◌, drop}
 use Rattle.kernel_tree.specs.Plain.{accumulators_of}
 use Rattle.kernel_tree.specs.Items as items
 use Rattle.kernel_tree.specs.Typing as typing
-use Rattle.kernel_types.specs.Scopes.{scope_of}
+use Rattle.kernel_scope.specs.Scopes.{scope_of}
 use Rattle.kernel_types.proofs.kernels.walk_vars.Given as goal
 
 -- what is left of the accumulators leads from here to where they all lead

@@ -2,7 +2,7 @@ use Rattle.std.proofs.Common.{sym, ap, ◌∙◌, arith}
 use Rattle.std.specs.Prelude.{option_map}
 use Rattle.kernel_tree.specs.Items.{action_size}
 use Rattle.kernel_tree.specs.Limits.{action_depth}
-use Rattle.kernel_types.specs.Scopes.{text_of}
+use Rattle.kernel_scope.specs.Scopes.{text_of}
 use Rattle.kernel_types.proofs.Choices.{one_block, two_blocks}
 use Rattle.kernel_types.proofs.measure.+sizes.Goals as goal
 

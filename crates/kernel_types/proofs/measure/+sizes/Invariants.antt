@@ -3,7 +3,7 @@ use Rattle.std.specs.Prelude.{max, option_map}
 use Rattle.kernel_tree.specs.Plain.{action_of, block_of}
 use Rattle.kernel_tree.specs.Items as items
 use Rattle.kernel_tree.specs.Limits.{action_depth, block_depth}
-use Rattle.kernel_types.specs.Scopes.{text_of}
+use Rattle.kernel_scope.specs.Scopes.{text_of}
 use Rattle.kernel_types.proofs.measure.+sizes.Given as goal
 
 abbrev pub invariant-block_size-loop-stmt : goal.invariant-block_size-loop-stmt

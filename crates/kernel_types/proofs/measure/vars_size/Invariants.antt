@@ -2,7 +2,7 @@ use Rattle.std.proofs.Common.{◌≡◌, ◌+◌, drop}
 use Rattle.std.specs.Prelude.{option_map}
 use Rattle.kernel_tree.specs.Plain.{accumulators_of}
 use Rattle.kernel_tree.specs.Items as items
-use Rattle.kernel_types.specs.Scopes.{text_of}
+use Rattle.kernel_scope.specs.Scopes.{text_of}
 use Rattle.kernel_types.proofs.measure.vars_size.Given as goal
 
 abbrev pub invariant-loop-var : goal.invariant-loop-var

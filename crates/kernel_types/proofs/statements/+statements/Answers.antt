@@ -1,10 +1,9 @@
-use Rattle.std.proofs.Common.{◌≡◌, length, ◌+◌, ◌++◌, sym, ap, ◌∙◌, arith, drop}
-use Rattle.std.proofs.lemmas.List.{length-map}
+use Rattle.std.proofs.Common.{◌+◌, ◌++◌, sym, ap, ◌∙◌, arith, drop}
 use Rattle.kernel_tree.specs.Plain.{Action, action_of, block_of}
 use Rattle.kernel_tree.specs.Items as items
 use Rattle.kernel_tree.specs.Limits.{action_depth, block_depth}
 use Rattle.kernel_tree.specs.Typing as typing
-use Rattle.kernel_types.specs.Scopes.{scope_of, local_of, kept}
+use Rattle.kernel_scope.specs.Scopes.{scope_of, kept}
 use Rattle.kernel_types.proofs.Choices.{one_block, two_blocks}
 use Rattle.kernel_types.proofs.Growth.{kept-block}
 use Rattle.kernel_types.proofs.Steps.{next_statement, goes_on}
@@ -28,8 +27,7 @@ pub walk_inner-returns-clause-scope : goal.walk_inner-returns-clause-scope
 walk_inner-returns-clause-scope t c =
     let scope = scope_of c.args.scope.now in
     let block = block_of c.args.block.now in
-    let count : c.len-count.result ≡ length scope.visible = omega (arith, c.len-count.ensures, length-map c.args.scope.now.visible.items local_of, c.args.scope.now.visible.ok.0) in
-    c.leave.ensures ∙ ap (kept c.len-count.result) c.in_ok-walk_block.ensures.scope ∙ kept-block scope c.len-count.result block count
+    c.leave.ensures ∙ ap (kept c.visible_count-count.result) c.in_ok-walk_block.ensures.scope ∙ kept-block scope c.visible_count-count.result block c.visible_count-count.ensures
 
 pub walk_stmt-walk_if-requires : goal.walk_stmt-walk_if-requires
 walk_stmt-walk_if-requires t c =

@@ -4,7 +4,7 @@ use Rattle.kernel_tree.specs.Plain.{action_of, block_of}
 use Rattle.kernel_tree.specs.Items as items
 use Rattle.kernel_tree.specs.Limits.{action_depth, block_depth}
 use Rattle.kernel_tree.specs.Typing as typing
-use Rattle.kernel_types.specs.Scopes.{scope_of}
+use Rattle.kernel_scope.specs.Scopes.{scope_of}
 use Rattle.kernel_types.proofs.statements.+statements.Given as goal
 
 -- what is left of the statements leads from here to where they all lead

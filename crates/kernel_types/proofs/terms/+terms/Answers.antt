@@ -5,7 +5,8 @@ use Rattle.std.proofs.lemmas.Int.{to_z-of_z}
 use Rattle.kernel_tree.specs.declared.ops.Ty.{Ty}
 use Rattle.kernel_tree.specs.Plain.{term_of}
 use Rattle.kernel_tree.specs.Typing as typing
-use Rattle.kernel_types.specs.Scopes.{scope_of, role_of}
+use Rattle.kernel_scope.specs.Scopes.{scope_of}
+use Rattle.kernel_types.specs.Parts.{role_of}
 use Rattle.kernel_types.proofs.Least.{part_and_item}
 use Rattle.kernel_types.proofs.terms.+terms.Goals as goal
 

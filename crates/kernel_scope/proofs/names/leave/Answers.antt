@@ -1,8 +1,8 @@
 use Rattle.std.proofs.Common.{List, map, sym, ap, ◌∙◌}
 use Rattle.kernel_tree.specs.Typing as typing
-use Rattle.kernel_meaning.specs.Scopes.{scope_of, local_of}
-use Rattle.kernel_meaning.proofs.Lookups.{take_locals}
-use Rattle.kernel_meaning.proofs.names.leave.Goals as goal
+use Rattle.kernel_scope.specs.Scopes.{scope_of, local_of}
+use Rattle.kernel_scope.proofs.Views.{take_locals}
+use Rattle.kernel_scope.proofs.names.leave.Goals as goal
 
 pub returns : goal.returns
 returns c =

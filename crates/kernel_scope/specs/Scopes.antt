@@ -1,11 +1,11 @@
 -- What the code keeps of a scope, as the rules of typing have it.
-use Rattle.std.specs.Prelude.{ℕ, ◌∷◌, ◌++◌, [], List, map, take, Option, option_map, Bool, bytes_eq}
-use Rattle.std.specs.Borrow.{Bor}
+use Rattle.std.specs.Prelude.{ℕ, List, map, take, Option, option_map, Bool, false, bytes_eq}
 use Rattle.std.specs.List.{find}
+use Rattle.std.specs.Borrow.{Bor}
 use Rattle.kernel_tree.specs.declared.fault.Binding.{Binding}
 use Rattle.kernel_tree.specs.Typing as typing
-use Rattle.kernel_meaning.specs.declared.scope.Local.{Local}
-use Rattle.kernel_meaning.specs.declared.scope.Scope.{Scope}
+use Rattle.kernel_scope.specs.declared.scope.Local.{Local}
+use Rattle.kernel_scope.specs.declared.scope.Scope.{Scope}
 
 -- the bytes of a text that is lent
 abbrev pub text_of : Bor (List ℕ) → List ℕ
@@ -17,7 +17,7 @@ local_of l = record { name = text_of l.name; binding = l.binding }
 abbrev pub scope_of : Scope → typing.Scope
 scope_of s = record {
   visible = map local_of s.visible.items;
-  taken = map text_of s.taken.items;
+  taken = map text_of s.declared.keys;
   index = option_map text_of s.index;
   inside = s.inside;
 }
@@ -34,8 +34,12 @@ binding_among ls x = option_map binding_in (find (named x) ls)
 
 -- a name is declared, but it is visible nowhere
 abbrev pub reserved : typing.Scope → List ℕ → typing.Scope
-reserved scope x = record scope { taken = scope.taken ++ x ∷ [] }
+reserved scope x = record scope { taken = typing.insert_name scope.taken x }
 
 -- the names that were declared last are visible no more: so many stay
 abbrev pub kept : ℕ → typing.Scope → typing.Scope
 kept n scope = record scope { visible = take n scope.visible }
+
+-- behind the loop: so many names stay visible, and so many declared
+abbrev pub closed : ℕ → ℕ → typing.Scope → typing.Scope
+closed visible taken scope = record scope { visible = take visible scope.visible; taken = take taken scope.taken; inside = false }

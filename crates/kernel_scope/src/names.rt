@@ -1,14 +1,27 @@
 //! Looks names up and declares them.
 
-ghost use Rattle.std.specs.Prelude.{◌≡◌, ◌∷◌, ◌++◌, [], IfOk};
+ghost use Rattle.std.specs.Prelude.{◌≡◌, IfOk, length, option_map};
 ghost use Rattle.kernel_tree.specs.Plain.{name_of};
 ghost use Rattle.kernel_tree.specs.Typing as typing;
-ghost use Rattle.kernel_types.specs.Scopes.{scope_of, binding_among, is_among, reserved, kept, closed};
+ghost use Rattle.kernel_scope.specs.Scopes.{scope_of, text_of, binding_among, reserved, kept, closed};
 
 use crate::scope::{Local, Scope};
+use indexmap::IndexSet;
 use kernel_tree::fault::Binding;
 use kernel_tree::{Name, Ty};
-use std::alloc::AllocError;
+use std::alloc::{AllocError, Global};
+
+/// A place outside the loop, before which nothing is declared.
+pub fn empty<'a>(alloc: Global, index: Option<&'a str>) -> Scope<'a>
+    ensures { scope_of result ≡ typing.empty (option_map text_of index.entry) }
+{
+    Scope {
+        visible: Vec::new(alloc),
+        declared: IndexSet::new(alloc),
+        index,
+        inside: false,
+    }
+}
 
 fn binding_among(locals: &[Local], text: &str) -> Option<Binding>
     ensures { result ≡ binding_among locals.now text.now }
@@ -26,24 +39,32 @@ pub fn lookup(scope: &Scope, name: &Name) -> Option<Binding>
     binding_among(&scope.visible, name.text())
 }
 
-fn is_among(names: &[&str], text: &str) -> bool
-    ensures { result ≡ is_among names.now text.now }
-{
-    names.iter().any(|name| text == *name)
-}
-
 /// Whether a name is declared already.
 pub fn is_taken(scope: &Scope, name: &Name) -> bool
     ensures { result ≡ typing.is_taken (scope_of scope.now) (name_of name.now) }
 {
-    is_among(&scope.taken, name.text())
+    scope.declared.contains(name.text())
+}
+
+/// How many names are visible.
+pub fn visible_count(scope: &Scope) -> usize
+    ensures { result ≡ length (scope_of scope.now).visible }
+{
+    scope.visible.len()
+}
+
+/// How many names are declared.
+pub fn declared_count(scope: &Scope) -> usize
+    ensures { result ≡ length (scope_of scope.now).taken }
+{
+    scope.declared.len()
 }
 
 /// Declares a name that is visible nowhere.
 pub fn reserve<'a>(scope: &mut Scope<'a>, name: &'a Name) -> Result<(), AllocError>
     ensures { IfOk result (λ _. scope_of scope.new ≡ reserved (scope_of scope.old) (name_of name.now)) }
 {
-    scope.taken.push(name.text())?;
+    scope.declared.insert(name.text())?;
     Ok(())
 }
 
@@ -57,7 +78,7 @@ pub fn declare<'a>(
 {
     let name = name.text();
     scope.visible.push(Local { name, binding })?;
-    scope.taken.push(name)?;
+    scope.declared.insert(name)?;
     Ok(())
 }
 
@@ -89,6 +110,6 @@ pub fn close(scope: &mut Scope, visible: usize, taken: usize)
     ensures { scope_of scope.new ≡ closed visible taken (scope_of scope.old) }
 {
     scope.visible.truncate(visible);
-    scope.taken.truncate(taken);
+    scope.declared.truncate(taken);
     scope.inside = false;
 }

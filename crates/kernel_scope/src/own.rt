@@ -1,21 +1,18 @@
-//! The type that an expression has of its own, and what an index is.
+//! The type that an expression has of its own, and whether it is the loop variable or a literal.
 
-ghost use Rattle.std.specs.Prelude.{◌≡◌, option_map, option_and_then};
-ghost use Rattle.kernel_tree.specs.declared.ops.Ty.TheVariants as ty;
+ghost use Rattle.std.specs.Prelude.{◌≡◌, option_map};
 ghost use Rattle.kernel_tree.specs.Plain.{name_of, term_of};
 ghost use Rattle.kernel_tree.specs.Items as items;
 ghost use Rattle.kernel_tree.specs.Typing as typing;
-ghost use Rattle.kernel_tree.specs.Wrap as wraps;
-ghost use Rattle.kernel_meaning.specs.Scopes.{scope_of, text_of};
+ghost use Rattle.kernel_scope.specs.Scopes.{scope_of, text_of};
 
 use crate::names::lookup;
 use crate::scope::Scope;
-use crate::words::wrap;
 use kernel_tree::fault::Binding;
-use kernel_tree::{BinaryOp, Expr, Name, Ty};
+use kernel_tree::{Expr, Name, Ty};
 
 /// The type of a name as a value; an array has none.
-fn value_type(binding: Binding) -> Option<Ty>
+pub fn value_type(binding: Binding) -> Option<Ty>
     ensures { result ≡ typing.value_type binding }
 {
     match binding {
@@ -25,6 +22,7 @@ fn value_type(binding: Binding) -> Option<Ty>
     }
 }
 
+/// The type of an array's elements; no other name has one.
 pub fn element_type(binding: Binding) -> Option<Ty>
     ensures { result ≡ typing.element_type binding }
 {
@@ -34,6 +32,7 @@ pub fn element_type(binding: Binding) -> Option<Ty>
     }
 }
 
+/// The type of an accumulator; no other name has one.
 pub fn accumulator_type(binding: Binding) -> Option<Ty>
     ensures { result ≡ typing.accumulator_type binding }
 {
@@ -70,7 +69,8 @@ pub fn own_type(scope: &Scope, expr: &Expr) -> Option<Ty>
     }
 }
 
-fn is_index(index: Option<&str>, name: &Name) -> bool
+/// Whether a name is that of the loop variable.
+pub fn is_index(index: Option<&str>, name: &Name) -> bool
     ensures { result ≡ items.is_index (option_map text_of index.entry) (name_of name.now) }
 {
     match index {
@@ -79,7 +79,8 @@ fn is_index(index: Option<&str>, name: &Name) -> bool
     }
 }
 
-fn is_index_term(index: Option<&str>, expr: &Expr) -> bool
+/// Whether an expression is the loop variable.
+pub fn is_index_term(index: Option<&str>, expr: &Expr) -> bool
     ensures { result ≡ items.is_index_term (option_map text_of index.entry) (term_of expr.now) }
 {
     match expr {
@@ -88,40 +89,12 @@ fn is_index_term(index: Option<&str>, expr: &Expr) -> bool
     }
 }
 
-fn literal_value(expr: &Expr) -> Option<i128>
+/// The value of a literal; no other expression has one.
+pub fn literal_value(expr: &Expr) -> Option<i128>
     ensures { result ≡ items.literal_value (term_of expr.now) }
 {
     match expr {
         Expr::Lit(value) => Some(*value),
-        _ => None,
-    }
-}
-
-// The offset that an operation with a literal makes, modulo 2^64.
-fn moved_by(op: BinaryOp, by: Option<i128>) -> Option<i128>
-    ensures { result ≡ option_map (wraps.wrap ty.U64) (option_and_then (items.moved_by op) by) }
-{
-    let by = by?;
-    match op {
-        BinaryOp::Add => Some(wrap(Ty::U64, by)),
-        BinaryOp::Sub => Some(wrap(Ty::U64, by.wrapping_neg())),
-        _ => None,
-    }
-}
-
-/// The offset of a stream index, modulo 2^64; None for any other index.
-pub fn stream_offset(index: Option<&str>, expr: &Expr) -> Option<i128>
-    ensures { result ≡ option_map (wraps.wrap ty.U64) (items.stream_offset (option_map text_of index.entry) (term_of expr.now)) }
-{
-    match expr {
-        Expr::Var(name) => { if is_index(index, name) { Some(0) } else { None } }
-        Expr::Binary { op, left, right } => {
-            if is_index_term(index, left) {
-                moved_by(*op, literal_value(right))
-            } else {
-                None
-            }
-        }
         _ => None,
     }
 }
