@@ -15,7 +15,9 @@ use crate::names::{MOST_SLOTS, slot};
 use crate::node::Node;
 use crate::resolve::{array_type, resolve, resolve_number};
 use crate::step::Step;
-use kernel_scope::{Scope, accumulator_type, define, first, leave, lookup, own_type, visible_count};
+use kernel_scope::{
+    Scope, accumulator_type, define, first, leave, lookup, own_type, visible_count,
+};
 use kernel_tree::{BinaryOp, Expr, Name, Stmt, Ty, UpdateOp};
 use std::alloc::{AllocError, Global};
 

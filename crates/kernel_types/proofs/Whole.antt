@@ -5,7 +5,7 @@ use Rattle.kernel_tree.specs.declared.ast.Param.{Param}
 use Rattle.kernel_tree.specs.declared.fault.Found.{Found}
 use Rattle.kernel_tree.specs.Plain.{Parameter, Accumulator, Turns, Program, parameter_of, parameters_of}
 use Rattle.kernel_tree.specs.Items.{vars_size, turns_size, answer_size, loop_index, size_of}
-use Rattle.kernel_tree.specs.Typing.{Local, Scope, empty, after_params, after_vars, after_turns, param_scope, var_scope, params_faults, vars_faults, turns_faults, answer_faults, kernel_faults, sooner, least}
+use Rattle.kernel_tree.specs.Typing.{Scope, empty, after_params, after_vars, after_turns, param_scope, var_scope, params_faults, vars_faults, turns_faults, answer_faults, kernel_faults, sooner, least}
 use Rattle.kernel_types.proofs.Least.{sooner-assoc, least-append}
 use Rattle.kernel_types.specs.Parts.{after_param, after_var}
 
