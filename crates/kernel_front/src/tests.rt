@@ -23,6 +23,12 @@ fn refuses_the_others(rt: HostRuntime) {
     let no_tree = KernelFault::Unread(ReadFault::Syntax { token: 13 });
     let broken = KernelFault::Broken(TypeFault::LiteralRange { item: 2 });
     assert_eq!(rt; fault_of(rt.alloc(), "kernel @"), Some(bad_byte));
-    assert_eq!(rt; fault_of(rt.alloc(), "kernel f(x: u64) -> u64 { return x + ; }"), Some(no_tree));
-    assert_eq!(rt; fault_of(rt.alloc(), "kernel f(x: u8) -> u8 { return x + 300; }"), Some(broken));
+    assert_eq!(rt;
+        fault_of(rt.alloc(), "kernel f(x: u64) -> u64 { return x + ; }"),
+        Some(no_tree)
+    );
+    assert_eq!(rt;
+        fault_of(rt.alloc(), "kernel f(x: u8) -> u8 { return x + 300; }"),
+        Some(broken)
+    );
 }
