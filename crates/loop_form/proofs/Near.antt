@@ -8,7 +8,8 @@ use Rattle.kernel_tree.specs.declared.fault.Found.{Found}
 use Rattle.kernel_tree.specs.Plain.{Term, Literal, Variable, Element, Unary, Operation, Shift, Conversion, Choice, Comparison, Both, Either, Not, Action, Define, Put, Update, Choose, Leave, Block, Done, Then, Otherwise, Nothing, Else, Parameter, Accumulator, Turns, Program}
 use Rattle.kernel_tree.specs.Items.{stream_offset, loop_index, index_items, size_of}
 use Rattle.kernel_tree.specs.Limits.{most_items, most_depth, most_offset, depth_of}
-use Rattle.kernel_tree.specs.Typing.{TooLarge, TooDeep, Fails, Scope, Role, Value, lookup, as_value, read_faults, wanted, first, own, faults, inner_faults, index_faults, stream_faults, offset_faults, action_faults, block_faults, otherwise_faults, after_action, after_block, defined, left, in_loop, empty, after_params, after_vars, param_scope, var_scope, turns_faults, kernel_faults, sooner, least, check_fault}
+use Rattle.kernel_tree.specs.declared.fault.Binding.TheVariants as binding
+use Rattle.kernel_tree.specs.Typing.{TooLarge, TooDeep, Fails, Scope, Role, Value, lookup, as_value, read_faults, wanted, first, own, faults, inner_faults, index_faults, stream_faults, offset_faults, action_faults, block_faults, otherwise_faults, after_action, after_block, defined, left, in_loop, empty, after_params, after_vars, param_scope, var_scope, turns_faults, kernel_faults, sooner, least, check_fault, declared, binding_of_shape}
 use Rattle.loop_form.specs.Entries.{Entry, inner_entries, term_entries, action_entries, block_entries, otherwise_entries, turns_entries, loop_entries, loop_start}
 use Rattle.loop_form.specs.Near.{IsNear, AreNear}
 
@@ -99,11 +100,11 @@ turns-near k s from f (Some l) q h = (tt, block-near k l.body (in_loop s l) _ _ 
 
 params-index : (s : Scope) (ps : List Parameter) → (after_params s ps).index ≡ s.index
 params-index s [] = refl
-params-index s (p ∷ ps) = params-index _ ps
+params-index s (p ∷ ps) = params-index (declared s p.name (binding_of_shape p.shape)) ps
 
 vars-index : (s : Scope) (vs : List Accumulator) → (after_vars s vs).index ≡ s.index
 vars-index s [] = refl
-vars-index s (v ∷ vs) = vars-index _ vs
+vars-index s (v ∷ vs) = vars-index (declared s v.name (binding.Accumulator v.type)) vs
 
 none : (fs : List Found) → option_map Fails (least fs) ≡ None → fs ≡ []
 none [] e = refl
