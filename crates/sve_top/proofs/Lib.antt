@@ -4,3 +4,4 @@ pub mod Listings
 pub mod Wanted
 pub mod Statuses
 pub mod Evaluations
+pub mod SomeWork

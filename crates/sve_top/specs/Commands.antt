@@ -21,6 +21,8 @@ use Rattle.scalar_text.specs.ScalarText.{scalar_text}
 use Rattle.map_text.specs.declared.fault.MapFault.{MapFault}
 use Rattle.map_text.specs.Mapping.{map_of as pages_of}
 use Rattle.kernel_tree.specs.Plain.{Program}
+use Rattle.kernel_syntax.specs.declared.fault.ReadFault.TheVariants as reading
+use Rattle.kernel_front.specs.declared.fault.KernelFault.TheVariants as kernels
 use Rattle.check_text.specs.CheckText.{check_text}
 use Rattle.command_line.specs.Line.{Line, Task, Extent, CompileLine, CheckLine, EvalLine, ListLine, RunLine}
 use Rattle.sve_top.specs.declared.refusal.Refusal.{Refusal}
@@ -188,7 +190,8 @@ abbrev pub AfterRead : {T : Type 0} → Result T Refusal → (T → Work → Typ
 AfterRead (Ok x) next work = next x work
 AfterRead (Err refusal) next work = work ≡ Err refusal
 
--- What a command is to come to. There is one such work, but for the token that the line of a syntax fault names.
+-- What a command is to come to. There is one such work (the laws `some_work` and `one_work`), but for the token that the line of a syntax
+-- fault names.
 abbrev pub Wants : Held → Option Line → Work → Type 0
 Wants held None work = work ≡ Err Usage
 Wants held (Some (CompileLine from to)) work = AfterRead (file_of held from) CompileWants work
@@ -197,6 +200,18 @@ Wants held (Some (EvalLine task)) work =
     AfterRead (file_of held task.file) (λ text. AfterRead (map_of held task.map) (EvalWants task text)) work
 Wants held (Some (ListLine from)) work = work ≡ work_of_list held from
 Wants held (Some (RunLine vl task)) work = work ≡ work_of_run held vl task
+
+-- a refusal of a text whose tokens are no kernel
+abbrev pub IsSyntaxFault : Work → Type 0
+IsSyntaxFault work = (token : ℕ) × (work ≡ Err (Kernel (kernels.Unread (reading.Syntax token))))
+
+-- two works are one, or both are such refusals, whose lines may name different tokens
+abbrev pub IsOneWork : Work → Work → Type 0
+IsOneWork v w = (v ≡ w) ⊎ (IsSyntaxFault v × IsSyntaxFault w)
+
+-- some work is wanted, and this holds of it
+abbrev pub SomeWanted : (Work → Type 0) → (Work → Type 0) → Type 0
+SomeWanted W P = (w : Work) × W w × P w
 
 -- wherever some work is wanted, this holds of a work that is wanted
 abbrev pub OfWanted : (Work → Type 0) → (Work → Type 0) → Type 0

@@ -83,11 +83,23 @@ const MAP: &[u8] = b"map 0x10000 1 rw\nset 0x10000 0102\n";
 
 // A command over two files: `in`, and the page map `m`.
 fn done(alloc: Global, line: &str, file: &[u8], fails: Fails) -> Result<Option<Came>, AllocError> {
+    let came = done_beside(alloc, line, file, MAP, fails)?;
+    Ok(came)
+}
+
+// The same with another page map.
+fn done_beside(
+    alloc: Global,
+    line: &str,
+    file: &[u8],
+    map: &[u8],
+    fails: Fails,
+) -> Result<Option<Came>, AllocError> {
     let name = String::from_str(alloc, "in")?;
     let bytes = file.to_vec(alloc)?;
     let file = NamedFile { name, bytes };
     let name = String::from_str(alloc, "m")?;
-    let bytes = MAP.to_vec(alloc)?;
+    let bytes = map.to_vec(alloc)?;
     let listed = vec![in alloc; file, NamedFile { name, bytes }]?;
     if !have_different_names(&listed) {
         return Ok(None);
@@ -264,11 +276,29 @@ fn short_file_is_refused(rt: HostRuntime) -> Result<(), Fail> {
 
 #[test]
 fn maps_are_refused(rt: HostRuntime) -> Result<(), Fail> {
-    let none = Fails::none(rt.alloc());
-    let came = done(rt.alloc(), "run --map in in", &E1, none)?.expect(&rt, "a command");
-    assert_eq!(rt; came.status, 4);
-    assert_eq!(rt; came.printed.len(), 0);
-    assert_eq!(rt; came.told.as_slice(), b"svec: map: bad line 1\n".as_slice());
+    let rows = [
+        (b"map 0x400000 1 rw".as_slice(), "clash at line 1"),
+        (b"map 0x1000 1 r\nmap 0x1000 1 rw", "clash at line 2"),
+        (b"set 0x5000 00", "unmapped at line 1"),
+        (b"map 0x1000 0 r", "bad line 1"),
+        (b"map 0x1001 1 r", "bad line 1"),
+        (b"map 0xffffffff0000 17 r", "bad line 1"),
+        (b"map 0 18446744073709551615 r", "bad line 1"),
+        (b"map 0x1000 1 r\nset 0x1000 0", "bad line 2"),
+        (b"map 0x1000000 16384 r", "too many pages"),
+    ];
+    for (map, fault) in rows {
+        let none = Fails::none(rt.alloc());
+        let came = done_beside(rt.alloc(), "run --map m in", &E1, map, none)?;
+        let came = came.expect(&rt, "a command");
+        let told = came.told.strip_prefix(b"svec: map: ".as_slice());
+        let told = told
+            .expect(&rt, "a line of a map")
+            .strip_suffix(b"\n".as_slice());
+        assert_eq!(rt; came.status, 4);
+        assert_eq!(rt; came.printed.len(), 0);
+        assert_eq!(rt; told, Some(fault.as_bytes()));
+    }
     Ok(())
 }
 

@@ -1,11 +1,11 @@
 //! The call that does a command.
 
-ghost use Rattle.std.specs.Prelude.{◌≡◌, ◌≢◌, ◌≤◌, ◌⊎◌, Some, None, IfSome, IsTrue, Err, OnOk, []};
+ghost use Rattle.std.specs.Prelude.{◌≡◌, ◌≢◌, ◌≤◌, ◌⊎◌, Option, Some, None, IfSome, IsTrue, Err, OnOk, []};
 ghost use Rattle.io_edges.specs.Files.{Rose};
-ghost use Rattle.command_line.specs.Line.{line_of};
+ghost use Rattle.command_line.specs.Line.{Line, line_of};
 ghost use Rattle.command_line.specs.Seen.{texts, command_seen};
-ghost use Rattle.sve_top.specs.Answer.{answer_of, text_of, status_of_refusal, IsAnswer, IsStatus, IsKept, IsQuiet};
-ghost use Rattle.sve_top.specs.Commands.{Wants, OfWanted, IsOf, IsListed, IsSilent, IsHeld, Compiled, OthersKept};
+ghost use Rattle.sve_top.specs.Answer.{Held, Work, answer_of, text_of, status_of_refusal, IsAnswer, IsStatus, IsKept, IsQuiet};
+ghost use Rattle.sve_top.specs.Commands.{Wants, OfWanted, SomeWanted, IsOneWork, IsOf, IsListed, IsSilent, IsHeld, Compiled, OthersKept};
 ghost use Rattle.sve_top.specs.Outputs.{Prints, PrintsBy, Gains, told, told_by};
 ghost use Rattle.sve_top.specs.Lines.{line_of_refusal};
 
@@ -38,18 +38,18 @@ pub fn top<F: Files, I: Source, S: Sink, E: Sink>(
 ) -> u8
     ensures usage { result ≡ 2 → line_of (texts words.now) ≡ None }
     ensures listed { IsListed (line_of (texts words.now)) result }
-    ensures status { IfSome (F.held files.old) (λ held. OfWanted (Wants held (line_of (texts words.now))) (λ work. IsStatus (F.faults files.old) (F.faults files.new) (S.faults out.old) (S.faults out.new) (answer_of work) result)) }
+    ensures status { IfSome (F.held files.old) (λ held. SomeWanted (Wants held (line_of (texts words.now))) (λ work. IsStatus (F.faults files.old) (F.faults files.new) (S.faults out.old) (S.faults out.new) (answer_of work) result)) }
     ensures file { result ≡ 0 → IfSome (line_of (texts words.now)) (λ line. IfSome (F.held files.old) (λ old. IfSome (F.held files.new) (λ new. Compiled old new line))) }
     ensures others { IfSome (F.held files.old) (λ old. IfSome (F.held files.new) (λ new. OthersKept old new (line_of (texts words.now)))) }
     ensures kept { (result ≡ 2) ⊎ (result ≡ 3) ⊎ (result ≡ 4) ⊎ (result ≡ 5) ⊎ (result ≡ 6) ⊎ (result ≡ 9) → F.held files.new ≡ F.held files.old }
     ensures failed { result ≡ 8 → Rose (F.faults files.old) (F.faults files.new) }
     ensures output { result ≡ 9 → Rose (S.faults out.old) (S.faults out.new) }
     ensures steady { IsTrue (F.steady files.old) → IfSome (line_of (texts words.now)) (λ line. IfSome (F.held files.old) (λ held. IsHeld held line → result ≢ 8)) }
-    ensures printed { IfSome (F.held files.old) (λ held. OfWanted (Wants held (line_of (texts words.now))) (λ work. PrintsBy (S.taken out.old) (S.taken out.new) (text_of work) result)) }
+    ensures printed { IfSome (F.held files.old) (λ held. SomeWanted (Wants held (line_of (texts words.now))) (λ work. PrintsBy (S.taken out.old) (S.taken out.new) (text_of work) result)) }
     ensures quiet { (result ≡ 2) ⊎ (result ≡ 3) ⊎ (result ≡ 4) ⊎ (result ≡ 8) → out.new ≡ out.old }
     ensures silent { IsSilent (line_of (texts words.now)) → out.new ≡ out.old }
     ensures unread { _input.new ≡ _input.old }
-    ensures told { IfSome (F.held files.old) (λ held. OfWanted (Wants held (line_of (texts words.now))) (λ work. Gains (E.taken err.old) (E.taken err.new) (E.faults err.old) (E.faults err.new) (told_by (told (answer_of work)) result))) }
+    ensures told { IfSome (F.held files.old) (λ held. SomeWanted (Wants held (line_of (texts words.now))) (λ work. Gains (E.taken err.old) (E.taken err.new) (E.faults err.old) (E.faults err.new) (told_by (told (answer_of work)) result))) }
     ensures told_alike { result ≢ 3 → result ≢ 4 → Gains (E.taken err.old) (E.taken err.new) (E.faults err.old) (E.faults err.new) (told_by [] result) }
     ensures told_some { (result ≡ 3) ⊎ (result ≡ 4) → (refusal : Refusal) × (status_of_refusal refusal ≡ result) × Gains (E.taken err.old) (E.taken err.new) (E.faults err.old) (E.faults err.new) (line_of_refusal refusal) }
 {
@@ -115,3 +115,13 @@ fn do_command<F: Files, S: Sink>(
         Command::Run { vl, task } => run(alloc, *vl, task, files, out),
     }
 }
+
+/// Some work is wanted of each command.
+pub fn some_work()
+    ensures { (held : Held) (line : Option Line) → (w : Work) × Wants held line w }
+{}
+
+/// One work alone is wanted of a command, but for the token that the line of a syntax fault names.
+pub fn one_work()
+    ensures { (held : Held) (line : Option Line) (v w : Work) → Wants held line v → Wants held line w → IsOneWork v w }
+{}
