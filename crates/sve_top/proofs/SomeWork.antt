@@ -1,5 +1,5 @@
 -- Some work is wanted of each command, and one alone but for the token that the line of a syntax fault names.
-use Rattle.std.proofs.Common.{◌≡◌, ℕ, Bool, true, false, cond, List, [], length, Option, Some, None, Result, Ok, Err, refl, sym, ap, ◌∙◌, subst, ◌⊎◌, inl, inr}
+use Rattle.std.proofs.Common.{◌≡◌, ℕ, Bool, true, false, cond, List, [], length, Option, Some, None, Result, Ok, Err, refl, sym, ap, ◌∙◌, subst, inl, inr}
 use Rattle.std.specs.Prelude.{IfSome, nat_lt, option_map}
 use Rattle.early_kernel.specs.Sum.{SumKernel}
 use Rattle.early_kernel.specs.Reads.{sum_kernel_of}
@@ -15,7 +15,6 @@ use Rattle.kernel_syntax.specs.Nesting.{deep_place}
 use Rattle.kernel_syntax.specs.Refusals.{limit_fault, tokens_fault, words_fault}
 use Rattle.kernel_syntax.specs.declared.fault.ReadFault.{ReadFault}
 use Rattle.kernel_syntax.specs.declared.fault.ReadFault.TheVariants as reading
-use Rattle.kernel_types.specs.Causes.{IsCause}
 use Rattle.kernel_types.specs.declared.fault.TypeFault.{TypeFault}
 use Rattle.kernel_types.specs.declared.fault.TypeFault.TheVariants as typing
 use Rattle.kernel_front.specs.declared.fault.KernelFault.{KernelFault}
