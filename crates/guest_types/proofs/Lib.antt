@@ -11,3 +11,4 @@ mod Examples
 pub mod Writes
 pub mod Stores
 pub mod Merges
+pub mod EarlyLoads

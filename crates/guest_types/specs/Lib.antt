@@ -4,3 +4,4 @@ pub mod Spans
 pub mod Elements
 pub mod Lanes
 pub mod LaneMemory
+pub mod EarlyLoads
