@@ -1,5 +1,6 @@
 -- Outside values, by computation: what instructions leave, worked out by hand from the manual's descriptions.
 use Rattle.std.proofs.Common.{◌≡◌, ℕ, zero, suc, List, [], ◌∷◌, Bool, true, false, take, replicate, refl}
+use Rattle.guest_types.specs.EarlyLoads.{never}
 use Rattle.guest_types.specs.Memory.{Memory, number_at}
 use Rattle.guest_types.specs.Elements.{Flags, nzcv}
 use Rattle.guest_types.specs.declared.memory.Perm.TheVariants.{Read, ReadWrite}
@@ -8,6 +9,7 @@ use Rattle.machine_model.specs.declared.outcome.StopKind.{StopKind}
 use Rattle.machine_model.specs.declared.outcome.StopKind.TheVariants.{Read as ReadStop, Write as WriteStop, Call, Break}
 use Rattle.machine_model.specs.Arithmetic.{flags_of, signed_field, unsigned_field, holds, shifted}
 use Rattle.machine_model.specs.Machine.{State, Step, Went, Ended, Stopped}
+use Rattle.machine_model.specs.InstructionTable.{Scalar}
 use Rattle.machine_model.specs.OneStep.{does}
 
 -- ---- the flags of a - b, N the highest of four bits
@@ -143,6 +145,7 @@ state = record {
   p = [];
   ffr = [];
   vl = 128;
+  stops = never;
 }
 
 -- what a step shows: PC, the flags, SP and X0 to X5; the end; or the stop
@@ -157,7 +160,7 @@ shown (Ended result) = Ends result
 shown (Stopped kind pc at left) = Stops kind pc at
 
 abbrev of : Name → List ℕ → Shown
-of name numbers = shown (does (record { name = name; numbers = numbers }) state)
+of name numbers = shown (does (Scalar (record { name = name; numbers = numbers })) state)
 
 -- on to the next word with this X5
 abbrev fifth : ℕ → Shown
@@ -320,16 +323,16 @@ left_by (Went s) address size = number_at s.memory address size
 left_by (Ended result) address size = 0
 left_by (Stopped kind pc at left) address size = number_at left address size
 
-stores_zero : left_by (does (record { name = str_x; numbers = 31 ∷ 1 ∷ 0 ∷ [] }) state) 0x2000 10 ≡ 0x13120000000000000000
+stores_zero : left_by (does (Scalar (record { name = str_x; numbers = 31 ∷ 1 ∷ 0 ∷ [] })) state) 0x2000 10 ≡ 0x13120000000000000000
 stores_zero = refl
 
 -- a store whose first bytes might be written, and whose others not, writes none
 abbrev whole_page : State
 whole_page = record state { memory = record { page = 2; perm = ReadWrite; bytes = replicate 4096 7 } ∷ [] }
 
-refuses_all : left_by (does (record { name = str_x; numbers = 4 ∷ 31 ∷ 0 ∷ [] }) whole_page) 0x2ffc 4 ≡ 0x07070707
+refuses_all : left_by (does (Scalar (record { name = str_x; numbers = 4 ∷ 31 ∷ 0 ∷ [] })) whole_page) 0x2ffc 4 ≡ 0x07070707
 refuses_all = refl
 
 -- and one that may be written is
-stores_all : left_by (does (record { name = str_x; numbers = 4 ∷ 1 ∷ 511 ∷ [] }) whole_page) 0x2ff7 9 ≡ 0xffffffffffffffff07
+stores_all : left_by (does (Scalar (record { name = str_x; numbers = 4 ∷ 1 ∷ 511 ∷ [] })) whole_page) 0x2ff7 9 ≡ 0xffffffffffffffff07
 stores_all = refl

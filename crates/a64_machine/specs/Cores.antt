@@ -2,6 +2,7 @@
 use Rattle.std.specs.Prelude.{◌≡◌, ℕ, ◌/◌, ◌%◌, ◌^◌, Bool, List, [], nat_eq, slice_index_or}
 use Rattle.guest_types.specs.Memory.{Memory}
 use Rattle.guest_types.specs.Elements.{Flags, element}
+use Rattle.guest_types.specs.EarlyLoads.{StopList}
 use Rattle.a64_code.specs.declared.A64.{A64}
 use Rattle.a64_code.specs.declared.A64.TheVariants.{Umov}
 use Rattle.machine_model.specs.Machine.{State}
@@ -15,6 +16,7 @@ pub record Rest : Type 0 where
   pub p : List (List ℕ)
   pub ffr : List ℕ
   pub vl : ℕ
+  pub stops : StopList
 
 -- bit k of a number is 1
 abbrev pub is_set : ℕ → ℕ → Bool
@@ -35,6 +37,7 @@ state_of core memory rest = record {
   p = rest.p;
   ffr = rest.ffr;
   vl = rest.vl;
+  stops = rest.stops;
 }
 
 -- Where the instruction is UMOV, `vzero` is doubleword 0 of the vector register that it reads.

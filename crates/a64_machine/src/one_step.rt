@@ -4,6 +4,7 @@ ghost use Rattle.std.specs.Prelude.{◌≡◌};
 ghost use Rattle.a64_code.specs.Seen.{seen};
 ghost use Rattle.guest_types.specs.Memory.{Memory};
 ghost use Rattle.machine_model.specs.Machine.{Went};
+ghost use Rattle.machine_model.specs.InstructionTable.{Scalar};
 ghost use Rattle.machine_model.specs.OneStep.{does};
 ghost use Rattle.machine_model.specs.Answers.{IsAnswer};
 ghost use Rattle.a64_machine.specs.Cores.{Rest, state_of, HasVector, UnlessWent};
@@ -26,7 +27,7 @@ use paged_memory::pages::Pages;
 /// left at the next instruction to be done.
 pub fn a64_step(core: &mut Core, pages: &mut Pages, word: A64) -> Step
     ensures answer { (rest : Rest) → HasVector word core.old rest → let before = state_of core.old pages.old rest in
-        IsAnswer (does (seen word) before) result before (state_of core.new pages.new rest) }
+        IsAnswer (does (Scalar (seen word)) before) result before (state_of core.new pages.new rest) }
     ensures kept { UnlessWent result (core.new ≡ core.old) }
     ensures kept_memory { UnlessWent result (pages.new ≡ pages.old) }
 {
@@ -57,7 +58,7 @@ pub fn a64_step(core: &mut Core, pages: &mut Pages, word: A64) -> Step
 #[inline(always)]
 fn on_registers(core: &mut Core, word: A64)
     ensures { (memory : Memory) (rest : Rest) → IsOnRegisters word → HasVector word core.old rest →
-        does (seen word) (state_of core.old memory rest) ≡ Went (state_of core.new memory rest) }
+        does (Scalar (seen word)) (state_of core.old memory rest) ≡ Went (state_of core.new memory rest) }
 {
     match word {
         A64::Branch { imm26 } => branch(core, imm26),
@@ -73,7 +74,7 @@ fn on_registers(core: &mut Core, word: A64)
 #[inline(always)]
 fn data(core: &mut Core, word: A64)
     ensures { (memory : Memory) (rest : Rest) → IsData word → HasVector word core.old rest →
-        does (seen word) (state_of core.old memory rest) ≡ Went (state_of core.new memory rest) }
+        does (Scalar (seen word)) (state_of core.old memory rest) ≡ Went (state_of core.new memory rest) }
 {
     match word {
         A64::AddSubImmediate {

@@ -1,6 +1,6 @@
 //! One step: the fetch, the decoding and the instruction.
 
-ghost use Rattle.std.specs.Prelude.{◌≡◌, ℕ};
+ghost use Rattle.std.specs.Prelude.{◌≡◌, ◌<◌, ◌^◌, ℕ};
 ghost use Rattle.machine_model.specs.OneStep.{step};
 ghost use Rattle.machine_model.specs.Answers.{IsAnswer};
 ghost use Rattle.a64_machine.specs.Cores.{state_of};
@@ -27,10 +27,18 @@ pub fn advance(core: &mut Core, pages: &mut Pages) -> Step
     };
     match decode(word) {
         Some(instruction) => a64_step(core, pages, instruction),
-        None => Step::Stopped(Stop {
-            kind: StopKind::Undefined,
-            pc,
-            at: u64::from(word),
-        }),
+        None => {
+            fits_a_word(word);
+            Step::Stopped(Stop {
+                kind: StopKind::Undefined,
+                pc,
+                at: u64::from(word),
+            })
+        }
     }
 }
+
+// A word has 32 bits.
+fn fits_a_word(word: u32)
+    ensures { word < 2 ^ 32 }
+{}

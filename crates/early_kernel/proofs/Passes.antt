@@ -4,6 +4,7 @@ use Rattle.guest_types.specs.Memory.{Memory}
 use Rattle.word_rows.specs.Row.{Instruction}
 use Rattle.a64_code.specs.Table.{Name}
 use Rattle.machine_model.specs.Machine.{State, Went}
+use Rattle.machine_model.specs.InstructionTable.{Scalar}
 use Rattle.machine_model.specs.OneStep.{does}
 use Rattle.machine_model.proofs.Runs.{Leads, leads_none, leads_one, leads_on, HasCode, word_after, place_after, step_is, code_back}
 
@@ -20,7 +21,7 @@ pass_none s = record { leads = leads_none s; memory = refl; pc = refl }
 stands : (m : Memory) (pc : ℕ) (is : List (Instruction Name)) (t : State) → t.memory ≡ m → t.pc ≡ pc → HasCode m pc is → HasCode t.memory t.pc is
 stands m pc is t em ep h = subst (λ p. HasCode t.memory p is) (sym ep) (subst (λ n. HasCode n pc is) (sym em) h)
 
-pub pass_one : (i : Instruction Name) (is : List (Instruction Name)) (s u t : State) → HasCode s.memory s.pc (i ∷ is) → does i s ≡ Went u → u.memory ≡ s.memory → u.pc ≡ word_after s.pc → (HasCode u.memory u.pc is → Passes is u t) → Passes (i ∷ is) s t
+pub pass_one : (i : Instruction Name) (is : List (Instruction Name)) (s u t : State) → HasCode s.memory s.pc (i ∷ is) → does (Scalar i) s ≡ Went u → u.memory ≡ s.memory → u.pc ≡ word_after s.pc → (HasCode u.memory u.pc is → Passes is u t) → Passes (i ∷ is) s t
 pass_one i is s u t h e em ep rest =
     let r = rest (stands s.memory (word_after s.pc) is u em ep h.2) in
     let n : 1 + length is ≡ length (i ∷ is) = omega arith in

@@ -11,6 +11,7 @@ use Rattle.a64_code.specs.Table.{Name, row, a64_names, add_sub_imm, add_sub_shif
 use Rattle.a64_code.specs.declared.MoveWideOp.TheVariants.{Movz, Movk}
 use Rattle.machine_model.specs.Machine.{State, Ended, x_at, with_x, next}
 use Rattle.machine_model.specs.Arithmetic.{sum, shifted}
+use Rattle.machine_model.specs.InstructionTable.{Scalar}
 use Rattle.machine_model.specs.OneStep.{does}
 use Rattle.machine_model.specs.Load.{Image}
 use Rattle.machine_model.specs.Written.{file_of, image_of_words}
@@ -147,7 +148,7 @@ ends_in terms args s h sums code =
       call = same_at t2.x 8 93 size2 (omega arith);
     }
 
-last_step : (s : State) (r : ℕ) → x_at s 0 ≡ r → x_at s 8 ≡ 93 → does (svc_of 0) s ≡ Ended r
+last_step : (s : State) (r : ℕ) → x_at s 0 ≡ r → x_at s 8 ≡ 93 → does (Scalar (svc_of 0)) s ≡ Ended r
 last_step s r e f = cond-true _ _ _ (eq-eqb (x_at s 8) 93 f) ∙ ap Ended e
 
 module _ (terms : List Term) (few : length terms ≤ 12) (h : All IsTerm terms) where

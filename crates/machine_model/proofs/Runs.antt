@@ -3,12 +3,14 @@ use Rattle.std.proofs.Common.{◌≡◌, ℕ, zero, suc, ◌+◌, ◌-◌, ◌*�
 use Rattle.std.specs.Prelude.{map, slice_get}
 use Rattle.std.proofs.Math.Nat.{mod-eq_of_lt}
 use Rattle.guest_types.specs.Memory.{Memory, fetched}
-use Rattle.word_rows.specs.Row.{Instruction, IsInstruction, spells}
+use Rattle.word_rows.specs.Row.{Instruction, IsInstruction, reads, spells}
 use Rattle.word_rows.proofs.Laws.{reads-spells}
 use Rattle.a64_code.specs.Table.{Name, row, a64_names}
 use Rattle.a64_code.proofs.Valid.{a64_table}
 use Rattle.machine_model.specs.declared.outcome.StopKind.TheVariants.{Undefined}
 use Rattle.machine_model.specs.Machine.{State, Step, Went, Ended, Stopped}
+use Rattle.sve_code.specs.Table as sve
+use Rattle.machine_model.specs.InstructionTable.{Scalar, either_table}
 use Rattle.machine_model.specs.OneStep.{step, does, do_word, reads_word}
 use Rattle.machine_model.specs.Run.{End, run, go_on, after_steps, is_over, steps_taken}
 
@@ -99,12 +101,12 @@ place_after pc [] = pc
 place_after pc (i ∷ is) = place_after (word_after pc) is
 
 -- what is spelled is read
-pub read_word : (i : Instruction Name) → IsInstruction row a64_names i → reads_word (spells row i) ≡ Some i
+pub read_word : (i : Instruction Name) → IsInstruction row a64_names i → reads_word (spells row i) ≡ Some (Scalar i)
 unfolding reads_word
-read_word i h = reads-spells row a64_names a64_table i h
+read_word i h = ap (λ o. either_table o (reads sve.row sve.sve_names (spells row i))) (reads-spells row a64_names a64_table i h)
 
 -- one step
-pub step_is : (s : State) (i : Instruction Name) (is : List (Instruction Name)) → HasCode s.memory s.pc (i ∷ is) → step s ≡ does i s
+pub step_is : (s : State) (i : Instruction Name) (is : List (Instruction Name)) → HasCode s.memory s.pc (i ∷ is) → step s ≡ does (Scalar i) s
 step_is s i is h =
     ap (λ o. do_word o s) h.0
     ∙ ap (λ o. elim o as (λ o. Step) [ None ↦ Stopped Undefined s.pc (spells row i) s.memory | Some j ↦ does j s ]) (read_word i h.1)

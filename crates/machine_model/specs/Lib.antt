@@ -1,8 +1,11 @@
 pub mod Machine
 pub mod Arithmetic
 pub mod Effects
+pub mod VectorEffects
 pub mod InstructionTable
 pub mod OneStep
+pub mod States
+pub mod Frames
 pub mod Load
 pub mod Written
 pub mod Run

@@ -1,19 +1,22 @@
 -- One step of the machine: the fetch, the instruction of the word, and what it does.
-use Rattle.std.specs.Prelude.{ℕ, Option, Some, None}
+use Rattle.std.specs.Prelude.{ℕ, Bool, false, Option, Some, None}
 use Rattle.guest_types.specs.Memory.{fetched}
-use Rattle.word_rows.specs.Row.{Instruction, reads}
-use Rattle.a64_code.specs.Table.{Name, row, a64_names}
+use Rattle.word_rows.specs.Row.{spells}
+use Rattle.sve_code.specs.Table as sve
 use Rattle.machine_model.specs.declared.outcome.StopKind.TheVariants.{Fetch, Undefined}
 use Rattle.machine_model.specs.Machine.{State, Step, Stopped}
 use Rattle.machine_model.specs.Effects.{act}
+use Rattle.machine_model.specs.VectorEffects.{vector_cut, field_of}
+use Rattle.machine_model.specs.InstructionTable.{Listed, Scalar, Vector, listed}
 
--- The instruction of a word. The words of SVE instructions are undefined here: the machine takes none of them yet.
-unfoldable pub reads_word : ℕ → Option (Instruction Name)
-reads_word word = reads row a64_names word
+-- the instruction of a word, in either table
+unfoldable pub reads_word : ℕ → Option Listed
+reads_word word = listed word
 
--- what an instruction does
-abbrev pub does : Instruction Name → State → Step
-does i s = act i.name i.numbers s
+-- What an instruction does. The words of SVE instructions are undefined here: the machine takes none of them yet.
+abbrev pub does : Listed → State → Step
+does (Scalar i) s = act i.name i.numbers s
+does (Vector v) s = Stopped Undefined s.pc (spells sve.row v) s.memory
 
 -- what the word at PC does, where there is one
 abbrev pub do_word : Option ℕ → State → Step
@@ -22,3 +25,16 @@ do_word (Some word) s = elim (reads_word word) [ None ↦ Stopped Undefined s.pc
 
 abbrev pub step : State → Step
 step s = do_word (fetched s.memory s.pc) s
+
+-- ---- whether a step suppresses a free element of a load that may stop early; at most one a step
+
+abbrev pub cuts_in : Listed → State → Bool
+cuts_in (Scalar i) s = false
+cuts_in (Vector v) s = vector_cut v.name (field_of v.name v.numbers) s
+
+abbrev pub word_cuts : Option ℕ → State → Bool
+word_cuts None s = false
+word_cuts (Some word) s = elim (reads_word word) [ None ↦ false | Some i ↦ cuts_in i s ]
+
+abbrev pub suppresses : State → Bool
+suppresses s = word_cuts (fetched s.memory s.pc) s

@@ -1,9 +1,10 @@
 -- Runs of the machine.
-use Rattle.std.specs.Prelude.{ℕ, zero, suc, ◌+◌, ◌-◌, List, ◌++◌, length, replicate, Ok, Err, Option, Some, None, Bool, true, false}
+use Rattle.std.specs.Prelude.{ℕ, zero, suc, ◌+◌, ◌-◌, List, ◌++◌, length, replicate, Ok, Err, Option, Some, None, Bool, true, false, cond}
+use Rattle.guest_types.specs.EarlyLoads.{StopList, never}
 use Rattle.guest_types.specs.Memory.{Memory, merged}
 use Rattle.machine_model.specs.declared.outcome.StopKind.{StopKind}
 use Rattle.machine_model.specs.Machine.{State, Step, Went, Ended, Stopped}
-use Rattle.machine_model.specs.OneStep.{step}
+use Rattle.machine_model.specs.OneStep.{step, suppresses}
 use Rattle.machine_model.specs.Load.{Image, load}
 
 -- How a run comes out, with the memory left and the number of steps taken. A step that ends or stops is counted.
@@ -38,6 +39,7 @@ start image args pages vl = record {
   p = replicate 16 (replicate 32 0);
   ffr = replicate 32 0;
   vl = vl;
+  stops = never;
 }
 
 -- the state after n steps, where each of them went on
@@ -60,3 +62,20 @@ steps_taken (Spent pc memory steps) = steps
 abbrev pub machine_run : List ℕ → List ℕ → Memory → ℕ → ℕ → Option Outcome
 machine_run file args pages vl steps =
     elim (load file) [ Ok image ↦ Some (run steps 0 (start image args pages vl)) | Err fault ↦ None ]
+
+-- ---- runs with a stop list
+
+-- where a run with this stop list starts
+unfoldable pub free_start : Image → List ℕ → Memory → ℕ → StopList → State
+free_start image args pages vl stops = record (start image args pages vl) { stops = stops }
+
+-- how many free elements were suppressed in the steps that went on, of the first n
+abbrev pub suppressed : ℕ → State → ℕ
+suppressed zero s = 0
+suppressed (suc n) s =
+    elim (step s) [ Went t ↦ cond (suppresses s) 1 0 + suppressed n t | Ended result ↦ 0 | Stopped kind pc at memory ↦ 0 ]
+
+-- the run of a file with a stop list, where it can be loaded
+abbrev pub free_run : List ℕ → List ℕ → Memory → ℕ → StopList → ℕ → Option Outcome
+free_run file args pages vl stops steps =
+    elim (load file) [ Ok image ↦ Some (run steps 0 (free_start image args pages vl stops)) | Err fault ↦ None ]

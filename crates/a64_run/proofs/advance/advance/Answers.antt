@@ -20,5 +20,5 @@ pub returns-in-None : goal.returns-in-None
 returns-in-None c = record {
   answer = λ vl.
       let s = state_of c.args.core.now c.args.pages.now (rest_of vl) in
-      (undefined s c.in-Some.word c.decode.result (sym c.fetch.ensures ∙ c.in-Some.is) c.in-None.is c.decode.ensures.table ∙ ap (λ w. Stopped Undefined s.pc w s.memory) (sym c.from.ensures), refl);
+      (undefined s c.in-Some.word c.decode.result c.fits_a_word.ensures (sym c.fetch.ensures ∙ c.in-Some.is) c.in-None.is c.decode.ensures.table ∙ ap (λ w. Stopped Undefined s.pc w s.memory) (sym c.from.ensures), refl);
 }
