@@ -5,5 +5,7 @@ mod decide;
 mod elements;
 pub mod reason;
 mod updates;
+pub mod used;
 
 pub use decide::class;
+pub use used::Used;

@@ -1,0 +1,102 @@
+-- Whether the elements that a loop stores lie apart from those that it comes to by other parameters.
+use Rattle.std.specs.Prelude.{◌≡◌, ℕ, ◌+◌, ◌^◌, ◌<◌, ◌≤◌, ℤ, pos, ◌+ℤ◌, ◌*ℤ◌, ◌≤ℤ◌, ◌<ℤ◌, ◌⊎◌, List, [], ◌∷◌, ◌++◌, length, Option, Some, None, unwrap_or, option_map, option_and_then, Bool, true, false, ◌||◌, nat_eq, slice_index, filter}
+use Rattle.std.specs.Int.{int_min, int_max}
+use Rattle.std.specs.List.{list_any}
+use Rattle.guest_types.specs.declared.length.Width.{Width}
+use Rattle.guest_types.specs.Length.{width_bytes}
+use Rattle.kernel_tree.specs.declared.ast.Shape.{Shape}
+use Rattle.kernel_tree.specs.declared.ast.Shape.TheVariants as shape
+use Rattle.kernel_tree.specs.Plain.{Parameter, Turns, Program}
+use Rattle.loop_form.specs.declared.stream.Stream.{Stream}
+use Rattle.loop_form.specs.Streams.{place_of, streams_of}
+use Rattle.loop_form.specs.Lanes.{width_of}
+use Rattle.dependence.specs.declared.used.Used.{Used}
+
+abbrev pub is_at : ℕ → Stream → Bool
+is_at n s = nat_eq s.param n
+
+abbrev pub is_store : Stream → Bool
+is_store s = s.store
+
+unfoldable pub least_of : ℤ → List Stream → ℤ
+least_of c [] = c
+least_of c (s ∷ ss) = least_of (int_min c s.offset) ss
+
+unfoldable pub greatest_of : ℤ → List Stream → ℤ
+greatest_of c [] = c
+greatest_of c (s ∷ ss) = greatest_of (int_max c s.offset) ss
+
+-- a parameter by its accesses, where it has some
+abbrev pub used_by : ℕ → Width → List Stream → List Used
+used_by n w [] = []
+used_by n w (s ∷ ss) = record { place = n; width = w; least = least_of s.offset ss; greatest = greatest_of s.offset ss; stored = list_any is_store (s ∷ ss) } ∷ []
+
+abbrev pub used_at : List Stream → ℕ → Shape → List Used
+used_at ss n (shape.Scalar t) = []
+used_at ss n (shape.Array t) = used_by n (width_of t) (filter (is_at n) ss)
+
+unfoldable pub used_from : List Stream → ℕ → List Parameter → List Used
+used_from ss n [] = []
+used_from ss n (p ∷ ps) = used_at ss n p.shape ++ used_from ss (n + 1) ps
+
+-- the array parameters that the loop uses, in the order of the parameters
+abbrev pub used_of : Program → List Used
+used_of k = used_from (streams_of k) 0 k.params
+
+abbrev pub bound_in : List Parameter → Turns → Option ℕ
+bound_in ps l = place_of l.bound ps
+
+-- the place of the loop's bound; a loop of a kernel that meets the rules has one
+abbrev pub bound_place : Program → ℕ
+bound_place k = unwrap_or (option_and_then (bound_in k.params) k.turns) 0
+
+-- ---- the elements as intervals of plain integers
+
+abbrev pub base_in : List ℕ → Used → ℕ
+base_in args u = slice_index args u.place
+
+-- the first address of the least element in the first iteration
+abbrev pub begin_in : List ℕ → Used → ℤ
+begin_in args u = pos (base_in args u) +ℤ pos (width_bytes u.width) *ℤ u.least
+
+-- the address of the greatest element in iteration n, which is none
+abbrev pub end_in : List ℕ → ℕ → Used → ℤ
+end_in args n u = pos (base_in args u) +ℤ pos (width_bytes u.width) *ℤ (pos n +ℤ u.greatest)
+
+-- the intervals from b up to but not including e, and from c up to but not including f, have no number in common
+abbrev pub AreDisjoint : (b e c f : ℤ) → Type 0
+AreDisjoint b e c f = (a : ℤ) → b ≤ℤ a → a <ℤ e → c ≤ℤ a → a <ℤ f → ⊥
+
+abbrev pub IsBased : ℕ → Type 0
+IsBased base = (2 ^ 16 ≤ base) × (base < 2 ^ 48)
+
+abbrev pub AreBased : List ℕ → List Used → Type 0
+AreBased args [] = Unit {0}
+AreBased args (u ∷ us) = IsBased (base_in args u) × AreBased args us
+
+-- two parameters, where the loop stores to one of them
+abbrev pub PairApart : List ℕ → ℕ → Used → Used → Type 0
+PairApart args n u v = (u.stored || v.stored) ≡ true → AreDisjoint (begin_in args u) (end_in args n u) (begin_in args v) (end_in args n v)
+
+abbrev pub IsApartFrom : List ℕ → ℕ → Used → List Used → Type 0
+IsApartFrom args n u [] = Unit {0}
+IsApartFrom args n u (v ∷ vs) = PairApart args n u v × IsApartFrom args n u vs
+
+-- any two of the parameters
+abbrev pub AreApart : List ℕ → ℕ → List Used → Type 0
+AreApart args n [] = Unit {0}
+AreApart args n (u ∷ us) = IsApartFrom args n u us × AreApart args n us
+
+abbrev pub is_stored : Used → Bool
+is_stored u = u.stored
+
+abbrev pub Spread : List ℕ → ℕ → List Used → Type 0
+Spread args n us = (n < 2 ^ 40) × AreBased args us × AreApart args n us
+
+abbrev pub ApartBy : List ℕ → ℕ → List Used → Type 0
+ApartBy args n us = (list_any is_stored us ≡ false) ⊎ ((length us ≤ 1) ⊎ Spread args n us)
+
+-- The loop stores nothing, or it uses at most one array parameter, or the bound is below 2^40, the arrays lie from 2^16 to
+-- 2^48 - 1, and what it stores by one parameter lies apart from what it comes to by another one.
+abbrev pub Apart : Program → List ℕ → Type 0
+Apart k args = ApartBy args (slice_index args (bound_place k)) (used_of k)
