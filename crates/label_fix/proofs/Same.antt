@@ -1,0 +1,190 @@
+-- Where the words of a draft stand in memory, the machine runs as the draft does.
+use Rattle.std.proofs.Common.{◌≡◌, ℕ, zero, suc, ◌+◌, ◌-◌, ◌*◌, ◌%◌, ◌^◌, ◌<◌, ◌≤◌, Bool, true, false, List, [], ◌∷◌, ◌++◌, Option, Some, None, refl, sym, ap, ap₂, ◌∙◌, subst, arith, append_assoc, ⊎_elim}
+use Rattle.std.specs.Prelude.{nat_eq, nat_lt, not, if◌then◌else◌}
+use Rattle.std.proofs.lemmas.Bool.{cases_lt, lt-ltb, le-ltb, cond-true, cond-false}
+use Rattle.guest_types.specs.Memory.{Memory, fetched}
+use Rattle.word_rows.specs.Row.{Instruction, IsInstruction, spells}
+use Rattle.a64_code.specs.Table.{Name, row, a64_names, b, b_cond, cbz, cbnz}
+use Rattle.machine_model.specs.Arithmetic.{holds, target}
+use Rattle.machine_model.specs.InstructionTable.{Listed, Scalar, Vector}
+use Rattle.machine_model.specs.Machine.{State, Step, Went, Ended, Stopped, x_at, jump, next}
+use Rattle.machine_model.specs.OneStep.{step, does}
+use Rattle.machine_model.specs.Run.{Outcome, go_on, run}
+use Rattle.machine_model.proofs.ListedWords.{step_does}
+use Rattle.sve_code.specs.Table as sve
+use Rattle.label_fix.specs.DraftRun.{Kind, Always, If, Zero, NotZero, Entry, Put, Branch, Place, Laid, is_taken, effect, after, behind, place_of, address_of, walk, draft_run}
+use Rattle.label_fix.proofs.Keeps.{IsPlain, Keeps, keeps}
+
+-- ---- branches
+
+-- the offset of a branch of w bits, in words
+abbrev pub offset : ℕ → ℕ → ℕ → ℕ
+offset w from to = (to + 2 ^ w - from) % 2 ^ w
+
+abbrev pub branch_of : Kind → ℕ → ℕ → Instruction Name
+branch_of Always from to = record { name = b; numbers = offset 26 from to ∷ [] }
+branch_of (If c) from to = record { name = b_cond; numbers = c ∷ offset 19 from to ∷ [] }
+branch_of (Zero r) from to = record { name = cbz; numbers = r ∷ offset 19 from to ∷ [] }
+branch_of (NotZero r) from to = record { name = cbnz; numbers = r ∷ offset 19 from to ∷ [] }
+
+target_19 : (base from to pc : ℕ) → from ≤ 65536 → to ≤ 65536 → pc ≡ (base + 4 * from) % 2 ^ 64 → target pc 19 (offset 19 from to) ≡ (base + 4 * to) % 2 ^ 64
+target_19 base from to pc hf ht e =
+    ⊎_elim
+    (λ (lt : to < from). let o : (to + 2 ^ 19 - from) % 2 ^ 19 ≡ 2 ^ 19 - (from - to) = omega arith in
+    let t : nat_lt ((to + 2 ^ 19 - from) % 2 ^ 19) (2 ^ 18) ≡ false = le-ltb _ _ (omega (arith, o)) in
+    cond-false _ _ _ t ∙ omega (arith, o, e))
+    (λ (ge : from ≤ to). let o : (to + 2 ^ 19 - from) % 2 ^ 19 ≡ to - from = omega arith in
+    let t : nat_lt ((to + 2 ^ 19 - from) % 2 ^ 19) (2 ^ 18) ≡ true = lt-ltb _ _ (omega (arith, o)) in
+    cond-true _ _ _ t ∙ omega (arith, o, e))
+    (cases_lt to from)
+
+target_26 : (base from to pc : ℕ) → from ≤ 65536 → to ≤ 65536 → pc ≡ (base + 4 * from) % 2 ^ 64 → target pc 26 (offset 26 from to) ≡ (base + 4 * to) % 2 ^ 64
+target_26 base from to pc hf ht e =
+    ⊎_elim
+    (λ (lt : to < from). let o : (to + 2 ^ 26 - from) % 2 ^ 26 ≡ 2 ^ 26 - (from - to) = omega arith in
+    let t : nat_lt ((to + 2 ^ 26 - from) % 2 ^ 26) (2 ^ 25) ≡ false = le-ltb _ _ (omega (arith, o)) in
+    cond-false _ _ _ t ∙ omega (arith, o, e))
+    (λ (ge : from ≤ to). let o : (to + 2 ^ 26 - from) % 2 ^ 26 ≡ to - from = omega arith in
+    let t : nat_lt ((to + 2 ^ 26 - from) % 2 ^ 26) (2 ^ 25) ≡ true = lt-ltb _ _ (omega (arith, o)) in
+    cond-true _ _ _ t ∙ omega (arith, o, e))
+    (cases_lt to from)
+
+-- ---- places
+
+abbrev pub size : List Entry → ℕ
+size [] = 0
+size (Put i ∷ rest) = suc (size rest)
+size (Branch k l ∷ rest) = suc (size rest)
+size (Place l ∷ rest) = size rest
+
+size-append : (x y : List Entry) → size (x ++ y) ≡ size x + size y
+size-append [] y = omega arith
+size-append (Put i ∷ x) y = omega (arith, size-append x y)
+size-append (Branch k l ∷ x) y = omega (arith, size-append x y)
+size-append (Place l ∷ x) y = size-append x y
+
+-- the entries up to the place of a label
+abbrev before : List Entry → ℕ → List Entry
+before [] l = []
+before (Put i ∷ rest) l = Put i ∷ before rest l
+before (Branch k m ∷ rest) l = Branch k m ∷ before rest l
+before (Place m ∷ rest) l = Place m ∷ (if nat_eq m l then [] else before rest l)
+
+parts : (es : List Entry) (l : ℕ) → es ≡ before es l ++ after es l
+parts [] l = refl
+parts (Put i ∷ rest) l = ap (λ es. Put i ∷ es) (parts rest l)
+parts (Branch k m ∷ rest) l = ap (λ es. Branch k m ∷ es) (parts rest l)
+parts (Place m ∷ rest) l =
+    elim (nat_eq m l) as (λ c. Place m ∷ rest ≡ (Place m ∷ (if c then [] else before rest l)) ++ (if c then rest else after rest l)) [ true ↦ refl | false ↦ ap (λ es. Place m ∷ es) (parts rest l) ]
+
+placed : (es : List Entry) (l : ℕ) → place_of es l ≡ size (before es l)
+placed [] l = refl
+placed (Put i ∷ rest) l = ap suc (placed rest l)
+placed (Branch k m ∷ rest) l = ap suc (placed rest l)
+placed (Place m ∷ rest) l =
+    elim (nat_eq m l) as (λ c. (if c then 0 else place_of rest l) ≡ size (if c then [] else before rest l)) [ true ↦ refl | false ↦ placed rest l ]
+
+place-small : (es : List Entry) (l : ℕ) → place_of es l ≤ size es
+place-small es l = let e = ap size (parts es l) ∙ size-append (before es l) (after es l) in omega (arith, placed es l, e)
+
+-- ---- the words of a draft in memory
+
+abbrev pub address_at : Laid → ℕ → ℕ
+address_at d n = (d.base + 4 * n) % 2 ^ 64
+
+-- the words of some entries, the first of which has number n, stand at their places
+abbrev pub Stands : Laid → Memory → ℕ → List Entry → Type 0
+Stands d m n [] = Unit {0}
+Stands d m n (Put (Scalar i) ∷ rest) = (fetched m (address_at d n) ≡ Some (spells row i)) × IsInstruction row a64_names i × IsPlain i.name × Stands d m (suc n) rest
+Stands d m n (Put (Vector i) ∷ rest) = (fetched m (address_at d n) ≡ Some (spells sve.row i)) × IsInstruction sve.row sve.sve_names i × Stands d m (suc n) rest
+Stands d m n (Branch k l ∷ rest) = (fetched m (address_at d n) ≡ Some (spells row (branch_of k n (place_of d.entries l)))) × IsInstruction row a64_names (branch_of k n (place_of d.entries l)) × Stands d m (suc n) rest
+Stands d m n (Place l ∷ rest) = Stands d m n rest
+
+low : (d : Laid) (n : ℕ) → address_at d n < 2 ^ 64
+low d n = omega arith
+
+stands_keep : (d : Laid) (m w : Memory) (n : ℕ) (rest : List Entry) → ((a : ℕ) → a < 2 ^ 64 → fetched w a ≡ fetched m a) → Stands d m n rest → Stands d w n rest
+stands_keep d m w n [] f h = tt
+stands_keep d m w n (Put (Scalar i) ∷ rest) f h = (f _ (low d n) ∙ h.0, h.1, h.2, stands_keep d m w (suc n) rest f h.3)
+stands_keep d m w n (Put (Vector i) ∷ rest) f h = (f _ (low d n) ∙ h.0, h.1, stands_keep d m w (suc n) rest f h.2)
+stands_keep d m w n (Branch k l ∷ rest) f h = (f _ (low d n) ∙ h.0, h.1, stands_keep d m w (suc n) rest f h.2)
+stands_keep d m w n (Place l ∷ rest) f h = stands_keep d m w n rest f h
+
+stands_at : (d : Laid) (m : Memory) (n : ℕ) (pre rest : List Entry) → Stands d m n (pre ++ rest) → Stands d m (n + size pre) rest
+stands_at d m n [] rest h = let e : n ≡ n + 0 = omega arith in subst (λ k. Stands d m k rest) e h
+stands_at d m n (Put (Scalar i) ∷ pre) rest h = let e : suc n + size pre ≡ n + suc (size pre) = omega arith in subst (λ k. Stands d m k rest) e (stands_at d m (suc n) pre rest h.3)
+stands_at d m n (Put (Vector i) ∷ pre) rest h = let e : suc n + size pre ≡ n + suc (size pre) = omega arith in subst (λ k. Stands d m k rest) e (stands_at d m (suc n) pre rest h.2)
+stands_at d m n (Branch k l ∷ pre) rest h = let e : suc n + size pre ≡ n + suc (size pre) = omega arith in subst (λ k. Stands d m k rest) e (stands_at d m (suc n) pre rest h.2)
+stands_at d m n (Place l ∷ pre) rest h = stands_at d m n pre rest h
+
+-- ---- the runs
+
+step_scalar : (s : State) (i : Instruction Name) → fetched s.memory s.pc ≡ Some (spells row i) → IsInstruction row a64_names i → step s ≡ does (Scalar i) s
+step_scalar s i h k = step_does s (Scalar i) k h
+
+branch_does : (d : Laid) (k : Kind) (from to : ℕ) (s : State) → from ≤ 65536 → to ≤ 65536 → s.pc ≡ address_at d from → does (Scalar (branch_of k from to)) s ≡ Went (if is_taken k s then jump s (address_at d to) else next s)
+branch_does d Always from to s hf ht e = ap (λ p. Went (jump s p)) (target_26 d.base from to s.pc hf ht e)
+branch_does d (If c) from to s hf ht e = ap (λ p. Went (if holds c s.flags then jump s p else next s)) (target_19 d.base from to s.pc hf ht e)
+branch_does d (Zero r) from to s hf ht e = ap (λ p. Went (if nat_eq (x_at s r) 0 then jump s p else next s)) (target_19 d.base from to s.pc hf ht e)
+branch_does d (NotZero r) from to s hf ht e = ap (λ p. Went (if not (nat_eq (x_at s r) 0) then jump s p else next s)) (target_19 d.base from to s.pc hf ht e)
+
+-- for n words, from any place
+abbrev Same : Laid → ℕ → Type 0
+Same d n = (taken : ℕ) (pre rest : List Entry) (s : State) → d.entries ≡ pre ++ rest → s.pc ≡ address_at d (size pre) → Stands d s.memory 0 d.entries → run n taken s ≡ draft_run d n taken rest s
+
+module _ (d : Laid) (few : size d.entries ≤ 65536) (n : ℕ) (ih : Same d n) where
+  onward : (x : Entry) (pre rest : List Entry) → d.entries ≡ pre ++ x ∷ rest → d.entries ≡ (pre ++ x ∷ []) ++ rest
+  onward x pre rest e = e ∙ sym (append_assoc pre (x ∷ []) rest)
+
+  here : (pre rest : List Entry) (s : State) → d.entries ≡ pre ++ rest → Stands d s.memory 0 d.entries → Stands d s.memory (size pre) rest
+  here pre rest s e h = let z : 0 + size pre ≡ size pre = omega arith in subst (λ k. Stands d s.memory k rest) z (stands_at d s.memory 0 pre rest (subst (λ es. Stands d s.memory 0 es) e h))
+
+  next_place : (pc k : ℕ) → pc ≡ address_at d k → (pc + 4) % 2 ^ 64 ≡ address_at d (k + 1)
+  next_place pc k e = omega (arith, e)
+
+  went_on : (i : Instruction Name) (o : Step) (taken : ℕ) (pre rest : List Entry) (s : State) → does (Scalar i) s ≡ o → IsPlain i.name → d.entries ≡ pre ++ Put (Scalar i) ∷ rest → s.pc ≡ address_at d (size pre) → Stands d s.memory 0 d.entries → go_on o s taken (run n taken) ≡ go_on o s taken (draft_run d n taken rest)
+  went_on i (Went t) taken pre rest s is plain e p h =
+      let k = keeps i.name i.numbers s t plain is in
+      let z : size (pre ++ Put (Scalar i) ∷ []) ≡ size pre + 1 = size-append pre (Put (Scalar i) ∷ []) in
+      ih taken (pre ++ Put (Scalar i) ∷ []) rest t (onward (Put (Scalar i)) pre rest e) (k.pc ∙ next_place s.pc (size pre) p ∙ ap (address_at d) (sym z)) (stands_keep d s.memory t.memory 0 d.entries k.code h)
+  went_on i (Ended r) taken pre rest s is plain e p h = refl
+  went_on i (Stopped kind pc at m) taken pre rest s is plain e p h = refl
+
+  vector_on : (v : Instruction sve.Name) (o : Step) (taken : ℕ) (pre rest : List Entry) (s : State) → does (Vector v) s ≡ o → d.entries ≡ pre ++ Put (Vector v) ∷ rest → s.pc ≡ address_at d (size pre) → Stands d s.memory 0 d.entries → go_on o s taken (run n taken) ≡ go_on o s taken (draft_run d n taken rest)
+  vector_on v (Went t) taken pre rest s is e p h = absurd cc
+  vector_on v (Ended r) taken pre rest s is e p h = refl
+  vector_on v (Stopped kind pc at m) taken pre rest s is e p h = refl
+
+  branched : (c : Bool) (k : Kind) (l taken : ℕ) (pre rest : List Entry) (s : State) → d.entries ≡ pre ++ Branch k l ∷ rest → s.pc ≡ address_at d (size pre) → Stands d s.memory 0 d.entries → run n taken (if c then jump s (address_of d l) else next s) ≡ (if c then draft_run d n taken (behind d l) (jump s (address_of d l)) else draft_run d n taken rest (next s))
+  branched true k l taken pre rest s e p h = ih taken (before d.entries l) (behind d l) (jump s (address_of d l)) (parts d.entries l) (ap (address_at d) (placed d.entries l)) h
+  branched false k l taken pre rest s e p h =
+      let z : size (pre ++ Branch k l ∷ []) ≡ size pre + 1 = size-append pre (Branch k l ∷ []) in
+      ih taken (pre ++ Branch k l ∷ []) rest (next s) (onward (Branch k l) pre rest e) (next_place s.pc (size pre) p ∙ ap (address_at d) (sym z)) h
+
+  same_walk : (rest pre : List Entry) (taken : ℕ) (s : State) → d.entries ≡ pre ++ rest → s.pc ≡ address_at d (size pre) → Stands d s.memory 0 d.entries → run (suc n) taken s ≡ walk d (draft_run d n (taken + 1)) (run (suc n) taken) (taken + 1) rest s
+  same_walk [] pre taken s e p h = refl
+  same_walk (Put (Scalar i) ∷ rest) pre taken s e p h =
+      let at = here pre _ s e h in
+      ap (λ o. go_on o s (taken + 1) (run n (taken + 1))) (step_scalar s i (ap (fetched s.memory) p ∙ at.0) at.1)
+      ∙ went_on i (does (Scalar i) s) (taken + 1) pre rest s refl at.2 e p h
+  same_walk (Put (Vector i) ∷ rest) pre taken s e p h =
+      let at = here pre _ s e h in
+      ap (λ o. go_on o s (taken + 1) (run n (taken + 1))) (step_does s (Vector i) at.1 (ap (fetched s.memory) p ∙ at.0))
+      ∙ vector_on i (does (Vector i) s) (taken + 1) pre rest s refl e p h
+  same_walk (Branch k l ∷ rest) pre taken s e p h =
+      let at = here pre _ s e h in
+      let z = ap size e ∙ size-append pre (Branch k l ∷ rest) in
+      let to = place-small d.entries l in
+      ap (λ o. go_on o s (taken + 1) (run n (taken + 1))) (step_scalar s (branch_of k (size pre) (place_of d.entries l)) (ap (fetched s.memory) p ∙ at.0) at.1 ∙ branch_does d k (size pre) (place_of d.entries l) s (omega (arith, few, z)) (omega (arith, few, to)) p)
+      ∙ branched (is_taken k s) k l (taken + 1) pre rest s e p h
+  same_walk (Place l ∷ rest) pre taken s e p h =
+      let z : size (pre ++ Place l ∷ []) ≡ size pre = size-append pre (Place l ∷ []) ∙ omega arith in
+      same_walk rest (pre ++ Place l ∷ []) taken s (onward (Place l) pre rest e) (p ∙ ap (address_at d) (sym z)) h
+
+pub same : (d : Laid) → size d.entries ≤ 65536 → (n : ℕ) → Same d n
+same d few zero taken pre rest s e p h = refl
+same d few (suc n) taken pre rest s e p h = same_walk d few n (same d few n) rest pre taken s e p h
+
+-- where the words stand, from the first of them on, the machine's run is the draft's
+pub same_run : (d : Laid) → size d.entries ≤ 65536 → (s : State) → s.pc ≡ d.base % 2 ^ 64 → Stands d s.memory 0 d.entries → (n taken : ℕ) → run n taken s ≡ draft_run d n taken d.entries s
+same_run d few s p h n taken = same d few n taken [] d.entries s refl (p ∙ (let e : d.base % 2 ^ 64 ≡ (d.base + 4 * 0) % 2 ^ 64 = omega arith in e)) h
