@@ -1,0 +1,98 @@
+-- Where the values of a kernel are kept, when R gives each of its intervals of class X the number of a counted register:
+-- the accumulators have the first intervals, and then the values of the items in their order.
+use Rattle.std.specs.Prelude.{ℕ, zero, suc, ◌+◌, List, [], ◌∷◌, ◌++◌, length, map, Option, Some, None, nat_lt, unwrap_or, if◌then◌else◌}
+use Rattle.kernel_tree.specs.declared.ast.Shape.{Shape}
+use Rattle.kernel_tree.specs.declared.ast.Shape.TheVariants as shape
+use Rattle.kernel_tree.specs.declared.fault.Binding.TheVariants as binding
+use Rattle.kernel_tree.specs.Plain.{Parameter, Accumulator, Program}
+use Rattle.kernel_tree.specs.Items.{term_size}
+use Rattle.kernel_tree.specs.Typing.{Scope, declared}
+use Rattle.loop_form.specs.declared.class.RegisterClass.TheVariants.{X}
+use Rattle.loop_form.specs.Entries.{Entry, entries_of}
+use Rattle.loop_form.specs.Listing.{until_in}
+use Rattle.label_fix.specs.DraftRun.{Entry as Line}
+use Rattle.scalar_emit.specs.Layout.{Layout, Home, Homes, home}
+use Rattle.scalar_emit.specs.Words.{ins, extension, copy}
+use Rattle.scalar_emit.specs.Code.{labels, value_code}
+use Rattle.scalar_emit.specs.Fits.{Fits}
+use Rattle.a64_code.specs.Table.{movz}
+
+-- register number j of the counted ones: X10 to X17 and X19 to X25
+abbrev pub counted_x : ℕ → ℕ
+counted_x j = if nat_lt j 8 then 10 + j else 11 + j
+
+-- the item that uses an item's value last, or 0 where it makes none
+abbrev pub x_until : List Entry → Entry → ℕ
+x_until all e = unwrap_or (until_in X all e) 0
+
+-- the registers of items, the first interval of which has number j
+abbrev pub one_reg : (ℕ → ℕ) → ℕ → Option ℕ → (ℕ → List ℕ) → List ℕ
+one_reg R j None more = 0 ∷ more j
+one_reg R j (Some u) more = counted_x (R j) ∷ more (suc j)
+
+abbrev pub regs_from : (ℕ → ℕ) → List Entry → ℕ → List Entry → List ℕ
+regs_from R all j [] = []
+regs_from R all j (e ∷ es) = one_reg R j (until_in X all e) (λ n. regs_from R all n es)
+
+abbrev pub layout_from : (ℕ → ℕ) → ℕ → List Entry → Layout
+layout_from R accs all = record { regs = regs_from R all accs all; untils = map (x_until all) all }
+
+abbrev pub layout_of_kernel : (ℕ → ℕ) → Program → Layout
+layout_of_kernel R k = layout_from R (length k.vars) (entries_of k)
+
+-- ---- names that are held throughout
+
+abbrev pub param_home : ℕ → Parameter → Home
+param_home n p = record { name = p.name; register = n; until = None }
+
+-- parameter n stands in Xn
+abbrev pub param_homes : ℕ → List Parameter → Homes
+param_homes n [] = []
+param_homes n (p ∷ ps) = param_home n p ∷ param_homes (n + 1) ps
+
+abbrev pub var_home : (ℕ → ℕ) → ℕ → Accumulator → Home
+var_home R j v = record { name = v.name; register = counted_x (R j); until = None }
+
+abbrev pub var_homes : (ℕ → ℕ) → ℕ → List Accumulator → Homes
+var_homes R j [] = []
+var_homes R j (v ∷ vs) = var_home R j v ∷ var_homes R (j + 1) vs
+
+-- at the loop, and at the returned expression of a kernel without one
+abbrev pub kernel_homes : (ℕ → ℕ) → Program → Homes
+kernel_homes R k = param_homes 0 k.params ++ var_homes R 0 k.vars
+
+-- ---- the code before the loop
+
+-- a scalar argument, extended by its type
+abbrev pub argument_code : Shape → ℕ → List Line → List Line
+argument_code (shape.Scalar t) n rest = extension t n n ∷ rest
+argument_code (shape.Array t) n rest = rest
+
+abbrev pub arguments_code : ℕ → List Parameter → List Line → List Line
+arguments_code n [] rest = rest
+arguments_code n (p ∷ ps) rest = argument_code p.shape n (arguments_code (n + 1) ps rest)
+
+-- accumulators from number j on, whose items begin at b and whose labels at n, with the homes of the names before them
+abbrev pub vars_code : Layout → (ℕ → ℕ) → Homes → Scope → (j b n : ℕ) → List Accumulator → List Line → List Line
+vars_code L R hs s j b n [] rest = rest
+vars_code L R hs s j b n (v ∷ vs) rest =
+    value_code L hs s (Some v.type) b n v.init (copy (counted_x (R j)) (home L hs s.index b v.init)
+    ∷ vars_code L R (hs ++ var_home R j v ∷ []) (declared s v.name (binding.Accumulator v.type)) (j + 1) (b + term_size s.index v.init + 1) (n + labels s.index v.init) vs rest)
+
+-- the labels that the code of accumulators uses up
+abbrev pub vars_labels : Option (List ℕ) → List Accumulator → ℕ
+vars_labels i [] = 0
+vars_labels i (v ∷ vs) = labels i v.init + vars_labels i vs
+
+-- X9 = 0
+abbrev pub zero_index : List Line → List Line
+zero_index rest = ins movz (9 ∷ 0 ∷ 0 ∷ []) ∷ rest
+
+-- ---- registers that fit
+
+-- accumulators from number j on, whose items begin at b
+abbrev pub FitsVars : Layout → (ℕ → ℕ) → Homes → Scope → (j b : ℕ) → List Accumulator → Type 0
+FitsVars L R hs s j b [] = Unit {0}
+FitsVars L R hs s j b (v ∷ vs) =
+    Fits L hs s (Some v.type) b (b + term_size s.index v.init) v.init
+    × FitsVars L R (hs ++ var_home R j v ∷ []) (declared s v.name (binding.Accumulator v.type)) (j + 1) (b + term_size s.index v.init + 1) vs

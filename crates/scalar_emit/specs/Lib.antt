@@ -1,0 +1,9 @@
+pub mod Layout
+pub mod Words
+pub mod Code
+pub mod Fits
+pub mod Statements
+pub mod Loop
+pub mod Views
+pub mod Kinds
+pub mod Kernel
