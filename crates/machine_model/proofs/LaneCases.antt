@@ -3,9 +3,9 @@ use Rattle.guest_types.specs.EarlyLoads.{Listed as Counted, never}
 use Rattle.guest_types.specs.Elements.{bits_of, elements}
 use Rattle.guest_types.specs.Lanes.{broken, folded}
 use Rattle.guest_types.specs.declared.memory.Perm.TheVariants.{ReadExec}
-use Rattle.machine_model.proofs.CaseShapes.{flags_from, page, vector_step, zeros}
+use Rattle.machine_model.proofs.CaseShapes.{flags_from, page, zeros}
 use Rattle.machine_model.specs.Machine.{State, Went}
-use Rattle.machine_model.specs.OneStep.{reads_word}
+use Rattle.machine_model.specs.OneStep.{reads_word, step}
 use Rattle.std.proofs.Common.{[], false, refl, true, ◌++◌, ◌∷◌, ◌≡◌}
 use Rattle.std.specs.Prelude.{replicate, slice_set}
 use Rattle.word_rows.specs.Row.{reads}
@@ -28,7 +28,7 @@ s2 = record {
   stops = never;
 }
 
-case_2 : vector_step s2 ≡ Went (record s2 { pc = 20492; flags = flags_from true false true false; p = slice_set (s2.p) 1 (5 ∷ zeros 31) })
+case_2 : step s2 ≡ Went (record s2 { pc = 20492; flags = flags_from true false true false; p = slice_set (s2.p) 1 (5 ∷ zeros 31) })
 unfolding reads_word reads a64.add_sub_imm a64.add_sub_shifted a64.logical a64.move_wide a64.multiply_add a64.shift_variable a64.bitfield a64.select a64.branch a64.branch_if a64.branch_zero a64.ret_form a64.exception a64.nop_form a64.umov_form a64.byte_imm a64.wide_imm a64.byte_register a64.wide_register sve.true_form sve.false_form sve.while_below sve.test_form sve.pred_logic sve.break_form sve.read_ffr sve.read_ffr_zeroing sve.set_ffr sve.write_ffr sve.count sve.increment_by_count sve.count_true sve.duplicate sve.index sve.select sve.add_sub sve.logic sve.shift_imm sve.merging sve.unary sve.extend_byte sve.extend_half sve.extend_word sve.reduce sve.compare sve.load sve.load_first_fault sve.load_no_fault sve.store elements bits_of folded broken
 case_2 = refl
 
@@ -47,7 +47,7 @@ s5 = record {
   stops = never;
 }
 
-case_5 : vector_step s5 ≡ Went (record s5 { pc = 20492; p = slice_set (s5.p) 3 (zeros 32) })
+case_5 : step s5 ≡ Went (record s5 { pc = 20492; p = slice_set (s5.p) 3 (zeros 32) })
 unfolding reads_word reads a64.add_sub_imm a64.add_sub_shifted a64.logical a64.move_wide a64.multiply_add a64.shift_variable a64.bitfield a64.select a64.branch a64.branch_if a64.branch_zero a64.ret_form a64.exception a64.nop_form a64.umov_form a64.byte_imm a64.wide_imm a64.byte_register a64.wide_register sve.true_form sve.false_form sve.while_below sve.test_form sve.pred_logic sve.break_form sve.read_ffr sve.read_ffr_zeroing sve.set_ffr sve.write_ffr sve.count sve.increment_by_count sve.count_true sve.duplicate sve.index sve.select sve.add_sub sve.logic sve.shift_imm sve.merging sve.unary sve.extend_byte sve.extend_half sve.extend_word sve.reduce sve.compare sve.load sve.load_first_fault sve.load_no_fault sve.store elements bits_of folded broken
 case_5 = refl
 
@@ -66,7 +66,7 @@ s6 = record {
   stops = never;
 }
 
-case_6 : vector_step s6 ≡ Went (record s6 { pc = 20492; flags = flags_from false false true false })
+case_6 : step s6 ≡ Went (record s6 { pc = 20492; flags = flags_from false false true false })
 unfolding reads_word reads a64.add_sub_imm a64.add_sub_shifted a64.logical a64.move_wide a64.multiply_add a64.shift_variable a64.bitfield a64.select a64.branch a64.branch_if a64.branch_zero a64.ret_form a64.exception a64.nop_form a64.umov_form a64.byte_imm a64.wide_imm a64.byte_register a64.wide_register sve.true_form sve.false_form sve.while_below sve.test_form sve.pred_logic sve.break_form sve.read_ffr sve.read_ffr_zeroing sve.set_ffr sve.write_ffr sve.count sve.increment_by_count sve.count_true sve.duplicate sve.index sve.select sve.add_sub sve.logic sve.shift_imm sve.merging sve.unary sve.extend_byte sve.extend_half sve.extend_word sve.reduce sve.compare sve.load sve.load_first_fault sve.load_no_fault sve.store elements bits_of folded broken
 case_6 = refl
 
@@ -85,7 +85,7 @@ s149 = record {
   stops = never;
 }
 
-case_149 : vector_step s149 ≡ Went (record s149 { pc = 20492; p = slice_set (s149.p) 4 (30 ∷ zeros 31) })
+case_149 : step s149 ≡ Went (record s149 { pc = 20492; p = slice_set (s149.p) 4 (30 ∷ zeros 31) })
 unfolding reads_word reads a64.add_sub_imm a64.add_sub_shifted a64.logical a64.move_wide a64.multiply_add a64.shift_variable a64.bitfield a64.select a64.branch a64.branch_if a64.branch_zero a64.ret_form a64.exception a64.nop_form a64.umov_form a64.byte_imm a64.wide_imm a64.byte_register a64.wide_register sve.true_form sve.false_form sve.while_below sve.test_form sve.pred_logic sve.break_form sve.read_ffr sve.read_ffr_zeroing sve.set_ffr sve.write_ffr sve.count sve.increment_by_count sve.count_true sve.duplicate sve.index sve.select sve.add_sub sve.logic sve.shift_imm sve.merging sve.unary sve.extend_byte sve.extend_half sve.extend_word sve.reduce sve.compare sve.load sve.load_first_fault sve.load_no_fault sve.store elements bits_of folded broken
 case_149 = refl
 
@@ -104,7 +104,7 @@ s92 = record {
   stops = never;
 }
 
-case_92 : vector_step s92 ≡ Went (record s92 { pc = 20492; p = slice_set (s92.p) 3 (22 ∷ zeros 31) })
+case_92 : step s92 ≡ Went (record s92 { pc = 20492; p = slice_set (s92.p) 3 (22 ∷ zeros 31) })
 unfolding reads_word reads a64.add_sub_imm a64.add_sub_shifted a64.logical a64.move_wide a64.multiply_add a64.shift_variable a64.bitfield a64.select a64.branch a64.branch_if a64.branch_zero a64.ret_form a64.exception a64.nop_form a64.umov_form a64.byte_imm a64.wide_imm a64.byte_register a64.wide_register sve.true_form sve.false_form sve.while_below sve.test_form sve.pred_logic sve.break_form sve.read_ffr sve.read_ffr_zeroing sve.set_ffr sve.write_ffr sve.count sve.increment_by_count sve.count_true sve.duplicate sve.index sve.select sve.add_sub sve.logic sve.shift_imm sve.merging sve.unary sve.extend_byte sve.extend_half sve.extend_word sve.reduce sve.compare sve.load sve.load_first_fault sve.load_no_fault sve.store elements bits_of folded broken
 case_92 = refl
 
@@ -123,7 +123,7 @@ s93 = record {
   stops = never;
 }
 
-case_93 : vector_step s93 ≡ Went (record s93 { pc = 20492; p = slice_set (s93.p) 3 (zeros 32) })
+case_93 : step s93 ≡ Went (record s93 { pc = 20492; p = slice_set (s93.p) 3 (zeros 32) })
 unfolding reads_word reads a64.add_sub_imm a64.add_sub_shifted a64.logical a64.move_wide a64.multiply_add a64.shift_variable a64.bitfield a64.select a64.branch a64.branch_if a64.branch_zero a64.ret_form a64.exception a64.nop_form a64.umov_form a64.byte_imm a64.wide_imm a64.byte_register a64.wide_register sve.true_form sve.false_form sve.while_below sve.test_form sve.pred_logic sve.break_form sve.read_ffr sve.read_ffr_zeroing sve.set_ffr sve.write_ffr sve.count sve.increment_by_count sve.count_true sve.duplicate sve.index sve.select sve.add_sub sve.logic sve.shift_imm sve.merging sve.unary sve.extend_byte sve.extend_half sve.extend_word sve.reduce sve.compare sve.load sve.load_first_fault sve.load_no_fault sve.store elements bits_of folded broken
 case_93 = refl
 
@@ -142,9 +142,10 @@ s95 = record {
   stops = never;
 }
 
-case_95 : vector_step s95 ≡ Went (record s95 { pc = 20492; p = slice_set (s95.p) 2 (4 ∷ zeros 31) })
+case_95 : step s95 ≡ Went (record s95 { pc = 20492; p = slice_set (s95.p) 2 (4 ∷ zeros 31) })
 unfolding reads_word reads a64.add_sub_imm a64.add_sub_shifted a64.logical a64.move_wide a64.multiply_add a64.shift_variable a64.bitfield a64.select a64.branch a64.branch_if a64.branch_zero a64.ret_form a64.exception a64.nop_form a64.umov_form a64.byte_imm a64.wide_imm a64.byte_register a64.wide_register sve.true_form sve.false_form sve.while_below sve.test_form sve.pred_logic sve.break_form sve.read_ffr sve.read_ffr_zeroing sve.set_ffr sve.write_ffr sve.count sve.increment_by_count sve.count_true sve.duplicate sve.index sve.select sve.add_sub sve.logic sve.shift_imm sve.merging sve.unary sve.extend_byte sve.extend_half sve.extend_word sve.reduce sve.compare sve.load sve.load_first_fault sve.load_no_fault sve.store elements bits_of folded broken
 case_95 = refl
+
 -- SETFFR vl 128 {}
 abbrev s16 : State
 s16 = record {
@@ -160,7 +161,7 @@ s16 = record {
   stops = never;
 }
 
-case_16 : vector_step s16 ≡ Went (record s16 { pc = 20492; ffr = (255 ∷ 255 ∷ zeros 30) })
+case_16 : step s16 ≡ Went (record s16 { pc = 20492; ffr = (255 ∷ 255 ∷ zeros 30) })
 unfolding reads_word reads a64.add_sub_imm a64.add_sub_shifted a64.logical a64.move_wide a64.multiply_add a64.shift_variable a64.bitfield a64.select a64.branch a64.branch_if a64.branch_zero a64.ret_form a64.exception a64.nop_form a64.umov_form a64.byte_imm a64.wide_imm a64.byte_register a64.wide_register sve.true_form sve.false_form sve.while_below sve.test_form sve.pred_logic sve.break_form sve.read_ffr sve.read_ffr_zeroing sve.set_ffr sve.write_ffr sve.count sve.increment_by_count sve.count_true sve.duplicate sve.index sve.select sve.add_sub sve.logic sve.shift_imm sve.merging sve.unary sve.extend_byte sve.extend_half sve.extend_word sve.reduce sve.compare sve.load sve.load_first_fault sve.load_no_fault sve.store elements bits_of folded broken
 case_16 = refl
 
@@ -179,7 +180,7 @@ s147 = record {
   stops = never;
 }
 
-case_147 : vector_step s147 ≡ Went (record s147 { pc = 20492; x = slice_set (s147.x) 28 380 })
+case_147 : step s147 ≡ Went (record s147 { pc = 20492; x = slice_set (s147.x) 28 380 })
 unfolding reads_word reads a64.add_sub_imm a64.add_sub_shifted a64.logical a64.move_wide a64.multiply_add a64.shift_variable a64.bitfield a64.select a64.branch a64.branch_if a64.branch_zero a64.ret_form a64.exception a64.nop_form a64.umov_form a64.byte_imm a64.wide_imm a64.byte_register a64.wide_register sve.true_form sve.false_form sve.while_below sve.test_form sve.pred_logic sve.break_form sve.read_ffr sve.read_ffr_zeroing sve.set_ffr sve.write_ffr sve.count sve.increment_by_count sve.count_true sve.duplicate sve.index sve.select sve.add_sub sve.logic sve.shift_imm sve.merging sve.unary sve.extend_byte sve.extend_half sve.extend_word sve.reduce sve.compare sve.load sve.load_first_fault sve.load_no_fault sve.store elements bits_of folded broken
 case_147 = refl
 
@@ -198,9 +199,10 @@ s23 = record {
   stops = never;
 }
 
-case_23 : vector_step s23 ≡ Went (record s23 { pc = 20492; x = slice_set (s23.x) 14 14 })
+case_23 : step s23 ≡ Went (record s23 { pc = 20492; x = slice_set (s23.x) 14 14 })
 unfolding reads_word reads a64.add_sub_imm a64.add_sub_shifted a64.logical a64.move_wide a64.multiply_add a64.shift_variable a64.bitfield a64.select a64.branch a64.branch_if a64.branch_zero a64.ret_form a64.exception a64.nop_form a64.umov_form a64.byte_imm a64.wide_imm a64.byte_register a64.wide_register sve.true_form sve.false_form sve.while_below sve.test_form sve.pred_logic sve.break_form sve.read_ffr sve.read_ffr_zeroing sve.set_ffr sve.write_ffr sve.count sve.increment_by_count sve.count_true sve.duplicate sve.index sve.select sve.add_sub sve.logic sve.shift_imm sve.merging sve.unary sve.extend_byte sve.extend_half sve.extend_word sve.reduce sve.compare sve.load sve.load_first_fault sve.load_no_fault sve.store elements bits_of folded broken
 case_23 = refl
+
 -- INDEX vl 384 {'size': 2, 'Zd': 15, 'Rn': 30, 'imm5': 31}
 abbrev s25 : State
 s25 = record {
@@ -216,7 +218,7 @@ s25 = record {
   stops = never;
 }
 
-case_25 : vector_step s25 ≡ Went (record s25 { pc = 20492; z = slice_set (s25.z) 15 (111 ∷ 0 ∷ 0 ∷ 0 ∷ 110 ∷ 0 ∷ 0 ∷ 0 ∷ 109 ∷ 0 ∷ 0 ∷ 0 ∷ 108 ∷ 0 ∷ 0 ∷ 0 ∷ 107 ∷ 0 ∷ 0 ∷ 0 ∷ 106 ∷ 0 ∷ 0 ∷ 0 ∷ 105 ∷ 0 ∷ 0 ∷ 0 ∷ 104 ∷ 0 ∷ 0 ∷ 0 ∷ 103 ∷ 0 ∷ 0 ∷ 0 ∷ 102 ∷ 0 ∷ 0 ∷ 0 ∷ 101 ∷ 0 ∷ 0 ∷ 0 ∷ 100 ∷ zeros 211) })
+case_25 : step s25 ≡ Went (record s25 { pc = 20492; z = slice_set (s25.z) 15 (111 ∷ 0 ∷ 0 ∷ 0 ∷ 110 ∷ 0 ∷ 0 ∷ 0 ∷ 109 ∷ 0 ∷ 0 ∷ 0 ∷ 108 ∷ 0 ∷ 0 ∷ 0 ∷ 107 ∷ 0 ∷ 0 ∷ 0 ∷ 106 ∷ 0 ∷ 0 ∷ 0 ∷ 105 ∷ 0 ∷ 0 ∷ 0 ∷ 104 ∷ 0 ∷ 0 ∷ 0 ∷ 103 ∷ 0 ∷ 0 ∷ 0 ∷ 102 ∷ 0 ∷ 0 ∷ 0 ∷ 101 ∷ 0 ∷ 0 ∷ 0 ∷ 100 ∷ zeros 211) })
 unfolding reads_word reads a64.add_sub_imm a64.add_sub_shifted a64.logical a64.move_wide a64.multiply_add a64.shift_variable a64.bitfield a64.select a64.branch a64.branch_if a64.branch_zero a64.ret_form a64.exception a64.nop_form a64.umov_form a64.byte_imm a64.wide_imm a64.byte_register a64.wide_register sve.true_form sve.false_form sve.while_below sve.test_form sve.pred_logic sve.break_form sve.read_ffr sve.read_ffr_zeroing sve.set_ffr sve.write_ffr sve.count sve.increment_by_count sve.count_true sve.duplicate sve.index sve.select sve.add_sub sve.logic sve.shift_imm sve.merging sve.unary sve.extend_byte sve.extend_half sve.extend_word sve.reduce sve.compare sve.load sve.load_first_fault sve.load_no_fault sve.store elements bits_of folded broken
 case_25 = refl
 
@@ -235,7 +237,7 @@ s76 = record {
   stops = never;
 }
 
-case_76 : vector_step s76 ≡ Went (record s76 { pc = 20492; z = slice_set (s76.z) 2 (31 ∷ 181 ∷ 169 ∷ 236 ∷ 14 ∷ 113 ∷ 239 ∷ 125 ∷ 141 ∷ 44 ∷ 151 ∷ 57 ∷ 188 ∷ 226 ∷ 197 ∷ 98 ∷ 68 ∷ 47 ∷ 7 ∷ 100 ∷ 159 ∷ 119 ∷ 119 ∷ 90 ∷ 170 ∷ 197 ∷ 0 ∷ 192 ∷ 252 ∷ 185 ∷ 220 ∷ 5 ∷ 107 ∷ 68 ∷ 51 ∷ 226 ∷ 246 ∷ 34 ∷ 179 ∷ 41 ∷ 122 ∷ 179 ∷ 178 ∷ 127 ∷ 150 ∷ 80 ∷ 176 ∷ 241 ∷ zeros 208) })
+case_76 : step s76 ≡ Went (record s76 { pc = 20492; z = slice_set (s76.z) 2 (31 ∷ 181 ∷ 169 ∷ 236 ∷ 14 ∷ 113 ∷ 239 ∷ 125 ∷ 141 ∷ 44 ∷ 151 ∷ 57 ∷ 188 ∷ 226 ∷ 197 ∷ 98 ∷ 68 ∷ 47 ∷ 7 ∷ 100 ∷ 159 ∷ 119 ∷ 119 ∷ 90 ∷ 170 ∷ 197 ∷ 0 ∷ 192 ∷ 252 ∷ 185 ∷ 220 ∷ 5 ∷ 107 ∷ 68 ∷ 51 ∷ 226 ∷ 246 ∷ 34 ∷ 179 ∷ 41 ∷ 122 ∷ 179 ∷ 178 ∷ 127 ∷ 150 ∷ 80 ∷ 176 ∷ 241 ∷ zeros 208) })
 unfolding reads_word reads a64.add_sub_imm a64.add_sub_shifted a64.logical a64.move_wide a64.multiply_add a64.shift_variable a64.bitfield a64.select a64.branch a64.branch_if a64.branch_zero a64.ret_form a64.exception a64.nop_form a64.umov_form a64.byte_imm a64.wide_imm a64.byte_register a64.wide_register sve.true_form sve.false_form sve.while_below sve.test_form sve.pred_logic sve.break_form sve.read_ffr sve.read_ffr_zeroing sve.set_ffr sve.write_ffr sve.count sve.increment_by_count sve.count_true sve.duplicate sve.index sve.select sve.add_sub sve.logic sve.shift_imm sve.merging sve.unary sve.extend_byte sve.extend_half sve.extend_word sve.reduce sve.compare sve.load sve.load_first_fault sve.load_no_fault sve.store elements bits_of folded broken
 case_76 = refl
 
@@ -254,7 +256,7 @@ s102 = record {
   stops = never;
 }
 
-case_102 : vector_step s102 ≡ Went (record s102 { pc = 20492; z = slice_set (s102.z) 12 (50 ∷ 152 ∷ 26 ∷ 147 ∷ 217 ∷ 109 ∷ 7 ∷ 57 ∷ 25 ∷ 132 ∷ 254 ∷ 187 ∷ 240 ∷ 242 ∷ 194 ∷ 160 ∷ 220 ∷ 178 ∷ 195 ∷ 133 ∷ 31 ∷ 33 ∷ 247 ∷ 213 ∷ 32 ∷ 121 ∷ 222 ∷ 66 ∷ 11 ∷ 102 ∷ 152 ∷ 145 ∷ 62 ∷ 174 ∷ 184 ∷ 181 ∷ 78 ∷ 98 ∷ 195 ∷ 107 ∷ 55 ∷ 200 ∷ 202 ∷ 25 ∷ 170 ∷ 128 ∷ 44 ∷ 45 ∷ zeros 208) })
+case_102 : step s102 ≡ Went (record s102 { pc = 20492; z = slice_set (s102.z) 12 (50 ∷ 152 ∷ 26 ∷ 147 ∷ 217 ∷ 109 ∷ 7 ∷ 57 ∷ 25 ∷ 132 ∷ 254 ∷ 187 ∷ 240 ∷ 242 ∷ 194 ∷ 160 ∷ 220 ∷ 178 ∷ 195 ∷ 133 ∷ 31 ∷ 33 ∷ 247 ∷ 213 ∷ 32 ∷ 121 ∷ 222 ∷ 66 ∷ 11 ∷ 102 ∷ 152 ∷ 145 ∷ 62 ∷ 174 ∷ 184 ∷ 181 ∷ 78 ∷ 98 ∷ 195 ∷ 107 ∷ 55 ∷ 200 ∷ 202 ∷ 25 ∷ 170 ∷ 128 ∷ 44 ∷ 45 ∷ zeros 208) })
 unfolding reads_word reads a64.add_sub_imm a64.add_sub_shifted a64.logical a64.move_wide a64.multiply_add a64.shift_variable a64.bitfield a64.select a64.branch a64.branch_if a64.branch_zero a64.ret_form a64.exception a64.nop_form a64.umov_form a64.byte_imm a64.wide_imm a64.byte_register a64.wide_register sve.true_form sve.false_form sve.while_below sve.test_form sve.pred_logic sve.break_form sve.read_ffr sve.read_ffr_zeroing sve.set_ffr sve.write_ffr sve.count sve.increment_by_count sve.count_true sve.duplicate sve.index sve.select sve.add_sub sve.logic sve.shift_imm sve.merging sve.unary sve.extend_byte sve.extend_half sve.extend_word sve.reduce sve.compare sve.load sve.load_first_fault sve.load_no_fault sve.store elements bits_of folded broken
 case_102 = refl
 
@@ -273,7 +275,7 @@ s108 = record {
   stops = never;
 }
 
-case_108 : vector_step s108 ≡ Went (record s108 { pc = 20492; z = slice_set (s108.z) 21 (19 ∷ 0 ∷ 0 ∷ 0 ∷ 10 ∷ 0 ∷ 0 ∷ 0 ∷ 14 ∷ 0 ∷ 0 ∷ 0 ∷ 7 ∷ 0 ∷ 0 ∷ 0 ∷ 15 ∷ 0 ∷ 0 ∷ 0 ∷ 2 ∷ 0 ∷ 0 ∷ 0 ∷ 24 ∷ 0 ∷ 0 ∷ 0 ∷ 1 ∷ 0 ∷ 0 ∷ 0 ∷ 9 ∷ 0 ∷ 0 ∷ 0 ∷ 13 ∷ 0 ∷ 0 ∷ 0 ∷ 8 ∷ 0 ∷ 0 ∷ 0 ∷ 17 ∷ zeros 211) })
+case_108 : step s108 ≡ Went (record s108 { pc = 20492; z = slice_set (s108.z) 21 (19 ∷ 0 ∷ 0 ∷ 0 ∷ 10 ∷ 0 ∷ 0 ∷ 0 ∷ 14 ∷ 0 ∷ 0 ∷ 0 ∷ 7 ∷ 0 ∷ 0 ∷ 0 ∷ 15 ∷ 0 ∷ 0 ∷ 0 ∷ 2 ∷ 0 ∷ 0 ∷ 0 ∷ 24 ∷ 0 ∷ 0 ∷ 0 ∷ 1 ∷ 0 ∷ 0 ∷ 0 ∷ 9 ∷ 0 ∷ 0 ∷ 0 ∷ 13 ∷ 0 ∷ 0 ∷ 0 ∷ 8 ∷ 0 ∷ 0 ∷ 0 ∷ 17 ∷ zeros 211) })
 unfolding reads_word reads a64.add_sub_imm a64.add_sub_shifted a64.logical a64.move_wide a64.multiply_add a64.shift_variable a64.bitfield a64.select a64.branch a64.branch_if a64.branch_zero a64.ret_form a64.exception a64.nop_form a64.umov_form a64.byte_imm a64.wide_imm a64.byte_register a64.wide_register sve.true_form sve.false_form sve.while_below sve.test_form sve.pred_logic sve.break_form sve.read_ffr sve.read_ffr_zeroing sve.set_ffr sve.write_ffr sve.count sve.increment_by_count sve.count_true sve.duplicate sve.index sve.select sve.add_sub sve.logic sve.shift_imm sve.merging sve.unary sve.extend_byte sve.extend_half sve.extend_word sve.reduce sve.compare sve.load sve.load_first_fault sve.load_no_fault sve.store elements bits_of folded broken
 case_108 = refl
 
@@ -292,9 +294,10 @@ s35 = record {
   stops = never;
 }
 
-case_35 : vector_step s35 ≡ Went (record s35 { pc = 20492; z = slice_set (s35.z) 14 (40 ∷ 88 ∷ 97 ∷ 229 ∷ 255 ∷ 255 ∷ 255 ∷ 255 ∷ 91 ∷ 227 ∷ 49 ∷ 250 ∷ 255 ∷ 255 ∷ 255 ∷ 255 ∷ 87 ∷ 246 ∷ 83 ∷ 2 ∷ 0 ∷ 0 ∷ 0 ∷ 0 ∷ 205 ∷ 139 ∷ 244 ∷ 6 ∷ 0 ∷ 0 ∷ 0 ∷ 0 ∷ 56 ∷ 129 ∷ 207 ∷ 11 ∷ 0 ∷ 0 ∷ 0 ∷ 0 ∷ 30 ∷ 76 ∷ 233 ∷ 13 ∷ 0 ∷ 0 ∷ 0 ∷ 0 ∷ 1 ∷ 240 ∷ 16 ∷ 15 ∷ 0 ∷ 0 ∷ 0 ∷ 0 ∷ 66 ∷ 82 ∷ 231 ∷ 237 ∷ 255 ∷ 255 ∷ 255 ∷ 255 ∷ 128 ∷ 249 ∷ 16 ∷ 230 ∷ 255 ∷ 255 ∷ 255 ∷ 255 ∷ 127 ∷ 89 ∷ 85 ∷ 14 ∷ 0 ∷ 0 ∷ 0 ∷ 0 ∷ 216 ∷ 211 ∷ 214 ∷ 11 ∷ 0 ∷ 0 ∷ 0 ∷ 0 ∷ 38 ∷ 235 ∷ 252 ∷ 17 ∷ 0 ∷ 0 ∷ 0 ∷ 0 ∷ 121 ∷ 117 ∷ 10 ∷ 11 ∷ 0 ∷ 0 ∷ 0 ∷ 0 ∷ 128 ∷ 241 ∷ 122 ∷ 240 ∷ 255 ∷ 255 ∷ 255 ∷ 255 ∷ 165 ∷ 98 ∷ 243 ∷ 19 ∷ 0 ∷ 0 ∷ 0 ∷ 0 ∷ 115 ∷ 70 ∷ 22 ∷ 227 ∷ 255 ∷ 255 ∷ 255 ∷ 255 ∷ 224 ∷ 212 ∷ 75 ∷ 244 ∷ 255 ∷ 255 ∷ 255 ∷ 255 ∷ 143 ∷ 251 ∷ 175 ∷ 30 ∷ 0 ∷ 0 ∷ 0 ∷ 0 ∷ 244 ∷ 114 ∷ 171 ∷ 16 ∷ 0 ∷ 0 ∷ 0 ∷ 0 ∷ 17 ∷ 121 ∷ 203 ∷ 248 ∷ 255 ∷ 255 ∷ 255 ∷ 255 ∷ 5 ∷ 31 ∷ 131 ∷ 250 ∷ 255 ∷ 255 ∷ 255 ∷ 255 ∷ 119 ∷ 142 ∷ 228 ∷ 21 ∷ 0 ∷ 0 ∷ 0 ∷ 0 ∷ 193 ∷ 197 ∷ 7 ∷ 227 ∷ 255 ∷ 255 ∷ 255 ∷ 255 ∷ 17 ∷ 206 ∷ 63 ∷ 253 ∷ 255 ∷ 255 ∷ 255 ∷ 255 ∷ 171 ∷ 35 ∷ 227 ∷ 30 ∷ 0 ∷ 0 ∷ 0 ∷ 0 ∷ 41 ∷ 243 ∷ 36 ∷ 14 ∷ 0 ∷ 0 ∷ 0 ∷ 0 ∷ 180 ∷ 101 ∷ 46 ∷ 3 ∷ 0 ∷ 0 ∷ 0 ∷ 0 ∷ 165 ∷ 43 ∷ 164 ∷ 252 ∷ 255 ∷ 255 ∷ 255 ∷ 255 ∷ 68 ∷ 109 ∷ 74 ∷ 243 ∷ 255 ∷ 255 ∷ 255 ∷ 255 ∷ 174 ∷ 116 ∷ 163 ∷ 24 ∷ 0 ∷ 0 ∷ 0 ∷ 0 ∷ 234 ∷ 248 ∷ 195 ∷ 225 ∷ 255 ∷ 255 ∷ 255 ∷ 255 ∷ 205 ∷ 42 ∷ 3 ∷ 225 ∷ 255 ∷ 255 ∷ 255 ∷ 255 ∷ []) })
+case_35 : step s35 ≡ Went (record s35 { pc = 20492; z = slice_set (s35.z) 14 (40 ∷ 88 ∷ 97 ∷ 229 ∷ 255 ∷ 255 ∷ 255 ∷ 255 ∷ 91 ∷ 227 ∷ 49 ∷ 250 ∷ 255 ∷ 255 ∷ 255 ∷ 255 ∷ 87 ∷ 246 ∷ 83 ∷ 2 ∷ 0 ∷ 0 ∷ 0 ∷ 0 ∷ 205 ∷ 139 ∷ 244 ∷ 6 ∷ 0 ∷ 0 ∷ 0 ∷ 0 ∷ 56 ∷ 129 ∷ 207 ∷ 11 ∷ 0 ∷ 0 ∷ 0 ∷ 0 ∷ 30 ∷ 76 ∷ 233 ∷ 13 ∷ 0 ∷ 0 ∷ 0 ∷ 0 ∷ 1 ∷ 240 ∷ 16 ∷ 15 ∷ 0 ∷ 0 ∷ 0 ∷ 0 ∷ 66 ∷ 82 ∷ 231 ∷ 237 ∷ 255 ∷ 255 ∷ 255 ∷ 255 ∷ 128 ∷ 249 ∷ 16 ∷ 230 ∷ 255 ∷ 255 ∷ 255 ∷ 255 ∷ 127 ∷ 89 ∷ 85 ∷ 14 ∷ 0 ∷ 0 ∷ 0 ∷ 0 ∷ 216 ∷ 211 ∷ 214 ∷ 11 ∷ 0 ∷ 0 ∷ 0 ∷ 0 ∷ 38 ∷ 235 ∷ 252 ∷ 17 ∷ 0 ∷ 0 ∷ 0 ∷ 0 ∷ 121 ∷ 117 ∷ 10 ∷ 11 ∷ 0 ∷ 0 ∷ 0 ∷ 0 ∷ 128 ∷ 241 ∷ 122 ∷ 240 ∷ 255 ∷ 255 ∷ 255 ∷ 255 ∷ 165 ∷ 98 ∷ 243 ∷ 19 ∷ 0 ∷ 0 ∷ 0 ∷ 0 ∷ 115 ∷ 70 ∷ 22 ∷ 227 ∷ 255 ∷ 255 ∷ 255 ∷ 255 ∷ 224 ∷ 212 ∷ 75 ∷ 244 ∷ 255 ∷ 255 ∷ 255 ∷ 255 ∷ 143 ∷ 251 ∷ 175 ∷ 30 ∷ 0 ∷ 0 ∷ 0 ∷ 0 ∷ 244 ∷ 114 ∷ 171 ∷ 16 ∷ 0 ∷ 0 ∷ 0 ∷ 0 ∷ 17 ∷ 121 ∷ 203 ∷ 248 ∷ 255 ∷ 255 ∷ 255 ∷ 255 ∷ 5 ∷ 31 ∷ 131 ∷ 250 ∷ 255 ∷ 255 ∷ 255 ∷ 255 ∷ 119 ∷ 142 ∷ 228 ∷ 21 ∷ 0 ∷ 0 ∷ 0 ∷ 0 ∷ 193 ∷ 197 ∷ 7 ∷ 227 ∷ 255 ∷ 255 ∷ 255 ∷ 255 ∷ 17 ∷ 206 ∷ 63 ∷ 253 ∷ 255 ∷ 255 ∷ 255 ∷ 255 ∷ 171 ∷ 35 ∷ 227 ∷ 30 ∷ 0 ∷ 0 ∷ 0 ∷ 0 ∷ 41 ∷ 243 ∷ 36 ∷ 14 ∷ 0 ∷ 0 ∷ 0 ∷ 0 ∷ 180 ∷ 101 ∷ 46 ∷ 3 ∷ 0 ∷ 0 ∷ 0 ∷ 0 ∷ 165 ∷ 43 ∷ 164 ∷ 252 ∷ 255 ∷ 255 ∷ 255 ∷ 255 ∷ 68 ∷ 109 ∷ 74 ∷ 243 ∷ 255 ∷ 255 ∷ 255 ∷ 255 ∷ 174 ∷ 116 ∷ 163 ∷ 24 ∷ 0 ∷ 0 ∷ 0 ∷ 0 ∷ 234 ∷ 248 ∷ 195 ∷ 225 ∷ 255 ∷ 255 ∷ 255 ∷ 255 ∷ 205 ∷ 42 ∷ 3 ∷ 225 ∷ 255 ∷ 255 ∷ 255 ∷ 255 ∷ []) })
 unfolding reads_word reads a64.add_sub_imm a64.add_sub_shifted a64.logical a64.move_wide a64.multiply_add a64.shift_variable a64.bitfield a64.select a64.branch a64.branch_if a64.branch_zero a64.ret_form a64.exception a64.nop_form a64.umov_form a64.byte_imm a64.wide_imm a64.byte_register a64.wide_register sve.true_form sve.false_form sve.while_below sve.test_form sve.pred_logic sve.break_form sve.read_ffr sve.read_ffr_zeroing sve.set_ffr sve.write_ffr sve.count sve.increment_by_count sve.count_true sve.duplicate sve.index sve.select sve.add_sub sve.logic sve.shift_imm sve.merging sve.unary sve.extend_byte sve.extend_half sve.extend_word sve.reduce sve.compare sve.load sve.load_first_fault sve.load_no_fault sve.store elements bits_of folded broken
 case_35 = refl
+
 -- SMAX merging vl 128 {'size': 2, 'Zdn': 29, 'Zm': 4, 'Pg': 5}
 abbrev s38 : State
 s38 = record {
@@ -310,7 +313,7 @@ s38 = record {
   stops = never;
 }
 
-case_38 : vector_step s38 ≡ Went (record s38 { pc = 20492; z = slice_set (s38.z) 29 (13 ∷ 107 ∷ 52 ∷ 31 ∷ 92 ∷ 247 ∷ 194 ∷ 181 ∷ 100 ∷ 101 ∷ 170 ∷ 121 ∷ 194 ∷ 90 ∷ 203 ∷ 60 ∷ zeros 240) })
+case_38 : step s38 ≡ Went (record s38 { pc = 20492; z = slice_set (s38.z) 29 (13 ∷ 107 ∷ 52 ∷ 31 ∷ 92 ∷ 247 ∷ 194 ∷ 181 ∷ 100 ∷ 101 ∷ 170 ∷ 121 ∷ 194 ∷ 90 ∷ 203 ∷ 60 ∷ zeros 240) })
 unfolding reads_word reads a64.add_sub_imm a64.add_sub_shifted a64.logical a64.move_wide a64.multiply_add a64.shift_variable a64.bitfield a64.select a64.branch a64.branch_if a64.branch_zero a64.ret_form a64.exception a64.nop_form a64.umov_form a64.byte_imm a64.wide_imm a64.byte_register a64.wide_register sve.true_form sve.false_form sve.while_below sve.test_form sve.pred_logic sve.break_form sve.read_ffr sve.read_ffr_zeroing sve.set_ffr sve.write_ffr sve.count sve.increment_by_count sve.count_true sve.duplicate sve.index sve.select sve.add_sub sve.logic sve.shift_imm sve.merging sve.unary sve.extend_byte sve.extend_half sve.extend_word sve.reduce sve.compare sve.load sve.load_first_fault sve.load_no_fault sve.store elements bits_of folded broken
 case_38 = refl
 
@@ -329,7 +332,7 @@ s41 = record {
   stops = never;
 }
 
-case_41 : vector_step s41 ≡ Went (record s41 { pc = 20492; z = slice_set (s41.z) 4 (204 ∷ 39 ∷ 14 ∷ 37 ∷ 130 ∷ 169 ∷ 54 ∷ 103 ∷ 250 ∷ 83 ∷ 162 ∷ 229 ∷ 211 ∷ 27 ∷ 23 ∷ 93 ∷ 121 ∷ 25 ∷ 169 ∷ 61 ∷ 40 ∷ 159 ∷ 62 ∷ 26 ∷ 64 ∷ 2 ∷ 76 ∷ 120 ∷ 147 ∷ 23 ∷ 111 ∷ 88 ∷ 194 ∷ 37 ∷ 83 ∷ 105 ∷ 189 ∷ 211 ∷ 118 ∷ 42 ∷ 187 ∷ 136 ∷ 129 ∷ 47 ∷ 109 ∷ 7 ∷ 251 ∷ 152 ∷ 64 ∷ 86 ∷ 64 ∷ 140 ∷ 228 ∷ 34 ∷ 149 ∷ 144 ∷ 246 ∷ 132 ∷ 134 ∷ 19 ∷ 70 ∷ 93 ∷ 46 ∷ 104 ∷ 100 ∷ 114 ∷ 50 ∷ 8 ∷ 158 ∷ 149 ∷ 20 ∷ 72 ∷ 117 ∷ 175 ∷ 24 ∷ 46 ∷ 190 ∷ 7 ∷ 96 ∷ 200 ∷ 79 ∷ 20 ∷ 172 ∷ 252 ∷ 67 ∷ 22 ∷ 168 ∷ 118 ∷ 132 ∷ 113 ∷ 150 ∷ 214 ∷ 4 ∷ 100 ∷ 202 ∷ 231 ∷ 161 ∷ 33 ∷ 139 ∷ 168 ∷ 92 ∷ 93 ∷ 100 ∷ 35 ∷ 91 ∷ 32 ∷ 194 ∷ 78 ∷ 44 ∷ 31 ∷ 144 ∷ 193 ∷ 131 ∷ 7 ∷ 23 ∷ 111 ∷ 81 ∷ 166 ∷ 11 ∷ 30 ∷ 55 ∷ 49 ∷ 227 ∷ 144 ∷ 42 ∷ 42 ∷ 88 ∷ 29 ∷ 203 ∷ 66 ∷ 179 ∷ 97 ∷ 199 ∷ 17 ∷ 127 ∷ 157 ∷ 96 ∷ 161 ∷ 165 ∷ 134 ∷ 80 ∷ 76 ∷ 146 ∷ 84 ∷ 196 ∷ 121 ∷ 102 ∷ 134 ∷ 233 ∷ 16 ∷ 75 ∷ 133 ∷ 240 ∷ 69 ∷ 47 ∷ 4 ∷ 238 ∷ 18 ∷ 150 ∷ 40 ∷ 112 ∷ 39 ∷ 20 ∷ 51 ∷ 127 ∷ 54 ∷ 50 ∷ 6 ∷ 109 ∷ 105 ∷ 24 ∷ 82 ∷ 77 ∷ 179 ∷ 118 ∷ 8 ∷ 58 ∷ 143 ∷ 255 ∷ 13 ∷ 22 ∷ 168 ∷ 201 ∷ 75 ∷ 64 ∷ 167 ∷ 233 ∷ 98 ∷ 206 ∷ 90 ∷ 71 ∷ 30 ∷ 212 ∷ 109 ∷ 203 ∷ 145 ∷ 13 ∷ 47 ∷ 222 ∷ 103 ∷ 205 ∷ 204 ∷ 118 ∷ 44 ∷ 16 ∷ 95 ∷ 97 ∷ 96 ∷ 78 ∷ 45 ∷ 247 ∷ 152 ∷ 140 ∷ 179 ∷ 104 ∷ 82 ∷ 42 ∷ 145 ∷ 123 ∷ 192 ∷ 2 ∷ 22 ∷ 33 ∷ 202 ∷ 124 ∷ 66 ∷ 4 ∷ 78 ∷ 16 ∷ 227 ∷ 241 ∷ 225 ∷ 51 ∷ 131 ∷ 235 ∷ 151 ∷ 116 ∷ 187 ∷ 134 ∷ 224 ∷ 78 ∷ 102 ∷ 222 ∷ 17 ∷ 89 ∷ 58 ∷ 141 ∷ 62 ∷ 89 ∷ 154 ∷ 219 ∷ 31 ∷ 92 ∷ 107 ∷ 41 ∷ 216 ∷ []) })
+case_41 : step s41 ≡ Went (record s41 { pc = 20492; z = slice_set (s41.z) 4 (204 ∷ 39 ∷ 14 ∷ 37 ∷ 130 ∷ 169 ∷ 54 ∷ 103 ∷ 250 ∷ 83 ∷ 162 ∷ 229 ∷ 211 ∷ 27 ∷ 23 ∷ 93 ∷ 121 ∷ 25 ∷ 169 ∷ 61 ∷ 40 ∷ 159 ∷ 62 ∷ 26 ∷ 64 ∷ 2 ∷ 76 ∷ 120 ∷ 147 ∷ 23 ∷ 111 ∷ 88 ∷ 194 ∷ 37 ∷ 83 ∷ 105 ∷ 189 ∷ 211 ∷ 118 ∷ 42 ∷ 187 ∷ 136 ∷ 129 ∷ 47 ∷ 109 ∷ 7 ∷ 251 ∷ 152 ∷ 64 ∷ 86 ∷ 64 ∷ 140 ∷ 228 ∷ 34 ∷ 149 ∷ 144 ∷ 246 ∷ 132 ∷ 134 ∷ 19 ∷ 70 ∷ 93 ∷ 46 ∷ 104 ∷ 100 ∷ 114 ∷ 50 ∷ 8 ∷ 158 ∷ 149 ∷ 20 ∷ 72 ∷ 117 ∷ 175 ∷ 24 ∷ 46 ∷ 190 ∷ 7 ∷ 96 ∷ 200 ∷ 79 ∷ 20 ∷ 172 ∷ 252 ∷ 67 ∷ 22 ∷ 168 ∷ 118 ∷ 132 ∷ 113 ∷ 150 ∷ 214 ∷ 4 ∷ 100 ∷ 202 ∷ 231 ∷ 161 ∷ 33 ∷ 139 ∷ 168 ∷ 92 ∷ 93 ∷ 100 ∷ 35 ∷ 91 ∷ 32 ∷ 194 ∷ 78 ∷ 44 ∷ 31 ∷ 144 ∷ 193 ∷ 131 ∷ 7 ∷ 23 ∷ 111 ∷ 81 ∷ 166 ∷ 11 ∷ 30 ∷ 55 ∷ 49 ∷ 227 ∷ 144 ∷ 42 ∷ 42 ∷ 88 ∷ 29 ∷ 203 ∷ 66 ∷ 179 ∷ 97 ∷ 199 ∷ 17 ∷ 127 ∷ 157 ∷ 96 ∷ 161 ∷ 165 ∷ 134 ∷ 80 ∷ 76 ∷ 146 ∷ 84 ∷ 196 ∷ 121 ∷ 102 ∷ 134 ∷ 233 ∷ 16 ∷ 75 ∷ 133 ∷ 240 ∷ 69 ∷ 47 ∷ 4 ∷ 238 ∷ 18 ∷ 150 ∷ 40 ∷ 112 ∷ 39 ∷ 20 ∷ 51 ∷ 127 ∷ 54 ∷ 50 ∷ 6 ∷ 109 ∷ 105 ∷ 24 ∷ 82 ∷ 77 ∷ 179 ∷ 118 ∷ 8 ∷ 58 ∷ 143 ∷ 255 ∷ 13 ∷ 22 ∷ 168 ∷ 201 ∷ 75 ∷ 64 ∷ 167 ∷ 233 ∷ 98 ∷ 206 ∷ 90 ∷ 71 ∷ 30 ∷ 212 ∷ 109 ∷ 203 ∷ 145 ∷ 13 ∷ 47 ∷ 222 ∷ 103 ∷ 205 ∷ 204 ∷ 118 ∷ 44 ∷ 16 ∷ 95 ∷ 97 ∷ 96 ∷ 78 ∷ 45 ∷ 247 ∷ 152 ∷ 140 ∷ 179 ∷ 104 ∷ 82 ∷ 42 ∷ 145 ∷ 123 ∷ 192 ∷ 2 ∷ 22 ∷ 33 ∷ 202 ∷ 124 ∷ 66 ∷ 4 ∷ 78 ∷ 16 ∷ 227 ∷ 241 ∷ 225 ∷ 51 ∷ 131 ∷ 235 ∷ 151 ∷ 116 ∷ 187 ∷ 134 ∷ 224 ∷ 78 ∷ 102 ∷ 222 ∷ 17 ∷ 89 ∷ 58 ∷ 141 ∷ 62 ∷ 89 ∷ 154 ∷ 219 ∷ 31 ∷ 92 ∷ 107 ∷ 41 ∷ 216 ∷ []) })
 unfolding reads_word reads a64.add_sub_imm a64.add_sub_shifted a64.logical a64.move_wide a64.multiply_add a64.shift_variable a64.bitfield a64.select a64.branch a64.branch_if a64.branch_zero a64.ret_form a64.exception a64.nop_form a64.umov_form a64.byte_imm a64.wide_imm a64.byte_register a64.wide_register sve.true_form sve.false_form sve.while_below sve.test_form sve.pred_logic sve.break_form sve.read_ffr sve.read_ffr_zeroing sve.set_ffr sve.write_ffr sve.count sve.increment_by_count sve.count_true sve.duplicate sve.index sve.select sve.add_sub sve.logic sve.shift_imm sve.merging sve.unary sve.extend_byte sve.extend_half sve.extend_word sve.reduce sve.compare sve.load sve.load_first_fault sve.load_no_fault sve.store elements bits_of folded broken
 case_41 = refl
 
@@ -348,7 +351,7 @@ s116 = record {
   stops = never;
 }
 
-case_116 : vector_step s116 ≡ Went (record s116 { pc = 20492; z = slice_set (s116.z) 26 (16 ∷ 64 ∷ 138 ∷ 162 ∷ 54 ∷ 253 ∷ 221 ∷ 254 ∷ 140 ∷ 232 ∷ 149 ∷ 227 ∷ 156 ∷ 185 ∷ 34 ∷ 34 ∷ zeros 240) })
+case_116 : step s116 ≡ Went (record s116 { pc = 20492; z = slice_set (s116.z) 26 (16 ∷ 64 ∷ 138 ∷ 162 ∷ 54 ∷ 253 ∷ 221 ∷ 254 ∷ 140 ∷ 232 ∷ 149 ∷ 227 ∷ 156 ∷ 185 ∷ 34 ∷ 34 ∷ zeros 240) })
 unfolding reads_word reads a64.add_sub_imm a64.add_sub_shifted a64.logical a64.move_wide a64.multiply_add a64.shift_variable a64.bitfield a64.select a64.branch a64.branch_if a64.branch_zero a64.ret_form a64.exception a64.nop_form a64.umov_form a64.byte_imm a64.wide_imm a64.byte_register a64.wide_register sve.true_form sve.false_form sve.while_below sve.test_form sve.pred_logic sve.break_form sve.read_ffr sve.read_ffr_zeroing sve.set_ffr sve.write_ffr sve.count sve.increment_by_count sve.count_true sve.duplicate sve.index sve.select sve.add_sub sve.logic sve.shift_imm sve.merging sve.unary sve.extend_byte sve.extend_half sve.extend_word sve.reduce sve.compare sve.load sve.load_first_fault sve.load_no_fault sve.store elements bits_of folded broken
 case_116 = refl
 
@@ -367,7 +370,7 @@ s51 = record {
   stops = never;
 }
 
-case_51 : vector_step s51 ≡ Went (record s51 { pc = 20492; z = slice_set (s51.z) 13 (44 ∷ 253 ∷ 255 ∷ 255 ∷ 123 ∷ 197 ∷ 255 ∷ 255 ∷ 195 ∷ 229 ∷ 255 ∷ 255 ∷ 58 ∷ 202 ∷ 255 ∷ 255 ∷ 48 ∷ 8 ∷ 0 ∷ 0 ∷ 137 ∷ 32 ∷ 0 ∷ 0 ∷ 43 ∷ 252 ∷ 224 ∷ 142 ∷ 9 ∷ 34 ∷ 112 ∷ 176 ∷ 217 ∷ 173 ∷ 118 ∷ 90 ∷ 159 ∷ 228 ∷ 165 ∷ 170 ∷ 70 ∷ 22 ∷ 66 ∷ 31 ∷ 223 ∷ 64 ∷ 132 ∷ 244 ∷ zeros 208) })
+case_51 : step s51 ≡ Went (record s51 { pc = 20492; z = slice_set (s51.z) 13 (44 ∷ 253 ∷ 255 ∷ 255 ∷ 123 ∷ 197 ∷ 255 ∷ 255 ∷ 195 ∷ 229 ∷ 255 ∷ 255 ∷ 58 ∷ 202 ∷ 255 ∷ 255 ∷ 48 ∷ 8 ∷ 0 ∷ 0 ∷ 137 ∷ 32 ∷ 0 ∷ 0 ∷ 43 ∷ 252 ∷ 224 ∷ 142 ∷ 9 ∷ 34 ∷ 112 ∷ 176 ∷ 217 ∷ 173 ∷ 118 ∷ 90 ∷ 159 ∷ 228 ∷ 165 ∷ 170 ∷ 70 ∷ 22 ∷ 66 ∷ 31 ∷ 223 ∷ 64 ∷ 132 ∷ 244 ∷ zeros 208) })
 unfolding reads_word reads a64.add_sub_imm a64.add_sub_shifted a64.logical a64.move_wide a64.multiply_add a64.shift_variable a64.bitfield a64.select a64.branch a64.branch_if a64.branch_zero a64.ret_form a64.exception a64.nop_form a64.umov_form a64.byte_imm a64.wide_imm a64.byte_register a64.wide_register sve.true_form sve.false_form sve.while_below sve.test_form sve.pred_logic sve.break_form sve.read_ffr sve.read_ffr_zeroing sve.set_ffr sve.write_ffr sve.count sve.increment_by_count sve.count_true sve.duplicate sve.index sve.select sve.add_sub sve.logic sve.shift_imm sve.merging sve.unary sve.extend_byte sve.extend_half sve.extend_word sve.reduce sve.compare sve.load sve.load_first_fault sve.load_no_fault sve.store elements bits_of folded broken
 case_51 = refl
 
@@ -386,7 +389,7 @@ s124 = record {
   stops = never;
 }
 
-case_124 : vector_step s124 ≡ Went (record s124 { pc = 20492; z = slice_set (s124.z) 6 (40 ∷ 2 ∷ 238 ∷ 214 ∷ 134 ∷ 56 ∷ 116 ∷ 157 ∷ 18 ∷ zeros 247) })
+case_124 : step s124 ≡ Went (record s124 { pc = 20492; z = slice_set (s124.z) 6 (40 ∷ 2 ∷ 238 ∷ 214 ∷ 134 ∷ 56 ∷ 116 ∷ 157 ∷ 18 ∷ zeros 247) })
 unfolding reads_word reads a64.add_sub_imm a64.add_sub_shifted a64.logical a64.move_wide a64.multiply_add a64.shift_variable a64.bitfield a64.select a64.branch a64.branch_if a64.branch_zero a64.ret_form a64.exception a64.nop_form a64.umov_form a64.byte_imm a64.wide_imm a64.byte_register a64.wide_register sve.true_form sve.false_form sve.while_below sve.test_form sve.pred_logic sve.break_form sve.read_ffr sve.read_ffr_zeroing sve.set_ffr sve.write_ffr sve.count sve.increment_by_count sve.count_true sve.duplicate sve.index sve.select sve.add_sub sve.logic sve.shift_imm sve.merging sve.unary sve.extend_byte sve.extend_half sve.extend_word sve.reduce sve.compare sve.load sve.load_first_fault sve.load_no_fault sve.store elements bits_of folded broken
 case_124 = refl
 
@@ -405,7 +408,7 @@ s46 = record {
   stops = never;
 }
 
-case_46 : vector_step s46 ≡ Went (record s46 { pc = 20492 })
+case_46 : step s46 ≡ Went (record s46 { pc = 20492 })
 unfolding reads_word reads a64.add_sub_imm a64.add_sub_shifted a64.logical a64.move_wide a64.multiply_add a64.shift_variable a64.bitfield a64.select a64.branch a64.branch_if a64.branch_zero a64.ret_form a64.exception a64.nop_form a64.umov_form a64.byte_imm a64.wide_imm a64.byte_register a64.wide_register sve.true_form sve.false_form sve.while_below sve.test_form sve.pred_logic sve.break_form sve.read_ffr sve.read_ffr_zeroing sve.set_ffr sve.write_ffr sve.count sve.increment_by_count sve.count_true sve.duplicate sve.index sve.select sve.add_sub sve.logic sve.shift_imm sve.merging sve.unary sve.extend_byte sve.extend_half sve.extend_word sve.reduce sve.compare sve.load sve.load_first_fault sve.load_no_fault sve.store elements bits_of folded broken
 case_46 = refl
 
@@ -424,7 +427,7 @@ s78 = record {
   stops = never;
 }
 
-case_78 : vector_step s78 ≡ Went (record s78 { pc = 20492; z = slice_set (s78.z) 23 (250 ∷ 9 ∷ 136 ∷ 132 ∷ 131 ∷ 4 ∷ 10 ∷ 3 ∷ zeros 248) })
+case_78 : step s78 ≡ Went (record s78 { pc = 20492; z = slice_set (s78.z) 23 (250 ∷ 9 ∷ 136 ∷ 132 ∷ 131 ∷ 4 ∷ 10 ∷ 3 ∷ zeros 248) })
 unfolding reads_word reads a64.add_sub_imm a64.add_sub_shifted a64.logical a64.move_wide a64.multiply_add a64.shift_variable a64.bitfield a64.select a64.branch a64.branch_if a64.branch_zero a64.ret_form a64.exception a64.nop_form a64.umov_form a64.byte_imm a64.wide_imm a64.byte_register a64.wide_register sve.true_form sve.false_form sve.while_below sve.test_form sve.pred_logic sve.break_form sve.read_ffr sve.read_ffr_zeroing sve.set_ffr sve.write_ffr sve.count sve.increment_by_count sve.count_true sve.duplicate sve.index sve.select sve.add_sub sve.logic sve.shift_imm sve.merging sve.unary sve.extend_byte sve.extend_half sve.extend_word sve.reduce sve.compare sve.load sve.load_first_fault sve.load_no_fault sve.store elements bits_of folded broken
 case_78 = refl
 
@@ -443,7 +446,7 @@ s72 = record {
   stops = never;
 }
 
-case_72 : vector_step s72 ≡ Went (record s72 { pc = 20492; z = slice_set (s72.z) 3 (255 ∷ 255 ∷ 255 ∷ 127 ∷ zeros 252) })
+case_72 : step s72 ≡ Went (record s72 { pc = 20492; z = slice_set (s72.z) 3 (255 ∷ 255 ∷ 255 ∷ 127 ∷ zeros 252) })
 unfolding reads_word reads a64.add_sub_imm a64.add_sub_shifted a64.logical a64.move_wide a64.multiply_add a64.shift_variable a64.bitfield a64.select a64.branch a64.branch_if a64.branch_zero a64.ret_form a64.exception a64.nop_form a64.umov_form a64.byte_imm a64.wide_imm a64.byte_register a64.wide_register sve.true_form sve.false_form sve.while_below sve.test_form sve.pred_logic sve.break_form sve.read_ffr sve.read_ffr_zeroing sve.set_ffr sve.write_ffr sve.count sve.increment_by_count sve.count_true sve.duplicate sve.index sve.select sve.add_sub sve.logic sve.shift_imm sve.merging sve.unary sve.extend_byte sve.extend_half sve.extend_word sve.reduce sve.compare sve.load sve.load_first_fault sve.load_no_fault sve.store elements bits_of folded broken
 case_72 = refl
 
@@ -462,7 +465,7 @@ s73 = record {
   stops = never;
 }
 
-case_73 : vector_step s73 ≡ Went (record s73 { pc = 20492; z = slice_set (s73.z) 29 (255 ∷ 255 ∷ 255 ∷ 255 ∷ 255 ∷ 255 ∷ 255 ∷ 255 ∷ zeros 248) })
+case_73 : step s73 ≡ Went (record s73 { pc = 20492; z = slice_set (s73.z) 29 (255 ∷ 255 ∷ 255 ∷ 255 ∷ 255 ∷ 255 ∷ 255 ∷ 255 ∷ zeros 248) })
 unfolding reads_word reads a64.add_sub_imm a64.add_sub_shifted a64.logical a64.move_wide a64.multiply_add a64.shift_variable a64.bitfield a64.select a64.branch a64.branch_if a64.branch_zero a64.ret_form a64.exception a64.nop_form a64.umov_form a64.byte_imm a64.wide_imm a64.byte_register a64.wide_register sve.true_form sve.false_form sve.while_below sve.test_form sve.pred_logic sve.break_form sve.read_ffr sve.read_ffr_zeroing sve.set_ffr sve.write_ffr sve.count sve.increment_by_count sve.count_true sve.duplicate sve.index sve.select sve.add_sub sve.logic sve.shift_imm sve.merging sve.unary sve.extend_byte sve.extend_half sve.extend_word sve.reduce sve.compare sve.load sve.load_first_fault sve.load_no_fault sve.store elements bits_of folded broken
 case_73 = refl
 
@@ -481,7 +484,7 @@ s63 = record {
   stops = never;
 }
 
-case_63 : vector_step s63 ≡ Went (record s63 { pc = 20492; p = slice_set (s63.p) 6 (zeros 32) })
+case_63 : step s63 ≡ Went (record s63 { pc = 20492; p = slice_set (s63.p) 6 (zeros 32) })
 unfolding reads_word reads a64.add_sub_imm a64.add_sub_shifted a64.logical a64.move_wide a64.multiply_add a64.shift_variable a64.bitfield a64.select a64.branch a64.branch_if a64.branch_zero a64.ret_form a64.exception a64.nop_form a64.umov_form a64.byte_imm a64.wide_imm a64.byte_register a64.wide_register sve.true_form sve.false_form sve.while_below sve.test_form sve.pred_logic sve.break_form sve.read_ffr sve.read_ffr_zeroing sve.set_ffr sve.write_ffr sve.count sve.increment_by_count sve.count_true sve.duplicate sve.index sve.select sve.add_sub sve.logic sve.shift_imm sve.merging sve.unary sve.extend_byte sve.extend_half sve.extend_word sve.reduce sve.compare sve.load sve.load_first_fault sve.load_no_fault sve.store elements bits_of folded broken
 case_63 = refl
 
@@ -500,7 +503,7 @@ s65 = record {
   stops = never;
 }
 
-case_65 : vector_step s65 ≡ Went (record s65 { pc = 20492; flags = flags_from true false false false; p = slice_set (s65.p) 11 (63 ∷ 143 ∷ 90 ∷ 188 ∷ 108 ∷ 199 ∷ 5 ∷ 118 ∷ 127 ∷ 95 ∷ 149 ∷ 172 ∷ 26 ∷ 172 ∷ 157 ∷ 114 ∷ 141 ∷ 37 ∷ 146 ∷ 91 ∷ 192 ∷ 81 ∷ 86 ∷ 209 ∷ 48 ∷ 95 ∷ 174 ∷ 169 ∷ 107 ∷ 137 ∷ 66 ∷ 219 ∷ []) })
+case_65 : step s65 ≡ Went (record s65 { pc = 20492; flags = flags_from true false false false; p = slice_set (s65.p) 11 (63 ∷ 143 ∷ 90 ∷ 188 ∷ 108 ∷ 199 ∷ 5 ∷ 118 ∷ 127 ∷ 95 ∷ 149 ∷ 172 ∷ 26 ∷ 172 ∷ 157 ∷ 114 ∷ 141 ∷ 37 ∷ 146 ∷ 91 ∷ 192 ∷ 81 ∷ 86 ∷ 209 ∷ 48 ∷ 95 ∷ 174 ∷ 169 ∷ 107 ∷ 137 ∷ 66 ∷ 219 ∷ []) })
 unfolding reads_word reads a64.add_sub_imm a64.add_sub_shifted a64.logical a64.move_wide a64.multiply_add a64.shift_variable a64.bitfield a64.select a64.branch a64.branch_if a64.branch_zero a64.ret_form a64.exception a64.nop_form a64.umov_form a64.byte_imm a64.wide_imm a64.byte_register a64.wide_register sve.true_form sve.false_form sve.while_below sve.test_form sve.pred_logic sve.break_form sve.read_ffr sve.read_ffr_zeroing sve.set_ffr sve.write_ffr sve.count sve.increment_by_count sve.count_true sve.duplicate sve.index sve.select sve.add_sub sve.logic sve.shift_imm sve.merging sve.unary sve.extend_byte sve.extend_half sve.extend_word sve.reduce sve.compare sve.load sve.load_first_fault sve.load_no_fault sve.store elements bits_of folded broken
 case_65 = refl
 
@@ -519,6 +522,6 @@ s140 = record {
   stops = never;
 }
 
-case_140 : vector_step s140 ≡ Went (record s140 { pc = 20492; flags = flags_from false false true false; p = slice_set (s140.p) 2 (0 ∷ 0 ∷ 1 ∷ 1 ∷ zeros 28) })
+case_140 : step s140 ≡ Went (record s140 { pc = 20492; flags = flags_from false false true false; p = slice_set (s140.p) 2 (0 ∷ 0 ∷ 1 ∷ 1 ∷ zeros 28) })
 unfolding reads_word reads a64.add_sub_imm a64.add_sub_shifted a64.logical a64.move_wide a64.multiply_add a64.shift_variable a64.bitfield a64.select a64.branch a64.branch_if a64.branch_zero a64.ret_form a64.exception a64.nop_form a64.umov_form a64.byte_imm a64.wide_imm a64.byte_register a64.wide_register sve.true_form sve.false_form sve.while_below sve.test_form sve.pred_logic sve.break_form sve.read_ffr sve.read_ffr_zeroing sve.set_ffr sve.write_ffr sve.count sve.increment_by_count sve.count_true sve.duplicate sve.index sve.select sve.add_sub sve.logic sve.shift_imm sve.merging sve.unary sve.extend_byte sve.extend_half sve.extend_word sve.reduce sve.compare sve.load sve.load_first_fault sve.load_no_fault sve.store elements bits_of folded broken
 case_140 = refl

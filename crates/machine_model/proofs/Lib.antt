@@ -5,8 +5,14 @@ pub mod Rows
 pub mod Standing
 pub mod States
 pub mod Frames
+pub mod ScalarFrames
+pub mod ScalarStates
 pub mod Whole
+pub mod Shapes
+pub mod CodeStays
+pub mod Quiet
 pub mod ListedWords
 mod CaseShapes
 mod LaneCases
 mod LoadCases
+mod StopCases

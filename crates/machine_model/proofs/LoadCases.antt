@@ -3,7 +3,7 @@ use Rattle.guest_types.specs.EarlyLoads.{Each, Listed as Counted, never}
 use Rattle.guest_types.specs.Elements.{bits_of, elements}
 use Rattle.guest_types.specs.Lanes.{broken, folded}
 use Rattle.guest_types.specs.declared.memory.Perm.TheVariants.{Read, ReadExec, ReadWrite}
-use Rattle.machine_model.proofs.CaseShapes.{flags_from, page, vector_step, zeros}
+use Rattle.machine_model.proofs.CaseShapes.{flags_from, page, zeros}
 use Rattle.machine_model.specs.Machine.{State, Stopped, Went}
 use Rattle.machine_model.specs.OneStep.{reads_word, step, suppresses}
 use Rattle.std.proofs.Common.{[], false, refl, true, ◌++◌, ◌∷◌, ◌≡◌}
@@ -28,7 +28,7 @@ s156 = record {
   stops = never;
 }
 
-case_156 : vector_step s156 ≡ Went (record s156 { pc = 20492; z = slice_set (s156.z) 5 (202 ∷ 114 ∷ 184 ∷ 239 ∷ 255 ∷ 255 ∷ 255 ∷ 255 ∷ 145 ∷ 147 ∷ 99 ∷ 176 ∷ 255 ∷ 255 ∷ 255 ∷ 255 ∷ zeros 240) })
+case_156 : step s156 ≡ Went (record s156 { pc = 20492; z = slice_set (s156.z) 5 (202 ∷ 114 ∷ 184 ∷ 239 ∷ 255 ∷ 255 ∷ 255 ∷ 255 ∷ 145 ∷ 147 ∷ 99 ∷ 176 ∷ 255 ∷ 255 ∷ 255 ∷ 255 ∷ zeros 240) })
 unfolding reads_word reads a64.add_sub_imm a64.add_sub_shifted a64.logical a64.move_wide a64.multiply_add a64.shift_variable a64.bitfield a64.select a64.branch a64.branch_if a64.branch_zero a64.ret_form a64.exception a64.nop_form a64.umov_form a64.byte_imm a64.wide_imm a64.byte_register a64.wide_register sve.true_form sve.false_form sve.while_below sve.test_form sve.pred_logic sve.break_form sve.read_ffr sve.read_ffr_zeroing sve.set_ffr sve.write_ffr sve.count sve.increment_by_count sve.count_true sve.duplicate sve.index sve.select sve.add_sub sve.logic sve.shift_imm sve.merging sve.unary sve.extend_byte sve.extend_half sve.extend_word sve.reduce sve.compare sve.load sve.load_first_fault sve.load_no_fault sve.store elements bits_of folded broken
 case_156 = refl
 
@@ -51,7 +51,7 @@ s161 = record {
   stops = never;
 }
 
-case_161 : vector_step s161 ≡ Went (record s161 { pc = 20492; z = slice_set (s161.z) 6 (25 ∷ 42 ∷ 0 ∷ 0 ∷ 141 ∷ 76 ∷ (zeros 6 ++ (37 ∷ 71 ∷ zeros 242))) })
+case_161 : step s161 ≡ Went (record s161 { pc = 20492; z = slice_set (s161.z) 6 (25 ∷ 42 ∷ 0 ∷ 0 ∷ 141 ∷ 76 ∷ (zeros 6 ++ (37 ∷ 71 ∷ zeros 242))) })
 unfolding reads_word reads a64.add_sub_imm a64.add_sub_shifted a64.logical a64.move_wide a64.multiply_add a64.shift_variable a64.bitfield a64.select a64.branch a64.branch_if a64.branch_zero a64.ret_form a64.exception a64.nop_form a64.umov_form a64.byte_imm a64.wide_imm a64.byte_register a64.wide_register sve.true_form sve.false_form sve.while_below sve.test_form sve.pred_logic sve.break_form sve.read_ffr sve.read_ffr_zeroing sve.set_ffr sve.write_ffr sve.count sve.increment_by_count sve.count_true sve.duplicate sve.index sve.select sve.add_sub sve.logic sve.shift_imm sve.merging sve.unary sve.extend_byte sve.extend_half sve.extend_word sve.reduce sve.compare sve.load sve.load_first_fault sve.load_no_fault sve.store elements bits_of folded broken
 case_161 = refl
 
@@ -74,7 +74,7 @@ s168 = record {
   stops = never;
 }
 
-case_168 : vector_step s168 ≡ Stopped kinds.Read 20488 69632 s168.memory
+case_168 : step s168 ≡ Stopped kinds.Read 20488 69632 s168.memory
 unfolding reads_word reads a64.add_sub_imm a64.add_sub_shifted a64.logical a64.move_wide a64.multiply_add a64.shift_variable a64.bitfield a64.select a64.branch a64.branch_if a64.branch_zero a64.ret_form a64.exception a64.nop_form a64.umov_form a64.byte_imm a64.wide_imm a64.byte_register a64.wide_register sve.true_form sve.false_form sve.while_below sve.test_form sve.pred_logic sve.break_form sve.read_ffr sve.read_ffr_zeroing sve.set_ffr sve.write_ffr sve.count sve.increment_by_count sve.count_true sve.duplicate sve.index sve.select sve.add_sub sve.logic sve.shift_imm sve.merging sve.unary sve.extend_byte sve.extend_half sve.extend_word sve.reduce sve.compare sve.load sve.load_first_fault sve.load_no_fault sve.store elements bits_of folded broken
 case_168 = refl
 
@@ -97,7 +97,7 @@ s170 = record {
   stops = never;
 }
 
-case_170 : vector_step s170 ≡ Went (record s170 { pc = 20492; z = slice_set (s170.z) 25 (149 ∷ 20 ∷ 100 ∷ 110 ∷ 102 ∷ 73 ∷ 184 ∷ 244 ∷ 157 ∷ 12 ∷ 102 ∷ 194 ∷ 29 ∷ 30 ∷ 18 ∷ 26 ∷ 121 ∷ 236 ∷ 107 ∷ 56 ∷ 60 ∷ 152 ∷ 147 ∷ 149 ∷ 55 ∷ 102 ∷ 37 ∷ 89 ∷ 201 ∷ 35 ∷ 143 ∷ 178 ∷ 241 ∷ 95 ∷ 3 ∷ 153 ∷ 122 ∷ 209 ∷ 190 ∷ 19 ∷ 21 ∷ 108 ∷ 160 ∷ 90 ∷ 14 ∷ 238 ∷ 150 ∷ 158 ∷ zeros 208) })
+case_170 : step s170 ≡ Went (record s170 { pc = 20492; z = slice_set (s170.z) 25 (149 ∷ 20 ∷ 100 ∷ 110 ∷ 102 ∷ 73 ∷ 184 ∷ 244 ∷ 157 ∷ 12 ∷ 102 ∷ 194 ∷ 29 ∷ 30 ∷ 18 ∷ 26 ∷ 121 ∷ 236 ∷ 107 ∷ 56 ∷ 60 ∷ 152 ∷ 147 ∷ 149 ∷ 55 ∷ 102 ∷ 37 ∷ 89 ∷ 201 ∷ 35 ∷ 143 ∷ 178 ∷ 241 ∷ 95 ∷ 3 ∷ 153 ∷ 122 ∷ 209 ∷ 190 ∷ 19 ∷ 21 ∷ 108 ∷ 160 ∷ 90 ∷ 14 ∷ 238 ∷ 150 ∷ 158 ∷ zeros 208) })
 unfolding reads_word reads a64.add_sub_imm a64.add_sub_shifted a64.logical a64.move_wide a64.multiply_add a64.shift_variable a64.bitfield a64.select a64.branch a64.branch_if a64.branch_zero a64.ret_form a64.exception a64.nop_form a64.umov_form a64.byte_imm a64.wide_imm a64.byte_register a64.wide_register sve.true_form sve.false_form sve.while_below sve.test_form sve.pred_logic sve.break_form sve.read_ffr sve.read_ffr_zeroing sve.set_ffr sve.write_ffr sve.count sve.increment_by_count sve.count_true sve.duplicate sve.index sve.select sve.add_sub sve.logic sve.shift_imm sve.merging sve.unary sve.extend_byte sve.extend_half sve.extend_word sve.reduce sve.compare sve.load sve.load_first_fault sve.load_no_fault sve.store elements bits_of folded broken
 case_170 = refl
 
@@ -120,7 +120,7 @@ s172 = record {
   stops = never;
 }
 
-case_172 : vector_step s172 ≡ Went (record s172 { pc = 20492; z = slice_set (s172.z) 3 (20 ∷ 161 ∷ 20 ∷ 188 ∷ 22 ∷ 119 ∷ 201 ∷ 43 ∷ 241 ∷ 161 ∷ 234 ∷ 197 ∷ 135 ∷ 91 ∷ 23 ∷ 74 ∷ zeros 240); ffr = (255 ∷ 255 ∷ zeros 30) })
+case_172 : step s172 ≡ Went (record s172 { pc = 20492; z = slice_set (s172.z) 3 (20 ∷ 161 ∷ 20 ∷ 188 ∷ 22 ∷ 119 ∷ 201 ∷ 43 ∷ 241 ∷ 161 ∷ 234 ∷ 197 ∷ 135 ∷ 91 ∷ 23 ∷ 74 ∷ zeros 240); ffr = (255 ∷ 255 ∷ zeros 30) })
 unfolding reads_word reads a64.add_sub_imm a64.add_sub_shifted a64.logical a64.move_wide a64.multiply_add a64.shift_variable a64.bitfield a64.select a64.branch a64.branch_if a64.branch_zero a64.ret_form a64.exception a64.nop_form a64.umov_form a64.byte_imm a64.wide_imm a64.byte_register a64.wide_register sve.true_form sve.false_form sve.while_below sve.test_form sve.pred_logic sve.break_form sve.read_ffr sve.read_ffr_zeroing sve.set_ffr sve.write_ffr sve.count sve.increment_by_count sve.count_true sve.duplicate sve.index sve.select sve.add_sub sve.logic sve.shift_imm sve.merging sve.unary sve.extend_byte sve.extend_half sve.extend_word sve.reduce sve.compare sve.load sve.load_first_fault sve.load_no_fault sve.store elements bits_of folded broken
 case_172 = refl
 
@@ -143,7 +143,7 @@ s173 = record {
   stops = never;
 }
 
-case_173 : vector_step s173 ≡ Stopped kinds.Read 20488 69632 s173.memory
+case_173 : step s173 ≡ Stopped kinds.Read 20488 69632 s173.memory
 unfolding reads_word reads a64.add_sub_imm a64.add_sub_shifted a64.logical a64.move_wide a64.multiply_add a64.shift_variable a64.bitfield a64.select a64.branch a64.branch_if a64.branch_zero a64.ret_form a64.exception a64.nop_form a64.umov_form a64.byte_imm a64.wide_imm a64.byte_register a64.wide_register sve.true_form sve.false_form sve.while_below sve.test_form sve.pred_logic sve.break_form sve.read_ffr sve.read_ffr_zeroing sve.set_ffr sve.write_ffr sve.count sve.increment_by_count sve.count_true sve.duplicate sve.index sve.select sve.add_sub sve.logic sve.shift_imm sve.merging sve.unary sve.extend_byte sve.extend_half sve.extend_word sve.reduce sve.compare sve.load sve.load_first_fault sve.load_no_fault sve.store elements bits_of folded broken
 case_173 = refl
 
@@ -166,7 +166,7 @@ s174 = record {
   stops = never;
 }
 
-case_174 : vector_step s174 ≡ Stopped kinds.Read 20488 69632 s174.memory
+case_174 : step s174 ≡ Stopped kinds.Read 20488 69632 s174.memory
 unfolding reads_word reads a64.add_sub_imm a64.add_sub_shifted a64.logical a64.move_wide a64.multiply_add a64.shift_variable a64.bitfield a64.select a64.branch a64.branch_if a64.branch_zero a64.ret_form a64.exception a64.nop_form a64.umov_form a64.byte_imm a64.wide_imm a64.byte_register a64.wide_register sve.true_form sve.false_form sve.while_below sve.test_form sve.pred_logic sve.break_form sve.read_ffr sve.read_ffr_zeroing sve.set_ffr sve.write_ffr sve.count sve.increment_by_count sve.count_true sve.duplicate sve.index sve.select sve.add_sub sve.logic sve.shift_imm sve.merging sve.unary sve.extend_byte sve.extend_half sve.extend_word sve.reduce sve.compare sve.load sve.load_first_fault sve.load_no_fault sve.store elements bits_of folded broken
 case_174 = refl
 
@@ -189,7 +189,7 @@ s176 = record {
   stops = never;
 }
 
-case_176 : vector_step s176 ≡ Went (record s176 { pc = 20492; z = slice_set (s176.z) 27 (zeros 256) })
+case_176 : step s176 ≡ Went (record s176 { pc = 20492; z = slice_set (s176.z) 27 (zeros 256) })
 unfolding reads_word reads a64.add_sub_imm a64.add_sub_shifted a64.logical a64.move_wide a64.multiply_add a64.shift_variable a64.bitfield a64.select a64.branch a64.branch_if a64.branch_zero a64.ret_form a64.exception a64.nop_form a64.umov_form a64.byte_imm a64.wide_imm a64.byte_register a64.wide_register sve.true_form sve.false_form sve.while_below sve.test_form sve.pred_logic sve.break_form sve.read_ffr sve.read_ffr_zeroing sve.set_ffr sve.write_ffr sve.count sve.increment_by_count sve.count_true sve.duplicate sve.index sve.select sve.add_sub sve.logic sve.shift_imm sve.merging sve.unary sve.extend_byte sve.extend_half sve.extend_word sve.reduce sve.compare sve.load sve.load_first_fault sve.load_no_fault sve.store elements bits_of folded broken
 case_176 = refl
 
@@ -212,7 +212,7 @@ s177 = record {
   stops = (Counted (2 ∷ 7 ∷ 9 ∷ []));
 }
 
-case_177 : vector_step s177 ≡ Went (record s177 { pc = 20492; z = slice_set (s177.z) 15 (3 ∷ 187 ∷ 131 ∷ 91 ∷ 17 ∷ 80 ∷ 35 ∷ 101 ∷ 130 ∷ 179 ∷ 137 ∷ 149 ∷ zeros 244); ffr = (255 ∷ 15 ∷ zeros 30); stops = (Counted (4 ∷ 6 ∷ [])) })
+case_177 : step s177 ≡ Went (record s177 { pc = 20492; z = slice_set (s177.z) 15 (3 ∷ 187 ∷ 131 ∷ 91 ∷ 17 ∷ 80 ∷ 35 ∷ 101 ∷ 130 ∷ 179 ∷ 137 ∷ 149 ∷ zeros 244); ffr = (255 ∷ 15 ∷ zeros 30); stops = (Counted (4 ∷ 6 ∷ [])) })
 unfolding reads_word reads a64.add_sub_imm a64.add_sub_shifted a64.logical a64.move_wide a64.multiply_add a64.shift_variable a64.bitfield a64.select a64.branch a64.branch_if a64.branch_zero a64.ret_form a64.exception a64.nop_form a64.umov_form a64.byte_imm a64.wide_imm a64.byte_register a64.wide_register sve.true_form sve.false_form sve.while_below sve.test_form sve.pred_logic sve.break_form sve.read_ffr sve.read_ffr_zeroing sve.set_ffr sve.write_ffr sve.count sve.increment_by_count sve.count_true sve.duplicate sve.index sve.select sve.add_sub sve.logic sve.shift_imm sve.merging sve.unary sve.extend_byte sve.extend_half sve.extend_word sve.reduce sve.compare sve.load sve.load_first_fault sve.load_no_fault sve.store elements bits_of folded broken
 case_177 = refl
 
@@ -235,7 +235,7 @@ s180 = record {
   stops = (Counted (2 ∷ 3 ∷ []));
 }
 
-case_180 : vector_step s180 ≡ Went (record s180 { pc = 20492; z = slice_set (s180.z) 24 (22 ∷ 119 ∷ 201 ∷ 43 ∷ 241 ∷ 161 ∷ 234 ∷ 197 ∷ 135 ∷ 91 ∷ 23 ∷ 74 ∷ zeros 244); ffr = (255 ∷ 15 ∷ zeros 30); stops = (Counted (0 ∷ 1 ∷ [])) })
+case_180 : step s180 ≡ Went (record s180 { pc = 20492; z = slice_set (s180.z) 24 (22 ∷ 119 ∷ 201 ∷ 43 ∷ 241 ∷ 161 ∷ 234 ∷ 197 ∷ 135 ∷ 91 ∷ 23 ∷ 74 ∷ zeros 244); ffr = (255 ∷ 15 ∷ zeros 30); stops = (Counted (0 ∷ 1 ∷ [])) })
 unfolding reads_word reads a64.add_sub_imm a64.add_sub_shifted a64.logical a64.move_wide a64.multiply_add a64.shift_variable a64.bitfield a64.select a64.branch a64.branch_if a64.branch_zero a64.ret_form a64.exception a64.nop_form a64.umov_form a64.byte_imm a64.wide_imm a64.byte_register a64.wide_register sve.true_form sve.false_form sve.while_below sve.test_form sve.pred_logic sve.break_form sve.read_ffr sve.read_ffr_zeroing sve.set_ffr sve.write_ffr sve.count sve.increment_by_count sve.count_true sve.duplicate sve.index sve.select sve.add_sub sve.logic sve.shift_imm sve.merging sve.unary sve.extend_byte sve.extend_half sve.extend_word sve.reduce sve.compare sve.load sve.load_first_fault sve.load_no_fault sve.store elements bits_of folded broken
 case_180 = refl
 
@@ -258,7 +258,7 @@ s183 = record {
   stops = never;
 }
 
-case_183 : vector_step s183 ≡ Went (record s183 { pc = 20492; z = slice_set (s183.z) 31 (zeros 256); ffr = zeros 32 })
+case_183 : step s183 ≡ Went (record s183 { pc = 20492; z = slice_set (s183.z) 31 (zeros 256); ffr = zeros 32 })
 unfolding reads_word reads a64.add_sub_imm a64.add_sub_shifted a64.logical a64.move_wide a64.multiply_add a64.shift_variable a64.bitfield a64.select a64.branch a64.branch_if a64.branch_zero a64.ret_form a64.exception a64.nop_form a64.umov_form a64.byte_imm a64.wide_imm a64.byte_register a64.wide_register sve.true_form sve.false_form sve.while_below sve.test_form sve.pred_logic sve.break_form sve.read_ffr sve.read_ffr_zeroing sve.set_ffr sve.write_ffr sve.count sve.increment_by_count sve.count_true sve.duplicate sve.index sve.select sve.add_sub sve.logic sve.shift_imm sve.merging sve.unary sve.extend_byte sve.extend_half sve.extend_word sve.reduce sve.compare sve.load sve.load_first_fault sve.load_no_fault sve.store elements bits_of folded broken
 case_183 = refl
 
@@ -281,7 +281,7 @@ s185 = record {
   stops = (Each 3 0);
 }
 
-case_185 : vector_step s185 ≡ Went (record s185 { pc = 20492; z = slice_set (s185.z) 4 (3 ∷ (zeros 7 ++ (187 ∷ zeros 247))); ffr = (255 ∷ 255 ∷ zeros 30) })
+case_185 : step s185 ≡ Went (record s185 { pc = 20492; z = slice_set (s185.z) 4 (3 ∷ (zeros 7 ++ (187 ∷ zeros 247))); ffr = (255 ∷ 255 ∷ zeros 30) })
 unfolding reads_word reads a64.add_sub_imm a64.add_sub_shifted a64.logical a64.move_wide a64.multiply_add a64.shift_variable a64.bitfield a64.select a64.branch a64.branch_if a64.branch_zero a64.ret_form a64.exception a64.nop_form a64.umov_form a64.byte_imm a64.wide_imm a64.byte_register a64.wide_register sve.true_form sve.false_form sve.while_below sve.test_form sve.pred_logic sve.break_form sve.read_ffr sve.read_ffr_zeroing sve.set_ffr sve.write_ffr sve.count sve.increment_by_count sve.count_true sve.duplicate sve.index sve.select sve.add_sub sve.logic sve.shift_imm sve.merging sve.unary sve.extend_byte sve.extend_half sve.extend_word sve.reduce sve.compare sve.load sve.load_first_fault sve.load_no_fault sve.store elements bits_of folded broken
 case_185 = refl
 
@@ -304,7 +304,7 @@ s186 = record {
   stops = never;
 }
 
-case_186 : vector_step s186 ≡ Went (record s186 { pc = 20492; z = slice_set (s186.z) 12 (241 ∷ 161 ∷ 234 ∷ zeros 253) })
+case_186 : step s186 ≡ Went (record s186 { pc = 20492; z = slice_set (s186.z) 12 (241 ∷ 161 ∷ 234 ∷ zeros 253) })
 unfolding reads_word reads a64.add_sub_imm a64.add_sub_shifted a64.logical a64.move_wide a64.multiply_add a64.shift_variable a64.bitfield a64.select a64.branch a64.branch_if a64.branch_zero a64.ret_form a64.exception a64.nop_form a64.umov_form a64.byte_imm a64.wide_imm a64.byte_register a64.wide_register sve.true_form sve.false_form sve.while_below sve.test_form sve.pred_logic sve.break_form sve.read_ffr sve.read_ffr_zeroing sve.set_ffr sve.write_ffr sve.count sve.increment_by_count sve.count_true sve.duplicate sve.index sve.select sve.add_sub sve.logic sve.shift_imm sve.merging sve.unary sve.extend_byte sve.extend_half sve.extend_word sve.reduce sve.compare sve.load sve.load_first_fault sve.load_no_fault sve.store elements bits_of folded broken
 case_186 = refl
 
@@ -327,7 +327,7 @@ s189 = record {
   stops = never;
 }
 
-case_189 : vector_step s189 ≡ Went (record s189 { memory = (page 5 ReadExec (zeros 8 ++ (53 ∷ 76 ∷ 194 ∷ 228 ∷ 0 ∷ 0 ∷ 0 ∷ 0 ∷ [])) ∷ page 16 ReadWrite (zeros 60 ++ (68 ∷ 242 ∷ 229 ∷ 112 ∷ 211 ∷ 73 ∷ 54 ∷ 172 ∷ 107 ∷ 3 ∷ 28 ∷ 75 ∷ 226 ∷ 133 ∷ 238 ∷ 118 ∷ 102 ∷ 233 ∷ 244 ∷ 177 ∷ 80 ∷ 14 ∷ 58 ∷ 27 ∷ 13 ∷ 123 ∷ 215 ∷ 152 ∷ 114 ∷ 36 ∷ 44 ∷ 102 ∷ 74 ∷ 246 ∷ 160 ∷ 9 ∷ 24 ∷ 164 ∷ 233 ∷ 110 ∷ 56 ∷ 178 ∷ 105 ∷ 243 ∷ 18 ∷ 163 ∷ 116 ∷ 46 ∷ 246 ∷ 156 ∷ 47 ∷ 123 ∷ 45 ∷ 234 ∷ 139 ∷ 65 ∷ 163 ∷ 161 ∷ 36 ∷ 146 ∷ 56 ∷ 0 ∷ 154 ∷ 49 ∷ 61 ∷ 153 ∷ 7 ∷ 138 ∷ zeros 3968)) ∷ []); pc = 20492 })
+case_189 : step s189 ≡ Went (record s189 { memory = (page 5 ReadExec (zeros 8 ++ (53 ∷ 76 ∷ 194 ∷ 228 ∷ 0 ∷ 0 ∷ 0 ∷ 0 ∷ [])) ∷ page 16 ReadWrite (zeros 60 ++ (68 ∷ 242 ∷ 229 ∷ 112 ∷ 211 ∷ 73 ∷ 54 ∷ 172 ∷ 107 ∷ 3 ∷ 28 ∷ 75 ∷ 226 ∷ 133 ∷ 238 ∷ 118 ∷ 102 ∷ 233 ∷ 244 ∷ 177 ∷ 80 ∷ 14 ∷ 58 ∷ 27 ∷ 13 ∷ 123 ∷ 215 ∷ 152 ∷ 114 ∷ 36 ∷ 44 ∷ 102 ∷ 74 ∷ 246 ∷ 160 ∷ 9 ∷ 24 ∷ 164 ∷ 233 ∷ 110 ∷ 56 ∷ 178 ∷ 105 ∷ 243 ∷ 18 ∷ 163 ∷ 116 ∷ 46 ∷ 246 ∷ 156 ∷ 47 ∷ 123 ∷ 45 ∷ 234 ∷ 139 ∷ 65 ∷ 163 ∷ 161 ∷ 36 ∷ 146 ∷ 56 ∷ 0 ∷ 154 ∷ 49 ∷ 61 ∷ 153 ∷ 7 ∷ 138 ∷ zeros 3968)) ∷ []); pc = 20492 })
 unfolding reads_word reads a64.add_sub_imm a64.add_sub_shifted a64.logical a64.move_wide a64.multiply_add a64.shift_variable a64.bitfield a64.select a64.branch a64.branch_if a64.branch_zero a64.ret_form a64.exception a64.nop_form a64.umov_form a64.byte_imm a64.wide_imm a64.byte_register a64.wide_register sve.true_form sve.false_form sve.while_below sve.test_form sve.pred_logic sve.break_form sve.read_ffr sve.read_ffr_zeroing sve.set_ffr sve.write_ffr sve.count sve.increment_by_count sve.count_true sve.duplicate sve.index sve.select sve.add_sub sve.logic sve.shift_imm sve.merging sve.unary sve.extend_byte sve.extend_half sve.extend_word sve.reduce sve.compare sve.load sve.load_first_fault sve.load_no_fault sve.store elements bits_of folded broken
 case_189 = refl
 
@@ -346,7 +346,7 @@ s190 = record {
   stops = never;
 }
 
-case_190 : vector_step s190 ≡ Stopped kinds.Write 20488 69632 (page 5 ReadExec (zeros 8 ++ (34 ∷ 64 ∷ 162 ∷ 228 ∷ 0 ∷ 0 ∷ 0 ∷ 0 ∷ [])) ∷ page 16 ReadWrite (zeros 4070 ++ (165 ∷ 72 ∷ 6 ∷ 243 ∷ 234 ∷ 253 ∷ 86 ∷ 24 ∷ 173 ∷ 158 ∷ 255 ∷ 127 ∷ 255 ∷ 0 ∷ 0 ∷ 0 ∷ 128 ∷ 1 ∷ 127 ∷ 128 ∷ 1 ∷ 127 ∷ 1 ∷ 1 ∷ 1 ∷ 128 ∷ [])) ∷ [])
+case_190 : step s190 ≡ Stopped kinds.Write 20488 69632 (page 5 ReadExec (zeros 8 ++ (34 ∷ 64 ∷ 162 ∷ 228 ∷ 0 ∷ 0 ∷ 0 ∷ 0 ∷ [])) ∷ page 16 ReadWrite (zeros 4070 ++ (165 ∷ 72 ∷ 6 ∷ 243 ∷ 234 ∷ 253 ∷ 86 ∷ 24 ∷ 173 ∷ 158 ∷ 255 ∷ 127 ∷ 255 ∷ 0 ∷ 0 ∷ 0 ∷ 128 ∷ 1 ∷ 127 ∷ 128 ∷ 1 ∷ 127 ∷ 1 ∷ 1 ∷ 1 ∷ 128 ∷ [])) ∷ [])
 unfolding reads_word reads a64.add_sub_imm a64.add_sub_shifted a64.logical a64.move_wide a64.multiply_add a64.shift_variable a64.bitfield a64.select a64.branch a64.branch_if a64.branch_zero a64.ret_form a64.exception a64.nop_form a64.umov_form a64.byte_imm a64.wide_imm a64.byte_register a64.wide_register sve.true_form sve.false_form sve.while_below sve.test_form sve.pred_logic sve.break_form sve.read_ffr sve.read_ffr_zeroing sve.set_ffr sve.write_ffr sve.count sve.increment_by_count sve.count_true sve.duplicate sve.index sve.select sve.add_sub sve.logic sve.shift_imm sve.merging sve.unary sve.extend_byte sve.extend_half sve.extend_word sve.reduce sve.compare sve.load sve.load_first_fault sve.load_no_fault sve.store elements bits_of folded broken
 case_190 = refl
 
@@ -365,6 +365,6 @@ s191 = record {
   stops = never;
 }
 
-case_191 : vector_step s191 ≡ Stopped kinds.Write 20488 69632 (page 5 ReadExec (zeros 8 ++ (51 ∷ 68 ∷ 66 ∷ 229 ∷ 0 ∷ 0 ∷ 0 ∷ 0 ∷ [])) ∷ page 16 ReadWrite (zeros 4070 ++ (198 ∷ 31 ∷ 129 ∷ 18 ∷ 200 ∷ 55 ∷ 162 ∷ 122 ∷ 144 ∷ 221 ∷ 43 ∷ 152 ∷ 36 ∷ 149 ∷ 20 ∷ 95 ∷ 22 ∷ 5 ∷ 207 ∷ 212 ∷ 159 ∷ 125 ∷ 233 ∷ 102 ∷ 194 ∷ 29 ∷ [])) ∷ page 17 Read (30 ∷ 18 ∷ 26 ∷ 121 ∷ 236 ∷ 107 ∷ 56 ∷ 60 ∷ 152 ∷ 147 ∷ 149 ∷ 55 ∷ 102 ∷ 37 ∷ 89 ∷ 201 ∷ 35 ∷ 143 ∷ 178 ∷ 241 ∷ 95 ∷ 3 ∷ 153 ∷ 122 ∷ 209 ∷ 190 ∷ 19 ∷ 21 ∷ 108 ∷ 160 ∷ 90 ∷ 14 ∷ 238 ∷ 150 ∷ 158 ∷ 112 ∷ 50 ∷ 98 ∷ 117 ∷ 36 ∷ zeros 4056) ∷ [])
+case_191 : step s191 ≡ Stopped kinds.Write 20488 69632 (page 5 ReadExec (zeros 8 ++ (51 ∷ 68 ∷ 66 ∷ 229 ∷ 0 ∷ 0 ∷ 0 ∷ 0 ∷ [])) ∷ page 16 ReadWrite (zeros 4070 ++ (198 ∷ 31 ∷ 129 ∷ 18 ∷ 200 ∷ 55 ∷ 162 ∷ 122 ∷ 144 ∷ 221 ∷ 43 ∷ 152 ∷ 36 ∷ 149 ∷ 20 ∷ 95 ∷ 22 ∷ 5 ∷ 207 ∷ 212 ∷ 159 ∷ 125 ∷ 233 ∷ 102 ∷ 194 ∷ 29 ∷ [])) ∷ page 17 Read (30 ∷ 18 ∷ 26 ∷ 121 ∷ 236 ∷ 107 ∷ 56 ∷ 60 ∷ 152 ∷ 147 ∷ 149 ∷ 55 ∷ 102 ∷ 37 ∷ 89 ∷ 201 ∷ 35 ∷ 143 ∷ 178 ∷ 241 ∷ 95 ∷ 3 ∷ 153 ∷ 122 ∷ 209 ∷ 190 ∷ 19 ∷ 21 ∷ 108 ∷ 160 ∷ 90 ∷ 14 ∷ 238 ∷ 150 ∷ 158 ∷ 112 ∷ 50 ∷ 98 ∷ 117 ∷ 36 ∷ zeros 4056) ∷ [])
 unfolding reads_word reads a64.add_sub_imm a64.add_sub_shifted a64.logical a64.move_wide a64.multiply_add a64.shift_variable a64.bitfield a64.select a64.branch a64.branch_if a64.branch_zero a64.ret_form a64.exception a64.nop_form a64.umov_form a64.byte_imm a64.wide_imm a64.byte_register a64.wide_register sve.true_form sve.false_form sve.while_below sve.test_form sve.pred_logic sve.break_form sve.read_ffr sve.read_ffr_zeroing sve.set_ffr sve.write_ffr sve.count sve.increment_by_count sve.count_true sve.duplicate sve.index sve.select sve.add_sub sve.logic sve.shift_imm sve.merging sve.unary sve.extend_byte sve.extend_half sve.extend_word sve.reduce sve.compare sve.load sve.load_first_fault sve.load_no_fault sve.store elements bits_of folded broken
 case_191 = refl

@@ -1,5 +1,5 @@
 -- Runs in pieces, and code that stands in memory.
-use Rattle.std.proofs.Common.{◌≡◌, ℕ, zero, suc, ◌+◌, ◌-◌, ◌*◌, ◌%◌, ◌^◌, ◌<◌, ◌≤◌, true, List, [], ◌∷◌, ◌++◌, length, Option, Some, None, refl, sym, ap, ◌∙◌, subst, arith}
+use Rattle.std.proofs.Common.{◌≡◌, ℕ, zero, suc, ◌+◌, ◌-◌, ◌*◌, ◌%◌, ◌^◌, ◌<◌, ◌≤◌, true, List, [], ◌∷◌, ◌++◌, length, Option, Some, None, refl, sym, ap, ◌∙◌, subst, arith, add-one}
 use Rattle.std.specs.Prelude.{map, slice_get}
 use Rattle.std.proofs.Math.Nat.{mod-eq_of_lt}
 use Rattle.guest_types.specs.Memory.{Memory, fetched}
@@ -53,6 +53,28 @@ went_on (Stopped k p a m) n s t e h rest = cc
 pub leads_after : (n : ℕ) (s t : State) → after_steps n s ≡ Some t → Leads n s t
 leads_after zero s t h = let e : s ≡ t = cc in subst (λ u. Leads 0 s u) e (leads_none s)
 leads_after (suc n) s t h = went_on (step s) n s t refl h (λ u e. leads_after n u t e)
+
+after_go : (o : Step) (n : ℕ) (t u : State) → ((v : State) → after_steps n v ≡ Some t → after_steps (suc n) v ≡ Some u) → elim o as (λ o. Option State) [ Went v ↦ after_steps n v | Ended result ↦ None | Stopped kind pc at memory ↦ None ] ≡ Some t → elim o as (λ o. Option State) [ Went v ↦ after_steps (suc n) v | Ended result ↦ None | Stopped kind pc at memory ↦ None ] ≡ Some u
+after_go (Went v) n t u more h = more v h
+after_go (Ended r) n t u more h = absurd cc
+after_go (Stopped k p a m) n t u more h = absurd cc
+
+one_more : (n : ℕ) (s t u : State) → after_steps n s ≡ Some t → step t ≡ Went u → after_steps (suc n) s ≡ Some u
+one_more zero s t u h e =
+    let same : s ≡ t = cc in
+    ap (λ o. elim o as (λ o. Option State) [ Went v ↦ Some v | Ended result ↦ None | Stopped kind pc at memory ↦ None ]) (ap step same ∙ e)
+one_more (suc n) s t u h e = after_go (step s) n t u (λ v k. one_more n v t u k e) h
+
+-- one more step that goes on
+pub after_more : (n : ℕ) (s t u : State) → after_steps n s ≡ Some t → step t ≡ Went u → after_steps (n + 1) s ≡ Some u
+after_more n s t u h e = ap (λ k. after_steps k s) (add-one n) ∙ one_more n s t u h e
+
+-- what a run comes to at its last step
+pub comes_to : (n steps taken : ℕ) (s t : State) (o : Step) → after_steps n s ≡ Some t → n < steps → step t ≡ o → run steps taken s ≡ go_on o t (taken + n + 1) (run (steps - n - 1) (taken + n + 1))
+comes_to n steps taken s t o h lt e =
+    let k = steps - n - 1 in
+    (leads_after n s t h).by steps (suc k) taken (omega arith)
+    ∙ ap (λ o. go_on o t (taken + n + 1) (run k (taken + n + 1))) e
 
 -- a run that comes to an end has it at every number of steps from then on
 pub ends : (n steps r : ℕ) (s t : State) → Leads n s t → step t ≡ Ended r → n + 1 ≤ steps → run steps 0 s ≡ End t.memory r (n + 1)

@@ -38,7 +38,7 @@ use Rattle.machine_model.specs.Arithmetic.{sum}
 use Rattle.word_rows.specs.Field.{Field}
 use Rattle.machine_model.specs.Run.{start}
 use Rattle.machine_model.specs.Load.{Image}
-use Rattle.machine_model.specs.Machine.{State, Went, x_at, with_x, x_or_sp, z_at, with_z, p_at, with_p, with_ffr, with_flags, next}
+use Rattle.machine_model.specs.Machine.{State, Went, x_at, with_x, x_or_sp, z_at, with_z, p_at, with_p, with_ffr, with_flags, jump, next}
 use Rattle.machine_model.specs.States.{IsVector, IsPredicate, IsState}
 use Rattle.machine_model.specs.VectorEffects.{vector_act, put_lanes, put_truths, put_tested, put_x, sized, do_logic, do_break, do_binary, do_shift, shift_value, do_merge, do_unary, do_reduce, do_compare, load_mask, lane_places, after_load, after_early, after_store, with_early}
 
@@ -114,15 +114,15 @@ zero_predicate vl = record {
   past = λ j le lt. bit-none 32 j;
 }
 
-fills : (vl : ℕ) (w : Width) → IsLength vl → width_bytes w * lanes vl w ≤ vl / 8
+pub fills : (vl : ℕ) (w : Width) → IsLength vl → width_bytes w * lanes vl w ≤ vl / 8
 fills vl w h = omega (arith, width_bytes-lanes vl w h)
 
 -- ---- parts of a state
 
-wrapped : (n : ℕ) → n % 2 ^ 64 < 2 ^ 64
+pub wrapped : (n : ℕ) → n % 2 ^ 64 < 2 ^ 64
 wrapped n = mod-lt n (lit< tt)
 
-moved : (s : State) → IsState s → IsState (next s)
+pub moved : (s : State) → IsState s → IsState (next s)
 moved s h = record {
   sized = h.sized;
   mapped = h.mapped;
@@ -137,7 +137,7 @@ moved s h = record {
   ffr_is = h.ffr_is;
 }
 
-z_kept : (s : State) (d : ℕ) (bytes : List ℕ) → IsState s → IsVector s.vl bytes → IsState (with_z s d bytes)
+pub z_kept : (s : State) (d : ℕ) (bytes : List ℕ) → IsState s → IsVector s.vl bytes → IsState (with_z s d bytes)
 z_kept s d bytes h v = record {
   sized = h.sized;
   mapped = h.mapped;
@@ -152,7 +152,7 @@ z_kept s d bytes h v = record {
   ffr_is = h.ffr_is;
 }
 
-p_kept : (s : State) (d : ℕ) (bytes : List ℕ) → IsState s → IsPredicate s.vl bytes → IsState (with_p s d bytes)
+pub p_kept : (s : State) (d : ℕ) (bytes : List ℕ) → IsState s → IsPredicate s.vl bytes → IsState (with_p s d bytes)
 p_kept s d bytes h v = record {
   sized = h.sized;
   mapped = h.mapped;
@@ -182,7 +182,7 @@ ffr_kept s bytes h v = record {
   ffr_is = v;
 }
 
-flags_kept : (s : State) (flags : Flags) → IsState s → IsState (with_flags s flags)
+pub flags_kept : (s : State) (flags : Flags) → IsState s → IsState (with_flags s flags)
 flags_kept s flags h = record {
   sized = h.sized;
   mapped = h.mapped;
@@ -197,7 +197,7 @@ flags_kept s flags h = record {
   ffr_is = h.ffr_is;
 }
 
-x_kept : (s : State) (d v : ℕ) → IsState s → v < 2 ^ 64 → IsState (with_x s d v)
+pub x_kept : (s : State) (d v : ℕ) → IsState s → v < 2 ^ 64 → IsState (with_x s d v)
 x_kept s d v h lt = record {
   sized = h.sized;
   mapped = h.mapped;
@@ -212,7 +212,37 @@ x_kept s d v h lt = record {
   ffr_is = h.ffr_is;
 }
 
-memory_kept : (s : State) (memory : Memory) → IsState s → IsMemory memory → IsState (record s { memory = memory })
+pub sp_kept : (s : State) (v : ℕ) → IsState s → v < 2 ^ 64 → IsState (record s { sp = v })
+sp_kept s v h lt = record {
+  sized = h.sized;
+  mapped = h.mapped;
+  place = h.place;
+  x_count = h.x_count;
+  x_small = h.x_small;
+  sp_small = lt;
+  z_count = h.z_count;
+  z_each = h.z_each;
+  p_count = h.p_count;
+  p_each = h.p_each;
+  ffr_is = h.ffr_is;
+}
+
+pub jumped : (s : State) (to : ℕ) → IsState s → to < 2 ^ 64 → IsState (jump s to)
+jumped s to h lt = record {
+  sized = h.sized;
+  mapped = h.mapped;
+  place = lt;
+  x_count = h.x_count;
+  x_small = h.x_small;
+  sp_small = h.sp_small;
+  z_count = h.z_count;
+  z_each = h.z_each;
+  p_count = h.p_count;
+  p_each = h.p_each;
+  ffr_is = h.ffr_is;
+}
+
+pub memory_kept : (s : State) (memory : Memory) → IsState s → IsMemory memory → IsState (record s { memory = memory })
 memory_kept s memory h m = record {
   sized = h.sized;
   mapped = m;
@@ -265,7 +295,7 @@ start_is image args pages vl sized few small m1 m2 apart entry = record {
 
 -- ---- the shapes of rows
 
-same_state : {u t : State} → Went u ≡ Went t → IsState u → IsState t
+pub same_state : {u t : State} → Went u ≡ Went t → IsState u → IsState t
 same_state {u = u} {t = t} e h = let f : u ≡ t = cc in subst IsState f h
 
 pub lanes_put : (s t : State) (d : ℕ) (w : Width) (f : ℕ → ℕ) → IsState s → put_lanes s d w f ≡ Went t → IsState t
@@ -313,7 +343,7 @@ pub load_put : (s t : State) (d : ℕ) (o : Option AccessFault) (w : Width) (f :
 load_put s t d None w f ffr h e = lanes_put s t d w f h e
 load_put s t d (Some fault) w f ffr h e = absurd cc
 
-cleared_is : (vl : ℕ) (w : Width) (o : Option ℕ) (ffr : List ℕ) → IsPredicate vl ffr → IsLength vl → IsPredicate vl (cleared_from w o ffr)
+pub cleared_is : (vl : ℕ) (w : Width) (o : Option ℕ) (ffr : List ℕ) → IsPredicate vl ffr → IsLength vl → IsPredicate vl (cleared_from w o ffr)
 cleared_is vl w None ffr p h = p
 cleared_is vl w (Some e) ffr p h = predicate_made vl (kept_bit ffr (width_bytes w * e)) (λ j le. and_left (bit ffr j) (nat_lt j (width_bytes w * e)) (none_past ffr j p le))
   where
@@ -343,7 +373,7 @@ store_put s t (StoreFault fault m) is h e = absurd cc
 
 -- ---- counts
 
-lanes_small : (vl : ℕ) (w : Width) → IsLength vl → lanes vl w < 257
+pub lanes_small : (vl : ℕ) (w : Width) → IsLength vl → lanes vl w < 257
 lanes_small vl B h = omega arith
 lanes_small vl H h = omega arith
 lanes_small vl S h = omega arith
@@ -361,7 +391,7 @@ unfolding folded
 counted w pg p zero = omega arith
 counted w pg p (suc n) = one_more (active w pg n && active w p n) (folded plus 0 (count_at w pg p) n) n (counted w pg p n)
 
-count_small : (vl : ℕ) (w : Width) (pg p : List ℕ) → IsLength vl → count_of w (lanes vl w) pg p < 2 ^ 64
+pub count_small : (vl : ℕ) (w : Width) (pg p : List ℕ) → IsLength vl → count_of w (lanes vl w) pg p < 2 ^ 64
 count_small vl w pg p h = in_64 (count_of w (lanes vl w) pg p) (omega (arith, counted w pg p (lanes vl w), lanes_small vl w h))
 
 -- ---- every row

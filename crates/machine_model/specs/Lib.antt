@@ -10,5 +10,6 @@ pub mod Load
 pub mod Written
 pub mod Run
 pub mod Answers
+pub mod Debugged
 pub mod OutcomeText
 pub mod DumpText

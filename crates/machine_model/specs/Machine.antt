@@ -66,3 +66,9 @@ pub data Step : Type 0 where
   Went : (state : State) → Step
   Ended : (result : ℕ) → Step
   Stopped : (kind : StopKind) (pc at : ℕ) (memory : Memory) → Step
+
+-- the memory that a step leaves
+abbrev pub memory_after : Step → State → Memory
+memory_after (Went state) s = state.memory
+memory_after (Ended result) s = s.memory
+memory_after (Stopped kind pc at memory) s = memory

@@ -1,22 +1,20 @@
 -- One step of the machine: the fetch, the instruction of the word, and what it does.
 use Rattle.std.specs.Prelude.{ℕ, Bool, false, Option, Some, None}
 use Rattle.guest_types.specs.Memory.{fetched}
-use Rattle.word_rows.specs.Row.{spells}
-use Rattle.sve_code.specs.Table as sve
 use Rattle.machine_model.specs.declared.outcome.StopKind.TheVariants.{Fetch, Undefined}
 use Rattle.machine_model.specs.Machine.{State, Step, Stopped}
 use Rattle.machine_model.specs.Effects.{act}
-use Rattle.machine_model.specs.VectorEffects.{vector_cut, field_of}
+use Rattle.machine_model.specs.VectorEffects.{do_vector, vector_cut, field_of}
 use Rattle.machine_model.specs.InstructionTable.{Listed, Scalar, Vector, listed}
 
 -- the instruction of a word, in either table
 unfoldable pub reads_word : ℕ → Option Listed
 reads_word word = listed word
 
--- What an instruction does. The words of SVE instructions are undefined here: the machine takes none of them yet.
+-- what an instruction does
 abbrev pub does : Listed → State → Step
 does (Scalar i) s = act i.name i.numbers s
-does (Vector v) s = Stopped Undefined s.pc (spells sve.row v) s.memory
+does (Vector v) s = do_vector v s
 
 -- what the word at PC does, where there is one
 abbrev pub do_word : Option ℕ → State → Step

@@ -1,8 +1,9 @@
 -- What holds of every state of a run: the lengths of its lists, the bounds of its numbers, and zeros past the vector length.
 use Rattle.std.specs.Prelude.{◌≡◌, ℕ, ◌-◌, ◌/◌, ◌^◌, ◌<◌, ◌≤◌, false, List, length, drop, replicate, All}
 use Rattle.guest_types.specs.Length.{IsLength}
-use Rattle.guest_types.specs.Memory.{IsMemory}
+use Rattle.guest_types.specs.Memory.{Memory, IsMemory, DoNotMeet}
 use Rattle.guest_types.specs.Elements.{bit}
+use Rattle.machine_model.specs.Load.{Image}
 use Rattle.machine_model.specs.Machine.{State}
 
 pub record IsVector (vl : ℕ) (bytes : List ℕ) : Type 0 where
@@ -27,3 +28,13 @@ pub record IsState (s : State) : Type 0 where
   pub p_count : length s.p ≡ 16
   pub p_each : All (IsPredicate s.vl) s.p
   pub ffr_is : IsPredicate s.vl s.ffr
+
+-- what a run starts from: an image and pages that do not meet, arguments of 64 bits for the registers, and a vector length
+pub record CanStart (image : Image) (args : List ℕ) (pages : Memory) (vl : ℕ) : Type 0 where
+  pub sized : IsLength vl
+  pub few : length args ≤ 31
+  pub small : All (λ v. v < 2 ^ 64) args
+  pub loaded : IsMemory image.pages
+  pub mapped : IsMemory pages
+  pub apart : DoNotMeet image.pages pages
+  pub place : image.entry < 2 ^ 64

@@ -1,16 +1,19 @@
-//! Laws of the definitions: that no word is in both tables, what runs owe one another, and what a written file is
-//! loaded as.
+//! Laws of the definitions: that no word is in both tables, what runs owe one another, that states keep their shape,
+//! that code stays, and what a written file is loaded as.
 
 ghost use Rattle.std.specs.Prelude.{◌≡◌, ℕ, ◌+◌, ◌*◌, ◌^◌, ◌<◌, ◌≤◌, true, List, length, slice_get, Some, None, Ok, All};
 ghost use Rattle.guest_types.specs.Memory.{Memory, DoNotMeet, fetched, merged};
+ghost use Rattle.guest_types.specs.EarlyLoads.{never};
 ghost use Rattle.word_rows.specs.Row.{Instruction, reads};
 ghost use Rattle.a64_code.specs.Table as a64;
 ghost use Rattle.sve_code.specs.Table as sve;
-ghost use Rattle.machine_model.specs.Machine.{State};
+ghost use Rattle.machine_model.specs.Machine.{State, Went, memory_after};
 ghost use Rattle.machine_model.specs.InstructionTable.{Vector, listed};
-ghost use Rattle.machine_model.specs.Load.{load};
+ghost use Rattle.machine_model.specs.Load.{Image, load};
 ghost use Rattle.machine_model.specs.Written.{file_of, code_base, image_of_words};
-ghost use Rattle.machine_model.specs.Run.{Spent, run, after_steps, is_over, steps_taken};
+ghost use Rattle.machine_model.specs.OneStep.{step};
+ghost use Rattle.machine_model.specs.Run.{Spent, run, start, after_steps, is_over, steps_taken};
+ghost use Rattle.machine_model.specs.States.{IsState, CanStart};
 
 /// No word is both an A64 and an SVE instruction, so the SVE instruction of a word is what the joint table has for it.
 pub fn no_word_in_both_tables()
@@ -29,6 +32,26 @@ pub fn runs_settle()
     ensures settled { (n m taken : ℕ) (s : State) → n ≤ m → is_over (run n taken s) ≡ true → run m taken s ≡ run n taken s }
     ensures within { (n taken : ℕ) (s : State) → steps_taken (run n taken s) ≤ taken + n }
 {}
+
+/// The start of a run is a state, and each step that goes on leads to one, whatever the word.
+pub fn states_keep_shape()
+    ensures start { (image : Image) (args : List ℕ) (pages : Memory) (vl : ℕ) → CanStart image args pages vl
+        → IsState (start image args pages vl) }
+    ensures step { (s t : State) → IsState s → step s ≡ Went t → IsState t }
+    ensures steps { (n : ℕ) (s t : State) → IsState s → after_steps n s ≡ Some t → IsState t }
+{}
+
+/// A word that can be fetched stays as it is, whatever a step comes to.
+pub fn code_stays()
+    ensures { (s : State) (a : ℕ) → a < 2 ^ 64 → fetched (memory_after (step s) s) a ≡ fetched s.memory a }
+{}
+
+/// A run that begins with no stop list has none after any step that goes on.
+pub fn quiet_stays()
+    ensures step { (s t : State) → s.stops ≡ never → step s ≡ Went t → t.stops ≡ never }
+    ensures steps { (n : ℕ) (s t : State) → s.stops ≡ never → after_steps n s ≡ Some t → t.stops ≡ never }
+{}
+
 /// A written file is loaded as the image of its words, beside any pages that do not meet it, with each word in its place.
 pub fn written_file_loads()
     ensures loads { (words : List ℕ) → length words ≤ 65536 → load (file_of words) ≡ Ok (image_of_words words) }

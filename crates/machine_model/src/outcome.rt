@@ -41,3 +41,10 @@ pub enum Outcome {
     Stop(Stop),
     Spent,
 }
+
+/// How a machine came to its last step, which is answered again from then on.
+#[derive(Clone, Copy, Debug, PartialEq, Eq)]
+pub enum Ending {
+    Ended,
+    Stopped(Stop),
+}
