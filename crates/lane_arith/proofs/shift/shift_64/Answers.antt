@@ -1,0 +1,37 @@
+use Rattle.std.proofs.Common.{ℕ, ◌-◌, ◌*◌, ◌/◌, ◌%◌, ◌+◌, ◌^◌, ltb, refl, subst, w8, w64}
+use Rattle.std.proofs.lemmas.Simd.{below_from_Fits}
+use Rattle.guest_types.specs.declared.length.Width.TheVariants.{D}
+use Rattle.guest_types.specs.declared.operation.ShiftOp.TheVariants.{Lsr, Asr}
+use Rattle.guest_types.specs.Elements.{at}
+use Rattle.guest_types.specs.Lanes.{ShiftFits, shift_at}
+use Rattle.lane_blocks.proofs.Lanes.{IsLanes, lanes-is, lanes-ext, lanes-wide, lanes-zip, lanes-splat, lanes-select, lanes-to_bytes}
+use Rattle.lane_blocks.proofs.Masks.{element-small}
+use Rattle.lane_arith.proofs.Shifted.{by-shift, two-steps, filled}
+use Rattle.lane_arith.proofs.shift.shift_64.Goals as goal
+use Rattle.lane_arith.proofs.shift.shift_64.Goals.{in-Lsl, in-Lsr, in-Asr}
+
+pub returns : goal.returns
+returns c =
+    let a = c.args.a in
+    let count = c.args.count in
+    let m : ℕ = 18446744073709551616 in
+    let sa = below_from_Fits w8 a c.fits-a.1 in
+    let x = lanes-wide 8 m 4 a refl sa in
+    let down : ℕ → ℕ → ℕ = λ x s. x / 2 ^ s in
+    let low = lanes-zip down (lanes-zip down x (lanes-splat 4 (count - 1))) (lanes-splat 4 1) in
+    let lanes : IsLanes 4 (shift_at c.args.op D a count) c.match-op.outcome =
+    elim c.match-op.branch [
+      | in-Lsl w ↦ by-shift D a count w.in-Lsl.is (lanes-is w.outcome-is (lanes-zip (λ x s. x * 2 ^ s % m) x (lanes-splat 4 count)))
+      | in-Lsr w ↦
+          let fits = subst (λ op. ShiftFits op D count) w.in-Lsr.is c.requires in
+          by-shift D a count w.in-Lsr.is (lanes-ext (shift_at Lsr D a count) (lanes-is w.outcome-is low) (λ e l. two-steps (at D a e) count fits.0))
+      | in-Asr w ↦
+          let fits = subst (λ op. ShiftFits op D count) w.in-Asr.is c.requires in
+          let top = w.max-top.result in
+          let fill : ℕ = top - w.shifted_down.result in
+          let sign = lanes-select w64 ltb x (lanes-splat 4 (m / 2)) (lanes-splat 4 0) (lanes-splat 4 fill) in
+          by-shift D a count w.in-Asr.is
+          (lanes-ext (shift_at Asr D a count) (lanes-is w.outcome-is (lanes-zip (λ x y. (x + y) % m) low sign))
+          (λ e l. filled D (at D a e) count top w.shifted_down.result fill (element-small D a e sa) w.max-top.ensures fits.0 fits.1 w.shifted_down.ensures refl))
+    ] in
+    lanes-to_bytes 8 m refl lanes (below_from_Fits w64 c.match-op.outcome c.match-op.auto.outcome.1)

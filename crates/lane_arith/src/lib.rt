@@ -1,0 +1,12 @@
+//! The kernels of vector arithmetic: each gives the elements of a whole register, 32 bytes at a
+//! time.
+#![tactic(auto)]
+
+pub mod binary;
+pub mod fill;
+pub mod merge;
+pub mod reduce;
+pub mod shift;
+#[cfg(test)]
+mod tests;
+pub mod unary;

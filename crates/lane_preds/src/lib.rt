@@ -1,0 +1,10 @@
+//! The kernels of predicates: each gives a whole predicate register, a count or the flags.
+#![tactic(auto)]
+
+mod bits;
+pub mod compare;
+pub mod logic;
+pub mod make;
+pub mod test;
+#[cfg(test)]
+mod tests;
