@@ -10,14 +10,14 @@ use Rattle.guest_types.proofs.Writes.{put_byte-unmapped}
 use Rattle.paged_memory.specs.declared.head.Head.{Head}
 use Rattle.paged_memory.specs.Layout.{memory_of, head_numbers, IsLaidOut, StandsAt}
 use Rattle.paged_memory.specs.Numbers.{number_in, with_number}
-use Rattle.paged_memory.proofs.Places.{ascending, no_head, page_of, page_at-stands, page_at-no_head, length-page_of, number_in-page_of}
+use Rattle.paged_memory.proofs.Places.{no_head, page_of, page_at-stands, page_at-no_head, length-page_of, number_in-page_of}
 use Rattle.paged_memory.proofs.Within.{number-within, loaded-within}
 use Rattle.paged_memory.proofs.Puts.{put_number-stands, laid-with_number, stored-stands}
 
 -- ---- heads that were read
 
 pub rising : (heads read : List Head) (bs : List ℕ) → read ≡ heads → IsLaidOut heads bs → IsStrictlyIncreasing (head_numbers read)
-rising heads read bs same laid = subst (λ (l : List Head). IsStrictlyIncreasing (head_numbers l)) (sym same) (ascending heads bs laid)
+rising heads read bs same laid = subst (λ (l : List Head). IsStrictlyIncreasing (head_numbers l)) (sym same) laid.ascending
 
 pub stands : (heads read : List Head) (n i : ℕ) → read ≡ heads → StandsAt read n i → StandsAt heads n i
 stands heads read n i same here = subst (λ (l : List Head). StandsAt l n i) same here

@@ -1,5 +1,7 @@
 pub mod Bytes
+mod Examples
 pub mod Found
+pub mod LoanLaws
 pub mod Merging
 pub mod Places
 pub mod Puts

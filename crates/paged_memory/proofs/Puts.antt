@@ -1,28 +1,18 @@
 -- Writes within one page of a memory, among the bytes of all pages.
-use Rattle.std.proofs.Common.{◌≡◌, ◌≢◌, ℕ, zero, suc, ◌+◌, ◌*◌, ◌/◌, ◌%◌, ◌^◌, ◌<◌, ◌≤◌, true, List, [], ◌∷◌, length, take, drop, Ok, refl, sym, ap, ap₂, ◌∙◌, subst, arith}
+use Rattle.std.proofs.Common.{◌≡◌, ℕ, zero, suc, ◌+◌, ◌*◌, ◌/◌, ◌%◌, ◌^◌, ◌<◌, ◌≤◌, true, List, [], ◌∷◌, length, take, drop, Ok, refl, sym, ap, ap₂, ◌∙◌, arith}
 use Rattle.std.specs.Prelude.{slice_index, slice_set}
 use Rattle.std.proofs.Math.Nat.{mul-suc}
 use Rattle.std.proofs.Math.Seq.{take-set-lt}
 use Rattle.std.proofs.lemmas.Bool.{cond-true, cond-false, eq-eqb, ne_eqb}
-use Rattle.std.proofs.lemmas.List.{length-set, length-map, take-set-le, drop-set-lt, drop-set-add}
-use Rattle.guest_types.specs.Memory.{IsMemory, put_byte, put_number, after, is_writable, stored}
-use Rattle.guest_types.proofs.Stores.{IsMemory-put_number, stored-done}
+use Rattle.std.proofs.lemmas.List.{length-set, take-set-le, drop-set-lt, drop-set-add}
+use Rattle.guest_types.specs.Memory.{put_byte, put_number, after, is_writable, stored}
+use Rattle.guest_types.proofs.Stores.{stored-done}
 use Rattle.paged_memory.specs.declared.head.Head.{Head}
 use Rattle.paged_memory.specs.Layout.{memory_of, head_numbers, IsLaidOut, StandsAt}
 use Rattle.paged_memory.specs.Numbers.{with_number}
 use Rattle.paged_memory.proofs.Bytes.{with_number-zero, with_number-suc, length-with_number}
-use Rattle.paged_memory.proofs.Places.{number-below, ascending, page_of, page_at-stands}
+use Rattle.paged_memory.proofs.Places.{IsFirst, first-stands, page_of, page_at-stands}
 use Rattle.paged_memory.proofs.Within.{writable-within}
-
--- no page before the place has the number
-abbrev pub IsFirst : List Head → ℕ → ℕ → Type 0
-IsFirst heads n i = (k : ℕ) → k < i → slice_index (head_numbers heads) k ≢ n
-
-first-stands : (heads : List Head) (bs : List ℕ) (n i : ℕ) → IsLaidOut heads bs → StandsAt heads n i → IsFirst heads n i
-first-stands heads bs n i laid here k l e =
-    let long = length-map heads (λ (head : Head). head.number) in
-    let up = number-below (head_numbers heads) k i (ascending heads bs laid) l (omega (arith, here.below, long)) in
-    omega (arith, up, here.here, e)
 
 put_byte-first : (heads : List Head) (bs : List ℕ) (a b i : ℕ) → i < length heads → slice_index (head_numbers heads) i ≡ a / 4096 → IsFirst heads (a / 4096) i → put_byte (memory_of heads bs) a b ≡ memory_of heads (slice_set bs (4096 * i + a % 4096) b)
 put_byte-first [] bs a b i l here first = absurd (omega arith)
@@ -69,7 +59,8 @@ put_number-stands heads bs a s v i laid stands low fits =
 
 pub laid-with_number : (heads : List Head) (bs : List ℕ) (a s v i : ℕ) → IsLaidOut heads bs → StandsAt heads (a / 4096) i → a < 2 ^ 64 → a % 4096 + s ≤ 4096 → IsLaidOut heads (with_number bs (4096 * i + a % 4096) s v)
 laid-with_number heads bs a s v i laid stands low fits = record {
-  memory = subst IsMemory (put_number-stands heads bs a s v i laid stands low fits) (IsMemory-put_number (memory_of heads bs) a s v laid.memory);
+  ascending = laid.ascending;
+  below = laid.below;
   whole = length-with_number bs (4096 * i + a % 4096) s v (omega (arith, stands.below, laid.whole)) ∙ laid.whole;
   few = laid.few;
 }

@@ -1,6 +1,7 @@
 -- How the pages of a guest lie: their heads in order, and beside them the bytes of all pages one after another.
-use Rattle.std.specs.Prelude.{◌≡◌, ℕ, ◌*◌, ◌≤◌, ◌<◌, List, [], ◌∷◌, map, length, take, drop, slice_index, nat_le, Bool, true, false}
-use Rattle.guest_types.specs.Memory.{Memory, IsMemory}
+use Rattle.std.specs.Prelude.{◌≡◌, ℕ, ◌*◌, ◌^◌, ◌≤◌, ◌<◌, List, [], ◌∷◌, map, length, take, drop, slice_index, nat_le, Bool, true, false, All}
+use Rattle.std.specs.List.Sorted.{IsStrictlyIncreasing}
+use Rattle.guest_types.specs.Memory.{Memory}
 use Rattle.paged_memory.specs.declared.head.Head.{Head}
 
 -- the memory whose pages have these heads and these bytes, of which each page has 4,096
@@ -13,9 +14,10 @@ memory_of (head ∷ heads) bs =
 abbrev pub head_numbers : List Head → List ℕ
 head_numbers heads = map (λ head. head.number) heads
 
--- heads and bytes of a memory of at most 16,384 pages
+-- heads in order and the bytes of as many pages, of which there are at most 16,384
 pub record IsLaidOut (heads : List Head) (bs : List ℕ) : Type 0 where
-  pub memory : IsMemory (memory_of heads bs)
+  pub ascending : IsStrictlyIncreasing (head_numbers heads)
+  pub below : All (λ number. number < 2 ^ 36) (head_numbers heads)
   pub whole : length bs ≡ 4096 * length heads
   pub few : length heads ≤ 16384
 

@@ -1,3 +1,4 @@
 pub mod Layout
 pub mod Numbers
 pub mod Runs
+pub mod Loans

@@ -3,7 +3,7 @@
 
 mod head;
 mod merge;
-mod number;
+pub mod number;
 pub mod pages;
 mod place;
 #[cfg(test)]

@@ -1,4 +1,4 @@
-// Numbers of 1, 2, 4 and 8 bytes among the bytes of all pages.
+//! Numbers of 1, 2, 4 and 8 bytes among others, as one access each.
 
 ghost use Rattle.std.specs.Prelude.{◌≡◌, ◌+◌, ◌≤◌, ◌⊎◌, length};
 ghost use Rattle.paged_memory.specs.Numbers.{number_in, with_number};

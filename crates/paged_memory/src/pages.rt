@@ -1,7 +1,8 @@
 // The pages of a guest.
 
-ghost use Rattle.std.specs.Prelude.{◌≡◌, ℕ, ◌+◌, ◌^◌, ◌<◌, ◌≤◌, length, Ok, Err, OnOk, OnErr, IfOk, IfErr};
-ghost use Rattle.guest_types.specs.Memory.{byte_at, byte_or_zero, can_read, can_write, first_fault, loaded, stored, number_at, put_byte, put_number, fetched, merged, DoNotMeet};
+ghost use Rattle.std.specs.Prelude.{◌≡◌, ℕ, ◌+◌, ◌^◌, ◌<◌, ◌≤◌, length, Ok, Err, OnOk, OnErr, IfOk, IfErr, All};
+ghost use Rattle.guest_types.specs.Spans.{in_one_page, has_span, has_span_mut, span_of};
+ghost use Rattle.guest_types.specs.Memory.{IsMemory, byte_at, byte_or_zero, can_read, can_write, first_fault, loaded, stored, number_at, put_byte, put_number, fetched, merged, DoNotMeet};
 
 use crate::head::Head;
 use crate::merge::lay_out;
@@ -187,6 +188,142 @@ impl Pages {
                 Ok(())
             }
         }
+    }
+}
+
+// What callers may rest on of bytes. It does nothing.
+#[inline(always)]
+fn are_bytes(bytes: &[u8])
+    ensures { All (λ b. b < 256) bytes.now }
+{
+    let _ = bytes;
+}
+
+// Whether a range is not empty and does not go past the end of its page.
+#[inline(always)]
+fn in_one_page(address: u64, len: u32) -> bool
+    ensures { result ≡ in_one_page address len }
+{
+    (1 <= len) & (address % 4096 + u64::from(len) <= 4096)
+}
+
+impl Pages {
+    ghost use Rattle.std.specs.Prelude.{◌*◌, List, true, IsTrue, IsSome, IfSome, ◌↔◌};
+    ghost use Rattle.std.specs.Borrow.{Array, Lends, sem, u8};
+    ghost use Rattle.paged_memory.specs.contracts.pages.Pages.{the_row};
+    ghost use Rattle.paged_memory.specs.Loans.{run_of, with_run, after_loan};
+
+    fn can_read(&self, address: u64) -> bool
+        ensures { result ≡ can_read self.now address }
+    {
+        match read_place_of(&self.heads, &self.recent, address / 4096) {
+            Some(_place) => true,
+            None => false,
+        }
+    }
+
+    /// Whether a range is not empty and lies in one page.
+    #[inline(always)]
+    pub fn has_span(&self, address: u64, len: u32) -> bool
+        ensures { result ≡ has_span self.now address len }
+    {
+        in_one_page(address, len) && self.can_read(address)
+    }
+
+    /// Whether a range is not empty and lies in one page that may be written.
+    #[inline(always)]
+    pub fn has_span_mut(&self, address: u64, len: u32) -> bool
+        ensures { result ≡ has_span_mut self.now address len }
+    {
+        in_one_page(address, len) && self.can_write(address)
+    }
+
+    /// Lends the bytes of a range in one page.
+    pub fn lend(&self, address: u64, len: u32) -> &[u8]
+        requires { has_span self.now address len ≡ true }
+        ensures value { result.now ≡ span_of self.now address len }
+        ensures len { length result.now ≡ len }
+    {
+        let start = self.read_start(address, len);
+        &self.bytes[start..start + len as usize]
+    }
+
+    /// The bytes of a range, where it is not empty and lies in one page.
+    pub fn span(&self, address: u64, len: u32) -> Option<&[u8]>
+        ensures some { IsSome result ↔ IsTrue (has_span self.now address len) }
+        ensures value { IfSome result (λ part. part.now ≡ span_of self.now address len) }
+    {
+        if !self.has_span(address, len) {
+            return None;
+        }
+        Some(self.lend(address, len))
+    }
+
+    /// What callers may rest on: the numbers of the pages ascend and are below 2^36, and each page
+    /// has 4,096 bytes. It does nothing.
+    #[inline(always)]
+    pub fn is_memory(&self)
+        ensures { IsMemory self.now }
+    {
+        are_bytes(&self.bytes);
+    }
+
+    // The place of a span's first byte among the bytes of all pages.
+    #[inline(always)]
+    fn read_start(&self, address: u64, len: u32) -> usize
+        requires { has_span self.now address len ≡ true }
+        ensures inside { result + len ≤ 4096 * length self.now }
+        ensures part { run_of self.now result len ≡ span_of self.now address len }
+    {
+        match read_place_of(&self.heads, &self.recent, address / 4096) {
+            Some(place) => 4096 * place + (address % 4096) as usize,
+            None => 0,
+        }
+    }
+
+    // The same of a span that may be written.
+    #[inline(always)]
+    fn start(&self, address: u64, len: u32) -> usize
+        requires { has_span_mut self.now address len ≡ true }
+        ensures inside { result + len ≤ 4096 * length self.now }
+        ensures part { run_of self.now result len ≡ span_of self.now address len }
+        ensures loan { (bytes : List ℕ) → with_run self.now result bytes ≡ after_loan self.now address len bytes }
+    {
+        match place_of(&self.heads, &self.recent.written, address / 4096) {
+            Some(place) => 4096 * place + (address % 4096) as usize,
+            None => 0,
+        }
+    }
+
+    fn run_mut(&mut self, start: usize, len: usize) -> &mut [u8]
+        requires { start + len ≤ 4096 * length self.old }
+        ensures* writes_back { sem 𝓛 (Lends the_row (Array u8 0) self.entry result (with_run self.old start)) }
+        ensures value { result.now ≡ run_of self.old start len }
+        ensures len { length result.now ≡ len }
+    {
+        self.bytes.slice_mut(start..start + len)
+    }
+
+    /// Lends the bytes of a range in one page that may be written.
+    pub fn lend_mut(&mut self, address: u64, len: u32) -> &mut [u8]
+        requires { has_span_mut self.old address len ≡ true }
+        ensures* writes_back { sem 𝓛 (Lends the_row (Array u8 0) self.entry result (after_loan self.old address len)) }
+        ensures value { result.now ≡ span_of self.old address len }
+        ensures len { length result.now ≡ len }
+    {
+        let start = self.start(address, len);
+        self.run_mut(start, len as usize)
+    }
+
+    /// The bytes of a range in one page that may be written.
+    pub fn span_mut(&mut self, address: u64, len: u32) -> Option<&mut [u8]>
+        ensures some { IsSome result ↔ IsTrue (has_span_mut self.old address len) }
+        ensures value { IfSome result (λ r. r.now ≡ span_of self.old address len) }
+    {
+        if !self.has_span_mut(address, len) {
+            return None;
+        }
+        Some(self.lend_mut(address, len))
     }
 }
 

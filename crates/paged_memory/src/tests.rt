@@ -140,3 +140,21 @@ fn most_pages(rt: HostRuntime) -> Result<(), Fail> {
     assert!(rt; pages.byte(0x4ff_f000) == None);
     Ok(())
 }
+
+#[test]
+fn spans(rt: HostRuntime) -> Result<(), Fail> {
+    let mut pages = built(rt.alloc(), 0x1000, 2, Perm::ReadWrite)?;
+    if let Some(part) = pages.span_mut(0x100_0ffe, 2) {
+        part[0] = 0x11;
+        part[1] = 0x22;
+    }
+    assert!(rt; pages.load(0x100_0ffc, 8) == Ok(0xd503_201f_2211_0000));
+    assert!(rt; pages.span(0x100_0ffe, 2) == Some(&[0x11, 0x22]));
+    assert!(rt; pages.span(0x100_0ffe, 3).is_none());
+    assert!(rt; pages.span(0x100_1ffc, 4).is_some());
+    assert!(rt; pages.span(0x100_2000, 1).is_none());
+    assert!(rt; pages.span(0x100_0000, 0).is_none());
+    assert!(rt; pages.span(0x40_0000, 4096).is_some());
+    assert!(rt; pages.span_mut(0x40_0000, 4).is_none());
+    Ok(())
+}

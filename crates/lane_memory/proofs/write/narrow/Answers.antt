@@ -1,0 +1,37 @@
+use Rattle.std.proofs.Common.{◌≡◌, ◌+◌, ◌*◌, sym, ap, ◌∙◌, subst, arith}
+use Rattle.guest_types.specs.Length.{width_bytes}
+use Rattle.paged_memory.specs.Numbers.{number_in, with_number}
+use Rattle.lane_memory.specs.Writings.{IsWritten}
+use Rattle.lane_memory.proofs.WriteLaws.{Under, under-none, under-on, under-off}
+use Rattle.lane_memory.proofs.write.narrow.Goals as goal
+use Rattle.lane_memory.proofs.write.narrow.Goals.{then-is_active, else-is_active}
+
+pub loop-i-init : goal.loop-i-init
+loop-i-init c = under-none c.args.writing c.args.pg.now.bits c.args.z.now.bytes c.args.from c.args.count c.args.part.now
+
+pub loop-i-preserved : goal.loop-i-preserved
+loop-i-preserved c =
+    let w = c.args.writing in
+    let pg = c.args.pg.now.bits in
+    let z = c.args.z.now.bytes in
+    let from = c.args.from in
+    let i = c.loop-i.i in
+    let old = c.args.part.now in
+    let was = c.loop-i.part in
+    let m = width_bytes w.memory in
+    let k = width_bytes w.element in
+    elim c.if-is_active.branch [
+      | then-is_active v ↦
+          let number : v.number-value.result ≡ number_in z (k * (from + i)) k = v.number-value.ensures ∙ ap (λ k. number_in z (k * (from + i)) k) c.requires.element in
+          let put : v.put_number.new.bytes ≡ with_number was (m * i) m v.number-value.result = v.put_number.ensures ∙ ap (λ m. with_number was (m * i) m v.number-value.result) c.requires.memory in
+          subst (Under w pg z from c.args.count (i + 1) old) (sym v.part-is)
+          (under-on w pg z from c.args.count i v.number-value.result old was v.put_number.new.bytes c.loop-i.invariant c.loop-i-test.true c.requires.part (sym v.if-is_active.ensures) number put)
+      | else-is_active v ↦
+          subst (Under w pg z from c.args.count (i + 1) old) (sym v.part-is)
+          (under-off w pg z from c.args.count i old was c.loop-i.invariant c.loop-i-test.true (sym v.if-is_active.ensures))
+    ]
+
+pub returns : goal.returns
+returns c =
+    let all : c.loop-i.i ≡ c.args.count = omega (arith, c.loop-i-test.false, c.loop-i.auto.i-end) in
+    subst (λ i. IsWritten c.args.writing c.args.pg.now.bits c.args.z.now.bytes c.args.from i c.args.part.now c.loop-i.part) all c.loop-i.invariant.done

@@ -1,0 +1,4 @@
+pub mod Loads
+pub mod Readings
+pub mod StopLists
+pub mod Writings

@@ -1,0 +1,69 @@
+// The elements of a load that nothing refuses.
+
+ghost use Rattle.std.specs.Prelude.{◌≡◌, ◌<◌, ◌≤◌, None, false};
+ghost use Rattle.guest_types.specs.Length.{all_lanes};
+ghost use Rattle.guest_types.specs.Elements.{first_true};
+ghost use Rattle.lane_memory.specs.Readings.{refused_of, lanes_of, HoldsLanes, IsRead};
+
+use crate::copy::copy_part;
+use crate::keep::{is_whole, keep_active};
+use crate::range::active_range;
+use crate::reading::{Reading, count_in_page};
+use guest_types::guest::GuestMemory;
+use guest_types::predicate::PReg;
+use guest_types::register::ZReg;
+use paged_memory::pages::Pages;
+
+/// One element, where it is active.
+#[cold]
+#[inline(never)]
+fn copy_one(pages: &Pages, reading: Reading, pg: &PReg, e: usize, out: &mut ZReg)
+    requires inside { e < all_lanes reading.element }
+    requires read { refused_of reading pages.now pg.now.bits e ≡ false }
+    ensures { IsRead reading pages.now pg.now.bits e out.old.bytes out.new.bytes }
+{
+    pages.is_memory();
+    is_whole(out);
+    if pg.is_active(reading.element, e) {
+        let size = reading.memory.bytes() as u32;
+        if let Ok(value) = pages.load(reading.place(e), size) {
+            out.put(reading.element, e, reading.extend(value));
+        }
+    }
+}
+
+/// The active elements from one place up to another: all that stand in one page at once, and those
+/// across an edge, or in a page that is not mapped, one by one.
+fn copy_active(pages: &Pages, reading: Reading, pg: &PReg, from: usize, to: usize, out: &mut ZReg)
+    requires order { from ≤ to }
+    requires inside { to ≤ all_lanes reading.element }
+    requires read { first_true (refused_of reading pages.now pg.now.bits) to 0 ≡ None }
+    ensures { HoldsLanes reading pages.now pg.now.bits from to out.new.bytes }
+{
+    pages.is_memory();
+    let size = reading.memory.bytes();
+    let mut e = from;
+    while e < to {
+        let address = reading.place(e);
+        let count = count_in_page(address, size, to - e);
+        let len = (size * count) as u32;
+        if pages.has_span(address, len) {
+            copy_part(reading, pages.lend(address, len), e, count, out);
+            e += count;
+        } else {
+            copy_one(pages, reading, pg, e, out);
+            e += 1;
+        }
+    }
+}
+
+/// The first elements of a load, and zeros above them.
+pub fn fill(pages: &Pages, reading: Reading, pg: &PReg, lanes: usize, out: &mut ZReg)
+    requires inside { lanes ≤ all_lanes reading.element }
+    requires read { first_true (refused_of reading pages.now pg.now.bits) lanes 0 ≡ None }
+    ensures { out.new.bytes ≡ lanes_of reading pages.now pg.now.bits lanes }
+{
+    let range = active_range(pg, reading.element, lanes);
+    copy_active(pages, reading, pg, range.from, range.to, out);
+    keep_active(out, reading.element, pg, lanes);
+}

@@ -1,0 +1,155 @@
+//! Loads of lanes: LD1, LDFF1 and LDNF1.
+
+ghost use Rattle.std.specs.Prelude.{◌≡◌, ◌≤◌, ℕ, List, Some, Ok, Err, IfOk, IfErr, OnOk, OnErr};
+ghost use Rattle.guest_types.specs.Length.{all_lanes};
+ghost use Rattle.guest_types.specs.Elements.{first_true};
+ghost use Rattle.guest_types.specs.LaneMemory.{fault_at as fault_of, plain_load};
+ghost use Rattle.guest_types.specs.EarlyLoads.{first_fault_early};
+ghost use Rattle.lane_memory.specs.Readings.{form_of, place_of, on_of, refused_of, IsFreeFrom};
+ghost use Rattle.lane_memory.specs.Loads.{load_of, left_by, left_by_plain, left_by_first};
+
+use crate::early::load_early;
+use crate::fill::fill;
+use crate::reading::Reading;
+use crate::refusal::{fault_at, first_active, first_refused};
+use crate::suppress::Suppress;
+use guest_types::length::Vl;
+use guest_types::memory::AccessFault;
+use guest_types::predicate::PReg;
+use guest_types::register::ZReg;
+use guest_types::row::{LoadMode, LoadRow};
+use paged_memory::pages::Pages;
+
+/// The fault of the first of so many active elements that faults.
+fn refusal(pages: &Pages, reading: Reading, pg: &PReg, lanes: usize) -> Option<AccessFault>
+    requires { lanes ≤ all_lanes reading.element }
+    ensures { let first = first_true (refused_of reading pages.now pg.now.bits) lanes 0 in
+        result ≡ fault_of (form_of reading) pages.now (place_of reading) first }
+{
+    let e = first_refused(pages, reading, pg, 0, lanes)?;
+    fault_at(pages, reading, e)
+}
+
+/// LD1, by its register alone.
+fn load_plain(
+    pages: &Pages,
+    reading: Reading,
+    pg: &PReg,
+    lanes: usize,
+    out: &mut ZReg,
+) -> Result<(), AccessFault>
+    requires { lanes ≤ all_lanes reading.element }
+    ensures done { (ffr : List ℕ) → OnOk result (
+        plain_load (form_of reading) pages.now (on_of reading pg.now.bits) (place_of reading) lanes ffr ≡ Ok (record { z = out.new.bytes; ffr = ffr })) }
+    ensures refused { (ffr : List ℕ) → IfErr result (λ fault.
+        plain_load (form_of reading) pages.now (on_of reading pg.now.bits) (place_of reading) lanes ffr ≡ Err fault) }
+    ensures unchanged { OnErr result (out.new ≡ out.old) }
+{
+    if let Some(fault) = refusal(pages, reading, pg, lanes) {
+        return Err(fault);
+    }
+    fill(pages, reading, pg, lanes, out);
+    Ok(())
+}
+
+/// The first place from which the active elements of LDFF1 are free, or the fault of its first one.
+fn free_from(pages: &Pages, reading: Reading, pg: &PReg, lanes: usize) -> Result<usize, AccessFault>
+    requires { lanes ≤ all_lanes reading.element }
+    ensures free { IfOk result (IsFreeFrom reading pages.now pg.now.bits lanes) }
+    ensures refused { let first = first_true (on_of reading pg.now.bits) lanes 0 in
+        IfErr result (λ fault. fault_of (form_of reading) pages.now (place_of reading) first ≡ Some fault) }
+{
+    let Some(first) = first_active(reading, pg, lanes) else {
+        return Ok(lanes);
+    };
+    match fault_at(pages, reading, first) {
+        Some(fault) => Err(fault),
+        None => Ok(first + 1),
+    }
+}
+
+/// LDFF1.
+fn load_first_fault(
+    pages: &Pages,
+    reading: Reading,
+    pg: &PReg,
+    lanes: usize,
+    ffr: &mut PReg,
+    stops: &mut Suppress,
+    out: &mut ZReg,
+) -> Result<(), AccessFault>
+    requires { lanes ≤ all_lanes reading.element }
+    ensures done { let on = on_of reading pg.now.bits in
+        OnOk result (
+        left_by_first (first_fault_early (form_of reading) pages.now stops.old on (place_of reading) lanes ffr.old.bits)
+        ≡ Ok (record { z = out.new.bytes; ffr = ffr.new.bits; stops = stops.new })) }
+    ensures refused { let on = on_of reading pg.now.bits in
+        IfErr result (λ fault. first_fault_early (form_of reading) pages.now stops.old on (place_of reading) lanes ffr.old.bits ≡ Err fault) }
+    ensures unchanged { OnErr result ((out.new ≡ out.old) × (ffr.new ≡ ffr.old) × (stops.new ≡ stops.old)) }
+{
+    let from = free_from(pages, reading, pg, lanes)?;
+    load_early(pages, reading, pg, from, lanes, ffr, stops, out);
+    Ok(())
+}
+
+/// Loads the active elements of a register from `base + (index + e) * size` on, in place: LD1, LDFF1
+/// or LDNF1 by the mode. Elements past the vector length, and those that are not active, become 0.
+///
+/// # Errors
+/// The fault of an access: of the first active element that faults (LD1), or of the first active
+/// element (LDFF1). Nothing changes then.
+pub fn load_into(
+    pages: &Pages,
+    mode: LoadMode,
+    row: LoadRow,
+    base: u64,
+    index: u64,
+    vl: Vl,
+    pg: &PReg,
+    ffr: &mut PReg,
+    stops: &mut Suppress,
+    out: &mut ZReg,
+) -> Result<(), AccessFault>
+    ensures done { let left = load_of mode row.dtype base index vl pages.now stops.old pg.now.bits ffr.old.bits in
+        OnOk result (left ≡ Ok (record { z = out.new.bytes; ffr = ffr.new.bits; stops = stops.new })) }
+    ensures refused { let left = load_of mode row.dtype base index vl pages.now stops.old pg.now.bits ffr.old.bits in
+        IfErr result (λ fault. left ≡ Err fault) }
+    ensures unchanged { OnErr result ((out.new ≡ out.old) × (ffr.new ≡ ffr.old) × (stops.new ≡ stops.old)) }
+{
+    let reading = Reading::new(row, base, index);
+    let lanes = vl.lanes(reading.element) as usize;
+    match mode {
+        LoadMode::Plain => load_plain(pages, reading, pg, lanes, out),
+        LoadMode::FirstFault => load_first_fault(pages, reading, pg, lanes, ffr, stops, out),
+        LoadMode::NonFault => {
+            load_early(pages, reading, pg, 0, lanes, ffr, stops, out);
+            Ok(())
+        }
+    }
+}
+
+/// The same, giving the register.
+///
+/// # Errors
+/// As `load_into`.
+pub fn load(
+    pages: &Pages,
+    mode: LoadMode,
+    row: LoadRow,
+    base: u64,
+    index: u64,
+    vl: Vl,
+    pg: &PReg,
+    ffr: &mut PReg,
+    stops: &mut Suppress,
+) -> Result<ZReg, AccessFault>
+    ensures done { let left = load_of mode row.dtype base index vl pages.now stops.old pg.now.bits ffr.old.bits in
+        IfOk result (λ z. left ≡ Ok (record { z = z.bytes; ffr = ffr.new.bits; stops = stops.new })) }
+    ensures refused { let left = load_of mode row.dtype base index vl pages.now stops.old pg.now.bits ffr.old.bits in
+        IfErr result (λ fault. left ≡ Err fault) }
+    ensures unchanged { OnErr result ((ffr.new ≡ ffr.old) × (stops.new ≡ stops.old)) }
+{
+    let mut out = ZReg::zero();
+    load_into(pages, mode, row, base, index, vl, pg, ffr, stops, &mut out)?;
+    Ok(out)
+}

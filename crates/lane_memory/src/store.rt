@@ -1,0 +1,116 @@
+//! Stores of lanes: ST1.
+
+ghost use Rattle.std.specs.Prelude.{◌≡◌, ◌+◌, ◌-◌, ◌*◌, ◌≤◌, ◌<◌, true, length, IfErr, OnOk};
+ghost use Rattle.guest_types.specs.Length.{all_lanes, width_bytes};
+ghost use Rattle.guest_types.specs.Spans.{has_span_mut, span_of, with_span};
+ghost use Rattle.guest_types.specs.LaneMemory.{store_of, AllStored, StoreFault};
+ghost use Rattle.lane_memory.specs.Writings.{stored_of, target_of, IsSpanWritten};
+
+use crate::range::active_range;
+use crate::reading::count_in_page;
+use crate::write::write_part;
+use crate::writing::Writing;
+use guest_types::guest::GuestMemory;
+use guest_types::length::Vl;
+use guest_types::memory::AccessFault;
+use guest_types::predicate::PReg;
+use guest_types::register::ZReg;
+use guest_types::row::StoreRow;
+use paged_memory::pages::Pages;
+
+/// Stores one element, where it is active.
+#[cold]
+#[inline(never)]
+fn store_one(
+    pages: &mut Pages,
+    writing: Writing,
+    pg: &PReg,
+    z: &ZReg,
+    e: usize,
+) -> Result<(), AccessFault>
+    requires { e < all_lanes writing.element }
+    ensures done { let left = stored_of writing pg.now.bits z.now.bytes 1 e pages.old in
+        OnOk result (left ≡ AllStored pages.new) }
+    ensures refused { let left = stored_of writing pg.now.bits z.now.bytes 1 e pages.old in
+        IfErr result (λ fault. left ≡ StoreFault fault pages.new) }
+{
+    if pg.is_active(writing.element, e) {
+        let value = z.element(writing.element, e);
+        pages.store(writing.target(e), writing.memory.bytes() as u32, value)
+    } else {
+        Ok(())
+    }
+}
+
+/// Stores the active of so many elements that stand in one page that may be written.
+fn store_part(pages: &mut Pages, writing: Writing, pg: &PReg, z: &ZReg, from: usize, count: usize)
+    requires inside { from + count ≤ all_lanes writing.element }
+    requires part { has_span_mut pages.old (target_of writing from) (width_bytes writing.memory * count) ≡ true }
+    ensures { IsSpanWritten writing pg.now.bits z.now.bytes from count pages.old pages.new }
+{
+    let len = writing.memory.bytes() * count;
+    let part = pages.lend_mut(writing.target(from), len as u32);
+    write_part(writing, pg, z, from, count, part);
+}
+
+/// Stores the active elements from one place up to another: all that stand in one page at once, and
+/// those across an edge, or in a page that may not be written, one by one.
+fn store_active(
+    pages: &mut Pages,
+    writing: Writing,
+    pg: &PReg,
+    z: &ZReg,
+    from: usize,
+    to: usize,
+) -> Result<(), AccessFault>
+    requires order { from ≤ to }
+    requires inside { to ≤ all_lanes writing.element }
+    ensures done { let left = stored_of writing pg.now.bits z.now.bytes (to - from) from pages.old in
+        OnOk result (left ≡ AllStored pages.new) }
+    ensures refused { let left = stored_of writing pg.now.bits z.now.bytes (to - from) from pages.old in
+        IfErr result (λ fault. left ≡ StoreFault fault pages.new) }
+{
+    let size = writing.memory.bytes();
+    let mut e = from;
+    while e < to {
+        pages.is_memory();
+        let address = writing.target(e);
+        let count = count_in_page(address, size, to - e);
+        if pages.has_span_mut(address, (size * count) as u32) {
+            store_part(pages, writing, pg, z, e, count);
+            e += count;
+        } else {
+            if let Err(fault) = store_one(pages, writing, pg, z, e) {
+                return Err(fault);
+            }
+            e += 1;
+        }
+    }
+    Ok(())
+}
+
+/// Stores the active elements of a register from `base + (index + e) * size` on, in ascending order,
+/// each by its lowest bytes (ST1).
+///
+/// # Errors
+/// The fault of the first active element that faults. The active elements below it stay written, and
+/// nothing else changes.
+pub fn store(
+    pages: &mut Pages,
+    row: StoreRow,
+    base: u64,
+    index: u64,
+    vl: Vl,
+    pg: &PReg,
+    z: &ZReg,
+) -> Result<(), AccessFault>
+    ensures done { let left = store_of row.msz row.size base index vl pg.now.bits z.now.bytes pages.old in
+        OnOk result (left ≡ AllStored pages.new) }
+    ensures refused { let left = store_of row.msz row.size base index vl pg.now.bits z.now.bytes pages.old in
+        IfErr result (λ fault. left ≡ StoreFault fault pages.new) }
+{
+    let writing = Writing::new(row, base, index);
+    let lanes = vl.lanes(writing.element) as usize;
+    let range = active_range(pg, writing.element, lanes);
+    store_active(pages, writing, pg, z, range.from, range.to)
+}
