@@ -5,9 +5,13 @@ use dependence::class;
 use dependence::reason::{Class, Why};
 use guest_types::length::Width;
 use kernel_front::accept;
-use kernel_tree::Ty;
+use kernel_tree::{BinaryOp, Ty};
 use loop_form::need::Needs;
-use loop_form::{Item, ItemKind, Stream, lane_width, listing, needs, streams};
+use loop_form::{
+    Item, ItemKind, LoopOp, Source, Stream, intervals, lane_width, listing, loop_items, needs,
+    streams,
+};
+use reg_assign::{Interval, RegClass};
 use std::test::Fail;
 
 const AXPY: &str =
@@ -59,6 +63,46 @@ fn accesses_in_their_order(rt: HostRuntime) -> Result<(), Fail> {
     assert_eq!(rt; streams[0], stream(0, false, 5));
     assert_eq!(rt; streams[1], stream(1, false, 7));
     assert_eq!(rt; streams[2], stream(0, true, 10));
+    Ok(())
+}
+
+fn interval(from: u32, until: u32) -> Interval {
+    Interval { from, until }
+}
+
+// k is held throughout, and each value until the item that uses it.
+#[test]
+fn intervals_of_values(rt: HostRuntime) -> Result<(), Fail> {
+    let kernel = accept(rt.alloc(), AXPY.as_bytes())?;
+    let intervals_z = intervals(rt.alloc(), &kernel, RegClass::Z)?;
+    assert_eq!(rt; intervals_z.len(), 5);
+    assert_eq!(rt; intervals_z[0], interval(0, 11));
+    assert_eq!(rt; intervals_z[1], interval(5, 9));
+    assert_eq!(rt; intervals_z[2], interval(7, 8));
+    assert_eq!(rt; intervals_z[3], interval(8, 9));
+    assert_eq!(rt; intervals_z[4], interval(9, 10));
+    assert_eq!(rt; intervals(rt.alloc(), &kernel, RegClass::P)?.len(), 0);
+    assert_eq!(rt; intervals(rt.alloc(), &kernel, RegClass::X)?.len(), 4);
+    Ok(())
+}
+
+#[test]
+fn items_of_the_loop(rt: HostRuntime) -> Result<(), Fail> {
+    let kernel = accept(rt.alloc(), AXPY.as_bytes())?;
+    let items = loop_items(rt.alloc(), &kernel)?;
+    assert_eq!(rt; items.len(), 5);
+    assert_eq!(rt; items[0].item, 5);
+    assert_eq!(rt; items[4].item, 10);
+    let product = matches!(
+        items[2].op,
+        LoopOp::Combine {
+            op: BinaryOp::Mul,
+            ty: Some(Ty::I32),
+            left: Source::Outer(2),
+            right: Source::Made(7),
+        }
+    );
+    assert!(rt; product);
     Ok(())
 }
 

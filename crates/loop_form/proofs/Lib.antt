@@ -1,4 +1,7 @@
 pub mod Limits
 pub mod Near
-pub mod Lives
-mod Rows
+pub mod Numbers
+pub mod IntervalLaws
+pub mod LoopLists
+pub mod PlaceLaws
+mod Examples

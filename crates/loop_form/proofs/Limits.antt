@@ -15,7 +15,7 @@ chosen false x o e = refl
 pub size-small : (k : Program) → check_fault k ≡ None → size_of k ≤ 1000
 size-small k e = ltb-false most_items (size_of k) (chosen (nat_lt most_items (size_of k)) (TooLarge (size_of k)) _ e)
 
-vars-small : (i : Option (List ℕ)) (vs : List Accumulator) → length vs ≤ vars_size i vs
+pub vars-small : (i : Option (List ℕ)) (vs : List Accumulator) → length vs ≤ vars_size i vs
 vars-small i [] = omega arith
 vars-small i (v ∷ vs) = omega (arith, vars-small i vs)
 

@@ -11,7 +11,7 @@ use Rattle.kernel_tree.specs.Limits.{most_items, most_depth, most_offset, depth_
 use Rattle.kernel_tree.specs.declared.fault.Binding.TheVariants as binding
 use Rattle.kernel_tree.specs.Typing.{TooLarge, TooDeep, Fails, Scope, Role, Value, lookup, as_value, read_faults, wanted, first, own, faults, inner_faults, index_faults, stream_faults, offset_faults, action_faults, block_faults, otherwise_faults, after_action, after_block, defined, left, in_loop, empty, after_params, after_vars, param_scope, var_scope, turns_faults, kernel_faults, sooner, least, check_fault, declared, binding_of_shape}
 use Rattle.loop_form.specs.Entries.{Entry, inner_entries, term_entries, action_entries, block_entries, otherwise_entries, turns_entries, loop_entries, loop_start}
-use Rattle.loop_form.specs.Near.{IsNear, AreNear}
+use Rattle.loop_form.specs.Near.{IsNear, AreNear, NearTerm, NearAction, NearBlock, NearOtherwise, NearTurns}
 
 nil-left : {A : Type 0} (xs ys : List A) → xs ++ ys ≡ [] → xs ≡ []
 nil-left [] ys e = refl
@@ -123,3 +123,63 @@ loop-near k e =
     let inner : _ ≡ None = unrefused (nat_lt most_items (size_of k)) (TooLarge (size_of k)) _ e in
     let faultless : kernel_faults k ≡ [] = none (kernel_faults k) (unrefused (nat_lt most_depth (depth_of k)) (TooDeep (depth_of k)) _ inner) in
     turns-near k (var_scope k) _ (loop_start k) k.turns (vars-index (param_scope k) k.vars ∙ params-index (empty (loop_index k)) k.params) (nil-left _ _ (nil-right _ _ (nil-right _ _ faultless)))
+
+-- ---- the same, of the tree
+
+near-left : (i : Option (List ℕ)) (xs ys : List Entry) → AreNear i (xs ++ ys) → AreNear i xs
+near-left i [] ys h = tt
+near-left i (x ∷ xs) ys h = (h.0, near-left i xs ys h.1)
+
+near-right : (i : Option (List ℕ)) (xs ys : List Entry) → AreNear i (xs ++ ys) → AreNear i ys
+near-right i [] ys h = h
+near-right i (x ∷ xs) ys h = near-right i xs ys h.1
+
+near-two : (i : Option (List ℕ)) (xs ys zs : List Entry) → AreNear i (xs ++ (ys ++ zs)) → AreNear i xs × AreNear i ys
+near-two i xs ys zs h = (near-left i xs (ys ++ zs) h, near-left i ys zs (near-right i xs (ys ++ zs) h))
+
+near-three : (i : Option (List ℕ)) (xs ys zs ws : List Entry) → AreNear i (xs ++ (ys ++ (zs ++ ws))) → AreNear i xs × (AreNear i ys × AreNear i zs)
+near-three i xs ys zs ws h = (near-left i xs (ys ++ (zs ++ ws)) h, near-two i ys zs ws (near-right i xs (ys ++ (zs ++ ws)) h))
+
+-- with an item behind the first
+near-marked : (i : Option (List ℕ)) (xs : List Entry) (e : Entry) (ys zs ws : List Entry) → AreNear i (xs ++ e ∷ (ys ++ (zs ++ ws))) → AreNear i xs × (AreNear i ys × AreNear i zs)
+near-marked i xs e ys zs ws h = (near-left i xs (e ∷ (ys ++ (zs ++ ws))) h, near-two i ys zs ws (near-right i xs (e ∷ (ys ++ (zs ++ ws))) h).1)
+
+near-mark : (i : Option (List ℕ)) (xs : List Entry) (e : Entry) (ys zs : List Entry) → AreNear i (xs ++ e ∷ (ys ++ zs)) → AreNear i xs × AreNear i ys
+near-mark i xs e ys zs h = (near-left i xs (e ∷ (ys ++ zs)) h, near-left i ys zs (near-right i xs (e ∷ (ys ++ zs)) h).1)
+
+term-tree : (k : Program) (t : Term) (f u : ℕ) → AreNear (loop_index k) (term_entries k f u t) → NearTerm (loop_index k) t
+term-tree k (Literal n) f u h = tt
+term-tree k (Variable x) f u h = tt
+term-tree k (Element a e) f u h = (near-right (loop_index k) (inner_entries (stream_offset (loop_index k) e) (term_entries k f (f + index_items (loop_index k) e) e)) _ h).0
+term-tree k (Unary op e) f u h = term-tree k e f _ (near-left (loop_index k) _ _ h)
+term-tree k (Operation op a b) f u h = let p = near-two (loop_index k) _ _ _ h in (term-tree k a f _ p.0, term-tree k b _ _ p.1)
+term-tree k (Shift l e n) f u h = term-tree k e f _ (near-left (loop_index k) _ _ h)
+term-tree k (Conversion e t) f u h = term-tree k e f _ (near-left (loop_index k) _ _ h)
+term-tree k (Choice c a b) f u h = let p = near-three (loop_index k) _ _ _ _ h in (term-tree k a f _ p.0, (term-tree k b _ _ p.1.0, term-tree k c _ _ p.1.1))
+term-tree k (Comparison op a b) f u h = let p = near-two (loop_index k) _ _ _ h in (term-tree k a f _ p.0, term-tree k b _ _ p.1)
+term-tree k (Both a b) f u h = let p = near-two (loop_index k) _ _ _ h in (term-tree k a f _ p.0, term-tree k b _ _ p.1)
+term-tree k (Either a b) f u h = let p = near-mark (loop_index k) _ _ _ _ h in (term-tree k a f _ p.0, term-tree k b _ _ p.1)
+term-tree k (Not e) f u h = term-tree k e f _ (near-left (loop_index k) _ _ h)
+
+mutual
+  action-tree : (k : Program) (s : Action) (f : ℕ) → AreNear (loop_index k) (action_entries k f s) → NearAction (loop_index k) s
+  action-tree k (Define x t e) f h = term-tree k e f _ (near-left (loop_index k) _ _ h)
+  action-tree k (Put a i e) f h = ((near-right (loop_index k) (term_entries k f _ e) _ h).0, term-tree k e f _ (near-left (loop_index k) _ _ h))
+  action-tree k (Update x op e) f h = term-tree k e f _ (near-left (loop_index k) _ _ h)
+  action-tree k (Choose c b d) f h = let p = near-marked (loop_index k) _ _ _ _ _ h in (term-tree k c f _ p.0, (block-tree k b _ p.1.0, otherwise-tree k d _ _ p.1.1))
+  action-tree k (Leave c) f h = term-tree k c f _ (near-left (loop_index k) _ _ h)
+
+  block-tree : (k : Program) (b : Block) (f : ℕ) → AreNear (loop_index k) (block_entries k f b) → NearBlock (loop_index k) b
+  block-tree k Done f h = tt
+  block-tree k (Then s b) f h = (action-tree k s f (near-left (loop_index k) _ _ h), block-tree k b _ (near-right (loop_index k) (action_entries k f s) _ h))
+
+  otherwise-tree : (k : Program) (d : Otherwise) (f end : ℕ) → AreNear (loop_index k) (otherwise_entries k f end d) → NearOtherwise (loop_index k) d
+  otherwise-tree k Nothing f end h = tt
+  otherwise-tree k (Else b) f end h = block-tree k b _ h.1
+
+turns-tree : (k : Program) (f : ℕ) (o : Option Turns) → AreNear (loop_index k) (turns_entries k f o) → NearTurns (loop_index k) o
+turns-tree k f None h = tt
+turns-tree k f (Some l) h = block-tree k l.body _ h.1
+
+pub statements-near : (k : Program) → check_fault k ≡ None → NearTurns (loop_index k) k.turns
+statements-near k e = turns-tree k (loop_start k) k.turns (loop-near k e)

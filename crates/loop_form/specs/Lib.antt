@@ -6,3 +6,9 @@ pub mod Streams
 pub mod Needs
 pub mod Lanes
 pub mod Near
+pub mod LoopItems
+pub mod LoopView
+pub mod HeldView
+pub mod Places
+pub mod Numbers
+pub mod Registers

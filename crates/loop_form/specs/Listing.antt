@@ -4,8 +4,8 @@ use Rattle.kernel_tree.specs.Plain.{Program}
 use Rattle.loop_form.specs.declared.item.ItemKind.{ItemKind}
 use Rattle.loop_form.specs.declared.item.ItemKind.TheVariants as kind
 use Rattle.loop_form.specs.declared.item.Item.{Item}
-use Rattle.loop_form.specs.declared.class.RegisterClass.{RegisterClass}
-use Rattle.loop_form.specs.declared.class.RegisterClass.TheVariants.{Z, P, X}
+use Rattle.reg_assign.specs.declared.interval.RegClass.{RegClass}
+use Rattle.reg_assign.specs.declared.interval.RegClass.TheVariants.{Z, P, X}
 use Rattle.loop_form.specs.Entries.{Content, IsName, IsLet, Entry, kind_of, entries_of}
 
 -- An item of these kinds makes a value in a Z register. A literal or a name makes none: it is held throughout the loop.
@@ -34,7 +34,7 @@ has_p kind.Mark = true
 has_p kind.Else = true
 has_p _ = false
 
-abbrev pub has_value : RegisterClass → ItemKind → Bool
+abbrev pub has_value : RegClass → ItemKind → Bool
 has_value Z k = has_z k
 has_value P k = has_p k
 has_value X k = has_x k
@@ -69,7 +69,7 @@ abbrev pub held : Bool → ℕ → Option ℕ
 held true until = Some until
 held false until = None
 
-abbrev pub until_in : RegisterClass → List Entry → Entry → Option ℕ
+abbrev pub until_in : RegClass → List Entry → Entry → Option ℕ
 until_in class all e = held (has_value class (kind_of e.content)) (until_of all e)
 
 abbrev pub item_of : List Entry → Entry → Item

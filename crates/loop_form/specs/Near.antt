@@ -1,5 +1,6 @@
 -- Offsets of stream indexes that are in range.
 use Rattle.std.specs.Prelude.{ℕ, ◌≤◌, ℤ, List, [], ◌∷◌, Option, Some, None, unsigned_abs}
+use Rattle.kernel_tree.specs.Plain.{Term, Literal, Variable, Element, Unary, Operation, Shift, Conversion, Choice, Comparison, Both, Either, Not, Action, Define, Put, Update, Choose, Leave, Block, Done, Then, Otherwise, Nothing, Else, Turns}
 use Rattle.kernel_tree.specs.Items.{stream_offset}
 use Rattle.kernel_tree.specs.Limits.{most_offset}
 use Rattle.loop_form.specs.Entries.{Content, IsRead, IsStore, Entry}
@@ -18,3 +19,40 @@ HasNear i _ = Unit {0}
 abbrev pub AreNear : Option (List ℕ) → List Entry → Type 0
 AreNear i [] = Unit {0}
 AreNear i (e ∷ es) = HasNear i e.content × AreNear i es
+
+-- ---- the same, of the tree
+
+-- all stream indexes of an expression; what makes a computed index is left out
+abbrev pub NearTerm : Option (List ℕ) → Term → Type 0
+NearTerm i (Literal n) = Unit {0}
+NearTerm i (Variable x) = Unit {0}
+NearTerm i (Element a e) = IsNear (stream_offset i e)
+NearTerm i (Unary op e) = NearTerm i e
+NearTerm i (Operation op a b) = NearTerm i a × NearTerm i b
+NearTerm i (Shift left e n) = NearTerm i e
+NearTerm i (Conversion e t) = NearTerm i e
+NearTerm i (Choice c a b) = NearTerm i a × (NearTerm i b × NearTerm i c)
+NearTerm i (Comparison op a b) = NearTerm i a × NearTerm i b
+NearTerm i (Both a b) = NearTerm i a × NearTerm i b
+NearTerm i (Either a b) = NearTerm i a × NearTerm i b
+NearTerm i (Not e) = NearTerm i e
+
+abbrev mutual
+  pub NearAction : Option (List ℕ) → Action → Type 0
+  NearAction i (Define x t e) = NearTerm i e
+  NearAction i (Put a o e) = IsNear (stream_offset i o) × NearTerm i e
+  NearAction i (Update x op e) = NearTerm i e
+  NearAction i (Choose c b d) = NearTerm i c × (NearBlock i b × NearOtherwise i d)
+  NearAction i (Leave c) = NearTerm i c
+
+  pub NearBlock : Option (List ℕ) → Block → Type 0
+  NearBlock i Done = Unit {0}
+  NearBlock i (Then s b) = NearAction i s × NearBlock i b
+
+  pub NearOtherwise : Option (List ℕ) → Otherwise → Type 0
+  NearOtherwise i Nothing = Unit {0}
+  NearOtherwise i (Else b) = NearBlock i b
+
+abbrev pub NearTurns : Option (List ℕ) → Option Turns → Type 0
+NearTurns i None = Unit {0}
+NearTurns i (Some l) = NearBlock i l.body

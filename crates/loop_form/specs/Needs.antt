@@ -1,16 +1,17 @@
 -- How many registers of each class a kernel needs: the values that are held throughout, and the greatest number of
--- values that are live at one item.
-use Rattle.std.specs.Prelude.{ℕ, ◌+◌, ℤ, pos, negsuc, List, [], ◌∷◌, ◌++◌, length, map, filter, Option, Some, None, Bool, true, false, ◌&&◌, max, nat_le, nat_lt, nat_eq, bytes_eq, if◌then◌else◌, filter_map}
-use Rattle.std.specs.List.{list_any, count_by}
+-- values that are live at one item; and the intervals of these values.
+use Rattle.std.specs.Prelude.{ℕ, ◌+◌, ℤ, pos, negsuc, List, [], ◌∷◌, ◌++◌, length, map, filter, Option, Some, None, Bool, true, false, ◌&&◌, max, nat_eq, bytes_eq, if◌then◌else◌, filter_map}
+use Rattle.std.specs.List.{list_any}
 use Rattle.kernel_tree.specs.declared.ops.Ty.{Ty}
 use Rattle.kernel_tree.specs.declared.ast.Shape.{Shape}
 use Rattle.kernel_tree.specs.declared.ast.Shape.TheVariants as shape
 use Rattle.kernel_tree.specs.Plain.{Parameter, Accumulator, Program}
 use Rattle.kernel_tree.specs.Items.{size_of, loop_index}
 use Rattle.kernel_tree.specs.Typing.{number_of_type}
-use Rattle.loop_form.specs.declared.class.RegisterClass.{RegisterClass}
-use Rattle.loop_form.specs.declared.class.RegisterClass.TheVariants.{Z, P, X}
-use Rattle.loop_form.specs.declared.span.Span.{Span}
+use Rattle.reg_assign.specs.declared.interval.RegClass.{RegClass}
+use Rattle.reg_assign.specs.declared.interval.RegClass.TheVariants.{Z, P, X}
+use Rattle.reg_assign.specs.declared.interval.Interval.{Interval}
+use Rattle.reg_assign.specs.Intervals.{overlap}
 use Rattle.loop_form.specs.declared.need.Needs.{Needs}
 use Rattle.loop_form.specs.Entries.{Content, IsLiteral, IsUpdate, Entry, entries_of, loop_entries}
 use Rattle.loop_form.specs.Listing.{names, until_in}
@@ -87,49 +88,42 @@ accumulating_of v = Accumulating v.name
 
 -- Held throughout: in X registers all accumulators. In Z registers, by the items of the loop alone, the scalar
 -- parameters that are named, the literals, the loop variable where it is named, and the accumulators that are updated.
-abbrev pub throughout : Program → RegisterClass → List Throughout
+abbrev pub throughout : Program → RegClass → List Throughout
 throughout k X = map accumulating_of k.vars
 throughout k Z = scalars (loop_entries k) k.params ++ (constants [] (loop_entries k) ++ (index_held (loop_entries k) (loop_index k) ++ map accumulating_of (filter (is_updated (loop_entries k)) k.vars)))
 throughout k P = []
 
 -- ---- the values of items
 
-abbrev pub span : ℕ → Option ℕ → Option Span
+abbrev pub span : ℕ → Option ℕ → Option Interval
 span from None = None
 span from (Some until) = Some (record { from = from; until = until })
 
 -- from where until where an item's value is needed, if it makes one in the class
-abbrev pub span_of : RegisterClass → List Entry → Entry → Option Span
+abbrev pub span_of : RegClass → List Entry → Entry → Option Interval
 span_of class all e = span e.item (until_in class all e)
 
 -- the values that some items of a kernel make
-abbrev pub spans_of : RegisterClass → List Entry → List Entry → List Span
+abbrev pub spans_of : RegClass → List Entry → List Entry → List Interval
 spans_of class all es = filter_map (span_of class all) es
 
 -- the items whose values are counted for a class: those of the loop for Z and P
-abbrev pub counted : Program → RegisterClass → List Entry
+abbrev pub counted : Program → RegClass → List Entry
 counted k X = entries_of k
 counted k Z = loop_entries k
 counted k P = loop_entries k
 
 -- the values of a class
-abbrev pub values : Program → RegisterClass → List Span
+abbrev pub values : Program → RegClass → List Interval
 values k class = spans_of class (entries_of k) (counted k class)
 
--- a value is live at an item where it is made at or before the item and last used after it
-abbrev pub is_live : ℕ → Span → Bool
-is_live p s = nat_le s.from p && nat_lt p s.until
-
-abbrev pub live : List Span → ℕ → ℕ
-live spans p = count_by (is_live p) spans
-
 -- the greatest of a number and the numbers of values that are live at one of the items
-unfoldable pub most_live : List Span → ℕ → List Entry → ℕ
+unfoldable pub most_live : List Interval → ℕ → List Entry → ℕ
 most_live spans most [] = most
-most_live spans most (e ∷ es) = most_live spans (max most (live spans e.item)) es
+most_live spans most (e ∷ es) = most_live spans (max most (overlap spans e.item)) es
 
 -- how many registers of a class a kernel needs
-abbrev pub need : Program → RegisterClass → ℕ
+abbrev pub need : Program → RegClass → ℕ
 need k class = length (throughout k class) + most_live (values k class) 0 (counted k class)
 
 abbrev pub needs_of : Program → Needs
@@ -138,9 +132,9 @@ needs_of k = record { size = size_of k; z = need k Z; p = need k P; x = need k X
 -- ---- intervals
 
 -- from the first item to the last
-abbrev pub whole : Program → Throughout → Span
+abbrev pub whole : Program → Throughout → Interval
 whole k t = record { from = 0; until = size_of k }
 
 -- the intervals of a class: what is held throughout, and then the values in the order of their items
-abbrev pub intervals : Program → RegisterClass → List Span
+abbrev pub intervals : Program → RegClass → List Interval
 intervals k class = map (whole k) (throughout k class) ++ values k class

@@ -28,8 +28,8 @@ fn moved_by(op: BinaryOp, value: i128) -> Option<i32>
     }
 }
 
-// The offset of a stream index.
-fn offset(kernel: &Checked, index: &Expr) -> Option<i32>
+/// The offset of a stream index.
+pub fn offset(kernel: &Checked, index: &Expr) -> Option<i32>
     requires { IsNear (stream_offset (loop_index (program kernel.now)) (term_of index.now)) }
     ensures { result ≡ stream_offset (loop_index (program kernel.now)) (term_of index.now) }
 {

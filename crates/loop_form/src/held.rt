@@ -1,20 +1,35 @@
 //! What is held in registers throughout.
 
-ghost use Rattle.std.specs.Prelude.{◌≡◌, ◌≤◌, [], if◌then◌else◌, length, filter};
-ghost use Rattle.loop_form.specs.Entries.{loop_entries};
+ghost use Rattle.std.specs.Prelude.{◌≡◌, [], ◌++◌, map, filter, IfOk, OnOk};
 ghost use Rattle.std.specs.List.{list_any};
-ghost use Rattle.kernel_tree.specs.Plain.{parameters_of, parameter_of, accumulators_of, accumulator_of};
+ghost use Rattle.kernel_tree.specs.Plain.{parameters_of, parameter_of, accumulators_of, accumulator_of, program_of};
+ghost use Rattle.kernel_tree.specs.Checked.{kernel_of};
 ghost use Rattle.kernel_tree.specs.Items.{loop_index};
 ghost use Rattle.kernel_tree.specs.Typing.{number_of_type};
+ghost use Rattle.loop_form.specs.HeldView.{view_of, view};
 ghost use Rattle.loop_form.specs.Listing.{names};
-ghost use Rattle.loop_form.specs.Needs.{is_scalar, is_named_scalar, scalars, same_type, is_literal, is_constant, new_constant, constants, index_held, updates, is_updated, throughout};
+ghost use Rattle.loop_form.specs.Needs.{is_scalar, is_named_scalar, scalars, same_type, is_literal, is_constant, new_constant, constants, index_held, updates, is_updated, accumulating_of, throughout};
 ghost use Rattle.loop_form.specs.Seen.{program, content_of, entry_of, seen};
 
-use crate::class::RegisterClass;
 use crate::entry::{Content, Entry};
-use crate::laws::few_items;
 use crate::lists::is_name;
+use crate::whole::loop_entries;
 use kernel_tree::{Checked, Param, Shape, Ty, Var};
+use reg_assign::RegClass;
+use std::alloc::{AllocError, Global};
+
+/// What is held in a register throughout.
+#[derive(Clone, Copy)]
+pub enum Held<'a> {
+    /// The scalar parameter of this name.
+    Scalar(&'a str),
+    /// A literal of a type.
+    Constant(Option<Ty>, i128),
+    /// The loop variable.
+    Index,
+    /// The accumulator of this name.
+    Accumulating(&'a str),
+}
 
 /// Whether a name is an item among these.
 pub fn is_named(entries: &[Entry<'_>], name: &str) -> bool
@@ -44,18 +59,20 @@ fn is_scalar_named(entries: &[Entry<'_>], param: &Param) -> bool
 }
 
 // The scalar parameters that are named.
-fn count_scalars(entries: &[Entry<'_>], params: &[Param]) -> u32
-    requires { length params.now ≤ 1000 }
-    ensures count { result ≡ length (scalars (seen entries.now) (parameters_of params.now)) }
-    ensures small { result ≤ length params.now }
+fn push_scalars<'a>(
+    held: &mut Vec<Held<'a>>,
+    entries: &[Entry<'_>],
+    params: &'a [Param],
+) -> Result<(), AllocError>
+    ensures { OnOk result (view held.new.items ≡ view held.old.items ++ scalars (seen entries.now)
+        (parameters_of params.now)) }
 {
-    let mut count = 0;
     for param in params {
         if is_scalar_named(entries, param) {
-            count += 1;
+            held.push(Held::Scalar(param.name.text()))?;
         }
     }
-    count
+    Ok(())
 }
 
 fn type_number(ty: Ty) -> u32
@@ -111,44 +128,52 @@ fn occurs(before: &[Entry<'_>], ty: Option<Ty>, value: i128) -> bool
     false
 }
 
-// Whether an item is a literal that none of the items before it is.
-fn is_new(before: &[Entry<'_>], entry: &Entry<'_>) -> bool
-    ensures { length (new_constant (seen before.now) entry.now.ty (content_of entry.now.content)) ≡ (if result then 1 else 0) }
+// An item that is a literal, where none of the items before it is the same.
+fn push_new(
+    held: &mut Vec<Held<'_>>,
+    before: &[Entry<'_>],
+    entry: &Entry<'_>,
+) -> Result<(), AllocError>
+    ensures { OnOk result (view held.new.items ≡ view held.old.items ++ new_constant
+        (seen before.now) entry.now.ty (content_of entry.now.content)) }
 {
-    match entry.content {
-        Content::Literal(value) => !occurs(before, entry.ty, value),
-        _ => false,
+    if let Content::Literal(value) = entry.content {
+        if !occurs(before, entry.ty, value) {
+            held.push(Held::Constant(entry.ty, value))?;
+        }
     }
+    Ok(())
 }
 
 // The pairs of a type and a literal.
 #[tactic(auto, unfolding(crate::specs::Needs::constants))]
-fn count_constants(entries: &[Entry<'_>]) -> u32
-    requires { length entries.now ≤ 1000 }
-    ensures count { result ≡ length (constants [] (seen entries.now)) }
-    ensures small { result ≤ length entries.now }
+fn push_constants(held: &mut Vec<Held<'_>>, entries: &[Entry<'_>]) -> Result<(), AllocError>
+    ensures { OnOk result (view held.new.items ≡ view held.old.items ++ constants [] (seen entries.now)) }
 {
-    let mut count = 0;
     let mut place = 0;
     for entry in entries {
-        if is_new(&entries[..place], entry) {
-            count += 1;
-        }
+        push_new(held, &entries[..place], entry)?;
         place += 1;
     }
-    count
+    Ok(())
 }
 
 // The loop variable, where it is named.
 #[tactic(auto, unfolding(crate::specs::Seen::program))]
-fn count_index(kernel: &Checked, entries: &[Entry<'_>]) -> u32
-    ensures count { result ≡ length (index_held (seen entries.now) (loop_index (program kernel.now))) }
-    ensures small { result ≤ 1 }
+fn push_index(
+    kernel: &Checked,
+    held: &mut Vec<Held<'_>>,
+    entries: &[Entry<'_>],
+) -> Result<(), AllocError>
+    ensures { OnOk result (view held.new.items ≡ view held.old.items ++ index_held (seen entries.now)
+        (loop_index (program kernel.now))) }
 {
-    match &kernel.kernel().body {
-        None => 0,
-        Some(turns) => u32::from(is_named(entries, turns.index.text())),
+    if let Some(turns) = &kernel.kernel().body {
+        if is_named(entries, turns.index.text()) {
+            held.push(Held::Index)?;
+        }
     }
+    Ok(())
 }
 
 /// Whether an item is an update of the accumulator.
@@ -174,32 +199,56 @@ fn is_var_updated(entries: &[Entry<'_>], var: &Var) -> bool
 }
 
 // The accumulators that are updated.
-fn count_updated(entries: &[Entry<'_>], vars: &[Var]) -> u32
-    requires { length vars.now ≤ 1000 }
-    ensures count { result ≡ length (filter (is_updated (seen entries.now)) (accumulators_of vars.now)) }
-    ensures small { result ≤ length vars.now }
+fn push_updated<'a>(
+    held: &mut Vec<Held<'a>>,
+    entries: &[Entry<'_>],
+    vars: &'a [Var],
+) -> Result<(), AllocError>
+    ensures { OnOk result (view held.new.items ≡ view held.old.items ++ map accumulating_of
+        (filter (is_updated (seen entries.now)) (accumulators_of vars.now))) }
 {
-    let mut count = 0;
     for var in vars {
         if is_var_updated(entries, var) {
-            count += 1;
+            held.push(Held::Accumulating(var.name.text()))?;
         }
     }
-    count
+    Ok(())
 }
 
-/// How many values are held in Z registers throughout, by the items of the loop.
-#[tactic(auto, unfolding(crate::specs::Seen::program))]
-pub fn count_held(kernel: &Checked, entries: &[Entry<'_>]) -> u32
-    requires small { length entries.now ≤ 1000 }
-    requires of_loop { seen entries.now ≡ loop_entries (program kernel.now) }
-    ensures count { result ≡ length (throughout (program kernel.now) RegisterClass.Z) }
-    ensures small { result ≤ 4000 }
+// All accumulators.
+fn push_vars<'a>(held: &mut Vec<Held<'a>>, vars: &'a [Var]) -> Result<(), AllocError>
+    ensures { OnOk result (view held.new.items ≡ view held.old.items ++ map accumulating_of
+        (accumulators_of vars.now)) }
 {
-    few_items(kernel);
+    for var in vars {
+        held.push(Held::Accumulating(var.name.text()))?;
+    }
+    Ok(())
+}
+
+/// What is held in the registers of a class throughout, in the order of its intervals, of which these are the first: in
+/// X registers all accumulators, and in Z registers, by the items of the loop alone, the scalar parameters that are
+/// named, each literal of a type, the loop variable where it is named, and the accumulators that are updated.
+#[tactic(auto, unfolding(crate::specs::Seen::program))]
+pub fn throughout(
+    alloc: Global,
+    kernel: &Checked,
+    class: RegClass,
+) -> Result<Vec<Held<'_>>, AllocError>
+    ensures { IfOk result (λ held. view held.items ≡ throughout (program_of (kernel_of kernel.now)) class) }
+{
+    let mut held = Vec::new(alloc);
     let tree = kernel.kernel();
-    let parameters = count_scalars(entries, &tree.params);
-    let literals = count_constants(entries);
-    let index = count_index(kernel, entries);
-    parameters + literals + index + count_updated(entries, &tree.vars)
+    match class {
+        RegClass::Z => {
+            let entries = loop_entries(kernel);
+            push_scalars(&mut held, &entries, &tree.params)?;
+            push_constants(&mut held, &entries)?;
+            push_index(kernel, &mut held, &entries)?;
+            push_updated(&mut held, &entries, &tree.vars)?;
+        }
+        RegClass::P => {}
+        RegClass::X => push_vars(&mut held, &tree.vars)?,
+    }
+    Ok(held)
 }

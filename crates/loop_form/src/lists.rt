@@ -7,11 +7,11 @@ ghost use Rattle.loop_form.specs.Entries.{kind_of};
 ghost use Rattle.loop_form.specs.Listing.{names, has_x, has_z, has_p, has_value, last_use, until_of, until_in, item_of, listing_of, held};
 ghost use Rattle.loop_form.specs.Seen.{content_of, entry_of, seen};
 
-use crate::class::RegisterClass;
 use crate::entry::{Content, Entry};
 use crate::item::{Item, ItemKind};
 use crate::whole::entries;
 use kernel_tree::Checked;
+use reg_assign::RegClass;
 use std::alloc::{AllocError, Global};
 
 fn has_z_value(kind: ItemKind) -> bool
@@ -44,13 +44,13 @@ fn has_p_value(kind: ItemKind) -> bool
 }
 
 // Whether an item of a kind makes a value in a class of registers.
-fn makes(class: RegisterClass, kind: ItemKind) -> bool
+fn makes(class: RegClass, kind: ItemKind) -> bool
     ensures { result ≡ has_value class kind }
 {
     match class {
-        RegisterClass::Z => has_z_value(kind),
-        RegisterClass::P => has_p_value(kind),
-        RegisterClass::X => kind == ItemKind::Literal || has_z_value(kind),
+        RegClass::Z => has_z_value(kind),
+        RegClass::P => has_p_value(kind),
+        RegClass::X => kind == ItemKind::Literal || has_z_value(kind),
     }
 }
 
@@ -103,7 +103,7 @@ fn until(all: &[Entry<'_>], entry: &Entry<'_>) -> u32
 }
 
 /// The item that uses an item's value of a class last, where it makes one.
-pub fn until_if_made(class: RegisterClass, all: &[Entry<'_>], entry: &Entry<'_>) -> Option<u32>
+pub fn until_if_made(class: RegClass, all: &[Entry<'_>], entry: &Entry<'_>) -> Option<u32>
     ensures { result ≡ until_in class (seen all.now) (entry_of entry.now) }
 {
     if makes(class, kind(entry)) {
@@ -120,9 +120,9 @@ fn item(all: &[Entry<'_>], entry: &Entry<'_>) -> Item
     Item {
         kind: kind(entry),
         ty: entry.ty,
-        x_until: until_if_made(RegisterClass::X, all, entry),
-        z_until: until_if_made(RegisterClass::Z, all, entry),
-        p_until: until_if_made(RegisterClass::P, all, entry),
+        x_until: until_if_made(RegClass::X, all, entry),
+        z_until: until_if_made(RegClass::Z, all, entry),
+        p_until: until_if_made(RegClass::P, all, entry),
     }
 }
 

@@ -1,34 +1,41 @@
-//! The values that items make, and how many of them are live at once.
+//! The intervals in which the values of a kernel are needed.
 
-ghost use Rattle.std.specs.Prelude.{◌≡◌, ◌+◌, ◌≤◌, length, filter_map, max, IfOk};
-ghost use Rattle.loop_form.specs.Needs.{span_of, spans_of, is_live, live, most_live};
-ghost use Rattle.loop_form.specs.Seen.{entry_of, seen};
+ghost use Rattle.std.specs.Prelude.{◌≡◌, ◌+◌, ◌≤◌, length, filter_map, IfOk};
+ghost use Rattle.std.proofs.Math.ListN.{replicate};
+ghost use Rattle.arrayvec.specs.ArrayVec.{array_vec_len};
+ghost use Rattle.kernel_tree.specs.Plain.{program_of};
+ghost use Rattle.kernel_tree.specs.Checked.{kernel_of};
+ghost use Rattle.loop_form.specs.Entries.{entries_of, loop_entries};
+ghost use Rattle.loop_form.specs.Needs.{span_of, spans_of, values, intervals};
+ghost use Rattle.loop_form.specs.Seen.{program, entry_of, seen};
 
-use crate::class::RegisterClass;
 use crate::entry::Entry;
+use crate::held::throughout;
+use crate::laws::{few_intervals, few_items};
 use crate::lists::until_if_made;
-use crate::span::Span;
+use crate::whole::{entries, loop_entries};
+use kernel_tree::Checked;
+use reg_assign::{Interval, RegClass};
 use std::alloc::{AllocError, Global};
 
-fn span(class: RegisterClass, all: &[Entry<'_>], entry: &Entry<'_>) -> Option<Span>
+fn span(class: RegClass, all: &[Entry<'_>], entry: &Entry<'_>) -> Option<Interval>
     ensures { result ≡ span_of class (seen all.now) (entry_of entry.now) }
 {
     let until = until_if_made(class, all, entry)?;
-    Some(Span {
+    Some(Interval {
         from: entry.item,
         until,
     })
 }
 
-/// The values of a class that some items of a kernel make.
-pub fn spans(
+// The values of a class that some items of a kernel make.
+fn spans(
     alloc: Global,
-    class: RegisterClass,
+    class: RegClass,
     all: &[Entry<'_>],
     some: &[Entry<'_>],
-) -> Result<Vec<Span>, AllocError>
-    ensures spans { IfOk result (λ spans. spans.items ≡ spans_of class (seen all.now) (seen some.now)) }
-    ensures small { IfOk result (λ spans. length spans.items ≤ length some.now) }
+) -> Result<Vec<Interval>, AllocError>
+    ensures { IfOk result (λ spans. spans.items ≡ spans_of class (seen all.now) (seen some.now)) }
 {
     let mut spans = Vec::new(alloc);
     for entry in some {
@@ -39,44 +46,57 @@ pub fn spans(
     Ok(spans)
 }
 
-fn is_live_at(span: Span, item: u32) -> bool
-    ensures { result ≡ is_live item span }
+// The values of a class.
+fn class_values(
+    alloc: Global,
+    kernel: &Checked,
+    class: RegClass,
+) -> Result<Vec<Interval>, AllocError>
+    ensures { IfOk result (λ spans. spans.items ≡ values (program kernel.now) class) }
 {
-    span.from <= item && item < span.until
-}
-
-// How many values are live at an item.
-fn count_live(spans: &[Span], item: u32) -> u32
-    requires { length spans.now ≤ 1000 }
-    ensures count { result ≡ live spans.now item }
-    ensures small { result ≤ 1000 }
-{
-    let mut count = 0;
-    for span in spans {
-        if is_live_at(*span, item) {
-            count += 1;
+    let all = entries(kernel);
+    match class {
+        RegClass::X => {
+            let spans = spans(alloc, class, &all, &all)?;
+            Ok(spans)
+        }
+        RegClass::Z | RegClass::P => {
+            let spans = spans(alloc, class, &all, &loop_entries(kernel))?;
+            Ok(spans)
         }
     }
-    count
 }
 
-// The greater of two numbers.
-fn greater(left: u32, right: u32) -> u32
-    ensures { result ≡ max left right }
+// So many intervals over all items of a kernel.
+fn whole_intervals(alloc: Global, count: u32, size: u32) -> Result<Vec<Interval>, AllocError>
+    ensures { IfOk result (λ v. v.items ≡ replicate count (record { from = 0; until = size })) }
 {
-    left.max(right)
-}
-
-/// The greatest number of values that are live at one of the items.
-#[tactic(auto, unfolding(crate::specs::Needs::most_live))]
-pub fn most_live_at(spans: &[Span], entries: &[Entry<'_>]) -> u32
-    requires { length spans.now ≤ 1000 }
-    ensures count { result ≡ most_live spans.now 0 (seen entries.now) }
-    ensures small { result ≤ 1000 }
-{
-    let mut most = 0;
-    for entry in entries {
-        most = greater(most, count_live(spans, entry.item));
+    let mut intervals = Vec::new(alloc);
+    for _made in 0..count {
+        intervals.push(Interval {
+            from: 0,
+            until: size,
+        })?;
     }
-    most
+    Ok(intervals)
+}
+
+/// The intervals of a class, in items of the listing: what is held throughout, over all items, and then the values in
+/// the order of their items, each until the item that uses it last. For the classes Z and P only the loop counts. A
+/// `let` that nothing reads has an empty interval.
+#[tactic(auto, unfolding(crate::specs::Seen::program))]
+pub fn intervals(
+    alloc: Global,
+    kernel: &Checked,
+    class: RegClass,
+) -> Result<Vec<Interval>, AllocError>
+    ensures { IfOk result (λ v. v.items ≡ intervals (program_of (kernel_of kernel.now)) class) }
+{
+    few_items(kernel);
+    few_intervals(kernel, class);
+    let size = entries(kernel).len() as u32;
+    let held = throughout(alloc, kernel, class)?.len() as u32;
+    let mut intervals = whole_intervals(alloc, held, size)?;
+    intervals.append(&mut class_values(alloc, kernel, class)?)?;
+    Ok(intervals)
 }

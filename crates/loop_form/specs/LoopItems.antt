@@ -1,0 +1,192 @@
+-- What the items of a loop do, with their operands and masks. The items have the numbers of the listing. A literal, a name,
+-- `then` and `end` do nothing, so they are no items here; nor are a read at a computed index and what makes that index.
+use Rattle.std.specs.Prelude.{ℕ, suc, ◌+◌, ℤ, pos, List, [], ◌∷◌, ◌++◌, Option, Some, None, option_and_then, Bool, bytes_eq, if◌then◌else◌}
+use Rattle.kernel_tree.specs.declared.ops.Ty.{Ty}
+use Rattle.kernel_tree.specs.declared.ops.UnaryOp.{UnaryOp}
+use Rattle.kernel_tree.specs.declared.ops.BinaryOp.{BinaryOp}
+use Rattle.kernel_tree.specs.declared.ops.CompareOp.{CompareOp}
+use Rattle.kernel_tree.specs.declared.ops.UpdateOp.{UpdateOp}
+use Rattle.kernel_tree.specs.Plain.{Term, Literal, Variable, Element, Unary, Operation, Shift, Conversion, Choice, Comparison, Both, Either, Not, Action, Define, Put, Update, Choose, Leave, Block, Done, Then, Otherwise, Nothing, Else, Turns, Program}
+use Rattle.kernel_tree.specs.Items.{stream_offset, term_size, index_items, action_size, block_size}
+use Rattle.kernel_tree.specs.Typing.{Scope, Local, lookup, own, first, element_type, accumulator_type, side_type, after_action, after_block, left, in_loop, var_scope}
+use Rattle.loop_form.specs.declared.loop_item.Source.{Source}
+use Rattle.loop_form.specs.declared.loop_item.Source.TheVariants.{Constant, Outer, Turn, Made}
+use Rattle.loop_form.specs.Entries.{loop_start}
+
+-- what an item does, with the types of its operands; an array has a name and the place where its address is held
+pub data Op : Type 0 where
+  Load : (a : List ℕ) (base : Source) (t : Option Ty) (c : ℤ) → Op
+  Apply : UnaryOp → Option Ty → Source → Op
+  Combine : BinaryOp → Option Ty → (x y : Source) → Op
+  Move : (left : Bool) (n : ℤ) → Option Ty → Source → Op
+  Cast : (from : Option Ty) (to : Ty) → Source → Op
+  Copy : Option Ty → Source → Op
+  -- the one value where condition c is true, else the other
+  Pick : Option Ty → (c : ℕ) (x y : Source) → Op
+  Store : (a : List ℕ) (base : Source) (t : Option Ty) (c : ℤ) (v : Source) → Op
+  Add : (x : List ℕ) (op : UpdateOp) (t : Option Ty) (v : Source) → Op
+  -- conditions: a comparison; not c, as for `!`, the mark of `||` and `else`; both, of which the second was made where
+  -- the first is true; one of two
+  Test : CompareOp → Option Ty → (x y : Source) → Op
+  Invert : (c : ℕ) → Op
+  Same : (c : ℕ) → Op
+  Any : (c d : ℕ) → Op
+  -- the loop ends where c is true
+  Quit : (c : ℕ) → Op
+
+-- an item, done in the lanes in which the item of its mask is true, and in all where it has none
+pub record Item : Type 0 where
+  pub item : ℕ
+  pub mask : Option ℕ
+  pub op : Op
+
+abbrev pub item : ℕ → Option ℕ → Op → Item
+item q mask op = record { item = q; mask = mask; op = op }
+
+-- ---- names
+
+-- a visible name, and where its value is held
+pub record Bound : Type 0 where
+  pub name : List ℕ
+  pub source : Source
+
+abbrev pub bound : List ℕ → Source → Bound
+bound x s = record { name = x; source = s }
+
+abbrev pub source_at : List Bound → List ℕ → Source
+source_at [] x = Constant None (pos 0)
+source_at (b ∷ env) x = if bytes_eq b.name x then b.source else source_at env x
+
+-- the names behind a `let`
+abbrev pub with_bound : List Bound → List ℕ → Option Ty → ℕ → List Bound
+with_bound env x None q = env
+with_bound env x (Some t) q = env ++ bound x (Made q) ∷ []
+
+-- the names from before the loop, from a place on
+abbrev pub outer_env : ℕ → List Local → List Bound
+outer_env p [] = []
+outer_env p (x ∷ xs) = bound x.name (Outer p) ∷ outer_env (suc p) xs
+
+-- the names at the head of a loop's body
+abbrev pub loop_env : Scope → List ℕ → List Bound
+loop_env scope index = outer_env 0 scope.visible ++ bound index Turn ∷ []
+
+abbrev pub array_type : Scope → List ℕ → Option Ty
+array_type scope a = option_and_then element_type (lookup scope a)
+
+abbrev pub accumulator_of : Scope → List ℕ → Option Ty
+accumulator_of scope x = option_and_then accumulator_type (lookup scope x)
+
+-- ---- operands
+
+-- where the value of an expression is held whose items begin at a number
+abbrev pub home : Option (List ℕ) → Option Ty → ℕ → List Bound → Term → Source
+home index want from env (Literal n) = Constant want n
+home index want from env (Variable x) = source_at env x
+home index want from env (Element a i) = Made (from + index_items index i)
+home index want from env (Unary op e) = Made (from + term_size index e)
+home index want from env (Operation op a b) = Made (from + term_size index a + term_size index b)
+home index want from env (Shift left e n) = Made (from + term_size index e)
+home index want from env (Conversion e t) = Made (from + term_size index e)
+home index want from env (Choice c a b) = Made (from + term_size index a + term_size index b + term_size index c)
+home index want from env _ = Constant None (pos 0)
+
+-- the item of a condition whose items begin at a number
+abbrev pub truth_home : Option (List ℕ) → ℕ → Term → ℕ
+truth_home index from (Comparison op a b) = from + term_size index a + term_size index b
+truth_home index from (Both a b) = from + term_size index a + term_size index b
+truth_home index from (Either a b) = from + term_size index a + 1 + term_size index b
+truth_home index from (Not e) = from + term_size index e
+truth_home index from _ = from
+
+-- ---- items
+
+abbrev pub load_item : Scope → Option ℕ → ℕ → List Bound → List ℕ → Option ℤ → List Item → List Item
+load_item scope mask q env a None rest = rest
+load_item scope mask q env a (Some c) rest = item q mask (Load a (source_at env a) (array_type scope a) c) ∷ rest
+
+-- the items of a value, or of a condition, under a mask, and those behind
+abbrev mutual
+  pub term_items : Scope → Option Ty → Option ℕ → ℕ → List Bound → Term → List Item → List Item
+  term_items scope want mask from env (Literal n) rest = rest
+  term_items scope want mask from env (Variable x) rest = rest
+  term_items scope want mask from env (Element a i) rest = load_item scope mask (from + index_items scope.index i) env a (stream_offset scope.index i) rest
+  term_items scope want mask from env (Unary op e) rest = term_items scope want mask from env e (item (from + term_size scope.index e) mask (Apply op want (home scope.index want from env e)) ∷ rest)
+  term_items scope want mask from env (Operation op a b) rest =
+      let next = from + term_size scope.index a in
+      term_items scope want mask from env a (term_items scope want mask next env b (item (next + term_size scope.index b) mask (Combine op want (home scope.index want from env a) (home scope.index want next env b)) ∷ rest))
+  term_items scope want mask from env (Shift left e n) rest = term_items scope want mask from env e (item (from + term_size scope.index e) mask (Move left n want (home scope.index want from env e)) ∷ rest)
+  term_items scope want mask from env (Conversion e t) rest = term_items scope (own scope e) mask from env e (item (from + term_size scope.index e) mask (Cast (own scope e) t (home scope.index (own scope e) from env e)) ∷ rest)
+  term_items scope want mask from env (Choice c a b) rest =
+      let next = from + term_size scope.index a in
+      let last = next + term_size scope.index b in
+      term_items scope want mask from env a (term_items scope want mask next env b (cond_items scope mask last env c (item (last + term_size scope.index c) mask (Pick want (truth_home scope.index last c) (home scope.index want from env a) (home scope.index want next env b)) ∷ rest)))
+  term_items scope want mask from env (Comparison op a b) rest = rest
+  term_items scope want mask from env (Both a b) rest = rest
+  term_items scope want mask from env (Either a b) rest = rest
+  term_items scope want mask from env (Not e) rest = rest
+
+  pub cond_items : Scope → Option ℕ → ℕ → List Bound → Term → List Item → List Item
+  cond_items scope mask from env (Comparison op a b) rest =
+      let want = side_type scope a b in
+      let next = from + term_size scope.index a in
+      term_items scope want mask from env a (term_items scope want mask next env b (item (next + term_size scope.index b) mask (Test op want (home scope.index want from env a) (home scope.index want next env b)) ∷ rest))
+  cond_items scope mask from env (Both a b) rest =
+      let next = from + term_size scope.index a in
+      let first = truth_home scope.index from a in
+      cond_items scope mask from env a (cond_items scope (Some first) next env b (item (next + term_size scope.index b) mask (Same (truth_home scope.index next b)) ∷ rest))
+  cond_items scope mask from env (Either a b) rest =
+      let mark = from + term_size scope.index a in
+      let first = truth_home scope.index from a in
+      cond_items scope mask from env a (item mark mask (Invert first) ∷ cond_items scope (Some mark) (mark + 1) env b (item (mark + 1 + term_size scope.index b) mask (Any first (truth_home scope.index (mark + 1) b)) ∷ rest))
+  cond_items scope mask from env (Not e) rest = cond_items scope mask from env e (item (from + term_size scope.index e) mask (Invert (truth_home scope.index from e)) ∷ rest)
+  cond_items scope mask from env (Literal n) rest = rest
+  cond_items scope mask from env (Variable x) rest = rest
+  cond_items scope mask from env (Element a i) rest = rest
+  cond_items scope mask from env (Unary op e) rest = rest
+  cond_items scope mask from env (Operation op a b) rest = rest
+  cond_items scope mask from env (Shift left e n) rest = rest
+  cond_items scope mask from env (Conversion e t) rest = rest
+  cond_items scope mask from env (Choice c a b) rest = rest
+
+abbrev pub store_item : Scope → Option ℕ → ℕ → List Bound → List ℕ → Option ℤ → Source → List Item → List Item
+store_item scope mask q env a None v rest = rest
+store_item scope mask q env a (Some c) v rest = item q mask (Store a (source_at env a) (array_type scope a) c v) ∷ rest
+
+abbrev pub after_env : Scope → ℕ → List Bound → Action → List Bound
+after_env scope from env (Define x t e) = with_bound env x (first t (own scope e)) (from + term_size scope.index e)
+after_env scope from env _ = env
+
+abbrev mutual
+  pub action_items : Scope → Option ℕ → ℕ → List Bound → Action → List Item → List Item
+  action_items scope mask from env (Define x t e) rest = let want = first t (own scope e) in term_items scope want mask from env e (item (from + term_size scope.index e) mask (Copy want (home scope.index want from env e)) ∷ rest)
+  action_items scope mask from env (Put a i e) rest = term_items scope (array_type scope a) mask from env e (store_item scope mask (from + term_size scope.index e) env a (stream_offset scope.index i) (home scope.index (array_type scope a) from env e) rest)
+  action_items scope mask from env (Update x op e) rest = let want = accumulator_of scope x in term_items scope want mask from env e (item (from + term_size scope.index e) mask (Add x op want (home scope.index want from env e)) ∷ rest)
+  action_items scope mask from env (Choose c b d) rest =
+      let first = truth_home scope.index from c in
+      let inner = from + term_size scope.index c + 1 in
+      cond_items scope mask from env c (block_items scope (Some first) inner env b (otherwise_items (left scope (after_block scope b)) mask (inner + block_size scope.index b) first env d rest))
+  action_items scope mask from env (Leave c) rest = cond_items scope mask from env c (item (from + term_size scope.index c) mask (Quit (truth_home scope.index from c)) ∷ rest)
+
+  pub block_items : Scope → Option ℕ → ℕ → List Bound → Block → List Item → List Item
+  block_items scope mask from env Done rest = rest
+  block_items scope mask from env (Then s b) rest = action_items scope mask from env s (block_items (after_action scope s) mask (from + action_size scope.index s) (after_env scope from env s) b rest)
+
+  -- the second block of an `if` with this condition
+  pub otherwise_items : Scope → Option ℕ → ℕ → (c : ℕ) → List Bound → Otherwise → List Item → List Item
+  otherwise_items scope mask from c env Nothing rest = rest
+  otherwise_items scope mask from c env (Else b) rest = item from mask (Invert c) ∷ block_items scope (Some from) (from + 1) env b rest
+
+-- ---- the loop
+
+-- the items of the loop's body
+abbrev pub loop_items : Program → Turns → List Item
+loop_items k l = block_items (in_loop (var_scope k) l) None (loop_start k + 1) (loop_env (var_scope k) l.index) l.body []
+
+abbrev pub turns_items : Program → Option Turns → List Item
+turns_items k None = []
+turns_items k (Some l) = loop_items k l
+
+-- the items of a kernel's loop, in the order of the listing
+abbrev pub loop_items_of : Program → List Item
+loop_items_of k = turns_items k k.turns

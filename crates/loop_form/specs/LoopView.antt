@@ -1,0 +1,90 @@
+-- The items of a loop as the code holds them, and the names that are visible where it lists them.
+use Rattle.std.specs.Prelude.{◌≡◌, ℕ, ◌+◌, List, ◌++◌, length, map, true, Option}
+use Rattle.kernel_tree.specs.declared.ops.Ty.{Ty}
+use Rattle.kernel_tree.specs.declared.fault.Binding.TheVariants as binding
+use Rattle.kernel_tree.specs.Plain.{Term, Action, Block, Parameter, Accumulator, Turns, Program}
+use Rattle.kernel_tree.specs.Items.{loop_index}
+use Rattle.kernel_tree.specs.Typing.{Scope, Local, local, after_action, binding_of_shape, in_loop, var_scope}
+use Rattle.loop_form.specs.declared.loop_item.LoopOp.{LoopOp}
+use Rattle.loop_form.specs.declared.loop_item.LoopOp.TheVariants as op
+use Rattle.loop_form.specs.declared.loop_item.LoopItem.{LoopItem}
+use Rattle.loop_form.specs.declared.visible.Visible.{Visible}
+use Rattle.loop_form.specs.LoopItems.{Op, Load, Apply, Combine, Move, Cast, Copy, Pick, Store, Add, Test, Invert, Same, Any, Quit, Item, Bound, bound, outer_env, loop_env, term_items, cond_items, action_items, block_items, after_env}
+
+abbrev pub op_of : LoopOp → Op
+op_of (op.Load a base t c) = Load a.now base t c
+op_of (op.Apply o t x) = Apply o t x
+op_of (op.Combine o t x y) = Combine o t x y
+op_of (op.Move left n t x) = Move left n t x
+op_of (op.Cast s t x) = Cast s t x
+op_of (op.Copy t x) = Copy t x
+op_of (op.Pick t c x y) = Pick t c x y
+op_of (op.Store a base t c v) = Store a.now base t c v
+op_of (op.Add x o t v) = Add x.now o t v
+op_of (op.Test o t x y) = Test o t x y
+op_of (op.Invert c) = Invert c
+op_of (op.Same c) = Same c
+op_of (op.Any c d) = Any c d
+op_of (op.Quit c) = Quit c
+
+abbrev pub view_of : LoopItem → Item
+view_of i = record { item = i.item; mask = i.mask; op = op_of i.op }
+
+abbrev pub view : List LoopItem → List Item
+view items = map view_of items
+
+-- ---- names
+
+abbrev pub local_of : Visible → Local
+local_of v = local v.name.now v.binding
+
+abbrev pub bound_of : Visible → Bound
+bound_of v = bound v.name.now v.source
+
+abbrev pub locals : List Visible → List Local
+locals names = map local_of names
+
+abbrev pub env_of : List Visible → List Bound
+env_of names = map bound_of names
+
+-- the scope in which these names are visible in a loop, whatever else was declared
+abbrev pub scope_of : Option (List ℕ) → List Visible → (taken : List (List ℕ)) → Scope
+scope_of index names taken = record { visible = locals names; taken = taken; index = index; inside = true }
+
+-- ---- what calls append to the items, before whatever follows
+
+abbrev pub AppendsValue : Option (List ℕ) → List Visible → Option Ty → Option ℕ → ℕ → Term → (old new : List LoopItem) → Type 0
+AppendsValue index names want mask from t old new =
+    (taken : List (List ℕ)) (rest : List Item) → view new ++ rest ≡ view old ++ term_items (scope_of index names taken) want mask from (env_of names) t rest
+
+abbrev pub AppendsCondition : Option (List ℕ) → List Visible → Option ℕ → ℕ → Term → (old new : List LoopItem) → Type 0
+AppendsCondition index names mask from t old new =
+    (taken : List (List ℕ)) (rest : List Item) → view new ++ rest ≡ view old ++ cond_items (scope_of index names taken) mask from (env_of names) t rest
+
+abbrev pub AppendsAction : Option (List ℕ) → List Visible → Option ℕ → ℕ → Action → (old new : List LoopItem) → Type 0
+AppendsAction index names mask from a old new =
+    (taken : List (List ℕ)) (rest : List Item) → view new ++ rest ≡ view old ++ action_items (scope_of index names taken) mask from (env_of names) a rest
+
+abbrev pub AppendsBlock : Option (List ℕ) → List Visible → Option ℕ → ℕ → Block → (old new : List LoopItem) → Type 0
+AppendsBlock index names mask from b old new =
+    (taken : List (List ℕ)) (rest : List Item) → view new ++ rest ≡ view old ++ block_items (scope_of index names taken) mask from (env_of names) b rest
+
+-- the names that are visible behind a statement
+abbrev pub Declares : Option (List ℕ) → ℕ → Action → (old new : List Visible) → Type 0
+Declares index from a old new =
+    (taken : List (List ℕ)) → (after_action (scope_of index old taken) a ≡ scope_of index new (after_action (scope_of index old taken) a).taken) × (after_env (scope_of index old taken) from (env_of old) a ≡ env_of new)
+
+-- ---- the names at the head of the loop's body
+
+abbrev pub param_local : Parameter → Local
+param_local p = local p.name (binding_of_shape p.shape)
+
+abbrev pub var_local : Accumulator → Local
+var_local v = local v.name (binding.Accumulator v.type)
+
+-- some more names, held in places from a number on
+abbrev pub AddsOuter : List Local → (old new : List Visible) → Type 0
+AddsOuter more old new = (locals new ≡ locals old ++ more) × (env_of new ≡ env_of old ++ outer_env (length old) more) × (length new ≡ length old + length more)
+
+abbrev pub IsLoopHead : Program → Turns → List Visible → Type 0
+IsLoopHead k l names = (in_loop (var_scope k) l ≡ scope_of (loop_index k) names (in_loop (var_scope k) l).taken) × (loop_env (var_scope k) l.index ≡ env_of names)

@@ -1,0 +1,103 @@
+//! What the items of a loop do.
+
+use kernel_tree::{BinaryOp, CompareOp, Ty, UnaryOp, UpdateOp};
+
+/// Where an operand is held.
+#[derive(Clone, Copy, PartialEq, Eq, Debug)]
+pub enum Source {
+    /// In a literal of a type, as it is written.
+    Constant(Option<Ty>, i128),
+    /// In the parameter or the accumulator at a place: the parameters come first, in their order, and then the
+    /// accumulators.
+    Outer(u32),
+    /// In the loop variable.
+    Turn,
+    /// In what the item of this number makes.
+    Made(u32),
+}
+
+/// What an item does, with its operands and their types. A condition is named by the number of its item.
+#[derive(Clone, Copy)]
+pub enum LoopOp<'a> {
+    /// Reads the element at an offset from the loop variable.
+    Load {
+        array: &'a str,
+        base: Source,
+        ty: Option<Ty>,
+        offset: i32,
+    },
+    Apply {
+        op: UnaryOp,
+        ty: Option<Ty>,
+        arg: Source,
+    },
+    Combine {
+        op: BinaryOp,
+        ty: Option<Ty>,
+        left: Source,
+        right: Source,
+    },
+    /// Shifts by a count, to the left where `left` is true.
+    Move {
+        left: bool,
+        count: i128,
+        ty: Option<Ty>,
+        arg: Source,
+    },
+    Cast {
+        from: Option<Ty>,
+        to: Ty,
+        arg: Source,
+    },
+    /// The value of a `let`.
+    Copy {
+        ty: Option<Ty>,
+        arg: Source,
+    },
+    /// The one value where the condition holds, and else the other.
+    Pick {
+        ty: Option<Ty>,
+        cond: u32,
+        yes: Source,
+        no: Source,
+    },
+    /// Writes the element at an offset from the loop variable.
+    Store {
+        array: &'a str,
+        base: Source,
+        ty: Option<Ty>,
+        offset: i32,
+        value: Source,
+    },
+    /// Updates an accumulator.
+    Add {
+        name: &'a str,
+        op: UpdateOp,
+        ty: Option<Ty>,
+        value: Source,
+    },
+    /// Compares two values of a type.
+    Test {
+        op: CompareOp,
+        ty: Option<Ty>,
+        left: Source,
+        right: Source,
+    },
+    /// Holds where the condition does not: `!`, the mark of `||`, and `else`.
+    Invert(u32),
+    /// Holds where the condition does: `&&`, whose right side is made where the left one holds.
+    Same(u32),
+    /// Holds where one of two conditions does.
+    Any(u32, u32),
+    /// Leaves the loop where the condition holds.
+    Quit(u32),
+}
+
+/// An item of a loop that does something: its number in the listing, the item whose condition it is done under, and
+/// what it does. A literal, a name, `then` and `end` do nothing.
+#[derive(Clone, Copy)]
+pub struct LoopItem<'a> {
+    pub item: u32,
+    pub mask: Option<u32>,
+    pub op: LoopOp<'a>,
+}

@@ -1,0 +1,77 @@
+//! The names that are visible at the head of a loop's body.
+
+ghost use Rattle.std.specs.Prelude.{◌≡◌, ◌+◌, ◌≤◌, length, map, IfOk, OnOk};
+ghost use Rattle.kernel_tree.specs.Plain.{parameters_of, accumulators_of, turns_of};
+ghost use Rattle.kernel_tree.specs.Typing.{binding_of_shape};
+ghost use Rattle.loop_form.specs.LoopView.{param_local, var_local, AddsOuter, IsLoopHead};
+ghost use Rattle.loop_form.specs.Seen.{program};
+
+use crate::laws::few_items;
+use crate::loop_item::Source;
+use crate::visible::Visible;
+use kernel_tree::fault::Binding;
+use kernel_tree::{Checked, Loop, Param, Shape, Var};
+use std::alloc::{AllocError, Global};
+
+fn shape_binding(shape: Shape) -> Binding
+    ensures { result ≡ binding_of_shape shape }
+{
+    match shape {
+        Shape::Scalar(ty) => Binding::Scalar(ty),
+        Shape::Array(ty) => Binding::Array(ty),
+    }
+}
+
+// The parameters, in their order.
+fn add_params<'a>(names: &mut Vec<Visible<'a>>, params: &'a [Param]) -> Result<(), AllocError>
+    requires { length names.old.items + length params.now ≤ 2000 }
+    ensures { OnOk result (AddsOuter (map param_local (parameters_of params.now)) names.old.items names.new.items) }
+{
+    for param in params {
+        let place = names.len() as u32;
+        names.push(Visible {
+            name: param.name.text(),
+            binding: shape_binding(param.shape),
+            source: Source::Outer(place),
+        })?;
+    }
+    Ok(())
+}
+
+// The accumulators, in their order.
+fn add_vars<'a>(names: &mut Vec<Visible<'a>>, vars: &'a [Var]) -> Result<(), AllocError>
+    requires { length names.old.items + length vars.now ≤ 2000 }
+    ensures { OnOk result (AddsOuter (map var_local (accumulators_of vars.now)) names.old.items names.new.items) }
+{
+    for var in vars {
+        let place = names.len() as u32;
+        names.push(Visible {
+            name: var.name.text(),
+            binding: Binding::Accumulator(var.ty),
+            source: Source::Outer(place),
+        })?;
+    }
+    Ok(())
+}
+
+/// The parameters, the accumulators and the loop variable.
+#[tactic(auto, unfolding(crate::specs::Seen::program))]
+pub fn loop_names<'a>(
+    alloc: Global,
+    kernel: &'a Checked,
+    turns: &'a Loop,
+) -> Result<Vec<Visible<'a>>, AllocError>
+    ensures { IfOk result (λ names. IsLoopHead (program kernel.now) (turns_of turns.now) names.items) }
+{
+    few_items(kernel);
+    let tree = kernel.kernel();
+    let mut names = Vec::new(alloc);
+    add_params(&mut names, &tree.params)?;
+    add_vars(&mut names, &tree.vars)?;
+    names.push(Visible {
+        name: turns.index.text(),
+        binding: Binding::Index,
+        source: Source::Turn,
+    })?;
+    Ok(names)
+}

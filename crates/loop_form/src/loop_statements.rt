@@ -1,0 +1,268 @@
+//! Lists what the items of statements in a loop do.
+
+ghost use Rattle.std.specs.Prelude.{◌≡◌, ◌+◌, ◌≤◌, take, length, IfOk, OnOk};
+ghost use Rattle.kernel_tree.specs.Plain.{Put, Choose, Nothing, Else, term_of, action_of, block_of, program_of};
+ghost use Rattle.kernel_tree.specs.Checked.{kernel_of};
+ghost use Rattle.kernel_tree.specs.Items.{loop_index, stream_offset, action_size, block_size};
+ghost use Rattle.loop_form.specs.LoopItems.{loop_items_of};
+ghost use Rattle.loop_form.specs.LoopView.{view, AppendsAction, AppendsBlock, Declares};
+ghost use Rattle.loop_form.specs.Near.{NearAction, NearBlock};
+ghost use Rattle.loop_form.specs.Seen.{program};
+
+use crate::access::offset;
+use crate::loop_item::{LoopItem, LoopOp, Source};
+use crate::loop_values::{append, list_condition, list_one, list_value};
+use crate::operands::{condition_item, source};
+use crate::part::Part;
+use crate::size::{expr_size, statements_size, stmt_size};
+use crate::take_apart::parts;
+use crate::visible::{
+    Visible, accumulator_type_of, array_type_of, first_type, own_type, source_of,
+};
+use kernel_tree::fault::Binding;
+use kernel_tree::{Checked, Expr, Stmt};
+use std::alloc::AllocError;
+
+// A store: its value, and the store.
+fn list_store<'a>(
+    kernel: &Checked,
+    names: &[Visible<'a>],
+    items: &mut Vec<LoopItem<'a>>,
+    mask: Option<u32>,
+    from: u32,
+    array: &'a str,
+    index: &'a Expr,
+    value: &'a Expr,
+) -> Result<(), AllocError>
+    requires fits { from + action_size (loop_index (program kernel.now))
+        (Put array.now (term_of index.now) (term_of value.now)) ≤ 1000 }
+    requires near { NearAction (loop_index (program kernel.now))
+        (Put array.now (term_of index.now) (term_of value.now)) }
+    ensures { OnOk result (AppendsAction (loop_index (program kernel.now)) names.now mask from
+        (Put array.now (term_of index.now) (term_of value.now)) items.old.items items.new.items) }
+{
+    let want = array_type_of(names, array);
+    let stored = source(kernel, names, want, from, value);
+    list_value(kernel, names, items, want, mask, from, value)?;
+    if let Some(offset) = offset(kernel, index) {
+        let op = LoopOp::Store {
+            array,
+            base: source_of(names, array),
+            ty: want,
+            offset,
+            value: stored,
+        };
+        append(items, from + expr_size(kernel, value), mask, op)?;
+    }
+    Ok(())
+}
+
+// A statement; the names behind it are not yet declared.
+#[cycle(loop_statements)]
+fn list_stmt<'a>(
+    kernel: &Checked,
+    names: &mut Vec<Visible<'a>>,
+    items: &mut Vec<LoopItem<'a>>,
+    mask: Option<u32>,
+    from: u32,
+    stmt: &'a Stmt,
+) -> Result<(), AllocError>
+    requires fits { from + action_size (loop_index (program kernel.now)) (action_of stmt.now) ≤ 1000 }
+    requires near { NearAction (loop_index (program kernel.now)) (action_of stmt.now) }
+    ensures names { OnOk result (names.new.items ≡ names.old.items) }
+    ensures items { OnOk result (AppendsAction (loop_index (program kernel.now)) names.old.items mask from
+        (action_of stmt.now) items.old.items items.new.items) }
+{
+    match parts(stmt) {
+        Part::Let { ty, value, .. } => {
+            let want = first_type(ty, own_type(names, value));
+            let op = LoopOp::Copy {
+                ty: want,
+                arg: source(kernel, names, want, from, value),
+            };
+            list_one(kernel, names, items, want, mask, from, value, op)?;
+            Ok(())
+        }
+        Part::Store {
+            array,
+            index,
+            value,
+        } => {
+            list_store(kernel, names, items, mask, from, array, index, value)?;
+            Ok(())
+        }
+        Part::Update { name, op, value } => {
+            let want = accumulator_type_of(names, name);
+            let op = LoopOp::Add {
+                name,
+                op,
+                ty: want,
+                value: source(kernel, names, want, from, value),
+            };
+            list_one(kernel, names, items, want, mask, from, value, op)?;
+            Ok(())
+        }
+        Part::If { cond, block } => {
+            list_if(kernel, names, items, mask, from, cond, block)?;
+            Ok(())
+        }
+        Part::IfElse { cond, block, other } => {
+            list_if_else(kernel, names, items, mask, from, cond, block, other)?;
+            Ok(())
+        }
+        Part::Break { cond } => {
+            let op = LoopOp::Quit(condition_item(kernel, from, cond));
+            list_condition(kernel, names, items, mask, from, cond)?;
+            append(items, from + expr_size(kernel, cond), mask, op)?;
+            Ok(())
+        }
+    }
+}
+
+#[cycle(loop_statements)]
+fn list_if<'a>(
+    kernel: &Checked,
+    names: &mut Vec<Visible<'a>>,
+    items: &mut Vec<LoopItem<'a>>,
+    mask: Option<u32>,
+    from: u32,
+    cond: &'a Expr,
+    block: &'a [Stmt],
+) -> Result<(), AllocError>
+    requires fits { from + action_size (loop_index (program kernel.now))
+        (Choose (term_of cond.now) (block_of block.now) Nothing) ≤ 1000 }
+    requires near { NearAction (loop_index (program kernel.now))
+        (Choose (term_of cond.now) (block_of block.now) Nothing) }
+    ensures names { OnOk result (names.new.items ≡ names.old.items) }
+    ensures items { OnOk result (AppendsAction (loop_index (program kernel.now)) names.old.items mask from
+        (Choose (term_of cond.now)
+        (block_of block.now) Nothing) items.old.items items.new.items) }
+{
+    let first = condition_item(kernel, from, cond);
+    let inner = from + expr_size(kernel, cond) + 1;
+    list_condition(kernel, names, items, mask, from, cond)?;
+    list_inner(kernel, names, items, Some(first), inner, block)?;
+    Ok(())
+}
+
+#[cycle(loop_statements)]
+fn list_if_else<'a>(
+    kernel: &Checked,
+    names: &mut Vec<Visible<'a>>,
+    items: &mut Vec<LoopItem<'a>>,
+    mask: Option<u32>,
+    from: u32,
+    cond: &'a Expr,
+    block: &'a [Stmt],
+    other: &'a [Stmt],
+) -> Result<(), AllocError>
+    requires fits { from + action_size (loop_index (program kernel.now))
+        (Choose (term_of cond.now) (block_of block.now) (Else (block_of other.now))) ≤ 1000 }
+    requires near { NearAction (loop_index (program kernel.now))
+        (Choose (term_of cond.now) (block_of block.now) (Else (block_of other.now))) }
+    ensures names { OnOk result (names.new.items ≡ names.old.items) }
+    ensures items { OnOk result (AppendsAction (loop_index (program kernel.now)) names.old.items mask from
+        (Choose (term_of cond.now) (block_of block.now)
+        (Else (block_of other.now))) items.old.items items.new.items) }
+{
+    let first = condition_item(kernel, from, cond);
+    let inner = from + expr_size(kernel, cond) + 1;
+    let other_side = inner + statements_size(kernel, block);
+    list_condition(kernel, names, items, mask, from, cond)?;
+    list_inner(kernel, names, items, Some(first), inner, block)?;
+    append(items, other_side, mask, LoopOp::Invert(first))?;
+    list_inner(
+        kernel,
+        names,
+        items,
+        Some(other_side),
+        other_side + 1,
+        other,
+    )?;
+    Ok(())
+}
+
+// A block inside another, whose names end with it.
+#[cycle(loop_statements)]
+fn list_inner<'a>(
+    kernel: &Checked,
+    names: &mut Vec<Visible<'a>>,
+    items: &mut Vec<LoopItem<'a>>,
+    mask: Option<u32>,
+    from: u32,
+    block: &'a [Stmt],
+) -> Result<(), AllocError>
+    requires fits { from + block_size (loop_index (program kernel.now)) (block_of block.now) ≤ 1000 }
+    requires near { NearBlock (loop_index (program kernel.now)) (block_of block.now) }
+    ensures names { OnOk result (names.new.items ≡ names.old.items) }
+    ensures items { OnOk result (AppendsBlock (loop_index (program kernel.now)) names.old.items mask from
+        (block_of block.now) items.old.items items.new.items) }
+{
+    let outer = names.len();
+    list_block(kernel, names, items, mask, from, block)?;
+    names.truncate(outer);
+    Ok(())
+}
+
+/// Lists the statements of a block, whose names come behind those that are visible.
+#[cycle(loop_statements)]
+pub fn list_block<'a>(
+    kernel: &Checked,
+    names: &mut Vec<Visible<'a>>,
+    items: &mut Vec<LoopItem<'a>>,
+    mask: Option<u32>,
+    from: u32,
+    block: &'a [Stmt],
+) -> Result<(), AllocError>
+    requires fits { from + block_size (loop_index (program kernel.now)) (block_of block.now) ≤ 1000 }
+    requires near { NearBlock (loop_index (program kernel.now)) (block_of block.now) }
+    ensures names { OnOk result (take (length names.old.items) names.new.items ≡ names.old.items) }
+    ensures items { OnOk result (AppendsBlock (loop_index (program kernel.now)) names.old.items mask from
+        (block_of block.now) items.old.items items.new.items) }
+{
+    let [stmt, rest @ ..] = block else {
+        return Ok(());
+    };
+    list_stmt(kernel, names, items, mask, from, stmt)?;
+    declare(kernel, names, from, stmt)?;
+    let next = from + count_items(kernel, stmt);
+    list_block(kernel, names, items, mask, next, rest)?;
+    Ok(())
+}
+
+// The items of a statement, of which there is one at least.
+fn count_items(kernel: &Checked, stmt: &Stmt) -> u32
+    requires { action_size (loop_index (program kernel.now)) (action_of stmt.now) ≤ 1000 }
+    ensures size { result ≡ action_size (loop_index (program kernel.now)) (action_of stmt.now) }
+    ensures some { 1 ≤ result }
+{
+    stmt_size(kernel, stmt)
+}
+
+// The name that a statement declares.
+fn declare<'a>(
+    kernel: &Checked,
+    names: &mut Vec<Visible<'a>>,
+    from: u32,
+    stmt: &'a Stmt,
+) -> Result<(), AllocError>
+    requires { from + action_size (loop_index (program kernel.now)) (action_of stmt.now) ≤ 1000 }
+    ensures kept { OnOk result (take (length names.old.items) names.new.items ≡ names.old.items) }
+    ensures declares { OnOk result (Declares (loop_index (program kernel.now)) from
+        (action_of stmt.now) names.old.items names.new.items) }
+{
+    match parts(stmt) {
+        Part::Let { name, ty, value } => {
+            if let Some(ty) = first_type(ty, own_type(names, value)) {
+                let item = from + expr_size(kernel, value);
+                names.push(Visible {
+                    name,
+                    binding: Binding::Value(ty),
+                    source: Source::Made(item),
+                })?;
+            }
+            Ok(())
+        }
+        _ => Ok(()),
+    }
+}

@@ -1,0 +1,4 @@
+pub mod Overlaps
+mod Ends
+mod Examples
+mod Walk
