@@ -3,9 +3,11 @@
 
 mod decide;
 mod elements;
+mod laws;
 pub mod reason;
 mod updates;
 pub mod used;
 
 pub use decide::class;
+pub use laws::{apart_is_tested, bounds_in_order};
 pub use used::Used;

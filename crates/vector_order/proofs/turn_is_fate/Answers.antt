@@ -1,0 +1,5 @@
+use Rattle.vector_order.proofs.Whole as laws
+use Rattle.vector_order.proofs.turn_is_fate.Goals as goal
+
+pub returns : goal.returns
+returns c = laws.turn_is_fate
