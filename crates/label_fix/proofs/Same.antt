@@ -1,31 +1,26 @@
 -- Where the words of a draft stand in memory, the machine runs as the draft does.
-use Rattle.std.proofs.Common.{◌≡◌, ℕ, zero, suc, ◌+◌, ◌-◌, ◌*◌, ◌%◌, ◌^◌, ◌<◌, ◌≤◌, Bool, true, false, List, [], ◌∷◌, ◌++◌, Option, Some, None, refl, sym, ap, ap₂, ◌∙◌, subst, arith, append_assoc, ⊎_elim}
-use Rattle.std.specs.Prelude.{nat_eq, nat_lt, not, if◌then◌else◌}
-use Rattle.std.proofs.lemmas.Bool.{cases_lt, lt-ltb, le-ltb, cond-true, cond-false}
+use Rattle.std.proofs.Common.{◌≡◌, ℕ, zero, suc, ◌+◌, ◌-◌, ◌*◌, ◌%◌, ◌^◌, ◌<◌, ◌≤◌, Bool, true, false, List, [], ◌∷◌, ◌++◌, length, Option, Some, None, refl, sym, ap, ap₂, ◌∙◌, subst, arith, append_assoc, ⊎_elim}
+use Rattle.std.specs.Prelude.{nat_eq, nat_lt, not, if◌then◌else◌, slice_get}
+use Rattle.label_fix.specs.RunsAsDraft.{RunsAsDraft}
+use Rattle.std.proofs.lemmas.Bool.{cases_lt, lt-ltb, le-ltb, ltb-true, cond-true, cond-false}
 use Rattle.guest_types.specs.Memory.{Memory, fetched}
 use Rattle.word_rows.specs.Row.{Instruction, IsInstruction, spells}
+use Rattle.a64_code.specs.Table as table
 use Rattle.a64_code.specs.Table.{Name, row, a64_names, b, b_cond, cbz, cbnz}
 use Rattle.machine_model.specs.Arithmetic.{holds, target}
 use Rattle.machine_model.specs.InstructionTable.{Listed, Scalar, Vector}
 use Rattle.machine_model.specs.Machine.{State, Step, Went, Ended, Stopped, x_at, jump, next}
 use Rattle.machine_model.specs.OneStep.{step, does}
 use Rattle.machine_model.specs.Run.{Outcome, go_on, run}
+use Rattle.machine_model.specs.VectorEffects.{field_of}
+use Rattle.machine_model.proofs.Frames.{went_leaves}
 use Rattle.machine_model.proofs.ListedWords.{step_does}
 use Rattle.sve_code.specs.Table as sve
 use Rattle.label_fix.specs.DraftRun.{Kind, Always, If, Zero, NotZero, Entry, Put, Branch, Place, Laid, is_taken, effect, after, behind, place_of, address_of, walk, draft_run}
-use Rattle.label_fix.proofs.Keeps.{IsPlain, Keeps, keeps}
+use Rattle.label_fix.specs.Finished.{size, offset, branch_of, is_straight, IsWord, IsBranch, AreFit, StandAt, words_from, words_of}
+use Rattle.label_fix.proofs.Keeps.{Keeps, keeps}
 
 -- ---- branches
-
--- the offset of a branch of w bits, in words
-abbrev pub offset : ℕ → ℕ → ℕ → ℕ
-offset w from to = (to + 2 ^ w - from) % 2 ^ w
-
-abbrev pub branch_of : Kind → ℕ → ℕ → Instruction Name
-branch_of Always from to = record { name = b; numbers = offset 26 from to ∷ [] }
-branch_of (If c) from to = record { name = b_cond; numbers = c ∷ offset 19 from to ∷ [] }
-branch_of (Zero r) from to = record { name = cbz; numbers = r ∷ offset 19 from to ∷ [] }
-branch_of (NotZero r) from to = record { name = cbnz; numbers = r ∷ offset 19 from to ∷ [] }
 
 target_19 : (base from to pc : ℕ) → from ≤ 65536 → to ≤ 65536 → pc ≡ (base + 4 * from) % 2 ^ 64 → target pc 19 (offset 19 from to) ≡ (base + 4 * to) % 2 ^ 64
 target_19 base from to pc hf ht e =
@@ -51,13 +46,7 @@ target_26 base from to pc hf ht e =
 
 -- ---- places
 
-abbrev pub size : List Entry → ℕ
-size [] = 0
-size (Put i ∷ rest) = suc (size rest)
-size (Branch k l ∷ rest) = suc (size rest)
-size (Place l ∷ rest) = size rest
-
-size-append : (x y : List Entry) → size (x ++ y) ≡ size x + size y
+pub size-append : (x y : List Entry) → size (x ++ y) ≡ size x + size y
 size-append [] y = omega arith
 size-append (Put i ∷ x) y = omega (arith, size-append x y)
 size-append (Branch k l ∷ x) y = omega (arith, size-append x y)
@@ -95,7 +84,7 @@ address_at d n = (d.base + 4 * n) % 2 ^ 64
 -- the words of some entries, the first of which has number n, stand at their places
 abbrev pub Stands : Laid → Memory → ℕ → List Entry → Type 0
 Stands d m n [] = Unit {0}
-Stands d m n (Put (Scalar i) ∷ rest) = (fetched m (address_at d n) ≡ Some (spells row i)) × IsInstruction row a64_names i × IsPlain i.name × Stands d m (suc n) rest
+Stands d m n (Put (Scalar i) ∷ rest) = (fetched m (address_at d n) ≡ Some (spells row i)) × IsInstruction row a64_names i × (is_straight i.name ≡ true) × Stands d m (suc n) rest
 Stands d m n (Put (Vector i) ∷ rest) = (fetched m (address_at d n) ≡ Some (spells sve.row i)) × IsInstruction sve.row sve.sve_names i × Stands d m (suc n) rest
 Stands d m n (Branch k l ∷ rest) = (fetched m (address_at d n) ≡ Some (spells row (branch_of k n (place_of d.entries l)))) × IsInstruction row a64_names (branch_of k n (place_of d.entries l)) × Stands d m (suc n) rest
 Stands d m n (Place l ∷ rest) = Stands d m n rest
@@ -142,7 +131,7 @@ module _ (d : Laid) (few : size d.entries ≤ 65536) (n : ℕ) (ih : Same d n) w
   next_place : (pc k : ℕ) → pc ≡ address_at d k → (pc + 4) % 2 ^ 64 ≡ address_at d (k + 1)
   next_place pc k e = omega (arith, e)
 
-  went_on : (i : Instruction Name) (o : Step) (taken : ℕ) (pre rest : List Entry) (s : State) → does (Scalar i) s ≡ o → IsPlain i.name → d.entries ≡ pre ++ Put (Scalar i) ∷ rest → s.pc ≡ address_at d (size pre) → Stands d s.memory 0 d.entries → go_on o s taken (run n taken) ≡ go_on o s taken (draft_run d n taken rest)
+  went_on : (i : Instruction Name) (o : Step) (taken : ℕ) (pre rest : List Entry) (s : State) → does (Scalar i) s ≡ o → (is_straight i.name ≡ true) → d.entries ≡ pre ++ Put (Scalar i) ∷ rest → s.pc ≡ address_at d (size pre) → Stands d s.memory 0 d.entries → go_on o s taken (run n taken) ≡ go_on o s taken (draft_run d n taken rest)
   went_on i (Went t) taken pre rest s is plain e p h =
       let k = keeps i.name i.numbers s t plain is in
       let z : size (pre ++ Put (Scalar i) ∷ []) ≡ size pre + 1 = size-append pre (Put (Scalar i) ∷ []) in
@@ -151,7 +140,10 @@ module _ (d : Laid) (few : size d.entries ≤ 65536) (n : ℕ) (ih : Same d n) w
   went_on i (Stopped kind pc at m) taken pre rest s is plain e p h = refl
 
   vector_on : (v : Instruction sve.Name) (o : Step) (taken : ℕ) (pre rest : List Entry) (s : State) → does (Vector v) s ≡ o → d.entries ≡ pre ++ Put (Vector v) ∷ rest → s.pc ≡ address_at d (size pre) → Stands d s.memory 0 d.entries → go_on o s taken (run n taken) ≡ go_on o s taken (draft_run d n taken rest)
-  vector_on v (Went t) taken pre rest s is e p h = absurd cc
+  vector_on v (Went t) taken pre rest s is e p h =
+      let k = went_leaves v.name (field_of v.name v.numbers) s t is in
+      let z : size (pre ++ Put (Vector v) ∷ []) ≡ size pre + 1 = size-append pre (Put (Vector v) ∷ []) in
+      ih taken (pre ++ Put (Vector v) ∷ []) rest t (onward (Put (Vector v)) pre rest e) (k.pc ∙ next_place s.pc (size pre) p ∙ ap (address_at d) (sym z)) (stands_keep d s.memory t.memory 0 d.entries k.code h)
   vector_on v (Ended r) taken pre rest s is e p h = refl
   vector_on v (Stopped kind pc at m) taken pre rest s is e p h = refl
 
@@ -188,3 +180,45 @@ same d few (suc n) taken pre rest s e p h = same_walk d few n (same d few n) res
 -- where the words stand, from the first of them on, the machine's run is the draft's
 pub same_run : (d : Laid) → size d.entries ≤ 65536 → (s : State) → s.pc ≡ d.base % 2 ^ 64 → Stands d s.memory 0 d.entries → (n taken : ℕ) → run n taken s ≡ draft_run d n taken d.entries s
 same_run d few s p h n taken = same d few n taken [] d.entries s refl (p ∙ (let e : d.base % 2 ^ 64 ≡ (d.base + 4 * 0) % 2 ^ 64 = omega arith in e)) h
+
+-- ---- from the words that stand in memory
+
+branch_listed : (k : Kind) (from to : ℕ) → IsBranch k → IsInstruction row a64_names (branch_of k from to)
+unfolding table.add_sub_imm table.add_sub_shifted table.logical table.move_wide table.multiply_add table.shift_variable table.select table.bitfield table.branch table.branch_if table.branch_zero
+branch_listed Always from to h = record { place = 22; listed = refl; fits = (omega arith, tt); admitted = refl }
+branch_listed (If c) from to h = record { place = 23; listed = refl; fits = (omega (arith, ltb-true c 15 h.1), (omega arith, tt)); admitted = h.1 }
+branch_listed (Zero r) from to h = record { place = 24; listed = refl; fits = (omega (arith, ltb-true r 32 h.0), (omega arith, tt)); admitted = refl }
+branch_listed (NotZero r) from to h = record { place = 25; listed = refl; fits = (omega (arith, ltb-true r 32 h.0), (omega arith, tt)); admitted = refl }
+
+-- some words from number n on
+abbrev From : Laid → Memory → ℕ → List ℕ → Type 0
+From d m n words = (k w : ℕ) → slice_get words k ≡ Some w → fetched m (address_at d (n + k)) ≡ Some w
+
+from_next : (d : Laid) (m : Memory) (n v : ℕ) (words : List ℕ) → From d m n (v ∷ words) → From d m (suc n) words
+from_next d m n v words f k w e = let j : n + suc k ≡ suc n + k = omega arith in ap (λ i. fetched m (address_at d i)) (sym j) ∙ f (suc k) w e
+
+from_here : (d : Laid) (m : Memory) (n v : ℕ) (words : List ℕ) → From d m n (v ∷ words) → fetched m (address_at d n) ≡ Some v
+from_here d m n v words f = let j : n ≡ n + 0 = omega arith in ap (λ i. fetched m (address_at d i)) j ∙ f 0 v refl
+
+stands_from : (d : Laid) (m : Memory) (labels n : ℕ) (rest : List Entry) → AreFit labels rest → From d m n (words_from d.entries n rest) → Stands d m n rest
+stands_from d m labels n [] h f = tt
+stands_from d m labels n (Put (Scalar i) ∷ rest) h f = (from_here d m n _ _ f, h.0.0, h.0.1, stands_from d m labels (suc n) rest h.1 (from_next d m n _ _ f))
+stands_from d m labels n (Put (Vector i) ∷ rest) h f = (from_here d m n _ _ f, h.0.0, stands_from d m labels (suc n) rest h.1 (from_next d m n _ _ f))
+stands_from d m labels n (Branch k l ∷ rest) h f = (from_here d m n _ _ f, branch_listed k n (place_of d.entries l) h.0, stands_from d m labels (suc n) rest h.2 (from_next d m n _ _ f))
+stands_from d m labels n (Place l ∷ rest) h f = stands_from d m labels n rest h.1 f
+
+-- wherever the words of fit entries stand, the machine's run from the first of them on is the draft's
+pub runs_as_draft : RunsAsDraft
+unfolding words_of
+runs_as_draft d labels s fit few at p steps taken = same_run d few s p (stands_from d s.memory labels 0 d.entries fit (λ k w e. let z : 0 + k ≡ k = omega arith in ap (λ i. fetched s.memory (address_at d i)) z ∙ at k w e)) steps taken
+
+length_from : (whole rest : List Entry) (n : ℕ) → length (words_from whole n rest) ≡ size rest
+length_from whole [] n = refl
+length_from whole (Put (Scalar i) ∷ rest) n = ap suc (length_from whole rest (suc n))
+length_from whole (Put (Vector i) ∷ rest) n = ap suc (length_from whole rest (suc n))
+length_from whole (Branch k l ∷ rest) n = ap suc (length_from whole rest (suc n))
+length_from whole (Place l ∷ rest) n = length_from whole rest n
+
+pub words_length : (entries : List Entry) → length (words_of entries) ≡ size entries
+unfolding words_of
+words_length entries = length_from entries entries 0
