@@ -14,7 +14,7 @@ use crate::used::{arrays, bound};
 use a64_code::{Cond, Reg};
 use dependence::Used;
 use kernel_tree::Checked;
-use label_fix::{BranchKind, Draft};
+use label_fix::{BranchKind, Draft, Label};
 use std::alloc::AllocError;
 use word_rows::Bits;
 
@@ -26,9 +26,10 @@ fn register(place: u32) -> Reg
     Bits { number: place }
 }
 
-fn emit_below(draft: &mut Draft, bound: Reg, ok: usize, u: Used, v: Used) -> Result<(), AllocError>
+fn emit_below(draft: &mut Draft, bound: Reg, ok: Label, u: Used, v: Used) -> Result<(), AllocError>
     requires first { u.place < 32 }
     requires second { v.place < 32 }
+    requires passed { ok < draft.old.labels }
     ensures labels { OnOk result (draft.new.labels ≡ draft.old.labels) }
     ensures code { OnOk result ((rest : List plain.Entry) → draft.new.entries ++ rest ≡ draft.old.entries ++ guard.below_code bound.number ok u v rest) }
 {
@@ -45,13 +46,15 @@ fn emit_below(draft: &mut Draft, bound: Reg, ok: usize, u: Used, v: Used) -> Res
 fn emit_tests(
     draft: &mut Draft,
     bound: Reg,
-    fail: usize,
-    ok: usize,
+    fail: Label,
+    ok: Label,
     u: Used,
     v: Used,
 ) -> Result<(), AllocError>
     requires first { u.place < 32 }
     requires second { v.place < 32 }
+    requires failed { fail < draft.old.labels }
+    requires passed { ok < draft.old.labels }
     ensures labels { OnOk result (draft.new.labels ≡ draft.old.labels) }
     ensures code { OnOk result ((rest : List plain.Entry) → draft.new.entries ++ rest ≡ draft.old.entries ++ guard.pair_code bound.number fail ok u v rest) }
 {
@@ -68,12 +71,13 @@ fn emit_tests(
 fn emit_labelled(
     draft: &mut Draft,
     bound: Reg,
-    fail: usize,
+    fail: Label,
     u: Used,
     v: Used,
 ) -> Result<(), AllocError>
     requires first { u.place < 32 }
     requires second { v.place < 32 }
+    requires failed { fail < draft.old.labels }
     ensures labels { OnOk result (draft.new.labels ≡ draft.old.labels + 1) }
     ensures code { OnOk result ((rest : List plain.Entry) → draft.new.entries ++ rest ≡ draft.old.entries ++ guard.pair_code bound.number fail draft.old.labels u v rest) }
 {
@@ -83,9 +87,10 @@ fn emit_labelled(
 }
 
 // The tests of two parameters, where the loop stores to one of them.
-fn emit_pair(draft: &mut Draft, bound: Reg, fail: usize, u: Used, v: Used) -> Result<(), AllocError>
+fn emit_pair(draft: &mut Draft, bound: Reg, fail: Label, u: Used, v: Used) -> Result<(), AllocError>
     requires first { u.place < 32 }
     requires second { v.place < 32 }
+    requires failed { fail < draft.old.labels }
     ensures labels { OnOk result (draft.new.labels ≡ guard.label_if (u.stored || v.stored) draft.old.labels) }
     ensures code { OnOk result ((rest : List plain.Entry) → draft.new.entries ++ rest ≡ draft.old.entries ++ guard.pair_if (u.stored || v.stored) bound.number fail draft.old.labels u v rest) }
 {
@@ -98,12 +103,14 @@ fn emit_pair(draft: &mut Draft, bound: Reg, fail: usize, u: Used, v: Used) -> Re
 fn emit_with(
     draft: &mut Draft,
     bound: Reg,
-    fail: usize,
+    fail: Label,
     u: Used,
     others: &[Used],
 ) -> Result<(), AllocError>
     requires first { u.place < 32 }
     requires others { AreFit others.now }
+    requires failed { fail < draft.old.labels }
+    ensures failed { OnOk result (fail < draft.new.labels) }
     ensures labels { OnOk result (draft.new.labels ≡ guard.label_with draft.old.labels u others.now) }
     ensures code { OnOk result ((rest : List plain.Entry) → draft.new.entries ++ rest ≡ draft.old.entries ++ guard.with_code bound.number fail draft.old.labels u others.now rest) }
 {
@@ -113,8 +120,9 @@ fn emit_with(
     Ok(())
 }
 
-fn emit_bases(draft: &mut Draft, fail: usize, used: &[Used]) -> Result<(), AllocError>
-    requires { AreFit used.now }
+fn emit_bases(draft: &mut Draft, fail: Label, used: &[Used]) -> Result<(), AllocError>
+    requires fit { AreFit used.now }
+    requires failed { fail < draft.old.labels }
     ensures labels { OnOk result (draft.new.labels ≡ draft.old.labels) }
     ensures code { OnOk result ((rest : List plain.Entry) → draft.new.entries ++ rest ≡ draft.old.entries ++ guard.bases_code fail used.now rest) }
 {
@@ -124,8 +132,9 @@ fn emit_bases(draft: &mut Draft, fail: usize, used: &[Used]) -> Result<(), Alloc
     Ok(())
 }
 
-fn emit_base(draft: &mut Draft, fail: usize, place: u32) -> Result<(), AllocError>
-    requires { place < 32 }
+fn emit_base(draft: &mut Draft, fail: Label, place: u32) -> Result<(), AllocError>
+    requires register { place < 32 }
+    requires failed { fail < draft.old.labels }
     ensures labels { OnOk result (draft.new.labels ≡ draft.old.labels) }
     ensures code { OnOk result ((rest : List plain.Entry) → draft.new.entries ++ rest ≡ draft.old.entries ++ guard.base_code fail place rest) }
 {
@@ -136,8 +145,9 @@ fn emit_base(draft: &mut Draft, fail: usize, place: u32) -> Result<(), AllocErro
     Ok(())
 }
 
-fn emit_pairs(draft: &mut Draft, bound: Reg, fail: usize, used: &[Used]) -> Result<(), AllocError>
-    requires { AreFit used.now }
+fn emit_pairs(draft: &mut Draft, bound: Reg, fail: Label, used: &[Used]) -> Result<(), AllocError>
+    requires fit { AreFit used.now }
+    requires failed { fail < draft.old.labels }
     ensures labels { OnOk result (draft.new.labels ≡ guard.label_pairs draft.old.labels used.now) }
     ensures code { OnOk result ((rest : List plain.Entry) → draft.new.entries ++ rest ≡ draft.old.entries ++ guard.pairs_code bound.number fail draft.old.labels used.now rest) }
 {
@@ -149,8 +159,9 @@ fn emit_pairs(draft: &mut Draft, bound: Reg, fail: usize, used: &[Used]) -> Resu
     Ok(())
 }
 
-fn emit_spread(draft: &mut Draft, bound: Reg, fail: usize, used: &[Used]) -> Result<(), AllocError>
-    requires { AreFit used.now }
+fn emit_spread(draft: &mut Draft, bound: Reg, fail: Label, used: &[Used]) -> Result<(), AllocError>
+    requires fit { AreFit used.now }
+    requires failed { fail < draft.old.labels }
     ensures labels { OnOk result (draft.new.labels ≡ guard.label_pairs draft.old.labels used.now) }
     ensures code { OnOk result ((rest : List plain.Entry) → draft.new.entries ++ rest ≡ draft.old.entries ++ guard.spread_code bound.number fail draft.old.labels used.now rest) }
 {
@@ -183,10 +194,11 @@ fn is_free(used: &[Used]) -> bool
 pub fn emit_used(
     draft: &mut Draft,
     bound: Reg,
-    fail: usize,
+    fail: Label,
     used: &[Used],
 ) -> Result<(), AllocError>
-    requires { AreFit used.now }
+    requires fit { AreFit used.now }
+    requires failed { fail < draft.old.labels }
     ensures labels { OnOk result (draft.new.labels ≡ guard.label_by (guard.is_free used.now) draft.old.labels used.now) }
     ensures code { OnOk result ((rest : List plain.Entry) → draft.new.entries ++ rest ≡ draft.old.entries ++ guard.code_by (guard.is_free used.now) bound.number fail draft.old.labels used.now rest) }
 {
@@ -197,7 +209,8 @@ pub fn emit_used(
 }
 
 /// The guard: code that goes on exactly where Apart holds, and else to a label.
-pub fn guard(kernel: &Checked, fail: usize, draft: &mut Draft) -> Result<(), AllocError>
+pub fn guard(kernel: &Checked, fail: Label, draft: &mut Draft) -> Result<(), AllocError>
+    requires failed { fail < draft.old.labels }
     ensures labels { OnOk result (draft.new.labels ≡ guard.label_by (guard.is_free (used_of (program kernel.now))) draft.old.labels (used_of (program kernel.now))) }
     ensures code { OnOk result ((rest : List plain.Entry) → draft.new.entries ++ rest ≡ draft.old.entries ++ guard.guard_code (program kernel.now) fail draft.old.labels rest) }
 {
