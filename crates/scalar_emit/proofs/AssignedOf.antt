@@ -1,31 +1,31 @@
 -- Registers of intervals are registers of items: what register assignment says.
-use Rattle.std.proofs.Common.{◌≡◌, ◌≢◌, ℕ, zero, suc, ◌+◌, ◌<◌, ◌≤◌, Bool, true, false, cond, List, [], ◌∷◌, ◌++◌, length, map, Option, Some, None, refl, sym, ap, ◌∙◌, subst, arith, ⊎_elim}
-use Rattle.std.specs.Prelude.{slice_get, slice_index, unwrap_or, nat_lt, if◌then◌else◌, filter_map}
+use Rattle.std.proofs.Common.{◌≡◌, ◌≢◌, ℕ, zero, suc, ◌+◌, ◌<◌, ◌≤◌, Bool, true, false, List, [], ◌∷◌, map, Option, Some, None, refl, sym, ap, ◌∙◌, arith, ⊎_elim}
+use Rattle.std.specs.Prelude.{slice_get, slice_index, unwrap_or, nat_lt, if◌then◌else◌}
 use Rattle.std.proofs.lemmas.Bool.{cases_lt, lt-ltb, le-ltb, cond-true, cond-false}
-use Rattle.loop_form.specs.declared.class.RegisterClass.TheVariants.{X}
-use Rattle.loop_form.specs.declared.span.Span.{Span}
+use Rattle.reg_assign.specs.declared.interval.RegClass.TheVariants.{X}
+use Rattle.reg_assign.specs.declared.interval.Interval.{Interval}
 use Rattle.loop_form.specs.Entries.{Entry}
 use Rattle.loop_form.specs.Listing.{until_in}
-use Rattle.loop_form.specs.Needs.{span, span_of, spans_of}
-use Rattle.scalar_emit.specs.Layout.{Layout, reg_of, until_of, IsMade}
+use Rattle.loop_form.specs.Needs.{span, spans_of}
+use Rattle.loop_form.specs.Numbers.{Numbered}
 use Rattle.scalar_emit.proofs.States.{Assigned}
 use Rattle.scalar_emit.specs.Kernel.{counted_x, x_until, one_reg, regs_from, layout_from}
 
-counted-low : (j : ℕ) → 10 ≤ counted_x j
+pub counted-low : (j : ℕ) → 10 ≤ counted_x j
 counted-low j = by (nat_lt j 8)
   where
     by : (b : Bool) → 10 ≤ (if b then 10 + j else 11 + j)
     by true = omega arith
     by false = omega arith
 
-counted-high : (j : ℕ) → j < 15 → counted_x j ≤ 25
+pub counted-high : (j : ℕ) → j < 15 → counted_x j ≤ 25
 counted-high j h = by (nat_lt j 8)
   where
     by : (b : Bool) → (if b then 10 + j else 11 + j) ≤ 25
     by true = omega arith
     by false = omega arith
 
-counted-apart : (i j : ℕ) → i ≢ j → counted_x i ≢ counted_x j
+pub counted-apart : (i j : ℕ) → i ≢ j → counted_x i ≢ counted_x j
 counted-apart i j ne e =
     ⊎_elim
     (λ (a : i < 8). ⊎_elim
@@ -38,21 +38,16 @@ counted-apart i j ne e =
     (cases_lt j 8))
     (cases_lt i 8)
 
--- the items are numbered from b on
-abbrev pub Numbered : ℕ → List Entry → Type 0
-Numbered b [] = Unit {0}
-Numbered b (e ∷ es) = (e.item ≡ b) × Numbered (suc b) es
-
 -- where an item's value stands among the intervals
-record Located (R : ℕ → ℕ) (spans : List Span) (j p until reg : ℕ) : Type 0 where
-  m : ℕ
-  span : Span
-  is : slice_get spans m ≡ Some span
-  from : span.from ≡ p
-  until' : span.until ≡ until
-  register : reg ≡ counted_x (R (j + m))
+pub record Located (R : ℕ → ℕ) (spans : List Interval) (j p until reg : ℕ) : Type 0 where
+  pub m : ℕ
+  pub span : Interval
+  pub is : slice_get spans m ≡ Some span
+  pub from : span.from ≡ p
+  pub until' : span.until ≡ until
+  pub register : reg ≡ counted_x (R (j + m))
 
-abbrev span_cons : Option Span → List Span → List Span
+abbrev span_cons : Option Interval → List Interval → List Interval
 span_cons None l = l
 span_cons (Some x) l = x ∷ l
 
@@ -74,15 +69,15 @@ located_in R all es e (Some u) j b p (suc n) q item at lt more =
     let z : suc j + k.m ≡ j + suc k.m = omega arith in
     record { m = suc k.m; span = k.span; is = ap (λ l. slice_get l (suc k.m)) s ∙ k.is; from = k.from; until' = k.until'; register = k.register ∙ ap (λ i. counted_x (R i)) z }
 
-located : (R : ℕ → ℕ) (all es : List Entry) (j b p n : ℕ) → Numbered b es → p ≡ b + n → p < slice_index (map (x_until all) es) n → Located R (spans_of X all es) j p (slice_index (map (x_until all) es) n) (slice_index (regs_from R all j es) n)
+pub located : (R : ℕ → ℕ) (all es : List Entry) (j b p n : ℕ) → Numbered b es → p ≡ b + n → p < slice_index (map (x_until all) es) n → Located R (spans_of X all es) j p (slice_index (map (x_until all) es) n) (slice_index (regs_from R all j es) n)
 located R all [] j b p n h at lt = absurd (omega arith)
 located R all (e ∷ es) j b p n h at lt = located_in R all es e (until_in X all e) j b p n refl h.0 at lt (λ i k q l. located R all es i (suc b) p k h.1 q l)
 
 -- What register assignment gives of intervals whose first `accs` ones are held throughout: numbers below 15, and different
 -- ones for intervals that share an item.
-pub record Chosen (R : ℕ → ℕ) (accs : ℕ) (spans : List Span) : Type 0 where
-  pub below : (m : ℕ) (s : Span) → slice_get spans m ≡ Some s → R (accs + m) < 15
-  pub apart : (m n p : ℕ) (s t : Span) → m ≢ n → slice_get spans m ≡ Some s → slice_get spans n ≡ Some t → s.from ≤ p → p < s.until → t.from ≤ p → p < t.until → R (accs + m) ≢ R (accs + n)
+pub record Chosen (R : ℕ → ℕ) (accs : ℕ) (spans : List Interval) : Type 0 where
+  pub below : (m : ℕ) (s : Interval) → slice_get spans m ≡ Some s → R (accs + m) < 15
+  pub apart : (m n p : ℕ) (s t : Interval) → m ≢ n → slice_get spans m ≡ Some s → slice_get spans n ≡ Some t → s.from ≤ p → p < s.until → t.from ≤ p → p < t.until → R (accs + m) ≢ R (accs + n)
 
 pub assigned_of : (R : ℕ → ℕ) (accs : ℕ) (all : List Entry) → Numbered 0 all → Chosen R accs (spans_of X all all) → Assigned (layout_from R accs all)
 assigned_of R accs all num c = record {
@@ -91,11 +86,11 @@ assigned_of R accs all num c = record {
   apart = λ p q lt live made e.
       let k = located R all all accs 0 p p num (omega arith) made in
       let j = located R all all accs 0 q q num (omega arith) (omega arith) in
-      let ne : k.m ≢ j.m = (λ f. let same : k.span ≡ j.span = some_same (sym k.is ∙ ap (slice_get (spans_of X all all)) f ∙ j.is) in absurd (let g = ap (λ (s : Span). s.from) same in let a = k.from in let b = j.from in omega (arith, g, a, b, lt))) in
+      let ne : k.m ≢ j.m = (λ f. let same : k.span ≡ j.span = some_same (sym k.is ∙ ap (slice_get (spans_of X all all)) f ∙ j.is) in absurd (let g = ap (λ (s : Interval). s.from) same in let a = k.from in let b = j.from in omega (arith, g, a, b, lt))) in
       counted-apart (R (accs + k.m)) (R (accs + j.m))
       (c.apart k.m j.m p k.span j.span ne k.is j.is (let a = k.from in omega (arith, a)) (let a = k.until' in omega (arith, a, made)) (let a = j.from in omega (arith, a, lt)) (let a = j.until' in omega (arith, a, live)))
       (sym k.register ∙ e ∙ j.register);
 }
   where
-    some_same : {s t : Span} → Some s ≡ Some t → s ≡ t
+    some_same : {s t : Interval} → Some s ≡ Some t → s ≡ t
     some_same e = cc

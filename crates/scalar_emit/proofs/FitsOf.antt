@@ -1,35 +1,32 @@
 -- Registers fit an expression of a checked kernel: what its typing and its listing say.
-use Rattle.std.proofs.Common.{◌≡◌, ℕ, zero, suc, ◌+◌, ◌^◌, ◌<◌, ◌≤◌, Bool, true, false, cond, List, [], ◌∷◌, ◌++◌, drop, map, Option, Some, None, refl, sym, ap, ◌∙◌, subst, arith, append_assoc}
-use Rattle.std.specs.Prelude.{ℤ, pos, negsuc, unsigned_abs, nat_le, nat_eq, option_map, option_and_then, unwrap_or, slice_index}
+use Rattle.std.proofs.Common.{◌≡◌, ℕ, zero, suc, ◌+◌, ◌≤◌, Bool, true, false, cond, List, [], ◌∷◌, ◌++◌, drop, Option, Some, None, refl, sym, ap, ◌∙◌, subst, arith}
+use Rattle.std.specs.Prelude.{ℤ, pos, negsuc, unsigned_abs, nat_le, nat_eq, option_and_then, slice_index}
 use Rattle.std.proofs.lemmas.Bool.{leb-true, eqb-true}
 use Rattle.kernel_tree.specs.declared.ops.Ty.{Ty}
 use Rattle.kernel_tree.specs.declared.ops.Ty.TheVariants as ty
 use Rattle.kernel_tree.specs.declared.fault.Found.{Found}
 use Rattle.kernel_tree.specs.declared.fault.Binding.{Binding}
-use Rattle.kernel_tree.specs.declared.fault.Binding.TheVariants as binding
 use Rattle.kernel_tree.specs.Plain.{Term, Literal, Variable, Element, Unary, Operation, Shift, Conversion, Choice, Comparison, Both, Either, Not, Program}
 use Rattle.kernel_tree.specs.Items.{term_size, index_items, index_size, stream_offset, loop_index}
 use Rattle.kernel_tree.specs.Limits.{most_offset}
-use Rattle.kernel_tree.specs.Typing.{Scope, Local, Role, Value, Condition, wanted, lookup, own, first, element_type, value_type, index_type, side_type, number_of_type, faults, as_value, as_condition, name_faults, typed_faults, mismatch, literal_faults, read_type, read_faults, index_faults, inner_faults, offset_faults, untyped, found_at}
-use Rattle.loop_form.specs.declared.class.RegisterClass.TheVariants.{X}
+use Rattle.kernel_tree.specs.Typing.{Scope, Local, Value, Condition, lookup, own, first, element_type, value_type, index_type, side_type, number_of_type, faults, as_value, as_condition, name_faults, typed_faults, mismatch, read_type, read_faults, index_faults, inner_faults, offset_faults, untyped}
 use Rattle.loop_form.specs.Entries.{Content, IsLiteral, IsName, IsRead, IsLet, IsStore, IsUpdate, IsPlain, Entry, inner_entries, term_entries}
-use Rattle.loop_form.specs.Listing.{until_in}
 use Rattle.scalar_emit.specs.Layout.{Layout, Homes, until_of, NameLasts}
 use Rattle.scalar_emit.specs.Fits.{Fits, FitsTruth, FitsIndex, IndexAt, IsSmall, IsSome}
 use Rattle.scalar_emit.specs.Kernel.{x_until}
 
-nil-left : {A : Type 0} (xs ys : List A) → xs ++ ys ≡ [] → xs ≡ []
+pub nil-left : {A : Type 0} (xs ys : List A) → xs ++ ys ≡ [] → xs ≡ []
 nil-left [] ys e = refl
 nil-left (x ∷ xs) ys e = absurd cc
 
-nil-right : {A : Type 0} (xs ys : List A) → xs ++ ys ≡ [] → ys ≡ []
+pub nil-right : {A : Type 0} (xs ys : List A) → xs ++ ys ≡ [] → ys ≡ []
 nil-right [] ys e = e
 nil-right (x ∷ xs) ys e = absurd cc
 
-never : {A : Type 0} {x : A} {xs : List A} → x ∷ xs ≡ [] → ⊥
+pub never : {A : Type 0} {x : A} {xs : List A} → x ∷ xs ≡ [] → ⊥
 never e = cc
 
-is_empty : {A : Type 0} (b : Bool) (x : A) (xs : List A) → cond b [] (x ∷ xs) ≡ [] → b ≡ true
+pub is_empty : {A : Type 0} (b : Bool) (x : A) (xs : List A) → cond b [] (x ∷ xs) ≡ [] → b ≡ true
 is_empty true x xs e = refl
 is_empty false x xs e = absurd cc
 
@@ -56,10 +53,10 @@ type_back ty.U16 = refl
 type_back ty.U32 = refl
 type_back ty.U64 = refl
 
-no_mismatch : (item : ℕ) (T t : Ty) → mismatch item (Some T) t ≡ [] → T ≡ t
+pub no_mismatch : (item : ℕ) (T t : Ty) → mismatch item (Some T) t ≡ [] → T ≡ t
 no_mismatch item T t e = sym (type_back T) ∙ ap type_from (eqb-true _ _ (is_empty (nat_eq (number_of_type T) (number_of_type t)) _ _ e)) ∙ type_back t
 
-no_typed : (item : ℕ) (T : Ty) (o : Option Ty) → typed_faults item (Some T) o ≡ [] → o ≡ Some T
+pub no_typed : (item : ℕ) (T : Ty) (o : Option Ty) → typed_faults item (Some T) o ≡ [] → o ≡ Some T
 no_typed item T None e = absurd cc
 no_typed item T (Some t) e = ap Some (sym (no_mismatch item T t e))
 
@@ -75,11 +72,11 @@ no_read : (item : ℕ) (ins : Bool) (T : Ty) (o : Option Binding) → read_fault
 no_read item ins T None e = absurd cc
 no_read item ins T (Some b) e = read_in item ins T b e
 
-no_untyped : (item : ℕ) (o : Option Ty) → untyped item o ≡ [] → IsSome o
+pub no_untyped : (item : ℕ) (o : Option Ty) → untyped item o ≡ [] → IsSome o
 no_untyped item None e = absurd cc
 no_untyped item (Some t) e = tt
 
-some_of : (o : Option Ty) → IsSome o → (T : Ty) × (o ≡ Some T)
+pub some_of : (o : Option Ty) → IsSome o → (T : Ty) × (o ≡ Some T)
 some_of None h = absurd h
 some_of (Some T) h = (T, refl)
 
@@ -91,7 +88,7 @@ small : (c : ℤ) → unsigned_abs c ≤ 1024 → IsSmall c
 small (pos n) h = omega (arith, h)
 small (negsuc n) h = omega (arith, h)
 
-no_offset : (item : ℕ) (c : ℤ) → offset_faults item c ≡ [] → IsSmall c
+pub no_offset : (item : ℕ) (c : ℤ) → offset_faults item c ≡ [] → IsSmall c
 no_offset item c e = small c (leb-true (unsigned_abs c) most_offset (is_empty (nat_le (unsigned_abs c) most_offset) _ _ e))
 
 -- ---- the listing
@@ -100,13 +97,13 @@ no_offset item c e = small c (leb-true (unsigned_abs c) most_offset (is_empty (n
 abbrev pub Sits : List ℕ → ℕ → List ℕ → Type 0
 Sits xs b ys = drop b xs ≡ ys
 
-drop_head : (xs : List ℕ) (b y : ℕ) (ys : List ℕ) → drop b xs ≡ y ∷ ys → slice_index xs b ≡ y
+pub drop_head : (xs : List ℕ) (b y : ℕ) (ys : List ℕ) → drop b xs ≡ y ∷ ys → slice_index xs b ≡ y
 drop_head [] zero y ys e = absurd cc
 drop_head [] (suc b) y ys e = absurd cc
 drop_head (x ∷ xs) zero y ys e = let f : x ≡ y = cc in f
 drop_head (x ∷ xs) (suc b) y ys e = drop_head xs b y ys e
 
-drop_next : (xs : List ℕ) (b y : ℕ) (ys : List ℕ) → drop b xs ≡ y ∷ ys → drop (suc b) xs ≡ ys
+pub drop_next : (xs : List ℕ) (b y : ℕ) (ys : List ℕ) → drop b xs ≡ y ∷ ys → drop (suc b) xs ≡ ys
 drop_next [] zero y ys e = absurd cc
 drop_next [] (suc b) y ys e = absurd cc
 drop_next (x ∷ xs) zero y ys e = let f : xs ≡ ys = cc in f
@@ -126,11 +123,11 @@ abbrev pub AreUsed : Homes → Option (List ℕ) → List Entry → Type 0
 AreUsed hs i [] = Unit {0}
 AreUsed hs i (e ∷ es) = Used hs i e.content e.item e.until × AreUsed hs i es
 
-used_left : (hs : Homes) (i : Option (List ℕ)) (xs ys : List Entry) → AreUsed hs i (xs ++ ys) → AreUsed hs i xs
+pub used_left : (hs : Homes) (i : Option (List ℕ)) (xs ys : List Entry) → AreUsed hs i (xs ++ ys) → AreUsed hs i xs
 used_left hs i [] ys h = tt
 used_left hs i (x ∷ xs) ys h = (h.0, used_left hs i xs ys h.1)
 
-used_right : (hs : Homes) (i : Option (List ℕ)) (xs ys : List Entry) → AreUsed hs i (xs ++ ys) → AreUsed hs i ys
+pub used_right : (hs : Homes) (i : Option (List ℕ)) (xs ys : List Entry) → AreUsed hs i (xs ++ ys) → AreUsed hs i ys
 used_right hs i [] ys h = h
 used_right hs i (x ∷ xs) ys h = used_right hs i xs ys h.1
 
@@ -139,7 +136,7 @@ abbrev pub untils : List Entry → List Entry → List ℕ → List ℕ
 untils all [] rest = rest
 untils all (e ∷ es) rest = x_until all e ∷ untils all es rest
 
-untils_on : (all xs ys : List Entry) (rest : List ℕ) → untils all (xs ++ ys) rest ≡ untils all xs (untils all ys rest)
+pub untils_on : (all xs ys : List Entry) (rest : List ℕ) → untils all (xs ++ ys) rest ≡ untils all xs (untils all ys rest)
 untils_on all [] ys rest = refl
 untils_on all (x ∷ xs) ys rest = ap (λ l. x_until all x ∷ l) (untils_on all xs ys rest)
 

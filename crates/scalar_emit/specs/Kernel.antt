@@ -1,20 +1,23 @@
 -- Where the values of a kernel are kept, when R gives each of its intervals of class X the number of a counted register:
 -- the accumulators have the first intervals, and then the values of the items in their order.
-use Rattle.std.specs.Prelude.{ℕ, zero, suc, ◌+◌, List, [], ◌∷◌, ◌++◌, length, map, Option, Some, None, nat_lt, unwrap_or, if◌then◌else◌}
+use Rattle.std.specs.Prelude.{ℕ, suc, ◌+◌, List, [], ◌∷◌, ◌++◌, length, map, Option, Some, None, nat_lt, slice_index, unwrap_or, if◌then◌else◌}
 use Rattle.kernel_tree.specs.declared.ast.Shape.{Shape}
 use Rattle.kernel_tree.specs.declared.ast.Shape.TheVariants as shape
 use Rattle.kernel_tree.specs.declared.fault.Binding.TheVariants as binding
-use Rattle.kernel_tree.specs.Plain.{Parameter, Accumulator, Program}
-use Rattle.kernel_tree.specs.Items.{term_size}
-use Rattle.kernel_tree.specs.Typing.{Scope, declared}
-use Rattle.loop_form.specs.declared.class.RegisterClass.TheVariants.{X}
-use Rattle.loop_form.specs.Entries.{Entry, entries_of}
+use Rattle.kernel_tree.specs.Plain.{Parameter, Accumulator, Turns, Returned, Program}
+use Rattle.kernel_tree.specs.Items.{term_size, loop_index}
+use Rattle.kernel_tree.specs.Typing.{Scope, declared, param_scope, var_scope}
+use Rattle.reg_assign.specs.declared.interval.RegClass.TheVariants.{X}
+use Rattle.reg_assign.specs.Registers.{Assignment}
+use Rattle.loop_form.specs.declared.item.Item.{Item}
+use Rattle.loop_form.specs.Entries.{Entry, entries_of, loop_start, loop_end}
 use Rattle.loop_form.specs.Listing.{until_in}
-use Rattle.label_fix.specs.DraftRun.{Entry as Line}
+use Rattle.label_fix.specs.DraftRun.{Entry as Line, Place}
 use Rattle.scalar_emit.specs.Layout.{Layout, Home, Homes, home}
 use Rattle.scalar_emit.specs.Words.{ins, extension, copy}
 use Rattle.scalar_emit.specs.Code.{labels, value_code}
 use Rattle.scalar_emit.specs.Fits.{Fits}
+use Rattle.scalar_emit.specs.Loop.{answer_code, answer_labels, loop_code, loop_labels}
 use Rattle.a64_code.specs.Table.{movz}
 
 -- register number j of the counted ones: X10 to X17 and X19 to X25
@@ -33,6 +36,23 @@ one_reg R j (Some u) more = counted_x (R j) ∷ more (suc j)
 abbrev pub regs_from : (ℕ → ℕ) → List Entry → ℕ → List Entry → List ℕ
 regs_from R all j [] = []
 regs_from R all j (e ∷ es) = one_reg R j (until_in X all e) (λ n. regs_from R all n es)
+
+-- the same by the items of the listing
+abbrev pub item_regs : (ℕ → ℕ) → ℕ → List Item → List ℕ
+item_regs R j [] = []
+item_regs R j (i ∷ is) = one_reg R j i.x_until (λ n. item_regs R n is)
+
+-- how many of some items have values
+abbrev pub one_value : Option ℕ → ℕ
+one_value None = 0
+one_value (Some u) = 1
+
+abbrev pub count_values : List Item → ℕ
+count_values [] = 0
+count_values (i ∷ is) = one_value i.x_until + count_values is
+
+abbrev pub item_until : Item → ℕ
+item_until i = unwrap_or i.x_until 0
 
 abbrev pub layout_from : (ℕ → ℕ) → ℕ → List Entry → Layout
 layout_from R accs all = record { regs = regs_from R all accs all; untils = map (x_until all) all }
@@ -72,6 +92,17 @@ abbrev pub arguments_code : ℕ → List Parameter → List Line → List Line
 arguments_code n [] rest = rest
 arguments_code n (p ∷ ps) rest = argument_code p.shape n (arguments_code (n + 1) ps rest)
 
+-- behind an accumulator
+abbrev pub after_var : Scope → Accumulator → Scope
+after_var s v = declared s v.name (binding.Accumulator v.type)
+
+-- accumulator number j, whose items begin at b and whose labels at n
+abbrev pub var_code : Layout → (ℕ → ℕ) → Homes → Scope → (j b n : ℕ) → Accumulator → List Line → List Line
+var_code L R hs s j b n v rest = value_code L hs s (Some v.type) b n v.init (copy (counted_x (R j)) (home L hs s.index b v.init) ∷ rest)
+
+abbrev pub var_labels : Option (List ℕ) → Accumulator → ℕ
+var_labels i v = labels i v.init
+
 -- accumulators from number j on, whose items begin at b and whose labels at n, with the homes of the names before them
 abbrev pub vars_code : Layout → (ℕ → ℕ) → Homes → Scope → (j b n : ℕ) → List Accumulator → List Line → List Line
 vars_code L R hs s j b n [] rest = rest
@@ -87,6 +118,42 @@ vars_labels i (v ∷ vs) = labels i v.init + vars_labels i vs
 -- X9 = 0
 abbrev pub zero_index : List Line → List Line
 zero_index rest = ins movz (9 ∷ 0 ∷ 0 ∷ []) ∷ rest
+
+-- the code before the loop, from label n on
+abbrev pub begin_code : (ℕ → ℕ) → Program → ℕ → List Line → List Line
+begin_code R k n rest =
+    arguments_code 0 k.params (vars_code (layout_of_kernel R k) R (param_homes 0 k.params) (param_scope k) 0 (length k.params) n k.vars (zero_index rest))
+
+abbrev pub begin_labels : Program → ℕ
+begin_labels k = vars_labels (loop_index k) k.vars
+
+-- ---- the loop, and what follows it
+
+-- a returned value whose items begin at b, behind label n
+abbrev pub straight_code : Layout → Homes → Scope → (n b : ℕ) → Option Returned → List Line → List Line
+straight_code L hs s n b answer rest = Place n ∷ answer_code L hs s b (n + 1) answer rest
+
+-- A loop whose items begin at b, and an answer whose items begin at b2. Label n stands at the head of the loop, and without
+-- a loop before the answer.
+abbrev pub turns_code : Layout → Homes → Scope → Option Turns → (b n b2 : ℕ) → Option Returned → List Line → List Line
+turns_code L hs s (Some l) b n b2 answer rest = loop_code L hs s l b n b2 answer rest
+turns_code L hs s None b n b2 answer rest = straight_code L hs s n b2 answer rest
+
+abbrev pub turns_labels : Option (List ℕ) → Option Turns → Option Returned → ℕ
+turns_labels i (Some l) answer = loop_labels i l answer
+turns_labels i None answer = 1 + answer_labels i answer
+
+abbrev pub scalar_code : (ℕ → ℕ) → Program → ℕ → List Line → List Line
+scalar_code R k n rest = turns_code (layout_of_kernel R k) (kernel_homes R k) (var_scope k) k.turns (loop_start k) n (loop_end k) k.answer rest
+
+abbrev pub scalar_labels : Program → ℕ
+scalar_labels k = turns_labels (loop_index k) k.turns k.answer
+
+-- ---- registers that were assigned
+
+-- the number of the register of an interval
+abbrev pub register_in : Assignment → ℕ → ℕ
+register_in a j = slice_index a.registers j
 
 -- ---- registers that fit
 

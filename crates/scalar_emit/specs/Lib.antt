@@ -7,3 +7,7 @@ pub mod Loop
 pub mod Views
 pub mod Kinds
 pub mod Kernel
+pub mod Safe
+pub mod KernelFits
+pub mod Runs
+pub mod Drafts

@@ -1,0 +1,190 @@
+-- How many words the code of a kernel has: at most four for each item, and a few more.
+use Rattle.std.proofs.Common.{◌≡◌, ℕ, suc, ◌+◌, ◌*◌, ◌≤◌, Bool, true, false, List, [], ◌∷◌, ◌++◌, length, Option, Some, None, refl, ap, ◌∙◌, arith}
+use Rattle.std.specs.Prelude.{ℤ, nat_lt, option_map, option_and_then, if◌then◌else◌}
+use Rattle.kernel_tree.specs.declared.ops.Ty.{Ty}
+use Rattle.kernel_tree.specs.declared.ops.UnaryOp.{UnaryOp}
+use Rattle.kernel_tree.specs.declared.ops.UnaryOp.TheVariants as unary
+use Rattle.kernel_tree.specs.declared.ops.BinaryOp.{BinaryOp}
+use Rattle.kernel_tree.specs.declared.ops.BinaryOp.TheVariants as binary
+use Rattle.kernel_tree.specs.declared.ast.Shape.{Shape}
+use Rattle.kernel_tree.specs.declared.ast.Shape.TheVariants as shape
+use Rattle.kernel_tree.specs.Plain.{Term, Literal, Variable, Element, Unary, Operation, Shift, Conversion, Choice, Comparison, Both, Either, Not, Action, Define, Put as PutTo, Update, Choose, Leave, Block, Done, Then, Otherwise, Nothing, Else, Parameter, Accumulator, Turns, Returned, Program}
+use Rattle.kernel_tree.specs.Items.{index_size, term_size, action_size, block_size, otherwise_size, vars_size, turns_size, answer_size, index_of, stream_offset, loop_index, size_of}
+use Rattle.kernel_tree.specs.Wrap.{is_signed}
+use Rattle.kernel_tree.specs.Typing.{Scope, lookup, own, first, element_type, accumulator_type, index_type, side_type, after_action, after_block, left, in_loop, after_turns, param_scope, var_scope}
+use Rattle.kernel_meaning.specs.Operators.{operator_of}
+use Rattle.loop_form.specs.Entries.{loop_start, loop_end}
+use Rattle.label_fix.specs.DraftRun.{Entry, Put, Branch, Place}
+use Rattle.label_fix.specs.Finished.{size}
+use Rattle.scalar_emit.specs.Layout.{Layout, Homes, until_of}
+use Rattle.scalar_emit.specs.Words.{copy, load_code, binary_code, unary_code, abs_code, shift_code}
+use Rattle.scalar_emit.specs.Code.{labels, at_type, number_code, value_code, truth}
+use Rattle.scalar_emit.specs.Statements.{after_homes, block_labels, put_code, action_code, block_code, otherwise_code}
+use Rattle.scalar_emit.specs.Loop.{answer_code, with_index, loop_code}
+use Rattle.scalar_emit.specs.Kernel.{argument_code, arguments_code, after_var, var_home, vars_code, zero_index, layout_of_kernel, param_homes, kernel_homes, begin_code, turns_code, scalar_code}
+use Rattle.scalar_emit.proofs.Emission.{index_after, param_index, var_index}
+
+-- ---- the words of one item, before at most k others
+
+within : {x a b : ℕ} → a ≤ b → x ≤ a → x ≤ b
+within le h = omega (arith, le, h)
+
+binary_words : (want : Option Ty) (op : BinaryOp) (d a c : ℕ) (rest : List Entry) (k : ℕ) → size rest ≤ k → size (at_type want (λ t. binary_code op t d a c rest) rest) ≤ 3 + k
+binary_words None op d a c rest k h = omega (arith, h)
+binary_words (Some t) binary.Add d a c rest k h = omega (arith, h)
+binary_words (Some t) binary.Sub d a c rest k h = omega (arith, h)
+binary_words (Some t) binary.Mul d a c rest k h = omega (arith, h)
+binary_words (Some t) binary.And d a c rest k h = omega (arith, h)
+binary_words (Some t) binary.Or d a c rest k h = omega (arith, h)
+binary_words (Some t) binary.Xor d a c rest k h = omega (arith, h)
+binary_words (Some t) binary.Min d a c rest k h = omega (arith, h)
+binary_words (Some t) binary.Max d a c rest k h = omega (arith, h)
+
+abs_words : (b : Bool) (t : Ty) (d a : ℕ) (rest : List Entry) (k : ℕ) → size rest ≤ k → size (abs_code b t d a rest) ≤ 3 + k
+abs_words true t d a rest k h = omega (arith, h)
+abs_words false t d a rest k h = omega (arith, h)
+
+unary_words : (want : Option Ty) (op : UnaryOp) (d a : ℕ) (rest : List Entry) (k : ℕ) → size rest ≤ k → size (at_type want (λ t. unary_code op t d a rest) rest) ≤ 3 + k
+unary_words None op d a rest k h = omega (arith, h)
+unary_words (Some t) unary.Neg d a rest k h = omega (arith, h)
+unary_words (Some t) unary.Flip d a rest k h = omega (arith, h)
+unary_words (Some t) unary.Abs d a rest k h = abs_words (is_signed t) t d a rest k h
+
+shift_words : (want : Option Ty) (left : Bool) (n : ℤ) (d a : ℕ) (rest : List Entry) (k : ℕ) → size rest ≤ k → size (at_type want (λ t. shift_code left n t d a rest) rest) ≤ 2 + k
+shift_words None left n d a rest k h = omega (arith, h)
+shift_words (Some t) left n d a rest k h = omega (arith, h)
+
+load_words : (o : Option Ty) (d p : ℕ) (rest : List Entry) (k : ℕ) → size rest ≤ k → size (load_code o d p rest) ≤ 1 + k
+load_words None d p rest k h = omega (arith, h)
+load_words (Some t) d p rest k h = omega (arith, h)
+
+number_words : (o : Option ℤ) (a m : ℕ) (inner : List Entry → List Entry) (rest : List Entry) (k : ℕ) → size rest ≤ k → (size rest ≤ k → size (inner (copy 26 a ∷ rest)) ≤ 4 * m + suc k) → size (number_code o a inner rest) ≤ 4 * index_size o m + 1 + k
+number_words (Some c) a m inner rest k h f = omega (arith, h)
+number_words None a m inner rest k h f = let g = f h in omega (arith, g)
+
+let_words : (t : Bool) (r from : ℕ) (rest : List Entry) (k : ℕ) → size rest ≤ k → size (if t then copy r from ∷ rest else rest) ≤ 1 + k
+let_words true r from rest k h = omega (arith, h)
+let_words false r from rest k h = omega (arith, h)
+
+put_words : (o : Option ℤ) (t : Option Ty) (from p : ℕ) (rest : List Entry) (k : ℕ) → size rest ≤ k → size (put_code o t from p rest) ≤ 2 + k
+put_words None t from p rest k h = omega (arith, h)
+put_words (Some c) None from p rest k h = omega (arith, h)
+put_words (Some c) (Some t) from p rest k h = omega (arith, h)
+
+argument_words : (x : Shape) (n : ℕ) (rest : List Entry) (k : ℕ) → size rest ≤ k → size (argument_code x n rest) ≤ 1 + k
+argument_words (shape.Scalar t) n rest k h = omega (arith, h)
+argument_words (shape.Array t) n rest k h = omega (arith, h)
+
+arguments_words : (n : ℕ) (ps : List Parameter) (rest : List Entry) (k : ℕ) → size rest ≤ k → size (arguments_code n ps rest) ≤ length ps + k
+arguments_words n [] rest k h = omega (arith, h)
+arguments_words n (p ∷ ps) rest k h = within (omega arith) (argument_words p.shape n _ _ (arguments_words (n + 1) ps rest k h))
+
+one_more : {a k : ℕ} → a ≤ k → suc a ≤ suc k
+one_more h = omega (arith, h)
+
+-- ---- expressions
+
+module _ (L : Layout) (hs : Homes) where
+  mutual
+    value_words : (e : Term) (s : Scope) (want : Option Ty) (b n : ℕ) (rest : List Entry) (k : ℕ) → size rest ≤ k → size (value_code L hs s want b n e rest) ≤ 4 * term_size s.index e + k
+    value_words (Literal z) s want b n rest k h = omega (arith, h)
+    value_words (Variable x) s want b n rest k h = omega (arith, h)
+    value_words (Element a j) s want b n rest k h =
+        within (omega arith) (number_words (stream_offset s.index j) _ (term_size s.index j) _ _ _ (load_words (option_and_then element_type (lookup s a)) _ _ rest k h) (λ g. value_words j s (index_type s j) b n _ _ (one_more g)))
+    value_words (Unary op x) s want b n rest k h = within (omega arith) (value_words x s want b n _ _ (unary_words want op _ _ rest k h))
+    value_words (Operation op x y) s want b n rest k h = within (omega arith) (value_words x s want b n _ _ (value_words y s want _ _ _ _ (binary_words want op _ _ _ rest k h)))
+    value_words (Shift left x z) s want b n rest k h = within (omega arith) (value_words x s want b n _ _ (shift_words want left z _ _ rest k h))
+    value_words (Conversion x t) s want b n rest k h = within (omega arith) (value_words x s (own s x) b n _ _ (one_more h))
+    value_words (Choice c x y) s want b n rest k h = within (omega arith) (value_words x s want b n _ _ (value_words y s want _ _ _ _ (truth_words c s _ _ _ _ (one_more (one_more h)))))
+    value_words (Comparison op x y) s want b n rest k h = omega (arith, h)
+    value_words (Both x y) s want b n rest k h = omega (arith, h)
+    value_words (Either x y) s want b n rest k h = omega (arith, h)
+    value_words (Not x) s want b n rest k h = omega (arith, h)
+
+    truth_words : (e : Term) (s : Scope) (b n : ℕ) (rest : List Entry) (k : ℕ) → size rest ≤ k → size (truth L hs s b n e rest) ≤ 4 * term_size s.index e + k
+    truth_words (Comparison op x y) s b n rest k h = within (omega arith) (value_words x s (side_type s x y) b n _ _ (value_words y s (side_type s x y) _ _ _ _ (one_more (one_more h))))
+    truth_words (Both x y) s b n rest k h = within (omega arith) (truth_words x s b n _ _ (one_more (truth_words y s _ _ _ k h)))
+    truth_words (Either x y) s b n rest k h = within (omega arith) (truth_words x s b n _ _ (one_more (truth_words y s _ _ _ k h)))
+    truth_words (Not x) s b n rest k h = within (omega arith) (truth_words x s b n _ _ (one_more (one_more h)))
+    truth_words (Literal z) s b n rest k h = omega (arith, h)
+    truth_words (Variable x) s b n rest k h = omega (arith, h)
+    truth_words (Element a j) s b n rest k h = omega (arith, h)
+    truth_words (Unary op x) s b n rest k h = omega (arith, h)
+    truth_words (Operation op x y) s b n rest k h = omega (arith, h)
+    truth_words (Shift left x z) s b n rest k h = omega (arith, h)
+    truth_words (Conversion x t) s b n rest k h = omega (arith, h)
+    truth_words (Choice c x y) s b n rest k h = omega (arith, h)
+
+-- ---- statements
+
+block_index : (s : Scope) (a : Action) (b : Block) → block_size (after_action s a).index b ≡ block_size s.index b
+block_index s a b = ap (λ i. block_size i b) (index_after s a)
+
+module _ (L : Layout) where
+  mutual
+    action_words : (a : Action) (hs : Homes) (s : Scope) (exit b n : ℕ) (rest : List Entry) (k : ℕ) → size rest ≤ k → size (action_code L hs s exit b n a rest) ≤ 4 * action_size s.index a + k
+    action_words (Define x t e) hs s exit b n rest k h =
+        let q = b + term_size s.index e in
+        within (omega arith) (value_words L hs e s (first t (own s e)) b n _ _ (let_words (nat_lt q (until_of L q)) _ _ rest k h))
+    action_words (PutTo a i e) hs s exit b n rest k h = within (omega arith) (value_words L hs e s _ b n _ _ (put_words (stream_offset s.index i) _ _ _ rest k h))
+    action_words (Update x op e) hs s exit b n rest k h =
+        within (omega arith) (value_words L hs e s _ b n _ _ (binary_words (option_and_then accumulator_type (lookup s x)) (operator_of op) _ _ _ rest k h))
+    action_words (Choose c blk d) hs s exit b n rest k h =
+        within (omega arith) (truth_words L hs c s b n _ _ (one_more (block_words blk hs s exit _ _ _ _ (otherwise_words d hs (left s (after_block s blk)) exit (n + labels s.index c) _ _ rest k h))))
+    action_words (Leave c) hs s exit b n rest k h = within (omega arith) (truth_words L hs c s b n _ _ (one_more h))
+
+    block_words : (blk : Block) (hs : Homes) (s : Scope) (exit b n : ℕ) (rest : List Entry) (k : ℕ) → size rest ≤ k → size (block_code L hs s exit b n blk rest) ≤ 4 * block_size s.index blk + k
+    block_words Done hs s exit b n rest k h = omega (arith, h)
+    block_words (Then a more) hs s exit b n rest k h =
+        let same = block_index s a more in
+        within (omega (arith, same)) (action_words a hs s exit b n _ _ (block_words more (after_homes L hs s b a) (after_action s a) exit _ _ rest k h))
+
+    otherwise_words : (d : Otherwise) (hs : Homes) (s : Scope) (exit other b n : ℕ) (rest : List Entry) (k : ℕ) → size rest ≤ k → size (otherwise_code L hs s exit other b n d rest) ≤ 4 * otherwise_size s.index d + k
+    otherwise_words Nothing hs s exit other b n rest k h = omega (arith, h)
+    otherwise_words (Else blk) hs s exit other b n rest k h = within (omega arith) (one_more (block_words blk hs s exit (b + 1) (n + 1) _ k h))
+
+  -- ---- the loop and what follows it
+
+  answer_words : (hs : Homes) (s : Scope) (b n : ℕ) (o : Option Returned) (rest : List Entry) (k : ℕ) → size rest ≤ k → size (answer_code L hs s b n o rest) ≤ 4 * answer_size s.index o + 3 + k
+  answer_words hs s b n None rest k h = omega (arith, h)
+  answer_words hs s b n (Some a) rest k h = within (omega arith) (value_words L hs a.value s (Some a.type) b n _ _ (one_more (one_more (one_more h))))
+
+  loop_words : (hs : Homes) (s : Scope) (t : Turns) (b n b2 : ℕ) (o : Option Returned) (rest : List Entry) (k : ℕ) → size rest ≤ k → size (loop_code L hs s t b n b2 o rest) ≤ 4 * (1 + block_size s.index t.body) + 4 * answer_size s.index o + 3 + k
+  loop_words hs s t b n b2 o rest k h =
+      within (omega arith) (one_more (one_more (block_words t.body (with_index hs t) (in_loop s t) (n + 1) (b + 1) (n + 2) _ _ (one_more (one_more (answer_words (with_index hs t) (after_turns s (Some t)) b2 (n + 2 + block_labels s.index t.body) o rest k h))))))
+
+  -- ---- before the loop
+
+  vars_words : (R : ℕ → ℕ) (hs : Homes) (s : Scope) (j b n : ℕ) (vs : List Accumulator) (rest : List Entry) (k : ℕ) → size rest ≤ k → size (vars_code L R hs s j b n vs rest) ≤ 4 * vars_size s.index vs + k
+  vars_words R hs s j b n [] rest k h = omega (arith, h)
+  vars_words R hs s j b n (v ∷ vs) rest k h =
+      within (omega arith) (value_words L hs v.init s (Some v.type) b n _ _ (one_more (vars_words R (hs ++ var_home R j v ∷ []) (after_var s v) (j + 1) _ _ vs rest k h)))
+
+-- ---- kernels
+
+turns_words : (L : Layout) (hs : Homes) (s : Scope) (i : Option (List ℕ)) (t : Option Turns) (b n b2 : ℕ) (o : Option Returned) (rest : List Entry) (k : ℕ) → s.index ≡ i → i ≡ option_map index_of t → size rest ≤ k → size (turns_code L hs s t b n b2 o rest) ≤ 4 * turns_size t + 4 * answer_size i o + 3 + k
+turns_words L hs s i None b n b2 o rest k e f h = let q = ap (λ i. answer_size i o) e in within (omega (arith, q)) (answer_words L hs s b2 (n + 1) o rest k h)
+turns_words L hs s i (Some t) b n b2 o rest k e f h =
+    let q = ap (λ i. answer_size i o) e in
+    let r = ap (λ i. block_size i t.body) (e ∙ f) in
+    within (omega (arith, q, r)) (loop_words L hs s t b n b2 o rest k h)
+
+pub begin_words : (R : ℕ → ℕ) (k : Program) (n : ℕ) (rest : List Entry) → size (begin_code R k n rest) ≤ 40 + 8 * size_of k + size rest
+begin_words R k n rest =
+    let q = ap (λ i. vars_size i k.vars) (param_index k) in
+    within (omega (arith, q)) (arguments_words 0 k.params _ _ (vars_words (layout_of_kernel R k) R (param_homes 0 k.params) (param_scope k) 0 (length k.params) n k.vars (zero_index rest) (suc (size rest)) (omega arith)))
+
+pub scalar_words : (R : ℕ → ℕ) (k : Program) (n : ℕ) (rest : List Entry) → size (scalar_code R k n rest) ≤ 64 + 16 * size_of k + size rest
+scalar_words R k n rest =
+    within (omega arith) (turns_words (layout_of_kernel R k) (kernel_homes R k) (var_scope k) (loop_index k) k.turns (loop_start k) n (loop_end k) k.answer rest (size rest) (var_index k) refl (omega arith))
+
+-- ---- words that are appended
+
+size_append : (x y : List Entry) → size (x ++ y) ≡ size x + size y
+size_append [] y = omega arith
+size_append (Put i ∷ x) y = omega (arith, size_append x y)
+size_append (Branch k l ∷ x) y = omega (arith, size_append x y)
+size_append (Place l ∷ x) y = size_append x y
+
+pub words_added : (old new c : List Entry) (m : ℕ) → new ++ [] ≡ old ++ c → size c ≤ m + size [] → size new ≤ size old + m
+words_added old new c m e h = let a = ap size e in omega (arith, a, size_append new [], size_append old c, h)

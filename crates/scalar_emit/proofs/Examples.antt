@@ -1,0 +1,95 @@
+-- The code of a worked kernel.
+use Rattle.std.proofs.Common.{◌≡◌, ℕ, List, [], ◌∷◌, Some, None, refl}
+use Rattle.std.specs.Prelude.{pos, slice_index}
+use Rattle.kernel_tree.specs.declared.ops.Ty.TheVariants as ty
+use Rattle.kernel_tree.specs.declared.ops.BinaryOp.TheVariants as binary
+use Rattle.kernel_tree.specs.declared.ops.CompareOp.TheVariants as compare
+use Rattle.kernel_tree.specs.declared.ast.Shape.TheVariants as shape
+use Rattle.kernel_tree.specs.Plain.{Literal, Variable, Element, Operation, Comparison, Define, Put, Choose, Leave, Block, Done, Then, Else, Program}
+use Rattle.a64_code.specs.Table.{add_imm, sub_imm, subs, orr, movz, movk, ubfm, csinc, ldrsb_register, strb_register, svc}
+use Rattle.loop_form.specs.Entries.{item_type}
+use Rattle.loop_form.specs.Listing.{last_use}
+use Rattle.label_fix.specs.DraftRun.{Branch, Place, Always, If, Zero, NotZero}
+use Rattle.scalar_emit.specs.Words.{ins}
+use Rattle.scalar_emit.specs.Kernel.{begin_code, begin_labels, scalar_code, scalar_labels}
+
+abbrev a : List ℕ
+a = 97 ∷ []
+
+abbrev i : List ℕ
+i = 105 ∷ []
+
+abbrev n : List ℕ
+n = 110 ∷ []
+
+abbrev x : List ℕ
+x = 120 ∷ []
+
+-- break if a[i] == 0; if a[i] < 1 { let x = a[i + 1]; a[i] = x; } else { a[i] = a[i - 1]; }
+abbrev body : Block
+body =
+    Then (Leave (Comparison compare.Eq (Element a (Variable i)) (Literal (pos 0))))
+    (Then (Choose (Comparison compare.Lt (Element a (Variable i)) (Literal (pos 1)))
+    (Then (Define x None (Element a (Operation binary.Add (Variable i) (Literal (pos 1))))) (Then (Put a (Variable i) (Variable x)) Done))
+    (Else (Then (Put a (Variable i) (Element a (Operation binary.Sub (Variable i) (Literal (pos 1))))) Done)))
+    Done)
+
+-- kernel x(a: [i8], n: u64) { for i in 0..n { .. } }
+abbrev worked : Program
+worked = record {
+  name = x;
+  params = record { name = a; shape = shape.Array ty.I8 } ∷ record { name = n; shape = shape.Scalar ty.U64 } ∷ [];
+  vars = [];
+  turns = Some (record { index = i; bound = n; body = body });
+  answer = None;
+}
+
+-- Its items: 0 a, 1 n, 2 for, 3 the read, 4 zero, 5 ==, 6 break, 7 the read, 8 one, 9 <, 10 then, 11 the read, 12 let,
+-- 13 the name x, 14 the store, 15 else, 16 the read, 17 the store, 18 end. Seven of them have values.
+abbrev registers : ℕ → ℕ
+registers j = slice_index (0 ∷ 1 ∷ 0 ∷ 1 ∷ 0 ∷ 0 ∷ 0 ∷ []) j
+
+worked-begins : begin_code registers worked 0 [] ≡ ins ubfm (1 ∷ 1 ∷ 63 ∷ 0 ∷ []) ∷ ins movz (9 ∷ 0 ∷ 0 ∷ []) ∷ []
+unfolding item_type last_use
+worked-begins = refl
+
+worked-loops : scalar_code registers worked 0 [] ≡
+    Place 0
+    ∷ ins subs (31 ∷ 9 ∷ 0 ∷ 1 ∷ 0 ∷ [])
+    ∷ Branch (If 2) 1
+    ∷ ins add_imm (26 ∷ 9 ∷ 0 ∷ 0 ∷ [])
+    ∷ ins ldrsb_register (10 ∷ 0 ∷ 26 ∷ [])
+    ∷ ins movz (11 ∷ 0 ∷ 0 ∷ []) ∷ ins movk (11 ∷ 0 ∷ 1 ∷ []) ∷ ins movk (11 ∷ 0 ∷ 2 ∷ []) ∷ ins movk (11 ∷ 0 ∷ 3 ∷ [])
+    ∷ ins subs (31 ∷ 10 ∷ 0 ∷ 11 ∷ 0 ∷ [])
+    ∷ ins csinc (28 ∷ 31 ∷ 1 ∷ 31 ∷ [])
+    ∷ Branch (NotZero 28) 1
+    ∷ ins add_imm (26 ∷ 9 ∷ 0 ∷ 0 ∷ [])
+    ∷ ins ldrsb_register (10 ∷ 0 ∷ 26 ∷ [])
+    ∷ ins movz (11 ∷ 1 ∷ 0 ∷ []) ∷ ins movk (11 ∷ 0 ∷ 1 ∷ []) ∷ ins movk (11 ∷ 0 ∷ 2 ∷ []) ∷ ins movk (11 ∷ 0 ∷ 3 ∷ [])
+    ∷ ins subs (31 ∷ 10 ∷ 0 ∷ 11 ∷ 0 ∷ [])
+    ∷ ins csinc (28 ∷ 31 ∷ 10 ∷ 31 ∷ [])
+    ∷ Branch (Zero 28) 2
+    ∷ ins add_imm (26 ∷ 9 ∷ 1 ∷ 0 ∷ [])
+    ∷ ins ldrsb_register (10 ∷ 0 ∷ 26 ∷ [])
+    ∷ ins orr (10 ∷ 31 ∷ 0 ∷ 10 ∷ 0 ∷ [])
+    ∷ ins add_imm (26 ∷ 9 ∷ 0 ∷ 0 ∷ [])
+    ∷ ins strb_register (10 ∷ 0 ∷ 26 ∷ [])
+    ∷ Branch Always 3
+    ∷ Place 2
+    ∷ ins sub_imm (26 ∷ 9 ∷ 1 ∷ 0 ∷ [])
+    ∷ ins ldrsb_register (10 ∷ 0 ∷ 26 ∷ [])
+    ∷ ins add_imm (26 ∷ 9 ∷ 0 ∷ 0 ∷ [])
+    ∷ ins strb_register (10 ∷ 0 ∷ 26 ∷ [])
+    ∷ Place 3
+    ∷ ins add_imm (9 ∷ 9 ∷ 1 ∷ 0 ∷ [])
+    ∷ Branch Always 0
+    ∷ Place 1
+    ∷ ins movz (0 ∷ 0 ∷ 0 ∷ [])
+    ∷ ins movz (8 ∷ 93 ∷ 0 ∷ [])
+    ∷ ins svc (0 ∷ [])
+    ∷ []
+unfolding item_type last_use
+worked-loops = refl
+
+worked-labels : (begin_labels worked ≡ 0) × (scalar_labels worked ≡ 4)
+worked-labels = (refl, refl)

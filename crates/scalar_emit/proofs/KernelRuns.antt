@@ -1,0 +1,124 @@
+-- The code of a kernel does what its scalar loop does.
+use Rattle.std.proofs.Common.{◌≡◌, ℕ, ◌+◌, ◌-◌, ◌*◌, ◌<◌, ◌≤◌, ◌^◌, List, [], ◌∷◌, length, Option, Some, None, refl, sym, ap, ◌∙◌, subst, arith}
+use Rattle.std.specs.Prelude.{slice_index, option_map}
+use Rattle.std.proofs.Math.Nat.{mul-le-mul_right}
+use Rattle.guest_types.specs.Memory.{Memory}
+use Rattle.machine_model.specs.Machine.{State}
+use Rattle.kernel_tree.specs.Plain.{Turns, Returned, Program}
+use Rattle.kernel_tree.specs.Items.{block_size, turns_size, answer_size, index_of, size_of}
+use Rattle.kernel_tree.specs.Typing.{Scope, var_scope, check_fault}
+use Rattle.reg_assign.specs.declared.interval.RegClass.TheVariants.{X}
+use Rattle.reg_assign.specs.Registers.{Assignment}
+use Rattle.loop_form.specs.Registers.{FitsKernel}
+use Rattle.kernel_meaning.specs.Eval.{Names, value_at}
+use Rattle.kernel_meaning.specs.ScalarRun.{Run, bound_of, course, finish, returned, ended}
+use Rattle.kernel_meaning.proofs.Residues.{word-below}
+use Rattle.loop_form.specs.Entries.{loop_start, loop_end}
+use Rattle.label_fix.specs.DraftRun.{Entry, Place, Laid, behind}
+use Rattle.label_fix.proofs.Steps.{Goes, Resolves, stay, end_after, stop_after, stop_more, pass}
+use Rattle.scalar_emit.specs.Layout.{Layout, Homes, register_at}
+use Rattle.scalar_emit.specs.Loop.{answer_code, test_code, loop_code, FitsAnswer, FitsLoop}
+use Rattle.scalar_emit.specs.Kernel.{layout_of_kernel, kernel_homes, turns_code, scalar_code, register_in}
+use Rattle.scalar_emit.specs.KernelFits.{KernelFits}
+use Rattle.scalar_emit.specs.Safe.{AreSteady}
+use Rattle.scalar_emit.specs.Runs.{AreHeld, AtIteration, Comes, ends_so, faults_so, turns_from, run_from, IsWithin, ScalarRuns}
+use Rattle.scalar_emit.proofs.States.{Assigned, AreSafe, Held, At, name_held}
+use Rattle.scalar_emit.proofs.LoopRuns.{standing, answer_runs, loop_runs}
+use Rattle.scalar_emit.proofs.ChosenOf.{chosen_all}
+use Rattle.scalar_emit.proofs.FitsKernel.{kernel_fits}
+use Rattle.scalar_emit.proofs.Emission.{var_index}
+
+-- ---- counts
+
+comes_within : {D : Laid} {c : List Entry} {s : State} {K F i : ℕ} {r : Run} (K2 F2 : ℕ) → K ≤ K2 → F ≤ F2 → Comes D c s K F i r → Comes D c s K2 F2 i r
+comes_within {K = K} {F = F} K2 F2 a b (ends_so n e h) = let k = mul-le-mul_right n a in ends_so n e (end_after (K2 * n + F2) (omega (arith, k, b)) (stay 0) h)
+comes_within {K = K} {F = F} K2 F2 a b (faults_so n kind e ok h) = let k = mul-le-mul_right n a in faults_so n kind e ok (stop_more (K2 * n + F2) (omega (arith, k, b)) h)
+
+comes_behind : {D : Laid} {c e : List Entry} {s t : State} {K F i : ℕ} {r : Run} → Goes D c s e t 0 → Comes D e t K F i r → Comes D c s K F i r
+comes_behind {K = K} {F = F} g (ends_so n e h) = ends_so n e (end_after (K * n + F) (omega arith) g h)
+comes_behind {K = K} {F = F} g (faults_so n kind e ok h) = faults_so n kind e ok (stop_after (K * n + F) (omega arith) g h)
+
+-- ---- states
+
+held_all : (hs : Homes) (ns : Names) (p : ℕ) (s : State) → AreHeld hs ns s → Held hs ns p s
+held_all [] [] p s h = tt
+held_all [] (n ∷ ns) p s h = absurd h
+held_all (x ∷ hs) [] p s h = absurd h
+held_all (x ∷ hs) (n ∷ ns) p s h = (h.0, (λ l. h.1), held_all hs ns p s h.2)
+
+at_head : (R : ℕ → ℕ) (k : Program) (i : ℕ) (names : Names) (m : Memory) (s : State) (p : ℕ) → AtIteration R k i names m s → At (standing i s.x) (kernel_homes R k) (var_scope k).visible names m p s
+at_head R k i names m s p at = record {
+  sized = at.sized;
+  nine = at.index;
+  args = λ r lt. refl;
+  ranged = at.ranged;
+  memory = at.memory;
+  good = at.good;
+  held = held_all (kernel_homes R k) names p s at.held;
+}
+
+-- ---- the loop, and what follows it
+
+abbrev FitsTurns : Layout → Homes → Scope → Option Turns → (b b2 : ℕ) → Option Returned → Type 0
+FitsTurns L hs s (Some l) b b2 answer = FitsLoop L hs s l b b2 answer
+FitsTurns L hs s None b b2 answer = FitsAnswer L hs s b2 answer
+
+fits_turns : (L : Layout) (hs : Homes) (s : Scope) (b b2 : ℕ) (answer : Option Returned) (turns : Option Turns) → ((l : Turns) → turns ≡ Some l → FitsLoop L hs s l b b2 answer) → (turns ≡ None → FitsAnswer L hs s b2 answer) → FitsTurns L hs s turns b b2 answer
+fits_turns L hs s b b2 answer (Some l) f g = f l refl
+fits_turns L hs s b b2 answer None f g = g refl
+
+abbrev turn_steps : Option (List ℕ) → Option Turns → ℕ
+turn_steps i (Some l) = 4 * block_size i l.body + 4
+turn_steps i None = 0
+
+-- the steps of an iteration
+turn_size : (i : Option (List ℕ)) (turns : Option Turns) → i ≡ option_map index_of turns → turn_steps i turns ≤ 4 * turns_size turns
+turn_size i (Some l) e = let z = ap (λ j. block_size j l.body) e in omega (arith, z)
+turn_size i None e = omega arith
+
+module _ (D : Laid) (L : Layout) (fit : Assigned L) (hs : Homes) (s : Scope) (steady : AreSteady hs) (safe : (b : ℕ) → AreSafe L b hs) where
+  turns_run : (turns : Option Turns) (b n b2 : ℕ) (answer : Option Returned) (rest : List Entry) (args : List ℕ) (i : ℕ) (names : Names) (m : Memory) (st : State) → FitsTurns L hs s turns b b2 answer → Resolves D (turns_code L hs s turns b n b2 answer rest) → IsWithin turns i names → ((p : ℕ) → At (standing i args) hs s.visible names m p st)
+      → Comes D (behind D n) st (turn_steps s.index turns) (4 * answer_size s.index answer + 5) i (turns_from s turns answer i m names)
+  turns_run (Some l) b n b2 answer rest args i names m st fits res le at =
+      let r = register_at hs l.bound in
+      let a = at b in
+      let is : slice_index args r ≡ bound_of l names = sym (a.args r fits.bound_low) ∙ name_held hs names l.bound b st a.sized a.held fits.bound in
+      let small : slice_index args r < 2 ^ 64 = omega (arith, is, word-below (value_at names l.bound)) in
+      let sum : i + (bound_of l names - i) ≡ slice_index args r = omega (arith, is, le) in
+      let q = loop_runs D L fit hs s l b n b2 answer rest args fits steady (safe b) res small (bound_of l names - i) i names m st sum a in
+      subst (λ es. Comes D es st (turn_steps s.index (Some l)) (4 * answer_size s.index answer + 5) i (turns_from s (Some l) answer i m names)) (sym res.0)
+      (comes_within (turn_steps s.index (Some l)) (4 * answer_size s.index answer + 5) (omega arith) (omega arith)
+      (subst (λ x. Comes D (test_code L hs s l b n b2 answer rest) st (turn_steps s.index (Some l)) (4 * answer_size s.index answer + 3 + 2) i (finish s l answer x (course s l (bound_of l names - i) i m names))) is q))
+  turns_run None b n b2 answer rest args i names m st fits res e at =
+      subst (λ es. Comes D es st 0 (4 * answer_size s.index answer + 5) i (ended m 0 (returned s answer m names))) (sym res.0)
+      (comes_within 0 (4 * answer_size s.index answer + 5) (omega arith) (omega arith) (answer_runs D L fit s rest 0 i 0 0 b2 (n + 1) answer (omega (arith, e)) (safe b2) (at b2) fits res.1))
+
+-- ---- kernels
+
+head_first : (D : Laid) (L : Layout) (hs : Homes) (s : Scope) (turns : Option Turns) (b n b2 : ℕ) (answer : Option Returned) (rest : List Entry) (st : State) → Resolves D (turns_code L hs s turns b n b2 answer rest) → Goes D (turns_code L hs s turns b n b2 answer rest) st (behind D n) st 0
+head_first D L hs s (Some l) b n b2 answer rest st res = subst (λ es. Goes D (loop_code L hs s l b n b2 answer rest) st es st 0) (sym res.0) pass
+head_first D L hs s None b n b2 answer rest st res = subst (λ es. Goes D (Place n ∷ answer_code L hs s b2 (n + 1) answer rest) st es st 0) (sym res.0) pass
+
+module _ (R : ℕ → ℕ) (k : Program) (fit : KernelFits R k) where
+  comes : (D : Laid) (n : ℕ) (rest : List Entry) (i : ℕ) (names : Names) (m : Memory) (s : State) → Resolves D (scalar_code R k n rest) → IsWithin k.turns i names → AtIteration R k i names m s
+      → Comes D (behind D n) s (32 + 8 * size_of k) (32 + 8 * size_of k) i (run_from k i m names)
+  comes D n rest i names m s res le at =
+      let L = layout_of_kernel R k in
+      let hs = kernel_homes R k in
+      let j = var_index k in
+      let a = ap (λ j. answer_size j k.answer) j in
+      let t = turn_size (var_scope k).index k.turns j in
+      comes_within (32 + 8 * size_of k) (32 + 8 * size_of k) (omega (arith, t)) (omega (arith, a))
+      (turns_run D L fit.assigned hs (var_scope k) fit.steady fit.safe k.turns (loop_start k) n (loop_end k) k.answer rest s.x i names m s (fits_turns L hs (var_scope k) (loop_start k) (loop_end k) k.answer k.turns fit.looped fit.straight) res le (λ p. at_head R k i names m s p at))
+
+  pub scalar_runs : ScalarRuns R k
+  scalar_runs = record {
+    reached = λ D n rest i names m s res le at. comes_behind (head_first D (layout_of_kernel R k) (kernel_homes R k) (var_scope k) k.turns (loop_start k) n (loop_end k) k.answer rest s res) (comes D n rest i names m s res le at);
+    entered = comes;
+  }
+
+-- ---- registers that were assigned
+
+-- the registers of a kernel's intervals fit it
+pub fits : (k : Program) (a : Assignment) → check_fault k ≡ None → length k.params ≤ 8 → FitsKernel k X a → KernelFits (register_in a) k
+fits k a checked few f = let c = chosen_all k a f in kernel_fits (register_in a) k checked few (record { below = c.below; apart = λ m n p s t ne is it at there. c.apart m n p s t ne is it at.0 at.1 there.0 there.1 })

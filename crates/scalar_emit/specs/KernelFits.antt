@@ -1,0 +1,74 @@
+-- When registers fit a whole kernel: what register assignment says of its intervals, and what code generation has of it.
+use Rattle.std.specs.Prelude.{◌≡◌, ◌≢◌, ℕ, ◌+◌, ◌<◌, ◌≤◌, List, [], ◌∷◌, ◌++◌, length, Some, None, slice_get}
+use Rattle.kernel_tree.specs.declared.ops.Ty.TheVariants.{U64}
+use Rattle.kernel_tree.specs.declared.ast.Shape.TheVariants.{Scalar}
+use Rattle.kernel_tree.specs.declared.fault.Binding.TheVariants as binding
+use Rattle.kernel_tree.specs.Plain.{Accumulator, Turns, Program}
+use Rattle.kernel_tree.specs.Items.{term_size}
+use Rattle.kernel_tree.specs.Typing.{Scope, declared, param_scope, var_scope}
+use Rattle.reg_assign.specs.declared.interval.RegClass.TheVariants.{X}
+use Rattle.reg_assign.specs.declared.interval.Interval.{Interval}
+use Rattle.loop_form.specs.Entries.{loop_start, loop_end}
+use Rattle.loop_form.specs.Needs.{intervals}
+use Rattle.scalar_emit.specs.Layout.{Layout, Homes, register_at}
+use Rattle.scalar_emit.specs.Statements.{Others}
+use Rattle.scalar_emit.specs.Loop.{FitsAnswer, FitsLoop}
+use Rattle.scalar_emit.specs.Kernel.{counted_x, layout_of_kernel, param_homes, var_home, kernel_homes, FitsVars}
+use Rattle.scalar_emit.specs.Safe.{Assigned, AreSafe, AreSteady}
+
+-- ---- what register assignment gives
+
+-- interval m of the values in X registers
+abbrev pub IsInterval : Program → ℕ → Interval → Type 0
+IsInterval k m s = slice_get (intervals k X) m ≡ Some s
+
+-- an interval's value is needed at item p
+abbrev pub IsNeeded : ℕ → Interval → Type 0
+IsNeeded p s = (s.from ≤ p) × (p < s.until)
+
+-- Each interval has one of 15 registers, and two intervals whose values are needed at one item have different ones.
+pub record AreChosen (R : ℕ → ℕ) (k : Program) : Type 0 where
+  pub below : (m : ℕ) (s : Interval) → IsInterval k m s → R m < 15
+  pub apart : (m n p : ℕ) (s t : Interval) → m ≢ n → IsInterval k m s → IsInterval k n t → IsNeeded p s → IsNeeded p t → R m ≢ R n
+
+-- ---- accumulators
+
+-- Accumulators from number j on, whose items begin at b, with the homes of the names before them: the items of an initial
+-- value leave these names alone, and the accumulator's register is that of none of them.
+abbrev pub AreSafeVars : Layout → (ℕ → ℕ) → Homes → Scope → (j b : ℕ) → List Accumulator → Type 0
+AreSafeVars L R hs s j b [] = AreSafe L b hs
+AreSafeVars L R hs s j b (v ∷ vs) =
+    AreSafe L b hs × Others hs (counted_x (R j)) (b + term_size s.index v.init + 1)
+    × AreSafeVars L R (hs ++ var_home R j v ∷ []) (declared s v.name (binding.Accumulator v.type)) (j + 1) (b + term_size s.index v.init + 1) vs
+
+abbrev pub VarsFit : (ℕ → ℕ) → Program → Type 0
+VarsFit R k = FitsVars (layout_of_kernel R k) R (param_homes 0 k.params) (param_scope k) 0 (length k.params) k.vars
+
+abbrev pub VarsAreSafe : (ℕ → ℕ) → Program → Type 0
+VarsAreSafe R k = AreSafeVars (layout_of_kernel R k) R (param_homes 0 k.params) (param_scope k) 0 (length k.params) k.vars
+
+-- ---- the loop, and the returned expression
+
+abbrev pub LoopFits : (ℕ → ℕ) → Program → Turns → Type 0
+LoopFits R k l = FitsLoop (layout_of_kernel R k) (kernel_homes R k) (var_scope k) l (loop_start k) (loop_end k) k.answer
+
+-- the register of the loop's bound is that of the parameter with its name, which is of type u64
+abbrev pub IsBound : (ℕ → ℕ) → Program → Turns → Type 0
+IsBound R k l = slice_get k.params (register_at (kernel_homes R k) l.bound) ≡ Some (record { name = l.bound; shape = Scalar U64 })
+
+-- the returned expression of a kernel without a loop
+abbrev pub AnswerFits : (ℕ → ℕ) → Program → Type 0
+AnswerFits R k = FitsAnswer (layout_of_kernel R k) (kernel_homes R k) (var_scope k) (loop_end k) k.answer
+
+-- ---- the whole
+
+pub record KernelFits (R : ℕ → ℕ) (k : Program) : Type 0 where
+  pub assigned : Assigned (layout_of_kernel R k)
+  pub vars : VarsFit R k
+  pub vars_safe : VarsAreSafe R k
+  -- the parameters and accumulators: held throughout, and left alone by every item
+  pub steady : AreSteady (kernel_homes R k)
+  pub safe : (b : ℕ) → AreSafe (layout_of_kernel R k) b (kernel_homes R k)
+  pub looped : (l : Turns) → k.turns ≡ Some l → LoopFits R k l
+  pub bound : (l : Turns) → k.turns ≡ Some l → IsBound R k l
+  pub straight : k.turns ≡ None → AnswerFits R k

@@ -1,0 +1,524 @@
+//! Emits the code of a kernel: what stands before its loop, the loop, and the end.
+
+ghost use Rattle.std.specs.Prelude.{◌≡◌, ◌+◌, ◌*◌, ◌<◌, ◌≤◌, ◌^◌, List, None, Some, [], ◌∷◌, ◌++◌, OnOk, IfOk, length, option_map};
+ghost use Rattle.kernel_tree.specs.Plain.{name_of, term_of, parameter_of, parameters_of, accumulator_of, accumulators_of, turns_of, returned_of, block_of, program_of};
+ghost use Rattle.kernel_tree.specs.Items as items;
+ghost use Rattle.kernel_tree.specs.Typing as typing;
+ghost use Rattle.kernel_scope.specs.Scopes.{scope_of, text_of};
+ghost use Rattle.label_fix.specs.DraftRun as plain;
+ghost use Rattle.reg_assign.specs.declared.interval.RegClass.TheVariants.{X};
+ghost use Rattle.reg_assign.specs.Registers.{IsAssignment};
+ghost use Rattle.loop_form.specs.Registers.{FitsKernel};
+ghost use Rattle.loop_form.specs.Seen.{program};
+ghost use Rattle.scalar_emit.specs.Statements.{block_labels, block_code};
+ghost use Rattle.scalar_emit.specs.Loop as loops;
+ghost use Rattle.scalar_emit.specs.Kernel as kernels;
+ghost use Rattle.scalar_emit.specs.Kernel.{register_in};
+ghost use Rattle.scalar_emit.specs.Kinds.{IsValue, VarsKinds, BlockKinds, AnswerKinds};
+ghost use Rattle.scalar_emit.specs.Drafts.{Appends, AppendsWords};
+ghost use Rattle.scalar_emit.specs.Views.{homes_of};
+
+use crate::emit::emit_value;
+use crate::home::{Home, register_at};
+use crate::instructions::{
+    add_sub, copy, exit_call, extending, index, next_iteration, small, zero,
+};
+use crate::laws::{each_has_a_register, few_items, few_params, right_kinds};
+use crate::places::{Places, counted_register, places_of};
+use crate::statements::emit_block;
+use a64_code::{AddSubOp, Cond};
+use kernel_scope::{Scope, declare, empty};
+use kernel_tree::fault::Binding;
+use kernel_tree::{Answer, Checked, Kernel, Loop, Param, Shape, Var};
+use label_fix::{BranchKind, Draft, Label};
+use loop_form::vars_size_of;
+use reg_assign::Assigned;
+use std::alloc::{AllocError, Global};
+use word_rows::Bits;
+
+// What a parameter stands for.
+fn binding(shape: Shape) -> Binding
+    ensures { result ≡ typing.binding_of_shape shape }
+{
+    match shape {
+        Shape::Scalar(ty) => Binding::Scalar(ty),
+        Shape::Array(ty) => Binding::Array(ty),
+    }
+}
+
+// The name of the loop variable.
+fn index_of(turns: &Option<Loop>) -> Option<&str>
+    ensures { option_map text_of result ≡ option_map items.index_of (option_map turns_of turns.now) }
+{
+    match turns {
+        None => None,
+        Some(turns) => Some(turns.index.text()),
+    }
+}
+
+// ---- names
+
+fn declare_param<'a>(
+    scope: &mut Scope<'a>,
+    homes: &mut Vec<Home<'a>>,
+    place: u32,
+    param: &'a Param,
+) -> Result<(), AllocError>
+    requires { place < 8 }
+    ensures scope { OnOk result (scope_of scope.new ≡ typing.declared (scope_of scope.old) (name_of param.now.name) (typing.binding_of_shape param.now.shape)) }
+    ensures homes { OnOk result (homes_of homes.new.items ≡ homes_of homes.old.items ++ kernels.param_home place (parameter_of param.now) ∷ []) }
+{
+    homes.push(Home {
+        name: param.name.text(),
+        register: Bits { number: place },
+        until: None,
+    })?;
+    declare(scope, &param.name, binding(param.shape))?;
+    Ok(())
+}
+
+// The parameters, the first of which stands in X0.
+fn declare_params<'a>(
+    scope: &mut Scope<'a>,
+    homes: &mut Vec<Home<'a>>,
+    params: &'a [Param],
+) -> Result<(), AllocError>
+    requires { length params.now ≤ 8 }
+    ensures scope { OnOk result (scope_of scope.new ≡ typing.after_params (scope_of scope.old) (parameters_of params.now)) }
+    ensures index { OnOk result ((scope_of scope.new).index ≡ (scope_of scope.old).index) }
+    ensures homes { OnOk result (homes_of homes.new.items ≡ homes_of homes.old.items ++ kernels.param_homes 0 (parameters_of params.now)) }
+{
+    let mut place = 0;
+    for param in params {
+        declare_param(scope, homes, place, param)?;
+        place += 1;
+    }
+    Ok(())
+}
+
+fn declare_var<'a>(
+    scope: &mut Scope<'a>,
+    homes: &mut Vec<Home<'a>>,
+    regs: &Assigned,
+    place: usize,
+    var: &'a Var,
+) -> Result<(), AllocError>
+    requires assigned { IsAssignment 15 regs.now }
+    requires within { place < length regs.now.registers }
+    ensures scope { OnOk result (scope_of scope.new ≡ kernels.after_var (scope_of scope.old) (accumulator_of var.now)) }
+    ensures homes { OnOk result (homes_of homes.new.items ≡ homes_of homes.old.items ++ kernels.var_home (register_in regs.now) place (accumulator_of var.now) ∷ []) }
+{
+    homes.push(Home {
+        name: var.name.text(),
+        register: counted_register(regs, place),
+        until: None,
+    })?;
+    declare(scope, &var.name, Binding::Accumulator(var.ty))?;
+    Ok(())
+}
+
+// The accumulators, which have the first intervals.
+fn declare_vars<'a>(
+    scope: &mut Scope<'a>,
+    homes: &mut Vec<Home<'a>>,
+    regs: &Assigned,
+    vars: &'a [Var],
+) -> Result<(), AllocError>
+    requires assigned { IsAssignment 15 regs.now }
+    requires within { length vars.now ≤ length regs.now.registers }
+    ensures scope { OnOk result (scope_of scope.new ≡ typing.after_vars (scope_of scope.old) (accumulators_of vars.now)) }
+    ensures index { OnOk result ((scope_of scope.new).index ≡ (scope_of scope.old).index) }
+    ensures homes { OnOk result (homes_of homes.new.items ≡ homes_of homes.old.items ++ kernels.var_homes (register_in regs.now) 0 (accumulators_of vars.now)) }
+{
+    let mut place = 0;
+    for var in vars {
+        declare_var(scope, homes, regs, place, var)?;
+        place += 1;
+    }
+    Ok(())
+}
+
+// The names of a kernel before its loop.
+fn declare_names<'a>(
+    scope: &mut Scope<'a>,
+    homes: &mut Vec<Home<'a>>,
+    regs: &Assigned,
+    kernel: &'a Kernel,
+) -> Result<(), AllocError>
+    requires assigned { IsAssignment 15 regs.now }
+    requires vars { length (program_of kernel.now).vars ≤ length regs.now.registers }
+    requires params { length (program_of kernel.now).params ≤ 8 }
+    requires scope { scope_of scope.old ≡ typing.empty (items.loop_index (program_of kernel.now)) }
+    requires homes { homes.old.items ≡ [] }
+    ensures scope { OnOk result (scope_of scope.new ≡ typing.var_scope (program_of kernel.now)) }
+    ensures index { OnOk result ((scope_of scope.new).index ≡ items.loop_index (program_of kernel.now)) }
+    ensures homes { OnOk result (homes_of homes.new.items ≡ kernels.kernel_homes (register_in regs.now) (program_of kernel.now)) }
+{
+    declare_params(scope, homes, &kernel.params)?;
+    declare_vars(scope, homes, regs, &kernel.vars)?;
+    Ok(())
+}
+
+// The loop variable.
+fn declare_index<'a>(
+    scope: &mut Scope<'a>,
+    homes: &mut Vec<Home<'a>>,
+    turns: &'a Loop,
+) -> Result<(), AllocError>
+    ensures scope { OnOk result (scope_of scope.new ≡ typing.after_turns (scope_of scope.old) (Some (turns_of turns.now))) }
+    ensures index { OnOk result ((scope_of scope.new).index ≡ (scope_of scope.old).index) }
+    ensures homes { OnOk result (homes_of homes.new.items ≡ loops.with_index (homes_of homes.old.items) (turns_of turns.now)) }
+{
+    homes.push(Home {
+        name: turns.index.text(),
+        register: index(),
+        until: None,
+    })?;
+    declare(scope, &turns.index, Binding::Index)?;
+    Ok(())
+}
+
+// ---- before the loop
+
+fn emit_argument(draft: &mut Draft, place: u32, shape: Shape) -> Result<(), AllocError>
+    requires { place < 8 }
+    ensures labels { OnOk result (draft.new.labels ≡ draft.old.labels) }
+    ensures code { OnOk result (Appends draft.old draft.new (kernels.argument_code shape place)) }
+{
+    match shape {
+        Shape::Array(_) => Ok(()),
+        Shape::Scalar(ty) => {
+            draft.put(extending(ty, Bits { number: place }, Bits { number: place }))?;
+            Ok(())
+        }
+    }
+}
+
+// The scalar arguments, wrapped to their types.
+fn emit_arguments(draft: &mut Draft, params: &[Param]) -> Result<(), AllocError>
+    requires { length params.now ≤ 8 }
+    ensures labels { OnOk result (draft.new.labels ≡ draft.old.labels) }
+    ensures code { OnOk result (Appends draft.old draft.new (kernels.arguments_code 0 (parameters_of params.now))) }
+{
+    let mut place = 0;
+    for param in params {
+        emit_argument(draft, place, param.shape)?;
+        place += 1;
+    }
+    Ok(())
+}
+
+fn emit_var<'a>(
+    draft: &mut Draft,
+    places: &Places,
+    regs: &Assigned,
+    homes: &mut Vec<Home<'a>>,
+    scope: &mut Scope<'a>,
+    place: usize,
+    var: &'a Var,
+    item: &mut usize,
+) -> Result<(), AllocError>
+    requires assigned { IsAssignment 15 regs.now }
+    requires within { place < length regs.now.registers }
+    requires kind { IsValue (term_of var.now.init) }
+    requires fits { item.old + (items.term_size (scope_of scope.old).index (term_of var.now.init) + 1) < 2 ^ 32 }
+    ensures scope { OnOk result (scope_of scope.new ≡ kernels.after_var (scope_of scope.old) (accumulator_of var.now)) }
+    ensures homes { OnOk result (homes_of homes.new.items ≡ homes_of homes.old.items ++ kernels.var_home (register_in regs.now) place (accumulator_of var.now) ∷ []) }
+    ensures item { OnOk result (item.new ≡ item.old + items.term_size (scope_of scope.old).index (term_of var.now.init) + 1) }
+    ensures labels { OnOk result (draft.new.labels ≡ draft.old.labels + kernels.var_labels (scope_of scope.old).index (accumulator_of var.now)) }
+    ensures code { OnOk result (Appends draft.old draft.new (kernels.var_code places.now (register_in regs.now) (homes_of homes.old.items) (scope_of scope.old) place item.old draft.old.labels (accumulator_of var.now))) }
+{
+    let from = emit_value(draft, places, homes, scope, Some(var.ty), &var.init, item)?;
+    draft.put(copy(counted_register(regs, place), from))?;
+    declare_var(scope, homes, regs, place, var)?;
+    *item += 1;
+    Ok(())
+}
+
+// The accumulators in their order.
+fn emit_vars<'a>(
+    draft: &mut Draft,
+    places: &Places,
+    regs: &Assigned,
+    homes: &mut Vec<Home<'a>>,
+    scope: &mut Scope<'a>,
+    vars: &'a [Var],
+    item: usize,
+) -> Result<(), AllocError>
+    requires assigned { IsAssignment 15 regs.now }
+    requires within { length vars.now ≤ length regs.now.registers }
+    requires kinds { VarsKinds (accumulators_of vars.now) }
+    requires fits { item + items.vars_size (scope_of scope.old).index (accumulators_of vars.now) < 2 ^ 32 }
+    ensures labels { OnOk result (draft.new.labels ≡ draft.old.labels + kernels.vars_labels (scope_of scope.old).index (accumulators_of vars.now)) }
+    ensures code { OnOk result (Appends draft.old draft.new (kernels.vars_code places.now (register_in regs.now) (homes_of homes.old.items) (scope_of scope.old) 0 item draft.old.labels (accumulators_of vars.now))) }
+{
+    let mut next = item;
+    let mut place = 0;
+    for var in vars {
+        emit_var(draft, places, regs, homes, scope, place, var, &mut next)?;
+        place += 1;
+    }
+    Ok(())
+}
+
+/// The code before the loop. It wraps the scalar arguments to their types, evaluates the accumulators in their order into
+/// their registers and sets X9 to zero.
+#[tactic(auto, unfolding(loop_form::specs::Seen::program))]
+pub fn emit_begin(
+    alloc: Global,
+    kernel: &Checked,
+    regs: &Assigned,
+    draft: &mut Draft,
+) -> Result<(), AllocError>
+    requires fits { FitsKernel (program kernel.now) X regs.now }
+    ensures words { OnOk result (AppendsWords draft.old draft.new (40 + 8 * items.size_of (program kernel.now))) }
+    ensures labels { OnOk result (draft.new.labels ≡ draft.old.labels + kernels.begin_labels (program kernel.now)) }
+    ensures code { OnOk result (Appends draft.old draft.new
+        (kernels.begin_code (register_in regs.now) (program kernel.now) draft.old.labels)) }
+{
+    few_items(kernel);
+    few_params(kernel);
+    right_kinds(kernel);
+    each_has_a_register(kernel, regs);
+    let places = places_of(alloc, kernel, regs)?;
+    let tree = kernel.kernel();
+    let mut scope = empty(alloc, index_of(&tree.body));
+    let mut homes = Vec::new(alloc);
+    declare_params(&mut scope, &mut homes, &tree.params)?;
+    emit_arguments(draft, &tree.params)?;
+    let first = tree.params.len();
+    emit_vars(
+        draft, &places, regs, &mut homes, &mut scope, &tree.vars, first,
+    )?;
+    draft.put(small(9, 0))?;
+    Ok(())
+}
+
+// ---- the loop and the end
+
+// The end of a run, with its result in X0.
+fn emit_exit(draft: &mut Draft) -> Result<(), AllocError>
+    ensures labels { OnOk result (draft.new.labels ≡ draft.old.labels) }
+    ensures code { OnOk result (Appends draft.old draft.new (loops.exit_code)) }
+{
+    draft.put(small(8, 93))?;
+    draft.put(exit_call())?;
+    Ok(())
+}
+
+// The returned value, and the end.
+fn emit_answer(
+    draft: &mut Draft,
+    places: &Places,
+    homes: &[Home],
+    scope: &Scope,
+    answer: &Option<Answer>,
+    item: usize,
+) -> Result<(), AllocError>
+    requires kind { AnswerKinds (option_map returned_of answer.now) }
+    requires fits { item + items.answer_size (scope_of scope.now).index (option_map returned_of answer.now) < 2 ^ 32 }
+    ensures labels { OnOk result (draft.new.labels ≡ draft.old.labels + loops.answer_labels (scope_of scope.now).index (option_map returned_of answer.now)) }
+    ensures code { OnOk result (Appends draft.old draft.new (loops.answer_code places.now (homes_of homes.now) (scope_of scope.now) item draft.old.labels (option_map returned_of answer.now))) }
+{
+    match answer {
+        None => {
+            draft.put(small(0, 0))?;
+            emit_exit(draft)?;
+            Ok(())
+        }
+        Some(answer) => {
+            let mut next = item;
+            let from = emit_value(
+                draft,
+                places,
+                homes,
+                scope,
+                Some(answer.ty),
+                &answer.value,
+                &mut next,
+            )?;
+            draft.put(copy(Bits { number: 0 }, from))?;
+            emit_exit(draft)?;
+            Ok(())
+        }
+    }
+}
+
+// The statements of a loop whose variable is declared.
+fn emit_body<'a>(
+    draft: &mut Draft,
+    places: &Places,
+    homes: &mut Vec<Home<'a>>,
+    scope: &mut Scope<'a>,
+    exit: Label,
+    turns: &'a Loop,
+    item: &mut usize,
+) -> Result<(), AllocError>
+    requires exit { exit < draft.old.labels }
+    requires kinds { BlockKinds (block_of turns.now.body.items) }
+    requires fits { item.old + items.block_size (scope_of scope.old).index (block_of turns.now.body.items) < 2 ^ 32 }
+    ensures item { OnOk result (item.new ≡ item.old + items.block_size (scope_of scope.old).index (block_of turns.now.body.items)) }
+    ensures labels { OnOk result (draft.new.labels ≡ draft.old.labels + block_labels (scope_of scope.old).index (block_of turns.now.body.items)) }
+    ensures code { OnOk result (Appends draft.old draft.new (block_code places.now (homes_of homes.old.items) (loops.inside_of (scope_of scope.old)) exit item.old draft.old.labels (block_of turns.now.body.items))) }
+{
+    scope.inside = true;
+    emit_block(draft, places, homes, scope, exit, &turns.body, item)?;
+    Ok(())
+}
+
+// The loop from its head to its end; answers the label of the head.
+fn emit_loop<'a>(
+    draft: &mut Draft,
+    places: &Places,
+    homes: &mut Vec<Home<'a>>,
+    scope: &mut Scope<'a>,
+    turns: &'a Loop,
+    item: &mut usize,
+) -> Result<Label, AllocError>
+    requires kinds { BlockKinds (block_of turns.now.body.items) }
+    requires fits { item.old + (1 + items.block_size (scope_of scope.old).index (block_of turns.now.body.items)) < 2 ^ 32 }
+    ensures head { IfOk result (λ l. l ≡ draft.old.labels) }
+    ensures item { OnOk result (item.new ≡ item.old + (1 + items.block_size (scope_of scope.old).index (block_of turns.now.body.items))) }
+    ensures labels { OnOk result (draft.new.labels ≡ draft.old.labels + 2 + block_labels (scope_of scope.old).index (block_of turns.now.body.items)) }
+    ensures code { OnOk result (Appends draft.old draft.new (loops.turn_code places.now (homes_of homes.old.items) (scope_of scope.old) (turns_of turns.now) item.old draft.old.labels)) }
+{
+    let head = draft.label()?;
+    let exit = draft.label()?;
+    draft.place(head)?;
+    let bound = register_at(homes, &turns.bound);
+    draft.put(add_sub(AddSubOp::Subs, zero(), index(), bound))?;
+    draft.branch(BranchKind::If(Cond::Hs), exit)?;
+    declare_index(scope, homes, turns)?;
+    *item += 1;
+    emit_body(draft, places, homes, scope, exit, turns, item)?;
+    draft.put(next_iteration())?;
+    draft.branch(BranchKind::Always, head)?;
+    draft.place(exit)?;
+    Ok(head)
+}
+
+// The loop of a kernel.
+fn emit_turns(
+    alloc: Global,
+    draft: &mut Draft,
+    places: &Places,
+    regs: &Assigned,
+    kernel: &Kernel,
+    turns: &Loop,
+    item: &mut usize,
+) -> Result<Label, AllocError>
+    requires assigned { IsAssignment 15 regs.now }
+    requires vars { length (program_of kernel.now).vars ≤ length regs.now.registers }
+    requires params { length (program_of kernel.now).params ≤ 8 }
+    requires turns { (program_of kernel.now).turns ≡ Some (turns_of turns.now) }
+    requires kinds { BlockKinds (block_of turns.now.body.items) }
+    requires fits { item.old + items.turns_size (Some (turns_of turns.now)) < 2 ^ 32 }
+    ensures head { IfOk result (λ l. l ≡ draft.old.labels) }
+    ensures item { OnOk result (item.new ≡ item.old + items.turns_size (Some (turns_of turns.now))) }
+    ensures labels { OnOk result (draft.new.labels ≡ draft.old.labels + 2 + block_labels (items.loop_index (program_of kernel.now)) (block_of turns.now.body.items)) }
+    ensures code { OnOk result (Appends draft.old draft.new (loops.turn_code places.now (kernels.kernel_homes (register_in regs.now) (program_of kernel.now)) (typing.var_scope (program_of kernel.now)) (turns_of turns.now) item.old draft.old.labels)) }
+{
+    let mut scope = empty(alloc, Some(turns.index.text()));
+    let mut homes = Vec::new(alloc);
+    declare_names(&mut scope, &mut homes, regs, kernel)?;
+    let head = emit_loop(draft, places, &mut homes, &mut scope, turns, item)?;
+    Ok(head)
+}
+
+// The returned value of a kernel behind its loop.
+fn emit_behind(
+    alloc: Global,
+    draft: &mut Draft,
+    places: &Places,
+    regs: &Assigned,
+    kernel: &Kernel,
+    turns: &Loop,
+    item: usize,
+) -> Result<(), AllocError>
+    requires assigned { IsAssignment 15 regs.now }
+    requires vars { length (program_of kernel.now).vars ≤ length regs.now.registers }
+    requires params { length (program_of kernel.now).params ≤ 8 }
+    requires turns { (program_of kernel.now).turns ≡ Some (turns_of turns.now) }
+    requires kind { AnswerKinds (program_of kernel.now).answer }
+    requires fits { item + items.answer_size (items.loop_index (program_of kernel.now)) (program_of kernel.now).answer < 2 ^ 32 }
+    ensures labels { OnOk result (draft.new.labels ≡ draft.old.labels + loops.answer_labels (items.loop_index (program_of kernel.now)) (program_of kernel.now).answer) }
+    ensures code { OnOk result (Appends draft.old draft.new (loops.leave_code places.now (kernels.kernel_homes (register_in regs.now) (program_of kernel.now)) (typing.var_scope (program_of kernel.now)) (turns_of turns.now) item draft.old.labels (program_of kernel.now).answer)) }
+{
+    let mut scope = empty(alloc, Some(turns.index.text()));
+    let mut homes = Vec::new(alloc);
+    declare_names(&mut scope, &mut homes, regs, kernel)?;
+    declare_index(&mut scope, &mut homes, turns)?;
+    emit_answer(draft, places, &homes, &scope, &kernel.answer, item)?;
+    Ok(())
+}
+
+// A kernel without a loop; answers the label before its returned value.
+fn emit_straight(
+    alloc: Global,
+    draft: &mut Draft,
+    places: &Places,
+    regs: &Assigned,
+    kernel: &Kernel,
+    item: usize,
+) -> Result<Label, AllocError>
+    requires assigned { IsAssignment 15 regs.now }
+    requires vars { length (program_of kernel.now).vars ≤ length regs.now.registers }
+    requires params { length (program_of kernel.now).params ≤ 8 }
+    requires turns { (program_of kernel.now).turns ≡ None }
+    requires kind { AnswerKinds (program_of kernel.now).answer }
+    requires fits { item + items.answer_size (items.loop_index (program_of kernel.now)) (program_of kernel.now).answer < 2 ^ 32 }
+    ensures head { IfOk result (λ l. l ≡ draft.old.labels) }
+    ensures labels { OnOk result (draft.new.labels ≡ draft.old.labels + kernels.scalar_labels (program_of kernel.now)) }
+    ensures code { OnOk result (Appends draft.old draft.new (kernels.straight_code places.now (kernels.kernel_homes (register_in regs.now) (program_of kernel.now)) (typing.var_scope (program_of kernel.now)) draft.old.labels item (program_of kernel.now).answer)) }
+{
+    let mut scope = empty(alloc, None);
+    let mut homes = Vec::new(alloc);
+    declare_names(&mut scope, &mut homes, regs, kernel)?;
+    let head = draft.label()?;
+    draft.place(head)?;
+    emit_answer(draft, places, &homes, &scope, &kernel.answer, item)?;
+    Ok(head)
+}
+
+/// Where scalar code is entered.
+#[derive(Clone, Copy)]
+pub struct ScalarEntry {
+    /// The label at the head of the loop, which is entered with the number of an iteration in X9; without a loop, the label
+    /// before the returned value.
+    pub at_iteration: Label,
+}
+
+/// The code of the loop and of what follows it, up to the end of the run.
+#[tactic(auto, unfolding(loop_form::specs::Seen::program))]
+pub fn emit_scalar(
+    alloc: Global,
+    kernel: &Checked,
+    regs: &Assigned,
+    draft: &mut Draft,
+) -> Result<ScalarEntry, AllocError>
+    requires fits { FitsKernel (program kernel.now) X regs.now }
+    ensures words { OnOk result (AppendsWords draft.old draft.new (64 + 16 * items.size_of (program kernel.now))) }
+    ensures entry { IfOk result (λ e. e.at_iteration ≡ draft.old.labels) }
+    ensures labels { OnOk result (draft.new.labels ≡ draft.old.labels + kernels.scalar_labels (program kernel.now)) }
+    ensures code { OnOk result (Appends draft.old draft.new
+        (kernels.scalar_code (register_in regs.now) (program kernel.now) draft.old.labels)) }
+{
+    few_items(kernel);
+    few_params(kernel);
+    right_kinds(kernel);
+    each_has_a_register(kernel, regs);
+    let places = places_of(alloc, kernel, regs)?;
+    let tree = kernel.kernel();
+    let mut item = tree.params.len() + vars_size_of(kernel, &tree.vars) as usize;
+    match &tree.body {
+        None => {
+            let at_iteration = emit_straight(alloc, draft, &places, regs, tree, item)?;
+            Ok(ScalarEntry { at_iteration })
+        }
+        Some(turns) => {
+            let at_iteration = emit_turns(alloc, draft, &places, regs, tree, turns, &mut item)?;
+            emit_behind(alloc, draft, &places, regs, tree, turns, item)?;
+            Ok(ScalarEntry { at_iteration })
+        }
+    }
+}

@@ -1,0 +1,50 @@
+//! What scalar code needs of a checked kernel, and what it does.
+
+ghost use Rattle.std.specs.Prelude.{◌≡◌, ◌+◌, ◌≤◌, length};
+ghost use Rattle.kernel_tree.specs.Items.{size_of};
+ghost use Rattle.reg_assign.specs.declared.interval.RegClass.TheVariants.{X};
+ghost use Rattle.loop_form.specs.Listing.{listing_of};
+ghost use Rattle.loop_form.specs.Registers.{FitsKernel};
+ghost use Rattle.loop_form.specs.Seen.{program};
+ghost use Rattle.scalar_emit.specs.Kernel.{register_in, count_values};
+ghost use Rattle.scalar_emit.specs.Kinds.{KernelKinds};
+ghost use Rattle.scalar_emit.specs.Runs.{BeginRuns, ScalarRuns};
+
+use kernel_tree::Checked;
+use reg_assign::Assigned;
+
+/// A checked kernel has at most 1,000 items, and so at most as many accumulators.
+pub fn few_items(kernel: &Checked)
+    ensures size { size_of (program kernel.now) ≤ 1000 }
+    ensures vars { length (program kernel.now).vars ≤ 1000 }
+{}
+
+/// It has at most eight parameters.
+pub fn few_params(kernel: &Checked)
+    ensures { length (program kernel.now).params ≤ 8 }
+{}
+
+/// Values stand where values are wanted, and conditions where conditions are.
+pub fn right_kinds(kernel: &Checked)
+    ensures { KernelKinds (program kernel.now) }
+{}
+
+/// Each accumulator and each item with a value has a register.
+pub fn each_has_a_register(kernel: &Checked, regs: &Assigned)
+    requires fits { FitsKernel (program kernel.now) X regs.now }
+    ensures count { let k = program kernel.now in length k.vars + count_values (listing_of k) ≡ length regs.now.registers }
+    ensures vars { length (program kernel.now).vars ≤ length regs.now.registers }
+{}
+
+/// The code before the loop leaves the wrapped scalar arguments, the array arguments as they were, the accumulators as the
+/// scalar loop starts with them, and zero in X9.
+pub fn begin_runs(kernel: &Checked, regs: &Assigned)
+    requires fits { FitsKernel (program kernel.now) X regs.now }
+    ensures { BeginRuns (register_in regs.now) (program kernel.now) }
+{}
+
+/// The code of the loop, entered before any iteration, does what the scalar loop does from there on.
+pub fn scalar_runs(kernel: &Checked, regs: &Assigned)
+    requires fits { FitsKernel (program kernel.now) X regs.now }
+    ensures { ScalarRuns (register_in regs.now) (program kernel.now) }
+{}

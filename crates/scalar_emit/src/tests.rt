@@ -1,0 +1,96 @@
+//! The words of a kernel that counts, as GNU `as` writes them.
+
+ghost use Rattle.std.specs.Prelude.{◌≡◌, ◌≤◌, IfOk};
+ghost use Rattle.kernel_tree.specs.Items.{size_of};
+ghost use Rattle.kernel_tree.specs.Plain.{name_of};
+ghost use Rattle.reg_assign.specs.declared.interval.RegClass.TheVariants.{X};
+ghost use Rattle.loop_form.specs.Registers.{FitsKernel};
+ghost use Rattle.loop_form.specs.Seen.{program};
+
+use crate::laws::few_items;
+use crate::{emit_begin, emit_scalar};
+use kernel_tree::{Answer, Checked, Expr, Kernel, Loop, Name, Param, Shape, Ty};
+use label_fix::Draft;
+use loop_form::intervals;
+use loop_form::laws::ordered_intervals;
+use reg_assign::{Assigned, RegClass, assign};
+use std::alloc::Global;
+use std::test::Fail;
+
+fn name(alloc: Global, text: &str) -> Result<Name, Fail>
+    ensures { IfOk result (λ name. name_of name ≡ text.now) }
+{
+    let name = Name::new(alloc, text)?.ok_or("no name")?;
+    Ok(name)
+}
+
+// kernel f(n: u64) -> u64 { for i in 0..n { } return i; }
+fn count(alloc: Global) -> Result<Checked, Fail> {
+    let mut params = Vec::new(alloc);
+    params.push(Param {
+        name: name(alloc, "n")?,
+        shape: Shape::Scalar(Ty::U64),
+    })?;
+    let turns = Loop {
+        index: name(alloc, "i")?,
+        bound: name(alloc, "n")?,
+        body: Vec::new(alloc),
+    };
+    let answer = Answer {
+        ty: Ty::U64,
+        value: Expr::Var(name(alloc, "i")?),
+    };
+    let kernel = Kernel {
+        name: name(alloc, "f")?,
+        params,
+        vars: Vec::new(alloc),
+        body: Some(turns),
+        answer: Some(answer),
+    };
+    let mut types = Vec::new(alloc);
+    types.push(None)?;
+    types.push(None)?;
+    types.push(Some(Ty::U64))?;
+    types.push(None)?;
+    Ok(Checked::new(kernel, types))
+}
+
+fn registers(alloc: Global, kernel: &Checked) -> Result<Assigned, Fail>
+    ensures { IfOk result (λ regs. FitsKernel (program kernel.now) X regs) }
+{
+    ordered_intervals(kernel, RegClass::X);
+    let intervals = intervals(alloc, kernel, RegClass::X)?;
+    match assign(alloc, &intervals, RegClass::X, 15) {
+        Ok(regs) => Ok(regs),
+        Err(_) => Err(Fail::new("too few registers")),
+    }
+}
+
+#[test]
+fn counts(rt: HostRuntime) -> Result<(), Fail> {
+    let alloc = rt.alloc();
+    let kernel = count(alloc)?;
+    let regs = registers(alloc, &kernel)?;
+    let mut draft = Draft::new(alloc);
+    few_items(&kernel);
+    emit_begin(alloc, &kernel, &regs, &mut draft)?;
+    let entry = emit_scalar(alloc, &kernel, &regs, &mut draft)?;
+    let _head = entry.at_iteration;
+    let words = draft.finish()?;
+    assert!(rt;
+        words.as_slice()
+            == [
+                0xd340_fc00,
+                0xd280_0009,
+                0xeb00_013f,
+                0x5400_0062,
+                0x9100_0529,
+                0x17ff_fffd,
+                0xaa09_03e0,
+                0xd280_0ba8,
+                0xd400_0001,
+            ]
+            .as_slice()
+    );
+    Ok(())
+}
