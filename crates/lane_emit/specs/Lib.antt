@@ -1,0 +1,7 @@
+pub mod Right
+pub mod Stretch
+pub mod LaneCode
+pub mod ItemCode
+pub mod View
+pub mod Homes
+pub mod KernelCode

@@ -1,0 +1,15 @@
+-- What contracts see of code.
+use Rattle.std.specs.Prelude.{◌≡◌, List, ◌++◌, map}
+use Rattle.sve_code.specs.declared.Sve.{Sve}
+use Rattle.sve_code.specs.Seen.{seen}
+use Rattle.lane_emit.specs.Stretch.{Word}
+
+abbrev pub words_of : List Sve → List Word
+words_of code = map seen code
+
+-- what a call appends, before whatever follows
+abbrev pub Appends : (List Word → List Word) → (old new : List Sve) → Type 0
+Appends code old new = (rest : List Word) → words_of new ++ rest ≡ words_of old ++ code rest
+
+abbrev pub Adds : List Word → (old new : List Sve) → Type 0
+Adds code old new = words_of new ≡ words_of old ++ code

@@ -1,0 +1,330 @@
+//! The code of each operation in the lanes.
+
+ghost use Rattle.std.specs.Prelude.{◌≡◌, ◌<◌, [], ◌∷◌, ◌++◌, OnOk};
+ghost use Rattle.guest_types.specs.Length.{width_bits};
+ghost use Rattle.kernel_tree.specs.Wrap as wraps;
+ghost use Rattle.sve_code.specs.Seen as sve;
+ghost use Rattle.lane_emit.specs.LaneCode as code;
+ghost use Rattle.lane_emit.specs.View.{Adds, Appends};
+
+use crate::words::{
+    add_sub, bits_of, bitwise, extend_byte, extend_halfword, extend_word, fits, is_signed, merging,
+    shift_count, shift_left, shift_right, unary,
+};
+use guest_types::length::Width;
+use kernel_tree::{BinaryOp, Ty, UnaryOp};
+use std::alloc::AllocError;
+use sve_code::{
+    AddSubOp, BinaryPredicatedOp, BitwiseOp, ExtendOp, Sve, UnaryPredicatedOp, VectorReg,
+};
+
+/// A copy, left out where the two registers are one.
+pub fn z_copy(words: &mut Vec<Sve>, d: VectorReg, a: VectorReg) -> Result<(), AllocError>
+    ensures { OnOk result (Appends (code.z_copy d.number a.number) words.old.items words.new.items) }
+{
+    if d.number == a.number {
+        return Ok(());
+    }
+    words.push(bitwise(BitwiseOp::Orr, d, a, a))?;
+    Ok(())
+}
+
+// The low bits of each lane, extended by a type that is narrower than the lane.
+fn extension(
+    words: &mut Vec<Sve>,
+    width: Width,
+    ty: Ty,
+    d: VectorReg,
+    a: VectorReg,
+) -> Result<(), AllocError>
+    requires { wraps.bits_of ty < width_bits width }
+    ensures { OnOk result (Adds (code.extension ty width d.number a.number) words.old.items words.new.items) }
+{
+    match ty {
+        Ty::I8 => words.push(extend_byte(ExtendOp::Signed, width, d, a))?,
+        Ty::U8 => words.push(extend_byte(ExtendOp::Unsigned, width, d, a))?,
+        Ty::I16 => words.push(extend_halfword(ExtendOp::Signed, width, d, a))?,
+        Ty::U16 => words.push(extend_halfword(ExtendOp::Unsigned, width, d, a))?,
+        Ty::I32 => words.push(extend_word(ExtendOp::Signed, d, a))?,
+        Ty::U32 => words.push(extend_word(ExtendOp::Unsigned, d, a))?,
+        Ty::I64 | Ty::U64 => z_copy(words, d, a)?,
+    }
+    Ok(())
+}
+
+/// A value wrapped to a type.
+pub fn z_extend(
+    words: &mut Vec<Sve>,
+    width: Width,
+    ty: Ty,
+    d: VectorReg,
+    a: VectorReg,
+) -> Result<(), AllocError>
+    ensures { OnOk result (Adds (code.z_extend width ty d.number a.number) words.old.items words.new.items) }
+{
+    if width.bits() <= bits_of(ty) {
+        z_copy(words, d, a)?;
+        Ok(())
+    } else {
+        extension(words, width, ty, d, a)?;
+        Ok(())
+    }
+}
+
+// The same in place, where an operator may leave what is not extended.
+fn z_settle(
+    words: &mut Vec<Sve>,
+    leaves: bool,
+    width: Width,
+    ty: Ty,
+    d: VectorReg,
+) -> Result<(), AllocError>
+    ensures { OnOk result (Adds (code.z_settle leaves width ty d.number) words.old.items words.new.items) }
+{
+    if leaves {
+        z_extend(words, width, ty, d, d)?;
+    }
+    Ok(())
+}
+
+fn unary_leaves(op: UnaryOp, ty: Ty) -> bool
+    ensures { result ≡ code.unary_leaves op ty }
+{
+    match op {
+        UnaryOp::Neg => true,
+        UnaryOp::Flip => !is_signed(ty),
+        UnaryOp::Abs => is_signed(ty),
+    }
+}
+
+fn binary_leaves(op: BinaryOp) -> bool
+    ensures { result ≡ code.binary_leaves op }
+{
+    matches!(op, BinaryOp::Add | BinaryOp::Sub | BinaryOp::Mul)
+}
+
+// One word, and what settles it.
+fn settled(
+    words: &mut Vec<Sve>,
+    word: Sve,
+    leaves: bool,
+    width: Width,
+    ty: Ty,
+    d: VectorReg,
+) -> Result<(), AllocError>
+    ensures { OnOk result (Adds (sve.seen word ∷ code.z_settle leaves width ty d.number)
+        words.old.items words.new.items) }
+{
+    words.push(word)?;
+    z_settle(words, leaves, width, ty, d)?;
+    Ok(())
+}
+
+/// An operator with one operand.
+pub fn apply(
+    words: &mut Vec<Sve>,
+    width: Width,
+    op: UnaryOp,
+    ty: Ty,
+    d: VectorReg,
+    a: VectorReg,
+) -> Result<(), AllocError>
+    ensures { OnOk result (Adds (code.unary_code width op ty d.number a.number) words.old.items words.new.items) }
+{
+    let leaves = unary_leaves(op, ty);
+    match op {
+        UnaryOp::Neg => settled(
+            words,
+            unary(UnaryPredicatedOp::Neg, width, d, a),
+            leaves,
+            width,
+            ty,
+            d,
+        )?,
+        UnaryOp::Flip => settled(
+            words,
+            unary(UnaryPredicatedOp::Not, width, d, a),
+            leaves,
+            width,
+            ty,
+            d,
+        )?,
+        UnaryOp::Abs => {
+            if is_signed(ty) {
+                settled(
+                    words,
+                    unary(UnaryPredicatedOp::Abs, width, d, a),
+                    leaves,
+                    width,
+                    ty,
+                    d,
+                )?;
+            } else {
+                z_copy(words, d, a)?;
+            }
+        }
+    }
+    Ok(())
+}
+
+// An operation that changes its first operand, and whose operands may be exchanged.
+fn merged(
+    words: &mut Vec<Sve>,
+    op: BinaryPredicatedOp,
+    leaves: bool,
+    width: Width,
+    ty: Ty,
+    d: VectorReg,
+    a: VectorReg,
+    b: VectorReg,
+) -> Result<(), AllocError>
+    ensures { let settle = code.z_settle leaves width ty d.number in
+        OnOk result (Adds (code.merged width (sve.merging_name op) d.number a.number b.number settle)
+        words.old.items words.new.items) }
+{
+    if d.number == b.number {
+        settled(words, merging(op, width, d, a), leaves, width, ty, d)?;
+        Ok(())
+    } else {
+        z_copy(words, d, a)?;
+        settled(words, merging(op, width, d, b), leaves, width, ty, d)?;
+        Ok(())
+    }
+}
+
+fn minimum(ty: Ty) -> BinaryPredicatedOp
+    ensures { sve.merging_name result ≡ code.least_name ty }
+{
+    if is_signed(ty) {
+        BinaryPredicatedOp::Smin
+    } else {
+        BinaryPredicatedOp::Umin
+    }
+}
+
+fn maximum(ty: Ty) -> BinaryPredicatedOp
+    ensures { sve.merging_name result ≡ code.greatest_name ty }
+{
+    if is_signed(ty) {
+        BinaryPredicatedOp::Smax
+    } else {
+        BinaryPredicatedOp::Umax
+    }
+}
+
+/// An operator with two operands.
+pub fn combine(
+    words: &mut Vec<Sve>,
+    width: Width,
+    op: BinaryOp,
+    ty: Ty,
+    d: VectorReg,
+    a: VectorReg,
+    b: VectorReg,
+) -> Result<(), AllocError>
+    ensures { OnOk result (Adds (code.binary_code width op ty d.number a.number b.number)
+        words.old.items words.new.items) }
+{
+    let leaves = binary_leaves(op);
+    match op {
+        BinaryOp::Add => settled(
+            words,
+            add_sub(AddSubOp::Add, width, d, a, b),
+            leaves,
+            width,
+            ty,
+            d,
+        )?,
+        BinaryOp::Sub => settled(
+            words,
+            add_sub(AddSubOp::Sub, width, d, a, b),
+            leaves,
+            width,
+            ty,
+            d,
+        )?,
+        BinaryOp::Mul => merged(words, BinaryPredicatedOp::Mul, leaves, width, ty, d, a, b)?,
+        BinaryOp::And => settled(
+            words,
+            bitwise(BitwiseOp::And, d, a, b),
+            leaves,
+            width,
+            ty,
+            d,
+        )?,
+        BinaryOp::Or => settled(
+            words,
+            bitwise(BitwiseOp::Orr, d, a, b),
+            leaves,
+            width,
+            ty,
+            d,
+        )?,
+        BinaryOp::Xor => settled(
+            words,
+            bitwise(BitwiseOp::Eor, d, a, b),
+            leaves,
+            width,
+            ty,
+            d,
+        )?,
+        BinaryOp::Min => merged(words, minimum(ty), leaves, width, ty, d, a, b)?,
+        BinaryOp::Max => merged(words, maximum(ty), leaves, width, ty, d, a, b)?,
+    }
+    Ok(())
+}
+
+// A count that a lane can be shifted by.
+fn lane_count(width: Width, count: u32) -> u32
+    ensures value { result ≡ code.lane_count width count }
+    ensures short { result < width_bits width }
+{
+    let most = width.bits() - 1;
+    count.min(most)
+}
+
+/// A shift by a constant.
+pub fn shift(
+    words: &mut Vec<Sve>,
+    width: Width,
+    left: bool,
+    count: i128,
+    ty: Ty,
+    d: VectorReg,
+    a: VectorReg,
+) -> Result<(), AllocError>
+    ensures { OnOk result (Adds (code.shift_code width left count ty d.number a.number)
+        words.old.items words.new.items) }
+{
+    let by = lane_count(width, shift_count(count));
+    if left {
+        settled(words, shift_left(width, d, a, by), true, width, ty, d)?;
+        Ok(())
+    } else if by == 0 {
+        z_copy(words, d, a)?;
+        Ok(())
+    } else {
+        words.push(shift_right(is_signed(ty), width, d, a, by))?;
+        Ok(())
+    }
+}
+
+/// A value of one type as one of another.
+pub fn cast(
+    words: &mut Vec<Sve>,
+    width: Width,
+    from: Ty,
+    to: Ty,
+    d: VectorReg,
+    a: VectorReg,
+) -> Result<(), AllocError>
+    ensures { OnOk result (Adds (code.cast_code width from to d.number a.number) words.old.items words.new.items) }
+{
+    if fits(from, to) {
+        z_copy(words, d, a)?;
+        Ok(())
+    } else {
+        z_extend(words, width, to, d, a)?;
+        Ok(())
+    }
+}

@@ -1,0 +1,3 @@
+pub mod Meets
+mod Examples
+pub mod Owners

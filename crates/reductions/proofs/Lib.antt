@@ -1,0 +1,5 @@
+pub mod Laws
+pub mod Orders
+pub mod Shares
+pub mod Lanes
+pub mod Reduce

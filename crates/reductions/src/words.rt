@@ -1,0 +1,89 @@
+//! The instructions of an accumulator in the lanes.
+
+ghost use Rattle.std.specs.Prelude.{◌≡◌, [], ◌∷◌};
+ghost use Rattle.sve_code.specs.Seen.{seen};
+ghost use Rattle.sve_code.specs.Seen as sve;
+ghost use Rattle.lane_emit.specs.LaneCode.{dup_code};
+ghost use Rattle.reductions.specs.AccumulatorLanes.{update_name, reduce_name, update_code, reduce_code};
+
+use guest_types::length::Width;
+use kernel_tree::{Ty, UpdateOp};
+use lane_emit::{is_signed, size};
+use sve_code::{BinaryPredicatedOp, GoverningReg, ReductionOp, Reg, Sve, VectorReg};
+use word_rows::Bits;
+
+// The operation that takes a value into an accumulator.
+fn update_op(op: UpdateOp, ty: Ty) -> BinaryPredicatedOp
+    ensures { sve.merging_name result ≡ update_name op ty }
+{
+    match op {
+        UpdateOp::Add => BinaryPredicatedOp::Add,
+        UpdateOp::And => BinaryPredicatedOp::And,
+        UpdateOp::Or => BinaryPredicatedOp::Orr,
+        UpdateOp::Xor => BinaryPredicatedOp::Eor,
+        UpdateOp::Min if is_signed(ty) => BinaryPredicatedOp::Smin,
+        UpdateOp::Min => BinaryPredicatedOp::Umin,
+        UpdateOp::Max if is_signed(ty) => BinaryPredicatedOp::Smax,
+        UpdateOp::Max => BinaryPredicatedOp::Umax,
+    }
+}
+
+// The operation that joins all lanes of an accumulator.
+fn reduce_op(op: UpdateOp, ty: Ty) -> ReductionOp
+    ensures { sve.reduce_name result ≡ reduce_name op ty }
+{
+    match op {
+        UpdateOp::Add => ReductionOp::Uaddv,
+        UpdateOp::And => ReductionOp::Andv,
+        UpdateOp::Or => ReductionOp::Orv,
+        UpdateOp::Xor => ReductionOp::Eorv,
+        UpdateOp::Min if is_signed(ty) => ReductionOp::Sminv,
+        UpdateOp::Min => ReductionOp::Uminv,
+        UpdateOp::Max if is_signed(ty) => ReductionOp::Smaxv,
+        UpdateOp::Max => ReductionOp::Umaxv,
+    }
+}
+
+/// The start of an accumulator from a general register that holds the identity: "DUP (scalar)".
+pub fn start_word(width: Width, acc: VectorReg, identity: Reg) -> Sve
+    ensures { dup_code width acc.number identity.number ≡ seen result ∷ [] }
+{
+    Sve::DupScalar {
+        zd: acc,
+        rn: identity,
+        size: size(width),
+    }
+}
+
+/// An update of an accumulator by a value under a mask: the merging form of ADD, AND, ORR, EOR, SMIN, UMIN, SMAX or UMAX.
+pub fn update_word(
+    width: Width,
+    op: UpdateOp,
+    ty: Ty,
+    acc: VectorReg,
+    mask: GoverningReg,
+    value: VectorReg,
+) -> Sve
+    ensures { update_code width op ty acc.number mask.number value.number ≡ seen result ∷ [] }
+{
+    Sve::BinaryPredicated {
+        op: update_op(op, ty),
+        zdn: acc,
+        zm: value,
+        pg: mask,
+        size: size(width),
+    }
+}
+
+/// The reduction of all lanes of an accumulator to the lowest element of a vector register, under P1, which is all true.
+pub fn reduce_word(width: Width, op: UpdateOp, ty: Ty, d: VectorReg, acc: VectorReg) -> Sve
+    ensures { reduce_code width op ty d.number acc.number ≡ seen result ∷ [] }
+{
+    Sve::Reduction {
+        op: reduce_op(op, ty),
+        zd: d,
+        zn: acc,
+        pg: Bits { number: 1 },
+        size: size(width),
+    }
+}
