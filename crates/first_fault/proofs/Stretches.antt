@@ -1,0 +1,102 @@
+-- Stretches that lead on, with the free elements that they suppress.
+use Rattle.std.proofs.Common.{◌≡◌, ℕ, suc, ◌+◌, ◌≤◌, Bool, false, cond, List, [], ◌∷◌, length, refl, ap, ◌∙◌, subst, arith}
+use Rattle.guest_types.specs.Memory.{Memory}
+use Rattle.machine_model.specs.declared.outcome.StopKind.{StopKind}
+use Rattle.machine_model.specs.InstructionTable.{Listed, Vector}
+use Rattle.machine_model.specs.Machine.{State, Step, Went, Ended, Stopped}
+use Rattle.machine_model.specs.OneStep.{cuts_in}
+use Rattle.machine_model.specs.Run.{go_on}
+use Rattle.machine_model.specs.VectorEffects.{do_vector}
+use Rattle.label_fix.specs.DraftRun.{Entry, Put, Laid, effect, draft_run}
+use Rattle.label_fix.specs.Stretches.{Goes, Stops}
+use Rattle.label_fix.proofs.Steps.{stop_after}
+use Rattle.lane_emit.specs.Stretch.{Word, and_then, do_all}
+use Rattle.vector_emit.specs.ChunkCode.{vectors, puts}
+use Rattle.first_fault.specs.Leads.{count_on, cuts, Leads}
+
+pub goes_of : {d : Laid} {c e : List Entry} {s t : State} {most : ℕ} → Leads d c s e t most → Goes d c s e t most
+goes_of a = record { count = a.count; within = a.within; by = a.by }
+
+pub rest_at : {d : Laid} {c : List Entry} {s : State} (most : ℕ) → Leads d c s c s most
+rest_at {d = d} {c = c} {s = s} most = record {
+  count = 0;
+  within = omega arith;
+  by = λ k taken. let e : 0 + k ≡ k = omega arith in let f : taken ≡ taken + 0 = omega arith in ap (λ j. draft_run d j taken c s) e ∙ ap (λ n. draft_run d k n c s) f;
+  cut = 0;
+  tells = λ k. let e : 0 + k ≡ k = omega arith in let f : cuts d k c s ≡ 0 + cuts d k c s = omega arith in ap (λ j. cuts d j c s) e ∙ f;
+}
+
+-- one word
+pub word_leads : {d : Laid} {i : Listed} {rest : List Entry} {s t : State} (b : Bool) → effect i s ≡ Went t → cuts_in i s ≡ b → Leads d (Put i ∷ rest) s rest t 1
+word_leads {d = d} {i = i} {rest = rest} {s = s} {t = t} b h is = record {
+  count = 1;
+  within = omega arith;
+  by = λ k taken. let e : 1 + k ≡ suc k = omega arith in ap (λ j. draft_run d j taken (Put i ∷ rest) s) e ∙ ap (λ o. go_on o s (taken + 1) (draft_run d k (taken + 1) rest)) h;
+  cut = cond b 1 0;
+  tells = λ k.
+      let e : 1 + k ≡ suc k = omega arith in
+      ap (λ j. cuts d j (Put i ∷ rest) s) e ∙ ap (λ o. count_on o (cuts_in i s) (cuts d k rest)) h ∙ ap (λ c. cond c 1 0 + cuts d k rest t) is;
+}
+
+pub follow : {d : Laid} {c e g : List Entry} {s t u : State} {m n : ℕ} (most : ℕ) → m + n ≤ most → Leads d c s e t m → Leads d e t g u n → Leads d c s g u most
+follow {d = d} {c = c} {g = g} {s = s} {u = u} most le a b = record {
+  count = a.count + b.count;
+  within = omega (arith, a.within, b.within, le);
+  by = λ k taken.
+      let e : a.count + b.count + k ≡ a.count + (b.count + k) = omega arith in
+      let f : taken + a.count + b.count ≡ taken + (a.count + b.count) = omega arith in
+      ap (λ j. draft_run d j taken c s) e ∙ a.by (b.count + k) taken ∙ b.by k (taken + a.count) ∙ ap (λ n. draft_run d k n g u) f;
+  cut = a.cut + b.cut;
+  tells = λ k.
+      let e : a.count + b.count + k ≡ a.count + (b.count + k) = omega arith in
+      let f = ap (λ j. cuts d j c s) e ∙ a.tells (b.count + k) in
+      let g = b.tells k in
+      omega (arith, f, g);
+}
+
+pub stop_behind : {d : Laid} {c e : List Entry} {s t : State} {m n : ℕ} {kind : StopKind} {memory : Memory} (most : ℕ) → m + n ≤ most → Leads d c s e t m → Stops d e t kind memory n → Stops d c s kind memory most
+stop_behind most le a b = stop_after most le (goes_of a) b
+
+-- ---- code without a load that may stop early
+
+-- no word ever suppresses a free element
+pub data Plain : List Word → Type 0 where
+  plain_none : Plain []
+  plain_more : {v : Word} {vs : List Word} → ((s : State) → cuts_in (Vector v) s ≡ false) → Plain vs → Plain (v ∷ vs)
+
+went_same : {d : Laid} {c e : List Entry} {s t u : State} {most : ℕ} → Went t ≡ Went u → Leads d c s e t most → Leads d c s e u most
+went_same {d = d} {c = c} {e = e} {s = s} {t = t} {u = u} {most = most} h g = let same : t ≡ u = cc in subst (λ x. Leads d c s e x most) same g
+
+pub words_lead : {d : Laid} {rest : List Entry} (c : List Word) (s t : State) → Plain c → do_all c s ≡ Went t → Leads d (puts (vectors c) rest) s rest t (length (vectors c))
+words_lead [] s t plain h = went_same h (rest_at 0)
+words_lead {d = d} {rest = rest} (v ∷ vs) s t (plain_more one plain) h = by (do_vector v s) refl h (λ u k. words_lead vs u t plain k)
+  where
+    by : (o : Step) → do_vector v s ≡ o → and_then o (do_all vs) ≡ Went t → ((u : State) → do_all vs u ≡ Went t → Leads d (puts (vectors vs) rest) u rest t (length (vectors vs))) → Leads d (puts (vectors (v ∷ vs)) rest) s rest t (length (vectors (v ∷ vs)))
+    by (Went u) e k more = follow (suc (length (vectors vs))) (omega arith) (word_leads false e (one s)) (more u k)
+    by (Ended result) e k more = absurd cc
+    by (Stopped kind pc at memory) e k more = absurd cc
+
+-- ---- how many free elements
+
+pub word-cut : (d : Laid) (i : Listed) (rest : List Entry) (s t : State) (b : Bool) (h : effect i s ≡ Went t) (is : cuts_in i s ≡ b) → (word_leads {d = d} {i = i} {rest = rest} {s = s} {t = t} b h is).cut ≡ cond b 1 0
+unfolding word_leads
+word-cut d i rest s t b h is = refl
+
+pub follow-cut : {d : Laid} {c e g : List Entry} {s t u : State} {m n : ℕ} (most : ℕ) (le : m + n ≤ most) (a : Leads d c s e t m) (b : Leads d e t g u n) → (follow most le a b).cut ≡ a.cut + b.cut
+unfolding follow
+follow-cut most le a b = refl
+
+-- a word that may suppress a free element, and one that does not
+pub record Pair (d : Laid) (c : List Entry) (s : State) (e : List Entry) (t : State) (b : Bool) : Type 0 where
+  pub leads : Leads d c s e t 2
+  pub is : leads.cut ≡ cond b 1 0
+
+pub pair : (d : Laid) (i j : Listed) (rest : List Entry) (s t v : State) (b : Bool) → effect i s ≡ Went t → cuts_in i s ≡ b → effect j t ≡ Went v → cuts_in j t ≡ false → Pair d (Put i ∷ Put j ∷ rest) s rest v b
+pair d i j rest s t v b h is k none =
+    let le : 1 + 1 ≤ 2 = omega arith in
+    let first : Leads d (Put i ∷ Put j ∷ rest) s (Put j ∷ rest) t 1 = word_leads b h is in
+    let second : Leads d (Put j ∷ rest) t rest v 1 = word_leads false k none in
+    record {
+      leads = follow 2 le first second;
+      is = follow-cut 2 le first second ∙ ap (λ n. n + second.cut) (word-cut d i (Put j ∷ rest) s t b h is) ∙ ap (λ n. cond b 1 0 + n) (word-cut d j rest t v false k none) ∙ omega arith;
+    }

@@ -1,0 +1,5 @@
+use Rattle.first_fault.proofs.Splits as laws
+use Rattle.first_fault.proofs.region_splits.Goals as goal
+
+pub returns : goal.returns
+returns c = laws.region_splits

@@ -1,0 +1,9 @@
+pub mod Region
+pub mod RegionCode
+pub mod Fits
+pub mod Leads
+pub mod Prefix
+pub mod RegionRuns
+pub mod Rest
+pub mod Split
+pub mod Turns

@@ -1,0 +1,46 @@
+-- The items of a loop up to its last break, and the rest of them.
+use Rattle.std.specs.Prelude.{◌≡◌, Bool, true, false, List, [], ◌∷◌, ◌++◌, Some, if◌then◌else◌}
+use Rattle.std.specs.List.{list_any}
+use Rattle.kernel_tree.specs.Plain.{Turns, Program}
+use Rattle.kernel_meaning.specs.Eval.{Names}
+use Rattle.dependence.specs.Classes.{class_of}
+use Rattle.dependence.specs.declared.reason.Class.TheVariants.{Vector}
+use Rattle.chunk_order.specs.Regions.{AllQuiet}
+use Rattle.loop_form.specs.LoopItems.{Op, Store, Add, Quit, Item, loop_items}
+use Rattle.vector_order.specs.Items.{acts_of}
+
+abbrev pub quits : Op → Bool
+quits (Quit c) = true
+quits _ = false
+
+abbrev pub is_quit : Item → Bool
+is_quit it = quits it.op
+
+abbrev pub writes : Op → Bool
+writes (Store a base t c v) = true
+writes (Add x op t v) = true
+writes _ = false
+
+-- a store or an update
+abbrev pub is_write : Item → Bool
+is_write it = writes it.op
+
+-- the break region: the items up to the last break
+abbrev pub region_of : List Item → List Item
+region_of [] = []
+region_of (it ∷ items) = if list_any is_quit (it ∷ items) then it ∷ region_of items else []
+
+abbrev pub rest_of : List Item → List Item
+rest_of [] = []
+rest_of (it ∷ items) = if list_any is_quit (it ∷ items) then rest_of items else it ∷ items
+
+-- Items are those of the region and of the rest; the rest has no break, and the region no store and no update, so that
+-- nothing in it writes.
+pub record Split (items : List Item) : Type 0 where
+  pub whole : region_of items ++ rest_of items ≡ items
+  pub unbroken : list_any is_quit (rest_of items) ≡ false
+  pub unwritten : list_any is_write (region_of items) ≡ false
+  pub quiet : (names : Names) → AllQuiet (acts_of names (region_of items))
+
+abbrev pub RegionSplits : Type 0
+RegionSplits = (k : Program) (l : Turns) → k.turns ≡ Some l → class_of k ≡ Vector → Split (loop_items k l)

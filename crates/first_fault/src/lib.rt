@@ -1,0 +1,48 @@
+//! The break region of a loop as vector code: its items up to the last `break`, over a chunk by loads that may stop early,
+//! and over one lane by plain loads.
+#![tactic(auto)]
+
+ghost use Rattle.first_fault.specs.RegionRuns.{ExitsRun, SingleRuns};
+ghost use Rattle.first_fault.specs.Rest.{AlwaysFew, RestHolds, WayIsRun};
+ghost use Rattle.first_fault.specs.Split.{RegionSplits};
+ghost use Rattle.first_fault.specs.Turns.{WayIsTurn};
+
+/// The code of the region over a chunk, with every stop list: a prefix of the lanes comes through, with their values in the
+/// registers and P0 exactly these lanes; the first lane left out breaks, faults, or a free element was suppressed. It stops
+/// with Read only where the first lane comes to a read and faults there. Memory, P1, the general registers but X26 and the
+/// vector registers of values from before the loop are as they were. It takes at most as many steps as it has words.
+pub fn exits_run()
+    ensures { ExitsRun }
+{}
+
+/// The code of the region over one lane: the lane comes through, or it breaks and P0 is empty. It stops with Read exactly
+/// where the lane faults. No stop list has a say.
+pub fn single_runs()
+    ensures { SingleRuns }
+{}
+
+/// How an iteration fares in the region is what its items do in its lane.
+pub fn way_is_run()
+    ensures { WayIsRun }
+{}
+
+/// Behind the region the state holds the lanes that came through, as the code of the rest of the body wants it.
+pub fn rest_holds()
+    ensures { RestHolds }
+{}
+
+/// The region has at most one word and five an item over a chunk, and four an item over one lane.
+pub fn always_few()
+    ensures { AlwaysFew }
+{}
+
+/// The items of a loop of class Vector are those of the region and of the rest; the region stores and updates nothing, and
+/// the rest has no break.
+pub fn region_splits()
+    ensures { RegionSplits }
+{}
+
+/// An iteration that breaks, or faults, in the region is a turn of the scalar loop that does, with the memory as it was.
+pub fn way_is_turn()
+    ensures { WayIsTurn }
+{}

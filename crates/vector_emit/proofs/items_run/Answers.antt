@@ -1,0 +1,5 @@
+use Rattle.vector_emit.proofs.ItemRuns as runs
+use Rattle.vector_emit.proofs.items_run.Goals as goal
+
+pub returns : goal.returns
+returns c = runs.items_run
