@@ -1,0 +1,5 @@
+pub mod Promises
+pub mod Loaded
+pub mod Join
+mod NoStops
+pub mod ScalarFiles

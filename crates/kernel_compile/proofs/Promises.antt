@@ -1,0 +1,40 @@
+-- How the promises on files stand to one another.
+use Rattle.std.proofs.Common.{◌≡◌, ℕ, ◌≤◌, List, Option, Some, None, Ok, Err, refl, ap, ◌∙◌, subst, arith}
+use Rattle.guest_types.specs.EarlyLoads.{StopList, never}
+use Rattle.guest_types.specs.Memory.{Memory, merged}
+use Rattle.machine_model.specs.Load.{Image, load}
+use Rattle.machine_model.specs.Run.{Outcome, run, start, free_start, free_run, machine_run, suppressed}
+use Rattle.kernel_tree.specs.Plain.{Program}
+use Rattle.kernel_meaning.specs.ScalarRun.{begun, scalar_run}
+use Rattle.dependence.specs.Bound.{bound, slow_bound, free_bound}
+use Rattle.dependence.proofs.Bounds as bounds
+use Rattle.kernel_compile.proofs.NoStops.{none_suppressed}
+use Rattle.kernel_compile.specs.Faithful.{IsFaithful, IsEmpty, IsAny, slow_steps, Faithful, SlowFaithful, FreeFaithful, FreeSlowFaithful}
+
+pub without_stops : (file args : List ℕ) (pages : Memory) (vl steps : ℕ) → free_run file args pages vl never steps ≡ machine_run file args pages vl steps
+unfolding start free_start
+without_stops file args pages vl steps = refl
+
+pub free_slow : (k : Program) (file : List ℕ) → FreeSlowFaithful k file → SlowFaithful k file
+free_slow k file f = record { image = f.image; loaded = f.loaded; runs = λ args pages vl stops steps begins empty le. f.runs args pages vl stops steps begins tt le }
+
+pub free : (k : Program) (file : List ℕ) → FreeFaithful k file → Faithful k file
+unfolding free_start
+free k file f = record {
+  image = f.image;
+  loaded = f.loaded;
+  runs = λ args pages vl stops steps begins empty le.
+      let none = none_suppressed steps (free_start f.image args pages vl stops) empty in
+      let m = begun (scalar_run k args (merged f.image.pages pages)) in
+      let b = ap (free_bound k args vl m) none ∙ bounds.none k args vl m in
+      f.runs args pages vl stops steps begins tt (omega (arith, b, le));
+}
+
+pub slow : (k : Program) (file : List ℕ) → Faithful k file → SlowFaithful k file
+slow k file f = record {
+  image = f.image;
+  loaded = f.loaded;
+  runs = λ args pages vl stops steps begins empty le.
+      let b = bounds.slow k args vl (begun (scalar_run k args (merged f.image.pages pages))) begins.length in
+      f.runs args pages vl stops steps begins empty (omega (arith, b, le));
+}

@@ -1,0 +1,105 @@
+-- What a compiled file owes its kernel.
+use Rattle.std.specs.Prelude.{◌≡◌, ℕ, ◌+◌, ◌<◌, ◌≤◌, ◌^◌, ℤ, pos, ◌+ℤ◌, ◌*ℤ◌, List, length, slice_get, slice_index, Option, Some, Ok, All, Contains, true}
+use Rattle.guest_types.specs.EarlyLoads.{StopList, never}
+use Rattle.guest_types.specs.Length.{IsLength}
+use Rattle.guest_types.specs.Memory.{Memory, IsMemory, DoNotMeet, byte_at, merged}
+use Rattle.machine_model.specs.declared.outcome.StopKind.{StopKind}
+use Rattle.machine_model.specs.Load.{Image, load}
+use Rattle.machine_model.specs.Run.{Outcome, End, Stop, free_start, free_run, suppressed}
+use Rattle.kernel_tree.specs.declared.ops.Ty.{Ty}
+use Rattle.kernel_tree.specs.declared.ast.Shape.TheVariants.{Array}
+use Rattle.kernel_tree.specs.Plain.{Parameter, Program}
+use Rattle.kernel_meaning.specs.Operators.{word}
+use Rattle.kernel_meaning.specs.Eval.{byte_count}
+use Rattle.kernel_meaning.specs.ScalarRun as scalar
+use Rattle.kernel_meaning.specs.ScalarRun.{begun, scalar_run}
+use Rattle.loop_form.specs.declared.stream.Stream.{Stream}
+use Rattle.loop_form.specs.Streams.{streams_of}
+use Rattle.scalar_emit.specs.Runs.{IsAccess}
+use Rattle.dependence.specs.Apart.{bound_place}
+use Rattle.dependence.specs.Bound.{at_once, bound, slow_bound, free_bound}
+
+-- what a run may be started with: at most eight words, pages that do not meet the image's, and a vector length
+pub record IsStart (image : Image) (args : List ℕ) (pages : Memory) (vl : ℕ) : Type 0 where
+  pub few : length args ≤ 8
+  pub words : All (λ arg. arg < 2 ^ 64) args
+  pub memory : IsMemory pages
+  pub apart : DoNotMeet image.pages pages
+  pub length : IsLength vl
+
+-- ---- what a fault leaves
+
+-- the address of byte j of the element that iteration i comes to at an offset: B + s * (i + c) + j modulo 2^64
+abbrev pub byte_address : Ty → (base : ℕ) → (offset : ℤ) → (i j : ℕ) → ℕ
+byte_address type base offset i j = word (pos base +ℤ pos (byte_count type) *ℤ (pos i +ℤ offset) +ℤ pos j)
+
+-- The address is of a byte that an iteration near a fault stores: m iterations were begun, and L are run at once.
+pub record IsNearFault (k : Program) (args : List ℕ) (L m address : ℕ) : Type 0 where
+  pub stream : Stream
+  pub listed : Contains (streams_of k) stream
+  pub stored : stream.store ≡ true
+  pub param : Parameter
+  pub declared : slice_get k.params stream.param ≡ Some param
+  pub type : Ty
+  pub typed : param.shape ≡ Array type
+  pub i : ℕ
+  pub from : m ≤ i + L
+  pub until : i + 1 < m + L
+  pub within : i < slice_index args (bound_place k)
+  pub j : ℕ
+  pub byte : j < byte_count type
+  pub here : address ≡ byte_address type (slice_index args stream.param) stream.offset i j
+
+-- A stop of kind Read or Write. Each byte is as the scalar loop left it at its fault, but for those near the fault.
+pub record Stops (k : Program) (args : List ℕ) (vl : ℕ) (memory : Memory) (m : ℕ) (outcome : Outcome) : Type 0 where
+  pub kind : StopKind
+  pub access : IsAccess kind
+  pub pc : ℕ
+  pub at : ℕ
+  pub left : Memory
+  pub steps : ℕ
+  pub is : outcome ≡ Stop kind pc at left steps
+  pub kept : (address : ℕ) → (IsNearFault k args (at_once k args vl) m address → ⊥) → byte_at left address ≡ byte_at memory address
+
+-- The machine ends with the memory and the result of the scalar loop where that ends, and stops where it faults. A run has
+-- one outcome, so it is the one exactly where the scalar loop is, and the other exactly where that is.
+abbrev pub Follows : Program → List ℕ → ℕ → scalar.Run → Outcome → Type 0
+Follows k args vl (scalar.End memory result m) outcome = (steps : ℕ) × (outcome ≡ End memory result steps)
+Follows k args vl (scalar.Fault memory m) outcome = Stops k args vl memory m outcome
+
+-- ---- files
+
+-- a file whose runs follow the scalar loop, from any start, with any of some stop lists, and with at least so many steps
+pub record IsFaithful (enough : Program → (args : List ℕ) (vl m q : ℕ) → ℕ) (IsAllowed : StopList → Type 0) (k : Program) (file : List ℕ) : Type 0 where
+  pub image : Image
+  pub loaded : load file ≡ Ok image
+  pub runs : (args : List ℕ) (pages : Memory) (vl : ℕ) (stops : StopList) (steps : ℕ) → IsStart image args pages vl → IsAllowed stops
+      → enough k args vl (begun (scalar_run k args (merged image.pages pages))) (suppressed steps (free_start image args pages vl stops)) ≤ steps
+      → (outcome : Outcome) × (free_run file args pages vl stops steps ≡ Some outcome) × Follows k args vl (scalar_run k args (merged image.pages pages)) outcome
+
+abbrev pub IsEmpty : StopList → Type 0
+IsEmpty stops = stops ≡ never
+
+abbrev pub IsAny : StopList → Type 0
+IsAny stops = Unit {0}
+
+abbrev pub bound_steps : Program → (args : List ℕ) (vl m q : ℕ) → ℕ
+bound_steps k args vl m q = bound k args vl m
+
+abbrev pub slow_steps : Program → (args : List ℕ) (vl m q : ℕ) → ℕ
+slow_steps k args vl m q = slow_bound k m
+
+-- the machine without a stop list, within the bound that counts chunks
+abbrev pub Faithful : Program → List ℕ → Type 0
+Faithful k file = IsFaithful bound_steps IsEmpty k file
+
+-- the same within the bound that counts iterations
+abbrev pub SlowFaithful : Program → List ℕ → Type 0
+SlowFaithful k file = IsFaithful slow_steps IsEmpty k file
+
+-- with every stop list
+abbrev pub FreeFaithful : Program → List ℕ → Type 0
+FreeFaithful k file = IsFaithful free_bound IsAny k file
+
+abbrev pub FreeSlowFaithful : Program → List ℕ → Type 0
+FreeSlowFaithful k file = IsFaithful slow_steps IsAny k file

@@ -1,0 +1,14 @@
+//! The whole code of a kernel: registers, the code before the loop, the loop, and the words that they come to.
+#![tactic(auto)]
+
+mod compile;
+mod fault;
+mod laws;
+mod registers;
+
+pub use compile::{Code, compile_kernel};
+pub use fault::CompileFault;
+pub use laws::{faithful_files, runs_without_stops, scalar_files};
+
+#[cfg(test)]
+mod tests;

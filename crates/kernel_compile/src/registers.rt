@@ -1,0 +1,93 @@
+//! Whether a kernel's values find registers, and which ones.
+
+ghost use Rattle.std.specs.Prelude.{◌≡◌, None, IfErr, IfOk, OnOk};
+ghost use Rattle.loop_form.specs.Needs.{needs_of};
+ghost use Rattle.loop_form.specs.Registers.{counted_registers, FitsKernel};
+ghost use Rattle.reg_assign.specs.declared.interval.RegClass.TheVariants.{X};
+ghost use Rattle.loop_form.specs.Seen.{program};
+ghost use Rattle.kernel_compile.specs.Refusals as refusals;
+ghost use Rattle.kernel_compile.specs.Refusals.{exceeded, too_many, IsRefusal, IsRefusalIn};
+
+use crate::fault::CompileFault;
+use dependence::class;
+use dependence::reason::Class;
+use kernel_tree::Checked;
+use loop_form::laws::ordered_intervals;
+use loop_form::need::Needs;
+use loop_form::{intervals, needs};
+use reg_assign::{Assigned, RegClass, assign};
+use std::alloc::{AllocError, Global};
+
+// How many registers of a class hold values: Z0 to Z29, P2 to P7, X10 to X17 and X19 to X25.
+fn counted(class: RegClass) -> u32
+    ensures { result ≡ counted_registers class }
+{
+    match class {
+        RegClass::Z => 30,
+        RegClass::P => 6,
+        RegClass::X => 15,
+    }
+}
+
+fn need_in(needs: Needs, class: RegClass) -> u32
+    ensures { result ≡ refusals.need_in needs class }
+{
+    match class {
+        RegClass::Z => needs.z,
+        RegClass::P => needs.p,
+        RegClass::X => needs.x,
+    }
+}
+
+// The classes that are tried.
+fn tried(class: Class) -> &'static [RegClass]
+    ensures { result.now ≡ refusals.tried class }
+{
+    match class {
+        Class::Vector => &[RegClass::Z, RegClass::P, RegClass::X],
+        Class::Scalar { .. } => &[RegClass::X],
+    }
+}
+
+// Refuses the first of some classes of which more values are live than it has registers for.
+fn check_classes(needs: Needs, classes: &[RegClass]) -> Result<(), CompileFault>
+    ensures enough { OnOk result (exceeded needs classes.now ≡ None) }
+    ensures refusal { IfErr result (IsRefusalIn needs classes.now) }
+{
+    for class in classes {
+        let need = need_in(needs, *class);
+        if need > counted(*class) {
+            return Err(CompileFault::TooManyLive {
+                class: *class,
+                need,
+            });
+        }
+    }
+    Ok(())
+}
+
+/// Refuses a kernel of which more values of a class are live than there are registers for them.
+#[tactic(auto, unfolding(loop_form::specs::Seen::program))]
+pub fn check_needs(alloc: Global, kernel: &Checked) -> Result<(), CompileFault>
+    ensures enough { OnOk result (too_many (program kernel.now) ≡ None) }
+    ensures refusal { IfErr result (IsRefusal (program kernel.now)) }
+{
+    let needs = needs(alloc, kernel)?;
+    check_classes(needs, tried(class(kernel)))?;
+    Ok(())
+}
+
+/// The registers of the intervals of class X.
+#[tactic(auto, unfolding(loop_form::specs::Seen::program))]
+pub fn scalar_registers(alloc: Global, kernel: &Checked) -> Result<Assigned, AllocError>
+    requires { too_many (program kernel.now) ≡ None }
+    ensures { IfOk result (FitsKernel (program kernel.now) X) }
+{
+    ordered_intervals(kernel, RegClass::X);
+    let intervals = intervals(alloc, kernel, RegClass::X)?;
+    // No more registers are needed than there are: want of memory is all that is left.
+    match assign(alloc, &intervals, RegClass::X, counted(RegClass::X)) {
+        Ok(assigned) => Ok(assigned),
+        Err(_) => Err(AllocError),
+    }
+}
