@@ -1,0 +1,92 @@
+-- What some steps leave, one after another.
+use Rattle.std.proofs.Common.{◌≡◌, ℕ, zero, suc, ◌+◌, ◌-◌, ◌<◌, ◌≤◌, Bool, true, [], ◌∷◌, Option, Some, None, refl, sym, ap, ◌∙◌, subst, arith}
+use Rattle.machine_model.specs.declared.outcome.Step.{Step as StepAnswer}
+use Rattle.machine_model.specs.declared.outcome.Step.TheVariants as answers
+use Rattle.machine_model.specs.declared.outcome.Stop.{Stop as StopAnswer}
+use Rattle.machine_model.specs.Machine.{State, Step, Went, Ended, Stopped, x_at}
+use Rattle.machine_model.specs.OneStep.{step}
+use Rattle.machine_model.specs.Run.{End, Stop, Spent, run, after_steps}
+use Rattle.machine_model.specs.Answers.{IsAnswer}
+use Rattle.machine_model.specs.Debugged.{View, CameTo, ending_by}
+use Rattle.machine_model.proofs.Runs.{leads_after, comes_to}
+use Rattle.machine_model.specs.Debugged.{RunLeaves, is_never}
+use Rattle.machine_model.specs.Answers.{outcome_of}
+use Rattle.machine_model.proofs.Quiet.{steps_quiet}
+use Rattle.guest_types.specs.EarlyLoads.{StopList, Listed, Each, never}
+use Rattle.sve_machine.specs.Views.{Leaves, Last, outcome_at}
+
+-- a step that goes on, of one step at most
+one_went : (s t : State) → after_steps 1 s ≡ Some t → step s ≡ Went t
+one_went s t h = go (step s) h
+  where
+    go : (o : Step) → elim o as (λ o. Option State) [ Went u ↦ Some u | Ended result ↦ None | Stopped kind pc at memory ↦ None ] ≡ Some t → o ≡ Went t
+    go (Went u) h = let same : u ≡ t = cc in ap Went same
+    go (Ended r) h = absurd cc
+    go (Stopped k p a m) h = absurd cc
+
+first_is : (went : ℕ) (s last : State) → went < 1 → after_steps went s ≡ Some last → last ≡ s
+first_is zero s last h e = cc
+first_is (suc n) s last h e = absurd (omega arith)
+
+pub one_step : (answer : StepAnswer) (done : ℕ) (s t : State) → Leaves answer 1 done s t → (done ≡ 1) × IsAnswer (step s) answer s t
+one_step answers.Went done s t h = (h.0, one_went s t h.1)
+one_step answers.Ended done s t h =
+    let same = first_is h.went s h.last h.within h.state in
+    (omega (arith, h.within, h.counted), subst (λ u. IsAnswer (step u) answers.Ended u t) same h.answered)
+one_step (answers.Stopped stop) done s t h =
+    let same = first_is h.went s h.last h.within h.state in
+    (omega (arith, h.within, h.counted), subst (λ u. IsAnswer (step u) (answers.Stopped stop) u t) same h.answered)
+
+-- ---- the outcome of a run
+
+pub spent : (steps taken after : ℕ) (s t : State) → after_steps steps s ≡ Some t → after ≡ taken + steps → run steps taken s ≡ Spent t.pc t.memory after
+spent steps taken after s t h e = (leads_after steps s t h).by steps 0 taken (omega arith) ∙ ap (Spent t.pc t.memory) (sym e)
+
+pub ended : (steps taken after done : ℕ) (s t : State) → Last answers.Ended steps done s t → after ≡ taken + done → run steps taken s ≡ End t.memory (x_at t 0) after
+ended steps taken after done s t h e =
+    let counted : taken + h.went + 1 ≡ after = omega (arith, h.counted, e) in
+    comes_to h.went steps taken s h.last (Ended (x_at h.last 0)) h.state h.within h.answered.0
+    ∙ ap (λ (u : State). End u.memory (x_at u 0) (taken + h.went + 1)) (sym h.answered.1)
+    ∙ ap (End t.memory (x_at t 0)) counted
+
+pub stopped : (stop : StopAnswer) (steps taken after done : ℕ) (s t : State) → Last (answers.Stopped stop) steps done s t → after ≡ taken + done → run steps taken s ≡ Stop stop.kind stop.pc stop.at t.memory after
+stopped stop steps taken after done s t h e =
+    let counted : taken + h.went + 1 ≡ after = omega (arith, h.counted, e) in
+    comes_to h.went steps taken s h.last (Stopped stop.kind stop.pc stop.at t.memory) h.state h.within h.answered.0
+    ∙ ap (Stop stop.kind stop.pc stop.at t.memory) counted
+
+pub came : (answer : StepAnswer) (steps done : ℕ) (before after : View) → Last answer steps done before.state after.state → after.steps ≡ before.steps + done → after.over ≡ ending_by answer → CameTo answer steps before after
+came answer steps done before after h e over = record {
+  went = h.went;
+  within = h.within;
+  last = h.last;
+  state = h.state;
+  answered = h.answered;
+  steps_done = omega (arith, e, h.counted);
+  over = over;
+}
+
+pub run_outcome : (answer : StepAnswer) (x0 steps taken after done : ℕ) (s t : State) → Leaves answer steps done s t → x0 ≡ x_at t 0 → after ≡ taken + done → run steps taken s ≡ outcome_of (outcome_at answer x0) t.memory t.pc after
+run_outcome answers.Went x0 steps taken after done s t h x e = spent steps taken after s t h.1 (omega (arith, h.0, e))
+run_outcome answers.Ended x0 steps taken after done s t h x e = ended steps taken after done s t h e ∙ ap (λ n. End t.memory n after) (sym x)
+run_outcome (answers.Stopped stop) x0 steps taken after done s t h x e = stopped stop steps taken after done s t h e
+
+pub run_leaves : (answer : StepAnswer) (x0 steps done : ℕ) (before after : View) → Leaves answer steps done before.state after.state → x0 ≡ x_at after.state 0 → after.steps ≡ before.steps + done → after.over ≡ ending_by answer → RunLeaves (outcome_at answer x0) steps before after
+run_leaves answers.Went x0 steps done before after h x e over = record { state = h.1; steps_done = omega (arith, h.0, e); over = over }
+run_leaves answers.Ended x0 steps done before after h x e over = (x, came answers.Ended steps done before after h e over)
+run_leaves (answers.Stopped stop) x0 steps done before after h x e over = came (answers.Stopped stop) steps done before after h e over
+
+-- ---- without a stop list
+
+none : (l : StopList) → is_never l ≡ true → l ≡ never
+none (Listed []) h = refl
+none (Listed (x ∷ xs)) h = cc
+none (Each period seen) h = cc
+
+left_quiet : (answer : StepAnswer) (steps done : ℕ) (s t : State) → Leaves answer steps done s t → s.stops ≡ never → t.stops ≡ never
+left_quiet answers.Went steps done s t h q = steps_quiet steps s t q h.1
+left_quiet answers.Ended steps done s t h q = ap (λ (u : State). u.stops) h.answered.1 ∙ steps_quiet h.went s h.last q h.state
+left_quiet (answers.Stopped stop) steps done s t h q = ap (λ (u : State). u.stops) h.answered.1 ∙ steps_quiet h.went s h.last q h.state
+
+pub quiet_left : (answer : StepAnswer) (steps done : ℕ) (s t : State) → Leaves answer steps done s t → is_never s.stops ≡ true → is_never t.stops ≡ true
+quiet_left answer steps done s t h q = ap is_never (left_quiet answer steps done s t h (none s.stops q))

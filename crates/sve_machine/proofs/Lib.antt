@@ -1,0 +1,9 @@
+pub mod Starts
+pub mod Shapes
+pub mod Words
+pub mod Going
+pub mod Arms
+pub mod LaneRows
+pub mod Loads
+pub mod PredicateRows
+pub mod Forms

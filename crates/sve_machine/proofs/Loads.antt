@@ -1,0 +1,123 @@
+-- What a load leaves, of the right shape, and what the rows of loads and stores say of it.
+use Rattle.std.proofs.Common.{[], ◌∷◌, get_or, ◌≡◌, ℕ, ◌+◌, ◌*◌, ◌<◌, ◌≤◌, Bool, List, Option, Some, None, Result, Ok, Err, refl, sym, ap, ◌∙◌, subst}
+use Rattle.std.specs.Prelude.{slice_set}
+use Rattle.guest_types.specs.declared.memory.AccessFault.{AccessFault}
+use Rattle.guest_types.specs.declared.row.LoadMode.{LoadMode}
+use Rattle.guest_types.specs.declared.row.LoadMode.TheVariants.{Plain, FirstFault, NonFault}
+use Rattle.guest_types.specs.Length.{IsLength, width_bytes, lanes}
+use Rattle.guest_types.specs.Memory.{Memory}
+use Rattle.guest_types.specs.Elements.{active, first_true, both, register}
+use Rattle.guest_types.specs.LaneMemory.{store_of, LoadForm, Loaded, load_form, lane_address, plain_load, or_fault, fault_at, lane_faults, loaded_lane, kept_lane, is_clear, cleared_from}
+use Rattle.guest_types.specs.EarlyLoads.{StopList, EarlyLoad, unless_fault, early_load, later_than, suppressed_at, stop_at, first_fault_early, non_fault_early}
+use Rattle.machine_model.specs.States.{IsVector, IsPredicate}
+use Rattle.machine_model.proofs.States.{vector_made, fills, cleared_is}
+use Rattle.lane_memory.specs.Loads.{LoadLeft, left_by_plain, left_by_early, left_by_first, left_by, load_of}
+use Rattle.a64_machine.specs.Cores.{Rest, state_of}
+use Rattle.guest_types.specs.declared.register.ZReg.{ZReg}
+use Rattle.guest_types.specs.declared.predicate.PReg.{PReg}
+use Rattle.std.proofs.Math.ListN.{get_or-map}
+use Rattle.machine_model.specs.Machine.{State, Step, Went, Stopped, x_at, x_or_sp, next}
+use Rattle.machine_model.specs.declared.outcome.StopKind.TheVariants.{Read}
+use Rattle.machine_model.specs.VectorEffects.{do_vector}
+use Rattle.machine_model.specs.VectorEffects as effects
+use Rattle.a64_machine.specs.declared.core_state.Core.{Core}
+use Rattle.sve_machine.specs.Rests.{IsRest, rest_of, p_bits, p_of, z_of, put_z, put_load}
+use Rattle.sve_code.specs.Table.{ld1, ldff1, ldnf1, st1}
+use Rattle.sve_machine.specs.Rows.{after_load}
+use Rattle.sve_machine.proofs.LaneRows.{row_of}
+use Rattle.sve_machine.proofs.Shapes.{z_set, z_put}
+
+-- ---- the shape
+
+pub record IsLeft (vl : ℕ) (left : LoadLeft) : Type 0 where
+  pub z : IsVector vl left.z
+  pub ffr : IsPredicate vl left.ffr
+
+as_left : {vl : ℕ} (a : LoadLeft) {b : LoadLeft} → ◌≡◌ {A = Result LoadLeft AccessFault} (Ok a) (Ok b) → IsLeft vl a → IsLeft vl b
+as_left {vl = vl} a {b = b} e h = let same : a ≡ b = cc in subst (IsLeft vl) same h
+
+lanes_shape : (vl : ℕ) (form : LoadForm) (f : ℕ → ℕ) → IsLength vl → IsVector vl (register (width_bytes form.element) f (lanes vl form.element))
+lanes_shape vl form f h = vector_made vl (width_bytes form.element) f (lanes vl form.element) h (fills vl form.element h)
+
+plain_shape : (vl : ℕ) (form : LoadForm) (f : ℕ → ℕ) (o : Option AccessFault) (ffr : List ℕ) (stops : StopList) (left : LoadLeft) → IsLength vl → IsPredicate vl ffr → left_by_plain stops (or_fault o (record { z = register (width_bytes form.element) f (lanes vl form.element); ffr = ffr })) ≡ Ok left → IsLeft vl left
+plain_shape vl form f None ffr stops left h p e = as_left _ e (record { z = lanes_shape vl form f h; ffr = p })
+plain_shape vl form f (Some fault) ffr stops left h p e = absurd cc
+
+early_shape : (vl : ℕ) (form : LoadForm) (memory : Memory) (stops : StopList) (on free : ℕ → Bool) (f : ℕ → ℕ) (ffr : List ℕ) → IsLength vl → IsPredicate vl ffr → IsLeft vl (left_by_early (early_load form memory stops on free f (lanes vl form.element) ffr))
+early_shape vl form memory stops on free f ffr h p =
+    let n = lanes vl form.element in
+    let first = first_true (suppressed_at free (lane_faults form memory f) (stop_at stops)) n 0 in
+    let left = cleared_from form.element first ffr in
+    record {
+      z = lanes_shape vl form (kept_lane form memory on f (first_true (is_clear form.element left) n 0)) h;
+      ffr = cleared_is vl form.element first ffr p h;
+    }
+
+first_shape : (vl : ℕ) (o : Option AccessFault) (load : EarlyLoad) (left : LoadLeft) → IsLeft vl (left_by_early load) → left_by_first (unless_fault o load) ≡ Ok left → IsLeft vl left
+first_shape vl None load left h e = as_left (left_by_early load) e h
+first_shape vl (Some fault) load left h e = absurd cc
+
+mode_shape : (mode : LoadMode) (vl : ℕ) (form : LoadForm) (memory : Memory) (stops : StopList) (on : ℕ → Bool) (f : ℕ → ℕ) (ffr : List ℕ) (left : LoadLeft) → IsLength vl → IsPredicate vl ffr → left_by mode form memory stops on f (lanes vl form.element) ffr ≡ Ok left → IsLeft vl left
+mode_shape Plain vl form memory stops on f ffr left h p e =
+    plain_shape vl form (loaded_lane form memory on f) (fault_at form memory f (first_true (both on (lane_faults form memory f)) (lanes vl form.element) 0)) ffr stops left h p e
+mode_shape FirstFault vl form memory stops on f ffr left h p e =
+    let n = lanes vl form.element in
+    let free = later_than (first_true on n 0) on in
+    first_shape vl (fault_at form memory f (first_true on n 0)) (early_load form memory stops on free f n ffr) left (early_shape vl form memory stops on free f ffr h p) e
+mode_shape NonFault vl form memory stops on f ffr left h p e =
+    as_left (left_by_early (non_fault_early form memory stops on f (lanes vl form.element) ffr)) e (early_shape vl form memory stops on on f ffr h p)
+
+pub load_shape : (mode : LoadMode) (dtype base index vl : ℕ) (memory : Memory) (stops : StopList) (pg ffr : List ℕ) (left : LoadLeft) → IsLength vl → IsPredicate vl ffr → load_of mode dtype base index vl memory stops pg ffr ≡ Ok left → IsLeft vl left
+load_shape mode dtype base index vl memory stops pg ffr left h p e =
+    let form = load_form dtype in
+    mode_shape mode vl form memory stops (active form.element pg) (lane_address base index (width_bytes form.memory)) ffr left h p e
+
+-- ---- the registers after a load
+
+pub load_put : (z : List ZReg) (p : List PReg) (ffr : PReg) (vl : ℕ) (stops : StopList) (ffr2 : PReg) (stops2 : StopList) (n : ℕ) (out : ZReg) → IsRest (rest_of z p ffr vl stops) → IsLeft vl (record { z = out.bytes; ffr = ffr2.bits; stops = stops2 }) → IsRest (rest_of (slice_set z n out) p ffr2 vl stops2)
+load_put z p ffr vl stops ffr2 stops2 n out h left =
+    subst IsRest (sym (z_set z p ffr2 vl stops2 n out))
+    (z_put (rest_of z p ffr2 vl stops2) n out.bytes (record { sized = h.sized; z_count = h.z_count; z_each = h.z_each; p_count = h.p_count; p_each = h.p_each; ffr_is = left.ffr }) left.z)
+
+pub load_done : (mode : LoadMode) (dtype base index : ℕ) (memory : Memory) (z : List ZReg) (p : List PReg) (ffr : PReg) (vl : ℕ) (stops : StopList) (g n : ℕ) (ffr2 : PReg) (stops2 : StopList) (out : ZReg) → load_of mode dtype base index vl memory stops (get_or p g (record { bits = [] })).bits ffr.bits ≡ Ok (record { z = out.bytes; ffr = ffr2.bits; stops = stops2 }) → let r = rest_of z p ffr vl stops in put_load (load_of mode dtype base index r.vl memory r.stops (p_of r g) r.ffr) n r ≡ Ok (rest_of (slice_set z n out) p ffr2 vl stops2)
+load_done mode dtype base index memory z p ffr vl stops g n ffr2 stops2 out e =
+    let r = rest_of z p ffr vl stops in
+    ap (λ m. put_load (load_of mode dtype base index vl memory stops m ffr.bits) n r) (get_or-map p_bits p g (record { bits = [] }))
+    ∙ ap (λ o. put_load o n r) e
+    ∙ ap Ok (sym (z_set z p ffr2 vl stops2 n out))
+
+-- ---- what the rows say
+
+plain_is : (o : Option AccessFault) (z : List ℕ) (r : Rest) (d : ℕ) (core : Core) (memory : Memory) → effects.after_load (or_fault o (record { z = z; ffr = r.ffr })) d (state_of core memory r) ≡ after_load (put_load (left_by_plain r.stops (or_fault o (record { z = z; ffr = r.ffr }))) d r) core memory
+plain_is None z r d core memory = refl
+plain_is (Some fault) z r d core memory = refl
+
+first_is : (o : Option AccessFault) (load : EarlyLoad) (r : Rest) (d : ℕ) (core : Core) (memory : Memory) → effects.after_early (unless_fault o load) d (state_of core memory r) ≡ after_load (put_load (left_by_first (unless_fault o load)) d r) core memory
+first_is None load r d core memory = refl
+first_is (Some fault) load r d core memory = refl
+
+-- LD1, LDFF1 and LDNF1 at their operands
+pub plain_row : (zt rn pg rm dtype : ℕ) (r : Rest) (core : Core) (memory : Memory) → let s = state_of core memory r in do_vector (row_of ld1 (zt ∷ rn ∷ pg ∷ rm ∷ dtype ∷ [])) s ≡ after_load (put_load (load_of Plain dtype (x_or_sp s rn) (x_at s rm) r.vl memory r.stops (p_of r pg) r.ffr) zt r) core memory
+plain_row zt rn pg rm dtype r core memory =
+    let s = state_of core memory r in
+    let form = load_form dtype in
+    let on = active form.element (p_of r pg) in
+    let f = lane_address (x_or_sp s rn) (x_at s rm) (width_bytes form.memory) in
+    let n = lanes r.vl form.element in
+    plain_is (fault_at form memory f (first_true (both on (lane_faults form memory f)) n 0)) (register (width_bytes form.element) (loaded_lane form memory on f) n) r zt core memory
+
+pub first_row : (zt rn pg rm dtype : ℕ) (r : Rest) (core : Core) (memory : Memory) → let s = state_of core memory r in do_vector (row_of ldff1 (zt ∷ rn ∷ pg ∷ rm ∷ dtype ∷ [])) s ≡ after_load (put_load (load_of FirstFault dtype (x_or_sp s rn) (x_at s rm) r.vl memory r.stops (p_of r pg) r.ffr) zt r) core memory
+first_row zt rn pg rm dtype r core memory =
+    let s = state_of core memory r in
+    let form = load_form dtype in
+    let on = active form.element (p_of r pg) in
+    let f = lane_address (x_or_sp s rn) (x_at s rm) (width_bytes form.memory) in
+    let n = lanes r.vl form.element in
+    first_is (fault_at form memory f (first_true on n 0)) (early_load form memory r.stops on (later_than (first_true on n 0) on) f n r.ffr) r zt core memory
+
+pub non_row : (zt rn pg dtype : ℕ) (r : Rest) (core : Core) (memory : Memory) → let s = state_of core memory r in do_vector (row_of ldnf1 (zt ∷ rn ∷ pg ∷ dtype ∷ [])) s ≡ after_load (put_load (load_of NonFault dtype (x_or_sp s rn) 0 r.vl memory r.stops (p_of r pg) r.ffr) zt r) core memory
+non_row zt rn pg dtype r core memory = refl
+
+-- ST1 at its operands
+pub store_row : (zt rn pg rm size msz : ℕ) (r : Rest) (core : Core) (memory : Memory) → let s = state_of core memory r in do_vector (row_of st1 (zt ∷ rn ∷ pg ∷ rm ∷ size ∷ msz ∷ [])) s ≡ effects.after_store (store_of msz size (x_or_sp s rn) (x_at s rm) r.vl (p_of r pg) (z_of r zt) memory) s
+store_row zt rn pg rm size msz r core memory = refl

@@ -1,0 +1,69 @@
+-- Kinds of SVE instructions.
+use Rattle.sve_code.specs.declared.Sve.{Sve}
+use Rattle.sve_code.specs.declared.Sve.TheVariants.{Ptrue, Pfalse, Whilelo, Ptest, PredicateLogical, Break, Rdffr, RdffrPredicated, Setffr, Wrffr, ElementCount, Incp, Cntp, DupScalar, IndexScalarImmediate, Sel, AddSub, Bitwise, ShiftImmediate, BinaryPredicated, UnaryPredicated, ExtendByte, ExtendHalfword, ExtendWord, Reduction, CompareVectors, ContiguousLoad, FirstFaultLoad, NonFaultLoad, ContiguousStore}
+
+-- it computes a vector register
+abbrev pub IsOnLanes : Sve → Type 0
+IsOnLanes (DupScalar a b c) = Unit {0}
+IsOnLanes (IndexScalarImmediate a b c d) = Unit {0}
+IsOnLanes (Sel a b c d e) = Unit {0}
+IsOnLanes (AddSub a b c d e) = Unit {0}
+IsOnLanes (Bitwise a b c d) = Unit {0}
+IsOnLanes (ShiftImmediate a b c d) = Unit {0}
+IsOnLanes (BinaryPredicated a b c d e) = Unit {0}
+IsOnLanes (UnaryPredicated a b c d e) = Unit {0}
+IsOnLanes (ExtendByte a b c d e) = Unit {0}
+IsOnLanes (ExtendHalfword a b c d e) = Unit {0}
+IsOnLanes (ExtendWord a b c d) = Unit {0}
+IsOnLanes (Reduction a b c d e) = Unit {0}
+IsOnLanes (Ptrue a b) = ⊥
+IsOnLanes (Pfalse a) = ⊥
+IsOnLanes (Whilelo a b c d) = ⊥
+IsOnLanes (Ptest a b) = ⊥
+IsOnLanes (PredicateLogical a b c d e) = ⊥
+IsOnLanes (Break a b c d) = ⊥
+IsOnLanes (Rdffr a) = ⊥
+IsOnLanes (RdffrPredicated a b) = ⊥
+IsOnLanes Setffr = ⊥
+IsOnLanes (Wrffr a) = ⊥
+IsOnLanes (ElementCount a b) = ⊥
+IsOnLanes (Incp a b c) = ⊥
+IsOnLanes (Cntp a b c d) = ⊥
+IsOnLanes (CompareVectors a b c d e f) = ⊥
+IsOnLanes (ContiguousLoad a b c d e) = ⊥
+IsOnLanes (FirstFaultLoad a b c d e) = ⊥
+IsOnLanes (NonFaultLoad a b c d) = ⊥
+IsOnLanes (ContiguousStore a b c d e) = ⊥
+
+-- it is no load and no store
+abbrev pub IsOnRegisters : Sve → Type 0
+IsOnRegisters (DupScalar a b c) = Unit {0}
+IsOnRegisters (IndexScalarImmediate a b c d) = Unit {0}
+IsOnRegisters (Sel a b c d e) = Unit {0}
+IsOnRegisters (AddSub a b c d e) = Unit {0}
+IsOnRegisters (Bitwise a b c d) = Unit {0}
+IsOnRegisters (ShiftImmediate a b c d) = Unit {0}
+IsOnRegisters (BinaryPredicated a b c d e) = Unit {0}
+IsOnRegisters (UnaryPredicated a b c d e) = Unit {0}
+IsOnRegisters (ExtendByte a b c d e) = Unit {0}
+IsOnRegisters (ExtendHalfword a b c d e) = Unit {0}
+IsOnRegisters (ExtendWord a b c d) = Unit {0}
+IsOnRegisters (Reduction a b c d e) = Unit {0}
+IsOnRegisters (Ptrue a b) = Unit {0}
+IsOnRegisters (Pfalse a) = Unit {0}
+IsOnRegisters (Whilelo a b c d) = Unit {0}
+IsOnRegisters (Ptest a b) = Unit {0}
+IsOnRegisters (PredicateLogical a b c d e) = Unit {0}
+IsOnRegisters (Break a b c d) = Unit {0}
+IsOnRegisters (Rdffr a) = Unit {0}
+IsOnRegisters (RdffrPredicated a b) = Unit {0}
+IsOnRegisters Setffr = Unit {0}
+IsOnRegisters (Wrffr a) = Unit {0}
+IsOnRegisters (ElementCount a b) = Unit {0}
+IsOnRegisters (Incp a b c) = Unit {0}
+IsOnRegisters (Cntp a b c d) = Unit {0}
+IsOnRegisters (CompareVectors a b c d e f) = Unit {0}
+IsOnRegisters (ContiguousLoad a b c d e) = ⊥
+IsOnRegisters (FirstFaultLoad a b c d e) = ⊥
+IsOnRegisters (NonFaultLoad a b c d) = ⊥
+IsOnRegisters (ContiguousStore a b c d e) = ⊥

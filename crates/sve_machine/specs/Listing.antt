@@ -1,0 +1,15 @@
+-- What contracts see of an instruction: its row of the joint table and the numbers of its fields.
+use Rattle.a64_code.specs.Seen as a64
+use Rattle.sve_code.specs.Seen as sve
+use Rattle.machine_model.specs.InstructionTable as table
+use Rattle.machine_model.specs.InstructionTable.{Listed}
+use Rattle.sve_machine.specs.declared.instruction.Instruction.{Instruction}
+use Rattle.sve_machine.specs.declared.instruction.Instruction.TheVariants.{Scalar, Vector}
+
+abbrev pub view_of : Instruction → Listed
+view_of (Scalar word) = table.Scalar (a64.seen word)
+view_of (Vector word) = table.Vector (sve.seen word)
+
+abbrev pub IsVector : Instruction → Type 0
+IsVector (Scalar word) = ⊥
+IsVector (Vector word) = Unit {0}

@@ -1,0 +1,60 @@
+-- What contracts see of a machine, and where a run starts.
+use Rattle.std.specs.Prelude.{◌≡◌, ℕ, ◌+◌, ◌<◌, List, Option, Some, replicate, false}
+use Rattle.guest_types.specs.EarlyLoads.{StopList}
+use Rattle.guest_types.specs.Memory.{Memory}
+use Rattle.machine_model.specs.declared.outcome.Ending.{Ending}
+use Rattle.machine_model.specs.declared.outcome.Step.{Step as StepAnswer}
+use Rattle.machine_model.specs.declared.outcome.Step.TheVariants as answers
+use Rattle.machine_model.specs.declared.outcome.Outcome.{Outcome as OutcomeAnswer}
+use Rattle.machine_model.specs.declared.outcome.Outcome.TheVariants as outcomes
+use Rattle.machine_model.specs.Machine.{State}
+use Rattle.machine_model.specs.OneStep.{step}
+use Rattle.machine_model.specs.Run.{start_x, after_steps}
+use Rattle.machine_model.specs.Answers.{IsAnswer}
+use Rattle.machine_model.specs.Debugged.{View, is_never}
+use Rattle.a64_machine.specs.Cores.{Rest, state_of}
+use Rattle.a64_machine.specs.declared.core_state.Core.{Core}
+
+-- what is seen of the parts of a machine
+abbrev pub view_of : Core → Memory → Rest → (steps : ℕ) → Option Ending → View
+view_of core memory rest steps over = record { state = state_of core memory rest; steps = steps; over = over; quiet = is_never rest.stops }
+
+-- the part of a state that A64 instructions leave alone
+abbrev pub rest_in : State → Rest
+rest_in s = record { z = s.z; p = s.p; ffr = s.ffr; vl = s.vl; stops = s.stops }
+
+-- where a run starts: this memory, the arguments in X0 on, PC at the entry, and zero in all other registers
+unfoldable pub start_of : (memory : Memory) (entry : ℕ) (args : List ℕ) (vl : ℕ) → StopList → State
+start_of memory entry args vl stops = record {
+  memory = memory;
+  pc = entry;
+  x = start_x args;
+  sp = 0;
+  flags = record { n = false; z = false; c = false; v = false };
+  z = replicate 32 (replicate 256 0);
+  p = replicate 16 (replicate 32 0);
+  ffr = replicate 32 0;
+  vl = vl;
+  stops = stops;
+}
+
+-- some steps went, and the one behind them came to this answer
+pub record Last (answer : StepAnswer) (steps done : ℕ) (before after : State) : Type 0 where
+  pub went : ℕ
+  pub within : went < steps
+  pub counted : done ≡ went + 1
+  pub last : State
+  pub state : after_steps went before ≡ Some last
+  pub answered : IsAnswer (step last) answer last after
+
+-- what at most so many steps leave, of which `done` were done
+abbrev pub Leaves : StepAnswer → (steps done : ℕ) → (before after : State) → Type 0
+Leaves answers.Went steps done before after = (done ≡ steps) × (after_steps steps before ≡ Some after)
+Leaves answers.Ended steps done before after = Last answers.Ended steps done before after
+Leaves (answers.Stopped stop) steps done before after = Last (answers.Stopped stop) steps done before after
+
+-- what a run answers whose last step came to this answer, where X0 is the result
+abbrev pub outcome_at : StepAnswer → (x0 : ℕ) → OutcomeAnswer
+outcome_at answers.Went x0 = outcomes.Spent
+outcome_at answers.Ended x0 = outcomes.End x0
+outcome_at (answers.Stopped stop) x0 = outcomes.Stop stop

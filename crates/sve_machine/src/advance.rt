@@ -1,0 +1,101 @@
+//! Steps of the machine, one after another.
+
+ghost use Rattle.std.specs.Prelude.{◌≡◌, ◌≤◌, All};
+ghost use Rattle.machine_model.specs.OneStep.{step, does};
+ghost use Rattle.machine_model.specs.Answers.{IsAnswer};
+ghost use Rattle.a64_machine.specs.Cores.{state_of};
+ghost use Rattle.sve_machine.specs.Listing.{view_of, IsVector};
+ghost use Rattle.sve_machine.specs.Keeping.{Keeps};
+ghost use Rattle.sve_machine.specs.Views.{Leaves};
+
+use crate::instruction::Instruction;
+use crate::kept::Entry;
+use crate::look_up::look_up;
+use crate::scalars::scalar_step;
+use crate::vector_step::vector_step;
+use crate::vectors::Vectors;
+use a64_machine::Core;
+use machine_model::outcome::Step;
+use paged_memory::pages::Pages;
+
+// What an SVE instruction does. It stands by itself, so that no register of vectors has room where A64 instructions are done.
+#[inline(never)]
+fn execute_vector(
+    core: &mut Core,
+    pages: &mut Pages,
+    vectors: &mut Vectors,
+    instruction: &Instruction,
+) -> Step
+    requires { IsVector instruction.now }
+    ensures { let before = state_of core.old pages.old vectors.old in
+        IsAnswer (does (view_of instruction.now) before) result before (state_of core.new pages.new vectors.new) }
+{
+    match *instruction {
+        Instruction::Vector(word) => vector_step(core, pages, vectors, word),
+        Instruction::Scalar(_) => Step::Went,
+    }
+}
+
+// What an instruction does.
+#[inline(always)]
+fn execute(
+    core: &mut Core,
+    pages: &mut Pages,
+    vectors: &mut Vectors,
+    instruction: &Instruction,
+) -> Step
+    ensures { let before = state_of core.old pages.old vectors.old in
+        IsAnswer (does (view_of instruction.now) before) result before (state_of core.new pages.new vectors.new) }
+{
+    match *instruction {
+        Instruction::Scalar(word) => scalar_step(core, pages, vectors, word),
+        Instruction::Vector(_) => execute_vector(core, pages, vectors, instruction),
+    }
+}
+
+// One step.
+#[inline(always)]
+fn advance(
+    core: &mut Core,
+    pages: &mut Pages,
+    vectors: &mut Vectors,
+    kept: &mut [Entry; 1024],
+) -> Step
+    requires kept { All (Keeps pages.old) kept.old }
+    ensures answer { let before = state_of core.old pages.old vectors.old in
+        IsAnswer (step before) result before (state_of core.new pages.new vectors.new) }
+    ensures kept { All (Keeps pages.new) kept.new }
+{
+    let pc = core.pc;
+    match look_up(pages, kept, pc) {
+        Some(stop) => Step::Stopped(stop),
+        None => {
+            let entry = &kept[(pc / 4 % 1024) as usize];
+            execute(core, pages, vectors, &entry.instruction)
+        }
+    }
+}
+
+/// At most so many steps: the last answer, and how many were done.
+#[inline(never)]
+pub fn go(
+    core: &mut Core,
+    pages: &mut Pages,
+    vectors: &mut Vectors,
+    kept: &mut [Entry; 1024],
+    steps: u64,
+) -> (Step, u64)
+    requires kept { All (Keeps pages.old) kept.old }
+    ensures leaves { Leaves result.0 steps result.1 (state_of core.old pages.old vectors.old) (state_of core.new pages.new vectors.new) }
+    ensures few { result.1 ≤ steps }
+    ensures kept { All (Keeps pages.new) kept.new }
+{
+    for done in 0..steps {
+        match advance(core, pages, vectors, kept) {
+            Step::Went => {}
+            Step::Ended => return (Step::Ended, done + 1),
+            Step::Stopped(stop) => return (Step::Stopped(stop), done + 1),
+        }
+    }
+    (Step::Went, steps)
+}

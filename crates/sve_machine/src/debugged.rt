@@ -1,0 +1,71 @@
+//! The machine as it is looked at between steps.
+
+ghost use Rattle.std.specs.Prelude.{◌≡◌};
+ghost use Rattle.guest_types.specs.Elements.{nzcv};
+ghost use Rattle.a64_machine.specs.Cores.{flags_in};
+
+use crate::machine::Machine;
+use guest_types::length::Vl;
+use guest_types::predicate::PReg;
+use guest_types::register::ZReg;
+use machine_model::debuggee::Debuggee;
+use machine_model::outcome::Step;
+
+impl Debuggee for Machine {
+    ghost view_of = { λ machine. machine };
+
+    fn step(&mut self) -> Step {
+        let answer = self.step();
+        answer
+    }
+
+    fn pc(&self) -> u64 {
+        self.core().pc
+    }
+
+    fn sp(&self) -> u64 {
+        self.core().sp
+    }
+
+    fn nzcv(&self) -> u8 {
+        flags_of(self.core().nzcv)
+    }
+
+    fn x(&self, n: u32) -> u64 {
+        match self.core().x.get(n as usize) {
+            Some(value) => *value,
+            None => 0,
+        }
+    }
+
+    fn z(&self, n: u32) -> &ZReg {
+        self.vectors().z(n)
+    }
+
+    fn p(&self, n: u32) -> &PReg {
+        self.vectors().p(n)
+    }
+
+    fn ffr(&self) -> &PReg {
+        self.vectors().ffr()
+    }
+
+    fn byte(&self, address: u64) -> Option<u8> {
+        self.pages().byte(address)
+    }
+
+    fn vl(&self) -> Vl {
+        self.vectors().vl()
+    }
+
+    fn steps_done(&self) -> u64 {
+        self.steps_done()
+    }
+}
+
+// The lowest four bits of a number, which are the flags.
+fn flags_of(number: u8) -> u8
+    ensures { result ≡ nzcv (flags_in number) }
+{
+    number & 0xf
+}

@@ -1,0 +1,11 @@
+//! An instruction of either table.
+
+use a64_code::A64;
+use sve_code::Sve;
+
+/// An instruction of either table.
+#[derive(Clone, Copy, Debug, PartialEq, Eq)]
+pub enum Instruction {
+    Scalar(A64),
+    Vector(Sve),
+}

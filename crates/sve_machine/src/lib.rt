@@ -1,0 +1,22 @@
+//! The machine that runs A64 and SVE instructions, at every vector length.
+#![tactic(auto)]
+
+mod advance;
+mod debugged;
+mod decoding;
+mod instruction;
+mod kept;
+mod lanes;
+mod look_up;
+mod machine;
+mod memory;
+mod operations;
+mod predicates;
+mod scalars;
+mod vector_step;
+mod vectors;
+
+pub use machine::Machine;
+
+#[cfg(test)]
+mod tests;

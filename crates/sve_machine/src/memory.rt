@@ -1,0 +1,203 @@
+//! Vector loads and stores.
+
+ghost use Rattle.std.specs.Prelude.{◌≡◌};
+ghost use Rattle.std.specs.Prelude.{slice_index};
+ghost use Rattle.sve_code.specs.Numbers.{dtype_number, size_number};
+ghost use Rattle.sve_code.specs.Seen.{seen};
+ghost use Rattle.sve_code.specs.declared.Sve.{Sve};
+ghost use Rattle.machine_model.specs.Answers.{IsAnswer};
+ghost use Rattle.machine_model.specs.Machine.{x_or_sp};
+ghost use Rattle.machine_model.specs.VectorEffects.{do_vector};
+ghost use Rattle.lane_memory.specs.Loads.{load_of};
+ghost use Rattle.a64_machine.specs.Cores.{state_of};
+ghost use Rattle.sve_machine.specs.Rests.{p_of, put_load};
+ghost use Rattle.sve_machine.specs.Rows.{after_load};
+
+use crate::vectors::Vectors;
+use a64_machine::Core;
+use guest_types::row::{LoadMode, LoadRow, StoreRow};
+use lane_memory::store::store;
+use machine_model::outcome::{Step, Stop, StopKind};
+use paged_memory::pages::Pages;
+use sve_code::{Dtype, GoverningReg, OffsetReg, Reg, StoreSizes, VectorReg};
+
+// The form of a load.
+#[inline(always)]
+fn load_row(dtype: Dtype) -> LoadRow
+    ensures { result.dtype ≡ dtype_number dtype }
+{
+    LoadRow {
+        dtype: dtype as u32,
+    }
+}
+
+// The form of a store.
+#[inline(always)]
+fn store_row(sizes: StoreSizes) -> StoreRow
+    ensures msz { result.msz ≡ size_number sizes.msz }
+    ensures size { result.size ≡ size_number sizes.size }
+{
+    StoreRow {
+        msz: sizes.msz as u32,
+        size: sizes.size as u32,
+    }
+}
+
+// The general register of an offset.
+#[inline(always)]
+fn offset_of(core: &Core, offset: OffsetReg) -> u64
+    ensures { result ≡ slice_index core.now.x offset.number }
+{
+    core.x[offset.number as usize]
+}
+
+// A load in one of its modes, from a base with an index in elements.
+#[inline(never)]
+fn load(
+    core: &mut Core,
+    pages: &Pages,
+    vectors: &mut Vectors,
+    mode: LoadMode,
+    dtype: Dtype,
+    zt: VectorReg,
+    base: u64,
+    index: u64,
+    pg: GoverningReg,
+) -> Step
+    ensures { let r = vectors.old in
+        IsAnswer
+        (after_load (put_load (load_of mode (dtype_number dtype) base index r.vl pages.now r.stops (p_of r pg.number) r.ffr) zt.number r) core.old pages.now)
+        result (state_of core.old pages.now r) (state_of core.new pages.now vectors.new) }
+{
+    let row = load_row(dtype);
+    match vectors.load(pages, mode, row, base, index, zt.number, pg.number) {
+        Ok(()) => {
+            core.go_on();
+            Step::Went
+        }
+        Err(fault) => Step::Stopped(Stop {
+            kind: StopKind::Read,
+            pc: core.pc,
+            at: fault.address,
+        }),
+    }
+}
+
+/// "LD1B (scalar plus scalar)" and its like for all memory accesses.
+pub fn contiguous_load(
+    core: &mut Core,
+    pages: &Pages,
+    vectors: &mut Vectors,
+    zt: VectorReg,
+    rn: Reg,
+    pg: GoverningReg,
+    offset: OffsetReg,
+    dtype: Dtype,
+) -> Step
+    ensures { let before = state_of core.old pages.now vectors.old in
+        IsAnswer (do_vector (seen (Sve.ContiguousLoad zt rn pg offset dtype)) before) result before (state_of core.new pages.now vectors.new) }
+{
+    let base = core.register_or_sp(rn);
+    let index = offset_of(core, offset);
+    load(
+        core,
+        pages,
+        vectors,
+        LoadMode::Plain,
+        dtype,
+        zt,
+        base,
+        index,
+        pg,
+    )
+}
+
+/// "LDFF1B (scalar plus scalar)" and its like.
+pub fn first_fault_load(
+    core: &mut Core,
+    pages: &Pages,
+    vectors: &mut Vectors,
+    zt: VectorReg,
+    rn: Reg,
+    pg: GoverningReg,
+    rm: Reg,
+    dtype: Dtype,
+) -> Step
+    ensures { let before = state_of core.old pages.now vectors.old in
+        IsAnswer (do_vector (seen (Sve.FirstFaultLoad zt rn pg rm dtype)) before) result before (state_of core.new pages.now vectors.new) }
+{
+    let base = core.register_or_sp(rn);
+    let index = core.register(rm);
+    load(
+        core,
+        pages,
+        vectors,
+        LoadMode::FirstFault,
+        dtype,
+        zt,
+        base,
+        index,
+        pg,
+    )
+}
+
+/// "LDNF1B" and its like.
+pub fn non_fault_load(
+    core: &mut Core,
+    pages: &Pages,
+    vectors: &mut Vectors,
+    zt: VectorReg,
+    rn: Reg,
+    pg: GoverningReg,
+    dtype: Dtype,
+) -> Step
+    ensures { let before = state_of core.old pages.now vectors.old in
+        IsAnswer (do_vector (seen (Sve.NonFaultLoad zt rn pg dtype)) before) result before (state_of core.new pages.now vectors.new) }
+{
+    let base = core.register_or_sp(rn);
+    load(
+        core,
+        pages,
+        vectors,
+        LoadMode::NonFault,
+        dtype,
+        zt,
+        base,
+        0,
+        pg,
+    )
+}
+
+/// "ST1B (scalar plus scalar)" and its like. A stop leaves its lower active elements written.
+#[inline(never)]
+pub fn contiguous_store(
+    core: &mut Core,
+    pages: &mut Pages,
+    vectors: &Vectors,
+    zt: VectorReg,
+    rn: Reg,
+    pg: GoverningReg,
+    offset: OffsetReg,
+    sizes: StoreSizes,
+) -> Step
+    ensures { let before = state_of core.old pages.old vectors.now in
+        IsAnswer (do_vector (seen (Sve.ContiguousStore zt rn pg offset sizes)) before) result before (state_of core.new pages.new vectors.now) }
+{
+    let base = core.register_or_sp(rn);
+    let index = offset_of(core, offset);
+    let row = store_row(sizes);
+    let vl = vectors.vl();
+    let mask = vectors.p(pg.number);
+    let z = vectors.z(zt.number);
+    match store(pages, row, base, index, vl, mask, z) {
+        Ok(()) => {
+            core.go_on();
+            Step::Went
+        }
+        Err(fault) => Step::Stopped(Stop {
+            kind: StopKind::Write,
+            pc: core.pc,
+            at: fault.address,
+        }),
+    }
+}

@@ -1,0 +1,35 @@
+//! A64 instructions of the machine.
+
+ghost use Rattle.std.specs.Prelude.{◌≡◌};
+ghost use Rattle.a64_code.specs.Seen.{seen};
+ghost use Rattle.a64_machine.specs.Cores.{state_of, HasVector};
+ghost use Rattle.machine_model.specs.InstructionTable.{Scalar};
+ghost use Rattle.machine_model.specs.OneStep.{does};
+ghost use Rattle.machine_model.specs.Answers.{IsAnswer};
+
+use crate::vectors::Vectors;
+use a64_code::A64;
+use a64_machine::{Core, a64_step};
+use machine_model::outcome::Step;
+use paged_memory::pages::Pages;
+
+// Gives UMOV the doubleword that it reads.
+#[inline(always)]
+fn hand_doubleword(core: &mut Core, vectors: &Vectors, word: A64)
+    ensures handed { HasVector word core.new vectors.now }
+    ensures kept { core.new ≡ record core.old { vzero = core.new.vzero } }
+{
+    if let A64::Umov { rd: _, vn } = word {
+        core.vzero = vectors.doubleword(vn.number);
+    }
+}
+
+/// One A64 instruction. It leaves the vector registers alone.
+#[inline(always)]
+pub fn scalar_step(core: &mut Core, pages: &mut Pages, vectors: &Vectors, word: A64) -> Step
+    ensures { let before = state_of core.old pages.old vectors.now in
+        IsAnswer (does (Scalar (seen word)) before) result before (state_of core.new pages.new vectors.now) }
+{
+    hand_doubleword(core, vectors, word);
+    a64_step(core, pages, word)
+}

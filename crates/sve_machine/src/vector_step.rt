@@ -1,0 +1,162 @@
+//! SVE instructions of the machine.
+
+ghost use Rattle.std.specs.Prelude.{◌≡◌};
+ghost use Rattle.sve_code.specs.Seen.{seen};
+ghost use Rattle.a64_machine.specs.Cores.{state_of};
+ghost use Rattle.machine_model.specs.InstructionTable.{Vector};
+ghost use Rattle.machine_model.specs.OneStep.{does};
+ghost use Rattle.machine_model.specs.Answers.{IsAnswer};
+ghost use Rattle.sve_machine.specs.Kinds.{IsOnLanes, IsOnRegisters};
+ghost use Rattle.sve_machine.specs.Rows.{RowLeaves};
+
+use crate::memory::{contiguous_load, contiguous_store, first_fault_load, non_fault_load};
+use crate::vectors::Vectors;
+use crate::{lanes, predicates};
+use a64_machine::Core;
+use machine_model::outcome::Step;
+use paged_memory::pages::Pages;
+use sve_code::Sve;
+
+/// One SVE instruction.
+#[inline(always)]
+pub fn vector_step(core: &mut Core, pages: &mut Pages, vectors: &mut Vectors, word: Sve) -> Step
+    ensures { let before = state_of core.old pages.old vectors.old in
+        IsAnswer (does (Vector (seen word)) before) result before (state_of core.new pages.new vectors.new) }
+{
+    match word {
+        Sve::ContiguousLoad {
+            zt,
+            rn,
+            pg,
+            offset,
+            dtype,
+        } => contiguous_load(core, pages, vectors, zt, rn, pg, offset, dtype),
+        Sve::FirstFaultLoad {
+            zt,
+            rn,
+            pg,
+            rm,
+            dtype,
+        } => first_fault_load(core, pages, vectors, zt, rn, pg, rm, dtype),
+        Sve::NonFaultLoad { zt, rn, pg, dtype } => {
+            non_fault_load(core, pages, vectors, zt, rn, pg, dtype)
+        }
+        Sve::ContiguousStore {
+            zt,
+            rn,
+            pg,
+            offset,
+            sizes,
+        } => contiguous_store(core, pages, vectors, zt, rn, pg, offset, sizes),
+        _ => {
+            on_registers(core, vectors, word);
+            core.go_on();
+            Step::Went
+        }
+    }
+}
+
+// An instruction that is no load and no store. PC is raised after it.
+#[inline(always)]
+fn on_registers(core: &mut Core, vectors: &mut Vectors, word: Sve)
+    ensures { IsOnRegisters word → RowLeaves word core.old vectors.old core.new vectors.new }
+{
+    match word {
+        Sve::Ptrue { pd, size } => predicates::all_true(vectors, pd, size),
+        Sve::Pfalse { pd } => predicates::all_false(vectors, pd),
+        Sve::Whilelo { pd, rn, rm, size } => {
+            predicates::while_below(core, vectors, pd, rn, rm, size)
+        }
+        Sve::Ptest { pn, pg } => predicates::test(core, vectors, pn, pg),
+        Sve::PredicateLogical { op, pd, pn, pg, pm } => {
+            predicates::logic(core, vectors, op, pd, pn, pg, pm)
+        }
+        Sve::Break { op, pd, pn, pg } => predicates::break_at(vectors, op, pd, pn, pg),
+        Sve::Rdffr { pd } => predicates::read_ffr(vectors, pd),
+        Sve::RdffrPredicated { pd, pg } => predicates::read_ffr_under(vectors, pd, pg),
+        Sve::Setffr => predicates::set_ffr(vectors),
+        Sve::Wrffr { pn } => predicates::write_ffr(vectors, pn),
+        Sve::ElementCount { op, rd } => predicates::count_elements(core, vectors, op, rd),
+        Sve::Incp { rd, pm, size } => {
+            predicates::increment_by_count(core, vectors, rd, pm, size)
+        }
+        Sve::Cntp { rd, pn, pg, size } => {
+            predicates::count_true(core, vectors, rd, pn, pg, size)
+        }
+        Sve::CompareVectors {
+            op,
+            pd,
+            zn,
+            pg,
+            zm,
+            size,
+        } => predicates::compare(core, vectors, op, pd, zn, pg, zm, size),
+        _ => on_lanes(core, vectors, word),
+    }
+}
+
+// An instruction that computes a vector register.
+#[inline(always)]
+fn on_lanes(core: &Core, vectors: &mut Vectors, word: Sve)
+    ensures { IsOnLanes word → RowLeaves word core.now vectors.old core.now vectors.new }
+{
+    match word {
+        Sve::DupScalar { zd, rn, size } => lanes::duplicate(core, vectors, zd, rn, size),
+        Sve::IndexScalarImmediate { zd, rn, imm5, size } => {
+            lanes::index(core, vectors, zd, rn, imm5, size)
+        }
+        Sve::Sel {
+            zd,
+            zn,
+            pg,
+            zm,
+            size,
+        } => lanes::select(vectors, zd, zn, pg, zm, size),
+        Sve::AddSub {
+            op,
+            zd,
+            zn,
+            zm,
+            size,
+        } => lanes::add_sub(vectors, op, zd, zn, zm, size),
+        Sve::Bitwise { op, zd, zn, zm } => lanes::bitwise(vectors, op, zd, zn, zm),
+        Sve::ShiftImmediate { op, zd, zn, amount } => lanes::shift(vectors, op, zd, zn, amount),
+        Sve::BinaryPredicated {
+            op,
+            zdn,
+            zm,
+            pg,
+            size,
+        } => lanes::merging(vectors, op, zdn, zm, pg, size),
+        Sve::UnaryPredicated {
+            op,
+            zd,
+            zn,
+            pg,
+            size,
+        } => lanes::unary(vectors, op, zd, zn, pg, size),
+        Sve::ExtendByte {
+            op,
+            zd,
+            zn,
+            pg,
+            size,
+        } => lanes::extend_byte(vectors, op, zd, zn, pg, size),
+        Sve::ExtendHalfword {
+            op,
+            zd,
+            zn,
+            pg,
+            size,
+        } => lanes::extend_halfword(vectors, op, zd, zn, pg, size),
+        Sve::ExtendWord { op, zd, zn, pg } => lanes::extend_word(vectors, op, zd, zn, pg),
+        Sve::Reduction {
+            op,
+            zd,
+            zn,
+            pg,
+            size,
+        } => lanes::reduction(vectors, op, zd, zn, pg, size),
+        _ => {}
+    }
+}

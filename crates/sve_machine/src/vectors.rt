@@ -1,0 +1,174 @@
+//! The vector registers of the machine.
+
+ghost use Rattle.std.specs.Prelude.{◌≡◌, ◌<◌, Ok, Err, IfErr, OnOk, OnErr};
+ghost use Rattle.guest_types.specs.Elements.{element};
+ghost use Rattle.guest_types.specs.Length.{IsLength};
+ghost use Rattle.machine_model.specs.States.{IsVector, IsPredicate};
+
+use guest_types::length::{Vl, Width};
+use guest_types::memory::AccessFault;
+use guest_types::predicate::PReg;
+use guest_types::register::ZReg;
+use guest_types::row::{LoadMode, LoadRow, StoreRow};
+use lane_memory::load::load_into;
+use lane_memory::suppress::Suppress;
+use paged_memory::pages::Pages;
+use std::marker::Model;
+
+/// Z0 to Z31, P0 to P15 and FFR. What lies past the vector length is zero.
+#[derive(Drop)]
+pub struct Vectors {
+    z: [ZReg; 32],
+    p: [PReg; 16],
+    ffr: PReg,
+    vl: Vl,
+    stops: Suppress,
+}
+
+impl Model for Vectors {
+    ghost use Rattle.a64_machine.specs.Cores.{Rest};
+    ghost use Rattle.sve_machine.specs.Rests.{rest_of, IsRest};
+
+    ghost Value = { Rest };
+
+    ghost view = { λ v. rest_of v.z v.p v.ffr v.vl v.stops };
+
+    ghost invariant = { λ v. IsRest (rest_of v.z v.p v.ffr v.vl v.stops) };
+}
+
+impl Vectors {
+    ghost use Rattle.sve_machine.specs.Rests.{IsRest, zeros, z_of, p_of, put_z, put_p, put_ffr};
+    ghost use Rattle.lane_memory.specs.Loads.{load_of};
+    ghost use Rattle.sve_machine.specs.Rests.{put_load};
+
+    /// Registers of zeros, and a stop list.
+    pub fn new(vl: Vl, stops: Suppress) -> Vectors
+        ensures { result ≡ zeros vl stops }
+    {
+        let _bits = vl.bits();
+        Vectors {
+            z: [ZReg { bytes: [0; 256] }; 32],
+            p: [PReg { bits: [0; 32] }; 16],
+            ffr: PReg { bits: [0; 32] },
+            vl,
+            stops,
+        }
+    }
+
+    /// The vector length.
+    #[inline(always)]
+    pub fn vl(&self) -> Vl
+        ensures value { result ≡ self.now.vl }
+        ensures sized { IsLength self.now.vl }
+    {
+        self.vl
+    }
+
+    /// A vector register.
+    #[inline(always)]
+    pub fn z(&self, n: u32) -> &ZReg
+        requires { n < 32 }
+        ensures value { result.now.bytes ≡ z_of self.now n }
+        ensures shape { IsVector self.now.vl result.now.bytes }
+        ensures sized { IsLength self.now.vl }
+    {
+        &self.z[n as usize]
+    }
+
+    /// A predicate register.
+    #[inline(always)]
+    pub fn p(&self, n: u32) -> &PReg
+        requires { n < 16 }
+        ensures value { result.now.bits ≡ p_of self.now n }
+        ensures shape { IsPredicate self.now.vl result.now.bits }
+        ensures sized { IsLength self.now.vl }
+    {
+        &self.p[n as usize]
+    }
+
+    /// The first-fault register.
+    #[inline(always)]
+    pub fn ffr(&self) -> &PReg
+        ensures value { result.now.bits ≡ self.now.ffr }
+        ensures shape { IsPredicate self.now.vl result.now.bits }
+        ensures sized { IsLength self.now.vl }
+    {
+        &self.ffr
+    }
+
+    /// Writes a vector register.
+    #[inline(always)]
+    pub fn set_z(&mut self, n: u32, register: &ZReg)
+        requires number { n < 32 }
+        requires shape { IsVector self.old.vl register.now.bytes }
+        ensures { self.new ≡ put_z self.old n register.now.bytes }
+    {
+        self.z[n as usize] = *register;
+    }
+
+    /// Writes a predicate register.
+    #[inline(always)]
+    pub fn set_p(&mut self, n: u32, register: &PReg)
+        requires number { n < 16 }
+        requires shape { IsPredicate self.old.vl register.now.bits }
+        ensures { self.new ≡ put_p self.old n register.now.bits }
+    {
+        self.p[n as usize] = *register;
+    }
+
+    /// Writes the first-fault register.
+    #[inline(always)]
+    pub fn set_ffr(&mut self, register: &PReg)
+        requires { IsPredicate self.old.vl register.now.bits }
+        ensures { self.new ≡ put_ffr self.old register.now.bits }
+    {
+        self.ffr = *register;
+    }
+
+    /// Doubleword 0 of a vector register.
+    #[cold]
+    #[inline(never)]
+    pub fn doubleword(&self, n: u32) -> u64
+        requires { n < 32 }
+        ensures { result ≡ element 8 (z_of self.now n) 0 }
+    {
+        self.z(n).element(Width::D, 0)
+    }
+
+    /// Loads a vector register under a predicate register: LD1, LDFF1 or LDNF1 by the mode.
+    pub fn load(
+        &mut self,
+        pages: &Pages,
+        mode: LoadMode,
+        row: LoadRow,
+        base: u64,
+        index: u64,
+        zt: u32,
+        pg: u32,
+    ) -> Result<(), AccessFault>
+        requires register { zt < 32 }
+        requires predicate { pg < 16 }
+        ensures done { OnOk result
+            (put_load (load_of mode row.dtype base index self.old.vl pages.now self.old.stops (p_of self.old pg) self.old.ffr) zt self.old ≡ Ok self.new) }
+        ensures refused { IfErr result (λ fault.
+            put_load (load_of mode row.dtype base index self.old.vl pages.now self.old.stops (p_of self.old pg) self.old.ffr) zt self.old ≡ Err fault) }
+        ensures unchanged { OnErr result (self.new ≡ self.old) }
+    {
+        let mask = self.p[pg as usize];
+        let mut out = ZReg { bytes: [0; 256] };
+        load_into(
+            pages,
+            mode,
+            row,
+            base,
+            index,
+            self.vl,
+            &mask,
+            &mut self.ffr,
+            &mut self.stops,
+            &mut out,
+        )?;
+        self.z[zt as usize] = out;
+        Ok(())
+    }
+}
