@@ -5,3 +5,4 @@ pub mod Wanted
 pub mod Statuses
 pub mod Evaluations
 pub mod SomeWork
+pub mod OneWork

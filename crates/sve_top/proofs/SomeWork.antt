@@ -1,8 +1,6 @@
 -- Some work is wanted of each command, and one alone but for the token that the line of a syntax fault names.
 use Rattle.std.proofs.Common.{◌≡◌, ℕ, Bool, true, false, cond, List, [], length, Option, Some, None, Result, Ok, Err, refl, sym, ap, ◌∙◌, subst, inl, inr}
 use Rattle.std.specs.Prelude.{IfSome, nat_lt, option_map}
-use Rattle.early_kernel.specs.Sum.{SumKernel}
-use Rattle.early_kernel.specs.Reads.{sum_kernel_of}
 use Rattle.command_line.specs.Line.{Line, CompileLine, CheckLine, EvalLine, ListLine, RunLine}
 use Rattle.kernel_tree.specs.Word.{Word}
 use Rattle.kernel_tree.specs.Plain.{Program}
@@ -26,7 +24,7 @@ use Rattle.sve_top.specs.declared.refusal.Refusal.{Refusal}
 use Rattle.sve_top.specs.declared.refusal.Refusal.TheVariants.{Usage, Kernel}
 use Rattle.sve_top.specs.Answer.{Held, Work}
 use Rattle.sve_top.specs.Kernels.{IsOfText, IsRefusedFor, IsWorkOn, ByVerdict}
-use Rattle.sve_top.specs.Commands.{AfterRead, OfWanted, SomeWanted, IsSyntaxFault, IsOneWork, Wants, CompilesEarly, CompileWants, CheckWants, EvalWants, file_of, map_of, not_compiled, checked, eval_kernel, ended, work_of_list, work_of_run}
+use Rattle.sve_top.specs.Commands.{AfterRead, OfWanted, SomeWanted, IsSyntaxFault, IsOneWork, Wants, CompileWants, CheckWants, EvalWants, file_of, map_of, compiled, checked, eval_kernel, ended, work_of_list, work_of_run}
 
 -- ---- a fault that explains a verdict
 
@@ -119,17 +117,13 @@ by_verdict sound text =
     let w = on_verdict sound text v.0 v.1 in
     (w.0, record { verdict = v.0; has = v.1; wanted = w.1 })
 
-early : (o : Option SumKernel) (text : List ℕ) → (w : Work) × CompilesEarly o text w
-early (Some k) text = (ended [], refl)
-early None text = by_verdict not_compiled text
-
 after : {T : Type 0} (r : Result T Refusal) (next : T → Work → Type 0) → ((x : T) → (w : Work) × next x w) → (w : Work) × AfterRead r next w
 after (Ok x) next all = all x
 after (Err refusal) next all = (Err refusal, refl)
 
 pub some_work : (held : Held) (line : Option Line) → (w : Work) × Wants held line w
 some_work held None = (Err Usage, refl)
-some_work held (Some (CompileLine from to)) = after (file_of held from) CompileWants (λ text. early (sum_kernel_of text) text)
+some_work held (Some (CompileLine from to)) = after (file_of held from) CompileWants (by_verdict compiled)
 some_work held (Some (CheckLine from)) = after (file_of held from) CheckWants (λ text. by_verdict checked text)
 some_work held (Some (EvalLine task)) =
     after (file_of held task.file) (λ text. AfterRead (map_of held task.map) (EvalWants task text))
@@ -228,17 +222,13 @@ one_by_verdict : (sound : Program → Work) (text : List ℕ) (a b : Work) → B
 one_by_verdict sound text a b h k =
     one_on sound h.verdict a b h.wanted (subst (λ v. IsWorkOn sound v b) (one_verdict text k.verdict h.verdict k.has h.has) k.wanted)
 
-one_early : (o : Option SumKernel) (text : List ℕ) (a b : Work) → CompilesEarly o text a → CompilesEarly o text b → IsOneWork a b
-one_early (Some k) text a b p q = inl (p ∙ sym q)
-one_early None text a b p q = one_by_verdict not_compiled text a b p q
-
 one_after : {T : Type 0} (r : Result T Refusal) (next : T → Work → Type 0) (a b : Work) → ((x : T) → next x a → next x b → IsOneWork a b) → AfterRead r next a → AfterRead r next b → IsOneWork a b
 one_after (Ok x) next a b all p q = all x p q
 one_after (Err refusal) next a b all p q = inl (p ∙ sym q)
 
 pub one_work : (held : Held) (line : Option Line) (a b : Work) → Wants held line a → Wants held line b → IsOneWork a b
 one_work held None a b p q = inl (p ∙ sym q)
-one_work held (Some (CompileLine from to)) a b p q = one_after (file_of held from) CompileWants a b (λ text. one_early (sum_kernel_of text) text a b) p q
+one_work held (Some (CompileLine from to)) a b p q = one_after (file_of held from) CompileWants a b (λ text. one_by_verdict compiled text a b) p q
 one_work held (Some (CheckLine from)) a b p q = one_after (file_of held from) CheckWants a b (λ text. one_by_verdict checked text a b) p q
 one_work held (Some (EvalLine task)) a b p q =
     one_after (file_of held task.file) (λ text. AfterRead (map_of held task.map) (EvalWants task text)) a b

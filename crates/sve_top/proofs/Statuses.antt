@@ -4,7 +4,7 @@ use Rattle.std.proofs.Common.{◌≡◌, ℕ, List, [], ◌++◌, append-nil, Op
 use Rattle.std.specs.Prelude.{IsTrue, OnOk}
 use Rattle.io_edges.specs.declared.sink.Failed.{Failed}
 use Rattle.sve_top.specs.declared.refusal.Refusal.{Refusal}
-use Rattle.sve_top.specs.declared.refusal.Refusal.TheVariants.{Usage, NotYet, Kernel, TooLong, Elf, Map, Memory, File, Output}
+use Rattle.sve_top.specs.declared.refusal.Refusal.TheVariants.{Usage, TooManyLive, Kernel, TooLong, Elf, Map, Memory, File, Output}
 use Rattle.sve_top.specs.declared.refusal.Done.{Done}
 use Rattle.sve_top.specs.declared.refusal.Done.TheVariants as done
 use Rattle.sve_top.specs.Lines.{line_of_refusal}
@@ -21,7 +21,7 @@ status_is x y a b s wanted result is h =
 
 not_done : (refusal : Refusal) → IsTrue (is_done (status_of_refusal refusal)) → ⊥
 not_done Usage h = absurd cc
-not_done NotYet h = absurd cc
+not_done (TooManyLive class need) h = absurd cc
 not_done (Kernel fault) h = absurd cc
 not_done TooLong h = absurd cc
 not_done (Elf fault) h = absurd cc
@@ -54,7 +54,7 @@ told_done old n s own how is = subst (Gains old old n n) (sym (ap (told_by own) 
 -- the line of a refusal is told
 own_line : (refusal : Refusal) → told_by (line_of_refusal refusal) (status_of_refusal refusal) ≡ line_of_refusal refusal
 own_line Usage = refl
-own_line NotYet = refl
+own_line (TooManyLive class need) = refl
 own_line (Kernel fault) = refl
 own_line TooLong = refl
 own_line (Elf fault) = refl

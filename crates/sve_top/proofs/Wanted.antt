@@ -1,9 +1,14 @@
 -- What is wanted of a command that reads the text of a kernel.
 use mathlib.Core.Logic.{⊎_elim}
-use Rattle.std.proofs.Common.{◌≡◌, ℕ, List, [], Option, Some, None, Result, Ok, Err, inl, inr, refl, sym, ap, ◌∙◌, subst}
-use Rattle.std.specs.Prelude.{IfSome, IfErr, IsErrAnd}
-use Rattle.early_kernel.specs.Sum.{SumKernel}
-use Rattle.early_kernel.specs.Reads.{sum_kernel_of}
+use Rattle.std.proofs.Common.{◌≡◌, ℕ, Bool, true, false, List, [], Option, Some, None, Result, Ok, Err, inl, inr, refl, sym, ap, ◌∙◌, subst}
+use Rattle.std.specs.Prelude.{IfSome, IfErr, IsErrAnd, OnOk, nat_lt, length, if◌then◌else◌}
+use Rattle.io_edges.specs.Files.{content, Writes}
+use Rattle.io_edges.specs.declared.files.FileAnswer.{FileAnswer}
+use Rattle.io_edges.specs.declared.files.TheConstants.{MAX_FILE}
+use Rattle.reg_assign.specs.declared.interval.RegClass.{RegClass}
+use Rattle.kernel_compile.specs.declared.fault.CompileFault.{CompileFault}
+use Rattle.kernel_compile.specs.declared.fault.CompileFault.TheVariants as compiling
+use Rattle.kernel_compile.specs.Refusals.{too_many, IsRefusal}
 use Rattle.command_line.specs.Line.{Line, CompileLine}
 use Rattle.machine_model.specs.declared.elf_fault.ElfFault.{ElfFault}
 use Rattle.machine_model.specs.declared.elf_fault.ElfFault.TheVariants as elf
@@ -15,12 +20,12 @@ use Rattle.kernel_front.specs.declared.fault.KernelFault.{KernelFault}
 use Rattle.kernel_front.specs.declared.fault.KernelFault.TheVariants as kernels
 use Rattle.kernel_front.specs.Verdict.{Verdict, Limited, NoKernel, Refused, Sound, IsVerdict, Explains}
 use Rattle.sve_top.specs.declared.refusal.Refusal.{Refusal}
-use Rattle.sve_top.specs.declared.refusal.Refusal.TheVariants.{Usage, NotYet, Kernel, TooLong, Elf, Map, Memory, File, Output}
-use Rattle.sve_top.specs.Answer.{Held, Work, Answer, answer_of, text_of, of_kernel, of_elf, IsFileAnswer, IsAnswer}
+use Rattle.sve_top.specs.declared.refusal.Refusal.TheVariants.{Usage, TooManyLive, Kernel, TooLong, Elf, Map, Memory, File, Output}
+use Rattle.sve_top.specs.Answer.{Held, Work, Answer, answer_of, text_of, of_kernel, of_compile, of_elf, IsFileAnswer, IsAnswer}
 use Rattle.sve_top.specs.Outputs.{Prints}
 use Rattle.sve_top.proofs.Puts.{prints_none}
 use Rattle.sve_top.specs.Kernels.{IsOfText, IsWorkOn, ByVerdict}
-use Rattle.sve_top.specs.Commands.{AfterRead, OfWanted, RefusesText, RefusesEval, RefusesProgram, IsOfEval, Wants, file_of, map_of, not_compiled, CompilesEarly, CompileWants, IsOfCheck, IsOfList}
+use Rattle.sve_top.specs.Commands.{AfterRead, OfWanted, RefusesText, RefusesEval, RefusesProgram, IsOfEval, Wants, file_of, bytes_of, map_of, compiled, compiled_by, CompilesTo, CompileWants, RefusesCompile, IsOfCheck, IsOfList}
 
 -- ---- verdicts
 
@@ -128,7 +133,7 @@ refused_one x y z wanted next bytes refusal result e is h = λ work w. by refusa
   where
     by : (refusal : Refusal) → result ≡ Err refusal → RefusesText (next bytes) refusal → (work : Work) → next bytes work → AfterRead wanted next work → (other : Work) × AfterRead wanted next other × IsFileAnswer x z (answer_of other) result
     by Memory is h work n w = (work, w, inr (inl is))
-    by NotYet is h work n w = (Err NotYet, subst (λ r. AfterRead r next (Err NotYet)) e (h work n), inl is)
+    by (TooManyLive class need) is h work n w = (Err (TooManyLive class need), subst (λ r. AfterRead r next (Err (TooManyLive class need))) e (h work n), inl is)
     by (Kernel fault) is h work n w = (Err (Kernel fault), subst (λ r. AfterRead r next (Err (Kernel fault))) e (h work n), inl is)
     by Usage is h work n w = absurd h
     by TooLong is h work n w = absurd h
@@ -159,25 +164,76 @@ of_each (Some held) W P Q all h = λ work w. let p = h work w in (p.0, p.1, all 
 
 -- ---- compile
 
-pub compiles_not_yet : (text : List ℕ) (k : Program) → sum_kernel_of text ≡ None → IsVerdict text (Sound k) → RefusesText (CompileWants text) NotYet
-compiles_not_yet text k e h = λ work w. subst (λ o. CompilesEarly o text (Err NotYet)) (sym e) (sound_text not_compiled text k h)
+long : (b : Bool) (text : List ℕ) {bytes : List ℕ} → ◌≡◌ {A = Result (List ℕ) Refusal} (Ok bytes) (if b then Err TooLong else Ok text) → bytes ≡ text
+long true text e = absurd cc
+long false text e = cc
 
-pub compiles_never : (text : List ℕ) (fault : KernelFault) → sum_kernel_of text ≡ None → ((v : Verdict) → IsVerdict text v → Explains v fault) → RefusesText (CompileWants text) (of_kernel fault)
-compiles_never text fault e all = subst (λ o. RefusesText (λ work. CompilesEarly o text work) (of_kernel fault)) (sym e) (refused_text not_compiled text fault all)
+written_at : {old new : Held} {to bytes : List ℕ} {result : Result (Unit {0}) FileAnswer} → Writes (Some old) (Some new) to bytes result → result ≡ Ok tt → content new to ≡ Some bytes
+written_at {new = new} {to = to} {bytes = bytes} {result = result} w ok =
+    ap (λ h. content h to) (some_same w.1) ∙ onto result ok w.2.written
+  where
+    some_same : {a b : Held} → Some a ≡ Some b → a ≡ b
+    some_same e = cc
+
+    onto : (r : Result (Unit {0}) FileAnswer) → r ≡ Ok tt → OnOk r (content w.0 to ≡ Some bytes) → content w.0 to ≡ Some bytes
+    onto (Ok x) e h = h
+    onto (Err f) e h = absurd cc
+
+-- what was written for a text that was read
+pub compiled_file : (x y : ℕ) (old mid new : Option Held) (from to bytes written file : List ℕ) (found : Result (List ℕ) Refusal) (result : Result (Unit {0}) FileAnswer) → found ≡ Ok bytes → IfSome old (λ h. IsFileAnswer x y (file_of h from) found) → mid ≡ old → Writes mid new to written result → result ≡ Ok tt → written ≡ file → CompilesTo bytes file
+    → IfSome old (λ o. IfSome new (λ n. IfSome (content o from) (λ text. (f : List ℕ) × (content n to ≡ Some f) × CompilesTo text f)))
+compiled_file x y None mid new from to bytes written file found result is read same writes ok put h = tt
+compiled_file x y (Some o) mid None from to bytes written file found result is read same writes ok put h = tt
+compiled_file x y (Some o) mid (Some n) from to bytes written file found result is read same writes ok put h =
+    by (content o from) (read_is x y (file_of o from) bytes (subst (IsFileAnswer x y (file_of o from)) is read))
+  where
+    stands : content n to ≡ Some file
+    stands = written_at (subst (λ m. Writes m (Some n) to written result) same writes) ok ∙ ap (λ b. Some b) put
+
+    text_is : (text : List ℕ) → Ok bytes ≡ bytes_of (Some text) → bytes ≡ text
+    text_is text e = long (nat_lt MAX_FILE (length text)) text e
+
+    by : (c : Option (List ℕ)) → Ok bytes ≡ bytes_of c → IfSome c (λ text. (f : List ℕ) × (content n to ≡ Some f) × CompilesTo text f)
+    by None e = tt
+    by (Some text) e = (file, stands, subst (λ t. CompilesTo t file) (text_is text e) h)
+
+-- a refusal of the compiler is that of a kernel with too many live values, or want of memory
+pub refuses_compile : {T : Type 0} (k : Program) (fault : CompileFault) (result : Result T Refusal) → IsErrAnd result (λ r. r ≡ of_compile fault) → IsRefusal k fault → IfErr result (RefusesCompile k)
+refuses_compile k fault (Ok x) is h = tt
+refuses_compile k fault (Err r) is h = subst (RefusesCompile k) (sym is) (by fault h)
+  where
+    by : (fault : CompileFault) → IsRefusal k fault → RefusesCompile k (of_compile fault)
+    by (compiling.TooManyLive class n) h = ap (compiled_by k) h.0 ∙ ap (λ m. Err (TooManyLive class m)) (sym h.1)
+    by compiling.Memory h = tt
+
+pub compile_refusal : {T : Type 0} (text : List ℕ) (k : Program) (refusal : Refusal) (result : Result T Refusal) → IsVerdict text (Sound k) → IsErrAnd result (λ r. r ≡ refusal) → RefusesCompile k refusal → IfErr result (λ r. RefusesText (CompileWants text) r)
+compile_refusal text k refusal (Ok x) v is h = tt
+compile_refusal text k refusal (Err r) v is h = subst (RefusesText (CompileWants text)) (sym is) (by refusal h)
+  where
+    by : (refusal : Refusal) → RefusesCompile k refusal → RefusesText (CompileWants text) refusal
+    by Memory h = tt
+    by (TooManyLive class need) h = λ work w. subst (ByVerdict compiled text) h (sound_text compiled text k v)
+    by Usage h = absurd h
+    by (Kernel fault) h = absurd h
+    by TooLong h = absurd h
+    by (Elf fault) h = absurd h
+    by (Map fault) h = absurd h
+    by File h = absurd h
+    by Output h = absurd h
 
 -- what is wanted of `compile` has no text
-no_text : (v : Verdict) (work : Work) → IsWorkOn not_compiled v work → text_of work ≡ []
+no_own_text : (k : Program) (o : Option RegClass) → text_of (compiled_by k o) ≡ []
+no_own_text k None = refl
+no_own_text k (Some class) = refl
+
+no_text : (v : Verdict) (work : Work) → IsWorkOn compiled v work → text_of work ≡ []
 no_text (Limited fault) work w = ap text_of w.work_is
 no_text NoKernel work w = ap text_of w.work_is
 no_text (Refused refusal) work w = ap text_of w.work_is
-no_text (Sound k) work w = ap text_of w
-
-no_early_text : (o : Option SumKernel) (text : List ℕ) (work : Work) → CompilesEarly o text work → text_of work ≡ []
-no_early_text (Some k) text work w = ap text_of w
-no_early_text None text work w = no_text w.verdict work w.wanted
+no_text (Sound k) work w = ap text_of w ∙ no_own_text k (too_many k)
 
 pub compile_silent : (r : Result (List ℕ) Refusal) (work : Work) → AfterRead r CompileWants work → text_of work ≡ []
-compile_silent (Ok text) work w = no_early_text (sum_kernel_of text) text work w
+compile_silent (Ok text) work w = no_text w.verdict work w.wanted
 compile_silent (Err refusal) work w = ap text_of w
 
 -- ---- which refusals come of which command
@@ -230,7 +286,7 @@ eval_refusal sound text k refusal (Err r) v is h of = subst (RefusesEval (ByVerd
     by (Map fault) h of = subst (ByVerdict sound text) h (sound_text sound text k v)
     by (Elf fault) h of = absurd of
     by Usage h of = absurd h
-    by NotYet h of = absurd h
+    by (TooManyLive class need) h of = absurd h
     by (Kernel fault) h of = absurd h
     by TooLong h of = absurd h
     by File h of = absurd h
@@ -257,7 +313,7 @@ refused_two x z a b text map next refusal result e f is h = λ work w. by refusa
     by Memory is h work w = (work, w, inr (inl is))
     by (Kernel fault) is h work w = (Err (Kernel fault), into (Err (Kernel fault)) (h work (out work w)), inl is)
     by (Map fault) is h work w = (Err (Map fault), into (Err (Map fault)) h, inl is)
-    by NotYet is h work w = absurd h
+    by (TooManyLive class need) is h work w = absurd h
     by Usage is h work w = absurd h
     by TooLong is h work w = absurd h
     by (Elf fault) is h work w = absurd h

@@ -1,10 +1,10 @@
 -- What a command comes to, and what its call answers.
-use Rattle.std.specs.Prelude.{◌≡◌, ℕ, ◌⊎◌, List, [], Result, Ok, Err}
+use Rattle.std.specs.Prelude.{◌≡◌, ℕ, ◌⊎◌, List, [], Option, Result, Ok, Err}
 use Rattle.io_edges.specs.Files.{Rose}
 use Rattle.io_edges.specs.declared.files.FileAnswer.{FileAnswer}
 use Rattle.io_edges.specs.declared.files.FileAnswer.TheVariants as files
-use Rattle.early_kernel.specs.declared.compile.EarlyFault.{EarlyFault}
-use Rattle.early_kernel.specs.declared.compile.EarlyFault.TheVariants as early
+use Rattle.kernel_compile.specs.declared.fault.CompileFault.{CompileFault}
+use Rattle.kernel_compile.specs.declared.fault.CompileFault.TheVariants as compiling
 use Rattle.kernel_syntax.specs.declared.fault.ReadFault.TheVariants as reading
 use Rattle.kernel_types.specs.declared.fault.TypeFault.TheVariants as typing
 use Rattle.kernel_front.specs.declared.fault.KernelFault.{KernelFault}
@@ -14,7 +14,7 @@ use Rattle.map_text.specs.declared.fault.MapFault.TheVariants as maps
 use Rattle.machine_model.specs.declared.elf_fault.ElfFault.{ElfFault}
 use Rattle.machine_model.specs.declared.elf_fault.ElfFault.TheVariants as elf
 use Rattle.sve_top.specs.declared.refusal.Refusal.{Refusal}
-use Rattle.sve_top.specs.declared.refusal.Refusal.TheVariants.{Usage, NotYet, Kernel, TooLong, Elf, Map, Memory, File, Output}
+use Rattle.sve_top.specs.declared.refusal.Refusal.TheVariants.{Usage, TooManyLive, Kernel, TooLong, Elf, Map, Memory, File, Output}
 use Rattle.sve_top.specs.declared.refusal.Done.{Done}
 use Rattle.sve_top.specs.declared.refusal.Done.TheVariants as done
 
@@ -52,7 +52,7 @@ status_of_done done.Spent = 6
 
 abbrev pub status_of_refusal : Refusal → ℕ
 status_of_refusal Usage = 2
-status_of_refusal NotYet = 3
+status_of_refusal (TooManyLive class need) = 3
 status_of_refusal (Kernel fault) = 3
 status_of_refusal TooLong = 4
 status_of_refusal (Elf fault) = 4
@@ -103,9 +103,9 @@ of_files files.Failed = File
 of_files files.TooLong = TooLong
 of_files files.Memory = Memory
 
-abbrev pub of_early : EarlyFault → Refusal
-of_early early.NotYet = NotYet
-of_early early.Memory = Memory
+abbrev pub of_compile : CompileFault → Refusal
+of_compile (compiling.TooManyLive class need) = TooManyLive class need
+of_compile compiling.Memory = Memory
 
 abbrev pub of_elf : ElfFault → Refusal
 of_elf elf.Memory = Memory
@@ -119,3 +119,14 @@ abbrev pub of_kernel : KernelFault → Refusal
 of_kernel (kernels.Unread reading.Memory) = Memory
 of_kernel (kernels.Broken typing.Memory) = Memory
 of_kernel fault = Kernel fault
+
+-- ---- what a command leaves
+
+-- a refusal, and not a command that is done
+abbrev pub IsRefusal : Work → Type 0
+IsRefusal (Ok deed) = ⊥
+IsRefusal (Err refusal) = Unit {0}
+
+-- a command that is to be refused changes no file, whatever its status
+abbrev pub Unwritten : Work → Option Held → Option Held → Type 0
+Unwritten work old new = IsRefusal work → new ≡ old

@@ -1,10 +1,7 @@
 -- What each command comes to, and what it leaves.
-use Rattle.std.specs.Prelude.{◌≡◌, ◌≢◌, ℕ, ◌⊎◌, List, [], ◌++◌, length, Option, Some, None, IfSome, IsSome, Vec, Result, Ok, Err, nat_lt, nat_le, if◌then◌else◌}
+use Rattle.std.specs.Prelude.{◌≡◌, ◌≢◌, ℕ, ◌⊎◌, List, [], ◌++◌, length, Option, Some, None, IfSome, IsSome, IfOk, Vec, Result, Ok, Err, nat_lt, nat_le, if◌then◌else◌}
 use Rattle.io_edges.specs.Files.{content}
 use Rattle.io_edges.specs.declared.files.TheConstants.{MAX_FILE}
-use Rattle.early_kernel.specs.Sum.{SumKernel}
-use Rattle.early_kernel.specs.Reads.{sum_kernel_of}
-use Rattle.early_kernel.specs.Compiles.{CompilesTo}
 use Rattle.guest_types.specs.Memory.{Memory}
 use Rattle.machine_model.specs.declared.elf_fault.ElfFault.{ElfFault}
 use Rattle.machine_model.specs.declared.outcome.Outcome.{Outcome as OutcomeAnswer}
@@ -23,10 +20,18 @@ use Rattle.map_text.specs.Mapping.{map_of as pages_of}
 use Rattle.kernel_tree.specs.Plain.{Program}
 use Rattle.kernel_syntax.specs.declared.fault.ReadFault.TheVariants as reading
 use Rattle.kernel_front.specs.declared.fault.KernelFault.TheVariants as kernels
+use Rattle.kernel_front.specs.Verdict.{Sound, IsVerdict}
+use Rattle.reg_assign.specs.declared.interval.RegClass.{RegClass}
+use Rattle.loop_form.specs.Needs.{needs_of}
+use Rattle.dependence.specs.declared.reason.Class.TheVariants.{Scalar}
+use Rattle.dependence.specs.declared.reason.Why.{Why}
+use Rattle.dependence.specs.Classes.{class_of}
+use Rattle.kernel_compile.specs.Faithful.{FreeSlowFaithful, FreeFaithful}
+use Rattle.kernel_compile.specs.Refusals.{too_many, need_in}
 use Rattle.check_text.specs.CheckText.{check_text}
 use Rattle.command_line.specs.Line.{Line, Task, Extent, CompileLine, CheckLine, EvalLine, ListLine, RunLine}
 use Rattle.sve_top.specs.declared.refusal.Refusal.{Refusal}
-use Rattle.sve_top.specs.declared.refusal.Refusal.TheVariants.{Usage, NotYet, Kernel, TooLong, Elf, Map, Memory as NoMemory, File, Output}
+use Rattle.sve_top.specs.declared.refusal.Refusal.TheVariants.{Usage, TooManyLive, Kernel, TooLong, Elf, Map, Memory as NoMemory, File, Output}
 use Rattle.sve_top.specs.declared.refusal.Done.{Done}
 use Rattle.sve_top.specs.declared.refusal.Done.TheVariants as done
 use Rattle.sve_top.specs.declared.played.Played.{Played}
@@ -89,17 +94,18 @@ beside image text = mapped (pages_of text image.pages)
 abbrev pub ended : List ℕ → Work
 ended text = Ok (record { how = done.Ended; text = text })
 
--- kernels that are not compiled yet
-abbrev pub not_compiled : Program → Work
-not_compiled k = Err NotYet
+-- by the class of which too many values are live
+abbrev pub compiled_by : Program → Option RegClass → Work
+compiled_by k None = ended []
+compiled_by k (Some class) = Err (TooManyLive class (need_in (needs_of k) class))
 
-abbrev pub CompilesEarly : Option SumKernel → List ℕ → Work → Type 0
-CompilesEarly (Some k) text work = work ≡ ended []
-CompilesEarly None text work = ByVerdict not_compiled text work
+-- a sound kernel is compiled, unless more of its values are live than there are registers for them
+abbrev pub compiled : Program → Work
+compiled k = compiled_by k (too_many k)
 
 -- what is wanted of the text of a kernel
 abbrev pub CompileWants : List ℕ → Work → Type 0
-CompileWants text work = CompilesEarly (sum_kernel_of text) text work
+CompileWants text work = ByVerdict compiled text work
 
 -- ---- check
 
@@ -231,28 +237,28 @@ IsOfCompile (Err refusal) = Unit {0}
 abbrev pub IsOfCheck : Answer → Type 0
 IsOfCheck (Ok how) = how ≡ done.Ended
 IsOfCheck (Err Usage) = ⊥
-IsOfCheck (Err NotYet) = ⊥
+IsOfCheck (Err (TooManyLive class need)) = ⊥
 IsOfCheck (Err (Elf fault)) = ⊥
 IsOfCheck (Err (Map fault)) = ⊥
 IsOfCheck (Err refusal) = Unit {0}
 
 abbrev pub IsOfEval : Answer → Type 0
 IsOfEval (Err Usage) = ⊥
-IsOfEval (Err NotYet) = ⊥
+IsOfEval (Err (TooManyLive class need)) = ⊥
 IsOfEval (Err (Elf fault)) = ⊥
 IsOfEval answer = Unit {0}
 
 abbrev pub IsOfList : Answer → Type 0
 IsOfList (Ok how) = how ≡ done.Ended
 IsOfList (Err Usage) = ⊥
-IsOfList (Err NotYet) = ⊥
+IsOfList (Err (TooManyLive class need)) = ⊥
 IsOfList (Err (Kernel fault)) = ⊥
 IsOfList (Err (Map fault)) = ⊥
 IsOfList (Err refusal) = Unit {0}
 
 abbrev pub IsOfRun : Answer → Type 0
 IsOfRun (Err Usage) = ⊥
-IsOfRun (Err NotYet) = ⊥
+IsOfRun (Err (TooManyLive class need)) = ⊥
 IsOfRun (Err (Kernel fault)) = ⊥
 IsOfRun answer = Unit {0}
 
@@ -292,14 +298,20 @@ RefusesProgram wanted refusal = ⊥
 -- a refusal of a kernel's text is wanted wherever something is, or it is want of memory
 abbrev pub RefusesText : (Work → Type 0) → Refusal → Type 0
 RefusesText W NoMemory = Unit {0}
-RefusesText W NotYet = (work : Work) → W work → W (Err NotYet)
+RefusesText W (TooManyLive class need) = (work : Work) → W work → W (Err (TooManyLive class need))
 RefusesText W (Kernel fault) = (work : Work) → W work → W (Err (Kernel fault))
 RefusesText W refusal = ⊥
+
+-- a refusal of a sound kernel by the compiler
+abbrev pub RefusesCompile : Program → Refusal → Type 0
+RefusesCompile k NoMemory = Unit {0}
+RefusesCompile k (TooManyLive class need) = compiled k ≡ Err (TooManyLive class need)
+RefusesCompile k refusal = ⊥
 
 -- The same of `eval`, whose map may be refused too.
 abbrev pub RefusesEval : (Work → Type 0) → Refusal → Type 0
 RefusesEval W (Map fault) = W (Err (Map fault))
-RefusesEval W NotYet = ⊥
+RefusesEval W (TooManyLive class need) = ⊥
 RefusesEval W refusal = RefusesText W refusal
 
 -- what a run that was played comes to
@@ -314,10 +326,18 @@ done_of outcomes.Spent = done.Spent
 
 -- ---- what is left of the files
 
--- at status 0 the one file compiles the kernel that the other held
+-- The text is that of a sound kernel, and the file is faithful to it, whatever stop list a machine has: within the bound that counts
+-- iterations, and where the class is Scalar within the one that counts chunks, which is then the same.
+pub record CompilesTo (text file : List ℕ) : Type 0 where
+  pub kernel : Program
+  pub sound : IsVerdict text (Sound kernel)
+  pub faithful : FreeSlowFaithful kernel file
+  pub scalar : (why : Why) → class_of kernel ≡ Scalar why → FreeFaithful kernel file
+
+-- at status 0 the one file is faithful to the kernel that the other held
 abbrev pub Compiled : Held → Held → Line → Type 0
 Compiled old new (CompileLine from to) =
-    IfSome (content old from) (λ text. (file : List ℕ) × (content new to ≡ Some file) × CompilesTo (sum_kernel_of text) file)
+    IfSome (content old from) (λ text. (file : List ℕ) × (content new to ≡ Some file) × CompilesTo text file)
 Compiled old new line = Unit {0}
 
 -- every name but the output's of `compile` has what it had
@@ -330,10 +350,10 @@ abbrev pub IsMapHeld : Held → Option (List ℕ) → Type 0
 IsMapHeld held None = Unit {0}
 IsMapHeld held (Some name) = IsSome (content held name)
 
--- the files that are read are held
+-- the files that are read are held: the map only where the file before it can be read
 abbrev pub IsHeld : Held → Line → Type 0
 IsHeld held (CompileLine from to) = IsSome (content held from)
 IsHeld held (CheckLine from) = IsSome (content held from)
-IsHeld held (EvalLine task) = IsSome (content held task.file) × IsMapHeld held task.map
+IsHeld held (EvalLine task) = IsSome (content held task.file) × IfOk (file_of held task.file) (λ text. IsMapHeld held task.map)
 IsHeld held (ListLine from) = IsSome (content held from)
-IsHeld held (RunLine vl task) = IsSome (content held task.file) × IsMapHeld held task.map
+IsHeld held (RunLine vl task) = IsSome (content held task.file) × IfOk (file_of held task.file) (λ bytes. IsMapHeld held task.map)

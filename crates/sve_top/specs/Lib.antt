@@ -4,3 +4,4 @@ pub mod Answer
 pub mod Kernels
 pub mod Commands
 pub mod Outputs
+pub mod Does

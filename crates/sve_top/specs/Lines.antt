@@ -10,10 +10,12 @@ use Rattle.kernel_front.specs.declared.fault.KernelFault.{KernelFault}
 use Rattle.kernel_front.specs.declared.fault.KernelFault.TheVariants as kernels
 use Rattle.machine_model.specs.declared.elf_fault.ElfFault.{ElfFault}
 use Rattle.machine_model.specs.declared.elf_fault.ElfFault.TheVariants as elf
+use Rattle.reg_assign.specs.declared.interval.RegClass.{RegClass}
+use Rattle.reg_assign.specs.declared.interval.RegClass.TheVariants.{Z, P, X}
 use Rattle.map_text.specs.declared.fault.MapFault.{MapFault}
 use Rattle.map_text.specs.declared.fault.MapFault.TheVariants as maps
 use Rattle.sve_top.specs.declared.refusal.Refusal.{Refusal}
-use Rattle.sve_top.specs.declared.refusal.Refusal.TheVariants.{Usage, NotYet, Kernel, TooLong, Elf, Map, Memory, File, Output}
+use Rattle.sve_top.specs.declared.refusal.Refusal.TheVariants.{Usage, TooManyLive, Kernel, TooLong, Elf, Map, Memory, File, Output}
 
 abbrev pub line_feed : List ℕ
 line_feed = 10 ∷ []
@@ -56,6 +58,12 @@ abbrev pub line_of_kernel : KernelFault → List ℕ
 line_of_kernel (kernels.Unread fault) = line_of_reading fault
 line_of_kernel (kernels.Broken fault) = line_of_typing fault
 
+-- of a kernel of which more values are live than there are registers of a class
+abbrev pub line_of_need : RegClass → ℕ → List ℕ
+line_of_need Z need = numbered (codes "svec: kernel: too many live z ") need
+line_of_need P need = numbered (codes "svec: kernel: too many live p ") need
+line_of_need X need = numbered (codes "svec: kernel: too many live x ") need
+
 -- why a file is no program that can be loaded
 abbrev pub line_of_fault : ElfFault → List ℕ
 line_of_fault (elf.Short need have) = codes "svec: file: short " ++ (decimal need ++ (codes " " ++ (decimal have ++ line_feed)))
@@ -77,7 +85,7 @@ line_of_map maps.Memory = line (codes "out of memory")
 
 abbrev pub line_of_refusal : Refusal → List ℕ
 line_of_refusal Usage = line (codes "usage")
-line_of_refusal NotYet = line (codes "kernel: not yet")
+line_of_refusal (TooManyLive class need) = line_of_need class need
 line_of_refusal (Kernel fault) = line_of_kernel fault
 line_of_refusal TooLong = line (codes "file: too long")
 line_of_refusal (Elf fault) = line_of_fault fault

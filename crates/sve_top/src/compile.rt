@@ -1,42 +1,46 @@
 //! The command `compile IN OUT`.
 
-ghost use Rattle.std.specs.Prelude.{◌≡◌, ◌≢◌, Some, None, Err, IfSome, IsSome, IfOk, IfErr, OnOk, IsTrue, []};
+ghost use Rattle.std.specs.Prelude.{◌≡◌, ◌≢◌, ◌≤◌, Some, Err, IfSome, IsSome, IfOk, IfErr, OnOk, IsTrue, []};
 ghost use Rattle.io_edges.specs.Files.{Rose, content};
 ghost use Rattle.command_line.specs.Line.{CompileLine};
-ghost use Rattle.early_kernel.specs.Reads.{sum_kernel_of};
-ghost use Rattle.early_kernel.specs.Compiles.{CompilesTo};
-ghost use Rattle.sve_top.specs.Answer.{answer_of, IsFileAnswer, IsKept};
-ghost use Rattle.sve_top.specs.Commands.{Wants, OfWanted, CompileWants, RefusesText, ended, IsOfCompile, Compiled, OthersKept};
+ghost use Rattle.kernel_tree.specs.Plain.{program_of};
+ghost use Rattle.kernel_tree.specs.Checked.{kernel_of};
+ghost use Rattle.kernel_compile.specs.Faithful.{FreeSlowFaithful};
+ghost use Rattle.sve_top.specs.Answer.{answer_of, IsFileAnswer, IsKept, Unwritten};
+ghost use Rattle.sve_top.specs.Commands.{Wants, OfWanted, CompileWants, CompilesTo, RefusesText, compiled, ended, IsOfCompile, Compiled, OthersKept, RefusesCompile};
 
 use crate::files::read_file;
 use crate::refusal::{Done, Refusal};
-use early_kernel::compile::{EarlyFault, compile_early};
+use elf_image::write_elf;
 use io_edges::files::Files;
+use kernel_compile::{compile_kernel, scalar_files};
 use kernel_front::accept;
+use kernel_tree::Checked;
+use loop_form::laws::few_items;
 use std::alloc::Global;
 
-// Why a text that is none of the first kernels is not compiled.
-fn why_not(alloc: Global, text: &[u8]) -> Refusal
-    requires { sum_kernel_of text.now ≡ None }
-    ensures { RefusesText (CompileWants text.now) result }
+// The executable of a kernel.
+fn executable(alloc: Global, kernel: &Checked) -> Result<Vec<u8>, Refusal>
+    ensures faithful { IfOk result (λ file. FreeSlowFaithful (program_of (kernel_of kernel.now)) file.items) }
+    ensures wanted { OnOk result (compiled (program_of (kernel_of kernel.now)) ≡ ended []) }
+    ensures refusal { IfErr result (RefusesCompile (program_of (kernel_of kernel.now))) }
 {
-    let Err(fault) = accept(alloc, text) else {
-        return Refusal::NotYet;
-    };
-    Refusal::from(fault)
+    few_items(kernel);
+    let code = compile_kernel(alloc, kernel)?;
+    let file = write_elf(alloc, &code.words)?;
+    Ok(file)
 }
 
 // The executable of a text.
 fn compile_text(alloc: Global, text: &[u8]) -> Result<Vec<u8>, Refusal>
-    ensures file { IfOk result (λ file. CompilesTo (sum_kernel_of text.now) file.items) }
-    ensures wanted { IfOk result (λ file. CompileWants text.now (ended [])) }
+    ensures file { IfOk result (λ file. CompilesTo text.now file.items) }
+    ensures wanted { OnOk result (CompileWants text.now (ended [])) }
     ensures refusal { IfErr result (λ refusal. RefusesText (CompileWants text.now) refusal) }
 {
-    match compile_early(alloc, text) {
-        Ok(file) => Ok(file),
-        Err(EarlyFault::NotYet) => Err(why_not(alloc, text)),
-        Err(EarlyFault::Memory) => Err(Refusal::Memory),
-    }
+    let kernel = accept(alloc, text)?;
+    scalar_files();
+    let file = executable(alloc, &kernel)?;
+    Ok(file)
 }
 
 /// Compiles the kernel under one name to an executable under another.
@@ -52,6 +56,8 @@ pub fn compile<F: Files>(
     ensures kept { IsKept result → F.held files.new ≡ F.held files.old }
     ensures failed { result ≡ Err Refusal.File → Rose (F.faults files.old) (F.faults files.new) }
     ensures steady { IsTrue (F.steady files.old) → IfSome (F.held files.old) (λ held. IsSome (content held from.now) → result ≢ Err Refusal.File) }
+    ensures unwritten { IfSome (F.held files.old) (λ held. OfWanted (Wants held (Some (CompileLine from.now to.now)))
+        (λ work. Unwritten work (F.held files.old) (F.held files.new))) }
     ensures of_compile { IsOfCompile result }
 {
     let text = read_file(alloc, from, files)?;

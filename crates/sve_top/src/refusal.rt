@@ -1,16 +1,17 @@
 //! What a command comes to.
 
 ghost use Rattle.std.specs.Prelude.{◌≡◌};
-ghost use Rattle.sve_top.specs.Answer.{status_of_done, status_of_refusal, of_files, of_early, of_kernel, of_elf, of_map};
+ghost use Rattle.sve_top.specs.Answer.{status_of_done, status_of_refusal, of_files, of_compile, of_kernel, of_elf, of_map};
 
-use early_kernel::compile::EarlyFault;
 use io_edges::files::FileAnswer;
 use io_edges::sink::Failed;
+use kernel_compile::CompileFault;
 use kernel_front::KernelFault;
 use kernel_syntax::ReadFault;
 use kernel_types::TypeFault;
 use machine_model::elf_fault::ElfFault;
 use map_text::MapFault;
+use reg_assign::RegClass;
 use std::alloc::AllocError;
 use thiserror::Error;
 
@@ -40,9 +41,9 @@ impl Done {
 pub enum Refusal {
     #[error("usage")]
     Usage,
-    /// The kernel is sound, and none of those that are compiled yet.
-    #[error("kernel: not yet")]
-    NotYet,
+    /// The kernel is sound, and so many of its values are live at once that there are fewer registers of the class.
+    #[error("kernel: {}", too_many(.class, .need))]
+    TooManyLive { class: RegClass, need: u32 },
     /// The text is no kernel, or one that breaks a rule.
     #[error("kernel: {0}")]
     Kernel(KernelFault),
@@ -69,7 +70,7 @@ impl Refusal {
     {
         match self {
             Refusal::Usage => 2,
-            Refusal::NotYet => 3,
+            Refusal::TooManyLive { .. } => 3,
             Refusal::Kernel(_) => 3,
             Refusal::TooLong => 4,
             Refusal::Elf(_) => 4,
@@ -93,13 +94,21 @@ impl From<FileAnswer> for Refusal {
     }
 }
 
-impl From<EarlyFault> for Refusal {
-    ghost from_gives = { λ fault refusal. refusal ≡ of_early fault };
+// The fault of the compiler, which has the text.
+fn too_many(class: &RegClass, need: &u32) -> CompileFault {
+    CompileFault::TooManyLive {
+        class: *class,
+        need: *need,
+    }
+}
 
-    fn from(fault: EarlyFault) -> Refusal {
+impl From<CompileFault> for Refusal {
+    ghost from_gives = { λ fault refusal. refusal ≡ of_compile fault };
+
+    fn from(fault: CompileFault) -> Refusal {
         match fault {
-            EarlyFault::NotYet => Refusal::NotYet,
-            EarlyFault::Memory => Refusal::Memory,
+            CompileFault::TooManyLive { class, need } => Refusal::TooManyLive { class, need },
+            CompileFault::Memory => Refusal::Memory,
         }
     }
 }

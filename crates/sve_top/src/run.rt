@@ -14,21 +14,22 @@ ghost use Rattle.sve_top.specs.Outputs.{Prints};
 use crate::files::{read_file, read_map_file};
 use crate::played::{Played, push_dump};
 use crate::refusal::{Done, Refusal};
-use a64_run::Machine;
 use command_line::command::Task;
 use elf_image::load_elf;
 use guest_types::image::{Image, PageMap};
 use guest_types::length::Vl;
 use io_edges::files::Files;
 use io_edges::sink::{Sink, put_all};
+use machine_model::debuggee::Debuggee;
 use machine_model::outcome::Outcome;
 use map_text::read_map;
 use outcome_text::outcome_text;
 use paged_memory::pages::Pages;
 use std::alloc::{AllocError, Global};
+use sve_machine::Machine;
 
 // A machine with the pages of an image and a map.
-#[tactic(auto, unfolding(machine_model::specs::Run::start, a64_run::specs::Shown::start_of))]
+#[tactic(auto, unfolding(machine_model::specs::Run::start, sve_machine::specs::Views::start_of))]
 fn machine_of(
     alloc: Global,
     image: &Image,

@@ -10,8 +10,10 @@ use io_edges::sink::{Failed, Sink};
 use std::alloc::{AllocError, Global};
 use std::test::Fail;
 
+mod compiled;
 mod evaluation;
 mod language;
+mod vectors;
 
 // The first 24 bytes of an executable for 64-bit Arm, from another linker's output for the same layout.
 const HEADER: [u8; 24] = [
@@ -157,7 +159,6 @@ fn other_texts_are_refused(rt: HostRuntime) -> Result<(), Fail> {
             b"svec: kernel: syntax at token 13\n".as_slice(),
         ),
         (b"", b"svec: kernel: syntax at token 0\n"),
-        (b"kernel f(x: u8) { }", b"svec: kernel: not yet\n"),
         (
             b"kernel f(x: u64) -> u64 { return y + 1; }",
             b"svec: kernel: unknown name at item 1\n",

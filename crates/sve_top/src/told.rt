@@ -3,7 +3,7 @@
 ghost use Rattle.std.specs.Prelude.{◌≡◌, map};
 ghost use Rattle.std.specs.List.{concat};
 ghost use Rattle.command_line.specs.Seen.{bytes_left};
-ghost use Rattle.sve_top.specs.Lines.{line_feed, numbered, mismatch, line_of_fault, line_of_reading, line_of_typing, line_of_kernel, line_of_map, line_of_refusal};
+ghost use Rattle.sve_top.specs.Lines.{line_feed, numbered, mismatch, line_of_fault, line_of_reading, line_of_typing, line_of_kernel, line_of_need, line_of_map, line_of_refusal};
 ghost use Rattle.sve_top.specs.Outputs.{PutsText};
 ghost use Rattle.kernel_tree.specs.Printing.{type_text};
 
@@ -16,6 +16,7 @@ use kernel_tree::Ty;
 use kernel_types::TypeFault;
 use machine_model::elf_fault::ElfFault;
 use map_text::MapFault;
+use reg_assign::RegClass;
 
 // Puts texts one after another.
 fn put_parts<S: Sink>(sink: &mut S, parts: &[&[u8]]) -> Result<(), Failed>
@@ -176,6 +177,18 @@ fn put_typing<S: Sink>(sink: &mut S, fault: TypeFault) -> Result<(), Failed>
     }
 }
 
+// Puts that too many values of a class are live.
+fn put_need<S: Sink>(sink: &mut S, class: RegClass, need: u32) -> Result<(), Failed>
+    ensures { PutsText (S.taken sink.old) (S.taken sink.new) (S.faults sink.old) (S.faults sink.new) (line_of_need class need) result }
+{
+    let need = u64::from(need);
+    match class {
+        RegClass::Z => put_numbered(sink, b"svec: kernel: too many live z ", need),
+        RegClass::P => put_numbered(sink, b"svec: kernel: too many live p ", need),
+        RegClass::X => put_numbered(sink, b"svec: kernel: too many live x ", need),
+    }
+}
+
 // Puts why a text is no kernel that can be compiled or run.
 fn put_kernel<S: Sink>(sink: &mut S, fault: KernelFault) -> Result<(), Failed>
     ensures { PutsText (S.taken sink.old) (S.taken sink.new) (S.faults sink.old) (S.faults sink.new) (line_of_kernel fault) result }
@@ -223,7 +236,7 @@ pub fn put_refusal<S: Sink>(sink: &mut S, refusal: Refusal) -> Result<(), Failed
 {
     match refusal {
         Refusal::Usage => put(sink, b"svec: usage\n"),
-        Refusal::NotYet => put(sink, b"svec: kernel: not yet\n"),
+        Refusal::TooManyLive { class, need } => put_need(sink, class, need),
         Refusal::Kernel(fault) => put_kernel(sink, fault),
         Refusal::TooLong => put(sink, b"svec: file: too long\n"),
         Refusal::Elf(fault) => put_fault(sink, fault),

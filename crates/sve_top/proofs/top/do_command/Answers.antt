@@ -2,10 +2,10 @@ use Rattle.std.proofs.Common.{Some, ap, sym, ◌∙◌}
 use Rattle.std.specs.Prelude.{string_bytes}
 use Rattle.command_line.specs.Line.{CompileLine, CheckLine, EvalLine}
 use Rattle.command_line.specs.Seen.{command_seen, task_seen}
-use Rattle.sve_top.specs.Answer.{answer_of, text_of, IsAnswer}
+use Rattle.sve_top.specs.Answer.{answer_of, text_of, IsAnswer, Unwritten}
 use Rattle.sve_top.specs.Commands.{Wants}
 use Rattle.sve_top.specs.Outputs.{Prints}
-use Rattle.sve_top.proofs.Wanted.{by_line, with_output, prints_silent}
+use Rattle.sve_top.proofs.Wanted.{by_line, with_output, prints_silent, of_every}
 use Rattle.sve_top.proofs.top.do_command.Goals as goal
 
 pub returns-in-Compile-clause-answer : goal.returns-in-Compile-clause-answer
@@ -50,3 +50,30 @@ returns-in-Eval-clause-printed g c =
     (λ work. Prints (g.S.Sink.taken c.args.out.now) (g.S.Sink.taken c.eval.new.out) (text_of work) c.eval.result)
     (ap (λ l. Some l) (ap command_seen c.in-Eval.is))
     c.eval.ensures.printed
+
+pub returns-in-Compile-clause-unwritten : goal.returns-in-Compile-clause-unwritten
+returns-in-Compile-clause-unwritten g c =
+    by_line (g.F.Files.held c.args.files.now) (Some (command_seen c.args.command.now)) (Some (CompileLine c.as_str.result.now c.as_str-in-Compile.result.now))
+    (λ work. Unwritten work (g.F.Files.held c.args.files.now) (g.F.Files.held c.compile.new.files))
+    (ap (λ l. Some l) (ap command_seen c.in-Compile.is ∙ ap (λ a. CompileLine a (string_bytes c.in-Compile.to)) (sym c.as_str.ensures.value) ∙ ap (λ b. CompileLine c.as_str.result.now b) (sym c.as_str-in-Compile.ensures.value)))
+    c.compile.ensures.unwritten
+
+pub returns-in-Check-clause-unwritten : goal.returns-in-Check-clause-unwritten
+returns-in-Check-clause-unwritten g c =
+    of_every (g.F.Files.held c.args.files.now) (λ h. Wants h (Some (command_seen c.args.command.now)))
+    (λ work. Unwritten work (g.F.Files.held c.args.files.now) (g.F.Files.held c.check.new.files)) (λ work r. c.check.ensures.held)
+
+pub returns-in-Eval-clause-unwritten : goal.returns-in-Eval-clause-unwritten
+returns-in-Eval-clause-unwritten g c =
+    of_every (g.F.Files.held c.args.files.now) (λ h. Wants h (Some (command_seen c.args.command.now)))
+    (λ work. Unwritten work (g.F.Files.held c.args.files.now) (g.F.Files.held c.eval.new.files)) (λ work r. c.eval.ensures.held)
+
+pub returns-in-List-clause-unwritten : goal.returns-in-List-clause-unwritten
+returns-in-List-clause-unwritten g c =
+    of_every (g.F.Files.held c.args.files.now) (λ h. Wants h (Some (command_seen c.args.command.now)))
+    (λ work. Unwritten work (g.F.Files.held c.args.files.now) (g.F.Files.held c.list.new.files)) (λ work r. c.list.ensures.held)
+
+pub returns-in-Run-clause-unwritten : goal.returns-in-Run-clause-unwritten
+returns-in-Run-clause-unwritten g c =
+    of_every (g.F.Files.held c.args.files.now) (λ h. Wants h (Some (command_seen c.args.command.now)))
+    (λ work. Unwritten work (g.F.Files.held c.args.files.now) (g.F.Files.held c.run.new.files)) (λ work r. c.run.ensures.held)

@@ -2,7 +2,7 @@ use Rattle.std.proofs.Common.{Some, ap, sym, ◌∙◌, subst}
 use Rattle.std.specs.Prelude.{IfSome, option_map}
 use Rattle.command_line.specs.Line.{line_of}
 use Rattle.command_line.specs.Seen.{texts, command_seen}
-use Rattle.sve_top.specs.Answer.{answer_of, text_of, IsAnswer}
+use Rattle.sve_top.specs.Answer.{answer_of, text_of, IsAnswer, Unwritten}
 use Rattle.sve_top.specs.Commands.{Wants, OfWanted}
 use Rattle.sve_top.specs.Outputs.{Prints}
 use Rattle.sve_top.proofs.Wanted.{by_line, is_err}
@@ -43,3 +43,15 @@ returns-clause-printed g c =
     (by_line (g.F.Files.held c.args.files.now) (line_of (texts c.args.words.now)) (Some (command_seen c.in-Some.command))
     (λ work. Prints (g.S.Sink.taken c.args.out.now) (g.S.Sink.taken c.do_command.new.out) (text_of work) c.do_command.result)
     (sym c.in_ok-command.ensures ∙ ap (option_map command_seen) c.in-Some.is) c.do_command.ensures.printed)
+
+pub returns-in_err-done-clause-unwritten : goal.returns-in_err-done-clause-unwritten
+returns-in_err-done-clause-unwritten g c =
+    by_line (g.F.Files.held c.args.files.now) (line_of (texts c.args.words.now)) (Some (command_seen c.in-Some.command))
+    (λ work. Unwritten work (g.F.Files.held c.args.files.now) (g.F.Files.held c.do_command.new.files))
+    (sym c.in_ok-command.ensures ∙ ap (option_map command_seen) c.in-Some.is) c.do_command.ensures.unwritten
+
+pub returns-clause-unwritten : goal.returns-clause-unwritten
+returns-clause-unwritten g c =
+    by_line (g.F.Files.held c.args.files.now) (line_of (texts c.args.words.now)) (Some (command_seen c.in-Some.command))
+    (λ work. Unwritten work (g.F.Files.held c.args.files.now) (g.F.Files.held c.do_command.new.files))
+    (sym c.in_ok-command.ensures ∙ ap (option_map command_seen) c.in-Some.is) c.do_command.ensures.unwritten

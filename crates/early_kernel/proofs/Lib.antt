@@ -1,4 +1,0 @@
-pub mod Passes
-pub mod Sums
-pub mod Whole
-pub mod Steps

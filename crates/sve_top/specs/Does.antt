@@ -1,0 +1,32 @@
+-- What a call of `top` does where some work is wanted of it: one sentence on the files, the output and the error output.
+use Rattle.std.specs.Prelude.{◌≡◌, ℕ, List, Option}
+use Rattle.sve_top.specs.Answer.{Held, Work, answer_of, text_of, IsStatus, Unwritten}
+use Rattle.sve_top.specs.Outputs.{PrintsBy, Gains, told, told_by}
+
+-- the outside at one moment: what the files hold, and the bytes that each output has taken, as far as they tell it; and how often each
+-- of them has failed
+pub record Outside : Type 0 where
+  pub held : Option Held
+  pub file_faults : ℕ
+  pub printed : Option (List ℕ)
+  pub output_faults : ℕ
+  pub errors : Option (List ℕ)
+  pub error_faults : ℕ
+
+abbrev pub outside : Option Held → ℕ → Option (List ℕ) → ℕ → Option (List ℕ) → ℕ → Outside
+outside held file_faults printed output_faults errors error_faults = record {
+  held = held;
+  file_faults = file_faults;
+  printed = printed;
+  output_faults = output_faults;
+  errors = errors;
+  error_faults = error_faults;
+}
+
+-- The status is that of the work, unless memory was short or a count of failures rose; the output gains the work's text, and the error
+-- output the line of its refusal; and a work that is a refusal changes no file, whatever the status.
+pub record Does (work : Work) (before after : Outside) (result : ℕ) : Type 0 where
+  pub status : IsStatus before.file_faults after.file_faults before.output_faults after.output_faults (answer_of work) result
+  pub prints : PrintsBy before.printed after.printed (text_of work) result
+  pub tells : Gains before.errors after.errors before.error_faults after.error_faults (told_by (told (answer_of work)) result)
+  pub unwritten : Unwritten work before.held after.held
