@@ -145,6 +145,7 @@ fn most_pages(rt: HostRuntime) -> Result<(), Fail> {
 fn spans(rt: HostRuntime) -> Result<(), Fail> {
     let mut pages = built(rt.alloc(), 0x1000, 2, Perm::ReadWrite)?;
     if let Some(part) = pages.span_mut(0x100_0ffe, 2) {
+        assert!(rt; part.len() == 2);
         part[0] = 0x11;
         part[1] = 0x22;
     }
