@@ -5,6 +5,7 @@ use Rattle.kernel_tree.specs.Typing.{Refusal, check_fault}
 use Rattle.kernel_syntax.specs.declared.fault.ReadFault.{ReadFault}
 use Rattle.kernel_syntax.specs.Refusals.{limit_fault, IsReadFrom, HasNoTree}
 use Rattle.kernel_syntax.proofs.Decided.{read_or_no_tree}
+use Rattle.kernel_syntax.proofs.Place.{stops_somewhere}
 use Rattle.kernel_front.specs.Verdict.{Verdict, Limited, NoKernel, Refused, Sound, IsVerdict}
 
 by_check : (text : List ℕ) (k : Program) (r : Option Refusal) → limit_fault text ≡ None → IsReadFrom text k → check_fault k ≡ r → (v : Verdict) × IsVerdict text v
@@ -13,7 +14,7 @@ by_check text k None h read e = (Sound k, (h, read, e))
 
 by_tree : (text : List ℕ) → limit_fault text ≡ None → ((k : Program) × IsReadFrom text k) ⊎ HasNoTree text → (v : Verdict) × IsVerdict text v
 by_tree text h (inl p) = by_check text p.0 (check_fault p.0) h p.1 refl
-by_tree text h (inr n) = (NoKernel, (h, n))
+by_tree text h (inr n) = let s = stops_somewhere text n in (NoKernel s.0, (h, n, s.1))
 
 by_limit : (text : List ℕ) (r : Option ReadFault) → limit_fault text ≡ r → (v : Verdict) × IsVerdict text v
 by_limit text (Some fault) e = (Limited fault, e)

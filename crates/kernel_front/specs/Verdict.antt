@@ -4,17 +4,17 @@ use Rattle.kernel_tree.specs.Plain.{Program}
 use Rattle.kernel_tree.specs.Typing.{Refusal, check_fault}
 use Rattle.kernel_syntax.specs.declared.fault.ReadFault.{ReadFault}
 use Rattle.kernel_syntax.specs.declared.fault.ReadFault.TheVariants as reading
-use Rattle.kernel_syntax.specs.Refusals.{limit_fault, IsReadFrom, HasNoTree}
+use Rattle.kernel_syntax.specs.Refusals.{limit_fault, IsReadFrom, HasNoTree, StopsAt}
 use Rattle.kernel_types.specs.declared.fault.TypeFault.TheVariants as typing
 use Rattle.kernel_types.specs.Causes.{IsCause}
 use Rattle.kernel_front.specs.declared.fault.KernelFault.{KernelFault}
 use Rattle.kernel_front.specs.declared.fault.KernelFault.TheVariants as faults
 
--- It passes a limit of texts or holds a bad byte; or its tokens are the tree of no kernel; or it is a kernel that
--- breaks a rule; or it is a sound kernel.
+-- It passes a limit of texts or holds a bad byte; or its tokens are the tree of no kernel and stop at one of them; or it is a
+-- kernel that breaks a rule; or it is a sound kernel.
 pub data Verdict : Type 0 where
   Limited : ReadFault → Verdict
-  NoKernel : Verdict
+  NoKernel : ℕ → Verdict
   Refused : Refusal → Verdict
   Sound : Program → Verdict
 
@@ -26,13 +26,13 @@ pub record IsRefused (text : List ℕ) (refusal : Refusal) : Type 0 where
 
 abbrev pub IsVerdict : List ℕ → Verdict → Type 0
 IsVerdict text (Limited fault) = limit_fault text ≡ Some fault
-IsVerdict text NoKernel = (limit_fault text ≡ None) × HasNoTree text
+IsVerdict text (NoKernel token) = (limit_fault text ≡ None) × HasNoTree text × StopsAt text token
 IsVerdict text (Refused refusal) = (limit_fault text ≡ None) × IsRefused text refusal
 IsVerdict text (Sound k) = (limit_fault text ≡ None) × IsReadFrom text k × (check_fault k ≡ None)
 
--- A fault says of a text what its verdict is; want of memory says nothing of it. The place of a syntax fault is not told.
+-- A fault says of a text what its verdict is; want of memory says nothing of it.
 abbrev pub Explains : Verdict → KernelFault → Type 0
-Explains v (faults.Unread (reading.Syntax token)) = v ≡ NoKernel
+Explains v (faults.Unread (reading.Syntax token)) = v ≡ NoKernel token
 Explains v (faults.Unread reading.Memory) = Unit {0}
 Explains v (faults.Unread fault) = v ≡ Limited fault
 Explains v (faults.Broken typing.Memory) = Unit {0}

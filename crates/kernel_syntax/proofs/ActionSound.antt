@@ -1,5 +1,5 @@
 -- Statements: what is read is spelled so.
-use Rattle.std.proofs.Common.{◌≡◌, ◌≢◌, ℕ, zero, suc, ◌+◌, ◌-◌, ◌<◌, ◌≤◌, Bool, true, false, cond, List, [], ◌∷◌, length, Option, Some, None, Result, Ok, Err, refl, sym, ap, subst, ◌∙◌, arith, eqb}
+use Rattle.std.proofs.Common.{◌≡◌, ℕ, zero, suc, Bool, true, false, List, [], ◌∷◌, length, Option, Some, None, Result, Ok, Err, refl, sym, ap, subst, ◌∙◌}
 use Rattle.kernel_tree.specs.declared.ops.Ty.{Ty}
 use Rattle.kernel_tree.specs.declared.ops.UpdateOp.{UpdateOp}
 use Rattle.kernel_tree.specs.declared.mark.Mark.{Mark}
@@ -7,7 +7,7 @@ use Rattle.kernel_tree.specs.declared.mark.Mark.TheVariants as mark
 use Rattle.kernel_tree.specs.Word.{Word, IsName, IsNumber, IsType, IsCompare, IsUpdate, IsMark}
 use Rattle.kernel_tree.specs.Plain.{Term, Action, Define, Put, Update, Choose, Leave, Block, Done, Then, Nothing, Else}
 use Rattle.kernel_tree.specs.Grammar.{Spells, SpellsType, untyped, typed, SpellsAction, define, put, update, choose, choose_else, leave, SpellsBlock, done, then, beginning_of_mark}
-use Rattle.kernel_syntax.specs.Reading.{◌>>=◌, given, Outcome, behind, after, name_at, type_at, update_front, unary_at, chain_at}
+use Rattle.kernel_syntax.specs.Reading.{◌>>=◌, given, behind, after, name_at, type_at, update_front, unary_at, chain_at}
 use Rattle.kernel_syntax.specs.Statements.{Statement, Statements, term_at, type_part, define_at, put_at, update_at, target_at, leave_at, choose_by, begun_by, statement_by, block_by, block_at}
 use Rattle.kernel_syntax.proofs.Sound.{bind_ok, ok_is, not_err, after-is, behind-is, name-is, type-is, update-is, reads_spells, before_spells}
 
@@ -23,7 +23,7 @@ type_spells words x (Some from) p q =
     let there : words ≡ IsMark mark.Colon ∷ IsType b.0.0 ∷ b.0.1 = behind-is mark.Colon words from p ∙ ap (λ (z : List Word). IsMark mark.Colon ∷ z) (type-is from b.0 b.1) in
     subst (λ (x : Option Ty × List Word). SpellsType words x.0 x.1) (ok_is (Some b.0.0, b.0.1) x b.2) (subst (λ (z : List Word). SpellsType z (Some b.0.0) b.0.1) (sym there) typed)
 
-type_part_spells : (words : List Word) (x : Option Ty × List Word) → type_part words ≡ Ok x → SpellsType words x.0 x.1
+pub type_part_spells : (words : List Word) (x : Option Ty × List Word) → type_part words ≡ Ok x → SpellsType words x.0 x.1
 unfolding type_part
 type_part_spells words x q = type_spells words x (behind mark.Colon words) refl q
 
@@ -80,7 +80,7 @@ leave_spells true words y q =
     let w : IsMark mark.Break ∷ words ≡ IsMark mark.Break ∷ IsMark mark.If ∷ from.0 = ap (λ (z : List Word). IsMark mark.Break ∷ z) (after-is mark.If words from.0 from.1) in
     from_action true _ _ y w (at_action true _ (Leave c.0.0, c.0.1) y (ok_is (Leave c.0.0, c.0.1) y c.2) (leave (term_spells mark.Semicolon from.0 c.0 c.1)))
 
-abbrev SoundBlock : Bool → (List Word → Statements) → Type 0
+abbrev pub SoundBlock : Bool → (List Word → Statements) → Type 0
 SoundBlock whole block = (words : List Word) (x : Block × List Word) → block words ≡ Ok x → SpellsBlock whole words x.0 x.1
 
 module _ (block : List Word → Statements) (sound : SoundBlock false block) (whole : Bool) where
@@ -105,7 +105,7 @@ module _ (block : List Word → Statements) (sound : SoundBlock false block) (wh
   begun_spells mark.Break words y q = leave_spells whole words y q
   begun_spells _ words y q = absurd (not_err (suc (length words)) y q)
 
-  statement_spells : (words : List Word) (y : Action × List Word) → statement_by whole block words ≡ Ok y → SpellsAction whole words y.0 y.1
+  pub statement_spells : (words : List Word) (y : Action × List Word) → statement_by whole block words ≡ Ok y → SpellsAction whole words y.0 y.1
   unfolding statement_by
   statement_spells [] y q = absurd (not_err 0 y q)
   statement_spells (IsName x ∷ words) y q = target_spells whole x words y q

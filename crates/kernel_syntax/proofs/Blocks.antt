@@ -1,9 +1,9 @@
 -- The statements of a block, as far as a loop has read them.
-use Rattle.std.proofs.Common.{◌≡◌, ℕ, zero, suc, ◌+◌, ◌-◌, ◌<◌, ◌≤◌, Bool, false, List, [], ◌∷◌, ◌++◌, length, Option, Some, None, Result, Ok, Err, refl, sym, ap, subst, ◌∙◌, arith}
+use Rattle.std.proofs.Common.{◌≡◌, ℕ, zero, suc, ◌-◌, ◌<◌, Bool, false, List, [], ◌∷◌, ◌++◌, length, Some, None, Result, Ok, Err, refl, sym, ap, ◌∙◌, arith}
 use Rattle.kernel_tree.specs.declared.ast.Stmt.{Stmt}
 use Rattle.kernel_tree.specs.declared.mark.Mark.TheVariants as mark
 use Rattle.kernel_tree.specs.Word.{Word}
-use Rattle.kernel_tree.specs.Plain.{Action, Block, Done, Then, action_of, block_of}
+use Rattle.kernel_tree.specs.Plain.{Block, Done, Then, action_of, block_of}
 use Rattle.kernel_syntax.specs.declared.fault.Stop.{Stop}
 use Rattle.kernel_syntax.specs.Reading.{◌>>=◌, Fails, given, behind}
 use Rattle.kernel_syntax.specs.Statements.{Statement, Statements, block_by, statement_by, block_at}

@@ -1,5 +1,5 @@
 -- A chain of operators of one level, as far as a loop has read it.
-use Rattle.std.proofs.Common.{◌≡◌, ℕ, zero, suc, ◌+◌, ◌-◌, ◌<◌, ◌≤◌, Bool, List, length, Option, Some, None, Result, Ok, Err, refl, sym, ap, subst, ◌∙◌, arith}
+use Rattle.std.proofs.Common.{◌≡◌, ℕ, zero, suc, ◌-◌, ◌<◌, Bool, List, length, Some, None, Result, Ok, refl, sym, ap, ◌∙◌, arith}
 use Rattle.std.specs.Prelude.{pos}
 use Rattle.kernel_tree.specs.declared.ops.Ty.{Ty}
 use Rattle.kernel_tree.specs.declared.ops.CompareOp.{CompareOp}
@@ -40,7 +40,7 @@ begins unary level words left rest h e = record {
 }
 
 module _ (unary : List Word → Outcome) (level : ℕ) (words : List Word) (left : Term) (rest : List Word) (goes : Goes unary level words left rest) where
-  step : (o : Operator) (after : List Word) → Some (o, after) ≡ operator_at level rest → chain_at unary level words ≡ by_operator (chain_at unary (level - 1)) (more (chain_at unary (level - 1)) level goes.room) left o after
+  pub step : (o : Operator) (after : List Word) → Some (o, after) ≡ operator_at level rest → chain_at unary level words ≡ by_operator (chain_at unary (level - 1)) (more (chain_at unary (level - 1)) level goes.room) left o after
   unfolding more
   step o after e = sym goes.same ∙ ap (λ x. given x (λ o. by_operator (chain_at unary (level - 1)) (more (chain_at unary (level - 1)) level goes.room) left o.0 o.1) (Ok (left, rest))) (sym e)
 

@@ -1,18 +1,16 @@
 -- What is spelled so is read, where no more can belong to it.
-use Rattle.std.proofs.Common.{◌≡◌, ◌≢◌, ℕ, zero, suc, ◌+◌, ◌-◌, ◌<◌, ◌≤◌, Bool, true, false, cond, List, [], ◌∷◌, length, Option, Some, None, Result, Ok, Err, refl, sym, ap, subst, ◌∙◌, arith, eqb, ◌⊎◌, inl, inr}
-use Rattle.std.specs.Prelude.{pos, neg_ℤ}
+use Rattle.std.proofs.Common.{◌≡◌, ℕ, zero, suc, ◌-◌, ◌<◌, ◌≤◌, List, ◌∷◌, length, Some, None, Ok, refl, sym, arith, ◌⊎◌, inl, inr}
 use Rattle.std.proofs.lemmas.Bool.{eq-eqb}
 use Rattle.std.proofs.lemmas.Bool.Decides.{eqb_tells}
 use Rattle.kernel_tree.specs.declared.ops.Ty.{Ty}
-use Rattle.kernel_tree.specs.declared.ops.BinaryOp.{BinaryOp}
 use Rattle.kernel_tree.specs.declared.mark.Mark.{Mark}
 use Rattle.kernel_tree.specs.declared.mark.Mark.TheVariants as mark
 use Rattle.kernel_tree.specs.declared.mark.Operator.{Operator}
 use Rattle.kernel_tree.specs.declared.mark.Operator.TheVariants.{Joined, Compared, Shifted, As}
 use Rattle.kernel_tree.specs.Word.{Word, IsName, IsNumber, IsType, IsCompare, IsUpdate, IsMark}
-use Rattle.kernel_tree.specs.Plain.{Term, Literal, Variable, same}
-use Rattle.kernel_tree.specs.Grammar.{Spells, number, name, element, group, pair, absolute, choice, negative, prefix, up, conversion, shift, operation, comparison, operator_of, operator_of_mark, level_of, joined, opening_of_mark, number_at, number_behind}
-use Rattle.kernel_syntax.specs.Reading.{◌>>=◌, given, needed, Outcome, mark_at, behind, after, type_at, count_at, operator_at, by_operator, more, chain_at, term_before, name_by, pair_by, absolute_by, choice_by, signed_by, opened_by, unary_by, unary_at}
+use Rattle.kernel_tree.specs.Plain.{Term}
+use Rattle.kernel_tree.specs.Grammar.{Spells, number, name, element, group, pair, absolute, choice, negative, prefix, up, conversion, shift, operation, comparison, operator_of, operator_of_mark, level_of}
+use Rattle.kernel_syntax.specs.Reading.{behind, after, type_at, count_at, operator_at, chain_at, term_before, name_by, pair_by, absolute_by, choice_by, signed_by, unary_at}
 use Rattle.kernel_syntax.proofs.Chain.{Goes, begins, ends, goes_joined, goes_shifted, goes_as, ends_compared}
 use Rattle.kernel_syntax.proofs.Sound.{joined_is_no_8, other_is_no_8}
 
@@ -38,7 +36,7 @@ pub record Stops (level : ℕ) (rest : List Word) : Type 0 where
   pub operators : (l : ℕ) → l ≤ level → operator_at l rest ≡ None
   pub bracket : behind mark.OpenBracket rest ≡ None
 
-operator_there : (level : ℕ) (w : Word) (o : Operator) (rest : List Word) → operator_of w ≡ Some o → level_of o ≡ level → operator_at level (w ∷ rest) ≡ Some (o, rest)
+pub operator_there : (level : ℕ) (w : Word) (o : Operator) (rest : List Word) → operator_of w ≡ Some o → level_of o ≡ level → operator_at level (w ∷ rest) ≡ Some (o, rest)
 unfolding operator_at
 operator_there level w o rest p q = rw (p, eq-eqb (level_of o) level q) refl
 
@@ -60,7 +58,7 @@ no_bracket (IsType t) o rest p = refl
 no_bracket (IsCompare op) o rest p = refl
 no_bracket (IsUpdate op) o rest p = refl
 
-stops_before : (level : ℕ) (w : Word) (o : Operator) (rest : List Word) → operator_of w ≡ Some o → level_of o ≡ suc level → Stops level (w ∷ rest)
+pub stops_before : (level : ℕ) (w : Word) (o : Operator) (rest : List Word) → operator_of w ≡ Some o → level_of o ≡ suc level → Stops level (w ∷ rest)
 stops_before level w o rest p q = record { operators = λ l h. no_operator level l w o rest p q h; bracket = no_bracket w o rest p }
 
 stops_lower : (level : ℕ) (rest : List Word) → Stops (suc level) rest → Stops level rest
@@ -72,33 +70,33 @@ unfolding operator_at
 stops_at level m rest p q = record { operators = λ l h. rw p refl; bracket = q }
 
 -- how reading an expression of a level goes
-abbrev Reads : ℕ → ℕ → List Word → Term → List Word → Type 0
+abbrev pub Reads : ℕ → ℕ → List Word → Term → List Word → Type 0
 Reads room zero words e rest = Stops 0 rest → unary_at room words ≡ Ok (e, rest)
 Reads room (suc level) words e rest = Stops level rest → Goes (unary_at room) (suc level) words e rest ⊎ ((suc level ≡ 8) × (chain_at (unary_at room) (suc level) words ≡ Ok (e, rest)))
 
-finish : (room level : ℕ) (words : List Word) (e : Term) (rest : List Word) → Reads room level words e rest → Stops level rest → chain_at (unary_at room) level words ≡ Ok (e, rest)
+pub finish : (room level : ℕ) (words : List Word) (e : Term) (rest : List Word) → Reads room level words e rest → Stops level rest → chain_at (unary_at room) level words ≡ Ok (e, rest)
 unfolding chain_at
 finish room zero words e rest r s = r s
 finish room (suc level) words e rest r s = elim (r (stops_lower level rest s)) [ inl g ↦ ends (unary_at room) (suc level) words e rest g (sym (s.operators (suc level) (omega arith))) | inr c ↦ c.1 ]
 
-goes_of : (room level : ℕ) (words : List Word) (e : Term) (rest : List Word) → (suc level ≡ 8 → ⊥) → Goes (unary_at room) (suc level) words e rest ⊎ ((suc level ≡ 8) × (chain_at (unary_at room) (suc level) words ≡ Ok (e, rest))) → Goes (unary_at room) (suc level) words e rest
+pub goes_of : (room level : ℕ) (words : List Word) (e : Term) (rest : List Word) → (suc level ≡ 8 → ⊥) → Goes (unary_at room) (suc level) words e rest ⊎ ((suc level ≡ 8) × (chain_at (unary_at room) (suc level) words ≡ Ok (e, rest))) → Goes (unary_at room) (suc level) words e rest
 goes_of room level words e rest n (inl g) = g
 goes_of room level words e rest n (inr c) = absurd (n c.0)
 
 -- an expression and the mark behind it
-before_reads : (room : ℕ) (m : Mark) (words : List Word) (e : Term) (rest : List Word) → operator_of_mark m ≡ None → behind mark.OpenBracket (IsMark m ∷ rest) ≡ None → after m (IsMark m ∷ rest) ≡ Ok rest → Reads room 10 words e (IsMark m ∷ rest) → term_before (chain_at (unary_at room) 10) m words ≡ Ok (e, rest)
+pub before_reads : (room : ℕ) (m : Mark) (words : List Word) (e : Term) (rest : List Word) → operator_of_mark m ≡ None → behind mark.OpenBracket (IsMark m ∷ rest) ≡ None → after m (IsMark m ∷ rest) ≡ Ok rest → Reads room 10 words e (IsMark m ∷ rest) → term_before (chain_at (unary_at room) 10) m words ≡ Ok (e, rest)
 unfolding term_before
 before_reads room m words e rest o b a r = rw (finish room 10 words e (IsMark m ∷ rest) r (stops_at 10 m rest o b), a) refl
 
-type_there : (t : Ty) (rest : List Word) → type_at (IsType t ∷ rest) ≡ Ok (t, rest)
+pub type_there : (t : Ty) (rest : List Word) → type_at (IsType t ∷ rest) ≡ Ok (t, rest)
 unfolding type_at
 type_there t rest = refl
 
-count_there : (n : ℕ) (rest : List Word) → count_at (IsNumber n ∷ rest) ≡ Ok (n, rest)
+pub count_there : (n : ℕ) (rest : List Word) → count_at (IsNumber n ∷ rest) ≡ Ok (n, rest)
 unfolding count_at
 count_there n rest = refl
 
-reads : {level : ℕ} {words : List Word} {e : Term} {rest : List Word} → Spells level words e rest → (room : ℕ) → length words ≤ room → Reads room level words e rest
+pub reads : {level : ℕ} {words : List Word} {e : Term} {rest : List Word} → Spells level words e rest → (room : ℕ) → length words ≤ room → Reads room level words e rest
 unfolding unary_at name_by pair_by absolute_by choice_by signed_by behind after
 reads number zero h = λ s. absurd (omega arith)
 reads number (suc room) h = λ s. refl

@@ -1,28 +1,25 @@
 -- Statements and kernels: what is spelled so is read.
-use Rattle.std.proofs.Common.{◌≡◌, ℕ, zero, suc, ◌+◌, ◌-◌, ◌<◌, ◌≤◌, Bool, true, false, List, [], ◌∷◌, length, Option, Some, None, Result, Ok, Err, refl, sym, ap, subst, ◌∙◌, arith}
+use Rattle.std.proofs.Common.{◌≡◌, ℕ, zero, suc, ◌<◌, ◌≤◌, Bool, true, false, List, [], ◌∷◌, length, Option, None, Ok, Err, refl, sym, ◌∙◌, arith}
 use Rattle.kernel_tree.specs.declared.ops.Ty.{Ty}
-use Rattle.kernel_tree.specs.declared.mark.Mark.{Mark}
 use Rattle.kernel_tree.specs.declared.mark.Mark.TheVariants as mark
-use Rattle.kernel_tree.specs.Word.{Word, IsName, IsNumber, IsType, IsUpdate, IsMark}
+use Rattle.kernel_tree.specs.Word.{Word, IsType, IsMark}
 use Rattle.kernel_tree.specs.Plain.{Term, Action, Block, Parameter, Accumulator, Turns, Program}
 use Rattle.kernel_tree.specs.Grammar.{Spells, SpellsType, untyped, typed, SpellsAction, define, put, update, choose, choose_else, leave, SpellsBlock, done, then, SpellsParam, scalar, array, SpellsSome, last, more, SpellsParams, none, some, SpellsVars, no_var, var, SpellsLoop, no_loop, loop, Tree, procedure, function}
-use Rattle.kernel_syntax.specs.declared.fault.Stop.{Stop}
-use Rattle.kernel_syntax.specs.declared.fault.Stop.TheVariants as stop
-use Rattle.kernel_syntax.specs.Reading.{◌>>=◌, Fails, given, needed, behind, after, name_at, type_at}
+use Rattle.kernel_syntax.specs.Reading.{behind, after, name_at, type_at}
 use Rattle.kernel_syntax.specs.Statements.{term_at, type_part, define_at, put_at, update_at, target_at, leave_at, choose_by, statement_by, block_by, block_at}
 use Rattle.kernel_syntax.specs.Headers.{shape_at, param_at, some_at, params_at, var_at, vars_by, vars_at, zero_at, turns_at, loop_at, tail_at, answer_by, kernel_at}
 use Rattle.kernel_syntax.proofs.Sound.{ok_is, not_err}
 use Rattle.kernel_syntax.proofs.Complete.{shorter, spells_before}
 
-semicolon_reads : (words : List Word) (e : Term) (rest : List Word) → Spells 10 words e (IsMark mark.Semicolon ∷ rest) → term_at mark.Semicolon words ≡ Ok (e, rest)
+pub semicolon_reads : (words : List Word) (e : Term) (rest : List Word) → Spells 10 words e (IsMark mark.Semicolon ∷ rest) → term_at mark.Semicolon words ≡ Ok (e, rest)
 unfolding term_at after behind
 semicolon_reads words e rest d = spells_before mark.Semicolon words e rest (length words) refl refl refl (omega arith) d
 
-bracket_reads : (words : List Word) (e : Term) (rest : List Word) → Spells 10 words e (IsMark mark.CloseBracket ∷ rest) → term_at mark.CloseBracket words ≡ Ok (e, rest)
+pub bracket_reads : (words : List Word) (e : Term) (rest : List Word) → Spells 10 words e (IsMark mark.CloseBracket ∷ rest) → term_at mark.CloseBracket words ≡ Ok (e, rest)
 unfolding term_at after behind
 bracket_reads words e rest d = spells_before mark.CloseBracket words e rest (length words) refl refl refl (omega arith) d
 
-brace_reads : (words : List Word) (e : Term) (rest : List Word) → Spells 10 words e (IsMark mark.OpenBrace ∷ rest) → term_at mark.OpenBrace words ≡ Ok (e, rest)
+pub brace_reads : (words : List Word) (e : Term) (rest : List Word) → Spells 10 words e (IsMark mark.OpenBrace ∷ rest) → term_at mark.OpenBrace words ≡ Ok (e, rest)
 unfolding term_at after behind
 brace_reads words e rest d = spells_before mark.OpenBrace words e rest (length words) refl refl refl (omega arith) d
 
@@ -36,7 +33,7 @@ before_else whole b words rest (then (choose c a) d) = refl
 before_else whole b words rest (then (choose_else c a e) d) = refl
 before_else whole b words rest (then (leave c) d) = refl
 
-action_closes : (whole : Bool) (s : Action) (words rest : List Word) → SpellsAction whole words s rest → behind mark.CloseBrace words ≡ None
+pub action_closes : (whole : Bool) (s : Action) (words rest : List Word) → SpellsAction whole words s rest → behind mark.CloseBrace words ≡ None
 unfolding behind
 action_closes whole s words rest (define t e) = refl
 action_closes whole s words rest (put i e) = refl
@@ -45,17 +42,17 @@ action_closes whole s words rest (choose c a) = refl
 action_closes whole s words rest (choose_else c a e) = refl
 action_closes whole s words rest (leave c) = refl
 
-type_reads : (words : List Word) (t : Option Ty) (rest : List Word) → SpellsType words t rest → behind mark.Colon rest ≡ None → type_part words ≡ Ok (t, rest)
+pub type_reads : (words : List Word) (t : Option Ty) (rest : List Word) → SpellsType words t rest → behind mark.Colon rest ≡ None → type_part words ≡ Ok (t, rest)
 unfolding type_part behind type_at
 type_reads words t rest untyped n = rw n refl
 type_reads words t rest typed n = refl
 
-type_shorter : (words : List Word) (t : Option Ty) (rest : List Word) → SpellsType words t rest → length rest ≤ length words
+pub type_shorter : (words : List Word) (t : Option Ty) (rest : List Word) → SpellsType words t rest → length rest ≤ length words
 type_shorter words t rest untyped = omega arith
 type_shorter words t rest typed = omega arith
 
 mutual
-  action_shorter : {whole : Bool} {words : List Word} {s : Action} {rest : List Word} → SpellsAction whole words s rest → length rest < length words
+  pub action_shorter : {whole : Bool} {words : List Word} {s : Action} {rest : List Word} → SpellsAction whole words s rest → length rest < length words
   action_shorter (define t e) = omega (arith, type_shorter _ _ _ t, shorter e)
   action_shorter (put i e) = omega (arith, shorter i, shorter e)
   action_shorter (update e) = omega (arith, shorter e)
@@ -63,11 +60,11 @@ mutual
   action_shorter (choose_else c b d) = omega (arith, shorter c, block_shorter b, block_shorter d)
   action_shorter (leave c) = omega (arith, shorter c)
 
-  block_shorter : {whole : Bool} {words : List Word} {b : Block} {rest : List Word} → SpellsBlock whole words b rest → length rest < length words
+  pub block_shorter : {whole : Bool} {words : List Word} {b : Block} {rest : List Word} → SpellsBlock whole words b rest → length rest < length words
   block_shorter done = omega arith
   block_shorter (then s b) = omega (arith, action_shorter s, block_shorter b)
 
-block_from : (whole : Bool) (words : List Word) (b : Block) (rest : List Word) → length rest < length words → ((r : ℕ) → length words ≤ suc r → (k : ℕ) → length words < k → block_by (statement_by whole (block_at false r)) k words ≡ Ok (b, rest)) → (room : ℕ) → length words ≤ room → block_at whole room words ≡ Ok (b, rest)
+pub block_from : (whole : Bool) (words : List Word) (b : Block) (rest : List Word) → length rest < length words → ((r : ℕ) → length words ≤ suc r → (k : ℕ) → length words < k → block_by (statement_by whole (block_at false r)) k words ≡ Ok (b, rest)) → (room : ℕ) → length words ≤ room → block_at whole room words ≡ Ok (b, rest)
 unfolding block_at
 block_from whole words b rest lt goes zero h = absurd (omega arith)
 block_from whole words b rest lt goes (suc room) h = goes room h (suc (length words)) (omega arith)
@@ -75,7 +72,7 @@ block_from whole words b rest lt goes (suc room) h = goes room h (suc (length wo
 mutual
   unfolding statement_by define_at name_at target_at put_at update_at leave_at choose_by block_by after behind
 
-  action_reads : {whole : Bool} {words : List Word} {s : Action} {rest : List Word} → SpellsAction whole words s rest → (room : ℕ) → length words ≤ suc room → behind mark.Else rest ≡ None → statement_by whole (block_at false room) words ≡ Ok (s, rest)
+  pub action_reads : {whole : Bool} {words : List Word} {s : Action} {rest : List Word} → SpellsAction whole words s rest → (room : ℕ) → length words ≤ suc room → behind mark.Else rest ≡ None → statement_by whole (block_at false room) words ≡ Ok (s, rest)
   action_reads (define {x = x} {t = t} {e = e} {from = from} {next = next} {rest = rest} p d) room h n = rw (type_reads from t (IsMark mark.Equals ∷ next) p refl, semicolon_reads next e rest d) refl
   action_reads (put {x = x} {i = i} {e = e} {from = from} {next = next} {rest = rest} d1 d2) room h n = rw (bracket_reads from i (IsMark mark.Equals ∷ next) d1, semicolon_reads next e rest d2) refl
   action_reads (update {x = x} {op = op} {e = e} {from = from} {rest = rest} d) room h n = rw (semicolon_reads from e rest d) refl
@@ -85,7 +82,7 @@ mutual
       rw (brace_reads from c next d1, block_from false next b (IsMark mark.Else ∷ IsMark mark.OpenBrace ∷ further) (block_shorter d2) (block_goes d2) room (omega (arith, shorter d1)), block_from false further d rest (block_shorter d3) (block_goes d3) room (omega (arith, shorter d1, block_shorter d2))) refl
   action_reads (leave {c = c} {from = from} {rest = rest} d) room h n = rw (semicolon_reads from c rest d) refl
 
-  block_goes : {whole : Bool} {words : List Word} {b : Block} {rest : List Word} → SpellsBlock whole words b rest → (room : ℕ) → length words ≤ suc room → (k : ℕ) → length words < k → block_by (statement_by whole (block_at false room)) k words ≡ Ok (b, rest)
+  pub block_goes : {whole : Bool} {words : List Word} {b : Block} {rest : List Word} → SpellsBlock whole words b rest → (room : ℕ) → length words ≤ suc room → (k : ℕ) → length words < k → block_by (statement_by whole (block_at false room)) k words ≡ Ok (b, rest)
   block_goes done room h zero l = absurd (omega arith)
   block_goes done room h (suc k) l = refl
   block_goes (then d1 d2) room h zero l = absurd (omega arith)
@@ -94,7 +91,7 @@ mutual
 
 -- ---- kernels
 
-param_reads : (words : List Word) (p : Parameter) (rest : List Word) → SpellsParam words p rest → param_at words ≡ Ok (p, rest)
+pub param_reads : (words : List Word) (p : Parameter) (rest : List Word) → SpellsParam words p rest → param_at words ≡ Ok (p, rest)
 unfolding param_at name_at after behind shape_at type_at
 param_reads words p rest scalar = refl
 param_reads words p rest array = refl
@@ -112,7 +109,7 @@ some_opens (last array) = refl
 some_opens (more scalar ds) = refl
 some_opens (more array ds) = refl
 
-params_reads : (words : List Word) (ps : List Parameter) (rest : List Word) → SpellsParams words ps rest → params_at words ≡ Ok (ps, rest)
+pub params_reads : (words : List Word) (ps : List Parameter) (rest : List Word) → SpellsParams words ps rest → params_at words ≡ Ok (ps, rest)
 unfolding params_at behind
 params_reads words ps rest none = refl
 params_reads words ps rest (some d) = rw (some_opens d) (some_reads d)
@@ -128,17 +125,17 @@ vars_goes no_var n (suc k) l = rw n refl
 vars_goes (var e ds) n zero l = absurd (omega arith)
 vars_goes (var {e = e} {from = from} {next = next} d ds) n (suc k) l = rw (semicolon_reads from e next d, vars_goes ds n k (omega (arith, shorter d))) refl
 
-vars_reads : (words : List Word) (vs : List Accumulator) (rest : List Word) → SpellsVars words vs rest → behind mark.Var rest ≡ None → vars_at words ≡ Ok (vs, rest)
+pub vars_reads : (words : List Word) (vs : List Accumulator) (rest : List Word) → SpellsVars words vs rest → behind mark.Var rest ≡ None → vars_at words ≡ Ok (vs, rest)
 unfolding vars_at
 vars_reads words vs rest d n = vars_goes d n (suc (length words)) (omega arith)
 
-loop_reads : (words : List Word) (l : Option Turns) (rest : List Word) → SpellsLoop words l rest → behind mark.For rest ≡ None → loop_at words ≡ Ok (l, rest)
+pub loop_reads : (words : List Word) (l : Option Turns) (rest : List Word) → SpellsLoop words l rest → behind mark.For rest ≡ None → loop_at words ≡ Ok (l, rest)
 unfolding loop_at turns_at name_at zero_at after behind
 loop_reads words l rest no_loop n = rw n refl
 loop_reads words l end (loop {b = b} {from = from} {rest = rest} d) n = rw (block_from true from b rest (block_shorter d) (block_goes d) (length from) (omega arith)) refl
 
 -- no accumulator begins a loop or what follows it
-ends_vars : (words : List Word) (l : Option Turns) (rest : List Word) → SpellsLoop words l rest → behind mark.Var rest ≡ None → behind mark.Var words ≡ None
+pub ends_vars : (words : List Word) (l : Option Turns) (rest : List Word) → SpellsLoop words l rest → behind mark.Var rest ≡ None → behind mark.Var words ≡ None
 unfolding behind
 ends_vars words l rest no_loop n = n
 ends_vars words l rest (loop d) n = refl

@@ -1,5 +1,5 @@
 -- Kernels: what is read is spelled so.
-use Rattle.std.proofs.Common.{◌≡◌, ℕ, zero, suc, Bool, true, cond, List, [], ◌∷◌, length, Option, Some, None, Result, Ok, Err, refl, sym, ap, subst, ◌∙◌, eqb}
+use Rattle.std.proofs.Common.{◌≡◌, ℕ, zero, suc, true, cond, List, [], ◌∷◌, length, Option, Some, None, Result, Ok, Err, refl, sym, ap, subst, ◌∙◌, eqb}
 use Rattle.std.proofs.lemmas.Bool.{eqb-true}
 use Rattle.kernel_tree.specs.declared.ops.Ty.{Ty}
 use Rattle.kernel_tree.specs.declared.ast.Shape.{Shape}
@@ -44,7 +44,7 @@ shaped : (x : List ℕ) (words : List Word) (s : Shape) (rest : List Word) → S
 shaped x words s rest scalar_shape = scalar
 shaped x words s rest array_shape = array
 
-param_spells : (words : List Word) (y : Parameter × List Word) → param_at words ≡ Ok y → SpellsParam words y.0 y.1
+pub param_spells : (words : List Word) (y : Parameter × List Word) → param_at words ≡ Ok y → SpellsParam words y.0 y.1
 unfolding param_at
 param_spells words y q =
     let x = bind_ok (name_at words) (λ x. after mark.Colon x.1 >>= (λ from. shape_at from >>= (λ s. Ok (record { name = x.0; shape = s.0 }, s.1)))) y q in
@@ -87,17 +87,17 @@ by_params : (words : List Word) (y : List Parameter × List Word) (o : Option (L
 by_params words y None p q = some (some_spells 7 words y q)
 by_params words y (Some rest) p q = subst (λ (x : List Parameter × List Word). SpellsParams words x.0 x.1) (ok_is ([], rest) y q) (subst (λ (z : List Word). SpellsParams z [] rest) (sym (behind-is mark.CloseParen words rest p)) none)
 
-params_spells : (words : List Word) (y : List Parameter × List Word) → params_at words ≡ Ok y → SpellsParams words y.0 y.1
+pub params_spells : (words : List Word) (y : List Parameter × List Word) → params_at words ≡ Ok y → SpellsParams words y.0 y.1
 unfolding params_at
 params_spells words y q = by_params words y (behind mark.CloseParen words) refl q
 
 -- an accumulator behind its first word
-record SpellsVar (words : List Word) (v : Accumulator) (rest : List Word) : Type 0 where
-  from : List Word
-  front : words ≡ IsName v.name ∷ IsMark mark.Colon ∷ IsType v.type ∷ IsMark mark.Equals ∷ from
-  value : Spells 10 from v.init (IsMark mark.Semicolon ∷ rest)
+pub record SpellsVar (words : List Word) (v : Accumulator) (rest : List Word) : Type 0 where
+  pub from : List Word
+  pub front : words ≡ IsName v.name ∷ IsMark mark.Colon ∷ IsType v.type ∷ IsMark mark.Equals ∷ from
+  pub value : Spells 10 from v.init (IsMark mark.Semicolon ∷ rest)
 
-var_spells : (words : List Word) (y : Accumulator × List Word) → var_at words ≡ Ok y → SpellsVar words y.0 y.1
+pub var_spells : (words : List Word) (y : Accumulator × List Word) → var_at words ≡ Ok y → SpellsVar words y.0 y.1
 unfolding var_at
 var_spells words y q =
     let x = bind_ok (name_at words) (λ x. after mark.Colon x.1 >>= (λ from. type_at from >>= (λ t. after mark.Equals t.1 >>= (λ next. term_at mark.Semicolon next >>= (λ e. Ok (record { name = x.0; type = t.0; init = e.0 }, e.1)))))) y q in
@@ -123,7 +123,7 @@ unfolding vars_by
 vars_by_spells zero words y q = absurd (not_err (length words) y q)
 vars_by_spells (suc k) words y q = by_vars k (vars_by_spells k) words y (behind mark.Var words) refl q
 
-vars_spells : (words : List Word) (y : List Accumulator × List Word) → vars_at words ≡ Ok y → SpellsVars words y.0 y.1
+pub vars_spells : (words : List Word) (y : List Accumulator × List Word) → vars_at words ≡ Ok y → SpellsVars words y.0 y.1
 unfolding vars_at
 vars_spells words y q = vars_by_spells (suc (length words)) words y q
 
@@ -135,13 +135,13 @@ by_zero words rest (Some x) p q =
     let r : x.1 ≡ rest = ok_is x.1 rest c.1 in
     number-is words x p ∙ ap (λ (k : ℕ). IsNumber k ∷ x.1) n ∙ ap (λ (z : List Word). IsNumber 0 ∷ z) r
 
-zero-is : (words rest : List Word) → zero_at words ≡ Ok rest → words ≡ IsNumber 0 ∷ rest
+pub zero-is : (words rest : List Word) → zero_at words ≡ Ok rest → words ≡ IsNumber 0 ∷ rest
 unfolding zero_at
 zero-is words rest q = by_zero words rest (number_at words) refl q
 
 -- a loop behind its first word
 record SpellsTurns (words : List Word) (l : Turns) (rest : List Word) : Type 0 where
-  from : List Word
+  pub from : List Word
   front : words ≡ IsName l.index ∷ IsMark mark.In ∷ IsNumber 0 ∷ IsMark mark.Range ∷ IsName l.bound ∷ IsMark mark.OpenBrace ∷ from
   inside : SpellsBlock true from l.body rest
 
@@ -167,12 +167,12 @@ by_loop words y (Some from) p q =
     let w : words ≡ IsMark mark.For ∷ IsName l.0.0.index ∷ IsMark mark.In ∷ IsNumber 0 ∷ IsMark mark.Range ∷ IsName l.0.0.bound ∷ IsMark mark.OpenBrace ∷ s.from = behind-is mark.For words from p ∙ ap (λ (z : List Word). IsMark mark.For ∷ z) s.front in
     subst (λ (x : Option Turns × List Word). SpellsLoop words x.0 x.1) (ok_is (Some l.0.0, l.0.1) y l.2) (subst (λ (z : List Word). SpellsLoop z (Some l.0.0) l.0.1) (sym w) (loop s.inside))
 
-loop_spells : (words : List Word) (y : Option Turns × List Word) → loop_at words ≡ Ok y → SpellsLoop words y.0 y.1
+pub loop_spells : (words : List Word) (y : Option Turns × List Word) → loop_at words ≡ Ok y → SpellsLoop words y.0 y.1
 unfolding loop_at
 loop_spells words y q = by_loop words y (behind mark.For words) refl q
 
 -- what stands between the parameters and the accumulators
-data SpellsTail : List Word → Option Ty → List Word → Type 0 where
+pub data SpellsTail : List Word → Option Ty → List Word → Type 0 where
   no_type : {rest : List Word} → SpellsTail (IsMark mark.OpenBrace ∷ rest) None rest
   with_type : {t : Ty} {rest : List Word} → SpellsTail (IsMark mark.Arrow ∷ IsType t ∷ IsMark mark.OpenBrace ∷ rest) (Some t) rest
 
@@ -185,16 +185,16 @@ by_tail words y None p q =
     let w : words ≡ IsMark mark.Arrow ∷ IsType t.0.0 ∷ IsMark mark.OpenBrace ∷ rest.0 = after-is mark.Arrow words from.0 from.1 ∙ ap (λ (z : List Word). IsMark mark.Arrow ∷ z) (type-is from.0 t.0 t.1 ∙ ap (λ (z : List Word). IsType t.0.0 ∷ z) (after-is mark.OpenBrace t.0.1 rest.0 rest.1)) in
     subst (λ (x : Option Ty × List Word). SpellsTail words x.0 x.1) (ok_is (Some t.0.0, rest.0) y rest.2) (subst (λ (z : List Word). SpellsTail z (Some t.0.0) rest.0) (sym w) with_type)
 
-tail_spells : (words : List Word) (y : Option Ty × List Word) → tail_at words ≡ Ok y → SpellsTail words y.0 y.1
+pub tail_spells : (words : List Word) (y : Option Ty × List Word) → tail_at words ≡ Ok y → SpellsTail words y.0 y.1
 unfolding tail_at
 tail_spells words y q = by_tail words y (behind mark.OpenBrace words) refl q
 
 -- what stands behind the loop
-data SpellsAnswer : Option Ty → List Word → Option Returned → List Word → Type 0 where
+pub data SpellsAnswer : Option Ty → List Word → Option Returned → List Word → Type 0 where
   no_answer : {rest : List Word} → SpellsAnswer None (IsMark mark.CloseBrace ∷ rest) None rest
   with_answer : {t : Ty} {e : Term} {from rest : List Word} → Spells 10 from e (IsMark mark.Semicolon ∷ IsMark mark.CloseBrace ∷ rest) → SpellsAnswer (Some t) (IsMark mark.Return ∷ from) (Some (record { type = t; value = e })) rest
 
-answer_spells : (t : Option Ty) (words : List Word) (y : Option Returned × List Word) → answer_by t words ≡ Ok y → SpellsAnswer t words y.0 y.1
+pub answer_spells : (t : Option Ty) (words : List Word) (y : Option Returned × List Word) → answer_by t words ≡ Ok y → SpellsAnswer t words y.0 y.1
 unfolding answer_by
 answer_spells None words y q =
     let rest = bind_ok (after mark.CloseBrace words) (λ rest. Ok (None, rest)) y q in

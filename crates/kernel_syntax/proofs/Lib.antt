@@ -11,3 +11,14 @@ pub mod Outcomes
 pub mod Rooms
 pub mod Rows
 pub mod Decided
+pub mod Stuck
+pub mod StuckActions
+pub mod StuckKernel
+pub mod Within
+pub mod Reach
+pub mod WithinKernel
+pub mod ReachActions
+pub mod ReachKernel
+pub mod Extend
+pub mod Cut
+pub mod Place

@@ -1,5 +1,5 @@
 -- What reading comes to.
-use Rattle.std.proofs.Common.{◌≡◌, ℕ, suc, ◌+◌, ◌<◌, ◌≤◌, Bool, true, false, cond, List, [], ◌∷◌, length, Option, Some, None, Result, Ok, Err, refl, sym, ap, subst, ◌∙◌, arith, ◌⊎◌, inl, inr}
+use Rattle.std.proofs.Common.{◌≡◌, ℕ, suc, ◌<◌, ◌≤◌, true, false, List, [], ◌∷◌, length, Option, Some, None, Result, Ok, Err, sym, ap, ◌∙◌, arith, inl, inr}
 use Rattle.std.specs.Prelude.{nat_lt, option_map, IfOk}
 use Rattle.std.proofs.lemmas.Bool.{cond-true, cond-false, lt-ltb}
 use Rattle.std.proofs.lemmas.Bool.Decides.{leb_tells}
@@ -9,13 +9,12 @@ use Rattle.kernel_tree.specs.declared.token.Token.{Token}
 use Rattle.kernel_tree.specs.Word.{Word}
 use Rattle.kernel_tree.specs.Plain.{Program, program_of, word_of, words_of}
 use Rattle.kernel_tree.specs.Tokens.{tokens_of}
-use Rattle.kernel_tree.specs.Grammar.{Tree}
 use Rattle.kernel_tree.proofs.TokenList.{tokens_are}
 use Rattle.kernel_syntax.specs.declared.fault.ReadFault.{ReadFault}
 use Rattle.kernel_syntax.specs.declared.fault.ReadFault.TheVariants as faults
 use Rattle.kernel_syntax.specs.Headers.{alone}
 use Rattle.kernel_syntax.specs.Nesting.{deep_place}
-use Rattle.kernel_syntax.specs.Refusals.{words_fault, tokens_fault, limit_fault, IsReadFrom, HasNoTree, WordsGive, TextGives}
+use Rattle.kernel_syntax.specs.Refusals.{words_fault, tokens_fault, limit_fault, IsReadFrom, WordsGive, TextGives}
 
 above_is : (a b : ℕ) → a < b → nat_lt a b ≡ true
 above_is a b h = lt-ltb a b h
@@ -46,7 +45,7 @@ words_give_text text ts (Ok k) h e g = (short_text text (Ok (words_of ts)) h e �
 words_give_text text ts (Err faults.TooLong) h e g = short_text text (Ok (words_of ts)) h e ∙ g
 words_give_text text ts (Err (faults.BadByte at)) h e g = absurd g
 words_give_text text ts (Err (faults.TooDeep token)) h e g = short_text text (Ok (words_of ts)) h e ∙ g
-words_give_text text ts (Err (faults.Syntax token)) h e g = (short_text text (Ok (words_of ts)) h e ∙ g.0, record { words = words_of ts; tokens = e; none = g.1 })
+words_give_text text ts (Err (faults.Syntax token)) h e g = (short_text text (Ok (words_of ts)) h e ∙ g.0, record { words = words_of ts; tokens = e; none = g.1 }, record { words = words_of ts; tokens = e; place = g.2 })
 words_give_text text ts (Err faults.Memory) h e g = tt
 
 pub read_tree : (text : List ℕ) (r : Result Kernel ReadFault) → TextGives text r → IfOk r (λ k. IsReadFrom text (program_of k))

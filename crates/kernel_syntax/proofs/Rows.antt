@@ -1,5 +1,5 @@
 -- A row of signs, as far as a loop has read it.
-use Rattle.std.proofs.Common.{◌≡◌, ℕ, zero, suc, ◌-◌, ◌<◌, List, [], ◌∷◌, ◌++◌, length, Option, Some, None, Result, Ok, Err, refl, sym, ap, subst, ◌∙◌, arith}
+use Rattle.std.proofs.Common.{◌≡◌, ℕ, zero, suc, ◌-◌, ◌<◌, List, [], ◌∷◌, ◌++◌, length, Option, Some, None, Ok, Err, refl, sym, ap, ◌∙◌, arith}
 use Rattle.kernel_tree.specs.declared.mark.Mark.{Mark}
 use Rattle.kernel_tree.specs.declared.mark.Sign.{Sign}
 use Rattle.kernel_tree.specs.declared.mark.Sign.TheVariants as sign
@@ -9,7 +9,7 @@ use Rattle.kernel_tree.specs.Word.{Word, IsMark}
 use Rattle.kernel_tree.specs.Plain.{Term}
 use Rattle.kernel_tree.specs.Grammar.{opening_of_mark, signed, number_behind}
 use Rattle.kernel_syntax.specs.declared.fault.Stop.{Stop}
-use Rattle.kernel_syntax.specs.Reading.{◌>>=◌, Fails, given, Outcome, mark_at, sign_of, sign_front, signed_by, opened_by, chain_at, unary_at}
+use Rattle.kernel_syntax.specs.Reading.{◌>>=◌, Fails, Outcome, mark_at, sign_of, sign_front, signed_by, opened_by, chain_at, unary_at}
 use Rattle.kernel_syntax.specs.Signs.{all_signed}
 use Rattle.kernel_syntax.proofs.Chain.{fails_on}
 use Rattle.kernel_syntax.proofs.Sound.{given_is, some_is, mark-is}

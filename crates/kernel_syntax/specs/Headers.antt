@@ -1,5 +1,5 @@
 -- Reading kernels.
-use Rattle.std.specs.Prelude.{◌≡◌, ℕ, zero, suc, List, [], ◌∷◌, length, Bool, true, false, Option, Some, None, Result, Ok, Err, nat_eq, if◌then◌else◌}
+use Rattle.std.specs.Prelude.{ℕ, zero, suc, List, [], ◌∷◌, length, true, Option, Some, None, Result, Ok, Err, nat_eq, if◌then◌else◌}
 use Rattle.kernel_tree.specs.declared.ops.Ty.{Ty}
 use Rattle.kernel_tree.specs.declared.ast.Shape.{Shape}
 use Rattle.kernel_tree.specs.declared.ast.Shape.TheVariants as shape

@@ -1,5 +1,5 @@
 -- How deep the tokens of a text nest.
-use Rattle.std.specs.Prelude.{ℕ, zero, suc, ◌+◌, ◌-◌, List, [], ◌∷◌, Bool, true, false, Option, Some, None, nat_lt, ◌||◌, if◌then◌else◌}
+use Rattle.std.specs.Prelude.{ℕ, ◌+◌, ◌-◌, List, [], ◌∷◌, Option, Some, None, nat_lt, ◌||◌, if◌then◌else◌}
 use Rattle.kernel_tree.specs.declared.mark.Mark.{Mark}
 use Rattle.kernel_tree.specs.declared.mark.Mark.TheVariants as mark
 use Rattle.kernel_tree.specs.Word.{Word, IsName, IsNumber, IsType, IsCompare, IsUpdate, IsMark}

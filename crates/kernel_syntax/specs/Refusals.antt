@@ -1,10 +1,11 @@
 -- What a text is refused for, and what a kernel that was read is.
-use Rattle.std.specs.Prelude.{◌≡◌, ℕ, ◌≤◌, List, length, Option, Some, None, option_map, Result, Ok, Err, IsTrue, nat_lt, if◌then◌else◌}
+use Rattle.std.specs.Prelude.{◌≡◌, ℕ, ◌≤◌, List, length, take, Option, Some, None, option_map, Result, Ok, Err, IsTrue, nat_lt, if◌then◌else◌}
 use Rattle.kernel_tree.specs.Word.{Word}
 use Rattle.kernel_tree.specs.Tokens.{tokens_of, are_tokens}
 use Rattle.kernel_tree.specs.declared.ast.Kernel.{Kernel}
 use Rattle.kernel_tree.specs.Plain.{Program, program_of}
 use Rattle.kernel_tree.specs.Grammar.{Tree}
+use Rattle.kernel_tree.specs.Front.{Viable}
 use Rattle.kernel_tree.specs.Limits.{most_bytes, most_tokens}
 use Rattle.kernel_syntax.specs.declared.fault.ReadFault.{ReadFault}
 use Rattle.kernel_syntax.specs.declared.fault.ReadFault.TheVariants as faults
@@ -36,13 +37,25 @@ pub record HasNoTree (text : List ℕ) : Type 0 where
   pub tokens : tokens_of text ≡ Ok words
   pub none : (k : Program) → Tree words k → ⊥
 
+-- so many words are the longest front of a kernel that some words begin with
+pub record IsPlace (words : List Word) (token : ℕ) : Type 0 where
+  pub within : token ≤ length words
+  pub viable : Viable (take token words)
+  pub longest : (n : ℕ) → n ≤ length words → Viable (take n words) → n ≤ token
+
+-- the text has tokens, and so many of them are the longest front of a kernel that they begin with
+pub record StopsAt (text : List ℕ) (token : ℕ) : Type 0 where
+  pub words : List Word
+  pub tokens : tokens_of text ≡ Ok words
+  pub place : IsPlace words token
+
 -- what reading some words comes to
 abbrev pub WordsGive : List Word → Result Kernel ReadFault → Type 0
 WordsGive words (Ok k) = (words_fault words ≡ None) × Tree words (program_of k)
 WordsGive words (Err faults.TooLong) = words_fault words ≡ Some faults.TooLong
 WordsGive words (Err (faults.BadByte at)) = ⊥
 WordsGive words (Err (faults.TooDeep token)) = words_fault words ≡ Some (faults.TooDeep token)
-WordsGive words (Err (faults.Syntax token)) = (words_fault words ≡ None) × ((k : Program) → Tree words k → ⊥)
+WordsGive words (Err (faults.Syntax token)) = (words_fault words ≡ None) × ((k : Program) → Tree words k → ⊥) × IsPlace words token
 WordsGive words (Err faults.Memory) = Unit {0}
 
 -- what reading a text comes to
@@ -51,5 +64,5 @@ TextGives text (Ok k) = (limit_fault text ≡ None) × IsReadFrom text (program_
 TextGives text (Err faults.TooLong) = limit_fault text ≡ Some faults.TooLong
 TextGives text (Err (faults.BadByte at)) = limit_fault text ≡ Some (faults.BadByte at)
 TextGives text (Err (faults.TooDeep token)) = limit_fault text ≡ Some (faults.TooDeep token)
-TextGives text (Err (faults.Syntax token)) = (limit_fault text ≡ None) × HasNoTree text
+TextGives text (Err (faults.Syntax token)) = (limit_fault text ≡ None) × HasNoTree text × StopsAt text token
 TextGives text (Err faults.Memory) = Unit {0}

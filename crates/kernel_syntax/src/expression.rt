@@ -28,7 +28,8 @@ fn chain<'a>(
     room: usize,
 ) -> Result<(Expr, &'a [Token]), Stop>
     requires { level ≤ 10 }
-    ensures value { Gives (λ x. (term_of x.0, words_of x.1.now)) result (chain_at (unary_at room) level (words_of tokens.now)) }
+    ensures value { Gives (λ x. (term_of x.0, words_of x.1.now)) result
+        (chain_at (unary_at room) level (words_of tokens.now)) }
     ensures shorter { IfOk result (λ x. length x.1.now < length tokens.now) }
 {
     if level == 0 {
@@ -79,7 +80,8 @@ fn unary<'a>(alloc: Global, tokens: &'a [Token], room: usize) -> Result<(Expr, &
 // A unary expression by its first token.
 #[cycle(expression)]
 fn begun<'a>(alloc: Global, tokens: &'a [Token], room: usize) -> Result<(Expr, &'a [Token]), Stop>
-    ensures value { Gives (λ x. (term_of x.0, words_of x.1.now)) result (unary_by (chain_at (unary_at room) 10) (unary_at room) (words_of tokens.now)) }
+    ensures value { Gives (λ x. (term_of x.0, words_of x.1.now)) result
+        (unary_by (chain_at (unary_at room) 10) (unary_at room) (words_of tokens.now)) }
     ensures shorter { IfOk result (λ x. length x.1.now < length tokens.now) }
 {
     match tokens {
@@ -101,7 +103,8 @@ fn opened<'a>(
     tokens: &'a [Token],
     room: usize,
 ) -> Result<(Expr, &'a [Token]), Stop>
-    ensures value { Gives (λ x. (term_of x.0, words_of x.1.now)) result (opened_by (chain_at (unary_at room) 10) (unary_at room) (opening_of_mark mark) (words_of tokens.now)) }
+    ensures value { Gives (λ x. (term_of x.0, words_of x.1.now)) result
+        (opened_by (chain_at (unary_at room) 10) (unary_at room) (opening_of_mark mark) (words_of tokens.now)) }
     ensures shorter { IfOk result (λ x. length x.1.now < length tokens.now) }
 {
     match class::opening(mark) {
@@ -125,7 +128,8 @@ pub fn term_then<'a>(
     mark: Mark,
     room: usize,
 ) -> Result<(Expr, &'a [Token]), Stop>
-    ensures value { Gives (λ x. (term_of x.0, words_of x.1.now)) result (term_before (chain_at (unary_at room) 10) mark (words_of tokens.now)) }
+    ensures value { Gives (λ x. (term_of x.0, words_of x.1.now)) result
+        (term_before (chain_at (unary_at room) 10) mark (words_of tokens.now)) }
     ensures shorter { IfOk result (λ x. length x.1.now < length tokens.now) }
 {
     let (e, behind) = chain(alloc, tokens, ANY, room)?;
@@ -141,7 +145,8 @@ fn named<'a>(
     tokens: &'a [Token],
     room: usize,
 ) -> Result<(Expr, &'a [Token]), Stop>
-    ensures value { Gives (λ x. (term_of x.0, words_of x.1.now)) result (name_by (chain_at (unary_at room) 10) (name_of name.now) (words_of tokens.now)) }
+    ensures value { Gives (λ x. (term_of x.0, words_of x.1.now)) result
+        (name_by (chain_at (unary_at room) 10) (name_of name.now) (words_of tokens.now)) }
     ensures shorter { IfOk result (λ x. length x.1.now ≤ length tokens.now) }
 {
     let name = copy_name(alloc, name)?;
@@ -163,7 +168,8 @@ fn pair<'a>(
     tokens: &'a [Token],
     room: usize,
 ) -> Result<(Expr, &'a [Token]), Stop>
-    ensures value { Gives (λ x. (term_of x.0, words_of x.1.now)) result (pair_by (chain_at (unary_at room) 10) op (words_of tokens.now)) }
+    ensures value { Gives (λ x. (term_of x.0, words_of x.1.now)) result
+        (pair_by (chain_at (unary_at room) 10) op (words_of tokens.now)) }
     ensures shorter { IfOk result (λ x. length x.1.now < length tokens.now) }
 {
     let from = expect(tokens, Mark::OpenParen)?;
@@ -180,7 +186,8 @@ fn absolute<'a>(
     tokens: &'a [Token],
     room: usize,
 ) -> Result<(Expr, &'a [Token]), Stop>
-    ensures value { Gives (λ x. (term_of x.0, words_of x.1.now)) result (absolute_by (chain_at (unary_at room) 10) (words_of tokens.now)) }
+    ensures value { Gives (λ x. (term_of x.0, words_of x.1.now)) result
+        (absolute_by (chain_at (unary_at room) 10) (words_of tokens.now)) }
     ensures shorter { IfOk result (λ x. length x.1.now < length tokens.now) }
 {
     let from = expect(tokens, Mark::OpenParen)?;
@@ -192,7 +199,8 @@ fn absolute<'a>(
 #[cycle(expression)]
 #[tactic(auto, unfolding(crate::specs::Reading::choice_by))]
 fn choice<'a>(alloc: Global, tokens: &'a [Token], room: usize) -> Result<(Expr, &'a [Token]), Stop>
-    ensures value { Gives (λ x. (term_of x.0, words_of x.1.now)) result (choice_by (chain_at (unary_at room) 10) (words_of tokens.now)) }
+    ensures value { Gives (λ x. (term_of x.0, words_of x.1.now)) result
+        (choice_by (chain_at (unary_at room) 10) (words_of tokens.now)) }
     ensures shorter { IfOk result (λ x. length x.1.now < length tokens.now) }
 {
     let from = expect(tokens, Mark::OpenParen)?;
@@ -254,7 +262,8 @@ fn operand<'a>(
     tokens: &'a [Token],
     room: usize,
 ) -> Result<(Expr, &'a [Token]), Stop>
-    ensures value { Gives (λ x. (term_of x.0, words_of x.1.now)) result (signed_by (unary_at room) sign (words_of tokens.now)) }
+    ensures value { Gives (λ x. (term_of x.0, words_of x.1.now)) result
+        (signed_by (unary_at room) sign (words_of tokens.now)) }
     ensures shorter { IfOk result (λ x. length x.1.now < length tokens.now) }
 {
     match signed_number(sign, tokens) {
@@ -274,7 +283,8 @@ fn signed<'a>(
     tokens: &'a [Token],
     room: usize,
 ) -> Result<(Expr, &'a [Token]), Stop>
-    ensures value { Gives (λ x. (term_of x.0, words_of x.1.now)) result (signed_by (unary_at room) sign (words_of tokens.now)) }
+    ensures value { Gives (λ x. (term_of x.0, words_of x.1.now)) result
+        (signed_by (unary_at room) sign (words_of tokens.now)) }
     ensures shorter { IfOk result (λ x. length x.1.now < length tokens.now) }
 {
     let mut signs = Vec::new(alloc);

@@ -180,7 +180,8 @@ pub fn read_answer<'a>(
     ty: Option<Ty>,
     tokens: &'a [Token],
 ) -> Result<(Option<Answer>, &'a [Token]), Stop>
-    ensures value { Gives (λ x. (option_map returned_of x.0, words_of x.1.now)) result (answer_by ty (words_of tokens.now)) }
+    ensures value { Gives (λ x. (option_map returned_of x.0, words_of x.1.now)) result
+        (answer_by ty (words_of tokens.now)) }
     ensures shorter { IfOk result (λ x. length x.1.now < length tokens.now) }
 {
     match ty {

@@ -4,7 +4,7 @@ ghost use Rattle.std.specs.Prelude.{◌≡◌, ◌≤◌, ◌<◌, ℕ, length, 
 ghost use Rattle.kernel_tree.specs.Plain.{words_of, program_of};
 ghost use Rattle.kernel_syntax.specs.Reading.{Gives};
 ghost use Rattle.kernel_syntax.specs.Headers.{kernel_at};
-ghost use Rattle.kernel_syntax.specs.Refusals.{limit_fault, WordsGive, TextGives, IsReadFrom, HasNoTree};
+ghost use Rattle.kernel_syntax.specs.Refusals.{limit_fault, WordsGive, TextGives, IsReadFrom, HasNoTree, StopsAt};
 
 use crate::fault::{ReadFault, Stop};
 use crate::front::{expect, expect_name};
@@ -88,12 +88,16 @@ pub fn read_kernel(alloc: Global, text: &[u8]) -> Result<Kernel, ReadFault>
 
     // Why a text is refused before the grammar is looked at.
     ensures too_long { result ≡ Err ReadFault.TooLong → limit_fault text.now ≡ Some ReadFault.TooLong }
-    ensures bad_byte { (at : ℕ) → result ≡ Err (ReadFault.BadByte at) → limit_fault text.now ≡ Some (ReadFault.BadByte at) }
-    ensures too_deep { (token : ℕ) → result ≡ Err (ReadFault.TooDeep token) → limit_fault text.now ≡ Some (ReadFault.TooDeep token) }
+    ensures bad_byte { (at : ℕ) → result ≡ Err (ReadFault.BadByte at)
+        → limit_fault text.now ≡ Some (ReadFault.BadByte at) }
+    ensures too_deep { (token : ℕ) → result ≡ Err (ReadFault.TooDeep token)
+        → limit_fault text.now ≡ Some (ReadFault.TooDeep token) }
 
     // Other texts are refused where no kernel is the tree of their tokens.
     ensures no_tree { (token : ℕ) → result ≡ Err (ReadFault.Syntax token) → HasNoTree text.now }
     ensures no_limit { (token : ℕ) → result ≡ Err (ReadFault.Syntax token) → limit_fault text.now ≡ None }
+    // The token named is the one behind the longest front of a kernel that the tokens begin with.
+    ensures place { (token : ℕ) → result ≡ Err (ReadFault.Syntax token) → StopsAt text.now token }
 {
     read_text(alloc, text)
 }

@@ -16,4 +16,4 @@ mod tests;
 
 pub use fault::ReadFault;
 pub use kernel::read_kernel;
-pub use laws::read_or_no_tree;
+pub use laws::{read_or_no_tree, stops_once, stops_somewhere};

@@ -55,7 +55,8 @@ fn definition<'a>(alloc: Global, tokens: &'a [Token]) -> Result<(Stmt, &'a [Toke
 // What stands behind the bracket of the element that a store writes.
 #[tactic(auto, unfolding(crate::specs::Statements::put_at))]
 fn store<'a>(alloc: Global, array: &Name, tokens: &'a [Token]) -> Result<(Stmt, &'a [Token]), Stop>
-    ensures value { Gives (λ x. (action_of x.0, words_of x.1.now)) result (put_at (name_of array.now) (words_of tokens.now)) }
+    ensures value { Gives (λ x. (action_of x.0, words_of x.1.now)) result
+        (put_at (name_of array.now) (words_of tokens.now)) }
     ensures shorter { IfOk result (λ x. length x.1.now < length tokens.now) }
 {
     let array = copy_name(alloc, array)?;
@@ -80,7 +81,8 @@ fn update<'a>(
     op: UpdateOp,
     tokens: &'a [Token],
 ) -> Result<(Stmt, &'a [Token]), Stop>
-    ensures value { Gives (λ x. (action_of x.0, words_of x.1.now)) result (update_at (name_of name.now) op (words_of tokens.now)) }
+    ensures value { Gives (λ x. (action_of x.0, words_of x.1.now)) result
+        (update_at (name_of name.now) op (words_of tokens.now)) }
     ensures shorter { IfOk result (λ x. length x.1.now < length tokens.now) }
 {
     let name = copy_name(alloc, name)?;
@@ -91,7 +93,8 @@ fn update<'a>(
 // What stands behind the name of what a statement changes.
 #[tactic(auto, unfolding(crate::specs::Statements::target_at))]
 fn target<'a>(alloc: Global, name: &Name, tokens: &'a [Token]) -> Result<(Stmt, &'a [Token]), Stop>
-    ensures value { Gives (λ x. (action_of x.0, words_of x.1.now)) result (target_at (name_of name.now) (words_of tokens.now)) }
+    ensures value { Gives (λ x. (action_of x.0, words_of x.1.now)) result
+        (target_at (name_of name.now) (words_of tokens.now)) }
     ensures shorter { IfOk result (λ x. length x.1.now < length tokens.now) }
 {
     if let Some(from) = accept(tokens, Mark::OpenBracket) {
@@ -123,7 +126,8 @@ fn leaving<'a>(alloc: Global, tokens: &'a [Token], whole: bool) -> Result<(Stmt,
 #[cycle(block)]
 #[tactic(auto, unfolding(crate::specs::Statements::choose_by))]
 fn choice<'a>(alloc: Global, tokens: &'a [Token], room: usize) -> Result<(Stmt, &'a [Token]), Stop>
-    ensures value { Gives (λ x. (action_of x.0, words_of x.1.now)) result (choose_by (block_at false room) (words_of tokens.now)) }
+    ensures value { Gives (λ x. (action_of x.0, words_of x.1.now)) result
+        (choose_by (block_at false room) (words_of tokens.now)) }
     ensures shorter { IfOk result (λ x. length x.1.now < length tokens.now) }
 {
     let (cond, from) = term(alloc, tokens, Mark::OpenBrace)?;
@@ -147,7 +151,8 @@ fn begun<'a>(
     whole: bool,
     room: usize,
 ) -> Result<(Stmt, &'a [Token]), Stop>
-    ensures value { Gives (λ x. (action_of x.0, words_of x.1.now)) result (begun_by whole (block_at false room) (beginning_of_mark mark) (words_of tokens.now)) }
+    ensures value { Gives (λ x. (action_of x.0, words_of x.1.now)) result
+        (begun_by whole (block_at false room) (beginning_of_mark mark) (words_of tokens.now)) }
     ensures shorter { IfOk result (λ x. length x.1.now < length tokens.now) }
 {
     match class::beginning(mark) {
@@ -169,7 +174,8 @@ fn statement<'a>(
     whole: bool,
     room: usize,
 ) -> Result<(Stmt, &'a [Token]), Stop>
-    ensures value { Gives (λ x. (action_of x.0, words_of x.1.now)) result (statement_by whole (block_at false room) (words_of tokens.now)) }
+    ensures value { Gives (λ x. (action_of x.0, words_of x.1.now)) result
+        (statement_by whole (block_at false room) (words_of tokens.now)) }
     ensures shorter { IfOk result (λ x. length x.1.now < length tokens.now) }
 {
     match tokens {
@@ -192,7 +198,8 @@ pub fn block<'a>(
     whole: bool,
     room: usize,
 ) -> Result<(Vec<Stmt>, &'a [Token]), Stop>
-    ensures value { Gives (λ x. (block_of x.0.items, words_of x.1.now)) result (block_at whole room (words_of tokens.now)) }
+    ensures value { Gives (λ x. (block_of x.0.items, words_of x.1.now)) result
+        (block_at whole room (words_of tokens.now)) }
     ensures shorter { IfOk result (λ x. length x.1.now < length tokens.now) }
 {
     if room == 0 {

@@ -49,7 +49,8 @@ fn hex_count(bytes: &[u8]) -> usize
 // The number that digits spell in a base, where it is below the limit.
 fn value(base: u128, digits: &[u8]) -> Option<u128>
     requires { 1 ≤ base }
-    ensures { MatchOption result (2 ^ 127 ≤ value_of base digits.now) (λ n. (n ≡ value_of base digits.now) × (n < 2 ^ 127)) }
+    ensures { MatchOption result (2 ^ 127 ≤ value_of base digits.now)
+        (λ n. (n ≡ value_of base digits.now) × (n < 2 ^ 127)) }
 {
     let mut n: u128 = 0;
     for d in digits {

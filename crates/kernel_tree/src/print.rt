@@ -20,7 +20,10 @@ use token::{put_mark, put_name};
 
 // The name, the parameters and the type that is returned.
 fn put_head(out: &mut String, kernel: &Kernel) -> Result<(), AllocError>
-    ensures { let k = program_of kernel.now in IfOk result (λ _. (rest : List Word) → string_bytes out.new ++ spaced rest ≡ string_bytes out.old ++ spaced (IsName k.name ∷ IsMark Mark.OpenParen ∷ print_params k.params (IsMark Mark.CloseParen ∷ print_arrow k.answer (IsMark Mark.OpenBrace ∷ rest)))) }
+    ensures { let k = program_of kernel.now in IfOk result
+        (λ _. (rest : List Word) → string_bytes out.new ++ spaced rest
+        ≡ string_bytes out.old ++ spaced (IsName k.name ∷ IsMark Mark.OpenParen
+        ∷ print_params k.params (IsMark Mark.CloseParen ∷ print_arrow k.answer (IsMark Mark.OpenBrace ∷ rest)))) }
 {
     put_name(out, &kernel.name)?;
     put_mark(out, Mark::OpenParen)?;
@@ -33,7 +36,10 @@ fn put_head(out: &mut String, kernel: &Kernel) -> Result<(), AllocError>
 
 // What stands in the braces.
 fn put_inside(out: &mut String, kernel: &Kernel) -> Result<(), AllocError>
-    ensures { let k = program_of kernel.now in IfOk result (λ _. (rest : List Word) → string_bytes out.new ++ spaced rest ≡ string_bytes out.old ++ spaced (print_vars k.vars (print_turns k.turns (print_answer k.answer (IsMark Mark.CloseBrace ∷ rest))))) }
+    ensures { let k = program_of kernel.now in IfOk result
+        (λ _. (rest : List Word) → string_bytes out.new ++ spaced rest
+        ≡ string_bytes out.old ++ spaced (print_vars k.vars
+        (print_turns k.turns (print_answer k.answer (IsMark Mark.CloseBrace ∷ rest))))) }
 {
     put_vars(out, &kernel.vars)?;
     put_loop(out, &kernel.body)?;
@@ -47,7 +53,8 @@ fn put_inside(out: &mut String, kernel: &Kernel) -> Result<(), AllocError>
 pub fn print_kernel(alloc: Global, kernel: &Kernel) -> Result<String, AllocError>
     ensures canonical { IfOk result (λ text. string_bytes text ≡ canonical_text (program_of kernel.now)) }
     // The text of a kernel that is the tree of some tokens has that kernel as its tree.
-    ensures reads_back { IfOk result (λ text. IsTree (program_of kernel.now) → IsTextOf (program_of kernel.now) (string_bytes text)) }
+    ensures reads_back { IfOk result (λ text. IsTree (program_of kernel.now)
+        → IsTextOf (program_of kernel.now) (string_bytes text)) }
 {
     let mut text = String::from_str(alloc, "kernel")?;
     put_head(&mut text, kernel)?;

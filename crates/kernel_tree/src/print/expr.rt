@@ -57,7 +57,9 @@ fn end_shift(
     count: i128,
     place: Place,
 ) -> Result<(), AllocError>
-    ensures { IfOk result (λ _. (rest : List Word) → string_bytes out.new ++ spaced rest ≡ string_bytes out.old ++ spaced (IsMark (mark_of_shift left_shift) ∷ print_count count (closed place rest))) }
+    ensures { IfOk result (λ _. (rest : List Word)
+        → string_bytes out.new ++ spaced rest
+        ≡ string_bytes out.old ++ spaced (IsMark (mark_of_shift left_shift) ∷ print_count count (closed place rest))) }
 {
     put_mark(out, shift_mark(left_shift))?;
     put_count(out, count)?;
@@ -68,7 +70,9 @@ fn end_shift(
 // An expression in a place.
 #[cycle(terms)]
 pub fn print_expr(out: &mut String, expr: &Expr, place: Place) -> Result<(), AllocError>
-    ensures { IfOk result (λ _. (rest : List Word) → string_bytes out.new ++ spaced rest ≡ string_bytes out.old ++ spaced (print_term (term_of expr.now) place rest)) }
+    ensures { IfOk result (λ _. (rest : List Word)
+        → string_bytes out.new ++ spaced rest
+        ≡ string_bytes out.old ++ spaced (print_term (term_of expr.now) place rest)) }
 {
     match expr {
         Expr::Lit(value) => print_value(out, *value, place)?,
@@ -93,7 +97,10 @@ pub fn print_expr(out: &mut String, expr: &Expr, place: Place) -> Result<(), All
 
 #[cycle(terms)]
 fn print_read(out: &mut String, array: &Name, index: &Expr) -> Result<(), AllocError>
-    ensures { IfOk result (λ _. (rest : List Word) → string_bytes out.new ++ spaced rest ≡ string_bytes out.old ++ spaced (IsName (name_of array.now) ∷ IsMark Mark.OpenBracket ∷ print_term (term_of index.now) Place.Alone (IsMark Mark.CloseBracket ∷ rest))) }
+    ensures { IfOk result (λ _. (rest : List Word)
+        → string_bytes out.new ++ spaced rest
+        ≡ string_bytes out.old ++ spaced (IsName (name_of array.now) ∷ IsMark Mark.OpenBracket
+        ∷ print_term (term_of index.now) Place.Alone (IsMark Mark.CloseBracket ∷ rest))) }
 {
     put_name(out, array)?;
     put_mark(out, Mark::OpenBracket)?;
@@ -104,7 +111,9 @@ fn print_read(out: &mut String, array: &Name, index: &Expr) -> Result<(), AllocE
 
 #[cycle(terms)]
 fn print_unary(out: &mut String, op: UnaryOp, arg: &Expr, place: Place) -> Result<(), AllocError>
-    ensures { IfOk result (λ _. (rest : List Word) → string_bytes out.new ++ spaced rest ≡ string_bytes out.old ++ spaced (print_unary op (print_term (term_of arg.now)) place rest)) }
+    ensures { IfOk result (λ _. (rest : List Word)
+        → string_bytes out.new ++ spaced rest
+        ≡ string_bytes out.old ++ spaced (print_unary op (print_term (term_of arg.now)) place rest)) }
 {
     match op {
         UnaryOp::Neg => {
@@ -137,7 +146,10 @@ fn print_binary(
     right: &Expr,
     place: Place,
 ) -> Result<(), AllocError>
-    ensures { IfOk result (λ _. (rest : List Word) → string_bytes out.new ++ spaced rest ≡ string_bytes out.old ++ spaced (print_binary (mark_of_binary op) op (print_term (term_of left.now)) (print_term (term_of right.now)) place rest)) }
+    ensures { IfOk result (λ _. (rest : List Word)
+        → string_bytes out.new ++ spaced rest
+        ≡ string_bytes out.old ++ spaced (print_binary (mark_of_binary op) op (print_term (term_of left.now))
+        (print_term (term_of right.now)) place rest)) }
 {
     match symbol(op) {
         Some(mark) => print_between(out, left, mark, right, place)?,
@@ -154,7 +166,10 @@ fn print_between(
     right: &Expr,
     place: Place,
 ) -> Result<(), AllocError>
-    ensures { IfOk result (λ _. (rest : List Word) → string_bytes out.new ++ spaced rest ≡ string_bytes out.old ++ spaced (print_between (print_term (term_of left.now)) (IsMark mark) (print_term (term_of right.now)) place rest)) }
+    ensures { IfOk result (λ _. (rest : List Word)
+        → string_bytes out.new ++ spaced rest
+        ≡ string_bytes out.old ++ spaced (print_between (print_term (term_of left.now)) (IsMark mark)
+        (print_term (term_of right.now)) place rest)) }
 {
     open(out, place)?;
     print_expr(out, left, Place::Operand)?;
@@ -172,7 +187,10 @@ fn print_compared(
     right: &Expr,
     place: Place,
 ) -> Result<(), AllocError>
-    ensures { IfOk result (λ _. (rest : List Word) → string_bytes out.new ++ spaced rest ≡ string_bytes out.old ++ spaced (print_between (print_term (term_of left.now)) (IsCompare op) (print_term (term_of right.now)) place rest)) }
+    ensures { IfOk result (λ _. (rest : List Word)
+        → string_bytes out.new ++ spaced rest
+        ≡ string_bytes out.old ++ spaced (print_between (print_term (term_of left.now)) (IsCompare op)
+        (print_term (term_of right.now)) place rest)) }
 {
     open(out, place)?;
     print_expr(out, left, Place::Operand)?;
@@ -184,7 +202,10 @@ fn print_compared(
 
 #[cycle(terms)]
 fn print_call(out: &mut String, mark: Mark, left: &Expr, right: &Expr) -> Result<(), AllocError>
-    ensures { IfOk result (λ _. (rest : List Word) → string_bytes out.new ++ spaced rest ≡ string_bytes out.old ++ spaced (print_call mark (print_term (term_of left.now)) (print_term (term_of right.now)) rest)) }
+    ensures { IfOk result (λ _. (rest : List Word)
+        → string_bytes out.new ++ spaced rest
+        ≡ string_bytes out.old ++ spaced (print_call mark (print_term (term_of left.now))
+        (print_term (term_of right.now)) rest)) }
 {
     put_mark(out, mark)?;
     put_mark(out, Mark::OpenParen)?;
@@ -203,7 +224,11 @@ fn print_shift(
     count: i128,
     place: Place,
 ) -> Result<(), AllocError>
-    ensures { IfOk result (λ _. (rest : List Word) → string_bytes out.new ++ spaced rest ≡ string_bytes out.old ++ spaced (opened place (print_term (term_of arg.now) Place.Operand (IsMark (mark_of_shift left_shift) ∷ print_count count (closed place rest))))) }
+    ensures { IfOk result (λ _. (rest : List Word)
+        → string_bytes out.new ++ spaced rest
+        ≡ string_bytes out.old ++ spaced (opened place
+        (print_term (term_of arg.now) Place.Operand
+        (IsMark (mark_of_shift left_shift) ∷ print_count count (closed place rest))))) }
 {
     open(out, place)?;
     print_expr(out, arg, Place::Operand)?;
@@ -213,7 +238,10 @@ fn print_shift(
 
 #[cycle(terms)]
 fn print_cast(out: &mut String, arg: &Expr, ty: Ty, place: Place) -> Result<(), AllocError>
-    ensures { IfOk result (λ _. (rest : List Word) → string_bytes out.new ++ spaced rest ≡ string_bytes out.old ++ spaced (opened place (print_term (term_of arg.now) Place.Operand (IsMark Mark.As ∷ IsType ty ∷ closed place rest)))) }
+    ensures { IfOk result (λ _. (rest : List Word)
+        → string_bytes out.new ++ spaced rest
+        ≡ string_bytes out.old ++ spaced (opened place
+        (print_term (term_of arg.now) Place.Operand (IsMark Mark.As ∷ IsType ty ∷ closed place rest)))) }
 {
     open(out, place)?;
     print_expr(out, arg, Place::Operand)?;
@@ -225,7 +253,12 @@ fn print_cast(out: &mut String, arg: &Expr, ty: Ty, place: Place) -> Result<(), 
 
 #[cycle(terms)]
 fn print_select(out: &mut String, cond: &Expr, yes: &Expr, no: &Expr) -> Result<(), AllocError>
-    ensures { IfOk result (λ _. (rest : List Word) → string_bytes out.new ++ spaced rest ≡ string_bytes out.old ++ spaced (IsMark Mark.Select ∷ IsMark Mark.OpenParen ∷ print_term (term_of cond.now) Place.Alone (IsMark Mark.Comma ∷ print_term (term_of yes.now) Place.Alone (IsMark Mark.Comma ∷ print_term (term_of no.now) Place.Alone (IsMark Mark.CloseParen ∷ rest))))) }
+    ensures { IfOk result (λ _. (rest : List Word)
+        → string_bytes out.new ++ spaced rest
+        ≡ string_bytes out.old ++ spaced (IsMark Mark.Select ∷ IsMark Mark.OpenParen
+        ∷ print_term (term_of cond.now) Place.Alone
+        (IsMark Mark.Comma ∷ print_term (term_of yes.now) Place.Alone
+        (IsMark Mark.Comma ∷ print_term (term_of no.now) Place.Alone (IsMark Mark.CloseParen ∷ rest))))) }
 {
     put_mark(out, Mark::Select)?;
     put_mark(out, Mark::OpenParen)?;
@@ -240,7 +273,10 @@ fn print_select(out: &mut String, cond: &Expr, yes: &Expr, no: &Expr) -> Result<
 
 #[cycle(terms)]
 fn print_not(out: &mut String, arg: &Expr, place: Place) -> Result<(), AllocError>
-    ensures { IfOk result (λ _. (rest : List Word) → string_bytes out.new ++ spaced rest ≡ string_bytes out.old ++ spaced (opened place (IsMark Mark.Bang ∷ print_term (term_of arg.now) Place.Operand (closed place rest)))) }
+    ensures { IfOk result (λ _. (rest : List Word)
+        → string_bytes out.new ++ spaced rest
+        ≡ string_bytes out.old ++ spaced (opened place
+        (IsMark Mark.Bang ∷ print_term (term_of arg.now) Place.Operand (closed place rest)))) }
 {
     open(out, place)?;
     put_mark(out, Mark::Bang)?;

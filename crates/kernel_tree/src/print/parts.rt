@@ -12,7 +12,8 @@ use crate::mark::Mark;
 use std::alloc::AllocError;
 
 fn put_shape(out: &mut String, shape: Shape) -> Result<(), AllocError>
-    ensures { IfOk result (λ _. (rest : List Word) → string_bytes out.new ++ spaced rest ≡ string_bytes out.old ++ spaced (print_shape shape rest)) }
+    ensures { IfOk result (λ _. (rest : List Word)
+        → string_bytes out.new ++ spaced rest ≡ string_bytes out.old ++ spaced (print_shape shape rest)) }
 {
     match shape {
         Shape::Scalar(ty) => {
@@ -29,7 +30,9 @@ fn put_shape(out: &mut String, shape: Shape) -> Result<(), AllocError>
 }
 
 fn put_param(out: &mut String, param: &Param) -> Result<(), AllocError>
-    ensures { IfOk result (λ _. (rest : List Word) → string_bytes out.new ++ spaced rest ≡ string_bytes out.old ++ spaced (print_param (parameter_of param.now) rest)) }
+    ensures { IfOk result (λ _. (rest : List Word)
+        → string_bytes out.new ++ spaced rest
+        ≡ string_bytes out.old ++ spaced (print_param (parameter_of param.now) rest)) }
 {
     put_name(out, &param.name)?;
     put_mark(out, Mark::Colon)?;
@@ -39,7 +42,9 @@ fn put_param(out: &mut String, param: &Param) -> Result<(), AllocError>
 
 // Parameters behind a first one.
 fn put_others(out: &mut String, others: &[Param]) -> Result<(), AllocError>
-    ensures { IfOk result (λ _. (rest : List Word) → string_bytes out.new ++ spaced rest ≡ string_bytes out.old ++ spaced (print_others (parameters_of others.now) rest)) }
+    ensures { IfOk result (λ _. (rest : List Word)
+        → string_bytes out.new ++ spaced rest
+        ≡ string_bytes out.old ++ spaced (print_others (parameters_of others.now) rest)) }
 {
     for param in others {
         put_mark(out, Mark::Comma)?;
@@ -49,7 +54,9 @@ fn put_others(out: &mut String, others: &[Param]) -> Result<(), AllocError>
 }
 
 pub fn put_params(out: &mut String, params: &[Param]) -> Result<(), AllocError>
-    ensures { IfOk result (λ _. (rest : List Word) → string_bytes out.new ++ spaced rest ≡ string_bytes out.old ++ spaced (print_params (parameters_of params.now) rest)) }
+    ensures { IfOk result (λ _. (rest : List Word)
+        → string_bytes out.new ++ spaced rest
+        ≡ string_bytes out.old ++ spaced (print_params (parameters_of params.now) rest)) }
 {
     match params.split_first() {
         None => Ok(()),
@@ -62,7 +69,9 @@ pub fn put_params(out: &mut String, params: &[Param]) -> Result<(), AllocError>
 }
 
 fn put_var(out: &mut String, var: &Var) -> Result<(), AllocError>
-    ensures { IfOk result (λ _. (rest : List Word) → string_bytes out.new ++ spaced rest ≡ string_bytes out.old ++ spaced (print_vars (accumulator_of var.now ∷ []) rest)) }
+    ensures { IfOk result (λ _. (rest : List Word)
+        → string_bytes out.new ++ spaced rest
+        ≡ string_bytes out.old ++ spaced (print_vars (accumulator_of var.now ∷ []) rest)) }
 {
     put_mark(out, Mark::Var)?;
     put_name(out, &var.name)?;
@@ -74,7 +83,9 @@ fn put_var(out: &mut String, var: &Var) -> Result<(), AllocError>
 }
 
 pub fn put_vars(out: &mut String, vars: &[Var]) -> Result<(), AllocError>
-    ensures { IfOk result (λ _. (rest : List Word) → string_bytes out.new ++ spaced rest ≡ string_bytes out.old ++ spaced (print_vars (accumulators_of vars.now) rest)) }
+    ensures { IfOk result (λ _. (rest : List Word)
+        → string_bytes out.new ++ spaced rest
+        ≡ string_bytes out.old ++ spaced (print_vars (accumulators_of vars.now) rest)) }
 {
     for var in vars {
         put_var(out, var)?;
@@ -84,7 +95,10 @@ pub fn put_vars(out: &mut String, vars: &[Var]) -> Result<(), AllocError>
 
 // What stands in front of the body of a loop.
 fn put_range(out: &mut String, turns: &Loop) -> Result<(), AllocError>
-    ensures { IfOk result (λ _. (rest : List Word) → string_bytes out.new ++ spaced rest ≡ string_bytes out.old ++ spaced (IsMark Mark.For ∷ IsName (name_of turns.now.index) ∷ IsMark Mark.In ∷ IsNumber 0 ∷ IsMark Mark.Range ∷ IsName (name_of turns.now.bound) ∷ IsMark Mark.OpenBrace ∷ rest)) }
+    ensures { IfOk result (λ _. (rest : List Word)
+        → string_bytes out.new ++ spaced rest
+        ≡ string_bytes out.old ++ spaced (IsMark Mark.For ∷ IsName (name_of turns.now.index) ∷ IsMark Mark.In
+        ∷ IsNumber 0 ∷ IsMark Mark.Range ∷ IsName (name_of turns.now.bound) ∷ IsMark Mark.OpenBrace ∷ rest)) }
 {
     put_mark(out, Mark::For)?;
     put_name(out, &turns.index)?;
@@ -97,7 +111,9 @@ fn put_range(out: &mut String, turns: &Loop) -> Result<(), AllocError>
 }
 
 pub fn put_loop(out: &mut String, turns: &Option<Loop>) -> Result<(), AllocError>
-    ensures { IfOk result (λ _. (rest : List Word) → string_bytes out.new ++ spaced rest ≡ string_bytes out.old ++ spaced (print_turns (option_map turns_of turns.now) rest)) }
+    ensures { IfOk result (λ _. (rest : List Word)
+        → string_bytes out.new ++ spaced rest
+        ≡ string_bytes out.old ++ spaced (print_turns (option_map turns_of turns.now) rest)) }
 {
     match turns {
         None => Ok(()),
@@ -111,7 +127,9 @@ pub fn put_loop(out: &mut String, turns: &Option<Loop>) -> Result<(), AllocError
 
 // The type that is returned.
 pub fn put_arrow(out: &mut String, answer: &Option<Answer>) -> Result<(), AllocError>
-    ensures { IfOk result (λ _. (rest : List Word) → string_bytes out.new ++ spaced rest ≡ string_bytes out.old ++ spaced (print_arrow (option_map returned_of answer.now) rest)) }
+    ensures { IfOk result (λ _. (rest : List Word)
+        → string_bytes out.new ++ spaced rest
+        ≡ string_bytes out.old ++ spaced (print_arrow (option_map returned_of answer.now) rest)) }
 {
     match answer {
         None => Ok(()),
@@ -124,7 +142,9 @@ pub fn put_arrow(out: &mut String, answer: &Option<Answer>) -> Result<(), AllocE
 }
 
 pub fn put_answer(out: &mut String, answer: &Option<Answer>) -> Result<(), AllocError>
-    ensures { IfOk result (λ _. (rest : List Word) → string_bytes out.new ++ spaced rest ≡ string_bytes out.old ++ spaced (print_answer (option_map returned_of answer.now) rest)) }
+    ensures { IfOk result (λ _. (rest : List Word)
+        → string_bytes out.new ++ spaced rest
+        ≡ string_bytes out.old ++ spaced (print_answer (option_map returned_of answer.now) rest)) }
 {
     match answer {
         None => Ok(()),

@@ -16,7 +16,8 @@ use std::alloc::AllocError;
 
 // The type that a definition may give.
 fn put_shown_type(out: &mut String, ty: Option<Ty>) -> Result<(), AllocError>
-    ensures { IfOk result (λ _. (rest : List Word) → string_bytes out.new ++ spaced rest ≡ string_bytes out.old ++ spaced (print_type ty rest)) }
+    ensures { IfOk result (λ _. (rest : List Word)
+        → string_bytes out.new ++ spaced rest ≡ string_bytes out.old ++ spaced (print_type ty rest)) }
 {
     if let Some(ty) = ty {
         put_mark(out, Mark::Colon)?;
@@ -27,7 +28,9 @@ fn put_shown_type(out: &mut String, ty: Option<Ty>) -> Result<(), AllocError>
 
 // An expression and a mark behind it.
 pub fn print_before(out: &mut String, expr: &Expr, mark: Mark) -> Result<(), AllocError>
-    ensures { IfOk result (λ _. (rest : List Word) → string_bytes out.new ++ spaced rest ≡ string_bytes out.old ++ spaced (print_term (term_of expr.now) Place.Alone (IsMark mark ∷ rest))) }
+    ensures { IfOk result (λ _. (rest : List Word)
+        → string_bytes out.new ++ spaced rest
+        ≡ string_bytes out.old ++ spaced (print_term (term_of expr.now) Place.Alone (IsMark mark ∷ rest))) }
 {
     print_expr(out, expr, Place::Alone)?;
     put_mark(out, mark)?;
@@ -35,7 +38,11 @@ pub fn print_before(out: &mut String, expr: &Expr, mark: Mark) -> Result<(), All
 }
 
 fn print_let(out: &mut String, name: &Name, ty: Option<Ty>, value: &Expr) -> Result<(), AllocError>
-    ensures { IfOk result (λ _. (rest : List Word) → string_bytes out.new ++ spaced rest ≡ string_bytes out.old ++ spaced (IsMark Mark.Let ∷ IsName (name_of name.now) ∷ print_type ty (IsMark Mark.Equals ∷ print_term (term_of value.now) Place.Alone (IsMark Mark.Semicolon ∷ rest)))) }
+    ensures { IfOk result (λ _. (rest : List Word)
+        → string_bytes out.new ++ spaced rest
+        ≡ string_bytes out.old ++ spaced (IsMark Mark.Let ∷ IsName (name_of name.now)
+        ∷ print_type ty (IsMark Mark.Equals ∷ print_term (term_of value.now) Place.Alone
+        (IsMark Mark.Semicolon ∷ rest)))) }
 {
     put_mark(out, Mark::Let)?;
     put_name(out, name)?;
@@ -46,7 +53,12 @@ fn print_let(out: &mut String, name: &Name, ty: Option<Ty>, value: &Expr) -> Res
 }
 
 fn print_store(out: &mut String, array: &Name, index: &Expr, value: &Expr) -> Result<(), AllocError>
-    ensures { IfOk result (λ _. (rest : List Word) → string_bytes out.new ++ spaced rest ≡ string_bytes out.old ++ spaced (IsName (name_of array.now) ∷ IsMark Mark.OpenBracket ∷ print_term (term_of index.now) Place.Alone (IsMark Mark.CloseBracket ∷ IsMark Mark.Equals ∷ print_term (term_of value.now) Place.Alone (IsMark Mark.Semicolon ∷ rest)))) }
+    ensures { IfOk result (λ _. (rest : List Word)
+        → string_bytes out.new ++ spaced rest
+        ≡ string_bytes out.old ++ spaced (IsName (name_of array.now) ∷ IsMark Mark.OpenBracket
+        ∷ print_term (term_of index.now) Place.Alone
+        (IsMark Mark.CloseBracket ∷ IsMark Mark.Equals
+        ∷ print_term (term_of value.now) Place.Alone (IsMark Mark.Semicolon ∷ rest)))) }
 {
     put_name(out, array)?;
     put_mark(out, Mark::OpenBracket)?;
@@ -57,7 +69,10 @@ fn print_store(out: &mut String, array: &Name, index: &Expr, value: &Expr) -> Re
 }
 
 fn print_update(out: &mut String, name: &Name, op: UpdateOp, value: &Expr) -> Result<(), AllocError>
-    ensures { IfOk result (λ _. (rest : List Word) → string_bytes out.new ++ spaced rest ≡ string_bytes out.old ++ spaced (IsName (name_of name.now) ∷ IsUpdate op ∷ print_term (term_of value.now) Place.Alone (IsMark Mark.Semicolon ∷ rest))) }
+    ensures { IfOk result (λ _. (rest : List Word)
+        → string_bytes out.new ++ spaced rest
+        ≡ string_bytes out.old ++ spaced (IsName (name_of name.now) ∷ IsUpdate op
+        ∷ print_term (term_of value.now) Place.Alone (IsMark Mark.Semicolon ∷ rest))) }
 {
     put_name(out, name)?;
     put_update(out, op)?;
@@ -66,7 +81,10 @@ fn print_update(out: &mut String, name: &Name, op: UpdateOp, value: &Expr) -> Re
 }
 
 fn print_break(out: &mut String, cond: &Expr) -> Result<(), AllocError>
-    ensures { IfOk result (λ _. (rest : List Word) → string_bytes out.new ++ spaced rest ≡ string_bytes out.old ++ spaced (IsMark Mark.Break ∷ IsMark Mark.If ∷ print_term (term_of cond.now) Place.Alone (IsMark Mark.Semicolon ∷ rest))) }
+    ensures { IfOk result (λ _. (rest : List Word)
+        → string_bytes out.new ++ spaced rest
+        ≡ string_bytes out.old ++ spaced (IsMark Mark.Break ∷ IsMark Mark.If
+        ∷ print_term (term_of cond.now) Place.Alone (IsMark Mark.Semicolon ∷ rest))) }
 {
     put_mark(out, Mark::Break)?;
     put_mark(out, Mark::If)?;
@@ -76,7 +94,9 @@ fn print_break(out: &mut String, cond: &Expr) -> Result<(), AllocError>
 
 #[cycle(statements)]
 fn print_stmt(out: &mut String, stmt: &Stmt) -> Result<(), AllocError>
-    ensures { IfOk result (λ _. (rest : List Word) → string_bytes out.new ++ spaced rest ≡ string_bytes out.old ++ spaced (print_action (action_of stmt.now) rest)) }
+    ensures { IfOk result (λ _. (rest : List Word)
+        → string_bytes out.new ++ spaced rest
+        ≡ string_bytes out.old ++ spaced (print_action (action_of stmt.now) rest)) }
 {
     match stmt {
         Stmt::Let { name, ty, value } => {
@@ -118,7 +138,10 @@ fn print_stmt(out: &mut String, stmt: &Stmt) -> Result<(), AllocError>
 
 #[cycle(statements)]
 fn print_then(out: &mut String, cond: &Expr, block: &[Stmt]) -> Result<(), AllocError>
-    ensures { IfOk result (λ _. (rest : List Word) → string_bytes out.new ++ spaced rest ≡ string_bytes out.old ++ spaced (IsMark Mark.If ∷ print_term (term_of cond.now) Place.Alone (IsMark Mark.OpenBrace ∷ print_block (block_of block.now) rest))) }
+    ensures { IfOk result (λ _. (rest : List Word)
+        → string_bytes out.new ++ spaced rest
+        ≡ string_bytes out.old ++ spaced (IsMark Mark.If
+        ∷ print_term (term_of cond.now) Place.Alone (IsMark Mark.OpenBrace ∷ print_block (block_of block.now) rest))) }
 {
     put_mark(out, Mark::If)?;
     print_before(out, cond, Mark::OpenBrace)?;
@@ -128,7 +151,10 @@ fn print_then(out: &mut String, cond: &Expr, block: &[Stmt]) -> Result<(), Alloc
 
 #[cycle(statements)]
 fn print_else(out: &mut String, block: &[Stmt]) -> Result<(), AllocError>
-    ensures { IfOk result (λ _. (rest : List Word) → string_bytes out.new ++ spaced rest ≡ string_bytes out.old ++ spaced (IsMark Mark.Else ∷ IsMark Mark.OpenBrace ∷ print_block (block_of block.now) rest)) }
+    ensures { IfOk result (λ _. (rest : List Word)
+        → string_bytes out.new ++ spaced rest
+        ≡ string_bytes out.old ++ spaced (IsMark Mark.Else ∷ IsMark Mark.OpenBrace
+        ∷ print_block (block_of block.now) rest)) }
 {
     put_mark(out, Mark::Else)?;
     put_mark(out, Mark::OpenBrace)?;
@@ -139,7 +165,9 @@ fn print_else(out: &mut String, block: &[Stmt]) -> Result<(), AllocError>
 // Statements and the brace behind them.
 #[cycle(statements)]
 pub fn print_statements(out: &mut String, block: &[Stmt]) -> Result<(), AllocError>
-    ensures { IfOk result (λ _. (rest : List Word) → string_bytes out.new ++ spaced rest ≡ string_bytes out.old ++ spaced (print_block (block_of block.now) rest)) }
+    ensures { IfOk result (λ _. (rest : List Word)
+        → string_bytes out.new ++ spaced rest
+        ≡ string_bytes out.old ++ spaced (print_block (block_of block.now) rest)) }
 {
     for stmt in block {
         print_stmt(out, stmt)?;

@@ -14,7 +14,8 @@ use std::alloc::AllocError;
 
 // Appends a space and a token.
 pub fn put(out: &mut String, token: &str) -> Result<(), AllocError>
-    ensures { IfOk result (λ _. (rest : List ℕ) → string_bytes out.new ++ rest ≡ string_bytes out.old ++ (32 ∷ (token.now ++ rest))) }
+    ensures { IfOk result (λ _. (rest : List ℕ)
+        → string_bytes out.new ++ rest ≡ string_bytes out.old ++ (32 ∷ (token.now ++ rest))) }
 {
     out.push_str(" ")?;
     out.push_str(token)?;
@@ -23,7 +24,8 @@ pub fn put(out: &mut String, token: &str) -> Result<(), AllocError>
 
 #[tactic(auto, unfolding(crate::specs::Printing::spaced))]
 pub fn put_name(out: &mut String, name: &Name) -> Result<(), AllocError>
-    ensures { IfOk result (λ _. (rest : List Word) → string_bytes out.new ++ spaced rest ≡ string_bytes out.old ++ spaced (IsName (name_of name.now) ∷ rest)) }
+    ensures { IfOk result (λ _. (rest : List Word)
+        → string_bytes out.new ++ spaced rest ≡ string_bytes out.old ++ spaced (IsName (name_of name.now) ∷ rest)) }
 {
     put(out, name.text())?;
     Ok(())
@@ -31,7 +33,8 @@ pub fn put_name(out: &mut String, name: &Name) -> Result<(), AllocError>
 
 #[tactic(auto, unfolding(crate::specs::Printing::spaced))]
 pub fn put_number(out: &mut String, n: u128) -> Result<(), AllocError>
-    ensures { IfOk result (λ _. (rest : List Word) → string_bytes out.new ++ spaced rest ≡ string_bytes out.old ++ spaced (IsNumber n ∷ rest)) }
+    ensures { IfOk result (λ _. (rest : List Word)
+        → string_bytes out.new ++ spaced rest ≡ string_bytes out.old ++ spaced (IsNumber n ∷ rest)) }
 {
     let mut buffer = Buffer::new();
     put(out, buffer.format(n))?;
@@ -55,7 +58,8 @@ pub fn type_str(ty: Ty) -> &'static str
 
 #[tactic(auto, unfolding(crate::specs::Printing::spaced))]
 pub fn put_type(out: &mut String, ty: Ty) -> Result<(), AllocError>
-    ensures { IfOk result (λ _. (rest : List Word) → string_bytes out.new ++ spaced rest ≡ string_bytes out.old ++ spaced (IsType ty ∷ rest)) }
+    ensures { IfOk result (λ _. (rest : List Word)
+        → string_bytes out.new ++ spaced rest ≡ string_bytes out.old ++ spaced (IsType ty ∷ rest)) }
 {
     put(out, type_str(ty))?;
     Ok(())
@@ -117,7 +121,8 @@ pub fn mark_str(mark: Mark) -> &'static str
 
 #[tactic(auto, unfolding(crate::specs::Printing::spaced))]
 pub fn put_mark(out: &mut String, mark: Mark) -> Result<(), AllocError>
-    ensures { IfOk result (λ _. (rest : List Word) → string_bytes out.new ++ spaced rest ≡ string_bytes out.old ++ spaced (IsMark mark ∷ rest)) }
+    ensures { IfOk result (λ _. (rest : List Word)
+        → string_bytes out.new ++ spaced rest ≡ string_bytes out.old ++ spaced (IsMark mark ∷ rest)) }
 {
     put(out, mark_str(mark))?;
     Ok(())
@@ -151,7 +156,8 @@ pub fn update_str(op: UpdateOp) -> &'static str
 
 #[tactic(auto, unfolding(crate::specs::Printing::spaced))]
 pub fn put_update(out: &mut String, op: UpdateOp) -> Result<(), AllocError>
-    ensures { IfOk result (λ _. (rest : List Word) → string_bytes out.new ++ spaced rest ≡ string_bytes out.old ++ spaced (IsUpdate op ∷ rest)) }
+    ensures { IfOk result (λ _. (rest : List Word)
+        → string_bytes out.new ++ spaced rest ≡ string_bytes out.old ++ spaced (IsUpdate op ∷ rest)) }
 {
     put(out, update_str(op))?;
     Ok(())
@@ -160,7 +166,8 @@ pub fn put_update(out: &mut String, op: UpdateOp) -> Result<(), AllocError>
 // Parentheses round an operator or a negative literal that is an operand.
 #[tactic(auto, unfolding(crate::specs::Printing::opened))]
 pub fn open(out: &mut String, place: Place) -> Result<(), AllocError>
-    ensures { IfOk result (λ _. (rest : List Word) → string_bytes out.new ++ spaced rest ≡ string_bytes out.old ++ spaced (opened place rest)) }
+    ensures { IfOk result (λ _. (rest : List Word)
+        → string_bytes out.new ++ spaced rest ≡ string_bytes out.old ++ spaced (opened place rest)) }
 {
     match place {
         Place::Alone => Ok(()),
@@ -173,7 +180,8 @@ pub fn open(out: &mut String, place: Place) -> Result<(), AllocError>
 
 #[tactic(auto, unfolding(crate::specs::Printing::closed))]
 pub fn close(out: &mut String, place: Place) -> Result<(), AllocError>
-    ensures { IfOk result (λ _. (rest : List Word) → string_bytes out.new ++ spaced rest ≡ string_bytes out.old ++ spaced (closed place rest)) }
+    ensures { IfOk result (λ _. (rest : List Word)
+        → string_bytes out.new ++ spaced rest ≡ string_bytes out.old ++ spaced (closed place rest)) }
 {
     match place {
         Place::Alone => Ok(()),
@@ -187,7 +195,9 @@ pub fn close(out: &mut String, place: Place) -> Result<(), AllocError>
 // A number that is not negative stands in parentheses behind a minus alone.
 #[tactic(auto, unfolding(crate::specs::Printing::number_opened, crate::specs::Printing::number_closed))]
 pub fn put_positive(out: &mut String, n: u128, place: Place) -> Result<(), AllocError>
-    ensures { IfOk result (λ _. (rest : List Word) → string_bytes out.new ++ spaced rest ≡ string_bytes out.old ++ spaced (number_opened place (IsNumber n ∷ number_closed place rest))) }
+    ensures { IfOk result (λ _. (rest : List Word)
+        → string_bytes out.new ++ spaced rest
+        ≡ string_bytes out.old ++ spaced (number_opened place (IsNumber n ∷ number_closed place rest))) }
 {
     match place {
         Place::Alone | Place::Operand => {
@@ -204,7 +214,9 @@ pub fn put_positive(out: &mut String, n: u128, place: Place) -> Result<(), Alloc
 }
 
 pub fn put_negative(out: &mut String, n: u128, place: Place) -> Result<(), AllocError>
-    ensures { IfOk result (λ _. (rest : List Word) → string_bytes out.new ++ spaced rest ≡ string_bytes out.old ++ spaced (opened place (IsMark Mark.Minus ∷ IsNumber n ∷ closed place rest))) }
+    ensures { IfOk result (λ _. (rest : List Word)
+        → string_bytes out.new ++ spaced rest
+        ≡ string_bytes out.old ++ spaced (opened place (IsMark Mark.Minus ∷ IsNumber n ∷ closed place rest))) }
 {
     open(out, place)?;
     put_mark(out, Mark::Minus)?;
@@ -214,7 +226,8 @@ pub fn put_negative(out: &mut String, n: u128, place: Place) -> Result<(), Alloc
 }
 
 pub fn print_value(out: &mut String, value: i128, place: Place) -> Result<(), AllocError>
-    ensures { IfOk result (λ _. (rest : List Word) → string_bytes out.new ++ spaced rest ≡ string_bytes out.old ++ spaced (print_literal value place rest)) }
+    ensures { IfOk result (λ _. (rest : List Word)
+        → string_bytes out.new ++ spaced rest ≡ string_bytes out.old ++ spaced (print_literal value place rest)) }
 {
     if value < 0 {
         put_negative(out, value.unsigned_abs(), place)?;
@@ -227,7 +240,8 @@ pub fn print_value(out: &mut String, value: i128, place: Place) -> Result<(), Al
 
 // The count of a shift.
 pub fn put_count(out: &mut String, count: i128) -> Result<(), AllocError>
-    ensures { IfOk result (λ _. (rest : List Word) → string_bytes out.new ++ spaced rest ≡ string_bytes out.old ++ spaced (print_count count rest)) }
+    ensures { IfOk result (λ _. (rest : List Word)
+        → string_bytes out.new ++ spaced rest ≡ string_bytes out.old ++ spaced (print_count count rest)) }
 {
     if count < 0 {
         put_mark(out, Mark::Minus)?;
@@ -238,7 +252,8 @@ pub fn put_count(out: &mut String, count: i128) -> Result<(), AllocError>
 
 #[tactic(auto, unfolding(crate::specs::Printing::spaced))]
 pub fn put_compare(out: &mut String, op: CompareOp) -> Result<(), AllocError>
-    ensures { IfOk result (λ _. (rest : List Word) → string_bytes out.new ++ spaced rest ≡ string_bytes out.old ++ spaced (IsCompare op ∷ rest)) }
+    ensures { IfOk result (λ _. (rest : List Word)
+        → string_bytes out.new ++ spaced rest ≡ string_bytes out.old ++ spaced (IsCompare op ∷ rest)) }
 {
     put(out, compare_str(op))?;
     Ok(())

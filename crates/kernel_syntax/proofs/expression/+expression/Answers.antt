@@ -1,10 +1,10 @@
-use Rattle.std.proofs.Common.{◌≡◌, ◌-◌, ◌<◌, length, Err, Some, None, sym, ◌∙◌, ap, arith, subst}
+use Rattle.std.proofs.Common.{◌≡◌, ◌-◌, ◌<◌, length, Err, Some, ◌∙◌, ap, arith}
 use Rattle.std.proofs.lemmas.Result.{err_from_is_err_and}
 use Rattle.std.proofs.lemmas.List.{length-map}
 use Rattle.kernel_tree.specs.Plain.{term_of, words_of, word_of}
 use Rattle.kernel_tree.specs.declared.mark.Operator.TheVariants.{Joined, Compared, Shifted, As}
-use Rattle.kernel_syntax.specs.Reading.{Gives, Fails, operator_at, chain_at, unary_at, signed_by}
-use Rattle.kernel_syntax.proofs.Chain.{chain-zero, chain-above, fails_on, Goes, begins, ends, goes_joined, goes_shifted, goes_as, ends_compared, fails_joined, fails_compared, fails_shifted, fails_as}
+use Rattle.kernel_syntax.specs.Reading.{operator_at, chain_at, unary_at, signed_by}
+use Rattle.kernel_syntax.proofs.Chain.{chain-zero, chain-above, fails_on, begins, ends, goes_joined, goes_shifted, goes_as, ends_compared, fails_joined, fails_compared, fails_shifted, fails_as}
 use Rattle.kernel_syntax.proofs.Rooms.{unary-some}
 use Rattle.kernel_syntax.proofs.Rows.{wraps_none, wraps_more, wraps_fails, wraps_stops, wraps_all}
 use Rattle.kernel_syntax.proofs.expression.+expression.Goals as goal

@@ -1,4 +1,4 @@
-use Rattle.std.proofs.Common.{◌≡◌, ℕ, ◌+◌, ◌-◌, ◌*◌, ◌<◌, ◌≤◌, length}
+use Rattle.std.proofs.Common.{◌+◌, ◌*◌, ◌<◌, ◌≤◌, length}
 use Rattle.kernel_tree.specs.Plain.{term_of, words_of}
 use Rattle.kernel_syntax.specs.Reading.{unary_at, signed_by}
 use Rattle.kernel_syntax.proofs.Chain.{Goes}

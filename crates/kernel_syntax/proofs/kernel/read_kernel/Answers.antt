@@ -1,4 +1,4 @@
-use Rattle.std.proofs.Common.{◌≡◌, Result, subst}
+use Rattle.std.proofs.Common.{Result, subst}
 use Rattle.kernel_tree.specs.declared.ast.Kernel.{Kernel}
 use Rattle.kernel_syntax.specs.declared.fault.ReadFault.{ReadFault}
 use Rattle.kernel_syntax.specs.Refusals.{TextGives}
@@ -25,3 +25,6 @@ returns-clause-no_tree c token e = (subst (λ (r : Result Kernel ReadFault). Tex
 
 pub returns-clause-no_limit : goal.returns-clause-no_limit
 returns-clause-no_limit c token e = (subst (λ (r : Result Kernel ReadFault). TextGives c.args.text.now r) e c.read_text.ensures).0
+
+pub returns-clause-place : goal.returns-clause-place
+returns-clause-place c token e = (subst (λ (r : Result Kernel ReadFault). TextGives c.args.text.now r) e c.read_text.ensures).2

@@ -1,5 +1,5 @@
-use Rattle.std.proofs.Common.{◌≡◌, ◌<◌, ◌≤◌, sym, ap, ◌∙◌, arith}
-use Rattle.kernel_tree.specs.Plain.{word_of, words_of}
+use Rattle.std.proofs.Common.{◌<◌, ◌≤◌, sym, ap, ◌∙◌, arith}
+use Rattle.kernel_tree.specs.Plain.{word_of}
 use Rattle.kernel_syntax.specs.Nesting.{open_by, signs_by, deep_from}
 use Rattle.kernel_syntax.proofs.Deep.{words_at, stops_open, stops_signs, goes_deeper, nothing_deep}
 use Rattle.kernel_syntax.proofs.nesting.too_deep.Goals as goal

@@ -1,4 +1,4 @@
-use Rattle.std.proofs.Common.{◌≡◌, ◌≤◌, drop, ℕ}
+use Rattle.std.proofs.Common.{◌≡◌, ◌≤◌, drop}
 use Rattle.kernel_tree.specs.Plain.{words_of}
 use Rattle.kernel_syntax.specs.Nesting.{deep_from, deep_place}
 use Rattle.kernel_syntax.proofs.nesting.too_deep.Given as goal

@@ -1,8 +1,8 @@
-use Rattle.std.proofs.Common.{◌≡◌, ℕ, ◌-◌, ◌<◌, ◌≤◌, List, [], ◌∷◌, ◌++◌, length, false, Some, None, sym, ◌∙◌, ap, arith, subst}
+use Rattle.std.proofs.Common.{◌-◌, ◌<◌, List, [], length, false, sym, arith, subst}
 use Rattle.std.proofs.lemmas.Result.{err_from_is_err_and}
 use Rattle.std.proofs.lemmas.List.{length-map}
 use Rattle.kernel_tree.specs.declared.ast.Stmt.{Stmt}
-use Rattle.kernel_tree.specs.Plain.{words_of, word_of, action_of}
+use Rattle.kernel_tree.specs.Plain.{words_of, word_of}
 use Rattle.kernel_syntax.specs.Statements.{Statements, statement_by, block_at}
 use Rattle.kernel_syntax.proofs.Blocks.{Follows, starts, closes, fails_inside, takes, block-none, block-some}
 use Rattle.kernel_syntax.proofs.statement.+block.Goals as goal

@@ -1,4 +1,4 @@
-use Rattle.std.proofs.Common.{◌≡◌, ℕ, ◌+◌, ◌-◌, ◌*◌, ◌<◌, ◌≤◌, length, false}
+use Rattle.std.proofs.Common.{◌+◌, ◌-◌, ◌*◌, ◌≤◌, length, false}
 use Rattle.kernel_tree.specs.Plain.{words_of}
 use Rattle.kernel_syntax.specs.Statements.{statement_by, block_at}
 use Rattle.kernel_syntax.proofs.Blocks.{Follows}

@@ -1,0 +1,8 @@
+use Rattle.kernel_front.proofs.Causes.{ReadSays, unread}
+use Rattle.kernel_front.proofs.accepting.accept.Goals as goal
+
+pub returns-in_err-kernel-clause-refused : goal.returns-in_err-kernel-clause-refused
+returns-in_err-kernel-clause-refused c =
+    let e = c.read_kernel.ensures in
+    let says : ReadSays c.args.text.now c.read_kernel.result = record { too_long = e.too_long; bad_byte = e.bad_byte; too_deep = e.too_deep; no_tree = e.no_tree; no_limit = e.no_limit; place = e.place } in
+    unread c.args.text.now c.read_kernel.result c.in_err-kernel.field-0.0 c.from_residual.result says c.in_err-kernel.was c.from_residual.ensures.1
