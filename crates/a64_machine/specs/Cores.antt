@@ -1,5 +1,5 @@
 -- The machine's state from the registers that A64 instructions use, the memory, and the rest.
-use Rattle.std.specs.Prelude.{◌≡◌, ℕ, ◌/◌, ◌%◌, ◌^◌, Bool, List, [], nat_eq, slice_index_or}
+use Rattle.std.specs.Prelude.{◌≡◌, ℕ, ◌/◌, ◌%◌, ◌^◌, Bool, true, false, List, [], nat_eq, slice_index_or}
 use Rattle.guest_types.specs.Memory.{Memory}
 use Rattle.guest_types.specs.Elements.{Flags, element}
 use Rattle.guest_types.specs.EarlyLoads.{StopList}
@@ -50,3 +50,8 @@ abbrev pub UnlessWent : Step → Type 0 → Type 0
 UnlessWent Went fact = Unit {0}
 UnlessWent Ended fact = fact
 UnlessWent (Stopped stop) fact = fact
+
+-- what a call answers that says whether the step went, and leaves the answer elsewhere where it did not
+abbrev pub said : Bool → Step → Step
+said true answer = Went
+said false answer = answer

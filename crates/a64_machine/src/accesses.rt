@@ -1,10 +1,10 @@
 // Loads and stores.
 
-ghost use Rattle.std.specs.Prelude.{◌≡◌, ◌<◌, ◌+◌, ◌-◌, ◌*◌, ◌^◌, ◌⊎◌, nat_le, if◌then◌else◌};
+ghost use Rattle.std.specs.Prelude.{◌≡◌, ◌<◌, ◌+◌, ◌-◌, ◌*◌, ◌^◌, ◌⊎◌, nat_le, false, if◌then◌else◌};
 ghost use Rattle.machine_model.specs.Answers.{IsAnswer};
 ghost use Rattle.machine_model.specs.Effects.{load_to, store_from, from_byte, from_half, from_word};
 ghost use Rattle.machine_model.specs.declared.outcome.StopKind.TheVariants.{Read, Write};
-ghost use Rattle.a64_machine.specs.Cores.{Rest, state_of, UnlessWent};
+ghost use Rattle.a64_machine.specs.Cores.{Rest, state_of, UnlessWent, said};
 ghost use Rattle.a64_machine.specs.Accesses.{extended, byte_access, access};
 
 use crate::core_state::Core;
@@ -49,17 +49,19 @@ fn sign_extended(value: u64, greatest: u64) -> u64
     }
 }
 
-/// Stops at a byte that may not be accessed.
+/// Stops at a byte that may not be accessed. The step did not go.
 #[cold]
 #[inline(never)]
-fn refused(core: &Core, kind: StopKind, fault: AccessFault) -> Step
-    ensures { result ≡ Step.Stopped (record { kind = kind; pc = core.now.pc; at = fault.address }) }
+fn refused(core: &Core, kind: StopKind, fault: AccessFault, answer: &mut Step) -> bool
+    ensures went { result ≡ false }
+    ensures answer { answer.new ≡ Step.Stopped (record { kind = kind; pc = core.now.pc; at = fault.address }) }
 {
-    Step::Stopped(Stop {
+    *answer = Step::Stopped(Stop {
         kind,
         pc: core.pc,
         at: fault.address,
-    })
+    });
+    false
 }
 
 /// A load of `size` bytes to a register.
@@ -71,84 +73,98 @@ fn load<M: GuestMemory>(
     address: u64,
     size: u32,
     extension: Extension,
-) -> Step
+    answer: &mut Step,
+) -> bool
     requires { (size ≡ 1) ⊎ (size ≡ 2) ⊎ (size ≡ 4) ⊎ (size ≡ 8) }
     ensures answer { (rest : Rest) → let before = state_of core.old (M.memory memory.now) rest in
-        IsAnswer (load_to before rt.number address size (extended extension)) result before (state_of core.new (M.memory memory.now) rest) }
-    ensures kept { UnlessWent result (core.new ≡ core.old) }
+        IsAnswer (load_to before rt.number address size (extended extension)) (said result answer.new) before
+        (state_of core.new (M.memory memory.now) rest) }
+    ensures kept { UnlessWent (said result answer.new) (core.new ≡ core.old) }
 {
     match memory.load(address, size) {
         Ok(value) => {
             core.set_register(rt, extended(extension, value));
             core.go_on();
-            Step::Went
+            true
         }
-        Err(fault) => refused(core, StopKind::Read, fault),
+        Err(fault) => refused(core, StopKind::Read, fault, answer),
     }
 }
 
 /// A store of the low `size` bytes of a register.
 #[inline(always)]
-fn store<M: GuestMemory>(core: &mut Core, memory: &mut M, rt: Reg, address: u64, size: u32) -> Step
+fn store<M: GuestMemory>(
+    core: &mut Core,
+    memory: &mut M,
+    rt: Reg,
+    address: u64,
+    size: u32,
+    answer: &mut Step,
+) -> bool
     requires { (size ≡ 1) ⊎ (size ≡ 2) ⊎ (size ≡ 4) ⊎ (size ≡ 8) }
     ensures answer { (rest : Rest) → let before = state_of core.old (M.memory memory.old) rest in
-        IsAnswer (store_from before rt.number address size) result before (state_of core.new (M.memory memory.new) rest) }
-    ensures kept { UnlessWent result (core.new ≡ core.old) }
-    ensures kept_memory { UnlessWent result (M.memory memory.new ≡ M.memory memory.old) }
+        IsAnswer (store_from before rt.number address size) (said result answer.new) before
+        (state_of core.new (M.memory memory.new) rest) }
+    ensures kept { UnlessWent (said result answer.new) (core.new ≡ core.old) }
+    ensures kept_memory { UnlessWent (said result answer.new) (M.memory memory.new ≡ M.memory memory.old) }
 {
     let value = core.register(rt);
     match memory.store(address, size, value) {
         Ok(()) => {
             core.go_on();
-            Step::Went
+            true
         }
-        Err(fault) => refused(core, StopKind::Write, fault),
+        Err(fault) => refused(core, StopKind::Write, fault, answer),
     }
 }
 
 /// A load or a store of one byte.
-#[inline(never)]
+#[inline(always)]
 pub fn byte_access<M: GuestMemory>(
     core: &mut Core,
     memory: &mut M,
     op: LoadStoreByteOp,
     rt: Reg,
     address: u64,
-) -> Step
+    answer: &mut Step,
+) -> bool
     ensures answer { (rest : Rest) → let before = state_of core.old (M.memory memory.old) rest in
-        IsAnswer (byte_access op before rt.number address) result before (state_of core.new (M.memory memory.new) rest) }
-    ensures kept { UnlessWent result (core.new ≡ core.old) }
-    ensures kept_memory { UnlessWent result (M.memory memory.new ≡ M.memory memory.old) }
+        IsAnswer (byte_access op before rt.number address) (said result answer.new) before
+        (state_of core.new (M.memory memory.new) rest) }
+    ensures kept { UnlessWent (said result answer.new) (core.new ≡ core.old) }
+    ensures kept_memory { UnlessWent (said result answer.new) (M.memory memory.new ≡ M.memory memory.old) }
 {
     match op {
-        LoadStoreByteOp::Ldrb => load(core, memory, rt, address, 1, Extension::Zero),
-        LoadStoreByteOp::Ldrsb => load(core, memory, rt, address, 1, Extension::Byte),
-        LoadStoreByteOp::Strb => store(core, memory, rt, address, 1),
+        LoadStoreByteOp::Ldrb => load(core, memory, rt, address, 1, Extension::Zero, answer),
+        LoadStoreByteOp::Ldrsb => load(core, memory, rt, address, 1, Extension::Byte, answer),
+        LoadStoreByteOp::Strb => store(core, memory, rt, address, 1, answer),
     }
 }
 
 /// A load or a store of two, four or eight bytes.
-#[inline(never)]
+#[inline(always)]
 pub fn access<M: GuestMemory>(
     core: &mut Core,
     memory: &mut M,
     op: LoadStoreOp,
     rt: Reg,
     address: u64,
-) -> Step
+    answer: &mut Step,
+) -> bool
     ensures answer { (rest : Rest) → let before = state_of core.old (M.memory memory.old) rest in
-        IsAnswer (access op before rt.number address) result before (state_of core.new (M.memory memory.new) rest) }
-    ensures kept { UnlessWent result (core.new ≡ core.old) }
-    ensures kept_memory { UnlessWent result (M.memory memory.new ≡ M.memory memory.old) }
+        IsAnswer (access op before rt.number address) (said result answer.new) before
+        (state_of core.new (M.memory memory.new) rest) }
+    ensures kept { UnlessWent (said result answer.new) (core.new ≡ core.old) }
+    ensures kept_memory { UnlessWent (said result answer.new) (M.memory memory.new ≡ M.memory memory.old) }
 {
     match op {
-        LoadStoreOp::Ldrh => load(core, memory, rt, address, 2, Extension::Zero),
-        LoadStoreOp::LdrW => load(core, memory, rt, address, 4, Extension::Zero),
-        LoadStoreOp::LdrX => load(core, memory, rt, address, 8, Extension::Zero),
-        LoadStoreOp::Ldrsh => load(core, memory, rt, address, 2, Extension::Half),
-        LoadStoreOp::Ldrsw => load(core, memory, rt, address, 4, Extension::Word),
-        LoadStoreOp::Strh => store(core, memory, rt, address, 2),
-        LoadStoreOp::StrW => store(core, memory, rt, address, 4),
-        LoadStoreOp::StrX => store(core, memory, rt, address, 8),
+        LoadStoreOp::Ldrh => load(core, memory, rt, address, 2, Extension::Zero, answer),
+        LoadStoreOp::LdrW => load(core, memory, rt, address, 4, Extension::Zero, answer),
+        LoadStoreOp::LdrX => load(core, memory, rt, address, 8, Extension::Zero, answer),
+        LoadStoreOp::Ldrsh => load(core, memory, rt, address, 2, Extension::Half, answer),
+        LoadStoreOp::Ldrsw => load(core, memory, rt, address, 4, Extension::Word, answer),
+        LoadStoreOp::Strh => store(core, memory, rt, address, 2, answer),
+        LoadStoreOp::StrW => store(core, memory, rt, address, 4, answer),
+        LoadStoreOp::StrX => store(core, memory, rt, address, 8, answer),
     }
 }

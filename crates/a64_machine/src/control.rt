@@ -8,7 +8,7 @@ ghost use Rattle.machine_model.specs.Arithmetic.{target};
 ghost use Rattle.machine_model.specs.Machine.{Went};
 ghost use Rattle.machine_model.specs.Answers.{IsAnswer};
 ghost use Rattle.machine_model.specs.Effects.{act};
-ghost use Rattle.a64_machine.specs.Cores.{Rest, state_of};
+ghost use Rattle.a64_machine.specs.Cores.{Rest, state_of, said};
 
 use crate::arithmetic::target;
 use crate::conditions::holds;
@@ -30,7 +30,8 @@ pub fn branch(core: &mut Core, imm26: Bits<26>)
 #[inline(always)]
 pub fn branch_conditional(core: &mut Core, cond: Cond, imm19: Bits<19>)
     ensures { (memory : Memory) (rest : Rest) →
-        act b_cond (cond_number cond ∷ imm19.number ∷ []) (state_of core.old memory rest) ≡ Went (state_of core.new memory rest) }
+        act b_cond (cond_number cond ∷ imm19.number ∷ []) (state_of core.old memory rest)
+        ≡ Went (state_of core.new memory rest) }
 {
     let taken = holds(cond, core.nzcv);
     let place = target(core.pc, 19, imm19.number);
@@ -41,7 +42,8 @@ pub fn branch_conditional(core: &mut Core, cond: Cond, imm19: Bits<19>)
 #[inline(always)]
 pub fn compare_branch(core: &mut Core, op: CompareBranchOp, rt: Reg, imm19: Bits<19>)
     ensures { (memory : Memory) (rest : Rest) →
-        act (branch_zero_name op) (rt.number ∷ imm19.number ∷ []) (state_of core.old memory rest) ≡ Went (state_of core.new memory rest) }
+        act (branch_zero_name op) (rt.number ∷ imm19.number ∷ []) (state_of core.old memory rest)
+        ≡ Went (state_of core.new memory rest) }
 {
     let is_zero = core.register(rt) == 0;
     let place = target(core.pc, 19, imm19.number);
@@ -59,10 +61,9 @@ pub fn return_to(core: &mut Core, rn: Reg)
     core.pc = core.register(rn);
 }
 
-/// "SVC", where call 93 ends the run, and "BRK".
-#[cold]
-#[inline(never)]
-pub fn exception(core: &Core, op: ExceptionOp, imm16: Bits<16>) -> Step
+// The answer to an exception.
+#[inline(always)]
+fn taken(core: &Core, op: ExceptionOp, imm16: Bits<16>) -> Step
     ensures { (memory : Memory) (rest : Rest) → let here = state_of core.now memory rest in
         IsAnswer (act (exception_name op) (imm16.number ∷ []) here) result here here }
 {
@@ -86,4 +87,15 @@ pub fn exception(core: &Core, op: ExceptionOp, imm16: Bits<16>) -> Step
             at: u64::from(imm16.number),
         }),
     }
+}
+
+/// "SVC", where call 93 ends the run, and "BRK". No such step goes.
+#[cold]
+#[inline(never)]
+pub fn exception(core: &Core, op: ExceptionOp, imm16: Bits<16>, answer: &mut Step) -> bool
+    ensures { (memory : Memory) (rest : Rest) → let here = state_of core.now memory rest in
+        IsAnswer (act (exception_name op) (imm16.number ∷ []) here) (said result answer.new) here here }
+{
+    *answer = taken(core, op, imm16);
+    false
 }

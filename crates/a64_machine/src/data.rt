@@ -35,7 +35,8 @@ fn immediate(imm12: Bits<12>, sh: bool) -> u64
 #[inline(always)]
 pub fn add_sub_immediate(core: &mut Core, op: AddSubOp, rd: Reg, rn: Reg, imm12: Bits<12>, sh: bool)
     ensures { (memory : Memory) (rest : Rest) →
-        act (add_sub_imm_name op) (rd.number ∷ rn.number ∷ imm12.number ∷ flag_number sh ∷ []) (state_of core.old memory rest)
+        act (add_sub_imm_name op) (rd.number ∷ rn.number ∷ imm12.number ∷ flag_number sh ∷ [])
+        (state_of core.old memory rest)
         ≡ Went (state_of core.new memory rest) }
 {
     let left = core.register_or_sp(rn);
@@ -59,7 +60,8 @@ pub fn add_sub_shifted(
     shift: AddSubShift,
 )
     ensures { (memory : Memory) (rest : Rest) →
-        act (add_sub_shifted_name op) (rd.number ∷ rn.number ∷ imm6.number ∷ rm.number ∷ add_sub_shift_number shift ∷ []) (state_of core.old memory rest)
+        act (add_sub_shifted_name op) (rd.number ∷ rn.number ∷ imm6.number ∷ rm.number ∷ add_sub_shift_number shift
+        ∷ []) (state_of core.old memory rest)
         ≡ Went (state_of core.new memory rest) }
 {
     let left = core.register(rn);
@@ -84,7 +86,8 @@ pub fn logical(
     shift: Shift,
 )
     ensures { (memory : Memory) (rest : Rest) →
-        act (logical_name op) (rd.number ∷ rn.number ∷ imm6.number ∷ rm.number ∷ shift_number shift ∷ []) (state_of core.old memory rest)
+        act (logical_name op) (rd.number ∷ rn.number ∷ imm6.number ∷ rm.number ∷ shift_number shift ∷ [])
+        (state_of core.old memory rest)
         ≡ Went (state_of core.new memory rest) }
 {
     let left = core.register(rn);
@@ -101,7 +104,8 @@ pub fn logical(
 #[inline(always)]
 pub fn move_wide(core: &mut Core, op: MoveWideOp, rd: Reg, imm16: Bits<16>, hw: Bits<2>)
     ensures { (memory : Memory) (rest : Rest) →
-        act (move_wide_name op) (rd.number ∷ imm16.number ∷ hw.number ∷ []) (state_of core.old memory rest) ≡ Went (state_of core.new memory rest) }
+        act (move_wide_name op) (rd.number ∷ imm16.number ∷ hw.number ∷ []) (state_of core.old memory rest)
+        ≡ Went (state_of core.new memory rest) }
 {
     match op {
         MoveWideOp::Movz => write(core, rd, moved(hw.number, imm16.number)),
@@ -117,7 +121,8 @@ pub fn move_wide(core: &mut Core, op: MoveWideOp, rd: Reg, imm16: Bits<16>, hw: 
 #[inline(always)]
 pub fn multiply_add(core: &mut Core, op: MultiplyOp, rd: Reg, rn: Reg, ra: Reg, rm: Reg)
     ensures { (memory : Memory) (rest : Rest) →
-        act (multiply_add_name op) (rd.number ∷ rn.number ∷ ra.number ∷ rm.number ∷ []) (state_of core.old memory rest) ≡ Went (state_of core.new memory rest) }
+        act (multiply_add_name op) (rd.number ∷ rn.number ∷ ra.number ∷ rm.number ∷ []) (state_of core.old memory rest)
+        ≡ Went (state_of core.new memory rest) }
 {
     let product = core.register(rn).wrapping_mul(core.register(rm));
     let start = core.register(ra);
@@ -131,7 +136,8 @@ pub fn multiply_add(core: &mut Core, op: MultiplyOp, rd: Reg, rn: Reg, ra: Reg, 
 #[inline(always)]
 pub fn shift_variable(core: &mut Core, op: ShiftVariableOp, rd: Reg, rn: Reg, rm: Reg)
     ensures { (memory : Memory) (rest : Rest) →
-        act (shift_variable_name op) (rd.number ∷ rn.number ∷ rm.number ∷ []) (state_of core.old memory rest) ≡ Went (state_of core.new memory rest) }
+        act (shift_variable_name op) (rd.number ∷ rn.number ∷ rm.number ∷ []) (state_of core.old memory rest)
+        ≡ Went (state_of core.new memory rest) }
 {
     let value = core.register(rn);
     let by = (core.register(rm) % 64) as u32;
@@ -146,7 +152,8 @@ pub fn shift_variable(core: &mut Core, op: ShiftVariableOp, rd: Reg, rn: Reg, rm
 #[inline(always)]
 pub fn bitfield(core: &mut Core, op: BitfieldOp, rd: Reg, rn: Reg, imms: Bits<6>, immr: Bits<6>)
     ensures { (memory : Memory) (rest : Rest) →
-        act (bitfield_name op) (rd.number ∷ rn.number ∷ imms.number ∷ immr.number ∷ []) (state_of core.old memory rest) ≡ Went (state_of core.new memory rest) }
+        act (bitfield_name op) (rd.number ∷ rn.number ∷ imms.number ∷ immr.number ∷ []) (state_of core.old memory rest)
+        ≡ Went (state_of core.new memory rest) }
 {
     let value = core.register(rn);
     match op {
@@ -167,7 +174,8 @@ fn choose(chosen: bool, yes: u64, no: u64) -> u64
 #[inline(always)]
 pub fn conditional_select(core: &mut Core, op: SelectOp, rd: Reg, rn: Reg, cond: Cond, rm: Reg)
     ensures { (memory : Memory) (rest : Rest) →
-        act (select_name op) (rd.number ∷ rn.number ∷ cond_number cond ∷ rm.number ∷ []) (state_of core.old memory rest) ≡ Went (state_of core.new memory rest) }
+        act (select_name op) (rd.number ∷ rn.number ∷ cond_number cond ∷ rm.number ∷ []) (state_of core.old memory rest)
+        ≡ Went (state_of core.new memory rest) }
 {
     let chosen = holds(cond, core.nzcv);
     let yes = core.register(rn);
@@ -181,7 +189,11 @@ pub fn conditional_select(core: &mut Core, op: SelectOp, rd: Reg, rn: Reg, cond:
 /// "UMOV", from doubleword 0.
 #[inline(always)]
 pub fn move_from_vector(core: &mut Core, rd: Reg)
-    ensures { core.new ≡ record core.old { x = slice_set core.old.x rd.number core.old.vzero; pc = (core.old.pc + 4) % 2 ^ 64 } }
+    ensures { core.new ≡ record core.old {
+      x = slice_set core.old.x rd.number core.old.vzero;
+      pc =
+          (core.old.pc + 4) % 2 ^ 64;
+    } }
 {
     let value = core.vzero;
     write(core, rd, value);

@@ -16,7 +16,7 @@ mod writes;
 
 pub use core_state::Core;
 pub use laws::flags_are_kept;
-pub use one_step::a64_step;
+pub use one_step::{a64_goes, a64_step};
 
 #[cfg(test)]
 mod tests;

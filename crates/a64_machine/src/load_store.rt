@@ -6,7 +6,7 @@ ghost use Rattle.a64_code.specs.Seen.{byte_imm_name, wide_imm_name, byte_registe
 ghost use Rattle.machine_model.specs.Arithmetic.{sum};
 ghost use Rattle.machine_model.specs.Answers.{IsAnswer};
 ghost use Rattle.machine_model.specs.Effects.{act};
-ghost use Rattle.a64_machine.specs.Cores.{Rest, state_of, UnlessWent};
+ghost use Rattle.a64_machine.specs.Cores.{Rest, state_of, UnlessWent, said};
 ghost use Rattle.a64_machine.specs.Accesses.{logarithm};
 
 use crate::accesses::{access, byte_access};
@@ -47,7 +47,8 @@ fn scale(op: LoadStoreOp, scaled: bool) -> u32
 #[inline(always)]
 fn at_offset(core: &Core, rn: Reg, imm12: Bits<12>, unit: u32) -> u64
     requires { unit ≤ 3 }
-    ensures { result ≡ sum (if nat_eq rn.number 31 then core.now.sp else slice_index core.now.x rn.number) (imm12.number * 2 ^ unit) }
+    ensures { result ≡ sum (if nat_eq rn.number 31 then core.now.sp else slice_index core.now.x rn.number)
+        (imm12.number * 2 ^ unit) }
 {
     core.register_or_sp(rn)
         .wrapping_add(u64::from(imm12.number) << unit)
@@ -56,7 +57,8 @@ fn at_offset(core: &Core, rn: Reg, imm12: Bits<12>, unit: u32) -> u64
 /// The address by a register.
 #[inline(always)]
 fn at_register(core: &Core, rn: Reg, rm: Reg) -> u64
-    ensures { result ≡ sum (if nat_eq rn.number 31 then core.now.sp else slice_index core.now.x rn.number) (slice_index core.now.x rm.number) }
+    ensures { result ≡ sum (if nat_eq rn.number 31 then core.now.sp else slice_index core.now.x rn.number)
+        (slice_index core.now.x rm.number) }
 {
     core.register_or_sp(rn).wrapping_add(core.register(rm))
 }
@@ -81,14 +83,16 @@ pub fn byte_immediate<M: GuestMemory>(
     rt: Reg,
     rn: Reg,
     imm12: Bits<12>,
-) -> Step
+    answer: &mut Step,
+) -> bool
     ensures answer { (rest : Rest) → let before = state_of core.old (M.memory memory.old) rest in
-        IsAnswer (act (byte_imm_name op) (rt.number ∷ rn.number ∷ imm12.number ∷ []) before) result before (state_of core.new (M.memory memory.new) rest) }
-    ensures kept { UnlessWent result (core.new ≡ core.old) }
-    ensures kept_memory { UnlessWent result (M.memory memory.new ≡ M.memory memory.old) }
+        IsAnswer (act (byte_imm_name op) (rt.number ∷ rn.number ∷ imm12.number ∷ []) before)
+        (said result answer.new) before (state_of core.new (M.memory memory.new) rest) }
+    ensures kept { UnlessWent (said result answer.new) (core.new ≡ core.old) }
+    ensures kept_memory { UnlessWent (said result answer.new) (M.memory memory.new ≡ M.memory memory.old) }
 {
     let address = at_offset(core, rn, imm12, 0);
-    byte_access(core, memory, op, rt, address)
+    byte_access(core, memory, op, rt, address, answer)
 }
 
 /// "LDRH (immediate)", "LDR (immediate)", "LDRSH (immediate)", "LDRSW (immediate)", "STRH
@@ -101,14 +105,16 @@ pub fn wide_immediate<M: GuestMemory>(
     rt: Reg,
     rn: Reg,
     imm12: Bits<12>,
-) -> Step
+    answer: &mut Step,
+) -> bool
     ensures answer { (rest : Rest) → let before = state_of core.old (M.memory memory.old) rest in
-        IsAnswer (act (wide_imm_name op) (rt.number ∷ rn.number ∷ imm12.number ∷ []) before) result before (state_of core.new (M.memory memory.new) rest) }
-    ensures kept { UnlessWent result (core.new ≡ core.old) }
-    ensures kept_memory { UnlessWent result (M.memory memory.new ≡ M.memory memory.old) }
+        IsAnswer (act (wide_imm_name op) (rt.number ∷ rn.number ∷ imm12.number ∷ []) before)
+        (said result answer.new) before (state_of core.new (M.memory memory.new) rest) }
+    ensures kept { UnlessWent (said result answer.new) (core.new ≡ core.old) }
+    ensures kept_memory { UnlessWent (said result answer.new) (M.memory memory.new ≡ M.memory memory.old) }
 {
     let address = at_offset(core, rn, imm12, logarithm(op));
-    access(core, memory, op, rt, address)
+    access(core, memory, op, rt, address, answer)
 }
 
 /// "LDRB (register)", "LDRSB (register)", "STRB (register)".
@@ -120,14 +126,16 @@ pub fn byte_register<M: GuestMemory>(
     rt: Reg,
     rn: Reg,
     rm: Reg,
-) -> Step
+    answer: &mut Step,
+) -> bool
     ensures answer { (rest : Rest) → let before = state_of core.old (M.memory memory.old) rest in
-        IsAnswer (act (byte_register_name op) (rt.number ∷ rn.number ∷ rm.number ∷ []) before) result before (state_of core.new (M.memory memory.new) rest) }
-    ensures kept { UnlessWent result (core.new ≡ core.old) }
-    ensures kept_memory { UnlessWent result (M.memory memory.new ≡ M.memory memory.old) }
+        IsAnswer (act (byte_register_name op) (rt.number ∷ rn.number ∷ rm.number ∷ []) before)
+        (said result answer.new) before (state_of core.new (M.memory memory.new) rest) }
+    ensures kept { UnlessWent (said result answer.new) (core.new ≡ core.old) }
+    ensures kept_memory { UnlessWent (said result answer.new) (M.memory memory.new ≡ M.memory memory.old) }
 {
     let address = at_register(core, rn, rm);
-    byte_access(core, memory, op, rt, address)
+    byte_access(core, memory, op, rt, address, answer)
 }
 
 /// "LDRH (register)", "LDR (register)", "LDRSH (register)", "LDRSW (register)", "STRH (register)",
@@ -141,13 +149,15 @@ pub fn wide_register<M: GuestMemory>(
     rn: Reg,
     scaled: bool,
     rm: Reg,
-) -> Step
+    answer: &mut Step,
+) -> bool
     ensures answer { (rest : Rest) → let before = state_of core.old (M.memory memory.old) rest in
-        IsAnswer (act (wide_register_name op) (rt.number ∷ rn.number ∷ flag_number scaled ∷ rm.number ∷ []) before) result before
+        IsAnswer (act (wide_register_name op) (rt.number ∷ rn.number ∷ flag_number scaled ∷ rm.number ∷ []) before)
+        (said result answer.new) before
         (state_of core.new (M.memory memory.new) rest) }
-    ensures kept { UnlessWent result (core.new ≡ core.old) }
-    ensures kept_memory { UnlessWent result (M.memory memory.new ≡ M.memory memory.old) }
+    ensures kept { UnlessWent (said result answer.new) (core.new ≡ core.old) }
+    ensures kept_memory { UnlessWent (said result answer.new) (M.memory memory.new ≡ M.memory memory.old) }
 {
     let address = at_scaled(core, rn, rm, scale(op, scaled));
-    access(core, memory, op, rt, address)
+    access(core, memory, op, rt, address, answer)
 }

@@ -7,7 +7,7 @@ ghost use Rattle.machine_model.specs.Machine.{Went};
 ghost use Rattle.machine_model.specs.InstructionTable.{Scalar};
 ghost use Rattle.machine_model.specs.OneStep.{does};
 ghost use Rattle.machine_model.specs.Answers.{IsAnswer};
-ghost use Rattle.a64_machine.specs.Cores.{Rest, state_of, HasVector, UnlessWent};
+ghost use Rattle.a64_machine.specs.Cores.{Rest, state_of, HasVector, UnlessWent, said};
 ghost use Rattle.a64_machine.specs.Forms.{IsOnRegisters, IsData};
 
 use crate::control::{branch, branch_conditional, compare_branch, exception, return_to};
@@ -21,19 +21,20 @@ use a64_code::A64;
 use machine_model::outcome::Step;
 use paged_memory::pages::Pages;
 
-/// One A64 instruction.
+/// One A64 instruction: whether it goes on. Where it does not, its answer is left in `answer`.
 ///
 /// Where it is UMOV, `core.vzero` has to be doubleword 0 of the vector register that it reads. PC is
 /// left at the next instruction to be done.
-pub fn a64_step(core: &mut Core, pages: &mut Pages, word: A64) -> Step
+#[inline(always)]
+pub fn a64_goes(core: &mut Core, pages: &mut Pages, word: A64, answer: &mut Step) -> bool
     ensures answer { (rest : Rest) → HasVector word core.old rest → let before = state_of core.old pages.old rest in
-        IsAnswer (does (Scalar (seen word)) before) result before (state_of core.new pages.new rest) }
-    ensures kept { UnlessWent result (core.new ≡ core.old) }
-    ensures kept_memory { UnlessWent result (pages.new ≡ pages.old) }
+        IsAnswer (does (Scalar (seen word)) before) (said result answer.new) before (state_of core.new pages.new rest) }
+    ensures kept { UnlessWent (said result answer.new) (core.new ≡ core.old) }
+    ensures kept_memory { UnlessWent (said result answer.new) (pages.new ≡ pages.old) }
 {
     match word {
         A64::LoadStoreImmediate { op, rt, rn, imm12 } => {
-            wide_immediate(core, pages, op, rt, rn, imm12)
+            wide_immediate(core, pages, op, rt, rn, imm12, answer)
         }
         A64::LoadStoreRegister {
             op,
@@ -41,16 +42,33 @@ pub fn a64_step(core: &mut Core, pages: &mut Pages, word: A64) -> Step
             rn,
             scaled,
             rm,
-        } => wide_register(core, pages, op, rt, rn, scaled, rm),
+        } => wide_register(core, pages, op, rt, rn, scaled, rm, answer),
         A64::LoadStoreByteImmediate { op, rt, rn, imm12 } => {
-            byte_immediate(core, pages, op, rt, rn, imm12)
+            byte_immediate(core, pages, op, rt, rn, imm12, answer)
         }
-        A64::LoadStoreByteRegister { op, rt, rn, rm } => byte_register(core, pages, op, rt, rn, rm),
-        A64::Exception { op, imm16 } => exception(core, op, imm16),
+        A64::LoadStoreByteRegister { op, rt, rn, rm } => {
+            byte_register(core, pages, op, rt, rn, rm, answer)
+        }
+        A64::Exception { op, imm16 } => exception(core, op, imm16, answer),
         _ => {
             on_registers(core, word);
-            Step::Went
+            true
         }
+    }
+}
+
+/// One A64 instruction, by its answer.
+pub fn a64_step(core: &mut Core, pages: &mut Pages, word: A64) -> Step
+    ensures answer { (rest : Rest) → HasVector word core.old rest → let before = state_of core.old pages.old rest in
+        IsAnswer (does (Scalar (seen word)) before) result before (state_of core.new pages.new rest) }
+    ensures kept { UnlessWent result (core.new ≡ core.old) }
+    ensures kept_memory { UnlessWent result (pages.new ≡ pages.old) }
+{
+    let mut answer = Step::Went;
+    if a64_goes(core, pages, word, &mut answer) {
+        Step::Went
+    } else {
+        answer
     }
 }
 

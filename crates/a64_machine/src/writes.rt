@@ -22,7 +22,8 @@ pub fn write(core: &mut Core, rd: Reg, value: u64)
 /// Writes a register, where 31 is the stack pointer, and goes on to the next word.
 #[inline(always)]
 pub fn write_or_sp(core: &mut Core, rd: Reg, value: u64)
-    ensures { (memory : Memory) (rest : Rest) → state_of core.new memory rest ≡ next (with_x_or_sp (state_of core.old memory rest) rd.number value) }
+    ensures { (memory : Memory) (rest : Rest)
+        → state_of core.new memory rest ≡ next (with_x_or_sp (state_of core.old memory rest) rd.number value) }
 {
     core.set_register_or_sp(rd, value);
     core.go_on();

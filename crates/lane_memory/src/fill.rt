@@ -1,6 +1,6 @@
 // The elements of a load that nothing refuses.
 
-ghost use Rattle.std.specs.Prelude.{◌≡◌, ◌<◌, ◌≤◌, None, false};
+ghost use Rattle.std.specs.Prelude.{◌≡◌, ◌<◌, ◌≤◌, IsTrue, None, false};
 ghost use Rattle.guest_types.specs.Length.{all_lanes};
 ghost use Rattle.guest_types.specs.Elements.{first_true};
 ghost use Rattle.lane_memory.specs.Readings.{refused_of, lanes_of, HoldsLanes, IsRead};
@@ -55,6 +55,33 @@ fn copy_active(pages: &Pages, reading: Reading, pg: &PReg, from: usize, to: usiz
             e += 1;
         }
     }
+}
+
+/// The first elements of a load, and zeros above them, where all from the first active one to the last stand in one page
+/// that is mapped: whether they do. Nothing refuses them then.
+pub fn fill_at_once(
+    pages: &Pages,
+    reading: Reading,
+    pg: &PReg,
+    lanes: usize,
+    out: &mut ZReg,
+) -> bool
+    requires { lanes ≤ all_lanes reading.element }
+    ensures filled { IsTrue result → out.new.bytes ≡ lanes_of reading pages.now pg.now.bits lanes }
+    ensures free { IsTrue result → first_true (refused_of reading pages.now pg.now.bits) lanes 0 ≡ None }
+    ensures unchanged { result ≡ false → out.new ≡ out.old }
+{
+    pages.is_memory();
+    let range = active_range(pg, reading.element, lanes);
+    let count = range.to - range.from;
+    let address = reading.place(range.from);
+    let len = (reading.memory.bytes() * count) as u32;
+    if !pages.has_span(address, len) {
+        return false;
+    }
+    copy_part(reading, pages.lend(address, len), range.from, count, out);
+    keep_active(out, reading.element, pg, lanes);
+    true
 }
 
 /// The first elements of a load, and zeros above them.

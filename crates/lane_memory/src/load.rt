@@ -9,7 +9,7 @@ ghost use Rattle.lane_memory.specs.Readings.{form_of, place_of, on_of, refused_o
 ghost use Rattle.lane_memory.specs.Loads.{load_of, left_by, left_by_plain, left_by_first};
 
 use crate::early::load_early;
-use crate::fill::fill;
+use crate::fill::{fill, fill_at_once};
 use crate::reading::Reading;
 use crate::refusal::{fault_at, first_active, first_refused};
 use crate::suppress::Suppress;
@@ -40,11 +40,15 @@ fn load_plain(
 ) -> Result<(), AccessFault>
     requires { lanes ≤ all_lanes reading.element }
     ensures done { (ffr : List ℕ) → OnOk result (
-        plain_load (form_of reading) pages.now (on_of reading pg.now.bits) (place_of reading) lanes ffr ≡ Ok (record { z = out.new.bytes; ffr = ffr })) }
+        plain_load (form_of reading) pages.now (on_of reading pg.now.bits) (place_of reading) lanes ffr
+        ≡ Ok (record { z = out.new.bytes; ffr = ffr })) }
     ensures refused { (ffr : List ℕ) → IfErr result (λ fault.
         plain_load (form_of reading) pages.now (on_of reading pg.now.bits) (place_of reading) lanes ffr ≡ Err fault) }
     ensures unchanged { OnErr result (out.new ≡ out.old) }
 {
+    if fill_at_once(pages, reading, pg, lanes, out) {
+        return Ok(());
+    }
     if let Some(fault) = refusal(pages, reading, pg, lanes) {
         return Err(fault);
     }
@@ -84,7 +88,8 @@ fn load_first_fault(
         left_by_first (first_fault_early (form_of reading) pages.now stops.old on (place_of reading) lanes ffr.old.bits)
         ≡ Ok (record { z = out.new.bytes; ffr = ffr.new.bits; stops = stops.new })) }
     ensures refused { let on = on_of reading pg.now.bits in
-        IfErr result (λ fault. first_fault_early (form_of reading) pages.now stops.old on (place_of reading) lanes ffr.old.bits ≡ Err fault) }
+        IfErr result (λ fault. first_fault_early (form_of reading) pages.now stops.old on
+        (place_of reading) lanes ffr.old.bits ≡ Err fault) }
     ensures unchanged { OnErr result ((out.new ≡ out.old) × (ffr.new ≡ ffr.old) × (stops.new ≡ stops.old)) }
 {
     let from = free_from(pages, reading, pg, lanes)?;

@@ -1,5 +1,5 @@
 -- What a kernel leaves is what the row says: the register of as many elements as the vector length has, of the right shape.
-use Rattle.std.proofs.Common.{◌≡◌, ℕ, ◌*◌, ◌<◌, ◌≤◌, List, refl, sym, ap, ap₂, ◌∙◌, subst}
+use Rattle.std.proofs.Common.{◌≡◌, ℕ, List, sym, ap, ap₂, ◌∙◌, subst}
 use Rattle.guest_types.specs.Length.{IsLength, width_bytes, lanes}
 use Rattle.guest_types.specs.declared.length.Width.{Width}
 use Rattle.guest_types.specs.declared.operation.LaneOp.{LaneOp}

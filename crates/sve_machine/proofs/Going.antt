@@ -1,5 +1,5 @@
 -- What some steps leave, one after another.
-use Rattle.std.proofs.Common.{◌≡◌, ℕ, zero, suc, ◌+◌, ◌-◌, ◌<◌, ◌≤◌, Bool, true, [], ◌∷◌, Option, Some, None, refl, sym, ap, ◌∙◌, subst, arith}
+use Rattle.std.proofs.Common.{◌≡◌, ℕ, zero, suc, ◌+◌, ◌<◌, Bool, true, false, [], ◌∷◌, Option, Some, None, refl, sym, ap, ◌∙◌, subst, arith}
 use Rattle.machine_model.specs.declared.outcome.Step.{Step as StepAnswer}
 use Rattle.machine_model.specs.declared.outcome.Step.TheVariants as answers
 use Rattle.machine_model.specs.declared.outcome.Stop.{Stop as StopAnswer}
@@ -13,6 +13,7 @@ use Rattle.machine_model.specs.Debugged.{RunLeaves, is_never}
 use Rattle.machine_model.specs.Answers.{outcome_of}
 use Rattle.machine_model.proofs.Quiet.{steps_quiet}
 use Rattle.guest_types.specs.EarlyLoads.{StopList, Listed, Each, never}
+use Rattle.a64_machine.specs.Cores.{said}
 use Rattle.sve_machine.specs.Views.{Leaves, Last, outcome_at}
 
 -- a step that goes on, of one step at most
@@ -90,3 +91,11 @@ left_quiet (answers.Stopped stop) steps done s t h q = ap (λ (u : State). u.sto
 
 pub quiet_left : (answer : StepAnswer) (steps done : ℕ) (s t : State) → Leaves answer steps done s t → is_never s.stops ≡ true → is_never t.stops ≡ true
 quiet_left answer steps done s t h q = ap is_never (left_quiet answer steps done s t h (none s.stops q))
+
+-- ---- a step whose answer is told in two parts
+
+pub said_on : (o : Step) (went : Bool) (answer : StepAnswer) (s t : State) → went ≡ true → IsAnswer o (said went answer) s t → o ≡ Went t
+said_on o went answer s t e h = subst (λ w. IsAnswer o (said w answer) s t) e h
+
+pub said_else : (o : Step) (went : Bool) (answer : StepAnswer) (s t : State) → went ≡ false → answer ≡ answers.Went → IsAnswer o (said went answer) s t → o ≡ Went t
+said_else o went answer s t e is h = subst (λ a. IsAnswer o a s t) is (subst (λ w. IsAnswer o (said w answer) s t) e h)

@@ -1,6 +1,5 @@
 -- Each row of vector arithmetic by its operation.
-use Rattle.std.proofs.Common.{◌≡◌, ℕ, ◌+◌, ◌-◌, ◌*◌, ◌/◌, ◌%◌, ◌^◌, ◌<◌, ◌≤◌, Bool, true, false, ltb, List, [], ◌∷◌, refl, sym, ap, ap₂, ◌∙◌, subst, arith}
-use Rattle.std.proofs.lemmas.Bool.{ltb-true, ltb-false}
+use Rattle.std.proofs.Common.{◌≡◌, ℕ, ◌+◌, ◌*◌, ◌/◌, ◌%◌, ◌^◌, ◌<◌, ◌≤◌, List, [], ◌∷◌, refl, sym, ap, ap₂, ◌∙◌, subst, arith}
 use Rattle.guest_types.specs.Memory.{Memory}
 use Rattle.guest_types.specs.Length.{IsLength, width_bytes, width_bits, lanes}
 use Rattle.guest_types.specs.Elements.{register, with_element}
@@ -18,8 +17,8 @@ use Rattle.guest_types.specs.declared.operation.LaneOp.{LaneOp}
 use Rattle.guest_types.specs.declared.operation.LaneUnary.{LaneUnary}
 use Rattle.guest_types.specs.declared.operation.ShiftOp.{ShiftOp}
 use Rattle.guest_types.specs.LaneMemory.{width_of_size}
-use Rattle.guest_types.specs.Lanes.{ShiftFits, source_bits, sign_extended, dup_at, index_at, reduce_of, binary_at, merge_at, merge_one_at, shift_at, select_at}
-use Rattle.sve_code.specs.Numbers.{size_number, size_from_h_number, size_from_s_number, shift_size, left_amount, right_amount}
+use Rattle.guest_types.specs.Lanes.{source_bits, sign_extended, dup_at, index_at, reduce_of, binary_at, merge_at, merge_one_at, shift_at, select_at}
+use Rattle.sve_code.specs.Numbers.{size_from_h_number, size_from_s_number, shift_size}
 use Rattle.sve_code.specs.Table.{sel, dup, index_row}
 use Rattle.sve_code.specs.Seen.{add_sub_name, logic_name, shift_imm_name, merging_name, unary_name, extend_byte_name, extend_half_name, extend_word_name, reduce_name}
 use Rattle.sve_code.specs.declared.AddSubOp.{AddSubOp}
@@ -34,16 +33,14 @@ use Rattle.sve_code.specs.declared.UnaryPredicatedOp.{UnaryPredicatedOp}
 use Rattle.sve_code.specs.declared.UnaryPredicatedOp.TheVariants as unary_predicated_ops
 use Rattle.sve_code.specs.declared.ExtendOp.{ExtendOp}
 use Rattle.sve_code.specs.declared.ExtendOp.TheVariants as extend_ops
-use Rattle.sve_code.specs.declared.parts.Size.{Size}
-use Rattle.sve_code.specs.declared.parts.Size.TheVariants as sizes
 use Rattle.sve_code.specs.declared.parts.SizeFromH.{SizeFromH}
 use Rattle.sve_code.specs.declared.parts.SizeFromH.TheVariants as sizes_from_h
 use Rattle.sve_code.specs.declared.parts.SizeFromS.{SizeFromS}
 use Rattle.sve_code.specs.declared.parts.SizeFromS.TheVariants as sizes_from_s
 use Rattle.word_rows.specs.Row.{Instruction}
 use Rattle.sve_code.specs.Table.{Name}
-use Rattle.machine_model.specs.Machine.{State, Step, Went, next}
-use Rattle.machine_model.specs.VectorEffects.{do_vector, put_lanes as put_elements}
+use Rattle.machine_model.specs.Machine.{Went, next}
+use Rattle.machine_model.specs.VectorEffects.{do_vector}
 use Rattle.a64_machine.specs.Cores.{Rest, state_of}
 use Rattle.a64_machine.specs.declared.core_state.Core.{Core}
 use Rattle.sve_machine.specs.Rests.{z_of, p_of, put_z, put_lanes}

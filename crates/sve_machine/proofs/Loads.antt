@@ -1,5 +1,5 @@
 -- What a load leaves, of the right shape, and what the rows of loads and stores say of it.
-use Rattle.std.proofs.Common.{[], ◌∷◌, get_or, ◌≡◌, ℕ, ◌+◌, ◌*◌, ◌<◌, ◌≤◌, Bool, List, Option, Some, None, Result, Ok, Err, refl, sym, ap, ◌∙◌, subst}
+use Rattle.std.proofs.Common.{[], ◌∷◌, get_or, ◌≡◌, ℕ, Bool, List, Option, Some, None, Result, Ok, refl, sym, ap, ◌∙◌, subst}
 use Rattle.std.specs.Prelude.{slice_set}
 use Rattle.guest_types.specs.declared.memory.AccessFault.{AccessFault}
 use Rattle.guest_types.specs.declared.row.LoadMode.{LoadMode}
@@ -7,8 +7,8 @@ use Rattle.guest_types.specs.declared.row.LoadMode.TheVariants.{Plain, FirstFaul
 use Rattle.guest_types.specs.Length.{IsLength, width_bytes, lanes}
 use Rattle.guest_types.specs.Memory.{Memory}
 use Rattle.guest_types.specs.Elements.{active, first_true, both, register}
-use Rattle.guest_types.specs.LaneMemory.{store_of, LoadForm, Loaded, load_form, lane_address, plain_load, or_fault, fault_at, lane_faults, loaded_lane, kept_lane, is_clear, cleared_from}
-use Rattle.guest_types.specs.EarlyLoads.{StopList, EarlyLoad, unless_fault, early_load, later_than, suppressed_at, stop_at, first_fault_early, non_fault_early}
+use Rattle.guest_types.specs.LaneMemory.{store_of, LoadForm, load_form, lane_address, or_fault, fault_at, lane_faults, loaded_lane, kept_lane, is_clear, cleared_from}
+use Rattle.guest_types.specs.EarlyLoads.{StopList, EarlyLoad, unless_fault, early_load, later_than, suppressed_at, stop_at, non_fault_early}
 use Rattle.machine_model.specs.States.{IsVector, IsPredicate}
 use Rattle.machine_model.proofs.States.{vector_made, fills, cleared_is}
 use Rattle.lane_memory.specs.Loads.{LoadLeft, left_by_plain, left_by_early, left_by_first, left_by, load_of}
@@ -16,12 +16,11 @@ use Rattle.a64_machine.specs.Cores.{Rest, state_of}
 use Rattle.guest_types.specs.declared.register.ZReg.{ZReg}
 use Rattle.guest_types.specs.declared.predicate.PReg.{PReg}
 use Rattle.std.proofs.Math.ListN.{get_or-map}
-use Rattle.machine_model.specs.Machine.{State, Step, Went, Stopped, x_at, x_or_sp, next}
-use Rattle.machine_model.specs.declared.outcome.StopKind.TheVariants.{Read}
+use Rattle.machine_model.specs.Machine.{x_at, x_or_sp}
 use Rattle.machine_model.specs.VectorEffects.{do_vector}
 use Rattle.machine_model.specs.VectorEffects as effects
 use Rattle.a64_machine.specs.declared.core_state.Core.{Core}
-use Rattle.sve_machine.specs.Rests.{IsRest, rest_of, p_bits, p_of, z_of, put_z, put_load}
+use Rattle.sve_machine.specs.Rests.{IsRest, rest_of, p_bits, p_of, z_of, put_load}
 use Rattle.sve_code.specs.Table.{ld1, ldff1, ldnf1, st1}
 use Rattle.sve_machine.specs.Rows.{after_load}
 use Rattle.sve_machine.proofs.LaneRows.{row_of}

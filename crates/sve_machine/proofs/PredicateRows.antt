@@ -1,9 +1,9 @@
 -- Each row of predicates, FFR and counts.
-use Rattle.std.proofs.Common.{◌≡◌, ℕ, ◌+◌, ◌*◌, ◌%◌, ◌^◌, ◌<◌, ◌≤◌, Bool, true, false, cond, List, [], ◌∷◌, refl, sym, ap, ap₂, ◌∙◌, subst, arith}
+use Rattle.std.proofs.Common.{◌≡◌, ℕ, ◌+◌, ◌%◌, ◌^◌, ◌<◌, Bool, true, false, List, [], ◌∷◌, refl, sym, ap, ap₂, ◌∙◌, subst, arith}
 use Rattle.std.specs.Prelude.{slice_set, slice_index, ◌&&◌}
 use Rattle.std.proofs.Math.Nat.{one-mul}
 use Rattle.guest_types.specs.Memory.{Memory}
-use Rattle.guest_types.specs.Length.{IsLength, width_bytes, lanes, all_lanes}
+use Rattle.guest_types.specs.Length.{IsLength, width_bytes, lanes}
 use Rattle.guest_types.specs.declared.length.Width.{Width}
 use Rattle.guest_types.specs.declared.length.Width.TheVariants.{B}
 use Rattle.guest_types.specs.declared.operation.PredOp.{PredOp}
@@ -24,14 +24,14 @@ use Rattle.sve_code.specs.declared.ElementCountOp.TheVariants as element_count_o
 use Rattle.sve_code.specs.declared.VectorCompareOp.{VectorCompareOp}
 use Rattle.sve_code.specs.declared.VectorCompareOp.TheVariants as vector_compare_ops
 use Rattle.machine_model.specs.Arithmetic.{sum}
-use Rattle.machine_model.specs.Machine.{State, Step, Went, next, x_at, with_x, with_p, with_flags}
+use Rattle.machine_model.specs.Machine.{State, Went, next, with_x, with_p, with_flags}
 use Rattle.machine_model.specs.VectorEffects.{do_vector}
 use Rattle.machine_model.specs.States.{IsPredicate}
 use Rattle.machine_model.proofs.States.{truths_made, fills}
 use Rattle.machine_model.proofs.Whole.{logic_whole, brk_whole, pred_test-ext}
 use Rattle.a64_machine.specs.Cores.{Rest, state_of, flags_in}
 use Rattle.a64_machine.specs.declared.core_state.Core.{Core}
-use Rattle.sve_machine.specs.Rests.{z_of, p_of, put_p, put_ffr, put_truths}
+use Rattle.sve_machine.specs.Rests.{z_of, p_of, put_p, put_ffr}
 use Rattle.sve_machine.specs.Rows.{logic_op, logic_flags, is_after, count_width, comparison}
 use Rattle.sve_machine.proofs.Arms.{IsP, IsZ}
 use Rattle.sve_machine.proofs.LaneRows.{row_of, Leaves}

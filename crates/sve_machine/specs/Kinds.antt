@@ -35,6 +35,39 @@ IsOnLanes (FirstFaultLoad a b c d e) = ⊥
 IsOnLanes (NonFaultLoad a b c d) = ⊥
 IsOnLanes (ContiguousStore a b c d e) = ⊥
 
+-- it computes the active elements of a vector register
+abbrev pub IsOnActive : Sve → Type 0
+IsOnActive (DupScalar a b c) = ⊥
+IsOnActive (IndexScalarImmediate a b c d) = ⊥
+IsOnActive (Sel a b c d e) = ⊥
+IsOnActive (AddSub a b c d e) = ⊥
+IsOnActive (Bitwise a b c d) = ⊥
+IsOnActive (ShiftImmediate a b c d) = ⊥
+IsOnActive (BinaryPredicated a b c d e) = Unit {0}
+IsOnActive (UnaryPredicated a b c d e) = Unit {0}
+IsOnActive (ExtendByte a b c d e) = Unit {0}
+IsOnActive (ExtendHalfword a b c d e) = Unit {0}
+IsOnActive (ExtendWord a b c d) = Unit {0}
+IsOnActive (Reduction a b c d e) = Unit {0}
+IsOnActive (Ptrue a b) = ⊥
+IsOnActive (Pfalse a) = ⊥
+IsOnActive (Whilelo a b c d) = ⊥
+IsOnActive (Ptest a b) = ⊥
+IsOnActive (PredicateLogical a b c d e) = ⊥
+IsOnActive (Break a b c d) = ⊥
+IsOnActive (Rdffr a) = ⊥
+IsOnActive (RdffrPredicated a b) = ⊥
+IsOnActive Setffr = ⊥
+IsOnActive (Wrffr a) = ⊥
+IsOnActive (ElementCount a b) = ⊥
+IsOnActive (Incp a b c) = ⊥
+IsOnActive (Cntp a b c d) = ⊥
+IsOnActive (CompareVectors a b c d e f) = ⊥
+IsOnActive (ContiguousLoad a b c d e) = ⊥
+IsOnActive (FirstFaultLoad a b c d e) = ⊥
+IsOnActive (NonFaultLoad a b c d) = ⊥
+IsOnActive (ContiguousStore a b c d e) = ⊥
+
 -- it is no load and no store
 abbrev pub IsOnRegisters : Sve → Type 0
 IsOnRegisters (DupScalar a b c) = Unit {0}

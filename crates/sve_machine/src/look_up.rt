@@ -1,16 +1,17 @@
 //! The instruction at a place, by the words that were decoded.
 
-ghost use Rattle.std.specs.Prelude.{◌≡◌, ℕ, ◌/◌, ◌%◌, None, All, IfSome, slice_index_or};
+ghost use Rattle.std.specs.Prelude.{◌≡◌, ℕ, ◌/◌, ◌%◌, All, IsTrue, false, slice_index_or};
 ghost use Rattle.guest_types.specs.Memory.{Memory};
 ghost use Rattle.machine_model.specs.OneStep.{step};
-ghost use Rattle.machine_model.specs.Machine.{State, Stopped};
+ghost use Rattle.machine_model.specs.Answers.{IsAnswer};
+ghost use Rattle.machine_model.specs.Machine.{State};
 ghost use Rattle.sve_machine.specs.Keeping.{Keeps, Holds};
 
 use crate::decoding::decode;
 use crate::instruction::Instruction;
 use crate::kept::Entry;
 use a64_code::A64;
-use machine_model::outcome::{Stop, StopKind};
+use machine_model::outcome::{Step, Stop, StopKind};
 use paged_memory::pages::Pages;
 
 /// Entries that hold nothing.
@@ -24,21 +25,28 @@ pub fn no_words() -> [Entry; 1024]
     [nothing; 1024]
 }
 
-/// Decodes the word at a place and keeps it, or gives the stop there.
+// Leaves a stop as the answer. No word was found.
+#[inline(always)]
+fn stop(kind: StopKind, pc: u64, at: u64, answer: &mut Step) -> bool
+    ensures found { result ≡ false }
+    ensures answer { answer.new ≡ Step.Stopped (record { kind = kind; pc = pc; at = at }) }
+{
+    *answer = Step::Stopped(Stop { kind, pc, at });
+    false
+}
+
+/// Decodes the word at a place and keeps it: whether there is one, or else the answer there.
 #[cold]
 #[inline(never)]
-fn fill(pages: &Pages, kept: &mut [Entry; 1024], pc: u64) -> Option<Stop>
+fn fill(pages: &Pages, kept: &mut [Entry; 1024], pc: u64, answer: &mut Step) -> bool
     requires kept { All (Keeps pages.now) kept.old }
     ensures kept { All (Keeps pages.now) kept.new }
-    ensures found { (d : Entry) → result ≡ None → Holds pages.now pc (slice_index_or kept.new (pc / 4 % 1024) d) }
-    ensures stopped { IfSome result (λ stop. (s : State) → s.memory ≡ pages.now → s.pc ≡ pc → step s ≡ Stopped stop.kind stop.pc stop.at s.memory) }
+    ensures found { (d : Entry) → IsTrue result → Holds pages.now pc (slice_index_or kept.new (pc / 4 % 1024) d) }
+    ensures stopped { (s : State) → result ≡ false → s.memory ≡ pages.now → s.pc ≡ pc
+        → IsAnswer (step s) answer.new s s }
 {
     let Some(word) = pages.fetch(pc) else {
-        return Some(Stop {
-            kind: StopKind::Fetch,
-            pc,
-            at: pc,
-        });
+        return stop(StopKind::Fetch, pc, pc, answer);
     };
     match decode(word) {
         Some(instruction) => {
@@ -46,26 +54,24 @@ fn fill(pages: &Pages, kept: &mut [Entry; 1024], pc: u64) -> Option<Stop>
                 place: pc,
                 instruction,
             };
-            None
+            true
         }
-        None => Some(Stop {
-            kind: StopKind::Undefined,
-            pc,
-            at: u64::from(word),
-        }),
+        None => stop(StopKind::Undefined, pc, u64::from(word), answer),
     }
 }
 
-/// Sees to it that the entry of a place holds the instruction there, or gives the stop there.
+/// Sees to it that the entry of a place holds the instruction there: whether there is one, or else
+/// the answer there.
 #[inline(always)]
-pub fn look_up(pages: &Pages, kept: &mut [Entry; 1024], pc: u64) -> Option<Stop>
+pub fn look_up(pages: &Pages, kept: &mut [Entry; 1024], pc: u64, answer: &mut Step) -> bool
     requires kept { All (Keeps pages.now) kept.old }
     ensures kept { All (Keeps pages.now) kept.new }
-    ensures found { (d : Entry) → result ≡ None → Holds pages.now pc (slice_index_or kept.new (pc / 4 % 1024) d) }
-    ensures stopped { IfSome result (λ stop. (s : State) → s.memory ≡ pages.now → s.pc ≡ pc → step s ≡ Stopped stop.kind stop.pc stop.at s.memory) }
+    ensures found { (d : Entry) → IsTrue result → Holds pages.now pc (slice_index_or kept.new (pc / 4 % 1024) d) }
+    ensures stopped { (s : State) → result ≡ false → s.memory ≡ pages.now → s.pc ≡ pc
+        → IsAnswer (step s) answer.new s s }
 {
     if (kept[(pc / 4 % 1024) as usize].place == pc) & (pc % 4 == 0) {
-        return None;
+        return true;
     }
-    fill(pages, kept, pc)
+    fill(pages, kept, pc, answer)
 }

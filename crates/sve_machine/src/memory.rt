@@ -1,7 +1,6 @@
 //! Vector loads and stores.
 
-ghost use Rattle.std.specs.Prelude.{◌≡◌};
-ghost use Rattle.std.specs.Prelude.{slice_index};
+ghost use Rattle.std.specs.Prelude.{◌≡◌, false, slice_index};
 ghost use Rattle.sve_code.specs.Numbers.{dtype_number, size_number};
 ghost use Rattle.sve_code.specs.Seen.{seen};
 ghost use Rattle.sve_code.specs.declared.Sve.{Sve};
@@ -9,12 +8,13 @@ ghost use Rattle.machine_model.specs.Answers.{IsAnswer};
 ghost use Rattle.machine_model.specs.Machine.{x_or_sp};
 ghost use Rattle.machine_model.specs.VectorEffects.{do_vector};
 ghost use Rattle.lane_memory.specs.Loads.{load_of};
-ghost use Rattle.a64_machine.specs.Cores.{state_of};
+ghost use Rattle.a64_machine.specs.Cores.{state_of, said};
 ghost use Rattle.sve_machine.specs.Rests.{p_of, put_load};
 ghost use Rattle.sve_machine.specs.Rows.{after_load};
 
 use crate::vectors::Vectors;
 use a64_machine::Core;
+use guest_types::memory::AccessFault;
 use guest_types::row::{LoadMode, LoadRow, StoreRow};
 use lane_memory::store::store;
 use machine_model::outcome::{Step, Stop, StopKind};
@@ -51,6 +51,21 @@ fn offset_of(core: &Core, offset: OffsetReg) -> u64
     core.x[offset.number as usize]
 }
 
+// Stops at a byte that may not be accessed. The step did not go.
+#[cold]
+#[inline(never)]
+fn refused(core: &Core, kind: StopKind, fault: AccessFault, answer: &mut Step) -> bool
+    ensures went { result ≡ false }
+    ensures answer { answer.new ≡ Step.Stopped (record { kind = kind; pc = core.now.pc; at = fault.address }) }
+{
+    *answer = Step::Stopped(Stop {
+        kind,
+        pc: core.pc,
+        at: fault.address,
+    });
+    false
+}
+
 // A load in one of its modes, from a base with an index in elements.
 #[inline(never)]
 fn load(
@@ -63,23 +78,21 @@ fn load(
     base: u64,
     index: u64,
     pg: GoverningReg,
-) -> Step
+    answer: &mut Step,
+) -> bool
     ensures { let r = vectors.old in
         IsAnswer
-        (after_load (put_load (load_of mode (dtype_number dtype) base index r.vl pages.now r.stops (p_of r pg.number) r.ffr) zt.number r) core.old pages.now)
-        result (state_of core.old pages.now r) (state_of core.new pages.now vectors.new) }
+        (after_load (put_load (load_of mode (dtype_number dtype) base index r.vl pages.now r.stops
+        (p_of r pg.number) r.ffr) zt.number r) core.old pages.now)
+        (said result answer.new) (state_of core.old pages.now r) (state_of core.new pages.now vectors.new) }
 {
     let row = load_row(dtype);
     match vectors.load(pages, mode, row, base, index, zt.number, pg.number) {
         Ok(()) => {
             core.go_on();
-            Step::Went
+            true
         }
-        Err(fault) => Step::Stopped(Stop {
-            kind: StopKind::Read,
-            pc: core.pc,
-            at: fault.address,
-        }),
+        Err(fault) => refused(core, StopKind::Read, fault, answer),
     }
 }
 
@@ -93,9 +106,11 @@ pub fn contiguous_load(
     pg: GoverningReg,
     offset: OffsetReg,
     dtype: Dtype,
-) -> Step
+    answer: &mut Step,
+) -> bool
     ensures { let before = state_of core.old pages.now vectors.old in
-        IsAnswer (do_vector (seen (Sve.ContiguousLoad zt rn pg offset dtype)) before) result before (state_of core.new pages.now vectors.new) }
+        IsAnswer (do_vector (seen (Sve.ContiguousLoad zt rn pg offset dtype)) before)
+        (said result answer.new) before (state_of core.new pages.now vectors.new) }
 {
     let base = core.register_or_sp(rn);
     let index = offset_of(core, offset);
@@ -109,6 +124,7 @@ pub fn contiguous_load(
         base,
         index,
         pg,
+        answer,
     )
 }
 
@@ -122,9 +138,11 @@ pub fn first_fault_load(
     pg: GoverningReg,
     rm: Reg,
     dtype: Dtype,
-) -> Step
+    answer: &mut Step,
+) -> bool
     ensures { let before = state_of core.old pages.now vectors.old in
-        IsAnswer (do_vector (seen (Sve.FirstFaultLoad zt rn pg rm dtype)) before) result before (state_of core.new pages.now vectors.new) }
+        IsAnswer (do_vector (seen (Sve.FirstFaultLoad zt rn pg rm dtype)) before) (said result answer.new) before
+        (state_of core.new pages.now vectors.new) }
 {
     let base = core.register_or_sp(rn);
     let index = core.register(rm);
@@ -138,6 +156,7 @@ pub fn first_fault_load(
         base,
         index,
         pg,
+        answer,
     )
 }
 
@@ -150,9 +169,11 @@ pub fn non_fault_load(
     rn: Reg,
     pg: GoverningReg,
     dtype: Dtype,
-) -> Step
+    answer: &mut Step,
+) -> bool
     ensures { let before = state_of core.old pages.now vectors.old in
-        IsAnswer (do_vector (seen (Sve.NonFaultLoad zt rn pg dtype)) before) result before (state_of core.new pages.now vectors.new) }
+        IsAnswer (do_vector (seen (Sve.NonFaultLoad zt rn pg dtype)) before) (said result answer.new) before
+        (state_of core.new pages.now vectors.new) }
 {
     let base = core.register_or_sp(rn);
     load(
@@ -165,6 +186,7 @@ pub fn non_fault_load(
         base,
         0,
         pg,
+        answer,
     )
 }
 
@@ -179,9 +201,11 @@ pub fn contiguous_store(
     pg: GoverningReg,
     offset: OffsetReg,
     sizes: StoreSizes,
-) -> Step
+    answer: &mut Step,
+) -> bool
     ensures { let before = state_of core.old pages.old vectors.now in
-        IsAnswer (do_vector (seen (Sve.ContiguousStore zt rn pg offset sizes)) before) result before (state_of core.new pages.new vectors.now) }
+        IsAnswer (do_vector (seen (Sve.ContiguousStore zt rn pg offset sizes)) before)
+        (said result answer.new) before (state_of core.new pages.new vectors.now) }
 {
     let base = core.register_or_sp(rn);
     let index = offset_of(core, offset);
@@ -192,12 +216,8 @@ pub fn contiguous_store(
     match store(pages, row, base, index, vl, mask, z) {
         Ok(()) => {
             core.go_on();
-            Step::Went
+            true
         }
-        Err(fault) => Step::Stopped(Stop {
-            kind: StopKind::Write,
-            pc: core.pc,
-            at: fault.address,
-        }),
+        Err(fault) => refused(core, StopKind::Write, fault, answer),
     }
 }

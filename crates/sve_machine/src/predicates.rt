@@ -96,7 +96,8 @@ pub fn test(core: &mut Core, vectors: &Vectors, pn: PredicateReg, pg: PredicateR
 #[inline(always)]
 fn set_flags_by(core: &mut Core, op: PredicateLogicalOp, vl: Vl, mask: &PReg, outcome: &PReg)
     ensures flags { flags_in core.new.nzcv
-        ≡ logic_flags op (flags_in core.old.nzcv) (pred_test (active B mask.now.bits) (active B outcome.now.bits) (lanes vl B)) }
+        ≡ logic_flags op (flags_in core.old.nzcv)
+        (pred_test (active B mask.now.bits) (active B outcome.now.bits) (lanes vl B)) }
     ensures kept { core.new ≡ record core.old { nzcv = core.new.nzcv } }
 {
     match op {

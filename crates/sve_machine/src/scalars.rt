@@ -2,14 +2,14 @@
 
 ghost use Rattle.std.specs.Prelude.{◌≡◌};
 ghost use Rattle.a64_code.specs.Seen.{seen};
-ghost use Rattle.a64_machine.specs.Cores.{state_of, HasVector};
+ghost use Rattle.a64_machine.specs.Cores.{state_of, HasVector, said};
 ghost use Rattle.machine_model.specs.InstructionTable.{Scalar};
 ghost use Rattle.machine_model.specs.OneStep.{does};
 ghost use Rattle.machine_model.specs.Answers.{IsAnswer};
 
 use crate::vectors::Vectors;
 use a64_code::A64;
-use a64_machine::{Core, a64_step};
+use a64_machine::{Core, a64_goes};
 use machine_model::outcome::Step;
 use paged_memory::pages::Pages;
 
@@ -24,12 +24,19 @@ fn hand_doubleword(core: &mut Core, vectors: &Vectors, word: A64)
     }
 }
 
-/// One A64 instruction. It leaves the vector registers alone.
+/// One A64 instruction: whether it goes on, or else its answer. It leaves the vector registers alone.
 #[inline(always)]
-pub fn scalar_step(core: &mut Core, pages: &mut Pages, vectors: &Vectors, word: A64) -> Step
+pub fn scalar_goes(
+    core: &mut Core,
+    pages: &mut Pages,
+    vectors: &Vectors,
+    word: A64,
+    answer: &mut Step,
+) -> bool
     ensures { let before = state_of core.old pages.old vectors.now in
-        IsAnswer (does (Scalar (seen word)) before) result before (state_of core.new pages.new vectors.now) }
+        IsAnswer (does (Scalar (seen word)) before) (said result answer.new) before
+        (state_of core.new pages.new vectors.now) }
 {
     hand_doubleword(core, vectors, word);
-    a64_step(core, pages, word)
+    a64_goes(core, pages, word, answer)
 }

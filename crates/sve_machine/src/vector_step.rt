@@ -2,11 +2,12 @@
 
 ghost use Rattle.std.specs.Prelude.{◌≡◌};
 ghost use Rattle.sve_code.specs.Seen.{seen};
-ghost use Rattle.a64_machine.specs.Cores.{state_of};
+ghost use Rattle.a64_machine.specs.Cores.{state_of, said};
+ghost use Rattle.a64_machine.specs.declared.core_state.Core.{Core as CoreOf};
 ghost use Rattle.machine_model.specs.InstructionTable.{Vector};
 ghost use Rattle.machine_model.specs.OneStep.{does};
 ghost use Rattle.machine_model.specs.Answers.{IsAnswer};
-ghost use Rattle.sve_machine.specs.Kinds.{IsOnLanes, IsOnRegisters};
+ghost use Rattle.sve_machine.specs.Kinds.{IsOnActive, IsOnLanes, IsOnRegisters};
 ghost use Rattle.sve_machine.specs.Rows.{RowLeaves};
 
 use crate::memory::{contiguous_load, contiguous_store, first_fault_load, non_fault_load};
@@ -17,11 +18,18 @@ use machine_model::outcome::Step;
 use paged_memory::pages::Pages;
 use sve_code::Sve;
 
-/// One SVE instruction.
+/// One SVE instruction: whether it goes on, or else its answer.
 #[inline(always)]
-pub fn vector_step(core: &mut Core, pages: &mut Pages, vectors: &mut Vectors, word: Sve) -> Step
+pub fn vector_goes(
+    core: &mut Core,
+    pages: &mut Pages,
+    vectors: &mut Vectors,
+    word: Sve,
+    answer: &mut Step,
+) -> bool
     ensures { let before = state_of core.old pages.old vectors.old in
-        IsAnswer (does (Vector (seen word)) before) result before (state_of core.new pages.new vectors.new) }
+        IsAnswer (does (Vector (seen word)) before) (said result answer.new) before
+        (state_of core.new pages.new vectors.new) }
 {
     match word {
         Sve::ContiguousLoad {
@@ -30,16 +38,16 @@ pub fn vector_step(core: &mut Core, pages: &mut Pages, vectors: &mut Vectors, wo
             pg,
             offset,
             dtype,
-        } => contiguous_load(core, pages, vectors, zt, rn, pg, offset, dtype),
+        } => contiguous_load(core, pages, vectors, zt, rn, pg, offset, dtype, answer),
         Sve::FirstFaultLoad {
             zt,
             rn,
             pg,
             rm,
             dtype,
-        } => first_fault_load(core, pages, vectors, zt, rn, pg, rm, dtype),
+        } => first_fault_load(core, pages, vectors, zt, rn, pg, rm, dtype, answer),
         Sve::NonFaultLoad { zt, rn, pg, dtype } => {
-            non_fault_load(core, pages, vectors, zt, rn, pg, dtype)
+            non_fault_load(core, pages, vectors, zt, rn, pg, dtype, answer)
         }
         Sve::ContiguousStore {
             zt,
@@ -47,11 +55,11 @@ pub fn vector_step(core: &mut Core, pages: &mut Pages, vectors: &mut Vectors, wo
             pg,
             offset,
             sizes,
-        } => contiguous_store(core, pages, vectors, zt, rn, pg, offset, sizes),
+        } => contiguous_store(core, pages, vectors, zt, rn, pg, offset, sizes, answer),
         _ => {
             on_registers(core, vectors, word);
             core.go_on();
-            Step::Went
+            true
         }
     }
 }
@@ -121,6 +129,16 @@ fn on_lanes(core: &Core, vectors: &mut Vectors, word: Sve)
         } => lanes::add_sub(vectors, op, zd, zn, zm, size),
         Sve::Bitwise { op, zd, zn, zm } => lanes::bitwise(vectors, op, zd, zn, zm),
         Sve::ShiftImmediate { op, zd, zn, amount } => lanes::shift(vectors, op, zd, zn, amount),
+        _ => on_active(vectors, word),
+    }
+}
+
+// An instruction that computes the active elements of a vector register.
+#[inline(always)]
+fn on_active(vectors: &mut Vectors, word: Sve)
+    ensures { (core : CoreOf) → IsOnActive word → RowLeaves word core vectors.old core vectors.new }
+{
+    match word {
         Sve::BinaryPredicated {
             op,
             zdn,

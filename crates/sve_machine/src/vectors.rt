@@ -149,13 +149,14 @@ impl Vectors {
         requires register { zt < 32 }
         requires predicate { pg < 16 }
         ensures done { OnOk result
-            (put_load (load_of mode row.dtype base index self.old.vl pages.now self.old.stops (p_of self.old pg) self.old.ffr) zt self.old ≡ Ok self.new) }
+            (put_load (load_of mode row.dtype base index self.old.vl pages.now self.old.stops
+            (p_of self.old pg) self.old.ffr) zt self.old ≡ Ok self.new) }
         ensures refused { IfErr result (λ fault.
-            put_load (load_of mode row.dtype base index self.old.vl pages.now self.old.stops (p_of self.old pg) self.old.ffr) zt self.old ≡ Err fault) }
+            put_load (load_of mode row.dtype base index self.old.vl pages.now self.old.stops
+            (p_of self.old pg) self.old.ffr) zt self.old ≡ Err fault) }
         ensures unchanged { OnErr result (self.new ≡ self.old) }
     {
         let mask = self.p[pg as usize];
-        let mut out = ZReg { bytes: [0; 256] };
         load_into(
             pages,
             mode,
@@ -166,9 +167,8 @@ impl Vectors {
             &mask,
             &mut self.ffr,
             &mut self.stops,
-            &mut out,
+            &mut self.z[zt as usize],
         )?;
-        self.z[zt as usize] = out;
         Ok(())
     }
 }

@@ -1,22 +1,24 @@
 use Rattle.std.proofs.Common.{◌/◌, ◌%◌, refl}
-use Rattle.a64_machine.specs.Cores.{state_of}
+use Rattle.a64_machine.specs.Cores.{state_of, said}
 use Rattle.sve_machine.proofs.Words.{step_by, same_code, all_still}
 use Rattle.sve_machine.proofs.advance.advance.Goals as goal
 
-pub returns-in-Some-clause-answer : goal.returns-in-Some-clause-answer
-returns-in-Some-clause-answer c = (c.in-Some.ensures.stopped (state_of c.args.core.now c.args.pages.now c.args.vectors.now) refl refl, refl)
+pub returns-then-not-look_up-clause-answer : goal.returns-then-not-look_up-clause-answer
+returns-then-not-look_up-clause-answer c =
+    c.look_up.ensures.stopped (state_of c.args.core.now c.args.pages.now c.args.vectors.now) c.if-not-look_up.true refl refl
 
-pub returns-in-None-clause-answer : goal.returns-in-None-clause-answer
-returns-in-None-clause-answer c =
+pub returns-clause-answer : goal.returns-clause-answer
+returns-clause-answer c =
     let s = state_of c.args.core.now c.args.pages.now c.args.vectors.now in
     let t = state_of c.execute.new.core c.execute.new.pages c.execute.new.vectors in
-    step_by s t c.execute.result c.look_up.new.kept (c.args.core.now.pc / 4 % 1024) _ (λ d. c.look_up.ensures.found d c.in-None.is) c.execute.ensures
+    step_by s t (said c.execute.result c.execute.new.answer) c.look_up.new.kept (c.args.core.now.pc / 4 % 1024) _ (λ d. c.look_up.ensures.found d c.if-not-look_up.false) c.execute.ensures
 
-pub returns-in-None-clause-kept : goal.returns-in-None-clause-kept
-returns-in-None-clause-kept c =
+pub returns-clause-kept : goal.returns-clause-kept
+returns-clause-kept c =
     let s = state_of c.args.core.now c.args.pages.now c.args.vectors.now in
     let t = state_of c.execute.new.core c.execute.new.pages c.execute.new.vectors in
+    let r = said c.execute.result c.execute.new.answer in
     all_still c.args.pages.now c.execute.new.pages c.look_up.new.kept
-    (same_code s t c.execute.result
-    (step_by s t c.execute.result c.look_up.new.kept (c.args.core.now.pc / 4 % 1024) _ (λ d. c.look_up.ensures.found d c.in-None.is) c.execute.ensures))
+    (same_code s t r
+    (step_by s t r c.look_up.new.kept (c.args.core.now.pc / 4 % 1024) _ (λ d. c.look_up.ensures.found d c.if-not-look_up.false) c.execute.ensures))
     c.look_up.ensures.kept

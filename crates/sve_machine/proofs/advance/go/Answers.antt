@@ -1,8 +1,15 @@
 use Rattle.machine_model.proofs.Runs.{after_more}
+use Rattle.sve_machine.proofs.Going.{said_on, said_else}
 use Rattle.sve_machine.proofs.advance.go.Goals as goal
+
+pub loop-done-preserved-then-advance : goal.loop-done-preserved-then-advance
+loop-done-preserved-then-advance c = record {
+  kept = c.advance.ensures.kept;
+  state = after_more c.loop-done.done _ _ _ c.loop-done.invariant.state (said_on _ _ _ _ _ c.if-advance.true c.advance.ensures.answer);
+}
 
 pub loop-done-preserved : goal.loop-done-preserved
 loop-done-preserved c = record {
   kept = c.advance.ensures.kept;
-  state = after_more c.loop-done.done _ _ _ c.loop-done.invariant.state c.in-Went.ensures.answer;
+  state = after_more c.loop-done.done _ _ _ c.loop-done.invariant.state (said_else _ _ _ _ _ c.if-advance.false c.in-Went.is c.advance.ensures.answer);
 }

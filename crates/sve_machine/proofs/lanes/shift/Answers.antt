@@ -1,5 +1,5 @@
 use Rattle.sve_machine.proofs.Arms.{shift_are, lanes_put}
-use Rattle.std.proofs.Common.{ap, ap₂, sym, subst, ◌∙◌}
+use Rattle.std.proofs.Common.{ap, sym, subst, ◌∙◌}
 use Rattle.guest_types.specs.LaneMemory.{width_of_size}
 use Rattle.guest_types.specs.Lanes.{ShiftFits}
 use Rattle.sve_machine.specs.Rows.{shift_op}

@@ -1,5 +1,3 @@
-use Rattle.std.proofs.Common.{ap, ◌∙◌}
-use Rattle.guest_types.specs.LaneMemory.{width_of_size}
 use Rattle.sve_machine.proofs.LaneRows.{unary_row, unary_narrow}
 use Rattle.sve_machine.proofs.lanes.unary.Goals as goal
 

@@ -1,9 +1,9 @@
-use Rattle.std.proofs.Common.{sym, ap, ap₂, ◌∙◌, subst}
+use Rattle.std.proofs.Common.{sym, ap₂, ◌∙◌, subst}
 use Rattle.guest_types.specs.declared.row.LoadMode.TheVariants.{Plain}
 use Rattle.sve_code.specs.Numbers.{dtype_number}
 use Rattle.machine_model.specs.Answers.{IsAnswer}
 use Rattle.lane_memory.specs.Loads.{load_of}
-use Rattle.a64_machine.specs.Cores.{state_of}
+use Rattle.a64_machine.specs.Cores.{state_of, said}
 use Rattle.sve_machine.specs.Rests.{p_of, put_load}
 use Rattle.sve_machine.specs.Rows.{after_load}
 use Rattle.sve_machine.proofs.Loads.{plain_row}
@@ -18,4 +18,4 @@ returns c =
     plain_row c.args.zt.number c.args.rn.number c.args.pg.number c.args.offset.number (dtype_number c.args.dtype) r core memory
     ∙ ap₂ (λ b i. after_load (put_load (load_of Plain (dtype_number c.args.dtype) b i r.vl memory r.stops (p_of r c.args.pg.number) r.ffr) c.args.zt.number r) core memory) (sym c.register_or_sp-base.ensures) (sym c.offset_of-index.ensures)
     in
-    subst (λ o. IsAnswer o c.load.result (state_of core memory r) (state_of c.load.new.core memory c.load.new.vectors)) (sym e) c.load.ensures
+    subst (λ o. IsAnswer o (said c.load.result c.load.new.answer) (state_of core memory r) (state_of c.load.new.core memory c.load.new.vectors)) (sym e) c.load.ensures

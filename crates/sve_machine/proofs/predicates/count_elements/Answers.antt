@@ -1,8 +1,5 @@
-use Rattle.std.proofs.Common.{sym, ap, ap₂, ◌∙◌, subst}
-use Rattle.guest_types.specs.declared.length.Width.TheVariants.{B}
-use Rattle.guest_types.specs.Length.{width_bytes, lanes}
-use Rattle.guest_types.specs.Elements.{predicate, active, bit, pred_test}
-use Rattle.guest_types.specs.Lanes.{all_at, while_at, count_of, compare_at}
+use Rattle.std.proofs.Common.{ap₂, ◌∙◌}
+use Rattle.guest_types.specs.Length.{lanes}
 use Rattle.sve_machine.proofs.PredicateRows.{count_row}
 use Rattle.sve_machine.proofs.predicates.count_elements.Goals as goal
 

@@ -1,8 +1,6 @@
 use Rattle.std.proofs.Common.{ap, ap₂, ◌∙◌, ◌+◌, ◌%◌, ◌^◌}
-use Rattle.guest_types.specs.declared.length.Width.TheVariants.{B}
-use Rattle.guest_types.specs.Length.{width_bytes, lanes}
-use Rattle.guest_types.specs.Elements.{predicate, active, bit, pred_test}
-use Rattle.guest_types.specs.Lanes.{all_at, while_at, count_of, compare_at}
+use Rattle.guest_types.specs.Length.{lanes}
+use Rattle.guest_types.specs.Lanes.{count_of}
 use Rattle.sve_machine.proofs.PredicateRows.{incp_row}
 use Rattle.sve_machine.proofs.predicates.increment_by_count.Goals as goal
 

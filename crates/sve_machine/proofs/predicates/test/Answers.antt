@@ -1,8 +1,7 @@
-use Rattle.std.proofs.Common.{sym, ap, ap₂, ◌∙◌, subst}
+use Rattle.std.proofs.Common.{ap, ◌∙◌}
 use Rattle.guest_types.specs.declared.length.Width.TheVariants.{B}
-use Rattle.guest_types.specs.Length.{width_bytes, lanes}
-use Rattle.guest_types.specs.Elements.{predicate, active, bit, pred_test}
-use Rattle.guest_types.specs.Lanes.{all_at, while_at, count_of, compare_at}
+use Rattle.guest_types.specs.Length.{lanes}
+use Rattle.guest_types.specs.Elements.{active, pred_test}
 use Rattle.sve_machine.proofs.PredicateRows.{test_row}
 use Rattle.sve_machine.proofs.predicates.test.Goals as goal
 

@@ -18,21 +18,3 @@ returns-in-Bitwise c kind memory = as_word c.args.word _ c.args.core.now c.args.
 
 pub returns-in-ShiftImmediate : goal.returns-in-ShiftImmediate
 returns-in-ShiftImmediate c kind memory = as_word c.args.word _ c.args.core.now c.args.vectors.now c.args.core.now c.shift.new.vectors c.in-ShiftImmediate.is (c.shift.ensures c.args.core.now) memory
-
-pub returns-in-BinaryPredicated : goal.returns-in-BinaryPredicated
-returns-in-BinaryPredicated c kind memory = as_word c.args.word _ c.args.core.now c.args.vectors.now c.args.core.now c.merging.new.vectors c.in-BinaryPredicated.is (c.merging.ensures c.args.core.now) memory
-
-pub returns-in-UnaryPredicated : goal.returns-in-UnaryPredicated
-returns-in-UnaryPredicated c kind memory = as_word c.args.word _ c.args.core.now c.args.vectors.now c.args.core.now c.unary.new.vectors c.in-UnaryPredicated.is (c.unary.ensures c.args.core.now) memory
-
-pub returns-in-ExtendByte : goal.returns-in-ExtendByte
-returns-in-ExtendByte c kind memory = as_word c.args.word _ c.args.core.now c.args.vectors.now c.args.core.now c.extend_byte.new.vectors c.in-ExtendByte.is (c.extend_byte.ensures c.args.core.now) memory
-
-pub returns-in-ExtendHalfword : goal.returns-in-ExtendHalfword
-returns-in-ExtendHalfword c kind memory = as_word c.args.word _ c.args.core.now c.args.vectors.now c.args.core.now c.extend_halfword.new.vectors c.in-ExtendHalfword.is (c.extend_halfword.ensures c.args.core.now) memory
-
-pub returns-in-ExtendWord : goal.returns-in-ExtendWord
-returns-in-ExtendWord c kind memory = as_word c.args.word _ c.args.core.now c.args.vectors.now c.args.core.now c.extend_word.new.vectors c.in-ExtendWord.is (c.extend_word.ensures c.args.core.now) memory
-
-pub returns-in-Reduction : goal.returns-in-Reduction
-returns-in-Reduction c kind memory = as_word c.args.word _ c.args.core.now c.args.vectors.now c.args.core.now c.reduction.new.vectors c.in-Reduction.is (c.reduction.ensures c.args.core.now) memory

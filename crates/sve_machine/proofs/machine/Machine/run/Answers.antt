@@ -1,4 +1,4 @@
-use Rattle.std.proofs.Common.{◌≡◌, ◌+◌, ◌-◌, sym, ap, ◌∙◌, subst, arith}
+use Rattle.std.proofs.Common.{◌-◌, sym, ap, ◌∙◌, subst, arith}
 use Rattle.machine_model.specs.Machine.{x_at}
 use Rattle.machine_model.specs.Debugged.{View, RunLeaves}
 use Rattle.machine_model.specs.Answers.{outcome_of}

@@ -1,4 +1,4 @@
-use Rattle.std.proofs.Common.{◌≡◌, ◌+◌, ◌-◌, arith}
+use Rattle.std.proofs.Common.{◌-◌, arith}
 use Rattle.sve_machine.proofs.Going.{one_step}
 use Rattle.sve_machine.proofs.machine.Machine.step.Goals as goal
 

@@ -1,5 +1,5 @@
 use Rattle.sve_machine.proofs.Forms.{answer_as}
-use Rattle.sve_machine.proofs.vector_step.vector_step.Goals as goal
+use Rattle.sve_machine.proofs.vector_step.vector_goes.Goals as goal
 
 pub returns-in-ContiguousLoad : goal.returns-in-ContiguousLoad
 returns-in-ContiguousLoad c = answer_as _ _ _ _ _ c.in-ContiguousLoad.is c.contiguous_load.ensures
