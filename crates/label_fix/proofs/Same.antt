@@ -1,7 +1,7 @@
 -- Where the words of a draft stand in memory, the machine runs as the draft does.
 use Rattle.std.proofs.Common.{◌≡◌, ℕ, zero, suc, ◌+◌, ◌-◌, ◌*◌, ◌%◌, ◌^◌, ◌<◌, ◌≤◌, Bool, true, false, List, [], ◌∷◌, ◌++◌, length, Option, Some, None, refl, sym, ap, ap₂, ◌∙◌, subst, arith, append_assoc, ⊎_elim}
-use Rattle.std.specs.Prelude.{nat_eq, nat_lt, not, if◌then◌else◌, slice_get}
-use Rattle.label_fix.specs.RunsAsDraft.{RunsAsDraft}
+use Rattle.std.specs.Prelude.{cond, nat_eq, nat_lt, not, if◌then◌else◌, slice_get}
+use Rattle.label_fix.specs.RunsAsDraft.{RunsAsDraft, CutsAreSuppressed}
 use Rattle.std.proofs.lemmas.Bool.{cases_lt, lt-ltb, le-ltb, ltb-true, cond-true, cond-false}
 use Rattle.guest_types.specs.Memory.{Memory, fetched}
 use Rattle.word_rows.specs.Row.{Instruction, IsInstruction, spells}
@@ -10,13 +10,14 @@ use Rattle.a64_code.specs.Table.{Name, row, a64_names, b, b_cond, cbz, cbnz}
 use Rattle.machine_model.specs.Arithmetic.{holds, target}
 use Rattle.machine_model.specs.InstructionTable.{Listed, Scalar, Vector}
 use Rattle.machine_model.specs.Machine.{State, Step, Went, Ended, Stopped, x_at, jump, next}
-use Rattle.machine_model.specs.OneStep.{step, does}
-use Rattle.machine_model.specs.Run.{Outcome, go_on, run}
+use Rattle.machine_model.specs.OneStep.{step, does, cuts_in, suppresses}
+use Rattle.machine_model.specs.Run.{Outcome, go_on, run, suppressed}
 use Rattle.machine_model.specs.VectorEffects.{field_of}
 use Rattle.machine_model.proofs.Frames.{went_leaves}
-use Rattle.machine_model.proofs.ListedWords.{step_does}
+use Rattle.machine_model.proofs.ListedWords.{spell, IsListed, step_does, step_cuts}
 use Rattle.sve_code.specs.Table as sve
 use Rattle.label_fix.specs.DraftRun.{Kind, Always, If, Zero, NotZero, Entry, Put, Branch, Place, Laid, is_taken, effect, after, behind, place_of, address_of, walk, draft_run}
+use Rattle.label_fix.specs.Cuts.{count_on, walk_cuts, cuts}
 use Rattle.label_fix.specs.Finished.{size, offset, branch_of, is_straight, IsWord, IsBranch, AreFit, StandAt, words_from, words_of}
 use Rattle.label_fix.proofs.Keeps.{Keeps, keeps}
 
@@ -222,3 +223,84 @@ length_from whole (Place l ∷ rest) n = length_from whole rest n
 pub words_length : (entries : List Entry) → length (words_of entries) ≡ size entries
 unfolding words_of
 words_length entries = length_from entries entries 0
+
+-- ---- the free elements that are suppressed
+
+abbrev counted_by : Step → Bool → ℕ → ℕ
+counted_by o cut n = elim o [ Went t ↦ cond cut 1 0 + suppressed n t | Ended result ↦ 0 | Stopped kind pc at memory ↦ 0 ]
+
+-- for n words, from any place
+abbrev Fewer : Laid → ℕ → Type 0
+Fewer d n = (pre rest : List Entry) (s : State) → d.entries ≡ pre ++ rest → s.pc ≡ address_at d (size pre) → Stands d s.memory 0 d.entries → cuts d n rest s ≤ suppressed n s
+
+step_counts : (s : State) (i : Listed) (n : ℕ) → IsListed i → fetched s.memory s.pc ≡ Some (spell i) → suppressed (suc n) s ≡ counted_by (does i s) (cuts_in i s) n
+step_counts s i n h at = ap (λ o. counted_by o (suppresses s) n) (step_does s i h at) ∙ ap (λ cut. counted_by (does i s) cut n) (step_cuts s i h at)
+
+module _ (d : Laid) (few : size d.entries ≤ 65536) (n : ℕ) (ih : Fewer d n) where
+  beyond : (x : Entry) (pre rest : List Entry) → d.entries ≡ pre ++ x ∷ rest → d.entries ≡ (pre ++ x ∷ []) ++ rest
+  beyond x pre rest e = e ∙ sym (append_assoc pre (x ∷ []) rest)
+
+  stands_here : (pre rest : List Entry) (s : State) → d.entries ≡ pre ++ rest → Stands d s.memory 0 d.entries → Stands d s.memory (size pre) rest
+  stands_here pre rest s e h = let z : 0 + size pre ≡ size pre = omega arith in subst (λ k. Stands d s.memory k rest) z (stands_at d s.memory 0 pre rest (subst (λ es. Stands d s.memory 0 es) e h))
+
+  next_at : (pc k : ℕ) → pc ≡ address_at d k → (pc + 4) % 2 ^ 64 ≡ address_at d (k + 1)
+  next_at pc k e = omega (arith, e)
+
+  fewer_scalar : (i : Instruction Name) (o : Step) (cut : Bool) (pre rest : List Entry) (s : State) → does (Scalar i) s ≡ o → (is_straight i.name ≡ true) → d.entries ≡ pre ++ Put (Scalar i) ∷ rest → s.pc ≡ address_at d (size pre) → Stands d s.memory 0 d.entries → count_on o cut (cuts d n rest) ≤ counted_by o cut n
+  fewer_scalar i (Went t) cut pre rest s is plain e p h =
+      let k = keeps i.name i.numbers s t plain is in
+      let z : size (pre ++ Put (Scalar i) ∷ []) ≡ size pre + 1 = size-append pre (Put (Scalar i) ∷ []) in
+      let r = ih (pre ++ Put (Scalar i) ∷ []) rest t (beyond (Put (Scalar i)) pre rest e) (k.pc ∙ next_at s.pc (size pre) p ∙ ap (address_at d) (sym z)) (stands_keep d s.memory t.memory 0 d.entries k.code h) in
+      omega (arith, r)
+  fewer_scalar i (Ended r) cut pre rest s is plain e p h = omega arith
+  fewer_scalar i (Stopped kind pc at m) cut pre rest s is plain e p h = omega arith
+
+  fewer_vector : (v : Instruction sve.Name) (o : Step) (cut : Bool) (pre rest : List Entry) (s : State) → does (Vector v) s ≡ o → d.entries ≡ pre ++ Put (Vector v) ∷ rest → s.pc ≡ address_at d (size pre) → Stands d s.memory 0 d.entries → count_on o cut (cuts d n rest) ≤ counted_by o cut n
+  fewer_vector v (Went t) cut pre rest s is e p h =
+      let k = went_leaves v.name (field_of v.name v.numbers) s t is in
+      let z : size (pre ++ Put (Vector v) ∷ []) ≡ size pre + 1 = size-append pre (Put (Vector v) ∷ []) in
+      let r = ih (pre ++ Put (Vector v) ∷ []) rest t (beyond (Put (Vector v)) pre rest e) (k.pc ∙ next_at s.pc (size pre) p ∙ ap (address_at d) (sym z)) (stands_keep d s.memory t.memory 0 d.entries k.code h) in
+      omega (arith, r)
+  fewer_vector v (Ended r) cut pre rest s is e p h = omega arith
+  fewer_vector v (Stopped kind pc at m) cut pre rest s is e p h = omega arith
+
+  fewer_branch : (c : Bool) (k : Kind) (l : ℕ) (pre rest : List Entry) (s : State) → d.entries ≡ pre ++ Branch k l ∷ rest → s.pc ≡ address_at d (size pre) → Stands d s.memory 0 d.entries → (if c then cuts d n (behind d l) (jump s (address_of d l)) else cuts d n rest (next s)) ≤ suppressed n (if c then jump s (address_of d l) else next s)
+  fewer_branch true k l pre rest s e p h = ih (before d.entries l) (behind d l) (jump s (address_of d l)) (parts d.entries l) (ap (address_at d) (placed d.entries l)) h
+  fewer_branch false k l pre rest s e p h =
+      let z : size (pre ++ Branch k l ∷ []) ≡ size pre + 1 = size-append pre (Branch k l ∷ []) in
+      ih (pre ++ Branch k l ∷ []) rest (next s) (beyond (Branch k l) pre rest e) (next_at s.pc (size pre) p ∙ ap (address_at d) (sym z)) h
+
+  fewer_walk : (rest pre : List Entry) (s : State) → d.entries ≡ pre ++ rest → s.pc ≡ address_at d (size pre) → Stands d s.memory 0 d.entries → walk_cuts d (cuts d n) rest s ≤ suppressed (suc n) s
+  fewer_walk [] pre s e p h = omega arith
+  fewer_walk (Put (Scalar i) ∷ rest) pre s e p h =
+      let at = stands_here pre _ s e h in
+      let is = step_counts s (Scalar i) n at.1 (ap (fetched s.memory) p ∙ at.0) in
+      let le = fewer_scalar i (does (Scalar i) s) (cuts_in (Scalar i) s) pre rest s refl at.2 e p h in
+      subst (λ m. count_on (does (Scalar i) s) (cuts_in (Scalar i) s) (cuts d n rest) ≤ m) (sym is) le
+  fewer_walk (Put (Vector i) ∷ rest) pre s e p h =
+      let at = stands_here pre _ s e h in
+      let is = step_counts s (Vector i) n at.1 (ap (fetched s.memory) p ∙ at.0) in
+      let le = fewer_vector i (does (Vector i) s) (cuts_in (Vector i) s) pre rest s refl e p h in
+      subst (λ m. count_on (does (Vector i) s) (cuts_in (Vector i) s) (cuts d n rest) ≤ m) (sym is) le
+  fewer_walk (Branch k l ∷ rest) pre s e p h =
+      let at = stands_here pre _ s e h in
+      let z = ap size e ∙ size-append pre (Branch k l ∷ rest) in
+      let to = place-small d.entries l in
+      let i = branch_of k (size pre) (place_of d.entries l) in
+      let is = step_counts s (Scalar i) n at.1 (ap (fetched s.memory) p ∙ at.0) ∙ ap (λ o. counted_by o false n) (branch_does d k (size pre) (place_of d.entries l) s (omega (arith, few, z)) (omega (arith, few, to)) p) in
+      let le = fewer_branch (is_taken k s) k l pre rest s e p h in
+      subst (λ m. walk_cuts d (cuts d n) (Branch k l ∷ rest) s ≤ m) (sym is) (omega (arith, le))
+  fewer_walk (Place l ∷ rest) pre s e p h =
+      let z : size (pre ++ Place l ∷ []) ≡ size pre = size-append pre (Place l ∷ []) ∙ omega arith in
+      fewer_walk rest (pre ++ Place l ∷ []) s (beyond (Place l) pre rest e) (p ∙ ap (address_at d) (sym z)) h
+
+fewer : (d : Laid) → size d.entries ≤ 65536 → (n : ℕ) → Fewer d n
+fewer d few zero pre rest s e p h = omega arith
+fewer d few (suc n) pre rest s e p h = fewer_walk d few n (fewer d few n) rest pre s e p h
+
+-- the free elements that the draft suppresses are among those that the machine does
+pub cuts_are_suppressed : CutsAreSuppressed
+unfolding words_of
+cuts_are_suppressed d labels s fit few at p steps =
+    fewer d few steps [] d.entries s refl (p ∙ (let e : d.base % 2 ^ 64 ≡ (d.base + 4 * 0) % 2 ^ 64 = omega arith in e))
+    (stands_from d s.memory labels 0 d.entries fit (λ k w e. let z : 0 + k ≡ k = omega arith in ap (λ i. fetched s.memory (address_at d i)) z ∙ at k w e))

@@ -1,10 +1,13 @@
 -- Stretches of a draft's run.
-use Rattle.std.specs.Prelude.{◌≡◌, ℕ, ◌+◌, ◌≤◌, List, [], ◌∷◌}
+use Rattle.std.specs.Prelude.{◌≡◌, ℕ, ◌+◌, ◌*◌, ◌<◌, ◌≤◌, List, [], ◌∷◌}
 use Rattle.guest_types.specs.Memory.{Memory}
 use Rattle.machine_model.specs.declared.outcome.StopKind.{StopKind}
 use Rattle.machine_model.specs.Machine.{State}
 use Rattle.machine_model.specs.Run.{End, Stop}
+use Rattle.machine_model.specs.States.{IsState}
 use Rattle.label_fix.specs.DraftRun.{Entry, Put, Branch, Place, Laid, behind, draft_run}
+use Rattle.label_fix.specs.Finished.{AreFit}
+use Rattle.label_fix.specs.Cuts.{cuts}
 
 -- each label that these entries place leads to what stands behind its place
 abbrev pub Resolves : Laid → List Entry → Type 0
@@ -13,11 +16,22 @@ Resolves d (Put i ∷ rest) = Resolves d rest
 Resolves d (Branch k l ∷ rest) = Resolves d rest
 Resolves d (Place l ∷ rest) = (behind d l ≡ rest) × Resolves d rest
 
--- at most this many words lead from the entries c and the state s to e and t
+-- At most this many words lead from the entries c and the state s to e and t. What free elements the words behind them
+-- suppress is counted from c too; and of a fit draft the shape of the state is kept.
 pub record Goes (d : Laid) (c : List Entry) (s : State) (e : List Entry) (t : State) (most : ℕ) : Type 0 where
   pub count : ℕ
   pub within : count ≤ most
   pub by : (k taken : ℕ) → draft_run d (count + k) taken c s ≡ draft_run d k (taken + count) e t
+  pub tells : (k : ℕ) → cuts d k e t ≤ cuts d (count + k) c s
+  pub keeps : (labels : ℕ) → AreFit labels d.entries → AreFit labels c → IsState s → IsState t × AreFit labels e
+
+-- At most this many words lead from the entries c and the state s to e and t; `cut` free elements are suppressed by them.
+pub record Leads (d : Laid) (c : List Entry) (s : State) (e : List Entry) (t : State) (most : ℕ) : Type 0 where
+  pub count : ℕ
+  pub within : count ≤ most
+  pub by : (k taken : ℕ) → draft_run d (count + k) taken c s ≡ draft_run d k (taken + count) e t
+  pub cut : ℕ
+  pub tells : (k : ℕ) → cut + cuts d k e t ≤ cuts d (count + k) c s
 
 -- at most this many words lead to a stop of this kind that leaves this memory
 pub record Stops (d : Laid) (c : List Entry) (s : State) (kind : StopKind) (m : Memory) (most : ℕ) : Type 0 where
@@ -32,3 +46,24 @@ pub record Ends (d : Laid) (c : List Entry) (s : State) (m : Memory) (result mos
   pub count : ℕ
   pub within : count ≤ most
   pub by : (k taken : ℕ) → draft_run d (count + k) taken c s ≡ End m result (taken + count)
+
+-- ---- paces
+
+-- Of a run of `count` words: before each of them, fewer were taken than the base and a unit for each free element that was
+-- suppressed so far, by a scale.
+abbrev pub Paced : Laid → List Entry → State → (count scale unit base : ℕ) → Type 0
+Paced d c s count scale unit base = (n : ℕ) → n < count → scale * n < base + unit * cuts d n c s
+
+-- the run comes to a stop of this kind that leaves this memory, within a pace
+pub record StopsPaced (d : Laid) (c : List Entry) (s : State) (kind : StopKind) (m : Memory) (scale unit base : ℕ) : Type 0 where
+  pub count : ℕ
+  pub pc : ℕ
+  pub at : ℕ
+  pub by : (k taken : ℕ) → draft_run d (count + k) taken c s ≡ Stop kind pc at m (taken + count)
+  pub paced : Paced d c s count scale unit base
+
+-- the run comes to the end, within a pace
+pub record EndsPaced (d : Laid) (c : List Entry) (s : State) (m : Memory) (result scale unit base : ℕ) : Type 0 where
+  pub count : ℕ
+  pub by : (k taken : ℕ) → draft_run d (count + k) taken c s ≡ End m result (taken + count)
+  pub paced : Paced d c s count scale unit base

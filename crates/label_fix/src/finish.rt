@@ -33,7 +33,8 @@ pub fn count_words(entries: &[Entry]) -> u32
 pub fn label_places(alloc: Global, labels: u32, entries: &[Entry]) -> Result<Vec<u32>, AllocError>
     requires few { size (map entry_seen entries.now) ≤ 65536 }
     requires fit { AreFit labels (map entry_seen entries.now) }
-    ensures { IfOk result (λ places. places.items ≡ placed_from (replicate labels (size (map entry_seen entries.now))) 0 (map entry_seen entries.now)) }
+    ensures { IfOk result (λ places. places.items
+        ≡ placed_from (replicate labels (size (map entry_seen entries.now))) 0 (map entry_seen entries.now)) }
 {
     let end = count_words(entries);
     let mut places = vec![in alloc; end; labels as usize]?;
@@ -64,7 +65,8 @@ pub fn placed_words(
 ) -> Result<Vec<u32>, AllocError>
     requires few { size (map entry_seen entries.now) ≤ 65536 }
     requires fit { AreFit (length places.now) (map entry_seen entries.now) }
-    requires places { (l : ℕ) → l < length places.now → slice_index places.now l ≡ place_of (map entry_seen entries.now) l }
+    requires places { (l : ℕ) → l < length places.now
+        → slice_index places.now l ≡ place_of (map entry_seen entries.now) l }
     ensures { IfOk result (λ words. words.items ≡ words_of (map entry_seen entries.now)) }
 {
     let mut words = Vec::new(alloc);
@@ -87,7 +89,8 @@ pub fn placed_words(
 
 // The word of an instruction.
 fn encode(word: Word) -> u32
-    ensures { (whole rest : List plain.Entry) (n : ℕ) → words_from whole n (plain.Put (word_seen word) ∷ rest) ≡ result ∷ words_from whole (suc n) rest }
+    ensures { (whole rest : List plain.Entry) (n : ℕ)
+        → words_from whole n (plain.Put (word_seen word) ∷ rest) ≡ result ∷ words_from whole (suc n) rest }
 {
     match word {
         Word::A(instruction) => a64_code::encode(instruction),

@@ -3,10 +3,11 @@
 ghost use Rattle.std.specs.Prelude.{◌≡◌, List, length};
 ghost use Rattle.label_fix.specs.DraftRun.{Entry};
 ghost use Rattle.label_fix.specs.Finished.{size, words_of};
-ghost use Rattle.label_fix.specs.RunsAsDraft.{RunsAsDraft};
+ghost use Rattle.label_fix.specs.RunsAsDraft.{RunsAsDraft, CutsAreSuppressed};
 
 /// The words of a draft, laid anywhere, run as the draft does, with any stop list.
 pub fn labels()
     ensures runs { RunsAsDraft }
+    ensures cuts { CutsAreSuppressed }
     ensures count { (entries : List Entry) → length (words_of entries) ≡ size entries }
 {}

@@ -1,5 +1,5 @@
 -- What is spelled is read, in both tables, and a step does the instruction whose word stands at PC.
-use Rattle.std.proofs.Common.{◌≡◌, ℕ, true, Option, Some, None, refl, ap, ◌∙◌}
+use Rattle.std.proofs.Common.{◌≡◌, ℕ, Bool, true, false, Option, Some, None, refl, ap, ◌∙◌}
 use Rattle.guest_types.specs.Memory.{fetched}
 use Rattle.word_rows.specs.Row.{Instruction, IsInstruction, are_tables_apart, reads, spells}
 use Rattle.word_rows.proofs.Laws.{not_in_two_tables, reads-spells}
@@ -10,7 +10,7 @@ use Rattle.sve_code.proofs.Valid.{sve_table}
 use Rattle.machine_model.specs.declared.outcome.StopKind.TheVariants.{Undefined}
 use Rattle.machine_model.specs.InstructionTable.{Listed, Scalar, Vector, either_table, listed}
 use Rattle.machine_model.specs.Machine.{State, Step, Stopped}
-use Rattle.machine_model.specs.OneStep.{step, does, do_word, reads_word}
+use Rattle.machine_model.specs.OneStep.{step, does, do_word, reads_word, cuts_in, word_cuts, suppresses}
 
 -- the word of a listed instruction
 abbrev pub spell : Listed → ℕ
@@ -45,3 +45,9 @@ pub step_does : (s : State) (i : Listed) → IsListed i → fetched s.memory s.p
 step_does s i h at =
     ap (λ o. do_word o s) at
     ∙ ap (λ o. elim o as (λ o. Step) [ None ↦ Stopped Undefined s.pc (spell i) s.memory | Some j ↦ does j s ]) (reads_spell i h)
+
+-- whether that step suppresses a free element
+pub step_cuts : (s : State) (i : Listed) → IsListed i → fetched s.memory s.pc ≡ Some (spell i) → suppresses s ≡ cuts_in i s
+step_cuts s i h at =
+    ap (λ o. word_cuts o s) at
+    ∙ ap (λ o. elim o as (λ o. Bool) [ None ↦ false | Some j ↦ cuts_in j s ]) (reads_spell i h)

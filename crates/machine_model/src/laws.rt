@@ -17,19 +17,24 @@ ghost use Rattle.machine_model.specs.States.{IsState, CanStart};
 
 /// No word is both an A64 and an SVE instruction, so the SVE instruction of a word is what the joint table has for it.
 pub fn no_word_in_both_tables()
-    ensures apart { (word : ℕ) (i : Instruction a64.Name) → reads a64.row a64.a64_names word ≡ Some i → reads sve.row sve.sve_names word ≡ None }
-    ensures vectors { (word : ℕ) (v : Instruction sve.Name) → reads sve.row sve.sve_names word ≡ Some v → listed word ≡ Some (Vector v) }
+    ensures apart { (word : ℕ) (i : Instruction a64.Name) → reads a64.row a64.a64_names word ≡ Some i
+        → reads sve.row sve.sve_names word ≡ None }
+    ensures vectors { (word : ℕ) (v : Instruction sve.Name) → reads sve.row sve.sve_names word ≡ Some v
+        → listed word ≡ Some (Vector v) }
 {}
 
 /// A run whose first steps go on is the run from the state that they lead to, with their number counted.
 pub fn runs_compose()
-    ensures onward { (n k taken : ℕ) (s t : State) → after_steps n s ≡ Some t → run (n + k) taken s ≡ run k (taken + n) t }
-    ensures spent { (n taken : ℕ) (s t : State) → after_steps n s ≡ Some t → run n taken s ≡ Spent t.pc t.memory (taken + n) }
+    ensures onward { (n k taken : ℕ) (s t : State) → after_steps n s ≡ Some t
+        → run (n + k) taken s ≡ run k (taken + n) t }
+    ensures spent { (n taken : ℕ) (s t : State) → after_steps n s ≡ Some t
+        → run n taken s ≡ Spent t.pc t.memory (taken + n) }
 {}
 
 /// A run that ended or stopped within some steps is the same for every greater number of them.
 pub fn runs_settle()
-    ensures settled { (n m taken : ℕ) (s : State) → n ≤ m → is_over (run n taken s) ≡ true → run m taken s ≡ run n taken s }
+    ensures settled { (n m taken : ℕ) (s : State) → n ≤ m → is_over (run n taken s) ≡ true
+        → run m taken s ≡ run n taken s }
     ensures within { (n taken : ℕ) (s : State) → steps_taken (run n taken s) ≤ taken + n }
 {}
 
@@ -55,7 +60,8 @@ pub fn quiet_stays()
 /// A written file is loaded as the image of its words, beside any pages that do not meet it, with each word in its place.
 pub fn written_file_loads()
     ensures loads { (words : List ℕ) → length words ≤ 65536 → load (file_of words) ≡ Ok (image_of_words words) }
-    ensures fetches { (words : List ℕ) (pages : Memory) (k w : ℕ) → length words ≤ 65536 → All (λ word. word < 2 ^ 32) words
+    ensures fetches { (words : List ℕ) (pages : Memory) (k w : ℕ) → length words ≤ 65536
+        → All (λ word. word < 2 ^ 32) words
         → DoNotMeet (image_of_words words).pages pages → slice_get words k ≡ Some w
         → fetched (merged (image_of_words words).pages pages) (code_base + 4 * k) ≡ Some w }
 {}
