@@ -1,6 +1,6 @@
 -- How many words the code of a kernel has: at most four for each item, and a few more.
-use Rattle.std.proofs.Common.{◌≡◌, ℕ, suc, ◌+◌, ◌*◌, ◌≤◌, Bool, true, false, List, [], ◌∷◌, ◌++◌, length, Option, Some, None, refl, ap, ◌∙◌, arith}
-use Rattle.std.specs.Prelude.{ℤ, nat_lt, option_map, option_and_then, if◌then◌else◌}
+use Rattle.std.proofs.Common.{◌≡◌, ℕ, suc, ◌+◌, ◌%◌, ◌/◌, ◌*◌, ◌≤◌, Bool, true, false, List, [], ◌∷◌, ◌++◌, length, Option, Some, None, refl, ap, ◌∙◌, arith}
+use Rattle.std.specs.Prelude.{ℤ, nat_eq, nat_lt, option_map, option_and_then, if◌then◌else◌}
 use Rattle.kernel_tree.specs.declared.ops.Ty.{Ty}
 use Rattle.kernel_tree.specs.declared.ops.UnaryOp.{UnaryOp}
 use Rattle.kernel_tree.specs.declared.ops.UnaryOp.TheVariants as unary
@@ -12,12 +12,13 @@ use Rattle.kernel_tree.specs.Plain.{Term, Literal, Variable, Element, Unary, Ope
 use Rattle.kernel_tree.specs.Items.{index_size, term_size, action_size, block_size, otherwise_size, vars_size, turns_size, answer_size, index_of, stream_offset, loop_index, size_of}
 use Rattle.kernel_tree.specs.Wrap.{is_signed}
 use Rattle.kernel_tree.specs.Typing.{Scope, lookup, own, first, element_type, accumulator_type, index_type, side_type, after_action, after_block, left, in_loop, after_turns, param_scope, var_scope}
-use Rattle.kernel_meaning.specs.Operators.{operator_of}
+use Rattle.kernel_meaning.specs.Operators.{word, wrapped, operator_of}
 use Rattle.loop_form.specs.Entries.{loop_start, loop_end}
+use Rattle.machine_model.specs.InstructionTable.{Listed}
 use Rattle.label_fix.specs.DraftRun.{Entry, Put, Branch, Place}
 use Rattle.label_fix.specs.Finished.{size}
-use Rattle.scalar_emit.specs.Layout.{Layout, Homes, until_of}
-use Rattle.scalar_emit.specs.Words.{copy, load_code, binary_code, unary_code, abs_code, shift_code}
+use Rattle.scalar_emit.specs.Layout.{Layout, Homes, reg_of, until_of}
+use Rattle.scalar_emit.specs.Words.{copy_word, filler, start_code, has_ones, half_word, filled_code, halves_code, const_code, extend_word, settle_word, index_word, word_code, load_code, store_code, binary_code, unary_code, abs_code, shift_code}
 use Rattle.scalar_emit.specs.Code.{labels, at_type, number_code, value_code, truth}
 use Rattle.scalar_emit.specs.Statements.{after_homes, block_labels, put_code, action_code, block_code, otherwise_code}
 use Rattle.scalar_emit.specs.Loop.{answer_code, with_index, loop_code}
@@ -29,47 +30,72 @@ use Rattle.scalar_emit.proofs.Emission.{index_after, param_index, var_index}
 within : {x a b : ℕ} → a ≤ b → x ≤ a → x ≤ b
 within le h = omega (arith, le, h)
 
+pub one_word : (o : Option Listed) (rest : List Entry) (k : ℕ) → size rest ≤ k → size (word_code o rest) ≤ 1 + k
+one_word None rest k h = omega (arith, h)
+one_word (Some i) rest k h = omega (arith, h)
+
 binary_words : (want : Option Ty) (op : BinaryOp) (d a c : ℕ) (rest : List Entry) (k : ℕ) → size rest ≤ k → size (at_type want (λ t. binary_code op t d a c rest) rest) ≤ 3 + k
 binary_words None op d a c rest k h = omega (arith, h)
-binary_words (Some t) binary.Add d a c rest k h = omega (arith, h)
-binary_words (Some t) binary.Sub d a c rest k h = omega (arith, h)
-binary_words (Some t) binary.Mul d a c rest k h = omega (arith, h)
-binary_words (Some t) binary.And d a c rest k h = omega (arith, h)
-binary_words (Some t) binary.Or d a c rest k h = omega (arith, h)
-binary_words (Some t) binary.Xor d a c rest k h = omega (arith, h)
-binary_words (Some t) binary.Min d a c rest k h = omega (arith, h)
-binary_words (Some t) binary.Max d a c rest k h = omega (arith, h)
+binary_words (Some t) binary.Add d a c rest k h = let w = one_word (settle_word t d) rest k h in omega (arith, w)
+binary_words (Some t) binary.Sub d a c rest k h = let w = one_word (settle_word t d) rest k h in omega (arith, w)
+binary_words (Some t) binary.Mul d a c rest k h = let w = one_word (settle_word t d) rest k h in omega (arith, w)
+binary_words (Some t) binary.And d a c rest k h = let w = one_word (settle_word t d) rest k h in omega (arith, w)
+binary_words (Some t) binary.Or d a c rest k h = let w = one_word (settle_word t d) rest k h in omega (arith, w)
+binary_words (Some t) binary.Xor d a c rest k h = let w = one_word (settle_word t d) rest k h in omega (arith, w)
+binary_words (Some t) binary.Min d a c rest k h = let w = one_word (settle_word t d) rest k h in omega (arith, w)
+binary_words (Some t) binary.Max d a c rest k h = let w = one_word (settle_word t d) rest k h in omega (arith, w)
 
 abs_words : (b : Bool) (t : Ty) (d a : ℕ) (rest : List Entry) (k : ℕ) → size rest ≤ k → size (abs_code b t d a rest) ≤ 3 + k
-abs_words true t d a rest k h = omega (arith, h)
-abs_words false t d a rest k h = omega (arith, h)
+abs_words true t d a rest k h = let w = one_word (settle_word t d) rest k h in omega (arith, w)
+abs_words false t d a rest k h = let w = one_word (extend_word t d a) rest k h in omega (arith, w)
 
 unary_words : (want : Option Ty) (op : UnaryOp) (d a : ℕ) (rest : List Entry) (k : ℕ) → size rest ≤ k → size (at_type want (λ t. unary_code op t d a rest) rest) ≤ 3 + k
 unary_words None op d a rest k h = omega (arith, h)
-unary_words (Some t) unary.Neg d a rest k h = omega (arith, h)
-unary_words (Some t) unary.Flip d a rest k h = omega (arith, h)
+unary_words (Some t) unary.Neg d a rest k h = let w = one_word (settle_word t d) rest k h in omega (arith, w)
+unary_words (Some t) unary.Flip d a rest k h = let w = one_word (settle_word t d) rest k h in omega (arith, w)
 unary_words (Some t) unary.Abs d a rest k h = abs_words (is_signed t) t d a rest k h
 
 shift_words : (want : Option Ty) (left : Bool) (n : ℤ) (d a : ℕ) (rest : List Entry) (k : ℕ) → size rest ≤ k → size (at_type want (λ t. shift_code left n t d a rest) rest) ≤ 2 + k
 shift_words None left n d a rest k h = omega (arith, h)
-shift_words (Some t) left n d a rest k h = omega (arith, h)
+shift_words (Some t) left n d a rest k h = let w = one_word (settle_word t d) rest k h in omega (arith, w)
 
-load_words : (o : Option Ty) (d p : ℕ) (rest : List Entry) (k : ℕ) → size rest ≤ k → size (load_code o d p rest) ≤ 1 + k
-load_words None d p rest k h = omega (arith, h)
-load_words (Some t) d p rest k h = omega (arith, h)
+start_words : (o : Bool) (d h p : ℕ) (rest : List Entry) (k : ℕ) → size rest ≤ k → size (start_code o d h p rest) ≤ 1 + k
+start_words true d h p rest k e = omega (arith, e)
+start_words false d h p rest k e = omega (arith, e)
 
-number_words : (o : Option ℤ) (a m : ℕ) (inner : List Entry → List Entry) (rest : List Entry) (k : ℕ) → size rest ≤ k → (size rest ≤ k → size (inner (copy 26 a ∷ rest)) ≤ 4 * m + suc k) → size (number_code o a inner rest) ≤ 4 * index_size o m + 1 + k
-number_words (Some c) a m inner rest k h f = omega (arith, h)
-number_words None a m inner rest k h f = let g = f h in omega (arith, g)
+filled_words : (e0 e1 e2 e3 o : Bool) (d h0 h1 h2 h3 : ℕ) (rest : List Entry) (k : ℕ) → size rest ≤ k → size (filled_code e0 e1 e2 e3 o d h0 h1 h2 h3 rest) ≤ 4 + k
+filled_words false e1 e2 e3 o d h0 h1 h2 h3 rest k h = within (omega arith) (start_words o d h0 0 _ _ (one_word (half_word d (filler o) h1 1) _ _ (one_word (half_word d (filler o) h2 2) _ _ (one_word (half_word d (filler o) h3 3) rest k h))))
+filled_words true false e2 e3 o d h0 h1 h2 h3 rest k h = within (omega arith) (start_words o d h1 1 _ _ (one_word (half_word d (filler o) h2 2) _ _ (one_word (half_word d (filler o) h3 3) rest k h)))
+filled_words true true false e3 o d h0 h1 h2 h3 rest k h = within (omega arith) (start_words o d h2 2 _ _ (one_word (half_word d (filler o) h3 3) rest k h))
+filled_words true true true false o d h0 h1 h2 h3 rest k h = within (omega arith) (start_words o d h3 3 rest k h)
+filled_words true true true true o d h0 h1 h2 h3 rest k h = within (omega arith) (start_words o d h0 0 rest k h)
 
-let_words : (t : Bool) (r from : ℕ) (rest : List Entry) (k : ℕ) → size rest ≤ k → size (if t then copy r from ∷ rest else rest) ≤ 1 + k
-let_words true r from rest k h = omega (arith, h)
+halves_words : (o : Bool) (d h0 h1 h2 h3 : ℕ) (rest : List Entry) (k : ℕ) → size rest ≤ k → size (halves_code o d h0 h1 h2 h3 rest) ≤ 4 + k
+halves_words o d h0 h1 h2 h3 rest k h = filled_words (nat_eq h0 (filler o)) (nat_eq h1 (filler o)) (nat_eq h2 (filler o)) (nat_eq h3 (filler o)) o d h0 h1 h2 h3 rest k h
+
+pub const_words : (d n : ℕ) (rest : List Entry) (k : ℕ) → size rest ≤ k → size (const_code d n rest) ≤ 4 + k
+const_words d n rest k h =
+    halves_words (has_ones (n % 65536) (n / 65536 % 65536) (n / 4294967296 % 65536) (n / 281474976710656 % 65536)) d (n % 65536) (n / 65536 % 65536) (n / 4294967296 % 65536) (n / 281474976710656 % 65536) rest k h
+
+load_words : (o : Option Ty) (d p r : ℕ) (rest : List Entry) (k : ℕ) → size rest ≤ k → size (load_code o d p r rest) ≤ 1 + k
+load_words None d p r rest k h = omega (arith, h)
+load_words (Some t) d p r rest k h = omega (arith, h)
+
+store_words : (o : Option Ty) (d p r : ℕ) (rest : List Entry) (k : ℕ) → size rest ≤ k → size (store_code o d p r rest) ≤ 1 + k
+store_words None d p r rest k h = omega (arith, h)
+store_words (Some t) d p r rest k h = omega (arith, h)
+
+number_words : (o : Option ℤ) (m : ℕ) (inner : List Entry → List Entry) (rest : List Entry) (k : ℕ) → size rest ≤ k → (size rest ≤ k → size (inner rest) ≤ 4 * m + k) → size (number_code o inner rest) ≤ 4 * index_size o m + 1 + k
+number_words (Some c) m inner rest k h f = one_word (index_word c) rest k h
+number_words None m inner rest k h f = let g = f h in omega (arith, g)
+
+let_words : (t : Bool) (r from : ℕ) (rest : List Entry) (k : ℕ) → size rest ≤ k → size (if t then word_code (copy_word r from) rest else rest) ≤ 1 + k
+let_words true r from rest k h = one_word (copy_word r from) rest k h
 let_words false r from rest k h = omega (arith, h)
 
 put_words : (o : Option ℤ) (t : Option Ty) (from p : ℕ) (rest : List Entry) (k : ℕ) → size rest ≤ k → size (put_code o t from p rest) ≤ 2 + k
 put_words None t from p rest k h = omega (arith, h)
-put_words (Some c) None from p rest k h = omega (arith, h)
-put_words (Some c) (Some t) from p rest k h = omega (arith, h)
+put_words (Some c) t from p rest k h = within (omega arith) (one_word (index_word c) _ _ (store_words t from p _ rest k h))
 
 argument_words : (x : Shape) (n : ℕ) (rest : List Entry) (k : ℕ) → size rest ≤ k → size (argument_code x n rest) ≤ 1 + k
 argument_words (shape.Scalar t) n rest k h = omega (arith, h)
@@ -87,14 +113,14 @@ one_more h = omega (arith, h)
 module _ (L : Layout) (hs : Homes) where
   mutual
     value_words : (e : Term) (s : Scope) (want : Option Ty) (b n : ℕ) (rest : List Entry) (k : ℕ) → size rest ≤ k → size (value_code L hs s want b n e rest) ≤ 4 * term_size s.index e + k
-    value_words (Literal z) s want b n rest k h = omega (arith, h)
+    value_words (Literal z) s want b n rest k h = within (omega arith) (const_words (reg_of L b) (word (wrapped want z)) rest k h)
     value_words (Variable x) s want b n rest k h = omega (arith, h)
     value_words (Element a j) s want b n rest k h =
-        within (omega arith) (number_words (stream_offset s.index j) _ (term_size s.index j) _ _ _ (load_words (option_and_then element_type (lookup s a)) _ _ rest k h) (λ g. value_words j s (index_type s j) b n _ _ (one_more g)))
+        within (omega arith) (number_words (stream_offset s.index j) (term_size s.index j) _ _ _ (load_words (option_and_then element_type (lookup s a)) _ _ _ rest k h) (λ g. value_words j s (index_type s j) b n _ _ g))
     value_words (Unary op x) s want b n rest k h = within (omega arith) (value_words x s want b n _ _ (unary_words want op _ _ rest k h))
     value_words (Operation op x y) s want b n rest k h = within (omega arith) (value_words x s want b n _ _ (value_words y s want _ _ _ _ (binary_words want op _ _ _ rest k h)))
     value_words (Shift left x z) s want b n rest k h = within (omega arith) (value_words x s want b n _ _ (shift_words want left z _ _ rest k h))
-    value_words (Conversion x t) s want b n rest k h = within (omega arith) (value_words x s (own s x) b n _ _ (one_more h))
+    value_words (Conversion x t) s want b n rest k h = within (omega arith) (value_words x s (own s x) b n _ _ (one_word (extend_word t _ _) rest k h))
     value_words (Choice c x y) s want b n rest k h = within (omega arith) (value_words x s want b n _ _ (value_words y s want _ _ _ _ (truth_words c s _ _ _ _ (one_more (one_more h)))))
     value_words (Comparison op x y) s want b n rest k h = omega (arith, h)
     value_words (Both x y) s want b n rest k h = omega (arith, h)

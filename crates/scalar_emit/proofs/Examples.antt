@@ -6,7 +6,7 @@ use Rattle.kernel_tree.specs.declared.ops.BinaryOp.TheVariants as binary
 use Rattle.kernel_tree.specs.declared.ops.CompareOp.TheVariants as compare
 use Rattle.kernel_tree.specs.declared.ast.Shape.TheVariants as shape
 use Rattle.kernel_tree.specs.Plain.{Literal, Variable, Element, Operation, Comparison, Define, Put, Choose, Leave, Block, Done, Then, Else, Program}
-use Rattle.a64_code.specs.Table.{add_imm, sub_imm, subs, orr, movz, movk, ubfm, csinc, ldrsb_register, strb_register, svc}
+use Rattle.a64_code.specs.Table.{add_imm, sub_imm, subs, movz, ubfm, csinc, ldrsb_register, strb_register, svc}
 use Rattle.loop_form.specs.Entries.{item_type}
 use Rattle.loop_form.specs.Listing.{last_use}
 use Rattle.label_fix.specs.DraftRun.{Branch, Place, Always, If, Zero, NotZero}
@@ -57,29 +57,24 @@ worked-loops : scalar_code registers worked 0 [] ≡
     Place 0
     ∷ ins subs (31 ∷ 9 ∷ 0 ∷ 1 ∷ 0 ∷ [])
     ∷ Branch (If 2) 1
-    ∷ ins add_imm (26 ∷ 9 ∷ 0 ∷ 0 ∷ [])
-    ∷ ins ldrsb_register (10 ∷ 0 ∷ 26 ∷ [])
-    ∷ ins movz (11 ∷ 0 ∷ 0 ∷ []) ∷ ins movk (11 ∷ 0 ∷ 1 ∷ []) ∷ ins movk (11 ∷ 0 ∷ 2 ∷ []) ∷ ins movk (11 ∷ 0 ∷ 3 ∷ [])
+    ∷ ins ldrsb_register (10 ∷ 0 ∷ 9 ∷ [])
+    ∷ ins movz (11 ∷ 0 ∷ 0 ∷ [])
     ∷ ins subs (31 ∷ 10 ∷ 0 ∷ 11 ∷ 0 ∷ [])
     ∷ ins csinc (28 ∷ 31 ∷ 1 ∷ 31 ∷ [])
     ∷ Branch (NotZero 28) 1
-    ∷ ins add_imm (26 ∷ 9 ∷ 0 ∷ 0 ∷ [])
-    ∷ ins ldrsb_register (10 ∷ 0 ∷ 26 ∷ [])
-    ∷ ins movz (11 ∷ 1 ∷ 0 ∷ []) ∷ ins movk (11 ∷ 0 ∷ 1 ∷ []) ∷ ins movk (11 ∷ 0 ∷ 2 ∷ []) ∷ ins movk (11 ∷ 0 ∷ 3 ∷ [])
+    ∷ ins ldrsb_register (10 ∷ 0 ∷ 9 ∷ [])
+    ∷ ins movz (11 ∷ 1 ∷ 0 ∷ [])
     ∷ ins subs (31 ∷ 10 ∷ 0 ∷ 11 ∷ 0 ∷ [])
     ∷ ins csinc (28 ∷ 31 ∷ 10 ∷ 31 ∷ [])
     ∷ Branch (Zero 28) 2
     ∷ ins add_imm (26 ∷ 9 ∷ 1 ∷ 0 ∷ [])
     ∷ ins ldrsb_register (10 ∷ 0 ∷ 26 ∷ [])
-    ∷ ins orr (10 ∷ 31 ∷ 0 ∷ 10 ∷ 0 ∷ [])
-    ∷ ins add_imm (26 ∷ 9 ∷ 0 ∷ 0 ∷ [])
-    ∷ ins strb_register (10 ∷ 0 ∷ 26 ∷ [])
+    ∷ ins strb_register (10 ∷ 0 ∷ 9 ∷ [])
     ∷ Branch Always 3
     ∷ Place 2
     ∷ ins sub_imm (26 ∷ 9 ∷ 1 ∷ 0 ∷ [])
     ∷ ins ldrsb_register (10 ∷ 0 ∷ 26 ∷ [])
-    ∷ ins add_imm (26 ∷ 9 ∷ 0 ∷ 0 ∷ [])
-    ∷ ins strb_register (10 ∷ 0 ∷ 26 ∷ [])
+    ∷ ins strb_register (10 ∷ 0 ∷ 9 ∷ [])
     ∷ Place 3
     ∷ ins add_imm (9 ∷ 9 ∷ 1 ∷ 0 ∷ [])
     ∷ Branch Always 0

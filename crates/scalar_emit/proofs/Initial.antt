@@ -48,7 +48,7 @@ no_read item false want None e h = never h
 no_read item false want (Some b) e h = never h
 
 mutual
-  value_there : (e : Term) (s : Scope) (from : ℕ) (want : Option Ty) (m : Memory) (names : Names) → s.inside ≡ false → faults s from (Value want) e ≡ [] → IsThere (value s want e m names)
+  pub value_there : (e : Term) (s : Scope) (from : ℕ) (want : Option Ty) (m : Memory) (names : Names) → s.inside ≡ false → faults s from (Value want) e ≡ [] → IsThere (value s want e m names)
   value_there (Literal n) s from want m names out h = (_, refl)
   value_there (Variable x) s from want m names out h = (_, refl)
   value_there (Element a i) s from want m names out h = absurd (no_read (from + index_items s.index i) s.inside want (lookup s a) out (nil-left _ _ (nil-right _ _ h)))

@@ -65,8 +65,10 @@ fn declare_param<'a>(
     param: &'a Param,
 ) -> Result<(), AllocError>
     requires { place < 8 }
-    ensures scope { OnOk result (scope_of scope.new ≡ typing.declared (scope_of scope.old) (name_of param.now.name) (typing.binding_of_shape param.now.shape)) }
-    ensures homes { OnOk result (homes_of homes.new.items ≡ homes_of homes.old.items ++ kernels.param_home place (parameter_of param.now) ∷ []) }
+    ensures scope { OnOk result (scope_of scope.new
+        ≡ typing.declared (scope_of scope.old) (name_of param.now.name) (typing.binding_of_shape param.now.shape)) }
+    ensures homes { OnOk result (homes_of homes.new.items
+        ≡ homes_of homes.old.items ++ kernels.param_home place (parameter_of param.now) ∷ []) }
 {
     homes.push(Home {
         name: param.name.text(),
@@ -84,9 +86,11 @@ fn declare_params<'a>(
     params: &'a [Param],
 ) -> Result<(), AllocError>
     requires { length params.now ≤ 8 }
-    ensures scope { OnOk result (scope_of scope.new ≡ typing.after_params (scope_of scope.old) (parameters_of params.now)) }
+    ensures scope { OnOk result (scope_of scope.new
+        ≡ typing.after_params (scope_of scope.old) (parameters_of params.now)) }
     ensures index { OnOk result ((scope_of scope.new).index ≡ (scope_of scope.old).index) }
-    ensures homes { OnOk result (homes_of homes.new.items ≡ homes_of homes.old.items ++ kernels.param_homes 0 (parameters_of params.now)) }
+    ensures homes { OnOk result (homes_of homes.new.items
+        ≡ homes_of homes.old.items ++ kernels.param_homes 0 (parameters_of params.now)) }
 {
     let mut place = 0;
     for param in params {
@@ -106,7 +110,8 @@ fn declare_var<'a>(
     requires assigned { IsAssignment 15 regs.now }
     requires within { place < length regs.now.registers }
     ensures scope { OnOk result (scope_of scope.new ≡ kernels.after_var (scope_of scope.old) (accumulator_of var.now)) }
-    ensures homes { OnOk result (homes_of homes.new.items ≡ homes_of homes.old.items ++ kernels.var_home (register_in regs.now) place (accumulator_of var.now) ∷ []) }
+    ensures homes { OnOk result (homes_of homes.new.items
+        ≡ homes_of homes.old.items ++ kernels.var_home (register_in regs.now) place (accumulator_of var.now) ∷ []) }
 {
     homes.push(Home {
         name: var.name.text(),
@@ -126,9 +131,11 @@ fn declare_vars<'a>(
 ) -> Result<(), AllocError>
     requires assigned { IsAssignment 15 regs.now }
     requires within { length vars.now ≤ length regs.now.registers }
-    ensures scope { OnOk result (scope_of scope.new ≡ typing.after_vars (scope_of scope.old) (accumulators_of vars.now)) }
+    ensures scope { OnOk result (scope_of scope.new
+        ≡ typing.after_vars (scope_of scope.old) (accumulators_of vars.now)) }
     ensures index { OnOk result ((scope_of scope.new).index ≡ (scope_of scope.old).index) }
-    ensures homes { OnOk result (homes_of homes.new.items ≡ homes_of homes.old.items ++ kernels.var_homes (register_in regs.now) 0 (accumulators_of vars.now)) }
+    ensures homes { OnOk result (homes_of homes.new.items
+        ≡ homes_of homes.old.items ++ kernels.var_homes (register_in regs.now) 0 (accumulators_of vars.now)) }
 {
     let mut place = 0;
     for var in vars {
@@ -152,11 +159,32 @@ fn declare_names<'a>(
     requires homes { homes.old.items ≡ [] }
     ensures scope { OnOk result (scope_of scope.new ≡ typing.var_scope (program_of kernel.now)) }
     ensures index { OnOk result ((scope_of scope.new).index ≡ items.loop_index (program_of kernel.now)) }
-    ensures homes { OnOk result (homes_of homes.new.items ≡ kernels.kernel_homes (register_in regs.now) (program_of kernel.now)) }
+    ensures homes { OnOk result (homes_of homes.new.items
+        ≡ kernels.kernel_homes (register_in regs.now) (program_of kernel.now)) }
 {
     declare_params(scope, homes, &kernel.params)?;
     declare_vars(scope, homes, regs, &kernel.vars)?;
     Ok(())
+}
+
+/// The names at the loop of a kernel, each with the register that holds its value throughout.
+#[tactic(auto, unfolding(loop_form::specs::Seen::program))]
+pub fn kernel_homes<'a>(
+    alloc: Global,
+    kernel: &'a Checked,
+    regs: &Assigned,
+) -> Result<Vec<Home<'a>>, AllocError>
+    requires fits { FitsKernel (program kernel.now) X regs.now }
+    ensures { IfOk result (λ h. homes_of h.items
+        ≡ kernels.kernel_homes (register_in regs.now) (program kernel.now)) }
+{
+    few_params(kernel);
+    each_has_a_register(kernel, regs);
+    let tree = kernel.kernel();
+    let mut scope = empty(alloc, index_of(&tree.body));
+    let mut homes = Vec::new(alloc);
+    declare_names(&mut scope, &mut homes, regs, tree)?;
+    Ok(homes)
 }
 
 // The loop variable.
@@ -165,9 +193,11 @@ fn declare_index<'a>(
     homes: &mut Vec<Home<'a>>,
     turns: &'a Loop,
 ) -> Result<(), AllocError>
-    ensures scope { OnOk result (scope_of scope.new ≡ typing.after_turns (scope_of scope.old) (Some (turns_of turns.now))) }
+    ensures scope { OnOk result (scope_of scope.new
+        ≡ typing.after_turns (scope_of scope.old) (Some (turns_of turns.now))) }
     ensures index { OnOk result ((scope_of scope.new).index ≡ (scope_of scope.old).index) }
-    ensures homes { OnOk result (homes_of homes.new.items ≡ loops.with_index (homes_of homes.old.items) (turns_of turns.now)) }
+    ensures homes { OnOk result (homes_of homes.new.items
+        ≡ loops.with_index (homes_of homes.old.items) (turns_of turns.now)) }
 {
     homes.push(Home {
         name: turns.index.text(),
@@ -223,10 +253,15 @@ fn emit_var<'a>(
     requires kind { IsValue (term_of var.now.init) }
     requires fits { item.old + (items.term_size (scope_of scope.old).index (term_of var.now.init) + 1) < 2 ^ 32 }
     ensures scope { OnOk result (scope_of scope.new ≡ kernels.after_var (scope_of scope.old) (accumulator_of var.now)) }
-    ensures homes { OnOk result (homes_of homes.new.items ≡ homes_of homes.old.items ++ kernels.var_home (register_in regs.now) place (accumulator_of var.now) ∷ []) }
-    ensures item { OnOk result (item.new ≡ item.old + items.term_size (scope_of scope.old).index (term_of var.now.init) + 1) }
-    ensures labels { OnOk result (draft.new.labels ≡ draft.old.labels + kernels.var_labels (scope_of scope.old).index (accumulator_of var.now)) }
-    ensures code { OnOk result (Appends draft.old draft.new (kernels.var_code places.now (register_in regs.now) (homes_of homes.old.items) (scope_of scope.old) place item.old draft.old.labels (accumulator_of var.now))) }
+    ensures homes { OnOk result (homes_of homes.new.items
+        ≡ homes_of homes.old.items ++ kernels.var_home (register_in regs.now) place (accumulator_of var.now) ∷ []) }
+    ensures item { OnOk result (item.new ≡ item.old + items.term_size (scope_of scope.old).index
+        (term_of var.now.init) + 1) }
+    ensures labels { OnOk result (draft.new.labels
+        ≡ draft.old.labels + kernels.var_labels (scope_of scope.old).index (accumulator_of var.now)) }
+    ensures code { OnOk result (Appends draft.old draft.new
+        (kernels.var_code places.now (register_in regs.now) (homes_of homes.old.items)
+        (scope_of scope.old) place item.old draft.old.labels (accumulator_of var.now))) }
 {
     let from = emit_value(draft, places, homes, scope, Some(var.ty), &var.init, item)?;
     draft.put(copy(counted_register(regs, place), from))?;
@@ -249,8 +284,11 @@ fn emit_vars<'a>(
     requires within { length vars.now ≤ length regs.now.registers }
     requires kinds { VarsKinds (accumulators_of vars.now) }
     requires fits { item + items.vars_size (scope_of scope.old).index (accumulators_of vars.now) < 2 ^ 32 }
-    ensures labels { OnOk result (draft.new.labels ≡ draft.old.labels + kernels.vars_labels (scope_of scope.old).index (accumulators_of vars.now)) }
-    ensures code { OnOk result (Appends draft.old draft.new (kernels.vars_code places.now (register_in regs.now) (homes_of homes.old.items) (scope_of scope.old) 0 item draft.old.labels (accumulators_of vars.now))) }
+    ensures labels { OnOk result (draft.new.labels
+        ≡ draft.old.labels + kernels.vars_labels (scope_of scope.old).index (accumulators_of vars.now)) }
+    ensures code { OnOk result (Appends draft.old draft.new
+        (kernels.vars_code places.now (register_in regs.now) (homes_of homes.old.items)
+        (scope_of scope.old) 0 item draft.old.labels (accumulators_of vars.now))) }
 {
     let mut next = item;
     let mut place = 0;
@@ -317,8 +355,11 @@ fn emit_answer(
 ) -> Result<(), AllocError>
     requires kind { AnswerKinds (option_map returned_of answer.now) }
     requires fits { item + items.answer_size (scope_of scope.now).index (option_map returned_of answer.now) < 2 ^ 32 }
-    ensures labels { OnOk result (draft.new.labels ≡ draft.old.labels + loops.answer_labels (scope_of scope.now).index (option_map returned_of answer.now)) }
-    ensures code { OnOk result (Appends draft.old draft.new (loops.answer_code places.now (homes_of homes.now) (scope_of scope.now) item draft.old.labels (option_map returned_of answer.now))) }
+    ensures labels { OnOk result (draft.new.labels
+        ≡ draft.old.labels + loops.answer_labels (scope_of scope.now).index (option_map returned_of answer.now)) }
+    ensures code { OnOk result (Appends draft.old draft.new
+        (loops.answer_code places.now (homes_of homes.now) (scope_of scope.now) item draft.old.labels
+        (option_map returned_of answer.now))) }
 {
     match answer {
         None => {
@@ -357,9 +398,13 @@ fn emit_body<'a>(
     requires exit { exit < draft.old.labels }
     requires kinds { BlockKinds (block_of turns.now.body.items) }
     requires fits { item.old + items.block_size (scope_of scope.old).index (block_of turns.now.body.items) < 2 ^ 32 }
-    ensures item { OnOk result (item.new ≡ item.old + items.block_size (scope_of scope.old).index (block_of turns.now.body.items)) }
-    ensures labels { OnOk result (draft.new.labels ≡ draft.old.labels + block_labels (scope_of scope.old).index (block_of turns.now.body.items)) }
-    ensures code { OnOk result (Appends draft.old draft.new (block_code places.now (homes_of homes.old.items) (loops.inside_of (scope_of scope.old)) exit item.old draft.old.labels (block_of turns.now.body.items))) }
+    ensures item { OnOk result (item.new ≡ item.old + items.block_size (scope_of scope.old).index
+        (block_of turns.now.body.items)) }
+    ensures labels { OnOk result (draft.new.labels
+        ≡ draft.old.labels + block_labels (scope_of scope.old).index (block_of turns.now.body.items)) }
+    ensures code { OnOk result (Appends draft.old draft.new
+        (block_code places.now (homes_of homes.old.items)
+        (loops.inside_of (scope_of scope.old)) exit item.old draft.old.labels (block_of turns.now.body.items))) }
 {
     scope.inside = true;
     emit_block(draft, places, homes, scope, exit, &turns.body, item)?;
@@ -376,11 +421,16 @@ fn emit_loop<'a>(
     item: &mut usize,
 ) -> Result<Label, AllocError>
     requires kinds { BlockKinds (block_of turns.now.body.items) }
-    requires fits { item.old + (1 + items.block_size (scope_of scope.old).index (block_of turns.now.body.items)) < 2 ^ 32 }
+    requires fits { item.old + (1 + items.block_size (scope_of scope.old).index (block_of turns.now.body.items)) < 2 ^
+        32 }
     ensures head { IfOk result (λ l. l ≡ draft.old.labels) }
-    ensures item { OnOk result (item.new ≡ item.old + (1 + items.block_size (scope_of scope.old).index (block_of turns.now.body.items))) }
-    ensures labels { OnOk result (draft.new.labels ≡ draft.old.labels + 2 + block_labels (scope_of scope.old).index (block_of turns.now.body.items)) }
-    ensures code { OnOk result (Appends draft.old draft.new (loops.turn_code places.now (homes_of homes.old.items) (scope_of scope.old) (turns_of turns.now) item.old draft.old.labels)) }
+    ensures item { OnOk result (item.new ≡ item.old +
+        (1 + items.block_size (scope_of scope.old).index (block_of turns.now.body.items))) }
+    ensures labels { OnOk result (draft.new.labels
+        ≡ draft.old.labels + 2 + block_labels (scope_of scope.old).index (block_of turns.now.body.items)) }
+    ensures code { OnOk result (Appends draft.old draft.new
+        (loops.turn_code places.now (homes_of homes.old.items) (scope_of scope.old)
+        (turns_of turns.now) item.old draft.old.labels)) }
 {
     let head = draft.label()?;
     let exit = draft.label()?;
@@ -415,8 +465,12 @@ fn emit_turns(
     requires fits { item.old + items.turns_size (Some (turns_of turns.now)) < 2 ^ 32 }
     ensures head { IfOk result (λ l. l ≡ draft.old.labels) }
     ensures item { OnOk result (item.new ≡ item.old + items.turns_size (Some (turns_of turns.now))) }
-    ensures labels { OnOk result (draft.new.labels ≡ draft.old.labels + 2 + block_labels (items.loop_index (program_of kernel.now)) (block_of turns.now.body.items)) }
-    ensures code { OnOk result (Appends draft.old draft.new (loops.turn_code places.now (kernels.kernel_homes (register_in regs.now) (program_of kernel.now)) (typing.var_scope (program_of kernel.now)) (turns_of turns.now) item.old draft.old.labels)) }
+    ensures labels { OnOk result (draft.new.labels
+        ≡ draft.old.labels + 2 + block_labels (items.loop_index (program_of kernel.now))
+        (block_of turns.now.body.items)) }
+    ensures code { OnOk result (Appends draft.old draft.new
+        (loops.turn_code places.now (kernels.kernel_homes (register_in regs.now) (program_of kernel.now))
+        (typing.var_scope (program_of kernel.now)) (turns_of turns.now) item.old draft.old.labels)) }
 {
     let mut scope = empty(alloc, Some(turns.index.text()));
     let mut homes = Vec::new(alloc);
@@ -440,9 +494,15 @@ fn emit_behind(
     requires params { length (program_of kernel.now).params ≤ 8 }
     requires turns { (program_of kernel.now).turns ≡ Some (turns_of turns.now) }
     requires kind { AnswerKinds (program_of kernel.now).answer }
-    requires fits { item + items.answer_size (items.loop_index (program_of kernel.now)) (program_of kernel.now).answer < 2 ^ 32 }
-    ensures labels { OnOk result (draft.new.labels ≡ draft.old.labels + loops.answer_labels (items.loop_index (program_of kernel.now)) (program_of kernel.now).answer) }
-    ensures code { OnOk result (Appends draft.old draft.new (loops.leave_code places.now (kernels.kernel_homes (register_in regs.now) (program_of kernel.now)) (typing.var_scope (program_of kernel.now)) (turns_of turns.now) item draft.old.labels (program_of kernel.now).answer)) }
+    requires fits { item + items.answer_size (items.loop_index (program_of kernel.now))
+        (program_of kernel.now).answer < 2 ^ 32 }
+    ensures labels { OnOk result (draft.new.labels
+        ≡ draft.old.labels + loops.answer_labels (items.loop_index (program_of kernel.now))
+        (program_of kernel.now).answer) }
+    ensures code { OnOk result (Appends draft.old draft.new
+        (loops.leave_code places.now (kernels.kernel_homes (register_in regs.now) (program_of kernel.now))
+        (typing.var_scope (program_of kernel.now)) (turns_of turns.now) item draft.old.labels
+        (program_of kernel.now).answer)) }
 {
     let mut scope = empty(alloc, Some(turns.index.text()));
     let mut homes = Vec::new(alloc);
@@ -466,10 +526,13 @@ fn emit_straight(
     requires params { length (program_of kernel.now).params ≤ 8 }
     requires turns { (program_of kernel.now).turns ≡ None }
     requires kind { AnswerKinds (program_of kernel.now).answer }
-    requires fits { item + items.answer_size (items.loop_index (program_of kernel.now)) (program_of kernel.now).answer < 2 ^ 32 }
+    requires fits { item + items.answer_size (items.loop_index (program_of kernel.now))
+        (program_of kernel.now).answer < 2 ^ 32 }
     ensures head { IfOk result (λ l. l ≡ draft.old.labels) }
     ensures labels { OnOk result (draft.new.labels ≡ draft.old.labels + kernels.scalar_labels (program_of kernel.now)) }
-    ensures code { OnOk result (Appends draft.old draft.new (kernels.straight_code places.now (kernels.kernel_homes (register_in regs.now) (program_of kernel.now)) (typing.var_scope (program_of kernel.now)) draft.old.labels item (program_of kernel.now).answer)) }
+    ensures code { OnOk result (Appends draft.old draft.new
+        (kernels.straight_code places.now (kernels.kernel_homes (register_in regs.now) (program_of kernel.now))
+        (typing.var_scope (program_of kernel.now)) draft.old.labels item (program_of kernel.now).answer)) }
 {
     let mut scope = empty(alloc, None);
     let mut homes = Vec::new(alloc);

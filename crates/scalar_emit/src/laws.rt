@@ -32,7 +32,8 @@ pub fn right_kinds(kernel: &Checked)
 /// Each accumulator and each item with a value has a register.
 pub fn each_has_a_register(kernel: &Checked, regs: &Assigned)
     requires fits { FitsKernel (program kernel.now) X regs.now }
-    ensures count { let k = program kernel.now in length k.vars + count_values (listing_of k) ≡ length regs.now.registers }
+    ensures count { let k = program kernel.now in length k.vars + count_values (listing_of k)
+        ≡ length regs.now.registers }
     ensures vars { length (program kernel.now).vars ≤ length regs.now.registers }
 {}
 

@@ -13,9 +13,9 @@ ghost use Rattle.scalar_emit.specs.Kinds.{IsValue, IsTruth, ActionKinds, BlockKi
 ghost use Rattle.scalar_emit.specs.Drafts.{Appends};
 ghost use Rattle.scalar_emit.specs.Views.{homes_of};
 
-use crate::emit::{emit_truth, emit_value, want_binary};
+use crate::emit::{emit_copy, emit_offset, emit_truth, emit_value, want_binary};
 use crate::home::{Home, register_at};
-use crate::instructions::{copy, index_word, store};
+use crate::instructions::{index_word, store};
 use crate::places::Places;
 use a64_code::Reg;
 use kernel_scope::{
@@ -31,7 +31,7 @@ fn emit_kept(draft: &mut Draft, places: &Places, item: usize, from: Reg) -> Resu
     ensures code { OnOk result (Appends draft.old draft.new (statements.let_code places.now item from.number)) }
 {
     if item < places.until(item) {
-        draft.put(copy(places.reg(item), from))?;
+        emit_copy(draft, places.reg(item), from)?;
     }
     Ok(())
 }
@@ -44,7 +44,8 @@ fn settle<'a>(
     name: &'a Name,
     ty: Option<Ty>,
 ) -> Result<(), AllocError>
-    ensures { OnOk result (homes_of homes.new.items ≡ statements.defined_homes places.now item (homes_of homes.old.items) (name_of name.now) ty) }
+    ensures { OnOk result (homes_of homes.new.items
+        ≡ statements.defined_homes places.now item (homes_of homes.old.items) (name_of name.now) ty) }
 {
     match ty {
         None => Ok(()),
@@ -70,12 +71,21 @@ fn emit_let<'a>(
     item: &mut usize,
 ) -> Result<(), AllocError>
     requires kind { IsValue (term_of value.now) }
-    requires fits { item.old + action_size (scope_of scope.old).index (Define (name_of name.now) ty (term_of value.now)) < 2 ^ 32 }
-    ensures scope { OnOk result (scope_of scope.new ≡ typing.after_action (scope_of scope.old) (Define (name_of name.now) ty (term_of value.now))) }
-    ensures homes { OnOk result (homes_of homes.new.items ≡ statements.after_homes places.now (homes_of homes.old.items) (scope_of scope.old) item.old (Define (name_of name.now) ty (term_of value.now))) }
-    ensures item { OnOk result (item.new ≡ item.old + action_size (scope_of scope.old).index (Define (name_of name.now) ty (term_of value.now))) }
-    ensures labels { OnOk result (draft.new.labels ≡ draft.old.labels + statements.action_labels (scope_of scope.old).index (Define (name_of name.now) ty (term_of value.now))) }
-    ensures code { OnOk result (Appends draft.old draft.new (statements.action_code places.now (homes_of homes.old.items) (scope_of scope.old) 0 item.old draft.old.labels (Define (name_of name.now) ty (term_of value.now)))) }
+    requires fits { item.old + action_size (scope_of scope.old).index
+        (Define (name_of name.now) ty (term_of value.now)) < 2 ^ 32 }
+    ensures scope { OnOk result (scope_of scope.new
+        ≡ typing.after_action (scope_of scope.old) (Define (name_of name.now) ty (term_of value.now))) }
+    ensures homes { OnOk result (homes_of homes.new.items
+        ≡ statements.after_homes places.now (homes_of homes.old.items) (scope_of scope.old) item.old
+        (Define (name_of name.now) ty (term_of value.now))) }
+    ensures item { OnOk result (item.new ≡ item.old + action_size (scope_of scope.old).index
+        (Define (name_of name.now) ty (term_of value.now))) }
+    ensures labels { OnOk result (draft.new.labels
+        ≡ draft.old.labels + statements.action_labels (scope_of scope.old).index
+        (Define (name_of name.now) ty (term_of value.now))) }
+    ensures code { OnOk result (Appends draft.old draft.new
+        (statements.action_code places.now (homes_of homes.old.items) (scope_of scope.old) 0 item.old draft.old.labels
+        (Define (name_of name.now) ty (term_of value.now)))) }
 {
     let want = first(ty, own_type(scope, value));
     let from = emit_value(draft, places, homes, scope, want, value, item)?;
@@ -87,14 +97,14 @@ fn emit_let<'a>(
 }
 
 // The word of a store, where the elements have a type.
-fn emit_into(draft: &mut Draft, ty: Option<Ty>, from: Reg, p: Reg) -> Result<(), AllocError>
+fn emit_into(draft: &mut Draft, ty: Option<Ty>, from: Reg, p: Reg, r: Reg) -> Result<(), AllocError>
     ensures labels { OnOk result (draft.new.labels ≡ draft.old.labels) }
-    ensures code { OnOk result (Appends draft.old draft.new (words.store_code ty from.number p.number)) }
+    ensures code { OnOk result (Appends draft.old draft.new (words.store_code ty from.number p.number r.number)) }
 {
     match ty {
         None => Ok(()),
         Some(ty) => {
-            draft.put(store(ty, from, p))?;
+            draft.put(store(ty, from, p, r))?;
             Ok(())
         }
     }
@@ -104,19 +114,21 @@ fn emit_into(draft: &mut Draft, ty: Option<Ty>, from: Reg, p: Reg) -> Result<(),
 fn emit_put(
     draft: &mut Draft,
     scope: &Scope,
-    index: &Expr,
+    number: &Expr,
     ty: Option<Ty>,
     from: Reg,
     p: Reg,
 ) -> Result<(), AllocError>
     ensures labels { OnOk result (draft.new.labels ≡ draft.old.labels) }
-    ensures code { OnOk result (Appends draft.old draft.new (statements.put_code (stream_offset (scope_of scope.now).index (term_of index.now)) ty from.number p.number)) }
+    ensures code { OnOk result (Appends draft.old draft.new
+        (statements.put_code (stream_offset (scope_of scope.now).index (term_of number.now)) ty from.number
+        p.number)) }
 {
-    match index_word(scope, index) {
+    match index_word(scope, number) {
         None => Ok(()),
         Some(moved) => {
-            draft.put(moved)?;
-            emit_into(draft, ty, from, p)?;
+            let r = emit_offset(draft, moved)?;
+            emit_into(draft, ty, from, p, r)?;
             Ok(())
         }
     }
@@ -133,10 +145,16 @@ fn emit_store(
     item: &mut usize,
 ) -> Result<(), AllocError>
     requires kind { IsValue (term_of value.now) }
-    requires fits { item.old + action_size (scope_of scope.now).index (Put (name_of array.now) (term_of index.now) (term_of value.now)) < 2 ^ 32 }
-    ensures item { OnOk result (item.new ≡ item.old + action_size (scope_of scope.now).index (Put (name_of array.now) (term_of index.now) (term_of value.now))) }
-    ensures labels { OnOk result (draft.new.labels ≡ draft.old.labels + statements.action_labels (scope_of scope.now).index (Put (name_of array.now) (term_of index.now) (term_of value.now))) }
-    ensures code { OnOk result (Appends draft.old draft.new (statements.action_code places.now (homes_of homes.now) (scope_of scope.now) 0 item.old draft.old.labels (Put (name_of array.now) (term_of index.now) (term_of value.now)))) }
+    requires fits { item.old + action_size (scope_of scope.now).index
+        (Put (name_of array.now) (term_of index.now) (term_of value.now)) < 2 ^ 32 }
+    ensures item { OnOk result (item.new ≡ item.old + action_size (scope_of scope.now).index
+        (Put (name_of array.now) (term_of index.now) (term_of value.now))) }
+    ensures labels { OnOk result (draft.new.labels
+        ≡ draft.old.labels + statements.action_labels (scope_of scope.now).index
+        (Put (name_of array.now) (term_of index.now) (term_of value.now))) }
+    ensures code { OnOk result (Appends draft.old draft.new
+        (statements.action_code places.now (homes_of homes.now) (scope_of scope.now) 0 item.old draft.old.labels
+        (Put (name_of array.now) (term_of index.now) (term_of value.now)))) }
 {
     let ty = lookup(scope, array).and_then(element_type);
     let from = emit_value(draft, places, homes, scope, ty, value, item)?;
@@ -145,8 +163,8 @@ fn emit_store(
     Ok(())
 }
 
-// The operator that an update applies.
-fn operator(op: UpdateOp) -> BinaryOp
+/// The operator that an update applies.
+pub fn update_operator(op: UpdateOp) -> BinaryOp
     ensures { result ≡ operators.operator_of op }
 {
     match op {
@@ -170,15 +188,21 @@ fn emit_update(
     item: &mut usize,
 ) -> Result<(), AllocError>
     requires kind { IsValue (term_of value.now) }
-    requires fits { item.old + action_size (scope_of scope.now).index (Update (name_of name.now) op (term_of value.now)) < 2 ^ 32 }
-    ensures item { OnOk result (item.new ≡ item.old + action_size (scope_of scope.now).index (Update (name_of name.now) op (term_of value.now))) }
-    ensures labels { OnOk result (draft.new.labels ≡ draft.old.labels + statements.action_labels (scope_of scope.now).index (Update (name_of name.now) op (term_of value.now))) }
-    ensures code { OnOk result (Appends draft.old draft.new (statements.action_code places.now (homes_of homes.now) (scope_of scope.now) 0 item.old draft.old.labels (Update (name_of name.now) op (term_of value.now)))) }
+    requires fits { item.old + action_size (scope_of scope.now).index
+        (Update (name_of name.now) op (term_of value.now)) < 2 ^ 32 }
+    ensures item { OnOk result (item.new ≡ item.old + action_size (scope_of scope.now).index
+        (Update (name_of name.now) op (term_of value.now))) }
+    ensures labels { OnOk result (draft.new.labels
+        ≡ draft.old.labels + statements.action_labels (scope_of scope.now).index
+        (Update (name_of name.now) op (term_of value.now))) }
+    ensures code { OnOk result (Appends draft.old draft.new
+        (statements.action_code places.now (homes_of homes.now) (scope_of scope.now) 0 item.old draft.old.labels
+        (Update (name_of name.now) op (term_of value.now)))) }
 {
     let want = lookup(scope, name).and_then(accumulator_type);
     let from = emit_value(draft, places, homes, scope, want, value, item)?;
     let held = register_at(homes, name);
-    want_binary(draft, operator(op), want, held, held, from)?;
+    want_binary(draft, update_operator(op), want, held, held, from)?;
     *item += 1;
     Ok(())
 }
@@ -195,9 +219,13 @@ fn emit_break(
     requires exit { exit < draft.old.labels }
     requires kind { IsTruth (term_of cond.now) }
     requires fits { item.old + action_size (scope_of scope.now).index (Leave (term_of cond.now)) < 2 ^ 32 }
-    ensures item { OnOk result (item.new ≡ item.old + action_size (scope_of scope.now).index (Leave (term_of cond.now))) }
-    ensures labels { OnOk result (draft.new.labels ≡ draft.old.labels + statements.action_labels (scope_of scope.now).index (Leave (term_of cond.now))) }
-    ensures code { OnOk result (Appends draft.old draft.new (statements.action_code places.now (homes_of homes.now) (scope_of scope.now) exit item.old draft.old.labels (Leave (term_of cond.now)))) }
+    ensures item { OnOk result (item.new ≡ item.old + action_size (scope_of scope.now).index
+        (Leave (term_of cond.now))) }
+    ensures labels { OnOk result (draft.new.labels
+        ≡ draft.old.labels + statements.action_labels (scope_of scope.now).index (Leave (term_of cond.now))) }
+    ensures code { OnOk result (Appends draft.old draft.new
+        (statements.action_code places.now (homes_of homes.now) (scope_of scope.now) exit item.old draft.old.labels
+        (Leave (term_of cond.now)))) }
 {
     emit_truth(draft, places, homes, scope, cond, item)?;
     draft.branch(BranchKind::NotZero(28), exit)?;
@@ -219,10 +247,15 @@ fn emit_stmt<'a>(
     requires kinds { ActionKinds (action_of stmt.now) }
     requires fits { item.old + action_size (scope_of scope.old).index (action_of stmt.now) < 2 ^ 32 }
     ensures scope { OnOk result (scope_of scope.new ≡ typing.after_action (scope_of scope.old) (action_of stmt.now)) }
-    ensures homes { OnOk result (homes_of homes.new.items ≡ statements.after_homes places.now (homes_of homes.old.items) (scope_of scope.old) item.old (action_of stmt.now)) }
+    ensures homes { OnOk result (homes_of homes.new.items
+        ≡ statements.after_homes places.now (homes_of homes.old.items) (scope_of scope.old) item.old
+        (action_of stmt.now)) }
     ensures item { OnOk result (item.new ≡ item.old + action_size (scope_of scope.old).index (action_of stmt.now)) }
-    ensures labels { OnOk result (draft.new.labels ≡ draft.old.labels + statements.action_labels (scope_of scope.old).index (action_of stmt.now)) }
-    ensures code { OnOk result (Appends draft.old draft.new (statements.action_code places.now (homes_of homes.old.items) (scope_of scope.old) exit item.old draft.old.labels (action_of stmt.now))) }
+    ensures labels { OnOk result (draft.new.labels
+        ≡ draft.old.labels + statements.action_labels (scope_of scope.old).index (action_of stmt.now)) }
+    ensures code { OnOk result (Appends draft.old draft.new
+        (statements.action_code places.now (homes_of homes.old.items)
+        (scope_of scope.old) exit item.old draft.old.labels (action_of stmt.now))) }
 {
     match stmt {
         Stmt::Let { name, ty, value } => {
@@ -278,12 +311,19 @@ fn emit_if<'a>(
     requires exit { exit < draft.old.labels }
     requires cond { IsTruth (term_of cond.now) }
     requires block { BlockKinds (block_of block.now) }
-    requires fits { item.old + action_size (scope_of scope.old).index (Choose (term_of cond.now) (block_of block.now) Nothing) < 2 ^ 32 }
-    ensures scope { OnOk result (scope_of scope.new ≡ typing.after_action (scope_of scope.old) (Choose (term_of cond.now) (block_of block.now) Nothing)) }
+    requires fits { item.old + action_size (scope_of scope.old).index
+        (Choose (term_of cond.now) (block_of block.now) Nothing) < 2 ^ 32 }
+    ensures scope { OnOk result (scope_of scope.new
+        ≡ typing.after_action (scope_of scope.old) (Choose (term_of cond.now) (block_of block.now) Nothing)) }
     ensures homes { OnOk result (homes_of homes.new.items ≡ homes_of homes.old.items) }
-    ensures item { OnOk result (item.new ≡ item.old + action_size (scope_of scope.old).index (Choose (term_of cond.now) (block_of block.now) Nothing)) }
-    ensures labels { OnOk result (draft.new.labels ≡ draft.old.labels + statements.action_labels (scope_of scope.old).index (Choose (term_of cond.now) (block_of block.now) Nothing)) }
-    ensures code { OnOk result (Appends draft.old draft.new (statements.action_code places.now (homes_of homes.old.items) (scope_of scope.old) exit item.old draft.old.labels (Choose (term_of cond.now) (block_of block.now) Nothing))) }
+    ensures item { OnOk result (item.new ≡ item.old + action_size (scope_of scope.old).index
+        (Choose (term_of cond.now) (block_of block.now) Nothing)) }
+    ensures labels { OnOk result (draft.new.labels
+        ≡ draft.old.labels + statements.action_labels (scope_of scope.old).index
+        (Choose (term_of cond.now) (block_of block.now) Nothing)) }
+    ensures code { OnOk result (Appends draft.old draft.new
+        (statements.action_code places.now (homes_of homes.old.items)
+        (scope_of scope.old) exit item.old draft.old.labels (Choose (term_of cond.now) (block_of block.now) Nothing))) }
 {
     emit_truth(draft, places, homes, scope, cond, item)?;
     let other = draft.label()?;
@@ -311,12 +351,21 @@ fn emit_if_else<'a>(
     requires cond { IsTruth (term_of cond.now) }
     requires block { BlockKinds (block_of block.now) }
     requires second { BlockKinds (block_of second.now) }
-    requires fits { item.old + action_size (scope_of scope.old).index (Choose (term_of cond.now) (block_of block.now) (Else (block_of second.now))) < 2 ^ 32 }
-    ensures scope { OnOk result (scope_of scope.new ≡ typing.after_action (scope_of scope.old) (Choose (term_of cond.now) (block_of block.now) (Else (block_of second.now)))) }
+    requires fits { item.old + action_size (scope_of scope.old).index
+        (Choose (term_of cond.now) (block_of block.now) (Else (block_of second.now))) < 2 ^ 32 }
+    ensures scope { OnOk result (scope_of scope.new
+        ≡ typing.after_action (scope_of scope.old)
+        (Choose (term_of cond.now) (block_of block.now) (Else (block_of second.now)))) }
     ensures homes { OnOk result (homes_of homes.new.items ≡ homes_of homes.old.items) }
-    ensures item { OnOk result (item.new ≡ item.old + action_size (scope_of scope.old).index (Choose (term_of cond.now) (block_of block.now) (Else (block_of second.now)))) }
-    ensures labels { OnOk result (draft.new.labels ≡ draft.old.labels + statements.action_labels (scope_of scope.old).index (Choose (term_of cond.now) (block_of block.now) (Else (block_of second.now)))) }
-    ensures code { OnOk result (Appends draft.old draft.new (statements.action_code places.now (homes_of homes.old.items) (scope_of scope.old) exit item.old draft.old.labels (Choose (term_of cond.now) (block_of block.now) (Else (block_of second.now))))) }
+    ensures item { OnOk result (item.new ≡ item.old + action_size (scope_of scope.old).index
+        (Choose (term_of cond.now) (block_of block.now) (Else (block_of second.now)))) }
+    ensures labels { OnOk result (draft.new.labels
+        ≡ draft.old.labels + statements.action_labels (scope_of scope.old).index
+        (Choose (term_of cond.now) (block_of block.now) (Else (block_of second.now)))) }
+    ensures code { OnOk result (Appends draft.old draft.new
+        (statements.action_code places.now (homes_of homes.old.items)
+        (scope_of scope.old) exit item.old draft.old.labels
+        (Choose (term_of cond.now) (block_of block.now) (Else (block_of second.now))))) }
 {
     emit_truth(draft, places, homes, scope, cond, item)?;
     let other = draft.label()?;
@@ -347,11 +396,15 @@ fn emit_inner<'a>(
     requires exit { exit < draft.old.labels }
     requires kinds { BlockKinds (block_of block.now) }
     requires fits { item.old + block_size (scope_of scope.old).index (block_of block.now) < 2 ^ 32 }
-    ensures scope { OnOk result (scope_of scope.new ≡ typing.left (scope_of scope.old) (typing.after_block (scope_of scope.old) (block_of block.now))) }
+    ensures scope { OnOk result (scope_of scope.new
+        ≡ typing.left (scope_of scope.old) (typing.after_block (scope_of scope.old) (block_of block.now))) }
     ensures homes { OnOk result (homes_of homes.new.items ≡ homes_of homes.old.items) }
     ensures item { OnOk result (item.new ≡ item.old + block_size (scope_of scope.old).index (block_of block.now)) }
-    ensures labels { OnOk result (draft.new.labels ≡ draft.old.labels + statements.block_labels (scope_of scope.old).index (block_of block.now)) }
-    ensures code { OnOk result (Appends draft.old draft.new (statements.block_code places.now (homes_of homes.old.items) (scope_of scope.old) exit item.old draft.old.labels (block_of block.now))) }
+    ensures labels { OnOk result (draft.new.labels
+        ≡ draft.old.labels + statements.block_labels (scope_of scope.old).index (block_of block.now)) }
+    ensures code { OnOk result (Appends draft.old draft.new
+        (statements.block_code places.now (homes_of homes.old.items) (scope_of scope.old) exit item.old draft.old.labels
+        (block_of block.now))) }
 {
     let visible = visible_count(scope);
     let known = homes.len();
@@ -376,10 +429,15 @@ pub fn emit_block<'a>(
     requires kinds { BlockKinds (block_of block.now) }
     requires fits { item.old + block_size (scope_of scope.old).index (block_of block.now) < 2 ^ 32 }
     ensures scope { OnOk result (scope_of scope.new ≡ typing.after_block (scope_of scope.old) (block_of block.now)) }
-    ensures homes { OnOk result (homes_of homes.new.items ≡ statements.block_homes places.now (homes_of homes.old.items) (scope_of scope.old) item.old (block_of block.now)) }
+    ensures homes { OnOk result (homes_of homes.new.items
+        ≡ statements.block_homes places.now (homes_of homes.old.items) (scope_of scope.old) item.old
+        (block_of block.now)) }
     ensures item { OnOk result (item.new ≡ item.old + block_size (scope_of scope.old).index (block_of block.now)) }
-    ensures labels { OnOk result (draft.new.labels ≡ draft.old.labels + statements.block_labels (scope_of scope.old).index (block_of block.now)) }
-    ensures code { OnOk result (Appends draft.old draft.new (statements.block_code places.now (homes_of homes.old.items) (scope_of scope.old) exit item.old draft.old.labels (block_of block.now))) }
+    ensures labels { OnOk result (draft.new.labels
+        ≡ draft.old.labels + statements.block_labels (scope_of scope.old).index (block_of block.now)) }
+    ensures code { OnOk result (Appends draft.old draft.new
+        (statements.block_code places.now (homes_of homes.old.items) (scope_of scope.old) exit item.old draft.old.labels
+        (block_of block.now))) }
 {
     for stmt in block {
         emit_stmt(draft, places, homes, scope, exit, stmt, item)?;
