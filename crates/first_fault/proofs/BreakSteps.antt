@@ -14,10 +14,10 @@ use Rattle.machine_model.proofs.States.{truths_put}
 use Rattle.label_fix.specs.DraftRun.{Entry, Laid}
 use Rattle.chunk_order.specs.Orders.{Lane, Lanes, Halts, Keeps}
 use Rattle.loop_form.specs.LoopItems.{Quit, item}
-use Rattle.vector_emit.specs.Registers.{Layout, p_of}
-use Rattle.vector_emit.specs.ChunkCode.{puts}
-use Rattle.vector_emit.specs.Chunk.{Setting, count_of, Holds}
-use Rattle.vector_emit.specs.Fits.{Assigned, FitsTruth, MakesNothing}
+use Rattle.chunk_emit.specs.Registers.{Layout, p_of}
+use Rattle.chunk_emit.specs.ChunkCode.{puts}
+use Rattle.chunk_emit.specs.Chunk.{Setting, count_of, Holds}
+use Rattle.chunk_emit.specs.Fits.{Assigned, FitsTruth, MakesNothing}
 use Rattle.first_fault.specs.Region.{Way, Broke, way_of, item_way}
 use Rattle.first_fault.specs.RegionCode.{Mode, break_word}
 use Rattle.first_fault.specs.Prefix.{IsTop, Inside}

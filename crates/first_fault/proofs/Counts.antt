@@ -6,9 +6,9 @@ use Rattle.guest_types.specs.declared.length.Width.{Width}
 use Rattle.kernel_tree.specs.declared.ops.Ty.{Ty}
 use Rattle.machine_model.specs.InstructionTable.{Listed}
 use Rattle.loop_form.specs.LoopItems.{Op, Load, Apply, Combine, Move, Cast, Copy, Pick, Store, Add, Test, Invert, Same, Any, Quit, Item, item}
-use Rattle.vector_emit.specs.Registers.{Layout, base_of, is_used}
-use Rattle.vector_emit.specs.ChunkCode.{with_index, index_of}
-use Rattle.vector_emit.proofs.Counts.{few_words}
+use Rattle.chunk_emit.specs.Registers.{Layout, base_of, is_used}
+use Rattle.chunk_emit.specs.ChunkCode.{with_index, index_of}
+use Rattle.chunk_emit.proofs.Counts.{few_words}
 use Rattle.first_fault.specs.RegionCode.{Mode, Early, Single, narrow_words, load_words, step_words, region_words}
 use Rattle.first_fault.specs.Rest.{AlwaysFew}
 

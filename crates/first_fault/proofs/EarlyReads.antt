@@ -28,11 +28,11 @@ use Rattle.chunk_order.specs.Items.{nth_value}
 use Rattle.lane_emit.specs.Right.{PRight, within}
 use Rattle.lane_emit.specs.Stretch.{Word}
 use Rattle.lane_emit.specs.ItemCode.{mask_of, mask_register}
-use Rattle.vector_emit.specs.Registers.{Layout, z_of, IsValueUsed}
-use Rattle.vector_emit.specs.ChunkCode.{puts}
-use Rattle.vector_emit.specs.Chunk.{Setting, count_of, Holds}
-use Rattle.vector_emit.specs.Fits.{Assigned, MakesValue}
-use Rattle.vector_emit.proofs.Columns.{first_none}
+use Rattle.chunk_emit.specs.Registers.{Layout, z_of, IsValueUsed}
+use Rattle.chunk_emit.specs.ChunkCode.{puts}
+use Rattle.chunk_emit.specs.Chunk.{Setting, count_of, Holds}
+use Rattle.chunk_emit.specs.Fits.{Assigned, MakesValue}
+use Rattle.chunk_emit.proofs.Columns.{first_none}
 use Rattle.first_fault.specs.Region.{Way}
 use Rattle.first_fault.specs.RegionCode.{Early, first_fault_word, non_fault_word, read_faults}
 use Rattle.first_fault.specs.Prefix.{Inside}

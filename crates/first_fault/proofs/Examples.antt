@@ -17,9 +17,9 @@ use Rattle.loop_form.specs.declared.loop_item.Source.{Source}
 use Rattle.loop_form.specs.declared.loop_item.Source.TheVariants.{Constant, Outer, Turn, Made}
 use Rattle.loop_form.specs.LoopItems.{Item, item, Load, Store, Test, Quit}
 use Rattle.lane_emit.specs.Stretch.{word}
-use Rattle.vector_emit.specs.Registers.{Layout}
-use Rattle.vector_emit.specs.Chunk.{Setting}
-use Rattle.vector_emit.specs.Fits.{Assigned, MakesNothing, NoneBetween}
+use Rattle.chunk_emit.specs.Registers.{Layout}
+use Rattle.chunk_emit.specs.Chunk.{Setting}
+use Rattle.chunk_emit.specs.Fits.{Assigned, MakesNothing, NoneBetween}
 use Rattle.first_fault.specs.Region.{On, Broke, Fell, region_way}
 use Rattle.first_fault.specs.RegionCode.{Early, Single, region_words, exits_words, single_words}
 use Rattle.first_fault.specs.Fits.{FitsRegion}

@@ -20,9 +20,9 @@ use Rattle.lane_emit.proofs.Ranges.{wrap-is_of}
 use Rattle.lane_emit.specs.Right.{IsOf, ZRight, PRight}
 use Rattle.lane_emit.specs.Stretch.{Ready}
 use Rattle.lane_emit.specs.ItemCode.{Chunk, AllOf, operand, truth_of, OperandRight}
-use Rattle.vector_emit.specs.Registers.{Layout, z_of, p_of}
-use Rattle.vector_emit.specs.Chunk.{Setting, chunk_of, count_of, ValueRight, Holds}
-use Rattle.vector_emit.specs.Fits.{Assigned, FitsOperand, NoneBetween}
+use Rattle.chunk_emit.specs.Registers.{Layout, z_of, p_of}
+use Rattle.chunk_emit.specs.Chunk.{Setting, chunk_of, count_of, ValueRight, Holds}
+use Rattle.chunk_emit.specs.Fits.{Assigned, FitsOperand, NoneBetween}
 use Rattle.first_fault.specs.RegionCode.{Mode, Early}
 use Rattle.first_fault.specs.Prefix.{IsTop, with_count, lanes_of, Same, Inside}
 use Rattle.first_fault.proofs.Bits.{inside, top_active}

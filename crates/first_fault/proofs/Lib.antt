@@ -14,4 +14,12 @@ pub mod Rests
 pub mod Counts
 pub mod Splits
 pub mod TurnWays
+pub mod RegionFits
+pub mod TopBreaks
+pub mod LiveTruths
+pub mod LoopFits
+pub mod Spelled
+pub mod Sizes
+pub mod Writables
+mod Joined
 mod Examples

@@ -24,15 +24,15 @@ use Rattle.lane_emit.specs.Right.{IsOf, PRight, within}
 use Rattle.lane_emit.specs.Stretch.{OnlyZ, OnlyP}
 use Rattle.lane_emit.specs.ItemCode.{AllOf, operand, mask_of, mask_register, makes_truth, OperandsRight, value_after, truth_after, new_value, new_truth, made_type, AllTyped, Makes, op_code}
 use Rattle.lane_emit.proofs.ItemRuns.{lanes_right_law}
-use Rattle.vector_emit.specs.Registers.{Layout, z_of, p_of, IsValueUsed, IsTruthUsed}
-use Rattle.vector_emit.specs.ChunkCode.{vectors, puts}
-use Rattle.vector_emit.specs.Chunk.{Setting, count_of, Holds}
-use Rattle.vector_emit.specs.Fits.{Assigned, FitsMask, MakesValue, MakesTruth}
+use Rattle.chunk_emit.specs.Registers.{Layout, z_of, p_of, IsValueUsed, IsTruthUsed}
+use Rattle.chunk_emit.specs.ChunkCode.{vectors, puts}
+use Rattle.chunk_emit.specs.Chunk.{Setting, count_of, Holds}
+use Rattle.chunk_emit.specs.Fits.{Assigned, FitsMask, MakesValue, MakesTruth}
 use Rattle.chunk_order.proofs.Solo.{value_same, value_other}
 use Rattle.vector_order.proofs.Terms.{truth_same, truth_other}
 use Rattle.first_fault.specs.Region.{Way, halted, way_of, item_way}
 use Rattle.first_fault.specs.RegionCode.{Mode, narrow_words, step_words}
-use Rattle.first_fault.specs.Leads.{Leads}
+use Rattle.label_fix.specs.Stretches.{Leads}
 use Rattle.first_fault.specs.Prefix.{Same, Inside}
 use Rattle.first_fault.specs.RegionRuns.{Cuts, comes}
 use Rattle.first_fault.proofs.Stretches.{rest_at, word_leads, follow, words_lead}

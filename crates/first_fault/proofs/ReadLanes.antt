@@ -30,16 +30,16 @@ use Rattle.lane_emit.specs.Right.{IsOf, PRight, within}
 use Rattle.lane_emit.specs.ItemCode.{mask_of, mask_register}
 use Rattle.lane_emit.proofs.Residues.{held, held-whole}
 use Rattle.lane_emit.proofs.Ranges.{wrap-is_of}
-use Rattle.vector_emit.specs.Registers.{Layout}
-use Rattle.vector_emit.specs.ChunkCode.{with_index, index_of, dtype_of, memory_size, puts}
-use Rattle.vector_emit.specs.Chunk.{Setting, count_of, Holds}
-use Rattle.vector_emit.specs.Fits.{Assigned, IsNear}
-use Rattle.vector_emit.proofs.Indexes.{scratched}
-use Rattle.vector_emit.proofs.LoadForms.{IsForm, is_form, bytes_power}
-use Rattle.vector_emit.proofs.Loads.{read_lane}
+use Rattle.chunk_emit.specs.Registers.{Layout}
+use Rattle.chunk_emit.specs.ChunkCode.{with_index, index_of, dtype_of, memory_size, puts}
+use Rattle.chunk_emit.specs.Chunk.{Setting, count_of, Holds}
+use Rattle.chunk_emit.specs.Fits.{Assigned, IsNear}
+use Rattle.chunk_emit.proofs.Indexes.{scratched}
+use Rattle.chunk_emit.proofs.LoadForms.{IsForm, is_form, bytes_power}
+use Rattle.chunk_emit.proofs.Loads.{read_lane}
 use Rattle.first_fault.specs.Region.{Way, On, Fell, way_of, item_way}
 use Rattle.first_fault.specs.RegionCode.{Mode}
-use Rattle.first_fault.specs.Leads.{Leads}
+use Rattle.label_fix.specs.Stretches.{Leads}
 use Rattle.first_fault.specs.Prefix.{Inside}
 use Rattle.first_fault.proofs.Stretches.{rest_at, word_leads}
 use Rattle.first_fault.proofs.Insides.{same_then, prefix, length_is, few_all}

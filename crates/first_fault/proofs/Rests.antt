@@ -17,9 +17,9 @@ use Rattle.chunk_order.specs.Items.{on_mask, load_effect}
 use Rattle.vector_order.specs.Items.{op_effect, item_act, acts_of}
 use Rattle.reductions.specs.Folds.{after_all, AreOf, given_to, ShareAlike}
 use Rattle.reductions.specs.AccumulatorLanes as accumulators
-use Rattle.vector_emit.specs.Registers.{Layout}
-use Rattle.vector_emit.specs.Chunk.{Setting, sum_at, SumRight, Holds}
-use Rattle.vector_emit.specs.Fits.{Assigned}
+use Rattle.chunk_emit.specs.Registers.{Layout}
+use Rattle.chunk_emit.specs.Chunk.{Setting, sum_at, SumRight, Holds}
+use Rattle.chunk_emit.specs.Fits.{Assigned}
 use Rattle.first_fault.specs.Region.{Way, On, halted, way_of, way_on, region_way, lane_left}
 use Rattle.first_fault.specs.RegionCode.{Mode}
 use Rattle.first_fault.specs.Fits.{FitsStep, FitsRegion}

@@ -10,11 +10,11 @@ use Rattle.machine_model.proofs.States.{truths_made, ffr_put}
 use Rattle.chunk_order.specs.Orders.{Lanes}
 use Rattle.lane_emit.specs.Right.{PRight}
 use Rattle.lane_emit.specs.ItemCode.{truth_of}
-use Rattle.vector_emit.specs.Registers.{Layout, p_of}
-use Rattle.vector_emit.specs.ChunkCode.{puts}
-use Rattle.vector_emit.specs.Chunk.{Setting, chunk_of, ValueRight, Holds}
-use Rattle.vector_emit.specs.Fits.{Assigned, behind_items}
-use Rattle.vector_emit.proofs.States.{inside}
+use Rattle.chunk_emit.specs.Registers.{Layout, p_of}
+use Rattle.chunk_emit.specs.ChunkCode.{puts}
+use Rattle.chunk_emit.specs.Chunk.{Setting, chunk_of, ValueRight, Holds}
+use Rattle.chunk_emit.specs.Fits.{Assigned, behind_items}
+use Rattle.chunk_emit.proofs.States.{inside}
 use Rattle.first_fault.specs.Region.{region_way}
 use Rattle.first_fault.specs.RegionCode.{Early, Single, exits_words, single_words}
 use Rattle.first_fault.specs.Prefix.{IsTop, with_count, lanes_of, Same, Inside}

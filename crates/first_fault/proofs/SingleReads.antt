@@ -23,12 +23,12 @@ use Rattle.chunk_order.specs.Items.{nth_value}
 use Rattle.lane_emit.specs.Right.{IsOf, PRight, within}
 use Rattle.lane_emit.specs.ItemCode.{mask_of, mask_register}
 use Rattle.lane_emit.proofs.Residues.{held}
-use Rattle.vector_emit.specs.Registers.{Layout, z_of, p_of, IsValueUsed}
-use Rattle.vector_emit.specs.ChunkCode.{load_word, puts}
-use Rattle.vector_emit.specs.Chunk.{Setting, count_of, Holds}
-use Rattle.vector_emit.specs.Fits.{Assigned, MakesValue}
-use Rattle.vector_emit.proofs.Indexes.{lane_place}
-use Rattle.vector_emit.proofs.Loads.{only_wrote}
+use Rattle.chunk_emit.specs.Registers.{Layout, z_of, p_of, IsValueUsed}
+use Rattle.chunk_emit.specs.ChunkCode.{load_word, puts}
+use Rattle.chunk_emit.specs.Chunk.{Setting, count_of, Holds}
+use Rattle.chunk_emit.specs.Fits.{Assigned, MakesValue}
+use Rattle.chunk_emit.proofs.Indexes.{lane_place}
+use Rattle.chunk_emit.proofs.Loads.{only_wrote}
 use Rattle.first_fault.specs.Region.{Fell}
 use Rattle.first_fault.specs.RegionCode.{Mode, Early, Single}
 use Rattle.first_fault.specs.Prefix.{IsTop, Same, Inside}
@@ -78,7 +78,7 @@ module _ {l : Layout} (fit : Assigned l) {f : Setting} {a : State} {p0 : ℕ} {t
 
     pub spot_is : (e : ℕ) → spot e ≡ reads.place fit h0 p ls mask array x ty c wide (f.i + e)
     spot_is e =
-        ap (λ k. lane_address (x_or_sp u x) (x_at u r) k e) (Rattle.vector_emit.proofs.LoadForms.is_form ty f.w wide).memory
+        ap (λ k. lane_address (x_or_sp u x) (x_at u r) k e) (Rattle.chunk_emit.proofs.LoadForms.is_form ty f.w wide).memory
         ∙ lane_place ty (nth_value f.names x) c f.i e (x_or_sp u x) (x_at u r) base_is at_index
 
   -- a load that refuses

@@ -20,16 +20,16 @@ use Rattle.loop_form.specs.LoopItems.{Op, Load, Apply, Combine, Move, Cast, Copy
 use Rattle.chunk_order.specs.Items.{nth_value, source_value, on_mask}
 use Rattle.lane_emit.specs.Right.{PRight, within}
 use Rattle.lane_emit.specs.ItemCode.{mask_of, mask_register}
-use Rattle.vector_emit.specs.Registers.{Layout, IsValueUsed}
-use Rattle.vector_emit.specs.ChunkCode.{with_index, index_of, memory_size, puts}
-use Rattle.vector_emit.specs.Chunk.{Setting, count_of, Holds}
-use Rattle.vector_emit.specs.Fits.{Assigned, FitsMask, IsNear, MakesValue, behind_items}
-use Rattle.vector_emit.proofs.Indexes.{scratched, lane_place}
-use Rattle.vector_emit.proofs.LoadForms.{is_form}
+use Rattle.chunk_emit.specs.Registers.{Layout, IsValueUsed}
+use Rattle.chunk_emit.specs.ChunkCode.{with_index, index_of, memory_size, puts}
+use Rattle.chunk_emit.specs.Chunk.{Setting, count_of, Holds}
+use Rattle.chunk_emit.specs.Fits.{Assigned, FitsMask, IsNear, MakesValue, behind_items}
+use Rattle.chunk_emit.proofs.Indexes.{scratched, lane_place}
+use Rattle.chunk_emit.proofs.LoadForms.{is_form}
 use Rattle.first_fault.specs.Region.{Way, On, Broke, Fell, way_on, item_way, region_way}
 use Rattle.first_fault.specs.RegionCode.{Mode, Early, Single, narrow_words, load_words, step_words, region_words}
 use Rattle.first_fault.specs.Fits.{FitsStep, FitsRegion}
-use Rattle.first_fault.specs.Leads.{Leads}
+use Rattle.label_fix.specs.Stretches.{Leads}
 use Rattle.first_fault.specs.Prefix.{Inside}
 use Rattle.first_fault.specs.RegionRuns.{Why, by_break, by_fault, by_stop, Cuts, stops, comes}
 use Rattle.first_fault.proofs.Stretches.{rest_at, word_leads, follow, follow-cut, stop_behind}

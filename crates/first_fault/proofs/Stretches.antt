@@ -5,17 +5,13 @@ use Rattle.machine_model.specs.declared.outcome.StopKind.{StopKind}
 use Rattle.machine_model.specs.InstructionTable.{Listed, Vector}
 use Rattle.machine_model.specs.Machine.{State, Step, Went, Ended, Stopped}
 use Rattle.machine_model.specs.OneStep.{cuts_in}
-use Rattle.machine_model.specs.Run.{go_on}
+use Rattle.machine_model.specs.Run.{Stop, go_on}
 use Rattle.machine_model.specs.VectorEffects.{do_vector}
 use Rattle.label_fix.specs.DraftRun.{Entry, Put, Laid, effect, draft_run}
-use Rattle.label_fix.specs.Stretches.{Goes, Stops}
-use Rattle.label_fix.proofs.Steps.{stop_after}
+use Rattle.label_fix.specs.Stretches.{Leads, Stops}
 use Rattle.lane_emit.specs.Stretch.{Word, and_then, do_all}
-use Rattle.vector_emit.specs.ChunkCode.{vectors, puts}
-use Rattle.first_fault.specs.Leads.{count_on, cuts, Leads}
-
-pub goes_of : {d : Laid} {c e : List Entry} {s t : State} {most : ℕ} → Leads d c s e t most → Goes d c s e t most
-goes_of a = record { count = a.count; within = a.within; by = a.by }
+use Rattle.chunk_emit.specs.ChunkCode.{vectors, puts}
+use Rattle.label_fix.specs.Cuts.{count_on, cuts}
 
 pub rest_at : {d : Laid} {c : List Entry} {s : State} (most : ℕ) → Leads d c s c s most
 rest_at {d = d} {c = c} {s = s} most = record {
@@ -23,7 +19,7 @@ rest_at {d = d} {c = c} {s = s} most = record {
   within = omega arith;
   by = λ k taken. let e : 0 + k ≡ k = omega arith in let f : taken ≡ taken + 0 = omega arith in ap (λ j. draft_run d j taken c s) e ∙ ap (λ n. draft_run d k n c s) f;
   cut = 0;
-  tells = λ k. let e : 0 + k ≡ k = omega arith in let f : cuts d k c s ≡ 0 + cuts d k c s = omega arith in ap (λ j. cuts d j c s) e ∙ f;
+  tells = λ k. let e : k ≡ 0 + k = omega arith in subst (λ j. 0 + cuts d k c s ≤ cuts d j c s) e (omega arith);
 }
 
 -- one word
@@ -35,7 +31,8 @@ word_leads {d = d} {i = i} {rest = rest} {s = s} {t = t} b h is = record {
   cut = cond b 1 0;
   tells = λ k.
       let e : 1 + k ≡ suc k = omega arith in
-      ap (λ j. cuts d j (Put i ∷ rest) s) e ∙ ap (λ o. count_on o (cuts_in i s) (cuts d k rest)) h ∙ ap (λ c. cond c 1 0 + cuts d k rest t) is;
+      let f = ap (λ j. cuts d j (Put i ∷ rest) s) e ∙ ap (λ o. count_on o (cuts_in i s) (cuts d k rest)) h ∙ ap (λ c. cond c 1 0 + cuts d k rest t) is in
+      omega (arith, f);
 }
 
 pub follow : {d : Laid} {c e g : List Entry} {s t u : State} {m n : ℕ} (most : ℕ) → m + n ≤ most → Leads d c s e t m → Leads d e t g u n → Leads d c s g u most
@@ -49,13 +46,23 @@ follow {d = d} {c = c} {g = g} {s = s} {u = u} most le a b = record {
   cut = a.cut + b.cut;
   tells = λ k.
       let e : a.count + b.count + k ≡ a.count + (b.count + k) = omega arith in
-      let f = ap (λ j. cuts d j c s) e ∙ a.tells (b.count + k) in
-      let g = b.tells k in
-      omega (arith, f, g);
+      let f = ap (λ j. cuts d j c s) e in
+      let p = a.tells (b.count + k) in
+      let q = b.tells k in
+      omega (arith, f, p, q);
 }
 
 pub stop_behind : {d : Laid} {c e : List Entry} {s t : State} {m n : ℕ} {kind : StopKind} {memory : Memory} (most : ℕ) → m + n ≤ most → Leads d c s e t m → Stops d e t kind memory n → Stops d c s kind memory most
-stop_behind most le a b = stop_after most le (goes_of a) b
+stop_behind {d = d} {c = c} {s = s} {kind = kind} {memory = memory} most le a b = record {
+  count = a.count + b.count;
+  within = omega (arith, a.within, b.within, le);
+  pc = b.pc;
+  at = b.at;
+  by = λ k taken.
+      let e : a.count + b.count + k ≡ a.count + (b.count + k) = omega arith in
+      let f : taken + a.count + b.count ≡ taken + (a.count + b.count) = omega arith in
+      ap (λ j. draft_run d j taken c s) e ∙ a.by (b.count + k) taken ∙ b.by k (taken + a.count) ∙ ap (λ n. Stop kind b.pc b.at memory n) f;
+}
 
 -- ---- code without a load that may stop early
 

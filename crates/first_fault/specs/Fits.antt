@@ -1,9 +1,9 @@
 -- When a layout fits the items of a break region.
 use Rattle.std.specs.Prelude.{◌≡◌, ℕ, ◌+◌, ◌≤◌, List, [], ◌∷◌, Option, None}
 use Rattle.loop_form.specs.LoopItems.{Op, Store, Add, Quit, Item}
-use Rattle.vector_emit.specs.Registers.{Layout}
-use Rattle.vector_emit.specs.Chunk.{Setting}
-use Rattle.vector_emit.specs.Fits.{FitsOp, FitsMask, FitsTruth, MakesNothing, NoneBetween}
+use Rattle.chunk_emit.specs.Registers.{Layout}
+use Rattle.chunk_emit.specs.Chunk.{Setting}
+use Rattle.chunk_emit.specs.Fits.{FitsOp, FitsMask, FitsTruth, MakesNothing, NoneBetween}
 
 -- nothing is stored or updated, and a break stands at the top level
 abbrev pub FitsStep : Layout → Setting → ℕ → Option ℕ → Op → Type 0

@@ -1,9 +1,10 @@
 pub mod Region
 pub mod RegionCode
 pub mod Fits
-pub mod Leads
 pub mod Prefix
 pub mod RegionRuns
 pub mod Rest
 pub mod Split
 pub mod Turns
+pub mod KernelFits
+pub mod View

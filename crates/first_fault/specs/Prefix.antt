@@ -8,9 +8,9 @@ use Rattle.chunk_order.specs.Orders.{Lane, Lanes}
 use Rattle.loop_form.specs.declared.loop_item.Source.{Source}
 use Rattle.lane_emit.specs.Right.{PRight}
 use Rattle.lane_emit.specs.ItemCode.{truth_of}
-use Rattle.vector_emit.specs.Registers.{Layout, p_of}
-use Rattle.vector_emit.specs.Chunk.{Setting, chunk_of, ValueRight}
-pub use Rattle.vector_emit.specs.Chunk.{IsTop}
+use Rattle.chunk_emit.specs.Registers.{Layout, p_of}
+use Rattle.chunk_emit.specs.Chunk.{Setting, chunk_of, ValueRight}
+pub use Rattle.chunk_emit.specs.Chunk.{IsTop}
 use Rattle.first_fault.specs.RegionCode.{Mode, Early, Single}
 
 -- the chunk with fewer lanes

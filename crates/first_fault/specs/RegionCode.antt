@@ -10,8 +10,8 @@ use Rattle.machine_model.specs.InstructionTable.{Listed, Scalar, Vector}
 use Rattle.loop_form.specs.LoopItems.{Op, Load, Quit, Item}
 use Rattle.lane_emit.specs.Stretch.{Word, word}
 use Rattle.lane_emit.specs.ItemCode.{mask_register, op_code}
-use Rattle.vector_emit.specs.Registers.{Layout, z_of, p_of, base_of, is_used}
-use Rattle.vector_emit.specs.ChunkCode.{with_index, index_of, memory_size, dtype_of, load_word, vectors}
+use Rattle.chunk_emit.specs.Registers.{Layout, z_of, p_of, base_of, is_used}
+use Rattle.chunk_emit.specs.ChunkCode.{with_index, index_of, memory_size, dtype_of, load_word, vectors}
 
 -- over a chunk, or over one lane
 pub data Mode : Type 0 where

@@ -7,14 +7,14 @@ use Rattle.label_fix.specs.DraftRun.{Entry, Laid}
 use Rattle.label_fix.specs.Stretches.{Stops}
 use Rattle.chunk_order.specs.Orders.{Lane, Lanes}
 use Rattle.loop_form.specs.LoopItems.{Item}
-use Rattle.vector_emit.specs.Registers.{Layout}
-use Rattle.vector_emit.specs.ChunkCode.{puts}
-use Rattle.vector_emit.specs.Chunk.{Setting, Holds}
-use Rattle.vector_emit.specs.Fits.{Assigned, behind_items}
+use Rattle.chunk_emit.specs.Registers.{Layout}
+use Rattle.chunk_emit.specs.ChunkCode.{puts}
+use Rattle.chunk_emit.specs.Chunk.{Setting, Holds}
+use Rattle.chunk_emit.specs.Fits.{Assigned, behind_items}
 use Rattle.first_fault.specs.Region.{Way, On, Broke, Fell, region_way}
 use Rattle.first_fault.specs.RegionCode.{Mode, Early, Single, exits_words, single_words}
 use Rattle.first_fault.specs.Fits.{FitsRegion}
-use Rattle.first_fault.specs.Leads.{Leads}
+use Rattle.label_fix.specs.Stretches.{Leads}
 use Rattle.first_fault.specs.Prefix.{Inside}
 
 -- why a lane is left out: it breaks; or, where loads may stop early, it faults, or some free elements were suppressed

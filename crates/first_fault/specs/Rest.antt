@@ -9,9 +9,9 @@ use Rattle.chunk_order.specs.Orders.{Lane, Lanes, Fine, by_item}
 use Rattle.chunk_order.specs.Regions.{run_lane}
 use Rattle.loop_form.specs.LoopItems.{Item}
 use Rattle.vector_order.specs.Items.{acts_of}
-use Rattle.vector_emit.specs.Registers.{Layout}
-use Rattle.vector_emit.specs.Chunk.{Setting, Holds}
-use Rattle.vector_emit.specs.Fits.{Assigned}
+use Rattle.chunk_emit.specs.Registers.{Layout}
+use Rattle.chunk_emit.specs.Chunk.{Setting, Holds}
+use Rattle.chunk_emit.specs.Fits.{Assigned}
 use Rattle.first_fault.specs.Region.{On, lane_left, region_way}
 use Rattle.first_fault.specs.RegionCode.{Mode, exits_words, single_words}
 use Rattle.first_fault.specs.Fits.{FitsRegion}

@@ -1,5 +1,5 @@
 -- Code of worked items, word by word.
-use Rattle.std.proofs.Common.{◌≡◌, ℕ, pos, negsuc, List, [], ◌∷◌, Some, true, false, map, refl}
+use Rattle.std.proofs.Common.{◌≡◌, pos, [], ◌∷◌, true, false, map, refl}
 use Rattle.guest_types.specs.declared.length.Width.TheVariants.{B, H, S, D}
 use Rattle.kernel_tree.specs.declared.ops.Ty.TheVariants as ty
 use Rattle.kernel_tree.specs.declared.ops.BinaryOp.TheVariants as binary

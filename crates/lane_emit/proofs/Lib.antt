@@ -10,4 +10,6 @@ pub mod Values
 pub mod Truths
 pub mod ItemRuns
 pub mod Throughout
+pub mod PlacesWithin
+mod Moved
 mod Examples

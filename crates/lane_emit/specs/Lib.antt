@@ -3,5 +3,6 @@ pub mod Stretch
 pub mod LaneCode
 pub mod ItemCode
 pub mod View
-pub mod Homes
+pub mod LoopRegisters
+pub mod RegistersView
 pub mod KernelCode

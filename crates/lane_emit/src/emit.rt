@@ -8,7 +8,7 @@ ghost use Rattle.loop_form.specs.Registers.{FitsKernel};
 ghost use Rattle.loop_form.specs.Seen.{program};
 ghost use Rattle.lane_emit.specs.ItemCode.{op_code, value_code, truth_code};
 ghost use Rattle.lane_emit.specs.KernelCode.{is_item, found_code, item_code};
-ghost use Rattle.lane_emit.specs.Homes.{registers_of, homes_of};
+ghost use Rattle.lane_emit.specs.RegistersView.{registers_of};
 ghost use Rattle.lane_emit.specs.View.{words_of, Adds};
 
 use crate::code::{apply, cast, combine, shift, z_copy};
@@ -143,8 +143,8 @@ pub fn emit_item(
     mask: GoverningReg,
     op: &LoopOp<'_>,
 ) -> Result<Vec<Sve>, AllocError>
-    ensures { let homes = registers_of registers.now in
-        IfOk result (λ code. words_of code.items ≡ op_code width homes item mask.number (op_of op.now)) }
+    ensures { let kept = registers_of registers.now in
+        IfOk result (λ code. words_of code.items ≡ op_code width kept item mask.number (op_of op.now)) }
 {
     let mut words = Vec::new(alloc);
     emit_value(&mut words, width, registers, item, op)?;
@@ -174,7 +174,8 @@ fn emit_found(
     found: Option<LoopItem<'_>>,
 ) -> Result<Vec<Sve>, AllocError>
     ensures { let wanted = option_map view_of found.entry in
-        IfOk result (λ code. words_of code.items ≡ found_code width registers.now item mask.number wanted) }
+        IfOk result (λ code. words_of code.items
+        ≡ found_code width (registers_of registers.now) item mask.number wanted) }
 {
     match found {
         None => Ok(Vec::new(alloc)),
@@ -198,8 +199,8 @@ pub fn emit_lanes(
     requires governs { mask < 8 }
     requires vectors { FitsKernel (program kernel.now) class.Z regs.now.z }
     requires predicates { FitsKernel (program kernel.now) class.P regs.now.p }
-    ensures { let homes = homes_of (program kernel.now) regs.now.z regs.now.p in
-        IfOk result (λ code. words_of code.items ≡ item_code (program kernel.now) homes item mask) }
+    ensures { let wanted = item_code (program kernel.now) regs.now.z regs.now.p item mask in
+        IfOk result (λ code. words_of code.items ≡ wanted) }
 {
     let registers = lane_registers(alloc, kernel, regs)?;
     let items = loop_items(alloc, kernel)?;

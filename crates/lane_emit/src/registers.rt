@@ -1,293 +1,161 @@
 //! The registers of a loop's values.
 
-ghost use Rattle.std.specs.Prelude.{◌≡◌, ◌+◌, ◌<◌, ◌≤◌, ◌^◌, ◌++◌, [], ◌∷◌, length, drop, map, slice_index, slice_index_or, IfOk, OnOk};
-ghost use Rattle.kernel_tree.specs.Plain.{parameters_of};
-ghost use Rattle.kernel_tree.specs.Typing.{number_of_type};
+ghost use Rattle.std.specs.Prelude.{◌≡◌, ◌+◌, ◌-◌, length, slice_get, is_some, IfOk};
 ghost use Rattle.reg_assign.specs.declared.interval.RegClass.TheVariants as class;
 ghost use Rattle.reg_assign.specs.Registers.{IsAssignment};
-ghost use Rattle.loop_form.specs.Needs.{same_type};
+ghost use Rattle.loop_form.specs.declared.loop_item.Source.TheVariants as operand;
+ghost use Rattle.loop_form.specs.Entries.{loop_entries, loop_start};
 ghost use Rattle.loop_form.specs.HeldView.{view, view_of};
+ghost use Rattle.loop_form.specs.Needs as needs;
+ghost use Rattle.loop_form.specs.Places as places;
 ghost use Rattle.loop_form.specs.Registers.{FitsKernel};
 ghost use Rattle.loop_form.specs.Seen.{program};
-ghost use Rattle.lane_emit.specs.Homes.{is_literal_held, is_scalar_held, is_index_held, held_register, home_register, value_register, truth_register, source_register, held_homes, item_homes, homes_of, name_of, held_home, value_home, truth_home, text_of};
+ghost use Rattle.lane_emit.specs.LoopRegisters.{IsWithin, flat, register_of, place_in, held_place, sum_place, source_register};
 
-use crate::home::{HeldHome, TruthHome, ValueHome};
-use kernel_tree::{Checked, Param, Ty};
-use loop_form::laws::ordered_intervals;
-use loop_form::{Held, Source, intervals, throughout};
-use reg_assign::{Assigned, Interval, RegClass, VectorRegs};
+use crate::held_place::place_among;
+use kernel_tree::Checked;
+use loop_form::laws::{few_items, placed_values};
+use loop_form::{Held, Source, throughout, value_places, vars_size_of};
+use reg_assign::{Assigned, RegClass, VectorRegs};
 use std::alloc::{AllocError, Global};
-use std::marker::Model;
 use sve_code::{GoverningReg, VectorReg};
 use word_rows::Bits;
 
-/// The vector and predicate registers of a loop's values.
+/// The vector and predicate registers of a loop's values: those that its intervals were given.
 #[derive(Drop)]
 pub struct LaneRegisters<'a> {
-    held: Vec<HeldHome<'a>>,
-    names: Vec<&'a str>,
-    values: Vec<ValueHome>,
-    truths: Vec<TruthHome>,
+    pub kernel: &'a Checked,
+    pub regs: &'a VectorRegs,
+    first: u32,
+    held: Vec<Held<'a>>,
+    values: Vec<Option<u32>>,
+    truths: Vec<Option<u32>>,
+    pub ghost begins: { first ≡ loop_start (program kernel.now) },
+    pub ghost throughout: { view held.items ≡ needs.throughout (program kernel.now) class.Z },
+    pub ghost valued: { values.items ≡ places.value_places (program kernel.now) class.Z },
+    pub ghost tested: { truths.items ≡ places.value_places (program kernel.now) class.P },
+    pub ghost vectors: { FitsKernel (program kernel.now) class.Z regs.now.z },
+    pub ghost predicates: { FitsKernel (program kernel.now) class.P regs.now.p },
 }
 
-impl<'a> Model for LaneRegisters<'a> {
-    ghost use Rattle.lane_emit.specs.Homes.{Homes, homes};
+// ---- by the place of an interval
 
-    ghost Value = { Homes };
-
-    ghost view = { λ r. homes r.held.items r.names.items r.values.items r.truths.items };
-}
-
-// ---- which value
-
-fn type_number(ty: Ty) -> u32
-    ensures { result ≡ number_of_type ty }
+// The place of an item's interval.
+fn place_of_item(places: &[Option<u32>], first: u32, item: u32) -> Option<usize>
+    ensures { result ≡ flat (slice_get places.now (item - first)) }
 {
-    match ty {
-        Ty::I8 => 0,
-        Ty::I16 => 1,
-        Ty::I32 => 2,
-        Ty::I64 => 3,
-        Ty::U8 => 4,
-        Ty::U16 => 5,
-        Ty::U32 => 6,
-        Ty::U64 => 7,
+    let number = item.saturating_sub(first) as usize;
+    let place = places.get(number).copied().flatten()?;
+    Some(place as usize)
+}
+
+// The vector register of an interval.
+fn vector_at(regs: &Assigned, place: Option<usize>) -> VectorReg
+    requires assigned { IsAssignment 30 regs.now }
+    requires within { IsWithin (length regs.now.registers) place }
+    ensures { result.number ≡ register_of 31 regs.now place }
+{
+    match place {
+        None => Bits { number: 31 },
+        Some(place) => Bits {
+            number: regs.register(place),
+        },
     }
 }
 
-fn is_same_type(left: Option<Ty>, right: Option<Ty>) -> bool
-    ensures { result ≡ same_type left right }
+// The predicate register of an interval, of those behind P0 and P1.
+fn predicate_at(regs: &Assigned, place: Option<usize>) -> GoverningReg
+    requires assigned { IsAssignment 6 regs.now }
+    requires within { IsWithin (length regs.now.registers) place }
+    ensures { result.number ≡ 2 + register_of 0 regs.now place }
 {
-    match (left, right) {
-        (None, None) => true,
-        (Some(left), Some(right)) => type_number(left) == type_number(right),
-        _ => false,
+    match place {
+        None => Bits { number: 2 },
+        Some(place) => Bits {
+            number: 2 + regs.register(place),
+        },
     }
 }
 
-fn is_literal(value: Held<'_>, ty: Option<Ty>, number: i128) -> bool
-    ensures { result ≡ is_literal_held ty number (view_of value.entry) }
-{
-    match value {
-        Held::Constant(other, literal) => is_same_type(other, ty) && literal == number,
-        _ => false,
+impl<'a> LaneRegisters<'a> {
+    ghost use Rattle.lane_emit.specs.RegistersView.{kernel_in, vectors_in, registers_of};
+
+    /// The number of the loop's first item, which is its `for`.
+    pub fn first(&self) -> u32
+        ensures { result ≡ loop_start (kernel_in self.now) }
+    {
+        self.first
     }
-}
 
-fn is_scalar(value: Held<'_>, name: &str) -> bool
-    ensures { result ≡ is_scalar_held name.now (view_of value.entry) }
-{
-    match value {
-        Held::Scalar(other) => other == name,
-        _ => false,
+    /// How many items the loop has.
+    pub fn count(&self) -> usize
+        ensures { result ≡ length (loop_entries (kernel_in self.now)) }
+    {
+        placed_values(self.kernel, RegClass::Z);
+        self.values.len()
     }
-}
 
-fn is_index(value: Held<'_>) -> bool
-    ensures { result ≡ is_index_held (view_of value.entry) }
-{
-    matches!(value, Held::Index)
-}
+    // The vector register of what is held throughout.
+    fn held_register(&self, wanted: Held<'_>) -> VectorReg
+        ensures { let place = place_in (view_of wanted.entry) (needs.throughout (kernel_in self.now) class.Z) in
+            result.number ≡ register_of 31 (vectors_in self.now) place }
+    {
+        let place = place_among(&self.held, wanted);
+        vector_at(&self.regs.z, place)
+    }
 
-// ---- its register
-
-fn literal_register(homes: &[HeldHome<'_>], ty: Option<Ty>, number: i128) -> VectorReg
-    ensures { result.number ≡ held_register (is_literal_held ty number) (map held_home homes.now) }
-{
-    for home in homes {
-        if is_literal(home.value, ty, number) {
-            return home.register;
+    // The vector register of a parameter.
+    #[tactic(auto, unfolding(loop_form::specs::Seen::program))]
+    fn param(&self, place: u32) -> VectorReg
+        ensures { result.number ≡ source_register (kernel_in self.now) (vectors_in self.now) (operand.Outer place) }
+    {
+        match self.kernel.kernel().params.get(place as usize) {
+            None => Bits { number: 31 },
+            Some(param) => self.held_register(Held::Scalar(param.name.text())),
         }
     }
-    Bits { number: 0 }
-}
 
-fn scalar_register(homes: &[HeldHome<'_>], name: &str) -> VectorReg
-    ensures { result.number ≡ held_register (is_scalar_held name.now) (map held_home homes.now) }
-{
-    for home in homes {
-        if is_scalar(home.value, name) {
-            return home.register;
-        }
-    }
-    Bits { number: 0 }
-}
-
-fn index_register(homes: &[HeldHome<'_>]) -> VectorReg
-    ensures { result.number ≡ held_register is_index_held (map held_home homes.now) }
-{
-    for home in homes {
-        if is_index(home.value) {
-            return home.register;
-        }
-    }
-    Bits { number: 0 }
-}
-
-fn value_among(homes: &[ValueHome], item: u32) -> VectorReg
-    ensures { result.number ≡ home_register item (map value_home homes.now) }
-{
-    for home in homes {
-        if home.item == item {
-            return home.register;
-        }
-    }
-    Bits { number: 0 }
-}
-
-fn truth_among(homes: &[TruthHome], item: u32) -> GoverningReg
-    ensures { result.number ≡ home_register item (map truth_home homes.now) }
-{
-    for home in homes {
-        if home.item == item {
-            return home.register;
-        }
-    }
-    Bits { number: 0 }
-}
-
-// The name at a place, and none past the last one.
-fn name_at<'a>(names: &[&'a str], place: usize) -> &'a str
-    ensures { result.now ≡ slice_index_or (map text_of names.now) place [] }
-{
-    match names.get(place) {
-        Some(name) => name,
-        None => "",
-    }
-}
-
-impl LaneRegisters<'_> {
     /// The vector register of an item's value.
     pub fn z(&self, item: u32) -> VectorReg
-        ensures { result.number ≡ value_register self.now item }
+        ensures { result.number ≡ (registers_of self.now).z item }
     {
-        value_among(&self.values, item)
+        let place = place_of_item(&self.values, self.first, item);
+        vector_at(&self.regs.z, place)
     }
 
-    /// The predicate register of an item's condition.
+    /// The predicate register of an item's condition. All of them can govern.
     pub fn p(&self, item: u32) -> GoverningReg
-        ensures { result.number ≡ truth_register self.now item }
+        ensures { result.number ≡ (registers_of self.now).p item }
     {
-        truth_among(&self.truths, item)
+        let place = place_of_item(&self.truths, self.first, item);
+        predicate_at(&self.regs.p, place)
     }
 
     /// The vector register of an operand.
     pub fn source(&self, source: Source) -> VectorReg
-        ensures { result.number ≡ source_register self.now source }
+        ensures { result.number ≡ (registers_of self.now).source source }
     {
         match source {
-            Source::Constant(ty, number) => literal_register(&self.held, ty, number),
-            Source::Outer(place) => {
-                scalar_register(&self.held, name_at(&self.names, place as usize))
-            }
-            Source::Turn => index_register(&self.held),
+            Source::Constant(ty, number) => self.held_register(Held::Constant(ty, number)),
+            Source::Outer(place) => self.param(place),
+            Source::Turn => self.held_register(Held::Index),
             Source::Made(item) => self.z(item),
         }
     }
-}
 
-// ---- of a kernel
-
-// Vector register j of those that are counted.
-fn counted_vector(regs: &Assigned, place: usize) -> VectorReg
-    requires assigned { IsAssignment 30 regs.now }
-    requires within { place < length regs.now.registers }
-    ensures { result.number ≡ slice_index regs.now.registers place }
-{
-    Bits {
-        number: regs.register(place),
+    /// The vector register of an accumulator that the loop updates.
+    pub fn sum(&self, name: &str) -> VectorReg
+        ensures { result.number ≡ register_of 31 (vectors_in self.now) (sum_place (kernel_in self.now) name.now) }
+    {
+        self.held_register(Held::Accumulating(name))
     }
-}
 
-// Predicate register j of those that are counted, behind P0 and P1.
-fn counted_predicate(regs: &Assigned, place: usize) -> GoverningReg
-    requires assigned { IsAssignment 6 regs.now }
-    requires within { place < length regs.now.registers }
-    ensures { result.number ≡ 2 + slice_index regs.now.registers place }
-{
-    Bits {
-        number: 2 + regs.register(place),
+    /// Whether the loop variable has a register.
+    pub fn is_turn_held(&self) -> bool
+        ensures { result ≡ is_some (held_place (kernel_in self.now) operand.Turn) }
+    {
+        place_among(&self.held, Held::Index).is_some()
     }
-}
-
-// The registers of what is held throughout: the first ones.
-fn held_registers<'a>(
-    alloc: Global,
-    values: &[Held<'a>],
-    regs: &Assigned,
-) -> Result<Vec<HeldHome<'a>>, AllocError>
-    requires assigned { IsAssignment 30 regs.now }
-    requires within { length values.now ≤ length regs.now.registers }
-    ensures { IfOk result (λ homes. map held_home homes.items ≡ held_homes (view values.now) regs.now.registers) }
-{
-    let mut homes = Vec::new(alloc);
-    let mut place = 0;
-    for value in values {
-        homes.push(HeldHome {
-            value: *value,
-            register: counted_vector(regs, place),
-        })?;
-        place += 1;
-    }
-    Ok(homes)
-}
-
-// The registers of the values of items, whose intervals come from a place on.
-fn value_registers(
-    alloc: Global,
-    intervals: &[Interval],
-    first: usize,
-    regs: &Assigned,
-) -> Result<Vec<ValueHome>, AllocError>
-    requires assigned { IsAssignment 30 regs.now }
-    requires within { first + length intervals.now ≤ length regs.now.registers }
-    requires few { length regs.now.registers < 2 ^ 32 }
-    ensures { IfOk result (λ homes. map value_home homes.items
-        ≡ item_homes 0 intervals.now (drop first regs.now.registers)) }
-{
-    let mut homes = Vec::new(alloc);
-    let mut place = first;
-    for interval in intervals {
-        homes.push(ValueHome {
-            item: interval.from,
-            register: counted_vector(regs, place),
-        })?;
-        place += 1;
-    }
-    Ok(homes)
-}
-
-// The registers of the conditions of items.
-fn truth_registers(
-    alloc: Global,
-    intervals: &[Interval],
-    regs: &Assigned,
-) -> Result<Vec<TruthHome>, AllocError>
-    requires assigned { IsAssignment 6 regs.now }
-    requires within { length intervals.now ≤ length regs.now.registers }
-    ensures { IfOk result (λ homes. map truth_home homes.items ≡ item_homes 2 intervals.now regs.now.registers) }
-{
-    let mut homes = Vec::new(alloc);
-    let mut place = 0;
-    for interval in intervals {
-        homes.push(TruthHome {
-            item: interval.from,
-            register: counted_predicate(regs, place),
-        })?;
-        place += 1;
-    }
-    Ok(homes)
-}
-
-// The names of parameters.
-fn param_names<'a>(alloc: Global, params: &'a [Param]) -> Result<Vec<&'a str>, AllocError>
-    ensures { IfOk result (λ names. map text_of names.items ≡ map name_of (parameters_of params.now)) }
-{
-    let mut names = Vec::new(alloc);
-    for param in params {
-        names.push(param.name.text())?;
-    }
-    Ok(names)
 }
 
 /// The registers of a kernel's loop, by those that its intervals were given.
@@ -295,24 +163,24 @@ fn param_names<'a>(alloc: Global, params: &'a [Param]) -> Result<Vec<&'a str>, A
 pub fn lane_registers<'a>(
     alloc: Global,
     kernel: &'a Checked,
-    regs: &VectorRegs,
+    regs: &'a VectorRegs,
 ) -> Result<LaneRegisters<'a>, AllocError>
     requires vectors { FitsKernel (program kernel.now) class.Z regs.now.z }
     requires predicates { FitsKernel (program kernel.now) class.P regs.now.p }
-    ensures { IfOk result (λ registers. registers ≡ homes_of (program kernel.now) regs.now.z regs.now.p) }
+    ensures kernel { IfOk result (λ registers. registers.kernel.now ≡ kernel.now) }
+    ensures regs { IfOk result (λ registers. registers.regs.now ≡ regs.now) }
 {
-    ordered_intervals(kernel, RegClass::Z);
-    let values = throughout(alloc, kernel, RegClass::Z)?;
-    let z_intervals = intervals(alloc, kernel, RegClass::Z)?;
-    let p_intervals = intervals(alloc, kernel, RegClass::P)?;
-    let count = values.len();
-    let held = held_registers(alloc, &values, &regs.z)?;
-    let names = param_names(alloc, &kernel.kernel().params)?;
-    let values = value_registers(alloc, &z_intervals[count..], count, &regs.z)?;
-    let truths = truth_registers(alloc, &p_intervals, &regs.p)?;
+    few_items(kernel);
+    let tree = kernel.kernel();
+    let first = tree.params.len() as u32 + vars_size_of(kernel, &tree.vars);
+    let held = throughout(alloc, kernel, RegClass::Z)?;
+    let values = value_places(alloc, kernel, RegClass::Z)?;
+    let truths = value_places(alloc, kernel, RegClass::P)?;
     Ok(LaneRegisters {
+        kernel,
+        regs,
+        first,
         held,
-        names,
         values,
         truths,
     })

@@ -42,7 +42,8 @@ pub fn bits_of(ty: Ty) -> u32
     }
 }
 
-fn least(ty: Ty) -> i128
+/// The least value of a type.
+pub fn least(ty: Ty) -> i128
     ensures { result ≡ right.least ty }
 {
     match ty {
@@ -54,7 +55,8 @@ fn least(ty: Ty) -> i128
     }
 }
 
-fn greatest(ty: Ty) -> i128
+/// The greatest value of a type.
+pub fn greatest(ty: Ty) -> i128
     ensures { result ≡ right.greatest ty }
 {
     match ty {

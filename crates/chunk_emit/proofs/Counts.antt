@@ -1,0 +1,162 @@
+-- How many words items have.
+use Rattle.std.proofs.Common.{◌≡◌, ℕ, suc, ◌+◌, ◌*◌, ◌≤◌, ℤ, pos, negsuc, zero, Bool, true, false, List, [], ◌∷◌, ◌++◌, length, Option, Some, None, refl, sym, ap, subst, arith}
+use Rattle.std.specs.Prelude.{if◌then◌else◌, nat_eq}
+use Rattle.std.proofs.lemmas.List.{length-append}
+use Rattle.guest_types.specs.declared.length.Width.{Width}
+use Rattle.kernel_tree.specs.declared.ops.Ty.{Ty}
+use Rattle.kernel_tree.specs.declared.ops.Ty.TheVariants as ty
+use Rattle.kernel_tree.specs.declared.ops.UnaryOp.{UnaryOp}
+use Rattle.kernel_tree.specs.declared.ops.UnaryOp.TheVariants as unary
+use Rattle.kernel_tree.specs.declared.ops.BinaryOp.{BinaryOp}
+use Rattle.kernel_tree.specs.declared.ops.BinaryOp.TheVariants as binary
+use Rattle.kernel_tree.specs.declared.ops.CompareOp.{CompareOp}
+use Rattle.kernel_tree.specs.declared.ops.CompareOp.TheVariants as compare
+use Rattle.kernel_tree.specs.Wrap.{is_signed}
+use Rattle.sve_code.specs.Table.{Name, m_abs, m_mul}
+use Rattle.machine_model.specs.InstructionTable.{Listed}
+use Rattle.loop_form.specs.LoopItems.{Op, Load, Apply, Combine, Move, Cast, Copy, Pick, Store, Add, Test, Invert, Same, Any, Quit, Item}
+use Rattle.lane_emit.specs.Right.{fits}
+use Rattle.lane_emit.specs.Stretch.{Word, word}
+use Rattle.lane_emit.specs.LaneCode.{size_of, least_name, greatest_name, unary_leaves, binary_leaves, z_copy, extension, z_extend, z_settle, unary_code, merged, binary_code, shift_by, cast_code, test_code}
+use Rattle.lane_emit.specs.ItemCode.{Registers, op_code, mask_register}
+use Rattle.chunk_emit.specs.Registers.{Layout}
+use Rattle.chunk_emit.specs.ChunkCode.{with_index, vectors, op_words, item_words, past_cast, either_words, items_words}
+use Rattle.chunk_emit.specs.ItemsRun.{FewWords}
+
+either_few : {A : Type 0} (b : Bool) (xs ys : List A) (n : ℕ) → length xs ≤ n → length ys ≤ n → length (if b then xs else ys) ≤ n
+either_few true xs ys n h k = h
+either_few false xs ys n h k = k
+
+copy_few : (d a n : ℕ) (rest : List Word) → length rest ≤ n → length (z_copy d a rest) ≤ suc n
+copy_few d a n rest h = either_few (nat_eq d a) _ _ (suc n) (omega (arith, h)) (omega (arith, h))
+
+extension_few : (t : Ty) (w : Width) (d a : ℕ) → length (extension t w d a) ≤ 1
+extension_few ty.I8 w d a = omega arith
+extension_few ty.U8 w d a = omega arith
+extension_few ty.I16 w d a = omega arith
+extension_few ty.U16 w d a = omega arith
+extension_few ty.I32 w d a = omega arith
+extension_few ty.U32 w d a = omega arith
+extension_few ty.I64 w d a = copy_few d a 0 [] (omega arith)
+extension_few ty.U64 w d a = copy_few d a 0 [] (omega arith)
+
+extend_few : (w : Width) (t : Ty) (d a : ℕ) → length (z_extend w t d a) ≤ 1
+extend_few w t d a = either_few _ (z_copy d a []) (extension t w d a) 1 (copy_few d a 0 [] (omega arith)) (extension_few t w d a)
+
+settle_few : (b : Bool) (w : Width) (t : Ty) (d : ℕ) → length (z_settle b w t d) ≤ 1
+settle_few true w t d = extend_few w t d d
+settle_few false w t d = omega arith
+
+at_most : (n : ℕ) (xs : List Word) → length xs ≤ n → n ≤ 3 → length xs ≤ 3
+at_most n xs h k = omega (arith, h, k)
+
+unary_few : (w : Width) (op : UnaryOp) (t : Ty) (d a : ℕ) → length (unary_code w op t d a) ≤ 3
+unary_few w unary.Neg t d a = let h = settle_few (unary_leaves unary.Neg t) w t d in omega (arith, h)
+unary_few w unary.Flip t d a = let h = settle_few (unary_leaves unary.Flip t) w t d in omega (arith, h)
+unary_few w unary.Abs t d a =
+    let h = settle_few (unary_leaves unary.Abs t) w t d in
+    either_few (is_signed t) (word m_abs (d ∷ a ∷ 1 ∷ size_of w ∷ []) ∷ z_settle (unary_leaves unary.Abs t) w t d) (z_copy d a []) 3 (omega (arith, h)) (at_most 1 (z_copy d a []) (copy_few d a 0 [] (omega arith)) (omega arith))
+
+merged_few : (w : Width) (name : Name) (d a b : ℕ) (rest : List Word) → length rest ≤ 1 → length (merged w name d a b rest) ≤ 3
+merged_few w name d a b rest h =
+    let second = word name (d ∷ b ∷ 1 ∷ size_of w ∷ []) ∷ rest in
+    either_few (nat_eq d b) (word name (d ∷ a ∷ 1 ∷ size_of w ∷ []) ∷ rest) (z_copy d a second) 3 (omega (arith, h)) (copy_few d a 2 second (omega (arith, h)))
+
+binary_few : (w : Width) (op : BinaryOp) (t : Ty) (d a b : ℕ) → length (binary_code w op t d a b) ≤ 3
+binary_few w binary.Add t d a b = let h = settle_few (binary_leaves binary.Add) w t d in omega (arith, h)
+binary_few w binary.Sub t d a b = let h = settle_few (binary_leaves binary.Sub) w t d in omega (arith, h)
+binary_few w binary.Mul t d a b = merged_few w m_mul d a b (z_settle (binary_leaves binary.Mul) w t d) (settle_few (binary_leaves binary.Mul) w t d)
+binary_few w binary.And t d a b = let h = settle_few (binary_leaves binary.And) w t d in omega (arith, h)
+binary_few w binary.Or t d a b = let h = settle_few (binary_leaves binary.Or) w t d in omega (arith, h)
+binary_few w binary.Xor t d a b = let h = settle_few (binary_leaves binary.Xor) w t d in omega (arith, h)
+binary_few w binary.Min t d a b = merged_few w (least_name t) d a b (z_settle (binary_leaves binary.Min) w t d) (settle_few (binary_leaves binary.Min) w t d)
+binary_few w binary.Max t d a b = merged_few w (greatest_name t) d a b (z_settle (binary_leaves binary.Max) w t d) (settle_few (binary_leaves binary.Max) w t d)
+
+shift_few : (w : Width) (left : Bool) (c : ℕ) (t : Ty) (d a : ℕ) → length (shift_by w left c t d a) ≤ 3
+shift_few w true c t d a = let h = settle_few true w t d in omega (arith, h)
+shift_few w false c t d a = either_few (nat_eq c 0) (z_copy d a []) _ 3 (at_most 1 (z_copy d a []) (copy_few d a 0 [] (omega arith)) (omega arith)) (omega arith)
+
+cast_few : (w : Width) (s t : Ty) (d a : ℕ) → length (cast_code w s t d a) ≤ 3
+cast_few w s t d a = either_few (fits s t) (z_copy d a []) (z_extend w t d a) 3 (at_most 1 (z_copy d a []) (copy_few d a 0 [] (omega arith)) (omega arith)) (at_most 1 (z_extend w t d a) (extend_few w t d a) (omega arith))
+
+test_few : (w : Width) (op : CompareOp) (t : Ty) (d m a b : ℕ) → length (test_code w op t d m a b) ≤ 3
+test_few w compare.Eq t d m a b = omega arith
+test_few w compare.Ne t d m a b = omega arith
+test_few w compare.Lt t d m a b = omega arith
+test_few w compare.Le t d m a b = omega arith
+test_few w compare.Gt t d m a b = omega arith
+test_few w compare.Ge t d m a b = omega arith
+
+op_few : (w : Width) (r : Registers) (q m : ℕ) (op : Op) → length (op_code w r q m op) ≤ 3
+op_few w r q m (Apply op (Some t) x) = unary_few w op t (r.z q) (r.source x)
+op_few w r q m (Combine op (Some t) x y) = binary_few w op t (r.z q) (r.source x) (r.source y)
+op_few w r q m (Move left k (Some t) x) = shift_few w left _ t (r.z q) (r.source x)
+op_few w r q m (Cast (Some t) to x) = cast_few w t to (r.z q) (r.source x)
+op_few w r q m (Copy t x) = at_most 1 (z_copy (r.z q) (r.source x) []) (copy_few (r.z q) (r.source x) 0 [] (omega arith)) (omega arith)
+op_few w r q m (Pick t c x y) = omega arith
+op_few w r q m (Test op (Some t) x y) = test_few w op t (r.p q) m (r.source x) (r.source y)
+op_few w r q m (Invert c) = omega arith
+op_few w r q m (Same c) = omega arith
+op_few w r q m (Any c d) = omega arith
+op_few w r q m (Apply op None x) = omega arith
+op_few w r q m (Combine op None x y) = omega arith
+op_few w r q m (Move left k None x) = omega arith
+op_few w r q m (Cast None to x) = omega arith
+op_few w r q m (Test op None x y) = omega arith
+op_few w r q m (Load a base t c) = omega arith
+op_few w r q m (Store a base t c v) = omega arith
+op_few w r q m (Add x op t v) = omega arith
+op_few w r q m (Quit c) = omega arith
+
+-- ---- items
+
+index_few : (c : ℤ) (v : Listed) → length (with_index c (v ∷ [])) ≤ 3
+index_few (pos zero) v = omega arith
+index_few (pos (suc k)) v = omega arith
+index_few (negsuc k) v = omega arith
+
+vectors-length : (vs : List Word) → length (vectors vs) ≡ length vs
+vectors-length [] = refl
+vectors-length (v ∷ vs) = ap suc (vectors-length vs)
+
+used_few : (w : Width) (l : Layout) (q m : ℕ) (op : Op) (b : Bool) → length (if b then vectors (op_code w l.registers q m op) else []) ≤ 3
+used_few w l q m op true = subst (λ n. n ≤ 3) (sym (vectors-length (op_code w l.registers q m op))) (op_few w l.registers q m op)
+used_few w l q m op false = omega arith
+
+words_few : (w : Width) (l : Layout) (q m : ℕ) (op : Op) → length (op_words w l q m op) ≤ 3
+words_few w l q m (Load a base (Some t) c) = index_few c _
+words_few w l q m (Load a base None c) = used_few w l q m (Load a base None c) _
+words_few w l q m (Apply op t x) = used_few w l q m (Apply op t x) _
+words_few w l q m (Combine op t x y) = used_few w l q m (Combine op t x y) _
+words_few w l q m (Move left k t x) = used_few w l q m (Move left k t x) _
+words_few w l q m (Cast s t x) = used_few w l q m (Cast s t x) _
+words_few w l q m (Copy t x) = used_few w l q m (Copy t x) _
+words_few w l q m (Pick t c x y) = used_few w l q m (Pick t c x y) _
+words_few w l q m (Store a base (Some t) c v) = index_few c _
+words_few w l q m (Store a base None c v) = used_few w l q m (Store a base None c v) _
+words_few w l q m (Add x op (Some t) v) = omega arith
+words_few w l q m (Add x op None v) = used_few w l q m (Add x op None v) _
+words_few w l q m (Test op t x y) = used_few w l q m (Test op t x y) _
+words_few w l q m (Invert c) = used_few w l q m (Invert c) _
+words_few w l q m (Same c) = used_few w l q m (Same c) _
+words_few w l q m (Any c d) = used_few w l q m (Any c d) _
+words_few w l q m (Quit c) = used_few w l q m (Quit c) _
+
+joined_few : (w : Width) (l : Layout) (next : Item) (o : Option Op) (both behind : List Listed) (n : ℕ) → length both ≤ 6 + n → length behind ≤ n → length (either_words w l next o both behind) ≤ 6 + n
+joined_few w l next None both behind n h k = h
+joined_few w l next (Some op) both behind n h k =
+    let few = words_few w l next.item (mask_register l.registers next.mask) op in
+    subst (λ c. c ≤ 6 + n) (sym (length-append (item_words w l (record next { op = op })) behind)) (omega (arith, k, few))
+
+pub few_words : FewWords
+few_words w l [] = omega arith
+few_words w l (it ∷ []) = words_few w l it.item (mask_register l.registers it.mask) it.op
+few_words w l (it ∷ next ∷ items) =
+    let here = words_few w l it.item (mask_register l.registers it.mask) it.op in
+    let behind = few_words w l (next ∷ items) in
+    let last = few_words w l items in
+    let n = 3 * length items in
+    let both : length (item_words w l it ++ items_words w l (next ∷ items)) ≤ 6 + 3 * length items =
+    subst (λ c. c ≤ 6 + 3 * length items) (sym (length-append (item_words w l it) (items_words w l (next ∷ items)))) (omega (arith, here, behind)) in
+    let all = joined_few w l next (past_cast it.item it.op next.op) (item_words w l it ++ items_words w l (next ∷ items)) (items_words w l items) (3 * length items) both last in
+    omega (arith, all)

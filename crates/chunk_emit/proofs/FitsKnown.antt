@@ -1,0 +1,122 @@
+-- What is known of each item of a loop of class Vector: its last use, its width, and what the class rules out.
+use Rattle.std.proofs.Common.{◌≡◌, ℕ, Bool, true, false, cond, List, [], ◌∷◌, ◌++◌, length, map, Option, Some, None, refl, sym, ap, ◌∙◌, append_assoc}
+use Rattle.std.specs.Prelude.{bytes_eq}
+use Rattle.std.specs.List.{list_any}
+use Rattle.kernel_tree.specs.declared.ops.Ty.{Ty}
+use Rattle.kernel_tree.specs.declared.ops.UpdateOp.{UpdateOp}
+use Rattle.kernel_tree.specs.Plain.{Accumulator, Program}
+use Rattle.kernel_tree.specs.Items.{loop_index}
+use Rattle.kernel_tree.specs.Typing.{check_fault}
+use Rattle.loop_form.specs.Entries.{Content, IsUpdate, Entry, entry, item_type, params_entries, vars_entries, answer_entries, loop_end, loop_entries, entries_of}
+use Rattle.loop_form.specs.Lanes.{var_type, lane_width_of}
+use Rattle.loop_form.specs.Listing.{names}
+use Rattle.loop_form.specs.Needs.{is_update, updates}
+use Rattle.loop_form.specs.Near.{HasNear, AreNear}
+use Rattle.loop_form.proofs.Near.{loop-near}
+use Rattle.dependence.specs.Classes.{is_read, computed_content, is_computed, class_of}
+use Rattle.dependence.specs.declared.reason.Class.TheVariants.{Vector}
+use Rattle.chunk_order.proofs.Sites.{bytes_told, bytes_same}
+use Rattle.chunk_order.proofs.Whole.{class_facts}
+use Rattle.chunk_emit.specs.KernelLayout.{update_of}
+use Rattle.chunk_emit.proofs.FitsEntries.{Gives, AllGive, loop_gives, any_here}
+use Rattle.chunk_emit.proofs.FitsTypes.{type_of, Matches, first_types, later_types}
+use Rattle.chunk_emit.proofs.FitsWidths.{IsWide, AreWide, loop_wide, not_read, one_operator, neither, any_none}
+use Rattle.chunk_emit.proofs.FitsUses.{IsUseCounted, AreUsesCounted, counted_left, counted_right, all_counted}
+
+-- an item of the loop
+pub record Known (k : Program) (e : Entry) : Type 0 where
+  pub gives : Gives k e
+  pub wide : IsWide k (lane_width_of k) e
+  pub used : IsUseCounted (entries_of k) e
+  pub near : HasNear (loop_index k) e.content
+  pub streamed : computed_content (loop_index k) e.content ≡ false
+  pub unread : (x : List ℕ) (t : Ty) → var_type x k.vars ≡ Some t → names x e ≡ false
+  pub operator : (x : List ℕ) (op : UpdateOp) → e.content ≡ IsUpdate x op → update_of k x ≡ op
+
+abbrev pub AllKnown : Program → List Entry → Type 0
+AllKnown k [] = Unit {0}
+AllKnown k (e ∷ es) = Known k e × AllKnown k es
+
+known_left : (k : Program) (xs ys : List Entry) → AllKnown k (xs ++ ys) → AllKnown k xs
+known_left k [] ys h = tt
+known_left k (x ∷ xs) ys h = (h.0, known_left k xs ys h.1)
+
+known_right : (k : Program) (xs ys : List Entry) → AllKnown k (xs ++ ys) → AllKnown k ys
+known_right k [] ys h = h
+known_right k (x ∷ xs) ys h = known_right k xs ys h.1
+
+-- ---- what the class rules out
+
+unread_in : (es : List Entry) (vs : List Accumulator) (x : List ℕ) (t : Ty) → list_any (is_read es) vs ≡ false → var_type x vs ≡ Some t → list_any (names x) es ≡ false
+unread_in es [] x t e f = absurd cc
+unread_in es (v ∷ vs) x t e f =
+    let parts = neither (is_read es v) (list_any (is_read es) vs) e in
+    by (bytes_eq v.name x) refl f (unread_in es vs x t parts.1) parts.0
+  where
+    by : (b : Bool) → bytes_eq v.name x ≡ b → cond b (Some v.type) (var_type x vs) ≡ Some t → (var_type x vs ≡ Some t → list_any (names x) es ≡ false) → list_any (names v.name) es ≡ false → list_any (names x) es ≡ false
+    by true g f more none = ap (λ y. list_any (names y) es) (sym (bytes_told v.name x g)) ∙ none
+    by false g f more none = more f
+
+module _ (k : Program) (vector : class_of k ≡ Vector) where
+  unread_here : (xs : List Entry) (e : Entry) (ys : List Entry) → xs ++ e ∷ ys ≡ loop_entries k → (x : List ℕ) (t : Ty) → var_type x k.vars ≡ Some t → names x e ≡ false
+  unread_here xs e ys split x t f = any_none (names x) xs e ys (ap (list_any (names x)) split ∙ unread_in (loop_entries k) k.vars x t (not_read k vector) f)
+
+  streamed_here : (xs : List Entry) (e : Entry) (ys : List Entry) → xs ++ e ∷ ys ≡ loop_entries k → is_computed (loop_index k) e ≡ false
+  streamed_here xs e ys split = any_none (is_computed (loop_index k)) xs e ys (ap (list_any (is_computed (loop_index k))) split ∙ (class_facts k vector).streamed)
+
+  operator_here : (xs : List Entry) (e : Entry) (ys : List Entry) → xs ++ e ∷ ys ≡ loop_entries k → (x : List ℕ) (op : UpdateOp) → e.content ≡ IsUpdate x op → update_of k x ≡ op
+  operator_here xs e ys split x op is =
+      one_operator k x op xs e ys vector split is (ap (list_any (updates x)) (sym split) ∙ any_here (updates x) xs e ys (ap (is_update x) is ∙ bytes_same x))
+
+  rest_known : (xs es : List Entry) → xs ++ es ≡ loop_entries k → AllGive k es → AreWide k (lane_width_of k) es → AreUsesCounted (entries_of k) es → AreNear (loop_index k) es → AllKnown k es
+  rest_known xs [] split g w u n = tt
+  rest_known xs (e ∷ es) split g w u n = (
+    record {
+      gives = g.0;
+      wide = w.0;
+      used = u.0;
+      near = n.0;
+      streamed = streamed_here xs e es split;
+      unread = unread_here xs e es split;
+      operator = operator_here xs e es split;
+    },
+    rest_known (xs ++ e ∷ []) es (append_assoc xs (e ∷ []) es ∙ split) g.1 w.1 u.1 n.1,
+  )
+
+loop_counted : (k : Program) → AreUsesCounted (entries_of k) (loop_entries k)
+loop_counted k =
+    let all = entries_of k in
+    counted_left all (loop_entries k) (answer_entries k (loop_end k) k.answer)
+    (counted_right all (vars_entries k (length k.params) k.vars) _ (counted_right all (params_entries k 0 k.params) _ (all_counted all)))
+
+pub loop_known : (k : Program) → check_fault k ≡ None → class_of k ≡ Vector → AllKnown k (loop_entries k)
+loop_known k checked vector = rest_known k vector [] (loop_entries k) refl (loop_gives k) (loop_wide k) (loop_counted k) (loop-near k checked)
+
+-- ---- parts of the listing with the types that their places want
+
+pub record Part (k : Program) (es : List Entry) (ts : List (Option Ty)) : Type 0 where
+  pub known : AllKnown k es
+  pub types : map type_of es ≡ ts
+
+pub part_left : (k : Program) (xs ys : List Entry) (ts us : List (Option Ty)) → Matches k xs ts → Part k (xs ++ ys) (ts ++ us) → Part k xs ts
+part_left k xs ys ts us m p = record { known = known_left k xs ys p.known; types = first_types k xs ys ts us m p.types }
+
+pub part_right : (k : Program) (xs ys : List Entry) (ts us : List (Option Ty)) → Matches k xs ts → Part k (xs ++ ys) (ts ++ us) → Part k ys us
+part_right k xs ys ts us m p = record { known = known_right k xs ys p.known; types = later_types k xs ys ts us m p.types }
+
+pub part_behind : (k : Program) (e : Entry) (es : List Entry) (t : Option Ty) (ts : List (Option Ty)) → Part k (e ∷ es) (t ∷ ts) → Part k es ts
+part_behind k e es t ts p = record { known = p.known.1; types = behind p.types }
+  where
+    behind : type_of e ∷ map type_of es ≡ t ∷ ts → map type_of es ≡ ts
+    behind h = cc
+
+-- item q of the loop with what it is, what uses it and the type of its value
+pub record At (k : Program) (q : ℕ) (c : Content) (u : ℕ) (t : Option Ty) : Type 0 where
+  pub known : Known k (entry k q c u)
+  pub type : item_type k q ≡ t
+
+pub at_head : (k : Program) (q : ℕ) (c : Content) (u : ℕ) (es : List Entry) (t : Option Ty) (ts : List (Option Ty)) → Part k (entry k q c u ∷ es) (t ∷ ts) → At k q c u t
+at_head k q c u es t ts p = record { known = p.known.0; type = here p.types }
+  where
+    here : item_type k q ∷ map type_of es ≡ t ∷ ts → item_type k q ≡ t
+    here h = cc

@@ -1,0 +1,166 @@
+-- Each operand of a checked kernel's loop is in a register and of its type, and each condition is needed until it is used.
+use Rattle.std.proofs.Common.{◌≡◌, ℕ, ◌+◌, ◌<◌, ◌≤◌, ℤ, Bool, true, List, [], ◌∷◌, Option, Some, None, refl, sym, ap, ◌∙◌, subst, arith}
+use Rattle.std.specs.Prelude.{is_some, option_and_then, unwrap_or}
+use Rattle.guest_types.specs.Length.{width_bits}
+use Rattle.kernel_tree.specs.declared.ops.Ty.{Ty}
+use Rattle.kernel_tree.specs.declared.ops.Ty.TheVariants.{U64}
+use Rattle.kernel_tree.specs.declared.fault.Binding.{Binding}
+use Rattle.kernel_tree.specs.declared.fault.Binding.TheVariants as binding
+use Rattle.kernel_tree.specs.Plain.{Term, Literal, Variable, Element, Unary, Operation, Shift, Conversion, Choice, Comparison, Both, Either, Not, Program}
+use Rattle.kernel_tree.specs.Wrap.{bits_of}
+use Rattle.kernel_tree.specs.Items.{stream_offset, term_size, loop_index}
+use Rattle.kernel_tree.specs.Typing.{Scope, Local, own, value_type, side_type}
+use Rattle.reg_assign.specs.declared.interval.RegClass.TheVariants.{Z, P}
+use Rattle.reg_assign.specs.Registers.{Assignment}
+use Rattle.loop_form.specs.declared.loop_item.Source.{Source}
+use Rattle.loop_form.specs.declared.loop_item.Source.TheVariants.{Constant, Made}
+use Rattle.loop_form.specs.Entries.{Content, IsLiteral, IsName, IsRead}
+use Rattle.loop_form.specs.LoopItems.{Bound, Item, source_at, array_type, home, truth_home, load_item, term_items, cond_items, loop_items_of}
+use Rattle.lane_emit.specs.ItemCode.{made_type}
+use Rattle.chunk_order.proofs.Sites.{bytes_same}
+use Rattle.chunk_emit.specs.Chunk.{Setting}
+use Rattle.chunk_emit.specs.Fits.{FitsSource, FitsOperand, FitsTruth}
+use Rattle.chunk_emit.specs.KernelLayout.{held_place, scalar_type, source_type, item_until, type_in, layout_of_loop}
+use Rattle.chunk_emit.specs.LoopFits.{FitsSetting}
+use Rattle.chunk_emit.proofs.FitsKnown.{At}
+use Rattle.chunk_emit.proofs.FitsNames.{binding_at, HomeIs, Names}
+use Rattle.chunk_emit.proofs.FitsTrees.{KnownValue, KnownTruth}
+
+-- ---- the types of items
+
+-- the type of what an item makes is that of its number
+abbrev pub IsTyped : Program → Item → Type 0
+IsTyped k it = type_in (loop_items_of k) it.item ≡ made_type it.op
+
+abbrev pub AllTyped : Program → List Item → Type 0
+AllTyped k [] = Unit {0}
+AllTyped k (it ∷ items) = IsTyped k it × AllTyped k items
+
+load_typed : (k : Program) (s : Scope) (mask : Option ℕ) (q : ℕ) (env : List Bound) (a : List ℕ) (o : Option ℤ) (rest : List Item) → AllTyped k (load_item s mask q env a o rest) → AllTyped k rest
+load_typed k s mask q env a None rest h = h
+load_typed k s mask q env a (Some c) rest h = h.1
+
+record TermTyped (k : Program) (t : Term) : Type 0 where
+  as_value : (s : Scope) (want : Option Ty) (mask : Option ℕ) (b : ℕ) (env : List Bound) (rest : List Item) → AllTyped k (term_items s want mask b env t rest) → AllTyped k rest
+  as_cond : (s : Scope) (mask : Option ℕ) (b : ℕ) (env : List Bound) (rest : List Item) → AllTyped k (cond_items s mask b env t rest) → AllTyped k rest
+
+term_typed : (k : Program) (t : Term) → TermTyped k t
+term_typed k (Literal n) = record { as_value = λ s want mask b env rest h. h; as_cond = λ s mask b env rest h. h }
+term_typed k (Variable x) = record { as_value = λ s want mask b env rest h. h; as_cond = λ s mask b env rest h. h }
+term_typed k (Element a j) = record { as_value = λ s want mask b env rest h. load_typed k s mask _ env a (stream_offset s.index j) rest h; as_cond = λ s mask b env rest h. h }
+term_typed k (Unary op e) = record { as_value = λ s want mask b env rest h. ((term_typed k e).as_value s want mask b env _ h).1; as_cond = λ s mask b env rest h. h }
+term_typed k (Operation op x y) = record { as_value = λ s want mask b env rest h. ((term_typed k y).as_value s want mask _ env _ ((term_typed k x).as_value s want mask b env _ h)).1; as_cond = λ s mask b env rest h. h }
+term_typed k (Shift to_left e n) = record { as_value = λ s want mask b env rest h. ((term_typed k e).as_value s want mask b env _ h).1; as_cond = λ s mask b env rest h. h }
+term_typed k (Conversion e t) = record { as_value = λ s want mask b env rest h. ((term_typed k e).as_value s (own s e) mask b env _ h).1; as_cond = λ s mask b env rest h. h }
+term_typed k (Choice c x y) = record {
+  as_value = λ s want mask b env rest h. ((term_typed k c).as_cond s mask _ env _ ((term_typed k y).as_value s want mask _ env _ ((term_typed k x).as_value s want mask b env _ h))).1;
+  as_cond = λ s mask b env rest h. h;
+}
+term_typed k (Comparison op x y) = record {
+  as_value = λ s want mask b env rest h. h;
+  as_cond = λ s mask b env rest h. ((term_typed k y).as_value s (side_type s x y) mask _ env _ ((term_typed k x).as_value s (side_type s x y) mask b env _ h)).1;
+}
+term_typed k (Both x y) = record {
+  as_value = λ s want mask b env rest h. h;
+  as_cond = λ s mask b env rest h. ((term_typed k y).as_cond s (Some (truth_home s.index b x)) _ env _ ((term_typed k x).as_cond s mask b env _ h)).1;
+}
+term_typed k (Either x y) = record {
+  as_value = λ s want mask b env rest h. h;
+  as_cond = λ s mask b env rest h. ((term_typed k y).as_cond s (Some (b + term_size s.index x)) _ env _ ((term_typed k x).as_cond s mask b env _ h).1).1;
+}
+term_typed k (Not e) = record { as_value = λ s want mask b env rest h. h; as_cond = λ s mask b env rest h. ((term_typed k e).as_cond s mask b env _ h).1 }
+
+pub value_behind : (k : Program) (t : Term) (s : Scope) (want : Option Ty) (mask : Option ℕ) (b : ℕ) (env : List Bound) (rest : List Item) → AllTyped k (term_items s want mask b env t rest) → AllTyped k rest
+value_behind k t = (term_typed k t).as_value
+
+pub truth_behind : (k : Program) (t : Term) (s : Scope) (mask : Option ℕ) (b : ℕ) (env : List Bound) (rest : List Item) → AllTyped k (cond_items s mask b env t rest) → AllTyped k rest
+truth_behind k t = (term_typed k t).as_cond
+
+pub made_is : (k : Program) (q : ℕ) (T : Ty) → type_in (loop_items_of k) q ≡ Some T → source_type k (Made q) ≡ T
+made_is k q T e = ap (λ o. unwrap_or o U64) e
+
+-- ---- operands
+
+module _ (k : Program) (zs ps : Assignment) (f : Setting) (setting : FitsSetting k f) where
+  abbrev i : Option (List ℕ)
+  i = loop_index k
+
+  pub at_width : (q : ℕ) (c : Content) (u : ℕ) (T : Ty) → At k q c u (Some T) → bits_of T ≤ width_bits f.w
+  at_width q c u T at = let h = at.known.wide.value T at.type in let same = ap width_bits setting.width in omega (arith, h, same)
+
+  made_fits : (q u : ℕ) (T : Ty) → q < u → item_until k Z q ≡ u → type_in (loop_items_of k) q ≡ Some T → bits_of T ≤ width_bits f.w → FitsOperand (layout_of_loop k zs ps) f.w u T (Made q)
+  made_fits q u T lt until type wide = (((lt, omega (arith, until)), made_is k q T type), wide)
+
+  literal_fits : (b u : ℕ) (T : Ty) (n : ℤ) → At k b (IsLiteral n) u (Some T) → FitsOperand (layout_of_loop k zs ps) f.w u T (Constant (Some T) n)
+  literal_fits b u T n at = ((subst (λ o. is_some (held_place k (Constant o n)) ≡ true) at.type at.known.gives.content, refl), at_width b _ u T at)
+
+  module _ (v : List Local) (tk : List (List ℕ)) (ins : Bool) (b0 : ℕ) (env : List Bound) (names : Names k b0 v env) where
+    abbrev S : Scope
+    S = record { visible = v; taken = tk; index = loop_index k; inside = ins }
+
+    home_fits : (x : List ℕ) (T : Ty) (b u : ℕ) (bd : Binding) (s : Source) → b0 ≤ u → At k b (IsName x) u (Some T) → value_type bd ≡ Some T → HomeIs k b0 x bd s → FitsSource (layout_of_loop k zs ps) u T s
+    home_fits x T b u (binding.Scalar t) s le at e h =
+        let same : t ≡ T = cc in
+        subst (FitsSource (layout_of_loop k zs ps) u T) (sym h.1) (at.known.gives.content.0 h.0 t h.2, ap scalar_type h.2 ∙ same)
+    home_fits x T b u (binding.Array t) s le at e h = absurd cc
+    home_fits x T b u (binding.Accumulator t) s le at e h = let unread = at.known.unread x t h in let read = bytes_same x in absurd cc
+    home_fits x T b u (binding.Value t) s le at e h =
+        let same : t ≡ T = cc in
+        let lt = h.before in
+        let until = h.until in
+        let used = at.known.used x h.from (bytes_same x) in
+        subst (FitsSource (layout_of_loop k zs ps) u T) (sym h.is) ((omega (arith, lt, le), omega (arith, until, used)), h.type ∙ same)
+    home_fits x T b u binding.Index s le at e h =
+        let same : U64 ≡ T = cc in
+        subst (FitsSource (layout_of_loop k zs ps) u T) (sym h.0) (at.known.gives.content.1 h.1, same)
+
+    name_fits : (x : List ℕ) (T : Ty) (b u : ℕ) → b0 ≤ u → At k b (IsName x) u (Some T) → (o : Option Binding) → binding_at v x ≡ o → option_and_then value_type o ≡ Some T → FitsSource (layout_of_loop k zs ps) u T (source_at env x)
+    name_fits x T b u le at None e g = absurd cc
+    name_fits x T b u le at (Some bd) e g = home_fits x T b u bd (source_at env x) le at g (names.home x bd e)
+
+    read_fits : (a : List ℕ) (j : Term) (T : Ty) (mask : Option ℕ) (q u : ℕ) (rest : List Item) (o : Option ℤ) (c : ℤ) → At k q (IsRead a j) u (Some T) → array_type S a ≡ Some T → o ≡ Some c → q < u → AllTyped k (load_item S mask q env a o rest) → FitsOperand (layout_of_loop k zs ps) f.w u T (Made q)
+    read_fits a j T mask q u rest o c at e g lt typed =
+        let here : AllTyped k (load_item S mask q env a (Some c) rest) = subst (λ z. AllTyped k (load_item S mask q env a z rest)) g typed in
+        made_fits q u T lt at.known.gives.value_until (here.0 ∙ e) (at_width q _ u T at)
+
+    -- the value of an expression is in a register until its user
+    pub operand_fits : (t : Term) (T : Ty) (mask : Option ℕ) (b u : ℕ) (rest : List Item) → KnownValue k S T b u t → b0 ≤ u → b + term_size i t ≤ u → AllTyped k (term_items S (Some T) mask b env t rest) → FitsOperand (layout_of_loop k zs ps) f.w u T (home i (Some T) b env t)
+    operand_fits (Literal n) T mask b u rest h from le typed = literal_fits b u T n h
+    operand_fits (Variable x) T mask b u rest h from le typed = (name_fits x T b u from h.0 (binding_at v x) refl h.1, at_width b _ u T h.0)
+    operand_fits (Element a j) T mask b u rest h from le typed = read_fits a j T mask _ u rest (stream_offset i j) h.2.offset h.0 h.1 h.2.is (omega (arith, le)) typed
+    operand_fits (Unary op x) T mask b u rest h from le typed = made_fits _ u T (omega (arith, le)) h.1.known.gives.value_until (value_behind k x S (Some T) mask b env _ typed).0 (at_width _ _ u T h.1)
+    operand_fits (Operation op x y) T mask b u rest h from le typed =
+        made_fits _ u T (omega (arith, le)) h.2.known.gives.value_until (value_behind k y S (Some T) mask _ env _ (value_behind k x S (Some T) mask b env _ typed)).0 (at_width _ _ u T h.2)
+    operand_fits (Shift to_left x n) T mask b u rest h from le typed = made_fits _ u T (omega (arith, le)) h.1.known.gives.value_until (value_behind k x S (Some T) mask b env _ typed).0 (at_width _ _ u T h.1)
+    operand_fits (Conversion x t) T mask b u rest h from le typed =
+        made_fits _ u T (omega (arith, le)) h.3.known.gives.value_until ((value_behind k x S (own S x) mask b env _ typed).0 ∙ ap Some (sym h.4)) (at_width _ _ u T h.3)
+    operand_fits (Choice c x y) T mask b u rest h from le typed =
+        made_fits _ u T (omega (arith, le)) h.3.known.gives.value_until (truth_behind k c S mask _ env _ (value_behind k y S (Some T) mask _ env _ (value_behind k x S (Some T) mask b env _ typed))).0 (at_width _ _ u T h.3)
+    operand_fits (Comparison op x y) T mask b u rest h from le typed = absurd h
+    operand_fits (Both x y) T mask b u rest h from le typed = absurd h
+    operand_fits (Either x y) T mask b u rest h from le typed = absurd h
+    operand_fits (Not x) T mask b u rest h from le typed = absurd h
+
+-- ---- conditions
+
+-- the item of a condition stands among its items, and is used last by `user`
+pub record TruthIs (k : Program) (b user : ℕ) (t : Term) : Type 0 where
+  pub before : truth_home (loop_index k) b t < b + term_size (loop_index k) t
+  pub until : item_until k P (truth_home (loop_index k) b t) ≡ user
+
+pub truth_is : (k : Program) (s : Scope) (t : Term) (b user : ℕ) → KnownTruth k s b user t → TruthIs k b user t
+truth_is k s (Comparison op x y) b user h = record { before = omega arith; until = h.4.known.gives.truth_until }
+truth_is k s (Both x y) b user h = record { before = omega arith; until = h.2.known.gives.truth_until }
+truth_is k s (Either x y) b user h = record { before = omega arith; until = h.3.known.gives.truth_until }
+truth_is k s (Not x) b user h = record { before = omega arith; until = h.1.known.gives.truth_until }
+truth_is k s (Literal n) b user h = absurd h
+truth_is k s (Variable x) b user h = absurd h
+truth_is k s (Element a j) b user h = absurd h
+truth_is k s (Unary op x) b user h = absurd h
+truth_is k s (Operation op x y) b user h = absurd h
+truth_is k s (Shift to_left x n) b user h = absurd h
+truth_is k s (Conversion x t) b user h = absurd h
+truth_is k s (Choice c x y) b user h = absurd h
+
+pub truth_lasts : (k : Program) (zs ps : Assignment) (t : Term) (b user r : ℕ) → TruthIs k b user t → b + term_size (loop_index k) t ≤ r → r ≤ user → FitsTruth (layout_of_loop k zs ps) r (truth_home (loop_index k) b t)
+truth_lasts k zs ps t b user r h from to = let lt = h.before in let until = h.until in (omega (arith, lt, from), omega (arith, until, to))

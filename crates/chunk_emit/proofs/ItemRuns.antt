@@ -1,0 +1,205 @@
+-- The code of items does what they do one after another over the lanes of a chunk.
+use Rattle.std.proofs.Common.{◌≡◌, ℕ, ◌+◌, ◌≤◌, ℤ, Bool, true, false, not, ◌&&◌, ◌||◌, List, [], ◌∷◌, ◌++◌, length, Option, Some, None, refl, sym, ap, subst, arith}
+use Rattle.std.specs.Prelude.{if◌then◌else◌, nat_eq}
+use Rattle.std.proofs.lemmas.List.{length-append}
+use Rattle.std.proofs.lemmas.Bool.{eqb-true}
+use Rattle.kernel_tree.specs.declared.ops.Ty.{Ty}
+use Rattle.kernel_meaning.specs.Operators.{unary_value, binary_value, shift_value, compare_on}
+use Rattle.kernel_meaning.specs.Eval.{choose_value}
+use Rattle.kernel_tree.specs.Wrap.{wrap}
+use Rattle.machine_model.specs.InstructionTable.{Listed}
+use Rattle.machine_model.specs.Machine.{State}
+use Rattle.label_fix.specs.DraftRun.{Entry, Put, Laid}
+use Rattle.label_fix.proofs.Steps.{stay, chain, stop_after, stop_more}
+use Rattle.chunk_order.specs.Orders.{Lanes, Out, Fine, Fail, go_on, column, by_item}
+use Rattle.loop_form.specs.declared.loop_item.Source.{Source}
+use Rattle.loop_form.specs.declared.loop_item.Source.TheVariants.{Constant, Outer, Turn, Made}
+use Rattle.loop_form.specs.LoopItems.{Op, Load, Apply, Combine, Move, Cast, Copy, Pick, Store, Add, Test, Invert, Same, Any, Quit}
+use Rattle.chunk_order.specs.Items.{source_value, on_mask}
+use Rattle.vector_order.specs.Items.{item_act, acts_of}
+use Rattle.lane_emit.specs.ItemCode.{mask_register}
+use Rattle.chunk_emit.specs.Registers.{Layout}
+use Rattle.chunk_emit.specs.ChunkCode.{past_cast, op_words, item_words, either_words, items_words, puts}
+use Rattle.chunk_emit.specs.Chunk.{Setting, Holds}
+use Rattle.chunk_emit.specs.Fits.{Assigned, FitsMask, FitsOp, NoneBetween, behind_items}
+use Rattle.chunk_emit.specs.ItemsRun.{Does, does_fine, does_fail, ItemsRun}
+use Rattle.chunk_emit.proofs.States.{holds_later, operand_right, truth_right}
+use Rattle.chunk_emit.proofs.Pures.{value_runs, truth_runs}
+use Rattle.chunk_emit.proofs.Loads.{load_runs}
+use Rattle.chunk_emit.proofs.StoreRuns.{store_runs}
+use Rattle.chunk_emit.proofs.Updates.{update_runs}
+use Rattle.chunk_emit.proofs.CastStores.{pair_runs}
+
+module _ (l : Layout) (fit : Assigned l) (f : Setting) (d : Laid) (rest : List Entry) {p : ℕ} {t : Lanes} {s : State} (h : Holds l f p t s) (mask : Option ℕ) (fm : FitsMask l p mask) where
+  abbrev m : ℕ
+  m = mask_register l.registers mask
+
+  abbrev OpDoes : Op → Type 0
+  OpDoes op = Does l f d (puts (op_words f.w l p m op) rest) s rest (p + 1) (length (op_words f.w l p m op)) (column (item_act f.names (record { item = p; mask = mask; op = op })) f.n f.i t)
+
+  pub op_runs : (op : Op) → FitsOp l f p op → OpDoes op
+  op_runs (Load a (Outer x) (Some ty) c) k = load_runs l fit f d rest p t mask fm a x ty c k.0.0 k.0.1 k.2 k.4 k.3 h k.1
+  op_runs (Load a (Constant u z) (Some ty) c) k = absurd k.0
+  op_runs (Load a Turn (Some ty) c) k = absurd k.0
+  op_runs (Load a (Made q) (Some ty) c) k = absurd k.0
+  op_runs (Load a base None c) k = absurd k
+  op_runs (Apply op (Some ty) x) k =
+      value_runs l fit f d rest h mask fm (Apply op (Some ty) x) (λ j a. unary_value op (Some ty) (source_value f.names j a x)) ty refl refl k.1 (operand_right h fit ty x k.0) (λ j mem a. refl) refl
+  op_runs (Apply op None x) k = absurd k
+  op_runs (Combine op (Some ty) x y) k =
+      value_runs l fit f d rest h mask fm (Combine op (Some ty) x y) (λ j a. binary_value op (Some ty) (source_value f.names j a x) (source_value f.names j a y)) ty refl refl k.2
+      (operand_right h fit ty x k.0, operand_right h fit ty y k.1) (λ j mem a. refl) refl
+  op_runs (Combine op None x y) k = absurd k
+  op_runs (Move left n (Some ty) x) k =
+      value_runs l fit f d rest h mask fm (Move left n (Some ty) x) (λ j a. shift_value left n (Some ty) (source_value f.names j a x)) ty refl refl k.2 (operand_right h fit ty x k.0, k.1) (λ j mem a. refl) refl
+  op_runs (Move left n None x) k = absurd k
+  op_runs (Cast (Some own) ty x) k =
+      value_runs l fit f d rest h mask fm (Cast (Some own) ty x) (λ j a. wrap ty (source_value f.names j a x)) ty refl refl k.2 (operand_right h fit own x k.0, k.1) (λ j mem a. refl) refl
+  op_runs (Cast None ty x) k = absurd k
+  op_runs (Copy (Some ty) x) k = value_runs l fit f d rest h mask fm (Copy (Some ty) x) (λ j a. source_value f.names j a x) ty refl refl k.1 (operand_right h fit ty x k.0) (λ j mem a. refl) refl
+  op_runs (Copy None x) k = absurd k
+  op_runs (Pick (Some ty) c x y) k =
+      value_runs l fit f d rest h mask fm (Pick (Some ty) c x y) (λ j a. choose_value (a.truth c) (source_value f.names j a x) (source_value f.names j a y)) ty refl refl k.3
+      (truth_right h c k.0, operand_right h fit ty x k.1, operand_right h fit ty y k.2) (λ j mem a. refl) refl
+  op_runs (Pick None c x y) k = absurd k
+  op_runs (Store a (Outer x) (Some ty) c v) k = store_runs l fit f d rest p t mask fm a x ty c v k.0.0 k.0.1 k.2 k.3 h k.1
+  op_runs (Store a (Constant u z) (Some ty) c v) k = absurd k.0
+  op_runs (Store a Turn (Some ty) c v) k = absurd k.0
+  op_runs (Store a (Made q) (Some ty) c v) k = absurd k.0
+  op_runs (Store a base None c v) k = absurd k
+  op_runs (Add x op (Some ty) v) k = update_runs l fit f d rest h mask fm x op ty v k.0 k.1 k.2 k.3 k.4
+  op_runs (Add x op None v) k = absurd k
+  op_runs (Test op (Some ty) x y) k =
+      truth_runs l fit f d rest h mask fm (Test op (Some ty) x y) (λ j a. on_mask mask a && compare_on op (source_value f.names j a x) (source_value f.names j a y)) refl k.2
+      (operand_right h fit ty x k.0, operand_right h fit ty y k.1) (λ j mem a. refl) refl
+  op_runs (Test op None x y) k = absurd k
+  op_runs (Invert c) k = truth_runs l fit f d rest h mask fm (Invert c) (λ j a. on_mask mask a && not (a.truth c)) refl k.1 (truth_right h c k.0) (λ j mem a. refl) refl
+  op_runs (Same c) k = truth_runs l fit f d rest h mask fm (Same c) (λ j a. on_mask mask a && a.truth c) refl k.1 (truth_right h c k.0) (λ j mem a. refl) refl
+  op_runs (Any b c) k = truth_runs l fit f d rest h mask fm (Any b c) (λ j a. on_mask mask a && (a.truth b || a.truth c)) refl k.2 (truth_right h b k.0, truth_right h c k.1) (λ j mem a. refl) refl
+  op_runs (Quit c) k = absurd k
+
+-- ---- a list of items
+
+pub puts-append : (is js : List Listed) (rest : List Entry) → puts (is ++ js) rest ≡ puts is (puts js rest)
+puts-append [] js rest = refl
+puts-append (i ∷ is) js rest = ap (λ es. Put i ∷ es) (puts-append is js rest)
+
+then_does : {l : Layout} {f : Setting} {d : Laid} {c e rest : List Entry} {s : State} {p q m n : ℕ} {out : Out} (most : ℕ) (next : Lanes → Out) → most ≡ m + n → Does l f d c s e p m out → ((t : Lanes) (u : State) → Holds l f p t u → Does l f d e u rest q n (next t)) → Does l f d c s rest q most (go_on out next)
+then_does {l = l} {f = f} {d = d} {c = c} {e = e} {rest = rest} {s = s} {q = q} {n = n} most next total (does_fine {t = t} end goes holds) more = after (more t end holds)
+  where
+    after : {out : Out} → Does l f d e end rest q n out → Does l f d c s rest q most out
+    after (does_fine last on held) = does_fine last (chain most (omega (arith, total)) goes on) held
+    after (does_fail kind access stops) = does_fail kind access (stop_after most (omega (arith, total)) goes stops)
+then_does most next total (does_fail kind access stops) more = does_fail kind access (stop_more most (omega (arith, total)) stops)
+
+-- what a store behind a cast is
+pub record Taken (q : ℕ) (op next joined : Op) : Type 0 where
+  pub own : Option Ty
+  pub cast : Ty
+  pub x : Source
+  pub a : List ℕ
+  pub base : Source
+  pub ty : Option Ty
+  pub c : ℤ
+  pub op_is : op ≡ Cast own cast x
+  pub next_is : next ≡ Store a base ty c (Made q)
+  pub joined_is : joined ≡ Store a base ty c x
+
+made_taken : (q r : ℕ) (own : Option Ty) (cast : Ty) (x : Source) (a : List ℕ) (base : Source) (ty : Option Ty) (c : ℤ) (joined : Op) (b : Bool) → nat_eq q r ≡ b → (if b then Some (Store a base ty c x) else None) ≡ Some joined → Taken q (Cast own cast x) (Store a base ty c (Made r)) joined
+made_taken q r own cast x a base ty c joined true e h = record {
+  own = own;
+  cast = cast;
+  x = x;
+  a = a;
+  base = base;
+  ty = ty;
+  c = c;
+  op_is = refl;
+  next_is = ap (λ k. Store a base ty c (Made k)) (sym (eqb-true q r e));
+  joined_is = let same : Store a base ty c x ≡ joined = cc in sym same;
+}
+made_taken q r own cast x a base ty c joined false e h = absurd cc
+
+pub taken : (q : ℕ) (op next joined : Op) → past_cast q op next ≡ Some joined → Taken q op next joined
+taken q (Cast s t x) (Store a base ty c (Made r)) joined h = made_taken q r s t x a base ty c joined (nat_eq q r) refl h
+taken q (Cast s t x) (Store a base ty c (Constant u z)) joined h = absurd cc
+taken q (Cast s t x) (Store a base ty c (Outer p)) joined h = absurd cc
+taken q (Cast s t x) (Store a base ty c Turn) joined h = absurd cc
+taken q (Cast s t x) (Load a base ty c) joined h = absurd cc
+taken q (Cast s t x) (Apply op ty y) joined h = absurd cc
+taken q (Cast s t x) (Combine op ty y z) joined h = absurd cc
+taken q (Cast s t x) (Move left n ty y) joined h = absurd cc
+taken q (Cast s t x) (Cast own ty y) joined h = absurd cc
+taken q (Cast s t x) (Copy ty y) joined h = absurd cc
+taken q (Cast s t x) (Pick ty c y z) joined h = absurd cc
+taken q (Cast s t x) (Add v op ty y) joined h = absurd cc
+taken q (Cast s t x) (Test op ty y z) joined h = absurd cc
+taken q (Cast s t x) (Invert c) joined h = absurd cc
+taken q (Cast s t x) (Same c) joined h = absurd cc
+taken q (Cast s t x) (Any c d) joined h = absurd cc
+taken q (Cast s t x) (Quit c) joined h = absurd cc
+taken q (Load a base ty c) next joined h = absurd cc
+taken q (Apply op ty y) next joined h = absurd cc
+taken q (Combine op ty y z) next joined h = absurd cc
+taken q (Move left n ty y) next joined h = absurd cc
+taken q (Copy ty y) next joined h = absurd cc
+taken q (Pick ty c y z) next joined h = absurd cc
+taken q (Store a base ty c v) next joined h = absurd cc
+taken q (Add v op ty y) next joined h = absurd cc
+taken q (Test op ty y z) next joined h = absurd cc
+taken q (Invert c) next joined h = absurd cc
+taken q (Same c) next joined h = absurd cc
+taken q (Any c d) next joined h = absurd cc
+taken q (Quit c) next joined h = absurd cc
+
+-- both items as one step
+module _ (l : Layout) (fit : Assigned l) (f : Setting) (d : Laid) (rest : List Entry) {q p : ℕ} {t : Lanes} {s : State} (h : Holds l f q t s) (first second : Option ℕ) (mask : FitsMask l q first) (behind_mask : FitsMask l p second) (lt : q + 1 ≤ p) (between : NoneBetween l (q + 1) p) (last : l.z_until q ≤ p) where
+  abbrev PairDoes : (op next joined : Op) → Type 0
+  PairDoes op next joined =
+      Does l f d (puts (op_words f.w l p (mask_register l.registers second) joined) rest) s rest (p + 1) (length (op_words f.w l p (mask_register l.registers second) joined))
+      (go_on (column (item_act f.names (record { item = q; mask = first; op = op })) f.n f.i t) (column (item_act f.names (record { item = p; mask = second; op = next })) f.n f.i))
+
+  cast_store : (own : Option Ty) (cast : Ty) (x : Source) (a : List ℕ) (base : Source) (ty : Option Ty) (c : ℤ) → FitsOp l f q (Cast own cast x) → FitsOp l f p (Store a base ty c (Made q)) → PairDoes (Cast own cast x) (Store a base ty c (Made q)) (Store a base ty c x)
+  cast_store (Some own) cast x a (Outer place) (Some ty) c k j =
+      pair_runs l fit f d rest q p first second own cast x a place ty c mask behind_mask k.0 k.2 j.0.0 j.0.1 j.1 j.2.0.1 j.2.1 j.3 (omega (arith, lt)) between last t s h
+  cast_store (Some own) cast x a (Constant u z) (Some ty) c k j = absurd j.0
+  cast_store (Some own) cast x a Turn (Some ty) c k j = absurd j.0
+  cast_store (Some own) cast x a (Made r) (Some ty) c k j = absurd j.0
+  cast_store (Some own) cast x a base None c k j = absurd j
+  cast_store None cast x a base ty c k j = absurd k
+
+  pair_does : (op next joined : Op) → Taken q op next joined → FitsOp l f q op → FitsOp l f p next → PairDoes op next joined
+  pair_does op next joined is k j =
+      subst (λ o. PairDoes o next joined) (sym is.op_is)
+      (subst (λ o. PairDoes (Cast is.own is.cast is.x) o joined) (sym is.next_is)
+      (subst (λ o. PairDoes (Cast is.own is.cast is.x) (Store is.a is.base is.ty is.c (Made q)) o) (sym is.joined_is)
+      (cast_store is.own is.cast is.x is.a is.base is.ty is.c (subst (FitsOp l f q) is.op_is k) (subst (FitsOp l f p) is.next_is j))))
+
+in_turn : (o : Out) (g h : Lanes → Out) → go_on (go_on o g) h ≡ go_on o (λ s. go_on (g s) h)
+in_turn (Fine s) g h = refl
+in_turn (Fail m) g h = refl
+
+pub items_run : ItemsRun
+items_run l f d rest [] p t s fit k h = does_fine s (stay 0) h
+items_run l f d rest (it ∷ []) p t s fit k h =
+    let here = op_runs l fit f d rest (holds_later h it.item k.0 k.1) it.mask k.2 it.op k.3 in
+    then_does (length (item_words f.w l it)) (by_item [] f.n f.i) (omega arith) here (λ u v held. does_fine v (stay 0) held)
+items_run l f d rest (it ∷ next ∷ items) p t s fit k h =
+    step (past_cast it.item it.op next.op) refl (λ u v held. items_run l f d rest (next ∷ items) (it.item + 1) u v fit k.5 held) (λ u v held. items_run l f d rest items (next.item + 1) u v fit k.5.5 held)
+  where
+    step : (o : Option Op) → past_cast it.item it.op next.op ≡ o
+        → ((u : Lanes) (v : State) → Holds l f (it.item + 1) u v → Does l f d (puts (items_words f.w l (next ∷ items)) rest) v rest (behind_items p (it ∷ next ∷ items)) (length (items_words f.w l (next ∷ items))) (by_item (acts_of f.names (next ∷ items)) f.n f.i u))
+        → ((u : Lanes) (v : State) → Holds l f (next.item + 1) u v → Does l f d (puts (items_words f.w l items) rest) v rest (behind_items p (it ∷ next ∷ items)) (length (items_words f.w l items)) (by_item (acts_of f.names items) f.n f.i u))
+        → Does l f d (puts (either_words f.w l next o (item_words f.w l it ++ items_words f.w l (next ∷ items)) (items_words f.w l items)) rest) s rest (behind_items p (it ∷ next ∷ items))
+        (length (either_words f.w l next o (item_words f.w l it ++ items_words f.w l (next ∷ items)) (items_words f.w l items))) (by_item (acts_of f.names (it ∷ next ∷ items)) f.n f.i t)
+    step None e more last =
+        let words = item_words f.w l it in
+        let here = op_runs l fit f d (puts (items_words f.w l (next ∷ items)) rest) (holds_later h it.item k.0 k.1) it.mask k.2 it.op k.3 in
+        subst (λ es. Does l f d es s rest (behind_items p (it ∷ next ∷ items)) (length (words ++ items_words f.w l (next ∷ items))) (by_item (acts_of f.names (it ∷ next ∷ items)) f.n f.i t)) (sym (puts-append words (items_words f.w l (next ∷ items)) rest))
+        (then_does (length (words ++ items_words f.w l (next ∷ items))) (by_item (acts_of f.names (next ∷ items)) f.n f.i) (length-append words (items_words f.w l (next ∷ items))) here more)
+    step (Some joined) e more last =
+        let words = item_words f.w l (record next { op = joined }) in
+        let here = pair_does l fit f d (puts (items_words f.w l items) rest) (holds_later h it.item k.0 k.1) it.mask next.mask k.2 k.5.2 k.5.0 k.5.1 (k.4 joined e) it.op next.op joined (taken it.item it.op next.op joined e) k.3 k.5.3 in
+        subst (λ es. Does l f d es s rest (behind_items p (it ∷ next ∷ items)) (length (words ++ items_words f.w l items)) (by_item (acts_of f.names (it ∷ next ∷ items)) f.n f.i t)) (sym (puts-append words (items_words f.w l items) rest))
+        (subst (λ o. Does l f d (puts words (puts (items_words f.w l items) rest)) s rest (behind_items p (it ∷ next ∷ items)) (length (words ++ items_words f.w l items)) o) (in_turn (column (item_act f.names it) f.n f.i t) (column (item_act f.names next) f.n f.i) (by_item (acts_of f.names items) f.n f.i))
+        (then_does (length (words ++ items_words f.w l items)) (by_item (acts_of f.names items) f.n f.i) (length-append words (items_words f.w l items)) here last))

@@ -1,0 +1,36 @@
+pub mod Puts
+pub mod Chosen
+pub mod Columns
+pub mod States
+pub mod Pures
+pub mod Indexes
+pub mod LoadForms
+pub mod Loads
+pub mod StoredBits
+pub mod StoreRuns
+pub mod Updates
+pub mod CastStores
+pub mod ItemRuns
+pub mod Counts
+pub mod LoopPart
+pub mod FitsIntervals
+pub mod FitsAssigned
+pub mod FitsParts
+pub mod FitsEntries
+pub mod FitsWidths
+pub mod FitsTypes
+pub mod FitsTyped
+pub mod FitsNumbers
+pub mod FitsBases
+pub mod FitsUses
+pub mod FitsKnown
+pub mod FitsNames
+pub mod FitsTrees
+pub mod FitsSources
+pub mod FitsPlaces
+pub mod FitsTerms
+pub mod FitsWrites
+pub mod FitsStatements
+pub mod FitsLoop
+mod LayoutExamples
+mod Examples

@@ -1,0 +1,14 @@
+use Rattle.std.proofs.Common.{ap, ◌∙◌, ◌++◌}
+use Rattle.chunk_emit.specs.View.{layout_in, width_in}
+use Rattle.chunk_emit.proofs.Chosen.{writable_behind, none_left}
+use Rattle.chunk_emit.proofs.items.emit_items.Goals as goal
+
+pub loop-place-preserved : goal.loop-place-preserved
+loop-place-preserved c = record {
+  writable = writable_behind (width_in c.args.layout.now) c.args.items.now c.loop-place.place c.loop-place.invariant.writable;
+  labels = c.in_ok-done.ensures.labels ∙ c.loop-place.invariant.labels;
+  code = λ rest. c.in_ok-done.ensures.code rest ∙ c.loop-place.invariant.code rest;
+}
+
+pub returns-clause-code : goal.returns-clause-code
+returns-clause-code c rest = ap (λ e. c.loop-place.draft.entries ++ e) (none_left (width_in c.args.layout.now) (layout_in c.args.layout.now) c.loop-place.done c.args.items.now c.loop-place.place rest c.loop-place-test.false) ∙ c.loop-place.invariant.code rest

@@ -1,0 +1,127 @@
+-- The code of items over the lanes of a chunk. P0 is true in the lanes of the chunk, X9 is the iteration of the first one, and
+-- X26 is free.
+use Rattle.std.specs.Prelude.{ℕ, zero, suc, ℤ, pos, negsuc, Bool, false, List, [], ◌∷◌, ◌++◌, Option, Some, None, nat_eq, if◌then◌else◌}
+use Rattle.guest_types.specs.declared.length.Width.{Width}
+use Rattle.guest_types.specs.declared.length.Width.TheVariants.{B, H, S, D}
+use Rattle.kernel_tree.specs.declared.ops.Ty.{Ty}
+use Rattle.kernel_tree.specs.declared.ops.Ty.TheVariants as ty
+use Rattle.a64_code.specs.Table as a64
+use Rattle.sve_code.specs.Table.{ld1, st1}
+use Rattle.machine_model.specs.InstructionTable.{Listed, Scalar, Vector}
+use Rattle.label_fix.specs.DraftRun.{Entry, Put}
+use Rattle.loop_form.specs.declared.loop_item.Source.{Source}
+use Rattle.loop_form.specs.declared.loop_item.Source.TheVariants.{Constant, Outer, Turn, Made}
+use Rattle.loop_form.specs.LoopItems.{Op, Load, Cast, Store, Add, Item}
+use Rattle.lane_emit.specs.Stretch.{Word, word}
+use Rattle.lane_emit.specs.LaneCode.{size_of}
+use Rattle.lane_emit.specs.ItemCode.{mask_register, op_code}
+use Rattle.reductions.specs.AccumulatorLanes.{update_code}
+use Rattle.chunk_emit.specs.Registers.{Layout, z_of, base_of, is_used}
+
+-- ---- places of elements
+
+-- X26 = X9 + c, where c is not 0, and the words behind
+abbrev pub with_index : ℤ → List Listed → List Listed
+with_index (pos zero) rest = rest
+with_index (pos (suc k)) rest = Scalar (record { name = a64.add_imm; numbers = 26 ∷ 9 ∷ suc k ∷ 0 ∷ [] }) ∷ rest
+with_index (negsuc k) rest = Scalar (record { name = a64.sub_imm; numbers = 26 ∷ 9 ∷ suc k ∷ 0 ∷ [] }) ∷ rest
+
+-- the register that then holds X9 + c
+abbrev pub index_of : ℤ → ℕ
+index_of (pos zero) = 9
+index_of (pos (suc k)) = 26
+index_of (negsuc k) = 26
+
+-- ---- loads and stores
+
+-- the width of a type in memory, as fields name it
+abbrev pub memory_size : Ty → ℕ
+memory_size ty.I8 = 0
+memory_size ty.U8 = 0
+memory_size ty.I16 = 1
+memory_size ty.U16 = 1
+memory_size ty.I32 = 2
+memory_size ty.U32 = 2
+memory_size ty.I64 = 3
+memory_size ty.U64 = 3
+
+-- The field dtype of a load of a type into lanes that are no narrower: it extends the sign of a signed type, where the lane is
+-- wider.
+abbrev pub dtype_of : Ty → Width → ℕ
+dtype_of ty.U8 B = 0
+dtype_of ty.U8 H = 1
+dtype_of ty.U8 S = 2
+dtype_of ty.U8 D = 3
+dtype_of ty.I8 B = 0
+dtype_of ty.I8 H = 14
+dtype_of ty.I8 S = 13
+dtype_of ty.I8 D = 12
+dtype_of ty.U16 S = 6
+dtype_of ty.U16 D = 7
+dtype_of ty.U16 _ = 5
+dtype_of ty.I16 S = 9
+dtype_of ty.I16 D = 8
+dtype_of ty.I16 _ = 5
+dtype_of ty.U32 D = 11
+dtype_of ty.U32 _ = 10
+dtype_of ty.I32 D = 4
+dtype_of ty.I32 _ = 10
+dtype_of ty.I64 w = 15
+dtype_of ty.U64 w = 15
+
+-- LD1 d, m/Z, [base, index, lsl]
+abbrev pub load_word : Width → Ty → (d m base index : ℕ) → Word
+load_word w t d m base index = word ld1 (d ∷ base ∷ m ∷ index ∷ dtype_of t w ∷ [])
+
+-- ST1 v, m, [base, index, lsl]
+abbrev pub store_word : Width → Ty → (v m base index : ℕ) → Word
+store_word w t v m base index = word st1 (v ∷ base ∷ m ∷ index ∷ size_of w ∷ memory_size t ∷ [])
+
+-- ---- items
+
+abbrev pub vectors : List Word → List Listed
+vectors [] = []
+vectors (v ∷ vs) = Vector v ∷ vectors vs
+
+-- an item under the mask in predicate register m; one whose value is not used has no code
+abbrev pub op_words : Width → Layout → (q m : ℕ) → Op → List Listed
+op_words w l q m (Load a base (Some t) c) = with_index c (Vector (load_word w t (z_of l q) m (base_of base) (index_of c)) ∷ [])
+op_words w l q m (Store a base (Some t) c v) = with_index c (Vector (store_word w t (l.registers.source v) m (base_of base) (index_of c)) ∷ [])
+op_words w l q m (Add x op (Some t) v) = vectors (update_code w op t (l.sum x) m (l.registers.source v))
+op_words w l q m op = if is_used l op q then vectors (op_code w l.registers q m op) else []
+
+abbrev pub item_words : Width → Layout → Item → List Listed
+item_words w l it = op_words w l it.item (mask_register l.registers it.mask) it.op
+
+-- ---- a cast that a store takes
+
+-- whether an operand is the value of item q
+abbrev pub is_made : ℕ → Source → Bool
+is_made q (Made r) = nat_eq q r
+is_made q (Constant t z) = false
+is_made q (Outer p) = false
+is_made q Turn = false
+
+-- The store behind item q, where it takes the item's value and the item is a cast: it stores the cast's operand, since it keeps
+-- the low bytes alone.
+abbrev pub past_cast : (q : ℕ) → (op next : Op) → Option Op
+past_cast q (Cast s t x) (Store a base ty c v) = if is_made q v then Some (Store a base ty c x) else None
+past_cast q _ _ = None
+
+-- the code of the store alone, where there is one, or that of both items, and that of the items behind it
+abbrev pub either_words : Width → Layout → Item → Option Op → (both behind : List Listed) → List Listed
+either_words w l next None both behind = both
+either_words w l next (Some op) both behind = item_words w l (record next { op = op }) ++ behind
+
+-- ---- lists of items
+
+abbrev pub items_words : Width → Layout → List Item → List Listed
+items_words w l [] = []
+items_words w l (it ∷ []) = item_words w l it
+items_words w l (it ∷ next ∷ items) =
+    either_words w l next (past_cast it.item it.op next.op) (item_words w l it ++ items_words w l (next ∷ items)) (items_words w l items)
+
+-- instructions, and the entries behind them
+abbrev pub puts : List Listed → List Entry → List Entry
+puts [] rest = rest
+puts (i ∷ is) rest = Put i ∷ puts is rest

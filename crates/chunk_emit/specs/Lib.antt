@@ -1,0 +1,12 @@
+pub mod Registers
+pub mod ChunkCode
+pub mod Chunk
+pub mod Fits
+pub mod ItemsRun
+pub mod KernelLayout
+pub mod LoopFits
+pub mod Head
+pub mod Writable
+pub mod View
+pub mod Steps
+pub mod LastUses

@@ -1,0 +1,243 @@
+//! The code of items over the lanes of a chunk.
+
+ghost use Rattle.std.specs.Prelude.{◌≡◌, ◌<◌, ◌≤◌, List, [], ◌∷◌, ◌++◌, unsigned_abs, OnOk, if◌then◌else◌};
+ghost use Rattle.machine_model.specs.InstructionTable.{Listed, Vector};
+ghost use Rattle.label_fix.specs.DraftRun as plain;
+ghost use Rattle.loop_form.specs.LoopView.{op_of, view_of};
+ghost use Rattle.sve_code.specs.Seen.{seen};
+ghost use Rattle.lane_emit.specs.ItemCode as lane;
+ghost use Rattle.lane_emit.specs.LaneCode.{size_of};
+ghost use Rattle.lane_emit.specs.View.{words_of};
+ghost use Rattle.reductions.specs.AccumulatorLanes.{update_code};
+ghost use Rattle.chunk_emit.specs.Registers as layouts;
+ghost use Rattle.chunk_emit.specs.ChunkCode as code;
+ghost use Rattle.chunk_emit.specs.Writable.{IsPlace, IsWritable};
+ghost use Rattle.chunk_emit.specs.View.{AppendsPuts, layout_in, width_in};
+
+use crate::layout::LoopLayout;
+use crate::words::{base_register, index_register, index_word, load, store};
+use kernel_tree::{Ty, UpdateOp};
+use label_fix::{Draft, Word};
+use lane_emit::emit_item;
+use loop_form::{LoopItem, LoopOp, Source};
+use reductions::update_word;
+use std::alloc::{AllocError, Global};
+use sve_code::{GoverningReg, Sve};
+use word_rows::Bits;
+
+/// Vector instructions.
+pub fn put_all(words: &[Sve], draft: &mut Draft) -> Result<(), AllocError>
+    ensures labels { OnOk result (draft.new.labels ≡ draft.old.labels) }
+    ensures code { OnOk result (AppendsPuts (code.vectors (words_of words.now)) draft.old draft.new) }
+{
+    for word in words {
+        draft.put(Word::V(*word))?;
+    }
+    Ok(())
+}
+
+/// The index of an element: X26 = X9 and an offset, where it is not 0.
+pub fn emit_index(offset: i32, draft: &mut Draft) -> Result<(), AllocError>
+    requires { unsigned_abs offset < 4096 }
+    ensures labels { OnOk result (draft.new.labels ≡ draft.old.labels) }
+    ensures code { OnOk result ((words : List Listed) (rest : List plain.Entry)
+        → draft.new.entries ++ code.puts words rest
+        ≡ draft.old.entries ++ code.puts (code.with_index offset words) rest) }
+{
+    if offset != 0 {
+        draft.put(index_word(offset))?;
+    }
+    Ok(())
+}
+
+/// The predicate register of a mask: P0 where an item has none.
+pub fn mask_of(layout: &LoopLayout<'_>, mask: Option<u32>) -> GoverningReg
+    ensures { result.number ≡ lane.mask_register (layout_in layout.now).registers mask }
+{
+    match mask {
+        None => Bits { number: 0 },
+        Some(item) => layout.registers.p(item),
+    }
+}
+
+// A read.
+fn emit_load(
+    layout: &LoopLayout<'_>,
+    item: u32,
+    mask: GoverningReg,
+    base: Source,
+    ty: Ty,
+    offset: i32,
+    draft: &mut Draft,
+) -> Result<(), AllocError>
+    requires { IsPlace base offset }
+    ensures labels { OnOk result (draft.new.labels ≡ draft.old.labels) }
+    ensures code { let word = code.load_word (width_in layout.now) ty (layouts.z_of (layout_in layout.now) item)
+        mask.number (layouts.base_of base) (code.index_of offset) in
+        OnOk result (AppendsPuts (code.with_index offset (Vector word ∷ [])) draft.old draft.new) }
+{
+    let d = layout.registers.z(item);
+    let word = load(
+        layout.width(),
+        ty,
+        d,
+        mask,
+        base_register(base),
+        index_register(offset),
+    );
+    emit_index(offset, draft)?;
+    draft.put(word)?;
+    Ok(())
+}
+
+// A store.
+fn emit_store(
+    layout: &LoopLayout<'_>,
+    mask: GoverningReg,
+    base: Source,
+    ty: Ty,
+    offset: i32,
+    value: Source,
+    draft: &mut Draft,
+) -> Result<(), AllocError>
+    requires place { IsPlace base offset }
+    requires narrow { code.memory_size ty ≤ size_of (width_in layout.now) }
+    ensures labels { OnOk result (draft.new.labels ≡ draft.old.labels) }
+    ensures code { let word = code.store_word (width_in layout.now) ty ((layout_in layout.now).registers.source value)
+        mask.number (layouts.base_of base) (code.index_of offset) in
+        OnOk result (AppendsPuts (code.with_index offset (Vector word ∷ [])) draft.old draft.new) }
+{
+    let v = layout.registers.source(value);
+    let word = store(
+        layout.width(),
+        ty,
+        v,
+        mask,
+        base_register(base),
+        index_register(offset),
+    );
+    emit_index(offset, draft)?;
+    draft.put(word)?;
+    Ok(())
+}
+
+// An update of an accumulator.
+fn emit_update(
+    layout: &LoopLayout<'_>,
+    mask: GoverningReg,
+    name: &str,
+    op: UpdateOp,
+    ty: Ty,
+    value: Source,
+    draft: &mut Draft,
+) -> Result<(), AllocError>
+    ensures labels { OnOk result (draft.new.labels ≡ draft.old.labels) }
+    ensures code { let words = update_code (width_in layout.now) op ty ((layout_in layout.now).sum name.now)
+        mask.number ((layout_in layout.now).registers.source value) in
+        OnOk result (AppendsPuts (code.vectors words) draft.old draft.new) }
+{
+    let sum = layout.registers.sum(name);
+    let v = layout.registers.source(value);
+    draft.put(Word::V(update_word(layout.width(), op, ty, sum, mask, v)))?;
+    Ok(())
+}
+
+// Whether an operation makes a condition.
+fn makes_truth(op: &LoopOp<'_>) -> bool
+    ensures { result ≡ lane.makes_truth (op_of op.now) }
+{
+    matches!(
+        *op,
+        LoopOp::Test { .. } | LoopOp::Invert(_) | LoopOp::Same(_) | LoopOp::Any(..)
+    )
+}
+
+/// Whether what an item makes is used.
+pub fn is_used(layout: &LoopLayout<'_>, item: u32, op: &LoopOp<'_>) -> bool
+    ensures { result ≡ layouts.is_used (layout_in layout.now) (op_of op.now) item }
+{
+    if makes_truth(op) {
+        layout.is_truth_used(item)
+    } else {
+        layout.is_value_used(item)
+    }
+}
+
+// An operation on values or conditions, where what it makes is used.
+fn emit_pure(
+    alloc: Global,
+    layout: &LoopLayout<'_>,
+    item: u32,
+    mask: GoverningReg,
+    op: &LoopOp<'_>,
+    draft: &mut Draft,
+) -> Result<(), AllocError>
+    ensures labels { OnOk result (draft.new.labels ≡ draft.old.labels) }
+    ensures code { let l = layout_in layout.now in
+        let words = lane.op_code (width_in layout.now) l.registers item mask.number (op_of op.now) in
+        OnOk result (AppendsPuts (if layouts.is_used l (op_of op.now) item then code.vectors words else [])
+        draft.old draft.new) }
+{
+    if is_used(layout, item, op) {
+        let words = emit_item(alloc, layout.width(), &layout.registers, item, mask, op)?;
+        put_all(&words, draft)?;
+    }
+    Ok(())
+}
+
+// An operation under the mask in a predicate register.
+fn emit_op(
+    alloc: Global,
+    layout: &LoopLayout<'_>,
+    item: u32,
+    mask: GoverningReg,
+    op: &LoopOp<'_>,
+    draft: &mut Draft,
+) -> Result<(), AllocError>
+    requires { IsWritable (width_in layout.now) (op_of op.now) }
+    ensures labels { OnOk result (draft.new.labels ≡ draft.old.labels) }
+    ensures code { let words = code.op_words (width_in layout.now) (layout_in layout.now) item mask.number
+        (op_of op.now) in
+        OnOk result (AppendsPuts words draft.old draft.new) }
+{
+    match *op {
+        LoopOp::Load {
+            base,
+            ty: Some(ty),
+            offset,
+            ..
+        } => emit_load(layout, item, mask, base, ty, offset, draft)?,
+        LoopOp::Store {
+            base,
+            ty: Some(ty),
+            offset,
+            value,
+            ..
+        } => emit_store(layout, mask, base, ty, offset, value, draft)?,
+        LoopOp::Add {
+            name,
+            op,
+            ty: Some(ty),
+            value,
+        } => emit_update(layout, mask, name, op, ty, value, draft)?,
+        _ => emit_pure(alloc, layout, item, mask, op, draft)?,
+    }
+    Ok(())
+}
+
+/// The code of an item.
+pub fn emit_one(
+    alloc: Global,
+    layout: &LoopLayout<'_>,
+    item: &LoopItem<'_>,
+    draft: &mut Draft,
+) -> Result<(), AllocError>
+    requires { IsWritable (width_in layout.now) (view_of item.now).op }
+    ensures labels { OnOk result (draft.new.labels ≡ draft.old.labels) }
+    ensures code { let words = code.item_words (width_in layout.now) (layout_in layout.now) (view_of item.now) in
+        OnOk result (AppendsPuts words draft.old draft.new) }
+{
+    let mask = mask_of(layout, item.mask);
+    emit_op(alloc, layout, item.item, mask, &item.op, draft)?;
+    Ok(())
+}

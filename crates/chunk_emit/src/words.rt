@@ -1,0 +1,219 @@
+//! The instructions of reads and stores.
+
+ghost use Rattle.std.specs.Prelude.{◌≡◌, ◌≢◌, ◌<◌, ◌≤◌, List, [], ◌∷◌, true, pos, unsigned_abs};
+ghost use Rattle.a64_code.specs.Table as a64;
+ghost use Rattle.sve_code.specs.Numbers.{size_number, dtype_number};
+ghost use Rattle.machine_model.specs.InstructionTable.{Listed, Scalar, Vector};
+ghost use Rattle.kernel_tree.specs.declared.ops.Ty.TheVariants as ty;
+ghost use Rattle.label_fix.specs.Draft.{word_seen};
+ghost use Rattle.label_fix.specs.Finished.{is_plain};
+ghost use Rattle.lane_emit.specs.LaneCode.{size_of};
+ghost use Rattle.chunk_emit.specs.Registers.{base_of};
+ghost use Rattle.chunk_emit.specs.ChunkCode as code;
+
+use a64_code::{A64, AddSubOp, Reg};
+use guest_types::length::Width;
+use kernel_tree::Ty;
+use label_fix::Word;
+use lane_emit::size;
+use loop_form::Source;
+use sve_code::{Dtype, GoverningReg, OffsetReg, Size, StoreSizes, Sve, VectorReg};
+use word_rows::Bits;
+
+// ---- general registers
+
+/// The register of an array's address.
+pub fn base_register(base: Source) -> Reg
+    requires { base_of base < 32 }
+    ensures { result.number ≡ base_of base }
+{
+    match base {
+        Source::Outer(place) => Bits { number: place },
+        _ => Bits { number: 0 },
+    }
+}
+
+/// The register that holds the index of an element.
+pub fn index_register(offset: i32) -> OffsetReg
+    ensures { result.number ≡ code.index_of offset }
+{
+    if offset == 0 {
+        OffsetReg { number: 9 }
+    } else {
+        OffsetReg { number: 26 }
+    }
+}
+
+// X26 = X9 and a number.
+fn index_up(by: u32) -> Word
+    requires { by < 4096 }
+    ensures { word_seen result ≡ Scalar (record { name = a64.add_imm; numbers = 26 ∷ 9 ∷ by ∷ 0 ∷ [] }) }
+{
+    Word::A(A64::AddSubImmediate {
+        op: AddSubOp::Add,
+        rd: Bits { number: 26 },
+        rn: Bits { number: 9 },
+        imm12: Bits { number: by },
+        sh: false,
+    })
+}
+
+// X26 = X9 less a number.
+fn index_down(by: u32) -> Word
+    requires { by < 4096 }
+    ensures { word_seen result ≡ Scalar (record { name = a64.sub_imm; numbers = 26 ∷ 9 ∷ by ∷ 0 ∷ [] }) }
+{
+    Word::A(A64::AddSubImmediate {
+        op: AddSubOp::Sub,
+        rd: Bits { number: 26 },
+        rn: Bits { number: 9 },
+        imm12: Bits { number: by },
+        sh: false,
+    })
+}
+
+/// X26 = X9 and an offset, which is not 0.
+pub fn index_word(offset: i32) -> Word
+    requires some { offset ≢ pos 0 }
+    requires near { unsigned_abs offset < 4096 }
+    ensures word { (rest : List Listed) → code.with_index offset rest ≡ word_seen result ∷ rest }
+    ensures plain { is_plain (word_seen result) ≡ true }
+{
+    let by = offset.unsigned_abs();
+    if offset > 0 {
+        index_up(by)
+    } else {
+        index_down(by)
+    }
+}
+
+// ---- types
+
+fn memory_size(ty: Ty) -> Size
+    ensures { size_number result ≡ code.memory_size ty }
+{
+    match ty {
+        Ty::I8 | Ty::U8 => Size::B,
+        Ty::I16 | Ty::U16 => Size::H,
+        Ty::I32 | Ty::U32 => Size::S,
+        Ty::I64 | Ty::U64 => Size::D,
+    }
+}
+
+/// The sizes of a store of elements of a type.
+fn store_sizes(ty: Ty, width: Width) -> StoreSizes
+    requires { code.memory_size ty ≤ size_of width }
+    ensures msz { size_number result.msz ≡ code.memory_size ty }
+    ensures size { size_number result.size ≡ size_of width }
+{
+    StoreSizes {
+        msz: memory_size(ty),
+        size: size(width),
+    }
+}
+
+/// What a load of a type into lanes of a width does: lanes that are no narrower.
+pub fn load_type(ty: Ty, width: Width) -> Dtype
+    ensures { dtype_number result ≡ code.dtype_of ty width }
+{
+    match ty {
+        Ty::U8 => unsigned_byte(width),
+        Ty::I8 => signed_byte(width),
+        Ty::U16 => unsigned_halfword(width),
+        Ty::I16 => signed_halfword(width),
+        Ty::U32 => match width {
+            Width::D => Dtype::WordToD,
+            _ => Dtype::WordToS,
+        },
+        Ty::I32 => match width {
+            Width::D => Dtype::SignedWordToD,
+            _ => Dtype::WordToS,
+        },
+        Ty::I64 | Ty::U64 => Dtype::DoublewordToD,
+    }
+}
+
+fn unsigned_byte(width: Width) -> Dtype
+    ensures { dtype_number result ≡ code.dtype_of ty.U8 width }
+{
+    match width {
+        Width::B => Dtype::ByteToB,
+        Width::H => Dtype::ByteToH,
+        Width::S => Dtype::ByteToS,
+        Width::D => Dtype::ByteToD,
+    }
+}
+
+fn signed_byte(width: Width) -> Dtype
+    ensures { dtype_number result ≡ code.dtype_of ty.I8 width }
+{
+    match width {
+        Width::B => Dtype::ByteToB,
+        Width::H => Dtype::SignedByteToH,
+        Width::S => Dtype::SignedByteToS,
+        Width::D => Dtype::SignedByteToD,
+    }
+}
+
+fn unsigned_halfword(width: Width) -> Dtype
+    ensures { dtype_number result ≡ code.dtype_of ty.U16 width }
+{
+    match width {
+        Width::B | Width::H => Dtype::HalfwordToH,
+        Width::S => Dtype::HalfwordToS,
+        Width::D => Dtype::HalfwordToD,
+    }
+}
+
+fn signed_halfword(width: Width) -> Dtype
+    ensures { dtype_number result ≡ code.dtype_of ty.I16 width }
+{
+    match width {
+        Width::B | Width::H => Dtype::HalfwordToH,
+        Width::S => Dtype::SignedHalfwordToS,
+        Width::D => Dtype::SignedHalfwordToD,
+    }
+}
+
+// ---- reads and stores
+
+/// A read.
+pub fn load(
+    width: Width,
+    ty: Ty,
+    d: VectorReg,
+    m: GoverningReg,
+    base: Reg,
+    index: OffsetReg,
+) -> Word
+    ensures { word_seen result ≡ Vector (code.load_word width ty d.number m.number base.number index.number) }
+{
+    Word::V(Sve::ContiguousLoad {
+        zt: d,
+        rn: base,
+        pg: m,
+        offset: index,
+        dtype: load_type(ty, width),
+    })
+}
+
+/// A store.
+pub fn store(
+    width: Width,
+    ty: Ty,
+    v: VectorReg,
+    m: GoverningReg,
+    base: Reg,
+    index: OffsetReg,
+) -> Word
+    requires { code.memory_size ty ≤ size_of width }
+    ensures { word_seen result ≡ Vector (code.store_word width ty v.number m.number base.number index.number) }
+{
+    Word::V(Sve::ContiguousStore {
+        zt: v,
+        rn: base,
+        pg: m,
+        offset: index,
+        sizes: store_sizes(ty, width),
+    })
+}

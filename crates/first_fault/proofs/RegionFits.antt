@@ -1,0 +1,93 @@
+-- What fits a loop fits its break region and the rest of its items.
+use Rattle.std.proofs.Common.{◌≡◌, ℕ, ◌+◌, Bool, true, false, List, [], ◌∷◌, ◌++◌, Option, Some, None, refl, sym, ap, ◌∙◌, subst}
+use Rattle.std.specs.Prelude.{is_some, ◌||◌, ◌&&◌}
+use Rattle.std.specs.List.{list_any}
+use Rattle.loop_form.specs.LoopItems.{Op, Load, Apply, Combine, Move, Cast, Copy, Pick, Store, Add, Test, Invert, Same, Any, Quit, Item}
+use Rattle.chunk_emit.specs.Registers.{Layout}
+use Rattle.chunk_emit.specs.Chunk.{Setting}
+use Rattle.chunk_emit.specs.Fits.{FitsItems, behind_items}
+use Rattle.chunk_emit.specs.LoopFits as whole
+use Rattle.chunk_emit.specs.LoopFits.{FitsSteps, IsNoBreak, AreNoBreaks}
+use Rattle.chunk_emit.proofs.FitsParts.{first_part, second_part, items_fit}
+use Rattle.first_fault.specs.Fits.{FitsStep, FitsRegion}
+use Rattle.first_fault.specs.Split.{quits, is_quit, writes, is_write, region_of, rest_of}
+use Rattle.first_fault.specs.KernelFits.{is_inner_break}
+
+pub neither : (a b : Bool) → a || b ≡ false → (a ≡ false) × (b ≡ false)
+neither true b e = absurd cc
+neither false b e = (refl, e)
+
+none_left : {A : Type 0} (p : A → Bool) (xs ys : List A) → list_any p (xs ++ ys) ≡ false → list_any p xs ≡ false
+none_left p [] ys e = refl
+none_left p (x ∷ xs) ys e = let h = neither (p x) (list_any p (xs ++ ys)) e in both (p x) (list_any p xs) h.0 (none_left p xs ys h.1)
+  where
+    both : (a b : Bool) → a ≡ false → b ≡ false → a || b ≡ false
+    both true b e f = e
+    both false b e f = f
+
+-- ---- the region
+
+unmasked : (mask : Option ℕ) → is_some mask ≡ false → mask ≡ None
+unmasked None e = refl
+unmasked (Some q) e = absurd cc
+
+region_step : (l : Layout) (f : Setting) (p : ℕ) (mask : Option ℕ) (op : Op) → writes op ≡ false → quits op && is_some mask ≡ false → whole.FitsStep l f p op → FitsStep l f p mask op
+region_step l f p mask (Quit c) w e h = (unmasked mask e, h.0, h.1)
+region_step l f p mask (Load a base t c) w e h = h
+region_step l f p mask (Apply op t x) w e h = h
+region_step l f p mask (Combine op t x y) w e h = h
+region_step l f p mask (Move left k t x) w e h = h
+region_step l f p mask (Cast s t x) w e h = h
+region_step l f p mask (Copy t x) w e h = h
+region_step l f p mask (Pick t c x y) w e h = h
+region_step l f p mask (Store a base t c v) w e h = absurd cc
+region_step l f p mask (Add x op t v) w e h = absurd cc
+region_step l f p mask (Test op t x y) w e h = h
+region_step l f p mask (Invert c) w e h = h
+region_step l f p mask (Same c) w e h = h
+region_step l f p mask (Any c d) w e h = h
+
+region_fits : (l : Layout) (f : Setting) (p : ℕ) (items : List Item) → list_any is_write items ≡ false → list_any is_inner_break items ≡ false → FitsSteps l f p items → FitsRegion l f p items
+region_fits l f p [] w e h = tt
+region_fits l f p (it ∷ items) w e h =
+    let ws = neither (is_write it) (list_any is_write items) w in
+    let es = neither (is_inner_break it) (list_any is_inner_break items) e in
+    (h.0, h.1, h.2, region_step l f it.item it.mask it.op ws.0 es.0 h.3, region_fits l f (it.item + 1) items ws.1 es.1 h.5)
+
+-- ---- the rest
+
+no_break : (op : Op) → quits op ≡ false → IsNoBreak op
+no_break (Quit c) e = absurd cc
+no_break (Load a base t c) e = tt
+no_break (Apply op t x) e = tt
+no_break (Combine op t x y) e = tt
+no_break (Move left k t x) e = tt
+no_break (Cast s t x) e = tt
+no_break (Copy t x) e = tt
+no_break (Pick t c x y) e = tt
+no_break (Store a base t c v) e = tt
+no_break (Add x op t v) e = tt
+no_break (Test op t x y) e = tt
+no_break (Invert c) e = tt
+no_break (Same c) e = tt
+no_break (Any c d) e = tt
+
+no_breaks : (items : List Item) → list_any is_quit items ≡ false → AreNoBreaks items
+no_breaks [] e = tt
+no_breaks (it ∷ items) e = let h = neither (is_quit it) (list_any is_quit items) e in (no_break it.op h.0, no_breaks items h.1)
+
+-- ---- both
+
+-- of items that are split
+pub record BothFit (l : Layout) (f : Setting) (p : ℕ) (items : List Item) : Type 0 where
+  pub region : FitsRegion l f p (region_of items)
+  pub rest : FitsItems l f (behind_items p (region_of items)) (rest_of items)
+
+pub both_fit : (l : Layout) (f : Setting) (p : ℕ) (items : List Item) → region_of items ++ rest_of items ≡ items → list_any is_write (region_of items) ≡ false → list_any is_quit (rest_of items) ≡ false → list_any is_inner_break items ≡ false → FitsSteps l f p items → BothFit l f p items
+both_fit l f p items split unwritten unbroken outer h =
+    let parts : FitsSteps l f p (region_of items ++ rest_of items) = subst (FitsSteps l f p) (sym split) h in
+    let outer2 = none_left is_inner_break (region_of items) (rest_of items) (ap (list_any is_inner_break) split ∙ outer) in
+    record {
+      region = region_fits l f p (region_of items) unwritten outer2 (first_part l f p (region_of items) (rest_of items) parts);
+      rest = items_fit l f (behind_items p (region_of items)) (rest_of items) (no_breaks (rest_of items) unbroken) (second_part l f p (region_of items) (rest_of items) parts);
+    }

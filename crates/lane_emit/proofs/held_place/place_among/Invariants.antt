@@ -1,0 +1,11 @@
+use Rattle.std.proofs.Common.{◌≡◌, drop}
+use Rattle.loop_form.specs.HeldView.{view, view_of}
+use Rattle.lane_emit.specs.LoopRegisters.{place_in}
+use Rattle.lane_emit.proofs.Moved.{moved}
+use Rattle.lane_emit.proofs.held_place.place_among.Given as goal
+
+abbrev pub invariant-loop-value : goal.invariant-loop-value
+invariant-loop-value l = record {
+  place : l.place ≡ l.value-index;
+  rest : moved l.place (place_in (view_of l.wanted) (view (drop l.value-index l.held))) ≡ place_in (view_of l.wanted) (view l.held);
+}

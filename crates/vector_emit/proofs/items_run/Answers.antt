@@ -1,5 +1,0 @@
-use Rattle.vector_emit.proofs.ItemRuns as runs
-use Rattle.vector_emit.proofs.items_run.Goals as goal
-
-pub returns : goal.returns
-returns c = runs.items_run

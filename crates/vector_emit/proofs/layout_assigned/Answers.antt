@@ -1,5 +1,0 @@
-use Rattle.vector_emit.proofs.FitsAssigned as fits
-use Rattle.vector_emit.proofs.layout_assigned.Goals as goal
-
-pub returns : goal.returns
-returns c = fits.assigned_of
