@@ -1,0 +1,4 @@
+pub mod Halts
+pub mod PassCode
+pub mod Chunks
+pub mod Passes

@@ -1,0 +1,14 @@
+use Rattle.std.proofs.Common.{◌≡◌, List, ◌++◌, drop}
+use Rattle.label_fix.specs.DraftRun.{Entry}
+use Rattle.loop_form.specs.HeldView.{view}
+use Rattle.loop_form.specs.Seen.{program}
+use Rattle.scalar_emit.specs.Kernel.{register_in}
+use Rattle.loop_edges.specs.EdgeCode.{folds_code}
+use Rattle.loop_edges.proofs.fold.emit_values.Given as goal
+
+abbrev pub invariant-loop-value : goal.invariant-loop-value
+invariant-loop-value l = record {
+  place : l.place ≡ l.value-index;
+  labels : l.draft.labels ≡ l.fn.draft.labels;
+  code : (rest : List Entry) → l.draft.entries ++ folds_code (register_in l.regs.x) (program l.kernel) l.regs.z l.place (view (drop l.value-index l.values)) rest ≡ l.fn.draft.entries ++ folds_code (register_in l.regs.x) (program l.kernel) l.regs.z 0 (view l.values) rest;
+}

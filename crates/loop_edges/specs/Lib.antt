@@ -1,0 +1,2 @@
+pub mod EdgeCode
+pub mod Edges

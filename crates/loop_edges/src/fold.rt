@@ -1,0 +1,136 @@
+//! Emits the code behind the loop of chunks.
+
+ghost use Rattle.std.specs.Prelude.{◌≡◌, ◌≤◌, length, OnOk};
+ghost use Rattle.reg_assign.specs.declared.interval.RegClass.TheVariants as class;
+ghost use Rattle.reg_assign.specs.Registers.{IsAssignment};
+ghost use Rattle.loop_form.specs.Entries as plain;
+ghost use Rattle.loop_form.specs.HeldView.{view_of, view};
+ghost use Rattle.loop_form.specs.Lanes as lanes;
+ghost use Rattle.loop_form.specs.Registers.{FitsKernel};
+ghost use Rattle.loop_form.specs.Seen.{program, seen};
+ghost use Rattle.scalar_emit.specs.Drafts.{Appends};
+ghost use Rattle.scalar_emit.specs.Kernel as kernels;
+ghost use Rattle.scalar_emit.specs.Kernel.{register_in};
+ghost use Rattle.scalar_emit.specs.Views.{homes_of};
+ghost use Rattle.loop_edges.specs.EdgeCode as code;
+
+use crate::accumulators::{counted_vector, first_operator, type_of};
+use a64_code::{A64, Reg};
+use guest_types::length::Width;
+use kernel_tree::{Checked, Ty, UpdateOp};
+use label_fix::{Draft, Word};
+use loop_form::laws::ordered_intervals;
+use loop_form::{Entry, Held, intervals, lane_width, loop_entries, throughout};
+use reductions::reduce_word;
+use reg_assign::{Assigned, RegClass, VectorRegs};
+use scalar_emit::{Home, emit_binary, extending, kernel_homes, register_named, update_operator};
+use std::alloc::{AllocError, Global};
+use sve_code::VectorReg;
+use word_rows::Bits;
+
+// The elements of a vector register joined together, and a general register joined with them.
+fn emit_join(
+    draft: &mut Draft,
+    width: Width,
+    op: UpdateOp,
+    ty: Ty,
+    z: VectorReg,
+    x: Reg,
+) -> Result<(), AllocError>
+    ensures labels { OnOk result (draft.new.labels ≡ draft.old.labels) }
+    ensures code { OnOk result (Appends draft.old draft.new (code.join_code width op ty z.number x.number)) }
+{
+    let reduced = Bits { number: 31 };
+    let value = Bits { number: 27 };
+    draft.put(Word::V(reduce_word(width, op, ty, reduced, z)))?;
+    draft.put(Word::A(A64::Umov {
+        rd: value,
+        vn: reduced,
+    }))?;
+    draft.put(extending(ty, value, value))?;
+    emit_binary(draft, update_operator(op), ty, x, x, value)?;
+    Ok(())
+}
+
+// A value that is held throughout, in its vector register: an accumulator is joined.
+#[tactic(auto, unfolding(loop_form::specs::Seen::program))]
+fn emit_one(
+    draft: &mut Draft,
+    kernel: &Checked,
+    entries: &[Entry<'_>],
+    width: Width,
+    homes: &[Home<'_>],
+    regs: &Assigned,
+    z: VectorReg,
+    value: Held<'_>,
+) -> Result<(), AllocError>
+    requires entries { seen entries.now ≡ plain.loop_entries (program kernel.now) }
+    requires width { width ≡ lanes.lane_width_of (program kernel.now) }
+    requires homes { homes_of homes.now ≡ kernels.kernel_homes (register_in regs.now) (program kernel.now) }
+    ensures labels { OnOk result (draft.new.labels ≡ draft.old.labels) }
+    ensures code { OnOk result (Appends draft.old draft.new
+        (code.fold_one (register_in regs.now) (program kernel.now) z.number (view_of value.entry))) }
+{
+    match value {
+        Held::Scalar(_) | Held::Constant(..) | Held::Index => Ok(()),
+        Held::Accumulating(name) => {
+            let op = first_operator(entries, name);
+            let ty = type_of(&kernel.kernel().vars, name);
+            emit_join(draft, width, op, ty, z, register_named(homes, name))?;
+            Ok(())
+        }
+    }
+}
+
+// The values from the first one on, each in the register of its interval.
+fn emit_values(
+    draft: &mut Draft,
+    kernel: &Checked,
+    entries: &[Entry<'_>],
+    width: Width,
+    homes: &[Home<'_>],
+    regs: &VectorRegs,
+    values: &[Held<'_>],
+) -> Result<(), AllocError>
+    requires entries { seen entries.now ≡ plain.loop_entries (program kernel.now) }
+    requires width { width ≡ lanes.lane_width_of (program kernel.now) }
+    requires homes { homes_of homes.now ≡ kernels.kernel_homes (register_in regs.now.x) (program kernel.now) }
+    requires assigned { IsAssignment 30 regs.now.z }
+    requires within { length values.now ≤ length regs.now.z.registers }
+    ensures labels { OnOk result (draft.new.labels ≡ draft.old.labels) }
+    ensures code { OnOk result (Appends draft.old draft.new
+        (code.folds_code (register_in regs.now.x) (program kernel.now) regs.now.z 0 (view values.now))) }
+{
+    let mut place = 0;
+    for value in values {
+        let z = counted_vector(&regs.z, place);
+        emit_one(draft, kernel, entries, width, homes, &regs.x, z, *value)?;
+        place += 1;
+    }
+    Ok(())
+}
+
+/// The code behind the loop of chunks: the elements of each accumulator that the loop updates, joined together and then
+/// with its general register.
+#[tactic(auto, unfolding(loop_form::specs::Seen::program))]
+pub fn emit_fold(
+    alloc: Global,
+    draft: &mut Draft,
+    kernel: &Checked,
+    regs: &VectorRegs,
+) -> Result<(), AllocError>
+    requires z_fits { FitsKernel (program kernel.now) class.Z regs.now.z }
+    requires x_fits { FitsKernel (program kernel.now) class.X regs.now.x }
+    ensures labels { OnOk result (draft.new.labels ≡ draft.old.labels) }
+    ensures code { OnOk result (Appends draft.old draft.new
+        (code.fold_code (register_in regs.now.x) (program kernel.now) regs.now.z)) }
+{
+    ordered_intervals(kernel, RegClass::Z);
+    let homes = kernel_homes(alloc, kernel, &regs.x)?;
+    let values = throughout(alloc, kernel, RegClass::Z)?;
+    let spans = intervals(alloc, kernel, RegClass::Z)?;
+    let entries = loop_entries(kernel);
+    let width = lane_width(kernel);
+    emit_values(draft, kernel, &entries, width, &homes, regs, &values)?;
+    Ok(())
+}

@@ -1,0 +1,177 @@
+//! Emits the code before the loop of chunks.
+
+ghost use Rattle.std.specs.Prelude.{◌≡◌, ◌≤◌, [], ◌∷◌, length, unwrap_or, OnOk};
+ghost use Rattle.sve_code.specs.Table.{dup};
+ghost use Rattle.machine_model.specs.InstructionTable.{Vector};
+ghost use Rattle.kernel_tree.specs.Plain.{parameters_of};
+ghost use Rattle.reg_assign.specs.declared.interval.RegClass.TheVariants as class;
+ghost use Rattle.reg_assign.specs.Registers.{IsAssignment};
+ghost use Rattle.loop_form.specs.Entries as plain;
+ghost use Rattle.loop_form.specs.HeldView.{view_of, view};
+ghost use Rattle.loop_form.specs.Lanes as lanes;
+ghost use Rattle.loop_form.specs.Registers.{FitsKernel};
+ghost use Rattle.loop_form.specs.Seen.{program, seen};
+ghost use Rattle.loop_form.specs.Streams.{place_of};
+ghost use Rattle.label_fix.specs.Draft.{word_seen};
+ghost use Rattle.lane_emit.specs.Stretch.{word};
+ghost use Rattle.lane_emit.specs.LaneCode.{size_of};
+ghost use Rattle.reductions.specs.Joins as joins;
+ghost use Rattle.scalar_emit.specs.Drafts.{Appends};
+ghost use Rattle.loop_edges.specs.EdgeCode as code;
+
+use crate::accumulators::{counted_vector, first_operator, type_of};
+use a64_code::Reg;
+use guest_types::length::Width;
+use kernel_tree::{Checked, Param, Ty, UpdateOp};
+use label_fix::{Draft, Word};
+use lane_emit::{greatest, least};
+use loop_form::laws::ordered_intervals;
+use loop_form::{Entry, Held, intervals, lane_width, loop_entries, throughout};
+use reductions::start_word;
+use reg_assign::{Assigned, RegClass, VectorRegs};
+use scalar_emit::laws::few_params;
+use scalar_emit::{emit_const, word, wrapped};
+use std::alloc::{AllocError, Global};
+use sve_code::{Size, Sve, VectorReg};
+use word_rows::Bits;
+
+// ---- what is held
+
+// What changes nothing.
+fn identity(op: UpdateOp, ty: Ty) -> i128
+    ensures { result ≡ joins.identity op ty }
+{
+    match op {
+        UpdateOp::Add | UpdateOp::Or | UpdateOp::Xor => 0,
+        UpdateOp::And => wrapped(Some(ty), -1),
+        UpdateOp::Min => greatest(ty),
+        UpdateOp::Max => least(ty),
+    }
+}
+
+// The general register of a parameter.
+fn register_of(params: &[Param], name: &str) -> Reg
+    requires { length params.now ≤ 8 }
+    ensures { result.number ≡ unwrap_or (place_of name.now (parameters_of params.now)) 0 }
+{
+    let mut place = 0;
+    for param in params {
+        if param.name.text() == name {
+            return Bits { number: place };
+        }
+        place += 1;
+    }
+    Bits { number: 0 }
+}
+
+// ---- code
+
+// A general register in all elements of a vector register.
+fn spread(width: Width, z: VectorReg, x: Reg) -> Word
+    ensures { word_seen result ≡ Vector (word dup (z.number ∷ x.number ∷ size_of width ∷ [])) }
+{
+    Word::V(start_word(width, z, x))
+}
+
+// A number in all elements of a vector register.
+fn emit_number(draft: &mut Draft, width: Width, z: VectorReg, value: u64) -> Result<(), AllocError>
+    ensures labels { OnOk result (draft.new.labels ≡ draft.old.labels) }
+    ensures code { OnOk result (Appends draft.old draft.new (code.number_code width z.number value)) }
+{
+    let scratch = Bits { number: 26 };
+    emit_const(draft, scratch, value)?;
+    draft.put(spread(width, z, scratch))?;
+    Ok(())
+}
+
+// A value that is held throughout, in its vector register.
+#[tactic(auto, unfolding(loop_form::specs::Seen::program))]
+fn emit_value(
+    draft: &mut Draft,
+    kernel: &Checked,
+    entries: &[Entry<'_>],
+    width: Width,
+    z: VectorReg,
+    value: Held<'_>,
+) -> Result<(), AllocError>
+    requires params { length (program kernel.now).params ≤ 8 }
+    requires entries { seen entries.now ≡ plain.loop_entries (program kernel.now) }
+    requires width { width ≡ lanes.lane_width_of (program kernel.now) }
+    ensures labels { OnOk result (draft.new.labels ≡ draft.old.labels) }
+    ensures code { OnOk result (Appends draft.old draft.new
+        (code.hold_code (program kernel.now) z.number (view_of value.entry))) }
+{
+    match value {
+        Held::Scalar(name) => {
+            let x = register_of(&kernel.kernel().params, name);
+            draft.put(spread(width, z, x))?;
+        }
+        Held::Constant(ty, number) => emit_number(draft, width, z, word(wrapped(ty, number)))?,
+        Held::Index => {}
+        Held::Accumulating(name) => {
+            let op = first_operator(entries, name);
+            let ty = type_of(&kernel.kernel().vars, name);
+            emit_number(draft, width, z, word(identity(op, ty)))?;
+        }
+    }
+    Ok(())
+}
+
+// The values from the first one on, each in the register of its interval.
+fn emit_values(
+    draft: &mut Draft,
+    kernel: &Checked,
+    entries: &[Entry<'_>],
+    width: Width,
+    regs: &Assigned,
+    values: &[Held<'_>],
+) -> Result<(), AllocError>
+    requires params { length (program kernel.now).params ≤ 8 }
+    requires entries { seen entries.now ≡ plain.loop_entries (program kernel.now) }
+    requires width { width ≡ lanes.lane_width_of (program kernel.now) }
+    requires assigned { IsAssignment 30 regs.now }
+    requires within { length values.now ≤ length regs.now.registers }
+    ensures labels { OnOk result (draft.new.labels ≡ draft.old.labels) }
+    ensures code { OnOk result (Appends draft.old draft.new
+        (code.holds_code (program kernel.now) regs.now 0 (view values.now))) }
+{
+    let mut place = 0;
+    for value in values {
+        emit_value(
+            draft,
+            kernel,
+            entries,
+            width,
+            counted_vector(regs, place),
+            *value,
+        )?;
+        place += 1;
+    }
+    Ok(())
+}
+
+/// The code before the loop of chunks: PTRUE of P1, and each value that is held throughout in all elements of its register.
+#[tactic(auto, unfolding(loop_form::specs::Seen::program))]
+pub fn emit_start(
+    alloc: Global,
+    draft: &mut Draft,
+    kernel: &Checked,
+    regs: &VectorRegs,
+) -> Result<(), AllocError>
+    requires fits { FitsKernel (program kernel.now) class.Z regs.now.z }
+    ensures labels { OnOk result (draft.new.labels ≡ draft.old.labels) }
+    ensures code { OnOk result (Appends draft.old draft.new (code.start_code (program kernel.now) regs.now.z)) }
+{
+    few_params(kernel);
+    ordered_intervals(kernel, RegClass::Z);
+    let values = throughout(alloc, kernel, RegClass::Z)?;
+    let spans = intervals(alloc, kernel, RegClass::Z)?;
+    let entries = loop_entries(kernel);
+    let width = lane_width(kernel);
+    draft.put(Word::V(Sve::Ptrue {
+        pd: Bits { number: 1 },
+        size: Size::B,
+    }))?;
+    emit_values(draft, kernel, &entries, width, &regs.z, &values)?;
+    Ok(())
+}

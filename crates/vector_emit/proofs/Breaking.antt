@@ -1,0 +1,178 @@
+-- The passes of a loop with a break: a chunk, and where no lane came through it and the bound is not reached, one iteration by
+-- itself.
+use Rattle.std.proofs.Common.{◌≡◌, ℕ, zero, suc, ◌+◌, ◌*◌, ◌<◌, ◌≤◌, inl, inr, true, List, [], ◌∷◌, length, sym, subst, arith, ⊎_elim}
+use Rattle.std.specs.Prelude.{ℤ}
+use Rattle.std.specs.List.{list_any}
+use Rattle.std.proofs.lemmas.Bool.{cases_lt, cases_eq}
+use Rattle.guest_types.specs.Memory.{Memory}
+use Rattle.a64_code.specs.Table.{subs}
+use Rattle.machine_model.specs.Machine.{State}
+use Rattle.kernel_tree.specs.Typing.{var_scope}
+use Rattle.kernel_meaning.specs.Eval.{Names}
+use Rattle.kernel_meaning.specs.Iterate.{iterate}
+use Rattle.kernel_meaning.specs.ScalarRun.{Going, course}
+use Rattle.label_fix.specs.DraftRun.{If, Entry, Put, Branch, Place, Laid, behind}
+use Rattle.label_fix.specs.Stretches.{Resolves}
+use Rattle.label_fix.proofs.Steps.{Goes, chain, pass}
+use Rattle.dependence.specs.Apart.{bound_place}
+use Rattle.scalar_emit.specs.Words.{ins}
+use Rattle.chunk_emit.specs.ChunkCode.{puts}
+use Rattle.chunk_emit.specs.Head.{Ground, IsGround, AtHead, Turned, layout, width, most_lanes, limit}
+use Rattle.first_fault.specs.Split.{is_quit}
+use Rattle.first_fault.proofs.Stretches.{stop_behind}
+use Rattle.chunk_loop.specs.Halts.{Breaks}
+use Rattle.chunk_loop.specs.Chunks.{items_of}
+use Rattle.chunk_loop.specs.PassCode.{chunk_words, turn_words}
+use Rattle.chunk_loop.specs.Passes.{lanes_at, LeftOut, breaks, faults, suppressed, Passes, comes, stops}
+use Rattle.chunk_loop.proofs.PassLaws.{chunk_law, turn_law}
+use Rattle.vector_emit.specs.VectorCode.{any_lane, breaking_code}
+use Rattle.vector_emit.specs.VectorRuns.{turn_steps}
+use Rattle.vector_emit.proofs.Courses.{none_gone, none_done}
+use Rattle.vector_emit.proofs.Rounds.{Passing, Pays, pays_lanes, pays_cut, pays_last, pays_one, Stuck, leaves_here, stops_here, passes_on}
+use Rattle.vector_emit.proofs.LoopOf.{HeadOf, loop_of, stop_of, has_lanes, head_at, same_place, Longer, behind_leads, behind_goes}
+use Rattle.vector_emit.proofs.PassSizes.{chunk_fits, turn_fits}
+use Rattle.vector_emit.proofs.Tests.{Tests, turned_kept, lanes_back, lanes_none, bound_reached, bound_ahead}
+use Rattle.vector_emit.proofs.Labels.{behind_puts}
+
+module _ (g : Ground) (ground : IsGround g) (quits : list_any is_quit (items_of g) ≡ true) (d : Laid) (n : ℕ) (rest : List Entry) where
+  abbrev tail : List Entry
+  tail = Place (suc n) ∷ rest
+
+  abbrev after_turn : List Entry
+  after_turn = Put any_lane ∷ Branch (If 1) n ∷ tail
+
+  abbrev alone : List Entry
+  alone = puts (turn_words (width g) (layout g) (items_of g)) after_turn
+
+  abbrev dry : List Entry
+  dry = ins subs (31 ∷ 9 ∷ 0 ∷ bound_place g.kernel ∷ 0 ∷ []) ∷ Branch (If 2) (suc n) ∷ alone
+
+  abbrev after_chunk : List Entry
+  after_chunk = Put any_lane ∷ Branch (If 1) n ∷ dry
+
+  abbrev head : List Entry
+  head = puts (chunk_words (width g) (layout g) (bound_place g.kernel) (items_of g)) after_chunk
+
+  abbrev chunk_most : ℕ
+  chunk_most = length (chunk_words (width g) (layout g) (bound_place g.kernel) (items_of g))
+
+  abbrev turn_most : ℕ
+  turn_most = length (turn_words (width g) (layout g) (items_of g))
+
+  module _ (back : behind d n ≡ head) (out : behind d (suc n) ≡ rest) where
+    abbrev Runs : ℕ → Names → Memory → State → Type 0
+    Runs i cur m s = Passing (loop_of g d rest) head s i cur m
+
+    -- where some lanes came through a chunk
+    chunk_pays : (i k cut whole : ℕ) (now : Memory) (names : Names) → 0 < k → k ≤ lanes_at g i → i ≤ limit g → cut ≤ whole → (k < lanes_at g i → LeftOut (iterate (var_scope g.kernel) g.turns (i + k) now names) cut)
+        → Pays (loop_of g d rest) (has_lanes g ground) k whole (Stuck (loop_of g d rest) (has_lanes g ground) (i + k) now names) 1
+    chunk_pays i k cut whole now names some le within more why =
+        ⊎_elim
+        (λ short. by_reason (why short))
+        (λ all.
+        ⊎_elim
+        (λ part. pays_last some (inl (omega (arith, all, le, part, within))))
+        (λ full. pays_lanes full)
+        (cases_lt k (most_lanes g)))
+        (cases_lt k (lanes_at g i))
+      where
+        by_reason : LeftOut (iterate (var_scope g.kernel) g.turns (i + k) now names) cut → Pays (loop_of g d rest) (has_lanes g ground) k whole (Stuck (loop_of g d rest) (has_lanes g ground) (i + k) now names) 1
+        by_reason (breaks h) = pays_last some (inr (inl h))
+        by_reason (faults h) = pays_last some (inr (inr h))
+        by_reason (suppressed lt) = pays_cut (omega (arith, lt, more))
+
+    -- ---- behind a chunk of which no lane came through
+
+    module _ (i : ℕ) (cur : Names) (m : Memory) (s : State) (ih : (sum : List ℕ → ℕ → ℤ) (names : Names) (now : Memory) (t : State) → AtHead g (i + 1) names now sum t → Runs (i + 1) names now t) where
+      by_turn : {cut : ℕ} {t : State} → i < limit g → Longer d head s alone t (chunk_most + 4) cut → LeftOut (iterate (var_scope g.kernel) g.turns i m cur) cut → Passes (λ turn cut. Breaks turn) g 1 i cur m d alone t after_turn turn_most → Runs i cur m s
+      by_turn {cut = cut} lt lead reason (stops k j left faulted kind le fails lo hi access kept stop) =
+          let c = chunk_fits g ground in
+          let t = turn_fits g ground in
+          stops_here (loop_of g d rest) (has_lanes g ground) k j faulted (stop_behind (chunk_most + 4 + turn_most) (omega arith) lead.leads stop) (omega (arith, c, t)) (omega (arith, lt, le)) lo hi fails
+          (stop_of g i k j left faulted kind (let l = has_lanes g ground in omega (arith, le, l)) (omega (arith, lt, le)) lo hi access kept)
+      by_turn {cut = cut} lt lead reason (comes k now names sum end le goes turn why h top turned) =
+          ⊎_elim (λ none. broke (lanes_none d end k n tail h top none) none) (λ some. goes_on (lanes_back d end k n tail h top (omega (arith, some))) (omega (arith, some, le))) (cases_eq k 0)
+        where
+          both : Longer d head s after_turn end (chunk_most + 4 + turn_most) cut
+          both = behind_leads (chunk_most + 4 + turn_most) (omega arith) lead turn
+
+          fits : chunk_most + 4 + (turn_most + 4) ≤ turn_steps g * 2
+          fits = let c = chunk_fits g ground in let t = turn_fits g ground in omega (arith, c, t)
+
+          broke : Tests g (i + k) names now sum d after_turn end tail 2 → k ≡ 0 → Runs i cur m s
+          broke x none =
+              let same = none_done (var_scope g.kernel) g.turns i m cur now names (subst (λ k. course (var_scope g.kernel) g.turns k i m cur ≡ Going now names) none goes) in
+              let place : i + k ≡ i = omega (arith, none) in
+              let all = behind_goes (chunk_most + 4 + turn_most + 2) (omega arith) both (chain 2 (omega arith) x.goes pass) in
+              leaves_here (loop_of g d rest) (has_lanes g ground) all.leads (omega (arith, fits)) (omega (arith, lt)) (inr (same_place (λ i m ns. Breaks (iterate (var_scope g.kernel) g.turns i m ns)) place same.0 same.1 (why (omega (arith, none)))))
+              (same_place (λ i m ns. HeadOf g i ns m x.end) place same.0 same.1 (record { sum = sum; head = x.head }))
+
+          cut_some : LeftOut (iterate (var_scope g.kernel) g.turns i m cur) cut → k ≡ 1 → 0 < both.leads.cut
+          cut_some (breaks h) one = let z = none_gone (var_scope g.kernel) g.turns k i m cur now names (inl h) goes in absurd (omega (arith, z, one))
+          cut_some (faults h) one = let z = none_gone (var_scope g.kernel) g.turns k i m cur now names (inr h) goes in absurd (omega (arith, z, one))
+          cut_some (suppressed some) one = let more = both.more in omega (arith, some, more)
+
+          goes_on : Tests g (i + k) names now sum d after_turn end (behind d n) 2 → k ≡ 1 → Runs i cur m s
+          goes_on x one =
+              let all = behind_goes (chunk_most + 4 + turn_most + 2) (omega arith) (record { leads = both.leads; more = cut_some reason one }) (subst (λ es. Goes d after_turn end es x.end 2) back x.goes) in
+              let place : i + k ≡ i + 1 = omega (arith, one) in
+              passes_on (loop_of g d rest) (has_lanes g ground) 2 k all.leads (omega (arith, fits)) (omega arith) goes (pays_one all.more one)
+              (subst (λ j. Runs j names now x.end) (sym place) (ih sum names now x.end (head_at place x.head)))
+
+      after_dry : {cut : ℕ} {sum : List ℕ → ℕ → ℤ} {t : State} → Longer d head s dry t (chunk_most + 2) cut → AtHead g i cur m sum t → Turned g i t → (i < limit g → LeftOut (iterate (var_scope g.kernel) g.turns i m cur) cut) → Runs i cur m s
+      after_dry {sum = sum} {t = t} lead h turned why = ⊎_elim ahead reached (cases_lt i (limit g))
+        where
+          reached : limit g ≤ i → Runs i cur m s
+          reached le =
+              let x = bound_reached d t (suc n) alone ground h le in
+              let all = behind_goes (chunk_most + 4) (omega arith) lead (subst (λ es. Goes d dry t es x.end 2) out x.goes) in
+              let c = chunk_fits g ground in
+              let within = h.between.within in
+              leaves_here (loop_of g d rest) (has_lanes g ground) all.leads (omega (arith, c)) within (inl (omega (arith, le, within))) (record { sum = sum; head = x.head })
+
+          ahead : i < limit g → Runs i cur m s
+          ahead lt =
+              let x = bound_ahead d t (suc n) alone ground h lt in
+              by_turn lt (behind_goes (chunk_most + 4) (omega arith) lead x.goes) (why lt) (turn_law g d after_turn i cur m sum x.end ground quits x.head (turned_kept g i t x.end x.z turned) lt)
+
+    -- ---- the loop
+
+    abbrev Later : ℕ → Type 0
+    Later fuel = (i : ℕ) (cur : Names) (m : Memory) (sum : List ℕ → ℕ → ℤ) (s : State) → limit g < i + fuel → AtHead g i cur m sum s → Runs i cur m s
+
+    by_chunk : (fuel i : ℕ) (cur : Names) (m : Memory) (s : State) → limit g < i + suc fuel → i ≤ limit g → Later fuel → Passes LeftOut g (lanes_at g i) i cur m d head s after_chunk chunk_most → Runs i cur m s
+    by_chunk fuel i cur m s less within ih (stops k j left faulted kind le fails lo hi access kept stop) =
+        let c = chunk_fits g ground in
+        stops_here (loop_of g d rest) (has_lanes g ground) k j faulted stop (omega (arith, c)) (omega (arith, within, le)) lo hi fails (stop_of g i k j left faulted kind (omega (arith, le)) (omega (arith, within, le)) lo hi access kept)
+    by_chunk fuel i cur m s less within ih (comes k now names sum end le goes lead why h top turned) =
+        ⊎_elim (λ none. dried (lanes_none d end k n dry h top none) none) (λ some. goes_on (lanes_back d end k n dry h top (omega (arith, some))) (omega (arith, some))) (cases_eq k 0)
+      where
+        first : Longer d head s after_chunk end chunk_most lead.cut
+        first = record { leads = lead; more = omega arith }
+
+        fits : chunk_most + 4 ≤ turn_steps g
+        fits = chunk_fits g ground
+
+        goes_on : Tests g (i + k) names now sum d after_chunk end (behind d n) 2 → 0 < k → Runs i cur m s
+        goes_on x some =
+            let all = behind_goes (chunk_most + 2) (omega arith) first (subst (λ es. Goes d after_chunk end es x.end 2) back x.goes) in
+            passes_on (loop_of g d rest) (has_lanes g ground) 1 k all.leads (omega (arith, fits)) (omega arith) goes (chunk_pays i k lead.cut all.leads.cut now names some le within all.more why)
+            (ih (i + k) names now sum x.end (omega (arith, less, some)) x.head)
+
+        dried : Tests g (i + k) names now sum d after_chunk end dry 2 → k ≡ 0 → Runs i cur m s
+        dried x none =
+            let same = none_done (var_scope g.kernel) g.turns i m cur now names (subst (λ k. course (var_scope g.kernel) g.turns k i m cur ≡ Going now names) none goes) in
+            let place : i + k ≡ i = omega (arith, none) in
+            after_dry i cur m s (λ sum names now t h. ih (i + 1) names now sum t (omega (arith, less)) h) (behind_goes (chunk_most + 2) (omega arith) first x.goes)
+            (same_place (λ i m ns. AtHead g i ns m sum x.end) place same.0 same.1 x.head) (turned_kept g i end x.end x.z turned)
+            (λ lt. same_place (λ i m ns. LeftOut (iterate (var_scope g.kernel) g.turns i m ns) lead.cut) place same.0 same.1 (why (let l = has_lanes g ground in omega (arith, none, lt, l))))
+
+    follows : (fuel : ℕ) → Later fuel
+    follows zero i cur m sum s less h = let within = h.between.within in absurd (omega (arith, less, within))
+    follows (suc fuel) i cur m sum s less h = by_chunk fuel i cur m s less h.between.within (follows fuel) (chunk_law g d after_chunk i cur m sum s ground quits h)
+
+  pub breaking_runs : {sum : List ℕ → ℕ → ℤ} {cur : Names} {m : Memory} {s : State} → Resolves d (breaking_code g.kernel g.vectors g.predicates (items_of g) n rest) → AtHead g 0 cur m sum s → Passing (loop_of g d rest) head s 0 cur m
+  breaking_runs {sum = sum} {cur = cur} {m = m} {s = s} res h =
+      let again = behind_puts d (chunk_words (width g) (layout g) (bound_place g.kernel) (items_of g)) after_chunk res.1 in
+      let done = behind_puts d (turn_words (width g) (layout g) (items_of g)) after_turn again in
+      follows res.0 done.0 (suc (limit g)) 0 cur m sum s (omega arith) h

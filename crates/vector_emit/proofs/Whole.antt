@@ -1,0 +1,212 @@
+-- The vector code of a kernel's loop does what the scalar loop does.
+use Rattle.std.proofs.Common.{◌≡◌, ℕ, ◌+◌, ◌*◌, ◌<◌, ◌≤◌, Bool, true, false, List, [], ◌∷◌, length, Some, refl, sym, ap, ◌∙◌, subst, arith}
+use Rattle.std.specs.Prelude.{ℤ, slice_index}
+use Rattle.std.specs.List.{list_any}
+use Rattle.std.proofs.Math.Nat.{mul-le-mul_left}
+use Rattle.guest_types.specs.Memory.{Memory}
+use Rattle.machine_model.specs.Machine.{State, x_at, jump}
+use Rattle.machine_model.specs.Run.{End, Stop}
+use Rattle.kernel_tree.specs.Plain.{Program}
+use Rattle.kernel_tree.specs.Items.{size_of}
+use Rattle.kernel_tree.specs.Typing.{var_scope}
+use Rattle.kernel_meaning.specs.Eval.{Names}
+use Rattle.kernel_meaning.specs.ScalarRun as run
+use Rattle.kernel_meaning.specs.ScalarRun.{Run, Going, Failed, course, bound_of}
+use Rattle.label_fix.specs.DraftRun.{Always, Entry, Branch, Laid, behind, address_of, draft_run}
+use Rattle.label_fix.specs.Cuts.{cuts}
+use Rattle.label_fix.specs.Stretches.{Resolves}
+use Rattle.label_fix.proofs.Steps.{Goes, Ends, chain, go_more, pass, taken_goes, end_after}
+use Rattle.reg_assign.specs.declared.interval.RegClass.TheVariants.{X, Z}
+use Rattle.reg_assign.specs.Registers.{Assignment}
+use Rattle.loop_form.specs.LoopItems.{turns_items}
+use Rattle.loop_form.specs.Entries.{loop_start}
+use Rattle.loop_form.specs.Needs.{throughout}
+use Rattle.loop_form.specs.Registers.{FitsKernel}
+use Rattle.scalar_emit.specs.Kernel.{layout_of_kernel, kernel_homes, register_in}
+use Rattle.scalar_emit.specs.Runs.{AtIteration, AreHeld, IsWithin, Comes, ends_so, turns_from, run_from}
+use Rattle.scalar_emit.proofs.KernelRuns.{fits}
+use Rattle.chunk_emit.specs.Head.{Ground, IsGround, AtHead, most_lanes, limit}
+use Rattle.first_fault.specs.Split.{is_quit}
+use Rattle.chunk_loop.specs.Chunks.{items_of}
+use Rattle.loop_edges.specs.EdgeCode.{fold_code}
+use Rattle.loop_edges.proofs.StartRuns.{start_runs}
+use Rattle.loop_edges.proofs.StartCounts.{few_held}
+use Rattle.loop_edges.proofs.FoldEnds.{folds_at}
+use Rattle.vector_emit.specs.VectorCode.{passes_by, passes_code, vector_code}
+use Rattle.vector_emit.specs.VectorRuns.{Follows, turn_steps, vector_base, ReachesScalar, VectorRuns}
+use Rattle.vector_emit.specs.VectorRuns as follows
+use Rattle.vector_emit.proofs.Courses.{turns_on, turns_fail, late_ends}
+use Rattle.vector_emit.proofs.Paces.{Spends, in_all, none_spent, cuts_more}
+use Rattle.vector_emit.proofs.Rounds.{Passing, leaves, stops, Late, split}
+use Rattle.vector_emit.proofs.LoopOf.{HeadOf, loop_of, has_lanes}
+use Rattle.vector_emit.proofs.Labels.{behind_start}
+use Rattle.vector_emit.proofs.Bounds.{bound_steady}
+use Rattle.vector_emit.proofs.Holds.{held_still}
+use Rattle.vector_emit.proofs.Answered.{answered}
+use Rattle.vector_emit.proofs.Breaking.{breaking_runs}
+use Rattle.vector_emit.proofs.Straight.{Enters, straight_runs}
+
+-- ---- what scalar code does that ends the run
+
+record Ended (d : Laid) (c : List Entry) (s : State) (K F i : ℕ) (m : Memory) (r bg : ℕ) : Type 0 where
+  n : ℕ
+  is : bg ≡ i + n
+  ends : Ends d c s m r (K * n + F)
+
+ended : {d : Laid} {c : List Entry} {s : State} {K F i : ℕ} {m : Memory} {r bg : ℕ} → Comes d c s K F i (run.End m r bg) → Ended d c s K F i m r bg
+ended (ends_so n is h) = record { n = n; is = is; ends = h }
+
+jump_at : {R : ℕ → ℕ} {k : Program} {i : ℕ} {cur : Names} {m : Memory} {s : State} (pc : ℕ) → AtIteration R k i cur m s → AtIteration R k i cur m (jump s pc)
+jump_at {R = R} {k = k} {cur = cur} {s = s} pc at = record { sized = at.sized; index = at.index; ranged = at.ranged; held = held_still_jump (kernel_homes R k) cur at.held; memory = at.memory; good = at.good }
+  where
+    held_still_jump : (hs : _) (ns : Names) → AreHeld hs ns s → AreHeld hs ns (jump s pc)
+    held_still_jump [] [] h = tt
+    held_still_jump [] (n ∷ ns) h = absurd h
+    held_still_jump (x ∷ hs) [] h = absurd h
+    held_still_jump (x ∷ hs) (n ∷ ns) h = (h.0, h.1, held_still_jump hs ns h.2)
+
+-- ---- paces
+
+-- of words, the passes, and what follows
+module _ (L U size : ℕ) (some : 0 < L) {d : Laid} {c e : List Entry} {s t : State} {most : ℕ} (before : Goes d c s e t most) (few : most ≤ 3 + 5 * size) where
+  abbrev InPace : ℕ → ℕ → Type 0
+  InPace bg n = L * n < L * (100 + 24 * size) + U * (bg + 5 * L) + 2 * (L * U) * cuts d n c s
+
+  early : (bg n : ℕ) → n ≤ before.count → InPace bg n
+  early bg n le =
+      let f = before.within in
+      let h = in_all L U size 0 bg n 0 0 0 (cuts d n c s) some (omega arith) (omega (arith, le, f, few)) (omega arith) (omega arith) (none_spent L U 0 0 some) in
+      let e : n + 0 + 0 ≡ n = omega arith in
+      subst (λ k. L * k < L * (100 + 24 * size) + U * (bg + 5 * L) + 2 * (L * U) * cuts d n c s) e h
+
+  -- k words behind n words of the passes
+  late : (bg j n k : ℕ) → j ≤ bg → k ≤ 6 * size + 1 + 2 * U → Spends L U 0 j n (cuts d n e t) → InPace bg (before.count + (n + k))
+  late bg j n k le behind spent =
+      let f = before.within in
+      let told = before.tells (n + k) in
+      let more = cuts_more d n k e t in
+      let h = in_all L U size j bg before.count n k (cuts d n e t) (cuts d (before.count + (n + k)) c s) some le (omega (arith, f, few)) behind (omega (arith, told, more)) spent in
+      let e : before.count + n + k ≡ before.count + (n + k) = omega arith in
+      subst (λ x. L * x < L * (100 + 24 * size) + U * (bg + 5 * L) + 2 * (L * U) * cuts d (before.count + (n + k)) c s) e h
+
+  whole : (bg j count : ℕ) → j ≤ bg → ((n : ℕ) → n ≤ count → Spends L U 0 j n (cuts d n e t)) → (n : ℕ) → n ≤ before.count + count → InPace bg n
+  whole bg j count le pace = split (InPace bg) before.count count (early bg) (λ n below. (let e : n + 0 ≡ n = omega arith in subst (λ n. InPace bg (before.count + n)) e (late bg j n 0 le (omega arith) (pace n below))))
+
+  whole_behind : (bg j count last : ℕ) → j ≤ bg → last ≤ 6 * size + 1 + 2 * U → ((n : ℕ) → n ≤ count → Spends L U 0 j n (cuts d n e t)) → (n : ℕ) → n ≤ before.count + (count + last) → InPace bg n
+  whole_behind bg j count last le behind pace =
+      split (InPace bg) before.count (count + last) (early bg)
+      (split (λ n. InPace bg (before.count + n)) count last (λ n below. (let e : n + 0 ≡ n = omega arith in subst (λ n. InPace bg (before.count + n)) e (late bg j n 0 le (omega arith) (pace n below))))
+      (λ k below. late bg j count k le (omega (arith, behind, below)) (pace count (omega arith))))
+
+-- ---- the passes
+
+passes_run : (g : Ground) (ground : IsGround g) (d : Laid) (n : ℕ) (rest : List Entry) {sum : List ℕ → ℕ → ℤ} {cur : Names} {m : Memory} {s : State} (b : Bool) → list_any is_quit (items_of g) ≡ b
+    → Resolves d (passes_by b g.kernel g.vectors g.predicates (items_of g) n rest) → AtHead g 0 cur m sum s → Enters g d rest (passes_by b g.kernel g.vectors g.predicates (items_of g) n rest) s cur m
+passes_run g ground d n rest {s = s} true quits res h = record { head = _; state = s; goes = go_more 2 (omega arith) pass; passing = breaking_runs g ground quits d n rest res h }
+passes_run g ground d n rest false quits res h = straight_runs g ground quits d n rest res h
+
+passes_are : (g : Ground) → IsGround g → (n : ℕ) (rest : List Entry) → passes_code g.kernel g.vectors g.predicates n rest ≡ passes_by (list_any is_quit (items_of g)) g.kernel g.vectors g.predicates (items_of g) n rest
+passes_are g ground n rest = ap (λ l. passes_by (list_any is_quit (turns_items g.kernel l)) g.kernel g.vectors g.predicates (turns_items g.kernel l) n rest) ground.loops
+
+enters : (g : Ground) (ground : IsGround g) (d : Laid) (n : ℕ) (rest : List Entry) {sum : List ℕ → ℕ → ℤ} {cur : Names} {m : Memory} {s : State} → Resolves d (passes_code g.kernel g.vectors g.predicates n rest) → AtHead g 0 cur m sum s
+    → Enters g d rest (passes_code g.kernel g.vectors g.predicates n rest) s cur m
+enters g ground d n rest {cur = cur} {m = m} {s = s} res h =
+    subst (λ es. Enters g d rest es s cur m) (sym (passes_are g ground n rest)) (passes_run g ground d n rest (list_any is_quit (items_of g)) refl (subst (Resolves d) (passes_are g ground n rest) res) h)
+
+-- ---- the whole
+
+module _ (g : Ground) (c : Assignment) (d : Laid) (scalar n : ℕ) (rest : List Entry) (m : Memory) (s : State) (ground : IsGround g) (fit : FitsKernel g.kernel X c) (at : AtIteration (register_in c) g.kernel 0 g.names m s)
+    (x : (r : ℕ) → r ≤ 25 → x_at s r ≡ slice_index g.x r) (reaches : ReachesScalar g c d scalar) where
+  abbrev R : ℕ → ℕ
+  R = register_in c
+
+  abbrev leave : List Entry
+  leave = fold_code R g.kernel g.vectors (Branch Always scalar ∷ rest)
+
+  abbrev code : List Entry
+  code = vector_code R g.kernel g.vectors g.predicates scalar n rest
+
+  abbrev Done : Run → Type 0
+  Done r = Follows g d code s (most_lanes g) (2 * (most_lanes g * turn_steps g)) (vector_base g) r
+
+  loop_is : (i : ℕ) (m : Memory) (names : Names) → run_from g.kernel i m names ≡ turns_from (var_scope g.kernel) (Some g.turns) g.kernel.answer i m names
+  loop_is i m names = ap (λ l. turns_from (var_scope g.kernel) l g.kernel.answer i m names) ground.loops
+
+  bound_is : (i : ℕ) (names : Names) (now : Memory) (t : State) → HeadOf g i names now t → bound_of g.turns names ≡ limit g
+  bound_is i names now t h = let k = fits g.kernel c ground.sound ground.few fit in bound_steady g.kernel g.turns _ g.names names ground.sound (k.bound g.turns ground.loops) h.head.between.steady
+
+  -- the names as the loop began are in their registers still
+  names_held : (i : ℕ) (names : Names) (now : Memory) (t : State) → HeadOf g i names now t → AreHeld (kernel_homes R g.kernel) g.names t
+  names_held i names now t h =
+      let k = fits g.kernel c ground.sound ground.few fit in
+      let l = k.looped g.turns ground.loops in
+      held_still (layout_of_kernel R g.kernel) (loop_start g.kernel) (kernel_homes R g.kernel) g.names s t k.steady (k.safe (loop_start g.kernel)) l.nine (λ r le ne. h.head.x r le ne ∙ sym (x r le)) at.held
+
+  module _ {head : List Entry} {start : State} {most : ℕ} (before : Goes d code s head start most) (few : most ≤ 3 + 5 * size_of g.kernel) where
+    -- behind the passes: the fold, and scalar code from iteration j on
+    record Behind (j : ℕ) (now : Memory) (names : Names) (end : State) : Type 0 where
+      memory : Memory
+      result : ℕ
+      begun : ℕ
+      is : run_from g.kernel j now names ≡ run.End memory result begun
+      late : j ≤ begun
+      ends : Ends d leave end memory result (6 * size_of g.kernel + 1 + 2 * turn_steps g)
+
+    behind_passes : (j : ℕ) (now : Memory) (names : Names) (end : State) → HeadOf g j names now end → j ≤ limit g → Late (loop_of g d leave) j now names → Behind j now names end
+    behind_passes j now names end h le late =
+        let bound = bound_is j names now end h in
+        let f = folds_at g c j names now h.sum d (Branch Always scalar ∷ rest) end ground fit at.ranged (names_held j names now end h) h.head in
+        let there : AtIteration R g.kernel j names now (jump f.end (address_of d scalar)) = jump_at (address_of d scalar) f.at in
+        let within : IsWithin g.kernel.turns j names = subst (λ l. IsWithin l j names) (sym ground.loops) (let b : j ≤ bound_of g.turns names = omega (arith, le, bound) in b) in
+        let ends = late_ends (var_scope g.kernel) g.turns g.kernel.answer (limit g) j now names (answered g.kernel g.turns ground.sound ground.loops) bound le late in
+        let is : run_from g.kernel j now names ≡ run.End ends.memory ends.result ends.count = loop_is j now names ∙ ends.is in
+        let e = ended (subst (λ r. Comes d (behind d scalar) (jump f.end (address_of d scalar)) (turn_steps g) (turn_steps g) j r) is (reaches j names now (jump f.end (address_of d scalar)) within there)) in
+        let begun = e.is in
+        let most = ends.few in
+        let one : turn_steps g * e.n ≤ turn_steps g * 1 = mul-le-mul_left (turn_steps g) (omega (arith, begun, most)) in
+        let few = few_held g.kernel in
+        record {
+          memory = ends.memory;
+          result = ends.result;
+          begun = ends.count;
+          is = is;
+          late = omega (arith, begun);
+          ends = end_after (6 * size_of g.kernel + 1 + 2 * turn_steps g) (omega (arith, one, few)) (chain (6 * length (throughout g.kernel Z) + 1) (omega arith) f.goes (taken_goes refl)) e.ends;
+        }
+
+    finish : Passing (loop_of g d leave) head start 0 g.names m → Done (run_from g.kernel 0 m g.names)
+    finish (leaves k j now names end count place le goes late h by pace) =
+        let b = behind_passes j now names end h le late in
+        let on : run_from g.kernel 0 m g.names ≡ run_from g.kernel j now names
+        = loop_is 0 m g.names ∙ turns_on (var_scope g.kernel) g.turns g.kernel.answer (limit g) k 0 m g.names now names refl (bound_is j names now end h) (omega (arith, place, le)) goes
+        ∙ ap (λ j. turns_from (var_scope g.kernel) (Some g.turns) g.kernel.answer j now names) (sym place) ∙ sym (loop_is j now names) in
+        subst Done (sym (on ∙ b.is))
+        (follows.ends_so (record {
+          count = before.count + (count + b.ends.count);
+          by = λ n taken.
+              let e : before.count + (count + b.ends.count) + n ≡ before.count + (count + (b.ends.count + n)) = omega arith in
+              let f : taken + before.count + count + b.ends.count ≡ taken + (before.count + (count + b.ends.count)) = omega arith in
+              ap (λ n. draft_run d n taken code s) e ∙ before.by (count + (b.ends.count + n)) taken ∙ by (b.ends.count + n) (taken + before.count) ∙ b.ends.by n (taken + before.count + count) ∙ ap (End b.memory b.result) f;
+          paced = λ n below. whole_behind (most_lanes g) (turn_steps g) (size_of g.kernel) (has_lanes g ground) before few b.begun j count b.ends.count b.late b.ends.within pace n (omega (arith, below));
+        }))
+    finish (stops k j left faulted kind count pc place within lo hi fails ends by pace) =
+        subst Done (sym (loop_is 0 m g.names ∙ turns_fail (var_scope g.kernel) g.turns g.kernel.answer (limit g) k 0 m g.names faulted j refl within fails))
+        (follows.faults_so kind left ends.access ends.near (record {
+          count = before.count + count;
+          pc = pc;
+          at = place;
+          by = λ n taken.
+              let e : before.count + count + n ≡ before.count + (count + n) = omega arith in
+              let f : taken + before.count + count ≡ taken + (before.count + count) = omega arith in
+              ap (λ n. draft_run d n taken code s) e ∙ before.by (count + n) taken ∙ by n (taken + before.count) ∙ ap (Stop kind pc place left) f;
+          paced = λ n below. whole (most_lanes g) (turn_steps g) (size_of g.kernel) (has_lanes g ground) before few (j + 1) j count (omega arith) pace n (omega (arith, below));
+        }))
+
+pub vector_runs : VectorRuns
+vector_runs g c d scalar n rest m s ground fit is vl at x res reaches =
+    let leave = fold_code (register_in c) g.kernel g.vectors (Branch Always scalar ∷ rest) in
+    let passes = passes_code g.kernel g.vectors g.predicates n leave in
+    let st = start_runs g m d passes s ground is vl at.memory at.index x in
+    let e = enters g ground d n leave (behind_start d g.kernel g.vectors passes res) st.head in
+    let few = few_held g.kernel in
+    finish g c d scalar n rest m s ground fit at x reaches (chain (1 + 5 * length (throughout g.kernel Z) + 2) (omega arith) st.goes e.goes) (omega (arith, few)) e.passing

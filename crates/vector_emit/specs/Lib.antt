@@ -1,0 +1,3 @@
+pub mod VectorCode
+pub mod VectorRuns
+pub mod Parts

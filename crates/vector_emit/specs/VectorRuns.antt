@@ -1,0 +1,57 @@
+-- What the vector code of a kernel's loop does: what the scalar loop does, within a pace that counts chunks.
+use Rattle.std.specs.Prelude.{◌≡◌, ℕ, ◌+◌, ◌*◌, ◌<◌, ◌≤◌, ◌^◌, List, slice_index}
+use Rattle.guest_types.specs.Memory.{Memory, byte_at}
+use Rattle.kernel_tree.specs.Items.{size_of}
+use Rattle.kernel_meaning.specs.Eval.{Names}
+use Rattle.kernel_meaning.specs.ScalarRun.{Run, End, Fault}
+use Rattle.machine_model.specs.declared.outcome.StopKind.{StopKind}
+use Rattle.machine_model.specs.Machine.{State, x_at}
+use Rattle.machine_model.specs.States.{IsState}
+use Rattle.label_fix.specs.DraftRun.{Entry, Laid, behind}
+use Rattle.label_fix.specs.Stretches.{Resolves, StopsPaced, EndsPaced}
+use Rattle.reg_assign.specs.declared.interval.RegClass.TheVariants.{X}
+use Rattle.reg_assign.specs.Registers.{Assignment}
+use Rattle.loop_form.specs.Registers.{FitsKernel}
+use Rattle.chunk_order.specs.Order.{Elsewhere}
+use Rattle.scalar_emit.specs.Kernel.{register_in}
+use Rattle.scalar_emit.specs.Runs.{IsAccess, AtIteration, IsWithin, Comes, run_from}
+use Rattle.chunk_emit.specs.Head.{Ground, IsGround, most_lanes, limit}
+use Rattle.vector_emit.specs.VectorCode.{vector_code}
+
+-- A stop of a chunk of k lanes from iteration i on, where the scalar loop's fault is in the last one of bg iterations: no byte
+-- differs but those of elements that these lanes store.
+pub record Near (g : Ground) (bg : ℕ) (left faulted : Memory) : Type 0 where
+  pub i : ℕ
+  pub k : ℕ
+  pub few : k ≤ most_lanes g
+  pub within : i + k ≤ limit g
+  pub from : i < bg
+  pub until : bg ≤ i + k
+  pub kept : (z : ℕ) → z < 2 ^ 64 → Elsewhere g.kernel g.args i k z → byte_at left z ≡ byte_at faulted z
+
+-- Where the scalar loop ends, the code does with its memory and result; where it faults, the code stops at a read or a write.
+-- Each is within a pace, whose base counts the iterations that were begun.
+pub data Follows (g : Ground) (d : Laid) (c : List Entry) (s : State) (scale unit : ℕ) (base : ℕ → ℕ) : Run → Type 0 where
+  ends_so : {m : Memory} {r bg : ℕ} → EndsPaced d c s m r scale unit (base bg) → Follows g d c s scale unit base (End m r bg)
+  faults_so : {m : Memory} {bg : ℕ} (kind : StopKind) (left : Memory) → IsAccess kind → Near g bg left m → StopsPaced d c s kind left scale unit (base bg) → Follows g d c s scale unit base (Fault m bg)
+
+-- the steps of one pass, of one iteration of scalar code, and of its end
+abbrev pub turn_steps : Ground → ℕ
+turn_steps g = 32 + 8 * size_of g.kernel
+
+-- L times the steps of the passes over so many iterations, L the lanes of a chunk, and of what stands before and behind them
+abbrev pub vector_base : Ground → ℕ → ℕ
+vector_base g bg = most_lanes g * (100 + 24 * size_of g.kernel) + turn_steps g * (bg + 5 * most_lanes g)
+
+-- scalar code stands behind the label: entered before an iteration, it does what the scalar loop does from there on
+abbrev pub ReachesScalar : Ground → Assignment → Laid → (scalar : ℕ) → Type 0
+ReachesScalar g c d scalar =
+    (i : ℕ) (names : Names) (m : Memory) (s : State) → IsWithin g.kernel.turns i names → AtIteration (register_in c) g.kernel i names m s
+    → Comes d (behind d scalar) s (turn_steps g) (turn_steps g) i (run_from g.kernel i m names)
+
+-- The vector code, from a state as the loop begins; `scalar` is the label of scalar code.
+abbrev pub VectorRuns : Type 0
+VectorRuns =
+    (g : Ground) (c : Assignment) (d : Laid) (scalar n : ℕ) (rest : List Entry) (m : Memory) (s : State) → IsGround g → FitsKernel g.kernel X c → IsState s → s.vl ≡ g.vl → AtIteration (register_in c) g.kernel 0 g.names m s
+    → ((r : ℕ) → r ≤ 25 → x_at s r ≡ slice_index g.x r) → Resolves d (vector_code (register_in c) g.kernel g.vectors g.predicates scalar n rest) → ReachesScalar g c d scalar
+    → Follows g d (vector_code (register_in c) g.kernel g.vectors g.predicates scalar n rest) s (most_lanes g) (2 * (most_lanes g * turn_steps g)) (vector_base g) (run_from g.kernel 0 m g.names)

@@ -1,0 +1,21 @@
+//! The vector code of a kernel's loop: the start, the passes, the fold, and the branch to scalar code.
+#![tactic(auto)]
+
+mod bound;
+mod passes;
+mod vector;
+
+ghost use Rattle.vector_emit.specs.VectorRuns.{VectorRuns};
+
+pub use passes::emit_passes;
+pub use vector::emit_vector;
+
+/// The vector code does what the scalar loop does: it ends with the same memory and result, and where the scalar loop faults it
+/// stops at a read or a write, and no byte differs but those of elements that a chunk around that iteration stores. Each is within
+/// a pace: so many steps for each chunk of the iterations begun, and for each free element that was suppressed on the way.
+pub fn vector_runs()
+    ensures { VectorRuns }
+{}
+
+#[cfg(test)]
+mod listings;

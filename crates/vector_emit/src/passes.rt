@@ -1,0 +1,228 @@
+//! Emits the passes of the loop.
+
+ghost use Rattle.std.specs.Prelude.{◌≡◌, ◌+◌, ◌<◌, suc, [], ◌∷◌, OnOk};
+ghost use Rattle.std.specs.List.{list_any};
+ghost use Rattle.a64_code.specs.Table.{subs};
+ghost use Rattle.reg_assign.specs.declared.interval.RegClass.TheVariants as class;
+ghost use Rattle.label_fix.specs.Draft.{word_seen};
+ghost use Rattle.label_fix.specs.DraftRun as plain;
+ghost use Rattle.loop_form.specs.LoopView.{view};
+ghost use Rattle.loop_form.specs.Registers.{FitsKernel};
+ghost use Rattle.loop_form.specs.Seen.{program};
+ghost use Rattle.dependence.specs.Apart.{bound_place};
+ghost use Rattle.dependence.specs.Classes.{class_of};
+ghost use Rattle.dependence.specs.declared.reason.Class.TheVariants.{Vector};
+ghost use Rattle.scalar_emit.specs.Drafts.{Appends};
+ghost use Rattle.scalar_emit.specs.Words.{ins};
+ghost use Rattle.lane_emit.specs.RegistersView.{kernel_in, vectors_in, predicates_in};
+ghost use Rattle.chunk_emit.specs.Writable.{AreWritable};
+ghost use Rattle.chunk_emit.specs.View.{layout_in, width_in};
+ghost use Rattle.first_fault.specs.Split.{is_quit, region_of, rest_of};
+ghost use Rattle.vector_emit.specs.Parts as parts;
+ghost use Rattle.vector_emit.specs.VectorCode as code;
+
+use crate::bound::bound;
+use a64_code::{A64, AddSubOp, AddSubShift, Cond, Reg};
+use chunk_emit::{LoopLayout, loop_layout};
+use chunk_loop::{emit_chunk, emit_plain, emit_turn, lanes};
+use first_fault::{has_break, writable_items};
+use kernel_tree::Checked;
+use label_fix::{BranchKind, Draft, Label, Word};
+use loop_form::{LoopItem, loop_items};
+use reg_assign::VectorRegs;
+use std::alloc::{AllocError, Global};
+use sve_code::Sve;
+use word_rows::Bits;
+
+// Z is clear where a lane came through.
+fn any_lane() -> Word
+    ensures { word_seen result ≡ code.any_lane }
+{
+    Word::V(Sve::Ptest {
+        pn: Bits { number: 0 },
+        pg: Bits { number: 0 },
+    })
+}
+
+// The comparison of the iteration with the bound.
+fn compare(bound: Reg) -> Word
+    ensures { plain.Put (word_seen result) ≡ ins subs (31 ∷ 9 ∷ 0 ∷ bound.number ∷ 0 ∷ []) }
+{
+    Word::A(A64::AddSubShifted {
+        op: AddSubOp::Subs,
+        rd: Bits { number: 31 },
+        rn: Bits { number: 9 },
+        imm6: Bits { number: 0 },
+        rm: bound,
+        shift: AddSubShift::Lsl,
+    })
+}
+
+// A chunk of a loop with a break.
+fn emit_chunk_part(
+    alloc: Global,
+    layout: &LoopLayout<'_>,
+    bound: Reg,
+    items: &[LoopItem<'_>],
+    head: Label,
+    end: Label,
+    draft: &mut Draft,
+) -> Result<(), AllocError>
+    requires region { AreWritable (width_in layout.now) (region_of (view items.now)) }
+    requires rest { AreWritable (width_in layout.now) (rest_of (view items.now)) }
+    requires head { head < draft.old.labels }
+    requires end { end < draft.old.labels }
+    ensures labels { OnOk result (draft.new.labels ≡ draft.old.labels) }
+    ensures code { let part = parts.chunk_part (width_in layout.now) (layout_in layout.now) bound.number in
+        OnOk result (Appends draft.old draft.new (part (view items.now) head end)) }
+{
+    draft.place(head)?;
+    emit_chunk(alloc, layout, bound, items, draft)?;
+    draft.put(any_lane())?;
+    draft.branch(BranchKind::If(Cond::Ne), head)?;
+    draft.put(compare(bound))?;
+    draft.branch(BranchKind::If(Cond::Hs), end)?;
+    Ok(())
+}
+
+// One iteration of such a loop.
+fn emit_turn_part(
+    alloc: Global,
+    layout: &LoopLayout<'_>,
+    items: &[LoopItem<'_>],
+    head: Label,
+    end: Label,
+    draft: &mut Draft,
+) -> Result<(), AllocError>
+    requires region { AreWritable (width_in layout.now) (region_of (view items.now)) }
+    requires rest { AreWritable (width_in layout.now) (rest_of (view items.now)) }
+    requires head { head < draft.old.labels }
+    requires end { end < draft.old.labels }
+    ensures labels { OnOk result (draft.new.labels ≡ draft.old.labels) }
+    ensures code { let part = parts.turn_part (width_in layout.now) (layout_in layout.now) in
+        OnOk result (Appends draft.old draft.new (part (view items.now) head end)) }
+{
+    emit_turn(alloc, layout, items, draft)?;
+    draft.put(any_lane())?;
+    draft.branch(BranchKind::If(Cond::Ne), head)?;
+    draft.place(end)?;
+    Ok(())
+}
+
+// A chunk of a loop without a break.
+fn emit_plain_part(
+    alloc: Global,
+    layout: &LoopLayout<'_>,
+    bound: Reg,
+    items: &[LoopItem<'_>],
+    head: Label,
+    end: Label,
+    draft: &mut Draft,
+) -> Result<(), AllocError>
+    requires writable { AreWritable (width_in layout.now) (view items.now) }
+    requires head { head < draft.old.labels }
+    requires end { end < draft.old.labels }
+    ensures labels { OnOk result (draft.new.labels ≡ draft.old.labels) }
+    ensures code { let part = parts.plain_part (width_in layout.now) (layout_in layout.now) bound.number in
+        OnOk result (Appends draft.old draft.new (part (view items.now) head end)) }
+{
+    draft.place(head)?;
+    emit_plain(alloc, layout, items, draft)?;
+    draft.put(lanes(layout.width(), bound))?;
+    draft.branch(BranchKind::If(Cond::Ne), head)?;
+    draft.place(end)?;
+    Ok(())
+}
+
+// The passes of a loop with a break.
+fn emit_breaking(
+    alloc: Global,
+    layout: &LoopLayout<'_>,
+    bound: Reg,
+    items: &[LoopItem<'_>],
+    draft: &mut Draft,
+) -> Result<(), AllocError>
+    requires bound { bound.number ≡ bound_place (kernel_in layout.now.registers) }
+    requires region { AreWritable (width_in layout.now) (region_of (view items.now)) }
+    requires rest { AreWritable (width_in layout.now) (rest_of (view items.now)) }
+    ensures labels { OnOk result (draft.new.labels ≡ draft.old.labels + 2) }
+    ensures code { let r = layout.now.registers in
+        let passes = code.breaking_code (kernel_in r) (vectors_in r) (predicates_in r) (view items.now) in
+        OnOk result (Appends draft.old draft.new (passes draft.old.labels)) }
+{
+    let head = draft.label()?;
+    let end = draft.label()?;
+    emit_chunk_part(alloc, layout, bound, items, head, end, draft)?;
+    emit_turn_part(alloc, layout, items, head, end, draft)?;
+    Ok(())
+}
+
+// The passes of a loop without a break.
+fn emit_straight(
+    alloc: Global,
+    layout: &LoopLayout<'_>,
+    bound: Reg,
+    items: &[LoopItem<'_>],
+    draft: &mut Draft,
+) -> Result<(), AllocError>
+    requires bound { bound.number ≡ bound_place (kernel_in layout.now.registers) }
+    requires writable { AreWritable (width_in layout.now) (view items.now) }
+    ensures labels { OnOk result (draft.new.labels ≡ draft.old.labels + 2) }
+    ensures code { let r = layout.now.registers in
+        let passes = code.straight_code (kernel_in r) (vectors_in r) (predicates_in r) (view items.now) in
+        OnOk result (Appends draft.old draft.new (passes draft.old.labels)) }
+{
+    let head = draft.label()?;
+    let end = draft.label()?;
+    draft.put(lanes(layout.width(), bound))?;
+    draft.branch(BranchKind::If(Cond::Eq), end)?;
+    emit_plain_part(alloc, layout, bound, items, head, end, draft)?;
+    Ok(())
+}
+
+// The passes, by whether the loop has a break.
+fn emit_by(
+    alloc: Global,
+    layout: &LoopLayout<'_>,
+    bound: Reg,
+    items: &[LoopItem<'_>],
+    draft: &mut Draft,
+) -> Result<(), AllocError>
+    requires bound { bound.number ≡ bound_place (kernel_in layout.now.registers) }
+    requires region { AreWritable (width_in layout.now) (region_of (view items.now)) }
+    requires rest { AreWritable (width_in layout.now) (rest_of (view items.now)) }
+    ensures labels { OnOk result (draft.new.labels ≡ draft.old.labels + 2) }
+    ensures code { let r = layout.now.registers in
+        let by = code.passes_by (list_any is_quit (view items.now)) in
+        let passes = by (kernel_in r) (vectors_in r) (predicates_in r) (view items.now) in
+        OnOk result (Appends draft.old draft.new (passes draft.old.labels)) }
+{
+    if has_break(items) {
+        emit_breaking(alloc, layout, bound, items, draft)?;
+        Ok(())
+    } else {
+        emit_straight(alloc, layout, bound, items, draft)?;
+        Ok(())
+    }
+}
+
+/// The passes of a kernel's loop, with two labels: before a pass, and behind the loop.
+pub fn emit_passes(
+    alloc: Global,
+    kernel: &Checked,
+    regs: &VectorRegs,
+    draft: &mut Draft,
+) -> Result<(), AllocError>
+    requires class { class_of (program kernel.now) ≡ Vector }
+    requires vectors { FitsKernel (program kernel.now) class.Z regs.now.z }
+    requires predicates { FitsKernel (program kernel.now) class.P regs.now.p }
+    ensures labels { OnOk result (draft.new.labels ≡ draft.old.labels + 2) }
+    ensures code { let passes = code.passes_code (program kernel.now) regs.now.z regs.now.p in
+        OnOk result (Appends draft.old draft.new (passes draft.old.labels)) }
+{
+    writable_items(kernel, regs);
+    let layout = loop_layout(alloc, kernel, regs)?;
+    let items = loop_items(alloc, kernel)?;
+    emit_by(alloc, &layout, bound(kernel), &items, draft)?;
+    Ok(())
+}

@@ -1,0 +1,46 @@
+//! Emits the vector code of a loop.
+
+ghost use Rattle.std.specs.Prelude.{◌≡◌, ◌+◌, ◌*◌, ◌<◌, OnOk};
+ghost use Rattle.kernel_tree.specs.Items.{size_of};
+ghost use Rattle.reg_assign.specs.declared.interval.RegClass.TheVariants as class;
+ghost use Rattle.loop_form.specs.Registers.{FitsKernel};
+ghost use Rattle.loop_form.specs.Seen.{program};
+ghost use Rattle.dependence.specs.Classes.{class_of};
+ghost use Rattle.dependence.specs.declared.reason.Class.TheVariants.{Vector};
+ghost use Rattle.scalar_emit.specs.Drafts.{Appends, AppendsWords};
+ghost use Rattle.scalar_emit.specs.Kernel.{register_in};
+ghost use Rattle.vector_emit.specs.VectorCode.{vector_code};
+
+use crate::passes::emit_passes;
+use kernel_tree::Checked;
+use label_fix::{BranchKind, Draft, Label};
+use loop_edges::{emit_fold, emit_start};
+use reg_assign::VectorRegs;
+use std::alloc::{AllocError, Global};
+
+/// The vector code of a kernel's loop: what stands before it, its passes, what stands behind it, and a branch to scalar code
+/// at a label.
+pub fn emit_vector(
+    alloc: Global,
+    kernel: &Checked,
+    regs: &VectorRegs,
+    scalar: Label,
+    draft: &mut Draft,
+) -> Result<(), AllocError>
+    requires class { class_of (program kernel.now) ≡ Vector }
+    requires vectors { FitsKernel (program kernel.now) class.Z regs.now.z }
+    requires predicates { FitsKernel (program kernel.now) class.P regs.now.p }
+    requires scalars { FitsKernel (program kernel.now) class.X regs.now.x }
+    requires given { scalar < draft.old.labels }
+    ensures labels { OnOk result (draft.new.labels ≡ draft.old.labels + 2) }
+    ensures words { OnOk result (AppendsWords draft.old draft.new (200 + 32 * size_of (program kernel.now))) }
+    ensures code { let r = register_in regs.now.x in
+        let whole = vector_code r (program kernel.now) regs.now.z regs.now.p scalar in
+        OnOk result (Appends draft.old draft.new (whole draft.old.labels)) }
+{
+    emit_start(alloc, draft, kernel, regs)?;
+    emit_passes(alloc, kernel, regs, draft)?;
+    emit_fold(alloc, draft, kernel, regs)?;
+    draft.branch(BranchKind::Always, scalar)?;
+    Ok(())
+}
