@@ -1,7 +1,6 @@
 -- The words of a kernel's code do what the kernel says.
 use Rattle.std.proofs.Common.{◌≡◌, ℕ, ◌+◌, ◌-◌, ◌*◌, ◌<◌, ◌≤◌, ◌^◌, List, [], ◌++◌, length, append-nil, Option, Some, None, Ok, Err, refl, sym, ap, ◌∙◌, subst, arith}
 use Rattle.std.specs.Prelude.{All}
-use Rattle.std.proofs.Math.Nat.{mul-le-mul_right}
 use Rattle.guest_types.specs.Memory.{Memory, merged}
 use Rattle.machine_model.specs.Machine.{State}
 use Rattle.machine_model.specs.Run.{Outcome, run, free_start}
@@ -13,7 +12,6 @@ use Rattle.kernel_tree.specs.Typing.{Scope, var_scope}
 use Rattle.kernel_meaning.specs.Eval.{Names}
 use Rattle.kernel_meaning.specs.ScalarRun as scalar
 use Rattle.kernel_meaning.specs.ScalarRun.{begun, bound_of, course, finish, run_turns, run_named, scalar_run}
-use Rattle.dependence.specs.Bound.{slow_bound}
 use Rattle.label_fix.specs.DraftRun.{Entry, Laid, draft_run}
 use Rattle.label_fix.specs.Finished.{AreFit, StandAt, size, words_of}
 use Rattle.label_fix.specs.Stretches.{Goes, Resolves}
@@ -21,19 +19,19 @@ use Rattle.label_fix.proofs.Steps.{stop_after, end_after}
 use Rattle.label_fix.proofs.Once.{Once, resolves_in}
 use Rattle.label_fix.proofs.Same.{runs_as_draft, words_length}
 use Rattle.scalar_emit.specs.Kernel.{begin_code, scalar_code, begin_labels}
-use Rattle.scalar_emit.specs.Runs.{HasArguments, Begins, BeginRuns, Comes, ends_so, faults_so, turns_from, run_from, IsWithin, ScalarRuns}
+use Rattle.scalar_emit.specs.Runs.{HasArguments, BeginRuns, Comes, ends_so, faults_so, turns_from, run_from, IsWithin, ScalarRuns}
 use Rattle.scalar_emit.proofs.Placed.{whole_once}
 use Rattle.kernel_compile.specs.Faithful.{Follows, FreeSlowFaithful}
 use Rattle.kernel_compile.proofs.Loaded.{starts, start_memory, words_stand}
 
 -- ---- runs that end
 
-comes_after : {D : Laid} {c e : List Entry} {s t : State} {K F G i a : ℕ} {r : scalar.Run} → F + a ≤ G → Goes D c s e t a → Comes D e t K F i r → Comes D c s K G i r
+pub comes_after : {D : Laid} {c e : List Entry} {s t : State} {K F G i a : ℕ} {r : scalar.Run} → F + a ≤ G → Goes D c s e t a → Comes D e t K F i r → Comes D c s K G i r
 comes_after {K = K} {G = G} le g (ends_so n e h) = ends_so n e (end_after (K * n + G) (omega arith) g h)
 comes_after {K = K} {G = G} le g (faults_so n kind e ok h) = faults_so n kind e ok (stop_after (K * n + G) (omega arith) g h)
 
 -- the outcome of a run of enough steps
-comes_follow : {D : Laid} {c : List Entry} {s : State} {K F : ℕ} {r : scalar.Run} (k : Program) (args : List ℕ) (vl steps : ℕ) → K * begun r + F ≤ steps → Comes D c s K F 0 r → Follows k args vl r (draft_run D steps 0 c s)
+pub comes_follow : {D : Laid} {c : List Entry} {s : State} {K F : ℕ} {r : scalar.Run} (k : Program) (args : List ℕ) (vl steps : ℕ) → K * begun r + F ≤ steps → Comes D c s K F 0 r → Follows k args vl r (draft_run D steps 0 c s)
 comes_follow {D = D} {c = c} {s = s} {K = K} {F = F} k args vl steps le (ends_so {bg = bg} n e h) =
     let z : bg ≡ n = omega (arith, e) in
     let p = ap (λ x. K * x) z in
@@ -58,11 +56,11 @@ comes_follow {D = D} {c = c} {s = s} {K = K} {F = F} k args vl steps le (faults_
 
 -- ---- from the first iteration on
 
-from_start : (s : Scope) (turns : Option Turns) (answer : Option Returned) (m : Memory) (names : Names) → turns_from s turns answer 0 m names ≡ run_turns s turns answer m names
+pub from_start : (s : Scope) (turns : Option Turns) (answer : Option Returned) (m : Memory) (names : Names) → turns_from s turns answer 0 m names ≡ run_turns s turns answer m names
 from_start s None answer m names = refl
 from_start s (Some l) answer m names = let e : bound_of l names - 0 ≡ bound_of l names = omega arith in ap (λ n. finish s l answer (bound_of l names) (course s l n 0 m names)) e
 
-start_within : (turns : Option Turns) (names : Names) → IsWithin turns 0 names
+pub start_within : (turns : Option Turns) (names : Names) → IsWithin turns 0 names
 start_within None names = refl
 start_within (Some l) names = omega arith
 

@@ -3,3 +3,14 @@ pub mod Loaded
 pub mod Join
 mod NoStops
 pub mod ScalarFiles
+pub mod ArrayStreams
+pub mod ApartBoth
+pub mod AtLoop
+pub mod AtVector
+pub mod MapStays
+pub mod Paces
+pub mod NearFaults
+pub mod VectorPlaced
+pub mod VectorJoin
+pub mod VectorFiles
+pub mod VectorEmitted

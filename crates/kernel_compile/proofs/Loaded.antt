@@ -1,6 +1,6 @@
 -- A file of words at the start of a run: the words stand in memory, the pages are a memory, and the arguments are in X0 on.
-use Rattle.std.proofs.Common.{◌≡◌, ℕ, zero, suc, ◌+◌, ◌-◌, ◌*◌, ◌/◌, ◌%◌, ◌^◌, ◌<◌, ◌≤◌, Bool, true, false, List, [], ◌∷◌, ◌++◌, length, get_or, replicate, refl, sym, ap, ◌∙◌, subst, arith, length-append}
-use Rattle.std.specs.Prelude.{All, ◌&&◌, nat_lt, slice_index, slice_get, flat_map, Some}
+use Rattle.std.proofs.Common.{◌≡◌, ℕ, zero, suc, ◌+◌, ◌-◌, ◌*◌, ◌/◌, ◌%◌, ◌^◌, ◌<◌, ◌≤◌, Bool, true, List, [], ◌∷◌, ◌++◌, length, get_or, replicate, refl, ap, ◌∙◌, arith, length-append}
+use Rattle.std.specs.Prelude.{All, ◌&&◌, nat_lt, slice_index}
 use Rattle.std.specs.Int.{to_le_bytes, w32, w64}
 use Rattle.std.proofs.Math.Nat.{mod-eq_of_lt}
 use Rattle.std.proofs.lemmas.Bool.{lt-ltb, ltb-true, and_from, and_parts}
@@ -10,12 +10,10 @@ use Rattle.std.proofs.lemmas.Option.{slice_get_within}
 use Rattle.guest_types.specs.EarlyLoads.{StopList}
 use Rattle.guest_types.specs.Memory.{Memory, IsMemory, DoNotMeet, merged, fetched}
 use Rattle.guest_types.proofs.Merges.{IsMemory-merged}
-use Rattle.machine_model.specs.Load.{Image, pages_of}
 use Rattle.machine_model.specs.Machine.{State, x_at}
-use Rattle.machine_model.specs.Run.{start, start_x, free_start}
+use Rattle.machine_model.specs.Run.{start, free_start}
 use Rattle.machine_model.specs.Written.{file_of, word_bytes, code_base, whole, image_of_words}
 use Rattle.machine_model.proofs.Fetch.{fetch_beside}
-use Rattle.machine_model.proofs.Files.{length-file_of}
 use Rattle.elf_image.specs.Loadable.{IsLoadable}
 use Rattle.elf_image.proofs.Memories.{is_memory}
 use Rattle.label_fix.specs.Finished.{StandAt}
@@ -59,7 +57,7 @@ file_bytes words =
 
 -- ---- memory
 
-image_memory : (words : List ℕ) → length words ≤ 65536 → IsMemory (image_of_words words).pages
+pub image_memory : (words : List ℕ) → length words ≤ 65536 → IsMemory (image_of_words words).pages
 image_memory words few =
     let n = 120 + 4 * length words in
     let loadable : IsLoadable n (whole n) = record { part = omega arith; in_file = omega arith; in_space = omega arith; some = omega arith } in

@@ -1,5 +1,5 @@
 -- With the empty stop list nothing that is free is suppressed.
-use Rattle.std.proofs.Common.{◌≡◌, ℕ, zero, suc, ◌+◌, Bool, true, false, List, Option, Some, None, Result, Ok, Err, cond, refl, sym, ap, ◌∙◌, subst, arith}
+use Rattle.std.proofs.Common.{◌≡◌, ℕ, zero, suc, ◌+◌, Bool, true, false, List, Option, Some, None, cond, refl, sym, ap, ◌∙◌, arith}
 use Rattle.std.specs.Prelude.{not, ◌&&◌, if◌then◌else◌}
 use Rattle.guest_types.specs.declared.memory.AccessFault.{AccessFault}
 use Rattle.guest_types.specs.Memory.{Memory, fetched}
@@ -9,8 +9,6 @@ use Rattle.guest_types.specs.Length.{lanes}
 use Rattle.guest_types.specs.EarlyLoads.{StopList, never, stop_at, later, suppressed_at, is_cut, looked_at, later_than, EarlyLoad, early_load, unless_fault}
 use Rattle.guest_types.proofs.EarlyLoads.{suppressed-never}
 use Rattle.word_rows.specs.Field.{Field}
-use Rattle.word_rows.specs.Row.{Instruction}
-use Rattle.sve_code.specs.Table as sve
 use Rattle.sve_code.specs.Table.{Name, ldff1, ldnf1, zt, rm, dtype}
 use Rattle.machine_model.specs.declared.outcome.StopKind.TheVariants.{Undefined}
 use Rattle.machine_model.specs.InstructionTable.{Listed, Scalar, Vector}

@@ -1,15 +1,14 @@
 -- How the promises on files stand to one another.
-use Rattle.std.proofs.Common.{◌≡◌, ℕ, ◌≤◌, List, Option, Some, None, Ok, Err, refl, ap, ◌∙◌, subst, arith}
-use Rattle.guest_types.specs.EarlyLoads.{StopList, never}
+use Rattle.std.proofs.Common.{◌≡◌, ℕ, List, refl, ap, ◌∙◌, arith}
+use Rattle.guest_types.specs.EarlyLoads.{never}
 use Rattle.guest_types.specs.Memory.{Memory, merged}
-use Rattle.machine_model.specs.Load.{Image, load}
-use Rattle.machine_model.specs.Run.{Outcome, run, start, free_start, free_run, machine_run, suppressed}
+use Rattle.machine_model.specs.Run.{start, free_start, free_run, machine_run}
 use Rattle.kernel_tree.specs.Plain.{Program}
 use Rattle.kernel_meaning.specs.ScalarRun.{begun, scalar_run}
-use Rattle.dependence.specs.Bound.{bound, slow_bound, free_bound}
+use Rattle.dependence.specs.Bound.{free_bound}
 use Rattle.dependence.proofs.Bounds as bounds
 use Rattle.kernel_compile.proofs.NoStops.{none_suppressed}
-use Rattle.kernel_compile.specs.Faithful.{IsFaithful, IsEmpty, IsAny, slow_steps, Faithful, SlowFaithful, FreeFaithful, FreeSlowFaithful}
+use Rattle.kernel_compile.specs.Faithful.{Faithful, SlowFaithful, FreeFaithful, FreeSlowFaithful}
 
 pub without_stops : (file args : List ℕ) (pages : Memory) (vl steps : ℕ) → free_run file args pages vl never steps ≡ machine_run file args pages vl steps
 unfolding start free_start

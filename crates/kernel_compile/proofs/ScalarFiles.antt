@@ -1,5 +1,5 @@
 -- Where the class is Scalar, iterations are run one by one, and the two bounds are one.
-use Rattle.std.proofs.Common.{◌≡◌, ℕ, ◌+◌, ◌≤◌, Bool, true, false, List, refl, sym, ap, ◌∙◌, arith}
+use Rattle.std.proofs.Common.{◌≡◌, ℕ, ◌+◌, List, ap, ◌∙◌, arith}
 use Rattle.std.specs.Prelude.{◌*◌, ◌&&◌, if◌then◌else◌}
 use Rattle.std.specs.Int.{div_ceil}
 use Rattle.guest_types.specs.Length.{lanes}

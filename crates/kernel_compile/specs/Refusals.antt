@@ -1,5 +1,5 @@
 -- When a kernel is refused: more values of a class are live than there are registers for them.
-use Rattle.std.specs.Prelude.{◌≡◌, ℕ, List, [], ◌∷◌, Option, Some, None, Bool, nat_lt}
+use Rattle.std.specs.Prelude.{◌≡◌, ℕ, List, [], ◌∷◌, Option, Some, Bool, nat_lt}
 use Rattle.std.specs.List.{find}
 use Rattle.kernel_tree.specs.Plain.{Program}
 use Rattle.reg_assign.specs.declared.interval.RegClass.{RegClass}

@@ -12,7 +12,8 @@ ghost use Rattle.kernel_compile.specs.Faithful.{Faithful, SlowFaithful, FreeFait
 
 /// The run with the empty stop list is the machine's run.
 pub fn runs_without_stops()
-    ensures { (file args : List ℕ) (pages : Memory) (vl steps : ℕ) → free_run file args pages vl never steps ≡ machine_run file args pages vl steps }
+    ensures { (file args : List ℕ) (pages : Memory) (vl steps : ℕ)
+        → free_run file args pages vl never steps ≡ machine_run file args pages vl steps }
 {}
 
 /// What holds with every stop list holds without one, and what holds within the lower bound holds within the higher one.

@@ -2,6 +2,7 @@
 #![tactic(auto)]
 
 mod compile;
+mod emit;
 mod fault;
 mod laws;
 mod registers;

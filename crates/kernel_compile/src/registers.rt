@@ -3,7 +3,7 @@
 ghost use Rattle.std.specs.Prelude.{◌≡◌, None, IfErr, IfOk, OnOk};
 ghost use Rattle.loop_form.specs.Needs.{needs_of};
 ghost use Rattle.loop_form.specs.Registers.{counted_registers, FitsKernel};
-ghost use Rattle.reg_assign.specs.declared.interval.RegClass.TheVariants.{X};
+ghost use Rattle.reg_assign.specs.declared.interval.RegClass.TheVariants.{X, Z, P};
 ghost use Rattle.loop_form.specs.Seen.{program};
 ghost use Rattle.kernel_compile.specs.Refusals as refusals;
 ghost use Rattle.kernel_compile.specs.Refusals.{exceeded, too_many, IsRefusal, IsRefusalIn};
@@ -15,7 +15,7 @@ use kernel_tree::Checked;
 use loop_form::laws::ordered_intervals;
 use loop_form::need::Needs;
 use loop_form::{intervals, needs};
-use reg_assign::{Assigned, RegClass, assign};
+use reg_assign::{Assigned, RegClass, VectorRegs, assign};
 use std::alloc::{AllocError, Global};
 
 // How many registers of a class hold values: Z0 to Z29, P2 to P7, X10 to X17 and X19 to X25.
@@ -77,17 +77,38 @@ pub fn check_needs(alloc: Global, kernel: &Checked) -> Result<(), CompileFault>
     Ok(())
 }
 
-/// The registers of the intervals of class X.
+// The registers of the intervals of a class.
 #[tactic(auto, unfolding(loop_form::specs::Seen::program))]
+fn class_registers(alloc: Global, kernel: &Checked, class: RegClass) -> Result<Assigned, AllocError>
+    ensures { IfOk result (FitsKernel (program kernel.now) class) }
+{
+    ordered_intervals(kernel, class);
+    let intervals = intervals(alloc, kernel, class)?;
+    // No more registers are needed than there are: want of memory is all that is left.
+    match assign(alloc, &intervals, class, counted(class)) {
+        Ok(assigned) => Ok(assigned),
+        Err(_) => Err(AllocError),
+    }
+}
+
+/// The registers of the intervals of class X.
 pub fn scalar_registers(alloc: Global, kernel: &Checked) -> Result<Assigned, AllocError>
     requires { too_many (program kernel.now) ≡ None }
     ensures { IfOk result (FitsKernel (program kernel.now) X) }
 {
-    ordered_intervals(kernel, RegClass::X);
-    let intervals = intervals(alloc, kernel, RegClass::X)?;
-    // No more registers are needed than there are: want of memory is all that is left.
-    match assign(alloc, &intervals, RegClass::X, counted(RegClass::X)) {
-        Ok(assigned) => Ok(assigned),
-        Err(_) => Err(AllocError),
-    }
+    let x = class_registers(alloc, kernel, RegClass::X)?;
+    Ok(x)
+}
+
+/// The registers of the intervals of all three classes.
+pub fn vector_registers(alloc: Global, kernel: &Checked) -> Result<VectorRegs, AllocError>
+    requires { too_many (program kernel.now) ≡ None }
+    ensures vectors { IfOk result (λ regs. FitsKernel (program kernel.now) Z regs.z) }
+    ensures predicates { IfOk result (λ regs. FitsKernel (program kernel.now) P regs.p) }
+    ensures scalars { IfOk result (λ regs. FitsKernel (program kernel.now) X regs.x) }
+{
+    let z = class_registers(alloc, kernel, RegClass::Z)?;
+    let p = class_registers(alloc, kernel, RegClass::P)?;
+    let x = class_registers(alloc, kernel, RegClass::X)?;
+    Ok(VectorRegs { z, p, x })
 }

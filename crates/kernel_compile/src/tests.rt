@@ -15,6 +15,16 @@ fn ends_by_the_exit_call(rt: HostRuntime) -> Result<(), Fail> {
     Ok(())
 }
 
+// `ptrue p1.b`, as GNU `as` writes it, stands at the head of vector code.
+#[test]
+fn chunks_are_run_at_once(rt: HostRuntime) -> Result<(), Fail> {
+    let text = b"kernel fill(a: [u8], v: u8, n: u64) { for i in 0..n { a[i] = v; } }";
+    let kernel = accept(rt.alloc(), text)?;
+    let words = compile_kernel(rt.alloc(), &kernel)?.words;
+    assert!(rt; words.contains(&0x2518_e3e1));
+    Ok(())
+}
+
 // Forty values are live at once.
 const MANY: &str = "kernel many(a: [u8], y: [u8], n: u64) { for i in 0..n {
     let v0 = a[i]; let v1 = a[i + 1]; let v2 = a[i + 2]; let v3 = a[i + 3]; let v4 = a[i + 4];

@@ -67,7 +67,8 @@ fn place(params: &[Param], name: &str) -> Option<u32>
 #[tactic(auto, unfolding(crate::specs::Seen::program))]
 fn access(kernel: &Checked, array: &str, index: &Expr, store: bool, item: u32) -> Option<Stream>
     requires { IsNear (stream_offset (loop_index (program kernel.now)) (term_of index.now)) }
-    ensures { let k = program kernel.now in result ≡ access (place_of array.now k.params) (stream_offset (loop_index k) (term_of index.now)) store item }
+    ensures { let k = program kernel.now in result
+        ≡ access (place_of array.now k.params) (stream_offset (loop_index k) (term_of index.now)) store item }
 {
     let param = place(&kernel.kernel().params, array)?;
     let offset = offset(kernel, index)?;

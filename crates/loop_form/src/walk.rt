@@ -31,7 +31,8 @@ pub fn put<'a>(
     until: u32,
 )
     requires { array_vec_len entries.old < 1000 }
-    ensures items { seen entries.new.items ≡ seen entries.old.items ++ entry (program kernel.now) item (content_of content.entry) until ∷ [] }
+    ensures items { seen entries.new.items ≡ seen entries.old.items
+        ++ entry (program kernel.now) item (content_of content.entry) until ∷ [] }
     ensures len { array_vec_len entries.new ≡ array_vec_len entries.old + 1 }
 {
     let ty = type_at(kernel, item);
@@ -54,8 +55,10 @@ pub fn list_expr<'a>(
 )
     requires behind { array_vec_len entries.old ≤ from }
     requires fits { from + term_size (loop_index (program kernel.now)) (term_of expr.now) ≤ 1000 }
-    ensures items { seen entries.new.items ≡ seen entries.old.items ++ term_entries (program kernel.now) from until (term_of expr.now) }
-    ensures len { array_vec_len entries.new ≡ array_vec_len entries.old + term_size (loop_index (program kernel.now)) (term_of expr.now) }
+    ensures items { seen entries.new.items ≡ seen entries.old.items
+        ++ term_entries (program kernel.now) from until (term_of expr.now) }
+    ensures len { array_vec_len entries.new ≡ array_vec_len entries.old + term_size (loop_index (program kernel.now))
+        (term_of expr.now) }
 {
     match expr {
         Expr::Lit(value) => put(kernel, entries, from, Content::Literal(*value), until),
@@ -93,8 +96,10 @@ fn list_read<'a>(
 )
     requires behind { array_vec_len entries.old ≤ from }
     requires fits { from + (index_items (loop_index (program kernel.now)) (term_of index.now) + 1) ≤ 1000 }
-    ensures items { let k = program kernel.now in seen entries.new.items ≡ seen entries.old.items ++ term_entries k from until (Element (name_of array.now) (term_of index.now)) }
-    ensures len { array_vec_len entries.new ≡ array_vec_len entries.old + (index_items (loop_index (program kernel.now)) (term_of index.now) + 1) }
+    ensures items { let k = program kernel.now in seen entries.new.items
+        ≡ seen entries.old.items ++ term_entries k from until (Element (name_of array.now) (term_of index.now)) }
+    ensures len { array_vec_len entries.new ≡ array_vec_len entries.old +
+        (index_items (loop_index (program kernel.now)) (term_of index.now) + 1) }
 {
     let content = Content::Read {
         array: array.text(),
@@ -121,8 +126,12 @@ fn list_one<'a>(
 )
     requires behind { array_vec_len entries.old ≤ from }
     requires fits { from + (term_size (loop_index (program kernel.now)) (term_of arg.now) + 1) ≤ 1000 }
-    ensures items { let k = program kernel.now in let item = from + term_size (loop_index k) (term_of arg.now) in seen entries.new.items ≡ seen entries.old.items ++ (term_entries k from item (term_of arg.now) ++ entry k item (IsPlain kind) until ∷ []) }
-    ensures len { array_vec_len entries.new ≡ array_vec_len entries.old + (term_size (loop_index (program kernel.now)) (term_of arg.now) + 1) }
+    ensures items { let k = program kernel.now in let item = from + term_size (loop_index k)
+        (term_of arg.now) in seen entries.new.items
+        ≡ seen entries.old.items ++ (term_entries k from item (term_of arg.now)
+        ++ entry k item (IsPlain kind) until ∷ []) }
+    ensures len { array_vec_len entries.new ≡ array_vec_len entries.old +
+        (term_size (loop_index (program kernel.now)) (term_of arg.now) + 1) }
 {
     let item = from + expr_size(kernel, arg);
     list_expr(kernel, entries, from, item, arg);
@@ -141,9 +150,14 @@ fn list_two<'a>(
     kind: ItemKind,
 )
     requires behind { array_vec_len entries.old ≤ from }
-    requires fits { let i = loop_index (program kernel.now) in from + (term_size i (term_of left.now) + term_size i (term_of right.now) + 1) ≤ 1000 }
-    ensures items { let k = program kernel.now in let next = from + term_size (loop_index k) (term_of left.now) in let item = next + term_size (loop_index k) (term_of right.now) in seen entries.new.items ≡ seen entries.old.items ++ (term_entries k from item (term_of left.now) ++ (term_entries k next item (term_of right.now) ++ entry k item (IsPlain kind) until ∷ [])) }
-    ensures len { let i = loop_index (program kernel.now) in array_vec_len entries.new ≡ array_vec_len entries.old + (term_size i (term_of left.now) + term_size i (term_of right.now) + 1) }
+    requires fits { let i = loop_index (program kernel.now) in from +
+        (term_size i (term_of left.now) + term_size i (term_of right.now) + 1) ≤ 1000 }
+    ensures items { let k = program kernel.now in let next = from + term_size (loop_index k)
+        (term_of left.now) in let item = next + term_size (loop_index k) (term_of right.now) in seen entries.new.items
+        ≡ seen entries.old.items ++ (term_entries k from item (term_of left.now)
+        ++ (term_entries k next item (term_of right.now) ++ entry k item (IsPlain kind) until ∷ [])) }
+    ensures len { let i = loop_index (program kernel.now) in array_vec_len entries.new
+        ≡ array_vec_len entries.old + (term_size i (term_of left.now) + term_size i (term_of right.now) + 1) }
 {
     let next = from + expr_size(kernel, left);
     let item = next + expr_size(kernel, right);
@@ -163,9 +177,12 @@ fn list_or<'a>(
     right: &'a Expr,
 )
     requires behind { array_vec_len entries.old ≤ from }
-    requires fits { from + term_size (loop_index (program kernel.now)) (Either (term_of left.now) (term_of right.now)) ≤ 1000 }
-    ensures items { seen entries.new.items ≡ seen entries.old.items ++ term_entries (program kernel.now) from until (Either (term_of left.now) (term_of right.now)) }
-    ensures len { array_vec_len entries.new ≡ array_vec_len entries.old + term_size (loop_index (program kernel.now)) (Either (term_of left.now) (term_of right.now)) }
+    requires fits { from + term_size (loop_index (program kernel.now))
+        (Either (term_of left.now) (term_of right.now)) ≤ 1000 }
+    ensures items { seen entries.new.items ≡ seen entries.old.items
+        ++ term_entries (program kernel.now) from until (Either (term_of left.now) (term_of right.now)) }
+    ensures len { array_vec_len entries.new ≡ array_vec_len entries.old + term_size (loop_index (program kernel.now))
+        (Either (term_of left.now) (term_of right.now)) }
 {
     let mark = from + expr_size(kernel, left);
     let item = mark + 1 + expr_size(kernel, right);
@@ -187,9 +204,12 @@ fn list_select<'a>(
     cond: &'a Expr,
 )
     requires behind { array_vec_len entries.old ≤ from }
-    requires fits { from + term_size (loop_index (program kernel.now)) (Choice (term_of cond.now) (term_of yes.now) (term_of no.now)) ≤ 1000 }
-    ensures items { seen entries.new.items ≡ seen entries.old.items ++ term_entries (program kernel.now) from until (Choice (term_of cond.now) (term_of yes.now) (term_of no.now)) }
-    ensures len { array_vec_len entries.new ≡ array_vec_len entries.old + term_size (loop_index (program kernel.now)) (Choice (term_of cond.now) (term_of yes.now) (term_of no.now)) }
+    requires fits { from + term_size (loop_index (program kernel.now))
+        (Choice (term_of cond.now) (term_of yes.now) (term_of no.now)) ≤ 1000 }
+    ensures items { seen entries.new.items ≡ seen entries.old.items
+        ++ term_entries (program kernel.now) from until (Choice (term_of cond.now) (term_of yes.now) (term_of no.now)) }
+    ensures len { array_vec_len entries.new ≡ array_vec_len entries.old + term_size (loop_index (program kernel.now))
+        (Choice (term_of cond.now) (term_of yes.now) (term_of no.now)) }
 {
     let next = from + expr_size(kernel, yes);
     let last = next + expr_size(kernel, no);
@@ -211,8 +231,10 @@ fn list_select<'a>(
 fn list_stmt<'a>(kernel: &Checked, entries: &mut Entries<'a>, from: u32, stmt: &'a Stmt)
     requires behind { array_vec_len entries.old ≤ from }
     requires fits { from + action_size (loop_index (program kernel.now)) (action_of stmt.now) ≤ 1000 }
-    ensures items { seen entries.new.items ≡ seen entries.old.items ++ action_entries (program kernel.now) from (action_of stmt.now) }
-    ensures len { array_vec_len entries.new ≡ array_vec_len entries.old + action_size (loop_index (program kernel.now)) (action_of stmt.now) }
+    ensures items { seen entries.new.items ≡ seen entries.old.items
+        ++ action_entries (program kernel.now) from (action_of stmt.now) }
+    ensures len { array_vec_len entries.new ≡ array_vec_len entries.old + action_size (loop_index (program kernel.now))
+        (action_of stmt.now) }
 {
     match parts(stmt) {
         Part::Let { name, value, .. } => {
@@ -252,8 +274,12 @@ pub fn list_ended<'a>(
 )
     requires behind { array_vec_len entries.old ≤ from }
     requires fits { from + (term_size (loop_index (program kernel.now)) (term_of value.now) + 1) ≤ 1000 }
-    ensures items { let k = program kernel.now in let item = from + term_size (loop_index k) (term_of value.now) in seen entries.new.items ≡ seen entries.old.items ++ (term_entries k from item (term_of value.now) ++ entry k item (content_of content.entry) item ∷ []) }
-    ensures len { array_vec_len entries.new ≡ array_vec_len entries.old + (term_size (loop_index (program kernel.now)) (term_of value.now) + 1) }
+    ensures items { let k = program kernel.now in let item = from + term_size (loop_index k)
+        (term_of value.now) in seen entries.new.items
+        ≡ seen entries.old.items ++ (term_entries k from item (term_of value.now)
+        ++ entry k item (content_of content.entry) item ∷ []) }
+    ensures len { array_vec_len entries.new ≡ array_vec_len entries.old +
+        (term_size (loop_index (program kernel.now)) (term_of value.now) + 1) }
 {
     let item = from + expr_size(kernel, value);
     list_expr(kernel, entries, from, item, value);
@@ -270,10 +296,16 @@ fn list_then<'a>(
     block: &'a [Stmt],
 ) -> u32
     requires behind { array_vec_len entries.old ≤ from }
-    requires fits { let i = loop_index (program kernel.now) in from + (term_size i (term_of cond.now) + 1 + block_size i (block_of block.now)) ≤ 1000 }
-    ensures behind { let i = loop_index (program kernel.now) in result ≡ from + term_size i (term_of cond.now) + 1 + block_size i (block_of block.now) }
-    ensures items { let k = program kernel.now in let first = from + term_size (loop_index k) (term_of cond.now) in seen entries.new.items ≡ seen entries.old.items ++ (term_entries k from result (term_of cond.now) ++ (entry k first (IsPlain ItemKind.Then) first ∷ block_entries k (first + 1) (block_of block.now))) }
-    ensures len { let i = loop_index (program kernel.now) in array_vec_len entries.new ≡ array_vec_len entries.old + (term_size i (term_of cond.now) + 1 + block_size i (block_of block.now)) }
+    requires fits { let i = loop_index (program kernel.now) in from +
+        (term_size i (term_of cond.now) + 1 + block_size i (block_of block.now)) ≤ 1000 }
+    ensures behind { let i = loop_index (program kernel.now) in result
+        ≡ from + term_size i (term_of cond.now) + 1 + block_size i (block_of block.now) }
+    ensures items { let k = program kernel.now in let first = from + term_size (loop_index k)
+        (term_of cond.now) in seen entries.new.items
+        ≡ seen entries.old.items ++ (term_entries k from result (term_of cond.now)
+        ++ (entry k first (IsPlain ItemKind.Then) first ∷ block_entries k (first + 1) (block_of block.now))) }
+    ensures len { let i = loop_index (program kernel.now) in array_vec_len entries.new
+        ≡ array_vec_len entries.old + (term_size i (term_of cond.now) + 1 + block_size i (block_of block.now)) }
 {
     let first = from + expr_size(kernel, cond);
     let behind = first + 1 + statements_size(kernel, block);
@@ -298,9 +330,12 @@ fn list_if<'a>(
     block: &'a [Stmt],
 )
     requires behind { array_vec_len entries.old ≤ from }
-    requires fits { from + action_size (loop_index (program kernel.now)) (Choose (term_of cond.now) (block_of block.now) Nothing) ≤ 1000 }
-    ensures items { seen entries.new.items ≡ seen entries.old.items ++ action_entries (program kernel.now) from (Choose (term_of cond.now) (block_of block.now) Nothing) }
-    ensures len { array_vec_len entries.new ≡ array_vec_len entries.old + action_size (loop_index (program kernel.now)) (Choose (term_of cond.now) (block_of block.now) Nothing) }
+    requires fits { from + action_size (loop_index (program kernel.now))
+        (Choose (term_of cond.now) (block_of block.now) Nothing) ≤ 1000 }
+    ensures items { seen entries.new.items ≡ seen entries.old.items
+        ++ action_entries (program kernel.now) from (Choose (term_of cond.now) (block_of block.now) Nothing) }
+    ensures len { array_vec_len entries.new ≡ array_vec_len entries.old + action_size (loop_index (program kernel.now))
+        (Choose (term_of cond.now) (block_of block.now) Nothing) }
 {
     let end = list_then(kernel, entries, from, cond, block);
     put(kernel, entries, end, Content::Plain(ItemKind::End), end);
@@ -316,9 +351,13 @@ fn list_if_else<'a>(
     other: &'a [Stmt],
 )
     requires behind { array_vec_len entries.old ≤ from }
-    requires fits { from + action_size (loop_index (program kernel.now)) (Choose (term_of cond.now) (block_of block.now) (Else (block_of other.now))) ≤ 1000 }
-    ensures items { seen entries.new.items ≡ seen entries.old.items ++ action_entries (program kernel.now) from (Choose (term_of cond.now) (block_of block.now) (Else (block_of other.now))) }
-    ensures len { array_vec_len entries.new ≡ array_vec_len entries.old + action_size (loop_index (program kernel.now)) (Choose (term_of cond.now) (block_of block.now) (Else (block_of other.now))) }
+    requires fits { from + action_size (loop_index (program kernel.now))
+        (Choose (term_of cond.now) (block_of block.now) (Else (block_of other.now))) ≤ 1000 }
+    ensures items { seen entries.new.items ≡ seen entries.old.items
+        ++ action_entries (program kernel.now) from
+        (Choose (term_of cond.now) (block_of block.now) (Else (block_of other.now))) }
+    ensures len { array_vec_len entries.new ≡ array_vec_len entries.old + action_size (loop_index (program kernel.now))
+        (Choose (term_of cond.now) (block_of block.now) (Else (block_of other.now))) }
 {
     let behind = list_then(kernel, entries, from, cond, block);
     let end = behind + (1 + statements_size(kernel, other));
@@ -332,8 +371,10 @@ fn list_if_else<'a>(
 pub fn list_block<'a>(kernel: &Checked, entries: &mut Entries<'a>, from: u32, block: &'a [Stmt])
     requires behind { array_vec_len entries.old ≤ from }
     requires fits { from + block_size (loop_index (program kernel.now)) (block_of block.now) ≤ 1000 }
-    ensures items { seen entries.new.items ≡ seen entries.old.items ++ block_entries (program kernel.now) from (block_of block.now) }
-    ensures len { array_vec_len entries.new ≡ array_vec_len entries.old + block_size (loop_index (program kernel.now)) (block_of block.now) }
+    ensures items { seen entries.new.items ≡ seen entries.old.items
+        ++ block_entries (program kernel.now) from (block_of block.now) }
+    ensures len { array_vec_len entries.new ≡ array_vec_len entries.old + block_size (loop_index (program kernel.now))
+        (block_of block.now) }
 {
     let mut next = from;
     for stmt in block {
@@ -347,8 +388,10 @@ pub fn list_block<'a>(kernel: &Checked, entries: &mut Entries<'a>, from: u32, bl
 pub fn list_vars<'a>(kernel: &Checked, entries: &mut Entries<'a>, from: u32, vars: &'a [Var])
     requires behind { array_vec_len entries.old ≤ from }
     requires fits { from + vars_size (loop_index (program kernel.now)) (accumulators_of vars.now) ≤ 1000 }
-    ensures items { seen entries.new.items ≡ seen entries.old.items ++ vars_entries (program kernel.now) from (accumulators_of vars.now) }
-    ensures len { array_vec_len entries.new ≡ array_vec_len entries.old + vars_size (loop_index (program kernel.now)) (accumulators_of vars.now) }
+    ensures items { seen entries.new.items ≡ seen entries.old.items
+        ++ vars_entries (program kernel.now) from (accumulators_of vars.now) }
+    ensures len { array_vec_len entries.new ≡ array_vec_len entries.old + vars_size (loop_index (program kernel.now))
+        (accumulators_of vars.now) }
 {
     let mut next = from;
     for var in vars {

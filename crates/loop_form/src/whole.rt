@@ -29,7 +29,8 @@ fn turns_size_of(kernel: &Checked, turns: &Option<Loop>) -> u32
 
 fn list_params(kernel: &Checked, entries: &mut Entries<'_>, params: &[Param])
     requires { array_vec_len entries.old + length params.now ≤ 1000 }
-    ensures items { seen entries.new.items ≡ seen entries.old.items ++ params_entries (program kernel.now) 0 (parameters_of params.now) }
+    ensures items { seen entries.new.items ≡ seen entries.old.items
+        ++ params_entries (program kernel.now) 0 (parameters_of params.now) }
     ensures len { array_vec_len entries.new ≡ array_vec_len entries.old + length params.now }
 {
     let mut item = 0;
@@ -43,7 +44,8 @@ fn list_turns<'a>(kernel: &Checked, entries: &mut Entries<'a>, from: u32, turns:
     requires behind { array_vec_len entries.old ≤ from }
     requires fits { from + turns_size (option_map turns_of turns.now) ≤ 1000 }
     requires index { loop_index (program kernel.now) ≡ option_map index_of (option_map turns_of turns.now) }
-    ensures items { seen entries.new.items ≡ seen entries.old.items ++ turns_entries (program kernel.now) from (option_map turns_of turns.now) }
+    ensures items { seen entries.new.items ≡ seen entries.old.items
+        ++ turns_entries (program kernel.now) from (option_map turns_of turns.now) }
     ensures len { array_vec_len entries.new ≡ array_vec_len entries.old + turns_size (option_map turns_of turns.now) }
 {
     if let Some(turns) = turns {
@@ -60,8 +62,10 @@ fn list_answer<'a>(
 )
     requires behind { array_vec_len entries.old ≤ from }
     requires fits { from + answer_size (loop_index (program kernel.now)) (option_map returned_of answer.now) ≤ 1000 }
-    ensures items { seen entries.new.items ≡ seen entries.old.items ++ answer_entries (program kernel.now) from (option_map returned_of answer.now) }
-    ensures len { array_vec_len entries.new ≡ array_vec_len entries.old + answer_size (loop_index (program kernel.now)) (option_map returned_of answer.now) }
+    ensures items { seen entries.new.items ≡ seen entries.old.items
+        ++ answer_entries (program kernel.now) from (option_map returned_of answer.now) }
+    ensures len { array_vec_len entries.new ≡ array_vec_len entries.old + answer_size (loop_index (program kernel.now))
+        (option_map returned_of answer.now) }
 {
     if let Some(answer) = answer {
         list_ended(

@@ -31,7 +31,8 @@ fn emit_below(draft: &mut Draft, bound: Reg, ok: Label, u: Used, v: Used) -> Res
     requires second { v.place < 32 }
     requires passed { ok < draft.old.labels }
     ensures labels { OnOk result (draft.new.labels ≡ draft.old.labels) }
-    ensures code { OnOk result ((rest : List plain.Entry) → draft.new.entries ++ rest ≡ draft.old.entries ++ guard.below_code bound.number ok u v rest) }
+    ensures code { OnOk result ((rest : List plain.Entry)
+        → draft.new.entries ++ rest ≡ draft.old.entries ++ guard.below_code bound.number ok u v rest) }
 {
     draft.put(bound_at(bound, u.greatest))?;
     draft.put(element_at(end(), register(u.place), u.width))?;
@@ -56,7 +57,8 @@ fn emit_tests(
     requires failed { fail < draft.old.labels }
     requires passed { ok < draft.old.labels }
     ensures labels { OnOk result (draft.new.labels ≡ draft.old.labels) }
-    ensures code { OnOk result ((rest : List plain.Entry) → draft.new.entries ++ rest ≡ draft.old.entries ++ guard.pair_code bound.number fail ok u v rest) }
+    ensures code { OnOk result ((rest : List plain.Entry)
+        → draft.new.entries ++ rest ≡ draft.old.entries ++ guard.pair_code bound.number fail ok u v rest) }
 {
     emit_below(draft, bound, ok, u, v)?;
     emit_below(draft, bound, ok, v, u)?;
@@ -79,7 +81,9 @@ fn emit_labelled(
     requires second { v.place < 32 }
     requires failed { fail < draft.old.labels }
     ensures labels { OnOk result (draft.new.labels ≡ draft.old.labels + 1) }
-    ensures code { OnOk result ((rest : List plain.Entry) → draft.new.entries ++ rest ≡ draft.old.entries ++ guard.pair_code bound.number fail draft.old.labels u v rest) }
+    ensures code { OnOk result ((rest : List plain.Entry)
+        → draft.new.entries ++ rest ≡ draft.old.entries
+        ++ guard.pair_code bound.number fail draft.old.labels u v rest) }
 {
     let ok = draft.label()?;
     emit_tests(draft, bound, fail, ok, u, v)?;
@@ -92,7 +96,9 @@ fn emit_pair(draft: &mut Draft, bound: Reg, fail: Label, u: Used, v: Used) -> Re
     requires second { v.place < 32 }
     requires failed { fail < draft.old.labels }
     ensures labels { OnOk result (draft.new.labels ≡ guard.label_if (u.stored || v.stored) draft.old.labels) }
-    ensures code { OnOk result ((rest : List plain.Entry) → draft.new.entries ++ rest ≡ draft.old.entries ++ guard.pair_if (u.stored || v.stored) bound.number fail draft.old.labels u v rest) }
+    ensures code { OnOk result ((rest : List plain.Entry)
+        → draft.new.entries ++ rest ≡ draft.old.entries
+        ++ guard.pair_if (u.stored || v.stored) bound.number fail draft.old.labels u v rest) }
 {
     if u.stored || v.stored {
         emit_labelled(draft, bound, fail, u, v)?;
@@ -112,7 +118,9 @@ fn emit_with(
     requires failed { fail < draft.old.labels }
     ensures failed { OnOk result (fail < draft.new.labels) }
     ensures labels { OnOk result (draft.new.labels ≡ guard.label_with draft.old.labels u others.now) }
-    ensures code { OnOk result ((rest : List plain.Entry) → draft.new.entries ++ rest ≡ draft.old.entries ++ guard.with_code bound.number fail draft.old.labels u others.now rest) }
+    ensures code { OnOk result ((rest : List plain.Entry)
+        → draft.new.entries ++ rest ≡ draft.old.entries
+        ++ guard.with_code bound.number fail draft.old.labels u others.now rest) }
 {
     for v in others {
         emit_pair(draft, bound, fail, u, *v)?;
@@ -124,7 +132,8 @@ fn emit_bases(draft: &mut Draft, fail: Label, used: &[Used]) -> Result<(), Alloc
     requires fit { AreFit used.now }
     requires failed { fail < draft.old.labels }
     ensures labels { OnOk result (draft.new.labels ≡ draft.old.labels) }
-    ensures code { OnOk result ((rest : List plain.Entry) → draft.new.entries ++ rest ≡ draft.old.entries ++ guard.bases_code fail used.now rest) }
+    ensures code { OnOk result ((rest : List plain.Entry)
+        → draft.new.entries ++ rest ≡ draft.old.entries ++ guard.bases_code fail used.now rest) }
 {
     for u in used {
         emit_base(draft, fail, u.place)?;
@@ -136,7 +145,8 @@ fn emit_base(draft: &mut Draft, fail: Label, place: u32) -> Result<(), AllocErro
     requires register { place < 32 }
     requires failed { fail < draft.old.labels }
     ensures labels { OnOk result (draft.new.labels ≡ draft.old.labels) }
-    ensures code { OnOk result ((rest : List plain.Entry) → draft.new.entries ++ rest ≡ draft.old.entries ++ guard.base_code fail place rest) }
+    ensures code { OnOk result ((rest : List plain.Entry)
+        → draft.new.entries ++ rest ≡ draft.old.entries ++ guard.base_code fail place rest) }
 {
     draft.put(top_of(register(place), 16))?;
     draft.branch(BranchKind::Zero(26), fail)?;
@@ -149,7 +159,9 @@ fn emit_pairs(draft: &mut Draft, bound: Reg, fail: Label, used: &[Used]) -> Resu
     requires fit { AreFit used.now }
     requires failed { fail < draft.old.labels }
     ensures labels { OnOk result (draft.new.labels ≡ guard.label_pairs draft.old.labels used.now) }
-    ensures code { OnOk result ((rest : List plain.Entry) → draft.new.entries ++ rest ≡ draft.old.entries ++ guard.pairs_code bound.number fail draft.old.labels used.now rest) }
+    ensures code { OnOk result ((rest : List plain.Entry)
+        → draft.new.entries ++ rest ≡ draft.old.entries
+        ++ guard.pairs_code bound.number fail draft.old.labels used.now rest) }
 {
     let mut behind = 0;
     for u in used {
@@ -163,7 +175,9 @@ fn emit_spread(draft: &mut Draft, bound: Reg, fail: Label, used: &[Used]) -> Res
     requires fit { AreFit used.now }
     requires failed { fail < draft.old.labels }
     ensures labels { OnOk result (draft.new.labels ≡ guard.label_pairs draft.old.labels used.now) }
-    ensures code { OnOk result ((rest : List plain.Entry) → draft.new.entries ++ rest ≡ draft.old.entries ++ guard.spread_code bound.number fail draft.old.labels used.now rest) }
+    ensures code { OnOk result ((rest : List plain.Entry)
+        → draft.new.entries ++ rest ≡ draft.old.entries
+        ++ guard.spread_code bound.number fail draft.old.labels used.now rest) }
 {
     draft.put(top_of(bound, 40))?;
     draft.branch(BranchKind::NotZero(26), fail)?;
@@ -199,8 +213,11 @@ pub fn emit_used(
 ) -> Result<(), AllocError>
     requires fit { AreFit used.now }
     requires failed { fail < draft.old.labels }
-    ensures labels { OnOk result (draft.new.labels ≡ guard.label_by (guard.is_free used.now) draft.old.labels used.now) }
-    ensures code { OnOk result ((rest : List plain.Entry) → draft.new.entries ++ rest ≡ draft.old.entries ++ guard.code_by (guard.is_free used.now) bound.number fail draft.old.labels used.now rest) }
+    ensures labels { OnOk result (draft.new.labels
+        ≡ guard.label_by (guard.is_free used.now) draft.old.labels used.now) }
+    ensures code { OnOk result ((rest : List plain.Entry)
+        → draft.new.entries ++ rest ≡ draft.old.entries
+        ++ guard.code_by (guard.is_free used.now) bound.number fail draft.old.labels used.now rest) }
 {
     if !is_free(used) {
         emit_spread(draft, bound, fail, used)?;
@@ -211,8 +228,12 @@ pub fn emit_used(
 /// The guard: code that goes on exactly where Apart holds, and else to a label.
 pub fn guard(kernel: &Checked, fail: Label, draft: &mut Draft) -> Result<(), AllocError>
     requires failed { fail < draft.old.labels }
-    ensures labels { OnOk result (draft.new.labels ≡ guard.label_by (guard.is_free (used_of (program kernel.now))) draft.old.labels (used_of (program kernel.now))) }
-    ensures code { OnOk result ((rest : List plain.Entry) → draft.new.entries ++ rest ≡ draft.old.entries ++ guard.guard_code (program kernel.now) fail draft.old.labels rest) }
+    ensures labels { OnOk result (draft.new.labels
+        ≡ guard.label_by (guard.is_free (used_of (program kernel.now))) draft.old.labels
+        (used_of (program kernel.now))) }
+    ensures code { OnOk result ((rest : List plain.Entry)
+        → draft.new.entries ++ rest ≡ draft.old.entries
+        ++ guard.guard_code (program kernel.now) fail draft.old.labels rest) }
 {
     fit_arrays(kernel);
     near_bound(kernel);

@@ -1,21 +1,13 @@
 -- What holds of some works that are wanted holds of one of them.
-use mathlib.Core.Logic.{⊎_elim}
-use Rattle.std.proofs.Common.{◌≡◌, ℕ, List, [], Option, Some, None, Result, Ok, Err, inl, inr, refl, sym, ap, ◌∙◌, subst}
+use Rattle.std.proofs.Common.{◌≡◌, ℕ, List, [], Option, Some, None, Result, Ok, Err, refl, sym, ap, ◌∙◌, subst}
 use Rattle.std.specs.Prelude.{IfSome}
 use Rattle.command_line.specs.Line.{Line}
 use Rattle.sve_top.specs.Answer.{Held, Work, Answer, answer_of, text_of, status_of, IsAnswer, IsStatus, IsRefusal, Unwritten}
-use Rattle.sve_top.specs.Commands.{Wants, OfWanted, SomeWanted, IsSyntaxFault, IsOneWork}
+use Rattle.sve_top.specs.Commands.{Wants, OfWanted, SomeWanted}
 use Rattle.sve_top.specs.Does.{Outside, Does}
 use Rattle.sve_top.specs.Outputs.{Prints, Gains, told, told_by}
 use Rattle.sve_top.proofs.SomeWork.{some_work, one_work}
 use Rattle.sve_top.proofs.Statuses.{status_is, prints_by}
-
--- two works that are one have one text, and are refusals together
-same_text : (v w : Work) → IsOneWork v w → text_of v ≡ text_of w
-same_text v w one = ⊎_elim (λ e. ap text_of e) (λ p. ap text_of p.0.1 ∙ sym (ap text_of p.1.1)) one
-
-same_refusal : (v w : Work) → IsOneWork v w → IsRefusal w → IsRefusal v
-same_refusal v w one h = ⊎_elim (λ e. subst IsRefusal (sym e) h) (λ p. subst IsRefusal (sym p.0.1) tt) one
 
 pub does_of : (held : Option Held) (line : Option Line) (before after : Outside) (s : ℕ) (result : Answer) → s ≡ status_of result
     → IfSome held (λ h. OfWanted (Wants h line) (λ work. IsAnswer before.file_faults after.file_faults before.output_faults after.output_faults (answer_of work) result))
@@ -29,13 +21,13 @@ does_of (Some h) line before after s result is answer printed unwritten told =
     let a = answer w.0 w.1 in
     let p = printed w.0 w.1 in
     let u = unwritten w.0 w.1 in
-    let text : text_of p.0 ≡ text_of a.0 = same_text p.0 a.0 (one_work h line p.0 a.0 p.1 a.1) in (
+    let text : text_of p.0 ≡ text_of a.0 = ap text_of (one_work h line p.0 a.0 p.1 a.1) in (
       a.0,
       a.1,
       record {
         status = status_is _ _ _ _ s (answer_of a.0) result is a.2;
         prints = prints_by before.printed after.printed (text_of a.0) s result is (subst (λ t. Prints before.printed after.printed t result) text p.2);
         tells = told a.0 a.2;
-        unwritten = λ r. u.2 (same_refusal u.0 a.0 (one_work h line u.0 a.0 u.1 a.1) r);
+        unwritten = λ r. u.2 (subst IsRefusal (one_work h line a.0 u.0 a.1 u.1) r);
       },
     )

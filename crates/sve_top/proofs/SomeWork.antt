@@ -1,5 +1,5 @@
--- Some work is wanted of each command, and one alone but for the token that the line of a syntax fault names.
-use Rattle.std.proofs.Common.{◌≡◌, ℕ, Bool, true, false, cond, List, [], length, Option, Some, None, Result, Ok, Err, refl, sym, ap, ◌∙◌, subst, inl, inr}
+-- Some work is wanted of each command, and one alone.
+use Rattle.std.proofs.Common.{◌≡◌, ℕ, Bool, true, false, cond, List, [], length, Option, Some, None, Result, Ok, Err, refl, sym, ap, ◌∙◌, subst}
 use Rattle.std.specs.Prelude.{IfSome, nat_lt, option_map}
 use Rattle.command_line.specs.Line.{Line, CompileLine, CheckLine, EvalLine, ListLine, RunLine}
 use Rattle.kernel_tree.specs.Word.{Word}
@@ -24,7 +24,7 @@ use Rattle.sve_top.specs.declared.refusal.Refusal.{Refusal}
 use Rattle.sve_top.specs.declared.refusal.Refusal.TheVariants.{Usage, Kernel}
 use Rattle.sve_top.specs.Answer.{Held, Work}
 use Rattle.sve_top.specs.Kernels.{IsOfText, IsRefusedFor, IsWorkOn, ByVerdict}
-use Rattle.sve_top.specs.Commands.{AfterRead, OfWanted, SomeWanted, IsSyntaxFault, IsOneWork, Wants, CompileWants, CheckWants, EvalWants, file_of, map_of, compiled, checked, eval_kernel, ended, work_of_list, work_of_run}
+use Rattle.sve_top.specs.Commands.{AfterRead, OfWanted, SomeWanted, Wants, CompileWants, CheckWants, EvalWants, file_of, map_of, compiled, checked, eval_kernel, ended, work_of_list, work_of_run}
 
 -- ---- a fault that explains a verdict
 
@@ -104,8 +104,8 @@ on_verdict : (sound : Program → Work) (text : List ℕ) (v : Verdict) → IsVe
 on_verdict sound text (Limited f) h =
     let e = limited f (subst IsLimit h (text_limit text)) in
     (Err (Kernel (kernels.Unread f)), record { fault = kernels.Unread f; explains = e.explains; of_text = e.of_text; work_is = refl })
-on_verdict sound text NoKernel h =
-    (Err (Kernel (kernels.Unread (reading.Syntax 0))), record { fault = kernels.Unread (reading.Syntax 0); explains = refl; of_text = tt; work_is = refl })
+on_verdict sound text (NoKernel token) h =
+    (Err (Kernel (kernels.Unread (reading.Syntax token))), record { fault = kernels.Unread (reading.Syntax token); explains = refl; of_text = tt; work_is = refl })
 on_verdict sound text (Refused r) h =
     let e = refused r in
     (Err (Kernel (kernels.Broken (typing_of r))), record { fault = kernels.Broken (typing_of r); explains = e.explains; of_text = e.of_text; work_is = refl })
@@ -184,54 +184,54 @@ refused_only r (kernels.Broken (typing.TooLarge size)) e t = ap (λ z. kernels.B
 refused_only r (kernels.Broken (typing.TooDeep depth)) e t = ap (λ z. kernels.Broken (typing_of z)) (settles r e.0 (TooDeep depth) e.1 e.2)
 refused_only r (kernels.Broken typing.Memory) e t = absurd t
 
-no_kernel_refused : (r : Typing) → NoKernel ≡ Refused r → ⊥
-no_kernel_refused r e = cc
+no_kernel_refused : (n : ℕ) (r : Typing) → NoKernel n ≡ Refused r → ⊥
+no_kernel_refused n r e = cc
 
-syntax_only : (x : KernelFault) → Explains NoKernel x → IsOfText x → (token : ℕ) × (x ≡ kernels.Unread (reading.Syntax token))
-syntax_only (kernels.Unread reading.TooLong) e t = absurd cc
-syntax_only (kernels.Unread (reading.BadByte at)) e t = absurd cc
-syntax_only (kernels.Unread (reading.TooDeep token)) e t = absurd cc
-syntax_only (kernels.Unread (reading.Syntax token)) e t = (token, refl)
-syntax_only (kernels.Unread reading.Memory) e t = absurd t
-syntax_only (kernels.Broken (typing.Unknown item)) e t = absurd (no_kernel_refused e.0 e.1)
-syntax_only (kernels.Broken (typing.Twice item)) e t = absurd (no_kernel_refused e.0 e.1)
-syntax_only (kernels.Broken (typing.WrongKind item)) e t = absurd (no_kernel_refused e.0 e.1)
-syntax_only (kernels.Broken (typing.Mismatch item want found)) e t = absurd (no_kernel_refused e.0 e.1)
-syntax_only (kernels.Broken (typing.Untyped item)) e t = absurd (no_kernel_refused e.0 e.1)
-syntax_only (kernels.Broken (typing.LiteralRange item)) e t = absurd (no_kernel_refused e.0 e.1)
-syntax_only (kernels.Broken (typing.ShiftRange item)) e t = absurd (no_kernel_refused e.0 e.1)
-syntax_only (kernels.Broken (typing.OffsetRange item)) e t = absurd (no_kernel_refused e.0 e.1)
-syntax_only (kernels.Broken (typing.TooLarge size)) e t = absurd (no_kernel_refused e.0 e.1)
-syntax_only (kernels.Broken (typing.TooDeep depth)) e t = absurd (no_kernel_refused e.0 e.1)
-syntax_only (kernels.Broken typing.Memory) e t = absurd t
+same_token : (n token : ℕ) → NoKernel n ≡ NoKernel token → token ≡ n
+same_token n token e = cc
 
-syntax_work : (work : Work) → IsRefusedFor NoKernel work → IsSyntaxFault work
-syntax_work work h = let s = syntax_only h.fault h.explains h.of_text in (s.0, h.work_is ∙ ap (λ x. Err (Kernel x)) s.1)
+syntax_only : (n : ℕ) (x : KernelFault) → Explains (NoKernel n) x → IsOfText x → x ≡ kernels.Unread (reading.Syntax n)
+syntax_only n (kernels.Unread reading.TooLong) e t = absurd cc
+syntax_only n (kernels.Unread (reading.BadByte at)) e t = absurd cc
+syntax_only n (kernels.Unread (reading.TooDeep token)) e t = absurd cc
+syntax_only n (kernels.Unread (reading.Syntax token)) e t = ap (λ k. kernels.Unread (reading.Syntax k)) (same_token n token e)
+syntax_only n (kernels.Unread reading.Memory) e t = absurd t
+syntax_only n (kernels.Broken (typing.Unknown item)) e t = absurd (no_kernel_refused n e.0 e.1)
+syntax_only n (kernels.Broken (typing.Twice item)) e t = absurd (no_kernel_refused n e.0 e.1)
+syntax_only n (kernels.Broken (typing.WrongKind item)) e t = absurd (no_kernel_refused n e.0 e.1)
+syntax_only n (kernels.Broken (typing.Mismatch item want found)) e t = absurd (no_kernel_refused n e.0 e.1)
+syntax_only n (kernels.Broken (typing.Untyped item)) e t = absurd (no_kernel_refused n e.0 e.1)
+syntax_only n (kernels.Broken (typing.LiteralRange item)) e t = absurd (no_kernel_refused n e.0 e.1)
+syntax_only n (kernels.Broken (typing.ShiftRange item)) e t = absurd (no_kernel_refused n e.0 e.1)
+syntax_only n (kernels.Broken (typing.OffsetRange item)) e t = absurd (no_kernel_refused n e.0 e.1)
+syntax_only n (kernels.Broken (typing.TooLarge size)) e t = absurd (no_kernel_refused n e.0 e.1)
+syntax_only n (kernels.Broken (typing.TooDeep depth)) e t = absurd (no_kernel_refused n e.0 e.1)
+syntax_only n (kernels.Broken typing.Memory) e t = absurd t
 
-refused_work : (v : Verdict) (x : KernelFault) (a b : Work) → ((y : KernelFault) → Explains v y → IsOfText y → y ≡ x) → IsRefusedFor v a → IsRefusedFor v b → IsOneWork a b
+refused_work : (v : Verdict) (x : KernelFault) (a b : Work) → ((y : KernelFault) → Explains v y → IsOfText y → y ≡ x) → IsRefusedFor v a → IsRefusedFor v b → a ≡ b
 refused_work v x a b only h k =
-    inl (h.work_is ∙ (ap (λ y. Err (Kernel y)) (only h.fault h.explains h.of_text) ∙ (sym (ap (λ y. Err (Kernel y)) (only k.fault k.explains k.of_text)) ∙ sym k.work_is)))
+    h.work_is ∙ (ap (λ y. Err (Kernel y)) (only h.fault h.explains h.of_text) ∙ (sym (ap (λ y. Err (Kernel y)) (only k.fault k.explains k.of_text)) ∙ sym k.work_is))
 
-one_on : (sound : Program → Work) (v : Verdict) (a b : Work) → IsWorkOn sound v a → IsWorkOn sound v b → IsOneWork a b
+one_on : (sound : Program → Work) (v : Verdict) (a b : Work) → IsWorkOn sound v a → IsWorkOn sound v b → a ≡ b
 one_on sound (Limited f) a b h k = refused_work (Limited f) (kernels.Unread f) a b (limited_only f) h k
-one_on sound NoKernel a b h k = inr (syntax_work a h, syntax_work b k)
+one_on sound (NoKernel n) a b h k = refused_work (NoKernel n) (kernels.Unread (reading.Syntax n)) a b (syntax_only n) h k
 one_on sound (Refused r) a b h k = refused_work (Refused r) (kernels.Broken (typing_of r)) a b (refused_only r) h k
-one_on sound (Sound p) a b h k = inl (h ∙ sym k)
+one_on sound (Sound p) a b h k = h ∙ sym k
 
-one_by_verdict : (sound : Program → Work) (text : List ℕ) (a b : Work) → ByVerdict sound text a → ByVerdict sound text b → IsOneWork a b
+one_by_verdict : (sound : Program → Work) (text : List ℕ) (a b : Work) → ByVerdict sound text a → ByVerdict sound text b → a ≡ b
 one_by_verdict sound text a b h k =
     one_on sound h.verdict a b h.wanted (subst (λ v. IsWorkOn sound v b) (one_verdict text k.verdict h.verdict k.has h.has) k.wanted)
 
-one_after : {T : Type 0} (r : Result T Refusal) (next : T → Work → Type 0) (a b : Work) → ((x : T) → next x a → next x b → IsOneWork a b) → AfterRead r next a → AfterRead r next b → IsOneWork a b
+one_after : {T : Type 0} (r : Result T Refusal) (next : T → Work → Type 0) (a b : Work) → ((x : T) → next x a → next x b → a ≡ b) → AfterRead r next a → AfterRead r next b → a ≡ b
 one_after (Ok x) next a b all p q = all x p q
-one_after (Err refusal) next a b all p q = inl (p ∙ sym q)
+one_after (Err refusal) next a b all p q = p ∙ sym q
 
-pub one_work : (held : Held) (line : Option Line) (a b : Work) → Wants held line a → Wants held line b → IsOneWork a b
-one_work held None a b p q = inl (p ∙ sym q)
+pub one_work : (held : Held) (line : Option Line) (a b : Work) → Wants held line a → Wants held line b → a ≡ b
+one_work held None a b p q = p ∙ sym q
 one_work held (Some (CompileLine from to)) a b p q = one_after (file_of held from) CompileWants a b (λ text. one_by_verdict compiled text a b) p q
 one_work held (Some (CheckLine from)) a b p q = one_after (file_of held from) CheckWants a b (λ text. one_by_verdict checked text a b) p q
 one_work held (Some (EvalLine task)) a b p q =
     one_after (file_of held task.file) (λ text. AfterRead (map_of held task.map) (EvalWants task text)) a b
     (λ text. one_after (map_of held task.map) (EvalWants task text) a b (λ map. one_by_verdict (eval_kernel task map) text a b)) p q
-one_work held (Some (ListLine from)) a b p q = inl (p ∙ sym q)
-one_work held (Some (RunLine vl task)) a b p q = inl (p ∙ sym q)
+one_work held (Some (ListLine from)) a b p q = p ∙ sym q
+one_work held (Some (RunLine vl task)) a b p q = p ∙ sym q

@@ -53,7 +53,7 @@ not_sound k (kernels.Broken typing.Memory) t e = t
 
 refused_for : (sound : Program → Work) (v : Verdict) (fault : KernelFault) → IsOfText fault → Explains v fault → IsWorkOn sound v (Err (Kernel fault))
 refused_for sound (Limited f) fault t e = record { fault = fault; explains = e; of_text = t; work_is = refl }
-refused_for sound NoKernel fault t e = record { fault = fault; explains = e; of_text = t; work_is = refl }
+refused_for sound (NoKernel token) fault t e = record { fault = fault; explains = e; of_text = t; work_is = refl }
 refused_for sound (Refused r) fault t e = record { fault = fault; explains = e; of_text = t; work_is = refl }
 refused_for sound (Sound k) fault t e = absurd (not_sound k fault t e)
 
@@ -228,7 +228,7 @@ no_own_text k (Some class) = refl
 
 no_text : (v : Verdict) (work : Work) → IsWorkOn compiled v work → text_of work ≡ []
 no_text (Limited fault) work w = ap text_of w.work_is
-no_text NoKernel work w = ap text_of w.work_is
+no_text (NoKernel token) work w = ap text_of w.work_is
 no_text (Refused refusal) work w = ap text_of w.work_is
 no_text (Sound k) work w = ap text_of w ∙ no_own_text k (too_many k)
 

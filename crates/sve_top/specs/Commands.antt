@@ -23,10 +23,7 @@ use Rattle.kernel_front.specs.declared.fault.KernelFault.TheVariants as kernels
 use Rattle.kernel_front.specs.Verdict.{Sound, IsVerdict}
 use Rattle.reg_assign.specs.declared.interval.RegClass.{RegClass}
 use Rattle.loop_form.specs.Needs.{needs_of}
-use Rattle.dependence.specs.declared.reason.Class.TheVariants.{Scalar}
-use Rattle.dependence.specs.declared.reason.Why.{Why}
-use Rattle.dependence.specs.Classes.{class_of}
-use Rattle.kernel_compile.specs.Faithful.{FreeSlowFaithful, FreeFaithful}
+use Rattle.kernel_compile.specs.Faithful.{FreeFaithful}
 use Rattle.kernel_compile.specs.Refusals.{too_many, need_in}
 use Rattle.check_text.specs.CheckText.{check_text}
 use Rattle.command_line.specs.Line.{Line, Task, Extent, CompileLine, CheckLine, EvalLine, ListLine, RunLine}
@@ -196,8 +193,7 @@ abbrev pub AfterRead : {T : Type 0} → Result T Refusal → (T → Work → Typ
 AfterRead (Ok x) next work = next x work
 AfterRead (Err refusal) next work = work ≡ Err refusal
 
--- What a command is to come to. There is one such work (the laws `some_work` and `one_work`), but for the token that the line of a syntax
--- fault names.
+-- What a command is to come to. There is one such work (the laws `some_work` and `one_work`).
 abbrev pub Wants : Held → Option Line → Work → Type 0
 Wants held None work = work ≡ Err Usage
 Wants held (Some (CompileLine from to)) work = AfterRead (file_of held from) CompileWants work
@@ -206,14 +202,6 @@ Wants held (Some (EvalLine task)) work =
     AfterRead (file_of held task.file) (λ text. AfterRead (map_of held task.map) (EvalWants task text)) work
 Wants held (Some (ListLine from)) work = work ≡ work_of_list held from
 Wants held (Some (RunLine vl task)) work = work ≡ work_of_run held vl task
-
--- a refusal of a text whose tokens are no kernel
-abbrev pub IsSyntaxFault : Work → Type 0
-IsSyntaxFault work = (token : ℕ) × (work ≡ Err (Kernel (kernels.Unread (reading.Syntax token))))
-
--- two works are one, or both are such refusals, whose lines may name different tokens
-abbrev pub IsOneWork : Work → Work → Type 0
-IsOneWork v w = (v ≡ w) ⊎ (IsSyntaxFault v × IsSyntaxFault w)
 
 -- some work is wanted, and this holds of it
 abbrev pub SomeWanted : (Work → Type 0) → (Work → Type 0) → Type 0
@@ -326,13 +314,12 @@ done_of outcomes.Spent = done.Spent
 
 -- ---- what is left of the files
 
--- The text is that of a sound kernel, and the file is faithful to it, whatever stop list a machine has: within the bound that counts
--- iterations, and where the class is Scalar within the one that counts chunks, which is then the same.
+-- The text is that of a sound kernel, and the file is faithful to it within the bound that counts chunks, whatever stop list a
+-- machine has.
 pub record CompilesTo (text file : List ℕ) : Type 0 where
   pub kernel : Program
   pub sound : IsVerdict text (Sound kernel)
-  pub faithful : FreeSlowFaithful kernel file
-  pub scalar : (why : Why) → class_of kernel ≡ Scalar why → FreeFaithful kernel file
+  pub faithful : FreeFaithful kernel file
 
 -- at status 0 the one file is faithful to the kernel that the other held
 abbrev pub Compiled : Held → Held → Line → Type 0

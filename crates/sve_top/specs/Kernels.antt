@@ -22,11 +22,10 @@ pub record IsRefusedFor (v : Verdict) (work : Work) : Type 0 where
   pub of_text : IsOfText fault
   pub work_is : work ≡ Err (Kernel fault)
 
--- What is wanted of a text by its verdict, where `sound` is wanted of a kernel. The line of a text whose tokens are no kernel may
--- name any token.
+-- what is wanted of a text by its verdict, where `sound` is wanted of a kernel
 abbrev pub IsWorkOn : (Program → Work) → Verdict → Work → Type 0
 IsWorkOn sound (Limited fault) work = IsRefusedFor (Limited fault) work
-IsWorkOn sound NoKernel work = IsRefusedFor NoKernel work
+IsWorkOn sound (NoKernel token) work = IsRefusedFor (NoKernel token) work
 IsWorkOn sound (Refused refusal) work = IsRefusedFor (Refused refusal) work
 IsWorkOn sound (Sound k) work = work ≡ sound k
 

@@ -33,13 +33,19 @@ pub fn check<F: Files, S: Sink>(
     files: &mut F,
     out: &mut S,
 ) -> Result<Done, Refusal>
-    ensures answer { IfSome (F.held files.old) (λ held. OfWanted (Wants held (Some (CheckLine from.now))) (λ work. IsAnswer (F.faults files.old) (F.faults files.new) (S.faults out.old) (S.faults out.new) (answer_of work) result)) }
+    ensures answer { IfSome (F.held files.old)
+        (λ held. OfWanted (Wants held (Some (CheckLine from.now)))
+        (λ work. IsAnswer (F.faults files.old) (F.faults files.new) (S.faults out.old) (S.faults out.new)
+        (answer_of work) result)) }
     ensures held { F.held files.new ≡ F.held files.old }
-    ensures printed { IfSome (F.held files.old) (λ held. OfWanted (Wants held (Some (CheckLine from.now))) (λ work. Prints (S.taken out.old) (S.taken out.new) (text_of work) result)) }
+    ensures printed { IfSome (F.held files.old)
+        (λ held. OfWanted (Wants held (Some (CheckLine from.now)))
+        (λ work. Prints (S.taken out.old) (S.taken out.new) (text_of work) result)) }
     ensures quiet { IsQuiet result → out.new ≡ out.old }
     ensures failed { result ≡ Err Refusal.File → Rose (F.faults files.old) (F.faults files.new) }
     ensures output { result ≡ Err Refusal.Output → Rose (S.faults out.old) (S.faults out.new) }
-    ensures steady { IsTrue (F.steady files.old) → IfSome (F.held files.old) (λ held. IsSome (content held from.now) → result ≢ Err Refusal.File) }
+    ensures steady { IsTrue (F.steady files.old)
+        → IfSome (F.held files.old) (λ held. IsSome (content held from.now) → result ≢ Err Refusal.File) }
     ensures of_check { IsOfCheck result }
 {
     let text = read_file(alloc, from, files)?;

@@ -5,7 +5,7 @@ ghost use Rattle.io_edges.specs.Files.{Rose, content};
 ghost use Rattle.command_line.specs.Line.{CompileLine};
 ghost use Rattle.kernel_tree.specs.Plain.{program_of};
 ghost use Rattle.kernel_tree.specs.Checked.{kernel_of};
-ghost use Rattle.kernel_compile.specs.Faithful.{FreeSlowFaithful};
+ghost use Rattle.kernel_compile.specs.Faithful.{FreeFaithful};
 ghost use Rattle.sve_top.specs.Answer.{answer_of, IsFileAnswer, IsKept, Unwritten};
 ghost use Rattle.sve_top.specs.Commands.{Wants, OfWanted, CompileWants, CompilesTo, RefusesText, compiled, ended, IsOfCompile, Compiled, OthersKept, RefusesCompile};
 
@@ -13,7 +13,7 @@ use crate::files::read_file;
 use crate::refusal::{Done, Refusal};
 use elf_image::write_elf;
 use io_edges::files::Files;
-use kernel_compile::{compile_kernel, scalar_files};
+use kernel_compile::compile_kernel;
 use kernel_front::accept;
 use kernel_tree::Checked;
 use loop_form::laws::few_items;
@@ -21,7 +21,7 @@ use std::alloc::Global;
 
 // The executable of a kernel.
 fn executable(alloc: Global, kernel: &Checked) -> Result<Vec<u8>, Refusal>
-    ensures faithful { IfOk result (λ file. FreeSlowFaithful (program_of (kernel_of kernel.now)) file.items) }
+    ensures faithful { IfOk result (λ file. FreeFaithful (program_of (kernel_of kernel.now)) file.items) }
     ensures wanted { OnOk result (compiled (program_of (kernel_of kernel.now)) ≡ ended []) }
     ensures refusal { IfErr result (RefusesCompile (program_of (kernel_of kernel.now))) }
 {
@@ -38,7 +38,6 @@ fn compile_text(alloc: Global, text: &[u8]) -> Result<Vec<u8>, Refusal>
     ensures refusal { IfErr result (λ refusal. RefusesText (CompileWants text.now) refusal) }
 {
     let kernel = accept(alloc, text)?;
-    scalar_files();
     let file = executable(alloc, &kernel)?;
     Ok(file)
 }
@@ -50,12 +49,17 @@ pub fn compile<F: Files>(
     to: &str,
     files: &mut F,
 ) -> Result<Done, Refusal>
-    ensures answer { IfSome (F.held files.old) (λ held. OfWanted (Wants held (Some (CompileLine from.now to.now))) (λ work. IsFileAnswer (F.faults files.old) (F.faults files.new) (answer_of work) result)) }
-    ensures file { OnOk result (IfSome (F.held files.old) (λ old. IfSome (F.held files.new) (λ new. Compiled old new (CompileLine from.now to.now)))) }
-    ensures others { IfSome (F.held files.old) (λ old. IfSome (F.held files.new) (λ new. OthersKept old new (Some (CompileLine from.now to.now)))) }
+    ensures answer { IfSome (F.held files.old)
+        (λ held. OfWanted (Wants held (Some (CompileLine from.now to.now)))
+        (λ work. IsFileAnswer (F.faults files.old) (F.faults files.new) (answer_of work) result)) }
+    ensures file { OnOk result (IfSome (F.held files.old)
+        (λ old. IfSome (F.held files.new) (λ new. Compiled old new (CompileLine from.now to.now)))) }
+    ensures others { IfSome (F.held files.old)
+        (λ old. IfSome (F.held files.new) (λ new. OthersKept old new (Some (CompileLine from.now to.now)))) }
     ensures kept { IsKept result → F.held files.new ≡ F.held files.old }
     ensures failed { result ≡ Err Refusal.File → Rose (F.faults files.old) (F.faults files.new) }
-    ensures steady { IsTrue (F.steady files.old) → IfSome (F.held files.old) (λ held. IsSome (content held from.now) → result ≢ Err Refusal.File) }
+    ensures steady { IsTrue (F.steady files.old)
+        → IfSome (F.held files.old) (λ held. IsSome (content held from.now) → result ≢ Err Refusal.File) }
     ensures unwritten { IfSome (F.held files.old) (λ held. OfWanted (Wants held (Some (CompileLine from.now to.now)))
         (λ work. Unwritten work (F.held files.old) (F.held files.new))) }
     ensures of_compile { IsOfCompile result }

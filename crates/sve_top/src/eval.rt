@@ -37,8 +37,10 @@ fn scalar_done(outcome: ScalarOutcome) -> Done
 
 // Evaluates a kernel over the pages of a map.
 fn evaluate(alloc: Global, task: &Task, kernel: &Checked, map: &[u8]) -> Result<Played, Refusal>
-    ensures work { IfOk result (λ p. eval_kernel (task_seen task.now) map.now (program_of (kernel_of kernel.now)) ≡ played p) }
-    ensures refusal { IfErr result (λ refusal. RefusesProgram (eval_kernel (task_seen task.now) map.now (program_of (kernel_of kernel.now))) refusal) }
+    ensures work { IfOk result (λ p. eval_kernel (task_seen task.now) map.now (program_of (kernel_of kernel.now))
+        ≡ played p) }
+    ensures refusal { IfErr result (λ refusal. RefusesProgram
+        (eval_kernel (task_seen task.now) map.now (program_of (kernel_of kernel.now))) refusal) }
     ensures of_eval { IfErr result (λ refusal. IsOfEval (Err refusal)) }
 {
     let image = Image::empty(alloc);
@@ -72,13 +74,19 @@ pub fn eval<F: Files, S: Sink>(
     files: &mut F,
     out: &mut S,
 ) -> Result<Done, Refusal>
-    ensures answer { IfSome (F.held files.old) (λ held. OfWanted (Wants held (Some (EvalLine (task_seen task.now)))) (λ work. IsAnswer (F.faults files.old) (F.faults files.new) (S.faults out.old) (S.faults out.new) (answer_of work) result)) }
+    ensures answer { IfSome (F.held files.old)
+        (λ held. OfWanted (Wants held (Some (EvalLine (task_seen task.now))))
+        (λ work. IsAnswer (F.faults files.old) (F.faults files.new) (S.faults out.old) (S.faults out.new)
+        (answer_of work) result)) }
     ensures held { F.held files.new ≡ F.held files.old }
-    ensures printed { IfSome (F.held files.old) (λ held. OfWanted (Wants held (Some (EvalLine (task_seen task.now)))) (λ work. Prints (S.taken out.old) (S.taken out.new) (text_of work) result)) }
+    ensures printed { IfSome (F.held files.old)
+        (λ held. OfWanted (Wants held (Some (EvalLine (task_seen task.now))))
+        (λ work. Prints (S.taken out.old) (S.taken out.new) (text_of work) result)) }
     ensures quiet { IsQuiet result → out.new ≡ out.old }
     ensures failed { result ≡ Err Refusal.File → Rose (F.faults files.old) (F.faults files.new) }
     ensures output { result ≡ Err Refusal.Output → Rose (S.faults out.old) (S.faults out.new) }
-    ensures steady { IsTrue (F.steady files.old) → IfSome (F.held files.old) (λ held. IsHeld held (EvalLine (task_seen task.now)) → result ≢ Err Refusal.File) }
+    ensures steady { IsTrue (F.steady files.old)
+        → IfSome (F.held files.old) (λ held. IsHeld held (EvalLine (task_seen task.now)) → result ≢ Err Refusal.File) }
     ensures of_eval { IsOfEval result }
 {
     let text = read_file(alloc, task.file.as_str(), files)?;

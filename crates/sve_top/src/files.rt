@@ -11,12 +11,14 @@ use std::alloc::Global;
 
 /// Reads a file.
 pub fn read_file<F: Files>(alloc: Global, name: &str, files: &mut F) -> Result<Vec<u8>, Refusal>
-    ensures answer { IfSome (F.held files.old) (λ held. IsFileAnswer (F.faults files.old) (F.faults files.new) (file_of held name.now) (bytes_in result)) }
+    ensures answer { IfSome (F.held files.old)
+        (λ held. IsFileAnswer (F.faults files.old) (F.faults files.new) (file_of held name.now) (bytes_in result)) }
     ensures held { F.held files.new ≡ F.held files.old }
     ensures later { F.faults files.old ≤ F.faults files.new }
     ensures failed { result ≡ Err Refusal.File → Rose (F.faults files.old) (F.faults files.new) }
     ensures steady { IsTrue (F.steady files.old) → IsTrue (F.steady files.new) }
-    ensures reads { IsTrue (F.steady files.old) → IfSome (F.held files.old) (λ held. IsSome (content held name.now) → result ≢ Err Refusal.File) }
+    ensures reads { IsTrue (F.steady files.old)
+        → IfSome (F.held files.old) (λ held. IsSome (content held name.now) → result ≢ Err Refusal.File) }
     ensures of_read { IsOfRead result }
 {
     let mut bytes = Vec::new(alloc);
@@ -30,11 +32,15 @@ pub fn read_map_file<F: Files>(
     name: &Option<String>,
     files: &mut F,
 ) -> Result<Vec<u8>, Refusal>
-    ensures answer { IfSome (F.held files.old) (λ held. IsFileAnswer (F.faults files.old) (F.faults files.new) (map_of held (option_map string_bytes name.now)) (bytes_in result)) }
+    ensures answer { IfSome (F.held files.old)
+        (λ held. IsFileAnswer (F.faults files.old) (F.faults files.new) (map_of held (option_map string_bytes name.now))
+        (bytes_in result)) }
     ensures held { F.held files.new ≡ F.held files.old }
     ensures later { F.faults files.old ≤ F.faults files.new }
     ensures failed { result ≡ Err Refusal.File → Rose (F.faults files.old) (F.faults files.new) }
-    ensures reads { IsTrue (F.steady files.old) → IfSome (F.held files.old) (λ held. IsMapHeld held (option_map string_bytes name.now) → result ≢ Err Refusal.File) }
+    ensures reads { IsTrue (F.steady files.old)
+        → IfSome (F.held files.old) (λ held. IsMapHeld held (option_map string_bytes name.now)
+        → result ≢ Err Refusal.File) }
     ensures of_read { IsOfRead result }
 {
     match name {

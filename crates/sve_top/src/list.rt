@@ -28,7 +28,8 @@ struct Words {
 // The words of the program in a file.
 #[tactic(auto, using(crate::proofs::Programs::alone, crate::proofs::Programs::few_alone, crate::proofs::Programs::none_in_order))]
 fn words_of(alloc: Global, bytes: &[u8]) -> Result<Words, Refusal>
-    ensures work { IfOk result (λ words. list_program bytes.now ≡ ended (lines_from words.pages words.from words.count)) }
+    ensures work { IfOk result (λ words. list_program bytes.now
+        ≡ ended (lines_from words.pages words.from words.count)) }
     ensures below { IfOk result (λ words. words.from + 4 * words.count < 2 ^ 64) }
     ensures refusal { IfErr result (λ refusal. RefusesProgram (list_program bytes.now) refusal) }
     ensures of_list { IfErr result (λ refusal. IsOfList (Err refusal)) }
@@ -52,13 +53,17 @@ pub fn list<F: Files, S: Sink>(
     files: &mut F,
     out: &mut S,
 ) -> Result<Done, Refusal>
-    ensures answer { IfSome (F.held files.old) (λ held. IsAnswer (F.faults files.old) (F.faults files.new) (S.faults out.old) (S.faults out.new) (answer_of (work_of_list held from.now)) result) }
+    ensures answer { IfSome (F.held files.old)
+        (λ held. IsAnswer (F.faults files.old) (F.faults files.new) (S.faults out.old) (S.faults out.new)
+        (answer_of (work_of_list held from.now)) result) }
     ensures held { F.held files.new ≡ F.held files.old }
-    ensures printed { IfSome (F.held files.old) (λ held. Prints (S.taken out.old) (S.taken out.new) (text_of (work_of_list held from.now)) result) }
+    ensures printed { IfSome (F.held files.old)
+        (λ held. Prints (S.taken out.old) (S.taken out.new) (text_of (work_of_list held from.now)) result) }
     ensures quiet { IsQuiet result → out.new ≡ out.old }
     ensures failed { result ≡ Err Refusal.File → Rose (F.faults files.old) (F.faults files.new) }
     ensures output { result ≡ Err Refusal.Output → Rose (S.faults out.old) (S.faults out.new) }
-    ensures steady { IsTrue (F.steady files.old) → IfSome (F.held files.old) (λ held. IsSome (content held from.now) → result ≢ Err Refusal.File) }
+    ensures steady { IsTrue (F.steady files.old)
+        → IfSome (F.held files.old) (λ held. IsSome (content held from.now) → result ≢ Err Refusal.File) }
     ensures of_list { IsOfList result }
 {
     let bytes = read_file(alloc, from, files)?;

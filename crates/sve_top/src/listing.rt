@@ -55,7 +55,8 @@ fn write_lines(pages: &Pages, from: u64, count: u64, into: &mut Lines)
 /// Puts the lines of so many consecutive words, from the first of them at `from` on. It takes no memory.
 pub fn put_lines<S: Sink>(sink: &mut S, pages: &Pages, from: u64, count: u64) -> Result<(), Failed>
     requires { from + 4 * count < 2 ^ 64 }
-    ensures { PutsText (S.taken sink.old) (S.taken sink.new) (S.faults sink.old) (S.faults sink.new) (lines_from pages.now from count) result }
+    ensures { PutsText (S.taken sink.old) (S.taken sink.new) (S.faults sink.old) (S.faults sink.new)
+        (lines_from pages.now from count) result }
 {
     let mut text = Lines::new();
     let mut done = 0;

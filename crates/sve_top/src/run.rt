@@ -39,7 +39,8 @@ fn machine_of(
 ) -> Result<Machine, AllocError>
     requires apart { DoNotMeet image.now.pages.items map.now.pages.items }
     requires few { length image.now.pages.items + length map.now.pages.items ≤ 16384 }
-    ensures state { IfOk result (λ machine. machine.state ≡ start (plain image.now) task.now.args.items map.now.pages.items vl) }
+    ensures state { IfOk result (λ machine. machine.state
+        ≡ start (plain image.now) task.now.args.items map.now.pages.items vl) }
     ensures steps { IfOk result (λ machine. machine.steps ≡ 0) }
     ensures over { IfOk result (λ machine. machine.over ≡ None) }
 {
@@ -61,7 +62,8 @@ fn done_of(outcome: &Outcome) -> Done
 #[tactic(auto, using(crate::proofs::Programs::few_pages))]
 fn play(alloc: Global, vl: Vl, task: &Task, bytes: &[u8], map: &[u8]) -> Result<Played, Refusal>
     ensures work { IfOk result (λ p. run_program vl (task_seen task.now) bytes.now map.now ≡ played p) }
-    ensures refusal { IfErr result (λ refusal. RefusesProgram (run_program vl (task_seen task.now) bytes.now map.now) refusal) }
+    ensures refusal { IfErr result (λ refusal. RefusesProgram
+        (run_program vl (task_seen task.now) bytes.now map.now) refusal) }
 {
     let image = load_elf(alloc, bytes)?;
     let map = read_map(alloc, map, &image)?;
@@ -83,13 +85,19 @@ pub fn run<F: Files, S: Sink>(
     files: &mut F,
     out: &mut S,
 ) -> Result<Done, Refusal>
-    ensures answer { IfSome (F.held files.old) (λ held. IsAnswer (F.faults files.old) (F.faults files.new) (S.faults out.old) (S.faults out.new) (answer_of (work_of_run held vl (task_seen task.now))) result) }
+    ensures answer { IfSome (F.held files.old)
+        (λ held. IsAnswer (F.faults files.old) (F.faults files.new) (S.faults out.old) (S.faults out.new)
+        (answer_of (work_of_run held vl (task_seen task.now))) result) }
     ensures held { F.held files.new ≡ F.held files.old }
-    ensures printed { IfSome (F.held files.old) (λ held. Prints (S.taken out.old) (S.taken out.new) (text_of (work_of_run held vl (task_seen task.now))) result) }
+    ensures printed { IfSome (F.held files.old)
+        (λ held. Prints (S.taken out.old) (S.taken out.new)
+        (text_of (work_of_run held vl (task_seen task.now))) result) }
     ensures quiet { IsQuiet result → out.new ≡ out.old }
     ensures failed { result ≡ Err Refusal.File → Rose (F.faults files.old) (F.faults files.new) }
     ensures output { result ≡ Err Refusal.Output → Rose (S.faults out.old) (S.faults out.new) }
-    ensures steady { IsTrue (F.steady files.old) → IfSome (F.held files.old) (λ held. IsHeld held (RunLine vl (task_seen task.now)) → result ≢ Err Refusal.File) }
+    ensures steady { IsTrue (F.steady files.old)
+        → IfSome (F.held files.old) (λ held. IsHeld held (RunLine vl (task_seen task.now))
+        → result ≢ Err Refusal.File) }
     ensures of_run { IsOfRun result }
 {
     let bytes = read_file(alloc, task.file.as_str(), files)?;

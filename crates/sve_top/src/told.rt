@@ -20,7 +20,8 @@ use reg_assign::RegClass;
 
 // Puts texts one after another.
 fn put_parts<S: Sink>(sink: &mut S, parts: &[&[u8]]) -> Result<(), Failed>
-    ensures { PutsText (S.taken sink.old) (S.taken sink.new) (S.faults sink.old) (S.faults sink.new) (concat (map bytes_left parts.now)) result }
+    ensures { PutsText (S.taken sink.old) (S.taken sink.new) (S.faults sink.old) (S.faults sink.new)
+        (concat (map bytes_left parts.now)) result }
 {
     let [first, rest @ ..] = parts else {
         return Ok(());
@@ -38,7 +39,8 @@ fn put<S: Sink>(sink: &mut S, text: &[u8]) -> Result<(), Failed>
 
 // Puts why a file is too short.
 fn put_short<S: Sink>(sink: &mut S, need: u128, have: u64) -> Result<(), Failed>
-    ensures { PutsText (S.taken sink.old) (S.taken sink.new) (S.faults sink.old) (S.faults sink.new) (line_of_fault (ElfFault.Short need have)) result }
+    ensures { PutsText (S.taken sink.old) (S.taken sink.new) (S.faults sink.old) (S.faults sink.new)
+        (line_of_fault (ElfFault.Short need have)) result }
 {
     let mut needed = Buffer::new();
     let mut had = Buffer::new();
@@ -58,7 +60,8 @@ fn put_short<S: Sink>(sink: &mut S, need: u128, have: u64) -> Result<(), Failed>
 
 // Puts a line that ends with a number.
 fn put_numbered<S: Sink>(sink: &mut S, front: &[u8], number: u64) -> Result<(), Failed>
-    ensures { PutsText (S.taken sink.old) (S.taken sink.new) (S.faults sink.old) (S.faults sink.new) (numbered front.now number) result }
+    ensures { PutsText (S.taken sink.old) (S.taken sink.new) (S.faults sink.old) (S.faults sink.new)
+        (numbered front.now number) result }
 {
     let mut buffer = Buffer::new();
     let digits = buffer.format(number).as_bytes();
@@ -83,7 +86,8 @@ fn type_name(ty: Ty) -> &'static [u8]
 
 // Puts a type that is wanted, and another that was found.
 fn put_mismatch<S: Sink>(sink: &mut S, item: u32, want: Ty, found: Ty) -> Result<(), Failed>
-    ensures { PutsText (S.taken sink.old) (S.taken sink.new) (S.faults sink.old) (S.faults sink.new) (mismatch item want found) result }
+    ensures { PutsText (S.taken sink.old) (S.taken sink.new) (S.faults sink.old) (S.faults sink.new)
+        (mismatch item want found) result }
 {
     let mut buffer = Buffer::new();
     let digits = buffer.format(item).as_bytes();
@@ -103,7 +107,8 @@ fn put_mismatch<S: Sink>(sink: &mut S, item: u32, want: Ty, found: Ty) -> Result
 
 // Puts why a text could not be read as a kernel.
 fn put_reading<S: Sink>(sink: &mut S, fault: ReadFault) -> Result<(), Failed>
-    ensures { PutsText (S.taken sink.old) (S.taken sink.new) (S.faults sink.old) (S.faults sink.new) (line_of_reading fault) result }
+    ensures { PutsText (S.taken sink.old) (S.taken sink.new) (S.faults sink.old) (S.faults sink.new)
+        (line_of_reading fault) result }
 {
     match fault {
         ReadFault::TooLong => put(sink, b"svec: kernel: too long\n"),
@@ -124,7 +129,8 @@ fn put_reading<S: Sink>(sink: &mut S, fault: ReadFault) -> Result<(), Failed>
 
 // Puts why a kernel is refused.
 fn put_typing<S: Sink>(sink: &mut S, fault: TypeFault) -> Result<(), Failed>
-    ensures { PutsText (S.taken sink.old) (S.taken sink.new) (S.faults sink.old) (S.faults sink.new) (line_of_typing fault) result }
+    ensures { PutsText (S.taken sink.old) (S.taken sink.new) (S.faults sink.old) (S.faults sink.new)
+        (line_of_typing fault) result }
 {
     match fault {
         TypeFault::Unknown { item } => {
@@ -179,7 +185,8 @@ fn put_typing<S: Sink>(sink: &mut S, fault: TypeFault) -> Result<(), Failed>
 
 // Puts that too many values of a class are live.
 fn put_need<S: Sink>(sink: &mut S, class: RegClass, need: u32) -> Result<(), Failed>
-    ensures { PutsText (S.taken sink.old) (S.taken sink.new) (S.faults sink.old) (S.faults sink.new) (line_of_need class need) result }
+    ensures { PutsText (S.taken sink.old) (S.taken sink.new) (S.faults sink.old) (S.faults sink.new)
+        (line_of_need class need) result }
 {
     let need = u64::from(need);
     match class {
@@ -191,7 +198,8 @@ fn put_need<S: Sink>(sink: &mut S, class: RegClass, need: u32) -> Result<(), Fai
 
 // Puts why a text is no kernel that can be compiled or run.
 fn put_kernel<S: Sink>(sink: &mut S, fault: KernelFault) -> Result<(), Failed>
-    ensures { PutsText (S.taken sink.old) (S.taken sink.new) (S.faults sink.old) (S.faults sink.new) (line_of_kernel fault) result }
+    ensures { PutsText (S.taken sink.old) (S.taken sink.new) (S.faults sink.old) (S.faults sink.new)
+        (line_of_kernel fault) result }
 {
     match fault {
         KernelFault::Unread(fault) => put_reading(sink, fault),
@@ -201,7 +209,8 @@ fn put_kernel<S: Sink>(sink: &mut S, fault: KernelFault) -> Result<(), Failed>
 
 // Puts why a text is no page map that may stand beside a program.
 fn put_map<S: Sink>(sink: &mut S, fault: MapFault) -> Result<(), Failed>
-    ensures { PutsText (S.taken sink.old) (S.taken sink.new) (S.faults sink.old) (S.faults sink.new) (line_of_map fault) result }
+    ensures { PutsText (S.taken sink.old) (S.taken sink.new) (S.faults sink.old) (S.faults sink.new)
+        (line_of_map fault) result }
 {
     match fault {
         MapFault::BadLine { line } => put_numbered(sink, b"svec: map: bad line ", line),
@@ -214,7 +223,8 @@ fn put_map<S: Sink>(sink: &mut S, fault: MapFault) -> Result<(), Failed>
 
 // Puts why a file is no program that can be loaded.
 fn put_fault<S: Sink>(sink: &mut S, fault: ElfFault) -> Result<(), Failed>
-    ensures { PutsText (S.taken sink.old) (S.taken sink.new) (S.faults sink.old) (S.faults sink.new) (line_of_fault fault) result }
+    ensures { PutsText (S.taken sink.old) (S.taken sink.new) (S.faults sink.old) (S.faults sink.new)
+        (line_of_fault fault) result }
 {
     match fault {
         ElfFault::Short { need, have } => put_short(sink, need, have),
@@ -232,7 +242,8 @@ fn put_fault<S: Sink>(sink: &mut S, fault: ElfFault) -> Result<(), Failed>
 
 /// Puts the line that tells why a command is refused.
 pub fn put_refusal<S: Sink>(sink: &mut S, refusal: Refusal) -> Result<(), Failed>
-    ensures { PutsText (S.taken sink.old) (S.taken sink.new) (S.faults sink.old) (S.faults sink.new) (line_of_refusal refusal) result }
+    ensures { PutsText (S.taken sink.old) (S.taken sink.new) (S.faults sink.old) (S.faults sink.new)
+        (line_of_refusal refusal) result }
 {
     match refusal {
         Refusal::Usage => put(sink, b"svec: usage\n"),

@@ -14,6 +14,7 @@ kernel f(x: u64) -> u64 { return x + 1; }##run out 0xffffffffffffffff#0#result 0
 kernel f(x: u64) -> u64 { return x + 1; }##run out -- -2#0#result 0xffffffffffffffff#
 kernel axpy(y: [i32], x: [i32], k: i32, n: u64) { for i in 0..n { y[i] = y[i] + k * x[i]; } }#map 0x10000 1 rw/map 0x20000 1 rw/set 0x20030 05#run --map m --dump 0x10030:4 out 0x10000 0x20000 3 0#0#result 0x0000000000000000#0000000000010030: 00 00 00 00
 kernel axpy(y: [i32], x: [i32], k: i32, n: u64) { for i in 0..n { y[i] = y[i] + k * x[i]; } }#map 0x10000 1 rw/map 0x20000 1 rw/set 0x20030 05#run --map m --vl 384 --dump 0x10030:4 out 0x10000 0x20000 3 13#0#result 0x0000000000000000#0000000000010030: 0f 00 00 00
+kernel axpy(y: [i32], x: [i32], k: i32, n: u64) { for i in 0..n { y[i] = y[i] + k * x[i]; } }#map 0x10000 1 rw/map 0x20000 1 rw/set 0x20f9c 05#run --map m --vl 2048 --steps 600 --dump 0x10f9c:4 out 0x10000 0x20000 3 1000#0#result 0x0000000000000000#0000000000010f9c: 0f 00 00 00
 kernel len(a: [u8], n: u64) -> u64 { for i in 0..n { break if a[i] == 0; } return i; }#map 0x10000 1 r/set 0x10ffd 616200#run --map m --vl 2048 --dump 0x10ffd:4 out 0x10ffd 0xffffffffffffffff#0#result 0x0000000000000002#0000000000010ffd: 61 62 00 --
 kernel len(a: [u8], n: u64) -> u64 { for i in 0..n { break if a[i] == 0; } return i; }#map 0x10000 1 r/set 0x10ffd 616263#run --map m out 0x10ffd 0xffffffffffffffff#5#stop read pc 0x#
 kernel either(a: [u8], b: [u8], n: u64) -> u64 { for i in 0..n { break if a[i] == 0 || b[i] == 0; } return i; }#map 0x10000 1 r/set 0x10001 01#run --map m out 0x10000 0x20000 16#0#result 0x0000000000000000#
@@ -28,6 +29,24 @@ kernel copy(a: [u8], b: [u8], c: [u8], n: u64) { for i in 0..n { if a[i] != 0 { 
 kernel pre(a: [u64], n: u64) { var s: u64 = 0; for i in 0..n { s += a[i]; a[i] = s; } }#map 0x10000 1 rw/set 0x10000 01/set 0x10008 02/set 0x10010 03#run --map m --dump 0x10000:24 out 0x10000 3#0#result 0x0000000000000000#0000000000010010: 06 00 00 00 00 00 00 00
 kernel bright(p: [u8], n: u64) { for i in 0..n { let v = p[i] as u16 + 40; p[i] = min(v, 255) as u8; } }#map 0x10000 1 rw/set 0x10000 c8f000#run --map m --dump 0x10000:3 out 0x10000 3#0#result 0x0000000000000000#0000000000010000: f0 ff 28
 kernel fill(a: [u8], v: u8, n: u64) { for i in 0..n { a[i] = v; } }#map 0x10000 1 rw#run --map m --dump 0x10fe0:16 out 0x10fe0 7 100#5#stop #0000000000010fe0: 07 07 07 07 07 07 07 07 07 07 07 07 07 07 07 07
+kernel fill(a: [u8], v: u8, n: u64) { for i in 0..n { a[i] = v; } }#map 0x100000 245 rw#run --map m --vl 2048 --steps 314320 out 0x100000 7 1000000#0#result 0x0000000000000000#
+kernel len(a: [u8], n: u64) -> u64 { for i in 0..n { break if a[i] == 0; } return i; }#map 0x10000 1 r/set 0x10ffd 616263#run --map m --vl 2048 out 0x10ffd 10#5#stop read pc 0x#
+kernel fill(a: [u8], v: u8, n: u64) { for i in 0..n { a[i] = v; } }#map 0x100000 245 rw#run --map m --vl 128 --steps 1000000 out 0x100000 7 1000000#0#result 0x0000000000000000#
+kernel fill(a: [u8], v: u8, n: u64) { for i in 0..n { a[i] = v; } }#map 0x100000 245 rw#run --map m --vl 256 --steps 1000000 out 0x100000 7 1000000#0#result 0x0000000000000000#
+kernel fill(a: [u8], v: u8, n: u64) { for i in 0..n { a[i] = v; } }#map 0x100000 245 rw#run --map m --vl 384 --steps 1000000 out 0x100000 7 1000000#0#result 0x0000000000000000#
+kernel fill(a: [u8], v: u8, n: u64) { for i in 0..n { a[i] = v; } }#map 0x100000 245 rw#run --map m --vl 512 --steps 1000000 out 0x100000 7 1000000#0#result 0x0000000000000000#
+kernel fill(a: [u8], v: u8, n: u64) { for i in 0..n { a[i] = v; } }#map 0x100000 245 rw#run --map m --vl 640 --steps 1000000 out 0x100000 7 1000000#0#result 0x0000000000000000#
+kernel fill(a: [u8], v: u8, n: u64) { for i in 0..n { a[i] = v; } }#map 0x100000 245 rw#run --map m --vl 768 --steps 1000000 out 0x100000 7 1000000#0#result 0x0000000000000000#
+kernel fill(a: [u8], v: u8, n: u64) { for i in 0..n { a[i] = v; } }#map 0x100000 245 rw#run --map m --vl 896 --steps 1000000 out 0x100000 7 1000000#0#result 0x0000000000000000#
+kernel fill(a: [u8], v: u8, n: u64) { for i in 0..n { a[i] = v; } }#map 0x100000 245 rw#run --map m --vl 1024 --steps 1000000 out 0x100000 7 1000000#0#result 0x0000000000000000#
+kernel fill(a: [u8], v: u8, n: u64) { for i in 0..n { a[i] = v; } }#map 0x100000 245 rw#run --map m --vl 1152 --steps 1000000 out 0x100000 7 1000000#0#result 0x0000000000000000#
+kernel fill(a: [u8], v: u8, n: u64) { for i in 0..n { a[i] = v; } }#map 0x100000 245 rw#run --map m --vl 1280 --steps 1000000 out 0x100000 7 1000000#0#result 0x0000000000000000#
+kernel fill(a: [u8], v: u8, n: u64) { for i in 0..n { a[i] = v; } }#map 0x100000 245 rw#run --map m --vl 1408 --steps 1000000 out 0x100000 7 1000000#0#result 0x0000000000000000#
+kernel fill(a: [u8], v: u8, n: u64) { for i in 0..n { a[i] = v; } }#map 0x100000 245 rw#run --map m --vl 1536 --steps 1000000 out 0x100000 7 1000000#0#result 0x0000000000000000#
+kernel fill(a: [u8], v: u8, n: u64) { for i in 0..n { a[i] = v; } }#map 0x100000 245 rw#run --map m --vl 1664 --steps 1000000 out 0x100000 7 1000000#0#result 0x0000000000000000#
+kernel fill(a: [u8], v: u8, n: u64) { for i in 0..n { a[i] = v; } }#map 0x100000 245 rw#run --map m --vl 1792 --steps 1000000 out 0x100000 7 1000000#0#result 0x0000000000000000#
+kernel fill(a: [u8], v: u8, n: u64) { for i in 0..n { a[i] = v; } }#map 0x100000 245 rw#run --map m --vl 1920 --steps 1000000 out 0x100000 7 1000000#0#result 0x0000000000000000#
+kernel fill(a: [u8], v: u8, n: u64) { for i in 0..n { a[i] = v; } }#map 0x100000 245 rw#run --map m --vl 2048 --steps 1000000 out 0x100000 7 1000000#0#result 0x0000000000000000#
 ";
 
 // Forty values that are live at once in a loop of bytes.

@@ -16,7 +16,6 @@ returns-clause-file c = record {
   kernel = program_of (kernel_of c.in_ok-kernel.kernel);
   sound = c.in_ok-kernel.ensures.sound;
   faithful = c.in_ok-file.ensures.faithful;
-  scalar = λ why e. c.scalar_files.ensures (program_of (kernel_of c.in_ok-kernel.kernel)) _ why e c.in_ok-file.ensures.faithful;
 }
 
 pub returns-clause-wanted : goal.returns-clause-wanted

@@ -3,7 +3,7 @@ use Rattle.kernel_tree.specs.Plain.{program_of}
 use Rattle.kernel_tree.specs.Checked.{kernel_of}
 use Rattle.loop_form.specs.Seen.{program}
 use Rattle.machine_model.specs.Written.{file_of}
-use Rattle.kernel_compile.specs.Faithful.{FreeSlowFaithful}
+use Rattle.kernel_compile.specs.Faithful.{FreeFaithful}
 use Rattle.sve_top.specs.Commands.{compiled_by}
 use Rattle.sve_top.proofs.Wanted.{refuses_compile}
 use Rattle.sve_top.proofs.compile.executable.Goals as goal
@@ -16,7 +16,7 @@ returns-in_err-code-clause-refusal c =
 pub returns-clause-faithful : goal.returns-clause-faithful
 unfolding program
 returns-clause-faithful c =
-    subst (FreeSlowFaithful (program_of (kernel_of c.args.kernel.now))) (sym (c.in_ok-file.ensures.file ∙ ap file_of c.deref.ensures.value)) c.in_ok-code.ensures.faithful
+    subst (FreeFaithful (program_of (kernel_of c.args.kernel.now))) (sym (c.in_ok-file.ensures.file ∙ ap file_of c.deref.ensures.value)) c.in_ok-code.ensures.faithful
 
 pub returns-clause-wanted : goal.returns-clause-wanted
 unfolding program

@@ -1,10 +1,10 @@
-use Rattle.std.proofs.Common.{ℕ, ◌<◌, ◌^◌, All, length, ap, subst, arith}
+use Rattle.std.proofs.Common.{◌<◌, ◌^◌, All, length, ap, subst, arith}
 use Rattle.loop_form.specs.Seen.{program}
 use Rattle.label_fix.specs.Finished.{size}
 use Rattle.label_fix.proofs.Same.{words_length}
 use Rattle.scalar_emit.specs.Kernel.{register_in}
 use Rattle.kernel_compile.proofs.Join.{emitted, compiled}
-use Rattle.kernel_compile.proofs.compile.emit_code.Goals as goal
+use Rattle.kernel_compile.proofs.emit.emit_iterations.Goals as goal
 
 pub finish-requires : goal.finish-requires
 finish-requires c =

@@ -1,8 +1,7 @@
 use Rattle.std.proofs.Common.{◌<◌, ◌^◌, length, sym, ◌∙◌, subst}
 use Rattle.reg_assign.specs.Intervals.{Ascend}
-use Rattle.reg_assign.specs.Registers.{IsAssignment}
 use Rattle.loop_form.specs.Seen.{program}
-use Rattle.kernel_compile.proofs.registers.scalar_registers.Goals as goal
+use Rattle.kernel_compile.proofs.registers.class_registers.Goals as goal
 
 pub assign-requires-clause-few : goal.assign-requires-clause-few
 unfolding program

@@ -1,0 +1,76 @@
+-- A pace behind a stretch, and how many words a pace allows in the bound of steps.
+use Rattle.std.proofs.Common.{◌≡◌, ℕ, ◌+◌, ◌-◌, ◌*◌, ◌<◌, ◌≤◌, List, ap, ◌∙◌, subst, arith, ⊎_elim}
+use Rattle.std.specs.Int.{div_ceil}
+use Rattle.std.proofs.lemmas.Bool.{cases_lt}
+use Rattle.std.proofs.lemmas.Grind.{div_ceil_times}
+use Rattle.std.proofs.Math.Nat.{mul-le-mul_left}
+use Rattle.guest_types.specs.Memory.{Memory}
+use Rattle.machine_model.specs.declared.outcome.StopKind.{StopKind}
+use Rattle.machine_model.specs.Machine.{State}
+use Rattle.machine_model.specs.Run.{End, Stop}
+use Rattle.label_fix.specs.DraftRun.{Entry, Laid, draft_run}
+use Rattle.label_fix.specs.Cuts.{cuts}
+use Rattle.label_fix.specs.Stretches.{Goes, Paced, StopsPaced, EndsPaced}
+
+paced_after : {d : Laid} {c e : List Entry} {s t : State} {most : ℕ} (count scale unit base : ℕ) → 1 ≤ scale → (g : Goes d c s e t most) → Paced d e t count scale unit base → Paced d c s (g.count + count) scale unit (scale * most + base)
+paced_after {d = d} {c = c} {e = e} {s = s} {t = t} {most = most} count scale unit base some g p n lt =
+    ⊎_elim
+    (λ (before : n < g.count).
+    let a = mul-le-mul_left scale g.within in
+    let b : scale * (n + 1) ≤ scale * g.count = mul-le-mul_left scale (let h : n + 1 ≤ g.count = omega arith in h) in
+    omega (arith, some, a, b))
+    (λ (behind : g.count ≤ n).
+    let j = n - g.count in
+    let same : g.count + j ≡ n = omega arith in
+    let q = p j (omega (arith, lt)) in
+    let told : cuts d j e t ≤ cuts d n c s = subst (λ m. cuts d j e t ≤ cuts d m c s) same (g.tells j) in
+    let a = mul-le-mul_left scale g.within in
+    let b = mul-le-mul_left unit told in
+    let f : scale * (g.count + j) ≡ scale * n = ap (λ m. scale * m) same in
+    omega (arith, q, a, b, f))
+    (cases_lt n g.count)
+
+pub end_paced : {d : Laid} {c e : List Entry} {s t : State} {most : ℕ} {m : Memory} {result scale unit base : ℕ} → 1 ≤ scale → Goes d c s e t most → EndsPaced d e t m result scale unit base → EndsPaced d c s m result scale unit (scale * most + base)
+end_paced {d = d} {c = c} {s = s} {m = m} {result = result} {scale = scale} {unit = unit} {base = base} some a b = record {
+  count = a.count + b.count;
+  by = λ k taken.
+      let e : a.count + b.count + k ≡ a.count + (b.count + k) = omega arith in
+      let f : taken + a.count + b.count ≡ taken + (a.count + b.count) = omega arith in
+      ap (λ j. draft_run d j taken c s) e ∙ a.by (b.count + k) taken ∙ b.by k (taken + a.count) ∙ ap (λ n. End m result n) f;
+  paced = paced_after b.count scale unit base some a b.paced;
+}
+
+pub stop_paced : {d : Laid} {c e : List Entry} {s t : State} {most : ℕ} {kind : StopKind} {m : Memory} {scale unit base : ℕ} → 1 ≤ scale → Goes d c s e t most → StopsPaced d e t kind m scale unit base → StopsPaced d c s kind m scale unit (scale * most + base)
+stop_paced {d = d} {c = c} {s = s} {kind = kind} {m = m} {scale = scale} {unit = unit} {base = base} some a b = record {
+  count = a.count + b.count;
+  pc = b.pc;
+  at = b.at;
+  by = λ k taken.
+      let e : a.count + b.count + k ≡ a.count + (b.count + k) = omega arith in
+      let f : taken + a.count + b.count ≡ taken + (a.count + b.count) = omega arith in
+      ap (λ j. draft_run d j taken c s) e ∙ a.by (b.count + k) taken ∙ b.by k (taken + a.count) ∙ ap (λ n. Stop kind b.pc b.at m n) f;
+  paced = paced_after b.count scale unit base some a b.paced;
+}
+
+-- ---- the bound
+
+-- L lanes at once, and a kernel of n items: no pace of a chunk's passes lasts as long as the bound.
+pub too_long : (L n m q cut steps : ℕ) → 1 ≤ L → 1000 + 100 * n + (32 + 8 * n) * (div_ceil m L + 2 + 4 * q) ≤ steps → cut ≤ q
+    → L * steps < L * (596 + 8 * n) + (L * (100 + 24 * n) + (32 + 8 * n) * (m + 5 * L)) + 2 * (L * (32 + 8 * n)) * cut → ⊥
+too_long L n m q cut steps some le few lt =
+    let turns = div_ceil m L in
+    let all : m ≤ turns * L = (div_ceil_times m L some).0 in
+    let a = mul-le-mul_left L le in
+    let b = mul-le-mul_left (32 + 8 * n) all in
+    let c = mul-le-mul_left (2 * (L * (32 + 8 * n))) few in
+    long turns a b c lt
+  where
+    long : (turns : ℕ) → L * (1000 + 100 * n + (32 + 8 * n) * (turns + 2 + 4 * q)) ≤ L * steps → (32 + 8 * n) * m ≤ (32 + 8 * n) * (turns * L) → 2 * (L * (32 + 8 * n)) * cut ≤ 2 * (L * (32 + 8 * n)) * q
+        → L * steps < L * (596 + 8 * n) + (L * (100 + 24 * n) + (32 + 8 * n) * (m + 5 * L)) + 2 * (L * (32 + 8 * n)) * cut → ⊥
+    long turns a b c lt = absurd (omega (arith, a, b, c, lt))
+
+-- so a run within the pace has come to its end
+pub enough : (d : Laid) (c : List Entry) (s : State) (count L n m q steps : ℕ) → 1 ≤ L → 1000 + 100 * n + (32 + 8 * n) * (div_ceil m L + 2 + 4 * q) ≤ steps → cuts d steps c s ≤ q
+    → Paced d c s count L (2 * (L * (32 + 8 * n))) (L * (596 + 8 * n) + (L * (100 + 24 * n) + (32 + 8 * n) * (m + 5 * L))) → count ≤ steps
+enough d c s count L n m q steps some le few paced =
+    ⊎_elim (λ (short : steps < count). absurd (too_long L n m q (cuts d steps c s) steps some le few (paced steps short))) (λ (long : count ≤ steps). long) (cases_lt steps count)

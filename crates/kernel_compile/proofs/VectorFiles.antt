@@ -1,0 +1,86 @@
+-- The file of a kernel's code with a vector part.
+use Rattle.std.proofs.Common.{◌≡◌, ℕ, ◌<◌, ◌≤◌, ◌^◌, List, [], ◌∷◌, ◌++◌, length, Option, Some, None, Ok, Err, refl, sym, ap, ◌∙◌, subst, arith}
+use Rattle.std.specs.Prelude.{All}
+use Rattle.guest_types.specs.EarlyLoads.{StopList}
+use Rattle.guest_types.specs.Length.{IsLength}
+use Rattle.guest_types.specs.Memory.{Memory, IsMemory, DoNotMeet, merged}
+use Rattle.machine_model.specs.Run.{Outcome, run, start, free_start, suppressed}
+use Rattle.machine_model.specs.States.{IsState}
+use Rattle.machine_model.specs.Written.{file_of, code_base, image_of_words}
+use Rattle.machine_model.proofs.Files.{load-file_of}
+use Rattle.machine_model.proofs.States.{start_is}
+use Rattle.kernel_tree.specs.Plain.{Program}
+use Rattle.kernel_meaning.specs.ScalarRun.{begun, scalar_run}
+use Rattle.reg_assign.specs.Registers.{Assignment}
+use Rattle.dependence.specs.Bound.{free_bound}
+use Rattle.label_fix.specs.DraftRun.{Entry, Laid, Place, draft_run}
+use Rattle.label_fix.specs.Cuts.{cuts}
+use Rattle.label_fix.specs.Finished.{AreFit, StandAt, size, words_of}
+use Rattle.label_fix.proofs.Once.{Once, resolves_in}
+use Rattle.label_fix.proofs.Same.{runs_as_draft, cuts_are_suppressed, words_length}
+use Rattle.scalar_emit.specs.Kernel.{register_in}
+use Rattle.scalar_emit.specs.Runs.{HasArguments}
+use Rattle.kernel_compile.specs.Faithful.{Follows, FreeFaithful}
+use Rattle.kernel_compile.proofs.Loaded.{image_memory, starts, start_memory, words_stand}
+use Rattle.kernel_compile.proofs.VectorPlaced.{whole_code}
+use Rattle.kernel_compile.proofs.VectorJoin.{scalar_part, guard_part, vector_part, IsJoined, code_follows}
+
+-- ---- the state at the start
+
+-- whatever the stop list
+start_state : (words args : List ℕ) (pages : Memory) (vl : ℕ) (stops : StopList) → length words ≤ 65536 → length args ≤ 8 → All (λ arg. arg < 2 ^ 64) args → IsMemory pages → DoNotMeet (image_of_words words).pages pages → IsLength vl → IsState (free_start (image_of_words words) args pages vl stops)
+unfolding free_start
+start_state words args pages vl stops few args_few small mapped apart sized =
+    let h = start_is (image_of_words words) args pages vl sized (omega (arith, args_few)) small (image_memory words few) mapped apart (let low : code_base < 2 ^ 64 = omega arith in low) in
+    record { sized = h.sized; mapped = h.mapped; place = h.place; x_count = h.x_count; x_small = h.x_small; sp_small = h.sp_small; z_count = h.z_count; z_each = h.z_each; p_count = h.p_count; p_each = h.p_each; ffr_is = h.ffr_is }
+
+start_length : (words args : List ℕ) (pages : Memory) (vl : ℕ) (stops : StopList) → (free_start (image_of_words words) args pages vl stops).vl ≡ vl
+unfolding start free_start
+start_length words args pages vl stops = refl
+
+-- ---- the file
+
+-- Entries are the code of a kernel, and each part of it stands behind a front.
+pub record IsWhole (R : ℕ → ℕ) (k : Program) (a b : Assignment) (n1 n2 n3 : ℕ) (entries : List Entry) : Type 0 where
+  pub all : entries ≡ whole_code R k a b n1 n2 n3
+  pub before_scalar : List Entry
+  pub scalar : entries ≡ before_scalar ++ scalar_part R k a b n1 n2 n3
+  pub before_guard : List Entry
+  pub guard : entries ≡ before_guard ++ Place 0 ∷ guard_part R k a b n1 n2 n3
+  pub before_vector : List Entry
+  pub vector : entries ≡ before_vector ++ vector_part R k a b n1 n3
+  pub placed : Once entries
+
+pub vector_file : (k : Program) (a b c : Assignment) (labels n1 n2 n3 : ℕ) (entries : List Entry) (words : List ℕ) → IsJoined k a b c → IsWhole (register_in c) k a b n1 n2 n3 entries → AreFit labels entries → size entries ≤ 65536 → words ≡ words_of entries → All (λ w. w < 2 ^ 32) words → FreeFaithful k (file_of words)
+vector_file k a b c labels n1 n2 n3 entries words j w fits few is small =
+    let many : length words ≤ 65536 = omega (arith, ap length is, words_length entries) in
+    record {
+      image = image_of_words words;
+      loaded = load-file_of words many;
+      runs = λ args pages vl stops steps start any le.
+          let R = register_in c in
+          let code = whole_code R k a b n1 n2 n3 in
+          let D : Laid = record { base = code_base; entries = entries } in
+          let s0 = free_start (image_of_words words) args pages vl stops in
+          let m = merged (image_of_words words).pages pages in
+          let st = starts words args pages vl stops start.few in
+          let stand : StandAt s0.memory D.base (words_of D.entries) = subst (λ ws. StandAt s0.memory code_base ws) is (subst (λ m. StandAt m code_base words) (sym st.memory) (words_stand words pages many small start.apart)) in
+          let same : run steps 0 s0 ≡ draft_run D steps 0 code s0 = runs_as_draft D labels s0 fits few stand st.pc steps 0 ∙ ap (λ es. draft_run D steps 0 es s0) w.all in
+          let cut : cuts D steps code s0 ≤ suppressed steps s0 = subst (λ es. cuts D steps es s0 ≤ suppressed steps s0) w.all (cuts_are_suppressed D labels s0 fits few stand st.pc steps) in
+          let given : HasArguments args m s0 = record { few = start.few; words = start.words; sized = st.sized; held = st.given; memory = st.memory; good = start_memory words pages many start.memory start.apart } in
+          let behind = resolves_in D _ w.before_guard w.guard w.placed in
+          let as_given = start_length words args pages vl stops in
+          let r = scalar_run k args m in
+          let f = code_follows k a b c j labels n1 n2 n3 D args m s0 (suppressed steps s0) steps
+          (record {
+            whole = resolves_in D code [] w.all w.placed;
+            scalar = resolves_in D _ w.before_scalar w.scalar w.placed;
+            place = behind.0;
+            guard = behind.1;
+            vector = resolves_in D _ w.before_vector w.vector w.placed;
+            fit = fits;
+            fits = subst (AreFit labels) w.all fits;
+          })
+          given (start_state words args pages vl stops many start.few start.words start.memory start.apart start.length) cut (subst (λ n. free_bound k args n (begun r) (suppressed steps s0) ≤ steps) (sym as_given) le) in
+          (run steps 0 s0, ap (λ l. elim l as (λ x. Option Outcome) [ Ok image ↦ Some (run steps 0 (free_start image args pages vl stops)) | Err fault ↦ None ]) (load-file_of words many), subst (λ o. Follows k args vl r o) (sym same) (subst (λ n. Follows k args n r (draft_run D steps 0 code s0)) as_given f));
+    }

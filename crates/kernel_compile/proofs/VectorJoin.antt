@@ -1,0 +1,268 @@
+-- The words of a kernel's code with a vector part do what the kernel says.
+use Rattle.std.proofs.Common.{◌≡◌, ℕ, ◌+◌, ◌-◌, ◌*◌, ◌<◌, ◌≤◌, ◌^◌, Bool, true, false, List, [], ◌∷◌, length, Some, None, refl, sym, ap, ◌∙◌, subst, arith, ⊎_elim}
+use Rattle.std.specs.Prelude.{◌&&◌, slice_index, if◌then◌else◌}
+use Rattle.std.specs.Int.{div_ceil}
+use Rattle.std.proofs.lemmas.Bool.{cases_lt}
+use Rattle.guest_types.specs.declared.length.Width.{Width}
+use Rattle.guest_types.specs.declared.length.Width.TheVariants as width
+use Rattle.guest_types.specs.Length.{IsLength, lanes}
+use Rattle.guest_types.specs.Memory.{Memory, IsMemory, byte_at, can_read}
+use Rattle.machine_model.specs.Machine.{State, jump}
+use Rattle.machine_model.specs.Run.{End, Stop}
+use Rattle.machine_model.specs.States.{IsState}
+use Rattle.kernel_tree.specs.Plain.{Program}
+use Rattle.kernel_tree.specs.Items.{size_of}
+use Rattle.kernel_tree.specs.Grammar.{IsTree}
+use Rattle.kernel_tree.specs.Typing.{var_scope, check_fault}
+use Rattle.kernel_meaning.specs.Eval.{Names}
+use Rattle.kernel_meaning.specs.ScalarRun as scalar
+use Rattle.kernel_meaning.specs.ScalarRun.{begun, bound_of, started, run_named, scalar_run}
+use Rattle.reg_assign.specs.declared.interval.RegClass.TheVariants.{X, Z, P}
+use Rattle.reg_assign.specs.Registers.{Assignment}
+use Rattle.loop_form.specs.Lanes.{lane_width_of}
+use Rattle.loop_form.specs.Registers.{FitsKernel}
+use Rattle.dependence.specs.Apart.{Apart, bound_place}
+use Rattle.dependence.specs.Bound.{is_apart, is_vector, at_once, free_bound}
+use Rattle.dependence.specs.Classes.{class_of}
+use Rattle.dependence.specs.declared.reason.Class.TheVariants.{Vector}
+use Rattle.dependence.proofs.Bounds.{tested}
+use Rattle.label_fix.specs.DraftRun.{Entry, Laid, Branch, Place, Always, behind, address_of, draft_run}
+use Rattle.label_fix.specs.Cuts.{cuts}
+use Rattle.label_fix.specs.Finished.{AreFit}
+use Rattle.label_fix.specs.Stretches.{Goes, Resolves}
+use Rattle.label_fix.proofs.Steps.{chain, taken_goes}
+use Rattle.scalar_emit.specs.Kernel.{scalar_code, register_in}
+use Rattle.scalar_emit.specs.Runs.{Frame, HasArguments, AtIteration, BeginRuns, Comes, faults_so, run_from, ScalarRuns}
+use Rattle.overlap_guard.specs.Guard.{guard_code}
+use Rattle.overlap_guard.specs.Meets.{Passes, Chooses, on_where, off_where, MeetsApart}
+use Rattle.chunk_emit.specs.Head.{Ground, IsGround, most_lanes, limit}
+use Rattle.vector_emit.specs.VectorCode.{vector_code}
+use Rattle.vector_emit.specs.VectorRuns as vectors
+use Rattle.vector_emit.specs.VectorRuns.{Near, VectorRuns, turn_steps, vector_base}
+use Rattle.kernel_compile.specs.Faithful.{Follows, IsNearFault}
+use Rattle.kernel_compile.proofs.Join.{comes_after, comes_follow, from_start, start_within}
+use Rattle.kernel_compile.proofs.MapStays.{left_of, draft_map}
+use Rattle.kernel_compile.proofs.Paces.{end_paced, stop_paced, enough}
+use Rattle.kernel_compile.proofs.NearFaults.{both_unmapped, elsewhere}
+use Rattle.kernel_compile.proofs.AtLoop.{bases_held, bounded}
+use Rattle.kernel_compile.proofs.AtVector.{homes_low, at_same, has_loop, ground_of, is_ground}
+use Rattle.kernel_compile.proofs.VectorPlaced.{whole_code}
+
+-- ---- how many iterations are run at once
+
+all_lanes : (k : Program) (args : List ℕ) (vl : ℕ) → class_of k ≡ Vector → Apart k args → at_once k args vl ≡ lanes vl (lane_width_of k)
+all_lanes k args vl vector apart =
+    ap (λ c. if is_vector c && is_apart k args then lanes vl (lane_width_of k) else 1) vector ∙ ap (λ b. if b then lanes vl (lane_width_of k) else 1) ((tested k args).1 apart)
+
+one_lane : (k : Program) (args : List ℕ) (vl : ℕ) → class_of k ≡ Vector → (Apart k args → ⊥) → at_once k args vl ≡ 1
+one_lane k args vl vector not =
+    ap (λ c. if is_vector c && is_apart k args then lanes vl (lane_width_of k) else 1) vector ∙ ap (λ b. if b then lanes vl (lane_width_of k) else 1) (by (is_apart k args) refl)
+  where
+    by : (b : Bool) → is_apart k args ≡ b → b ≡ false
+    by false e = refl
+    by true e = absurd (not ((tested k args).0 e))
+
+-- ---- outcomes
+
+-- a run that ends within the bound
+ends_within : (d : Laid) (c : List Entry) (s : State) (k : Program) (args : List ℕ) (vl steps : ℕ) (m : Memory) (r bg count : ℕ) → count ≤ steps → ((n taken : ℕ) → draft_run d (count + n) taken c s ≡ End m r (taken + count)) → Follows k args vl (scalar.End m r bg) (draft_run d steps 0 c s)
+ends_within d c s k args vl steps m r bg count le by =
+    let f : count + (steps - count) ≡ steps = omega (arith, le) in
+    (0 + count, ap (λ j. draft_run d j 0 c s) (sym f) ∙ by (steps - count) 0)
+
+-- ---- a chunk that stops
+
+module _ (g : Ground) (is : IsGround g) (memory left faulted : Memory) (bg : ℕ) (bound : limit g ≡ slice_index g.args (bound_place g.kernel)) (near : Near g bg left faulted)
+    (high : (a : ℕ) → 2 ^ 64 ≤ a → byte_at left a ≡ byte_at faulted a) where
+  kept_near : (a : ℕ) → (IsNearFault g.kernel g.args (most_lanes g) bg a → ⊥) → byte_at left a ≡ byte_at faulted a
+  kept_near a far =
+      ⊎_elim
+      (λ (low : a < 2 ^ 64). near.kept a low (elsewhere g.kernel g.args (most_lanes g) bg near.i near.k a near.few (let w = near.within in omega (arith, w, bound)) near.from near.until far))
+      (λ (past : 2 ^ 64 ≤ a). high a past)
+      (cases_lt a (2 ^ 64))
+
+-- what is mapped at a fault of scalar code, that of the state in which it is entered
+fault_map : {D : Laid} {o : List Entry} {t : State} {K F i bg : ℕ} {m : Memory} (a : ℕ) → Comes D o t K F i (scalar.Fault m bg) → can_read m a ≡ can_read t.memory a
+fault_map {D = D} {o = o} {t = t} a (faults_so n kind e ok h) = ap (λ x. can_read (left_of x) a) (sym (h.by 0 0)) ∙ draft_map D (h.count + 0) 0 o t a
+
+-- in the bound, with the lanes of a chunk for what is run at once
+few_steps : (k : Program) (args : List ℕ) (vl L m q steps : ℕ) → at_once k args vl ≡ L → free_bound k args vl m q ≤ steps → 1000 + 100 * size_of k + (32 + 8 * size_of k) * (div_ceil m L + 2 + 4 * q) ≤ steps
+few_steps k args vl L m q steps e le = subst (λ n. 1000 + 100 * size_of k + (32 + 8 * size_of k) * (div_ceil m n + 2 + 4 * q) ≤ steps) e le
+
+-- A run through the vector part: c is the whole code from the state s on, e the vector part and o the scalar part, both from t on.
+record Entered (g : Ground) (D : Laid) (c e o : List Entry) (s t : State) (vl q steps : ℕ) (m : Memory) : Type 0 where
+  is : IsGround g
+  bound : limit g ≡ slice_index g.args (bound_place g.kernel)
+  lanes : at_once g.kernel g.args vl ≡ most_lanes g
+  some : 1 ≤ most_lanes g
+  goes : Goes D c s e t (596 + 8 * size_of g.kernel)
+  cut : cuts D steps c s ≤ q
+  good : IsMemory m
+  from : s.memory ≡ m
+  here : t.memory ≡ m
+
+follows_chunk : {g : Ground} {D : Laid} {c e o : List Entry} {s t : State} {vl q steps K F : ℕ} {m : Memory} {r : scalar.Run} → Entered g D c e o s t vl q steps m → vectors.Follows g D e t (most_lanes g) (2 * (most_lanes g * turn_steps g)) (vector_base g) r → Comes D o t K F 0 r
+    → free_bound g.kernel g.args vl (begun r) q ≤ steps → Follows g.kernel g.args vl r (draft_run D steps 0 c s)
+follows_chunk {g = g} {D = D} {c = c} {s = s} {vl = vl} {q = q} {steps = steps} x (vectors.ends_so {m = left} {r = result} {bg = bg} w) h le =
+    let all = end_paced x.some x.goes w in
+    let few = enough D c s all.count (most_lanes g) (size_of g.kernel) bg q steps x.some (few_steps g.kernel g.args vl (most_lanes g) bg q steps x.lanes le) x.cut all.paced in
+    ends_within D c s g.kernel g.args vl steps left result bg all.count few all.by
+follows_chunk {g = g} {D = D} {c = c} {s = s} {t = t} {vl = vl} {q = q} {steps = steps} {m = m} x (vectors.faults_so {m = faulted} {bg = bg} kind left access near w) h le =
+    let all = stop_paced x.some x.goes w in
+    let few = enough D c s all.count (most_lanes g) (size_of g.kernel) bg q steps x.some (few_steps g.kernel g.args vl (most_lanes g) bg q steps x.lanes le) x.cut all.paced in
+    let f : all.count + (steps - all.count) ≡ steps = omega (arith, few) in
+    let stops : draft_run D steps 0 c s ≡ Stop kind all.pc all.at left (0 + all.count) = ap (λ j. draft_run D j 0 c s) (sym f) ∙ all.by (steps - all.count) 0 in
+    record {
+      kind = kind;
+      access = access;
+      pc = all.pc;
+      at = all.at;
+      left = left;
+      steps = 0 + all.count;
+      is = stops;
+      kept = λ address far.
+          kept_near g x.is m left faulted bg x.bound near
+          (λ a high. both_unmapped m left faulted a x.good high (ap (λ o. can_read (left_of o) a) (sym stops) ∙ draft_map D steps 0 c s a ∙ ap (λ y. can_read y a) x.from) (fault_map a h ∙ ap (λ y. can_read y a) x.here))
+          address (λ n. far (subst (λ L. IsNearFault g.kernel g.args L bg address) (sym x.lanes) n));
+    }
+
+-- ---- the code
+
+-- a vector has some lanes of any width
+some_lanes : (vl : ℕ) (k : Program) → IsLength vl → 1 ≤ lanes vl (lane_width_of k)
+some_lanes vl k h = by (lane_width_of k)
+  where
+    by : (w : Width) → 1 ≤ lanes vl w
+    by width.B = (let g = h.1 in omega (arith, g))
+    by width.H = (let g = h.1 in omega (arith, g))
+    by width.S = (let g = h.1 in omega (arith, g))
+    by width.D = (let g = h.1 in omega (arith, g))
+
+-- the parts of the code, each with what stands behind it
+abbrev pub vector_part : (ℕ → ℕ) → Program → (a b : Assignment) → (n1 n3 : ℕ) → List Entry
+vector_part R k a b n1 n3 = vector_code R k a b n1 n3 []
+
+abbrev pub guard_part : (ℕ → ℕ) → Program → (a b : Assignment) → (n1 n2 n3 : ℕ) → List Entry
+guard_part R k a b n1 n2 n3 = guard_code k n1 n2 (vector_part R k a b n1 n3)
+
+abbrev pub scalar_part : (ℕ → ℕ) → Program → (a b : Assignment) → (n1 n2 n3 : ℕ) → List Entry
+scalar_part R k a b n1 n2 n3 = scalar_code R k n1 (Place 0 ∷ guard_part R k a b n1 n2 n3)
+
+-- The draft of a kernel's code, laid; each part stands where its labels lead.
+pub record IsLaid (R : ℕ → ℕ) (k : Program) (a b : Assignment) (labels n1 n2 n3 : ℕ) (D : Laid) : Type 0 where
+  pub whole : Resolves D (whole_code R k a b n1 n2 n3)
+  pub scalar : Resolves D (scalar_part R k a b n1 n2 n3)
+  pub place : behind D 0 ≡ guard_part R k a b n1 n2 n3
+  pub guard : Resolves D (guard_part R k a b n1 n2 n3)
+  pub vector : Resolves D (vector_part R k a b n1 n3)
+  pub fit : AreFit labels D.entries
+  pub fits : AreFit labels (whole_code R k a b n1 n2 n3)
+
+-- The loop begins at the guard.
+record AtGuard (R : ℕ → ℕ) (k : Program) (a b : Assignment) (n1 n2 n3 : ℕ) (D : Laid) (args : List ℕ) (m : Memory) (s : State) : Type 0 where
+  names : Names
+  starts : started k args m ≡ Some names
+  end : State
+  goes : Goes D (whole_code R k a b n1 n2 n3) s (guard_part R k a b n1 n2 n3) end (41 + 8 * size_of k)
+  at : AtIteration R k 0 names m end
+  vl : end.vl ≡ s.vl
+
+-- What is known of the kernel and of the codes that it is joined of.
+pub record IsJoined (k : Program) (a b c : Assignment) : Type 0 where
+  pub spelled : ∥ IsTree k ∥₁
+  pub sound : check_fault k ≡ None
+  pub vector : class_of k ≡ Vector
+  pub few : length k.params ≤ 8
+  pub near : bound_place k ≤ 7
+  pub z : FitsKernel k Z a
+  pub p : FitsKernel k P b
+  pub x : FitsKernel k X c
+  pub begins : BeginRuns (register_in c) k
+  pub runs : ScalarRuns (register_in c) k
+  pub meets : MeetsApart k
+  pub vectors : VectorRuns
+
+module _ (k : Program) (a b c : Assignment) (j : IsJoined k a b c) where
+  to_guard : (labels n1 n2 n3 : ℕ) (D : Laid) (args : List ℕ) (m : Memory) (s : State) → IsLaid (register_in c) k a b labels n1 n2 n3 D → HasArguments args m s → AtGuard (register_in c) k a b n1 n2 n3 D args m s
+  to_guard labels n1 n2 n3 D args m s is given =
+      let R = register_in c in
+      let whole = whole_code R k a b n1 n2 n3 in
+      let begin = j.begins D 1 (Branch Always 0 ∷ scalar_part R k a b n1 n2 n3) args m s given is.whole in
+      let t : State = jump begin.end (address_of D 0) in
+      let taken : Goes D (Branch Always 0 ∷ scalar_part R k a b n1 n2 n3) begin.end (behind D 0) t 1 = taken_goes refl in
+      let there : Goes D whole s (behind D 0) t (41 + 8 * size_of k) = chain (41 + 8 * size_of k) (omega arith) begin.goes taken in
+      record {
+        names = begin.names;
+        starts = begin.starts;
+        end = t;
+        goes = subst (λ es. Goes D whole s es t (41 + 8 * size_of k)) is.place there;
+        at = at_same R k 0 begin.names m begin.end t (homes_low k c j.x j.few) (λ r le. refl) refl refl begin.at;
+        vl = ap (λ (f : Frame). f.vl) begin.frame;
+      }
+
+  same_run : (args : List ℕ) (m : Memory) (names : Names) → started k args m ≡ Some names → run_from k 0 m names ≡ scalar_run k args m
+  same_run args m names starts = from_start (var_scope k) k.turns k.answer m names ∙ sym (ap (run_named k m) starts)
+
+  -- to scalar code, where the arrays do not lie apart
+  off_follows : (labels n1 n2 n3 : ℕ) (D : Laid) (args : List ℕ) (m : Memory) (s : State) (q steps : ℕ) → IsLaid (register_in c) k a b labels n1 n2 n3 D → (h : AtGuard (register_in c) k a b n1 n2 n3 D args m s) → (Apart k args → ⊥)
+      → Passes D (guard_part (register_in c) k a b n1 n2 n3) h.end (behind D n1) → free_bound k args s.vl (begun (scalar_run k args m)) q ≤ steps → Follows k args s.vl (scalar_run k args m) (draft_run D steps 0 (whole_code (register_in c) k a b n1 n2 n3) s)
+  off_follows labels n1 n2 n3 D args m s q steps is h not pass le =
+      let R = register_in c in
+      let whole = whole_code R k a b n1 n2 n3 in
+      let at = at_same R k 0 h.names m h.end pass.end (homes_low k c j.x j.few) pass.others pass.sized pass.memory h.at in
+      let there : Goes D whole s (behind D n1) pass.end (596 + 8 * size_of k) = chain (596 + 8 * size_of k) (omega arith) h.goes pass.goes in
+      let entered = j.runs.entered D n1 (Place 0 ∷ guard_part R k a b n1 n2 n3) 0 h.names m pass.end is.scalar (start_within k.turns h.names) at in
+      let comes : Comes D whole s (32 + 8 * size_of k) (628 + 16 * size_of k) 0 (scalar_run k args m) =
+      subst (λ r. Comes D whole s (32 + 8 * size_of k) (628 + 16 * size_of k) 0 r) (same_run args m h.names h.starts) (comes_after (omega arith) there entered) in
+      let n = begun (scalar_run k args m) in
+      let few = few_steps k args s.vl 1 n q steps (one_lane k args s.vl j.vector not) le in
+      let each : div_ceil n 1 ≡ n = omega arith in
+      let turns = ap (λ d. (32 + 8 * size_of k) * (d + 2 + 4 * q)) each in
+      comes_follow k args s.vl steps (omega (arith, few, turns)) comes
+
+  -- to the vector part, where they do
+  on_follows : (labels n1 n2 n3 : ℕ) (D : Laid) (args : List ℕ) (m : Memory) (s : State) (q steps : ℕ) → IsLaid (register_in c) k a b labels n1 n2 n3 D → HasArguments args m s → IsState s → cuts D steps (whole_code (register_in c) k a b n1 n2 n3) s ≤ q
+      → (h : AtGuard (register_in c) k a b n1 n2 n3 D args m s) → Apart k args → Passes D (guard_part (register_in c) k a b n1 n2 n3) h.end (vector_part (register_in c) k a b n1 n3)
+      → free_bound k args s.vl (begun (scalar_run k args m)) q ≤ steps → Follows k args s.vl (scalar_run k args m) (draft_run D steps 0 (whole_code (register_in c) k a b n1 n2 n3) s)
+  on_follows labels n1 n2 n3 D args m s q steps is given state cut h apart pass le =
+      let R = register_in c in
+      let whole = whole_code R k a b n1 n2 n3 in
+      let part = vector_part R k a b n1 n3 in
+      let loop = has_loop k j.vector in
+      let at = at_same R k 0 h.names m h.end pass.end (homes_low k c j.x j.few) pass.others pass.sized pass.memory h.at in
+      let there : Goes D whole s part pass.end (596 + 8 * size_of k) = chain (596 + 8 * size_of k) (omega arith) h.goes pass.goes in
+      let kept = there.keeps labels is.fit is.fits state in
+      let ground = is_ground R k loop.0 a b args m h.names pass.end j.spelled j.sound j.vector j.few j.near j.z j.p loop.1 given.words h.starts at kept.0.sized apart in
+      let g = ground_of k loop.0 a b args m h.names pass.end in
+      let bound = bounded R k loop.0 args m h.names pass.end j.sound loop.1 given.words h.starts at.held in
+      let reaches = λ (i : ℕ) (names : Names) (memory : Memory) (t : State). j.runs.entered D n1 (Place 0 ∷ guard_part R k a b n1 n2 n3) i names memory t is.scalar in
+      let run = j.vectors g c D n1 n3 [] m pass.end ground j.x kept.0 refl at (λ r low. refl) is.vector reaches in
+      let entered = reaches 0 h.names m pass.end (start_within k.turns h.names) at in
+      let same = same_run args m h.names h.starts in
+      let x : Entered g D whole part (behind D n1) s pass.end s.vl q steps m = record {
+        is = ground;
+        bound = bound.limit;
+        lanes = all_lanes k args s.vl j.vector apart ∙ ap (λ n. lanes n (lane_width_of k)) (sym (pass.vl ∙ h.vl));
+        some = some_lanes pass.end.vl k kept.0.sized;
+        goes = there;
+        cut = cut;
+        good = given.good;
+        from = given.memory;
+        here = at.memory;
+      } in
+      subst (λ r. Follows k args s.vl r (draft_run D steps 0 whole s)) same (follows_chunk x run entered (subst (λ r. free_bound k args s.vl (begun r) q ≤ steps) (sym same) le))
+
+  -- the code from its first word on
+  pub code_follows : (labels n1 n2 n3 : ℕ) (D : Laid) (args : List ℕ) (m : Memory) (s : State) (q steps : ℕ) → IsLaid (register_in c) k a b labels n1 n2 n3 D → HasArguments args m s → IsState s → cuts D steps (whole_code (register_in c) k a b n1 n2 n3) s ≤ q
+      → free_bound k args s.vl (begun (scalar_run k args m)) q ≤ steps → Follows k args s.vl (scalar_run k args m) (draft_run D steps 0 (whole_code (register_in c) k a b n1 n2 n3) s)
+  code_follows labels n1 n2 n3 D args m s q steps is given state cut le =
+      let R = register_in c in
+      let h = to_guard labels n1 n2 n3 D args m s is given in
+      let loop = has_loop k j.vector in
+      let bound = bounded R k loop.0 args m h.names h.end j.sound loop.1 given.words h.starts h.at.held in
+      by h (j.meets D args n1 n2 (vector_part R k a b n1 n3) h.end h.at.sized bound.held (bases_held R k args m h.names h.end given.words h.starts h.at.held) is.guard)
+    where
+      by : (h : AtGuard (register_in c) k a b n1 n2 n3 D args m s) → Chooses D (guard_part (register_in c) k a b n1 n2 n3) h.end (vector_part (register_in c) k a b n1 n3) (behind D n1) (Apart k args)
+          → Follows k args s.vl (scalar_run k args m) (draft_run D steps 0 (whole_code (register_in c) k a b n1 n2 n3) s)
+      by h (on_where apart pass) = on_follows labels n1 n2 n3 D args m s q steps is given state cut h apart pass le
+      by h (off_where not pass) = off_follows labels n1 n2 n3 D args m s q steps is h not pass le

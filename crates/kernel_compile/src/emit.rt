@@ -1,0 +1,80 @@
+//! Emits the code of a kernel.
+
+ghost use Rattle.std.specs.Prelude.{◌≡◌, ◌+◌, ◌*◌, ◌^◌, ◌<◌, ◌≤◌, All, IfOk, length};
+ghost use Rattle.kernel_tree.specs.Items.{size_of};
+ghost use Rattle.reg_assign.specs.declared.interval.RegClass.TheVariants.{X, Z, P};
+ghost use Rattle.loop_form.specs.Registers.{FitsKernel};
+ghost use Rattle.loop_form.specs.Seen.{program};
+ghost use Rattle.machine_model.specs.Written.{file_of};
+ghost use Rattle.dependence.specs.Classes.{class_of};
+ghost use Rattle.dependence.specs.declared.reason.Class.TheVariants.{Vector};
+ghost use Rattle.kernel_compile.specs.Faithful.{FreeFaithful, FreeSlowFaithful};
+
+use kernel_tree::Checked;
+use label_fix::{BranchKind, Draft};
+use loop_form::laws::few_items;
+use overlap_guard::{guard, meets_apart};
+use reg_assign::{Assigned, VectorRegs};
+use scalar_emit::laws::few_params;
+use scalar_emit::{begin_runs, emit_begin, emit_scalar, scalar_runs};
+use std::alloc::{AllocError, Global};
+use vector_emit::{emit_vector, vector_runs};
+
+/// The words of the code that runs iterations one by one, with registers for the intervals of class X.
+pub fn emit_iterations(
+    alloc: Global,
+    kernel: &Checked,
+    regs: &Assigned,
+) -> Result<Vec<u32>, AllocError>
+    requires fits { FitsKernel (program kernel.now) X regs.now }
+    ensures faithful { IfOk result (λ words. FreeSlowFaithful (program kernel.now) (file_of words.items)) }
+    ensures short { IfOk result (λ words. length words.items ≤ 1000 + 60 * size_of (program kernel.now)) }
+{
+    few_items(kernel);
+    begin_runs(kernel, regs);
+    scalar_runs(kernel, regs);
+    let mut draft = Draft::new(alloc);
+    emit_begin(alloc, kernel, regs, &mut draft)?;
+    emit_scalar(alloc, kernel, regs, &mut draft)?;
+    let words = draft.finish()?;
+    have_32_bits(&words);
+    Ok(words)
+}
+
+/// The words of the code that runs a chunk of iterations at once where arrays lie apart. The vector part stands last, since
+/// it ends in scalar code, and so does the guard before it where they do not.
+pub fn emit_lanes(
+    alloc: Global,
+    kernel: &Checked,
+    regs: &VectorRegs,
+) -> Result<Vec<u32>, AllocError>
+    requires class { class_of (program kernel.now) ≡ Vector }
+    requires vectors { FitsKernel (program kernel.now) Z regs.now.z }
+    requires predicates { FitsKernel (program kernel.now) P regs.now.p }
+    requires scalars { FitsKernel (program kernel.now) X regs.now.x }
+    ensures faithful { IfOk result (λ words. FreeFaithful (program kernel.now) (file_of words.items)) }
+    ensures short { IfOk result (λ words. length words.items ≤ 1000 + 60 * size_of (program kernel.now)) }
+{
+    few_items(kernel);
+    few_params(kernel);
+    begin_runs(kernel, &regs.x);
+    scalar_runs(kernel, &regs.x);
+    meets_apart(kernel);
+    vector_runs();
+    let mut draft = Draft::new(alloc);
+    let vector = draft.label()?;
+    emit_begin(alloc, kernel, &regs.x, &mut draft)?;
+    draft.branch(BranchKind::Always, vector)?;
+    let scalar = emit_scalar(alloc, kernel, &regs.x, &mut draft)?.at_iteration;
+    draft.place(vector)?;
+    guard(kernel, scalar, &mut draft)?;
+    emit_vector(alloc, kernel, regs, scalar, &mut draft)?;
+    let words = draft.finish()?;
+    have_32_bits(&words);
+    Ok(words)
+}
+
+// Words have 32 bits.
+fn have_32_bits(words: &[u32])
+    ensures { All (λ word. word < 2 ^ 32) words.now }
+{}
