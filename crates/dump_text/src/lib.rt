@@ -47,7 +47,8 @@ fn push_line(text: &mut Vec<u8>, pages: &Pages, address: u64, count: u64) -> Res
 // So many bytes from an address on.
 fn push_bytes(text: &mut Vec<u8>, pages: &Pages, address: u64, count: u64) -> Result<(), AllocError>
     requires { address + count ≤ 2 ^ 64 }
-    ensures { OnOk result (text.new.items ≡ text.old.items ++ flat_map (byte_text pages.now) (range_with_len address count)) }
+    ensures { OnOk result (text.new.items ≡ text.old.items
+        ++ flat_map (byte_text pages.now) (range_with_len address count)) }
 {
     for k in 0..count {
         push_shown(text, pages.byte(address + k))?;
@@ -82,8 +83,8 @@ pub fn push_address(text: &mut Vec<u8>, address: u64) -> Result<(), AllocError>
     Ok(())
 }
 
-// The two digits of a byte.
-fn byte_digits(byte: u8) -> [u8; 2]
+/// The two hexadecimal digits of a byte.
+pub fn byte_digits(byte: u8) -> [u8; 2]
     ensures { result ≡ hex_digits 2 byte }
 {
     let mut digits = [0; 2];
@@ -93,8 +94,8 @@ fn byte_digits(byte: u8) -> [u8; 2]
     digits
 }
 
-// The sixteen digits of a number of 64 bits.
-fn address_digits(address: u64) -> [u8; 16]
+/// The sixteen hexadecimal digits of a number of 64 bits.
+pub fn address_digits(address: u64) -> [u8; 16]
     ensures { result ≡ hex_digits 16 address }
 {
     let mut digits = [0; 16];

@@ -1,5 +1,7 @@
 -- What a sink does.
-use Rattle.std.specs.Prelude.{◌≡◌, ℕ, ◌≤◌, List, ◌++◌, take, Option, Some, None, Result, Ok, Err, OnErr}
+use Rattle.std.specs.Prelude.{◌≡◌, ℕ, ◌≤◌, List, ◌++◌, map, take, length, Option, Some, None, IfSome, Result, Ok, Err, OnOk, OnErr}
+use Rattle.std.specs.Borrow.{Bor}
+use Rattle.std.specs.List.{concat}
 use Rattle.io_edges.specs.declared.sink.Failed.{Failed}
 use Rattle.io_edges.specs.Files.{Rose}
 
@@ -17,3 +19,23 @@ appended old bytes (Err failed) = old
 abbrev pub Puts : Option (List ℕ) → Option (List ℕ) → List ℕ → Result ℕ Failed → Type 0
 Puts None new bytes result = new ≡ None
 Puts (Some old) new bytes result = new ≡ Some (appended old bytes result)
+
+-- ---- texts that are put piece by piece
+
+-- a part of the text, from its front, was appended
+abbrev pub GainsPart : List ℕ → Option (List ℕ) → List ℕ → Type 0
+GainsPart bytes new text = (n : ℕ) × (n ≤ length text) × (new ≡ Some (bytes ++ take n text))
+
+-- A text was put: all of it, or a part from its front where the sink failed.
+pub record PutsText {T : Type 0} (old new : Option (List ℕ)) (before now : ℕ) (text : List ℕ) (result : Result T Failed) : Type 0 where
+  pub all : OnOk result (IfSome old (λ bytes. new ≡ Some (bytes ++ text)))
+  pub part : IfSome old (λ bytes. GainsPart bytes new text)
+  pub untold : old ≡ None → new ≡ None
+  pub cause : HasCause before now result
+
+abbrev pub bytes_in : Bor (List ℕ) → List ℕ
+bytes_in piece = piece.now
+
+-- pieces, one after another
+abbrev pub text_in : List (Bor (List ℕ)) → List ℕ
+text_in pieces = concat (map bytes_in pieces)

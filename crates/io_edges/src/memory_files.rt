@@ -56,7 +56,8 @@ fn place_of(files: &[NamedFile], name: &str) -> Option<usize>
 
 // The bytes of the first file with the name.
 fn bytes_of<'a>(files: &'a [NamedFile], name: &str) -> Option<&'a [u8]>
-    ensures { MatchOption result (content (entries files.now) name.now ≡ None) (λ bytes. content (entries files.now) name.now ≡ Some bytes.now) }
+    ensures { MatchOption result (content (entries files.now) name.now ≡ None)
+        (λ bytes. content (entries files.now) name.now ≡ Some bytes.now) }
 {
     match place_of(files, name) {
         Some(place) => Some(files[place].bytes.as_slice()),
@@ -138,13 +139,18 @@ impl Files for MemoryFiles {
         ensures err { OnErr result (into.new.items ≡ into.old.items) }
         ensures same { self.new.held ≡ self.old.held }
         ensures cause { HasCause self.old.calls.faults self.new.calls.faults result }
-        ensures steady { ReadsSteadily (fails_no_more self.old.calls) (fails_no_more self.new.calls) (Some self.old.held) name.now result }
+        ensures steady { ReadsSteadily (fails_no_more self.old.calls) (fails_no_more self.new.calls)
+            (Some self.old.held) name.now result }
 
         // It fails where that was asked for or the name is not held, and refuses each file that is
         // too long otherwise.
-        ensures fails { result ≡ Err FileAnswer.Failed ↔ IsTrue (fails_next self.old.calls || is_none (content self.old.held name.now)) }
-        ensures long { IsFalse (fails_next self.old.calls) → IfSome (content self.old.held name.now) (λ bytes. MAX_FILE < length bytes → result ≡ Err FileAnswer.TooLong) }
-        ensures calls { self.new.calls ≡ after_call (fails_next self.old.calls || is_none (content self.old.held name.now)) self.old.calls }
+        ensures fails { result ≡ Err FileAnswer.Failed ↔ IsTrue
+            (fails_next self.old.calls || is_none (content self.old.held name.now)) }
+        ensures long { IsFalse (fails_next self.old.calls)
+            → IfSome (content self.old.held name.now)
+            (λ bytes. MAX_FILE < length bytes → result ≡ Err FileAnswer.TooLong) }
+        ensures calls { self.new.calls ≡ after_call
+            (fails_next self.old.calls || is_none (content self.old.held name.now)) self.old.calls }
     {
         match bytes_of(&self.files, name) {
             None => {

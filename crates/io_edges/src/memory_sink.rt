@@ -66,7 +66,8 @@ impl Sink for MemorySink {
         // It fails where that was asked for or no room is left, and else takes what it has room for.
         ensures fails { is_err result ≡ (fails_next self.old.calls || nat_eq self.old.room 0) }
         ensures most { IfOk result (λ n. n ≡ min (length bytes.now) self.old.room) }
-        ensures room { MatchResult result (λ n. self.new.room + n ≡ self.old.room) (λ _. self.new.room ≡ self.old.room) }
+        ensures room { MatchResult result (λ n. self.new.room + n ≡ self.old.room)
+            (λ _. self.new.room ≡ self.old.room) }
         ensures calls { self.new.calls ≡ after_call (is_err result) self.old.calls }
     {
         let full = self.room == 0;

@@ -1,7 +1,7 @@
 // Places for bytes to go to.
 
 ghost use Rattle.std.specs.Prelude.{◌≡◌, ◌<◌, ◌≤◌, ℕ, List, ◌++◌, length, take, Option, None, IfSome, IfOk, OnOk};
-ghost use Rattle.io_edges.specs.Sink.{Puts, HasCause};
+ghost use Rattle.io_edges.specs.Sink.{Puts, HasCause, PutsText, text_in};
 
 use thiserror::Error;
 
@@ -30,7 +30,8 @@ pub trait Sink {
 /// Puts all the bytes, piece by piece. Where the sink fails it has taken a prefix of them.
 pub fn put_all<S: Sink>(sink: &mut S, bytes: &[u8]) -> Result<(), Failed>
     ensures all { OnOk result (IfSome (S.taken sink.old) (λ old. S.taken sink.new ≡ Some (old ++ bytes.now))) }
-    ensures prefix { IfSome (S.taken sink.old) (λ old. (n : ℕ) × (n ≤ length bytes.now) × (S.taken sink.new ≡ Some (old ++ take n bytes.now))) }
+    ensures prefix { IfSome (S.taken sink.old)
+        (λ old. (n : ℕ) × (n ≤ length bytes.now) × (S.taken sink.new ≡ Some (old ++ take n bytes.now))) }
     ensures untold { S.taken sink.old ≡ None → S.taken sink.new ≡ None }
     ensures cause { HasCause (S.faults sink.old) (S.faults sink.new) result }
 {
@@ -40,4 +41,16 @@ pub fn put_all<S: Sink>(sink: &mut S, bytes: &[u8]) -> Result<(), Failed>
         at += n;
     }
     Ok(())
+}
+
+/// Puts pieces one after another, as one text would be put.
+pub fn put_pieces<S: Sink>(sink: &mut S, pieces: &[&[u8]]) -> Result<(), Failed>
+    ensures { let text = text_in pieces.now in
+        PutsText (S.taken sink.old) (S.taken sink.new) (S.faults sink.old) (S.faults sink.new) text result }
+{
+    let [first, rest @ ..] = pieces else {
+        return Ok(());
+    };
+    put_all(sink, first)?;
+    put_pieces(sink, rest)
 }

@@ -29,7 +29,8 @@ pub fn scalar_text(alloc: Global, outcome: ScalarOutcome) -> Result<Vec<u8>, All
 
 // The lines of an end with a result.
 fn push_end(text: &mut Vec<u8>, value: u64, begun: u64) -> Result<(), AllocError>
-    ensures { OnOk result (text.new.items ≡ text.old.items ++ (codes "result " ++ (hex_text value ++ (line_feed ++ iterations_text begun)))) }
+    ensures { OnOk result (text.new.items ≡ text.old.items
+        ++ (codes "result " ++ (hex_text value ++ (line_feed ++ iterations_text begun)))) }
 {
     text.extend_from_slice(b"result ")?;
     text.extend_from_slice(b"0x")?;

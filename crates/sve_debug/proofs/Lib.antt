@@ -1,0 +1,4 @@
+mod Words
+mod Pieces
+pub mod Runs
+mod Sessions

@@ -1,0 +1,28 @@
+use Rattle.std.proofs.Common.{◌≡◌, ◌==◌, ℕ, List, [], ◌∷◌, length, true, Some, None, refl, sym, ap, ◌∙◌, subst, arith}
+use Rattle.std.specs.Prelude.{not}
+use Rattle.std.proofs.lemmas.Bool.{eqb-true}
+use Rattle.sve_debug.specs.Held.{Stands}
+use Rattle.sve_debug.specs.Lines.{command_of}
+use Rattle.sve_debug.specs.Replies.{Session, after_command, after_line, is_quit, quits}
+use Rattle.sve_debug.proofs.debugger.Debugger.command.Goals as goal
+
+no_command : command_of [] ≡ None
+unfolding command_of
+no_command = refl
+
+empty : (line : List ℕ) → (length line == 0) ≡ true → line ≡ []
+empty [] h = refl
+empty (b ∷ bytes) h = let none : length (b ∷ bytes) ≡ 0 = eqb-true _ _ h in absurd (omega (arith, none))
+
+stays : (line : List ℕ) (d : Session) → (length line == 0) ≡ true → d ≡ after_line line d
+stays line d h = sym (ap (λ l. after_line l d) (empty line h) ∙ ap (λ o. elim o [ Some command ↦ after_command command d | None ↦ d ]) no_command)
+
+on : (line : List ℕ) → (length line == 0) ≡ true → true ≡ not (quits line)
+on line h = sym (ap (λ l. not (quits l)) (empty line h) ∙ ap (λ o. not (is_quit o)) no_command)
+
+pub returns-then-is_empty-clause-session : goal.returns-then-is_empty-clause-session
+returns-then-is_empty-clause-session g c start d h =
+    subst (Stands c.args.self.now start) (stays c.args.line.now d (sym c.is_empty.ensures ∙ c.if-is_empty.true)) h
+
+pub returns-then-is_empty-clause-goes_on : goal.returns-then-is_empty-clause-goes_on
+returns-then-is_empty-clause-goes_on g c = on c.args.line.now (sym c.is_empty.ensures ∙ c.if-is_empty.true)

@@ -1,0 +1,87 @@
+use Rattle.std.proofs.Common.{◌≡◌, ℕ, ◌+◌, ◌-◌, ◌≤◌, List, Some, None, Ok, take, subst, arith}
+use Rattle.std.specs.Prelude.{IfSome, slice_get}
+use Rattle.sve_debug.specs.Replies.{Session, line_text}
+use Rattle.sve_debug.specs.Sessions.{Tells, most_input, session_text}
+use Rattle.sve_debug.proofs.Sessions.{under_next, under_quit, under_cut, under_unread, under_end, under_limit, pends, if_some, limit}
+use Rattle.sve_debug.proofs.session.answer_lines.Goals as goal
+
+pub returns-in_err-byte-clause-told : goal.returns-in_err-byte-clause-told
+returns-in_err-byte-clause-told g c start d h =
+    let taken = g.S.Sink.taken in
+    if_some (g.I.Source.left c.args.input.now) (λ (bytes : List ℕ). Tells (taken c.args.out.now) (taken c.loop-taken.out) (session_text d bytes) c.from_residual.result)
+    (λ bytes is. under_unread c.loop-taken.debugger start d (take most_input bytes) c.loop-taken.line.items (most_input - c.loop-taken.taken) (g.I.Source.left c.loop-taken.input) (taken c.args.out.now) (taken c.loop-taken.out) c.from_residual.result c.from_residual.ensures.0
+    (c.loop-taken.invariant.session start d h bytes is))
+
+pub returns-in_default-clause-told : goal.returns-in_default-clause-told
+returns-in_default-clause-told g c start d h =
+    let taken = g.S.Sink.taken in
+    let input = g.I.Source.left c.loop-taken.input in
+    let next : IfSome input (λ (bytes : List ℕ). None ≡ slice_get bytes 0) =
+    subst (λ b. IfSome input (λ (bytes : List ℕ). b ≡ slice_get bytes 0)) c.in_default.is c.in_ok-byte.ensures.byte in
+    let line = c.as_slice.ensures.value in
+    if_some (g.I.Source.left c.args.input.now) (λ (bytes : List ℕ). Tells (taken c.args.out.now) (taken c.finish.new.out) (session_text d bytes) c.finish.result)
+    (λ bytes is. under_end c.loop-taken.debugger start d (take most_input bytes) c.loop-taken.line.items (most_input - c.loop-taken.taken) input (taken c.args.out.now) (taken c.loop-taken.out) (taken c.finish.new.out) c.finish.result c.loop-taken.invariant.pending next
+    (λ (e : Session) hold. subst (λ (l : List ℕ). Tells (taken c.loop-taken.out) (taken c.finish.new.out) (line_text l e) c.finish.result) line (c.finish.ensures.told start e hold))
+    (c.loop-taken.invariant.session start d h bytes is))
+
+pub returns-in_err-on-clause-told : goal.returns-in_err-on-clause-told
+returns-in_err-on-clause-told g c start d h =
+    let taken = g.S.Sink.taken in
+    let input = g.I.Source.left c.loop-taken.input in
+    let next : IfSome input (λ (bytes : List ℕ). Some c.in-Some.byte ≡ slice_get bytes 0) =
+    subst (λ b. IfSome input (λ (bytes : List ℕ). b ≡ slice_get bytes 0)) c.in-Some.is c.in_ok-byte.ensures.byte in
+    let test = c.loop-taken-test.true in
+    let inside : c.loop-taken.taken + 1 ≤ most_input = omega (arith, limit, test) in
+    if_some (g.I.Source.left c.args.input.now) (λ (bytes : List ℕ). Tells (taken c.args.out.now) (taken c.turn.new.out) (session_text d bytes) c.from_residual-in_err-on.result)
+    (λ bytes is. under_cut c.loop-taken.debugger c.turn.new.debugger start d (take most_input bytes) c.loop-taken.line.items most_input c.loop-taken.taken c.in-Some.byte input (taken c.args.out.now) (taken c.loop-taken.out) (taken c.turn.new.out) c.turn.result c.from_residual-in_err-on.result inside c.loop-taken.invariant.pending next c.from_residual-in_err-on.ensures.0
+    (record { stands = c.turn.ensures.session start; told = c.turn.ensures.told start })
+    (c.loop-taken.invariant.session start d h bytes is))
+
+pub returns-then-not-on-clause-told : goal.returns-then-not-on-clause-told
+returns-then-not-on-clause-told g c start d h =
+    let taken = g.S.Sink.taken in
+    let input = g.I.Source.left c.loop-taken.input in
+    let next : IfSome input (λ (bytes : List ℕ). Some c.in-Some.byte ≡ slice_get bytes 0) =
+    subst (λ b. IfSome input (λ (bytes : List ℕ). b ≡ slice_get bytes 0)) c.in-Some.is c.in_ok-byte.ensures.byte in
+    let test = c.loop-taken-test.true in
+    let inside : c.loop-taken.taken + 1 ≤ most_input = omega (arith, limit, test) in
+    if_some (g.I.Source.left c.args.input.now) (λ (bytes : List ℕ). Tells {T = Unit {0}} (taken c.args.out.now) (taken c.turn.new.out) (session_text d bytes) (Ok tt))
+    (λ bytes is. under_quit {T = Unit {0}} c.loop-taken.debugger c.turn.new.debugger start d (take most_input bytes) c.loop-taken.line.items most_input c.loop-taken.taken c.in-Some.byte c.in_ok-on.on input (taken c.args.out.now) (taken c.loop-taken.out) (taken c.turn.new.out) tt inside c.loop-taken.invariant.pending next c.if-not-on.true c.in_ok-on.ensures.goes_on
+    (record { stands = c.turn.ensures.session start; told = c.in_ok-on.ensures.told start })
+    (c.loop-taken.invariant.session start d h bytes is))
+
+pub loop-taken-preserved : goal.loop-taken-preserved
+loop-taken-preserved g c =
+    let taken = g.S.Sink.taken in
+    let input = g.I.Source.left c.loop-taken.input in
+    let next : IfSome input (λ (bytes : List ℕ). Some c.in-Some.byte ≡ slice_get bytes 0) =
+    subst (λ b. IfSome input (λ (bytes : List ℕ). b ≡ slice_get bytes 0)) c.in-Some.is c.in_ok-byte.ensures.byte in
+    let test = c.loop-taken-test.true in
+    let inside : c.loop-taken.taken + 1 ≤ most_input = omega (arith, limit, test) in
+    let steps = c.loop-taken.invariant.steps in
+    let more = c.turn.ensures.steps in
+    let later = c.loop-taken.invariant.later in
+    let out_later = c.turn.ensures.later in
+    let input_later = c.loop-taken.invariant.input_later in
+    let next_later = c.next.ensures.later in
+    record {
+      pending = pends c.loop-taken.line.items c.turn.new.line.items c.in-Some.byte c.in_ok-on.ensures.line c.loop-taken.invariant.pending;
+      steps = omega (arith, steps, more);
+      later = omega (arith, later, out_later);
+      input_later = omega (arith, input_later, next_later);
+      session = λ start d h bytes is.
+          under_next c.loop-taken.debugger c.turn.new.debugger start d (take most_input bytes) c.loop-taken.line.items c.turn.new.line.items most_input c.loop-taken.taken c.in-Some.byte c.in_ok-on.on input (g.I.Source.left c.next.new.input) (taken c.args.out.now) (taken c.loop-taken.out) (taken c.turn.new.out) inside c.loop-taken.invariant.pending next c.in_ok-byte.ensures.left c.in_ok-on.ensures.line c.if-not-on.false c.in_ok-on.ensures.goes_on
+          (record { stands = c.turn.ensures.session start; told = c.in_ok-on.ensures.told start })
+          (c.loop-taken.invariant.session start d h bytes is);
+    }
+
+pub returns-clause-told : goal.returns-clause-told
+returns-clause-told g c start d h =
+    let taken = g.S.Sink.taken in
+    let test = c.loop-taken-test.false in
+    let all : most_input ≤ c.loop-taken.taken = omega (arith, limit, test) in
+    let line = c.as_slice-2.ensures.value in
+    if_some (g.I.Source.left c.args.input.now) (λ (bytes : List ℕ). Tells (taken c.args.out.now) (taken c.finish-2.new.out) (session_text d bytes) c.finish-2.result)
+    (λ bytes is. under_limit c.loop-taken.debugger start d (take most_input bytes) c.loop-taken.line.items most_input c.loop-taken.taken (g.I.Source.left c.loop-taken.input) (taken c.args.out.now) (taken c.loop-taken.out) (taken c.finish-2.new.out) c.finish-2.result all c.loop-taken.invariant.pending
+    (λ (e : Session) hold. subst (λ (l : List ℕ). Tells (taken c.loop-taken.out) (taken c.finish-2.new.out) (line_text l e) c.finish-2.result) line (c.finish-2.ensures.told start e hold))
+    (c.loop-taken.invariant.session start d h bytes is))

@@ -1,0 +1,190 @@
+//! The debugger.
+
+ghost use Rattle.std.specs.Prelude.{◌≡◌, [], ◌-◌, ◌+◌, ◌^◌, ◌<◌, ◌≤◌, ◌||◌, None, IfOk, IsTrue, length, not, nat_lt};
+ghost use Rattle.io_edges.specs.Sink.{PutsText, HasCause};
+ghost use Rattle.machine_model.specs.Machine.{State};
+ghost use Rattle.sve_debug.specs.Held.{Stands, held_stand, answer_text, with_breaks};
+ghost use Rattle.sve_debug.specs.Replies.{Session, started, steps_to, is_break, with_break, break_text, part_text, after_command, command_text, after_line, line_text, quits};
+ghost use Rattle.sve_debug.specs.Seen.{IsPart, IsWithin};
+
+use crate::command::{Command, Part};
+use crate::line::command_of;
+use crate::put::{put_dump, put_end, put_line, put_named, put_place, put_places, put_stop};
+use crate::run::{Places, run};
+use crate::show::{put_first_fault, put_flags, put_general, put_predicate, put_vector};
+use arrayvec::ArrayVec;
+use io_edges::sink::{Failed, Sink};
+use machine_model::debuggee::Debuggee;
+use machine_model::outcome::Ending;
+use std::alloc::{AllocError, Global};
+use std::marker::Model;
+
+/// A machine that is run step by step by the lines of a session, and looked at between them. From `new` on it takes no
+/// memory.
+#[derive(Drop)]
+pub struct Debugger<D: Debuggee> {
+    machine: D,
+    places: Places,
+    breaks: ArrayVec<u64, 16>,
+    over: Option<Ending>,
+}
+
+impl<D: Debuggee> Model for Debugger<D> {
+    ghost use Rattle.std.specs.Prelude.{◌≡◌};
+    ghost use Rattle.sve_debug.specs.Held.{Held, held_by};
+
+    ghost Value = { Held };
+
+    ghost view = { λ d. held_by (D.view_of d.machine) d.breaks.items d.places.items };
+
+    ghost invariant = { λ d. (d.over ≡ (D.view_of d.machine).over) × (d.places.capacity ≡ 64) };
+}
+
+impl<D: Debuggee> Debugger<D> {
+    /// A session that begins with this machine, which has done no step. A refusal drops the machine.
+    pub fn new(alloc: Global, machine: D) -> Result<Debugger<D>, AllocError>
+        requires steps { (D.view_of machine).steps ≡ 0 }
+        requires over { (D.view_of machine).over ≡ None }
+        requires quiet { IsTrue (D.view_of machine).quiet }
+        ensures { let start = (D.view_of machine).state in IfOk result (λ d. Stands d start (started start)) }
+    {
+        let places = Places::with_capacity(alloc, 64)?;
+        Ok(Debugger {
+            machine,
+            places,
+            breaks: ArrayVec::new(),
+            over: None,
+        })
+    }
+
+    // Up to so many steps.
+    fn take_steps(&mut self, most: u64)
+        requires { self.old.machine.steps + most < 2 ^ 64 }
+        ensures session { (start : State) (d : Session) → Stands self.old start d →
+            Stands self.new start (steps_to [] most d) }
+        ensures steps { self.new.machine.steps ≤ self.old.machine.steps + most }
+    {
+        self.over = run(&mut self.machine, &mut self.places, self.over, &[], most);
+    }
+
+    // Up to so many steps, and none behind one that comes to a breakpoint.
+    fn go(&mut self, most: u64)
+        requires { self.old.machine.steps + most < 2 ^ 64 }
+        ensures session { (start : State) (d : Session) → Stands self.old start d →
+            Stands self.new start (steps_to d.breaks most d) }
+        ensures steps { self.new.machine.steps ≤ self.old.machine.steps + most }
+    {
+        let stops = self.breaks.as_slice();
+        self.over = run(&mut self.machine, &mut self.places, self.over, stops, most);
+    }
+
+    // Holds a breakpoint, and answers whether it does.
+    fn hold(&mut self, address: u64) -> bool
+        ensures held { result ≡ (is_break self.old.breaks address || nat_lt (length self.old.breaks) 16) }
+        ensures breaks { self.new ≡ with_breaks (with_break address self.old.breaks) self.old }
+    {
+        if self.breaks.as_slice().contains(&address) {
+            return true;
+        }
+        let room = self.breaks.len() < 16;
+        if room {
+            self.breaks.push(address);
+        }
+        room
+    }
+
+    // Puts where the machine stands, or how it ended or stopped.
+    fn put_stand<S: Sink>(&self, out: &mut S) -> Result<(), Failed>
+        ensures { let text = held_stand self.now in
+            PutsText (S.taken out.old) (S.taken out.new) (S.faults out.old) (S.faults out.new) text result }
+    {
+        let steps = self.machine.steps_done();
+        match self.over {
+            None => put_place(out, self.machine.pc(), steps),
+            Some(Ending::Ended) => put_end(out, self.machine.x(0), steps),
+            Some(Ending::Stopped(stop)) => put_stop(out, stop, steps),
+        }
+    }
+
+    // Puts a part of the machine.
+    fn put_part<S: Sink>(&self, part: Part, out: &mut S) -> Result<(), Failed>
+        requires { IsPart part }
+        ensures { let text = part_text part self.now.machine.state self.now.last in
+            PutsText (S.taken out.old) (S.taken out.new) (S.faults out.old) (S.faults out.new) text result }
+    {
+        match part {
+            Part::General(n) => put_general(&self.machine, n, out),
+            Part::Vector(n) => put_vector(&self.machine, n, out),
+            Part::Predicate(n) => put_predicate(&self.machine, n, out),
+            Part::Memory { address, len } => put_dump(out, &self.machine, address, len),
+            Part::Place => put_named(out, b"pc", self.machine.pc()),
+            Part::Stack => put_named(out, b"sp", self.machine.sp()),
+            Part::Flags => put_flags(&self.machine, out),
+            Part::FirstFault => put_first_fault(&self.machine, out),
+            Part::Past => put_places(out, &self.places),
+        }
+    }
+
+    // Puts whether a breakpoint is held.
+    fn put_break<S: Sink>(&mut self, address: u64, out: &mut S) -> Result<(), Failed>
+        ensures breaks { self.new ≡ with_breaks (with_break address self.old.breaks) self.old }
+        ensures text { let text = break_text address self.old.breaks in
+            PutsText (S.taken out.old) (S.taken out.new) (S.faults out.old) (S.faults out.new) text result }
+    {
+        let held = self.hold(address);
+        if held {
+            put_named(out, b"break", address)
+        } else {
+            put_line(out, b"no room", b"", b"", b"")
+        }
+    }
+
+    // Does what a command asks for, and puts what it answers.
+    fn answer<S: Sink>(&mut self, command: Command, out: &mut S) -> Result<(), Failed>
+        requires few { self.old.machine.steps ≤ 2 ^ 64 - 100000001 }
+        requires within { IsWithin command }
+        ensures session { (start : State) (d : Session) → Stands self.old start d →
+            Stands self.new start (after_command command d) }
+        ensures steps { self.new.machine.steps ≤ self.old.machine.steps + 100000000 }
+        ensures text { let text = answer_text command self.old self.new in
+            PutsText (S.taken out.old) (S.taken out.new) (S.faults out.old) (S.faults out.new) text result }
+    {
+        match command {
+            Command::Step(most) => {
+                self.take_steps(most);
+                self.put_stand(out)
+            }
+            Command::Go(most) => {
+                self.go(most);
+                self.put_stand(out)
+            }
+            Command::Break(address) => self.put_break(address, out),
+            Command::Show(part) => self.put_part(part, out),
+            Command::Quit => Ok(()),
+        }
+    }
+
+    /// Answers a line, which has no line feed, and says whether the session goes on. Where the output fails, the machine
+    /// stands as the line leaves it.
+    pub fn command<S: Sink>(&mut self, line: &[u8], out: &mut S) -> Result<bool, Failed>
+        requires { self.old.machine.steps ≤ 2 ^ 64 - 100000001 }
+        ensures session { (start : State) (d : Session) → Stands self.old start d →
+            Stands self.new start (after_line line.now d) }
+        ensures steps { self.new.machine.steps ≤ self.old.machine.steps + 100000000 }
+        ensures told { (start : State) (d : Session) → Stands self.old start d →
+            PutsText (S.taken out.old) (S.taken out.new) (S.faults out.old) (S.faults out.new)
+            (line_text line.now d) result }
+        ensures cause { HasCause (S.faults out.old) (S.faults out.new) result }
+        ensures goes_on { IfOk result (λ on. on ≡ not (quits line.now)) }
+    {
+        if line.is_empty() {
+            return Ok(true);
+        }
+        let Some(command) = command_of(line) else {
+            put_line(out, b"bad line", b"", b"", b"")?;
+            return Ok(true);
+        };
+        self.answer(command, out)?;
+        Ok(command != Command::Quit)
+    }
+}

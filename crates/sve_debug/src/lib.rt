@@ -1,0 +1,14 @@
+//! A debugger: a machine that is run step by step, and looked at between steps, by the lines of a session.
+#![tactic(auto)]
+
+pub mod command;
+mod cut;
+pub mod debugger;
+mod digits;
+mod line;
+mod put;
+mod run;
+pub mod session;
+mod show;
+#[cfg(test)]
+mod tests;

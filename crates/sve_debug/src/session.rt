@@ -1,0 +1,167 @@
+//! A session: the lines of an input, answered as they come.
+
+ghost use Rattle.std.specs.Prelude.{◌≡◌, ◌≢◌, ◌+◌, ◌*◌, ◌-◌, ◌^◌, ◌≤◌, ◌++◌, ◌∷◌, [], List, ℕ, drop, slice_get, not, Some, Err, IfOk, IfErr, IfSome, OnOk, IsErrOf};
+ghost use Rattle.io_edges.specs.Files.{Rose};
+ghost use Rattle.machine_model.specs.Machine.{State};
+ghost use Rattle.sve_debug.specs.Held.{Stands};
+ghost use Rattle.sve_debug.specs.Replies.{Session, after_line, line_text, quits};
+ghost use Rattle.sve_debug.specs.Sessions.{Tells, session_text, turned, turn_text, pending, ends};
+
+use crate::debugger::Debugger;
+use io_edges::sink::{Failed, Sink};
+use io_edges::source::Source;
+use machine_model::debuggee::Debuggee;
+use std::alloc::Global;
+
+/// What a session fails by.
+#[derive(Clone, Copy, Debug, PartialEq, Eq)]
+pub enum SessionFault {
+    /// Memory was short.
+    Memory,
+    /// The input failed.
+    Input,
+    /// The output failed.
+    Output,
+}
+
+// So many bytes of the input are taken at most.
+const LIMIT: u64 = 1_048_576;
+
+// The next byte of an input, where it has not ended.
+fn next<I: Source>(input: &mut I) -> Result<Option<u8>, SessionFault>
+    ensures byte { IfSome (I.left input.old) (λ bytes. IfOk result (λ byte. byte ≡ slice_get bytes 0)) }
+    ensures left { IfSome (I.left input.old) (λ bytes. OnOk result (I.left input.new ≡ Some (drop 1 bytes))) }
+    ensures later { I.faults input.old ≤ I.faults input.new }
+    ensures input { IsErrOf result SessionFault.Input → Rose (I.faults input.old) (I.faults input.new) }
+    ensures output { result ≢ Err SessionFault.Output }
+{
+    let mut piece = [0; 1];
+    match input.take(&mut piece) {
+        Ok(0) => Ok(None),
+        Ok(_) => Ok(Some(piece[0])),
+        Err(Failed) => Err(SessionFault::Input),
+    }
+}
+
+// Answers a line.
+fn tell<D: Debuggee, S: Sink>(
+    debugger: &mut Debugger<D>,
+    line: &[u8],
+    out: &mut S,
+) -> Result<bool, SessionFault>
+    requires { debugger.old.machine.steps ≤ 2 ^ 64 - 100000001 }
+    ensures session { (start : State) (d : Session) → Stands debugger.old start d →
+        Stands debugger.new start (after_line line.now d) }
+    ensures steps { debugger.new.machine.steps ≤ debugger.old.machine.steps + 100000000 }
+    ensures told { (start : State) (d : Session) → Stands debugger.old start d →
+        Tells (S.taken out.old) (S.taken out.new) (line_text line.now d) result }
+    ensures later { S.faults out.old ≤ S.faults out.new }
+    ensures output { IsErrOf result SessionFault.Output → Rose (S.faults out.old) (S.faults out.new) }
+    ensures input { result ≢ Err SessionFault.Input }
+    ensures goes_on { IfOk result (λ on. on ≡ not (quits line.now)) }
+{
+    match debugger.command(line, out) {
+        Ok(on) => Ok(on),
+        Err(Failed) => Err(SessionFault::Output),
+    }
+}
+
+fn push(line: &mut Vec<u8>, byte: u8) -> Result<(), SessionFault>
+    ensures items { OnOk result (line.new.items ≡ line.old.items ++ byte ∷ []) }
+    ensures memory { IfErr result (λ fault. fault ≡ SessionFault.Memory) }
+{
+    match line.push(byte) {
+        Ok(()) => Ok(()),
+        Err(_) => Err(SessionFault::Memory),
+    }
+}
+
+// Takes a byte, which belongs to the line that is pending or ends it, and says whether the session goes on.
+fn turn<D: Debuggee, S: Sink>(
+    debugger: &mut Debugger<D>,
+    line: &mut Vec<u8>,
+    byte: u8,
+    out: &mut S,
+) -> Result<bool, SessionFault>
+    requires { debugger.old.machine.steps ≤ 2 ^ 64 - 100000001 }
+    ensures session { (start : State) (d : Session) → Stands debugger.old start d →
+        Stands debugger.new start (turned line.old.items byte d) }
+    ensures line { OnOk result (line.new.items ≡ pending line.old.items byte) }
+    ensures steps { debugger.new.machine.steps ≤ debugger.old.machine.steps + 100000000 }
+    ensures told { (start : State) (d : Session) → Stands debugger.old start d →
+        Tells (S.taken out.old) (S.taken out.new) (turn_text line.old.items byte d) result }
+    ensures later { S.faults out.old ≤ S.faults out.new }
+    ensures output { IsErrOf result SessionFault.Output → Rose (S.faults out.old) (S.faults out.new) }
+    ensures input { result ≢ Err SessionFault.Input }
+    ensures goes_on { IfOk result (λ on. on ≡ not (ends line.old.items byte)) }
+{
+    if byte == b'\n' {
+        let on = tell(debugger, line.as_slice(), out)?;
+        line.clear();
+        return Ok(on);
+    }
+    push(line, byte)?;
+    Ok(true)
+}
+
+// Answers the last line.
+fn finish<D: Debuggee, S: Sink>(
+    debugger: &mut Debugger<D>,
+    line: &[u8],
+    out: &mut S,
+) -> Result<(), SessionFault>
+    requires { debugger.old.machine.steps ≤ 2 ^ 64 - 100000001 }
+    ensures told { (start : State) (d : Session) → Stands debugger.old start d →
+        Tells (S.taken out.old) (S.taken out.new) (line_text line.now d) result }
+    ensures output { IsErrOf result SessionFault.Output → Rose (S.faults out.old) (S.faults out.new) }
+    ensures input { result ≢ Err SessionFault.Input }
+{
+    match tell(debugger, line, out) {
+        Ok(_) => Ok(()),
+        Err(fault) => Err(fault),
+    }
+}
+
+// Answers the lines of an input, the first of which begins with no bytes.
+fn answer_lines<D: Debuggee, I: Source, S: Sink>(
+    debugger: &mut Debugger<D>,
+    line: &mut Vec<u8>,
+    input: &mut I,
+    out: &mut S,
+) -> Result<(), SessionFault>
+    requires steps { debugger.old.machine.steps ≡ 0 }
+    requires empty { line.old.items ≡ [] }
+    ensures told { (start : State) (d : Session) → Stands debugger.old start d →
+        IfSome (I.left input.old) (λ bytes. Tells (S.taken out.old) (S.taken out.new) (session_text d bytes) result) }
+    ensures output { IsErrOf result SessionFault.Output → Rose (S.faults out.old) (S.faults out.new) }
+    ensures input { IsErrOf result SessionFault.Input → Rose (I.faults input.old) (I.faults input.new) }
+{
+    for taken in 0..LIMIT {
+        let Some(byte) = next(input)? else {
+            return finish(debugger, line.as_slice(), out);
+        };
+        let on = turn(debugger, line, byte, out)?;
+        if !on {
+            return Ok(());
+        }
+    }
+    finish(debugger, line.as_slice(), out)
+}
+
+/// Answers the lines of an input, each as it comes, up to one that ends the session, to the end of the input, or to the
+/// last of the bytes that are taken at most. What is left of a line then is a line too.
+pub fn session<D: Debuggee, I: Source, S: Sink>(
+    alloc: Global,
+    debugger: &mut Debugger<D>,
+    input: &mut I,
+    out: &mut S,
+) -> Result<(), SessionFault>
+    requires { debugger.old.machine.steps ≡ 0 }
+    ensures told { (start : State) (d : Session) → Stands debugger.old start d →
+        IfSome (I.left input.old) (λ bytes. Tells (S.taken out.old) (S.taken out.new) (session_text d bytes) result) }
+    ensures output { IsErrOf result SessionFault.Output → Rose (S.faults out.old) (S.faults out.new) }
+    ensures input { IsErrOf result SessionFault.Input → Rose (I.faults input.old) (I.faults input.new) }
+{
+    let mut line = Vec::new(alloc);
+    answer_lines(debugger, &mut line, input, out)
+}
