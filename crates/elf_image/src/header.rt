@@ -39,7 +39,8 @@ fn has_ident(bytes: &[u8]) -> bool
 impl FileHeader {
     // The header of a file, or the first refusal that it calls for.
     pub fn read(bytes: &[u8]) -> Result<Self, ElfFault>
-        ensures found { IfOk result (λ h. load bytes.now ≡ load_segments bytes.now h.entry (segments_from bytes.now h.phoff h.phnum)) }
+        ensures found { IfOk result (λ h. load bytes.now
+            ≡ load_segments bytes.now h.entry (segments_from bytes.now h.phoff h.phnum)) }
         ensures table { IfOk result (λ h. 0 < h.phnum → h.phoff + 56 * h.phnum ≤ length bytes.now) }
         ensures refusal { IfErr result (λ fault. load bytes.now ≡ Err fault) }
     {

@@ -32,7 +32,8 @@ fn put_file_bytes(
     requires loadable { IsLoadable (length bytes.now) segment.now }
     requires low { from < end → segment.now.vaddr ≤ from }
     requires high { from < end → end ≤ segment.now.vaddr + segment.now.filesz }
-    ensures { IfOk result (λ _. page.new.items ≡ page.old.items ++ map (segment_byte bytes.now segment.now) (range_with_len from (end - from))) }
+    ensures { IfOk result (λ _. page.new.items
+        ≡ page.old.items ++ map (segment_byte bytes.now segment.now) (range_with_len from (end - from))) }
 {
     if end <= from {
         return Ok(());

@@ -100,10 +100,12 @@ pub fn loaded_segments(
     header: FileHeader,
 ) -> Result<Vec<ProgramHeader>, ElfFault>
     requires { 0 < header.phnum → header.phoff + 56 * header.phnum ≤ length bytes.now }
-    ensures loaded { IfOk result (λ loaded. load_segments bytes.now header.entry (segments_from bytes.now header.phoff header.phnum)
+    ensures loaded { IfOk result (λ loaded. load_segments bytes.now header.entry
+        (segments_from bytes.now header.phoff header.phnum)
         ≡ placed bytes.now header.entry loaded.items) }
     ensures loadable { IfOk result (λ loaded. AllLoadable (length bytes.now) loaded.items) }
-    ensures refusal { IfErr result (λ fault. Refuses (load_segments bytes.now header.entry (segments_from bytes.now header.phoff header.phnum)) fault) }
+    ensures refusal { IfErr result (λ fault. Refuses
+        (load_segments bytes.now header.entry (segments_from bytes.now header.phoff header.phnum)) fault) }
 {
     let segments = program_headers(alloc, bytes, header).map_err(|_| ElfFault::Memory)?;
     if any_dynamic(&segments) {

@@ -58,7 +58,8 @@ fn file_header(alloc: Global, room: usize) -> Result<Vec<u8>, AllocError>
 // Appends the program header of a segment that is the whole file, of this size in bytes.
 fn put_program_header(file: &mut Vec<u8>, size: u64) -> Result<(), AllocError>
     requires { file.old.items ≡ take 64 (file_of []) }
-    ensures { IfOk result (λ _. (words : List ℕ) → size ≡ 120 + 4 * length words → file.new.items ++ word_bytes words ≡ file_of words) }
+    ensures { IfOk result (λ _. (words : List ℕ) → size ≡ 120 + 4 * length words
+        → file.new.items ++ word_bytes words ≡ file_of words) }
 {
     put_u32(file, PT_LOAD)?;
     put_u32(file, READ_EXECUTE)?;

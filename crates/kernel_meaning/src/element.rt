@@ -57,7 +57,8 @@ pub fn read<M: GuestMemory>(
 
 // Replaces an element of an array.
 fn write_at<M: GuestMemory>(memory: &mut M, ty: Ty, base: i128, number: i128, value: i128) -> Turn
-    ensures { (slots : Slots) → stand_of result (M.memory memory.new) slots ≡ store (Some ty) base (M.memory memory.old) slots (Some value) (Some number) }
+    ensures { (slots : Slots) → stand_of result (M.memory memory.new) slots
+        ≡ store (Some ty) base (M.memory memory.old) slots (Some value) (Some number) }
 {
     match memory.store(address(ty, base, number), byte_count(ty), word(value)) {
         Ok(()) => Turn::Next,
@@ -73,7 +74,8 @@ pub fn write<M: GuestMemory>(
     number: Option<i128>,
     value: Option<i128>,
 ) -> Turn
-    ensures { (slots : Slots) → stand_of result (M.memory memory.new) slots ≡ store ty base (M.memory memory.old) slots value number }
+    ensures { (slots : Slots) → stand_of result (M.memory memory.new) slots
+        ≡ store ty base (M.memory memory.old) slots value number }
 {
     match (ty, value, number) {
         (None, _, _) => Turn::Next,

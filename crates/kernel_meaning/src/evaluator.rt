@@ -28,7 +28,8 @@ pub fn scalar_run<M: GuestMemory>(
     requires few { length args.now ≤ 8 }
     // It is the outcome of ScalarRun with its memory, and Spent exactly where more than `limit` iterations begin.
     ensures outcome { let k = program_of (kernel_of kernel.now) in
-        IfOk result (λ outcome. IsOutcome outcome limit (scalar_run k args.now (M.memory memory.old)) (M.memory memory.new) (first_leave k args.now limit (M.memory memory.old))) }
+        IfOk result (λ outcome. IsOutcome outcome limit (scalar_run k args.now (M.memory memory.old))
+        (M.memory memory.new) (first_leave k args.now limit (M.memory memory.old))) }
     ensures unchanged { OnErr result (M.memory memory.new ≡ M.memory memory.old) }
 {
     let kernel = kernel.kernel();

@@ -31,7 +31,8 @@ fn binding(shape: Shape) -> Binding
 }
 
 fn declare_params<'a>(scope: &mut Scope<'a>, params: &'a [Param]) -> Result<(), AllocError>
-    ensures { IfOk result (λ _. scope_of scope.new ≡ typing.after_params (scope_of scope.old) (parameters_of params.now)) }
+    ensures { IfOk result (λ _. scope_of scope.new
+        ≡ typing.after_params (scope_of scope.old) (parameters_of params.now)) }
 {
     for param in params {
         declare(scope, &param.name, binding(param.shape))?;
@@ -45,8 +46,10 @@ fn resolve_vars<'a>(
     scope: &mut Scope<'a>,
     vars: &'a [Var],
 ) -> Result<Vec<Step>, AllocError>
-    ensures steps { IfOk result (λ v. tasks_of v.items ≡ plans.resolved_vars (scope_of scope.old) (accumulators_of vars.now)) }
-    ensures scope { IfOk result (λ _. scope_of scope.new ≡ typing.after_vars (scope_of scope.old) (accumulators_of vars.now)) }
+    ensures steps { IfOk result (λ v. tasks_of v.items
+        ≡ plans.resolved_vars (scope_of scope.old) (accumulators_of vars.now)) }
+    ensures scope { IfOk result (λ _. scope_of scope.new
+        ≡ typing.after_vars (scope_of scope.old) (accumulators_of vars.now)) }
 {
     let mut steps = Vec::new(alloc);
     for var in vars {
@@ -63,7 +66,8 @@ fn resolve_answer(
     scope: &Scope,
     answer: &Option<Answer>,
 ) -> Result<Option<Node>, AllocError>
-    ensures { IfOk result (λ o. option_map tree_of o ≡ plans.resolved_answer (scope_of scope.now) (option_map returned_of answer.now)) }
+    ensures { IfOk result (λ o. option_map tree_of o
+        ≡ plans.resolved_answer (scope_of scope.now) (option_map returned_of answer.now)) }
 {
     match answer {
         None => Ok(None),
@@ -94,8 +98,11 @@ fn resolve_loop<'a>(
     turns: &'a Loop,
     answer: &Option<Answer>,
 ) -> Result<(Cycle, Option<Node>), AllocError>
-    ensures cycle { IfOk result (λ p. plans.looped_of p.0 ≡ plans.resolved_loop (scope_of scope.old) (turns_of turns.now)) }
-    ensures answer { IfOk result (λ p. option_map tree_of p.1 ≡ plans.resolved_answer (typing.declared (scope_of scope.old) (name_of turns.now.index) binding.Index) (option_map returned_of answer.now)) }
+    ensures cycle { IfOk result (λ p. plans.looped_of p.0
+        ≡ plans.resolved_loop (scope_of scope.old) (turns_of turns.now)) }
+    ensures answer { IfOk result (λ p. option_map tree_of p.1
+        ≡ plans.resolved_answer (typing.declared (scope_of scope.old) (name_of turns.now.index) binding.Index)
+        (option_map returned_of answer.now)) }
 {
     let bound = slot(scope, &turns.bound);
     let index = visible_count(scope);

@@ -25,7 +25,8 @@ fn moved_by(op: BinaryOp, by: Option<i128>) -> Option<i128>
 
 /// The offset of a stream index, modulo 2^64; None for any other index.
 pub fn stream_offset(index: Option<&str>, expr: &Expr) -> Option<i128>
-    ensures { result ≡ option_map (wraps.wrap ty.U64) (items.stream_offset (option_map text_of index.entry) (term_of expr.now)) }
+    ensures { result ≡ option_map (wraps.wrap ty.U64)
+        (items.stream_offset (option_map text_of index.entry) (term_of expr.now)) }
 {
     match expr {
         Expr::Var(name) => { if is_index(index, name) { Some(0) } else { None } }

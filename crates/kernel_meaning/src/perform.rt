@@ -28,7 +28,8 @@ fn set_slot(slots: &mut [i128], slot: usize, value: Option<i128>) -> Turn
 }
 
 fn leave(cond: Option<bool>) -> Turn
-    ensures { (memory : Memory) (slots : meaning.Slots) → stand_of result memory slots ≡ meaning.quit memory slots cond }
+    ensures { (memory : Memory) (slots : meaning.Slots)
+        → stand_of result memory slots ≡ meaning.quit memory slots cond }
 {
     match cond {
         None => Turn::Faulted,
@@ -39,7 +40,8 @@ fn leave(cond: Option<bool>) -> Turn
 
 #[cycle(steps)]
 fn perform_step<M: GuestMemory>(step: &Step, memory: &mut M, slots: &mut [i128]) -> Turn
-    ensures { stand_of result (M.memory memory.new) slots.new ≡ meaning.do_task (task_of step.now) (M.memory memory.old) slots.old }
+    ensures { stand_of result (M.memory memory.new) slots.new
+        ≡ meaning.do_task (task_of step.now) (M.memory memory.old) slots.old }
 {
     match step {
         Step::Set { slot, value: node } => {
@@ -68,7 +70,8 @@ fn perform_step<M: GuestMemory>(step: &Step, memory: &mut M, slots: &mut [i128])
 /// Does statements in order.
 #[cycle(steps)]
 pub fn perform<M: GuestMemory>(steps: &[Step], memory: &mut M, slots: &mut [i128]) -> Turn
-    ensures { stand_of result (M.memory memory.new) slots.new ≡ meaning.do_tasks (tasks_of steps.now) (M.memory memory.old) slots.old }
+    ensures { stand_of result (M.memory memory.new) slots.new
+        ≡ meaning.do_tasks (tasks_of steps.now) (M.memory memory.old) slots.old }
 {
     for step in steps {
         match perform_step(step, memory, slots) {

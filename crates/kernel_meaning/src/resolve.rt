@@ -90,7 +90,10 @@ pub fn resolve(
 /// The number of an element, by its index.
 #[cycle(nodes)]
 pub fn resolve_number(alloc: Global, scope: &Scope, index: &Expr) -> Result<Node, AllocError>
-    ensures { IfOk result (λ n. tree_of n ≡ resolving.number_tree (scope_of scope.now) (items.stream_offset (scope_of scope.now).index (term_of index.now)) (resolving.resolved (scope_of scope.now) (typing.index_type (scope_of scope.now) (term_of index.now)) (term_of index.now))) }
+    ensures { IfOk result (λ n. tree_of n ≡ resolving.number_tree (scope_of scope.now)
+        (items.stream_offset (scope_of scope.now).index (term_of index.now))
+        (resolving.resolved (scope_of scope.now) (typing.index_type (scope_of scope.now) (term_of index.now))
+        (term_of index.now))) }
 {
     match stream_offset(scope.index, index) {
         Some(offset) => stream_number(alloc, scope, offset),
@@ -108,7 +111,8 @@ fn resolve_read(
     array: &Name,
     index: &Expr,
 ) -> Result<Node, AllocError>
-    ensures { IfOk result (λ n. tree_of n ≡ resolving.element_tree (scope_of scope.now) (name_of array.now) (term_of index.now)) }
+    ensures { IfOk result (λ n. tree_of n ≡ resolving.element_tree (scope_of scope.now) (name_of array.now)
+        (term_of index.now)) }
 {
     let number = resolve_number(alloc, scope, index)?;
     build::element(alloc, slot(scope, array), array_type(scope, array), number)
@@ -123,7 +127,9 @@ fn resolve_binary(
     left: &Expr,
     right: &Expr,
 ) -> Result<Node, AllocError>
-    ensures { IfOk result (λ n. tree_of n ≡ trees.Binary op want (resolving.resolved (scope_of scope.now) want (term_of left.now)) (resolving.resolved (scope_of scope.now) want (term_of right.now))) }
+    ensures { IfOk result (λ n. tree_of n ≡ trees.Binary op want
+        (resolving.resolved (scope_of scope.now) want (term_of left.now))
+        (resolving.resolved (scope_of scope.now) want (term_of right.now))) }
 {
     let left = resolve(alloc, scope, want, left)?;
     let right = resolve(alloc, scope, want, right)?;
@@ -139,7 +145,10 @@ fn resolve_select(
     yes: &Expr,
     no: &Expr,
 ) -> Result<Node, AllocError>
-    ensures { IfOk result (λ n. tree_of n ≡ trees.Select (resolving.resolved (scope_of scope.now) None (term_of cond.now)) (resolving.resolved (scope_of scope.now) want (term_of yes.now)) (resolving.resolved (scope_of scope.now) want (term_of no.now))) }
+    ensures { IfOk result (λ n. tree_of n ≡ trees.Select
+        (resolving.resolved (scope_of scope.now) None (term_of cond.now))
+        (resolving.resolved (scope_of scope.now) want (term_of yes.now))
+        (resolving.resolved (scope_of scope.now) want (term_of no.now))) }
 {
     let cond = resolve(alloc, scope, None, cond)?;
     let yes = resolve(alloc, scope, want, yes)?;
@@ -156,7 +165,8 @@ fn resolve_compared(
     right: &Expr,
 ) -> Result<Node, AllocError>
     ensures { let want = typing.side_type (scope_of scope.now) (term_of left.now) (term_of right.now) in
-        IfOk result (λ n. tree_of n ≡ trees.Compare op (resolving.resolved (scope_of scope.now) want (term_of left.now)) (resolving.resolved (scope_of scope.now) want (term_of right.now))) }
+        IfOk result (λ n. tree_of n ≡ trees.Compare op (resolving.resolved (scope_of scope.now) want (term_of left.now))
+        (resolving.resolved (scope_of scope.now) want (term_of right.now))) }
 {
     let want = side_type(scope, left, right);
     let left = resolve(alloc, scope, want, left)?;
@@ -166,7 +176,8 @@ fn resolve_compared(
 
 #[cycle(nodes)]
 fn resolve_both(alloc: Global, scope: &Scope, left: &Expr, right: &Expr) -> Result<Node, AllocError>
-    ensures { IfOk result (λ n. tree_of n ≡ trees.And (resolving.resolved (scope_of scope.now) None (term_of left.now)) (resolving.resolved (scope_of scope.now) None (term_of right.now))) }
+    ensures { IfOk result (λ n. tree_of n ≡ trees.And (resolving.resolved (scope_of scope.now) None (term_of left.now))
+        (resolving.resolved (scope_of scope.now) None (term_of right.now))) }
 {
     let left = resolve(alloc, scope, None, left)?;
     let right = resolve(alloc, scope, None, right)?;
@@ -180,7 +191,8 @@ fn resolve_either(
     left: &Expr,
     right: &Expr,
 ) -> Result<Node, AllocError>
-    ensures { IfOk result (λ n. tree_of n ≡ trees.Or (resolving.resolved (scope_of scope.now) None (term_of left.now)) (resolving.resolved (scope_of scope.now) None (term_of right.now))) }
+    ensures { IfOk result (λ n. tree_of n ≡ trees.Or (resolving.resolved (scope_of scope.now) None (term_of left.now))
+        (resolving.resolved (scope_of scope.now) None (term_of right.now))) }
 {
     let left = resolve(alloc, scope, None, left)?;
     let right = resolve(alloc, scope, None, right)?;

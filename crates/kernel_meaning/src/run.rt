@@ -30,7 +30,8 @@ fn put(slots: &mut [i128], slot: usize, value: i128)
 
 // One iteration.
 fn iterate<M: GuestMemory>(cycle: &Cycle, at: u64, memory: &mut M, slots: &mut [i128]) -> Turn
-    ensures { stand_of result (M.memory memory.new) slots.new ≡ plans.turn (looped_of cycle.now) at (M.memory memory.old) slots.old }
+    ensures { stand_of result (M.memory memory.new) slots.new
+        ≡ plans.turn (looped_of cycle.now) at (M.memory memory.old) slots.old }
 {
     put(slots, cycle.index, at as i128);
     let turn = perform(&cycle.body, memory, slots);
@@ -39,7 +40,8 @@ fn iterate<M: GuestMemory>(cycle: &Cycle, at: u64, memory: &mut M, slots: &mut [
 
 // So many iterations.
 fn follow<M: GuestMemory>(cycle: &Cycle, count: u64, memory: &mut M, slots: &mut [i128]) -> Progress
-    ensures { course_of result (M.memory memory.new) slots.new ≡ plans.slot_course (looped_of cycle.now) count 0 (M.memory memory.old) slots.old }
+    ensures { course_of result (M.memory memory.new) slots.new
+        ≡ plans.slot_course (looped_of cycle.now) count 0 (M.memory memory.old) slots.old }
 {
     for at in 0..count {
         match iterate(cycle, at, memory, slots) {
@@ -85,7 +87,9 @@ fn close<M: GuestMemory>(
     done: u64,
     begun: u64,
 ) -> ScalarOutcome
-    ensures { limited_of result (M.memory memory.now) ≡ plans.Ended (plans.slot_closed (option_map tree_of answer.now) index (M.memory memory.now) slots.old done begun) }
+    ensures { limited_of result (M.memory memory.now)
+        ≡ plans.Ended (plans.slot_closed (option_map tree_of answer.now) index
+        (M.memory memory.now) slots.old done begun) }
 {
     put(slots, index, done as i128);
     ended(result_of(answer, memory, slots), begun)
@@ -101,7 +105,9 @@ fn finish<M: GuestMemory>(
     memory: &M,
     slots: &mut [i128],
 ) -> ScalarOutcome
-    ensures { limited_of result (M.memory memory.now) ≡ plans.slot_finish (option_map tree_of answer.now) cycle.now.index count limit (course_of progress (M.memory memory.now) slots.old) }
+    ensures { limited_of result (M.memory memory.now)
+        ≡ plans.slot_finish (option_map tree_of answer.now) cycle.now.index count limit
+        (course_of progress (M.memory memory.now) slots.old) }
 {
     match progress {
         Progress::Going => {
@@ -125,7 +131,9 @@ fn run_loop<M: GuestMemory>(
     memory: &mut M,
     slots: &mut [i128],
 ) -> ScalarOutcome
-    ensures { limited_of result (M.memory memory.new) ≡ plans.slot_loop (option_map tree_of answer.now) (looped_of cycle.now) limit (operators.word (slots_of.slot_at slots.old cycle.now.bound)) (M.memory memory.old) slots.old }
+    ensures { limited_of result (M.memory memory.new)
+        ≡ plans.slot_loop (option_map tree_of answer.now) (looped_of cycle.now) limit
+        (operators.word (slots_of.slot_at slots.old cycle.now.bound)) (M.memory memory.old) slots.old }
 {
     let count = word(slot_at(slots, cycle.bound));
     let progress = follow(cycle, count.min(limit), memory, slots);
@@ -138,7 +146,9 @@ fn run_turns<M: GuestMemory>(
     memory: &mut M,
     slots: &mut [i128],
 ) -> ScalarOutcome
-    ensures { limited_of result (M.memory memory.new) ≡ plans.slot_turns (planned_of plan.now).answer (planned_of plan.now).turns limit (M.memory memory.old) slots.old }
+    ensures { limited_of result (M.memory memory.new)
+        ≡ plans.slot_turns (planned_of plan.now).answer (planned_of plan.now).turns limit
+        (M.memory memory.old) slots.old }
 {
     match &plan.turns {
         None => ended(result_of(&plan.answer, &*memory, slots), 0),
@@ -153,7 +163,8 @@ pub fn run<M: GuestMemory>(
     memory: &mut M,
     slots: &mut [i128],
 ) -> ScalarOutcome
-    ensures { limited_of result (M.memory memory.new) ≡ plans.slot_run (planned_of plan.now) limit (M.memory memory.old) slots.old }
+    ensures { limited_of result (M.memory memory.new)
+        ≡ plans.slot_run (planned_of plan.now) limit (M.memory memory.old) slots.old }
 {
     match perform(&plan.start, memory, slots) {
         Turn::Next => run_turns(plan, limit, memory, slots),

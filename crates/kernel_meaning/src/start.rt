@@ -42,7 +42,8 @@ fn given(alloc: Global, params: &[Param], args: &[u64]) -> Result<Vec<i128>, All
 
 // Adds zeros up to the last slot.
 fn pad(slots: &mut Vec<i128>) -> Result<(), AllocError>
-    ensures { IfOk result (λ _. slots.new.items ≡ slots.old.items ++ replicate (most_slots - length slots.old.items) (pos 0)) }
+    ensures { IfOk result (λ _. slots.new.items
+        ≡ slots.old.items ++ replicate (most_slots - length slots.old.items) (pos 0)) }
 {
     let missing = MOST_SLOTS.saturating_sub(slots.len());
     for _at in 0..missing {

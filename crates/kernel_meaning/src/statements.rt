@@ -38,8 +38,10 @@ fn resolve_let<'a>(
     ty: Option<Ty>,
     value: &Expr,
 ) -> Result<Step, AllocError>
-    ensures step { IfOk result (λ s. task_of s ≡ resolving.resolved_action (scope_of scope.old) (plain.Define (name_of name.now) ty (term_of value.now))) }
-    ensures scope { IfOk result (λ _. scope_of scope.new ≡ typing.after_action (scope_of scope.old) (plain.Define (name_of name.now) ty (term_of value.now))) }
+    ensures step { IfOk result (λ s. task_of s
+        ≡ resolving.resolved_action (scope_of scope.old) (plain.Define (name_of name.now) ty (term_of value.now))) }
+    ensures scope { IfOk result (λ _. scope_of scope.new
+        ≡ typing.after_action (scope_of scope.old) (plain.Define (name_of name.now) ty (term_of value.now))) }
 {
     let want = first(ty, own_type(scope, value));
     let slot = let_slot(scope, want);
@@ -55,7 +57,8 @@ fn resolve_store(
     index: &Expr,
     value: &Expr,
 ) -> Result<Step, AllocError>
-    ensures { IfOk result (λ s. task_of s ≡ resolving.resolved_action (scope_of scope.now) (plain.Put (name_of array.now) (term_of index.now) (term_of value.now))) }
+    ensures { IfOk result (λ s. task_of s ≡ resolving.resolved_action (scope_of scope.now)
+        (plain.Put (name_of array.now) (term_of index.now) (term_of value.now))) }
 {
     let ty = array_type(scope, array);
     let base = slot(scope, array);
@@ -90,7 +93,8 @@ fn resolve_update(
     op: UpdateOp,
     value: &Expr,
 ) -> Result<Step, AllocError>
-    ensures { IfOk result (λ s. task_of s ≡ resolving.resolved_action (scope_of scope.now) (plain.Update (name_of name.now) op (term_of value.now))) }
+    ensures { IfOk result (λ s. task_of s ≡ resolving.resolved_action (scope_of scope.now)
+        (plain.Update (name_of name.now) op (term_of value.now))) }
 {
     let want = lookup(scope, name).and_then(accumulator_type);
     let slot = slot(scope, name);
@@ -100,7 +104,8 @@ fn resolve_update(
 }
 
 fn resolve_break(alloc: Global, scope: &Scope, cond: &Expr) -> Result<Step, AllocError>
-    ensures { IfOk result (λ s. task_of s ≡ resolving.resolved_action (scope_of scope.now) (plain.Leave (term_of cond.now))) }
+    ensures { IfOk result (λ s. task_of s ≡ resolving.resolved_action (scope_of scope.now)
+        (plain.Leave (term_of cond.now))) }
 {
     let cond = resolve(alloc, scope, None, cond)?;
     Ok(Step::Break { cond })
@@ -113,7 +118,8 @@ fn resolve_stmt<'a>(
     stmt: &'a Stmt,
 ) -> Result<Step, AllocError>
     ensures step { IfOk result (λ s. task_of s ≡ resolving.resolved_action (scope_of scope.old) (action_of stmt.now)) }
-    ensures scope { IfOk result (λ _. scope_of scope.new ≡ typing.after_action (scope_of scope.old) (action_of stmt.now)) }
+    ensures scope { IfOk result (λ _. scope_of scope.new
+        ≡ typing.after_action (scope_of scope.old) (action_of stmt.now)) }
 {
     match stmt {
         Stmt::Let { name, ty, value } => {
@@ -160,8 +166,12 @@ fn resolve_if<'a>(
     cond: &Expr,
     block: &'a [Stmt],
 ) -> Result<Step, AllocError>
-    ensures step { IfOk result (λ s. task_of s ≡ resolving.resolved_action (scope_of scope.old) (plain.Choose (term_of cond.now) (block_of block.now) plain.Nothing)) }
-    ensures scope { IfOk result (λ _. scope_of scope.new ≡ typing.after_action (scope_of scope.old) (plain.Choose (term_of cond.now) (block_of block.now) plain.Nothing)) }
+    ensures step { IfOk result (λ s. task_of s
+        ≡ resolving.resolved_action (scope_of scope.old)
+        (plain.Choose (term_of cond.now) (block_of block.now) plain.Nothing)) }
+    ensures scope { IfOk result (λ _. scope_of scope.new
+        ≡ typing.after_action (scope_of scope.old)
+        (plain.Choose (term_of cond.now) (block_of block.now) plain.Nothing)) }
 {
     let cond = resolve(alloc, scope, None, cond)?;
     let yes = resolve_inner(alloc, scope, block)?;
@@ -176,8 +186,12 @@ fn resolve_if_else<'a>(
     block: &'a [Stmt],
     other: &'a [Stmt],
 ) -> Result<Step, AllocError>
-    ensures step { IfOk result (λ s. task_of s ≡ resolving.resolved_action (scope_of scope.old) (plain.Choose (term_of cond.now) (block_of block.now) (plain.Else (block_of other.now)))) }
-    ensures scope { IfOk result (λ _. scope_of scope.new ≡ typing.after_action (scope_of scope.old) (plain.Choose (term_of cond.now) (block_of block.now) (plain.Else (block_of other.now)))) }
+    ensures step { IfOk result (λ s. task_of s
+        ≡ resolving.resolved_action (scope_of scope.old)
+        (plain.Choose (term_of cond.now) (block_of block.now) (plain.Else (block_of other.now)))) }
+    ensures scope { IfOk result (λ _. scope_of scope.new
+        ≡ typing.after_action (scope_of scope.old)
+        (plain.Choose (term_of cond.now) (block_of block.now) (plain.Else (block_of other.now)))) }
 {
     let cond = resolve(alloc, scope, None, cond)?;
     let yes = resolve_inner(alloc, scope, block)?;
@@ -192,8 +206,10 @@ fn resolve_inner<'a>(
     scope: &mut Scope<'a>,
     block: &'a [Stmt],
 ) -> Result<Vec<Step>, AllocError>
-    ensures steps { IfOk result (λ v. tasks_of v.items ≡ resolving.resolved_block (scope_of scope.old) (block_of block.now)) }
-    ensures scope { IfOk result (λ _. scope_of scope.new ≡ typing.left (scope_of scope.old) (typing.after_block (scope_of scope.old) (block_of block.now))) }
+    ensures steps { IfOk result (λ v. tasks_of v.items
+        ≡ resolving.resolved_block (scope_of scope.old) (block_of block.now)) }
+    ensures scope { IfOk result (λ _. scope_of scope.new
+        ≡ typing.left (scope_of scope.old) (typing.after_block (scope_of scope.old) (block_of block.now))) }
 {
     let count = visible_count(scope);
     let steps = resolve_block(alloc, scope, block)?;
@@ -208,8 +224,10 @@ pub fn resolve_block<'a>(
     scope: &mut Scope<'a>,
     block: &'a [Stmt],
 ) -> Result<Vec<Step>, AllocError>
-    ensures steps { IfOk result (λ v. tasks_of v.items ≡ resolving.resolved_block (scope_of scope.old) (block_of block.now)) }
-    ensures scope { IfOk result (λ _. scope_of scope.new ≡ typing.after_block (scope_of scope.old) (block_of block.now)) }
+    ensures steps { IfOk result (λ v. tasks_of v.items
+        ≡ resolving.resolved_block (scope_of scope.old) (block_of block.now)) }
+    ensures scope { IfOk result (λ _. scope_of scope.new
+        ≡ typing.after_block (scope_of scope.old) (block_of block.now)) }
 {
     let mut steps = Vec::new(alloc);
     for stmt in block {

@@ -35,7 +35,9 @@ fn walk_param<'a>(
     requires { notes.old.next + 1 < 2 ^ 32 }
     ensures scope { IfOk result (λ _. scope_of scope.new ≡ after_param (scope_of scope.old) (parameter_of param.now)) }
     ensures next { IfOk result (λ _. notes.new.next ≡ notes.old.next + 1) }
-    ensures found { IfOk result (λ _. notes.new.found ≡ typing.sooner notes.old.found (typing.least (typing.twice notes.old.next (scope_of scope.old) (name_of param.now.name)))) }
+    ensures found { IfOk result (λ _. notes.new.found
+        ≡ typing.sooner notes.old.found (typing.least
+        (typing.twice notes.old.next (scope_of scope.old) (name_of param.now.name)))) }
     ensures types { IfOk result (λ _. notes.new.types.items ≡ notes.old.types.items ++ None ∷ []) }
 {
     let found = twice(notes.next, is_taken(scope, &param.name));
@@ -50,10 +52,14 @@ fn walk_params<'a>(
     params: &'a [Param],
 ) -> Result<(), AllocError>
     requires { notes.old.next + length params.now < 2 ^ 32 }
-    ensures scope { IfOk result (λ _. scope_of scope.new ≡ typing.after_params (scope_of scope.old) (parameters_of params.now)) }
+    ensures scope { IfOk result (λ _. scope_of scope.new
+        ≡ typing.after_params (scope_of scope.old) (parameters_of params.now)) }
     ensures next { IfOk result (λ _. notes.new.next ≡ notes.old.next + length params.now) }
-    ensures found { IfOk result (λ _. notes.new.found ≡ typing.sooner notes.old.found (typing.least (typing.params_faults (scope_of scope.old) notes.old.next (parameters_of params.now)))) }
-    ensures types { IfOk result (λ _. notes.new.types.items ≡ notes.old.types.items ++ typing.params_types (parameters_of params.now)) }
+    ensures found { IfOk result (λ _. notes.new.found
+        ≡ typing.sooner notes.old.found (typing.least
+        (typing.params_faults (scope_of scope.old) notes.old.next (parameters_of params.now)))) }
+    ensures types { IfOk result (λ _. notes.new.types.items
+        ≡ notes.old.types.items ++ typing.params_types (parameters_of params.now)) }
 {
     for param in params {
         walk_param(notes, scope, param)?;
@@ -65,9 +71,13 @@ fn walk_params<'a>(
 fn walk_var<'a>(notes: &mut Notes, scope: &mut Scope<'a>, var: &'a Var) -> Result<(), AllocError>
     requires { notes.old.next + items.term_size (scope_of scope.old).index (term_of var.now.init) + 1 < 2 ^ 32 }
     ensures scope { IfOk result (λ _. scope_of scope.new ≡ after_var (scope_of scope.old) (accumulator_of var.now)) }
-    ensures next { IfOk result (λ _. notes.new.next ≡ notes.old.next + (items.term_size (scope_of scope.old).index (term_of var.now.init) + 1)) }
-    ensures found { IfOk result (λ _. notes.new.found ≡ typing.sooner notes.old.found (typing.least (var_faults (scope_of scope.old) notes.old.next (accumulator_of var.now)))) }
-    ensures types { IfOk result (λ _. notes.new.types.items ≡ notes.old.types.items ++ var_types (scope_of scope.old) (accumulator_of var.now)) }
+    ensures next { IfOk result (λ _. notes.new.next
+        ≡ notes.old.next + (items.term_size (scope_of scope.old).index (term_of var.now.init) + 1)) }
+    ensures found { IfOk result (λ _. notes.new.found
+        ≡ typing.sooner notes.old.found (typing.least
+        (var_faults (scope_of scope.old) notes.old.next (accumulator_of var.now)))) }
+    ensures types { IfOk result (λ _. notes.new.types.items
+        ≡ notes.old.types.items ++ var_types (scope_of scope.old) (accumulator_of var.now)) }
 {
     walk_expr(notes, scope, Role::Value(Some(var.ty)), &var.init)?;
     let found = twice(notes.next, is_taken(scope, &var.name));
@@ -82,10 +92,15 @@ fn walk_vars<'a>(
     vars: &'a [Var],
 ) -> Result<(), AllocError>
     requires { notes.old.next + items.vars_size (scope_of scope.old).index (accumulators_of vars.now) < 2 ^ 32 }
-    ensures scope { IfOk result (λ _. scope_of scope.new ≡ typing.after_vars (scope_of scope.old) (accumulators_of vars.now)) }
-    ensures next { IfOk result (λ _. notes.new.next ≡ notes.old.next + items.vars_size (scope_of scope.old).index (accumulators_of vars.now)) }
-    ensures found { IfOk result (λ _. notes.new.found ≡ typing.sooner notes.old.found (typing.least (typing.vars_faults (scope_of scope.old) notes.old.next (accumulators_of vars.now)))) }
-    ensures types { IfOk result (λ _. notes.new.types.items ≡ notes.old.types.items ++ typing.vars_types (scope_of scope.old) (accumulators_of vars.now)) }
+    ensures scope { IfOk result (λ _. scope_of scope.new
+        ≡ typing.after_vars (scope_of scope.old) (accumulators_of vars.now)) }
+    ensures next { IfOk result (λ _. notes.new.next
+        ≡ notes.old.next + items.vars_size (scope_of scope.old).index (accumulators_of vars.now)) }
+    ensures found { IfOk result (λ _. notes.new.found
+        ≡ typing.sooner notes.old.found (typing.least
+        (typing.vars_faults (scope_of scope.old) notes.old.next (accumulators_of vars.now)))) }
+    ensures types { IfOk result (λ _. notes.new.types.items
+        ≡ notes.old.types.items ++ typing.vars_types (scope_of scope.old) (accumulators_of vars.now)) }
 {
     for var in vars {
         walk_var(notes, scope, var)?;
@@ -103,9 +118,13 @@ fn walk_body<'a>(
     requires room { notes.old.next + items.block_size (scope_of scope.old).index (block_of block.now) < 2 ^ 32 }
     requires outside { scope.old.inside ≡ false }
     ensures scope { IfOk result (λ _. scope_of scope.new ≡ (scope_of scope.old)) }
-    ensures next { IfOk result (λ _. notes.new.next ≡ notes.old.next + items.block_size (scope_of scope.old).index (block_of block.now)) }
-    ensures found { IfOk result (λ _. notes.new.found ≡ typing.sooner notes.old.found (typing.least (typing.block_faults (in_body (scope_of scope.old)) notes.old.next (block_of block.now)))) }
-    ensures types { IfOk result (λ _. notes.new.types.items ≡ notes.old.types.items ++ typing.block_types (in_body (scope_of scope.old)) (block_of block.now)) }
+    ensures next { IfOk result (λ _. notes.new.next
+        ≡ notes.old.next + items.block_size (scope_of scope.old).index (block_of block.now)) }
+    ensures found { IfOk result (λ _. notes.new.found
+        ≡ typing.sooner notes.old.found (typing.least
+        (typing.block_faults (in_body (scope_of scope.old)) notes.old.next (block_of block.now)))) }
+    ensures types { IfOk result (λ _. notes.new.types.items
+        ≡ notes.old.types.items ++ typing.block_types (in_body (scope_of scope.old)) (block_of block.now)) }
 {
     let visible = visible_count(scope);
     let taken = declared_count(scope);
@@ -124,10 +143,14 @@ fn walk_loop<'a>(
     requires room { notes.old.next + items.turns_size (Some (turns_of turns.now)) < 2 ^ 32 }
     requires outside { scope.old.inside ≡ false }
     requires index { (scope_of scope.old).index ≡ Some (items.index_of (turns_of turns.now)) }
-    ensures scope { IfOk result (λ _. scope_of scope.new ≡ typing.after_turns (scope_of scope.old) (Some (turns_of turns.now))) }
+    ensures scope { IfOk result (λ _. scope_of scope.new
+        ≡ typing.after_turns (scope_of scope.old) (Some (turns_of turns.now))) }
     ensures next { IfOk result (λ _. notes.new.next ≡ notes.old.next + items.turns_size (Some (turns_of turns.now))) }
-    ensures found { IfOk result (λ _. notes.new.found ≡ typing.sooner notes.old.found (typing.least (typing.turns_faults (scope_of scope.old) notes.old.next (Some (turns_of turns.now))))) }
-    ensures types { IfOk result (λ _. notes.new.types.items ≡ notes.old.types.items ++ typing.turns_types (scope_of scope.old) (Some (turns_of turns.now))) }
+    ensures found { IfOk result (λ _. notes.new.found
+        ≡ typing.sooner notes.old.found (typing.least
+        (typing.turns_faults (scope_of scope.old) notes.old.next (Some (turns_of turns.now))))) }
+    ensures types { IfOk result (λ _. notes.new.types.items
+        ≡ notes.old.types.items ++ typing.turns_types (scope_of scope.old) (Some (turns_of turns.now))) }
 {
     let item = notes.next;
     let bound = bound_fault(item, lookup(scope, &turns.bound));
@@ -146,10 +169,15 @@ fn walk_turns<'a>(
     requires room { notes.old.next + items.turns_size (option_map turns_of turns.now) < 2 ^ 32 }
     requires outside { scope.old.inside ≡ false }
     requires index { (scope_of scope.old).index ≡ option_map items.index_of (option_map turns_of turns.now) }
-    ensures scope { IfOk result (λ _. scope_of scope.new ≡ typing.after_turns (scope_of scope.old) (option_map turns_of turns.now)) }
-    ensures next { IfOk result (λ _. notes.new.next ≡ notes.old.next + items.turns_size (option_map turns_of turns.now)) }
-    ensures found { IfOk result (λ _. notes.new.found ≡ typing.sooner notes.old.found (typing.least (typing.turns_faults (scope_of scope.old) notes.old.next (option_map turns_of turns.now)))) }
-    ensures types { IfOk result (λ _. notes.new.types.items ≡ notes.old.types.items ++ typing.turns_types (scope_of scope.old) (option_map turns_of turns.now)) }
+    ensures scope { IfOk result (λ _. scope_of scope.new
+        ≡ typing.after_turns (scope_of scope.old) (option_map turns_of turns.now)) }
+    ensures next { IfOk result (λ _. notes.new.next
+        ≡ notes.old.next + items.turns_size (option_map turns_of turns.now)) }
+    ensures found { IfOk result (λ _. notes.new.found
+        ≡ typing.sooner notes.old.found (typing.least
+        (typing.turns_faults (scope_of scope.old) notes.old.next (option_map turns_of turns.now)))) }
+    ensures types { IfOk result (λ _. notes.new.types.items
+        ≡ notes.old.types.items ++ typing.turns_types (scope_of scope.old) (option_map turns_of turns.now)) }
 {
     match turns {
         None => Ok(()),
@@ -162,10 +190,15 @@ fn walk_turns<'a>(
 
 #[tactic(auto, using(crate::proofs::Least::sooner_rules))]
 fn walk_answer(notes: &mut Notes, scope: &Scope, answer: &Option<Answer>) -> Result<(), AllocError>
-    requires room { notes.old.next + items.answer_size (scope_of scope.now).index (option_map returned_of answer.now) < 2 ^ 32 }
-    ensures next { IfOk result (λ _. notes.new.next ≡ notes.old.next + items.answer_size (scope_of scope.now).index (option_map returned_of answer.now)) }
-    ensures found { IfOk result (λ _. notes.new.found ≡ typing.sooner notes.old.found (typing.least (typing.answer_faults (scope_of scope.now) notes.old.next (option_map returned_of answer.now)))) }
-    ensures types { IfOk result (λ _. notes.new.types.items ≡ notes.old.types.items ++ typing.answer_types (scope_of scope.now) (option_map returned_of answer.now)) }
+    requires room { notes.old.next + items.answer_size (scope_of scope.now).index
+        (option_map returned_of answer.now) < 2 ^ 32 }
+    ensures next { IfOk result (λ _. notes.new.next
+        ≡ notes.old.next + items.answer_size (scope_of scope.now).index (option_map returned_of answer.now)) }
+    ensures found { IfOk result (λ _. notes.new.found
+        ≡ typing.sooner notes.old.found (typing.least
+        (typing.answer_faults (scope_of scope.now) notes.old.next (option_map returned_of answer.now)))) }
+    ensures types { IfOk result (λ _. notes.new.types.items
+        ≡ notes.old.types.items ++ typing.answer_types (scope_of scope.now) (option_map returned_of answer.now)) }
 {
     match answer {
         None => Ok(()),

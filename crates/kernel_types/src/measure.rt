@@ -58,16 +58,20 @@ fn stmt_size(index: Option<&str>, stmt: &Stmt) -> u32
 
 #[cycle(sizes)]
 fn if_size(index: Option<&str>, cond: &Expr, block: &[Stmt]) -> u32
-    requires { items.action_size (option_map text_of index) (Choose (term_of cond.now) (block_of block.now) Nothing) < 2 ^ 32 }
-    ensures { result ≡ items.action_size (option_map text_of index.entry) (Choose (term_of cond.now) (block_of block.now) Nothing) }
+    requires { items.action_size (option_map text_of index)
+        (Choose (term_of cond.now) (block_of block.now) Nothing) < 2 ^ 32 }
+    ensures { result ≡ items.action_size (option_map text_of index.entry)
+        (Choose (term_of cond.now) (block_of block.now) Nothing) }
 {
     term_size(index, cond) + 1 + block_size(index, block) + 1
 }
 
 #[cycle(sizes)]
 fn if_else_size(index: Option<&str>, cond: &Expr, block: &[Stmt], other: &[Stmt]) -> u32
-    requires { items.action_size (option_map text_of index) (Choose (term_of cond.now) (block_of block.now) (Else (block_of other.now))) < 2 ^ 32 }
-    ensures { result ≡ items.action_size (option_map text_of index.entry) (Choose (term_of cond.now) (block_of block.now) (Else (block_of other.now))) }
+    requires { items.action_size (option_map text_of index)
+        (Choose (term_of cond.now) (block_of block.now) (Else (block_of other.now))) < 2 ^ 32 }
+    ensures { result ≡ items.action_size (option_map text_of index.entry)
+        (Choose (term_of cond.now) (block_of block.now) (Else (block_of other.now))) }
 {
     let first = term_size(index, cond) + 1 + block_size(index, block);
     first + 1 + block_size(index, other) + 1
@@ -190,8 +194,10 @@ fn if_depth(cond: &Expr, block: &[Stmt]) -> u32
 
 #[cycle(depths)]
 fn if_else_depth(cond: &Expr, block: &[Stmt], other: &[Stmt]) -> u32
-    requires { limits.action_depth (Choose (term_of cond.now) (block_of block.now) (Else (block_of other.now))) < 2 ^ 32 }
-    ensures { result ≡ limits.action_depth (Choose (term_of cond.now) (block_of block.now) (Else (block_of other.now))) }
+    requires { limits.action_depth (Choose (term_of cond.now) (block_of block.now) (Else (block_of other.now))) < 2
+        ^ 32 }
+    ensures { result ≡ limits.action_depth (Choose (term_of cond.now) (block_of block.now)
+        (Else (block_of other.now))) }
 {
     let blocks = block_depth(block).max(block_depth(other));
     term_depth(cond).max(blocks) + 1

@@ -26,11 +26,20 @@ fn walk_let<'a>(
     ty: Option<Ty>,
     value: &Expr,
 ) -> Result<(), AllocError>
-    requires { notes.old.next + (items.action_size (scope_of scope.old).index (Define (name_of name.now) ty (term_of value.now))) < 2 ^ 32 }
-    ensures scope { IfOk result (λ _. scope_of scope.new ≡ typing.after_action (scope_of scope.old) (Define (name_of name.now) ty (term_of value.now))) }
-    ensures next { IfOk result (λ _. notes.new.next ≡ notes.old.next + (items.action_size (scope_of scope.old).index (Define (name_of name.now) ty (term_of value.now)))) }
-    ensures found { IfOk result (λ _. notes.new.found ≡ typing.sooner notes.old.found (typing.least (typing.action_faults (scope_of scope.old) notes.old.next (Define (name_of name.now) ty (term_of value.now))))) }
-    ensures types { IfOk result (λ _. notes.new.types.items ≡ notes.old.types.items ++ typing.action_types (scope_of scope.old) (Define (name_of name.now) ty (term_of value.now))) }
+    requires { notes.old.next + (items.action_size (scope_of scope.old).index
+        (Define (name_of name.now) ty (term_of value.now))) < 2 ^ 32 }
+    ensures scope { IfOk result (λ _. scope_of scope.new
+        ≡ typing.after_action (scope_of scope.old) (Define (name_of name.now) ty (term_of value.now))) }
+    ensures next { IfOk result (λ _. notes.new.next
+        ≡ notes.old.next + (items.action_size (scope_of scope.old).index
+        (Define (name_of name.now) ty (term_of value.now)))) }
+    ensures found { IfOk result (λ _. notes.new.found
+        ≡ typing.sooner notes.old.found (typing.least
+        (typing.action_faults (scope_of scope.old) notes.old.next
+        (Define (name_of name.now) ty (term_of value.now))))) }
+    ensures types { IfOk result (λ _. notes.new.types.items
+        ≡ notes.old.types.items ++ typing.action_types (scope_of scope.old)
+        (Define (name_of name.now) ty (term_of value.now))) }
 {
     let wanted = first(ty, own_type(scope, value));
     walk_expr(notes, scope, Role::Value(wanted), value)?;
@@ -49,10 +58,18 @@ fn walk_store(
     index: &Expr,
     value: &Expr,
 ) -> Result<(), AllocError>
-    requires { notes.old.next + (items.action_size (scope_of scope.now).index (Put (name_of array.now) (term_of index.now) (term_of value.now))) < 2 ^ 32 }
-    ensures next { IfOk result (λ _. notes.new.next ≡ notes.old.next + (items.action_size (scope_of scope.now).index (Put (name_of array.now) (term_of index.now) (term_of value.now)))) }
-    ensures found { IfOk result (λ _. notes.new.found ≡ typing.sooner notes.old.found (typing.least (typing.action_faults (scope_of scope.now) notes.old.next (Put (name_of array.now) (term_of index.now) (term_of value.now))))) }
-    ensures types { IfOk result (λ _. notes.new.types.items ≡ notes.old.types.items ++ typing.action_types (scope_of scope.now) (Put (name_of array.now) (term_of index.now) (term_of value.now))) }
+    requires { notes.old.next + (items.action_size (scope_of scope.now).index
+        (Put (name_of array.now) (term_of index.now) (term_of value.now))) < 2 ^ 32 }
+    ensures next { IfOk result (λ _. notes.new.next
+        ≡ notes.old.next + (items.action_size (scope_of scope.now).index
+        (Put (name_of array.now) (term_of index.now) (term_of value.now)))) }
+    ensures found { IfOk result (λ _. notes.new.found
+        ≡ typing.sooner notes.old.found (typing.least
+        (typing.action_faults (scope_of scope.now) notes.old.next
+        (Put (name_of array.now) (term_of index.now) (term_of value.now))))) }
+    ensures types { IfOk result (λ _. notes.new.types.items
+        ≡ notes.old.types.items ++ typing.action_types (scope_of scope.now)
+        (Put (name_of array.now) (term_of index.now) (term_of value.now))) }
 {
     let target = lookup(scope, array);
     walk_expr(
@@ -75,10 +92,18 @@ fn walk_update(
     name: &Name,
     value: &Expr,
 ) -> Result<(), AllocError>
-    requires { notes.old.next + (items.action_size (scope_of scope.now).index (Update (name_of name.now) update.Add (term_of value.now))) < 2 ^ 32 }
-    ensures next { IfOk result (λ _. notes.new.next ≡ notes.old.next + (items.action_size (scope_of scope.now).index (Update (name_of name.now) update.Add (term_of value.now)))) }
-    ensures found { IfOk result (λ _. notes.new.found ≡ typing.sooner notes.old.found (typing.least (typing.action_faults (scope_of scope.now) notes.old.next (Update (name_of name.now) update.Add (term_of value.now))))) }
-    ensures types { IfOk result (λ _. notes.new.types.items ≡ notes.old.types.items ++ typing.action_types (scope_of scope.now) (Update (name_of name.now) update.Add (term_of value.now))) }
+    requires { notes.old.next + (items.action_size (scope_of scope.now).index
+        (Update (name_of name.now) update.Add (term_of value.now))) < 2 ^ 32 }
+    ensures next { IfOk result (λ _. notes.new.next
+        ≡ notes.old.next + (items.action_size (scope_of scope.now).index
+        (Update (name_of name.now) update.Add (term_of value.now)))) }
+    ensures found { IfOk result (λ _. notes.new.found
+        ≡ typing.sooner notes.old.found (typing.least
+        (typing.action_faults (scope_of scope.now) notes.old.next
+        (Update (name_of name.now) update.Add (term_of value.now))))) }
+    ensures types { IfOk result (λ _. notes.new.types.items
+        ≡ notes.old.types.items ++ typing.action_types (scope_of scope.now)
+        (Update (name_of name.now) update.Add (term_of value.now))) }
 {
     let target = lookup(scope, name);
     walk_expr(
@@ -94,9 +119,13 @@ fn walk_update(
 #[tactic(auto, using(crate::proofs::Least::sooner_rules))]
 fn walk_break(notes: &mut Notes, scope: &Scope, cond: &Expr) -> Result<(), AllocError>
     requires { notes.old.next + (items.action_size (scope_of scope.now).index (Leave (term_of cond.now))) < 2 ^ 32 }
-    ensures next { IfOk result (λ _. notes.new.next ≡ notes.old.next + (items.action_size (scope_of scope.now).index (Leave (term_of cond.now)))) }
-    ensures found { IfOk result (λ _. notes.new.found ≡ typing.sooner notes.old.found (typing.least (typing.action_faults (scope_of scope.now) notes.old.next (Leave (term_of cond.now))))) }
-    ensures types { IfOk result (λ _. notes.new.types.items ≡ notes.old.types.items ++ typing.action_types (scope_of scope.now) (Leave (term_of cond.now))) }
+    ensures next { IfOk result (λ _. notes.new.next
+        ≡ notes.old.next + (items.action_size (scope_of scope.now).index (Leave (term_of cond.now)))) }
+    ensures found { IfOk result (λ _. notes.new.found
+        ≡ typing.sooner notes.old.found (typing.least
+        (typing.action_faults (scope_of scope.now) notes.old.next (Leave (term_of cond.now))))) }
+    ensures types { IfOk result (λ _. notes.new.types.items
+        ≡ notes.old.types.items ++ typing.action_types (scope_of scope.now) (Leave (term_of cond.now))) }
 {
     walk_expr(notes, scope, Role::Condition, cond)?;
     end(notes, None, None)?;
@@ -107,10 +136,15 @@ fn walk_break(notes: &mut Notes, scope: &Scope, cond: &Expr) -> Result<(), Alloc
 #[tactic(auto, using(crate::proofs::Least::sooner_rules))]
 fn walk_stmt<'a>(notes: &mut Notes, scope: &mut Scope<'a>, stmt: &'a Stmt) -> Result<(), AllocError>
     requires { notes.old.next + (items.action_size (scope_of scope.old).index (action_of stmt.now)) < 2 ^ 32 }
-    ensures scope { IfOk result (λ _. scope_of scope.new ≡ typing.after_action (scope_of scope.old) (action_of stmt.now)) }
-    ensures next { IfOk result (λ _. notes.new.next ≡ notes.old.next + (items.action_size (scope_of scope.old).index (action_of stmt.now))) }
-    ensures found { IfOk result (λ _. notes.new.found ≡ typing.sooner notes.old.found (typing.least (typing.action_faults (scope_of scope.old) notes.old.next (action_of stmt.now)))) }
-    ensures types { IfOk result (λ _. notes.new.types.items ≡ notes.old.types.items ++ typing.action_types (scope_of scope.old) (action_of stmt.now)) }
+    ensures scope { IfOk result (λ _. scope_of scope.new
+        ≡ typing.after_action (scope_of scope.old) (action_of stmt.now)) }
+    ensures next { IfOk result (λ _. notes.new.next
+        ≡ notes.old.next + (items.action_size (scope_of scope.old).index (action_of stmt.now))) }
+    ensures found { IfOk result (λ _. notes.new.found
+        ≡ typing.sooner notes.old.found (typing.least
+        (typing.action_faults (scope_of scope.old) notes.old.next (action_of stmt.now)))) }
+    ensures types { IfOk result (λ _. notes.new.types.items
+        ≡ notes.old.types.items ++ typing.action_types (scope_of scope.old) (action_of stmt.now)) }
 {
     match stmt {
         Stmt::Let { name, ty, value } => {
@@ -159,11 +193,20 @@ fn walk_if<'a>(
     cond: &Expr,
     block: &'a [Stmt],
 ) -> Result<(), AllocError>
-    requires { notes.old.next + items.action_size (scope_of scope.old).index (Choose (term_of cond.now) (block_of block.now) Nothing) < 2 ^ 32 }
-    ensures scope { IfOk result (λ _. scope_of scope.new ≡ typing.after_action (scope_of scope.old) (Choose (term_of cond.now) (block_of block.now) Nothing)) }
-    ensures next { IfOk result (λ _. notes.new.next ≡ notes.old.next + items.action_size (scope_of scope.old).index (Choose (term_of cond.now) (block_of block.now) Nothing)) }
-    ensures found { IfOk result (λ _. notes.new.found ≡ typing.sooner notes.old.found (typing.least (typing.action_faults (scope_of scope.old) notes.old.next (Choose (term_of cond.now) (block_of block.now) Nothing)))) }
-    ensures types { IfOk result (λ _. notes.new.types.items ≡ notes.old.types.items ++ typing.action_types (scope_of scope.old) (Choose (term_of cond.now) (block_of block.now) Nothing)) }
+    requires { notes.old.next + items.action_size (scope_of scope.old).index
+        (Choose (term_of cond.now) (block_of block.now) Nothing) < 2 ^ 32 }
+    ensures scope { IfOk result (λ _. scope_of scope.new
+        ≡ typing.after_action (scope_of scope.old) (Choose (term_of cond.now) (block_of block.now) Nothing)) }
+    ensures next { IfOk result (λ _. notes.new.next
+        ≡ notes.old.next + items.action_size (scope_of scope.old).index
+        (Choose (term_of cond.now) (block_of block.now) Nothing)) }
+    ensures found { IfOk result (λ _. notes.new.found
+        ≡ typing.sooner notes.old.found (typing.least
+        (typing.action_faults (scope_of scope.old) notes.old.next
+        (Choose (term_of cond.now) (block_of block.now) Nothing)))) }
+    ensures types { IfOk result (λ _. notes.new.types.items
+        ≡ notes.old.types.items ++ typing.action_types (scope_of scope.old)
+        (Choose (term_of cond.now) (block_of block.now) Nothing)) }
 {
     walk_expr(notes, scope, Role::Condition, cond)?;
     end(notes, None, None)?;
@@ -182,11 +225,21 @@ fn walk_if_else<'a>(
     block: &'a [Stmt],
     other: &'a [Stmt],
 ) -> Result<(), AllocError>
-    requires { notes.old.next + items.action_size (scope_of scope.old).index (Choose (term_of cond.now) (block_of block.now) (Else (block_of other.now))) < 2 ^ 32 }
-    ensures scope { IfOk result (λ _. scope_of scope.new ≡ typing.after_action (scope_of scope.old) (Choose (term_of cond.now) (block_of block.now) (Else (block_of other.now)))) }
-    ensures next { IfOk result (λ _. notes.new.next ≡ notes.old.next + items.action_size (scope_of scope.old).index (Choose (term_of cond.now) (block_of block.now) (Else (block_of other.now)))) }
-    ensures found { IfOk result (λ _. notes.new.found ≡ typing.sooner notes.old.found (typing.least (typing.action_faults (scope_of scope.old) notes.old.next (Choose (term_of cond.now) (block_of block.now) (Else (block_of other.now)))))) }
-    ensures types { IfOk result (λ _. notes.new.types.items ≡ notes.old.types.items ++ typing.action_types (scope_of scope.old) (Choose (term_of cond.now) (block_of block.now) (Else (block_of other.now)))) }
+    requires { notes.old.next + items.action_size (scope_of scope.old).index
+        (Choose (term_of cond.now) (block_of block.now) (Else (block_of other.now))) < 2 ^ 32 }
+    ensures scope { IfOk result (λ _. scope_of scope.new
+        ≡ typing.after_action (scope_of scope.old)
+        (Choose (term_of cond.now) (block_of block.now) (Else (block_of other.now)))) }
+    ensures next { IfOk result (λ _. notes.new.next
+        ≡ notes.old.next + items.action_size (scope_of scope.old).index
+        (Choose (term_of cond.now) (block_of block.now) (Else (block_of other.now)))) }
+    ensures found { IfOk result (λ _. notes.new.found
+        ≡ typing.sooner notes.old.found (typing.least
+        (typing.action_faults (scope_of scope.old) notes.old.next
+        (Choose (term_of cond.now) (block_of block.now) (Else (block_of other.now)))))) }
+    ensures types { IfOk result (λ _. notes.new.types.items
+        ≡ notes.old.types.items ++ typing.action_types (scope_of scope.old)
+        (Choose (term_of cond.now) (block_of block.now) (Else (block_of other.now)))) }
 {
     walk_expr(notes, scope, Role::Condition, cond)?;
     end(notes, None, None)?;
@@ -206,10 +259,15 @@ fn walk_inner<'a>(
     block: &'a [Stmt],
 ) -> Result<(), AllocError>
     requires { notes.old.next + (items.block_size (scope_of scope.old).index (block_of block.now)) < 2 ^ 32 }
-    ensures scope { IfOk result (λ _. scope_of scope.new ≡ typing.left (scope_of scope.old) (typing.after_block (scope_of scope.old) (block_of block.now))) }
-    ensures next { IfOk result (λ _. notes.new.next ≡ notes.old.next + (items.block_size (scope_of scope.old).index (block_of block.now))) }
-    ensures found { IfOk result (λ _. notes.new.found ≡ typing.sooner notes.old.found (typing.least (typing.block_faults (scope_of scope.old) notes.old.next (block_of block.now)))) }
-    ensures types { IfOk result (λ _. notes.new.types.items ≡ notes.old.types.items ++ typing.block_types (scope_of scope.old) (block_of block.now)) }
+    ensures scope { IfOk result (λ _. scope_of scope.new
+        ≡ typing.left (scope_of scope.old) (typing.after_block (scope_of scope.old) (block_of block.now))) }
+    ensures next { IfOk result (λ _. notes.new.next
+        ≡ notes.old.next + (items.block_size (scope_of scope.old).index (block_of block.now))) }
+    ensures found { IfOk result (λ _. notes.new.found
+        ≡ typing.sooner notes.old.found (typing.least
+        (typing.block_faults (scope_of scope.old) notes.old.next (block_of block.now)))) }
+    ensures types { IfOk result (λ _. notes.new.types.items
+        ≡ notes.old.types.items ++ typing.block_types (scope_of scope.old) (block_of block.now)) }
 {
     let count = visible_count(scope);
     walk_block(notes, scope, block)?;
@@ -226,10 +284,15 @@ pub fn walk_block<'a>(
     block: &'a [Stmt],
 ) -> Result<(), AllocError>
     requires { notes.old.next + (items.block_size (scope_of scope.old).index (block_of block.now)) < 2 ^ 32 }
-    ensures scope { IfOk result (λ _. scope_of scope.new ≡ typing.after_block (scope_of scope.old) (block_of block.now)) }
-    ensures next { IfOk result (λ _. notes.new.next ≡ notes.old.next + (items.block_size (scope_of scope.old).index (block_of block.now))) }
-    ensures found { IfOk result (λ _. notes.new.found ≡ typing.sooner notes.old.found (typing.least (typing.block_faults (scope_of scope.old) notes.old.next (block_of block.now)))) }
-    ensures types { IfOk result (λ _. notes.new.types.items ≡ notes.old.types.items ++ typing.block_types (scope_of scope.old) (block_of block.now)) }
+    ensures scope { IfOk result (λ _. scope_of scope.new
+        ≡ typing.after_block (scope_of scope.old) (block_of block.now)) }
+    ensures next { IfOk result (λ _. notes.new.next
+        ≡ notes.old.next + (items.block_size (scope_of scope.old).index (block_of block.now))) }
+    ensures found { IfOk result (λ _. notes.new.found
+        ≡ typing.sooner notes.old.found (typing.least
+        (typing.block_faults (scope_of scope.old) notes.old.next (block_of block.now)))) }
+    ensures types { IfOk result (λ _. notes.new.types.items
+        ≡ notes.old.types.items ++ typing.block_types (scope_of scope.old) (block_of block.now)) }
 {
     for stmt in block {
         walk_stmt(notes, scope, stmt)?;

@@ -39,8 +39,12 @@ pub fn end(notes: &mut Notes, found: Option<Found>, ty: Option<Ty>) -> Result<()
 fn walk_literal(notes: &mut Notes, role: Role, value: i128) -> Result<(), AllocError>
     requires { notes.old.next + 1 < 2 ^ 32 }
     ensures next { IfOk result (λ _. notes.new.next ≡ notes.old.next + 1) }
-    ensures found { IfOk result (λ _. notes.new.found ≡ typing.sooner notes.old.found (typing.least (typing.as_value notes.old.next (role_of role) ++ typing.literal_faults notes.old.next (typing.wanted (role_of role)) value))) }
-    ensures types { IfOk result (λ _. notes.new.types.items ≡ notes.old.types.items ++ typing.wanted (role_of role) ∷ []) }
+    ensures found { IfOk result (λ _. notes.new.found
+        ≡ typing.sooner notes.old.found (typing.least
+        (typing.as_value notes.old.next (role_of role)
+        ++ typing.literal_faults notes.old.next (typing.wanted (role_of role)) value))) }
+    ensures types { IfOk result (λ _. notes.new.types.items
+        ≡ notes.old.types.items ++ typing.wanted (role_of role) ∷ []) }
 {
     let ty = wanted(role);
     let item = notes.next;
@@ -53,8 +57,13 @@ fn walk_literal(notes: &mut Notes, role: Role, value: i128) -> Result<(), AllocE
 fn walk_name(notes: &mut Notes, scope: &Scope, role: Role, name: &Name) -> Result<(), AllocError>
     requires { notes.old.next + 1 < 2 ^ 32 }
     ensures next { IfOk result (λ _. notes.new.next ≡ notes.old.next + 1) }
-    ensures found { IfOk result (λ _. notes.new.found ≡ typing.sooner notes.old.found (typing.least (typing.as_value notes.old.next (role_of role) ++ typing.name_faults notes.old.next (typing.wanted (role_of role)) (typing.lookup (scope_of scope.now) (name_of name.now))))) }
-    ensures types { IfOk result (λ _. notes.new.types.items ≡ notes.old.types.items ++ typing.wanted (role_of role) ∷ []) }
+    ensures found { IfOk result (λ _. notes.new.found
+        ≡ typing.sooner notes.old.found (typing.least
+        (typing.as_value notes.old.next (role_of role)
+        ++ typing.name_faults notes.old.next (typing.wanted (role_of role))
+        (typing.lookup (scope_of scope.now) (name_of name.now))))) }
+    ensures types { IfOk result (λ _. notes.new.types.items
+        ≡ notes.old.types.items ++ typing.wanted (role_of role) ∷ []) }
 {
     let ty = wanted(role);
     let item = notes.next;
@@ -71,8 +80,12 @@ fn walk_name(notes: &mut Notes, scope: &Scope, role: Role, name: &Name) -> Resul
 fn end_shift(notes: &mut Notes, role: Role, count: i128) -> Result<(), AllocError>
     requires { notes.old.next + 1 < 2 ^ 32 }
     ensures next { IfOk result (λ _. notes.new.next ≡ notes.old.next + 1) }
-    ensures found { IfOk result (λ _. notes.new.found ≡ typing.sooner notes.old.found (typing.least (typing.as_value notes.old.next (role_of role) ++ typing.shift_faults notes.old.next (typing.wanted (role_of role)) count))) }
-    ensures types { IfOk result (λ _. notes.new.types.items ≡ notes.old.types.items ++ typing.wanted (role_of role) ∷ []) }
+    ensures found { IfOk result (λ _. notes.new.found
+        ≡ typing.sooner notes.old.found (typing.least
+        (typing.as_value notes.old.next (role_of role)
+        ++ typing.shift_faults notes.old.next (typing.wanted (role_of role)) count))) }
+    ensures types { IfOk result (λ _. notes.new.types.items
+        ≡ notes.old.types.items ++ typing.wanted (role_of role) ∷ []) }
 {
     let ty = wanted(role);
     let item = notes.next;
@@ -91,9 +104,13 @@ pub fn walk_expr(
     expr: &Expr,
 ) -> Result<(), AllocError>
     requires { notes.old.next + items.term_size (scope_of scope.now).index (term_of expr.now) < 2 ^ 32 }
-    ensures next { IfOk result (λ _. notes.new.next ≡ notes.old.next + items.term_size (scope_of scope.now).index (term_of expr.now)) }
-    ensures found { IfOk result (λ _. notes.new.found ≡ typing.sooner notes.old.found (typing.least (typing.faults (scope_of scope.now) notes.old.next (role_of role) (term_of expr.now)))) }
-    ensures types { IfOk result (λ _. notes.new.types.items ≡ notes.old.types.items ++ typing.term_types (scope_of scope.now) (role_of role) (term_of expr.now)) }
+    ensures next { IfOk result (λ _. notes.new.next
+        ≡ notes.old.next + items.term_size (scope_of scope.now).index (term_of expr.now)) }
+    ensures found { IfOk result (λ _. notes.new.found
+        ≡ typing.sooner notes.old.found (typing.least
+        (typing.faults (scope_of scope.now) notes.old.next (role_of role) (term_of expr.now)))) }
+    ensures types { IfOk result (λ _. notes.new.types.items
+        ≡ notes.old.types.items ++ typing.term_types (scope_of scope.now) (role_of role) (term_of expr.now)) }
 {
     match expr {
         Expr::Lit(value) => walk_literal(notes, role, *value)?,
@@ -117,9 +134,18 @@ pub fn walk_expr(
 #[tactic(auto, using(crate::proofs::Least::sooner_rules))]
 fn walk_index(notes: &mut Notes, scope: &Scope, index: &Expr) -> Result<(), AllocError>
     requires { notes.old.next + items.index_items (scope_of scope.now).index (term_of index.now) < 2 ^ 32 }
-    ensures next { IfOk result (λ _. notes.new.next ≡ notes.old.next + items.index_items (scope_of scope.now).index (term_of index.now)) }
-    ensures found { IfOk result (λ _. notes.new.found ≡ typing.sooner notes.old.found (typing.least (typing.inner_faults (items.stream_offset (scope_of scope.now).index (term_of index.now)) (typing.faults (scope_of scope.now) notes.old.next (Value (typing.index_type (scope_of scope.now) (term_of index.now))) (term_of index.now))))) }
-    ensures types { IfOk result (λ _. notes.new.types.items ≡ notes.old.types.items ++ typing.inner_types (items.stream_offset (scope_of scope.now).index (term_of index.now)) (typing.term_types (scope_of scope.now) (Value (typing.index_type (scope_of scope.now) (term_of index.now))) (term_of index.now))) }
+    ensures next { IfOk result (λ _. notes.new.next
+        ≡ notes.old.next + items.index_items (scope_of scope.now).index (term_of index.now)) }
+    ensures found { IfOk result (λ _. notes.new.found
+        ≡ typing.sooner notes.old.found (typing.least
+        (typing.inner_faults (items.stream_offset (scope_of scope.now).index (term_of index.now))
+        (typing.faults (scope_of scope.now) notes.old.next
+        (Value (typing.index_type (scope_of scope.now) (term_of index.now))) (term_of index.now))))) }
+    ensures types { IfOk result (λ _. notes.new.types.items
+        ≡ notes.old.types.items ++ typing.inner_types
+        (items.stream_offset (scope_of scope.now).index (term_of index.now))
+        (typing.term_types (scope_of scope.now) (Value (typing.index_type (scope_of scope.now) (term_of index.now)))
+        (term_of index.now))) }
 {
     match stream_distance(scope.index, index) {
         Some(_) => Ok(()),
@@ -140,10 +166,18 @@ fn walk_read(
     array: &Name,
     index: &Expr,
 ) -> Result<(), AllocError>
-    requires { notes.old.next + items.term_size (scope_of scope.now).index (Element (name_of array.now) (term_of index.now)) < 2 ^ 32 }
-    ensures next { IfOk result (λ _. notes.new.next ≡ notes.old.next + items.term_size (scope_of scope.now).index (Element (name_of array.now) (term_of index.now))) }
-    ensures found { IfOk result (λ _. notes.new.found ≡ typing.sooner notes.old.found (typing.least (typing.faults (scope_of scope.now) notes.old.next (role_of role) (Element (name_of array.now) (term_of index.now))))) }
-    ensures types { IfOk result (λ _. notes.new.types.items ≡ notes.old.types.items ++ typing.term_types (scope_of scope.now) (role_of role) (Element (name_of array.now) (term_of index.now))) }
+    requires { notes.old.next + items.term_size (scope_of scope.now).index
+        (Element (name_of array.now) (term_of index.now)) < 2 ^ 32 }
+    ensures next { IfOk result (λ _. notes.new.next
+        ≡ notes.old.next + items.term_size (scope_of scope.now).index
+        (Element (name_of array.now) (term_of index.now))) }
+    ensures found { IfOk result (λ _. notes.new.found
+        ≡ typing.sooner notes.old.found (typing.least
+        (typing.faults (scope_of scope.now) notes.old.next (role_of role)
+        (Element (name_of array.now) (term_of index.now))))) }
+    ensures types { IfOk result (λ _. notes.new.types.items
+        ≡ notes.old.types.items ++ typing.term_types (scope_of scope.now) (role_of role)
+        (Element (name_of array.now) (term_of index.now))) }
 {
     walk_index(notes, scope, index)?;
     let ty = wanted(role);
@@ -158,10 +192,16 @@ fn walk_read(
 #[cycle(terms)]
 #[tactic(auto, using(crate::proofs::Least::sooner_rules))]
 fn walk_unary(notes: &mut Notes, scope: &Scope, role: Role, arg: &Expr) -> Result<(), AllocError>
-    requires { notes.old.next + items.term_size (scope_of scope.now).index (Unary unary.Neg (term_of arg.now)) < 2 ^ 32 }
-    ensures next { IfOk result (λ _. notes.new.next ≡ notes.old.next + items.term_size (scope_of scope.now).index (Unary unary.Neg (term_of arg.now))) }
-    ensures found { IfOk result (λ _. notes.new.found ≡ typing.sooner notes.old.found (typing.least (typing.faults (scope_of scope.now) notes.old.next (role_of role) (Unary unary.Neg (term_of arg.now))))) }
-    ensures types { IfOk result (λ _. notes.new.types.items ≡ notes.old.types.items ++ typing.term_types (scope_of scope.now) (role_of role) (Unary unary.Neg (term_of arg.now))) }
+    requires { notes.old.next + items.term_size (scope_of scope.now).index
+        (Unary unary.Neg (term_of arg.now)) < 2 ^ 32 }
+    ensures next { IfOk result (λ _. notes.new.next
+        ≡ notes.old.next + items.term_size (scope_of scope.now).index (Unary unary.Neg (term_of arg.now))) }
+    ensures found { IfOk result (λ _. notes.new.found
+        ≡ typing.sooner notes.old.found (typing.least
+        (typing.faults (scope_of scope.now) notes.old.next (role_of role) (Unary unary.Neg (term_of arg.now))))) }
+    ensures types { IfOk result (λ _. notes.new.types.items
+        ≡ notes.old.types.items ++ typing.term_types (scope_of scope.now) (role_of role)
+        (Unary unary.Neg (term_of arg.now))) }
 {
     let ty = wanted(role);
     walk_expr(notes, scope, Role::Value(ty), arg)?;
@@ -178,10 +218,18 @@ fn walk_binary(
     left: &Expr,
     right: &Expr,
 ) -> Result<(), AllocError>
-    requires { notes.old.next + items.term_size (scope_of scope.now).index (Operation binary.Add (term_of left.now) (term_of right.now)) < 2 ^ 32 }
-    ensures next { IfOk result (λ _. notes.new.next ≡ notes.old.next + items.term_size (scope_of scope.now).index (Operation binary.Add (term_of left.now) (term_of right.now))) }
-    ensures found { IfOk result (λ _. notes.new.found ≡ typing.sooner notes.old.found (typing.least (typing.faults (scope_of scope.now) notes.old.next (role_of role) (Operation binary.Add (term_of left.now) (term_of right.now))))) }
-    ensures types { IfOk result (λ _. notes.new.types.items ≡ notes.old.types.items ++ typing.term_types (scope_of scope.now) (role_of role) (Operation binary.Add (term_of left.now) (term_of right.now))) }
+    requires { notes.old.next + items.term_size (scope_of scope.now).index
+        (Operation binary.Add (term_of left.now) (term_of right.now)) < 2 ^ 32 }
+    ensures next { IfOk result (λ _. notes.new.next
+        ≡ notes.old.next + items.term_size (scope_of scope.now).index
+        (Operation binary.Add (term_of left.now) (term_of right.now))) }
+    ensures found { IfOk result (λ _. notes.new.found
+        ≡ typing.sooner notes.old.found (typing.least
+        (typing.faults (scope_of scope.now) notes.old.next (role_of role)
+        (Operation binary.Add (term_of left.now) (term_of right.now))))) }
+    ensures types { IfOk result (λ _. notes.new.types.items
+        ≡ notes.old.types.items ++ typing.term_types (scope_of scope.now) (role_of role)
+        (Operation binary.Add (term_of left.now) (term_of right.now))) }
 {
     let ty = wanted(role);
     walk_expr(notes, scope, Role::Value(ty), left)?;
@@ -199,10 +247,16 @@ fn walk_shift(
     arg: &Expr,
     count: i128,
 ) -> Result<(), AllocError>
-    requires { notes.old.next + items.term_size (scope_of scope.now).index (Shift true (term_of arg.now) count) < 2 ^ 32 }
-    ensures next { IfOk result (λ _. notes.new.next ≡ notes.old.next + items.term_size (scope_of scope.now).index (Shift true (term_of arg.now) count)) }
-    ensures found { IfOk result (λ _. notes.new.found ≡ typing.sooner notes.old.found (typing.least (typing.faults (scope_of scope.now) notes.old.next (role_of role) (Shift true (term_of arg.now) count)))) }
-    ensures types { IfOk result (λ _. notes.new.types.items ≡ notes.old.types.items ++ typing.term_types (scope_of scope.now) (role_of role) (Shift true (term_of arg.now) count)) }
+    requires { notes.old.next + items.term_size (scope_of scope.now).index
+        (Shift true (term_of arg.now) count) < 2 ^ 32 }
+    ensures next { IfOk result (λ _. notes.new.next
+        ≡ notes.old.next + items.term_size (scope_of scope.now).index (Shift true (term_of arg.now) count)) }
+    ensures found { IfOk result (λ _. notes.new.found
+        ≡ typing.sooner notes.old.found (typing.least
+        (typing.faults (scope_of scope.now) notes.old.next (role_of role) (Shift true (term_of arg.now) count)))) }
+    ensures types { IfOk result (λ _. notes.new.types.items
+        ≡ notes.old.types.items ++ typing.term_types (scope_of scope.now) (role_of role)
+        (Shift true (term_of arg.now) count)) }
 {
     walk_expr(notes, scope, Role::Value(wanted(role)), arg)?;
     end_shift(notes, role, count)?;
@@ -219,9 +273,14 @@ fn walk_cast(
     ty: Ty,
 ) -> Result<(), AllocError>
     requires { notes.old.next + items.term_size (scope_of scope.now).index (Conversion (term_of arg.now) ty) < 2 ^ 32 }
-    ensures next { IfOk result (λ _. notes.new.next ≡ notes.old.next + items.term_size (scope_of scope.now).index (Conversion (term_of arg.now) ty)) }
-    ensures found { IfOk result (λ _. notes.new.found ≡ typing.sooner notes.old.found (typing.least (typing.faults (scope_of scope.now) notes.old.next (role_of role) (Conversion (term_of arg.now) ty)))) }
-    ensures types { IfOk result (λ _. notes.new.types.items ≡ notes.old.types.items ++ typing.term_types (scope_of scope.now) (role_of role) (Conversion (term_of arg.now) ty)) }
+    ensures next { IfOk result (λ _. notes.new.next
+        ≡ notes.old.next + items.term_size (scope_of scope.now).index (Conversion (term_of arg.now) ty)) }
+    ensures found { IfOk result (λ _. notes.new.found
+        ≡ typing.sooner notes.old.found (typing.least
+        (typing.faults (scope_of scope.now) notes.old.next (role_of role) (Conversion (term_of arg.now) ty)))) }
+    ensures types { IfOk result (λ _. notes.new.types.items
+        ≡ notes.old.types.items ++ typing.term_types (scope_of scope.now) (role_of role)
+        (Conversion (term_of arg.now) ty)) }
 {
     let own = own_type(scope, arg);
     walk_expr(notes, scope, Role::Value(own), arg)?;
@@ -242,10 +301,18 @@ fn walk_select(
     yes: &Expr,
     no: &Expr,
 ) -> Result<(), AllocError>
-    requires { notes.old.next + items.term_size (scope_of scope.now).index (Choice (term_of cond.now) (term_of yes.now) (term_of no.now)) < 2 ^ 32 }
-    ensures next { IfOk result (λ _. notes.new.next ≡ notes.old.next + items.term_size (scope_of scope.now).index (Choice (term_of cond.now) (term_of yes.now) (term_of no.now))) }
-    ensures found { IfOk result (λ _. notes.new.found ≡ typing.sooner notes.old.found (typing.least (typing.faults (scope_of scope.now) notes.old.next (role_of role) (Choice (term_of cond.now) (term_of yes.now) (term_of no.now))))) }
-    ensures types { IfOk result (λ _. notes.new.types.items ≡ notes.old.types.items ++ typing.term_types (scope_of scope.now) (role_of role) (Choice (term_of cond.now) (term_of yes.now) (term_of no.now))) }
+    requires { notes.old.next + items.term_size (scope_of scope.now).index
+        (Choice (term_of cond.now) (term_of yes.now) (term_of no.now)) < 2 ^ 32 }
+    ensures next { IfOk result (λ _. notes.new.next
+        ≡ notes.old.next + items.term_size (scope_of scope.now).index
+        (Choice (term_of cond.now) (term_of yes.now) (term_of no.now))) }
+    ensures found { IfOk result (λ _. notes.new.found
+        ≡ typing.sooner notes.old.found (typing.least
+        (typing.faults (scope_of scope.now) notes.old.next (role_of role)
+        (Choice (term_of cond.now) (term_of yes.now) (term_of no.now))))) }
+    ensures types { IfOk result (λ _. notes.new.types.items
+        ≡ notes.old.types.items ++ typing.term_types (scope_of scope.now) (role_of role)
+        (Choice (term_of cond.now) (term_of yes.now) (term_of no.now))) }
 {
     let ty = wanted(role);
     walk_expr(notes, scope, Role::Value(ty), yes)?;
@@ -264,10 +331,18 @@ fn walk_compare(
     left: &Expr,
     right: &Expr,
 ) -> Result<(), AllocError>
-    requires { notes.old.next + items.term_size (scope_of scope.now).index (Comparison compare.Eq (term_of left.now) (term_of right.now)) < 2 ^ 32 }
-    ensures next { IfOk result (λ _. notes.new.next ≡ notes.old.next + items.term_size (scope_of scope.now).index (Comparison compare.Eq (term_of left.now) (term_of right.now))) }
-    ensures found { IfOk result (λ _. notes.new.found ≡ typing.sooner notes.old.found (typing.least (typing.faults (scope_of scope.now) notes.old.next (role_of role) (Comparison compare.Eq (term_of left.now) (term_of right.now))))) }
-    ensures types { IfOk result (λ _. notes.new.types.items ≡ notes.old.types.items ++ typing.term_types (scope_of scope.now) (role_of role) (Comparison compare.Eq (term_of left.now) (term_of right.now))) }
+    requires { notes.old.next + items.term_size (scope_of scope.now).index
+        (Comparison compare.Eq (term_of left.now) (term_of right.now)) < 2 ^ 32 }
+    ensures next { IfOk result (λ _. notes.new.next
+        ≡ notes.old.next + items.term_size (scope_of scope.now).index
+        (Comparison compare.Eq (term_of left.now) (term_of right.now))) }
+    ensures found { IfOk result (λ _. notes.new.found
+        ≡ typing.sooner notes.old.found (typing.least
+        (typing.faults (scope_of scope.now) notes.old.next (role_of role)
+        (Comparison compare.Eq (term_of left.now) (term_of right.now))))) }
+    ensures types { IfOk result (λ _. notes.new.types.items
+        ≡ notes.old.types.items ++ typing.term_types (scope_of scope.now) (role_of role)
+        (Comparison compare.Eq (term_of left.now) (term_of right.now))) }
 {
     let side = first(own_type(scope, left), own_type(scope, right));
     walk_expr(notes, scope, Role::Value(side), left)?;
@@ -287,10 +362,17 @@ fn walk_and(
     left: &Expr,
     right: &Expr,
 ) -> Result<(), AllocError>
-    requires { notes.old.next + items.term_size (scope_of scope.now).index (Both (term_of left.now) (term_of right.now)) < 2 ^ 32 }
-    ensures next { IfOk result (λ _. notes.new.next ≡ notes.old.next + items.term_size (scope_of scope.now).index (Both (term_of left.now) (term_of right.now))) }
-    ensures found { IfOk result (λ _. notes.new.found ≡ typing.sooner notes.old.found (typing.least (typing.faults (scope_of scope.now) notes.old.next (role_of role) (Both (term_of left.now) (term_of right.now))))) }
-    ensures types { IfOk result (λ _. notes.new.types.items ≡ notes.old.types.items ++ typing.term_types (scope_of scope.now) (role_of role) (Both (term_of left.now) (term_of right.now))) }
+    requires { notes.old.next + items.term_size (scope_of scope.now).index
+        (Both (term_of left.now) (term_of right.now)) < 2 ^ 32 }
+    ensures next { IfOk result (λ _. notes.new.next
+        ≡ notes.old.next + items.term_size (scope_of scope.now).index (Both (term_of left.now) (term_of right.now))) }
+    ensures found { IfOk result (λ _. notes.new.found
+        ≡ typing.sooner notes.old.found (typing.least
+        (typing.faults (scope_of scope.now) notes.old.next (role_of role)
+        (Both (term_of left.now) (term_of right.now))))) }
+    ensures types { IfOk result (λ _. notes.new.types.items
+        ≡ notes.old.types.items ++ typing.term_types (scope_of scope.now) (role_of role)
+        (Both (term_of left.now) (term_of right.now))) }
 {
     walk_expr(notes, scope, Role::Condition, left)?;
     walk_expr(notes, scope, Role::Condition, right)?;
@@ -307,10 +389,17 @@ fn walk_or(
     left: &Expr,
     right: &Expr,
 ) -> Result<(), AllocError>
-    requires { notes.old.next + items.term_size (scope_of scope.now).index (Either (term_of left.now) (term_of right.now)) < 2 ^ 32 }
-    ensures next { IfOk result (λ _. notes.new.next ≡ notes.old.next + items.term_size (scope_of scope.now).index (Either (term_of left.now) (term_of right.now))) }
-    ensures found { IfOk result (λ _. notes.new.found ≡ typing.sooner notes.old.found (typing.least (typing.faults (scope_of scope.now) notes.old.next (role_of role) (Either (term_of left.now) (term_of right.now))))) }
-    ensures types { IfOk result (λ _. notes.new.types.items ≡ notes.old.types.items ++ typing.term_types (scope_of scope.now) (role_of role) (Either (term_of left.now) (term_of right.now))) }
+    requires { notes.old.next + items.term_size (scope_of scope.now).index
+        (Either (term_of left.now) (term_of right.now)) < 2 ^ 32 }
+    ensures next { IfOk result (λ _. notes.new.next
+        ≡ notes.old.next + items.term_size (scope_of scope.now).index (Either (term_of left.now) (term_of right.now))) }
+    ensures found { IfOk result (λ _. notes.new.found
+        ≡ typing.sooner notes.old.found (typing.least
+        (typing.faults (scope_of scope.now) notes.old.next (role_of role)
+        (Either (term_of left.now) (term_of right.now))))) }
+    ensures types { IfOk result (λ _. notes.new.types.items
+        ≡ notes.old.types.items ++ typing.term_types (scope_of scope.now) (role_of role)
+        (Either (term_of left.now) (term_of right.now))) }
 {
     walk_expr(notes, scope, Role::Condition, left)?;
     end(notes, None, None)?;
@@ -323,9 +412,13 @@ fn walk_or(
 #[tactic(auto, using(crate::proofs::Least::sooner_rules))]
 fn walk_not(notes: &mut Notes, scope: &Scope, role: Role, arg: &Expr) -> Result<(), AllocError>
     requires { notes.old.next + items.term_size (scope_of scope.now).index (Not (term_of arg.now)) < 2 ^ 32 }
-    ensures next { IfOk result (λ _. notes.new.next ≡ notes.old.next + items.term_size (scope_of scope.now).index (Not (term_of arg.now))) }
-    ensures found { IfOk result (λ _. notes.new.found ≡ typing.sooner notes.old.found (typing.least (typing.faults (scope_of scope.now) notes.old.next (role_of role) (Not (term_of arg.now))))) }
-    ensures types { IfOk result (λ _. notes.new.types.items ≡ notes.old.types.items ++ typing.term_types (scope_of scope.now) (role_of role) (Not (term_of arg.now))) }
+    ensures next { IfOk result (λ _. notes.new.next
+        ≡ notes.old.next + items.term_size (scope_of scope.now).index (Not (term_of arg.now))) }
+    ensures found { IfOk result (λ _. notes.new.found
+        ≡ typing.sooner notes.old.found (typing.least
+        (typing.faults (scope_of scope.now) notes.old.next (role_of role) (Not (term_of arg.now))))) }
+    ensures types { IfOk result (λ _. notes.new.types.items
+        ≡ notes.old.types.items ++ typing.term_types (scope_of scope.now) (role_of role) (Not (term_of arg.now))) }
 {
     walk_expr(notes, scope, Role::Condition, arg)?;
     end(notes, as_condition(notes.next, role), None)?;

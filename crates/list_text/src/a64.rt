@@ -102,7 +102,8 @@ fn add_sub_immediate(into: &mut LineBuf, op: AddSubOp, rd: Reg, rn: Reg, imm12: 
 
 fn immediate_to_sp(into: &mut LineBuf, mnemonic: &str, rd: Reg, rn: Reg, imm12: Bits<12>, sh: bool)
     requires { length mnemonic.now ≤ 8 }
-    ensures { into.new.bytes ≡ text.add_sub_immediate mnemonic.now x_or_sp (rd.number ∷ rn.number ∷ imm12.number ∷ flag_number sh ∷ []) }
+    ensures { into.new.bytes ≡ text.add_sub_immediate mnemonic.now x_or_sp
+        (rd.number ∷ rn.number ∷ imm12.number ∷ flag_number sh ∷ []) }
 {
     begin_x_or_sp(into, mnemonic, rd);
     comma_x_or_sp(into, rn);
@@ -112,7 +113,8 @@ fn immediate_to_sp(into: &mut LineBuf, mnemonic: &str, rd: Reg, rn: Reg, imm12: 
 
 fn immediate_to_x(into: &mut LineBuf, mnemonic: &str, rd: Reg, rn: Reg, imm12: Bits<12>, sh: bool)
     requires { length mnemonic.now ≤ 8 }
-    ensures { into.new.bytes ≡ text.add_sub_immediate mnemonic.now x_register (rd.number ∷ rn.number ∷ imm12.number ∷ flag_number sh ∷ []) }
+    ensures { into.new.bytes ≡ text.add_sub_immediate mnemonic.now x_register
+        (rd.number ∷ rn.number ∷ imm12.number ∷ flag_number sh ∷ []) }
 {
     begin_x(into, mnemonic, rd);
     comma_x_or_sp(into, rn);
@@ -169,7 +171,8 @@ fn shifted_register(
     shift: u32,
 )
     requires { length mnemonic.now ≤ 8 }
-    ensures { into.new.bytes ≡ text.shifted_register mnemonic.now (rd.number ∷ rn.number ∷ imm6.number ∷ rm.number ∷ shift ∷ []) }
+    ensures { into.new.bytes ≡ text.shifted_register mnemonic.now
+        (rd.number ∷ rn.number ∷ imm6.number ∷ rm.number ∷ shift ∷ []) }
 {
     begin_x(into, mnemonic, rd);
     comma_x(into, rn);
@@ -276,7 +279,8 @@ fn conditional_select(into: &mut LineBuf, op: SelectOp, rd: Reg, rn: Reg, cond: 
 
 fn registers_and_cond(into: &mut LineBuf, mnemonic: &str, rd: Reg, rn: Reg, cond: Cond, rm: Reg)
     requires { length mnemonic.now ≤ 8 }
-    ensures { into.new.bytes ≡ text.conditional_select mnemonic.now (rd.number ∷ rn.number ∷ cond_number cond ∷ rm.number ∷ []) }
+    ensures { into.new.bytes ≡ text.conditional_select mnemonic.now
+        (rd.number ∷ rn.number ∷ cond_number cond ∷ rm.number ∷ []) }
 {
     begin_x(into, mnemonic, rd);
     comma_x(into, rn);
@@ -413,7 +417,8 @@ fn load_store_register(into: &mut LineBuf, op: LoadStoreOp, rt: Reg, rn: Reg, sc
 fn w_at_offset(into: &mut LineBuf, mnemonic: &str, rt: Reg, rn: Reg, imm12: Bits<12>, size: u32)
     requires short { length mnemonic.now ≤ 8 }
     requires sized { size ≤ 8 }
-    ensures { into.new.bytes ≡ text.load_store_immediate mnemonic.now w_register size (rt.number ∷ rn.number ∷ imm12.number ∷ []) }
+    ensures { into.new.bytes ≡ text.load_store_immediate mnemonic.now w_register size
+        (rt.number ∷ rn.number ∷ imm12.number ∷ []) }
 {
     begin_w(into, mnemonic, rt);
     push_offset_address(into, rn, size * imm12.number);
@@ -421,7 +426,8 @@ fn w_at_offset(into: &mut LineBuf, mnemonic: &str, rt: Reg, rn: Reg, imm12: Bits
 
 fn w_byte_at_register(into: &mut LineBuf, mnemonic: &str, rt: Reg, rn: Reg, rm: Reg)
     requires { length mnemonic.now ≤ 8 }
-    ensures { into.new.bytes ≡ text.load_store_byte_register mnemonic.now w_register (rt.number ∷ rn.number ∷ rm.number ∷ []) }
+    ensures { into.new.bytes ≡ text.load_store_byte_register mnemonic.now w_register
+        (rt.number ∷ rn.number ∷ rm.number ∷ []) }
 {
     begin_w(into, mnemonic, rt);
     push_register_address(into, rn, rm, 0);
@@ -438,7 +444,8 @@ fn w_at_register(
 )
     requires short { length mnemonic.now ≤ 8 }
     requires sized { log ≤ 3 }
-    ensures { into.new.bytes ≡ text.load_store_register mnemonic.now w_register log (rt.number ∷ rn.number ∷ flag_number scaled ∷ rm.number ∷ []) }
+    ensures { into.new.bytes ≡ text.load_store_register mnemonic.now w_register log
+        (rt.number ∷ rn.number ∷ flag_number scaled ∷ rm.number ∷ []) }
 {
     begin_w(into, mnemonic, rt);
     push_register_address(into, rn, rm, log * u32::from(scaled));
@@ -447,7 +454,8 @@ fn w_at_register(
 fn x_at_offset(into: &mut LineBuf, mnemonic: &str, rt: Reg, rn: Reg, imm12: Bits<12>, size: u32)
     requires short { length mnemonic.now ≤ 8 }
     requires sized { size ≤ 8 }
-    ensures { into.new.bytes ≡ text.load_store_immediate mnemonic.now x_register size (rt.number ∷ rn.number ∷ imm12.number ∷ []) }
+    ensures { into.new.bytes ≡ text.load_store_immediate mnemonic.now x_register size
+        (rt.number ∷ rn.number ∷ imm12.number ∷ []) }
 {
     begin_x(into, mnemonic, rt);
     push_offset_address(into, rn, size * imm12.number);
@@ -455,7 +463,8 @@ fn x_at_offset(into: &mut LineBuf, mnemonic: &str, rt: Reg, rn: Reg, imm12: Bits
 
 fn x_byte_at_register(into: &mut LineBuf, mnemonic: &str, rt: Reg, rn: Reg, rm: Reg)
     requires { length mnemonic.now ≤ 8 }
-    ensures { into.new.bytes ≡ text.load_store_byte_register mnemonic.now x_register (rt.number ∷ rn.number ∷ rm.number ∷ []) }
+    ensures { into.new.bytes ≡ text.load_store_byte_register mnemonic.now x_register
+        (rt.number ∷ rn.number ∷ rm.number ∷ []) }
 {
     begin_x(into, mnemonic, rt);
     push_register_address(into, rn, rm, 0);
@@ -472,7 +481,8 @@ fn x_at_register(
 )
     requires short { length mnemonic.now ≤ 8 }
     requires sized { log ≤ 3 }
-    ensures { into.new.bytes ≡ text.load_store_register mnemonic.now x_register log (rt.number ∷ rn.number ∷ flag_number scaled ∷ rm.number ∷ []) }
+    ensures { into.new.bytes ≡ text.load_store_register mnemonic.now x_register log
+        (rt.number ∷ rn.number ∷ flag_number scaled ∷ rm.number ∷ []) }
 {
     begin_x(into, mnemonic, rt);
     push_register_address(into, rn, rm, log * u32::from(scaled));

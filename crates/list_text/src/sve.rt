@@ -190,7 +190,8 @@ fn four_predicates(
     pm: PredicateReg,
 )
     requires { length mnemonic.now ≤ 8 }
-    ensures { into.new.bytes ≡ text.predicate_logical mnemonic.now (pd.number ∷ pn.number ∷ pg.number ∷ pm.number ∷ []) }
+    ensures { into.new.bytes ≡ text.predicate_logical mnemonic.now
+        (pd.number ∷ pn.number ∷ pg.number ∷ pm.number ∷ []) }
 {
     begin_p(into, mnemonic, pd.number);
     into.push_str(".b, ");
@@ -310,7 +311,8 @@ fn index(into: &mut LineBuf, zd: VectorReg, rn: Reg, imm5: Bits<5>, size: Size)
 /// Appends the register that holds a scalar of this size.
 fn push_scalar(into: &mut LineBuf, register: Reg, size: Size)
     requires { array_string_len into.old ≤ 50 }
-    ensures bytes { into.new.bytes ≡ into.old.bytes ++ (if size_number size == 3 then x_register register.number else w_register register.number) }
+    ensures bytes { into.new.bytes ≡ into.old.bytes
+        ++ (if size_number size == 3 then x_register register.number else w_register register.number) }
     ensures len { array_string_len into.new ≤ array_string_len into.old + 3 }
 {
     match size {
@@ -322,7 +324,8 @@ fn push_scalar(into: &mut LineBuf, register: Reg, size: Size)
 /// The same, where 31 is SP.
 fn push_scalar_or_sp(into: &mut LineBuf, register: Reg, size: Size)
     requires { array_string_len into.old ≤ 50 }
-    ensures { into.new.bytes ≡ into.old.bytes ++ (if size_number size == 3 then x_or_sp register.number else w_or_sp register.number) }
+    ensures { into.new.bytes ≡ into.old.bytes
+        ++ (if size_number size == 3 then x_or_sp register.number else w_or_sp register.number) }
 {
     match size {
         Size::D => push_x_or_sp(into, register),
@@ -477,7 +480,8 @@ fn merging_binary(
     size: Size,
 )
     requires { length mnemonic.now ≤ 8 }
-    ensures { into.new.bytes ≡ text.binary_predicated mnemonic.now (zdn.number ∷ zm.number ∷ pg.number ∷ size_number size ∷ []) }
+    ensures { into.new.bytes ≡ text.binary_predicated mnemonic.now
+        (zdn.number ∷ zm.number ∷ pg.number ∷ size_number size ∷ []) }
 {
     begin_z(into, mnemonic, zdn, size);
     comma_p(into, pg.number);
@@ -547,7 +551,8 @@ fn merging_unary(
     size: Size,
 )
     requires { length mnemonic.now ≤ 8 }
-    ensures { into.new.bytes ≡ text.unary_predicated mnemonic.now (zd.number ∷ zn.number ∷ pg.number ∷ size_number size ∷ []) }
+    ensures { into.new.bytes ≡ text.unary_predicated mnemonic.now
+        (zd.number ∷ zn.number ∷ pg.number ∷ size_number size ∷ []) }
 {
     begin_z(into, mnemonic, zd, size);
     comma_p(into, pg.number);
@@ -599,7 +604,8 @@ fn reduction_to(
 )
     requires short { length mnemonic.now ≤ 8 }
     requires one { length letter.now ≤ 1 }
-    ensures { into.new.bytes ≡ text.reduction mnemonic.now letter.now (zd.number ∷ zn.number ∷ pg.number ∷ size_number size ∷ []) }
+    ensures { into.new.bytes ≡ text.reduction mnemonic.now letter.now
+        (zd.number ∷ zn.number ∷ pg.number ∷ size_number size ∷ []) }
 {
     begin(into, mnemonic);
     into.push_str(letter);
@@ -640,7 +646,8 @@ fn compare_to(
     size: Size,
 )
     requires { length mnemonic.now ≤ 8 }
-    ensures { into.new.bytes ≡ text.compare_vectors mnemonic.now (pd.number ∷ zn.number ∷ pg.number ∷ zm.number ∷ size_number size ∷ []) }
+    ensures { into.new.bytes ≡ text.compare_vectors mnemonic.now
+        (pd.number ∷ zn.number ∷ pg.number ∷ zm.number ∷ size_number size ∷ []) }
 {
     begin_p(into, mnemonic, pd.number);
     into.push_str(dotted_of(size));
@@ -688,7 +695,8 @@ fn load(
     dtype: Dtype,
 )
     requires { length mnemonic.now ≤ 8 }
-    ensures { into.new.bytes ≡ text.load mnemonic.now (zt.number ∷ rn.number ∷ pg.number ∷ rm.number ∷ dtype_number dtype ∷ []) }
+    ensures { into.new.bytes ≡ text.load mnemonic.now
+        (zt.number ∷ rn.number ∷ pg.number ∷ rm.number ∷ dtype_number dtype ∷ []) }
 {
     begin(into, mnemonic);
     push_access(into, dtype);

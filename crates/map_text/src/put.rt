@@ -47,9 +47,11 @@ fn put_bytes(pages: &mut [PageSpec], address: u64, bytes: &[u8]) -> bool
 // Sets the bytes of a line.
 pub fn set_bytes(pages: &mut Vec<PageSpec>, line: u64, patch: &Patch) -> Result<(), MapFault>
     requires { IsMemory pages.old.items }
-    ensures set { OnOk result (put_or_fault line (put_bytes pages.old.items patch.now.address patch.now.bytes.items) ≡ Ok pages.new.items) }
+    ensures set { OnOk result (put_or_fault line (put_bytes pages.old.items patch.now.address patch.now.bytes.items)
+        ≡ Ok pages.new.items) }
     ensures beside { (image : Memory) → IsBeside image pages.old.items → IsBeside image pages.new.items }
-    ensures refused { IfErr result (λ fault. put_or_fault line (put_bytes pages.old.items patch.now.address patch.now.bytes.items) ≡ Err fault) }
+    ensures refused { IfErr result (λ fault. put_or_fault line
+        (put_bytes pages.old.items patch.now.address patch.now.bytes.items) ≡ Err fault) }
 {
     if put_bytes(pages, patch.address, &patch.bytes) {
         Ok(())

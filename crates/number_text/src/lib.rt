@@ -52,7 +52,8 @@ fn digit(b: u8) -> u8
 // The number that digits spell in a base.
 fn value(base: u64, digits: &[u8]) -> Option<u64>
     requires { 1 ≤ base }
-    ensures { MatchOption result (2 ^ 64 ≤ value_of base digits.now) (λ n. (n ≡ value_of base digits.now) × (n < 2 ^ 64)) }
+    ensures { MatchOption result (2 ^ 64 ≤ value_of base digits.now)
+        (λ n. (n ≡ value_of base digits.now) × (n < 2 ^ 64)) }
 {
     let mut n: u64 = 0;
     for d in digits {

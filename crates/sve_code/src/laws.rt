@@ -9,8 +9,10 @@ ghost use Rattle.sve_code.specs.Seen.{seen};
 /// it reads as that instruction, and a word is spelled by what it reads as.
 pub fn table_laws()
     ensures listed { (x : Sve) → IsInstruction row sve_names (seen x) }
-    ensures reads_back { (i : Instruction Name) → IsInstruction row sve_names i → reads row sve_names (spells row i) ≡ Some i }
-    ensures spells_back { (word : ℕ) (i : Instruction Name) → word < 2 ^ 32 → reads row sve_names word ≡ Some i → spells row i ≡ word }
+    ensures reads_back { (i : Instruction Name) → IsInstruction row sve_names i
+        → reads row sve_names (spells row i) ≡ Some i }
+    ensures spells_back { (word : ℕ) (i : Instruction Name) → word < 2 ^ 32 → reads row sve_names word ≡ Some i
+        → spells row i ≡ word }
 {}
 
 /// No word is in two rows.

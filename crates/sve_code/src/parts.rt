@@ -255,7 +255,8 @@ impl ShiftAmount {
     /// The size and the amount in a word, where they are not reserved.
     pub fn at(word: u32) -> Option<Self>
         ensures { MatchOption result (32 * bits word 22 2 + 8 * bits word 19 2 + bits word 16 3 < 8)
-            (λ x. (x.value % 8 ≡ bits word 16 3) × (x.value / 8 % 4 ≡ bits word 19 2) × (x.value / 32 ≡ bits word 22 2)) }
+            (λ x. (x.value % 8 ≡ bits word 16 3) × (x.value / 8 % 4 ≡ bits word 19 2)
+            × (x.value / 32 ≡ bits word 22 2)) }
     {
         let value = 32 * field(word, 22, 2) + 8 * field(word, 19, 2) + field(word, 16, 3);
         if value < 8 {
