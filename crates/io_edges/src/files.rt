@@ -11,7 +11,7 @@ pub const MAX_FILE: usize = 67_108_864;
 
 /// Why a file was not read or written.
 #[derive(Clone, Copy, Debug, PartialEq, Eq, Error)]
-pub enum FileAnswer {
+pub enum FileError {
     /// The files failed, or no file has the name that was to be read.
     #[error("file failed")]
     Failed,
@@ -39,7 +39,7 @@ pub trait Files {
 
     /// Appends the bytes of the file to `into`. The memory for them comes from the allocator of
     /// `into`, and what an implementation needs besides comes from `alloc`.
-    fn read(&mut self, alloc: Global, name: &str, into: &mut Vec<u8>) -> Result<(), FileAnswer>
+    fn read(&mut self, alloc: Global, name: &str, into: &mut Vec<u8>) -> Result<(), FileError>
         ensures bytes { Reads (held self.old) name.now into.old.items into.new.items result }
         ensures err { OnErr result (into.new.items ≡ into.old.items) }
         ensures same { held self.new ≡ held self.old }
@@ -48,9 +48,9 @@ pub trait Files {
 
     /// Makes the file hold exactly these bytes. A refusal may leave any bytes under that name, or
     /// none.
-    fn write(&mut self, alloc: Global, name: &str, bytes: &[u8]) -> Result<(), FileAnswer>
+    fn write(&mut self, alloc: Global, name: &str, bytes: &[u8]) -> Result<(), FileError>
         ensures bytes { Writes (held self.old) (held self.new) name.now bytes.now result }
-        ensures not_long { result ≢ Err FileAnswer.TooLong }
+        ensures not_long { result ≢ Err FileError.TooLong }
         ensures cause { HasCause (faults self.old) (faults self.new) result }
         ensures steady { WritesSteadily (steady self.old) (steady self.new) result };
 

@@ -7,7 +7,7 @@ ghost use Rattle.io_edges.specs.Calls.{no_calls, fails_next, fails_no_more, afte
 ghost use Rattle.io_edges.specs.NamedFile.{entries, has_name};
 
 use crate::calls::Calls;
-use crate::files::{FileAnswer, Files, MAX_FILE};
+use crate::files::{FileError, Files, MAX_FILE};
 use std::alloc::{AllocError, Global};
 use std::marker::Model;
 
@@ -66,18 +66,18 @@ fn bytes_of<'a>(files: &'a [NamedFile], name: &str) -> Option<&'a [u8]>
 }
 
 // Reads a file with these bytes.
-fn read_bytes(bytes: &[u8], into: &mut Vec<u8>) -> Result<(), FileAnswer>
+fn read_bytes(bytes: &[u8], into: &mut Vec<u8>) -> Result<(), FileError>
     ensures bytes { ReadsFrom (Some bytes.now) into.old.items into.new.items result }
     ensures err { OnErr result (into.new.items ≡ into.old.items) }
-    ensures not_failed { result ≢ Err FileAnswer.Failed }
-    ensures long { MAX_FILE < length bytes.now → result ≡ Err FileAnswer.TooLong }
+    ensures not_failed { result ≢ Err FileError.Failed }
+    ensures long { MAX_FILE < length bytes.now → result ≡ Err FileError.TooLong }
 {
     if bytes.len() > MAX_FILE {
-        return Err(FileAnswer::TooLong);
+        return Err(FileError::TooLong);
     }
     match into.extend_from_slice(bytes) {
         Ok(()) => Ok(()),
-        Err(_) => Err(FileAnswer::Memory),
+        Err(_) => Err(FileError::Memory),
     }
 }
 
@@ -134,7 +134,7 @@ impl Files for MemoryFiles {
 
     ghost told = { λ f steady. refl };
 
-    fn read(&mut self, _alloc: Global, name: &str, into: &mut Vec<u8>) -> Result<(), FileAnswer>
+    fn read(&mut self, _alloc: Global, name: &str, into: &mut Vec<u8>) -> Result<(), FileError>
         ensures bytes { Reads (Some self.old.held) name.now into.old.items into.new.items result }
         ensures err { OnErr result (into.new.items ≡ into.old.items) }
         ensures same { self.new.held ≡ self.old.held }
@@ -144,45 +144,45 @@ impl Files for MemoryFiles {
 
         // It fails where that was asked for or the name is not held, and refuses each file that is
         // too long otherwise.
-        ensures fails { result ≡ Err FileAnswer.Failed ↔ IsTrue
+        ensures fails { result ≡ Err FileError.Failed ↔ IsTrue
             (fails_next self.old.calls || is_none (content self.old.held name.now)) }
         ensures long { IsFalse (fails_next self.old.calls)
             → IfSome (content self.old.held name.now)
-            (λ bytes. MAX_FILE < length bytes → result ≡ Err FileAnswer.TooLong) }
+            (λ bytes. MAX_FILE < length bytes → result ≡ Err FileError.TooLong) }
         ensures calls { self.new.calls ≡ after_call
             (fails_next self.old.calls || is_none (content self.old.held name.now)) self.old.calls }
     {
         match bytes_of(&self.files, name) {
             None => {
                 self.calls.count(true);
-                Err(FileAnswer::Failed)
+                Err(FileError::Failed)
             }
             Some(bytes) => {
                 if self.calls.count(false) {
-                    return Err(FileAnswer::Failed);
+                    return Err(FileError::Failed);
                 }
                 read_bytes(bytes, into)
             }
         }
     }
 
-    fn write(&mut self, alloc: Global, name: &str, bytes: &[u8]) -> Result<(), FileAnswer>
+    fn write(&mut self, alloc: Global, name: &str, bytes: &[u8]) -> Result<(), FileError>
         ensures bytes { Writes (Some self.old.held) (Some self.new.held) name.now bytes.now result }
-        ensures not_long { result ≢ Err FileAnswer.TooLong }
+        ensures not_long { result ≢ Err FileError.TooLong }
         ensures cause { HasCause self.old.calls.faults self.new.calls.faults result }
         ensures steady { WritesSteadily (fails_no_more self.old.calls) (fails_no_more self.new.calls) result }
 
         // It fails where that was asked for, and leaves the files as they were where it refuses.
-        ensures fails { result ≡ Err FileAnswer.Failed ↔ IsTrue (fails_next self.old.calls) }
+        ensures fails { result ≡ Err FileError.Failed ↔ IsTrue (fails_next self.old.calls) }
         ensures err { OnErr result (self.new.held ≡ self.old.held) }
         ensures calls { self.new.calls ≡ after_call (fails_next self.old.calls) self.old.calls }
     {
         if self.calls.count(false) {
-            return Err(FileAnswer::Failed);
+            return Err(FileError::Failed);
         }
         match set_bytes(alloc, &mut self.files, name, bytes) {
             Ok(()) => Ok(()),
-            Err(_) => Err(FileAnswer::Memory),
+            Err(_) => Err(FileError::Memory),
         }
     }
 }

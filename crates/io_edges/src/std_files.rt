@@ -4,7 +4,7 @@ ghost use Rattle.std.specs.Prelude.{◌≡◌, ◌≢◌, None, false};
 ghost use Rattle.std.specs.Io.{StartsWith};
 ghost use Rattle.std.proofs.lemmas.Bool.{false≢true};
 
-use crate::files::{FileAnswer, Files, MAX_FILE};
+use crate::files::{FileError, Files, MAX_FILE};
 use std::alloc::Global;
 use std::io::{ErrorKind, Read};
 use std::marker::Model;
@@ -36,12 +36,12 @@ impl<R: rt::Files + Drop> StdFiles<R> {
 }
 
 // What stands for an error of the system.
-fn answer_of(error: &io::Error) -> FileAnswer
-    ensures { result ≢ FileAnswer.TooLong }
+fn answer_of(error: &io::Error) -> FileError
+    ensures { result ≢ FileError.TooLong }
 {
     match error.kind() {
-        ErrorKind::OutOfMemory => FileAnswer::Memory,
-        _ => FileAnswer::Failed,
+        ErrorKind::OutOfMemory => FileError::Memory,
+        _ => FileError::Failed,
     }
 }
 
@@ -62,12 +62,12 @@ impl<R: rt::Files + Drop> Files for StdFiles<R> {
 
     ghost told = { λ f steady. absurd (false≢true steady) };
 
-    fn read(&mut self, _alloc: Global, name: &str, into: &mut Vec<u8>) -> Result<(), FileAnswer> {
+    fn read(&mut self, _alloc: Global, name: &str, into: &mut Vec<u8>) -> Result<(), FileError> {
         let before = into.len();
         let outcome = append_file(&self.rt, name, into);
         let answer = match &outcome {
             Ok(read) if *read <= MAX_FILE => return Ok(()),
-            Ok(_) => FileAnswer::TooLong,
+            Ok(_) => FileError::TooLong,
             Err(error) => {
                 self.faults = self.faults.saturating_add(1);
                 answer_of(error)
@@ -77,7 +77,7 @@ impl<R: rt::Files + Drop> Files for StdFiles<R> {
         Err(answer)
     }
 
-    fn write(&mut self, _alloc: Global, name: &str, bytes: &[u8]) -> Result<(), FileAnswer> {
+    fn write(&mut self, _alloc: Global, name: &str, bytes: &[u8]) -> Result<(), FileError> {
         match fs::write(&self.rt, name, bytes) {
             Ok(()) => Ok(()),
             Err(error) => {

@@ -1,6 +1,6 @@
 // The forms in memory by the rules for them, and the adapters over what the system gives.
 
-use crate::files::{FileAnswer, Files, MAX_FILE};
+use crate::files::{FileError, Files, MAX_FILE};
 use crate::memory_files::{MemoryFiles, NamedFile, have_different_names};
 use crate::memory_sink::MemorySink;
 use crate::memory_source::MemorySource;
@@ -50,12 +50,12 @@ fn files_are_held_by_name(rt: HostRuntime) -> Result<(), Fail> {
     let mut text = Vec::new(rt.alloc());
     assert_eq!(rt;
         files.read(rt.alloc(), "out", &mut text),
-        Err(FileAnswer::Failed)
+        Err(FileError::Failed)
     );
     assert_eq!(rt; files.read(rt.alloc(), "in", &mut text), Ok(()));
     assert_eq!(rt;
         files.write(rt.alloc(), "out", b"two"),
-        Err(FileAnswer::Failed),
+        Err(FileError::Failed),
         "call 2"
     );
     assert_eq!(rt; files.write(rt.alloc(), "out", b"two"), Ok(()));
@@ -76,7 +76,7 @@ fn system_files_are_read_and_written(rt: HostRuntime) -> Result<(), Fail> {
     let mut text = b"<".to_vec(rt.alloc())?;
     assert_eq!(rt;
         files.read(rt.alloc(), name.as_str(), &mut text),
-        Err(FileAnswer::Failed)
+        Err(FileError::Failed)
     );
     assert_eq!(rt; files.write(rt.alloc(), name.as_str(), b"text"), Ok(()));
     assert_eq!(rt; files.read(rt.alloc(), name.as_str(), &mut text), Ok(()));
@@ -87,7 +87,7 @@ fn system_files_are_read_and_written(rt: HostRuntime) -> Result<(), Fail> {
         .set_len(MAX_FILE as u64 + 1)?;
     assert_eq!(rt;
         files.read(rt.alloc(), name.as_str(), &mut text),
-        Err(FileAnswer::TooLong)
+        Err(FileError::TooLong)
     );
     assert_eq!(rt; text.as_slice(), b"<text".as_slice());
     fs::remove_file(&rt, name.as_str())?;

@@ -7,7 +7,7 @@ abbrev pub given : {A B : Type 0} → Option A → (A → B) → B → B
 given None f other = other
 given (Some x) f other = f x
 
--- what stands behind these bytes at the front of a word
+-- what stands after these bytes at the front of a word
 unfoldable pub after : List ℕ → List ℕ → Option (List ℕ)
 after [] word = Some word
 after (b ∷ front) [] = None

@@ -4,9 +4,9 @@
 ghost use Rattle.std.specs.Prelude.{◌≡◌, ◌<◌, ◌≤◌, ◌^◌, MatchOption, option_map, List, ℕ};
 ghost use Rattle.std.specs.List.{list_all};
 ghost use Rattle.number_text.specs.Numbers.{after, is_digit, is_hex_digit, digit_value, value_of, small_value, are_digits, decimal_of, hexadecimal_of, number_of};
-ghost use Rattle.number_text.specs.Seen.{bytes_left};
+ghost use Rattle.number_text.specs.View.{bytes_left};
 
-/// What stands behind these bytes at the front of a word, where it begins with them.
+/// What stands after these bytes at the front of a word, where it begins with them.
 #[tactic(auto, unfolding(crate::specs::Numbers::after))]
 pub fn after<'a>(front: &[u8], word: &'a [u8]) -> Option<&'a [u8]>
     ensures { option_map bytes_left result ≡ after front.now word.now }
