@@ -2,7 +2,7 @@
 ghost use Rattle.std.specs.Prelude.{◌≡◌};
 ghost use Rattle.word_rows.specs.Row.{spells};
 ghost use Rattle.a64_code.specs.Table.{row};
-ghost use Rattle.a64_code.specs.Seen.{seen};
+ghost use Rattle.a64_code.specs.View.{seen};
 
 use crate::{
     A64, AddSubOp, BitfieldOp, CompareBranchOp, ExceptionOp, LoadStoreByteOp, LoadStoreOp,

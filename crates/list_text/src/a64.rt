@@ -1,7 +1,7 @@
 //! The text of A64 instructions.
 ghost use Rattle.std.specs.Prelude.{◌≡◌, ◌≤◌, [], ◌∷◌, ◌++◌, length};
 ghost use Rattle.a64_code.specs.declared.A64.{A64};
-ghost use Rattle.a64_code.specs.Seen.{seen, cond_number};
+ghost use Rattle.a64_code.specs.View.{seen, cond_number};
 ghost use Rattle.word_rows.specs.Field.{flag_number};
 ghost use Rattle.list_text.specs.Parts.{x_register, w_register, x_or_sp};
 ghost use Rattle.list_text.specs.A64Text as text;

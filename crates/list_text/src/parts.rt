@@ -1,7 +1,7 @@
 //! The parts of an instruction's text, each appended to a buffer.
 ghost use Rattle.std.specs.Prelude.{◌≡◌, ◌≤◌, ◌<◌, ◌+◌, ◌++◌, length, decimal};
 ghost use Rattle.arrayvec.specs.ArrayString.{array_string_len};
-ghost use Rattle.a64_code.specs.Seen.{cond_number};
+ghost use Rattle.a64_code.specs.View.{cond_number};
 ghost use Rattle.sve_code.specs.Numbers.{size_number};
 ghost use Rattle.list_text.specs.Parts.{x_register, w_register, x_or_sp, w_or_sp, comma, constant, signed_constant, lsl_by, shift_name, shifted_by, at_offset, at_register, cond_name, size_letter, dotted, z_register, p_register, access_letter};
 

@@ -2,7 +2,7 @@
 ghost use Rattle.std.specs.Prelude.{◌≡◌, ◌≤◌, ◌==◌, if◌then◌else◌, ◌+◌, [], ◌∷◌, ◌++◌, length, codes};
 ghost use Rattle.arrayvec.specs.ArrayString.{array_string_len};
 ghost use Rattle.sve_code.specs.declared.Sve.{Sve};
-ghost use Rattle.sve_code.specs.Seen.{seen};
+ghost use Rattle.sve_code.specs.View.{seen};
 ghost use Rattle.sve_code.specs.Numbers.{size_number, dtype_number, left_amount, right_amount};
 ghost use Rattle.list_text.specs.Parts.{x_register, w_register, x_or_sp, w_or_sp};
 ghost use Rattle.list_text.specs.SveText as text;

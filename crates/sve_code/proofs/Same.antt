@@ -6,7 +6,7 @@ use Rattle.std.proofs.lemmas.Bool.{both_ways, eq-eqb}
 use Rattle.word_rows.proofs.Same.{same_bits}
 use Rattle.sve_code.specs.Table.{Name, ptrue, pfalse, whilelo, ptest, p_and, p_bic, p_eor, p_orr, p_ands, brka, brkb, rdffr, rdffr_z, setffr, wrffr, cntb, cnth, cntw, cntd, incp, cntp, dup, index_row, sel, z_add, z_sub, z_and, z_orr, z_eor, z_bic, lsl_imm, lsr_imm, asr_imm, m_add, m_sub, m_smax, m_umax, m_smin, m_umin, m_mul, m_orr, m_eor, m_and, m_abs, m_neg, m_not, sxtb, uxtb, sxth, uxth, sxtw, uxtw, uaddv, smaxv, umaxv, sminv, uminv, orv, eorv, andv, cmphs, cmphi, cmpge, cmpgt, cmpeq, cmpne, ld1, ldff1, ldnf1, st1}
 use Rattle.sve_code.specs.Numbers.{size_number, size_from_h_number, size_from_s_number, dtype_number}
-use Rattle.sve_code.specs.Seen.{seen, pred_logic_name, break_form_name, count_name, add_sub_name, logic_name, shift_imm_name, merging_name, unary_name, extend_byte_name, extend_half_name, extend_word_name, reduce_name, compare_name}
+use Rattle.sve_code.specs.View.{seen, pred_logic_name, break_form_name, count_name, add_sub_name, logic_name, shift_imm_name, merging_name, unary_name, extend_byte_name, extend_half_name, extend_word_name, reduce_name, compare_name}
 use Rattle.sve_code.specs.declared.Sve.{Sve}
 use Rattle.sve_code.specs.declared.Sve.TheVariants as sve
 use Rattle.sve_code.specs.declared.parts.OffsetReg.{OffsetReg}
@@ -488,38 +488,38 @@ compare_form vector_compare_ops.Gt = refl
 compare_form vector_compare_ops.Eq = refl
 compare_form vector_compare_ops.Ne = refl
 
-form_seen : (x : Sve) → form_of (seen x).name ≡ form x
+form_view : (x : Sve) → form_of (seen x).name ≡ form x
 unfolding form_of form
-form_seen (sve.Ptrue pd size) = refl
-form_seen (sve.Pfalse pd) = refl
-form_seen (sve.Whilelo pd rn rm size) = refl
-form_seen (sve.Ptest pn pg) = refl
-form_seen (sve.PredicateLogical op pd pn pg pm) = pred_logic_form op
-form_seen (sve.Break op pd pn pg) = break_form_form op
-form_seen (sve.Rdffr pd) = refl
-form_seen (sve.RdffrPredicated pd pg) = refl
-form_seen sve.Setffr = refl
-form_seen (sve.Wrffr pn) = refl
-form_seen (sve.ElementCount op rd) = count_form op
-form_seen (sve.Incp rd pm size) = refl
-form_seen (sve.Cntp rd pn pg size) = refl
-form_seen (sve.DupScalar zd rn size) = refl
-form_seen (sve.IndexScalarImmediate zd rn imm5 size) = refl
-form_seen (sve.Sel zd zn pg zm size) = refl
-form_seen (sve.AddSub op zd zn zm size) = add_sub_form op
-form_seen (sve.Bitwise op zd zn zm) = logic_form op
-form_seen (sve.ShiftImmediate op zd zn amount) = shift_imm_form op
-form_seen (sve.BinaryPredicated op zdn zm pg size) = merging_form op
-form_seen (sve.UnaryPredicated op zd zn pg size) = unary_form op
-form_seen (sve.ExtendByte op zd zn pg size) = extend_byte_form op
-form_seen (sve.ExtendHalfword op zd zn pg size) = extend_half_form op
-form_seen (sve.ExtendWord op zd zn pg) = extend_word_form op
-form_seen (sve.Reduction op zd zn pg size) = reduce_form op
-form_seen (sve.CompareVectors op pd zn pg zm size) = compare_form op
-form_seen (sve.ContiguousLoad zt rn pg offset dtype) = refl
-form_seen (sve.FirstFaultLoad zt rn pg rm dtype) = refl
-form_seen (sve.NonFaultLoad zt rn pg dtype) = refl
-form_seen (sve.ContiguousStore zt rn pg offset sizes) = refl
+form_view (sve.Ptrue pd size) = refl
+form_view (sve.Pfalse pd) = refl
+form_view (sve.Whilelo pd rn rm size) = refl
+form_view (sve.Ptest pn pg) = refl
+form_view (sve.PredicateLogical op pd pn pg pm) = pred_logic_form op
+form_view (sve.Break op pd pn pg) = break_form_form op
+form_view (sve.Rdffr pd) = refl
+form_view (sve.RdffrPredicated pd pg) = refl
+form_view sve.Setffr = refl
+form_view (sve.Wrffr pn) = refl
+form_view (sve.ElementCount op rd) = count_form op
+form_view (sve.Incp rd pm size) = refl
+form_view (sve.Cntp rd pn pg size) = refl
+form_view (sve.DupScalar zd rn size) = refl
+form_view (sve.IndexScalarImmediate zd rn imm5 size) = refl
+form_view (sve.Sel zd zn pg zm size) = refl
+form_view (sve.AddSub op zd zn zm size) = add_sub_form op
+form_view (sve.Bitwise op zd zn zm) = logic_form op
+form_view (sve.ShiftImmediate op zd zn amount) = shift_imm_form op
+form_view (sve.BinaryPredicated op zdn zm pg size) = merging_form op
+form_view (sve.UnaryPredicated op zd zn pg size) = unary_form op
+form_view (sve.ExtendByte op zd zn pg size) = extend_byte_form op
+form_view (sve.ExtendHalfword op zd zn pg size) = extend_half_form op
+form_view (sve.ExtendWord op zd zn pg) = extend_word_form op
+form_view (sve.Reduction op zd zn pg size) = reduce_form op
+form_view (sve.CompareVectors op pd zn pg zm size) = compare_form op
+form_view (sve.ContiguousLoad zt rn pg offset dtype) = refl
+form_view (sve.FirstFaultLoad zt rn pg rm dtype) = refl
+form_view (sve.NonFaultLoad zt rn pg dtype) = refl
+form_view (sve.ContiguousStore zt rn pg offset sizes) = refl
 
 differ : (m n : ℕ) → eqb m n ≡ false → m ≡ n → ⊥
 differ m n h e = both_ways _ h (eq-eqb m n e)
@@ -556,4 +556,4 @@ same (sve.ContiguousLoad zt rn pg offset dtype) (sve.ContiguousLoad zt' rn' pg' 
 same (sve.FirstFaultLoad zt rn pg rm dtype) (sve.FirstFaultLoad zt' rn' pg' rm' dtype') e = let at_zt : zt ≡ zt' = same_bits zt zt' (ap (λ (i : Instruction Name). slice_index i.numbers 0) e) in let at_rn : rn ≡ rn' = same_bits rn rn' (ap (λ (i : Instruction Name). slice_index i.numbers 1) e) in let at_pg : pg ≡ pg' = same_bits pg pg' (ap (λ (i : Instruction Name). slice_index i.numbers 2) e) in let at_rm : rm ≡ rm' = same_bits rm rm' (ap (λ (i : Instruction Name). slice_index i.numbers 3) e) in let at_dtype : dtype ≡ dtype' = same_dtype dtype dtype' (ap (λ (i : Instruction Name). slice_index i.numbers 4) e) in cc
 same (sve.NonFaultLoad zt rn pg dtype) (sve.NonFaultLoad zt' rn' pg' dtype') e = let at_zt : zt ≡ zt' = same_bits zt zt' (ap (λ (i : Instruction Name). slice_index i.numbers 0) e) in let at_rn : rn ≡ rn' = same_bits rn rn' (ap (λ (i : Instruction Name). slice_index i.numbers 1) e) in let at_pg : pg ≡ pg' = same_bits pg pg' (ap (λ (i : Instruction Name). slice_index i.numbers 2) e) in let at_dtype : dtype ≡ dtype' = same_dtype dtype dtype' (ap (λ (i : Instruction Name). slice_index i.numbers 3) e) in cc
 same (sve.ContiguousStore zt rn pg offset sizes) (sve.ContiguousStore zt' rn' pg' offset' sizes') e = let at_zt : zt ≡ zt' = same_bits zt zt' (ap (λ (i : Instruction Name). slice_index i.numbers 0) e) in let at_rn : rn ≡ rn' = same_bits rn rn' (ap (λ (i : Instruction Name). slice_index i.numbers 1) e) in let at_pg : pg ≡ pg' = same_bits pg pg' (ap (λ (i : Instruction Name). slice_index i.numbers 2) e) in let at_offset : offset ≡ offset' = same_offset_reg offset offset' (ap (λ (i : Instruction Name). slice_index i.numbers 3) e) in let at_sizes : sizes ≡ sizes' = same_store_sizes sizes sizes' (ap (λ (i : Instruction Name). slice_index i.numbers 4) e) (ap (λ (i : Instruction Name). slice_index i.numbers 5) e) in cc
-same x y e = absurd (differ (form x) (form y) refl (sym (form_seen x) ∙ ap (λ (i : Instruction Name). form_of i.name) e ∙ form_seen y))
+same x y e = absurd (differ (form x) (form y) refl (sym (form_view x) ∙ ap (λ (i : Instruction Name). form_of i.name) e ∙ form_view y))

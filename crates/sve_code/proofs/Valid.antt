@@ -4,7 +4,7 @@ use Rattle.std.proofs.lemmas.Bool.{lt-ltb, le-leb, and_from}
 use Rattle.word_rows.specs.Row.{IsInstruction, is_table}
 use Rattle.sve_code.specs.Numbers.{size_number, size_from_h_number, size_from_s_number, dtype_number}
 use Rattle.sve_code.specs.Table.{row, sve_names, true_form, false_form, while_below, test_form, pred_logic, break_form, read_ffr, read_ffr_zeroing, set_ffr, write_ffr, count, increment_by_count, count_true, duplicate, index, select, add_sub, logic, shift_imm, merging, unary, extend_byte, extend_half, extend_word, reduce, compare, load, load_first_fault, load_no_fault, store}
-use Rattle.sve_code.specs.Seen.{seen}
+use Rattle.sve_code.specs.View.{seen}
 use Rattle.sve_code.specs.declared.Sve.{Sve}
 use Rattle.sve_code.specs.declared.Sve.TheVariants as sve
 use Rattle.sve_code.specs.declared.PredicateLogicalOp.TheVariants as predicate_logical_ops

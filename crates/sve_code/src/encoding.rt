@@ -2,7 +2,7 @@
 ghost use Rattle.std.specs.Prelude.{◌≡◌};
 ghost use Rattle.word_rows.specs.Row.{spells};
 ghost use Rattle.sve_code.specs.Table.{row};
-ghost use Rattle.sve_code.specs.Seen.{seen};
+ghost use Rattle.sve_code.specs.View.{seen};
 
 use crate::{
     AddSubOp, BinaryPredicatedOp, BitwiseOp, BreakOp, ElementCountOp, ExtendOp, PredicateLogicalOp,

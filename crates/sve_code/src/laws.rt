@@ -3,7 +3,7 @@ ghost use Rattle.std.specs.Prelude.{◌≡◌, ◌^◌, ◌<◌, ℕ, true, Some
 ghost use Rattle.word_rows.specs.Row.{Instruction, IsInstruction, reads, spells, takes};
 ghost use Rattle.sve_code.specs.declared.Sve.{Sve};
 ghost use Rattle.sve_code.specs.Table.{Name, row, sve_names};
-ghost use Rattle.sve_code.specs.Seen.{seen};
+ghost use Rattle.sve_code.specs.View.{seen};
 
 /// Every value of [`Sve`](crate::Sve) is an instruction of the table, the word of an instruction of
 /// it reads as that instruction, and a word is spelled by what it reads as.

@@ -6,7 +6,7 @@ ghost use Rattle.std.specs.Option.{option_map};
 ghost use Rattle.word_rows.specs.Row.{reads, spells};
 ghost use Rattle.sve_code.specs.declared.Sve.{Sve};
 ghost use Rattle.sve_code.specs.Table.{row, sve_names, compare, duplicate, select, store};
-ghost use Rattle.sve_code.specs.Seen.{seen};
+ghost use Rattle.sve_code.specs.View.{seen};
 ghost use Rattle.sve_decode.specs.Groups.{moves};
 
 mod memory;

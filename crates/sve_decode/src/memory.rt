@@ -3,7 +3,7 @@ ghost use Rattle.std.specs.Prelude.{◌≡◌};
 ghost use Rattle.std.specs.Option.{option_map};
 ghost use Rattle.word_rows.specs.Row.{reads};
 ghost use Rattle.sve_code.specs.Table.{row, load, load_first_fault, load_no_fault, store};
-ghost use Rattle.sve_code.specs.Seen.{seen};
+ghost use Rattle.sve_code.specs.View.{seen};
 ghost use Rattle.sve_decode.specs.Groups.{loads};
 
 use sve_code::{Dtype, OffsetReg, Size, StoreSizes, Sve};

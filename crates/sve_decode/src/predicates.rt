@@ -3,7 +3,7 @@ ghost use Rattle.std.specs.Prelude.{◌≡◌};
 ghost use Rattle.std.specs.Option.{option_map};
 ghost use Rattle.word_rows.specs.Row.{reads};
 ghost use Rattle.sve_code.specs.Table.{row, while_below, pred_logic, break_form, set_ffr, write_ffr, increment_by_count, count_true, true_form, false_form, test_form, read_ffr, read_ffr_zeroing};
-ghost use Rattle.sve_code.specs.Seen.{seen};
+ghost use Rattle.sve_code.specs.View.{seen};
 ghost use Rattle.sve_decode.specs.Groups.{predicates, predicate_operations, predicate_updates, predicate_sources};
 
 use sve_code::{BreakOp, PredicateLogicalOp, Size, Sve};

@@ -3,7 +3,7 @@ ghost use Rattle.std.specs.Prelude.{◌≡◌};
 ghost use Rattle.std.specs.Option.{option_map};
 ghost use Rattle.word_rows.specs.Row.{reads};
 ghost use Rattle.sve_code.specs.Table.{row, add_sub, merging, logic, reduce, index, shift_imm, unary, extend_byte, extend_half, extend_word, count};
-ghost use Rattle.sve_code.specs.Seen.{seen};
+ghost use Rattle.sve_code.specs.View.{seen};
 ghost use Rattle.sve_decode.specs.Groups.{vectors, arithmetic, bitwise, unary_forms};
 
 use sve_code::{

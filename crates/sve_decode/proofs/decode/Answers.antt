@@ -1,6 +1,6 @@
 use Rattle.word_rows.proofs.Laws.{spelled_by, inverts_exactly}
 use Rattle.sve_code.specs.Table.{row, sve_names}
-use Rattle.sve_code.specs.Seen.{seen}
+use Rattle.sve_code.specs.View.{seen}
 use Rattle.sve_code.proofs.Valid.{sve_table, valid}
 use Rattle.sve_code.proofs.Same.{same}
 use Rattle.sve_decode.proofs.decode.Goals as goal
