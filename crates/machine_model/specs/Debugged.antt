@@ -51,7 +51,7 @@ pub record WentOn (steps : ℕ) (before after : View) : Type 0 where
   pub steps_done : after.steps ≡ before.steps + steps
   pub over : after.over ≡ None
 
--- some went, and the one behind them answered an end or a stop
+-- some went, and the one after them answered an end or a stop
 pub record CameTo (answer : StepAnswer) (steps : ℕ) (before after : View) : Type 0 where
   pub went : ℕ
   pub within : went < steps

@@ -7,8 +7,8 @@ use Rattle.guest_types.specs.Memory.{Memory, can_read, put_byte, after}
 use Rattle.guest_types.proofs.Writes.{page_at-put_byte, page_numbers-put_byte, IsMemory-put_byte, after_write}
 use Rattle.guest_types.proofs.Merges.{empty_memory}
 use Rattle.map_text.specs.Mapping.{put_bytes, after_lines, map_of}
-use Rattle.map_text.specs.Lines.{lines_of}
-use Rattle.map_text.specs.Seen.{IsBeside}
+use Rattle.text_parts.specs.Parts.{lines_of}
+use Rattle.map_text.specs.View.{IsBeside}
 use Rattle.map_text.proofs.Places.{count_numbers}
 
 next : (memory : Memory) (address i : ℕ) (bytes : List ℕ) → i < length bytes → put_bytes memory address (drop i bytes) ≡ put_bytes memory address (get_or bytes i 0 ∷ drop (i + 1) bytes)

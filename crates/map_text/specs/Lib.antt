@@ -1,4 +1,4 @@
 pub mod Lines
 pub mod Mapping
-pub mod Seen
+pub mod View
 pub mod Worded

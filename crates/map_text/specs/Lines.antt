@@ -1,29 +1,18 @@
 -- The lines of a page map's text. A line is empty, begins with `#`, or is one of these, with single spaces: `map ADDR PAGES r`,
 -- `map ADDR PAGES rw` and `set ADDR HEX`. A line ends with a line feed; the last one may lack it.
 use Rattle.std.specs.Prelude.{ℕ, ◌+◌, ◌*◌, ◌%◌, ◌^◌, ◌&&◌, Bool, List, [], ◌∷◌, length, Option, Some, None, Result, Ok, Err, option_and_then, nat_eq, nat_le, nat_lt, bytes_eq, codes, if◌then◌else◌}
-use Rattle.std.specs.List.{slice_split}
 use Rattle.hex.specs.Hex.{decode_of}
 use Rattle.hex.specs.declared.error.FromHexError.{FromHexError}
 use Rattle.guest_types.specs.declared.memory.Perm.{Perm}
 use Rattle.guest_types.specs.declared.memory.Perm.TheVariants.{Read, ReadWrite}
 use Rattle.number_text.specs.Numbers.{number_of}
-
-abbrev pub is_byte : ℕ → ℕ → Bool
-is_byte mark b = nat_eq b mark
-
--- the parts of a text between line feeds; behind the line feed of the last line stands one more, which is empty
-abbrev pub lines_of : List ℕ → List (List ℕ)
-lines_of text = slice_split (is_byte 10) text
-
--- the parts of a line between spaces, which are empty where spaces follow one another
-abbrev pub words_of : List ℕ → List (List ℕ)
-words_of line = slice_split (is_byte 32) line
+use Rattle.text_parts.specs.Parts.{words_of}
 
 -- what a line says
-pub data Form : Type 0 where
-  Blank : Form
-  Maps : (address count : ℕ) (perm : Perm) → Form
-  Sets : (address : ℕ) (bytes : List ℕ) → Form
+pub data MapLine : Type 0 where
+  Blank : MapLine
+  Maps : (address count : ℕ) (perm : Perm) → MapLine
+  Sets : (address : ℕ) (bytes : List ℕ) → MapLine
 
 abbrev pub perm_of : List ℕ → Option Perm
 perm_of word =
@@ -36,11 +25,11 @@ abbrev pub are_pages : (address count : ℕ) → Bool
 are_pages address count =
     nat_eq (address % 4096) 0 && nat_le 1 count && nat_le (address + 4096 * count) (2 ^ 48)
 
-abbrev pub maps_pages : (address count : ℕ) → Perm → Option Form
+abbrev pub maps_pages : (address count : ℕ) → Perm → Option MapLine
 maps_pages address count perm = if are_pages address count then Some (Maps address count perm) else None
 
 -- `map ADDR PAGES r` and `map ADDR PAGES rw`
-unfoldable pub maps_of : (address count perm : List ℕ) → Option Form
+unfoldable pub maps_of : (address count perm : List ℕ) → Option MapLine
 maps_of address count perm =
     option_and_then (λ a. option_and_then (λ n. option_and_then (maps_pages a n) (perm_of perm)) (number_of count)) (number_of address)
 
@@ -56,19 +45,19 @@ bytes_of digits = decoded (decode_of digits)
 abbrev pub are_bytes : (address size : ℕ) → Bool
 are_bytes address size = nat_lt 0 size && nat_le (address + size) (2 ^ 64)
 
-abbrev pub sets_bytes : (address : ℕ) → List ℕ → Option Form
+abbrev pub sets_bytes : (address : ℕ) → List ℕ → Option MapLine
 sets_bytes address bytes = if are_bytes address (length bytes) then Some (Sets address bytes) else None
 
 -- `set ADDR HEX`
-unfoldable pub sets_of : (address digits : List ℕ) → Option Form
+unfoldable pub sets_of : (address digits : List ℕ) → Option MapLine
 sets_of address digits = option_and_then (λ a. option_and_then (sets_bytes a) (bytes_of digits)) (number_of address)
 
-unfoldable pub form_of_words : List (List ℕ) → Option Form
+unfoldable pub form_of_words : List (List ℕ) → Option MapLine
 form_of_words (name ∷ address ∷ digits ∷ []) = if bytes_eq name (codes "set") then sets_of address digits else None
 form_of_words (name ∷ address ∷ count ∷ perm ∷ []) = if bytes_eq name (codes "map") then maps_of address count perm else None
 form_of_words _ = None
 
 -- what a line says, where it is one of these
-unfoldable pub form_of : List ℕ → Option Form
+unfoldable pub form_of : List ℕ → Option MapLine
 form_of [] = Some Blank
 form_of (b ∷ line) = if nat_eq b 35 then Some Blank else form_of_words (words_of (b ∷ line))

@@ -7,7 +7,8 @@ use Rattle.guest_types.specs.declared.memory.Perm.{Perm}
 use Rattle.guest_types.specs.Memory.{Page, Memory, can_read, page_numbers, put_byte, after, merged}
 use Rattle.map_text.specs.declared.fault.MapFault.{MapFault}
 use Rattle.map_text.specs.declared.fault.MapFault.TheVariants.{BadLine, Clash, Unmapped, TooManyPages}
-use Rattle.map_text.specs.Lines.{Form, Blank, Maps, Sets, form_of, lines_of}
+use Rattle.map_text.specs.Lines.{MapLine, Blank, Maps, Sets, form_of}
+use Rattle.text_parts.specs.Parts.{lines_of}
 
 -- a number is one of so many from another on
 abbrev pub is_within : (first count number : ℕ) → Bool
@@ -42,12 +43,12 @@ put_or_fault line (Some pages) = Ok pages
 put_or_fault line None = Err (Unmapped line)
 
 -- the pages after a line, by what it says
-abbrev pub after_form : (image : Memory) (line : ℕ) → Form → Memory → Result Memory MapFault
+abbrev pub after_form : (image : Memory) (line : ℕ) → MapLine → Memory → Result Memory MapFault
 after_form image line Blank pages = Ok pages
 after_form image line (Maps address count perm) pages = with_pages image line perm (address / 4096) count pages
 after_form image line (Sets address bytes) pages = put_or_fault line (put_bytes pages address bytes)
 
-abbrev pub after_read : (image : Memory) (line : ℕ) → Option Form → Memory → Result Memory MapFault
+abbrev pub after_read : (image : Memory) (line : ℕ) → Option MapLine → Memory → Result Memory MapFault
 after_read image line (Some form) pages = after_form image line form pages
 after_read image line None pages = Err (BadLine line)
 

@@ -7,5 +7,5 @@ abbrev pub fourth_word : Option (Bor (List ℕ)) → List (List ℕ)
 fourth_word None = []
 fourth_word (Some word) = word.now ∷ []
 
-abbrev pub words_seen : LineWords → List (List ℕ)
-words_seen words = words.name.now ∷ words.address.now ∷ words.third.now ∷ fourth_word words.fourth
+abbrev pub words_view : LineWords → List (List ℕ)
+words_view words = words.name.now ∷ words.address.now ∷ words.third.now ∷ fourth_word words.fourth

@@ -7,7 +7,7 @@ use guest_types::memory::Perm;
 
 // Whole pages, by the address of the first of them.
 #[derive(Clone, Copy)]
-pub struct Span {
+pub struct MappedRange {
     pub address: u64,
     pub count: u64,
     pub perm: Perm,
@@ -22,8 +22,8 @@ pub struct Patch {
 }
 
 #[derive(Drop)]
-pub enum Form {
+pub enum MapLine {
     Blank,
-    Maps(Span),
+    Maps(MappedRange),
     Sets(Patch),
 }

@@ -1,7 +1,6 @@
 //! The text of a page map, and the pages that it maps beside an image.
 #![tactic(auto)]
 
-mod cut;
 pub mod fault;
 mod form;
 mod insert;

@@ -2,9 +2,9 @@
 
 ghost use Rattle.std.specs.Prelude.{◌≡◌, IfOk, option_map};
 ghost use Rattle.map_text.specs.Lines.{are_pages, are_bytes, maps_of, sets_of, perm_of, bytes_of};
-ghost use Rattle.map_text.specs.Seen.{items_in, span_seen, patch_seen};
+ghost use Rattle.map_text.specs.View.{items_in, span_view, patch_view};
 
-use crate::form::{Patch, Span};
+use crate::form::{MappedRange, Patch};
 use guest_types::memory::Perm;
 use hex::FromHexError;
 use number_text::number;
@@ -30,14 +30,14 @@ fn are_pages(address: u64, count: u64) -> bool
 
 // The pages that a line of these words maps.
 #[tactic(auto, unfolding(crate::specs::Lines::maps_of))]
-pub fn span(address: &[u8], count: &[u8], perm_word: &[u8]) -> Option<Span>
-    ensures { option_map span_seen result ≡ maps_of address.now count.now perm_word.now }
+pub fn span(address: &[u8], count: &[u8], perm_word: &[u8]) -> Option<MappedRange>
+    ensures { option_map span_view result ≡ maps_of address.now count.now perm_word.now }
 {
     let address = number(address)?;
     let count = number(count)?;
     let perm = perm(perm_word)?;
     if are_pages(address, count) {
-        Some(Span {
+        Some(MappedRange {
             address,
             count,
             perm,
@@ -67,7 +67,7 @@ fn are_bytes(address: u64, size: usize) -> bool
 // The bytes that a line of these words sets.
 #[tactic(auto, unfolding(crate::specs::Lines::sets_of))]
 pub fn patch(alloc: Global, address: &[u8], digits: &[u8]) -> Result<Option<Patch>, AllocError>
-    ensures { IfOk result (λ o. option_map patch_seen o ≡ sets_of address.now digits.now) }
+    ensures { IfOk result (λ o. option_map patch_view o ≡ sets_of address.now digits.now) }
 {
     let Some(address) = number(address) else {
         return Ok(None);

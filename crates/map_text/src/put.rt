@@ -3,7 +3,7 @@
 ghost use Rattle.std.specs.Prelude.{◌≡◌, Ok, Err, IfErr, OnOk, Some, None, true, false};
 ghost use Rattle.guest_types.specs.Memory.{Memory, IsMemory, can_read, put_byte};
 ghost use Rattle.map_text.specs.Mapping.{put_bytes, put_or_fault};
-ghost use Rattle.map_text.specs.Seen.{IsBeside, Refuses};
+ghost use Rattle.map_text.specs.View.{IsBeside, Refuses};
 
 use crate::fault::MapFault;
 use crate::form::Patch;

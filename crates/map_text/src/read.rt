@@ -4,21 +4,21 @@ ghost use Rattle.std.specs.Prelude.{◌≡◌, ◌+◌, ◌≤◌, length, Some,
 ghost use Rattle.guest_types.specs.Memory.{Memory, IsMemory, DoNotMeet};
 ghost use Rattle.map_text.specs.Lines.{form_of};
 ghost use Rattle.map_text.specs.Mapping.{after_line, after_lines, map_of};
-ghost use Rattle.map_text.specs.Seen.{Refuses, IsBeside, IsFormFault, form_seen};
+ghost use Rattle.map_text.specs.View.{Refuses, IsBeside, IsFormFault, form_view};
 
-use crate::cut::cut;
 use crate::fault::MapFault;
-use crate::form::Form;
+use crate::form::MapLine;
 use crate::insert::add_pages;
 use crate::put::set_bytes;
 use crate::words::form;
 use guest_types::image::{Image, PageMap};
 use guest_types::memory::PageSpec;
 use std::alloc::Global;
+use text_parts::cut;
 
 // What a line says, or why it is refused.
-fn form_or_fault(alloc: Global, line: u64, text: &[u8]) -> Result<Form, MapFault>
-    ensures found { IfOk result (λ found. form_of text.now ≡ Some (form_seen found)) }
+fn form_or_fault(alloc: Global, line: u64, text: &[u8]) -> Result<MapLine, MapFault>
+    ensures found { IfOk result (λ found. form_of text.now ≡ Some (form_view found)) }
     ensures refused { IfErr result (λ fault. IsFormFault line (form_of text.now) fault) }
 {
     match form(alloc, text) {
@@ -44,9 +44,9 @@ fn read_line(
     ensures refused { IfErr result (λ fault. Refuses (after_line image.now line text.now pages.old.items) fault) }
 {
     match form_or_fault(alloc, line, text)? {
-        Form::Blank => Ok(()),
-        Form::Maps(span) => add_pages(alloc, pages, image, line, span),
-        Form::Sets(patch) => set_bytes(pages, line, &patch),
+        MapLine::Blank => Ok(()),
+        MapLine::Maps(span) => add_pages(alloc, pages, image, line, span),
+        MapLine::Sets(patch) => set_bytes(pages, line, &patch),
     }
 }
 

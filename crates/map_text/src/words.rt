@@ -1,14 +1,15 @@
 // The words of a line.
 
 ghost use Rattle.std.specs.Prelude.{◌≡◌, None, IfOk, IfSome, IfNone, option_map};
-ghost use Rattle.map_text.specs.Lines.{words_of, form_of_words, form_of};
-ghost use Rattle.map_text.specs.Seen.{span_seen, patch_seen, form_seen};
-ghost use Rattle.map_text.specs.Worded.{words_seen};
+ghost use Rattle.map_text.specs.Lines.{form_of_words, form_of};
+ghost use Rattle.map_text.specs.View.{span_view, patch_view, form_view};
+ghost use Rattle.map_text.specs.Worded.{words_view};
+ghost use Rattle.text_parts.specs.Parts.{words_of};
 
-use crate::cut::cut;
-use crate::form::{Form, Patch, Span};
+use crate::form::{MapLine, MappedRange, Patch};
 use crate::line::{patch, span};
 use std::alloc::{AllocError, Global};
+use text_parts::cut;
 
 // The words of a line that has three or four.
 #[derive(Clone, Copy)]
@@ -22,7 +23,7 @@ pub struct LineWords<'a> {
 // The words of a line, where there are three or four.
 #[tactic(auto, unfolding(crate::specs::Lines::form_of_words), using(crate::proofs::Parts::five_words, crate::proofs::Parts::some_part))]
 fn words(line: &[u8]) -> Option<LineWords<'_>>
-    ensures some { IfSome result (λ words. words_of line.now ≡ words_seen words) }
+    ensures some { IfSome result (λ words. words_of line.now ≡ words_view words) }
     ensures none { IfNone result (form_of_words (words_of line.now) ≡ None) }
 {
     let (name, Some(rest)) = cut(b' ', line) else {
@@ -51,28 +52,28 @@ fn words(line: &[u8]) -> Option<LineWords<'_>>
     })
 }
 
-fn maps(span: Option<Span>) -> Option<Form>
-    ensures { option_map form_seen result ≡ option_map span_seen span }
+fn maps(span: Option<MappedRange>) -> Option<MapLine>
+    ensures { option_map form_view result ≡ option_map span_view span }
 {
     match span {
-        Some(span) => Some(Form::Maps(span)),
+        Some(span) => Some(MapLine::Maps(span)),
         None => None,
     }
 }
 
-fn sets(patch: Option<Patch>) -> Option<Form>
-    ensures { option_map form_seen result ≡ option_map patch_seen patch }
+fn sets(patch: Option<Patch>) -> Option<MapLine>
+    ensures { option_map form_view result ≡ option_map patch_view patch }
 {
     match patch {
-        Some(patch) => Some(Form::Sets(patch)),
+        Some(patch) => Some(MapLine::Sets(patch)),
         None => None,
     }
 }
 
 // What some words say.
 #[tactic(auto, unfolding(crate::specs::Lines::form_of_words))]
-fn form_of_words(alloc: Global, words: LineWords<'_>) -> Result<Option<Form>, AllocError>
-    ensures { IfOk result (λ o. option_map form_seen o ≡ form_of_words (words_seen words.entry)) }
+fn form_of_words(alloc: Global, words: LineWords<'_>) -> Result<Option<MapLine>, AllocError>
+    ensures { IfOk result (λ o. option_map form_view o ≡ form_of_words (words_view words.entry)) }
 {
     match words.fourth {
         None => {
@@ -92,14 +93,14 @@ fn form_of_words(alloc: Global, words: LineWords<'_>) -> Result<Option<Form>, Al
 
 // What a line says, where it has one of the forms.
 #[tactic(auto, unfolding(crate::specs::Lines::form_of))]
-pub fn form(alloc: Global, line: &[u8]) -> Result<Option<Form>, AllocError>
-    ensures { IfOk result (λ o. option_map form_seen o ≡ form_of line.now) }
+pub fn form(alloc: Global, line: &[u8]) -> Result<Option<MapLine>, AllocError>
+    ensures { IfOk result (λ o. option_map form_view o ≡ form_of line.now) }
 {
     let [first, ..] = line else {
-        return Ok(Some(Form::Blank));
+        return Ok(Some(MapLine::Blank));
     };
     if *first == b'#' {
-        return Ok(Some(Form::Blank));
+        return Ok(Some(MapLine::Blank));
     }
     let Some(words) = words(line) else {
         return Ok(None);

@@ -1,4 +1,4 @@
--- What a memory is after a part of a page was lent. Behind the loan stands a slice, which keeps its length.
+-- What a memory is after a part of a page was lent. After the loan stands a slice, which keeps its length.
 use Rattle.std.specs.Prelude.{ℕ, suc, ◌+◌, ◌*◌, ◌/◌, ◌%◌, List, [], ◌∷◌, ◌++◌, take, drop, length, nat_eq, if◌then◌else◌}
 use Rattle.guest_types.specs.Memory.{Memory}
 use Rattle.guest_types.specs.Spans.{with_span}

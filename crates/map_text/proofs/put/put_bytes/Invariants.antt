@@ -1,7 +1,7 @@
 use Rattle.std.proofs.Common.{◌≡◌, drop}
 use Rattle.guest_types.specs.Memory.{Memory, IsMemory}
 use Rattle.map_text.specs.Mapping.{put_bytes}
-use Rattle.map_text.specs.Seen.{IsBeside}
+use Rattle.map_text.specs.View.{IsBeside}
 use Rattle.map_text.proofs.put.put_bytes.Given as goal
 
 abbrev pub invariant-loop-byte : goal.invariant-loop-byte

@@ -1,6 +1,6 @@
 use Rattle.std.proofs.Common.{sym, subst, arith}
 use Rattle.guest_types.specs.Memory.{Memory}
-use Rattle.map_text.specs.Seen.{IsBeside}
+use Rattle.map_text.specs.View.{IsBeside}
 use Rattle.map_text.proofs.Puts.{first_lines, beside-nothing}
 use Rattle.map_text.proofs.read.read_lines.Goals as goal
 
