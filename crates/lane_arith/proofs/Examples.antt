@@ -1,6 +1,6 @@
 -- The definitions at values worked out by hand.
 use Rattle.std.proofs.Common.{◌≡◌, ℕ, ◌-◌, ◌^◌, ◌++◌, [], ◌∷◌, replicate, refl}
-use Rattle.guest_types.specs.declared.length.Width.TheVariants.{B, H, S, D}
+use Rattle.guest_types.specs.declared.length.Width.TheVariants.{B, H, D}
 use Rattle.guest_types.specs.declared.operation.LaneOp.TheVariants.{Add, SMax}
 use Rattle.guest_types.specs.declared.operation.LaneUnary.TheVariants.{Neg}
 use Rattle.guest_types.specs.declared.operation.ReduceOp.TheVariants.{UAdd}

@@ -1,7 +1,9 @@
 pub mod Operations
 pub mod Shifted
 pub mod Blocks
+pub mod Banks
 pub mod Filled
 pub mod Joins
+pub mod Halves
 pub mod Reduced
 mod Examples

@@ -1,5 +1,5 @@
 -- Reductions, block by block.
-use Rattle.std.proofs.Common.{◌≡◌, ℕ, ◌+◌, ◌-◌, ◌*◌, ◌/◌, ◌%◌, ◌^◌, ◌<◌, ◌≤◌, List, Bool, true, false, cond, ltb, ◌&&◌, get_or, take, drop, refl, sym, ap, ap₂, ◌∙◌, subst, arith, add-one}
+use Rattle.std.proofs.Common.{◌≡◌, ℕ, ◌+◌, ◌-◌, ◌*◌, ◌/◌, ◌%◌, ◌^◌, ◌<◌, ◌≤◌, List, Bool, true, false, cond, ltb, ◌&&◌, get_or, refl, sym, ap, ap₂, ◌∙◌, subst, arith, add-one}
 use Rattle.std.proofs.lemmas.Bool.{cond_both, cond-false, lt-ltb, le-ltb, and_right}
 use Rattle.std.proofs.Math.Nat.{mul-suc}
 use lib.Lanes.{Each1, fold_l}
@@ -9,7 +9,7 @@ use Rattle.guest_types.specs.declared.operation.LaneOp.{LaneOp}
 use Rattle.guest_types.specs.declared.operation.ReduceOp.{ReduceOp}
 use Rattle.guest_types.specs.declared.operation.ReduceOp.TheVariants.{UAdd}
 use Rattle.guest_types.specs.Length.{IsLength, width_bytes, modulus, lanes}
-use Rattle.guest_types.specs.Elements.{at, active, elements, number_of}
+use Rattle.guest_types.specs.Elements.{at, active, elements}
 use Rattle.guest_types.specs.Lanes.{lane, binary_at, dup_at, folded, joined, identity, fold_limit, reduce_at, reduce_of}
 use Rattle.guest_types.proofs.AtWidths.{width_bytes-lanes}
 use Rattle.guest_types.proofs.Folds.{folded-none, folded-more}
@@ -41,11 +41,6 @@ module _ (w : Width) (p x start c : List ℕ) (sx : Each1 (λ n. n < 256) x) (ss
   pub fold-step-is : (join : LaneOp) (partial : List ℕ) → binary_block_of join w partial c ≡ fold_step_of join w p partial x start
   fold-step-is join partial =
       elements-ext (width_bytes w) (binary_at join w partial c) (fold_step_at join w p partial x start) (block_lanes w) (λ e l. ap (lane join (modulus w) (at w partial e)) (at-choice e l))
-
--- an element of a block, as it is read
-pub read-element : (w : Width) (x : List ℕ) (e k n : ℕ) → k ≡ width_bytes w → n ≡ number_of (take (k * e + k - k * e) (drop (k * e) x)) → n ≡ at w x e
-read-element w x e k n is read =
-    read ∙ ap (λ j. number_of (take j (drop (k * e) x))) (let size : k * e + k - k * e ≡ k = omega arith in size) ∙ ap (λ j. number_of (take j (drop (j * e) x))) is
 
 -- ---- a register
 

@@ -1,5 +1,5 @@
 -- What each kernel gives for one block of 32 bytes, or the mask of one.
-use Rattle.std.specs.Prelude.{ℕ, ◌*◌, List, cond}
+use Rattle.std.specs.Prelude.{ℕ, ◌*◌, ◌/◌, List, cond}
 use Rattle.guest_types.specs.declared.length.Width.{Width}
 use Rattle.guest_types.specs.declared.operation.LaneOp.{LaneOp}
 use Rattle.guest_types.specs.declared.operation.LaneUnary.{LaneUnary}
@@ -46,6 +46,10 @@ index_block_of w from by = elements (width_bytes w) (index_at from by) (block_la
 -- the fold of all elements of a block
 abbrev pub block_fold : ReduceOp → Width → List ℕ → ℕ
 block_fold op w x = folded (joined op (modulus w)) (identity op (modulus w)) (at w x) (block_lanes w)
+
+-- the fold of the elements of its first n bytes
+abbrev pub bytes_fold : ReduceOp → Width → ℕ → List ℕ → ℕ
+bytes_fold op w n x = folded (joined op (modulus w)) (identity op (modulus w)) (at w x) (n / width_bytes w)
 
 -- the sum of the elements of one block at which the mask p is true, and of those of another elsewhere
 abbrev pub sum_step_of : Width → List ℕ → List ℕ → List ℕ → ℕ

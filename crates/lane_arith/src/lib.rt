@@ -2,6 +2,7 @@
 //! time.
 #![tactic(auto)]
 
+pub mod bank;
 pub mod binary;
 pub mod fill;
 pub mod merge;

@@ -14,7 +14,7 @@ use lane_blocks::mask::{choose_block, mask_at};
 use std::simd::prelude::*;
 
 #[inline(always)]
-fn merge_block(op: LaneOp, width: Width, p: u8x4, a: u8x32, b: u8x32) -> u8x32
+pub(crate) fn merge_block(op: LaneOp, width: Width, p: u8x4, a: u8x32, b: u8x32) -> u8x32
     ensures { result ≡ merge_block_of op width p a b }
 {
     choose_block(width, p, binary_block(op, width, a, b), a)

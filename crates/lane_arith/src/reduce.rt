@@ -1,19 +1,18 @@
 //! Reductions of the active elements of a register to one number.
 
-ghost use Rattle.std.specs.Prelude.{◌≡◌, ℕ};
-ghost use Rattle.guest_types.specs.Length.{lanes};
+ghost use Rattle.std.specs.Prelude.{◌≡◌, ◌≤◌, ℕ};
+ghost use Rattle.guest_types.specs.Length.{lanes, width_bytes};
 ghost use Rattle.guest_types.specs.Lanes.{lane, joined, fold_limit, reduce_of};
-ghost use Rattle.lane_arith.specs.Blocks.{block_fold, sum_step_of, fold_step_of};
+ghost use Rattle.lane_arith.specs.Blocks.{block_fold, bytes_fold, sum_step_of, fold_step_of};
 ghost use Rattle.guest_types.specs.declared.operation.ReduceOp.TheVariants.{UAdd};
 
 use crate::binary::binary_block;
 use crate::fill::dup_block;
-use guest_types::bytes::number;
 use guest_types::length::{Vl, Width};
 use guest_types::operation::{LaneOp, ReduceOp};
 use guest_types::predicate::PReg;
 use guest_types::register::ZReg;
-use lane_blocks::block::{block_at, block_lanes, register_bytes, used_blocks_of};
+use lane_blocks::block::{block_at, register_bytes, used_blocks_of};
 use lane_blocks::mask::{bits_below, choose_block, mask_at};
 use std::simd::prelude::*;
 
@@ -53,18 +52,92 @@ fn sum(width: Width, vl: Vl, pg: &PReg, z: &ZReg) -> u64
     total
 }
 
-// The fold of the elements of one block.
+// The elements of the first 16 bytes of a block, each joined with the one 16 bytes above it, fold to
+// what all do.
 #[inline(always)]
-fn fold_block(op: ReduceOp, width: Width, x: u8x32) -> u64
+fn half_16(op: ReduceOp, join: LaneOp, width: Width, x: u8x32) -> u8x32
+    requires lanes { (m a b : ℕ) → joined op m a b ≡ lane join m a b }
+    requires element { (m : ℕ) → fold_limit op m ≡ m }
+    ensures { bytes_fold op width 16 result ≡ bytes_fold op width 32 x }
+{
+    binary_block(join, width, x, x.rotate_elements_left::<16>())
+}
+
+// The same of the first 8 bytes and the next 8.
+#[inline(always)]
+fn half_8(op: ReduceOp, join: LaneOp, width: Width, x: u8x32) -> u8x32
+    requires lanes { (m a b : ℕ) → joined op m a b ≡ lane join m a b }
+    requires element { (m : ℕ) → fold_limit op m ≡ m }
+    ensures { bytes_fold op width 8 result ≡ bytes_fold op width 16 x }
+{
+    binary_block(join, width, x, x.rotate_elements_left::<8>())
+}
+
+// The same of 4 bytes.
+#[inline(always)]
+fn half_4(op: ReduceOp, join: LaneOp, width: Width, x: u8x32) -> u8x32
+    requires lanes { (m a b : ℕ) → joined op m a b ≡ lane join m a b }
+    requires element { (m : ℕ) → fold_limit op m ≡ m }
+    requires narrow { width_bytes width ≤ 4 }
+    ensures { bytes_fold op width 4 result ≡ bytes_fold op width 8 x }
+{
+    binary_block(join, width, x, x.rotate_elements_left::<4>())
+}
+
+// The same of 2 bytes.
+#[inline(always)]
+fn half_2(op: ReduceOp, join: LaneOp, width: Width, x: u8x32) -> u8x32
+    requires lanes { (m a b : ℕ) → joined op m a b ≡ lane join m a b }
+    requires element { (m : ℕ) → fold_limit op m ≡ m }
+    requires narrow { width_bytes width ≤ 2 }
+    ensures { bytes_fold op width 2 result ≡ bytes_fold op width 4 x }
+{
+    binary_block(join, width, x, x.rotate_elements_left::<2>())
+}
+
+// The same of one byte.
+#[inline(always)]
+fn half_1(op: ReduceOp, join: LaneOp, x: u8x32) -> u8x32
+    requires lanes { (m a b : ℕ) → joined op m a b ≡ lane join m a b }
+    requires element { (m : ℕ) → fold_limit op m ≡ m }
+    ensures { bytes_fold op Width.B 1 result ≡ bytes_fold op Width.B 2 x }
+{
+    binary_block(join, Width::B, x, x.rotate_elements_left::<1>())
+}
+
+// The first element of a block, which is the fold of itself alone.
+#[inline(always)]
+fn first_element(op: ReduceOp, width: Width, x: u8x32) -> u64
+    ensures { result ≡ bytes_fold op width (width_bytes width) x }
+{
+    match width {
+        Width::B => x.to_array()[0] as u64,
+        Width::H => u16x16::from_le_bytes(x).to_array()[0] as u64,
+        Width::S => u32x8::from_le_bytes(x).to_array()[0] as u64,
+        Width::D => u64x4::from_le_bytes(x).to_array()[0],
+    }
+}
+
+// The fold of the elements of one block, by halves down to one element.
+#[inline(always)]
+fn fold_block(op: ReduceOp, join: LaneOp, width: Width, x: u8x32) -> u64
+    requires lanes { (m a b : ℕ) → joined op m a b ≡ lane join m a b }
+    requires element { (m : ℕ) → fold_limit op m ≡ m }
     ensures { result ≡ block_fold op width x }
 {
-    let bytes = x.to_array();
-    let k = width.bytes();
-    let mut so_far = op.identity(width);
-    for e in 0..block_lanes(width) {
-        so_far = op.join(width, so_far, number(&bytes[k * e..k * e + k]));
+    let x = half_8(op, join, width, half_16(op, join, width, x));
+    match width {
+        Width::B => {
+            let x = half_2(op, join, Width::B, half_4(op, join, Width::B, x));
+            first_element(op, Width::B, half_1(op, join, x))
+        }
+        Width::H => {
+            let x = half_2(op, join, Width::H, half_4(op, join, Width::H, x));
+            first_element(op, Width::H, x)
+        }
+        Width::S => first_element(op, Width::S, half_4(op, join, Width::S, x)),
+        Width::D => first_element(op, Width::D, x),
     }
-    so_far
 }
 
 // Partial results joined with the elements of a block at which the mask is true, and with those of
@@ -90,7 +163,7 @@ fn fold(op: ReduceOp, join: LaneOp, width: Width, vl: Vl, pg: &PReg, z: &ZReg) -
         let p = mask_at(&used, i);
         partial = fold_step(join, width, p, partial, block_at(z, i), start);
     }
-    fold_block(op, width, partial)
+    fold_block(op, join, width, partial)
 }
 
 // The operation is chosen before the loop, so that each has a loop of its own.

@@ -70,7 +70,7 @@ fn shift_64(op: ShiftOp, a: u8x32, count: u32) -> u8x32
 }
 
 #[inline(always)]
-fn shift_block(op: ShiftOp, width: Width, a: u8x32, count: u32) -> u8x32
+pub(crate) fn shift_block(op: ShiftOp, width: Width, a: u8x32, count: u32) -> u8x32
     requires { ShiftFits op width count }
     ensures { result ≡ shift_block_of op width a count }
 {

@@ -122,7 +122,7 @@ fn unary_block(op: LaneUnary, width: Width, a: u8x32) -> u8x32
 }
 
 #[inline(always)]
-fn merge_block(op: LaneUnary, width: Width, p: u8x4, old: u8x32, a: u8x32) -> u8x32
+pub(crate) fn merge_block(op: LaneUnary, width: Width, p: u8x4, old: u8x32, a: u8x32) -> u8x32
     requires { source_bits op < width_bits width }
     ensures { result ≡ merge_one_block_of op width p old a }
 {

@@ -77,7 +77,7 @@ pub begins-none : (w : Width) (f : ℕ → ℕ) (z : List ℕ) → Begins w f 0 
 unfolding elements
 begins-none w f z = record { blocks = ap (elements (width_bytes w) f) (sym (mul-zero (block_lanes w))) }
 
-written : (w : Width) (f : ℕ → ℕ) (i : ℕ) (was now block : List ℕ) → Begins w f i was → now ≡ with_block was i block → block ≡ elements (width_bytes w) (λ e. f (block_lanes w * i + e)) (block_lanes w)
+pub written : (w : Width) (f : ℕ → ℕ) (i : ℕ) (was now block : List ℕ) → Begins w f i was → now ≡ with_block was i block → block ≡ elements (width_bytes w) (λ e. f (block_lanes w * i + e)) (block_lanes w)
     → (now ≡ elements (width_bytes w) f (block_lanes w * (i + 1)) ++ drop 32 (drop (32 * i) was)) × (length (elements (width_bytes w) f (block_lanes w * (i + 1))) ≡ 32 * (i + 1))
 written w f i was now block h put same =
     let k = width_bytes w in

@@ -1,6 +1,6 @@
 -- Blocks of 32 bytes: the part of a vector register that a kernel works on at once, and the four bytes of a predicate that
 -- govern it.
-use Rattle.std.specs.Prelude.{ℕ, ◌*◌, ◌-◌, List, ◌++◌, Bool, ◌&&◌, take, drop, cond, nat_lt}
+use Rattle.std.specs.Prelude.{ℕ, ◌*◌, ◌-◌, ◌%◌, List, ◌++◌, Bool, ◌&&◌, take, drop, cond, nat_eq, nat_lt}
 use lib.ListN.{replicate}
 use lib.Lanes.{chunk}
 use Rattle.guest_types.specs.declared.length.Width.{Width}
@@ -26,6 +26,10 @@ with_block z i block = take (32 * i) z ++ (block ++ drop 32 (drop (32 * i) z))
 -- z with every byte zero from byte n on
 abbrev pub cleared_above : List ℕ → ℕ → List ℕ
 cleared_above z n = take n z ++ replicate (256 - n) 0
+
+-- z with the 16 bytes from byte n on zero where n is the middle of a block
+abbrev pub cleared_half : List ℕ → ℕ → List ℕ
+cleared_half z n = cond (nat_eq (n % 32) 0) z (take n z ++ (replicate 16 0 ++ drop 16 (drop n z)))
 
 -- the bits of block i in a predicate
 abbrev pub mask_of : List ℕ → ℕ → List ℕ

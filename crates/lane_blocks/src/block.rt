@@ -1,8 +1,8 @@
 //! Blocks of a vector register.
 
-ghost use Rattle.std.specs.Prelude.{ℕ, slice_index, length, ◌≡◌, ◌/◌, ◌*◌, ◌+◌, ◌<◌, ◌≤◌};
+ghost use Rattle.std.specs.Prelude.{ℕ, slice_index, length, ◌≡◌, ◌/◌, ◌%◌, ◌*◌, ◌+◌, ◌<◌, ◌≤◌};
 ghost use Rattle.guest_types.specs.Length.{IsLength};
-ghost use Rattle.lane_blocks.specs.Blocks.{block_lanes, block_of, with_block, cleared_above};
+ghost use Rattle.lane_blocks.specs.Blocks.{block_lanes, block_of, with_block, cleared_above, cleared_half};
 
 use guest_types::length::{Vl, Width};
 use guest_types::register::ZReg;
@@ -94,4 +94,17 @@ pub fn clear_above(z: &mut ZReg, n: usize)
     ensures { z.new.bytes ≡ cleared_above z.old.bytes n }
 {
     z.bytes[n..].fill(0);
+}
+
+/// Zeroes the second half of the block in which a register of n bytes ends, where it ends in the
+/// middle of one.
+#[inline(always)]
+pub fn clear_half(z: &mut ZReg, n: usize)
+    requires halves { n % 16 ≡ 0 }
+    requires inside { n ≤ 256 }
+    ensures { z.new.bytes ≡ cleared_half z.old.bytes n }
+{
+    if n % 32 != 0 {
+        z.bytes[n..n + 16].fill(0);
+    }
 }

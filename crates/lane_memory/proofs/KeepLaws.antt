@@ -1,8 +1,8 @@
 -- The active elements of a register, block by block.
-use Rattle.std.proofs.Common.{◌≡◌, ℕ, zero, suc, ◌+◌, ◌-◌, ◌*◌, ◌/◌, ◌<◌, ◌≤◌, Bool, true, false, ◌&&◌, cond, List, [], ◌++◌, length, take, drop, replicate, refl, sym, ap, ap₂, ◌∙◌, subst, arith}
+use Rattle.std.proofs.Common.{◌≡◌, ℕ, zero, suc, ◌+◌, ◌-◌, ◌*◌, ◌/◌, ◌<◌, ◌≤◌, Bool, true, false, ◌&&◌, cond, List, [], ◌++◌, length, get_or, take, drop, replicate, append_assoc, refl, sym, ap, ap₂, ◌∙◌, subst, arith}
 use Rattle.std.specs.Prelude.{nat_lt}
-use Rattle.std.proofs.lemmas.Bool.{lt-ltb, le-ltb, cond-false, and_right}
-use Rattle.std.proofs.lemmas.List.{drop-drop, drop-take, take-take, append-nil, drop-replicate, length-take-le, length-drop, length-append}
+use Rattle.std.proofs.lemmas.Bool.{lt-ltb, le-ltb, cond-true, cond-false, and_right}
+use Rattle.std.proofs.lemmas.List.{take_at, drop-drop, drop-take, take-take, append-nil, drop-replicate, length-take-le, length-drop, length-append}
 use Rattle.std.proofs.Math.Seq.{drop-append-add}
 use Rattle.std.proofs.Math.Nat.{mul_assoc, mul-le-mul_left}
 use Rattle.guest_types.specs.declared.length.Width.{Width}
@@ -11,9 +11,9 @@ use Rattle.guest_types.specs.Length.{width_bytes, all_lanes}
 use Rattle.guest_types.specs.Elements.{number_of, bytes_of, at, active, elements, register}
 use Rattle.guest_types.specs.Lanes.{select_at}
 use lib.Lanes.{chunk}
-use Rattle.guest_types.proofs.AtWidths.{register-zeros}
+use Rattle.guest_types.proofs.AtWidths.{register-zeros, register-of}
 use Rattle.guest_types.proofs.Predicates.{bit-bits_of}
-use Rattle.guest_types.proofs.Registers.{register-ext, length-elements, chunk-elements}
+use Rattle.guest_types.proofs.Registers.{register-ext, elements-ext, elements-split, length-elements, chunk-elements}
 use Rattle.guest_types.proofs.Widths.{whole-register, lane-inside}
 use Rattle.lane_blocks.specs.Blocks.{block_lanes, block_of, mask_of, with_block, cleared_above, choose_at, choose_of, bit_below, below_of}
 use Rattle.lane_blocks.proofs.Steps.{Begins, block-bytes, all-blocks, at-block, active-block, begins-more}
@@ -114,7 +114,7 @@ active-below w pg n e inside =
     let low = lane-inside w e (all_lanes w) inside (omega (arith, whole-register w)) in
     bit-bits_of (bit_below pg (width_bytes w * n)) 32 (width_bytes w * e) low
 
-and_true : (b : Bool) → (b && true) ≡ b
+pub and_true : (b : Bool) → (b && true) ≡ b
 and_true true = refl
 and_true false = refl
 
@@ -137,3 +137,19 @@ masked-below w pg z kept n blocks fits is count =
     (λ e least below. cond-false _ _ _ (ap (λ p. active w p e) is ∙ active-below w pg n e (omega arith) ∙ and_right (active w pg e) (nat_lt (k * e) (k * n)) (le-ltb (k * e) (k * n) (mul-le-mul_left k least))))
     ∙ register-ext k f (masked_at w pg z) n
     (λ e below. ap (λ b. cond b (at w z e) 0) (ap (λ p. active w p e) is ∙ active-below w pg n e (omega arith) ∙ ap (λ t. active w pg e && t) (lt-ltb (k * e) (k * n) (scaled_lt w e n below)) ∙ and_true (active w pg e)))
+
+-- the first elements, where all of them are active
+pub first-kept : (w : Width) (pg z : List ℕ) (n : ℕ) → n ≤ all_lanes w → length z ≡ 256 → ((i : ℕ) → get_or z i 0 < 256) → ((e : ℕ) → e < n → active w pg e ≡ true) → cleared_above z (width_bytes w * n) ≡ masked_of w pg z n
+first-kept w pg z n fits long small on =
+    let k = width_bytes w in
+    let f = at w z in
+    let d = all_lanes w - n in
+    let rest = elements k (λ e. f (n + e)) d in
+    let none = replicate {A = ℕ} (256 - k * all_lanes w) 0 in
+    let split : all_lanes w ≡ n + d = omega arith in
+    let whole : z ≡ elements k f n ++ (rest ++ none) =
+    register-of w z long small ∙ ap (λ l. l ++ none) (ap (elements k f) split ∙ elements-split k f n d) ∙ append_assoc (elements k f n) rest none in
+    let front : take (k * n) z ≡ elements k (masked_at w pg z) n =
+    ap (take (k * n)) whole ∙ take_at (elements k f n) (rest ++ none) (k * n) (length-elements k f n)
+    ∙ elements-ext k f (masked_at w pg z) n (λ e below. sym (cond-true _ _ _ (on e below))) in
+    ap (λ l. l ++ replicate (256 - k * n) 0) front

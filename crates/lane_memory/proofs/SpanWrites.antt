@@ -18,7 +18,7 @@ use Rattle.guest_types.proofs.Stores.{IsMemory-stored, can_write-stored}
 use Rattle.guest_types.proofs.Writes.{All-page_at}
 use Rattle.guest_types.proofs.Numbers.{length-bytes_of}
 
--- ---- bytes of a page replaced, and more behind them
+-- ---- bytes of a page replaced, and more after them
 
 abbrev put : ℕ → List ℕ → List ℕ → List ℕ
 put o xs b = take o b ++ (xs ++ drop (length xs) (drop o b))
@@ -44,7 +44,7 @@ put-put o xs ys b l =
     ∙ ap (λ r. take o b ++ r) (sym (append_assoc xs ys (drop (length ys) tail)))
     ∙ ap (λ r. take o b ++ ((xs ++ ys) ++ r)) (drop-drop (length ys) (length xs) (drop o b) ∙ ap (λ n. drop n (drop o b)) (sym (length-append xs ys)))
 
--- bytes written, and more behind them in the same page
+-- bytes written, and more after them in the same page
 pub with_span-append : (memory : Memory) (a k : ℕ) (xs ys : List ℕ) → All IsPage memory → length xs ≡ k → (a + k) / 4096 ≡ a / 4096 → (a + k) % 4096 ≡ a % 4096 + k → with_span (with_span memory a xs) (a + k) ys ≡ with_span memory a (xs ++ ys)
 with_span-append [] a k xs ys each size same place = refl
 with_span-append (p ∷ ps) a k xs ys each size same place = go (nat_eq p.page (a / 4096)) refl (with_span-append ps a k xs ys (All-tail IsPage p ps each) size same place)
@@ -65,7 +65,7 @@ page_at-with_span (p ∷ ps) a xs = go (nat_eq p.page (a / 4096)) refl (page_at-
     go true e rest = cond-true _ _ _ e
     go false e rest = cond-false _ _ _ e ∙ rest
 
--- what stands behind bytes that were written
+-- what stands after bytes that were written
 pub span_of-behind : (memory : Memory) (a k len : ℕ) (xs : List ℕ) → IsMemory memory → can_write memory a ≡ true → length xs ≡ k → (a + k) / 4096 ≡ a / 4096 → (a + k) % 4096 ≡ a % 4096 + k → span_of (with_span memory a xs) (a + k) len ≡ drop k (span_of memory a (k + len))
 span_of-behind memory a k len xs is writable size same place = go (page_at memory (a / 4096)) refl
   where

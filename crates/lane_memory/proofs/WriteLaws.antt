@@ -113,6 +113,30 @@ merged-part w pg z from n blocks old zeros before after new same size fits small
     bytes_cond k true x y = refl
     bytes_cond k false x y = refl
 
+-- a part of which all elements are active
+pub whole-part : (w : Writing) (pg z : List ℕ) (from n : ℕ) (old new : List ℕ) → w.memory ≡ w.element → length old ≡ width_bytes w.memory * n → from + n ≤ all_lanes w.element → length z ≡ 256 → ((j : ℕ) → get_or z j 0 < 256) → ((e : ℕ) → e < from + n → active w.element pg e ≡ true)
+    → new ≡ chunk (width_bytes w.element * from) (width_bytes w.element * n) z → IsWritten w pg z from n old new
+whole-part w pg z from n old new same size fits long small on is_new =
+    let k = width_bytes w.element in
+    let m = width_bytes w.memory in
+    let one : m ≡ k = ap width_bytes same in
+    let wide : length old ≡ k * n = size ∙ ap (λ k. k * n) one in
+    let inside : k * from + k * n ≤ 256 = omega (arith, whole-register w.element, mul-add k from n, mul-le-mul_left k fits) in
+    let part : (i : ℕ) → i < n → chunk (k * i) k new ≡ cond (active w.element pg (from + i)) (bytes_of k (at w.element z (from + i))) (chunk (k * i) k old) = λ i l.
+    let up : k * suc i ≤ k * n = mul-le-mul_left k (let u : suc i ≤ n = l in u) in
+    let rest : k * n ≡ k * i + (k * n - k * i) = omega arith in
+    ap (chunk (k * i) k) is_new
+    ∙ ap (λ j. take k (drop (k * i) (take j (drop (k * from) z)))) rest
+    ∙ ap (take k) (drop-take (k * i) (k * n - k * i) (drop (k * from) z))
+    ∙ take-take k (k * n - k * i) (drop (k * i) (drop (k * from) z)) (omega (arith, mul-suc k i))
+    ∙ ap (take k) (drop-drop (k * i) (k * from) z ∙ ap (λ j. drop j z) (sym (mul-add k from i)))
+    ∙ sym (chunk-own (k * (from + i)) k z small (omega (arith, long, mul-add k from i, mul-suc k i)))
+    ∙ sym (cond-true _ _ _ (on (from + i) (omega arith))) in
+    record {
+      long = ap length is_new ∙ length-take-le (k * n) (drop (k * from) z) (omega (arith, length-drop (k * from) z, long)) ∙ sym wide;
+      written = λ i l. subst (λ m. chunk (m * i) m new ≡ cond (active w.element pg (from + i)) (bytes_of m (at w.element z (from + i))) (chunk (m * i) m old)) (sym one) (part i l);
+    }
+
 -- ---- what a part leaves of the memory
 
 pub part-stored : (w : Writing) (pg z : List ℕ) (from n left : ℕ) (old new : Memory) → IsMemory old → has_span_mut old (target_of w from) (width_bytes w.memory * n) ≡ true → IsSpanWritten w pg z from n old new → stored_of w pg z (n + left) from old ≡ stored_of w pg z left (from + n) new

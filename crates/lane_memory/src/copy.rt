@@ -61,8 +61,23 @@ fn widen_from(reading: Reading, memory: u32, part: &[u8], from: usize, count: us
     }
 }
 
-/// Reads so many elements from a place on from a part of memory, whether they are active or not.
+// The width in memory is chosen before the loop over elements.
 #[inline(never)]
+fn widen_part(reading: Reading, part: &[u8], from: usize, count: usize, out: &mut ZReg)
+    requires part { length part.now ≡ width_bytes reading.memory * count }
+    requires inside { from + count ≤ all_lanes reading.element }
+    ensures { IsCopied reading part.now from count out.old.bytes out.new.bytes }
+{
+    match reading.memory {
+        Width::B => widen_from(reading, 1, part, from, count, out),
+        Width::H => widen_from(reading, 2, part, from, count, out),
+        Width::S => widen_from(reading, 4, part, from, count, out),
+        Width::D => widen_from(reading, 8, part, from, count, out),
+    }
+}
+
+/// Reads so many elements from a place on from a part of memory, whether they are active or not.
+#[inline(always)]
 pub fn copy_part(reading: Reading, part: &[u8], from: usize, count: usize, out: &mut ZReg)
     requires part { length part.now ≡ width_bytes reading.memory * count }
     requires inside { from + count ≤ all_lanes reading.element }
@@ -71,10 +86,5 @@ pub fn copy_part(reading: Reading, part: &[u8], from: usize, count: usize, out: 
     if reading.memory == reading.element {
         return copy_whole(reading, part, from, count, out);
     }
-    match reading.memory {
-        Width::B => widen_from(reading, 1, part, from, count, out),
-        Width::H => widen_from(reading, 2, part, from, count, out),
-        Width::S => widen_from(reading, 4, part, from, count, out),
-        Width::D => widen_from(reading, 8, part, from, count, out),
-    }
+    widen_part(reading, part, from, count, out);
 }

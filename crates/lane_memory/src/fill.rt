@@ -1,11 +1,12 @@
 // The elements of a load that nothing refuses.
 
-ghost use Rattle.std.specs.Prelude.{◌≡◌, ◌<◌, ◌≤◌, IsTrue, None, false};
+ghost use Rattle.std.specs.Prelude.{◌≡◌, ◌<◌, ◌≤◌, ℕ, IsTrue, None, false, true};
 ghost use Rattle.guest_types.specs.Length.{all_lanes};
-ghost use Rattle.guest_types.specs.Elements.{first_true};
+ghost use Rattle.guest_types.specs.Elements.{active, first_true};
 ghost use Rattle.lane_memory.specs.Readings.{refused_of, lanes_of, HoldsLanes, IsRead};
 
 use crate::copy::copy_part;
+use crate::full::{is_full, keep_first};
 use crate::keep::{is_whole, keep_active};
 use crate::range::active_range;
 use crate::reading::{Reading, count_in_page};
@@ -45,7 +46,7 @@ fn copy_active(pages: &Pages, reading: Reading, pg: &PReg, from: usize, to: usiz
     let mut e = from;
     while e < to {
         let address = reading.place(e);
-        let count = count_in_page(address, size, to - e);
+        let count = count_in_page(address, reading.memory, to - e);
         let len = (size * count) as u32;
         if pages.has_span(address, len) {
             copy_part(reading, pages.lend(address, len), e, count, out);
@@ -57,15 +58,30 @@ fn copy_active(pages: &Pages, reading: Reading, pg: &PReg, from: usize, to: usiz
     }
 }
 
-/// The first elements of a load, and zeros above them, where all from the first active one to the last stand in one page
-/// that is mapped: whether they do. Nothing refuses them then.
-pub fn fill_at_once(
-    pages: &Pages,
-    reading: Reading,
-    pg: &PReg,
-    lanes: usize,
-    out: &mut ZReg,
-) -> bool
+/// The first elements of a load, and zeros above them, where all are active and stand in one page that is mapped: whether
+/// they do. Nothing refuses them then.
+#[inline(always)]
+pub fn fill_full(pages: &Pages, reading: Reading, pg: &PReg, lanes: usize, out: &mut ZReg) -> bool
+    requires lanes { lanes ≤ all_lanes reading.element }
+    requires full { (e : ℕ) → e < lanes → active reading.element pg.now.bits e ≡ true }
+    ensures filled { IsTrue result → out.new.bytes ≡ lanes_of reading pages.now pg.now.bits lanes }
+    ensures free { IsTrue result → first_true (refused_of reading pages.now pg.now.bits) lanes 0 ≡ None }
+    ensures unchanged { result ≡ false → out.new ≡ out.old }
+{
+    pages.is_memory();
+    let address = reading.place(0);
+    let len = (reading.memory.bytes() * lanes) as u32;
+    if !pages.has_span(address, len) {
+        return false;
+    }
+    copy_part(reading, pages.lend(address, len), 0, lanes, out);
+    keep_first(out, reading.element, pg, lanes);
+    true
+}
+
+// The same from the first active one to the last, where some may not be active.
+#[inline(never)]
+fn fill_range(pages: &Pages, reading: Reading, pg: &PReg, lanes: usize, out: &mut ZReg) -> bool
     requires { lanes ≤ all_lanes reading.element }
     ensures filled { IsTrue result → out.new.bytes ≡ lanes_of reading pages.now pg.now.bits lanes }
     ensures free { IsTrue result → first_true (refused_of reading pages.now pg.now.bits) lanes 0 ≡ None }
@@ -82,6 +98,28 @@ pub fn fill_at_once(
     copy_part(reading, pages.lend(address, len), range.from, count, out);
     keep_active(out, reading.element, pg, lanes);
     true
+}
+
+/// The first elements of a load, and zeros above them, where all from the first active one to the last stand in one page
+/// that is mapped: whether they do. Nothing refuses them then.
+#[inline(always)]
+pub fn fill_at_once(
+    pages: &Pages,
+    reading: Reading,
+    pg: &PReg,
+    lanes: usize,
+    out: &mut ZReg,
+) -> bool
+    requires { lanes ≤ all_lanes reading.element }
+    ensures filled { IsTrue result → out.new.bytes ≡ lanes_of reading pages.now pg.now.bits lanes }
+    ensures free { IsTrue result → first_true (refused_of reading pages.now pg.now.bits) lanes 0 ≡ None }
+    ensures unchanged { result ≡ false → out.new ≡ out.old }
+{
+    if is_full(pg, reading.element, lanes) {
+        return fill_full(pages, reading, pg, lanes, out);
+    }
+    let filled = fill_range(pages, reading, pg, lanes, out);
+    filled
 }
 
 /// The first elements of a load, and zeros above them.

@@ -5,6 +5,7 @@ ghost use Rattle.guest_types.specs.Length.{all_lanes};
 ghost use Rattle.lane_blocks.specs.Blocks.{block_lanes};
 ghost use Rattle.lane_memory.specs.Readings.{masked_of};
 
+use crate::full::{is_full, keep_first};
 use guest_types::length::Width;
 use guest_types::predicate::PReg;
 use guest_types::register::ZReg;
@@ -33,8 +34,8 @@ fn keep_blocks(z: &mut ZReg, width: Width, kept: &PReg, blocks: usize)
     clear_above(z, 32 * blocks);
 }
 
-/// Keeps the active of the first elements, and zeroes the others.
-pub fn keep_active(z: &mut ZReg, width: Width, pg: &PReg, lanes: usize)
+// The same where some of them may not be active.
+fn keep_some(z: &mut ZReg, width: Width, pg: &PReg, lanes: usize)
     requires { lanes ≤ all_lanes width }
     ensures { z.new.bytes ≡ masked_of width pg.now.bits z.old.bytes lanes }
 {
@@ -47,4 +48,16 @@ pub fn keep_active(z: &mut ZReg, width: Width, pg: &PReg, lanes: usize)
         Width::S => keep_blocks(z, Width::S, &kept, blocks),
         Width::D => keep_blocks(z, Width::D, &kept, blocks),
     }
+}
+
+/// Keeps the active of the first elements, and zeroes the others. Where all are active it only does
+/// the latter.
+pub fn keep_active(z: &mut ZReg, width: Width, pg: &PReg, lanes: usize)
+    requires { lanes ≤ all_lanes width }
+    ensures { z.new.bytes ≡ masked_of width pg.now.bits z.old.bytes lanes }
+{
+    if is_full(pg, width, lanes) {
+        return keep_first(z, width, pg, lanes);
+    }
+    keep_some(z, width, pg, lanes);
 }

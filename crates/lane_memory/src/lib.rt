@@ -6,6 +6,7 @@ mod copy;
 mod early;
 mod ffr;
 mod fill;
+mod full;
 mod keep;
 pub mod load;
 mod range;

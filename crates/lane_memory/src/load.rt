@@ -1,23 +1,25 @@
 //! Loads of lanes: LD1, LDFF1 and LDNF1.
 
-ghost use Rattle.std.specs.Prelude.{◌≡◌, ◌≤◌, ℕ, List, Some, Ok, Err, IfOk, IfErr, OnOk, OnErr};
+ghost use Rattle.std.specs.Prelude.{◌≡◌, ◌≤◌, ℕ, List, Some, Ok, Err, IfOk, IfErr, IfSome, IsTrue, OnOk, OnErr, false};
 ghost use Rattle.guest_types.specs.Length.{all_lanes};
 ghost use Rattle.guest_types.specs.Elements.{first_true};
-ghost use Rattle.guest_types.specs.LaneMemory.{fault_at as fault_of, plain_load};
-ghost use Rattle.guest_types.specs.EarlyLoads.{first_fault_early};
+ghost use Rattle.guest_types.specs.LaneMemory.{fault_at as fault_of, load_form, load_form_of, plain_load};
+ghost use Rattle.guest_types.specs.EarlyLoads.{StopList, first_fault_early};
+ghost use Rattle.guest_types.specs.declared.row.LoadMode.TheVariants.{Plain};
 ghost use Rattle.lane_memory.specs.Readings.{form_of, place_of, on_of, refused_of, IsFreeFrom};
 ghost use Rattle.lane_memory.specs.Loads.{load_of, left_by, left_by_plain, left_by_first};
 
 use crate::early::load_early;
-use crate::fill::{fill, fill_at_once};
+use crate::fill::{fill, fill_at_once, fill_full};
 use crate::reading::Reading;
 use crate::refusal::{fault_at, first_active, first_refused};
 use crate::suppress::Suppress;
-use guest_types::length::Vl;
+use guest_types::length::{Vl, Width};
 use guest_types::memory::AccessFault;
 use guest_types::predicate::PReg;
 use guest_types::register::ZReg;
 use guest_types::row::{LoadMode, LoadRow};
+use lane_preds::test::is_all_true;
 use paged_memory::pages::Pages;
 
 /// The fault of the first of so many active elements that faults.
@@ -97,13 +99,9 @@ fn load_first_fault(
     Ok(())
 }
 
-/// Loads the active elements of a register from `base + (index + e) * size` on, in place: LD1, LDFF1
-/// or LDNF1 by the mode. Elements past the vector length, and those that are not active, become 0.
-///
-/// # Errors
-/// The fault of an access: of the first active element that faults (LD1), or of the first active
-/// element (LDFF1). Nothing changes then.
-pub fn load_into(
+// A load in one of its modes.
+#[inline(never)]
+fn load_any(
     pages: &Pages,
     mode: LoadMode,
     row: LoadRow,
@@ -131,6 +129,87 @@ pub fn load_into(
             Ok(())
         }
     }
+}
+
+/// The width of the elements that a row reads and makes, where it is the same.
+#[inline(always)]
+fn whole_width(row: LoadRow) -> Option<Width>
+    ensures { IfSome result (λ width. load_form row.dtype ≡ load_form_of width width false) }
+{
+    match row.dtype {
+        0 => Some(Width::B),
+        5 => Some(Width::H),
+        10 => Some(Width::S),
+        15 => Some(Width::D),
+        _ => None,
+    }
+}
+
+/// LD1 of elements that have the same width in memory, where all are active and stand in one page that is mapped: whether
+/// they do. Most loads of a loop are such.
+#[inline(always)]
+fn load_whole(
+    pages: &Pages,
+    row: LoadRow,
+    base: u64,
+    index: u64,
+    vl: Vl,
+    pg: &PReg,
+    out: &mut ZReg,
+) -> bool
+    ensures loaded { (stops : StopList) → (ffr : List ℕ) → IsTrue result
+        → load_of Plain row.dtype base index vl pages.now stops pg.now.bits ffr
+        ≡ Ok (record { z = out.new.bytes; ffr = ffr; stops = stops }) }
+    ensures unchanged { result ≡ false → out.new ≡ out.old }
+{
+    let Some(width) = whole_width(row) else {
+        return false;
+    };
+    if !is_all_true(width, vl, pg) {
+        return false;
+    }
+    let reading = Reading {
+        base,
+        index,
+        memory: width,
+        element: width,
+        signed: false,
+    };
+    let lanes = vl.lanes(width) as usize;
+    let filled = fill_full(pages, reading, pg, lanes, out);
+    filled
+}
+
+/// Loads the active elements of a register from `base + (index + e) * size` on, in place: LD1, LDFF1
+/// or LDNF1 by the mode. Elements past the vector length, and those that are not active, become 0.
+///
+/// # Errors
+/// The fault of an access: of the first active element that faults (LD1), or of the first active
+/// element (LDFF1). Nothing changes then.
+pub fn load_into(
+    pages: &Pages,
+    mode: LoadMode,
+    row: LoadRow,
+    base: u64,
+    index: u64,
+    vl: Vl,
+    pg: &PReg,
+    ffr: &mut PReg,
+    stops: &mut Suppress,
+    out: &mut ZReg,
+) -> Result<(), AccessFault>
+    ensures done { let left = load_of mode row.dtype base index vl pages.now stops.old pg.now.bits ffr.old.bits in
+        OnOk result (left ≡ Ok (record { z = out.new.bytes; ffr = ffr.new.bits; stops = stops.new })) }
+    ensures refused { let left = load_of mode row.dtype base index vl pages.now stops.old pg.now.bits ffr.old.bits in
+        IfErr result (λ fault. left ≡ Err fault) }
+    ensures unchanged { OnErr result ((out.new ≡ out.old) × (ffr.new ≡ ffr.old) × (stops.new ≡ stops.old)) }
+{
+    if let LoadMode::Plain = mode {
+        if load_whole(pages, row, base, index, vl, pg, out) {
+            return Ok(());
+        }
+    }
+    load_any(pages, mode, row, base, index, vl, pg, ffr, stops, out)
 }
 
 /// The same, giving the register.

@@ -20,13 +20,19 @@ pub fn place(base: u64, index: u64, memory: Width, e: usize) -> u64
     )
 }
 
-/// How many elements of so many bytes stand in the page of an address from there on, of so many.
+/// How many elements of a width stand in the page of an address from there on, of so many.
 #[inline(always)]
-pub fn count_in_page(address: u64, size: usize, most: usize) -> usize
-    requires { 0 < size }
+pub fn count_in_page(address: u64, memory: Width, most: usize) -> usize
     ensures { result ≤ most }
 {
-    most.min((4096 - address % 4096) as usize / size)
+    let rest = (4096 - address % 4096) as usize;
+    let whole = match memory {
+        Width::B => rest,
+        Width::H => rest / 2,
+        Width::S => rest / 4,
+        Width::D => rest / 8,
+    };
+    most.min(whole)
 }
 
 /// A load of elements: element e has `memory` at `base + (index + e) * size` modulo 2^64, where size

@@ -71,7 +71,7 @@ pub fn first_refused(
     let mut e = from.max(range.from);
     while e < range.to {
         let address = reading.place(e);
-        let count = count_in_page(address, size, range.to - e);
+        let count = count_in_page(address, reading.memory, range.to - e);
         if pages.has_span(address, (size * count) as u32) {
             e += count;
         } else if is_refused(pages, reading, pg, e) {

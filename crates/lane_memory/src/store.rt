@@ -1,14 +1,16 @@
 //! Stores of lanes: ST1.
 
-ghost use Rattle.std.specs.Prelude.{◌≡◌, ◌+◌, ◌-◌, ◌*◌, ◌≤◌, ◌<◌, true, length, IfErr, OnOk};
+ghost use Rattle.std.specs.Prelude.{◌≡◌, ◌+◌, ◌-◌, ◌*◌, ◌≤◌, ◌<◌, ℕ, true, false, length, IfErr, OnOk, IsTrue};
 ghost use Rattle.guest_types.specs.Length.{all_lanes, width_bytes};
+ghost use Rattle.guest_types.specs.Elements.{active};
 ghost use Rattle.guest_types.specs.Spans.{has_span_mut, span_of, with_span};
 ghost use Rattle.guest_types.specs.LaneMemory.{store_of, AllStored, StoreFault};
 ghost use Rattle.lane_memory.specs.Writings.{stored_of, target_of, IsSpanWritten};
 
+use crate::full::is_full;
 use crate::range::active_range;
 use crate::reading::count_in_page;
-use crate::write::write_part;
+use crate::write::{write_part, write_whole};
 use crate::writing::Writing;
 use guest_types::guest::GuestMemory;
 use guest_types::length::Vl;
@@ -53,6 +55,41 @@ fn store_part(pages: &mut Pages, writing: Writing, pg: &PReg, z: &ZReg, from: us
     write_part(writing, pg, z, from, count, part);
 }
 
+/// Stores so many elements that are all active and stand in one page that may be written: one copy.
+#[inline(always)]
+fn store_full(pages: &mut Pages, writing: Writing, pg: &PReg, z: &ZReg, from: usize, count: usize)
+    requires same { writing.memory ≡ writing.element }
+    requires inside { from + count ≤ all_lanes writing.element }
+    requires full { (e : ℕ) → e < from + count → active writing.element pg.now.bits e ≡ true }
+    requires part { has_span_mut pages.old (target_of writing from) (width_bytes writing.memory * count) ≡ true }
+    ensures { IsSpanWritten writing pg.now.bits z.now.bytes from count pages.old pages.new }
+{
+    let len = writing.memory.bytes() * count;
+    let part = pages.lend_mut(writing.target(from), len as u32);
+    write_whole(writing, pg, z, from, count, part);
+}
+
+/// Stores so many elements where they have the same width in memory, are all active and stand in one page that may be
+/// written: whether they do.
+#[inline(always)]
+fn store_at_once(pages: &mut Pages, writing: Writing, pg: &PReg, z: &ZReg, lanes: usize) -> bool
+    requires { lanes ≤ all_lanes writing.element }
+    ensures done { let left = stored_of writing pg.now.bits z.now.bytes (lanes - 0) 0 pages.old in
+        IsTrue result → left ≡ AllStored pages.new }
+    ensures unchanged { result ≡ false → pages.new ≡ pages.old }
+{
+    pages.is_memory();
+    if writing.memory != writing.element || !is_full(pg, writing.element, lanes) {
+        return false;
+    }
+    let len = writing.memory.bytes() * lanes;
+    if !pages.has_span_mut(writing.target(0), len as u32) {
+        return false;
+    }
+    store_full(pages, writing, pg, z, 0, lanes);
+    true
+}
+
 /// Stores the active elements from one place up to another: all that stand in one page at once, and
 /// those across an edge, or in a page that may not be written, one by one.
 fn store_active(
@@ -75,7 +112,7 @@ fn store_active(
     while e < to {
         pages.is_memory();
         let address = writing.target(e);
-        let count = count_in_page(address, size, to - e);
+        let count = count_in_page(address, writing.memory, to - e);
         if pages.has_span_mut(address, (size * count) as u32) {
             store_part(pages, writing, pg, z, e, count);
             e += count;
@@ -111,6 +148,9 @@ pub fn store(
 {
     let writing = Writing::new(row, base, index);
     let lanes = vl.lanes(writing.element) as usize;
+    if store_at_once(pages, writing, pg, z, lanes) {
+        return Ok(());
+    }
     let range = active_range(pg, writing.element, lanes);
     store_active(pages, writing, pg, z, range.from, range.to)
 }

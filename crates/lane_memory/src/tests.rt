@@ -180,6 +180,39 @@ fn lengths(rt: HostRuntime) -> Result<(), Fail> {
     Ok(())
 }
 
+// LD1B of every length, whose last byte is 0x87 in memory. 0x88 stands behind it, and is not read.
+#[test]
+fn every_length(rt: HostRuntime) -> Result<(), Fail> {
+    let pages = built(rt.alloc())?;
+    let row = LoadRow::new(0).unwrap();
+    let pg = PReg { bits: [255; 32] };
+    let mut ffr = PReg { bits: [255; 32] };
+    let mut stops = Suppress::none();
+    for sixteenths in 1..17 {
+        let length = Vl::new(128 * sixteenths).ok_or("no length")?;
+        let lanes = 16 * sixteenths as usize;
+        let base = 0x1ff8 - lanes as u64;
+        let z = load(
+            &pages,
+            LoadMode::Plain,
+            row,
+            base,
+            0,
+            length,
+            &pg,
+            &mut ffr,
+            &mut stops,
+        );
+        assert!(rt; lane(&z, Width::B, lanes - 9) == Ok(0), "{lanes}");
+        assert!(rt; lane(&z, Width::B, lanes - 8) == Ok(0x80), "{lanes}");
+        assert!(rt; lane(&z, Width::B, lanes - 1) == Ok(0x87), "{lanes}");
+        if lanes < 256 {
+            assert!(rt; lane(&z, Width::B, lanes) == Ok(0), "{lanes}");
+        }
+    }
+    Ok(())
+}
+
 #[test]
 fn edges(rt: HostRuntime) -> Result<(), Fail> {
     let mut pages = built(rt.alloc())?;
@@ -392,5 +425,32 @@ fn refused_stores(rt: HostRuntime) -> Result<(), Fail> {
     assert!(rt; pages.load(0x1ff8, 8) == Ok(0x778e_8d8c_7777_7777));
     assert!(rt; write(&mut pages, 3, 3, 0x1ffc, 128, 255, &z) == write_fault(0x2000));
     assert!(rt; pages.load(0x1ff8, 8) == Ok(0x778e_8d8c_7777_7777));
+    Ok(())
+}
+
+// Element 16 goes to address 0, and those before it to the top of the address space, where no page
+// is. An element across the top faults at its first byte, and an index may wrap.
+#[test]
+fn stores_past_the_last_address(rt: HostRuntime) -> Result<(), Fail> {
+    let mut pages = built(rt.alloc())?;
+    let z = ZReg { bytes: [0x77; 256] };
+    let row = StoreRow::new(0, 0).unwrap();
+    let mut pg = PReg { bits: [255; 32] };
+    let base = u64::MAX - 15;
+    assert!(rt; store(&mut pages, row, base, 0, vl(256), &pg, &z) == write_fault(base));
+    assert!(rt; pages.load(0, 8) == Ok(0x8786_8584_8382_8180));
+    pg.bits[0] = 0;
+    pg.bits[1] = 0;
+    assert!(rt; store(&mut pages, row, base, 0, vl(256), &pg, &z) == Ok(()));
+    assert!(rt; pages.load(0, 8) == Ok(0x7777_7777_7777_7777));
+    assert!(rt; pages.load(8, 8) == Ok(0x7777_7777_7777_7777));
+    assert!(rt; pages.load(16, 8) == Ok(0));
+    let top = u64::MAX - 1;
+    assert!(rt; write(&mut pages, 2, 2, top, 128, 255, &z) == write_fault(top));
+    let row = StoreRow::new(3, 3).unwrap();
+    pg.bits[0] = 255;
+    assert!(rt; store(&mut pages, row, 0x28, u64::MAX, vl(128), &pg, &z) == Ok(()));
+    assert!(rt; pages.load(0x20, 8) == Ok(0x7777_7777_7777_7777));
+    assert!(rt; pages.load(0x28, 8) == Ok(0));
     Ok(())
 }

@@ -1,15 +1,17 @@
 // Elements that are written to a part of one page.
 
-ghost use Rattle.std.specs.Prelude.{◌≡◌, ◌+◌, ◌*◌, ◌≤◌, length};
+ghost use Rattle.std.specs.Prelude.{◌≡◌, ℕ, ◌+◌, ◌*◌, ◌<◌, ◌≤◌, true, length};
 ghost use Rattle.guest_types.specs.Length.{all_lanes, width_bytes};
+ghost use Rattle.guest_types.specs.Elements.{active};
 ghost use Rattle.lane_memory.specs.Writings.{IsMerged, IsWritten};
 
+use crate::full::is_full;
 use crate::keep::is_whole;
 use crate::writing::Writing;
 use guest_types::length::Width;
 use guest_types::predicate::PReg;
 use guest_types::register::ZReg;
-use lane_blocks::block::{block_at, put_block};
+use lane_blocks::block::{block_at, blocks_of, put_block};
 use lane_blocks::mask::{choose_block, mask_at};
 use paged_memory::number::{number, put_number};
 
@@ -39,8 +41,30 @@ fn merge_active(out: &mut ZReg, width: Width, pg: &PReg, z: &ZReg, blocks: usize
     }
 }
 
+/// Elements that have the same width in memory and are all active: one copy.
+#[inline(always)]
+pub fn write_whole(
+    writing: Writing,
+    pg: &PReg,
+    z: &ZReg,
+    from: usize,
+    count: usize,
+    part: &mut [u8],
+)
+    requires same { writing.memory ≡ writing.element }
+    requires part { length part.old ≡ width_bytes writing.memory * count }
+    requires inside { from + count ≤ all_lanes writing.element }
+    requires full { (e : ℕ) → e < from + count → active writing.element pg.now.bits e ≡ true }
+    ensures { IsWritten writing pg.now.bits z.now.bytes from count part.old part.new }
+{
+    let _blocks = blocks_of(z);
+    let _mask = pg;
+    let at = writing.element.bytes() * from;
+    part.copy_from_slice(&z.bytes[at..at + part.len()]);
+}
+
 // Elements that have the same width in memory: the part is merged as a register, block by block.
-fn merge_part(writing: Writing, pg: &PReg, z: &ZReg, from: usize, count: usize, part: &mut [u8])
+fn merge_some(writing: Writing, pg: &PReg, z: &ZReg, from: usize, count: usize, part: &mut [u8])
     requires same { writing.memory ≡ writing.element }
     requires part { length part.old ≡ width_bytes writing.memory * count }
     requires inside { from + count ≤ all_lanes writing.element }
@@ -53,6 +77,19 @@ fn merge_part(writing: Writing, pg: &PReg, z: &ZReg, from: usize, count: usize, 
     merged.bytes[at..end].copy_from_slice(part);
     merge_active(&mut merged, writing.element, pg, z, (end + 31) / 32);
     part.copy_from_slice(&merged.bytes[at..end]);
+}
+
+// Elements that have the same width in memory.
+fn merge_part(writing: Writing, pg: &PReg, z: &ZReg, from: usize, count: usize, part: &mut [u8])
+    requires same { writing.memory ≡ writing.element }
+    requires part { length part.old ≡ width_bytes writing.memory * count }
+    requires inside { from + count ≤ all_lanes writing.element }
+    ensures { IsWritten writing pg.now.bits z.now.bytes from count part.old part.new }
+{
+    if is_full(pg, writing.element, from + count) {
+        return write_whole(writing, pg, z, from, count, part);
+    }
+    merge_some(writing, pg, z, from, count, part);
 }
 
 // Elements of so many bytes in memory and in the register. It is inlined where these are known.

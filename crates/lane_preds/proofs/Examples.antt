@@ -1,5 +1,5 @@
 -- The definitions at values worked out by hand.
-use Rattle.std.proofs.Common.{◌≡◌, ℕ, ◌++◌, [], ◌∷◌, true, false, replicate, refl, Some, None}
+use Rattle.std.proofs.Common.{◌≡◌, ℕ, [], ◌∷◌, true, false, replicate, refl, Some, None}
 use Rattle.guest_types.specs.declared.length.Width.TheVariants.{H, S}
 use Rattle.guest_types.specs.declared.operation.LaneCompare.TheVariants.{Hi, Gt}
 use Rattle.guest_types.specs.Elements.{elements, bits_of}

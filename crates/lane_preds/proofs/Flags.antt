@@ -1,7 +1,7 @@
 -- The flags that a predicate sets.
-use Rattle.std.proofs.Common.{◌≡◌, ℕ, ◌+◌, ◌*◌, ◌/◌, ◌%◌, ◌<◌, ◌≤◌, List, Bool, true, false, not, ltb, ◌&&◌, bit_and, refl, sym, ap, ap₂, ◌∙◌, subst, arith}
+use Rattle.std.proofs.Common.{◌≡◌, ℕ, zero, suc, ◌+◌, ◌-◌, ◌*◌, ◌/◌, ◌%◌, ◌<◌, ◌≤◌, List, Bool, true, false, not, ltb, ◌&&◌, min, bit_and, refl, sym, ap, ap₂, ◌∙◌, subst, arith, inl, inr}
 use Rattle.std.specs.Prelude.{Option, Some, None, option_map, is_none, is_some}
-use Rattle.std.proofs.lemmas.Bool.{eq-eqb, lt-ltb, ltb-true, and_left, and_right}
+use Rattle.std.proofs.lemmas.Bool.{cases_lt, eq-eqb, lt-ltb, le-ltb, ltb-true, and_left, and_right}
 use Rattle.std.proofs.Math.Nat.{mul-mod_right, mul-div_cancel_left}
 use lib.Lanes.{zip2}
 use mir.Val.{bool_byte}
@@ -9,7 +9,7 @@ use Rattle.guest_types.specs.declared.length.Width.{Width}
 use Rattle.guest_types.specs.declared.length.Width.TheVariants.{B, H, S, D}
 use Rattle.guest_types.specs.Length.{width_bytes, all_lanes}
 use Rattle.guest_types.specs.Elements.{bit, active, element_bit, predicate, first_true, last_true, true_at, both, pred_test, nzcv}
-use Rattle.guest_types.specs.Lanes.{all_at}
+use Rattle.guest_types.specs.Lanes.{all_at, while_at}
 use Rattle.guest_types.proofs.Widths.{some-bytes, whole-register, lane-inside}
 use Rattle.lane_blocks.proofs.Bits.{IsBits, bits-same, bits-and, bits-made}
 use Rattle.lane_preds.specs.Bits.{starts, first_set, last_set}
@@ -159,3 +159,47 @@ flags-are w n mask outcome s x y a b o fits is hx hy is_a is_b is_o =
 pub none-is : (o : Option ℕ) (r : Bool) → is_some o ≡ not r → r ≡ is_none o
 none-is o true e = sym (ap not e)
 none-is o false e = sym (ap not e)
+
+-- ---- the flags of WHILELO, by how many elements are true
+
+flags-number : (n z c : Bool) → 8 * bool_byte n + 4 * bool_byte z + 2 * bool_byte c ≡ nzcv (record { n = n; z = z; c = c; v = false })
+flags-number true true true = refl
+flags-number true true false = refl
+flags-number true false true = refl
+flags-number true false false = refl
+flags-number false true true = refl
+flags-number false true false = refl
+flags-number false false true = refl
+flags-number false false false = refl
+
+some-below : (m from to : ℕ) → ltb 0 (min (suc m) (to - from)) ≡ ltb (from + 0) to
+some-below m from to =
+    elim (cases_lt from to) [
+      | inl l ↦ lt-ltb 0 (min (suc m) (to - from)) (omega arith) ∙ sym (lt-ltb (from + 0) to (omega arith))
+      | inr g ↦ le-ltb 0 (min (suc m) (to - from)) (omega arith) ∙ sym (le-ltb (from + 0) to (omega arith))
+    ]
+
+none-below : (m from to : ℕ) → not (ltb 0 (min (suc m) (to - from))) ≡ is_none (first_true (both all_at (while_at from to)) (suc m) 0)
+none-below m from to =
+    elim (cases_lt from to) [
+      | inl l ↦ ap not (lt-ltb 0 (min (suc m) (to - from)) (omega arith))
+          ∙ sym (ap is_none (first-is (both all_at (while_at from to)) (suc m) 0 (omega arith) (lt-ltb (from + 0) to (omega arith)) (λ j u. absurd (omega arith))))
+      | inr g ↦ ap not (le-ltb 0 (min (suc m) (to - from)) (omega arith))
+          ∙ sym (ap is_none (first-nowhere (both all_at (while_at from to)) (suc m) (λ j u. le-ltb (from + j) to (omega arith))))
+    ]
+
+ends-before : (m from to : ℕ) → ltb (min (suc m) (to - from)) (suc m) ≡ not (ltb (from + m) to)
+ends-before m from to =
+    elim (cases_lt (from + m) to) [
+      | inl l ↦ le-ltb (min (suc m) (to - from)) (suc m) (omega arith) ∙ sym (ap not (lt-ltb (from + m) to l))
+      | inr g ↦ lt-ltb (min (suc m) (to - from)) (suc m) (omega arith) ∙ sym (ap not (le-ltb (from + m) to g))
+    ]
+
+pub while-flags : (n from to : ℕ) → 0 < n → let count = min n (to - from) in 8 * bool_byte (ltb 0 count) + 4 * bool_byte (not (ltb 0 count)) + 2 * bool_byte (ltb count n) ≡ nzcv (pred_test all_at (while_at from to) n)
+while-flags zero from to some = absurd (omega arith)
+while-flags (suc m) from to some =
+    let count = min (suc m) (to - from) in
+    flags-number (ltb 0 count) (not (ltb 0 count)) (ltb count (suc m))
+    ∙ ap (λ b. nzcv (record { n = b; z = not (ltb 0 count); c = ltb count (suc m); v = false })) (some-below m from to)
+    ∙ ap (λ b. nzcv (record { n = ltb (from + 0) to; z = b; c = ltb count (suc m); v = false })) (none-below m from to)
+    ∙ ap (λ b. nzcv (record { n = ltb (from + 0) to; z = is_none (first_true (both all_at (while_at from to)) (suc m) 0); c = b; v = false })) (ends-before m from to)

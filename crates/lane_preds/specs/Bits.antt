@@ -1,6 +1,6 @@
 -- Predicates of which every bit is looked at, and what a comparison gives for one block of 32 bytes.
-use Rattle.std.specs.Prelude.{ℕ, ◌/◌, ◌%◌, List, Bool, not, ◌&&◌, map, nat_eq, cond, Option}
-use lib.Lanes.{mask_l}
+use Rattle.std.specs.Prelude.{ℕ, ◌/◌, ◌%◌, List, Bool, not, ◌&&◌, map, nat_eq, cond, bit_and, Option}
+use lib.Lanes.{mask_l, zip2}
 use Rattle.guest_types.specs.declared.length.Width.{Width}
 use Rattle.guest_types.specs.declared.operation.LaneCompare.{LaneCompare}
 use Rattle.guest_types.specs.Length.{width_bytes, modulus}
@@ -11,6 +11,10 @@ use Rattle.lane_blocks.specs.Blocks.{block_lanes}
 -- an element of k bytes has its bit here
 abbrev pub starts : ℕ → ℕ → Bool
 starts k j = nat_eq (j % k) 0
+
+-- the bits that two predicates have in common
+abbrev pub both_of : List ℕ → List ℕ → List ℕ
+both_of p q = zip2 bit_and p q
 
 -- the places of the lowest and of the highest bit that is set
 unfoldable pub first_set : List ℕ → Option ℕ

@@ -1,12 +1,12 @@
 //! Predicates as vectors of 32 bytes: which bits are set.
 
 ghost use Rattle.std.specs.Prelude.{◌≡◌, ◌*◌, ◌<◌, ◌≤◌, IfSome};
-ghost use Rattle.guest_types.specs.Length.{width_bytes, all_lanes};
+ghost use Rattle.guest_types.specs.Length.{IsLength, width_bytes, all_lanes, lanes};
 ghost use Rattle.guest_types.specs.Elements.{bits_of, predicate};
 ghost use Rattle.guest_types.specs.Lanes.{all_at};
 ghost use Rattle.lane_preds.specs.Bits.{starts, first_set, last_set, nonzero_bytes, bit_count};
 
-use guest_types::length::Width;
+use guest_types::length::{Vl, Width};
 use lane_blocks::mask::below;
 use std::simd::prelude::*;
 
@@ -31,6 +31,18 @@ pub fn first_elements(width: Width, count: usize) -> u8x32
 {
     let starts = starts(width);
     let limits = below(width.bytes() * count);
+    starts & limits
+}
+
+/// The predicate that is true in every element of a register of the length. Its last byte is a whole one, so that less is
+/// computed than for `first_elements`.
+#[inline(always)]
+pub fn all_elements(width: Width, vl: Vl) -> u8x32
+    ensures value { result ≡ predicate (width_bytes width) all_at (lanes vl width) }
+    ensures valid { IsLength vl }
+{
+    let starts = starts(width);
+    let limits = below(8 * vl.lanes(Width::D) as usize);
     starts & limits
 }
 

@@ -120,26 +120,64 @@ fn each_block(
     }
 }
 
-// The comparison is chosen before the loop, so that each has a loop of its own.
-#[inline(always)]
-fn by_operation(
-    op: LaneCompare,
-    width: Width,
-    vl: Vl,
-    pg: &PReg,
-    left: &ZReg,
-    right: &ZReg,
-    out: &mut PReg,
-)
-    ensures { out.new.bits ≡ compare_of op width (lanes vl width) pg.now.bits left.now.bytes right.now.bytes }
+// Elements of 8 bits. The width and the comparison are chosen before the loop, so that each has a loop of its own. One
+// function of all widths would grow so large that the compiler chose the width in each turn of the loop.
+#[inline(never)]
+fn compare_in_8(op: LaneCompare, vl: Vl, pg: &PReg, left: &ZReg, right: &ZReg, out: &mut PReg)
+    ensures { out.new.bits ≡ compare_of op Width.B (lanes vl Width.B) pg.now.bits left.now.bytes right.now.bytes }
 {
     match op {
-        LaneCompare::Hs => each_block(LaneCompare::Hs, width, vl, pg, left, right, out),
-        LaneCompare::Hi => each_block(LaneCompare::Hi, width, vl, pg, left, right, out),
-        LaneCompare::Ge => each_block(LaneCompare::Ge, width, vl, pg, left, right, out),
-        LaneCompare::Gt => each_block(LaneCompare::Gt, width, vl, pg, left, right, out),
-        LaneCompare::Eq => each_block(LaneCompare::Eq, width, vl, pg, left, right, out),
-        LaneCompare::Ne => each_block(LaneCompare::Ne, width, vl, pg, left, right, out),
+        LaneCompare::Hs => each_block(LaneCompare::Hs, Width::B, vl, pg, left, right, out),
+        LaneCompare::Hi => each_block(LaneCompare::Hi, Width::B, vl, pg, left, right, out),
+        LaneCompare::Ge => each_block(LaneCompare::Ge, Width::B, vl, pg, left, right, out),
+        LaneCompare::Gt => each_block(LaneCompare::Gt, Width::B, vl, pg, left, right, out),
+        LaneCompare::Eq => each_block(LaneCompare::Eq, Width::B, vl, pg, left, right, out),
+        LaneCompare::Ne => each_block(LaneCompare::Ne, Width::B, vl, pg, left, right, out),
+    }
+}
+
+// The same of elements of 16 bits.
+#[inline(never)]
+fn compare_in_16(op: LaneCompare, vl: Vl, pg: &PReg, left: &ZReg, right: &ZReg, out: &mut PReg)
+    ensures { out.new.bits ≡ compare_of op Width.H (lanes vl Width.H) pg.now.bits left.now.bytes right.now.bytes }
+{
+    match op {
+        LaneCompare::Hs => each_block(LaneCompare::Hs, Width::H, vl, pg, left, right, out),
+        LaneCompare::Hi => each_block(LaneCompare::Hi, Width::H, vl, pg, left, right, out),
+        LaneCompare::Ge => each_block(LaneCompare::Ge, Width::H, vl, pg, left, right, out),
+        LaneCompare::Gt => each_block(LaneCompare::Gt, Width::H, vl, pg, left, right, out),
+        LaneCompare::Eq => each_block(LaneCompare::Eq, Width::H, vl, pg, left, right, out),
+        LaneCompare::Ne => each_block(LaneCompare::Ne, Width::H, vl, pg, left, right, out),
+    }
+}
+
+// The same of elements of 32 bits.
+#[inline(never)]
+fn compare_in_32(op: LaneCompare, vl: Vl, pg: &PReg, left: &ZReg, right: &ZReg, out: &mut PReg)
+    ensures { out.new.bits ≡ compare_of op Width.S (lanes vl Width.S) pg.now.bits left.now.bytes right.now.bytes }
+{
+    match op {
+        LaneCompare::Hs => each_block(LaneCompare::Hs, Width::S, vl, pg, left, right, out),
+        LaneCompare::Hi => each_block(LaneCompare::Hi, Width::S, vl, pg, left, right, out),
+        LaneCompare::Ge => each_block(LaneCompare::Ge, Width::S, vl, pg, left, right, out),
+        LaneCompare::Gt => each_block(LaneCompare::Gt, Width::S, vl, pg, left, right, out),
+        LaneCompare::Eq => each_block(LaneCompare::Eq, Width::S, vl, pg, left, right, out),
+        LaneCompare::Ne => each_block(LaneCompare::Ne, Width::S, vl, pg, left, right, out),
+    }
+}
+
+// The same of elements of 64 bits.
+#[inline(never)]
+fn compare_in_64(op: LaneCompare, vl: Vl, pg: &PReg, left: &ZReg, right: &ZReg, out: &mut PReg)
+    ensures { out.new.bits ≡ compare_of op Width.D (lanes vl Width.D) pg.now.bits left.now.bytes right.now.bytes }
+{
+    match op {
+        LaneCompare::Hs => each_block(LaneCompare::Hs, Width::D, vl, pg, left, right, out),
+        LaneCompare::Hi => each_block(LaneCompare::Hi, Width::D, vl, pg, left, right, out),
+        LaneCompare::Ge => each_block(LaneCompare::Ge, Width::D, vl, pg, left, right, out),
+        LaneCompare::Gt => each_block(LaneCompare::Gt, Width::D, vl, pg, left, right, out),
+        LaneCompare::Eq => each_block(LaneCompare::Eq, Width::D, vl, pg, left, right, out),
+        LaneCompare::Ne => each_block(LaneCompare::Ne, Width::D, vl, pg, left, right, out),
     }
 }
 
@@ -156,10 +194,10 @@ pub fn compare_into(
     ensures { out.new.bits ≡ compare_of op width (lanes vl width) pg.now.bits left.now.bytes right.now.bytes }
 {
     match width {
-        Width::B => by_operation(op, Width::B, vl, pg, left, right, out),
-        Width::H => by_operation(op, Width::H, vl, pg, left, right, out),
-        Width::S => by_operation(op, Width::S, vl, pg, left, right, out),
-        Width::D => by_operation(op, Width::D, vl, pg, left, right, out),
+        Width::B => compare_in_8(op, vl, pg, left, right, out),
+        Width::H => compare_in_16(op, vl, pg, left, right, out),
+        Width::S => compare_in_32(op, vl, pg, left, right, out),
+        Width::D => compare_in_64(op, vl, pg, left, right, out),
     }
 }
 

@@ -1,7 +1,7 @@
 //! The kernels of predicates: each gives a whole predicate register, a count or the flags.
 #![tactic(auto)]
 
-mod bits;
+pub mod bits;
 pub mod compare;
 pub mod logic;
 pub mod make;

@@ -1,21 +1,42 @@
 //! Questions about predicates.
 
-ghost use Rattle.std.specs.Prelude.{◌≡◌};
+ghost use Rattle.std.specs.Prelude.{◌≡◌, ℕ, ◌<◌, IsTrue, true};
 ghost use Rattle.guest_types.specs.Length.{lanes};
 ghost use Rattle.guest_types.specs.Elements.{active, pred_test, nzcv};
 ghost use Rattle.guest_types.specs.Lanes.{count_of};
+ghost use Rattle.lane_preds.specs.Bits.{both_of};
 
-use crate::bits::{count_bits, first_bit, first_elements, last_bit};
+use crate::bits::{all_elements, count_bits, first_bit, last_bit};
 use guest_types::length::{Vl, Width};
 use guest_types::predicate::PReg;
 use lane_blocks::mask::predicate_block;
+use std::simd::prelude::*;
+
+// Whether a predicate has each of these bits.
+#[inline(always)]
+fn has_bits(predicate: u8x32, bits: u8x32) -> bool
+    ensures { IsTrue result → both_of predicate bits ≡ bits }
+{
+    (predicate & bits).to_array() == bits.to_array()
+}
+
+/// Whether every element of a register of the length is true.
+#[inline(always)]
+pub fn is_all_true(width: Width, vl: Vl, p: &PReg) -> bool
+    ensures { IsTrue result → (e : ℕ) → e < lanes vl width → active width p.now.bits e ≡ true }
+{
+    let predicate = predicate_block(p);
+    let elements = all_elements(width, vl);
+    let is_all = has_bits(predicate, elements);
+    is_all
+}
 
 /// The number of elements of a register of the length that are true in both predicates (Arm DDI
 /// 0584: CNTP, INCP).
 pub fn count(width: Width, vl: Vl, pg: &PReg, p: &PReg) -> u32
     ensures { result ≡ count_of width (lanes vl width) pg.now.bits p.now.bits }
 {
-    let elements = first_elements(width, vl.lanes(width) as usize);
+    let elements = all_elements(width, vl);
     let mask = predicate_block(pg);
     let tested = predicate_block(p);
     count_bits(elements & (mask & tested))
@@ -25,7 +46,7 @@ pub fn count(width: Width, vl: Vl, pg: &PReg, p: &PReg) -> u32
 pub fn pred_test(width: Width, vl: Vl, mask: &PReg, outcome: &PReg) -> u8
     ensures { result ≡ nzcv (pred_test (active width mask.now.bits) (active width outcome.now.bits) (lanes vl width)) }
 {
-    let elements = first_elements(width, vl.lanes(width) as usize);
+    let elements = all_elements(width, vl);
     let active = elements & predicate_block(mask);
     let tested = predicate_block(outcome);
     let first = match first_bit(active) {

@@ -1,7 +1,5 @@
-use Rattle.std.proofs.Common.{◌≤◌, ◌∙◌, ap}
-use Rattle.guest_types.specs.Length.{width_bytes, lanes, all_lanes}
-use Rattle.guest_types.specs.Elements.{predicate}
-use Rattle.guest_types.specs.Lanes.{all_at}
+use Rattle.std.proofs.Common.{◌≤◌, ◌∙◌}
+use Rattle.guest_types.specs.Length.{lanes, all_lanes}
 use Rattle.guest_types.proofs.AtWidths.{lanes-bound}
 use Rattle.lane_preds.proofs.Patterns.{of-predicate}
 use Rattle.lane_preds.proofs.Counts.{count-is}
@@ -15,6 +13,6 @@ returns c =
     let p = c.args.p.now.bits in
     let x = of-predicate pg c.predicate_block-mask.result c.predicate_block-mask.ensures.value c.predicate_block-mask.ensures.len c.predicate_block-mask.ensures.bytes in
     let y = of-predicate p c.predicate_block-tested.result c.predicate_block-tested.ensures.value c.predicate_block-tested.ensures.len c.predicate_block-tested.ensures.bytes in
-    let fits : n ≤ all_lanes w = (lanes-bound c.args.vl w c.lanes.ensures.valid).1 in
-    let elements = c.first_elements-elements.ensures ∙ ap (predicate (width_bytes w) all_at) c.lanes.ensures.value in
-    c.count_bits.ensures ∙ count-is w n pg p c.first_elements-elements.result _ _ fits elements x y
+    let fits : n ≤ all_lanes w = (lanes-bound c.args.vl w c.all_elements-elements.ensures.valid).1 in
+    let elements = c.all_elements-elements.ensures.value in
+    c.count_bits.ensures ∙ count-is w n pg p c.all_elements-elements.result _ _ fits elements x y

@@ -1,8 +1,7 @@
 use Rattle.std.proofs.Common.{◌≡◌, ◌≤◌, ◌+◌, ◌*◌, not, ◌∙◌, ap, sym}
 use mir.Val.{bool_byte}
-use Rattle.guest_types.specs.Length.{width_bytes, lanes, all_lanes}
-use Rattle.guest_types.specs.Elements.{bit, predicate, true_at}
-use Rattle.guest_types.specs.Lanes.{all_at}
+use Rattle.guest_types.specs.Length.{lanes, all_lanes}
+use Rattle.guest_types.specs.Elements.{bit, true_at}
 use Rattle.guest_types.proofs.AtWidths.{lanes-bound}
 use Rattle.lane_preds.proofs.Patterns.{of-predicate}
 use Rattle.lane_preds.proofs.Flags.{flags-are, none-is}
@@ -27,8 +26,8 @@ returns c =
       | in-Some-last_bit w ↦ w.last-is ∙ w.bit-last.ensures ∙ ap (true_at (bit outcome)) (sym w.in-Some-last_bit.is)
       | in-None-last_bit w ↦ w.last-is ∙ ap (true_at (bit outcome)) (sym w.in-None-last_bit.is)
     ] in
-    let fits : n ≤ all_lanes w = (lanes-bound c.args.vl w c.lanes.ensures.valid).1 in
-    let elements = c.first_elements-elements.ensures ∙ ap (predicate (width_bytes w) all_at) c.lanes.ensures.value in
+    let fits : n ≤ all_lanes w = (lanes-bound c.args.vl w c.all_elements-elements.ensures.valid).1 in
+    let elements = c.all_elements-elements.ensures.value in
     ap (λ z. 8 * bool_byte c.match-first_bit.first + 4 * bool_byte z + 2 * bool_byte (not c.match-last_bit.last)) (none-is c.first_bit-2.result c.is_none-none.result c.is_none-none.ensures)
-    ∙ flags-are w n mask outcome c.first_elements-elements.result _ _ c.match-first_bit.first c.match-last_bit.last c.first_bit-2.result fits elements x y
+    ∙ flags-are w n mask outcome c.all_elements-elements.result _ _ c.match-first_bit.first c.match-last_bit.last c.first_bit-2.result fits elements x y
     (first ∙ ap (true_at (bit outcome)) c.first_bit.ensures.value) (last ∙ ap (true_at (bit outcome)) c.last_bit.ensures.value) c.first_bit-2.ensures.value

@@ -1,0 +1,188 @@
+// Loads and stores of lanes in one page, by the kernel and by a plain loop.
+
+ghost use Rattle.std.specs.Prelude.{◌≡◌, ◌+◌, ◌≤◌, ◌<◌, ◌^◌, IfOk};
+ghost use Rattle.guest_types.specs.Memory.{IsPage};
+ghost use Rattle.paged_memory.specs.Runs.{IsRun};
+
+use crate::operands::Operands;
+use crate::plain::elements;
+use crate::work::Access;
+use guest_types::guest::GuestMemory;
+use guest_types::image::{Image, PageMap};
+use guest_types::length::Width;
+use guest_types::memory::{AccessFault, PageBytes, PageNo, PageSpec, Perm};
+use guest_types::predicate::PReg;
+use guest_types::row::{LoadMode, LoadRow, StoreRow};
+use lane_memory::load::load_into;
+use lane_memory::store::store;
+use lane_memory::suppress::Suppress;
+use paged_memory::pages::Pages;
+use std::alloc::{AllocError, Global};
+
+/// The address of element 0.
+const BASE: u64 = 0x10040;
+
+// A page of zeros that may be written.
+fn page(alloc: Global, number: u64) -> Result<PageSpec, AllocError>
+    requires { number < 2 ^ 36 }
+    ensures number { IfOk result (λ page. page.page ≡ number) }
+    ensures valid { IfOk result IsPage }
+{
+    let bytes = PageBytes::new(vec![in alloc; 0u8; 4096]?);
+    let number = PageNo::new(number).unwrap();
+    Ok(PageSpec::new(number, Perm::ReadWrite, bytes))
+}
+
+// So many pages from a number on.
+fn run(alloc: Global, from: u64, count: u64) -> Result<Vec<PageSpec>, AllocError>
+    requires { from + count ≤ 2 ^ 36 }
+    ensures { IfOk result (λ pages. IsRun from count pages.items) }
+{
+    let mut pages = Vec::new(alloc);
+    for k in 0..count {
+        pages.push(page(alloc, from + k)?)?;
+    }
+    Ok(pages)
+}
+
+/// Four pages that may be written.
+pub fn built(alloc: Global) -> Result<Pages, AllocError> {
+    let image = Image {
+        entry: 0,
+        code_from: 0,
+        code_end: 0,
+        pages: run(alloc, 0x10, 2)?,
+    };
+    let map = PageMap {
+        pages: run(alloc, 0x20, 2)?,
+    };
+    let pages = Pages::build(alloc, &image, &map)?;
+    Ok(pages)
+}
+
+fn load_row(width: Width) -> LoadRow {
+    LoadRow {
+        dtype: match width {
+            Width::B => 0,
+            Width::H => 5,
+            Width::S => 10,
+            Width::D => 15,
+        },
+    }
+}
+
+fn store_row(width: Width) -> StoreRow {
+    let size = match width {
+        Width::B => 0,
+        Width::H => 1,
+        Width::S => 2,
+        Width::D => 3,
+    };
+    StoreRow { msz: size, size }
+}
+
+fn load_by_kernel(pages: &Pages, mode: LoadMode, s: &mut Operands) -> Result<(), AccessFault> {
+    let mut stops = Suppress::none();
+    load_into(
+        pages,
+        mode,
+        load_row(s.width),
+        BASE,
+        s.total & 1,
+        s.vl,
+        &s.mask,
+        &mut s.truths,
+        &mut stops,
+        &mut s.out,
+    )
+}
+
+/// One access by its kernel.
+#[inline(never)]
+pub fn by_kernel(access: Access, pages: &mut Pages, s: &mut Operands) -> Result<(), AccessFault> {
+    match access {
+        Access::Load => load_by_kernel(pages, LoadMode::Plain, s),
+        Access::FirstFaultLoad => load_by_kernel(pages, LoadMode::FirstFault, s),
+        Access::NonFaultLoad => load_by_kernel(pages, LoadMode::NonFault, s),
+        Access::Store => {
+            store(
+                pages,
+                store_row(s.width),
+                BASE,
+                s.total & 1,
+                s.vl,
+                &s.mask,
+                &s.left,
+            )
+        }
+    }
+}
+
+// The address of an element.
+#[inline(always)]
+fn address(s: &Operands, e: usize) -> u64 {
+    let k = s.width.bytes() as u64;
+    (e as u64)
+        .wrapping_add(s.total & 1)
+        .wrapping_mul(k)
+        .wrapping_add(BASE)
+}
+
+fn load_each(pages: &Pages, s: &mut Operands) -> Result<(), AccessFault> {
+    let width = s.width;
+    for e in 0..elements(width, s.vl) {
+        let value = if s.mask.is_active(width, e) {
+            pages.load(address(s, e), width.bytes() as u32)?
+        } else {
+            0
+        };
+        s.out.put(width, e, value);
+    }
+    Ok(())
+}
+
+// As LDFF1 and LDNF1: nothing is read from the first fault on, where FFR is cleared.
+fn load_each_early(pages: &Pages, s: &mut Operands) {
+    let width = s.width;
+    let mut is_over = false;
+    for e in 0..elements(width, s.vl) {
+        let mut value = 0;
+        is_over |= !s.truths.is_active(width, e);
+        if !is_over && s.mask.is_active(width, e) {
+            match pages.load(address(s, e), width.bytes() as u32) {
+                Ok(read) => value = read,
+                Err(_) => {
+                    is_over = true;
+                    s.truths = PReg::none();
+                }
+            }
+        }
+        s.out.put(width, e, value);
+    }
+}
+
+fn store_each(pages: &mut Pages, s: &Operands) -> Result<(), AccessFault> {
+    for e in 0..elements(s.width, s.vl) {
+        if s.mask.is_active(s.width, e) {
+            pages.store(
+                address(s, e),
+                s.width.bytes() as u32,
+                s.left.element(s.width, e),
+            )?;
+        }
+    }
+    Ok(())
+}
+
+/// The same access, element by element.
+#[inline(never)]
+pub fn by_loop(access: Access, pages: &mut Pages, s: &mut Operands) -> Result<(), AccessFault> {
+    match access {
+        Access::Load => load_each(pages, s),
+        Access::FirstFaultLoad | Access::NonFaultLoad => {
+            load_each_early(pages, s);
+            Ok(())
+        }
+        Access::Store => store_each(pages, s),
+    }
+}

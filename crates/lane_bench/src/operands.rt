@@ -1,0 +1,71 @@
+// What a kernel is timed on.
+
+use guest_types::length::{Vl, Width};
+use guest_types::predicate::PReg;
+use guest_types::register::ZReg;
+use lane_preds::make::all_true;
+
+/// Registers that a kernel reads and writes.
+#[derive(Drop)]
+pub struct Operands {
+    pub vl: Vl,
+    pub width: Width,
+    pub mask: PReg,
+    pub tested: PReg,
+    pub truths: PReg,
+    pub left: ZReg,
+    pub right: ZReg,
+    pub out: ZReg,
+    pub total: u64,
+}
+
+// Two of three elements.
+fn ragged(width: Width, vl: Vl) -> PReg {
+    let mut mask = PReg::none();
+    for e in 0..vl.lanes(width) as usize {
+        mask.put(width.bytes() * e, e % 3 != 1);
+    }
+    mask
+}
+
+// The last bit of a predicate of the length alone, so that no loop ends early.
+fn last_bit(vl: Vl) -> PReg {
+    let mut last = PReg::none();
+    last.bits[(vl.bits() / 64 - 1) as usize] = 0x80;
+    last
+}
+
+fn filled(from: u8, by: u8, vl: Vl) -> ZReg {
+    let mut z = ZReg::zero();
+    let mut byte = from;
+    for e in 0..vl.lanes(Width::B) as usize {
+        z.bytes[e] = byte;
+        byte = byte.wrapping_mul(5).wrapping_add(by);
+    }
+    z
+}
+
+impl Operands {
+    /// Bytes of all kinds, and a mask of which every element or two of three are true.
+    pub fn new(width: Width, vl: Vl, is_ragged: bool) -> Operands {
+        let all = all_true(width, vl);
+        Operands {
+            vl,
+            width,
+            mask: if is_ragged { ragged(width, vl) } else { all },
+            tested: last_bit(vl),
+            truths: all_true(Width::B, vl),
+            left: filled(3, 7, vl),
+            right: filled(250, 11, vl),
+            out: ZReg::zero(),
+            total: 1,
+        }
+    }
+
+    /// Makes the next call depend on what the last one gave.
+    #[inline(always)]
+    pub fn go_on(&mut self) {
+        self.left.bytes[0] ^= self.out.bytes[5];
+        self.tested.bits[31] ^= self.truths.bits[0] & 1;
+    }
+}

@@ -1,0 +1,14 @@
+use Rattle.std.proofs.Common.{◌≡◌, ◌+◌, ◌-◌, ◌*◌, length, take, drop, ap, ap₂, ◌∙◌, arith}
+use Rattle.guest_types.specs.Length.{width_bytes}
+use Rattle.lane_memory.proofs.WriteLaws.{whole-part}
+use Rattle.lane_memory.proofs.write.write_whole.Goals as goal
+
+pub returns : goal.returns
+returns c =
+    let w = c.args.writing in
+    let z = c.args.z.now.bytes in
+    let part = c.args.part.now in
+    let at = c.bytes.result * c.args.from in
+    let size : at + length part - at ≡ width_bytes w.element * c.args.count = omega (arith, c.requires.part, ap (λ w. width_bytes w * c.args.count) c.requires.same) in
+    whole-part w c.args.pg.now.bits z c.args.from c.args.count part _ c.requires.same c.requires.part c.requires.inside c.blocks_of-blocks.ensures.len c.blocks_of-blocks.ensures.bytes c.requires.full
+    (c.copy_from_slice.ensures.after ∙ ap₂ (λ n l. take n (drop l z)) size (ap (λ k. k * c.args.from) c.bytes.ensures))
