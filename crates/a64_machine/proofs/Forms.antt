@@ -4,7 +4,7 @@ use Rattle.a64_code.specs.declared.LoadStoreByteOp.{LoadStoreByteOp}
 use Rattle.a64_code.specs.declared.LoadStoreByteOp.TheVariants.{Ldrb, Ldrsb, Strb}
 use Rattle.a64_code.specs.declared.LoadStoreOp.{LoadStoreOp}
 use Rattle.a64_code.specs.declared.LoadStoreOp.TheVariants.{Ldrh, LdrW, LdrX, Ldrsh, Ldrsw, Strh, StrW, StrX}
-use Rattle.a64_code.specs.Seen.{byte_imm_name, wide_imm_name, byte_register_name, wide_register_name}
+use Rattle.a64_code.specs.View.{byte_imm_name, wide_imm_name, byte_register_name, wide_register_name}
 use Rattle.machine_model.specs.Arithmetic.{sum}
 use Rattle.machine_model.specs.Machine.{State, Step, x_at, x_or_sp}
 use Rattle.machine_model.specs.Answers.{IsAnswer}

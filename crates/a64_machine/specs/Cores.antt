@@ -11,7 +11,7 @@ use Rattle.machine_model.specs.declared.outcome.Step.TheVariants.{Went, Ended, S
 use Rattle.a64_machine.specs.declared.core_state.Core.{Core}
 
 -- the parts of the state that A64 instructions leave alone
-pub record Rest : Type 0 where
+pub record VectorState : Type 0 where
   pub z : List (List ℕ)
   pub p : List (List ℕ)
   pub ffr : List ℕ
@@ -26,7 +26,7 @@ is_set number k = nat_eq (number / 2 ^ k % 2) 1
 abbrev pub flags_in : ℕ → Flags
 flags_in number = record { n = is_set number 3; z = is_set number 2; c = is_set number 1; v = is_set number 0 }
 
-abbrev pub state_of : Core → Memory → Rest → State
+abbrev pub state_of : Core → Memory → VectorState → State
 state_of core memory rest = record {
   memory = memory;
   pc = core.pc;
@@ -41,15 +41,15 @@ state_of core memory rest = record {
 }
 
 -- Where the instruction is UMOV, `vzero` is doubleword 0 of the vector register that it reads.
-abbrev pub HasVector : A64 → Core → Rest → Type 0
+abbrev pub HasVector : A64 → Core → VectorState → Type 0
 HasVector (Umov rd vn) core rest = core.vzero ≡ element 8 (slice_index_or rest.z vn.number []) 0
 HasVector _ core rest = Unit {0}
 
 -- where a step ends or stops, the fact
-abbrev pub UnlessWent : Step → Type 0 → Type 0
-UnlessWent Went fact = Unit {0}
-UnlessWent Ended fact = fact
-UnlessWent (Stopped stop) fact = fact
+abbrev pub OnStop : Step → Type 0 → Type 0
+OnStop Went fact = Unit {0}
+OnStop Ended fact = fact
+OnStop (Stopped stop) fact = fact
 
 -- what a call answers that says whether the step went, and leaves the answer elsewhere where it did not
 abbrev pub said : Bool → Step → Step

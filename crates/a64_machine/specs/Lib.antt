@@ -1,3 +1,4 @@
 pub mod Cores
 pub mod Accesses
 pub mod Forms
+pub mod Prepared

@@ -4,7 +4,7 @@ ghost use Rattle.std.specs.Prelude.{◌≡◌, ◌<◌, ◌+◌, ◌-◌, ◌*�
 ghost use Rattle.machine_model.specs.Answers.{IsAnswer};
 ghost use Rattle.machine_model.specs.Effects.{load_to, store_from, from_byte, from_half, from_word};
 ghost use Rattle.machine_model.specs.declared.outcome.StopKind.TheVariants.{Read, Write};
-ghost use Rattle.a64_machine.specs.Cores.{Rest, state_of, UnlessWent, said};
+ghost use Rattle.a64_machine.specs.Cores.{VectorState, state_of, OnStop, said};
 ghost use Rattle.a64_machine.specs.Accesses.{extended, byte_access, access};
 
 use crate::core_state::Core;
@@ -52,7 +52,7 @@ fn sign_extended(value: u64, greatest: u64) -> u64
 /// Stops at a byte that may not be accessed. The step did not go.
 #[cold]
 #[inline(never)]
-fn refused(core: &Core, kind: StopKind, fault: AccessFault, answer: &mut Step) -> bool
+pub fn refused(core: &Core, kind: StopKind, fault: AccessFault, answer: &mut Step) -> bool
     ensures went { result ≡ false }
     ensures answer { answer.new ≡ Step.Stopped (record { kind = kind; pc = core.now.pc; at = fault.address }) }
 {
@@ -76,10 +76,10 @@ fn load<M: GuestMemory>(
     answer: &mut Step,
 ) -> bool
     requires { (size ≡ 1) ⊎ (size ≡ 2) ⊎ (size ≡ 4) ⊎ (size ≡ 8) }
-    ensures answer { (rest : Rest) → let before = state_of core.old (M.memory memory.now) rest in
+    ensures answer { (rest : VectorState) → let before = state_of core.old (M.memory memory.now) rest in
         IsAnswer (load_to before rt.number address size (extended extension)) (said result answer.new) before
         (state_of core.new (M.memory memory.now) rest) }
-    ensures kept { UnlessWent (said result answer.new) (core.new ≡ core.old) }
+    ensures kept { OnStop (said result answer.new) (core.new ≡ core.old) }
 {
     match memory.load(address, size) {
         Ok(value) => {
@@ -102,11 +102,11 @@ fn store<M: GuestMemory>(
     answer: &mut Step,
 ) -> bool
     requires { (size ≡ 1) ⊎ (size ≡ 2) ⊎ (size ≡ 4) ⊎ (size ≡ 8) }
-    ensures answer { (rest : Rest) → let before = state_of core.old (M.memory memory.old) rest in
+    ensures answer { (rest : VectorState) → let before = state_of core.old (M.memory memory.old) rest in
         IsAnswer (store_from before rt.number address size) (said result answer.new) before
         (state_of core.new (M.memory memory.new) rest) }
-    ensures kept { UnlessWent (said result answer.new) (core.new ≡ core.old) }
-    ensures kept_memory { UnlessWent (said result answer.new) (M.memory memory.new ≡ M.memory memory.old) }
+    ensures kept { OnStop (said result answer.new) (core.new ≡ core.old) }
+    ensures kept_memory { OnStop (said result answer.new) (M.memory memory.new ≡ M.memory memory.old) }
 {
     let value = core.register(rt);
     match memory.store(address, size, value) {
@@ -128,11 +128,11 @@ pub fn byte_access<M: GuestMemory>(
     address: u64,
     answer: &mut Step,
 ) -> bool
-    ensures answer { (rest : Rest) → let before = state_of core.old (M.memory memory.old) rest in
+    ensures answer { (rest : VectorState) → let before = state_of core.old (M.memory memory.old) rest in
         IsAnswer (byte_access op before rt.number address) (said result answer.new) before
         (state_of core.new (M.memory memory.new) rest) }
-    ensures kept { UnlessWent (said result answer.new) (core.new ≡ core.old) }
-    ensures kept_memory { UnlessWent (said result answer.new) (M.memory memory.new ≡ M.memory memory.old) }
+    ensures kept { OnStop (said result answer.new) (core.new ≡ core.old) }
+    ensures kept_memory { OnStop (said result answer.new) (M.memory memory.new ≡ M.memory memory.old) }
 {
     match op {
         LoadStoreByteOp::Ldrb => load(core, memory, rt, address, 1, Extension::Zero, answer),
@@ -151,11 +151,11 @@ pub fn access<M: GuestMemory>(
     address: u64,
     answer: &mut Step,
 ) -> bool
-    ensures answer { (rest : Rest) → let before = state_of core.old (M.memory memory.old) rest in
+    ensures answer { (rest : VectorState) → let before = state_of core.old (M.memory memory.old) rest in
         IsAnswer (access op before rt.number address) (said result answer.new) before
         (state_of core.new (M.memory memory.new) rest) }
-    ensures kept { UnlessWent (said result answer.new) (core.new ≡ core.old) }
-    ensures kept_memory { UnlessWent (said result answer.new) (M.memory memory.new ≡ M.memory memory.old) }
+    ensures kept { OnStop (said result answer.new) (core.new ≡ core.old) }
+    ensures kept_memory { OnStop (said result answer.new) (M.memory memory.new ≡ M.memory memory.old) }
 {
     match op {
         LoadStoreOp::Ldrh => load(core, memory, rt, address, 2, Extension::Zero, answer),

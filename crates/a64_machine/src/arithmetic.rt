@@ -1,7 +1,7 @@
 // Numbers of 64 bits as the A64 instructions compute with them.
 
 ghost use Rattle.std.specs.Prelude.{◌≡◌, ◌<◌, ◌≤◌, ◌*◌, ◌+◌, ◌^◌, ◌%◌};
-ghost use Rattle.a64_code.specs.Seen.{shift_number, add_sub_shift_number};
+ghost use Rattle.a64_code.specs.View.{shift_number, add_sub_shift_number};
 ghost use Rattle.machine_model.specs.Arithmetic.{sum, difference, inverted, shifted, replaced, target};
 
 use a64_code::{AddSubShift, Shift};

@@ -1,7 +1,8 @@
 // Condition flags.
 
 ghost use Rattle.std.specs.Prelude.{◌≡◌, ◌<◌, ◌^◌};
-ghost use Rattle.a64_code.specs.Seen.{cond_number};
+ghost use Rattle.guest_types.specs.Elements.{Flags, nzcv};
+ghost use Rattle.a64_code.specs.View.{cond_number};
 ghost use Rattle.machine_model.specs.Arithmetic.{flags_of, holds};
 ghost use Rattle.a64_machine.specs.Cores.{flags_in, is_set};
 
@@ -67,4 +68,45 @@ pub fn holds(cond: Cond, nzcv: u8) -> bool
         Cond::Le => z | (n != v),
         Cond::Al => true,
     }
+}
+
+/// The flags as a number below 16, V the lowest.
+#[inline(always)]
+pub fn flag_bits(number: u8) -> u8
+    ensures value { result ≡ nzcv (flags_in number) }
+    ensures small { result < 16 }
+{
+    number & 0xf
+}
+
+/// The flags by which a condition holds: bit k is 1 where it does by the flags that are the number k.
+pub fn holding(cond: Cond) -> u16
+    ensures { (f : Flags) → is_set result (nzcv f) ≡ holds (cond_number cond) f }
+{
+    match cond {
+        Cond::Eq => 0xf0f0,
+        Cond::Ne => 0x0f0f,
+        Cond::Hs => 0xcccc,
+        Cond::Lo => 0x3333,
+        Cond::Mi => 0xff00,
+        Cond::Pl => 0x00ff,
+        Cond::Vs => 0xaaaa,
+        Cond::Vc => 0x5555,
+        Cond::Hi => 0x0c0c,
+        Cond::Ls => 0xf3f3,
+        Cond::Ge => 0xaa55,
+        Cond::Lt => 0x55aa,
+        Cond::Gt => 0x0a05,
+        Cond::Le => 0xf5fa,
+        Cond::Al => 0xffff,
+    }
+}
+
+/// Whether a bit of a number of 16 bits is 1.
+#[inline(always)]
+pub fn is_in(number: u16, bit: u8) -> bool
+    requires { bit < 16 }
+    ensures { result ≡ is_set number bit }
+{
+    (number >> bit) & 1 == 1
 }

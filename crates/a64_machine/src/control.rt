@@ -2,13 +2,13 @@
 
 ghost use Rattle.std.specs.Prelude.{◌≡◌, [], ◌∷◌, slice_index};
 ghost use Rattle.guest_types.specs.Memory.{Memory};
-ghost use Rattle.a64_code.specs.Seen.{branch_zero_name, exception_name, cond_number};
+ghost use Rattle.a64_code.specs.View.{branch_zero_name, exception_name, cond_number};
 ghost use Rattle.a64_code.specs.Table.{b_cond};
 ghost use Rattle.machine_model.specs.Arithmetic.{target};
 ghost use Rattle.machine_model.specs.Machine.{Went};
 ghost use Rattle.machine_model.specs.Answers.{IsAnswer};
 ghost use Rattle.machine_model.specs.Effects.{act};
-ghost use Rattle.a64_machine.specs.Cores.{Rest, state_of, said};
+ghost use Rattle.a64_machine.specs.Cores.{VectorState, state_of, said};
 
 use crate::arithmetic::target;
 use crate::conditions::holds;
@@ -29,7 +29,7 @@ pub fn branch(core: &mut Core, imm26: Bits<26>)
 /// "B.cond".
 #[inline(always)]
 pub fn branch_conditional(core: &mut Core, cond: Cond, imm19: Bits<19>)
-    ensures { (memory : Memory) (rest : Rest) →
+    ensures { (memory : Memory) (rest : VectorState) →
         act b_cond (cond_number cond ∷ imm19.number ∷ []) (state_of core.old memory rest)
         ≡ Went (state_of core.new memory rest) }
 {
@@ -41,7 +41,7 @@ pub fn branch_conditional(core: &mut Core, cond: Cond, imm19: Bits<19>)
 /// "CBZ", "CBNZ".
 #[inline(always)]
 pub fn compare_branch(core: &mut Core, op: CompareBranchOp, rt: Reg, imm19: Bits<19>)
-    ensures { (memory : Memory) (rest : Rest) →
+    ensures { (memory : Memory) (rest : VectorState) →
         act (branch_zero_name op) (rt.number ∷ imm19.number ∷ []) (state_of core.old memory rest)
         ≡ Went (state_of core.new memory rest) }
 {
@@ -64,7 +64,7 @@ pub fn return_to(core: &mut Core, rn: Reg)
 // The answer to an exception.
 #[inline(always)]
 fn taken(core: &Core, op: ExceptionOp, imm16: Bits<16>) -> Step
-    ensures { (memory : Memory) (rest : Rest) → let here = state_of core.now memory rest in
+    ensures { (memory : Memory) (rest : VectorState) → let here = state_of core.now memory rest in
         IsAnswer (act (exception_name op) (imm16.number ∷ []) here) result here here }
 {
     let pc = core.pc;
@@ -93,7 +93,7 @@ fn taken(core: &Core, op: ExceptionOp, imm16: Bits<16>) -> Step
 #[cold]
 #[inline(never)]
 pub fn exception(core: &Core, op: ExceptionOp, imm16: Bits<16>, answer: &mut Step) -> bool
-    ensures { (memory : Memory) (rest : Rest) → let here = state_of core.now memory rest in
+    ensures { (memory : Memory) (rest : VectorState) → let here = state_of core.now memory rest in
         IsAnswer (act (exception_name op) (imm16.number ∷ []) here) (said result answer.new) here here }
 {
     *answer = taken(core, op, imm16);

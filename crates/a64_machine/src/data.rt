@@ -3,10 +3,10 @@
 ghost use Rattle.std.specs.Prelude.{◌≡◌, ◌+◌, ◌*◌, ◌%◌, ◌^◌, [], ◌∷◌, slice_set, if◌then◌else◌};
 ghost use Rattle.guest_types.specs.Memory.{Memory};
 ghost use Rattle.word_rows.specs.Field.{flag_number};
-ghost use Rattle.a64_code.specs.Seen.{add_sub_imm_name, add_sub_shifted_name, logical_name, move_wide_name, multiply_add_name, shift_variable_name, bitfield_name, select_name, add_sub_shift_number, shift_number, cond_number};
+ghost use Rattle.a64_code.specs.View.{add_sub_imm_name, add_sub_shifted_name, logical_name, move_wide_name, multiply_add_name, shift_variable_name, bitfield_name, select_name, add_sub_shift_number, shift_number, cond_number};
 ghost use Rattle.machine_model.specs.Machine.{Went};
 ghost use Rattle.machine_model.specs.Effects.{act};
-ghost use Rattle.a64_machine.specs.Cores.{Rest, state_of};
+ghost use Rattle.a64_machine.specs.Cores.{VectorState, state_of};
 
 use crate::arithmetic::{moved, replaced, shifted, shifted_to_add};
 use crate::bit_fields::{signed_field, unsigned_field};
@@ -21,7 +21,7 @@ use word_rows::Bits;
 
 /// An immediate of 12 bits, shifted left by 12 where `sh`.
 #[inline(always)]
-fn immediate(imm12: Bits<12>, sh: bool) -> u64
+pub fn immediate(imm12: Bits<12>, sh: bool) -> u64
     ensures { result ≡ imm12.number * 2 ^ (12 * flag_number sh) }
 {
     if sh {
@@ -34,7 +34,7 @@ fn immediate(imm12: Bits<12>, sh: bool) -> u64
 /// "ADD (immediate)", "SUB (immediate)", "SUBS (immediate)".
 #[inline(always)]
 pub fn add_sub_immediate(core: &mut Core, op: AddSubOp, rd: Reg, rn: Reg, imm12: Bits<12>, sh: bool)
-    ensures { (memory : Memory) (rest : Rest) →
+    ensures { (memory : Memory) (rest : VectorState) →
         act (add_sub_imm_name op) (rd.number ∷ rn.number ∷ imm12.number ∷ flag_number sh ∷ [])
         (state_of core.old memory rest)
         ≡ Went (state_of core.new memory rest) }
@@ -59,7 +59,7 @@ pub fn add_sub_shifted(
     rm: Reg,
     shift: AddSubShift,
 )
-    ensures { (memory : Memory) (rest : Rest) →
+    ensures { (memory : Memory) (rest : VectorState) →
         act (add_sub_shifted_name op) (rd.number ∷ rn.number ∷ imm6.number ∷ rm.number ∷ add_sub_shift_number shift
         ∷ []) (state_of core.old memory rest)
         ≡ Went (state_of core.new memory rest) }
@@ -85,7 +85,7 @@ pub fn logical(
     rm: Reg,
     shift: Shift,
 )
-    ensures { (memory : Memory) (rest : Rest) →
+    ensures { (memory : Memory) (rest : VectorState) →
         act (logical_name op) (rd.number ∷ rn.number ∷ imm6.number ∷ rm.number ∷ shift_number shift ∷ [])
         (state_of core.old memory rest)
         ≡ Went (state_of core.new memory rest) }
@@ -103,7 +103,7 @@ pub fn logical(
 /// "MOVZ", "MOVK", "MOVN".
 #[inline(always)]
 pub fn move_wide(core: &mut Core, op: MoveWideOp, rd: Reg, imm16: Bits<16>, hw: Bits<2>)
-    ensures { (memory : Memory) (rest : Rest) →
+    ensures { (memory : Memory) (rest : VectorState) →
         act (move_wide_name op) (rd.number ∷ imm16.number ∷ hw.number ∷ []) (state_of core.old memory rest)
         ≡ Went (state_of core.new memory rest) }
 {
@@ -120,7 +120,7 @@ pub fn move_wide(core: &mut Core, op: MoveWideOp, rd: Reg, imm16: Bits<16>, hw: 
 /// "MADD", "MSUB".
 #[inline(always)]
 pub fn multiply_add(core: &mut Core, op: MultiplyOp, rd: Reg, rn: Reg, ra: Reg, rm: Reg)
-    ensures { (memory : Memory) (rest : Rest) →
+    ensures { (memory : Memory) (rest : VectorState) →
         act (multiply_add_name op) (rd.number ∷ rn.number ∷ ra.number ∷ rm.number ∷ []) (state_of core.old memory rest)
         ≡ Went (state_of core.new memory rest) }
 {
@@ -135,7 +135,7 @@ pub fn multiply_add(core: &mut Core, op: MultiplyOp, rd: Reg, rn: Reg, ra: Reg, 
 /// "LSLV", "LSRV", "ASRV".
 #[inline(always)]
 pub fn shift_variable(core: &mut Core, op: ShiftVariableOp, rd: Reg, rn: Reg, rm: Reg)
-    ensures { (memory : Memory) (rest : Rest) →
+    ensures { (memory : Memory) (rest : VectorState) →
         act (shift_variable_name op) (rd.number ∷ rn.number ∷ rm.number ∷ []) (state_of core.old memory rest)
         ≡ Went (state_of core.new memory rest) }
 {
@@ -151,7 +151,7 @@ pub fn shift_variable(core: &mut Core, op: ShiftVariableOp, rd: Reg, rn: Reg, rm
 /// "SBFM", "UBFM".
 #[inline(always)]
 pub fn bitfield(core: &mut Core, op: BitfieldOp, rd: Reg, rn: Reg, imms: Bits<6>, immr: Bits<6>)
-    ensures { (memory : Memory) (rest : Rest) →
+    ensures { (memory : Memory) (rest : VectorState) →
         act (bitfield_name op) (rd.number ∷ rn.number ∷ imms.number ∷ immr.number ∷ []) (state_of core.old memory rest)
         ≡ Went (state_of core.new memory rest) }
 {
@@ -173,7 +173,7 @@ fn choose(chosen: bool, yes: u64, no: u64) -> u64
 /// "CSEL", "CSINC".
 #[inline(always)]
 pub fn conditional_select(core: &mut Core, op: SelectOp, rd: Reg, rn: Reg, cond: Cond, rm: Reg)
-    ensures { (memory : Memory) (rest : Rest) →
+    ensures { (memory : Memory) (rest : VectorState) →
         act (select_name op) (rd.number ∷ rn.number ∷ cond_number cond ∷ rm.number ∷ []) (state_of core.old memory rest)
         ≡ Went (state_of core.new memory rest) }
 {

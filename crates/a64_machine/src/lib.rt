@@ -11,12 +11,20 @@ mod data;
 mod laws;
 mod load_store;
 mod one_step;
+mod prepared_form;
+mod prepared_step;
+mod preparing;
 mod registers;
 mod writes;
 
+pub use accesses::refused;
+pub use conditions::flag_bits;
 pub use core_state::Core;
 pub use laws::flags_are_kept;
 pub use one_step::{a64_goes, a64_step};
+pub use prepared_form::{General, Prepared};
+pub use prepared_step::prepared_goes;
+pub use preparing::prepare;
 
 #[cfg(test)]
 mod tests;

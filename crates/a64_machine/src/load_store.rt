@@ -2,11 +2,11 @@
 
 ghost use Rattle.std.specs.Prelude.{◌≡◌, ◌≤◌, ◌*◌, ◌%◌, ◌^◌, [], ◌∷◌, nat_eq, slice_index, if◌then◌else◌};
 ghost use Rattle.word_rows.specs.Field.{flag_number};
-ghost use Rattle.a64_code.specs.Seen.{byte_imm_name, wide_imm_name, byte_register_name, wide_register_name};
+ghost use Rattle.a64_code.specs.View.{byte_imm_name, wide_imm_name, byte_register_name, wide_register_name};
 ghost use Rattle.machine_model.specs.Arithmetic.{sum};
 ghost use Rattle.machine_model.specs.Answers.{IsAnswer};
 ghost use Rattle.machine_model.specs.Effects.{act};
-ghost use Rattle.a64_machine.specs.Cores.{Rest, state_of, UnlessWent, said};
+ghost use Rattle.a64_machine.specs.Cores.{VectorState, state_of, OnStop, said};
 ghost use Rattle.a64_machine.specs.Accesses.{logarithm};
 
 use crate::accesses::{access, byte_access};
@@ -18,7 +18,7 @@ use word_rows::Bits;
 
 /// The logarithm of the number of bytes that a load or a store accesses.
 #[inline(always)]
-fn logarithm(op: LoadStoreOp) -> u32
+pub fn logarithm(op: LoadStoreOp) -> u32
     ensures value { result ≡ logarithm op }
     ensures small { result ≤ 3 }
 {
@@ -36,7 +36,7 @@ fn logarithm(op: LoadStoreOp) -> u32
 
 /// How far the offset register is shifted: by the logarithm of the number of bytes, where `scaled`.
 #[inline(always)]
-fn scale(op: LoadStoreOp, scaled: bool) -> u32
+pub fn scale(op: LoadStoreOp, scaled: bool) -> u32
     ensures value { result ≡ logarithm op * flag_number scaled }
     ensures small { result ≤ 3 }
 {
@@ -85,11 +85,11 @@ pub fn byte_immediate<M: GuestMemory>(
     imm12: Bits<12>,
     answer: &mut Step,
 ) -> bool
-    ensures answer { (rest : Rest) → let before = state_of core.old (M.memory memory.old) rest in
+    ensures answer { (rest : VectorState) → let before = state_of core.old (M.memory memory.old) rest in
         IsAnswer (act (byte_imm_name op) (rt.number ∷ rn.number ∷ imm12.number ∷ []) before)
         (said result answer.new) before (state_of core.new (M.memory memory.new) rest) }
-    ensures kept { UnlessWent (said result answer.new) (core.new ≡ core.old) }
-    ensures kept_memory { UnlessWent (said result answer.new) (M.memory memory.new ≡ M.memory memory.old) }
+    ensures kept { OnStop (said result answer.new) (core.new ≡ core.old) }
+    ensures kept_memory { OnStop (said result answer.new) (M.memory memory.new ≡ M.memory memory.old) }
 {
     let address = at_offset(core, rn, imm12, 0);
     byte_access(core, memory, op, rt, address, answer)
@@ -107,11 +107,11 @@ pub fn wide_immediate<M: GuestMemory>(
     imm12: Bits<12>,
     answer: &mut Step,
 ) -> bool
-    ensures answer { (rest : Rest) → let before = state_of core.old (M.memory memory.old) rest in
+    ensures answer { (rest : VectorState) → let before = state_of core.old (M.memory memory.old) rest in
         IsAnswer (act (wide_imm_name op) (rt.number ∷ rn.number ∷ imm12.number ∷ []) before)
         (said result answer.new) before (state_of core.new (M.memory memory.new) rest) }
-    ensures kept { UnlessWent (said result answer.new) (core.new ≡ core.old) }
-    ensures kept_memory { UnlessWent (said result answer.new) (M.memory memory.new ≡ M.memory memory.old) }
+    ensures kept { OnStop (said result answer.new) (core.new ≡ core.old) }
+    ensures kept_memory { OnStop (said result answer.new) (M.memory memory.new ≡ M.memory memory.old) }
 {
     let address = at_offset(core, rn, imm12, logarithm(op));
     access(core, memory, op, rt, address, answer)
@@ -128,11 +128,11 @@ pub fn byte_register<M: GuestMemory>(
     rm: Reg,
     answer: &mut Step,
 ) -> bool
-    ensures answer { (rest : Rest) → let before = state_of core.old (M.memory memory.old) rest in
+    ensures answer { (rest : VectorState) → let before = state_of core.old (M.memory memory.old) rest in
         IsAnswer (act (byte_register_name op) (rt.number ∷ rn.number ∷ rm.number ∷ []) before)
         (said result answer.new) before (state_of core.new (M.memory memory.new) rest) }
-    ensures kept { UnlessWent (said result answer.new) (core.new ≡ core.old) }
-    ensures kept_memory { UnlessWent (said result answer.new) (M.memory memory.new ≡ M.memory memory.old) }
+    ensures kept { OnStop (said result answer.new) (core.new ≡ core.old) }
+    ensures kept_memory { OnStop (said result answer.new) (M.memory memory.new ≡ M.memory memory.old) }
 {
     let address = at_register(core, rn, rm);
     byte_access(core, memory, op, rt, address, answer)
@@ -151,12 +151,12 @@ pub fn wide_register<M: GuestMemory>(
     rm: Reg,
     answer: &mut Step,
 ) -> bool
-    ensures answer { (rest : Rest) → let before = state_of core.old (M.memory memory.old) rest in
+    ensures answer { (rest : VectorState) → let before = state_of core.old (M.memory memory.old) rest in
         IsAnswer (act (wide_register_name op) (rt.number ∷ rn.number ∷ flag_number scaled ∷ rm.number ∷ []) before)
         (said result answer.new) before
         (state_of core.new (M.memory memory.new) rest) }
-    ensures kept { UnlessWent (said result answer.new) (core.new ≡ core.old) }
-    ensures kept_memory { UnlessWent (said result answer.new) (M.memory memory.new ≡ M.memory memory.old) }
+    ensures kept { OnStop (said result answer.new) (core.new ≡ core.old) }
+    ensures kept_memory { OnStop (said result answer.new) (M.memory memory.new ≡ M.memory memory.old) }
 {
     let address = at_scaled(core, rn, rm, scale(op, scaled));
     access(core, memory, op, rt, address, answer)

@@ -1,13 +1,13 @@
 // One instruction.
 
 ghost use Rattle.std.specs.Prelude.{◌≡◌};
-ghost use Rattle.a64_code.specs.Seen.{seen};
+ghost use Rattle.a64_code.specs.View.{seen};
 ghost use Rattle.guest_types.specs.Memory.{Memory};
 ghost use Rattle.machine_model.specs.Machine.{Went};
 ghost use Rattle.machine_model.specs.InstructionTable.{Scalar};
 ghost use Rattle.machine_model.specs.OneStep.{does};
 ghost use Rattle.machine_model.specs.Answers.{IsAnswer};
-ghost use Rattle.a64_machine.specs.Cores.{Rest, state_of, HasVector, UnlessWent, said};
+ghost use Rattle.a64_machine.specs.Cores.{VectorState, state_of, HasVector, OnStop, said};
 ghost use Rattle.a64_machine.specs.Forms.{IsOnRegisters, IsData};
 
 use crate::control::{branch, branch_conditional, compare_branch, exception, return_to};
@@ -27,10 +27,11 @@ use paged_memory::pages::Pages;
 /// left at the next instruction to be done.
 #[inline(always)]
 pub fn a64_goes(core: &mut Core, pages: &mut Pages, word: A64, answer: &mut Step) -> bool
-    ensures answer { (rest : Rest) → HasVector word core.old rest → let before = state_of core.old pages.old rest in
+    ensures answer { (rest : VectorState) → HasVector word core.old rest
+        → let before = state_of core.old pages.old rest in
         IsAnswer (does (Scalar (seen word)) before) (said result answer.new) before (state_of core.new pages.new rest) }
-    ensures kept { UnlessWent (said result answer.new) (core.new ≡ core.old) }
-    ensures kept_memory { UnlessWent (said result answer.new) (pages.new ≡ pages.old) }
+    ensures kept { OnStop (said result answer.new) (core.new ≡ core.old) }
+    ensures kept_memory { OnStop (said result answer.new) (pages.new ≡ pages.old) }
 {
     match word {
         A64::LoadStoreImmediate { op, rt, rn, imm12 } => {
@@ -59,10 +60,11 @@ pub fn a64_goes(core: &mut Core, pages: &mut Pages, word: A64, answer: &mut Step
 
 /// One A64 instruction, by its answer.
 pub fn a64_step(core: &mut Core, pages: &mut Pages, word: A64) -> Step
-    ensures answer { (rest : Rest) → HasVector word core.old rest → let before = state_of core.old pages.old rest in
+    ensures answer { (rest : VectorState) → HasVector word core.old rest
+        → let before = state_of core.old pages.old rest in
         IsAnswer (does (Scalar (seen word)) before) result before (state_of core.new pages.new rest) }
-    ensures kept { UnlessWent result (core.new ≡ core.old) }
-    ensures kept_memory { UnlessWent result (pages.new ≡ pages.old) }
+    ensures kept { OnStop result (core.new ≡ core.old) }
+    ensures kept_memory { OnStop result (pages.new ≡ pages.old) }
 {
     let mut answer = Step::Went;
     if a64_goes(core, pages, word, &mut answer) {
@@ -75,7 +77,7 @@ pub fn a64_step(core: &mut Core, pages: &mut Pages, word: A64) -> Step
 /// An instruction that is no load, no store and no exception.
 #[inline(always)]
 fn on_registers(core: &mut Core, word: A64)
-    ensures { (memory : Memory) (rest : Rest) → IsOnRegisters word → HasVector word core.old rest →
+    ensures { (memory : Memory) (rest : VectorState) → IsOnRegisters word → HasVector word core.old rest →
         does (Scalar (seen word)) (state_of core.old memory rest) ≡ Went (state_of core.new memory rest) }
 {
     match word {
@@ -91,7 +93,7 @@ fn on_registers(core: &mut Core, word: A64)
 /// An instruction that computes a register from registers.
 #[inline(always)]
 fn data(core: &mut Core, word: A64)
-    ensures { (memory : Memory) (rest : Rest) → IsData word → HasVector word core.old rest →
+    ensures { (memory : Memory) (rest : VectorState) → IsData word → HasVector word core.old rest →
         does (Scalar (seen word)) (state_of core.old memory rest) ≡ Went (state_of core.new memory rest) }
 {
     match word {

@@ -3,7 +3,18 @@
 ghost use Rattle.std.specs.Prelude.{◌≡◌, ◌+◌, ◌%◌, ◌^◌, nat_eq, if◌then◌else◌, slice_index, slice_set};
 
 use crate::core_state::Core;
+use crate::prepared_form::General;
 use a64_code::Reg;
+
+impl General {
+    /// The register among all.
+    #[inline(always)]
+    pub fn register(self) -> Reg
+        ensures { result.number ≡ self.number }
+    {
+        Reg::new(self.number)
+    }
+}
 
 impl Core {
     /// The general register of a number, where 31 reads as 0.
@@ -49,6 +60,22 @@ impl Core {
         } else {
             self.sp = value;
         }
+    }
+
+    /// One of X0 to X30.
+    #[inline(always)]
+    pub fn general(&self, number: General) -> u64
+        ensures { result ≡ slice_index self.now.x number.number }
+    {
+        self.x[number.number as usize]
+    }
+
+    /// Writes one of X0 to X30.
+    #[inline(always)]
+    pub fn set_general(&mut self, number: General, value: u64)
+        ensures { self.new ≡ record self.old { x = slice_set self.old.x number.number value } }
+    {
+        self.x[number.number as usize] = value;
     }
 
     /// Goes on to the next word.

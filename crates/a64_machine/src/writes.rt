@@ -4,7 +4,7 @@ ghost use Rattle.std.specs.Prelude.{◌≡◌, ◌+◌, ◌%◌, ◌^◌, slice_
 ghost use Rattle.guest_types.specs.Memory.{Memory};
 ghost use Rattle.machine_model.specs.Arithmetic.{difference, flags_of};
 ghost use Rattle.machine_model.specs.Machine.{with_x_or_sp, next, jump};
-ghost use Rattle.a64_machine.specs.Cores.{Rest, state_of, flags_in};
+ghost use Rattle.a64_machine.specs.Cores.{VectorState, state_of, flags_in};
 
 use crate::conditions::flags_of;
 use crate::core_state::Core;
@@ -22,7 +22,7 @@ pub fn write(core: &mut Core, rd: Reg, value: u64)
 /// Writes a register, where 31 is the stack pointer, and goes on to the next word.
 #[inline(always)]
 pub fn write_or_sp(core: &mut Core, rd: Reg, value: u64)
-    ensures { (memory : Memory) (rest : Rest)
+    ensures { (memory : Memory) (rest : VectorState)
         → state_of core.new memory rest ≡ next (with_x_or_sp (state_of core.old memory rest) rd.number value) }
 {
     core.set_register_or_sp(rd, value);
@@ -47,7 +47,7 @@ pub fn write_with_flags(core: &mut Core, rd: Reg, left: u64, right: u64)
 /// Goes to a place, or on to the next word.
 #[inline(always)]
 pub fn jump_if(core: &mut Core, taken: bool, place: u64)
-    ensures { (memory : Memory) (rest : Rest) → state_of core.new memory rest ≡
+    ensures { (memory : Memory) (rest : VectorState) → state_of core.new memory rest ≡
         (if taken then jump (state_of core.old memory rest) place else next (state_of core.old memory rest)) }
 {
     core.pc = if taken {

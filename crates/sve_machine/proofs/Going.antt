@@ -1,5 +1,5 @@
 -- What some steps leave, one after another.
-use Rattle.std.proofs.Common.{◌≡◌, ℕ, zero, suc, ◌+◌, ◌<◌, Bool, true, false, [], ◌∷◌, Option, Some, None, refl, sym, ap, ◌∙◌, subst, arith}
+use Rattle.std.proofs.Common.{◌≡◌, ℕ, ◌+◌, Bool, true, false, [], ◌∷◌, Some, refl, sym, ap, ◌∙◌, subst, arith}
 use Rattle.machine_model.specs.declared.outcome.Step.{Step as StepAnswer}
 use Rattle.machine_model.specs.declared.outcome.Step.TheVariants as answers
 use Rattle.machine_model.specs.declared.outcome.Stop.{Stop as StopAnswer}
@@ -11,32 +11,10 @@ use Rattle.machine_model.specs.Debugged.{View, CameTo, ending_by}
 use Rattle.machine_model.proofs.Runs.{leads_after, comes_to}
 use Rattle.machine_model.specs.Debugged.{RunLeaves, is_never}
 use Rattle.machine_model.specs.Answers.{outcome_of}
-use Rattle.machine_model.proofs.Quiet.{steps_quiet}
+use Rattle.machine_model.proofs.Quiet.{step_quiet, steps_quiet}
 use Rattle.guest_types.specs.EarlyLoads.{StopList, Listed, Each, never}
 use Rattle.a64_machine.specs.Cores.{said}
-use Rattle.sve_machine.specs.Views.{Leaves, Last, outcome_at}
-
--- a step that goes on, of one step at most
-one_went : (s t : State) → after_steps 1 s ≡ Some t → step s ≡ Went t
-one_went s t h = go (step s) h
-  where
-    go : (o : Step) → elim o as (λ o. Option State) [ Went u ↦ Some u | Ended result ↦ None | Stopped kind pc at memory ↦ None ] ≡ Some t → o ≡ Went t
-    go (Went u) h = let same : u ≡ t = cc in ap Went same
-    go (Ended r) h = absurd cc
-    go (Stopped k p a m) h = absurd cc
-
-first_is : (went : ℕ) (s last : State) → went < 1 → after_steps went s ≡ Some last → last ≡ s
-first_is zero s last h e = cc
-first_is (suc n) s last h e = absurd (omega arith)
-
-pub one_step : (answer : StepAnswer) (done : ℕ) (s t : State) → Leaves answer 1 done s t → (done ≡ 1) × IsAnswer (step s) answer s t
-one_step answers.Went done s t h = (h.0, one_went s t h.1)
-one_step answers.Ended done s t h =
-    let same = first_is h.went s h.last h.within h.state in
-    (omega (arith, h.within, h.counted), subst (λ u. IsAnswer (step u) answers.Ended u t) same h.answered)
-one_step (answers.Stopped stop) done s t h =
-    let same = first_is h.went s h.last h.within h.state in
-    (omega (arith, h.within, h.counted), subst (λ u. IsAnswer (step u) (answers.Stopped stop) u t) same h.answered)
+use Rattle.sve_machine.specs.View.{Leaves, Last, outcome_at}
 
 -- ---- the outcome of a run
 
@@ -91,6 +69,11 @@ left_quiet (answers.Stopped stop) steps done s t h q = ap (λ (u : State). u.sto
 
 pub quiet_left : (answer : StepAnswer) (steps done : ℕ) (s t : State) → Leaves answer steps done s t → is_never s.stops ≡ true → is_never t.stops ≡ true
 quiet_left answer steps done s t h q = ap is_never (left_quiet answer steps done s t h (none s.stops q))
+
+pub one_quiet : (answer : StepAnswer) (s t : State) → IsAnswer (step s) answer s t → is_never s.stops ≡ true → is_never t.stops ≡ true
+one_quiet answers.Went s t h q = ap is_never (step_quiet s t (none s.stops q) h)
+one_quiet answers.Ended s t h q = ap (λ (u : State). is_never u.stops) h.1 ∙ q
+one_quiet (answers.Stopped stop) s t h q = ap (λ (u : State). is_never u.stops) h.1 ∙ q
 
 -- ---- a step whose answer is told in two parts
 

@@ -20,7 +20,7 @@ use Rattle.guest_types.specs.LaneMemory.{width_of_size}
 use Rattle.guest_types.specs.Lanes.{source_bits, sign_extended, dup_at, index_at, reduce_of, binary_at, merge_at, merge_one_at, shift_at, select_at}
 use Rattle.sve_code.specs.Numbers.{size_from_h_number, size_from_s_number, shift_size}
 use Rattle.sve_code.specs.Table.{sel, dup, index_row}
-use Rattle.sve_code.specs.Seen.{add_sub_name, logic_name, shift_imm_name, merging_name, unary_name, extend_byte_name, extend_half_name, extend_word_name, reduce_name}
+use Rattle.sve_code.specs.View.{add_sub_name, logic_name, shift_imm_name, merging_name, unary_name, extend_byte_name, extend_half_name, extend_word_name, reduce_name}
 use Rattle.sve_code.specs.declared.AddSubOp.{AddSubOp}
 use Rattle.sve_code.specs.declared.AddSubOp.TheVariants as add_sub_ops
 use Rattle.sve_code.specs.declared.BitwiseOp.{BitwiseOp}
@@ -41,7 +41,7 @@ use Rattle.word_rows.specs.Row.{Instruction}
 use Rattle.sve_code.specs.Table.{Name}
 use Rattle.machine_model.specs.Machine.{Went, next}
 use Rattle.machine_model.specs.VectorEffects.{do_vector}
-use Rattle.a64_machine.specs.Cores.{Rest, state_of}
+use Rattle.a64_machine.specs.Cores.{VectorState, state_of}
 use Rattle.a64_machine.specs.declared.core_state.Core.{Core}
 use Rattle.sve_machine.specs.Rests.{z_of, p_of, put_z, put_lanes}
 use Rattle.sve_machine.specs.Rows.{add_sub_op, bitwise_op, shift_op, shift_count, merging_op, unary_op, byte_extension, half_extension, word_extension, reduction_op, reduction_width}
@@ -51,36 +51,36 @@ abbrev pub row_of : Name → List ℕ → Instruction Name
 row_of name numbers = record { name = name; numbers = numbers }
 
 -- it goes on, and leaves these vector registers
-abbrev pub Leaves : Name → List ℕ → Rest → Rest → Type 0
+abbrev pub Leaves : Name → List ℕ → VectorState → VectorState → Type 0
 Leaves name numbers r r2 = (core : Core) (memory : Memory) → do_vector (row_of name numbers) (state_of core memory r) ≡ Went (next (state_of core memory r2))
 
-left_as : (name : Name) (numbers : List ℕ) (r a b : Rest) → b ≡ a → Leaves name numbers r a → Leaves name numbers r b
+left_as : (name : Name) (numbers : List ℕ) (r a b : VectorState) → b ≡ a → Leaves name numbers r a → Leaves name numbers r b
 left_as name numbers r a b e h core memory = h core memory ∙ ap (λ x. Went (next (state_of core memory x))) (sym e)
 
-add_sub_here : (op : AddSubOp) (zd zn zm size : ℕ) (r : Rest) → Leaves (add_sub_name op) (zd ∷ zn ∷ zm ∷ size ∷ []) r (put_lanes r zd (width_of_size size) (binary_at (add_sub_op op) (width_of_size size) (z_of r zn) (z_of r zm)))
+add_sub_here : (op : AddSubOp) (zd zn zm size : ℕ) (r : VectorState) → Leaves (add_sub_name op) (zd ∷ zn ∷ zm ∷ size ∷ []) r (put_lanes r zd (width_of_size size) (binary_at (add_sub_op op) (width_of_size size) (z_of r zn) (z_of r zm)))
 add_sub_here add_sub_ops.Add zd zn zm size r core memory = refl
 add_sub_here add_sub_ops.Sub zd zn zm size r core memory = refl
 
-pub add_sub_row : (op : AddSubOp) (zd zn zm size : ℕ) (r r2 : Rest) (o : LaneOp) (w : Width) → o ≡ add_sub_op op → w ≡ width_of_size size → r2 ≡ put_lanes r zd w (binary_at o w (z_of r zn) (z_of r zm)) → Leaves (add_sub_name op) (zd ∷ zn ∷ zm ∷ size ∷ []) r r2
+pub add_sub_row : (op : AddSubOp) (zd zn zm size : ℕ) (r r2 : VectorState) (o : LaneOp) (w : Width) → o ≡ add_sub_op op → w ≡ width_of_size size → r2 ≡ put_lanes r zd w (binary_at o w (z_of r zn) (z_of r zm)) → Leaves (add_sub_name op) (zd ∷ zn ∷ zm ∷ size ∷ []) r r2
 add_sub_row op zd zn zm size r r2 o w eo ew e =
     left_as (add_sub_name op) (zd ∷ zn ∷ zm ∷ size ∷ []) r _ r2 (e ∙ ap₂ (λ a b. put_lanes r zd b (binary_at a b (z_of r zn) (z_of r zm))) eo ew) (add_sub_here op zd zn zm size r)
 
-bitwise_here : (op : BitwiseOp) (zd zn zm : ℕ) (r : Rest) → Leaves (logic_name op) (zd ∷ zn ∷ zm ∷ []) r (put_lanes r zd D (binary_at (bitwise_op op) D (z_of r zn) (z_of r zm)))
+bitwise_here : (op : BitwiseOp) (zd zn zm : ℕ) (r : VectorState) → Leaves (logic_name op) (zd ∷ zn ∷ zm ∷ []) r (put_lanes r zd D (binary_at (bitwise_op op) D (z_of r zn) (z_of r zm)))
 bitwise_here bitwise_ops.And zd zn zm r core memory = refl
 bitwise_here bitwise_ops.Orr zd zn zm r core memory = refl
 bitwise_here bitwise_ops.Eor zd zn zm r core memory = refl
 bitwise_here bitwise_ops.Bic zd zn zm r core memory = refl
 
-pub bitwise_row : (op : BitwiseOp) (zd zn zm : ℕ) (r r2 : Rest) (o : LaneOp) → o ≡ bitwise_op op → r2 ≡ put_lanes r zd D (binary_at o D (z_of r zn) (z_of r zm)) → Leaves (logic_name op) (zd ∷ zn ∷ zm ∷ []) r r2
+pub bitwise_row : (op : BitwiseOp) (zd zn zm : ℕ) (r r2 : VectorState) (o : LaneOp) → o ≡ bitwise_op op → r2 ≡ put_lanes r zd D (binary_at o D (z_of r zn) (z_of r zm)) → Leaves (logic_name op) (zd ∷ zn ∷ zm ∷ []) r r2
 bitwise_row op zd zn zm r r2 o eo e = left_as (logic_name op) (zd ∷ zn ∷ zm ∷ []) r _ r2 (e ∙ ap (λ a. put_lanes r zd D (binary_at a D (z_of r zn) (z_of r zm))) eo) (bitwise_here op zd zn zm r)
 
-select_here : (zd zn pg zm size : ℕ) (r : Rest) → Leaves sel (zd ∷ zn ∷ pg ∷ zm ∷ size ∷ []) r (put_lanes r zd (width_of_size size) (select_at (width_of_size size) (p_of r pg) (z_of r zn) (z_of r zm)))
+select_here : (zd zn pg zm size : ℕ) (r : VectorState) → Leaves sel (zd ∷ zn ∷ pg ∷ zm ∷ size ∷ []) r (put_lanes r zd (width_of_size size) (select_at (width_of_size size) (p_of r pg) (z_of r zn) (z_of r zm)))
 select_here zd zn pg zm size r core memory = refl
 
-pub select_row : (zd zn pg zm size : ℕ) (r r2 : Rest) (w : Width) → w ≡ width_of_size size → r2 ≡ put_lanes r zd w (select_at w (p_of r pg) (z_of r zn) (z_of r zm)) → Leaves sel (zd ∷ zn ∷ pg ∷ zm ∷ size ∷ []) r r2
+pub select_row : (zd zn pg zm size : ℕ) (r r2 : VectorState) (w : Width) → w ≡ width_of_size size → r2 ≡ put_lanes r zd w (select_at w (p_of r pg) (z_of r zn) (z_of r zm)) → Leaves sel (zd ∷ zn ∷ pg ∷ zm ∷ size ∷ []) r r2
 select_row zd zn pg zm size r r2 w ew e = left_as sel (zd ∷ zn ∷ pg ∷ zm ∷ size ∷ []) r _ r2 (e ∙ ap (λ b. put_lanes r zd b (select_at b (p_of r pg) (z_of r zn) (z_of r zm))) ew) (select_here zd zn pg zm size r)
 
-merging_here : (op : BinaryPredicatedOp) (zdn zm pg size : ℕ) (r : Rest) → Leaves (merging_name op) (zdn ∷ zm ∷ pg ∷ size ∷ []) r (put_lanes r zdn (width_of_size size) (merge_at (merging_op op) (width_of_size size) (p_of r pg) (z_of r zdn) (z_of r zm)))
+merging_here : (op : BinaryPredicatedOp) (zdn zm pg size : ℕ) (r : VectorState) → Leaves (merging_name op) (zdn ∷ zm ∷ pg ∷ size ∷ []) r (put_lanes r zdn (width_of_size size) (merge_at (merging_op op) (width_of_size size) (p_of r pg) (z_of r zdn) (z_of r zm)))
 merging_here binary_predicated_ops.Add zdn zm pg size r core memory = refl
 merging_here binary_predicated_ops.Sub zdn zm pg size r core memory = refl
 merging_here binary_predicated_ops.Smax zdn zm pg size r core memory = refl
@@ -92,52 +92,52 @@ merging_here binary_predicated_ops.Orr zdn zm pg size r core memory = refl
 merging_here binary_predicated_ops.Eor zdn zm pg size r core memory = refl
 merging_here binary_predicated_ops.And zdn zm pg size r core memory = refl
 
-pub merging_row : (op : BinaryPredicatedOp) (zdn zm pg size : ℕ) (r r2 : Rest) (o : LaneOp) (w : Width) → o ≡ merging_op op → w ≡ width_of_size size → r2 ≡ put_lanes r zdn w (merge_at o w (p_of r pg) (z_of r zdn) (z_of r zm)) → Leaves (merging_name op) (zdn ∷ zm ∷ pg ∷ size ∷ []) r r2
+pub merging_row : (op : BinaryPredicatedOp) (zdn zm pg size : ℕ) (r r2 : VectorState) (o : LaneOp) (w : Width) → o ≡ merging_op op → w ≡ width_of_size size → r2 ≡ put_lanes r zdn w (merge_at o w (p_of r pg) (z_of r zdn) (z_of r zm)) → Leaves (merging_name op) (zdn ∷ zm ∷ pg ∷ size ∷ []) r r2
 merging_row op zdn zm pg size r r2 o w eo ew e =
     left_as (merging_name op) (zdn ∷ zm ∷ pg ∷ size ∷ []) r _ r2 (e ∙ ap₂ (λ a b. put_lanes r zdn b (merge_at a b (p_of r pg) (z_of r zdn) (z_of r zm))) eo ew) (merging_here op zdn zm pg size r)
 
-unary_here : (op : UnaryPredicatedOp) (zd zn pg size : ℕ) (r : Rest) → Leaves (unary_name op) (zd ∷ zn ∷ pg ∷ size ∷ []) r (put_lanes r zd (width_of_size size) (merge_one_at (unary_op op) (width_of_size size) (p_of r pg) (z_of r zd) (z_of r zn)))
+unary_here : (op : UnaryPredicatedOp) (zd zn pg size : ℕ) (r : VectorState) → Leaves (unary_name op) (zd ∷ zn ∷ pg ∷ size ∷ []) r (put_lanes r zd (width_of_size size) (merge_one_at (unary_op op) (width_of_size size) (p_of r pg) (z_of r zd) (z_of r zn)))
 unary_here unary_predicated_ops.Abs zd zn pg size r core memory = refl
 unary_here unary_predicated_ops.Neg zd zn pg size r core memory = refl
 unary_here unary_predicated_ops.Not zd zn pg size r core memory = refl
 
-pub unary_row : (op : UnaryPredicatedOp) (zd zn pg size : ℕ) (r r2 : Rest) (o : LaneUnary) (w : Width) → o ≡ unary_op op → w ≡ width_of_size size → r2 ≡ put_lanes r zd w (merge_one_at o w (p_of r pg) (z_of r zd) (z_of r zn)) → Leaves (unary_name op) (zd ∷ zn ∷ pg ∷ size ∷ []) r r2
+pub unary_row : (op : UnaryPredicatedOp) (zd zn pg size : ℕ) (r r2 : VectorState) (o : LaneUnary) (w : Width) → o ≡ unary_op op → w ≡ width_of_size size → r2 ≡ put_lanes r zd w (merge_one_at o w (p_of r pg) (z_of r zd) (z_of r zn)) → Leaves (unary_name op) (zd ∷ zn ∷ pg ∷ size ∷ []) r r2
 unary_row op zd zn pg size r r2 o w eo ew e =
     left_as (unary_name op) (zd ∷ zn ∷ pg ∷ size ∷ []) r _ r2 (e ∙ ap₂ (λ a b. put_lanes r zd b (merge_one_at a b (p_of r pg) (z_of r zd) (z_of r zn))) eo ew) (unary_here op zd zn pg size r)
 
-extend_byte_here : (op : ExtendOp) (zd zn pg size : ℕ) (r : Rest) → Leaves (extend_byte_name op) (zd ∷ zn ∷ pg ∷ size ∷ []) r (put_lanes r zd (width_of_size size) (merge_one_at (byte_extension op) (width_of_size size) (p_of r pg) (z_of r zd) (z_of r zn)))
+extend_byte_here : (op : ExtendOp) (zd zn pg size : ℕ) (r : VectorState) → Leaves (extend_byte_name op) (zd ∷ zn ∷ pg ∷ size ∷ []) r (put_lanes r zd (width_of_size size) (merge_one_at (byte_extension op) (width_of_size size) (p_of r pg) (z_of r zd) (z_of r zn)))
 extend_byte_here extend_ops.Signed zd zn pg size r core memory = refl
 extend_byte_here extend_ops.Unsigned zd zn pg size r core memory = refl
 
-pub extend_byte_row : (op : ExtendOp) (zd zn pg size : ℕ) (r r2 : Rest) (o : LaneUnary) (w : Width) → o ≡ byte_extension op → w ≡ width_of_size size → r2 ≡ put_lanes r zd w (merge_one_at o w (p_of r pg) (z_of r zd) (z_of r zn)) → Leaves (extend_byte_name op) (zd ∷ zn ∷ pg ∷ size ∷ []) r r2
+pub extend_byte_row : (op : ExtendOp) (zd zn pg size : ℕ) (r r2 : VectorState) (o : LaneUnary) (w : Width) → o ≡ byte_extension op → w ≡ width_of_size size → r2 ≡ put_lanes r zd w (merge_one_at o w (p_of r pg) (z_of r zd) (z_of r zn)) → Leaves (extend_byte_name op) (zd ∷ zn ∷ pg ∷ size ∷ []) r r2
 extend_byte_row op zd zn pg size r r2 o w eo ew e =
     left_as (extend_byte_name op) (zd ∷ zn ∷ pg ∷ size ∷ []) r _ r2 (e ∙ ap₂ (λ a b. put_lanes r zd b (merge_one_at a b (p_of r pg) (z_of r zd) (z_of r zn))) eo ew) (extend_byte_here op zd zn pg size r)
 
-extend_half_here : (op : ExtendOp) (zd zn pg size : ℕ) (r : Rest) → Leaves (extend_half_name op) (zd ∷ zn ∷ pg ∷ size ∷ []) r (put_lanes r zd (width_of_size size) (merge_one_at (half_extension op) (width_of_size size) (p_of r pg) (z_of r zd) (z_of r zn)))
+extend_half_here : (op : ExtendOp) (zd zn pg size : ℕ) (r : VectorState) → Leaves (extend_half_name op) (zd ∷ zn ∷ pg ∷ size ∷ []) r (put_lanes r zd (width_of_size size) (merge_one_at (half_extension op) (width_of_size size) (p_of r pg) (z_of r zd) (z_of r zn)))
 extend_half_here extend_ops.Signed zd zn pg size r core memory = refl
 extend_half_here extend_ops.Unsigned zd zn pg size r core memory = refl
 
-pub extend_half_row : (op : ExtendOp) (zd zn pg size : ℕ) (r r2 : Rest) (o : LaneUnary) (w : Width) → o ≡ half_extension op → w ≡ width_of_size size → r2 ≡ put_lanes r zd w (merge_one_at o w (p_of r pg) (z_of r zd) (z_of r zn)) → Leaves (extend_half_name op) (zd ∷ zn ∷ pg ∷ size ∷ []) r r2
+pub extend_half_row : (op : ExtendOp) (zd zn pg size : ℕ) (r r2 : VectorState) (o : LaneUnary) (w : Width) → o ≡ half_extension op → w ≡ width_of_size size → r2 ≡ put_lanes r zd w (merge_one_at o w (p_of r pg) (z_of r zd) (z_of r zn)) → Leaves (extend_half_name op) (zd ∷ zn ∷ pg ∷ size ∷ []) r r2
 extend_half_row op zd zn pg size r r2 o w eo ew e =
     left_as (extend_half_name op) (zd ∷ zn ∷ pg ∷ size ∷ []) r _ r2 (e ∙ ap₂ (λ a b. put_lanes r zd b (merge_one_at a b (p_of r pg) (z_of r zd) (z_of r zn))) eo ew) (extend_half_here op zd zn pg size r)
 
-extend_word_here : (op : ExtendOp) (zd zn pg : ℕ) (r : Rest) → Leaves (extend_word_name op) (zd ∷ zn ∷ pg ∷ []) r (put_lanes r zd D (merge_one_at (word_extension op) D (p_of r pg) (z_of r zd) (z_of r zn)))
+extend_word_here : (op : ExtendOp) (zd zn pg : ℕ) (r : VectorState) → Leaves (extend_word_name op) (zd ∷ zn ∷ pg ∷ []) r (put_lanes r zd D (merge_one_at (word_extension op) D (p_of r pg) (z_of r zd) (z_of r zn)))
 extend_word_here extend_ops.Signed zd zn pg r core memory = refl
 extend_word_here extend_ops.Unsigned zd zn pg r core memory = refl
 
-pub extend_word_row : (op : ExtendOp) (zd zn pg : ℕ) (r r2 : Rest) (o : LaneUnary) → o ≡ word_extension op → r2 ≡ put_lanes r zd D (merge_one_at o D (p_of r pg) (z_of r zd) (z_of r zn)) → Leaves (extend_word_name op) (zd ∷ zn ∷ pg ∷ []) r r2
+pub extend_word_row : (op : ExtendOp) (zd zn pg : ℕ) (r r2 : VectorState) (o : LaneUnary) → o ≡ word_extension op → r2 ≡ put_lanes r zd D (merge_one_at o D (p_of r pg) (z_of r zd) (z_of r zn)) → Leaves (extend_word_name op) (zd ∷ zn ∷ pg ∷ []) r r2
 extend_word_row op zd zn pg r r2 o eo e = left_as (extend_word_name op) (zd ∷ zn ∷ pg ∷ []) r _ r2 (e ∙ ap (λ a. put_lanes r zd D (merge_one_at a D (p_of r pg) (z_of r zd) (z_of r zn))) eo) (extend_word_here op zd zn pg r)
 
 -- the number in tszh:tszl:imm3, put together again
 joined : (v : ℕ) → 32 * (v / 32) + 8 * (v / 8 % 4) + v % 8 ≡ v
 joined v = omega arith
 
-shift_here : (op : ShiftImmediateOp) (zd zn imm3 tszl tszh : ℕ) (r : Rest) → let v = 32 * tszh + 8 * tszl + imm3 in Leaves (shift_imm_name op) (zd ∷ zn ∷ imm3 ∷ tszl ∷ tszh ∷ []) r (put_lanes r zd (width_of_size (shift_size v)) (shift_at (shift_op op) (width_of_size (shift_size v)) (z_of r zn) (shift_count op v)))
+shift_here : (op : ShiftImmediateOp) (zd zn imm3 tszl tszh : ℕ) (r : VectorState) → let v = 32 * tszh + 8 * tszl + imm3 in Leaves (shift_imm_name op) (zd ∷ zn ∷ imm3 ∷ tszl ∷ tszh ∷ []) r (put_lanes r zd (width_of_size (shift_size v)) (shift_at (shift_op op) (width_of_size (shift_size v)) (z_of r zn) (shift_count op v)))
 shift_here shift_immediate_ops.Lsl zd zn imm3 tszl tszh r core memory = refl
 shift_here shift_immediate_ops.Lsr zd zn imm3 tszl tszh r core memory = refl
 shift_here shift_immediate_ops.Asr zd zn imm3 tszl tszh r core memory = refl
 
-pub shift_row : (op : ShiftImmediateOp) (zd zn v : ℕ) (r r2 : Rest) (o : ShiftOp) (w : Width) (count : ℕ) → o ≡ shift_op op → w ≡ width_of_size (shift_size v) → count ≡ shift_count op v → r2 ≡ put_lanes r zd w (shift_at o w (z_of r zn) count) → Leaves (shift_imm_name op) (zd ∷ zn ∷ (v % 8) ∷ (v / 8 % 4) ∷ (v / 32) ∷ []) r r2
+pub shift_row : (op : ShiftImmediateOp) (zd zn v : ℕ) (r r2 : VectorState) (o : ShiftOp) (w : Width) (count : ℕ) → o ≡ shift_op op → w ≡ width_of_size (shift_size v) → count ≡ shift_count op v → r2 ≡ put_lanes r zd w (shift_at o w (z_of r zn) count) → Leaves (shift_imm_name op) (zd ∷ zn ∷ (v % 8) ∷ (v / 8 % 4) ∷ (v / 32) ∷ []) r r2
 shift_row op zd zn v r r2 o w count eo ew ec e =
     let here = shift_here op zd zn (v % 8) (v / 8 % 4) (v / 32) r in
     let whole = joined v in
@@ -193,13 +193,13 @@ word_narrow op o eo = subst (λ a. source_bits a < width_bits D) (sym eo) (some 
 -- ---- DUP, INDEX and the reductions
 
 -- it goes on with the same registers of A64, and leaves these vector registers
-abbrev pub LeavesWith : Name → List ℕ → Core → Rest → Rest → Type 0
+abbrev pub LeavesWith : Name → List ℕ → Core → VectorState → VectorState → Type 0
 LeavesWith name numbers core r r2 = (memory : Memory) → do_vector (row_of name numbers) (state_of core memory r) ≡ Went (next (state_of core memory r2))
 
-pub dup_row : (zd rn size : ℕ) (core : Core) (r r2 : Rest) (w : Width) (v : ℕ) → w ≡ width_of_size size → v ≡ (if nat_eq rn 31 then core.sp else slice_index core.x rn) → r2 ≡ put_lanes r zd w (dup_at v) → LeavesWith dup (zd ∷ rn ∷ size ∷ []) core r r2
+pub dup_row : (zd rn size : ℕ) (core : Core) (r r2 : VectorState) (w : Width) (v : ℕ) → w ≡ width_of_size size → v ≡ (if nat_eq rn 31 then core.sp else slice_index core.x rn) → r2 ≡ put_lanes r zd w (dup_at v) → LeavesWith dup (zd ∷ rn ∷ size ∷ []) core r r2
 dup_row zd rn size core r r2 w v ew ev e memory = ap (λ x. Went (next (state_of core memory x))) (sym (e ∙ ap₂ (λ a b. put_lanes r zd a (dup_at b)) ew ev))
 
-pub index_row_is : (zd rn imm5 size : ℕ) (core : Core) (r r2 : Rest) (w : Width) (v by : ℕ) → w ≡ width_of_size size → v ≡ slice_index core.x rn → by ≡ sign_extended (2 ^ 5) (2 ^ 64) imm5 → r2 ≡ put_lanes r zd w (index_at v by) → LeavesWith index_row (zd ∷ rn ∷ imm5 ∷ size ∷ []) core r r2
+pub index_row_is : (zd rn imm5 size : ℕ) (core : Core) (r r2 : VectorState) (w : Width) (v by : ℕ) → w ≡ width_of_size size → v ≡ slice_index core.x rn → by ≡ sign_extended (2 ^ 5) (2 ^ 64) imm5 → r2 ≡ put_lanes r zd w (index_at v by) → LeavesWith index_row (zd ∷ rn ∷ imm5 ∷ size ∷ []) core r r2
 index_row_is zd rn imm5 size core r r2 w v by ew ev eb e memory =
     ap (λ x. Went (next (state_of core memory x)))
     (sym (e ∙ ap (λ a. put_lanes r zd a (index_at v by)) ew ∙ ap₂ (λ a b. put_lanes r zd (width_of_size size) (index_at a b)) ev eb))
@@ -208,7 +208,7 @@ index_row_is zd rn imm5 size core r r2 w v by ew ev eb e memory =
 abbrev pub one_lane : Width → ℕ → List ℕ
 one_lane w v = register (width_bytes w) (dup_at v) 1
 
-reduction_here : (op : ReductionOp) (zd zn pg size : ℕ) (r : Rest) → let w = width_of_size size in Leaves (reduce_name op) (zd ∷ zn ∷ pg ∷ size ∷ []) r (put_z r zd (one_lane (reduction_width op w) (reduce_of (reduction_op op) w (lanes r.vl w) (p_of r pg) (z_of r zn))))
+reduction_here : (op : ReductionOp) (zd zn pg size : ℕ) (r : VectorState) → let w = width_of_size size in Leaves (reduce_name op) (zd ∷ zn ∷ pg ∷ size ∷ []) r (put_z r zd (one_lane (reduction_width op w) (reduce_of (reduction_op op) w (lanes r.vl w) (p_of r pg) (z_of r zn))))
 reduction_here reduction_ops.Uaddv zd zn pg size r core memory = refl
 reduction_here reduction_ops.Smaxv zd zn pg size r core memory = refl
 reduction_here reduction_ops.Umaxv zd zn pg size r core memory = refl
@@ -218,7 +218,7 @@ reduction_here reduction_ops.Orv zd zn pg size r core memory = refl
 reduction_here reduction_ops.Eorv zd zn pg size r core memory = refl
 reduction_here reduction_ops.Andv zd zn pg size r core memory = refl
 
-pub reduction_row : (op : ReductionOp) (zd zn pg size : ℕ) (r r2 : Rest) (o : ReduceOp) (w wide : Width) (p z out : List ℕ) (v : ℕ) → o ≡ reduction_op op → w ≡ width_of_size size → wide ≡ reduction_width op w → p ≡ p_of r pg → z ≡ z_of r zn → v ≡ reduce_of o w (lanes r.vl w) p z → out ≡ one_lane wide v → r2 ≡ put_z r zd out → Leaves (reduce_name op) (zd ∷ zn ∷ pg ∷ size ∷ []) r r2
+pub reduction_row : (op : ReductionOp) (zd zn pg size : ℕ) (r r2 : VectorState) (o : ReduceOp) (w wide : Width) (p z out : List ℕ) (v : ℕ) → o ≡ reduction_op op → w ≡ width_of_size size → wide ≡ reduction_width op w → p ≡ p_of r pg → z ≡ z_of r zn → v ≡ reduce_of o w (lanes r.vl w) p z → out ≡ one_lane wide v → r2 ≡ put_z r zd out → Leaves (reduce_name op) (zd ∷ zn ∷ pg ∷ size ∷ []) r r2
 reduction_row op zd zn pg size r r2 o w wide p z out v eo ew ewide ep ez ev eout e =
     let s = width_of_size size in
     let value : v ≡ reduce_of (reduction_op op) s (lanes r.vl s) (p_of r pg) (z_of r zn) =

@@ -3,6 +3,7 @@ pub mod Shapes
 pub mod Words
 pub mod Going
 pub mod Arms
+pub mod Banks
 pub mod LaneRows
 pub mod Loads
 pub mod PredicateRows

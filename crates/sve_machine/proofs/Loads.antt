@@ -12,7 +12,7 @@ use Rattle.guest_types.specs.EarlyLoads.{StopList, EarlyLoad, unless_fault, earl
 use Rattle.machine_model.specs.States.{IsVector, IsPredicate}
 use Rattle.machine_model.proofs.States.{vector_made, fills, cleared_is}
 use Rattle.lane_memory.specs.Loads.{LoadLeft, left_by_plain, left_by_early, left_by_first, left_by, load_of}
-use Rattle.a64_machine.specs.Cores.{Rest, state_of}
+use Rattle.a64_machine.specs.Cores.{VectorState, state_of}
 use Rattle.guest_types.specs.declared.register.ZReg.{ZReg}
 use Rattle.guest_types.specs.declared.predicate.PReg.{PReg}
 use Rattle.std.proofs.Math.ListN.{get_or-map}
@@ -87,16 +87,16 @@ load_done mode dtype base index memory z p ffr vl stops g n ffr2 stops2 out e =
 
 -- ---- what the rows say
 
-plain_is : (o : Option AccessFault) (z : List ℕ) (r : Rest) (d : ℕ) (core : Core) (memory : Memory) → effects.after_load (or_fault o (record { z = z; ffr = r.ffr })) d (state_of core memory r) ≡ after_load (put_load (left_by_plain r.stops (or_fault o (record { z = z; ffr = r.ffr }))) d r) core memory
+plain_is : (o : Option AccessFault) (z : List ℕ) (r : VectorState) (d : ℕ) (core : Core) (memory : Memory) → effects.after_load (or_fault o (record { z = z; ffr = r.ffr })) d (state_of core memory r) ≡ after_load (put_load (left_by_plain r.stops (or_fault o (record { z = z; ffr = r.ffr }))) d r) core memory
 plain_is None z r d core memory = refl
 plain_is (Some fault) z r d core memory = refl
 
-first_is : (o : Option AccessFault) (load : EarlyLoad) (r : Rest) (d : ℕ) (core : Core) (memory : Memory) → effects.after_early (unless_fault o load) d (state_of core memory r) ≡ after_load (put_load (left_by_first (unless_fault o load)) d r) core memory
+first_is : (o : Option AccessFault) (load : EarlyLoad) (r : VectorState) (d : ℕ) (core : Core) (memory : Memory) → effects.after_early (unless_fault o load) d (state_of core memory r) ≡ after_load (put_load (left_by_first (unless_fault o load)) d r) core memory
 first_is None load r d core memory = refl
 first_is (Some fault) load r d core memory = refl
 
 -- LD1, LDFF1 and LDNF1 at their operands
-pub plain_row : (zt rn pg rm dtype : ℕ) (r : Rest) (core : Core) (memory : Memory) → let s = state_of core memory r in do_vector (row_of ld1 (zt ∷ rn ∷ pg ∷ rm ∷ dtype ∷ [])) s ≡ after_load (put_load (load_of Plain dtype (x_or_sp s rn) (x_at s rm) r.vl memory r.stops (p_of r pg) r.ffr) zt r) core memory
+pub plain_row : (zt rn pg rm dtype : ℕ) (r : VectorState) (core : Core) (memory : Memory) → let s = state_of core memory r in do_vector (row_of ld1 (zt ∷ rn ∷ pg ∷ rm ∷ dtype ∷ [])) s ≡ after_load (put_load (load_of Plain dtype (x_or_sp s rn) (x_at s rm) r.vl memory r.stops (p_of r pg) r.ffr) zt r) core memory
 plain_row zt rn pg rm dtype r core memory =
     let s = state_of core memory r in
     let form = load_form dtype in
@@ -105,7 +105,7 @@ plain_row zt rn pg rm dtype r core memory =
     let n = lanes r.vl form.element in
     plain_is (fault_at form memory f (first_true (both on (lane_faults form memory f)) n 0)) (register (width_bytes form.element) (loaded_lane form memory on f) n) r zt core memory
 
-pub first_row : (zt rn pg rm dtype : ℕ) (r : Rest) (core : Core) (memory : Memory) → let s = state_of core memory r in do_vector (row_of ldff1 (zt ∷ rn ∷ pg ∷ rm ∷ dtype ∷ [])) s ≡ after_load (put_load (load_of FirstFault dtype (x_or_sp s rn) (x_at s rm) r.vl memory r.stops (p_of r pg) r.ffr) zt r) core memory
+pub first_row : (zt rn pg rm dtype : ℕ) (r : VectorState) (core : Core) (memory : Memory) → let s = state_of core memory r in do_vector (row_of ldff1 (zt ∷ rn ∷ pg ∷ rm ∷ dtype ∷ [])) s ≡ after_load (put_load (load_of FirstFault dtype (x_or_sp s rn) (x_at s rm) r.vl memory r.stops (p_of r pg) r.ffr) zt r) core memory
 first_row zt rn pg rm dtype r core memory =
     let s = state_of core memory r in
     let form = load_form dtype in
@@ -114,9 +114,9 @@ first_row zt rn pg rm dtype r core memory =
     let n = lanes r.vl form.element in
     first_is (fault_at form memory f (first_true on n 0)) (early_load form memory r.stops on (later_than (first_true on n 0) on) f n r.ffr) r zt core memory
 
-pub non_row : (zt rn pg dtype : ℕ) (r : Rest) (core : Core) (memory : Memory) → let s = state_of core memory r in do_vector (row_of ldnf1 (zt ∷ rn ∷ pg ∷ dtype ∷ [])) s ≡ after_load (put_load (load_of NonFault dtype (x_or_sp s rn) 0 r.vl memory r.stops (p_of r pg) r.ffr) zt r) core memory
+pub non_row : (zt rn pg dtype : ℕ) (r : VectorState) (core : Core) (memory : Memory) → let s = state_of core memory r in do_vector (row_of ldnf1 (zt ∷ rn ∷ pg ∷ dtype ∷ [])) s ≡ after_load (put_load (load_of NonFault dtype (x_or_sp s rn) 0 r.vl memory r.stops (p_of r pg) r.ffr) zt r) core memory
 non_row zt rn pg dtype r core memory = refl
 
 -- ST1 at its operands
-pub store_row : (zt rn pg rm size msz : ℕ) (r : Rest) (core : Core) (memory : Memory) → let s = state_of core memory r in do_vector (row_of st1 (zt ∷ rn ∷ pg ∷ rm ∷ size ∷ msz ∷ [])) s ≡ effects.after_store (store_of msz size (x_or_sp s rn) (x_at s rm) r.vl (p_of r pg) (z_of r zt) memory) s
+pub store_row : (zt rn pg rm size msz : ℕ) (r : VectorState) (core : Core) (memory : Memory) → let s = state_of core memory r in do_vector (row_of st1 (zt ∷ rn ∷ pg ∷ rm ∷ size ∷ msz ∷ [])) s ≡ effects.after_store (store_of msz size (x_or_sp s rn) (x_at s rm) r.vl (p_of r pg) (z_of r zt) memory) s
 store_row zt rn pg rm size msz r core memory = refl

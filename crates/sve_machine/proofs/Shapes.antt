@@ -10,7 +10,7 @@ use Rattle.guest_types.specs.declared.predicate.PReg.{PReg}
 use Rattle.guest_types.specs.EarlyLoads.{StopList}
 use Rattle.machine_model.specs.States.{IsVector, IsPredicate}
 use Rattle.machine_model.proofs.States.{zero_vector, zero_predicate}
-use Rattle.a64_machine.specs.Cores.{Rest}
+use Rattle.a64_machine.specs.Cores.{VectorState}
 use Rattle.sve_machine.specs.Rests.{IsRest, rest_of, z_bytes, p_bits, z_of, p_of, put_z, put_p, put_ffr, zeros}
 
 pub zeros_are : (vl : ℕ) (stops : StopList) → IsLength vl → IsRest (zeros vl stops)
@@ -23,7 +23,7 @@ zeros_are vl stops sized = record {
   ffr_is = zero_predicate vl;
 }
 
-pub z_put : (r : Rest) (d : ℕ) (bytes : List ℕ) → IsRest r → IsVector r.vl bytes → IsRest (put_z r d bytes)
+pub z_put : (r : VectorState) (d : ℕ) (bytes : List ℕ) → IsRest r → IsVector r.vl bytes → IsRest (put_z r d bytes)
 z_put r d bytes h v = record {
   sized = h.sized;
   z_count = length-set r.z d bytes ∙ h.z_count;
@@ -33,7 +33,7 @@ z_put r d bytes h v = record {
   ffr_is = h.ffr_is;
 }
 
-pub p_put : (r : Rest) (d : ℕ) (bits : List ℕ) → IsRest r → IsPredicate r.vl bits → IsRest (put_p r d bits)
+pub p_put : (r : VectorState) (d : ℕ) (bits : List ℕ) → IsRest r → IsPredicate r.vl bits → IsRest (put_p r d bits)
 p_put r d bits h v = record {
   sized = h.sized;
   z_count = h.z_count;
@@ -43,7 +43,7 @@ p_put r d bits h v = record {
   ffr_is = h.ffr_is;
 }
 
-pub ffr_put : (r : Rest) (bits : List ℕ) → IsRest r → IsPredicate r.vl bits → IsRest (put_ffr r bits)
+pub ffr_put : (r : VectorState) (bits : List ℕ) → IsRest r → IsPredicate r.vl bits → IsRest (put_ffr r bits)
 ffr_put r bits h v = record {
   sized = h.sized;
   z_count = h.z_count;
@@ -53,10 +53,10 @@ ffr_put r bits h v = record {
   ffr_is = v;
 }
 
-pub z_shape : (r : Rest) (n : ℕ) → IsRest r → n < 32 → IsVector r.vl (z_of r n)
+pub z_shape : (r : VectorState) (n : ℕ) → IsRest r → n < 32 → IsVector r.vl (z_of r n)
 z_shape r n h lt = All-get_or (IsVector r.vl) r.z n [] (omega (arith, h.z_count)) h.z_each
 
-pub p_shape : (r : Rest) (n : ℕ) → IsRest r → n < 16 → IsPredicate r.vl (p_of r n)
+pub p_shape : (r : VectorState) (n : ℕ) → IsRest r → n < 16 → IsPredicate r.vl (p_of r n)
 p_shape r n h lt = All-get_or (IsPredicate r.vl) r.p n [] (omega (arith, h.p_count)) h.p_each
 
 -- ---- by their fields

@@ -1,15 +1,35 @@
 -- What a machine keeps of the words that it has decoded.
-use Rattle.std.specs.Prelude.{◌≡◌, ℕ, ◌%◌, ◌^◌, ◌<◌, Some, option_and_then}
+use Rattle.std.specs.Prelude.{◌≡◌, ℕ, ◌^◌, ◌<◌}
 use Rattle.guest_types.specs.Memory.{Memory, fetched}
-use Rattle.machine_model.specs.OneStep.{reads_word}
+use Rattle.a64_code.specs.View as a64
+use Rattle.sve_code.specs.View as sve
+use Rattle.machine_model.specs.declared.outcome.StopKind.TheVariants.{Fetch}
+use Rattle.machine_model.specs.InstructionTable as table
+use Rattle.machine_model.specs.Machine.{State, Step, Stopped}
+use Rattle.machine_model.specs.OneStep.{does, do_word}
+use Rattle.a64_machine.specs.Prepared.{prepared_does}
 use Rattle.sve_machine.specs.declared.kept.Entry.{Entry}
-use Rattle.sve_machine.specs.Listing.{view_of}
+use Rattle.sve_machine.specs.declared.kept.Kept.{Kept}
+use Rattle.sve_machine.specs.declared.kept.Kept.TheVariants.{Nowhere, Ready, Scalar, Vector}
 
--- the entry holds the instruction of the word at a place
+-- what is done by what is kept
+abbrev pub kept_does : Kept → State → Step
+kept_does Nowhere s = Stopped Fetch s.pc s.pc s.memory
+kept_does (Ready prepared) s = prepared_does prepared s
+kept_does (Scalar word) s = does (table.Scalar (a64.seen word)) s
+kept_does (Vector word) s = does (table.Vector (sve.seen word)) s
+
+-- a step at this place does what the entry keeps
 abbrev pub Holds : Memory → ℕ → Entry → Type 0
-Holds memory pc entry = option_and_then reads_word (fetched memory pc) ≡ Some (view_of entry.instruction)
+Holds memory pc entry = (s : State) → s.pc ≡ pc → do_word (fetched memory pc) s ≡ kept_does entry.kept s
 
--- where its place may be one of an instruction, the entry holds the instruction of the word there
+-- the same at the entry's own place
 abbrev pub Keeps : Memory → Entry → Type 0
-Keeps memory entry =
-    entry.place % 4 ≡ 0 → (entry.place < 2 ^ 64) × Holds memory entry.place entry
+Keeps memory entry = (entry.place < 2 ^ 64) × Holds memory entry.place entry
+
+-- it is no prepared instruction
+abbrev pub IsOther : Kept → Type 0
+IsOther Nowhere = Unit {0}
+IsOther (Ready prepared) = ⊥
+IsOther (Scalar word) = Unit {0}
+IsOther (Vector word) = Unit {0}

@@ -1,6 +1,6 @@
 -- What contracts see of an instruction: its row of the joint table and the numbers of its fields.
-use Rattle.a64_code.specs.Seen as a64
-use Rattle.sve_code.specs.Seen as sve
+use Rattle.a64_code.specs.View as a64
+use Rattle.sve_code.specs.View as sve
 use Rattle.machine_model.specs.InstructionTable as table
 use Rattle.machine_model.specs.InstructionTable.{Listed}
 use Rattle.sve_machine.specs.declared.instruction.Instruction.{Instruction}
@@ -9,7 +9,3 @@ use Rattle.sve_machine.specs.declared.instruction.Instruction.TheVariants.{Scala
 abbrev pub view_of : Instruction → Listed
 view_of (Scalar word) = table.Scalar (a64.seen word)
 view_of (Vector word) = table.Vector (sve.seen word)
-
-abbrev pub IsVector : Instruction → Type 0
-IsVector (Scalar word) = ⊥
-IsVector (Vector word) = Unit {0}

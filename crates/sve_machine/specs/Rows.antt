@@ -42,14 +42,14 @@ use Rattle.sve_code.specs.declared.BreakOp.{BreakOp}
 use Rattle.sve_code.specs.declared.BreakOp.TheVariants as break_ops
 use Rattle.sve_code.specs.declared.Sve.{Sve}
 use Rattle.sve_code.specs.Numbers.{left_amount, right_amount}
-use Rattle.sve_code.specs.Seen.{seen}
+use Rattle.sve_code.specs.View.{seen}
 use Rattle.machine_model.specs.Machine.{Step, Went, Stopped, next}
 use Rattle.machine_model.specs.VectorEffects.{do_vector}
-use Rattle.a64_machine.specs.Cores.{Rest, state_of}
+use Rattle.a64_machine.specs.Cores.{VectorState, state_of}
 use Rattle.a64_machine.specs.declared.core_state.Core.{Core}
 
 -- the instruction goes on, and leaves these registers; PC is raised after it
-abbrev pub RowLeaves : Sve → Core → Rest → (after : Core) → (left : Rest) → Type 0
+abbrev pub RowLeaves : Sve → Core → VectorState → (after : Core) → (left : VectorState) → Type 0
 RowLeaves word core rest after left = (memory : Memory) → do_vector (seen word) (state_of core memory rest) ≡ Went (next (state_of after memory left))
 
 -- ---- the lane operation of each
@@ -134,7 +134,7 @@ shift_count shift_immediate_ops.Lsr value = right_amount value
 shift_count shift_immediate_ops.Asr value = right_amount value
 
 -- a load goes on with the registers that it leaves, or stops at its fault
-abbrev pub after_load : Result Rest AccessFault → Core → Memory → Step
+abbrev pub after_load : Result VectorState AccessFault → Core → Memory → Step
 after_load (Ok left) core memory = Went (next (state_of core memory left))
 after_load (Err fault) core memory = Stopped Read core.pc fault.address memory
 

@@ -1,66 +1,66 @@
 //! Steps of the machine, one after another.
 
 ghost use Rattle.std.specs.Prelude.{◌≡◌, ◌≤◌, All};
-ghost use Rattle.machine_model.specs.OneStep.{step, does};
+ghost use Rattle.machine_model.specs.OneStep.{step};
 ghost use Rattle.machine_model.specs.Answers.{IsAnswer};
 ghost use Rattle.a64_machine.specs.Cores.{state_of, said};
-ghost use Rattle.sve_machine.specs.Listing.{view_of, IsVector};
-ghost use Rattle.sve_machine.specs.Keeping.{Keeps};
-ghost use Rattle.sve_machine.specs.Views.{Leaves};
+ghost use Rattle.sve_machine.specs.Keeping.{Keeps, kept_does, IsOther};
+ghost use Rattle.sve_machine.specs.View.{Leaves};
 
-use crate::instruction::Instruction;
-use crate::kept::Entry;
-use crate::look_up::look_up;
+use crate::kept::{Entry, Kept};
+use crate::look_up::{look_up, stop};
 use crate::scalars::scalar_goes;
 use crate::vector_step::vector_goes;
 use crate::vectors::Vectors;
-use a64_machine::Core;
-use machine_model::outcome::Step;
+use a64_machine::{Core, prepared_goes};
+use machine_model::outcome::{Step, StopKind};
 use paged_memory::pages::Pages;
 
-// What an SVE instruction does: whether it goes on, or else its answer. It stands by itself, so that no register of vectors has room where A64 instructions are done.
+// What other than a prepared instruction does: whether the step goes on, or else its answer. It stands by itself, so that no register of vectors has room where prepared instructions are done.
 #[inline(never)]
-fn execute_vector(
+fn execute_other(
     core: &mut Core,
     pages: &mut Pages,
     vectors: &mut Vectors,
-    instruction: &Instruction,
+    kept: &Kept,
     answer: &mut Step,
 ) -> bool
-    requires { IsVector instruction.now }
+    requires { IsOther kept.now }
     ensures { let before = state_of core.old pages.old vectors.old in
-        IsAnswer (does (view_of instruction.now) before) (said result answer.new) before
+        IsAnswer (kept_does kept.now before) (said result answer.new) before
         (state_of core.new pages.new vectors.new) }
 {
-    match *instruction {
-        Instruction::Vector(word) => vector_goes(core, pages, vectors, word, answer),
-        Instruction::Scalar(_) => true,
+    match *kept {
+        Kept::Vector(word) => vector_goes(core, pages, vectors, word, answer),
+        Kept::Scalar(word) => scalar_goes(core, pages, vectors, word, answer),
+        Kept::Nowhere => stop(StopKind::Fetch, core.pc, core.pc, answer),
+        Kept::Ready(_) => true,
     }
 }
 
-// What an instruction does: whether it goes on, or else its answer.
+// What is done by what is kept: whether the step goes on, or else its answer.
 #[inline(always)]
 fn execute(
     core: &mut Core,
     pages: &mut Pages,
     vectors: &mut Vectors,
-    instruction: &Instruction,
+    kept: &Kept,
     answer: &mut Step,
 ) -> bool
     ensures { let before = state_of core.old pages.old vectors.old in
-        IsAnswer (does (view_of instruction.now) before) (said result answer.new) before
+        IsAnswer (kept_does kept.now before) (said result answer.new) before
         (state_of core.new pages.new vectors.new) }
 {
-    match *instruction {
-        Instruction::Scalar(word) => scalar_goes(core, pages, vectors, word, answer),
-        Instruction::Vector(_) => execute_vector(core, pages, vectors, instruction, answer),
+    match kept {
+        Kept::Ready(prepared) => prepared_goes(core, pages, prepared, answer),
+        _ => execute_other(core, pages, vectors, kept, answer),
     }
 }
 
-// One step: whether it goes on, or else its answer. An answer of many bytes that is handed back would be copied
-// at each step.
+/// One step: whether it goes on, or else its answer. An answer of many bytes that is handed back would be copied
+/// at each step.
 #[inline(always)]
-fn advance(
+pub fn advance(
     core: &mut Core,
     pages: &mut Pages,
     vectors: &mut Vectors,
@@ -77,7 +77,7 @@ fn advance(
         return false;
     }
     let entry = &kept[(pc / 4 % 1024) as usize];
-    execute(core, pages, vectors, &entry.instruction, answer)
+    execute(core, pages, vectors, &entry.kept, answer)
 }
 
 /// At most so many steps: the last answer, and how many were done.

@@ -1,10 +1,7 @@
 //! The machine as it is looked at between steps.
 
-ghost use Rattle.std.specs.Prelude.{◌≡◌};
-ghost use Rattle.guest_types.specs.Elements.{nzcv};
-ghost use Rattle.a64_machine.specs.Cores.{flags_in};
-
 use crate::machine::Machine;
+use a64_machine::flag_bits;
 use guest_types::length::Vl;
 use guest_types::predicate::PReg;
 use guest_types::register::ZReg;
@@ -14,11 +11,13 @@ use machine_model::outcome::Step;
 impl Debuggee for Machine {
     ghost view_of = { λ machine. machine };
 
+    #[inline(always)]
     fn step(&mut self) -> Step {
         let answer = self.step();
         answer
     }
 
+    #[inline(always)]
     fn pc(&self) -> u64 {
         self.core().pc
     }
@@ -28,7 +27,8 @@ impl Debuggee for Machine {
     }
 
     fn nzcv(&self) -> u8 {
-        flags_of(self.core().nzcv)
+        let bits = flag_bits(self.core().nzcv);
+        bits
     }
 
     fn x(&self, n: u32) -> u64 {
@@ -61,11 +61,4 @@ impl Debuggee for Machine {
     fn steps_done(&self) -> u64 {
         self.steps_done()
     }
-}
-
-// The lowest four bits of a number, which are the flags.
-fn flags_of(number: u8) -> u8
-    ensures { result ≡ nzcv (flags_in number) }
-{
-    number & 0xf
 }

@@ -1,10 +1,25 @@
 //! What is kept of a word that was decoded.
 
-use crate::instruction::Instruction;
+use a64_code::A64;
+use a64_machine::Prepared;
+use sve_code::Sve;
 
-/// An instruction and the place of its word. Where the place is no multiple of 4, the entry holds nothing.
+/// What is done at the place of an entry.
+#[derive(Clone, Copy)]
+pub enum Kept {
+    /// No word can stand there.
+    Nowhere,
+    /// An A64 instruction that was made ready for its place.
+    Ready(Prepared),
+    /// Another A64 instruction.
+    Scalar(A64),
+    /// An SVE instruction.
+    Vector(Sve),
+}
+
+/// A place, and what is done there.
 #[derive(Clone, Copy)]
 pub struct Entry {
     pub place: u64,
-    pub instruction: Instruction,
+    pub kept: Kept,
 }

@@ -1,14 +1,12 @@
 //! Instructions that compute a vector register from vector registers.
 
-ghost use Rattle.std.specs.Prelude.{◌≡◌, ◌^◌, ◌<◌};
+ghost use Rattle.std.specs.Prelude.{◌≡◌, ◌^◌};
 ghost use Rattle.std.specs.Int.{w64, cast_unsigned};
-ghost use Rattle.guest_types.specs.Length.{width_bits};
 ghost use Rattle.guest_types.specs.LaneMemory.{width_of_size};
-ghost use Rattle.guest_types.specs.Lanes.{sign_extended, ShiftFits, source_bits, binary_at, merge_at, merge_one_at, shift_at, select_at};
+ghost use Rattle.guest_types.specs.Lanes.{sign_extended, ShiftFits};
 ghost use Rattle.sve_code.specs.Numbers.{shift_size};
 ghost use Rattle.sve_code.specs.declared.Sve.{Sve};
 ghost use Rattle.a64_machine.specs.declared.core_state.Core.{Core as CoreOf};
-ghost use Rattle.sve_machine.specs.Rests.{z_of, p_of, put_lanes};
 ghost use Rattle.sve_machine.specs.Rows.{RowLeaves, shift_op, shift_count};
 
 use crate::operations::{
@@ -18,39 +16,14 @@ use crate::operations::{
 use crate::vectors::Vectors;
 use a64_machine::Core;
 use guest_types::length::Width;
-use guest_types::operation::{LaneOp, LaneUnary};
 use guest_types::register::ZReg;
-use lane_arith::binary::binary_into;
 use lane_arith::fill::{dup_into, index_into};
-use lane_arith::merge::{merge_into, select_into};
 use lane_arith::reduce::reduce;
-use lane_arith::shift::shift_into;
-use lane_arith::unary::merge_one_into;
 use sve_code::{
     AddSubOp, BinaryPredicatedOp, BitwiseOp, ExtendOp, GoverningReg, PredicateReg, ReductionOp,
     Reg, ShiftAmount, ShiftImmediateOp, Size, SizeFromH, SizeFromS, UnaryPredicatedOp, VectorReg,
 };
 use word_rows::Bits;
-
-// An operation of two registers.
-#[inline(never)]
-fn binary_row(
-    vectors: &mut Vectors,
-    op: LaneOp,
-    width: Width,
-    zd: VectorReg,
-    zn: VectorReg,
-    zm: VectorReg,
-)
-    ensures { vectors.new ≡ put_lanes vectors.old zd.number width
-        (binary_at op width (z_of vectors.old zn.number) (z_of vectors.old zm.number)) }
-{
-    let left = vectors.z(zn.number);
-    let right = vectors.z(zm.number);
-    let mut out = ZReg::zero();
-    binary_into(op, width, left, right, &mut out);
-    vectors.set_z(zd.number, &out);
-}
 
 /// "ADD (vectors, unpredicated)", "SUB (vectors, unpredicated)".
 pub fn add_sub(
@@ -63,7 +36,13 @@ pub fn add_sub(
 )
     ensures { (core : CoreOf) → RowLeaves (Sve.AddSub op zd zn zm size) core vectors.old core vectors.new }
 {
-    binary_row(vectors, add_sub_op(op), width_of(size), zd, zn, zm);
+    vectors.binary(
+        add_sub_op(op),
+        width_of(size),
+        zd.number,
+        zn.number,
+        zm.number,
+    );
 }
 
 /// "AND (vectors, unpredicated)", "ORR (vectors, unpredicated)", "EOR (vectors, unpredicated)",
@@ -71,7 +50,7 @@ pub fn add_sub(
 pub fn bitwise(vectors: &mut Vectors, op: BitwiseOp, zd: VectorReg, zn: VectorReg, zm: VectorReg)
     ensures { (core : CoreOf) → RowLeaves (Sve.Bitwise op zd zn zm) core vectors.old core vectors.new }
 {
-    binary_row(vectors, bitwise_op(op), Width::D, zd, zn, zm);
+    vectors.binary(bitwise_op(op), Width::D, zd.number, zn.number, zm.number);
 }
 
 /// "SEL (vectors)".
@@ -86,13 +65,7 @@ pub fn select(
 )
     ensures { (core : CoreOf) → RowLeaves (Sve.Sel zd zn pg zm size) core vectors.old core vectors.new }
 {
-    let width = width_of(size);
-    let mask = vectors.p(pg.number);
-    let chosen = vectors.z(zn.number);
-    let other = vectors.z(zm.number);
-    let mut out = ZReg::zero();
-    select_into(width, mask, chosen, other, &mut out);
-    vectors.set_z(zd.number, &out);
+    vectors.select(width_of(size), pg.number, zd.number, zn.number, zm.number);
 }
 
 /// "LSL (immediate, unpredicated)", "LSR (immediate, unpredicated)", "ASR (immediate,
@@ -109,10 +82,7 @@ pub fn shift(
 {
     let width = width_of(amount.size());
     let count = shift_count(op, amount);
-    let z = vectors.z(zn.number);
-    let mut out = ZReg::zero();
-    shift_into(shift_op(op), width, z, count, &mut out);
-    vectors.set_z(zd.number, &out);
+    vectors.shift(shift_op(op), width, zd.number, zn.number, count);
 }
 
 // By how many bits a shift goes.
@@ -144,34 +114,7 @@ pub fn merging(
 {
     let operation = merging_op(op);
     let width = width_of(size);
-    let mask = vectors.p(pg.number);
-    let left = vectors.z(zdn.number);
-    let right = vectors.z(zm.number);
-    let mut out = ZReg::zero();
-    merge_into(operation, width, mask, left, right, &mut out);
-    vectors.set_z(zdn.number, &out);
-}
-
-// An operation of the active elements of one register, into another one.
-#[inline(never)]
-fn merge_one_row(
-    vectors: &mut Vectors,
-    op: LaneUnary,
-    width: Width,
-    zd: VectorReg,
-    zn: VectorReg,
-    pg: GoverningReg,
-)
-    requires narrower { source_bits op < width_bits width }
-    ensures { vectors.new ≡ put_lanes vectors.old zd.number width
-        (merge_one_at op width (p_of vectors.old pg.number) (z_of vectors.old zd.number) (z_of vectors.old zn.number)) }
-{
-    let mask = vectors.p(pg.number);
-    let old = vectors.z(zd.number);
-    let z = vectors.z(zn.number);
-    let mut out = ZReg::zero();
-    merge_one_into(op, width, mask, old, z, &mut out);
-    vectors.set_z(zd.number, &out);
+    vectors.merge(operation, width, pg.number, zdn.number, zm.number);
 }
 
 /// "ABS", "NEG", "NOT (vector)".
@@ -187,7 +130,7 @@ pub fn unary(
 {
     let operation = unary_op(op);
     let width = width_of(size);
-    merge_one_row(vectors, operation, width, zd, zn, pg);
+    vectors.merge_one(operation, width, pg.number, zd.number, zn.number);
 }
 
 /// "SXTB, SXTH, SXTW", "UXTB, UXTH, UXTW": of bytes.
@@ -203,7 +146,7 @@ pub fn extend_byte(
 {
     let operation = byte_extension(op);
     let width = width_of(size.size());
-    merge_one_row(vectors, operation, width, zd, zn, pg);
+    vectors.merge_one(operation, width, pg.number, zd.number, zn.number);
 }
 
 /// "SXTB, SXTH, SXTW", "UXTB, UXTH, UXTW": of halfwords.
@@ -219,7 +162,7 @@ pub fn extend_halfword(
 {
     let operation = half_extension(op);
     let width = width_of(size.size());
-    merge_one_row(vectors, operation, width, zd, zn, pg);
+    vectors.merge_one(operation, width, pg.number, zd.number, zn.number);
 }
 
 /// "SXTB, SXTH, SXTW", "UXTB, UXTH, UXTW": of words, to doublewords.
@@ -233,7 +176,7 @@ pub fn extend_word(
     ensures { (core : CoreOf) → RowLeaves (Sve.ExtendWord op zd zn pg) core vectors.old core vectors.new }
 {
     let operation = word_extension(op);
-    merge_one_row(vectors, operation, Width::D, zd, zn, pg);
+    vectors.merge_one(operation, Width::D, pg.number, zd.number, zn.number);
 }
 
 /// "DUP (scalar)".

@@ -12,6 +12,7 @@ mod machine;
 mod memory;
 mod operations;
 mod predicates;
+mod ready;
 mod scalars;
 mod vector_step;
 mod vectors;

@@ -8,26 +8,25 @@ ghost use Rattle.machine_model.specs.Machine.{State};
 ghost use Rattle.sve_machine.specs.Keeping.{Keeps, Holds};
 
 use crate::decoding::decode;
-use crate::instruction::Instruction;
-use crate::kept::Entry;
-use a64_code::A64;
+use crate::kept::{Entry, Kept};
+use crate::ready::ready;
 use machine_model::outcome::{Step, Stop, StopKind};
 use paged_memory::pages::Pages;
 
-/// Entries that hold nothing.
+/// Entries of a place where no word can stand.
 pub fn no_words() -> [Entry; 1024]
     ensures { (memory : Memory) → All (Keeps memory) result }
 {
     let nothing = Entry {
         place: 1,
-        instruction: Instruction::Scalar(A64::Nop),
+        kept: Kept::Nowhere,
     };
     [nothing; 1024]
 }
 
-// Leaves a stop as the answer. No word was found.
+/// Leaves a stop as the answer. The step did not go.
 #[inline(always)]
-fn stop(kind: StopKind, pc: u64, at: u64, answer: &mut Step) -> bool
+pub fn stop(kind: StopKind, pc: u64, at: u64, answer: &mut Step) -> bool
     ensures found { result ≡ false }
     ensures answer { answer.new ≡ Step.Stopped (record { kind = kind; pc = pc; at = at }) }
 {
@@ -52,7 +51,7 @@ fn fill(pages: &Pages, kept: &mut [Entry; 1024], pc: u64, answer: &mut Step) -> 
         Some(instruction) => {
             kept[(pc / 4 % 1024) as usize] = Entry {
                 place: pc,
-                instruction,
+                kept: ready(instruction, pc),
             };
             true
         }
@@ -70,7 +69,7 @@ pub fn look_up(pages: &Pages, kept: &mut [Entry; 1024], pc: u64, answer: &mut St
     ensures stopped { (s : State) → result ≡ false → s.memory ≡ pages.now → s.pc ≡ pc
         → IsAnswer (step s) answer.new s s }
 {
-    if (kept[(pc / 4 % 1024) as usize].place == pc) & (pc % 4 == 0) {
+    if kept[(pc / 4 % 1024) as usize].place == pc {
         return true;
     }
     fill(pages, kept, pc, answer)

@@ -2,7 +2,7 @@
 
 ghost use Rattle.std.specs.Prelude.{◌≡◌, ◌+◌, ◌-◌, ◌^◌, ◌<◌, ◌≤◌, None, IfSome, IsTrue, true, length};
 
-use crate::advance::go;
+use crate::advance::{advance, go};
 use crate::kept::Entry;
 use crate::look_up::no_words;
 use crate::vectors::Vectors;
@@ -22,13 +22,15 @@ pub struct Machine {
     kept: [Entry; 1024],
     steps: u64,
     over: Option<Ending>,
+    // Where a step leaves its answer; one made anew would be filled at each step.
+    answer: Step,
 }
 
 impl Model for Machine {
     ghost use Rattle.std.specs.Prelude.{All};
     ghost use Rattle.machine_model.specs.Debugged.{View};
     ghost use Rattle.sve_machine.specs.Keeping.{Keeps};
-    ghost use Rattle.sve_machine.specs.Views.{view_of};
+    ghost use Rattle.sve_machine.specs.View.{view_of};
 
     ghost Value = { View };
 
@@ -44,7 +46,7 @@ impl Machine {
     ghost use Rattle.machine_model.specs.Answers.{IsAnswer, outcome_of};
     ghost use Rattle.machine_model.specs.Debugged.{RunLeaves, is_never, answer_by, ending_by, outcome_by};
     ghost use Rattle.a64_machine.specs.Cores.{state_of};
-    ghost use Rattle.sve_machine.specs.Views.{start_of, Leaves, rest_in};
+    ghost use Rattle.sve_machine.specs.View.{start_of, Leaves, rest_in};
 
     /// A machine that is about to do its first step: the arguments stand in X0 on, PC is the entry, and all other registers
     /// are zero.
@@ -60,7 +62,7 @@ impl Machine {
     }
 
     /// The same with a stop list: its first-fault and non-fault loads stop early where the list says so.
-    #[tactic(auto, unfolding(crate::specs::Views::start_of), using(crate::proofs::Starts::copied))]
+    #[tactic(auto, unfolding(crate::specs::View::start_of), using(crate::proofs::Starts::copied))]
     pub fn suppressing(pages: Pages, entry: u64, args: &[u64], vl: Vl, stops: Suppress) -> Machine
         requires { length args.now ≤ 8 }
         ensures state { result.state ≡ start_of pages entry args.now vl stops }
@@ -84,6 +86,7 @@ impl Machine {
             kept: no_words(),
             steps: 0,
             over: None,
+            answer: Step::Went,
         }
     }
 
@@ -108,7 +111,9 @@ impl Machine {
         answer
     }
 
-    /// One step. After an end or a stop it answers the same again and changes nothing.
+    /// One step. After an end or a stop it answers the same again and changes nothing. It has no loop of its own, so
+    /// that a caller's loop of steps is as fast as `run`.
+    #[inline(always)]
     pub fn step(&mut self) -> Step
         requires { self.old.steps < 2 ^ 64 - 1 }
         ensures again { IfSome self.old.over (λ ending. result ≡ answer_by ending) }
@@ -121,7 +126,20 @@ impl Machine {
         if let Some(ending) = self.over {
             return answer_by(ending);
         }
-        self.advance(1)
+        let went = advance(
+            &mut self.core,
+            &mut self.pages,
+            &mut self.vectors,
+            &mut self.kept,
+            &mut self.answer,
+        );
+        self.steps += 1;
+        if went {
+            return Step::Went;
+        }
+        let last = self.answer;
+        self.over = ending_by(last);
+        last
     }
 
     /// Runs for at most so many steps. `Spent` comes exactly where all of them went without an end or a stop.
@@ -217,4 +235,4 @@ fn answer_by(ending: Ending) -> Step
 
 ghost use Rattle.machine_model.specs.Machine.{State, x_at};
 ghost use Rattle.machine_model.specs.Debugged.{ending_by, answer_by, outcome_by};
-ghost use Rattle.sve_machine.specs.Views.{outcome_at};
+ghost use Rattle.sve_machine.specs.View.{outcome_at};

@@ -1,8 +1,8 @@
 //! Vector loads and stores.
 
-ghost use Rattle.std.specs.Prelude.{◌≡◌, false, slice_index};
+ghost use Rattle.std.specs.Prelude.{◌≡◌, slice_index};
 ghost use Rattle.sve_code.specs.Numbers.{dtype_number, size_number};
-ghost use Rattle.sve_code.specs.Seen.{seen};
+ghost use Rattle.sve_code.specs.View.{seen};
 ghost use Rattle.sve_code.specs.declared.Sve.{Sve};
 ghost use Rattle.machine_model.specs.Answers.{IsAnswer};
 ghost use Rattle.machine_model.specs.Machine.{x_or_sp};
@@ -13,11 +13,10 @@ ghost use Rattle.sve_machine.specs.Rests.{p_of, put_load};
 ghost use Rattle.sve_machine.specs.Rows.{after_load};
 
 use crate::vectors::Vectors;
-use a64_machine::Core;
-use guest_types::memory::AccessFault;
+use a64_machine::{Core, refused};
 use guest_types::row::{LoadMode, LoadRow, StoreRow};
 use lane_memory::store::store;
-use machine_model::outcome::{Step, Stop, StopKind};
+use machine_model::outcome::{Step, StopKind};
 use paged_memory::pages::Pages;
 use sve_code::{Dtype, GoverningReg, OffsetReg, Reg, StoreSizes, VectorReg};
 
@@ -49,21 +48,6 @@ fn offset_of(core: &Core, offset: OffsetReg) -> u64
     ensures { result ≡ slice_index core.now.x offset.number }
 {
     core.x[offset.number as usize]
-}
-
-// Stops at a byte that may not be accessed. The step did not go.
-#[cold]
-#[inline(never)]
-fn refused(core: &Core, kind: StopKind, fault: AccessFault, answer: &mut Step) -> bool
-    ensures went { result ≡ false }
-    ensures answer { answer.new ≡ Step.Stopped (record { kind = kind; pc = core.now.pc; at = fault.address }) }
-{
-    *answer = Step::Stopped(Stop {
-        kind,
-        pc: core.pc,
-        at: fault.address,
-    });
-    false
 }
 
 // A load in one of its modes, from a base with an index in elements.

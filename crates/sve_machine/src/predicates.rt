@@ -17,7 +17,7 @@ use guest_types::operation::PredOp;
 use guest_types::predicate::PReg;
 use lane_preds::compare::compare_into;
 use lane_preds::logic::{brk_into, logic_into};
-use lane_preds::make::{all_true_into, while_lo_into};
+use lane_preds::make::{all_true_into, while_lo_test};
 use lane_preds::test::{count, pred_test};
 use sve_code::{
     BreakOp, ElementCountOp, GoverningReg, PredicateLogicalOp, PredicateReg, Reg, Size,
@@ -73,11 +73,10 @@ pub fn while_below(
     let vl = vectors.vl();
     let from = core.register(rn);
     let to = core.register(rm);
-    let mut mask = PReg::none();
-    all_true_into(width, vl, &mut mask);
     let mut out = PReg::none();
-    while_lo_into(width, vl, from, to, &mut out);
-    set_flags(core, width, vl, &mask, &out);
+    let flags = while_lo_test(width, vl, from, to, &mut out);
+    flags_are_kept();
+    core.nzcv = flags;
     vectors.set_p(pd.number, &out);
 }
 

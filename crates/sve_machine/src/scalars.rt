@@ -1,7 +1,7 @@
 //! A64 instructions of the machine.
 
 ghost use Rattle.std.specs.Prelude.{◌≡◌};
-ghost use Rattle.a64_code.specs.Seen.{seen};
+ghost use Rattle.a64_code.specs.View.{seen};
 ghost use Rattle.a64_machine.specs.Cores.{state_of, HasVector, said};
 ghost use Rattle.machine_model.specs.InstructionTable.{Scalar};
 ghost use Rattle.machine_model.specs.OneStep.{does};
@@ -24,8 +24,9 @@ fn hand_doubleword(core: &mut Core, vectors: &Vectors, word: A64)
     }
 }
 
-/// One A64 instruction: whether it goes on, or else its answer. It leaves the vector registers alone.
-#[inline(always)]
+/// One A64 instruction: whether it goes on, or else its answer. It leaves the vector registers alone. It is called, so that
+/// vector instructions, which are done beside it, save no registers for it.
+#[inline(never)]
 pub fn scalar_goes(
     core: &mut Core,
     pages: &mut Pages,

@@ -1,7 +1,7 @@
 //! SVE instructions of the machine.
 
 ghost use Rattle.std.specs.Prelude.{◌≡◌};
-ghost use Rattle.sve_code.specs.Seen.{seen};
+ghost use Rattle.sve_code.specs.View.{seen};
 ghost use Rattle.a64_machine.specs.Cores.{state_of, said};
 ghost use Rattle.a64_machine.specs.declared.core_state.Core.{Core as CoreOf};
 ghost use Rattle.machine_model.specs.InstructionTable.{Vector};

@@ -7,11 +7,14 @@ ghost use Rattle.machine_model.specs.States.{IsVector, IsPredicate};
 
 use guest_types::length::{Vl, Width};
 use guest_types::memory::AccessFault;
+use guest_types::operation::{LaneOp, LaneUnary, ShiftOp};
 use guest_types::predicate::PReg;
 use guest_types::register::ZReg;
 use guest_types::row::{LoadMode, LoadRow, StoreRow};
+use lane_arith::bank::{binary_in, merge_in, merge_one_in, select_in, shift_in};
 use lane_memory::load::load_into;
 use lane_memory::suppress::Suppress;
+use lane_preds::test::is_all_true;
 use paged_memory::pages::Pages;
 use std::marker::Model;
 
@@ -26,10 +29,10 @@ pub struct Vectors {
 }
 
 impl Model for Vectors {
-    ghost use Rattle.a64_machine.specs.Cores.{Rest};
+    ghost use Rattle.a64_machine.specs.Cores.{VectorState};
     ghost use Rattle.sve_machine.specs.Rests.{rest_of, IsRest};
 
-    ghost Value = { Rest };
+    ghost Value = { VectorState };
 
     ghost view = { λ v. rest_of v.z v.p v.ffr v.vl v.stops };
 
@@ -37,7 +40,9 @@ impl Model for Vectors {
 }
 
 impl Vectors {
-    ghost use Rattle.sve_machine.specs.Rests.{IsRest, zeros, z_of, p_of, put_z, put_p, put_ffr};
+    ghost use Rattle.sve_machine.specs.Rests.{IsRest, zeros, z_of, p_of, put_z, put_p, put_ffr, put_lanes};
+    ghost use Rattle.guest_types.specs.Length.{width_bits};
+    ghost use Rattle.guest_types.specs.Lanes.{ShiftFits, source_bits, binary_at, merge_at, merge_one_at, shift_at, select_at};
     ghost use Rattle.lane_memory.specs.Loads.{load_of};
     ghost use Rattle.sve_machine.specs.Rests.{put_load};
 
@@ -133,6 +138,73 @@ impl Vectors {
         ensures { result ≡ element 8 (z_of self.now n) 0 }
     {
         self.z(n).element(Width::D, 0)
+    }
+
+    /// An operation of two vector registers, into one.
+    pub fn binary(&mut self, op: LaneOp, width: Width, zd: u32, zn: u32, zm: u32)
+        requires zd { zd < 32 }
+        requires zn { zn < 32 }
+        requires zm { zm < 32 }
+        ensures { self.new ≡ put_lanes self.old zd width (binary_at op width (z_of self.old zn) (z_of self.old zm)) }
+    {
+        let (left, right, out) = (zn as usize, zm as usize, zd as usize);
+        binary_in(op, width, self.vl, &mut self.z, left, right, out);
+    }
+
+    /// An operation of the active elements of two vector registers, into the first of them.
+    pub fn merge(&mut self, op: LaneOp, width: Width, pg: u32, zdn: u32, zm: u32)
+        requires pg { pg < 16 }
+        requires zdn { zdn < 32 }
+        requires zm { zm < 32 }
+        ensures { self.new ≡ put_lanes self.old zdn width
+            (merge_at op width (p_of self.old pg) (z_of self.old zdn) (z_of self.old zm)) }
+    {
+        let mask = self.p[pg as usize];
+        if is_all_true(width, self.vl, &mask) {
+            self.binary(op, width, zdn, zdn, zm);
+            return;
+        }
+        let (right, out) = (zm as usize, zdn as usize);
+        merge_in(op, width, self.vl, &mask, &mut self.z, right, out);
+    }
+
+    /// An operation of the active elements of a vector register, into another one.
+    pub fn merge_one(&mut self, op: LaneUnary, width: Width, pg: u32, zd: u32, zn: u32)
+        requires narrower { source_bits op < width_bits width }
+        requires pg { pg < 16 }
+        requires zd { zd < 32 }
+        requires zn { zn < 32 }
+        ensures { self.new ≡ put_lanes self.old zd width
+            (merge_one_at op width (p_of self.old pg) (z_of self.old zd) (z_of self.old zn)) }
+    {
+        let mask = self.p[pg as usize];
+        let (z, out) = (zn as usize, zd as usize);
+        merge_one_in(op, width, self.vl, &mask, &mut self.z, z, out);
+    }
+
+    /// A shift of a vector register, into another one.
+    pub fn shift(&mut self, op: ShiftOp, width: Width, zd: u32, zn: u32, count: u32)
+        requires fits { ShiftFits op width count }
+        requires zd { zd < 32 }
+        requires zn { zn < 32 }
+        ensures { self.new ≡ put_lanes self.old zd width (shift_at op width (z_of self.old zn) count) }
+    {
+        let (z, out) = (zn as usize, zd as usize);
+        shift_in(op, width, self.vl, &mut self.z, z, count, out);
+    }
+
+    /// The active elements of a vector register, and the others of another one.
+    pub fn select(&mut self, width: Width, pg: u32, zd: u32, zn: u32, zm: u32)
+        requires pg { pg < 16 }
+        requires zd { zd < 32 }
+        requires zn { zn < 32 }
+        requires zm { zm < 32 }
+        ensures { self.new ≡ put_lanes self.old zd width
+            (select_at width (p_of self.old pg) (z_of self.old zn) (z_of self.old zm)) }
+    {
+        let mask = self.p[pg as usize];
+        let (yes, no, out) = (zn as usize, zm as usize, zd as usize);
+        select_in(width, self.vl, &mask, &mut self.z, yes, no, out);
     }
 
     /// Loads a vector register under a predicate register: LD1, LDFF1 or LDNF1 by the mode.

@@ -3,5 +3,5 @@ use Rattle.sve_machine.proofs.lanes.add_sub.Goals as goal
 
 pub returns : goal.returns
 returns c core memory =
-    add_sub_row c.args.op c.args.zd.number c.args.zn.number c.args.zm.number _ c.args.vectors.now c.binary_row.new.vectors c.add_sub_op.result c.width_of.result c.add_sub_op.ensures c.width_of.ensures
-    c.binary_row.ensures core memory
+    add_sub_row c.args.op c.args.zd.number c.args.zn.number c.args.zm.number _ c.args.vectors.now c.binary.new.self c.add_sub_op.result c.width_of.result c.add_sub_op.ensures c.width_of.ensures
+    c.binary.ensures core memory

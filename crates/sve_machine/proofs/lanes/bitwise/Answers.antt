@@ -3,4 +3,4 @@ use Rattle.sve_machine.proofs.lanes.bitwise.Goals as goal
 
 pub returns : goal.returns
 returns c core memory =
-    bitwise_row c.args.op c.args.zd.number c.args.zn.number c.args.zm.number c.args.vectors.now c.binary_row.new.vectors c.bitwise_op.result c.bitwise_op.ensures c.binary_row.ensures core memory
+    bitwise_row c.args.op c.args.zd.number c.args.zn.number c.args.zm.number c.args.vectors.now c.binary.new.self c.bitwise_op.result c.bitwise_op.ensures c.binary.ensures core memory

@@ -1,6 +1,5 @@
-use Rattle.std.proofs.Common.{refl}
 use Rattle.sve_machine.proofs.Words.{none_kept}
 use Rattle.sve_machine.proofs.look_up.no_words.Goals as goal
 
 pub returns : goal.returns
-returns c memory = none_kept memory 1024 _ refl
+returns c memory = none_kept memory 1024

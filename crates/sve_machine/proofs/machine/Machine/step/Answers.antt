@@ -1,12 +1,19 @@
-use Rattle.std.proofs.Common.{◌-◌, arith}
-use Rattle.sve_machine.proofs.Going.{one_step}
+use Rattle.std.proofs.Common.{ap, ◌∙◌}
+use Rattle.machine_model.specs.Debugged.{View}
+use Rattle.a64_machine.specs.Cores.{state_of, said}
+use Rattle.sve_machine.proofs.Going.{one_quiet}
 use Rattle.sve_machine.proofs.machine.Machine.step.Goals as goal
 
-pub returns-clause-answer : goal.returns-clause-answer
-returns-clause-answer c running =
-    (one_step c.advance.result (c.advance.new.self.steps - c.args.self.now.steps) c.args.self.now.state c.advance.new.self.state c.advance.ensures.leaves).1
+pub returns-then-went-clause-quiet : goal.returns-then-went-clause-quiet
+returns-then-went-clause-quiet c quiet =
+    let own = c.self.inside in
+    let left = c.advance-went.new in
+    one_quiet (said c.advance-went.result left.answer) (state_of own.core own.pages own.vectors) (state_of left.core left.pages left.vectors)
+    c.advance-went.ensures.answer (ap (λ (v : View). v.quiet) c.self.view_is ∙ quiet)
 
-pub returns-clause-steps : goal.returns-clause-steps
-returns-clause-steps c running =
-    let one = (one_step c.advance.result (c.advance.new.self.steps - c.args.self.now.steps) c.args.self.now.state c.advance.new.self.state c.advance.ensures.leaves).0 in
-    omega (arith, one, c.advance.ensures.counted)
+pub returns-clause-quiet : goal.returns-clause-quiet
+returns-clause-quiet c quiet =
+    let own = c.self.inside in
+    let left = c.advance-went.new in
+    one_quiet (said c.advance-went.result left.answer) (state_of own.core own.pages own.vectors) (state_of left.core left.pages left.vectors)
+    c.advance-went.ensures.answer (ap (λ (v : View). v.quiet) c.self.view_is ∙ quiet)

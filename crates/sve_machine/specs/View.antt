@@ -12,15 +12,15 @@ use Rattle.machine_model.specs.OneStep.{step}
 use Rattle.machine_model.specs.Run.{start_x, after_steps}
 use Rattle.machine_model.specs.Answers.{IsAnswer}
 use Rattle.machine_model.specs.Debugged.{View, is_never}
-use Rattle.a64_machine.specs.Cores.{Rest, state_of}
+use Rattle.a64_machine.specs.Cores.{VectorState, state_of}
 use Rattle.a64_machine.specs.declared.core_state.Core.{Core}
 
 -- what is seen of the parts of a machine
-abbrev pub view_of : Core → Memory → Rest → (steps : ℕ) → Option Ending → View
+abbrev pub view_of : Core → Memory → VectorState → (steps : ℕ) → Option Ending → View
 view_of core memory rest steps over = record { state = state_of core memory rest; steps = steps; over = over; quiet = is_never rest.stops }
 
 -- the part of a state that A64 instructions leave alone
-abbrev pub rest_in : State → Rest
+abbrev pub rest_in : State → VectorState
 rest_in s = record { z = s.z; p = s.p; ffr = s.ffr; vl = s.vl; stops = s.stops }
 
 -- where a run starts: this memory, the arguments in X0 on, PC at the entry, and zero in all other registers
@@ -38,7 +38,7 @@ start_of memory entry args vl stops = record {
   stops = stops;
 }
 
--- some steps went, and the one behind them came to this answer
+-- some steps went, and the one after them came to this answer
 pub record Last (answer : StepAnswer) (steps done : ℕ) (before after : State) : Type 0 where
   pub went : ℕ
   pub within : went < steps

@@ -2,7 +2,7 @@ use Rattle.std.proofs.Common.{◌≡◌, ℕ, ◌*◌, ◌/◌, ◌%◌, ◌^◌
 use Rattle.std.specs.Prelude.{nat_eq}
 use Rattle.std.proofs.lemmas.Bool.{eqb-true, eqb-false}
 use Rattle.std.proofs.lemmas.Nat.{and_mask}
-use Rattle.sve_machine.proofs.debugged.flags_of.Goals as goal
+use Rattle.a64_machine.proofs.conditions.flag_bits.Goals as goal
 
 -- a bit of the number, at its place
 eight : (b : Bool) (m : ℕ) → nat_eq (m % 2) 1 ≡ b → cond b 8 0 ≡ 8 * (m % 2)
@@ -21,8 +21,8 @@ one : (b : Bool) (m : ℕ) → nat_eq (m % 2) 1 ≡ b → cond b 1 0 ≡ m % 2
 one true m e = omega (arith, eqb-true (m % 2) 1 e)
 one false m e = let no = eqb-false (m % 2) 1 e in omega arith
 
-pub returns : goal.returns
-returns c =
+pub returns-clause-value : goal.returns-clause-value
+returns-clause-value c =
     let n = c.args.number in
     let a = eight (nat_eq (n / 2 ^ 3 % 2) 1) (n / 2 ^ 3) refl in
     let b = four (nat_eq (n / 2 ^ 2 % 2) 1) (n / 2 ^ 2) refl in

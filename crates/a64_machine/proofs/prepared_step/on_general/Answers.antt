@@ -1,0 +1,16 @@
+use Rattle.std.proofs.Common.{ap, ◌∙◌}
+use Rattle.a64_machine.specs.Cores.{state_of}
+use Rattle.a64_machine.specs.Prepared.{prepared_does}
+use Rattle.a64_machine.proofs.prepared_step.on_general.Goals as goal
+
+pub returns-in-LessNumber : goal.returns-in-LessNumber
+returns-in-LessNumber c memory rest kind =
+    ap (λ p. prepared_does p (state_of c.args.core.now memory rest)) c.in-LessNumber.is ∙ c.less_number.ensures memory rest
+
+pub returns-in-CompareNumber : goal.returns-in-CompareNumber
+returns-in-CompareNumber c memory rest kind =
+    ap (λ p. prepared_does p (state_of c.args.core.now memory rest)) c.in-CompareNumber.is ∙ c.compare_number.ensures memory rest
+
+pub returns-in-Compare : goal.returns-in-Compare
+returns-in-Compare c memory rest kind =
+    ap (λ p. prepared_does p (state_of c.args.core.now memory rest)) c.in-Compare.is ∙ c.compare.ensures memory rest

@@ -1,0 +1,74 @@
+-- What a prepared instruction does.
+use Rattle.std.specs.Prelude.{◌≡◌, ℕ, ◌+◌, ◌*◌, ◌%◌, ◌^◌, Bool, not, nat_eq, bit_and, bit_or, bit_xor}
+use Rattle.guest_types.specs.Elements.{nzcv}
+use Rattle.a64_code.specs.View.{seen}
+use Rattle.a64_code.specs.declared.A64.{A64}
+use Rattle.a64_code.specs.declared.BitfieldOp.{BitfieldOp}
+use Rattle.a64_code.specs.declared.BitfieldOp.TheVariants as bitfield_ops
+use Rattle.a64_code.specs.declared.LogicalOp.{LogicalOp}
+use Rattle.a64_code.specs.declared.LogicalOp.TheVariants as logical_ops
+use Rattle.machine_model.specs.Arithmetic.{sum, difference, inverted, shifted, signed_field, unsigned_field}
+use Rattle.machine_model.specs.Machine.{State, Step, Went, x_at, jump}
+use Rattle.machine_model.specs.Effects.{jump_if, write, write_with_flags}
+use Rattle.machine_model.specs.InstructionTable.{Scalar}
+use Rattle.machine_model.specs.OneStep.{does}
+use Rattle.a64_machine.specs.Cores.{is_set}
+use Rattle.a64_machine.specs.Accesses.{byte_access, access}
+use Rattle.a64_machine.specs.declared.prepared_form.Prepared.{Prepared}
+use Rattle.a64_machine.specs.declared.prepared_form.Prepared.TheVariants.{AddNumber, LessNumber, CompareNumber, Add, Subtract, Compare, Logical, Field, MultiplyAdd, Constant, Jump, JumpWhere, JumpAtZero, JumpElse, ByteAtRegister, ByteAtNumber, WideAtRegister, WideAtNumber}
+
+abbrev pub logical : LogicalOp → ℕ → ℕ → ℕ
+logical logical_ops.And a b = bit_and a b
+logical logical_ops.Orr a b = bit_or a b
+logical logical_ops.Eor a b = bit_xor a b
+logical logical_ops.Orn a b = bit_or a (inverted b)
+
+abbrev pub field : BitfieldOp → ℕ → ℕ → ℕ → ℕ
+field bitfield_ops.Sbfm v immr imms = signed_field v immr imms
+field bitfield_ops.Ubfm v immr imms = unsigned_field v immr imms
+
+-- register 31 takes no write, so a comparison is a subtraction to it
+abbrev pub prepared_does : Prepared → State → Step
+prepared_does (AddNumber rd rn number) s = write s rd.number (sum (x_at s rn.number) number)
+prepared_does (LessNumber rd rn number) s = write_with_flags s rd.number (x_at s rn.number) number
+prepared_does (CompareNumber rn number) s = write_with_flags s 31 (x_at s rn.number) number
+prepared_does (Add rd rn rm by) s = write s rd.number (sum (x_at s rn.number) (shifted 0 (x_at s rm.number) by.number))
+prepared_does (Subtract rd rn rm by) s = write s rd.number (difference (x_at s rn.number) (shifted 0 (x_at s rm.number) by.number))
+prepared_does (Compare rn rm by) s = write_with_flags s 31 (x_at s rn.number) (shifted 0 (x_at s rm.number) by.number)
+prepared_does (Logical op rd rn rm by) s = write s rd.number (logical op (x_at s rn.number) (shifted 0 (x_at s rm.number) by.number))
+prepared_does (Field op rd rn imms immr) s = write s rd.number (field op (x_at s rn.number) immr.number imms.number)
+prepared_does (MultiplyAdd rd rn ra rm) s = write s rd.number (sum (x_at s ra.number) (x_at s rn.number * x_at s rm.number % 2 ^ 64))
+prepared_does (Constant rd number) s = write s rd.number number
+prepared_does (Jump place) s = Went (jump s place)
+prepared_does (JumpWhere taken place) s = jump_if (is_set taken (nzcv s.flags)) s place
+prepared_does (JumpAtZero rt place) s = jump_if (nat_eq (x_at s rt.number) 0) s place
+prepared_does (JumpElse rt place) s = jump_if (not (nat_eq (x_at s rt.number) 0)) s place
+prepared_does (ByteAtRegister op rt rn rm) s = byte_access op s rt.number (sum (x_at s rn.number) (x_at s rm.number))
+prepared_does (ByteAtNumber op rt rn number) s = byte_access op s rt.number (sum (x_at s rn.number) number)
+prepared_does (WideAtRegister op rt rn rm by) s = access op s rt.number (sum (x_at s rn.number) (x_at s rm.number * 2 ^ by.number % 2 ^ 64))
+prepared_does (WideAtNumber op rt rn number) s = access op s rt.number (sum (x_at s rn.number) number)
+
+-- at this place a prepared instruction does what the instruction does
+abbrev pub IsReady : A64 → (pc : ℕ) → Prepared → Type 0
+IsReady word pc prepared = (s : State) → s.pc ≡ pc → does (Scalar (seen word)) s ≡ prepared_does prepared s
+
+-- it is no load and no store
+abbrev pub IsOnGeneral : Prepared → Type 0
+IsOnGeneral (AddNumber a b c) = Unit {0}
+IsOnGeneral (LessNumber a b c) = Unit {0}
+IsOnGeneral (CompareNumber a b) = Unit {0}
+IsOnGeneral (Add a b c d) = Unit {0}
+IsOnGeneral (Subtract a b c d) = Unit {0}
+IsOnGeneral (Compare a b c) = Unit {0}
+IsOnGeneral (Logical a b c d e) = Unit {0}
+IsOnGeneral (Field a b c d e) = Unit {0}
+IsOnGeneral (MultiplyAdd a b c d) = Unit {0}
+IsOnGeneral (Constant a b) = Unit {0}
+IsOnGeneral (Jump a) = Unit {0}
+IsOnGeneral (JumpWhere a b) = Unit {0}
+IsOnGeneral (JumpAtZero a b) = Unit {0}
+IsOnGeneral (JumpElse a b) = Unit {0}
+IsOnGeneral (ByteAtRegister a b c d) = ⊥
+IsOnGeneral (ByteAtNumber a b c d) = ⊥
+IsOnGeneral (WideAtRegister a b c d e) = ⊥
+IsOnGeneral (WideAtNumber a b c d) = ⊥

@@ -1,0 +1,214 @@
+// One prepared instruction.
+
+ghost use Rattle.std.specs.Prelude.{◌≡◌, ◌+◌, ◌%◌, ◌^◌, slice_set};
+ghost use Rattle.guest_types.specs.Memory.{Memory};
+ghost use Rattle.machine_model.specs.Machine.{Went};
+ghost use Rattle.machine_model.specs.Answers.{IsAnswer};
+ghost use Rattle.a64_machine.specs.Cores.{VectorState, state_of, said};
+ghost use Rattle.a64_machine.specs.Prepared.{prepared_does, logical, field, IsOnGeneral};
+
+use crate::accesses::{access, byte_access};
+use crate::bit_fields::{signed_field, unsigned_field};
+use crate::conditions::{flag_bits, is_in};
+use crate::core_state::Core;
+use crate::prepared_form::{General, Prepared};
+use crate::writes::{jump_if, write_with_flags};
+use a64_code::{BitfieldOp, LogicalOp, Reg};
+use machine_model::outcome::Step;
+use paged_memory::pages::Pages;
+use word_rows::Bits;
+
+/// Register 31, which takes no write.
+#[inline(always)]
+fn none() -> Reg
+    ensures { result.number ≡ 31 }
+{
+    Reg::new(31)
+}
+
+/// Writes a register, and goes on to the next word.
+#[inline(always)]
+fn write_general(core: &mut Core, rd: General, value: u64)
+    ensures { core.new ≡ record core.old { x = slice_set core.old.x rd.number value; pc = (core.old.pc + 4) % 2 ^ 64 } }
+{
+    core.set_general(rd, value);
+    core.go_on();
+}
+
+#[inline(always)]
+fn less_number(core: &mut Core, rd: General, rn: General, number: u64)
+    ensures { (memory : Memory) (rest : VectorState) →
+        prepared_does (Prepared.LessNumber rd rn number) (state_of core.old memory rest)
+        ≡ Went (state_of core.new memory rest) }
+{
+    let left = core.general(rn);
+    write_with_flags(core, rd.register(), left, number);
+}
+
+#[inline(always)]
+fn compare_number(core: &mut Core, rn: General, number: u64)
+    ensures { (memory : Memory) (rest : VectorState) →
+        prepared_does (Prepared.CompareNumber rn number) (state_of core.old memory rest)
+        ≡ Went (state_of core.new memory rest) }
+{
+    let left = core.general(rn);
+    write_with_flags(core, none(), left, number);
+}
+
+#[inline(always)]
+fn compare(core: &mut Core, rn: General, rm: General, by: Bits<6>)
+    ensures { (memory : Memory) (rest : VectorState) →
+        prepared_does (Prepared.Compare rn rm by) (state_of core.old memory rest)
+        ≡ Went (state_of core.new memory rest) }
+{
+    let left = core.general(rn);
+    let right = core.general(rm) << by.number;
+    write_with_flags(core, none(), left, right);
+}
+
+/// Two numbers, bit by bit.
+#[inline(always)]
+fn bit_by_bit(op: LogicalOp, left: u64, right: u64) -> u64
+    ensures { result ≡ logical op left right }
+{
+    match op {
+        LogicalOp::And => left & right,
+        LogicalOp::Orr => left | right,
+        LogicalOp::Eor => left ^ right,
+        LogicalOp::Orn => left | !right,
+    }
+}
+
+/// A bit field of a number.
+#[inline(always)]
+fn field(op: BitfieldOp, value: u64, immr: Bits<6>, imms: Bits<6>) -> u64
+    ensures { result ≡ field op value immr.number imms.number }
+{
+    match op {
+        BitfieldOp::Sbfm => signed_field(value, immr.number, imms.number),
+        BitfieldOp::Ubfm => unsigned_field(value, immr.number, imms.number),
+    }
+}
+
+#[inline(always)]
+fn jump_where(core: &mut Core, taken: u16, place: u64)
+    ensures { (memory : Memory) (rest : VectorState) →
+        prepared_does (Prepared.JumpWhere taken place) (state_of core.old memory rest)
+        ≡ Went (state_of core.new memory rest) }
+{
+    let is_taken = is_in(taken, flag_bits(core.nzcv));
+    jump_if(core, is_taken, place);
+}
+
+#[inline(always)]
+fn jump_at_zero(core: &mut Core, rt: General, place: u64)
+    ensures { (memory : Memory) (rest : VectorState) →
+        prepared_does (Prepared.JumpAtZero rt place) (state_of core.old memory rest)
+        ≡ Went (state_of core.new memory rest) }
+{
+    let taken = core.general(rt) == 0;
+    jump_if(core, taken, place);
+}
+
+#[inline(always)]
+fn jump_else(core: &mut Core, rt: General, place: u64)
+    ensures { (memory : Memory) (rest : VectorState) →
+        prepared_does (Prepared.JumpElse rt place) (state_of core.old memory rest)
+        ≡ Went (state_of core.new memory rest) }
+{
+    let taken = core.general(rt) != 0;
+    jump_if(core, taken, place);
+}
+
+#[inline(always)]
+fn jump(core: &mut Core, place: u64)
+    ensures { core.new ≡ record core.old { pc = place } }
+{
+    core.pc = place;
+}
+
+/// A prepared instruction that is no load and no store.
+#[inline(always)]
+fn on_general(core: &mut Core, prepared: &Prepared)
+    ensures { (memory : Memory) (rest : VectorState) → IsOnGeneral prepared.now →
+        prepared_does prepared.now (state_of core.old memory rest) ≡ Went (state_of core.new memory rest) }
+{
+    match *prepared {
+        Prepared::AddNumber { rd, rn, number } => {
+            let value = core.general(rn).wrapping_add(number);
+            write_general(core, rd, value)
+        }
+        Prepared::LessNumber { rd, rn, number } => less_number(core, rd, rn, number),
+        Prepared::JumpWhere { taken, place } => jump_where(core, taken, place),
+        Prepared::Add { rd, rn, rm, by } => {
+            let value = core.general(rn).wrapping_add(core.general(rm) << by.number);
+            write_general(core, rd, value)
+        }
+        Prepared::Subtract { rd, rn, rm, by } => {
+            let value = core.general(rn).wrapping_sub(core.general(rm) << by.number);
+            write_general(core, rd, value)
+        }
+        Prepared::Field {
+            op,
+            rd,
+            rn,
+            imms,
+            immr,
+        } => {
+            let value = field(op, core.general(rn), immr, imms);
+            write_general(core, rd, value)
+        }
+        Prepared::CompareNumber { rn, number } => compare_number(core, rn, number),
+        Prepared::Compare { rn, rm, by } => compare(core, rn, rm, by),
+        Prepared::Logical { op, rd, rn, rm, by } => {
+            let value = bit_by_bit(op, core.register(rn), core.general(rm) << by.number);
+            write_general(core, rd, value)
+        }
+        Prepared::MultiplyAdd { rd, rn, ra, rm } => {
+            let product = core.general(rn).wrapping_mul(core.general(rm));
+            let value = core.register(ra).wrapping_add(product);
+            write_general(core, rd, value)
+        }
+        Prepared::Constant { rd, number } => write_general(core, rd, number),
+        Prepared::Jump { place } => jump(core, place),
+        Prepared::JumpAtZero { rt, place } => jump_at_zero(core, rt, place),
+        Prepared::JumpElse { rt, place } => jump_else(core, rt, place),
+        _ => {}
+    }
+}
+
+/// One prepared instruction: whether it goes on. Where it does not, its answer is left in `answer`.
+#[inline(always)]
+pub fn prepared_goes(
+    core: &mut Core,
+    pages: &mut Pages,
+    prepared: &Prepared,
+    answer: &mut Step,
+) -> bool
+    ensures { (rest : VectorState) → let before = state_of core.old pages.old rest in
+        IsAnswer (prepared_does prepared.now before) (said result answer.new) before
+        (state_of core.new pages.new rest) }
+{
+    match *prepared {
+        Prepared::ByteAtRegister { op, rt, rn, rm } => {
+            let address = core.general(rn).wrapping_add(core.general(rm));
+            byte_access(core, pages, op, rt, address, answer)
+        }
+        Prepared::ByteAtNumber { op, rt, rn, number } => {
+            let address = core.general(rn).wrapping_add(number);
+            byte_access(core, pages, op, rt, address, answer)
+        }
+        Prepared::WideAtRegister { op, rt, rn, rm, by } => {
+            let address = core.general(rn).wrapping_add(core.general(rm) << by.number);
+            access(core, pages, op, rt, address, answer)
+        }
+        Prepared::WideAtNumber { op, rt, rn, number } => {
+            let address = core.general(rn).wrapping_add(number);
+            access(core, pages, op, rt, address, answer)
+        }
+        _ => {
+            on_general(core, prepared);
+            true
+        }
+    }
+}
