@@ -50,7 +50,7 @@ back n xs ys zs e q = rw (e, q) (take-append_seam xs zs)
 scope_is : (s : Scope) (ls : List Local) (i : Option (List ℕ)) (b : Bool) (names : List (List ℕ)) → ls ≡ s.visible → i ≡ s.index → b ≡ s.inside → record { visible = ls; taken = names; index = i; inside = b } ≡ record s { taken = names }
 scope_is s ls i b names e f g = rw (e, f, g) refl
 
--- behind a block those names are visible that were so before it
+-- after a block those names are visible that were so before it
 pub kept-block : (s : Scope) (n : ℕ) (b : Block) → n ≡ length s.visible → kept n (after_block s b) ≡ left s (after_block s b)
 kept-block s n b e =
     let g = grows_by_block b s in

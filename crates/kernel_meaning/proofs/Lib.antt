@@ -13,3 +13,5 @@ pub mod Turns
 pub mod Courses
 pub mod Whole
 pub mod Turned
+pub mod TypeRanges
+pub mod ExtendedForm

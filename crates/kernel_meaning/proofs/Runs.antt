@@ -50,7 +50,7 @@ looped body = record { index = i; bound = n; body = body }
 abbrev loop_of : List Parameter → Block → Program
 loop_of ps body = record { name = codes "k"; params = ps ++ scalar n ty.U64 ∷ []; vars = []; turns = Some (looped body); answer = None }
 
--- the memory behind a run, from its number of bytes at an address
+-- the memory after a run, from its number of bytes at an address
 abbrev left_at : Run → ℕ → ℕ → ℕ
 left_at (End memory r m) address size = number_at memory address size
 left_at (Fault memory m) address size = number_at memory address size
@@ -135,7 +135,7 @@ copy-ends = refl
 abbrev fill : Program
 fill = loop_of (array a ty.U8 ∷ scalar v ty.U8 ∷ []) (Then (Put a (Variable i) (Variable v)) Done)
 
--- the page ends behind 32 of the bytes
+-- the page ends after 32 of the bytes
 filled : Run
 filled = scalar_run fill (0x10fe0 ∷ 7 ∷ 100 ∷ []) (page 0x10 ReadWrite (replicate 4096 0) ∷ [])
 

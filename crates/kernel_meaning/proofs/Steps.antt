@@ -30,7 +30,7 @@ pub record GoesOn (s t : Scope) (xs ys : List Step) (b x : Block) : Type 0 where
   pub scope : after_block t b ≡ after_block s x
   pub steps : followed (tasks_of ys) (resolved_block t b) ≡ followed (tasks_of xs) (resolved_block s x)
 
--- behind a statement the walk goes on at the next
+-- after a statement the walk goes on at the next
 pub goes_on : (s t : Scope) (xs ys : List Step) (step : Step) (a : Action) (b x : Block) → x ≡ plain.Then a b → t ≡ after_action s a → ys ≡ xs ++ step ∷ [] → task_of step ≡ resolved_action s a → GoesOn s t xs ys b x
 goes_on s t xs ys step a b x e f g h = record {
   scope = rw (e, f) refl;
@@ -41,7 +41,7 @@ pub record VarsGoOn (s t : Scope) (xs ys : List Step) (b x : List Accumulator) :
   pub scope : after_vars t b ≡ after_vars s x
   pub steps : followed (tasks_of ys) (resolved_vars t b) ≡ followed (tasks_of xs) (resolved_vars s x)
 
--- behind an accumulator the walk goes on at the next
+-- after an accumulator the walk goes on at the next
 pub vars_go_on : (s t : Scope) (xs ys : List Step) (step : Step) (v : Accumulator) (b x : List Accumulator) → x ≡ v ∷ b → t ≡ declared s v.name (binding.Accumulator v.type) → ys ≡ xs ++ step ∷ [] → task_of step ≡ Set (length s.visible) (resolved s (Some v.type) v.init) → VarsGoOn s t xs ys b x
 vars_go_on s t xs ys step v b x e f g h = record {
   scope = rw (e, f) refl;

@@ -36,14 +36,14 @@ wider_same s = record { more = []; visible = sym (append-nil s.visible) }
 wider_left : (s t : Scope) → Wider s (left s t)
 wider_left s t = record { more = []; visible = sym (append-nil s.visible) }
 
--- two turns that leave the same memory, and in the slots what the names have: those of the scope behind the statements, or
+-- two turns that leave the same memory, and in the slots what the names have: those of the scope after the statements, or
 -- of a wider one than theirs where a `break` ended the loop
 pub data Matches (s t : Scope) : Turn → Stand → Type 0 where
   Nexts : (m : Memory) (ns : Names) (vs : Slots) → Held t.visible ns vs → length vs ≡ most_slots → Matches s t (Next m ns) (Went m vs)
   Breaks : (m : Memory) (ns : Names) (vs : Slots) (u : Scope) → Wider s u → Held u.visible ns vs → length vs ≡ most_slots → Matches s t (Broke m ns) (Quit m vs)
   Faults : (m : Memory) → Matches s t (Faulted m) (Stuck m)
 
--- the same behind a block
+-- the same after a block
 pub data Closed (s : Scope) : Turn → Stand → Type 0 where
   NextsIn : (m : Memory) (ns : Names) (vs : Slots) → Held s.visible ns vs → length vs ≡ most_slots → Closed s (Next m ns) (Went m vs)
   BreaksIn : (m : Memory) (ns : Names) (vs : Slots) → Held s.visible ns vs → length vs ≡ most_slots → Closed s (Broke m ns) (Quit m vs)

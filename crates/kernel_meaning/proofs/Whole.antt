@@ -34,48 +34,48 @@ past_limit outcome.Spent limit run after first e lt = let h : after ≡ first = 
 -- ---- courses
 
 -- where a course ends: at an iteration before its last, or it goes on
-pub data Ends (from until : ℕ) : Standing → Type 0 where
-  GoesOn : (m : Memory) (ns : Names) → Ends from until (Going m ns)
-  LeftAt : (m : Memory) (ns : Names) (i : ℕ) → from ≤ i → i < until → Ends from until (Left m ns i)
-  FailedAt : (m : Memory) (i : ℕ) → from ≤ i → i < until → Ends from until (Failed m i)
+pub data Ends (from last_use : ℕ) : Standing → Type 0 where
+  GoesOn : (m : Memory) (ns : Names) → Ends from last_use (Going m ns)
+  LeftAt : (m : Memory) (ns : Names) (i : ℕ) → from ≤ i → i < last_use → Ends from last_use (Left m ns i)
+  FailedAt : (m : Memory) (i : ℕ) → from ≤ i → i < last_use → Ends from last_use (Failed m i)
 
-later : (from next until : ℕ) (st : Standing) → from ≤ next → Ends next until st → Ends from until st
-later from next until _ le (GoesOn m ns) = GoesOn m ns
-later from next until _ le (LeftAt m ns i h g) = LeftAt m ns i (omega arith) g
-later from next until _ le (FailedAt m i h g) = FailedAt m i (omega arith) g
+later : (from next last_use : ℕ) (st : Standing) → from ≤ next → Ends next last_use st → Ends from last_use st
+later from next last_use _ le (GoesOn m ns) = GoesOn m ns
+later from next last_use _ le (LeftAt m ns i h g) = LeftAt m ns i (omega arith) g
+later from next last_use _ le (FailedAt m i h g) = FailedAt m i (omega arith) g
 
-ends_step : (t : Turn) (i until : ℕ) (rest : Memory → Names → Standing) → i < until → ((m : Memory) (ns : Names) → Ends (i + 1) until (rest m ns)) → Ends i until (go_on t i rest)
-ends_step (Next m ns) i until rest lt next = later i (i + 1) until (rest m ns) (omega arith) (next m ns)
-ends_step (Broke m ns) i until rest lt next = LeftAt m ns i (omega arith) lt
-ends_step (Faulted m) i until rest lt next = FailedAt m i (omega arith) lt
+ends_step : (t : Turn) (i last_use : ℕ) (rest : Memory → Names → Standing) → i < last_use → ((m : Memory) (ns : Names) → Ends (i + 1) last_use (rest m ns)) → Ends i last_use (go_on t i rest)
+ends_step (Next m ns) i last_use rest lt next = later i (i + 1) last_use (rest m ns) (omega arith) (next m ns)
+ends_step (Broke m ns) i last_use rest lt next = LeftAt m ns i (omega arith) lt
+ends_step (Faulted m) i last_use rest lt next = FailedAt m i (omega arith) lt
 
-course-ends : (s : Scope) (l : Turns) (count i until : ℕ) (m : Memory) (ns : Names) → until ≡ i + count → Ends i until (course s l count i m ns)
+course-ends : (s : Scope) (l : Turns) (count i last_use : ℕ) (m : Memory) (ns : Names) → last_use ≡ i + count → Ends i last_use (course s l count i m ns)
 unfolding course
-course-ends s l zero i until m ns e = GoesOn m ns
-course-ends s l (suc count) i until m ns e = ends_step (iterate s l i m ns) i until (course s l count (i + 1)) (omega arith) (λ m' ns'. course-ends s l count (i + 1) until m' ns' (omega arith))
+course-ends s l zero i last_use m ns e = GoesOn m ns
+course-ends s l (suc count) i last_use m ns e = ends_step (iterate s l i m ns) i last_use (course s l count (i + 1)) (omega arith) (λ m' ns'. course-ends s l count (i + 1) last_use m' ns' (omega arith))
 
--- more iterations behind a course
+-- more iterations after a course
 abbrev pub further : Scope → Turns → ℕ → ℕ → Standing → Standing
 further s l more i (Going m ns) = course s l more i m ns
 further s l more i (Left m ns j) = Left m ns j
 further s l more i (Failed m j) = Failed m j
 
-further_step : (s : Scope) (l : Turns) (more i until : ℕ) (t : Turn) (rest whole : Memory → Names → Standing) → ((m : Memory) (ns : Names) → whole m ns ≡ further s l more until (rest m ns)) → go_on t i whole ≡ further s l more until (go_on t i rest)
-further_step s l more i until (Next m ns) rest whole h = h m ns
-further_step s l more i until (Broke m ns) rest whole h = refl
-further_step s l more i until (Faulted m) rest whole h = refl
+further_step : (s : Scope) (l : Turns) (more i last_use : ℕ) (t : Turn) (rest whole : Memory → Names → Standing) → ((m : Memory) (ns : Names) → whole m ns ≡ further s l more last_use (rest m ns)) → go_on t i whole ≡ further s l more last_use (go_on t i rest)
+further_step s l more i last_use (Next m ns) rest whole h = h m ns
+further_step s l more i last_use (Broke m ns) rest whole h = refl
+further_step s l more i last_use (Faulted m) rest whole h = refl
 
 -- a course of count and more iterations
-course-further : (s : Scope) (l : Turns) (more count i all until : ℕ) (m : Memory) (ns : Names) → all ≡ count + more → until ≡ i + count → course s l all i m ns ≡ further s l more until (course s l count i m ns)
+course-further : (s : Scope) (l : Turns) (more count i all last_use : ℕ) (m : Memory) (ns : Names) → all ≡ count + more → last_use ≡ i + count → course s l all i m ns ≡ further s l more last_use (course s l count i m ns)
 unfolding course
-course-further s l more zero i all until m ns e f =
+course-further s l more zero i all last_use m ns e f =
     let p : all ≡ more = omega arith in
-    let q : i ≡ until = omega arith in
+    let q : i ≡ last_use = omega arith in
     ap₂ (λ a b. course s l a b m ns) p q
-course-further s l more (suc count) i all until m ns e f =
+course-further s l more (suc count) i all last_use m ns e f =
     let p : all ≡ suc (count + more) = omega arith in
     ap (λ a. course s l a i m ns) p
-    ∙ further_step s l more i until (iterate s l i m ns) (course s l count (i + 1)) (course s l (count + more) (i + 1)) (λ m' ns'. course-further s l more count (i + 1) (count + more) until m' ns' refl (omega arith))
+    ∙ further_step s l more i last_use (iterate s l i m ns) (course s l count (i + 1)) (course s l (count + more) (i + 1)) (λ m' ns'. course-further s l more count (i + 1) (count + more) last_use m' ns' refl (omega arith))
 
 -- ---- loops
 

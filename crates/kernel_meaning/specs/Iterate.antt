@@ -36,7 +36,7 @@ abbrev pub assigned : List ℕ → ℤ → Names → Names
 assigned x v [] = []
 assigned x v (n ∷ names) = if is_named x n then named n.name v ∷ names else n ∷ assigned x v names
 
--- the names behind a block: so many as there were before it
+-- the names after a block: so many as there were before it
 abbrev pub cut : ℕ → Turn → Turn
 cut n (Next memory names) = Next memory (take n names)
 cut n (Broke memory names) = Broke memory (take n names)

@@ -1,4 +1,5 @@
 pub mod Operators
+pub mod TypeValues
 pub mod Eval
 pub mod Iterate
 pub mod ScalarRun

@@ -56,7 +56,7 @@ abbrev mutual
   block_reached index truths from on Done = []
   block_reached index truths from on (Then s b) = action_reached index truths from on s ++ block_reached index truths (from + action_size index s) on b
 
-  -- `else` is reached where `on` is true, and the block behind it where `inner` is
+  -- `else` is reached where `on` is true, and the block after it where `inner` is
   pub otherwise_reached : Option (List ℕ) → List Bool → ℕ → Bool → Bool → Otherwise → List Bool
   otherwise_reached index truths from on inner Nothing = []
   otherwise_reached index truths from on inner (Else b) = on ∷ block_reached index truths (from + 1) inner b

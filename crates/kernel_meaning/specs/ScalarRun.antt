@@ -23,7 +23,7 @@ abbrev pub given : List Parameter → List ℕ → Names
 given [] args = []
 given (p ∷ ps) args = named p.name (argument p.shape (slice_index args 0)) ∷ given ps (drop 1 args)
 
--- the accumulators with their initial values, behind the names that are there
+-- the accumulators with their initial values, after the names that are there
 abbrev pub initial : Scope → List Accumulator → Memory → Names → Option Names
 initial scope [] memory names = Some names
 initial scope (v ∷ vs) memory names =

@@ -91,7 +91,7 @@ fn resolve_body<'a>(
     Ok(steps)
 }
 
-// The loop and the returned value behind it.
+// The loop and the returned value after it.
 fn resolve_loop<'a>(
     alloc: Global,
     scope: &mut Scope<'a>,

@@ -20,11 +20,14 @@ mod start;
 mod statements;
 mod step;
 mod turn;
+mod types;
 mod value;
 mod words;
 
 pub use evaluator::scalar_run;
 pub use outcome::ScalarOutcome;
+pub use types::{binary_leaves, fits, greatest, is_signed, least, unary_leaves};
+pub use words::{word, wrapped};
 
 #[cfg(test)]
 mod tests;

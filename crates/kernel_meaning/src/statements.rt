@@ -199,7 +199,7 @@ fn resolve_if_else<'a>(
     Ok(branch(cond, yes, no))
 }
 
-// A block, behind which its names are visible no more.
+// A block, after which its names are visible no more.
 #[cycle(statements)]
 fn resolve_inner<'a>(
     alloc: Global,
@@ -217,7 +217,7 @@ fn resolve_inner<'a>(
     Ok(steps)
 }
 
-/// Statements, behind which their names stay visible.
+/// Statements, after which their names stay visible.
 #[cycle(statements)]
 pub fn resolve_block<'a>(
     alloc: Global,

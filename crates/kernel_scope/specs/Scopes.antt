@@ -40,6 +40,6 @@ reserved scope x = record scope { taken = typing.insert_name scope.taken x }
 abbrev pub kept : ℕ → typing.Scope → typing.Scope
 kept n scope = record scope { visible = take n scope.visible }
 
--- behind the loop: so many names stay visible, and so many declared
+-- after the loop: so many names stay visible, and so many declared
 abbrev pub closed : ℕ → ℕ → typing.Scope → typing.Scope
 closed visible taken scope = record scope { visible = take visible scope.visible; taken = take taken scope.taken; inside = false }

@@ -11,7 +11,7 @@ use Rattle.kernel_syntax.specs.Reading.{◌>>=◌, given, behind, after, name_at
 use Rattle.kernel_syntax.specs.Statements.{Statement, Statements, term_at, type_part, define_at, put_at, update_at, target_at, leave_at, choose_by, begun_by, statement_by, block_by, block_at}
 use Rattle.kernel_syntax.proofs.Sound.{bind_ok, ok_is, not_err, after-is, behind-is, name-is, type-is, update-is, reads_spells, before_spells}
 
--- an expression and the mark behind it
+-- an expression and the mark after it
 pub term_spells : (m : Mark) (words : List Word) (x : Term × List Word) → term_at m words ≡ Ok x → Spells 10 words x.0 (IsMark m ∷ x.1)
 unfolding term_at
 term_spells m words x q = before_spells (chain_at (unary_at (length words)) 10) (reads_spells (length words) 10) m words x q

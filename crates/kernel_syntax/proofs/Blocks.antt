@@ -25,7 +25,7 @@ before-push (x ∷ rest) s b = ap (Then (action_of x)) (before-push rest s b)
 abbrev pub in_front : List Stmt → Block × List Word → Statements
 in_front ss b = Ok (before ss b.0, b.1)
 
--- a block is read from some words as its rest is from what is left, behind the statements that were read
+-- a block is read from some words as its rest is from what is left, after the statements that were read
 pub record Follows (statement : List Word → Statement) (whole : Statements) (ss : List Stmt) (rest : List Word) : Type 0 where
   pub room : ℕ
   pub enough : length rest < suc room

@@ -48,7 +48,7 @@ module _ (unary : List Word → Outcome) (level : ℕ) (words : List Word) (left
   unfolding more
   ends e = sym goes.same ∙ ap (λ x. given x (λ o. by_operator (chain_at unary (level - 1)) (more (chain_at unary (level - 1)) level goes.room) left o.0 o.1) (Ok (left, rest))) (sym e)
 
-  -- behind an operator and what it takes
+  -- after an operator and what it takes
   go_on : (new : Term) (next : List Word) → chain_at unary level words ≡ more (chain_at unary (level - 1)) level goes.room new next → length next < length rest → Goes unary level words new next
   go_on new next whole lt =
       let n = goes.room in

@@ -83,7 +83,7 @@ pub goes_of : (room level : ℕ) (words : List Word) (e : Term) (rest : List Wor
 goes_of room level words e rest n (inl g) = g
 goes_of room level words e rest n (inr c) = absurd (n c.0)
 
--- an expression and the mark behind it
+-- an expression and the mark after it
 pub before_reads : (room : ℕ) (m : Mark) (words : List Word) (e : Term) (rest : List Word) → operator_of_mark m ≡ None → behind mark.OpenBracket (IsMark m ∷ rest) ≡ None → after m (IsMark m ∷ rest) ≡ Ok rest → Reads room 10 words e (IsMark m ∷ rest) → term_before (chain_at (unary_at room) 10) m words ≡ Ok (e, rest)
 unfolding term_before
 before_reads room m words e rest o b a r = rw (finish room 10 words e (IsMark m ∷ rest) r (stops_at 10 m rest o b), a) refl
@@ -137,6 +137,6 @@ reads (comparison {level = level} {op = op} {w = w} {a = a} {b = b} {from = from
     let g = begins (unary_at room) (suc level) from a (w ∷ next) (omega arith) (rw p left) in
     inr (sym l, ends_compared (unary_at room) (suc level) from a (w ∷ next) g op next b rest (sym (operator_there (suc level) w (Compared op) next o l)) (rw p right))
 
--- an expression and the mark behind it, with room for as many as there are words
+-- an expression and the mark after it, with room for as many as there are words
 pub spells_before : (m : Mark) (words : List Word) (e : Term) (rest : List Word) (room : ℕ) → operator_of_mark m ≡ None → behind mark.OpenBracket (IsMark m ∷ rest) ≡ None → after m (IsMark m ∷ rest) ≡ Ok rest → length words ≤ room → Spells 10 words e (IsMark m ∷ rest) → term_before (chain_at (unary_at room) 10) m words ≡ Ok (e, rest)
 spells_before m words e rest room o b a h d = before_reads room m words e rest o b a (reads d room h)

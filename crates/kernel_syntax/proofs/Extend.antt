@@ -1,4 +1,4 @@
--- Whatever stands behind more words too, once it stands behind some.
+-- Whatever stands after more words too, once it stands after some.
 use Rattle.std.proofs.Common.{◌≡◌, ℕ, ◌<◌, ◌++◌, Bool, List, [], ◌∷◌, length, Option, None, refl, arith}
 use Rattle.kernel_tree.specs.declared.ops.Ty.{Ty}
 use Rattle.kernel_tree.specs.declared.mark.Sign.{Sign}

@@ -15,7 +15,7 @@ use Rattle.kernel_syntax.specs.Headers.{Read, shape_at, param_at, some_at, param
 use Rattle.kernel_syntax.proofs.Sound.{bind_ok, ok_is, not_err, cond_is, after-is, behind-is, name-is, type-is, number-is, until_spells}
 use Rattle.kernel_syntax.proofs.ActionSound.{term_spells, block_spells}
 
--- what stands behind the colon of a parameter
+-- what stands after the colon of a parameter
 data SpellsShape : List Word → Shape → List Word → Type 0 where
   scalar_shape : {t : Ty} {rest : List Word} → SpellsShape (IsType t ∷ rest) (shape.Scalar t) rest
   array_shape : {t : Ty} {rest : List Word} → SpellsShape (IsMark mark.OpenBracket ∷ IsType t ∷ IsMark mark.CloseBracket ∷ rest) (shape.Array t) rest
@@ -91,7 +91,7 @@ pub params_spells : (words : List Word) (y : List Parameter × List Word) → pa
 unfolding params_at
 params_spells words y q = by_params words y (behind mark.CloseParen words) refl q
 
--- an accumulator behind its first word
+-- an accumulator after its first word
 pub record SpellsVar (words : List Word) (v : Accumulator) (rest : List Word) : Type 0 where
   pub from : List Word
   pub front : words ≡ IsName v.name ∷ IsMark mark.Colon ∷ IsType v.type ∷ IsMark mark.Equals ∷ from
@@ -139,7 +139,7 @@ pub zero-is : (words rest : List Word) → zero_at words ≡ Ok rest → words �
 unfolding zero_at
 zero-is words rest q = by_zero words rest (number_at words) refl q
 
--- a loop behind its first word
+-- a loop after its first word
 record SpellsTurns (words : List Word) (l : Turns) (rest : List Word) : Type 0 where
   pub from : List Word
   front : words ≡ IsName l.index ∷ IsMark mark.In ∷ IsNumber 0 ∷ IsMark mark.Range ∷ IsName l.bound ∷ IsMark mark.OpenBrace ∷ from
@@ -189,7 +189,7 @@ pub tail_spells : (words : List Word) (y : Option Ty × List Word) → tail_at w
 unfolding tail_at
 tail_spells words y q = by_tail words y (behind mark.OpenBrace words) refl q
 
--- what stands behind the loop
+-- what stands after the loop
 pub data SpellsAnswer : Option Ty → List Word → Option Returned → List Word → Type 0 where
   no_answer : {rest : List Word} → SpellsAnswer None (IsMark mark.CloseBrace ∷ rest) None rest
   with_answer : {t : Ty} {e : Term} {from rest : List Word} → Spells 10 from e (IsMark mark.Semicolon ∷ IsMark mark.CloseBrace ∷ rest) → SpellsAnswer (Some t) (IsMark mark.Return ∷ from) (Some (record { type = t; value = e })) rest

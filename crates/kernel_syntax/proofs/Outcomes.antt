@@ -56,7 +56,7 @@ pub read_within : (text : List ℕ) (r : Result Kernel ReadFault) → TextGives 
 read_within text (Ok k) g = g.0
 read_within text (Err e) g = tt
 
--- tokens are left behind a kernel
+-- tokens are left after a kernel
 pub left_behind : (k : Program) (ts : List Token) → 1 ≤ length ts → alone k (words_of ts) ≡ Err (length ts)
 left_behind k [] h = absurd (omega arith)
 left_behind k (t ∷ ts) h = ap (λ n. Err (suc n)) (length-map ts word_of)

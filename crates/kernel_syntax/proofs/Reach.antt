@@ -25,7 +25,7 @@ use Rattle.kernel_syntax.proofs.Within.{Passes, passes_bind, passes_is, passes_s
 abbrev pub any : ℕ → List Word → Outcome
 any room words = chain_at (unary_at room) 10 words
 
--- ---- behind an operator
+-- ---- after an operator
 
 module _ (room level : ℕ) (from : List Word) (n : ℕ) (e : Term) (w : Word) (next : List Word) where
   taken : (o : Operator) → Goes (unary_at room) (suc level) from e (w ∷ next) → operator_of w ≡ Some o → level_of o ≡ suc level → (k : ℕ) × (chain_at (unary_at room) (suc level) from ≡ by_operator (chain_at (unary_at room) level) (more (chain_at (unary_at room) level) (suc level) k) e o next)
@@ -96,7 +96,7 @@ module _ (room : ℕ) (n : ℕ) where
   first_pair_reaches : (m : Mark) (op : BinaryOp) (from : List Word) → opening_of_mark m ≡ Some (opening.Pair op) → Passes (any room from) n → Passes (unary_at (suc room) (IsMark m ∷ IsMark mark.OpenParen ∷ from)) n
   first_pair_reaches m op from o p = passes_same _ _ n (opens m op (IsMark mark.OpenParen ∷ from) o) (pair_first m op from o p)
 
-  -- the argument of a call and the comma behind it are read
+  -- the argument of a call and the comma after it are read
   argument : (from : List Word) (a : Term) (next : List Word) → length from ≤ room → Spells 10 from a (IsMark mark.Comma ∷ next) → term_before (chain_at (unary_at room) 10) mark.Comma from ≡ Ok (a, next)
   unfolding after behind
   argument from a next h d = before_reads room mark.Comma from a next refl refl refl (reads d room h)
@@ -122,7 +122,7 @@ module _ (room : ℕ) (n : ℕ) where
   unfolding unary_at
   at_choice_reaches words h = choice_goes (chain_at (unary_at room) 10) (unary_at room) (reads_go room 10) (unary_goes room) words n h
 
-  -- behind the second comma of a choice, and before it
+  -- after the second comma of a choice, and before it
   last_of_choice : (c a : Term) (last : List Word) → Passes (any room last) n → Passes (term_before (chain_at (unary_at room) 10) mark.CloseParen last >>= (λ b. Ok (Choice c a b.0, b.1))) n
   last_of_choice c a last p = passes_bind (term_before (chain_at (unary_at room) 10) mark.CloseParen last) (λ b. Ok (Choice c a b.0, b.1)) n (term_passes (chain_at (unary_at room) 10) mark.CloseParen last n p) (λ b i. i)
 
@@ -186,7 +186,7 @@ unary_reaches : (room : ℕ) (words : List Word) (n : ℕ) → Passes (chain_at 
 unfolding chain_at
 unary_reaches room words n p = p
 
--- what stands here gives a whole expression with rest behind it, whatever rest is
+-- what stands here gives a whole expression with rest after it, whatever rest is
 whole_reads : (words : List Word) (e : Term) (rest : List Word) (room : ℕ) → unary_at (suc room) words ≡ Ok (e, rest) → Passes (chain_at (unary_at (suc room)) 0 words) (length rest)
 whole_reads words e rest room q = reaches_unary (suc room) words (length rest) (passes_is (unary_at (suc room) words) (e, rest) (length rest) q (omega arith))
 
@@ -269,7 +269,7 @@ fronts_reach (at_count {level = level} {left = left} {e = e} {w = w} {from = fro
 fronts_reach (in_operation {level = level} {j = j} {w = w} {a = a} {from = from} {next = next} {bad = bad} d o l f) room h = joined_reaches room level from (length bad) a w next j d o l h (fronts_reach f room (omega (arith, shorter d)))
 fronts_reach (in_comparison {level = level} {op = op} {w = w} {a = a} {from = from} {next = next} {bad = bad} d o l f) room h = compared_reaches room level from (length bad) a w next op d o l h (fronts_reach f room (omega (arith, shorter d)))
 
--- an expression and the mark behind it, with room for as many as there are words
+-- an expression and the mark after it, with room for as many as there are words
 pub spelled_reaches : {words : List Word} {e : Term} {rest : List Word} → Spells 10 words e rest → (m : Mark) → Passes (term_before (chain_at (unary_at (length words)) 10) m words) (length rest)
 spelled_reaches {words = words} {rest = rest} d m = term_passes (chain_at (unary_at (length words)) 10) m words (length rest) (reach d (length words) (omega arith))
 

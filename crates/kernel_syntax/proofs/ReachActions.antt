@@ -21,7 +21,7 @@ pub passes_more : {A : Type 0} (r : Result (A × List Word) ℕ) (n k : ℕ) →
 passes_more (Ok x) n k h p = omega (arith, h, p)
 passes_more (Err left) n k h p = omega (arith, h, p)
 
--- ---- an expression and the mark behind it
+-- ---- an expression and the mark after it
 
 pub term_spelled : {words : List Word} {e : Term} {rest : List Word} → Spells 10 words e rest → (m : Mark) → Passes (term_at m words) (length rest)
 unfolding term_at
@@ -92,7 +92,7 @@ module _ (whole : Bool) (room : ℕ) (n : ℕ) where
   unfolding statement_by
   choose_on from p = choose_passes (block_at false room) (block_at_goes false room) from n p
 
-  -- behind the condition of a choice
+  -- after the condition of a choice
   condition_on : (from : List Word) (c : Term) (next : List Word) → Spells 10 from c (IsMark mark.OpenBrace ∷ next) → Passes (block_at false room next >>= (λ b. given {B = Statement} (behind mark.Else b.1) (λ rest. after mark.OpenBrace rest >>= (λ from. block_at false room from >>= (λ d. Ok (Choose c b.0 (Else d.0), d.1)))) (Ok (Choose c b.0 Nothing, b.1)))) n → Passes (statement_by whole (block_at false room) (IsMark mark.If ∷ from)) n
   unfolding statement_by choose_by
   condition_on from c next d p = passes_same _ _ n (ap (λ r. r >>= (λ c. block_at false room c.1 >>= (λ b. given {B = Statement} (behind mark.Else b.1) (λ rest. after mark.OpenBrace rest >>= (λ from. block_at false room from >>= (λ d. Ok (Choose c.0 b.0 (Else d.0), d.1)))) (Ok (Choose c.0 b.0 Nothing, b.1))))) (brace_reads from c next d)) p
@@ -100,7 +100,7 @@ module _ (whole : Bool) (room : ℕ) (n : ℕ) where
   block_on : (from : List Word) (c : Term) (next : List Word) → Spells 10 from c (IsMark mark.OpenBrace ∷ next) → Passes (block_at false room next) n → Passes (statement_by whole (block_at false room) (IsMark mark.If ∷ from)) n
   block_on from c next d p = condition_on from c next d (block_passes (block_at false room) (block_at_goes false room) n c next p)
 
-  -- behind the first block of a choice
+  -- after the first block of a choice
   then_on : (from : List Word) (c : Term) (next : List Word) (b : Block) (rest : List Word) → Spells 10 from c (IsMark mark.OpenBrace ∷ next) → block_at false room next ≡ Ok (b, rest) → Passes (given {B = Statement} (behind mark.Else rest) (λ rest. after mark.OpenBrace rest >>= (λ from. block_at false room from >>= (λ d. Ok (Choose c b (Else d.0), d.1)))) (Ok (Choose c b Nothing, rest))) n → Passes (statement_by whole (block_at false room) (IsMark mark.If ∷ from)) n
   then_on from c next b rest d q p = condition_on from c next d (passes_same _ _ n (ap (λ r. r >>= (λ b. given {B = Statement} (behind mark.Else b.1) (λ rest. after mark.OpenBrace rest >>= (λ from. block_at false room from >>= (λ d. Ok (Choose c b.0 (Else d.0), d.1)))) (Ok (Choose c b.0 Nothing, b.1)))) q) p)
 

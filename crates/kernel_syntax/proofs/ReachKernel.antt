@@ -270,6 +270,6 @@ kernel_reaches (kernel_brace {x = x} {ps = ps} {t = t} {from = from} {bad = bad}
 kernel_reaches (in_procedure {x = x} {ps = ps} {from = from} {body = body} {bad = bad} d f) = past_params x from (length bad) ps (IsMark mark.OpenBrace ∷ body) d (at_body x from (length bad) ps body (body_reaches x ps None f refl))
 kernel_reaches (in_function {x = x} {ps = ps} {t = t} {from = from} {body = body} {bad = bad} d f) = past_params x from (length bad) ps (IsMark mark.Arrow ∷ IsType t ∷ IsMark mark.OpenBrace ∷ body) d (at_typed_body x from (length bad) ps t body (body_reaches x ps (Some t) f refl))
 
--- no front of a kernel goes on behind where reading stops
+-- no front of a kernel goes on after where reading stops
 pub no_further : (words bad : List Word) (left : ℕ) → kernel_at words ≡ Err left → KernelFronts words bad → left ≤ length bad
 no_further words bad left q f = subst (λ (z : Result Program ℕ). PassesEnd z (length bad)) q (kernel_reaches f)

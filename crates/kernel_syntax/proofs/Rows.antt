@@ -21,7 +21,7 @@ all_signed-push (x ∷ ss) s e = ap (signed x) (all_signed-push ss s e)
 abbrev behind_row : List Sign → Term × List Word → Outcome
 behind_row ss e = Ok (all_signed ss e.0, e.1)
 
--- the whole is what is read now, behind some signs
+-- the whole is what is read now, after some signs
 pub record Wraps (whole : Outcome) (ss : List Sign) (now : Outcome) : Type 0 where
   pub same : (now >>= behind_row ss) ≡ whole
 
@@ -64,7 +64,7 @@ by_opening : (room : ℕ) (s : Sign) (m : Mark) (rest : List Word) → signed_by
 unfolding signed_by unary_at
 by_opening room s m rest = rw (no_number s m rest) refl
 
--- behind a sign stands another
+-- after a sign stands another
 two_signs : (room : ℕ) (s : Sign) (m : Mark) (t : Sign) (rest : List Word) → opening_of_mark m ≡ Some (opening.Signed t) → signed_by (unary_at (suc room)) s (IsMark m ∷ rest) ≡ (signed_by (unary_at room) t rest >>= (λ e. Ok (signed s e.0, e.1)))
 two_signs room s m t rest o = by_opening room s m rest ∙ ap (λ (p : Option Opening). opened_by (chain_at (unary_at room) 10) (unary_at room) p rest >>= (λ e. Ok (signed s e.0, e.1))) o
 

@@ -216,7 +216,7 @@ chain_spells unary sound (suc level) words e rest q =
     let first = chain_spells unary sound level words b.0.0 b.0.1 b.1 in
     more_spells (chain_at unary level) level (chain_spells unary sound level) words e rest (suc (length b.0.1)) b.0.0 b.0.1 (record { whole = up first; lone = λ f. first }) b.2
 
--- an expression and the mark behind it
+-- an expression and the mark after it
 pub before_spells : (read : List Word → Outcome) → Sound 10 read → (m : Mark) (words : List Word) (x : Term × List Word) → term_before read m words ≡ Ok x → Spells 10 words x.0 (IsMark m ∷ x.1)
 unfolding term_before
 before_spells read sound m words x q =

@@ -30,7 +30,7 @@ err_is m n e = cc
 pub ok_not_err : {A : Type 0} (x : A) (n : ℕ) → ◌≡◌ {A = Result A ℕ} (Ok x) (Err n) → ⊥
 ok_not_err x n e = cc
 
--- what stops stops in its first part, or behind it
+-- what stops stops in its first part, or after it
 pub stuck_bind : {A B P : Type 0} (r : Result A ℕ) (f : A → Result B ℕ) (n : ℕ) → (r >>= f) ≡ Err n → (r ≡ Err n → P) → ((x : A) → r ≡ Ok x → f x ≡ Err n → P) → P
 stuck_bind (Ok x) f n e a b = b x refl e
 stuck_bind (Err d) f n e a b = a (ap Err (err_is d n e))
@@ -58,7 +58,7 @@ count-stops words n e = needed_err _ (length words) n e
 pub stuck_from : (Front : List Word → List Word → Type 0) (to from : List Word) (n : ℕ) → to ≡ from → Stuck Front from n → Stuck Front to n
 stuck_from Front to from n p h = subst (λ (z : List Word). Stuck Front z n) (sym p) h
 
--- a reader that stops behind fronts
+-- a reader that stops after fronts
 abbrev pub Stops : ℕ → (List Word → Outcome) → Type 0
 Stops level read = (words : List Word) (n : ℕ) → read words ≡ Err n → Stuck (Fronts level) words n
 
@@ -107,7 +107,7 @@ chain_stops unary sound stops (suc level) words n q =
     (λ b r f. let first = chain_spells unary sound level words b.0 b.1 r in
     more_stops (chain_at unary level) level (chain_spells unary sound level) (chain_stops unary sound stops level) words n (suc (length b.1)) b.0 b.1 (record { whole = up first; lone = λ g. first }) f)
 
--- an expression and the mark behind it
+-- an expression and the mark after it
 pub before_stops : (read : List Word → Outcome) → Sound 10 read → Stops 10 read → (m : Mark) (words : List Word) (n : ℕ) → term_before read m words ≡ Err n → Stuck (Fronts 10) words n
 unfolding term_before
 before_stops read sound stops m words n q =
@@ -128,7 +128,7 @@ module _ (read inner : List Word → Outcome) (whole : Sound 10 read) (stops : S
       (λ f. let s = before mark.CloseBracket from n f in record { bad = s.bad; front = in_element s.front; place = s.place })
       (λ i r f. absurd (ok_not_err (Element x i.0, i.1) n f)))
 
-  -- behind a mark, an open parenthesis
+  -- after a mark, an open parenthesis
   called : (m : Mark) (words from : List Word) (n : ℕ) → after mark.OpenParen words ≡ Ok from → Stuck (Fronts 0) (IsMark m ∷ IsMark mark.OpenParen ∷ from) n → Stuck (Fronts 0) (IsMark m ∷ words) n
   called m words from n p h = stuck_from (Fronts 0) _ _ n (ap (λ (z : List Word). IsMark m ∷ z) (after-is mark.OpenParen words from p)) h
 

@@ -27,7 +27,7 @@ past_name Front before words x n p h = stuck_from Front _ _ n (ap before (name-i
 pub past_type : (Front : List Word → List Word → Type 0) (before : List Word → List Word) (words : List Word) (t : Ty × List Word) (n : ℕ) → type_at words ≡ Ok t → Stuck Front (before (IsType t.0 ∷ t.1)) n → Stuck Front (before words) n
 past_type Front before words t n p h = stuck_from Front _ _ n (ap before (type-is words t p)) h
 
--- an expression and the mark behind it
+-- an expression and the mark after it
 pub term_stops : (m : Mark) (words : List Word) (n : ℕ) → term_at m words ≡ Err n → Stuck (Fronts 10) words n
 unfolding term_at
 term_stops m words n q = before_stops (chain_at (unary_at (length words)) 10) (reads_spells (length words) 10) (reads_stops (length words) 10) m words n q

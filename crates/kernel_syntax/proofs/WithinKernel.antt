@@ -30,7 +30,7 @@ unfolding type_part
 type_part_goes words n h = passes_given mark.Colon words (λ rest. type_at rest >>= (λ t. Ok (Some t.0, t.1))) (Ok (None, words)) n h
     (λ rest l. passes_bind (type_at rest) (λ t. Ok (Some t.0, t.1)) n (type_passes rest n l) (λ t k. k)) h
 
--- behind the type that a definition gives
+-- after the type that a definition gives
 pub define_passes : (x : List ℕ) (n : ℕ) (t : Option Ty × List Word) → length t.1 ≤ n → Passes (after mark.Equals t.1 >>= (λ from. term_at mark.Semicolon from >>= (λ e. Ok (Define x t.0 e.0, e.1)))) n
 define_passes x n t h = passes_one (after mark.Equals t.1) (λ from. term_at mark.Semicolon from >>= (λ e. Ok (Define x t.0 e.0, e.1))) n (after_passes mark.Equals t.1 n h)
     (λ from l. passes_bind (term_at mark.Semicolon from) (λ e. Ok (Define x t.0 e.0, e.1)) n (term_goes mark.Semicolon from n l) (λ e k. k))
@@ -40,7 +40,7 @@ unfolding define_at
 define_goes words n h = passes_bind (name_at words) (λ x. type_part x.1 >>= (λ t. after mark.Equals t.1 >>= (λ from. term_at mark.Semicolon from >>= (λ e. Ok (Define x.0 t.0 e.0, e.1))))) n (name_passes words n h)
     (λ x l. passes_bind (type_part x.1) (λ t. after mark.Equals t.1 >>= (λ from. term_at mark.Semicolon from >>= (λ e. Ok (Define x.0 t.0 e.0, e.1)))) n (type_part_goes x.1 n l) (define_passes x.0 n))
 
--- behind the index of the element that a store writes
+-- after the index of the element that a store writes
 pub put_passes : (x : List ℕ) (n : ℕ) (i : Term × List Word) → length i.1 ≤ n → Passes (after mark.Equals i.1 >>= (λ next. term_at mark.Semicolon next >>= (λ e. Ok (Put x i.0 e.0, e.1)))) n
 put_passes x n i h = passes_one (after mark.Equals i.1) (λ next. term_at mark.Semicolon next >>= (λ e. Ok (Put x i.0 e.0, e.1))) n (after_passes mark.Equals i.1 n h)
     (λ next l. passes_bind (term_at mark.Semicolon next) (λ e. Ok (Put x i.0 e.0, e.1)) n (term_goes mark.Semicolon next n l) (λ e k. k))

@@ -13,7 +13,7 @@ use Rattle.kernel_syntax.specs.Statements.{term_at, block_at}
 abbrev pub Read : Type 0 → Type 0
 Read A = Result (A × List Word) ℕ
 
--- behind the colon of a parameter
+-- after the colon of a parameter
 unfoldable pub shape_at : List Word → Read Shape
 shape_at words =
     given (behind mark.OpenBracket words)
@@ -27,7 +27,7 @@ param_at words = do
   s ← shape_at from
   Ok (record { name = x.0; shape = s.0 }, s.1)
 
--- a parameter, no more than so many others, and the parenthesis behind them
+-- a parameter, no more than so many others, and the parenthesis after them
 unfoldable pub some_at : ℕ → List Word → Read (List Parameter)
 some_at zero words =
     param_at words >>= (λ p. given (behind mark.CloseParen p.1) (λ rest. Ok (p.0 ∷ [], rest)) (Err (length p.1)))
@@ -38,7 +38,7 @@ some_at (suc others) words =
 unfoldable pub params_at : List Word → Read (List Parameter)
 params_at words = given (behind mark.CloseParen words) (λ rest. Ok ([], rest)) (some_at 7 words)
 
--- behind the word that begins an accumulator
+-- after the word that begins an accumulator
 unfoldable pub var_at : List Word → Read Accumulator
 var_at words = do
   x ← name_at words
@@ -59,7 +59,7 @@ vars_at words = vars_by (suc (length words)) words
 unfoldable pub zero_at : List Word → Result (List Word) ℕ
 zero_at words = given (number_at words) (λ x. if nat_eq x.0 0 then Ok x.1 else Err (length words)) (Err (length words))
 
--- behind the word that begins a loop
+-- after the word that begins a loop
 unfoldable pub turns_at : List Word → Read Turns
 turns_at words = do
   i ← name_at words
@@ -74,7 +74,7 @@ turns_at words = do
 unfoldable pub loop_at : List Word → Read (Option Turns)
 loop_at words = given (behind mark.For words) (λ rest. turns_at rest >>= (λ l. Ok (Some l.0, l.1))) (Ok (None, words))
 
--- behind the parameters: the type of what is returned, and the brace
+-- after the parameters: the type of what is returned, and the brace
 unfoldable pub tail_at : List Word → Read (Option Ty)
 tail_at words =
     given (behind mark.OpenBrace words) (λ body. Ok (None, body))
@@ -89,7 +89,7 @@ answer_by (Some t) words = do
   rest ← after mark.CloseBrace e.1
   Ok (Some (record { type = t; value = e.0 }), rest)
 
--- what was read, where nothing is left behind it
+-- what was read, where nothing is left after it
 abbrev pub alone : {A : Type 0} → A → List Word → Result A ℕ
 alone x [] = Ok x
 alone x (w ∷ rest) = Err (suc (length rest))

@@ -39,7 +39,7 @@ signs_by n (IsCompare op) = 0
 signs_by n (IsUpdate op) = 0
 
 -- the place of the first token at which too many brackets are open or too many signs stand in a row,
--- from a place on, behind so many open brackets and so many signs in a row
+-- from a place on, after so many open brackets and so many signs in a row
 unfoldable pub deep_from : ℕ → ℕ → ℕ → List Word → Option ℕ
 deep_from open_count signs at [] = None
 deep_from open_count signs at (w ∷ rest) =

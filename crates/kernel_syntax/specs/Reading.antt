@@ -43,7 +43,7 @@ needed (Some x) left = Ok x
 
 -- ---- one word
 
--- the mark at the front, and the words behind it
+-- the mark at the front, and the words after it
 abbrev pub mark_at : List Word → Option (Mark × List Word)
 mark_at [] = None
 mark_at (IsMark m ∷ rest) = Some (m, rest)
@@ -80,11 +80,11 @@ update_front (IsType t ∷ rest) = None
 update_front (IsCompare op ∷ rest) = None
 update_front (IsMark m ∷ rest) = None
 
--- the words behind a mark, where it stands at the front
+-- the words after a mark, where it stands at the front
 unfoldable pub behind : Mark → List Word → Option (List Word)
 behind m words = given (mark_at words) (λ x. if same x.0 m then Some x.1 else None) None
 
--- the words behind a mark that must stand at the front
+-- the words after a mark that must stand at the front
 unfoldable pub after : Mark → List Word → Result (List Word) ℕ
 after m words = needed (behind m words) (length words)
 
@@ -97,7 +97,7 @@ type_at words = needed (type_front words) (length words)
 unfoldable pub count_at : List Word → Result (ℕ × List Word) ℕ
 count_at words = needed (number_at words) (length words)
 
--- the operator at the front, where it is of a level, and the words behind it
+-- the operator at the front, where it is of a level, and the words after it
 unfoldable pub operator_at : ℕ → List Word → Option (Operator × List Word)
 operator_at level [] = None
 operator_at level (w ∷ rest) = given (operator_of w) (λ o. if nat_eq (level_of o) level then Some (o, rest) else None) None
@@ -107,7 +107,7 @@ operator_at level (w ∷ rest) = given (operator_of w) (λ o. if nat_eq (level_o
 abbrev pub Outcome : Type 0
 Outcome = Result (Term × List Word) ℕ
 
--- what goes on behind a first operand
+-- what goes on after a first operand
 abbrev pub by_operator : (List Word → Outcome) → (Term → List Word → Outcome) → Term → Operator → List Word → Outcome
 by_operator operand again left (operator.Joined j) words = operand words >>= (λ r. again (joined j left r.0) r.1)
 by_operator operand again left (operator.Compared op) words = operand words >>= (λ r. Ok (Comparison op left r.0, r.1))
@@ -125,7 +125,7 @@ chain_at unary zero words = unary words
 chain_at unary (suc level) words =
     chain_at unary level words >>= (λ x. more (chain_at unary level) (suc level) (suc (length x.1)) x.0 x.1)
 
--- an expression and a mark behind it, by the reader of expressions
+-- an expression and a mark after it, by the reader of expressions
 unfoldable pub term_before : (List Word → Outcome) → Mark → List Word → Outcome
 term_before read m words = read words >>= (λ e. after m e.1 >>= (λ rest. Ok (e.0, rest)))
 
@@ -154,7 +154,7 @@ choice_by read words = do
   b ← term_before read mark.CloseParen a.1
   Ok (Choice c.0 a.0 b.0, b.1)
 
--- what stands behind a sign, by the reader of unary expressions
+-- what stands after a sign, by the reader of unary expressions
 unfoldable pub signed_by : (List Word → Outcome) → Sign → List Word → Outcome
 signed_by inner s words =
     given (number_behind s words) (λ x. Ok (Literal (neg_ℤ (pos x.0)), x.1)) (inner words >>= (λ e. Ok (signed s e.0, e.1)))
@@ -167,7 +167,7 @@ sign_of (Some opening.Absolute) rest = None
 sign_of (Some opening.Choice) rest = None
 sign_of None rest = None
 
--- the sign at the front, and the words behind it
+-- the sign at the front, and the words after it
 unfoldable pub sign_front : List Word → Option (Sign × List Word)
 sign_front words = given (mark_at words) (λ x. sign_of (opening_of_mark x.0) x.1) None
 

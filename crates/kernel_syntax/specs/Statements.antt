@@ -17,7 +17,7 @@ Statement = Result (Action × List Word) ℕ
 abbrev pub Statements : Type 0
 Statements = Result (Block × List Word) ℕ
 
--- an expression and a mark behind it, with room for as many as there are words
+-- an expression and a mark after it, with room for as many as there are words
 unfoldable pub term_at : Mark → List Word → Outcome
 term_at m words = term_before (chain_at (unary_at (length words)) 10) m words
 
@@ -32,7 +32,7 @@ define_at words = do
   e ← term_at mark.Semicolon from
   Ok (Define x.0 t.0 e.0, e.1)
 
--- behind the bracket of an element
+-- after the bracket of an element
 unfoldable pub put_at : List ℕ → List Word → Statement
 put_at x words = do
   i ← term_at mark.CloseBracket words
@@ -43,11 +43,11 @@ put_at x words = do
 unfoldable pub update_at : List ℕ → UpdateOp → List Word → Statement
 update_at x op words = term_at mark.Semicolon words >>= (λ e. Ok (Update x op e.0, e.1))
 
--- behind the name of what changes
+-- after the name of what changes
 unfoldable pub target_at : List ℕ → List Word → Statement
 target_at x words = given (behind mark.OpenBracket words) (λ from. put_at x from) (given (update_front words) (λ u. update_at x u.0 u.1) (Err (length words)))
 
--- behind a break, which stands in the loop's own block alone
+-- after a break, which stands in the loop's own block alone
 unfoldable pub leave_at : Bool → List Word → Statement
 leave_at false words = Err (suc (length words))
 leave_at true words = after mark.If words >>= (λ from. term_at mark.Semicolon from >>= (λ c. Ok (Leave c.0, c.1)))
@@ -74,7 +74,7 @@ statement_by whole block (IsType t ∷ rest) = Err (suc (length rest))
 statement_by whole block (IsCompare op ∷ rest) = Err (suc (length rest))
 statement_by whole block (IsUpdate op ∷ rest) = Err (suc (length rest))
 
--- statements up to the brace behind them
+-- statements up to the brace after them
 unfoldable pub block_by : (List Word → Statement) → ℕ → List Word → Statements
 block_by statement zero words = Err (length words)
 block_by statement (suc k) words =

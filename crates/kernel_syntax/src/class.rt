@@ -27,7 +27,7 @@ fn mark_operator(mark: Mark) -> Option<Operator>
     }
 }
 
-// What a token is behind a first operand.
+// What a token is after a first operand.
 pub fn operator(token: &Token) -> Option<Operator>
     ensures { result ≡ operator_of (word_of token.now) }
 {

@@ -119,7 +119,7 @@ fn opened<'a>(
     }
 }
 
-// An expression and a mark behind it.
+// An expression and a mark after it.
 #[cycle(expression)]
 #[tactic(auto, unfolding(crate::specs::Reading::term_before))]
 pub fn term_then<'a>(
@@ -222,7 +222,7 @@ fn signed_number(sign: Sign, tokens: &[Token]) -> Option<(Number, &[Token])>
     }
 }
 
-// The sign at the front, and the tokens behind it.
+// The sign at the front, and the tokens after it.
 #[tactic(auto, unfolding(crate::specs::Reading::sign_front))]
 fn front_sign(tokens: &[Token]) -> Option<(Sign, &[Token])>
     ensures value { option_map (λ x. (x.0, words_of x.1.now)) result ≡ sign_front (words_of tokens.now) }
@@ -241,7 +241,7 @@ fn front_sign(tokens: &[Token]) -> Option<(Sign, &[Token])>
     }
 }
 
-// An expression behind signs, of which the last one is the innermost.
+// An expression after signs, of which the last one is the innermost.
 fn behind_signs(alloc: Global, signs: Vec<Sign>, arg: Expr) -> Result<Expr, AllocError>
     ensures { IfOk result (λ e. term_of e ≡ all_signed signs.items (term_of arg)) }
 {
@@ -253,7 +253,7 @@ fn behind_signs(alloc: Global, signs: Vec<Sign>, arg: Expr) -> Result<Expr, Allo
     Ok(expr)
 }
 
-// What stands behind the last of some signs.
+// What stands after the last of some signs.
 #[cycle(expression)]
 #[tactic(auto, unfolding(crate::specs::Reading::signed_by))]
 fn operand<'a>(
@@ -275,7 +275,7 @@ fn operand<'a>(
     }
 }
 
-// What stands behind a sign. A row of signs is read with no recursion.
+// What stands after a sign. A row of signs is read with no recursion.
 #[cycle(expression)]
 fn signed<'a>(
     alloc: Global,

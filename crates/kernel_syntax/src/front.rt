@@ -12,7 +12,7 @@ use kernel_tree::token::{Number, Token};
 use kernel_tree::{Name, Ty, UpdateOp};
 use std::alloc::{AllocError, Global};
 
-// The mark at the front, and the tokens behind it.
+// The mark at the front, and the tokens after it.
 pub fn front_mark(tokens: &[Token]) -> Option<(Mark, &[Token])>
     ensures value { option_map (λ x. (x.0, words_of x.1.now)) result ≡ mark_at (words_of tokens.now) }
     ensures shorter { IfSome result (λ x. length x.1.now < length tokens.now) }
@@ -28,7 +28,7 @@ pub fn front_mark(tokens: &[Token]) -> Option<(Mark, &[Token])>
     }
 }
 
-// The name at the front, and the tokens behind it.
+// The name at the front, and the tokens after it.
 fn front_name(tokens: &[Token]) -> Option<(&Name, &[Token])>
     ensures value { option_map (λ x. (name_of x.0.now, words_of x.1.now)) result ≡ name_front (words_of tokens.now) }
     ensures shorter { IfSome result (λ x. length x.1.now < length tokens.now) }
@@ -44,7 +44,7 @@ fn front_name(tokens: &[Token]) -> Option<(&Name, &[Token])>
     }
 }
 
-// The number at the front, and the tokens behind it.
+// The number at the front, and the tokens after it.
 pub fn front_number(tokens: &[Token]) -> Option<(Number, &[Token])>
     ensures value { option_map (λ x. (x.0.value, words_of x.1.now)) result ≡ number_at (words_of tokens.now) }
     ensures shorter { IfSome result (λ x. length x.1.now < length tokens.now) }
@@ -60,7 +60,7 @@ pub fn front_number(tokens: &[Token]) -> Option<(Number, &[Token])>
     }
 }
 
-// The type at the front, and the tokens behind it.
+// The type at the front, and the tokens after it.
 fn front_type(tokens: &[Token]) -> Option<(Ty, &[Token])>
     ensures value { option_map (λ x. (x.0, words_of x.1.now)) result ≡ type_front (words_of tokens.now) }
     ensures shorter { IfSome result (λ x. length x.1.now < length tokens.now) }
@@ -76,7 +76,7 @@ fn front_type(tokens: &[Token]) -> Option<(Ty, &[Token])>
     }
 }
 
-// The update at the front, and the tokens behind it.
+// The update at the front, and the tokens after it.
 pub fn front_update(tokens: &[Token]) -> Option<(UpdateOp, &[Token])>
     ensures value { option_map (λ x. (x.0, words_of x.1.now)) result ≡ update_front (words_of tokens.now) }
     ensures shorter { IfSome result (λ x. length x.1.now < length tokens.now) }
@@ -92,7 +92,7 @@ pub fn front_update(tokens: &[Token]) -> Option<(UpdateOp, &[Token])>
     }
 }
 
-// The tokens behind a mark, where it stands at the front.
+// The tokens after a mark, where it stands at the front.
 #[tactic(auto, unfolding(crate::specs::Reading::behind))]
 pub fn accept<'a>(tokens: &'a [Token], mark: Mark) -> Option<&'a [Token]>
     ensures value { option_map (λ rest. words_of rest.now) result ≡ behind mark (words_of tokens.now) }
@@ -104,7 +104,7 @@ pub fn accept<'a>(tokens: &'a [Token], mark: Mark) -> Option<&'a [Token]>
     }
 }
 
-// The tokens behind a mark, which must stand at the front.
+// The tokens after a mark, which must stand at the front.
 #[tactic(auto, unfolding(crate::specs::Reading::after))]
 pub fn expect<'a>(tokens: &'a [Token], mark: Mark) -> Result<&'a [Token], Stop>
     ensures value { Gives (λ rest. words_of rest.now) result (after mark (words_of tokens.now)) }
@@ -165,7 +165,7 @@ pub fn expect_number<'a>(tokens: &'a [Token]) -> Result<(Number, &'a [Token]), S
     }
 }
 
-// The operator at the front, where it is of a level, and the tokens behind it.
+// The operator at the front, where it is of a level, and the tokens after it.
 #[tactic(auto, unfolding(crate::specs::Reading::operator_at))]
 pub fn front_operator<'a>(tokens: &'a [Token], level: u8) -> Option<(Operator, &'a [Token])>
     ensures value { option_map (λ x. (x.0, words_of x.1.now)) result ≡ operator_at level (words_of tokens.now) }

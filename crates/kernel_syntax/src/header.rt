@@ -13,7 +13,7 @@ use kernel_tree::token::Token;
 use kernel_tree::{Answer, Loop, Param, Shape, Ty, Var};
 use std::alloc::Global;
 
-// What stands behind the colon of a parameter.
+// What stands after the colon of a parameter.
 #[tactic(auto, unfolding(crate::specs::Headers::shape_at))]
 fn read_shape<'a>(tokens: &'a [Token]) -> Result<(Shape, &'a [Token]), Stop>
     ensures value { Gives (λ x. (x.0, words_of x.1.now)) result (shape_at (words_of tokens.now)) }
@@ -43,7 +43,7 @@ fn parameter<'a>(alloc: Global, tokens: &'a [Token]) -> Result<(Param, &'a [Toke
     Ok((Param { name, shape }, rest))
 }
 
-// One to eight parameters and the parenthesis behind them.
+// One to eight parameters and the parenthesis after them.
 fn some_params<'a>(alloc: Global, tokens: &'a [Token]) -> Result<(Vec<Param>, &'a [Token]), Stop>
     ensures value { Gives (λ x. (parameters_of x.0.items, words_of x.1.now)) result (some_at 7 (words_of tokens.now)) }
     ensures shorter { IfOk result (λ x. length x.1.now < length tokens.now) }
@@ -66,7 +66,7 @@ fn some_params<'a>(alloc: Global, tokens: &'a [Token]) -> Result<(Vec<Param>, &'
     }
 }
 
-// The parameters and the parenthesis behind them.
+// The parameters and the parenthesis after them.
 #[tactic(auto, unfolding(crate::specs::Headers::params_at))]
 pub fn params<'a>(alloc: Global, tokens: &'a [Token]) -> Result<(Vec<Param>, &'a [Token]), Stop>
     ensures value { Gives (λ x. (parameters_of x.0.items, words_of x.1.now)) result (params_at (words_of tokens.now)) }
@@ -78,7 +78,7 @@ pub fn params<'a>(alloc: Global, tokens: &'a [Token]) -> Result<(Vec<Param>, &'a
     }
 }
 
-// What stands behind the word that begins an accumulator.
+// What stands after the word that begins an accumulator.
 #[tactic(auto, unfolding(crate::specs::Headers::var_at))]
 fn accumulator<'a>(alloc: Global, tokens: &'a [Token]) -> Result<(Var, &'a [Token]), Stop>
     ensures value { Gives (λ x. (accumulator_of x.0, words_of x.1.now)) result (var_at (words_of tokens.now)) }
@@ -125,7 +125,7 @@ fn expect_zero<'a>(tokens: &'a [Token]) -> Result<&'a [Token], Stop>
     }
 }
 
-// What stands behind the word that begins a loop.
+// What stands after the word that begins a loop.
 #[tactic(auto, unfolding(crate::specs::Headers::turns_at))]
 fn turns<'a>(alloc: Global, tokens: &'a [Token]) -> Result<(Loop, &'a [Token]), Stop>
     ensures value { Gives (λ x. (turns_of x.0, words_of x.1.now)) result (turns_at (words_of tokens.now)) }
@@ -156,7 +156,7 @@ pub fn body<'a>(alloc: Global, tokens: &'a [Token]) -> Result<(Option<Loop>, &'a
     }
 }
 
-// What stands behind the parameters: the type of what is returned, if anything is, and the brace.
+// What stands after the parameters: the type of what is returned, if anything is, and the brace.
 #[tactic(auto, unfolding(crate::specs::Headers::tail_at))]
 pub fn tail<'a>(tokens: &'a [Token]) -> Result<(Option<Ty>, &'a [Token]), Stop>
     ensures value { Gives (λ x. (x.0, words_of x.1.now)) result (tail_at (words_of tokens.now)) }

@@ -96,7 +96,7 @@ pub fn read_kernel(alloc: Global, text: &[u8]) -> Result<Kernel, ReadFault>
     // Other texts are refused where no kernel is the tree of their tokens.
     ensures no_tree { (token : ℕ) → result ≡ Err (ReadFault.Syntax token) → HasNoTree text.now }
     ensures no_limit { (token : ℕ) → result ≡ Err (ReadFault.Syntax token) → limit_fault text.now ≡ None }
-    // The token named is the one behind the longest front of a kernel that the tokens begin with.
+    // The token named is the one after the longest front of a kernel that the tokens begin with.
     ensures place { (token : ℕ) → result ≡ Err (ReadFault.Syntax token) → StopsAt text.now token }
 {
     read_text(alloc, text)

@@ -15,7 +15,7 @@ use kernel_tree::token::Token;
 use kernel_tree::{Expr, Name, Stmt, Ty, UpdateOp, make};
 use std::alloc::Global;
 
-// An expression and a mark behind it.
+// An expression and a mark after it.
 #[tactic(auto, unfolding(crate::specs::Statements::term_at))]
 pub fn term<'a>(alloc: Global, tokens: &'a [Token], mark: Mark) -> Result<(Expr, &'a [Token]), Stop>
     ensures value { Gives (λ x. (term_of x.0, words_of x.1.now)) result (term_at mark (words_of tokens.now)) }
@@ -39,7 +39,7 @@ fn declared_type<'a>(tokens: &'a [Token]) -> Result<(Option<Ty>, &'a [Token]), S
     }
 }
 
-// What stands behind a let.
+// What stands after a let.
 #[tactic(auto, unfolding(crate::specs::Statements::define_at))]
 fn definition<'a>(alloc: Global, tokens: &'a [Token]) -> Result<(Stmt, &'a [Token]), Stop>
     ensures value { Gives (λ x. (action_of x.0, words_of x.1.now)) result (define_at (words_of tokens.now)) }
@@ -52,7 +52,7 @@ fn definition<'a>(alloc: Global, tokens: &'a [Token]) -> Result<(Stmt, &'a [Toke
     Ok((Stmt::Let { name, ty, value }, rest))
 }
 
-// What stands behind the bracket of the element that a store writes.
+// What stands after the bracket of the element that a store writes.
 #[tactic(auto, unfolding(crate::specs::Statements::put_at))]
 fn store<'a>(alloc: Global, array: &Name, tokens: &'a [Token]) -> Result<(Stmt, &'a [Token]), Stop>
     ensures value { Gives (λ x. (action_of x.0, words_of x.1.now)) result
@@ -73,7 +73,7 @@ fn store<'a>(alloc: Global, array: &Name, tokens: &'a [Token]) -> Result<(Stmt, 
     ))
 }
 
-// What stands behind the operator of an update.
+// What stands after the operator of an update.
 #[tactic(auto, unfolding(crate::specs::Statements::update_at))]
 fn update<'a>(
     alloc: Global,
@@ -90,7 +90,7 @@ fn update<'a>(
     Ok((Stmt::Update { name, op, value }, rest))
 }
 
-// What stands behind the name of what a statement changes.
+// What stands after the name of what a statement changes.
 #[tactic(auto, unfolding(crate::specs::Statements::target_at))]
 fn target<'a>(alloc: Global, name: &Name, tokens: &'a [Token]) -> Result<(Stmt, &'a [Token]), Stop>
     ensures value { Gives (λ x. (action_of x.0, words_of x.1.now)) result
@@ -106,7 +106,7 @@ fn target<'a>(alloc: Global, name: &Name, tokens: &'a [Token]) -> Result<(Stmt, 
     }
 }
 
-// What stands behind a break, in the loop's own block or in another.
+// What stands after a break, in the loop's own block or in another.
 #[tactic(auto, unfolding(crate::specs::Statements::leave_at))]
 fn leaving<'a>(alloc: Global, tokens: &'a [Token], whole: bool) -> Result<(Stmt, &'a [Token]), Stop>
     ensures value { Gives (λ x. (action_of x.0, words_of x.1.now)) result (leave_at whole (words_of tokens.now)) }
@@ -122,7 +122,7 @@ fn leaving<'a>(alloc: Global, tokens: &'a [Token], whole: bool) -> Result<(Stmt,
     Ok((Stmt::Break { cond }, rest))
 }
 
-// What stands behind an if.
+// What stands after an if.
 #[cycle(block)]
 #[tactic(auto, unfolding(crate::specs::Statements::choose_by))]
 fn choice<'a>(alloc: Global, tokens: &'a [Token], room: usize) -> Result<(Stmt, &'a [Token]), Stop>
@@ -189,7 +189,7 @@ fn statement<'a>(
     }
 }
 
-/// The statements up to the brace behind them, of the loop's own block where whole holds. No more than
+/// The statements up to the brace after them, of the loop's own block where whole holds. No more than
 /// room blocks stand inside one another.
 #[cycle(block)]
 pub fn block<'a>(

@@ -119,7 +119,7 @@ drop-end k b rest = rw add-one refl
 piece_inside : (b : ℕ) (rest : List ℕ) (p : Piece) → piece b rest ≡ p → behind_of p ≤ length rest
 piece_inside b rest p e = subst (λ q. behind_of q ≤ length rest) e (piece_within b rest).fits
 
--- the bytes behind the first one of a piece are passed over
+-- the bytes after the first one of a piece are passed over
 skip : (b : ℕ) (rest : List ℕ) (at to k : ℕ) → k ≤ length rest → to ≡ at + (k + 1) → scan k (at + 1) rest ≡ scan 0 to (drop (k + 1) (b ∷ rest))
 skip b rest at to k h t = scan-past k (at + 1) to rest (omega arith) h ∙ ap (λ (l : List ℕ). scan 0 to l) (sym (drop-end k b rest))
 

@@ -11,13 +11,13 @@ piece_of (front.Gap k) = Gap k
 piece_of (front.Token t k) = Token (word_of t) k
 piece_of front.NoToken = NoToken
 
--- the number of bytes behind the first one
+-- the number of bytes after the first one
 abbrev pub behind_of : Piece → ℕ
 behind_of (Gap k) = k
 behind_of (Token w k) = k
 behind_of NoToken = 0
 
--- what stands at the front of a whole text, by its first byte and those behind it
+-- what stands at the front of a whole text, by its first byte and those after it
 abbrev pub at_front : (ℕ → List ℕ → Piece) → List ℕ → Piece
 at_front f [] = NoToken
 at_front f (b ∷ rest) = f b rest

@@ -14,7 +14,7 @@ use kernel_tree::token::Token;
 use kernel_tree::{Name, UpdateOp};
 use std::alloc::{AllocError, Global};
 
-/// A gap between tokens, or a token, each with the number of its bytes behind the first one.
+/// A gap between tokens, or a token, each with the number of its bytes after the first one.
 #[derive(Drop)]
 pub enum Front {
     Gap(usize),
@@ -64,7 +64,7 @@ fn ascii_text(bytes: &[u8]) -> &str
     }
 }
 
-// What a letter and the letters and digits behind it spell.
+// What a letter and the letters and digits after it spell.
 fn run_token(alloc: Global, run: &[u8]) -> Result<Token, AllocError>
     requires { IsTrue (is_run run.now) }
     ensures { IfOk result (λ t. word_of t ≡ run_word run.now) }
@@ -81,7 +81,7 @@ fn run_token(alloc: Global, run: &[u8]) -> Result<Token, AllocError>
     }
 }
 
-// The same before the bytes behind it: an equals sign makes `min` and `max` updates.
+// The same before the bytes after it: an equals sign makes `min` and `max` updates.
 fn run_before(alloc: Global, run: &[u8], after: &[u8]) -> Result<Front, AllocError>
     requires { IsTrue (is_run run.now) }
     ensures { IfOk result (λ f. piece_of f ≡ run_piece run.now after.now (length run.now - 1)) }

@@ -29,7 +29,7 @@ abbrev moved : ℕ → ℕ → ℕ
 moved zero at = at
 moved (suc k) at = moved k (at + 1)
 
--- what stands behind a token: nothing, or a space and more
+-- what stands after a token: nothing, or a space and more
 abbrev tail_of : Option (List ℕ) → List ℕ
 tail_of None = []
 tail_of (Some t) = 32 ∷ t
@@ -220,7 +220,7 @@ word_scans (IsCompare op) h = compare_scans op
 word_scans (IsUpdate op) h = update_scans op
 word_scans (IsMark m) h = mark_scans m
 
--- what stands behind a token of a list
+-- what stands after a token of a list
 abbrev behind : List Word → Option (List ℕ)
 behind [] = None
 behind (w ∷ ws) = Some (word_text w ++ spaced ws)

@@ -221,7 +221,7 @@ from_words {level} {v} {w} {e} {r} p d = subst (λ (z : List Word). Spells level
 tail_is : (v w : Word) (xs ys : List Word) → v ∷ xs ≡ w ∷ ys → xs ≡ ys
 tail_is v w xs ys p = cc
 
--- the words behind a step do not go on at its level
+-- the words after a step do not go on at its level
 step_closed : (level : ℕ) (a : Term) (mid : List Word) (e : Term) (rest : List Word) → Step level a mid e rest → Closed level mid
 step_closed level a mid e rest s = subst (Closed level) (sym s.at) (no_index s.word s.op s.is_op, subst (Looser level) (sym s.is_op) (omega (arith, s.of_level)))
 

@@ -24,7 +24,7 @@ tail_is v w xs ys p = cc
 type_is : (t u : Ty) (xs ys : List Word) → IsType t ∷ xs ≡ IsType u ∷ ys → t ≡ u
 type_is t u xs ys p = cc
 
--- an expression, and what stands behind it
+-- an expression, and what stands after it
 before_semicolon : (words : List Word) (e f : Term) (r s : List Word) → Spells 10 words e (IsMark mark.Semicolon ∷ r) → Spells 10 words f (IsMark mark.Semicolon ∷ s) → (e ≡ f) × (r ≡ s)
 before_semicolon words e f r s d g = let u = one_term 10 words e _ f _ d g (refl, tt) (refl, tt) in (u.0, tail_is _ _ r s u.1)
 

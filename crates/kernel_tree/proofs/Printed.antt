@@ -56,7 +56,7 @@ literal_spells site.Operand (pos n) rest = number
 literal_spells site.Negated (pos n) rest = group (raise 10 number)
 literal_spells place (negsuc n) rest = wrapped place (λ r. IsMark mark.Minus ∷ IsNumber (suc n) ∷ r) (Literal (negsuc n)) rest (λ r. raise 10 negative)
 
--- what stands behind a minus begins with no number
+-- what stands after a minus begins with no number
 no_number : (e : Term) (r : List Word) → number_at (print_term e site.Negated r) ≡ None
 unfolding opened number_opened
 no_number (Literal (pos n)) r = refl

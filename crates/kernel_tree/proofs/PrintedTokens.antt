@@ -69,7 +69,7 @@ term_tokens (Both a b) h place rest t = between_tokens (print_term a) (print_ter
 term_tokens (Either a b) h place rest t = between_tokens (print_term a) (print_term b) _ refl (term_tokens a h.0) (term_tokens b h.1) place rest t
 term_tokens (Not e) h place rest t = opened_tokens place _ (refl, term_tokens e h site.Operand _ (closed_tokens place rest t))
 
--- an expression by itself, and tokens behind it
+-- an expression by itself, and tokens after it
 alone : (e : Term) → Well e → (rest : List Word) → Tokens rest → Tokens (print_term e site.Alone rest)
 alone e h rest t = term_tokens e h site.Alone rest t
 

@@ -42,7 +42,7 @@ pub data Fronts : ℕ → List Word → List Word → Type 0 where
   third_choice : {c a : Term} {from next last bad : List Word} → Spells 10 from c (IsMark mark.Comma ∷ next) → Spells 10 next a (IsMark mark.Comma ∷ last) → Fronts 10 last bad → Fronts 0 (IsMark mark.Select ∷ IsMark mark.OpenParen ∷ from) bad
   end_choice : {c a b : Term} {from next last bad : List Word} → Spells 10 from c (IsMark mark.Comma ∷ next) → Spells 10 next a (IsMark mark.Comma ∷ last) → Spells 10 last b bad → Fronts 0 (IsMark mark.Select ∷ IsMark mark.OpenParen ∷ from) bad
   in_sign : {s : Sign} {m : Mark} {from bad : List Word} → opening_of_mark m ≡ Some (opening.Signed s) → Fronts 0 from bad → Fronts 0 (IsMark m ∷ from) bad
-  -- behind a whole operand, and behind an operator of the level
+  -- after a whole operand, and after an operator of the level
   at_operator : {level : ℕ} {e : Term} {from bad : List Word} → Spells level from e bad → Fronts level from bad
   at_type : {level : ℕ} {e : Term} {w : Word} {from bad : List Word} → Spells (suc level) from e (w ∷ bad) → operator_of w ≡ Some operator.As → level_of operator.As ≡ suc level → Fronts (suc level) from bad
   at_count : {level : ℕ} {left : Bool} {e : Term} {w : Word} {from bad : List Word} → Spells (suc level) from e (w ∷ bad) → operator_of w ≡ Some (operator.Shifted left) → level_of (operator.Shifted left) ≡ suc level → Fronts (suc level) from bad
@@ -122,7 +122,7 @@ pub data LoopFronts : List Word → List Word → Type 0 where
   loop_brace : {i n : List ℕ} {bad : List Word} → LoopFronts (IsMark mark.For ∷ IsName i ∷ IsMark mark.In ∷ IsNumber 0 ∷ IsMark mark.Range ∷ IsName n ∷ bad) bad
   loop_block : {i n : List ℕ} {from bad : List Word} → BlockFronts true from bad → LoopFronts (IsMark mark.For ∷ IsName i ∷ IsMark mark.In ∷ IsNumber 0 ∷ IsMark mark.Range ∷ IsName n ∷ IsMark mark.OpenBrace ∷ from) bad
 
--- what stands in the braces of a kernel that returns a value, or of one that does not, and the brace behind it
+-- what stands in the braces of a kernel that returns a value, or of one that does not, and the brace after it
 pub data BodyFronts : Bool → List Word → List Word → Type 0 where
   in_vars : {returns : Bool} {from bad : List Word} → VarFronts from bad → BodyFronts returns from bad
   in_loop : {returns : Bool} {vs : List Accumulator} {from next bad : List Word} → SpellsVars from vs next → LoopFronts next bad → BodyFronts returns from bad
@@ -136,7 +136,7 @@ pub data KernelFronts : List Word → List Word → Type 0 where
   no_kernel : {bad : List Word} → KernelFronts bad bad
   kernel_name : {bad : List Word} → KernelFronts (IsMark mark.Kernel ∷ bad) bad
   kernel_paren : {x : List ℕ} {bad : List Word} → KernelFronts (IsMark mark.Kernel ∷ IsName x ∷ bad) bad
-  -- behind the open parenthesis, where a parameter or its close may follow
+  -- after the open parenthesis, where a parameter or its close may follow
   in_params : {x : List ℕ} {from bad : List Word} → SomeFronts 7 from bad → KernelFronts (IsMark mark.Kernel ∷ IsName x ∷ IsMark mark.OpenParen ∷ from) bad
   kernel_tail : {x : List ℕ} {ps : List Parameter} {from bad : List Word} → SpellsParams from ps bad → KernelFronts (IsMark mark.Kernel ∷ IsName x ∷ IsMark mark.OpenParen ∷ from) bad
   kernel_type : {x : List ℕ} {ps : List Parameter} {from bad : List Word} → SpellsParams from ps (IsMark mark.Arrow ∷ bad) → KernelFronts (IsMark mark.Kernel ∷ IsName x ∷ IsMark mark.OpenParen ∷ from) bad

@@ -40,7 +40,7 @@ operator_of_mark mark.ShiftRight = Some (operator.Shifted false)
 operator_of_mark mark.As = Some operator.As
 operator_of_mark _ = None
 
--- what a word is behind a first operand
+-- what a word is after a first operand
 abbrev pub operator_of : Word → Option Operator
 operator_of (IsMark m) = operator_of_mark m
 operator_of (IsCompare op) = Some (operator.Compared op)
@@ -104,7 +104,7 @@ signed sign.Minus e = Unary unary.Neg e
 signed sign.Flip e = Unary unary.Flip e
 signed sign.Not e = Not e
 
--- the number at the front, and the words behind it
+-- the number at the front, and the words after it
 abbrev pub number_at : List Word → Option (ℕ × List Word)
 number_at [] = None
 number_at (IsNumber n ∷ rest) = Some (n, rest)
@@ -184,7 +184,7 @@ pub data SpellsType : List Word → Option Ty → List Word → Type 0 where
   untyped : {rest : List Word} → SpellsType rest None rest
   typed : {t : Ty} {rest : List Word} → SpellsType (IsMark mark.Colon ∷ IsType t ∷ rest) (Some t) rest
 
--- A statement, and statements as many as there are with the brace behind them. A `break` stands in the loop's own
+-- A statement, and statements as many as there are with the brace after them. A `break` stands in the loop's own
 -- block alone, where the first argument is true.
 mutual
   pub data SpellsAction : Bool → List Word → Action → List Word → Type 0 where
@@ -225,7 +225,7 @@ pub data SpellsParam : List Word → Parameter → List Word → Type 0 where
   array : {x : List ℕ} {t : Ty} {rest : List Word} →
       SpellsParam (IsName x ∷ IsMark mark.Colon ∷ IsMark mark.OpenBracket ∷ IsType t ∷ IsMark mark.CloseBracket ∷ rest) (record { name = x; shape = shape.Array t }) rest
 
--- a parameter, no more than so many others, and the parenthesis behind them
+-- a parameter, no more than so many others, and the parenthesis after them
 pub data SpellsSome : ℕ → List Word → List Parameter → List Word → Type 0 where
   last : {others : ℕ} {p : Parameter} {from rest : List Word} →
       SpellsParam from p (IsMark mark.CloseParen ∷ rest) → SpellsSome others from (p ∷ []) rest
@@ -234,7 +234,7 @@ pub data SpellsSome : ℕ → List Word → List Parameter → List Word → Typ
       SpellsSome others next ps rest →
       SpellsSome (suc others) from (p ∷ ps) rest
 
--- at most eight parameters, and the parenthesis behind them
+-- at most eight parameters, and the parenthesis after them
 pub data SpellsParams : List Word → List Parameter → List Word → Type 0 where
   none : {rest : List Word} → SpellsParams (IsMark mark.CloseParen ∷ rest) [] rest
   some : {ps : List Parameter} {from rest : List Word} → SpellsSome 7 from ps rest → SpellsParams from ps rest

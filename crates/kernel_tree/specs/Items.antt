@@ -1,5 +1,5 @@
 -- How many items the parts of a kernel make in its listing. An expression is listed in post-order; a stream index,
--- a shift count and parentheses make no items, and `||` has a mark behind its left side.
+-- a shift count and parentheses make no items, and `||` has a mark after its left side.
 use Rattle.std.specs.Prelude.{ℕ, ◌+◌, ℤ, pos, neg_ℤ, List, [], ◌∷◌, length, Option, Some, None, Bool, false, bytes_eq, if◌then◌else◌, option_map, option_and_then}
 use Rattle.kernel_tree.specs.declared.ops.BinaryOp.{BinaryOp}
 use Rattle.kernel_tree.specs.declared.ops.BinaryOp.TheVariants as binary

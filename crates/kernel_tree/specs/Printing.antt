@@ -21,7 +21,7 @@ use Rattle.kernel_tree.specs.Plain.{Term, Literal, Variable, Element, Unary, Ope
 
 -- ---- expressions
 
--- parentheses open where an operator or a negative literal is an operand, and close behind it
+-- parentheses open where an operator or a negative literal is an operand, and close after it
 unfoldable pub opened : Place → List Word → List Word
 opened site.Alone rest = rest
 opened site.Operand rest = IsMark mark.OpenParen ∷ rest
@@ -32,7 +32,7 @@ closed site.Alone rest = rest
 closed site.Operand rest = IsMark mark.CloseParen ∷ rest
 closed site.Negated rest = IsMark mark.CloseParen ∷ rest
 
--- a literal that is not negative stands in parentheses behind a minus alone
+-- a literal that is not negative stands in parentheses after a minus alone
 unfoldable pub number_opened : Place → List Word → List Word
 number_opened site.Alone rest = rest
 number_opened site.Operand rest = rest
@@ -107,7 +107,7 @@ abbrev pub print_type : Option Ty → List Word → List Word
 print_type None rest = rest
 print_type (Some t) rest = IsMark mark.Colon ∷ IsType t ∷ rest
 
--- a statement, and statements with the brace behind them
+-- a statement, and statements with the brace after them
 abbrev mutual
   pub print_action : Action → List Word → List Word
   print_action (Define x t e) rest = IsMark mark.Let ∷ IsName x ∷ print_type t (IsMark mark.Equals ∷ print_term e site.Alone (IsMark mark.Semicolon ∷ rest))
@@ -133,7 +133,7 @@ print_shape (shape.Array t) rest = IsMark mark.OpenBracket ∷ IsType t ∷ IsMa
 abbrev pub print_param : Parameter → List Word → List Word
 print_param p rest = IsName p.name ∷ IsMark mark.Colon ∷ print_shape p.shape rest
 
--- parameters behind a first one
+-- parameters after a first one
 abbrev pub print_others : List Parameter → List Word → List Word
 print_others [] rest = rest
 print_others (p ∷ ps) rest = IsMark mark.Comma ∷ print_param p (print_others ps rest)
@@ -159,7 +159,7 @@ abbrev pub print_answer : Option Returned → List Word → List Word
 print_answer None rest = rest
 print_answer (Some a) rest = IsMark mark.Return ∷ print_term a.value site.Alone (IsMark mark.Semicolon ∷ rest)
 
--- the canonical tokens of a kernel behind its first one, which is `kernel`
+-- the canonical tokens of a kernel after its first one, which is `kernel`
 abbrev pub kernel_words : Program → List Word
 kernel_words k = IsName k.name ∷ IsMark mark.OpenParen ∷ print_params k.params (IsMark mark.CloseParen ∷ print_arrow k.answer (IsMark mark.OpenBrace ∷ print_vars k.vars (print_turns k.turns (print_answer k.answer (IsMark mark.CloseBrace ∷ [])))))
 

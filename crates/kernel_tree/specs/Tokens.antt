@@ -144,7 +144,7 @@ single b =
 
 -- ---- what stands at the front of some bytes
 
--- a gap between tokens, or a token, each with the number of its bytes behind the first one
+-- a gap between tokens, or a token, each with the number of its bytes after the first one
 pub data Piece : Type 0 where
   Gap : ℕ → Piece
   Token : Word → ℕ → Piece
@@ -155,7 +155,7 @@ abbrev pub begins : ℕ → List ℕ → Bool
 begins b [] = false
 begins b (c ∷ rest) = c == b
 
--- a run of k bytes behind its first one, and the bytes after it: `min=` and `max=` are tokens
+-- a run of k bytes after its first one, and the bytes after it: `min=` and `max=` are tokens
 abbrev pub run_piece : List ℕ → List ℕ → ℕ → Piece
 run_piece w after k =
     if begins 61 after && bytes_eq w (codes "min") then Token (IsUpdate update.Min) (k + 1) else
@@ -188,7 +188,7 @@ abbrev pub symbol_piece : ℕ → List ℕ → Piece
 symbol_piece b [] = symbol_of None (single b)
 symbol_piece b (c ∷ rest) = symbol_of (pair b c) (single b)
 
--- what stands at the front of a byte and the bytes behind it
+-- what stands at the front of a byte and the bytes after it
 abbrev pub piece : ℕ → List ℕ → Piece
 piece b rest =
     if is_blank b then Gap 0 else

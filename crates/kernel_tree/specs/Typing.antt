@@ -54,7 +54,7 @@ insert_name names x = if list_any (bytes_eq x) names then names else names ++ x 
 abbrev pub declared : Scope → List ℕ → Binding → Scope
 declared scope x b = record scope { visible = scope.visible ++ local x b ∷ []; taken = insert_name scope.taken x }
 
--- behind a block, what it declared is visible no more
+-- after a block, what it declared is visible no more
 abbrev pub left : Scope → Scope → Scope
 left scope inner = record scope { taken = inner.taken }
 
@@ -234,7 +234,7 @@ faults scope from role (Comparison op a b) =
 faults scope from role (Both a b) =
     let next = from + term_size scope.index a in
     faults scope from Condition a ++ (faults scope next Condition b ++ as_condition (next + term_size scope.index b) role)
--- a mark stands behind the left side
+-- a mark stands after the left side
 faults scope from role (Either a b) =
     let next = from + term_size scope.index a + 1 in
     faults scope from Condition a ++ (faults scope next Condition b ++ as_condition (next + term_size scope.index b) role)
@@ -265,7 +265,7 @@ abbrev pub defined : Scope → List ℕ → Option Ty → Scope
 defined scope x None = record scope { taken = insert_name scope.taken x }
 defined scope x (Some t) = declared scope x (binding.Value t)
 
--- the scope behind a statement and behind statements
+-- the scope after a statement and after statements
 abbrev mutual
   pub after_action : Scope → Action → Scope
   after_action scope (Define x t e) = defined scope x (first t (own scope e))
@@ -323,7 +323,7 @@ abbrev pub after_vars : Scope → List Accumulator → Scope
 after_vars scope [] = scope
 after_vars scope (v ∷ vs) = after_vars (declared scope v.name (binding.Accumulator v.type)) vs
 
--- the scope in which the body of a loop begins, and the returned expression behind a loop
+-- the scope in which the body of a loop begins, and the returned expression after a loop
 abbrev pub in_loop : Scope → Turns → Scope
 in_loop scope l = let s = declared scope l.index binding.Index in record s { inside = true }
 
@@ -356,7 +356,7 @@ abbrev pub answer_faults : Scope → ℕ → Option Returned → List Found
 answer_faults scope from None = []
 answer_faults scope from (Some a) = faults scope from (Value (Some a.type)) a.value
 
--- the scope behind the parameters, and behind the accumulators
+-- the scope after the parameters, and after the accumulators
 abbrev pub param_scope : Program → Scope
 param_scope k = after_params (empty (loop_index k)) k.params
 

@@ -21,7 +21,7 @@ pub fn is_digit_byte(b: u8) -> bool
     matches!(b, b'0'..=b'9')
 }
 
-/// Whether a byte may stand in a name behind its first one.
+/// Whether a byte may stand in a name after its first one.
 pub fn continues_name(b: u8) -> bool
     ensures { result ≡ is_name_byte b }
 {

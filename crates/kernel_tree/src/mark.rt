@@ -79,7 +79,7 @@ pub enum Joint {
     Either,
 }
 
-/// What stands behind a first operand.
+/// What stands after a first operand.
 #[derive(Clone, Copy, PartialEq, Eq, Debug)]
 pub enum Operator {
     Joined(Joint),

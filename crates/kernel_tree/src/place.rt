@@ -7,6 +7,6 @@ pub enum Place {
     Alone,
     /// As an operand.
     Operand,
-    /// Behind a minus.
+    /// After a minus.
     Negated,
 }

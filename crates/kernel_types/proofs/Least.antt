@@ -31,7 +31,7 @@ least-append (x ∷ xs) ys = ap (sooner (Some x)) (least-append xs ys) ∙ sym (
 
 pub ruleset sooner_rules = (sooner-none, sooner-assoc, least-append)
 
--- the faults of a part, and then those at the item behind it
+-- the faults of a part, and then those at the item after it
 pub part_and_item : (o p q : Option Found) (n m : ℕ) (fs gs : List Found) (at : ℕ → List Found) → n ≡ m → p ≡ sooner o (least fs) → fs ≡ gs → q ≡ sooner p (least (at n)) → q ≡ sooner o (least (gs ++ at m))
 part_and_item o p q n m fs gs at d e h f =
     f

@@ -26,7 +26,7 @@ pub record GoesOn (s t : Scope) (n m : ℕ) (o p : Option Found) (ts us : List (
   pub found : sooner p (least (block_faults t m b)) ≡ sooner o (least (block_faults s n x))
   pub types : us ++ block_types t b ≡ ts ++ block_types s x
 
--- behind a statement the walk goes on at the next
+-- after a statement the walk goes on at the next
 pub goes_on : (s t : Scope) (n m : ℕ) (o p : Option Found) (ts us : List (Option Ty)) (a : Action) (b x : Block) → x ≡ Then a b → t ≡ after_action s a → m ≡ n + action_size s.index a → p ≡ sooner o (least (action_faults s n a)) → us ≡ ts ++ action_types s a → GoesOn s t n m o p ts us b x
 goes_on s t n m o p ts us a b x e f g h i = record {
   scope = rw (e, f) refl;
@@ -40,7 +40,7 @@ pub record ParamsGoOn (s t : Scope) (n m : ℕ) (o p : Option Found) (ts us : Li
   pub found : sooner p (least (params_faults t m ps)) ≡ sooner o (least (params_faults s n xs))
   pub types : us ++ params_types ps ≡ ts ++ params_types xs
 
--- behind a parameter the walk goes on at the next
+-- after a parameter the walk goes on at the next
 pub params_go_on : (s t : Scope) (n m : ℕ) (o p : Option Found) (ts us : List (Option Ty)) (x : Parameter) (ps xs : List Parameter) → xs ≡ x ∷ ps → t ≡ after_param s x → m ≡ n + 1 → p ≡ sooner o (least (twice n s x.name)) → us ≡ ts ++ None ∷ [] → ParamsGoOn s t n m o p ts us ps xs
 params_go_on s t n m o p ts us x ps xs e f g h i = record {
   scope = rw (e, f) refl;
@@ -54,7 +54,7 @@ pub record VarsGoOn (s t : Scope) (n m : ℕ) (o p : Option Found) (ts us : List
   pub found : sooner p (least (vars_faults t m vs)) ≡ sooner o (least (vars_faults s n xs))
   pub types : us ++ vars_types t vs ≡ ts ++ vars_types s xs
 
--- behind an accumulator the walk goes on at the next
+-- after an accumulator the walk goes on at the next
 pub vars_go_on : (s t : Scope) (n m : ℕ) (o p : Option Found) (ts us : List (Option Ty)) (x : Accumulator) (vs xs : List Accumulator) → xs ≡ x ∷ vs → t ≡ after_var s x → m ≡ n + (term_size s.index x.init + 1) → p ≡ sooner o (least (var_faults s n x)) → us ≡ ts ++ var_types s x → VarsGoOn s t n m o p ts us vs xs
 vars_go_on s t n m o p ts us x vs xs e f g h i =
     let fs = faults s n (Value (Some x.type)) x.init in

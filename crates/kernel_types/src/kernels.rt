@@ -108,7 +108,7 @@ fn walk_vars<'a>(
     Ok(())
 }
 
-// Goes over the body of a loop, behind which what it declared is forgotten.
+// Goes over the body of a loop, after which what it declared is forgotten.
 #[tactic(auto, using(crate::proofs::Least::sooner_rules))]
 fn walk_body<'a>(
     notes: &mut Notes,

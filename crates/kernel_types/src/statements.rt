@@ -250,7 +250,7 @@ fn walk_if_else<'a>(
     Ok(())
 }
 
-// A block, behind which its names are visible no more.
+// A block, after which its names are visible no more.
 #[cycle(statements)]
 #[tactic(auto, using(crate::proofs::Least::sooner_rules))]
 fn walk_inner<'a>(
@@ -275,7 +275,7 @@ fn walk_inner<'a>(
     Ok(())
 }
 
-/// Goes over statements, behind which their names stay visible.
+/// Goes over statements, after which their names stay visible.
 #[cycle(statements)]
 #[tactic(auto, using(crate::proofs::Least::sooner_rules))]
 pub fn walk_block<'a>(

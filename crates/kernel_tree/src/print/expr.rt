@@ -50,7 +50,7 @@ fn shift_mark(left_shift: bool) -> Mark
     }
 }
 
-// What stands behind the operand of a shift.
+// What stands after the operand of a shift.
 fn end_shift(
     out: &mut String,
     left_shift: bool,

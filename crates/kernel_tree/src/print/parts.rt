@@ -40,7 +40,7 @@ fn put_param(out: &mut String, param: &Param) -> Result<(), AllocError>
     Ok(())
 }
 
-// Parameters behind a first one.
+// Parameters after a first one.
 fn put_others(out: &mut String, others: &[Param]) -> Result<(), AllocError>
     ensures { IfOk result (λ _. (rest : List Word)
         → string_bytes out.new ++ spaced rest

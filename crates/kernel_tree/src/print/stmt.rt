@@ -26,7 +26,7 @@ fn put_shown_type(out: &mut String, ty: Option<Ty>) -> Result<(), AllocError>
     Ok(())
 }
 
-// An expression and a mark behind it.
+// An expression and a mark after it.
 pub fn print_before(out: &mut String, expr: &Expr, mark: Mark) -> Result<(), AllocError>
     ensures { IfOk result (λ _. (rest : List Word)
         → string_bytes out.new ++ spaced rest
@@ -162,7 +162,7 @@ fn print_else(out: &mut String, block: &[Stmt]) -> Result<(), AllocError>
     Ok(())
 }
 
-// Statements and the brace behind them.
+// Statements and the brace after them.
 #[cycle(statements)]
 pub fn print_statements(out: &mut String, block: &[Stmt]) -> Result<(), AllocError>
     ensures { IfOk result (λ _. (rest : List Word)

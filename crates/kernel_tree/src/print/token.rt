@@ -1,4 +1,4 @@
-//! Appends single tokens, each behind a space.
+//! Appends single tokens, each after a space.
 
 ghost use Rattle.std.specs.Prelude.{◌≡◌, ◌∷◌, ◌++◌, ℕ, List, IfOk, string_bytes};
 ghost use Rattle.kernel_tree.specs.Word.{Word, IsName, IsNumber, IsType, IsCompare, IsUpdate, IsMark};
@@ -192,7 +192,7 @@ pub fn close(out: &mut String, place: Place) -> Result<(), AllocError>
     }
 }
 
-// A number that is not negative stands in parentheses behind a minus alone.
+// A number that is not negative stands in parentheses after a minus alone.
 #[tactic(auto, unfolding(crate::specs::Printing::number_opened, crate::specs::Printing::number_closed))]
 pub fn put_positive(out: &mut String, n: u128, place: Place) -> Result<(), AllocError>
     ensures { IfOk result (λ _. (rest : List Word)
