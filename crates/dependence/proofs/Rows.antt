@@ -148,7 +148,7 @@ scattered = record {
   answer = None;
 }
 
--- kernel behind(a: [u8], y: [u8], n: u64) { for i in 0..n { a[i] = 1; y[i] = a[i + 1]; } }
+-- kernel after(a: [u8], y: [u8], n: u64) { for i in 0..n { a[i] = 1; y[i] = a[i + 1]; } }
 abbrev behind : Program
 behind = record {
   name = f;

@@ -3,7 +3,7 @@
 ghost use Rattle.std.specs.Prelude.{◌≡◌};
 ghost use Rattle.kernel_tree.specs.Plain.{program_of};
 ghost use Rattle.kernel_tree.specs.Checked.{kernel_of};
-ghost use Rattle.loop_form.specs.Seen.{program, seen};
+ghost use Rattle.loop_form.specs.View.{program, seen};
 ghost use Rattle.dependence.specs.Classes.{reason, class_of};
 
 use crate::elements::{carries, reads_computed};
@@ -13,7 +13,7 @@ use kernel_tree::Checked;
 use loop_form::{Entry, accesses, lane_width, loop_entries};
 
 // The first reason that applies to the items of the loop.
-#[tactic(auto, unfolding(loop_form::specs::Seen::program))]
+#[tactic(auto, unfolding(loop_form::specs::View::program))]
 fn first_reason(kernel: &Checked, entries: &[Entry<'_>]) -> Option<Why>
     ensures { result ≡ reason (program kernel.now) (seen entries.now) }
 {
@@ -34,7 +34,7 @@ fn first_reason(kernel: &Checked, entries: &[Entry<'_>]) -> Option<Why>
 
 /// Whether the iterations of the loop may be done many at once, statement by statement; where not, the first reason
 /// against it.
-#[tactic(auto, unfolding(loop_form::specs::Seen::program))]
+#[tactic(auto, unfolding(loop_form::specs::View::program))]
 pub fn class(kernel: &Checked) -> Class
     ensures { result ≡ class_of (program_of (kernel_of kernel.now)) }
 {

@@ -4,7 +4,7 @@ ghost use Rattle.std.specs.Prelude.{◌≡◌, ◌/◌, pos};
 ghost use Rattle.std.specs.List.{list_any};
 ghost use Rattle.guest_types.specs.Length.{width_bits};
 ghost use Rattle.kernel_tree.specs.Items.{loop_index};
-ghost use Rattle.loop_form.specs.Seen.{program, entry_of, seen};
+ghost use Rattle.loop_form.specs.View.{program, entry_of, seen};
 ghost use Rattle.dependence.specs.Classes.{is_computed, conflict, distance, is_near, is_carried, carried};
 
 use guest_types::length::Width;

@@ -3,7 +3,7 @@
 ghost use Rattle.std.specs.Prelude.{◌≡◌};
 ghost use Rattle.std.specs.List.{list_any};
 ghost use Rattle.kernel_tree.specs.Plain.{accumulators_of};
-ghost use Rattle.loop_form.specs.Seen.{content_of, entry_of, seen};
+ghost use Rattle.loop_form.specs.View.{content_of, entry_of, seen};
 ghost use Rattle.dependence.specs.Classes.{accumulator_read, number_of_update, updates_otherwise, is_mixed, mixed_update, is_write, is_break, before_break};
 
 use kernel_tree::{UpdateOp, Var};

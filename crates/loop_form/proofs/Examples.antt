@@ -10,7 +10,7 @@ use Rattle.kernel_tree.specs.declared.ast.Shape.TheVariants as shape
 use Rattle.kernel_tree.specs.Plain.{Term, Literal, Variable, Element, Operation, Conversion, Comparison, Either, Not, Define, Put, Update, Choose, Block, Done, Then, Nothing, Else, Program}
 use Rattle.loop_form.specs.declared.item.ItemKind.TheVariants as kind
 use Rattle.loop_form.specs.Entries.{item_type}
-use Rattle.loop_form.specs.Listing.{last_use, listing_of}
+use Rattle.loop_form.specs.Listing.{last_use_from, listing_of}
 use Rattle.loop_form.specs.declared.loop_item.Source.TheVariants.{Constant, Outer, Made}
 use Rattle.loop_form.specs.LoopItems.{item, Load, Combine, Cast, Copy, Store, Add, Test, Invert, Any, loop_items_of}
 use Rattle.loop_form.specs.Streams.{streams_of}
@@ -151,7 +151,7 @@ values = record {
 }
 
 axpy-needs : needs_of axpy ≡ record { size = 11; z = 3; p = 0; x = 2 }
-unfolding item_type last_use constants most_live
+unfolding item_type last_use_from constants most_live
 axpy-needs = refl
 
 axpy-width : lane_width_of axpy ≡ S
@@ -159,7 +159,7 @@ unfolding item_type widest
 axpy-width = refl
 
 spread-needs : needs_of spread ≡ record { size = 5; z = 1; p = 0; x = 1 }
-unfolding item_type last_use constants most_live
+unfolding item_type last_use_from constants most_live
 spread-needs = refl
 
 spread-width : lane_width_of spread ≡ B
@@ -167,7 +167,7 @@ unfolding item_type widest
 spread-width = refl
 
 running-needs : needs_of running ≡ record { size = 9; z = 2; p = 0; x = 2 }
-unfolding item_type last_use constants most_live
+unfolding item_type last_use_from constants most_live
 running-needs = refl
 
 running-width : lane_width_of running ≡ D
@@ -175,7 +175,7 @@ unfolding item_type widest
 running-width = refl
 
 bright-needs : needs_of bright ≡ record { size = 13; z = 3; p = 0; x = 2 }
-unfolding item_type last_use constants most_live
+unfolding item_type last_use_from constants most_live
 bright-needs = refl
 
 bright-width : lane_width_of bright ≡ H
@@ -183,7 +183,7 @@ unfolding item_type widest
 bright-width = refl
 
 ways-needs : needs_of ways ≡ record { size = 27; z = 5; p = 5; x = 2 }
-unfolding item_type last_use constants most_live
+unfolding item_type last_use_from constants most_live
 ways-needs = refl
 
 ways-width : lane_width_of ways ≡ B
@@ -191,7 +191,7 @@ unfolding item_type widest
 ways-width = refl
 
 choice-needs : needs_of choice ≡ record { size = 21; z = 3; p = 2; x = 2 }
-unfolding item_type last_use constants most_live
+unfolding item_type last_use_from constants most_live
 choice-needs = refl
 
 choice-width : lane_width_of choice ≡ S
@@ -199,7 +199,7 @@ unfolding item_type widest
 choice-width = refl
 
 lasts-needs : needs_of lasts ≡ record { size = 17; z = 3; p = 0; x = 3 }
-unfolding item_type last_use constants most_live
+unfolding item_type last_use_from constants most_live
 lasts-needs = refl
 
 lasts-width : lane_width_of lasts ≡ B
@@ -207,7 +207,7 @@ unfolding item_type widest
 lasts-width = refl
 
 pairs-needs : needs_of pairs ≡ record { size = 11; z = 3; p = 0; x = 2 }
-unfolding item_type last_use constants most_live
+unfolding item_type last_use_from constants most_live
 pairs-needs = refl
 
 pairs-width : lane_width_of pairs ≡ H
@@ -215,7 +215,7 @@ unfolding item_type widest
 pairs-width = refl
 
 values-needs : needs_of values ≡ record { size = 22; z = 0; p = 0; x = 4 }
-unfolding item_type last_use constants most_live
+unfolding item_type last_use_from constants most_live
 values-needs = refl
 
 values-width : lane_width_of values ≡ B
@@ -225,69 +225,69 @@ values-width = refl
 -- ---- intervals
 
 abbrev span : ℕ → ℕ → Interval
-span from until = record { from = from; until = until }
+span from last_use = record { from = from; last_use = last_use }
 
 -- the accumulator throughout, its initial value, and what is read
 running-x : intervals running X ≡ span 0 9 ∷ span 2 3 ∷ span 5 6 ∷ []
-unfolding item_type last_use
+unfolding item_type last_use_from
 running-x = refl
 
 running-z : intervals running Z ≡ span 0 9 ∷ span 5 6 ∷ []
-unfolding item_type last_use constants
+unfolding item_type last_use_from constants
 running-z = refl
 
 running-p : intervals running P ≡ []
-unfolding item_type last_use
+unfolding item_type last_use_from
 running-p = refl
 
 -- two literals throughout
 choice-z : intervals choice Z ≡ span 0 21 ∷ span 0 21 ∷ span 4 6 ∷ span 9 10 ∷ span 10 11 ∷ span 13 15 ∷ []
-unfolding item_type last_use constants
+unfolding item_type last_use_from constants
 choice-z = refl
 
 -- the outer condition until `else`, `else` until the outer `end`, and the inner condition until the inner `end`
 choice-p : intervals choice P ≡ span 6 12 ∷ span 12 20 ∷ span 15 19 ∷ []
-unfolding item_type last_use
+unfolding item_type last_use_from
 choice-p = refl
 
 choice-x : intervals choice X ≡ span 4 6 ∷ span 5 6 ∷ span 8 10 ∷ span 9 10 ∷ span 10 11 ∷ span 13 15 ∷ span 14 15 ∷ span 17 18 ∷ []
-unfolding item_type last_use
+unfolding item_type last_use_from
 choice-x = refl
 
 choice-held : throughout choice Z ≡ held.Constant (Some ty.I32) (pos 0) ∷ held.Constant (Some ty.I32) (pos 9) ∷ []
 unfolding item_type constants
 choice-held = refl
 
--- from `for`, item 3, to the outer `end`, item 20: the values come behind the two literals
+-- from `for`, item 3, to the outer `end`, item 20: the values come after the two literals
 choice-places : value_places choice Z ≡ None ∷ Some 2 ∷ None ∷ None ∷ None ∷ None ∷ Some 3 ∷ Some 4 ∷ None ∷ None ∷ Some 5 ∷ None ∷ None ∷ None ∷ None ∷ None ∷ None ∷ None ∷ []
-unfolding item_type last_use constants
+unfolding item_type last_use_from constants
 choice-places = refl
 
 choice-conditions : value_places choice P ≡ None ∷ None ∷ None ∷ Some 0 ∷ None ∷ None ∷ None ∷ None ∷ None ∷ Some 1 ∷ None ∷ None ∷ Some 2 ∷ None ∷ None ∷ None ∷ None ∷ None ∷ []
-unfolding item_type last_use
+unfolding item_type last_use_from
 choice-conditions = refl
 
 -- v is read twice, u never
 lasts-z : intervals lasts Z ≡ span 5 6 ∷ span 6 15 ∷ span 7 8 ∷ span 8 8 ∷ span 10 14 ∷ span 11 13 ∷ span 13 14 ∷ span 14 15 ∷ span 15 16 ∷ []
-unfolding item_type last_use constants
+unfolding item_type last_use_from constants
 lasts-z = refl
 
 bright-listing : listing_of bright ≡
-    record { kind = kind.Param; ty = None; x_until = None; z_until = None; p_until = None }
-    ∷ record { kind = kind.Param; ty = None; x_until = None; z_until = None; p_until = None }
-    ∷ record { kind = kind.For; ty = None; x_until = None; z_until = None; p_until = None }
-    ∷ record { kind = kind.Read; ty = Some ty.U8; x_until = Some 4; z_until = Some 4; p_until = None }
-    ∷ record { kind = kind.Cast; ty = Some ty.U16; x_until = Some 6; z_until = Some 6; p_until = None }
-    ∷ record { kind = kind.Literal; ty = Some ty.U16; x_until = Some 6; z_until = None; p_until = None }
-    ∷ record { kind = kind.Binary; ty = Some ty.U16; x_until = Some 7; z_until = Some 7; p_until = None }
-    ∷ record { kind = kind.Let; ty = Some ty.U16; x_until = Some 10; z_until = Some 10; p_until = None }
-    ∷ record { kind = kind.Name; ty = Some ty.U16; x_until = None; z_until = None; p_until = None }
-    ∷ record { kind = kind.Literal; ty = Some ty.U16; x_until = Some 10; z_until = None; p_until = None }
-    ∷ record { kind = kind.Binary; ty = Some ty.U16; x_until = Some 11; z_until = Some 11; p_until = None }
-    ∷ record { kind = kind.Cast; ty = Some ty.U8; x_until = Some 12; z_until = Some 12; p_until = None }
-    ∷ record { kind = kind.Store; ty = None; x_until = None; z_until = None; p_until = None }
+    record { kind = kind.Param; ty = None; x_last_use = None; z_last_use = None; p_last_use = None }
+    ∷ record { kind = kind.Param; ty = None; x_last_use = None; z_last_use = None; p_last_use = None }
+    ∷ record { kind = kind.For; ty = None; x_last_use = None; z_last_use = None; p_last_use = None }
+    ∷ record { kind = kind.Read; ty = Some ty.U8; x_last_use = Some 4; z_last_use = Some 4; p_last_use = None }
+    ∷ record { kind = kind.Cast; ty = Some ty.U16; x_last_use = Some 6; z_last_use = Some 6; p_last_use = None }
+    ∷ record { kind = kind.Literal; ty = Some ty.U16; x_last_use = Some 6; z_last_use = None; p_last_use = None }
+    ∷ record { kind = kind.Binary; ty = Some ty.U16; x_last_use = Some 7; z_last_use = Some 7; p_last_use = None }
+    ∷ record { kind = kind.Let; ty = Some ty.U16; x_last_use = Some 10; z_last_use = Some 10; p_last_use = None }
+    ∷ record { kind = kind.Name; ty = Some ty.U16; x_last_use = None; z_last_use = None; p_last_use = None }
+    ∷ record { kind = kind.Literal; ty = Some ty.U16; x_last_use = Some 10; z_last_use = None; p_last_use = None }
+    ∷ record { kind = kind.Binary; ty = Some ty.U16; x_last_use = Some 11; z_last_use = Some 11; p_last_use = None }
+    ∷ record { kind = kind.Cast; ty = Some ty.U8; x_last_use = Some 12; z_last_use = Some 12; p_last_use = None }
+    ∷ record { kind = kind.Store; ty = None; x_last_use = None; z_last_use = None; p_last_use = None }
     ∷ []
-unfolding item_type last_use
+unfolding item_type last_use_from
 bright-listing = refl
 
 -- ---- what the items of loops do
@@ -375,7 +375,7 @@ abbrev total : ℕ → Term
 total zero = Variable (numbered 0)
 total (suc m) = Operation binary.Add (total m) (Variable (numbered (suc m)))
 
--- so many lets from a number on, and the store behind them
+-- so many lets from a number on, and the store after them
 abbrev lets : ℕ → ℕ → Block
 lets zero m = Then (Put y (Variable i) (total 39)) Done
 lets (suc rest) m = Then (Define (numbered m) None (Element a (place m))) (lets rest (suc m))
@@ -391,5 +391,5 @@ many = record {
 }
 
 many-needs : needs_of many ≡ record { size = 164; z = 40; p = 0; x = 40 }
-unfolding item_type last_use constants most_live
+unfolding item_type last_use_from constants most_live
 many-needs = refl

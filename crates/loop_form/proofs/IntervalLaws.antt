@@ -15,7 +15,7 @@ use Rattle.reg_assign.specs.declared.interval.Interval.{Interval}
 use Rattle.reg_assign.specs.Intervals.{is_live, overlap, greater_overlap, need_of, AscendFrom, Ascend}
 use Rattle.reg_assign.proofs.Overlaps.{one, live, overlap-cons, overlap-append, overlap-need, need-most}
 use Rattle.loop_form.specs.Entries.{Content, IsLiteral, IsName, IsRead, IsLet, IsStore, IsUpdate, IsPlain, Entry, kind_of, entries_of, loop_start, loop_entries}
-use Rattle.loop_form.specs.Listing.{names, last_use, last_of, until_of, until_in, has_value, held}
+use Rattle.loop_form.specs.Listing.{names, last_use_from, last_of, last_use_at, last_use_in, has_value, held}
 use Rattle.loop_form.specs.Needs.{Throughout, Index, Constant, is_constant, is_scalar, throughout, scalars, is_named_scalar, scalar_of, constants, new_constant, index_held, is_updated, accumulating_of, span, spans_of, counted, values, most_live, need, whole, intervals}
 use Rattle.loop_form.specs.Numbers.{Numbered, AreForward}
 use Rattle.loop_form.proofs.Limits.{vars-small}
@@ -25,7 +25,7 @@ use Rattle.loop_form.proofs.Numbers.{AreUsed, loop-listed, all-listed}
 
 values-ascend : (class : RegClass) (all es : List Entry) (p b : ℕ) → Numbered b es → p ≤ b → AscendFrom p (spans_of class all es)
 values-ascend class all [] p b h le = tt
-values-ascend class all (e ∷ es) p b h le = by (until_in class all e) (values-ascend class all es p (suc b) h.1 (omega arith)) (values-ascend class all es e.item (suc b) h.1 (let a = h.0 in omega (arith, a)))
+values-ascend class all (e ∷ es) p b h le = by (last_use_in class all e) (values-ascend class all es p (suc b) h.1 (omega arith)) (values-ascend class all es e.item (suc b) h.1 (let a = h.0 in omega (arith, a)))
   where
     by : (o : Option ℕ) → AscendFrom p (spans_of class all es) → AscendFrom e.item (spans_of class all es) → AscendFrom p (cons_option (span e.item o) (spans_of class all es))
     by None f g = f
@@ -45,28 +45,28 @@ intervals-ascend k class = let n = counted-numbered k class in whole-ascend k (t
 
 -- ---- ends
 
-last-use-grows : (x : List ℕ) (last : ℕ) (es : List Entry) → last ≤ last_use x last es
-unfolding last_use
+last-use-grows : (x : List ℕ) (last : ℕ) (es : List Entry) → last ≤ last_use_from x last es
+unfolding last_use_from
 last-use-grows x last [] = omega arith
-last-use-grows x last (e ∷ es) = by (names x e) (last-use-grows x (max last e.until) es) (last-use-grows x last es)
+last-use-grows x last (e ∷ es) = by (names x e) (last-use-grows x (max last e.last_use) es) (last-use-grows x last es)
   where
-    by : (b : Bool) → max last e.until ≤ last_use x (max last e.until) es → last ≤ last_use x last es → last ≤ last_use x (cond b (max last e.until) last) es
-    by true a b = let m = le-max_left last e.until in omega (arith, a, m)
+    by : (b : Bool) → max last e.last_use ≤ last_use_from x (max last e.last_use) es → last ≤ last_use_from x last es → last ≤ last_use_from x (cond b (max last e.last_use) last) es
+    by true a b = let m = le-max_left last e.last_use in omega (arith, a, m)
     by false a b = b
 
-until-grows : (all : List Entry) (e : Entry) → e.until ≤ until_of all e
-until-grows all e = by e.content
+last_use-grows : (all : List Entry) (e : Entry) → e.last_use ≤ last_use_at all e
+last_use-grows all e = by e.content
   where
-    by : (c : Content) → e.until ≤ last_of all c e.until
-    by (IsLet x) = last-use-grows x e.until all
+    by : (c : Content) → e.last_use ≤ last_of all c e.last_use
+    by (IsLet x) = last-use-grows x e.last_use all
     by _ = omega arith
 
 values-forward : (class : RegClass) (all es : List Entry) → AreUsed es → AreForward (spans_of class all es)
 values-forward class all [] h = tt
 values-forward class all (e ∷ es) h = by (has_value class (kind_of e.content)) (values-forward class all es h.1)
   where
-    by : (b : Bool) → AreForward (spans_of class all es) → AreForward (cons_option (span e.item (held b (until_of all e))) (spans_of class all es))
-    by true g = (let a = until-grows all e in let f = h.0 in omega (arith, a, f), g)
+    by : (b : Bool) → AreForward (spans_of class all es) → AreForward (cons_option (span e.item (held b (last_use_at all e))) (spans_of class all es))
+    by true g = (let a = last_use-grows all e in let f = h.0 in omega (arith, a, f), g)
     by false g = g
 
 whole-forward : (k : Program) (ts : List Throughout) (is : List Interval) → AreForward is → AreForward (map (whole k) ts ++ is)
@@ -90,7 +90,7 @@ replicate-more n x = push n ∙ ap (λ m. replicate m x) (let e : suc n ≡ n + 
     push zero = refl
     push (suc n) = ap (λ l. x ∷ l) (push n)
 
-pub whole-replicate : (k : Program) (ts : List Throughout) → map (whole k) ts ≡ replicate (length ts) (record { from = 0; until = size_of k })
+pub whole-replicate : (k : Program) (ts : List Throughout) → map (whole k) ts ≡ replicate (length ts) (record { from = 0; last_use = size_of k })
 whole-replicate k [] = refl
 whole-replicate k (t ∷ ts) = ap (λ l. whole k t ∷ l) (whole-replicate k ts)
 
@@ -102,7 +102,7 @@ length-append (x ∷ xs) ys = let h = length-append xs ys in omega (arith, h)
 
 values-few : (class : RegClass) (all es : List Entry) → length (spans_of class all es) ≤ length es
 values-few class all [] = omega arith
-values-few class all (e ∷ es) = by (until_in class all e) (values-few class all es)
+values-few class all (e ∷ es) = by (last_use_in class all e) (values-few class all es)
   where
     by : (o : Option ℕ) → length (spans_of class all es) ≤ length es → length (cons_option (span e.item o) (spans_of class all es)) ≤ length (e ∷ es)
     by None h = omega arith
@@ -188,7 +188,7 @@ values-most : (class : RegClass) (all es : List Entry) (vs : List Interval) (a m
 unfolding most_live
 values-most class all [] vs a m h = h
 values-most class all (e ∷ es) vs a m h =
-    by (until_in class all e)
+    by (last_use_in class all e)
     (values-most class all es vs a (max m (overlap vs e.item)) (let l = le-max_left m (overlap vs e.item) in omega (arith, l)))
     (values-most class all es vs (max a (overlap vs e.item)) (max m (overlap vs e.item)) (max-mono a m (overlap vs e.item) h))
   where

@@ -140,7 +140,7 @@ near-two i xs ys zs h = (near-left i xs (ys ++ zs) h, near-left i ys zs (near-ri
 near-three : (i : Option (List ℕ)) (xs ys zs ws : List Entry) → AreNear i (xs ++ (ys ++ (zs ++ ws))) → AreNear i xs × (AreNear i ys × AreNear i zs)
 near-three i xs ys zs ws h = (near-left i xs (ys ++ (zs ++ ws)) h, near-two i ys zs ws (near-right i xs (ys ++ (zs ++ ws)) h))
 
--- with an item behind the first
+-- with an item after the first
 near-marked : (i : Option (List ℕ)) (xs : List Entry) (e : Entry) (ys zs ws : List Entry) → AreNear i (xs ++ e ∷ (ys ++ (zs ++ ws))) → AreNear i xs × (AreNear i ys × AreNear i zs)
 near-marked i xs e ys zs ws h = (near-left i xs (e ∷ (ys ++ (zs ++ ws))) h, near-two i ys zs ws (near-right i xs (e ∷ (ys ++ (zs ++ ws))) h).1)
 

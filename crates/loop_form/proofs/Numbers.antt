@@ -9,7 +9,7 @@ use Rattle.loop_form.specs.Numbers.{Numbered}
 -- no item is used before it stands
 abbrev pub AreUsed : List Entry → Type 0
 AreUsed [] = Unit {0}
-AreUsed (e ∷ es) = (e.item ≤ e.until) × AreUsed es
+AreUsed (e ∷ es) = (e.item ≤ e.last_use) × AreUsed es
 
 -- n items from number b on
 pub record Listed (b n : ℕ) (es : List Entry) : Type 0 where
@@ -43,10 +43,10 @@ sized b m n es e h = subst (λ c. Listed b c es) e h
 none : (b : ℕ) → Listed b 0 []
 none b = record { numbered = tt; used = tt; count = refl }
 
-one : (e : Entry) → e.item ≤ e.until → Listed e.item 1 (e ∷ [])
+one : (e : Entry) → e.item ≤ e.last_use → Listed e.item 1 (e ∷ [])
 one e u = record { numbered = (refl, tt); used = (u, tt); count = refl }
 
-ahead : (e : Entry) (n : ℕ) (es : List Entry) → e.item ≤ e.until → Listed (e.item + 1) n es → Listed e.item (1 + n) (e ∷ es)
+ahead : (e : Entry) (n : ℕ) (es : List Entry) → e.item ≤ e.last_use → Listed (e.item + 1) n es → Listed e.item (1 + n) (e ∷ es)
 ahead e n es u h = record {
   numbered = (refl, let q : e.item + 1 ≡ suc e.item = omega arith in subst (λ c. Numbered c es) q h.numbered);
   used = (u, h.used);
@@ -58,19 +58,19 @@ inner : (k : Program) (from n : ℕ) (t : Term) (o : Option ℤ) → Listed from
 inner k from n t None h = h
 inner k from n t (Some c) h = none from
 
-pub term-listed : (k : Program) (from until : ℕ) (t : Term) → from + term_size (loop_index k) t ≤ until → Listed from (term_size (loop_index k) t) (term_entries k from until t)
-term-listed k from until (Literal n) h = one _ (omega arith)
-term-listed k from until (Variable x) h = one _ (omega arith)
-term-listed k from until (Element a i) h =
+pub term-listed : (k : Program) (from last_use : ℕ) (t : Term) → from + term_size (loop_index k) t ≤ last_use → Listed from (term_size (loop_index k) t) (term_entries k from last_use t)
+term-listed k from last_use (Literal n) h = one _ (omega arith)
+term-listed k from last_use (Variable x) h = one _ (omega arith)
+term-listed k from last_use (Element a i) h =
     joined from (index_items (loop_index k) i) 1 _ _ (inner k from (term_size (loop_index k) i) i (stream_offset (loop_index k) i) (term-listed k from (from + term_size (loop_index k) i) i (omega arith))) (one _ (omega arith))
-term-listed k from until (Unary op e) h = joined from (term_size (loop_index k) e) 1 _ _ (term-listed k from _ e (omega arith)) (one _ (omega arith))
-term-listed k from until (Operation op a b) h =
+term-listed k from last_use (Unary op e) h = joined from (term_size (loop_index k) e) 1 _ _ (term-listed k from _ e (omega arith)) (one _ (omega arith))
+term-listed k from last_use (Operation op a b) h =
     let m : ℕ = term_size (loop_index k) a in
     let n : ℕ = term_size (loop_index k) b in
     sized from (m + (n + 1)) (m + n + 1) _ (omega arith) (joined from m (n + 1) _ _ (term-listed k from (from + m + n) a (omega arith)) (joined (from + m) n 1 _ _ (term-listed k (from + m) (from + m + n) b (omega arith)) (one _ (omega arith))))
-term-listed k from until (Shift left e n) h = joined from (term_size (loop_index k) e) 1 _ _ (term-listed k from _ e (omega arith)) (one _ (omega arith))
-term-listed k from until (Conversion e t) h = joined from (term_size (loop_index k) e) 1 _ _ (term-listed k from _ e (omega arith)) (one _ (omega arith))
-term-listed k from until (Choice c a b) h =
+term-listed k from last_use (Shift left e n) h = joined from (term_size (loop_index k) e) 1 _ _ (term-listed k from _ e (omega arith)) (one _ (omega arith))
+term-listed k from last_use (Conversion e t) h = joined from (term_size (loop_index k) e) 1 _ _ (term-listed k from _ e (omega arith)) (one _ (omega arith))
+term-listed k from last_use (Choice c a b) h =
     let m : ℕ = term_size (loop_index k) a in
     let n : ℕ = term_size (loop_index k) b in
     let p : ℕ = term_size (loop_index k) c in
@@ -78,22 +78,22 @@ term-listed k from until (Choice c a b) h =
     (joined from m (n + (p + 1)) _ _ (term-listed k from (from + m + n + p) a (omega arith))
     (joined (from + m) n (p + 1) _ _ (term-listed k (from + m) (from + m + n + p) b (omega arith))
     (joined (from + m + n) p 1 _ _ (term-listed k (from + m + n) (from + m + n + p) c (omega arith)) (one _ (omega arith)))))
-term-listed k from until (Comparison op a b) h =
+term-listed k from last_use (Comparison op a b) h =
     let m : ℕ = term_size (loop_index k) a in
     let n : ℕ = term_size (loop_index k) b in
     sized from (m + (n + 1)) (m + n + 1) _ (omega arith) (joined from m (n + 1) _ _ (term-listed k from (from + m + n) a (omega arith)) (joined (from + m) n 1 _ _ (term-listed k (from + m) (from + m + n) b (omega arith)) (one _ (omega arith))))
-term-listed k from until (Both a b) h =
+term-listed k from last_use (Both a b) h =
     let m : ℕ = term_size (loop_index k) a in
     let n : ℕ = term_size (loop_index k) b in
     sized from (m + (n + 1)) (m + n + 1) _ (omega arith) (joined from m (n + 1) _ _ (term-listed k from (from + m + n) a (omega arith)) (joined (from + m) n 1 _ _ (term-listed k (from + m) (from + m + n) b (omega arith)) (one _ (omega arith))))
-term-listed k from until (Either a b) h =
+term-listed k from last_use (Either a b) h =
     let m : ℕ = term_size (loop_index k) a in
     let n : ℕ = term_size (loop_index k) b in
     sized from (m + (1 + (n + 1))) (m + 1 + n + 1) _ (omega arith)
     (joined from m (1 + (n + 1)) _ _ (term-listed k from (from + m + 1 + n) a (omega arith))
     (ahead _ (n + 1) _ (omega arith)
     (joined (from + m + 1) n 1 _ _ (term-listed k (from + m + 1) (from + m + 1 + n) b (omega arith)) (one _ (omega arith)))))
-term-listed k from until (Not e) h = joined from (term_size (loop_index k) e) 1 _ _ (term-listed k from _ e (omega arith)) (one _ (omega arith))
+term-listed k from last_use (Not e) h = joined from (term_size (loop_index k) e) 1 _ _ (term-listed k from _ e (omega arith)) (one _ (omega arith))
 
 mutual
   pub action-listed : (k : Program) (from : ℕ) (s : Action) → Listed from (action_size (loop_index k) s) (action_entries k from s)

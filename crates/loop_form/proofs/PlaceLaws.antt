@@ -7,7 +7,7 @@ use Rattle.kernel_tree.specs.Plain.{Program}
 use Rattle.reg_assign.specs.declared.interval.RegClass.{RegClass}
 use Rattle.reg_assign.specs.declared.interval.RegClass.TheVariants.{Z, P, X}
 use Rattle.loop_form.specs.Entries.{Entry, entries_of}
-use Rattle.loop_form.specs.Listing.{until_in}
+use Rattle.loop_form.specs.Listing.{last_use_in}
 use Rattle.loop_form.specs.Needs.{throughout, whole, span, spans_of, counted, values, intervals}
 use Rattle.loop_form.specs.Numbers.{Numbered}
 use Rattle.loop_form.specs.Places.{place_of, places_from, value_places, first_counted, IsValueOf}
@@ -17,33 +17,33 @@ use Rattle.loop_form.proofs.Numbers.{loop-listed, all-listed, item-at}
 record Placed (class : RegClass) (all es : List Entry) (j n m : ℕ) : Type 0 where
   i : ℕ
   entry : Entry
-  until : ℕ
+  last_use : ℕ
   is : slice_get es n ≡ Some entry
-  made : until_in class all entry ≡ Some until
+  made : last_use_in class all entry ≡ Some last_use
   at : m ≡ j + i
-  interval : slice_get (spans_of class all es) i ≡ Some (record { from = entry.item; until = until })
+  interval : slice_get (spans_of class all es) i ≡ Some (record { from = entry.item; last_use = last_use })
 
 placed : (class : RegClass) (all es : List Entry) (j n m : ℕ) → slice_get (places_from class all j es) n ≡ Some (Some m) → Placed class all es j n m
 placed class all [] j n m e = absurd cc
-placed class all (x ∷ es) j n m e = by (until_in class all x) refl n e (λ i k q. placed class all es i k m q)
+placed class all (x ∷ es) j n m e = by (last_use_in class all x) refl n e (λ i k q. placed class all es i k m q)
   where
-    by : (o : Option ℕ) → until_in class all x ≡ o → (n : ℕ) → slice_get (place_of j o (λ i. places_from class all i es)) n ≡ Some (Some m) → ((i k : ℕ) → slice_get (places_from class all i es) k ≡ Some (Some m) → Placed class all es i k m) → Placed class all (x ∷ es) j n m
+    by : (o : Option ℕ) → last_use_in class all x ≡ o → (n : ℕ) → slice_get (place_of j o (λ i. places_from class all i es)) n ≡ Some (Some m) → ((i k : ℕ) → slice_get (places_from class all i es) k ≡ Some (Some m) → Placed class all es i k m) → Placed class all (x ∷ es) j n m
     by None q zero e more = absurd cc
     by None q (suc k) e more =
         let p = more j k e in
-        record { i = p.i; entry = p.entry; until = p.until; is = p.is; made = p.made; at = p.at; interval = ap (λ o. slice_get (cons_option (span x.item o) (spans_of class all es)) p.i) q ∙ p.interval }
+        record { i = p.i; entry = p.entry; last_use = p.last_use; is = p.is; made = p.made; at = p.at; interval = ap (λ o. slice_get (cons_option (span x.item o) (spans_of class all es)) p.i) q ∙ p.interval }
     by (Some u) q zero e more =
         let same : j ≡ m = cc in
-        record { i = 0; entry = x; until = u; is = refl; made = q; at = (let f : m ≡ j + 0 = omega arith in f); interval = ap (λ o. slice_get (cons_option (span x.item o) (spans_of class all es)) 0) q }
+        record { i = 0; entry = x; last_use = u; is = refl; made = q; at = (let f : m ≡ j + 0 = omega arith in f); interval = ap (λ o. slice_get (cons_option (span x.item o) (spans_of class all es)) 0) q }
     by (Some u) q (suc k) e more =
         let p = more (j + 1) k e in
-        record { i = suc p.i; entry = p.entry; until = p.until; is = p.is; made = p.made; at = (let a = p.at in omega (arith, a)); interval = ap (λ o. slice_get (cons_option (span x.item o) (spans_of class all es)) (suc p.i)) q ∙ p.interval }
+        record { i = suc p.i; entry = p.entry; last_use = p.last_use; is = p.is; made = p.made; at = (let a = p.at in omega (arith, a)); interval = ap (λ o. slice_get (cons_option (span x.item o) (spans_of class all es)) (suc p.i)) q ∙ p.interval }
 
 get-append : {A : Type 0} (xs ys : List A) (m : ℕ) → slice_get (xs ++ ys) (length xs + m) ≡ slice_get ys m
 get-append [] ys m = ap (slice_get ys) (let e : 0 + m ≡ m = omega arith in e)
 get-append (x ∷ xs) ys m = ap (slice_get (x ∷ (xs ++ ys))) (let e : length (x ∷ xs) + m ≡ suc (length xs + m) = omega arith in e) ∙ get-append xs ys m
 
--- the values come behind what is held throughout
+-- the values come after what is held throughout
 pub interval-behind : (k : Program) (class : RegClass) (i : ℕ) → slice_get (intervals k class) (length (throughout k class) + i) ≡ slice_get (values k class) i
 interval-behind k class i = ap (slice_get (intervals k class)) (let a = length-map (throughout k class) (whole k) in let e : length (throughout k class) + i ≡ length (map (whole k) (throughout k class)) + i = omega (arith, a) in e) ∙ get-append (map (whole k) (throughout k class)) (values k class) i
 
@@ -56,11 +56,11 @@ pub place-value : (k : Program) (class : RegClass) (n m : ℕ) → slice_get (va
 place-value k class n m e =
     let p = placed class (entries_of k) (counted k class) (length (throughout k class)) n m e in
     let number = item-at (first_counted k class) n (counted k class) p.entry (counted-numbers k class) p.is in
-    (p.until, ap (slice_get (intervals k class)) p.at ∙ interval-behind k class p.i ∙ p.interval ∙ ap (λ q. Some (record { from = q; until = p.until })) number)
+    (p.last_use, ap (slice_get (intervals k class)) p.at ∙ interval-behind k class p.i ∙ p.interval ∙ ap (λ q. Some (record { from = q; last_use = p.last_use })) number)
 
 places-length : (class : RegClass) (all es : List Entry) (j : ℕ) → length (places_from class all j es) ≡ length es
 places-length class all [] j = refl
-places-length class all (e ∷ es) j = by (until_in class all e) (λ i. places-length class all es i)
+places-length class all (e ∷ es) j = by (last_use_in class all e) (λ i. places-length class all es i)
   where
     by : (o : Option ℕ) → ((i : ℕ) → length (places_from class all i es) ≡ length es) → length (place_of j o (λ i. places_from class all i es)) ≡ length (e ∷ es)
     by None more = let a = more j in omega (arith, a)

@@ -1,5 +1,5 @@
 -- The listing of a kernel: its items with what stands in each, numbered from 0. An expression is listed in post-order,
--- and a statement behind its expression; a stream index, a shift count and parentheses make no items.
+-- and a statement after its expression; a stream index, a shift count and parentheses make no items.
 use Rattle.std.specs.Prelude.{ℕ, ◌+◌, ℤ, List, [], ◌∷◌, ◌++◌, length, Option, Some, None}
 use Rattle.kernel_tree.specs.declared.ops.Ty.{Ty}
 use Rattle.kernel_tree.specs.declared.ops.UpdateOp.{UpdateOp}
@@ -27,7 +27,7 @@ pub record Entry : Type 0 where
   pub item : ℕ
   pub content : Content
   pub type : Option Ty
-  pub until : ℕ
+  pub last_use : ℕ
 
 abbrev pub kind_of : Content → ItemKind
 kind_of (IsLiteral n) = kind.Literal
@@ -43,7 +43,7 @@ unfoldable pub item_type : Program → ℕ → Option Ty
 item_type k n = type_at k n
 
 abbrev pub entry : Program → ℕ → Content → ℕ → Entry
-entry k item content until = record { item = item; content = content; type = item_type k item; until = until }
+entry k item content last_use = record { item = item; content = content; type = item_type k item; last_use = last_use }
 
 -- an index with its items where it is computed, and none where it is a stream index
 abbrev pub inner_entries : Option ℤ → List Entry → List Entry
@@ -51,50 +51,50 @@ inner_entries (Some c) es = []
 inner_entries None es = es
 
 -- the items of an expression whose items begin at a number and whose value is used by the item `until`
-abbrev pub term_entries : Program → (from until : ℕ) → Term → List Entry
-term_entries k from until (Literal n) = entry k from (IsLiteral n) until ∷ []
-term_entries k from until (Variable x) = entry k from (IsName x) until ∷ []
-term_entries k from until (Element a i) =
+abbrev pub term_entries : Program → (from last_use : ℕ) → Term → List Entry
+term_entries k from last_use (Literal n) = entry k from (IsLiteral n) last_use ∷ []
+term_entries k from last_use (Variable x) = entry k from (IsName x) last_use ∷ []
+term_entries k from last_use (Element a i) =
     let item = from + index_items (loop_index k) i in
-    inner_entries (stream_offset (loop_index k) i) (term_entries k from item i) ++ entry k item (IsRead a i) until ∷ []
-term_entries k from until (Unary op e) =
+    inner_entries (stream_offset (loop_index k) i) (term_entries k from item i) ++ entry k item (IsRead a i) last_use ∷ []
+term_entries k from last_use (Unary op e) =
     let item = from + term_size (loop_index k) e in
-    term_entries k from item e ++ entry k item (IsPlain kind.Unary) until ∷ []
-term_entries k from until (Operation op a b) =
+    term_entries k from item e ++ entry k item (IsPlain kind.Unary) last_use ∷ []
+term_entries k from last_use (Operation op a b) =
     let next = from + term_size (loop_index k) a in
     let item = next + term_size (loop_index k) b in
-    term_entries k from item a ++ (term_entries k next item b ++ entry k item (IsPlain kind.Binary) until ∷ [])
-term_entries k from until (Shift left e n) =
+    term_entries k from item a ++ (term_entries k next item b ++ entry k item (IsPlain kind.Binary) last_use ∷ [])
+term_entries k from last_use (Shift left e n) =
     let item = from + term_size (loop_index k) e in
-    term_entries k from item e ++ entry k item (IsPlain kind.Shift) until ∷ []
-term_entries k from until (Conversion e t) =
+    term_entries k from item e ++ entry k item (IsPlain kind.Shift) last_use ∷ []
+term_entries k from last_use (Conversion e t) =
     let item = from + term_size (loop_index k) e in
-    term_entries k from item e ++ entry k item (IsPlain kind.Cast) until ∷ []
+    term_entries k from item e ++ entry k item (IsPlain kind.Cast) last_use ∷ []
 -- `select(c, a, b)` is listed as a, b, c, `select`
-term_entries k from until (Choice c a b) =
+term_entries k from last_use (Choice c a b) =
     let next = from + term_size (loop_index k) a in
     let last = next + term_size (loop_index k) b in
     let item = last + term_size (loop_index k) c in
-    term_entries k from item a ++ (term_entries k next item b ++ (term_entries k last item c ++ entry k item (IsPlain kind.Select) until ∷ []))
-term_entries k from until (Comparison op a b) =
+    term_entries k from item a ++ (term_entries k next item b ++ (term_entries k last item c ++ entry k item (IsPlain kind.Select) last_use ∷ []))
+term_entries k from last_use (Comparison op a b) =
     let next = from + term_size (loop_index k) a in
     let item = next + term_size (loop_index k) b in
-    term_entries k from item a ++ (term_entries k next item b ++ entry k item (IsPlain kind.Compare) until ∷ [])
-term_entries k from until (Both a b) =
+    term_entries k from item a ++ (term_entries k next item b ++ entry k item (IsPlain kind.Compare) last_use ∷ [])
+term_entries k from last_use (Both a b) =
     let next = from + term_size (loop_index k) a in
     let item = next + term_size (loop_index k) b in
-    term_entries k from item a ++ (term_entries k next item b ++ entry k item (IsPlain kind.And) until ∷ [])
+    term_entries k from item a ++ (term_entries k next item b ++ entry k item (IsPlain kind.And) last_use ∷ [])
 -- `a || b` is listed as a, a mark, b, `||`, and `||` uses all three
-term_entries k from until (Either a b) =
+term_entries k from last_use (Either a b) =
     let mark = from + term_size (loop_index k) a in
     let item = mark + 1 + term_size (loop_index k) b in
-    term_entries k from item a ++ (entry k mark (IsPlain kind.Mark) item ∷ (term_entries k (mark + 1) item b ++ entry k item (IsPlain kind.Or) until ∷ []))
-term_entries k from until (Not e) =
+    term_entries k from item a ++ (entry k mark (IsPlain kind.Mark) item ∷ (term_entries k (mark + 1) item b ++ entry k item (IsPlain kind.Or) last_use ∷ []))
+term_entries k from last_use (Not e) =
     let item = from + term_size (loop_index k) e in
-    term_entries k from item e ++ entry k item (IsPlain kind.Not) until ∷ []
+    term_entries k from item e ++ entry k item (IsPlain kind.Not) last_use ∷ []
 
 -- An `if` is listed as its condition, `then`, the block, `else` and the second block where they are written, and `end`.
--- The condition is used by `else`, or by `end` where there is no `else`: by the item behind the first block.
+-- The condition is used by `else`, or by `end` where there is no `else`: by the item after the first block.
 abbrev mutual
   pub action_entries : Program → (from : ℕ) → Action → List Entry
   action_entries k from (Define x t e) =
@@ -145,7 +145,7 @@ answer_entries k from (Some a) =
     let item = from + term_size (loop_index k) a.value in
     term_entries k from item a.value ++ entry k item (IsPlain kind.Return) item ∷ []
 
--- the number of `for`, and the first number behind the loop
+-- the number of `for`, and the first number after the loop
 abbrev pub loop_start : Program → ℕ
 loop_start k = length k.params + vars_size (loop_index k) k.vars
 

@@ -1,7 +1,7 @@
 -- What is held throughout as the code has it.
 use Rattle.std.specs.Prelude.{List, map}
-use Rattle.loop_form.specs.declared.held.Held.{Held}
-use Rattle.loop_form.specs.declared.held.Held.TheVariants as held
+use Rattle.loop_form.specs.declared.held_throughout.Held.{Held}
+use Rattle.loop_form.specs.declared.held_throughout.Held.TheVariants as held
 use Rattle.loop_form.specs.Needs.{Throughout, Scalar, Constant, Index, Accumulating}
 
 abbrev pub view_of : Held → Throughout

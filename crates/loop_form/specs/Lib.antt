@@ -1,5 +1,5 @@
 pub mod Entries
-pub mod Seen
+pub mod View
 pub mod Parts
 pub mod Listing
 pub mod Streams

@@ -50,35 +50,35 @@ abbrev pub names : List ℕ → Entry → Bool
 names x e = is_named x e.content
 
 -- the greatest of an item and the users of the name's items
-unfoldable pub last_use : List ℕ → ℕ → List Entry → ℕ
-last_use x last [] = last
-last_use x last (e ∷ es) = last_use x (if names x e then max last e.until else last) es
+unfoldable pub last_use_from : List ℕ → ℕ → List Entry → ℕ
+last_use_from x last [] = last
+last_use_from x last (e ∷ es) = last_use_from x (if names x e then max last e.last_use else last) es
 
 abbrev pub last_of : List Entry → Content → ℕ → ℕ
-last_of all (IsLet x) until = last_use x until all
-last_of all _ until = until
+last_of all (IsLet x) last_use = last_use_from x last_use all
+last_of all _ last_use = last_use
 
 -- The item that uses an item's value last, among all items of the kernel. The value of a `let` is used by the users of
 -- the names that read it, and by the `let` itself where there are none: each name is declared once in a kernel.
-abbrev pub until_of : List Entry → Entry → ℕ
-until_of all e = last_of all e.content e.until
+abbrev pub last_use_at : List Entry → Entry → ℕ
+last_use_at all e = last_of all e.content e.last_use
 
 -- ---- items
 
 abbrev pub held : Bool → ℕ → Option ℕ
-held true until = Some until
-held false until = None
+held true last_use = Some last_use
+held false last_use = None
 
-abbrev pub until_in : RegClass → List Entry → Entry → Option ℕ
-until_in class all e = held (has_value class (kind_of e.content)) (until_of all e)
+abbrev pub last_use_in : RegClass → List Entry → Entry → Option ℕ
+last_use_in class all e = held (has_value class (kind_of e.content)) (last_use_at all e)
 
 abbrev pub item_of : List Entry → Entry → Item
 item_of all e = record {
   kind = kind_of e.content;
   ty = e.type;
-  x_until = until_in X all e;
-  z_until = until_in Z all e;
-  p_until = until_in P all e;
+  x_last_use = last_use_in X all e;
+  z_last_use = last_use_in Z all e;
+  p_last_use = last_use_in P all e;
 }
 
 -- the items of a kernel, in their order

@@ -57,7 +57,7 @@ abbrev pub source_at : List Bound → List ℕ → Source
 source_at [] x = Constant None (pos 0)
 source_at (b ∷ env) x = if bytes_eq b.name x then b.source else source_at env x
 
--- the names behind a `let`
+-- the names after a `let`
 abbrev pub with_bound : List Bound → List ℕ → Option Ty → ℕ → List Bound
 with_bound env x None q = env
 with_bound env x (Some t) q = env ++ bound x (Made q) ∷ []
@@ -105,7 +105,7 @@ abbrev pub load_item : Scope → Option ℕ → ℕ → List Bound → List ℕ 
 load_item scope mask q env a None rest = rest
 load_item scope mask q env a (Some c) rest = item q mask (Load a (source_at env a) (array_type scope a) c) ∷ rest
 
--- the items of a value, or of a condition, under a mask, and those behind
+-- the items of a value, or of a condition, under a mask, and those after
 abbrev mutual
   pub term_items : Scope → Option Ty → Option ℕ → ℕ → List Bound → Term → List Item → List Item
   term_items scope want mask from env (Literal n) rest = rest

@@ -69,7 +69,7 @@ abbrev pub AppendsBlock : Option (List ℕ) → List Visible → Option ℕ → 
 AppendsBlock index names mask from b old new =
     (taken : List (List ℕ)) (rest : List Item) → view new ++ rest ≡ view old ++ block_items (scope_of index names taken) mask from (env_of names) b rest
 
--- the names that are visible behind a statement
+-- the names that are visible after a statement
 abbrev pub Declares : Option (List ℕ) → ℕ → Action → (old new : List Visible) → Type 0
 Declares index from a old new =
     (taken : List (List ℕ)) → (after_action (scope_of index old taken) a ≡ scope_of index new (after_action (scope_of index old taken) a).taken) × (after_env (scope_of index old taken) from (env_of old) a ≡ env_of new)

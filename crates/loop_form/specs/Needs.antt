@@ -14,7 +14,7 @@ use Rattle.reg_assign.specs.declared.interval.Interval.{Interval}
 use Rattle.reg_assign.specs.Intervals.{overlap}
 use Rattle.loop_form.specs.declared.need.Needs.{Needs}
 use Rattle.loop_form.specs.Entries.{Content, IsLiteral, IsUpdate, Entry, entries_of, loop_entries}
-use Rattle.loop_form.specs.Listing.{names, until_in}
+use Rattle.loop_form.specs.Listing.{names, last_use_in}
 
 -- ---- the values that are held throughout
 
@@ -62,7 +62,7 @@ abbrev pub new_constant : List Entry → Option Ty → Content → List Througho
 new_constant before t (IsLiteral n) = if list_any (is_constant t n) before then [] else Constant t n ∷ []
 new_constant before t _ = []
 
--- each pair of a type and a literal once, in the order of their first items, behind the items before
+-- each pair of a type and a literal once, in the order of their first items, after the items before
 unfoldable pub constants : List Entry → List Entry → List Throughout
 constants before [] = []
 constants before (e ∷ es) = new_constant before e.type e.content ++ constants (before ++ e ∷ []) es
@@ -97,11 +97,11 @@ throughout k P = []
 
 abbrev pub span : ℕ → Option ℕ → Option Interval
 span from None = None
-span from (Some until) = Some (record { from = from; until = until })
+span from (Some last_use) = Some (record { from = from; last_use = last_use })
 
 -- from where until where an item's value is needed, if it makes one in the class
 abbrev pub span_of : RegClass → List Entry → Entry → Option Interval
-span_of class all e = span e.item (until_in class all e)
+span_of class all e = span e.item (last_use_in class all e)
 
 -- the values that some items of a kernel make
 abbrev pub spans_of : RegClass → List Entry → List Entry → List Interval
@@ -133,7 +133,7 @@ needs_of k = record { size = size_of k; z = need k Z; p = need k P; x = need k X
 
 -- from the first item to the last
 abbrev pub whole : Program → Throughout → Interval
-whole k t = record { from = 0; until = size_of k }
+whole k t = record { from = 0; last_use = size_of k }
 
 -- the intervals of a class: what is held throughout, and then the values in the order of their items
 abbrev pub intervals : Program → RegClass → List Interval

@@ -11,4 +11,4 @@ Numbered b (e ∷ es) = (e.item ≡ b) × Numbered (suc b) es
 -- no interval ends before it begins
 abbrev pub AreForward : List Interval → Type 0
 AreForward [] = Unit {0}
-AreForward (i ∷ is) = (i.from ≤ i.until) × AreForward is
+AreForward (i ∷ is) = (i.from ≤ i.last_use) × AreForward is

@@ -6,13 +6,13 @@ ghost use Rattle.kernel_tree.specs.Plain.{term_of, parameters_of, program_of};
 ghost use Rattle.kernel_tree.specs.Items.{stream_offset, loop_index, moved_by};
 ghost use Rattle.kernel_tree.specs.Checked.{kernel_of};
 ghost use Rattle.loop_form.specs.Near.{IsNear, HasNear, AreNear};
-ghost use Rattle.loop_form.specs.Seen.{program, content_of, entry_of, seen};
+ghost use Rattle.loop_form.specs.View.{program, content_of, entry_of, seen};
 ghost use Rattle.loop_form.specs.Streams.{place_of, access, stream_of, streams_of};
 
 use crate::entry::{Content, Entry};
+use crate::entry_list::loop_entries;
 use crate::size::{is_bare, is_loop_variable};
 use crate::stream::{Stream, Streams};
-use crate::whole::loop_entries;
 use kernel_tree::{BinaryOp, Checked, Expr, Param};
 use std::alloc::{AllocError, Global};
 
@@ -64,7 +64,7 @@ fn place(params: &[Param], name: &str) -> Option<u32>
 }
 
 // The access of an array with an index, where it is a stream index.
-#[tactic(auto, unfolding(crate::specs::Seen::program))]
+#[tactic(auto, unfolding(crate::specs::View::program))]
 fn access(kernel: &Checked, array: &str, index: &Expr, store: bool, item: u32) -> Option<Stream>
     requires { IsNear (stream_offset (loop_index (program kernel.now)) (term_of index.now)) }
     ensures { let k = program kernel.now in result
@@ -115,7 +115,7 @@ pub fn accesses(kernel: &Checked) -> Streams
 }
 
 /// The accesses of the loop by stream index, in the order of the listing.
-#[tactic(auto, unfolding(crate::specs::Seen::program))]
+#[tactic(auto, unfolding(crate::specs::View::program))]
 pub fn streams(alloc: Global, kernel: &Checked) -> Result<Vec<Stream>, AllocError>
     ensures { IfOk result (λ streams. streams.items ≡ streams_of (program_of (kernel_of kernel.now))) }
 {

@@ -24,7 +24,7 @@ pub struct Entry<'a> {
     pub item: u32,
     pub content: Content<'a>,
     pub ty: Option<Ty>,
-    pub until: u32,
+    pub last_use: u32,
 }
 
 impl Default for Entry<'_> {
@@ -34,7 +34,7 @@ impl Default for Entry<'_> {
             item: 0,
             content: Content::Plain(ItemKind::Param),
             ty: None,
-            until: 0,
+            last_use: 0,
         }
     }
 }

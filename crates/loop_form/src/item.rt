@@ -37,7 +37,7 @@ pub enum ItemKind {
 pub struct Item {
     pub kind: ItemKind,
     pub ty: Option<Ty>,
-    pub x_until: Option<u32>,
-    pub z_until: Option<u32>,
-    pub p_until: Option<u32>,
+    pub x_last_use: Option<u32>,
+    pub z_last_use: Option<u32>,
+    pub p_last_use: Option<u32>,
 }

@@ -8,7 +8,7 @@ ghost use Rattle.loop_form.specs.Near.{AreNear, NearTurns};
 ghost use Rattle.loop_form.specs.Needs.{throughout, counted, intervals, need};
 ghost use Rattle.loop_form.specs.Numbers.{Numbered, AreForward};
 ghost use Rattle.loop_form.specs.Places.{value_places, ArePlaced};
-ghost use Rattle.loop_form.specs.Seen.{program};
+ghost use Rattle.loop_form.specs.View.{program};
 
 use kernel_tree::Checked;
 use reg_assign::RegClass;

@@ -17,7 +17,7 @@ use std::alloc::{AllocError, Global};
 /// What the items of a kernel's loop do, in the order of the listing: each with its operands, their types, and the item
 /// whose condition it is done under. A literal, a name, `then` and `end` do nothing and are left out, and so are a read
 /// at a computed index and what makes that index. A kernel without a loop has none.
-#[tactic(auto, unfolding(crate::specs::Seen::program))]
+#[tactic(auto, unfolding(crate::specs::View::program))]
 pub fn loop_items(alloc: Global, kernel: &Checked) -> Result<Vec<LoopItem<'_>>, AllocError>
     ensures { IfOk result (λ items. view items.items ≡ loop_items_of (program_of (kernel_of kernel.now))) }
 {

@@ -4,7 +4,7 @@ ghost use Rattle.std.specs.Prelude.{◌≡◌, ◌+◌, ◌≤◌, length, map, 
 ghost use Rattle.kernel_tree.specs.Plain.{parameters_of, accumulators_of, turns_of};
 ghost use Rattle.kernel_tree.specs.Typing.{binding_of_shape};
 ghost use Rattle.loop_form.specs.LoopView.{param_local, var_local, AddsOuter, IsLoopHead};
-ghost use Rattle.loop_form.specs.Seen.{program};
+ghost use Rattle.loop_form.specs.View.{program};
 
 use crate::laws::few_items;
 use crate::loop_item::Source;
@@ -55,7 +55,7 @@ fn add_vars<'a>(names: &mut Vec<Visible<'a>>, vars: &'a [Var]) -> Result<(), All
 }
 
 /// The parameters, the accumulators and the loop variable.
-#[tactic(auto, unfolding(crate::specs::Seen::program))]
+#[tactic(auto, unfolding(crate::specs::View::program))]
 pub fn loop_names<'a>(
     alloc: Global,
     kernel: &'a Checked,

@@ -7,7 +7,7 @@ ghost use Rattle.kernel_tree.specs.Items.{loop_index, stream_offset, action_size
 ghost use Rattle.loop_form.specs.LoopItems.{loop_items_of};
 ghost use Rattle.loop_form.specs.LoopView.{view, AppendsAction, AppendsBlock, Declares};
 ghost use Rattle.loop_form.specs.Near.{NearAction, NearBlock};
-ghost use Rattle.loop_form.specs.Seen.{program};
+ghost use Rattle.loop_form.specs.View.{program};
 
 use crate::access::offset;
 use crate::loop_item::{LoopItem, LoopOp, Source};
@@ -57,7 +57,7 @@ fn list_store<'a>(
     Ok(())
 }
 
-// A statement; the names behind it are not yet declared.
+// A statement; the names after it are not yet declared.
 #[cycle(loop_statements)]
 fn list_stmt<'a>(
     kernel: &Checked,
@@ -204,7 +204,7 @@ fn list_inner<'a>(
     Ok(())
 }
 
-/// Lists the statements of a block, whose names come behind those that are visible.
+/// Lists the statements of a block, whose names come after those that are visible.
 #[cycle(loop_statements)]
 pub fn list_block<'a>(
     kernel: &Checked,

@@ -6,7 +6,7 @@ ghost use Rattle.kernel_tree.specs.Items.{loop_index, stream_offset, term_size, 
 ghost use Rattle.loop_form.specs.LoopItems.{Item, item, load_item, term_items, cond_items};
 ghost use Rattle.loop_form.specs.LoopView.{op_of, view, env_of, scope_of, AppendsValue, AppendsCondition};
 ghost use Rattle.loop_form.specs.Near.{IsNear, NearTerm};
-ghost use Rattle.loop_form.specs.Seen.{program};
+ghost use Rattle.loop_form.specs.View.{program};
 
 use crate::access::offset;
 use crate::loop_item::{LoopItem, LoopOp};

@@ -5,7 +5,7 @@ ghost use Rattle.kernel_tree.specs.Plain.{term_of};
 ghost use Rattle.kernel_tree.specs.Items.{loop_index, term_size};
 ghost use Rattle.loop_form.specs.LoopItems.{home, truth_home};
 ghost use Rattle.loop_form.specs.LoopView.{env_of};
-ghost use Rattle.loop_form.specs.Seen.{program};
+ghost use Rattle.loop_form.specs.View.{program};
 
 use crate::loop_item::Source;
 use crate::size::expr_size;

@@ -4,13 +4,13 @@ ghost use Rattle.std.specs.Prelude.{◌≡◌, ◌+◌, ◌^◌, ◌<◌, length
 ghost use Rattle.kernel_tree.specs.Plain.{program_of};
 ghost use Rattle.kernel_tree.specs.Checked.{kernel_of};
 ghost use Rattle.loop_form.specs.Places.{places_from, value_places};
-ghost use Rattle.loop_form.specs.Seen.{seen};
+ghost use Rattle.loop_form.specs.View.{seen};
 
 use crate::entry::Entry;
-use crate::held::throughout;
+use crate::entry_list::{entries, loop_entries};
+use crate::held_throughout::throughout;
+use crate::item_list::last_use_if_made;
 use crate::laws::few_intervals;
-use crate::lists::until_if_made;
-use crate::whole::{entries, loop_entries};
 use kernel_tree::Checked;
 use reg_assign::RegClass;
 use std::alloc::{AllocError, Global};
@@ -29,7 +29,7 @@ fn places(
     let mut places = Vec::new(alloc);
     let mut next = first;
     for entry in some {
-        match until_if_made(class, all, entry) {
+        match last_use_if_made(class, all, entry) {
             None => places.push(None)?,
             Some(_) => {
                 places.push(Some(next))?;
@@ -42,7 +42,7 @@ fn places(
 
 /// The place of the interval of each item among the kernel's intervals of a class, for the items that have one: for X
 /// of all items, for Z and P of the items of the loop, from `for` on.
-#[tactic(auto, unfolding(crate::specs::Seen::program))]
+#[tactic(auto, unfolding(crate::specs::View::program))]
 pub fn value_places(
     alloc: Global,
     kernel: &Checked,

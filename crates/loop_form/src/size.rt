@@ -3,14 +3,14 @@
 ghost use Rattle.std.specs.Prelude.{◌≡◌, ◌<◌, ◌^◌, is_some};
 ghost use Rattle.kernel_tree.specs.Plain.{name_of, term_of, action_of, block_of, accumulators_of, turns_of};
 ghost use Rattle.kernel_tree.specs.Items.{is_index, is_index_term, stream_offset, loop_index, term_size, index_items, action_size, block_size, vars_size};
-ghost use Rattle.loop_form.specs.Seen.{program};
+ghost use Rattle.loop_form.specs.View.{program};
 
 use crate::part::Part;
 use crate::take_apart::parts;
 use kernel_tree::{BinaryOp, Checked, Expr, Name, Stmt, Var};
 
 /// Whether a name is that of the loop variable.
-#[tactic(auto, unfolding(crate::specs::Seen::program))]
+#[tactic(auto, unfolding(crate::specs::View::program))]
 pub fn is_loop_variable(kernel: &Checked, name: &Name) -> bool
     ensures { result ≡ is_index (loop_index (program kernel.now)) (name_of name.now) }
 {

@@ -7,13 +7,13 @@ ghost use Rattle.kernel_tree.specs.Plain.{program_of};
 ghost use Rattle.kernel_tree.specs.Checked.{kernel_of};
 ghost use Rattle.loop_form.specs.Entries.{entries_of, loop_entries};
 ghost use Rattle.loop_form.specs.Needs.{span_of, spans_of, values, intervals};
-ghost use Rattle.loop_form.specs.Seen.{program, entry_of, seen};
+ghost use Rattle.loop_form.specs.View.{program, entry_of, seen};
 
 use crate::entry::Entry;
-use crate::held::throughout;
+use crate::entry_list::{entries, loop_entries};
+use crate::held_throughout::throughout;
+use crate::item_list::last_use_if_made;
 use crate::laws::{few_intervals, few_items};
-use crate::lists::until_if_made;
-use crate::whole::{entries, loop_entries};
 use kernel_tree::Checked;
 use reg_assign::{Interval, RegClass};
 use std::alloc::{AllocError, Global};
@@ -21,10 +21,10 @@ use std::alloc::{AllocError, Global};
 fn span(class: RegClass, all: &[Entry<'_>], entry: &Entry<'_>) -> Option<Interval>
     ensures { result ≡ span_of class (seen all.now) (entry_of entry.now) }
 {
-    let until = until_if_made(class, all, entry)?;
+    let last_use = last_use_if_made(class, all, entry)?;
     Some(Interval {
         from: entry.item,
-        until,
+        last_use,
     })
 }
 
@@ -69,13 +69,13 @@ fn class_values(
 
 // So many intervals over all items of a kernel.
 fn whole_intervals(alloc: Global, count: u32, size: u32) -> Result<Vec<Interval>, AllocError>
-    ensures { IfOk result (λ v. v.items ≡ replicate count (record { from = 0; until = size })) }
+    ensures { IfOk result (λ v. v.items ≡ replicate count (record { from = 0; last_use = size })) }
 {
     let mut intervals = Vec::new(alloc);
     for _made in 0..count {
         intervals.push(Interval {
             from: 0,
-            until: size,
+            last_use: size,
         })?;
     }
     Ok(intervals)
@@ -84,7 +84,7 @@ fn whole_intervals(alloc: Global, count: u32, size: u32) -> Result<Vec<Interval>
 /// The intervals of a class, in items of the listing: what is held throughout, over all items, and then the values in
 /// the order of their items, each until the item that uses it last. For the classes Z and P only the loop counts. A
 /// `let` that nothing reads has an empty interval.
-#[tactic(auto, unfolding(crate::specs::Seen::program))]
+#[tactic(auto, unfolding(crate::specs::View::program))]
 pub fn intervals(
     alloc: Global,
     kernel: &Checked,

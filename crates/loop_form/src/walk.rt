@@ -5,7 +5,7 @@ ghost use Rattle.arrayvec.specs.ArrayVec.{array_vec_len};
 ghost use Rattle.kernel_tree.specs.Plain.{Element, Either, Choice, Choose, Nothing, Else, name_of, term_of, action_of, block_of, accumulators_of};
 ghost use Rattle.kernel_tree.specs.Items.{loop_index, term_size, index_items, action_size, block_size, vars_size};
 ghost use Rattle.loop_form.specs.Entries.{entry, term_entries, action_entries, block_entries, vars_entries, item_type, inner_entries, IsPlain, IsRead};
-ghost use Rattle.loop_form.specs.Seen.{program, content_of, seen};
+ghost use Rattle.loop_form.specs.View.{program, content_of, seen};
 
 use crate::entry::{Content, Entries, Entry};
 use crate::item::ItemKind;
@@ -15,7 +15,7 @@ use crate::take_apart::parts;
 use kernel_tree::{Checked, Expr, Name, Stmt, Ty, Var};
 
 // The type of a value item.
-#[tactic(auto, unfolding(crate::specs::Entries::item_type, crate::specs::Seen::program))]
+#[tactic(auto, unfolding(crate::specs::Entries::item_type, crate::specs::View::program))]
 fn type_at(kernel: &Checked, item: u32) -> Option<Ty>
     ensures { result ≡ item_type (program kernel.now) item }
 {
@@ -28,11 +28,11 @@ pub fn put<'a>(
     entries: &mut Entries<'a>,
     item: u32,
     content: Content<'a>,
-    until: u32,
+    last_use: u32,
 )
     requires { array_vec_len entries.old < 1000 }
     ensures items { seen entries.new.items ≡ seen entries.old.items
-        ++ entry (program kernel.now) item (content_of content.entry) until ∷ [] }
+        ++ entry (program kernel.now) item (content_of content.entry) last_use ∷ [] }
     ensures len { array_vec_len entries.new ≡ array_vec_len entries.old + 1 }
 {
     let ty = type_at(kernel, item);
@@ -40,7 +40,7 @@ pub fn put<'a>(
         item,
         content,
         ty,
-        until,
+        last_use,
     });
 }
 
@@ -50,37 +50,53 @@ pub fn list_expr<'a>(
     kernel: &Checked,
     entries: &mut Entries<'a>,
     from: u32,
-    until: u32,
+    last_use: u32,
     expr: &'a Expr,
 )
     requires behind { array_vec_len entries.old ≤ from }
     requires fits { from + term_size (loop_index (program kernel.now)) (term_of expr.now) ≤ 1000 }
     ensures items { seen entries.new.items ≡ seen entries.old.items
-        ++ term_entries (program kernel.now) from until (term_of expr.now) }
+        ++ term_entries (program kernel.now) from last_use (term_of expr.now) }
     ensures len { array_vec_len entries.new ≡ array_vec_len entries.old + term_size (loop_index (program kernel.now))
         (term_of expr.now) }
 {
     match expr {
-        Expr::Lit(value) => put(kernel, entries, from, Content::Literal(*value), until),
-        Expr::Var(name) => put(kernel, entries, from, Content::Name(name.text()), until),
-        Expr::Read { array, index } => list_read(kernel, entries, from, until, array, index),
-        Expr::Unary { arg, .. } => list_one(kernel, entries, from, until, arg, ItemKind::Unary),
+        Expr::Lit(value) => put(kernel, entries, from, Content::Literal(*value), last_use),
+        Expr::Var(name) => put(kernel, entries, from, Content::Name(name.text()), last_use),
+        Expr::Read { array, index } => list_read(kernel, entries, from, last_use, array, index),
+        Expr::Unary { arg, .. } => list_one(kernel, entries, from, last_use, arg, ItemKind::Unary),
         Expr::Binary { left, right, .. } => {
-            list_two(kernel, entries, from, until, left, right, ItemKind::Binary)
+            list_two(
+                kernel,
+                entries,
+                from,
+                last_use,
+                left,
+                right,
+                ItemKind::Binary,
+            )
         }
-        Expr::Shift { arg, .. } => list_one(kernel, entries, from, until, arg, ItemKind::Shift),
-        Expr::Cast { arg, .. } => list_one(kernel, entries, from, until, arg, ItemKind::Cast),
+        Expr::Shift { arg, .. } => list_one(kernel, entries, from, last_use, arg, ItemKind::Shift),
+        Expr::Cast { arg, .. } => list_one(kernel, entries, from, last_use, arg, ItemKind::Cast),
         Expr::Select { cond, yes, no } => {
-            list_select(kernel, entries, from, until, yes, no, cond)
+            list_select(kernel, entries, from, last_use, yes, no, cond)
         }
         Expr::Compare { left, right, .. } => {
-            list_two(kernel, entries, from, until, left, right, ItemKind::Compare)
+            list_two(
+                kernel,
+                entries,
+                from,
+                last_use,
+                left,
+                right,
+                ItemKind::Compare,
+            )
         }
         Expr::And { left, right } => {
-            list_two(kernel, entries, from, until, left, right, ItemKind::And)
+            list_two(kernel, entries, from, last_use, left, right, ItemKind::And)
         }
-        Expr::Or { left, right } => list_or(kernel, entries, from, until, left, right),
-        Expr::Not { arg } => list_one(kernel, entries, from, until, arg, ItemKind::Not),
+        Expr::Or { left, right } => list_or(kernel, entries, from, last_use, left, right),
+        Expr::Not { arg } => list_one(kernel, entries, from, last_use, arg, ItemKind::Not),
     }
 }
 
@@ -90,14 +106,14 @@ fn list_read<'a>(
     kernel: &Checked,
     entries: &mut Entries<'a>,
     from: u32,
-    until: u32,
+    last_use: u32,
     array: &'a Name,
     index: &'a Expr,
 )
     requires behind { array_vec_len entries.old ≤ from }
     requires fits { from + (index_items (loop_index (program kernel.now)) (term_of index.now) + 1) ≤ 1000 }
     ensures items { let k = program kernel.now in seen entries.new.items
-        ≡ seen entries.old.items ++ term_entries k from until (Element (name_of array.now) (term_of index.now)) }
+        ≡ seen entries.old.items ++ term_entries k from last_use (Element (name_of array.now) (term_of index.now)) }
     ensures len { array_vec_len entries.new ≡ array_vec_len entries.old +
         (index_items (loop_index (program kernel.now)) (term_of index.now) + 1) }
 {
@@ -106,11 +122,11 @@ fn list_read<'a>(
         index,
     };
     if is_stream(kernel, index) {
-        put(kernel, entries, from, content, until);
+        put(kernel, entries, from, content, last_use);
     } else {
         let item = from + expr_size(kernel, index);
         list_expr(kernel, entries, from, item, index);
-        put(kernel, entries, item, content, until);
+        put(kernel, entries, item, content, last_use);
     }
 }
 
@@ -120,7 +136,7 @@ fn list_one<'a>(
     kernel: &Checked,
     entries: &mut Entries<'a>,
     from: u32,
-    until: u32,
+    last_use: u32,
     arg: &'a Expr,
     kind: ItemKind,
 )
@@ -129,13 +145,13 @@ fn list_one<'a>(
     ensures items { let k = program kernel.now in let item = from + term_size (loop_index k)
         (term_of arg.now) in seen entries.new.items
         ≡ seen entries.old.items ++ (term_entries k from item (term_of arg.now)
-        ++ entry k item (IsPlain kind) until ∷ []) }
+        ++ entry k item (IsPlain kind) last_use ∷ []) }
     ensures len { array_vec_len entries.new ≡ array_vec_len entries.old +
         (term_size (loop_index (program kernel.now)) (term_of arg.now) + 1) }
 {
     let item = from + expr_size(kernel, arg);
     list_expr(kernel, entries, from, item, arg);
-    put(kernel, entries, item, Content::Plain(kind), until);
+    put(kernel, entries, item, Content::Plain(kind), last_use);
 }
 
 // Two operands and what is made of them.
@@ -144,7 +160,7 @@ fn list_two<'a>(
     kernel: &Checked,
     entries: &mut Entries<'a>,
     from: u32,
-    until: u32,
+    last_use: u32,
     left: &'a Expr,
     right: &'a Expr,
     kind: ItemKind,
@@ -155,7 +171,7 @@ fn list_two<'a>(
     ensures items { let k = program kernel.now in let next = from + term_size (loop_index k)
         (term_of left.now) in let item = next + term_size (loop_index k) (term_of right.now) in seen entries.new.items
         ≡ seen entries.old.items ++ (term_entries k from item (term_of left.now)
-        ++ (term_entries k next item (term_of right.now) ++ entry k item (IsPlain kind) until ∷ [])) }
+        ++ (term_entries k next item (term_of right.now) ++ entry k item (IsPlain kind) last_use ∷ [])) }
     ensures len { let i = loop_index (program kernel.now) in array_vec_len entries.new
         ≡ array_vec_len entries.old + (term_size i (term_of left.now) + term_size i (term_of right.now) + 1) }
 {
@@ -163,16 +179,16 @@ fn list_two<'a>(
     let item = next + expr_size(kernel, right);
     list_expr(kernel, entries, from, item, left);
     list_expr(kernel, entries, next, item, right);
-    put(kernel, entries, item, Content::Plain(kind), until);
+    put(kernel, entries, item, Content::Plain(kind), last_use);
 }
 
-// `||` and its operands, with the mark behind the left one.
+// `||` and its operands, with the mark after the left one.
 #[cycle(terms)]
 fn list_or<'a>(
     kernel: &Checked,
     entries: &mut Entries<'a>,
     from: u32,
-    until: u32,
+    last_use: u32,
     left: &'a Expr,
     right: &'a Expr,
 )
@@ -180,7 +196,7 @@ fn list_or<'a>(
     requires fits { from + term_size (loop_index (program kernel.now))
         (Either (term_of left.now) (term_of right.now)) ≤ 1000 }
     ensures items { seen entries.new.items ≡ seen entries.old.items
-        ++ term_entries (program kernel.now) from until (Either (term_of left.now) (term_of right.now)) }
+        ++ term_entries (program kernel.now) from last_use (Either (term_of left.now) (term_of right.now)) }
     ensures len { array_vec_len entries.new ≡ array_vec_len entries.old + term_size (loop_index (program kernel.now))
         (Either (term_of left.now) (term_of right.now)) }
 {
@@ -189,7 +205,13 @@ fn list_or<'a>(
     list_expr(kernel, entries, from, item, left);
     put(kernel, entries, mark, Content::Plain(ItemKind::Mark), item);
     list_expr(kernel, entries, mark + 1, item, right);
-    put(kernel, entries, item, Content::Plain(ItemKind::Or), until);
+    put(
+        kernel,
+        entries,
+        item,
+        Content::Plain(ItemKind::Or),
+        last_use,
+    );
 }
 
 // `select`: both values, the condition, and the choice.
@@ -198,7 +220,7 @@ fn list_select<'a>(
     kernel: &Checked,
     entries: &mut Entries<'a>,
     from: u32,
-    until: u32,
+    last_use: u32,
     yes: &'a Expr,
     no: &'a Expr,
     cond: &'a Expr,
@@ -207,7 +229,7 @@ fn list_select<'a>(
     requires fits { from + term_size (loop_index (program kernel.now))
         (Choice (term_of cond.now) (term_of yes.now) (term_of no.now)) ≤ 1000 }
     ensures items { seen entries.new.items ≡ seen entries.old.items
-        ++ term_entries (program kernel.now) from until (Choice (term_of cond.now) (term_of yes.now) (term_of no.now)) }
+        ++ term_entries (program kernel.now) from last_use (Choice (term_of cond.now) (term_of yes.now) (term_of no.now)) }
     ensures len { array_vec_len entries.new ≡ array_vec_len entries.old + term_size (loop_index (program kernel.now))
         (Choice (term_of cond.now) (term_of yes.now) (term_of no.now)) }
 {
@@ -222,7 +244,7 @@ fn list_select<'a>(
         entries,
         item,
         Content::Plain(ItemKind::Select),
-        until,
+        last_use,
     );
 }
 
@@ -286,7 +308,7 @@ pub fn list_ended<'a>(
     put(kernel, entries, item, content, item);
 }
 
-// A condition, `then` and a block; the condition is used by the item behind the block.
+// A condition, `then` and a block; the condition is used by the item after the block.
 #[cycle(statements)]
 fn list_then<'a>(
     kernel: &Checked,

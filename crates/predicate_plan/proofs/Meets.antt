@@ -155,7 +155,7 @@ at_item-is [] i = refl
 at_item-is (b ∷ bs) zero = refl
 at_item-is (b ∷ bs) (suc i) = at_item-is bs i
 
--- the items of a loop stand behind some items and before others
+-- the items of a loop stand after some items and before others
 in_loop : (o : Option Turns) (truths : List Bool) (from after item : ℕ) → from ≤ item → item < from + turns_size o → at_item (replicate from false ++ (turns_reached truths from o ++ replicate after false)) item ≡ meets (at_item truths) (mask_at (loop_masks from o) item)
 in_loop None truths from after item le lt = absurd (omega (arith, le, lt))
 in_loop (Some l) truths from after item le lt =

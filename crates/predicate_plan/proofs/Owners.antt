@@ -86,7 +86,7 @@ module _ (masks : ℕ → List MaskPart) (truth : ℕ → Bool) where
     cond : CondForm t → (scope : Scope) (mask : Option ℕ) (from : ℕ) (env : List Bound) (ms : List MaskPart) (rest : List Item) → is_on truth mask ≡ meets truth ms → Agree masks from (term_masks scope.index from ms t)
         → AreSettled truth (cond_items scope mask from env t rest) → (AreSettled truth rest → (truth (truth_home scope.index from t) ≡ true → is_on truth mask ≡ true) → Owned rest) → Owned (cond_items scope mask from env t rest)
 
-  -- the item behind some others
+  -- the item after some others
   item_met : (mask : Option ℕ) (ms : List MaskPart) (q n : ℕ) → is_on truth mask ≡ meets truth ms → Agree masks n (ms ∷ []) → n ≡ q → is_on truth mask ≡ meets truth (masks q)
   item_met mask ms q n h g e = h ∙ ap (meets truth) (sym (ap masks (sym e) ∙ g.0))
 

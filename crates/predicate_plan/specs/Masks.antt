@@ -79,7 +79,7 @@ abbrev mutual
   block_masks index from mask Done = []
   block_masks index from mask (Then s b) = action_masks index from mask s ++ block_masks index (from + action_size index s) mask b
 
-  -- `else` has the mask of the `if`, and the block behind it the inner one
+  -- `else` has the mask of the `if`, and the block after it the inner one
   pub otherwise_masks : Option (List ℕ) → ℕ → (mask inner : List MaskPart) → Otherwise → List (List MaskPart)
   otherwise_masks index from mask inner Nothing = []
   otherwise_masks index from mask inner (Else b) = mask ∷ block_masks index (from + 1) inner b

@@ -4,7 +4,7 @@ ghost use Rattle.std.specs.Prelude.{◌≡◌, ◌+◌, ◌<◌, ◌≤◌, ◌^
 ghost use Rattle.kernel_tree.specs.Plain.{Element, Not, Choice, Both, Either, Choose, Nothing, Else, term_of, action_of, block_of, turns_of};
 ghost use Rattle.kernel_tree.specs.Items.{loop_index, index_of, term_size, index_items, action_size, block_size, turns_size};
 ghost use Rattle.loop_form.specs.Entries.{loop_start};
-ghost use Rattle.loop_form.specs.Seen.{program};
+ghost use Rattle.loop_form.specs.View.{program};
 ghost use Rattle.predicate_plan.specs.View.{FitsTerm, FitsAction, FitsBlock, GrowsTerm, GrowsAction, GrowsBlock, PlansTerm, PlansOne, PlansTwo, PlansAction, PlansBlock};
 ghost use Rattle.predicate_plan.specs.Masks.{MeetsMasks, part, term_masks, action_masks, block_masks, loop_masks, masks_of};
 
@@ -294,7 +294,7 @@ fn plan_block(
 }
 
 // The number of `for`.
-#[tactic(auto, unfolding(loop_form::specs::Seen::program))]
+#[tactic(auto, unfolding(loop_form::specs::View::program))]
 fn loop_start_of(kernel: &Checked) -> u32
     requires { is_some (program kernel.now).turns ≡ true }
     ensures { result ≡ loop_start (program kernel.now) }
@@ -331,7 +331,7 @@ fn plan_turns(alloc: Global, kernel: &Checked, from: u32, turns: &Loop) -> Resul
 }
 
 // The masks of a kernel's loop.
-#[tactic(auto, unfolding(loop_form::specs::Seen::program))]
+#[tactic(auto, unfolding(loop_form::specs::View::program))]
 fn loop_plan(alloc: Global, kernel: &Checked) -> Result<Plan, AllocError>
     ensures { IfOk result (λ plan. plan ≡ masks_of (program kernel.now)) }
 {

@@ -14,24 +14,24 @@ abbrev pub one : Bool → ℕ
 one b = cond b 1 0
 
 pub live-from : (p : ℕ) (i : Interval) → is_live p i ≡ true → i.from ≤ p
-live-from p i e = leb-true i.from p (first (nat_le i.from p) (nat_lt p i.until) e)
+live-from p i e = leb-true i.from p (first (nat_le i.from p) (nat_lt p i.last_use) e)
   where
     first : (a b : Bool) → (a && b) ≡ true → a ≡ true
     first true b e = refl
     first false b e = absurd cc
 
-pub live-until : (p : ℕ) (i : Interval) → is_live p i ≡ true → p < i.until
-live-until p i e = ltb-true p i.until (second (nat_le i.from p) (nat_lt p i.until) e)
+pub live-last_use : (p : ℕ) (i : Interval) → is_live p i ≡ true → p < i.last_use
+live-last_use p i e = ltb-true p i.last_use (second (nat_le i.from p) (nat_lt p i.last_use) e)
   where
     second : (a b : Bool) → (a && b) ≡ true → b ≡ true
     second true b e = e
     second false b e = absurd cc
 
-pub live : (p : ℕ) (i : Interval) → i.from ≤ p → p < i.until → is_live p i ≡ true
-live p i f u = let a = le-leb i.from p f in let b = lt-ltb p i.until u in rw (a, b) refl
+pub live : (p : ℕ) (i : Interval) → i.from ≤ p → p < i.last_use → is_live p i ≡ true
+live p i f u = let a = le-leb i.from p f in let b = lt-ltb p i.last_use u in rw (a, b) refl
 
 pub not_begun : (p : ℕ) (i : Interval) → p < i.from → is_live p i ≡ false
-not_begun p i f = ap (λ b. b && nat_lt p i.until) (lt-leb-false i.from p f)
+not_begun p i f = ap (λ b. b && nat_lt p i.last_use) (lt-leb-false i.from p f)
   where
     lt-leb-false : (a b : ℕ) → b < a → nat_le a b ≡ false
     lt-leb-false a b h = by (nat_le a b) refl
@@ -40,8 +40,8 @@ not_begun p i f = ap (λ b. b && nat_lt p i.until) (lt-leb-false i.from p f)
         by true e = let l = leb-true a b e in absurd (omega arith)
         by false e = refl
 
-pub begun : (p : ℕ) (i : Interval) → i.from ≤ p → is_live p i ≡ nat_lt p i.until
-begun p i f = ap (λ b. b && nat_lt p i.until) (le-leb i.from p f)
+pub begun : (p : ℕ) (i : Interval) → i.from ≤ p → is_live p i ≡ nat_lt p i.last_use
+begun p i f = ap (λ b. b && nat_lt p i.last_use) (le-leb i.from p f)
 
 -- ---- the greatest overlap
 
@@ -95,7 +95,7 @@ last_alone y xs p true e none = inr record {
   is = refl;
   by = live-from p y e;
   more = λ q f le.
-      let u = live-until p y e in
+      let u = live-last_use p y e in
       let a = overlap-cons y xs p in
       let b = counts p y true e in
       let c = overlap-cons y xs q in
@@ -139,7 +139,7 @@ last_more y xs p true e l = ⊎_elim
   where
     kept : (q : ℕ) → y.from ≤ q → l.x.from ≤ q → q ≤ p → overlap (y ∷ xs) p ≤ overlap (y ∷ xs) q
     kept q f g le =
-        let u = live-until p y e in
+        let u = live-last_use p y e in
         let a = overlap-cons y xs p in
         let b = counts p y true e in
         let c = overlap-cons y xs q in

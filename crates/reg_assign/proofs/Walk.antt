@@ -12,7 +12,7 @@ use Rattle.reg_assign.specs.declared.interval.Interval.{Interval}
 use Rattle.reg_assign.specs.Intervals.{is_live, overlap, need_of, AscendFrom, Ascend}
 use Rattle.reg_assign.specs.Registers.{assignment, is_live_one, is_live_in, IsAssignment}
 use Rattle.reg_assign.specs.Taking.{is_needed, Takes, Empty, Ended, Unused, Full}
-use Rattle.reg_assign.proofs.Overlaps.{one, live-from, live-until, begun, not_begun, overlap-push, overlap-append, overlap-cons, need-at, need-most}
+use Rattle.reg_assign.proofs.Overlaps.{one, live-from, live-last_use, begun, not_begun, overlap-push, overlap-append, overlap-cons, need-at, need-most}
 
 -- all begin by a point
 abbrev pub BegunBy : ℕ → List Interval → Type 0
@@ -24,7 +24,7 @@ pub record IsWalk (n : ℕ) (done : List Interval) (registers ends : List ℕ) :
   pub room : length ends ≤ n
   pub fits : IsAssignment n (assignment done registers)
   -- an interval that is not empty ends no later than its register
-  pub holds : (j : ℕ) (s : Interval) → slice_get done j ≡ Some s → s.from < s.until → (slice_index registers j < length ends) × (s.until ≤ slice_index ends (slice_index registers j))
+  pub holds : (j : ℕ) (s : Interval) → slice_get done j ≡ Some s → s.from < s.last_use → (slice_index registers j < length ends) × (s.last_use ≤ slice_index ends (slice_index registers j))
   -- from the last start on, as many are live as registers are still needed
   pub counted : (p : ℕ) → BegunBy p done → overlap done p ≡ count_by (is_needed p) ends
   pub enough : (p : ℕ) → overlap done p ≤ n
@@ -82,9 +82,9 @@ start n = record {
 record Owes (n : ℕ) (done : List Interval) (registers ends : List ℕ) (i : Interval) (r : ℕ) (new : List ℕ) : Type 0 where
   small : r < n
   room : length new ≤ n
-  kept : (j : ℕ) (s : Interval) → slice_get done j ≡ Some s → s.from < s.until → (slice_index registers j < length new) × (s.until ≤ slice_index new (slice_index registers j))
-  own : i.from < i.until → (r < length new) × (i.until ≤ slice_index new r)
-  free : (j : ℕ) (s : Interval) → i.from < i.until → slice_get done j ≡ Some s → i.from < s.until → s.from < s.until → slice_index registers j ≢ r
+  kept : (j : ℕ) (s : Interval) → slice_get done j ≡ Some s → s.from < s.last_use → (slice_index registers j < length new) × (s.last_use ≤ slice_index new (slice_index registers j))
+  own : i.from < i.last_use → (r < length new) × (i.last_use ≤ slice_index new r)
+  free : (j : ℕ) (s : Interval) → i.from < i.last_use → slice_get done j ≡ Some s → i.from < s.last_use → s.from < s.last_use → slice_index registers j ≢ r
   counted : (p : ℕ) → BegunBy p done → i.from ≤ p → overlap done p + cond (is_live p i) 1 0 ≡ count_by (is_needed p) new
 
 step_of : (n : ℕ) (done : List Interval) (registers ends : List ℕ) (i : Interval) (r : ℕ) (new : List ℕ) → IsWalk n done registers ends → BegunBy i.from done → Owes n done registers ends i r new → IsWalk n (done ++ i ∷ []) (registers ++ r ∷ []) new
@@ -93,7 +93,7 @@ step_of n done registers ends i r new w before o = record {
   fits = record { each = each; below = below; apart = apart_of (done ++ i ∷ []) (registers ++ r ∷ []) apart };
   holds = λ j s e live. ⊎_elim
       (λ (h : slice_get done j ≡ Some s). let k = o.kept j s h live in let q = old j s h in (let a = k.0 in omega (arith, q, a), let a = k.1 in let b = ap (slice_index new) q in omega (arith, a, b)))
-      (λ (h : (j ≡ length done) × (i ≡ s)). let live' : i.from < i.until = (let f = ap (λ (t : Interval). t.from) h.1 in let u = ap (λ (t : Interval). t.until) h.1 in omega (arith, f, u)) in let k = o.own live' in let q = last j h.0 in (let a = k.0 in omega (arith, q, a), let a = k.1 in let b = ap (slice_index new) q in let u = ap (λ (t : Interval). t.until) h.1 in omega (arith, a, b, u)))
+      (λ (h : (j ≡ length done) × (i ≡ s)). let live' : i.from < i.last_use = (let f = ap (λ (t : Interval). t.from) h.1 in let u = ap (λ (t : Interval). t.last_use) h.1 in omega (arith, f, u)) in let k = o.own live' in let q = last j h.0 in (let a = k.0 in omega (arith, q, a), let a = k.1 in let b = ap (slice_index new) q in let u = ap (λ (t : Interval). t.last_use) h.1 in omega (arith, a, b, u)))
       (get-push done i j s e);
   counted = λ p h. let b = begun-push p done i h in overlap-push done i p ∙ o.counted p b.0 b.1;
   enough = λ p. ⊎_elim (λ (h : p < i.from). early p h) (λ (h : i.from ≤ p). late p h) (cases_lt p i.from);
@@ -116,7 +116,7 @@ step_of n done registers ends i r new w before o = record {
 
     -- the new interval and one before it
     apart_last : (j p : ℕ) (s : Interval) → slice_get done j ≡ Some s → is_live p s ≡ true → is_live p i ≡ true → slice_index registers j ≢ r
-    apart_last j p s e ls li = let a = live-from p s ls in let b = live-until p s ls in let c = live-from p i li in let d = live-until p i li in o.free j s (omega (arith, c, d)) e (omega (arith, c, b)) (omega (arith, a, b))
+    apart_last j p s e ls li = let a = live-from p s ls in let b = live-last_use p s ls in let c = live-from p i li in let d = live-last_use p i li in o.free j s (omega (arith, c, d)) e (omega (arith, c, b)) (omega (arith, a, b))
 
     same_live : (p : ℕ) (s : Interval) → i ≡ s → is_live p s ≡ true → is_live p i ≡ true
     same_live p s e l = ap (is_live p) e ∙ l
@@ -141,21 +141,21 @@ step_of n done registers ends i r new w before o = record {
 
 -- ---- the kinds of steps
 
-not_live : (p : ℕ) (i : Interval) → i.until ≤ i.from → is_live p i ≡ false
+not_live : (p : ℕ) (i : Interval) → i.last_use ≤ i.from → is_live p i ≡ false
 not_live p i h = by (is_live p i) refl
   where
     by : (b : Bool) → is_live p i ≡ b → b ≡ false
-    by true e = let a = live-from p i e in let b = live-until p i e in absurd (omega (arith, a, b))
+    by true e = let a = live-from p i e in let b = live-last_use p i e in absurd (omega (arith, a, b))
     by false e = refl
 
 -- a use counts where it is past the point
 needed : (p u : ℕ) (b : Bool) → nat_lt p u ≡ b → one (is_needed p u) ≡ one b
 needed p u b e = ap one e
 
-live_needed : (p : ℕ) (i : Interval) → i.from ≤ p → one (is_live p i) ≡ one (is_needed p i.until)
+live_needed : (p : ℕ) (i : Interval) → i.from ≤ p → one (is_live p i) ≡ one (is_needed p i.last_use)
 live_needed p i f = ap one (begun p i f)
 
-empty : (n : ℕ) (done : List Interval) (registers ends : List ℕ) (i : Interval) → 1 ≤ n → IsWalk n done registers ends → i.until ≤ i.from → Owes n done registers ends i 0 ends
+empty : (n : ℕ) (done : List Interval) (registers ends : List ℕ) (i : Interval) → 1 ≤ n → IsWalk n done registers ends → i.last_use ≤ i.from → Owes n done registers ends i 0 ends
 empty n done registers ends i some w h = record {
   small = omega arith;
   room = w.room;
@@ -165,41 +165,41 @@ empty n done registers ends i some w h = record {
   counted = λ p b f. let a = w.counted p b in let c = ap one (not_live p i h) in omega (arith, a, c);
 }
 
-ended : (n : ℕ) (done : List Interval) (registers ends : List ℕ) (i : Interval) (r : ℕ) → IsWalk n done registers ends → i.from < i.until → r < length ends → slice_index ends r ≤ i.from → Owes n done registers ends i r (set ends r i.until)
+ended : (n : ℕ) (done : List Interval) (registers ends : List ℕ) (i : Interval) (r : ℕ) → IsWalk n done registers ends → i.from < i.last_use → r < length ends → slice_index ends r ≤ i.from → Owes n done registers ends i r (set ends r i.last_use)
 ended n done registers ends i r w h lt e = record {
   small = let a = w.room in omega (arith, a);
   room = let a = w.room in let b = size in omega (arith, a, b);
-  kept = λ j s g l. let k = w.holds j s g l in (let a = k.0 in let b = size in omega (arith, a, b), keeps (slice_index registers j) s.until k.1);
-  own = λ l. (let b = size in omega (arith, b), let a = get_or-set_same ends r i.until 0 lt in omega (arith, a));
+  kept = λ j s g l. let k = w.holds j s g l in (let a = k.0 in let b = size in omega (arith, a, b), keeps (slice_index registers j) s.last_use k.1);
+  own = λ l. (let b = size in omega (arith, b), let a = get_or-set_same ends r i.last_use 0 lt in omega (arith, a));
   free = λ j s l g past own q. let k = (w.holds j s g own).1 in let a = ap (slice_index ends) q in omega (arith, k, a);
   counted = λ p b f.
       let a = w.counted p b in
-      let c = sum_by-set (λ u. cond (is_needed p u) 1 0) ends r i.until 0 lt in
+      let c = sum_by-set (λ u. cond (is_needed p u) 1 0) ends r i.last_use 0 lt in
       let d = live_needed p i f in
       let g = needed p (slice_index ends r) false (le-ltb p (slice_index ends r) (omega (arith, f))) in
       omega (arith, a, c, d, g);
 }
   where
-    size : length (set ends r i.until) ≡ length ends
-    size = length-set ends r i.until
+    size : length (set ends r i.last_use) ≡ length ends
+    size = length-set ends r i.last_use
 
-    keeps : (j u : ℕ) → u ≤ slice_index ends j → u ≤ slice_index (set ends r i.until) j
+    keeps : (j u : ℕ) → u ≤ slice_index ends j → u ≤ slice_index (set ends r i.last_use) j
     keeps j u le = ⊎_elim
-        (λ (a : j < r). let b = get_or-set_other ends r j i.until 0 (λ q. absurd (omega arith)) in omega (arith, b))
+        (λ (a : j < r). let b = get_or-set_other ends r j i.last_use 0 (λ q. absurd (omega arith)) in omega (arith, b))
         (λ (a : r ≤ j). ⊎_elim
-        (λ (c : r < j). let b = get_or-set_other ends r j i.until 0 (λ q. absurd (omega arith)) in omega (arith, b))
-        (λ (c : j ≤ r). let q : j ≡ r = omega arith in let b = get_or-set_same ends r i.until 0 lt in let d = ap (slice_index ends) q in let f = ap (slice_index (set ends r i.until)) q in omega (arith, b, d, f))
+        (λ (c : r < j). let b = get_or-set_other ends r j i.last_use 0 (λ q. absurd (omega arith)) in omega (arith, b))
+        (λ (c : j ≤ r). let q : j ≡ r = omega arith in let b = get_or-set_same ends r i.last_use 0 lt in let d = ap (slice_index ends) q in let f = ap (slice_index (set ends r i.last_use)) q in omega (arith, b, d, f))
         (cases_lt r j))
         (cases_lt j r)
 
-unused : (n : ℕ) (done : List Interval) (registers ends : List ℕ) (i : Interval) → IsWalk n done registers ends → i.from < i.until → length ends < n → Owes n done registers ends i (length ends) (ends ++ i.until ∷ [])
+unused : (n : ℕ) (done : List Interval) (registers ends : List ℕ) (i : Interval) → IsWalk n done registers ends → i.from < i.last_use → length ends < n → Owes n done registers ends i (length ends) (ends ++ i.last_use ∷ [])
 unused n done registers ends i w h lt = record {
   small = lt;
-  room = let a = length-push ends i.until in omega (arith, a);
-  kept = λ j s g l. let k = w.holds j s g l in let a = k.0 in let b = k.1 in let c = length-push ends i.until in let d = get_or_append_left ends (i.until ∷ []) 0 (slice_index registers j) a in (omega (arith, a, c), omega (arith, b, d));
-  own = λ l. let c = length-push ends i.until in let d = get_or-append_seam ends i.until [] 0 in (omega (arith, c), omega (arith, d));
+  room = let a = length-push ends i.last_use in omega (arith, a);
+  kept = λ j s g l. let k = w.holds j s g l in let a = k.0 in let b = k.1 in let c = length-push ends i.last_use in let d = get_or_append_left ends (i.last_use ∷ []) 0 (slice_index registers j) a in (omega (arith, a, c), omega (arith, b, d));
+  own = λ l. let c = length-push ends i.last_use in let d = get_or-append_seam ends i.last_use [] 0 in (omega (arith, c), omega (arith, d));
   free = λ j s l g past own q. let k = (w.holds j s g own).0 in absurd (omega (arith, k, q));
-  counted = λ p b f. let a = w.counted p b in let c = sum_by_push (λ u. cond (is_needed p u) 1 0) ends i.until in let d = live_needed p i f in omega (arith, a, c, d);
+  counted = λ p b f. let a = w.counted p b in let c = sum_by_push (λ u. cond (is_needed p u) 1 0) ends i.last_use in let d = live_needed p i f in omega (arith, a, c, d);
 }
 
 -- an interval with its register
@@ -214,7 +214,7 @@ full n all done registers ends i rest new e w b (Full h le c) =
     let a = need-at all done i rest e in
     let d = ap (λ l. overlap l i.from) e ∙ overlap-append done (i ∷ rest) i.from in
     let f = overlap-cons i rest i.from in
-    let g = ap one (begun i.from i (omega arith) ∙ lt-ltb i.from i.until h) in
+    let g = ap one (begun i.from i (omega arith) ∙ lt-ltb i.from i.last_use h) in
     let k = w.counted i.from b in
     omega (arith, a, d, f, g, k, c)
 

@@ -5,7 +5,7 @@ use Rattle.reg_assign.specs.declared.interval.Interval.{Interval}
 
 -- an interval is live from its first point on, and before its last use
 abbrev pub is_live : ℕ → Interval → Bool
-is_live p i = nat_le i.from p && nat_lt p i.until
+is_live p i = nat_le i.from p && nat_lt p i.last_use
 
 -- how many intervals are live at a point
 abbrev pub overlap : List Interval → ℕ → ℕ

@@ -13,5 +13,5 @@ pub enum RegClass {
 #[derive(Clone, Copy, PartialEq, Eq, Debug)]
 pub struct Interval {
     pub from: u32,
-    pub until: u32,
+    pub last_use: u32,
 }

@@ -12,17 +12,17 @@ use crate::live::need;
 use std::alloc::{AllocError, Global};
 
 // Whether an interval has ended by a point.
-fn is_ended(until: u32, point: u32) -> bool
-    ensures { result ≡ is_ended point until }
+fn is_ended(last_use: u32, point: u32) -> bool
+    ensures { result ≡ is_ended point last_use }
 {
-    until <= point
+    last_use <= point
 }
 
 // The least register whose interval has ended by a point.
 fn first_ended(ends: &[u32], point: u32) -> Option<usize>
     ensures { result ≡ position (is_ended point) ends.now }
 {
-    ends.iter().position(|until| is_ended(*until, point))
+    ends.iter().position(|last_use| is_ended(*last_use, point))
 }
 
 // The register of an interval among n of them, by the last uses of the intervals that have each register now.
@@ -30,18 +30,18 @@ fn take_register(ends: &mut Vec<u32>, interval: Interval, n: u32) -> Result<Opti
     requires { length ends.old.items ≤ n }
     ensures { IfOk result (Takes n interval ends.old.items ends.new.items) }
 {
-    if interval.until <= interval.from {
+    if interval.last_use <= interval.from {
         return Ok(Some(0));
     }
     if let Some(register) = first_ended(ends, interval.from) {
-        ends[register] = interval.until;
+        ends[register] = interval.last_use;
         return Ok(Some(register as u32));
     }
     let register = ends.len() as u32;
     if register == n {
         return Ok(None);
     }
-    ends.push(interval.until)?;
+    ends.push(interval.last_use)?;
     Ok(Some(register))
 }
 

@@ -9,7 +9,7 @@ use crate::interval::Interval;
 fn is_live(interval: Interval, point: u32) -> bool
     ensures { result ≡ is_live point interval }
 {
-    interval.from <= point && point < interval.until
+    interval.from <= point && point < interval.last_use
 }
 
 // How many intervals are live at a point.

@@ -5,11 +5,11 @@ ghost use Rattle.std.specs.Prelude.{◌≡◌};
 use crate::{AssignFault, Interval, RegClass, assign, need};
 use std::test::Fail;
 
-fn interval(from: u32, until: u32) -> Interval
+fn interval(from: u32, last_use: u32) -> Interval
     ensures from { result.from ≡ from }
-    ensures until { result.until ≡ until }
+    ensures last_use { result.last_use ≡ last_use }
 {
-    Interval { from, until }
+    Interval { from, last_use }
 }
 
 #[test]

@@ -1,7 +1,7 @@
 use Rattle.std.proofs.Common.{◌≡◌, drop}
 use Rattle.std.specs.List.{list_any}
 use Rattle.kernel_tree.specs.Items.{loop_index}
-use Rattle.loop_form.specs.Seen.{program, seen}
+use Rattle.loop_form.specs.View.{program, seen}
 use Rattle.dependence.specs.Classes.{is_computed}
 use Rattle.dependence.proofs.elements.reads_computed.Given as goal
 

@@ -1,6 +1,6 @@
 use Rattle.std.proofs.Common.{◌≡◌, drop}
 use Rattle.std.specs.List.{list_any}
-use Rattle.loop_form.specs.Seen.{seen}
+use Rattle.loop_form.specs.View.{seen}
 use Rattle.dependence.specs.Classes.{updates_otherwise}
 use Rattle.dependence.proofs.updates.has_other_update.Given as goal
 

@@ -1,6 +1,6 @@
 use Rattle.std.proofs.Common.{◌≡◌, drop}
 use Rattle.kernel_tree.specs.Plain.{accumulators_of}
-use Rattle.loop_form.specs.Seen.{seen}
+use Rattle.loop_form.specs.View.{seen}
 use Rattle.dependence.specs.Classes.{accumulator_read}
 use Rattle.dependence.proofs.updates.reads_accumulator.Given as goal
 

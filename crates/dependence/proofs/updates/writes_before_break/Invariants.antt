@@ -1,5 +1,5 @@
 use Rattle.std.proofs.Common.{◌≡◌, drop}
-use Rattle.loop_form.specs.Seen.{seen}
+use Rattle.loop_form.specs.View.{seen}
 use Rattle.dependence.specs.Classes.{before_break}
 use Rattle.dependence.proofs.updates.writes_before_break.Given as goal
 

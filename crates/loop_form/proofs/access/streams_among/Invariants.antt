@@ -2,7 +2,7 @@ use Rattle.std.proofs.Common.{◌≡◌, ◌≤◌, ◌++◌, drop}
 use Rattle.std.specs.Prelude.{length, filter_map}
 use Rattle.kernel_tree.specs.Items.{loop_index}
 use Rattle.loop_form.specs.Near.{AreNear}
-use Rattle.loop_form.specs.Seen.{program, seen}
+use Rattle.loop_form.specs.View.{program, seen}
 use Rattle.loop_form.specs.Streams.{stream_of}
 use Rattle.loop_form.proofs.access.streams_among.Given as goal
 

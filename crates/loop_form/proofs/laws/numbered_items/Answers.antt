@@ -1,4 +1,4 @@
-use Rattle.loop_form.specs.Seen.{program}
+use Rattle.loop_form.specs.View.{program}
 use Rattle.loop_form.proofs.Numbers.{loop-listed, all-listed}
 use Rattle.loop_form.proofs.laws.numbered_items.Goals as goal
 

@@ -1,4 +1,4 @@
-use Rattle.loop_form.specs.Seen.{program}
+use Rattle.loop_form.specs.View.{program}
 use Rattle.loop_form.proofs.PlaceLaws.{place-value, value-places-length}
 use Rattle.loop_form.proofs.laws.placed_values.Goals as goal
 

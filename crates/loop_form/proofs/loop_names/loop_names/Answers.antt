@@ -8,7 +8,7 @@ use Rattle.kernel_tree.specs.Typing.{local}
 use Rattle.loop_form.specs.declared.loop_item.Source.TheVariants.{Turn}
 use Rattle.loop_form.specs.LoopItems.{bound}
 use Rattle.loop_form.specs.LoopView.{param_local, var_local}
-use Rattle.loop_form.specs.Seen.{program}
+use Rattle.loop_form.specs.View.{program}
 use Rattle.loop_form.proofs.LoopLists.{loop-head, adds-same}
 use Rattle.loop_form.proofs.loop_names.loop_names.Goals as goal
 

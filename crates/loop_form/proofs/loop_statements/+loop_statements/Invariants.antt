@@ -1,7 +1,7 @@
 use Rattle.std.proofs.Common.{◌+◌, ◌*◌}
 use Rattle.kernel_tree.specs.Plain.{action_of, block_of}
 use Rattle.kernel_tree.specs.Items.{loop_index, action_size, block_size}
-use Rattle.loop_form.specs.Seen.{program}
+use Rattle.loop_form.specs.View.{program}
 use Rattle.loop_form.proofs.loop_statements.+loop_statements.Given as goal
 
 -- by the number of items: a block stands above its statements, and an `if` above its blocks

@@ -1,7 +1,7 @@
 use Rattle.std.proofs.Common.{arith}
 use Rattle.kernel_tree.specs.Plain.{action_of}
 use Rattle.kernel_tree.specs.Items.{loop_index}
-use Rattle.loop_form.specs.Seen.{program}
+use Rattle.loop_form.specs.View.{program}
 use Rattle.loop_form.proofs.LoopLists.{some_item}
 use Rattle.loop_form.proofs.loop_statements.count_items.Goals as goal
 

@@ -1,6 +1,6 @@
 use Rattle.std.proofs.Common.{◌≡◌, ◌+◌, ◌≤◌, ◌++◌, drop}
 use Rattle.loop_form.specs.Places.{places_from}
-use Rattle.loop_form.specs.Seen.{seen}
+use Rattle.loop_form.specs.View.{seen}
 use Rattle.loop_form.proofs.places.places.Given as goal
 
 abbrev pub invariant-loop-entry : goal.invariant-loop-entry

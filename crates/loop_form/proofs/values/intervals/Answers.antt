@@ -4,7 +4,7 @@ use Rattle.std.proofs.lemmas.List.{length-map}
 use Rattle.reg_assign.specs.declared.interval.Interval.{Interval}
 use Rattle.loop_form.specs.HeldView.{view_of}
 use Rattle.loop_form.specs.Needs.{throughout}
-use Rattle.loop_form.specs.Seen.{program}
+use Rattle.loop_form.specs.View.{program}
 use Rattle.loop_form.proofs.IntervalLaws.{whole-replicate}
 use Rattle.loop_form.proofs.values.intervals.Goals as goal
 
@@ -18,5 +18,5 @@ returns c =
     let count : c.len-held.result ≡ length (throughout k c.args.class) = omega (arith, n, held, same) in
     c.in_ok-append.ensures.items
     ∙ ap₂ (λ (xs ys : List Interval). xs ++ ys)
-    (c.in_ok-intervals.ensures ∙ ap₂ (λ n m. replicate n (record { from = 0; until = m })) count (c.len-size.ensures.value ∙ c.entries.ensures.len) ∙ sym (whole-replicate k (throughout k c.args.class)))
+    (c.in_ok-intervals.ensures ∙ ap₂ (λ n m. replicate n (record { from = 0; last_use = m })) count (c.len-size.ensures.value ∙ c.entries.ensures.len) ∙ sym (whole-replicate k (throughout k c.args.class)))
     c.in_ok-class_values.ensures

@@ -1,7 +1,7 @@
 use Rattle.std.proofs.Common.{◌≡◌, ◌++◌, drop}
 use Rattle.std.specs.Prelude.{filter_map}
 use Rattle.loop_form.specs.Needs.{span_of}
-use Rattle.loop_form.specs.Seen.{seen}
+use Rattle.loop_form.specs.View.{seen}
 use Rattle.loop_form.proofs.values.spans.Given as goal
 
 abbrev pub invariant-loop-entry : goal.invariant-loop-entry

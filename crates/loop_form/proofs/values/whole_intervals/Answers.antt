@@ -3,4 +3,4 @@ use Rattle.loop_form.proofs.IntervalLaws.{replicate-more}
 use Rattle.loop_form.proofs.values.whole_intervals.Goals as goal
 
 pub loop-made-preserved : goal.loop-made-preserved
-loop-made-preserved c = c.in_ok-push.ensures.items ∙ ap (λ l. l ++ record { from = 0; until = c.args.size } ∷ []) c.loop-made.invariant ∙ replicate-more c.loop-made._made (record { from = 0; until = c.args.size })
+loop-made-preserved c = c.in_ok-push.ensures.items ∙ ap (λ l. l ++ record { from = 0; last_use = c.args.size } ∷ []) c.loop-made.invariant ∙ replicate-more c.loop-made._made (record { from = 0; last_use = c.args.size })

@@ -3,4 +3,4 @@ use Rattle.std.proofs.Math.ListN.{replicate}
 use Rattle.loop_form.proofs.values.whole_intervals.Given as goal
 
 abbrev pub invariant-loop-made : goal.invariant-loop-made
-invariant-loop-made l = l.intervals.items ≡ replicate l._made (record { from = 0; until = l.size })
+invariant-loop-made l = l.intervals.items ≡ replicate l._made (record { from = 0; last_use = l.size })

@@ -4,7 +4,7 @@ use Rattle.kernel_tree.specs.Plain.{action_of, block_of}
 use Rattle.kernel_tree.specs.Limits.{action_depth, block_depth}
 use Rattle.kernel_tree.specs.Items.{loop_index, block_size}
 use Rattle.loop_form.specs.Entries.{block_entries}
-use Rattle.loop_form.specs.Seen.{program, seen}
+use Rattle.loop_form.specs.View.{program, seen}
 use Rattle.loop_form.proofs.walk.+statements.Given as goal
 
 abbrev pub invariant-list_block-loop-stmt : goal.invariant-list_block-loop-stmt

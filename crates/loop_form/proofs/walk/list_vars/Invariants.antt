@@ -3,7 +3,7 @@ use Rattle.std.specs.Prelude.{length}
 use Rattle.kernel_tree.specs.Plain.{accumulators_of}
 use Rattle.kernel_tree.specs.Items.{loop_index, vars_size}
 use Rattle.loop_form.specs.Entries.{vars_entries}
-use Rattle.loop_form.specs.Seen.{program, seen}
+use Rattle.loop_form.specs.View.{program, seen}
 use Rattle.loop_form.proofs.walk.list_vars.Given as goal
 
 abbrev pub invariant-loop-var : goal.invariant-loop-var

@@ -3,7 +3,7 @@ use Rattle.std.specs.Prelude.{length, max}
 use Rattle.kernel_tree.specs.Plain.{action_of, block_of}
 use Rattle.kernel_tree.specs.Limits.{action_depth, block_depth}
 use Rattle.kernel_tree.specs.Items.{loop_index, block_size}
-use Rattle.loop_form.specs.Seen.{program}
+use Rattle.loop_form.specs.View.{program}
 use Rattle.predicate_plan.specs.Masks.{block_masks}
 use Rattle.predicate_plan.proofs.walk.+statements.Given as goal
 

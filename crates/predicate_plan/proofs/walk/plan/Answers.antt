@@ -1,5 +1,5 @@
 use Rattle.std.proofs.Common.{sym, subst}
-use Rattle.loop_form.specs.Seen.{program}
+use Rattle.loop_form.specs.View.{program}
 use Rattle.predicate_plan.specs.Masks.{MeetsMasks}
 use Rattle.predicate_plan.proofs.Meets.{masks_met}
 use Rattle.predicate_plan.proofs.walk.plan.Goals as goal

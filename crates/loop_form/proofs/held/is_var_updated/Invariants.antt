@@ -1,8 +1,0 @@
-use Rattle.std.proofs.Common.{◌≡◌, drop}
-use Rattle.std.specs.List.{list_any}
-use Rattle.loop_form.specs.Needs.{updates}
-use Rattle.loop_form.specs.Seen.{seen}
-use Rattle.loop_form.proofs.held.is_var_updated.Given as goal
-
-abbrev pub invariant-loop-entry : goal.invariant-loop-entry
-invariant-loop-entry l = list_any (updates l.name) (seen (drop l.entry-index l.entries)) ≡ list_any (updates l.name) (seen l.entries)

@@ -1,7 +1,0 @@
-use Rattle.std.proofs.Common.{◌≡◌, drop}
-use Rattle.loop_form.specs.Listing.{last_use}
-use Rattle.loop_form.specs.Seen.{seen}
-use Rattle.loop_form.proofs.lists.last_use_of.Given as goal
-
-abbrev pub invariant-loop-entry : goal.invariant-loop-entry
-invariant-loop-entry l = last_use l.name l.last (seen (drop l.entry-index l.entries)) ≡ last_use l.name l.fn.item (seen l.entries)

@@ -1,0 +1,254 @@
+//! What is held in registers throughout.
+
+ghost use Rattle.std.specs.Prelude.{◌≡◌, [], ◌++◌, map, filter, IfOk, OnOk};
+ghost use Rattle.std.specs.List.{list_any};
+ghost use Rattle.kernel_tree.specs.Plain.{parameters_of, parameter_of, accumulators_of, accumulator_of, program_of};
+ghost use Rattle.kernel_tree.specs.Checked.{kernel_of};
+ghost use Rattle.kernel_tree.specs.Items.{loop_index};
+ghost use Rattle.kernel_tree.specs.Typing.{number_of_type};
+ghost use Rattle.loop_form.specs.HeldView.{view_of, view};
+ghost use Rattle.loop_form.specs.Listing.{names};
+ghost use Rattle.loop_form.specs.Needs.{is_scalar, is_named_scalar, scalars, same_type, is_literal, is_constant, new_constant, constants, index_held, updates, is_updated, accumulating_of, throughout};
+ghost use Rattle.loop_form.specs.View.{program, content_of, entry_of, seen};
+
+use crate::entry::{Content, Entry};
+use crate::entry_list::loop_entries;
+use crate::item_list::is_name;
+use kernel_tree::{Checked, Param, Shape, Ty, Var};
+use reg_assign::RegClass;
+use std::alloc::{AllocError, Global};
+
+/// What is held in a register throughout.
+#[derive(Clone, Copy)]
+pub enum Held<'a> {
+    /// The scalar parameter of this name.
+    Scalar(&'a str),
+    /// A literal of a type.
+    Constant(Option<Ty>, i128),
+    /// The loop variable.
+    Index,
+    /// The accumulator of this name.
+    Accumulating(&'a str),
+}
+
+/// Whether a name is an item among these.
+pub fn is_named(entries: &[Entry<'_>], name: &str) -> bool
+    ensures { result ≡ list_any (names name.now) (seen entries.now) }
+{
+    for entry in entries {
+        if is_name(entry, name) {
+            return true;
+        }
+    }
+    false
+}
+
+fn is_scalar_shape(shape: Shape) -> bool
+    ensures { result ≡ is_scalar shape }
+{
+    match shape {
+        Shape::Scalar(_) => true,
+        Shape::Array(_) => false,
+    }
+}
+
+fn is_scalar_named(entries: &[Entry<'_>], param: &Param) -> bool
+    ensures { result ≡ is_named_scalar (seen entries.now) (parameter_of param.now) }
+{
+    is_scalar_shape(param.shape) && is_named(entries, param.name.text())
+}
+
+// The scalar parameters that are named.
+fn push_scalars<'a>(
+    held: &mut Vec<Held<'a>>,
+    entries: &[Entry<'_>],
+    params: &'a [Param],
+) -> Result<(), AllocError>
+    ensures { OnOk result (view held.new.items ≡ view held.old.items ++ scalars (seen entries.now)
+        (parameters_of params.now)) }
+{
+    for param in params {
+        if is_scalar_named(entries, param) {
+            held.push(Held::Scalar(param.name.text()))?;
+        }
+    }
+    Ok(())
+}
+
+fn type_number(ty: Ty) -> u32
+    ensures { result ≡ number_of_type ty }
+{
+    match ty {
+        Ty::I8 => 0,
+        Ty::I16 => 1,
+        Ty::I32 => 2,
+        Ty::I64 => 3,
+        Ty::U8 => 4,
+        Ty::U16 => 5,
+        Ty::U32 => 6,
+        Ty::U64 => 7,
+    }
+}
+
+fn is_same_type(left: Option<Ty>, right: Option<Ty>) -> bool
+    ensures { result ≡ same_type left right }
+{
+    match (left, right) {
+        (None, None) => true,
+        (Some(left), Some(right)) => type_number(left) == type_number(right),
+        _ => false,
+    }
+}
+
+// Whether a content is a literal of this value.
+fn is_literal_of(content: Content<'_>, value: i128) -> bool
+    ensures { result ≡ is_literal value (content_of content.entry) }
+{
+    match content {
+        Content::Literal(other) => other == value,
+        _ => false,
+    }
+}
+
+// Whether an item is the literal of the type.
+fn is_constant_of(entry: &Entry<'_>, ty: Option<Ty>, value: i128) -> bool
+    ensures { result ≡ is_constant ty value (entry_of entry.now) }
+{
+    is_same_type(entry.ty, ty) && is_literal_of(entry.content, value)
+}
+
+fn occurs(before: &[Entry<'_>], ty: Option<Ty>, value: i128) -> bool
+    ensures { result ≡ list_any (is_constant ty value) (seen before.now) }
+{
+    for entry in before {
+        if is_constant_of(entry, ty, value) {
+            return true;
+        }
+    }
+    false
+}
+
+// An item that is a literal, where none of the items before it is the same.
+fn push_new(
+    held: &mut Vec<Held<'_>>,
+    before: &[Entry<'_>],
+    entry: &Entry<'_>,
+) -> Result<(), AllocError>
+    ensures { OnOk result (view held.new.items ≡ view held.old.items ++ new_constant
+        (seen before.now) entry.now.ty (content_of entry.now.content)) }
+{
+    if let Content::Literal(value) = entry.content {
+        if !occurs(before, entry.ty, value) {
+            held.push(Held::Constant(entry.ty, value))?;
+        }
+    }
+    Ok(())
+}
+
+// The pairs of a type and a literal.
+#[tactic(auto, unfolding(crate::specs::Needs::constants))]
+fn push_constants(held: &mut Vec<Held<'_>>, entries: &[Entry<'_>]) -> Result<(), AllocError>
+    ensures { OnOk result (view held.new.items ≡ view held.old.items ++ constants [] (seen entries.now)) }
+{
+    let mut place = 0;
+    for entry in entries {
+        push_new(held, &entries[..place], entry)?;
+        place += 1;
+    }
+    Ok(())
+}
+
+// The loop variable, where it is named.
+#[tactic(auto, unfolding(crate::specs::View::program))]
+fn push_index(
+    kernel: &Checked,
+    held: &mut Vec<Held<'_>>,
+    entries: &[Entry<'_>],
+) -> Result<(), AllocError>
+    ensures { OnOk result (view held.new.items ≡ view held.old.items ++ index_held (seen entries.now)
+        (loop_index (program kernel.now))) }
+{
+    if let Some(turns) = &kernel.kernel().body {
+        if is_named(entries, turns.index.text()) {
+            held.push(Held::Index)?;
+        }
+    }
+    Ok(())
+}
+
+/// Whether an item is an update of the accumulator.
+pub fn is_update_of(entry: &Entry<'_>, name: &str) -> bool
+    ensures { result ≡ updates name.now (entry_of entry.now) }
+{
+    match entry.content {
+        Content::Update { name: text, .. } => text == name,
+        _ => false,
+    }
+}
+
+fn is_var_updated(entries: &[Entry<'_>], var: &Var) -> bool
+    ensures { result ≡ is_updated (seen entries.now) (accumulator_of var.now) }
+{
+    let name = var.name.text();
+    for entry in entries {
+        if is_update_of(entry, name) {
+            return true;
+        }
+    }
+    false
+}
+
+// The accumulators that are updated.
+fn push_updated<'a>(
+    held: &mut Vec<Held<'a>>,
+    entries: &[Entry<'_>],
+    vars: &'a [Var],
+) -> Result<(), AllocError>
+    ensures { OnOk result (view held.new.items ≡ view held.old.items ++ map accumulating_of
+        (filter (is_updated (seen entries.now)) (accumulators_of vars.now))) }
+{
+    for var in vars {
+        if is_var_updated(entries, var) {
+            held.push(Held::Accumulating(var.name.text()))?;
+        }
+    }
+    Ok(())
+}
+
+// All accumulators.
+fn push_vars<'a>(held: &mut Vec<Held<'a>>, vars: &'a [Var]) -> Result<(), AllocError>
+    ensures { OnOk result (view held.new.items ≡ view held.old.items ++ map accumulating_of
+        (accumulators_of vars.now)) }
+{
+    for var in vars {
+        held.push(Held::Accumulating(var.name.text()))?;
+    }
+    Ok(())
+}
+
+/// What is held in the registers of a class throughout, in the order of its intervals, of which these are the first: in
+/// X registers all accumulators, and in Z registers, by the items of the loop alone, the scalar parameters that are
+/// named, each literal of a type, the loop variable where it is named, and the accumulators that are updated.
+#[tactic(auto, unfolding(crate::specs::View::program))]
+pub fn throughout(
+    alloc: Global,
+    kernel: &Checked,
+    class: RegClass,
+) -> Result<Vec<Held<'_>>, AllocError>
+    ensures { IfOk result (λ held. view held.items ≡ throughout (program_of (kernel_of kernel.now)) class) }
+{
+    let mut held = Vec::new(alloc);
+    let tree = kernel.kernel();
+    match class {
+        RegClass::Z => {
+            let entries = loop_entries(kernel);
+            push_scalars(&mut held, &entries, &tree.params)?;
+            push_constants(&mut held, &entries)?;
+            push_index(kernel, &mut held, &entries)?;
+            push_updated(&mut held, &entries, &tree.vars)?;
+        }
+        RegClass::P => {}
+        RegClass::X => push_vars(&mut held, &tree.vars)?,
+    }
+    Ok(held)
+}
