@@ -16,7 +16,7 @@ walk_cuts d on (Put i ∷ rest) s = count_on (effect i s) (cuts_in i s) (on rest
 walk_cuts d on (Branch k l ∷ rest) s = if is_taken k s then on (behind d l) (jump s (address_of d l)) else on rest (next s)
 walk_cuts d on (Place l ∷ rest) s = walk_cuts d on rest s
 
--- how many free elements are suppressed by the first n words of a draft's run; none behind its last entry
+-- how many free elements are suppressed by the first n words of a draft's run; none after its last entry
 abbrev pub cuts : Laid → ℕ → List Entry → State → ℕ
 cuts d zero rest s = 0
 cuts d (suc n) rest s = walk_cuts d (cuts d n) rest s

@@ -29,7 +29,7 @@ is_taken (NotZero r) s = not (nat_eq (x_at s r) 0)
 abbrev pub effect : Listed → State → Step
 effect i s = does i s
 
--- the entries behind the place of a label
+-- the entries after the place of a label
 abbrev pub after : List Entry → ℕ → List Entry
 after [] l = []
 after (Put i ∷ rest) l = after rest l
@@ -55,7 +55,7 @@ behind d l = after d.entries l
 abbrev pub address_of : Laid → ℕ → ℕ
 address_of d l = (d.base + 4 * place_of d.entries l) % 2 ^ 64
 
--- on to the next word, which may stand behind places of labels. Behind the last entry the machine runs on.
+-- on to the next word, which may stand after places of labels. After the last entry the machine runs on.
 abbrev pub walk : Laid → (List Entry → State → Outcome) → (State → Outcome) → ℕ → List Entry → State → Outcome
 walk d on past taken [] s = past s
 walk d on past taken (Put i ∷ rest) s = go_on (effect i s) s taken (on rest)

@@ -9,14 +9,14 @@ use Rattle.label_fix.specs.DraftRun.{Entry, Put, Branch, Place, Laid, behind, dr
 use Rattle.label_fix.specs.Finished.{AreFit}
 use Rattle.label_fix.specs.Cuts.{cuts}
 
--- each label that these entries place leads to what stands behind its place
+-- each label that these entries place leads to what stands after its place
 abbrev pub Resolves : Laid → List Entry → Type 0
 Resolves d [] = Unit {0}
 Resolves d (Put i ∷ rest) = Resolves d rest
 Resolves d (Branch k l ∷ rest) = Resolves d rest
 Resolves d (Place l ∷ rest) = (behind d l ≡ rest) × Resolves d rest
 
--- At most this many words lead from the entries c and the state s to e and t. What free elements the words behind them
+-- At most this many words lead from the entries c and the state s to e and t. What free elements the words after them
 -- suppress is counted from c too; and of a fit draft the shape of the state is kept.
 pub record Goes (d : Laid) (c : List Entry) (s : State) (e : List Entry) (t : State) (most : ℕ) : Type 0 where
   pub count : ℕ

@@ -3,7 +3,7 @@
 ghost use Rattle.std.specs.Prelude.{◌≡◌, ℕ, suc, ◌+◌, ◌<◌, ◌≤◌, List, ◌∷◌, [], ◌++◌, IfOk, OnOk, true, length, map, min, replicate, slice_index, slice_set};
 ghost use Rattle.word_rows.specs.Row.{spells};
 ghost use Rattle.a64_code.specs.Table as a64;
-ghost use Rattle.label_fix.specs.Draft.{entry_seen, kind_seen, word_seen};
+ghost use Rattle.label_fix.specs.Draft.{entry_view, kind_view, word_view};
 ghost use Rattle.label_fix.specs.DraftRun.{place_of};
 ghost use Rattle.label_fix.specs.DraftRun as plain;
 ghost use Rattle.label_fix.specs.Finished.{AreFit, IsBranch, branch_of, offset, size, words_from, words_of, has_register};
@@ -16,8 +16,8 @@ use word_rows::Bits;
 
 /// How many words some entries come to.
 pub fn count_words(entries: &[Entry]) -> u32
-    requires few { size (map entry_seen entries.now) ≤ 65536 }
-    ensures { result ≡ size (map entry_seen entries.now) }
+    requires few { size (map entry_view entries.now) ≤ 65536 }
+    ensures { result ≡ size (map entry_view entries.now) }
 {
     let mut count = 0;
     for entry in entries {
@@ -31,10 +31,10 @@ pub fn count_words(entries: &[Entry]) -> u32
 
 /// How many words stand before each label, by its number; before a label without a place, all of them.
 pub fn label_places(alloc: Global, labels: u32, entries: &[Entry]) -> Result<Vec<u32>, AllocError>
-    requires few { size (map entry_seen entries.now) ≤ 65536 }
-    requires fit { AreFit labels (map entry_seen entries.now) }
+    requires few { size (map entry_view entries.now) ≤ 65536 }
+    requires fit { AreFit labels (map entry_view entries.now) }
     ensures { IfOk result (λ places. places.items
-        ≡ placed_from (replicate labels (size (map entry_seen entries.now))) 0 (map entry_seen entries.now)) }
+        ≡ placed_from (replicate labels (size (map entry_view entries.now))) 0 (map entry_view entries.now)) }
 {
     let end = count_words(entries);
     let mut places = vec![in alloc; end; labels as usize]?;
@@ -63,11 +63,11 @@ pub fn placed_words(
     entries: &[Entry],
     places: &[u32],
 ) -> Result<Vec<u32>, AllocError>
-    requires few { size (map entry_seen entries.now) ≤ 65536 }
-    requires fit { AreFit (length places.now) (map entry_seen entries.now) }
+    requires few { size (map entry_view entries.now) ≤ 65536 }
+    requires fit { AreFit (length places.now) (map entry_view entries.now) }
     requires places { (l : ℕ) → l < length places.now
-        → slice_index places.now l ≡ place_of (map entry_seen entries.now) l }
-    ensures { IfOk result (λ words. words.items ≡ words_of (map entry_seen entries.now)) }
+        → slice_index places.now l ≡ place_of (map entry_view entries.now) l }
+    ensures { IfOk result (λ words. words.items ≡ words_of (map entry_view entries.now)) }
 {
     let mut words = Vec::new(alloc);
     let mut count = 0;
@@ -90,7 +90,7 @@ pub fn placed_words(
 // The word of an instruction.
 fn encode(word: Word) -> u32
     ensures { (whole rest : List plain.Entry) (n : ℕ)
-        → words_from whole n (plain.Put (word_seen word) ∷ rest) ≡ result ∷ words_from whole (suc n) rest }
+        → words_from whole n (plain.Put (word_view word) ∷ rest) ≡ result ∷ words_from whole (suc n) rest }
 {
     match word {
         Word::A(instruction) => a64_code::encode(instruction),
@@ -102,8 +102,8 @@ fn encode(word: Word) -> u32
 fn encode_branch(kind: BranchKind, from: u32, to: u32) -> u32
     requires from { from ≤ 65536 }
     requires to { to ≤ 65536 }
-    requires register { has_register (kind_seen kind) ≡ true }
-    ensures { result ≡ spells a64.row (branch_of (kind_seen kind) from to) }
+    requires register { has_register (kind_view kind) ≡ true }
+    ensures { result ≡ spells a64.row (branch_of (kind_view kind) from to) }
 {
     let near = Bits::<19>::new((to + (1 << 19) - from) % (1 << 19));
     a64_code::encode(match kind {

@@ -1,6 +1,6 @@
 -- What the code before the loop does.
-use Rattle.std.proofs.Common.{◌≡◌, ℕ, zero, suc, ◌+◌, ◌*◌, ◌^◌, ◌<◌, ◌≤◌, List, [], ◌∷◌, ◌++◌, length, Option, Some, None, refl, sym, ap, ap₂, ◌∙◌, subst, arith, ⊎_elim, append-nil, append_assoc}
-use Rattle.std.specs.Prelude.{ℤ, pos, drop, slice_index, option_map, option_and_then, All}
+use Rattle.std.proofs.Common.{◌≡◌, ℕ, zero, suc, ◌+◌, ◌*◌, ◌^◌, ◌<◌, ◌≤◌, Bool, true, false, List, [], ◌∷◌, ◌++◌, length, Option, Some, None, refl, sym, ap, ap₂, ◌∙◌, subst, arith, ⊎_elim, append-nil, append_assoc}
+use Rattle.std.specs.Prelude.{ℤ, pos, drop, slice_index, option_map, option_and_then, All, if◌then◌else◌}
 use Rattle.std.proofs.lemmas.Bool.{cases_lt}
 use Rattle.std.proofs.lemmas.List.{get_or_past}
 use Rattle.std.proofs.lemmas.List.Elements.{All-get_or}
@@ -13,7 +13,6 @@ use Rattle.kernel_tree.specs.declared.ast.Shape.TheVariants as shape
 use Rattle.kernel_tree.specs.declared.fault.Binding.TheVariants as binding
 use Rattle.kernel_tree.specs.Plain.{Parameter, Accumulator, Program}
 use Rattle.kernel_tree.specs.Items.{term_size, vars_size, loop_index, size_of}
-use Rattle.kernel_tree.specs.Wrap.{is_signed}
 use Rattle.kernel_tree.specs.Typing.{Scope, Local, local, declared, binding_of_shape, value_type, empty, after_params, after_vars, param_scope, var_scope, check_fault}
 use Rattle.kernel_meaning.specs.Operators.{word}
 use Rattle.kernel_meaning.specs.Eval.{Names, value}
@@ -23,9 +22,8 @@ use Rattle.loop_form.specs.Entries.{loop_start}
 use Rattle.label_fix.specs.DraftRun.{Entry, Laid}
 use Rattle.label_fix.proofs.Steps.{Goes, Resolves, stay, chain, put_goes, go_more}
 use Rattle.scalar_emit.specs.Layout.{Layout, Homes, Lasts, home}
-use Rattle.scalar_emit.specs.Words.{copy, word_of}
+use Rattle.scalar_emit.specs.Words.{copy_word, word_code, settle_word, is_narrow, extending, word_of}
 use Rattle.scalar_emit.specs.Code.{labels}
-use Rattle.scalar_emit.specs.Fits.{InRange}
 use Rattle.scalar_emit.specs.Statements.{Others}
 use Rattle.scalar_emit.specs.Kernel.{counted_x, layout_of_kernel, param_homes, after_var, var_home, var_homes, kernel_homes, argument_code, arguments_code, vars_code, zero_index, FitsVars}
 use Rattle.scalar_emit.proofs.Words.{extended, extended-wrap}
@@ -34,8 +32,11 @@ use Rattle.scalar_emit.specs.Safe.{AreSteady}
 use Rattle.scalar_emit.specs.Runs.{AreHeld, Begins, BeginRuns}
 use Rattle.scalar_emit.proofs.AssignedOf.{counted-low}
 use Rattle.scalar_emit.proofs.States.{Assigned, Changes, AreSafe, Held, Fixed, At, AreRanged, TypeRange, frame_of, wrote, wrote_same, wrote_other, wrote_sized, kept_none, at_kept, safe_later}
-use Rattle.scalar_emit.proofs.Pieces.{Gives, a_value, extension_is, copy_sets}
-use Rattle.scalar_emit.proofs.Ranges.{value-range, wrap-range}
+use Rattle.scalar_emit.proofs.Pieces.{Gives, a_value, extension_is, wide_wrap, copied_sets}
+use Rattle.kernel_meaning.specs.TypeValues.{IsOf}
+use Rattle.kernel_meaning.proofs.TypeRanges.{wrap-is_of}
+use Rattle.scalar_emit.proofs.Ranges.{value-range}
+use Rattle.scalar_emit.proofs.Constants.{word_back}
 use Rattle.scalar_emit.proofs.ValueRuns.{value_runs, value_back}
 use Rattle.scalar_emit.proofs.StmtRuns.{held_more, ranged_more, held_others}
 use Rattle.scalar_emit.proofs.LoopRuns.{standing}
@@ -87,21 +88,36 @@ module _ (D : Laid) where
         high = λ r h. k.high r (omega arith);
         wrapped = (k.low n (omega arith) ∙ at ∙ sym (ap₂ (λ y b. word (argument y b)) e is ∙ small_word a small), k.wrapped);
       }
-  arguments_step (shape.Scalar t) p ps n a args s rest e lt at is small more on =
-      let v = extended t (x_at s n) in
-      let s1 = wrote s n v in
-      let k = on s1 (wrote_sized s n v) (given_on (n + 1) (n + 1) ps (drop 1 args) s s1 (omega arith) (λ r h. wrote_other s n v r (λ q. absurd (omega arith))) more) in
-      let w : v ≡ word (argument p.shape (slice_index args 0)) = ap (extended t) (at ∙ sym (small_word a small)) ∙ extended-wrap t (pos a) ∙ sym (ap₂ (λ y b. word (argument y b)) e is) in
-      record {
-        end = k.end;
-        goes = chain (suc (length ps)) (omega arith) (extension_is t n n s D (arguments_code (n + 1) ps rest)) k.goes;
-        memory = k.memory;
-        sized = k.sized ∙ wrote_sized s n v;
-        frame = k.frame;
-        low = λ r h. k.low r (omega arith) ∙ wrote_other s n v r (λ q. absurd (omega arith));
-        high = λ r h. k.high r (omega arith) ∙ wrote_other s n v r (λ q. absurd (omega arith));
-        wrapped = (k.low n (omega arith) ∙ wrote_same s n v lt ∙ w, k.wrapped);
-      }
+  arguments_step (shape.Scalar t) p ps n a args s rest e lt at is small more on = by (is_narrow t) refl
+    where
+      by : (b : Bool) → is_narrow t ≡ b → Arguments D (word_code (if b then Some (extending t n n) else None) (arguments_code (n + 1) ps rest)) s rest n (p ∷ ps) args
+      by true q =
+          let v = extended t (x_at s n) in
+          let s1 = wrote s n v in
+          let k = on s1 (wrote_sized s n v) (given_on (n + 1) (n + 1) ps (drop 1 args) s s1 (omega arith) (λ r h. wrote_other s n v r (λ q. absurd (omega arith))) more) in
+          let w : v ≡ word (argument p.shape (slice_index args 0)) = ap (extended t) (at ∙ sym (small_word a small)) ∙ extended-wrap t (pos a) ∙ sym (ap₂ (λ y b. word (argument y b)) e is) in
+          record {
+            end = k.end;
+            goes = chain (suc (length ps)) (omega arith) (extension_is t n n s D (arguments_code (n + 1) ps rest)) k.goes;
+            memory = k.memory;
+            sized = k.sized ∙ wrote_sized s n v;
+            frame = k.frame;
+            low = λ r h. k.low r (omega arith) ∙ wrote_other s n v r (λ q. absurd (omega arith));
+            high = λ r h. k.high r (omega arith) ∙ wrote_other s n v r (λ q. absurd (omega arith));
+            wrapped = (k.low n (omega arith) ∙ wrote_same s n v lt ∙ w, k.wrapped);
+          }
+      by false q =
+          let k = on s refl more in
+          record {
+            end = k.end;
+            goes = go_more (suc (length ps)) (omega arith) k.goes;
+            memory = k.memory;
+            sized = k.sized;
+            frame = k.frame;
+            low = λ r h. k.low r (omega arith);
+            high = λ r h. k.high r (omega arith);
+            wrapped = (k.low n (omega arith) ∙ at ∙ sym (small_word a small) ∙ sym (wide_wrap t (pos a) q) ∙ sym (ap₂ (λ y b. word (argument y b)) e is), k.wrapped);
+          }
 
   pub arguments_runs : (ps : List Parameter) (n : ℕ) (args : List ℕ) (s : State) (rest : List Entry) → n + length ps ≤ length s.x → AreGiven n ps args s → Arguments D (arguments_code n ps rest) s rest n ps args
   arguments_runs [] n args s rest lt h = record { end = s; goes = stay 0; memory = refl; sized = refl; frame = refl; low = λ r h. refl; high = λ r h. refl; wrapped = tt }
@@ -116,7 +132,7 @@ held_given n [] args p s h = tt
 held_given n (x ∷ ps) args p s h = (refl, (λ l. h.0), held_given (n + 1) ps (drop 1 args) p s h.1)
 
 shape_range : (x : Shape) (a : ℕ) → TypeRange (value_type (binding_of_shape x)) (argument x a)
-shape_range (shape.Scalar t) a = wrap-range t (pos a)
+shape_range (shape.Scalar t) a = wrap-is_of t (pos a)
 shape_range (shape.Array t) a = tt
 
 ranged_given : (ps : List Parameter) (s : Scope) (names : Names) (args : List ℕ) → AreRanged s.visible names → AreRanged (after_params s ps).visible (names ++ given ps args)
@@ -149,7 +165,7 @@ starts_at {w = w} {hs = hs} {ls = ls} {m = m} q e (starts {names = names} end k 
 
 module _ (D : Laid) (L : Layout) (fit : Assigned L) (R : ℕ → ℕ) where
   -- one more accumulator has its value
-  at_var : {w : Fixed} {hs : Homes} (s : Scope) {names : Names} {m : Memory} {st end : State} (j q : ℕ) (v : Accumulator) (x : ℤ) → AreSafe L q hs → Others hs (counted_x (R j)) (q + 1) → InRange (is_signed v.type) x
+  at_var : {w : Fixed} {hs : Homes} (s : Scope) {names : Names} {m : Memory} {st end : State} (j q : ℕ) (v : Accumulator) (x : ℤ) → AreSafe L q hs → Others hs (counted_x (R j)) (q + 1) → IsOf v.type x
       → At w hs s.visible names m q st → Changes st end (counted_x (R j)) → x_at end (counted_x (R j)) ≡ word x → At w (hs ++ var_home R j v ∷ []) (after_var s v).visible (with_name v.name names x) m (q + 1) end
   at_var {hs = hs} s {names = names} {m = m} {st = st} {end = end} j q v x safe others range at k is =
       let d = counted_x (R j) in
@@ -168,7 +184,7 @@ module _ (D : Laid) (L : Layout) (fit : Assigned L) (R : ℕ → ℕ) where
   -- an initial value into its register, and then the other accumulators
   vars_step : (o : Option ℤ) (v : Accumulator) (vs : List Accumulator) {w : Fixed} {hs : Homes} (s : Scope) {names : Names} {m : Memory} {st : State} (j b n : ℕ) (rest : List Entry) → AreSafeVars L R hs s j b (v ∷ vs) → counted_x (R j) ≤ 25 → FitsVars L R hs s j b (v ∷ vs) → At w hs s.visible names m b st
       → value s (Some v.type) v.init m names ≡ o
-      → Gives D L (vars_code L R hs s j b n (v ∷ vs) rest) st (copy (counted_x (R j)) (home L hs s.index b v.init) ∷ vars_code L R (hs ++ var_home R j v ∷ []) (after_var s v) (j + 1) (b + term_size s.index v.init + 1) (n + labels s.index v.init) vs rest) b (b + term_size s.index v.init) (home L hs s.index b v.init) m (4 * term_size s.index v.init) o
+      → Gives D L (vars_code L R hs s j b n (v ∷ vs) rest) st (word_code (copy_word (counted_x (R j)) (home L hs s.index b v.init)) (vars_code L R (hs ++ var_home R j v ∷ []) (after_var s v) (j + 1) (b + term_size s.index v.init + 1) (n + labels s.index v.init) vs rest)) b (b + term_size s.index v.init) (home L hs s.index b v.init) m (4 * term_size s.index v.init) o
       → ((x : ℤ) (st : State) → At w (hs ++ var_home R j v ∷ []) (after_var s v).visible (with_name v.name names x) m (b + term_size s.index v.init + 1) st
       → Starts D w (vars_code L R (hs ++ var_home R j v ∷ []) (after_var s v) (j + 1) (b + term_size s.index v.init + 1) (n + labels s.index v.init) vs rest) st rest ((hs ++ var_home R j v ∷ []) ++ var_homes R (j + 1) vs) (after_vars (after_var s v) vs).visible (b + term_size s.index v.init + 1 + vars_size s.index vs) m (4 * vars_size s.index vs) (initial (after_var s v) vs m (with_name v.name names x)))
       → Starts D w (vars_code L R hs s j b n (v ∷ vs) rest) st rest (hs ++ var_homes R j (v ∷ vs)) (after_vars (after_var s v) vs).visible (b + (term_size s.index v.init + 1 + vars_size s.index vs)) m (4 * (term_size s.index v.init + 1 + vars_size s.index vs)) (option_and_then (initial (after_var s v) vs m) (option_map (with_name v.name names) o))
@@ -176,7 +192,7 @@ module _ (D : Laid) (L : Layout) (fit : Assigned L) (R : ℕ → ℕ) where
   vars_step (Some x) v vs {w = w} {hs = hs} s {names = names} {m = m} j b n rest safe hi fits at e (a_value g) on =
       let q = b + term_size s.index v.init in
       let behind = vars_code L R (hs ++ var_home R j v ∷ []) (after_var s v) (j + 1) (b + term_size s.index v.init + 1) (n + labels s.index v.init) vs rest in
-      let k = copy_sets D L fit {rest = behind} {s = g.end} (counted_x (R j)) (home L hs s.index b v.init) x (g.kept.sized ∙ at.sized) (omega (arith, hi)) g.value in
+      let k = copied_sets D L fit {rest = behind} {s = g.end} (counted_x (R j)) (home L hs s.index b v.init) x (g.kept.sized ∙ at.sized) (omega (arith, hi)) g.value in
       let here = at_kept L fit b q (omega arith) safe.0 at g.kept in
       let range = value-range L hs s names m v.init v.type b q x fits.0 at.ranged e in
       let at1 = at_var s j q v x (safe_later L hs b q (omega arith) safe.0) safe.1 range here k.changes k.value in
@@ -195,7 +211,7 @@ module _ (D : Laid) (L : Layout) (fit : Assigned L) (R : ℕ → ℕ) where
   vars_runs (v ∷ vs) {hs = hs} s {names = names} {m = m} j b n rest safe high fits at res =
       vars_step (value s (Some v.type) v.init m names) v vs s j b n rest safe high.0 fits at refl
       (value_runs D L fit v.init s v.type b (b + term_size s.index v.init) n _ (omega arith) safe.0 at fits.0 res)
-      (λ x st at1. vars_runs vs (after_var s v) (j + 1) (b + term_size s.index v.init + 1) (n + labels s.index v.init) rest safe.2 high.1 fits.1 at1 (value_back D L fit v.init hs s (Some v.type) b n _ res))
+      (λ x st at1. vars_runs vs (after_var s v) (j + 1) (b + term_size s.index v.init + 1) (n + labels s.index v.init) rest safe.2 high.1 fits.1 at1 (word_back D (copy_word (counted_x (R j)) (home L hs s.index b v.init)) _ (value_back D L fit v.init hs s (Some v.type) b n _ res)))
 
 -- ---- X9
 
@@ -244,7 +260,7 @@ high_vars L R p j [] h = tt
 high_vars L R p j (v ∷ vs) h = (h.0.high tt, high_vars L R p (j + 1) vs h.1)
 
 argument_back : (D : Laid) (x : Shape) (n : ℕ) (rest : List Entry) → Resolves D (argument_code x n rest) → Resolves D rest
-argument_back D (shape.Scalar t) n rest h = h
+argument_back D (shape.Scalar t) n rest h = word_back D (settle_word true t n) rest h
 argument_back D (shape.Array t) n rest h = h
 
 arguments_back : (D : Laid) (n : ℕ) (ps : List Parameter) (rest : List Entry) → Resolves D (arguments_code n ps rest) → Resolves D rest

@@ -12,7 +12,7 @@ use Rattle.reg_assign.specs.declared.interval.RegClass.TheVariants.{X}
 use Rattle.reg_assign.specs.Registers.{Assignment, is_live_one}
 use Rattle.reg_assign.proofs.Overlaps.{live}
 use Rattle.loop_form.specs.Entries.{Entry, entries_of}
-use Rattle.loop_form.specs.Listing.{until_in}
+use Rattle.loop_form.specs.Listing.{last_use_in}
 use Rattle.loop_form.specs.Needs.{Throughout, throughout, accumulating_of, span, spans_of, whole, intervals}
 use Rattle.loop_form.specs.Numbers.{Numbered}
 use Rattle.loop_form.specs.Registers.{FitsKernel}
@@ -24,7 +24,7 @@ use Rattle.scalar_emit.proofs.AssignedOf.{Chosen}
 -- Registers by interval: the accumulators' first, and then those of the values.
 pub record ChosenAll (k : Program) (R : ℕ → ℕ) : Type 0 where
   pub below : (i : ℕ) (s : Interval) → slice_get (intervals k X) i ≡ Some s → R i < 15
-  pub apart : (i j p : ℕ) (s t : Interval) → i ≢ j → slice_get (intervals k X) i ≡ Some s → slice_get (intervals k X) j ≡ Some t → s.from ≤ p → p < s.until → t.from ≤ p → p < t.until → R i ≢ R j
+  pub apart : (i j p : ℕ) (s t : Interval) → i ≢ j → slice_get (intervals k X) i ≡ Some s → slice_get (intervals k X) j ≡ Some t → s.from ≤ p → p < s.last_use → t.from ≤ p → p < t.last_use → R i ≢ R j
 
 pub chosen_all : (k : Program) (a : Assignment) → FitsKernel k X a → ChosenAll k (register_in a)
 chosen_all k a f = record {
@@ -47,7 +47,7 @@ get-append : {A : Type 0} (xs ys : List A) (m : ℕ) → slice_get (xs ++ ys) (l
 get-append [] ys m = ap (slice_get ys) (let e : 0 + m ≡ m = omega arith in e)
 get-append (x ∷ xs) ys m = ap (slice_get (x ∷ (xs ++ ys))) (let e : length (x ∷ xs) + m ≡ suc (length xs + m) = omega arith in e) ∙ get-append xs ys m
 
-get-whole : (k : Program) (ts : List Throughout) (is : List Interval) (v : ℕ) → v < length ts → slice_get (map (whole k) ts ++ is) v ≡ Some (record { from = 0; until = size_of k })
+get-whole : (k : Program) (ts : List Throughout) (is : List Interval) (v : ℕ) → v < length ts → slice_get (map (whole k) ts ++ is) v ≡ Some (record { from = 0; last_use = size_of k })
 get-whole k [] is v h = absurd (omega arith)
 get-whole k (t ∷ ts) is zero h = refl
 get-whole k (t ∷ ts) is (suc v) h = get-whole k ts is v (omega arith)
@@ -57,7 +57,7 @@ pub value-place : (k : Program) (m : ℕ) → slice_get (intervals k X) (length 
 value-place k m = ap (slice_get (intervals k X)) (let a = accs k in let e : length k.vars + m ≡ length (held k) + m = omega (arith, a) in e) ∙ get-append (held k) (spans_of X (entries_of k) (entries_of k)) m
 
 -- accumulator v has interval number v, over all items
-pub accumulator-place : (k : Program) (v : ℕ) → v < length k.vars → slice_get (intervals k X) v ≡ Some (record { from = 0; until = size_of k })
+pub accumulator-place : (k : Program) (v : ℕ) → v < length k.vars → slice_get (intervals k X) v ≡ Some (record { from = 0; last_use = size_of k })
 accumulator-place k v h = get-whole k (throughout k X) (spans_of X (entries_of k) (entries_of k)) v (let b = length-map k.vars accumulating_of in omega (arith, b))
 
 -- a value is made at an item of the kernel
@@ -67,7 +67,7 @@ from_of (Some i) = i.from
 
 values-within : (all es : List Entry) (b m : ℕ) (s : Interval) → Numbered b es → slice_get (spans_of X all es) m ≡ Some s → s.from < b + length es
 values-within all [] b m s n e = absurd cc
-values-within all (x ∷ es) b m s n e = by (until_in X all x) m e (λ i g. let h = values-within all es (suc b) i s n.1 g in omega (arith, h))
+values-within all (x ∷ es) b m s n e = by (last_use_in X all x) m e (λ i g. let h = values-within all es (suc b) i s n.1 g in omega (arith, h))
   where
     by : (o : Option ℕ) (m : ℕ) → slice_get (cons_option (span x.item o) (spans_of X all es)) m ≡ Some s → ((i : ℕ) → slice_get (spans_of X all es) i ≡ Some s → s.from < b + length (x ∷ es)) → s.from < b + length (x ∷ es)
     by None m e rest = rest m e
@@ -91,7 +91,7 @@ chosen_of k a f =
 pub record AccumulatorsChosen (k : Program) (R : ℕ → ℕ) : Type 0 where
   pub below : (v : ℕ) → v < length k.vars → R v < 15
   pub apart : (v w : ℕ) → v ≢ w → v < length k.vars → w < length k.vars → R v ≢ R w
-  pub apart_value : (v m : ℕ) (s : Interval) → v < length k.vars → slice_get (spans_of X (entries_of k) (entries_of k)) m ≡ Some s → s.from < s.until → R v ≢ R (length k.vars + m)
+  pub apart_value : (v m : ℕ) (s : Interval) → v < length k.vars → slice_get (spans_of X (entries_of k) (entries_of k)) m ≡ Some s → s.from < s.last_use → R v ≢ R (length k.vars + m)
 
 pub accumulators_of : (k : Program) (R : ℕ → ℕ) → ChosenAll k R → AccumulatorsChosen k R
 accumulators_of k R c = record {

@@ -15,7 +15,7 @@ use Rattle.scalar_emit.specs.Words.{filler, has_ones, start_code, half_word, wor
 use Rattle.scalar_emit.proofs.States.{wrote, wrote_same, wrote_other, wrote_sized, wrote_shaped, Frame, frame_of, Assigned, Kept}
 use Rattle.scalar_emit.proofs.Pieces.{Gets}
 
--- labels behind a constant
+-- labels after a constant
 module _ (D : Laid) where
   pub word_back : (o : Option Listed) (rest : List Entry) → Resolves D (word_code o rest) → Resolves D rest
   word_back None rest h = h

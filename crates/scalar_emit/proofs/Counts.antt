@@ -13,16 +13,17 @@ use Rattle.kernel_tree.specs.Items.{index_size, term_size, action_size, block_si
 use Rattle.kernel_tree.specs.Wrap.{is_signed}
 use Rattle.kernel_tree.specs.Typing.{Scope, lookup, own, first, element_type, accumulator_type, index_type, side_type, after_action, after_block, left, in_loop, after_turns, param_scope, var_scope}
 use Rattle.kernel_meaning.specs.Operators.{word, wrapped, operator_of}
+use Rattle.kernel_meaning.specs.TypeValues.{unary_leaves, binary_leaves, shift_leaves}
 use Rattle.loop_form.specs.Entries.{loop_start, loop_end}
 use Rattle.machine_model.specs.InstructionTable.{Listed}
 use Rattle.label_fix.specs.DraftRun.{Entry, Put, Branch, Place}
 use Rattle.label_fix.specs.Finished.{size}
-use Rattle.scalar_emit.specs.Layout.{Layout, Homes, reg_of, until_of}
-use Rattle.scalar_emit.specs.Words.{copy_word, filler, start_code, has_ones, half_word, filled_code, halves_code, const_code, extend_word, settle_word, index_word, word_code, load_code, store_code, binary_code, unary_code, abs_code, shift_code}
+use Rattle.scalar_emit.specs.Layout.{Layout, Homes, reg_of, last_use_at, home}
+use Rattle.scalar_emit.specs.Words.{copy_word, filler, start_code, has_ones, half_word, filled_code, halves_code, const_code, cast_word, settle_word, index_word, word_code, load_code, store_code, operation_code, binary_code, unary_code, abs_code, shift_code}
 use Rattle.scalar_emit.specs.Code.{labels, at_type, number_code, value_code, truth}
 use Rattle.scalar_emit.specs.Statements.{after_homes, block_labels, put_code, action_code, block_code, otherwise_code}
 use Rattle.scalar_emit.specs.Loop.{answer_code, with_index, loop_code}
-use Rattle.scalar_emit.specs.Kernel.{argument_code, arguments_code, after_var, var_home, vars_code, zero_index, layout_of_kernel, param_homes, kernel_homes, begin_code, turns_code, scalar_code}
+use Rattle.scalar_emit.specs.Kernel.{counted_x, argument_code, arguments_code, after_var, var_home, vars_code, zero_index, layout_of_kernel, param_homes, kernel_homes, begin_code, turns_code, scalar_code}
 use Rattle.scalar_emit.proofs.Emission.{index_after, param_index, var_index}
 
 -- ---- the words of one item, before at most k others
@@ -34,30 +35,41 @@ pub one_word : (o : Option Listed) (rest : List Entry) (k : ℕ) → size rest �
 one_word None rest k h = omega (arith, h)
 one_word (Some i) rest k h = omega (arith, h)
 
+operation_words : (op : BinaryOp) (signed : Bool) (d a c : ℕ) (rest : List Entry) (k : ℕ) → size rest ≤ k → size (operation_code op signed d a c rest) ≤ 2 + k
+operation_words binary.Add signed d a c rest k h = omega (arith, h)
+operation_words binary.Sub signed d a c rest k h = omega (arith, h)
+operation_words binary.Mul signed d a c rest k h = omega (arith, h)
+operation_words binary.And signed d a c rest k h = omega (arith, h)
+operation_words binary.Or signed d a c rest k h = omega (arith, h)
+operation_words binary.Xor signed d a c rest k h = omega (arith, h)
+operation_words binary.Min signed d a c rest k h = omega (arith, h)
+operation_words binary.Max signed d a c rest k h = omega (arith, h)
+
+-- the words of an operator at a type
+pub operator_words : (op : BinaryOp) (t : Ty) (d a c : ℕ) (rest : List Entry) (k : ℕ) → size rest ≤ k → size (binary_code op t d a c rest) ≤ 3 + k
+operator_words op t d a c rest k h = within (omega arith) (operation_words op (is_signed t) d a c _ (1 + k) (one_word (settle_word (binary_leaves op) t d) rest k h))
+
 binary_words : (want : Option Ty) (op : BinaryOp) (d a c : ℕ) (rest : List Entry) (k : ℕ) → size rest ≤ k → size (at_type want (λ t. binary_code op t d a c rest) rest) ≤ 3 + k
 binary_words None op d a c rest k h = omega (arith, h)
-binary_words (Some t) binary.Add d a c rest k h = let w = one_word (settle_word t d) rest k h in omega (arith, w)
-binary_words (Some t) binary.Sub d a c rest k h = let w = one_word (settle_word t d) rest k h in omega (arith, w)
-binary_words (Some t) binary.Mul d a c rest k h = let w = one_word (settle_word t d) rest k h in omega (arith, w)
-binary_words (Some t) binary.And d a c rest k h = let w = one_word (settle_word t d) rest k h in omega (arith, w)
-binary_words (Some t) binary.Or d a c rest k h = let w = one_word (settle_word t d) rest k h in omega (arith, w)
-binary_words (Some t) binary.Xor d a c rest k h = let w = one_word (settle_word t d) rest k h in omega (arith, w)
-binary_words (Some t) binary.Min d a c rest k h = let w = one_word (settle_word t d) rest k h in omega (arith, w)
-binary_words (Some t) binary.Max d a c rest k h = let w = one_word (settle_word t d) rest k h in omega (arith, w)
+binary_words (Some t) op d a c rest k h = operator_words op t d a c rest k h
 
 abs_words : (b : Bool) (t : Ty) (d a : ℕ) (rest : List Entry) (k : ℕ) → size rest ≤ k → size (abs_code b t d a rest) ≤ 3 + k
-abs_words true t d a rest k h = let w = one_word (settle_word t d) rest k h in omega (arith, w)
-abs_words false t d a rest k h = let w = one_word (extend_word t d a) rest k h in omega (arith, w)
+abs_words true t d a rest k h = let w = one_word (settle_word true t d) rest k h in omega (arith, w)
+abs_words false t d a rest k h = let w = one_word (copy_word d a) rest k h in omega (arith, w)
+
+cast_words : (from : Option Ty) (t : Ty) (d a : ℕ) (rest : List Entry) (k : ℕ) → size rest ≤ k → size (at_type from (λ u. word_code (cast_word u t d a) rest) rest) ≤ 1 + k
+cast_words None t d a rest k h = omega (arith, h)
+cast_words (Some u) t d a rest k h = one_word (cast_word u t d a) rest k h
 
 unary_words : (want : Option Ty) (op : UnaryOp) (d a : ℕ) (rest : List Entry) (k : ℕ) → size rest ≤ k → size (at_type want (λ t. unary_code op t d a rest) rest) ≤ 3 + k
 unary_words None op d a rest k h = omega (arith, h)
-unary_words (Some t) unary.Neg d a rest k h = let w = one_word (settle_word t d) rest k h in omega (arith, w)
-unary_words (Some t) unary.Flip d a rest k h = let w = one_word (settle_word t d) rest k h in omega (arith, w)
+unary_words (Some t) unary.Neg d a rest k h = let w = one_word (settle_word (unary_leaves unary.Neg t) t d) rest k h in omega (arith, w)
+unary_words (Some t) unary.Flip d a rest k h = let w = one_word (settle_word (unary_leaves unary.Flip t) t d) rest k h in omega (arith, w)
 unary_words (Some t) unary.Abs d a rest k h = abs_words (is_signed t) t d a rest k h
 
 shift_words : (want : Option Ty) (left : Bool) (n : ℤ) (d a : ℕ) (rest : List Entry) (k : ℕ) → size rest ≤ k → size (at_type want (λ t. shift_code left n t d a rest) rest) ≤ 2 + k
 shift_words None left n d a rest k h = omega (arith, h)
-shift_words (Some t) left n d a rest k h = let w = one_word (settle_word t d) rest k h in omega (arith, w)
+shift_words (Some t) left n d a rest k h = let w = one_word (settle_word (shift_leaves left) t d) rest k h in omega (arith, w)
 
 start_words : (o : Bool) (d h p : ℕ) (rest : List Entry) (k : ℕ) → size rest ≤ k → size (start_code o d h p rest) ≤ 1 + k
 start_words true d h p rest k e = omega (arith, e)
@@ -98,7 +110,7 @@ put_words None t from p rest k h = omega (arith, h)
 put_words (Some c) t from p rest k h = within (omega arith) (one_word (index_word c) _ _ (store_words t from p _ rest k h))
 
 argument_words : (x : Shape) (n : ℕ) (rest : List Entry) (k : ℕ) → size rest ≤ k → size (argument_code x n rest) ≤ 1 + k
-argument_words (shape.Scalar t) n rest k h = omega (arith, h)
+argument_words (shape.Scalar t) n rest k h = one_word (settle_word true t n) rest k h
 argument_words (shape.Array t) n rest k h = omega (arith, h)
 
 arguments_words : (n : ℕ) (ps : List Parameter) (rest : List Entry) (k : ℕ) → size rest ≤ k → size (arguments_code n ps rest) ≤ length ps + k
@@ -120,7 +132,7 @@ module _ (L : Layout) (hs : Homes) where
     value_words (Unary op x) s want b n rest k h = within (omega arith) (value_words x s want b n _ _ (unary_words want op _ _ rest k h))
     value_words (Operation op x y) s want b n rest k h = within (omega arith) (value_words x s want b n _ _ (value_words y s want _ _ _ _ (binary_words want op _ _ _ rest k h)))
     value_words (Shift left x z) s want b n rest k h = within (omega arith) (value_words x s want b n _ _ (shift_words want left z _ _ rest k h))
-    value_words (Conversion x t) s want b n rest k h = within (omega arith) (value_words x s (own s x) b n _ _ (one_word (extend_word t _ _) rest k h))
+    value_words (Conversion x t) s want b n rest k h = within (omega arith) (value_words x s (own s x) b n _ _ (cast_words (own s x) t _ _ rest k h))
     value_words (Choice c x y) s want b n rest k h = within (omega arith) (value_words x s want b n _ _ (value_words y s want _ _ _ _ (truth_words c s _ _ _ _ (one_more (one_more h)))))
     value_words (Comparison op x y) s want b n rest k h = omega (arith, h)
     value_words (Both x y) s want b n rest k h = omega (arith, h)
@@ -151,7 +163,7 @@ module _ (L : Layout) where
     action_words : (a : Action) (hs : Homes) (s : Scope) (exit b n : ℕ) (rest : List Entry) (k : ℕ) → size rest ≤ k → size (action_code L hs s exit b n a rest) ≤ 4 * action_size s.index a + k
     action_words (Define x t e) hs s exit b n rest k h =
         let q = b + term_size s.index e in
-        within (omega arith) (value_words L hs e s (first t (own s e)) b n _ _ (let_words (nat_lt q (until_of L q)) _ _ rest k h))
+        within (omega arith) (value_words L hs e s (first t (own s e)) b n _ _ (let_words (nat_lt q (last_use_at L q)) _ _ rest k h))
     action_words (PutTo a i e) hs s exit b n rest k h = within (omega arith) (value_words L hs e s _ b n _ _ (put_words (stream_offset s.index i) _ _ _ rest k h))
     action_words (Update x op e) hs s exit b n rest k h =
         within (omega arith) (value_words L hs e s _ b n _ _ (binary_words (option_and_then accumulator_type (lookup s x)) (operator_of op) _ _ _ rest k h))
@@ -173,7 +185,7 @@ module _ (L : Layout) where
 
   answer_words : (hs : Homes) (s : Scope) (b n : ℕ) (o : Option Returned) (rest : List Entry) (k : ℕ) → size rest ≤ k → size (answer_code L hs s b n o rest) ≤ 4 * answer_size s.index o + 3 + k
   answer_words hs s b n None rest k h = omega (arith, h)
-  answer_words hs s b n (Some a) rest k h = within (omega arith) (value_words L hs a.value s (Some a.type) b n _ _ (one_more (one_more (one_more h))))
+  answer_words hs s b n (Some a) rest k h = within (omega arith) (value_words L hs a.value s (Some a.type) b n _ _ (one_word (copy_word 0 (home L hs s.index b a.value)) _ _ (one_more (one_more h))))
 
   loop_words : (hs : Homes) (s : Scope) (t : Turns) (b n b2 : ℕ) (o : Option Returned) (rest : List Entry) (k : ℕ) → size rest ≤ k → size (loop_code L hs s t b n b2 o rest) ≤ 4 * (1 + block_size s.index t.body) + 4 * answer_size s.index o + 3 + k
   loop_words hs s t b n b2 o rest k h =
@@ -184,7 +196,7 @@ module _ (L : Layout) where
   vars_words : (R : ℕ → ℕ) (hs : Homes) (s : Scope) (j b n : ℕ) (vs : List Accumulator) (rest : List Entry) (k : ℕ) → size rest ≤ k → size (vars_code L R hs s j b n vs rest) ≤ 4 * vars_size s.index vs + k
   vars_words R hs s j b n [] rest k h = omega (arith, h)
   vars_words R hs s j b n (v ∷ vs) rest k h =
-      within (omega arith) (value_words L hs v.init s (Some v.type) b n _ _ (one_more (vars_words R (hs ++ var_home R j v ∷ []) (after_var s v) (j + 1) _ _ vs rest k h)))
+      within (omega arith) (value_words L hs v.init s (Some v.type) b n _ _ (one_word (copy_word (counted_x (R j)) (home L hs s.index b v.init)) _ _ (vars_words R (hs ++ var_home R j v ∷ []) (after_var s v) (j + 1) _ _ vs rest k h)))
 
 -- ---- kernels
 

@@ -12,7 +12,7 @@ use Rattle.scalar_emit.specs.Layout.{Layout, Homes}
 use Rattle.scalar_emit.specs.Statements.{block_homes, block_labels}
 use Rattle.scalar_emit.specs.Loop.{turn_code, leave_code}
 use Rattle.scalar_emit.specs.Kernel.{layout_of_kernel, param_homes, arguments_code, kernel_homes, vars_code, zero_index, begin_code, straight_code, turns_code, scalar_code}
-use Rattle.scalar_emit.specs.Views.{home_of, homes_of}
+use Rattle.scalar_emit.specs.View.{home_of, homes_of}
 use Rattle.scalar_emit.proofs.StmtRuns.{homes_block}
 
 index_defined : (s : Scope) (x : List ℕ) (o : Option Ty) → (defined s x o).index ≡ s.index
@@ -26,7 +26,7 @@ index_after s (Update x op e) = refl
 index_after s (Choose c b d) = refl
 index_after s (Leave c) = refl
 
--- ---- behind a block
+-- ---- after a block
 
 take_map : (n : ℕ) (hs : List Kept) → homes_of (take n hs) ≡ take n (homes_of hs)
 take_map zero hs = refl

@@ -6,9 +6,9 @@ use Rattle.kernel_tree.specs.declared.ops.BinaryOp.TheVariants as binary
 use Rattle.kernel_tree.specs.declared.ops.CompareOp.TheVariants as compare
 use Rattle.kernel_tree.specs.declared.ast.Shape.TheVariants as shape
 use Rattle.kernel_tree.specs.Plain.{Literal, Variable, Element, Operation, Comparison, Define, Put, Choose, Leave, Block, Done, Then, Else, Program}
-use Rattle.a64_code.specs.Table.{add_imm, sub_imm, subs, movz, ubfm, csinc, ldrsb_register, strb_register, svc}
+use Rattle.a64_code.specs.Table.{add_imm, sub_imm, subs, movz, csinc, ldrsb_register, strb_register, svc}
 use Rattle.loop_form.specs.Entries.{item_type}
-use Rattle.loop_form.specs.Listing.{last_use}
+use Rattle.loop_form.specs.Listing.{last_use_from}
 use Rattle.label_fix.specs.DraftRun.{Branch, Place, Always, If, Zero, NotZero}
 use Rattle.scalar_emit.specs.Words.{ins}
 use Rattle.scalar_emit.specs.Kernel.{begin_code, begin_labels, scalar_code, scalar_labels}
@@ -49,8 +49,8 @@ worked = record {
 abbrev registers : ℕ → ℕ
 registers j = slice_index (0 ∷ 1 ∷ 0 ∷ 1 ∷ 0 ∷ 0 ∷ 0 ∷ []) j
 
-worked-begins : begin_code registers worked 0 [] ≡ ins ubfm (1 ∷ 1 ∷ 63 ∷ 0 ∷ []) ∷ ins movz (9 ∷ 0 ∷ 0 ∷ []) ∷ []
-unfolding item_type last_use
+worked-begins : begin_code registers worked 0 [] ≡ ins movz (9 ∷ 0 ∷ 0 ∷ []) ∷ []
+unfolding item_type last_use_from
 worked-begins = refl
 
 worked-loops : scalar_code registers worked 0 [] ≡
@@ -83,7 +83,7 @@ worked-loops : scalar_code registers worked 0 [] ≡
     ∷ ins movz (8 ∷ 93 ∷ 0 ∷ [])
     ∷ ins svc (0 ∷ [])
     ∷ []
-unfolding item_type last_use
+unfolding item_type last_use_from
 worked-loops = refl
 
 worked-labels : (begin_labels worked ≡ 0) × (scalar_labels worked ≡ 4)

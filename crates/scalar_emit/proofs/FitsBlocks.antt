@@ -10,8 +10,8 @@ use Rattle.kernel_tree.specs.Plain.{Term, Literal, Variable, Element, Unary, Ope
 use Rattle.kernel_tree.specs.Items.{term_size, index_items, stream_offset, action_size, block_size, otherwise_size, loop_index}
 use Rattle.kernel_tree.specs.Typing.{Scope, Local, local, Role, Value, Condition, wanted, lookup, own, first, element_type, accumulator_type, index_type, side_type, insert_name, defined, left, after_action, after_block, after_otherwise, faults, as_value, name_faults, typed_faults, read_faults, inner_faults, kind_faults, target_faults, stream_faults, update_faults, twice, action_faults, block_faults, otherwise_faults}
 use Rattle.loop_form.specs.Entries.{Entry, inner_entries, term_entries, action_entries, block_entries, otherwise_entries}
-use Rattle.loop_form.specs.Listing.{last_use}
-use Rattle.scalar_emit.specs.Layout.{Layout, Home, Homes, is_home, register_of, until_of, register_at, LastsAt, NameLasts}
+use Rattle.loop_form.specs.Listing.{last_use_from}
+use Rattle.scalar_emit.specs.Layout.{Layout, Home, Homes, is_home, register_of, last_use_at, register_at, LastsAt, NameLasts}
 use Rattle.scalar_emit.specs.Fits.{Fits, FitsTruth, IndexAt, IsSome}
 use Rattle.scalar_emit.specs.Statements.{let_home, defined_homes, after_homes, FitsPut, FitsAction, FitsBlock, FitsOtherwise}
 use Rattle.scalar_emit.proofs.AssignedOf.{counted-low}
@@ -217,8 +217,8 @@ module _ (k : Program) (R : ℕ → ℕ) (L : Layout) (all : List Entry) where
       let w = some_of want (no_untyped q want (nil-right (twice q S x) _ (nil-right (faults S b (Value want) e) _ f))) in
       let T = w.0 in
       let es = term_entries k b q e in
-      let at : until_of L q ≡ last_use x q all = drop_head L.untils q _ _ (sits_second all L.untils es _ b q (term_size i e) rest (term_stretch k e b q).many refl h) in
-      let new : LetHome L all (b + (term_size i e + 1)) (let_home L q x) = record { item = q; before = omega arith; register' = refl; until' = refl; from = q; last = at } in
+      let at : last_use_at L q ≡ last_use_from x q all = drop_head L.untils q _ _ (sits_second all L.untils es _ b q (term_size i e) rest (term_stretch k e b q).many refl h) in
+      let new : LetHome L all (b + (term_size i e + 1)) (let_home L q x) = record { item = q; before = omega arith; register' = refl; last_use' = refl; from = q; last = at } in
       record {
         visible = v ++ local x (binding.Value T) ∷ [];
         taken = insert_name tk x;
@@ -285,8 +285,8 @@ module _ (k : Program) (R : ℕ → ℕ) (L : Layout) (all : List Entry) where
         var_lasts (binding.Array t) T e2 at = absurd cc
         var_lasts (binding.Accumulator t) T e2 at = subst (λ o. LastsAt o (b + term_size i e)) (sym at.is) (steady at.home at.what.0)
           where
-            steady : (h : Home) → h.until ≡ None → LastsAt (Some h) (b + term_size i e)
-            steady h u = subst (λ o. LastsAt (Some (record { name = h.name; register = h.register; until = o })) (b + term_size i e)) (sym u) tt
+            steady : (h : Home) → h.last_use ≡ None → LastsAt (Some h) (b + term_size i e)
+            steady h u = subst (λ o. LastsAt (Some (record { name = h.name; register = h.register; last_use = o })) (b + term_size i e)) (sym u) tt
         var_lasts (binding.Value t) T e2 at = absurd cc
         var_lasts binding.Index T e2 at = absurd cc
 

@@ -8,7 +8,7 @@ use Rattle.kernel_tree.specs.Plain.{Literal, Variable, Element, Conversion, Defi
 use Rattle.reg_assign.specs.declared.interval.RegClass.TheVariants.{X}
 use Rattle.reg_assign.specs.declared.interval.Interval.{Interval}
 use Rattle.loop_form.specs.Entries.{item_type}
-use Rattle.loop_form.specs.Listing.{last_use}
+use Rattle.loop_form.specs.Listing.{last_use_from}
 use Rattle.loop_form.specs.Needs.{intervals}
 use Rattle.scalar_emit.specs.Kernel.{layout_of_kernel, kernel_homes}
 use Rattle.scalar_emit.specs.KernelFits.{IsInterval, IsNeeded, AreChosen, IsBound, KernelFits}
@@ -44,8 +44,8 @@ total = record {
 }
 
 -- Its items: 0 a, 1 n, 2 the literal, 3 var, 4 for, 5 the read, 6 let, 7 the name x, 8 as, 9 +=, 10 the name s, 11 return.
-total-intervals : intervals total X ≡ record { from = 0; until = 12 } ∷ record { from = 2; until = 3 } ∷ record { from = 5; until = 6 } ∷ record { from = 6; until = 8 } ∷ record { from = 8; until = 9 } ∷ []
-unfolding item_type last_use
+total-intervals : intervals total X ≡ record { from = 0; last_use = 12 } ∷ record { from = 2; last_use = 3 } ∷ record { from = 5; last_use = 6 } ∷ record { from = 6; last_use = 8 } ∷ record { from = 8; last_use = 9 } ∷ []
+unfolding item_type last_use_from
 total-intervals = refl
 
 -- the accumulator is in the first of the counted registers, and each item's value in the second
@@ -56,10 +56,10 @@ total-layout : layout_of_kernel total_registers total ≡ record {
   regs = 0 ∷ 0 ∷ 11 ∷ 0 ∷ 0 ∷ 11 ∷ 11 ∷ 0 ∷ 11 ∷ 0 ∷ 0 ∷ 0 ∷ [];
   untils = 0 ∷ 0 ∷ 3 ∷ 0 ∷ 0 ∷ 6 ∷ 8 ∷ 0 ∷ 9 ∷ 0 ∷ 0 ∷ 0 ∷ [];
 }
-unfolding item_type last_use
+unfolding item_type last_use_from
 total-layout = refl
 
-total-homes : kernel_homes total_registers total ≡ record { name = a; register = 0; until = None } ∷ record { name = n; register = 1; until = None } ∷ record { name = s; register = 10; until = None } ∷ []
+total-homes : kernel_homes total_registers total ≡ record { name = a; register = 0; last_use = None } ∷ record { name = n; register = 1; last_use = None } ∷ record { name = s; register = 10; last_use = None } ∷ []
 total-homes = refl
 
 total-bound : IsBound total_registers total adding
@@ -75,15 +75,15 @@ seven = record {
   answer = Some (record { type = ty.U64; value = Variable s });
 }
 
-seven-intervals : intervals seven X ≡ record { from = 0; until = 4 } ∷ record { from = 0; until = 1 } ∷ []
-unfolding item_type last_use
+seven-intervals : intervals seven X ≡ record { from = 0; last_use = 4 } ∷ record { from = 0; last_use = 1 } ∷ []
+unfolding item_type last_use_from
 seven-intervals = refl
 
 abbrev seven_registers : ℕ → ℕ
 seven_registers j = slice_index (3 ∷ 5 ∷ []) j
 
 seven-chosen : AreChosen seven_registers seven
-unfolding item_type last_use
+unfolding item_type last_use_from
 seven-chosen = record { below = below; apart = apart }
   where
     below : (m : ℕ) (t : Interval) → IsInterval seven m t → seven_registers m < 15

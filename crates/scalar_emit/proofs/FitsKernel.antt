@@ -19,7 +19,7 @@ use Rattle.scalar_emit.specs.Layout.{Layout, Home, Homes, is_home, register_of, 
 use Rattle.scalar_emit.specs.Fits.{IndexAt}
 use Rattle.scalar_emit.specs.Statements.{Others}
 use Rattle.scalar_emit.specs.Loop.{index_home, with_index, FitsAnswer, FitsLoop}
-use Rattle.scalar_emit.specs.Kernel.{counted_x, x_until, layout_of_kernel, param_homes, var_home, var_homes, kernel_homes, FitsVars}
+use Rattle.scalar_emit.specs.Kernel.{counted_x, x_last_use, layout_of_kernel, param_homes, var_home, var_homes, kernel_homes, FitsVars}
 use Rattle.scalar_emit.specs.Safe.{AreSteady}
 use Rattle.scalar_emit.specs.KernelFits.{AreChosen, AreSafeVars, IsBound, KernelFits}
 use Rattle.scalar_emit.proofs.AssignedOf.{counted-low}
@@ -220,16 +220,16 @@ numbers_params : (j : ℕ) (ps : List Parameter) → numbers j (locals_of ps) �
 numbers_params j [] = refl
 numbers_params j (p ∷ ps) = ap (λ n. numbers n (locals_of ps)) (next_shape j p.shape) ∙ numbers_params j ps
 
-map_untils : (entries es : List Entry) → map (x_until entries) es ≡ untils entries es []
+map_untils : (entries es : List Entry) → map (x_last_use entries) es ≡ untils entries es []
 map_untils entries [] = refl
-map_untils entries (e ∷ es) = ap (λ l. x_until entries e ∷ l) (map_untils entries es)
+map_untils entries (e ∷ es) = ap (λ l. x_last_use entries e ∷ l) (map_untils entries es)
 
 drop_none : (xs : List ℕ) → drop 0 xs ≡ xs
 drop_none [] = refl
 drop_none (x ∷ xs) = refl
 
 module _ (R : ℕ → ℕ) (k : Program) (L : Layout) (all : List Entry) where
-  param_is : (b j n : ℕ) (x : List ℕ) (s : Shape) → IsParam k n x s → HomeIs k R L all b j (binding_of_shape s) (record { name = x; register = n; until = None })
+  param_is : (b j n : ℕ) (x : List ℕ) (s : Shape) → IsParam k n x s → HomeIs k R L all b j (binding_of_shape s) (record { name = x; register = n; last_use = None })
   param_is b j n x (shape.Scalar t) e = (refl, e)
   param_is b j n x (shape.Array t) e = (refl, e)
 
@@ -329,8 +329,8 @@ module _ (R : ℕ → ℕ) (k : Program) (L : Layout) (all : List Entry) where
           ap (slice_get k.params) reg ∙ param ∙ ap (λ x. Some (record { name = x; shape = shape.Scalar U64 })) at.named,
         )
       where
-        steady_at : (h : Home) (p : ℕ) → h.until ≡ None → LastsAt (Some h) p
-        steady_at h p u = subst (λ o. LastsAt (Some (record { name = h.name; register = h.register; until = o })) p) (sym u) tt
+        steady_at : (h : Home) (p : ℕ) → h.last_use ≡ None → LastsAt (Some h) p
+        steady_at h p u = subst (λ o. LastsAt (Some (record { name = h.name; register = h.register; last_use = o })) p) (sym u) tt
 
 -- ---- the kernel
 
@@ -354,7 +354,7 @@ module _ (R : ℕ → ℕ) (k : Program) (checked : check_fault k ≡ None) (few
   xs = answer_entries k (loop_end k) k.answer
 
   abbrev us : List ℕ
-  us = map (x_until (entries_of k)) (entries_of k)
+  us = map (x_last_use (entries_of k)) (entries_of k)
 
   at_vars : Sits us (length k.params) (untils all (vs ++ (ls ++ xs)) [])
   at_vars = sits_second all us ps (vs ++ (ls ++ xs)) 0 (length k.params) (length k.params) [] (params_stretch k k.params 0).many (omega arith) (drop_none us ∙ map_untils all all)

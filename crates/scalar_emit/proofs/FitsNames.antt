@@ -13,8 +13,8 @@ use Rattle.kernel_tree.specs.declared.fault.Binding.TheVariants as binding
 use Rattle.kernel_tree.specs.Plain.{Program}
 use Rattle.kernel_tree.specs.Typing.{Local, has_name, binding_of, element_type, accumulator_type}
 use Rattle.loop_form.specs.Entries.{Entry}
-use Rattle.loop_form.specs.Listing.{names, last_use}
-use Rattle.scalar_emit.specs.Layout.{Layout, Home, Homes, is_home, register_of, reg_of, until_of, IsMade, register_at, Lasts, LastsAt, NameLasts}
+use Rattle.loop_form.specs.Listing.{names, last_use_from}
+use Rattle.scalar_emit.specs.Layout.{Layout, Home, Homes, is_home, register_of, reg_of, last_use_at, IsMade, register_at, Lasts, LastsAt, NameLasts}
 use Rattle.scalar_emit.specs.Statements.{Others, OnlyIf, Only}
 use Rattle.scalar_emit.specs.Kernel.{counted_x}
 use Rattle.scalar_emit.proofs.States.{Assigned, IsSafe, AreSafe}
@@ -30,7 +30,7 @@ bytes_told x y h = grind (arith, bytes_eq-Decides)
 
 -- the user of a name item is at most the last use of the name, whatever that began with
 abbrev pub IsUseCounted : List Entry → Entry → Type 0
-IsUseCounted all e = (x : List ℕ) (last : ℕ) → names x e ≡ true → e.until ≤ last_use x last all
+IsUseCounted all e = (x : List ℕ) (last : ℕ) → names x e ≡ true → e.last_use ≤ last_use_from x last all
 
 abbrev pub AreUsesCounted : List Entry → List Entry → Type 0
 AreUsesCounted all [] = Unit {0}
@@ -44,27 +44,27 @@ pub counted_right : (all xs ys : List Entry) → AreUsesCounted all (xs ++ ys) �
 counted_right all [] ys h = h
 counted_right all (x ∷ xs) ys h = counted_right all xs ys h.1
 
-last_step : (last until : ℕ) (b : Bool) (x : List ℕ) (es : List Entry) → last ≤ last_use x last es → max last until ≤ last_use x (max last until) es → last ≤ last_use x (if b then max last until else last) es
-last_step last until true x es h k = let q = le-max_left last until in omega (arith, k, q)
-last_step last until false x es h k = h
+last_step : (last last_use : ℕ) (b : Bool) (x : List ℕ) (es : List Entry) → last ≤ last_use_from x last es → max last last_use ≤ last_use_from x (max last last_use) es → last ≤ last_use_from x (if b then max last last_use else last) es
+last_step last last_use true x es h k = let q = le-max_left last last_use in omega (arith, k, q)
+last_step last last_use false x es h k = h
 
-pub last_from : (x : List ℕ) (last : ℕ) (es : List Entry) → last ≤ last_use x last es
-unfolding last_use
+pub last_from : (x : List ℕ) (last : ℕ) (es : List Entry) → last ≤ last_use_from x last es
+unfolding last_use_from
 last_from x last [] = omega arith
-last_from x last (e ∷ es) = last_step last e.until (names x e) x es (last_from x last es) (last_from x (max last e.until) es)
+last_from x last (e ∷ es) = last_step last e.last_use (names x e) x es (last_from x last es) (last_from x (max last e.last_use) es)
 
 first_counted : (e : Entry) (es : List Entry) → IsUseCounted (e ∷ es) e
-unfolding last_use
+unfolding last_use_from
 first_counted e es x last is =
-    let p = last_from x (max last e.until) es in
-    let q = le-max_right last e.until in
-    let r : last_use x last (e ∷ es) ≡ last_use x (max last e.until) es = ap (λ b. last_use x (if b then max last e.until else last) es) is in
+    let p = last_from x (max last e.last_use) es in
+    let q = le-max_right last e.last_use in
+    let r : last_use_from x last (e ∷ es) ≡ last_use_from x (max last e.last_use) es = ap (λ b. last_use_from x (if b then max last e.last_use else last) es) is in
     omega (arith, p, q, r)
 
 more_counted : (e : Entry) (all es : List Entry) → AreUsesCounted all es → AreUsesCounted (e ∷ all) es
-unfolding last_use
+unfolding last_use_from
 more_counted e all [] h = tt
-more_counted e all (f ∷ es) h = ((λ x last is. h.0 x (if names x e then max last e.until else last) is), more_counted e all es h.1)
+more_counted e all (f ∷ es) h = ((λ x last is. h.0 x (if names x e then max last e.last_use else last) is), more_counted e all es h.1)
 
 pub all_counted : (all : List Entry) → AreUsesCounted all all
 all_counted [] = tt
@@ -81,9 +81,9 @@ pub record LetHome (L : Layout) (all : List Entry) (b : ℕ) (h : Home) : Type 0
   pub item : ℕ
   pub before : item < b
   pub register' : h.register ≡ reg_of L item
-  pub until' : h.until ≡ Some (until_of L item)
+  pub last_use' : h.last_use ≡ Some (last_use_at L item)
   pub from : ℕ
-  pub last : until_of L item ≡ last_use h.name from all
+  pub last : last_use_at L item ≡ last_use_from h.name from all
 
 -- the number of the next accumulator
 abbrev pub next_number : ℕ → Binding → ℕ
@@ -140,11 +140,11 @@ pub record Spread (R : ℕ → ℕ) (L : Layout) (accs : ℕ) : Type 0 where
 module _ (k : Program) (R : ℕ → ℕ) (L : Layout) (all : List Entry) where
   -- the home of a name before item b; as an accumulator it has number j
   abbrev pub HomeIs : ℕ → ℕ → Binding → Home → Type 0
-  HomeIs b j (binding.Scalar t) h = (h.until ≡ None) × IsParam k h.register h.name (shape.Scalar t)
-  HomeIs b j (binding.Array t) h = (h.until ≡ None) × IsParam k h.register h.name (shape.Array t)
-  HomeIs b j (binding.Accumulator t) h = (h.until ≡ None) × (h.register ≡ counted_x (R j)) × (j < length k.vars)
+  HomeIs b j (binding.Scalar t) h = (h.last_use ≡ None) × IsParam k h.register h.name (shape.Scalar t)
+  HomeIs b j (binding.Array t) h = (h.last_use ≡ None) × IsParam k h.register h.name (shape.Array t)
+  HomeIs b j (binding.Accumulator t) h = (h.last_use ≡ None) × (h.register ≡ counted_x (R j)) × (j < length k.vars)
   HomeIs b j (binding.Value t) h = LetHome L all b h
-  HomeIs b j binding.Index h = (h.until ≡ None) × (h.register ≡ 9)
+  HomeIs b j binding.Index h = (h.last_use ≡ None) × (h.register ≡ 9)
 
   abbrev pub AreHomes : ℕ → ℕ → List Local → Homes → Type 0
   AreHomes b j [] [] = Unit {0}
@@ -156,7 +156,7 @@ module _ (k : Program) (R : ℕ → ℕ) (L : Layout) (all : List Entry) where
   home_later b c j (binding.Scalar t) h le is = is
   home_later b c j (binding.Array t) h le is = is
   home_later b c j (binding.Accumulator t) h le is = is
-  home_later b c j (binding.Value t) h le is = let z = is.before in record { item = is.item; before = omega (arith, le, z); register' = is.register'; until' = is.until'; from = is.from; last = is.last }
+  home_later b c j (binding.Value t) h le is = let z = is.before in record { item = is.item; before = omega (arith, le, z); register' = is.register'; last_use' = is.last_use'; from = is.from; last = is.last }
   home_later b c j binding.Index h le is = is
 
   pub homes_later : (b c j : ℕ) (ls : List Local) (hs : Homes) → b ≤ c → AreHomes b j ls hs → AreHomes c j ls hs
@@ -200,21 +200,21 @@ module _ (k : Program) (R : ℕ → ℕ) (L : Layout) (all : List Entry) where
   steady_lasts : (o : Option ℕ) (u : ℕ) → o ≡ None → Lasts o u
   steady_lasts o u e = subst (λ q. Lasts q u) (sym e) tt
 
-  home_lasts : (b j u : ℕ) (bd : Binding) (h : Home) → HomeIs b j bd h → ((from : ℕ) → u ≤ last_use h.name from all) → Lasts h.until u
-  home_lasts b j u (binding.Scalar t) h is uses = steady_lasts h.until u is.0
-  home_lasts b j u (binding.Array t) h is uses = steady_lasts h.until u is.0
-  home_lasts b j u (binding.Accumulator t) h is uses = steady_lasts h.until u is.0
-  home_lasts b j u (binding.Value t) h is uses = let p = uses is.from in let q = is.last in subst (λ o. Lasts o u) (sym is.until') (omega (arith, p, q))
-  home_lasts b j u binding.Index h is uses = steady_lasts h.until u is.0
+  home_lasts : (b j u : ℕ) (bd : Binding) (h : Home) → HomeIs b j bd h → ((from : ℕ) → u ≤ last_use_from h.name from all) → Lasts h.last_use u
+  home_lasts b j u (binding.Scalar t) h is uses = steady_lasts h.last_use u is.0
+  home_lasts b j u (binding.Array t) h is uses = steady_lasts h.last_use u is.0
+  home_lasts b j u (binding.Accumulator t) h is uses = steady_lasts h.last_use u is.0
+  home_lasts b j u (binding.Value t) h is uses = let p = uses is.from in let q = is.last in subst (λ o. Lasts o u) (sym is.last_use') (omega (arith, p, q))
+  home_lasts b j u binding.Index h is uses = steady_lasts h.last_use u is.0
 
   -- a name lasts up to each of its users
-  pub name_lasts : (b u : ℕ) (hs : Homes) (x : List ℕ) (bd : Binding) → IsAt b hs x bd → ((from : ℕ) → u ≤ last_use x from all) → NameLasts hs x u
+  pub name_lasts : (b u : ℕ) (hs : Homes) (x : List ℕ) (bd : Binding) → IsAt b hs x bd → ((from : ℕ) → u ≤ last_use_from x from all) → NameLasts hs x u
   name_lasts b u hs x bd at uses =
-      subst (λ o. LastsAt o u) (sym at.is) (home_lasts b at.number u bd at.home at.what (λ from. subst (λ y. u ≤ last_use y from all) (sym at.named) (uses from)))
+      subst (λ o. LastsAt o u) (sym at.is) (home_lasts b at.number u bd at.home at.what (λ from. subst (λ y. u ≤ last_use_from y from all) (sym at.named) (uses from)))
 
-  array_home : (b j u : ℕ) (bd : Binding) (h : Home) (T : Ty) → element_type bd ≡ Some T → HomeIs b j bd h → Lasts h.until u
+  array_home : (b j u : ℕ) (bd : Binding) (h : Home) (T : Ty) → element_type bd ≡ Some T → HomeIs b j bd h → Lasts h.last_use u
   array_home b j u (binding.Scalar t) h T e is = absurd cc
-  array_home b j u (binding.Array t) h T e is = steady_lasts h.until u is.0
+  array_home b j u (binding.Array t) h T e is = steady_lasts h.last_use u is.0
   array_home b j u (binding.Accumulator t) h T e is = absurd cc
   array_home b j u (binding.Value t) h T e is = absurd cc
   array_home b j u binding.Index h T e is = absurd cc
@@ -232,12 +232,12 @@ module _ (k : Program) (R : ℕ → ℕ) (L : Layout) (all : List Entry) where
     param_low n x s e = let w = slice_get_within k.params n _ e in omega (arith, w, few)
 
     -- the register of a needed name is not that of an accumulator
-    home_apart : (b j n p : ℕ) (bd : Binding) (h : Home) → HomeIs b j bd h → IsOther j bd n → b ≤ p → n < length k.vars → Lasts h.until p → h.register ≢ counted_x (R n)
+    home_apart : (b j n p : ℕ) (bd : Binding) (h : Home) → HomeIs b j bd h → IsOther j bd n → b ≤ p → n < length k.vars → Lasts h.last_use p → h.register ≢ counted_x (R n)
     home_apart b j n p (binding.Scalar t) h is other le lt l e = absurd (let w = param_low h.register h.name (shape.Scalar t) is.1 in let c = counted-low (R n) in omega (arith, w, c, e))
     home_apart b j n p (binding.Array t) h is other le lt l e = absurd (let w = param_low h.register h.name (shape.Array t) is.1 in let c = counted-low (R n) in omega (arith, w, c, e))
     home_apart b j n p (binding.Accumulator t) h is other le lt l e = spread.differ j n is.2 lt other (sym is.1 ∙ e)
     home_apart b j n p (binding.Value t) h is other le lt l e =
-        let w : p ≤ until_of L is.item = subst (λ o. Lasts o p) is.until' l in
+        let w : p ≤ last_use_at L is.item = subst (λ o. Lasts o p) is.last_use' l in
         let z = is.before in
         spread.free n is.item lt (omega (arith, w, z, le)) (sym is.register' ∙ e)
     home_apart b j n p binding.Index h is other le lt l e = absurd (let r = is.1 in let c = counted-low (R n) in omega (arith, r, c, e))
@@ -334,8 +334,8 @@ module _ (k : Program) (R : ℕ → ℕ) (L : Layout) (all : List Entry) where
         let r = is.register' in
         let z = is.before in
         record {
-          high = λ l. let u : p ≤ until_of L is.item = subst (λ o. Lasts o p) is.until' l in let w = spread.fit.high is.item (omega (arith, u, z, le)) in omega (arith, w, r);
-          apart = λ q lo l made eq. let u : suc q ≤ until_of L is.item = subst (λ o. Lasts o (suc q)) is.until' l in spread.fit.apart q is.item (omega (arith, z, le, lo)) (omega (arith, u)) made (eq ∙ r);
+          high = λ l. let u : p ≤ last_use_at L is.item = subst (λ o. Lasts o p) is.last_use' l in let w = spread.fit.high is.item (omega (arith, u, z, le)) in omega (arith, w, r);
+          apart = λ q lo l made eq. let u : suc q ≤ last_use_at L is.item = subst (λ o. Lasts o (suc q)) is.last_use' l in spread.fit.apart q is.item (omega (arith, z, le, lo)) (omega (arith, u)) made (eq ∙ r);
         }
     home_safe b j p binding.Index h is le =
         let r = is.1 in

@@ -11,9 +11,9 @@ use Rattle.kernel_tree.specs.Items.{term_size, index_items, index_size, stream_o
 use Rattle.kernel_tree.specs.Limits.{most_offset}
 use Rattle.kernel_tree.specs.Typing.{Scope, Local, Value, Condition, lookup, own, first, element_type, value_type, index_type, side_type, number_of_type, faults, as_value, as_condition, name_faults, typed_faults, mismatch, read_type, read_faults, index_faults, inner_faults, offset_faults, untyped}
 use Rattle.loop_form.specs.Entries.{Content, IsLiteral, IsName, IsRead, IsLet, IsStore, IsUpdate, IsPlain, Entry, inner_entries, term_entries}
-use Rattle.scalar_emit.specs.Layout.{Layout, Homes, until_of, NameLasts}
+use Rattle.scalar_emit.specs.Layout.{Layout, Homes, last_use_at, NameLasts}
 use Rattle.scalar_emit.specs.Fits.{Fits, FitsTruth, FitsIndex, IndexAt, IsSmall, IsSome}
-use Rattle.scalar_emit.specs.Kernel.{x_until}
+use Rattle.scalar_emit.specs.Kernel.{x_last_use}
 
 pub nil-left : {A : Type 0} (xs ys : List A) → xs ++ ys ≡ [] → xs ≡ []
 nil-left [] ys e = refl
@@ -111,17 +111,17 @@ drop_next (x ∷ xs) (suc b) y ys e = drop_next xs b y ys e
 
 -- what is asked of the names of the items
 abbrev pub Used : Homes → Option (List ℕ) → Content → ℕ → ℕ → Type 0
-Used hs i (IsLiteral n) item until = Unit {0}
-Used hs i (IsName x) item until = NameLasts hs x until
-Used hs i (IsRead a e) item until = NameLasts hs a item × IndexAt hs i item
-Used hs i (IsLet x) item until = Unit {0}
-Used hs i (IsStore a e) item until = NameLasts hs a item × IndexAt hs i item
-Used hs i (IsUpdate x op) item until = NameLasts hs x item
-Used hs i (IsPlain k) item until = Unit {0}
+Used hs i (IsLiteral n) item last_use = Unit {0}
+Used hs i (IsName x) item last_use = NameLasts hs x last_use
+Used hs i (IsRead a e) item last_use = NameLasts hs a item × IndexAt hs i item
+Used hs i (IsLet x) item last_use = Unit {0}
+Used hs i (IsStore a e) item last_use = NameLasts hs a item × IndexAt hs i item
+Used hs i (IsUpdate x op) item last_use = NameLasts hs x item
+Used hs i (IsPlain k) item last_use = Unit {0}
 
 abbrev pub AreUsed : Homes → Option (List ℕ) → List Entry → Type 0
 AreUsed hs i [] = Unit {0}
-AreUsed hs i (e ∷ es) = Used hs i e.content e.item e.until × AreUsed hs i es
+AreUsed hs i (e ∷ es) = Used hs i e.content e.item e.last_use × AreUsed hs i es
 
 pub used_left : (hs : Homes) (i : Option (List ℕ)) (xs ys : List Entry) → AreUsed hs i (xs ++ ys) → AreUsed hs i xs
 used_left hs i [] ys h = tt
@@ -134,11 +134,11 @@ used_right hs i (x ∷ xs) ys h = used_right hs i xs ys h.1
 -- the last uses of some items before others
 abbrev pub untils : List Entry → List Entry → List ℕ → List ℕ
 untils all [] rest = rest
-untils all (e ∷ es) rest = x_until all e ∷ untils all es rest
+untils all (e ∷ es) rest = x_last_use all e ∷ untils all es rest
 
 pub untils_on : (all xs ys : List Entry) (rest : List ℕ) → untils all (xs ++ ys) rest ≡ untils all xs (untils all ys rest)
 untils_on all [] ys rest = refl
-untils_on all (x ∷ xs) ys rest = ap (λ l. x_until all x ∷ l) (untils_on all xs ys rest)
+untils_on all (x ∷ xs) ys rest = ap (λ l. x_last_use all x ∷ l) (untils_on all xs ys rest)
 
 module _ (k : Program) (L : Layout) (all : List Entry) (hs : Homes) (v : List Local) (tk : List (List ℕ)) (ins : Bool) where
   abbrev S : Scope
@@ -157,7 +157,7 @@ module _ (k : Program) (L : Layout) (all : List Entry) (hs : Homes) (v : List Lo
   inner_after (Some c) b n q es e rest f inner h = last_after b q _ rest (omega (arith, f)) h
   inner_after None b n q es e rest f inner h = last_after (b + n) q _ rest (omega (arith, f)) (inner _ (part b es (e ∷ []) rest h))
 
-  -- behind the items of an expression
+  -- after the items of an expression
   sits_after : (t : Term) (b user : ℕ) (rest : List ℕ) → Sits L.untils b (untils all (term_entries k b user t) rest) → Sits L.untils (b + term_size i t) rest
   sits_after (Literal n) b user rest h = last_after b (b + 1) _ rest refl h
   sits_after (Variable x) b user rest h = last_after b (b + 1) _ rest refl h
@@ -183,18 +183,18 @@ module _ (k : Program) (L : Layout) (all : List Entry) (hs : Homes) (v : List Lo
   sits_after (Not x) b user rest h = last_after (b + term_size i x) _ _ rest (omega arith) (sits_after x b _ _ (part b (term_entries k b _ x) _ rest h))
 
   -- a read, by its index
-  element_fits : (a : List ℕ) (j : Term) (T : Ty) (f b n user : ℕ) (rest : List ℕ) (o : Option ℤ) (fs : List Found) (A : Type 0) (es : List Entry) (e : Entry) → inner_faults o fs ≡ [] → index_faults f o (own S j) ≡ [] → Sits L.untils b (untils all (inner_entries o es ++ e ∷ []) rest) → AreUsed hs i (inner_entries o es ++ e ∷ []) → e.content ≡ IsRead a j → e.item ≡ b + index_size o n → x_until all e ≡ user
+  element_fits : (a : List ℕ) (j : Term) (T : Ty) (f b n user : ℕ) (rest : List ℕ) (o : Option ℤ) (fs : List Found) (A : Type 0) (es : List Entry) (e : Entry) → inner_faults o fs ≡ [] → index_faults f o (own S j) ≡ [] → Sits L.untils b (untils all (inner_entries o es ++ e ∷ []) rest) → AreUsed hs i (inner_entries o es ++ e ∷ []) → e.content ≡ IsRead a j → e.item ≡ b + index_size o n → x_last_use all e ≡ user
       → (fs ≡ [] → (rest : List ℕ) → Sits L.untils b (untils all es rest) → AreUsed hs i es → A × Sits L.untils (b + n) rest)
-      → FitsIndex o (IndexAt hs i (b + index_size o n)) A × NameLasts hs a (b + index_size o n) × (until_of L (b + index_size o n) ≡ user)
-  element_fits a j T f b n user rest (Some c) fs A es e e1 e2 h u content item until inner =
-      let w : Used hs i (IsRead a j) (b + 0) e.until = subst (λ p. Used hs i (IsRead a j) p e.until) item (subst (λ q. Used hs i q e.item e.until) content u.0) in
+      → FitsIndex o (IndexAt hs i (b + index_size o n)) A × NameLasts hs a (b + index_size o n) × (last_use_at L (b + index_size o n) ≡ user)
+  element_fits a j T f b n user rest (Some c) fs A es e e1 e2 h u content item last_use inner =
+      let w : Used hs i (IsRead a j) (b + 0) e.last_use = subst (λ p. Used hs i (IsRead a j) p e.last_use) item (subst (λ q. Used hs i q e.item e.last_use) content u.0) in
       let z : b ≡ b + 0 = omega arith in
-      ((no_offset f c e2, w.1), w.0, ap (until_of L) (sym z) ∙ drop_head L.untils b _ rest h ∙ until)
-  element_fits a j T f b n user rest None fs A es e e1 e2 h u content item until inner =
+      ((no_offset f c e2, w.1), w.0, ap (last_use_at L) (sym z) ∙ drop_head L.untils b _ rest h ∙ last_use)
+  element_fits a j T f b n user rest None fs A es e e1 e2 h u content item last_use inner =
       let r = inner e1 (untils all (e ∷ []) rest) (part b es (e ∷ []) rest h) (used_left hs i es (e ∷ []) u) in
       let u2 = used_right hs i es (e ∷ []) u in
-      let w : Used hs i (IsRead a j) (b + n) e.until = subst (λ p. Used hs i (IsRead a j) p e.until) item (subst (λ q. Used hs i q e.item e.until) content u2.0) in
-      (r.0, w.0, drop_head L.untils (b + n) _ rest r.1 ∙ until)
+      let w : Used hs i (IsRead a j) (b + n) e.last_use = subst (λ p. Used hs i (IsRead a j) p e.last_use) item (subst (λ q. Used hs i q e.item e.last_use) content u2.0) in
+      (r.0, w.0, drop_head L.untils (b + n) _ rest r.1 ∙ last_use)
 
   mutual
     pub value_fits : (t : Term) (T : Ty) (f b user : ℕ) (rest : List ℕ) → faults S f (Value (Some T)) t ≡ [] → Sits L.untils b (untils all (term_entries k b user t) rest) → AreUsed hs i (term_entries k b user t) → Fits L hs S (Some T) b user t

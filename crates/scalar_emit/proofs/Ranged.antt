@@ -8,7 +8,6 @@ use Rattle.kernel_tree.specs.declared.ops.UpdateOp.{UpdateOp}
 use Rattle.kernel_tree.specs.declared.fault.Binding.TheVariants as binding
 use Rattle.kernel_tree.specs.Plain.{Term, Action, Define, Put, Update, Choose, Leave, Block, Done, Then, Otherwise, Nothing, Else, Turns, Program}
 use Rattle.kernel_tree.specs.Items.{term_size, stream_offset}
-use Rattle.kernel_tree.specs.Wrap.{is_signed}
 use Rattle.kernel_tree.specs.Typing.{Scope, Local, local, lookup, own, first, element_type, accumulator_type, index_type, after_action, after_block, left, defined, in_loop, var_scope}
 use Rattle.kernel_meaning.specs.Operators.{word, binary_value, operator_of}
 use Rattle.kernel_meaning.specs.Eval.{Names, value_at, iteration, element_number, address, byte_count, value, holds}
@@ -18,14 +17,17 @@ use Rattle.loop_form.specs.Entries.{loop_start}
 use Rattle.scalar_emit.specs.Layout.{Layout, Homes}
 use Rattle.scalar_emit.specs.Kernel.{layout_of_kernel, kernel_homes}
 use Rattle.scalar_emit.specs.KernelFits.{KernelFits}
-use Rattle.scalar_emit.specs.Fits.{Fits, InRange, IsSome}
+use Rattle.scalar_emit.specs.Fits.{Fits, IsSome}
 use Rattle.scalar_emit.specs.Statements.{after_homes, FitsAction, FitsBlock, FitsOtherwise}
 use Rattle.scalar_emit.specs.Loop.{with_index}
 use Rattle.scalar_emit.specs.Runs.{AreRanged}
-use Rattle.scalar_emit.proofs.Ranges.{value-range, wrap-range}
+use Rattle.kernel_tree.specs.declared.ops.Ty.TheVariants.{U64}
+use Rattle.kernel_meaning.specs.TypeValues.{IsOf}
+use Rattle.kernel_meaning.proofs.TypeRanges.{is_of, wrap-is_of}
+use Rattle.scalar_emit.proofs.Ranges.{value-range}
 use Rattle.scalar_emit.proofs.StmtRuns.{Extends, extends_none, extends_one, extends_on, extends_length, visible_after, visible_block, ranged_more, ranged_length, ranged_cut, take_less, ranged_assigned, acc_value}
 
--- names that a statement leaves are in range: those that are visible behind it, and behind a `break` the outer ones
+-- names that a statement leaves are in range: those that are visible after it, and after a `break` the outer ones
 abbrev pub RangedTurn : List Local → List Local → Turn → Type 0
 RangedTurn outer ls (Next m names) = AreRanged ls names
 RangedTurn outer ls (Broke m names) = AreRanged outer (take (length outer) names)
@@ -53,7 +55,7 @@ put_ranged outer ls (Some t) base m names None x h = tt
 put_ranged outer ls (Some t) base m names (Some v) None h = tt
 put_ranged outer ls (Some t) base m names (Some v) (Some x) h = write_ranged outer ls m names (stored m (address t base x) (byte_count t) (word v)) h
 
-define_ranged : (outer : List Local) (s : Scope) (x : List ℕ) (want : Option Ty) (T : Ty) (m : Memory) (names : Names) (o : Option ℤ) → want ≡ Some T → AreRanged s.visible names → ((v : ℤ) → o ≡ Some v → InRange (is_signed T) v) → RangedTurn outer (defined s x want).visible (define x want m names o)
+define_ranged : (outer : List Local) (s : Scope) (x : List ℕ) (want : Option Ty) (T : Ty) (m : Memory) (names : Names) (o : Option ℤ) → want ≡ Some T → AreRanged s.visible names → ((v : ℤ) → o ≡ Some v → IsOf T v) → RangedTurn outer (defined s x want).visible (define x want m names o)
 define_ranged outer s x want T m names None e h range = tt
 define_ranged outer s x want T m names (Some v) e h range =
     subst (λ w. RangedTurn outer (defined s x w).visible (define x w m names (Some v))) (sym e) (ranged_more s.visible names (local x (binding.Value T)) v h (range v refl))
@@ -62,7 +64,7 @@ update_ranged : (outer : List Local) (s : Scope) (x : List ℕ) (op : UpdateOp) 
 update_ranged outer s x op want T m names None e0 e h = tt
 update_ranged outer s x op want T m names (Some v) e0 e h =
     subst (λ w. RangedTurn outer s.visible (update x op w m names (Some v))) (sym e)
-    (ranged_assigned T s.visible names x (binary_value (operator_of op) (Some T) (value_at names x) v) (wrap-range T _) h (acc_value T (lookup s x) (sym e0 ∙ e)))
+    (ranged_assigned T s.visible names x (binary_value (operator_of op) (Some T) (value_at names x) v) (wrap-is_of T _) h (acc_value T (lookup s x) (sym e0 ∙ e)))
 
 choose_ranged : (outer ls : List Local) (m : Memory) (c : Option Bool) (one other : Turn) → RangedTurn outer ls one → RangedTurn outer ls other → RangedTurn outer ls (choose m c one other)
 choose_ranged outer ls m None one other h k = tt
@@ -79,7 +81,7 @@ then_ranged outer ls ls2 (Next m names) more h f = f m names h
 then_ranged outer ls ls2 (Broke m names) more h f = h
 then_ranged outer ls ls2 (Faulted m) more h f = tt
 
--- behind an iteration the outer names are in range
+-- after an iteration the outer names are in range
 abbrev RangedEnd : List Local → Turn → Type 0
 RangedEnd ls (Next m names) = AreRanged ls names
 RangedEnd ls (Broke m names) = AreRanged ls names
@@ -91,7 +93,7 @@ end_ranged ls ls2 n (Broke m names) e x h = subst (λ k. AreRanged ls (take k na
 end_ranged ls ls2 n (Faulted m) e x h = tt
 
 module _ (L : Layout) where
-  typed_range : (hs : Homes) (s : Scope) (names : Names) (m : Memory) (e : Term) (want : Option Ty) (T : Ty) (b user : ℕ) (v : ℤ) → want ≡ Some T → Fits L hs s want b user e → AreRanged s.visible names → value s want e m names ≡ Some v → InRange (is_signed T) v
+  typed_range : (hs : Homes) (s : Scope) (names : Names) (m : Memory) (e : Term) (want : Option Ty) (T : Ty) (b user : ℕ) (v : ℤ) → want ≡ Some T → Fits L hs s want b user e → AreRanged s.visible names → value s want e m names ≡ Some v → IsOf T v
   typed_range hs s names m e want T b user v q fits r is = value-range L hs s names m e T b user v (subst (λ w. Fits L hs s w b user e) q fits) r (sym (ap (λ w. value s w e m names) q) ∙ is)
 
   mutual
@@ -126,7 +128,7 @@ module _ (L : Layout) where
   iterate_ranged : (hs : Homes) (s : Scope) (l : Turns) (b i : ℕ) (m : Memory) (names : Names) → FitsBlock L (with_index hs l) (in_loop s l) (b + 1) l.body → i < 2 ^ 64 → AreRanged s.visible names → RangedEnd s.visible (iterate s l i m names)
   iterate_ranged hs s l b i m names fits small h =
       let inner = extends_one s.visible (local l.index binding.Index) in
-      let start : AreRanged (in_loop s l).visible (with_name l.index names (pos i)) = ranged_more s.visible names (local l.index binding.Index) (pos i) h small in
+      let start : AreRanged (in_loop s l).visible (with_name l.index names (pos i)) = ranged_more s.visible names (local l.index binding.Index) (pos i) h (is_of U64 (pos i) small) in
       end_ranged s.visible (after_block (in_loop s l) l.body).visible (length names) (do_block (in_loop s l) l.body m (with_name l.index names (pos i))) (ranged_length s.visible names h) (extends_on inner (visible_block (in_loop s l) l.body))
       (block_ranged l.body s.visible (with_index hs l) (in_loop s l) (b + 1) m (with_name l.index names (pos i)) inner fits start)
 

@@ -10,13 +10,13 @@ use Rattle.reg_assign.specs.declared.interval.Interval.{Interval}
 use Rattle.loop_form.specs.Entries.{Entry, entries_of}
 use Rattle.loop_form.specs.Needs.{accumulating_of, whole, values, intervals}
 use Rattle.scalar_emit.specs.Layout.{IsMade}
-use Rattle.scalar_emit.specs.Kernel.{x_until, layout_of_kernel}
+use Rattle.scalar_emit.specs.Kernel.{x_last_use, layout_of_kernel}
 use Rattle.scalar_emit.specs.KernelFits.{AreChosen}
 use Rattle.scalar_emit.proofs.AssignedOf.{Chosen, located, assigned_of, counted-high, counted-apart}
 use Rattle.scalar_emit.proofs.EntryNumbers.{kernel_stretch}
 use Rattle.scalar_emit.proofs.FitsNames.{Spread}
 
-front_get : (k : Program) (vs : List Accumulator) (ys : List Interval) (n : ℕ) → n < length vs → slice_get (map (whole k) (map accumulating_of vs) ++ ys) n ≡ Some (record { from = 0; until = size_of k })
+front_get : (k : Program) (vs : List Accumulator) (ys : List Interval) (n : ℕ) → n < length vs → slice_get (map (whole k) (map accumulating_of vs) ++ ys) n ≡ Some (record { from = 0; last_use = size_of k })
 front_get k [] ys n h = absurd (omega (arith, h))
 front_get k (v ∷ vs) ys zero h = refl
 front_get k (v ∷ vs) ys (suc n) h = front_get k vs ys n (omega (arith, h))
@@ -38,7 +38,7 @@ module _ (R : ℕ → ℕ) (k : Program) (c : AreChosen R k) where
   accs = length k.vars
 
   abbrev throughout' : Interval
-  throughout' = record { from = 0; until = size_of k }
+  throughout' = record { from = 0; last_use = size_of k }
 
   at_var : (n : ℕ) → n < accs → slice_get (intervals k X) n ≡ Some throughout'
   at_var n h = front_get k k.vars (values k X) n h
@@ -58,8 +58,8 @@ module _ (R : ℕ → ℕ) (k : Program) (c : AreChosen R k) where
       (λ (lt : q < size_of k). lt)
       (λ (ge : size_of k ≤ q).
       let many = (kernel_stretch k).many in
-      let len = length-map all (x_until all) in
-      let past : slice_index (map (x_until all) all) q ≡ 0 = get_or_past (map (x_until all) all) q 0 (omega (arith, many, len, ge)) in
+      let len = length-map all (x_last_use all) in
+      let past : slice_index (map (x_last_use all) all) q ≡ 0 = get_or_past (map (x_last_use all) all) q 0 (omega (arith, many, len, ge)) in
       absurd (omega (arith, past, made)))
       (cases_lt q (size_of k))
 
@@ -70,9 +70,9 @@ module _ (R : ℕ → ℕ) (k : Program) (c : AreChosen R k) where
     free = λ n q h made e.
         let j = located R all all accs 0 q q (kernel_stretch k).numbered (omega arith) made in
         let from = j.from in
-        let until = j.until' in
+        let last_use = j.last_use' in
         let within = made_within q made in
-        counted-apart (R (accs + j.m)) (R n) (c.apart (accs + j.m) n q j.span throughout' (λ f. absurd (omega (arith, f, h))) (at_value j.m ∙ j.is) (at_var n h) (omega (arith, from), omega (arith, until, made)) (omega arith, within)) (sym j.register ∙ e);
+        counted-apart (R (accs + j.m)) (R n) (c.apart (accs + j.m) n q j.span throughout' (λ f. absurd (omega (arith, f, h))) (at_value j.m ∙ j.is) (at_var n h) (omega (arith, from), omega (arith, last_use, made)) (omega arith, within)) (sym j.register ∙ e);
     differ = λ m n h g ne e.
         let many = vars_many (loop_index k) k.vars in
         let some : 0 < size_of k = omega (arith, many, h) in

@@ -1,6 +1,6 @@
 -- Where the values of a kernel are kept, when R gives each of its intervals of class X the number of a counted register:
 -- the accumulators have the first intervals, and then the values of the items in their order.
-use Rattle.std.specs.Prelude.{ℕ, suc, ◌+◌, List, [], ◌∷◌, ◌++◌, length, map, Option, Some, None, nat_lt, slice_index, unwrap_or, if◌then◌else◌}
+use Rattle.std.specs.Prelude.{ℕ, true, suc, ◌+◌, List, [], ◌∷◌, ◌++◌, length, map, Option, Some, None, nat_lt, slice_index, unwrap_or, if◌then◌else◌}
 use Rattle.kernel_tree.specs.declared.ast.Shape.{Shape}
 use Rattle.kernel_tree.specs.declared.ast.Shape.TheVariants as shape
 use Rattle.kernel_tree.specs.declared.fault.Binding.TheVariants as binding
@@ -11,10 +11,10 @@ use Rattle.reg_assign.specs.declared.interval.RegClass.TheVariants.{X}
 use Rattle.reg_assign.specs.Registers.{Assignment}
 use Rattle.loop_form.specs.declared.item.Item.{Item}
 use Rattle.loop_form.specs.Entries.{Entry, entries_of, loop_start, loop_end}
-use Rattle.loop_form.specs.Listing.{until_in}
+use Rattle.loop_form.specs.Listing.{last_use_in}
 use Rattle.label_fix.specs.DraftRun.{Entry as Line, Place}
 use Rattle.scalar_emit.specs.Layout.{Layout, Home, Homes, home}
-use Rattle.scalar_emit.specs.Words.{ins, extension, copy}
+use Rattle.scalar_emit.specs.Words.{ins, settle_word, copy_word, word_code}
 use Rattle.scalar_emit.specs.Code.{labels, value_code}
 use Rattle.scalar_emit.specs.Fits.{Fits}
 use Rattle.scalar_emit.specs.Loop.{answer_code, answer_labels, loop_code, loop_labels}
@@ -25,8 +25,8 @@ abbrev pub counted_x : ℕ → ℕ
 counted_x j = if nat_lt j 8 then 10 + j else 11 + j
 
 -- the item that uses an item's value last, or 0 where it makes none
-abbrev pub x_until : List Entry → Entry → ℕ
-x_until all e = unwrap_or (until_in X all e) 0
+abbrev pub x_last_use : List Entry → Entry → ℕ
+x_last_use all e = unwrap_or (last_use_in X all e) 0
 
 -- the registers of items, the first interval of which has number j
 abbrev pub one_reg : (ℕ → ℕ) → ℕ → Option ℕ → (ℕ → List ℕ) → List ℕ
@@ -35,12 +35,12 @@ one_reg R j (Some u) more = counted_x (R j) ∷ more (suc j)
 
 abbrev pub regs_from : (ℕ → ℕ) → List Entry → ℕ → List Entry → List ℕ
 regs_from R all j [] = []
-regs_from R all j (e ∷ es) = one_reg R j (until_in X all e) (λ n. regs_from R all n es)
+regs_from R all j (e ∷ es) = one_reg R j (last_use_in X all e) (λ n. regs_from R all n es)
 
 -- the same by the items of the listing
 abbrev pub item_regs : (ℕ → ℕ) → ℕ → List Item → List ℕ
 item_regs R j [] = []
-item_regs R j (i ∷ is) = one_reg R j i.x_until (λ n. item_regs R n is)
+item_regs R j (i ∷ is) = one_reg R j i.x_last_use (λ n. item_regs R n is)
 
 -- how many of some items have values
 abbrev pub one_value : Option ℕ → ℕ
@@ -49,13 +49,13 @@ one_value (Some u) = 1
 
 abbrev pub count_values : List Item → ℕ
 count_values [] = 0
-count_values (i ∷ is) = one_value i.x_until + count_values is
+count_values (i ∷ is) = one_value i.x_last_use + count_values is
 
-abbrev pub item_until : Item → ℕ
-item_until i = unwrap_or i.x_until 0
+abbrev pub item_last_use : Item → ℕ
+item_last_use i = unwrap_or i.x_last_use 0
 
 abbrev pub layout_from : (ℕ → ℕ) → ℕ → List Entry → Layout
-layout_from R accs all = record { regs = regs_from R all accs all; untils = map (x_until all) all }
+layout_from R accs all = record { regs = regs_from R all accs all; untils = map (x_last_use all) all }
 
 abbrev pub layout_of_kernel : (ℕ → ℕ) → Program → Layout
 layout_of_kernel R k = layout_from R (length k.vars) (entries_of k)
@@ -63,7 +63,7 @@ layout_of_kernel R k = layout_from R (length k.vars) (entries_of k)
 -- ---- names that are held throughout
 
 abbrev pub param_home : ℕ → Parameter → Home
-param_home n p = record { name = p.name; register = n; until = None }
+param_home n p = record { name = p.name; register = n; last_use = None }
 
 -- parameter n stands in Xn
 abbrev pub param_homes : ℕ → List Parameter → Homes
@@ -71,7 +71,7 @@ param_homes n [] = []
 param_homes n (p ∷ ps) = param_home n p ∷ param_homes (n + 1) ps
 
 abbrev pub var_home : (ℕ → ℕ) → ℕ → Accumulator → Home
-var_home R j v = record { name = v.name; register = counted_x (R j); until = None }
+var_home R j v = record { name = v.name; register = counted_x (R j); last_use = None }
 
 abbrev pub var_homes : (ℕ → ℕ) → ℕ → List Accumulator → Homes
 var_homes R j [] = []
@@ -83,22 +83,22 @@ kernel_homes R k = param_homes 0 k.params ++ var_homes R 0 k.vars
 
 -- ---- the code before the loop
 
--- a scalar argument, extended by its type
+-- a scalar argument, extended by its type: no word at 64 bits
 abbrev pub argument_code : Shape → ℕ → List Line → List Line
-argument_code (shape.Scalar t) n rest = extension t n n ∷ rest
+argument_code (shape.Scalar t) n rest = word_code (settle_word true t n) rest
 argument_code (shape.Array t) n rest = rest
 
 abbrev pub arguments_code : ℕ → List Parameter → List Line → List Line
 arguments_code n [] rest = rest
 arguments_code n (p ∷ ps) rest = argument_code p.shape n (arguments_code (n + 1) ps rest)
 
--- behind an accumulator
+-- after an accumulator
 abbrev pub after_var : Scope → Accumulator → Scope
 after_var s v = declared s v.name (binding.Accumulator v.type)
 
 -- accumulator number j, whose items begin at b and whose labels at n
 abbrev pub var_code : Layout → (ℕ → ℕ) → Homes → Scope → (j b n : ℕ) → Accumulator → List Line → List Line
-var_code L R hs s j b n v rest = value_code L hs s (Some v.type) b n v.init (copy (counted_x (R j)) (home L hs s.index b v.init) ∷ rest)
+var_code L R hs s j b n v rest = value_code L hs s (Some v.type) b n v.init (word_code (copy_word (counted_x (R j)) (home L hs s.index b v.init)) rest)
 
 abbrev pub var_labels : Option (List ℕ) → Accumulator → ℕ
 var_labels i v = labels i v.init
@@ -107,8 +107,8 @@ var_labels i v = labels i v.init
 abbrev pub vars_code : Layout → (ℕ → ℕ) → Homes → Scope → (j b n : ℕ) → List Accumulator → List Line → List Line
 vars_code L R hs s j b n [] rest = rest
 vars_code L R hs s j b n (v ∷ vs) rest =
-    value_code L hs s (Some v.type) b n v.init (copy (counted_x (R j)) (home L hs s.index b v.init)
-    ∷ vars_code L R (hs ++ var_home R j v ∷ []) (declared s v.name (binding.Accumulator v.type)) (j + 1) (b + term_size s.index v.init + 1) (n + labels s.index v.init) vs rest)
+    value_code L hs s (Some v.type) b n v.init (word_code (copy_word (counted_x (R j)) (home L hs s.index b v.init))
+    (vars_code L R (hs ++ var_home R j v ∷ []) (declared s v.name (binding.Accumulator v.type)) (j + 1) (b + term_size s.index v.init + 1) (n + labels s.index v.init) vs rest))
 
 -- the labels that the code of accumulators uses up
 abbrev pub vars_labels : Option (List ℕ) → List Accumulator → ℕ
@@ -129,7 +129,7 @@ begin_labels k = vars_labels (loop_index k) k.vars
 
 -- ---- the loop, and what follows it
 
--- a returned value whose items begin at b, behind label n
+-- a returned value whose items begin at b, after label n
 abbrev pub straight_code : Layout → Homes → Scope → (n b : ℕ) → Option Returned → List Line → List Line
 straight_code L hs s n b answer rest = Place n ∷ answer_code L hs s b (n + 1) answer rest
 

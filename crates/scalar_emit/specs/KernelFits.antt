@@ -24,7 +24,7 @@ IsInterval k m s = slice_get (intervals k X) m ≡ Some s
 
 -- an interval's value is needed at item p
 abbrev pub IsNeeded : ℕ → Interval → Type 0
-IsNeeded p s = (s.from ≤ p) × (p < s.until)
+IsNeeded p s = (s.from ≤ p) × (p < s.last_use)
 
 -- Each interval has one of 15 registers, and two intervals whose values are needed at one item have different ones.
 pub record AreChosen (R : ℕ → ℕ) (k : Program) : Type 0 where

@@ -4,7 +4,7 @@ pub mod Code
 pub mod Fits
 pub mod Statements
 pub mod Loop
-pub mod Views
+pub mod View
 pub mod Kinds
 pub mod Kernel
 pub mod Safe

@@ -8,15 +8,14 @@ use Rattle.machine_model.specs.Machine.{State, x_at}
 use Rattle.kernel_tree.specs.declared.ops.Ty.{Ty}
 use Rattle.kernel_tree.specs.Plain.{Turns, Returned, Program}
 use Rattle.kernel_tree.specs.Items.{size_of}
-use Rattle.kernel_tree.specs.Wrap.{is_signed}
 use Rattle.kernel_tree.specs.Typing.{Scope, Local, value_type, var_scope}
 use Rattle.kernel_meaning.specs.Operators.{word}
+use Rattle.kernel_meaning.specs.TypeValues.{IsOf}
 use Rattle.kernel_meaning.specs.Eval.{Names}
 use Rattle.kernel_meaning.specs.ScalarRun.{Run, End, Fault, bound_of, course, returned, ended, finish, started}
 use Rattle.label_fix.specs.DraftRun.{Entry, Laid, behind}
 use Rattle.label_fix.specs.Stretches.{Resolves, Goes, Stops, Ends}
 use Rattle.scalar_emit.specs.Layout.{Homes}
-use Rattle.scalar_emit.specs.Fits.{InRange}
 use Rattle.scalar_emit.specs.Kernel.{kernel_homes, begin_code, scalar_code}
 
 -- ---- names
@@ -24,7 +23,7 @@ use Rattle.scalar_emit.specs.Kernel.{kernel_homes, begin_code, scalar_code}
 -- the value of a name is one of its type
 abbrev pub TypeRange : Option Ty → ℤ → Type 0
 TypeRange None z = Unit {0}
-TypeRange (Some t) z = InRange (is_signed t) z
+TypeRange (Some t) z = IsOf t z
 
 abbrev pub AreRanged : List Local → Names → Type 0
 AreRanged [] [] = Unit {0}
@@ -53,7 +52,7 @@ pub record Frame : Type 0 where
 abbrev pub frame_of : State → Frame
 frame_of s = record { sp = s.sp; z = s.z; p = s.p; ffr = s.ffr; vl = s.vl; stops = s.stops }
 
--- a state that has arguments in X0 on, and zero in the registers behind them
+-- a state that has arguments in X0 on, and zero in the registers after them
 pub record HasArguments (args : List ℕ) (m : Memory) (s : State) : Type 0 where
   pub few : length args ≤ 8
   pub words : All (λ arg. arg < 2 ^ 64) args
@@ -111,7 +110,7 @@ abbrev pub IsWithin : Option Turns → ℕ → Names → Type 0
 IsWithin None i names = i ≡ 0
 IsWithin (Some l) i names = i ≤ bound_of l names
 
--- Code that is entered before an iteration, at its first entry or behind its label, does what the scalar loop does from there on.
+-- Code that is entered before an iteration, at its first entry or after its label, does what the scalar loop does from there on.
 pub record ScalarRuns (R : ℕ → ℕ) (k : Program) : Type 0 where
   pub reached : (D : Laid) (n : ℕ) (rest : List Entry) (i : ℕ) (names : Names) (m : Memory) (s : State) → Resolves D (scalar_code R k n rest) → IsWithin k.turns i names → AtIteration R k i names m s
       → Comes D (scalar_code R k n rest) s (32 + 8 * size_of k) (32 + 8 * size_of k) i (run_from k i m names)

@@ -9,21 +9,20 @@ ghost use Rattle.label_fix.specs.DraftRun as plain;
 ghost use Rattle.reg_assign.specs.declared.interval.RegClass.TheVariants.{X};
 ghost use Rattle.reg_assign.specs.Registers.{IsAssignment};
 ghost use Rattle.loop_form.specs.Registers.{FitsKernel};
-ghost use Rattle.loop_form.specs.Seen.{program};
+ghost use Rattle.loop_form.specs.View.{program};
 ghost use Rattle.scalar_emit.specs.Statements.{block_labels, block_code};
 ghost use Rattle.scalar_emit.specs.Loop as loops;
 ghost use Rattle.scalar_emit.specs.Kernel as kernels;
 ghost use Rattle.scalar_emit.specs.Kernel.{register_in};
 ghost use Rattle.scalar_emit.specs.Kinds.{IsValue, VarsKinds, BlockKinds, AnswerKinds};
 ghost use Rattle.scalar_emit.specs.Drafts.{Appends, AppendsWords};
-ghost use Rattle.scalar_emit.specs.Views.{homes_of};
+ghost use Rattle.scalar_emit.specs.View.{homes_of};
 
 use crate::emit::emit_value;
 use crate::home::{Home, register_at};
-use crate::instructions::{
-    add_sub, copy, exit_call, extending, index, next_iteration, small, zero,
-};
+use crate::instructions::{add_sub, exit_call, index, next_iteration, small, zero};
 use crate::laws::{each_has_a_register, few_items, few_params, right_kinds};
+use crate::operations::{emit_copy, emit_settle};
 use crate::places::{Places, counted_register, places_of};
 use crate::statements::emit_block;
 use a64_code::{AddSubOp, Cond};
@@ -73,7 +72,7 @@ fn declare_param<'a>(
     homes.push(Home {
         name: param.name.text(),
         register: Bits { number: place },
-        until: None,
+        last_use: None,
     })?;
     declare(scope, &param.name, binding(param.shape))?;
     Ok(())
@@ -116,7 +115,7 @@ fn declare_var<'a>(
     homes.push(Home {
         name: var.name.text(),
         register: counted_register(regs, place),
-        until: None,
+        last_use: None,
     })?;
     declare(scope, &var.name, Binding::Accumulator(var.ty))?;
     Ok(())
@@ -168,7 +167,7 @@ fn declare_names<'a>(
 }
 
 /// The names at the loop of a kernel, each with the register that holds its value throughout.
-#[tactic(auto, unfolding(loop_form::specs::Seen::program))]
+#[tactic(auto, unfolding(loop_form::specs::View::program))]
 pub fn kernel_homes<'a>(
     alloc: Global,
     kernel: &'a Checked,
@@ -202,7 +201,7 @@ fn declare_index<'a>(
     homes.push(Home {
         name: turns.index.text(),
         register: index(),
-        until: None,
+        last_use: None,
     })?;
     declare(scope, &turns.index, Binding::Index)?;
     Ok(())
@@ -218,7 +217,7 @@ fn emit_argument(draft: &mut Draft, place: u32, shape: Shape) -> Result<(), Allo
     match shape {
         Shape::Array(_) => Ok(()),
         Shape::Scalar(ty) => {
-            draft.put(extending(ty, Bits { number: place }, Bits { number: place }))?;
+            emit_settle(draft, true, ty, Bits { number: place })?;
             Ok(())
         }
     }
@@ -264,7 +263,7 @@ fn emit_var<'a>(
         (scope_of scope.old) place item.old draft.old.labels (accumulator_of var.now))) }
 {
     let from = emit_value(draft, places, homes, scope, Some(var.ty), &var.init, item)?;
-    draft.put(copy(counted_register(regs, place), from))?;
+    emit_copy(draft, counted_register(regs, place), from)?;
     declare_var(scope, homes, regs, place, var)?;
     *item += 1;
     Ok(())
@@ -301,7 +300,7 @@ fn emit_vars<'a>(
 
 /// The code before the loop. It wraps the scalar arguments to their types, evaluates the accumulators in their order into
 /// their registers and sets X9 to zero.
-#[tactic(auto, unfolding(loop_form::specs::Seen::program))]
+#[tactic(auto, unfolding(loop_form::specs::View::program))]
 pub fn emit_begin(
     alloc: Global,
     kernel: &Checked,
@@ -378,7 +377,7 @@ fn emit_answer(
                 &answer.value,
                 &mut next,
             )?;
-            draft.put(copy(Bits { number: 0 }, from))?;
+            emit_copy(draft, Bits { number: 0 }, from)?;
             emit_exit(draft)?;
             Ok(())
         }
@@ -479,7 +478,7 @@ fn emit_turns(
     Ok(head)
 }
 
-// The returned value of a kernel behind its loop.
+// The returned value of a kernel after its loop.
 fn emit_behind(
     alloc: Global,
     draft: &mut Draft,
@@ -552,7 +551,7 @@ pub struct ScalarEntry {
 }
 
 /// The code of the loop and of what follows it, up to the end of the run.
-#[tactic(auto, unfolding(loop_form::specs::Seen::program))]
+#[tactic(auto, unfolding(loop_form::specs::View::program))]
 pub fn emit_scalar(
     alloc: Global,
     kernel: &Checked,

@@ -5,7 +5,7 @@ ghost use Rattle.kernel_tree.specs.Items.{size_of};
 ghost use Rattle.reg_assign.specs.declared.interval.RegClass.TheVariants.{X};
 ghost use Rattle.loop_form.specs.Listing.{listing_of};
 ghost use Rattle.loop_form.specs.Registers.{FitsKernel};
-ghost use Rattle.loop_form.specs.Seen.{program};
+ghost use Rattle.loop_form.specs.View.{program};
 ghost use Rattle.scalar_emit.specs.Kernel.{register_in, count_values};
 ghost use Rattle.scalar_emit.specs.Kinds.{KernelKinds};
 ghost use Rattle.scalar_emit.specs.Runs.{BeginRuns, ScalarRuns};

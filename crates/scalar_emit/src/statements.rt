@@ -11,11 +11,12 @@ ghost use Rattle.scalar_emit.specs.Words as words;
 ghost use Rattle.scalar_emit.specs.Statements as statements;
 ghost use Rattle.scalar_emit.specs.Kinds.{IsValue, IsTruth, ActionKinds, BlockKinds};
 ghost use Rattle.scalar_emit.specs.Drafts.{Appends};
-ghost use Rattle.scalar_emit.specs.Views.{homes_of};
+ghost use Rattle.scalar_emit.specs.View.{homes_of};
 
-use crate::emit::{emit_copy, emit_offset, emit_truth, emit_value, want_binary};
+use crate::emit::{emit_truth, emit_value};
 use crate::home::{Home, register_at};
 use crate::instructions::{index_word, store};
+use crate::operations::{emit_copy, emit_offset, want_binary};
 use crate::places::Places;
 use a64_code::Reg;
 use kernel_scope::{
@@ -30,7 +31,7 @@ fn emit_kept(draft: &mut Draft, places: &Places, item: usize, from: Reg) -> Resu
     ensures labels { OnOk result (draft.new.labels ≡ draft.old.labels) }
     ensures code { OnOk result (Appends draft.old draft.new (statements.let_code places.now item from.number)) }
 {
-    if item < places.until(item) {
+    if item < places.last_use(item) {
         emit_copy(draft, places.reg(item), from)?;
     }
     Ok(())
@@ -53,7 +54,7 @@ fn settle<'a>(
             homes.push(Home {
                 name: name.text(),
                 register: places.reg(item),
-                until: Some(places.until(item)),
+                last_use: Some(places.last_use(item)),
             })?;
             Ok(())
         }
@@ -382,7 +383,7 @@ fn emit_if_else<'a>(
     Ok(())
 }
 
-// A block, behind which its names are visible no more.
+// A block, after which its names are visible no more.
 #[cycle(statements)]
 fn emit_inner<'a>(
     draft: &mut Draft,
@@ -414,7 +415,7 @@ fn emit_inner<'a>(
     Ok(())
 }
 
-/// The code of statements, behind which their names stay visible. A `break` goes to the label `exit`.
+/// The code of statements, after which their names stay visible. A `break` goes to the label `exit`.
 #[cycle(statements)]
 pub fn emit_block<'a>(
     draft: &mut Draft,

@@ -5,7 +5,7 @@ ghost use Rattle.kernel_tree.specs.Items.{size_of};
 ghost use Rattle.kernel_tree.specs.Plain.{name_of};
 ghost use Rattle.reg_assign.specs.declared.interval.RegClass.TheVariants.{X};
 ghost use Rattle.loop_form.specs.Registers.{FitsKernel};
-ghost use Rattle.loop_form.specs.Seen.{program};
+ghost use Rattle.loop_form.specs.View.{program};
 
 use crate::laws::few_items;
 use crate::{emit_begin, emit_scalar};
@@ -80,7 +80,6 @@ fn counts(rt: HostRuntime) -> Result<(), Fail> {
     assert!(rt;
         words.as_slice()
             == [
-                0xd340_fc00,
                 0xd280_0009,
                 0xeb00_013f,
                 0x5400_0062,

@@ -3,7 +3,7 @@ use Rattle.kernel_tree.specs.Plain.{parameters_of}
 use Rattle.kernel_tree.specs.Typing as typing
 use Rattle.kernel_scope.specs.Scopes.{scope_of}
 use Rattle.scalar_emit.specs.Kernel as kernels
-use Rattle.scalar_emit.specs.Views.{homes_of}
+use Rattle.scalar_emit.specs.View.{homes_of}
 use Rattle.scalar_emit.proofs.kernel.declare_params.Given as goal
 
 abbrev pub invariant-loop-param : goal.invariant-loop-param

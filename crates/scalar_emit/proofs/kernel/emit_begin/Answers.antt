@@ -5,10 +5,10 @@ use Rattle.kernel_tree.specs.Plain.{parameters_of, accumulators_of, program_of}
 use Rattle.kernel_tree.specs.Items.{loop_index, size_of}
 use Rattle.kernel_tree.specs.Typing.{Scope, empty, after_params}
 use Rattle.kernel_scope.specs.Scopes.{scope_of}
-use Rattle.loop_form.specs.Seen.{program}
+use Rattle.loop_form.specs.View.{program}
 use Rattle.label_fix.specs.DraftRun.{Entry, Put}
 use Rattle.scalar_emit.specs.Kernel.{register_in, layout_of_kernel, param_homes, zero_index, begin_code}
-use Rattle.scalar_emit.specs.Views.{homes_of}
+use Rattle.scalar_emit.specs.View.{homes_of}
 use Rattle.scalar_emit.proofs.Counts.{begin_words, words_added}
 use Rattle.scalar_emit.proofs.Emission.{begin_is}
 use Rattle.scalar_emit.proofs.Layouts.{count_params}

@@ -5,7 +5,7 @@ use Rattle.kernel_scope.specs.Scopes.{scope_of}
 use Rattle.label_fix.specs.DraftRun as plain
 use Rattle.scalar_emit.specs.Kernel as kernels
 use Rattle.scalar_emit.specs.Kinds.{VarsKinds}
-use Rattle.scalar_emit.specs.Views.{homes_of}
+use Rattle.scalar_emit.specs.View.{homes_of}
 use Rattle.scalar_emit.proofs.kernel.emit_vars.Given as goal
 
 -- what is left of the accumulators leads from here to where they all lead

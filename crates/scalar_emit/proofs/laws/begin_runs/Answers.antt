@@ -2,7 +2,7 @@ use Rattle.std.proofs.Math.Logic.{∥∥₁_elim}
 use Rattle.std.proofs.Math.Bridge.{le_prop}
 use Rattle.kernel_tree.specs.Plain.{program_of}
 use Rattle.kernel_tree.specs.Checked.{kernel_of}
-use Rattle.loop_form.specs.Seen.{program}
+use Rattle.loop_form.specs.View.{program}
 use Rattle.scalar_emit.proofs.BeginRuns as theorem
 use Rattle.scalar_emit.proofs.KernelRuns.{fits}
 use Rattle.scalar_emit.proofs.KindsOf.{tree-few}

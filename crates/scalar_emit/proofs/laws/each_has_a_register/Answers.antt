@@ -1,5 +1,5 @@
 use Rattle.std.proofs.Common.{arith}
-use Rattle.loop_form.specs.Seen.{program}
+use Rattle.loop_form.specs.View.{program}
 use Rattle.scalar_emit.proofs.Layouts.{each_register}
 use Rattle.scalar_emit.proofs.laws.each_has_a_register.Goals as goal
 

@@ -1,6 +1,6 @@
 use Rattle.std.proofs.Math.Logic.{∥∥₁_elim}
 use Rattle.std.proofs.Math.Bridge.{le_prop}
-use Rattle.loop_form.specs.Seen.{program}
+use Rattle.loop_form.specs.View.{program}
 use Rattle.scalar_emit.proofs.KindsOf.{tree-few}
 use Rattle.scalar_emit.proofs.laws.few_params.Goals as goal
 

@@ -2,7 +2,7 @@ use Rattle.std.proofs.Common.{length, sym, ap, ◌∙◌}
 use Rattle.kernel_tree.specs.declared.ast.Kernel.{Kernel}
 use Rattle.kernel_tree.specs.Plain.{accumulators_of, program_of}
 use Rattle.kernel_tree.specs.Checked.{kernel_of}
-use Rattle.loop_form.specs.Seen.{program}
+use Rattle.loop_form.specs.View.{program}
 use Rattle.scalar_emit.specs.Kernel.{register_in}
 use Rattle.scalar_emit.proofs.Layouts.{layout_is, count_vars}
 use Rattle.scalar_emit.proofs.places.places_of.Goals as goal

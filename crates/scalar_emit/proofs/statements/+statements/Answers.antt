@@ -8,7 +8,7 @@ use Rattle.kernel_meaning.proofs.Choices.{one_block, two_blocks}
 use Rattle.kernel_meaning.proofs.Growth.{kept-block}
 use Rattle.scalar_emit.specs.Kinds.{ActionKinds}
 use Rattle.scalar_emit.specs.Statements as statements
-use Rattle.scalar_emit.specs.Views.{homes_of}
+use Rattle.scalar_emit.specs.View.{homes_of}
 use Rattle.scalar_emit.proofs.Emission.{homes_back}
 use Rattle.scalar_emit.proofs.statements.+statements.Goals as goal
 

@@ -1,7 +1,7 @@
 use Rattle.std.proofs.Common.{◌<◌, ◌^◌, List, length, sym, ◌∙◌, subst}
 use Rattle.reg_assign.specs.declared.interval.Interval.{Interval}
 use Rattle.reg_assign.specs.Intervals.{Ascend}
-use Rattle.loop_form.specs.Seen.{program}
+use Rattle.loop_form.specs.View.{program}
 use Rattle.scalar_emit.proofs.tests.registers.Goals as goal
 
 pub assign-requires-clause-few : goal.assign-requires-clause-few

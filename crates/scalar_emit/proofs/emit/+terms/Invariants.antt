@@ -1,0 +1,33 @@
+use Rattle.std.proofs.Common.{◌+◌, ◌*◌}
+use Rattle.std.specs.Prelude.{max}
+use Rattle.kernel_tree.specs.Plain.{term_of}
+use Rattle.kernel_tree.specs.Limits.{term_depth}
+use Rattle.scalar_emit.proofs.emit.+terms.Given as goal
+
+-- an expression stands above what emits it by its kind, and that above its operands
+abbrev pub decreases-emit_value : goal.decreases-emit_value
+decreases-emit_value l = 4 * term_depth (term_of l.expr.now) + 1
+
+abbrev pub decreases-emit_one : goal.decreases-emit_one
+decreases-emit_one l = 4 * term_depth (term_of l.expr.now)
+
+abbrev pub decreases-emit_two : goal.decreases-emit_two
+decreases-emit_two l = 4 * max (term_depth (term_of l.left.now)) (term_depth (term_of l.right.now)) + 2
+
+abbrev pub decreases-emit_read : goal.decreases-emit_read
+decreases-emit_read l = 4 * term_depth (term_of l.index.now) + 3
+
+abbrev pub decreases-emit_select : goal.decreases-emit_select
+decreases-emit_select l = 4 * max (term_depth (term_of l.cond.now)) (max (term_depth (term_of l.yes.now)) (term_depth (term_of l.no.now))) + 2
+
+abbrev pub decreases-emit_truth : goal.decreases-emit_truth
+decreases-emit_truth l = 4 * term_depth (term_of l.expr.now)
+
+abbrev pub decreases-emit_both : goal.decreases-emit_both
+decreases-emit_both l = 4 * max (term_depth (term_of l.left.now)) (term_depth (term_of l.right.now)) + 2
+
+abbrev pub decreases-emit_either : goal.decreases-emit_either
+decreases-emit_either l = 4 * max (term_depth (term_of l.left.now)) (term_depth (term_of l.right.now)) + 2
+
+abbrev pub decreases-emit_number : goal.decreases-emit_number
+decreases-emit_number l = 4 * term_depth (term_of l.number.now) + 2

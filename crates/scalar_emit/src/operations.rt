@@ -1,0 +1,452 @@
+//! Emits the code of constants, operators and loads, whose operands are in registers.
+
+ghost use Rattle.std.specs.Prelude.{◌≡◌, ◌<◌, List, ◌++◌, IfOk, OnOk, option_map};
+ghost use Rattle.kernel_tree.specs.declared.ops.UnaryOp.TheVariants as unary;
+ghost use Rattle.label_fix.specs.Draft.{word_view};
+ghost use Rattle.label_fix.specs.DraftRun as plain;
+ghost use Rattle.scalar_emit.specs.Words as words;
+ghost use Rattle.scalar_emit.specs.Code as code;
+ghost use Rattle.scalar_emit.specs.Drafts.{Appends};
+
+use crate::instructions::{
+    add_sub, condition, contrary, copy, extending, filler, has_ones, index, is_narrow, load,
+    logical, multiply, scratch, select, shift_count, shifted, truth, wide, zero,
+};
+use a64_code::{AddSubOp, Cond, LogicalOp, MoveWideOp, Reg, SelectOp};
+use kernel_meaning::{binary_leaves, fits, is_signed, unary_leaves};
+use kernel_tree::{BinaryOp, CompareOp, Ty, UnaryOp};
+use label_fix::{Draft, Word};
+use std::alloc::AllocError;
+
+/// A register into another one, where they differ.
+pub fn emit_copy(draft: &mut Draft, d: Reg, a: Reg) -> Result<(), AllocError>
+    ensures labels { OnOk result (draft.new.labels ≡ draft.old.labels) }
+    ensures code { OnOk result (Appends draft.old draft.new (words.word_code (words.copy_word d.number a.number))) }
+{
+    if d.number == a.number {
+        Ok(())
+    } else {
+        draft.put(copy(d, a))?;
+        Ok(())
+    }
+}
+
+// A register extended by a type into another one.
+fn emit_extend(draft: &mut Draft, ty: Ty, d: Reg, a: Reg) -> Result<(), AllocError>
+    ensures labels { OnOk result (draft.new.labels ≡ draft.old.labels) }
+    ensures code { OnOk result (Appends draft.old draft.new
+        (words.word_code (words.extend_word ty d.number a.number))) }
+{
+    if is_narrow(ty) {
+        draft.put(extending(ty, d, a))?;
+        Ok(())
+    } else {
+        emit_copy(draft, d, a)?;
+        Ok(())
+    }
+}
+
+// A value of one type as one of another.
+fn emit_cast(draft: &mut Draft, from: Ty, ty: Ty, d: Reg, a: Reg) -> Result<(), AllocError>
+    ensures labels { OnOk result (draft.new.labels ≡ draft.old.labels) }
+    ensures code { OnOk result (Appends draft.old draft.new
+        (words.word_code (words.cast_word from ty d.number a.number))) }
+{
+    if fits(from, ty) {
+        emit_copy(draft, d, a)?;
+        Ok(())
+    } else {
+        emit_extend(draft, ty, d, a)?;
+        Ok(())
+    }
+}
+
+/// What an operation gave in a register, extended in place where it may have left the extended form.
+pub fn emit_settle(draft: &mut Draft, leaves: bool, ty: Ty, d: Reg) -> Result<(), AllocError>
+    ensures labels { OnOk result (draft.new.labels ≡ draft.old.labels) }
+    ensures code { OnOk result (Appends draft.old draft.new
+        (words.word_code (words.settle_word leaves ty d.number))) }
+{
+    if leaves && is_narrow(ty) {
+        draft.put(extending(ty, d, d))?;
+    }
+    Ok(())
+}
+
+// The first half of a constant.
+fn emit_start(
+    draft: &mut Draft,
+    ones: bool,
+    d: Reg,
+    half: u32,
+    place: u32,
+) -> Result<(), AllocError>
+    requires half { half < 65536 }
+    requires place { place < 4 }
+    ensures labels { OnOk result (draft.new.labels ≡ draft.old.labels) }
+    ensures code { OnOk result (Appends draft.old draft.new (words.start_code ones d.number half place)) }
+{
+    if ones {
+        draft.put(wide(MoveWideOp::Movn, d, 65535 - half, place))?;
+        Ok(())
+    } else {
+        draft.put(wide(MoveWideOp::Movz, d, half, place))?;
+        Ok(())
+    }
+}
+
+// A further half.
+fn emit_half(draft: &mut Draft, ones: bool, d: Reg, half: u32, place: u32) -> Result<(), AllocError>
+    requires half { half < 65536 }
+    requires place { place < 4 }
+    ensures labels { OnOk result (draft.new.labels ≡ draft.old.labels) }
+    ensures code { OnOk result (Appends draft.old draft.new
+        (words.word_code (words.half_word d.number (words.filler ones) half place))) }
+{
+    if half == filler(ones) {
+        Ok(())
+    } else {
+        draft.put(wide(MoveWideOp::Movk, d, half, place))?;
+        Ok(())
+    }
+}
+
+// A constant by its halves.
+fn emit_halves(
+    draft: &mut Draft,
+    ones: bool,
+    d: Reg,
+    h0: u32,
+    h1: u32,
+    h2: u32,
+    h3: u32,
+) -> Result<(), AllocError>
+    requires h0 { h0 < 65536 }
+    requires h1 { h1 < 65536 }
+    requires h2 { h2 < 65536 }
+    requires h3 { h3 < 65536 }
+    ensures labels { OnOk result (draft.new.labels ≡ draft.old.labels) }
+    ensures code { OnOk result (Appends draft.old draft.new (words.halves_code ones d.number h0 h1 h2 h3)) }
+{
+    let filler = filler(ones);
+    if h0 != filler {
+        emit_start(draft, ones, d, h0, 0)?;
+        emit_half(draft, ones, d, h1, 1)?;
+        emit_half(draft, ones, d, h2, 2)?;
+        emit_half(draft, ones, d, h3, 3)?;
+        Ok(())
+    } else if h1 != filler {
+        emit_start(draft, ones, d, h1, 1)?;
+        emit_half(draft, ones, d, h2, 2)?;
+        emit_half(draft, ones, d, h3, 3)?;
+        Ok(())
+    } else if h2 != filler {
+        emit_start(draft, ones, d, h2, 2)?;
+        emit_half(draft, ones, d, h3, 3)?;
+        Ok(())
+    } else if h3 != filler {
+        emit_start(draft, ones, d, h3, 3)?;
+        Ok(())
+    } else {
+        emit_start(draft, ones, d, h0, 0)?;
+        Ok(())
+    }
+}
+
+/// A constant into a register, by the fewest words.
+pub fn emit_const(draft: &mut Draft, d: Reg, value: u64) -> Result<(), AllocError>
+    ensures labels { OnOk result (draft.new.labels ≡ draft.old.labels) }
+    ensures code { OnOk result (Appends draft.old draft.new (words.const_code d.number value)) }
+{
+    let h0 = (value % 65536) as u32;
+    let h1 = (value / 65536 % 65536) as u32;
+    let h2 = (value / 4294967296 % 65536) as u32;
+    let h3 = (value / 281474976710656 % 65536) as u32;
+    emit_halves(draft, has_ones(h0, h1, h2, h3), d, h0, h1, h2, h3)?;
+    Ok(())
+}
+
+// The words of an operator with two operands, before its result is settled.
+fn emit_operation(
+    draft: &mut Draft,
+    op: BinaryOp,
+    signed: bool,
+    d: Reg,
+    a: Reg,
+    b: Reg,
+) -> Result<(), AllocError>
+    ensures labels { OnOk result (draft.new.labels ≡ draft.old.labels) }
+    ensures code { OnOk result (Appends draft.old draft.new
+        (words.operation_code op signed d.number a.number b.number)) }
+{
+    let greater = condition(CompareOp::Gt, signed);
+    match op {
+        BinaryOp::Add => draft.put(add_sub(AddSubOp::Add, d, a, b))?,
+        BinaryOp::Sub => draft.put(add_sub(AddSubOp::Sub, d, a, b))?,
+        BinaryOp::Mul => draft.put(multiply(d, a, b))?,
+        BinaryOp::And => draft.put(logical(LogicalOp::And, d, a, b))?,
+        BinaryOp::Or => draft.put(logical(LogicalOp::Orr, d, a, b))?,
+        BinaryOp::Xor => draft.put(logical(LogicalOp::Eor, d, a, b))?,
+        BinaryOp::Min => {
+            draft.put(add_sub(AddSubOp::Subs, zero(), a, b))?;
+            draft.put(select(SelectOp::Csel, d, b, greater, a))?;
+        }
+        BinaryOp::Max => {
+            draft.put(add_sub(AddSubOp::Subs, zero(), a, b))?;
+            draft.put(select(SelectOp::Csel, d, a, greater, b))?;
+        }
+    }
+    Ok(())
+}
+
+/// The code of an operator with two operands.
+pub fn emit_binary(
+    draft: &mut Draft,
+    op: BinaryOp,
+    ty: Ty,
+    d: Reg,
+    a: Reg,
+    b: Reg,
+) -> Result<(), AllocError>
+    ensures labels { OnOk result (draft.new.labels ≡ draft.old.labels) }
+    ensures code { OnOk result (Appends draft.old draft.new (words.binary_code op ty d.number a.number b.number)) }
+{
+    emit_operation(draft, op, is_signed(ty), d, a, b)?;
+    emit_settle(draft, binary_leaves(op), ty, d)?;
+    Ok(())
+}
+
+// The absolute value.
+fn emit_abs(draft: &mut Draft, ty: Ty, d: Reg, a: Reg) -> Result<(), AllocError>
+    ensures labels { OnOk result (draft.new.labels ≡ draft.old.labels) }
+    ensures code { OnOk result (Appends draft.old draft.new (words.unary_code unary.Abs ty d.number a.number)) }
+{
+    if is_signed(ty) {
+        draft.put(add_sub(AddSubOp::Subs, scratch(), zero(), a))?;
+        draft.put(select(SelectOp::Csel, d, scratch(), Cond::Ge, a))?;
+        emit_settle(draft, true, ty, d)?;
+        Ok(())
+    } else {
+        emit_copy(draft, d, a)?;
+        Ok(())
+    }
+}
+
+// The code of an operator with one operand.
+fn emit_unary(draft: &mut Draft, op: UnaryOp, ty: Ty, d: Reg, a: Reg) -> Result<(), AllocError>
+    ensures labels { OnOk result (draft.new.labels ≡ draft.old.labels) }
+    ensures code { OnOk result (Appends draft.old draft.new (words.unary_code op ty d.number a.number)) }
+{
+    match op {
+        UnaryOp::Neg => {
+            draft.put(add_sub(AddSubOp::Sub, d, zero(), a))?;
+            emit_settle(draft, unary_leaves(op, ty), ty, d)?;
+            Ok(())
+        }
+        UnaryOp::Flip => {
+            draft.put(logical(LogicalOp::Orn, d, zero(), a))?;
+            emit_settle(draft, unary_leaves(op, ty), ty, d)?;
+            Ok(())
+        }
+        UnaryOp::Abs => {
+            emit_abs(draft, ty, d, a)?;
+            Ok(())
+        }
+    }
+}
+
+// The code of a shift by a constant.
+fn emit_shift(
+    draft: &mut Draft,
+    left: bool,
+    count: i128,
+    ty: Ty,
+    d: Reg,
+    a: Reg,
+) -> Result<(), AllocError>
+    ensures labels { OnOk result (draft.new.labels ≡ draft.old.labels) }
+    ensures code { OnOk result (Appends draft.old draft.new (words.shift_code left count ty d.number a.number)) }
+{
+    draft.put(shifted(left, is_signed(ty), shift_count(count), d, a))?;
+    emit_settle(draft, left, ty, d)?;
+    Ok(())
+}
+
+// Whether the sides of a comparison are of a signed type.
+fn signed_side(want: Option<Ty>) -> bool
+    ensures { result ≡ code.signed_side want }
+{
+    match want {
+        None => false,
+        Some(ty) => is_signed(ty),
+    }
+}
+
+/// The code of a comparison.
+pub fn emit_compare(
+    draft: &mut Draft,
+    op: CompareOp,
+    want: Option<Ty>,
+    a: Reg,
+    b: Reg,
+) -> Result<(), AllocError>
+    ensures labels { OnOk result (draft.new.labels ≡ draft.old.labels) }
+    ensures code { OnOk result (Appends draft.old draft.new
+        (words.truth_code a.number b.number (words.condition op (code.signed_side want)))) }
+{
+    let signed = signed_side(want);
+    draft.put(add_sub(AddSubOp::Subs, zero(), a, b))?;
+    draft.put(select(
+        SelectOp::Csinc,
+        truth(),
+        zero(),
+        contrary(op, signed),
+        zero(),
+    ))?;
+    Ok(())
+}
+
+/// The same where a type is wanted.
+pub fn want_binary(
+    draft: &mut Draft,
+    op: BinaryOp,
+    want: Option<Ty>,
+    d: Reg,
+    a: Reg,
+    b: Reg,
+) -> Result<(), AllocError>
+    ensures labels { OnOk result (draft.new.labels ≡ draft.old.labels) }
+    ensures code { OnOk result ((rest : List plain.Entry)
+        → draft.new.entries ++ rest ≡ draft.old.entries
+        ++ code.at_type want (λ t. words.binary_code op t d.number a.number b.number rest) rest) }
+{
+    match want {
+        None => Ok(()),
+        Some(ty) => {
+            emit_binary(draft, op, ty, d, a, b)?;
+            Ok(())
+        }
+    }
+}
+
+/// The same where a type is wanted.
+pub fn want_unary(
+    draft: &mut Draft,
+    op: UnaryOp,
+    want: Option<Ty>,
+    d: Reg,
+    a: Reg,
+) -> Result<(), AllocError>
+    ensures labels { OnOk result (draft.new.labels ≡ draft.old.labels) }
+    ensures code { OnOk result ((rest : List plain.Entry)
+        → draft.new.entries ++ rest ≡ draft.old.entries
+        ++ code.at_type want (λ t. words.unary_code op t d.number a.number rest) rest) }
+{
+    match want {
+        None => Ok(()),
+        Some(ty) => {
+            emit_unary(draft, op, ty, d, a)?;
+            Ok(())
+        }
+    }
+}
+
+/// The same where a type is wanted.
+pub fn want_shift(
+    draft: &mut Draft,
+    left: bool,
+    count: i128,
+    want: Option<Ty>,
+    d: Reg,
+    a: Reg,
+) -> Result<(), AllocError>
+    ensures labels { OnOk result (draft.new.labels ≡ draft.old.labels) }
+    ensures code { OnOk result ((rest : List plain.Entry)
+        → draft.new.entries ++ rest ≡ draft.old.entries
+        ++ code.at_type want (λ t. words.shift_code left count t d.number a.number rest) rest) }
+{
+    match want {
+        None => Ok(()),
+        Some(ty) => {
+            emit_shift(draft, left, count, ty, d, a)?;
+            Ok(())
+        }
+    }
+}
+
+/// A cast, where its operand has a type.
+pub fn want_cast(
+    draft: &mut Draft,
+    from: Option<Ty>,
+    ty: Ty,
+    d: Reg,
+    a: Reg,
+) -> Result<(), AllocError>
+    ensures labels { OnOk result (draft.new.labels ≡ draft.old.labels) }
+    ensures code { OnOk result ((rest : List plain.Entry)
+        → draft.new.entries ++ rest ≡ draft.old.entries
+        ++ code.at_type from (λ s. words.word_code (words.cast_word s ty d.number a.number) rest) rest) }
+{
+    match from {
+        None => Ok(()),
+        Some(from) => {
+            emit_cast(draft, from, ty, d, a)?;
+            Ok(())
+        }
+    }
+}
+
+/// The word of a stream index, if it takes one, and the register that holds the index.
+pub fn emit_offset(draft: &mut Draft, moved: Option<Word>) -> Result<Reg, AllocError>
+    requires plain { words.IsPlainIf (option_map word_view moved) }
+    ensures register { IfOk result (λ r. r.number ≡ words.index_register (option_map word_view moved)) }
+    ensures labels { OnOk result (draft.new.labels ≡ draft.old.labels) }
+    ensures code { OnOk result (Appends draft.old draft.new (words.word_code (option_map word_view moved))) }
+{
+    match moved {
+        None => Ok(index()),
+        Some(moved) => {
+            draft.put(moved)?;
+            Ok(scratch())
+        }
+    }
+}
+
+/// A load, where the elements have a type.
+pub fn emit_load(
+    draft: &mut Draft,
+    ty: Option<Ty>,
+    d: Reg,
+    p: Reg,
+    r: Reg,
+) -> Result<(), AllocError>
+    ensures labels { OnOk result (draft.new.labels ≡ draft.old.labels) }
+    ensures code { OnOk result (Appends draft.old draft.new (words.load_code ty d.number p.number r.number)) }
+{
+    match ty {
+        None => Ok(()),
+        Some(ty) => {
+            draft.put(load(ty, d, p, r))?;
+            Ok(())
+        }
+    }
+}
+
+/// One of two values, by the last truth.
+pub fn emit_choice(draft: &mut Draft, d: Reg, a: Reg, b: Reg) -> Result<(), AllocError>
+    ensures labels { OnOk result (draft.new.labels ≡ draft.old.labels) }
+    ensures code { OnOk result (Appends draft.old draft.new (words.select_code d.number a.number b.number)) }
+{
+    draft.put(add_sub(AddSubOp::Subs, zero(), truth(), zero()))?;
+    draft.put(select(SelectOp::Csel, d, a, Cond::Ne, b))?;
+    Ok(())
+}
+
+/// The contrary of the last truth.
+pub fn emit_not(draft: &mut Draft) -> Result<(), AllocError>
+    ensures labels { OnOk result (draft.new.labels ≡ draft.old.labels) }
+    ensures code { OnOk result (Appends draft.old draft.new (words.truth_code 28 31 0)) }
+{
+    emit_compare(draft, CompareOp::Eq, None, truth(), zero())?;
+    Ok(())
+}
