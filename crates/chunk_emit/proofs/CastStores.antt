@@ -1,4 +1,4 @@
--- A cast and the store behind it as one step, without a word for the cast.
+-- A cast and the store after it as one step, without a word for the cast.
 use Rattle.std.proofs.Common.{◌≡◌, ◌≢◌, ℕ, ◌+◌, ◌<◌, ◌≤◌, ℤ, Bool, true, false, List, length, Option, Some, None, refl, sym, ap, ◌∙◌, subst, arith}
 use Rattle.std.specs.Prelude.{nat_eq, slice_index, if◌then◌else◌}
 use Rattle.std.proofs.lemmas.Bool.{ne_eqb, eq-eqb}
@@ -67,30 +67,30 @@ stored-wrap t w m a z le =
 
 -- ---- a layout in which nothing needs the value of an item
 
-abbrev last_use : Layout → (q r : ℕ) → ℕ
-last_use l q r = if nat_eq r q then 0 else l.z_until r
+abbrev last_use_from : Layout → (q r : ℕ) → ℕ
+last_use_from l q r = if nat_eq r q then 0 else l.z_last_use r
 
 abbrev without : Layout → ℕ → Layout
-without l q = record l { z_until = last_use l q }
+without l q = record l { z_last_use = last_use_from l q }
 
 module _ (l : Layout) (q : ℕ) where
-  used_before : (r p : ℕ) → p < last_use l q r → p < l.z_until r
+  used_before : (r p : ℕ) → p < last_use_from l q r → p < l.z_last_use r
   used_before r p lt = by (nat_eq r q) lt
     where
-      by : (b : Bool) → p < (if b then 0 else l.z_until r) → p < l.z_until r
+      by : (b : Bool) → p < (if b then 0 else l.z_last_use r) → p < l.z_last_use r
       by true lt = absurd (omega (arith, lt))
       by false lt = lt
 
-  other_use : (r : ℕ) → r ≢ q → last_use l q r ≡ l.z_until r
-  other_use r ne = ap (λ b. if b then 0 else l.z_until r) (ne_eqb r q ne)
+  other_use : (r : ℕ) → r ≢ q → last_use_from l q r ≡ l.z_last_use r
+  other_use r ne = ap (λ b. if b then 0 else l.z_last_use r) (ne_eqb r q ne)
 
-  own_use : last_use l q q ≤ q
-  own_use = subst (λ u. u ≤ q) (sym (ap (λ b. if b then 0 else l.z_until q) (eq-eqb q q refl))) (omega arith)
+  own_use : last_use_from l q q ≤ q
+  own_use = subst (λ u. u ≤ q) (sym (ap (λ b. if b then 0 else l.z_last_use q) (eq-eqb q q refl))) (omega arith)
 
-  no_use : (r : ℕ) → l.z_until r ≤ r → last_use l q r ≤ r
+  no_use : (r : ℕ) → l.z_last_use r ≤ r → last_use_from l q r ≤ r
   no_use r le = by (nat_eq r q)
     where
-      by : (b : Bool) → (if b then 0 else l.z_until r) ≤ r
+      by : (b : Bool) → (if b then 0 else l.z_last_use r) ≤ r
       by true = omega arith
       by false = le
 
@@ -131,7 +131,7 @@ module _ (l : Layout) (q : ℕ) where
       sums = λ x is. let old = h.sums x is in record { before = old.before; alike = old.alike; typed = old.typed; holds = old.holds };
     }
 
-    holds_again : q < p → l.z_until q < p → Holds (without l q) f p t s → Holds l f p t s
+    holds_again : q < p → l.z_last_use q < p → Holds (without l q) f p t s → Holds l f p t s
     holds_again lt dead h = record {
       is = h.is;
       few = h.few;
@@ -145,13 +145,13 @@ module _ (l : Layout) (q : ℕ) where
       all = h.all;
       held = λ x is. let old = h.held x is in record { right = old.right; typed = old.typed };
       values = λ r below last.
-          let old = h.values r below (subst (λ u. p ≤ u) (sym (other_use r (λ e. absurd (let same = ap l.z_until e in omega (arith, last, dead, same))))) last) in
+          let old = h.values r below (subst (λ u. p ≤ u) (sym (other_use r (λ e. absurd (let same = ap l.z_last_use e in omega (arith, last, dead, same))))) last) in
           record { right = old.right; typed = old.typed };
       truths = h.truths;
       sums = λ x is. let old = h.sums x is in record { before = old.before; alike = old.alike; typed = old.typed; holds = old.holds };
     }
 
-does_again : {l : Layout} {q : ℕ} {f : Setting} {d : Laid} {c rest : List Entry} {s : State} {p most : ℕ} {out : Out} → q < p → l.z_until q < p → Does (without l q) f d c s rest p most out → Does l f d c s rest p most out
+does_again : {l : Layout} {q : ℕ} {f : Setting} {d : Laid} {c rest : List Entry} {s : State} {p most : ℕ} {out : Out} → q < p → l.z_last_use q < p → Does (without l q) f d c s rest p most out → Does l f d c s rest p most out
 does_again {l = l} {q = q} lt dead (does_fine end goes holds) = does_fine end goes (holds_again l q lt dead holds)
 does_again lt dead (does_fail kind access stops) = does_fail kind access stops
 
@@ -167,7 +167,7 @@ module _ (l : Layout) (fit : Assigned l) (f : Setting) (d : Laid) (rest : List E
   abbrev words : List Listed
   words = op_words f.w l p (mask_register l.registers second) (Store a (Outer place) (Some t) c x)
 
-  module _ (mask : FitsMask l q first) (behind_mask : FitsMask l p second) (operand_fits : FitsOperand l f.w q own x) (makes : MakesValue l q cast) (low : place < 8) (based : slice_index f.x place ≡ word (nth_value f.names place)) (near : IsNear c) (type_is : l.type (Made q) ≡ t) (wide : bits_of t ≤ width_bits f.w) (none : MakesNothing l p) (lt : q < p) (between : NoneBetween l (q + 1) p) (last : l.z_until q ≤ p) where
+  module _ (mask : FitsMask l q first) (behind_mask : FitsMask l p second) (operand_fits : FitsOperand l f.w q own x) (makes : MakesValue l q cast) (low : place < 8) (based : slice_index f.x place ≡ word (nth_value f.names place)) (near : IsNear c) (type_is : l.type (Made q) ≡ t) (wide : bits_of t ≤ width_bits f.w) (none : MakesNothing l p) (lt : q < p) (between : NoneBetween l (q + 1) p) (last : l.z_last_use q ≤ p) where
     abbrev new : ℕ → Lane → Lane
     new j k = with_value k q (wrap cast (source_value f.names j k x))
 

@@ -17,7 +17,7 @@ use Rattle.chunk_emit.specs.Steps.{chosen, takes_next, left_words}
 use Rattle.chunk_emit.specs.Writable.{IsWritable, AreWritable}
 use Rattle.chunk_emit.proofs.ItemRuns.{Taken, taken, puts-append}
 
--- the item behind the first one
+-- the item after the first one
 abbrev pub first_of : List Item → Option Item
 first_of [] = None
 first_of (it ∷ items) = Some it
@@ -54,7 +54,7 @@ chosen_writable w it (next ∷ items) h = by (past_cast it.item it.op next.op) r
 
 -- ---- by the place in a list
 
--- what stands for an item behind a list's last one
+-- what stands for an item after a list's last one
 abbrev pub no_item : LoopItem
 no_item = record { item = 0; mask = None; op = op.Load (record { ref_ptr = (0, 0); now = [] }) (Constant None (pos 0)) None (pos 0) }
 
@@ -77,7 +77,7 @@ drop_one [] (suc p) = ap view (sym (drop_all (suc p + 1) [] (omega arith)))
 drop_one (x ∷ xs) zero = refl
 drop_one (x ∷ xs) (suc p) = let next : suc p + 1 ≡ suc (p + 1) = omega arith in drop_one xs p ∙ ap (λ n. view (drop n (x ∷ xs))) (sym next)
 
--- behind an item that is done
+-- after an item that is done
 pub done_puts : (w : Width) (l : Layout) (done : Bool) (items : List LoopItem) (p : ℕ) (rest : List Entry) → done ≡ true → puts (items_words w l (view (drop (p + 1) items))) rest ≡ puts (left_words w l done (view (drop p items))) rest
 done_puts w l done items p rest e = ap (λ its. puts (items_words w l its) rest) (sym (drop_one items p)) ∙ ap (λ b. puts (left_words w l b (view (drop p items))) rest) (sym e)
 
@@ -106,7 +106,7 @@ tail_writable w (it ∷ items) h = h.1
 pub writable_behind : (w : Width) (items : List LoopItem) (p : ℕ) → AreWritable w (view (drop p items)) → AreWritable w (view (drop (p + 1) items))
 writable_behind w items p all = subst (AreWritable w) (drop_one items p) (tail_writable w (view (drop p items)) all)
 
--- behind the last item
+-- after the last item
 pub none_left : (w : Width) (l : Layout) (done : Bool) (items : List LoopItem) (p : ℕ) (rest : List Entry) → length items ≤ p → rest ≡ puts (left_words w l done (view (drop p items))) rest
 none_left w l done items p rest h = sym (nothing done) ∙ ap (λ its. puts (left_words w l done (view its)) rest) (sym (drop_all p items h))
   where

@@ -83,8 +83,8 @@ abbrev layout : Layout
 layout = record {
   registers = record { source = register; z = own; p = λ q. 2 };
   type = type_of;
-  z_until = slice_index uses;
-  p_until = slice_index truth_uses;
+  z_last_use = slice_index uses;
+  p_last_use = slice_index truth_uses;
   held = is_held;
   updated = λ x. bytes_eq x c;
   update = λ x. update.Add;

@@ -16,7 +16,7 @@ use Rattle.loop_form.specs.Registers.{FitsKernel}
 use Rattle.loop_form.proofs.Limits.{vars-small}
 use Rattle.loop_form.proofs.IntervalLaws.{throughout-few}
 use Rattle.chunk_order.proofs.Sites.{bytes_told, bytes_same}
-use Rattle.chunk_emit.specs.KernelLayout.{register_of, item_place, item_until, throughout_of, is_same, next_place, place_in, place_of_one, held_place, sum_place, source_register, layout_of_loop}
+use Rattle.chunk_emit.specs.KernelLayout.{register_of, item_place, item_last_use, throughout_of, is_same, next_place, place_in, place_of_one, held_place, sum_place, source_register, layout_of_loop}
 use Rattle.chunk_emit.specs.Fits.{Assigned}
 use Rattle.chunk_emit.proofs.FitsIntervals.{Chosen, chosen_of, throughout-place, of_z, of_p, is_placed, placed_interval}
 
@@ -103,7 +103,7 @@ module _ (k : Program) (a b : Assignment) (f : FitsKernel k Z a) (g : FitsKernel
   all = throughout k Z
 
   abbrev always : Interval
-  always = record { from = 0; until = size_of k }
+  always = record { from = 0; last_use = size_of k }
 
   -- a place among what is held throughout
   record Held (o : Option ℕ) (t : Throughout) : Type 0 where
@@ -160,17 +160,17 @@ module _ (k : Program) (a b : Assignment) (f : FitsKernel k Z a) (g : FitsKernel
   held_small o t h = let l = chosen_z.below h.m always h.interval in let e = ap (register_of 31 a) h.place in omega (arith, l, e)
 
   -- two items that are needed at once
-  places_differ : {p q m n u v : ℕ} (is : List Interval) → q < p → slice_get is m ≡ Some (record { from = p; until = u }) → slice_get is n ≡ Some (record { from = q; until = v }) → m ≢ n
+  places_differ : {p q m n u v : ℕ} (is : List Interval) → q < p → slice_get is m ≡ Some (record { from = p; last_use = u }) → slice_get is n ≡ Some (record { from = q; last_use = v }) → m ≢ n
   places_differ {p = p} {q = q} is lt e f same = let both = some_same (sym e ∙ ap (slice_get is) same ∙ f) in let begin : p ≡ q = ap (λ (s : Interval). s.from) both in omega (arith, begin, lt)
 
-  items_apart : (p q : ℕ) → q < p → p < item_until k Z q → p < item_until k Z p → source_register k a (Made p) ≢ source_register k a (Made q)
+  items_apart : (p q : ℕ) → q < p → p < item_last_use k Z q → p < item_last_use k Z p → source_register k a (Made p) ≢ source_register k a (Made q)
   items_apart p q lt live used e =
       let x = is_placed k Z of_z p p used in
       let y = is_placed k Z of_z q p live in
       chosen_z.apart x.m y.m p _ _ (places_differ (intervals k Z) lt x.interval y.interval) x.interval y.interval (omega arith) used (omega (arith, lt)) live
       (sym (ap (register_of 31 a) x.place) ∙ e ∙ ap (register_of 31 a) y.place)
 
-  conditions_apart : (p q : ℕ) → q < p → p < item_until k P q → p < item_until k P p → 2 + register_of 0 b (item_place k P p) ≢ 2 + register_of 0 b (item_place k P q)
+  conditions_apart : (p q : ℕ) → q < p → p < item_last_use k P q → p < item_last_use k P p → 2 + register_of 0 b (item_place k P p) ≢ 2 + register_of 0 b (item_place k P q)
   conditions_apart p q lt live used e =
       let x = is_placed k P of_p p p used in
       let y = is_placed k P of_p q p live in
@@ -179,7 +179,7 @@ module _ (k : Program) (a b : Assignment) (f : FitsKernel k Z a) (g : FitsKernel
       (sym (ap (register_of 0 b) x.place) ∙ same ∙ ap (register_of 0 b) y.place)
 
   -- an item, and what is held throughout
-  item_apart : (o : Option ℕ) (t : Throughout) (q : ℕ) → Held o t → q < item_until k Z q → source_register k a (Made q) ≢ register_of 31 a o
+  item_apart : (o : Option ℕ) (t : Throughout) (q : ℕ) → Held o t → q < item_last_use k Z q → source_register k a (Made q) ≢ register_of 31 a o
   item_apart o t q h used e =
       let y = is_placed k Z of_z q q used in
       let behind = y.behind in

@@ -22,7 +22,7 @@ use Rattle.loop_form.specs.Needs.{Throughout, scalar_of, scalars, is_named_scala
 use Rattle.loop_form.specs.Numbers.{Numbered}
 use Rattle.loop_form.proofs.Numbers.{loop-listed}
 use Rattle.chunk_order.proofs.Sites.{bytes_told, bytes_same}
-use Rattle.chunk_emit.specs.KernelLayout.{is_same, next_place, place_in, place_of_one, held_place, sum_place, last_in, item_until}
+use Rattle.chunk_emit.specs.KernelLayout.{is_same, next_place, place_in, place_of_one, held_place, sum_place, last_in, item_last_use}
 
 -- ---- a value that is in a list has a place there
 
@@ -237,8 +237,8 @@ GivesContent k t _ = Unit {0}
 
 -- until when what it makes is needed, and what is held throughout for it
 pub record Gives (k : Program) (e : Entry) : Type 0 where
-  pub value_until : item_until k Z e.item ≡ last_in Z (entries_of k) e
-  pub truth_until : item_until k P e.item ≡ last_in P (entries_of k) e
+  pub value_last_use : item_last_use k Z e.item ≡ last_in Z (entries_of k) e
+  pub truth_last_use : item_last_use k P e.item ≡ last_in P (entries_of k) e
   pub content : GivesContent k e.type e.content
 
 -- all of some items
@@ -258,7 +258,7 @@ index_here : (f : Entry → ℕ) (xs : List Entry) (e : Entry) (ys : List Entry)
 index_here f [] e ys = refl
 index_here f (x ∷ xs) e ys = index_here f xs e ys
 
-until_here : (k : Program) (class : RegClass) (xs : List Entry) (e : Entry) (ys : List Entry) → xs ++ e ∷ ys ≡ loop_entries k → e.item ≡ loop_start k + length xs → item_until k class e.item ≡ last_in class (entries_of k) e
+until_here : (k : Program) (class : RegClass) (xs : List Entry) (e : Entry) (ys : List Entry) → xs ++ e ∷ ys ≡ loop_entries k → e.item ≡ loop_start k + length xs → item_last_use k class e.item ≡ last_in class (entries_of k) e
 until_here k class xs e ys split number =
     let place : e.item - loop_start k ≡ length xs = omega (arith, number) in
     ap (slice_index (map (last_in class (entries_of k)) (loop_entries k))) place ∙ ap (λ es. slice_index (map (last_in class (entries_of k)) es) (length xs)) (sym split) ∙ index_here (last_in class (entries_of k)) xs e ys
@@ -280,8 +280,8 @@ rest_give k xs (e ∷ es) split h =
     let one : length (xs ++ e ∷ []) ≡ length xs + 1 = length-append xs (e ∷ []) in
     let next : suc (loop_start k + length xs) ≡ loop_start k + length (xs ++ e ∷ []) = omega (arith, one) in (
       record {
-        value_until = until_here k Z xs e es split h.0;
-        truth_until = until_here k P xs e es split h.0;
+        value_last_use = until_here k Z xs e es split h.0;
+        truth_last_use = until_here k P xs e es split h.0;
         content = content_given k e.type e.content xs e es refl refl split;
       },
       rest_give k (xs ++ e ∷ []) es (append_assoc xs (e ∷ []) es ∙ split) (subst (λ n. Numbered n es) next h.1),

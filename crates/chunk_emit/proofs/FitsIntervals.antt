@@ -14,19 +14,19 @@ use Rattle.reg_assign.specs.declared.interval.RegClass.TheVariants.{Z, P, X}
 use Rattle.reg_assign.specs.Registers.{Assignment, is_live_one}
 use Rattle.reg_assign.proofs.Overlaps.{live}
 use Rattle.loop_form.specs.Entries.{Entry, entries_of, turns_entries, loop_entries, loop_start}
-use Rattle.loop_form.specs.Listing.{until_in}
+use Rattle.loop_form.specs.Listing.{last_use_in}
 use Rattle.loop_form.specs.Needs.{Throughout, throughout, span, spans_of, whole, values, counted, intervals}
 use Rattle.loop_form.specs.Numbers.{Numbered}
 use Rattle.loop_form.specs.Places.{place_of, places_from, value_places, first_counted, IsValueOf}
 use Rattle.loop_form.specs.Registers.{counted_registers, FitsKernel}
 use Rattle.loop_form.proofs.Numbers.{loop-listed}
 use Rattle.loop_form.proofs.PlaceLaws.{interval-behind, place-value}
-use Rattle.chunk_emit.specs.KernelLayout.{flat, item_place, last_in, item_until}
+use Rattle.chunk_emit.specs.KernelLayout.{flat, item_place, last_in, item_last_use}
 
 -- Registers by interval.
 pub record Chosen (k : Program) (class : RegClass) (a : Assignment) : Type 0 where
   pub below : (i : ℕ) (s : Interval) → slice_get (intervals k class) i ≡ Some s → slice_index a.registers i < counted_registers class
-  pub apart : (i j p : ℕ) (s t : Interval) → i ≢ j → slice_get (intervals k class) i ≡ Some s → slice_get (intervals k class) j ≡ Some t → s.from ≤ p → p < s.until → t.from ≤ p → p < t.until → slice_index a.registers i ≢ slice_index a.registers j
+  pub apart : (i j p : ℕ) (s t : Interval) → i ≢ j → slice_get (intervals k class) i ≡ Some s → slice_get (intervals k class) j ≡ Some t → s.from ≤ p → p < s.last_use → t.from ≤ p → p < t.last_use → slice_index a.registers i ≢ slice_index a.registers j
 
 pub chosen_of : (k : Program) (class : RegClass) (a : Assignment) → FitsKernel k class a → Chosen k class a
 chosen_of k class a f = record {
@@ -39,27 +39,27 @@ chosen_of k class a f = record {
 
 -- ---- what is held throughout
 
-get-whole : (k : Program) (ts : List Throughout) (is : List Interval) (v : ℕ) → v < length ts → slice_get (map (whole k) ts ++ is) v ≡ Some (record { from = 0; until = size_of k })
+get-whole : (k : Program) (ts : List Throughout) (is : List Interval) (v : ℕ) → v < length ts → slice_get (map (whole k) ts ++ is) v ≡ Some (record { from = 0; last_use = size_of k })
 get-whole k [] is v h = absurd (omega arith)
 get-whole k (t ∷ ts) is zero h = refl
 get-whole k (t ∷ ts) is (suc v) h = get-whole k ts is v (omega arith)
 
-pub throughout-place : (k : Program) (class : RegClass) (v : ℕ) → v < length (throughout k class) → slice_get (intervals k class) v ≡ Some (record { from = 0; until = size_of k })
+pub throughout-place : (k : Program) (class : RegClass) (v : ℕ) → v < length (throughout k class) → slice_get (intervals k class) v ≡ Some (record { from = 0; last_use = size_of k })
 throughout-place k class v h = get-whole k (throughout k class) (values k class) v h
 
 -- ---- items
 
 -- where an item's value stands among the places of items, and among the intervals
-record Placed (class : RegClass) (all es : List Entry) (j b n until : ℕ) : Type 0 where
+record Placed (class : RegClass) (all es : List Entry) (j b n last_use : ℕ) : Type 0 where
   i : ℕ
   place : slice_get (places_from class all j es) n ≡ Some (Some (j + i))
-  interval : slice_get (spans_of class all es) i ≡ Some (record { from = b + n; until = until })
+  interval : slice_get (spans_of class all es) i ≡ Some (record { from = b + n; last_use = last_use })
 
 placed : (class : RegClass) (all es : List Entry) (j b n u : ℕ) → Numbered b es → slice_index (map (last_in class all) es) n ≡ suc u → Placed class all es j b n (suc u)
 placed class all [] j b n u h e = absurd cc
-placed class all (x ∷ es) j b n u h e = by (until_in class all x) refl n e (λ i m q. placed class all es i (suc b) m u h.1 q)
+placed class all (x ∷ es) j b n u h e = by (last_use_in class all x) refl n e (λ i m q. placed class all es i (suc b) m u h.1 q)
   where
-    by : (o : Option ℕ) → until_in class all x ≡ o → (n : ℕ) → slice_index (unwrap_or o 0 ∷ map (last_in class all) es) n ≡ suc u → ((i m : ℕ) → slice_index (map (last_in class all) es) m ≡ suc u → Placed class all es i (suc b) m (suc u)) → Placed class all (x ∷ es) j b n (suc u)
+    by : (o : Option ℕ) → last_use_in class all x ≡ o → (n : ℕ) → slice_index (unwrap_or o 0 ∷ map (last_in class all) es) n ≡ suc u → ((i m : ℕ) → slice_index (map (last_in class all) es) m ≡ suc u → Placed class all es i (suc b) m (suc u)) → Placed class all (x ∷ es) j b n (suc u)
     by None q zero e more = absurd cc
     by None q (suc m) e more =
         let p = more j m e in
@@ -67,7 +67,7 @@ placed class all (x ∷ es) j b n u h e = by (until_in class all x) refl n e (λ
         record {
           i = p.i;
           place = ap (λ o. slice_get (place_of j o (λ i. places_from class all i es)) (suc m)) q ∙ p.place;
-          interval = ap (λ o. slice_get (cons_option (span x.item o) (spans_of class all es)) p.i) q ∙ p.interval ∙ ap (λ r. Some (record { from = r; until = suc u })) number;
+          interval = ap (λ o. slice_get (cons_option (span x.item o) (spans_of class all es)) p.i) q ∙ p.interval ∙ ap (λ r. Some (record { from = r; last_use = suc u })) number;
         }
     by (Some v) q zero e more =
         let here : j ≡ j + 0 = omega arith in
@@ -76,7 +76,7 @@ placed class all (x ∷ es) j b n u h e = by (until_in class all x) refl n e (λ
         record {
           i = 0;
           place = ap (λ o. slice_get (place_of j o (λ i. places_from class all i es)) 0) q ∙ ap (λ r. Some (Some r)) here;
-          interval = ap (λ o. slice_get (cons_option (span x.item o) (spans_of class all es)) 0) q ∙ ap (λ r. Some (record { from = r; until = v })) number ∙ ap (λ r. Some (record { from = b + 0; until = r })) same;
+          interval = ap (λ o. slice_get (cons_option (span x.item o) (spans_of class all es)) 0) q ∙ ap (λ r. Some (record { from = r; last_use = v })) number ∙ ap (λ r. Some (record { from = b + 0; last_use = r })) same;
         }
     by (Some v) q (suc m) e more =
         let p = more (j + 1) m e in
@@ -85,7 +85,7 @@ placed class all (x ∷ es) j b n u h e = by (until_in class all x) refl n e (λ
         record {
           i = suc p.i;
           place = ap (λ o. slice_get (place_of j o (λ i. places_from class all i es)) (suc m)) q ∙ p.place ∙ ap (λ r. Some (Some r)) later;
-          interval = ap (λ o. slice_get (cons_option (span x.item o) (spans_of class all es)) (suc p.i)) q ∙ p.interval ∙ ap (λ r. Some (record { from = r; until = suc u })) number;
+          interval = ap (λ o. slice_get (cons_option (span x.item o) (spans_of class all es)) (suc p.i)) q ∙ p.interval ∙ ap (λ r. Some (record { from = r; last_use = suc u })) number;
         }
 
 -- the classes of vector registers
@@ -97,7 +97,7 @@ pub data OfVectors : RegClass → Type 0 where
 pub record IsPlaced (k : Program) (class : RegClass) (q : ℕ) : Type 0 where
   pub m : ℕ
   pub place : item_place k class q ≡ Some m
-  pub interval : slice_get (intervals k class) m ≡ Some (record { from = q; until = item_until k class q })
+  pub interval : slice_get (intervals k class) m ≡ Some (record { from = q; last_use = item_last_use k class q })
   pub behind : length (throughout k class) ≤ m
   pub within : q < size_of k
 
@@ -115,17 +115,17 @@ first_nothing k P of_p = by k.turns
     by None = refl
     by (Some l) = refl
 
-after_first : (k : Program) (class : RegClass) → OfVectors class → (q u : ℕ) → item_until k class q ≡ suc u → loop_start k ≤ q
+after_first : (k : Program) (class : RegClass) → OfVectors class → (q u : ℕ) → item_last_use k class q ≡ suc u → loop_start k ≤ q
 after_first k class c q u e =
     ⊎_elim
     (λ (lt : q < loop_start k).
     let first : q - loop_start k ≡ 0 = omega (arith, lt) in
-    let none : item_until k class q ≡ 0 = ap (slice_index (map (last_in class (entries_of k)) (loop_entries k))) first ∙ first_nothing k class c in
+    let none : item_last_use k class q ≡ 0 = ap (slice_index (map (last_in class (entries_of k)) (loop_entries k))) first ∙ first_nothing k class c in
     absurd (omega (arith, none, e)))
     (λ (ge : loop_start k ≤ q). ge)
     (cases_lt q (loop_start k))
 
-placed_in : (k : Program) (class : RegClass) → OfVectors class → (q u : ℕ) → item_until k class q ≡ suc u → Placed class (entries_of k) (loop_entries k) (length (throughout k class)) (loop_start k) (q - loop_start k) (suc u) → counted k class ≡ loop_entries k → IsPlaced k class q
+placed_in : (k : Program) (class : RegClass) → OfVectors class → (q u : ℕ) → item_last_use k class q ≡ suc u → Placed class (entries_of k) (loop_entries k) (length (throughout k class)) (loop_start k) (q - loop_start k) (suc u) → counted k class ≡ loop_entries k → IsPlaced k class q
 placed_in k class c q u e p f =
     let start = after_first k class c q u e in
     let number : loop_start k + (q - loop_start k) ≡ q = omega (arith, start) in
@@ -134,25 +134,25 @@ placed_in k class c q u e p f =
     record {
       m = length (throughout k class) + p.i;
       place = ap (λ es. flat (slice_get (places_from class (entries_of k) (length (throughout k class)) es) (q - loop_start k))) f ∙ ap flat p.place;
-      interval = interval-behind k class p.i ∙ ap (λ es. slice_get (spans_of class (entries_of k) es) p.i) f ∙ p.interval ∙ ap (λ r. Some (record { from = r; until = suc u })) number ∙ ap (λ r. Some (record { from = q; until = r })) (sym e);
+      interval = interval-behind k class p.i ∙ ap (λ es. slice_get (spans_of class (entries_of k) es) p.i) f ∙ p.interval ∙ ap (λ r. Some (record { from = r; last_use = suc u })) number ∙ ap (λ r. Some (record { from = q; last_use = r })) (sym e);
       behind = omega arith;
       within = ⊎_elim
           (λ (lt : q < size_of k). lt)
           (λ (ge : size_of k ≤ q).
-          let past : item_until k class q ≡ 0 = get_or_past (map (last_in class (entries_of k)) (loop_entries k)) (q - loop_start k) 0 (omega (arith, count, len, ge, start)) in
+          let past : item_last_use k class q ≡ 0 = get_or_past (map (last_in class (entries_of k)) (loop_entries k)) (q - loop_start k) 0 (omega (arith, count, len, ge, start)) in
           absurd (omega (arith, past, e)))
           (cases_lt q (size_of k));
     }
 
-pub is_placed : (k : Program) (class : RegClass) → OfVectors class → (q x : ℕ) → x < item_until k class q → IsPlaced k class q
-is_placed k class c q x lt = by (item_until k class q) refl (omega (arith, lt))
+pub is_placed : (k : Program) (class : RegClass) → OfVectors class → (q x : ℕ) → x < item_last_use k class q → IsPlaced k class q
+is_placed k class c q x lt = by (item_last_use k class q) refl (omega (arith, lt))
   where
     by_class : (class : RegClass) → OfVectors class → counted k class ≡ loop_entries k
     by_class Z of_z = refl
     by_class P of_p = refl
     by_class X c = elim c [ ]
 
-    by : (n : ℕ) → item_until k class q ≡ n → 0 < n → IsPlaced k class q
+    by : (n : ℕ) → item_last_use k class q ≡ n → 0 < n → IsPlaced k class q
     by zero e h = absurd (omega (arith, h))
     by (suc u) e h = placed_in k class c q u e (placed class (entries_of k) (loop_entries k) (length (throughout k class)) (loop_start k) (q - loop_start k) u (loop-listed k).numbered e) (by_class class c)
 
@@ -162,4 +162,4 @@ placed_interval k class q m e = by (slice_get (value_places k class) (q - loop_s
   where
     by : (o : Option (Option ℕ)) → slice_get (value_places k class) (q - loop_start k) ≡ o → flat o ≡ Some m → (s : Interval) × (slice_get (intervals k class) m ≡ Some s)
     by None g e = absurd cc
-    by (Some o) g e = let v : IsValueOf (first_counted k class + (q - loop_start k)) (slice_get (intervals k class) m) = place-value k class (q - loop_start k) m (g ∙ ap Some e) in (record { from = first_counted k class + (q - loop_start k); until = v.0 }, v.1)
+    by (Some o) g e = let v : IsValueOf (first_counted k class + (q - loop_start k)) (slice_get (intervals k class) m) = place-value k class (q - loop_start k) m (g ∙ ap Some e) in (record { from = first_counted k class + (q - loop_start k); last_use = v.0 }, v.1)

@@ -16,11 +16,11 @@ use Rattle.loop_form.specs.declared.loop_item.Source.TheVariants.{Constant, Oute
 use Rattle.loop_form.specs.Entries.{entries_of}
 use Rattle.loop_form.specs.Lanes as lanes
 use Rattle.loop_form.specs.Lanes.{var_type}
-use Rattle.loop_form.specs.Listing.{last_use}
+use Rattle.loop_form.specs.Listing.{last_use_from}
 use Rattle.loop_form.specs.LoopItems.{Bound, bound, source_at, outer_env}
 use Rattle.chunk_order.specs.Apart.{elements_of, type_of_place}
 use Rattle.chunk_order.proofs.Sites.{bytes_told, locals_of, accs_of}
-use Rattle.chunk_emit.specs.KernelLayout.{source_type, item_until}
+use Rattle.chunk_emit.specs.KernelLayout.{source_type, item_last_use}
 
 -- what a visible name stands for
 abbrev pub binding_at : List Local → List ℕ → Option Binding
@@ -33,7 +33,7 @@ pub record LetHome (k : Program) (b : ℕ) (x : List ℕ) (t : Ty) (s : Source) 
   pub before : item < b
   pub type : source_type k (Made item) ≡ t
   pub from : ℕ
-  pub until : item_until k Z item ≡ last_use x from (entries_of k)
+  pub last_use : item_last_use k Z item ≡ last_use_from x from (entries_of k)
 
 -- where the value of a name is held before item b; an accumulator is known by its type
 abbrev pub HomeIs : Program → ℕ → List ℕ → Binding → Source → Type 0
@@ -59,13 +59,13 @@ home_later : (k : Program) (b c : ℕ) (x : List ℕ) (bd : Binding) (s : Source
 home_later k b c x (binding.Scalar t) s le h = h
 home_later k b c x (binding.Array t) s le h = h
 home_later k b c x (binding.Accumulator t) s le h = h
-home_later k b c x (binding.Value t) s le h = let z = h.before in record { item = h.item; is = h.is; before = omega (arith, le, z); type = h.type; from = h.from; until = h.until }
+home_later k b c x (binding.Value t) s le h = let z = h.before in record { item = h.item; is = h.is; before = omega (arith, le, z); type = h.type; from = h.from; last_use = h.last_use }
 home_later k b c x binding.Index s le h = h
 
 pub names_later : (k : Program) (b c : ℕ) (vs : List Local) (env : List Bound) → b ≤ c → Names k b vs env → Names k c vs env
 names_later k b c vs env le n = record { named = n.named; home = λ x bd e. home_later k b c x bd (source_at env x) le (n.home x bd e) }
 
--- ---- behind a `let`
+-- ---- after a `let`
 
 named_on : (vs us : List Local) (env fs : List Bound) → AreNamed vs env → AreNamed us fs → AreNamed (vs ++ us) (env ++ fs)
 named_on [] us [] fs h g = g

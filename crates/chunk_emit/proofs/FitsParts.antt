@@ -10,7 +10,7 @@ cast_first : (l : Layout) (it : Item) (xs ys : List Item) → FitsCast l it (xs 
 cast_first l it [] ys h = tt
 cast_first l it (x ∷ xs) ys h = h
 
--- the items before a place, and those behind it
+-- the items before a place, and those after it
 pub first_part : (l : Layout) (f : Setting) (p : ℕ) (xs ys : List Item) → FitsSteps l f p (xs ++ ys) → FitsSteps l f p xs
 first_part l f p [] ys h = tt
 first_part l f p (x ∷ xs) ys h = (h.0, h.1, h.2, h.3, cast_first l x xs ys h.4, first_part l f (x.item + 1) xs ys h.5)

@@ -1,4 +1,4 @@
--- From what fits behind an item to what fits from the item on.
+-- From what fits after an item to what fits from the item on.
 use Rattle.std.proofs.Common.{◌≡◌, ℕ, ◌+◌, ◌<◌, ◌≤◌, ℤ, Bool, true, false, List, [], ◌∷◌, Option, Some, None, refl, subst, arith, ⊎_elim}
 use Rattle.std.proofs.lemmas.Bool.{cases_lt}
 use Rattle.kernel_tree.specs.declared.ops.Ty.{Ty}

@@ -20,7 +20,7 @@ use Rattle.lane_emit.specs.ItemCode.{made_type}
 use Rattle.chunk_order.proofs.Sites.{bytes_same}
 use Rattle.chunk_emit.specs.Chunk.{Setting}
 use Rattle.chunk_emit.specs.Fits.{FitsSource, FitsOperand, FitsTruth}
-use Rattle.chunk_emit.specs.KernelLayout.{held_place, scalar_type, source_type, item_until, type_in, layout_of_loop}
+use Rattle.chunk_emit.specs.KernelLayout.{held_place, scalar_type, source_type, item_last_use, type_in, layout_of_loop}
 use Rattle.chunk_emit.specs.LoopFits.{FitsSetting}
 use Rattle.chunk_emit.proofs.FitsKnown.{At}
 use Rattle.chunk_emit.proofs.FitsNames.{binding_at, HomeIs, Names}
@@ -88,8 +88,8 @@ module _ (k : Program) (zs ps : Assignment) (f : Setting) (setting : FitsSetting
   pub at_width : (q : ℕ) (c : Content) (u : ℕ) (T : Ty) → At k q c u (Some T) → bits_of T ≤ width_bits f.w
   at_width q c u T at = let h = at.known.wide.value T at.type in let same = ap width_bits setting.width in omega (arith, h, same)
 
-  made_fits : (q u : ℕ) (T : Ty) → q < u → item_until k Z q ≡ u → type_in (loop_items_of k) q ≡ Some T → bits_of T ≤ width_bits f.w → FitsOperand (layout_of_loop k zs ps) f.w u T (Made q)
-  made_fits q u T lt until type wide = (((lt, omega (arith, until)), made_is k q T type), wide)
+  made_fits : (q u : ℕ) (T : Ty) → q < u → item_last_use k Z q ≡ u → type_in (loop_items_of k) q ≡ Some T → bits_of T ≤ width_bits f.w → FitsOperand (layout_of_loop k zs ps) f.w u T (Made q)
+  made_fits q u T lt last_use type wide = (((lt, omega (arith, last_use)), made_is k q T type), wide)
 
   literal_fits : (b u : ℕ) (T : Ty) (n : ℤ) → At k b (IsLiteral n) u (Some T) → FitsOperand (layout_of_loop k zs ps) f.w u T (Constant (Some T) n)
   literal_fits b u T n at = ((subst (λ o. is_some (held_place k (Constant o n)) ≡ true) at.type at.known.gives.content, refl), at_width b _ u T at)
@@ -107,9 +107,9 @@ module _ (k : Program) (zs ps : Assignment) (f : Setting) (setting : FitsSetting
     home_fits x T b u (binding.Value t) s le at e h =
         let same : t ≡ T = cc in
         let lt = h.before in
-        let until = h.until in
+        let last_use = h.last_use in
         let used = at.known.used x h.from (bytes_same x) in
-        subst (FitsSource (layout_of_loop k zs ps) u T) (sym h.is) ((omega (arith, lt, le), omega (arith, until, used)), h.type ∙ same)
+        subst (FitsSource (layout_of_loop k zs ps) u T) (sym h.is) ((omega (arith, lt, le), omega (arith, last_use, used)), h.type ∙ same)
     home_fits x T b u binding.Index s le at e h =
         let same : U64 ≡ T = cc in
         subst (FitsSource (layout_of_loop k zs ps) u T) (sym h.0) (at.known.gives.content.1 h.1, same)
@@ -121,21 +121,21 @@ module _ (k : Program) (zs ps : Assignment) (f : Setting) (setting : FitsSetting
     read_fits : (a : List ℕ) (j : Term) (T : Ty) (mask : Option ℕ) (q u : ℕ) (rest : List Item) (o : Option ℤ) (c : ℤ) → At k q (IsRead a j) u (Some T) → array_type S a ≡ Some T → o ≡ Some c → q < u → AllTyped k (load_item S mask q env a o rest) → FitsOperand (layout_of_loop k zs ps) f.w u T (Made q)
     read_fits a j T mask q u rest o c at e g lt typed =
         let here : AllTyped k (load_item S mask q env a (Some c) rest) = subst (λ z. AllTyped k (load_item S mask q env a z rest)) g typed in
-        made_fits q u T lt at.known.gives.value_until (here.0 ∙ e) (at_width q _ u T at)
+        made_fits q u T lt at.known.gives.value_last_use (here.0 ∙ e) (at_width q _ u T at)
 
     -- the value of an expression is in a register until its user
     pub operand_fits : (t : Term) (T : Ty) (mask : Option ℕ) (b u : ℕ) (rest : List Item) → KnownValue k S T b u t → b0 ≤ u → b + term_size i t ≤ u → AllTyped k (term_items S (Some T) mask b env t rest) → FitsOperand (layout_of_loop k zs ps) f.w u T (home i (Some T) b env t)
     operand_fits (Literal n) T mask b u rest h from le typed = literal_fits b u T n h
     operand_fits (Variable x) T mask b u rest h from le typed = (name_fits x T b u from h.0 (binding_at v x) refl h.1, at_width b _ u T h.0)
     operand_fits (Element a j) T mask b u rest h from le typed = read_fits a j T mask _ u rest (stream_offset i j) h.2.offset h.0 h.1 h.2.is (omega (arith, le)) typed
-    operand_fits (Unary op x) T mask b u rest h from le typed = made_fits _ u T (omega (arith, le)) h.1.known.gives.value_until (value_behind k x S (Some T) mask b env _ typed).0 (at_width _ _ u T h.1)
+    operand_fits (Unary op x) T mask b u rest h from le typed = made_fits _ u T (omega (arith, le)) h.1.known.gives.value_last_use (value_behind k x S (Some T) mask b env _ typed).0 (at_width _ _ u T h.1)
     operand_fits (Operation op x y) T mask b u rest h from le typed =
-        made_fits _ u T (omega (arith, le)) h.2.known.gives.value_until (value_behind k y S (Some T) mask _ env _ (value_behind k x S (Some T) mask b env _ typed)).0 (at_width _ _ u T h.2)
-    operand_fits (Shift to_left x n) T mask b u rest h from le typed = made_fits _ u T (omega (arith, le)) h.1.known.gives.value_until (value_behind k x S (Some T) mask b env _ typed).0 (at_width _ _ u T h.1)
+        made_fits _ u T (omega (arith, le)) h.2.known.gives.value_last_use (value_behind k y S (Some T) mask _ env _ (value_behind k x S (Some T) mask b env _ typed)).0 (at_width _ _ u T h.2)
+    operand_fits (Shift to_left x n) T mask b u rest h from le typed = made_fits _ u T (omega (arith, le)) h.1.known.gives.value_last_use (value_behind k x S (Some T) mask b env _ typed).0 (at_width _ _ u T h.1)
     operand_fits (Conversion x t) T mask b u rest h from le typed =
-        made_fits _ u T (omega (arith, le)) h.3.known.gives.value_until ((value_behind k x S (own S x) mask b env _ typed).0 ∙ ap Some (sym h.4)) (at_width _ _ u T h.3)
+        made_fits _ u T (omega (arith, le)) h.3.known.gives.value_last_use ((value_behind k x S (own S x) mask b env _ typed).0 ∙ ap Some (sym h.4)) (at_width _ _ u T h.3)
     operand_fits (Choice c x y) T mask b u rest h from le typed =
-        made_fits _ u T (omega (arith, le)) h.3.known.gives.value_until (truth_behind k c S mask _ env _ (value_behind k y S (Some T) mask _ env _ (value_behind k x S (Some T) mask b env _ typed))).0 (at_width _ _ u T h.3)
+        made_fits _ u T (omega (arith, le)) h.3.known.gives.value_last_use (truth_behind k c S mask _ env _ (value_behind k y S (Some T) mask _ env _ (value_behind k x S (Some T) mask b env _ typed))).0 (at_width _ _ u T h.3)
     operand_fits (Comparison op x y) T mask b u rest h from le typed = absurd h
     operand_fits (Both x y) T mask b u rest h from le typed = absurd h
     operand_fits (Either x y) T mask b u rest h from le typed = absurd h
@@ -146,13 +146,13 @@ module _ (k : Program) (zs ps : Assignment) (f : Setting) (setting : FitsSetting
 -- the item of a condition stands among its items, and is used last by `user`
 pub record TruthIs (k : Program) (b user : ℕ) (t : Term) : Type 0 where
   pub before : truth_home (loop_index k) b t < b + term_size (loop_index k) t
-  pub until : item_until k P (truth_home (loop_index k) b t) ≡ user
+  pub last_use : item_last_use k P (truth_home (loop_index k) b t) ≡ user
 
 pub truth_is : (k : Program) (s : Scope) (t : Term) (b user : ℕ) → KnownTruth k s b user t → TruthIs k b user t
-truth_is k s (Comparison op x y) b user h = record { before = omega arith; until = h.4.known.gives.truth_until }
-truth_is k s (Both x y) b user h = record { before = omega arith; until = h.2.known.gives.truth_until }
-truth_is k s (Either x y) b user h = record { before = omega arith; until = h.3.known.gives.truth_until }
-truth_is k s (Not x) b user h = record { before = omega arith; until = h.1.known.gives.truth_until }
+truth_is k s (Comparison op x y) b user h = record { before = omega arith; last_use = h.4.known.gives.truth_last_use }
+truth_is k s (Both x y) b user h = record { before = omega arith; last_use = h.2.known.gives.truth_last_use }
+truth_is k s (Either x y) b user h = record { before = omega arith; last_use = h.3.known.gives.truth_last_use }
+truth_is k s (Not x) b user h = record { before = omega arith; last_use = h.1.known.gives.truth_last_use }
 truth_is k s (Literal n) b user h = absurd h
 truth_is k s (Variable x) b user h = absurd h
 truth_is k s (Element a j) b user h = absurd h
@@ -163,4 +163,4 @@ truth_is k s (Conversion x t) b user h = absurd h
 truth_is k s (Choice c x y) b user h = absurd h
 
 pub truth_lasts : (k : Program) (zs ps : Assignment) (t : Term) (b user r : ℕ) → TruthIs k b user t → b + term_size (loop_index k) t ≤ r → r ≤ user → FitsTruth (layout_of_loop k zs ps) r (truth_home (loop_index k) b t)
-truth_lasts k zs ps t b user r h from to = let lt = h.before in let until = h.until in (omega (arith, lt, from), omega (arith, until, to))
+truth_lasts k zs ps t b user r h from to = let lt = h.before in let last_use = h.last_use in (omega (arith, lt, from), omega (arith, last_use, to))

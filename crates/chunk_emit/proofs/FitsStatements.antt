@@ -17,7 +17,7 @@ use Rattle.loop_form.specs.Entries.{IsLet, IsStore, IsUpdate, IsPlain, term_entr
 use Rattle.loop_form.specs.LoopItems.{Copy, Add, Invert, Quit, Item, item, Bound, bound, with_bound, array_type, accumulator_of, home, truth_home, term_items, store_item, after_env, action_items, block_items, otherwise_items}
 use Rattle.chunk_emit.specs.Chunk.{Setting}
 use Rattle.chunk_emit.specs.Fits.{FitsTruth}
-use Rattle.chunk_emit.specs.KernelLayout.{item_until, layout_of_loop}
+use Rattle.chunk_emit.specs.KernelLayout.{item_last_use, layout_of_loop}
 use Rattle.chunk_emit.specs.LoopFits.{FitsSetting, FitsSteps}
 use Rattle.chunk_emit.proofs.FitsTypes.{term_matches, action_matches, block_matches, otherwise_matches}
 use Rattle.chunk_emit.proofs.FitsKnown.{Part, part_left, part_right, part_behind, At, at_head}
@@ -28,7 +28,7 @@ use Rattle.chunk_emit.proofs.FitsPlaces.{moved, skip, plain_step, IsMasked, plai
 use Rattle.chunk_emit.proofs.FitsTerms.{value_makes, truth_makes, nothing_made, operand, value_steps, truth_steps}
 use Rattle.chunk_emit.proofs.FitsWrites.{store_ends, store_steps, update_steps}
 
--- ---- the types of the items behind
+-- ---- the types of the items after
 
 store_behind : (k : Program) (s : Scope) (mask : Option ℕ) (q : ℕ) (env : List Bound) (a : List ℕ) (o : Option ℤ) (v : Source) (rest : List Item) → AllTyped k (store_item s mask q env a o v rest) → AllTyped k rest
 store_behind k s mask q env a None v rest h = h
@@ -78,7 +78,7 @@ module _ (k : Program) (zs ps : Assignment) (f : Setting) (setting : FitsSetting
   abbrev scope : List Local → List (List ℕ) → Bool → Scope
   scope v tk ins = record { visible = v; taken = tk; index = loop_index k; inside = ins }
 
-  -- ---- the names behind a statement
+  -- ---- the names after a statement
 
   record AfterNames (ins : Bool) (env : List Bound) (s : Scope) (b : ℕ) (a : Action) : Type 0 where
     visible : List Local
@@ -101,7 +101,7 @@ module _ (k : Program) (zs ps : Assignment) (f : Setting) (setting : FitsSetting
       let T = w.0 in
       let at = at_head k q (IsLet x) q [] want [] (part_right k (term_entries k b q e) _ (term_types S (Value want) e) _ (term_matches k e S (Value want) b q refl) part) in
       let ti = value_behind k e S want mask b env (item q mask (Copy want (home i want b env e)) ∷ rest) types in
-      let new : LetHome k (b + action_size i (Define x t e)) x T (Made q) = record { item = q; is = refl; before = omega arith; type = made_is k q T (ti.0 ∙ w.1); from = q; until = at.known.gives.value_until } in
+      let new : LetHome k (b + action_size i (Define x t e)) x T (Made q) = record { item = q; is = refl; before = omega arith; type = made_is k q T (ti.0 ∙ w.1); from = q; last_use = at.known.gives.value_last_use } in
       record {
         visible = v ++ local x (binding.Value T) ∷ [];
         taken = insert_name tk x;
@@ -136,7 +136,7 @@ module _ (k : Program) (zs ps : Assignment) (f : Setting) (setting : FitsSetting
         let ti = value_behind k e S (Some T) mask b env last types in
         let here =
         plain_step L f q p mask act rest number (masked q (omega arith) (omega (arith, number)))
-        (operand k zs ps f setting few v tk ins b env names e T mask b q last known (omega arith) (omega arith) types, value_makes k zs ps f setting few q T at.known.gives.truth_until ti.0) (λ r next. refl) behind in
+        (operand k zs ps f setting few v tk ins b env names e T mask b q last known (omega arith) (omega arith) types, value_makes k zs ps f setting few q T at.known.gives.truth_last_use ti.0) (λ r next. refl) behind in
         value_steps k zs ps f setting few v tk ins b env names e T mask b q last known (omega arith) (omega arith) types (λ r lo hi. masked r lo (omega (arith, hi, number))) (plain_casts L b last refl) here
 
     put_steps : (a : List ℕ) (j e : Term) (mask : Option ℕ) (g p : ℕ) (rest : List Item) (o : Option Ty) (T : Ty) → array_type S a ≡ o → o ≡ Some T → IsStream i j → faults S g (Value o) e ≡ [] → Part k (term_entries k b (b + term_size i e) e) (term_types S (Value o) e)
@@ -175,7 +175,7 @@ module _ (k : Program) (zs ps : Assignment) (f : Setting) (setting : FitsSetting
         let known = truth_known k v tk ins c g b q none (part_left k (term_entries k b q c) _ _ _ m part) in
         let at = at_head k q (IsPlain kind.Break) q [] None [] (part_right k (term_entries k b q c) _ _ _ m part) in
         let used = truth_lasts k zs ps c b q q (truth_is k S c b q known) (omega arith) (omega arith) in
-        let here = plain_step L f q p mask (Quit (truth_home i b c)) rest number (masked q (omega arith) (omega (arith, number))) (used, nothing_made k zs ps f setting few q at.known.gives.value_until at.known.gives.truth_until) (λ r next. refl) behind in
+        let here = plain_step L f q p mask (Quit (truth_home i b c)) rest number (masked q (omega arith) (omega (arith, number))) (used, nothing_made k zs ps f setting few q at.known.gives.value_last_use at.known.gives.truth_last_use) (λ r next. refl) behind in
         truth_steps k zs ps f setting few v tk ins b env names c mask b q (item q mask (Quit (truth_home i b c)) ∷ rest) known (omega arith) types (λ r lo hi. masked r lo (omega (arith, hi, number))) here
 
   -- ---- statements and blocks
@@ -234,14 +234,14 @@ module _ (k : Program) (zs ps : Assignment) (f : Setting) (setting : FitsSetting
         let middle = block_items S (Some picked) inner env t last in
         let types2 = truth_behind k c S mask b env middle types in
         let types3 = block_behind k t S (Some picked) inner env last types2 in
-        let behind2 = skip L f end rest (nothing_made k zs ps f setting few end at_end.known.gives.value_until at_end.known.gives.truth_until) (moved L f (b + action_size i (Choose c t d)) (end + 1) rest (omega arith) behind) in
+        let behind2 = skip L f end rest (nothing_made k zs ps f setting few end at_end.known.gives.value_last_use at_end.known.gives.truth_last_use) (moved L f (b + action_size i (Choose c t d)) (end + 1) rest (omega arith) behind) in
         let steps3 =
         otherwise_steps d v (after_block S t).taken ins env mask second picked (g + term_size i c + 1 + block_size i t) end rest (names_later k b second v env (omega arith) names) (nil-right (block_faults S (g + term_size i c + 1) t) _ none2) (part_left k (otherwise_entries k second end d) _ _ _ md part4) types3
         (truth_lasts k zs ps c b second second is (omega arith) (omega arith)) (λ r lo hi. masked r (omega (arith, lo)) (omega (arith, hi))) refl behind2 in
         let steps2 =
         block_steps t v tk ins env (Some picked) inner (g + term_size i c + 1) last (names_later k b inner v env (omega arith) names) (nil-left (block_faults S (g + term_size i c + 1) t) _ none2) (part_left k (block_entries k inner t) _ _ _ mt part3) types2
         (λ r lo hi. truth_lasts k zs ps c b second r is (omega (arith, lo)) (omega (arith, hi))) steps3 in
-        truth_steps k zs ps f setting few v tk ins b env names c mask b second middle known (omega arith) types (λ r lo hi. masked r lo (omega (arith, hi))) (skip L f then middle (nothing_made k zs ps f setting few then at_then.known.gives.value_until at_then.known.gives.truth_until) steps2)
+        truth_steps k zs ps f setting few v tk ins b env names c mask b second middle known (omega arith) types (λ r lo hi. masked r lo (omega (arith, hi))) (skip L f then middle (nothing_made k zs ps f setting few then at_then.known.gives.value_last_use at_then.known.gives.truth_last_use) steps2)
     action_steps (Leave c) v tk ins env mask b g rest names none part types masked behind = leave_steps v tk ins b env names c mask g (b + action_size i (Leave c)) rest none part (omega arith) types masked behind
 
     pub block_steps : (t : Block) (v : List Local) (tk : List (List ℕ)) (ins : Bool) (env : List Bound) (mask : Option ℕ) (b g : ℕ) (rest : List Item) → Names k b v env → block_faults (scope v tk ins) g t ≡ [] → Part k (block_entries k b t) (block_types (scope v tk ins) t) → AllTyped k (block_items (scope v tk ins) mask b env t rest)
@@ -274,9 +274,9 @@ module _ (k : Program) (zs ps : Assignment) (f : Setting) (setting : FitsSetting
         let L = layout_of_loop k zs ps in
         let S = scope v tk ins in
         let at = at_head k b (IsPlain kind.Else) end _ None _ part in
-        let until : item_until k P b ≡ end = at.known.gives.truth_until in
+        let last_use : item_last_use k P b ≡ end = at.known.gives.truth_last_use in
         let later = block_items S (Some b) (b + 1) env t rest in
         let steps_t =
-        block_steps t v tk ins env (Some b) (b + 1) (g + 1) rest (names_later k b (b + 1) v env (omega arith) names) none (part_behind k _ _ None _ part) types.1 (λ r lo hi. (omega (arith, lo), omega (arith, hi, until, number)))
+        block_steps t v tk ins env (Some b) (b + 1) (g + 1) rest (names_later k b (b + 1) v env (omega arith) names) none (part_behind k _ _ None _ part) types.1 (λ r lo hi. (omega (arith, lo), omega (arith, hi, last_use, number)))
         (moved L f end (b + 1 + block_size i t) rest (omega (arith, number)) behind) in
-        plain_step L f b (b + 1) mask (Invert c) later refl (masked b (omega arith) (omega arith)) (picked, truth_makes k zs ps f setting few b at.known.gives.value_until) (λ r next. refl) steps_t
+        plain_step L f b (b + 1) mask (Invert c) later refl (masked b (omega arith) (omega arith)) (picked, truth_makes k zs ps f setting few b at.known.gives.value_last_use) (λ r next. refl) steps_t

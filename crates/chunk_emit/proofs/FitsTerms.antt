@@ -21,7 +21,7 @@ use Rattle.loop_form.specs.Entries.{IsRead, IsPlain}
 use Rattle.loop_form.specs.LoopItems.{Load, Apply, Combine, Move, Cast, Pick, Test, Invert, Same, Any, Item, item, Bound, source_at, array_type, home, truth_home, load_item, term_items, cond_items, loop_items_of}
 use Rattle.chunk_emit.specs.Chunk.{Setting}
 use Rattle.chunk_emit.specs.Fits.{FitsOperand, FitsBase, MakesValue, MakesTruth, MakesNothing}
-use Rattle.chunk_emit.specs.KernelLayout.{item_until, type_in, layout_of_loop}
+use Rattle.chunk_emit.specs.KernelLayout.{item_last_use, type_in, layout_of_loop}
 use Rattle.chunk_emit.specs.LoopFits.{FitsSetting, FitsSteps}
 use Rattle.chunk_emit.proofs.FitsBases.{base_fits}
 use Rattle.chunk_emit.proofs.FitsKnown.{At}
@@ -39,13 +39,13 @@ module _ (k : Program) (zs ps : Assignment) (f : Setting) (setting : FitsSetting
   abbrev i : Option (List ℕ)
   i = loop_index k
 
-  pub value_makes : (q : ℕ) (T : Ty) → item_until k P q ≡ 0 → type_in (loop_items_of k) q ≡ Some T → MakesValue (layout_of_loop k zs ps) q T
-  value_makes q T until type = (omega (arith, until), made_is k q T type)
+  pub value_makes : (q : ℕ) (T : Ty) → item_last_use k P q ≡ 0 → type_in (loop_items_of k) q ≡ Some T → MakesValue (layout_of_loop k zs ps) q T
+  value_makes q T last_use type = (omega (arith, last_use), made_is k q T type)
 
-  pub truth_makes : (q : ℕ) → item_until k Z q ≡ 0 → MakesTruth (layout_of_loop k zs ps) q
-  truth_makes q until = omega (arith, until)
+  pub truth_makes : (q : ℕ) → item_last_use k Z q ≡ 0 → MakesTruth (layout_of_loop k zs ps) q
+  truth_makes q last_use = omega (arith, last_use)
 
-  pub nothing_made : (q : ℕ) → item_until k Z q ≡ 0 → item_until k P q ≡ 0 → MakesNothing (layout_of_loop k zs ps) q
+  pub nothing_made : (q : ℕ) → item_last_use k Z q ≡ 0 → item_last_use k P q ≡ 0 → MakesNothing (layout_of_loop k zs ps) q
   nothing_made q z p = (omega (arith, z), omega (arith, p))
 
   module _ (v : List Local) (tk : List (List ℕ)) (ins : Bool) (b0 : ℕ) (env : List Bound) (names : Names k b0 v env) where
@@ -75,10 +75,10 @@ module _ (k : Program) (zs ps : Assignment) (f : Setting) (setting : FitsSetting
     load_steps a j T mask q p u rest o stream t at same e g lt number typed masked behind =
         let L = layout_of_loop k zs ps in
         let typed2 : AllTyped k (load_item S mask q env a (Some stream.offset) rest) = subst (λ z. AllTyped k (load_item S mask q env a z rest)) g typed in
-        let until : item_until k Z q ≡ u = at.known.gives.value_until in
+        let last_use : item_last_use k Z q ≡ u = at.known.gives.value_last_use in
         let here =
         plain_step L f q p mask (Load a (source_at env a) (Some T) stream.offset) rest number (masked q (omega arith) (omega (arith, number)))
-        (array_fits a T (same ∙ e), stream.near, at_width k zs ps f setting q (IsRead a j) u T at, omega (arith, until, lt), value_makes q T at.known.gives.truth_until (typed2.0 ∙ same ∙ e)) (λ r next. refl) behind in
+        (array_fits a T (same ∙ e), stream.near, at_width k zs ps f setting q (IsRead a j) u T at, omega (arith, last_use, lt), value_makes q T at.known.gives.truth_last_use (typed2.0 ∙ same ∙ e)) (λ r next. refl) behind in
         let there : FitsSteps L f q (load_item S mask q env a (Some stream.offset) rest) = subst (λ z. FitsSteps L f q (item q mask (Load a (source_at env a) z stream.offset) ∷ rest)) (sym (same ∙ e)) here in
         subst (λ z. FitsSteps L f q (load_item S mask q env a z rest)) (sym g) there
 
@@ -99,7 +99,7 @@ module _ (k : Program) (zs ps : Assignment) (f : Setting) (setting : FitsSetting
         let ti = value_behind k x S (Some U) mask b env last typed2 in
         let wide = subst (λ z. bits_of z ≤ width_bits f.w) same (at_width k zs ps f setting q (IsPlain kind.Cast) u T at) in
         let here =
-        step L f q p mask act rest number (masked q (omega arith) (omega (arith, number))) (operand x U mask b q last h from (omega arith) typed2, wide, value_makes q t at.known.gives.truth_until ti.0) (casts (item q mask act) (omega arith)) behind in
+        step L f q p mask act rest number (masked q (omega arith) (omega (arith, number))) (operand x U mask b q last h from (omega arith) typed2, wide, value_makes q t at.known.gives.truth_last_use ti.0) (casts (item q mask act) (omega arith)) behind in
         subst (λ z. FitsSteps L f b (term_items S z mask b env x (item q mask (Cast z t (home i z b env x)) ∷ rest))) (sym e) (before last typed2 (plain_casts L b last refl, here))
 
     test_steps : (op : CompareOp) (x y : Term) (mask : Option ℕ) (b u p : ℕ) (rest : List Item) (o : Option Ty) (U : Ty) → o ≡ Some U → KnownValue k S U b (b + term_size i x + term_size i y) x → KnownValue k S U (b + term_size i x) (b + term_size i x + term_size i y) y
@@ -117,7 +117,7 @@ module _ (k : Program) (zs ps : Assignment) (f : Setting) (setting : FitsSetting
         let ty = value_behind k x S (Some U) mask b env later typed2 in
         let ox = operand x U mask b q later hx from (omega arith) typed2 in
         let oy = operand y U mask b1 q last hy from (omega arith) ty in
-        let here = plain_step L f q p mask act rest number (masked q (omega arith) (omega (arith, number))) (ox, oy, truth_makes q at.known.gives.value_until) (λ r next. refl) behind in
+        let here = plain_step L f q p mask act rest number (masked q (omega arith) (omega (arith, number))) (ox, oy, truth_makes q at.known.gives.value_last_use) (λ r next. refl) behind in
         let there = second last ty (plain_casts L b1 last refl, here) in
         subst (λ z. FitsSteps L f b (term_items S z mask b env x (term_items S z mask b1 env y (item q mask (Test op z (home i z b env x) (home i z b1 env y)) ∷ rest)))) (sym e)
         (first later typed2 (plain_casts L b later (value_plain y S (Some U) mask b1 env last refl), there))
@@ -125,8 +125,8 @@ module _ (k : Program) (zs ps : Assignment) (f : Setting) (setting : FitsSetting
     mutual
       pub value_steps : (t : Term) (T : Ty) (mask : Option ℕ) (b u : ℕ) (rest : List Item) → KnownValue k S T b u t → b0 ≤ b → b + term_size i t ≤ u → AllTyped k (term_items S (Some T) mask b env t rest) → IsMasked (layout_of_loop k zs ps) b (b + term_size i t) mask → CastsEnd (layout_of_loop k zs ps) b rest
           → FitsSteps (layout_of_loop k zs ps) f (b + term_size i t) rest → FitsSteps (layout_of_loop k zs ps) f b (term_items S (Some T) mask b env t rest)
-      value_steps (Literal n) T mask b u rest h from le typed masked casts behind = skip (layout_of_loop k zs ps) f b rest (nothing_made b h.known.gives.value_until h.known.gives.truth_until) behind
-      value_steps (Variable x) T mask b u rest h from le typed masked casts behind = skip (layout_of_loop k zs ps) f b rest (nothing_made b h.0.known.gives.value_until h.0.known.gives.truth_until) behind
+      value_steps (Literal n) T mask b u rest h from le typed masked casts behind = skip (layout_of_loop k zs ps) f b rest (nothing_made b h.known.gives.value_last_use h.known.gives.truth_last_use) behind
+      value_steps (Variable x) T mask b u rest h from le typed masked casts behind = skip (layout_of_loop k zs ps) f b rest (nothing_made b h.0.known.gives.value_last_use h.0.known.gives.truth_last_use) behind
       value_steps (Element a j) T mask b u rest h from le typed masked casts behind =
           let q = b + index_items i j in
           let none : index_items i j ≡ 0 = ap (λ o. index_size o (term_size i j)) h.2.is in
@@ -138,7 +138,7 @@ module _ (k : Program) (zs ps : Assignment) (f : Setting) (setting : FitsSetting
           let act = Apply op (Some T) (home i (Some T) b env x) in
           let last = item q mask act ∷ rest in
           let ti = value_behind k x S (Some T) mask b env last typed in
-          let here = plain_step L f q (b + term_size i (Unary op x)) mask act rest (omega arith) (masked q (omega arith) (omega arith)) (operand x T mask b q last h.0 (omega (arith, from)) (omega arith) typed, value_makes q T h.1.known.gives.truth_until ti.0) (λ r next. refl) behind in
+          let here = plain_step L f q (b + term_size i (Unary op x)) mask act rest (omega arith) (masked q (omega arith) (omega arith)) (operand x T mask b q last h.0 (omega (arith, from)) (omega arith) typed, value_makes q T h.1.known.gives.truth_last_use ti.0) (λ r next. refl) behind in
           value_steps x T mask b q last h.0 from (omega arith) typed (λ r lo hi. masked r lo (omega (arith, hi))) (plain_casts L b last refl) here
       value_steps (Operation op x y) T mask b u rest h from le typed masked casts behind =
           let L = layout_of_loop k zs ps in
@@ -150,7 +150,7 @@ module _ (k : Program) (zs ps : Assignment) (f : Setting) (setting : FitsSetting
           let ti = value_behind k y S (Some T) mask b1 env last ty in
           let ox = operand x T mask b q later h.0 (omega (arith, from)) (omega arith) typed in
           let oy = operand y T mask b1 q last h.1 (omega (arith, from)) (omega arith) ty in
-          let here = plain_step L f q (b + term_size i (Operation op x y)) mask act rest (omega arith) (masked q (omega arith) (omega arith)) (ox, oy, value_makes q T h.2.known.gives.truth_until ti.0) (λ r next. refl) behind in
+          let here = plain_step L f q (b + term_size i (Operation op x y)) mask act rest (omega arith) (masked q (omega arith) (omega arith)) (ox, oy, value_makes q T h.2.known.gives.truth_last_use ti.0) (λ r next. refl) behind in
           let second = value_steps y T mask b1 q last h.1 (omega (arith, from)) (omega arith) ty (λ r lo hi. masked r (omega (arith, lo)) (omega (arith, hi))) (plain_casts L b1 last refl) here in
           value_steps x T mask b q later h.0 from (omega arith) typed (λ r lo hi. masked r lo (omega (arith, hi))) (plain_casts L b later (value_plain y S (Some T) mask b1 env last refl)) second
       value_steps (Shift to_left x n) T mask b u rest h from le typed masked casts behind =
@@ -163,7 +163,7 @@ module _ (k : Program) (zs ps : Assignment) (f : Setting) (setting : FitsSetting
           let count = count_below n (bits_of T) h.2 in
           let here =
           plain_step L f q (b + term_size i (Shift to_left x n)) mask act rest (omega arith) (masked q (omega arith) (omega arith))
-          (operand x T mask b q last h.0 (omega (arith, from)) (omega arith) typed, omega (arith, wide, count), value_makes q T h.1.known.gives.truth_until ti.0) (λ r next. refl) behind in
+          (operand x T mask b q last h.0 (omega (arith, from)) (omega arith) typed, omega (arith, wide, count), value_makes q T h.1.known.gives.truth_last_use ti.0) (λ r next. refl) behind in
           value_steps x T mask b q last h.0 from (omega arith) typed (λ r lo hi. masked r lo (omega (arith, hi))) (plain_casts L b last refl) here
       value_steps (Conversion x t) T mask b u rest h from le typed masked casts behind =
           cast_steps x t T mask b u (b + term_size i (Conversion x t)) rest (own S x) h.0 h.1 h.2 h.3 h.4 (omega (arith, from)) (omega arith) typed masked casts behind (λ last ty here. value_steps x h.0 mask b (b + term_size i x) last h.2 from (omega arith) ty (λ r lo hi. masked r lo (omega (arith, hi))) here.0 here.1)
@@ -180,7 +180,7 @@ module _ (k : Program) (zs ps : Assignment) (f : Setting) (setting : FitsSetting
           let ox = operand x T mask b q later h.0 (omega (arith, from)) (omega arith) typed in
           let oy = operand y T mask b1 q chosen h.1 (omega (arith, from)) (omega arith) ty in
           let oc = truth_lasts k zs ps c b2 q q (truth_is k S c b2 q h.2) (omega arith) (omega arith) in
-          let here = plain_step L f q (b + term_size i (Choice c x y)) mask act rest (omega arith) (masked q (omega arith) (omega arith)) (oc, ox, oy, value_makes q T h.3.known.gives.truth_until ti.0) (λ r next. refl) behind in
+          let here = plain_step L f q (b + term_size i (Choice c x y)) mask act rest (omega arith) (masked q (omega arith) (omega arith)) (oc, ox, oy, value_makes q T h.3.known.gives.truth_last_use ti.0) (λ r next. refl) behind in
           let third = truth_steps c mask b2 q last h.2 (omega (arith, from)) tc (λ r lo hi. masked r (omega (arith, lo)) (omega (arith, hi))) here in
           let second = value_steps y T mask b1 q chosen h.1 (omega (arith, from)) (omega arith) ty (λ r lo hi. masked r (omega (arith, lo)) (omega (arith, hi))) (plain_casts L b1 chosen (truth_plain c S mask b2 env last refl)) third in
           value_steps x T mask b q later h.0 from (omega arith) typed (λ r lo hi. masked r lo (omega (arith, hi))) (plain_casts L b later (value_plain y S (Some T) mask b1 env chosen (truth_plain c S mask b2 env last refl))) second
@@ -204,7 +204,7 @@ module _ (k : Program) (zs ps : Assignment) (f : Setting) (setting : FitsSetting
           let ty = truth_behind k x S mask b env later typed in
           let tx = truth_is k S x b q h.0 in
           let oy = truth_lasts k zs ps y b1 q q (truth_is k S y b1 q h.1) (omega arith) (omega arith) in
-          let here = plain_step L f q (b + term_size i (Both x y)) mask act rest (omega arith) (masked q (omega arith) (omega arith)) (oy, truth_makes q h.2.known.gives.value_until) (λ r next. refl) behind in
+          let here = plain_step L f q (b + term_size i (Both x y)) mask act rest (omega arith) (masked q (omega arith) (omega arith)) (oy, truth_makes q h.2.known.gives.value_last_use) (λ r next. refl) behind in
           let second = truth_steps y (Some (truth_home i b x)) b1 q last h.1 (omega (arith, from)) ty (λ r lo hi. truth_lasts k zs ps x b q r tx lo (omega (arith, hi))) here in
           truth_steps x mask b q later h.0 from typed (λ r lo hi. masked r lo (omega (arith, hi))) second
       truth_steps (Either x y) mask b u rest h from typed masked behind =
@@ -218,17 +218,17 @@ module _ (k : Program) (zs ps : Assignment) (f : Setting) (setting : FitsSetting
           let ox = truth_lasts k zs ps x b q q tx (omega arith) (omega arith) in
           let om = truth_lasts k zs ps x b q mark tx (omega arith) (omega arith) in
           let oy = truth_lasts k zs ps y (mark + 1) q q (truth_is k S y (mark + 1) q h.2) (omega arith) (omega arith) in
-          let until : item_until k P mark ≡ q = h.1.known.gives.truth_until in
-          let here = plain_step L f q (b + term_size i (Either x y)) mask act rest (omega arith) (masked q (omega arith) (omega arith)) (ox, oy, truth_makes q h.3.known.gives.value_until) (λ r next. refl) behind in
-          let second = truth_steps y (Some mark) (mark + 1) q last h.2 (omega (arith, from)) tm.1 (λ r lo hi. (omega (arith, lo), omega (arith, hi, until))) here in
-          let marked = plain_step L f mark (mark + 1) mask (Invert (truth_home i b x)) later refl (masked mark (omega arith) (omega arith)) (om, truth_makes mark h.1.known.gives.value_until) (λ r next. refl) second in
+          let last_use : item_last_use k P mark ≡ q = h.1.known.gives.truth_last_use in
+          let here = plain_step L f q (b + term_size i (Either x y)) mask act rest (omega arith) (masked q (omega arith) (omega arith)) (ox, oy, truth_makes q h.3.known.gives.value_last_use) (λ r next. refl) behind in
+          let second = truth_steps y (Some mark) (mark + 1) q last h.2 (omega (arith, from)) tm.1 (λ r lo hi. (omega (arith, lo), omega (arith, hi, last_use))) here in
+          let marked = plain_step L f mark (mark + 1) mask (Invert (truth_home i b x)) later refl (masked mark (omega arith) (omega arith)) (om, truth_makes mark h.1.known.gives.value_last_use) (λ r next. refl) second in
           truth_steps x mask b q (item mark mask (Invert (truth_home i b x)) ∷ later) h.0 from typed (λ r lo hi. masked r lo (omega (arith, hi))) marked
       truth_steps (Not x) mask b u rest h from typed masked behind =
           let L = layout_of_loop k zs ps in
           let q = b + term_size i x in
           let act = Invert (truth_home i b x) in
           let ox = truth_lasts k zs ps x b q q (truth_is k S x b q h.0) (omega arith) (omega arith) in
-          let here = plain_step L f q (b + term_size i (Not x)) mask act rest (omega arith) (masked q (omega arith) (omega arith)) (ox, truth_makes q h.1.known.gives.value_until) (λ r next. refl) behind in
+          let here = plain_step L f q (b + term_size i (Not x)) mask act rest (omega arith) (masked q (omega arith) (omega arith)) (ox, truth_makes q h.1.known.gives.value_last_use) (λ r next. refl) behind in
           truth_steps x mask b q (item q mask act ∷ rest) h.0 from typed (λ r lo hi. masked r lo (omega (arith, hi))) here
       truth_steps (Literal n) mask b u rest h from typed masked behind = absurd h
       truth_steps (Variable x) mask b u rest h from typed masked behind = absurd h

@@ -160,7 +160,7 @@ module _ (k : Program) where
   all_types : map type_of (entries_of k) ≡ types_of k
   all_types = types_from 0 (entries_of k) (types_of k) (all-listed k).numbered all_match refl
 
-  -- the types of a part, and of what stands behind it
+  -- the types of a part, and of what stands after it
   pub first_types : (xs ys : List Entry) (ts us : List (Option Ty)) → Matches k xs ts → map type_of (xs ++ ys) ≡ ts ++ us → map type_of xs ≡ ts
   first_types [] ys [] us none e = refl
   first_types [] ys (t ∷ ts) us m e = elim m [ ]

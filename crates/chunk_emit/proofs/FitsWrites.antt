@@ -22,7 +22,7 @@ use Rattle.chunk_emit.specs.Registers.{Layout}
 use Rattle.chunk_emit.specs.ChunkCode.{past_cast, is_made}
 use Rattle.chunk_emit.specs.Chunk.{Setting}
 use Rattle.chunk_emit.specs.Fits.{FitsOperand, FitsMask}
-use Rattle.chunk_emit.specs.KernelLayout.{item_until, layout_of_loop}
+use Rattle.chunk_emit.specs.KernelLayout.{item_last_use, layout_of_loop}
 use Rattle.chunk_emit.specs.LoopFits.{FitsSetting, FitsSteps}
 use Rattle.chunk_emit.proofs.FitsKnown.{At}
 use Rattle.chunk_emit.proofs.FitsNames.{binding_at, HomeIs, Names}
@@ -59,7 +59,7 @@ past_made q (Same d) a base t c v op e = absurd cc
 past_made q (Any d g) a base t c v op e = absurd cc
 past_made q (Quit d) a base t c v op e = absurd cc
 
-store_casts : (l : Layout) (b q : ℕ) (mask : Option ℕ) (a : List ℕ) (base : Source) (t : Option Ty) (c : ℤ) (v : Source) (rest : List Item) → ((r : ℕ) → v ≡ Made r → b ≤ r → l.z_until r ≤ q) → CastsEnd l b (item q mask (Store a base t c v) ∷ rest)
+store_casts : (l : Layout) (b q : ℕ) (mask : Option ℕ) (a : List ℕ) (base : Source) (t : Option Ty) (c : ℤ) (v : Source) (rest : List Item) → ((r : ℕ) → v ≡ Made r → b ≤ r → l.z_last_use r ≤ q) → CastsEnd l b (item q mask (Store a base t c v) ∷ rest)
 store_casts l b q mask a base t c v rest ends = λ it from op e. ends it.item (past_made it.item it.op a base t c v op e) from
 
 module _ (k : Program) (zs ps : Assignment) (f : Setting) (setting : FitsSetting k f) (few : length k.params ≤ 8) where
@@ -71,7 +71,7 @@ module _ (k : Program) (zs ps : Assignment) (f : Setting) (setting : FitsSetting
     S = record { visible = v; taken = tk; index = loop_index k; inside = ins }
 
     -- what a name stands for was made before
-    home_before : (x : List ℕ) (T : Ty) (b q r : ℕ) (bd : Binding) (s : Source) → b0 ≤ b → At k b (IsName x) q (Some T) → value_type bd ≡ Some T → HomeIs k b0 x bd s → s ≡ Made r → b ≤ r → item_until k Z r ≤ q
+    home_before : (x : List ℕ) (T : Ty) (b q r : ℕ) (bd : Binding) (s : Source) → b0 ≤ b → At k b (IsName x) q (Some T) → value_type bd ≡ Some T → HomeIs k b0 x bd s → s ≡ Made r → b ≤ r → item_last_use k Z r ≤ q
     home_before x T b q r (binding.Scalar t) s from at e h made lo = let other = h.1 in absurd cc
     home_before x T b q r (binding.Array t) s from at e h made lo = absurd cc
     home_before x T b q r (binding.Accumulator t) s from at e h made lo = let unread = at.known.unread x t h in let read = bytes_same x in absurd cc
@@ -82,23 +82,23 @@ module _ (k : Program) (zs ps : Assignment) (f : Setting) (setting : FitsSetting
         absurd (omega (arith, lt, same, from, lo))
     home_before x T b q r binding.Index s from at e h made lo = let other = h.0 in absurd cc
 
-    name_before : (x : List ℕ) (T : Ty) (b q r : ℕ) → b0 ≤ b → At k b (IsName x) q (Some T) → (o : Option Binding) → binding_at v x ≡ o → option_and_then value_type o ≡ Some T → source_at env x ≡ Made r → b ≤ r → item_until k Z r ≤ q
+    name_before : (x : List ℕ) (T : Ty) (b q r : ℕ) → b0 ≤ b → At k b (IsName x) q (Some T) → (o : Option Binding) → binding_at v x ≡ o → option_and_then value_type o ≡ Some T → source_at env x ≡ Made r → b ≤ r → item_last_use k Z r ≤ q
     name_before x T b q r from at None e g made lo = absurd cc
     name_before x T b q r from at (Some bd) e g made lo = home_before x T b q r bd (source_at env x) from at g (names.home x bd e) made lo
 
-    is_until : (p q r : ℕ) → Made p ≡ Made r → item_until k Z p ≡ q → item_until k Z r ≤ q
-    is_until p q r e until = let same : p ≡ r = cc in let moved = ap (item_until k Z) same in omega (arith, until, moved)
+    is_until : (p q r : ℕ) → Made p ≡ Made r → item_last_use k Z p ≡ q → item_last_use k Z r ≤ q
+    is_until p q r e last_use = let same : p ≡ r = cc in let moved = ap (item_last_use k Z) same in omega (arith, last_use, moved)
 
     -- the value of an expression is used last by its user
-    value_ends : (t : Term) (T : Ty) (b q r : ℕ) → KnownValue k S T b q t → b0 ≤ b → home i (Some T) b env t ≡ Made r → b ≤ r → item_until k Z r ≤ q
+    value_ends : (t : Term) (T : Ty) (b q r : ℕ) → KnownValue k S T b q t → b0 ≤ b → home i (Some T) b env t ≡ Made r → b ≤ r → item_last_use k Z r ≤ q
     value_ends (Literal n) T b q r h from made lo = absurd cc
     value_ends (Variable x) T b q r h from made lo = name_before x T b q r from h.0 (binding_at v x) refl h.1 made lo
-    value_ends (Element a j) T b q r h from made lo = is_until _ q r made h.0.known.gives.value_until
-    value_ends (Unary op x) T b q r h from made lo = is_until _ q r made h.1.known.gives.value_until
-    value_ends (Operation op x y) T b q r h from made lo = is_until _ q r made h.2.known.gives.value_until
-    value_ends (Shift to_left x n) T b q r h from made lo = is_until _ q r made h.1.known.gives.value_until
-    value_ends (Conversion x t) T b q r h from made lo = is_until _ q r made h.3.known.gives.value_until
-    value_ends (Choice c x y) T b q r h from made lo = is_until _ q r made h.3.known.gives.value_until
+    value_ends (Element a j) T b q r h from made lo = is_until _ q r made h.0.known.gives.value_last_use
+    value_ends (Unary op x) T b q r h from made lo = is_until _ q r made h.1.known.gives.value_last_use
+    value_ends (Operation op x y) T b q r h from made lo = is_until _ q r made h.2.known.gives.value_last_use
+    value_ends (Shift to_left x n) T b q r h from made lo = is_until _ q r made h.1.known.gives.value_last_use
+    value_ends (Conversion x t) T b q r h from made lo = is_until _ q r made h.3.known.gives.value_last_use
+    value_ends (Choice c x y) T b q r h from made lo = is_until _ q r made h.3.known.gives.value_last_use
     value_ends (Comparison op x y) T b q r h from made lo = absurd h
     value_ends (Both x y) T b q r h from made lo = absurd h
     value_ends (Either x y) T b q r h from made lo = absurd h
@@ -115,7 +115,7 @@ module _ (k : Program) (zs ps : Assignment) (f : Setting) (setting : FitsSetting
         let L = layout_of_loop k zs ps in
         let here =
         plain_step L f q p mask (Store a (source_at env a) (Some T) stream.offset x) rest number masked
-        (array_fits k zs ps f setting few v tk ins b0 env names a T e, stream.near, ox, nothing_made k zs ps f setting few q at.known.gives.value_until at.known.gives.truth_until) (λ r next. refl) behind in
+        (array_fits k zs ps f setting few v tk ins b0 env names a T e, stream.near, ox, nothing_made k zs ps f setting few q at.known.gives.value_last_use at.known.gives.truth_last_use) (λ r next. refl) behind in
         let there : FitsSteps L f q (store_item S mask q env a (Some stream.offset) x rest) = subst (λ z. FitsSteps L f q (item q mask (Store a (source_at env a) z stream.offset x) ∷ rest)) (sym e) here in
         subst (λ z. FitsSteps L f q (store_item S mask q env a z x rest)) (sym stream.is) there
 
@@ -138,4 +138,4 @@ module _ (k : Program) (zs ps : Assignment) (f : Setting) (setting : FitsSetting
         let L = layout_of_loop k zs ps in
         let var = sum_in x T (binding_at v x) refl e in
         plain_step L f q p mask (Add x op (Some T) s) rest number masked
-        (at.known.gives.content T var, at.known.operator x op refl, ap (λ o. unwrap_or o U64) var, os, nothing_made k zs ps f setting few q at.known.gives.value_until at.known.gives.truth_until) (λ r next. refl) behind
+        (at.known.gives.content T var, at.known.operator x op refl, ap (λ o. unwrap_or o U64) var, os, nothing_made k zs ps f setting few q at.known.gives.value_last_use at.known.gives.truth_last_use) (λ r next. refl) behind

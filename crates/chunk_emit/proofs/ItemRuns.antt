@@ -92,7 +92,7 @@ then_does {l = l} {f = f} {d = d} {c = c} {e = e} {rest = rest} {s = s} {q = q} 
     after (does_fail kind access stops) = does_fail kind access (stop_after most (omega (arith, total)) goes stops)
 then_does most next total (does_fail kind access stops) more = does_fail kind access (stop_more most (omega (arith, total)) stops)
 
--- what a store behind a cast is
+-- what a store after a cast is
 pub record Taken (q : ℕ) (op next joined : Op) : Type 0 where
   pub own : Option Ty
   pub cast : Ty
@@ -153,7 +153,7 @@ taken q (Any c d) next joined h = absurd cc
 taken q (Quit c) next joined h = absurd cc
 
 -- both items as one step
-module _ (l : Layout) (fit : Assigned l) (f : Setting) (d : Laid) (rest : List Entry) {q p : ℕ} {t : Lanes} {s : State} (h : Holds l f q t s) (first second : Option ℕ) (mask : FitsMask l q first) (behind_mask : FitsMask l p second) (lt : q + 1 ≤ p) (between : NoneBetween l (q + 1) p) (last : l.z_until q ≤ p) where
+module _ (l : Layout) (fit : Assigned l) (f : Setting) (d : Laid) (rest : List Entry) {q p : ℕ} {t : Lanes} {s : State} (h : Holds l f q t s) (first second : Option ℕ) (mask : FitsMask l q first) (behind_mask : FitsMask l p second) (lt : q + 1 ≤ p) (between : NoneBetween l (q + 1) p) (last : l.z_last_use q ≤ p) where
   abbrev PairDoes : (op next joined : Op) → Type 0
   PairDoes op next joined =
       Does l f d (puts (op_words f.w l p (mask_register l.registers second) joined) rest) s rest (p + 1) (length (op_words f.w l p (mask_register l.registers second) joined))

@@ -10,7 +10,7 @@ use Rattle.reg_assign.specs.declared.interval.Interval.{Interval}
 use Rattle.reg_assign.specs.declared.interval.RegClass.TheVariants.{Z, P}
 use Rattle.reg_assign.specs.Registers.{Assignment, assignment}
 use Rattle.loop_form.specs.Entries.{item_type}
-use Rattle.loop_form.specs.Listing.{last_use}
+use Rattle.loop_form.specs.Listing.{last_use_from}
 use Rattle.loop_form.specs.Needs.{constants, intervals}
 use Rattle.loop_form.specs.declared.loop_item.Source.TheVariants.{Constant, Outer, Turn, Made}
 use Rattle.chunk_emit.specs.Registers.{Layout}
@@ -42,7 +42,7 @@ masked = record {
 }
 
 abbrev span : ℕ → ℕ → Interval
-span from until = record { from = from; until = until }
+span from last_use = record { from = from; last_use = last_use }
 
 abbrev kept : Assignment
 kept = assignment (span 0 15 ∷ span 0 15 ∷ span 0 15 ∷ span 6 8 ∷ span 10 12 ∷ span 12 13 ∷ []) (0 ∷ 1 ∷ 2 ∷ 3 ∷ 4 ∷ 3 ∷ [])
@@ -51,11 +51,11 @@ abbrev conditions : Assignment
 conditions = assignment (span 8 14 ∷ []) (5 ∷ [])
 
 kept-intervals : intervals masked Z ≡ kept.intervals
-unfolding item_type last_use constants
+unfolding item_type last_use_from constants
 kept-intervals = refl
 
 condition-intervals : intervals masked P ≡ conditions.intervals
-unfolding item_type last_use constants
+unfolding item_type last_use_from constants
 condition-intervals = refl
 
 abbrev layout : Layout
@@ -63,36 +63,36 @@ layout = layout_of_loop masked kept conditions
 
 -- m, 7, and the accumulator throughout
 throughout-registers : map layout.registers.source (Outer 1 ∷ Constant (Some ty.U8) (pos 7) ∷ Made 6 ∷ Made 10 ∷ Made 12 ∷ []) ≡ 0 ∷ 1 ∷ 3 ∷ 4 ∷ 3 ∷ []
-unfolding item_type last_use constants
+unfolding item_type last_use_from constants
 throughout-registers = refl
 
 sum-register : layout.sum s ≡ 2
-unfolding item_type last_use constants
+unfolding item_type last_use_from constants
 sum-register = refl
 
 condition-register : layout.registers.p 8 ≡ 7
-unfolding item_type last_use constants
+unfolding item_type last_use_from constants
 condition-register = refl
 
 -- a, m and n, a literal of another type, and the loop variable
 throughout-values : map layout.held (Outer 0 ∷ Outer 1 ∷ Outer 2 ∷ Outer 3 ∷ Constant (Some ty.I8) (pos 7) ∷ Constant (Some ty.U8) (pos 7) ∷ Turn ∷ []) ≡ false ∷ true ∷ false ∷ false ∷ false ∷ true ∷ false ∷ []
-unfolding item_type last_use constants
+unfolding item_type last_use_from constants
 throughout-values = refl
 
 updated-names : map layout.updated (s ∷ m ∷ []) ≡ true ∷ false ∷ []
-unfolding item_type last_use constants
+unfolding item_type last_use_from constants
 updated-names = refl
 
 updated-by : layout.update s ≡ update.Xor
 unfolding item_type
 updated-by = refl
 
-value-uses : map layout.z_until (0 ∷ 3 ∷ 5 ∷ 6 ∷ 7 ∷ 8 ∷ 9 ∷ 10 ∷ 11 ∷ 12 ∷ 13 ∷ 14 ∷ 15 ∷ []) ≡ 0 ∷ 0 ∷ 0 ∷ 8 ∷ 0 ∷ 0 ∷ 0 ∷ 12 ∷ 0 ∷ 13 ∷ 0 ∷ 0 ∷ 0 ∷ []
-unfolding item_type last_use
+value-uses : map layout.z_last_use (0 ∷ 3 ∷ 5 ∷ 6 ∷ 7 ∷ 8 ∷ 9 ∷ 10 ∷ 11 ∷ 12 ∷ 13 ∷ 14 ∷ 15 ∷ []) ≡ 0 ∷ 0 ∷ 0 ∷ 8 ∷ 0 ∷ 0 ∷ 0 ∷ 12 ∷ 0 ∷ 13 ∷ 0 ∷ 0 ∷ 0 ∷ []
+unfolding item_type last_use_from
 value-uses = refl
 
-condition-uses : map layout.p_until (0 ∷ 3 ∷ 6 ∷ 8 ∷ 9 ∷ 15 ∷ []) ≡ 0 ∷ 0 ∷ 0 ∷ 14 ∷ 0 ∷ 0 ∷ []
-unfolding item_type last_use
+condition-uses : map layout.p_last_use (0 ∷ 3 ∷ 6 ∷ 8 ∷ 9 ∷ 15 ∷ []) ≡ 0 ∷ 0 ∷ 0 ∷ 14 ∷ 0 ∷ 0 ∷ []
+unfolding item_type last_use_from
 condition-uses = refl
 
 types : map layout.type (Outer 1 ∷ Outer 2 ∷ Turn ∷ Made 6 ∷ Made 12 ∷ []) ≡ ty.U8 ∷ ty.U64 ∷ ty.U64 ∷ ty.U8 ∷ ty.U8 ∷ []

@@ -87,7 +87,7 @@ pub does_after : {l : Layout} {f : Setting} {d : Laid} {c e rest : List Entry} {
 does_after most total goes (does_fine end on holds) = does_fine end (chain most (omega (arith, total)) goes on) holds
 does_after most total goes (does_fail kind access stops) = does_fail kind access (stop_after most (omega (arith, total)) goes stops)
 
--- the lane of a load, in the state behind the word that adds the offset
+-- the lane of a load, in the state after the word that adds the offset
 module _ (l : Layout) (fit : Assigned l) (f : Setting) (d : Laid) (rest : List Entry) (p : ℕ) (t : Lanes) (mask : Option ℕ) (fm : FitsMask l p mask) (a : List ℕ) (x : ℕ) (ty : Ty) (c : ℤ) (low : x < 8) (based : slice_index f.x x ≡ word (nth_value f.names x)) (wide : bits_of ty ≤ width_bits f.w) (makes : MakesValue l p ty) (used : IsValueUsed l p) where
   abbrev m : ℕ
   m = mask_register l.registers mask

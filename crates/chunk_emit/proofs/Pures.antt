@@ -71,7 +71,7 @@ module _ {l : Layout} {f : Setting} {p : ℕ} {t : Lanes} {s : State} (h : Holds
             (taken_same (l.update x) (l.sum_type x) f.w (at f.w (z_at s (l.sum x)) e) (sum_at l f t x e) (sum_at l f u x e) (sum_same l f t u x e (λ en. ap (given_to x) (shares e en))) (old.holds e lt));
       }
 
-  -- an item that leaves the registers alone, as nothing behind it needs what it makes
+  -- an item that leaves the registers alone, as nothing after it needs what it makes
   pub unused_moves : (u : Lanes) → MakesNothing l p → u.memory ≡ t.memory → ((q e : ℕ) → q < p → e < f.n → (u.lane (f.i + e)).value q ≡ (t.lane (f.i + e)).value q) → ((q e : ℕ) → q < p → e < f.n → (u.lane (f.i + e)).truth q ≡ (t.lane (f.i + e)).truth q) → ((e : ℕ) → e < f.n → (u.lane (f.i + e)).shares ≡ (t.lane (f.i + e)).shares) → Moves l f p t s u s
   unused_moves u none mem values truths shares = record {
     is = h.is;
@@ -168,10 +168,10 @@ module _ (l : Layout) (fit : Assigned l) (f : Setting) (d : Laid) (rest : List E
 
   pub value_runs : (op : Op) (val : ℕ → Lane → ℤ) → (ty : Ty) → makes_truth op ≡ false → made_type op ≡ Some ty → MakesValue l p ty → OperandsRight c l.registers s op
       → ((j : ℕ) (mem : Memory) (a : Lane) → op_effect op f.names p j (on_mask mask a) mem a ≡ Keeps (with_value a p (val j a)))
-      → op_words f.w l p m op ≡ (if nat_lt p (l.z_until p) then vectors (op_code f.w l.registers p m op) else [])
+      → op_words f.w l p m op ≡ (if nat_lt p (l.z_last_use p) then vectors (op_code f.w l.registers p m op) else [])
       → Does l f d (puts (op_words f.w l p m op) rest) s rest (p + 1) (length (op_words f.w l p m op)) (column (act_of op) f.n f.i t)
   value_runs op val ty kind made_is makes operands does words =
-      subst (λ ws. Does l f d (puts ws rest) s rest (p + 1) (length ws) (column (act_of op) f.n f.i t)) (sym words) (by (nat_lt p (l.z_until p)) refl)
+      subst (λ ws. Does l f d (puts ws rest) s rest (p + 1) (length ws) (column (act_of op) f.n f.i t)) (sym words) (by (nat_lt p (l.z_last_use p)) refl)
     where
       new : ℕ → Lane → Lane
       new j a = with_value a p (val j a)
@@ -182,14 +182,14 @@ module _ (l : Layout) (fit : Assigned l) (f : Setting) (d : Laid) (rest : List E
       value_is : (e : ℕ) → new_value c op p mask e ≡ val (f.i + e) (t.lane (f.i + e))
       value_is e = ap (value_after p) (does (f.i + e) t.memory (t.lane (f.i + e))) ∙ value_same (t.lane (f.i + e)) p (val (f.i + e) (t.lane (f.i + e)))
 
-      by : (b : Bool) → nat_lt p (l.z_until p) ≡ b → Does l f d (puts (if b then vectors (op_code f.w l.registers p m op) else []) rest) s rest (p + 1) (length (if b then vectors (op_code f.w l.registers p m op) else [])) (column (act_of op) f.n f.i t)
+      by : (b : Bool) → nat_lt p (l.z_last_use p) ≡ b → Does l f d (puts (if b then vectors (op_code f.w l.registers p m op) else []) rest) s rest (p + 1) (length (if b then vectors (op_code f.w l.registers p m op) else [])) (column (act_of op) f.n f.i t)
       by true used =
           let run = runs op operands in
           let made = subst (λ b. Makes b c l.registers s p m mask op) kind run.makes in
           ends (λ j a. with_value a p (val j a)) made.end cols (do_goes (op_code f.w l.registers p m op) s made.end made.runs)
-          (λ u mem here. value_moves h fit ty (new_value c op p mask) u made.end makes (ltb-true p (l.z_until p) used) mem (λ e lt. here e lt ∙ ap (with_value (t.lane (f.i + e)) p) (sym (value_is e))) made.is made.only made.right (subst (λ o. AllTyped o f.n (new_value c op p mask)) made_is run.typed))
+          (λ u mem here. value_moves h fit ty (new_value c op p mask) u made.end makes (ltb-true p (l.z_last_use p) used) mem (λ e lt. here e lt ∙ ap (with_value (t.lane (f.i + e)) p) (sym (value_is e))) made.is made.only made.right (subst (λ o. AllTyped o f.n (new_value c op p mask)) made_is run.typed))
       by false unused =
-          let none : MakesNothing l p = (ltb-false p (l.z_until p) unused, makes.0) in
+          let none : MakesNothing l p = (ltb-false p (l.z_last_use p) unused, makes.0) in
           ends (λ j a. with_value a p (val j a)) s cols (stay 0)
           (λ u mem here. unused_moves h u none mem
           (λ q e lt el. ap (λ (a : Lane). a.value q) (here e el) ∙ value_other (t.lane (f.i + e)) p q (val (f.i + e) (t.lane (f.i + e))) (λ eq. absurd (omega (arith, lt, eq))))
@@ -197,10 +197,10 @@ module _ (l : Layout) (fit : Assigned l) (f : Setting) (d : Laid) (rest : List E
 
   pub truth_runs : (op : Op) (val : ℕ → Lane → Bool) → makes_truth op ≡ true → MakesTruth l p → OperandsRight c l.registers s op
       → ((j : ℕ) (mem : Memory) (a : Lane) → op_effect op f.names p j (on_mask mask a) mem a ≡ Keeps (with_truth a p (val j a)))
-      → op_words f.w l p m op ≡ (if nat_lt p (l.p_until p) then vectors (op_code f.w l.registers p m op) else [])
+      → op_words f.w l p m op ≡ (if nat_lt p (l.p_last_use p) then vectors (op_code f.w l.registers p m op) else [])
       → Does l f d (puts (op_words f.w l p m op) rest) s rest (p + 1) (length (op_words f.w l p m op)) (column (act_of op) f.n f.i t)
   truth_runs op val kind makes operands does words =
-      subst (λ ws. Does l f d (puts ws rest) s rest (p + 1) (length ws) (column (act_of op) f.n f.i t)) (sym words) (by (nat_lt p (l.p_until p)) refl)
+      subst (λ ws. Does l f d (puts ws rest) s rest (p + 1) (length ws) (column (act_of op) f.n f.i t)) (sym words) (by (nat_lt p (l.p_last_use p)) refl)
     where
       cols : OwnColumn (λ j a. with_truth a p (val j a)) f.n f.i t None (column (act_of op) f.n f.i t)
       cols = pure_column op (λ j a. with_truth a p (val j a)) does
@@ -208,15 +208,15 @@ module _ (l : Layout) (fit : Assigned l) (f : Setting) (d : Laid) (rest : List E
       truth_is : (e : ℕ) → new_truth c op p mask e ≡ val (f.i + e) (t.lane (f.i + e))
       truth_is e = ap (truth_after p) (does (f.i + e) t.memory (t.lane (f.i + e))) ∙ truth_same (t.lane (f.i + e)) p (val (f.i + e) (t.lane (f.i + e)))
 
-      by : (b : Bool) → nat_lt p (l.p_until p) ≡ b → Does l f d (puts (if b then vectors (op_code f.w l.registers p m op) else []) rest) s rest (p + 1) (length (if b then vectors (op_code f.w l.registers p m op) else [])) (column (act_of op) f.n f.i t)
+      by : (b : Bool) → nat_lt p (l.p_last_use p) ≡ b → Does l f d (puts (if b then vectors (op_code f.w l.registers p m op) else []) rest) s rest (p + 1) (length (if b then vectors (op_code f.w l.registers p m op) else [])) (column (act_of op) f.n f.i t)
       by true used =
           let run = runs op operands in
           let made = subst (λ b. Makes b c l.registers s p m mask op) kind run.makes in
           ends (λ j a. with_truth a p (val j a)) made.end cols (do_goes (op_code f.w l.registers p m op) s made.end made.runs)
-          (λ u mem here. truth_moves h fit (new_truth c op p mask) u made.end makes (ltb-true p (l.p_until p) used) mem (λ e lt. here e lt ∙ ap (with_truth (t.lane (f.i + e)) p) (sym (truth_is e))) made.is made.only
+          (λ u mem here. truth_moves h fit (new_truth c op p mask) u made.end makes (ltb-true p (l.p_last_use p) used) mem (λ e lt. here e lt ∙ ap (with_truth (t.lane (f.i + e)) p) (sym (truth_is e))) made.is made.only
           (subst (λ v. PRight f.w (lanes v f.w) (p_at made.end (p_of l p)) (within f.n (new_truth c op p mask))) h.vl made.right))
       by false unused =
-          let none : MakesNothing l p = (makes, ltb-false p (l.p_until p) unused) in
+          let none : MakesNothing l p = (makes, ltb-false p (l.p_last_use p) unused) in
           ends (λ j a. with_truth a p (val j a)) s cols (stay 0)
           (λ u mem here. unused_moves h u none mem
           (λ q e lt el. ap (λ (a : Lane). a.value q) (here e el))

@@ -41,12 +41,12 @@ pub record Moves (l : Layout) (f : Setting) (p : ℕ) (t : Lanes) (s : State) (u
   pub active : p_at v 0 ≡ p_at s 0
   pub all : p_at v 1 ≡ p_at s 1
   pub held : (x : Source) → l.held x ≡ true → z_at v (l.registers.source x) ≡ z_at s (l.registers.source x)
-  pub kept_z : (q : ℕ) → q < p → p < l.z_until q → z_at v (z_of l q) ≡ z_at s (z_of l q)
-  pub kept_p : (q : ℕ) → q < p → p < l.p_until q → p_at v (p_of l q) ≡ p_at s (p_of l q)
+  pub kept_z : (q : ℕ) → q < p → p < l.z_last_use q → z_at v (z_of l q) ≡ z_at s (z_of l q)
+  pub kept_p : (q : ℕ) → q < p → p < l.p_last_use q → p_at v (p_of l q) ≡ p_at s (p_of l q)
   pub values : (q e : ℕ) → q < p → e < f.n → (u.lane (f.i + e)).value q ≡ (t.lane (f.i + e)).value q
   pub truths : (q e : ℕ) → q < p → e < f.n → (u.lane (f.i + e)).truth q ≡ (t.lane (f.i + e)).truth q
-  pub value : p < l.z_until p → ValueRight l f u v p
-  pub truth : p < l.p_until p → TruthExact f (p_at v (p_of l p)) (truth_of (chunk_of f u) p)
+  pub value : p < l.z_last_use p → ValueRight l f u v p
+  pub truth : p < l.p_last_use p → TruthExact f (p_at v (p_of l p)) (truth_of (chunk_of f u) p)
   pub sums : (x : List ℕ) → l.updated x ≡ true → SumRight l f u x (z_at v (l.sum x))
 
 module _ {l : Layout} {f : Setting} {p : ℕ} {t : Lanes} {s : State} (h : Holds l f p t s) where
@@ -68,17 +68,17 @@ module _ {l : Layout} {f : Setting} {p : ℕ} {t : Lanes} {s : State} (h : Holds
           typed = old.typed;
         };
     values = λ q lt le. ⊎_elim
-        (λ eq. subst (λ q. ValueRight l f u v q) (sym eq.1) (m.value (omega (arith, le, ap l.z_until eq.1))))
+        (λ eq. subst (λ q. ValueRight l f u v q) (sym eq.1) (m.value (omega (arith, le, ap l.z_last_use eq.1))))
         (λ ne. old_value q (omega (arith, lt, ne.1)) le)
         (eqb_tells q p);
     truths = λ q lt le. ⊎_elim
-        (λ eq. subst (λ q. TruthExact f (p_at v (p_of l q)) (truth_of (chunk_of f u) q)) (sym eq.1) (m.truth (omega (arith, le, ap l.p_until eq.1))))
+        (λ eq. subst (λ q. TruthExact f (p_at v (p_of l q)) (truth_of (chunk_of f u) q)) (sym eq.1) (m.truth (omega (arith, le, ap l.p_last_use eq.1))))
         (λ ne. old_truth q (omega (arith, lt, ne.1)) le)
         (eqb_tells q p);
     sums = m.sums;
   }
     where
-      old_value : (q : ℕ) → q < p → p + 1 ≤ l.z_until q → ValueRight l f u v q
+      old_value : (q : ℕ) → q < p → p + 1 ≤ l.z_last_use q → ValueRight l f u v q
       old_value q lt le =
           let old = h.values q lt (omega (arith, le)) in
           record {
@@ -86,13 +86,13 @@ module _ {l : Layout} {f : Setting} {p : ℕ} {t : Lanes} {s : State} (h : Holds
             typed = λ e el. subst (IsOf (l.type (Made q))) (sym (m.values q e lt el)) (old.typed e el);
           }
 
-      old_truth : (q : ℕ) → q < p → p + 1 ≤ l.p_until q → TruthExact f (p_at v (p_of l q)) (truth_of (chunk_of f u) q)
+      old_truth : (q : ℕ) → q < p → p + 1 ≤ l.p_last_use q → TruthExact f (p_at v (p_of l q)) (truth_of (chunk_of f u) q)
       old_truth q lt le e el =
           ap (λ z. active f.w z e) (m.kept_p q lt (omega (arith, le))) ∙ h.truths q lt (omega (arith, le)) e el
           ∙ masked e f.n _ _ (λ en. sym (m.truths q e lt en))
 
   -- an item's number may be left out where it makes nothing
-  pub holds_later : (q : ℕ) → p ≤ q → ((r : ℕ) → p ≤ r → r < q → (l.z_until r ≤ r) × (l.p_until r ≤ r)) → Holds l f q t s
+  pub holds_later : (q : ℕ) → p ≤ q → ((r : ℕ) → p ≤ r → r < q → (l.z_last_use r ≤ r) × (l.p_last_use r ≤ r)) → Holds l f q t s
   holds_later q le none = record {
     is = h.is;
     few = h.few;

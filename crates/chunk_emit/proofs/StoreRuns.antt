@@ -53,7 +53,7 @@ memory-bytes ty.U32 = refl
 memory-bytes ty.I64 = refl
 memory-bytes ty.U64 = refl
 
--- the state behind a store
+-- the state after a store
 store_moves : {l : Layout} {f : Setting} {p : ℕ} {t : Lanes} {s : State} → Holds l f p t s → MakesNothing l p → (m : Memory) (v : Lanes) → v.memory ≡ m → ((j : ℕ) → v.lane j ≡ t.lane j) → IsState (next (record s { memory = m })) → Moves l f p t s v (next (record s { memory = m }))
 store_moves {f = f} {t = t} {s = s} h none m v mem lanes is = record {
   is = is;

@@ -86,6 +86,6 @@ pub record Holds (l : Layout) (f : Setting) (p : ℕ) (t : Lanes) (s : State) : 
   pub top : IsTop f.w f.n (p_at s 0)
   pub all : PRight f.w (count_of f) (p_at s 1) all_at
   pub held : (x : Source) → l.held x ≡ true → HeldRight l f s x
-  pub values : (q : ℕ) → q < p → p ≤ l.z_until q → ValueRight l f t s q
-  pub truths : (q : ℕ) → q < p → p ≤ l.p_until q → TruthExact f (p_at s (p_of l q)) (truth_of (chunk_of f t) q)
+  pub values : (q : ℕ) → q < p → p ≤ l.z_last_use q → ValueRight l f t s q
+  pub truths : (q : ℕ) → q < p → p ≤ l.p_last_use q → TruthExact f (p_at s (p_of l q)) (truth_of (chunk_of f t) q)
   pub sums : (x : List ℕ) → l.updated x ≡ true → SumRight l f t x (z_at s (l.sum x))

@@ -20,7 +20,7 @@ use Rattle.chunk_emit.specs.Registers.{Layout, z_of, base_of, is_used}
 
 -- ---- places of elements
 
--- X26 = X9 + c, where c is not 0, and the words behind
+-- X26 = X9 + c, where c is not 0, and the words after
 abbrev pub with_index : ℤ → List Listed → List Listed
 with_index (pos zero) rest = rest
 with_index (pos (suc k)) rest = Scalar (record { name = a64.add_imm; numbers = 26 ∷ 9 ∷ suc k ∷ 0 ∷ [] }) ∷ rest
@@ -102,13 +102,13 @@ is_made q (Constant t z) = false
 is_made q (Outer p) = false
 is_made q Turn = false
 
--- The store behind item q, where it takes the item's value and the item is a cast: it stores the cast's operand, since it keeps
+-- The store after item q, where it takes the item's value and the item is a cast: it stores the cast's operand, since it keeps
 -- the low bytes alone.
 abbrev pub past_cast : (q : ℕ) → (op next : Op) → Option Op
 past_cast q (Cast s t x) (Store a base ty c v) = if is_made q v then Some (Store a base ty c x) else None
 past_cast q _ _ = None
 
--- the code of the store alone, where there is one, or that of both items, and that of the items behind it
+-- the code of the store alone, where there is one, or that of both items, and that of the items after it
 abbrev pub either_words : Width → Layout → Item → Option Op → (both behind : List Listed) → List Listed
 either_words w l next None both behind = both
 either_words w l next (Some op) both behind = item_words w l (record next { op = op }) ++ behind
@@ -121,7 +121,7 @@ items_words w l (it ∷ []) = item_words w l it
 items_words w l (it ∷ next ∷ items) =
     either_words w l next (past_cast it.item it.op next.op) (item_words w l it ++ items_words w l (next ∷ items)) (items_words w l items)
 
--- instructions, and the entries behind them
+-- instructions, and the entries after them
 abbrev pub puts : List Listed → List Entry → List Entry
 puts [] rest = rest
 puts (i ∷ is) rest = Put i ∷ puts is rest

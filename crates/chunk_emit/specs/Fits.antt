@@ -21,17 +21,17 @@ pub record Assigned (l : Layout) : Type 0 where
   pub p_low : (q : ℕ) → IsTruthUsed l q → 2 ≤ p_of l q
   pub held_small : (x : Source) → l.held x ≡ true → l.registers.source x < 32
   pub sum_small : (x : List ℕ) → l.updated x ≡ true → l.sum x < 32
-  pub z_apart : (p q : ℕ) → q < p → p < l.z_until q → IsValueUsed l p → z_of l p ≢ z_of l q
-  pub p_apart : (p q : ℕ) → q < p → p < l.p_until q → IsTruthUsed l p → p_of l p ≢ p_of l q
+  pub z_apart : (p q : ℕ) → q < p → p < l.z_last_use q → IsValueUsed l p → z_of l p ≢ z_of l q
+  pub p_apart : (p q : ℕ) → q < p → p < l.p_last_use q → IsTruthUsed l p → p_of l p ≢ p_of l q
   pub held_apart : (x : Source) (q : ℕ) → l.held x ≡ true → IsValueUsed l q → z_of l q ≢ l.registers.source x
   pub sum_apart : (x : List ℕ) (q : ℕ) → l.updated x ≡ true → IsValueUsed l q → z_of l q ≢ l.sum x
-  pub sum_made : (x : List ℕ) (p q : ℕ) → l.updated x ≡ true → q < p → p < l.z_until q → l.sum x ≢ z_of l q
+  pub sum_made : (x : List ℕ) (p q : ℕ) → l.updated x ≡ true → q < p → p < l.z_last_use q → l.sum x ≢ z_of l q
   pub sum_held : (x : List ℕ) (y : Source) → l.updated x ≡ true → l.held y ≡ true → l.sum x ≢ l.registers.source y
   pub sums_apart : (x y : List ℕ) → l.updated x ≡ true → l.updated y ≡ true → bytes_eq x y ≡ false → l.sum x ≢ l.sum y
 
 -- the value of an item is made before item p, and needed there
 abbrev pub IsLive : Layout → (q p : ℕ) → Type 0
-IsLive l q p = (q < p) × (p ≤ l.z_until q)
+IsLive l q p = (q < p) × (p ≤ l.z_last_use q)
 
 -- an operand of item p is in a register, and of a type
 abbrev pub FitsSource : Layout → ℕ → Ty → Source → Type 0
@@ -45,7 +45,7 @@ abbrev pub FitsOperand : Layout → Width → ℕ → Ty → Source → Type 0
 FitsOperand l w p t x = FitsSource l p t x × (bits_of t ≤ width_bits w)
 
 abbrev pub FitsTruth : Layout → ℕ → ℕ → Type 0
-FitsTruth l p q = (q < p) × (p ≤ l.p_until q)
+FitsTruth l p q = (q < p) × (p ≤ l.p_last_use q)
 
 abbrev pub FitsMask : Layout → ℕ → Option ℕ → Type 0
 FitsMask l p None = Unit {0}
@@ -64,13 +64,13 @@ IsNear c = unsigned_abs c ≤ 1024
 
 -- item p makes a value of a type, or a condition, or neither
 abbrev pub MakesValue : Layout → ℕ → Ty → Type 0
-MakesValue l p t = (l.p_until p ≤ p) × (l.type (Made p) ≡ t)
+MakesValue l p t = (l.p_last_use p ≤ p) × (l.type (Made p) ≡ t)
 
 abbrev pub MakesTruth : Layout → ℕ → Type 0
-MakesTruth l p = l.z_until p ≤ p
+MakesTruth l p = l.z_last_use p ≤ p
 
 abbrev pub MakesNothing : Layout → ℕ → Type 0
-MakesNothing l p = (l.z_until p ≤ p) × (l.p_until p ≤ p)
+MakesNothing l p = (l.z_last_use p ≤ p) × (l.p_last_use p ≤ p)
 
 abbrev pub FitsOp : Layout → Setting → ℕ → Op → Type 0
 FitsOp l f p (Load a base (Some t) c) = FitsBase f base × IsNear c × (bits_of t ≤ width_bits f.w) × IsValueUsed l p × MakesValue l p t
@@ -92,10 +92,10 @@ FitsOp l f p _ = ⊥
 abbrev pub NoneBetween : Layout → (p q : ℕ) → Type 0
 NoneBetween l p q = (r : ℕ) → p ≤ r → r < q → MakesNothing l r
 
--- a cast that the store behind it takes is used there last
+-- a cast that the store after it takes is used there last
 abbrev pub FitsCast : Layout → Item → List Item → Type 0
 FitsCast l it [] = Unit {0}
-FitsCast l it (next ∷ items) = (op : Op) → past_cast it.item it.op next.op ≡ Some op → l.z_until it.item ≤ next.item
+FitsCast l it (next ∷ items) = (op : Op) → past_cast it.item it.op next.op ≡ Some op → l.z_last_use it.item ≤ next.item
 
 -- items without a break, with ascending numbers from p on
 abbrev pub FitsItems : Layout → Setting → ℕ → List Item → Type 0
@@ -103,7 +103,7 @@ FitsItems l f p [] = Unit {0}
 FitsItems l f p (it ∷ items) =
     (p ≤ it.item) × NoneBetween l p it.item × FitsMask l it.item it.mask × FitsOp l f it.item it.op × FitsCast l it items × FitsItems l f (it.item + 1) items
 
--- the number behind the last item
+-- the number after the last item
 abbrev pub behind_items : ℕ → List Item → ℕ
 behind_items p [] = p
 behind_items p (it ∷ items) = behind_items (it.item + 1) items

@@ -15,7 +15,7 @@ use Rattle.loop_form.specs.declared.loop_item.Source.{Source}
 use Rattle.loop_form.specs.declared.loop_item.Source.TheVariants.{Constant, Outer, Turn, Made}
 use Rattle.loop_form.specs.Entries.{Content, IsUpdate, Entry, entries_of, loop_entries, loop_start}
 use Rattle.loop_form.specs.Lanes.{var_type}
-use Rattle.loop_form.specs.Listing.{until_in}
+use Rattle.loop_form.specs.Listing.{last_use_in}
 use Rattle.loop_form.specs.LoopItems.{Item, loop_items_of}
 use Rattle.loop_form.specs.Needs.{updates}
 use Rattle.lane_emit.specs.ItemCode.{made_type}
@@ -26,10 +26,10 @@ use Rattle.chunk_emit.specs.Registers.{Layout}
 
 -- the item that uses an item's value last, or 0 where it makes none in the class
 abbrev pub last_in : RegClass → List Entry → Entry → ℕ
-last_in class all e = unwrap_or (until_in class all e) 0
+last_in class all e = unwrap_or (last_use_in class all e) 0
 
-abbrev pub item_until : Program → RegClass → ℕ → ℕ
-item_until k class q = slice_index (map (last_in class (entries_of k)) (loop_entries k)) (q - loop_start k)
+abbrev pub item_last_use : Program → RegClass → ℕ → ℕ
+item_last_use k class q = slice_index (map (last_in class (entries_of k)) (loop_entries k)) (q - loop_start k)
 
 -- the type of what the item with a number makes
 abbrev pub type_in : List Item → ℕ → Option Ty
@@ -74,8 +74,8 @@ abbrev pub layout_of_loop : Program → (a b : Assignment) → Layout
 layout_of_loop k a b = record {
   registers = record { source = source_register k a; z = λ q. source_register k a (Made q); p = predicate_register k b };
   type = source_type k;
-  z_until = item_until k Z;
-  p_until = item_until k P;
+  z_last_use = item_last_use k Z;
+  p_last_use = item_last_use k P;
   held = λ x. is_some (held_place k x);
   updated = λ x. is_some (sum_place k x);
   update = update_of k;

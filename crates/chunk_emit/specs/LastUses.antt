@@ -4,7 +4,7 @@ use Rattle.loop_form.specs.declared.item.Item.{Item}
 
 -- the item that uses an item's value last, or 0 where it makes none; the same of its condition
 abbrev pub z_last : Item → ℕ
-z_last it = unwrap_or it.z_until 0
+z_last it = unwrap_or it.z_last_use 0
 
 abbrev pub p_last : Item → ℕ
-p_last it = unwrap_or it.p_until 0
+p_last it = unwrap_or it.p_last_use 0

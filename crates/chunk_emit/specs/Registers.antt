@@ -13,8 +13,8 @@ use Rattle.lane_emit.specs.ItemCode.{Registers, makes_truth}
 pub record Layout : Type 0 where
   pub registers : Registers
   pub type : Source → Ty
-  pub z_until : ℕ → ℕ
-  pub p_until : ℕ → ℕ
+  pub z_last_use : ℕ → ℕ
+  pub p_last_use : ℕ → ℕ
   pub held : Source → Bool
   pub updated : List ℕ → Bool
   pub update : List ℕ → UpdateOp
@@ -28,16 +28,16 @@ z_of l q = l.registers.z q
 abbrev pub p_of : Layout → ℕ → ℕ
 p_of l q = l.registers.p q
 
--- an item with a value, or with a condition, that is used behind it
+-- an item with a value, or with a condition, that is used after it
 abbrev pub IsValueUsed : Layout → ℕ → Type 0
-IsValueUsed l q = q < l.z_until q
+IsValueUsed l q = q < l.z_last_use q
 
 abbrev pub IsTruthUsed : Layout → ℕ → Type 0
-IsTruthUsed l q = q < l.p_until q
+IsTruthUsed l q = q < l.p_last_use q
 
 -- whether what an operation makes is used
 abbrev pub is_used : Layout → Op → ℕ → Bool
-is_used l op q = nat_lt q (if makes_truth op then l.p_until q else l.z_until q)
+is_used l op q = nat_lt q (if makes_truth op then l.p_last_use q else l.z_last_use q)
 
 -- the general register of an array's address: that of the parameter
 abbrev pub base_of : Source → ℕ

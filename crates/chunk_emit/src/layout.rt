@@ -5,7 +5,7 @@ ghost use Rattle.reg_assign.specs.declared.interval.RegClass.TheVariants as clas
 ghost use Rattle.loop_form.specs.Entries.{entries_of, loop_entries};
 ghost use Rattle.loop_form.specs.Lanes.{lane_width_of};
 ghost use Rattle.loop_form.specs.Registers.{FitsKernel};
-ghost use Rattle.loop_form.specs.Seen.{program};
+ghost use Rattle.loop_form.specs.View.{program};
 ghost use Rattle.chunk_emit.specs.KernelLayout.{last_in};
 ghost use Rattle.chunk_emit.specs.LastUses.{z_last, p_last};
 
@@ -31,7 +31,7 @@ pub struct LoopLayout<'a> {
 }
 
 // The item that uses an item's value last.
-fn until(untils: &[u32], first: u32, item: u32) -> u32
+fn last_use(untils: &[u32], first: u32, item: u32) -> u32
     ensures { result ≡ slice_index untils.now (item - first) }
 {
     let number = item.saturating_sub(first) as usize;
@@ -48,18 +48,25 @@ impl LoopLayout<'_> {
         self.width
     }
 
-    /// Whether an item has a value that is used behind it.
+    /// Whether an item has a value that is used after it.
     pub fn is_value_used(&self, item: u32) -> bool
-        ensures { result ≡ nat_lt item ((layout_in self.now).z_until item) }
+        ensures { result ≡ nat_lt item ((layout_in self.now).z_last_use item) }
     {
-        item < until(&self.values, self.registers.first(), item)
+        item < last_use(&self.values, self.registers.first(), item)
     }
 
-    /// Whether an item has a condition that is used behind it.
+    /// Whether an item has a condition that is used after it.
     pub fn is_truth_used(&self, item: u32) -> bool
-        ensures { result ≡ nat_lt item ((layout_in self.now).p_until item) }
+        ensures { result ≡ nat_lt item ((layout_in self.now).p_last_use item) }
     {
-        item < until(&self.truths, self.registers.first(), item)
+        item < last_use(&self.truths, self.registers.first(), item)
+    }
+
+    /// The item that uses an item's condition last, or 0 where it makes none.
+    pub fn truth_last_use(&self, item: u32) -> u32
+        ensures { result ≡ (layout_in self.now).p_last_use item }
+    {
+        last_use(&self.truths, self.registers.first(), item)
     }
 }
 
@@ -79,7 +86,7 @@ fn value_uses(alloc: Global, items: &[Item]) -> Result<Vec<u32>, AllocError>
 {
     let mut uses = Vec::new(alloc);
     for item in items {
-        uses.push(item.z_until.unwrap_or(0))?;
+        uses.push(item.z_last_use.unwrap_or(0))?;
     }
     Ok(uses)
 }
@@ -90,7 +97,7 @@ fn truth_uses(alloc: Global, items: &[Item]) -> Result<Vec<u32>, AllocError>
 {
     let mut uses = Vec::new(alloc);
     for item in items {
-        uses.push(item.p_until.unwrap_or(0))?;
+        uses.push(item.p_last_use.unwrap_or(0))?;
     }
     Ok(uses)
 }

@@ -15,7 +15,7 @@ pub use layout::{LoopLayout, loop_layout};
 pub use words::{base_register, index_register, load, load_type};
 
 /// The code of a loop's items without a break, from a state that holds the lanes of a chunk, does what the items do one after
-/// another over these lanes: it comes to the entries behind it with the memory and the lanes that they leave, or stops at a
+/// another over these lanes: it comes to the entries after it with the memory and the lanes that they leave, or stops at a
 /// read or a write with the memory that the first lane that faults left. It takes at most as many steps as it has words.
 pub fn items_run()
     ensures { ItemsRun }

@@ -5,7 +5,7 @@ ghost use Rattle.a64_code.specs.Table as a64;
 ghost use Rattle.sve_code.specs.Numbers.{size_number, dtype_number};
 ghost use Rattle.machine_model.specs.InstructionTable.{Listed, Scalar, Vector};
 ghost use Rattle.kernel_tree.specs.declared.ops.Ty.TheVariants as ty;
-ghost use Rattle.label_fix.specs.Draft.{word_seen};
+ghost use Rattle.label_fix.specs.Draft.{word_view};
 ghost use Rattle.label_fix.specs.Finished.{is_plain};
 ghost use Rattle.lane_emit.specs.LaneCode.{size_of};
 ghost use Rattle.chunk_emit.specs.Registers.{base_of};
@@ -47,7 +47,7 @@ pub fn index_register(offset: i32) -> OffsetReg
 // X26 = X9 and a number.
 fn index_up(by: u32) -> Word
     requires { by < 4096 }
-    ensures { word_seen result ≡ Scalar (record { name = a64.add_imm; numbers = 26 ∷ 9 ∷ by ∷ 0 ∷ [] }) }
+    ensures { word_view result ≡ Scalar (record { name = a64.add_imm; numbers = 26 ∷ 9 ∷ by ∷ 0 ∷ [] }) }
 {
     Word::A(A64::AddSubImmediate {
         op: AddSubOp::Add,
@@ -61,7 +61,7 @@ fn index_up(by: u32) -> Word
 // X26 = X9 less a number.
 fn index_down(by: u32) -> Word
     requires { by < 4096 }
-    ensures { word_seen result ≡ Scalar (record { name = a64.sub_imm; numbers = 26 ∷ 9 ∷ by ∷ 0 ∷ [] }) }
+    ensures { word_view result ≡ Scalar (record { name = a64.sub_imm; numbers = 26 ∷ 9 ∷ by ∷ 0 ∷ [] }) }
 {
     Word::A(A64::AddSubImmediate {
         op: AddSubOp::Sub,
@@ -76,8 +76,8 @@ fn index_down(by: u32) -> Word
 pub fn index_word(offset: i32) -> Word
     requires some { offset ≢ pos 0 }
     requires near { unsigned_abs offset < 4096 }
-    ensures word { (rest : List Listed) → code.with_index offset rest ≡ word_seen result ∷ rest }
-    ensures plain { is_plain (word_seen result) ≡ true }
+    ensures word { (rest : List Listed) → code.with_index offset rest ≡ word_view result ∷ rest }
+    ensures plain { is_plain (word_view result) ≡ true }
 {
     let by = offset.unsigned_abs();
     if offset > 0 {
@@ -186,7 +186,7 @@ pub fn load(
     base: Reg,
     index: OffsetReg,
 ) -> Word
-    ensures { word_seen result ≡ Vector (code.load_word width ty d.number m.number base.number index.number) }
+    ensures { word_view result ≡ Vector (code.load_word width ty d.number m.number base.number index.number) }
 {
     Word::V(Sve::ContiguousLoad {
         zt: d,
@@ -207,7 +207,7 @@ pub fn store(
     index: OffsetReg,
 ) -> Word
     requires { code.memory_size ty ≤ size_of width }
-    ensures { word_seen result ≡ Vector (code.store_word width ty v.number m.number base.number index.number) }
+    ensures { word_view result ≡ Vector (code.store_word width ty v.number m.number base.number index.number) }
 {
     Word::V(Sve::ContiguousStore {
         zt: v,

@@ -98,8 +98,8 @@ module _ {l : Layout} (fit : Assigned l) {f : Setting} {a : State} {p0 : ℕ} {t
           same = same_p (λ eq. absurd (omega (arith, eq))) (only_put 0 s new);
           top = top;
           ffr = λ early e em. h.ffr early e (omega (arith, em, le));
-          kept_z = λ q lt until. refl;
-          kept_p = λ q lt until e em. ap (λ b. active f.w b e) (get_or-set_other s.p 0 (p_of l q) new [] (λ eq. absurd (omega (arith, eq, fit.p_low q (omega (arith, lt, until))))));
+          kept_z = λ q lt last_use. refl;
+          kept_p = λ q lt last_use e em. ap (λ b. active f.w b e) (get_or-set_other s.p 0 (p_of l q) new [] (λ eq. absurd (omega (arith, eq, fit.p_low q (omega (arith, lt, last_use))))));
           values = λ q e lt em. refl;
           truths = λ q e lt em. refl;
           value = λ lt. absurd (omega (arith, lt, none.0));

@@ -104,14 +104,14 @@ module _ {l : Layout} (fit : Assigned l) {f : Setting} {a : State} {p0 : ℕ} {t
   element_is = (reads.is fit h0 p ls mask array x ty c wide h exact place place_is).element
 
   module _ (free : ℕ → Bool) where
-    -- FFR behind the load
+    -- FFR after the load
     abbrev ffr_of : Option ℕ → List ℕ
     ffr_of o = cleared_from form.element o u.ffr
 
     abbrev load : Option ℕ → EarlyLoad
     load o = record { loaded = loaded_with form u.memory on place count (ffr_of o); stops = later u.stops (looked_at free faults count o); cut = is_cut faults o }
 
-    -- the states behind the load, and behind the word that narrows P0
+    -- the states after the load, and after the word that narrows P0
     abbrev loaded_state : Option ℕ → State
     loaded_state o = next (with_early u (z_of l p) (load o))
 
@@ -143,7 +143,7 @@ module _ {l : Layout} (fit : Assigned l) {f : Setting} {a : State} {p0 : ℕ} {t
         (λ early e ek. clear e (omega (arith, ek, le)) ∙ lt-ltb e k ek) (λ r ne. get_or-set_other u.z (z_of l p) r z_new [] ne) (λ r ne. get_or-set_other u.p 0 r p_new [] ne)
         (λ e ek. ap (λ z. at f.w z e) written ∙ reads.kept_is fit h0 p ls mask array x ty c wide h exact place place_is limit e (omega (arith, ek, le)) (before e ek))
 
-    -- the load and the word behind it
+    -- the load and the word after it
     abbrev TwoWords : Word → Option ℕ → Type 0
     TwoWords i o = Pair d (puts (Vector i ∷ read_faults ∷ []) rest) u rest (narrowed_state o) (is_cut faults o)
 

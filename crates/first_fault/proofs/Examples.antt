@@ -1,7 +1,7 @@
--- Worked rows: `break if a[i] == 0;` in lanes of bytes, for a of u8 in X0, and reads under a mask in lanes of 16 bits; and a layout
--- that meets what the laws want.
-use Rattle.std.proofs.Common.{◌≡◌, ℕ, zero, suc, ◌<◌, pos, Bool, true, false, List, [], ◌∷◌, ◌++◌, Some, None, refl, subst, arith}
-use Rattle.std.specs.Prelude.{slice_index}
+-- Worked rows: `break if a[i] == 0;` in lanes of bytes, for a of u8 in X0, and reads under a mask in lanes of 16 bits; a layout that
+-- meets what the laws want; and `break if a[i] == 0 || b[i] == 0;` as two breaks.
+use Rattle.std.proofs.Common.{◌≡◌, ℕ, zero, suc, ◌+◌, ◌<◌, pos, Bool, true, false, List, [], ◌∷◌, ◌++◌, Some, None, refl, subst, arith}
+use Rattle.std.specs.Prelude.{slice_index, nat_eq, if◌then◌else◌}
 use Rattle.guest_types.specs.declared.length.Width.TheVariants.{B, H}
 use Rattle.guest_types.specs.EarlyLoads.{never}
 use Rattle.kernel_tree.specs.declared.ops.Ty.{Ty}
@@ -15,7 +15,7 @@ use Rattle.machine_model.specs.InstructionTable.{Scalar, Vector}
 use Rattle.chunk_order.specs.Orders.{Lane}
 use Rattle.loop_form.specs.declared.loop_item.Source.{Source}
 use Rattle.loop_form.specs.declared.loop_item.Source.TheVariants.{Constant, Outer, Turn, Made}
-use Rattle.loop_form.specs.LoopItems.{Item, item, Load, Store, Test, Quit}
+use Rattle.loop_form.specs.LoopItems.{Item, item, Load, Store, Test, Invert, Any, Quit}
 use Rattle.lane_emit.specs.Stretch.{word}
 use Rattle.chunk_emit.specs.Registers.{Layout}
 use Rattle.chunk_emit.specs.Chunk.{Setting}
@@ -24,6 +24,7 @@ use Rattle.first_fault.specs.Region.{On, Broke, Fell, region_way}
 use Rattle.first_fault.specs.RegionCode.{Early, Single, region_words, exits_words, single_words}
 use Rattle.first_fault.specs.Fits.{FitsRegion}
 use Rattle.first_fault.specs.Split.{region_of, rest_of}
+use Rattle.first_fault.specs.SplitBreaks.{split_breaks}
 
 abbrev nought : Source
 nought = Constant (Some ty.U8) (pos 0)
@@ -57,8 +58,8 @@ abbrev layout : Layout
 layout = record {
   registers = record { source = register; z = λ q. 1; p = λ q. 2 };
   type = type_of;
-  z_until = slice_index uses;
-  p_until = slice_index truth_uses;
+  z_last_use = slice_index uses;
+  p_last_use = slice_index truth_uses;
   held = is_held;
   updated = λ x. false;
   update = λ x. update.Add;
@@ -182,3 +183,42 @@ none_at r q le lt = absurd (omega (arith, le, lt))
 
 fits : FitsRegion layout setting 3 items
 fits = (omega arith, none_at 3, tt, ((omega arith, refl), omega arith, omega arith, omega arith, (omega arith, refl)), (omega arith, none_four, tt, ((((omega arith, omega arith), refl), omega arith), ((refl, refl), omega arith), omega arith), (omega arith, none_at 6, tt, (refl, (omega arith, omega arith), (omega arith, omega arith)), tt)))
+
+-- ---- two breaks
+
+abbrev read_of : ℕ → ℕ → Item
+read_of q x = item q None (Load ((97 + x) ∷ []) (Outer x) (Some ty.U8) (pos 0))
+
+abbrev is_zero : ℕ → ℕ → Item
+is_zero q x = item q None (Test compare.Eq (Some ty.U8) (Made x) nought)
+
+-- an item in the second side
+abbrev marked : Item → Item
+marked it = record it { mask = Some 7 }
+
+abbrev either_items : List Item
+either_items = read_of 4 0 ∷ is_zero 6 4 ∷ item 7 None (Invert 6) ∷ marked (read_of 8 1) ∷ marked (is_zero 10 8) ∷ item 11 None (Any 6 10) ∷ item 12 None (Quit 11) ∷ []
+
+-- the value of item 4 is needed until item 6, that of item 8 until item 10; the conditions but the last until item 11
+abbrev either_layout : Layout
+either_layout = record layout {
+  registers = record { source = register; z = λ q. 1; p = λ q. if nat_eq q 10 then 4 else 2 };
+  z_last_use = slice_index (0 ∷ 0 ∷ 0 ∷ 0 ∷ 6 ∷ 0 ∷ 0 ∷ 0 ∷ 10 ∷ []);
+  p_last_use = slice_index (0 ∷ 0 ∷ 0 ∷ 0 ∷ 0 ∷ 0 ∷ 11 ∷ 11 ∷ 0 ∷ 0 ∷ 11 ∷ 12 ∷ []);
+}
+
+two_breaks : split_breaks either_layout either_items ≡ read_of 4 0 ∷ is_zero 6 4 ∷ item 7 None (Quit 6) ∷ read_of 8 1 ∷ is_zero 10 8 ∷ item 11 None (Quit 10) ∷ []
+two_breaks = refl
+
+-- setffr; ldff1b {z1.b}, p0/z, [x0, x9]; rdffr p0.b, p0/z; cmpeq p2.b, p0/z, z1.b, z0.b; brkb p0.b, p0/z, p2.b
+-- ldff1b {z1.b}, p0/z, [x1, x9]; rdffr p0.b, p0/z; cmpeq p4.b, p0/z, z1.b, z0.b; brkb p0.b, p0/z, p4.b
+either_exits : exits_words B either_layout (split_breaks either_layout either_items)
+    ≡ Vector (word setffr [])
+    ∷ Vector (word ldff1 (1 ∷ 0 ∷ 0 ∷ 9 ∷ 0 ∷ [])) ∷ Vector (word rdffr_z (0 ∷ 0 ∷ [])) ∷ Vector (word cmpeq (2 ∷ 1 ∷ 0 ∷ 0 ∷ 0 ∷ [])) ∷ Vector (word brkb (0 ∷ 2 ∷ 0 ∷ []))
+    ∷ Vector (word ldff1 (1 ∷ 1 ∷ 0 ∷ 9 ∷ 0 ∷ [])) ∷ Vector (word rdffr_z (0 ∷ 0 ∷ [])) ∷ Vector (word cmpeq (4 ∷ 1 ∷ 0 ∷ 0 ∷ 0 ∷ [])) ∷ Vector (word brkb (0 ∷ 4 ∷ 0 ∷ []))
+    ∷ []
+either_exits = refl
+
+-- a `||` whose mark something else uses stays as it is
+kept : split_breaks (record either_layout { p_last_use = λ q. 20 }) either_items ≡ either_items
+kept = refl

@@ -47,12 +47,12 @@ pub record Turns (mode : Mode) (l : Layout) (f : Setting) (a : State) (p : ℕ) 
   pub same : Same l s v
   pub top : IsTop f.w k (p_at v 0)
   pub ffr : mode ≡ Early → (e : ℕ) → e < k → active f.w v.ffr e ≡ true
-  pub kept_z : (q : ℕ) → q < p → p < l.z_until q → z_at v (z_of l q) ≡ z_at s (z_of l q)
-  pub kept_p : (q : ℕ) → q < p → p < l.p_until q → (e : ℕ) → e < k → active f.w (p_at v (p_of l q)) e ≡ active f.w (p_at s (p_of l q)) e
+  pub kept_z : (q : ℕ) → q < p → p < l.z_last_use q → z_at v (z_of l q) ≡ z_at s (z_of l q)
+  pub kept_p : (q : ℕ) → q < p → p < l.p_last_use q → (e : ℕ) → e < k → active f.w (p_at v (p_of l q)) e ≡ active f.w (p_at s (p_of l q)) e
   pub values : (q e : ℕ) → q < p → e < k → (new (f.i + e)).value q ≡ (ls (f.i + e)).value q
   pub truths : (q e : ℕ) → q < p → e < k → (new (f.i + e)).truth q ≡ (ls (f.i + e)).truth q
-  pub value : p < l.z_until p → ValueRight l (with_count f k) (lanes_of a.memory new) v p
-  pub truth : p < l.p_until p → PRight f.w k (p_at v (p_of l p)) (truth_of (prefix f a k new) p)
+  pub value : p < l.z_last_use p → ValueRight l (with_count f k) (lanes_of a.memory new) v p
+  pub truth : p < l.p_last_use p → PRight f.w k (p_at v (p_of l p)) (truth_of (prefix f a k new) p)
 
 module _ {l : Layout} (fit : Assigned l) {f : Setting} {a : State} {p0 : ℕ} {t0 : Lanes} (h0 : Holds l f p0 t0 a) where
   pub long : IsLength f.vl
@@ -87,26 +87,26 @@ module _ {l : Layout} (fit : Assigned l) {f : Setting} {a : State} {p0 : ℕ} {t
       same = same_then h.same m.same;
       top = m.top;
       ffr = m.ffr;
-      values = λ q lt until. ⊎_elim
-          (λ eq. subst (λ q. ValueRight l (with_count f k) (lanes_of a.memory new) v q) (sym eq.1) (m.value (omega (arith, until, ap l.z_until eq.1))))
-          (λ ne. old_value q (omega (arith, lt, ne.1)) until)
+      values = λ q lt last_use. ⊎_elim
+          (λ eq. subst (λ q. ValueRight l (with_count f k) (lanes_of a.memory new) v q) (sym eq.1) (m.value (omega (arith, last_use, ap l.z_last_use eq.1))))
+          (λ ne. old_value q (omega (arith, lt, ne.1)) last_use)
           (eqb_tells q p);
-      truths = λ q lt until. ⊎_elim
-          (λ eq. subst (λ q. PRight f.w k (p_at v (p_of l q)) (truth_of (prefix f a k new) q)) (sym eq.1) (m.truth (omega (arith, until, ap l.p_until eq.1))))
-          (λ ne. old_truth q (omega (arith, lt, ne.1)) until)
+      truths = λ q lt last_use. ⊎_elim
+          (λ eq. subst (λ q. PRight f.w k (p_at v (p_of l q)) (truth_of (prefix f a k new) q)) (sym eq.1) (m.truth (omega (arith, last_use, ap l.p_last_use eq.1))))
+          (λ ne. old_truth q (omega (arith, lt, ne.1)) last_use)
           (eqb_tells q p);
     }
       where
-        old_value : (q : ℕ) → q < p → p + 1 ≤ l.z_until q → ValueRight l (with_count f k) (lanes_of a.memory new) v q
-        old_value q lt until =
-            let old = h.values q lt (omega (arith, until)) in
+        old_value : (q : ℕ) → q < p → p + 1 ≤ l.z_last_use q → ValueRight l (with_count f k) (lanes_of a.memory new) v q
+        old_value q lt last_use =
+            let old = h.values q lt (omega (arith, last_use)) in
             record {
-              right = λ e el. ap (λ z. at f.w z e) (m.kept_z q lt (omega (arith, until))) ∙ old.right e (omega (arith, el, le)) ∙ ap (residue (width_bits f.w)) (sym (m.values q e lt el));
+              right = λ e el. ap (λ z. at f.w z e) (m.kept_z q lt (omega (arith, last_use))) ∙ old.right e (omega (arith, el, le)) ∙ ap (residue (width_bits f.w)) (sym (m.values q e lt el));
               typed = λ e el. subst (IsOf (l.type (Made q))) (sym (m.values q e lt el)) (old.typed e (omega (arith, el, le)));
             }
 
-        old_truth : (q : ℕ) → q < p → p + 1 ≤ l.p_until q → PRight f.w k (p_at v (p_of l q)) (truth_of (prefix f a k new) q)
-        old_truth q lt until e el = m.kept_p q lt (omega (arith, until)) e el ∙ h.truths q lt (omega (arith, until)) e (omega (arith, el, le)) ∙ sym (m.truths q e lt el)
+        old_truth : (q : ℕ) → q < p → p + 1 ≤ l.p_last_use q → PRight f.w k (p_at v (p_of l q)) (truth_of (prefix f a k new) q)
+        old_truth q lt last_use e el = m.kept_p q lt (omega (arith, last_use)) e el ∙ h.truths q lt (omega (arith, last_use)) e (omega (arith, el, le)) ∙ sym (m.truths q e lt el)
 
     -- an item's number may be left out where it makes nothing
     pub inside_later : (q : ℕ) → p ≤ q → NoneBetween l p q → Inside mode l f a n q ls s

@@ -21,5 +21,9 @@ pub mod LoopFits
 pub mod Spelled
 pub mod Sizes
 pub mod Writables
+pub mod SplitCode
+mod SplitWays
+mod SplitFits
+pub mod SplitLaws
 mod Joined
 mod Examples

@@ -1,4 +1,4 @@
--- No condition that a loop makes up to its last break is used behind it.
+-- No condition that a loop makes up to its last break is used after it.
 use Rattle.std.proofs.Common.{◌≡◌, ℕ, suc, ◌+◌, ◌-◌, ◌<◌, ◌≤◌, ℤ, Bool, true, false, List, [], ◌∷◌, ◌++◌, length, map, Option, Some, None, refl, sym, ap, ◌∙◌, subst, arith, ⊎_elim}
 use Rattle.std.specs.Prelude.{slice_index, unwrap_or}
 use Rattle.std.specs.List.{list_any}
@@ -14,7 +14,7 @@ use Rattle.loop_form.specs.LoopItems.{Bound, Item, after_env, block_items, loop_
 use Rattle.loop_form.specs.Numbers.{Numbered}
 use Rattle.loop_form.proofs.Numbers.{action-listed}
 use Rattle.chunk_order.proofs.Whole.{scope_index}
-use Rattle.chunk_emit.specs.KernelLayout.{last_in, item_until, layout_of_loop}
+use Rattle.chunk_emit.specs.KernelLayout.{last_in, item_last_use, layout_of_loop}
 use Rattle.chunk_emit.proofs.FitsEntries.{AllGive, give_left, give_right, loop_gives}
 use Rattle.chunk_emit.proofs.FitsIntervals.{of_p, first_nothing}
 use Rattle.chunk_emit.proofs.FitsTypes.{action_index}
@@ -26,7 +26,7 @@ use Rattle.first_fault.proofs.TopBreaks.{breaks_of, behind_break, region_end, ou
 
 abbrev Below : ℕ → List Entry → Type 0
 Below top [] = Unit {0}
-Below top (e ∷ es) = (e.until < top) × Below top es
+Below top (e ∷ es) = (e.last_use < top) × Below top es
 
 below_on : (top : ℕ) (xs ys : List Entry) → Below top xs → Below top ys → Below top (xs ++ ys)
 below_on top [] ys h g = g
@@ -40,25 +40,25 @@ module _ (k : Program) where
   abbrev i : Option (List ℕ)
   i = loop_index k
 
-  term_below : (t : Term) (from until top : ℕ) → from + term_size i t ≤ until → until < top → Below top (term_entries k from until t)
-  term_below (Literal n) from until top le lt = (lt, tt)
-  term_below (Variable x) from until top le lt = (lt, tt)
-  term_below (Element a j) from until top le lt =
+  term_below : (t : Term) (from last_use top : ℕ) → from + term_size i t ≤ last_use → last_use < top → Below top (term_entries k from last_use t)
+  term_below (Literal n) from last_use top le lt = (lt, tt)
+  term_below (Variable x) from last_use top le lt = (lt, tt)
+  term_below (Element a j) from last_use top le lt =
       let q = from + index_items i j in
       below_on top (inner_entries (stream_offset i j) (term_entries k from q j)) _
       (inner_below top (stream_offset i j) (term_entries k from q j) (λ e. let n : index_items i j ≡ term_size i j = ap (λ o. index_size o (term_size i j)) e in term_below j from q top (omega (arith, n)) (omega (arith, le, lt)))) (lt, tt)
-  term_below (Unary op x) from until top le lt = below_on top (term_entries k from _ x) _ (term_below x from _ top (omega arith) (omega (arith, le, lt))) (lt, tt)
-  term_below (Operation op x y) from until top le lt = below_on top (term_entries k from _ x) _ (term_below x from _ top (omega arith) (omega (arith, le, lt))) (below_on top (term_entries k _ _ y) _ (term_below y _ _ top (omega arith) (omega (arith, le, lt))) (lt, tt))
-  term_below (Shift to_left x n) from until top le lt = below_on top (term_entries k from _ x) _ (term_below x from _ top (omega arith) (omega (arith, le, lt))) (lt, tt)
-  term_below (Conversion x t) from until top le lt = below_on top (term_entries k from _ x) _ (term_below x from _ top (omega arith) (omega (arith, le, lt))) (lt, tt)
-  term_below (Choice c x y) from until top le lt =
+  term_below (Unary op x) from last_use top le lt = below_on top (term_entries k from _ x) _ (term_below x from _ top (omega arith) (omega (arith, le, lt))) (lt, tt)
+  term_below (Operation op x y) from last_use top le lt = below_on top (term_entries k from _ x) _ (term_below x from _ top (omega arith) (omega (arith, le, lt))) (below_on top (term_entries k _ _ y) _ (term_below y _ _ top (omega arith) (omega (arith, le, lt))) (lt, tt))
+  term_below (Shift to_left x n) from last_use top le lt = below_on top (term_entries k from _ x) _ (term_below x from _ top (omega arith) (omega (arith, le, lt))) (lt, tt)
+  term_below (Conversion x t) from last_use top le lt = below_on top (term_entries k from _ x) _ (term_below x from _ top (omega arith) (omega (arith, le, lt))) (lt, tt)
+  term_below (Choice c x y) from last_use top le lt =
       below_on top (term_entries k from _ x) _ (term_below x from _ top (omega arith) (omega (arith, le, lt)))
       (below_on top (term_entries k _ _ y) _ (term_below y _ _ top (omega arith) (omega (arith, le, lt))) (below_on top (term_entries k _ _ c) _ (term_below c _ _ top (omega arith) (omega (arith, le, lt))) (lt, tt)))
-  term_below (Comparison op x y) from until top le lt = below_on top (term_entries k from _ x) _ (term_below x from _ top (omega arith) (omega (arith, le, lt))) (below_on top (term_entries k _ _ y) _ (term_below y _ _ top (omega arith) (omega (arith, le, lt))) (lt, tt))
-  term_below (Both x y) from until top le lt = below_on top (term_entries k from _ x) _ (term_below x from _ top (omega arith) (omega (arith, le, lt))) (below_on top (term_entries k _ _ y) _ (term_below y _ _ top (omega arith) (omega (arith, le, lt))) (lt, tt))
-  term_below (Either x y) from until top le lt =
+  term_below (Comparison op x y) from last_use top le lt = below_on top (term_entries k from _ x) _ (term_below x from _ top (omega arith) (omega (arith, le, lt))) (below_on top (term_entries k _ _ y) _ (term_below y _ _ top (omega arith) (omega (arith, le, lt))) (lt, tt))
+  term_below (Both x y) from last_use top le lt = below_on top (term_entries k from _ x) _ (term_below x from _ top (omega arith) (omega (arith, le, lt))) (below_on top (term_entries k _ _ y) _ (term_below y _ _ top (omega arith) (omega (arith, le, lt))) (lt, tt))
+  term_below (Either x y) from last_use top le lt =
       below_on top (term_entries k from _ x) _ (term_below x from _ top (omega arith) (omega (arith, le, lt))) (omega (arith, le, lt), below_on top (term_entries k _ _ y) _ (term_below y _ _ top (omega arith) (omega (arith, le, lt))) (lt, tt))
-  term_below (Not x) from until top le lt = below_on top (term_entries k from _ x) _ (term_below x from _ top (omega arith) (omega (arith, le, lt))) (lt, tt)
+  term_below (Not x) from last_use top le lt = below_on top (term_entries k from _ x) _ (term_below x from _ top (omega arith) (omega (arith, le, lt))) (lt, tt)
 
   mutual
     action_below : (a : Action) (from top : ℕ) → from + action_size i a ≤ top → Below top (action_entries k from a)
@@ -81,7 +81,7 @@ module _ (k : Program) where
   -- ---- conditions made before an item are used before it
 
   abbrev Ended : ℕ → Type 0
-  Ended q = (r : ℕ) → r < q → item_until k P r < q
+  Ended q = (r : ℕ) → r < q → item_last_use k P r < q
 
   held_small : (b : Bool) (u : ℕ) → unwrap_or (held b u) 0 ≤ u
   held_small true u = omega arith
@@ -96,7 +96,7 @@ module _ (k : Program) where
   content_small all (IsUpdate x op) u = omega arith
   content_small all (IsPlain kd) u = held_small (has_p kd) u
 
-  ended_in : (b top : ℕ) (es : List Entry) → Numbered b es → Below top es → AllGive k es → (r : ℕ) → b ≤ r → r < b + length es → item_until k P r < top
+  ended_in : (b top : ℕ) (es : List Entry) → Numbered b es → Below top es → AllGive k es → (r : ℕ) → b ≤ r → r < b + length es → item_last_use k P r < top
   ended_in b top [] n h g r from to = absurd (omega (arith, from, to))
   ended_in b top (e ∷ es) n h g r from to =
       let more = ended_in (suc b) top es n.1 h.1 g.1 in
@@ -105,11 +105,11 @@ module _ (k : Program) where
       (λ (ge : r ≤ b).
       let number = n.0 in
       let same : e.item ≡ r = omega (arith, number, from, ge) in
-      let until : item_until k P e.item ≡ last_in P (entries_of k) e = g.0.truth_until in
-      let moved = ap (item_until k P) same in
-      let small : last_in P (entries_of k) e ≤ e.until = content_small (entries_of k) e.content e.until in
+      let last_use : item_last_use k P e.item ≡ last_in P (entries_of k) e = g.0.truth_last_use in
+      let moved = ap (item_last_use k P) same in
+      let small : last_in P (entries_of k) e ≤ e.last_use = content_small (entries_of k) e.content e.last_use in
       let below = h.0 in
-      omega (arith, until, moved, small, below))
+      omega (arith, last_use, moved, small, below))
       (cases_lt b r)
 
   action_ended : (a : Action) (b : ℕ) → AllGive k (action_entries k b a) → Ended b → Ended (b + action_size i a)
@@ -140,7 +140,7 @@ module _ (k : Program) where
   start_ended : Ended (loop_start k + 1)
   start_ended r lt =
       let first : r - loop_start k ≡ 0 = omega (arith, lt) in
-      let none : item_until k P r ≡ 0 = ap (slice_index (map (last_in P (entries_of k)) (loop_entries k))) first ∙ first_nothing k P of_p in
+      let none : item_last_use k P r ≡ 0 = ap (slice_index (map (last_in P (entries_of k)) (loop_entries k))) first ∙ first_nothing k P of_p in
       omega (arith, none)
 
   pub no_truth_live : (l : Turns) (zs ps : Assignment) → k.turns ≡ Some l → list_any is_inner_break (loop_items k l) ≡ false → NoTruthLive (layout_of_loop k zs ps) (behind_region k l)

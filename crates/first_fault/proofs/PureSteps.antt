@@ -97,7 +97,7 @@ module _ {l : Layout} (fit : Assigned l) {f : Setting} {a : State} {p0 : ℕ} {t
       let bits = logic_at pred_ops.And (p_at s 0) (p_at s r) (p_at s r) in
       let new = predicate 1 bits (lanes s.vl B) in
       let end = next (with_p s r new) in
-      let live : q < l.p_until q = omega (arith, k.0, k.1) in
+      let live : q < l.p_last_use q = omega (arith, k.0, k.1) in
       let two = fit.p_low q live in
       let is_new : p_at end r ≡ new = get_or-set_same s.p r new [] (omega (arith, fit.p_small q, h.is.p_count)) in
       let bit_is : (e : ℕ) → e < count_of f → active f.w (p_at end r) e ≡ (ltb e n && active f.w (p_at s r) e) =
@@ -153,17 +153,17 @@ module _ {l : Layout} (fit : Assigned l) {f : Setting} {a : State} {p0 : ℕ} {t
 
   pub value_steps : (op : Op) (val : ℕ → Lane → ℤ) (ty : Ty) → makes_truth op ≡ false → made_type op ≡ Some ty → MakesValue l p ty → ((u : State) → Inside mode l f a n p ls u → OperandsRight (prefix f a n ls) l.registers u op)
       → ((j : ℕ) (mem : Memory) (b : Lane) → op_effect op f.names p j (on_mask mask b) mem b ≡ Keeps (with_value b p (val j b)))
-      → step_words mode f.w l p mask op ≡ (if nat_lt p (l.z_until p) then narrow_words l mask (vectors (op_code f.w l.registers p m op)) else []) → StepCuts op
+      → step_words mode f.w l p mask op ≡ (if nat_lt p (l.z_last_use p) then narrow_words l mask (vectors (op_code f.w l.registers p m op)) else []) → StepCuts op
   value_steps op val ty kind made_is makes operands does words =
-      subst (λ ws. Cuts mode l f d a n (p + 1) (length ws) ls (puts ws rest) s rest (way_at op)) (sym words) (by (nat_lt p (l.z_until p)) refl)
+      subst (λ ws. Cuts mode l f d a n (p + 1) (length ws) ls (puts ws rest) s rest (way_at op)) (sym words) (by (nat_lt p (l.z_last_use p)) refl)
     where
       value_is : (e : ℕ) → new_value (prefix f a n ls) op p mask e ≡ val (f.i + e) (ls (f.i + e))
       value_is e = ap (value_after p) (does (f.i + e) a.memory (ls (f.i + e))) ∙ value_same (ls (f.i + e)) p (val (f.i + e) (ls (f.i + e)))
 
-      by : (b : Bool) → nat_lt p (l.z_until p) ≡ b → Cuts mode l f d a n (p + 1) (length (if b then narrow_words l mask (vectors (op_code f.w l.registers p m op)) else [])) ls (puts (if b then narrow_words l mask (vectors (op_code f.w l.registers p m op)) else []) rest) s rest (way_at op)
+      by : (b : Bool) → nat_lt p (l.z_last_use p) ≡ b → Cuts mode l f d a n (p + 1) (length (if b then narrow_words l mask (vectors (op_code f.w l.registers p m op)) else [])) ls (puts (if b then narrow_words l mask (vectors (op_code f.w l.registers p m op)) else []) rest) s rest (way_at op)
       by true is_used =
           let code = op_code f.w l.registers p m op in
-          let used : IsValueUsed l p = ltb-true p (l.z_until p) is_used in
+          let used : IsValueUsed l p = ltb-true p (l.z_last_use p) is_used in
           let nar = narrowed fit h0 d mask (vectors code) rest fm h in
           let u = nar.end in
           let run = lanes_right_law (prefix f a n ls) l.registers u p m mask op (ready fit h0 nar.inside) (fit.z_small p) (fit.p_small p)
@@ -189,7 +189,7 @@ module _ {l : Layout} (fit : Assigned l) {f : Setting} {a : State} {p0 : ℕ} {t
             truth = λ lt. absurd (omega (arith, lt, makes.0));
           }))
       by false unused =
-          let none = ltb-false p (l.z_until p) unused in
+          let none = ltb-false p (l.z_last_use p) unused in
           all_come (λ j b. with_value b p (val j b)) s op does (rest_at 0)
           (inside_on fit h0 h (omega arith) (record {
             is = h.is;
@@ -206,17 +206,17 @@ module _ {l : Layout} (fit : Assigned l) {f : Setting} {a : State} {p0 : ℕ} {t
 
   pub truth_steps : (op : Op) (val : ℕ → Lane → Bool) → makes_truth op ≡ true → MakesTruth l p → ((u : State) → Inside mode l f a n p ls u → OperandsRight (prefix f a n ls) l.registers u op)
       → ((j : ℕ) (mem : Memory) (b : Lane) → op_effect op f.names p j (on_mask mask b) mem b ≡ Keeps (with_truth b p (val j b)))
-      → step_words mode f.w l p mask op ≡ (if nat_lt p (l.p_until p) then narrow_words l mask (vectors (op_code f.w l.registers p m op)) else []) → StepCuts op
+      → step_words mode f.w l p mask op ≡ (if nat_lt p (l.p_last_use p) then narrow_words l mask (vectors (op_code f.w l.registers p m op)) else []) → StepCuts op
   truth_steps op val kind makes operands does words =
-      subst (λ ws. Cuts mode l f d a n (p + 1) (length ws) ls (puts ws rest) s rest (way_at op)) (sym words) (by (nat_lt p (l.p_until p)) refl)
+      subst (λ ws. Cuts mode l f d a n (p + 1) (length ws) ls (puts ws rest) s rest (way_at op)) (sym words) (by (nat_lt p (l.p_last_use p)) refl)
     where
       truth_is : (e : ℕ) → new_truth (prefix f a n ls) op p mask e ≡ val (f.i + e) (ls (f.i + e))
       truth_is e = ap (truth_after p) (does (f.i + e) a.memory (ls (f.i + e))) ∙ truth_same (ls (f.i + e)) p (val (f.i + e) (ls (f.i + e)))
 
-      by : (b : Bool) → nat_lt p (l.p_until p) ≡ b → Cuts mode l f d a n (p + 1) (length (if b then narrow_words l mask (vectors (op_code f.w l.registers p m op)) else [])) ls (puts (if b then narrow_words l mask (vectors (op_code f.w l.registers p m op)) else []) rest) s rest (way_at op)
+      by : (b : Bool) → nat_lt p (l.p_last_use p) ≡ b → Cuts mode l f d a n (p + 1) (length (if b then narrow_words l mask (vectors (op_code f.w l.registers p m op)) else [])) ls (puts (if b then narrow_words l mask (vectors (op_code f.w l.registers p m op)) else []) rest) s rest (way_at op)
       by true is_used =
           let code = op_code f.w l.registers p m op in
-          let used : IsTruthUsed l p = ltb-true p (l.p_until p) is_used in
+          let used : IsTruthUsed l p = ltb-true p (l.p_last_use p) is_used in
           let two = fit.p_low p used in
           let nar = narrowed fit h0 d mask (vectors code) rest fm h in
           let u = nar.end in
@@ -241,7 +241,7 @@ module _ {l : Layout} (fit : Assigned l) {f : Setting} {a : State} {p0 : ℕ} {t
                 ∙ ap (λ b. b && new_truth (prefix f a n ls) op p mask e) (lt-ltb e n en) ∙ truth_is e ∙ sym (truth_same (ls (f.i + e)) p (val (f.i + e) (ls (f.i + e))));
           }))
       by false unused =
-          let none = ltb-false p (l.p_until p) unused in
+          let none = ltb-false p (l.p_last_use p) unused in
           all_come (λ j b. with_truth b p (val j b)) s op does (rest_at 0)
           (inside_on fit h0 h (omega arith) (record {
             is = h.is;

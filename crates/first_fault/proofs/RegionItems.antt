@@ -78,7 +78,7 @@ pub record ItemsDone (names : Names) (items : List Item) (i k : ℕ) (t : Lanes)
   pub memory : lanes.memory ≡ t.memory
   pub here : (e : ℕ) → e < k → lanes.lane (i + e) ≡ new (i + e)
 
--- the same behind the first of them
+-- the same after the first of them
 record After (names : Names) (items : List Item) (i k : ℕ) (t : Lanes) (new : ℕ → Lane) (out : Out) : Type 0 where
   lanes : Lanes
   by : go_on out (by_item (acts_of names items) k i) ≡ Fine lanes

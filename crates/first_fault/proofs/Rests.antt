@@ -140,12 +140,12 @@ renamed {l = l} {f = f} same h = record {
   same = h.same;
   top = h.top;
   ffr = h.ffr;
-  values = λ r lt until. let old = h.values r lt until in
+  values = λ r lt last_use. let old = h.values r lt last_use in
       record {
         right = λ e el. old.right e el ∙ ap (λ (b : Lane). residue (width_bits f.w) (b.value r)) (sym (same e el));
         typed = λ e el. subst (λ (b : Lane). IsOf (l.type (Made r)) (b.value r)) (sym (same e el)) (old.typed e el);
       };
-  truths = λ r lt until e el. h.truths r lt until e el ∙ ap (λ (b : Lane). b.truth r) (sym (same e el));
+  truths = λ r lt last_use e el. h.truths r lt last_use e el ∙ ap (λ (b : Lane). b.truth r) (sym (same e el));
 }
 
 held_behind : (mode : Mode) (l : Layout) (f : Setting) (p k q : ℕ) (t u : Lanes) (s end : State) → Assigned l → Holds l f p t s → ((e : ℕ) → e < f.n → (t.lane (f.i + e)).shares ≡ []) → ((e : ℕ) → e < k → (u.lane (f.i + e)).shares ≡ (t.lane (f.i + e)).shares) → u.memory ≡ t.memory
@@ -166,8 +166,8 @@ held_behind mode l f p k q t u s end fit h fresh shares mem inside none = record
         right = λ a e lt. ap (λ z. at f.w z e) (inside.same.held x is) ∙ old.right a e lt;
         typed = λ a e lt. old.typed a e (omega (arith, lt, inside.few));
       };
-  values = λ r lt until. let old = inside.values r lt until in record { right = old.right; typed = old.typed };
-  truths = λ r lt until. absurd (omega (arith, none r lt, until));
+  values = λ r lt last_use. let old = inside.values r lt last_use in record { right = old.right; typed = old.typed };
+  truths = λ r lt last_use. absurd (omega (arith, none r lt, last_use));
   sums = λ x is. let r = sums_right end u.lane h inside.few fresh shares x is (inside.same.sums x is) in record { before = r.before; alike = r.alike; typed = r.typed; holds = r.holds };
 }
 

@@ -28,10 +28,10 @@ same_state : (l : Layout) (s : State) → Same l s s
 same_state l s = record { memory = refl; vl = refl; x = λ r ne. refl; all = refl; held = λ x is. refl; sums = λ x is. refl }
 
 module _ {l : Layout} (fit : Assigned l) {f : Setting} {p : ℕ} {t : Lanes} {s : State} (h : Holds l f p t s) where
-  first_truths : (q : ℕ) → q < p → p ≤ l.p_until q → PRight f.w f.n (p_at s (p_of l q)) (truth_of (chunk_of f (lanes_of s.memory t.lane)) q)
+  first_truths : (q : ℕ) → q < p → p ≤ l.p_last_use q → PRight f.w f.n (p_at s (p_of l q)) (truth_of (chunk_of f (lanes_of s.memory t.lane)) q)
   first_truths q lt le e en = h.truths q lt le e (omega (arith, en, h.few)) ∙ inside e f.n _ en
 
-  first_values : (q : ℕ) → q < p → p ≤ l.z_until q → ValueRight l (with_count f f.n) (lanes_of s.memory t.lane) s q
+  first_values : (q : ℕ) → q < p → p ≤ l.z_last_use q → ValueRight l (with_count f f.n) (lanes_of s.memory t.lane) s q
   first_values q lt le = let old = h.values q lt le in record { right = old.right; typed = old.typed }
 
   first_inside : f.n ≤ 1 → IsTop f.w f.n (p_at s 0) → Inside Single l f s f.n p t.lane s

@@ -58,8 +58,8 @@ module _ {l : Layout} (fit : Assigned l) {f : Setting} {a : State} {p0 : ℕ} {t
     same = same;
     top = top;
     ffr = ffr;
-    kept_z = λ q lt until. others (z_of l q) (λ eq. fit.z_apart p q lt until used (sym eq));
-    kept_p = λ q lt until e en. ap (λ b. active f.w b e) (predicates (p_of l q) (λ eq. absurd (omega (arith, eq, fit.p_low q (omega (arith, lt, until))))));
+    kept_z = λ q lt last_use. others (z_of l q) (λ eq. fit.z_apart p q lt last_use used (sym eq));
+    kept_p = λ q lt last_use e en. ap (λ b. active f.w b e) (predicates (p_of l q) (λ eq. absurd (omega (arith, eq, fit.p_low q (omega (arith, lt, last_use))))));
     values = λ q e lt en. value_other (ls (f.i + e)) p q (value (f.i + e)) (λ eq. absurd (omega (arith, lt, eq)));
     truths = λ q e lt en. refl;
     value = λ lt. record {

@@ -72,21 +72,21 @@ region_small (it ∷ items) = by (list_any is_quit (it ∷ items)) (region_small
 
 -- ---- as the code has them
 
-take_seen : (n : ℕ) (items : List LoopItem) → view (take n items) ≡ take n (view items)
-take_seen zero items = refl
-take_seen (suc n) [] = refl
-take_seen (suc n) (x ∷ xs) = ap (λ its. view_of x ∷ its) (take_seen n xs)
+take_view : (n : ℕ) (items : List LoopItem) → view (take n items) ≡ take n (view items)
+take_view zero items = refl
+take_view (suc n) [] = refl
+take_view (suc n) (x ∷ xs) = ap (λ its. view_of x ∷ its) (take_view n xs)
 
-drop_seen : (n : ℕ) (items : List LoopItem) → view (drop n items) ≡ drop n (view items)
-drop_seen zero items = refl
-drop_seen (suc n) [] = refl
-drop_seen (suc n) (x ∷ xs) = drop_seen n xs
+drop_view : (n : ℕ) (items : List LoopItem) → view (drop n items) ≡ drop n (view items)
+drop_view zero items = refl
+drop_view (suc n) [] = refl
+drop_view (suc n) (x ∷ xs) = drop_view n xs
 
-pub region_seen : (items : List LoopItem) → view (take (region_size (view items)) items) ≡ region_of (view items)
-region_seen items = take_seen (region_size (view items)) items ∙ region_taken (view items)
+pub region_view : (items : List LoopItem) → view (take (region_size (view items)) items) ≡ region_of (view items)
+region_view items = take_view (region_size (view items)) items ∙ region_taken (view items)
 
-pub rest_seen : (items : List LoopItem) → view (drop (region_size (view items)) items) ≡ rest_of (view items)
-rest_seen items = drop_seen (region_size (view items)) items ∙ rest_dropped (view items)
+pub rest_view : (items : List LoopItem) → view (drop (region_size (view items)) items) ≡ rest_of (view items)
+rest_view items = drop_view (region_size (view items)) items ∙ rest_dropped (view items)
 
 pub region_within : (items : List LoopItem) → region_size (view items) ≤ length items
 region_within items = let small = region_small (view items) in let same = length-map items view_of in omega (arith, small, same)

@@ -96,20 +96,20 @@ index_none : (o : Option ℤ) (es : List Entry) → entry_marks es ≡ [] → en
 index_none None es h = h
 index_none (Some c) es h = refl
 
-term_none : (k : Program) (t : Term) (from until : ℕ) → entry_marks (term_entries k from until t) ≡ []
-term_none k (Literal n) from until = refl
-term_none k (Variable x) from until = refl
-term_none k (Element a i) from until = both_none (inner_entries (stream_offset (loop_index k) i) (term_entries k from _ i)) _ (index_none (stream_offset (loop_index k) i) (term_entries k from _ i) (term_none k i from _)) refl
-term_none k (Unary op e) from until = both_none (term_entries k from _ e) _ (term_none k e from _) refl
-term_none k (Operation op a b) from until = both_none (term_entries k from _ a) _ (term_none k a from _) (both_none (term_entries k _ _ b) _ (term_none k b _ _) refl)
-term_none k (Shift toward e n) from until = both_none (term_entries k from _ e) _ (term_none k e from _) refl
-term_none k (Conversion e t) from until = both_none (term_entries k from _ e) _ (term_none k e from _) refl
-term_none k (Choice c a b) from until =
+term_none : (k : Program) (t : Term) (from last_use : ℕ) → entry_marks (term_entries k from last_use t) ≡ []
+term_none k (Literal n) from last_use = refl
+term_none k (Variable x) from last_use = refl
+term_none k (Element a i) from last_use = both_none (inner_entries (stream_offset (loop_index k) i) (term_entries k from _ i)) _ (index_none (stream_offset (loop_index k) i) (term_entries k from _ i) (term_none k i from _)) refl
+term_none k (Unary op e) from last_use = both_none (term_entries k from _ e) _ (term_none k e from _) refl
+term_none k (Operation op a b) from last_use = both_none (term_entries k from _ a) _ (term_none k a from _) (both_none (term_entries k _ _ b) _ (term_none k b _ _) refl)
+term_none k (Shift toward e n) from last_use = both_none (term_entries k from _ e) _ (term_none k e from _) refl
+term_none k (Conversion e t) from last_use = both_none (term_entries k from _ e) _ (term_none k e from _) refl
+term_none k (Choice c a b) from last_use =
     both_none (term_entries k from _ a) _ (term_none k a from _) (both_none (term_entries k _ _ b) _ (term_none k b _ _) (both_none (term_entries k _ _ c) _ (term_none k c _ _) refl))
-term_none k (Comparison op a b) from until = both_none (term_entries k from _ a) _ (term_none k a from _) (both_none (term_entries k _ _ b) _ (term_none k b _ _) refl)
-term_none k (Both a b) from until = both_none (term_entries k from _ a) _ (term_none k a from _) (both_none (term_entries k _ _ b) _ (term_none k b _ _) refl)
-term_none k (Either a b) from until = both_none (term_entries k from _ a) _ (term_none k a from _) (both_none (term_entries k _ _ b) _ (term_none k b _ _) refl)
-term_none k (Not e) from until = both_none (term_entries k from _ e) _ (term_none k e from _) refl
+term_none k (Comparison op a b) from last_use = both_none (term_entries k from _ a) _ (term_none k a from _) (both_none (term_entries k _ _ b) _ (term_none k b _ _) refl)
+term_none k (Both a b) from last_use = both_none (term_entries k from _ a) _ (term_none k a from _) (both_none (term_entries k _ _ b) _ (term_none k b _ _) refl)
+term_none k (Either a b) from last_use = both_none (term_entries k from _ a) _ (term_none k a from _) (both_none (term_entries k _ _ b) _ (term_none k b _ _) refl)
+term_none k (Not e) from last_use = both_none (term_entries k from _ e) _ (term_none k e from _) refl
 
 -- ---- items
 
@@ -153,10 +153,10 @@ term_marks (Both x y) = record { as_value = λ scope want mask from env rest. re
 term_marks (Either x y) = record { as_value = λ scope want mask from env rest. refl; as_cond = λ scope mask from env rest. (term_marks x).as_cond scope mask from env _ ∙ (term_marks y).as_cond scope (Some (from + term_size scope.index x)) _ env _ }
 term_marks (Not e) = record { as_value = λ scope want mask from env rest. refl; as_cond = λ scope mask from env rest. (term_marks e).as_cond scope mask from env _ }
 
--- the marks of an expression's entries, and one behind them
-behind_term : (k : Program) (from until : ℕ) (t : Term) (e : Entry) (ms : List Bool) → entry_marks (term_entries k from until t ++ e ∷ []) ++ ms ≡ put_mark (write_content e.content) (break_content e.content) ms
-behind_term k from until t e ms =
-    ap (λ bs. bs ++ ms) (entry_marks-append (term_entries k from until t) (e ∷ []) ∙ ap (λ bs. bs ++ entry_marks (e ∷ [])) (term_none k t from until))
+-- the marks of an expression's entries, and one after them
+behind_term : (k : Program) (from last_use : ℕ) (t : Term) (e : Entry) (ms : List Bool) → entry_marks (term_entries k from last_use t ++ e ∷ []) ++ ms ≡ put_mark (write_content e.content) (break_content e.content) ms
+behind_term k from last_use t e ms =
+    ap (λ bs. bs ++ ms) (entry_marks-append (term_entries k from last_use t) (e ∷ []) ∙ ap (λ bs. bs ++ entry_marks (e ∷ [])) (term_none k t from last_use))
     ∙ one (write_content e.content) (break_content e.content)
   where
     one : (w b : Bool) → put_mark w b [] ++ ms ≡ put_mark w b ms
@@ -235,7 +235,7 @@ item_break (it ∷ items) = by it.op (item_break items)
     by (Any c d) h = h
     by (Quit c) h = refl
 
--- what stands before a break, and what is behind it, where no write is before a break
+-- what stands before a break, and what is after it, where no write is before a break
 step_unwritten : (w q any : Bool) (bs : List Bool) → any ≡ some_break bs → (w ≡ true → q ≡ false) → is_bad (put_mark w q bs) ≡ false → (q || any) ≡ true → w ≡ false
 step_unwritten false q any bs e only h yes' = refl
 step_unwritten true q any bs e only h yes' =

@@ -47,7 +47,7 @@ weaken f g le (by_break e) = by_break (f e)
 weaken f g le (by_fault early e) = by_fault early (g e)
 weaken f g le (by_stop early lt) = by_stop early (omega (arith, lt, le))
 
--- words behind which the lanes are as before
+-- words after which the lanes are as before
 pub cuts_behind : {mode : Mode} {l : Layout} {f : Setting} {d : Laid} {a : State} {n q m k : ℕ} {ls : ℕ → Lane} {code mid rest : List Entry} {s u : State} {way : ℕ → Lane → Way} (most : ℕ) → most ≡ m + k → Leads d code s mid u m → Cuts mode l f d a n q k ls mid u rest way → Cuts mode l f d a n q most ls code s rest way
 cuts_behind most total leads (stops some fell st) = stops some fell (stop_behind most (omega (arith, total)) leads st)
 cuts_behind {m = m} {k = k} most total leads (comes c new end le pass on why inside) =
@@ -82,7 +82,7 @@ module _ {l : Layout} (fit : Assigned l) {f : Setting} {a : State} {p0 : ℕ} {t
   StepCuts mode n p ls s mask op = Cuts mode l f d a n (p + 1) (length (step_words mode f.w l p mask op)) ls (puts (step_words mode f.w l p mask op) rest) s rest (λ j b. item_way f.names (item p mask op) j a.memory b)
 
   module _ (n p : ℕ) (ls : ℕ → Lane) (mask : Option ℕ) (array : List ℕ) (x : ℕ) (ty : Ty) (c : ℤ) (low : x < 8) (based : slice_index f.x x ≡ word (nth_value f.names x)) (near : IsNear c) (wide : bits_of ty ≤ width_bits f.w) (used : IsValueUsed l p) (makes : MakesValue l p ty) where
-    -- the load, behind the words that make its index
+    -- the load, after the words that make its index
     abbrev LoadCuts : Mode → State → Type 0
     LoadCuts mode u =
         Cuts mode l f d a n (p + 1) (length (load_words mode f.w l p mask ty x (index_of c))) ls (puts (load_words mode f.w l p mask ty x (index_of c)) rest) u rest (λ j b. item_way f.names (item p mask (Load array (Outer x) (Some ty) c)) j a.memory b)

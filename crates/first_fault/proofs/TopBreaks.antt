@@ -1,4 +1,4 @@
--- Breaks stand in the loop's own block: the items of a list that break, and the number behind the last of them.
+-- Breaks stand in the loop's own block: the items of a list that break, and the number after the last of them.
 use Rattle.std.proofs.Common.{◌≡◌, ℕ, ◌+◌, ℤ, Bool, true, false, cond, List, [], ◌∷◌, Option, Some, None, refl, sym, ap, ◌∙◌, arith}
 use Rattle.std.specs.Prelude.{is_some, ◌||◌, ◌&&◌, if◌then◌else◌}
 use Rattle.std.specs.List.{list_any}
@@ -18,12 +18,12 @@ abbrev pub breaks_of : List Item → List Item
 breaks_of [] = []
 breaks_of (it ∷ items) = if quits it.op then it ∷ breaks_of items else breaks_of items
 
--- the number behind the last break, and p where there is none
+-- the number after the last break, and p where there is none
 abbrev pub behind_break : ℕ → List Item → ℕ
 behind_break p [] = p
 behind_break p (it ∷ items) = behind_break (it.item + 1) items
 
--- ---- the region ends behind the last break
+-- ---- the region ends after the last break
 
 none_breaks : (items : List Item) → list_any is_quit items ≡ false → breaks_of items ≡ []
 none_breaks [] e = refl

@@ -19,11 +19,11 @@ use Rattle.first_fault.specs.Fits.{FitsRegion}
 use Rattle.first_fault.specs.Rest.{NoTruthLive}
 use Rattle.first_fault.specs.Split.{quits, region_of, rest_of}
 
--- the number behind the last item of the break region; without a break, that of the first item
+-- the number after the last item of the break region; without a break, that of the first item
 abbrev pub behind_region : Program → Turns → ℕ
 behind_region k l = behind_items (loop_start k + 1) (region_of (loop_items k l))
 
--- The items of the break region and those of the rest fit, and no condition of the region is used behind it.
+-- The items of the break region and those of the rest fit, and no condition of the region is used after it.
 pub record LoopFits (k : Program) (l : Turns) (a b : Assignment) (f : Setting) : Type 0 where
   pub region : FitsRegion (layout_of_loop k a b) f (loop_start k + 1) (region_of (loop_items k l))
   pub rest : FitsItems (layout_of_loop k a b) f (behind_region k l) (rest_of (loop_items k l))

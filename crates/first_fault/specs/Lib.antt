@@ -8,3 +8,5 @@ pub mod Split
 pub mod Turns
 pub mod KernelFits
 pub mod View
+pub mod SplitBreaks
+pub mod SplitRuns

@@ -39,5 +39,5 @@ pub record Inside (mode : Mode) (l : Layout) (f : Setting) (a : State) (n p : �
   pub same : Same l a s
   pub top : IsTop f.w n (p_at s 0)
   pub ffr : mode ≡ Early → (e : ℕ) → e < n → active f.w s.ffr e ≡ true
-  pub values : (q : ℕ) → q < p → p ≤ l.z_until q → ValueRight l (with_count f n) (lanes_of a.memory ls) s q
-  pub truths : (q : ℕ) → q < p → p ≤ l.p_until q → PRight f.w n (p_at s (p_of l q)) (truth_of (chunk_of f (lanes_of a.memory ls)) q)
+  pub values : (q : ℕ) → q < p → p ≤ l.z_last_use q → ValueRight l (with_count f n) (lanes_of a.memory ls) s q
+  pub truths : (q : ℕ) → q < p → p ≤ l.p_last_use q → PRight f.w n (p_at s (p_of l q)) (truth_of (chunk_of f (lanes_of a.memory ls)) q)

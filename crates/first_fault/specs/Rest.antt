@@ -27,9 +27,9 @@ come_through f k stops = record f { n = k; stops = stops }
 
 -- no condition that was made before item q is used from there on
 abbrev pub NoTruthLive : Layout → ℕ → Type 0
-NoTruthLive l q = (r : ℕ) → r < q → l.p_until r < q
+NoTruthLive l q = (r : ℕ) → r < q → l.p_last_use r < q
 
--- What the region's items leave of the lanes that came through, done one after another over these lanes; and the state behind
+-- What the region's items leave of the lanes that came through, done one after another over these lanes; and the state after
 -- the region holds it.
 pub record RestStarts (l : Layout) (f : Setting) (items : List Item) (t : Lanes) (k q : ℕ) (end : State) : Type 0 where
   pub lanes : Lanes
@@ -37,7 +37,7 @@ pub record RestStarts (l : Layout) (f : Setting) (items : List Item) (t : Lanes)
   pub memory : lanes.memory ≡ t.memory
   pub holds : Holds l (come_through f k end.stops) q lanes end
 
--- Behind the region, where no condition of it is used there and the lanes had given nothing to accumulators before.
+-- After the region, where no condition of it is used there and the lanes had given nothing to accumulators before.
 abbrev pub RestHolds : Type 0
 RestHolds =
     (mode : Mode) (l : Layout) (f : Setting) (items : List Item) (p k q : ℕ) (t : Lanes) (s end : State) (new : ℕ → Lane) → Assigned l → FitsRegion l f p items → Holds l f p t s → ((e : ℕ) → e < f.n → (t.lane (f.i + e)).shares ≡ [])

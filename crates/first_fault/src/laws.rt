@@ -5,7 +5,7 @@ ghost use Rattle.reg_assign.specs.declared.interval.RegClass.TheVariants as clas
 ghost use Rattle.loop_form.specs.Lanes.{lane_width_of};
 ghost use Rattle.loop_form.specs.LoopItems.{loop_items_of};
 ghost use Rattle.loop_form.specs.Registers.{FitsKernel};
-ghost use Rattle.loop_form.specs.Seen.{program};
+ghost use Rattle.loop_form.specs.View.{program};
 ghost use Rattle.dependence.specs.Classes.{class_of};
 ghost use Rattle.dependence.specs.declared.reason.Class.TheVariants.{Vector};
 ghost use Rattle.chunk_emit.specs.Writable.{AreWritable};

@@ -5,6 +5,7 @@
 mod emit;
 mod laws;
 pub mod mode;
+mod or_breaks;
 mod split;
 mod words;
 
@@ -12,10 +13,12 @@ ghost use Rattle.first_fault.specs.KernelFits.{KernelFits, TreeIsSpelled};
 ghost use Rattle.first_fault.specs.RegionRuns.{ExitsRun, SingleRuns};
 ghost use Rattle.first_fault.specs.Rest.{AlwaysFew, RestHolds, WayIsRun};
 ghost use Rattle.first_fault.specs.Split.{RegionSplits};
+ghost use Rattle.first_fault.specs.SplitRuns.{SplitExitsRun, SplitSingleRuns};
 ghost use Rattle.first_fault.specs.Turns.{WayIsTurn};
 
 pub use emit::{emit_exits, emit_single};
 pub use laws::writable_items;
+pub use or_breaks::split_breaks;
 pub use split::{has_break, region, rest};
 
 /// The code of the region over a chunk, with every stop list: a prefix of the lanes comes through, with their values in the
@@ -32,12 +35,23 @@ pub fn single_runs()
     ensures { SingleRuns }
 {}
 
+/// With `break if a || b` as two breaks the code of the region over a chunk does the same: it cuts the lanes as the items of
+/// the region do, and leaves their values.
+pub fn split_exits_run()
+    ensures { SplitExitsRun }
+{}
+
+/// So does the code over one lane.
+pub fn split_single_runs()
+    ensures { SplitSingleRuns }
+{}
+
 /// How an iteration fares in the region is what its items do in its lane.
 pub fn way_is_run()
     ensures { WayIsRun }
 {}
 
-/// Behind the region the state holds the lanes that came through, as the code of the rest of the body wants it.
+/// After the region the state holds the lanes that came through, as the code of the rest of the body wants it.
 pub fn rest_holds()
     ensures { RestHolds }
 {}
@@ -59,7 +73,7 @@ pub fn way_is_turn()
 {}
 
 /// Registers that fit a checked kernel of class Vector make a layout of its loop that its items fit: those of the break region
-/// and those of the rest, behind which no condition of the region is used. The kernel has at most eight parameters, and its
+/// and those of the rest, after which no condition of the region is used. The kernel has at most eight parameters, and its
 /// breaks stand in the loop's own block, as the grammar has it.
 pub fn kernel_fits()
     ensures { KernelFits }

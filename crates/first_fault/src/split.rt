@@ -37,15 +37,15 @@ fn break_region(items: &[LoopItem<'_>]) -> usize
 }
 
 /// The items of the break region.
-#[tactic(auto, using(crate::proofs::Sizes::region_seen, crate::proofs::Sizes::region_within))]
+#[tactic(auto, using(crate::proofs::Sizes::region_view, crate::proofs::Sizes::region_within))]
 pub fn region<'s, 'a>(items: &'s [LoopItem<'a>]) -> &'s [LoopItem<'a>]
     ensures { view result.now ≡ split.region_of (view items.now) }
 {
     &items[..break_region(items)]
 }
 
-/// The items behind the break region.
-#[tactic(auto, using(crate::proofs::Sizes::rest_seen, crate::proofs::Sizes::region_within))]
+/// The items after the break region.
+#[tactic(auto, using(crate::proofs::Sizes::rest_view, crate::proofs::Sizes::region_within))]
 pub fn rest<'s, 'a>(items: &'s [LoopItem<'a>]) -> &'s [LoopItem<'a>]
     ensures { view result.now ≡ split.rest_of (view items.now) }
 {

@@ -3,7 +3,7 @@
 ghost use Rattle.std.specs.Prelude.{◌≡◌, [], ◌∷◌};
 ghost use Rattle.sve_code.specs.Table as sve;
 ghost use Rattle.machine_model.specs.InstructionTable.{Vector};
-ghost use Rattle.label_fix.specs.Draft.{word_seen};
+ghost use Rattle.label_fix.specs.Draft.{word_view};
 ghost use Rattle.lane_emit.specs.Stretch.{word};
 ghost use Rattle.chunk_emit.specs.ChunkCode as code;
 ghost use Rattle.first_fault.specs.RegionCode as region;
@@ -42,7 +42,7 @@ fn p0() -> PredicateReg
 
 /// A mask loses the lanes that P0 has lost.
 pub fn narrow(m: GoverningReg) -> Word
-    ensures { word_seen result ≡ Vector (word sve.p_and (m.number ∷ m.number ∷ 0 ∷ m.number ∷ [])) }
+    ensures { word_view result ≡ Vector (word sve.p_and (m.number ∷ m.number ∷ 0 ∷ m.number ∷ [])) }
 {
     Word::V(Sve::PredicateLogical {
         op: PredicateLogicalOp::And,
@@ -55,7 +55,7 @@ pub fn narrow(m: GoverningReg) -> Word
 
 /// A read in the lanes of P0 that may stop early.
 pub fn first_fault(width: Width, ty: Ty, d: VectorReg, base: Reg, index: OffsetReg) -> Word
-    ensures { word_seen result ≡ Vector (region.first_fault_word width ty d.number base.number index.number) }
+    ensures { word_view result ≡ Vector (region.first_fault_word width ty d.number base.number index.number) }
 {
     Word::V(Sve::FirstFaultLoad {
         zt: d,
@@ -68,7 +68,7 @@ pub fn first_fault(width: Width, ty: Ty, d: VectorReg, base: Reg, index: OffsetR
 
 /// A read under a mask, at X26, that may stop early.
 pub fn non_fault(width: Width, ty: Ty, d: VectorReg, m: GoverningReg) -> Word
-    ensures { word_seen result ≡ Vector (region.non_fault_word width ty d.number m.number) }
+    ensures { word_view result ≡ Vector (region.non_fault_word width ty d.number m.number) }
 {
     Word::V(Sve::NonFaultLoad {
         zt: d,
@@ -92,7 +92,7 @@ fn log_bytes(ty: Ty) -> Bits<6>
 
 /// X26 = the address of an element.
 pub fn address(ty: Ty, base: Reg, index: OffsetReg) -> Word
-    ensures { word_seen result ≡ region.address_word ty base.number index.number }
+    ensures { word_view result ≡ region.address_word ty base.number index.number }
 {
     Word::A(A64::AddSubShifted {
         op: AddSubOp::Add,
@@ -106,21 +106,21 @@ pub fn address(ty: Ty, base: Reg, index: OffsetReg) -> Word
 
 /// P0 loses the lanes from the first suppressed one on.
 pub fn read_faults() -> Word
-    ensures { word_seen result ≡ region.read_faults }
+    ensures { word_view result ≡ region.read_faults }
 {
     Word::V(Sve::RdffrPredicated { pd: p0(), pg: p0() })
 }
 
 /// All lanes may fault.
 pub fn set_faults() -> Word
-    ensures { word_seen result ≡ region.set_faults }
+    ensures { word_view result ≡ region.set_faults }
 {
     Word::V(Sve::Setffr)
 }
 
 /// P0 keeps the lanes before the first in which a condition holds.
 pub fn leave(c: GoverningReg) -> Word
-    ensures { word_seen result ≡ Vector (word sve.brkb (0 ∷ c.number ∷ 0 ∷ [])) }
+    ensures { word_view result ≡ Vector (word sve.brkb (0 ∷ c.number ∷ 0 ∷ [])) }
 {
     Word::V(Sve::Break {
         op: BreakOp::Brkb,

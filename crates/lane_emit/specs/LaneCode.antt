@@ -1,7 +1,7 @@
 -- The vector code of one item. A lane holds the value extended by its type and cut to the width of the element. P1 is all
 -- true. An item's code writes the item's own register at once, extends it in place where it must, and reads no operand
--- behind the first word that writes that register, so that it may be an operand's own.
-use Rattle.std.specs.Prelude.{ℕ, ◌+◌, ◌-◌, ◌*◌, ◌/◌, ◌%◌, ℤ, Bool, true, false, not, List, [], ◌∷◌, min, nat_eq, nat_le, if◌then◌else◌}
+-- after the first word that writes that register, so that it may be an operand's own.
+use Rattle.std.specs.Prelude.{ℕ, ◌+◌, ◌-◌, ◌*◌, ◌/◌, ◌%◌, ℤ, Bool, true, false, List, [], ◌∷◌, min, nat_eq, nat_le, if◌then◌else◌}
 use Rattle.guest_types.specs.declared.length.Width.{Width}
 use Rattle.guest_types.specs.declared.length.Width.TheVariants.{B, H, S, D}
 use Rattle.guest_types.specs.Length.{width_bits}
@@ -16,26 +16,9 @@ use Rattle.kernel_tree.specs.declared.ops.CompareOp.TheVariants as compare
 use Rattle.kernel_tree.specs.Wrap.{bits_of, is_signed}
 use Rattle.kernel_meaning.specs.Operators.{shift_count}
 use Rattle.sve_code.specs.Table.{Name, dup, index_row, p_and, p_bic, p_orr, sel, z_add, z_sub, z_and, z_orr, z_eor, lsl_imm, lsr_imm, asr_imm, m_smax, m_umax, m_smin, m_umin, m_mul, m_abs, m_neg, m_not, sxtb, uxtb, sxth, uxth, sxtw, uxtw, cmphs, cmphi, cmpge, cmpgt, cmpeq, cmpne}
+pub use Rattle.kernel_meaning.specs.TypeValues.{unary_leaves, binary_leaves}
 use Rattle.lane_emit.specs.Right.{fits}
 use Rattle.lane_emit.specs.Stretch.{Word, word}
-
--- ---- what an operator leaves of the extended form
-
--- whether an operator, done in a wider element on operands that are extended by the type, may give what is not extended by it
-abbrev pub unary_leaves : UnaryOp → Ty → Bool
-unary_leaves unary.Neg t = true
-unary_leaves unary.Flip t = not (is_signed t)
-unary_leaves unary.Abs t = is_signed t
-
-abbrev pub binary_leaves : BinaryOp → Bool
-binary_leaves binary.Add = true
-binary_leaves binary.Sub = true
-binary_leaves binary.Mul = true
-binary_leaves binary.And = false
-binary_leaves binary.Or = false
-binary_leaves binary.Xor = false
-binary_leaves binary.Min = false
-binary_leaves binary.Max = false
 
 -- ---- shared pieces
 
@@ -46,7 +29,7 @@ size_of H = 1
 size_of S = 2
 size_of D = 3
 
--- d = a, and the words behind; nothing where they are one register
+-- d = a, and the words after; nothing where they are one register
 abbrev pub z_copy : (d a : ℕ) → List Word → List Word
 z_copy d a rest = if nat_eq d a then rest else word z_orr (d ∷ a ∷ a ∷ []) ∷ rest
 

@@ -1,7 +1,7 @@
 -- What contracts see of the registers of a loop's values.
 use Rattle.kernel_tree.specs.Plain.{Program}
 use Rattle.reg_assign.specs.Registers.{Assignment}
-use Rattle.loop_form.specs.Seen.{program}
+use Rattle.loop_form.specs.View.{program}
 use Rattle.lane_emit.specs.declared.registers.LaneRegisters.{LaneRegisters}
 use Rattle.lane_emit.specs.ItemCode.{Registers}
 use Rattle.lane_emit.specs.LoopRegisters.{loop_registers}

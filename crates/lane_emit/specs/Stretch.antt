@@ -63,7 +63,7 @@ pub record MakesZ (c : List Word) (s : State) (d : ℕ) (w : Width) (n : ℕ) (v
   pub only : OnlyZ d s end
   pub right : ZRight w n (z_at end d) value
 
--- the same with a truth in predicate register d, also false in all elements of the vector length behind the lanes
+-- the same with a truth in predicate register d, also false in all elements of the vector length after the lanes
 pub record MakesP (c : List Word) (s : State) (d : ℕ) (w : Width) (truth : ℕ → Bool) : Type 0 where
   pub end : State
   pub runs : do_all c s ≡ Went end

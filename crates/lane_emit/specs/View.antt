@@ -1,7 +1,7 @@
 -- What contracts see of code.
 use Rattle.std.specs.Prelude.{◌≡◌, List, ◌++◌, map}
 use Rattle.sve_code.specs.declared.Sve.{Sve}
-use Rattle.sve_code.specs.Seen.{seen}
+use Rattle.sve_code.specs.View.{seen}
 use Rattle.lane_emit.specs.Stretch.{Word}
 
 abbrev pub words_of : List Sve → List Word

@@ -3,15 +3,16 @@
 ghost use Rattle.std.specs.Prelude.{◌≡◌, ◌<◌, [], ◌∷◌, ◌++◌, OnOk};
 ghost use Rattle.guest_types.specs.Length.{width_bits};
 ghost use Rattle.kernel_tree.specs.Wrap as wraps;
-ghost use Rattle.sve_code.specs.Seen as sve;
+ghost use Rattle.sve_code.specs.View as sve;
 ghost use Rattle.lane_emit.specs.LaneCode as code;
 ghost use Rattle.lane_emit.specs.View.{Adds, Appends};
 
 use crate::words::{
-    add_sub, bits_of, bitwise, extend_byte, extend_halfword, extend_word, fits, is_signed, merging,
-    shift_count, shift_left, shift_right, unary,
+    add_sub, bits_of, bitwise, extend_byte, extend_halfword, extend_word, merging, shift_count,
+    shift_left, shift_right, unary,
 };
 use guest_types::length::Width;
+use kernel_meaning::{binary_leaves, fits, is_signed, unary_leaves};
 use kernel_tree::{BinaryOp, Ty, UnaryOp};
 use std::alloc::AllocError;
 use sve_code::{
@@ -85,22 +86,6 @@ fn z_settle(
         z_extend(words, width, ty, d, d)?;
     }
     Ok(())
-}
-
-fn unary_leaves(op: UnaryOp, ty: Ty) -> bool
-    ensures { result ≡ code.unary_leaves op ty }
-{
-    match op {
-        UnaryOp::Neg => true,
-        UnaryOp::Flip => !is_signed(ty),
-        UnaryOp::Abs => is_signed(ty),
-    }
-}
-
-fn binary_leaves(op: BinaryOp) -> bool
-    ensures { result ≡ code.binary_leaves op }
-{
-    matches!(op, BinaryOp::Add | BinaryOp::Sub | BinaryOp::Mul)
 }
 
 // One word, and what settles it.

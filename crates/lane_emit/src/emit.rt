@@ -5,7 +5,7 @@ ghost use Rattle.std.specs.List.{find};
 ghost use Rattle.reg_assign.specs.declared.interval.RegClass.TheVariants as class;
 ghost use Rattle.loop_form.specs.LoopView.{op_of, view_of, view};
 ghost use Rattle.loop_form.specs.Registers.{FitsKernel};
-ghost use Rattle.loop_form.specs.Seen.{program};
+ghost use Rattle.loop_form.specs.View.{program};
 ghost use Rattle.lane_emit.specs.ItemCode.{op_code, value_code, truth_code};
 ghost use Rattle.lane_emit.specs.KernelCode.{is_item, found_code, item_code};
 ghost use Rattle.lane_emit.specs.RegistersView.{registers_of};
@@ -188,7 +188,7 @@ fn emit_found(
 
 /// The code of an item of a kernel's loop under the mask in a predicate register. An item that does nothing has none,
 /// and neither has a read, a store, an update or a break.
-#[tactic(auto, unfolding(loop_form::specs::Seen::program))]
+#[tactic(auto, unfolding(loop_form::specs::View::program))]
 pub fn emit_lanes(
     alloc: Global,
     kernel: &Checked,

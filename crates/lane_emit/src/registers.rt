@@ -9,7 +9,7 @@ ghost use Rattle.loop_form.specs.HeldView.{view, view_of};
 ghost use Rattle.loop_form.specs.Needs as needs;
 ghost use Rattle.loop_form.specs.Places as places;
 ghost use Rattle.loop_form.specs.Registers.{FitsKernel};
-ghost use Rattle.loop_form.specs.Seen.{program};
+ghost use Rattle.loop_form.specs.View.{program};
 ghost use Rattle.lane_emit.specs.LoopRegisters.{IsWithin, flat, register_of, place_in, held_place, sum_place, source_register};
 
 use crate::held_place::place_among;
@@ -63,7 +63,7 @@ fn vector_at(regs: &Assigned, place: Option<usize>) -> VectorReg
     }
 }
 
-// The predicate register of an interval, of those behind P0 and P1.
+// The predicate register of an interval, of those after P0 and P1.
 fn predicate_at(regs: &Assigned, place: Option<usize>) -> GoverningReg
     requires assigned { IsAssignment 6 regs.now }
     requires within { IsWithin (length regs.now.registers) place }
@@ -105,7 +105,7 @@ impl<'a> LaneRegisters<'a> {
     }
 
     // The vector register of a parameter.
-    #[tactic(auto, unfolding(loop_form::specs::Seen::program))]
+    #[tactic(auto, unfolding(loop_form::specs::View::program))]
     fn param(&self, place: u32) -> VectorReg
         ensures { result.number ≡ source_register (kernel_in self.now) (vectors_in self.now) (operand.Outer place) }
     {
@@ -159,7 +159,7 @@ impl<'a> LaneRegisters<'a> {
 }
 
 /// The registers of a kernel's loop, by those that its intervals were given.
-#[tactic(auto, unfolding(loop_form::specs::Seen::program))]
+#[tactic(auto, unfolding(loop_form::specs::View::program))]
 pub fn lane_registers<'a>(
     alloc: Global,
     kernel: &'a Checked,

@@ -4,15 +4,15 @@ ghost use Rattle.std.specs.Prelude.{◌≡◌, ◌+◌, ◌-◌, ◌*◌, ◌<�
 ghost use Rattle.guest_types.specs.Length.{width_bits};
 ghost use Rattle.kernel_tree.specs.Wrap as wraps;
 ghost use Rattle.kernel_meaning.specs.Operators as operators;
-ghost use Rattle.sve_code.specs.Seen.{seen};
-ghost use Rattle.sve_code.specs.Seen as sve;
+ghost use Rattle.sve_code.specs.View.{seen};
+ghost use Rattle.sve_code.specs.View as sve;
 ghost use Rattle.sve_code.specs.Numbers.{size_number, size_from_h_number, size_from_s_number};
 ghost use Rattle.sve_code.specs.Table as table;
-ghost use Rattle.lane_emit.specs.Right as right;
 ghost use Rattle.lane_emit.specs.Stretch.{word};
 ghost use Rattle.lane_emit.specs.LaneCode as code;
 
 use guest_types::length::Width;
+use kernel_meaning::is_signed;
 use kernel_tree::{CompareOp, Ty};
 use sve_code::{
     AddSubOp, BinaryPredicatedOp, BitwiseOp, ExtendOp, GoverningReg, PredicateLogicalOp,
@@ -22,13 +22,6 @@ use sve_code::{
 use word_rows::Bits;
 
 // ---- types
-
-/// Whether a type is signed.
-pub fn is_signed(ty: Ty) -> bool
-    ensures { result ≡ wraps.is_signed ty }
-{
-    matches!(ty, Ty::I8 | Ty::I16 | Ty::I32 | Ty::I64)
-}
 
 /// The bits of a type.
 pub fn bits_of(ty: Ty) -> u32
@@ -40,44 +33,6 @@ pub fn bits_of(ty: Ty) -> u32
         Ty::I32 | Ty::U32 => 32,
         Ty::I64 | Ty::U64 => 64,
     }
-}
-
-/// The least value of a type.
-pub fn least(ty: Ty) -> i128
-    ensures { result ≡ right.least ty }
-{
-    match ty {
-        Ty::I8 => -0x80,
-        Ty::I16 => -0x8000,
-        Ty::I32 => -0x8000_0000,
-        Ty::I64 => -0x8000_0000_0000_0000,
-        Ty::U8 | Ty::U16 | Ty::U32 | Ty::U64 => 0,
-    }
-}
-
-/// The greatest value of a type.
-pub fn greatest(ty: Ty) -> i128
-    ensures { result ≡ right.greatest ty }
-{
-    match ty {
-        Ty::I8 => 0x7f,
-        Ty::I16 => 0x7fff,
-        Ty::I32 => 0x7fff_ffff,
-        Ty::I64 => 0x7fff_ffff_ffff_ffff,
-        Ty::U8 => 0xff,
-        Ty::U16 => 0xffff,
-        Ty::U32 => 0xffff_ffff,
-        Ty::U64 => 0xffff_ffff_ffff_ffff,
-    }
-}
-
-/// Whether each value of the one type is a value of the other.
-pub fn fits(from: Ty, to: Ty) -> bool
-    ensures { result ≡ right.fits from to }
-{
-    let low = least(to) <= least(from);
-    let high = greatest(from) <= greatest(to);
-    low && high
 }
 
 /// The count of a shift.

@@ -1,14 +1,15 @@
 //! The instructions of an accumulator in the lanes.
 
 ghost use Rattle.std.specs.Prelude.{◌≡◌, [], ◌∷◌};
-ghost use Rattle.sve_code.specs.Seen.{seen};
-ghost use Rattle.sve_code.specs.Seen as sve;
+ghost use Rattle.sve_code.specs.View.{seen};
+ghost use Rattle.sve_code.specs.View as sve;
 ghost use Rattle.lane_emit.specs.LaneCode.{dup_code};
 ghost use Rattle.reductions.specs.AccumulatorLanes.{update_name, reduce_name, update_code, reduce_code};
 
 use guest_types::length::Width;
+use kernel_meaning::is_signed;
 use kernel_tree::{Ty, UpdateOp};
-use lane_emit::{is_signed, size};
+use lane_emit::size;
 use sve_code::{BinaryPredicatedOp, GoverningReg, ReductionOp, Reg, Sve, VectorReg};
 use word_rows::Bits;
 

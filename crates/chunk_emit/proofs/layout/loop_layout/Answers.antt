@@ -3,7 +3,7 @@ use Rattle.kernel_tree.specs.Plain.{Program}
 use Rattle.loop_form.specs.Entries.{loop_entries, loop_start}
 use Rattle.loop_form.specs.Lanes.{lane_width_of}
 use Rattle.loop_form.specs.Listing.{listing_of}
-use Rattle.loop_form.specs.Seen.{program}
+use Rattle.loop_form.specs.View.{program}
 use Rattle.chunk_emit.specs.LastUses.{z_last, p_last}
 use Rattle.chunk_emit.proofs.LoopPart.{listed_within, value_uses, truth_uses}
 use Rattle.chunk_emit.proofs.layout.loop_layout.Goals as goal

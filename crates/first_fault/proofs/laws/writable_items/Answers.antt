@@ -1,4 +1,4 @@
-use Rattle.loop_form.specs.Seen.{program}
+use Rattle.loop_form.specs.View.{program}
 use Rattle.first_fault.proofs.Spelled.{as_spelled}
 use Rattle.first_fault.proofs.Writables.{LoopWritable, loop_writable}
 use Rattle.first_fault.proofs.laws.writable_items.Goals as goal

@@ -1,5 +1,5 @@
 use Rattle.loop_form.specs.HeldView.{view_of}
-use Rattle.loop_form.specs.Seen.{program}
+use Rattle.loop_form.specs.View.{program}
 use Rattle.lane_emit.proofs.PlacesWithin.{held_within}
 use Rattle.lane_emit.proofs.registers.LaneRegisters.held_register.Goals as goal
 

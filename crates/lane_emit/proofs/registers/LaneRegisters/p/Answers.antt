@@ -1,5 +1,5 @@
 use Rattle.reg_assign.specs.declared.interval.RegClass.TheVariants.{P}
-use Rattle.loop_form.specs.Seen.{program}
+use Rattle.loop_form.specs.View.{program}
 use Rattle.lane_emit.proofs.PlacesWithin.{item_within}
 use Rattle.lane_emit.proofs.registers.LaneRegisters.p.Goals as goal
 
