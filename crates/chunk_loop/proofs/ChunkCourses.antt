@@ -55,7 +55,7 @@ alike_fine : (a : Out) (u : Lanes) → Alike a (Fine u) → a ≡ Fine u
 alike_fine (Fine s) u h = ap Fine h
 alike_fine (Fail m) u h = elim h [ ]
 
--- The iteration behind n lanes that end well does in the break region what it does there on the first memory.
+-- The iteration after n lanes that end well does in the break region what it does there on the first memory.
 pub way_same : (g : Ground) (i n : ℕ) (t u : Lanes) (l : Lane) → IsGround g → n < most_lanes g → i + n < limit g → by_item (acts_of g.names (items_of g)) n i t ≡ Fine u
     → lane_left (region_way g.names (region_of (items_of g)) (i + n) u.memory l) ≡ lane_left (region_way g.names (region_of (items_of g)) (i + n) t.memory l)
 way_same g i n t u l is more less e =

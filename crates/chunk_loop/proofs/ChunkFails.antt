@@ -20,7 +20,7 @@ use Rattle.chunk_loop.specs.Chunks.{items_of, AllOn, Failing, FailIsFault}
 use Rattle.chunk_loop.proofs.ChunkTurns.{BreaksAt, breaks_at, on_unbroken, left_on}
 use Rattle.chunk_loop.proofs.ChunkCourses.{chunk_same, goes_fine, way_same}
 
--- no iteration breaks whose lane goes on behind the break region on the first memory
+-- no iteration breaks whose lane goes on after the break region on the first memory
 none_breaks : (g : Ground) (i k : ℕ) (cur : Names) (t : Lanes) → IsGround g → Steady g.kernel g.names cur → k ≤ most_lanes g → i + k ≤ limit g → Fresh i k t → AllOn g i k t → BreaksAt (var_scope g.kernel) g.turns k i t.memory cur → ⊥
 none_breaks g i k cur t is steady few within fresh on b =
     let lt = b.few in
@@ -52,7 +52,7 @@ fail_is_fault g i k cur sum t left is between chunk on e = by (course (var_scope
       faulted = m;
       fails = f;
       from = h.0;
-      until = h.1;
+      last_use = h.1;
       kept = λ z low away.
           let stays = same.stays t chunk.fresh z low away in
           sym (ap (λ o. byte_at (memory_of o) z) e) ∙ stays.0 ∙ sym stays.1 ∙ ap (λ r. byte_at (run.memory_of r) z) f;

@@ -1,4 +1,4 @@
--- Behind lanes that end well, an iteration that breaks or faults on the first memory does so in its turn.
+-- After lanes that end well, an iteration that breaks or faults on the first memory does so in its turn.
 use Rattle.std.proofs.Common.{◌+◌, ◌∙◌, subst}
 use Rattle.kernel_tree.specs.Typing.{var_scope}
 use Rattle.kernel_meaning.specs.Iterate.{iterate}

@@ -104,7 +104,7 @@ fate_unbroken names (it ∷ items) j m l e =
         wrote (Ok after) = more after l
         wrote (Err fault) = tt
 
--- ---- behind the break region
+-- ---- after the break region
 
 halted_not_on : (op : Op) (next : Lane → Way) (new : Lane) → way_on (halted op) next ≡ On new → ⊥
 halted_not_on (Load a base t c) next new e = cc

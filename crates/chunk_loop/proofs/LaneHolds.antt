@@ -22,7 +22,7 @@ use Rattle.chunk_order.specs.Items.{source_value}
 use Rattle.lane_emit.specs.Right.{IsOf, within}
 use Rattle.reductions.specs.Folds.{after_all, given_to}
 use Rattle.reductions.specs.AccumulatorLanes as accumulators
-use Rattle.chunk_emit.specs.KernelLayout.{last_in, item_until}
+use Rattle.chunk_emit.specs.KernelLayout.{last_in, item_last_use}
 use Rattle.chunk_emit.specs.LoopFits.{FitsSetting}
 use Rattle.chunk_emit.specs.Chunk.{Setting, HeldRight, IsTop, sum_at, SumRight, Holds}
 use Rattle.chunk_emit.specs.Head.{Ground, IsGround, AtHead, Turned, layout, width, most_lanes, limit}
@@ -110,12 +110,12 @@ first_truth k = by k.turns
     by None = refl
     by (Some l) = refl
 
-no_value_before : (k : Program) (q : ℕ) → q < loop_start k + 1 → item_until k Z q ≡ 0
+no_value_before : (k : Program) (q : ℕ) → q < loop_start k + 1 → item_last_use k Z q ≡ 0
 no_value_before k q lt =
     let place : q - loop_start k ≡ 0 = omega (arith, lt) in
     ap (slice_index (map (last_in Z (entries_of k)) (loop_entries k))) place ∙ first_value k
 
-no_truth_before : (k : Program) (q : ℕ) → q < loop_start k + 1 → item_until k P q ≡ 0
+no_truth_before : (k : Program) (q : ℕ) → q < loop_start k + 1 → item_last_use k P q ≡ 0
 no_truth_before k q lt =
     let place : q - loop_start k ≡ 0 = omega (arith, lt) in
     ap (slice_index (map (last_in P (entries_of k)) (loop_entries k))) place ∙ first_truth k

@@ -48,7 +48,7 @@ place_any (u ∷ us) e = by (is_same u needs.Index) e (place_any us)
     by true e more = refl
     by false e more = more (before (place_in needs.Index us) e)
 
--- not among some values, so among those behind them
+-- not among some values, so among those after them
 any_behind : (xs ys : List Throughout) → list_any is_index xs ≡ false → list_any is_index (xs ++ ys) ≡ true → list_any is_index ys ≡ true
 any_behind [] ys none e = e
 any_behind (u ∷ xs) ys none e = by (is_same u needs.Index) none e (any_behind xs ys)
@@ -174,7 +174,7 @@ pub turn_apart : (k : Program) (a : Assignment) → FitsKernel k Z a → is_some
 turn_apart k a f turn x held ne same =
     let chosen : Chosen k Z a = chosen_of k Z a f in
     let all = throughout k Z in
-    let always : Interval = record { from = 0; until = size_of k } in
+    let always : Interval = record { from = 0; last_use = size_of k } in
     let p = there (held_place k Turn) turn in
     let q = there (held_place k x) held in
     let t = of_one all (throughout_of k x) q.0 q.1 in

@@ -1,4 +1,4 @@
--- From the state behind the items of a pass to the state before the next one.
+-- From the state after the items of a pass to the state before the next one.
 use Rattle.std.proofs.Common.{◌≡◌, ◌≢◌, ℕ, ◌+◌, ◌%◌, ◌^◌, ◌≤◌, ℤ, true, List, refl, ap, ◌∙◌, arith, get_or-set_same, get_or-set_other}
 use Rattle.guest_types.specs.Length.{width_bits}
 use Rattle.guest_types.specs.EarlyLoads.{StopList}

@@ -1,4 +1,4 @@
--- Runs of the pieces of a pass, one behind another.
+-- Runs of the pieces of a pass, one after another.
 use Rattle.std.proofs.Common.{◌≡◌, ℕ, ◌+◌, ◌≤◌, List, [], ◌∷◌, ◌++◌, refl, ap, arith}
 use Rattle.machine_model.specs.InstructionTable.{Listed}
 use Rattle.machine_model.specs.Machine.{State}

@@ -80,7 +80,7 @@ Reasons g i n cur m why mode =
 
 -- ---- the region, and the rest
 
--- what stands behind the words of the region
+-- what stands after the words of the region
 abbrev pub behind_words : Ground → List Entry → List Entry
 behind_words g rest = rest_words g (rest_of (items_of g)) rest
 

@@ -31,7 +31,7 @@ use Rattle.chunk_loop.proofs.PassEnds.{given_right, head_behind, top_behind, tur
 abbrev pub rest_words : Ground → List Item → List Entry → List Entry
 rest_words g items rest = puts (items_words (width g) (layout g) items) (Put (advance_word (width g)) ∷ rest)
 
--- a reason for a lane that is left out behind k of n lanes, where so many free elements or more were suppressed
+-- a reason for a lane that is left out after k of n lanes, where so many free elements or more were suppressed
 abbrev pub Reason : Ground → (i k n : ℕ) → Names → Lanes → (Turn → ℕ → Type 0) → (cut : ℕ) → Type 0
 Reason g i k n cur t why cut =
     k < n → (out : Lanes) (names : Names) → by_item (acts_of g.names (items_of g)) k i t ≡ Fine out → course (var_scope g.kernel) g.turns k i t.memory cur ≡ Going out.memory names → (all : ℕ) → cut ≤ all
@@ -58,5 +58,5 @@ module _
     rest_pass is all (does_fine end goes holds) = fine_pass end is (as_leads goes) holds
     rest_pass is all (does_fail {m = left} kind access stopped) =
         let failing : Failing g i k cur t.memory left = fails g i k cur sum t left ground h.between chunk all is in
-        stops k failing.j left failing.faulted kind few (ap (λ memory. course (var_scope g.kernel) g.turns k i memory cur) (sym now) ∙ failing.fails) failing.from failing.until access failing.kept
+        stops k failing.j left failing.faulted kind few (ap (λ memory. course (var_scope g.kernel) g.turns k i memory cur) (sym now) ∙ failing.fails) failing.from failing.last_use access failing.kept
         (stop_behind most (omega (arith, le)) before stopped)

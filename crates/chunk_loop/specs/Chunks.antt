@@ -59,10 +59,10 @@ pub record Failing (g : Ground) (i k : ℕ) (cur : Names) (m left : Memory) : Ty
   pub faulted : Memory
   pub fails : course (var_scope g.kernel) g.turns k i m cur ≡ Failed faulted j
   pub from : i ≤ j
-  pub until : j < i + k
+  pub last_use : j < i + k
   pub kept : (z : ℕ) → z < 2 ^ 64 → Elsewhere g.kernel g.args i k z → byte_at left z ≡ byte_at faulted z
 
--- every lane goes on behind the break region
+-- every lane goes on after the break region
 abbrev pub AllOn : Ground → (i k : ℕ) → Lanes → Type 0
 AllOn g i k t = (e : ℕ) → e < k → (new : Lane) × (region_way g.names (region_of (items_of g)) (i + e) t.memory (t.lane (i + e)) ≡ On new)
 
@@ -72,7 +72,7 @@ FailIsFault =
     (g : Ground) (i k : ℕ) (cur : Names) (sum : List ℕ → ℕ → ℤ) (t : Lanes) (left : Memory) → IsGround g → Between g i cur sum → IsChunk g i k t → AllOn g i k t
     → by_item (acts_of g.names (items_of g)) k i t ≡ Fail left → Failing g i k cur t.memory left
 
--- Behind k lanes that end well, a lane that breaks or faults on the chunk's first memory does so in its turn.
+-- After k lanes that end well, a lane that breaks or faults on the chunk's first memory does so in its turn.
 abbrev pub NextHalts : Type 0
 NextHalts =
     (g : Ground) (i k : ℕ) (cur names : Names) (sum : List ℕ → ℕ → ℤ) (t out : Lanes) → IsGround g → Between g i cur sum → IsChunk g i k t → k < most_lanes g → i + k < limit g

@@ -48,7 +48,7 @@ ChunkPasses =
     (g : Ground) (d : Laid) (rest : List Entry) (i : ℕ) (cur : Names) (m : Memory) (sum : List ℕ → ℕ → ℤ) (s : State) → IsGround g → list_any is_quit (items_of g) ≡ true → AtHead g i cur m sum s
     → Passes LeftOut g (lanes_at g i) i cur m d (puts (chunk_words (width g) (layout g) (bound_place g.kernel) (items_of g)) rest) s rest (length (chunk_words (width g) (layout g) (bound_place g.kernel) (items_of g)))
 
--- One iteration of such a loop, which is to begin, behind a chunk of which no lane came through.
+-- One iteration of such a loop, which is to begin, after a chunk of which no lane came through.
 abbrev pub TurnPasses : Type 0
 TurnPasses =
     (g : Ground) (d : Laid) (rest : List Entry) (i : ℕ) (cur : Names) (m : Memory) (sum : List ℕ → ℕ → ℤ) (s : State) → IsGround g → list_any is_quit (items_of g) ≡ true → AtHead g i cur m sum s → Turned g i s → i < limit g

@@ -11,7 +11,7 @@ ghost use Rattle.chunk_loop.specs.PassCode as pass;
 use crate::words::{advance, first_lane, index, lanes, one};
 use a64_code::Reg;
 use chunk_emit::{LoopLayout, emit_items};
-use first_fault::{emit_exits, emit_single, region, rest};
+use first_fault::{emit_exits, emit_single, region, rest, split_breaks};
 use label_fix::{Draft, Word};
 use loop_form::{LoopItem, Source};
 use std::alloc::{AllocError, Global};
@@ -45,7 +45,8 @@ pub fn emit_chunk(
 {
     draft.put(lanes(layout.width(), bound))?;
     emit_turns(layout, draft)?;
-    emit_exits(alloc, layout, region(items), draft)?;
+    let steps = split_breaks(alloc, layout, region(items))?;
+    emit_exits(alloc, layout, &steps, draft)?;
     emit_items(alloc, layout, rest(items), draft)?;
     draft.put(advance(layout.width()))?;
     Ok(())
@@ -66,7 +67,8 @@ pub fn emit_turn(
 {
     draft.put(one())?;
     draft.put(first_lane(layout.width()))?;
-    emit_single(alloc, layout, region(items), draft)?;
+    let steps = split_breaks(alloc, layout, region(items))?;
+    emit_single(alloc, layout, &steps, draft)?;
     emit_items(alloc, layout, rest(items), draft)?;
     draft.put(advance(layout.width()))?;
     Ok(())

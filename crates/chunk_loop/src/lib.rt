@@ -22,7 +22,7 @@ pub fn fail_is_fault()
     ensures { FailIsFault }
 {}
 
-/// Behind lanes that end well, an iteration that breaks or faults in the break region on the first memory of the chunk does
+/// After lanes that end well, an iteration that breaks or faults in the break region on the first memory of the chunk does
 /// so in its turn.
 pub fn next_halts()
     ensures { NextHalts }

@@ -3,9 +3,9 @@
 ghost use Rattle.std.specs.Prelude.{◌≡◌, [], ◌∷◌};
 ghost use Rattle.a64_code.specs.Table as a64;
 ghost use Rattle.sve_code.specs.Table as sve;
-ghost use Rattle.sve_code.specs.Seen.{seen};
+ghost use Rattle.sve_code.specs.View.{seen};
 ghost use Rattle.machine_model.specs.InstructionTable.{Scalar, Vector};
-ghost use Rattle.label_fix.specs.Draft.{word_seen};
+ghost use Rattle.label_fix.specs.Draft.{word_view};
 ghost use Rattle.lane_emit.specs.Stretch.{word};
 ghost use Rattle.lane_emit.specs.LaneCode.{size_of, index_code};
 ghost use Rattle.chunk_loop.specs.PassCode as pass;
@@ -26,7 +26,7 @@ fn iteration() -> Reg
 
 /// The lanes of a chunk in P0: those whose iterations are below the bound.
 pub fn lanes(width: Width, bound: Reg) -> Word
-    ensures { word_seen result ≡ pass.lanes_word width bound.number }
+    ensures { word_view result ≡ pass.lanes_word width bound.number }
 {
     Word::V(Sve::Whilelo {
         pd: Bits { number: 0 },
@@ -38,7 +38,7 @@ pub fn lanes(width: Width, bound: Reg) -> Word
 
 /// X26 = 1.
 pub fn one() -> Word
-    ensures { word_seen result ≡ Scalar (record { name = a64.movz; numbers = 26 ∷ 1 ∷ 0 ∷ [] }) }
+    ensures { word_view result ≡ Scalar (record { name = a64.movz; numbers = 26 ∷ 1 ∷ 0 ∷ [] }) }
 {
     Word::A(A64::MoveWide {
         op: MoveWideOp::Movz,
@@ -50,7 +50,7 @@ pub fn one() -> Word
 
 /// Lane 0 alone in P0, by X26.
 pub fn first_lane(width: Width) -> Word
-    ensures { word_seen result ≡ Vector (word sve.whilelo (0 ∷ 31 ∷ 26 ∷ size_of width ∷ [])) }
+    ensures { word_view result ≡ Vector (word sve.whilelo (0 ∷ 31 ∷ 26 ∷ size_of width ∷ [])) }
 {
     Word::V(Sve::Whilelo {
         pd: Bits { number: 0 },
@@ -74,7 +74,7 @@ pub fn index(d: VectorReg) -> Sve
 
 /// X9 goes on by the number of lanes in P0.
 pub fn advance(width: Width) -> Word
-    ensures { word_seen result ≡ pass.advance_word width }
+    ensures { word_view result ≡ pass.advance_word width }
 {
     Word::V(Sve::Incp {
         rd: iteration(),

@@ -73,7 +73,7 @@ module _ (R : ℕ → ℕ) (k : Program) (begins : BeginRuns R k) (runs : Scalar
       let same : run_from k 0 m b.names ≡ scalar_run k args m = from_start (var_scope k) k.turns k.answer m b.names ∙ sym (ap (run_named k m) b.starts) in
       subst (λ r. Comes D (begin_code R k 0 (scalar_code R k n [])) s (32 + 8 * size_of k) (72 + 16 * size_of k) 0 r) same (comes_after (omega arith) b.goes c)
 
-  -- Entries that are the code of a kernel, behind a front, come to a file that does what the kernel says.
+  -- Entries that are the code of a kernel, after a front, come to a file that does what the kernel says.
   pub compiled : (labels n : ℕ) (entries front : List Entry) (words : List ℕ) → entries ≡ front ++ scalar_code R k n [] → entries ≡ begin_code R k 0 (scalar_code R k n []) → Once entries → AreFit labels entries → size entries ≤ 65536 → words ≡ words_of entries → All (λ w. w < 2 ^ 32) words
       → FreeSlowFaithful k (file_of words)
   compiled labels n entries front words behind begun_by placed fits few is small =

@@ -21,7 +21,7 @@ use Rattle.machine_model.specs.OneStep.{step, does, do_word, reads_word}
 use Rattle.machine_model.specs.Run.{Outcome, End, Stop, Spent, go_on, run}
 use Rattle.label_fix.specs.DraftRun.{Entry, Put, Branch, Place, Laid, is_taken, effect, behind, address_of, walk, draft_run}
 
--- what is mapped behind a step
+-- what is mapped after a step
 abbrev SameMap : Step → State → Type 0
 SameMap o s = (a : ℕ) → can_read (memory_after o s) a ≡ can_read s.memory a
 

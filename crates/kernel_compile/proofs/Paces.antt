@@ -1,4 +1,4 @@
--- A pace behind a stretch, and how many words a pace allows in the bound of steps.
+-- A pace after a stretch, and how many words a pace allows in the bound of steps.
 use Rattle.std.proofs.Common.{◌≡◌, ℕ, ◌+◌, ◌-◌, ◌*◌, ◌<◌, ◌≤◌, List, ap, ◌∙◌, subst, arith, ⊎_elim}
 use Rattle.std.specs.Int.{div_ceil}
 use Rattle.std.proofs.lemmas.Bool.{cases_lt}

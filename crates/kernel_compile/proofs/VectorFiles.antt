@@ -40,7 +40,7 @@ start_length words args pages vl stops = refl
 
 -- ---- the file
 
--- Entries are the code of a kernel, and each part of it stands behind a front.
+-- Entries are the code of a kernel, and each part of it stands after a front.
 pub record IsWhole (R : ℕ → ℕ) (k : Program) (a b : Assignment) (n1 n2 n3 : ℕ) (entries : List Entry) : Type 0 where
   pub all : entries ≡ whole_code R k a b n1 n2 n3
   pub before_scalar : List Entry

@@ -77,7 +77,7 @@ module _ (g : Ground) (is : IsGround g) (memory left faulted : Memory) (bg : ℕ
   kept_near : (a : ℕ) → (IsNearFault g.kernel g.args (most_lanes g) bg a → ⊥) → byte_at left a ≡ byte_at faulted a
   kept_near a far =
       ⊎_elim
-      (λ (low : a < 2 ^ 64). near.kept a low (elsewhere g.kernel g.args (most_lanes g) bg near.i near.k a near.few (let w = near.within in omega (arith, w, bound)) near.from near.until far))
+      (λ (low : a < 2 ^ 64). near.kept a low (elsewhere g.kernel g.args (most_lanes g) bg near.i near.k a near.few (let w = near.within in omega (arith, w, bound)) near.from near.last_use far))
       (λ (past : 2 ^ 64 ≤ a). high a past)
       (cases_lt a (2 ^ 64))
 
@@ -138,7 +138,7 @@ some_lanes vl k h = by (lane_width_of k)
     by width.S = (let g = h.1 in omega (arith, g))
     by width.D = (let g = h.1 in omega (arith, g))
 
--- the parts of the code, each with what stands behind it
+-- the parts of the code, each with what stands after it
 abbrev pub vector_part : (ℕ → ℕ) → Program → (a b : Assignment) → (n1 n3 : ℕ) → List Entry
 vector_part R k a b n1 n3 = vector_code R k a b n1 n3 []
 

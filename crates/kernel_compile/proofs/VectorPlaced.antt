@@ -16,10 +16,10 @@ use Rattle.loop_form.specs.Needs.{Throughout, Scalar, Constant, Index, Accumulat
 use Rattle.loop_form.specs.Streams.{place_of}
 use Rattle.dependence.specs.declared.used.Used.{Used}
 use Rattle.dependence.specs.Apart.{used_of, bound_place}
-use Rattle.scalar_emit.specs.Words.{word_of, extending}
+use Rattle.scalar_emit.specs.Words.{word_of, settle_word}
 use Rattle.scalar_emit.specs.Layout.{register_at}
 use Rattle.scalar_emit.specs.Kernel.{kernel_homes, begin_code, begin_labels, scalar_code, scalar_labels}
-use Rattle.scalar_emit.proofs.Placed.{const_put, binary_put, begin_once, scalar_unplaced, scalar_once}
+use Rattle.scalar_emit.proofs.Placed.{word_put, const_put, binary_put, begin_once, scalar_unplaced, scalar_once}
 use Rattle.lane_emit.specs.LaneCode.{dup_code}
 use Rattle.reductions.specs.Joins.{identity}
 use Rattle.reductions.specs.AccumulatorLanes.{reduce_code}
@@ -59,7 +59,7 @@ module _ (P : List Entry → Type 0) (put : (i : Listed) (rest : List Entry) →
   fold_one_put R k z (Accumulating x) rest h =
       let c = register_at (kernel_homes R k) x in
       let t = type_of_var k x in
-      puts_put (vectors (reduce_code (lane_width_of k) (update_of k x) t 31 z)) _ (put (word_of umov (27 ∷ 31 ∷ [])) _ (put (extending t 27 27) _ (binary_put P put (Some t) (operator_of (update_of k x)) c c 27 rest h)))
+      puts_put (vectors (reduce_code (lane_width_of k) (update_of k x) t 31 z)) _ (put (word_of umov (27 ∷ 31 ∷ [])) _ (word_put P put (settle_word true t 27) _ (binary_put P put (Some t) (operator_of (update_of k x)) c c 27 rest h)))
 
   folds_put : (R : ℕ → ℕ) (k : Program) (a : Assignment) (j : ℕ) (ts : List Throughout) (rest : List Entry) → P rest → P (folds_code R k a j ts rest)
   folds_put R k a j [] rest h = h
@@ -133,7 +133,7 @@ pub grows_by : (w : Bool) (label : ℕ) (us : List Used) → label ≤ label_by 
 grows_by true label us = omega arith
 grows_by false label us = grows_pairs label us
 
--- the first label behind those of the guard
+-- the first label after those of the guard
 abbrev pub guard_end : Program → ℕ → ℕ
 guard_end k label = label_by (is_free (used_of k)) label (used_of k)
 

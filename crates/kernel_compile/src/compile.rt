@@ -2,7 +2,7 @@
 
 ghost use Rattle.std.specs.Prelude.{◌≡◌, ◌+◌, ◌*◌, ◌≤◌, None, false, IfErr, IfOk, OnOk, length};
 ghost use Rattle.kernel_tree.specs.Items.{size_of};
-ghost use Rattle.loop_form.specs.Seen.{program};
+ghost use Rattle.loop_form.specs.View.{program};
 ghost use Rattle.machine_model.specs.Written.{file_of};
 ghost use Rattle.dependence.specs.Bound.{is_vector};
 ghost use Rattle.dependence.specs.Classes.{class_of};
@@ -38,7 +38,7 @@ pub fn compile_kernel(alloc: Global, kernel: &Checked) -> Result<Code, CompileFa
     Ok(Code { words })
 }
 
-#[tactic(auto, unfolding(loop_form::specs::Seen::program))]
+#[tactic(auto, unfolding(loop_form::specs::View::program))]
 fn words_of_class(alloc: Global, kernel: &Checked) -> Result<Vec<u32>, AllocError>
     requires { too_many (program kernel.now) ≡ None }
     ensures faithful { IfOk result (λ words. FreeFaithful (program kernel.now) (file_of words.items)) }

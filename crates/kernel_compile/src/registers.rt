@@ -4,7 +4,7 @@ ghost use Rattle.std.specs.Prelude.{◌≡◌, None, IfErr, IfOk, OnOk};
 ghost use Rattle.loop_form.specs.Needs.{needs_of};
 ghost use Rattle.loop_form.specs.Registers.{counted_registers, FitsKernel};
 ghost use Rattle.reg_assign.specs.declared.interval.RegClass.TheVariants.{X, Z, P};
-ghost use Rattle.loop_form.specs.Seen.{program};
+ghost use Rattle.loop_form.specs.View.{program};
 ghost use Rattle.kernel_compile.specs.Refusals as refusals;
 ghost use Rattle.kernel_compile.specs.Refusals.{exceeded, too_many, IsRefusal, IsRefusalIn};
 
@@ -67,7 +67,7 @@ fn check_classes(needs: Needs, classes: &[RegClass]) -> Result<(), CompileFault>
 }
 
 /// Refuses a kernel of which more values of a class are live than there are registers for them.
-#[tactic(auto, unfolding(loop_form::specs::Seen::program))]
+#[tactic(auto, unfolding(loop_form::specs::View::program))]
 pub fn check_needs(alloc: Global, kernel: &Checked) -> Result<(), CompileFault>
     ensures enough { OnOk result (too_many (program kernel.now) ≡ None) }
     ensures refusal { IfErr result (IsRefusal (program kernel.now)) }
@@ -78,7 +78,7 @@ pub fn check_needs(alloc: Global, kernel: &Checked) -> Result<(), CompileFault>
 }
 
 // The registers of the intervals of a class.
-#[tactic(auto, unfolding(loop_form::specs::Seen::program))]
+#[tactic(auto, unfolding(loop_form::specs::View::program))]
 fn class_registers(alloc: Global, kernel: &Checked, class: RegClass) -> Result<Assigned, AllocError>
     ensures { IfOk result (FitsKernel (program kernel.now) class) }
 {

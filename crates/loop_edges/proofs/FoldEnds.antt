@@ -1,4 +1,4 @@
--- The code behind the loop leads to a state before an iteration of the scalar loop.
+-- The code after the loop leads to a state before an iteration of the scalar loop.
 use Rattle.std.proofs.Common.{◌≡◌, ◌≢◌, ℕ, ℤ, true, List, [], ◌∷◌, ◌++◌, length, map, Option, Some, None, refl, sym, ap, ◌∙◌, subst, arith}
 use Rattle.std.specs.Prelude.{is_some, unwrap_or}
 use Rattle.std.specs.List.{list_any}
@@ -6,9 +6,10 @@ use Rattle.std.proofs.lemmas.Option.{slice_get_within}
 use Rattle.guest_types.specs.Memory.{IsMemory}
 use Rattle.kernel_tree.specs.declared.ops.Ty.TheVariants.{U64}
 use Rattle.kernel_tree.specs.Plain.{Parameter, Accumulator, Program}
-use Rattle.kernel_tree.specs.Wrap.{is_signed}
 use Rattle.kernel_tree.specs.Typing.{Local, value_type, check_fault, var_scope}
 use Rattle.kernel_meaning.specs.Operators.{word}
+use Rattle.kernel_meaning.specs.TypeValues.{IsOf}
+use Rattle.kernel_meaning.proofs.TypeRanges.{wrap-is_of}
 use Rattle.kernel_meaning.specs.Eval.{Names, value_at}
 use Rattle.machine_model.specs.Machine.{State, x_at, z_at}
 use Rattle.reg_assign.specs.declared.interval.RegClass.TheVariants.{X, Z}
@@ -18,11 +19,9 @@ use Rattle.loop_form.specs.Registers.{FitsKernel}
 use Rattle.chunk_order.proofs.Sites.{locals_of, accs_of, var_visible}
 use Rattle.vector_order.specs.Order.{is_var, Steady}
 use Rattle.scalar_emit.specs.Layout.{Homes}
-use Rattle.scalar_emit.specs.Fits.{InRange}
 use Rattle.scalar_emit.specs.Kernel.{kernel_homes, register_in}
 use Rattle.scalar_emit.specs.Runs.{TypeRange, AreRanged, AreHeld}
 use Rattle.reductions.specs.AccumulatorLanes.{LanesHold}
-use Rattle.scalar_emit.proofs.Ranges.{wrap-range}
 use Rattle.chunk_emit.specs.KernelLayout.{register_of, sum_place, update_of}
 use Rattle.chunk_emit.specs.Head.{Ground, IsGround, Between, width, most_lanes}
 use Rattle.loop_edges.specs.EdgeCode.{type_of_var}
@@ -51,7 +50,7 @@ params_typed k (p ∷ ps) d =
 visible_typed : (k : Program) → check_fault k ≡ None → AreTyped k (var_scope k).visible
 visible_typed k e = subst (AreTyped k) (sym (var_visible k)) (params_typed k k.params (names_distinct k e))
 
--- ---- names behind the loop
+-- ---- names after the loop
 
 module _ (g : Ground) (ok : IsGround g) (c : Assignment) (fit : FitsKernel g.kernel X c) (i : ℕ) (cur : Names) (sum : List ℕ → ℕ → ℤ) (b : Between g i cur sum) where
   abbrev k : Program
@@ -85,7 +84,7 @@ module _ (g : Ground) (ok : IsGround g) (c : Assignment) (fit : FitsKernel g.ker
       by (Some p) e =
           let so = b.sums l.name (ap is_some e) in
           subst (λ o. TypeRange o m.value) (sym (t.0 (sum_is k l.name p e).var))
-          (subst (InRange (is_signed (type_of_var k l.name))) (sym so.now ∙ now) (wrap-range (type_of_var k l.name) _))
+          (subst (IsOf (type_of_var k l.name)) (sym so.now ∙ now) (wrap-is_of (type_of_var k l.name) _))
 
   module _ (s t : State) (f : Folding g c cur sum s (length (throughout k Z)) t) where
     -- each register has its name's value now

@@ -1,4 +1,4 @@
--- A worked kernel: the code behind its loop.
+-- A worked kernel: the code after its loop.
 use Rattle.std.proofs.Common.{◌≡◌, ℕ, pos, List, [], ◌∷◌, Some, None, refl}
 use Rattle.kernel_tree.specs.declared.ops.Ty.TheVariants as ty
 use Rattle.kernel_tree.specs.declared.ops.UpdateOp.TheVariants as update
@@ -53,10 +53,10 @@ kept = assignment [] (3 ∷ 5 ∷ 0 ∷ 0 ∷ [])
 abbrev general : Assignment
 general = assignment [] (0 ∷ 8 ∷ [])
 
--- sminv s31, p1, z3.s; umov x27, v31.d[0]; sxth x27, w27; cmp x10, x27; csel x10, x27, x10, gt; sxth x10, w10;
+-- sminv s31, p1, z3.s; umov x27, v31.d[0]; sxth x27, w27; cmp x10, x27; csel x10, x27, x10, gt;
 -- uaddv d31, p1, z5.s; umov x27, v31.d[0]; ubfx x27, x27, #0, #32; add x19, x19, x27; ubfx x19, x19, #0, #32
 two_sums-fold : fold_code (register_in general) two_sums kept []
-    ≡ Put (Vector (word sminv (31 ∷ 3 ∷ 1 ∷ 2 ∷ []))) ∷ ins umov (27 ∷ 31 ∷ []) ∷ ins sbfm (27 ∷ 27 ∷ 15 ∷ 0 ∷ []) ∷ ins subs (31 ∷ 10 ∷ 0 ∷ 27 ∷ 0 ∷ []) ∷ ins csel (10 ∷ 27 ∷ 12 ∷ 10 ∷ []) ∷ ins sbfm (10 ∷ 10 ∷ 15 ∷ 0 ∷ [])
+    ≡ Put (Vector (word sminv (31 ∷ 3 ∷ 1 ∷ 2 ∷ []))) ∷ ins umov (27 ∷ 31 ∷ []) ∷ ins sbfm (27 ∷ 27 ∷ 15 ∷ 0 ∷ []) ∷ ins subs (31 ∷ 10 ∷ 0 ∷ 27 ∷ 0 ∷ []) ∷ ins csel (10 ∷ 27 ∷ 12 ∷ 10 ∷ [])
     ∷ Put (Vector (word uaddv (31 ∷ 5 ∷ 1 ∷ 2 ∷ []))) ∷ ins umov (27 ∷ 31 ∷ []) ∷ ins ubfm (27 ∷ 27 ∷ 31 ∷ 0 ∷ []) ∷ ins add (19 ∷ 19 ∷ 0 ∷ 27 ∷ 0 ∷ []) ∷ ins ubfm (19 ∷ 19 ∷ 31 ∷ 0 ∷ []) ∷ []
 unfolding item_type widest constants
 two_sums-fold = refl

@@ -1,5 +1,5 @@
 -- What the code does that joins the elements of one accumulator with its general register.
-use Rattle.std.proofs.Common.{◌≡◌, ◌≢◌, ℕ, ◌%◌, ◌^◌, ◌<◌, ◌≤◌, ℤ, pos, List, [], ◌∷◌, refl, sym, ap, ◌∙◌, subst, arith, lit<}
+use Rattle.std.proofs.Common.{◌≡◌, ◌≢◌, ℕ, ◌%◌, ◌^◌, ◌<◌, ◌≤◌, ℤ, pos, true, List, [], ◌∷◌, refl, sym, ap, ◌∙◌, subst, arith, lit<}
 use Rattle.std.specs.Prelude.{slice_index, slice_index_or}
 use Rattle.std.proofs.lemmas.List.Elements.{All-get_or}
 use Rattle.std.proofs.Math.Nat.{mod-eq_of_lt}
@@ -8,9 +8,8 @@ use Rattle.guest_types.specs.Length.{width_bits, lanes}
 use Rattle.guest_types.specs.Elements.{element}
 use Rattle.kernel_tree.specs.declared.ops.Ty.{Ty}
 use Rattle.kernel_tree.specs.declared.ops.UpdateOp.{UpdateOp}
-use Rattle.kernel_tree.specs.Wrap.{residue, bits_of, is_signed}
+use Rattle.kernel_tree.specs.Wrap.{wrap, residue, bits_of}
 use Rattle.kernel_meaning.specs.Operators.{word, operator_of}
-use Rattle.kernel_meaning.proofs.Residues.{word-below}
 use Rattle.machine_model.specs.Machine.{State, x_at, z_at}
 use Rattle.machine_model.specs.States.{IsState}
 use Rattle.machine_model.proofs.ScalarStates.{scalar_keeps}
@@ -28,29 +27,22 @@ use Rattle.reductions.proofs.Laws.{own, wrap_by_held}
 use Rattle.reductions.proofs.Orders.{together_of}
 use Rattle.reductions.proofs.Reduce.{reduction_together}
 use Rattle.scalar_emit.specs.Layout.{Layout}
-use Rattle.scalar_emit.specs.Fits.{InRange}
 use Rattle.scalar_emit.specs.Words as scalar
-use Rattle.scalar_emit.specs.Words.{ins, extension, word_of}
+use Rattle.scalar_emit.specs.Words.{ins, word_code, settle_word, word_of}
 use Rattle.scalar_emit.specs.Safe.{Assigned}
 use Rattle.scalar_emit.specs.Runs.{Frame}
-use Rattle.scalar_emit.proofs.Words.{extended, extended-wrap}
-use Rattle.scalar_emit.proofs.States.{wrote, wrote_same, wrote_other, wrote_shaped}
-use Rattle.scalar_emit.proofs.Pieces.{extension_is}
+use Rattle.scalar_emit.proofs.States.{wrote, wrote_same, wrote_other}
+use Rattle.scalar_emit.proofs.Pieces.{extended_sets}
 use Rattle.scalar_emit.proofs.Operators.{binary_sets}
-use Rattle.scalar_emit.proofs.Ranges.{wrap-range}
 use Rattle.chunk_emit.proofs.Puts.{do_goes}
 use Rattle.loop_form.specs.Lanes.{width_of}
 use Rattle.loop_edges.specs.EdgeCode.{join_code}
 
--- the value of a type is in its range
-pub in_range : (t : Ty) (v : ℤ) → IsOf t v → InRange (is_signed t) v
-in_range t v h = subst (InRange (is_signed t)) (wrap-of t v h) (wrap-range t v)
-
--- a word whose low bits are those of a value, extended by the type
-extended_low : (t : Ty) (n : ℕ) (v : ℤ) → n < 2 ^ 64 → n % 2 ^ bits_of t ≡ residue (bits_of t) v → IsOf t v → extended t n ≡ word v
-extended_low t n v small low h =
+-- a word whose low bits are those of a value is that value at the type
+low_wrap : (t : Ty) (n : ℕ) (v : ℤ) → n % 2 ^ bits_of t ≡ residue (bits_of t) v → IsOf t v → wrap t (pos n) ≡ v
+low_wrap t n v low h =
     let same : residue (width_bits (width_of t)) (pos n) ≡ residue (width_bits (width_of t)) v = subst (λ k. residue k (pos n) ≡ residue k v) (own t) low in
-    ap (extended t) (sym (mod-eq_of_lt small)) ∙ extended-wrap t (pos n) ∙ ap word (wrap_by_held t (pos n) v same) ∙ ap word (wrap-of t v h)
+    wrap_by_held t (pos n) v same ∙ wrap-of t v h
 
 -- no values of items
 abbrev bare : Layout
@@ -76,9 +68,9 @@ pub record Joined (D : Laid) (c : List Entry) (s : State) (rest : List Entry) (x
   pub vl : end.vl ≡ s.vl
 
 module _ (D : Laid) (w : Width) (op : UpdateOp) (t : Ty) where
-  -- behind the reduction: into X27, extended, and joined with the register x
+  -- after the reduction: into X27, extended, and joined with the register x
   joined_from : (x : ℕ) (acc v : ℤ) (s : State) (rest : List Entry) → IsState s → element 8 (z_at s 31) 0 % 2 ^ bits_of t ≡ residue (bits_of t) v → IsOf t v → IsOf t acc → x ≤ 25 → x_at s x ≡ word acc
-      → Joined D (ins umov (27 ∷ 31 ∷ []) ∷ extension t 27 27 ∷ scalar.binary_code (operator_of op) t x x 27 rest) s rest x (joined op t acc v) 5
+      → Joined D (ins umov (27 ∷ 31 ∷ []) ∷ word_code (settle_word true t 27) (scalar.binary_code (operator_of op) t x x 27 rest)) s rest x (joined op t acc v) 5
   joined_from x acc v s rest is low of_v of_acc le has =
       let d = element 8 (z_at s 31) 0 in
       let s1 = wrote s 27 d in
@@ -86,24 +78,23 @@ module _ (D : Laid) (w : Width) (op : UpdateOp) (t : Ty) where
       let sized = is.x_count in
       let one : x_at s1 27 ≡ d = wrote_same s 27 d (omega (arith, sized)) in
       let small : x_at s1 27 < 2 ^ 64 = All-get_or (λ v. v < 2 ^ 64) s1.x 27 0 (let z = is1.x_count in omega (arith, z)) is1.x_small in
-      let e = extended t (x_at s1 27) in
-      let ext : e ≡ word v = extended_low t (x_at s1 27) v small (ap (λ k. k % 2 ^ bits_of t) one ∙ low) of_v in
-      let below = word-below v in
-      let s2 = wrote s1 27 e in
-      let is2 : IsState s2 = wrote_shaped s1 27 e (omega (arith, ext, below)) is1 in
-      let two : x_at s2 27 ≡ word v = wrote_same s1 27 e (let z = is1.x_count in omega (arith, z)) ∙ ext in
-      let kept = λ (r : ℕ) (hi : r ≤ 25). wrote_other s1 27 e r (λ q. absurd (omega (arith, hi, q))) ∙ wrote_other s 27 d r (λ q. absurd (omega (arith, hi, q))) in
-      let k = binary_sets D bare bare_assigned {rest = rest} {s = s2} (operator_of op) t acc v x 27 x is2.x_count le (in_range t acc of_acc) (in_range t v of_v) (kept x le ∙ has) two in
+      let below : d < 2 ^ 64 = subst (λ n. n < 2 ^ 64) one small in
+      let e = extended_sets D bare bare_assigned {rest = scalar.binary_code (operator_of op) t x x 27 rest} {s = s1} t 27 (pos d) is1.x_count (omega arith) (one ∙ sym (mod-eq_of_lt below)) in
+      let two : x_at e.end 27 ≡ word v = e.value ∙ ap word (low_wrap t d v low of_v) in
+      let is2 : IsState e.end = e.shaped is1 in
+      let kept = λ (r : ℕ) (hi : r ≤ 25). e.changes.others r hi (λ q. absurd (omega (arith, hi, q))) ∙ wrote_other s 27 d r (λ q. absurd (omega (arith, hi, q))) in
+      let k = binary_sets D bare bare_assigned {rest = rest} {s = e.end} (operator_of op) t acc v x 27 x is2.x_count le of_acc of_v (kept x le ∙ has) two in
+      let frame = k.changes.frame ∙ e.changes.frame in
       record {
         end = k.end;
-        goes = chain 5 (omega arith) (put_goes {i = word_of umov (27 ∷ 31 ∷ [])} {t = s1} refl) (chain 4 (omega arith) (extension_is t 27 27 s1 D (scalar.binary_code (operator_of op) t x x 27 rest)) k.goes);
+        goes = chain 5 (omega arith) (put_goes {i = word_of umov (27 ∷ 31 ∷ [])} {t = s1} refl) (chain 4 (omega arith) e.goes k.goes);
         is = k.shaped is2;
         value = k.value;
         others = λ r hi ne. k.changes.others r hi ne ∙ kept r hi;
-        memory = k.changes.memory;
-        z = λ n ne. ap (λ (f : Frame). slice_index_or f.z n []) k.changes.frame;
-        p = ap (λ (f : Frame). f.p) k.changes.frame;
-        vl = ap (λ (f : Frame). f.vl) k.changes.frame;
+        memory = k.changes.memory ∙ e.changes.memory;
+        z = λ n ne. ap (λ (f : Frame). slice_index_or f.z n []) frame;
+        p = ap (λ (f : Frame). f.p) frame;
+        vl = ap (λ (f : Frame). f.vl) frame;
       }
 
   -- the whole
@@ -115,7 +106,7 @@ module _ (D : Laid) (w : Width) (op : UpdateOp) (t : Ty) where
       let k = joined_from x acc (together op t n taken) r.end rest r.is r.low (together_of op t n taken) of_acc le (ap (λ xs. slice_index xs x) r.only.x ∙ has) in
       record {
         end = k.end;
-        goes = chain 6 (omega arith) (do_goes {rest = ins umov (27 ∷ 31 ∷ []) ∷ extension t 27 27 ∷ scalar.binary_code (operator_of op) t x x 27 rest} (reduce_code w op t 31 z) s r.end r.runs) k.goes;
+        goes = chain 6 (omega arith) (do_goes {rest = ins umov (27 ∷ 31 ∷ []) ∷ word_code (settle_word true t 27) (scalar.binary_code (operator_of op) t x x 27 rest)} (reduce_code w op t 31 z) s r.end r.runs) k.goes;
         is = k.is;
         value = k.value;
         others = λ q hi ne. k.others q hi ne ∙ ap (λ xs. slice_index xs q) r.only.x;

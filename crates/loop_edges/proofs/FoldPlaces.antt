@@ -1,5 +1,5 @@
 -- The places of accumulators among the values that are held throughout a loop: each that the loop updates has one place, and
--- stands behind all else.
+-- stands after all else.
 use Rattle.std.proofs.Common.{◌≡◌, ℕ, zero, suc, ◌+◌, ◌≤◌, Bool, true, false, cond, List, [], ◌∷◌, ◌++◌, length, map, Option, Some, None, refl, sym, ap, ◌∙◌, arith, append_assoc}
 use Rattle.std.specs.Prelude.{bytes_eq, unwrap_or, slice_get, filter, ◌||◌}
 use Rattle.std.specs.List.{list_any}

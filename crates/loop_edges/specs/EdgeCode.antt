@@ -1,7 +1,7 @@
--- The code before and behind the loop of chunks. Before it, the values from before the loop are laid into all elements of
--- their registers, and each accumulator that the loop updates begins with the identity of its operator; behind it, the
+-- The code before and after the loop of chunks. Before it, the values from before the loop are laid into all elements of
+-- their registers, and each accumulator that the loop updates begins with the identity of its operator; after it, the
 -- elements of each accumulator are joined together, and then with its general register.
-use Rattle.std.specs.Prelude.{ℕ, suc, List, [], ◌∷◌, unwrap_or, slice_index}
+use Rattle.std.specs.Prelude.{ℕ, suc, true, List, [], ◌∷◌, unwrap_or, slice_index}
 use Rattle.guest_types.specs.declared.length.Width.{Width}
 use Rattle.a64_code.specs.Table.{umov}
 use Rattle.sve_code.specs.Table.{ptrue}
@@ -21,7 +21,7 @@ use Rattle.loop_form.specs.Streams.{place_of}
 use Rattle.scalar_emit.specs.Layout.{register_at}
 use Rattle.scalar_emit.specs.Kernel.{kernel_homes}
 use Rattle.scalar_emit.specs.Words as scalar
-use Rattle.scalar_emit.specs.Words.{ins, const_code, extension}
+use Rattle.scalar_emit.specs.Words.{ins, const_code, word_code, settle_word}
 use Rattle.lane_emit.specs.Stretch.{word}
 use Rattle.lane_emit.specs.LaneCode.{dup_code}
 use Rattle.reductions.specs.Joins.{identity}
@@ -55,11 +55,11 @@ holds_code k a j (t ∷ ts) rest = hold_code k (slice_index a.registers j) t (ho
 abbrev pub start_code : Program → Assignment → List Entry → List Entry
 start_code k a rest = Put (Vector (word ptrue (1 ∷ 0 ∷ []))) ∷ holds_code k a 0 (throughout k Z) rest
 
--- ---- behind the loop
+-- ---- after the loop
 
 -- X27 = the elements of z joined together, and x = x joined with it
 abbrev pub join_code : Width → UpdateOp → Ty → (z x : ℕ) → List Entry → List Entry
-join_code w op t z x rest = puts (vectors (reduce_code w op t 31 z)) (ins umov (27 ∷ 31 ∷ []) ∷ extension t 27 27 ∷ scalar.binary_code (operator_of op) t x x 27 rest)
+join_code w op t z x rest = puts (vectors (reduce_code w op t 31 z)) (ins umov (27 ∷ 31 ∷ []) ∷ word_code (settle_word true t 27) (scalar.binary_code (operator_of op) t x x 27 rest))
 
 abbrev pub fold_one : (ℕ → ℕ) → Program → (z : ℕ) → Throughout → List Entry → List Entry
 fold_one R k z (Accumulating x) rest = join_code (lane_width_of k) (update_of k x) (type_of_var k x) z (register_at (kernel_homes R k) x) rest

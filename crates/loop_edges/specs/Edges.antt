@@ -1,4 +1,4 @@
--- What the code before and behind the loop of chunks does.
+-- What the code before and after the loop of chunks does.
 use Rattle.std.specs.Prelude.{◌≡◌, ℕ, ◌+◌, ◌*◌, ◌≤◌, ℤ, List, length, slice_index}
 use Rattle.guest_types.specs.Memory.{Memory}
 use Rattle.kernel_tree.specs.Plain.{Program}
@@ -41,7 +41,7 @@ pub record Folds (R : ℕ → ℕ) (g : Ground) (i : ℕ) (cur : Names) (m : Mem
   pub goes : Goes d code s rest end most
   pub at : AtIteration R g.kernel i cur m end
 
--- The code behind the loop, from a state before a pass.
+-- The code after the loop, from a state before a pass.
 abbrev pub FoldRuns : Type 0
 FoldRuns =
     (g : Ground) (c : Assignment) (i : ℕ) (cur : Names) (m : Memory) (sum : List ℕ → ℕ → ℤ) (d : Laid) (rest : List Entry) (s : State) → IsGround g → FitsKernel g.kernel X c → AreRanged (var_scope g.kernel).visible g.names

@@ -7,11 +7,11 @@ ghost use Rattle.kernel_tree.specs.Plain.{accumulators_of};
 ghost use Rattle.reg_assign.specs.Registers.{IsAssignment};
 ghost use Rattle.loop_form.specs.Lanes as lanes;
 ghost use Rattle.loop_form.specs.Needs.{updates};
-ghost use Rattle.loop_form.specs.Seen.{content_of, seen};
+ghost use Rattle.loop_form.specs.View.{content_of, seen};
 ghost use Rattle.chunk_emit.specs.KernelLayout.{operator_in, operator_of};
 
 use kernel_tree::{Ty, UpdateOp, Var};
-use loop_form::held::is_update_of;
+use loop_form::held_throughout::is_update_of;
 use loop_form::{Content, Entry};
 use reg_assign::Assigned;
 use sve_code::VectorReg;

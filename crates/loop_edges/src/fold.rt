@@ -1,4 +1,4 @@
-//! Emits the code behind the loop of chunks.
+//! Emits the code after the loop of chunks.
 
 ghost use Rattle.std.specs.Prelude.{◌≡◌, ◌≤◌, length, OnOk};
 ghost use Rattle.reg_assign.specs.declared.interval.RegClass.TheVariants as class;
@@ -7,11 +7,11 @@ ghost use Rattle.loop_form.specs.Entries as plain;
 ghost use Rattle.loop_form.specs.HeldView.{view_of, view};
 ghost use Rattle.loop_form.specs.Lanes as lanes;
 ghost use Rattle.loop_form.specs.Registers.{FitsKernel};
-ghost use Rattle.loop_form.specs.Seen.{program, seen};
+ghost use Rattle.loop_form.specs.View.{program, seen};
 ghost use Rattle.scalar_emit.specs.Drafts.{Appends};
 ghost use Rattle.scalar_emit.specs.Kernel as kernels;
 ghost use Rattle.scalar_emit.specs.Kernel.{register_in};
-ghost use Rattle.scalar_emit.specs.Views.{homes_of};
+ghost use Rattle.scalar_emit.specs.View.{homes_of};
 ghost use Rattle.loop_edges.specs.EdgeCode as code;
 
 use crate::accumulators::{counted_vector, first_operator, type_of};
@@ -23,7 +23,7 @@ use loop_form::laws::ordered_intervals;
 use loop_form::{Entry, Held, intervals, lane_width, loop_entries, throughout};
 use reductions::reduce_word;
 use reg_assign::{Assigned, RegClass, VectorRegs};
-use scalar_emit::{Home, emit_binary, extending, kernel_homes, register_named, update_operator};
+use scalar_emit::{Home, emit_binary, emit_settle, kernel_homes, register_named, update_operator};
 use std::alloc::{AllocError, Global};
 use sve_code::VectorReg;
 use word_rows::Bits;
@@ -47,13 +47,13 @@ fn emit_join(
         rd: value,
         vn: reduced,
     }))?;
-    draft.put(extending(ty, value, value))?;
+    emit_settle(draft, true, ty, value)?;
     emit_binary(draft, update_operator(op), ty, x, x, value)?;
     Ok(())
 }
 
 // A value that is held throughout, in its vector register: an accumulator is joined.
-#[tactic(auto, unfolding(loop_form::specs::Seen::program))]
+#[tactic(auto, unfolding(loop_form::specs::View::program))]
 fn emit_one(
     draft: &mut Draft,
     kernel: &Checked,
@@ -110,9 +110,9 @@ fn emit_values(
     Ok(())
 }
 
-/// The code behind the loop of chunks: the elements of each accumulator that the loop updates, joined together and then
+/// The code after the loop of chunks: the elements of each accumulator that the loop updates, joined together and then
 /// with its general register.
-#[tactic(auto, unfolding(loop_form::specs::Seen::program))]
+#[tactic(auto, unfolding(loop_form::specs::View::program))]
 pub fn emit_fold(
     alloc: Global,
     draft: &mut Draft,

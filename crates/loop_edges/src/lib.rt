@@ -1,4 +1,4 @@
-//! The code before and behind the loop of chunks.
+//! The code before and after the loop of chunks.
 #![tactic(auto)]
 
 mod accumulators;
@@ -16,7 +16,7 @@ pub fn start_runs()
     ensures { StartRuns }
 {}
 
-/// The code behind the loop joins the elements of each accumulator that the loop updates with its general register: it
+/// The code after the loop joins the elements of each accumulator that the loop updates with its general register: it
 /// leads to the state before an iteration of the scalar loop, with the names as the passes left them. It takes at most
 /// six words a value.
 pub fn fold_runs()

@@ -10,9 +10,9 @@ ghost use Rattle.loop_form.specs.Entries as plain;
 ghost use Rattle.loop_form.specs.HeldView.{view_of, view};
 ghost use Rattle.loop_form.specs.Lanes as lanes;
 ghost use Rattle.loop_form.specs.Registers.{FitsKernel};
-ghost use Rattle.loop_form.specs.Seen.{program, seen};
+ghost use Rattle.loop_form.specs.View.{program, seen};
 ghost use Rattle.loop_form.specs.Streams.{place_of};
-ghost use Rattle.label_fix.specs.Draft.{word_seen};
+ghost use Rattle.label_fix.specs.Draft.{word_view};
 ghost use Rattle.lane_emit.specs.Stretch.{word};
 ghost use Rattle.lane_emit.specs.LaneCode.{size_of};
 ghost use Rattle.reductions.specs.Joins as joins;
@@ -22,15 +22,15 @@ ghost use Rattle.loop_edges.specs.EdgeCode as code;
 use crate::accumulators::{counted_vector, first_operator, type_of};
 use a64_code::Reg;
 use guest_types::length::Width;
+use kernel_meaning::{greatest, least, word, wrapped};
 use kernel_tree::{Checked, Param, Ty, UpdateOp};
 use label_fix::{Draft, Word};
-use lane_emit::{greatest, least};
 use loop_form::laws::ordered_intervals;
 use loop_form::{Entry, Held, intervals, lane_width, loop_entries, throughout};
 use reductions::start_word;
 use reg_assign::{Assigned, RegClass, VectorRegs};
+use scalar_emit::emit_const;
 use scalar_emit::laws::few_params;
-use scalar_emit::{emit_const, word, wrapped};
 use std::alloc::{AllocError, Global};
 use sve_code::{Size, Sve, VectorReg};
 use word_rows::Bits;
@@ -68,7 +68,7 @@ fn register_of(params: &[Param], name: &str) -> Reg
 
 // A general register in all elements of a vector register.
 fn spread(width: Width, z: VectorReg, x: Reg) -> Word
-    ensures { word_seen result ≡ Vector (word dup (z.number ∷ x.number ∷ size_of width ∷ [])) }
+    ensures { word_view result ≡ Vector (word dup (z.number ∷ x.number ∷ size_of width ∷ [])) }
 {
     Word::V(start_word(width, z, x))
 }
@@ -85,7 +85,7 @@ fn emit_number(draft: &mut Draft, width: Width, z: VectorReg, value: u64) -> Res
 }
 
 // A value that is held throughout, in its vector register.
-#[tactic(auto, unfolding(loop_form::specs::Seen::program))]
+#[tactic(auto, unfolding(loop_form::specs::View::program))]
 fn emit_value(
     draft: &mut Draft,
     kernel: &Checked,
@@ -151,7 +151,7 @@ fn emit_values(
 }
 
 /// The code before the loop of chunks: PTRUE of P1, and each value that is held throughout in all elements of its register.
-#[tactic(auto, unfolding(loop_form::specs::Seen::program))]
+#[tactic(auto, unfolding(loop_form::specs::View::program))]
 pub fn emit_start(
     alloc: Global,
     draft: &mut Draft,

@@ -4,7 +4,7 @@ ghost use Rattle.std.specs.Prelude.{◌≡◌, ◌<◌, ◌+◌, List, ◌∷◌
 ghost use Rattle.std.specs.List.{list_any};
 ghost use Rattle.label_fix.specs.DraftRun as plain;
 ghost use Rattle.dependence.specs.Apart.{is_stored, used_of};
-ghost use Rattle.loop_form.specs.Seen.{program};
+ghost use Rattle.loop_form.specs.View.{program};
 ghost use Rattle.overlap_guard.specs.Guard as guard;
 ghost use Rattle.overlap_guard.specs.Guard.{AreFit};
 

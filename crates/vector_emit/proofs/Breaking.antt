@@ -81,7 +81,7 @@ module _ (g : Ground) (ground : IsGround g) (quits : list_any is_quit (items_of 
         by_reason (faults h) = pays_last some (inr (inr h))
         by_reason (suppressed lt) = pays_cut (omega (arith, lt, more))
 
-    -- ---- behind a chunk of which no lane came through
+    -- ---- after a chunk of which no lane came through
 
     module _ (i : ℕ) (cur : Names) (m : Memory) (s : State) (ih : (sum : List ℕ → ℕ → ℤ) (names : Names) (now : Memory) (t : State) → AtHead g (i + 1) names now sum t → Runs (i + 1) names now t) where
       by_turn : {cut : ℕ} {t : State} → i < limit g → Longer d head s alone t (chunk_most + 4) cut → LeftOut (iterate (var_scope g.kernel) g.turns i m cur) cut → Passes (λ turn cut. Breaks turn) g 1 i cur m d alone t after_turn turn_most → Runs i cur m s

@@ -7,7 +7,6 @@ use Rattle.a64_code.specs.Table.{subs}
 use Rattle.machine_model.specs.InstructionTable.{Listed}
 use Rattle.kernel_tree.specs.declared.ops.Ty.{Ty}
 use Rattle.kernel_tree.specs.declared.ops.UpdateOp.{UpdateOp}
-use Rattle.kernel_tree.specs.declared.ops.UpdateOp.TheVariants as update
 use Rattle.kernel_tree.specs.Plain.{Turns, Program}
 use Rattle.kernel_tree.specs.Items.{size_of}
 use Rattle.kernel_meaning.specs.Operators as meaning
@@ -24,7 +23,7 @@ use Rattle.dependence.specs.Apart.{bound_place}
 use Rattle.scalar_emit.specs.Layout.{register_at}
 use Rattle.scalar_emit.specs.Kernel.{kernel_homes}
 use Rattle.scalar_emit.specs.Words.{ins, settle_word, binary_code}
-use Rattle.scalar_emit.proofs.Counts.{one_word, const_words}
+use Rattle.scalar_emit.proofs.Counts.{one_word, operator_words, const_words}
 use Rattle.lane_emit.specs.LaneCode.{dup_code}
 use Rattle.chunk_emit.specs.ChunkCode.{vectors, puts}
 use Rattle.reductions.specs.Joins.{identity}
@@ -59,18 +58,13 @@ holds_few k a j (t ∷ ts) rest = let here = hold_few k (slice_index a.registers
 start_few : (k : Program) (a : Assignment) (rest : List Entry) → size (start_code k a rest) ≤ 1 + 5 * length (throughout k Z) + size rest
 start_few k a rest = let more = holds_few k a 0 (throughout k Z) rest in omega (arith, more)
 
--- ---- behind them
-
-operator_few : (op : UpdateOp) (t : Ty) (x : ℕ) (rest : List Entry) → size (binary_code (operator_of op) t x x 27 rest) ≤ 3 + size rest
-operator_few update.Add t x rest = let w = one_word (settle_word t x) rest (size rest) (omega arith) in omega (arith, w)
-operator_few update.And t x rest = let w = one_word (settle_word t x) rest (size rest) (omega arith) in omega (arith, w)
-operator_few update.Or t x rest = let w = one_word (settle_word t x) rest (size rest) (omega arith) in omega (arith, w)
-operator_few update.Xor t x rest = let w = one_word (settle_word t x) rest (size rest) (omega arith) in omega (arith, w)
-operator_few update.Min t x rest = let w = one_word (settle_word t x) rest (size rest) (omega arith) in omega (arith, w)
-operator_few update.Max t x rest = let w = one_word (settle_word t x) rest (size rest) (omega arith) in omega (arith, w)
+-- ---- after them
 
 join_few : (w : Width) (op : UpdateOp) (t : Ty) (z x : ℕ) (rest : List Entry) → size (join_code w op t z x rest) ≤ 6 + size rest
-join_few w op t z x rest = let more = operator_few op t x rest in omega (arith, more)
+join_few w op t z x rest =
+    let more = operator_words (operator_of op) t x x 27 rest (size rest) (omega arith) in
+    let all = one_word (settle_word true t 27) (binary_code (operator_of op) t x x 27 rest) (3 + size rest) more in
+    omega (arith, all)
 
 fold_few : (R : ℕ → ℕ) (k : Program) (z : ℕ) (t : Throughout) (rest : List Entry) → size (fold_one R k z t rest) ≤ 6 + size rest
 fold_few R k z (Accumulating x) rest = join_few (lane_width_of k) (update_of k x) (type_of_var k x) z (register_at (kernel_homes R k) x) rest

@@ -1,4 +1,4 @@
--- Courses of iterations, one behind another, and what the run is from an iteration on.
+-- Courses of iterations, one after another, and what the run is from an iteration on.
 use Rattle.std.proofs.Common.{◌≡◌, ℕ, zero, suc, ◌+◌, ◌-◌, ◌<◌, ◌≤◌, inl, inr, Option, Some, refl, sym, ap, ap₂, ◌∙◌, subst, arith, ⊎_elim}
 use Rattle.std.specs.Prelude.{pos, ◌⊎◌}
 use Rattle.std.proofs.lemmas.Bool.{cases_lt}
@@ -12,7 +12,7 @@ use Rattle.scalar_emit.specs.Runs.{turns_from}
 use Rattle.scalar_emit.proofs.Initial.{IsThere}
 use Rattle.chunk_loop.specs.Halts.{Breaks, Faults}
 
--- ---- one behind another
+-- ---- one after another
 
 pub course_on : (s : Scope) (l : Turns) (a b i : ℕ) (m : Memory) (ns : Names) (now : Memory) (names : Names) → course s l a i m ns ≡ Going now names → course s l (a + b) i m ns ≡ course s l b (i + a) now names
 unfolding course
@@ -34,7 +34,7 @@ course_on s l (suc a) b i m ns now names h =
     by_turn (Broke m2 ns2) g more = absurd cc
     by_turn (Faulted m2) g more = absurd cc
 
--- iterations behind a fault are none
+-- iterations after a fault are none
 pub fails_on : (s : Scope) (l : Turns) (a b i : ℕ) (m : Memory) (ns : Names) (now : Memory) (j : ℕ) → course s l a i m ns ≡ Failed now j → course s l (a + b) i m ns ≡ Failed now j
 unfolding course
 fails_on s l zero b i m ns now j h = let g : Going m ns ≡ Failed now j = h in absurd cc

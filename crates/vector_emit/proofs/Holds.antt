@@ -13,5 +13,5 @@ held_still L p [] [] s t steady safe nine same h = tt
 held_still L p [] (n ∷ ns) s t steady safe nine same h = absurd h
 held_still L p (x ∷ hs) [] s t steady safe nine same h = absurd h
 held_still L p (x ∷ hs) (n ∷ ns) s t steady safe nine same h =
-    let lasts : Lasts x.until p = subst (λ u. Lasts u p) (sym steady.0) tt in
+    let lasts : Lasts x.last_use p = subst (λ u. Lasts u p) (sym steady.0) tt in
     (h.0, same x.register (safe.0.high lasts) (nine.0 lasts) ∙ h.1, held_still L p hs ns s t steady.1 safe.1 nine.1 same h.2)

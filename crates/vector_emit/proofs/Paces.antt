@@ -75,7 +75,7 @@ pays {lanes = L} {k = k} {i = i} {j = j} {r = r} q P (by_last some at) few =
     subst (λ j. L * (1 + P) + i < j + 3 * L + 2 * (L * (r + q))) (sym at) (pay_last L i k q r P some (subst (λ j. L * P + (i + k) < j + 3 * L + 2 * (L * q)) at few))
 pays {lanes = L} {k = k} {i = i} {j = j} {r = r} q P (by_one some is) few = pay_one L i j q r P some (subst (λ k. L * P + (i + k) < j + 3 * L + 2 * (L * q)) is few)
 
--- more passes behind these
+-- more passes after these
 pub spends_on : {lanes unit i j k r a count n q t : ℕ} → count ≤ unit * a → Paid lanes k i j r a → r + q ≤ t → Spends lanes unit (i + k) j n q → Spends lanes unit i j (count + n) t
 spends_on {lanes = L} {unit = unit} {i = i} {j = j} {r = r} {a = a} {q = q} {t = t} within paid le s =
     let more = pays q s.passes paid s.few in
@@ -85,7 +85,7 @@ spends_on {lanes = L} {unit = unit} {i = i} {j = j} {r = r} {a = a} {q = q} {t =
 
 -- ---- the whole
 
--- a words before the passes, n of the passes and k behind them
+-- a words before the passes, n of the passes and k after them
 pub in_all : (L U size j bg a n k q r : ℕ) → 0 < L → j ≤ bg → a ≤ 3 + 5 * size → k ≤ 6 * size + 1 + 2 * U → q ≤ r → Spends L U 0 j n q → L * (a + n + k) < L * (100 + 24 * size) + U * (bg + 5 * L) + 2 * (L * U) * r
 in_all L U size j bg a n k q r some le before behind more s =
     let w = s.within in

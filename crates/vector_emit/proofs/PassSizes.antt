@@ -14,7 +14,9 @@ use Rattle.chunk_emit.proofs.Counts.{few_words}
 use Rattle.dependence.specs.Apart.{bound_place}
 use Rattle.first_fault.specs.RegionCode.{exits_words, single_words}
 use Rattle.first_fault.specs.Split.{is_quit, region_of, rest_of}
+use Rattle.first_fault.specs.SplitBreaks.{split_breaks}
 use Rattle.first_fault.proofs.Counts.{always_few}
+use Rattle.first_fault.proofs.SplitCode.{steps_few}
 use Rattle.chunk_loop.specs.Chunks.{items_of}
 use Rattle.chunk_loop.specs.PassCode.{first_lane_words, index_words, advance_word, chunk_words, turn_words, plain_words}
 use Rattle.vector_emit.specs.VectorRuns.{turn_steps}
@@ -35,30 +37,32 @@ index_few l = by_held (l.held Turn)
     by_held true = omega arith
     by_held false = omega arith
 
--- the last word, behind the items
+-- the last word, after the items
 items_end : (w : Width) (l : Layout) (items : List Item) → length (items_words w l items ++ advance_word w ∷ []) ≤ 3 * length items + 1
 items_end w l items = let a = length-append (items_words w l items) (advance_word w ∷ []) in let few = few_words w l items in omega (arith, a, few)
 
 pub chunk_few : (w : Width) (l : Layout) (n : ℕ) (items : List Item) → length (chunk_words w l n items) ≤ 4 + 5 * length items
 chunk_few w l n items =
     let tail = items_words w l (rest_of items) ++ advance_word w ∷ [] in
-    let a = length-append (index_words l) (exits_words w l (region_of items) ++ tail) in
-    let b = length-append (exits_words w l (region_of items)) tail in
+    let a = length-append (index_words l) (exits_words w l (split_breaks l (region_of items)) ++ tail) in
+    let b = length-append (exits_words w l (split_breaks l (region_of items))) tail in
     let x = index_few l in
-    let y = (always_few w l (region_of items)).exits in
+    let y = (always_few w l (split_breaks l (region_of items))).exits in
+    let fewer = steps_few l (region_of items) in
     let z = items_end w l (rest_of items) in
     let all = parts items in
-    omega (arith, a, b, x, y, z, all)
+    omega (arith, a, b, x, y, fewer, z, all)
 
 pub turn_few : (w : Width) (l : Layout) (items : List Item) → length (turn_words w l items) ≤ 3 + 4 * length items
 turn_few w l items =
     let tail = items_words w l (rest_of items) ++ advance_word w ∷ [] in
-    let a = length-append (first_lane_words w) (single_words w l (region_of items) ++ tail) in
-    let b = length-append (single_words w l (region_of items)) tail in
-    let y = (always_few w l (region_of items)).single in
+    let a = length-append (first_lane_words w) (single_words w l (split_breaks l (region_of items)) ++ tail) in
+    let b = length-append (single_words w l (split_breaks l (region_of items))) tail in
+    let y = (always_few w l (split_breaks l (region_of items))).single in
+    let fewer = steps_few l (region_of items) in
     let z = items_end w l (rest_of items) in
     let all = parts items in
-    omega (arith, a, b, y, z, all)
+    omega (arith, a, b, y, fewer, z, all)
 
 pub plain_few : (w : Width) (l : Layout) (items : List Item) → length (plain_words w l items) ≤ 2 + 3 * length items
 plain_few w l items =
@@ -67,7 +71,7 @@ plain_few w l items =
     let z = items_end w l items in
     omega (arith, a, x, z)
 
--- a pass with the tests behind it
+-- a pass with the tests after it
 pub chunk_fits : (g : Ground) → IsGround g → length (chunk_words (width g) (layout g) (bound_place g.kernel) (items_of g)) + 4 ≤ turn_steps g
 chunk_fits g ground = let few = chunk_few (width g) (layout g) (bound_place g.kernel) (items_of g) in let items = few_items g.kernel g.turns ground.loops in omega (arith, few, items)
 

@@ -19,7 +19,7 @@ use Rattle.chunk_loop.specs.Halts.{Breaks}
 use Rattle.vector_emit.proofs.Courses.{course_on, Halts, none_gone, fails_here, nothing}
 use Rattle.vector_emit.proofs.Paces.{Spends, in_two, Paid, by_lanes, by_cut, by_last, by_one, spends_on}
 
--- A loop of the language as passes do it: its bound, the lanes of a chunk, the words of a pass at most, and the entries behind
+-- A loop of the language as passes do it: its bound, the lanes of a chunk, the words of a pass at most, and the entries after
 -- the passes. `Head` holds of a state before a pass, `Ends` of a stop: the iteration that faults, and the memory that was left
 -- and that of the scalar loop.
 pub record Rounds : Type 1 where
@@ -37,7 +37,7 @@ pub record Rounds : Type 1 where
 abbrev pub Late : Rounds → ℕ → Memory → Names → Type 0
 Late w j m ns = (j ≡ w.limit) ⊎ Breaks (iterate w.scope w.turns j m ns)
 
--- From a state before iteration i: the passes lead behind the loop, before an iteration at which it ends; or they stop, where
+-- From a state before iteration i: the passes lead after the loop, before an iteration at which it ends; or they stop, where
 -- an iteration faults.
 pub data Passing (w : Rounds) (c : List Entry) (s : State) (i : ℕ) (cur : Names) (m : Memory) : Type 0 where
   leaves : (k j : ℕ) (now : Memory) (names : Names) (end : State) (count : ℕ) → j ≡ i + k → j ≤ w.limit → course w.scope w.turns k i m cur ≡ Going now names → Late w j now names → w.Head j names now end
@@ -76,7 +76,7 @@ module _ (w : Rounds) (some : 0 < w.lanes) where
   paid (pays_last lt h) at = by_last lt (at h)
   paid (pays_one cut e) at = by_one cut e
 
-  -- in passes that lead on, and behind them
+  -- in passes that lead on, and after them
   inner : {c e : List Entry} {s t : State} {i a most : ℕ} (leads : Leads w.draft c s e t most) → most ≤ w.unit * a → a ≤ 2 → (j n : ℕ) → i ≤ j → n ≤ leads.count → Spends w.lanes w.unit i j n (cuts w.draft n c s)
   inner {c = c} {s = s} {i = i} leads few small j n lo le =
       in_two w.lanes w.unit i j n (cuts w.draft n c s) some lo (let f = leads.within in let up : _ ≤ w.unit * 2 = mul-le-mul_left w.unit small in omega (arith, le, few, f, up))

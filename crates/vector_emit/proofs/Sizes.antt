@@ -24,7 +24,7 @@ record TermFew (t : Term) : Type 0 where
   as_value : (s : Scope) (want : Option Ty) (mask : Option ℕ) (b : ℕ) (env : List Bound) (rest : List Item) → length (term_items s want mask b env t rest) ≤ term_size s.index t + length rest
   as_cond : (s : Scope) (mask : Option ℕ) (b : ℕ) (env : List Bound) (rest : List Item) → length (cond_items s mask b env t rest) ≤ term_size s.index t + length rest
 
--- one item, behind another expression's
+-- one item, after another expression's
 behind_one : (n m k : ℕ) → n ≤ m + suc k → n ≤ m + 1 + k
 behind_one n m k h = omega (arith, h)
 

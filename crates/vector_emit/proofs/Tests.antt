@@ -77,7 +77,7 @@ pub record Tests (g : Ground) (i : ℕ) (cur : Names) (m : Memory) (sum : List �
   pub z : end.z ≡ s.z
   pub p : p_at end 0 ≡ p_at s 0
 
--- a branch, behind a word that leads to the state t
+-- a branch, after a word that leads to the state t
 pub record Branched (g : Ground) (i : ℕ) (cur : Names) (m : Memory) (sum : List ℕ → ℕ → ℤ) (d : Laid) (c : List Entry) (t : State) (e : List Entry) : Type 0 where
   pub end : State
   pub goes : Goes d c t e end 1

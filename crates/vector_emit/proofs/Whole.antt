@@ -79,7 +79,7 @@ module _ (L U size : ℕ) (some : 0 < L) {d : Laid} {c e : List Entry} {s t : St
       let e : n + 0 + 0 ≡ n = omega arith in
       subst (λ k. L * k < L * (100 + 24 * size) + U * (bg + 5 * L) + 2 * (L * U) * cuts d n c s) e h
 
-  -- k words behind n words of the passes
+  -- k words after n words of the passes
   late : (bg j n k : ℕ) → j ≤ bg → k ≤ 6 * size + 1 + 2 * U → Spends L U 0 j n (cuts d n e t) → InPace bg (before.count + (n + k))
   late bg j n k le behind spent =
       let f = before.within in
@@ -143,7 +143,7 @@ module _ (g : Ground) (c : Assignment) (d : Laid) (scalar n : ℕ) (rest : List 
       held_still (layout_of_kernel R g.kernel) (loop_start g.kernel) (kernel_homes R g.kernel) g.names s t k.steady (k.safe (loop_start g.kernel)) l.nine (λ r le ne. h.head.x r le ne ∙ sym (x r le)) at.held
 
   module _ {head : List Entry} {start : State} {most : ℕ} (before : Goes d code s head start most) (few : most ≤ 3 + 5 * size_of g.kernel) where
-    -- behind the passes: the fold, and scalar code from iteration j on
+    -- after the passes: the fold, and scalar code from iteration j on
     record Behind (j : ℕ) (now : Memory) (names : Names) (end : State) : Type 0 where
       memory : Memory
       result : ℕ

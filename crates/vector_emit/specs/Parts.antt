@@ -1,4 +1,4 @@
--- The parts of the passes, by the labels before a pass and behind the loop.
+-- The parts of the passes, by the labels before a pass and after the loop.
 use Rattle.std.specs.Prelude.{ℕ, List, [], ◌∷◌}
 use Rattle.guest_types.specs.declared.length.Width.{Width}
 use Rattle.a64_code.specs.Table.{subs}

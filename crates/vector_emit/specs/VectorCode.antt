@@ -23,7 +23,7 @@ use Rattle.loop_edges.specs.EdgeCode.{start_code, fold_code}
 abbrev pub any_lane : Listed
 any_lane = Vector (word ptest (0 ∷ 0 ∷ []))
 
--- with a break; label n stands before a chunk, and the next one behind the loop
+-- with a break; label n stands before a chunk, and the next one after the loop
 abbrev pub breaking_code : Program → (a b : Assignment) → List Item → (n : ℕ) → List Entry → List Entry
 breaking_code k a b items n rest =
     Place n ∷ puts (chunk_words (lane_width_of k) (layout_of_loop k a b) (bound_place k) items)
@@ -45,6 +45,6 @@ passes_by false k a b items n rest = straight_code k a b items n rest
 abbrev pub passes_code : Program → (a b : Assignment) → (n : ℕ) → List Entry → List Entry
 passes_code k a b n rest = passes_by (list_any is_quit (loop_items_of k)) k a b (loop_items_of k) n rest
 
--- the vector code of a loop, from label n on; behind it the scalar code goes on at a label of its own
+-- the vector code of a loop, from label n on; after it the scalar code goes on at a label of its own
 abbrev pub vector_code : (ℕ → ℕ) → Program → (a b : Assignment) → (scalar n : ℕ) → List Entry → List Entry
 vector_code R k a b scalar n rest = start_code k a (passes_code k a b n (fold_code R k a (Branch Always scalar ∷ rest)))

@@ -26,7 +26,7 @@ pub record Near (g : Ground) (bg : ℕ) (left faulted : Memory) : Type 0 where
   pub few : k ≤ most_lanes g
   pub within : i + k ≤ limit g
   pub from : i < bg
-  pub until : bg ≤ i + k
+  pub last_use : bg ≤ i + k
   pub kept : (z : ℕ) → z < 2 ^ 64 → Elsewhere g.kernel g.args i k z → byte_at left z ≡ byte_at faulted z
 
 -- Where the scalar loop ends, the code does with its memory and result; where it faults, the code stops at a read or a write.
@@ -39,11 +39,11 @@ pub data Follows (g : Ground) (d : Laid) (c : List Entry) (s : State) (scale uni
 abbrev pub turn_steps : Ground → ℕ
 turn_steps g = 32 + 8 * size_of g.kernel
 
--- L times the steps of the passes over so many iterations, L the lanes of a chunk, and of what stands before and behind them
+-- L times the steps of the passes over so many iterations, L the lanes of a chunk, and of what stands before and after them
 abbrev pub vector_base : Ground → ℕ → ℕ
 vector_base g bg = most_lanes g * (100 + 24 * size_of g.kernel) + turn_steps g * (bg + 5 * most_lanes g)
 
--- scalar code stands behind the label: entered before an iteration, it does what the scalar loop does from there on
+-- scalar code stands after the label: entered before an iteration, it does what the scalar loop does from there on
 abbrev pub ReachesScalar : Ground → Assignment → Laid → (scalar : ℕ) → Type 0
 ReachesScalar g c d scalar =
     (i : ℕ) (names : Names) (m : Memory) (s : State) → IsWithin g.kernel.turns i names → AtIteration (register_in c) g.kernel i names m s

@@ -2,7 +2,7 @@
 
 ghost use Rattle.std.specs.Prelude.{◌≡◌, ◌≤◌, ◌<◌, length, unwrap_or};
 ghost use Rattle.kernel_tree.specs.Plain.{parameters_of};
-ghost use Rattle.loop_form.specs.Seen.{program};
+ghost use Rattle.loop_form.specs.View.{program};
 ghost use Rattle.loop_form.specs.Streams.{place_of};
 ghost use Rattle.dependence.specs.Apart.{bound_place};
 
@@ -27,7 +27,7 @@ fn register_of(params: &[Param], name: &str) -> Reg
 }
 
 /// The general register of the loop's bound.
-#[tactic(auto, unfolding(loop_form::specs::Seen::program))]
+#[tactic(auto, unfolding(loop_form::specs::View::program))]
 pub fn bound(kernel: &Checked) -> Reg
     ensures { result.number ≡ bound_place (program kernel.now) }
 {

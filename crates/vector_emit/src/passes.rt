@@ -4,11 +4,11 @@ ghost use Rattle.std.specs.Prelude.{◌≡◌, ◌+◌, ◌<◌, suc, [], ◌∷
 ghost use Rattle.std.specs.List.{list_any};
 ghost use Rattle.a64_code.specs.Table.{subs};
 ghost use Rattle.reg_assign.specs.declared.interval.RegClass.TheVariants as class;
-ghost use Rattle.label_fix.specs.Draft.{word_seen};
+ghost use Rattle.label_fix.specs.Draft.{word_view};
 ghost use Rattle.label_fix.specs.DraftRun as plain;
 ghost use Rattle.loop_form.specs.LoopView.{view};
 ghost use Rattle.loop_form.specs.Registers.{FitsKernel};
-ghost use Rattle.loop_form.specs.Seen.{program};
+ghost use Rattle.loop_form.specs.View.{program};
 ghost use Rattle.dependence.specs.Apart.{bound_place};
 ghost use Rattle.dependence.specs.Classes.{class_of};
 ghost use Rattle.dependence.specs.declared.reason.Class.TheVariants.{Vector};
@@ -36,7 +36,7 @@ use word_rows::Bits;
 
 // Z is clear where a lane came through.
 fn any_lane() -> Word
-    ensures { word_seen result ≡ code.any_lane }
+    ensures { word_view result ≡ code.any_lane }
 {
     Word::V(Sve::Ptest {
         pn: Bits { number: 0 },
@@ -46,7 +46,7 @@ fn any_lane() -> Word
 
 // The comparison of the iteration with the bound.
 fn compare(bound: Reg) -> Word
-    ensures { plain.Put (word_seen result) ≡ ins subs (31 ∷ 9 ∷ 0 ∷ bound.number ∷ 0 ∷ []) }
+    ensures { plain.Put (word_view result) ≡ ins subs (31 ∷ 9 ∷ 0 ∷ bound.number ∷ 0 ∷ []) }
 {
     Word::A(A64::AddSubShifted {
         op: AddSubOp::Subs,
@@ -206,7 +206,7 @@ fn emit_by(
     }
 }
 
-/// The passes of a kernel's loop, with two labels: before a pass, and behind the loop.
+/// The passes of a kernel's loop, with two labels: before a pass, and after the loop.
 pub fn emit_passes(
     alloc: Global,
     kernel: &Checked,

@@ -4,7 +4,7 @@ ghost use Rattle.std.specs.Prelude.{◌≡◌, ◌+◌, ◌*◌, ◌<◌, OnOk};
 ghost use Rattle.kernel_tree.specs.Items.{size_of};
 ghost use Rattle.reg_assign.specs.declared.interval.RegClass.TheVariants as class;
 ghost use Rattle.loop_form.specs.Registers.{FitsKernel};
-ghost use Rattle.loop_form.specs.Seen.{program};
+ghost use Rattle.loop_form.specs.View.{program};
 ghost use Rattle.dependence.specs.Classes.{class_of};
 ghost use Rattle.dependence.specs.declared.reason.Class.TheVariants.{Vector};
 ghost use Rattle.scalar_emit.specs.Drafts.{Appends, AppendsWords};
@@ -18,7 +18,7 @@ use loop_edges::{emit_fold, emit_start};
 use reg_assign::VectorRegs;
 use std::alloc::{AllocError, Global};
 
-/// The vector code of a kernel's loop: what stands before it, its passes, what stands behind it, and a branch to scalar code
+/// The vector code of a kernel's loop: what stands before it, its passes, what stands after it, and a branch to scalar code
 /// at a label.
 pub fn emit_vector(
     alloc: Global,

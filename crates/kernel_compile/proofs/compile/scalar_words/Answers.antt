@@ -1,5 +1,5 @@
 use Rattle.std.proofs.Common.{◌≡◌, false, refl}
-use Rattle.loop_form.specs.Seen.{program}
+use Rattle.loop_form.specs.View.{program}
 use Rattle.machine_model.specs.Written.{file_of}
 use Rattle.dependence.specs.Bound.{is_vector}
 use Rattle.dependence.specs.Classes.{class_of}

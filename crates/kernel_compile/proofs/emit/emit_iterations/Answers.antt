@@ -1,5 +1,5 @@
 use Rattle.std.proofs.Common.{◌<◌, ◌^◌, All, length, ap, subst, arith}
-use Rattle.loop_form.specs.Seen.{program}
+use Rattle.loop_form.specs.View.{program}
 use Rattle.label_fix.specs.Finished.{size}
 use Rattle.label_fix.proofs.Same.{words_length}
 use Rattle.scalar_emit.specs.Kernel.{register_in}

@@ -1,6 +1,6 @@
 use Rattle.std.proofs.Common.{◌<◌, ◌^◌, length, sym, ◌∙◌, subst}
 use Rattle.reg_assign.specs.Intervals.{Ascend}
-use Rattle.loop_form.specs.Seen.{program}
+use Rattle.loop_form.specs.View.{program}
 use Rattle.kernel_compile.proofs.registers.class_registers.Goals as goal
 
 pub assign-requires-clause-few : goal.assign-requires-clause-few

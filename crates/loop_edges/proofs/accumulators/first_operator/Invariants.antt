@@ -1,7 +1,7 @@
 use Rattle.std.proofs.Common.{◌≡◌, drop}
 use Rattle.std.specs.List.{find}
 use Rattle.loop_form.specs.Needs.{updates}
-use Rattle.loop_form.specs.Seen.{seen}
+use Rattle.loop_form.specs.View.{seen}
 use Rattle.chunk_emit.specs.KernelLayout.{operator_of}
 use Rattle.loop_edges.proofs.accumulators.first_operator.Given as goal
 

@@ -1,6 +1,6 @@
 use Rattle.std.proofs.Common.{◌+◌, ◌++◌, drop, ap, ◌∙◌}
 use Rattle.loop_form.specs.HeldView.{view}
-use Rattle.loop_form.specs.Seen.{program}
+use Rattle.loop_form.specs.View.{program}
 use Rattle.loop_edges.specs.EdgeCode.{holds_code}
 use Rattle.loop_edges.proofs.StartEmits.{next_value}
 use Rattle.loop_edges.proofs.start.emit_values.Goals as goal

@@ -2,7 +2,7 @@ use Rattle.std.proofs.Common.{◌<◌, ◌^◌, List, length, sym, ◌∙◌, su
 use Rattle.reg_assign.specs.declared.interval.Interval.{Interval}
 use Rattle.reg_assign.specs.Intervals.{Ascend}
 use Rattle.reg_assign.specs.Registers.{IsAssignment}
-use Rattle.loop_form.specs.Seen.{program}
+use Rattle.loop_form.specs.View.{program}
 use Rattle.vector_emit.proofs.listings.registers_of.Goals as goal
 
 pub assign-requires-clause-few : goal.assign-requires-clause-few

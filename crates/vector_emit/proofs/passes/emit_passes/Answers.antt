@@ -5,7 +5,7 @@ use Rattle.reg_assign.specs.declared.assigned.VectorRegs.{VectorRegs}
 use Rattle.loop_form.specs.Lanes.{lane_width_of}
 use Rattle.loop_form.specs.LoopItems.{loop_items_of}
 use Rattle.loop_form.specs.LoopView.{view}
-use Rattle.loop_form.specs.Seen.{program}
+use Rattle.loop_form.specs.View.{program}
 use Rattle.lane_emit.specs.RegistersView.{vectors_in, predicates_in}
 use Rattle.chunk_emit.specs.Writable.{AreWritable}
 use Rattle.first_fault.specs.Split.{is_quit, region_of, rest_of}

@@ -1,5 +1,5 @@
 use Rattle.std.proofs.Common.{[], ◌∙◌}
-use Rattle.loop_form.specs.Seen.{program}
+use Rattle.loop_form.specs.View.{program}
 use Rattle.scalar_emit.specs.Kernel.{register_in}
 use Rattle.vector_emit.proofs.CodeSizes.{appended_few}
 use Rattle.vector_emit.proofs.vector.emit_vector.Goals as goal
