@@ -19,13 +19,13 @@ const AXPY: &str =
 
 const SPREAD: &str = "kernel spread(a: [u8], n: u64) { for i in 0..n { a[i + 1] = a[i]; } }";
 
-fn item(kind: ItemKind, ty: Option<Ty>, until: Option<u32>) -> Item {
+fn item(kind: ItemKind, ty: Option<Ty>, last_use: Option<u32>) -> Item {
     Item {
         kind,
         ty,
-        x_until: until,
-        z_until: until,
-        p_until: None,
+        x_last_use: last_use,
+        z_last_use: last_use,
+        p_last_use: None,
     }
 }
 
@@ -66,8 +66,8 @@ fn accesses_in_their_order(rt: HostRuntime) -> Result<(), Fail> {
     Ok(())
 }
 
-fn interval(from: u32, until: u32) -> Interval {
-    Interval { from, until }
+fn interval(from: u32, last_use: u32) -> Interval {
+    Interval { from, last_use }
 }
 
 // k is held throughout, and each value until the item that uses it.

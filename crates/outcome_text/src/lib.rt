@@ -3,7 +3,7 @@
 
 ghost use Rattle.std.specs.Prelude.{◌≡◌, ◌<◌, ◌≤◌, ◌++◌, ◌∷◌, [], codes, decimal, OnOk, IfOk};
 ghost use Rattle.machine_model.specs.OutcomeText.{hex_digit, hex_digits, hex_text, kind_text, line_feed, steps_text};
-ghost use Rattle.outcome_text.specs.Shown.{text_of};
+ghost use Rattle.outcome_text.specs.View.{text_of};
 
 use itoa::Buffer;
 use machine_model::outcome::{Outcome, StopKind};
@@ -82,7 +82,8 @@ fn hex_digit(digit: u8) -> u8
     if digit < 10 { 48 + digit } else { 87 + digit }
 }
 
-fn kind_name(kind: StopKind) -> &'static [u8]
+/// The name of what stopped a run.
+pub fn kind_name(kind: StopKind) -> &'static [u8]
     ensures { result.now ≡ kind_text kind }
 {
     match kind {

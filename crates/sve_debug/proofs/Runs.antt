@@ -1,7 +1,7 @@
--- Steps of a session, and what a debugger holds behind them.
-use Rattle.std.proofs.Common.{◌≡◌, ℕ, zero, suc, ◌+◌, ◌-◌, ◌≤◌, Bool, true, false, List, [], ◌∷◌, ◌++◌, drop, length, Option, Some, None, refl, sym, ap, ◌∙◌, subst, arith, add-one, drop-drop, length-append, length-drop}
+-- Steps of a session, and what a debugger holds after them.
+use Rattle.std.proofs.Common.{◌≡◌, ℕ, zero, suc, ◌+◌, ◌-◌, ◌<◌, ◌≤◌, Bool, true, false, List, [], ◌∷◌, ◌++◌, drop, length, take, set, Option, Some, None, refl, sym, ap, ◌∙◌, subst, arith, add-one, append_assoc, append-nil, drop-drop, length-append, length-drop}
 use Rattle.std.proofs.lemmas.Bool.{cond-true, cond-false}
-use Rattle.std.proofs.lemmas.List.{drop-append-le}
+use Rattle.std.proofs.lemmas.List.{drop-append-le, take_more_set}
 use Rattle.std.specs.Prelude.{IsTrue, is_some, option_map}
 use Rattle.circular_buffer.specs.Buffer.{keep_last}
 use Rattle.machine_model.specs.declared.outcome.Ending.{Ending}
@@ -13,11 +13,12 @@ use Rattle.machine_model.specs.Debugged.{View, ending_by}
 use Rattle.machine_model.specs.Machine.{State}
 use Rattle.machine_model.specs.OneStep.{step}
 use Rattle.sve_debug.specs.Held.{Held, held_by, Stands, came_out}
+use Rattle.sve_debug.specs.Reaches.{Reaches}
 use Rattle.sve_debug.specs.Replies.{Session, started, stepped, steps_to, is_break, left_by, over_by}
 
 -- ---- steps of a session
 
--- no step behind the end or a stop
+-- no step after the end or a stop
 at_end : (stops : List ℕ) (n : ℕ) (d : Session) → is_some d.over ≡ true → steps_to stops n d ≡ d
 unfolding steps_to
 at_end stops zero d h = refl
@@ -114,44 +115,87 @@ stood v w answer breaks last start d none is steps over quiet h =
 
 -- ---- many steps
 
--- some of the steps were done, and what is held stands for a session from which so many are left
-pub record Reaches (held : Held) (start : State) (d : Session) (stops : List ℕ) (most left_over : ℕ) : Type 0 where
-  pub session : Session
-  pub stands : Stands held start session
-  pub same : steps_to stops most d ≡ steps_to stops left_over session
+-- a step from every session that is stood for
+abbrev Steps : (v w : View) (breaks last last' : List ℕ) (start : State) → Type 0
+Steps v w breaks last last' start = (e : Session) → Stands (held_by v breaks last) start e → Stands (held_by w breaks last') start (stepped e)
 
-pub reaches_first : (held : Held) (start : State) (d : Session) (stops : List ℕ) (most : ℕ) → Stands held start d → Reaches held start d stops most (most - 0)
-reaches_first held start d stops most h =
-    let all : most ≡ most - 0 = omega arith in
-    record { session = d; stands = h; same = ap (λ n. steps_to stops n d) all }
+-- what is held already is of the last places
+pub kept_by : (v : View) (breaks last more : List ℕ) (start : State) (d : Session) → more ≡ [] → Stands (held_by v breaks last) start d → Stands (held_by v breaks (keep_last 64 (last ++ more))) start d
+kept_by v breaks last more start d none h =
+    let size = length-drop (length d.places - 64) d.places in
+    let few : length (keep_last 64 d.places) - 64 ≡ 0 = omega (arith, size) in
+    let all : last ++ more ≡ keep_last 64 d.places = ap (λ m. last ++ m) none ∙ append-nil last ∙ h.last in
+    subst (λ l. Stands (held_by v breaks l) start d) (sym (ap (keep_last 64) all ∙ ap (λ n. drop n (keep_last 64 d.places)) few ∙ sym h.last)) h
 
-pub reaches_end : (held : Held) (start : State) (d : Session) (stops : List ℕ) (most k : ℕ) → most ≤ k → Reaches held start d stops most (most - k) → Stands held start (steps_to stops most d)
-reaches_end held start d stops most k h r =
-    let none : most - k ≡ 0 = omega arith in
-    subst (Stands held start) (sym (r.same ∙ ap (λ n. steps_to stops n r.session) none ∙ no_steps stops r.session)) r.stands
+-- a step more, whose place is told behind the others
+pub told : (v w : View) (breaks last recent : List ℕ) (start : State) (k pc : ℕ) → pc ≡ v.state.pc → k < length recent → ((last : List ℕ) (e : Session) → Stands (held_by v breaks last) start e → Stands (held_by w breaks (keep_last 64 (last ++ v.state.pc ∷ []))) start (stepped e)) → Steps v w breaks (keep_last 64 (last ++ take k recent)) (keep_last 64 (last ++ take (k + 1) (set recent k pc))) start
+told v w breaks last recent start k pc is inside next e h =
+    let places : keep_last 64 (keep_last 64 (last ++ take k recent) ++ v.state.pc ∷ []) ≡ keep_last 64 (last ++ take (k + 1) (set recent k pc)) =
+    ap (λ p. keep_last 64 (keep_last 64 (last ++ take k recent) ++ p ∷ [])) (sym is)
+    ∙ keeps 64 (last ++ take k recent) pc
+    ∙ ap (keep_last 64) (append_assoc last (take k recent) (pc ∷ []) ∙ ap (λ m. last ++ m) (sym (take_more_set recent k pc inside))) in
+    subst (λ l. Stands (held_by w breaks l) start (stepped e)) places (next (keep_last 64 (last ++ take k recent)) e h)
 
-pub reaches_over : (v : View) (breaks last : List ℕ) (start : State) (d : Session) (stops : List ℕ) (most k : ℕ) → is_some v.over ≡ true → Reaches (held_by v breaks last) start d stops most k → Stands (held_by v breaks last) start (steps_to stops most d)
-reaches_over v breaks last start d stops most k over r =
-    subst (Stands (held_by v breaks last) start) (sym (r.same ∙ at_end stops k r.session (is_over v breaks last start r.session over r.stands))) r.stands
+pub reaches_first : (held : Held) (start : State) (d : Session) (stops : List ℕ) (n left : ℕ) → left ≡ n → Stands held start d → Reaches held start d stops n left
+reaches_first held start d stops n left all h = record { session = d; stands = h; same = ap (λ k. steps_to stops k d) (sym all) }
 
--- the step that comes to a breakpoint
-pub reaches_break : (v w : View) (breaks last last' : List ℕ) (start : State) (d : Session) (stops : List ℕ) (most k : ℕ) → k + 1 ≤ most → v.over ≡ None → is_break stops w.state.pc ≡ true → ((e : Session) → Stands (held_by v breaks last) start e → Stands (held_by w breaks last') start (stepped e)) → Reaches (held_by v breaks last) start d stops most (most - k) → Stands (held_by w breaks last') start (steps_to stops most d)
-reaches_break v w breaks last last' start d stops most k inside none here next r =
-    let count : most - k ≡ suc (most - (k + 1)) = omega arith in
+pub reaches_end : (held : Held) (start : State) (d : Session) (stops : List ℕ) (n left : ℕ) → left ≡ 0 → Reaches held start d stops n left → Stands held start (steps_to stops n d)
+reaches_end held start d stops n left none r =
+    subst (Stands held start) (sym (r.same ∙ ap (λ k. steps_to stops k r.session) none ∙ no_steps stops r.session)) r.stands
+
+-- some steps, and then others
+pub reaches_on : (held : Held) (start : State) (d : Session) (stops : List ℕ) (n left rest : ℕ) (before : Held) → Reaches before start d stops n left → ((e : Session) → Stands before start e → Reaches held start e stops left rest) → Reaches held start d stops n rest
+reaches_on held start d stops n left rest before r next =
     let after = next r.session r.stands in
-    let pc : is_break stops (stepped r.session).state.pc ≡ true = ap (λ (s : State). is_break stops s.pc) (sym after.state) ∙ here in
-    let same : steps_to stops most d ≡ stepped r.session =
-    r.same ∙ ap (λ n. steps_to stops n r.session) count ∙ at_break stops (most - (k + 1)) r.session (not_over v breaks last start r.session none r.stands) pc in
-    subst (Stands (held_by w breaks last') start) (sym same) after
+    record { session = after.session; stands = after.stands; same = r.same ∙ after.same }
 
--- another step
-pub reaches_next : (v w : View) (breaks last last' : List ℕ) (start : State) (d : Session) (stops : List ℕ) (most k : ℕ) → k + 1 ≤ most → v.over ≡ None → is_break stops w.state.pc ≡ false → ((e : Session) → Stands (held_by v breaks last) start e → Stands (held_by w breaks last') start (stepped e)) → Reaches (held_by v breaks last) start d stops most (most - k) → Reaches (held_by w breaks last') start d stops most (most - (k + 1))
-reaches_next v w breaks last last' start d stops most k inside none here next r =
-    let count : most - k ≡ suc (most - (k + 1)) = omega arith in
+pub stands_over : (v : View) (breaks last : List ℕ) (start : State) (d : Session) (stops : List ℕ) (n : ℕ) → is_some v.over ≡ true → Stands (held_by v breaks last) start d → Stands (held_by v breaks last) start (steps_to stops n d)
+stands_over v breaks last start d stops n over h =
+    subst (Stands (held_by v breaks last) start) (sym (at_end stops n d (is_over v breaks last start d over h))) h
+
+-- another step, and the machine goes on
+pub reaches_next : (v w : View) (breaks last last' : List ℕ) (start : State) (d : Session) (stops : List ℕ) (n k : ℕ) → k + 1 ≤ n → v.over ≡ None → is_break stops w.state.pc ≡ false → Steps v w breaks last last' start → Reaches (held_by v breaks last) start d stops n (n - k) → Reaches (held_by w breaks last') start d stops n (n - (k + 1))
+reaches_next v w breaks last last' start d stops n k inside none here next r =
+    let count : n - k ≡ suc (n - (k + 1)) = omega arith in
     let after = next r.session r.stands in
     let pc : is_break stops (stepped r.session).state.pc ≡ false = ap (λ (s : State). is_break stops s.pc) (sym after.state) ∙ here in
     record {
       session = stepped r.session;
       stands = after;
-      same = r.same ∙ ap (λ n. steps_to stops n r.session) count ∙ at_step stops (most - (k + 1)) r.session (not_over v breaks last start r.session none r.stands) pc;
+      same = r.same ∙ ap (λ m. steps_to stops m r.session) count ∙ at_step stops (n - (k + 1)) r.session (not_over v breaks last start r.session none r.stands) pc;
+    }
+
+-- the step that comes to a breakpoint
+pub reaches_break : (v w : View) (breaks last last' : List ℕ) (start : State) (d : Session) (stops : List ℕ) (n k : ℕ) → k + 1 ≤ n → v.over ≡ None → is_break stops w.state.pc ≡ true → Steps v w breaks last last' start → Reaches (held_by v breaks last) start d stops n (n - k) → Reaches (held_by w breaks last') start d stops n 0
+reaches_break v w breaks last last' start d stops n k inside none here next r =
+    let count : n - k ≡ suc (n - (k + 1)) = omega arith in
+    let after = next r.session r.stands in
+    let pc : is_break stops (stepped r.session).state.pc ≡ true = ap (λ (s : State). is_break stops s.pc) (sym after.state) ∙ here in
+    record {
+      session = stepped r.session;
+      stands = after;
+      same =
+          r.same
+          ∙ ap (λ m. steps_to stops m r.session) count
+          ∙ at_break stops (n - (k + 1)) r.session (not_over v breaks last start r.session none r.stands) pc
+          ∙ sym (no_steps stops (stepped r.session));
+    }
+
+at_last : (stops : List ℕ) (n : ℕ) (d : Session) (b : Bool) → is_some d.over ≡ false → is_some (stepped d).over ≡ true → is_break stops (stepped d).state.pc ≡ b → steps_to stops (suc n) d ≡ stepped d
+at_last stops n d true h over b = at_break stops n d h b
+at_last stops n d false h over b = at_step stops n d h b ∙ at_end stops n (stepped d) over
+
+-- the step that comes to the end or a stop
+pub reaches_last : (v w : View) (breaks last last' : List ℕ) (start : State) (d : Session) (stops : List ℕ) (n k : ℕ) → k + 1 ≤ n → v.over ≡ None → is_some w.over ≡ true → Steps v w breaks last last' start → Reaches (held_by v breaks last) start d stops n (n - k) → Reaches (held_by w breaks last') start d stops n 0
+reaches_last v w breaks last last' start d stops n k inside none over next r =
+    let count : n - k ≡ suc (n - (k + 1)) = omega arith in
+    let after = next r.session r.stands in
+    record {
+      session = stepped r.session;
+      stands = after;
+      same =
+          r.same
+          ∙ ap (λ m. steps_to stops m r.session) count
+          ∙ at_last stops (n - (k + 1)) r.session _ (not_over v breaks last start r.session none r.stands) (is_over w breaks last' start (stepped r.session) over after) refl
+          ∙ sym (no_steps stops (stepped r.session));
     }

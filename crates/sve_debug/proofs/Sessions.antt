@@ -6,15 +6,16 @@ use Rattle.std.proofs.lemmas.List.{take-append-le}
 use Rattle.std.proofs.lemmas.List.Elements.{All-push}
 use Rattle.std.proofs.lemmas.List.Splits.{slice_split_at, slice_split_none}
 use Rattle.std.proofs.Math.Seq.{take-append-add, take-length}
+use Rattle.text_parts.specs.Parts.{is_byte, lines_of}
 use Rattle.machine_model.specs.Machine.{State}
 use Rattle.io_edges.specs.Sink.{GainsPart}
 use Rattle.sve_debug.specs.declared.command.Command.{Command}
 use Rattle.sve_debug.specs.declared.command.Command.TheVariants.{Step, Go, Break, Show, Quit}
 use Rattle.sve_debug.specs.declared.session.SessionFault.{SessionFault}
 use Rattle.sve_debug.specs.Held.{Held, Stands}
-use Rattle.sve_debug.specs.Lines.{is_byte, command_of}
+use Rattle.sve_debug.specs.Lines.{command_of}
 use Rattle.sve_debug.specs.Replies.{Session, after_line, line_text, command_text, after_command, quits, is_quit, replies}
-use Rattle.sve_debug.specs.Sessions.{Tells, lines_of, most_input, is_end, pending, turned, turn_text, ends}
+use Rattle.sve_debug.specs.Sessions.{Tells, most_input, is_end, pending, turned, turn_text, ends}
 
 -- ---- lines
 
@@ -59,7 +60,7 @@ last_line line d h = ap (replies d) (slice_split_none (is_byte 10) line h) ∙ b
 
 -- ---- one byte
 
--- the session goes on behind a byte
+-- the session goes on after a byte
 on_by : (b : Bool) (line rest : List ℕ) (byte : ℕ) (d : Session) → is_byte 10 byte ≡ b → IsPending line → ends line byte ≡ false → replies d (lines_of (line ++ byte ∷ rest)) ≡ turn_text line byte d ++ replies (turned line byte d) (lines_of (pending line byte ++ rest))
 on_by true line rest byte d is h goes =
     let stays : quits line ≡ false = sym (cond-true (is_end byte) _ _ is) ∙ goes in
@@ -130,7 +131,7 @@ joined (Some bytes) mid new text x put all =
 
 -- ---- a session under way
 
--- a debugger stands for the session behind the lines that were taken of these bytes, and the output has gained their text
+-- a debugger stands for the session after the lines that were taken of these bytes, and the output has gained their text
 pub record Under (held : Held) (start : State) (d : Session) (whole line : List ℕ) (most : ℕ) (input old new : Option (List ℕ)) : Type 0 where
   pub session : Session
   pub stands : Stands held start session
@@ -261,7 +262,7 @@ under_end held start d whole line n input old mid new result pends next told u =
     let here : None ≡ slice_get u.left 0 = subst (λ i. IfSome i (λ bytes. None ≡ slice_get bytes 0)) u.input_is next in
     under_last held start d whole line n input old mid new result pends u (none_left u.left n here) told
 
--- behind the last byte that is taken
+-- after the last byte that is taken
 pub under_limit : {T : Type 0} (held : Held) (start : State) (d : Session) (whole line : List ℕ) (most k : ℕ) (input old mid new : Option (List ℕ)) (result : Result T SessionFault) → most ≤ k → IsPending line → ((e : Session) → Stands held start e → Tells mid new (line_text line e) result) → Under held start d whole line (most - k) input old mid → Tells old new (replies d (lines_of whole)) result
 under_limit held start d whole line most k input old mid new result all pends told u =
     let none : most - k ≡ 0 = omega arith in

@@ -45,7 +45,7 @@ with_breaks breaks held = record held { breaks = breaks }
 abbrev pub held_stand : Held → List ℕ
 held_stand held = stand_text held.machine.state held.machine.steps (option_map (came_out held.machine.state held.machine.steps) held.machine.over)
 
--- what is answered to a command, by what is held before it and behind it
+-- what is answered to a command, by what is held before it and after it
 abbrev pub answer_text : Command → (before after : Held) → List ℕ
 answer_text (Step n) h k = held_stand k
 answer_text (Go n) h k = held_stand k

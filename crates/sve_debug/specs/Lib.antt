@@ -1,5 +1,6 @@
 pub mod Lines
 pub mod Replies
-pub mod Seen
+pub mod View
 pub mod Held
 pub mod Sessions
+pub mod Reaches

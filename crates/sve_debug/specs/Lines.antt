@@ -1,20 +1,13 @@
 -- The lines of a debugging session. The words of a line are divided by single spaces; numbers are decimal, or hexadecimal
--- behind `0x`.
+-- after `0x`.
 use Rattle.std.specs.Prelude.{ℕ, ◌+◌, ◌^◌, ◌&&◌, Bool, List, [], ◌∷◌, Option, Some, None, option_and_then, option_map, nat_le, nat_eq, bytes_eq, codes, if◌then◌else◌}
-use Rattle.std.specs.List.{slice_split}
 use Rattle.number_text.specs.Numbers.{number_of}
+use Rattle.text_parts.specs.Parts.{words_of}
 use Rattle.sve_debug.specs.declared.command.Command.{Command}
 use Rattle.sve_debug.specs.declared.command.Command.TheVariants.{Step, Go, Break, Show, Quit}
 use Rattle.sve_debug.specs.declared.command.Part.TheVariants.{General, Vector, Predicate, Memory, Place, Stack, Flags, FirstFault, Past}
 
 -- ---- words
-
-abbrev pub is_byte : ℕ → ℕ → Bool
-is_byte mark b = nat_eq b mark
-
--- the parts of a line between spaces, which are empty where spaces follow one another
-abbrev pub words_of : List ℕ → List (List ℕ)
-words_of line = slice_split (is_byte 32) line
 
 abbrev pub checked : (ℕ → Bool) → ℕ → Option ℕ
 checked holds n = if holds n then Some n else None

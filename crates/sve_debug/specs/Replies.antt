@@ -52,7 +52,7 @@ stepped d =
 abbrev pub is_break : List ℕ → ℕ → Bool
 is_break breaks pc = list_any (λ a. nat_eq a pc) breaks
 
--- At most n steps, none after the end or a stop, and none behind a step whose new place is one of these.
+-- At most n steps, none after the end or a stop, and none after a step whose new place is one of these.
 unfoldable pub steps_to : List ℕ → ℕ → Session → Session
 steps_to breaks zero d = d
 steps_to breaks (suc n) d =
@@ -129,7 +129,7 @@ part_text parts.Flags s last = flags_text s.flags
 part_text parts.FirstFault s last = line (codes "ffr " ++ bits_text (s.vl / 8) s.ffr)
 part_text parts.Past s last = flat_map place_text last
 
--- the session behind a command
+-- the session after a command
 abbrev pub after_command : Command → Session → Session
 after_command (Step n) d = steps_to [] n d
 after_command (Go n) d = steps_to d.breaks n d
@@ -137,7 +137,7 @@ after_command (Break a) d = record d { breaks = with_break a d.breaks }
 after_command (Show _) d = d
 after_command Quit d = d
 
--- what it answers, with the session behind it
+-- what it answers, with the session after it
 abbrev pub command_text : Command → (before after : Session) → List ℕ
 command_text (Step n) d e = stand_text e.state e.steps e.over
 command_text (Go n) d e = stand_text e.state e.steps e.over

@@ -1,14 +1,9 @@
 -- Sessions over an input.
 use Rattle.std.specs.Prelude.{◌≡◌, ℕ, Bool, false, List, [], ◌∷◌, ◌++◌, take, Option, Some, IfSome, OnOk, Result, nat_eq, if◌then◌else◌}
-use Rattle.std.specs.List.{slice_split}
 use Rattle.io_edges.specs.Sink.{GainsPart}
 use Rattle.sve_debug.specs.declared.session.SessionFault.{SessionFault}
-use Rattle.sve_debug.specs.Lines.{is_byte}
+use Rattle.text_parts.specs.Parts.{lines_of}
 use Rattle.sve_debug.specs.Replies.{Session, after_line, line_text, quits, replies}
-
--- the lines of some bytes; behind the last line feed stands one more, which may be empty
-abbrev pub lines_of : List ℕ → List (List ℕ)
-lines_of bytes = slice_split (is_byte 10) bytes
 
 -- so many bytes of an input are taken at most
 unfoldable pub most_input : ℕ

@@ -28,7 +28,7 @@ pub enum Part {
 pub enum Command {
     /// Up to so many steps.
     Step(u64),
-    /// Up to so many steps, and none behind one that comes to a breakpoint.
+    /// Up to so many steps, and none after one that comes to a breakpoint.
     Go(u64),
     /// A breakpoint at an address.
     Break(u64),

@@ -5,7 +5,7 @@ ghost use Rattle.io_edges.specs.Sink.{PutsText, HasCause};
 ghost use Rattle.machine_model.specs.Machine.{State};
 ghost use Rattle.sve_debug.specs.Held.{Stands, held_stand, answer_text, with_breaks};
 ghost use Rattle.sve_debug.specs.Replies.{Session, started, steps_to, is_break, with_break, break_text, part_text, after_command, command_text, after_line, line_text, quits};
-ghost use Rattle.sve_debug.specs.Seen.{IsPart, IsWithin};
+ghost use Rattle.sve_debug.specs.View.{IsPart, IsWithin};
 
 use crate::command::{Command, Part};
 use crate::line::command_of;
@@ -67,7 +67,7 @@ impl<D: Debuggee> Debugger<D> {
         self.over = run(&mut self.machine, &mut self.places, self.over, &[], most);
     }
 
-    // Up to so many steps, and none behind one that comes to a breakpoint.
+    // Up to so many steps, and none after one that comes to a breakpoint.
     fn go(&mut self, most: u64)
         requires { self.old.machine.steps + most < 2 ^ 64 }
         ensures session { (start : State) (d : Session) → Stands self.old start d →

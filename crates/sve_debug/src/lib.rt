@@ -2,7 +2,6 @@
 #![tactic(auto)]
 
 pub mod command;
-mod cut;
 pub mod debugger;
 mod digits;
 mod line;

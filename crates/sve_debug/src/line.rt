@@ -2,11 +2,11 @@
 
 ghost use Rattle.std.specs.Prelude.{◌≡◌, ◌≤◌, IfSome};
 ghost use Rattle.sve_debug.specs.Lines.{number_in, alone, with_number, bytes_from, with_range, command_of};
-ghost use Rattle.sve_debug.specs.Seen.{IsWithin};
+ghost use Rattle.sve_debug.specs.View.{IsWithin};
 
 use crate::command::{Command, Part};
-use crate::cut::cut;
 use number_text::number;
+use text_parts::cut;
 
 // The number that a word spells, from one number to another.
 fn number_in(least: u64, most: u64, word: &[u8]) -> Option<u64>

@@ -4,7 +4,7 @@ ghost use Rattle.std.specs.Prelude.{◌≡◌, ◌+◌, ◌<◌, ◌≤◌, ◌^
 ghost use Rattle.std.specs.List.{flat_map};
 ghost use Rattle.io_edges.specs.Sink.{PutsText};
 ghost use Rattle.machine_model.specs.DumpText.{dump_line, dump_text};
-ghost use Rattle.machine_model.specs.OutcomeText.{hex_text, kind_text};
+ghost use Rattle.machine_model.specs.OutcomeText.{hex_text};
 ghost use Rattle.sve_debug.specs.Replies.{line, named_text, place_text, stand_text};
 ghost use Rattle.sve_debug.specs.Held.{at_text, end_text, stop_text};
 
@@ -14,7 +14,8 @@ use dump_text::address_digits;
 use io_edges::sink::{Failed, Sink, put_pieces};
 use itoa::Buffer;
 use machine_model::debuggee::Debuggee;
-use machine_model::outcome::{Stop, StopKind};
+use machine_model::outcome::Stop;
+use outcome_text::kind_name;
 
 /// Puts a line of four pieces.
 pub fn put_line<S: Sink>(
@@ -75,19 +76,6 @@ pub fn put_end<S: Sink>(out: &mut S, value: u64, steps: u64) -> Result<(), Faile
     let count = buffer.format(steps).as_bytes();
     let digits = address_digits(value);
     put_line(out, b"result 0x", &digits, b"\nsteps ", count)
-}
-
-fn kind_name(kind: StopKind) -> &'static [u8]
-    ensures { result.now ≡ kind_text kind }
-{
-    match kind {
-        StopKind::Read => b"read",
-        StopKind::Write => b"write",
-        StopKind::Fetch => b"fetch",
-        StopKind::Undefined => b"undefined",
-        StopKind::Call => b"call",
-        StopKind::Break => b"break",
-    }
 }
 
 /// Puts the stop of a run.

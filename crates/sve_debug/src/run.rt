@@ -1,47 +1,96 @@
 //! Steps of a machine that is looked at between them.
 
-ghost use Rattle.std.specs.Prelude.{◌≡◌, ℕ, ◌+◌, ◌-◌, ◌^◌, ◌<◌, ◌≤◌, List, None};
-ghost use Rattle.machine_model.specs.Debugged.{ending_by};
+ghost use Rattle.std.specs.Prelude.{◌≡◌, [], ◌∷◌, ℕ, ◌+◌, ◌-◌, ◌++◌, ◌^◌, ◌<◌, ◌≤◌, List, None, is_none, take};
+ghost use Rattle.circular_buffer.specs.Buffer.{keep_last};
 ghost use Rattle.machine_model.specs.Machine.{State};
 ghost use Rattle.sve_debug.specs.Held.{Stands, held_by};
-ghost use Rattle.sve_debug.specs.Replies.{Session, stepped, steps_to};
+ghost use Rattle.sve_debug.specs.Reaches.{Reaches};
+ghost use Rattle.sve_debug.specs.Replies.{Session, is_break, stepped, steps_to};
 
 use circular_buffer::HeapCircularBuffer;
 use machine_model::debuggee::Debuggee;
-use machine_model::outcome::{Ending, Step};
+use machine_model::outcome::{Ending, Step, Stop};
 
 /// The places of the last steps.
 pub type Places = HeapCircularBuffer<u64>;
 
-fn ending_of(step: Step) -> Option<Ending>
-    ensures { result ≡ ending_by step }
+// Whether a place is one of some; mostly there are none.
+#[inline(always)]
+fn is_stop(stops: &[u64], pc: u64) -> bool
+    ensures { result ≡ is_break stops.now pc }
 {
-    match step {
-        Step::Went => None,
-        Step::Ended => Some(Ending::Ended),
-        Step::Stopped(stop) => Some(Ending::Stopped(stop)),
+    if stops.is_empty() {
+        return false;
+    }
+    stops.contains(&pc)
+}
+
+// One step of a machine that has not come to its end: whether it goes on, or else how it came to its end. An answer of
+// many bytes that is handed on whole would be copied at each step.
+#[inline(always)]
+fn advance<D: Debuggee>(machine: &mut D, over: &mut Option<Ending>) -> bool
+    requires running { (D.view_of machine.old).over ≡ None }
+    requires none { over.old ≡ None }
+    requires few { (D.view_of machine.old).steps < 2 ^ 64 - 1 }
+    ensures session { (breaks last : List ℕ) (start : State) (d : Session)
+        → Stands (held_by (D.view_of machine.old) breaks last) start d
+        → Stands (held_by (D.view_of machine.new) breaks
+        (keep_last 64 (last ++ (D.view_of machine.old).state.pc ∷ []))) start (stepped d) }
+    ensures over { over.new ≡ (D.view_of machine.new).over }
+    ensures goes_on { result ≡ is_none over.new }
+    ensures steps { (D.view_of machine.new).steps ≡ (D.view_of machine.old).steps + 1 }
+{
+    match machine.step() {
+        Step::Went => true,
+        Step::Ended => {
+            *over = Some(Ending::Ended);
+            false
+        }
+        Step::Stopped(Stop { kind, pc, at }) => {
+            *over = Some(Ending::Stopped(Stop { kind, pc, at }));
+            false
+        }
     }
 }
 
-// One step of a machine that has not come to its end, and its place.
-fn advance<D: Debuggee>(machine: &mut D, places: &mut Places) -> Option<Ending>
-    requires over { (D.view_of machine.old).over ≡ None }
-    requires few { (D.view_of machine.old).steps < 2 ^ 64 - 1 }
-    requires room { places.old.capacity ≡ 64 }
-    ensures session { (breaks : List ℕ) (start : State) (d : Session)
-        → Stands (held_by (D.view_of machine.old) breaks places.old.items) start d
-        → Stands (held_by (D.view_of machine.new) breaks places.new.items) start (stepped d) }
-    ensures over { result ≡ (D.view_of machine.new).over }
-    ensures steps { (D.view_of machine.new).steps ≡ (D.view_of machine.old).steps + 1 }
-    ensures room { places.new.capacity ≡ 64 }
+// Up to 256 of so many steps, and their places: how many were done, and how many are left to do, which is none after
+// the end or a stop and after a step that comes to one of these places. The places go to the ring only after them,
+// since a push at each step would take as long as the step.
+fn advance_far<D: Debuggee>(
+    machine: &mut D,
+    recent: &mut [u64; 256],
+    over: &mut Option<Ending>,
+    stops: &[u64],
+    left: u64,
+) -> (usize, u64)
+    requires running { (D.view_of machine.old).over ≡ None }
+    requires none { over.old ≡ None }
+    requires few { (D.view_of machine.old).steps + left < 2 ^ 64 }
+    requires some { 0 < left }
+    ensures session { (breaks last : List ℕ) (start : State) (d : Session)
+        → Stands (held_by (D.view_of machine.old) breaks last) start d
+        → Reaches (held_by (D.view_of machine.new) breaks (keep_last 64 (last ++ take result.0 recent.new)))
+        start d stops.now left result.1 }
+    ensures over { over.new ≡ (D.view_of machine.new).over }
+    ensures running { 0 < result.1 → over.new ≡ None }
+    ensures count { result.0 ≤ 256 }
+    ensures less { result.1 < left }
+    ensures steps { (D.view_of machine.new).steps + result.1 ≤ (D.view_of machine.old).steps + left }
 {
-    let place = machine.pc();
-    let answer = machine.step();
-    places.push_back(place);
-    ending_of(answer)
+    let most = left.min(256) as usize;
+    for done in 0..most {
+        recent[done] = machine.pc();
+        if !advance(machine, over) {
+            return (done + 1, 0);
+        }
+        if is_stop(stops, machine.pc()) {
+            return (done + 1, 0);
+        }
+    }
+    (most, left - most as u64)
 }
 
-/// Up to so many steps, none behind the end or a stop, and none behind a step that comes to one of these places. It
+/// Up to so many steps, none after the end or a stop, and none after a step that comes to one of these places. It
 /// answers how the machine came to its end, where it did.
 pub fn run<D: Debuggee>(
     machine: &mut D,
@@ -60,16 +109,16 @@ pub fn run<D: Debuggee>(
     ensures steps { (D.view_of machine.new).steps ≤ (D.view_of machine.old).steps + most }
     ensures room { places.new.capacity ≡ 64 }
 {
+    if over.is_some() {
+        return over;
+    }
     let mut over = over;
-    for done in 0..most {
-        if over.is_some() {
-            return over;
-        }
-        over = advance(machine, places);
-        let pc = machine.pc();
-        if stops.contains(&pc) {
-            return over;
-        }
+    let mut recent = [0; 256];
+    let mut left = most;
+    while left > 0 {
+        let (done, rest) = advance_far(machine, &mut recent, &mut over, stops, left);
+        places.extend_from_slice(&recent[..done]);
+        left = rest;
     }
     over
 }

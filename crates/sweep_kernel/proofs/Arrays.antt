@@ -95,7 +95,7 @@ has_arrays program seed apart = record {
 
 -- the bytes that an access comes to pass a test
 pub no_fault : (test : ℕ → Bool) (low high a n : ℕ) → ((x : ℕ) → low ≤ x → x < high → test x ≡ true) → low ≤ a → a + n ≤ high → high < 2 ^ 64 → first_fault test a n ≡ None
-no_fault test low high a zero h from until small = refl
-no_fault test low high a (suc n) h from until small =
+no_fault test low high a zero h from last_use small = refl
+no_fault test low high a (suc n) h from last_use small =
     let e : after a ≡ a + 1 = mod-eq_of_lt (omega arith) in
     rw (h a from (omega arith), e) (no_fault test low high (a + 1) n h (omega arith) (omega arith) small)

@@ -3,7 +3,7 @@ use Rattle.std.proofs.Common.{◌≡◌, ℕ, ◌<◌, ◌≤◌, ◌^◌, None,
 use Rattle.std.proofs.lemmas.Bool.{lt-ltb, le-leb}
 use Rattle.kernel_tree.specs.Typing.{check_fault}
 use Rattle.loop_form.specs.Entries.{item_type}
-use Rattle.loop_form.specs.Listing.{last_use}
+use Rattle.loop_form.specs.Listing.{last_use_from}
 use Rattle.loop_form.specs.Lanes.{widest}
 use Rattle.loop_form.specs.Needs.{constants, most_live, needs_of}
 use Rattle.dependence.specs.declared.reason.Class.TheVariants.{Vector}
@@ -17,7 +17,7 @@ unfolding kernel_with
 checked_with initial offset level hi ho hl = rw (lt-ltb initial (2 ^ 31) hi, le-leb offset 1024 ho, lt-ltb level (2 ^ 31) hl) refl
 
 needs_with : (initial offset level : ℕ) → needs_of (kernel_with initial offset level) ≡ record { size = 41; z = 7; p = 3; x = 5 }
-unfolding item_type last_use constants most_live kernel_with
+unfolding item_type last_use_from constants most_live kernel_with
 needs_with initial offset level = refl
 
 class_with : (initial offset level : ℕ) → class_of (kernel_with initial offset level) ≡ Vector

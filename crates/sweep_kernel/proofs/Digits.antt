@@ -114,7 +114,7 @@ digits_scan n (d ∷ ds) c s at h l a v small =
     scan-token d (ds ++ c ∷ s) at (IsNumber n) (length ds) (number_piece-is n d ds c s h e.0 e.1 v small)
     ∙ ap (before (IsNumber n)) (scan-skip ds (at + 1) (c ∷ s))
 
--- a number and what stands behind it, where the rest is scanned from every place alike
+-- a number and what stands after it, where the rest is scanned from every place alike
 pub number_scan : (n c : ℕ) (s : List ℕ) (ws : List Word) → n < 2 ^ 64 → Stops c → ((at : ℕ) → scan 0 at (c ∷ s) ≡ Ok ws) → (at : ℕ) → scan 0 at (decimal n ++ c ∷ s) ≡ Ok (IsNumber n ∷ ws)
 number_scan n c s ws small h again at =
     let d = decimal_is_IsNumeral n small in

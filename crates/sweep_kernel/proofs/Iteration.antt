@@ -20,7 +20,7 @@ use Rattle.sweep_kernel.proofs.Turn.{names_with, loop_with, GoesOn, read_first, 
 abbrev pub scope_with : (initial offset level : ℕ) → Scope
 scope_with initial offset level = var_scope (kernel_with initial offset level)
 
--- the scope of the loop's body, and behind its `let`
+-- the scope of the loop's body, and after its `let`
 abbrev inside : (initial offset level : ℕ) → Scope
 inside initial offset level = in_loop (scope_with initial offset level) (loop_with offset level)
 
@@ -46,7 +46,7 @@ abbrev by_reads : (initial offset level x : ℕ) (memory : Memory) (factor count
 by_reads initial offset level x memory factor count sum greatest p q =
     cut 7 (then_do (define t (Some ty.I32) memory (with_index (names_with factor count sum greatest) x) (on_both (binary_value binary.Add (Some ty.I32)) (on_both (binary_value binary.Mul (Some ty.I32)) (option_map (wrap ty.I32) p) (Some factor)) (option_map (wrap ty.I32) q))) (do_block (defined initial offset level) (rest level)))
 
--- the iteration behind the `let`
+-- the iteration after the `let`
 abbrev by_value : (initial offset level x : ℕ) (memory : Memory) (factor count sum greatest v : ℤ) → Turn
 by_value initial offset level x memory factor count sum greatest v =
     cut 7 (do_block (defined initial offset level) (rest level) memory (with_value (names_with factor count sum greatest) x v))
@@ -64,11 +64,11 @@ abbrev other : (initial offset level x : ℕ) (memory : Memory) (factor count su
 other initial offset level x memory factor count sum greatest v =
     cut 9 (do_otherwise (left (defined initial offset level) (after_block (defined initial offset level) summed)) (Else raised) memory (with_value (names_with factor count sum greatest) x v))
 
--- the end of the iteration behind the choice
+-- the end of the iteration after the choice
 abbrev behind : Turn → Turn
 behind turn = cut 7 (then_do turn Next)
 
--- the iteration behind the `let`, by what the read of the condition gives
+-- the iteration after the `let`, by what the read of the condition gives
 by_value-is : (initial offset level x : ℕ) (memory : Memory) (factor count sum greatest v : ℤ) → by_value initial offset level x memory factor count sum greatest v ≡ behind (choose memory (or_else (Some (compare_on compare.Gt v (wrapped (Some ty.I32) (pos level)))) (on_both (compare_on compare.Eq) (read_element (Some ty.U8) memory (pos 0x2000000) (pos x +ℤ pos 0)) (Some (wrapped (Some ty.U8) (pos 7))))) (one initial offset level x memory factor count sum greatest v) (other initial offset level x memory factor count sum greatest v))
 unfolding kernel_with
 by_value-is initial offset level x memory factor count sum greatest v = refl

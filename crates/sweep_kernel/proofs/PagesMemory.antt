@@ -32,7 +32,7 @@ zero_whole : (p : ℕ) → IsWhole (zero_page p)
 unfolding zero_page
 zero_whole p = record { size = length-replicate {A = ℕ} 4096 0; small = All-replicate IsByte 4096 0 (omega arith) }
 
--- ---- pages behind others
+-- ---- pages after others
 
 abbrev IsBelow : ℕ → Page → Type 0
 IsBelow bound page = page.page < bound

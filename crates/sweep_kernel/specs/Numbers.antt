@@ -1,7 +1,7 @@
 -- The numbers that a sweep draws, by the linear congruential generator of Knuth's MMIX.
 use Rattle.std.specs.Prelude.{ℕ, zero, suc, ◌+◌, ◌*◌, ◌/◌, ◌%◌, ◌^◌, List, [], ◌∷◌}
 
--- the state of the generator behind a state
+-- the state of the generator after a state
 unfoldable pub next : ℕ → ℕ
 next x = (6364136223846793005 * x + 1442695040888963407) % 2 ^ 64
 

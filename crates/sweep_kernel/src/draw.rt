@@ -12,7 +12,7 @@ pub struct Draw {
     pub ghost steps: { state ≡ state_at seed place },
 }
 
-// The state behind a state.
+// The state after a state.
 #[tactic(auto, unfolding(crate::specs::Numbers::next))]
 fn next(state: u64) -> u64
     ensures { result ≡ next state }

@@ -1,16 +1,20 @@
-use Rattle.std.proofs.Common.{◌≡◌, ℕ, ◌+◌, ◌-◌, ◌≤◌, List}
+use Rattle.std.proofs.Common.{◌≡◌, ℕ, ◌+◌, ◌<◌, ◌≤◌, List, None}
 use Rattle.machine_model.specs.Machine.{State}
 use Rattle.sve_debug.specs.Held.{Stands, held_by}
+use Rattle.sve_debug.specs.Reaches.{Reaches}
 use Rattle.sve_debug.specs.Replies.{Session}
-use Rattle.sve_debug.proofs.Runs.{Reaches}
 use Rattle.sve_debug.proofs.run.run.Given as goal
 
-abbrev pub invariant-loop-done : goal.invariant-loop-done
-invariant-loop-done g l = record {
+abbrev pub invariant-loop-left : goal.invariant-loop-left
+invariant-loop-left g l = record {
   over : l.over ≡ (g.D.Debuggee.view_of l.machine).over;
+  running : 0 < l.left → l.over ≡ None;
   room : l.places.capacity ≡ 64;
-  steps : (g.D.Debuggee.view_of l.machine).steps ≤ (g.D.Debuggee.view_of l.initial.machine).steps + l.done;
+  steps : (g.D.Debuggee.view_of l.machine).steps + l.left ≤ (g.D.Debuggee.view_of l.initial.machine).steps + l.most;
   session :
       (breaks : List ℕ) (start : State) (d : Session) → Stands (held_by (g.D.Debuggee.view_of l.initial.machine) breaks l.initial.places.items) start d
-      → Reaches (held_by (g.D.Debuggee.view_of l.machine) breaks l.places.items) start d l.stops l.most (l.most - l.done);
+      → Reaches (held_by (g.D.Debuggee.view_of l.machine) breaks l.places.items) start d l.stops l.most l.left;
 }
+
+abbrev pub decreases-loop-left : goal.decreases-loop-left
+decreases-loop-left g l = l.left

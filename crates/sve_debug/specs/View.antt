@@ -1,17 +1,9 @@
 -- What the reader of lines gives.
 use Rattle.std.specs.Prelude.{ℕ, ◌+◌, ◌^◌, ◌≤◌, List, [], Option, Some, None}
-use Rattle.std.specs.List.{slice_split}
-use Rattle.std.specs.Borrow.{Bor}
 use Rattle.sve_debug.specs.declared.command.Command.{Command}
 use Rattle.sve_debug.specs.declared.command.Command.TheVariants.{Step, Go, Break, Show, Quit}
 use Rattle.sve_debug.specs.declared.command.Part.{Part}
 use Rattle.sve_debug.specs.declared.command.Part.TheVariants.{General, Vector, Predicate, Memory}
-use Rattle.sve_debug.specs.Lines.{is_byte}
-
--- the parts of what stands behind a part, where something does
-abbrev pub parts_behind : ℕ → Option (Bor (List ℕ)) → List (List ℕ)
-parts_behind mark None = []
-parts_behind mark (Some rest) = slice_split (is_byte mark) rest.now
 
 -- a register's number is one of a register, and bytes are few and below 2^64
 abbrev pub IsPart : Part → Type 0

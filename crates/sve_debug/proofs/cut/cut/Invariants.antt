@@ -1,6 +1,0 @@
-use Rattle.std.proofs.Common.{◌≡◌, ℕ, false, take, All}
-use Rattle.sve_debug.specs.Lines.{is_byte}
-use Rattle.sve_debug.proofs.cut.cut.Given as goal
-
-abbrev pub invariant-loop-i : goal.invariant-loop-i
-invariant-loop-i l = All (λ (b : ℕ). is_byte l.mark b ≡ false) (take l.i l.text)

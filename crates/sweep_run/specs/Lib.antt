@@ -1,0 +1,2 @@
+pub mod SweepText
+pub mod Lines

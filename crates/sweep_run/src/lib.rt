@@ -1,0 +1,11 @@
+//! The file of a sweep, and what is printed of its runs.
+#![tactic(auto)]
+
+mod file;
+pub mod laws;
+mod lines;
+#[cfg(test)]
+mod tests;
+
+pub use file::sweep_file;
+pub use lines::sweep_text;
