@@ -1,3 +1,5 @@
 pub mod Numbers
 pub mod Line
-pub mod Seen
+pub mod View
+pub mod Given
+pub mod Taken

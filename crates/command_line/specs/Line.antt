@@ -1,4 +1,4 @@
--- The words of a command, as lists of bytes. The first word names the command. Behind it stand options, and then the
+-- The words of a command, as lists of bytes. The first word names the command. After it stand options, and then the
 -- positional words.
 use Rattle.std.specs.Prelude.{ℕ, ◌+◌, ◌%◌, ◌^◌, ◌&&◌, not, List, [], ◌∷◌, ◌++◌, length, Option, Some, None, option_map, option_and_then, is_some, Bool, true, false, nat_eq, nat_le, bytes_eq, codes, if◌then◌else◌}
 use Rattle.number_text.specs.Numbers.{given, number_of}
@@ -12,7 +12,7 @@ pub record Extent : Type 0 where
   pub address : ℕ
   pub len : ℕ
 
--- what is to be run: the most steps, the file of a page map, the bytes to dump behind the run, the file, and the arguments as
+-- what is to be run: the most steps, the file of a page map, the bytes to dump after the run, the file, and the arguments as
 -- numbers of 64 bits
 pub record Task : Type 0 where
   pub steps : ℕ
@@ -21,13 +21,15 @@ pub record Task : Type 0 where
   pub file : List ℕ
   pub args : List ℕ
 
--- a run has a vector length in bits too
+-- a run and a debugging session have a vector length in bits too; neither the steps nor the dump of a task count in a session
 pub data Line : Type 0 where
   CompileLine : (from to : List ℕ) → Line
   CheckLine : (from : List ℕ) → Line
   EvalLine : Task → Line
   ListLine : (from : List ℕ) → Line
   RunLine : (vl : ℕ) → Task → Line
+  DebugLine : (vl : ℕ) → Task → Line
+  SweepLine : (number : ℕ) → (to : List ℕ) → Line
 
 -- ---- positional words
 
@@ -44,11 +46,11 @@ abbrev pub is_plain : List ℕ → Bool
 is_plain [] = false
 is_plain (b ∷ bs) = not (nat_eq b 45)
 
--- whether a word may be positional; behind `--` it may begin with a minus
+-- whether a word may be positional; after `--` it may begin with a minus
 abbrev pub is_positional : Bool → List ℕ → Bool
 is_positional literal word = if literal then is_filled word else is_plain word
 
--- the positional words found before, and those of these words; one `--` may stand among them, behind which all are
+-- the positional words found before, and those of these words; one `--` may stand among them, after which all are
 -- taken literally
 unfoldable pub positional_from : Bool → Words → Words → Option Words
 positional_from literal found [] = Some found
@@ -69,7 +71,7 @@ pub record Options : Type 0 where
   pub map : Option (List ℕ)
   pub dump : Option Extent
 
--- the value of an option of this name, by what stands before and behind the equals sign of a word; it is not empty
+-- the value of an option of this name, by what stands before and after the equals sign of a word; it is not empty
 abbrev pub value_named : List ℕ → List ℕ × List ℕ → Option (List ℕ)
 value_named name p = if bytes_eq p.0 name && is_filled p.1 then Some p.1 else None
 
@@ -77,12 +79,12 @@ value_named name p = if bytes_eq p.0 name && is_filled p.1 then Some p.1 else No
 abbrev pub value_in : List ℕ → List ℕ → Option (List ℕ)
 value_in name word = option_and_then (value_named name) (parted 61 word)
 
--- the word behind the name of an option, which does not begin with a minus
+-- the word after the name of an option, which does not begin with a minus
 abbrev pub value_behind : Words → Option (List ℕ × Words)
 value_behind [] = None
 value_behind (value ∷ rest) = if is_plain value then Some (value, rest) else None
 
--- the value of an option of this name at the front, and the words behind it
+-- the value of an option of this name at the front, and the words after it
 unfoldable pub value_at : List ℕ → Words → Option (List ℕ × Words)
 value_at name [] = None
 value_at name (word ∷ rest) =
@@ -114,7 +116,7 @@ with_map o value = option_map (λ name. record o { map = Some name }) (once o.ma
 unfoldable pub with_dump : Options → List ℕ → Option Options
 with_dump o value = option_map (λ e. record o { dump = Some e }) (once o.dump (extent_of value))
 
--- the options behind one more that stands at the front, if one does
+-- the options after one more that stands at the front, if one does
 unfoldable pub option_at : Options → Words → Option (Options × Words)
 option_at o words =
     given (value_at (codes "--vl") words) (λ p. option_map (λ n. (n, p.1)) (with_vl o p.0))
@@ -126,7 +128,7 @@ option_at o words =
 abbrev pub no_options : Options
 no_options = record { vl = None; steps = None; map = None; dump = None }
 
--- the options that stand at the front, and the words behind them; there are four, and each stands at most once
+-- the options that stand at the front, and the words after them; there are four, and each stands at most once
 unfoldable pub options_of : Words → Option (Options × Words)
 options_of words =
     option_and_then (λ one.
@@ -195,6 +197,26 @@ eval_with o words = if is_some o.vl then None else option_map EvalLine (task_of 
 unfoldable pub eval_of : Words → Option Line
 eval_of words = option_and_then (λ p. option_and_then (eval_with p.0) (positional p.1)) (options_of words)
 
+-- `debug` with these options and positional words: 128 bits where no option tells, and neither steps nor a dump
+unfoldable pub debug_with : Options → Words → Option Line
+debug_with o words =
+    if is_some o.steps then None
+    else if is_some o.dump then None
+    else if is_length (or_default o.vl 128) then option_map (DebugLine (or_default o.vl 128)) (task_of o words)
+    else None
+
+-- `debug [--vl N] [--map M] FILE [ARG]..`
+unfoldable pub debug_of : Words → Option Line
+debug_of words = option_and_then (λ p. option_and_then (debug_with p.0) (positional p.1)) (options_of words)
+
+abbrev pub number_and_file : Words → Option Line
+number_and_file (number ∷ to ∷ []) = option_map (λ n. SweepLine n to) (number_of number)
+number_and_file _ = None
+
+-- `sweep NUMBER OUT`
+unfoldable pub sweep_of : Words → Option Line
+sweep_of words = option_and_then number_and_file (positional words)
+
 -- the command of some words, where they are one
 unfoldable pub line_of : Words → Option Line
 line_of [] = None
@@ -203,4 +225,6 @@ line_of (name ∷ words) =
     if bytes_eq name (codes "check") then option_map CheckLine (file_of words) else
     if bytes_eq name (codes "eval") then eval_of words else
     if bytes_eq name (codes "list") then option_map ListLine (file_of words) else
-    if bytes_eq name (codes "run") then run_of words else None
+    if bytes_eq name (codes "run") then run_of words else
+    if bytes_eq name (codes "debug") then debug_of words else
+    if bytes_eq name (codes "sweep") then sweep_of words else None

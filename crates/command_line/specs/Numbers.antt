@@ -3,7 +3,7 @@ use Rattle.std.specs.Prelude.{ℕ, ◌-◌, ◌%◌, ◌^◌, ◌==◌, List, le
 use Rattle.std.specs.List.{position_or_len, before_first, after_first}
 use Rattle.number_text.specs.Numbers.{given, after, decimal_of, number_of}
 
--- the parts of a word before and behind the first byte of this value
+-- the parts of a word before and after the first byte of this value
 unfoldable pub parted : ℕ → List ℕ → Option (List ℕ × List ℕ)
 parted b word =
     if nat_lt (position_or_len (λ c. c == b) word) (length word) then Some (before_first (λ c. c == b) word, after_first (λ c. c == b) word) else None

@@ -17,12 +17,16 @@ pub enum Command {
     List { from: String },
     /// Runs a program at a vector length.
     Run { vl: Vl, task: Task },
+    /// Answers the lines of the input on a program at a vector length; neither the steps nor the dump of the task count.
+    Debug { vl: Vl, task: Task },
+    /// Compiles the kernel that the number generates into the file `to`, and runs it at every vector length.
+    Sweep { number: u64, to: String },
 }
 
 /// What is to be run.
 ///
 /// `steps` is the most steps that it may take, `map` the file of a page map, `dump` the bytes of memory that are shown
-/// behind the run, and `file` the file that is run. The first of the arguments goes into the first register.
+/// after the run, and `file` the file that is run. The first of the arguments goes into the first register.
 #[derive(Drop)]
 pub struct Task {
     pub steps: u64,

@@ -1,8 +1,11 @@
-//! The words of a command line, read by hand.
+//! The words of a command line, read with `clap`.
 #![tactic(auto)]
 
+mod check;
 pub mod command;
 mod number;
 mod options;
+mod place;
 pub mod read;
+mod taken;
 mod word;

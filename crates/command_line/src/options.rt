@@ -1,14 +1,17 @@
 //! The options of a command.
 
-ghost use Rattle.std.specs.Prelude.{◌≡◌, option_map};
-ghost use Rattle.command_line.specs.Line.{value_named, value_in, value_behind, value_at, once, extent, extent_of, with_vl, with_steps, with_map, with_dump, option_at, options_of};
+ghost use Rattle.std.specs.Prelude.{◌≡◌, IfOk, option_map};
+ghost use Rattle.command_line.specs.Line.{extent, extent_of};
 ghost use Rattle.command_line.specs.Numbers.{parted};
+ghost use Rattle.command_line.specs.Given.{spelt_value, options_in};
+ghost use Rattle.command_line.specs.Taken.{given_view};
 ghost use Rattle.number_text.specs.Numbers.{number_of};
-ghost use Rattle.command_line.specs.Seen.{texts, bytes_left, both_left, value_and_rest, extent_seen, options_seen, options_and_rest};
+ghost use Rattle.command_line.specs.View.{both_left, bytes_left, extent_view, options_view, all_left};
 
 use crate::command::Extent;
-use crate::word::is_positional;
+use clap::ArgMatches;
 use number_text::number;
+use std::alloc::{AllocError, Global};
 
 /// The values of the options that were given.
 #[derive(Clone, Copy)]
@@ -19,14 +22,6 @@ pub struct Settings<'a> {
     pub dump: Option<Extent>,
 }
 
-// The parts of a word around its first equals sign.
-#[tactic(auto, unfolding(crate::specs::Numbers::parted))]
-fn around_equals(word: &str) -> Option<(&str, &str)>
-    ensures { option_map both_left result ≡ parted 61 word.now }
-{
-    word.split_once('=')
-}
-
 // The parts of a word around its first colon.
 #[tactic(auto, unfolding(crate::specs::Numbers::parted))]
 fn around_colon(word: &str) -> Option<(&str, &str)>
@@ -35,60 +30,9 @@ fn around_colon(word: &str) -> Option<(&str, &str)>
     word.split_once(':')
 }
 
-// The value of an option of this name in one word.
-fn value_in<'a>(name: &str, word: &'a str) -> Option<&'a str>
-    ensures { option_map bytes_left result ≡ value_in name.now word.now }
-{
-    let (front, value) = around_equals(word)?;
-    if front == name && is_positional(true, value.as_bytes()) {
-        Some(value)
-    } else {
-        None
-    }
-}
-
-// The word behind the name of an option.
-fn value_behind(words: &[String]) -> Option<(&str, &[String])>
-    ensures { option_map value_and_rest result ≡ value_behind (texts words.now) }
-{
-    let [value, rest @ ..] = words else {
-        return None;
-    };
-    if is_positional(false, value.as_bytes()) {
-        Some((value.as_str(), rest))
-    } else {
-        None
-    }
-}
-
-// The value of an option of this name at the front, and the words behind it.
-#[tactic(auto, unfolding(crate::specs::Line::value_at))]
-fn value_at<'a>(name: &str, words: &'a [String]) -> Option<(&'a str, &'a [String])>
-    ensures { option_map value_and_rest result ≡ value_at name.now (texts words.now) }
-{
-    let [word, rest @ ..] = words else {
-        return None;
-    };
-    if word.as_str() == name {
-        return value_behind(rest);
-    }
-    let value = value_in(name, word.as_str())?;
-    Some((value, rest))
-}
-
-// The number of an option that was not given before.
-fn once(before: Option<u64>, value: &str) -> Option<u64>
-    ensures { result ≡ once before (number_of value.now) }
-{
-    if before.is_some() {
-        return None;
-    }
-    number(value.as_bytes())
-}
-
 // Bytes of memory, where these are at least one and at most 65,536, none of them at 2^64 or above.
 fn extent(address: u64, len: u64) -> Option<Extent>
-    ensures { option_map extent_seen result ≡ extent address len }
+    ensures { option_map extent_view result ≡ extent address len }
 {
     if len < 1 || len > 65536 || address > 0u64.wrapping_sub(len) {
         return None;
@@ -99,7 +43,7 @@ fn extent(address: u64, len: u64) -> Option<Extent>
 // Bytes of memory as `A:L`.
 #[tactic(auto, unfolding(crate::specs::Line::extent_of))]
 fn extent_of(word: &str) -> Option<Extent>
-    ensures { option_map extent_seen result ≡ extent_of word.now }
+    ensures { option_map extent_view result ≡ extent_of word.now }
 {
     let (address, len) = around_colon(word)?;
     let address = number(address.as_bytes())?;
@@ -107,99 +51,60 @@ fn extent_of(word: &str) -> Option<Extent>
     extent(address, len)
 }
 
-#[tactic(auto, unfolding(crate::specs::Line::with_vl))]
-fn with_vl<'a>(settings: Settings<'a>, value: &str) -> Option<Settings<'a>>
-    ensures { option_map options_seen result ≡ with_vl (options_seen settings.entry) value.now }
+// The number of an option, where it is left out or spells one.
+fn number_in(value: Option<&str>) -> Option<Option<u64>>
+    ensures { result ≡ spelt_value number_of (option_map bytes_left value.entry) }
 {
-    let vl = once(settings.vl, value)?;
+    match value {
+        Some(text) => {
+            let n = number(text.as_bytes())?;
+            Some(Some(n))
+        }
+        None => Some(None),
+    }
+}
+
+// The bytes of memory of an option, where it is left out or spells some.
+fn extent_in(value: Option<&str>) -> Option<Option<Extent>>
+    ensures { option_map (option_map extent_view) result ≡ spelt_value extent_of (option_map bytes_left value.entry) }
+{
+    match value {
+        Some(text) => {
+            let extent = extent_of(text)?;
+            Some(Some(extent))
+        }
+        None => Some(None),
+    }
+}
+
+/// The values of the options that were found, where they spell some.
+#[tactic(auto, unfolding(crate::specs::Given::options_in))]
+pub fn read_settings<'a>(found: &ArgMatches<'a>) -> Option<Settings<'a>>
+    ensures { option_map options_view result ≡ options_in (given_view found.now) }
+{
+    let vl = number_in(found.get_str("vl"))?;
+    let steps = number_in(found.get_str("steps"))?;
+    let dump = extent_in(found.get_str("dump"))?;
     Some(Settings {
-        vl: Some(vl),
-        steps: settings.steps,
-        map: settings.map,
-        dump: settings.dump,
+        vl,
+        steps,
+        map: found.get_str("map"),
+        dump,
     })
 }
 
-#[tactic(auto, unfolding(crate::specs::Line::with_steps))]
-fn with_steps<'a>(settings: Settings<'a>, value: &str) -> Option<Settings<'a>>
-    ensures { option_map options_seen result ≡ with_steps (options_seen settings.entry) value.now }
+/// The positional words that were found.
+pub fn positional<'a>(alloc: Global, found: &ArgMatches<'a>) -> Result<Vec<&'a str>, AllocError>
+    ensures { IfOk result (λ words. all_left words.items ≡ (given_view found.now).words) }
 {
-    let steps = once(settings.steps, value)?;
-    Some(Settings {
-        vl: settings.vl,
-        steps: Some(steps),
-        map: settings.map,
-        dump: settings.dump,
-    })
-}
-
-#[tactic(auto, unfolding(crate::specs::Line::with_map))]
-fn with_map<'a>(settings: Settings<'a>, value: &'a str) -> Option<Settings<'a>>
-    ensures { option_map options_seen result ≡ with_map (options_seen settings.entry) value.now }
-{
-    if settings.map.is_some() {
-        return None;
+    match found.get_strs("words") {
+        Some(words) => {
+            let words = Vec::from_slice(alloc, words)?;
+            Ok(words)
+        }
+        None => {
+            let none = Vec::new(alloc);
+            Ok(none)
+        }
     }
-    Some(Settings {
-        vl: settings.vl,
-        steps: settings.steps,
-        map: Some(value),
-        dump: settings.dump,
-    })
-}
-
-#[tactic(auto, unfolding(crate::specs::Line::with_dump))]
-fn with_dump<'a>(settings: Settings<'a>, value: &str) -> Option<Settings<'a>>
-    ensures { option_map options_seen result ≡ with_dump (options_seen settings.entry) value.now }
-{
-    if settings.dump.is_some() {
-        return None;
-    }
-    let dump = extent_of(value)?;
-    Some(Settings {
-        vl: settings.vl,
-        steps: settings.steps,
-        map: settings.map,
-        dump: Some(dump),
-    })
-}
-
-// The options behind one more at the front, if one stands there.
-#[tactic(auto, unfolding(crate::specs::Line::option_at))]
-fn option_at<'a>(
-    settings: Settings<'a>,
-    words: &'a [String],
-) -> Option<(Settings<'a>, &'a [String])>
-    ensures { option_map options_and_rest result ≡ option_at (options_seen settings.entry) (texts words.now) }
-{
-    if let Some((value, rest)) = value_at("--vl", words) {
-        return Some((with_vl(settings, value)?, rest));
-    }
-    if let Some((value, rest)) = value_at("--steps", words) {
-        return Some((with_steps(settings, value)?, rest));
-    }
-    if let Some((value, rest)) = value_at("--map", words) {
-        return Some((with_map(settings, value)?, rest));
-    }
-    if let Some((value, rest)) = value_at("--dump", words) {
-        return Some((with_dump(settings, value)?, rest));
-    }
-    Some((settings, words))
-}
-
-/// The options that stand at the front, and the words behind them.
-#[tactic(auto, unfolding(crate::specs::Line::options_of))]
-pub fn options(words: &[String]) -> Option<(Settings<'_>, &[String])>
-    ensures { option_map options_and_rest result ≡ options_of (texts words.now) }
-{
-    let none = Settings {
-        vl: None,
-        steps: None,
-        map: None,
-        dump: None,
-    };
-    let (one, words) = option_at(none, words)?;
-    let (two, words) = option_at(one, words)?;
-    let (three, words) = option_at(two, words)?;
-    option_at(three, words)
 }

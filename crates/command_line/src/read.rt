@@ -1,37 +1,60 @@
 //! Reading the words of a command.
 
 ghost use Rattle.std.specs.Prelude.{◌≡◌, ◌≤◌, IfOk, IfSome, option_map, is_some, length, [], string_bytes};
-ghost use Rattle.command_line.specs.Line.{is_length, positional, arguments_from, arguments_of, task_of, run_with, run_of, compile_of, file_of, eval_with, eval_of, line_of, CheckLine, ListLine};
-ghost use Rattle.command_line.specs.Seen.{texts, texts_in, items_in, bytes_left, options_seen, task_seen, command_seen};
+ghost use Rattle.command_line.specs.Line.{is_length, positional, arguments_from, arguments_of, task_of, run_with, run_of, debug_with, debug_of, compile_of, sweep_of, file_of, eval_with, eval_of, line_of, CheckLine, ListLine};
+ghost use Rattle.command_line.specs.View.{texts, items_in, bytes_left, all_left, all_in, options_view, task_view, command_view};
 
 use crate::command::{Command, Task};
 use crate::number::argument;
-use crate::options::{Settings, options};
-use crate::word::{is_end, is_positional};
+use crate::options::{Settings, positional, read_settings};
+use crate::place::Allowed;
+use crate::taken::taken;
 use guest_types::length::Vl;
+use number_text::number;
 use std::alloc::{AllocError, Global};
 
-// The positional words.
-#[tactic(auto, unfolding(crate::specs::Line::positional_from))]
-fn positional(alloc: Global, words: &[String]) -> Result<Option<Vec<String>>, AllocError>
-    ensures { IfOk result (λ o. option_map texts_in o ≡ positional (texts words.now)) }
+const NO_OPTIONS: Allowed = Allowed {
+    vl: false,
+    steps: false,
+    map: false,
+    dump: false,
+};
+
+const EVAL_OPTIONS: Allowed = Allowed {
+    vl: false,
+    steps: true,
+    map: true,
+    dump: true,
+};
+
+const RUN_OPTIONS: Allowed = Allowed {
+    vl: true,
+    steps: true,
+    map: true,
+    dump: true,
+};
+
+const DEBUG_OPTIONS: Allowed = Allowed {
+    vl: true,
+    steps: false,
+    map: true,
+    dump: false,
+};
+
+// The positional words of a command that has no options.
+#[tactic(auto, using(crate::proofs::Lines::words_alone))]
+fn words_alone<'a>(
+    alloc: Global,
+    name: &'a str,
+    words: &'a [String],
+) -> Result<Option<Vec<&'a str>>, AllocError>
+    ensures { IfOk result (λ o. option_map all_in o ≡ positional (texts words.entry.now)) }
 {
-    let mut found = Vec::new(alloc);
-    let mut literal = false;
-    for word in words {
-        if is_end(word.as_str()) {
-            if literal {
-                return Ok(None);
-            }
-            literal = true;
-        } else {
-            if !is_positional(literal, word.as_bytes()) {
-                return Ok(None);
-            }
-            found.push(String::from_str(alloc, word.as_str())?)?;
-        }
-    }
-    Ok(Some(found))
+    let Some(found) = taken(alloc, name, NO_OPTIONS, words)? else {
+        return Ok(None);
+    };
+    let words = positional(alloc, &found)?;
+    Ok(Some(words))
 }
 
 // The vector length of so many bits.
@@ -47,8 +70,8 @@ fn length_of(bits: u64) -> Option<Vl>
 
 // The arguments that these words spell.
 #[tactic(auto, unfolding(crate::specs::Line::arguments_from))]
-fn all_arguments(alloc: Global, words: &[String]) -> Result<Option<Vec<u64>>, AllocError>
-    ensures read { IfOk result (λ o. option_map items_in o ≡ arguments_from [] (texts words.now)) }
+fn all_arguments(alloc: Global, words: &[&str]) -> Result<Option<Vec<u64>>, AllocError>
+    ensures read { IfOk result (λ o. option_map items_in o ≡ arguments_from [] (all_left words.now)) }
     ensures count { IfOk result (λ o. IfSome o (λ args. length args.items ≡ length words.now)) }
 {
     let mut args = Vec::new(alloc);
@@ -63,8 +86,8 @@ fn all_arguments(alloc: Global, words: &[String]) -> Result<Option<Vec<u64>>, Al
 
 // At most eight arguments.
 #[tactic(auto, unfolding(crate::specs::Line::arguments_of))]
-fn arguments(alloc: Global, words: &[String]) -> Result<Option<Vec<u64>>, AllocError>
-    ensures read { IfOk result (λ o. option_map items_in o ≡ arguments_of (texts words.now)) }
+fn arguments(alloc: Global, words: &[&str]) -> Result<Option<Vec<u64>>, AllocError>
+    ensures read { IfOk result (λ o. option_map items_in o ≡ arguments_of (all_left words.now)) }
     ensures few { IfOk result (λ o. IfSome o (λ args. length args.items ≤ 8)) }
 {
     if words.len() > 8 {
@@ -85,8 +108,8 @@ fn owned(alloc: Global, text: Option<&str>) -> Result<Option<String>, AllocError
 
 // What is to be run, by its options and positional words.
 #[tactic(auto, unfolding(crate::specs::Line::task_of))]
-fn task(alloc: Global, settings: Settings<'_>, words: &[String]) -> Result<Option<Task>, AllocError>
-    ensures { IfOk result (λ o. option_map task_seen o ≡ task_of (options_seen settings.entry) (texts words.now)) }
+fn task(alloc: Global, settings: Settings<'_>, words: &[&str]) -> Result<Option<Task>, AllocError>
+    ensures { IfOk result (λ o. option_map task_view o ≡ task_of (options_view settings.entry) (all_left words.now)) }
 {
     let [file, rest @ ..] = words else {
         return Ok(None);
@@ -98,7 +121,7 @@ fn task(alloc: Global, settings: Settings<'_>, words: &[String]) -> Result<Optio
         steps: settings.steps.unwrap_or(100_000_000),
         map: owned(alloc, settings.map)?,
         dump: settings.dump,
-        file: String::from_str(alloc, file.as_str())?,
+        file: String::from_str(alloc, file)?,
         args,
     }))
 }
@@ -108,9 +131,10 @@ fn task(alloc: Global, settings: Settings<'_>, words: &[String]) -> Result<Optio
 fn run_with(
     alloc: Global,
     settings: Settings<'_>,
-    words: &[String],
+    words: &[&str],
 ) -> Result<Option<Command>, AllocError>
-    ensures { IfOk result (λ o. option_map command_seen o ≡ run_with (options_seen settings.entry) (texts words.now)) }
+    ensures { IfOk result (λ o. option_map command_view o
+        ≡ run_with (options_view settings.entry) (all_left words.now)) }
 {
     let Some(vl) = length_of(settings.vl.unwrap_or(128)) else {
         return Ok(None);
@@ -121,66 +145,124 @@ fn run_with(
     Ok(Some(Command::Run { vl, task }))
 }
 
-// The command of the words behind `run`.
-#[tactic(auto, unfolding(crate::specs::Line::run_of))]
+// The command of the words after `run`.
+#[tactic(auto, using(crate::proofs::Lines::run_is))]
 fn run(alloc: Global, words: &[String]) -> Result<Option<Command>, AllocError>
-    ensures { IfOk result (λ o. option_map command_seen o ≡ run_of (texts words.now)) }
+    ensures { IfOk result (λ o. option_map command_view o ≡ run_of (texts words.now)) }
 {
-    let Some((settings, rest)) = options(words) else {
+    let Some(found) = taken(alloc, "run", RUN_OPTIONS, words)? else {
         return Ok(None);
     };
-    let Some(found) = positional(alloc, rest)? else {
+    let Some(settings) = read_settings(&found) else {
         return Ok(None);
     };
-    run_with(alloc, settings, &found)
+    let words = positional(alloc, &found)?;
+    run_with(alloc, settings, &words)
 }
 
-// The command of the words behind `compile`.
+// A debugging session with these options and positional words.
+#[tactic(auto, unfolding(crate::specs::Line::debug_with))]
+fn debug_with(
+    alloc: Global,
+    settings: Settings<'_>,
+    words: &[&str],
+) -> Result<Option<Command>, AllocError>
+    ensures { IfOk result (λ o. option_map command_view o
+        ≡ debug_with (options_view settings.entry) (all_left words.now)) }
+{
+    if settings.steps.is_some() || settings.dump.is_some() {
+        return Ok(None);
+    }
+    let Some(vl) = length_of(settings.vl.unwrap_or(128)) else {
+        return Ok(None);
+    };
+    let Some(task) = task(alloc, settings, words)? else {
+        return Ok(None);
+    };
+    Ok(Some(Command::Debug { vl, task }))
+}
+
+// The command of the words after `debug`.
+#[tactic(auto, using(crate::proofs::Lines::debug_is))]
+fn debug(alloc: Global, words: &[String]) -> Result<Option<Command>, AllocError>
+    ensures { IfOk result (λ o. option_map command_view o ≡ debug_of (texts words.now)) }
+{
+    let Some(found) = taken(alloc, "debug", DEBUG_OPTIONS, words)? else {
+        return Ok(None);
+    };
+    let Some(settings) = read_settings(&found) else {
+        return Ok(None);
+    };
+    let words = positional(alloc, &found)?;
+    debug_with(alloc, settings, &words)
+}
+
+// The command of the words after `sweep`.
+#[tactic(auto, unfolding(crate::specs::Line::sweep_of))]
+fn sweep(alloc: Global, words: &[String]) -> Result<Option<Command>, AllocError>
+    ensures { IfOk result (λ o. option_map command_view o ≡ sweep_of (texts words.now)) }
+{
+    let Some(found) = words_alone(alloc, "sweep", words)? else {
+        return Ok(None);
+    };
+    let [number_word, to] = found.as_slice() else {
+        return Ok(None);
+    };
+    let Some(number) = number(number_word.as_bytes()) else {
+        return Ok(None);
+    };
+    Ok(Some(Command::Sweep {
+        number,
+        to: String::from_str(alloc, to)?,
+    }))
+}
+
+// The command of the words after `compile`.
 #[tactic(auto, unfolding(crate::specs::Line::compile_of))]
 fn compile(alloc: Global, words: &[String]) -> Result<Option<Command>, AllocError>
-    ensures { IfOk result (λ o. option_map command_seen o ≡ compile_of (texts words.now)) }
+    ensures { IfOk result (λ o. option_map command_view o ≡ compile_of (texts words.now)) }
 {
-    let Some(found) = positional(alloc, words)? else {
+    let Some(found) = words_alone(alloc, "compile", words)? else {
         return Ok(None);
     };
     let [from, to] = found.as_slice() else {
         return Ok(None);
     };
     Ok(Some(Command::Compile {
-        from: String::from_str(alloc, from.as_str())?,
-        to: String::from_str(alloc, to.as_str())?,
+        from: String::from_str(alloc, from)?,
+        to: String::from_str(alloc, to)?,
     }))
 }
 
 // The one positional word, where there are no others.
 #[tactic(auto, unfolding(crate::specs::Line::file_of))]
-fn file(alloc: Global, words: &[String]) -> Result<Option<String>, AllocError>
+fn file(alloc: Global, name: &'static str, words: &[String]) -> Result<Option<String>, AllocError>
     ensures { IfOk result (λ o. option_map string_bytes o ≡ file_of (texts words.now)) }
 {
-    let Some(found) = positional(alloc, words)? else {
+    let Some(found) = words_alone(alloc, name, words)? else {
         return Ok(None);
     };
     let [from] = found.as_slice() else {
         return Ok(None);
     };
-    Ok(Some(String::from_str(alloc, from.as_str())?))
+    Ok(Some(String::from_str(alloc, from)?))
 }
 
-// The command of the words behind `check`.
+// The command of the words after `check`.
 fn check(alloc: Global, words: &[String]) -> Result<Option<Command>, AllocError>
-    ensures { IfOk result (λ o. option_map command_seen o ≡ option_map CheckLine (file_of (texts words.now))) }
+    ensures { IfOk result (λ o. option_map command_view o ≡ option_map CheckLine (file_of (texts words.now))) }
 {
-    match file(alloc, words)? {
+    match file(alloc, "check", words)? {
         Some(from) => Ok(Some(Command::Check { from })),
         None => Ok(None),
     }
 }
 
-// The command of the words behind `list`.
+// The command of the words after `list`.
 fn list(alloc: Global, words: &[String]) -> Result<Option<Command>, AllocError>
-    ensures { IfOk result (λ o. option_map command_seen o ≡ option_map ListLine (file_of (texts words.now))) }
+    ensures { IfOk result (λ o. option_map command_view o ≡ option_map ListLine (file_of (texts words.now))) }
 {
-    match file(alloc, words)? {
+    match file(alloc, "list", words)? {
         Some(from) => Ok(Some(Command::List { from })),
         None => Ok(None),
     }
@@ -191,9 +273,10 @@ fn list(alloc: Global, words: &[String]) -> Result<Option<Command>, AllocError>
 fn eval_with(
     alloc: Global,
     settings: Settings<'_>,
-    words: &[String],
+    words: &[&str],
 ) -> Result<Option<Command>, AllocError>
-    ensures { IfOk result (λ o. option_map command_seen o ≡ eval_with (options_seen settings.entry) (texts words.now)) }
+    ensures { IfOk result (λ o. option_map command_view o
+        ≡ eval_with (options_view settings.entry) (all_left words.now)) }
 {
     if settings.vl.is_some() {
         return Ok(None);
@@ -204,28 +287,30 @@ fn eval_with(
     }
 }
 
-// The command of the words behind `eval`.
-#[tactic(auto, unfolding(crate::specs::Line::eval_of))]
+// The command of the words after `eval`.
+#[tactic(auto, using(crate::proofs::Lines::eval_is))]
 fn eval(alloc: Global, words: &[String]) -> Result<Option<Command>, AllocError>
-    ensures { IfOk result (λ o. option_map command_seen o ≡ eval_of (texts words.now)) }
+    ensures { IfOk result (λ o. option_map command_view o ≡ eval_of (texts words.now)) }
 {
-    let Some((settings, rest)) = options(words) else {
+    let Some(found) = taken(alloc, "eval", EVAL_OPTIONS, words)? else {
         return Ok(None);
     };
-    let Some(found) = positional(alloc, rest)? else {
+    let Some(settings) = read_settings(&found) else {
         return Ok(None);
     };
-    eval_with(alloc, settings, &found)
+    let words = positional(alloc, &found)?;
+    eval_with(alloc, settings, &words)
 }
 
 /// The command that the words spell, where they are one. The words are those after the program's name.
 ///
 /// The first word names the command, options stand next and positional words last:
-/// `compile IN OUT`, `check IN`, `eval [--map M] [--steps N] [--dump A:L] IN [ARG]..`, `list FILE` and
-/// `run [--vl N] [--steps N] [--map M] [--dump A:L] FILE [ARG]..`.
+/// `compile IN OUT`, `check IN`, `eval [--map M] [--steps N] [--dump A:L] IN [ARG]..`, `list FILE`,
+/// `run [--vl N] [--steps N] [--map M] [--dump A:L] FILE [ARG]..`, `debug [--vl N] [--map M] FILE [ARG]..` and
+/// `sweep NUMBER OUT`.
 #[tactic(auto, unfolding(crate::specs::Line::line_of))]
 pub fn read_line(alloc: Global, words: &[String]) -> Result<Option<Command>, AllocError>
-    ensures { IfOk result (λ o. option_map command_seen o ≡ line_of (texts words.now)) }
+    ensures { IfOk result (λ o. option_map command_view o ≡ line_of (texts words.now)) }
 {
     let [name, rest @ ..] = words else {
         return Ok(None);
@@ -236,6 +321,8 @@ pub fn read_line(alloc: Global, words: &[String]) -> Result<Option<Command>, All
         "eval" => eval(alloc, rest),
         "list" => list(alloc, rest),
         "run" => run(alloc, rest),
+        "debug" => debug(alloc, rest),
+        "sweep" => sweep(alloc, rest),
         _ => Ok(None),
     }
 }
@@ -279,6 +366,13 @@ mod tests {
             "run --dump 0xffffffffffffffff:2 e1.elf",
             "run --dump 5:6:7 e1.elf",
             "run e1.elf 1 2 3 4 5 6 7 8 9",
+            "debug",
+            "debug --steps 5 f",
+            "debug --dump 1:2 f",
+            "sweep 5",
+            "sweep x out",
+            "sweep 5 out more",
+            "sweep -5 out",
         ];
         for line in lines {
             assert!(rt; read(rt.alloc(), line)?.is_none());
@@ -376,6 +470,37 @@ mod tests {
         let command = read(rt.alloc(), "list -- --vl")?;
         let good = match &command {
             Some(Command::List { from }) => from.as_str() == "--vl",
+            _ => false,
+        };
+        assert!(rt; good);
+        Ok(())
+    }
+
+    #[test]
+    fn sessions(rt: HostRuntime) -> Result<(), Fail> {
+        let command = read(rt.alloc(), "debug --vl 256 --map m f 5")?;
+        let good = match &command {
+            Some(Command::Debug { vl, task }) => {
+                let mapped = match &task.map {
+                    Some(name) => name.as_str() == "m",
+                    None => false,
+                };
+                mapped
+                    && vl.bits() == 256
+                    && task.file.as_str() == "f"
+                    && task.args.as_slice() == [5].as_slice()
+            }
+            _ => false,
+        };
+        assert!(rt; good);
+        Ok(())
+    }
+
+    #[test]
+    fn sweeps(rt: HostRuntime) -> Result<(), Fail> {
+        let command = read(rt.alloc(), "sweep 0x10 -- -out")?;
+        let good = match &command {
+            Some(Command::Sweep { number, to }) => *number == 16 && to.as_str() == "-out",
             _ => false,
         };
         assert!(rt; good);

@@ -12,13 +12,13 @@ use Rattle.kernel_meaning.specs.declared.outcome.ScalarOutcome.TheVariants as sc
 use Rattle.scalar_text.specs.ScalarText.{scalar_text}
 use Rattle.map_text.specs.declared.fault.MapFault.{MapFault}
 use Rattle.map_text.specs.Mapping.{map_of as pages_of_map}
-use Rattle.map_text.specs.Seen.{Refuses as RefusesMap}
+use Rattle.map_text.specs.View.{Refuses as RefusesMap}
 use Rattle.command_line.specs.Line.{Task}
-use Rattle.sve_top.specs.declared.refusal.Refusal.{Refusal}
-use Rattle.sve_top.specs.declared.refusal.Refusal.TheVariants.{Map}
-use Rattle.sve_top.specs.declared.refusal.Done.{Done}
-use Rattle.sve_top.specs.Answer.{of_map}
-use Rattle.sve_top.specs.Commands.{and_then, mapped, outcome_by, left_by, scalar_done, scalar_deed, dump_of, eval_over, eval_kernel, RefusesProgram}
+use Rattle.refusals.specs.declared.refusal.Refusal.{Refusal}
+use Rattle.refusals.specs.declared.refusal.Refusal.TheVariants.{Map}
+use Rattle.refusals.specs.declared.refusal.Done.{Done}
+use Rattle.refusals.specs.Statuses.{of_map}
+use Rattle.sve_top.specs.Commands.{and_then, mapped, outcome_by, left_by, scalar_done, scalar_success, dump_of, eval_over, eval_kernel, RefusesProgram}
 use Rattle.sve_top.proofs.Programs.{map_error_refused}
 
 -- ---- outcomes
@@ -65,7 +65,7 @@ eval_played task map k none pages before after o how text empty e same is done s
     let out = outcome_is o task.steps (scalar_run k task.args before) after (first_leave k task.args task.steps before) is in
     eval_is task map k none (Ok pages) empty e
     ∙ ap (eval_over task k) (sym same)
-    ∙ ap (λ r. scalar_deed task.dump r (left_by task.steps (scalar_run k task.args before) (first_leave k task.args task.steps before))) out.0
-    ∙ ap (λ m. scalar_deed task.dump o m) out.1
+    ∙ ap (λ r. scalar_success task.dump r (left_by task.steps (scalar_run k task.args before) (first_leave k task.args task.steps before))) out.0
+    ∙ ap (λ m. scalar_success task.dump o m) out.1
     ∙ ap (λ h. Ok (record { how = h; text = scalar_text o ++ dump_of task.dump after })) (sym done)
     ∙ ap (λ t. Ok (record { how = how; text = t })) (sym shown)

@@ -1,8 +1,11 @@
 pub mod Puts
 pub mod Programs
 pub mod Listings
-pub mod Wanted
+pub mod Expectations
 pub mod Statuses
 pub mod Evaluations
-pub mod SomeWork
-pub mod OneWork
+pub mod SomeExpectedLaws
+pub mod OneExpectedLaws
+pub mod Completions
+pub mod Sessions
+pub mod Sweeps

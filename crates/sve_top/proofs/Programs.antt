@@ -10,22 +10,27 @@ use Rattle.machine_model.specs.declared.elf_fault.ElfFault.TheVariants.{Short, N
 use Rattle.machine_model.specs.declared.outcome.Outcome.{Outcome as OutcomeAnswer}
 use Rattle.machine_model.specs.declared.outcome.Outcome.TheVariants as outcomes
 use Rattle.machine_model.specs.Answers.{outcome_of}
+use Rattle.machine_model.specs.Debugged.{View}
 use Rattle.machine_model.specs.Machine.{State}
 use Rattle.machine_model.specs.OutcomeText.{outcome_text}
 use Rattle.machine_model.specs.Run.{Outcome, run, start}
-use Rattle.outcome_text.specs.Shown.{text_of as text_of_outcome}
+use Rattle.outcome_text.specs.View.{text_of as text_of_outcome}
 use Rattle.elf_image.specs.Loaded.{Refuses}
 use Rattle.map_text.specs.declared.fault.MapFault.{MapFault}
 use Rattle.map_text.specs.declared.fault.MapFault.TheVariants as maps
 use Rattle.map_text.specs.Mapping.{map_of as pages_of_map}
-use Rattle.map_text.specs.Seen.{Refuses as RefusesMap}
+use Rattle.map_text.specs.View.{Refuses as RefusesMap}
 use Rattle.command_line.specs.Line.{Task}
-use Rattle.sve_top.specs.declared.refusal.Refusal.{Refusal}
-use Rattle.sve_top.specs.declared.refusal.Refusal.TheVariants.{Elf, Map}
-use Rattle.sve_top.specs.declared.refusal.Done.{Done}
+use Rattle.sve_debug.specs.Replies.{started}
+use Rattle.sve_debug.specs.Sessions.{session_text}
+use Rattle.refusals.specs.declared.refusal.Refusal.{Refusal}
+use Rattle.refusals.specs.declared.refusal.Refusal.TheVariants.{Elf, Map}
+use Rattle.refusals.specs.declared.refusal.Done.{Done}
 use Rattle.sve_top.specs.Listing.{lines_from, listing_of, word_count}
-use Rattle.sve_top.specs.Answer.{Work, of_elf, of_map}
-use Rattle.sve_top.specs.Commands.{and_then, loaded, mapped, beside, ended, list_program, run_program, deed_of, dump_of, memory_left, done_by, done_of, RefusesProgram}
+use Rattle.sve_top.specs.Answer.{Expected}
+use Rattle.refusals.specs.Statuses.{of_elf, of_map}
+use Rattle.sve_top.specs.Ready.{BeginsProgram}
+use Rattle.sve_top.specs.Commands.{and_then, loaded, mapped, beside, ended, with_program, list_program, ran, run_program, debugged, debug_program, success_of, dump_of, memory_left, done_by, done_of, RefusesProgram}
 use Rattle.machine_model.specs.Load.{Image, Segment, load, load_segments, segments_from, le_at, image_of, is_loaded, first_bad, any_segment, is_dynamic, has_ident, pages_from, pages_of, page_count, first_page, put_in_order, in_order, clash}
 
 length-pages_from : (bytes : List ℕ) (s : Segment) (n count : ℕ) → length (pages_from bytes s n count) ≡ count
@@ -128,7 +133,7 @@ none_in_order other e = subst IsMemory (sym e) empty_memory
 -- ---- programs that are refused
 
 -- a refusal of the loader is that of the command, where the command wants it
-program_refused : (image : Result Image ElfFault) (wanted : Work) (fault : ElfFault) (refusal : Refusal) → ((fault : ElfFault) → image ≡ Err fault → wanted ≡ Err (Elf fault)) → refusal ≡ of_elf fault → Refuses image fault → RefusesProgram wanted refusal
+program_refused : (image : Result Image ElfFault) (wanted : Expected) (fault : ElfFault) (refusal : Refusal) → ((fault : ElfFault) → image ≡ Err fault → wanted ≡ Err (Elf fault)) → refusal ≡ of_elf fault → Refuses image fault → RefusesProgram wanted refusal
 program_refused image wanted fault refusal all is h = subst (RefusesProgram wanted) (sym is) (by fault h)
   where
     by : (fault : ElfFault) → Refuses image fault → RefusesProgram wanted (of_elf fault)
@@ -141,12 +146,12 @@ program_refused image wanted fault refusal all is h = subst (RefusesProgram want
     by TooManyPages h = all TooManyPages h
     by NoMemory h = tt
 
-error_refused : {T : Type 0} (image : Result Image ElfFault) (wanted : Work) (fault : ElfFault) (result : Result T Refusal) → ((fault : ElfFault) → image ≡ Err fault → wanted ≡ Err (Elf fault)) → IsErrAnd result (λ refusal. refusal ≡ of_elf fault) → Refuses image fault → IfErr result (λ refusal. RefusesProgram wanted refusal)
+error_refused : {T : Type 0} (image : Result Image ElfFault) (wanted : Expected) (fault : ElfFault) (result : Result T Refusal) → ((fault : ElfFault) → image ≡ Err fault → wanted ≡ Err (Elf fault)) → IsErrAnd result (λ refusal. refusal ≡ of_elf fault) → Refuses image fault → IfErr result (λ refusal. RefusesProgram wanted refusal)
 error_refused image wanted fault (Ok value) all is h = tt
 error_refused image wanted fault (Err refusal) all is h = program_refused image wanted fault refusal all is h
 
 -- the same of a map's refusal
-map_refused : (pages : Result Memory MapFault) (wanted : Work) (fault : MapFault) (refusal : Refusal) → ((fault : MapFault) → pages ≡ Err fault → wanted ≡ Err (Map fault)) → refusal ≡ of_map fault → RefusesMap pages fault → RefusesProgram wanted refusal
+map_refused : (pages : Result Memory MapFault) (wanted : Expected) (fault : MapFault) (refusal : Refusal) → ((fault : MapFault) → pages ≡ Err fault → wanted ≡ Err (Map fault)) → refusal ≡ of_map fault → RefusesMap pages fault → RefusesProgram wanted refusal
 map_refused pages wanted fault refusal all is h = subst (RefusesProgram wanted) (sym is) (by fault h)
   where
     by : (fault : MapFault) → RefusesMap pages fault → RefusesProgram wanted (of_map fault)
@@ -156,7 +161,7 @@ map_refused pages wanted fault refusal all is h = subst (RefusesProgram wanted) 
     by maps.TooManyPages h = all maps.TooManyPages h
     by maps.Memory h = tt
 
-pub map_error_refused : {T : Type 0} (pages : Result Memory MapFault) (wanted : Work) (fault : MapFault) (result : Result T Refusal) → ((fault : MapFault) → pages ≡ Err fault → wanted ≡ Err (Map fault)) → IsErrAnd result (λ refusal. refusal ≡ of_map fault) → RefusesMap pages fault → IfErr result (λ refusal. RefusesProgram wanted refusal)
+pub map_error_refused : {T : Type 0} (pages : Result Memory MapFault) (wanted : Expected) (fault : MapFault) (result : Result T Refusal) → ((fault : MapFault) → pages ≡ Err fault → wanted ≡ Err (Map fault)) → IsErrAnd result (λ refusal. refusal ≡ of_map fault) → RefusesMap pages fault → IfErr result (λ refusal. RefusesProgram wanted refusal)
 map_error_refused pages wanted fault (Ok value) all is h = tt
 map_error_refused pages wanted fault (Err refusal) all is h = map_refused pages wanted fault refusal all is h
 
@@ -180,36 +185,45 @@ list_loaded bytes image memory from count e pages begin whole =
     ∙ ap (λ a. ended (lines_from memory a (word_count image))) (sym begin)
     ∙ ap (λ n. ended (lines_from memory from n)) (sym whole)
 
+-- ---- programs beside the pages of a map
+
+from_image : List ℕ → (Image → Memory → Expected) → Image → Expected
+from_image map next image = and_then (beside image map) (next image)
+
+with_is : (bytes map : List ℕ) (next : Image → Memory → Expected) (image : Result Image ElfFault) → load bytes ≡ image → with_program bytes map next ≡ and_then (loaded image) (from_image map next)
+unfolding with_program from_image
+with_is bytes map next image e = ap (λ l. and_then (loaded l) (from_image map next)) e
+
+with_wanted : (bytes map : List ℕ) (next : Image → Memory → Expected) (fault : ElfFault) → load bytes ≡ Err fault → with_program bytes map next ≡ Err (Elf fault)
+with_wanted bytes map next fault e = with_is bytes map next (Err fault) e
+
+-- a program that is not loaded
+pub not_loaded : {T : Type 0} (bytes map : List ℕ) (fault : ElfFault) (result : Result T Refusal) → IsErrAnd result (λ refusal. refusal ≡ of_elf fault) → Refuses (load bytes) fault → IfErr result (λ refusal. (next : Image → Memory → Expected) → RefusesProgram (with_program bytes map next) refusal)
+not_loaded bytes map fault (Ok value) is h = tt
+not_loaded bytes map fault (Err refusal) is h =
+    λ next. program_refused (load bytes) (with_program bytes map next) fault refusal (with_wanted bytes map next) is h
+
+with_beside : (bytes map : List ℕ) (next : Image → Memory → Expected) (image : Image) (pages : Result Memory MapFault) → load bytes ≡ Ok image → pages_of_map map image.pages ≡ pages → with_program bytes map next ≡ and_then (mapped pages) (next image)
+unfolding from_image
+with_beside bytes map next image pages e h =
+    with_is bytes map next (Ok image) e ∙ ap (λ p. and_then (mapped p) (next image)) h
+
+map_wanted : (bytes map : List ℕ) (next : Image → Memory → Expected) (image : Image) → load bytes ≡ Ok image → (fault : MapFault) → pages_of_map map image.pages ≡ Err fault → with_program bytes map next ≡ Err (Map fault)
+map_wanted bytes map next image e fault h = with_beside bytes map next image (Err fault) e h
+
+-- a map that may not stand beside the program
+pub not_mapped : {T : Type 0} (bytes map : List ℕ) (image : Image) (fault : MapFault) (result : Result T Refusal) → load bytes ≡ Ok image → IsErrAnd result (λ refusal. refusal ≡ of_map fault) → RefusesMap (pages_of_map map image.pages) fault → IfErr result (λ refusal. (next : Image → Memory → Expected) → RefusesProgram (with_program bytes map next) refusal)
+not_mapped bytes map image fault (Ok value) e is h = tt
+not_mapped bytes map image fault (Err refusal) e is h =
+    λ next. map_refused (pages_of_map map image.pages) (with_program bytes map next) fault refusal (map_wanted bytes map next image e) is h
+
 -- ---- runs
 
-from_pages : ℕ → Task → Image → Memory → Work
-from_pages vl task image pages = deed_of task.dump (run task.steps 0 (start image task.args pages vl))
-
-from_image : ℕ → Task → List ℕ → Image → Work
-from_image vl task map image = and_then (beside image map) (from_pages vl task image)
-
-run_is : (vl : ℕ) (task : Task) (bytes map : List ℕ) (image : Result Image ElfFault) → load bytes ≡ image → run_program vl task bytes map ≡ and_then (loaded image) (from_image vl task map)
-unfolding run_program from_image from_pages
-run_is vl task bytes map image e = ap (λ l. and_then (loaded l) (from_image vl task map)) e
-
-run_wanted : (vl : ℕ) (task : Task) (bytes map : List ℕ) (fault : ElfFault) → load bytes ≡ Err fault → run_program vl task bytes map ≡ Err (Elf fault)
-run_wanted vl task bytes map fault e = run_is vl task bytes map (Err fault) e
-
-pub run_refused : {T : Type 0} (vl : ℕ) (task : Task) (bytes map : List ℕ) (fault : ElfFault) (result : Result T Refusal) → IsErrAnd result (λ refusal. refusal ≡ of_elf fault) → Refuses (load bytes) fault → IfErr result (λ refusal. RefusesProgram (run_program vl task bytes map) refusal)
-run_refused vl task bytes map fault result is h =
-    error_refused (load bytes) (run_program vl task bytes map) fault result (run_wanted vl task bytes map) is h
-
-beside_is : (vl : ℕ) (task : Task) (bytes map : List ℕ) (image : Image) (pages : Result Memory MapFault) → load bytes ≡ Ok image → pages_of_map map image.pages ≡ pages → run_program vl task bytes map ≡ and_then (mapped pages) (from_pages vl task image)
-unfolding from_image
-beside_is vl task bytes map image pages e h =
-    run_is vl task bytes map (Ok image) e ∙ ap (λ p. and_then (mapped p) (from_pages vl task image)) h
-
-map_wanted : (vl : ℕ) (task : Task) (bytes map : List ℕ) (image : Image) → load bytes ≡ Ok image → (fault : MapFault) → pages_of_map map image.pages ≡ Err fault → run_program vl task bytes map ≡ Err (Map fault)
-map_wanted vl task bytes map image e fault h = beside_is vl task bytes map image (Err fault) e h
-
-pub run_map_refused : {T : Type 0} (vl : ℕ) (task : Task) (bytes map : List ℕ) (image : Image) (fault : MapFault) (result : Result T Refusal) → load bytes ≡ Ok image → IsErrAnd result (λ refusal. refusal ≡ of_map fault) → RefusesMap (pages_of_map map image.pages) fault → IfErr result (λ refusal. RefusesProgram (run_program vl task bytes map) refusal)
-run_map_refused vl task bytes map image fault result e is h =
-    map_error_refused (pages_of_map map image.pages) (run_program vl task bytes map) fault result (map_wanted vl task bytes map image e) is h
+-- no machine could be made for a run
+pub run_not_begun : {T : Type 0} (vl : ℕ) (task : Task) (bytes map : List ℕ) (refusal : Refusal) (result : Result T Refusal) → IsErrAnd result (λ r. r ≡ refusal) → ((next : Image → Memory → Expected) → RefusesProgram (with_program bytes map next) refusal) → IfErr result (λ r. RefusesProgram (run_program vl task bytes map) r)
+unfolding run_program
+run_not_begun vl task bytes map refusal (Ok value) is h = tt
+run_not_begun vl task bytes map refusal (Err r) is h = subst (RefusesProgram (with_program bytes map (ran vl task))) (sym is) (h (ran vl task))
 
 same_done : (o : OutcomeAnswer) (memory : Memory) (pc steps : ℕ) → done_by (outcome_of o memory pc steps) ≡ done_of o
 same_done (outcomes.End result) memory pc steps = refl
@@ -232,11 +246,27 @@ begun vl task image pages s taken o state none is =
 
 -- what a machine that ran from the start comes to
 pub run_played : (vl : ℕ) (task : Task) (bytes map : List ℕ) (image : Image) (pages : Memory) (s : State) (taken : ℕ) (o : OutcomeAnswer) (memory : Memory) (pc steps : ℕ) (how : Done) (text : List ℕ) → load bytes ≡ Ok image → pages_of_map map image.pages ≡ Ok pages → s ≡ start image task.args pages vl → taken ≡ 0 → run task.steps taken s ≡ outcome_of o memory pc steps → how ≡ done_of o → text ≡ text_of_outcome o pc steps ++ dump_of task.dump memory → run_program vl task bytes map ≡ Ok (record { how = how; text = text })
-unfolding from_pages
+unfolding run_program
 run_played vl task bytes map image pages s taken o memory pc steps how text e mapping state none is done shown =
     let whole : text ≡ outcome_text (outcome_of o memory pc steps) ++ dump_of task.dump (memory_left (outcome_of o memory pc steps)) = shown ∙ ap (λ t. t ++ dump_of task.dump memory) (sym (same_text o memory pc steps)) ∙ ap (λ m. outcome_text (outcome_of o memory pc steps) ++ dump_of task.dump m) (sym (same_memory o memory pc steps)) in
     let way : how ≡ done_by (outcome_of o memory pc steps) = done ∙ sym (same_done o memory pc steps) in
-    beside_is vl task bytes map image (Ok pages) e mapping
-    ∙ ap (deed_of task.dump) (begun vl task image pages s taken (outcome_of o memory pc steps) state none is)
+    with_beside bytes map (ran vl task) image (Ok pages) e mapping
+    ∙ ap (success_of task.dump) (begun vl task image pages s taken (outcome_of o memory pc steps) state none is)
     ∙ ap (λ h. Ok (record { how = h; text = outcome_text (outcome_of o memory pc steps) ++ dump_of task.dump (memory_left (outcome_of o memory pc steps)) })) (sym way)
     ∙ ap (λ t. Ok (record { how = how; text = t })) (sym whole)
+
+-- ---- sessions
+
+-- no machine could be made for a session
+pub session_not_begun : {T : Type 0} (vl : ℕ) (task : Task) (bytes map : List ℕ) (refusal : Refusal) (result : Result T Refusal) → IsErrAnd result (λ r. r ≡ refusal) → ((next : Image → Memory → Expected) → RefusesProgram (with_program bytes map next) refusal) → IfErr result (λ r. (input : List ℕ) → RefusesProgram (debug_program vl task bytes map input) r)
+unfolding debug_program
+session_not_begun vl task bytes map refusal (Ok value) is h = tt
+session_not_begun vl task bytes map refusal (Err r) is h =
+    λ input. subst (RefusesProgram (with_program bytes map (debugged vl task input))) (sym is) (h (debugged vl task input))
+
+-- what a session from the start of a machine answers is what is wanted
+pub session_begun : (vl : ℕ) (task : Task) (bytes map : List ℕ) (machine : View) → BeginsProgram vl task bytes map machine → (input : List ℕ) → debug_program vl task bytes map input ≡ ended (session_text (started machine.state) input)
+unfolding debug_program
+session_begun vl task bytes map machine r input =
+    with_beside bytes map (debugged vl task input) r.image (Ok r.pages) r.loads r.maps
+    ∙ ap (λ s. ended (session_text (started s) input)) (sym r.state)

@@ -3,17 +3,19 @@ use mathlib.Core.Logic.{⊎_elim}
 use Rattle.std.proofs.Common.{◌≡◌, ℕ, List, [], ◌++◌, append-nil, Option, Some, None, Result, Ok, Err, inl, inr, refl, sym, ap, ◌∙◌, subst}
 use Rattle.std.specs.Prelude.{IsTrue, OnOk}
 use Rattle.io_edges.specs.declared.sink.Failed.{Failed}
-use Rattle.sve_top.specs.declared.refusal.Refusal.{Refusal}
-use Rattle.sve_top.specs.declared.refusal.Refusal.TheVariants.{Usage, TooManyLive, Kernel, TooLong, Elf, Map, Memory, File, Output}
-use Rattle.sve_top.specs.declared.refusal.Done.{Done}
-use Rattle.sve_top.specs.declared.refusal.Done.TheVariants as done
-use Rattle.sve_top.specs.Lines.{line_of_refusal}
-use Rattle.sve_top.specs.Answer.{Answer, status_of, status_of_done, status_of_refusal, IsAnswer, IsStatus}
-use Rattle.sve_top.specs.Outputs.{Prints, PrintsBy, is_done, told, told_by, Gains, PutsText}
+use Rattle.io_edges.specs.Sink.{PutsText}
+use Rattle.refusals.specs.declared.refusal.Refusal.{Refusal}
+use Rattle.refusals.specs.declared.refusal.Refusal.TheVariants.{Usage, TooManyLive, Kernel, TooLong, Elf, Map, Memory, File, Output}
+use Rattle.refusals.specs.declared.refusal.Done.{Done}
+use Rattle.refusals.specs.declared.refusal.Done.TheVariants as done
+use Rattle.refusals.specs.Lines.{line_of_refusal}
+use Rattle.sve_top.specs.Answer.{Answer, status_of, IsAnswer, IsStatus}
+use Rattle.refusals.specs.Statuses.{status_of_done, status_of_refusal}
+use Rattle.sve_top.specs.Outputs.{Prints, PrintsBy, is_done, error_line, error_line_by, Gains}
 
 -- the status of an answer that is as wanted, or comes in its place
-pub status_is : (x y a b s : ℕ) (wanted result : Answer) → s ≡ status_of result → IsAnswer x y a b wanted result → IsStatus x y a b wanted s
-status_is x y a b s wanted result is h =
+pub status_is : (x y s : ℕ) (rose : Type 0) (wanted result : Answer) → s ≡ status_of result → IsAnswer x y rose wanted result → IsStatus x y rose wanted s
+status_is x y s rose wanted result is h =
     ⊎_elim
     (⊎_elim (λ e. inl (is ∙ ap status_of e)) (⊎_elim (λ e. inr (inl (is ∙ ap status_of e))) (λ p. inr (inr (inl (is ∙ ap status_of p.0, p.1))))))
     (λ p. inr (inr (inr (is ∙ ap status_of p.0, p.1))))
@@ -39,7 +41,7 @@ prints_by (Some bytes) new text s result is h = (λ t. all result h.0 (subst (λ
     all (Err refusal) e t = absurd (not_done refusal t)
 
 -- nothing is told where the command is done
-nothing_told : (own : List ℕ) (how : Done) → told_by own (status_of_done how) ≡ []
+nothing_told : (own : List ℕ) (how : Done) → error_line_by own (status_of_done how) ≡ []
 nothing_told own done.Ended = refl
 nothing_told own done.Stopped = refl
 nothing_told own done.Spent = refl
@@ -48,11 +50,11 @@ gains_nothing : (old : Option (List ℕ)) (n : ℕ) → Gains old old n n []
 gains_nothing None n = tt
 gains_nothing (Some bytes) n = inl (ap Some (sym (append-nil bytes)))
 
-pub told_done : (old : Option (List ℕ)) (n s : ℕ) (own : List ℕ) (how : Done) → s ≡ status_of_done how → Gains old old n n (told_by own s)
-told_done old n s own how is = subst (Gains old old n n) (sym (ap (told_by own) is ∙ nothing_told own how)) (gains_nothing old n)
+pub told_done : (old : Option (List ℕ)) (n s : ℕ) (own : List ℕ) (how : Done) → s ≡ status_of_done how → Gains old old n n (error_line_by own s)
+told_done old n s own how is = subst (Gains old old n n) (sym (ap (error_line_by own) is ∙ nothing_told own how)) (gains_nothing old n)
 
 -- the line of a refusal is told
-own_line : (refusal : Refusal) → told_by (line_of_refusal refusal) (status_of_refusal refusal) ≡ line_of_refusal refusal
+own_line : (refusal : Refusal) → error_line_by (line_of_refusal refusal) (status_of_refusal refusal) ≡ line_of_refusal refusal
 own_line Usage = refl
 own_line (TooManyLive class need) = refl
 own_line (Kernel fault) = refl
@@ -66,22 +68,22 @@ own_line Output = refl
 same_refusal : (a b : Refusal) → ◌≡◌ {A = Answer} (Err a) (Err b) → a ≡ b
 same_refusal a b e = cc
 
-line_is : (x y a b : ℕ) (refusal : Refusal) (wanted : Answer) → IsAnswer x y a b wanted (Err refusal) → told_by (told wanted) (status_of_refusal refusal) ≡ line_of_refusal refusal
-line_is x y a b refusal wanted h =
+line_is : (x y : ℕ) (rose : Type 0) (refusal : Refusal) (wanted : Answer) → IsAnswer x y rose wanted (Err refusal) → error_line_by (error_line wanted) (status_of_refusal refusal) ≡ line_of_refusal refusal
+line_is x y rose refusal wanted h =
     ⊎_elim
-    (⊎_elim (λ e. ap (λ w. told_by (told w) (status_of_refusal refusal)) (sym e) ∙ own_line refusal)
+    (⊎_elim (λ e. ap (λ w. error_line_by (error_line w) (status_of_refusal refusal)) (sym e) ∙ own_line refusal)
     (⊎_elim (λ e. fixed Memory (same_refusal refusal Memory e) refl) (λ p. fixed File (same_refusal refusal File p.0) refl)))
     (λ p. fixed Output (same_refusal refusal Output p.0) refl)
     h
   where
-    fixed : (other : Refusal) → refusal ≡ other → told_by (told wanted) (status_of_refusal other) ≡ line_of_refusal other → told_by (told wanted) (status_of_refusal refusal) ≡ line_of_refusal refusal
-    fixed other e h = subst (λ r. told_by (told wanted) (status_of_refusal r) ≡ line_of_refusal r) (sym e) h
+    fixed : (other : Refusal) → refusal ≡ other → error_line_by (error_line wanted) (status_of_refusal other) ≡ line_of_refusal other → error_line_by (error_line wanted) (status_of_refusal refusal) ≡ line_of_refusal refusal
+    fixed other e h = subst (λ r. error_line_by (error_line wanted) (status_of_refusal r) ≡ line_of_refusal r) (sym e) h
 
 gains_line : (old new : Option (List ℕ)) (x y : ℕ) (text : List ℕ) (result : Result (Unit {0}) Failed) → PutsText old new x y text result → Gains old new x y text
 gains_line None new x y text result p = tt
 gains_line (Some bytes) new x y text (Ok all) p = inl p.all
 gains_line (Some bytes) new x y text (Err failed) p = inr (p.part, p.cause.failed)
 
-pub told_refused : (x y a b s n k : ℕ) (old new : Option (List ℕ)) (refusal : Refusal) (wanted : Answer) (result : Result (Unit {0}) Failed) → s ≡ status_of_refusal refusal → IsAnswer x y a b wanted (Err refusal) → PutsText old new n k (line_of_refusal refusal) result → Gains old new n k (told_by (told wanted) s)
-told_refused x y a b s n k old new refusal wanted result is h p =
-    subst (Gains old new n k) (sym (ap (told_by (told wanted)) is ∙ line_is x y a b refusal wanted h)) (gains_line old new n k (line_of_refusal refusal) result p)
+pub told_refused : (x y s n k : ℕ) (rose : Type 0) (old new : Option (List ℕ)) (refusal : Refusal) (wanted : Answer) (result : Result (Unit {0}) Failed) → s ≡ status_of_refusal refusal → IsAnswer x y rose wanted (Err refusal) → PutsText old new n k (line_of_refusal refusal) result → Gains old new n k (error_line_by (error_line wanted) s)
+told_refused x y s n k rose old new refusal wanted result is h p =
+    subst (Gains old new n k) (sym (ap (error_line_by (error_line wanted)) is ∙ line_is x y rose refusal wanted h)) (gains_line old new n k (line_of_refusal refusal) result p)

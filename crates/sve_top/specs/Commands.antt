@@ -1,6 +1,6 @@
 -- What each command comes to, and what it leaves.
 use Rattle.std.specs.Prelude.{◌≡◌, ◌≢◌, ℕ, ◌⊎◌, List, [], ◌++◌, length, Option, Some, None, IfSome, IsSome, IfOk, Vec, Result, Ok, Err, nat_lt, nat_le, if◌then◌else◌}
-use Rattle.io_edges.specs.Files.{content}
+use Rattle.io_edges.specs.Files.{Rose, content}
 use Rattle.io_edges.specs.declared.files.TheConstants.{MAX_FILE}
 use Rattle.guest_types.specs.Memory.{Memory}
 use Rattle.machine_model.specs.declared.elf_fault.ElfFault.{ElfFault}
@@ -18,26 +18,27 @@ use Rattle.scalar_text.specs.ScalarText.{scalar_text}
 use Rattle.map_text.specs.declared.fault.MapFault.{MapFault}
 use Rattle.map_text.specs.Mapping.{map_of as pages_of}
 use Rattle.kernel_tree.specs.Plain.{Program}
-use Rattle.kernel_syntax.specs.declared.fault.ReadFault.TheVariants as reading
-use Rattle.kernel_front.specs.declared.fault.KernelFault.TheVariants as kernels
 use Rattle.kernel_front.specs.Verdict.{Sound, IsVerdict}
 use Rattle.reg_assign.specs.declared.interval.RegClass.{RegClass}
 use Rattle.loop_form.specs.Needs.{needs_of}
 use Rattle.kernel_compile.specs.Faithful.{FreeFaithful}
 use Rattle.kernel_compile.specs.Refusals.{too_many, need_in}
 use Rattle.check_text.specs.CheckText.{check_text}
-use Rattle.command_line.specs.Line.{Line, Task, Extent, CompileLine, CheckLine, EvalLine, ListLine, RunLine}
-use Rattle.sve_top.specs.declared.refusal.Refusal.{Refusal}
-use Rattle.sve_top.specs.declared.refusal.Refusal.TheVariants.{Usage, TooManyLive, Kernel, TooLong, Elf, Map, Memory as NoMemory, File, Output}
-use Rattle.sve_top.specs.declared.refusal.Done.{Done}
-use Rattle.sve_top.specs.declared.refusal.Done.TheVariants as done
-use Rattle.sve_top.specs.declared.played.Played.{Played}
-use Rattle.sve_top.specs.Answer.{Held, Work, Answer}
+use Rattle.command_line.specs.Line.{Line, Task, Extent, CompileLine, CheckLine, EvalLine, ListLine, RunLine, DebugLine, SweepLine}
+use Rattle.sweep_kernel.specs.Tree.{kernel_of}
+use Rattle.sve_debug.specs.Replies.{started}
+use Rattle.sve_debug.specs.Sessions.{session_text}
+use Rattle.refusals.specs.declared.refusal.Refusal.{Refusal}
+use Rattle.refusals.specs.declared.refusal.Refusal.TheVariants.{Usage, TooManyLive, Kernel, TooLong, Elf, Map, Memory as NoMemory, File, Output}
+use Rattle.refusals.specs.declared.refusal.Done.{Done}
+use Rattle.refusals.specs.declared.refusal.Done.TheVariants as done
+use Rattle.sve_top.specs.declared.run_report.RunReport.{RunReport}
+use Rattle.sve_top.specs.Answer.{Held, Expected, Answer}
 use Rattle.sve_top.specs.Kernels.{ByVerdict}
 use Rattle.sve_top.specs.Listing.{listing_of}
 
 -- what follows where nothing was refused
-abbrev pub and_then : {T : Type 0} → Result T Refusal → (T → Work) → Work
+abbrev pub and_then : {T : Type 0} → Result T Refusal → (T → Expected) → Expected
 and_then (Ok x) next = next x
 and_then (Err refusal) next = Err refusal
 
@@ -85,40 +86,44 @@ mapped (Err fault) = Err (Map fault)
 abbrev pub beside : Image → List ℕ → Result Memory Refusal
 beside image text = mapped (pages_of text image.pages)
 
+-- what comes of a program and the pages of a map beside it
+unfoldable pub with_program : (bytes map : List ℕ) → (Image → Memory → Expected) → Expected
+with_program bytes map next = and_then (program_of bytes) (λ image. and_then (beside image map) (next image))
+
 -- ---- compile
 
 -- a command that is done and puts this text on the output
-abbrev pub ended : List ℕ → Work
+abbrev pub ended : List ℕ → Expected
 ended text = Ok (record { how = done.Ended; text = text })
 
 -- by the class of which too many values are live
-abbrev pub compiled_by : Program → Option RegClass → Work
+abbrev pub compiled_by : Program → Option RegClass → Expected
 compiled_by k None = ended []
 compiled_by k (Some class) = Err (TooManyLive class (need_in (needs_of k) class))
 
 -- a sound kernel is compiled, unless more of its values are live than there are registers for them
-abbrev pub compiled : Program → Work
+abbrev pub compiled : Program → Expected
 compiled k = compiled_by k (too_many k)
 
 -- what is wanted of the text of a kernel
-abbrev pub CompileWants : List ℕ → Work → Type 0
-CompileWants text work = ByVerdict compiled text work
+abbrev pub CompileExpects : List ℕ → Expected → Type 0
+CompileExpects text work = ByVerdict compiled text work
 
 -- ---- check
 
-abbrev pub checked : Program → Work
+abbrev pub checked : Program → Expected
 checked k = ended (check_text k)
 
-abbrev pub CheckWants : List ℕ → Work → Type 0
-CheckWants text work = ByVerdict checked text work
+abbrev pub CheckExpects : List ℕ → Expected → Type 0
+CheckExpects text work = ByVerdict checked text work
 
 -- ---- list
 
-unfoldable pub list_program : List ℕ → Work
+unfoldable pub list_program : List ℕ → Expected
 list_program bytes = and_then (program_of bytes) (λ image. ended (listing_of image))
 
-abbrev pub work_of_list : Held → List ℕ → Work
-work_of_list held from = and_then (file_of held from) list_program
+abbrev pub expected_of_list : Held → List ℕ → Expected
+expected_of_list held from = and_then (file_of held from) list_program
 
 -- ---- run
 
@@ -137,21 +142,36 @@ abbrev pub dump_of : Option Extent → Memory → List ℕ
 dump_of None memory = []
 dump_of (Some e) memory = dump_text memory e.address e.len
 
-abbrev pub deed_of : Option Extent → Outcome → Work
-deed_of dump outcome = Ok (record { how = done_by outcome; text = outcome_text outcome ++ dump_of dump (memory_left outcome) })
+abbrev pub success_of : Option Extent → Outcome → Expected
+success_of dump outcome = Ok (record { how = done_by outcome; text = outcome_text outcome ++ dump_of dump (memory_left outcome) })
 
--- the machine's run of a program beside the pages of a map
-unfoldable pub run_program : ℕ → Task → List ℕ → List ℕ → Work
-run_program vl task bytes map =
-    and_then (program_of bytes) (λ image.
-    and_then (beside image map) (λ pages.
-    deed_of task.dump (run task.steps 0 (start image task.args pages vl))))
+-- the machine's run of a program with some pages
+abbrev pub ran : ℕ → Task → Image → Memory → Expected
+ran vl task image pages = success_of task.dump (run task.steps 0 (start image task.args pages vl))
 
-abbrev pub work_of_run : Held → ℕ → Task → Work
-work_of_run held vl task =
+unfoldable pub run_program : ℕ → Task → List ℕ → List ℕ → Expected
+run_program vl task bytes map = with_program bytes map (ran vl task)
+
+abbrev pub expected_of_run : Held → ℕ → Task → Expected
+expected_of_run held vl task =
     and_then (file_of held task.file) (λ bytes.
     and_then (map_of held task.map) (λ map.
     run_program vl task bytes map))
+
+-- ---- debug
+
+-- a session on a program with some pages, over the bytes of the input
+abbrev pub debugged : ℕ → Task → (input : List ℕ) → Image → Memory → Expected
+debugged vl task input image pages = ended (session_text (started (start image task.args pages vl)) input)
+
+unfoldable pub debug_program : ℕ → Task → (bytes map input : List ℕ) → Expected
+debug_program vl task bytes map input = with_program bytes map (debugged vl task input)
+
+abbrev pub expected_of_debug : Held → (input : List ℕ) → ℕ → Task → Expected
+expected_of_debug held input vl task =
+    and_then (file_of held task.file) (λ bytes.
+    and_then (map_of held task.map) (λ map.
+    debug_program vl task bytes map input))
 
 -- ---- eval
 
@@ -170,46 +190,63 @@ scalar_done (scalar.End result n) = done.Ended
 scalar_done (scalar.Fault n) = done.Stopped
 scalar_done scalar.Spent = done.Spent
 
-abbrev pub scalar_deed : Option Extent → ScalarOutcome → Memory → Work
-scalar_deed dump outcome memory = Ok (record { how = scalar_done outcome; text = scalar_text outcome ++ dump_of dump memory })
+abbrev pub scalar_success : Option Extent → ScalarOutcome → Memory → Expected
+scalar_success dump outcome memory = Ok (record { how = scalar_done outcome; text = scalar_text outcome ++ dump_of dump memory })
 
 -- the run of a kernel over some pages
-abbrev pub eval_over : Task → Program → Memory → Work
+abbrev pub eval_over : Task → Program → Memory → Expected
 eval_over task k pages =
-    scalar_deed task.dump (outcome_by task.steps (scalar_run k task.args pages))
+    scalar_success task.dump (outcome_by task.steps (scalar_run k task.args pages))
     (left_by task.steps (scalar_run k task.args pages) (first_leave k task.args task.steps pages))
 
 -- the run of a kernel over the pages of a map alone
-unfoldable pub eval_kernel : Task → List ℕ → Program → Work
+unfoldable pub eval_kernel : Task → List ℕ → Program → Expected
 eval_kernel task map k = and_then (mapped (pages_of map [])) (eval_over task k)
 
-abbrev pub EvalWants : Task → List ℕ → List ℕ → Work → Type 0
-EvalWants task text map work = ByVerdict (eval_kernel task map) text work
+abbrev pub EvalExpects : Task → List ℕ → List ℕ → Expected → Type 0
+EvalExpects task text map work = ByVerdict (eval_kernel task map) text work
 
 -- ---- all commands
 
 -- what is wanted once something was read
-abbrev pub AfterRead : {T : Type 0} → Result T Refusal → (T → Work → Type 0) → Work → Type 0
+abbrev pub AfterRead : {T : Type 0} → Result T Refusal → (T → Expected → Type 0) → Expected → Type 0
 AfterRead (Ok x) next work = next x work
 AfterRead (Err refusal) next work = work ≡ Err refusal
 
--- What a command is to come to. There is one such work (the laws `some_work` and `one_work`).
-abbrev pub Wants : Held → Option Line → Work → Type 0
-Wants held None work = work ≡ Err Usage
-Wants held (Some (CompileLine from to)) work = AfterRead (file_of held from) CompileWants work
-Wants held (Some (CheckLine from)) work = AfterRead (file_of held from) CheckWants work
-Wants held (Some (EvalLine task)) work =
-    AfterRead (file_of held task.file) (λ text. AfterRead (map_of held task.map) (EvalWants task text)) work
-Wants held (Some (ListLine from)) work = work ≡ work_of_list held from
-Wants held (Some (RunLine vl task)) work = work ≡ work_of_run held vl task
+-- What a command is to come to, by what the files hold and the bytes of the input, which count for `debug` alone. There is one such
+-- work (the laws `some_expected` and `one_expected`), but for `sweep`: what that prints is of the file that it compiled.
+abbrev pub Expects : Held → (input : List ℕ) → Option Line → Expected → Type 0
+Expects held input None work = work ≡ Err Usage
+Expects held input (Some (CompileLine from to)) work = AfterRead (file_of held from) CompileExpects work
+Expects held input (Some (CheckLine from)) work = AfterRead (file_of held from) CheckExpects work
+Expects held input (Some (EvalLine task)) work =
+    AfterRead (file_of held task.file) (λ text. AfterRead (map_of held task.map) (EvalExpects task text)) work
+Expects held input (Some (ListLine from)) work = work ≡ expected_of_list held from
+Expects held input (Some (RunLine vl task)) work = work ≡ expected_of_run held vl task
+Expects held input (Some (DebugLine vl task)) work = work ≡ expected_of_debug held input vl task
+Expects held input (Some (SweepLine number to)) work = ⊥
+
+-- what is wanted is settled by the files and the input
+abbrev pub IsSettled : Option Line → Type 0
+IsSettled (Some (SweepLine number to)) = ⊥
+IsSettled line = Unit {0}
+
+-- these are the bytes of the input, where they count
+abbrev pub IsTaken : Option Line → (left : Option (List ℕ)) → (input : List ℕ) → Type 0
+IsTaken (Some (DebugLine vl task)) left input = left ≡ Some input
+IsTaken line left input = Unit {0}
 
 -- some work is wanted, and this holds of it
-abbrev pub SomeWanted : (Work → Type 0) → (Work → Type 0) → Type 0
-SomeWanted W P = (w : Work) × W w × P w
+abbrev pub SomeExpected : (Expected → Type 0) → (Expected → Type 0) → Type 0
+SomeExpected W P = (w : Expected) × W w × P w
 
 -- wherever some work is wanted, this holds of a work that is wanted
-abbrev pub OfWanted : (Work → Type 0) → (Work → Type 0) → Type 0
-OfWanted W P = (work : Work) → W work → (w : Work) × W w × P w
+abbrev pub WhereExpected : (Expected → Type 0) → (Expected → Type 0) → Type 0
+WhereExpected W P = (work : Expected) → W work → (w : Expected) × W w × P w
+
+-- the same where the files tell what they hold, and the input its bytes
+abbrev pub WhereTold : Option Held → (left : Option (List ℕ)) → Option Line → (Expected → Type 0) → Type 0
+WhereTold held left line P = (input : List ℕ) → IsTaken line left input → IfSome held (λ h. WhereExpected (Expects h input line) P)
 
 -- ---- what comes of which command
 
@@ -250,6 +287,20 @@ IsOfRun (Err (TooManyLive class need)) = ⊥
 IsOfRun (Err (Kernel fault)) = ⊥
 IsOfRun answer = Unit {0}
 
+abbrev pub IsOfDebug : Answer → Type 0
+IsOfDebug (Ok how) = how ≡ done.Ended
+IsOfDebug (Err Usage) = ⊥
+IsOfDebug (Err (TooManyLive class need)) = ⊥
+IsOfDebug (Err (Kernel fault)) = ⊥
+IsOfDebug (Err refusal) = Unit {0}
+
+abbrev pub IsOfSweep : Answer → Type 0
+IsOfSweep (Ok how) = how ≡ done.Ended
+IsOfSweep (Err NoMemory) = Unit {0}
+IsOfSweep (Err File) = Unit {0}
+IsOfSweep (Err Output) = Unit {0}
+IsOfSweep (Err refusal) = ⊥
+
 -- the answers of a command
 abbrev pub IsOf : Option Line → Answer → Type 0
 IsOf None answer = (answer ≡ Err Usage) ⊎ (answer ≡ Err NoMemory)
@@ -258,6 +309,8 @@ IsOf (Some (CheckLine from)) answer = IsOfCheck answer
 IsOf (Some (EvalLine task)) answer = IsOfEval answer
 IsOf (Some (ListLine from)) answer = IsOfList answer
 IsOf (Some (RunLine vl task)) answer = IsOfRun answer
+IsOf (Some (DebugLine vl task)) answer = IsOfDebug answer
+IsOf (Some (SweepLine number to)) answer = IsOfSweep answer
 
 -- the statuses of a command
 abbrev pub IsListed : Option Line → ℕ → Type 0
@@ -269,6 +322,28 @@ IsListed (Some (EvalLine task)) status =
 IsListed (Some (ListLine from)) status = (status ≡ 0) ⊎ ((status ≡ 4) ⊎ ((status ≡ 7) ⊎ ((status ≡ 8) ⊎ (status ≡ 9))))
 IsListed (Some (RunLine vl task)) status =
     (status ≡ 0) ⊎ ((status ≡ 4) ⊎ ((status ≡ 5) ⊎ ((status ≡ 6) ⊎ ((status ≡ 7) ⊎ ((status ≡ 8) ⊎ (status ≡ 9))))))
+IsListed (Some (DebugLine vl task)) status = (status ≡ 0) ⊎ ((status ≡ 4) ⊎ ((status ≡ 7) ⊎ ((status ≡ 8) ⊎ (status ≡ 9))))
+IsListed (Some (SweepLine number to)) status = (status ≡ 0) ⊎ ((status ≡ 7) ⊎ ((status ≡ 8) ⊎ (status ≡ 9)))
+
+-- the streams that a command uses: the count of the output rose, or for `debug` that of the output or of the input
+abbrev pub StreamRose : Option Line → (out_before out_now in_before in_now : ℕ) → Type 0
+StreamRose (Some (DebugLine vl task)) out_before out_now in_before in_now = Rose out_before out_now ⊎ Rose in_before in_now
+StreamRose line out_before out_now in_before in_now = Rose out_before out_now
+
+-- none of them failed
+abbrev pub NoneRose : Option Line → (out_before out_now in_before in_now : ℕ) → Type 0
+NoneRose line out_before out_now in_before in_now = StreamRose line out_before out_now in_before in_now → ⊥
+
+-- commands that leave the input alone
+abbrev pub IsUnread : Option Line → Type 0
+IsUnread (Some (DebugLine vl task)) = ⊥
+IsUnread line = Unit {0}
+
+-- commands that write no file
+abbrev pub OnlyReads : Option Line → Type 0
+OnlyReads (Some (CompileLine from to)) = ⊥
+OnlyReads (Some (SweepLine number to)) = ⊥
+OnlyReads line = Unit {0}
 
 -- words that put nothing on the output
 abbrev pub IsSilent : Option Line → Type 0
@@ -277,17 +352,17 @@ IsSilent (Some (CompileLine from to)) = Unit {0}
 IsSilent line = ⊥
 
 -- a refusal of a program or its map is the wanted one, or want of memory
-abbrev pub RefusesProgram : Work → Refusal → Type 0
+abbrev pub RefusesProgram : Expected → Refusal → Type 0
 RefusesProgram wanted NoMemory = Unit {0}
 RefusesProgram wanted (Elf fault) = wanted ≡ Err (Elf fault)
 RefusesProgram wanted (Map fault) = wanted ≡ Err (Map fault)
 RefusesProgram wanted refusal = ⊥
 
 -- a refusal of a kernel's text is wanted wherever something is, or it is want of memory
-abbrev pub RefusesText : (Work → Type 0) → Refusal → Type 0
+abbrev pub RefusesText : (Expected → Type 0) → Refusal → Type 0
 RefusesText W NoMemory = Unit {0}
-RefusesText W (TooManyLive class need) = (work : Work) → W work → W (Err (TooManyLive class need))
-RefusesText W (Kernel fault) = (work : Work) → W work → W (Err (Kernel fault))
+RefusesText W (TooManyLive class need) = (work : Expected) → W work → W (Err (TooManyLive class need))
+RefusesText W (Kernel fault) = (work : Expected) → W work → W (Err (Kernel fault))
 RefusesText W refusal = ⊥
 
 -- a refusal of a sound kernel by the compiler
@@ -297,14 +372,14 @@ RefusesCompile k (TooManyLive class need) = compiled k ≡ Err (TooManyLive clas
 RefusesCompile k refusal = ⊥
 
 -- The same of `eval`, whose map may be refused too.
-abbrev pub RefusesEval : (Work → Type 0) → Refusal → Type 0
+abbrev pub RefusesEval : (Expected → Type 0) → Refusal → Type 0
 RefusesEval W (Map fault) = W (Err (Map fault))
 RefusesEval W (TooManyLive class need) = ⊥
 RefusesEval W refusal = RefusesText W refusal
 
 -- what a run that was played comes to
-abbrev pub played : Played → Work
-played p = Ok (record { how = p.done; text = p.text.items })
+abbrev pub run_report : RunReport → Expected
+run_report p = Ok (record { how = p.done; text = p.text.items })
 
 -- how an outcome comes out as the machine answers it
 abbrev pub done_of : OutcomeAnswer → Done
@@ -321,15 +396,17 @@ pub record CompilesTo (text file : List ℕ) : Type 0 where
   pub sound : IsVerdict text (Sound kernel)
   pub faithful : FreeFaithful kernel file
 
--- at status 0 the one file is faithful to the kernel that the other held
+-- at status 0 the one file is faithful to the kernel that the other held, and for `sweep` to that of the number
 abbrev pub Compiled : Held → Held → Line → Type 0
 Compiled old new (CompileLine from to) =
     IfSome (content old from) (λ text. (file : List ℕ) × (content new to ≡ Some file) × CompilesTo text file)
+Compiled old new (SweepLine number to) = (file : List ℕ) × (content new to ≡ Some file) × FreeFaithful (kernel_of number) file
 Compiled old new line = Unit {0}
 
--- every name but the output's of `compile` has what it had
+-- every name but that of the file which `compile` or `sweep` writes has what it had
 abbrev pub OthersKept : Held → Held → Option Line → Type 0
 OthersKept old new (Some (CompileLine from to)) = (name : List ℕ) → name ≢ to → content new name ≡ content old name
+OthersKept old new (Some (SweepLine number to)) = (name : List ℕ) → name ≢ to → content new name ≡ content old name
 OthersKept old new line = (name : List ℕ) → content new name ≡ content old name
 
 -- a file that is named is held
@@ -344,3 +421,5 @@ IsHeld held (CheckLine from) = IsSome (content held from)
 IsHeld held (EvalLine task) = IsSome (content held task.file) × IfOk (file_of held task.file) (λ text. IsMapHeld held task.map)
 IsHeld held (ListLine from) = IsSome (content held from)
 IsHeld held (RunLine vl task) = IsSome (content held task.file) × IfOk (file_of held task.file) (λ bytes. IsMapHeld held task.map)
+IsHeld held (DebugLine vl task) = IsSome (content held task.file) × IfOk (file_of held task.file) (λ bytes. IsMapHeld held task.map)
+IsHeld held (SweepLine number to) = Unit {0}

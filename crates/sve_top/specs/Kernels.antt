@@ -6,8 +6,8 @@ use Rattle.kernel_types.specs.declared.fault.TypeFault.TheVariants as typing
 use Rattle.kernel_front.specs.declared.fault.KernelFault.{KernelFault}
 use Rattle.kernel_front.specs.declared.fault.KernelFault.TheVariants as kernels
 use Rattle.kernel_front.specs.Verdict.{Verdict, Limited, NoKernel, Refused, Sound, IsVerdict, Explains}
-use Rattle.sve_top.specs.declared.refusal.Refusal.TheVariants.{Kernel}
-use Rattle.sve_top.specs.Answer.{Work}
+use Rattle.refusals.specs.declared.refusal.Refusal.TheVariants.{Kernel}
+use Rattle.sve_top.specs.Answer.{Expected}
 
 -- a fault that says something of a text: each but want of memory
 abbrev pub IsOfText : KernelFault → Type 0
@@ -16,21 +16,21 @@ IsOfText (kernels.Broken typing.Memory) = ⊥
 IsOfText fault = Unit {0}
 
 -- the command is refused with a fault that explains the verdict
-pub record IsRefusedFor (v : Verdict) (work : Work) : Type 0 where
+pub record IsRefusedFor (v : Verdict) (work : Expected) : Type 0 where
   pub fault : KernelFault
   pub explains : Explains v fault
   pub of_text : IsOfText fault
-  pub work_is : work ≡ Err (Kernel fault)
+  pub is_refused : work ≡ Err (Kernel fault)
 
 -- what is wanted of a text by its verdict, where `sound` is wanted of a kernel
-abbrev pub IsWorkOn : (Program → Work) → Verdict → Work → Type 0
-IsWorkOn sound (Limited fault) work = IsRefusedFor (Limited fault) work
-IsWorkOn sound (NoKernel token) work = IsRefusedFor (NoKernel token) work
-IsWorkOn sound (Refused refusal) work = IsRefusedFor (Refused refusal) work
-IsWorkOn sound (Sound k) work = work ≡ sound k
+abbrev pub IsExpectedOf : (Program → Expected) → Verdict → Expected → Type 0
+IsExpectedOf sound (Limited fault) work = IsRefusedFor (Limited fault) work
+IsExpectedOf sound (NoKernel token) work = IsRefusedFor (NoKernel token) work
+IsExpectedOf sound (Refused refusal) work = IsRefusedFor (Refused refusal) work
+IsExpectedOf sound (Sound k) work = work ≡ sound k
 
 -- what is wanted of a text, which has a verdict
-pub record ByVerdict (sound : Program → Work) (text : List ℕ) (work : Work) : Type 0 where
+pub record ByVerdict (sound : Program → Expected) (text : List ℕ) (work : Expected) : Type 0 where
   pub verdict : Verdict
   pub has : IsVerdict text verdict
-  pub wanted : IsWorkOn sound verdict work
+  pub wanted : IsExpectedOf sound verdict work

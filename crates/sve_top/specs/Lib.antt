@@ -1,7 +1,9 @@
-pub mod Lines
 pub mod Listing
 pub mod Answer
 pub mod Kernels
 pub mod Commands
+pub mod Ready
 pub mod Outputs
 pub mod Does
+pub mod Complete
+pub mod Swept

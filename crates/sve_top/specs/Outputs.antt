@@ -1,15 +1,10 @@
 -- What is put on the output and on the error output.
-use Rattle.std.specs.Prelude.{◌≡◌, ℕ, ◌⊎◌, ◌≤◌, Bool, ◌||◌, List, [], ◌++◌, take, length, Option, Some, None, IfSome, IsTrue, OnOk, Result, Ok, Err, nat_eq, if◌then◌else◌}
+use Rattle.std.specs.Prelude.{◌≡◌, ℕ, ◌⊎◌, Bool, ◌||◌, List, [], ◌++◌, Option, Some, IfSome, IsTrue, OnOk, Ok, Err, nat_eq, if◌then◌else◌}
 use Rattle.io_edges.specs.Files.{Rose}
-use Rattle.io_edges.specs.Sink.{HasCause}
-use Rattle.io_edges.specs.declared.sink.Failed.{Failed}
-use Rattle.sve_top.specs.declared.refusal.Refusal.TheVariants.{Usage, Memory, File, Output}
+use Rattle.io_edges.specs.Sink.{GainsPart}
+use Rattle.refusals.specs.declared.refusal.Refusal.TheVariants.{Usage, Memory, File, Output}
 use Rattle.sve_top.specs.Answer.{Answer}
-use Rattle.sve_top.specs.Lines.{line_of_refusal}
-
--- a part of the text, from its front, was appended
-abbrev pub GainsPart : List ℕ → Option (List ℕ) → List ℕ → Type 0
-GainsPart bytes new text = (n : ℕ) × (n ≤ length text) × (new ≡ Some (bytes ++ take n text))
+use Rattle.refusals.specs.Lines.{line_of_refusal}
 
 -- Where it tells what it has taken: the text was appended where the command is done, and a part of it otherwise.
 abbrev pub Prints : Option (List ℕ) → Option (List ℕ) → List ℕ → Answer → Type 0
@@ -27,13 +22,13 @@ PrintsBy old new text status =
 -- ---- the error output
 
 -- what is put on the error output: nothing where the command is done
-abbrev pub told : Answer → List ℕ
-told (Ok how) = []
-told (Err refusal) = line_of_refusal refusal
+abbrev pub error_line : Answer → List ℕ
+error_line (Ok how) = []
+error_line (Err refusal) = line_of_refusal refusal
 
 -- the same by the status, where `own` is the line of a kernel or a file that is refused
-abbrev pub told_by : List ℕ → ℕ → List ℕ
-told_by own status =
+abbrev pub error_line_by : List ℕ → ℕ → List ℕ
+error_line_by own status =
     if is_done status then [] else if nat_eq status 2 then line_of_refusal Usage else if nat_eq status 3 || nat_eq status 4 then own
     else if nat_eq status 7 then line_of_refusal Memory
     else if nat_eq status 8 then line_of_refusal File else line_of_refusal Output
@@ -42,10 +37,3 @@ told_by own status =
 abbrev pub Gains : Option (List ℕ) → Option (List ℕ) → (before now : ℕ) → List ℕ → Type 0
 Gains old new before now text =
     IfSome old (λ bytes. (new ≡ Some (bytes ++ text)) ⊎ (GainsPart bytes new text × Rose before now))
-
--- some texts were put one after another, as one text would be
-pub record PutsText (old new : Option (List ℕ)) (before now : ℕ) (text : List ℕ) (result : Result (Unit {0}) Failed) : Type 0 where
-  pub all : OnOk result (IfSome old (λ bytes. new ≡ Some (bytes ++ text)))
-  pub part : IfSome old (λ bytes. GainsPart bytes new text)
-  pub untold : old ≡ None → new ≡ None
-  pub cause : HasCause before now result

@@ -1,29 +1,29 @@
 //! The command `check IN`.
 
-ghost use Rattle.std.specs.Prelude.{◌≡◌, ◌≢◌, Some, Err, IfSome, IsSome, IfOk, IfErr, IsTrue};
+ghost use Rattle.std.specs.Prelude.{◌≡◌, ◌≢◌, Some, Err, IfSome, IsSome, IfOk, IfErr, IsTrue, []};
 ghost use Rattle.io_edges.specs.Files.{Rose, content};
 ghost use Rattle.command_line.specs.Line.{CheckLine};
 ghost use Rattle.sve_top.specs.Answer.{answer_of, text_of, IsAnswer, IsQuiet};
-ghost use Rattle.sve_top.specs.Commands.{Wants, OfWanted, CheckWants, RefusesText, ended, IsOfCheck};
+ghost use Rattle.sve_top.specs.Commands.{Expects, WhereExpected, CheckExpects, RefusesText, ended, IsOfCheck};
 ghost use Rattle.sve_top.specs.Outputs.{Prints};
 
 use crate::files::read_file;
-use crate::refusal::{Done, Refusal};
 use check_text::check_text;
 use io_edges::files::Files;
 use io_edges::sink::{Sink, put_all};
 use kernel_front::accept;
+use refusals::refusal::{Done, Refusal};
 use std::alloc::Global;
 
 // What is told of the kernel of a text.
 fn check_kernel(alloc: Global, text: &[u8]) -> Result<Vec<u8>, Refusal>
-    ensures wanted { IfOk result (λ told. CheckWants text.now (ended told.items)) }
-    ensures refusal { IfErr result (λ refusal. RefusesText (CheckWants text.now) refusal) }
+    ensures wanted { IfOk result (λ report. CheckExpects text.now (ended report.items)) }
+    ensures refusal { IfErr result (λ refusal. RefusesText (CheckExpects text.now) refusal) }
     ensures of_check { IfErr result (λ refusal. IsOfCheck (Err refusal)) }
 {
     let kernel = accept(alloc, text)?;
-    let told = check_text(alloc, &kernel)?;
-    Ok(told)
+    let report = check_text(alloc, &kernel)?;
+    Ok(report)
 }
 
 /// Puts the size, the class and the needs of the kernel in a file on the output.
@@ -34,12 +34,12 @@ pub fn check<F: Files, S: Sink>(
     out: &mut S,
 ) -> Result<Done, Refusal>
     ensures answer { IfSome (F.held files.old)
-        (λ held. OfWanted (Wants held (Some (CheckLine from.now)))
-        (λ work. IsAnswer (F.faults files.old) (F.faults files.new) (S.faults out.old) (S.faults out.new)
+        (λ held. WhereExpected (Expects held [] (Some (CheckLine from.now)))
+        (λ work. IsAnswer (F.faults files.old) (F.faults files.new) (Rose (S.faults out.old) (S.faults out.new))
         (answer_of work) result)) }
     ensures held { F.held files.new ≡ F.held files.old }
     ensures printed { IfSome (F.held files.old)
-        (λ held. OfWanted (Wants held (Some (CheckLine from.now)))
+        (λ held. WhereExpected (Expects held [] (Some (CheckLine from.now)))
         (λ work. Prints (S.taken out.old) (S.taken out.new) (text_of work) result)) }
     ensures quiet { IsQuiet result → out.new ≡ out.old }
     ensures failed { result ≡ Err Refusal.File → Rose (F.faults files.old) (F.faults files.new) }
@@ -49,7 +49,7 @@ pub fn check<F: Files, S: Sink>(
     ensures of_check { IsOfCheck result }
 {
     let text = read_file(alloc, from, files)?;
-    let told = check_kernel(alloc, &text)?;
-    put_all(out, &told)?;
+    let report = check_kernel(alloc, &text)?;
+    put_all(out, &report)?;
     Ok(Done::Ended)
 }

@@ -7,16 +7,16 @@ ghost use Rattle.kernel_tree.specs.Plain.{program_of};
 ghost use Rattle.kernel_tree.specs.Checked.{kernel_of};
 ghost use Rattle.kernel_compile.specs.Faithful.{FreeFaithful};
 ghost use Rattle.sve_top.specs.Answer.{answer_of, IsFileAnswer, IsKept, Unwritten};
-ghost use Rattle.sve_top.specs.Commands.{Wants, OfWanted, CompileWants, CompilesTo, RefusesText, compiled, ended, IsOfCompile, Compiled, OthersKept, RefusesCompile};
+ghost use Rattle.sve_top.specs.Commands.{Expects, WhereExpected, CompileExpects, CompilesTo, RefusesText, compiled, ended, IsOfCompile, Compiled, OthersKept, RefusesCompile};
 
 use crate::files::read_file;
-use crate::refusal::{Done, Refusal};
 use elf_image::write_elf;
 use io_edges::files::Files;
 use kernel_compile::compile_kernel;
 use kernel_front::accept;
 use kernel_tree::Checked;
 use loop_form::laws::few_items;
+use refusals::refusal::{Done, Refusal};
 use std::alloc::Global;
 
 // The executable of a kernel.
@@ -34,8 +34,8 @@ fn executable(alloc: Global, kernel: &Checked) -> Result<Vec<u8>, Refusal>
 // The executable of a text.
 fn compile_text(alloc: Global, text: &[u8]) -> Result<Vec<u8>, Refusal>
     ensures file { IfOk result (λ file. CompilesTo text.now file.items) }
-    ensures wanted { OnOk result (CompileWants text.now (ended [])) }
-    ensures refusal { IfErr result (λ refusal. RefusesText (CompileWants text.now) refusal) }
+    ensures wanted { OnOk result (CompileExpects text.now (ended [])) }
+    ensures refusal { IfErr result (λ refusal. RefusesText (CompileExpects text.now) refusal) }
 {
     let kernel = accept(alloc, text)?;
     let file = executable(alloc, &kernel)?;
@@ -50,7 +50,7 @@ pub fn compile<F: Files>(
     files: &mut F,
 ) -> Result<Done, Refusal>
     ensures answer { IfSome (F.held files.old)
-        (λ held. OfWanted (Wants held (Some (CompileLine from.now to.now)))
+        (λ held. WhereExpected (Expects held [] (Some (CompileLine from.now to.now)))
         (λ work. IsFileAnswer (F.faults files.old) (F.faults files.new) (answer_of work) result)) }
     ensures file { OnOk result (IfSome (F.held files.old)
         (λ old. IfSome (F.held files.new) (λ new. Compiled old new (CompileLine from.now to.now)))) }
@@ -60,7 +60,8 @@ pub fn compile<F: Files>(
     ensures failed { result ≡ Err Refusal.File → Rose (F.faults files.old) (F.faults files.new) }
     ensures steady { IsTrue (F.steady files.old)
         → IfSome (F.held files.old) (λ held. IsSome (content held from.now) → result ≢ Err Refusal.File) }
-    ensures unwritten { IfSome (F.held files.old) (λ held. OfWanted (Wants held (Some (CompileLine from.now to.now)))
+    ensures unwritten { IfSome (F.held files.old)
+        (λ held. WhereExpected (Expects held [] (Some (CompileLine from.now to.now)))
         (λ work. Unwritten work (F.held files.old) (F.held files.new))) }
     ensures of_compile { IsOfCompile result }
 {

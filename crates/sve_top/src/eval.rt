@@ -1,18 +1,17 @@
 //! The command `eval`.
 
-ghost use Rattle.std.specs.Prelude.{◌≡◌, ◌≢◌, Some, Err, IfSome, IfOk, IfErr, IsTrue, option_map, string_bytes};
+ghost use Rattle.std.specs.Prelude.{◌≡◌, ◌≢◌, Some, Err, IfSome, IfOk, IfErr, IsTrue, option_map, string_bytes, []};
 ghost use Rattle.io_edges.specs.Files.{Rose};
 ghost use Rattle.kernel_tree.specs.Plain.{program_of};
 ghost use Rattle.kernel_tree.specs.Checked.{kernel_of};
 ghost use Rattle.command_line.specs.Line.{EvalLine};
-ghost use Rattle.command_line.specs.Seen.{task_seen};
+ghost use Rattle.command_line.specs.View.{task_view};
 ghost use Rattle.sve_top.specs.Answer.{answer_of, text_of, IsAnswer, IsQuiet};
-ghost use Rattle.sve_top.specs.Commands.{Wants, OfWanted, EvalWants, eval_kernel, scalar_done, played, RefusesProgram, RefusesEval, IsOfEval, IsHeld};
+ghost use Rattle.sve_top.specs.Commands.{Expects, WhereExpected, EvalExpects, eval_kernel, scalar_done, run_report, RefusesProgram, RefusesEval, IsOfEval, IsHeld};
 ghost use Rattle.sve_top.specs.Outputs.{Prints};
 
 use crate::files::{read_file, read_map_file};
-use crate::played::{Played, push_dump};
-use crate::refusal::{Done, Refusal};
+use crate::run_report::{RunReport, push_dump};
 use command_line::command::Task;
 use guest_types::image::Image;
 use io_edges::files::Files;
@@ -22,6 +21,7 @@ use kernel_meaning::{ScalarOutcome, scalar_run};
 use kernel_tree::Checked;
 use map_text::read_map;
 use paged_memory::pages::Pages;
+use refusals::refusal::{Done, Refusal};
 use scalar_text::scalar_text;
 use std::alloc::Global;
 
@@ -36,11 +36,11 @@ fn scalar_done(outcome: ScalarOutcome) -> Done
 }
 
 // Evaluates a kernel over the pages of a map.
-fn evaluate(alloc: Global, task: &Task, kernel: &Checked, map: &[u8]) -> Result<Played, Refusal>
-    ensures work { IfOk result (λ p. eval_kernel (task_seen task.now) map.now (program_of (kernel_of kernel.now))
-        ≡ played p) }
+fn evaluate(alloc: Global, task: &Task, kernel: &Checked, map: &[u8]) -> Result<RunReport, Refusal>
+    ensures work { IfOk result (λ p. eval_kernel (task_view task.now) map.now (program_of (kernel_of kernel.now))
+        ≡ run_report p) }
     ensures refusal { IfErr result (λ refusal. RefusesProgram
-        (eval_kernel (task_seen task.now) map.now (program_of (kernel_of kernel.now))) refusal) }
+        (eval_kernel (task_view task.now) map.now (program_of (kernel_of kernel.now))) refusal) }
     ensures of_eval { IfErr result (λ refusal. IsOfEval (Err refusal)) }
 {
     let image = Image::empty(alloc);
@@ -49,25 +49,26 @@ fn evaluate(alloc: Global, task: &Task, kernel: &Checked, map: &[u8]) -> Result<
     let outcome = scalar_run(alloc, kernel, &task.args, &mut pages, task.steps)?;
     let mut text = scalar_text(alloc, outcome)?;
     push_dump(&mut text, alloc, &pages, task.dump)?;
-    Ok(Played {
+    Ok(RunReport {
         done: scalar_done(outcome),
         text,
     })
 }
 
 // Evaluates the kernel of a text over the pages of a map.
-fn evaluate_text(alloc: Global, task: &Task, text: &[u8], map: &[u8]) -> Result<Played, Refusal>
-    ensures work { IfOk result (λ p. EvalWants (task_seen task.now) text.now map.now (played p)) }
-    ensures refusal { IfErr result (λ refusal. RefusesEval (EvalWants (task_seen task.now) text.now map.now) refusal) }
+fn evaluate_text(alloc: Global, task: &Task, text: &[u8], map: &[u8]) -> Result<RunReport, Refusal>
+    ensures work { IfOk result (λ p. EvalExpects (task_view task.now) text.now map.now (run_report p)) }
+    ensures refusal { IfErr result
+        (λ refusal. RefusesEval (EvalExpects (task_view task.now) text.now map.now) refusal) }
     ensures of_eval { IfErr result (λ refusal. IsOfEval (Err refusal)) }
 {
     let kernel = accept(alloc, text)?;
-    let played = evaluate(alloc, task, &kernel, map)?;
-    Ok(played)
+    let run_report = evaluate(alloc, task, &kernel, map)?;
+    Ok(run_report)
 }
 
 /// Evaluates the kernel in a file over the pages of a map alone, and puts how that came out on the output, with the dump that is
-/// asked for behind it. The most steps are iterations.
+/// asked for after it. The most steps are iterations.
 pub fn eval<F: Files, S: Sink>(
     alloc: Global,
     task: &Task,
@@ -75,23 +76,23 @@ pub fn eval<F: Files, S: Sink>(
     out: &mut S,
 ) -> Result<Done, Refusal>
     ensures answer { IfSome (F.held files.old)
-        (λ held. OfWanted (Wants held (Some (EvalLine (task_seen task.now))))
-        (λ work. IsAnswer (F.faults files.old) (F.faults files.new) (S.faults out.old) (S.faults out.new)
+        (λ held. WhereExpected (Expects held [] (Some (EvalLine (task_view task.now))))
+        (λ work. IsAnswer (F.faults files.old) (F.faults files.new) (Rose (S.faults out.old) (S.faults out.new))
         (answer_of work) result)) }
     ensures held { F.held files.new ≡ F.held files.old }
     ensures printed { IfSome (F.held files.old)
-        (λ held. OfWanted (Wants held (Some (EvalLine (task_seen task.now))))
+        (λ held. WhereExpected (Expects held [] (Some (EvalLine (task_view task.now))))
         (λ work. Prints (S.taken out.old) (S.taken out.new) (text_of work) result)) }
     ensures quiet { IsQuiet result → out.new ≡ out.old }
     ensures failed { result ≡ Err Refusal.File → Rose (F.faults files.old) (F.faults files.new) }
     ensures output { result ≡ Err Refusal.Output → Rose (S.faults out.old) (S.faults out.new) }
     ensures steady { IsTrue (F.steady files.old)
-        → IfSome (F.held files.old) (λ held. IsHeld held (EvalLine (task_seen task.now)) → result ≢ Err Refusal.File) }
+        → IfSome (F.held files.old) (λ held. IsHeld held (EvalLine (task_view task.now)) → result ≢ Err Refusal.File) }
     ensures of_eval { IsOfEval result }
 {
     let text = read_file(alloc, task.file.as_str(), files)?;
     let map = read_map_file(alloc, &task.map, files)?;
-    let played = evaluate_text(alloc, task, &text, &map)?;
-    put_all(out, &played.text)?;
-    Ok(played.done)
+    let run_report = evaluate_text(alloc, task, &text, &map)?;
+    put_all(out, &run_report.text)?;
+    Ok(run_report.done)
 }

@@ -5,8 +5,8 @@ ghost use Rattle.io_edges.specs.Files.{Rose, content};
 ghost use Rattle.sve_top.specs.Answer.{IsFileAnswer};
 ghost use Rattle.sve_top.specs.Commands.{file_of, map_of, bytes_in, IsOfRead, IsMapHeld};
 
-use crate::refusal::Refusal;
 use io_edges::files::Files;
+use refusals::refusal::Refusal;
 use std::alloc::Global;
 
 /// Reads a file.

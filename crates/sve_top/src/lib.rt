@@ -3,14 +3,15 @@
 
 mod check;
 mod compile;
+mod debug;
 mod eval;
 mod files;
 mod list;
 mod listing;
-mod played;
-pub mod refusal;
+mod program;
 mod run;
+mod run_report;
+mod sweep;
 #[cfg(test)]
 mod tests;
-mod told;
 pub mod top;

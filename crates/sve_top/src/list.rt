@@ -4,17 +4,17 @@ ghost use Rattle.std.specs.Prelude.{◌≡◌, ◌≢◌, ◌+◌, ◌*◌, ◌^
 ghost use Rattle.io_edges.specs.Files.{Rose, content};
 ghost use Rattle.sve_top.specs.Listing.{lines_from};
 ghost use Rattle.sve_top.specs.Answer.{answer_of, text_of, IsAnswer, IsQuiet};
-ghost use Rattle.sve_top.specs.Commands.{list_program, work_of_list, ended, RefusesProgram, IsOfList};
+ghost use Rattle.sve_top.specs.Commands.{list_program, expected_of_list, ended, RefusesProgram, IsOfList};
 ghost use Rattle.sve_top.specs.Outputs.{Prints};
 
 use crate::files::read_file;
 use crate::listing::put_lines;
-use crate::refusal::{Done, Refusal};
 use elf_image::load_elf;
 use guest_types::image::PageMap;
 use io_edges::files::Files;
 use io_edges::sink::Sink;
 use paged_memory::pages::Pages;
+use refusals::refusal::{Done, Refusal};
 use std::alloc::Global;
 
 // The words of a program: where the first of them stands, how many they are, and the pages.
@@ -54,11 +54,11 @@ pub fn list<F: Files, S: Sink>(
     out: &mut S,
 ) -> Result<Done, Refusal>
     ensures answer { IfSome (F.held files.old)
-        (λ held. IsAnswer (F.faults files.old) (F.faults files.new) (S.faults out.old) (S.faults out.new)
-        (answer_of (work_of_list held from.now)) result) }
+        (λ held. IsAnswer (F.faults files.old) (F.faults files.new) (Rose (S.faults out.old) (S.faults out.new))
+        (answer_of (expected_of_list held from.now)) result) }
     ensures held { F.held files.new ≡ F.held files.old }
     ensures printed { IfSome (F.held files.old)
-        (λ held. Prints (S.taken out.old) (S.taken out.new) (text_of (work_of_list held from.now)) result) }
+        (λ held. Prints (S.taken out.old) (S.taken out.new) (text_of (expected_of_list held from.now)) result) }
     ensures quiet { IsQuiet result → out.new ≡ out.old }
     ensures failed { result ≡ Err Refusal.File → Rose (F.faults files.old) (F.faults files.new) }
     ensures output { result ≡ Err Refusal.Output → Rose (S.faults out.old) (S.faults out.new) }

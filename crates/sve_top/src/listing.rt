@@ -3,7 +3,7 @@
 ghost use Rattle.std.specs.Prelude.{◌≡◌, ◌+◌, ◌*◌, ◌^◌, ◌<◌, ◌≤◌};
 ghost use Rattle.guest_types.specs.Memory.{byte_or_zero, number_at};
 ghost use Rattle.sve_top.specs.Listing.{lines_from};
-ghost use Rattle.sve_top.specs.Outputs.{PutsText};
+ghost use Rattle.io_edges.specs.Sink.{PutsText};
 
 use arrayvec::ArrayString;
 use io_edges::sink::{Failed, Sink, put_all};

@@ -1,18 +1,19 @@
 // The commands over files in memory: worked rows with outside values.
 
-ghost use Rattle.std.specs.Prelude.{Some};
-
 use crate::top::top;
 use io_edges::memory_files::{MemoryFiles, NamedFile, have_different_names};
 use io_edges::memory_sink::MemorySink;
 use io_edges::memory_source::MemorySource;
-use io_edges::sink::{Failed, Sink};
 use std::alloc::{AllocError, Global};
 use std::test::Fail;
 
 mod compiled;
 mod evaluation;
+mod failing;
 mod language;
+mod malformed;
+mod sessions;
+mod steps;
 mod vectors;
 
 // The first 24 bytes of an executable for 64-bit Arm, from another linker's output for the same layout.
@@ -40,7 +41,7 @@ struct Came {
     status: u8,
     written: bool,
     printed: Vec<u8>,
-    told: Vec<u8>,
+    error_line: Vec<u8>,
 }
 
 // The calls that are to fail, of the files and of the output.
@@ -56,27 +57,6 @@ impl Fails {
             files: Vec::new(alloc),
             output: Vec::new(alloc),
         }
-    }
-}
-
-// A sink that takes one byte at its first call, and fails at the others.
-#[derive(Drop)]
-struct OneByte {
-    bytes: Vec<u8>,
-    faults: u64,
-}
-
-impl Sink for OneByte {
-    ghost taken = { λ sink. Some sink.bytes.items };
-
-    ghost faults = { λ sink. sink.faults };
-
-    fn put(&mut self, bytes: &[u8]) -> Result<usize, Failed> {
-        if self.bytes.is_empty() && self.bytes.push(bytes[0]).is_ok() {
-            return Ok(1);
-        }
-        self.faults = self.faults.saturating_add(1);
-        Err(Failed)
     }
 }
 
@@ -133,7 +113,7 @@ fn done_over(
         status,
         written,
         printed: out.bytes().to_vec(alloc)?,
-        told: err.bytes().to_vec(alloc)?,
+        error_line: err.bytes().to_vec(alloc)?,
     })
 }
 
@@ -147,7 +127,7 @@ fn kernel_is_compiled(rt: HostRuntime) -> Result<(), Fail> {
     assert_eq!(rt; came.status, 0);
     assert!(rt; came.written);
     assert_eq!(rt; came.printed.len(), 0);
-    assert_eq!(rt; came.told.len(), 0);
+    assert_eq!(rt; came.error_line.len(), 0);
     Ok(())
 }
 
@@ -169,30 +149,7 @@ fn other_texts_are_refused(rt: HostRuntime) -> Result<(), Fail> {
         let came = done(rt.alloc(), "compile in out", text, none)?.expect(&rt, "a command");
         assert_eq!(rt; came.status, 3);
         assert!(rt; !came.written);
-        assert_eq!(rt; came.told.as_slice(), line);
-    }
-    Ok(())
-}
-
-#[test]
-fn failing_files_are_told(rt: HostRuntime) -> Result<(), Fail> {
-    let rows = [
-        ("compile in out", 0),
-        ("compile in out", 1),
-        ("check in", 0),
-        ("list in", 0),
-        ("run in", 0),
-        ("run --map m in", 1),
-    ];
-    for (line, call) in rows {
-        let fails = Fails {
-            files: vec![in rt.alloc(); call]?,
-            output: Vec::new(rt.alloc()),
-        };
-        let came = done(rt.alloc(), line, ADD_ONE, fails)?.expect(&rt, "a command");
-        assert_eq!(rt; came.status, 8);
-        assert!(rt; !came.written);
-        assert_eq!(rt; came.told.as_slice(), b"svec: file failed\n".as_slice());
+        assert_eq!(rt; came.error_line.as_slice(), line);
     }
     Ok(())
 }
@@ -203,6 +160,7 @@ fn other_words_are_no_command(rt: HostRuntime) -> Result<(), Fail> {
         "",
         "run in -5",
         "run --vl 130 in",
+        "run --steps 1 --steps 1 in",
         "compile in",
         "list",
         "list in out",
@@ -214,8 +172,13 @@ fn other_words_are_no_command(rt: HostRuntime) -> Result<(), Fail> {
         let none = Fails::none(rt.alloc());
         let came = done(rt.alloc(), line, &E1, none)?.expect(&rt, "a command");
         assert_eq!(rt; came.status, 2);
-        assert_eq!(rt; came.told.as_slice(), b"svec: usage\n".as_slice());
+        assert_eq!(rt; came.printed.len(), 0);
+        assert_eq!(rt; came.error_line.as_slice(), b"svec: usage\n".as_slice());
     }
+    let mut files = MemoryFiles::new(Vec::new(rt.alloc()), Vec::new(rt.alloc()));
+    let came = done_over(rt.alloc(), &[], &mut files, Vec::new(rt.alloc()))?;
+    assert_eq!(rt; came.status, 2);
+    assert_eq!(rt; came.printed.len(), 0);
     Ok(())
 }
 
@@ -255,54 +218,7 @@ fn programs_run(rt: HostRuntime) -> Result<(), Fail> {
         let came = done(rt.alloc(), line, &file, none)?.expect(&rt, "a command");
         assert_eq!(rt; came.status, status);
         assert_eq!(rt; came.printed.as_slice(), text);
-        assert_eq!(rt; came.told.len(), 0);
-    }
-    Ok(())
-}
-
-#[test]
-fn short_file_is_refused(rt: HostRuntime) -> Result<(), Fail> {
-    for line in ["list in", "run in"] {
-        let none = Fails::none(rt.alloc());
-        let came = done(rt.alloc(), line, &E1[..63], none)?.expect(&rt, "a command");
-        assert_eq!(rt; came.status, 4);
-        assert_eq!(rt; came.printed.len(), 0);
-        assert_eq!(rt;
-            came.told.as_slice(),
-            b"svec: file: short 64 63\n".as_slice()
-        );
-    }
-    Ok(())
-}
-
-#[test]
-fn maps_are_refused(rt: HostRuntime) -> Result<(), Fail> {
-    let rows = [
-        (
-            b"map 0x400000 1 rw".as_slice(),
-            b"svec: map: clash at line 1\n".as_slice(),
-        ),
-        (
-            b"map 0x1000 1 r\nmap 0x1000 1 rw",
-            b"svec: map: clash at line 2\n",
-        ),
-        (b"set 0x5000 00", b"svec: map: unmapped at line 1\n"),
-        (b"map 0x1000 0 r", b"svec: map: bad line 1\n"),
-        (b"map 0x1001 1 r", b"svec: map: bad line 1\n"),
-        (b"map 0xffffffff0000 17 r", b"svec: map: bad line 1\n"),
-        (b"map 0 18446744073709551615 r", b"svec: map: bad line 1\n"),
-        (b"map 0x1000 1 r\nset 0x1000 0", b"svec: map: bad line 2\n"),
-        (b"map 0x1000000 16384 r", b"svec: map: too many pages\n"),
-    ];
-    for (map, line) in rows {
-        let none = Fails::none(rt.alloc());
-        let came = done_beside(rt.alloc(), "run --map m in", &E1, map, none)?.expect(
-            &rt,
-            "a command",
-        );
-        assert_eq!(rt; came.status, 4);
-        assert_eq!(rt; came.printed.len(), 0);
-        assert_eq!(rt; came.told.as_slice(), line);
+        assert_eq!(rt; came.error_line.len(), 0);
     }
     Ok(())
 }
@@ -331,53 +247,7 @@ fn programs_are_listed(rt: HostRuntime) -> Result<(), Fail> {
         let came = done(rt.alloc(), "list in", &file, none)?.expect(&rt, "a command");
         assert_eq!(rt; came.status, 0);
         assert_eq!(rt; came.printed.strip_prefix(first), Some(rest));
-        assert_eq!(rt; came.told.len(), 0);
+        assert_eq!(rt; came.error_line.len(), 0);
     }
-    Ok(())
-}
-
-#[test]
-fn listing_ends_where_the_output_fails(rt: HostRuntime) -> Result<(), Fail> {
-    let mut words = Vec::new(rt.alloc());
-    for word in ["list", "in"] {
-        words.push(String::from_str(rt.alloc(), word)?)?;
-    }
-    let name = String::from_str(rt.alloc(), "in")?;
-    let bytes = E1.to_vec(rt.alloc())?;
-    let listed = vec![in rt.alloc(); NamedFile { name, bytes }]?;
-    assert!(rt; have_different_names(&listed));
-    let mut files = MemoryFiles::new(listed, Vec::new(rt.alloc()));
-    let mut input = MemorySource::new(Vec::new(rt.alloc()), Vec::new(rt.alloc()));
-    let mut out = OneByte {
-        bytes: Vec::new(rt.alloc()),
-        faults: 0,
-    };
-    let mut err = MemorySink::new(rt.alloc(), 100, Vec::new(rt.alloc()))?;
-    let status = top(
-        rt.alloc(),
-        &words,
-        &mut files,
-        &mut input,
-        &mut out,
-        &mut err,
-    );
-    assert_eq!(rt; status, 9);
-    assert_eq!(rt; out.bytes.as_slice(), b"0".as_slice());
-    Ok(())
-}
-
-#[test]
-fn failing_output_is_told(rt: HostRuntime) -> Result<(), Fail> {
-    let fails = Fails {
-        files: Vec::new(rt.alloc()),
-        output: vec![in rt.alloc(); 0]?,
-    };
-    let came = done(rt.alloc(), "run in 41", &E1, fails)?.expect(&rt, "a command");
-    assert_eq!(rt; came.status, 9);
-    assert_eq!(rt; came.printed.len(), 0);
-    assert_eq!(rt;
-        came.told.as_slice(),
-        b"svec: output or input failed\n".as_slice()
-    );
     Ok(())
 }

@@ -1,73 +1,89 @@
 //! The call that does a command.
 
-ghost use Rattle.std.specs.Prelude.{◌≡◌, ◌≢◌, ◌≤◌, ◌⊎◌, Option, Some, None, IfSome, IsTrue, Err, OnOk, []};
+ghost use Rattle.std.specs.Prelude.{◌≡◌, ◌≢◌, ◌⊎◌, ℕ, List, Option, Some, None, IfSome, IsTrue, Err, OnOk, []};
 ghost use Rattle.io_edges.specs.Files.{Rose};
 ghost use Rattle.command_line.specs.Line.{Line, line_of};
-ghost use Rattle.command_line.specs.Seen.{texts, command_seen};
-ghost use Rattle.sve_top.specs.Answer.{Held, Work, answer_of, text_of, status_of_refusal, IsAnswer, IsKept, IsQuiet, Unwritten};
-ghost use Rattle.sve_top.specs.Commands.{Wants, OfWanted, SomeWanted, IsOf, IsListed, IsSilent, IsHeld, Compiled, OthersKept};
+ghost use Rattle.command_line.specs.View.{texts, command_view};
+ghost use Rattle.sve_top.specs.Answer.{Held, Expected, answer_of, text_of, status_of, IsAnswer, IsKept, IsQuiet, Unwritten};
+ghost use Rattle.refusals.specs.Statuses.{status_of_refusal};
+ghost use Rattle.sve_top.specs.Commands.{Expects, WhereTold, SomeExpected, IsSettled, IsTaken, IsOf, IsListed, IsSilent, IsUnread, IsHeld, OnlyReads, StreamRose, NoneRose, Compiled, OthersKept};
 ghost use Rattle.sve_top.specs.Does.{Does, outside};
-ghost use Rattle.sve_top.specs.Outputs.{Prints, Gains, told_by};
-ghost use Rattle.sve_top.specs.Lines.{line_of_refusal};
+ghost use Rattle.sve_top.specs.Complete.{Completes};
+ghost use Rattle.sve_top.specs.Swept.{Swept};
+ghost use Rattle.sve_top.specs.Outputs.{Prints, Gains, error_line_by};
+ghost use Rattle.refusals.specs.Lines.{line_of_refusal};
 
 use crate::check::check;
 use crate::compile::compile;
+use crate::debug::debug;
 use crate::eval::eval;
 use crate::list::list;
-use crate::refusal::{Done, Refusal};
 use crate::run::run;
-use crate::told::put_refusal;
+use crate::sweep::sweep;
 use command_line::command::Command;
 use command_line::read::read_line;
 use io_edges::files::Files;
 use io_edges::sink::Sink;
 use io_edges::source::Source;
+use refusals::put_refusal;
+use refusals::refusal::{Done, Refusal};
 use std::alloc::Global;
 
 /// Does the command that the words spell, and answers its status. The words are those after the program's name.
 ///
 /// 0 done; 2 the words are no command; 3 the kernel is refused; 4 a file is refused; 5 the program stopped; 6 its steps are
-/// spent; 7 memory is short; 8 a file failed; 9 the output failed. A check, a listing and a run put their text on `out`. At every status but 0, 5
-/// and 6 one line on `err` tells the cause; a failure of `err` changes no status.
+/// spent; 7 memory is short; 8 a file failed; 9 the output failed, or for `debug` the input. A check, a listing, a run, a session and
+/// a sweep put their text on `out`. At every status but 0, 5 and 6 one line on `err` tells the cause; a failure of `err` changes no
+/// status.
 pub fn top<F: Files, I: Source, S: Sink, E: Sink>(
     alloc: Global,
     words: &[String],
     files: &mut F,
-    _input: &mut I,
+    input: &mut I,
     out: &mut S,
     err: &mut E,
 ) -> u8
-    ensures does { IfSome (F.held files.old) (λ held. SomeWanted (Wants held (line_of (texts words.now)))
-        (λ work. Does work
+    ensures does { (bytes : List ℕ) → IsTaken (line_of (texts words.now)) (I.left input.old) bytes
+        → IsSettled (line_of (texts words.now))
+        → IfSome (F.held files.old) (λ held. SomeExpected (Expects held bytes (line_of (texts words.now)))
+        (λ work. Does (line_of (texts words.now)) work
         (outside (F.held files.old) (F.faults files.old) (S.taken out.old) (S.faults out.old) (E.taken err.old)
-        (E.faults err.old))
+        (E.faults err.old) (I.faults input.old))
         (outside (F.held files.new) (F.faults files.new) (S.taken out.new) (S.faults out.new) (E.taken err.new)
-        (E.faults err.new))
+        (E.faults err.new) (I.faults input.new))
         result)) }
+    ensures complete { (bytes : List ℕ) → IsTaken (line_of (texts words.now)) (I.left input.old) bytes
+        → IsTrue (F.steady files.old)
+        → NoneRose (line_of (texts words.now)) (S.faults out.old) (S.faults out.new)
+        (I.faults input.old) (I.faults input.new)
+        → IfSome (F.held files.old) (λ held. IfSome (line_of (texts words.now)) (λ line. IsHeld held line)
+        → Completes held bytes (line_of (texts words.now)) (S.taken out.old) (S.taken out.new) result) }
     ensures usage { result ≡ 2 → line_of (texts words.now) ≡ None }
     ensures listed { IsListed (line_of (texts words.now)) result }
     ensures file { result ≡ 0 → IfSome (line_of (texts words.now))
         (λ line. IfSome (F.held files.old) (λ old. IfSome (F.held files.new) (λ new. Compiled old new line))) }
     ensures others { IfSome (F.held files.old)
         (λ old. IfSome (F.held files.new) (λ new. OthersKept old new (line_of (texts words.now)))) }
-    ensures kept { (result ≡ 2) ⊎ (result ≡ 3) ⊎ (result ≡ 4) ⊎ (result ≡ 5) ⊎ (result ≡ 6) ⊎ (result ≡ 9)
-        → F.held files.new ≡ F.held files.old }
+    ensures swept { Swept (line_of (texts words.now)) (F.held files.new) (S.taken out.old) (S.taken out.new) result }
+    ensures kept { (result ≡ 2) ⊎ (result ≡ 3) ⊎ (result ≡ 4) → F.held files.new ≡ F.held files.old }
+    ensures reads { OnlyReads (line_of (texts words.now)) → F.held files.new ≡ F.held files.old }
     ensures failed { result ≡ 8 → Rose (F.faults files.old) (F.faults files.new) }
-    ensures output { result ≡ 9 → Rose (S.faults out.old) (S.faults out.new) }
+    ensures output { result ≡ 9 → StreamRose (line_of (texts words.now)) (S.faults out.old) (S.faults out.new)
+        (I.faults input.old) (I.faults input.new) }
     ensures steady { IsTrue (F.steady files.old)
         → IfSome (line_of (texts words.now)) (λ line. IfSome (F.held files.old)
         (λ held. IsHeld held line → result ≢ 8)) }
     ensures quiet { (result ≡ 2) ⊎ (result ≡ 3) ⊎ (result ≡ 4) ⊎ (result ≡ 8) → out.new ≡ out.old }
     ensures silent { IsSilent (line_of (texts words.now)) → out.new ≡ out.old }
     ensures untold { (result ≡ 0) ⊎ (result ≡ 5) ⊎ (result ≡ 6) → err.new ≡ err.old }
-    ensures unread { _input.new ≡ _input.old }
-    ensures told_alike { result ≢ 3 → result ≢ 4
-        → Gains (E.taken err.old) (E.taken err.new) (E.faults err.old) (E.faults err.new) (told_by [] result) }
-    ensures told_some { (result ≡ 3) ⊎ (result ≡ 4)
+    ensures unread { IsUnread (line_of (texts words.now)) → input.new ≡ input.old }
+    ensures line_alike { result ≢ 3 → result ≢ 4
+        → Gains (E.taken err.old) (E.taken err.new) (E.faults err.old) (E.faults err.new) (error_line_by [] result) }
+    ensures line_some { (result ≡ 3) ⊎ (result ≡ 4)
         → (refusal : Refusal) × (status_of_refusal refusal ≡ result)
         × Gains (E.taken err.old) (E.taken err.new) (E.faults err.old) (E.faults err.new) (line_of_refusal refusal) }
 {
-    match do_words(alloc, words, files, out) {
+    match do_words(alloc, words, files, input, out) {
         Ok(done) => done.status(),
         Err(refusal) => {
             let _ = put_refusal(err, refusal);
@@ -77,70 +93,80 @@ pub fn top<F: Files, I: Source, S: Sink, E: Sink>(
 }
 
 // Does the command of some words.
-fn do_words<F: Files, S: Sink>(
+fn do_words<F: Files, I: Source, S: Sink>(
     alloc: Global,
     words: &[String],
     files: &mut F,
+    input: &mut I,
     out: &mut S,
 ) -> Result<Done, Refusal>
-    ensures answer { IfSome (F.held files.old)
-        (λ held. OfWanted (Wants held (line_of (texts words.now)))
-        (λ work. IsAnswer (F.faults files.old) (F.faults files.new) (S.faults out.old) (S.faults out.new)
-        (answer_of work) result)) }
+    ensures answer { WhereTold (F.held files.old) (I.left input.old) (line_of (texts words.now))
+        (λ work. IsAnswer (F.faults files.old) (F.faults files.new)
+        (StreamRose (line_of (texts words.now)) (S.faults out.old) (S.faults out.new)
+        (I.faults input.old) (I.faults input.new)) (answer_of work) result) }
     ensures listed { IsOf (line_of (texts words.now)) result }
     ensures file { OnOk result (IfSome (line_of (texts words.now))
         (λ line. IfSome (F.held files.old) (λ old. IfSome (F.held files.new) (λ new. Compiled old new line)))) }
     ensures others { IfSome (F.held files.old)
         (λ old. IfSome (F.held files.new) (λ new. OthersKept old new (line_of (texts words.now)))) }
+    ensures swept { Swept (line_of (texts words.now)) (F.held files.new) (S.taken out.old) (S.taken out.new)
+        (status_of result) }
     ensures kept { IsKept result → F.held files.new ≡ F.held files.old }
+    ensures reads { OnlyReads (line_of (texts words.now)) → F.held files.new ≡ F.held files.old }
     ensures failed { result ≡ Err Refusal.File → Rose (F.faults files.old) (F.faults files.new) }
-    ensures output { result ≡ Err Refusal.Output → Rose (S.faults out.old) (S.faults out.new) }
+    ensures output { result ≡ Err Refusal.Output → StreamRose (line_of (texts words.now))
+        (S.faults out.old) (S.faults out.new) (I.faults input.old) (I.faults input.new) }
     ensures steady { IsTrue (F.steady files.old)
         → IfSome (line_of (texts words.now)) (λ line. IfSome (F.held files.old)
         (λ held. IsHeld held line → result ≢ Err Refusal.File)) }
-    ensures printed { IfSome (F.held files.old)
-        (λ held. OfWanted (Wants held (line_of (texts words.now)))
-        (λ work. Prints (S.taken out.old) (S.taken out.new) (text_of work) result)) }
+    ensures printed { WhereTold (F.held files.old) (I.left input.old) (line_of (texts words.now))
+        (λ work. Prints (S.taken out.old) (S.taken out.new) (text_of work) result) }
     ensures quiet { IsQuiet result → out.new ≡ out.old }
-    ensures unwritten { IfSome (F.held files.old) (λ held. OfWanted (Wants held (line_of (texts words.now)))
-        (λ work. Unwritten work (F.held files.old) (F.held files.new))) }
+    ensures unwritten { WhereTold (F.held files.old) (I.left input.old) (line_of (texts words.now))
+        (λ work. Unwritten work (F.held files.old) (F.held files.new)) }
     ensures silent { IsSilent (line_of (texts words.now)) → out.new ≡ out.old }
+    ensures unread { IsUnread (line_of (texts words.now)) → input.new ≡ input.old }
 {
     let Some(command) = read_line(alloc, words)? else {
         return Err(Refusal::Usage);
     };
-    let done = do_command(alloc, &command, files, out)?;
+    let done = do_command(alloc, &command, files, input, out)?;
     Ok(done)
 }
 
 // Does a command.
-fn do_command<F: Files, S: Sink>(
+fn do_command<F: Files, I: Source, S: Sink>(
     alloc: Global,
     command: &Command,
     files: &mut F,
+    input: &mut I,
     out: &mut S,
 ) -> Result<Done, Refusal>
-    ensures answer { IfSome (F.held files.old)
-        (λ held. OfWanted (Wants held (Some (command_seen command.now)))
-        (λ work. IsAnswer (F.faults files.old) (F.faults files.new) (S.faults out.old) (S.faults out.new)
-        (answer_of work) result)) }
-    ensures listed { IsOf (Some (command_seen command.now)) result }
+    ensures answer { WhereTold (F.held files.old) (I.left input.old) (Some (command_view command.now))
+        (λ work. IsAnswer (F.faults files.old) (F.faults files.new)
+        (StreamRose (Some (command_view command.now)) (S.faults out.old) (S.faults out.new)
+        (I.faults input.old) (I.faults input.new)) (answer_of work) result) }
+    ensures listed { IsOf (Some (command_view command.now)) result }
     ensures file { OnOk result (IfSome (F.held files.old)
-        (λ old. IfSome (F.held files.new) (λ new. Compiled old new (command_seen command.now)))) }
+        (λ old. IfSome (F.held files.new) (λ new. Compiled old new (command_view command.now)))) }
     ensures others { IfSome (F.held files.old)
-        (λ old. IfSome (F.held files.new) (λ new. OthersKept old new (Some (command_seen command.now)))) }
+        (λ old. IfSome (F.held files.new) (λ new. OthersKept old new (Some (command_view command.now)))) }
+    ensures swept { Swept (Some (command_view command.now)) (F.held files.new) (S.taken out.old) (S.taken out.new)
+        (status_of result) }
     ensures kept { IsKept result → F.held files.new ≡ F.held files.old }
+    ensures reads { OnlyReads (Some (command_view command.now)) → F.held files.new ≡ F.held files.old }
     ensures failed { result ≡ Err Refusal.File → Rose (F.faults files.old) (F.faults files.new) }
-    ensures output { result ≡ Err Refusal.Output → Rose (S.faults out.old) (S.faults out.new) }
+    ensures output { result ≡ Err Refusal.Output → StreamRose (Some (command_view command.now))
+        (S.faults out.old) (S.faults out.new) (I.faults input.old) (I.faults input.new) }
     ensures steady { IsTrue (F.steady files.old)
-        → IfSome (F.held files.old) (λ held. IsHeld held (command_seen command.now) → result ≢ Err Refusal.File) }
-    ensures printed { IfSome (F.held files.old)
-        (λ held. OfWanted (Wants held (Some (command_seen command.now)))
-        (λ work. Prints (S.taken out.old) (S.taken out.new) (text_of work) result)) }
+        → IfSome (F.held files.old) (λ held. IsHeld held (command_view command.now) → result ≢ Err Refusal.File) }
+    ensures printed { WhereTold (F.held files.old) (I.left input.old) (Some (command_view command.now))
+        (λ work. Prints (S.taken out.old) (S.taken out.new) (text_of work) result) }
     ensures quiet { IsQuiet result → out.new ≡ out.old }
-    ensures unwritten { IfSome (F.held files.old) (λ held. OfWanted (Wants held (Some (command_seen command.now)))
-        (λ work. Unwritten work (F.held files.old) (F.held files.new))) }
-    ensures silent { IsSilent (Some (command_seen command.now)) → out.new ≡ out.old }
+    ensures unwritten { WhereTold (F.held files.old) (I.left input.old) (Some (command_view command.now))
+        (λ work. Unwritten work (F.held files.old) (F.held files.new)) }
+    ensures silent { IsSilent (Some (command_view command.now)) → out.new ≡ out.old }
+    ensures unread { IsUnread (Some (command_view command.now)) → input.new ≡ input.old }
 {
     match command {
         Command::Compile { from, to } => compile(alloc, from.as_str(), to.as_str(), files),
@@ -148,15 +174,19 @@ fn do_command<F: Files, S: Sink>(
         Command::Eval(task) => eval(alloc, task, files, out),
         Command::List { from } => list(alloc, from.as_str(), files, out),
         Command::Run { vl, task } => run(alloc, *vl, task, files, out),
+        Command::Debug { vl, task } => debug(alloc, *vl, task, files, input, out),
+        Command::Sweep { number, to } => sweep(alloc, *number, to.as_str(), files, out),
     }
 }
 
-/// Some work is wanted of each command.
-pub fn some_work()
-    ensures { (held : Held) (line : Option Line) → (w : Work) × Wants held line w }
+/// Some work is wanted of each command that the files and the input settle.
+pub fn some_expected()
+    ensures { (held : Held) (bytes : List ℕ) (line : Option Line) → IsSettled line
+        → (w : Expected) × Expects held bytes line w }
 {}
 
 /// One work alone is wanted of a command.
-pub fn one_work()
-    ensures { (held : Held) (line : Option Line) (v w : Work) → Wants held line v → Wants held line w → v ≡ w }
+pub fn one_expected()
+    ensures { (held : Held) (bytes : List ℕ) (line : Option Line) (v w : Expected) → IsSettled line
+        → Expects held bytes line v → Expects held bytes line w → v ≡ w }
 {}

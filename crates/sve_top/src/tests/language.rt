@@ -107,7 +107,7 @@ kernel f(a: [u8], n: u64) { for n in 0..m { a[i] = 1; } }#svec: kernel: unknown 
 kernel f(a: [u8], n: u64) { for i in 0..n { i[i + 3000] = 1; } }#svec: kernel: wrong kind at item 4
 ";
 
-// Accepted kernels, and the lines behind the canonical text.
+// Accepted kernels, and the lines after the canonical text.
 const ACCEPTED: &str = "\
 kernel f() -> u8 { return 255; }#size 2#class scalar noloop#need x 1
 kernel f() -> i8 { return -128; }#size 2#class scalar noloop#need x 1

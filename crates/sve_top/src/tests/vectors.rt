@@ -118,10 +118,11 @@ fn prints(
     alloc: Global,
     line: &str,
     file: &[u8],
+    page: &[u8],
     status: &str,
     lines: &str,
 ) -> Result<bool, AllocError> {
-    let Some(came) = done_beside(alloc, line, file, PAGE, Fails::none(alloc))? else {
+    let Some(came) = done_beside(alloc, line, file, page, Fails::none(alloc))? else {
         return Ok(false);
     };
     let mut text = String::new(alloc);
@@ -133,8 +134,8 @@ fn prints(
     Ok(came.status == wanted && came.printed.as_slice() == text.as_bytes())
 }
 
-// Whether a row is as it says.
-fn holds(alloc: Global, row: &str) -> Result<bool, AllocError> {
+// Whether a row is as it says, beside a page map.
+pub(super) fn holds(alloc: Global, page: &[u8], row: &str) -> Result<bool, AllocError> {
     let Some((line, rest)) = row.split_once('#') else {
         return Ok(false);
     };
@@ -147,7 +148,7 @@ fn holds(alloc: Global, row: &str) -> Result<bool, AllocError> {
     let Some(file) = program(alloc, words)? else {
         return Ok(false);
     };
-    let holds = prints(alloc, line, &file, status, lines)?;
+    let holds = prints(alloc, line, &file, page, status, lines)?;
     Ok(holds)
 }
 
@@ -155,7 +156,7 @@ fn holds(alloc: Global, row: &str) -> Result<bool, AllocError> {
 fn vector_programs(rt: HostRuntime) -> Result<(), Fail> {
     for table in [COUNTS, TESTS, ARITHMETIC, REDUCTIONS, MEMORY] {
         for row in table.lines() {
-            assert!(rt; holds(rt.alloc(), row)?, "{row}");
+            assert!(rt; holds(rt.alloc(), PAGE, row)?, "{row}");
         }
     }
     Ok(())

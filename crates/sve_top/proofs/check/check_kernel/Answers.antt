@@ -3,10 +3,10 @@ use Rattle.kernel_tree.specs.Plain.{program_of}
 use Rattle.kernel_tree.specs.Checked.{kernel_of}
 use Rattle.sve_top.specs.Kernels.{ByVerdict}
 use Rattle.sve_top.specs.Commands.{checked, ended}
-use Rattle.sve_top.proofs.Wanted.{sound_text}
+use Rattle.sve_top.proofs.Expectations.{sound_text}
 use Rattle.sve_top.proofs.check.check_kernel.Goals as goal
 
 pub returns-clause-wanted : goal.returns-clause-wanted
 returns-clause-wanted c =
-    subst (λ t. ByVerdict checked c.args.text.now (ended t)) (sym c.in_ok-told.ensures)
+    subst (λ t. ByVerdict checked c.args.text.now (ended t)) (sym c.in_ok-report.ensures)
     (sound_text checked c.args.text.now (program_of (kernel_of c.in_ok-kernel.kernel)) c.in_ok-kernel.ensures.sound)

@@ -3,7 +3,7 @@ use Rattle.kernel_tree.specs.Plain.{program_of}
 use Rattle.kernel_tree.specs.Checked.{kernel_of}
 use Rattle.sve_top.specs.Kernels.{ByVerdict}
 use Rattle.sve_top.specs.Commands.{compiled}
-use Rattle.sve_top.proofs.Wanted.{sound_text, compile_refusal}
+use Rattle.sve_top.proofs.Expectations.{sound_text, compile_refusal}
 use Rattle.sve_top.proofs.compile.compile_text.Goals as goal
 
 pub returns-in_err-file-clause-refusal : goal.returns-in_err-file-clause-refusal

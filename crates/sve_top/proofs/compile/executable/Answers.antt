@@ -1,11 +1,11 @@
 use Rattle.std.proofs.Common.{sym, ap, ◌∙◌, subst}
 use Rattle.kernel_tree.specs.Plain.{program_of}
 use Rattle.kernel_tree.specs.Checked.{kernel_of}
-use Rattle.loop_form.specs.Seen.{program}
+use Rattle.loop_form.specs.View.{program}
 use Rattle.machine_model.specs.Written.{file_of}
 use Rattle.kernel_compile.specs.Faithful.{FreeFaithful}
 use Rattle.sve_top.specs.Commands.{compiled_by}
-use Rattle.sve_top.proofs.Wanted.{refuses_compile}
+use Rattle.sve_top.proofs.Expectations.{refuses_compile}
 use Rattle.sve_top.proofs.compile.executable.Goals as goal
 
 pub returns-in_err-code-clause-refusal : goal.returns-in_err-code-clause-refusal

@@ -6,21 +6,21 @@ use Rattle.guest_types.specs.Memory.{merged}
 use Rattle.guest_types.proofs.Merges.{merged-nil_left}
 use Rattle.kernel_tree.specs.Plain.{program_of}
 use Rattle.kernel_tree.specs.Checked.{kernel_of}
-use Rattle.command_line.specs.Seen.{task_seen, extent_seen}
+use Rattle.command_line.specs.View.{task_view, extent_view}
 use Rattle.sve_top.specs.Commands.{dump_of}
 use Rattle.sve_top.proofs.Evaluations.{eval_refused, eval_played}
 use Rattle.sve_top.proofs.eval.evaluate.Goals as goal
 
 pub returns-in_err-map-clause-refusal : goal.returns-in_err-map-clause-refusal
 returns-in_err-map-clause-refusal c =
-    eval_refused (task_seen c.args.task.now) c.args.map.now (program_of (kernel_of c.args.kernel.now)) c.empty-image.result.pages.items c.in_err-map.field-0.0 c.from_residual.result
+    eval_refused (task_view c.args.task.now) c.args.map.now (program_of (kernel_of c.args.kernel.now)) c.empty-image.result.pages.items c.in_err-map.field-0.0 c.from_residual.result
     c.empty-image.ensures.pages c.from_residual.ensures.1 c.in_err-map.ensures.refused
 
 pub returns-clause-work : goal.returns-clause-work
 returns-clause-work c =
-    let dump = option_map extent_seen c.args.task.now.dump in
+    let dump = option_map extent_view c.args.task.now.dump in
     let k = program_of (kernel_of c.args.kernel.now) in
-    eval_played (task_seen c.args.task.now) c.args.map.now k c.empty-image.result.pages.items c.in_ok-map.map.pages.items
+    eval_played (task_view c.args.task.now) c.args.map.now k c.empty-image.result.pages.items c.in_ok-map.map.pages.items
     c.in_ok-pages.pages c.scalar_run.new.memory c.in_ok-outcome.outcome c.scalar_done.result c.push_dump.new.text.items
     c.empty-image.ensures.pages c.in_ok-map.ensures.map
     (c.in_ok-pages.ensures ∙ ap (λ m. merged m c.in_ok-map.map.pages.items) c.empty-image.ensures.pages ∙ merged-nil_left c.in_ok-map.map.pages.items)

@@ -1,5 +1,5 @@
 use Rattle.std.proofs.Common.{◌+◌, ◌≤◌, ◌∙◌, arith, subst}
-use Rattle.sve_top.specs.Outputs.{PutsText}
+use Rattle.io_edges.specs.Sink.{PutsText}
 use Rattle.sve_top.proofs.Listings.{puts_none, puts_more, puts_short}
 use Rattle.sve_top.proofs.listing.put_lines.Goals as goal
 

@@ -1,79 +1,140 @@
-use Rattle.std.proofs.Common.{Some, ap, sym, ◌∙◌}
-use Rattle.std.specs.Prelude.{string_bytes}
-use Rattle.command_line.specs.Line.{CompileLine, CheckLine, EvalLine}
-use Rattle.command_line.specs.Seen.{command_seen, task_seen}
-use Rattle.sve_top.specs.Answer.{answer_of, text_of, IsAnswer, Unwritten}
-use Rattle.sve_top.specs.Commands.{Wants}
+use Rattle.std.proofs.Common.{[], ◌⊎◌, Some, ap, sym, ◌∙◌, subst}
+use Rattle.io_edges.specs.Files.{Rose}
+use Rattle.std.specs.Prelude.{IfSome, OnOk, string_bytes}
+use Rattle.command_line.specs.Line.{CompileLine, CheckLine, EvalLine, ListLine, RunLine, DebugLine, SweepLine}
+use Rattle.command_line.specs.View.{command_view, task_view}
+use Rattle.sve_top.specs.Answer.{answer_of, text_of, status_of, IsAnswer, Unwritten}
+use Rattle.sve_top.specs.Commands.{Compiled, Expects, StreamRose, expected_of_list, expected_of_run, expected_of_debug}
 use Rattle.sve_top.specs.Outputs.{Prints}
-use Rattle.sve_top.proofs.Wanted.{by_line, with_output, prints_silent, of_every}
+use Rattle.sve_top.specs.Swept.{Swept}
+use Rattle.sve_top.proofs.Expectations.{by_line, of_told, of_one, of_every_line, with_output, prints_silent}
 use Rattle.sve_top.proofs.top.do_command.Goals as goal
 
 pub returns-in-Compile-clause-answer : goal.returns-in-Compile-clause-answer
 returns-in-Compile-clause-answer g c =
-    by_line (g.F.Files.held c.args.files.now) (Some (command_seen c.args.command.now)) (Some (CompileLine c.as_str.result.now c.as_str-in-Compile.result.now))
-    (λ work. IsAnswer (g.F.Files.faults c.args.files.now) (g.F.Files.faults c.compile.new.files) (g.S.Sink.faults c.args.out.now) (g.S.Sink.faults c.args.out.now) (answer_of work) c.compile.result)
-    (ap (λ l. Some l) (ap command_seen c.in-Compile.is ∙ ap (λ a. CompileLine a (string_bytes c.in-Compile.to)) (sym c.as_str.ensures.value) ∙ ap (λ b. CompileLine c.as_str.result.now b) (sym c.as_str-in-Compile.ensures.value)))
-    (with_output (g.F.Files.faults c.args.files.now) (g.F.Files.faults c.compile.new.files) (g.S.Sink.faults c.args.out.now) (g.S.Sink.faults c.args.out.now)
-    (g.F.Files.held c.args.files.now) (λ h. Wants h (Some (CompileLine c.as_str.result.now c.as_str-in-Compile.result.now))) c.compile.result c.compile.ensures.answer)
+    by_line (g.F.Files.held c.args.files.now) (g.I.Source.left c.args.input.now) (Some (command_view c.args.command.now)) (Some (CompileLine c.as_str.result.now c.as_str-in-Compile.result.now))
+    (λ line work. IsAnswer (g.F.Files.faults c.args.files.now) (g.F.Files.faults c.compile.new.files) (StreamRose line (g.S.Sink.faults c.args.out.now) (g.S.Sink.faults c.args.out.now) (g.I.Source.faults c.args.input.now) (g.I.Source.faults c.args.input.now)) (answer_of work) c.compile.result)
+    (ap (λ l. Some l) (ap command_view c.in-Compile.is ∙ ap (λ a. CompileLine a (string_bytes c.in-Compile.to)) (sym c.as_str.ensures.value) ∙ ap (λ b. CompileLine c.as_str.result.now b) (sym c.as_str-in-Compile.ensures.value)))
+    (λ input taken. with_output _ _ _ (g.F.Files.held c.args.files.now) (λ h. Expects h [] (Some (CompileLine c.as_str.result.now c.as_str-in-Compile.result.now))) c.compile.result c.compile.ensures.answer)
 
 pub returns-in-Compile-clause-printed : goal.returns-in-Compile-clause-printed
 returns-in-Compile-clause-printed g c =
-    by_line (g.F.Files.held c.args.files.now) (Some (command_seen c.args.command.now)) (Some (CompileLine (string_bytes c.in-Compile.from) (string_bytes c.in-Compile.to)))
-    (λ work. Prints (g.S.Sink.taken c.args.out.now) (g.S.Sink.taken c.args.out.now) (text_of work) c.compile.result)
-    (ap (λ l. Some l) (ap command_seen c.in-Compile.is))
-    (prints_silent (g.F.Files.held c.args.files.now) (string_bytes c.in-Compile.from) (string_bytes c.in-Compile.to) (g.S.Sink.taken c.args.out.now) c.compile.result)
-
-pub returns-in-Check-clause-answer : goal.returns-in-Check-clause-answer
-returns-in-Check-clause-answer g c =
-    by_line (g.F.Files.held c.args.files.now) (Some (command_seen c.args.command.now)) (Some (CheckLine c.as_str-in-Check.result.now))
-    (λ work. IsAnswer (g.F.Files.faults c.args.files.now) (g.F.Files.faults c.check.new.files) (g.S.Sink.faults c.args.out.now) (g.S.Sink.faults c.check.new.out) (answer_of work) c.check.result)
-    (ap (λ l. Some l) (ap command_seen c.in-Check.is ∙ ap CheckLine (sym c.as_str-in-Check.ensures.value)))
-    c.check.ensures.answer
-
-pub returns-in-Check-clause-printed : goal.returns-in-Check-clause-printed
-returns-in-Check-clause-printed g c =
-    by_line (g.F.Files.held c.args.files.now) (Some (command_seen c.args.command.now)) (Some (CheckLine c.as_str-in-Check.result.now))
-    (λ work. Prints (g.S.Sink.taken c.args.out.now) (g.S.Sink.taken c.check.new.out) (text_of work) c.check.result)
-    (ap (λ l. Some l) (ap command_seen c.in-Check.is ∙ ap CheckLine (sym c.as_str-in-Check.ensures.value)))
-    c.check.ensures.printed
-
-pub returns-in-Eval-clause-answer : goal.returns-in-Eval-clause-answer
-returns-in-Eval-clause-answer g c =
-    by_line (g.F.Files.held c.args.files.now) (Some (command_seen c.args.command.now)) (Some (EvalLine (task_seen c.in-Eval.task)))
-    (λ work. IsAnswer (g.F.Files.faults c.args.files.now) (g.F.Files.faults c.eval.new.files) (g.S.Sink.faults c.args.out.now) (g.S.Sink.faults c.eval.new.out) (answer_of work) c.eval.result)
-    (ap (λ l. Some l) (ap command_seen c.in-Eval.is))
-    c.eval.ensures.answer
-
-pub returns-in-Eval-clause-printed : goal.returns-in-Eval-clause-printed
-returns-in-Eval-clause-printed g c =
-    by_line (g.F.Files.held c.args.files.now) (Some (command_seen c.args.command.now)) (Some (EvalLine (task_seen c.in-Eval.task)))
-    (λ work. Prints (g.S.Sink.taken c.args.out.now) (g.S.Sink.taken c.eval.new.out) (text_of work) c.eval.result)
-    (ap (λ l. Some l) (ap command_seen c.in-Eval.is))
-    c.eval.ensures.printed
+    by_line (g.F.Files.held c.args.files.now) (g.I.Source.left c.args.input.now) (Some (command_view c.args.command.now)) (Some (CompileLine (string_bytes c.in-Compile.from) (string_bytes c.in-Compile.to)))
+    (λ line work. Prints (g.S.Sink.taken c.args.out.now) (g.S.Sink.taken c.args.out.now) (text_of work) c.compile.result)
+    (ap (λ l. Some l) (ap command_view c.in-Compile.is))
+    (λ input taken. prints_silent (g.F.Files.held c.args.files.now) (string_bytes c.in-Compile.from) (string_bytes c.in-Compile.to) (g.S.Sink.taken c.args.out.now) c.compile.result)
 
 pub returns-in-Compile-clause-unwritten : goal.returns-in-Compile-clause-unwritten
 returns-in-Compile-clause-unwritten g c =
-    by_line (g.F.Files.held c.args.files.now) (Some (command_seen c.args.command.now)) (Some (CompileLine c.as_str.result.now c.as_str-in-Compile.result.now))
-    (λ work. Unwritten work (g.F.Files.held c.args.files.now) (g.F.Files.held c.compile.new.files))
-    (ap (λ l. Some l) (ap command_seen c.in-Compile.is ∙ ap (λ a. CompileLine a (string_bytes c.in-Compile.to)) (sym c.as_str.ensures.value) ∙ ap (λ b. CompileLine c.as_str.result.now b) (sym c.as_str-in-Compile.ensures.value)))
-    c.compile.ensures.unwritten
+    by_line (g.F.Files.held c.args.files.now) (g.I.Source.left c.args.input.now) (Some (command_view c.args.command.now)) (Some (CompileLine c.as_str.result.now c.as_str-in-Compile.result.now))
+    (λ line work. Unwritten work (g.F.Files.held c.args.files.now) (g.F.Files.held c.compile.new.files))
+    (ap (λ l. Some l) (ap command_view c.in-Compile.is ∙ ap (λ a. CompileLine a (string_bytes c.in-Compile.to)) (sym c.as_str.ensures.value) ∙ ap (λ b. CompileLine c.as_str.result.now b) (sym c.as_str-in-Compile.ensures.value)))
+    (λ input taken. c.compile.ensures.unwritten)
+
+pub returns-in-Check-clause-answer : goal.returns-in-Check-clause-answer
+returns-in-Check-clause-answer g c =
+    by_line (g.F.Files.held c.args.files.now) (g.I.Source.left c.args.input.now) (Some (command_view c.args.command.now)) (Some (CheckLine c.as_str-in-Check.result.now))
+    (λ line work. IsAnswer (g.F.Files.faults c.args.files.now) (g.F.Files.faults c.check.new.files) (StreamRose line (g.S.Sink.faults c.args.out.now) (g.S.Sink.faults c.check.new.out) (g.I.Source.faults c.args.input.now) (g.I.Source.faults c.args.input.now)) (answer_of work) c.check.result)
+    (ap (λ l. Some l) (ap command_view c.in-Check.is ∙ ap CheckLine (sym c.as_str-in-Check.ensures.value)))
+    (λ input taken. c.check.ensures.answer)
+
+pub returns-in-Check-clause-printed : goal.returns-in-Check-clause-printed
+returns-in-Check-clause-printed g c =
+    by_line (g.F.Files.held c.args.files.now) (g.I.Source.left c.args.input.now) (Some (command_view c.args.command.now)) (Some (CheckLine c.as_str-in-Check.result.now))
+    (λ line work. Prints (g.S.Sink.taken c.args.out.now) (g.S.Sink.taken c.check.new.out) (text_of work) c.check.result)
+    (ap (λ l. Some l) (ap command_view c.in-Check.is ∙ ap CheckLine (sym c.as_str-in-Check.ensures.value)))
+    (λ input taken. c.check.ensures.printed)
 
 pub returns-in-Check-clause-unwritten : goal.returns-in-Check-clause-unwritten
 returns-in-Check-clause-unwritten g c =
-    of_every (g.F.Files.held c.args.files.now) (λ h. Wants h (Some (command_seen c.args.command.now)))
-    (λ work. Unwritten work (g.F.Files.held c.args.files.now) (g.F.Files.held c.check.new.files)) (λ work r. c.check.ensures.held)
+    of_every_line (g.F.Files.held c.args.files.now) (g.I.Source.left c.args.input.now) (Some (command_view c.args.command.now)) (λ work. Unwritten work (g.F.Files.held c.args.files.now) (g.F.Files.held c.check.new.files)) (λ work r. c.check.ensures.held)
+
+pub returns-in-Eval-clause-answer : goal.returns-in-Eval-clause-answer
+returns-in-Eval-clause-answer g c =
+    by_line (g.F.Files.held c.args.files.now) (g.I.Source.left c.args.input.now) (Some (command_view c.args.command.now)) (Some (EvalLine (task_view c.in-Eval.task)))
+    (λ line work. IsAnswer (g.F.Files.faults c.args.files.now) (g.F.Files.faults c.eval.new.files) (StreamRose line (g.S.Sink.faults c.args.out.now) (g.S.Sink.faults c.eval.new.out) (g.I.Source.faults c.args.input.now) (g.I.Source.faults c.args.input.now)) (answer_of work) c.eval.result)
+    (ap (λ l. Some l) (ap command_view c.in-Eval.is))
+    (λ input taken. c.eval.ensures.answer)
+
+pub returns-in-Eval-clause-printed : goal.returns-in-Eval-clause-printed
+returns-in-Eval-clause-printed g c =
+    by_line (g.F.Files.held c.args.files.now) (g.I.Source.left c.args.input.now) (Some (command_view c.args.command.now)) (Some (EvalLine (task_view c.in-Eval.task)))
+    (λ line work. Prints (g.S.Sink.taken c.args.out.now) (g.S.Sink.taken c.eval.new.out) (text_of work) c.eval.result)
+    (ap (λ l. Some l) (ap command_view c.in-Eval.is))
+    (λ input taken. c.eval.ensures.printed)
 
 pub returns-in-Eval-clause-unwritten : goal.returns-in-Eval-clause-unwritten
 returns-in-Eval-clause-unwritten g c =
-    of_every (g.F.Files.held c.args.files.now) (λ h. Wants h (Some (command_seen c.args.command.now)))
-    (λ work. Unwritten work (g.F.Files.held c.args.files.now) (g.F.Files.held c.eval.new.files)) (λ work r. c.eval.ensures.held)
+    of_every_line (g.F.Files.held c.args.files.now) (g.I.Source.left c.args.input.now) (Some (command_view c.args.command.now)) (λ work. Unwritten work (g.F.Files.held c.args.files.now) (g.F.Files.held c.eval.new.files)) (λ work r. c.eval.ensures.held)
+
+pub returns-in-List-clause-answer : goal.returns-in-List-clause-answer
+returns-in-List-clause-answer g c =
+    by_line (g.F.Files.held c.args.files.now) (g.I.Source.left c.args.input.now) (Some (command_view c.args.command.now)) (Some (ListLine c.as_str-in-List.result.now))
+    (λ line work. IsAnswer (g.F.Files.faults c.args.files.now) (g.F.Files.faults c.list.new.files) (StreamRose line (g.S.Sink.faults c.args.out.now) (g.S.Sink.faults c.list.new.out) (g.I.Source.faults c.args.input.now) (g.I.Source.faults c.args.input.now)) (answer_of work) c.list.result)
+    (ap (λ l. Some l) (ap command_view c.in-List.is ∙ ap ListLine (sym c.as_str-in-List.ensures.value)))
+    (λ input taken. of_one (g.F.Files.held c.args.files.now) (λ h. expected_of_list h c.as_str-in-List.result.now) _ c.list.ensures.answer)
+
+pub returns-in-List-clause-printed : goal.returns-in-List-clause-printed
+returns-in-List-clause-printed g c =
+    by_line (g.F.Files.held c.args.files.now) (g.I.Source.left c.args.input.now) (Some (command_view c.args.command.now)) (Some (ListLine c.as_str-in-List.result.now))
+    (λ line work. Prints (g.S.Sink.taken c.args.out.now) (g.S.Sink.taken c.list.new.out) (text_of work) c.list.result)
+    (ap (λ l. Some l) (ap command_view c.in-List.is ∙ ap ListLine (sym c.as_str-in-List.ensures.value)))
+    (λ input taken. of_one (g.F.Files.held c.args.files.now) (λ h. expected_of_list h c.as_str-in-List.result.now) _ c.list.ensures.printed)
 
 pub returns-in-List-clause-unwritten : goal.returns-in-List-clause-unwritten
 returns-in-List-clause-unwritten g c =
-    of_every (g.F.Files.held c.args.files.now) (λ h. Wants h (Some (command_seen c.args.command.now)))
-    (λ work. Unwritten work (g.F.Files.held c.args.files.now) (g.F.Files.held c.list.new.files)) (λ work r. c.list.ensures.held)
+    of_every_line (g.F.Files.held c.args.files.now) (g.I.Source.left c.args.input.now) (Some (command_view c.args.command.now)) (λ work. Unwritten work (g.F.Files.held c.args.files.now) (g.F.Files.held c.list.new.files)) (λ work r. c.list.ensures.held)
+
+pub returns-in-Run-clause-answer : goal.returns-in-Run-clause-answer
+returns-in-Run-clause-answer g c =
+    by_line (g.F.Files.held c.args.files.now) (g.I.Source.left c.args.input.now) (Some (command_view c.args.command.now)) (Some (RunLine c.in-Run.vl (task_view c.in-Run.task)))
+    (λ line work. IsAnswer (g.F.Files.faults c.args.files.now) (g.F.Files.faults c.run.new.files) (StreamRose line (g.S.Sink.faults c.args.out.now) (g.S.Sink.faults c.run.new.out) (g.I.Source.faults c.args.input.now) (g.I.Source.faults c.args.input.now)) (answer_of work) c.run.result)
+    (ap (λ l. Some l) (ap command_view c.in-Run.is))
+    (λ input taken. of_one (g.F.Files.held c.args.files.now) (λ h. expected_of_run h c.in-Run.vl (task_view c.in-Run.task)) _ c.run.ensures.answer)
+
+pub returns-in-Run-clause-printed : goal.returns-in-Run-clause-printed
+returns-in-Run-clause-printed g c =
+    by_line (g.F.Files.held c.args.files.now) (g.I.Source.left c.args.input.now) (Some (command_view c.args.command.now)) (Some (RunLine c.in-Run.vl (task_view c.in-Run.task)))
+    (λ line work. Prints (g.S.Sink.taken c.args.out.now) (g.S.Sink.taken c.run.new.out) (text_of work) c.run.result)
+    (ap (λ l. Some l) (ap command_view c.in-Run.is))
+    (λ input taken. of_one (g.F.Files.held c.args.files.now) (λ h. expected_of_run h c.in-Run.vl (task_view c.in-Run.task)) _ c.run.ensures.printed)
 
 pub returns-in-Run-clause-unwritten : goal.returns-in-Run-clause-unwritten
 returns-in-Run-clause-unwritten g c =
-    of_every (g.F.Files.held c.args.files.now) (λ h. Wants h (Some (command_seen c.args.command.now)))
-    (λ work. Unwritten work (g.F.Files.held c.args.files.now) (g.F.Files.held c.run.new.files)) (λ work r. c.run.ensures.held)
+    of_every_line (g.F.Files.held c.args.files.now) (g.I.Source.left c.args.input.now) (Some (command_view c.args.command.now)) (λ work. Unwritten work (g.F.Files.held c.args.files.now) (g.F.Files.held c.run.new.files)) (λ work r. c.run.ensures.held)
+
+pub returns-in-Debug-clause-answer : goal.returns-in-Debug-clause-answer
+returns-in-Debug-clause-answer g c =
+    by_line (g.F.Files.held c.args.files.now) (g.I.Source.left c.args.input.now) (Some (command_view c.args.command.now)) (Some (DebugLine c.in-Debug.vl (task_view c.in-Debug.task)))
+    (λ line work. IsAnswer (g.F.Files.faults c.args.files.now) (g.F.Files.faults c.debug.new.files) (StreamRose line (g.S.Sink.faults c.args.out.now) (g.S.Sink.faults c.debug.new.out) (g.I.Source.faults c.args.input.now) (g.I.Source.faults c.debug.new.input)) (answer_of work) c.debug.result)
+    (ap (λ l. Some l) (ap command_view c.in-Debug.is))
+    (λ input taken. of_one (g.F.Files.held c.args.files.now) (λ h. expected_of_debug h input c.in-Debug.vl (task_view c.in-Debug.task)) _
+    (of_told (g.I.Source.left c.args.input.now) input
+    (λ bytes. IfSome (g.F.Files.held c.args.files.now) (λ h. IsAnswer (g.F.Files.faults c.args.files.now) (g.F.Files.faults c.debug.new.files) (Rose (g.S.Sink.faults c.args.out.now) (g.S.Sink.faults c.debug.new.out) ⊎ Rose (g.I.Source.faults c.args.input.now) (g.I.Source.faults c.debug.new.input)) (answer_of (expected_of_debug h bytes c.in-Debug.vl (task_view c.in-Debug.task))) c.debug.result))
+    taken c.debug.ensures.answer))
+
+pub returns-in-Debug-clause-printed : goal.returns-in-Debug-clause-printed
+returns-in-Debug-clause-printed g c =
+    by_line (g.F.Files.held c.args.files.now) (g.I.Source.left c.args.input.now) (Some (command_view c.args.command.now)) (Some (DebugLine c.in-Debug.vl (task_view c.in-Debug.task)))
+    (λ line work. Prints (g.S.Sink.taken c.args.out.now) (g.S.Sink.taken c.debug.new.out) (text_of work) c.debug.result)
+    (ap (λ l. Some l) (ap command_view c.in-Debug.is))
+    (λ input taken. of_one (g.F.Files.held c.args.files.now) (λ h. expected_of_debug h input c.in-Debug.vl (task_view c.in-Debug.task)) _
+    (of_told (g.I.Source.left c.args.input.now) input
+    (λ bytes. IfSome (g.F.Files.held c.args.files.now) (λ h. Prints (g.S.Sink.taken c.args.out.now) (g.S.Sink.taken c.debug.new.out) (text_of (expected_of_debug h bytes c.in-Debug.vl (task_view c.in-Debug.task))) c.debug.result))
+    taken c.debug.ensures.printed))
+
+pub returns-in-Debug-clause-unwritten : goal.returns-in-Debug-clause-unwritten
+returns-in-Debug-clause-unwritten g c =
+    of_every_line (g.F.Files.held c.args.files.now) (g.I.Source.left c.args.input.now) (Some (command_view c.args.command.now)) (λ work. Unwritten work (g.F.Files.held c.args.files.now) (g.F.Files.held c.debug.new.files)) (λ work r. c.debug.ensures.held)
+
+pub returns-in-Sweep-clause-file : goal.returns-in-Sweep-clause-file
+returns-in-Sweep-clause-file g c =
+    subst (λ line. OnOk c.sweep.result (IfSome (g.F.Files.held c.args.files.now) (λ old. IfSome (g.F.Files.held c.sweep.new.files) (λ new. Compiled old new line))))
+    (sym (ap command_view c.in-Sweep.is ∙ ap (SweepLine c.in-Sweep.number) (sym c.as_str-in-Sweep.ensures.value)))
+    c.sweep.ensures.file
+
+pub returns-in-Sweep-clause-swept : goal.returns-in-Sweep-clause-swept
+returns-in-Sweep-clause-swept g c =
+    subst (λ line. Swept (Some line) (g.F.Files.held c.sweep.new.files) (g.S.Sink.taken c.args.out.now) (g.S.Sink.taken c.sweep.new.out) (status_of c.sweep.result))
+    (sym (ap command_view c.in-Sweep.is ∙ ap (SweepLine c.in-Sweep.number) (sym c.as_str-in-Sweep.ensures.value)))
+    c.sweep.ensures.swept

@@ -1,0 +1,181 @@
+//! What a command comes to.
+
+ghost use Rattle.std.specs.Prelude.{◌≡◌};
+ghost use Rattle.refusals.specs.Statuses.{status_of_done, status_of_refusal, of_files, of_compile, of_kernel, of_elf, of_map, of_session};
+
+use io_edges::files::FileError;
+use io_edges::sink::Failed;
+use kernel_compile::CompileFault;
+use kernel_front::KernelFault;
+use kernel_syntax::ReadFault;
+use kernel_types::TypeFault;
+use machine_model::elf_fault::ElfFault;
+use map_text::MapFault;
+use reg_assign::RegClass;
+use std::alloc::AllocError;
+use sve_debug::session::SessionFault;
+use thiserror::Error;
+
+/// How a command that is done came out. `Stopped` and `Spent` are of runs alone.
+#[derive(Clone, Copy, Debug, PartialEq, Eq)]
+pub enum Done {
+    Ended,
+    Stopped,
+    Spent,
+}
+
+impl Done {
+    /// The exit status.
+    pub fn status(self) -> u8
+        ensures { result ≡ status_of_done self }
+    {
+        match self {
+            Done::Ended => 0,
+            Done::Stopped => 5,
+            Done::Spent => 6,
+        }
+    }
+}
+
+/// Why a command is refused.
+#[derive(Clone, Copy, Debug, PartialEq, Eq, Error)]
+pub enum Refusal {
+    #[error("usage")]
+    Usage,
+    /// The kernel is sound, and so many of its values are live at once that there are fewer registers of the class.
+    #[error("kernel: {}", too_many(.class, .need))]
+    TooManyLive { class: RegClass, need: u32 },
+    /// The text is no kernel, or one that breaks a rule.
+    #[error("kernel: {0}")]
+    Kernel(KernelFault),
+    #[error("file: too long")]
+    TooLong,
+    /// The file is no program that can be loaded.
+    #[error("file: {0}")]
+    Elf(ElfFault),
+    /// The file is no page map that may stand beside the program.
+    #[error("map: {0}")]
+    Map(MapFault),
+    #[error("out of memory")]
+    Memory,
+    #[error("file failed")]
+    File,
+    #[error("output or input failed")]
+    Output,
+}
+
+impl Refusal {
+    /// The exit status.
+    pub fn status(self) -> u8
+        ensures { result ≡ status_of_refusal self }
+    {
+        match self {
+            Refusal::Usage => 2,
+            Refusal::TooManyLive { .. } => 3,
+            Refusal::Kernel(_) => 3,
+            Refusal::TooLong => 4,
+            Refusal::Elf(_) => 4,
+            Refusal::Map(_) => 4,
+            Refusal::Memory => 7,
+            Refusal::File => 8,
+            Refusal::Output => 9,
+        }
+    }
+}
+
+impl From<FileError> for Refusal {
+    ghost from_gives = { λ answer refusal. refusal ≡ of_files answer };
+
+    fn from(answer: FileError) -> Refusal {
+        match answer {
+            FileError::Failed => Refusal::File,
+            FileError::TooLong => Refusal::TooLong,
+            FileError::Memory => Refusal::Memory,
+        }
+    }
+}
+
+// The fault of the compiler, which has the text.
+fn too_many(class: &RegClass, need: &u32) -> CompileFault {
+    CompileFault::TooManyLive {
+        class: *class,
+        need: *need,
+    }
+}
+
+impl From<CompileFault> for Refusal {
+    ghost from_gives = { λ fault refusal. refusal ≡ of_compile fault };
+
+    fn from(fault: CompileFault) -> Refusal {
+        match fault {
+            CompileFault::TooManyLive { class, need } => Refusal::TooManyLive { class, need },
+            CompileFault::Memory => Refusal::Memory,
+        }
+    }
+}
+
+impl From<KernelFault> for Refusal {
+    ghost from_gives = { λ fault refusal. refusal ≡ of_kernel fault };
+
+    fn from(fault: KernelFault) -> Refusal {
+        match fault {
+            KernelFault::Unread(ReadFault::Memory) => Refusal::Memory,
+            KernelFault::Broken(TypeFault::Memory) => Refusal::Memory,
+            _ => Refusal::Kernel(fault),
+        }
+    }
+}
+
+impl From<MapFault> for Refusal {
+    ghost from_gives = { λ fault refusal. refusal ≡ of_map fault };
+
+    fn from(fault: MapFault) -> Refusal {
+        match fault {
+            MapFault::Memory => Refusal::Memory,
+            _ => Refusal::Map(fault),
+        }
+    }
+}
+
+impl From<ElfFault> for Refusal {
+    ghost from_gives = { λ fault refusal. refusal ≡ of_elf fault };
+
+    fn from(fault: ElfFault) -> Refusal {
+        match fault {
+            ElfFault::Memory => Refusal::Memory,
+            _ => Refusal::Elf(fault),
+        }
+    }
+}
+
+impl From<SessionFault> for Refusal {
+    ghost from_gives = { λ fault refusal. refusal ≡ of_session fault };
+
+    fn from(fault: SessionFault) -> Refusal {
+        match fault {
+            SessionFault::Memory => Refusal::Memory,
+            SessionFault::Input => Refusal::Output,
+            SessionFault::Output => Refusal::Output,
+        }
+    }
+}
+
+impl From<Failed> for Refusal {
+    ghost use Rattle.refusals.specs.declared.refusal.Refusal.{Refusal};
+
+    ghost from_gives = { λ _ refusal. refusal ≡ Refusal.Output };
+
+    fn from(_failed: Failed) -> Refusal {
+        Refusal::Output
+    }
+}
+
+impl From<AllocError> for Refusal {
+    ghost use Rattle.refusals.specs.declared.refusal.Refusal.{Refusal};
+
+    ghost from_gives = { λ _ refusal. refusal ≡ Refusal.Memory };
+
+    fn from(_error: AllocError) -> Refusal {
+        Refusal::Memory
+    }
+}

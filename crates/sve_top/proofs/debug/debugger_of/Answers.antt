@@ -1,0 +1,14 @@
+use Rattle.command_line.specs.View.{task_view}
+use Rattle.sve_top.proofs.Programs.{session_not_begun, session_begun}
+use Rattle.sve_top.proofs.debug.debugger_of.Goals as goal
+
+pub returns-in_err-machine-clause-refusal : goal.returns-in_err-machine-clause-refusal
+returns-in_err-machine-clause-refusal c =
+    session_not_begun c.args.vl (task_view c.args.task.now) c.args.bytes.now c.args.map.now c.in_err-machine.field-0.0 c.from_residual.result c.from_residual.ensures.1 c.in_err-machine.ensures.refusal
+
+pub returns-clause-begins : goal.returns-clause-begins
+returns-clause-begins c = record {
+  begin = c.in_ok-machine.machine.state;
+  stands = c.in_ok-debugger.ensures;
+  wanted = session_begun c.args.vl (task_view c.args.task.now) c.args.bytes.now c.args.map.now c.in_ok-machine.machine c.in_ok-machine.ensures.ready;
+}
