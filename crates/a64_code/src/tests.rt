@@ -194,7 +194,7 @@ static UNLISTED: [u32; 25] = [
 ];
 
 #[test]
-fn reads_and_writes_listed_words(rt: HostRuntime) -> Result<(), AllocError> {
+fn reads_and_writes_listed_a64_words(rt: HostRuntime) -> Result<(), AllocError> {
     for line in LISTED.lines() {
         let Some((digits, meaning)) = line.split_once(' ') else {
             panic!(rt; "no word in {line}");
@@ -211,7 +211,7 @@ fn reads_and_writes_listed_words(rt: HostRuntime) -> Result<(), AllocError> {
 }
 
 #[test]
-fn reads_no_other_word(rt: HostRuntime) {
+fn reads_no_other_a64_word(rt: HostRuntime) {
     for word in UNLISTED {
         assert_eq!(rt; decode(word), None, "{word:#010x}");
     }

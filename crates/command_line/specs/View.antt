@@ -16,9 +16,6 @@ texts words = map string_bytes words
 abbrev pub texts_in : {A B : Type 0} → Vec (String A) B → Words
 texts_in words = texts words.items
 
-abbrev pub items_in : {A B : Type 0} → Vec A B → List A
-items_in xs = xs.items
-
 abbrev pub bytes_left : Bor (List ℕ) → List ℕ
 bytes_left bytes = bytes.now
 

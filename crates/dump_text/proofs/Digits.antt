@@ -5,7 +5,7 @@ use Rattle.std.proofs.lemmas.Nat.{pow-add, mul-pow}
 use Rattle.std.proofs.Math.Nat.{pow-suc, mul_comm, div-one, div-div-eq-div-mul}
 use Rattle.std.specs.Int.{byte_at, bytes_high_first, to_be_bytes, w64}
 use Rattle.hex.specs.Hex.{encode_with, encode_lower, lower_digits}
-use Rattle.machine_model.specs.OutcomeText.{hex_digit, hex_digits}
+use Rattle.number_text.specs.Hexadecimal.{hex_digit, hex_digits}
 
 -- ---- the table of digits
 

@@ -3,7 +3,7 @@
 
 ghost use Rattle.std.specs.Prelude.{◌≡◌, ◌+◌, ◌≤◌, ◌^◌, ◌++◌, OnOk, IfOk, option_map};
 ghost use Rattle.std.specs.List.{flat_map, range_with_len};
-ghost use Rattle.machine_model.specs.OutcomeText.{hex_digits};
+ghost use Rattle.number_text.specs.Hexadecimal.{hex_digits};
 ghost use Rattle.machine_model.specs.DumpText.{shown, byte_text, dump_line, dump_text};
 
 use paged_memory::pages::Pages;

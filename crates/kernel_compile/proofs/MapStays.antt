@@ -9,6 +9,7 @@ use Rattle.guest_types.specs.LaneMemory.{StoredLanes, AllStored, StoreFault, Loa
 use Rattle.guest_types.specs.EarlyLoads.{EarlyLoad, unless_fault}
 use Rattle.guest_types.proofs.Stores.{can_read-stored}
 use Rattle.word_rows.specs.Field.{Field}
+use Rattle.word_rows.specs.Field as field
 use Rattle.a64_code.specs.Table as a64
 use Rattle.sve_code.specs.Table as sve
 use Rattle.machine_model.specs.declared.outcome.StopKind.TheVariants.{Read, Write, Call, Undefined}
@@ -218,7 +219,7 @@ vector_map sve.cmpne f s a = refl
 vector_map sve.ld1 f s a = after_load_map _ _ (f sve.zt) s a
 vector_map sve.ldff1 f s a = after_early_map _ _ (f sve.zt) s a
 vector_map sve.ldnf1 f s a = refl
-vector_map sve.st1 f s a = vector_store_map (f sve.memory) (f sve.element) (x_or_sp s (f sve.rn)) (x_at s (f sve.rm)) (p_at s (f sve.pg)) (z_at s (f sve.zt)) s a
+vector_map sve.st1 f s a = vector_store_map (f sve.memory) (f sve.element) (x_or_sp s (f field.rn)) (x_at s (f field.rm)) (p_at s (f sve.pg)) (z_at s (f sve.zt)) s a
 
 -- ---- a step
 

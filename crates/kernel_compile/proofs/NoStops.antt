@@ -8,8 +8,8 @@ use Rattle.guest_types.specs.LaneMemory.{LoadForm, lane_faults, fault_at, load_f
 use Rattle.guest_types.specs.Length.{lanes}
 use Rattle.guest_types.specs.EarlyLoads.{StopList, never, stop_at, later, suppressed_at, is_cut, looked_at, later_than, EarlyLoad, early_load, unless_fault}
 use Rattle.guest_types.proofs.EarlyLoads.{suppressed-never}
-use Rattle.word_rows.specs.Field.{Field}
-use Rattle.sve_code.specs.Table.{Name, ldff1, ldnf1, zt, rm, dtype}
+use Rattle.word_rows.specs.Field.{Field, rm}
+use Rattle.sve_code.specs.Table.{Name, ldff1, ldnf1, zt, dtype}
 use Rattle.machine_model.specs.declared.outcome.StopKind.TheVariants.{Undefined}
 use Rattle.machine_model.specs.InstructionTable.{Listed, Scalar, Vector}
 use Rattle.machine_model.specs.Machine.{x_at, State, Step, Went, Ended, Stopped}

@@ -2,7 +2,7 @@
 use Rattle.std.proofs.Common.{◌≡◌, ℕ, zero, suc, ◌+◌, ◌*◌, ◌<◌, ◌≤◌, List, [], ◌∷◌, drop, length, get_or, arith}
 use Rattle.std.specs.List.{fold}
 use Rattle.std.proofs.Math.Seq.{drop-cons}
-use Rattle.kernel_tree.specs.Tokens.{appended, value_of, digit_value}
+use Rattle.number_text.specs.Numbers.{appended, value_of, digit_value}
 
 grow : (base n d : ℕ) → 1 ≤ base → n ≤ base * n + d
 grow zero n d h = absurd (omega arith)

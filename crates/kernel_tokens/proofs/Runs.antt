@@ -9,7 +9,8 @@ use Rattle.std.proofs.lemmas.Str.Ascii.{IsAscii-from_all}
 use Rattle.std.proofs.lemmas.List.Sums.{prefix_len-le-length}
 use Rattle.std.proofs.lemmas.List.Folds.{length-prefix_len}
 use Rattle.std.proofs.lemmas.List.Elements.{All-nil, All-cons}
-use Rattle.kernel_tree.specs.Tokens.{is_letter, is_digit, is_name_byte, is_run, is_hex_digit, run_piece, begins_hex, literal, value_of, number_piece, decimal_from, hex_from}
+use Rattle.kernel_tree.specs.Tokens.{is_letter, is_name_byte, is_run, run_piece, begins_hex, literal, number_piece, decimal_from, hex_from}
+use Rattle.number_text.specs.Numbers.{is_digit, is_hex_digit, value_of}
 use Rattle.kernel_tokens.specs.Fronts.{at_front, at_letter, run_front_of}
 
 pub within : {X : Type 0} (p : X → Bool) (xs : List X) → prefix_len p xs ≤ length xs

@@ -6,7 +6,8 @@ use Rattle.std.proofs.lemmas.List.Sums.{prefix_len-le-length}
 use Rattle.std.proofs.lemmas.List.{take_all, drop-drop, drop_all, append-nil}
 use Rattle.kernel_tree.specs.Word.{Word, IsNumber, IsUpdate}
 use Rattle.kernel_tree.specs.declared.ops.UpdateOp.TheVariants as update
-use Rattle.kernel_tree.specs.Tokens.{Piece, Gap, Token, NoToken, piece, before, by_piece, scan, tokens_of, begins, begins_hex, is_blank, is_letter, run_word, value_of, hex_from, decimal_from, pair, is_in_line, is_name_byte, is_digit, is_hex_digit, run_piece, run_from, number_piece, literal, symbol_of, symbol_piece, single}
+use Rattle.kernel_tree.specs.Tokens.{Piece, Gap, Token, NoToken, piece, before, by_piece, scan, tokens_of, begins, begins_hex, is_blank, is_letter, run_word, hex_from, decimal_from, pair, is_in_line, is_name_byte, run_piece, run_from, number_piece, literal, symbol_of, symbol_piece, single}
+use Rattle.number_text.specs.Numbers.{value_of, is_digit, is_hex_digit}
 use Rattle.kernel_tokens.specs.Fronts.{at_front, behind_of}
 
 -- ---- a piece ends within its text

@@ -8,7 +8,8 @@ use Rattle.kernel_tree.specs.declared.ops.UpdateOp.TheVariants as update
 use Rattle.kernel_tree.specs.declared.mark.Mark.{Mark}
 use Rattle.kernel_tree.specs.declared.mark.Mark.TheVariants as mark
 use Rattle.kernel_tree.specs.Word.{Word, IsNumber, IsCompare, IsUpdate, IsMark}
-use Rattle.kernel_tree.specs.Tokens.{Piece, Gap, Token, NoToken, piece, before, by_piece, scan, tokens_of, begins, begins_hex, by_reserved, reserved_type, reserved_mark, run_word, is_run, is_token, are_tokens, is_blank, is_letter, is_name_byte, is_digit, is_hex_digit, is_in_line, value_of, literal, hex_from, decimal_from, number_piece, pair, single, symbol_of, symbol_piece, run_piece, run_from}
+use Rattle.kernel_tree.specs.Tokens.{Piece, Gap, Token, NoToken, piece, before, by_piece, scan, tokens_of, begins, begins_hex, by_reserved, reserved_type, reserved_mark, run_word, is_run, is_token, are_tokens, is_blank, is_letter, is_name_byte, is_in_line, literal, hex_from, decimal_from, number_piece, pair, single, symbol_of, symbol_piece, run_piece, run_from}
+use Rattle.number_text.specs.Numbers.{is_digit, is_hex_digit, value_of}
 use Rattle.kernel_tokens.proofs.Runs.{both_true, front_all}
 
 -- what stands at the front of a text is no token, or one that some text has

@@ -9,9 +9,10 @@ ghost use Rattle.kernel_tokens.specs.Fronts.{piece_of, at_front, run_front_of, a
 
 use crate::number::number_front;
 use crate::symbol::symbol_front;
-use kernel_tree::lexeme::{continues_name, is_digit_byte, is_letter_byte, mark_word, type_word};
+use kernel_tree::lexeme::{continues_name, is_letter_byte, mark_word, type_word};
 use kernel_tree::token::Token;
 use kernel_tree::{Name, UpdateOp};
+use number_text::is_digit_byte;
 use std::alloc::{AllocError, Global};
 
 /// A gap between tokens, or a token, each with the number of its bytes after the first one.

@@ -2,33 +2,15 @@
 
 ghost use Rattle.std.specs.Prelude.{◌≡◌, ◌<◌, ◌≤◌, ◌^◌, MatchOption, IsTrue, length};
 ghost use Rattle.std.specs.List.{prefix_len};
-ghost use Rattle.kernel_tree.specs.Tokens.{is_digit, is_hex_digit, digit_value, value_of, begins_hex, literal, number_piece};
+ghost use Rattle.kernel_tree.specs.Tokens.{begins_hex, literal, number_piece};
+ghost use Rattle.number_text.specs.Numbers.{is_digit, is_hex_digit, value_of};
 ghost use Rattle.kernel_tokens.specs.Fronts.{piece_of, at_front};
 
 use crate::front::Front;
-use kernel_tree::lexeme::is_digit_byte;
 use kernel_tree::token::{Number, Token};
+use number_text::{digit, is_digit_byte, is_hex_byte};
 
 const LIMIT: u128 = 170141183460469231731687303715884105728;
-
-fn is_hex_byte(b: u8) -> bool
-    ensures { result ≡ is_hex_digit b }
-{
-    matches!(b, b'0'..=b'9' | b'A'..=b'F' | b'a'..=b'f')
-}
-
-// The value of a digit, and of other bytes some number.
-fn digit(b: u8) -> u8
-    ensures { result ≡ digit_value b }
-{
-    if is_digit_byte(b) {
-        b - b'0'
-    } else if b <= b'F' {
-        b.saturating_sub(55)
-    } else {
-        b.saturating_sub(87)
-    }
-}
 
 #[tactic(auto, using(crate::proofs::Runs::within))]
 fn digit_count(bytes: &[u8]) -> usize

@@ -18,7 +18,8 @@ use Rattle.kernel_tree.specs.declared.ops.UpdateOp.TheVariants as update
 use Rattle.kernel_tree.specs.declared.mark.Mark.{Mark}
 use Rattle.kernel_tree.specs.declared.mark.Mark.TheVariants as mark
 use Rattle.kernel_tree.specs.Word.{Word, IsName, IsNumber, IsType, IsCompare, IsUpdate, IsMark}
-use Rattle.kernel_tree.specs.Tokens.{is_digit, is_hex_digit, is_letter, is_name_byte, is_blank, is_run, is_name, reserved_type, reserved_mark, by_reserved, digit_value, appended, value_of, begins_hex, Piece, Token, piece, run_from, run_piece, literal, decimal_from, number_piece, before, by_piece, scan, tokens_of, is_token}
+use Rattle.kernel_tree.specs.Tokens.{is_letter, is_name_byte, is_blank, is_run, is_name, reserved_type, reserved_mark, by_reserved, begins_hex, Piece, Token, piece, run_from, run_piece, literal, decimal_from, number_piece, before, by_piece, scan, tokens_of, is_token}
+use Rattle.number_text.specs.Numbers.{is_digit, is_hex_digit, digit_value, appended, value_of}
 use Rattle.kernel_tree.specs.Printing.{type_text, compare_text, update_text, mark_text, word_text, spaced, joined_text}
 use Rattle.kernel_tree.proofs.Well.{Tokens}
 

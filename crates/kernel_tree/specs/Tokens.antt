@@ -1,7 +1,8 @@
 -- The tokens of a text: at each place the longest token is taken. Spaces, tabs, line feeds, carriage returns
 -- and comments from `//` up to the next line feed stand between tokens.
-use Rattle.std.specs.Prelude.{ℕ, zero, suc, ◌+◌, ◌*◌, ◌-◌, ◌^◌, ◌==◌, ◌&&◌, ◌||◌, not, List, [], ◌∷◌, take, drop, Option, Some, None, is_none, Result, Ok, Err, Bool, true, false, nat_lt, nat_le, if◌then◌else◌, codes, bytes_eq}
-use Rattle.std.specs.List.{prefix_len, fold, list_all}
+use Rattle.std.specs.Prelude.{ℕ, zero, suc, ◌+◌, ◌^◌, ◌==◌, ◌&&◌, ◌||◌, not, List, [], ◌∷◌, take, drop, Option, Some, None, is_none, Result, Ok, Err, Bool, true, false, nat_lt, nat_le, if◌then◌else◌, codes, bytes_eq}
+use Rattle.std.specs.List.{prefix_len, list_all}
+use Rattle.number_text.specs.Numbers.{is_digit, is_hex_digit, value_of}
 use Rattle.kernel_tree.specs.declared.ops.Ty.{Ty}
 use Rattle.kernel_tree.specs.declared.ops.Ty.TheVariants as ty
 use Rattle.kernel_tree.specs.declared.ops.CompareOp.TheVariants as compare
@@ -11,13 +12,6 @@ use Rattle.kernel_tree.specs.declared.mark.Mark.TheVariants as mark
 use Rattle.kernel_tree.specs.Word.{Word, IsName, IsNumber, IsType, IsCompare, IsUpdate, IsMark}
 
 -- ---- bytes
-
-abbrev pub is_digit : ℕ → Bool
-is_digit b = nat_le 48 b && nat_le b 57
-
--- a hexadecimal digit of either case
-abbrev pub is_hex_digit : ℕ → Bool
-is_hex_digit b = is_digit b || (nat_le 65 b && nat_le b 70) || (nat_le 97 b && nat_le b 102)
 
 -- an ASCII letter or `_`
 abbrev pub is_letter : ℕ → Bool
@@ -83,16 +77,6 @@ abbrev pub is_name : List ℕ → Bool
 is_name w = is_run w && (is_none (reserved_type w) && is_none (reserved_mark w))
 
 -- ---- numbers
-
-abbrev pub digit_value : ℕ → ℕ
-digit_value d = if is_digit d then d - 48 else if nat_le d 70 then d - 55 else d - 87
-
-abbrev pub appended : ℕ → ℕ → ℕ → ℕ
-appended base n d = base * n + digit_value d
-
--- the number that digits spell in a base
-abbrev pub value_of : ℕ → List ℕ → ℕ
-value_of base digits = fold (appended base) 0 digits
 
 -- `0x` and a hexadecimal digit
 abbrev pub begins_hex : ℕ → List ℕ → Bool

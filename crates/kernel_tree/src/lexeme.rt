@@ -2,23 +2,17 @@
 
 ghost use Rattle.std.specs.Prelude.{◌≡◌};
 ghost use Rattle.std.specs.List.{list_all};
-ghost use Rattle.kernel_tree.specs.Tokens.{is_digit, is_letter, is_name_byte, is_run, is_name, reserved_type, reserved_mark};
+ghost use Rattle.kernel_tree.specs.Tokens.{is_letter, is_name_byte, is_run, is_name, reserved_type, reserved_mark};
 
 use crate::mark::Mark;
 use crate::ops::Ty;
+use number_text::is_digit_byte;
 
 /// Whether a byte is an ASCII letter or `_`.
 pub fn is_letter_byte(b: u8) -> bool
     ensures { result ≡ is_letter b }
 {
     matches!(b, b'A'..=b'Z' | b'a'..=b'z' | b'_')
-}
-
-/// Whether a byte is a decimal digit.
-pub fn is_digit_byte(b: u8) -> bool
-    ensures { result ≡ is_digit b }
-{
-    matches!(b, b'0'..=b'9')
 }
 
 /// Whether a byte may stand in a name after its first one.

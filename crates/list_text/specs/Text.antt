@@ -1,14 +1,12 @@
 -- The text of a word, and the listing of words.
-use Rattle.std.specs.Prelude.{ℕ, ◌+◌, ◌/◌, ◌%◌, ◌^◌, nat_lt, Option, Some, None, if◌then◌else◌, List, [], ◌∷◌, ◌++◌, codes}
+use Rattle.std.specs.Prelude.{ℕ, ◌+◌, ◌/◌, ◌%◌, ◌^◌, Option, Some, None, List, [], ◌∷◌, ◌++◌, codes}
+use Rattle.number_text.specs.Hexadecimal.{hex_digit}
 use Rattle.word_rows.specs.Row.{Instruction, reads}
 use Rattle.word_rows.specs.Field.{bits}
 use Rattle.a64_code.specs.Table as a64
 use Rattle.sve_code.specs.Table as sve
 use Rattle.list_text.specs.A64Text.{a64_text}
 use Rattle.list_text.specs.SveText.{sve_text}
-
-abbrev pub hex_digit : ℕ → ℕ
-hex_digit d = if nat_lt d 10 then 48 + d else 87 + d
 
 -- the eight digits of a word, from the highest on
 abbrev pub hex_word : ℕ → List ℕ

@@ -1,5 +1,5 @@
 -- Whatever a step comes to, the words of executable pages stay: they are never writable.
-use Rattle.std.proofs.Common.{◌≡◌, ℕ, zero, suc, ◌+◌, ◌^◌, ◌<◌, Bool, true, false, not, List, Option, Some, None, Result, Ok, Err, refl, sym, ap, ◌∙◌}
+use Rattle.std.proofs.Common.{◌≡◌, ℕ, zero, suc, ◌+◌, ◌^◌, ◌<◌, Bool, true, false, not, List, Option, Some, None, Result, Ok, Err, refl, ◌∙◌}
 use Rattle.std.specs.Prelude.{nat_eq, if◌then◌else◌, ◌&&◌}
 use Rattle.guest_types.specs.declared.memory.AccessFault.{AccessFault}
 use Rattle.guest_types.specs.Memory.{Memory, fetched, loaded, stored}
@@ -9,15 +9,15 @@ use Rattle.guest_types.specs.LaneMemory.{StoredLanes, AllStored, StoreFault, Loa
 use Rattle.guest_types.specs.EarlyLoads.{EarlyLoad, unless_fault}
 use Rattle.guest_types.proofs.Stores.{fetched-stored}
 use Rattle.word_rows.specs.Field.{Field}
-use Rattle.word_rows.specs.Row.{Instruction}
+use Rattle.word_rows.specs.Field as field
 use Rattle.a64_code.specs.Table as a64
 use Rattle.sve_code.specs.Table as sve
 use Rattle.machine_model.specs.declared.outcome.StopKind.TheVariants.{Read, Write, Call, Undefined}
 use Rattle.machine_model.specs.InstructionTable.{Listed, Scalar, Vector}
-use Rattle.machine_model.specs.Machine.{State, Step, Went, Ended, Stopped, x_at, x_or_sp, with_x, z_at, p_at, memory_after, jump, next}
-use Rattle.machine_model.specs.Effects.{act, arg, jump_if, write, write_or_sp, load_to, store_from, as_it_is, from_byte, from_half, from_word, at_offset, at_register, at_scaled}
+use Rattle.machine_model.specs.Machine.{State, Step, Went, Ended, Stopped, x_at, x_or_sp, with_x, z_at, p_at, memory_after, next}
+use Rattle.machine_model.specs.Effects.{act, arg, jump_if, write, load_to, store_from, as_it_is, from_byte, from_half, from_word, at_offset, at_register, at_scaled}
 use Rattle.machine_model.specs.Arithmetic.{holds, target}
-use Rattle.machine_model.specs.VectorEffects.{vector_act, after_load, after_early, after_store, plain_of, first_fault_of}
+use Rattle.machine_model.specs.VectorEffects.{vector_act, after_load, after_early, after_store}
 use Rattle.machine_model.specs.OneStep.{step, does, do_word, reads_word}
 
 -- the words that a step leaves
@@ -217,7 +217,7 @@ vector_code sve.cmpne f s a lt = refl
 vector_code sve.ld1 f s a lt = after_load_code _ _ (f sve.zt) s a lt
 vector_code sve.ldff1 f s a lt = after_early_code _ _ (f sve.zt) s a lt
 vector_code sve.ldnf1 f s a lt = refl
-vector_code sve.st1 f s a lt = vector_store_code (f sve.memory) (f sve.element) (x_or_sp s (f sve.rn)) (x_at s (f sve.rm)) (p_at s (f sve.pg)) (z_at s (f sve.zt)) s a lt
+vector_code sve.st1 f s a lt = vector_store_code (f sve.memory) (f sve.element) (x_or_sp s (f field.rn)) (x_at s (f field.rm)) (p_at s (f sve.pg)) (z_at s (f sve.zt)) s a lt
 
 -- ---- a step
 

@@ -9,9 +9,9 @@ use Rattle.guest_types.specs.EarlyLoads.{EarlyLoad, unless_fault}
 use Rattle.guest_types.proofs.Stores.{fetched-stored, can_read-stored, can_write-stored}
 use Rattle.guest_types.specs.Length.{width_bytes, lanes}
 use Rattle.guest_types.specs.Elements.{at, active}
-use Rattle.word_rows.specs.Field.{Field}
+use Rattle.word_rows.specs.Field.{Field, rd, rn, rm}
 use Rattle.sve_code.specs.Table as sve
-use Rattle.sve_code.specs.Table.{Name, pd, rd, rn, rm, pg, zd, zdn, zt, ptrue, pfalse, whilelo, ptest, p_and, p_bic, p_eor, p_orr, p_ands, brka, brkb, rdffr, rdffr_z, setffr, wrffr, cntb, cnth, cntw, cntd, incp, cntp, dup, index_row, sel, z_add, z_sub, z_and, z_orr, z_eor, z_bic, lsl_imm, lsr_imm, asr_imm, m_add, m_sub, m_smax, m_umax, m_smin, m_umin, m_mul, m_orr, m_eor, m_and, m_abs, m_neg, m_not, sxtb, uxtb, sxth, uxth, sxtw, uxtw, uaddv, smaxv, umaxv, sminv, uminv, orv, eorv, andv, cmphs, cmphi, cmpge, cmpgt, cmpeq, cmpne, ld1, ldff1, ldnf1, st1}
+use Rattle.sve_code.specs.Table.{Name, pd, pg, zd, zdn, zt, ptrue, pfalse, whilelo, ptest, p_and, p_bic, p_eor, p_orr, p_ands, brka, brkb, rdffr, rdffr_z, setffr, wrffr, cntb, cnth, cntw, cntd, incp, cntp, dup, index_row, sel, z_add, z_sub, z_and, z_orr, z_eor, z_bic, lsl_imm, lsr_imm, asr_imm, m_add, m_sub, m_smax, m_umax, m_smin, m_umin, m_mul, m_orr, m_eor, m_and, m_abs, m_neg, m_not, sxtb, uxtb, sxth, uxth, sxtw, uxtw, uaddv, smaxv, umaxv, sminv, uminv, orv, eorv, andv, cmphs, cmphi, cmpge, cmpgt, cmpeq, cmpne, ld1, ldff1, ldnf1, st1}
 use Rattle.machine_model.specs.Machine.{x_or_sp, State, Went, x_at, z_at, p_at}
 use Rattle.machine_model.specs.VectorEffects.{vector_act, after_load, after_early, after_store}
 use Rattle.machine_model.specs.Frames.{Leaves, SameAccess}

@@ -1,19 +1,19 @@
 -- A run that begins with no stop list has none after any step.
-use Rattle.std.proofs.Common.{◌≡◌, ℕ, zero, suc, Option, Some, None, List, refl, ap, ◌∙◌, subst}
+use Rattle.std.proofs.Common.{◌≡◌, ℕ, zero, suc, Option, Some, None, refl, ap, ◌∙◌, subst}
 use Rattle.guest_types.specs.declared.memory.AccessFault.{AccessFault}
 use Rattle.guest_types.specs.Memory.{fetched}
 use Rattle.guest_types.specs.Length.{lanes}
 use Rattle.guest_types.specs.Elements.{first_true}
-use Rattle.guest_types.specs.LaneMemory.{load_form, fault_at, lane_faults}
-use Rattle.guest_types.specs.EarlyLoads.{StopList, EarlyLoad, never, later, looked_at, early_load, later_than, unless_fault, suppressed_at, stop_at}
+use Rattle.guest_types.specs.LaneMemory.{load_form, fault_at}
+use Rattle.guest_types.specs.EarlyLoads.{StopList, EarlyLoad, never, later, early_load, later_than, unless_fault}
 use Rattle.guest_types.proofs.EarlyLoads.{later-never}
-use Rattle.word_rows.specs.Field.{Field}
+use Rattle.word_rows.specs.Field.{Field, rm}
 use Rattle.sve_code.specs.Table as sve
-use Rattle.sve_code.specs.Table.{Name, dtype, zt, rm, ldff1, ldnf1}
+use Rattle.sve_code.specs.Table.{Name, dtype, zt, ldff1, ldnf1}
 use Rattle.machine_model.specs.declared.outcome.StopKind.TheVariants.{Undefined}
 use Rattle.machine_model.specs.InstructionTable.{Listed, Scalar, Vector}
 use Rattle.machine_model.specs.Machine.{State, Step, Went, Ended, Stopped, x_at, next}
-use Rattle.machine_model.specs.VectorEffects.{vector_act, after_early, with_early, first_fault_of, non_fault_of, load_mask, lane_places}
+use Rattle.machine_model.specs.VectorEffects.{vector_act, after_early, with_early, non_fault_of, load_mask, lane_places}
 use Rattle.machine_model.specs.OneStep.{step, does, do_word, reads_word}
 use Rattle.machine_model.specs.Run.{after_steps}
 use Rattle.machine_model.proofs.Frames.{went_leaves}

@@ -32,10 +32,10 @@ use Rattle.guest_types.proofs.AtWidths.{width_bytes-lanes}
 use Rattle.guest_types.proofs.Merges.{IsMemory-merged}
 use Rattle.guest_types.proofs.Stores.{IsMemory-stored}
 use Rattle.sve_code.specs.Table as sve
-use Rattle.sve_code.specs.Table.{Name, pd, size, rn, rm, pn, pg4, pm, pg_low, rd, pm_low, zd, imm5, zn, zm, zdn, zm_low, pg, zt, dtype, ptrue, pfalse, whilelo, ptest, p_and, p_bic, p_eor, p_orr, p_ands, brka, brkb, rdffr, rdffr_z, setffr, wrffr, cntb, cnth, cntw, cntd, incp, cntp, dup, index_row, sel, z_add, z_sub, z_and, z_orr, z_eor, z_bic, lsl_imm, lsr_imm, asr_imm, m_add, m_sub, m_smax, m_umax, m_smin, m_umin, m_mul, m_orr, m_eor, m_and, m_abs, m_neg, m_not, sxtb, uxtb, sxth, uxth, sxtw, uxtw, uaddv, smaxv, umaxv, sminv, uminv, orv, eorv, andv, cmphs, cmphi, cmpge, cmpgt, cmpeq, cmpne, ld1, ldff1, ldnf1, st1}
+use Rattle.sve_code.specs.Table.{Name, pd, size, pn, pg4, pm, pg_low, pm_low, zd, imm5, zn, zm, zdn, zm_low, pg, zt, dtype, ptrue, pfalse, whilelo, ptest, p_and, p_bic, p_eor, p_orr, p_ands, brka, brkb, rdffr, rdffr_z, setffr, wrffr, cntb, cnth, cntw, cntd, incp, cntp, dup, index_row, sel, z_add, z_sub, z_and, z_orr, z_eor, z_bic, lsl_imm, lsr_imm, asr_imm, m_add, m_sub, m_smax, m_umax, m_smin, m_umin, m_mul, m_orr, m_eor, m_and, m_abs, m_neg, m_not, sxtb, uxtb, sxth, uxth, sxtw, uxtw, uaddv, smaxv, umaxv, sminv, uminv, orv, eorv, andv, cmphs, cmphi, cmpge, cmpgt, cmpeq, cmpne, ld1, ldff1, ldnf1, st1}
 use Rattle.sve_code.specs.Numbers.{shift_size, left_amount, right_amount}
 use Rattle.machine_model.specs.Arithmetic.{sum}
-use Rattle.word_rows.specs.Field.{Field}
+use Rattle.word_rows.specs.Field.{Field, rn, rm, rd}
 use Rattle.machine_model.specs.Run.{start}
 use Rattle.machine_model.specs.Load.{Image}
 use Rattle.machine_model.specs.Machine.{State, Went, x_at, with_x, x_or_sp, z_at, with_z, p_at, with_p, with_ffr, with_flags, jump, next}

@@ -3,7 +3,8 @@
 use Rattle.std.specs.Prelude.{ℕ, ◌+◌, ◌-◌, ◌*◌, ◌/◌, List, ◌++◌, min, codes, Option, Some, None}
 use Rattle.std.specs.List.{flat_map, range_with_len}
 use Rattle.guest_types.specs.Memory.{Memory, byte_at}
-use Rattle.machine_model.specs.OutcomeText.{hex_digits, line_feed}
+use Rattle.machine_model.specs.OutcomeText.{line_feed}
+use Rattle.number_text.specs.Hexadecimal.{hex_digits}
 
 -- a space, and two digits for a byte or two minus signs where none is mapped
 abbrev pub shown : Option ℕ → List ℕ

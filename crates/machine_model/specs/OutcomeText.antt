@@ -1,22 +1,10 @@
 -- The text of a run's outcome. Each line ends with a line feed; addresses and results have sixteen lower-case hexadecimal
 -- digits, and counts are decimal.
-use Rattle.std.specs.Prelude.{ℕ, zero, suc, ◌+◌, ◌/◌, ◌%◌, List, [], ◌∷◌, ◌++◌, nat_lt, codes, decimal, if◌then◌else◌}
+use Rattle.std.specs.Prelude.{ℕ, ◌+◌, List, [], ◌∷◌, ◌++◌, codes, decimal}
+use Rattle.number_text.specs.Hexadecimal.{hex_text}
 use Rattle.machine_model.specs.declared.outcome.StopKind.{StopKind}
 use Rattle.machine_model.specs.declared.outcome.StopKind.TheVariants.{Read, Write, Fetch, Undefined, Call, Break}
 use Rattle.machine_model.specs.Run.{Outcome, End, Stop, Spent}
-
--- the code of a hexadecimal digit
-abbrev pub hex_digit : ℕ → ℕ
-hex_digit d = if nat_lt d 10 then 48 + d else 87 + d
-
--- the last k hexadecimal digits of a number
-unfoldable pub hex_digits : ℕ → ℕ → List ℕ
-hex_digits zero n = []
-hex_digits (suc k) n = hex_digits k (n / 16) ++ hex_digit (n % 16) ∷ []
-
--- a number of 64 bits
-abbrev pub hex_text : ℕ → List ℕ
-hex_text n = codes "0x" ++ hex_digits 16 n
 
 abbrev pub line_feed : List ℕ
 line_feed = 10 ∷ []

@@ -21,10 +21,10 @@ use Rattle.guest_types.specs.Elements.{register, predicate, active, bit, both, p
 use Rattle.guest_types.specs.Lanes.{sign_extended, dup_at, index_at, select_at, binary_at, shift_at, merge_at, merge_one_at, reduce_of, compare_at, all_at, while_at, logic_at, brk_at, count_of}
 use Rattle.guest_types.specs.LaneMemory.{LoadForm, Loaded, StoredLanes, AllStored, StoreFault, load_form, width_of_size, lane_address, plain_load, store_of}
 use Rattle.guest_types.specs.EarlyLoads.{EarlyLoad, first_fault_early, non_fault_early}
-use Rattle.word_rows.specs.Field.{Field}
+use Rattle.word_rows.specs.Field.{Field, rn, rm, rd}
 use Rattle.word_rows.specs.Row.{Instruction}
 use Rattle.sve_code.specs.Numbers.{shift_size, left_amount, right_amount}
-use Rattle.sve_code.specs.Table.{Name, row, pd, size, rn, rm, pn, pg4, pm, pg_low, rd, pm_low, zd, imm5, zn, zm, imm3, tszl, tszh, zdn, zm_low, pg, zt, dtype, element, memory, ptrue, pfalse, whilelo, ptest, p_and, p_bic, p_eor, p_orr, p_ands, brka, brkb, rdffr, rdffr_z, setffr, wrffr, cntb, cnth, cntw, cntd, incp, cntp, dup, index_row, sel, z_add, z_sub, z_and, z_orr, z_eor, z_bic, lsl_imm, lsr_imm, asr_imm, m_add, m_sub, m_smax, m_umax, m_smin, m_umin, m_mul, m_orr, m_eor, m_and, m_abs, m_neg, m_not, sxtb, uxtb, sxth, uxth, sxtw, uxtw, uaddv, smaxv, umaxv, sminv, uminv, orv, eorv, andv, cmphs, cmphi, cmpge, cmpgt, cmpeq, cmpne, ld1, ldff1, ldnf1, st1}
+use Rattle.sve_code.specs.Table.{Name, row, pd, size, pn, pg4, pm, pg_low, pm_low, zd, imm5, zn, zm, imm3, tszl, tszh, zdn, zm_low, pg, zt, dtype, element, memory, ptrue, pfalse, whilelo, ptest, p_and, p_bic, p_eor, p_orr, p_ands, brka, brkb, rdffr, rdffr_z, setffr, wrffr, cntb, cnth, cntw, cntd, incp, cntp, dup, index_row, sel, z_add, z_sub, z_and, z_orr, z_eor, z_bic, lsl_imm, lsr_imm, asr_imm, m_add, m_sub, m_smax, m_umax, m_smin, m_umin, m_mul, m_orr, m_eor, m_and, m_abs, m_neg, m_not, sxtb, uxtb, sxth, uxth, sxtw, uxtw, uaddv, smaxv, umaxv, sminv, uminv, orv, eorv, andv, cmphs, cmphi, cmpge, cmpgt, cmpeq, cmpne, ld1, ldff1, ldnf1, st1}
 use Rattle.machine_model.specs.declared.outcome.StopKind.TheVariants.{Read, Write}
 use Rattle.machine_model.specs.Arithmetic.{sum}
 use Rattle.machine_model.specs.Machine.{State, Step, Went, Stopped, x_at, with_x, x_or_sp, z_at, with_z, p_at, with_p, with_ffr, with_flags, next}

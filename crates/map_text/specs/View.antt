@@ -1,5 +1,5 @@
 -- What the reader's values stand for.
-use Rattle.std.specs.Prelude.{◌≡◌, ℕ, ◌+◌, ◌<◌, ◌≤◌, List, [], length, slice_index, Option, Some, None, Result, Err, Vec}
+use Rattle.std.specs.Prelude.{◌≡◌, ℕ, ◌+◌, ◌<◌, ◌≤◌, List, length, slice_index, Option, Some, None, Result, Err}
 use Rattle.std.specs.Borrow.{Bor}
 use Rattle.guest_types.specs.Memory.{Memory, IsMemory, DoNotMeet, page_numbers}
 use Rattle.map_text.specs.declared.fault.MapFault.{MapFault}
@@ -9,9 +9,6 @@ use Rattle.map_text.specs.declared.form.MapLine.TheVariants as read
 use Rattle.map_text.specs.declared.form.MappedRange.{MappedRange}
 use Rattle.map_text.specs.declared.form.Patch.{Patch}
 use Rattle.map_text.specs.Lines.{MapLine, Blank, Maps, Sets}
-
-abbrev pub items_in : {A B : Type 0} → Vec A B → List A
-items_in xs = xs.items
 
 abbrev pub span_view : MappedRange → MapLine
 span_view span = Maps span.address span.count span.perm

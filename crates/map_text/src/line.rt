@@ -2,7 +2,8 @@
 
 ghost use Rattle.std.specs.Prelude.{◌≡◌, IfOk, option_map};
 ghost use Rattle.map_text.specs.Lines.{are_pages, are_bytes, maps_of, sets_of, perm_of, bytes_of};
-ghost use Rattle.map_text.specs.View.{items_in, span_view, patch_view};
+ghost use Rattle.map_text.specs.View.{span_view, patch_view};
+ghost use Rattle.number_text.specs.View.{items_in};
 
 use crate::form::{MappedRange, Patch};
 use guest_types::memory::Perm;

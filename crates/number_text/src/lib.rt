@@ -24,20 +24,22 @@ pub fn after<'a>(front: &[u8], word: &'a [u8]) -> Option<&'a [u8]>
     }
 }
 
-fn is_digit_byte(b: u8) -> bool
+/// Whether a byte is a decimal digit.
+pub fn is_digit_byte(b: u8) -> bool
     ensures { result ≡ is_digit b }
 {
     b.is_ascii_digit()
 }
 
-fn is_hex_byte(b: u8) -> bool
+/// Whether a byte is a hexadecimal digit of either case.
+pub fn is_hex_byte(b: u8) -> bool
     ensures { result ≡ is_hex_digit b }
 {
     matches!(b, b'0'..=b'9' | b'A'..=b'F' | b'a'..=b'f')
 }
 
-// The value of a digit, and of other bytes some number.
-fn digit(b: u8) -> u8
+/// The value of a decimal or hexadecimal digit, and of other bytes some number.
+pub fn digit(b: u8) -> u8
     ensures { result ≡ digit_value b }
 {
     if is_digit_byte(b) {

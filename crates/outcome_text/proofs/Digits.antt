@@ -1,6 +1,6 @@
 -- Digits by their number.
 use Rattle.std.proofs.Common.{◌≡◌, ◌≢◌, ℕ, zero, suc, ◌-◌, ◌/◌, ◌%◌, [], ◌∷◌, ◌++◌, refl, ap, arith}
-use Rattle.machine_model.specs.OutcomeText.{hex_digit, hex_digits}
+use Rattle.number_text.specs.Hexadecimal.{hex_digit, hex_digits}
 
 pub no_digits : (k v : ℕ) → k ≡ 0 → hex_digits k v ≡ []
 unfolding hex_digits

@@ -2,7 +2,8 @@
 #![tactic(auto)]
 
 ghost use Rattle.std.specs.Prelude.{◌≡◌, ◌<◌, ◌≤◌, ◌++◌, ◌∷◌, [], codes, decimal, OnOk, IfOk};
-ghost use Rattle.machine_model.specs.OutcomeText.{hex_digit, hex_digits, hex_text, kind_text, line_feed, steps_text};
+ghost use Rattle.machine_model.specs.OutcomeText.{kind_text, line_feed, steps_text};
+ghost use Rattle.number_text.specs.Hexadecimal.{hex_digit, hex_digits, hex_text};
 ghost use Rattle.outcome_text.specs.View.{text_of};
 
 use itoa::Buffer;

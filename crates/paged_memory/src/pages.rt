@@ -110,7 +110,8 @@ impl Pages {
         self.write_fault(address.wrapping_add(1), size - 1)
     }
 
-    fn byte_or_zero(&self, address: u64) -> u8
+    /// The byte at an address, where an unmapped one counts as 0.
+    pub fn byte_or_zero(&self, address: u64) -> u8
         ensures { result ≡ byte_or_zero self.now address }
     {
         match self.byte(address) {

@@ -1,7 +1,8 @@
 -- The text of how the run of a kernel ended. Each line ends with a line feed; a result has sixteen lower-case hexadecimal
 -- digits, and the number of iterations begun is decimal.
 use Rattle.std.specs.Prelude.{ℕ, List, ◌++◌, codes, decimal}
-use Rattle.machine_model.specs.OutcomeText.{hex_text, line_feed}
+use Rattle.machine_model.specs.OutcomeText.{line_feed}
+use Rattle.number_text.specs.Hexadecimal.{hex_text}
 use Rattle.kernel_meaning.specs.declared.outcome.ScalarOutcome.{ScalarOutcome}
 use Rattle.kernel_meaning.specs.declared.outcome.ScalarOutcome.TheVariants.{End, Fault, Spent}
 

@@ -2,7 +2,8 @@
 #![tactic(auto)]
 
 ghost use Rattle.std.specs.Prelude.{◌≡◌, ◌++◌, codes, OnOk, IfOk};
-ghost use Rattle.machine_model.specs.OutcomeText.{hex_text, line_feed};
+ghost use Rattle.machine_model.specs.OutcomeText.{line_feed};
+ghost use Rattle.number_text.specs.Hexadecimal.{hex_text};
 ghost use Rattle.scalar_text.specs.ScalarText.{iterations_text, scalar_text};
 
 use dump_text::push_address;

@@ -1,8 +1,8 @@
 -- The SVE rows: each with its base word, and its fields from the lowest to the highest, as the encoding diagrams of
 -- Arm DDI 0487, chapter C8, "SVE Instruction Descriptions", give them.
 use Rattle.std.specs.Prelude.{ℕ, ◌+◌, ◌*◌, ◌^◌, Bool, ◌&&◌, nat_le, slice_index, bit_or, List, [], ◌∷◌, ◌++◌}
-use Rattle.word_rows.specs.Field.{Field, from_to}
-use Rattle.word_rows.specs.Row.{Row, all_numbers, only_below}
+use Rattle.word_rows.specs.Field.{Field, from_to, rd, rn, rm}
+use Rattle.word_rows.specs.Row.{Row, only_below, free}
 
 pub data Name : Type 0 where
   ptrue : Name
@@ -83,12 +83,6 @@ pd = from_to 3 0
 abbrev pub size : Field
 size = from_to 23 22
 
-abbrev pub rn : Field
-rn = from_to 9 5
-
-abbrev pub rm : Field
-rm = from_to 20 16
-
 abbrev pub pn : Field
 pn = from_to 8 5
 
@@ -100,9 +94,6 @@ pm = from_to 19 16
 
 abbrev pub pg_low : Field
 pg_low = from_to 8 5
-
-abbrev pub rd : Field
-rd = from_to 4 0
 
 abbrev pub pm_low : Field
 pm_low = from_to 8 5
@@ -163,9 +154,6 @@ abbrev pub store_listed : List ℕ → Bool
 store_listed ns = only_below 3 31 ns && nat_le (slice_index ns 5) (slice_index ns 4)
 
 -- ---- rows
-abbrev pub free : ℕ → List Field → Row
-free base fields = record { base = base; fields = fields; admits = all_numbers }
-
 abbrev pub where_listed : ℕ → List Field → (List ℕ → Bool) → Row
 where_listed base fields admits = record { base = base; fields = fields; admits = admits }
 

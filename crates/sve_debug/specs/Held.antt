@@ -5,7 +5,8 @@ use Rattle.machine_model.specs.declared.outcome.Ending.{Ending}
 use Rattle.machine_model.specs.declared.outcome.Ending.TheVariants as endings
 use Rattle.machine_model.specs.Machine.{State, x_at}
 use Rattle.machine_model.specs.Debugged.{View}
-use Rattle.machine_model.specs.OutcomeText.{hex_text, line_feed, steps_text, outcome_text}
+use Rattle.machine_model.specs.OutcomeText.{line_feed, steps_text, outcome_text}
+use Rattle.number_text.specs.Hexadecimal.{hex_text}
 use Rattle.machine_model.specs.Run.{Outcome, End, Stop}
 use Rattle.sve_debug.specs.declared.command.Command.{Command}
 use Rattle.sve_debug.specs.declared.command.Command.TheVariants.{Step, Go, Break, Show, Quit}

@@ -5,7 +5,8 @@ use Rattle.guest_types.specs.Elements.{Flags, bit}
 use Rattle.machine_model.specs.Machine.{State, Step as OneStep, Went, Ended, Stopped, x_at, z_at, p_at}
 use Rattle.machine_model.specs.OneStep.{step}
 use Rattle.machine_model.specs.Run.{Outcome, End, Stop}
-use Rattle.machine_model.specs.OutcomeText.{hex_digits, hex_text, line_feed, outcome_text}
+use Rattle.machine_model.specs.OutcomeText.{line_feed, outcome_text}
+use Rattle.number_text.specs.Hexadecimal.{hex_digits, hex_text}
 use Rattle.machine_model.specs.DumpText.{dump_text}
 use Rattle.sve_debug.specs.declared.command.Command.{Command}
 use Rattle.sve_debug.specs.declared.command.Command.TheVariants.{Step, Go, Break, Show, Quit}

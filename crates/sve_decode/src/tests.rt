@@ -229,7 +229,7 @@ static UNLISTED: [u32; 26] = [
 ];
 
 #[test]
-fn reads_and_writes_listed_words(rt: HostRuntime) -> Result<(), AllocError> {
+fn reads_and_writes_listed_sve_words(rt: HostRuntime) -> Result<(), AllocError> {
     for line in LISTED.lines() {
         let Some((digits, meaning)) = line.split_once(' ') else {
             panic!(rt; "no word in {line}");
@@ -246,7 +246,7 @@ fn reads_and_writes_listed_words(rt: HostRuntime) -> Result<(), AllocError> {
 }
 
 #[test]
-fn reads_no_other_word(rt: HostRuntime) {
+fn reads_no_other_sve_word(rt: HostRuntime) {
     for word in UNLISTED {
         assert_eq!(rt; decode(word), None, "{word:#010x}");
     }

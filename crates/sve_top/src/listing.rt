@@ -1,7 +1,7 @@
 //! The lines of a program's words.
 
 ghost use Rattle.std.specs.Prelude.{◌≡◌, ◌+◌, ◌*◌, ◌^◌, ◌<◌, ◌≤◌};
-ghost use Rattle.guest_types.specs.Memory.{byte_or_zero, number_at};
+ghost use Rattle.guest_types.specs.Memory.{number_at};
 ghost use Rattle.sve_top.specs.Listing.{lines_from};
 ghost use Rattle.io_edges.specs.Sink.{PutsText};
 
@@ -16,12 +16,6 @@ const BLOCK: u64 = 64;
 // The lines of a block, each of at most 96 bytes.
 type Lines = ArrayString<6144>;
 
-fn byte_at(pages: &Pages, address: u64) -> u8
-    ensures { result ≡ byte_or_zero pages.now address }
-{
-    pages.byte(address).unwrap_or(0)
-}
-
 // The little-endian word at an address, in which an unmapped byte counts as 0.
 fn word_at(pages: &Pages, address: u64) -> u32
     ensures { result ≡ number_at pages.now address 4 }
@@ -30,10 +24,10 @@ fn word_at(pages: &Pages, address: u64) -> u32
     let third = second.wrapping_add(1);
     let fourth = third.wrapping_add(1);
     u32::from_le_bytes([
-        byte_at(pages, address),
-        byte_at(pages, second),
-        byte_at(pages, third),
-        byte_at(pages, fourth),
+        pages.byte_or_zero(address),
+        pages.byte_or_zero(second),
+        pages.byte_or_zero(third),
+        pages.byte_or_zero(fourth),
     ])
 }
 

@@ -10,7 +10,8 @@ use Rattle.std.proofs.lemmas.Fmt.{decimal_is_IsNumeral}
 use Rattle.std.proofs.lemmas.Str.Parse.{tells_digits}
 use Rattle.std.proofs.Math.Seq.{take-append_seam}
 use Rattle.kernel_tree.specs.Word.{Word, IsNumber}
-use Rattle.kernel_tree.specs.Tokens.{is_digit, is_hex_digit, is_letter, is_blank, digit_value, appended, value_of, begins_hex, Piece, Token, piece, literal, decimal_from, number_piece, before, by_piece, scan}
+use Rattle.kernel_tree.specs.Tokens.{is_letter, is_blank, begins_hex, Piece, Token, piece, literal, decimal_from, number_piece, before, by_piece, scan}
+use Rattle.number_text.specs.Numbers.{is_digit, is_hex_digit, digit_value, appended, value_of}
 
 -- a place so many bytes on
 abbrev moved : ℕ → ℕ → ℕ

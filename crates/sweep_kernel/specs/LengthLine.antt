@@ -1,6 +1,7 @@
 -- What a sweep prints of its run at one vector length.
 use Rattle.std.specs.Prelude.{ℕ, ◌+◌, ◌*◌, List, ◌++◌, codes, decimal}
-use Rattle.machine_model.specs.OutcomeText.{hex_text, line_feed}
+use Rattle.machine_model.specs.OutcomeText.{line_feed}
+use Rattle.number_text.specs.Hexadecimal.{hex_text}
 
 -- the length in bits, the result, the steps and the sum of the bytes that were written
 abbrev pub length_line : (vl result steps sum : ℕ) → List ℕ

@@ -1,7 +1,6 @@
 //! The pages of the runs, and the sum of the bytes that a run leaves.
 
 ghost use Rattle.std.specs.Prelude.{◌≡◌, ℕ, ◌+◌, ◌*◌, ◌<◌, ◌≤◌, ◌^◌, ◌++◌, ◌∷◌, [], length, replicate, OnOk, IfOk, All};
-ghost use Rattle.guest_types.specs.Memory.{byte_or_zero};
 ghost use Rattle.sweep_kernel.specs.Pages.{page_with, low_bytes, drawn_page, zero_page, pages_from, pages_of, sum_of};
 
 use crate::draw::Draw;
@@ -121,20 +120,13 @@ pub fn pages(alloc: Global, seed: u64) -> Result<PageMap, AllocError>
     Ok(PageMap { pages })
 }
 
-// The byte at an address, where an unmapped one counts as 0.
-fn byte_at(pages: &Pages, address: u64) -> u8
-    ensures { result ≡ byte_or_zero pages.now address }
-{
-    pages.byte(address).unwrap_or(0)
-}
-
 /// The sum of the bytes of the third array.
 pub fn byte_sum(pages: &Pages) -> u64
     ensures { result ≡ sum_of pages.now }
 {
     let mut sum = 0;
     for i in 0..409_600u64 {
-        sum += byte_at(pages, 0x300_0000 + i) as u64;
+        sum += pages.byte_or_zero(0x300_0000 + i) as u64;
     }
     sum
 }

@@ -1,5 +1,5 @@
 use Rattle.std.proofs.Common.{◌∙◌, ◌++◌, ◌∷◌, [], ◌/◌, ◌%◌, ◌-◌, sym, ap, append_assoc, append-nil}
-use Rattle.machine_model.specs.OutcomeText.{hex_digit, hex_digits}
+use Rattle.number_text.specs.Hexadecimal.{hex_digit, hex_digits}
 use Rattle.outcome_text.proofs.Digits.{no_digits, one_more}
 use Rattle.outcome_text.proofs.+push_hex.Goals as goal
 

@@ -1,6 +1,7 @@
 use Rattle.std.proofs.Common.{◌≡◌, false, get_or, drop, ap, sym, ◌∙◌}
 use Rattle.std.specs.List.{prefix_len}
-use Rattle.kernel_tree.specs.Tokens.{begins_hex, is_digit}
+use Rattle.kernel_tree.specs.Tokens.{begins_hex}
+use Rattle.number_text.specs.Numbers.{is_digit}
 use Rattle.kernel_tokens.proofs.Runs.{decimal_at}
 use Rattle.kernel_tokens.proofs.Scans.{tail_is}
 use Rattle.kernel_tokens.proofs.number.number_front.Goals as goal

@@ -1,5 +1,5 @@
 use Rattle.std.proofs.Common.{◌+◌, ◌*◌, ◌^◌, ◌≤◌, get_or, arith}
-use Rattle.kernel_tree.specs.Tokens.{digit_value}
+use Rattle.number_text.specs.Numbers.{digit_value}
 use Rattle.kernel_tokens.proofs.Digits.{too_large, not_below}
 use Rattle.kernel_tokens.proofs.number.value.Goals as goal
 

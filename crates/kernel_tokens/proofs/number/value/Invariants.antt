@@ -1,6 +1,6 @@
 use Rattle.std.proofs.Common.{◌≡◌, ◌<◌, ◌^◌, drop}
 use Rattle.std.specs.List.{fold}
-use Rattle.kernel_tree.specs.Tokens.{appended, value_of}
+use Rattle.number_text.specs.Numbers.{appended, value_of}
 use Rattle.kernel_tokens.proofs.number.value.Given as goal
 
 abbrev pub invariant-loop-d : goal.invariant-loop-d

@@ -8,4 +8,4 @@ loop-i-init c = (sym (sum_from_none c.args.pages.now 0x3000000), omega arith)
 pub loop-i-preserved : goal.loop-i-preserved
 loop-i-preserved c =
     let here = c.loop-i.invariant in
-    (ap₂ ◌+◌ here.0 c.byte_at.ensures ∙ sym (sum_from_more c.args.pages.now 0x3000000 c.loop-i.i), omega (arith, here.1))
+    (ap₂ ◌+◌ here.0 c.byte_or_zero.ensures ∙ sym (sum_from_more c.args.pages.now 0x3000000 c.loop-i.i), omega (arith, here.1))
