@@ -24,6 +24,28 @@ IsData (LoadStoreImmediate a b c d) = ⊥
 IsData (LoadStoreByteRegister a b c d) = ⊥
 IsData (LoadStoreRegister a b c d e) = ⊥
 
+-- of these: it moves a number, a bit field or one of two registers
+abbrev pub IsMove : A64 → Type 0
+IsMove (AddSubImmediate a b c d e) = ⊥
+IsMove (AddSubShifted a b c d e f) = ⊥
+IsMove (LogicalShifted a b c d e f) = ⊥
+IsMove (MoveWide a b c d) = Unit {0}
+IsMove (MultiplyAdd a b c d e) = ⊥
+IsMove (ShiftVariable a b c d) = ⊥
+IsMove (Bitfield a b c d e) = Unit {0}
+IsMove (ConditionalSelect a b c d e) = Unit {0}
+IsMove (Branch a) = ⊥
+IsMove (BranchConditional a b) = ⊥
+IsMove (CompareBranch a b c) = ⊥
+IsMove (Ret a) = ⊥
+IsMove (Exception a b) = ⊥
+IsMove Nop = ⊥
+IsMove (Umov a b) = Unit {0}
+IsMove (LoadStoreByteImmediate a b c d) = ⊥
+IsMove (LoadStoreImmediate a b c d) = ⊥
+IsMove (LoadStoreByteRegister a b c d) = ⊥
+IsMove (LoadStoreRegister a b c d e) = ⊥
+
 -- it is no load, no store and no exception
 abbrev pub IsOnRegisters : A64 → Type 0
 IsOnRegisters (AddSubImmediate a b c d e) = Unit {0}

@@ -8,7 +8,7 @@ ghost use Rattle.machine_model.specs.InstructionTable.{Scalar};
 ghost use Rattle.machine_model.specs.OneStep.{does};
 ghost use Rattle.machine_model.specs.Answers.{IsAnswer};
 ghost use Rattle.a64_machine.specs.Cores.{VectorState, state_of, HasVector, OnStop, said};
-ghost use Rattle.a64_machine.specs.Forms.{IsOnRegisters, IsData};
+ghost use Rattle.a64_machine.specs.Forms.{IsOnRegisters, IsData, IsMove};
 
 use crate::control::{branch, branch_conditional, compare_branch, exception, return_to};
 use crate::core_state::Core;
@@ -90,6 +90,33 @@ fn on_registers(core: &mut Core, word: A64)
     }
 }
 
+/// An instruction that moves a number, a bit field or one of two registers.
+#[inline(always)]
+fn moved(core: &mut Core, word: A64)
+    ensures { (memory : Memory) (rest : VectorState) → IsMove word → HasVector word core.old rest →
+        does (Scalar (seen word)) (state_of core.old memory rest) ≡ Went (state_of core.new memory rest) }
+{
+    match word {
+        A64::MoveWide { op, rd, imm16, hw } => move_wide(core, op, rd, imm16, hw),
+        A64::Bitfield {
+            op,
+            rd,
+            rn,
+            imms,
+            immr,
+        } => bitfield(core, op, rd, rn, imms, immr),
+        A64::ConditionalSelect {
+            op,
+            rd,
+            rn,
+            cond,
+            rm,
+        } => conditional_select(core, op, rd, rn, cond, rm),
+        A64::Umov { rd, vn: _ } => move_from_vector(core, rd),
+        _ => {}
+    }
+}
+
 /// An instruction that computes a register from registers.
 #[inline(always)]
 fn data(core: &mut Core, word: A64)
@@ -120,24 +147,8 @@ fn data(core: &mut Core, word: A64)
             rm,
             shift,
         } => logical(core, op, rd, rn, imm6, rm, shift),
-        A64::MoveWide { op, rd, imm16, hw } => move_wide(core, op, rd, imm16, hw),
         A64::MultiplyAdd { op, rd, rn, ra, rm } => multiply_add(core, op, rd, rn, ra, rm),
         A64::ShiftVariable { op, rd, rn, rm } => shift_variable(core, op, rd, rn, rm),
-        A64::Bitfield {
-            op,
-            rd,
-            rn,
-            imms,
-            immr,
-        } => bitfield(core, op, rd, rn, imms, immr),
-        A64::ConditionalSelect {
-            op,
-            rd,
-            rn,
-            cond,
-            rm,
-        } => conditional_select(core, op, rd, rn, cond, rm),
-        A64::Umov { rd, vn: _ } => move_from_vector(core, rd),
-        _ => {}
+        _ => moved(core, word),
     }
 }

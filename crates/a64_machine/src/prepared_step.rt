@@ -5,7 +5,7 @@ ghost use Rattle.guest_types.specs.Memory.{Memory};
 ghost use Rattle.machine_model.specs.Machine.{Went};
 ghost use Rattle.machine_model.specs.Answers.{IsAnswer};
 ghost use Rattle.a64_machine.specs.Cores.{VectorState, state_of, said};
-ghost use Rattle.a64_machine.specs.Prepared.{prepared_does, logical, field, IsOnGeneral};
+ghost use Rattle.a64_machine.specs.Prepared.{prepared_does, logical, field, IsJump, IsOnGeneral};
 
 use crate::accesses::{access, byte_access};
 use crate::bit_fields::{signed_field, unsigned_field};
@@ -127,6 +127,21 @@ fn jump(core: &mut Core, place: u64)
     core.pc = place;
 }
 
+/// A prepared branch.
+#[inline(always)]
+fn on_jump(core: &mut Core, prepared: &Prepared)
+    ensures { (memory : Memory) (rest : VectorState) → IsJump prepared.now →
+        prepared_does prepared.now (state_of core.old memory rest) ≡ Went (state_of core.new memory rest) }
+{
+    match *prepared {
+        Prepared::JumpWhere { taken, place } => jump_where(core, taken, place),
+        Prepared::Jump { place } => jump(core, place),
+        Prepared::JumpAtZero { rt, place } => jump_at_zero(core, rt, place),
+        Prepared::JumpElse { rt, place } => jump_else(core, rt, place),
+        _ => {}
+    }
+}
+
 /// A prepared instruction that is no load and no store.
 #[inline(always)]
 fn on_general(core: &mut Core, prepared: &Prepared)
@@ -139,7 +154,6 @@ fn on_general(core: &mut Core, prepared: &Prepared)
             write_general(core, rd, value)
         }
         Prepared::LessNumber { rd, rn, number } => less_number(core, rd, rn, number),
-        Prepared::JumpWhere { taken, place } => jump_where(core, taken, place),
         Prepared::Add { rd, rn, rm, by } => {
             let value = core.general(rn).wrapping_add(core.general(rm) << by.number);
             write_general(core, rd, value)
@@ -170,16 +184,14 @@ fn on_general(core: &mut Core, prepared: &Prepared)
             write_general(core, rd, value)
         }
         Prepared::Constant { rd, number } => write_general(core, rd, number),
-        Prepared::Jump { place } => jump(core, place),
-        Prepared::JumpAtZero { rt, place } => jump_at_zero(core, rt, place),
-        Prepared::JumpElse { rt, place } => jump_else(core, rt, place),
-        _ => {}
+        _ => on_jump(core, prepared),
     }
 }
 
-/// One prepared instruction: whether it goes on. Where it does not, its answer is left in `answer`.
+/// One prepared instruction: whether it goes on. Where it does not, its answer is left in `answer`. `CALLER` tells apart
+/// the loops that take steps: each has a copy of its own, since the optimiser calls a function of two callers.
 #[inline(always)]
-pub fn prepared_goes(
+pub fn prepared_goes<const CALLER: usize>(
     core: &mut Core,
     pages: &mut Pages,
     prepared: &Prepared,

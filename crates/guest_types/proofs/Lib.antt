@@ -10,5 +10,6 @@ pub mod LaneSteps
 mod Examples
 pub mod Writes
 pub mod Stores
+pub mod AfterStores
 pub mod Merges
 pub mod EarlyLoads

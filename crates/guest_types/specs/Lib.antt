@@ -1,5 +1,6 @@
 pub mod Length
 pub mod Memory
+pub mod AfterStores
 pub mod Spans
 pub mod Elements
 pub mod Lanes

@@ -5,6 +5,7 @@
 pub mod bytes;
 pub mod guest;
 pub mod image;
+pub mod laws;
 pub mod length;
 pub mod memory;
 pub mod operation;

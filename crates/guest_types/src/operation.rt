@@ -2,7 +2,7 @@
 
 ghost use Rattle.std.specs.Prelude.{◌≡◌, ℕ, ◌+◌, ◌-◌, ◌*◌, ◌/◌, ◌%◌, ◌^◌, ◌<◌, ◌≤◌, Bool};
 ghost use Rattle.guest_types.specs.Length.{width_bits, modulus};
-ghost use Rattle.guest_types.specs.Lanes.{biased, signed_lt, lane, sign_extended, unary, source_bits, shifted, ShiftFits, is_true, pred_bit, identity, joined, fold_limit};
+ghost use Rattle.guest_types.specs.Lanes.{biased, signed_lt, lane, sign_extended, unary, source_bits, shifted, ShiftFits, is_true, pred_bit, identity, fold_limit};
 
 use crate::length::Width;
 
@@ -202,24 +202,6 @@ impl ReduceOp {
             ReduceOp::Or => 0,
             ReduceOp::Xor => 0,
             ReduceOp::And => width.max(),
-        }
-    }
-
-    /// The fold so far with one more element.
-    pub fn join(self, width: Width, a: u64, b: u64) -> u64
-        requires { (a < fold_limit self (modulus width)) × (b < modulus width) }
-        ensures value { result ≡ joined self (modulus width) a b }
-        ensures fits { result < fold_limit self (modulus width) }
-    {
-        match self {
-            ReduceOp::UAdd => a.wrapping_add(b),
-            ReduceOp::SMax => LaneOp::SMax.apply(width, a, b),
-            ReduceOp::UMax => LaneOp::UMax.apply(width, a, b),
-            ReduceOp::SMin => LaneOp::SMin.apply(width, a, b),
-            ReduceOp::UMin => LaneOp::UMin.apply(width, a, b),
-            ReduceOp::Or => LaneOp::Or.apply(width, a, b),
-            ReduceOp::Xor => LaneOp::Xor.apply(width, a, b),
-            ReduceOp::And => LaneOp::And.apply(width, a, b),
         }
     }
 }

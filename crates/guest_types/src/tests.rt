@@ -105,5 +105,4 @@ fn operations(rt: HostRuntime) {
     assert!(rt; LaneCompare::Gt.holds(Width::B, 0, 0xFF));
     assert!(rt; PredOp::Eor.apply(true, false));
     assert_eq!(rt; ReduceOp::SMin.identity(Width::B), 0x7F);
-    assert_eq!(rt; ReduceOp::UAdd.join(Width::B, 0xFF, 0xFF), 0x1FE);
 }

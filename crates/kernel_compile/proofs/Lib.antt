@@ -1,7 +1,6 @@
 pub mod Promises
 pub mod Loaded
 pub mod Join
-mod NoStops
 pub mod ScalarFiles
 pub mod ArrayStreams
 pub mod ApartBoth

@@ -3,11 +3,11 @@ use Rattle.std.proofs.Common.{◌≡◌, ℕ, List, refl, ap, ◌∙◌, arith}
 use Rattle.guest_types.specs.EarlyLoads.{never}
 use Rattle.guest_types.specs.Memory.{Memory, merged}
 use Rattle.machine_model.specs.Run.{start, free_start, free_run, machine_run}
+use Rattle.machine_model.proofs.Suppressed.{none_suppressed}
 use Rattle.kernel_tree.specs.Plain.{Program}
 use Rattle.kernel_meaning.specs.ScalarRun.{begun, scalar_run}
 use Rattle.dependence.specs.Bound.{free_bound}
 use Rattle.dependence.proofs.Bounds as bounds
-use Rattle.kernel_compile.proofs.NoStops.{none_suppressed}
 use Rattle.kernel_compile.specs.Faithful.{Faithful, SlowFaithful, FreeFaithful, FreeSlowFaithful}
 
 pub without_stops : (file args : List ℕ) (pages : Memory) (vl steps : ℕ) → free_run file args pages vl never steps ≡ machine_run file args pages vl steps

@@ -8,7 +8,7 @@ use Rattle.guest_types.specs.declared.length.Width.TheVariants as width
 use Rattle.guest_types.specs.Length.{IsLength, lanes}
 use Rattle.guest_types.specs.Memory.{Memory, IsMemory, byte_at, can_read}
 use Rattle.machine_model.specs.Machine.{State, jump}
-use Rattle.machine_model.specs.Run.{End, Stop}
+use Rattle.machine_model.specs.Run.{End, Stop, memory_left}
 use Rattle.machine_model.specs.States.{IsState}
 use Rattle.kernel_tree.specs.Plain.{Program}
 use Rattle.kernel_tree.specs.Items.{size_of}
@@ -41,7 +41,7 @@ use Rattle.vector_emit.specs.VectorRuns as vectors
 use Rattle.vector_emit.specs.VectorRuns.{Near, VectorRuns, turn_steps, vector_base}
 use Rattle.kernel_compile.specs.Faithful.{Follows, IsNearFault}
 use Rattle.kernel_compile.proofs.Join.{comes_after, comes_follow, from_start, start_within}
-use Rattle.kernel_compile.proofs.MapStays.{left_of, draft_map}
+use Rattle.kernel_compile.proofs.MapStays.{draft_map}
 use Rattle.kernel_compile.proofs.Paces.{end_paced, stop_paced, enough}
 use Rattle.kernel_compile.proofs.NearFaults.{both_unmapped, elsewhere}
 use Rattle.kernel_compile.proofs.AtLoop.{bases_held, bounded}
@@ -83,7 +83,7 @@ module _ (g : Ground) (is : IsGround g) (memory left faulted : Memory) (bg : ℕ
 
 -- what is mapped at a fault of scalar code, that of the state in which it is entered
 fault_map : {D : Laid} {o : List Entry} {t : State} {K F i bg : ℕ} {m : Memory} (a : ℕ) → Comes D o t K F i (scalar.Fault m bg) → can_read m a ≡ can_read t.memory a
-fault_map {D = D} {o = o} {t = t} a (faults_so n kind e ok h) = ap (λ x. can_read (left_of x) a) (sym (h.by 0 0)) ∙ draft_map D (h.count + 0) 0 o t a
+fault_map {D = D} {o = o} {t = t} a (faults_so n kind e ok h) = ap (λ x. can_read (memory_left x) a) (sym (h.by 0 0)) ∙ draft_map D (h.count + 0) 0 o t a
 
 -- in the bound, with the lanes of a chunk for what is run at once
 few_steps : (k : Program) (args : List ℕ) (vl L m q steps : ℕ) → at_once k args vl ≡ L → free_bound k args vl m q ≤ steps → 1000 + 100 * size_of k + (32 + 8 * size_of k) * (div_ceil m L + 2 + 4 * q) ≤ steps
@@ -122,7 +122,7 @@ follows_chunk {g = g} {D = D} {c = c} {s = s} {t = t} {vl = vl} {q = q} {steps =
       is = stops;
       kept = λ address far.
           kept_near g x.is m left faulted bg x.bound near
-          (λ a high. both_unmapped m left faulted a x.good high (ap (λ o. can_read (left_of o) a) (sym stops) ∙ draft_map D steps 0 c s a ∙ ap (λ y. can_read y a) x.from) (fault_map a h ∙ ap (λ y. can_read y a) x.here))
+          (λ a high. both_unmapped m left faulted a x.good high (ap (λ o. can_read (memory_left o) a) (sym stops) ∙ draft_map D steps 0 c s a ∙ ap (λ y. can_read y a) x.from) (fault_map a h ∙ ap (λ y. can_read y a) x.here))
           address (λ n. far (subst (λ L. IsNearFault g.kernel g.args L bg address) (sym x.lanes) n));
     }
 

@@ -8,13 +8,14 @@ use Rattle.word_rows.specs.Row.{Instruction, IsInstruction, spells}
 use Rattle.a64_code.specs.Table as table
 use Rattle.a64_code.specs.Table.{Name, row, a64_names, b, b_cond, cbz, cbnz}
 use Rattle.machine_model.specs.Arithmetic.{holds, target}
+use Rattle.machine_model.specs.CodeInMemory.{spell, IsListed}
 use Rattle.machine_model.specs.InstructionTable.{Listed, Scalar, Vector}
 use Rattle.machine_model.specs.Machine.{State, Step, Went, Ended, Stopped, x_at, jump, next}
 use Rattle.machine_model.specs.OneStep.{step, does, cuts_in, suppresses}
 use Rattle.machine_model.specs.Run.{Outcome, go_on, run, suppressed}
 use Rattle.machine_model.specs.VectorEffects.{field_of}
 use Rattle.machine_model.proofs.Frames.{went_leaves}
-use Rattle.machine_model.proofs.ListedWords.{spell, IsListed, step_does, step_cuts}
+use Rattle.machine_model.proofs.ListedWords.{step_does, step_cuts}
 use Rattle.sve_code.specs.Table as sve
 use Rattle.label_fix.specs.DraftRun.{Kind, Always, If, Zero, NotZero, Entry, Put, Branch, Place, Laid, is_taken, effect, after, following, place_of, address_of, walk, draft_run}
 use Rattle.label_fix.specs.Cuts.{count_on, walk_cuts, cuts}

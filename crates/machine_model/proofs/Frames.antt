@@ -1,12 +1,11 @@
 -- Each SVE instruction leaves alone what `Frames` says.
-use Rattle.std.proofs.Common.{◌≡◌, ℕ, zero, suc, ◌+◌, ◌^◌, ◌<◌, Bool, true, false, List, [], Option, Some, None, Result, Ok, Err, refl, ap, ◌∙◌, subst}
-use Rattle.std.specs.Prelude.{if◌then◌else◌}
+use Rattle.std.proofs.Common.{◌≡◌, ℕ, List, [], Option, Some, None, refl, subst}
 use Rattle.std.proofs.lemmas.List.{get_or-set_other}
 use Rattle.guest_types.specs.declared.memory.AccessFault.{AccessFault}
-use Rattle.guest_types.specs.Memory.{Memory, fetched, stored}
-use Rattle.guest_types.specs.LaneMemory.{width_of_size, lane_address, store_of, Loaded, StoredLanes, AllStored, StoreFault, or_fault, store_lanes, store_on}
+use Rattle.guest_types.specs.AfterStores.{AfterStores}
+use Rattle.guest_types.specs.LaneMemory.{width_of_size, lane_address, store_of, Loaded, StoredLanes, AllStored, StoreFault, or_fault}
 use Rattle.guest_types.specs.EarlyLoads.{EarlyLoad, unless_fault}
-use Rattle.guest_types.proofs.Stores.{fetched-stored, can_read-stored, can_write-stored}
+use Rattle.guest_types.proofs.AfterStores.{can_read-after, can_write-after, fetched-after, left_by, lanes-after}
 use Rattle.guest_types.specs.Length.{width_bytes, lanes}
 use Rattle.guest_types.specs.Elements.{at, active}
 use Rattle.word_rows.specs.Field.{Field, rd, rn, rm}
@@ -14,32 +13,10 @@ use Rattle.sve_code.specs.Table as sve
 use Rattle.sve_code.specs.Table.{Name, pd, pg, zd, zdn, zt, ptrue, pfalse, whilelo, ptest, p_and, p_bic, p_eor, p_orr, p_ands, brka, brkb, rdffr, rdffr_z, setffr, wrffr, cntb, cnth, cntw, cntd, incp, cntp, dup, index_row, sel, z_add, z_sub, z_and, z_orr, z_eor, z_bic, lsl_imm, lsr_imm, asr_imm, m_add, m_sub, m_smax, m_umax, m_smin, m_umin, m_mul, m_orr, m_eor, m_and, m_abs, m_neg, m_not, sxtb, uxtb, sxth, uxth, sxtw, uxtw, uaddv, smaxv, umaxv, sminv, uminv, orv, eorv, andv, cmphs, cmphi, cmpge, cmpgt, cmpeq, cmpne, ld1, ldff1, ldnf1, st1}
 use Rattle.machine_model.specs.Machine.{x_or_sp, State, Went, x_at, z_at, p_at}
 use Rattle.machine_model.specs.VectorEffects.{vector_act, after_load, after_early, after_store}
-use Rattle.machine_model.specs.Frames.{Leaves, SameAccess}
+use Rattle.machine_model.specs.Frames.{Leaves}
 
 same_state : (n : Name) (f : Field → ℕ) (s : State) {u t : State} → Went u ≡ Went t → Leaves n f s u → Leaves n f s t
 same_state n f s {u = u} {t = t} e k = let same : u ≡ t = cc in subst (λ x. Leaves n f s x) same k
-
-store_code_step : (b : Bool) (r : Result Memory AccessFault) (m m2 : Memory) (rest : Memory → StoredLanes) (a : ℕ) → ((x : Memory) → r ≡ Ok x → fetched x a ≡ fetched m a) → ((x : Memory) → rest x ≡ AllStored m2 → fetched m2 a ≡ fetched x a) → (if b then store_on r m rest else rest m) ≡ AllStored m2 → fetched m2 a ≡ fetched m a
-store_code_step true (Ok x) m m2 rest a is on e = on x e ∙ is x refl
-store_code_step true (Err fault) m m2 rest a is on e = absurd cc
-store_code_step false r m m2 rest a is on e = on m e
-
-access_step : (b : Bool) (r : Result Memory AccessFault) (m m2 : Memory) (rest : Memory → StoredLanes) (a : ℕ) → ((x : Memory) → r ≡ Ok x → SameAccess m x a) → ((x : Memory) → rest x ≡ AllStored m2 → SameAccess x m2 a) → (if b then store_on r m rest else rest m) ≡ AllStored m2 → SameAccess m m2 a
-access_step true (Ok x) m m2 rest a is on e = let one = is x refl in let two = on x e in (two.0 ∙ one.0, two.1 ∙ one.1)
-access_step true (Err fault) m m2 rest a is on e = absurd cc
-access_step false r m m2 rest a is on e = on m e
-
--- a store of lanes leaves permissions alone
-pub stored_access : (on : ℕ → Bool) (f v : ℕ → ℕ) (k left e : ℕ) (m m2 : Memory) (a : ℕ) → store_lanes on f v k left e m ≡ AllStored m2 → SameAccess m m2 a
-stored_access on f v k zero e m m2 a is = let same : m ≡ m2 = cc in subst (λ x. SameAccess m x a) same (refl, refl)
-stored_access on f v k (suc left) e m m2 a is =
-    access_step (on e) (stored m (f e) k (v e)) m m2 (store_lanes on f v k left (e + 1)) a (λ x ok. (can_read-stored m x (f e) k (v e) a ok, can_write-stored m x (f e) k (v e) a ok)) (λ x ex. stored_access on f v k left (e + 1) x m2 a ex) is
-
--- a store of lanes leaves code alone
-pub stored_code : (on : ℕ → Bool) (f v : ℕ → ℕ) (k left e : ℕ) (m m2 : Memory) (a : ℕ) → a < 2 ^ 64 → store_lanes on f v k left e m ≡ AllStored m2 → fetched m2 a ≡ fetched m a
-stored_code on f v k zero e m m2 a lt is = let same : m2 ≡ m = cc in ap (λ x. fetched x a) same
-stored_code on f v k (suc left) e m m2 a lt is =
-    store_code_step (on e) (stored m (f e) k (v e)) m m2 (store_lanes on f v k left (e + 1)) a (λ x ok. fetched-stored m x (f e) k (v e) a lt ok) (λ x ex. stored_code on f v k left (e + 1) x m2 a lt ex) is
 
 plain_leaves : (f : Field → ℕ) (s t : State) (o : Option AccessFault) (l : Loaded) → after_load (or_fault o l) (f zt) s ≡ Went t → Leaves ld1 f s t
 plain_leaves f s t None l e = same_state ld1 f s e (record { pc = refl; sp = refl; vl = refl; code = λ a lt. refl; access = λ a. (refl, refl); memory = refl; flags = refl; ffr = refl; stops = refl; x = refl; z = λ n ne. get_or-set_other s.z (f zt) n l.z [] ne; p = refl })
@@ -49,17 +26,16 @@ first_leaves : (f : Field → ℕ) (s t : State) (o : Option AccessFault) (l : E
 first_leaves f s t None l e = same_state ldff1 f s e (record { pc = refl; sp = refl; vl = refl; code = λ a lt. refl; access = λ a. (refl, refl); memory = refl; flags = refl; ffr = tt; stops = tt; x = refl; z = λ n ne. get_or-set_other s.z (f zt) n l.loaded.z [] ne; p = refl })
 first_leaves f s t (Some fault) l e = absurd cc
 
-store_leaves : (f : Field → ℕ) (s t : State) (l : StoredLanes) → ((m : Memory) (a : ℕ) → a < 2 ^ 64 → l ≡ AllStored m → fetched m a ≡ fetched s.memory a) → ((m : Memory) (a : ℕ) → l ≡ AllStored m → SameAccess s.memory m a) → after_store l s ≡ Went t → Leaves st1 f s t
-store_leaves f s t (AllStored m) is may e = same_state st1 f s e (record { pc = refl; sp = refl; vl = refl; code = λ a lt. is m a lt refl; access = λ a. may m a refl; memory = tt; flags = refl; ffr = refl; stops = refl; x = refl; z = refl; p = refl })
-store_leaves f s t (StoreFault fault m) is may e = absurd cc
+store_leaves : (f : Field → ℕ) (s t : State) (l : StoredLanes) → AfterStores s.memory (left_by l) → after_store l s ≡ Went t → Leaves st1 f s t
+store_leaves f s t (AllStored m) left e = same_state st1 f s e (record { pc = refl; sp = refl; vl = refl; code = fetched-after left; access = λ a. (can_read-after left a, can_write-after left a); memory = tt; flags = refl; ffr = refl; stops = refl; x = refl; z = refl; p = refl })
+store_leaves f s t (StoreFault fault m) left e = absurd cc
 
 vector_store : (msz size base index : ℕ) (pg z : List ℕ) (f : Field → ℕ) (s t : State) → after_store (store_of msz size base index s.vl pg z s.memory) s ≡ Went t → Leaves st1 f s t
 vector_store msz size base index pg z f s t e =
     let w = width_of_size size in
     let k = width_bytes (width_of_size msz) in
     store_leaves f s t (store_of msz size base index s.vl pg z s.memory)
-    (λ m a lt is. stored_code (active w pg) (lane_address base index k) (at w z) k (lanes s.vl w) 0 s.memory m a lt is)
-    (λ m a is. stored_access (active w pg) (lane_address base index k) (at w z) k (lanes s.vl w) 0 s.memory m a is) e
+    (lanes-after (active w pg) (lane_address base index k) (at w z) k (lanes s.vl w) 0 s.memory) e
 
 pub went_leaves : (n : Name) (f : Field → ℕ) (s t : State) → vector_act n f s ≡ Went t → Leaves n f s t
 went_leaves ptrue f s t e = same_state ptrue f s e (record { pc = refl; sp = refl; vl = refl; code = λ a lt. refl; access = λ a. (refl, refl); memory = refl; flags = refl; ffr = refl; stops = refl; x = refl; z = refl; p = λ n ne. get_or-set_other s.p (f pd) n _ [] ne })

@@ -1,5 +1,5 @@
 -- States before and after one SVE instruction over registers, as a model made outside of svec has them.
-use Rattle.guest_types.specs.EarlyLoads.{Listed as Counted, never}
+use Rattle.guest_types.specs.EarlyLoads.{never}
 use Rattle.guest_types.specs.Elements.{bits_of, elements}
 use Rattle.guest_types.specs.Lanes.{broken, folded}
 use Rattle.guest_types.specs.declared.memory.Perm.TheVariants.{ReadExec}
@@ -10,7 +10,6 @@ use Rattle.std.proofs.Common.{[], false, refl, true, ◌++◌, ◌∷◌, ◌≡
 use Rattle.std.specs.Prelude.{replicate, slice_set}
 use Rattle.word_rows.specs.Row.{reads}
 use Rattle.a64_code.specs.Table as a64
-use Rattle.machine_model.specs.declared.outcome.StopKind.TheVariants as kinds
 use Rattle.sve_code.specs.Table as sve
 
 -- WHILELO vl 128 {'size': 1, 'Rm': 4, 'Rn': 3, 'Pd': 1}

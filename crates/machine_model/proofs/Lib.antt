@@ -9,8 +9,9 @@ pub mod ScalarFrames
 pub mod ScalarStates
 pub mod StateShapes
 pub mod Shapes
-pub mod CodeStays
+pub mod MemoryStays
 pub mod Quiet
+pub mod Suppressed
 pub mod ListedWords
 mod CaseShapes
 mod LaneCases

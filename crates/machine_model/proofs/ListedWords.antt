@@ -1,7 +1,7 @@
 -- What is spelled is read, in both tables, and a step does the instruction whose word stands at PC.
-use Rattle.std.proofs.Common.{◌≡◌, ℕ, Bool, true, false, Option, Some, None, refl, ap, ◌∙◌}
+use Rattle.std.proofs.Common.{◌≡◌, Bool, true, false, Option, Some, None, refl, ap, ◌∙◌}
 use Rattle.guest_types.specs.Memory.{fetched}
-use Rattle.word_rows.specs.Row.{Instruction, IsInstruction, are_tables_apart, reads, spells}
+use Rattle.word_rows.specs.Row.{Instruction, are_tables_apart, reads, spells}
 use Rattle.word_rows.proofs.Laws.{not_in_two_tables, reads-spells}
 use Rattle.a64_code.specs.Table as a64
 use Rattle.a64_code.proofs.Valid.{a64_table}
@@ -9,23 +9,17 @@ use Rattle.sve_code.specs.Table as sve
 use Rattle.sve_code.proofs.Valid.{sve_table}
 use Rattle.machine_model.specs.declared.outcome.StopKind.TheVariants.{Undefined}
 use Rattle.machine_model.specs.InstructionTable.{Listed, Scalar, Vector, either_table, listed}
+use Rattle.machine_model.specs.CodeInMemory.{spell, IsListed}
 use Rattle.machine_model.specs.Machine.{State, Step, Stopped}
 use Rattle.machine_model.specs.OneStep.{step, does, do_word, reads_word, cuts_in, word_cuts, suppresses}
 
--- the word of a listed instruction
-abbrev pub spell : Listed → ℕ
-spell (Scalar i) = spells a64.row i
-spell (Vector v) = spells sve.row v
-
-abbrev pub IsListed : Listed → Type 0
-IsListed (Scalar i) = IsInstruction a64.row a64.a64_names i
-IsListed (Vector v) = IsInstruction sve.row sve.sve_names v
-
-apart : are_tables_apart a64.row a64.a64_names sve.row sve.sve_names ≡ true
+-- no word is in both tables
+pub apart : are_tables_apart a64.row a64.a64_names sve.row sve.sve_names ≡ true
 unfolding a64.add_sub_imm a64.add_sub_shifted a64.logical a64.move_wide a64.multiply_add a64.shift_variable a64.bitfield a64.select a64.branch a64.branch_if a64.branch_zero a64.ret_form a64.exception a64.nop_form a64.umov_form a64.byte_imm a64.wide_imm a64.byte_register a64.wide_register sve.true_form sve.false_form sve.while_below sve.test_form sve.pred_logic sve.break_form sve.read_ffr sve.read_ffr_zeroing sve.set_ffr sve.write_ffr sve.count sve.increment_by_count sve.count_true sve.duplicate sve.index sve.select sve.add_sub sve.logic sve.shift_imm sve.merging sve.unary sve.extend_byte sve.extend_half sve.extend_word sve.reduce sve.compare sve.load sve.load_first_fault sve.load_no_fault sve.store
 apart = refl
 
-joined : (a : Option (Instruction a64.Name)) (w : Option (Instruction sve.Name)) (v : Instruction sve.Name) → ((i : Instruction a64.Name) → a ≡ Some i → w ≡ None) → w ≡ Some v → either_table a w ≡ Some (Vector v)
+-- what the second table has for a word that the first has not
+pub joined : (a : Option (Instruction a64.Name)) (w : Option (Instruction sve.Name)) (v : Instruction sve.Name) → ((i : Instruction a64.Name) → a ≡ Some i → w ≡ None) → w ≡ Some v → either_table a w ≡ Some (Vector v)
 joined None w v h e = ap (either_table None) e
 joined (Some i) w v h e = let n = h i refl in absurd cc
 

@@ -1,17 +1,7 @@
--- Runs in pieces, and code that stands in memory.
-use Rattle.std.proofs.Common.{◌≡◌, ℕ, zero, suc, ◌+◌, ◌-◌, ◌*◌, ◌%◌, ◌^◌, ◌<◌, ◌≤◌, true, List, [], ◌∷◌, ◌++◌, length, Option, Some, None, refl, sym, ap, ◌∙◌, subst, arith, add-one}
-use Rattle.std.specs.Prelude.{map, slice_get}
-use Rattle.std.proofs.Math.Nat.{mod-eq_of_lt}
-use Rattle.guest_types.specs.Memory.{Memory, fetched}
-use Rattle.word_rows.specs.Row.{Instruction, IsInstruction, reads, spells}
-use Rattle.word_rows.proofs.Laws.{reads-spells}
-use Rattle.a64_code.specs.Table.{Name, row, a64_names}
-use Rattle.a64_code.proofs.Valid.{a64_table}
-use Rattle.machine_model.specs.declared.outcome.StopKind.TheVariants.{Undefined}
+-- Runs in pieces.
+use Rattle.std.proofs.Common.{◌≡◌, ℕ, zero, suc, ◌+◌, ◌-◌, ◌<◌, ◌≤◌, true, Option, Some, None, refl, ap, ◌∙◌, subst, arith, add-one}
 use Rattle.machine_model.specs.Machine.{State, Step, Went, Ended, Stopped}
-use Rattle.sve_code.specs.Table as sve
-use Rattle.machine_model.specs.InstructionTable.{Scalar, either_table}
-use Rattle.machine_model.specs.OneStep.{step, does, do_word, reads_word}
+use Rattle.machine_model.specs.OneStep.{step}
 use Rattle.machine_model.specs.Run.{End, run, go_on, after_steps, is_over, steps_taken}
 
 -- ---- runs
@@ -105,57 +95,3 @@ count_on (Stopped k p a memory) s n taken rest = omega arith
 pub within : (n taken : ℕ) (s : State) → steps_taken (run n taken s) ≤ taken + n
 within zero taken s = omega arith
 within (suc n) taken s = count_on (step s) s n taken (λ u. within n (taken + 1) u)
-
--- ---- code
-
--- the place of the next word
-abbrev pub word_after : ℕ → ℕ
-word_after pc = (pc + 4) % 2 ^ 64
-
--- these instructions stand one after another from a place on
-abbrev pub HasCode : Memory → ℕ → List (Instruction Name) → Type 0
-HasCode memory pc [] = Unit {0}
-HasCode memory pc (i ∷ is) = (fetched memory pc ≡ Some (spells row i)) × IsInstruction row a64_names i × HasCode memory (word_after pc) is
-
--- the place after so many instructions
-abbrev pub place_after : ℕ → List (Instruction Name) → ℕ
-place_after pc [] = pc
-place_after pc (i ∷ is) = place_after (word_after pc) is
-
--- what is spelled is read
-pub read_word : (i : Instruction Name) → IsInstruction row a64_names i → reads_word (spells row i) ≡ Some (Scalar i)
-unfolding reads_word
-read_word i h = ap (λ o. either_table o (reads sve.row sve.sve_names (spells row i))) (reads-spells row a64_names a64_table i h)
-
--- one step
-pub step_is : (s : State) (i : Instruction Name) (is : List (Instruction Name)) → HasCode s.memory s.pc (i ∷ is) → step s ≡ does (Scalar i) s
-step_is s i is h =
-    ap (λ o. do_word o s) h.0
-    ∙ ap (λ o. elim o as (λ o. Step) [ None ↦ Stopped Undefined s.pc (spells row i) s.memory | Some j ↦ does j s ]) (read_word i h.1)
-
--- code in two parts
-pub code_front : (memory : Memory) (pc : ℕ) (front back : List (Instruction Name)) → HasCode memory pc (front ++ back) → HasCode memory pc front
-code_front memory pc [] back h = tt
-code_front memory pc (i ∷ front) back h = (h.0, h.1, code_front memory (word_after pc) front back h.2)
-
-pub code_back : (memory : Memory) (pc : ℕ) (front back : List (Instruction Name)) → HasCode memory pc (front ++ back) → HasCode memory (place_after pc front) back
-code_back memory pc [] back h = h
-code_back memory pc (i ∷ front) back h = code_back memory (word_after pc) front back h.2
-
--- instructions that all have a row
-abbrev pub AllListed : List (Instruction Name) → Type 0
-AllListed [] = Unit {0}
-AllListed (i ∷ is) = IsInstruction row a64_names i × AllListed is
-
--- the words of instructions
-abbrev pub words_of : List (Instruction Name) → List ℕ
-words_of is = map (spells row) is
-
--- code whose words are fetched at their places
-pub code_from : (memory : Memory) (is : List (Instruction Name)) (pc : ℕ) → AllListed is → pc + 4 * length is < 2 ^ 64 → ((k w : ℕ) → slice_get (words_of is) k ≡ Some w → fetched memory (pc + 4 * k) ≡ Some w) → HasCode memory pc is
-code_from memory [] pc listed fits f = tt
-code_from memory (i ∷ is) pc listed fits f =
-    let e0 : pc + 4 * 0 ≡ pc = omega arith in
-    let e1 : word_after pc ≡ pc + 4 = mod-eq_of_lt (omega arith) in
-    let rest = code_from memory is (pc + 4) listed.1 (omega arith) (λ k w at. let e : pc + 4 * suc k ≡ pc + 4 + 4 * k = omega arith in subst (λ p. fetched memory p ≡ Some w) e (f (suc k) w at)) in
-    (subst (λ p. fetched memory p ≡ Some (spells row i)) e0 (f 0 (spells row i) refl), listed.0, subst (λ p. HasCode memory p is) (sym e1) rest)

@@ -1,5 +1,5 @@
 -- Each A64 instruction leaves alone what `Frames` says.
-use Rattle.std.proofs.Common.{◌≡◌, ℕ, ◌+◌, ◌%◌, ◌^◌, Bool, true, false, not, List, Option, Some, None, Result, Ok, Err, refl, subst}
+use Rattle.std.proofs.Common.{◌≡◌, ℕ, ◌+◌, ◌%◌, ◌^◌, Bool, true, false, not, List, Some, None, Result, Ok, Err, refl, subst}
 use Rattle.std.specs.Prelude.{nat_eq, if◌then◌else◌, ◌&&◌}
 use Rattle.std.proofs.lemmas.List.{get_or-set_other}
 use Rattle.guest_types.specs.declared.memory.AccessFault.{AccessFault}
@@ -7,7 +7,7 @@ use Rattle.guest_types.specs.Memory.{Memory, loaded, stored}
 use Rattle.guest_types.proofs.Stores.{fetched-stored, can_read-stored, can_write-stored}
 use Rattle.a64_code.specs.Table.{add_imm, sub_imm, subs_imm, add, sub, subs, land, orr, eor, orn, movz, movk, movn, madd, msub, lslv, lsrv, asrv, sbfm, ubfm, csel, csinc, b, b_cond, cbz, cbnz, ret, svc, brk, nop, umov, ldrb, ldrsb, strb, ldrh, ldr_w, ldr_x, ldrsh, ldrsw, strh, str_w, str_x, ldrb_register, ldrsb_register, strb_register, ldrh_register, ldr_w_register, ldr_x_register, ldrsh_register, ldrsw_register, strh_register, str_w_register, str_x_register, Name}
 use Rattle.machine_model.specs.declared.outcome.StopKind.TheVariants.{Read, Write, Call}
-use Rattle.machine_model.specs.Arithmetic.{holds, target, difference, flags_of}
+use Rattle.machine_model.specs.Arithmetic.{holds, target, difference}
 use Rattle.machine_model.specs.Machine.{State, Step, Went, Ended, Stopped, x_at, with_x, jump, next}
 use Rattle.machine_model.specs.Effects.{act, arg, jump_if, write, write_or_sp, write_with_flags, load_to, store_from, as_it_is, from_byte, from_half, from_word, at_offset, at_register, at_scaled}
 use Rattle.machine_model.specs.Frames.{Parts, LeavesOther, ScalarLeaves}

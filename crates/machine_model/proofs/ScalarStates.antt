@@ -1,8 +1,8 @@
 -- A step of an A64 instruction that goes on keeps the shape of the state.
-use Rattle.std.proofs.Common.{◌≡◌, ℕ, zero, suc, ◌+◌, ◌-◌, ◌*◌, ◌/◌, ◌%◌, ◌^◌, ◌<◌, ◌≤◌, Bool, true, false, not, List, [], ◌∷◌, length, get_or, Option, Some, None, Result, Ok, Err, refl, sym, ap, ◌∙◌, subst, arith, lit<, inl, inr, ltb, Fits, w8}
+use Rattle.std.proofs.Common.{◌≡◌, ℕ, zero, suc, ◌+◌, ◌-◌, ◌*◌, ◌/◌, ◌%◌, ◌^◌, ◌<◌, ◌≤◌, Bool, true, false, not, List, [], ◌∷◌, length, get_or, Some, Result, Ok, Err, refl, sym, subst, arith, lit<, inl, inr, ltb}
 use Rattle.std.specs.Prelude.{All, nat_eq, nat_lt, nat_le, slice_get, slice_index, slice_index_or, bit_and, bit_or, bit_xor, if◌then◌else◌, ◌&&◌}
-use Rattle.std.specs.Int.{w16, w32, w64, cast_signed, cast_unsigned, int_shr, rotate_right}
-use Rattle.std.proofs.lemmas.Bool.{cases_lt, ltb-true, leb-true, leb-false}
+use Rattle.std.specs.Int.{w64, cast_signed, cast_unsigned, int_shr}
+use Rattle.std.proofs.lemmas.Bool.{cases_lt, ltb-true, leb-false}
 use Rattle.std.proofs.lemmas.List.{get_or_past}
 use Rattle.std.proofs.lemmas.List.Elements.{All-get_or}
 use Rattle.std.proofs.lemmas.Nat.{and_le_l, or_lt, xor_lt, pow_pos, pow-add}
@@ -11,15 +11,15 @@ use Rattle.std.proofs.Math.Pow.{pow_mono}
 use Rattle.guest_types.specs.declared.length.Width.TheVariants.{D}
 use Rattle.guest_types.specs.declared.memory.AccessFault.{AccessFault}
 use Rattle.guest_types.specs.Memory.{Memory, IsMemory, loaded, stored}
-use Rattle.guest_types.specs.Elements.{element, Flags}
+use Rattle.guest_types.specs.Elements.{element}
 use Rattle.guest_types.proofs.Stores.{IsMemory-stored, loaded-below}
 use Rattle.guest_types.proofs.Widths.{element-below}
 use Rattle.word_rows.specs.Field.{Field}
-use Rattle.word_rows.specs.Row.{Instruction, IsInstruction, Fill}
-use Rattle.a64_code.specs.Table.{add_imm, sub_imm, subs_imm, add, sub, subs, land, orr, eor, orn, movz, movk, movn, madd, msub, lslv, lsrv, asrv, sbfm, ubfm, csel, csinc, b, b_cond, cbz, cbnz, ret, svc, brk, nop, umov, ldrb, ldrsb, strb, ldrh, ldr_w, ldr_x, ldrsh, ldrsw, strh, str_w, str_x, ldrb_register, ldrsb_register, strb_register, ldrh_register, ldr_w_register, ldr_x_register, ldrsh_register, ldrsw_register, strh_register, str_w_register, str_x_register, Name, row, a64_names, imm16, hw}
+use Rattle.word_rows.specs.Row.{Fill}
+use Rattle.a64_code.specs.Table.{add_imm, sub_imm, subs_imm, add, sub, subs, land, orr, eor, orn, movz, movk, movn, madd, msub, lslv, lsrv, asrv, sbfm, ubfm, csel, csinc, b, b_cond, cbz, cbnz, ret, svc, brk, nop, umov, ldrb, ldrsb, strb, ldrh, ldr_w, ldr_x, ldrsh, ldrsw, strh, str_w, str_x, ldrb_register, ldrsb_register, strb_register, ldrh_register, ldr_w_register, ldr_x_register, ldrsh_register, ldrsw_register, strh_register, str_w_register, str_x_register, Name, row, imm16, hw}
 use Rattle.machine_model.specs.declared.outcome.StopKind.TheVariants.{Read, Write, Call}
-use Rattle.machine_model.specs.Arithmetic.{sum, difference, inverted, shifted, replaced, field_taken, field_place, unsigned_field, signed_field, holds, target}
-use Rattle.machine_model.specs.Machine.{State, Step, Went, Ended, Stopped, x_at, with_x, x_or_sp, with_x_or_sp, jump, next}
+use Rattle.machine_model.specs.Arithmetic.{sum, difference, inverted, shifted, replaced, unsigned_field, signed_field, holds, target}
+use Rattle.machine_model.specs.Machine.{State, Step, Went, Ended, Stopped, x_at, with_x, with_x_or_sp, jump, next}
 use Rattle.machine_model.specs.Effects.{act, arg, jump_if, write, write_or_sp, write_with_flags, load_to, store_from, as_it_is, from_byte, from_half, from_word, immediate, base, first, second, half_place, product, shift_by, at_offset, at_register, at_scaled}
 use Rattle.machine_model.specs.States.{IsVector, IsState}
 use Rattle.machine_model.proofs.States.{moved, wrapped, same_state, x_kept, sp_kept, jumped, flags_kept, memory_kept, x_put}

@@ -1,6 +1,6 @@
 -- Every state of a run keeps its shape, whatever words are run.
-use Rattle.std.proofs.Common.{◌≡◌, ℕ, zero, suc, ◌/◌, ◌%◌, ◌^◌, ◌<◌, Bool, true, false, List, [], ◌∷◌, Option, Some, None, refl, sym, ◌∙◌, subst, inl, inr}
-use Rattle.std.specs.Prelude.{◌&&◌, ◌==◌, bit_and}
+use Rattle.std.proofs.Common.{◌≡◌, ℕ, zero, suc, ◌/◌, ◌^◌, List, [], ◌∷◌, Option, Some, None, refl, sym, ◌∙◌, subst, inl, inr}
+use Rattle.std.specs.Prelude.{◌==◌, bit_and}
 use Rattle.std.proofs.lemmas.Bool.{cases_Bool, cond-true, cond-false, and_parts}
 use Rattle.std.proofs.lemmas.Nat.{pow_pos}
 use Rattle.std.proofs.Math.Nat.{mod-lt}
@@ -9,7 +9,7 @@ use Rattle.word_rows.specs.Field.{Field}
 use Rattle.word_rows.specs.Row.{Row, Instruction, IsInstruction, Fill, reads, takes, numbers_in, mask_of}
 use Rattle.a64_code.specs.Table as a64
 use Rattle.sve_code.specs.Table as sve
-use Rattle.machine_model.specs.declared.outcome.StopKind.TheVariants.{Fetch, Undefined}
+use Rattle.machine_model.specs.declared.outcome.StopKind.TheVariants.{Undefined}
 use Rattle.machine_model.specs.InstructionTable.{Listed, Scalar, Vector, either_table, listed}
 use Rattle.machine_model.specs.Machine.{State, Step, Went, Ended, Stopped}
 use Rattle.machine_model.specs.OneStep.{step, does, do_word, reads_word}

@@ -16,7 +16,7 @@ use Rattle.guest_types.specs.declared.operation.LaneUnary.{LaneUnary}
 use Rattle.guest_types.specs.declared.operation.ShiftOp.{ShiftOp}
 use Rattle.guest_types.specs.declared.operation.ShiftOp.TheVariants.{Lsl, Lsr, Asr}
 use Rattle.guest_types.specs.declared.operation.PredOp.{PredOp}
-use Rattle.guest_types.specs.Elements.{register, predicate, element_bit, bit, at, active, both, first_true, last_true, true_at, pred_test, Flags}
+use Rattle.guest_types.specs.Elements.{register, predicate, element_bit, bit, at, active, both, first_true, last_true, true_at, pred_test}
 use Rattle.guest_types.specs.Lanes.{lane, shifted, unary, pred_bit, binary_at, binary_of, shift_at, shift_of, merge_at, merge_of, merge_one_at, merge_one_of, select_at, select_of, logic_at, logic_of, broken, brk_at, brk_of}
 use Rattle.guest_types.proofs.Predicates.{element_bit-bytes}
 use Rattle.guest_types.proofs.AtWidths.{width_bytes-lanes, lanes-bound, register-all_lanes, bits_of-ext}

@@ -11,7 +11,6 @@ use Rattle.std.proofs.Common.{[], false, refl, ◌++◌, ◌∷◌, ◌≡◌}
 use Rattle.std.specs.Prelude.{replicate, slice_set}
 use Rattle.word_rows.specs.Row.{reads}
 use Rattle.a64_code.specs.Table as a64
-use Rattle.machine_model.specs.declared.outcome.StopKind.TheVariants as kinds
 use Rattle.sve_code.specs.Table as sve
 
 -- run, stops 3 and 14

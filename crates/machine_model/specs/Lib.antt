@@ -3,6 +3,7 @@ pub mod Arithmetic
 pub mod Effects
 pub mod VectorEffects
 pub mod InstructionTable
+pub mod CodeInMemory
 pub mod OneStep
 pub mod States
 pub mod Frames

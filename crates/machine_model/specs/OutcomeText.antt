@@ -1,6 +1,6 @@
 -- The text of a run's outcome. Each line ends with a line feed; addresses and results have sixteen lower-case hexadecimal
 -- digits, and counts are decimal.
-use Rattle.std.specs.Prelude.{ℕ, ◌+◌, List, [], ◌∷◌, ◌++◌, codes, decimal}
+use Rattle.std.specs.Prelude.{ℕ, List, [], ◌∷◌, ◌++◌, codes, decimal}
 use Rattle.number_text.specs.Hexadecimal.{hex_text}
 use Rattle.machine_model.specs.declared.outcome.StopKind.{StopKind}
 use Rattle.machine_model.specs.declared.outcome.StopKind.TheVariants.{Read, Write, Fetch, Undefined, Call, Break}

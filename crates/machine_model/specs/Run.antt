@@ -58,6 +58,12 @@ steps_taken (End memory result steps) = steps
 steps_taken (Stop kind pc at memory steps) = steps
 steps_taken (Spent pc memory steps) = steps
 
+-- the memory that a run leaves
+abbrev pub memory_left : Outcome → Memory
+memory_left (End memory result steps) = memory
+memory_left (Stop kind pc at memory steps) = memory
+memory_left (Spent pc memory steps) = memory
+
 -- the machine's run of a file, where it can be loaded
 abbrev pub machine_run : List ℕ → List ℕ → Memory → ℕ → ℕ → Option Outcome
 machine_run file args pages vl steps =

@@ -10,7 +10,7 @@ use Rattle.machine_model.specs.InstructionTable.{Listed}
 use Rattle.machine_model.specs.Machine.{State, Step, Stopped, memory_after}
 use Rattle.machine_model.specs.OneStep.{step, does, do_word, reads_word}
 use Rattle.machine_model.specs.Answers.{IsAnswer}
-use Rattle.machine_model.proofs.CodeStays.{step_code}
+use Rattle.machine_model.proofs.MemoryStays.{step_code}
 use Rattle.sve_machine.specs.declared.kept.Entry.{Entry}
 use Rattle.sve_machine.specs.declared.kept.Kept.{Kept}
 use Rattle.sve_machine.specs.declared.kept.Kept.TheVariants.{Nowhere}

@@ -68,6 +68,39 @@ IsOnActive (FirstFaultLoad a b c d e) = ⊥
 IsOnActive (NonFaultLoad a b c d) = ⊥
 IsOnActive (ContiguousStore a b c d e) = ⊥
 
+-- it extends a part of each active element
+abbrev pub IsExtension : Sve → Type 0
+IsExtension (DupScalar a b c) = ⊥
+IsExtension (IndexScalarImmediate a b c d) = ⊥
+IsExtension (Sel a b c d e) = ⊥
+IsExtension (AddSub a b c d e) = ⊥
+IsExtension (Bitwise a b c d) = ⊥
+IsExtension (ShiftImmediate a b c d) = ⊥
+IsExtension (BinaryPredicated a b c d e) = ⊥
+IsExtension (UnaryPredicated a b c d e) = ⊥
+IsExtension (ExtendByte a b c d e) = Unit {0}
+IsExtension (ExtendHalfword a b c d e) = Unit {0}
+IsExtension (ExtendWord a b c d) = Unit {0}
+IsExtension (Reduction a b c d e) = ⊥
+IsExtension (Ptrue a b) = ⊥
+IsExtension (Pfalse a) = ⊥
+IsExtension (Whilelo a b c d) = ⊥
+IsExtension (Ptest a b) = ⊥
+IsExtension (PredicateLogical a b c d e) = ⊥
+IsExtension (Break a b c d) = ⊥
+IsExtension (Rdffr a) = ⊥
+IsExtension (RdffrPredicated a b) = ⊥
+IsExtension Setffr = ⊥
+IsExtension (Wrffr a) = ⊥
+IsExtension (ElementCount a b) = ⊥
+IsExtension (Incp a b c) = ⊥
+IsExtension (Cntp a b c d) = ⊥
+IsExtension (CompareVectors a b c d e f) = ⊥
+IsExtension (ContiguousLoad a b c d e) = ⊥
+IsExtension (FirstFaultLoad a b c d e) = ⊥
+IsExtension (NonFaultLoad a b c d) = ⊥
+IsExtension (ContiguousStore a b c d e) = ⊥
+
 -- it is no load and no store
 abbrev pub IsOnRegisters : Sve → Type 0
 IsOnRegisters (DupScalar a b c) = Unit {0}

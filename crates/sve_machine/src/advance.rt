@@ -40,7 +40,7 @@ fn execute_other(
 
 // What is done by what is kept: whether the step goes on, or else its answer.
 #[inline(always)]
-fn execute(
+fn execute<const CALLER: usize>(
     core: &mut Core,
     pages: &mut Pages,
     vectors: &mut Vectors,
@@ -52,15 +52,15 @@ fn execute(
         (state_of core.new pages.new vectors.new) }
 {
     match kept {
-        Kept::Ready(prepared) => prepared_goes(core, pages, prepared, answer),
+        Kept::Ready(prepared) => prepared_goes::<CALLER>(core, pages, prepared, answer),
         _ => execute_other(core, pages, vectors, kept, answer),
     }
 }
 
 /// One step: whether it goes on, or else its answer. An answer of many bytes that is handed back would be copied
-/// at each step.
+/// at each step. `CALLER` tells its callers apart (`prepared_goes`).
 #[inline(always)]
-pub fn advance(
+pub fn advance<const CALLER: usize>(
     core: &mut Core,
     pages: &mut Pages,
     vectors: &mut Vectors,
@@ -77,8 +77,13 @@ pub fn advance(
         return false;
     }
     let entry = &kept[(pc / 4 % 1024) as usize];
-    execute(core, pages, vectors, &entry.kept, answer)
+    execute::<CALLER>(core, pages, vectors, &entry.kept, answer)
 }
+
+/// The loop of `go`, as a caller of steps.
+const WITHIN: usize = 0;
+/// A loop outside, which takes steps one by one.
+pub const OUTSIDE: usize = 1;
 
 /// At most so many steps: the last answer, and how many were done.
 #[inline(never)]
@@ -97,7 +102,7 @@ pub fn go(
 {
     let mut answer = Step::Went;
     for done in 0..steps {
-        if advance(core, pages, vectors, kept, &mut answer) {
+        if advance::<WITHIN>(core, pages, vectors, kept, &mut answer) {
             continue;
         }
         match answer {

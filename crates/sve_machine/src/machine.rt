@@ -2,7 +2,7 @@
 
 ghost use Rattle.std.specs.Prelude.{◌≡◌, ◌+◌, ◌-◌, ◌^◌, ◌<◌, ◌≤◌, None, IfSome, IsTrue, true, length};
 
-use crate::advance::{advance, go};
+use crate::advance::{OUTSIDE, advance, go};
 use crate::kept::Entry;
 use crate::look_up::no_words;
 use crate::vectors::Vectors;
@@ -126,7 +126,7 @@ impl Machine {
         if let Some(ending) = self.over {
             return answer_by(ending);
         }
-        let went = advance(
+        let went = advance::<OUTSIDE>(
             &mut self.core,
             &mut self.pages,
             &mut self.vectors,

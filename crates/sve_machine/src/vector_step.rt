@@ -1,13 +1,15 @@
 //! SVE instructions of the machine.
 
-ghost use Rattle.std.specs.Prelude.{◌≡◌};
+ghost use Rattle.std.specs.Prelude.{◌≡◌, true};
+ghost use Rattle.guest_types.specs.Memory.{Memory};
 ghost use Rattle.sve_code.specs.View.{seen};
 ghost use Rattle.a64_machine.specs.Cores.{state_of, said};
 ghost use Rattle.a64_machine.specs.declared.core_state.Core.{Core as CoreOf};
 ghost use Rattle.machine_model.specs.InstructionTable.{Vector};
+ghost use Rattle.machine_model.specs.Machine.{Went};
 ghost use Rattle.machine_model.specs.OneStep.{does};
 ghost use Rattle.machine_model.specs.Answers.{IsAnswer};
-ghost use Rattle.sve_machine.specs.Kinds.{IsOnActive, IsOnLanes, IsOnRegisters};
+ghost use Rattle.sve_machine.specs.Kinds.{IsExtension, IsOnActive, IsOnLanes, IsOnRegisters};
 ghost use Rattle.sve_machine.specs.Rows.{RowLeaves};
 
 use crate::memory::{contiguous_load, contiguous_store, first_fault_load, non_fault_load};
@@ -56,12 +58,20 @@ pub fn vector_goes(
             offset,
             sizes,
         } => contiguous_store(core, pages, vectors, zt, rn, pg, offset, sizes, answer),
-        _ => {
-            on_registers(core, vectors, word);
-            core.go_on();
-            true
-        }
+        _ => in_registers(core, vectors, word),
     }
+}
+
+// An instruction that is no load and no store, and on to the next word.
+#[inline(always)]
+fn in_registers(core: &mut Core, vectors: &mut Vectors, word: Sve) -> bool
+    ensures goes_on { result ≡ true }
+    ensures went { (memory : Memory) → IsOnRegisters word → does (Vector (seen word)) (state_of core.old memory vectors.old)
+        ≡ Went (state_of core.new memory vectors.new) }
+{
+    on_registers(core, vectors, word);
+    core.go_on();
+    true
 }
 
 // An instruction that is no load and no store. PC is raised after it.
@@ -153,6 +163,23 @@ fn on_active(vectors: &mut Vectors, word: Sve)
             pg,
             size,
         } => lanes::unary(vectors, op, zd, zn, pg, size),
+        Sve::Reduction {
+            op,
+            zd,
+            zn,
+            pg,
+            size,
+        } => lanes::reduction(vectors, op, zd, zn, pg, size),
+        _ => extend(vectors, word),
+    }
+}
+
+// An instruction that extends a part of each active element.
+#[inline(always)]
+fn extend(vectors: &mut Vectors, word: Sve)
+    ensures { (core : CoreOf) → IsExtension word → RowLeaves word core vectors.old core vectors.new }
+{
+    match word {
         Sve::ExtendByte {
             op,
             zd,
@@ -168,13 +195,6 @@ fn on_active(vectors: &mut Vectors, word: Sve)
             size,
         } => lanes::extend_halfword(vectors, op, zd, zn, pg, size),
         Sve::ExtendWord { op, zd, zn, pg } => lanes::extend_word(vectors, op, zd, zn, pg),
-        Sve::Reduction {
-            op,
-            zd,
-            zn,
-            pg,
-            size,
-        } => lanes::reduction(vectors, op, zd, zn, pg, size),
         _ => {}
     }
 }

@@ -13,7 +13,7 @@ use Rattle.machine_model.specs.Answers.{outcome_of}
 use Rattle.machine_model.specs.Debugged.{View}
 use Rattle.machine_model.specs.Machine.{State}
 use Rattle.machine_model.specs.OutcomeText.{outcome_text}
-use Rattle.machine_model.specs.Run.{Outcome, run, start}
+use Rattle.machine_model.specs.Run.{Outcome, run, start, memory_left}
 use Rattle.outcome_text.specs.View.{text_of as text_of_outcome}
 use Rattle.elf_image.specs.Loaded.{Refuses}
 use Rattle.map_text.specs.declared.fault.MapFault.{MapFault}
@@ -30,7 +30,7 @@ use Rattle.sve_top.specs.Listing.{lines_from, listing_of, word_count}
 use Rattle.sve_top.specs.Answer.{Expected}
 use Rattle.refusals.specs.Statuses.{of_elf, of_map}
 use Rattle.sve_top.specs.Ready.{BeginsProgram}
-use Rattle.sve_top.specs.Commands.{and_then, loaded, mapped, beside, ended, with_program, list_program, ran, run_program, debugged, debug_program, success_of, dump_of, memory_left, done_by, done_of, RefusesProgram}
+use Rattle.sve_top.specs.Commands.{and_then, loaded, mapped, beside, ended, with_program, list_program, ran, run_program, debugged, debug_program, success_of, dump_of, done_by, done_of, RefusesProgram}
 use Rattle.machine_model.specs.Load.{Image, Segment, load, load_segments, segments_from, le_at, image_of, is_loaded, first_bad, any_segment, is_dynamic, has_ident, pages_from, pages_of, page_count, first_page, put_in_order, in_order, clash}
 
 length-pages_from : (bytes : List ℕ) (s : Segment) (n count : ℕ) → length (pages_from bytes s n count) ≡ count

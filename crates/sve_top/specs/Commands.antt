@@ -9,7 +9,7 @@ use Rattle.machine_model.specs.declared.outcome.Outcome.TheVariants as outcomes
 use Rattle.machine_model.specs.DumpText.{dump_text}
 use Rattle.machine_model.specs.Load.{Image, load}
 use Rattle.machine_model.specs.OutcomeText.{outcome_text}
-use Rattle.machine_model.specs.Run.{Outcome, End, Stop, Spent, start, run}
+use Rattle.machine_model.specs.Run.{Outcome, End, Stop, Spent, start, run, memory_left}
 use Rattle.kernel_meaning.specs.ScalarRun.{Run, scalar_run, first_leave}
 use Rattle.kernel_meaning.specs.ScalarRun as meaning
 use Rattle.kernel_meaning.specs.declared.outcome.ScalarOutcome.{ScalarOutcome}
@@ -131,11 +131,6 @@ abbrev pub done_by : Outcome → Done
 done_by (End memory result steps) = done.Ended
 done_by (Stop kind pc at memory steps) = done.Stopped
 done_by (Spent pc memory steps) = done.Spent
-
-abbrev pub memory_left : Outcome → Memory
-memory_left (End memory result steps) = memory
-memory_left (Stop kind pc at memory steps) = memory
-memory_left (Spent pc memory steps) = memory
 
 -- the dump of the bytes that are asked for
 abbrev pub dump_of : Option Extent → Memory → List ℕ
