@@ -381,16 +381,10 @@ fn list_if_else<'a>(
     ensures len { array_vec_len entries.new ≡ array_vec_len entries.old + action_size (loop_index (program kernel.now))
         (Choose (term_of cond.now) (block_of block.now) (Else (block_of other.now))) }
 {
-    let following = list_then(kernel, entries, from, cond, block);
-    let end = following + (1 + statements_size(kernel, other));
-    put(
-        kernel,
-        entries,
-        following,
-        Content::Plain(ItemKind::Else),
-        end,
-    );
-    list_block(kernel, entries, following + 1, other);
+    let place = list_then(kernel, entries, from, cond, block);
+    let end = place + (1 + statements_size(kernel, other));
+    put(kernel, entries, place, Content::Plain(ItemKind::Else), end);
+    list_block(kernel, entries, place + 1, other);
     put(kernel, entries, end, Content::Plain(ItemKind::End), end);
 }
 
