@@ -1,13 +1,13 @@
 //! Resolves kernels.
 
-ghost use Rattle.std.specs.Prelude.{◌≡◌, IfOk, length, option_map};
+ghost use Rattle.std.specs.Prelude.{◌≡◌, IfOk, option_map};
 ghost use Rattle.kernel_tree.specs.declared.fault.Binding.TheVariants as binding;
 ghost use Rattle.kernel_tree.specs.Plain.{name_of, parameters_of, accumulators_of, turns_of, returned_of, program_of};
 ghost use Rattle.kernel_tree.specs.Items as items;
 ghost use Rattle.kernel_tree.specs.Typing as typing;
 ghost use Rattle.kernel_meaning.specs.Trees.{tree_of, tasks_of};
 ghost use Rattle.kernel_meaning.specs.Plans as plans;
-ghost use Rattle.kernel_scope.specs.Scopes.{scope_of, text_of};
+ghost use Rattle.kernel_scope.specs.Scopes.{scope_of};
 
 use crate::names::slot;
 use crate::node::Node;
@@ -15,27 +15,17 @@ use crate::plan::{Plan, ResolvedLoop};
 use crate::resolve::resolve;
 use crate::statements::resolve_block;
 use crate::step::Step;
-use kernel_scope::{Scope, declare, empty, visible_count};
+use kernel_scope::{Scope, declare, empty, loop_index, visible_count};
 use kernel_tree::fault::Binding;
-use kernel_tree::{Answer, Kernel, Loop, Param, Shape, Var};
+use kernel_tree::{Answer, Kernel, Loop, Param, Var};
 use std::alloc::{AllocError, Global};
-
-// What a parameter stands for.
-fn binding(shape: Shape) -> Binding
-    ensures { result ≡ typing.binding_of_shape shape }
-{
-    match shape {
-        Shape::Scalar(ty) => Binding::Scalar(ty),
-        Shape::Array(ty) => Binding::Array(ty),
-    }
-}
 
 fn declare_params<'a>(scope: &mut Scope<'a>, params: &'a [Param]) -> Result<(), AllocError>
     ensures { IfOk result (λ _. scope_of scope.new
         ≡ typing.after_params (scope_of scope.old) (parameters_of params.now)) }
 {
     for param in params {
-        declare(scope, &param.name, binding(param.shape))?;
+        declare(scope, &param.name, param.shape.binding())?;
     }
     Ok(())
 }
@@ -112,21 +102,11 @@ fn resolve_loop<'a>(
     Ok((ResolvedLoop { bound, index, body }, answer))
 }
 
-// The name of the loop variable.
-fn index_of(turns: &Option<Loop>) -> Option<&str>
-    ensures { option_map text_of result ≡ option_map items.index_of (option_map turns_of turns.now) }
-{
-    match turns {
-        None => None,
-        Some(turns) => Some(turns.index.text()),
-    }
-}
-
 /// A kernel with its names and types resolved.
 pub fn resolve_kernel(alloc: Global, kernel: &Kernel) -> Result<Plan, AllocError>
     ensures { IfOk result (λ p. plans.planned_of p ≡ plans.planned (program_of kernel.now)) }
 {
-    let mut scope = empty(alloc, index_of(&kernel.body));
+    let mut scope = empty(alloc, loop_index(&kernel.body));
     declare_params(&mut scope, &kernel.params)?;
     let start = resolve_vars(alloc, &mut scope, &kernel.vars)?;
     match &kernel.body {

@@ -18,7 +18,7 @@ use crate::step::Step;
 use kernel_scope::{
     Scope, accumulator_type, define, first, leave, lookup, own_type, visible_count,
 };
-use kernel_tree::{BinaryOp, Expr, Name, Stmt, Ty, UpdateOp};
+use kernel_tree::{BinaryOp, Expr, Name, Part, Stmt, Ty, UpdateOp, parts};
 use std::alloc::{AllocError, Global};
 
 // The slot of what a `let` defines.
@@ -121,12 +121,12 @@ fn resolve_stmt<'a>(
     ensures scope { IfOk result (λ _. scope_of scope.new
         ≡ typing.after_action (scope_of scope.old) (action_of stmt.now)) }
 {
-    match stmt {
-        Stmt::Let { name, ty, value } => {
-            let step = resolve_let(alloc, scope, name, *ty, value)?;
+    match parts(stmt) {
+        Part::Let { name, ty, value } => {
+            let step = resolve_let(alloc, scope, name, ty, value)?;
             Ok(step)
         }
-        Stmt::Store {
+        Part::Store {
             array,
             index,
             value,
@@ -134,25 +134,19 @@ fn resolve_stmt<'a>(
             let step = resolve_store(alloc, scope, array, index, value)?;
             Ok(step)
         }
-        Stmt::Update { name, op, value } => {
-            let step = resolve_update(alloc, scope, name, *op, value)?;
+        Part::Update { name, op, value } => {
+            let step = resolve_update(alloc, scope, name, op, value)?;
             Ok(step)
         }
-        Stmt::If {
-            cond,
-            then_part,
-            else_part,
-        } => match else_part {
-            None => {
-                let step = resolve_if(alloc, scope, cond, then_part)?;
-                Ok(step)
-            }
-            Some(other) => {
-                let step = resolve_if_else(alloc, scope, cond, then_part, other)?;
-                Ok(step)
-            }
-        },
-        Stmt::Break { cond } => {
+        Part::If { cond, block } => {
+            let step = resolve_if(alloc, scope, cond, block)?;
+            Ok(step)
+        }
+        Part::IfElse { cond, block, other } => {
+            let step = resolve_if_else(alloc, scope, cond, block, other)?;
+            Ok(step)
+        }
+        Part::Break { cond } => {
             let step = resolve_break(alloc, scope, cond)?;
             Ok(step)
         }

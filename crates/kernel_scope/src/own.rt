@@ -1,7 +1,7 @@
 //! The type that an expression has of its own, and whether it is the loop variable or a literal.
 
 ghost use Rattle.std.specs.Prelude.{◌≡◌, option_map};
-ghost use Rattle.kernel_tree.specs.Plain.{name_of, term_of};
+ghost use Rattle.kernel_tree.specs.Plain.{name_of, term_of, turns_of};
 ghost use Rattle.kernel_tree.specs.Items as items;
 ghost use Rattle.kernel_tree.specs.Typing as typing;
 ghost use Rattle.kernel_scope.specs.Scopes.{scope_of, text_of};
@@ -9,7 +9,7 @@ ghost use Rattle.kernel_scope.specs.Scopes.{scope_of, text_of};
 use crate::names::lookup;
 use crate::scope::Scope;
 use kernel_tree::fault::Binding;
-use kernel_tree::{Expr, Name, Ty};
+use kernel_tree::{Expr, Loop, Name, Ty};
 
 /// The type of a name as a value; an array has none.
 pub fn value_type(binding: Binding) -> Option<Ty>
@@ -66,6 +66,16 @@ pub fn own_type(scope: &Scope, expr: &Expr) -> Option<Ty>
         Expr::And { .. } => None,
         Expr::Or { .. } => None,
         Expr::Not { .. } => None,
+    }
+}
+
+/// The name of the loop variable.
+pub fn loop_index(turns: &Option<Loop>) -> Option<&str>
+    ensures { option_map text_of result ≡ option_map items.index_of (option_map turns_of turns.now) }
+{
+    match turns {
+        None => None,
+        Some(turns) => Some(turns.index.text()),
     }
 }
 

@@ -1,4 +1,4 @@
--- Kernels whose size, faults, types and text are known.
+-- Kernels whose size, faults, types, text and fronts are known.
 use Rattle.std.proofs.Common.{◌≡◌, ℕ, List, [], ◌∷◌, Some, None, Ok, Err, refl}
 use Rattle.std.specs.Prelude.{codes, pos}
 use Rattle.kernel_tree.specs.declared.ops.Ty.TheVariants as ty
@@ -7,9 +7,13 @@ use Rattle.kernel_tree.specs.declared.ops.CompareOp.TheVariants as compare
 use Rattle.kernel_tree.specs.declared.ops.UpdateOp.TheVariants as update
 use Rattle.kernel_tree.specs.declared.ast.Shape.TheVariants as shape
 use Rattle.kernel_tree.specs.declared.fault.Fault.TheVariants as fault
-use Rattle.kernel_tree.specs.Word.{IsNumber}
+use Rattle.kernel_tree.specs.declared.mark.Joint.TheVariants as joint
+use Rattle.kernel_tree.specs.declared.mark.Mark.TheVariants as mark
+use Rattle.kernel_tree.specs.Word.{IsName, IsNumber, IsType, IsMark}
 use Rattle.kernel_tree.specs.Plain.{Term, Literal, Variable, Element, Operation, Conversion, Comparison, Define, Put, Update, Leave, Done, Then, Program}
 use Rattle.kernel_tree.specs.Tokens.{tokens_of, scan}
+use Rattle.kernel_tree.specs.Grammar.{number, name, up, operation, some, last, scalar, no_var, no_loop}
+use Rattle.kernel_tree.specs.Front.{nothing, above, in_operation, in_param, next_param, no_param, in_params, in_function, in_answer, end_function, Viable}
 use Rattle.kernel_tree.specs.Items.{size_of}
 use Rattle.kernel_tree.specs.Limits.{depth_of}
 use Rattle.kernel_tree.specs.Typing.{check_fault, types_of, Fails}
@@ -187,3 +191,26 @@ good-number = refl
 bad-byte : tokens_of (codes "a / b") ≡ Err 2
 unfolding scan
 bad-byte = refl
+
+-- ---- fronts
+
+-- kernel f(x: u64,
+viable-parameters : Viable (IsMark mark.Kernel ∷ IsName (codes "f") ∷ IsMark mark.OpenParen ∷ IsName x ∷ IsMark mark.Colon ∷ IsType ty.U64 ∷ IsMark mark.Comma ∷ [])
+viable-parameters = in_params (next_param scalar (in_param no_param))
+
+-- kernel f(x: u64) -> u64 { return x +
+viable-sum : Viable (IsMark mark.Kernel ∷ IsName (codes "f") ∷ IsMark mark.OpenParen ∷ IsName x ∷ IsMark mark.Colon ∷ IsType ty.U64 ∷ IsMark mark.CloseParen ∷ IsMark mark.Arrow ∷ IsType ty.U64 ∷ IsMark mark.OpenBrace ∷ IsMark mark.Return ∷ IsName x ∷ IsMark mark.Plus ∷ [])
+viable-sum = in_function (some (last scalar)) (in_answer no_var no_loop (above (above (above (above (above (above (above (in_operation {j = joint.Dual binary.Add} (up (up (up name))) refl refl nothing)))))))))
+
+-- a whole kernel
+viable-whole : Viable (canonical_words next)
+unfolding opened closed number_opened number_closed
+viable-whole = in_function (some (last scalar)) (end_function no_var no_loop (up (up (up (up (up (up (up (operation {j = joint.Dual binary.Add} (up (up (up name))) refl refl (up (up number)))))))))))
+
+-- kernel 5
+number-no-name : Viable (IsMark mark.Kernel ∷ IsNumber 5 ∷ []) → ⊥
+number-no-name h = elim h [ ]
+
+-- kernel f {
+brace-no-parenthesis : Viable (IsMark mark.Kernel ∷ IsName (codes "f") ∷ IsMark mark.OpenBrace ∷ []) → ⊥
+brace-no-parenthesis h = elim h [ ]

@@ -10,3 +10,4 @@ pub mod Typing
 pub mod Printing
 pub mod Text
 pub mod Checked
+pub mod Parts

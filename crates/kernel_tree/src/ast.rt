@@ -1,5 +1,6 @@
 //! The tree of a kernel.
 
+use crate::fault::Binding;
 use crate::name::Name;
 use crate::ops::{BinaryOp, CompareOp, Ty, UnaryOp, UpdateOp};
 
@@ -93,6 +94,21 @@ pub enum Shape {
     Scalar(Ty),
     /// An array with elements of this type.
     Array(Ty),
+}
+
+impl Shape {
+    ghost use Rattle.std.specs.Prelude.{◌≡◌};
+    ghost use Rattle.kernel_tree.specs.Typing.{binding_of_shape};
+
+    /// What the name of a parameter of this shape stands for.
+    pub fn binding(self) -> Binding
+        ensures { result ≡ binding_of_shape self }
+    {
+        match self {
+            Shape::Scalar(ty) => Binding::Scalar(ty),
+            Shape::Array(ty) => Binding::Array(ty),
+        }
+    }
 }
 
 #[derive(Drop)]

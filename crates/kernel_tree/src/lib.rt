@@ -11,15 +11,19 @@ pub mod make;
 pub mod mark;
 pub mod name;
 pub mod ops;
+mod part;
 mod place;
 mod print;
+mod take_apart;
 pub mod token;
 
 pub use ast::{Answer, Expr, Kernel, Loop, Param, Shape, Stmt, Var};
 pub use checked::Checked;
 pub use name::Name;
 pub use ops::{BinaryOp, CompareOp, Ty, UnaryOp, UpdateOp};
+pub use part::Part;
 pub use print::print_kernel;
+pub use take_apart::parts;
 
 #[cfg(test)]
 mod tests;

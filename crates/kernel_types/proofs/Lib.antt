@@ -1,6 +1,5 @@
 pub mod Least
 pub mod Growth
-pub mod Choices
 pub mod Steps
 pub mod KernelWalks
 pub mod Bounds

@@ -7,24 +7,16 @@ ghost use Rattle.kernel_tree.specs.Typing as typing;
 ghost use Rattle.kernel_scope.specs.Scopes.{scope_of};
 ghost use Rattle.kernel_types.specs.Parts.{in_body, after_param, after_var, var_faults, var_types};
 
-use crate::measure::loop_index;
 use crate::notes::{Notes, Role};
 use crate::rules::{bound_fault, sooner, twice};
 use crate::statements::walk_block;
 use crate::terms::{end, walk_expr};
-use kernel_scope::{Scope, close, declare, declared_count, empty, is_taken, lookup, visible_count};
+use kernel_scope::{
+    Scope, close, declare, declared_count, empty, is_taken, lookup, loop_index, visible_count,
+};
 use kernel_tree::fault::Binding;
-use kernel_tree::{Answer, Kernel, Loop, Param, Shape, Stmt, Var};
+use kernel_tree::{Answer, Kernel, Loop, Param, Stmt, Var};
 use std::alloc::{AllocError, Global};
-
-fn shape_binding(shape: Shape) -> Binding
-    ensures { result ≡ typing.binding_of_shape shape }
-{
-    match shape {
-        Shape::Scalar(ty) => Binding::Scalar(ty),
-        Shape::Array(ty) => Binding::Array(ty),
-    }
-}
 
 #[tactic(auto, using(crate::proofs::Least::sooner_rules))]
 fn walk_param<'a>(
@@ -42,7 +34,7 @@ fn walk_param<'a>(
 {
     let found = twice(notes.next, is_taken(scope, &param.name));
     end(notes, found, None)?;
-    declare(scope, &param.name, shape_binding(param.shape))?;
+    declare(scope, &param.name, param.shape.binding())?;
     Ok(())
 }
 

@@ -7,7 +7,8 @@ ghost use Rattle.kernel_tree.specs.Limits as limits;
 ghost use Rattle.kernel_scope.specs.Scopes.{text_of};
 
 use crate::distance::stream_distance;
-use kernel_tree::{Answer, Expr, Kernel, Loop, Stmt, Var};
+use kernel_scope::loop_index;
+use kernel_tree::{Answer, Expr, Kernel, Loop, Part, Stmt, Var, parts};
 
 // How many items an expression makes.
 fn term_size(index: Option<&str>, expr: &Expr) -> u32
@@ -40,19 +41,13 @@ fn stmt_size(index: Option<&str>, stmt: &Stmt) -> u32
     requires { items.action_size (option_map text_of index) (action_of stmt.now) < 2 ^ 32 }
     ensures { result ≡ items.action_size (option_map text_of index.entry) (action_of stmt.now) }
 {
-    match stmt {
-        Stmt::Let { value, .. } => term_size(index, value) + 1,
-        Stmt::Store { value, .. } => term_size(index, value) + 1,
-        Stmt::Update { value, .. } => term_size(index, value) + 1,
-        Stmt::If {
-            cond,
-            then_part,
-            else_part,
-        } => match else_part {
-            None => if_size(index, cond, then_part),
-            Some(other) => if_else_size(index, cond, then_part, other),
-        },
-        Stmt::Break { cond } => term_size(index, cond) + 1,
+    match parts(stmt) {
+        Part::Let { value, .. } => term_size(index, value) + 1,
+        Part::Store { value, .. } => term_size(index, value) + 1,
+        Part::Update { value, .. } => term_size(index, value) + 1,
+        Part::If { cond, block } => if_size(index, cond, block),
+        Part::IfElse { cond, block, other } => if_else_size(index, cond, block, other),
+        Part::Break { cond } => term_size(index, cond) + 1,
     }
 }
 
@@ -121,16 +116,6 @@ fn answer_size(index: Option<&str>, answer: &Option<Answer>) -> u32
     }
 }
 
-/// The name of the loop variable.
-pub fn loop_index(turns: &Option<Loop>) -> Option<&str>
-    ensures { option_map text_of result ≡ option_map items.index_of (option_map turns_of turns.now) }
-{
-    match turns {
-        None => None,
-        Some(turns) => Some(turns.index.text()),
-    }
-}
-
 /// How many items a kernel makes.
 pub fn kernel_size(kernel: &Kernel) -> u32
     requires { items.size_of (program_of kernel.now) < 2 ^ 32 }
@@ -168,19 +153,13 @@ fn stmt_depth(stmt: &Stmt) -> u32
     requires { limits.action_depth (action_of stmt.now) < 2 ^ 32 }
     ensures { result ≡ limits.action_depth (action_of stmt.now) }
 {
-    match stmt {
-        Stmt::Let { value, .. } => term_depth(value) + 1,
-        Stmt::Store { index, value, .. } => term_depth(index).max(term_depth(value)) + 1,
-        Stmt::Update { value, .. } => term_depth(value) + 1,
-        Stmt::If {
-            cond,
-            then_part,
-            else_part,
-        } => match else_part {
-            None => if_depth(cond, then_part),
-            Some(other) => if_else_depth(cond, then_part, other),
-        },
-        Stmt::Break { cond } => term_depth(cond) + 1,
+    match parts(stmt) {
+        Part::Let { value, .. } => term_depth(value) + 1,
+        Part::Store { index, value, .. } => term_depth(index).max(term_depth(value)) + 1,
+        Part::Update { value, .. } => term_depth(value) + 1,
+        Part::If { cond, block } => if_depth(cond, block),
+        Part::IfElse { cond, block, other } => if_else_depth(cond, block, other),
+        Part::Break { cond } => term_depth(cond) + 1,
     }
 }
 

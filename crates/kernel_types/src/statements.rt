@@ -15,7 +15,7 @@ use kernel_scope::{
     Scope, accumulator_type, define, element_type, first, is_taken, leave, lookup, own_type,
     visible_count,
 };
-use kernel_tree::{Expr, Name, Stmt, Ty};
+use kernel_tree::{Expr, Name, Part, Stmt, Ty, parts};
 use std::alloc::AllocError;
 
 #[tactic(auto, using(crate::proofs::Least::sooner_rules))]
@@ -146,12 +146,12 @@ fn walk_stmt<'a>(notes: &mut Notes, scope: &mut Scope<'a>, stmt: &'a Stmt) -> Re
     ensures types { IfOk result (λ _. notes.new.types.items
         ≡ notes.old.types.items ++ typing.action_types (scope_of scope.old) (action_of stmt.now)) }
 {
-    match stmt {
-        Stmt::Let { name, ty, value } => {
-            walk_let(notes, scope, name, *ty, value)?;
+    match parts(stmt) {
+        Part::Let { name, ty, value } => {
+            walk_let(notes, scope, name, ty, value)?;
             Ok(())
         }
-        Stmt::Store {
+        Part::Store {
             array,
             index,
             value,
@@ -159,25 +159,19 @@ fn walk_stmt<'a>(notes: &mut Notes, scope: &mut Scope<'a>, stmt: &'a Stmt) -> Re
             walk_store(notes, scope, array, index, value)?;
             Ok(())
         }
-        Stmt::Update { name, value, .. } => {
+        Part::Update { name, value, .. } => {
             walk_update(notes, scope, name, value)?;
             Ok(())
         }
-        Stmt::If {
-            cond,
-            then_part,
-            else_part,
-        } => match else_part {
-            None => {
-                walk_if(notes, scope, cond, then_part)?;
-                Ok(())
-            }
-            Some(other) => {
-                walk_if_else(notes, scope, cond, then_part, other)?;
-                Ok(())
-            }
-        },
-        Stmt::Break { cond } => {
+        Part::If { cond, block } => {
+            walk_if(notes, scope, cond, block)?;
+            Ok(())
+        }
+        Part::IfElse { cond, block, other } => {
+            walk_if_else(notes, scope, cond, block, other)?;
+            Ok(())
+        }
+        Part::Break { cond } => {
             walk_break(notes, scope, cond)?;
             Ok(())
         }

@@ -1,10 +1,10 @@
 //! Emits the code of a kernel: what stands before its loop, the loop, and the end.
 
-ghost use Rattle.std.specs.Prelude.{◌≡◌, ◌+◌, ◌*◌, ◌<◌, ◌≤◌, ◌^◌, List, None, Some, [], ◌∷◌, ◌++◌, OnOk, IfOk, length, option_map};
+ghost use Rattle.std.specs.Prelude.{◌≡◌, ◌+◌, ◌*◌, ◌<◌, ◌≤◌, ◌^◌, None, Some, [], ◌∷◌, ◌++◌, OnOk, IfOk, length, option_map};
 ghost use Rattle.kernel_tree.specs.Plain.{name_of, term_of, parameter_of, parameters_of, accumulator_of, accumulators_of, turns_of, returned_of, block_of, program_of};
 ghost use Rattle.kernel_tree.specs.Items as items;
 ghost use Rattle.kernel_tree.specs.Typing as typing;
-ghost use Rattle.kernel_scope.specs.Scopes.{scope_of, text_of};
+ghost use Rattle.kernel_scope.specs.Scopes.{scope_of};
 ghost use Rattle.label_fix.specs.DraftRun as plain;
 ghost use Rattle.reg_assign.specs.declared.interval.RegClass.TheVariants.{X};
 ghost use Rattle.reg_assign.specs.Registers.{IsAssignment};
@@ -26,7 +26,7 @@ use crate::operations::{emit_copy, emit_settle};
 use crate::places::{Places, counted_register, places_of};
 use crate::statements::emit_block;
 use a64_code::{AddSubOp, Cond};
-use kernel_scope::{Scope, declare, empty};
+use kernel_scope::{Scope, declare, empty, loop_index};
 use kernel_tree::fault::Binding;
 use kernel_tree::{Answer, Checked, Kernel, Loop, Param, Shape, Var};
 use label_fix::{BranchKind, Draft, Label};
@@ -34,26 +34,6 @@ use loop_form::vars_size_of;
 use reg_assign::Assigned;
 use std::alloc::{AllocError, Global};
 use word_rows::Bits;
-
-// What a parameter stands for.
-fn binding(shape: Shape) -> Binding
-    ensures { result ≡ typing.binding_of_shape shape }
-{
-    match shape {
-        Shape::Scalar(ty) => Binding::Scalar(ty),
-        Shape::Array(ty) => Binding::Array(ty),
-    }
-}
-
-// The name of the loop variable.
-fn index_of(turns: &Option<Loop>) -> Option<&str>
-    ensures { option_map text_of result ≡ option_map items.index_of (option_map turns_of turns.now) }
-{
-    match turns {
-        None => None,
-        Some(turns) => Some(turns.index.text()),
-    }
-}
 
 // ---- names
 
@@ -74,7 +54,7 @@ fn declare_param<'a>(
         register: Bits { number: place },
         last_use: None,
     })?;
-    declare(scope, &param.name, binding(param.shape))?;
+    declare(scope, &param.name, param.shape.binding())?;
     Ok(())
 }
 
@@ -180,7 +160,7 @@ pub fn kernel_homes<'a>(
     few_params(kernel);
     each_has_a_register(kernel, regs);
     let tree = kernel.kernel();
-    let mut scope = empty(alloc, index_of(&tree.body));
+    let mut scope = empty(alloc, loop_index(&tree.body));
     let mut homes = Vec::new(alloc);
     declare_names(&mut scope, &mut homes, regs, tree)?;
     Ok(homes)
@@ -319,7 +299,7 @@ pub fn emit_begin(
     each_has_a_register(kernel, regs);
     let places = places_of(alloc, kernel, regs)?;
     let tree = kernel.kernel();
-    let mut scope = empty(alloc, index_of(&tree.body));
+    let mut scope = empty(alloc, loop_index(&tree.body));
     let mut homes = Vec::new(alloc);
     declare_params(&mut scope, &mut homes, &tree.params)?;
     emit_arguments(draft, &tree.params)?;

@@ -2,12 +2,11 @@ use Rattle.std.proofs.Common.{◌+◌, List, sym, ap, ◌∙◌, arith, drop}
 use Rattle.std.proofs.Math.ListN.{drop_of_length-le}
 use Rattle.kernel_tree.specs.declared.ast.Stmt.{Stmt}
 use Rattle.kernel_tree.specs.Plain.{action_of, block_of}
-use Rattle.kernel_tree.specs.Limits.{action_depth, block_depth}
+use Rattle.kernel_tree.specs.Limits.{block_depth}
 use Rattle.kernel_tree.specs.Typing as typing
 use Rattle.kernel_scope.specs.Scopes.{scope_of, kept}
 use Rattle.kernel_meaning.specs.Trees.{tasks_of, followed}
 use Rattle.kernel_meaning.specs.Resolve as resolving
-use Rattle.kernel_meaning.proofs.Choices.{one_block, two_blocks}
 use Rattle.kernel_meaning.proofs.Growth.{kept-block}
 use Rattle.kernel_meaning.proofs.Steps.{next_statement, goes_on, followed-done}
 use Rattle.kernel_meaning.proofs.statements.+statements.Goals as goal
@@ -29,36 +28,6 @@ resolve_inner-returns-clause-scope t c =
     let scope = scope_of c.args.scope.now in
     let block = block_of c.args.block.now in
     c.leave.ensures ∙ ap (kept c.visible_count-count.result) c.in_ok-steps.ensures.scope ∙ kept-block scope c.visible_count-count.result block c.visible_count-count.ensures
-
-pub resolve_stmt-resolve_if-requires : goal.resolve_stmt-resolve_if-requires
-resolve_stmt-resolve_if-requires t c =
-    let z = one_block _ _ _ _ _ c.in-If.is c.in-None.is c.deref.ensures.value in
-    (omega (arith, ap action_depth z), tt)
-
-pub resolve_stmt-resolve_if_else-requires : goal.resolve_stmt-resolve_if_else-requires
-resolve_stmt-resolve_if_else-requires t c =
-    let z = two_blocks _ _ _ _ _ _ _ c.in-If.is c.in-Some.is c.deref-in-Some.ensures.value c.deref-in-Some-2.ensures.value in
-    (omega (arith, ap action_depth z), tt)
-
-pub resolve_stmt-returns-in_ok-step-in-None-clause-step : goal.resolve_stmt-returns-in_ok-step-in-None-clause-step
-resolve_stmt-returns-in_ok-step-in-None-clause-step t c =
-    let z = one_block _ _ _ _ _ c.in-If.is c.in-None.is c.deref.ensures.value in
-    c.in_ok-step-in-None.ensures.step ∙ ap (resolving.resolved_action (scope_of c.args.scope.now)) (sym z)
-
-pub resolve_stmt-returns-in_ok-step-in-None-clause-scope : goal.resolve_stmt-returns-in_ok-step-in-None-clause-scope
-resolve_stmt-returns-in_ok-step-in-None-clause-scope t c =
-    let z = one_block _ _ _ _ _ c.in-If.is c.in-None.is c.deref.ensures.value in
-    c.in_ok-step-in-None.ensures.scope ∙ ap (typing.after_action (scope_of c.args.scope.now)) (sym z)
-
-pub resolve_stmt-returns-in_ok-step-in-Some-clause-step : goal.resolve_stmt-returns-in_ok-step-in-Some-clause-step
-resolve_stmt-returns-in_ok-step-in-Some-clause-step t c =
-    let z = two_blocks _ _ _ _ _ _ _ c.in-If.is c.in-Some.is c.deref-in-Some.ensures.value c.deref-in-Some-2.ensures.value in
-    c.in_ok-step-in-Some.ensures.step ∙ ap (resolving.resolved_action (scope_of c.args.scope.now)) (sym z)
-
-pub resolve_stmt-returns-in_ok-step-in-Some-clause-scope : goal.resolve_stmt-returns-in_ok-step-in-Some-clause-scope
-resolve_stmt-returns-in_ok-step-in-Some-clause-scope t c =
-    let z = two_blocks _ _ _ _ _ _ _ c.in-If.is c.in-Some.is c.deref-in-Some.ensures.value c.deref-in-Some-2.ensures.value in
-    c.in_ok-step-in-Some.ensures.scope ∙ ap (typing.after_action (scope_of c.args.scope.now)) (sym z)
 
 pub resolve_block-returns-clause-steps : goal.resolve_block-returns-clause-steps
 resolve_block-returns-clause-steps t c =
