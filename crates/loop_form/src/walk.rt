@@ -385,7 +385,13 @@ fn list_if_else<'a>(
 {
     let following = list_then(kernel, entries, from, cond, block);
     let end = following + (1 + statements_size(kernel, other));
-    put(kernel, entries, following, Content::Plain(ItemKind::Else), end);
+    put(
+        kernel,
+        entries,
+        following,
+        Content::Plain(ItemKind::Else),
+        end,
+    );
     list_block(kernel, entries, following + 1, other);
     put(kernel, entries, end, Content::Plain(ItemKind::End), end);
 }
