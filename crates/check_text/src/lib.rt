@@ -2,7 +2,6 @@
 #![tactic(auto)]
 
 ghost use Rattle.std.specs.Prelude.{◌≡◌, ◌++◌, ◌∷◌, [], OnOk, IfOk, string_bytes, decimal};
-ghost use Rattle.guest_types.specs.Length.{width_bits};
 ghost use Rattle.kernel_tree.specs.Plain.{program_of};
 ghost use Rattle.kernel_tree.specs.Checked.{kernel_of};
 ghost use Rattle.kernel_tree.specs.Printing.{canonical_text};
@@ -70,7 +69,7 @@ fn push_kind(text: &mut Vec<u8>, class: Class, width: Width) -> Result<(), Alloc
     match class {
         Class::Vector => {
             text.extend_from_slice(b"vector ")?;
-            push_number(text, bits(width))?;
+            push_number(text, width.bits())?;
         }
         Class::Scalar { why } => {
             text.extend_from_slice(b"scalar ")?;
@@ -114,18 +113,6 @@ fn push_number(text: &mut Vec<u8>, number: u32) -> Result<(), AllocError>
     let mut buffer = Buffer::new();
     text.extend_from_slice(buffer.format(number).as_bytes())?;
     Ok(())
-}
-
-// The width in bits.
-fn bits(width: Width) -> u32
-    ensures { result ≡ width_bits width }
-{
-    match width {
-        Width::B => 8,
-        Width::H => 16,
-        Width::S => 32,
-        Width::D => 64,
-    }
 }
 
 // The word for why a loop is scalar.

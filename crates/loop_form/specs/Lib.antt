@@ -1,6 +1,5 @@
 pub mod Entries
 pub mod View
-pub mod Parts
 pub mod Listing
 pub mod Streams
 pub mod Needs

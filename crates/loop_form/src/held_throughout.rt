@@ -5,7 +5,6 @@ ghost use Rattle.std.specs.List.{list_any};
 ghost use Rattle.kernel_tree.specs.Plain.{parameters_of, parameter_of, accumulators_of, accumulator_of, program_of};
 ghost use Rattle.kernel_tree.specs.Checked.{kernel_of};
 ghost use Rattle.kernel_tree.specs.Items.{loop_index};
-ghost use Rattle.kernel_tree.specs.Typing.{number_of_type};
 ghost use Rattle.loop_form.specs.HeldView.{view_of, view};
 ghost use Rattle.loop_form.specs.Listing.{names};
 ghost use Rattle.loop_form.specs.Needs.{is_scalar, is_named_scalar, scalars, same_type, is_literal, is_constant, new_constant, constants, index_held, updates, is_updated, accumulating_of, throughout};
@@ -75,27 +74,13 @@ fn push_scalars<'a>(
     Ok(())
 }
 
-fn type_number(ty: Ty) -> u32
-    ensures { result ≡ number_of_type ty }
-{
-    match ty {
-        Ty::I8 => 0,
-        Ty::I16 => 1,
-        Ty::I32 => 2,
-        Ty::I64 => 3,
-        Ty::U8 => 4,
-        Ty::U16 => 5,
-        Ty::U32 => 6,
-        Ty::U64 => 7,
-    }
-}
-
-fn is_same_type(left: Option<Ty>, right: Option<Ty>) -> bool
+/// Whether two items have the same type, or both have none.
+pub fn is_same_type(left: Option<Ty>, right: Option<Ty>) -> bool
     ensures { result ≡ same_type left right }
 {
     match (left, right) {
         (None, None) => true,
-        (Some(left), Some(right)) => type_number(left) == type_number(right),
+        (Some(left), Some(right)) => left == right,
         _ => false,
     }
 }

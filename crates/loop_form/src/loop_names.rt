@@ -1,8 +1,7 @@
 //! The names that are visible at the head of a loop's body.
 
-ghost use Rattle.std.specs.Prelude.{◌≡◌, ◌+◌, ◌≤◌, length, map, IfOk, OnOk};
+ghost use Rattle.std.specs.Prelude.{◌+◌, ◌≤◌, length, map, IfOk, OnOk};
 ghost use Rattle.kernel_tree.specs.Plain.{parameters_of, accumulators_of, turns_of};
-ghost use Rattle.kernel_tree.specs.Typing.{binding_of_shape};
 ghost use Rattle.loop_form.specs.LoopView.{param_local, var_local, AddsOuter, IsLoopHead};
 ghost use Rattle.loop_form.specs.View.{program};
 
@@ -10,17 +9,8 @@ use crate::laws::few_items;
 use crate::loop_item::Source;
 use crate::visible::Visible;
 use kernel_tree::fault::Binding;
-use kernel_tree::{Checked, Loop, Param, Shape, Var};
+use kernel_tree::{Checked, Loop, Param, Var};
 use std::alloc::{AllocError, Global};
-
-fn shape_binding(shape: Shape) -> Binding
-    ensures { result ≡ binding_of_shape shape }
-{
-    match shape {
-        Shape::Scalar(ty) => Binding::Scalar(ty),
-        Shape::Array(ty) => Binding::Array(ty),
-    }
-}
 
 // The parameters, in their order.
 fn add_params<'a>(names: &mut Vec<Visible<'a>>, params: &'a [Param]) -> Result<(), AllocError>
@@ -31,7 +21,7 @@ fn add_params<'a>(names: &mut Vec<Visible<'a>>, params: &'a [Param]) -> Result<(
         let place = names.len() as u32;
         names.push(Visible {
             name: param.name.text(),
-            binding: shape_binding(param.shape),
+            binding: param.shape.binding(),
             source: Source::Outer(place),
         })?;
     }

@@ -1,7 +1,7 @@
 //! Lists what the items of statements in a loop do.
 
 ghost use Rattle.std.specs.Prelude.{◌≡◌, ◌+◌, ◌≤◌, take, length, IfOk, OnOk};
-ghost use Rattle.kernel_tree.specs.Plain.{Put, Choose, Nothing, Else, term_of, action_of, block_of, program_of};
+ghost use Rattle.kernel_tree.specs.Plain.{Put, Choose, Nothing, Else, name_of, term_of, action_of, block_of, program_of};
 ghost use Rattle.kernel_tree.specs.Checked.{kernel_of};
 ghost use Rattle.kernel_tree.specs.Items.{loop_index, stream_offset, action_size, block_size};
 ghost use Rattle.loop_form.specs.LoopItems.{loop_items_of};
@@ -13,14 +13,12 @@ use crate::access::offset;
 use crate::loop_item::{LoopItem, LoopOp, Source};
 use crate::loop_values::{append, list_condition, list_one, list_value};
 use crate::operands::{condition_item, source};
-use crate::part::Part;
 use crate::size::{expr_size, statements_size, stmt_size};
-use crate::take_apart::parts;
 use crate::visible::{
     Visible, accumulator_type_of, array_type_of, first_type, own_type, source_of,
 };
 use kernel_tree::fault::Binding;
-use kernel_tree::{Checked, Expr, Stmt};
+use kernel_tree::{Checked, Expr, Name, Part, Stmt, parts};
 use std::alloc::AllocError;
 
 // A store: its value, and the store.
@@ -30,17 +28,18 @@ fn list_store<'a>(
     items: &mut Vec<LoopItem<'a>>,
     mask: Option<u32>,
     from: u32,
-    array: &'a str,
+    array: &'a Name,
     index: &'a Expr,
     value: &'a Expr,
 ) -> Result<(), AllocError>
     requires fits { from + action_size (loop_index (program kernel.now))
-        (Put array.now (term_of index.now) (term_of value.now)) ≤ 1000 }
+        (Put (name_of array.now) (term_of index.now) (term_of value.now)) ≤ 1000 }
     requires near { NearAction (loop_index (program kernel.now))
-        (Put array.now (term_of index.now) (term_of value.now)) }
+        (Put (name_of array.now) (term_of index.now) (term_of value.now)) }
     ensures { OnOk result (AppendsAction (loop_index (program kernel.now)) names.now mask from
-        (Put array.now (term_of index.now) (term_of value.now)) items.old.items items.new.items) }
+        (Put (name_of array.now) (term_of index.now) (term_of value.now)) items.old.items items.new.items) }
 {
+    let array = array.text();
     let want = array_type_of(names, array);
     let stored = source(kernel, names, want, from, value);
     list_value(kernel, names, items, want, mask, from, value)?;
@@ -92,6 +91,7 @@ fn list_stmt<'a>(
             Ok(())
         }
         Part::Update { name, op, value } => {
+            let name = name.text();
             let want = accumulator_type_of(names, name);
             let op = LoopOp::Add {
                 name,
@@ -256,7 +256,7 @@ fn declare<'a>(
             if let Some(ty) = first_type(ty, own_type(names, value)) {
                 let item = from + expr_size(kernel, value);
                 names.push(Visible {
-                    name,
+                    name: name.text(),
                     binding: Binding::Value(ty),
                     source: Source::Made(item),
                 })?;

@@ -5,9 +5,7 @@ ghost use Rattle.kernel_tree.specs.Plain.{name_of, term_of, action_of, block_of,
 ghost use Rattle.kernel_tree.specs.Items.{is_index, is_index_term, stream_offset, loop_index, term_size, index_items, action_size, block_size, vars_size};
 ghost use Rattle.loop_form.specs.View.{program};
 
-use crate::part::Part;
-use crate::take_apart::parts;
-use kernel_tree::{BinaryOp, Checked, Expr, Name, Stmt, Var};
+use kernel_tree::{BinaryOp, Checked, Expr, Name, Part, Stmt, Var, parts};
 
 /// Whether a name is that of the loop variable.
 #[tactic(auto, unfolding(crate::specs::View::program))]

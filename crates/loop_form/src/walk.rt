@@ -9,10 +9,8 @@ ghost use Rattle.loop_form.specs.View.{program, content_of, seen};
 
 use crate::entry::{Content, Entries, Entry};
 use crate::item::ItemKind;
-use crate::part::Part;
 use crate::size::{expr_size, is_stream, statements_size, stmt_size};
-use crate::take_apart::parts;
-use kernel_tree::{Checked, Expr, Name, Stmt, Ty, Var};
+use kernel_tree::{Checked, Expr, Name, Part, Stmt, Ty, Var, parts};
 
 // The type of a value item.
 #[tactic(auto, unfolding(crate::specs::Entries::item_type, crate::specs::View::program))]
@@ -260,20 +258,24 @@ fn list_stmt<'a>(kernel: &Checked, entries: &mut Entries<'a>, from: u32, stmt: &
 {
     match parts(stmt) {
         Part::Let { name, value, .. } => {
-            list_ended(kernel, entries, from, value, Content::Let(name));
+            list_ended(kernel, entries, from, value, Content::Let(name.text()));
         }
         Part::Store {
             array,
             index,
             value,
-        } => list_ended(
-            kernel,
-            entries,
-            from,
-            value,
-            Content::Store { array, index },
-        ),
+        } => {
+            let array = array.text();
+            list_ended(
+                kernel,
+                entries,
+                from,
+                value,
+                Content::Store { array, index },
+            );
+        }
         Part::Update { name, op, value } => {
+            let name = name.text();
             list_ended(kernel, entries, from, value, Content::Update { name, op });
         }
         Part::If { cond, block } => list_if(kernel, entries, from, cond, block),

@@ -1,7 +1,6 @@
 //! The width of a loop's lanes.
 
 ghost use Rattle.std.specs.Prelude.{◌≡◌};
-ghost use Rattle.guest_types.specs.Length.{width_bits};
 ghost use Rattle.kernel_tree.specs.Plain.{parameters_of, accumulators_of, program_of};
 ghost use Rattle.kernel_tree.specs.Checked.{kernel_of};
 ghost use Rattle.loop_form.specs.Lanes.{width_of, wider, element_type, array_type, var_type, target_type, widest, lane_width_of};
@@ -12,18 +11,8 @@ use crate::entry_list::loop_entries;
 use guest_types::length::Width;
 use kernel_tree::{Checked, Param, Shape, Ty, Var};
 
-fn bits(width: Width) -> u32
-    ensures { result ≡ width_bits width }
-{
-    match width {
-        Width::B => 8,
-        Width::H => 16,
-        Width::S => 32,
-        Width::D => 64,
-    }
-}
-
-fn type_width(ty: Ty) -> Width
+/// The width of the values of a type.
+pub fn type_width(ty: Ty) -> Width
     ensures { result ≡ width_of ty }
 {
     match ty {
@@ -42,7 +31,7 @@ fn wider_of(width: Width, ty: Option<Ty>) -> Width
         None => width,
         Some(ty) => {
             let other = type_width(ty);
-            if bits(width) < bits(other) {
+            if width.bits() < other.bits() {
                 other
             } else {
                 width
