@@ -52,27 +52,6 @@ prepared_does (WideAtNumber op rt rn number) s = access op s rt.number (sum (x_a
 abbrev pub IsReady : A64 → (pc : ℕ) → Prepared → Type 0
 IsReady word pc prepared = (s : State) → s.pc ≡ pc → does (Scalar (seen word)) s ≡ prepared_does prepared s
 
--- it is a branch
-abbrev pub IsJump : Prepared → Type 0
-IsJump (AddNumber a b c) = ⊥
-IsJump (LessNumber a b c) = ⊥
-IsJump (CompareNumber a b) = ⊥
-IsJump (Add a b c d) = ⊥
-IsJump (Subtract a b c d) = ⊥
-IsJump (Compare a b c) = ⊥
-IsJump (Logical a b c d e) = ⊥
-IsJump (Field a b c d e) = ⊥
-IsJump (MultiplyAdd a b c d) = ⊥
-IsJump (Constant a b) = ⊥
-IsJump (Jump a) = Unit {0}
-IsJump (JumpWhere a b) = Unit {0}
-IsJump (JumpAtZero a b) = Unit {0}
-IsJump (JumpElse a b) = Unit {0}
-IsJump (ByteAtRegister a b c d) = ⊥
-IsJump (ByteAtNumber a b c d) = ⊥
-IsJump (WideAtRegister a b c d e) = ⊥
-IsJump (WideAtNumber a b c d) = ⊥
-
 -- it is no load and no store
 abbrev pub IsOnGeneral : Prepared → Type 0
 IsOnGeneral (AddNumber a b c) = Unit {0}

@@ -5,7 +5,7 @@ ghost use Rattle.guest_types.specs.Memory.{Memory};
 ghost use Rattle.machine_model.specs.Machine.{Went};
 ghost use Rattle.machine_model.specs.Answers.{IsAnswer};
 ghost use Rattle.a64_machine.specs.Cores.{VectorState, state_of, said};
-ghost use Rattle.a64_machine.specs.Prepared.{prepared_does, logical, field, IsJump, IsOnGeneral};
+ghost use Rattle.a64_machine.specs.Prepared.{prepared_does, logical, field, IsOnGeneral};
 
 use crate::accesses::{access, byte_access};
 use crate::bit_fields::{signed_field, unsigned_field};
@@ -127,41 +127,63 @@ fn jump(core: &mut Core, place: u64)
     core.pc = place;
 }
 
-/// A prepared branch.
+/// Rd = Rn plus a number.
 #[inline(always)]
-fn on_jump(core: &mut Core, prepared: &Prepared)
-    ensures { (memory : Memory) (rest : VectorState) → IsJump prepared.now →
-        prepared_does prepared.now (state_of core.old memory rest) ≡ Went (state_of core.new memory rest) }
+fn add_number(core: &mut Core, rd: General, rn: General, number: u64)
+    ensures { (memory : Memory) (rest : VectorState) →
+        prepared_does (Prepared.AddNumber rd rn number) (state_of core.old memory rest)
+        ≡ Went (state_of core.new memory rest) }
 {
-    match *prepared {
-        Prepared::JumpWhere { taken, place } => jump_where(core, taken, place),
-        Prepared::Jump { place } => jump(core, place),
-        Prepared::JumpAtZero { rt, place } => jump_at_zero(core, rt, place),
-        Prepared::JumpElse { rt, place } => jump_else(core, rt, place),
-        _ => {}
-    }
+    let value = core.general(rn).wrapping_add(number);
+    write_general(core, rd, value)
 }
 
-/// A prepared instruction that is no load and no store.
+/// Rd = Rn plus Rm shifted left.
+#[inline(always)]
+fn add(core: &mut Core, rd: General, rn: General, rm: General, by: Bits<6>)
+    ensures { (memory : Memory) (rest : VectorState) →
+        prepared_does (Prepared.Add rd rn rm by) (state_of core.old memory rest)
+        ≡ Went (state_of core.new memory rest) }
+{
+    let value = core.general(rn).wrapping_add(core.general(rm) << by.number);
+    write_general(core, rd, value)
+}
+
+/// Rd = Rn less Rm shifted left.
+#[inline(always)]
+fn subtract(core: &mut Core, rd: General, rn: General, rm: General, by: Bits<6>)
+    ensures { (memory : Memory) (rest : VectorState) →
+        prepared_does (Prepared.Subtract rd rn rm by) (state_of core.old memory rest)
+        ≡ Went (state_of core.new memory rest) }
+{
+    let value = core.general(rn).wrapping_sub(core.general(rm) << by.number);
+    write_general(core, rd, value)
+}
+
+/// Rd = Ra plus Rn times Rm.
+#[inline(always)]
+fn multiply_add(core: &mut Core, rd: General, rn: General, ra: Reg, rm: General)
+    ensures { (memory : Memory) (rest : VectorState) →
+        prepared_does (Prepared.MultiplyAdd rd rn ra rm) (state_of core.old memory rest)
+        ≡ Went (state_of core.new memory rest) }
+{
+    let product = core.general(rn).wrapping_mul(core.general(rm));
+    let value = core.register(ra).wrapping_add(product);
+    write_general(core, rd, value)
+}
+
+/// A prepared instruction that is no load and no store. One flat match: a second one within it would be a second jump.
 #[inline(always)]
 fn on_general(core: &mut Core, prepared: &Prepared)
     ensures { (memory : Memory) (rest : VectorState) → IsOnGeneral prepared.now →
         prepared_does prepared.now (state_of core.old memory rest) ≡ Went (state_of core.new memory rest) }
 {
     match *prepared {
-        Prepared::AddNumber { rd, rn, number } => {
-            let value = core.general(rn).wrapping_add(number);
-            write_general(core, rd, value)
-        }
+        Prepared::AddNumber { rd, rn, number } => add_number(core, rd, rn, number),
         Prepared::LessNumber { rd, rn, number } => less_number(core, rd, rn, number),
-        Prepared::Add { rd, rn, rm, by } => {
-            let value = core.general(rn).wrapping_add(core.general(rm) << by.number);
-            write_general(core, rd, value)
-        }
-        Prepared::Subtract { rd, rn, rm, by } => {
-            let value = core.general(rn).wrapping_sub(core.general(rm) << by.number);
-            write_general(core, rd, value)
-        }
+        Prepared::JumpWhere { taken, place } => jump_where(core, taken, place),
+        Prepared::Add { rd, rn, rm, by } => add(core, rd, rn, rm, by),
+        Prepared::Subtract { rd, rn, rm, by } => subtract(core, rd, rn, rm, by),
         Prepared::Field {
             op,
             rd,
@@ -178,13 +200,12 @@ fn on_general(core: &mut Core, prepared: &Prepared)
             let value = bit_by_bit(op, core.register(rn), core.general(rm) << by.number);
             write_general(core, rd, value)
         }
-        Prepared::MultiplyAdd { rd, rn, ra, rm } => {
-            let product = core.general(rn).wrapping_mul(core.general(rm));
-            let value = core.register(ra).wrapping_add(product);
-            write_general(core, rd, value)
-        }
+        Prepared::MultiplyAdd { rd, rn, ra, rm } => multiply_add(core, rd, rn, ra, rm),
         Prepared::Constant { rd, number } => write_general(core, rd, number),
-        _ => on_jump(core, prepared),
+        Prepared::Jump { place } => jump(core, place),
+        Prepared::JumpAtZero { rt, place } => jump_at_zero(core, rt, place),
+        Prepared::JumpElse { rt, place } => jump_else(core, rt, place),
+        _ => {}
     }
 }
 

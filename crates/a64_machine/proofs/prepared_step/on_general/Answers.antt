@@ -14,3 +14,19 @@ returns-in-CompareNumber c memory rest kind =
 pub returns-in-Compare : goal.returns-in-Compare
 returns-in-Compare c memory rest kind =
     ap (λ p. prepared_does p (state_of c.args.core.now memory rest)) c.in-Compare.is ∙ c.compare.ensures memory rest
+
+pub returns-in-AddNumber : goal.returns-in-AddNumber
+returns-in-AddNumber c memory rest kind =
+    ap (λ p. prepared_does p (state_of c.args.core.now memory rest)) c.in-AddNumber.is ∙ c.add_number.ensures memory rest
+
+pub returns-in-Add : goal.returns-in-Add
+returns-in-Add c memory rest kind =
+    ap (λ p. prepared_does p (state_of c.args.core.now memory rest)) c.in-Add.is ∙ c.add.ensures memory rest
+
+pub returns-in-Subtract : goal.returns-in-Subtract
+returns-in-Subtract c memory rest kind =
+    ap (λ p. prepared_does p (state_of c.args.core.now memory rest)) c.in-Subtract.is ∙ c.subtract.ensures memory rest
+
+pub returns-in-MultiplyAdd : goal.returns-in-MultiplyAdd
+returns-in-MultiplyAdd c memory rest kind =
+    ap (λ p. prepared_does p (state_of c.args.core.now memory rest)) c.in-MultiplyAdd.is ∙ c.multiply_add.ensures memory rest

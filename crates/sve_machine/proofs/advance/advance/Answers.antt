@@ -4,17 +4,17 @@ use Rattle.sve_machine.proofs.Words.{step_by, same_code, all_still}
 use Rattle.sve_machine.proofs.advance.advance.Goals as goal
 
 pub returns-then-not-look_up-clause-answer : goal.returns-then-not-look_up-clause-answer
-returns-then-not-look_up-clause-answer c =
+returns-then-not-look_up-clause-answer g c =
     c.look_up.ensures.stopped (state_of c.args.core.now c.args.pages.now c.args.vectors.now) c.if-not-look_up.true refl refl
 
 pub returns-clause-answer : goal.returns-clause-answer
-returns-clause-answer c =
+returns-clause-answer g c =
     let s = state_of c.args.core.now c.args.pages.now c.args.vectors.now in
     let t = state_of c.execute.new.core c.execute.new.pages c.execute.new.vectors in
     step_by s t (said c.execute.result c.execute.new.answer) c.look_up.new.kept (c.args.core.now.pc / 4 % 1024) _ (λ d. c.look_up.ensures.found d c.if-not-look_up.false) c.execute.ensures
 
 pub returns-clause-kept : goal.returns-clause-kept
-returns-clause-kept c =
+returns-clause-kept g c =
     let s = state_of c.args.core.now c.args.pages.now c.args.vectors.now in
     let t = state_of c.execute.new.core c.execute.new.pages c.execute.new.vectors in
     let r = said c.execute.result c.execute.new.answer in
