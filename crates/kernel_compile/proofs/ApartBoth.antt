@@ -17,9 +17,9 @@ use Rattle.loop_form.specs.Lanes.{width_of, element_type}
 use Rattle.loop_form.specs.Streams.{streams_of}
 use Rattle.dependence.specs.declared.used.Used.{Used}
 use Rattle.dependence.specs.Apart as by_use
-use Rattle.dependence.specs.Apart.{is_at, is_stored, used_by, used_at, used_from, used_of, bound_place, base_in, begin_in, end_in, IsBased, AreBased, PairApart, IsApartFrom, AreApart}
+use Rattle.dependence.specs.Apart.{is_at, is_stored, used_by, used_at, used_from, used_of, bound_place, base_in, begin_in, end_in, IsBased, AreBased, PairApart, IsApartFrom, AreApart, is_store}
 use Rattle.chunk_order.specs.Items.{nth_value}
-use Rattle.chunk_order.specs.Apart.{is_store, is_of, is_store_of, one_array, offsets_of, least_of, greatest_of, type_of_place, size_of_type, place_size, base_of, begin_of, end_of, Within, IsBase, Separate, ApartBy, Apart}
+use Rattle.chunk_order.specs.Apart.{is_of, is_store_of, one_array, offsets_of, least_of, greatest_of, type_of_place, size_of_type, place_size, base_of, begin_of, end_of, Within, IsBase, Separate, ApartBy, Apart}
 use Rattle.chunk_order.specs.Order.{In}
 use Rattle.kernel_compile.proofs.ArrayStreams.{IsTyped}
 
