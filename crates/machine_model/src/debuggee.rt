@@ -28,6 +28,16 @@ pub trait Debuggee: Drop {
         ensures over { (view_of self.old).over ≡ None → (view_of self.new).over ≡ ending_by result }
         ensures quiet { IsTrue (view_of self.old).quiet → IsTrue (view_of self.new).quiet };
 
+    /// One step of a machine that has not come to an end or a stop: `step` without the test whether it has.
+    fn step_on(&mut self) -> Step
+        requires running { (view_of self.old).over ≡ None }
+        requires few { (view_of self.old).steps < 2 ^ 64 - 1 }
+        ensures answer { IsTrue (view_of self.old).quiet →
+            IsAnswer (model_step (view_of self.old).state) result (view_of self.old).state (view_of self.new).state }
+        ensures steps { (view_of self.new).steps ≡ (view_of self.old).steps + 1 }
+        ensures over { (view_of self.new).over ≡ ending_by result }
+        ensures quiet { IsTrue (view_of self.old).quiet → IsTrue (view_of self.new).quiet };
+
     /// The place of the next instruction.
     fn pc(&self) -> u64
         ensures { result ≡ (view_of self.now).state.pc };

@@ -40,7 +40,7 @@ fn advance<D: Debuggee>(machine: &mut D, over: &mut Option<Ending>) -> bool
     ensures goes_on { result ≡ is_none over.new }
     ensures steps { (D.view_of machine.new).steps ≡ (D.view_of machine.old).steps + 1 }
 {
-    match machine.step() {
+    match machine.step_on() {
         Step::Went => true,
         Step::Ended => {
             *over = Some(Ending::Ended);

@@ -18,6 +18,12 @@ impl Debuggee for Machine {
     }
 
     #[inline(always)]
+    fn step_on(&mut self) -> Step {
+        let answer = self.step_on();
+        answer
+    }
+
+    #[inline(always)]
     fn pc(&self) -> u64 {
         self.core().pc
     }

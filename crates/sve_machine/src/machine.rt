@@ -111,8 +111,7 @@ impl Machine {
         answer
     }
 
-    /// One step. After an end or a stop it answers the same again and changes nothing. It has no loop of its own, so
-    /// that a caller's loop of steps is as fast as `run`.
+    /// One step. After an end or a stop it answers the same again and changes nothing.
     #[inline(always)]
     pub fn step(&mut self) -> Step
         requires { self.old.steps < 2 ^ 64 - 1 }
@@ -126,6 +125,20 @@ impl Machine {
         if let Some(ending) = self.over {
             return answer_by(ending);
         }
+        self.step_on()
+    }
+
+    /// One step of a machine that has not come to an end or a stop. It has no loop of its own and no test that a loop
+    /// of steps can do without, so that a caller's loop is as fast as `run`.
+    #[inline(always)]
+    pub fn step_on(&mut self) -> Step
+        requires running { self.old.over ≡ None }
+        requires few { self.old.steps < 2 ^ 64 - 1 }
+        ensures answer { IsAnswer (step self.old.state) result self.old.state self.new.state }
+        ensures steps { self.new.steps ≡ self.old.steps + 1 }
+        ensures over { self.new.over ≡ ending_by result }
+        ensures quiet { IsTrue self.old.quiet → IsTrue self.new.quiet }
+    {
         let went = advance::<OUTSIDE>(
             &mut self.core,
             &mut self.pages,

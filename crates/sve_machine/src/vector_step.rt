@@ -66,8 +66,8 @@ pub fn vector_goes(
 #[inline(always)]
 fn in_registers(core: &mut Core, vectors: &mut Vectors, word: Sve) -> bool
     ensures goes_on { result ≡ true }
-    ensures went { (memory : Memory) → IsOnRegisters word → does (Vector (seen word)) (state_of core.old memory vectors.old)
-        ≡ Went (state_of core.new memory vectors.new) }
+    ensures went { (memory : Memory) → IsOnRegisters word →
+        does (Vector (seen word)) (state_of core.old memory vectors.old) ≡ Went (state_of core.new memory vectors.new) }
 {
     on_registers(core, vectors, word);
     core.go_on();
