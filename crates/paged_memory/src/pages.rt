@@ -142,10 +142,7 @@ impl Pages {
         ensures { result ≡ loaded self.now address size }
     {
         match self.read_fault(address, size) {
-            Some(fault) => Err(AccessFault {
-                address: fault,
-                write: false,
-            }),
+            Some(fault) => Err(AccessFault::read(fault)),
             None => Ok(self.number(address, size)),
         }
     }
@@ -180,10 +177,7 @@ impl Pages {
         ensures unchanged { OnErr result (self.new ≡ self.old) }
     {
         match self.write_fault(address, size) {
-            Some(fault) => Err(AccessFault {
-                address: fault,
-                write: true,
-            }),
+            Some(fault) => Err(AccessFault::write(fault)),
             None => {
                 self.put_number(address, size, value);
                 Ok(())
