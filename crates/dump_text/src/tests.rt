@@ -1,30 +1,21 @@
 // Dumps of a page whose last bytes are `a`, `b` and 0.
 
-ghost use Rattle.std.specs.Prelude.{◌≡◌, length, IfOk};
-ghost use Rattle.guest_types.specs.Memory.{IsPage};
-
 use crate::dump_text;
 use guest_types::image::{Image, PageMap};
-use guest_types::memory::{PageBytes, PageNo, PageSpec, Perm};
+use guest_types::memory::Perm;
 use paged_memory::pages::Pages;
+use paged_memory::run::run;
 use std::alloc::{AllocError, Global};
 use std::test::Fail;
 
-// The page at 0x10000.
-fn page(alloc: Global) -> Result<PageSpec, AllocError>
-    ensures { IfOk result IsPage }
-{
-    let mut bytes = vec![in alloc; 0u8; 4096]?;
+// One page, at 0x10000.
+fn pages(alloc: Global) -> Result<Pages, AllocError> {
+    let mut bytes = [0u8; 4096];
     bytes[4093] = b'a';
     bytes[4094] = b'b';
-    let page = PageNo::new(0x10).unwrap();
-    Ok(PageSpec::new(page, Perm::Read, PageBytes::new(bytes)))
-}
-
-fn pages(alloc: Global) -> Result<Pages, AllocError> {
-    let mut pages = Vec::new(alloc);
-    pages.push(page(alloc)?)?;
-    let map = PageMap { pages };
+    let map = PageMap {
+        pages: run(alloc, 0x10, 1, Perm::Read, &bytes)?,
+    };
     Pages::build(alloc, &Image::empty(alloc), &map)
 }
 

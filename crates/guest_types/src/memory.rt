@@ -1,6 +1,6 @@
 // Pages of 4,096 bytes, and refused accesses.
 
-ghost use Rattle.std.specs.Prelude.{◌≡◌, ℕ, ◌<◌, ◌^◌, List, length, IsSome, IfSome, ◌↔◌, slice_set, All};
+ghost use Rattle.std.specs.Prelude.{◌≡◌, ℕ, ◌<◌, ◌^◌, List, length, IsSome, IfSome, ◌↔◌, slice_set, true, false, All};
 
 use std::marker::Model;
 
@@ -19,6 +19,30 @@ pub enum Perm {
 pub struct AccessFault {
     pub address: u64,
     pub write: bool,
+}
+
+impl AccessFault {
+    /// That the byte at an address may not be read.
+    #[inline(always)]
+    pub fn read(address: u64) -> AccessFault
+        ensures { result ≡ record { address = address; write = false } }
+    {
+        AccessFault {
+            address,
+            write: false,
+        }
+    }
+
+    /// That the byte at an address may not be written.
+    #[inline(always)]
+    pub fn write(address: u64) -> AccessFault
+        ensures { result ≡ record { address = address; write = true } }
+    {
+        AccessFault {
+            address,
+            write: true,
+        }
+    }
 }
 
 /// The number of a page: its first address over 4,096, below 2^36.

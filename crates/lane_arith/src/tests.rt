@@ -30,12 +30,9 @@ fn least(width: Width) -> u64
     }
 }
 
+// A register of 2,048 bits of which every element is a number.
 fn filled(width: Width, value: u64) -> ZReg {
-    let mut z = ZReg::zero();
-    for e in 0..width.all_lanes() {
-        z.put(width, e, value);
-    }
-    z
+    dup(width, Vl::new(2048).unwrap(), value)
 }
 
 fn is_filled(width: Width, z: &ZReg, value: u64) -> bool {

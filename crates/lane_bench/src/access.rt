@@ -1,49 +1,23 @@
 // Loads and stores of lanes in one page, by the kernel and by a plain loop.
 
-ghost use Rattle.std.specs.Prelude.{◌≡◌, ◌+◌, ◌≤◌, ◌<◌, ◌^◌, IfOk};
-ghost use Rattle.guest_types.specs.Memory.{IsPage};
-ghost use Rattle.paged_memory.specs.Runs.{IsRun};
-
 use crate::operands::Operands;
 use crate::plain::elements;
 use crate::work::Access;
 use guest_types::guest::GuestMemory;
 use guest_types::image::{Image, PageMap};
 use guest_types::length::Width;
-use guest_types::memory::{AccessFault, PageBytes, PageNo, PageSpec, Perm};
+use guest_types::memory::{AccessFault, Perm};
 use guest_types::predicate::PReg;
 use guest_types::row::{LoadMode, LoadRow, StoreRow};
 use lane_memory::load::load_into;
 use lane_memory::store::store;
 use lane_memory::suppress::Suppress;
 use paged_memory::pages::Pages;
+use paged_memory::run::run;
 use std::alloc::{AllocError, Global};
 
 /// The address of element 0.
 const BASE: u64 = 0x10040;
-
-// A page of zeros that may be written.
-fn page(alloc: Global, number: u64) -> Result<PageSpec, AllocError>
-    requires { number < 2 ^ 36 }
-    ensures number { IfOk result (λ page. page.page ≡ number) }
-    ensures valid { IfOk result IsPage }
-{
-    let bytes = PageBytes::new(vec![in alloc; 0u8; 4096]?);
-    let number = PageNo::new(number).unwrap();
-    Ok(PageSpec::new(number, Perm::ReadWrite, bytes))
-}
-
-// So many pages from a number on.
-fn run(alloc: Global, from: u64, count: u64) -> Result<Vec<PageSpec>, AllocError>
-    requires { from + count ≤ 2 ^ 36 }
-    ensures { IfOk result (λ pages. IsRun from count pages.items) }
-{
-    let mut pages = Vec::new(alloc);
-    for k in 0..count {
-        pages.push(page(alloc, from + k)?)?;
-    }
-    Ok(pages)
-}
 
 /// Four pages that may be written.
 pub fn built(alloc: Global) -> Result<Pages, AllocError> {
@@ -51,10 +25,10 @@ pub fn built(alloc: Global) -> Result<Pages, AllocError> {
         entry: 0,
         code_from: 0,
         code_end: 0,
-        pages: run(alloc, 0x10, 2)?,
+        pages: run(alloc, 0x10, 2, Perm::ReadWrite, &[])?,
     };
     let map = PageMap {
-        pages: run(alloc, 0x20, 2)?,
+        pages: run(alloc, 0x20, 2, Perm::ReadWrite, &[])?,
     };
     let pages = Pages::build(alloc, &image, &map)?;
     Ok(pages)

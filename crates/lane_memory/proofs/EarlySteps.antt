@@ -8,7 +8,7 @@ use Rattle.guest_types.specs.Memory.{Memory}
 use Rattle.guest_types.specs.Elements.{both, first_true, register}
 use Rattle.guest_types.specs.LaneMemory.{LoadForm, loaded_lane, kept_lane, is_clear, cleared_from}
 use Rattle.guest_types.specs.EarlyLoads.{StopList, never, stop_at, later, rank, suppressed_at, looked_at, early_load}
-use Rattle.guest_types.proofs.EarlyLoads.{suppressed-never}
+use Rattle.guest_types.proofs.EarlyLoads.{suppressed-never, later-later, stop_at-later}
 use Rattle.guest_types.proofs.AtWidths.{register-zeros}
 use Rattle.guest_types.proofs.Registers.{register-ext}
 use Rattle.guest_types.proofs.Widths.{whole-register}
@@ -16,7 +16,6 @@ use Rattle.guest_types.proofs.LaneSteps.{first_true-on, first_true-off, first_tr
 use Rattle.lane_memory.specs.declared.reading.Reading.{Reading}
 use Rattle.lane_memory.specs.Readings.{form_of, place_of, on_of, on_from, faults_of, refused_of, lanes_of}
 use Rattle.lane_memory.specs.Loads.{LoadLeft, left_by_early}
-use Rattle.lane_memory.proofs.StopLaws.{later-next, stop_at-later}
 use Rattle.lane_memory.proofs.Firsts.{first_true-some, first_true-none, first_true-from, first_true-ext}
 use Rattle.lane_memory.proofs.Kept.{clear-there}
 
@@ -39,6 +38,10 @@ rank-none free (suc e) none = ap₂ (λ n b. n + cond b 1 0) (rank-none free e (
 rank-more : (free : ℕ → Bool) (e : ℕ) (b : Bool) → free e ≡ b → rank free (e + 1) ≡ rank free e + cond b 1 0
 rank-more free e b h = ap (rank free) (add-one e) ∙ ap (λ b. rank free e + cond b 1 0) h
 
+-- whether the next free element is suppressed
+next-stop : (s : StopList) (a : ℕ) → stop_at (later s a) 0 ≡ stop_at s a
+next-stop s a = stop_at-later s a 0 ∙ ap (stop_at s) (add-zero a)
+
 module _ (s0 : StopList) (free faults : ℕ → Bool) (lanes e : ℕ) where
   bad : ℕ → Bool
   bad = suppressed_at free faults (stop_at s0)
@@ -57,14 +60,14 @@ module _ (s0 : StopList) (free faults : ℕ → Bool) (lanes e : ℕ) where
 
   pub going-stops : (s t : StopList) → Going s0 free faults lanes e s → e < lanes → free e ≡ true → faults e ≡ false → stop_at s 0 ≡ true → t ≡ later s 1 → Found s0 free faults lanes (Some e) t
   going-stops s t g l f h stop next = record {
-    first = sym (g.first ∙ first_true-on (suppressed_at free faults (stop_at s0)) lanes e l (ap₂ (λ a b. a && b) f (ap₂ (λ a b. a || b) h (sym (stop_at-later s0 (rank free e)) ∙ ap (λ s. stop_at s 0) (sym g.stops) ∙ stop))));
-    stops = next ∙ ap (λ s. later s 1) g.stops ∙ later-next s0 (rank free e) ∙ ap (later s0) (sym (cond-false _ _ _ h));
+    first = sym (g.first ∙ first_true-on (suppressed_at free faults (stop_at s0)) lanes e l (ap₂ (λ a b. a && b) f (ap₂ (λ a b. a || b) h (sym (next-stop s0 (rank free e)) ∙ ap (λ s. stop_at s 0) (sym g.stops) ∙ stop))));
+    stops = next ∙ ap (λ s. later s 1) g.stops ∙ later-later s0 (rank free e) 1 ∙ ap (later s0) (sym (cond-false _ _ _ h));
   }
 
   pub going-on : (s t : StopList) → Going s0 free faults lanes e s → e < lanes → free e ≡ true → faults e ≡ false → stop_at s 0 ≡ false → t ≡ later s 1 → Going s0 free faults lanes (e + 1) t
   going-on s t g l f h stop next = record {
-    stops = next ∙ ap (λ s. later s 1) g.stops ∙ later-next s0 (rank free e) ∙ ap (later s0) (sym (rank-more free e true f));
-    first = g.first ∙ first_true-off (suppressed_at free faults (stop_at s0)) lanes e l (ap₂ (λ a b. a && b) f (ap₂ (λ a b. a || b) h (sym (stop_at-later s0 (rank free e)) ∙ ap (λ s. stop_at s 0) (sym g.stops) ∙ stop)));
+    stops = next ∙ ap (λ s. later s 1) g.stops ∙ later-later s0 (rank free e) 1 ∙ ap (later s0) (sym (rank-more free e true f));
+    first = g.first ∙ first_true-off (suppressed_at free faults (stop_at s0)) lanes e l (ap₂ (λ a b. a && b) f (ap₂ (λ a b. a || b) h (sym (next-stop s0 (rank free e)) ∙ ap (λ s. stop_at s 0) (sym g.stops) ∙ stop)));
   }
 
   pub going-past : (s : StopList) → Going s0 free faults lanes e s → e < lanes → free e ≡ false → Going s0 free faults lanes (e + 1) s

@@ -1,6 +1,6 @@
 -- A load as the code takes it: the form, and where its elements stand.
-use Rattle.std.specs.Prelude.{◌≡◌, ℕ, ◌+◌, ◌*◌, ◌%◌, ◌<◌, ◌≤◌, ◌⊎◌, Bool, true, false, ◌&&◌, cond, nat_le, bit_and, List, Option, Some, None}
-use lib.Lanes.{chunk, zip2}
+use Rattle.std.specs.Prelude.{◌≡◌, ℕ, ◌+◌, ◌*◌, ◌%◌, ◌<◌, ◌≤◌, ◌⊎◌, Bool, true, false, ◌&&◌, cond, nat_le, List, Option, Some, None}
+use lib.Lanes.{chunk}
 use Rattle.guest_types.specs.declared.length.Width.{Width}
 use Rattle.guest_types.specs.Length.{width_bytes, modulus}
 use Rattle.guest_types.specs.Memory.{Memory, number_at}
@@ -67,10 +67,6 @@ pub record IsCopied (r : Reading) (part : List ℕ) (from n : ℕ) (old new : Li
 pub record IsRead (r : Reading) (memory : Memory) (pg : List ℕ) (e : ℕ) (old new : List ℕ) : Type 0 where
   pub read : on_of r pg e ≡ true → at r.element new e ≡ raw_of r memory e % modulus r.element
   pub kept : (i : ℕ) → i < e → at r.element new i ≡ at r.element old i
-
--- the bits that two predicates have in common
-abbrev pub both_of : List ℕ → List ℕ → List ℕ
-both_of p q = zip2 bit_and p q
 
 -- an element where it is active, and else 0
 abbrev pub masked_at : Width → List ℕ → List ℕ → ℕ → ℕ

@@ -47,9 +47,8 @@ fn copy_active(pages: &Pages, reading: Reading, pg: &PReg, from: usize, to: usiz
     while e < to {
         let address = reading.place(e);
         let count = count_in_page(address, reading.memory, to - e);
-        let len = (size * count) as u32;
-        if pages.has_span(address, len) {
-            copy_part(reading, pages.lend(address, len), e, count, out);
+        if let Some(part) = pages.span(address, (size * count) as u32) {
+            copy_part(reading, part, e, count, out);
             e += count;
         } else {
             copy_one(pages, reading, pg, e, out);
@@ -71,10 +70,10 @@ pub fn fill_full(pages: &Pages, reading: Reading, pg: &PReg, lanes: usize, out: 
     pages.is_memory();
     let address = reading.place(0);
     let len = (reading.memory.bytes() * lanes) as u32;
-    if !pages.has_span(address, len) {
+    let Some(part) = pages.span(address, len) else {
         return false;
-    }
-    copy_part(reading, pages.lend(address, len), 0, lanes, out);
+    };
+    copy_part(reading, part, 0, lanes, out);
     keep_first(out, reading.element, pg, lanes);
     true
 }
@@ -92,10 +91,10 @@ fn fill_range(pages: &Pages, reading: Reading, pg: &PReg, lanes: usize, out: &mu
     let count = range.to - range.from;
     let address = reading.place(range.from);
     let len = (reading.memory.bytes() * count) as u32;
-    if !pages.has_span(address, len) {
+    let Some(part) = pages.span(address, len) else {
         return false;
-    }
-    copy_part(reading, pages.lend(address, len), range.from, count, out);
+    };
+    copy_part(reading, part, range.from, count, out);
     keep_active(out, reading.element, pg, lanes);
     true
 }

@@ -3,23 +3,14 @@
 ghost use Rattle.std.specs.Prelude.{◌≡◌, ℕ, ◌<◌, ◌≤◌, IsTrue, true, length};
 ghost use Rattle.guest_types.specs.Length.{all_lanes, width_bytes};
 ghost use Rattle.guest_types.specs.Elements.{active};
-ghost use Rattle.lane_memory.specs.Readings.{both_of, masked_of};
+ghost use Rattle.lane_memory.specs.Readings.{masked_of};
 
 use guest_types::length::Width;
 use guest_types::predicate::PReg;
 use guest_types::register::ZReg;
 use lane_blocks::block::{blocks_of, clear_above};
 use lane_blocks::mask::predicate_block;
-use lane_preds::bits::first_elements;
-use std::simd::prelude::*;
-
-// Whether a predicate has each of these bits.
-#[inline(always)]
-fn has_bits(predicate: u8x32, bits: u8x32) -> bool
-    ensures { IsTrue result → both_of predicate bits ≡ bits }
-{
-    (predicate & bits).to_array() == bits.to_array()
-}
+use lane_preds::bits::{first_elements, has_bits};
 
 /// Whether the first elements are all active, so many of them.
 #[inline(always)]

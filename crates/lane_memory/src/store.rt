@@ -3,7 +3,7 @@
 ghost use Rattle.std.specs.Prelude.{◌≡◌, ◌+◌, ◌-◌, ◌*◌, ◌≤◌, ◌<◌, ℕ, true, false, length, IfErr, OnOk, IsTrue};
 ghost use Rattle.guest_types.specs.Length.{all_lanes, width_bytes};
 ghost use Rattle.guest_types.specs.Elements.{active};
-ghost use Rattle.guest_types.specs.Spans.{has_span_mut, span_of, with_span};
+ghost use Rattle.paged_memory.specs.Loans.{IsPlaceOf};
 ghost use Rattle.guest_types.specs.LaneMemory.{store_of, AllStored, StoreFault};
 ghost use Rattle.lane_memory.specs.Writings.{stored_of, target_of, IsSpanWritten};
 
@@ -45,27 +45,43 @@ fn store_one(
 }
 
 /// Stores the active of so many elements that stand in one page that may be written.
-fn store_part(pages: &mut Pages, writing: Writing, pg: &PReg, z: &ZReg, from: usize, count: usize)
+fn store_part(
+    pages: &mut Pages,
+    writing: Writing,
+    pg: &PReg,
+    z: &ZReg,
+    from: usize,
+    count: usize,
+    place: usize,
+)
     requires inside { from + count ≤ all_lanes writing.element }
-    requires part { has_span_mut pages.old (target_of writing from) (width_bytes writing.memory * count) ≡ true }
+    requires part { IsPlaceOf pages.old (target_of writing from) (width_bytes writing.memory * count) place }
     ensures { IsSpanWritten writing pg.now.bits z.now.bytes from count pages.old pages.new }
 {
     let len = writing.memory.bytes() * count;
-    let part = pages.lend_mut(writing.target(from), len as u32);
+    let part = pages.lend_mut(writing.target(from), len as u32, place);
     write_part(writing, pg, z, from, count, part);
 }
 
 /// Stores so many elements that are all active and stand in one page that may be written: one copy.
 #[inline(always)]
-fn store_full(pages: &mut Pages, writing: Writing, pg: &PReg, z: &ZReg, from: usize, count: usize)
+fn store_full(
+    pages: &mut Pages,
+    writing: Writing,
+    pg: &PReg,
+    z: &ZReg,
+    from: usize,
+    count: usize,
+    place: usize,
+)
     requires same { writing.memory ≡ writing.element }
     requires inside { from + count ≤ all_lanes writing.element }
     requires full { (e : ℕ) → e < from + count → active writing.element pg.now.bits e ≡ true }
-    requires part { has_span_mut pages.old (target_of writing from) (width_bytes writing.memory * count) ≡ true }
+    requires part { IsPlaceOf pages.old (target_of writing from) (width_bytes writing.memory * count) place }
     ensures { IsSpanWritten writing pg.now.bits z.now.bytes from count pages.old pages.new }
 {
     let len = writing.memory.bytes() * count;
-    let part = pages.lend_mut(writing.target(from), len as u32);
+    let part = pages.lend_mut(writing.target(from), len as u32, place);
     write_whole(writing, pg, z, from, count, part);
 }
 
@@ -83,10 +99,10 @@ fn store_at_once(pages: &mut Pages, writing: Writing, pg: &PReg, z: &ZReg, lanes
         return false;
     }
     let len = writing.memory.bytes() * lanes;
-    if !pages.has_span_mut(writing.target(0), len as u32) {
+    let Some(place) = pages.place_mut(writing.target(0), len as u32) else {
         return false;
-    }
-    store_full(pages, writing, pg, z, 0, lanes);
+    };
+    store_full(pages, writing, pg, z, 0, lanes, place);
     true
 }
 
@@ -113,8 +129,8 @@ fn store_active(
         pages.is_memory();
         let address = writing.target(e);
         let count = count_in_page(address, writing.memory, to - e);
-        if pages.has_span_mut(address, (size * count) as u32) {
-            store_part(pages, writing, pg, z, e, count);
+        if let Some(place) = pages.place_mut(address, (size * count) as u32) {
+            store_part(pages, writing, pg, z, e, count, place);
             e += count;
         } else {
             if let Err(fault) = store_one(pages, writing, pg, z, e) {

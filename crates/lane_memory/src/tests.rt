@@ -1,9 +1,7 @@
 // Loads and stores of lanes over four pages: 0 and 1 may be written, 2 may be read, 3 is not mapped.
 
-ghost use Rattle.std.specs.Prelude.{◌≡◌, ◌+◌, ◌≤◌, ◌<◌, ◌^◌, IfOk};
+ghost use Rattle.std.specs.Prelude.{◌≤◌, ◌<◌};
 ghost use Rattle.guest_types.specs.Length.{IsLength, all_lanes};
-ghost use Rattle.guest_types.specs.Memory.{IsPage};
-ghost use Rattle.paged_memory.specs.Runs.{IsRun};
 
 use crate::load::load;
 use crate::store::store;
@@ -11,36 +9,14 @@ use crate::suppress::Suppress;
 use guest_types::guest::GuestMemory;
 use guest_types::image::{Image, PageMap};
 use guest_types::length::{Vl, Width};
-use guest_types::memory::{AccessFault, PageBytes, PageNo, PageSpec, Perm};
+use guest_types::memory::{AccessFault, Perm};
 use guest_types::predicate::PReg;
 use guest_types::register::ZReg;
 use guest_types::row::{LoadMode, LoadRow, StoreRow};
 use paged_memory::pages::Pages;
+use paged_memory::run::run;
 use std::alloc::{AllocError, Global};
 use std::test::Fail;
-
-// A page of zeros.
-fn page(alloc: Global, number: u64, perm: Perm) -> Result<PageSpec, AllocError>
-    requires { number < 2 ^ 36 }
-    ensures number { IfOk result (λ page. page.page ≡ number) }
-    ensures valid { IfOk result IsPage }
-{
-    let bytes = PageBytes::new(vec![in alloc; 0u8; 4096]?);
-    let number = PageNo::new(number).unwrap();
-    Ok(PageSpec::new(number, perm, bytes))
-}
-
-// Pages one after another.
-fn run(alloc: Global, from: u64, count: u64, perm: Perm) -> Result<Vec<PageSpec>, AllocError>
-    requires { from + count ≤ 2 ^ 36 }
-    ensures { IfOk result (λ pages. IsRun from count pages.items) }
-{
-    let mut pages = Vec::new(alloc);
-    for k in 0..count {
-        pages.push(page(alloc, from + k, perm)?)?;
-    }
-    Ok(pages)
-}
 
 // The four pages, in which the last 16 bytes of page 1 are 0x80 to 0x8f, as are the first of page 0.
 fn built(alloc: Global) -> Result<Pages, AllocError> {
@@ -48,10 +24,10 @@ fn built(alloc: Global) -> Result<Pages, AllocError> {
         entry: 0,
         code_from: 0,
         code_end: 0,
-        pages: run(alloc, 0, 2, Perm::ReadWrite)?,
+        pages: run(alloc, 0, 2, Perm::ReadWrite, &[])?,
     };
     let map = PageMap {
-        pages: run(alloc, 2, 1, Perm::Read)?,
+        pages: run(alloc, 2, 1, Perm::Read, &[])?,
     };
     let mut pages = Pages::build(alloc, &image, &map)?;
     for at in [0, 0x1ff0] {
@@ -65,20 +41,6 @@ fn vl(bits: u32) -> Vl
     requires { IsLength bits }
 {
     Vl::new(bits).unwrap()
-}
-
-fn read_fault(address: u64) -> Result<u64, AccessFault> {
-    Err(AccessFault {
-        address,
-        write: false,
-    })
-}
-
-fn write_fault(address: u64) -> Result<(), AccessFault> {
-    Err(AccessFault {
-        address,
-        write: true,
-    })
 }
 
 // An element of what a load gives.
@@ -224,9 +186,9 @@ fn edges(rt: HostRuntime) -> Result<(), Fail> {
     assert!(rt; lane(&straddles, Width::S, 1) == Ok(0x3344_5566));
     assert!(rt; lane(&straddles, Width::S, 2) == Ok(0x1122));
     let unmapped = read(&pages, 10, 0x2ffa, 0, 128, 255);
-    assert!(rt; lane(&unmapped, Width::S, 0) == read_fault(0x3000));
+    assert!(rt; lane(&unmapped, Width::S, 0) == Err(AccessFault::read(0x3000)));
     let first = read(&pages, 10, 0x2ffa, 0, 128, 0x01);
-    assert!(rt; lane(&first, Width::S, 0) == read_fault(0x3002));
+    assert!(rt; lane(&first, Width::S, 0) == Err(AccessFault::read(0x3002)));
     Ok(())
 }
 
@@ -250,7 +212,7 @@ fn past_the_last_address(rt: HostRuntime) -> Result<(), Fail> {
         &mut ffr,
         &mut stops,
     );
-    assert!(rt; lane(&all, Width::B, 0) == read_fault(base));
+    assert!(rt; lane(&all, Width::B, 0) == Err(AccessFault::read(base)));
     pg.bits[0] = 0;
     pg.bits[1] = 0;
     let high = load(
@@ -314,7 +276,7 @@ fn first_faults(rt: HostRuntime) -> Result<(), Fail> {
         &mut ffr,
         &mut stops,
     );
-    assert!(rt; lane(&z, Width::S, 0) == read_fault(0x3000));
+    assert!(rt; lane(&z, Width::S, 0) == Err(AccessFault::read(0x3000)));
     assert!(rt; ffr.bits[1] == 0x0f);
     let z = load(
         &pages,
@@ -415,7 +377,7 @@ fn stores(rt: HostRuntime) -> Result<(), Fail> {
 fn refused_stores(rt: HostRuntime) -> Result<(), Fail> {
     let mut pages = built(rt.alloc())?;
     let z = ZReg { bytes: [0x77; 256] };
-    assert!(rt; write(&mut pages, 0, 0, 0x1ff8, 128, 0x0f, &z) == write_fault(0x2000));
+    assert!(rt; write(&mut pages, 0, 0, 0x1ff8, 128, 0x0f, &z) == Err(AccessFault::write(0x2000)));
     assert!(rt; pages.load(0x1ff8, 8) == Ok(0x8f8e_8d8c_7777_7777));
     assert!(rt; write(&mut pages, 0, 0, 0x1ff0, 2048, 0, &z) == Ok(()));
     let row = StoreRow::new(0, 0).unwrap();
@@ -423,7 +385,7 @@ fn refused_stores(rt: HostRuntime) -> Result<(), Fail> {
     pg.bits[0] = 0x81;
     assert!(rt; store(&mut pages, row, 0x1ff8, 0, vl(2048), &pg, &z) == Ok(()));
     assert!(rt; pages.load(0x1ff8, 8) == Ok(0x778e_8d8c_7777_7777));
-    assert!(rt; write(&mut pages, 3, 3, 0x1ffc, 128, 255, &z) == write_fault(0x2000));
+    assert!(rt; write(&mut pages, 3, 3, 0x1ffc, 128, 255, &z) == Err(AccessFault::write(0x2000)));
     assert!(rt; pages.load(0x1ff8, 8) == Ok(0x778e_8d8c_7777_7777));
     Ok(())
 }
@@ -437,7 +399,7 @@ fn stores_past_the_last_address(rt: HostRuntime) -> Result<(), Fail> {
     let row = StoreRow::new(0, 0).unwrap();
     let mut pg = PReg { bits: [255; 32] };
     let base = u64::MAX - 15;
-    assert!(rt; store(&mut pages, row, base, 0, vl(256), &pg, &z) == write_fault(base));
+    assert!(rt; store(&mut pages, row, base, 0, vl(256), &pg, &z) == Err(AccessFault::write(base)));
     assert!(rt; pages.load(0, 8) == Ok(0x8786_8584_8382_8180));
     pg.bits[0] = 0;
     pg.bits[1] = 0;
@@ -446,7 +408,7 @@ fn stores_past_the_last_address(rt: HostRuntime) -> Result<(), Fail> {
     assert!(rt; pages.load(8, 8) == Ok(0x7777_7777_7777_7777));
     assert!(rt; pages.load(16, 8) == Ok(0));
     let top = u64::MAX - 1;
-    assert!(rt; write(&mut pages, 2, 2, top, 128, 255, &z) == write_fault(top));
+    assert!(rt; write(&mut pages, 2, 2, top, 128, 255, &z) == Err(AccessFault::write(top)));
     let row = StoreRow::new(3, 3).unwrap();
     pg.bits[0] = 255;
     assert!(rt; store(&mut pages, row, 0x28, u64::MAX, vl(128), &pg, &z) == Ok(()));

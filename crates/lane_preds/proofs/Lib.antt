@@ -1,4 +1,5 @@
 pub mod Places
+pub mod Active
 pub mod Patterns
 pub mod Flags
 pub mod Counts

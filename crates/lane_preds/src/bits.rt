@@ -1,10 +1,10 @@
 //! Predicates as vectors of 32 bytes: which bits are set.
 
-ghost use Rattle.std.specs.Prelude.{◌≡◌, ◌*◌, ◌<◌, ◌≤◌, IfSome};
+ghost use Rattle.std.specs.Prelude.{◌≡◌, ◌*◌, ◌<◌, ◌≤◌, IfSome, IsTrue};
 ghost use Rattle.guest_types.specs.Length.{IsLength, width_bytes, all_lanes, lanes};
 ghost use Rattle.guest_types.specs.Elements.{bits_of, predicate};
 ghost use Rattle.guest_types.specs.Lanes.{all_at};
-ghost use Rattle.lane_preds.specs.Bits.{starts, first_set, last_set, nonzero_bytes, bit_count};
+ghost use Rattle.lane_preds.specs.Bits.{starts, both_of, first_set, last_set, nonzero_bytes, bit_count};
 
 use guest_types::length::{Vl, Width};
 use lane_blocks::mask::below;
@@ -44,6 +44,14 @@ pub fn all_elements(width: Width, vl: Vl) -> u8x32
     let starts = starts(width);
     let limits = below(8 * vl.lanes(Width::D) as usize);
     starts & limits
+}
+
+/// Whether a predicate has each of these bits.
+#[inline(always)]
+pub fn has_bits(predicate: u8x32, bits: u8x32) -> bool
+    ensures { IsTrue result → both_of predicate bits ≡ bits }
+{
+    (predicate & bits).to_array() == bits.to_array()
 }
 
 /// Which bytes are not 0, as bits.

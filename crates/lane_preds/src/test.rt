@@ -4,21 +4,11 @@ ghost use Rattle.std.specs.Prelude.{◌≡◌, ℕ, ◌<◌, IsTrue, true};
 ghost use Rattle.guest_types.specs.Length.{lanes};
 ghost use Rattle.guest_types.specs.Elements.{active, pred_test, nzcv};
 ghost use Rattle.guest_types.specs.Lanes.{count_of};
-ghost use Rattle.lane_preds.specs.Bits.{both_of};
 
-use crate::bits::{all_elements, count_bits, first_bit, last_bit};
+use crate::bits::{all_elements, count_bits, first_bit, has_bits, last_bit};
 use guest_types::length::{Vl, Width};
 use guest_types::predicate::PReg;
 use lane_blocks::mask::predicate_block;
-use std::simd::prelude::*;
-
-// Whether a predicate has each of these bits.
-#[inline(always)]
-fn has_bits(predicate: u8x32, bits: u8x32) -> bool
-    ensures { IsTrue result → both_of predicate bits ≡ bits }
-{
-    (predicate & bits).to_array() == bits.to_array()
-}
 
 /// Whether every element of a register of the length is true.
 #[inline(always)]

@@ -1,16 +1,15 @@
 -- What a memory is after a part of it was lent, by the bytes of all pages.
-use Rattle.std.proofs.Common.{◌≡◌, ℕ, zero, suc, ◌+◌, ◌-◌, ◌*◌, ◌/◌, ◌%◌, ◌<◌, ◌≤◌, Bool, true, false, cond, List, [], ◌∷◌, ◌++◌, length, take, drop, None, refl, sym, ap, ap₂, ◌∙◌, arith, append_assoc, length-append}
-use Rattle.std.specs.Prelude.{nat_eq, slice_index, is_some}
+use Rattle.std.proofs.Common.{◌≡◌, ℕ, zero, suc, ◌+◌, ◌-◌, ◌*◌, ◌/◌, ◌%◌, ◌<◌, ◌≤◌, Bool, true, false, cond, List, [], ◌∷◌, ◌++◌, length, take, drop, refl, sym, ap, ap₂, ◌∙◌, arith, append_assoc, length-append}
+use Rattle.std.specs.Prelude.{nat_eq, slice_index}
 use Rattle.std.proofs.Math.Nat.{mul-suc, mul-zero}
-use Rattle.std.proofs.lemmas.Bool.{and_parts, cond-true, cond-false, eq-eqb, ne_eqb, eqb-true}
+use Rattle.std.proofs.lemmas.Bool.{cond-true, cond-false, eq-eqb, ne_eqb, eqb-true}
 use Rattle.std.proofs.lemmas.List.{nil_from_length, length-take-le, length-drop, take-append-drop, drop-drop, drop-take, take-take, take_all, take_at, drop_at, append-nil}
 use Rattle.std.proofs.Math.Seq.{take-append-add, drop-append-add}
-use Rattle.guest_types.specs.Memory.{Memory, page_at, can_read, can_write, may_write}
-use Rattle.guest_types.specs.Spans.{in_one_page, has_span, has_span_mut, span_of, with_span, bytes_or_none}
-use Rattle.guest_types.proofs.SpanLaws.{in_one_page-fits}
+use Rattle.guest_types.specs.Memory.{Memory}
+use Rattle.guest_types.specs.Spans.{span_of, with_span, bytes_or_none}
 use Rattle.paged_memory.specs.declared.head.Head.{Head}
 use Rattle.paged_memory.specs.Layout.{memory_of, head_numbers, IsLaidOut, StandsAt}
-use Rattle.paged_memory.specs.Loans.{place_in, start_of, all_bytes, run_of, with_all, put_at, refilled, with_run, after_loan}
+use Rattle.paged_memory.specs.Loans.{place_in, start_of, all_bytes, run_of, with_all, put_at, refilled, with_run, after_loan, IsPlaceOf}
 use Rattle.paged_memory.proofs.Found.{found}
 use Rattle.paged_memory.proofs.Places.{IsFirst, first-stands, length-memory_of}
 
@@ -160,13 +159,10 @@ laid-refilled heads bs new laid = record {
   few = laid.few;
 }
 
--- what has a span has a page there
-pub read_spanned : (m : Memory) (a len : ℕ) → has_span m a len ≡ true → (a % 4096 + len ≤ 4096) × (page_at m (a / 4096) ≡ None → ⊥)
-read_spanned m a len has =
-    let parts = and_parts (in_one_page a len) (can_read m a) has in
-    ((in_one_page-fits a len parts.0).1, λ none. (let clash : false ≡ true = sym (ap is_some none) ∙ parts.1 in cc))
-
-pub spanned : (m : Memory) (a len : ℕ) → has_span_mut m a len ≡ true → (a % 4096 + len ≤ 4096) × (page_at m (a / 4096) ≡ None → ⊥)
-spanned m a len has =
-    let parts = and_parts (in_one_page a len) (can_write m a) has in
-    ((in_one_page-fits a len parts.0).1, λ none. (let clash : false ≡ true = sym (ap may_write none) ∙ parts.1 in cc))
+-- the place of a span
+pub place-of : (heads : List Head) (bs : List ℕ) (m : Memory) (a len i : ℕ) → memory_of heads bs ≡ m → IsLaidOut heads bs → StandsAt heads (a / 4096) i → a % 4096 + len ≤ 4096 → IsPlaceOf m a len (4096 * i + a % 4096)
+place-of heads bs m a len i is laid here fits = record {
+  inside = omega (arith, here.below, fits, length-pages heads bs m is);
+  part = span-run heads bs m a len i is laid here fits;
+  loan = λ bytes. with_run-span heads bs m a len i bytes is laid here fits;
+}

@@ -1,7 +1,7 @@
 -- What a memory is after a part of a page was lent. After the loan stands a slice, which keeps its length.
-use Rattle.std.specs.Prelude.{ℕ, suc, ◌+◌, ◌*◌, ◌/◌, ◌%◌, List, [], ◌∷◌, ◌++◌, take, drop, length, nat_eq, if◌then◌else◌}
+use Rattle.std.specs.Prelude.{◌≡◌, ℕ, suc, ◌+◌, ◌*◌, ◌/◌, ◌%◌, ◌≤◌, List, [], ◌∷◌, ◌++◌, take, drop, length, nat_eq, if◌then◌else◌}
 use Rattle.guest_types.specs.Memory.{Memory}
-use Rattle.guest_types.specs.Spans.{with_span}
+use Rattle.guest_types.specs.Spans.{span_of, with_span}
 
 -- how many pages stand before the one with a number
 abbrev pub place_in : Memory → ℕ → ℕ
@@ -43,3 +43,9 @@ with_run memory start bytes = with_all memory (let all = all_bytes memory in ref
 abbrev pub after_loan : Memory → (address len : ℕ) → List ℕ → Memory
 after_loan memory address len bytes =
     if nat_eq (length bytes) len then with_span memory address bytes else with_run memory (start_of memory address) bytes
+
+-- Where a part of one page stands among the bytes of all pages, and what the memory is after a loan of it.
+pub record IsPlaceOf (memory : Memory) (address len place : ℕ) : Type 0 where
+  pub inside : place + len ≤ 4096 * length memory
+  pub part : run_of memory place len ≡ span_of memory address len
+  pub loan : (bytes : List ℕ) → with_run memory place bytes ≡ after_loan memory address len bytes

@@ -6,5 +6,6 @@ mod merge;
 pub mod number;
 pub mod pages;
 mod place;
+pub mod run;
 #[cfg(test)]
 mod tests;

@@ -142,10 +142,7 @@ impl Pages {
         ensures { result ≡ loaded self.now address size }
     {
         match self.read_fault(address, size) {
-            Some(fault) => Err(AccessFault {
-                address: fault,
-                write: false,
-            }),
+            Some(fault) => Err(AccessFault::read(fault)),
             None => Ok(self.number(address, size)),
         }
     }
@@ -180,10 +177,7 @@ impl Pages {
         ensures unchanged { OnErr result (self.new ≡ self.old) }
     {
         match self.write_fault(address, size) {
-            Some(fault) => Err(AccessFault {
-                address: fault,
-                write: true,
-            }),
+            Some(fault) => Err(AccessFault::write(fault)),
             None => {
                 self.put_number(address, size, value);
                 Ok(())
@@ -212,7 +206,7 @@ impl Pages {
     ghost use Rattle.std.specs.Prelude.{◌*◌, List, true, IsTrue, IsSome, IfSome, ◌↔◌};
     ghost use Rattle.std.specs.Borrow.{Array, Lends, sem, u8};
     ghost use Rattle.paged_memory.specs.contracts.pages.Pages.{the_row};
-    ghost use Rattle.paged_memory.specs.Loans.{run_of, with_run, after_loan};
+    ghost use Rattle.paged_memory.specs.Loans.{run_of, with_run, after_loan, IsPlaceOf};
 
     fn can_read(&self, address: u64) -> bool
         ensures { result ≡ can_read self.now address }
@@ -239,25 +233,33 @@ impl Pages {
         in_one_page(address, len) && self.can_write(address)
     }
 
-    /// Lends the bytes of a range in one page.
-    pub fn lend(&self, address: u64, len: u32) -> &[u8]
-        requires { has_span self.now address len ≡ true }
-        ensures value { result.now ≡ span_of self.now address len }
-        ensures len { length result.now ≡ len }
+    // The place of a span's first byte among the bytes of all pages.
+    #[inline(always)]
+    fn span_place(&self, address: u64, len: u32) -> Option<usize>
+        ensures some { IsSome result ↔ IsTrue (has_span self.now address len) }
+        ensures inside { IfSome result (λ place. place + len ≤ 4096 * length self.now) }
+        ensures part { IfSome result (λ place. run_of self.now place len ≡ span_of self.now address len) }
     {
-        let start = self.read_start(address, len);
-        &self.bytes[start..start + len as usize]
+        if !in_one_page(address, len) {
+            return None;
+        }
+        match read_place_of(&self.heads, &self.recent, address / 4096) {
+            Some(place) => Some(4096 * place + (address % 4096) as usize),
+            None => None,
+        }
     }
 
-    /// The bytes of a range, where it is not empty and lies in one page.
+    /// The bytes of a range, where it is not empty and lies in one page. The page is looked up once.
+    #[inline(always)]
     pub fn span(&self, address: u64, len: u32) -> Option<&[u8]>
         ensures some { IsSome result ↔ IsTrue (has_span self.now address len) }
         ensures value { IfSome result (λ part. part.now ≡ span_of self.now address len) }
+        ensures len { IfSome result (λ part. length part.now ≡ len) }
     {
-        if !self.has_span(address, len) {
-            return None;
+        match self.span_place(address, len) {
+            Some(place) => Some(self.run(place, len as usize)),
+            None => None,
         }
-        Some(self.lend(address, len))
     }
 
     /// What callers may rest on: the numbers of the pages ascend and are below 2^36, and each page
@@ -269,33 +271,37 @@ impl Pages {
         are_bytes(&self.bytes);
     }
 
-    // The place of a span's first byte among the bytes of all pages.
     #[inline(always)]
-    fn read_start(&self, address: u64, len: u32) -> usize
-        requires { has_span self.now address len ≡ true }
-        ensures inside { result + len ≤ 4096 * length self.now }
-        ensures part { run_of self.now result len ≡ span_of self.now address len }
+    fn run(&self, start: usize, len: usize) -> &[u8]
+        requires { start + len ≤ 4096 * length self.now }
+        ensures value { result.now ≡ run_of self.now start len }
+        ensures len { length result.now ≡ len }
     {
-        match read_place_of(&self.heads, &self.recent, address / 4096) {
-            Some(place) => 4096 * place + (address % 4096) as usize,
-            None => 0,
-        }
+        &self.bytes[start..start + len]
     }
 
-    // The same of a span that may be written.
+    /// The place, among the bytes of all pages, of a range that is not empty and lies in one page that may be written.
     #[inline(always)]
-    fn start(&self, address: u64, len: u32) -> usize
-        requires { has_span_mut self.now address len ≡ true }
-        ensures inside { result + len ≤ 4096 * length self.now }
-        ensures part { run_of self.now result len ≡ span_of self.now address len }
-        ensures loan { (bytes : List ℕ) → with_run self.now result bytes ≡ after_loan self.now address len bytes }
+    pub fn place_mut(&self, address: u64, len: u32) -> Option<usize>
+        ensures some { IsSome result ↔ IsTrue (has_span_mut self.now address len) }
+        ensures value { IfSome result (IsPlaceOf self.now address len) }
     {
+        if !in_one_page(address, len) {
+            return None;
+        }
         match place_of(&self.heads, &self.recent.written, address / 4096) {
-            Some(place) => 4096 * place + (address % 4096) as usize,
-            None => 0,
+            Some(place) => {
+                if self.heads[place].is_writable() {
+                    Some(4096 * place + (address % 4096) as usize)
+                } else {
+                    None
+                }
+            }
+            None => None,
         }
     }
 
+    #[inline(always)]
     fn run_mut(&mut self, start: usize, len: usize) -> &mut [u8]
         requires { start + len ≤ 4096 * length self.old }
         ensures* writes_back { sem 𝓛 (Lends the_row (Array u8 0) self.entry result (with_run self.old start)) }
@@ -305,15 +311,16 @@ impl Pages {
         self.bytes.slice_mut(start..start + len)
     }
 
-    /// Lends the bytes of a range in one page that may be written.
-    pub fn lend_mut(&mut self, address: u64, len: u32) -> &mut [u8]
-        requires { has_span_mut self.old address len ≡ true }
+    /// Lends the bytes of a range in one page that may be written, by its place.
+    #[inline(always)]
+    pub fn lend_mut(&mut self, address: u64, len: u32, place: usize) -> &mut [u8]
+        requires { IsPlaceOf self.old address len place }
         ensures* writes_back { sem 𝓛 (Lends the_row (Array u8 0) self.entry result (after_loan self.old address len)) }
         ensures value { result.now ≡ span_of self.old address len }
         ensures len { length result.now ≡ len }
     {
-        let start = self.start(address, len);
-        self.run_mut(start, len as usize)
+        let _address = address;
+        self.run_mut(place, len as usize)
     }
 
     /// The bytes of a range in one page that may be written.
@@ -321,10 +328,10 @@ impl Pages {
         ensures some { IsSome result ↔ IsTrue (has_span_mut self.old address len) }
         ensures value { IfSome result (λ r. r.now ≡ span_of self.old address len) }
     {
-        if !self.has_span_mut(address, len) {
-            return None;
+        match self.place_mut(address, len) {
+            Some(place) => Some(self.lend_mut(address, len, place)),
+            None => None,
         }
-        Some(self.lend_mut(address, len))
     }
 }
 

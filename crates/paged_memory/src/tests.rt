@@ -1,54 +1,19 @@
 // Pages that are laid out by hand, and what they answer.
 
-ghost use Rattle.std.specs.Prelude.{◌≡◌, ◌+◌, ◌≤◌, ◌<◌, ◌^◌, length, All, IfOk};
-ghost use Rattle.guest_types.specs.Memory.{IsPage, IsMemory};
-ghost use Rattle.paged_memory.specs.Runs.{IsRun};
+ghost use Rattle.std.specs.Prelude.{◌+◌, ◌≤◌, ◌<◌, ◌^◌};
 
 use crate::pages::Pages;
+use crate::run::run;
 use guest_types::guest::GuestMemory;
 use guest_types::image::{Image, PageMap};
-use guest_types::memory::{AccessFault, PageBytes, PageNo, PageSpec, Perm};
+use guest_types::memory::{AccessFault, Perm};
 use std::alloc::{AllocError, Global};
 use std::test::Fail;
 
 // The word of NOP.
 const NOP: [u8; 4] = [0x1f, 0x20, 0x03, 0xd5];
 
-// The bytes with NOP in place of the first four.
-fn begin(bytes: &mut Vec<u8>)
-    requires { 4 ≤ length bytes.old.items }
-    ensures whole { length bytes.new.items ≡ length bytes.old.items }
-    ensures small { All (λ b. b < 256) bytes.new.items }
-{
-    bytes[0..4].copy_from_slice(&NOP);
-}
-
-// A page that begins with NOP, and is zero above it.
-fn page(alloc: Global, number: u64, perm: Perm) -> Result<PageSpec, AllocError>
-    requires { number < 2 ^ 36 }
-    ensures number { IfOk result (λ page. page.page ≡ number) }
-    ensures valid { IfOk result IsPage }
-{
-    let mut bytes = vec![in alloc; 0u8; 4096]?;
-    begin(&mut bytes);
-    let page = PageNo::new(number).unwrap();
-    let bytes = PageBytes::new(bytes);
-    Ok(PageSpec { page, perm, bytes })
-}
-
-// Pages one after another.
-fn run(alloc: Global, from: u64, count: u64, perm: Perm) -> Result<Vec<PageSpec>, AllocError>
-    requires { from + count ≤ 2 ^ 36 }
-    ensures { IfOk result (λ pages. IsRun from count pages.items) }
-{
-    let mut pages = Vec::new(alloc);
-    for k in 0..count {
-        pages.push(page(alloc, from + k, perm)?)?;
-    }
-    Ok(pages)
-}
-
-// One page of code, and pages that are mapped above it.
+// One page of code, and pages that are mapped above it, each of which begins with NOP.
 fn built(alloc: Global, from: u64, count: u64, perm: Perm) -> Result<Pages, AllocError>
     requires above { 0x400 < from }
     requires few { count < 16384 }
@@ -58,26 +23,12 @@ fn built(alloc: Global, from: u64, count: u64, perm: Perm) -> Result<Pages, Allo
         entry: 0,
         code_from: 0,
         code_end: 0,
-        pages: run(alloc, 0x400, 1, Perm::ReadExec)?,
+        pages: run(alloc, 0x400, 1, Perm::ReadExec, &NOP)?,
     };
     let map = PageMap {
-        pages: run(alloc, from, count, perm)?,
+        pages: run(alloc, from, count, perm, &NOP)?,
     };
     Pages::build(alloc, &image, &map)
-}
-
-fn read_fault(address: u64) -> Result<u64, AccessFault> {
-    Err(AccessFault {
-        address,
-        write: false,
-    })
-}
-
-fn write_fault(address: u64) -> Result<(), AccessFault> {
-    Err(AccessFault {
-        address,
-        write: true,
-    })
 }
 
 #[test]
@@ -106,10 +57,10 @@ fn numbers_within_a_page(rt: HostRuntime) -> Result<(), Fail> {
 fn the_last_byte(rt: HostRuntime) -> Result<(), Fail> {
     let mut pages = built(rt.alloc(), 0x1000, 2, Perm::ReadWrite)?;
     assert!(rt; pages.load(0x100_1fff, 1) == Ok(0));
-    assert!(rt; pages.load(0x100_1fff, 2) == read_fault(0x100_2000));
-    assert!(rt; pages.store(0x100_1ff9, 8, u64::MAX) == write_fault(0x100_2000));
+    assert!(rt; pages.load(0x100_1fff, 2) == Err(AccessFault::read(0x100_2000)));
+    assert!(rt; pages.store(0x100_1ff9, 8, u64::MAX) == Err(AccessFault::write(0x100_2000)));
     assert!(rt; pages.load(0x100_1ff8, 8) == Ok(0));
-    assert!(rt; pages.load(u64::MAX, 2) == read_fault(u64::MAX));
+    assert!(rt; pages.load(u64::MAX, 2) == Err(AccessFault::read(u64::MAX)));
     Ok(())
 }
 
@@ -117,8 +68,8 @@ fn the_last_byte(rt: HostRuntime) -> Result<(), Fail> {
 fn permissions(rt: HostRuntime) -> Result<(), Fail> {
     let mut pages = built(rt.alloc(), 0x1000, 1, Perm::Read)?;
     assert!(rt; pages.load(0x100_0000, 4) == Ok(0xd503_201f));
-    assert!(rt; pages.store(0x100_0008, 4, 1) == write_fault(0x100_0008));
-    assert!(rt; pages.store(0x40_0008, 4, 1) == write_fault(0x40_0008));
+    assert!(rt; pages.store(0x100_0008, 4, 1) == Err(AccessFault::write(0x100_0008)));
+    assert!(rt; pages.store(0x40_0008, 4, 1) == Err(AccessFault::write(0x40_0008)));
     Ok(())
 }
 

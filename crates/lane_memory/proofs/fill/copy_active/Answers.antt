@@ -1,17 +1,17 @@
-use Rattle.std.proofs.Common.{◌*◌, sym, ap, arith}
+use Rattle.std.proofs.Common.{◌*◌, refl, ap, arith}
 use Rattle.lane_memory.specs.Readings.{refused_of}
 use Rattle.lane_memory.proofs.Firsts.{first_true-none}
 use Rattle.lane_memory.proofs.ReadLaws.{holds-part, holds-one}
 use Rattle.lane_memory.proofs.fill.copy_active.Goals as goal
 
-pub loop-e-preserved-then-has_span : goal.loop-e-preserved-then-has_span
-loop-e-preserved-then-has_span c =
+pub loop-e-preserved-in-Some : goal.loop-e-preserved-in-Some
+loop-e-preserved-in-Some c =
     let r = c.args.reading in
     let n = c.count_in_page-count.result in
     let h = c.loop-e.invariant in (
       omega (arith, h.0),
       omega (arith, c.count_in_page-count.ensures, c.loop-e-test.true),
-      holds-part r c.args.pages.now c.args.pg.now.bits c.lend.result.now c.args.from c.loop-e.e n c.place-address.result (c.bytes-size.result * n) c.loop-e.out.bytes c.copy_part.new.out.bytes c.is_memory.ensures h.2 c.place-address.ensures (ap (λ m. m * n) c.bytes-size.ensures) (sym c.if-has_span.ensures) c.lend.ensures.value c.copy_part.ensures,
+      holds-part r c.args.pages.now c.args.pg.now.bits c.in-Some.part.now c.args.from c.loop-e.e n c.place-address.result (c.bytes-size.result * n) c.loop-e.out.bytes c.copy_part.new.out.bytes c.is_memory.ensures h.2 c.place-address.ensures (ap (λ m. m * n) c.bytes-size.ensures) (c.in-Some.ensures.some.0 refl) c.in-Some.ensures.value c.copy_part.ensures,
     )
 
 pub copy_one-requires-clause-read : goal.copy_one-requires-clause-read

@@ -1,4 +1,4 @@
-use Rattle.std.proofs.Common.{◌≡◌, ◌+◌, ◌*◌, sym, ap, ◌∙◌, subst, arith}
+use Rattle.std.proofs.Common.{◌≡◌, ◌+◌, ◌*◌, refl, ap, ◌∙◌, subst, arith}
 use Rattle.lane_memory.specs.Readings.{refused_of, HoldsLanes, IsActiveRange}
 use Rattle.lane_memory.proofs.Firsts.{first_true-absent}
 use Rattle.lane_memory.proofs.ReadLaws.{holds-none, holds-part, filled, part-free}
@@ -17,7 +17,7 @@ returns-clause-filled c went =
     c.keep_first.ensures
     ∙ filled r m pg new n 0 n all
     (subst (λ e. HoldsLanes r m pg 0 e new) end
-    (holds-part r m pg c.lend.result.now 0 0 n c.place-address.result (c.bytes.result * n) old new c.is_memory.ensures (holds-none r m pg 0 old) c.place-address.ensures (ap (λ k. k * n) c.bytes.ensures) (sym c.has_span.ensures ∙ c.if-not-has_span.false) c.lend.ensures.value c.copy_part.ensures))
+    (holds-part r m pg c.in-Some.part.now 0 0 n c.place-address.result (c.bytes.result * n) old new c.is_memory.ensures (holds-none r m pg 0 old) c.place-address.ensures (ap (λ k. k * n) c.bytes.ensures) (c.in-Some.ensures.some.0 refl) c.in-Some.ensures.value c.copy_part.ensures))
 
 pub returns-clause-free : goal.returns-clause-free
 returns-clause-free c went =
@@ -25,4 +25,4 @@ returns-clause-free c went =
     let m = c.args.pages.now in
     let pg = c.args.pg.now.bits in
     let n = c.args.lanes in
-    first_true-absent (refused_of r m pg) n 0 (λ j _ l. part-free r m pg 0 n c.place-address.result (c.bytes.result * n) j c.place-address.ensures (ap (λ k. k * n) c.bytes.ensures) (sym c.has_span.ensures ∙ c.if-not-has_span.false) (omega arith) l)
+    first_true-absent (refused_of r m pg) n 0 (λ j _ l. part-free r m pg 0 n c.place-address.result (c.bytes.result * n) j c.place-address.ensures (ap (λ k. k * n) c.bytes.ensures) (c.in-Some.ensures.some.0 refl) (omega arith) l)

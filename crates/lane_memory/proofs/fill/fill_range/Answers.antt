@@ -1,4 +1,4 @@
-use Rattle.std.proofs.Common.{◌≡◌, ◌+◌, ◌-◌, ◌*◌, sym, ap, ◌∙◌, subst, arith, inl, inr}
+use Rattle.std.proofs.Common.{◌≡◌, ◌+◌, ◌-◌, ◌*◌, refl, ap, ◌∙◌, subst, arith, inl, inr}
 use Rattle.std.proofs.lemmas.Bool.{cases_lt}
 use Rattle.lane_memory.specs.Readings.{refused_of, HoldsLanes}
 use Rattle.lane_memory.proofs.Firsts.{first_true-absent}
@@ -18,7 +18,7 @@ returns-clause-filled c went =
     c.keep_active.ensures
     ∙ filled r m pg new c.args.lanes range.from range.to c.active_range-range.ensures
     (subst (λ e. HoldsLanes r m pg range.from e new) end
-    (holds-part r m pg c.lend.result.now range.from range.from n c.place-address.result (c.bytes.result * n) old new c.is_memory.ensures (holds-none r m pg range.from old) c.place-address.ensures (ap (λ k. k * n) c.bytes.ensures) (sym c.has_span.ensures ∙ c.if-not-has_span.false) c.lend.ensures.value c.copy_part.ensures))
+    (holds-part r m pg c.in-Some.part.now range.from range.from n c.place-address.result (c.bytes.result * n) old new c.is_memory.ensures (holds-none r m pg range.from old) c.place-address.ensures (ap (λ k. k * n) c.bytes.ensures) (c.in-Some.ensures.some.0 refl) c.in-Some.ensures.value c.copy_part.ensures))
 
 pub returns-clause-free : goal.returns-clause-free
 returns-clause-free c went =
@@ -30,7 +30,7 @@ returns-clause-free c went =
     first_true-absent (refused_of r m pg) c.args.lanes 0 (λ j _ l. elim (cases_lt j range.from) [
       | inl b ↦ refused-inactive r m pg j (c.active_range-range.ensures.before j b)
       | inr g ↦ elim (cases_lt j range.to) [
-        | inl b ↦ part-free r m pg range.from n c.place-address.result (c.bytes.result * n) j c.place-address.ensures (ap (λ k. k * n) c.bytes.ensures) (sym c.has_span.ensures ∙ c.if-not-has_span.false) g (omega (arith, c.active_range-range.ensures.order))
+        | inl b ↦ part-free r m pg range.from n c.place-address.result (c.bytes.result * n) j c.place-address.ensures (ap (λ k. k * n) c.bytes.ensures) (c.in-Some.ensures.some.0 refl) g (omega (arith, c.active_range-range.ensures.order))
         | inr a ↦ refused-inactive r m pg j (c.active_range-range.ensures.after j a (omega (arith, l)))
       ]
     ])

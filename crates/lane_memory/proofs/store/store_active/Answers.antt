@@ -1,4 +1,4 @@
-use Rattle.std.proofs.Common.{◌≡◌, suc, ◌+◌, ◌-◌, ◌*◌, true, sym, ap, ap₂, ◌∙◌, arith}
+use Rattle.std.proofs.Common.{◌≡◌, suc, ◌+◌, ◌-◌, ◌*◌, true, refl, sym, ap, ap₂, ◌∙◌, arith}
 use Rattle.guest_types.specs.Length.{width_bytes}
 use Rattle.guest_types.specs.Spans.{has_span_mut}
 use Rattle.guest_types.specs.Elements.{at, active}
@@ -7,8 +7,8 @@ use Rattle.lane_memory.proofs.SpanWrites.{store-one_done, store-one_stop}
 use Rattle.lane_memory.proofs.WriteLaws.{part-stored}
 use Rattle.lane_memory.proofs.store.store_active.Goals as goal
 
-pub loop-e-preserved-then-has_span_mut : goal.loop-e-preserved-then-has_span_mut
-loop-e-preserved-then-has_span_mut c =
+pub loop-e-preserved-in-Some : goal.loop-e-preserved-in-Some
+loop-e-preserved-in-Some c =
     let w = c.args.writing in
     let pg = c.args.pg.now.bits in
     let z = c.args.z.now.bytes in
@@ -17,7 +17,7 @@ loop-e-preserved-then-has_span_mut c =
     let to = c.args.to in
     let h = c.loop-e.invariant in
     let has : has_span_mut c.loop-e.pages (target_of w e) (width_bytes w.memory * n) ≡ true =
-    sym (ap₂ (has_span_mut c.loop-e.pages) c.target-address.ensures (ap (λ m. m * n) c.bytes-size.ensures)) ∙ sym c.if-has_span_mut.ensures in (
+    sym (ap₂ (has_span_mut c.loop-e.pages) c.target-address.ensures (ap (λ m. m * n) c.bytes-size.ensures)) ∙ c.in-Some.ensures.some.0 refl in (
       omega (arith, h.0),
       omega (arith, c.count_in_page-count.ensures, c.loop-e-test.true),
       h.2 ∙ ap (λ l. stored_of w pg z l e c.loop-e.pages) (let q : to - e ≡ n + (to - (e + n)) = omega (arith, c.count_in_page-count.ensures, c.loop-e-test.true) in q)
@@ -44,5 +44,5 @@ loop-e-preserved c =
       omega (arith, c.loop-e.invariant.0),
       omega (arith, c.loop-e-test.true),
       c.loop-e.invariant.2 ∙ ap (λ l. stored_of w pg z l e c.loop-e.pages) (let q : to - e ≡ suc (to - (e + 1)) = omega (arith, c.loop-e-test.true) in q)
-          ∙ store-one_done (active w.element pg) (target_of w) (at w.element z) (width_bytes w.memory) (to - (e + 1)) e c.loop-e.pages c.store_one.new.pages c.in_default.ensures.done,
+          ∙ store-one_done (active w.element pg) (target_of w) (at w.element z) (width_bytes w.memory) (to - (e + 1)) e c.loop-e.pages c.store_one.new.pages c.in_default-store_one.ensures.done,
     )

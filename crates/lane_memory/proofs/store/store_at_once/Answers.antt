@@ -1,4 +1,4 @@
-use Rattle.std.proofs.Common.{◌≡◌, ◌+◌, ◌-◌, ◌*◌, true, sym, ap, ap₂, ◌∙◌, arith}
+use Rattle.std.proofs.Common.{◌≡◌, ◌+◌, ◌-◌, ◌*◌, true, refl, sym, ap, ap₂, ◌∙◌, arith}
 use Rattle.guest_types.specs.Length.{width_bytes}
 use Rattle.guest_types.specs.Spans.{has_span_mut}
 use Rattle.lane_memory.specs.Writings.{target_of, stored_of}
@@ -13,6 +13,6 @@ returns-clause-done c went =
     let pg = c.args.pg.now.bits in
     let z = c.args.z.now.bytes in
     let has : has_span_mut m (target_of w 0) (width_bytes w.memory * n) ≡ true =
-    sym (ap₂ (has_span_mut m) c.target.ensures (ap (λ k. k * n) c.bytes.ensures)) ∙ sym c.has_span_mut.ensures ∙ c.if-not-has_span_mut.false in
+    sym (ap₂ (has_span_mut m) c.target.ensures (ap (λ k. k * n) c.bytes.ensures)) ∙ c.in-Some.ensures.some.0 refl in
     ap (λ l. stored_of w pg z l 0 m) (let q : n - 0 ≡ n + 0 = omega arith in q)
     ∙ part-stored w pg z 0 n 0 m c.store_full.new.pages c.is_memory.ensures has c.store_full.ensures
