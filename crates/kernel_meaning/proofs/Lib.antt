@@ -5,7 +5,6 @@ pub mod Example
 pub mod Residues
 pub mod StepLists
 pub mod Growth
-pub mod Choices
 pub mod Steps
 pub mod HeldSlots
 pub mod ResolvedValues

@@ -1,15 +1,16 @@
 //! Emits the code of statements.
 
-ghost use Rattle.std.specs.Prelude.{◌≡◌, ◌+◌, ◌<◌, ◌^◌, List, ◌∷◌, ◌++◌, OnOk, option_and_then};
-ghost use Rattle.kernel_tree.specs.Plain.{Action, Define, Put, Update, Choose, Leave, Nothing, Else, name_of, term_of, action_of, block_of};
-ghost use Rattle.kernel_tree.specs.Items.{term_size, action_size, block_size, stream_offset};
+ghost use Rattle.std.specs.Prelude.{◌≡◌, ◌+◌, ◌<◌, ◌^◌, false, OnOk};
+ghost use Rattle.kernel_tree.specs.Plain.{Define, Put, Update, Choose, Leave, Nothing, Else, name_of, term_of, action_of, block_of};
+ghost use Rattle.kernel_tree.specs.Parts.{part_action};
+ghost use Rattle.kernel_tree.specs.Items.{action_size, block_size, stream_offset};
 ghost use Rattle.kernel_tree.specs.Typing as typing;
 ghost use Rattle.kernel_scope.specs.Scopes.{scope_of};
 ghost use Rattle.kernel_meaning.specs.Operators as operators;
 ghost use Rattle.label_fix.specs.DraftRun as plain;
 ghost use Rattle.scalar_emit.specs.Words as words;
 ghost use Rattle.scalar_emit.specs.Statements as statements;
-ghost use Rattle.scalar_emit.specs.Kinds.{IsValue, IsTruth, ActionKinds, BlockKinds};
+ghost use Rattle.scalar_emit.specs.Kinds.{IsValue, IsTruth, ActionKinds, BlockKinds, has_blocks};
 ghost use Rattle.scalar_emit.specs.Drafts.{Appends};
 ghost use Rattle.scalar_emit.specs.View.{homes_of};
 
@@ -22,7 +23,7 @@ use a64_code::Reg;
 use kernel_scope::{
     Scope, accumulator_type, define, element_type, first, leave, lookup, own_type, visible_count,
 };
-use kernel_tree::{BinaryOp, Expr, Name, Stmt, Ty, UpdateOp};
+use kernel_tree::{BinaryOp, Expr, Name, Part, Stmt, Ty, UpdateOp, parts};
 use label_fix::{BranchKind, Draft, Label};
 use std::alloc::AllocError;
 
@@ -234,6 +235,56 @@ fn emit_break(
     Ok(())
 }
 
+// A statement with no blocks.
+fn emit_plain<'a>(
+    draft: &mut Draft,
+    places: &Places,
+    homes: &mut Vec<Home<'a>>,
+    scope: &mut Scope<'a>,
+    exit: Label,
+    part: Part<'a>,
+    item: &mut usize,
+) -> Result<(), AllocError>
+    requires no_blocks { has_blocks (part_action part) ≡ false }
+    requires exit { exit < draft.old.labels }
+    requires kinds { ActionKinds (part_action part) }
+    requires fits { item.old + action_size (scope_of scope.old).index (part_action part) < 2 ^ 32 }
+    ensures scope { OnOk result (scope_of scope.new ≡ typing.after_action (scope_of scope.old) (part_action part.entry)) }
+    ensures homes { OnOk result (homes_of homes.new.items
+        ≡ statements.after_homes places.now (homes_of homes.old.items) (scope_of scope.old) item.old
+        (part_action part.entry)) }
+    ensures item { OnOk result (item.new ≡ item.old + action_size (scope_of scope.old).index (part_action part.entry)) }
+    ensures labels { OnOk result (draft.new.labels
+        ≡ draft.old.labels + statements.action_labels (scope_of scope.old).index (part_action part.entry)) }
+    ensures code { OnOk result (Appends draft.old draft.new
+        (statements.action_code places.now (homes_of homes.old.items)
+        (scope_of scope.old) exit item.old draft.old.labels (part_action part.entry))) }
+{
+    match part {
+        Part::Let { name, ty, value } => {
+            emit_let(draft, places, homes, scope, name, ty, value, item)?;
+            Ok(())
+        }
+        Part::Store {
+            array,
+            index,
+            value,
+        } => {
+            emit_store(draft, places, homes, scope, array, index, value, item)?;
+            Ok(())
+        }
+        Part::Update { name, op, value } => {
+            emit_update(draft, places, homes, scope, name, op, value, item)?;
+            Ok(())
+        }
+        Part::Break { cond } => {
+            emit_break(draft, places, homes, scope, exit, cond, item)?;
+            Ok(())
+        }
+        Part::If { .. } | Part::IfElse { .. } => unreachable!(),
+    }
+}
+
 #[cycle(statements)]
 fn emit_stmt<'a>(
     draft: &mut Draft,
@@ -258,41 +309,17 @@ fn emit_stmt<'a>(
         (statements.action_code places.now (homes_of homes.old.items)
         (scope_of scope.old) exit item.old draft.old.labels (action_of stmt.now))) }
 {
-    match stmt {
-        Stmt::Let { name, ty, value } => {
-            emit_let(draft, places, homes, scope, name, *ty, value, item)?;
+    match parts(stmt) {
+        Part::If { cond, block } => {
+            emit_if(draft, places, homes, scope, exit, cond, block, item)?;
             Ok(())
         }
-        Stmt::Store {
-            array,
-            index,
-            value,
-        } => {
-            emit_store(draft, places, homes, scope, array, index, value, item)?;
+        Part::IfElse { cond, block, other } => {
+            emit_if_else(draft, places, homes, scope, exit, cond, block, other, item)?;
             Ok(())
         }
-        Stmt::Update { name, op, value } => {
-            emit_update(draft, places, homes, scope, name, *op, value, item)?;
-            Ok(())
-        }
-        Stmt::If {
-            cond,
-            then_part,
-            else_part,
-        } => match else_part {
-            None => {
-                emit_if(draft, places, homes, scope, exit, cond, then_part, item)?;
-                Ok(())
-            }
-            Some(other) => {
-                emit_if_else(
-                    draft, places, homes, scope, exit, cond, then_part, other, item,
-                )?;
-                Ok(())
-            }
-        },
-        Stmt::Break { cond } => {
-            emit_break(draft, places, homes, scope, exit, cond, item)?;
+        part => {
+            emit_plain(draft, places, homes, scope, exit, part, item)?;
             Ok(())
         }
     }

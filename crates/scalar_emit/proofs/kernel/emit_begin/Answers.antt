@@ -22,7 +22,7 @@ returns-clause-code c rest =
     let R = register_in c.args.regs.now in
     let ps = ap parameters_of c.deref.ensures.value in
     let homes = c.in_ok-declare_params.ensures.homes ∙ ap (λ l. homes_of l ++ param_homes 0 (parameters_of c.deref.result.now)) c.new-homes.ensures.items ∙ ap (param_homes 0) (ps ∙ sym (ap parameters_of c.deref-2.ensures.value)) in
-    let scope = c.in_ok-declare_params.ensures.scope ∙ ap (λ (s : Scope). after_params s (parameters_of c.deref.result.now)) (c.empty-scope.ensures ∙ ap empty c.index_of.ensures) ∙ ap (after_params (empty (loop_index k))) ps in
+    let scope = c.in_ok-declare_params.ensures.scope ∙ ap (λ (s : Scope). after_params s (parameters_of c.deref.result.now)) (c.empty-scope.ensures ∙ ap empty c.loop_index.ensures) ∙ ap (after_params (empty (loop_index k))) ps in
     let first = c.len-first.ensures ∙ tree.params.ok.0 ∙ sym (count_params tree.params.items) in
     c.in_ok-put.ensures.code rest ∙ ap (λ (w : Listed). c.emit_vars.new.draft.entries ++ Put w ∷ rest) c.small.ensures
     ∙ c.in_ok-emit_vars.ensures.code (zero_index rest)
