@@ -2,7 +2,7 @@
 
 ghost use Rattle.std.specs.Prelude.{◌≡◌, None, IfErr, IfOk, OnOk};
 ghost use Rattle.loop_form.specs.Needs.{needs_of};
-ghost use Rattle.loop_form.specs.Registers.{counted_registers, FitsKernel};
+ghost use Rattle.loop_form.specs.Registers.{FitsKernel};
 ghost use Rattle.reg_assign.specs.declared.interval.RegClass.TheVariants.{X, Z, P};
 ghost use Rattle.loop_form.specs.View.{program};
 ghost use Rattle.kernel_compile.specs.Refusals as refusals;
@@ -14,20 +14,9 @@ use dependence::reason::Class;
 use kernel_tree::Checked;
 use loop_form::laws::ordered_intervals;
 use loop_form::need::Needs;
-use loop_form::{intervals, needs};
+use loop_form::{counted_registers, intervals, needs};
 use reg_assign::{Assigned, RegClass, VectorRegs, assign};
 use std::alloc::{AllocError, Global};
-
-// How many registers of a class hold values: Z0 to Z29, P2 to P7, X10 to X17 and X19 to X25.
-fn counted(class: RegClass) -> u32
-    ensures { result ≡ counted_registers class }
-{
-    match class {
-        RegClass::Z => 30,
-        RegClass::P => 6,
-        RegClass::X => 15,
-    }
-}
 
 fn need_in(needs: Needs, class: RegClass) -> u32
     ensures { result ≡ refusals.need_in needs class }
@@ -56,7 +45,7 @@ fn check_classes(needs: Needs, classes: &[RegClass]) -> Result<(), CompileFault>
 {
     for class in classes {
         let need = need_in(needs, *class);
-        if need > counted(*class) {
+        if need > counted_registers(*class) {
             return Err(CompileFault::TooManyLive {
                 class: *class,
                 need,
@@ -85,7 +74,7 @@ fn class_registers(alloc: Global, kernel: &Checked, class: RegClass) -> Result<A
     ordered_intervals(kernel, class);
     let intervals = intervals(alloc, kernel, class)?;
     // No more registers are needed than there are: want of memory is all that is left.
-    match assign(alloc, &intervals, class, counted(class)) {
+    match assign(alloc, &intervals, class, counted_registers(class)) {
         Ok(assigned) => Ok(assigned),
         Err(_) => Err(AllocError),
     }

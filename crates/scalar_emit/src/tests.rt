@@ -11,8 +11,8 @@ use crate::laws::few_items;
 use crate::{emit_begin, emit_scalar};
 use kernel_tree::{Answer, Checked, Expr, Kernel, Loop, Name, Param, Shape, Ty};
 use label_fix::Draft;
-use loop_form::intervals;
 use loop_form::laws::ordered_intervals;
+use loop_form::{counted_registers, intervals};
 use reg_assign::{Assigned, RegClass, assign};
 use std::alloc::Global;
 use std::test::Fail;
@@ -60,7 +60,8 @@ fn registers(alloc: Global, kernel: &Checked) -> Result<Assigned, Fail>
 {
     ordered_intervals(kernel, RegClass::X);
     let intervals = intervals(alloc, kernel, RegClass::X)?;
-    match assign(alloc, &intervals, RegClass::X, 15) {
+    let most = counted_registers(RegClass::X);
+    match assign(alloc, &intervals, RegClass::X, most) {
         Ok(regs) => Ok(regs),
         Err(_) => Err(Fail::new("too few registers")),
     }

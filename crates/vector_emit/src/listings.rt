@@ -3,7 +3,7 @@
 ghost use Rattle.std.specs.Prelude.{◌≡◌, ◌≤◌, IfOk};
 ghost use Rattle.kernel_tree.specs.Items.{size_of};
 ghost use Rattle.reg_assign.specs.declared.interval.RegClass.TheVariants as class;
-ghost use Rattle.loop_form.specs.Registers.{counted_registers, FitsKernel};
+ghost use Rattle.loop_form.specs.Registers.{FitsKernel};
 ghost use Rattle.loop_form.specs.View.{program};
 
 use crate::emit_vector;
@@ -12,28 +12,18 @@ use dependence::reason::Class;
 use kernel_front::accept;
 use kernel_tree::Checked;
 use label_fix::Draft;
-use loop_form::intervals;
 use loop_form::laws::{few_items, ordered_intervals};
+use loop_form::{counted_registers, intervals};
 use reg_assign::{Assigned, RegClass, VectorRegs, assign};
 use std::alloc::Global;
 use std::test::Fail;
-
-fn counted(class: RegClass) -> u32
-    ensures { result ≡ counted_registers class }
-{
-    match class {
-        RegClass::Z => 30,
-        RegClass::P => 6,
-        RegClass::X => 15,
-    }
-}
 
 fn registers_of(alloc: Global, kernel: &Checked, class: RegClass) -> Result<Assigned, Fail>
     ensures { IfOk result (λ regs. FitsKernel (program kernel.now) class regs) }
 {
     ordered_intervals(kernel, class);
     let intervals = intervals(alloc, kernel, class)?;
-    match assign(alloc, &intervals, class, counted(class)) {
+    match assign(alloc, &intervals, class, counted_registers(class)) {
         Ok(regs) => Ok(regs),
         Err(_) => Err(Fail::new("too few registers")),
     }
@@ -111,6 +101,9 @@ fn leaves_at_a_break(rt: HostRuntime) -> Result<(), Fail> {
     Ok(())
 }
 
+const EITHER: &str =
+    "kernel either(a: [u8], b: [u8], n: u64) -> u64 { for i in 0..n { break if a[i] == 0 || b[i] == 0; } return i; }";
+
 // ptrue p1.b; movz x26, #0; dup z0.b,
 // w26; chunk: whilelo p0.b, x9, x2; setffr; ldff1b {z1.b}, p0/z, [x0, x9]; rdffr p0.b, p0/z; cmpeq p2.b,
 // p0/z, z1.b, z0.b; brkb p0.b, p0/z, p2.b; ldff1b {z1.b}, p0/z, [x1, x9]; rdffr p0.b, p0/z; cmpeq p4.b, p0/z,
@@ -120,10 +113,7 @@ fn leaves_at_a_break(rt: HostRuntime) -> Result<(), Fail> {
 // ptest p0, p0.b; b.ne chunk; end: b scalar; scalar:
 #[test]
 fn leaves_at_either_condition(rt: HostRuntime) -> Result<(), Fail> {
-    let words = words_of(
-        rt.alloc(),
-        "kernel either(a: [u8], b: [u8], n: u64) -> u64 { for i in 0..n { break if a[i] == 0 || b[i] == 0; } return i; }",
-    )?;
+    let words = words_of(rt.alloc(), EITHER)?;
     assert!(rt;
         words.as_slice()
             == [

@@ -1,6 +1,7 @@
 use Rattle.std.proofs.Common.{◌<◌, ◌^◌, List, length, sym, ◌∙◌, subst}
 use Rattle.reg_assign.specs.declared.interval.Interval.{Interval}
 use Rattle.reg_assign.specs.Intervals.{Ascend}
+use Rattle.reg_assign.specs.Registers.{IsAssignment}
 use Rattle.loop_form.specs.View.{program}
 use Rattle.scalar_emit.proofs.tests.registers.Goals as goal
 
@@ -14,4 +15,7 @@ assign-requires-clause-ascending c = subst Ascend (sym (c.deref.ensures.value �
 
 pub returns-in-Ok : goal.returns-in-Ok
 unfolding program
-returns-in-Ok c = record { intervals = c.in-Ok.ensures.kept ∙ c.deref.ensures.value ∙ c.in_ok-intervals.ensures; assigned = c.in-Ok.ensures.fits }
+returns-in-Ok c = record {
+  intervals = c.in-Ok.ensures.kept ∙ c.deref.ensures.value ∙ c.in_ok-intervals.ensures;
+  assigned = subst (λ n. IsAssignment n c.in-Ok.regs) c.counted_registers-most.ensures c.in-Ok.ensures.fits;
+}

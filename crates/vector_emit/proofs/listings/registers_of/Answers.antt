@@ -17,5 +17,5 @@ pub returns-in-Ok : goal.returns-in-Ok
 unfolding program
 returns-in-Ok c = record {
   intervals = c.in-Ok.ensures.kept ∙ c.deref.ensures.value ∙ c.in_ok-intervals.ensures;
-  assigned = subst (λ n. IsAssignment n c.in-Ok.regs) c.counted.ensures c.in-Ok.ensures.fits;
+  assigned = subst (λ n. IsAssignment n c.in-Ok.regs) c.counted_registers.ensures c.in-Ok.ensures.fits;
 }
