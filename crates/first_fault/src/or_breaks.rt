@@ -1,12 +1,12 @@
 //! The break region with `break if a || b` as two breaks.
 
-ghost use Rattle.std.specs.Prelude.{◌≡◌, Bool, not, ◌&&◌, [], ◌++◌, slice_get, option_map, unwrap_or, IfOk, OnOk};
+ghost use Rattle.std.specs.Prelude.{◌≡◌, Bool, not, ◌&&◌, [], ◌++◌, option_map, unwrap_or, IfOk, OnOk};
 ghost use Rattle.loop_form.specs.LoopView.{op_of, view_of, view};
 ghost use Rattle.chunk_emit.specs.View.{layout_in};
 ghost use Rattle.first_fault.specs.SplitBreaks as split;
 ghost use Rattle.first_fault.specs.View.{spot_of};
 
-use chunk_emit::LoopLayout;
+use chunk_emit::{LoopLayout, item_at};
 use loop_form::{LoopItem, LoopOp};
 use std::alloc::{AllocError, Global};
 
@@ -92,13 +92,6 @@ fn told_at(
         Some(mask) if mask < mark => Some(false),
         Some(_) => None,
     }
-}
-
-// The item at a place.
-fn item_at<'a>(items: &[LoopItem<'a>], place: usize) -> Option<LoopItem<'a>>
-    ensures { result ≡ slice_get items.now place }
-{
-    items.get(place).copied()
 }
 
 // Whether a `||` is split, of which these items stand after the mark.
