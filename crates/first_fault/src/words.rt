@@ -13,17 +13,11 @@ use chunk_emit::load_type;
 use guest_types::length::Width;
 use kernel_tree::Ty;
 use label_fix::Word;
+use lane_emit::wide;
 use sve_code::{
     BreakOp, GoverningReg, OffsetReg, PredicateLogicalOp, PredicateReg, Sve, VectorReg,
 };
 use word_rows::Bits;
-
-// A governing register as any predicate register.
-fn wide(p: GoverningReg) -> PredicateReg
-    ensures { result.number ≡ p.number }
-{
-    Bits { number: p.number }
-}
 
 // The register of an offset as any general register.
 fn general(index: OffsetReg) -> Reg

@@ -44,6 +44,12 @@ truth_code w r q m (Same c) = same_code (r.p q) m (r.p c)
 truth_code w r q m (Any c d) = any_code (r.p q) m (r.p c) (r.p d)
 truth_code w r q m _ = []
 
+-- whether an operation is an operator with one operand or two
+abbrev pub is_operator : Op → Bool
+is_operator (Apply op t x) = true
+is_operator (Combine op t x y) = true
+is_operator _ = false
+
 -- Whether an operation makes a condition. Reads, stores, updates and breaks have code of their own.
 abbrev pub makes_truth : Op → Bool
 makes_truth (Test op t x y) = true

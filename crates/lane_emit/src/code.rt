@@ -2,9 +2,11 @@
 
 ghost use Rattle.std.specs.Prelude.{◌≡◌, ◌<◌, [], ◌∷◌, ◌++◌, OnOk};
 ghost use Rattle.guest_types.specs.Length.{width_bits};
+ghost use Rattle.kernel_tree.specs.declared.ops.UnaryOp.TheVariants as operator;
 ghost use Rattle.kernel_tree.specs.Wrap as wraps;
 ghost use Rattle.sve_code.specs.View as sve;
 ghost use Rattle.lane_emit.specs.LaneCode as code;
+ghost use Rattle.lane_emit.specs.Stretch as stretch;
 ghost use Rattle.lane_emit.specs.View.{Adds, Appends};
 
 use crate::words::{
@@ -105,6 +107,27 @@ fn settled(
     Ok(())
 }
 
+// The absolute value: that of an unsigned type is a copy.
+fn absolute(
+    words: &mut Vec<Sve>,
+    width: Width,
+    ty: Ty,
+    d: VectorReg,
+    a: VectorReg,
+) -> Result<(), AllocError>
+    ensures { OnOk result (Adds (code.unary_code width operator.Abs ty d.number a.number) words.old.items words.new.items) }
+{
+    if is_signed(ty) {
+        let leaves = unary_leaves(UnaryOp::Abs, ty);
+        let word = unary(UnaryPredicatedOp::Abs, width, d, a);
+        settled(words, word, leaves, width, ty, d)?;
+        Ok(())
+    } else {
+        z_copy(words, d, a)?;
+        Ok(())
+    }
+}
+
 /// An operator with one operand.
 pub fn apply(
     words: &mut Vec<Sve>,
@@ -134,20 +157,7 @@ pub fn apply(
             ty,
             d,
         )?,
-        UnaryOp::Abs => {
-            if is_signed(ty) {
-                settled(
-                    words,
-                    unary(UnaryPredicatedOp::Abs, width, d, a),
-                    leaves,
-                    width,
-                    ty,
-                    d,
-                )?;
-            } else {
-                z_copy(words, d, a)?;
-            }
-        }
+        UnaryOp::Abs => absolute(words, width, ty, d, a)?,
     }
     Ok(())
 }
@@ -197,6 +207,42 @@ fn maximum(ty: Ty) -> BinaryPredicatedOp
     }
 }
 
+// ADD or SUB, and what settles it.
+fn settled_sum(
+    words: &mut Vec<Sve>,
+    op: AddSubOp,
+    leaves: bool,
+    width: Width,
+    ty: Ty,
+    d: VectorReg,
+    a: VectorReg,
+    b: VectorReg,
+) -> Result<(), AllocError>
+    ensures { let sum = stretch.word (sve.add_sub_name op) (d.number ∷ a.number ∷ b.number ∷ code.size_of width ∷ []) in
+        OnOk result (Adds (sum ∷ code.z_settle leaves width ty d.number) words.old.items words.new.items) }
+{
+    settled(words, add_sub(op, width, d, a, b), leaves, width, ty, d)?;
+    Ok(())
+}
+
+// AND, ORR or EOR, and what settles it.
+fn settled_bits(
+    words: &mut Vec<Sve>,
+    op: BitwiseOp,
+    leaves: bool,
+    width: Width,
+    ty: Ty,
+    d: VectorReg,
+    a: VectorReg,
+    b: VectorReg,
+) -> Result<(), AllocError>
+    ensures { let bits = stretch.word (sve.logic_name op) (d.number ∷ a.number ∷ b.number ∷ []) in
+        OnOk result (Adds (bits ∷ code.z_settle leaves width ty d.number) words.old.items words.new.items) }
+{
+    settled(words, bitwise(op, d, a, b), leaves, width, ty, d)?;
+    Ok(())
+}
+
 /// An operator with two operands.
 pub fn combine(
     words: &mut Vec<Sve>,
@@ -212,47 +258,12 @@ pub fn combine(
 {
     let leaves = binary_leaves(op);
     match op {
-        BinaryOp::Add => settled(
-            words,
-            add_sub(AddSubOp::Add, width, d, a, b),
-            leaves,
-            width,
-            ty,
-            d,
-        )?,
-        BinaryOp::Sub => settled(
-            words,
-            add_sub(AddSubOp::Sub, width, d, a, b),
-            leaves,
-            width,
-            ty,
-            d,
-        )?,
+        BinaryOp::Add => settled_sum(words, AddSubOp::Add, leaves, width, ty, d, a, b)?,
+        BinaryOp::Sub => settled_sum(words, AddSubOp::Sub, leaves, width, ty, d, a, b)?,
         BinaryOp::Mul => merged(words, BinaryPredicatedOp::Mul, leaves, width, ty, d, a, b)?,
-        BinaryOp::And => settled(
-            words,
-            bitwise(BitwiseOp::And, d, a, b),
-            leaves,
-            width,
-            ty,
-            d,
-        )?,
-        BinaryOp::Or => settled(
-            words,
-            bitwise(BitwiseOp::Orr, d, a, b),
-            leaves,
-            width,
-            ty,
-            d,
-        )?,
-        BinaryOp::Xor => settled(
-            words,
-            bitwise(BitwiseOp::Eor, d, a, b),
-            leaves,
-            width,
-            ty,
-            d,
-        )?,
+        BinaryOp::And => settled_bits(words, BitwiseOp::And, leaves, width, ty, d, a, b)?,
+        BinaryOp::Or => settled_bits(words, BitwiseOp::Orr, leaves, width, ty, d, a, b)?,
+        BinaryOp::Xor => settled_bits(words, BitwiseOp::Eor, leaves, width, ty, d, a, b)?,
         BinaryOp::Min => merged(words, minimum(ty), leaves, width, ty, d, a, b)?,
         BinaryOp::Max => merged(words, maximum(ty), leaves, width, ty, d, a, b)?,
     }

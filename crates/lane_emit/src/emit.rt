@@ -1,42 +1,36 @@
 //! The code of one item.
 
-ghost use Rattle.std.specs.Prelude.{◌≡◌, ◌<◌, ◌++◌, [], option_map, OnOk, IfOk};
+ghost use Rattle.std.specs.Prelude.{◌≡◌, ◌<◌, ◌++◌, [], true, option_map, OnOk, IfOk};
 ghost use Rattle.std.specs.List.{find};
 ghost use Rattle.reg_assign.specs.declared.interval.RegClass.TheVariants as class;
 ghost use Rattle.loop_form.specs.LoopView.{op_of, view_of, view};
 ghost use Rattle.loop_form.specs.Registers.{FitsKernel};
 ghost use Rattle.loop_form.specs.View.{program};
-ghost use Rattle.lane_emit.specs.ItemCode.{op_code, value_code, truth_code};
+ghost use Rattle.lane_emit.specs.ItemCode.{op_code, value_code, truth_code, is_operator};
 ghost use Rattle.lane_emit.specs.KernelCode.{is_item, found_code, item_code};
 ghost use Rattle.lane_emit.specs.RegistersView.{registers_of};
 ghost use Rattle.lane_emit.specs.View.{words_of, Adds};
 
 use crate::code::{apply, cast, combine, shift, z_copy};
 use crate::registers::{LaneRegisters, lane_registers};
-use crate::words::{logical, select, test};
+use crate::words::{logical, select, test, wide};
 use guest_types::length::Width;
 use kernel_tree::Checked;
 use loop_form::{LoopItem, LoopOp, lane_width, loop_items};
 use reg_assign::VectorRegs;
 use std::alloc::{AllocError, Global};
-use sve_code::{GoverningReg, PredicateLogicalOp, PredicateReg, Sve};
+use sve_code::{GoverningReg, PredicateLogicalOp, Sve};
 use word_rows::Bits;
 
-// A governing register as any predicate register.
-fn wide(p: GoverningReg) -> PredicateReg
-    ensures { result.number ≡ p.number }
-{
-    Bits { number: p.number }
-}
-
-// The code of an item that makes a value; none of another item.
-fn emit_value(
+// The code of an operator with one operand or two, where it has a type.
+fn emit_operator(
     words: &mut Vec<Sve>,
     width: Width,
     registers: &LaneRegisters<'_>,
     item: u32,
     op: &LoopOp<'_>,
 ) -> Result<(), AllocError>
+    requires { is_operator (op_of op.now) ≡ true }
     ensures { OnOk result (Adds (value_code width (registers_of registers.now) item (op_of op.now))
         words.old.items words.new.items) }
 {
@@ -55,15 +49,30 @@ fn emit_value(
             left,
             right,
         } => {
-            combine(
-                words,
-                width,
-                op,
-                ty,
-                d,
-                registers.source(left),
-                registers.source(right),
-            )?;
+            let a = registers.source(left);
+            let b = registers.source(right);
+            combine(words, width, op, ty, d, a, b)?;
+        }
+        _ => {}
+    }
+    Ok(())
+}
+
+// The code of an item that makes a value; none of another item.
+fn emit_value(
+    words: &mut Vec<Sve>,
+    width: Width,
+    registers: &LaneRegisters<'_>,
+    item: u32,
+    op: &LoopOp<'_>,
+) -> Result<(), AllocError>
+    ensures { OnOk result (Adds (value_code width (registers_of registers.now) item (op_of op.now))
+        words.old.items words.new.items) }
+{
+    let d = registers.z(item);
+    match *op {
+        LoopOp::Apply { .. } | LoopOp::Combine { .. } => {
+            emit_operator(words, width, registers, item, op)?;
         }
         LoopOp::Move {
             left,

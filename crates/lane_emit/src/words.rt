@@ -85,6 +85,13 @@ fn all_true() -> GoverningReg
     Bits { number: 1 }
 }
 
+/// A governing register as any predicate register.
+pub fn wide(p: GoverningReg) -> PredicateReg
+    ensures { result.number ≡ p.number }
+{
+    Bits { number: p.number }
+}
+
 // ---- vectors
 
 /// ADD and SUB.
