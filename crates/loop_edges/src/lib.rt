@@ -8,7 +8,7 @@ mod start;
 ghost use Rattle.loop_edges.specs.Edges.{StartRuns, FoldRuns, FewHeld};
 
 pub use fold::emit_fold;
-pub use start::emit_start;
+pub use start::{emit_start, register_of};
 
 /// The code before the loop leads to the state before the first pass: the values from before the loop are in all elements of
 /// their registers, and the lanes of accumulators hold what changes nothing. It takes at most five words a value, and one.

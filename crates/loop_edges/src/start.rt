@@ -49,8 +49,8 @@ fn identity(op: UpdateOp, ty: Ty) -> i128
     }
 }
 
-// The general register of a parameter.
-fn register_of(params: &[Param], name: &str) -> Reg
+/// The general register of a parameter.
+pub fn register_of(params: &[Param], name: &str) -> Reg
     requires { length params.now ≤ 8 }
     ensures { result.number ≡ unwrap_or (place_of name.now (parameters_of params.now)) 0 }
 {

@@ -1,30 +1,14 @@
 //! The loop's bound.
 
-ghost use Rattle.std.specs.Prelude.{◌≡◌, ◌≤◌, ◌<◌, length, unwrap_or};
-ghost use Rattle.kernel_tree.specs.Plain.{parameters_of};
+ghost use Rattle.std.specs.Prelude.{◌≡◌};
 ghost use Rattle.loop_form.specs.View.{program};
-ghost use Rattle.loop_form.specs.Streams.{place_of};
 ghost use Rattle.dependence.specs.Apart.{bound_place};
 
 use a64_code::Reg;
-use kernel_tree::{Checked, Param};
+use kernel_tree::Checked;
+use loop_edges::register_of;
 use scalar_emit::laws::few_params;
 use word_rows::Bits;
-
-// The register of a parameter.
-fn register_of(params: &[Param], name: &str) -> Reg
-    requires { length params.now ≤ 8 }
-    ensures { result.number ≡ unwrap_or (place_of name.now (parameters_of params.now)) 0 }
-{
-    let mut place = 0;
-    for param in params {
-        if param.name.text() == name {
-            return Bits { number: place };
-        }
-        place += 1;
-    }
-    Bits { number: 0 }
-}
 
 /// The general register of the loop's bound.
 #[tactic(auto, unfolding(loop_form::specs::View::program))]
