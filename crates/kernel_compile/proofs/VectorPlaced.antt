@@ -6,7 +6,7 @@ use Rattle.a64_code.specs.Table.{umov}
 use Rattle.machine_model.specs.InstructionTable.{Listed}
 use Rattle.kernel_tree.specs.Plain.{Program}
 use Rattle.kernel_meaning.specs.Operators.{word, wrapped, operator_of}
-use Rattle.label_fix.specs.DraftRun.{Entry, Put, Branch, Place, Always, If}
+use Rattle.label_fix.specs.DraftRun.{Entry, Put, Branch, Place, Always, If, word_of}
 use Rattle.label_fix.proofs.Once.{Unplaced, Once}
 use Rattle.reg_assign.specs.declared.interval.RegClass.TheVariants as class
 use Rattle.reg_assign.specs.Registers.{Assignment}
@@ -16,7 +16,7 @@ use Rattle.loop_form.specs.Needs.{Throughout, Scalar, Constant, Index, Accumulat
 use Rattle.loop_form.specs.Streams.{place_of}
 use Rattle.dependence.specs.declared.used.Used.{Used}
 use Rattle.dependence.specs.Apart.{used_of, bound_place}
-use Rattle.scalar_emit.specs.Words.{word_of, settle_word}
+use Rattle.scalar_emit.specs.Words.{settle_word}
 use Rattle.scalar_emit.specs.Layout.{register_at}
 use Rattle.scalar_emit.specs.Kernel.{kernel_homes, begin_code, begin_labels, scalar_code, scalar_labels}
 use Rattle.scalar_emit.proofs.Placed.{word_put, const_put, binary_put, begin_once, scalar_unplaced, scalar_once}

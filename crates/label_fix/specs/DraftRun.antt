@@ -1,7 +1,8 @@
 -- Code whose branches name labels, and its run from entry to entry.
 use Rattle.std.specs.Prelude.{◌≡◌, ℕ, zero, suc, ◌+◌, ◌*◌, ◌%◌, ◌^◌, Bool, true, not, List, [], ◌∷◌, Some, nat_eq, if◌then◌else◌}
+use Rattle.a64_code.specs.Table.{Name}
 use Rattle.machine_model.specs.Arithmetic.{holds}
-use Rattle.machine_model.specs.InstructionTable.{Listed}
+use Rattle.machine_model.specs.InstructionTable.{Listed, Scalar}
 use Rattle.machine_model.specs.Machine.{State, Step, x_at, jump, next}
 use Rattle.machine_model.specs.OneStep.{does}
 use Rattle.machine_model.specs.Run.{Outcome, Spent, go_on, run}
@@ -18,6 +19,13 @@ pub data Entry : Type 0 where
   Put : Listed → Entry
   Branch : Kind → ℕ → Entry
   Place : ℕ → Entry
+
+-- an A64 instruction by the name of its row and the numbers of its fields, and the entry that is one
+abbrev pub word_of : Name → List ℕ → Listed
+word_of name numbers = Scalar (record { name = name; numbers = numbers })
+
+abbrev pub ins : Name → List ℕ → Entry
+ins name numbers = Put (word_of name numbers)
 
 abbrev pub is_taken : Kind → State → Bool
 is_taken Always s = true

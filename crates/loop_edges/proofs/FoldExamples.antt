@@ -8,12 +8,11 @@ use Rattle.a64_code.specs.Table.{umov, add, subs, csel, sbfm, ubfm}
 use Rattle.sve_code.specs.Table.{sminv, uaddv}
 use Rattle.machine_model.specs.InstructionTable.{Vector}
 use Rattle.reg_assign.specs.Registers.{Assignment, assignment}
-use Rattle.label_fix.specs.DraftRun.{Put}
+use Rattle.label_fix.specs.DraftRun.{Put, ins}
 use Rattle.loop_form.specs.Entries.{item_type}
 use Rattle.loop_form.specs.Lanes.{widest}
 use Rattle.loop_form.specs.Needs.{constants}
 use Rattle.scalar_emit.specs.Kernel.{register_in}
-use Rattle.scalar_emit.specs.Words.{ins}
 use Rattle.lane_emit.specs.Stretch.{word}
 use Rattle.loop_edges.specs.EdgeCode.{fold_code}
 

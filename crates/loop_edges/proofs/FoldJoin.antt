@@ -14,7 +14,7 @@ use Rattle.machine_model.specs.Machine.{State, x_at, z_at}
 use Rattle.machine_model.specs.States.{IsState}
 use Rattle.machine_model.proofs.ScalarStates.{scalar_keeps}
 use Rattle.a64_code.specs.Table.{umov}
-use Rattle.label_fix.specs.DraftRun.{Entry, Laid}
+use Rattle.label_fix.specs.DraftRun.{Entry, Laid, ins, word_of}
 use Rattle.label_fix.specs.Stretches.{Goes}
 use Rattle.label_fix.proofs.Steps.{put_goes, chain}
 use Rattle.lane_emit.specs.Right.{IsOf}
@@ -28,7 +28,7 @@ use Rattle.reductions.proofs.Orders.{together_of}
 use Rattle.reductions.proofs.Reduce.{reduction_together}
 use Rattle.scalar_emit.specs.Layout.{Layout}
 use Rattle.scalar_emit.specs.Words as scalar
-use Rattle.scalar_emit.specs.Words.{ins, word_code, settle_word, word_of}
+use Rattle.scalar_emit.specs.Words.{word_code, settle_word}
 use Rattle.scalar_emit.specs.Safe.{Assigned}
 use Rattle.scalar_emit.specs.Runs.{Frame}
 use Rattle.scalar_emit.proofs.States.{wrote, wrote_same, wrote_other}

@@ -12,7 +12,7 @@ use Rattle.kernel_tree.specs.declared.ops.UpdateOp.{UpdateOp}
 use Rattle.kernel_tree.specs.Plain.{Program}
 use Rattle.kernel_meaning.specs.Operators as meaning
 use Rattle.kernel_meaning.specs.Operators.{operator_of, wrapped}
-use Rattle.label_fix.specs.DraftRun.{Entry, Put}
+use Rattle.label_fix.specs.DraftRun.{Entry, Put, ins}
 use Rattle.reg_assign.specs.declared.interval.RegClass.TheVariants.{Z}
 use Rattle.reg_assign.specs.Registers.{Assignment}
 use Rattle.loop_form.specs.Lanes.{lane_width_of, var_type}
@@ -21,7 +21,7 @@ use Rattle.loop_form.specs.Streams.{place_of}
 use Rattle.scalar_emit.specs.Layout.{register_at}
 use Rattle.scalar_emit.specs.Kernel.{kernel_homes}
 use Rattle.scalar_emit.specs.Words as scalar
-use Rattle.scalar_emit.specs.Words.{ins, const_code, word_code, settle_word}
+use Rattle.scalar_emit.specs.Words.{const_code, word_code, settle_word}
 use Rattle.lane_emit.specs.Stretch.{word}
 use Rattle.lane_emit.specs.LaneCode.{dup_code}
 use Rattle.reductions.specs.Joins.{identity}

@@ -7,11 +7,11 @@ use Rattle.guest_types.specs.declared.length.Width.{Width}
 use Rattle.machine_model.specs.Machine.{State, Went, x_at, next, jump}
 use Rattle.machine_model.specs.Arithmetic.{sum, difference, shifted, holds}
 use Rattle.a64_code.specs.Table.{add}
-use Rattle.label_fix.specs.DraftRun.{Entry, Branch, If, Laid, following, address_of, effect}
+use Rattle.label_fix.specs.DraftRun.{Entry, Branch, If, Laid, following, address_of, effect, word_of}
 use Rattle.label_fix.proofs.Steps.{Goes, put_goes, taken_goes, passed_goes, chain}
 use Rattle.dependence.specs.declared.used.Used.{Used}
 use Rattle.dependence.specs.Apart.{base_in, begin_in, end_in, IsBased}
-use Rattle.overlap_guard.specs.Guard.{IsFit, word_of, log_bytes, bound_at, offset_at, below_code}
+use Rattle.overlap_guard.specs.Guard.{IsFit, log_bytes, bound_at, offset_at, below_code}
 use Rattle.overlap_guard.proofs.Ends.{bound_word, offset_word, element_word, end-is, begin-is}
 use Rattle.overlap_guard.proofs.Tests.{wrote, wrote_same, wrote_other, wrote_sized, tested, not_sp, Same, same_on, same_wrote, same_tested, same_jump, Tests, goes_on, goes_off}
 

@@ -19,10 +19,10 @@ use Rattle.kernel_meaning.specs.Eval.{Names, value}
 use Rattle.kernel_meaning.specs.Iterate.{named, with_name}
 use Rattle.kernel_meaning.specs.ScalarRun.{argument, given, initial, started}
 use Rattle.loop_form.specs.Entries.{loop_start}
-use Rattle.label_fix.specs.DraftRun.{Entry, Laid}
+use Rattle.label_fix.specs.DraftRun.{Entry, Laid, word_of}
 use Rattle.label_fix.proofs.Steps.{Goes, Resolves, stay, chain, put_goes, go_more}
 use Rattle.scalar_emit.specs.Layout.{Layout, Homes, Lasts, home}
-use Rattle.scalar_emit.specs.Words.{copy_word, word_code, settle_word, is_narrow, extending, word_of}
+use Rattle.scalar_emit.specs.Words.{copy_word, word_code, settle_word, is_narrow, extending}
 use Rattle.scalar_emit.specs.Code.{labels}
 use Rattle.scalar_emit.specs.Statements.{Others}
 use Rattle.scalar_emit.specs.Kernel.{counted_x, layout_of_kernel, param_homes, after_var, var_home, var_homes, kernel_homes, argument_code, arguments_code, vars_code, zero_index, FitsVars}

@@ -9,8 +9,7 @@ use Rattle.kernel_tree.specs.Plain.{Literal, Variable, Element, Operation, Compa
 use Rattle.a64_code.specs.Table.{add_imm, sub_imm, subs, movz, csinc, ldrsb_register, strb_register, svc}
 use Rattle.loop_form.specs.Entries.{item_type}
 use Rattle.loop_form.specs.Listing.{last_use_from}
-use Rattle.label_fix.specs.DraftRun.{Branch, Place, Always, If, Zero, NotZero}
-use Rattle.scalar_emit.specs.Words.{ins}
+use Rattle.label_fix.specs.DraftRun.{Branch, Place, Always, If, Zero, NotZero, ins}
 use Rattle.scalar_emit.specs.Kernel.{begin_code, begin_labels, scalar_code, scalar_labels}
 
 abbrev a : List ℕ

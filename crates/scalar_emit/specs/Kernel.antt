@@ -12,9 +12,9 @@ use Rattle.reg_assign.specs.Registers.{Assignment}
 use Rattle.loop_form.specs.declared.item.Item.{Item}
 use Rattle.loop_form.specs.Entries.{Entry, entries_of, loop_start, loop_end}
 use Rattle.loop_form.specs.Listing.{last_use_in}
-use Rattle.label_fix.specs.DraftRun.{Entry as Line, Place}
+use Rattle.label_fix.specs.DraftRun.{Entry as Line, Place, ins}
 use Rattle.scalar_emit.specs.Layout.{Layout, Home, Homes, home}
-use Rattle.scalar_emit.specs.Words.{ins, settle_word, copy_word, word_code}
+use Rattle.scalar_emit.specs.Words.{settle_word, copy_word, word_code}
 use Rattle.scalar_emit.specs.Code.{labels, value_code}
 use Rattle.scalar_emit.specs.Fits.{Fits}
 use Rattle.scalar_emit.specs.Loop.{answer_code, answer_labels, loop_code, loop_labels}

@@ -20,12 +20,12 @@ ghost use Rattle.scalar_emit.specs.View.{homes_of};
 
 use crate::emit::emit_value;
 use crate::home::{Home, register_at};
-use crate::instructions::{add_sub, exit_call, index, next_iteration, small, zero};
+use crate::instructions::{add_sub, exit_call, index, next_iteration, small};
 use crate::laws::{each_has_a_register, few_items, few_params, right_kinds};
 use crate::operations::{emit_copy, emit_settle};
 use crate::places::{Places, counted_register, places_of};
 use crate::statements::emit_block;
-use a64_code::{AddSubOp, Cond};
+use a64_code::{AddSubOp, Cond, zero};
 use kernel_scope::{Scope, declare, empty, loop_index};
 use kernel_tree::fault::Binding;
 use kernel_tree::{Answer, Checked, Kernel, Loop, Param, Shape, Var};

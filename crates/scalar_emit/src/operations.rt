@@ -10,9 +10,9 @@ ghost use Rattle.scalar_emit.specs.Drafts.{Appends};
 
 use crate::instructions::{
     add_sub, condition, contrary, copy, extending, filler, has_ones, index, is_narrow, load,
-    logical, multiply, scratch, select, shift_count, shifted, truth, wide, zero,
+    logical, multiply, scratch, select, shift_count, shifted, truth, wide,
 };
-use a64_code::{AddSubOp, Cond, LogicalOp, MoveWideOp, Reg, SelectOp};
+use a64_code::{AddSubOp, Cond, LogicalOp, MoveWideOp, Reg, SelectOp, zero};
 use kernel_meaning::{binary_leaves, fits, is_signed, unary_leaves};
 use kernel_tree::{BinaryOp, CompareOp, Ty, UnaryOp};
 use label_fix::{Draft, Word};

@@ -12,11 +12,10 @@ use Rattle.kernel_meaning.specs.Ends.{Going}
 use Rattle.kernel_meaning.specs.Eval.{Names}
 use Rattle.kernel_meaning.specs.Iterate.{iterate}
 use Rattle.kernel_meaning.specs.ScalarRun.{course}
-use Rattle.label_fix.specs.DraftRun.{If, Entry, Put, Branch, Place, Laid, following}
+use Rattle.label_fix.specs.DraftRun.{If, Entry, Put, Branch, Place, Laid, following, ins}
 use Rattle.label_fix.specs.Stretches.{Resolves}
 use Rattle.label_fix.proofs.Steps.{Goes, chain, pass}
 use Rattle.dependence.specs.Apart.{bound_place}
-use Rattle.scalar_emit.specs.Words.{ins}
 use Rattle.chunk_emit.specs.ChunkCode.{puts}
 use Rattle.chunk_emit.specs.Head.{Ground, IsGround, AtHead, Turned, layout, width, most_lanes, limit}
 use Rattle.first_fault.specs.Split.{is_quit}

@@ -11,7 +11,7 @@ use Rattle.kernel_tree.specs.Plain.{PlainLoop, Program}
 use Rattle.kernel_tree.specs.Items.{size_of}
 use Rattle.kernel_meaning.specs.Operators as meaning
 use Rattle.kernel_meaning.specs.Operators.{wrapped, operator_of}
-use Rattle.label_fix.specs.DraftRun.{Entry, Always, If, Put, Branch, Place}
+use Rattle.label_fix.specs.DraftRun.{Entry, Always, If, Put, Branch, Place, ins}
 use Rattle.label_fix.specs.Finished.{size}
 use Rattle.label_fix.proofs.PlacedRuns.{size-append}
 use Rattle.reg_assign.specs.declared.interval.RegClass.TheVariants.{Z}
@@ -22,7 +22,7 @@ use Rattle.loop_form.specs.Needs.{Throughout, Scalar, Constant, Index, Accumulat
 use Rattle.dependence.specs.Apart.{bound_place}
 use Rattle.scalar_emit.specs.Layout.{register_at}
 use Rattle.scalar_emit.specs.Kernel.{kernel_homes}
-use Rattle.scalar_emit.specs.Words.{ins, settle_word, binary_code}
+use Rattle.scalar_emit.specs.Words.{settle_word, binary_code}
 use Rattle.scalar_emit.proofs.Counts.{one_word, operator_words, const_words}
 use Rattle.lane_emit.specs.LaneCode.{dup_code}
 use Rattle.chunk_emit.specs.ChunkCode.{vectors, puts}

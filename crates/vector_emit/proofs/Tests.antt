@@ -17,12 +17,11 @@ use Rattle.a64_code.specs.Table.{subs}
 use Rattle.kernel_meaning.specs.Operators.{word}
 use Rattle.kernel_meaning.specs.Eval.{Names, value_at}
 use Rattle.kernel_meaning.proofs.Residues.{word-below}
-use Rattle.label_fix.specs.DraftRun.{Kind, If, Entry, Put, Branch, Laid, is_taken, following, place_of, address_of}
+use Rattle.label_fix.specs.DraftRun.{Kind, If, Entry, Put, Branch, Laid, is_taken, following, place_of, address_of, ins}
 use Rattle.label_fix.proofs.Steps.{Goes, chain, put_goes, taken_goes, passed_goes}
 use Rattle.loop_form.specs.declared.loop_item.Source.{Source}
 use Rattle.loop_form.specs.declared.loop_item.Source.TheVariants.{Turn}
 use Rattle.dependence.specs.Apart.{bound_place}
-use Rattle.scalar_emit.specs.Words.{ins}
 use Rattle.scalar_emit.proofs.Truths.{tested, tested_goes, tested_flags, tested_other}
 use Rattle.lane_emit.specs.Right.{PRight}
 use Rattle.reductions.specs.AccumulatorLanes.{LanesHold}

@@ -2,9 +2,8 @@
 use Rattle.std.specs.Prelude.{ℕ, List, [], ◌∷◌}
 use Rattle.guest_types.specs.declared.length.Width.{Width}
 use Rattle.a64_code.specs.Table.{subs}
-use Rattle.label_fix.specs.DraftRun.{If, Entry, Put, Branch, Place}
+use Rattle.label_fix.specs.DraftRun.{If, Entry, Put, Branch, Place, ins}
 use Rattle.loop_form.specs.LoopItems.{Item}
-use Rattle.scalar_emit.specs.Words.{ins}
 use Rattle.chunk_emit.specs.Registers.{Layout}
 use Rattle.chunk_emit.specs.ChunkCode.{puts}
 use Rattle.chunk_loop.specs.PassCode.{lanes_word, chunk_words, turn_words, plain_words}

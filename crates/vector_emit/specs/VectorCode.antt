@@ -6,12 +6,11 @@ use Rattle.a64_code.specs.Table.{subs}
 use Rattle.sve_code.specs.Table.{ptest}
 use Rattle.machine_model.specs.InstructionTable.{Listed, Vector}
 use Rattle.kernel_tree.specs.Plain.{Program}
-use Rattle.label_fix.specs.DraftRun.{Always, If, Entry, Put, Branch, Place}
+use Rattle.label_fix.specs.DraftRun.{Always, If, Entry, Put, Branch, Place, ins}
 use Rattle.reg_assign.specs.Registers.{Assignment}
 use Rattle.loop_form.specs.Lanes.{lane_width_of}
 use Rattle.loop_form.specs.LoopItems.{Item, loop_items_of}
 use Rattle.dependence.specs.Apart.{bound_place}
-use Rattle.scalar_emit.specs.Words.{ins}
 use Rattle.lane_emit.specs.Stretch.{word}
 use Rattle.chunk_emit.specs.ChunkCode.{puts}
 use Rattle.chunk_emit.specs.KernelLayout.{layout_of_loop}
