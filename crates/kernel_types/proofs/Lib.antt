@@ -4,4 +4,3 @@ pub mod Steps
 pub mod Whole
 pub mod Bounds
 pub mod Refused
-pub mod Example
