@@ -329,22 +329,13 @@ pub fn list_condition<'a>(
                 right: source(kernel, names, want, next, right),
             };
             list_two(kernel, names, items, want, mask, from, left, right, op)?;
-            Ok(())
         }
-        Expr::And { left, right } => {
-            list_and(kernel, names, items, mask, from, left, right)?;
-            Ok(())
-        }
-        Expr::Or { left, right } => {
-            list_or(kernel, names, items, mask, from, left, right)?;
-            Ok(())
-        }
-        Expr::Not { arg } => {
-            list_not(kernel, names, items, mask, from, arg)?;
-            Ok(())
-        }
-        _ => Ok(()),
+        Expr::And { left, right } => list_and(kernel, names, items, mask, from, left, right)?,
+        Expr::Or { left, right } => list_or(kernel, names, items, mask, from, left, right)?,
+        Expr::Not { arg } => list_not(kernel, names, items, mask, from, arg)?,
+        _ => {}
     }
+    Ok(())
 }
 
 // `&&`: its right side is done where the left one holds.
