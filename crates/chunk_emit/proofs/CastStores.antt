@@ -167,7 +167,7 @@ module _ (l : Layout) (fit : Assigned l) (f : Setting) (d : Laid) (rest : List E
   abbrev words : List Listed
   words = op_words f.w l p (mask_register l.registers second) (Store a (Outer place) (Some t) c x)
 
-  module _ (mask : FitsMask l q first) (behind_mask : FitsMask l p second) (operand_fits : FitsOperand l f.w q own x) (makes : MakesValue l q cast) (low : place < 8) (based : slice_index f.x place ≡ word (nth_value f.names place)) (near : IsNear c) (type_is : l.type (Made q) ≡ t) (wide : bits_of t ≤ width_bits f.w) (none : MakesNothing l p) (lt : q < p) (between : NoneBetween l (q + 1) p) (last : l.z_last_use q ≤ p) where
+  module _ (mask : FitsMask l q first) (following_mask : FitsMask l p second) (operand_fits : FitsOperand l f.w q own x) (makes : MakesValue l q cast) (low : place < 8) (based : slice_index f.x place ≡ word (nth_value f.names place)) (near : IsNear c) (type_is : l.type (Made q) ≡ t) (wide : bits_of t ≤ width_bits f.w) (none : MakesNothing l p) (lt : q < p) (between : NoneBetween l (q + 1) p) (last : l.z_last_use q ≤ p) where
     abbrev new : ℕ → Lane → Lane
     new j k = with_value k q (wrap cast (source_value f.names j k x))
 
@@ -182,7 +182,7 @@ module _ (l : Layout) (fit : Assigned l) (f : Setting) (d : Laid) (rest : List E
         let at_store = holds_later after_cast p (omega (arith, lt)) (λ r le below. let k = between r le below in (no_use l q r k.0, k.1)) in
         let same : cast ≡ t = sym makes.1 ∙ type_is in
         does_again (omega (arith, lt)) (omega (arith, last))
-        (store_from (without l q) (assigned_without l q fit) f d rest p u second (without_mask second behind_mask) a place t c (Made q) low based (without_nothing none) (l.registers.source x) (operand (chunk_of f lanes) x) at_store near
+        (store_from (without l q) (assigned_without l q fit) f d rest p u second (without_mask second following_mask) a place t c (Made q) low based (without_nothing none) (l.registers.source x) (operand (chunk_of f lanes) x) at_store near
         (λ e el m z. ap (λ v. stored m z (byte_count t) (word v)) (ap (λ (k : Lane). k.value q) (here e el) ∙ value_same (lanes.lane (f.i + e)) q (value_of e) ∙ ap (λ k. wrap k (operand (chunk_of f lanes) x e)) same) ∙ stored-wrap t f.w m z (operand (chunk_of f lanes) x e) wide)
         (operand_right h fit own x operand_fits).right)
       where

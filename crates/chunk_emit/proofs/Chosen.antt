@@ -87,24 +87,24 @@ pub written_puts : (w : Width) (l : Layout) (done took : Bool) (items : List Loo
     → puts (item_words w l made) (puts (left_words w l took (view (drop (p + 1) items))) rest) ≡ puts (left_words w l done (view (drop p items))) rest
 written_puts w l done took items p it made o other rest e h is get m t =
     let tail : List Item = view (drop (p + 1) items) in
-    let behind : option_map view_of o ≡ first_of tail = ap (option_map view_of) get ∙ sym (first_at items (p + 1)) in
+    let following : option_map view_of o ≡ first_of tail = ap (option_map view_of) get ∙ sym (first_at items (p + 1)) in
     let from : view (drop p items) ≡ it ∷ tail = at_place items p other h ∙ ap (λ x. x ∷ tail) is in
-    ap (λ x. puts (item_words w l x) (puts (left_words w l took tail) rest)) (m ∙ ap (chosen it) behind) ∙ ap (λ b. puts (item_words w l (chosen it (first_of tail))) (puts (left_words w l b tail) rest)) (t ∙ ap (takes_next it) behind)
+    ap (λ x. puts (item_words w l x) (puts (left_words w l took tail) rest)) (m ∙ ap (chosen it) following) ∙ ap (λ b. puts (item_words w l (chosen it (first_of tail))) (puts (left_words w l b tail) rest)) (t ∙ ap (takes_next it) following)
     ∙ sym (step_puts w l it tail rest) ∙ ap (λ its. puts (items_words w l its) rest) (sym from) ∙ ap (λ b. puts (left_words w l b (view (drop p items))) rest) (sym e)
 
 pub writable_at : (w : Width) (items : List LoopItem) (p : ℕ) (it made : Item) (o : Option LoopItem) (other : LoopItem) → p < length items → view_of (slice_index_or items p other) ≡ it → o ≡ slice_get items (p + 1) → made ≡ chosen it (option_map view_of o) → AreWritable w (view (drop p items)) → IsWritable w made.op
 writable_at w items p it made o other h is get m all =
     let tail : List Item = view (drop (p + 1) items) in
-    let behind : option_map view_of o ≡ first_of tail = ap (option_map view_of) get ∙ sym (first_at items (p + 1)) in
+    let following : option_map view_of o ≡ first_of tail = ap (option_map view_of) get ∙ sym (first_at items (p + 1)) in
     let from : view (drop p items) ≡ it ∷ tail = at_place items p other h ∙ ap (λ x. x ∷ tail) is in
-    subst (λ (x : Item). IsWritable w x.op) (sym (m ∙ ap (chosen it) behind)) (chosen_writable w it tail (subst (AreWritable w) from all))
+    subst (λ (x : Item). IsWritable w x.op) (sym (m ∙ ap (chosen it) following)) (chosen_writable w it tail (subst (AreWritable w) from all))
 
 tail_writable : (w : Width) (items : List Item) → AreWritable w items → AreWritable w (drop 1 items)
 tail_writable w [] h = tt
 tail_writable w (it ∷ items) h = h.1
 
-pub writable_behind : (w : Width) (items : List LoopItem) (p : ℕ) → AreWritable w (view (drop p items)) → AreWritable w (view (drop (p + 1) items))
-writable_behind w items p all = subst (AreWritable w) (drop_one items p) (tail_writable w (view (drop p items)) all)
+pub writable_following : (w : Width) (items : List LoopItem) (p : ℕ) → AreWritable w (view (drop p items)) → AreWritable w (view (drop (p + 1) items))
+writable_following w items p all = subst (AreWritable w) (drop_one items p) (tail_writable w (view (drop p items)) all)
 
 -- after the last item
 pub none_left : (w : Width) (l : Layout) (done : Bool) (items : List LoopItem) (p : ℕ) (rest : List Entry) → length items ≤ p → rest ≡ puts (left_words w l done (view (drop p items))) rest

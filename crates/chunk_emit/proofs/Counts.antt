@@ -142,21 +142,21 @@ words_few w l q m (Same c) = used_few w l q m (Same c) _
 words_few w l q m (Any c d) = used_few w l q m (Any c d) _
 words_few w l q m (Quit c) = used_few w l q m (Quit c) _
 
-joined_few : (w : Width) (l : Layout) (next : Item) (o : Option Op) (both behind : List Listed) (n : ℕ) → length both ≤ 6 + n → length behind ≤ n → length (either_words w l next o both behind) ≤ 6 + n
-joined_few w l next None both behind n h k = h
-joined_few w l next (Some op) both behind n h k =
+joined_few : (w : Width) (l : Layout) (next : Item) (o : Option Op) (both following : List Listed) (n : ℕ) → length both ≤ 6 + n → length following ≤ n → length (either_words w l next o both following) ≤ 6 + n
+joined_few w l next None both following n h k = h
+joined_few w l next (Some op) both following n h k =
     let few = words_few w l next.item (mask_register l.registers next.mask) op in
-    subst (λ c. c ≤ 6 + n) (sym (length-append (item_words w l (record next { op = op })) behind)) (omega (arith, k, few))
+    subst (λ c. c ≤ 6 + n) (sym (length-append (item_words w l (record next { op = op })) following)) (omega (arith, k, few))
 
 pub few_words : FewWords
 few_words w l [] = omega arith
 few_words w l (it ∷ []) = words_few w l it.item (mask_register l.registers it.mask) it.op
 few_words w l (it ∷ next ∷ items) =
     let here = words_few w l it.item (mask_register l.registers it.mask) it.op in
-    let behind = few_words w l (next ∷ items) in
+    let following = few_words w l (next ∷ items) in
     let last = few_words w l items in
     let n = 3 * length items in
     let both : length (item_words w l it ++ items_words w l (next ∷ items)) ≤ 6 + 3 * length items =
-    subst (λ c. c ≤ 6 + 3 * length items) (sym (length-append (item_words w l it) (items_words w l (next ∷ items)))) (omega (arith, here, behind)) in
+    subst (λ c. c ≤ 6 + 3 * length items) (sym (length-append (item_words w l it) (items_words w l (next ∷ items)))) (omega (arith, here, following)) in
     let all = joined_few w l next (past_cast it.item it.op next.op) (item_words w l it ++ items_words w l (next ∷ items)) (items_words w l items) (3 * length items) both last in
     omega (arith, all)

@@ -182,9 +182,9 @@ module _ (k : Program) (a b : Assignment) (f : FitsKernel k Z a) (g : FitsKernel
   item_apart : (o : Option ℕ) (t : Throughout) (q : ℕ) → Held o t → q < item_last_use k Z q → source_register k a (Made q) ≢ register_of 31 a o
   item_apart o t q h used e =
       let y = is_placed k Z of_z q q used in
-      let behind = y.behind in
+      let following = y.following in
       let before = h.within in
-      chosen_z.apart y.m h.m q _ always (λ same. omega (arith, same, behind, before)) y.interval h.interval (omega arith) used (omega arith) y.within
+      chosen_z.apart y.m h.m q _ always (λ same. omega (arith, same, following, before)) y.interval h.interval (omega arith) used (omega arith) y.within
       (sym (ap (register_of 31 a) y.place) ∙ e ∙ ap (register_of 31 a) h.place)
 
   -- two values that are held throughout

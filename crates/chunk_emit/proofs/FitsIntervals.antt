@@ -6,7 +6,7 @@ use Rattle.std.specs.List.{cons_option}
 use Rattle.std.proofs.lemmas.Bool.{cases_lt}
 use Rattle.std.proofs.lemmas.Option.{slice_get_within}
 use Rattle.std.proofs.lemmas.List.{get_or_past, length-map}
-use Rattle.kernel_tree.specs.Plain.{Turns, Program}
+use Rattle.kernel_tree.specs.Plain.{PlainLoop, Program}
 use Rattle.kernel_tree.specs.Items.{size_of}
 use Rattle.reg_assign.specs.declared.interval.Interval.{Interval}
 use Rattle.reg_assign.specs.declared.interval.RegClass.{RegClass}
@@ -20,7 +20,7 @@ use Rattle.loop_form.specs.Numbers.{Numbered}
 use Rattle.loop_form.specs.Places.{place_of, places_from, value_places, first_counted, IsValueOf}
 use Rattle.loop_form.specs.Registers.{counted_registers, FitsKernel}
 use Rattle.loop_form.proofs.Numbers.{loop-listed}
-use Rattle.loop_form.proofs.PlaceLaws.{interval-behind, place-value}
+use Rattle.loop_form.proofs.PlaceLaws.{interval-following, place-value}
 use Rattle.chunk_emit.specs.KernelLayout.{flat, item_place, last_in, item_last_use}
 
 -- Registers by interval.
@@ -98,20 +98,20 @@ pub record IsPlaced (k : Program) (class : RegClass) (q : ℕ) : Type 0 where
   pub m : ℕ
   pub place : item_place k class q ≡ Some m
   pub interval : slice_get (intervals k class) m ≡ Some (record { from = q; last_use = item_last_use k class q })
-  pub behind : length (throughout k class) ≤ m
+  pub following : length (throughout k class) ≤ m
   pub within : q < size_of k
 
 -- the number 0 is that of `for`, which makes nothing
 pub first_nothing : (k : Program) (class : RegClass) → OfVectors class → slice_index (map (last_in class (entries_of k)) (loop_entries k)) 0 ≡ 0
 first_nothing k Z of_z = by k.turns
   where
-    by : (o : Option Turns) → slice_index (map (last_in Z (entries_of k)) (turns_entries k (loop_start k) o)) 0 ≡ 0
+    by : (o : Option PlainLoop) → slice_index (map (last_in Z (entries_of k)) (turns_entries k (loop_start k) o)) 0 ≡ 0
     by None = refl
     by (Some l) = refl
 first_nothing k X c = elim c [ ]
 first_nothing k P of_p = by k.turns
   where
-    by : (o : Option Turns) → slice_index (map (last_in P (entries_of k)) (turns_entries k (loop_start k) o)) 0 ≡ 0
+    by : (o : Option PlainLoop) → slice_index (map (last_in P (entries_of k)) (turns_entries k (loop_start k) o)) 0 ≡ 0
     by None = refl
     by (Some l) = refl
 
@@ -134,8 +134,8 @@ placed_in k class c q u e p f =
     record {
       m = length (throughout k class) + p.i;
       place = ap (λ es. flat (slice_get (places_from class (entries_of k) (length (throughout k class)) es) (q - loop_start k))) f ∙ ap flat p.place;
-      interval = interval-behind k class p.i ∙ ap (λ es. slice_get (spans_of class (entries_of k) es) p.i) f ∙ p.interval ∙ ap (λ r. Some (record { from = r; last_use = suc u })) number ∙ ap (λ r. Some (record { from = q; last_use = r })) (sym e);
-      behind = omega arith;
+      interval = interval-following k class p.i ∙ ap (λ es. slice_get (spans_of class (entries_of k) es) p.i) f ∙ p.interval ∙ ap (λ r. Some (record { from = r; last_use = suc u })) number ∙ ap (λ r. Some (record { from = q; last_use = r })) (sym e);
+      following = omega arith;
       within = ⊎_elim
           (λ (lt : q < size_of k). lt)
           (λ (ge : size_of k ≤ q).

@@ -16,7 +16,7 @@ use Rattle.loop_form.proofs.Near.{loop-near}
 use Rattle.dependence.specs.Classes.{is_read, computed_content, is_computed, class_of}
 use Rattle.dependence.specs.declared.reason.Class.TheVariants.{Vector}
 use Rattle.chunk_order.proofs.Sites.{bytes_told, bytes_same}
-use Rattle.chunk_order.proofs.Whole.{class_facts}
+use Rattle.chunk_order.proofs.OrderLaw.{class_facts}
 use Rattle.chunk_emit.specs.KernelLayout.{update_of}
 use Rattle.chunk_emit.proofs.FitsEntries.{Gives, AllGive, loop_gives, any_here}
 use Rattle.chunk_emit.proofs.FitsTypes.{type_of, Matches, first_types, later_types}
@@ -104,11 +104,11 @@ part_left k xs ys ts us m p = record { known = known_left k xs ys p.known; types
 pub part_right : (k : Program) (xs ys : List Entry) (ts us : List (Option Ty)) → Matches k xs ts → Part k (xs ++ ys) (ts ++ us) → Part k ys us
 part_right k xs ys ts us m p = record { known = known_right k xs ys p.known; types = later_types k xs ys ts us m p.types }
 
-pub part_behind : (k : Program) (e : Entry) (es : List Entry) (t : Option Ty) (ts : List (Option Ty)) → Part k (e ∷ es) (t ∷ ts) → Part k es ts
-part_behind k e es t ts p = record { known = p.known.1; types = behind p.types }
+pub part_following : (k : Program) (e : Entry) (es : List Entry) (t : Option Ty) (ts : List (Option Ty)) → Part k (e ∷ es) (t ∷ ts) → Part k es ts
+part_following k e es t ts p = record { known = p.known.1; types = following p.types }
   where
-    behind : type_of e ∷ map type_of es ≡ t ∷ ts → map type_of es ≡ ts
-    behind h = cc
+    following : type_of e ∷ map type_of es ≡ t ∷ ts → map type_of es ≡ ts
+    following h = cc
 
 -- item q of the loop with what it is, what uses it and the type of its value
 pub record At (k : Program) (q : ℕ) (c : Content) (u : ℕ) (t : Option Ty) : Type 0 where

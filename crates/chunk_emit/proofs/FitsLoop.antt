@@ -1,7 +1,7 @@
 -- The items of a checked kernel's loop fit the layout that the registers of its intervals give.
 use Rattle.std.proofs.Common.{◌≡◌, ℕ, ◌+◌, ◌≤◌, true, List, [], ◌∷◌, ◌++◌, length, Option, Some, None, sym, ap, ◌∙◌, subst, append_assoc}
 use Rattle.kernel_tree.specs.declared.fault.Binding.TheVariants as binding
-use Rattle.kernel_tree.specs.Plain.{Turns, Program}
+use Rattle.kernel_tree.specs.Plain.{PlainLoop, Program}
 use Rattle.kernel_tree.specs.Items.{loop_index}
 use Rattle.kernel_tree.specs.Typing.{Scope, Local, local, lookup, insert_name, twice, bound_faults, block_faults, block_types, turns_types, check_fault, in_loop, var_scope}
 use Rattle.reg_assign.specs.Registers.{Assignment}
@@ -11,13 +11,13 @@ use Rattle.loop_form.specs.LoopItems.{bound, Item, outer_env, loop_env, block_it
 use Rattle.dependence.specs.Classes.{class_of}
 use Rattle.dependence.specs.declared.reason.Class.TheVariants.{Vector}
 use Rattle.chunk_order.proofs.Sites.{var_visible}
-use Rattle.chunk_order.proofs.Whole.{turns_from, turns_faultless, scope_index}
+use Rattle.chunk_order.proofs.OrderLaw.{turns_from, turns_faultless, scope_index}
 use Rattle.chunk_emit.specs.Chunk.{Setting}
 use Rattle.chunk_emit.specs.KernelLayout.{type_in, layout_of_loop}
 use Rattle.chunk_emit.specs.LoopFits.{FitsSetting, FitsSteps}
 use Rattle.chunk_emit.proofs.FitsNumbers.{Ascends, loop_ascends, type_at_item}
 use Rattle.chunk_emit.proofs.FitsTypes.{loop_types}
-use Rattle.chunk_emit.proofs.FitsKnown.{Part, part_behind, loop_known}
+use Rattle.chunk_emit.proofs.FitsKnown.{Part, part_following, loop_known}
 use Rattle.chunk_emit.proofs.FitsNames.{head_locals, head_env, head_names}
 use Rattle.chunk_emit.proofs.FitsTrees.{nil-right}
 use Rattle.chunk_emit.proofs.FitsSources.{AllTyped}
@@ -31,35 +31,35 @@ typed_from k p xs (it ∷ items) split h =
     let next = append_assoc xs (it ∷ []) items in
     (ap (λ all. type_in all it.item) (sym split) ∙ type_at_item p xs it items h, typed_from k p (xs ++ it ∷ []) items (next ∙ split) (subst (Ascends p) (sym next) h))
 
-items_typed : (k : Program) (l : Turns) → k.turns ≡ Some l → AllTyped k (loop_items k l)
+items_typed : (k : Program) (l : PlainLoop) → k.turns ≡ Some l → AllTyped k (loop_items k l)
 items_typed k l turns = typed_from k (loop_start k + 1) [] (loop_items k l) (ap (turns_items k) (sym turns)) (loop_ascends k l)
 
 -- ---- the scope of the loop
 
-abbrev body_scope : Program → Turns → Scope
+abbrev body_scope : Program → PlainLoop → Scope
 body_scope k l = record { visible = head_locals k.params k.vars l.index; taken = insert_name (var_scope k).taken l.index; index = loop_index k; inside = true }
 
-scope_is : (k : Program) (l : Turns) → in_loop (var_scope k) l ≡ body_scope k l
+scope_is : (k : Program) (l : PlainLoop) → in_loop (var_scope k) l ≡ body_scope k l
 scope_is k l =
     ap (λ (vs : List Local). record { visible = vs ++ local l.index binding.Index ∷ []; taken = insert_name (var_scope k).taken l.index; index = (var_scope k).index; inside = true }) (var_visible k)
     ∙ ap (λ (i : Option (List ℕ)). record { visible = head_locals k.params k.vars l.index; taken = insert_name (var_scope k).taken l.index; index = i; inside = true }) (scope_index k)
 
-env_is : (k : Program) (l : Turns) → loop_env (var_scope k) l.index ≡ head_env 0 k.params k.vars l.index
+env_is : (k : Program) (l : PlainLoop) → loop_env (var_scope k) l.index ≡ head_env 0 k.params k.vars l.index
 env_is k l = ap (λ vs. outer_env 0 vs ++ bound l.index Turn ∷ []) (var_visible k)
 
-body_faultless : (k : Program) (l : Turns) → check_fault k ≡ None → k.turns ≡ Some l → block_faults (in_loop (var_scope k) l) (turns_from k + 1) l.body ≡ []
+body_faultless : (k : Program) (l : PlainLoop) → check_fault k ≡ None → k.turns ≡ Some l → block_faults (in_loop (var_scope k) l) (turns_from k + 1) l.body ≡ []
 body_faultless k l checked turns =
     let scope = var_scope k in
     nil-right (twice (turns_from k) scope l.index) _ (nil-right (bound_faults (turns_from k) (lookup scope l.bound)) _ (turns_faultless k l checked turns))
 
-body_known : (k : Program) (l : Turns) → check_fault k ≡ None → k.turns ≡ Some l → class_of k ≡ Vector → Part k (block_entries k (loop_start k + 1) l.body) (block_types (in_loop (var_scope k) l) l.body)
+body_known : (k : Program) (l : PlainLoop) → check_fault k ≡ None → k.turns ≡ Some l → class_of k ≡ Vector → Part k (block_entries k (loop_start k + 1) l.body) (block_types (in_loop (var_scope k) l) l.body)
 body_known k l checked turns vector =
     let all : Part k (turns_entries k (loop_start k) k.turns) (turns_types (var_scope k) k.turns) = record { known = loop_known k checked vector; types = loop_types k } in
-    part_behind k _ _ None _ (subst (λ o. Part k (turns_entries k (loop_start k) o) (turns_types (var_scope k) o)) turns all)
+    part_following k _ _ None _ (subst (λ o. Part k (turns_entries k (loop_start k) o) (turns_types (var_scope k) o)) turns all)
 
 -- ---- the loop
 
-pub loop_steps : (k : Program) (l : Turns) (zs ps : Assignment) (f : Setting) → check_fault k ≡ None → k.turns ≡ Some l → class_of k ≡ Vector → length k.params ≤ 8 → FitsSetting k f → FitsSteps (layout_of_loop k zs ps) f (loop_start k + 1) (loop_items k l)
+pub loop_steps : (k : Program) (l : PlainLoop) (zs ps : Assignment) (f : Setting) → check_fault k ≡ None → k.turns ≡ Some l → class_of k ≡ Vector → length k.params ≤ 8 → FitsSetting k f → FitsSteps (layout_of_loop k zs ps) f (loop_start k + 1) (loop_items k l)
 loop_steps k l zs ps f checked turns vector few setting =
     let L = layout_of_loop k zs ps in
     let b = loop_start k + 1 in

@@ -7,7 +7,7 @@ use Rattle.kernel_tree.specs.declared.ast.Shape.{Shape}
 use Rattle.kernel_tree.specs.declared.ast.Shape.TheVariants as shape
 use Rattle.kernel_tree.specs.declared.fault.Binding.{Binding}
 use Rattle.kernel_tree.specs.declared.fault.Binding.TheVariants as binding
-use Rattle.kernel_tree.specs.Plain.{Parameter, Accumulator, Turns, Program}
+use Rattle.kernel_tree.specs.Plain.{Parameter, Accumulator, PlainLoop, Program}
 use Rattle.kernel_tree.specs.Items.{loop_index, index_of}
 use Rattle.kernel_tree.specs.Typing.{Local, local, has_name, binding_of, binding_of_shape}
 use Rattle.reg_assign.specs.declared.interval.RegClass.TheVariants.{Z}
@@ -166,7 +166,7 @@ params_home k b n (p ∷ ps) index x bd loop at f =
     by false e g here more = more g
 
 -- the names of a kernel's loop
-pub head_names : (k : Program) (l : Turns) (b : ℕ) → k.turns ≡ Some l → Names k b (head_locals k.params k.vars l.index) (head_env 0 k.params k.vars l.index)
+pub head_names : (k : Program) (l : PlainLoop) (b : ℕ) → k.turns ≡ Some l → Names k b (head_locals k.params k.vars l.index) (head_env 0 k.params k.vars l.index)
 head_names k l b turns = record {
   named = named_on (locals_of k.params ++ accs_of k.vars) (local l.index binding.Index ∷ []) (outer_env 0 (locals_of k.params ++ accs_of k.vars)) (bound l.index Turn ∷ []) (named_outer 0 (locals_of k.params ++ accs_of k.vars)) (refl, tt);
   home = λ x bd e. params_home k b 0 k.params l.index x bd (ap (option_map index_of) turns) (λ m. ap (slice_get k.params) (zero_first m)) e;

@@ -3,7 +3,7 @@ use Rattle.std.proofs.Common.{◌≡◌, ℕ, ◌+◌, ◌≤◌, ℤ, Bool, tru
 use Rattle.std.specs.Prelude.{nat_eq}
 use Rattle.std.proofs.lemmas.Bool.{eqb-true, eq-eqb}
 use Rattle.kernel_tree.specs.declared.ops.Ty.{Ty}
-use Rattle.kernel_tree.specs.Plain.{Term, Literal, Variable, Element, Unary, Operation, Shift, Conversion, Choice, Comparison, Both, Either, Not, Action, Define, Put, Update, Choose, Leave, Block, Done, Then, Otherwise, Nothing, Else, Turns, Program}
+use Rattle.kernel_tree.specs.Plain.{Term, Literal, Variable, Element, Unary, Operation, Shift, Conversion, Choice, Comparison, Both, Either, Not, Action, Define, Put, Update, Choose, Leave, Block, Done, Then, Otherwise, Nothing, Else, PlainLoop, Program}
 use Rattle.kernel_tree.specs.Items.{stream_offset, index_items, term_size, action_size, block_size, otherwise_size}
 use Rattle.kernel_tree.specs.Typing.{Scope, own, first, side_type, defined, after_action, after_block, left, in_loop, var_scope}
 use Rattle.loop_form.specs.Entries.{loop_start}
@@ -120,7 +120,7 @@ mutual
   otherwise_ascends (Else t) s mask b c env rest h = (omega arith, block_ascends t s (Some b) (b + 1) env rest (sooner (b + 1 + block_size s.index t) (b + otherwise_size s.index (Else t)) rest (omega arith) h))
 
 -- the items of a loop
-pub loop_ascends : (k : Program) (l : Turns) → Ascends (loop_start k + 1) (loop_items k l)
+pub loop_ascends : (k : Program) (l : PlainLoop) → Ascends (loop_start k + 1) (loop_items k l)
 loop_ascends k l = block_ascends l.body (in_loop (var_scope k) l) None (loop_start k + 1) (loop_env (var_scope k) l.index) [] tt
 
 -- ---- one item a number

@@ -3,7 +3,7 @@ use Rattle.std.proofs.Common.{ℕ, ◌+◌, List, [], ◌∷◌, ◌++◌}
 use Rattle.loop_form.specs.LoopItems.{Op, Load, Apply, Combine, Move, Cast, Copy, Pick, Store, Add, Test, Invert, Same, Any, Quit, Item}
 use Rattle.chunk_emit.specs.Registers.{Layout}
 use Rattle.chunk_emit.specs.Chunk.{Setting}
-use Rattle.chunk_emit.specs.Fits.{FitsOp, FitsCast, FitsItems, behind_items}
+use Rattle.chunk_emit.specs.Fits.{FitsOp, FitsCast, FitsItems, following_items}
 use Rattle.chunk_emit.specs.LoopFits.{FitsStep, FitsSteps, IsNoBreak, AreNoBreaks}
 
 cast_first : (l : Layout) (it : Item) (xs ys : List Item) → FitsCast l it (xs ++ ys) → FitsCast l it xs
@@ -15,7 +15,7 @@ pub first_part : (l : Layout) (f : Setting) (p : ℕ) (xs ys : List Item) → Fi
 first_part l f p [] ys h = tt
 first_part l f p (x ∷ xs) ys h = (h.0, h.1, h.2, h.3, cast_first l x xs ys h.4, first_part l f (x.item + 1) xs ys h.5)
 
-pub second_part : (l : Layout) (f : Setting) (p : ℕ) (xs ys : List Item) → FitsSteps l f p (xs ++ ys) → FitsSteps l f (behind_items p xs) ys
+pub second_part : (l : Layout) (f : Setting) (p : ℕ) (xs ys : List Item) → FitsSteps l f p (xs ++ ys) → FitsSteps l f (following_items p xs) ys
 second_part l f p [] ys h = h
 second_part l f p (x ∷ xs) ys h = second_part l f (x.item + 1) xs ys h.5
 

@@ -70,11 +70,11 @@ term_typed k (Either x y) = record {
 }
 term_typed k (Not e) = record { as_value = λ s want mask b env rest h. h; as_cond = λ s mask b env rest h. ((term_typed k e).as_cond s mask b env _ h).1 }
 
-pub value_behind : (k : Program) (t : Term) (s : Scope) (want : Option Ty) (mask : Option ℕ) (b : ℕ) (env : List Bound) (rest : List Item) → AllTyped k (term_items s want mask b env t rest) → AllTyped k rest
-value_behind k t = (term_typed k t).as_value
+pub value_following : (k : Program) (t : Term) (s : Scope) (want : Option Ty) (mask : Option ℕ) (b : ℕ) (env : List Bound) (rest : List Item) → AllTyped k (term_items s want mask b env t rest) → AllTyped k rest
+value_following k t = (term_typed k t).as_value
 
-pub truth_behind : (k : Program) (t : Term) (s : Scope) (mask : Option ℕ) (b : ℕ) (env : List Bound) (rest : List Item) → AllTyped k (cond_items s mask b env t rest) → AllTyped k rest
-truth_behind k t = (term_typed k t).as_cond
+pub truth_following : (k : Program) (t : Term) (s : Scope) (mask : Option ℕ) (b : ℕ) (env : List Bound) (rest : List Item) → AllTyped k (cond_items s mask b env t rest) → AllTyped k rest
+truth_following k t = (term_typed k t).as_cond
 
 pub made_is : (k : Program) (q : ℕ) (T : Ty) → type_in (loop_items_of k) q ≡ Some T → source_type k (Made q) ≡ T
 made_is k q T e = ap (λ o. unwrap_or o U64) e
@@ -128,14 +128,14 @@ module _ (k : Program) (zs ps : Assignment) (f : Setting) (setting : FitsSetting
     operand_fits (Literal n) T mask b u rest h from le typed = literal_fits b u T n h
     operand_fits (Variable x) T mask b u rest h from le typed = (name_fits x T b u from h.0 (binding_at v x) refl h.1, at_width b _ u T h.0)
     operand_fits (Element a j) T mask b u rest h from le typed = read_fits a j T mask _ u rest (stream_offset i j) h.2.offset h.0 h.1 h.2.is (omega (arith, le)) typed
-    operand_fits (Unary op x) T mask b u rest h from le typed = made_fits _ u T (omega (arith, le)) h.1.known.gives.value_last_use (value_behind k x S (Some T) mask b env _ typed).0 (at_width _ _ u T h.1)
+    operand_fits (Unary op x) T mask b u rest h from le typed = made_fits _ u T (omega (arith, le)) h.1.known.gives.value_last_use (value_following k x S (Some T) mask b env _ typed).0 (at_width _ _ u T h.1)
     operand_fits (Operation op x y) T mask b u rest h from le typed =
-        made_fits _ u T (omega (arith, le)) h.2.known.gives.value_last_use (value_behind k y S (Some T) mask _ env _ (value_behind k x S (Some T) mask b env _ typed)).0 (at_width _ _ u T h.2)
-    operand_fits (Shift to_left x n) T mask b u rest h from le typed = made_fits _ u T (omega (arith, le)) h.1.known.gives.value_last_use (value_behind k x S (Some T) mask b env _ typed).0 (at_width _ _ u T h.1)
+        made_fits _ u T (omega (arith, le)) h.2.known.gives.value_last_use (value_following k y S (Some T) mask _ env _ (value_following k x S (Some T) mask b env _ typed)).0 (at_width _ _ u T h.2)
+    operand_fits (Shift to_left x n) T mask b u rest h from le typed = made_fits _ u T (omega (arith, le)) h.1.known.gives.value_last_use (value_following k x S (Some T) mask b env _ typed).0 (at_width _ _ u T h.1)
     operand_fits (Conversion x t) T mask b u rest h from le typed =
-        made_fits _ u T (omega (arith, le)) h.3.known.gives.value_last_use ((value_behind k x S (own S x) mask b env _ typed).0 ∙ ap Some (sym h.4)) (at_width _ _ u T h.3)
+        made_fits _ u T (omega (arith, le)) h.3.known.gives.value_last_use ((value_following k x S (own S x) mask b env _ typed).0 ∙ ap Some (sym h.4)) (at_width _ _ u T h.3)
     operand_fits (Choice c x y) T mask b u rest h from le typed =
-        made_fits _ u T (omega (arith, le)) h.3.known.gives.value_last_use (truth_behind k c S mask _ env _ (value_behind k y S (Some T) mask _ env _ (value_behind k x S (Some T) mask b env _ typed))).0 (at_width _ _ u T h.3)
+        made_fits _ u T (omega (arith, le)) h.3.known.gives.value_last_use (truth_following k c S mask _ env _ (value_following k y S (Some T) mask _ env _ (value_following k x S (Some T) mask b env _ typed))).0 (at_width _ _ u T h.3)
     operand_fits (Comparison op x y) T mask b u rest h from le typed = absurd h
     operand_fits (Both x y) T mask b u rest h from le typed = absurd h
     operand_fits (Either x y) T mask b u rest h from le typed = absurd h

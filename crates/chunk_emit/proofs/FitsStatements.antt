@@ -20,38 +20,38 @@ use Rattle.chunk_emit.specs.Fits.{FitsTruth}
 use Rattle.chunk_emit.specs.KernelLayout.{item_last_use, layout_of_loop}
 use Rattle.chunk_emit.specs.LoopFits.{FitsSetting, FitsSteps}
 use Rattle.chunk_emit.proofs.FitsTypes.{term_matches, action_matches, block_matches, otherwise_matches}
-use Rattle.chunk_emit.proofs.FitsKnown.{Part, part_left, part_right, part_behind, At, at_head}
+use Rattle.chunk_emit.proofs.FitsKnown.{Part, part_left, part_right, part_following, At, at_head}
 use Rattle.chunk_emit.proofs.FitsNames.{LetHome, Names, names_later, names_more}
 use Rattle.chunk_emit.proofs.FitsTrees.{nil-left, nil-right, typed, IsStream, is_stream, value_known, truth_known}
-use Rattle.chunk_emit.proofs.FitsSources.{AllTyped, value_behind, truth_behind, made_is, truth_is, truth_lasts}
+use Rattle.chunk_emit.proofs.FitsSources.{AllTyped, value_following, truth_following, made_is, truth_is, truth_lasts}
 use Rattle.chunk_emit.proofs.FitsPlaces.{moved, skip, plain_step, IsMasked, plain_casts}
 use Rattle.chunk_emit.proofs.FitsTerms.{value_makes, truth_makes, nothing_made, operand, value_steps, truth_steps}
 use Rattle.chunk_emit.proofs.FitsWrites.{store_ends, store_steps, update_steps}
 
 -- ---- the types of the items after
 
-store_behind : (k : Program) (s : Scope) (mask : Option ℕ) (q : ℕ) (env : List Bound) (a : List ℕ) (o : Option ℤ) (v : Source) (rest : List Item) → AllTyped k (store_item s mask q env a o v rest) → AllTyped k rest
-store_behind k s mask q env a None v rest h = h
-store_behind k s mask q env a (Some c) v rest h = h.1
+store_following : (k : Program) (s : Scope) (mask : Option ℕ) (q : ℕ) (env : List Bound) (a : List ℕ) (o : Option ℤ) (v : Source) (rest : List Item) → AllTyped k (store_item s mask q env a o v rest) → AllTyped k rest
+store_following k s mask q env a None v rest h = h
+store_following k s mask q env a (Some c) v rest h = h.1
 
 mutual
-  action_behind : (k : Program) (a : Action) (s : Scope) (mask : Option ℕ) (b : ℕ) (env : List Bound) (rest : List Item) → AllTyped k (action_items s mask b env a rest) → AllTyped k rest
-  action_behind k (Define x t e) s mask b env rest h = (value_behind k e s (first t (own s e)) mask b env _ h).1
-  action_behind k (Put a j e) s mask b env rest h = store_behind k s mask _ env a (stream_offset s.index j) _ rest (value_behind k e s (array_type s a) mask b env _ h)
-  action_behind k (Update x op e) s mask b env rest h = (value_behind k e s (accumulator_of s x) mask b env _ h).1
-  action_behind k (Choose c t d) s mask b env rest h =
+  action_following : (k : Program) (a : Action) (s : Scope) (mask : Option ℕ) (b : ℕ) (env : List Bound) (rest : List Item) → AllTyped k (action_items s mask b env a rest) → AllTyped k rest
+  action_following k (Define x t e) s mask b env rest h = (value_following k e s (first t (own s e)) mask b env _ h).1
+  action_following k (Put a j e) s mask b env rest h = store_following k s mask _ env a (stream_offset s.index j) _ rest (value_following k e s (array_type s a) mask b env _ h)
+  action_following k (Update x op e) s mask b env rest h = (value_following k e s (accumulator_of s x) mask b env _ h).1
+  action_following k (Choose c t d) s mask b env rest h =
       let inner = b + term_size s.index c + 1 in
-      otherwise_behind k d (left s (after_block s t)) mask (inner + block_size s.index t) (truth_home s.index b c) env rest
-      (block_behind k t s (Some (truth_home s.index b c)) inner env _ (truth_behind k c s mask b env _ h))
-  action_behind k (Leave c) s mask b env rest h = (truth_behind k c s mask b env _ h).1
+      otherwise_following k d (left s (after_block s t)) mask (inner + block_size s.index t) (truth_home s.index b c) env rest
+      (block_following k t s (Some (truth_home s.index b c)) inner env _ (truth_following k c s mask b env _ h))
+  action_following k (Leave c) s mask b env rest h = (truth_following k c s mask b env _ h).1
 
-  block_behind : (k : Program) (t : Block) (s : Scope) (mask : Option ℕ) (b : ℕ) (env : List Bound) (rest : List Item) → AllTyped k (block_items s mask b env t rest) → AllTyped k rest
-  block_behind k Done s mask b env rest h = h
-  block_behind k (Then a t) s mask b env rest h = block_behind k t (after_action s a) mask _ (after_env s b env a) rest (action_behind k a s mask b env _ h)
+  block_following : (k : Program) (t : Block) (s : Scope) (mask : Option ℕ) (b : ℕ) (env : List Bound) (rest : List Item) → AllTyped k (block_items s mask b env t rest) → AllTyped k rest
+  block_following k Done s mask b env rest h = h
+  block_following k (Then a t) s mask b env rest h = block_following k t (after_action s a) mask _ (after_env s b env a) rest (action_following k a s mask b env _ h)
 
-  otherwise_behind : (k : Program) (d : Otherwise) (s : Scope) (mask : Option ℕ) (b c : ℕ) (env : List Bound) (rest : List Item) → AllTyped k (otherwise_items s mask b c env d rest) → AllTyped k rest
-  otherwise_behind k Nothing s mask b c env rest h = h
-  otherwise_behind k (Else t) s mask b c env rest h = block_behind k t s (Some b) (b + 1) env rest h.1
+  otherwise_following : (k : Program) (d : Otherwise) (s : Scope) (mask : Option ℕ) (b c : ℕ) (env : List Bound) (rest : List Item) → AllTyped k (otherwise_items s mask b c env d rest) → AllTyped k rest
+  otherwise_following k Nothing s mask b c env rest h = h
+  otherwise_following k (Else t) s mask b c env rest h = block_following k t s (Some b) (b + 1) env rest h.1
 
 -- ---- what no fault tells
 
@@ -100,7 +100,7 @@ module _ (k : Program) (zs ps : Assignment) (f : Setting) (setting : FitsSetting
       let w = typed (g + term_size i e) want (nil-right (twice (g + term_size i e) S x) _ (nil-right (faults S g (Value want) e) _ none)) in
       let T = w.0 in
       let at = at_head k q (IsLet x) q [] want [] (part_right k (term_entries k b q e) _ (term_types S (Value want) e) _ (term_matches k e S (Value want) b q refl) part) in
-      let ti = value_behind k e S want mask b env (item q mask (Copy want (home i want b env e)) ∷ rest) types in
+      let ti = value_following k e S want mask b env (item q mask (Copy want (home i want b env e)) ∷ rest) types in
       let new : LetHome k (b + action_size i (Define x t e)) x T (Made q) = record { item = q; is = refl; before = omega arith; type = made_is k q T (ti.0 ∙ w.1); from = q; last_use = at.known.gives.value_last_use } in
       record {
         visible = v ++ local x (binding.Value T) ∷ [];
@@ -126,56 +126,56 @@ module _ (k : Program) (zs ps : Assignment) (f : Setting) (setting : FitsSetting
     let_steps : (x : List ℕ) (e : Term) (mask : Option ℕ) (g p : ℕ) (rest : List Item) (o : Option Ty) (T : Ty) → o ≡ Some T → faults S g (Value o) e ≡ [] → Part k (term_entries k b (b + term_size i e) e) (term_types S (Value o) e) → At k (b + term_size i e) (IsLet x) (b + term_size i e) o → p ≡ b + term_size i e + 1
         → AllTyped k (term_items S o mask b env e (item (b + term_size i e) mask (Copy o (home i o b env e)) ∷ rest)) → IsMasked (layout_of_loop k zs ps) b p mask → FitsSteps (layout_of_loop k zs ps) f p rest
         → FitsSteps (layout_of_loop k zs ps) f b (term_items S o mask b env e (item (b + term_size i e) mask (Copy o (home i o b env e)) ∷ rest))
-    let_steps x e mask g p rest None U same none part at number types masked behind = absurd cc
-    let_steps x e mask g p rest (Some T) U same none part at number types masked behind =
+    let_steps x e mask g p rest None U same none part at number types masked following = absurd cc
+    let_steps x e mask g p rest (Some T) U same none part at number types masked following =
         let L = layout_of_loop k zs ps in
         let q = b + term_size i e in
         let act = Copy (Some T) (home i (Some T) b env e) in
         let last = item q mask act ∷ rest in
         let known = value_known k v tk ins e T g b q none part in
-        let ti = value_behind k e S (Some T) mask b env last types in
+        let ti = value_following k e S (Some T) mask b env last types in
         let here =
         plain_step L f q p mask act rest number (masked q (omega arith) (omega (arith, number)))
-        (operand k zs ps f setting few v tk ins b env names e T mask b q last known (omega arith) (omega arith) types, value_makes k zs ps f setting few q T at.known.gives.truth_last_use ti.0) (λ r next. refl) behind in
+        (operand k zs ps f setting few v tk ins b env names e T mask b q last known (omega arith) (omega arith) types, value_makes k zs ps f setting few q T at.known.gives.truth_last_use ti.0) (λ r next. refl) following in
         value_steps k zs ps f setting few v tk ins b env names e T mask b q last known (omega arith) (omega arith) types (λ r lo hi. masked r lo (omega (arith, hi, number))) (plain_casts L b last refl) here
 
     put_steps : (a : List ℕ) (j e : Term) (mask : Option ℕ) (g p : ℕ) (rest : List Item) (o : Option Ty) (T : Ty) → array_type S a ≡ o → o ≡ Some T → IsStream i j → faults S g (Value o) e ≡ [] → Part k (term_entries k b (b + term_size i e) e) (term_types S (Value o) e)
         → At k (b + term_size i e) (IsStore a j) (b + term_size i e) None → p ≡ b + term_size i e + 1 → AllTyped k (term_items S o mask b env e (store_item S mask (b + term_size i e) env a (stream_offset i j) (home i o b env e) rest)) → IsMasked (layout_of_loop k zs ps) b p mask
         → FitsSteps (layout_of_loop k zs ps) f p rest → FitsSteps (layout_of_loop k zs ps) f b (term_items S o mask b env e (store_item S mask (b + term_size i e) env a (stream_offset i j) (home i o b env e) rest))
-    put_steps a j e mask g p rest None U is same stream none part at number types masked behind = absurd cc
-    put_steps a j e mask g p rest (Some T) U is same stream none part at number types masked behind =
+    put_steps a j e mask g p rest None U is same stream none part at number types masked following = absurd cc
+    put_steps a j e mask g p rest (Some T) U is same stream none part at number types masked following =
         let L = layout_of_loop k zs ps in
         let q = b + term_size i e in
         let last = store_item S mask q env a (stream_offset i j) (home i (Some T) b env e) rest in
         let known = value_known k v tk ins e T g b q none part in
         let value = operand k zs ps f setting few v tk ins b env names e T mask b q last known (omega arith) (omega arith) types in
-        let here = store_steps k zs ps f setting few v tk ins b env names a j T mask q p (home i (Some T) b env e) rest stream at is value (masked q (omega arith) (omega (arith, number))) number behind in
+        let here = store_steps k zs ps f setting few v tk ins b env names a j T mask q p (home i (Some T) b env e) rest stream at is value (masked q (omega arith) (omega (arith, number))) number following in
         value_steps k zs ps f setting few v tk ins b env names e T mask b q last known (omega arith) (omega arith) types (λ r lo hi. masked r lo (omega (arith, hi, number)))
         (store_ends k zs ps f setting few v tk ins b env names e T a j mask b q rest stream known (omega arith)) here
 
     add_steps : (x : List ℕ) (op : UpdateOp) (e : Term) (mask : Option ℕ) (g p : ℕ) (rest : List Item) (o : Option Ty) (T : Ty) → accumulator_of S x ≡ o → o ≡ Some T → faults S g (Value o) e ≡ [] → Part k (term_entries k b (b + term_size i e) e) (term_types S (Value o) e)
         → At k (b + term_size i e) (IsUpdate x op) (b + term_size i e) None → p ≡ b + term_size i e + 1 → AllTyped k (term_items S o mask b env e (item (b + term_size i e) mask (Add x op o (home i o b env e)) ∷ rest)) → IsMasked (layout_of_loop k zs ps) b p mask → FitsSteps (layout_of_loop k zs ps) f p rest
         → FitsSteps (layout_of_loop k zs ps) f b (term_items S o mask b env e (item (b + term_size i e) mask (Add x op o (home i o b env e)) ∷ rest))
-    add_steps x op e mask g p rest None U is same none part at number types masked behind = absurd cc
-    add_steps x op e mask g p rest (Some T) U is same none part at number types masked behind =
+    add_steps x op e mask g p rest None U is same none part at number types masked following = absurd cc
+    add_steps x op e mask g p rest (Some T) U is same none part at number types masked following =
         let L = layout_of_loop k zs ps in
         let q = b + term_size i e in
         let last = item q mask (Add x op (Some T) (home i (Some T) b env e)) ∷ rest in
         let known = value_known k v tk ins e T g b q none part in
         let value = operand k zs ps f setting few v tk ins b env names e T mask b q last known (omega arith) (omega arith) types in
-        let here = update_steps k zs ps f setting few v tk ins b env names x op T mask q p (home i (Some T) b env e) rest at is value (masked q (omega arith) (omega (arith, number))) number behind in
+        let here = update_steps k zs ps f setting few v tk ins b env names x op T mask q p (home i (Some T) b env e) rest at is value (masked q (omega arith) (omega (arith, number))) number following in
         value_steps k zs ps f setting few v tk ins b env names e T mask b q last known (omega arith) (omega arith) types (λ r lo hi. masked r lo (omega (arith, hi, number))) (plain_casts L b last refl) here
 
     leave_steps : (c : Term) (mask : Option ℕ) (g p : ℕ) (rest : List Item) → faults S g Condition c ≡ [] → Part k (action_entries k b (Leave c)) (action_types S (Leave c)) → p ≡ b + term_size i c + 1 → AllTyped k (action_items S mask b env (Leave c) rest) → IsMasked (layout_of_loop k zs ps) b p mask
         → FitsSteps (layout_of_loop k zs ps) f p rest → FitsSteps (layout_of_loop k zs ps) f b (action_items S mask b env (Leave c) rest)
-    leave_steps c mask g p rest none part number types masked behind =
+    leave_steps c mask g p rest none part number types masked following =
         let L = layout_of_loop k zs ps in
         let q = b + term_size i c in
         let m = term_matches k c S Condition b q refl in
         let known = truth_known k v tk ins c g b q none (part_left k (term_entries k b q c) _ _ _ m part) in
         let at = at_head k q (IsPlain kind.Break) q [] None [] (part_right k (term_entries k b q c) _ _ _ m part) in
         let used = truth_lasts k zs ps c b q q (truth_is k S c b q known) (omega arith) (omega arith) in
-        let here = plain_step L f q p mask (Quit (truth_home i b c)) rest number (masked q (omega arith) (omega (arith, number))) (used, nothing_made k zs ps f setting few q at.known.gives.value_last_use at.known.gives.truth_last_use) (λ r next. refl) behind in
+        let here = plain_step L f q p mask (Quit (truth_home i b c)) rest number (masked q (omega arith) (omega (arith, number))) (used, nothing_made k zs ps f setting few q at.known.gives.value_last_use at.known.gives.truth_last_use) (λ r next. refl) following in
         truth_steps k zs ps f setting few v tk ins b env names c mask b q (item q mask (Quit (truth_home i b c)) ∷ rest) known (omega arith) types (λ r lo hi. masked r lo (omega (arith, hi, number))) here
 
   -- ---- statements and blocks
@@ -183,15 +183,15 @@ module _ (k : Program) (zs ps : Assignment) (f : Setting) (setting : FitsSetting
   mutual
     action_steps : (a : Action) (v : List Local) (tk : List (List ℕ)) (ins : Bool) (env : List Bound) (mask : Option ℕ) (b g : ℕ) (rest : List Item) → Names k b v env → action_faults (scope v tk ins) g a ≡ [] → Part k (action_entries k b a) (action_types (scope v tk ins) a)
         → AllTyped k (action_items (scope v tk ins) mask b env a rest) → IsMasked (layout_of_loop k zs ps) b (b + action_size i a) mask → FitsSteps (layout_of_loop k zs ps) f (b + action_size i a) rest → FitsSteps (layout_of_loop k zs ps) f b (action_items (scope v tk ins) mask b env a rest)
-    action_steps (Define x t e) v tk ins env mask b g rest names none part types masked behind =
+    action_steps (Define x t e) v tk ins env mask b g rest names none part types masked following =
         let S = scope v tk ins in
         let q = b + term_size i e in
         let want = first t (own S e) in
         let w = typed (g + term_size i e) want (nil-right (twice (g + term_size i e) S x) _ (nil-right (faults S g (Value want) e) _ none)) in
         let m = term_matches k e S (Value want) b q refl in
         let at = at_head k q (IsLet x) q [] want [] (part_right k (term_entries k b q e) _ _ _ m part) in
-        let_steps v tk ins b env names x e mask g (b + action_size i (Define x t e)) rest want w.0 w.1 (nil-left (faults S g (Value want) e) _ none) (part_left k (term_entries k b q e) _ _ _ m part) at (omega arith) types masked behind
-    action_steps (Put a j e) v tk ins env mask b g rest names none part types masked behind =
+        let_steps v tk ins b env names x e mask g (b + action_size i (Define x t e)) rest want w.0 w.1 (nil-left (faults S g (Value want) e) _ none) (part_left k (term_entries k b q e) _ _ _ m part) at (omega arith) types masked following
+    action_steps (Put a j e) v tk ins env mask b g rest names none part types masked following =
         let S = scope v tk ins in
         let q = b + term_size i e in
         let n = g + term_size i e in
@@ -201,16 +201,16 @@ module _ (k : Program) (zs ps : Assignment) (f : Setting) (setting : FitsSetting
         let m = term_matches k e S (Value want) b q refl in
         let at = at_head k q (IsStore a j) q [] None [] (part_right k (term_entries k b q e) _ _ _ m part) in
         let stream = is_stream i j (stream_known n (stream_offset i j) (nil-right (target_faults n (lookup S a)) _ none2)) at.known.near in
-        put_steps v tk ins b env names a j e mask g (b + action_size i (Put a j e)) rest want w.0 refl w.1 stream (nil-left (faults S g (Value want) e) _ none) (part_left k (term_entries k b q e) _ _ _ m part) at (omega arith) types masked behind
-    action_steps (Update x op e) v tk ins env mask b g rest names none part types masked behind =
+        put_steps v tk ins b env names a j e mask g (b + action_size i (Put a j e)) rest want w.0 refl w.1 stream (nil-left (faults S g (Value want) e) _ none) (part_left k (term_entries k b q e) _ _ _ m part) at (omega arith) types masked following
+    action_steps (Update x op e) v tk ins env mask b g rest names none part types masked following =
         let S = scope v tk ins in
         let q = b + term_size i e in
         let want = accumulator_of S x in
         let w = update_known (g + term_size i e) (lookup S x) (nil-right (faults S g (Value want) e) _ none) in
         let m = term_matches k e S (Value want) b q refl in
         let at = at_head k q (IsUpdate x op) q [] None [] (part_right k (term_entries k b q e) _ _ _ m part) in
-        add_steps v tk ins b env names x op e mask g (b + action_size i (Update x op e)) rest want w.0 refl w.1 (nil-left (faults S g (Value want) e) _ none) (part_left k (term_entries k b q e) _ _ _ m part) at (omega arith) types masked behind
-    action_steps (Choose c t d) v tk ins env mask b g rest names none part types masked behind =
+        add_steps v tk ins b env names x op e mask g (b + action_size i (Update x op e)) rest want w.0 refl w.1 (nil-left (faults S g (Value want) e) _ none) (part_left k (term_entries k b q e) _ _ _ m part) at (omega arith) types masked following
+    action_steps (Choose c t d) v tk ins env mask b g rest names none part types masked following =
         let L = layout_of_loop k zs ps in
         let S = scope v tk ins in
         let S2 = left S (after_block S t) in
@@ -221,7 +221,7 @@ module _ (k : Program) (zs ps : Assignment) (f : Setting) (setting : FitsSetting
         let picked = truth_home i b c in
         let m = term_matches k c S Condition b second refl in
         let part2 = part_right k (term_entries k b second c) _ _ _ m part in
-        let part3 = part_behind k _ _ None _ part2 in
+        let part3 = part_following k _ _ None _ part2 in
         let at_then = at_head k then (IsPlain kind.Then) then _ None _ part2 in
         let mt = block_matches k t S inner refl in
         let part4 = part_right k (block_entries k inner t) _ _ _ mt part3 in
@@ -232,22 +232,22 @@ module _ (k : Program) (zs ps : Assignment) (f : Setting) (setting : FitsSetting
         let is = truth_is k S c b second known in
         let last = otherwise_items S2 mask second picked env d rest in
         let middle = block_items S (Some picked) inner env t last in
-        let types2 = truth_behind k c S mask b env middle types in
-        let types3 = block_behind k t S (Some picked) inner env last types2 in
-        let behind2 = skip L f end rest (nothing_made k zs ps f setting few end at_end.known.gives.value_last_use at_end.known.gives.truth_last_use) (moved L f (b + action_size i (Choose c t d)) (end + 1) rest (omega arith) behind) in
+        let types2 = truth_following k c S mask b env middle types in
+        let types3 = block_following k t S (Some picked) inner env last types2 in
+        let following2 = skip L f end rest (nothing_made k zs ps f setting few end at_end.known.gives.value_last_use at_end.known.gives.truth_last_use) (moved L f (b + action_size i (Choose c t d)) (end + 1) rest (omega arith) following) in
         let steps3 =
         otherwise_steps d v (after_block S t).taken ins env mask second picked (g + term_size i c + 1 + block_size i t) end rest (names_later k b second v env (omega arith) names) (nil-right (block_faults S (g + term_size i c + 1) t) _ none2) (part_left k (otherwise_entries k second end d) _ _ _ md part4) types3
-        (truth_lasts k zs ps c b second second is (omega arith) (omega arith)) (λ r lo hi. masked r (omega (arith, lo)) (omega (arith, hi))) refl behind2 in
+        (truth_lasts k zs ps c b second second is (omega arith) (omega arith)) (λ r lo hi. masked r (omega (arith, lo)) (omega (arith, hi))) refl following2 in
         let steps2 =
         block_steps t v tk ins env (Some picked) inner (g + term_size i c + 1) last (names_later k b inner v env (omega arith) names) (nil-left (block_faults S (g + term_size i c + 1) t) _ none2) (part_left k (block_entries k inner t) _ _ _ mt part3) types2
         (λ r lo hi. truth_lasts k zs ps c b second r is (omega (arith, lo)) (omega (arith, hi))) steps3 in
         truth_steps k zs ps f setting few v tk ins b env names c mask b second middle known (omega arith) types (λ r lo hi. masked r lo (omega (arith, hi))) (skip L f then middle (nothing_made k zs ps f setting few then at_then.known.gives.value_last_use at_then.known.gives.truth_last_use) steps2)
-    action_steps (Leave c) v tk ins env mask b g rest names none part types masked behind = leave_steps v tk ins b env names c mask g (b + action_size i (Leave c)) rest none part (omega arith) types masked behind
+    action_steps (Leave c) v tk ins env mask b g rest names none part types masked following = leave_steps v tk ins b env names c mask g (b + action_size i (Leave c)) rest none part (omega arith) types masked following
 
     pub block_steps : (t : Block) (v : List Local) (tk : List (List ℕ)) (ins : Bool) (env : List Bound) (mask : Option ℕ) (b g : ℕ) (rest : List Item) → Names k b v env → block_faults (scope v tk ins) g t ≡ [] → Part k (block_entries k b t) (block_types (scope v tk ins) t) → AllTyped k (block_items (scope v tk ins) mask b env t rest)
         → IsMasked (layout_of_loop k zs ps) b (b + block_size i t) mask → FitsSteps (layout_of_loop k zs ps) f (b + block_size i t) rest → FitsSteps (layout_of_loop k zs ps) f b (block_items (scope v tk ins) mask b env t rest)
-    block_steps Done v tk ins env mask b g rest names none part types masked behind = moved (layout_of_loop k zs ps) f (b + 0) b rest (omega arith) behind
-    block_steps (Then a t) v tk ins env mask b g rest names none part types masked behind =
+    block_steps Done v tk ins env mask b g rest names none part types masked following = moved (layout_of_loop k zs ps) f (b + 0) b rest (omega arith) following
+    block_steps (Then a t) v tk ins env mask b g rest names none part types masked following =
         let L = layout_of_loop k zs ps in
         let S = scope v tk ins in
         let next = b + action_size i a in
@@ -259,24 +259,24 @@ module _ (k : Program) (zs ps : Assignment) (f : Setting) (setting : FitsSetting
         let none_t = nil-right (action_faults S g a) _ none in
         let n = names_after a v tk ins env mask b g more names none_a part_a types in
         let S2 = scope n.visible n.taken ins in
-        let types_t : AllTyped k (block_items S2 mask next n.env' t rest) = subst (λ e. AllTyped k (block_items S2 mask next e t rest)) n.env_is (subst (λ s. AllTyped k (block_items s mask next (after_env S b env a) t rest)) n.scope_is (action_behind k a S mask b env more types)) in
+        let types_t : AllTyped k (block_items S2 mask next n.env' t rest) = subst (λ e. AllTyped k (block_items S2 mask next e t rest)) n.env_is (subst (λ s. AllTyped k (block_items s mask next (after_env S b env a) t rest)) n.scope_is (action_following k a S mask b env more types)) in
         let steps_t =
         block_steps t n.visible n.taken ins n.env' mask next (g + action_size i a) rest n.names (subst (λ s. block_faults s (g + action_size i a) t ≡ []) n.scope_is none_t) (subst (λ s. Part k (block_entries k next t) (block_types s t)) n.scope_is part_t) types_t (λ r lo hi. masked r (omega (arith, lo)) (omega (arith, hi)))
-        (moved L f (b + block_size i (Then a t)) (next + block_size i t) rest (omega arith) behind) in
-        let behind_a : FitsSteps L f next more = subst (λ s. FitsSteps L f next (block_items s mask next (after_env S b env a) t rest)) (sym n.scope_is) (subst (λ e. FitsSteps L f next (block_items S2 mask next e t rest)) (sym n.env_is) steps_t) in
-        action_steps a v tk ins env mask b g more names none_a part_a types (λ r lo hi. masked r lo (omega (arith, hi))) behind_a
+        (moved L f (b + block_size i (Then a t)) (next + block_size i t) rest (omega arith) following) in
+        let following_a : FitsSteps L f next more = subst (λ s. FitsSteps L f next (block_items s mask next (after_env S b env a) t rest)) (sym n.scope_is) (subst (λ e. FitsSteps L f next (block_items S2 mask next e t rest)) (sym n.env_is) steps_t) in
+        action_steps a v tk ins env mask b g more names none_a part_a types (λ r lo hi. masked r lo (omega (arith, hi))) following_a
 
     otherwise_steps : (d : Otherwise) (v : List Local) (tk : List (List ℕ)) (ins : Bool) (env : List Bound) (mask : Option ℕ) (b c g end : ℕ) (rest : List Item) → Names k b v env → otherwise_faults (scope v tk ins) g d ≡ [] → Part k (otherwise_entries k b end d) (otherwise_types (scope v tk ins) d)
         → AllTyped k (otherwise_items (scope v tk ins) mask b c env d rest) → FitsTruth (layout_of_loop k zs ps) b c → IsMasked (layout_of_loop k zs ps) b (b + otherwise_size i d) mask → end ≡ b + otherwise_size i d → FitsSteps (layout_of_loop k zs ps) f end rest
         → FitsSteps (layout_of_loop k zs ps) f b (otherwise_items (scope v tk ins) mask b c env d rest)
-    otherwise_steps Nothing v tk ins env mask b c g end rest names none part types picked masked number behind = moved (layout_of_loop k zs ps) f end b rest (omega (arith, number)) behind
-    otherwise_steps (Else t) v tk ins env mask b c g end rest names none part types picked masked number behind =
+    otherwise_steps Nothing v tk ins env mask b c g end rest names none part types picked masked number following = moved (layout_of_loop k zs ps) f end b rest (omega (arith, number)) following
+    otherwise_steps (Else t) v tk ins env mask b c g end rest names none part types picked masked number following =
         let L = layout_of_loop k zs ps in
         let S = scope v tk ins in
         let at = at_head k b (IsPlain kind.Else) end _ None _ part in
         let last_use : item_last_use k P b ≡ end = at.known.gives.truth_last_use in
         let later = block_items S (Some b) (b + 1) env t rest in
         let steps_t =
-        block_steps t v tk ins env (Some b) (b + 1) (g + 1) rest (names_later k b (b + 1) v env (omega arith) names) none (part_behind k _ _ None _ part) types.1 (λ r lo hi. (omega (arith, lo), omega (arith, hi, last_use, number)))
-        (moved L f end (b + 1 + block_size i t) rest (omega (arith, number)) behind) in
+        block_steps t v tk ins env (Some b) (b + 1) (g + 1) rest (names_later k b (b + 1) v env (omega arith) names) none (part_following k _ _ None _ part) types.1 (λ r lo hi. (omega (arith, lo), omega (arith, hi, last_use, number)))
+        (moved L f end (b + 1 + block_size i t) rest (omega (arith, number)) following) in
         plain_step L f b (b + 1) mask (Invert c) later refl (masked b (omega arith) (omega arith)) (picked, truth_makes k zs ps f setting few b at.known.gives.value_last_use) (λ r next. refl) steps_t

@@ -27,7 +27,7 @@ use Rattle.chunk_emit.proofs.FitsBases.{base_fits}
 use Rattle.chunk_emit.proofs.FitsKnown.{At}
 use Rattle.chunk_emit.proofs.FitsNames.{binding_at, HomeIs, Names}
 use Rattle.chunk_emit.proofs.FitsTrees.{IsStream, KnownValue, KnownTruth}
-use Rattle.chunk_emit.proofs.FitsSources.{AllTyped, value_behind, truth_behind, made_is, at_width, operand_fits, truth_is, truth_lasts}
+use Rattle.chunk_emit.proofs.FitsSources.{AllTyped, value_following, truth_following, made_is, at_width, operand_fits, truth_is, truth_lasts}
 use Rattle.chunk_emit.proofs.FitsPlaces.{moved, skip, step, plain_step, IsMasked, CastsEnd, plain_casts, value_plain, truth_plain}
 
 -- a count of a shift that the type allows
@@ -72,13 +72,13 @@ module _ (k : Program) (zs ps : Assignment) (f : Setting) (setting : FitsSetting
 
     load_steps : (a : List ℕ) (j : Term) (T : Ty) (mask : Option ℕ) (q p u : ℕ) (rest : List Item) (o : Option ℤ) (stream : IsStream i j) (t : Option Ty) → At k q (IsRead a j) u (Some T) → array_type S a ≡ t → t ≡ Some T → o ≡ Some stream.offset → q < u → p ≡ q + 1
         → AllTyped k (load_item S mask q env a o rest) → IsMasked (layout_of_loop k zs ps) q p mask → FitsSteps (layout_of_loop k zs ps) f p rest → FitsSteps (layout_of_loop k zs ps) f q (load_item S mask q env a o rest)
-    load_steps a j T mask q p u rest o stream t at same e g lt number typed masked behind =
+    load_steps a j T mask q p u rest o stream t at same e g lt number typed masked following =
         let L = layout_of_loop k zs ps in
         let typed2 : AllTyped k (load_item S mask q env a (Some stream.offset) rest) = subst (λ z. AllTyped k (load_item S mask q env a z rest)) g typed in
         let last_use : item_last_use k Z q ≡ u = at.known.gives.value_last_use in
         let here =
         plain_step L f q p mask (Load a (source_at env a) (Some T) stream.offset) rest number (masked q (omega arith) (omega (arith, number)))
-        (array_fits a T (same ∙ e), stream.near, at_width k zs ps f setting q (IsRead a j) u T at, omega (arith, last_use, lt), value_makes q T at.known.gives.truth_last_use (typed2.0 ∙ same ∙ e)) (λ r next. refl) behind in
+        (array_fits a T (same ∙ e), stream.near, at_width k zs ps f setting q (IsRead a j) u T at, omega (arith, last_use, lt), value_makes q T at.known.gives.truth_last_use (typed2.0 ∙ same ∙ e)) (λ r next. refl) following in
         let there : FitsSteps L f q (load_item S mask q env a (Some stream.offset) rest) = subst (λ z. FitsSteps L f q (item q mask (Load a (source_at env a) z stream.offset) ∷ rest)) (sym (same ∙ e)) here in
         subst (λ z. FitsSteps L f q (load_item S mask q env a z rest)) (sym g) there
 
@@ -90,16 +90,16 @@ module _ (k : Program) (zs ps : Assignment) (f : Setting) (setting : FitsSetting
     cast_steps : (x : Term) (t T : Ty) (mask : Option ℕ) (b u p : ℕ) (rest : List Item) (o : Option Ty) (U : Ty) → o ≡ Some U → KnownValue k S U b (b + term_size i x) x → At k (b + term_size i x) (IsPlain kind.Cast) u (Some T) → T ≡ t → b0 ≤ b + term_size i x → p ≡ b + term_size i x + 1
         → AllTyped k (term_items S o mask b env x (item (b + term_size i x) mask (Cast o t (home i o b env x)) ∷ rest)) → IsMasked (layout_of_loop k zs ps) b p mask → CastsEnd (layout_of_loop k zs ps) b rest → FitsSteps (layout_of_loop k zs ps) f p rest → Before x U mask b
         → FitsSteps (layout_of_loop k zs ps) f b (term_items S o mask b env x (item (b + term_size i x) mask (Cast o t (home i o b env x)) ∷ rest))
-    cast_steps x t T mask b u p rest o U e h at same from number typed masked casts behind before =
+    cast_steps x t T mask b u p rest o U e h at same from number typed masked casts following before =
         let L = layout_of_loop k zs ps in
         let q = b + term_size i x in
         let act = Cast (Some U) t (home i (Some U) b env x) in
         let last = item q mask act ∷ rest in
         let typed2 : AllTyped k (term_items S (Some U) mask b env x last) = subst (λ z. AllTyped k (term_items S z mask b env x (item q mask (Cast z t (home i z b env x)) ∷ rest))) e typed in
-        let ti = value_behind k x S (Some U) mask b env last typed2 in
+        let ti = value_following k x S (Some U) mask b env last typed2 in
         let wide = subst (λ z. bits_of z ≤ width_bits f.w) same (at_width k zs ps f setting q (IsPlain kind.Cast) u T at) in
         let here =
-        step L f q p mask act rest number (masked q (omega arith) (omega (arith, number))) (operand x U mask b q last h from (omega arith) typed2, wide, value_makes q t at.known.gives.truth_last_use ti.0) (casts (item q mask act) (omega arith)) behind in
+        step L f q p mask act rest number (masked q (omega arith) (omega (arith, number))) (operand x U mask b q last h from (omega arith) typed2, wide, value_makes q t at.known.gives.truth_last_use ti.0) (casts (item q mask act) (omega arith)) following in
         subst (λ z. FitsSteps L f b (term_items S z mask b env x (item q mask (Cast z t (home i z b env x)) ∷ rest))) (sym e) (before last typed2 (plain_casts L b last refl, here))
 
     test_steps : (op : CompareOp) (x y : Term) (mask : Option ℕ) (b u p : ℕ) (rest : List Item) (o : Option Ty) (U : Ty) → o ≡ Some U → KnownValue k S U b (b + term_size i x + term_size i y) x → KnownValue k S U (b + term_size i x) (b + term_size i x + term_size i y) y
@@ -107,17 +107,17 @@ module _ (k : Program) (zs ps : Assignment) (f : Setting) (setting : FitsSetting
         → AllTyped k (term_items S o mask b env x (term_items S o mask (b + term_size i x) env y (item (b + term_size i x + term_size i y) mask (Test op o (home i o b env x) (home i o (b + term_size i x) env y)) ∷ rest)))
         → IsMasked (layout_of_loop k zs ps) b p mask → FitsSteps (layout_of_loop k zs ps) f p rest → Before x U mask b → Before y U mask (b + term_size i x)
         → FitsSteps (layout_of_loop k zs ps) f b (term_items S o mask b env x (term_items S o mask (b + term_size i x) env y (item (b + term_size i x + term_size i y) mask (Test op o (home i o b env x) (home i o (b + term_size i x) env y)) ∷ rest)))
-    test_steps op x y mask b u p rest o U e hx hy at from number typed masked behind first second =
+    test_steps op x y mask b u p rest o U e hx hy at from number typed masked following first second =
         let L = layout_of_loop k zs ps in
         let b1 = b + term_size i x in let q = b1 + term_size i y in
         let act = Test op (Some U) (home i (Some U) b env x) (home i (Some U) b1 env y) in
         let last = item q mask act ∷ rest in
         let later = term_items S (Some U) mask b1 env y last in
         let typed2 : AllTyped k (term_items S (Some U) mask b env x later) = subst (λ z. AllTyped k (term_items S z mask b env x (term_items S z mask b1 env y (item q mask (Test op z (home i z b env x) (home i z b1 env y)) ∷ rest)))) e typed in
-        let ty = value_behind k x S (Some U) mask b env later typed2 in
+        let ty = value_following k x S (Some U) mask b env later typed2 in
         let ox = operand x U mask b q later hx from (omega arith) typed2 in
         let oy = operand y U mask b1 q last hy from (omega arith) ty in
-        let here = plain_step L f q p mask act rest number (masked q (omega arith) (omega (arith, number))) (ox, oy, truth_makes q at.known.gives.value_last_use) (λ r next. refl) behind in
+        let here = plain_step L f q p mask act rest number (masked q (omega arith) (omega (arith, number))) (ox, oy, truth_makes q at.known.gives.value_last_use) (λ r next. refl) following in
         let there = second last ty (plain_casts L b1 last refl, here) in
         subst (λ z. FitsSteps L f b (term_items S z mask b env x (term_items S z mask b1 env y (item q mask (Test op z (home i z b env x) (home i z b1 env y)) ∷ rest)))) (sym e)
         (first later typed2 (plain_casts L b later (value_plain y S (Some U) mask b1 env last refl), there))
@@ -125,116 +125,116 @@ module _ (k : Program) (zs ps : Assignment) (f : Setting) (setting : FitsSetting
     mutual
       pub value_steps : (t : Term) (T : Ty) (mask : Option ℕ) (b u : ℕ) (rest : List Item) → KnownValue k S T b u t → b0 ≤ b → b + term_size i t ≤ u → AllTyped k (term_items S (Some T) mask b env t rest) → IsMasked (layout_of_loop k zs ps) b (b + term_size i t) mask → CastsEnd (layout_of_loop k zs ps) b rest
           → FitsSteps (layout_of_loop k zs ps) f (b + term_size i t) rest → FitsSteps (layout_of_loop k zs ps) f b (term_items S (Some T) mask b env t rest)
-      value_steps (Literal n) T mask b u rest h from le typed masked casts behind = skip (layout_of_loop k zs ps) f b rest (nothing_made b h.known.gives.value_last_use h.known.gives.truth_last_use) behind
-      value_steps (Variable x) T mask b u rest h from le typed masked casts behind = skip (layout_of_loop k zs ps) f b rest (nothing_made b h.0.known.gives.value_last_use h.0.known.gives.truth_last_use) behind
-      value_steps (Element a j) T mask b u rest h from le typed masked casts behind =
+      value_steps (Literal n) T mask b u rest h from le typed masked casts following = skip (layout_of_loop k zs ps) f b rest (nothing_made b h.known.gives.value_last_use h.known.gives.truth_last_use) following
+      value_steps (Variable x) T mask b u rest h from le typed masked casts following = skip (layout_of_loop k zs ps) f b rest (nothing_made b h.0.known.gives.value_last_use h.0.known.gives.truth_last_use) following
+      value_steps (Element a j) T mask b u rest h from le typed masked casts following =
           let q = b + index_items i j in
           let none : index_items i j ≡ 0 = ap (λ o. index_size o (term_size i j)) h.2.is in
           moved (layout_of_loop k zs ps) f q b (load_item S mask q env a (stream_offset i j) rest) (omega (arith, none))
-          (load_steps a j T mask q (b + term_size i (Element a j)) u rest (stream_offset i j) h.2 (array_type S a) h.0 refl h.1 h.2.is (omega (arith, le)) (omega arith) typed (λ r lo hi. masked r (omega (arith, lo)) (omega (arith, hi))) behind)
-      value_steps (Unary op x) T mask b u rest h from le typed masked casts behind =
+          (load_steps a j T mask q (b + term_size i (Element a j)) u rest (stream_offset i j) h.2 (array_type S a) h.0 refl h.1 h.2.is (omega (arith, le)) (omega arith) typed (λ r lo hi. masked r (omega (arith, lo)) (omega (arith, hi))) following)
+      value_steps (Unary op x) T mask b u rest h from le typed masked casts following =
           let L = layout_of_loop k zs ps in
           let q = b + term_size i x in
           let act = Apply op (Some T) (home i (Some T) b env x) in
           let last = item q mask act ∷ rest in
-          let ti = value_behind k x S (Some T) mask b env last typed in
-          let here = plain_step L f q (b + term_size i (Unary op x)) mask act rest (omega arith) (masked q (omega arith) (omega arith)) (operand x T mask b q last h.0 (omega (arith, from)) (omega arith) typed, value_makes q T h.1.known.gives.truth_last_use ti.0) (λ r next. refl) behind in
+          let ti = value_following k x S (Some T) mask b env last typed in
+          let here = plain_step L f q (b + term_size i (Unary op x)) mask act rest (omega arith) (masked q (omega arith) (omega arith)) (operand x T mask b q last h.0 (omega (arith, from)) (omega arith) typed, value_makes q T h.1.known.gives.truth_last_use ti.0) (λ r next. refl) following in
           value_steps x T mask b q last h.0 from (omega arith) typed (λ r lo hi. masked r lo (omega (arith, hi))) (plain_casts L b last refl) here
-      value_steps (Operation op x y) T mask b u rest h from le typed masked casts behind =
+      value_steps (Operation op x y) T mask b u rest h from le typed masked casts following =
           let L = layout_of_loop k zs ps in
           let b1 = b + term_size i x in let q = b1 + term_size i y in
           let act = Combine op (Some T) (home i (Some T) b env x) (home i (Some T) b1 env y) in
           let last = item q mask act ∷ rest in
           let later = term_items S (Some T) mask b1 env y last in
-          let ty = value_behind k x S (Some T) mask b env later typed in
-          let ti = value_behind k y S (Some T) mask b1 env last ty in
+          let ty = value_following k x S (Some T) mask b env later typed in
+          let ti = value_following k y S (Some T) mask b1 env last ty in
           let ox = operand x T mask b q later h.0 (omega (arith, from)) (omega arith) typed in
           let oy = operand y T mask b1 q last h.1 (omega (arith, from)) (omega arith) ty in
-          let here = plain_step L f q (b + term_size i (Operation op x y)) mask act rest (omega arith) (masked q (omega arith) (omega arith)) (ox, oy, value_makes q T h.2.known.gives.truth_last_use ti.0) (λ r next. refl) behind in
+          let here = plain_step L f q (b + term_size i (Operation op x y)) mask act rest (omega arith) (masked q (omega arith) (omega arith)) (ox, oy, value_makes q T h.2.known.gives.truth_last_use ti.0) (λ r next. refl) following in
           let second = value_steps y T mask b1 q last h.1 (omega (arith, from)) (omega arith) ty (λ r lo hi. masked r (omega (arith, lo)) (omega (arith, hi))) (plain_casts L b1 last refl) here in
           value_steps x T mask b q later h.0 from (omega arith) typed (λ r lo hi. masked r lo (omega (arith, hi))) (plain_casts L b later (value_plain y S (Some T) mask b1 env last refl)) second
-      value_steps (Shift to_left x n) T mask b u rest h from le typed masked casts behind =
+      value_steps (Shift to_left x n) T mask b u rest h from le typed masked casts following =
           let L = layout_of_loop k zs ps in
           let q = b + term_size i x in
           let act = Move to_left n (Some T) (home i (Some T) b env x) in
           let last = item q mask act ∷ rest in
-          let ti = value_behind k x S (Some T) mask b env last typed in
+          let ti = value_following k x S (Some T) mask b env last typed in
           let wide = at_width k zs ps f setting q (IsPlain kind.Shift) u T h.1 in
           let count = count_below n (bits_of T) h.2 in
           let here =
           plain_step L f q (b + term_size i (Shift to_left x n)) mask act rest (omega arith) (masked q (omega arith) (omega arith))
-          (operand x T mask b q last h.0 (omega (arith, from)) (omega arith) typed, omega (arith, wide, count), value_makes q T h.1.known.gives.truth_last_use ti.0) (λ r next. refl) behind in
+          (operand x T mask b q last h.0 (omega (arith, from)) (omega arith) typed, omega (arith, wide, count), value_makes q T h.1.known.gives.truth_last_use ti.0) (λ r next. refl) following in
           value_steps x T mask b q last h.0 from (omega arith) typed (λ r lo hi. masked r lo (omega (arith, hi))) (plain_casts L b last refl) here
-      value_steps (Conversion x t) T mask b u rest h from le typed masked casts behind =
-          cast_steps x t T mask b u (b + term_size i (Conversion x t)) rest (own S x) h.0 h.1 h.2 h.3 h.4 (omega (arith, from)) (omega arith) typed masked casts behind (λ last ty here. value_steps x h.0 mask b (b + term_size i x) last h.2 from (omega arith) ty (λ r lo hi. masked r lo (omega (arith, hi))) here.0 here.1)
-      value_steps (Choice c x y) T mask b u rest h from le typed masked casts behind =
+      value_steps (Conversion x t) T mask b u rest h from le typed masked casts following =
+          cast_steps x t T mask b u (b + term_size i (Conversion x t)) rest (own S x) h.0 h.1 h.2 h.3 h.4 (omega (arith, from)) (omega arith) typed masked casts following (λ last ty here. value_steps x h.0 mask b (b + term_size i x) last h.2 from (omega arith) ty (λ r lo hi. masked r lo (omega (arith, hi))) here.0 here.1)
+      value_steps (Choice c x y) T mask b u rest h from le typed masked casts following =
           let L = layout_of_loop k zs ps in
           let b1 = b + term_size i x in let b2 = b1 + term_size i y in let q = b2 + term_size i c in
           let act = Pick (Some T) (truth_home i b2 c) (home i (Some T) b env x) (home i (Some T) b1 env y) in
           let last = item q mask act ∷ rest in
           let chosen = cond_items S mask b2 env c last in
           let later = term_items S (Some T) mask b1 env y chosen in
-          let ty = value_behind k x S (Some T) mask b env later typed in
-          let tc = value_behind k y S (Some T) mask b1 env chosen ty in
-          let ti = truth_behind k c S mask b2 env last tc in
+          let ty = value_following k x S (Some T) mask b env later typed in
+          let tc = value_following k y S (Some T) mask b1 env chosen ty in
+          let ti = truth_following k c S mask b2 env last tc in
           let ox = operand x T mask b q later h.0 (omega (arith, from)) (omega arith) typed in
           let oy = operand y T mask b1 q chosen h.1 (omega (arith, from)) (omega arith) ty in
           let oc = truth_lasts k zs ps c b2 q q (truth_is k S c b2 q h.2) (omega arith) (omega arith) in
-          let here = plain_step L f q (b + term_size i (Choice c x y)) mask act rest (omega arith) (masked q (omega arith) (omega arith)) (oc, ox, oy, value_makes q T h.3.known.gives.truth_last_use ti.0) (λ r next. refl) behind in
+          let here = plain_step L f q (b + term_size i (Choice c x y)) mask act rest (omega arith) (masked q (omega arith) (omega arith)) (oc, ox, oy, value_makes q T h.3.known.gives.truth_last_use ti.0) (λ r next. refl) following in
           let third = truth_steps c mask b2 q last h.2 (omega (arith, from)) tc (λ r lo hi. masked r (omega (arith, lo)) (omega (arith, hi))) here in
           let second = value_steps y T mask b1 q chosen h.1 (omega (arith, from)) (omega arith) ty (λ r lo hi. masked r (omega (arith, lo)) (omega (arith, hi))) (plain_casts L b1 chosen (truth_plain c S mask b2 env last refl)) third in
           value_steps x T mask b q later h.0 from (omega arith) typed (λ r lo hi. masked r lo (omega (arith, hi))) (plain_casts L b later (value_plain y S (Some T) mask b1 env chosen (truth_plain c S mask b2 env last refl))) second
-      value_steps (Comparison op x y) T mask b u rest h from le typed masked casts behind = absurd h
-      value_steps (Both x y) T mask b u rest h from le typed masked casts behind = absurd h
-      value_steps (Either x y) T mask b u rest h from le typed masked casts behind = absurd h
-      value_steps (Not x) T mask b u rest h from le typed masked casts behind = absurd h
+      value_steps (Comparison op x y) T mask b u rest h from le typed masked casts following = absurd h
+      value_steps (Both x y) T mask b u rest h from le typed masked casts following = absurd h
+      value_steps (Either x y) T mask b u rest h from le typed masked casts following = absurd h
+      value_steps (Not x) T mask b u rest h from le typed masked casts following = absurd h
 
       pub truth_steps : (t : Term) (mask : Option ℕ) (b u : ℕ) (rest : List Item) → KnownTruth k S b u t → b0 ≤ b → AllTyped k (cond_items S mask b env t rest) → IsMasked (layout_of_loop k zs ps) b (b + term_size i t) mask → FitsSteps (layout_of_loop k zs ps) f (b + term_size i t) rest
           → FitsSteps (layout_of_loop k zs ps) f b (cond_items S mask b env t rest)
-      truth_steps (Comparison op x y) mask b u rest h from typed masked behind =
-          test_steps op x y mask b u (b + term_size i (Comparison op x y)) rest (side_type S x y) h.0 h.1 h.2 h.3 h.4 (omega (arith, from)) (omega arith) typed masked behind
+      truth_steps (Comparison op x y) mask b u rest h from typed masked following =
+          test_steps op x y mask b u (b + term_size i (Comparison op x y)) rest (side_type S x y) h.0 h.1 h.2 h.3 h.4 (omega (arith, from)) (omega arith) typed masked following
           (λ last ty here. value_steps x h.0 mask b (b + term_size i x + term_size i y) last h.2 from (omega arith) ty (λ r lo hi. masked r lo (omega (arith, hi))) here.0 here.1)
           (λ last ty here. value_steps y h.0 mask (b + term_size i x) (b + term_size i x + term_size i y) last h.3 (omega (arith, from)) (omega arith) ty (λ r lo hi. masked r (omega (arith, lo)) (omega (arith, hi))) here.0 here.1)
-      truth_steps (Both x y) mask b u rest h from typed masked behind =
+      truth_steps (Both x y) mask b u rest h from typed masked following =
           let L = layout_of_loop k zs ps in
           let b1 = b + term_size i x in let q = b1 + term_size i y in
           let act = Same (truth_home i b1 y) in
           let last = item q mask act ∷ rest in
           let later = cond_items S (Some (truth_home i b x)) b1 env y last in
-          let ty = truth_behind k x S mask b env later typed in
+          let ty = truth_following k x S mask b env later typed in
           let tx = truth_is k S x b q h.0 in
           let oy = truth_lasts k zs ps y b1 q q (truth_is k S y b1 q h.1) (omega arith) (omega arith) in
-          let here = plain_step L f q (b + term_size i (Both x y)) mask act rest (omega arith) (masked q (omega arith) (omega arith)) (oy, truth_makes q h.2.known.gives.value_last_use) (λ r next. refl) behind in
+          let here = plain_step L f q (b + term_size i (Both x y)) mask act rest (omega arith) (masked q (omega arith) (omega arith)) (oy, truth_makes q h.2.known.gives.value_last_use) (λ r next. refl) following in
           let second = truth_steps y (Some (truth_home i b x)) b1 q last h.1 (omega (arith, from)) ty (λ r lo hi. truth_lasts k zs ps x b q r tx lo (omega (arith, hi))) here in
           truth_steps x mask b q later h.0 from typed (λ r lo hi. masked r lo (omega (arith, hi))) second
-      truth_steps (Either x y) mask b u rest h from typed masked behind =
+      truth_steps (Either x y) mask b u rest h from typed masked following =
           let L = layout_of_loop k zs ps in
           let mark = b + term_size i x in let q = mark + 1 + term_size i y in
           let act = Any (truth_home i b x) (truth_home i (mark + 1) y) in
           let last = item q mask act ∷ rest in
           let later = cond_items S (Some mark) (mark + 1) env y last in
-          let tm = truth_behind k x S mask b env (item mark mask (Invert (truth_home i b x)) ∷ later) typed in
+          let tm = truth_following k x S mask b env (item mark mask (Invert (truth_home i b x)) ∷ later) typed in
           let tx = truth_is k S x b q h.0 in
           let ox = truth_lasts k zs ps x b q q tx (omega arith) (omega arith) in
           let om = truth_lasts k zs ps x b q mark tx (omega arith) (omega arith) in
           let oy = truth_lasts k zs ps y (mark + 1) q q (truth_is k S y (mark + 1) q h.2) (omega arith) (omega arith) in
           let last_use : item_last_use k P mark ≡ q = h.1.known.gives.truth_last_use in
-          let here = plain_step L f q (b + term_size i (Either x y)) mask act rest (omega arith) (masked q (omega arith) (omega arith)) (ox, oy, truth_makes q h.3.known.gives.value_last_use) (λ r next. refl) behind in
+          let here = plain_step L f q (b + term_size i (Either x y)) mask act rest (omega arith) (masked q (omega arith) (omega arith)) (ox, oy, truth_makes q h.3.known.gives.value_last_use) (λ r next. refl) following in
           let second = truth_steps y (Some mark) (mark + 1) q last h.2 (omega (arith, from)) tm.1 (λ r lo hi. (omega (arith, lo), omega (arith, hi, last_use))) here in
           let marked = plain_step L f mark (mark + 1) mask (Invert (truth_home i b x)) later refl (masked mark (omega arith) (omega arith)) (om, truth_makes mark h.1.known.gives.value_last_use) (λ r next. refl) second in
           truth_steps x mask b q (item mark mask (Invert (truth_home i b x)) ∷ later) h.0 from typed (λ r lo hi. masked r lo (omega (arith, hi))) marked
-      truth_steps (Not x) mask b u rest h from typed masked behind =
+      truth_steps (Not x) mask b u rest h from typed masked following =
           let L = layout_of_loop k zs ps in
           let q = b + term_size i x in
           let act = Invert (truth_home i b x) in
           let ox = truth_lasts k zs ps x b q q (truth_is k S x b q h.0) (omega arith) (omega arith) in
-          let here = plain_step L f q (b + term_size i (Not x)) mask act rest (omega arith) (masked q (omega arith) (omega arith)) (ox, truth_makes q h.1.known.gives.value_last_use) (λ r next. refl) behind in
+          let here = plain_step L f q (b + term_size i (Not x)) mask act rest (omega arith) (masked q (omega arith) (omega arith)) (ox, truth_makes q h.1.known.gives.value_last_use) (λ r next. refl) following in
           truth_steps x mask b q (item q mask act ∷ rest) h.0 from typed (λ r lo hi. masked r lo (omega (arith, hi))) here
-      truth_steps (Literal n) mask b u rest h from typed masked behind = absurd h
-      truth_steps (Variable x) mask b u rest h from typed masked behind = absurd h
-      truth_steps (Element a j) mask b u rest h from typed masked behind = absurd h
-      truth_steps (Unary op x) mask b u rest h from typed masked behind = absurd h
-      truth_steps (Operation op x y) mask b u rest h from typed masked behind = absurd h
-      truth_steps (Shift to_left x n) mask b u rest h from typed masked behind = absurd h
-      truth_steps (Conversion x t) mask b u rest h from typed masked behind = absurd h
-      truth_steps (Choice c x y) mask b u rest h from typed masked behind = absurd h
+      truth_steps (Literal n) mask b u rest h from typed masked following = absurd h
+      truth_steps (Variable x) mask b u rest h from typed masked following = absurd h
+      truth_steps (Element a j) mask b u rest h from typed masked following = absurd h
+      truth_steps (Unary op x) mask b u rest h from typed masked following = absurd h
+      truth_steps (Operation op x y) mask b u rest h from typed masked following = absurd h
+      truth_steps (Shift to_left x n) mask b u rest h from typed masked following = absurd h
+      truth_steps (Conversion x t) mask b u rest h from typed masked following = absurd h
+      truth_steps (Choice c x y) mask b u rest h from typed masked following = absurd h

@@ -14,7 +14,7 @@ use Rattle.loop_form.specs.Near as near
 use Rattle.chunk_emit.specs.Fits.{IsNear}
 use Rattle.chunk_emit.proofs.FitsEntries.{type_from, type_back}
 use Rattle.chunk_emit.proofs.FitsTypes.{inner, term_matches}
-use Rattle.chunk_emit.proofs.FitsKnown.{Part, part_left, part_right, part_behind, At, at_head}
+use Rattle.chunk_emit.proofs.FitsKnown.{Part, part_left, part_right, part_following, At, at_head}
 
 pub nil-left : {A : Type 0} (xs ys : List A) → xs ++ ys ≡ [] → xs ≡ []
 nil-left [] ys e = refl
@@ -228,7 +228,7 @@ module _ (k : Program) (v : List Local) (tk : List (List ℕ)) (ins : Bool) wher
         let m = term_matches k x S Condition b q refl in
         let n = term_matches k y S Condition (mark + 1) q refl in
         let p2 = part_right k (term_entries k b q x) _ _ _ m p in
-        let p3 = part_behind k _ _ None _ p2 in
+        let p3 = part_following k _ _ None _ p2 in
         let e2 = nil-right (faults S f Condition x) _ e in (
           truth_known x f b q (nil-left (faults S f Condition x) _ e) (part_left k (term_entries k b q x) _ _ _ m p),
           at_head k mark _ q _ None _ p2,

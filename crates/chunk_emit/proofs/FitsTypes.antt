@@ -3,7 +3,7 @@ use Rattle.std.proofs.Common.{◌≡◌, ℕ, zero, suc, ◌+◌, ℤ, List, [],
 use Rattle.std.specs.Prelude.{slice_get}
 use Rattle.kernel_tree.specs.declared.ops.Ty.{Ty}
 use Rattle.kernel_tree.specs.declared.fault.Binding.TheVariants as binding
-use Rattle.kernel_tree.specs.Plain.{Term, Literal, Variable, Element, Unary, Operation, Shift, Conversion, Choice, Comparison, Both, Either, Not, Action, Define, Put, Update, Choose, Leave, Block, Done, Then, Otherwise, Nothing, Else, Parameter, Accumulator, Turns, Returned, Program}
+use Rattle.kernel_tree.specs.Plain.{Term, Literal, Variable, Element, Unary, Operation, Shift, Conversion, Choice, Comparison, Both, Either, Not, Action, Define, Put, Update, Choose, Leave, Block, Done, Then, Otherwise, Nothing, Else, Parameter, Accumulator, PlainLoop, Returned, Program}
 use Rattle.kernel_tree.specs.Items.{stream_offset, index_items, loop_index}
 use Rattle.kernel_tree.specs.Checked as checked
 use Rattle.kernel_tree.specs.Typing.{Scope, Role, Value, wanted, own, first, index_type, declared, defined, left, after_action, after_block, after_params, after_vars, after_turns, in_loop, empty, param_scope, var_scope, inner_types, term_types, action_types, block_types, otherwise_types, params_types, vars_types, turns_types, answer_types, types_of}
@@ -99,7 +99,7 @@ module _ (k : Program) where
   vars_match [] s b e = none
   vars_match (v ∷ vs) s b e = on (term_entries k b _ v.init) _ (term_types s _ v.init) _ (term_matches v.init s _ b _ e) (ahead _ _ _ _ _ _ (vars_match vs (declared s v.name (binding.Accumulator v.type)) _ e))
 
-  turns_match : (o : Option Turns) (s : Scope) (b : ℕ) → s.index ≡ loop_index k → Matches k (turns_entries k b o) (turns_types s o)
+  turns_match : (o : Option PlainLoop) (s : Scope) (b : ℕ) → s.index ≡ loop_index k → Matches k (turns_entries k b o) (turns_types s o)
   turns_match None s b e = none
   turns_match (Some l) s b e = more refl (block_matches l.body (in_loop s l) _ e)
 
@@ -115,7 +115,7 @@ module _ (k : Program) where
   vars_index [] s = refl
   vars_index (v ∷ vs) s = vars_index vs _
 
-  turns_index : (o : Option Turns) (s : Scope) → (after_turns s o).index ≡ s.index
+  turns_index : (o : Option PlainLoop) (s : Scope) → (after_turns s o).index ≡ s.index
   turns_index None s = refl
   turns_index (Some l) s = refl
 

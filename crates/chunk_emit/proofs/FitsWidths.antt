@@ -19,7 +19,7 @@ use Rattle.loop_form.specs.Needs.{is_update, updates}
 use Rattle.dependence.specs.Classes.{number_of_update, other_update, updates_otherwise, mixed_content, is_mixed, mixed_update, accumulator_read, reason, class_by, class_of}
 use Rattle.dependence.specs.declared.reason.Class.TheVariants.{Vector}
 use Rattle.dependence.specs.declared.reason.Why.TheVariants as why
-use Rattle.chunk_order.proofs.Whole.{no_reason, vector_by, vector_loop}
+use Rattle.chunk_order.proofs.OrderLaw.{no_reason, vector_by, vector_loop}
 use Rattle.chunk_emit.specs.KernelLayout.{operator_in, operator_of, update_of}
 
 -- ---- widths

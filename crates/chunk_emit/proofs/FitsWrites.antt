@@ -111,11 +111,11 @@ module _ (k : Program) (zs ps : Assignment) (f : Setting) (setting : FitsSetting
 
     pub store_steps : (a : List ℕ) (j : Term) (T : Ty) (mask : Option ℕ) (q p : ℕ) (x : Source) (rest : List Item) → IsStream i j → At k q (IsStore a j) q None → array_type S a ≡ Some T → FitsOperand (layout_of_loop k zs ps) f.w q T x → FitsMask (layout_of_loop k zs ps) q mask → p ≡ q + 1
         → FitsSteps (layout_of_loop k zs ps) f p rest → FitsSteps (layout_of_loop k zs ps) f q (store_item S mask q env a (stream_offset i j) x rest)
-    store_steps a j T mask q p x rest stream at e ox masked number behind =
+    store_steps a j T mask q p x rest stream at e ox masked number following =
         let L = layout_of_loop k zs ps in
         let here =
         plain_step L f q p mask (Store a (source_at env a) (Some T) stream.offset x) rest number masked
-        (array_fits k zs ps f setting few v tk ins b0 env names a T e, stream.near, ox, nothing_made k zs ps f setting few q at.known.gives.value_last_use at.known.gives.truth_last_use) (λ r next. refl) behind in
+        (array_fits k zs ps f setting few v tk ins b0 env names a T e, stream.near, ox, nothing_made k zs ps f setting few q at.known.gives.value_last_use at.known.gives.truth_last_use) (λ r next. refl) following in
         let there : FitsSteps L f q (store_item S mask q env a (Some stream.offset) x rest) = subst (λ z. FitsSteps L f q (item q mask (Store a (source_at env a) z stream.offset x) ∷ rest)) (sym e) here in
         subst (λ z. FitsSteps L f q (store_item S mask q env a z x rest)) (sym stream.is) there
 
@@ -134,8 +134,8 @@ module _ (k : Program) (zs ps : Assignment) (f : Setting) (setting : FitsSetting
 
     pub update_steps : (x : List ℕ) (op : UpdateOp) (T : Ty) (mask : Option ℕ) (q p : ℕ) (s : Source) (rest : List Item) → At k q (IsUpdate x op) q None → accumulator_of S x ≡ Some T → FitsOperand (layout_of_loop k zs ps) f.w q T s → FitsMask (layout_of_loop k zs ps) q mask → p ≡ q + 1
         → FitsSteps (layout_of_loop k zs ps) f p rest → FitsSteps (layout_of_loop k zs ps) f q (item q mask (Add x op (Some T) s) ∷ rest)
-    update_steps x op T mask q p s rest at e os masked number behind =
+    update_steps x op T mask q p s rest at e os masked number following =
         let L = layout_of_loop k zs ps in
         let var = sum_in x T (binding_at v x) refl e in
         plain_step L f q p mask (Add x op (Some T) s) rest number masked
-        (at.known.gives.content T var, at.known.operator x op refl, ap (λ o. unwrap_or o U64) var, os, nothing_made k zs ps f setting few q at.known.gives.value_last_use at.known.gives.truth_last_use) (λ r next. refl) behind
+        (at.known.gives.content T var, at.known.operator x op refl, ap (λ o. unwrap_or o U64) var, os, nothing_made k zs ps f setting few q at.known.gives.value_last_use at.known.gives.truth_last_use) (λ r next. refl) following

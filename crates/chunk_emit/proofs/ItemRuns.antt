@@ -21,7 +21,7 @@ use Rattle.lane_emit.specs.ItemCode.{mask_register}
 use Rattle.chunk_emit.specs.Registers.{Layout}
 use Rattle.chunk_emit.specs.ChunkCode.{past_cast, op_words, item_words, either_words, items_words, puts}
 use Rattle.chunk_emit.specs.Chunk.{Setting, Holds}
-use Rattle.chunk_emit.specs.Fits.{Assigned, FitsMask, FitsOp, NoneBetween, behind_items}
+use Rattle.chunk_emit.specs.Fits.{Assigned, FitsMask, FitsOp, NoneBetween, following_items}
 use Rattle.chunk_emit.specs.ItemsRun.{Does, does_fine, does_fail, ItemsRun}
 use Rattle.chunk_emit.proofs.States.{holds_later, operand_right, truth_right}
 use Rattle.chunk_emit.proofs.Pures.{value_runs, truth_runs}
@@ -153,7 +153,7 @@ taken q (Any c d) next joined h = absurd cc
 taken q (Quit c) next joined h = absurd cc
 
 -- both items as one step
-module _ (l : Layout) (fit : Assigned l) (f : Setting) (d : Laid) (rest : List Entry) {q p : ℕ} {t : Lanes} {s : State} (h : Holds l f q t s) (first second : Option ℕ) (mask : FitsMask l q first) (behind_mask : FitsMask l p second) (lt : q + 1 ≤ p) (between : NoneBetween l (q + 1) p) (last : l.z_last_use q ≤ p) where
+module _ (l : Layout) (fit : Assigned l) (f : Setting) (d : Laid) (rest : List Entry) {q p : ℕ} {t : Lanes} {s : State} (h : Holds l f q t s) (first second : Option ℕ) (mask : FitsMask l q first) (following_mask : FitsMask l p second) (lt : q + 1 ≤ p) (between : NoneBetween l (q + 1) p) (last : l.z_last_use q ≤ p) where
   abbrev PairDoes : (op next joined : Op) → Type 0
   PairDoes op next joined =
       Does l f d (puts (op_words f.w l p (mask_register l.registers second) joined) rest) s rest (p + 1) (length (op_words f.w l p (mask_register l.registers second) joined))
@@ -161,7 +161,7 @@ module _ (l : Layout) (fit : Assigned l) (f : Setting) (d : Laid) (rest : List E
 
   cast_store : (own : Option Ty) (cast : Ty) (x : Source) (a : List ℕ) (base : Source) (ty : Option Ty) (c : ℤ) → FitsOp l f q (Cast own cast x) → FitsOp l f p (Store a base ty c (Made q)) → PairDoes (Cast own cast x) (Store a base ty c (Made q)) (Store a base ty c x)
   cast_store (Some own) cast x a (Outer place) (Some ty) c k j =
-      pair_runs l fit f d rest q p first second own cast x a place ty c mask behind_mask k.0 k.2 j.0.0 j.0.1 j.1 j.2.0.1 j.2.1 j.3 (omega (arith, lt)) between last t s h
+      pair_runs l fit f d rest q p first second own cast x a place ty c mask following_mask k.0 k.2 j.0.0 j.0.1 j.1 j.2.0.1 j.2.1 j.3 (omega (arith, lt)) between last t s h
   cast_store (Some own) cast x a (Constant u z) (Some ty) c k j = absurd j.0
   cast_store (Some own) cast x a Turn (Some ty) c k j = absurd j.0
   cast_store (Some own) cast x a (Made r) (Some ty) c k j = absurd j.0
@@ -188,18 +188,18 @@ items_run l f d rest (it ∷ next ∷ items) p t s fit k h =
     step (past_cast it.item it.op next.op) refl (λ u v held. items_run l f d rest (next ∷ items) (it.item + 1) u v fit k.5 held) (λ u v held. items_run l f d rest items (next.item + 1) u v fit k.5.5 held)
   where
     step : (o : Option Op) → past_cast it.item it.op next.op ≡ o
-        → ((u : Lanes) (v : State) → Holds l f (it.item + 1) u v → Does l f d (puts (items_words f.w l (next ∷ items)) rest) v rest (behind_items p (it ∷ next ∷ items)) (length (items_words f.w l (next ∷ items))) (by_item (acts_of f.names (next ∷ items)) f.n f.i u))
-        → ((u : Lanes) (v : State) → Holds l f (next.item + 1) u v → Does l f d (puts (items_words f.w l items) rest) v rest (behind_items p (it ∷ next ∷ items)) (length (items_words f.w l items)) (by_item (acts_of f.names items) f.n f.i u))
-        → Does l f d (puts (either_words f.w l next o (item_words f.w l it ++ items_words f.w l (next ∷ items)) (items_words f.w l items)) rest) s rest (behind_items p (it ∷ next ∷ items))
+        → ((u : Lanes) (v : State) → Holds l f (it.item + 1) u v → Does l f d (puts (items_words f.w l (next ∷ items)) rest) v rest (following_items p (it ∷ next ∷ items)) (length (items_words f.w l (next ∷ items))) (by_item (acts_of f.names (next ∷ items)) f.n f.i u))
+        → ((u : Lanes) (v : State) → Holds l f (next.item + 1) u v → Does l f d (puts (items_words f.w l items) rest) v rest (following_items p (it ∷ next ∷ items)) (length (items_words f.w l items)) (by_item (acts_of f.names items) f.n f.i u))
+        → Does l f d (puts (either_words f.w l next o (item_words f.w l it ++ items_words f.w l (next ∷ items)) (items_words f.w l items)) rest) s rest (following_items p (it ∷ next ∷ items))
         (length (either_words f.w l next o (item_words f.w l it ++ items_words f.w l (next ∷ items)) (items_words f.w l items))) (by_item (acts_of f.names (it ∷ next ∷ items)) f.n f.i t)
     step None e more last =
         let words = item_words f.w l it in
         let here = op_runs l fit f d (puts (items_words f.w l (next ∷ items)) rest) (holds_later h it.item k.0 k.1) it.mask k.2 it.op k.3 in
-        subst (λ es. Does l f d es s rest (behind_items p (it ∷ next ∷ items)) (length (words ++ items_words f.w l (next ∷ items))) (by_item (acts_of f.names (it ∷ next ∷ items)) f.n f.i t)) (sym (puts-append words (items_words f.w l (next ∷ items)) rest))
+        subst (λ es. Does l f d es s rest (following_items p (it ∷ next ∷ items)) (length (words ++ items_words f.w l (next ∷ items))) (by_item (acts_of f.names (it ∷ next ∷ items)) f.n f.i t)) (sym (puts-append words (items_words f.w l (next ∷ items)) rest))
         (then_does (length (words ++ items_words f.w l (next ∷ items))) (by_item (acts_of f.names (next ∷ items)) f.n f.i) (length-append words (items_words f.w l (next ∷ items))) here more)
     step (Some joined) e more last =
         let words = item_words f.w l (record next { op = joined }) in
         let here = pair_does l fit f d (puts (items_words f.w l items) rest) (holds_later h it.item k.0 k.1) it.mask next.mask k.2 k.5.2 k.5.0 k.5.1 (k.4 joined e) it.op next.op joined (taken it.item it.op next.op joined e) k.3 k.5.3 in
-        subst (λ es. Does l f d es s rest (behind_items p (it ∷ next ∷ items)) (length (words ++ items_words f.w l items)) (by_item (acts_of f.names (it ∷ next ∷ items)) f.n f.i t)) (sym (puts-append words (items_words f.w l items) rest))
-        (subst (λ o. Does l f d (puts words (puts (items_words f.w l items) rest)) s rest (behind_items p (it ∷ next ∷ items)) (length (words ++ items_words f.w l items)) o) (in_turn (column (item_act f.names it) f.n f.i t) (column (item_act f.names next) f.n f.i) (by_item (acts_of f.names items) f.n f.i))
+        subst (λ es. Does l f d es s rest (following_items p (it ∷ next ∷ items)) (length (words ++ items_words f.w l items)) (by_item (acts_of f.names (it ∷ next ∷ items)) f.n f.i t)) (sym (puts-append words (items_words f.w l items) rest))
+        (subst (λ o. Does l f d (puts words (puts (items_words f.w l items) rest)) s rest (following_items p (it ∷ next ∷ items)) (length (words ++ items_words f.w l items)) o) (in_turn (column (item_act f.names it) f.n f.i t) (column (item_act f.names next) f.n f.i) (by_item (acts_of f.names items) f.n f.i))
         (then_does (length (words ++ items_words f.w l items)) (by_item (acts_of f.names items) f.n f.i) (length-append words (items_words f.w l items)) here last))

@@ -109,9 +109,9 @@ past_cast q (Cast s t x) (Store a base ty c v) = if is_made q v then Some (Store
 past_cast q _ _ = None
 
 -- the code of the store alone, where there is one, or that of both items, and that of the items after it
-abbrev pub either_words : Width → Layout → Item → Option Op → (both behind : List Listed) → List Listed
-either_words w l next None both behind = both
-either_words w l next (Some op) both behind = item_words w l (record next { op = op }) ++ behind
+abbrev pub either_words : Width → Layout → Item → Option Op → (both following : List Listed) → List Listed
+either_words w l next None both following = both
+either_words w l next (Some op) both following = item_words w l (record next { op = op }) ++ following
 
 -- ---- lists of items
 

@@ -104,6 +104,6 @@ FitsItems l f p (it ∷ items) =
     (p ≤ it.item) × NoneBetween l p it.item × FitsMask l it.item it.mask × FitsOp l f it.item it.op × FitsCast l it items × FitsItems l f (it.item + 1) items
 
 -- the number after the last item
-abbrev pub behind_items : ℕ → List Item → ℕ
-behind_items p [] = p
-behind_items p (it ∷ items) = behind_items (it.item + 1) items
+abbrev pub following_items : ℕ → List Item → ℕ
+following_items p [] = p
+following_items p (it ∷ items) = following_items (it.item + 1) items

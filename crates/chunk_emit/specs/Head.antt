@@ -4,7 +4,7 @@ use Rattle.guest_types.specs.declared.length.Width.{Width}
 use Rattle.guest_types.specs.Length.{IsLength, lanes}
 use Rattle.guest_types.specs.Lanes.{all_at}
 use Rattle.guest_types.specs.Memory.{Memory}
-use Rattle.kernel_tree.specs.Plain.{Turns, Program}
+use Rattle.kernel_tree.specs.Plain.{PlainLoop, Program}
 use Rattle.kernel_tree.specs.Grammar.{IsTree}
 use Rattle.kernel_tree.specs.Typing.{check_fault}
 use Rattle.kernel_meaning.specs.Operators.{word}
@@ -37,7 +37,7 @@ use Rattle.chunk_emit.specs.KernelLayout.{layout_of_loop}
 -- the general registers hold as the loop begins.
 pub record Ground : Type 0 where
   pub kernel : Program
-  pub turns : Turns
+  pub turns : PlainLoop
   pub vectors : Assignment
   pub predicates : Assignment
   pub args : List ℕ

@@ -13,7 +13,7 @@ use Rattle.vector_order.specs.Items.{acts_of}
 use Rattle.chunk_emit.specs.Registers.{Layout}
 use Rattle.chunk_emit.specs.ChunkCode.{items_words, puts}
 use Rattle.chunk_emit.specs.Chunk.{Setting, Holds}
-use Rattle.chunk_emit.specs.Fits.{Assigned, FitsItems, behind_items}
+use Rattle.chunk_emit.specs.Fits.{Assigned, FitsItems, following_items}
 
 -- a stop of a load or a store
 abbrev pub IsAccess : StopKind → Type 0
@@ -30,7 +30,7 @@ pub data Does (l : Layout) (f : Setting) (d : Laid) (c : List Entry) (s : State)
 abbrev pub ItemsRun : Type 0
 ItemsRun =
     (l : Layout) (f : Setting) (d : Laid) (rest : List Entry) (items : List Item) (p : ℕ) (t : Lanes) (s : State) → Assigned l → FitsItems l f p items → Holds l f p t s
-    → Does l f d (puts (items_words f.w l items) rest) s rest (behind_items p items) (length (items_words f.w l items)) (by_item (acts_of f.names items) f.n f.i t)
+    → Does l f d (puts (items_words f.w l items) rest) s rest (following_items p items) (length (items_words f.w l items)) (by_item (acts_of f.names items) f.n f.i t)
 
 -- No item has more than three words.
 abbrev pub FewWords : Type 0

@@ -3,7 +3,7 @@ use Rattle.std.proofs.Common.{◌≡◌, ℕ, ◌+◌, ◌/◌, ◌≤◌, Bool,
 use Rattle.std.specs.Prelude.{unsigned_abs, filter_map, length}
 use Rattle.guest_types.specs.Length.{width_bits}
 use Rattle.guest_types.specs.Memory.{Memory}
-use Rattle.kernel_tree.specs.Plain.{Turns, Program}
+use Rattle.kernel_tree.specs.Plain.{PlainLoop, Program}
 use Rattle.kernel_tree.specs.Items.{loop_index}
 use Rattle.kernel_tree.specs.Typing.{check_fault, Scope, lookup, twice, bound_faults, block_faults, turns_faults, params_faults, vars_faults, param_scope, var_scope, in_loop, empty}
 use Rattle.kernel_meaning.specs.Eval.{Names}
@@ -21,7 +21,7 @@ use Rattle.chunk_order.specs.Apart.{ApartBy, Apart}
 use Rattle.chunk_order.proofs.Accesses.{In, near_streams}
 use Rattle.chunk_order.proofs.Blocks.{nil-left, nil-right}
 use Rattle.chunk_order.proofs.Sites.{head_fits, started_bases, started_bound}
-use Rattle.chunk_order.proofs.Whole.{faultless, turns_from, turns_faultless, bound_scalar, scope_index, class_facts}
+use Rattle.chunk_order.proofs.OrderLaw.{faultless, turns_from, turns_faultless, bound_scalar, scope_index, class_facts}
 use Rattle.vector_order.specs.Items.{acts_of}
 use Rattle.vector_order.specs.Order.{is_accumulator}
 use Rattle.vector_order.proofs.Accesses.{item_stream, block_streams}
@@ -36,7 +36,7 @@ use Rattle.vector_order.proofs.Touches.{AllSited}
 use Rattle.vector_order.proofs.Zips.{append_nothing}
 
 -- the body's values and conditions stand where they are wanted
-body_ready : (k : Program) (l : Turns) (names : Names) → check_fault k ≡ None → k.turns ≡ Some l → class_of k ≡ Vector → BlockForm l.body × ReadyBlock names 0 (is_accumulator k) (in_loop (var_scope k) l) l.body
+body_ready : (k : Program) (l : PlainLoop) (names : Names) → check_fault k ≡ None → k.turns ≡ Some l → class_of k ≡ Vector → BlockForm l.body × ReadyBlock names 0 (is_accumulator k) (in_loop (var_scope k) l) l.body
 body_ready k l names checked loop vector =
     let scope : Scope = var_scope k in
     let class = class_facts k vector in
@@ -47,7 +47,7 @@ body_ready k l names checked loop vector =
     let listing : AllOk k (turns_entries k (loop_start k) (Some l)) = subst (λ o. AllOk k (turns_entries k (loop_start k) o)) loop (all_ok k (loop_entries k) class.unread class.streamed) in
     ready_block k names 0 l.body (in_loop scope l) (turns_from k + 1) (loop_start k + 1) body listing.1 (head_ok k l (length k.params) (scope_index k) vars)
 
-pub clear_of_chunk : (k : Program) (l : Turns) (args : List ℕ) (start : Memory) (names : Names) (i n : ℕ) → check_fault k ≡ None → k.turns ≡ Some l → class_of k ≡ Vector → Apart k args → started k args start ≡ Some names → n ≤ 2048 / width_bits (lane_width_of k) → i + n ≤ bound_of l names
+pub clear_of_chunk : (k : Program) (l : PlainLoop) (args : List ℕ) (start : Memory) (names : Names) (i n : ℕ) → check_fault k ≡ None → k.turns ≡ Some l → class_of k ≡ Vector → Apart k args → started k args start ≡ Some names → n ≤ 2048 / width_bits (lane_width_of k) → i + n ≤ bound_of l names
     → ClearWithin (acts_of names (loop_items k l)) n i
 clear_of_chunk k l args start names i n checked loop vector apart began few within =
     let scope : Scope = var_scope k in

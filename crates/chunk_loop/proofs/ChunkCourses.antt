@@ -5,15 +5,15 @@ use Rattle.guest_types.specs.declared.length.Width.TheVariants.{B, H, S, D}
 use Rattle.guest_types.specs.Length.{width_bits, lanes, all_lanes}
 use Rattle.guest_types.specs.Memory.{Memory}
 use Rattle.guest_types.proofs.AtWidths.{lanes-bound}
+use Rattle.kernel_meaning.specs.Ends.{Going}
 use Rattle.kernel_meaning.specs.Eval.{Names}
-use Rattle.kernel_meaning.specs.ScalarRun.{Going}
 use Rattle.loop_form.specs.Lanes.{lane_width_of}
 use Rattle.chunk_order.specs.Orders.{Lane, Lanes, Out, Fine, Fail, by_item, by_iteration, Alike, ClearWithin}
 use Rattle.chunk_order.proofs.Interchange.{interchange}
 use Rattle.chunk_order.proofs.Regions.{same_in_turn}
 use Rattle.vector_order.specs.Items.{acts_of}
 use Rattle.vector_order.specs.Order.{Steady, EndsAlike, SameChunk}
-use Rattle.vector_order.proofs.Whole.{vector_order}
+use Rattle.vector_order.proofs.OrderLaw.{vector_order}
 use Rattle.chunk_emit.specs.Head.{Ground, IsGround, most_lanes, limit}
 use Rattle.first_fault.specs.Region.{lane_left, region_way}
 use Rattle.first_fault.specs.Split.{region_of, rest_of}

@@ -3,8 +3,9 @@ use Rattle.std.proofs.Common.{◌≡◌, ℕ, ◌+◌, ◌<◌, ◌≤◌, ℤ, 
 use Rattle.std.specs.Prelude.{nat_lt, if◌then◌else◌}
 use Rattle.std.specs.List.{list_any}
 use Rattle.kernel_tree.specs.Typing.{var_scope}
+use Rattle.kernel_meaning.specs.Ends.{LoopState, Going, Left, Failed}
 use Rattle.kernel_meaning.specs.Eval.{Names, value_at, is_named}
-use Rattle.kernel_meaning.specs.ScalarRun.{Standing, Going, Left, Failed, course}
+use Rattle.kernel_meaning.specs.ScalarRun.{course}
 use Rattle.chunk_order.specs.Orders.{Lanes, Fine, by_item}
 use Rattle.chunk_order.proofs.Sites.{started_names}
 use Rattle.vector_order.specs.Items.{acts_of}
@@ -71,7 +72,7 @@ fine_is_done g f i k cur sum t out is between set chunk done given =
     same : SameChunk g.kernel g.turns g.args g.names cur i k
     same = chunk_same g i k cur is between.steady chunk.few chunk.within
 
-    by : (r : Standing) → course (var_scope g.kernel) g.turns k i t.memory cur ≡ r → EndsAlike g.kernel g.names cur i k r (Fine out) → Done g f i k cur t.memory out
+    by : (r : LoopState Names) → course (var_scope g.kernel) g.turns k i t.memory cur ≡ r → EndsAlike g.kernel g.names cur i k r (Fine out) → Done g f i k cur t.memory out
     by (Going m ns) e h = record { names = ns; goes = e ∙ ap (λ m. Going m ns) (sym h.0); between = between_after g f i k cur sum t out is between set chunk done ns h.1 h.2 given }
     by (Left m ns j) e h = elim h [ ]
     by (Failed m j) e h = elim h [ ]

@@ -2,15 +2,16 @@
 use Rattle.std.proofs.Common.{◌≡◌, ℕ, ◌+◌, ◌≤◌, ◌++◌, refl, sym, ap, ◌∙◌, subst, arith}
 use Rattle.guest_types.specs.Memory.{byte_at}
 use Rattle.kernel_tree.specs.Typing.{var_scope}
+use Rattle.kernel_meaning.specs.Ends.{LoopState, Going, Left, Failed}
 use Rattle.kernel_meaning.specs.Eval.{Names}
 use Rattle.kernel_meaning.specs.Iterate.{iterate}
 use Rattle.kernel_meaning.specs.ScalarRun as run
-use Rattle.kernel_meaning.specs.ScalarRun.{Standing, Going, Left, Failed, course}
+use Rattle.kernel_meaning.specs.ScalarRun.{course}
 use Rattle.chunk_order.specs.Orders.{Lanes, Fail, by_item, memory_of}
 use Rattle.vector_order.specs.Items.{acts_of}
 use Rattle.vector_order.specs.Fates.{fate, SameEnd}
 use Rattle.vector_order.specs.Order.{Steady, EndsAlike, Fresh, SameChunk}
-use Rattle.vector_order.proofs.Whole.{turn_is_fate}
+use Rattle.vector_order.proofs.OrderLaw.{turn_is_fate}
 use Rattle.chunk_emit.specs.Head.{Ground, IsGround, most_lanes, limit}
 use Rattle.first_fault.specs.Region.{lane_left, region_way}
 use Rattle.first_fault.specs.Split.{region_of, rest_of}
@@ -45,7 +46,7 @@ fail_is_fault g i k cur sum t left is between chunk on e = by (course (var_scope
     same : SameChunk g.kernel g.turns g.args g.names cur i k
     same = chunk_same g i k cur is between.steady chunk.few chunk.within
 
-    by : (r : Standing) → course (var_scope g.kernel) g.turns k i t.memory cur ≡ r → EndsAlike g.kernel g.names cur i k r (Fail left) → Failing g i k cur t.memory left
+    by : (r : LoopState Names) → course (var_scope g.kernel) g.turns k i t.memory cur ≡ r → EndsAlike g.kernel g.names cur i k r (Fail left) → Failing g i k cur t.memory left
     by (Going m ns) f h = elim h [ ]
     by (Failed m j) f h = record {
       j = j;

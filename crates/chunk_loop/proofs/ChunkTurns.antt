@@ -3,12 +3,13 @@ use Rattle.std.proofs.Common.{◌≡◌, ◌⊎◌, ℕ, zero, suc, ◌+◌, ◌
 use Rattle.std.specs.List.{list_any}
 use Rattle.guest_types.specs.declared.memory.AccessFault.{AccessFault}
 use Rattle.guest_types.specs.Memory.{Memory, stored}
-use Rattle.kernel_tree.specs.Plain.{Turns}
+use Rattle.kernel_tree.specs.Plain.{PlainLoop}
 use Rattle.kernel_tree.specs.Typing.{Scope}
+use Rattle.kernel_meaning.specs.Ends.{BlockEnd, Next, Broke, Faulted, Going, Left}
 use Rattle.kernel_meaning.specs.Eval.{Names}
-use Rattle.kernel_meaning.specs.Iterate.{Turn, Next, Broke, Faulted, iterate}
+use Rattle.kernel_meaning.specs.Iterate.{iterate}
 use Rattle.kernel_meaning.specs.ScalarRun as run
-use Rattle.kernel_meaning.specs.ScalarRun.{Going, Left, course}
+use Rattle.kernel_meaning.specs.ScalarRun.{course}
 use Rattle.loop_form.specs.LoopItems.{Op, Load, Apply, Combine, Move, Cast, Copy, Pick, Store, Add, Test, Invert, Same, Any, Quit, Item}
 use Rattle.chunk_order.specs.Orders.{Lane, Effect, Halts, Keeps, Writes, Act}
 use Rattle.chunk_order.specs.Regions.{AllQuiet}
@@ -18,7 +19,7 @@ use Rattle.vector_order.specs.Fates.{ByBreak, ByFault, cause_of, Fate, Through, 
 use Rattle.first_fault.specs.Region as region
 use Rattle.first_fault.specs.Region.{Way, On, Fell, halted, way_of, way_on, lane_left, region_way}
 use Rattle.first_fault.specs.Split.{quits, is_quit}
-use Rattle.first_fault.specs.Turns.{IsTurn}
+use Rattle.first_fault.specs.IterationWays.{IsTurn}
 use Rattle.chunk_loop.specs.Halts.{Breaks, Faults}
 
 pub acts-append : (names : Names) (xs ys : List Item) → acts_of names (xs ++ ys) ≡ acts_of names xs ++ acts_of names ys
@@ -28,7 +29,7 @@ acts-append names (x ∷ xs) ys = ap (λ (acts : List Act). item_act names x ∷
 -- ---- the iteration that breaks
 
 -- the iterations before it go on
-pub record BreaksAt (scope : Scope) (l : Turns) (n i : ℕ) (m : Memory) (cur : Names) : Type 0 where
+pub record BreaksAt (scope : Scope) (l : PlainLoop) (n i : ℕ) (m : Memory) (cur : Names) : Type 0 where
   pub e : ℕ
   pub few : e < n
   pub memory : Memory
@@ -36,12 +37,12 @@ pub record BreaksAt (scope : Scope) (l : Turns) (n i : ℕ) (m : Memory) (cur : 
   pub goes : course scope l e i m cur ≡ Going memory names
   pub breaks : Breaks (iterate scope l (i + e) memory names)
 
-pub breaks_at : (scope : Scope) (l : Turns) (n i : ℕ) (m after : Memory) (cur names : Names) (j : ℕ) → course scope l n i m cur ≡ Left after names j → BreaksAt scope l n i m cur
+pub breaks_at : (scope : Scope) (l : PlainLoop) (n i : ℕ) (m after : Memory) (cur names : Names) (j : ℕ) → course scope l n i m cur ≡ Left after names j → BreaksAt scope l n i m cur
 unfolding course
 breaks_at scope l zero i m after cur names j e = absurd cc
 breaks_at scope l (suc n) i m after cur names j e = by (iterate scope l i m cur) refl e (λ a ns f. breaks_at scope l n (i + 1) a after ns names j f)
   where
-    by : (turn : Turn) → iterate scope l i m cur ≡ turn → run.go_on turn i (course scope l n (i + 1)) ≡ Left after names j → ((a : Memory) (ns : Names) → course scope l n (i + 1) a ns ≡ Left after names j → BreaksAt scope l n (i + 1) a ns) → BreaksAt scope l (suc n) i m cur
+    by : (turn : BlockEnd Names) → iterate scope l i m cur ≡ turn → run.go_on turn i (course scope l n (i + 1)) ≡ Left after names j → ((a : Memory) (ns : Names) → course scope l n (i + 1) a ns ≡ Left after names j → BreaksAt scope l n (i + 1) a ns) → BreaksAt scope l (suc n) i m cur
     by (Next a ns) is f more =
         let r = more a ns f in
         let lt = r.few in
@@ -123,9 +124,9 @@ halted_not_on (Any c d) next new e = cc
 halted_not_on (Quit c) next new e = cc
 
 -- an iteration that goes on does the rest with what its lane then holds
-fate_behind : (names : Names) (items rest : List Item) (j : ℕ) (m : Memory) (l new : Lane) → AllQuiet (acts_of names items) → region_way names items j m l ≡ On new → fate names (items ++ rest) j m l ≡ fate names rest j m new
-fate_behind names [] rest j m l new quiet e = let same : l ≡ new = cc in ap (fate names rest j m) same
-fate_behind names (it ∷ items) rest j m l new quiet e = by (item_act names it j m l) refl e (λ k f. fate_behind names items rest j m k new quiet.1 f)
+fate_following : (names : Names) (items rest : List Item) (j : ℕ) (m : Memory) (l new : Lane) → AllQuiet (acts_of names items) → region_way names items j m l ≡ On new → fate names (items ++ rest) j m l ≡ fate names rest j m new
+fate_following names [] rest j m l new quiet e = let same : l ≡ new = cc in ap (fate names rest j m) same
+fate_following names (it ∷ items) rest j m l new quiet e = by (item_act names it j m l) refl e (λ k f. fate_following names items rest j m k new quiet.1 f)
   where
     by : (f : Effect) → item_act names it j m l ≡ f → way_on (way_of (halted it.op) f) (region_way names items j m) ≡ On new → ((k : Lane) → region_way names items j m k ≡ On new → fate names (items ++ rest) j m k ≡ fate names rest j m new)
         → effect_on (cause_of it.op) f m l (fate names (items ++ rest) j) ≡ fate names rest j m new
@@ -133,7 +134,7 @@ fate_behind names (it ∷ items) rest j m l new quiet e = by (item_act names it 
     by Halts is h more = absurd (halted_not_on it.op (region_way names items j m) new h)
     by (Writes a k v) is h more = absurd (quiet.0.never j m l a k v is)
 
-goes_through : (turn : Turn) (f : Fate) → SameEnd turn f → Unbroken f → Breaks turn → ⊥
+goes_through : (turn : BlockEnd Names) (f : Fate) → SameEnd turn f → Unbroken f → Breaks turn → ⊥
 goes_through (Next m ns) f same whole h = h
 goes_through (Faulted m) f same whole h = h
 goes_through (Broke m ns) (Ended ByBreak a) same whole h = whole
@@ -141,9 +142,9 @@ goes_through (Broke m ns) (Ended ByFault a) same whole h = same
 goes_through (Broke m ns) (Through a l) same whole h = same
 
 -- so its turn does not break, where the rest has no break
-pub on_unbroken : (names : Names) (items rest : List Item) (j : ℕ) (m : Memory) (l new : Lane) (turn : Turn) → AllQuiet (acts_of names items) → list_any is_quit rest ≡ false → region_way names items j m l ≡ On new → SameEnd turn (fate names (items ++ rest) j m l) → Breaks turn → ⊥
+pub on_unbroken : (names : Names) (items rest : List Item) (j : ℕ) (m : Memory) (l new : Lane) (turn : BlockEnd Names) → AllQuiet (acts_of names items) → list_any is_quit rest ≡ false → region_way names items j m l ≡ On new → SameEnd turn (fate names (items ++ rest) j m l) → Breaks turn → ⊥
 on_unbroken names items rest j m l new turn quiet whole on same =
-    goes_through turn (fate names rest j m new) (subst (SameEnd turn) (fate_behind names items rest j m l new quiet on) same) (fate_unbroken names rest j m new whole)
+    goes_through turn (fate names rest j m new) (subst (SameEnd turn) (fate_following names items rest j m l new quiet on) same) (fate_unbroken names rest j m new whole)
 
 pub left_on : (w : Way) (new : Lane) → lane_left w ≡ Some new → w ≡ On new
 left_on (On l) new e = let same : l ≡ new = cc in ap On same
@@ -151,7 +152,7 @@ left_on region.Broke new e = absurd cc
 left_on Fell new e = absurd cc
 
 -- one that does not go on breaks or faults
-pub halts_turn : (w : Way) (m : Memory) (turn : Turn) → lane_left w ≡ None → IsTurn w m turn → Breaks turn ⊎ Faults turn
+pub halts_turn : (w : Way) (m : Memory) (turn : BlockEnd Names) → lane_left w ≡ None → IsTurn w m turn → Breaks turn ⊎ Faults turn
 halts_turn (On l) m turn e h = absurd cc
 halts_turn region.Broke m (Broke after ns) e h = inl tt
 halts_turn region.Broke m (Next after ns) e h = elim h [ ]

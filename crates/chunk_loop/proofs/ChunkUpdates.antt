@@ -3,7 +3,7 @@ use Rattle.std.proofs.Common.{◌≡◌, ℕ, ◌+◌, ℤ, Bool, false, ◌||�
 use Rattle.std.specs.Prelude.{bytes_eq}
 use Rattle.std.specs.List.{list_any}
 use Rattle.std.proofs.lemmas.List.Folds.{list_any-append}
-use Rattle.kernel_tree.specs.Plain.{Term, Literal, Variable, Element, Unary, Operation, Shift, Conversion, Choice, Comparison, Both, Either, Not, Action, Define, Put, Update, Choose, Leave, Block, Done, Then, Otherwise, Nothing, Else, Turns, Program}
+use Rattle.kernel_tree.specs.Plain.{Term, Literal, Variable, Element, Unary, Operation, Shift, Conversion, Choice, Comparison, Both, Either, Not, Action, Define, Put, Update, Choose, Leave, Block, Done, Then, Otherwise, Nothing, Else, PlainLoop, Program}
 use Rattle.kernel_tree.specs.Items.{stream_offset, loop_index, term_size, action_size, block_size, otherwise_size}
 use Rattle.kernel_tree.specs.Typing.{Scope, own, first, side_type, after_action, after_block, left, in_loop, var_scope}
 use Rattle.loop_form.specs.declared.item.ItemKind.TheVariants as kind
@@ -51,8 +51,8 @@ module _ (x : List ℕ) where
 
   -- ---- statements
 
-  behind : (es fs : List Entry) → list_any (updates x) (es ++ fs) ≡ false → list_any (updates x) fs ≡ false
-  behind es fs h = (or_false (list_any (updates x) es) (list_any (updates x) fs) (sym (list_any-append (updates x) es fs) ∙ h)).1
+  following : (es fs : List Entry) → list_any (updates x) (es ++ fs) ≡ false → list_any (updates x) fs ≡ false
+  following es fs h = (or_false (list_any (updates x) es) (list_any (updates x) fs) (sym (list_any-append (updates x) es fs) ∙ h)).1
 
   before : (es fs : List Entry) → list_any (updates x) (es ++ fs) ≡ false → list_any (updates x) es ≡ false
   before es fs h = (or_false (list_any (updates x) es) (list_any (updates x) fs) (sym (list_any-append (updates x) es fs) ∙ h)).0
@@ -63,15 +63,15 @@ module _ (x : List ℕ) where
       action_adds (Define y t e) scope mask from g env rest h r = (term_adds e).as_value scope (first t (own scope e)) mask from env _ ∙ r
       action_adds (Put a i e) scope mask from g env rest h r = (term_adds e).as_value scope (array_type scope a) mask from env _ ∙ store_adds scope mask _ env a (stream_offset scope.index i) _ rest ∙ r
       action_adds (Update y op e) scope mask from g env rest h r =
-          let here = or_false (bytes_eq y x) false (behind (term_entries k g (g + term_size (loop_index k) e) e) _ h) in
+          let here = or_false (bytes_eq y x) false (following (term_entries k g (g + term_size (loop_index k) e) e) _ h) in
           (term_adds e).as_value scope (accumulator_of scope y) mask from env _ ∙ ap₂ (λ a b. a || b) here.0 r
       action_adds (Choose c b d) scope mask from g env rest h r =
           let first = g + term_size (loop_index k) c in
           let next = first + 1 + block_size (loop_index k) b in
           let end = next + otherwise_size (loop_index k) d in
           let last : List Entry = otherwise_entries k next end d ++ entry k end (IsPlain kind.End) end ∷ [] in
-          let inner : list_any (updates x) (block_entries k (first + 1) b ++ last) ≡ false = behind (term_entries k g next c) (entry k first (IsPlain kind.Then) first ∷ (block_entries k (first + 1) b ++ last)) h in
-          let others = before (otherwise_entries k next end d) _ (behind (block_entries k (first + 1) b) last inner) in
+          let inner : list_any (updates x) (block_entries k (first + 1) b ++ last) ≡ false = following (term_entries k g next c) (entry k first (IsPlain kind.Then) first ∷ (block_entries k (first + 1) b ++ last)) h in
+          let others = before (otherwise_entries k next end d) _ (following (block_entries k (first + 1) b) last inner) in
           (term_adds c).as_cond scope mask from env _
           ∙ block_adds b scope (Some (truth_home scope.index from c)) _ (first + 1) env _ (before (block_entries k (first + 1) b) last inner) (otherwise_adds d (left scope (after_block scope b)) mask _ (truth_home scope.index from c) next end env rest others r)
       action_adds (Leave c) scope mask from g env rest h r = (term_adds c).as_cond scope mask from env _ ∙ r
@@ -80,11 +80,11 @@ module _ (x : List ℕ) where
       block_adds Done scope mask from g env rest h r = r
       block_adds (Then s b) scope mask from g env rest h r =
           let after = g + action_size (loop_index k) s in
-          action_adds s scope mask from g env _ (before (action_entries k g s) (block_entries k after b) h) (block_adds b (after_action scope s) mask _ after (after_env scope from env s) rest (behind (action_entries k g s) (block_entries k after b) h) r)
+          action_adds s scope mask from g env _ (before (action_entries k g s) (block_entries k after b) h) (block_adds b (after_action scope s) mask _ after (after_env scope from env s) rest (following (action_entries k g s) (block_entries k after b) h) r)
 
       otherwise_adds : (d : Otherwise) (scope : Scope) (mask : Option ℕ) (from c g end : ℕ) (env : List Bound) (rest : List Item) → list_any (updates x) (otherwise_entries k g end d) ≡ false → list_any (is_add x) rest ≡ false → list_any (is_add x) (otherwise_items scope mask from c env d rest) ≡ false
       otherwise_adds Nothing scope mask from c g end env rest h r = r
       otherwise_adds (Else b) scope mask from c g end env rest h r = block_adds b scope (Some from) (from + 1) (g + 1) env rest h r
 
-    pub none_added : (l : Turns) → k.turns ≡ Some l → list_any (updates x) (loop_entries k) ≡ false → list_any (is_add x) (loop_items k l) ≡ false
+    pub none_added : (l : PlainLoop) → k.turns ≡ Some l → list_any (updates x) (loop_entries k) ≡ false → list_any (is_add x) (loop_items k l) ≡ false
     none_added l is h = block_adds l.body (in_loop (var_scope k) l) None (loop_start k + 1) (loop_start k + 1) (loop_env (var_scope k) l.index) [] (ap (λ o. list_any (updates x) (turns_entries k (loop_start k) o)) (sym is) ∙ h) refl

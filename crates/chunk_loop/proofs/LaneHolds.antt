@@ -8,7 +8,7 @@ use Rattle.guest_types.specs.Memory.{Memory}
 use Rattle.guest_types.proofs.AtWidths.{lanes-bound}
 use Rattle.guest_types.proofs.Widths.{whole-register, lane-inside}
 use Rattle.kernel_tree.specs.declared.ops.Ty.{Ty}
-use Rattle.kernel_tree.specs.Plain.{Parameter, Turns, Program}
+use Rattle.kernel_tree.specs.Plain.{Parameter, PlainLoop, Program}
 use Rattle.kernel_tree.specs.Wrap.{residue}
 use Rattle.kernel_meaning.specs.Eval.{Names}
 use Rattle.machine_model.specs.Machine.{State, z_at, p_at}
@@ -99,14 +99,14 @@ and_true false = refl
 first_value : (k : Program) → slice_index (map (last_in Z (entries_of k)) (loop_entries k)) 0 ≡ 0
 first_value k = by k.turns
   where
-    by : (o : Option Turns) → slice_index (map (last_in Z (entries_of k)) (turns_entries k (loop_start k) o)) 0 ≡ 0
+    by : (o : Option PlainLoop) → slice_index (map (last_in Z (entries_of k)) (turns_entries k (loop_start k) o)) 0 ≡ 0
     by None = refl
     by (Some l) = refl
 
 first_truth : (k : Program) → slice_index (map (last_in P (entries_of k)) (loop_entries k)) 0 ≡ 0
 first_truth k = by k.turns
   where
-    by : (o : Option Turns) → slice_index (map (last_in P (entries_of k)) (turns_entries k (loop_start k) o)) 0 ≡ 0
+    by : (o : Option PlainLoop) → slice_index (map (last_in P (entries_of k)) (turns_entries k (loop_start k) o)) 0 ≡ 0
     by None = refl
     by (Some l) = refl
 

@@ -6,14 +6,14 @@ use Rattle.kernel_tree.specs.declared.ops.Ty.TheVariants as ty
 use Rattle.kernel_tree.specs.declared.fault.Binding.{Binding}
 use Rattle.kernel_tree.specs.declared.fault.Binding.TheVariants as binding
 use Rattle.kernel_tree.specs.declared.fault.Found.{Found}
-use Rattle.kernel_tree.specs.Plain.{Term, Literal, Variable, Element, Unary, Operation, Shift, Conversion, Choice, Comparison, Both, Either, Not, Action, Define, Put, Update, Choose, Leave, Block, Done, Then, Otherwise, Nothing, Else, Turns, Program}
+use Rattle.kernel_tree.specs.Plain.{Term, Literal, Variable, Element, Unary, Operation, Shift, Conversion, Choice, Comparison, Both, Either, Not, Action, Define, Put, Update, Choose, Leave, Block, Done, Then, Otherwise, Nothing, Else, PlainLoop, Program}
 use Rattle.kernel_tree.specs.Items.{term_size, stream_offset, index_items, loop_index}
 use Rattle.kernel_tree.specs.Typing.{Scope, Local, Role, Value, Condition, wanted, own, first, index_type, side_type, local, has_name, binding_of, lookup, defined, left, after_action, after_block, empty, param_scope, var_scope, in_loop, is_taken, twice, element_type, accumulator_type, as_value, as_condition, mismatch, name_faults, untyped, inner_faults, faults, target_faults, update_faults, bound_faults, action_faults, block_faults, otherwise_faults, check_fault, inner_types, term_types, action_types, block_types, otherwise_types, turns_types}
 use Rattle.loop_form.specs.Entries.{Entry, inner_entries, term_entries, action_entries, block_entries, otherwise_entries, turns_entries, loop_entries, loop_start}
 use Rattle.loop_form.specs.Listing.{names}
 use Rattle.chunk_order.proofs.Blocks.{nil-left, nil-right}
 use Rattle.chunk_order.proofs.Sites.{locals_of, accs_of, var_visible, bytes_told, bytes_same, params_untaken, vars_untaken, untaken_by_twice, NoName}
-use Rattle.chunk_order.proofs.Whole.{turns_from, turns_faultless, scope_index}
+use Rattle.chunk_order.proofs.OrderLaw.{turns_from, turns_faultless, scope_index}
 use Rattle.chunk_emit.proofs.FitsTypes.{type_of, action_index, loop_types}
 
 -- of items and their types: each that names x is of type u64
@@ -150,11 +150,11 @@ module _ (k : Program) (x : List ℕ) where
       let last = next + term_size s.index b in
       let item = last + term_size s.index c in
       let value = Value (wanted role) in
-      let behind : faults s next value b ++ (faults s last Condition c ++ as_value item role) ≡ [] = nil-right (faults s from value a) (faults s next value b ++ (faults s last Condition c ++ as_value item role)) h in
-      let most : faults s last Condition c ++ as_value item role ≡ [] = nil-right (faults s next value b) (faults s last Condition c ++ as_value item role) behind in
+      let following : faults s next value b ++ (faults s last Condition c ++ as_value item role) ≡ [] = nil-right (faults s from value a) (faults s next value b ++ (faults s last Condition c ++ as_value item role)) h in
+      let most : faults s last Condition c ++ as_value item role ≡ [] = nil-right (faults s next value b) (faults s last Condition c ++ as_value item role) following in
       let wants = still item role w (nil-right (faults s last Condition c) (as_value item role) most) in
       on x _ _ _ _ (term_typed a s value from f _ q sees wants (nil-left (faults s from value a) (faults s next value b ++ (faults s last Condition c ++ as_value item role)) h))
-      (on x _ _ _ _ (term_typed b s value next _ _ q sees wants (nil-left (faults s next value b) (faults s last Condition c ++ as_value item role) behind))
+      (on x _ _ _ _ (term_typed b s value next _ _ q sees wants (nil-left (faults s next value b) (faults s last Condition c ++ as_value item role) following))
       (on x _ _ _ _ (term_typed c s Condition last _ _ q sees tt (nil-left (faults s last Condition c) (as_value item role) most)) (λ e. absurd cc, tt)))
   term_typed (Comparison op a b) s role from f user q sees w h =
       let more = nil-right (faults s from (Value (side_type s a b)) a) _ h in
@@ -216,7 +216,7 @@ paired x [] (t ∷ ts) h e = absurd h
 paired x (y ∷ es) [] h e = absurd h
 paired x (y ∷ es) (t ∷ ts) h e = let here : y.type ≡ t = cc in let more : map type_of es ≡ ts = cc in (λ named. here ∙ h.0 named, paired x es ts h.1 more)
 
-pub index_typed : (k : Program) (l : Turns) → check_fault k ≡ None → k.turns ≡ Some l → AreTyped l.index (loop_entries k)
+pub index_typed : (k : Program) (l : PlainLoop) → check_fault k ≡ None → k.turns ≡ Some l → AreTyped l.index (loop_entries k)
 index_typed k l checked loop =
     let scope = var_scope k in
     let turns = turns_faultless k l checked loop in
@@ -228,5 +228,5 @@ index_typed k l checked loop =
     let alone : NoName l.index scope.visible = subst (NoName l.index) (sym (var_visible k)) (no_name_both l.index (locals_of k.params) (accs_of k.vars) params.1 vars.1) in
     let here : Typed l.index (block_entries k (loop_start k + 1) l.body) (block_types (in_loop scope l) l.body) = block_typed k l.index l.body (in_loop scope l) (turns_from k + 1) (loop_start k + 1) (scope_index k) (find_last l.index scope.visible alone) body in
     paired l.index (loop_entries k) (turns_types scope (Some l))
-    (subst (λ (o : Option Turns). Typed l.index (turns_entries k (loop_start k) o) (turns_types scope (Some l))) (sym loop) (λ e. absurd cc, here))
+    (subst (λ (o : Option PlainLoop). Typed l.index (turns_entries k (loop_start k) o) (turns_types scope (Some l))) (sym loop) (λ e. absurd cc, here))
     (loop_types k ∙ ap (turns_types scope) loop)

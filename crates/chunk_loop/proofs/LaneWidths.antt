@@ -9,7 +9,7 @@ use Rattle.guest_types.specs.declared.length.Width.TheVariants.{B, H, S, D}
 use Rattle.guest_types.specs.Length.{width_bits}
 use Rattle.kernel_tree.specs.declared.ops.Ty.{Ty}
 use Rattle.kernel_tree.specs.declared.ops.Ty.TheVariants as ty
-use Rattle.kernel_tree.specs.Plain.{Parameter, Accumulator, Turns, Program}
+use Rattle.kernel_tree.specs.Plain.{Parameter, Accumulator, PlainLoop, Program}
 use Rattle.kernel_tree.specs.Items.{size_of, index_of, loop_index}
 use Rattle.kernel_tree.specs.Typing.{check_fault}
 use Rattle.reg_assign.specs.declared.interval.Interval.{Interval}
@@ -49,9 +49,9 @@ place_any (u ∷ us) e = by (is_same u needs.Index) e (place_any us)
     by false e more = more (before (place_in needs.Index us) e)
 
 -- not among some values, so among those after them
-any_behind : (xs ys : List Throughout) → list_any is_index xs ≡ false → list_any is_index (xs ++ ys) ≡ true → list_any is_index ys ≡ true
-any_behind [] ys none e = e
-any_behind (u ∷ xs) ys none e = by (is_same u needs.Index) none e (any_behind xs ys)
+any_following : (xs ys : List Throughout) → list_any is_index xs ≡ false → list_any is_index (xs ++ ys) ≡ true → list_any is_index ys ≡ true
+any_following [] ys none e = e
+any_following (u ∷ xs) ys none e = by (is_same u needs.Index) none e (any_following xs ys)
   where
     by : (b : Bool) → b || list_any is_index xs ≡ false → b || list_any is_index (xs ++ ys) ≡ true → (list_any is_index xs ≡ false → list_any is_index (xs ++ ys) ≡ true → list_any is_index ys ≡ true) → list_any is_index ys ≡ true
     by true none e more = absurd cc
@@ -103,8 +103,8 @@ turn_named : (k : Program) (x : List ℕ) → loop_index k ≡ Some x → is_som
 turn_named k x e held =
     let vs = filter (is_updated (loop_entries k)) k.vars in
     let one = place_any (throughout k Z) held in
-    let two = any_behind (scalars (loop_entries k) k.params) _ (no_scalar (filter (is_named_scalar (loop_entries k)) k.params)) one in
-    let three = any_behind (constants [] (loop_entries k)) _ (no_constant [] (loop_entries k)) two in
+    let two = any_following (scalars (loop_entries k) k.params) _ (no_scalar (filter (is_named_scalar (loop_entries k)) k.params)) one in
+    let three = any_following (constants [] (loop_entries k)) _ (no_constant [] (loop_entries k)) two in
     index_named (loop_entries k) x vs (subst (λ (o : Option (List ℕ)). list_any is_index (index_held (loop_entries k) o ++ map accumulating_of vs) ≡ true) e three)
 
 any_wide : (k : Program) (w : Width) (x : List ℕ) (es : List Entry) → AreWide k w es → AreTyped x es → list_any (names x) es ≡ true → 64 ≤ width_bits w
@@ -122,7 +122,7 @@ only_doublewords H h = absurd (omega (arith, h))
 only_doublewords S h = absurd (omega (arith, h))
 
 -- where the loop variable has a register, the lanes are doublewords
-pub turn_wide : (k : Program) (l : Turns) → check_fault k ≡ None → k.turns ≡ Some l → is_some (held_place k Turn) ≡ true → lane_width_of k ≡ D
+pub turn_wide : (k : Program) (l : PlainLoop) → check_fault k ≡ None → k.turns ≡ Some l → is_some (held_place k Turn) ≡ true → lane_width_of k ≡ D
 turn_wide k l checked loop held =
     let index : loop_index k ≡ Some l.index = ap (option_map index_of) loop in
     only_doublewords (lane_width_of k) (any_wide k (lane_width_of k) l.index (loop_entries k) (loop_wide k) (index_typed k l checked loop) (turn_named k l.index index held))

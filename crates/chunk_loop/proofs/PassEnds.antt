@@ -27,20 +27,20 @@ module _ (g : Ground) {i : ℕ} {cur : Names} {m : Memory} {sum : List ℕ → �
   iteration_is = holds.x 9 (λ e. absurd (omega (arith, e))) ∙ h.index
 
   -- the number of lanes, added to X9
-  abbrev pub behind : State
-  behind = advanced end (machine.sum (x_at end 9) k)
+  abbrev pub following : State
+  following = advanced end (machine.sum (x_at end 9) k)
 
-  moved_on : x_at behind 9 ≡ i + k
+  moved_on : x_at following 9 ≡ i + k
   moved_on =
       get_or-set_same end.x 9 (machine.sum (x_at end 9) k) 0 (omega (arith, holds.is.x_count))
       ∙ ap (λ v. (v + k) % 2 ^ 64) iteration_is
       ∙ omega (arith, within, limit_below ground h)
 
-  other_x : (r : ℕ) → r ≤ 25 → r ≢ 9 → x_at behind r ≡ x_at s r
+  other_x : (r : ℕ) → r ≤ 25 → r ≢ 9 → x_at following r ≡ x_at s r
   other_x r le ne = get_or-set_other end.x 9 r (machine.sum (x_at end 9) k) 0 ne ∙ holds.x r (λ e. absurd (omega (arith, e, le)))
 
-  held_behind : (x : Source) → (layout g).held x ≡ true → x ≢ Turn → HeldAll g behind x
-  held_behind x is ne =
+  held_following : (x : Source) → (layout g).held x ≡ true → x ≢ Turn → HeldAll g following x
+  held_following x is ne =
       let now = holds.held x is in
       let old = h.held x is ne in
       record {
@@ -48,21 +48,21 @@ module _ (g : Ground) {i : ℕ} {cur : Names} {m : Memory} {sum : List ℕ → �
         typed = old.typed;
       }
 
-  pub head_behind : {names : Names} → Between g (i + k) names (sum_at (layout g) (setting g i k sum s.x stops) out) → AtHead g (i + k) names out.memory (sum_at (layout g) (setting g i k sum s.x stops) out) behind
-  head_behind between = record {
+  pub head_following : {names : Names} → Between g (i + k) names (sum_at (layout g) (setting g i k sum s.x stops) out) → AtHead g (i + k) names out.memory (sum_at (layout g) (setting g i k sum s.x stops) out) following
+  head_following between = record {
     between = between;
-    is = x_put end behind 9 (machine.sum (x_at end 9) k) holds.is (wrapped (x_at end 9 + k)) refl;
+    is = x_put end following 9 (machine.sum (x_at end 9) k) holds.is (wrapped (x_at end 9 + k)) refl;
     vl = holds.vl;
     memory = holds.memory;
     index = moved_on;
     x = λ r le ne. other_x r le ne ∙ h.x r le ne;
     all = holds.all;
-    held = held_behind;
+    held = held_following;
     lanes = λ x is. (holds.sums x is).holds;
   }
 
-  pub top_behind : IsTop (width g) k (p_at behind 0)
-  top_behind = holds.top
+  pub top_following : IsTop (width g) k (p_at following 0)
+  top_following = holds.top
 
-  pub turned_behind : Turned g i behind
-  turned_behind is = (holds.held Turn is).right blank
+  pub turned_following : Turned g i following
+  turned_following is = (holds.held Turn is).right blank

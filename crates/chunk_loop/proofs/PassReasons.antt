@@ -2,21 +2,22 @@
 use Rattle.std.proofs.Common.{◌≡◌, ℕ, zero, suc, ◌+◌, ◌≤◌, ◌⊎◌, ℤ, List, None, refl, sym, ap, ◌∙◌, subst, arith, inl, inr}
 use Rattle.guest_types.specs.Memory.{Memory}
 use Rattle.kernel_tree.specs.Typing.{var_scope}
+use Rattle.kernel_meaning.specs.Ends.{BlockEnd, Next, Faulted, Going}
 use Rattle.kernel_meaning.specs.Eval.{Names}
-use Rattle.kernel_meaning.specs.Iterate.{Turn, Next, Broke as BrokeOut, Faulted, iterate}
-use Rattle.kernel_meaning.specs.ScalarRun.{Going, course}
+use Rattle.kernel_meaning.specs.Iterate.{Broke as BrokeOut, iterate}
+use Rattle.kernel_meaning.specs.ScalarRun.{course}
 use Rattle.chunk_emit.specs.Head.{Ground, IsGround, Between, most_lanes, limit}
 use Rattle.first_fault.specs.Region.{Broke, lane_left}
 use Rattle.first_fault.specs.RegionCode.{Early, Single}
 use Rattle.first_fault.specs.RegionRuns.{Why, by_break, by_fault, by_stop}
-use Rattle.first_fault.specs.Turns.{IsTurn}
+use Rattle.first_fault.specs.IterationWays.{IsTurn}
 use Rattle.chunk_loop.specs.Halts.{Breaks, Faults}
 use Rattle.chunk_loop.specs.Chunks.{NextHalts}
 use Rattle.chunk_loop.specs.Passes.{LeftOut, breaks, faults, suppressed}
 use Rattle.chunk_loop.proofs.LaneHolds.{blank, blank_lanes, is_chunk}
 use Rattle.chunk_loop.proofs.PassRegions.{way_in, Reasons, region_turn}
 
-halts_left : (turn : Turn) (cut : ℕ) → Breaks turn ⊎ Faults turn → LeftOut turn cut
+halts_left : (turn : BlockEnd Names) (cut : ℕ) → Breaks turn ⊎ Faults turn → LeftOut turn cut
 halts_left turn cut (inl h) = breaks h
 halts_left turn cut (inr h) = faults h
 
@@ -36,7 +37,7 @@ chunk_reasons halts g i n cur m sum ground between few within k lt cut left out 
 
 -- ---- of one iteration
 
-broke_turn : (m : Memory) (turn : Turn) → IsTurn Broke m turn → Breaks turn
+broke_turn : (m : Memory) (turn : BlockEnd Names) → IsTurn Broke m turn → Breaks turn
 broke_turn m (Next after names) is = absurd is
 broke_turn m (BrokeOut after names) is = tt
 broke_turn m (Faulted after) is = absurd is

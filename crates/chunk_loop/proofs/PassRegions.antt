@@ -3,10 +3,11 @@ use Rattle.std.proofs.Common.{◌≡◌, ℕ, zero, ◌+◌, ◌<◌, ◌≤◌,
 use Rattle.guest_types.specs.EarlyLoads.{StopList}
 use Rattle.guest_types.specs.Memory.{Memory, byte_at}
 use Rattle.kernel_tree.specs.Typing.{var_scope}
+use Rattle.kernel_meaning.specs.Ends.{BlockEnd, Next, Faulted, Going, Failed}
 use Rattle.kernel_meaning.specs.Eval.{Names}
-use Rattle.kernel_meaning.specs.Iterate.{Turn, Next, Broke as BrokeOut, Faulted, iterate}
+use Rattle.kernel_meaning.specs.Iterate.{Broke as BrokeOut, iterate}
 use Rattle.kernel_meaning.specs.ScalarRun as scalar
-use Rattle.kernel_meaning.specs.ScalarRun.{Going, Failed, course}
+use Rattle.kernel_meaning.specs.ScalarRun.{course}
 use Rattle.machine_model.specs.declared.outcome.StopKind.TheVariants.{Read}
 use Rattle.machine_model.specs.Machine.{State}
 use Rattle.label_fix.specs.DraftRun.{Entry, Laid}
@@ -26,12 +27,12 @@ use Rattle.first_fault.specs.RegionRuns.{Why, Cuts, stops, comes}
 use Rattle.first_fault.specs.Rest.{RestStarts}
 use Rattle.first_fault.specs.Prefix.{Inside}
 use Rattle.first_fault.specs.Split.{region_of, rest_of}
-use Rattle.first_fault.specs.KernelFits.{behind_region, LoopFits, KernelFits}
+use Rattle.first_fault.specs.KernelFits.{following_region, LoopFits, KernelFits}
 use Rattle.first_fault.proofs.Spelled.{as_spelled}
-use Rattle.first_fault.specs.Turns.{IsTurn}
+use Rattle.first_fault.specs.IterationWays.{IsTurn}
 use Rattle.first_fault.proofs.Rests.{rest_holds}
 use Rattle.first_fault.proofs.Splits.{region_splits}
-use Rattle.first_fault.proofs.Stretches.{stop_behind}
+use Rattle.first_fault.proofs.Stretches.{stop_following}
 use Rattle.first_fault.proofs.TurnWays.{way_is_turn}
 use Rattle.chunk_loop.specs.Chunks.{items_of, FineIsDone, FailIsFault}
 use Rattle.chunk_loop.specs.Passes as pass
@@ -58,7 +59,7 @@ fell_fails : (g : Ground) (i : ℕ) (cur : Names) (m : Memory) → IsTurn Fell m
 unfolding course
 fell_fails g i cur m is = by (iterate (var_scope g.kernel) g.turns i m cur) is
   where
-    by : (turn : Turn) → IsTurn Fell m turn → scalar.go_on turn i (course (var_scope g.kernel) g.turns zero (i + 1)) ≡ Failed m i
+    by : (turn : BlockEnd Names) → IsTurn Fell m turn → scalar.go_on turn i (course (var_scope g.kernel) g.turns zero (i + 1)) ≡ Failed m i
     by (Next after names) is = absurd is
     by (BrokeOut after names) is = absurd is
     by (Faulted after) is = ap (λ memory. Failed memory i) is
@@ -73,7 +74,7 @@ region_turn g i cur m ground h lane way is =
     (way_is_turn g.kernel g.turns g.args g.start g.names cur i m lane ground.sound ground.loops ground.vector ground.begins h.steady)
 
 -- a reason of the pass from that of the region, for n lanes from iteration i on
-abbrev pub Reasons : Ground → (i n : ℕ) → Names → Memory → (Turn → ℕ → Type 0) → Mode → Type 0
+abbrev pub Reasons : Ground → (i n : ℕ) → Names → Memory → (BlockEnd Names → ℕ → Type 0) → Mode → Type 0
 Reasons g i n cur m why mode =
     (k : ℕ) → k < n → (cut : ℕ) → Why mode (way_in g m (i + k) blank) cut → (out : Lanes) (names : Names) → by_item (acts_of g.names (items_of g)) k i (blank_lanes m) ≡ Fine out → course (var_scope g.kernel) g.turns k i m cur ≡ Going out.memory names → (all : ℕ) → cut ≤ all
     → why (iterate (var_scope g.kernel) g.turns (i + k) out.memory names) all
@@ -81,8 +82,8 @@ Reasons g i n cur m why mode =
 -- ---- the region, and the rest
 
 -- what stands after the words of the region
-abbrev pub behind_words : Ground → List Entry → List Entry
-behind_words g rest = rest_words g (rest_of (items_of g)) rest
+abbrev pub following_words : Ground → List Entry → List Entry
+following_words g rest = rest_words g (rest_of (items_of g)) rest
 
 module _
     (fine : FineIsDone) (fails : FailIsFault) (fits : KernelFits) (g : Ground) {i : ℕ} {cur : Names} {m : Memory} {sum : List ℕ → ℕ → ℤ} {s : State} (ground : IsGround g) (h : AtHead g i cur m sum s) (assigned : Assigned (layout g)) (d : Laid) (rest : List Entry)
@@ -93,14 +94,14 @@ module _
   pub fits_at : (k : ℕ) (stop : StopList) → LoopFits g.kernel g.turns g.vectors g.predicates (setting g i k sum s.x stop)
   fits_at k stop = fits g.kernel g.turns g.vectors g.predicates (setting g i k sum s.x stop) ground.sound ground.loops ground.vector ground.few (as_spelled g.kernel g.turns ground.spelled ground.loops).outer ground.z_fits ground.p_fits (fits_setting g k stop ground h)
 
-  module _ (why : Turn → ℕ → Type 0) (mode : Mode) (reasons : Reasons g i n cur m why mode) (most : ℕ) {code inner : List Entry} {from : State} {a b : ℕ} (before : Leads d code from inner s a)
+  module _ (why : BlockEnd Names → ℕ → Type 0) (mode : Mode) (reasons : Reasons g i n cur m why mode) (most : ℕ) {code inner : List Entry} {from : State} {a b : ℕ} (before : Leads d code from inner s a)
       (le : a + b + (length (items_words (width g) (layout g) (rest_of (items_of g))) + 1) ≤ most) (holds : Holds (layout g) begun (loop_start g.kernel + 1) (blank_lanes m) s) where
-    through : (k : ℕ) (new : ℕ → Lane) (mid : State) → k ≤ n → ((e : ℕ) → e < k → way_in g m (i + e) blank ≡ On (new (i + e))) → (leads : Leads d inner s (behind_words g rest) mid b) → (k < n → Why mode (way_in g m (i + k) blank) leads.cut) → Inside mode (layout g) begun s k (behind_region g.kernel g.turns) new mid
+    through : (k : ℕ) (new : ℕ → Lane) (mid : State) → k ≤ n → ((e : ℕ) → e < k → way_in g m (i + e) blank ≡ On (new (i + e))) → (leads : Leads d inner s (following_words g rest) mid b) → (k < n → Why mode (way_in g m (i + k) blank) leads.cut) → Inside mode (layout g) begun s k (following_region g.kernel g.turns) new mid
         → Passes why g n i cur m d code from rest most
     through k new mid kn come leads left inside =
         let near = nearer (a + b) (omega arith) before leads in
-        let start : RestStarts (layout g) begun (region_of (items_of g)) (blank_lanes m) k (behind_region g.kernel g.turns) mid =
-        rest_holds mode (layout g) begun (region_of (items_of g)) (loop_start g.kernel + 1) k (behind_region g.kernel g.turns) (blank_lanes m) s mid new assigned (fits_at n s.stops).region holds (λ e lt. refl) come inside (fits_at n s.stops).dead in
+        let start : RestStarts (layout g) begun (region_of (items_of g)) (blank_lanes m) k (following_region g.kernel g.turns) mid =
+        rest_holds mode (layout g) begun (region_of (items_of g)) (loop_start g.kernel + 1) k (following_region g.kernel g.turns) (blank_lanes m) s mid new assigned (fits_at n s.stops).region holds (λ e lt. refl) come inside (fits_at n s.stops).dead in
         let split = region_splits g.kernel g.turns ground.loops ground.vector in
         let parts : by_item (acts_of g.names (items_of g)) k i (blank_lanes m) ≡ by_item (acts_of g.names (rest_of (items_of g))) k i start.lanes =
         ap (λ items. by_item (acts_of g.names items) k i (blank_lanes m)) (sym split.whole) ∙ acts_append g.names (region_of (items_of g)) (rest_of (items_of g)) k i (blank_lanes m)
@@ -108,10 +109,10 @@ module _
         rest_pass fine fails g ground h assigned d rest (blank_lanes m) refl (is_chunk g i k m (omega (arith, kn, few)) (omega (arith, kn, within))) (rest_of (items_of g)) why n most kn near.leads le
         (λ lt out names is goes all more. reasons k lt leads.cut (left lt) out names is goes all (omega (arith, more, near.more)))
         parts (λ e lt. (new (i + e), come e lt))
-        (items_run (layout g) (setting g i k sum s.x mid.stops) d _ (rest_of (items_of g)) (behind_region g.kernel g.turns) start.lanes mid assigned (fits_at k mid.stops).rest start.holds)
+        (items_run (layout g) (setting g i k sum s.x mid.stops) d _ (rest_of (items_of g)) (following_region g.kernel g.turns) start.lanes mid assigned (fits_at k mid.stops).rest start.holds)
 
-    pub region_pass : Cuts mode (layout g) begun d s n (behind_region g.kernel g.turns) b (blank_lanes m).lane inner s (behind_words g rest) (way_in g m) → Passes why g n i cur m d code from rest most
+    pub region_pass : Cuts mode (layout g) begun d s n (following_region g.kernel g.turns) b (blank_lanes m).lane inner s (following_words g rest) (way_in g m) → Passes why g n i cur m d code from rest most
     region_pass (stops some fell stopped) =
         pass.stops 1 i s.memory m Read (omega (arith, some)) (fell_fails g i cur m (region_turn g i cur m ground h.between blank Fell fell)) (omega arith) (omega arith) (inl refl)
-        (λ z lt away. ap (λ memory. byte_at memory z) h.memory) (stop_behind most (omega (arith, le)) before stopped)
+        (λ z lt away. ap (λ memory. byte_at memory z) h.memory) (stop_following most (omega (arith, le)) before stopped)
     region_pass (comes k new mid kn come leads left inside) = through k new mid kn come leads left inside

@@ -11,7 +11,7 @@ use Rattle.dependence.specs.Apart.{bound_place}
 use Rattle.loop_form.specs.LoopItems.{Item}
 use Rattle.loop_form.specs.Entries.{loop_start}
 use Rattle.chunk_emit.specs.ChunkCode.{items_words, puts}
-use Rattle.chunk_emit.specs.Fits.{FitsItems, behind_items}
+use Rattle.chunk_emit.specs.Fits.{FitsItems, following_items}
 use Rattle.chunk_emit.specs.Head.{Ground, layout, width, most_lanes, limit}
 use Rattle.chunk_emit.proofs.ItemRuns.{items_run}
 use Rattle.first_fault.specs.Region.{region_way}
@@ -116,9 +116,9 @@ module _ (fine : FineIsDone) (fails : FailIsFault) (halts : NextHalts) (fits : K
       let count = two_count g (index_words (layout g)) items in
       let none = no_region items quits in
       let all = all_rest items quits in
-      let start : behind_items (loop_start g.kernel + 1) (region_of items) ≡ loop_start g.kernel + 1 = ap (behind_items (loop_start g.kernel + 1)) none in
+      let start : following_items (loop_start g.kernel + 1) (region_of items) ≡ loop_start g.kernel + 1 = ap (following_items (loop_start g.kernel + 1)) none in
       let rest_fits : FitsItems (layout g) (setting g i n sum begun.end.x begun.end.stops) (loop_start g.kernel + 1) items =
-      subst (λ q. FitsItems (layout g) (setting g i n sum begun.end.x begun.end.stops) q items) start (subst (FitsItems (layout g) (setting g i n sum begun.end.x begun.end.stops) (behind_items (loop_start g.kernel + 1) (region_of items))) all fit.rest) in
+      subst (λ q. FitsItems (layout g) (setting g i n sum begun.end.x begun.end.stops) q items) start (subst (FitsItems (layout g) (setting g i n sum begun.end.x begun.end.stops) (following_items (loop_start g.kernel + 1) (region_of items))) all fit.rest) in
       subst (λ c. Passes (λ turn cut. ⊥) g n i cur m d c s rest most) (sym (two_pieces g rest (index_words (layout g)) items))
       (rest_pass fine fails g ground begun.head (assigned_in g ground) d rest (blank_lanes m) refl (is_chunk g i n m few within) items (λ turn cut. ⊥) n most (omega arith) begun.leads (omega (arith, count)) (λ lt out names is goes cut more. absurd (omega (arith, lt)))
       refl (λ e lt. (blank, ap (λ r. region_way g.names r (i + e) m blank) none))

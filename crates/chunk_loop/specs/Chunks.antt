@@ -2,9 +2,10 @@
 use Rattle.std.specs.Prelude.{◌≡◌, ◌⊎◌, ℕ, ◌+◌, ◌<◌, ◌≤◌, ◌^◌, ℤ, true, List, None}
 use Rattle.guest_types.specs.Memory.{Memory, byte_at}
 use Rattle.kernel_tree.specs.Typing.{var_scope}
+use Rattle.kernel_meaning.specs.Ends.{Going, Failed}
 use Rattle.kernel_meaning.specs.Eval.{Names}
 use Rattle.kernel_meaning.specs.Iterate.{iterate}
-use Rattle.kernel_meaning.specs.ScalarRun.{Going, Failed, course}
+use Rattle.kernel_meaning.specs.ScalarRun.{course}
 use Rattle.loop_form.specs.LoopItems.{Item, loop_items}
 use Rattle.chunk_order.specs.Order.{Elsewhere}
 use Rattle.chunk_order.specs.Orders.{Lane, Lanes, Fine, Fail, by_item}

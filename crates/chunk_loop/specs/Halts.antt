@@ -1,12 +1,12 @@
 -- How an iteration of the scalar loop does not go on.
-use Rattle.kernel_meaning.specs.Iterate.{Turn, Next, Broke, Faulted}
+use Rattle.kernel_meaning.specs.Ends.{BlockEnd, Next, Broke, Faulted}
 
-abbrev pub Breaks : Turn → Type 0
+abbrev pub Breaks : BlockEnd Names → Type 0
 Breaks (Broke m names) = Unit {0}
 Breaks (Next m names) = ⊥
 Breaks (Faulted m) = ⊥
 
-abbrev pub Faults : Turn → Type 0
+abbrev pub Faults : BlockEnd Names → Type 0
 Faults (Faulted m) = Unit {0}
 Faults (Next m names) = ⊥
 Faults (Broke m names) = ⊥

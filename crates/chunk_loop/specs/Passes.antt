@@ -3,9 +3,10 @@ use Rattle.std.specs.Prelude.{◌≡◌, ℕ, ◌+◌, ◌-◌, ◌<◌, ◌≤�
 use Rattle.std.specs.List.{list_any}
 use Rattle.guest_types.specs.Memory.{Memory, byte_at}
 use Rattle.kernel_tree.specs.Typing.{var_scope}
+use Rattle.kernel_meaning.specs.Ends.{BlockEnd, Going, Failed}
 use Rattle.kernel_meaning.specs.Eval.{Names}
-use Rattle.kernel_meaning.specs.Iterate.{Turn, iterate}
-use Rattle.kernel_meaning.specs.ScalarRun.{Going, Failed, course}
+use Rattle.kernel_meaning.specs.Iterate.{iterate}
+use Rattle.kernel_meaning.specs.ScalarRun.{course}
 use Rattle.machine_model.specs.declared.outcome.StopKind.{StopKind}
 use Rattle.machine_model.specs.Machine.{State, p_at}
 use Rattle.label_fix.specs.DraftRun.{Entry, Laid}
@@ -26,7 +27,7 @@ abbrev pub lanes_at : Ground → ℕ → ℕ
 lanes_at g i = min (most_lanes g) (limit g - i)
 
 -- why the scalar loop's next iteration was left out of a chunk: it breaks or faults, or some free elements were suppressed
-pub data LeftOut (turn : Turn) (cut : ℕ) : Type 0 where
+pub data LeftOut (turn : BlockEnd Names) (cut : ℕ) : Type 0 where
   breaks : Breaks turn → LeftOut turn cut
   faults : Faults turn → LeftOut turn cut
   suppressed : 0 < cut → LeftOut turn cut
@@ -34,7 +35,7 @@ pub data LeftOut (turn : Turn) (cut : ℕ) : Type 0 where
 -- A pass over the n lanes from iteration i on, from a state before it. Some lanes come through, and as many iterations of the
 -- scalar loop leave the same; `why` is the reason where a lane is left out. Or the code stops, where the scalar loop faults in
 -- one of these iterations; then no byte differs but those of elements that these iterations store.
-pub data Passes (why : Turn → (cut : ℕ) → Type 0) (g : Ground) (n i : ℕ) (cur : Names) (m : Memory) (d : Laid) (code : List Entry) (s : State) (rest : List Entry) (most : ℕ) : Type 0 where
+pub data Passes (why : BlockEnd Names → (cut : ℕ) → Type 0) (g : Ground) (n i : ℕ) (cur : Names) (m : Memory) (d : Laid) (code : List Entry) (s : State) (rest : List Entry) (most : ℕ) : Type 0 where
   comes : (k : ℕ) (now : Memory) (names : Names) (sum : List ℕ → ℕ → ℤ) (end : State) → k ≤ n → course (var_scope g.kernel) g.turns k i m cur ≡ Going now names → (leads : Leads d code s rest end most)
       → (k < n → why (iterate (var_scope g.kernel) g.turns (i + k) now names) leads.cut) → AtHead g (i + k) names now sum end → IsTop (width g) k (p_at end 0) → Turned g i end
       → Passes why g n i cur m d code s rest most

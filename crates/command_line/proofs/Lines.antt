@@ -6,7 +6,7 @@ use Rattle.std.proofs.lemmas.Bool.{lt-ltb}
 use Rattle.std.proofs.lemmas.Option.{none-some}
 use Rattle.std.proofs.lemmas.List.{append-nil, append_assoc}
 use Rattle.number_text.specs.Numbers.{given, number_of}
-use Rattle.command_line.specs.Line.{Words, Options, Extent, Line, is_end, is_plain, is_filled, positional, positional_from, value_named, value_in, value_behind, value_at, once, extent_of, with_vl, with_steps, with_map, with_dump, option_at, options_of, no_options, run_with, run_of, eval_with, eval_of, debug_with, debug_of}
+use Rattle.command_line.specs.Line.{Words, Options, Extent, Line, is_end, is_plain, is_filled, positional, positional_from, value_named, value_in, value_following, value_at, once, extent_of, with_vl, with_steps, with_map, with_dump, option_at, options_of, no_options, run_with, run_of, eval_with, eval_of, debug_with, debug_of}
 use Rattle.command_line.specs.Numbers.{parted}
 use Rattle.command_line.specs.Given.{Given, name_of, joined_of, name_before, allows, without, next, gives, given_from, given_of, nothing, with_value, with_word, spelt_value, options_in}
 use Rattle.command_line.specs.declared.place.Allowed.{Allowed}
@@ -187,7 +187,7 @@ room_after left Dump e = let q : unit left.dump ≡ 1 = ap unit e in omega arith
 abbrev taking : OptionName → Options → (List ℕ × Words) → Option (Options × Words)
 taking n o p = option_map (λ k. (k, p.1)) (with_name n o p.0)
 
-alone_at : (n : OptionName) (o : Options) (words : Words) → option_at o (word_of n ∷ words) ≡ given (value_behind words) (taking n o) (Some (o, word_of n ∷ words))
+alone_at : (n : OptionName) (o : Options) (words : Words) → option_at o (word_of n ∷ words) ≡ given (value_following words) (taking n o) (Some (o, word_of n ∷ words))
 unfolding option_at value_at parted
 alone_at Vl o words = refl
 alone_at Steps o words = refl

@@ -80,15 +80,15 @@ abbrev pub value_in : List ℕ → List ℕ → Option (List ℕ)
 value_in name word = option_and_then (value_named name) (parted 61 word)
 
 -- the word after the name of an option, which does not begin with a minus
-abbrev pub value_behind : Words → Option (List ℕ × Words)
-value_behind [] = None
-value_behind (value ∷ rest) = if is_plain value then Some (value, rest) else None
+abbrev pub value_following : Words → Option (List ℕ × Words)
+value_following [] = None
+value_following (value ∷ rest) = if is_plain value then Some (value, rest) else None
 
 -- the value of an option of this name at the front, and the words after it
 unfoldable pub value_at : List ℕ → Words → Option (List ℕ × Words)
 value_at name [] = None
 value_at name (word ∷ rest) =
-    if bytes_eq word name then value_behind rest else option_map (λ value. (value, rest)) (value_in name word)
+    if bytes_eq word name then value_following rest else option_map (λ value. (value, rest)) (value_in name word)
 
 -- the value of an option that was not given before
 abbrev pub once : {A : Type 0} → Option A → Option A → Option A

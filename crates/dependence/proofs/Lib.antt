@@ -1,3 +1,3 @@
-mod Rows
+mod ClassExamples
 pub mod Bounds
 mod Examples

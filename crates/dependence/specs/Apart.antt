@@ -6,7 +6,7 @@ use Rattle.guest_types.specs.declared.length.Width.{Width}
 use Rattle.guest_types.specs.Length.{width_bytes}
 use Rattle.kernel_tree.specs.declared.ast.Shape.{Shape}
 use Rattle.kernel_tree.specs.declared.ast.Shape.TheVariants as shape
-use Rattle.kernel_tree.specs.Plain.{Parameter, Turns, Program}
+use Rattle.kernel_tree.specs.Plain.{Parameter, PlainLoop, Program}
 use Rattle.loop_form.specs.declared.stream.Stream.{Stream}
 use Rattle.loop_form.specs.Streams.{place_of, streams_of}
 use Rattle.loop_form.specs.Lanes.{width_of}
@@ -43,7 +43,7 @@ used_from ss n (p ∷ ps) = used_at ss n p.shape ++ used_from ss (n + 1) ps
 abbrev pub used_of : Program → List Used
 used_of k = used_from (streams_of k) 0 k.params
 
-abbrev pub bound_in : List Parameter → Turns → Option ℕ
+abbrev pub bound_in : List Parameter → PlainLoop → Option ℕ
 bound_in ps l = place_of l.bound ps
 
 -- the place of the loop's bound; a loop of a kernel that meets the rules has one

@@ -87,10 +87,10 @@ fn is_carried_on(width: Width, earlier: Stream, later: &[Stream]) -> bool
 pub fn carries(width: Width, streams: &[Stream]) -> bool
     ensures { result ≡ carried width streams.now }
 {
-    let mut behind = 0;
+    let mut following = 0;
     for stream in streams {
-        behind += 1;
-        if is_carried_on(width, *stream, &streams[behind..]) {
+        following += 1;
+        if is_carried_on(width, *stream, &streams[following..]) {
             return true;
         }
     }

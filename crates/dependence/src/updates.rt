@@ -110,10 +110,10 @@ fn has_break(entries: &[Entry<'_>]) -> bool
 pub fn writes_before_break(entries: &[Entry<'_>]) -> bool
     ensures { result ≡ before_break (seen entries.now) }
 {
-    let mut behind = 0;
+    let mut following = 0;
     for entry in entries {
-        behind += 1;
-        if is_writing(entry) && has_break(&entries[behind..]) {
+        following += 1;
+        if is_writing(entry) && has_break(&entries[following..]) {
             return true;
         }
     }

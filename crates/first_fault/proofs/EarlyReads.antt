@@ -199,27 +199,27 @@ module _ {l : Layout} (fit : Assigned l) {f : Setting} {a : State} {p0 : ℕ} {t
     abbrev off : ℕ → Bool
     off = suppressed_at lane_on bad (stop_at u.stops)
 
-    abbrev behind : Option ℕ → State
-    behind o = loaded_state fit h0 p ls mask array x ty c wide makes used d rest h exact places place_is lane_on o
+    abbrev following : Option ℕ → State
+    following o = loaded_state fit h0 p ls mask array x ty c wide makes used d rest h exact places place_is lane_on o
 
     abbrev code : Word
     code = non_fault_word f.w ty (z_of l p) m
 
-    does : do_vector code u ≡ Went (behind (first_true off (lanes u.vl shape.element) 0))
+    does : do_vector code u ≡ Went (following (first_true off (lanes u.vl shape.element) 0))
     does = refl
 
-    is_behind : (o : Option ℕ) → do_vector code u ≡ Went (behind o) → IsState (behind o)
-    is_behind o e = let small : 0 < 16 = omega arith in went_keeps ldnf1 (field_of ldnf1 code.numbers) u (behind o) small h.is e
+    is_following : (o : Option ℕ) → do_vector code u ≡ Went (following o) → IsState (following o)
+    is_following o e = let small : 0 < 16 = omega arith in went_keeps ldnf1 (field_of ldnf1 code.numbers) u (following o) small h.is e
 
     by : (o : Option ℕ) → first_true off (lanes u.vl shape.element) 0 ≡ o → First off (lanes u.vl shape.element) 0 o → Ends code
     by o eq (missing none) =
-        let went : do_vector code u ≡ Went (behind None) = does ∙ ap (λ o. Went (behind o)) eq in
-        cuts_none fit h0 p ls mask array x ty c wide makes used d rest h exact places place_is lane_on code went (ap (is_cut bad) eq) (is_behind None went)
+        let went : do_vector code u ≡ Went (following None) = does ∙ ap (λ o. Went (following o)) eq in
+        cuts_none fit h0 p ls mask array x ty c wide makes used d rest h exact places place_is lane_on code went (ap (is_cut bad) eq) (is_following None went)
         (λ e en. no_fault (lane_on e) (bad e) (stop_at u.stops (rank lane_on e)) (none e (omega arith) (omega (arith, reads.in_count fit h0 p ls mask array x ty c wide h exact places place_is e en))))
     by o eq (found v lo hi yes' none) =
-        let went : do_vector code u ≡ Went (behind (Some v)) = does ∙ ap (λ o. Went (behind o)) eq in
+        let went : do_vector code u ≡ Went (following (Some v)) = does ∙ ap (λ o. Went (following o)) eq in
         let on_v = left_true (lane_on v) (bad v || stop_at u.stops (rank lane_on v)) yes' in
-        cuts_some fit h0 p ls mask array x ty c wide makes used d rest h exact places place_is lane_on code v (reads.below fit h0 p ls mask array x ty c wide h exact places place_is v (omega (arith, hi)) on_v) on_v went (ap (is_cut bad) eq) (is_behind (Some v) went)
+        cuts_some fit h0 p ls mask array x ty c wide makes used d rest h exact places place_is lane_on code v (reads.below fit h0 p ls mask array x ty c wide h exact places place_is v (omega (arith, hi)) on_v) on_v went (ap (is_cut bad) eq) (is_following (Some v) went)
         (λ e ev. no_fault (lane_on e) (bad e) (stop_at u.stops (rank lane_on e)) (none e (omega arith) ev))
 
     pub masked_reads : Ends code

@@ -3,7 +3,7 @@ use Rattle.std.proofs.Common.{◌≡◌, ℕ, suc, ◌+◌, ◌-◌, ◌<◌, �
 use Rattle.std.specs.Prelude.{slice_index, unwrap_or}
 use Rattle.std.specs.List.{list_any}
 use Rattle.std.proofs.lemmas.Bool.{cases_lt}
-use Rattle.kernel_tree.specs.Plain.{Term, Literal, Variable, Element, Unary, Operation, Shift, Conversion, Choice, Comparison, Both, Either, Not, Action, Define, Put, Update, Choose, Leave, Block, Done, Then, Otherwise, Nothing, Else, Turns, Program}
+use Rattle.kernel_tree.specs.Plain.{Term, Literal, Variable, Element, Unary, Operation, Shift, Conversion, Choice, Comparison, Both, Either, Not, Action, Define, Put, Update, Choose, Leave, Block, Done, Then, Otherwise, Nothing, Else, PlainLoop, Program}
 use Rattle.kernel_tree.specs.Items.{stream_offset, index_size, index_items, term_size, action_size, block_size, otherwise_size, loop_index}
 use Rattle.kernel_tree.specs.Typing.{Scope, after_action, in_loop, var_scope}
 use Rattle.reg_assign.specs.declared.interval.RegClass.TheVariants.{P}
@@ -13,14 +13,14 @@ use Rattle.loop_form.specs.Listing.{has_p, held, last_of}
 use Rattle.loop_form.specs.LoopItems.{Bound, Item, after_env, block_items, loop_env, loop_items}
 use Rattle.loop_form.specs.Numbers.{Numbered}
 use Rattle.loop_form.proofs.Numbers.{action-listed}
-use Rattle.chunk_order.proofs.Whole.{scope_index}
+use Rattle.chunk_order.proofs.OrderLaw.{scope_index}
 use Rattle.chunk_emit.specs.KernelLayout.{last_in, item_last_use, layout_of_loop}
 use Rattle.chunk_emit.proofs.FitsEntries.{AllGive, give_left, give_right, loop_gives}
 use Rattle.chunk_emit.proofs.FitsIntervals.{of_p, first_nothing}
 use Rattle.chunk_emit.proofs.FitsTypes.{action_index}
-use Rattle.first_fault.specs.KernelFits.{behind_region, is_inner_break}
+use Rattle.first_fault.specs.KernelFits.{following_region, is_inner_break}
 use Rattle.first_fault.specs.Rest.{NoTruthLive}
-use Rattle.first_fault.proofs.TopBreaks.{breaks_of, behind_break, region_end, outer_of, TopAction, goes, ends, top_action}
+use Rattle.first_fault.proofs.TopBreaks.{breaks_of, following_break, region_end, outer_of, TopAction, goes, ends, top_action}
 
 -- ---- the users of items within a statement stand within it
 
@@ -121,7 +121,7 @@ module _ (k : Program) where
       (λ (from : b ≤ r). ended_in b (b + action_size i a) (action_entries k b a) listed.numbered (action_below a b (b + action_size i a) (omega arith)) g r from (omega (arith, count, lt)))
       (cases_lt r b)
 
-  block_ended : (t : Block) (s : Scope) (b p : ℕ) (env : List Bound) → s.index ≡ i → AllGive k (block_entries k b t) → Ended p → Ended b → list_any is_inner_break (breaks_of (block_items s None b env t [])) ≡ false → Ended (behind_break p (breaks_of (block_items s None b env t [])))
+  block_ended : (t : Block) (s : Scope) (b p : ℕ) (env : List Bound) → s.index ≡ i → AllGive k (block_entries k b t) → Ended p → Ended b → list_any is_inner_break (breaks_of (block_items s None b env t [])) ≡ false → Ended (following_break p (breaks_of (block_items s None b env t [])))
   block_ended Done s b p env e g last here none = last
   block_ended (Then a t) s b p env e g last here none =
       let next = b + action_size s.index a in
@@ -132,10 +132,10 @@ module _ (k : Program) where
       by (top_action a s b env later none) there (λ q. block_ended t (after_action s a) next q (after_env s b env a) (action_index k a s ∙ e) gives)
     where
       by : TopAction s b env a (block_items (after_action s a) None (b + action_size s.index a) (after_env s b env a) t []) → Ended (b + action_size s.index a)
-          → ((q : ℕ) → Ended q → Ended (b + action_size s.index a) → list_any is_inner_break (breaks_of (block_items (after_action s a) None (b + action_size s.index a) (after_env s b env a) t [])) ≡ false → Ended (behind_break q (breaks_of (block_items (after_action s a) None (b + action_size s.index a) (after_env s b env a) t []))))
-          → Ended (behind_break p (breaks_of (block_items s None b env (Then a t) [])))
-      by (goes f) there more = subst (λ items. Ended (behind_break p items)) (sym f) (more p last there (sym (ap (list_any is_inner_break) f) ∙ none))
-      by (ends q c number f) there more = subst (λ items. Ended (behind_break p items)) (sym f) (more (q + 1) (subst Ended (sym number) there) there (sym (ap (list_any is_inner_break) f) ∙ none))
+          → ((q : ℕ) → Ended q → Ended (b + action_size s.index a) → list_any is_inner_break (breaks_of (block_items (after_action s a) None (b + action_size s.index a) (after_env s b env a) t [])) ≡ false → Ended (following_break q (breaks_of (block_items (after_action s a) None (b + action_size s.index a) (after_env s b env a) t []))))
+          → Ended (following_break p (breaks_of (block_items s None b env (Then a t) [])))
+      by (goes f) there more = subst (λ items. Ended (following_break p items)) (sym f) (more p last there (sym (ap (list_any is_inner_break) f) ∙ none))
+      by (ends q c number f) there more = subst (λ items. Ended (following_break p items)) (sym f) (more (q + 1) (subst Ended (sym number) there) there (sym (ap (list_any is_inner_break) f) ∙ none))
 
   start_ended : Ended (loop_start k + 1)
   start_ended r lt =
@@ -143,7 +143,7 @@ module _ (k : Program) where
       let none : item_last_use k P r ≡ 0 = ap (slice_index (map (last_in P (entries_of k)) (loop_entries k))) first ∙ first_nothing k P of_p in
       omega (arith, none)
 
-  pub no_truth_live : (l : Turns) (zs ps : Assignment) → k.turns ≡ Some l → list_any is_inner_break (loop_items k l) ≡ false → NoTruthLive (layout_of_loop k zs ps) (behind_region k l)
+  pub no_truth_live : (l : PlainLoop) (zs ps : Assignment) → k.turns ≡ Some l → list_any is_inner_break (loop_items k l) ≡ false → NoTruthLive (layout_of_loop k zs ps) (following_region k l)
   no_truth_live l zs ps turns outer =
       let b = loop_start k + 1 in
       let gives : AllGive k (turns_entries k (loop_start k) (Some l)) = subst (λ o. AllGive k (turns_entries k (loop_start k) o)) turns (loop_gives k) in

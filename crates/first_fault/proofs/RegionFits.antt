@@ -5,7 +5,7 @@ use Rattle.std.specs.List.{list_any}
 use Rattle.loop_form.specs.LoopItems.{Op, Load, Apply, Combine, Move, Cast, Copy, Pick, Store, Add, Test, Invert, Same, Any, Quit, Item}
 use Rattle.chunk_emit.specs.Registers.{Layout}
 use Rattle.chunk_emit.specs.Chunk.{Setting}
-use Rattle.chunk_emit.specs.Fits.{FitsItems, behind_items}
+use Rattle.chunk_emit.specs.Fits.{FitsItems, following_items}
 use Rattle.chunk_emit.specs.LoopFits as whole
 use Rattle.chunk_emit.specs.LoopFits.{FitsSteps, IsNoBreak, AreNoBreaks}
 use Rattle.chunk_emit.proofs.FitsParts.{first_part, second_part, items_fit}
@@ -81,7 +81,7 @@ no_breaks (it ∷ items) e = let h = neither (is_quit it) (list_any is_quit item
 -- of items that are split
 pub record BothFit (l : Layout) (f : Setting) (p : ℕ) (items : List Item) : Type 0 where
   pub region : FitsRegion l f p (region_of items)
-  pub rest : FitsItems l f (behind_items p (region_of items)) (rest_of items)
+  pub rest : FitsItems l f (following_items p (region_of items)) (rest_of items)
 
 pub both_fit : (l : Layout) (f : Setting) (p : ℕ) (items : List Item) → region_of items ++ rest_of items ≡ items → list_any is_write (region_of items) ≡ false → list_any is_quit (rest_of items) ≡ false → list_any is_inner_break items ≡ false → FitsSteps l f p items → BothFit l f p items
 both_fit l f p items split unwritten unbroken outer h =
@@ -89,5 +89,5 @@ both_fit l f p items split unwritten unbroken outer h =
     let outer2 = none_left is_inner_break (region_of items) (rest_of items) (ap (list_any is_inner_break) split ∙ outer) in
     record {
       region = region_fits l f p (region_of items) unwritten outer2 (first_part l f p (region_of items) (rest_of items) parts);
-      rest = items_fit l f (behind_items p (region_of items)) (rest_of items) (no_breaks (rest_of items) unbroken) (second_part l f p (region_of items) (rest_of items) parts);
+      rest = items_fit l f (following_items p (region_of items)) (rest_of items) (no_breaks (rest_of items) unbroken) (second_part l f p (region_of items) (rest_of items) parts);
     }

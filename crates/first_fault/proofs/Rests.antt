@@ -108,17 +108,17 @@ same_shares lay f names (it ∷ items) p j m l new k e =
 module _ {l : Layout} {f : Setting} {p k : ℕ} {t : Lanes} {s : State} (end : State) (new : ℕ → Lane) (h : Holds l f p t s) (le : k ≤ f.n) (fresh : (e : ℕ) → e < f.n → (t.lane (f.i + e)).shares ≡ []) (same : (e : ℕ) → e < k → (new (f.i + e)).shares ≡ (t.lane (f.i + e)).shares) where
   -- an accumulator's element has taken in what it had
   sum_is : (x : List ℕ) (e : ℕ) → sum_at l f t x e ≡ sum_at l (come_through f k end.stops) (lanes_of t.memory new) x e
-  sum_is x e = before (nat_lt e f.n) refl ∙ sym (behind (nat_lt e k) refl)
+  sum_is x e = before (nat_lt e f.n) refl ∙ sym (following (nat_lt e k) refl)
     where
       before : (b : Bool) → nat_lt e f.n ≡ b → (if b then after_all (l.update x) (l.sum_type x) (f.sum x e) (given_to x (t.lane (f.i + e)).shares) else f.sum x e) ≡ f.sum x e
       before true is = ap (λ vs. after_all (l.update x) (l.sum_type x) (f.sum x e) (given_to x vs)) (fresh e (ltb-true e f.n is))
       before false is = refl
 
-      behind : (b : Bool) → nat_lt e k ≡ b → (if b then after_all (l.update x) (l.sum_type x) (f.sum x e) (given_to x (new (f.i + e)).shares) else f.sum x e) ≡ f.sum x e
-      behind true is =
+      following : (b : Bool) → nat_lt e k ≡ b → (if b then after_all (l.update x) (l.sum_type x) (f.sum x e) (given_to x (new (f.i + e)).shares) else f.sum x e) ≡ f.sum x e
+      following true is =
           let ek = ltb-true e k is in
           ap (λ vs. after_all (l.update x) (l.sum_type x) (f.sum x e) (given_to x vs)) (same e ek ∙ fresh e (omega (arith, ek, le)))
-      behind false is = refl
+      following false is = refl
 
   sums_right : (x : List ℕ) → l.updated x ≡ true → z_at end (l.sum x) ≡ z_at s (l.sum x) → SumRight l (come_through f k end.stops) (lanes_of t.memory new) x (z_at end (l.sum x))
   sums_right x is kept =
@@ -148,9 +148,9 @@ renamed {l = l} {f = f} same h = record {
   truths = λ r lt last_use e el. h.truths r lt last_use e el ∙ ap (λ (b : Lane). b.truth r) (sym (same e el));
 }
 
-held_behind : (mode : Mode) (l : Layout) (f : Setting) (p k q : ℕ) (t u : Lanes) (s end : State) → Assigned l → Holds l f p t s → ((e : ℕ) → e < f.n → (t.lane (f.i + e)).shares ≡ []) → ((e : ℕ) → e < k → (u.lane (f.i + e)).shares ≡ (t.lane (f.i + e)).shares) → u.memory ≡ t.memory
+held_following : (mode : Mode) (l : Layout) (f : Setting) (p k q : ℕ) (t u : Lanes) (s end : State) → Assigned l → Holds l f p t s → ((e : ℕ) → e < f.n → (t.lane (f.i + e)).shares ≡ []) → ((e : ℕ) → e < k → (u.lane (f.i + e)).shares ≡ (t.lane (f.i + e)).shares) → u.memory ≡ t.memory
     → Inside mode l f s k q u.lane end → NoTruthLive l q → Holds l (come_through f k end.stops) q u end
-held_behind mode l f p k q t u s end fit h fresh shares mem inside none = record {
+held_following mode l f p k q t u s end fit h fresh shares mem inside none = record {
   is = inside.is;
   few = few_all fit h inside;
   vl = inside.same.vl ∙ h.vl;
@@ -180,5 +180,5 @@ rest_holds mode l f items p k q t s end new fit fits h fresh come inside none =
       lanes = done.lanes;
       done = done.by;
       memory = done.memory;
-      holds = held_behind mode l f p k q t done.lanes s end fit h fresh shares done.memory (renamed done.here inside) none;
+      holds = held_following mode l f p k q t done.lanes s end fit h fresh shares done.memory (renamed done.here inside) none;
     }

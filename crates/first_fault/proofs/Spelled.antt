@@ -4,7 +4,7 @@ use Rattle.std.specs.List.{list_any}
 use Rattle.std.proofs.Math.Logic.{∥∥₁_elim}
 use Rattle.std.proofs.Math.Bridge.{le_prop}
 use Rattle.std.proofs.Math.Bool.{Bool-set}
-use Rattle.kernel_tree.specs.Plain.{Action, Define, Put, Update, Choose, Leave, Block, Done, Then, Otherwise, Nothing, Else, Turns, Program}
+use Rattle.kernel_tree.specs.Plain.{Action, Define, Put, Update, Choose, Leave, Block, Done, Then, Otherwise, Nothing, Else, PlainLoop, Program}
 use Rattle.kernel_tree.specs.Items.{stream_offset, term_size, action_size, block_size}
 use Rattle.kernel_tree.specs.Typing.{Scope, own, first, after_action, after_block, left, in_loop, var_scope}
 use Rattle.kernel_tree.specs.Grammar.{IsTree}
@@ -59,7 +59,7 @@ outer_block (Then a t) s b env w = outer_action a s b env _ w.0 ∙ outer_block 
 well : (k : Program) → IsTree k → WellProgram k
 well k t = well_tree t.tree (tokens_from t.words t.tokens)
 
-outer_loop : (k : Program) (l : Turns) → k.turns ≡ Some l → WellProgram k → list_any is_inner_break (loop_items k l) ≡ false
+outer_loop : (k : Program) (l : PlainLoop) → k.turns ≡ Some l → WellProgram k → list_any is_inner_break (loop_items k l) ≡ false
 unfolding some_inner
 outer_loop k l turns w =
     let body : WellTurns (Some l) = subst WellTurns turns w.turns in

@@ -11,7 +11,7 @@ use Rattle.loop_form.specs.declared.loop_item.Source.TheVariants.{Constant, Oute
 use Rattle.loop_form.specs.LoopItems.{Op, Load, Apply, Combine, Move, Cast, Copy, Pick, Store, Add, Test, Invert, Same, Any, Quit, Item, item}
 use Rattle.chunk_emit.specs.Registers.{Layout}
 use Rattle.chunk_emit.specs.Chunk.{Setting}
-use Rattle.chunk_emit.specs.Fits.{Assigned, FitsSource, FitsOperand, FitsTruth, FitsMask, FitsOp, MakesNothing, NoneBetween, behind_items}
+use Rattle.chunk_emit.specs.Fits.{Assigned, FitsSource, FitsOperand, FitsTruth, FitsMask, FitsOp, MakesNothing, NoneBetween, following_items}
 use Rattle.first_fault.specs.Fits.{FitsStep, FitsRegion}
 use Rattle.first_fault.specs.Split.{quits}
 use Rattle.first_fault.specs.SplitBreaks.{takes_truth, is_quit_on, breaks_next, next_item, ends_second, in_second, is_split, opens, Spot, Alone, Second, Closed, after_opening, after_second, break_on, opening, second_of, second_step, steps_from}
@@ -210,8 +210,8 @@ past_next l f out q mask op But here k h x lt ne is =
 -- The steps fit, and after them the items have no number at which anything is made.
 pub record StepsFit (l : Layout) (f : Setting) (out : ℕ → Bool) (p2 p : ℕ) (steps items : List Item) : Type 0 where
   pub fits : FitsRegion (without l out) f p2 steps
-  pub low : behind_items p2 steps ≤ behind_items p items
-  pub dead : (x : ℕ) → behind_items p2 steps ≤ x → x < behind_items p items → MakesNothing l x
+  pub low : following_items p2 steps ≤ following_items p items
+  pub dead : (x : ℕ) → following_items p2 steps ≤ x → x < following_items p items → MakesNothing l x
 
 -- ---- the steps fit
 

@@ -19,7 +19,7 @@ use Rattle.lane_emit.specs.ItemCode.{mask_register, op_code}
 use Rattle.chunk_emit.specs.Registers.{Layout}
 use Rattle.chunk_emit.specs.ChunkCode.{vectors, puts}
 use Rattle.chunk_emit.specs.Chunk.{Setting, Holds}
-use Rattle.chunk_emit.specs.Fits.{Assigned, MakesNothing, behind_items}
+use Rattle.chunk_emit.specs.Fits.{Assigned, MakesNothing, following_items}
 use Rattle.first_fault.specs.Region.{Way, On, Broke, Fell, region_way}
 use Rattle.first_fault.specs.RegionCode.{Mode, Early, Single, narrow_words, step_words, region_words, set_faults, exits_words, single_words}
 use Rattle.first_fault.specs.Fits.{FitsRegion}
@@ -175,8 +175,8 @@ module _ (l : Layout) (f : Setting) (items : List Item) (p : ℕ) (k : FitsRegio
   alike : (names : Names) (j : ℕ) (m : Memory) (a : Lane) → AlikeWay (region_way names items j m a) (region_way names steps j m a)
   alike names j m a = goes l (without l out) f names j m items Alone p p a a tt k fit_steps.fits (record { values = λ q. refl; truths = λ q lt last. refl })
 
-  cuts_with : (mode : Mode) (d : Laid) (a : State) (n most : ℕ) (t : Lanes) (code : List Entry) (s : State) (rest : List Entry) → NoTruthLive l (behind_items p items)
-      → Cuts mode (without l out) f d a n (behind_items p steps) most t.lane code s rest (λ j. region_way f.names steps j t.memory) → Cuts mode l f d a n (behind_items p items) most t.lane code s rest (λ j. region_way f.names items j t.memory)
+  cuts_with : (mode : Mode) (d : Laid) (a : State) (n most : ℕ) (t : Lanes) (code : List Entry) (s : State) (rest : List Entry) → NoTruthLive l (following_items p items)
+      → Cuts mode (without l out) f d a n (following_items p steps) most t.lane code s rest (λ j. region_way f.names steps j t.memory) → Cuts mode l f d a n (following_items p items) most t.lane code s rest (λ j. region_way f.names items j t.memory)
   cuts_with mode d a n most t code s rest none (stops some fell st) = stops some (as_fell _ _ (alike f.names f.i t.memory (t.lane f.i)) fell) st
   cuts_with mode d a n most t code s rest none (comes c new end le pass leads why inside) =
       let other : ℕ → Lane = λ j. left_or (region_way f.names items j t.memory (t.lane j)) (t.lane j) in
@@ -184,7 +184,7 @@ module _ (l : Layout) (f : Setting) (items : List Item) (p : ℕ) (k : FitsRegio
       (λ e lt. on_left _ _ (new (f.i + e)) (t.lane (f.i + e)) (alike f.names (f.i + e) t.memory (t.lane (f.i + e))) (pass e lt))
       leads
       (λ lt. why_same _ _ (alike f.names (f.i + c) t.memory (t.lane (f.i + c))) (why lt))
-      (inside_with mode l out f a end c (behind_items p steps) (behind_items p items) new other fit_steps.low fit_steps.dead none
+      (inside_with mode l out f a end c (following_items p steps) (following_items p items) new other fit_steps.low fit_steps.dead none
       (λ e lt. left_same _ _ (new (f.i + e)) (t.lane (f.i + e)) (alike f.names (f.i + e) t.memory (t.lane (f.i + e))) (pass e lt))
       inside)
 
@@ -193,7 +193,7 @@ split_exits_run l f d rest items p t s fit k h none =
     let o = out l f items p k in
     let run = exits_run (without l o) f d rest (split_breaks l items) p t s (without_assigned l o fit) (fit_steps l f items p k).fits (holds_without l o h) in
     cuts_with l f items p k Early d s f.n (length (exits_words f.w l (split_breaks l items))) t (puts (exits_words f.w l (split_breaks l items)) rest) s rest none
-    (subst (λ words. Cuts Early (without l o) f d s f.n (behind_items p (split_breaks l items)) (length (set_faults ∷ words)) t.lane (puts (set_faults ∷ words) rest) s rest (λ j. region_way f.names (split_breaks l items) j t.memory))
+    (subst (λ words. Cuts Early (without l o) f d s f.n (following_items p (split_breaks l items)) (length (set_faults ∷ words)) t.lane (puts (set_faults ∷ words) rest) s rest (λ j. region_way f.names (split_breaks l items) j t.memory))
     (words_same Early f.w l o (split_breaks l items) p (ascend l f items p k) (ahead l f items p k)) run)
 
 pub split_single_runs : SplitSingleRuns
@@ -201,5 +201,5 @@ split_single_runs l f d rest items p t s fit k h one none =
     let o = out l f items p k in
     let run = single_runs (without l o) f d rest (split_breaks l items) p t s (without_assigned l o fit) (fit_steps l f items p k).fits (holds_without l o h) one in
     cuts_with l f items p k Single d s f.n (length (single_words f.w l (split_breaks l items))) t (puts (single_words f.w l (split_breaks l items)) rest) s rest none
-    (subst (λ words. Cuts Single (without l o) f d s f.n (behind_items p (split_breaks l items)) (length words) t.lane (puts words rest) s rest (λ j. region_way f.names (split_breaks l items) j t.memory))
+    (subst (λ words. Cuts Single (without l o) f d s f.n (following_items p (split_breaks l items)) (length words) t.lane (puts words rest) s rest (λ j. region_way f.names (split_breaks l items) j t.memory))
     (words_same Single f.w l o (split_breaks l items) p (ascend l f items p k) (ahead l f items p k)) run)

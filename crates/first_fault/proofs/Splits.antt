@@ -18,7 +18,7 @@ use Rattle.dependence.specs.Classes.{accumulator_read, mixed_update, write_conte
 use Rattle.chunk_order.specs.Orders.{Lane, Effect, Halts, Keeps, Writes}
 use Rattle.chunk_order.specs.Regions.{AllQuiet}
 use Rattle.chunk_order.specs.Items.{on_mask, load_effect}
-use Rattle.chunk_order.proofs.Whole.{no_reason, vector_by, vector_loop}
+use Rattle.chunk_order.proofs.OrderLaw.{no_reason, vector_by, vector_loop}
 use Rattle.vector_order.specs.Items.{op_effect, acts_of}
 use Rattle.first_fault.specs.Split.{quits, is_quit, writes, is_write, region_of, rest_of, RegionSplits}
 
@@ -154,8 +154,8 @@ term_marks (Either x y) = record { as_value = λ scope want mask from env rest. 
 term_marks (Not e) = record { as_value = λ scope want mask from env rest. refl; as_cond = λ scope mask from env rest. (term_marks e).as_cond scope mask from env _ }
 
 -- the marks of an expression's entries, and one after them
-behind_term : (k : Program) (from last_use : ℕ) (t : Term) (e : Entry) (ms : List Bool) → entry_marks (term_entries k from last_use t ++ e ∷ []) ++ ms ≡ put_mark (write_content e.content) (break_content e.content) ms
-behind_term k from last_use t e ms =
+following_term : (k : Program) (from last_use : ℕ) (t : Term) (e : Entry) (ms : List Bool) → entry_marks (term_entries k from last_use t ++ e ∷ []) ++ ms ≡ put_mark (write_content e.content) (break_content e.content) ms
+following_term k from last_use t e ms =
     ap (λ bs. bs ++ ms) (entry_marks-append (term_entries k from last_use t) (e ∷ []) ∙ ap (λ bs. bs ++ entry_marks (e ∷ [])) (term_none k t from last_use))
     ∙ one (write_content e.content) (break_content e.content)
   where
@@ -178,28 +178,28 @@ three (x ∷ xs) ys zs ms = ap (λ bs. x ∷ bs) (three xs ys zs ms)
 
 mutual
   action_sub : (k : Program) (s : Action) (scope : Scope) (mask : Option ℕ) (from g : ℕ) (env : List Bound) (rest : List Item) (ms : List Bool) → Sub (marks rest) ms → Sub (marks (action_items scope mask from env s rest)) (entry_marks (action_entries k g s) ++ ms)
-  action_sub k (Define x t e) scope mask from g env rest ms h = subst (λ bs. Sub bs (entry_marks (action_entries k g (Define x t e)) ++ ms)) (sym ((term_marks e).as_value scope (first t (own scope e)) mask from env _)) (subst (Sub (marks rest)) (sym (behind_term k g _ e _ ms)) h)
+  action_sub k (Define x t e) scope mask from g env rest ms h = subst (λ bs. Sub bs (entry_marks (action_entries k g (Define x t e)) ++ ms)) (sym ((term_marks e).as_value scope (first t (own scope e)) mask from env _)) (subst (Sub (marks rest)) (sym (following_term k g _ e _ ms)) h)
   action_sub k (Put a i e) scope mask from g env rest ms h =
       subst (λ bs. Sub bs (entry_marks (action_entries k g (Put a i e)) ++ ms)) (sym ((term_marks e).as_value scope (array_type scope a) mask from env _))
-      (subst (Sub (marks (store_item scope mask _ env a (stream_offset scope.index i) _ rest))) (sym (behind_term k g _ e _ ms)) (store_sub scope mask _ env a (stream_offset scope.index i) _ rest ms h))
+      (subst (Sub (marks (store_item scope mask _ env a (stream_offset scope.index i) _ rest))) (sym (following_term k g _ e _ ms)) (store_sub scope mask _ env a (stream_offset scope.index i) _ rest ms h))
   action_sub k (Update x op e) scope mask from g env rest ms h =
-      subst (λ bs. Sub bs (entry_marks (action_entries k g (Update x op e)) ++ ms)) (sym ((term_marks e).as_value scope (accumulator_of scope x) mask from env _)) (subst (Sub (false ∷ marks rest)) (sym (behind_term k g _ e _ ms)) (sub_keep false h))
+      subst (λ bs. Sub bs (entry_marks (action_entries k g (Update x op e)) ++ ms)) (sym ((term_marks e).as_value scope (accumulator_of scope x) mask from env _)) (subst (Sub (false ∷ marks rest)) (sym (following_term k g _ e _ ms)) (sub_keep false h))
   action_sub k (Choose c b d) scope mask from g env rest ms h =
       let first = g + term_size (loop_index k) c in
-      let behind = first + 1 + block_size (loop_index k) b in
-      let end = behind + otherwise_size (loop_index k) d in
-      let last : List Entry = otherwise_entries k behind end d ++ entry k end (IsPlain kind.End) end ∷ [] in
+      let following = first + 1 + block_size (loop_index k) b in
+      let end = following + otherwise_size (loop_index k) d in
+      let last : List Entry = otherwise_entries k following end d ++ entry k end (IsPlain kind.End) end ∷ [] in
       let inner : List Entry = block_entries k (first + 1) b ++ last in
-      let all : entry_marks (action_entries k g (Choose c b d)) ++ ms ≡ entry_marks (block_entries k (first + 1) b) ++ (entry_marks (otherwise_entries k behind end d) ++ ms) =
+      let all : entry_marks (action_entries k g (Choose c b d)) ++ ms ≡ entry_marks (block_entries k (first + 1) b) ++ (entry_marks (otherwise_entries k following end d) ++ ms) =
       ap (λ bs. bs ++ ms)
-      (entry_marks-append (term_entries k g behind c) (entry k first (IsPlain kind.Then) first ∷ inner) ∙ ap (λ bs. bs ++ entry_marks inner) (term_none k c g behind) ∙ entry_marks-append (block_entries k (first + 1) b) last
-      ∙ ap (λ bs. entry_marks (block_entries k (first + 1) b) ++ bs) (entry_marks-append (otherwise_entries k behind end d) (entry k end (IsPlain kind.End) end ∷ [])))
-      ∙ three (entry_marks (block_entries k (first + 1) b)) (entry_marks (otherwise_entries k behind end d)) [] ms in
+      (entry_marks-append (term_entries k g following c) (entry k first (IsPlain kind.Then) first ∷ inner) ∙ ap (λ bs. bs ++ entry_marks inner) (term_none k c g following) ∙ entry_marks-append (block_entries k (first + 1) b) last
+      ∙ ap (λ bs. entry_marks (block_entries k (first + 1) b) ++ bs) (entry_marks-append (otherwise_entries k following end d) (entry k end (IsPlain kind.End) end ∷ [])))
+      ∙ three (entry_marks (block_entries k (first + 1) b)) (entry_marks (otherwise_entries k following end d)) [] ms in
       subst (λ bs. Sub bs (entry_marks (action_entries k g (Choose c b d)) ++ ms)) (sym ((term_marks c).as_cond scope mask from env _))
       (subst (Sub (marks (block_items scope (Some (truth_home scope.index from c)) (from + term_size scope.index c + 1) env b (otherwise_items (left scope (after_block scope b)) mask (from + term_size scope.index c + 1 + block_size scope.index b) (truth_home scope.index from c) env d rest)))) (sym all)
-      (block_sub k b scope (Some (truth_home scope.index from c)) _ (first + 1) env _ (entry_marks (otherwise_entries k behind end d) ++ ms) (otherwise_sub k d (left scope (after_block scope b)) mask _ (truth_home scope.index from c) behind end env rest ms h)))
+      (block_sub k b scope (Some (truth_home scope.index from c)) _ (first + 1) env _ (entry_marks (otherwise_entries k following end d) ++ ms) (otherwise_sub k d (left scope (after_block scope b)) mask _ (truth_home scope.index from c) following end env rest ms h)))
   action_sub k (Leave c) scope mask from g env rest ms h =
-      subst (λ bs. Sub bs (entry_marks (action_entries k g (Leave c)) ++ ms)) (sym ((term_marks c).as_cond scope mask from env _)) (subst (Sub (true ∷ marks rest)) (sym (behind_term k g _ c _ ms)) (sub_keep true h))
+      subst (λ bs. Sub bs (entry_marks (action_entries k g (Leave c)) ++ ms)) (sym ((term_marks c).as_cond scope mask from env _)) (subst (Sub (true ∷ marks rest)) (sym (following_term k g _ c _ ms)) (sub_keep true h))
 
   block_sub : (k : Program) (b : Block) (scope : Scope) (mask : Option ℕ) (from g : ℕ) (env : List Bound) (rest : List Item) (ms : List Bool) → Sub (marks rest) ms → Sub (marks (block_items scope mask from env b rest)) (entry_marks (block_entries k g b) ++ ms)
   block_sub k Done scope mask from g env rest ms h = h
@@ -243,10 +243,10 @@ step_unwritten true q any bs e only h yes' =
     let both : (q || any) ≡ false = ap₂ (λ x y. x || y) (only refl) (e ∙ none) in
     absurd cc
 
-behind_bad : (w q : Bool) (bs : List Bool) → is_bad (put_mark w q bs) ≡ false → is_bad bs ≡ false
-behind_bad false false bs h = h
-behind_bad false true bs h = h
-behind_bad true q bs h = (or_left (some_break bs) (is_bad bs) h).1
+following_bad : (w q : Bool) (bs : List Bool) → is_bad (put_mark w q bs) ≡ false → is_bad bs ≡ false
+following_bad false false bs h = h
+following_bad false true bs h = h
+following_bad true q bs h = (or_left (some_break bs) (is_bad bs) h).1
 
 only_one : (op : Op) → writes op ≡ true → quits op ≡ false
 only_one (Store a base t c v) e = refl
@@ -266,7 +266,7 @@ only_one (Quit c) e = absurd cc
 
 region_unwritten : (items : List Item) → is_bad (marks items) ≡ false → list_any is_write (region_of items) ≡ false
 region_unwritten [] h = refl
-region_unwritten (it ∷ items) h = by (list_any is_quit (it ∷ items)) refl (region_unwritten items (behind_bad (writes it.op) (quits it.op) (marks items) h))
+region_unwritten (it ∷ items) h = by (list_any is_quit (it ∷ items)) refl (region_unwritten items (following_bad (writes it.op) (quits it.op) (marks items) h))
   where
     by : (b : Bool) → list_any is_quit (it ∷ items) ≡ b → list_any is_write (region_of items) ≡ false → list_any is_write (if b then it ∷ region_of items else []) ≡ false
     by true e ih = ap₂ (λ x y. x || y) (step_unwritten (writes it.op) (quits it.op) (list_any is_quit items) (marks items) (item_break items) (only_one it.op) h e) ih
@@ -332,16 +332,16 @@ class_unbroken k e =
     let b = no_reason (mixed_update (loop_entries k)) why.MixedUpdate _ a.1 in
     (no_reason (before_break (loop_entries k)) why.BeforeBreak _ b.1).0
 
-nothing_behind : (bs : List Bool) → bs ++ [] ≡ bs
-nothing_behind [] = refl
-nothing_behind (b ∷ bs) = ap (λ r. b ∷ r) (nothing_behind bs)
+nothing_following : (bs : List Bool) → bs ++ [] ≡ bs
+nothing_following [] = refl
+nothing_following (b ∷ bs) = ap (λ r. b ∷ r) (nothing_following bs)
 
 pub region_splits : RegionSplits
 region_splits k l is e =
     let items = loop_items k l in
     let inner : List Entry = block_entries k (loop_start k + 1) l.body in
     let entries : entry_marks (loop_entries k) ≡ entry_marks inner = ap (λ o. entry_marks (turns_entries k (loop_start k) o)) is in
-    let sub : Sub (marks items) (entry_marks inner) = subst (Sub (marks items)) (nothing_behind (entry_marks inner)) (block_sub k l.body (in_loop (var_scope k) l) None (loop_start k + 1) (loop_start k + 1) (loop_env (var_scope k) l.index) [] [] sub_none) in
+    let sub : Sub (marks items) (entry_marks inner) = subst (Sub (marks items)) (nothing_following (entry_marks inner)) (block_sub k l.body (in_loop (var_scope k) l) None (loop_start k + 1) (loop_start k + 1) (loop_env (var_scope k) l.index) [] [] sub_none) in
     let good : is_bad (marks items) ≡ false = sub_bad sub (ap is_bad (sym entries) ∙ sym (entry_bad (loop_entries k)) ∙ class_unbroken k e) in
     let unwritten = region_unwritten items good in
     record {

@@ -23,7 +23,7 @@ use Rattle.lane_emit.specs.ItemCode.{mask_of, mask_register}
 use Rattle.chunk_emit.specs.Registers.{Layout, IsValueUsed}
 use Rattle.chunk_emit.specs.ChunkCode.{with_index, index_of, memory_size, puts}
 use Rattle.chunk_emit.specs.Chunk.{Setting, count_of, Holds}
-use Rattle.chunk_emit.specs.Fits.{Assigned, FitsMask, IsNear, MakesValue, behind_items}
+use Rattle.chunk_emit.specs.Fits.{Assigned, FitsMask, IsNear, MakesValue, following_items}
 use Rattle.chunk_emit.proofs.Indexes.{scratched, lane_place}
 use Rattle.chunk_emit.proofs.LoadForms.{is_form}
 use Rattle.first_fault.specs.Region.{Way, On, Broke, Fell, way_on, item_way, region_way}
@@ -32,7 +32,7 @@ use Rattle.first_fault.specs.Fits.{FitsStep, FitsRegion}
 use Rattle.label_fix.specs.Stretches.{Leads}
 use Rattle.first_fault.specs.Prefix.{Inside}
 use Rattle.first_fault.specs.RegionRuns.{Why, by_break, by_fault, by_stop, Cuts, stops, comes}
-use Rattle.first_fault.proofs.Stretches.{rest_at, word_leads, follow, follow-cut, stop_behind}
+use Rattle.first_fault.proofs.Stretches.{rest_at, word_leads, follow, follow-cut, stop_following}
 use Rattle.first_fault.proofs.Insides.{prefix, inside_later, operand_right}
 use Rattle.first_fault.proofs.PureSteps.{narrowed, value_steps, truth_steps}
 use Rattle.first_fault.proofs.BreakSteps.{break_steps}
@@ -48,9 +48,9 @@ weaken f g le (by_fault early e) = by_fault early (g e)
 weaken f g le (by_stop early lt) = by_stop early (omega (arith, lt, le))
 
 -- words after which the lanes are as before
-pub cuts_behind : {mode : Mode} {l : Layout} {f : Setting} {d : Laid} {a : State} {n q m k : ℕ} {ls : ℕ → Lane} {code mid rest : List Entry} {s u : State} {way : ℕ → Lane → Way} (most : ℕ) → most ≡ m + k → Leads d code s mid u m → Cuts mode l f d a n q k ls mid u rest way → Cuts mode l f d a n q most ls code s rest way
-cuts_behind most total leads (stops some fell st) = stops some fell (stop_behind most (omega (arith, total)) leads st)
-cuts_behind {m = m} {k = k} most total leads (comes c new end le pass on why inside) =
+pub cuts_following : {mode : Mode} {l : Layout} {f : Setting} {d : Laid} {a : State} {n q m k : ℕ} {ls : ℕ → Lane} {code mid rest : List Entry} {s u : State} {way : ℕ → Lane → Way} (most : ℕ) → most ≡ m + k → Leads d code s mid u m → Cuts mode l f d a n q k ls mid u rest way → Cuts mode l f d a n q most ls code s rest way
+cuts_following most total leads (stops some fell st) = stops some fell (stop_following most (omega (arith, total)) leads st)
+cuts_following {m = m} {k = k} most total leads (comes c new end le pass on why inside) =
     let both : m + k ≤ most = omega (arith, total) in
     let cut = follow-cut most both leads on in
     comes c new end le pass (follow most both leads on) (λ lt. weaken (λ e. e) (λ e. e) (omega (arith, cut)) (why lt)) inside
@@ -63,7 +63,7 @@ cuts_then {mode = mode} {l = l} {f = f} {d = d} {a = a} {n = n} {q = q} {m = m} 
     by_second : Cuts mode l f d a c q k new mid u rest h → Cuts mode l f d a n q most ls code s rest (λ j b. way_on (g j b) (h j))
     by_second (stops some fell st) =
         let e : f.i + 0 ≡ f.i = omega arith in
-        stops (omega (arith, some, le)) (ap (λ w. way_on w (h f.i)) (subst (λ j. g j (ls j) ≡ On (new j)) e (pass 0 some)) ∙ fell) (stop_behind most (omega (arith, total)) leads st)
+        stops (omega (arith, some, le)) (ap (λ w. way_on w (h f.i)) (subst (λ j. g j (ls j) ≡ On (new j)) e (pass 0 some)) ∙ fell) (stop_following most (omega (arith, total)) leads st)
     by_second (comes c2 new2 u2 le2 pass2 leads2 why2 inside2) =
         let both : m + k ≤ most = omega (arith, total) in
         let cut = follow-cut most both leads leads2 in
@@ -87,29 +87,29 @@ module _ {l : Layout} (fit : Assigned l) {f : Setting} {a : State} {p0 : ℕ} {t
     LoadCuts mode u =
         Cuts mode l f d a n (p + 1) (length (load_words mode f.w l p mask ty x (index_of c))) ls (puts (load_words mode f.w l p mask ty x (index_of c)) rest) u rest (λ j b. item_way f.names (item p mask (Load array (Outer x) (Some ty) c)) j a.memory b)
 
-    behind_index : (mode : Mode) {s : State} → FitsMask l p mask → Inside mode l f a n p ls s
+    following_index : (mode : Mode) {s : State} → FitsMask l p mask → Inside mode l f a n p ls s
         → ((u : State) → Inside mode l f a n p ls u → PRight f.w (count_of f) (p_at u (mask_register l.registers mask)) (within n (mask_of (prefix f a n ls) mask)) → x_at u (index_of c) ≡ word (pos f.i +ℤ c) → LoadCuts mode u)
         → StepCuts mode n p ls s mask (Load array (Outer x) (Some ty) c)
-    behind_index mode fm h loads =
+    following_index mode fm h loads =
         let inner = load_words mode f.w l p mask ty x (index_of c) in
         let nar = narrowed fit h0 d mask (with_index c inner) rest fm h in
         let ix = indexed fit h0 d rest c inner near nar.inside in
-        cuts_behind (length (narrow_words l mask (with_index c inner))) nar.counted nar.leads
-        (cuts_behind (length (with_index c inner)) ix.counted ix.leads
+        cuts_following (length (narrow_words l mask (with_index c inner))) nar.counted nar.leads
+        (cuts_following (length (with_index c inner)) ix.counted ix.leads
         (loads ix.state ix.inside (λ e lt. ap (λ ps. active f.w (slice_index_or ps (mask_register l.registers mask) []) e) ix.truths ∙ nar.exact e lt) ix.place))
 
   read_steps : (mode : Mode) {n p : ℕ} {ls : ℕ → Lane} {s : State} (mask : Option ℕ) (array : List ℕ) (x : ℕ) (ty : Ty) (c : ℤ) (low : x < 8) (based : slice_index f.x x ≡ word (nth_value f.names x)) (near : IsNear c) (wide : bits_of ty ≤ width_bits f.w) (used : IsValueUsed l p) (makes : MakesValue l p ty) → FitsMask l p mask
       → Inside mode l f a n p ls s → StepCuts mode n p ls s mask (Load array (Outer x) (Some ty) c)
   read_steps Early {n = n} {p = p} {ls = ls} None array x ty c low based near wide used makes fm h =
-      behind_index n p ls None array x ty c low based near wide used makes Early fm h (λ u inside exact at_index. top_reads fit h0 p ls array x ty c wide makes used d rest inside exact low based (index_of c) at_index)
+      following_index n p ls None array x ty c low based near wide used makes Early fm h (λ u inside exact at_index. top_reads fit h0 p ls array x ty c wide makes used d rest inside exact low based (index_of c) at_index)
   read_steps Single {n = n} {p = p} {ls = ls} mask array x ty c low based near wide used makes fm h =
-      behind_index n p ls mask array x ty c low based near wide used makes Single fm h (λ u inside exact at_index. single_reads fit h0 p ls mask array x ty c wide makes used d rest inside exact low based (index_of c) at_index)
+      following_index n p ls mask array x ty c low based near wide used makes Single fm h (λ u inside exact at_index. single_reads fit h0 p ls mask array x ty c wide makes used d rest inside exact low based (index_of c) at_index)
   read_steps Early {n = n} {p = p} {ls = ls} (Some q) array x ty c low based near wide used makes fm h =
-      behind_index n p ls (Some q) array x ty c low based near wide used makes Early fm h (λ u inside exact at_index.
+      following_index n p ls (Some q) array x ty c low based near wide used makes Early fm h (λ u inside exact at_index.
       let v = (x_at u x + x_at u (index_of c) * 2 ^ memory_size ty % 2 ^ 64) % 2 ^ 64 in
       let scratch : x_at (scratched u v) 26 ≡ v = get_or-set_same u.x 26 v 0 (omega (arith, inside.is.x_count)) in
       let base_x : x_at u x ≡ word (nth_value f.names x) = x_is fit h0 inside x (λ e. absurd (omega (arith, low, e))) ∙ based in
-      cuts_behind 3 refl (word_leads false refl refl)
+      cuts_following 3 refl (word_leads false refl refl)
       (masked_reads fit h0 p ls (Some q) array x ty c wide makes used d rest (inside_scratch fit h0 v (omega arith) inside) exact
       (λ e.
       ap₂ (λ b k. lane_address b 0 k e) scratch (is_form ty f.w wide).memory
@@ -165,11 +165,11 @@ puts-append (i ∷ is) js rest = ap (λ es. Put i ∷ es) (puts-append is js res
 
 module _ {l : Layout} (fit : Assigned l) {f : Setting} {a : State} {p0 : ℕ} {t0 : Lanes} (h0 : Holds l f p0 t0 a) (d : Laid) (rest : List Entry) (mode : Mode) where
   pub region_runs : (items : List Item) {n p : ℕ} {ls : ℕ → Lane} {s : State} → FitsRegion l f p items → Inside mode l f a n p ls s
-      → Cuts mode l f d a n (behind_items p items) (length (region_words mode f.w l items)) ls (puts (region_words mode f.w l items) rest) s rest (λ j. region_way f.names items j a.memory)
+      → Cuts mode l f d a n (following_items p items) (length (region_words mode f.w l items)) ls (puts (region_words mode f.w l items) rest) s rest (λ j. region_way f.names items j a.memory)
   region_runs [] {n = n} {ls = ls} {s = s} k h = comes n ls s (omega arith) (λ e lt. refl) (rest_at 0) (λ lt. absurd (omega (arith, lt))) h
   region_runs (it ∷ items) {n = n} {p = p} {ls = ls} {s = s} k h =
       let words = step_words mode f.w l it.item it.mask it.op in
       let more = region_words mode f.w l items in
       let here = op_steps fit h0 d (puts more rest) mode it.mask k.2 (inside_later fit h0 h it.item k.0 k.1) it.op k.3 in
-      subst (λ es. Cuts mode l f d a n (behind_items p (it ∷ items)) (length (words ++ more)) ls es s rest (λ j. region_way f.names (it ∷ items) j a.memory)) (sym (puts-append words more rest))
+      subst (λ es. Cuts mode l f d a n (following_items p (it ∷ items)) (length (words ++ more)) ls es s rest (λ j. region_way f.names (it ∷ items) j a.memory)) (sym (puts-append words more rest))
       (cuts_then (length (words ++ more)) (λ j b. item_way f.names it j a.memory b) (λ j. region_way f.names items j a.memory) (length-append words more) here (λ c new u le inside. region_runs items k.4 inside))

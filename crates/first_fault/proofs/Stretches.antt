@@ -52,8 +52,8 @@ follow {d = d} {c = c} {g = g} {s = s} {u = u} most le a b = record {
       omega (arith, f, p, q);
 }
 
-pub stop_behind : {d : Laid} {c e : List Entry} {s t : State} {m n : ℕ} {kind : StopKind} {memory : Memory} (most : ℕ) → m + n ≤ most → Leads d c s e t m → Stops d e t kind memory n → Stops d c s kind memory most
-stop_behind {d = d} {c = c} {s = s} {kind = kind} {memory = memory} most le a b = record {
+pub stop_following : {d : Laid} {c e : List Entry} {s t : State} {m n : ℕ} {kind : StopKind} {memory : Memory} (most : ℕ) → m + n ≤ most → Leads d c s e t m → Stops d e t kind memory n → Stops d c s kind memory most
+stop_following {d = d} {c = c} {s = s} {kind = kind} {memory = memory} most le a b = record {
   count = a.count + b.count;
   within = omega (arith, a.within, b.within, le);
   pc = b.pc;

@@ -8,7 +8,7 @@ use Rattle.kernel_tree.specs.Items.{stream_offset, term_size, action_size, block
 use Rattle.kernel_tree.specs.Typing.{Scope, own, first, side_type, after_action, after_block, left}
 use Rattle.loop_form.specs.declared.loop_item.Source.{Source}
 use Rattle.loop_form.specs.LoopItems.{Bound, array_type, accumulator_of, Quit, Item, item, truth_home, load_item, term_items, cond_items, store_item, after_env, action_items, block_items, otherwise_items}
-use Rattle.chunk_emit.specs.Fits.{behind_items}
+use Rattle.chunk_emit.specs.Fits.{following_items}
 use Rattle.first_fault.specs.Split.{quits, is_quit, region_of}
 use Rattle.first_fault.specs.KernelFits.{is_inner_break}
 use Rattle.first_fault.proofs.RegionFits.{neither}
@@ -19,9 +19,9 @@ breaks_of [] = []
 breaks_of (it ∷ items) = if quits it.op then it ∷ breaks_of items else breaks_of items
 
 -- the number after the last break, and p where there is none
-abbrev pub behind_break : ℕ → List Item → ℕ
-behind_break p [] = p
-behind_break p (it ∷ items) = behind_break (it.item + 1) items
+abbrev pub following_break : ℕ → List Item → ℕ
+following_break p [] = p
+following_break p (it ∷ items) = following_break (it.item + 1) items
 
 -- ---- the region ends after the last break
 
@@ -32,25 +32,25 @@ none_breaks (it ∷ items) e =
     ap (λ b. cond b (it ∷ breaks_of items) (breaks_of items)) h.0 ∙ none_breaks items h.1
 
 -- a list with a break forgets what stood before
-any_start : (p q : ℕ) (items : List Item) → list_any is_quit items ≡ true → behind_break p (breaks_of items) ≡ behind_break q (breaks_of items)
+any_start : (p q : ℕ) (items : List Item) → list_any is_quit items ≡ true → following_break p (breaks_of items) ≡ following_break q (breaks_of items)
 any_start p q [] e = absurd cc
 any_start p q (it ∷ items) e = by (quits it.op) e (any_start p q items)
   where
-    by : (b : Bool) → b || list_any is_quit items ≡ true → (list_any is_quit items ≡ true → behind_break p (breaks_of items) ≡ behind_break q (breaks_of items)) → behind_break p (cond b (it ∷ breaks_of items) (breaks_of items)) ≡ behind_break q (cond b (it ∷ breaks_of items) (breaks_of items))
+    by : (b : Bool) → b || list_any is_quit items ≡ true → (list_any is_quit items ≡ true → following_break p (breaks_of items) ≡ following_break q (breaks_of items)) → following_break p (cond b (it ∷ breaks_of items) (breaks_of items)) ≡ following_break q (cond b (it ∷ breaks_of items) (breaks_of items))
     by true e more = refl
     by false e more = more e
 
-pub region_end : (p : ℕ) (items : List Item) → behind_items p (region_of items) ≡ behind_break p (breaks_of items)
+pub region_end : (p : ℕ) (items : List Item) → following_items p (region_of items) ≡ following_break p (breaks_of items)
 region_end p [] = refl
 region_end p (it ∷ items) = by (list_any is_quit (it ∷ items)) refl (region_end (it.item + 1) items)
   where
-    some : (b : Bool) → b || list_any is_quit items ≡ true → behind_break (it.item + 1) (breaks_of items) ≡ behind_break p (cond b (it ∷ breaks_of items) (breaks_of items))
+    some : (b : Bool) → b || list_any is_quit items ≡ true → following_break (it.item + 1) (breaks_of items) ≡ following_break p (cond b (it ∷ breaks_of items) (breaks_of items))
     some true e = refl
     some false e = any_start (it.item + 1) p items e
 
-    by : (b : Bool) → list_any is_quit (it ∷ items) ≡ b → behind_items (it.item + 1) (region_of items) ≡ behind_break (it.item + 1) (breaks_of items) → behind_items p (cond b (it ∷ region_of items) []) ≡ behind_break p (breaks_of (it ∷ items))
+    by : (b : Bool) → list_any is_quit (it ∷ items) ≡ b → following_items (it.item + 1) (region_of items) ≡ following_break (it.item + 1) (breaks_of items) → following_items p (cond b (it ∷ region_of items) []) ≡ following_break p (breaks_of (it ∷ items))
     by true e h = h ∙ some (quits it.op) e
-    by false e h = sym (ap (behind_break p) (none_breaks (it ∷ items) e))
+    by false e h = sym (ap (following_break p) (none_breaks (it ∷ items) e))
 
 pub outer_of : (items : List Item) → list_any is_inner_break items ≡ list_any is_inner_break (breaks_of items)
 outer_of [] = refl

@@ -1,19 +1,20 @@
 -- Where an iteration breaks or faults in the region, its turn does.
 use Rattle.std.proofs.Common.{◌≡◌, ℕ, List, [], ◌∷◌, ◌++◌, refl, sym, ap, ◌∙◌, subst}
 use Rattle.guest_types.specs.Memory.{Memory}
+use Rattle.kernel_meaning.specs.Ends.{BlockEnd}
 use Rattle.kernel_meaning.specs.Eval.{Names}
 use Rattle.kernel_meaning.specs.Iterate as iteration
-use Rattle.kernel_meaning.specs.Iterate.{Turn, iterate}
+use Rattle.kernel_meaning.specs.Iterate.{iterate}
 use Rattle.kernel_tree.specs.Typing.{var_scope}
 use Rattle.chunk_order.specs.Orders.{Lane, Effect, Halts, Keeps, Writes}
 use Rattle.chunk_order.specs.Regions.{AllQuiet}
 use Rattle.loop_form.specs.LoopItems.{Op, Load, Apply, Combine, Move, Cast, Copy, Pick, Store, Add, Test, Invert, Same, Any, Quit, Item, loop_items}
 use Rattle.vector_order.specs.Items.{item_act, acts_of}
 use Rattle.vector_order.specs.Fates.{ByBreak, ByFault, cause_of, Fate, Ended, effect_on, fate, SameEnd}
-use Rattle.vector_order.proofs.Whole.{turn_is_fate}
+use Rattle.vector_order.proofs.OrderLaw.{turn_is_fate}
 use Rattle.first_fault.specs.Region.{Way, On, Broke, Fell, halted, way_of, way_on, region_way}
 use Rattle.first_fault.specs.Split.{region_of, rest_of}
-use Rattle.first_fault.specs.Turns.{IsTurn, WayIsTurn}
+use Rattle.first_fault.specs.IterationWays.{IsTurn, WayIsTurn}
 use Rattle.first_fault.proofs.Splits.{region_splits}
 
 -- how an iteration ends by how it fares in the region, and then in the rest
@@ -48,7 +49,7 @@ fate_is names (it ∷ items) rest j m l quiet = by (item_act names it j m l) ref
     by Halts is ih = halted_ends it.op (region_way names items j m) m (fate names rest j m)
     by (Writes a k v) is ih = absurd (quiet.0.never j m l a k v is)
 
-as_turn : (w : Way) (m : Memory) (f : Lane → Fate) (turn : Turn) → SameEnd turn (fate_after w m f) → IsTurn w m turn
+as_turn : (w : Way) (m : Memory) (f : Lane → Fate) (turn : BlockEnd Names) → SameEnd turn (fate_after w m f) → IsTurn w m turn
 as_turn (On l) m f turn h = tt
 as_turn Broke m f (iteration.Next after names) h = h
 as_turn Broke m f (iteration.Broke after names) h = sym h

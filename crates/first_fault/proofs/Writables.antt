@@ -7,7 +7,7 @@ use Rattle.guest_types.specs.Length.{width_bits}
 use Rattle.kernel_tree.specs.declared.ops.Ty.{Ty}
 use Rattle.kernel_tree.specs.declared.ops.Ty.TheVariants as ty
 use Rattle.kernel_tree.specs.Wrap.{bits_of}
-use Rattle.kernel_tree.specs.Plain.{Turns, Program}
+use Rattle.kernel_tree.specs.Plain.{PlainLoop, Program}
 use Rattle.kernel_tree.specs.Typing.{check_fault}
 use Rattle.reg_assign.specs.declared.interval.RegClass.TheVariants.{Z, P}
 use Rattle.reg_assign.specs.Registers.{Assignment}
@@ -124,10 +124,10 @@ pub record LoopWritable (k : Program) : Type 0 where
   pub region : AreWritable (lane_width_of k) (region_of (loop_items_of k))
   pub rest : AreWritable (lane_width_of k) (rest_of (loop_items_of k))
 
-pub loop_writable : (k : Program) (a b : Assignment) → check_fault k ≡ None → class_of k ≡ Vector → ((l : Turns) → k.turns ≡ Some l → AsSpelled k l) → FitsKernel k Z a → FitsKernel k P b → LoopWritable k
+pub loop_writable : (k : Program) (a b : Assignment) → check_fault k ≡ None → class_of k ≡ Vector → ((l : PlainLoop) → k.turns ≡ Some l → AsSpelled k l) → FitsKernel k Z a → FitsKernel k P b → LoopWritable k
 loop_writable k a b sound vector spelled fit_z fit_p = by k.turns refl
   where
-    by : (o : Option Turns) → k.turns ≡ o → LoopWritable k
+    by : (o : Option PlainLoop) → k.turns ≡ o → LoopWritable k
     by None e = record { region = rw e tt; rest = rw e tt }
     by (Some l) e =
         let f : Setting = plain_setting k in

@@ -5,7 +5,7 @@ pub mod Prefix
 pub mod RegionRuns
 pub mod Rest
 pub mod Split
-pub mod Turns
+pub mod IterationWays
 pub mod KernelFits
 pub mod View
 pub mod SplitBreaks

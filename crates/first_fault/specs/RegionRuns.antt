@@ -10,7 +10,7 @@ use Rattle.loop_form.specs.LoopItems.{Item}
 use Rattle.chunk_emit.specs.Registers.{Layout}
 use Rattle.chunk_emit.specs.ChunkCode.{puts}
 use Rattle.chunk_emit.specs.Chunk.{Setting, Holds}
-use Rattle.chunk_emit.specs.Fits.{Assigned, behind_items}
+use Rattle.chunk_emit.specs.Fits.{Assigned, following_items}
 use Rattle.first_fault.specs.Region.{Way, On, Broke, Fell, region_way}
 use Rattle.first_fault.specs.RegionCode.{Mode, Early, Single, exits_words, single_words}
 use Rattle.first_fault.specs.Fits.{FitsRegion}
@@ -34,10 +34,10 @@ pub data Cuts (mode : Mode) (l : Layout) (f : Setting) (d : Laid) (a : State) (n
 abbrev pub ExitsRun : Type 0
 ExitsRun =
     (l : Layout) (f : Setting) (d : Laid) (rest : List Entry) (items : List Item) (p : ℕ) (t : Lanes) (s : State) → Assigned l → FitsRegion l f p items → Holds l f p t s
-    → Cuts Early l f d s f.n (behind_items p items) (length (exits_words f.w l items)) t.lane (puts (exits_words f.w l items) rest) s rest (λ j. region_way f.names items j t.memory)
+    → Cuts Early l f d s f.n (following_items p items) (length (exits_words f.w l items)) t.lane (puts (exits_words f.w l items) rest) s rest (λ j. region_way f.names items j t.memory)
 
 -- The region over one lane.
 abbrev pub SingleRuns : Type 0
 SingleRuns =
     (l : Layout) (f : Setting) (d : Laid) (rest : List Entry) (items : List Item) (p : ℕ) (t : Lanes) (s : State) → Assigned l → FitsRegion l f p items → Holds l f p t s → f.n ≤ 1
-    → Cuts Single l f d s f.n (behind_items p items) (length (single_words f.w l items)) t.lane (puts (single_words f.w l items) rest) s rest (λ j. region_way f.names items j t.memory)
+    → Cuts Single l f d s f.n (following_items p items) (length (single_words f.w l items)) t.lane (puts (single_words f.w l items) rest) s rest (λ j. region_way f.names items j t.memory)

@@ -1,7 +1,7 @@
 -- The items of a loop up to its last break, and the rest of them.
 use Rattle.std.specs.Prelude.{◌≡◌, Bool, true, false, List, [], ◌∷◌, ◌++◌, Some, if◌then◌else◌}
 use Rattle.std.specs.List.{list_any}
-use Rattle.kernel_tree.specs.Plain.{Turns, Program}
+use Rattle.kernel_tree.specs.Plain.{PlainLoop, Program}
 use Rattle.kernel_meaning.specs.Eval.{Names}
 use Rattle.dependence.specs.Classes.{class_of}
 use Rattle.dependence.specs.declared.reason.Class.TheVariants.{Vector}
@@ -43,4 +43,4 @@ pub record Split (items : List Item) : Type 0 where
   pub quiet : (names : Names) → AllQuiet (acts_of names (region_of items))
 
 abbrev pub RegionSplits : Type 0
-RegionSplits = (k : Program) (l : Turns) → k.turns ≡ Some l → class_of k ≡ Vector → Split (loop_items k l)
+RegionSplits = (k : Program) (l : PlainLoop) → k.turns ≡ Some l → class_of k ≡ Vector → Split (loop_items k l)

@@ -14,7 +14,7 @@ ghost use Rattle.first_fault.specs.RegionRuns.{ExitsRun, SingleRuns};
 ghost use Rattle.first_fault.specs.Rest.{AlwaysFew, RestHolds, WayIsRun};
 ghost use Rattle.first_fault.specs.Split.{RegionSplits};
 ghost use Rattle.first_fault.specs.SplitRuns.{SplitExitsRun, SplitSingleRuns};
-ghost use Rattle.first_fault.specs.Turns.{WayIsTurn};
+ghost use Rattle.first_fault.specs.IterationWays.{WayIsTurn};
 
 pub use emit::{emit_exits, emit_single};
 pub use laws::writable_items;

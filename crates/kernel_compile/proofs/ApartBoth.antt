@@ -9,7 +9,7 @@ use Rattle.kernel_tree.specs.declared.ops.Ty.{Ty}
 use Rattle.kernel_tree.specs.declared.ops.Ty.TheVariants as ty
 use Rattle.kernel_tree.specs.declared.ast.Shape.{Shape}
 use Rattle.kernel_tree.specs.declared.ast.Shape.TheVariants as shape
-use Rattle.kernel_tree.specs.Plain.{Parameter, Turns, Program}
+use Rattle.kernel_tree.specs.Plain.{Parameter, PlainLoop, Program}
 use Rattle.kernel_meaning.specs.Eval.{byte_count}
 use Rattle.kernel_meaning.specs.ScalarRun.{given, argument, bound_of}
 use Rattle.loop_form.specs.declared.stream.Stream.{Stream}
@@ -281,7 +281,7 @@ module _ (k : Program) (args : List ℕ) where
         first_part false c e = absurd cc
 
 -- the loop's bound is a parameter, with its argument as its value
-pub apart_both : (k : Program) (args : List ℕ) (l : Turns) → ((s : Stream) → In s (streams_of k) → IsTyped k.params s) → k.turns ≡ Some l → bound_of l (given k.params args) ≡ slice_index args (bound_place k) → by_use.Apart k args → Apart k args
+pub apart_both : (k : Program) (args : List ℕ) (l : PlainLoop) → ((s : Stream) → In s (streams_of k) → IsTyped k.params s) → k.turns ≡ Some l → bound_of l (given k.params args) ≡ slice_index args (bound_place k) → by_use.Apart k args → Apart k args
 apart_both k args l typed is bound h = subst (λ o. ApartBy k args o) (sym is) (by h)
   where
     by : by_use.Apart k args → ApartBy k args (Some l)

@@ -7,7 +7,7 @@ use Rattle.kernel_tree.specs.declared.ops.Ty.TheVariants as ty
 use Rattle.kernel_tree.specs.declared.fault.Found as fault
 use Rattle.kernel_tree.specs.declared.fault.Binding.{Binding}
 use Rattle.kernel_tree.specs.declared.fault.Binding.TheVariants as binding
-use Rattle.kernel_tree.specs.Plain.{Term, Literal, Variable, Element, Unary, Operation, Shift, Conversion, Choice, Comparison, Both, Either, Not, Action, Define, Put, Update, Choose, Leave, Block, Done, Then, Otherwise, Nothing, Else, Parameter, Accumulator, Turns, Program}
+use Rattle.kernel_tree.specs.Plain.{Term, Literal, Variable, Element, Unary, Operation, Shift, Conversion, Choice, Comparison, Both, Either, Not, Action, Define, Put, Update, Choose, Leave, Block, Done, Then, Otherwise, Nothing, Else, Parameter, Accumulator, PlainLoop, Program}
 use Rattle.kernel_tree.specs.Items.{stream_offset, loop_index, index_items}
 use Rattle.kernel_tree.specs.Typing.{Scope, Local, Role, Value, lookup, element_type, as_value, read_faults, typed_faults, kind_faults, target_faults, wanted, first, own, faults, inner_faults, index_faults, action_faults, block_faults, otherwise_faults, after_action, after_block, defined, left, in_loop, empty, after_params, after_vars, param_scope, var_scope, turns_faults, check_fault, declared, binding_of_shape}
 use Rattle.loop_form.specs.declared.stream.Stream.{Stream}
@@ -16,7 +16,7 @@ use Rattle.loop_form.specs.Streams.{place_of, access, access_of, stream_of, stre
 use Rattle.chunk_order.specs.Apart.{type_of_place}
 use Rattle.chunk_order.specs.Order.{In}
 use Rattle.chunk_order.proofs.Sites.{array_of, array_before, head_fits}
-use Rattle.chunk_order.proofs.Whole.{faultless}
+use Rattle.chunk_order.proofs.OrderLaw.{faultless}
 
 -- an array that the loop may name is a parameter
 abbrev Found : List Parameter → List Local → Type 0
@@ -142,10 +142,10 @@ module _ (k : Program) where
     otherwise_arrays Nothing s from f end q v h = tt
     otherwise_arrays (Else b) s from f end q v h = (tt, block_arrays b s _ _ q v h)
 
-  head_found : (l : Turns) → Found k.params (in_loop (var_scope k) l).visible
+  head_found : (l : PlainLoop) → Found k.params (in_loop (var_scope k) l).visible
   head_found l a t e = let r = head_fits k l a t e in (r.0, r.2, r.3)
 
-  turns_arrays : (from f : ℕ) (o : Option Turns) → (var_scope k).index ≡ loop_index k → turns_faults (var_scope k) from o ≡ [] → AreArrays k.params (turns_entries k f o)
+  turns_arrays : (from f : ℕ) (o : Option PlainLoop) → (var_scope k).index ≡ loop_index k → turns_faults (var_scope k) from o ≡ [] → AreArrays k.params (turns_entries k f o)
   turns_arrays from f None q h = tt
   turns_arrays from f (Some l) q h = (tt, block_arrays l.body (in_loop (var_scope k) l) _ _ q (head_found l) (nil-right _ _ (nil-right _ _ h)))
 

@@ -11,7 +11,7 @@ use Rattle.kernel_tree.specs.declared.ast.Shape.{Shape}
 use Rattle.kernel_tree.specs.declared.ast.Shape.TheVariants as shape
 use Rattle.kernel_tree.specs.declared.fault.Binding.{Binding}
 use Rattle.kernel_tree.specs.declared.fault.Binding.TheVariants as binding
-use Rattle.kernel_tree.specs.Plain.{Parameter, Accumulator, Turns, Program}
+use Rattle.kernel_tree.specs.Plain.{Parameter, Accumulator, PlainLoop, Program}
 use Rattle.kernel_tree.specs.Typing.{local, lookup, has_name, binding_of, binding_of_shape, mismatch, bound_faults, var_scope, check_fault}
 use Rattle.kernel_meaning.specs.Operators.{word}
 use Rattle.kernel_meaning.specs.Eval.{Names, is_named, value_of, value_at}
@@ -25,7 +25,7 @@ use Rattle.dependence.specs.Apart.{is_at, used_by, used_at, used_from, used_of, 
 use Rattle.chunk_order.specs.Items.{nth_value}
 use Rattle.chunk_order.specs.Apart.{type_of_place}
 use Rattle.chunk_order.proofs.Sites.{locals_of, accs_of, var_visible, started_names, started_bases, started_bound}
-use Rattle.chunk_order.proofs.Whole.{turns_faultless}
+use Rattle.chunk_order.proofs.OrderLaw.{turns_faultless}
 use Rattle.overlap_guard.specs.Meets.{BasesHeld}
 use Rattle.scalar_emit.specs.Layout.{Homes}
 use Rattle.scalar_emit.specs.Kernel.{param_homes, var_homes, kernel_homes}
@@ -152,12 +152,12 @@ bound_from n (p ∷ ps) vs args more x e = by (bytes_eq p.name x) refl e (bound_
         }
 
 -- What a loop's bound is: its argument, in the register of its place.
-pub record Bounded (R : ℕ → ℕ) (k : Program) (l : Turns) (args : List ℕ) (names : Names) (s : State) : Type 0 where
+pub record Bounded (R : ℕ → ℕ) (k : Program) (l : PlainLoop) (args : List ℕ) (names : Names) (s : State) : Type 0 where
   pub limit : bound_of l names ≡ slice_index args (bound_place k)
   pub first : bound_of l (given k.params args) ≡ slice_index args (bound_place k)
   pub held : x_at s (bound_place k) ≡ slice_index args (bound_place k)
 
-pub bounded : (R : ℕ → ℕ) (k : Program) (l : Turns) (args : List ℕ) (m : Memory) (names : Names) (s : State) → check_fault k ≡ None → k.turns ≡ Some l → All (λ arg. arg < 2 ^ 64) args → started k args m ≡ Some names → AreHeld (kernel_homes R k) names s → Bounded R k l args names s
+pub bounded : (R : ℕ → ℕ) (k : Program) (l : PlainLoop) (args : List ℕ) (m : Memory) (names : Names) (s : State) → check_fault k ≡ None → k.turns ≡ Some l → All (λ arg. arg < 2 ^ 64) args → started k args m ≡ Some names → AreHeld (kernel_homes R k) names s → Bounded R k l args names s
 bounded R k l args m names s sound is small start h =
     let front : bound_faults _ (lookup (var_scope k) l.bound) ≡ [] = nil_left _ _ (turns_faultless k l sound is) in
     let seen = bound_scalar _ (lookup (var_scope k) l.bound) front in

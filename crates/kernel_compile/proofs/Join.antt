@@ -6,7 +6,7 @@ use Rattle.machine_model.specs.Machine.{State}
 use Rattle.machine_model.specs.Run.{Outcome, run, free_start}
 use Rattle.machine_model.specs.Written.{file_of, code_base, image_of_words}
 use Rattle.machine_model.proofs.Files.{load-file_of}
-use Rattle.kernel_tree.specs.Plain.{Turns, Returned, Program}
+use Rattle.kernel_tree.specs.Plain.{PlainLoop, Returned, Program}
 use Rattle.kernel_tree.specs.Items.{size_of}
 use Rattle.kernel_tree.specs.Typing.{Scope, var_scope}
 use Rattle.kernel_meaning.specs.Eval.{Names}
@@ -17,7 +17,7 @@ use Rattle.label_fix.specs.Finished.{AreFit, StandAt, size, words_of}
 use Rattle.label_fix.specs.Stretches.{Goes, Resolves}
 use Rattle.label_fix.proofs.Steps.{stop_after, end_after}
 use Rattle.label_fix.proofs.Once.{Once, resolves_in}
-use Rattle.label_fix.proofs.Same.{runs_as_draft, words_length}
+use Rattle.label_fix.proofs.PlacedRuns.{runs_as_draft, words_length}
 use Rattle.scalar_emit.specs.Kernel.{begin_code, scalar_code, begin_labels}
 use Rattle.scalar_emit.specs.Runs.{HasArguments, BeginRuns, Comes, ends_so, faults_so, turns_from, run_from, IsWithin, ScalarRuns}
 use Rattle.scalar_emit.proofs.Placed.{whole_once}
@@ -56,11 +56,11 @@ comes_follow {D = D} {c = c} {s = s} {K = K} {F = F} k args vl steps le (faults_
 
 -- ---- from the first iteration on
 
-pub from_start : (s : Scope) (turns : Option Turns) (answer : Option Returned) (m : Memory) (names : Names) → turns_from s turns answer 0 m names ≡ run_turns s turns answer m names
+pub from_start : (s : Scope) (turns : Option PlainLoop) (answer : Option Returned) (m : Memory) (names : Names) → turns_from s turns answer 0 m names ≡ run_turns s turns answer m names
 from_start s None answer m names = refl
 from_start s (Some l) answer m names = let e : bound_of l names - 0 ≡ bound_of l names = omega arith in ap (λ n. finish s l answer (bound_of l names) (course s l n 0 m names)) e
 
-pub start_within : (turns : Option Turns) (names : Names) → IsWithin turns 0 names
+pub start_within : (turns : Option PlainLoop) (names : Names) → IsWithin turns 0 names
 start_within None names = refl
 start_within (Some l) names = omega arith
 
@@ -76,7 +76,7 @@ module _ (R : ℕ → ℕ) (k : Program) (begins : BeginRuns R k) (runs : Scalar
   -- Entries that are the code of a kernel, after a front, come to a file that does what the kernel says.
   pub compiled : (labels n : ℕ) (entries front : List Entry) (words : List ℕ) → entries ≡ front ++ scalar_code R k n [] → entries ≡ begin_code R k 0 (scalar_code R k n []) → Once entries → AreFit labels entries → size entries ≤ 65536 → words ≡ words_of entries → All (λ w. w < 2 ^ 32) words
       → FreeSlowFaithful k (file_of words)
-  compiled labels n entries front words behind begun_by placed fits few is small =
+  compiled labels n entries front words following begun_by placed fits few is small =
       let many : length words ≤ 65536 = omega (arith, ap length is, words_length entries) in
       record {
         image = image_of_words words;
@@ -90,7 +90,7 @@ module _ (R : ℕ → ℕ) (k : Program) (begins : BeginRuns R k) (runs : Scalar
             let stand : StandAt s0.memory D.base (words_of D.entries) = subst (λ ws. StandAt s0.memory code_base ws) is (subst (λ m. StandAt m code_base words) (sym st.memory) (words_stand words pages many small start.apart)) in
             let same : run steps 0 s0 ≡ draft_run D steps 0 code s0 = runs_as_draft D labels s0 fits few stand st.pc steps 0 ∙ ap (λ es. draft_run D steps 0 es s0) begun_by in
             let given : HasArguments args m s0 = record { few = start.few; words = start.words; sized = st.sized; held = st.given; memory = st.memory; good = start_memory words pages many start.memory start.apart } in
-            let c = code_comes D n args m s0 given (resolves_in D code [] begun_by placed) (resolves_in D (scalar_code R k n []) front behind placed) in
+            let c = code_comes D n args m s0 given (resolves_in D code [] begun_by placed) (resolves_in D (scalar_code R k n []) front following placed) in
             let b = begun (scalar_run k args m) in
             let enough : (32 + 8 * size_of k) * b + (72 + 16 * size_of k) ≤ steps = omega (arith, le) in
             let f = comes_follow k args vl steps enough c in
@@ -99,18 +99,18 @@ module _ (R : ℕ → ℕ) (k : Program) (begins : BeginRuns R k) (runs : Scalar
 
 -- what the two emitting calls leave in a draft
 pub record Emitted (R : ℕ → ℕ) (k : Program) (n : ℕ) (entries front : List Entry) : Type 0 where
-  pub behind : entries ≡ front ++ scalar_code R k n []
+  pub following : entries ≡ front ++ scalar_code R k n []
   pub begun_by : entries ≡ begin_code R k 0 (scalar_code R k n [])
   pub placed : Once entries
 
 pub emitted : (R : ℕ → ℕ) (k : Program) (l0 l1 : ℕ) (e0 e1 e2 : List Entry) → e0 ≡ [] → l0 ≡ 0 → l1 ≡ l0 + begin_labels k → ((rest : List Entry) → e1 ++ rest ≡ e0 ++ begin_code R k l0 rest) → ((rest : List Entry) → e2 ++ rest ≡ e1 ++ scalar_code R k l1 rest) → Emitted R k l1 e2 e1
 emitted R k l0 l1 e0 e1 e2 none first next begin scalar =
     let code = scalar_code R k l1 [] in
-    let behind : e2 ≡ e1 ++ code = sym (append-nil e2) ∙ scalar [] in
-    let begun_by : e2 ≡ begin_code R k 0 code = behind ∙ begin code ∙ ap (λ es. es ++ begin_code R k l0 code) none ∙ ap (λ l. begin_code R k l code) first in
+    let following : e2 ≡ e1 ++ code = sym (append-nil e2) ∙ scalar [] in
+    let begun_by : e2 ≡ begin_code R k 0 code = following ∙ begin code ∙ ap (λ es. es ++ begin_code R k l0 code) none ∙ ap (λ l. begin_code R k l code) first in
     let n : 0 + begin_labels k ≡ l1 = omega (arith, first, next) in
     record {
-      behind = behind;
+      following = following;
       begun_by = begun_by;
       placed = subst Once (sym begun_by) (subst (λ l. Once (begin_code R k 0 (scalar_code R k l []))) n (whole_once R k 0));
     }

@@ -20,7 +20,7 @@ use Rattle.machine_model.specs.Arithmetic.{holds, target}
 use Rattle.machine_model.specs.VectorEffects.{vector_act, after_load, after_early, after_store}
 use Rattle.machine_model.specs.OneStep.{step, does, do_word, reads_word}
 use Rattle.machine_model.specs.Run.{Outcome, End, Stop, Spent, go_on, run}
-use Rattle.label_fix.specs.DraftRun.{Entry, Put, Branch, Place, Laid, is_taken, effect, behind, address_of, walk, draft_run}
+use Rattle.label_fix.specs.DraftRun.{Entry, Put, Branch, Place, Laid, is_taken, effect, following, address_of, walk, draft_run}
 
 -- what is mapped after a step
 abbrev SameMap : Step → State → Type 0
@@ -255,8 +255,8 @@ run_map zero taken s a = refl
 run_map (suc n) taken s a = gone_map (step s) s (taken + 1) (run n (taken + 1)) a (step_map s) (λ t. run_map n (taken + 1) t a)
 
 module _ (d : Laid) (n taken : ℕ) (a : ℕ) (ih : (rest : List Entry) (s : State) → can_read (left_of (draft_run d n taken rest s)) a ≡ can_read s.memory a) where
-  branch_map : (b : Bool) (l : ℕ) (rest : List Entry) (s : State) → can_read (left_of (if b then draft_run d n taken (behind d l) (jump s (address_of d l)) else draft_run d n taken rest (next s))) a ≡ can_read s.memory a
-  branch_map true l rest s = ih (behind d l) (jump s (address_of d l))
+  branch_map : (b : Bool) (l : ℕ) (rest : List Entry) (s : State) → can_read (left_of (if b then draft_run d n taken (following d l) (jump s (address_of d l)) else draft_run d n taken rest (next s))) a ≡ can_read s.memory a
+  branch_map true l rest s = ih (following d l) (jump s (address_of d l))
   branch_map false l rest s = ih rest (next s)
 
   walk_map : (m before : ℕ) (rest : List Entry) (s : State) → can_read (left_of (walk d (draft_run d n taken) (run m before) taken rest s)) a ≡ can_read s.memory a

@@ -19,7 +19,7 @@ paced_after {d = d} {c = c} {e = e} {s = s} {t = t} {most = most} count scale un
     let a = mul-le-mul_left scale g.within in
     let b : scale * (n + 1) ≤ scale * g.count = mul-le-mul_left scale (let h : n + 1 ≤ g.count = omega arith in h) in
     omega (arith, some, a, b))
-    (λ (behind : g.count ≤ n).
+    (λ (following : g.count ≤ n).
     let j = n - g.count in
     let same : g.count + j ≡ n = omega arith in
     let q = p j (omega (arith, lt)) in

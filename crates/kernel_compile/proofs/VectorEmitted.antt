@@ -1,11 +1,11 @@
 -- What the emitting calls of a kernel with a vector part leave in a draft.
 use Rattle.std.proofs.Common.{◌≡◌, ℕ, ◌+◌, ◌*◌, ◌<◌, ◌≤◌, List, [], ◌∷◌, ◌++◌, length, append-nil, Option, Some, None, sym, ap, ◌∙◌, subst, arith}
-use Rattle.kernel_tree.specs.Plain.{Turns, Returned, Program}
+use Rattle.kernel_tree.specs.Plain.{PlainLoop, Returned, Program}
 use Rattle.kernel_tree.specs.Items.{size_of, loop_index}
 use Rattle.label_fix.specs.DraftRun.{Entry, Branch, Place, Always}
 use Rattle.label_fix.specs.Finished.{size}
 use Rattle.label_fix.proofs.Once.{Once}
-use Rattle.label_fix.proofs.Same.{size-append}
+use Rattle.label_fix.proofs.PlacedRuns.{size-append}
 use Rattle.reg_assign.specs.Registers.{Assignment}
 use Rattle.dependence.specs.Apart.{used_of}
 use Rattle.scalar_emit.specs.Kernel.{begin_code, begin_labels, scalar_code, scalar_labels, turns_labels}
@@ -42,7 +42,7 @@ pub record Emitted (R : ℕ → ℕ) (k : Program) (a b : Assignment) (vector sc
 some_label : (k : Program) → 1 ≤ scalar_labels k
 some_label k = by (loop_index k) k.turns k.answer
   where
-    by : (i : Option (List ℕ)) (l : Option Turns) (answer : Option Returned) → 1 ≤ turns_labels i l answer
+    by : (i : Option (List ℕ)) (l : Option PlainLoop) (answer : Option Returned) → 1 ≤ turns_labels i l answer
     by i None answer = omega arith
     by i (Some l) answer = omega arith
 

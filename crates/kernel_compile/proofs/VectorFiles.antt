@@ -17,7 +17,7 @@ use Rattle.label_fix.specs.DraftRun.{Entry, Laid, Place, draft_run}
 use Rattle.label_fix.specs.Cuts.{cuts}
 use Rattle.label_fix.specs.Finished.{AreFit, StandAt, size, words_of}
 use Rattle.label_fix.proofs.Once.{Once, resolves_in}
-use Rattle.label_fix.proofs.Same.{runs_as_draft, cuts_are_suppressed, words_length}
+use Rattle.label_fix.proofs.PlacedRuns.{runs_as_draft, cuts_are_suppressed, words_length}
 use Rattle.scalar_emit.specs.Kernel.{register_in}
 use Rattle.scalar_emit.specs.Runs.{HasArguments}
 use Rattle.kernel_compile.specs.Faithful.{Follows, FreeFaithful}
@@ -68,15 +68,15 @@ vector_file k a b c labels n1 n2 n3 entries words j w fits few is small =
           let same : run steps 0 s0 ≡ draft_run D steps 0 code s0 = runs_as_draft D labels s0 fits few stand st.pc steps 0 ∙ ap (λ es. draft_run D steps 0 es s0) w.all in
           let cut : cuts D steps code s0 ≤ suppressed steps s0 = subst (λ es. cuts D steps es s0 ≤ suppressed steps s0) w.all (cuts_are_suppressed D labels s0 fits few stand st.pc steps) in
           let given : HasArguments args m s0 = record { few = start.few; words = start.words; sized = st.sized; held = st.given; memory = st.memory; good = start_memory words pages many start.memory start.apart } in
-          let behind = resolves_in D _ w.before_guard w.guard w.placed in
+          let following = resolves_in D _ w.before_guard w.guard w.placed in
           let as_given = start_length words args pages vl stops in
           let r = scalar_run k args m in
           let f = code_follows k a b c j labels n1 n2 n3 D args m s0 (suppressed steps s0) steps
           (record {
             whole = resolves_in D code [] w.all w.placed;
             scalar = resolves_in D _ w.before_scalar w.scalar w.placed;
-            place = behind.0;
-            guard = behind.1;
+            place = following.0;
+            guard = following.1;
             vector = resolves_in D _ w.before_vector w.vector w.placed;
             fit = fits;
             fits = subst (AreFit labels) w.all fits;

@@ -26,7 +26,7 @@ use Rattle.dependence.specs.Bound.{is_apart, is_vector, at_once, free_bound}
 use Rattle.dependence.specs.Classes.{class_of}
 use Rattle.dependence.specs.declared.reason.Class.TheVariants.{Vector}
 use Rattle.dependence.proofs.Bounds.{tested}
-use Rattle.label_fix.specs.DraftRun.{Entry, Laid, Branch, Place, Always, behind, address_of, draft_run}
+use Rattle.label_fix.specs.DraftRun.{Entry, Laid, Branch, Place, Always, following, address_of, draft_run}
 use Rattle.label_fix.specs.Cuts.{cuts}
 use Rattle.label_fix.specs.Finished.{AreFit}
 use Rattle.label_fix.specs.Stretches.{Goes, Resolves}
@@ -152,7 +152,7 @@ scalar_part R k a b n1 n2 n3 = scalar_code R k n1 (Place 0 ∷ guard_part R k a 
 pub record IsLaid (R : ℕ → ℕ) (k : Program) (a b : Assignment) (labels n1 n2 n3 : ℕ) (D : Laid) : Type 0 where
   pub whole : Resolves D (whole_code R k a b n1 n2 n3)
   pub scalar : Resolves D (scalar_part R k a b n1 n2 n3)
-  pub place : behind D 0 ≡ guard_part R k a b n1 n2 n3
+  pub place : following D 0 ≡ guard_part R k a b n1 n2 n3
   pub guard : Resolves D (guard_part R k a b n1 n2 n3)
   pub vector : Resolves D (vector_part R k a b n1 n3)
   pub fit : AreFit labels D.entries
@@ -189,8 +189,8 @@ module _ (k : Program) (a b c : Assignment) (j : IsJoined k a b c) where
       let whole = whole_code R k a b n1 n2 n3 in
       let begin = j.begins D 1 (Branch Always 0 ∷ scalar_part R k a b n1 n2 n3) args m s given is.whole in
       let t : State = jump begin.end (address_of D 0) in
-      let taken : Goes D (Branch Always 0 ∷ scalar_part R k a b n1 n2 n3) begin.end (behind D 0) t 1 = taken_goes refl in
-      let there : Goes D whole s (behind D 0) t (41 + 8 * size_of k) = chain (41 + 8 * size_of k) (omega arith) begin.goes taken in
+      let taken : Goes D (Branch Always 0 ∷ scalar_part R k a b n1 n2 n3) begin.end (following D 0) t 1 = taken_goes refl in
+      let there : Goes D whole s (following D 0) t (41 + 8 * size_of k) = chain (41 + 8 * size_of k) (omega arith) begin.goes taken in
       record {
         names = begin.names;
         starts = begin.starts;
@@ -205,12 +205,12 @@ module _ (k : Program) (a b c : Assignment) (j : IsJoined k a b c) where
 
   -- to scalar code, where the arrays do not lie apart
   off_follows : (labels n1 n2 n3 : ℕ) (D : Laid) (args : List ℕ) (m : Memory) (s : State) (q steps : ℕ) → IsLaid (register_in c) k a b labels n1 n2 n3 D → (h : AtGuard (register_in c) k a b n1 n2 n3 D args m s) → (Apart k args → ⊥)
-      → Passes D (guard_part (register_in c) k a b n1 n2 n3) h.end (behind D n1) → free_bound k args s.vl (begun (scalar_run k args m)) q ≤ steps → Follows k args s.vl (scalar_run k args m) (draft_run D steps 0 (whole_code (register_in c) k a b n1 n2 n3) s)
+      → Passes D (guard_part (register_in c) k a b n1 n2 n3) h.end (following D n1) → free_bound k args s.vl (begun (scalar_run k args m)) q ≤ steps → Follows k args s.vl (scalar_run k args m) (draft_run D steps 0 (whole_code (register_in c) k a b n1 n2 n3) s)
   off_follows labels n1 n2 n3 D args m s q steps is h not pass le =
       let R = register_in c in
       let whole = whole_code R k a b n1 n2 n3 in
       let at = at_same R k 0 h.names m h.end pass.end (homes_low k c j.x j.few) pass.others pass.sized pass.memory h.at in
-      let there : Goes D whole s (behind D n1) pass.end (596 + 8 * size_of k) = chain (596 + 8 * size_of k) (omega arith) h.goes pass.goes in
+      let there : Goes D whole s (following D n1) pass.end (596 + 8 * size_of k) = chain (596 + 8 * size_of k) (omega arith) h.goes pass.goes in
       let entered = j.runs.entered D n1 (Place 0 ∷ guard_part R k a b n1 n2 n3) 0 h.names m pass.end is.scalar (start_within k.turns h.names) at in
       let comes : Comes D whole s (32 + 8 * size_of k) (628 + 16 * size_of k) 0 (scalar_run k args m) =
       subst (λ r. Comes D whole s (32 + 8 * size_of k) (628 + 16 * size_of k) 0 r) (same_run args m h.names h.starts) (comes_after (omega arith) there entered) in
@@ -239,7 +239,7 @@ module _ (k : Program) (a b c : Assignment) (j : IsJoined k a b c) where
       let run = j.vectors g c D n1 n3 [] m pass.end ground j.x kept.0 refl at (λ r low. refl) is.vector reaches in
       let entered = reaches 0 h.names m pass.end (start_within k.turns h.names) at in
       let same = same_run args m h.names h.starts in
-      let x : Entered g D whole part (behind D n1) s pass.end s.vl q steps m = record {
+      let x : Entered g D whole part (following D n1) s pass.end s.vl q steps m = record {
         is = ground;
         bound = bound.limit;
         lanes = all_lanes k args s.vl j.vector apart ∙ ap (λ n. lanes n (lane_width_of k)) (sym (pass.vl ∙ h.vl));
@@ -262,7 +262,7 @@ module _ (k : Program) (a b c : Assignment) (j : IsJoined k a b c) where
       let bound = bounded R k loop.0 args m h.names h.end j.sound loop.1 given.words h.starts h.at.held in
       by h (j.meets D args n1 n2 (vector_part R k a b n1 n3) h.end h.at.sized bound.held (bases_held R k args m h.names h.end given.words h.starts h.at.held) is.guard)
     where
-      by : (h : AtGuard (register_in c) k a b n1 n2 n3 D args m s) → Chooses D (guard_part (register_in c) k a b n1 n2 n3) h.end (vector_part (register_in c) k a b n1 n3) (behind D n1) (Apart k args)
+      by : (h : AtGuard (register_in c) k a b n1 n2 n3 D args m s) → Chooses D (guard_part (register_in c) k a b n1 n2 n3) h.end (vector_part (register_in c) k a b n1 n3) (following D n1) (Apart k args)
           → Follows k args s.vl (scalar_run k args m) (draft_run D steps 0 (whole_code (register_in c) k a b n1 n2 n3) s)
       by h (on_where apart pass) = on_follows labels n1 n2 n3 D args m s q steps is given state cut h apart pass le
       by h (off_where not pass) = off_follows labels n1 n2 n3 D args m s q steps is h not pass le

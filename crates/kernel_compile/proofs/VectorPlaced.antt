@@ -151,11 +151,11 @@ module _ (R : ℕ → ℕ) (k : Program) (a b : Assignment) (n1 n2 n3 : ℕ) (on
   guard_new : (l : ℕ) → l < n2 → Unplaced l (guard_code k n1 n2 (vector_code R k a b n1 n3 []))
   guard_new l lt = guard_unplaced k n1 n2 l (vector_code R k a b n1 n3 []) (λ h. absurd (omega (arith, h, lt))) (vector_new l (omega (arith, lt, later)))
 
-  behind_new : (l : ℕ) → 1 ≤ l → l < n2 → Unplaced l (Place 0 ∷ guard_code k n1 n2 (vector_code R k a b n1 n3 []))
-  behind_new l some lt = ((λ e. absurd (omega (arith, e, some))), guard_new l lt)
+  following_new : (l : ℕ) → 1 ≤ l → l < n2 → Unplaced l (Place 0 ∷ guard_code k n1 n2 (vector_code R k a b n1 n3 []))
+  following_new l some lt = ((λ e. absurd (omega (arith, e, some))), guard_new l lt)
 
-  behind_once : Once (Place 0 ∷ guard_code k n1 n2 (vector_code R k a b n1 n3 []))
-  behind_once = (
+  following_once : Once (Place 0 ∷ guard_code k n1 n2 (vector_code R k a b n1 n3 []))
+  following_once = (
     guard_new 0 (omega (arith, one, two)),
     guard_once k n1 n2 (vector_code R k a b n1 n3 []) (λ l lo hi. vector_new l (subst (λ m. l < m) (sym_of three) hi)) (vector_once R k a b n1 n3 [] tt tt tt),
   )
@@ -165,5 +165,5 @@ module _ (R : ℕ → ℕ) (k : Program) (a b : Assignment) (n1 n2 n3 : ℕ) (on
 
   pub whole_once : Once (whole_code R k a b n1 n2 n3)
   whole_once =
-      begin_once R k 1 _ (λ l lo hi. scalar_unplaced R k l n1 _ (λ h. absurd (omega (arith, h, hi, one))) (behind_new l lo (omega (arith, hi, one, two))))
-      (scalar_once R k n1 _ (λ l lo hi. behind_new l (omega (arith, lo, one)) (omega (arith, hi, two))) behind_once)
+      begin_once R k 1 _ (λ l lo hi. scalar_unplaced R k l n1 _ (λ h. absurd (omega (arith, h, hi, one))) (following_new l lo (omega (arith, hi, one, two))))
+      (scalar_once R k n1 _ (λ l lo hi. following_new l (omega (arith, lo, one)) (omega (arith, hi, two))) following_once)

@@ -4,7 +4,7 @@ use Rattle.kernel_tree.specs.declared.ast.Expr.{Expr}
 use Rattle.kernel_tree.specs.declared.ast.Stmt.{Stmt}
 use Rattle.kernel_tree.specs.declared.ast.Stmt.TheVariants as stmt
 use Rattle.kernel_tree.specs.Plain.{Choose, Nothing, Else, term_of, action_of, block_of}
-use Rattle.kernel_tree.proofs.Rows.{choose-is, choose_else-is}
+use Rattle.kernel_tree.proofs.StatementLists.{choose-is, choose_else-is}
 
 pub one_block : (s : Stmt) (c : Expr) (v : Vec Stmt Global) (o : Option (Vec Stmt Global)) (b : List Stmt) → s ≡ stmt.If c v o → o ≡ None → b ≡ v.items → action_of s ≡ Choose (term_of c) (block_of b) Nothing
 one_block s c v o b p q r = ap action_of (p ∙ ap (stmt.If c v) q) ∙ choose-is c v ∙ ap (λ (x : List Stmt). Choose (term_of c) (block_of x) Nothing) (sym r)

@@ -25,8 +25,8 @@ further s t u g h = record {
   inside = h.inside ∙ g.inside;
 }
 
-pub behind : (s t : Scope) → Grows s (left s t)
-behind s t = record { more = []; visible = sym (append-nil s.visible); index = refl; inside = refl }
+pub following : (s t : Scope) → Grows s (left s t)
+following s t = record { more = []; visible = sym (append-nil s.visible); index = refl; inside = refl }
 
 define : (s : Scope) (x : List ℕ) (o : Option Ty) → Grows s (defined s x o)
 define s x None = record { more = []; visible = sym (append-nil s.visible); index = refl; inside = refl }
@@ -37,7 +37,7 @@ mutual
   grows_by_action (Define x t e) s = define s x (first t (own s e))
   grows_by_action (Put a i e) s = stays s
   grows_by_action (Update x op e) s = stays s
-  grows_by_action (Choose c b d) s = behind s (after_otherwise (left s (after_block s b)) d)
+  grows_by_action (Choose c b d) s = following s (after_otherwise (left s (after_block s b)) d)
   grows_by_action (Leave c) s = stays s
 
   pub grows_by_block : (b : Block) (s : Scope) → Grows s (after_block s b)

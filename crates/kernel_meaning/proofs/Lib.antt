@@ -3,15 +3,15 @@ mod Walks
 mod Corners
 pub mod Example
 pub mod Residues
-pub mod Rows
+pub mod StepLists
 pub mod Growth
 pub mod Choices
 pub mod Steps
-pub mod Held
-pub mod Sames
-pub mod Turns
+pub mod HeldSlots
+pub mod ResolvedValues
+pub mod ResolvedStatements
 pub mod Courses
-pub mod Whole
-pub mod Turned
+pub mod LimitedRuns
+pub mod WalkSteps
 pub mod TypeRanges
 pub mod ExtendedForm

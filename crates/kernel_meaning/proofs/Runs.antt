@@ -7,7 +7,7 @@ use Rattle.kernel_tree.specs.declared.ops.BinaryOp.TheVariants as binary
 use Rattle.kernel_tree.specs.declared.ops.CompareOp.TheVariants as compare
 use Rattle.kernel_tree.specs.declared.ops.UpdateOp.TheVariants as update
 use Rattle.kernel_tree.specs.declared.ast.Shape.TheVariants as shape
-use Rattle.kernel_tree.specs.Plain.{Term, Literal, Variable, Element, Operation, Conversion, Comparison, Either, Block, Define, Put, Update, Choose, Leave, Done, Then, Nothing, Parameter, Turns, Program}
+use Rattle.kernel_tree.specs.Plain.{Term, Literal, Variable, Element, Operation, Conversion, Comparison, Either, Block, Define, Put, Update, Choose, Leave, Done, Then, Nothing, Parameter, PlainLoop, Program}
 use Rattle.guest_types.specs.declared.memory.Perm.{Perm}
 use Rattle.guest_types.specs.declared.memory.Perm.TheVariants.{Read, ReadWrite}
 use Rattle.guest_types.specs.Memory.{Page, Memory, number_at}
@@ -43,7 +43,7 @@ array x t = record { name = x; shape = shape.Array t }
 abbrev scalar : List ℕ → Ty → Parameter
 scalar x t = record { name = x; shape = shape.Scalar t }
 
-abbrev looped : Block → Turns
+abbrev looped : Block → PlainLoop
 looped body = record { index = i; bound = n; body = body }
 
 -- a kernel with one loop

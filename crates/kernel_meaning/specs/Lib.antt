@@ -1,6 +1,7 @@
 pub mod Operators
 pub mod TypeValues
 pub mod Eval
+pub mod Ends
 pub mod Iterate
 pub mod ScalarRun
 pub mod Reaches

@@ -1,38 +1,39 @@
 -- A resolved kernel as plain data, and what it does with a memory and the values of its slots.
 use Rattle.std.specs.Prelude.{ℕ, zero, suc, ◌+◌, ◌-◌, pos, List, [], ◌∷◌, ◌++◌, map, length, replicate, Option, Some, None, option_map, nat_lt, min, slice_set, if◌then◌else◌, true}
 use Rattle.kernel_tree.specs.declared.fault.Binding.TheVariants as binding
-use Rattle.kernel_tree.specs.Plain.{Accumulator, Turns, Returned, Program}
+use Rattle.kernel_tree.specs.Plain.{Accumulator, PlainLoop, Returned, Program}
 use Rattle.kernel_tree.specs.Typing.{Scope, declared, in_loop, after_turns, param_scope, var_scope}
 use Rattle.guest_types.specs.Memory.{Memory}
+use Rattle.kernel_meaning.specs.Ends.{BlockEnd, Next, Broke, Faulted, LoopState, Going, Left, Failed, go_on}
 use Rattle.kernel_meaning.specs.Operators.{word}
 use Rattle.kernel_meaning.specs.Eval.{Names, value_of}
 use Rattle.kernel_meaning.specs.ScalarRun.{Run, End, Fault, ended}
 use Rattle.kernel_meaning.specs.Trees.{Tree, Set, Tasks, Done, Then, tree_of, tasks_of}
-use Rattle.kernel_meaning.specs.Slots.{Slots, Stand, Went, Quit, Stuck, slot_at, tree_value, do_tasks}
+use Rattle.kernel_meaning.specs.Slots.{Slots, slot_at, tree_value, do_tasks}
 use Rattle.kernel_meaning.specs.Resolve.{most_slots, slot_of, resolved, resolved_block}
-use Rattle.kernel_meaning.specs.declared.plan.Cycle.{Cycle}
+use Rattle.kernel_meaning.specs.declared.plan.ResolvedLoop.{ResolvedLoop}
 use Rattle.kernel_meaning.specs.declared.plan.Plan.{Plan}
 use Rattle.kernel_meaning.specs.declared.outcome.ScalarOutcome.{ScalarOutcome}
 use Rattle.kernel_meaning.specs.declared.outcome.ScalarOutcome.TheVariants as outcome
-use Rattle.kernel_meaning.specs.declared.progress.Progress.{Progress}
-use Rattle.kernel_meaning.specs.declared.progress.Progress.TheVariants as progress
+use Rattle.kernel_meaning.specs.declared.loop_state.LoopState.{LoopState as CodeState}
+use Rattle.kernel_meaning.specs.declared.loop_state.LoopState.TheVariants as code
 
 -- a loop: the slots of its bound and of its variable
-pub record Looped : Type 0 where
+pub record LoopPlan : Type 0 where
   pub bound : ℕ
   pub index : ℕ
   pub body : Tasks
 
 pub record Planned : Type 0 where
   pub start : Tasks
-  pub turns : Option Looped
+  pub turns : Option LoopPlan
   pub answer : Option Tree
 
-abbrev pub looped_of : Cycle → Looped
-looped_of c = record { bound = c.bound; index = c.index; body = tasks_of c.body.items }
+abbrev pub loop_plan_of : ResolvedLoop → LoopPlan
+loop_plan_of c = record { bound = c.bound; index = c.index; body = tasks_of c.body.items }
 
 abbrev pub planned_of : Plan → Planned
-planned_of p = record { start = tasks_of p.start.items; turns = option_map looped_of p.turns; answer = option_map tree_of p.answer }
+planned_of p = record { start = tasks_of p.start.items; turns = option_map loop_plan_of p.turns; answer = option_map tree_of p.answer }
 
 -- ---- kernels
 
@@ -41,13 +42,13 @@ resolved_vars scope [] = Done
 resolved_vars scope (v ∷ vs) = Then (Set (length scope.visible) (resolved scope (Some v.type) v.init)) (resolved_vars (declared scope v.name (binding.Accumulator v.type)) vs)
 
 -- the body of a loop whose variable is declared
-abbrev pub resolved_body : Scope → Turns → Tasks
+abbrev pub resolved_body : Scope → PlainLoop → Tasks
 resolved_body scope l = resolved_block (record scope { inside = true }) l.body
 
-abbrev pub resolved_loop : Scope → Turns → Looped
+abbrev pub resolved_loop : Scope → PlainLoop → LoopPlan
 resolved_loop scope l = record { bound = slot_of scope l.bound; index = length scope.visible; body = resolved_block (in_loop scope l) l.body }
 
-abbrev pub resolved_turns : Scope → Option Turns → Option Looped
+abbrev pub resolved_turns : Scope → Option PlainLoop → Option LoopPlan
 resolved_turns scope None = None
 resolved_turns scope (Some l) = Some (resolved_loop scope l)
 
@@ -68,30 +69,19 @@ planned k = record {
 abbrev pub filled : Names → Slots
 filled names = map value_of names ++ replicate (most_slots - length names) (pos 0)
 
--- how a loop stands
-pub data Course : Type 0 where
-  Goes : (memory : Memory) (slots : Slots) → Course
-  Leaves : (memory : Memory) (slots : Slots) (i : ℕ) → Course
-  Fails : (memory : Memory) (i : ℕ) → Course
-
-abbrev pub course_of : Progress → Memory → Slots → Course
-course_of progress.Going memory slots = Goes memory slots
-course_of (progress.Left at) memory slots = Leaves memory slots at.number
-course_of (progress.Failed at) memory slots = Fails memory at.number
-
-abbrev pub next_turn : Stand → ℕ → (Memory → Slots → Course) → Course
-next_turn (Went memory slots) i rest = rest memory slots
-next_turn (Quit memory slots) i rest = Leaves memory slots i
-next_turn (Stuck memory) i rest = Fails memory i
+abbrev pub loop_state_of : CodeState → Memory → Slots → LoopState Slots
+loop_state_of code.Going memory slots = Going memory slots
+loop_state_of (code.Left at) memory slots = Left memory slots at.number
+loop_state_of (code.Failed at) memory slots = Failed memory at.number
 
 -- iteration i
-abbrev pub turn : Looped → ℕ → Memory → Slots → Stand
+abbrev pub turn : LoopPlan → ℕ → Memory → Slots → BlockEnd Slots
 turn l i memory slots = do_tasks l.body memory (slice_set slots l.index (pos i))
 
 -- so many iterations, from iteration i on
-unfoldable pub slot_course : Looped → ℕ → ℕ → Memory → Slots → Course
-slot_course l zero i memory slots = Goes memory slots
-slot_course l (suc count) i memory slots = next_turn (turn l i memory slots) i (slot_course l count (i + 1))
+unfoldable pub slot_course : LoopPlan → ℕ → ℕ → Memory → Slots → LoopState Slots
+slot_course l zero i memory slots = Going memory slots
+slot_course l (suc count) i memory slots = go_on (turn l i memory slots) i (slot_course l count (i + 1))
 
 abbrev pub slot_answer : Option Tree → Memory → Slots → Option ℕ
 slot_answer None memory slots = Some 0
@@ -111,22 +101,22 @@ limited_of (outcome.Fault n) memory = Ended (Fault memory n)
 limited_of outcome.Spent memory = Cut memory
 
 -- the end of a loop of n iterations, of which at most `limit` are done
-abbrev pub slot_finish : Option Tree → ℕ → (n limit : ℕ) → Course → Limited
-slot_finish answer index n limit (Goes memory slots) = if nat_lt limit n then Cut memory else Ended (slot_closed answer index memory slots n n)
-slot_finish answer index n limit (Leaves memory slots i) = Ended (slot_closed answer index memory slots i (i + 1))
-slot_finish answer index n limit (Fails memory i) = Ended (Fault memory (i + 1))
+abbrev pub slot_finish : Option Tree → ℕ → (n limit : ℕ) → LoopState Slots → Limited
+slot_finish answer index n limit (Going memory slots) = if nat_lt limit n then Cut memory else Ended (slot_closed answer index memory slots n n)
+slot_finish answer index n limit (Left memory slots i) = Ended (slot_closed answer index memory slots i (i + 1))
+slot_finish answer index n limit (Failed memory i) = Ended (Fault memory (i + 1))
 
-abbrev pub slot_loop : Option Tree → Looped → ℕ → ℕ → Memory → Slots → Limited
+abbrev pub slot_loop : Option Tree → LoopPlan → ℕ → ℕ → Memory → Slots → Limited
 slot_loop answer l limit n memory slots = slot_finish answer l.index n limit (slot_course l (min n limit) 0 memory slots)
 
-abbrev pub slot_turns : Option Tree → Option Looped → ℕ → Memory → Slots → Limited
+abbrev pub slot_turns : Option Tree → Option LoopPlan → ℕ → Memory → Slots → Limited
 slot_turns answer None limit memory slots = Ended (ended memory 0 (slot_answer answer memory slots))
 slot_turns answer (Some l) limit memory slots = slot_loop answer l limit (word (slot_at slots l.bound)) memory slots
 
-abbrev pub slot_begun : Planned → ℕ → Stand → Limited
-slot_begun p limit (Went memory slots) = slot_turns p.answer p.turns limit memory slots
-slot_begun p limit (Quit memory slots) = Ended (Fault memory 0)
-slot_begun p limit (Stuck memory) = Ended (Fault memory 0)
+abbrev pub slot_begun : Planned → ℕ → BlockEnd Slots → Limited
+slot_begun p limit (Next memory slots) = slot_turns p.answer p.turns limit memory slots
+slot_begun p limit (Broke memory slots) = Ended (Fault memory 0)
+slot_begun p limit (Faulted memory) = Ended (Fault memory 0)
 
 abbrev pub slot_run : Planned → ℕ → Memory → Slots → Limited
 slot_run p limit memory slots = slot_begun p limit (do_tasks p.start memory slots)

@@ -1,7 +1,7 @@
 -- Which items of the listing the walk of one iteration comes to, where each condition item has a given truth value. No
 -- `break` ends this walk.
 use Rattle.std.specs.Prelude.{ℕ, ◌+◌, ◌-◌, ℤ, List, [], ◌∷◌, ◌++◌, length, replicate, slice_get, Option, Some, None, unwrap_or, Bool, true, false, not, ◌&&◌}
-use Rattle.kernel_tree.specs.Plain.{Term, Literal, Variable, Element, Unary, Operation, Shift, Conversion, Choice, Comparison, Both, Either, Not, Action, Define, Put, Update, Choose, Leave, Block, Done, Then, Otherwise, Nothing, Else, Turns, Program}
+use Rattle.kernel_tree.specs.Plain.{Term, Literal, Variable, Element, Unary, Operation, Shift, Conversion, Choice, Comparison, Both, Either, Not, Action, Define, Put, Update, Choose, Leave, Block, Done, Then, Otherwise, Nothing, Else, PlainLoop, Program}
 use Rattle.kernel_tree.specs.Items.{stream_offset, term_size, action_size, block_size, vars_size, answer_size, loop_index}
 
 -- the entry of an item in a list with one for each item
@@ -62,7 +62,7 @@ abbrev mutual
   otherwise_reached index truths from on inner (Else b) = on ∷ block_reached index truths (from + 1) inner b
 
 -- `for` is reached
-abbrev pub turns_reached : List Bool → ℕ → Option Turns → List Bool
+abbrev pub turns_reached : List Bool → ℕ → Option PlainLoop → List Bool
 turns_reached truths from None = []
 turns_reached truths from (Some l) = true ∷ block_reached (Some l.index) truths (from + 1) true l.body
 

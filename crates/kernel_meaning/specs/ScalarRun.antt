@@ -3,13 +3,14 @@ use Rattle.std.specs.Prelude.{ℕ, zero, suc, ◌+◌, ℤ, pos, List, [], ◌�
 use Rattle.kernel_tree.specs.declared.ast.Shape.{Shape}
 use Rattle.kernel_tree.specs.declared.ast.Shape.TheVariants as shape
 use Rattle.kernel_tree.specs.declared.fault.Binding.TheVariants as binding
-use Rattle.kernel_tree.specs.Plain.{Parameter, Accumulator, Turns, Returned, Program}
+use Rattle.kernel_tree.specs.Plain.{Parameter, Accumulator, PlainLoop, Returned, Program}
 use Rattle.kernel_tree.specs.Wrap.{wrap}
 use Rattle.kernel_tree.specs.Typing.{Scope, declared, after_turns, param_scope, var_scope}
 use Rattle.guest_types.specs.Memory.{Memory}
+use Rattle.kernel_meaning.specs.Ends.{BlockEnd, Next, Broke, Faulted, LoopState, Going, Left, Failed, go_on}
 use Rattle.kernel_meaning.specs.Operators.{word}
 use Rattle.kernel_meaning.specs.Eval.{Names, value_at, value}
-use Rattle.kernel_meaning.specs.Iterate.{Turn, Next, Broke, Faulted, named, with_name, iterate}
+use Rattle.kernel_meaning.specs.Iterate.{named, with_name, iterate}
 
 -- ---- parameters and accumulators
 
@@ -31,24 +32,13 @@ initial scope (v ∷ vs) memory names =
 
 -- ---- the loop
 
--- How a loop stands after some iterations: it goes on, iteration i broke out of it, or iteration i faulted.
-pub data Standing : Type 0 where
-  Going : (memory : Memory) (names : Names) → Standing
-  Left : (memory : Memory) (names : Names) (i : ℕ) → Standing
-  Failed : (memory : Memory) (i : ℕ) → Standing
-
-abbrev pub go_on : Turn → ℕ → (Memory → Names → Standing) → Standing
-go_on (Next memory names) i rest = rest memory names
-go_on (Broke memory names) i rest = Left memory names i
-go_on (Faulted memory) i rest = Failed memory i
-
 -- so many iterations, from iteration i on
-unfoldable pub course : Scope → Turns → ℕ → ℕ → Memory → Names → Standing
+unfoldable pub course : Scope → PlainLoop → ℕ → ℕ → Memory → Names → LoopState Names
 course scope l zero i memory names = Going memory names
 course scope l (suc count) i memory names = go_on (iterate scope l i memory names) i (course scope l count (i + 1))
 
 -- how often the loop is to run
-abbrev pub bound_of : Turns → Names → ℕ
+abbrev pub bound_of : PlainLoop → Names → ℕ
 bound_of l names = word (value_at names l.bound)
 
 -- ---- the whole run
@@ -72,17 +62,17 @@ ended memory n None = Fault memory n
 ended memory n (Some result) = End memory result n
 
 -- the end of a loop after `done` completed iterations
-abbrev pub closed : Scope → Turns → Option Returned → Memory → Names → (done begun : ℕ) → Run
+abbrev pub closed : Scope → PlainLoop → Option Returned → Memory → Names → (done begun : ℕ) → Run
 closed scope l answer memory names done n = ended memory n (returned (after_turns scope (Some l)) answer memory (with_name l.index names (pos done)))
 
 -- The end of a loop of n iterations. In the returned expression the loop variable is the number of completed iterations,
 -- and one that a `break` ended is not completed.
-abbrev pub finish : Scope → Turns → Option Returned → ℕ → Standing → Run
+abbrev pub finish : Scope → PlainLoop → Option Returned → ℕ → LoopState Names → Run
 finish scope l answer n (Going memory names) = closed scope l answer memory names n n
 finish scope l answer n (Left memory names i) = closed scope l answer memory names i (i + 1)
 finish scope l answer n (Failed memory i) = Fault memory (i + 1)
 
-abbrev pub run_turns : Scope → Option Turns → Option Returned → Memory → Names → Run
+abbrev pub run_turns : Scope → Option PlainLoop → Option Returned → Memory → Names → Run
 run_turns scope None answer memory names = ended memory 0 (returned scope answer memory names)
 run_turns scope (Some l) answer memory names = finish scope l answer (bound_of l names) (course scope l (bound_of l names) 0 memory names)
 
@@ -100,12 +90,12 @@ scalar_run k args memory = run_named k memory (started k args memory)
 
 -- ---- a part of a run
 
-abbrev pub memory_of : Standing → Memory
+abbrev pub memory_of : LoopState Names → Memory
 memory_of (Going memory names) = memory
 memory_of (Left memory names i) = memory
 memory_of (Failed memory i) = memory
 
-abbrev pub turns_leave : Scope → Option Turns → ℕ → Memory → Option Names → Memory
+abbrev pub turns_leave : Scope → Option PlainLoop → ℕ → Memory → Option Names → Memory
 turns_leave scope None count memory names = memory
 turns_leave scope (Some l) count memory None = memory
 turns_leave scope (Some l) count memory (Some names) = memory_of (course scope l count 0 memory names)

@@ -4,11 +4,12 @@ use Rattle.kernel_tree.specs.declared.ops.Ty.{Ty}
 use Rattle.guest_types.specs.declared.memory.AccessFault.{AccessFault}
 use Rattle.guest_types.specs.Memory.{Memory, stored}
 use Rattle.kernel_tree.specs.Wrap.{wrap}
+use Rattle.kernel_meaning.specs.Ends.{BlockEnd, Next, Broke, Faulted}
 use Rattle.kernel_meaning.specs.Operators.{word, unary_value, binary_value, shift_value, compare_on}
 use Rattle.kernel_meaning.specs.Eval.{read_element, on_both, chosen, and_then, or_else, address, byte_count}
 use Rattle.kernel_meaning.specs.Trees.{Tree, Constant, Slot, Element, Unary, Binary, Shift, Cast, Select, Compare, And, Or, Not, Task, Set, Store, If, Break, Tasks, Done, Then}
-use Rattle.kernel_meaning.specs.declared.turn.Turn.{Turn}
-use Rattle.kernel_meaning.specs.declared.turn.Turn.TheVariants as turn
+use Rattle.kernel_meaning.specs.declared.block_end.BlockEnd.{BlockEnd as CodeEnd}
+use Rattle.kernel_meaning.specs.declared.block_end.BlockEnd.TheVariants as code
 
 abbrev pub Slots : Type 0
 Slots = List ℤ
@@ -46,54 +47,48 @@ abbrev mutual
   tree_holds (Cast t e) memory slots = Some false
   tree_holds (Select c a b) memory slots = Some false
 
--- how tasks end
-pub data Stand : Type 0 where
-  Went : (memory : Memory) (slots : Slots) → Stand
-  Quit : (memory : Memory) (slots : Slots) → Stand
-  Stuck : (memory : Memory) → Stand
-
 -- the code's answer with the memory and the slots that it leaves
-abbrev pub stand_of : Turn → Memory → Slots → Stand
-stand_of turn.Next memory slots = Went memory slots
-stand_of turn.Broke memory slots = Quit memory slots
-stand_of turn.Faulted memory slots = Stuck memory
+abbrev pub block_end_of : CodeEnd → Memory → Slots → BlockEnd Slots
+block_end_of code.Next memory slots = Next memory slots
+block_end_of code.Broke memory slots = Broke memory slots
+block_end_of code.Faulted memory slots = Faulted memory
 
-abbrev pub set_slot : ℕ → Memory → Slots → Option ℤ → Stand
-set_slot n memory slots None = Stuck memory
-set_slot n memory slots (Some v) = Went memory (slice_set slots n v)
+abbrev pub set_slot : ℕ → Memory → Slots → Option ℤ → BlockEnd Slots
+set_slot n memory slots None = Faulted memory
+set_slot n memory slots (Some v) = Next memory (slice_set slots n v)
 
-abbrev pub write : Memory → Slots → Result Memory AccessFault → Stand
-write memory slots (Ok after) = Went after slots
-write memory slots (Err fault) = Stuck memory
+abbrev pub write : Memory → Slots → Result Memory AccessFault → BlockEnd Slots
+write memory slots (Ok after) = Next after slots
+write memory slots (Err fault) = Faulted memory
 
-abbrev pub store : Option Ty → ℤ → Memory → Slots → Option ℤ → Option ℤ → Stand
-store None base memory slots v x = Went memory slots
-store (Some t) base memory slots None x = Stuck memory
-store (Some t) base memory slots (Some v) None = Stuck memory
+abbrev pub store : Option Ty → ℤ → Memory → Slots → Option ℤ → Option ℤ → BlockEnd Slots
+store None base memory slots v x = Next memory slots
+store (Some t) base memory slots None x = Faulted memory
+store (Some t) base memory slots (Some v) None = Faulted memory
 store (Some t) base memory slots (Some v) (Some x) = write memory slots (stored memory (address t base x) (byte_count t) (word v))
 
-abbrev pub branch : Memory → Option Bool → Stand → Stand → Stand
-branch memory None one other = Stuck memory
+abbrev pub branch : Memory → Option Bool → BlockEnd Slots → BlockEnd Slots → BlockEnd Slots
+branch memory None one other = Faulted memory
 branch memory (Some true) one other = one
 branch memory (Some false) one other = other
 
-abbrev pub quit : Memory → Slots → Option Bool → Stand
-quit memory slots None = Stuck memory
-quit memory slots (Some true) = Quit memory slots
-quit memory slots (Some false) = Went memory slots
+abbrev pub quit : Memory → Slots → Option Bool → BlockEnd Slots
+quit memory slots None = Faulted memory
+quit memory slots (Some true) = Broke memory slots
+quit memory slots (Some false) = Next memory slots
 
-abbrev pub then_go : Stand → (Memory → Slots → Stand) → Stand
-then_go (Went memory slots) rest = rest memory slots
-then_go (Quit memory slots) rest = Quit memory slots
-then_go (Stuck memory) rest = Stuck memory
+abbrev pub then_go : BlockEnd Slots → (Memory → Slots → BlockEnd Slots) → BlockEnd Slots
+then_go (Next memory slots) rest = rest memory slots
+then_go (Broke memory slots) rest = Broke memory slots
+then_go (Faulted memory) rest = Faulted memory
 
 abbrev mutual
-  pub do_task : Task → Memory → Slots → Stand
+  pub do_task : Task → Memory → Slots → BlockEnd Slots
   do_task (Set n e) memory slots = set_slot n memory slots (tree_value e memory slots)
   do_task (Store base t i e) memory slots = store t (slot_at slots base) memory slots (tree_value e memory slots) (tree_value i memory slots)
   do_task (If c one other) memory slots = branch memory (tree_holds c memory slots) (do_tasks one memory slots) (do_tasks other memory slots)
   do_task (Break c) memory slots = quit memory slots (tree_holds c memory slots)
 
-  pub do_tasks : Tasks → Memory → Slots → Stand
-  do_tasks Done memory slots = Went memory slots
+  pub do_tasks : Tasks → Memory → Slots → BlockEnd Slots
+  do_tasks Done memory slots = Next memory slots
   do_tasks (Then t rest) memory slots = then_go (do_task t memory slots) (do_tasks rest)

@@ -2,9 +2,9 @@
 
 ghost use Rattle.std.specs.Prelude.{◌≡◌, ◌⊎◌, option_and_then};
 ghost use Rattle.kernel_meaning.specs.Eval as eval;
-ghost use Rattle.kernel_meaning.specs.Slots.{Slots, stand_of, store};
+ghost use Rattle.kernel_meaning.specs.Slots.{Slots, block_end_of, store};
 
-use crate::turn::Turn;
+use crate::block_end::BlockEnd;
 use crate::words::{word, wrap};
 use guest_types::guest::GuestMemory;
 use kernel_tree::Ty;
@@ -56,13 +56,13 @@ pub fn read<M: GuestMemory>(
 }
 
 // Replaces an element of an array.
-fn write_at<M: GuestMemory>(memory: &mut M, ty: Ty, base: i128, number: i128, value: i128) -> Turn
-    ensures { (slots : Slots) → stand_of result (M.memory memory.new) slots
+fn write_at<M: GuestMemory>(memory: &mut M, ty: Ty, base: i128, number: i128, value: i128) -> BlockEnd
+    ensures { (slots : Slots) → block_end_of result (M.memory memory.new) slots
         ≡ store (Some ty) base (M.memory memory.old) slots (Some value) (Some number) }
 {
     match memory.store(address(ty, base, number), byte_count(ty), word(value)) {
-        Ok(()) => Turn::Next,
-        Err(_) => Turn::Faulted,
+        Ok(()) => BlockEnd::Next,
+        Err(_) => BlockEnd::Faulted,
     }
 }
 
@@ -73,13 +73,13 @@ pub fn write<M: GuestMemory>(
     base: i128,
     number: Option<i128>,
     value: Option<i128>,
-) -> Turn
-    ensures { (slots : Slots) → stand_of result (M.memory memory.new) slots
+) -> BlockEnd
+    ensures { (slots : Slots) → block_end_of result (M.memory memory.new) slots
         ≡ store ty base (M.memory memory.old) slots value number }
 {
     match (ty, value, number) {
-        (None, _, _) => Turn::Next,
+        (None, _, _) => BlockEnd::Next,
         (Some(ty), Some(value), Some(number)) => write_at(memory, ty, base, number, value),
-        _ => Turn::Faulted,
+        _ => BlockEnd::Faulted,
     }
 }

@@ -11,7 +11,7 @@ ghost use Rattle.kernel_scope.specs.Scopes.{scope_of};
 
 use crate::names::slot;
 use crate::node::Node;
-use crate::plan::{Cycle, Plan};
+use crate::plan::{ResolvedLoop, Plan};
 use crate::resolve::resolve;
 use crate::statements::resolve_block;
 use crate::step::Step;
@@ -87,8 +87,8 @@ fn resolve_loop<'a>(
     scope: &mut Scope<'a>,
     turns: &'a Loop,
     answer: &Option<Answer>,
-) -> Result<(Cycle, Option<Node>), AllocError>
-    ensures cycle { IfOk result (λ p. plans.looped_of p.0
+) -> Result<(ResolvedLoop, Option<Node>), AllocError>
+    ensures cycle { IfOk result (λ p. plans.loop_plan_of p.0
         ≡ plans.resolved_loop (scope_of scope.old) (turns_of turns.now)) }
     ensures answer { IfOk result (λ p. option_map tree_of p.1
         ≡ plans.resolved_answer (typing.declared (scope_of scope.old) (name_of turns.now.index) binding.Index)
@@ -99,7 +99,7 @@ fn resolve_loop<'a>(
     declare(scope, &turns.index, Binding::Index)?;
     let answer = resolve_answer(alloc, scope, answer)?;
     let body = resolve_body(alloc, scope, turns)?;
-    Ok((Cycle { bound, index, body }, answer))
+    Ok((ResolvedLoop { bound, index, body }, answer))
 }
 
 /// A kernel with its names and types resolved.

@@ -3,44 +3,44 @@
 ghost use Rattle.std.specs.Prelude.{◌≡◌};
 ghost use Rattle.kernel_meaning.specs.Trees.{task_of, tasks_of};
 ghost use Rattle.kernel_meaning.specs.Slots as meaning;
-ghost use Rattle.kernel_meaning.specs.Slots.{stand_of};
+ghost use Rattle.kernel_meaning.specs.Slots.{block_end_of};
 ghost use Rattle.guest_types.specs.Memory.{Memory};
 
 use crate::element::write;
 use crate::node::Node;
 use crate::step::Step;
-use crate::turn::Turn;
+use crate::block_end::BlockEnd;
 use crate::value::{holds, slot_at, value};
 use guest_types::guest::GuestMemory;
 
-fn set_slot(slots: &mut [i128], slot: usize, value: Option<i128>) -> Turn
-    ensures { (memory : Memory) → stand_of result memory slots.new ≡ meaning.set_slot slot memory slots.old value }
+fn set_slot(slots: &mut [i128], slot: usize, value: Option<i128>) -> BlockEnd
+    ensures { (memory : Memory) → block_end_of result memory slots.new ≡ meaning.set_slot slot memory slots.old value }
 {
     match value {
-        None => Turn::Faulted,
+        None => BlockEnd::Faulted,
         Some(value) => {
             if slot < slots.len() {
                 slots[slot] = value;
             }
-            Turn::Next
+            BlockEnd::Next
         }
     }
 }
 
-fn leave(cond: Option<bool>) -> Turn
+fn leave(cond: Option<bool>) -> BlockEnd
     ensures { (memory : Memory) (slots : meaning.Slots)
-        → stand_of result memory slots ≡ meaning.quit memory slots cond }
+        → block_end_of result memory slots ≡ meaning.quit memory slots cond }
 {
     match cond {
-        None => Turn::Faulted,
-        Some(true) => Turn::Broke,
-        Some(false) => Turn::Next,
+        None => BlockEnd::Faulted,
+        Some(true) => BlockEnd::Broke,
+        Some(false) => BlockEnd::Next,
     }
 }
 
 #[cycle(steps)]
-fn perform_step<M: GuestMemory>(step: &Step, memory: &mut M, slots: &mut [i128]) -> Turn
-    ensures { stand_of result (M.memory memory.new) slots.new
+fn perform_step<M: GuestMemory>(step: &Step, memory: &mut M, slots: &mut [i128]) -> BlockEnd
+    ensures { block_end_of result (M.memory memory.new) slots.new
         ≡ meaning.do_task (task_of step.now) (M.memory memory.old) slots.old }
 {
     match step {
@@ -59,7 +59,7 @@ fn perform_step<M: GuestMemory>(step: &Step, memory: &mut M, slots: &mut [i128])
             write(memory, *ty, slot_at(slots, *base), at, found)
         }
         Step::If { cond, yes, no } => match holds(cond, &*memory, &*slots) {
-            None => Turn::Faulted,
+            None => BlockEnd::Faulted,
             Some(true) => perform(yes, memory, slots),
             Some(false) => perform(no, memory, slots),
         },
@@ -69,16 +69,16 @@ fn perform_step<M: GuestMemory>(step: &Step, memory: &mut M, slots: &mut [i128])
 
 /// Does statements in order.
 #[cycle(steps)]
-pub fn perform<M: GuestMemory>(steps: &[Step], memory: &mut M, slots: &mut [i128]) -> Turn
-    ensures { stand_of result (M.memory memory.new) slots.new
+pub fn perform<M: GuestMemory>(steps: &[Step], memory: &mut M, slots: &mut [i128]) -> BlockEnd
+    ensures { block_end_of result (M.memory memory.new) slots.new
         ≡ meaning.do_tasks (tasks_of steps.now) (M.memory memory.old) slots.old }
 {
     for step in steps {
         match perform_step(step, memory, slots) {
-            Turn::Next => {}
-            Turn::Broke => return Turn::Broke,
-            Turn::Faulted => return Turn::Faulted,
+            BlockEnd::Next => {}
+            BlockEnd::Broke => return BlockEnd::Broke,
+            BlockEnd::Faulted => return BlockEnd::Faulted,
         }
     }
-    Turn::Next
+    BlockEnd::Next
 }

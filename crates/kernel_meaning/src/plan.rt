@@ -5,7 +5,7 @@ use crate::step::Step;
 
 /// A resolved loop.
 #[derive(Drop)]
-pub struct Cycle {
+pub struct ResolvedLoop {
     /// The slot of the loop's bound.
     pub bound: usize,
     /// The slot of the loop's variable.
@@ -18,6 +18,6 @@ pub struct Cycle {
 pub struct Plan {
     /// What sets the accumulators.
     pub start: Vec<Step>,
-    pub turns: Option<Cycle>,
+    pub turns: Option<ResolvedLoop>,
     pub answer: Option<Node>,
 }

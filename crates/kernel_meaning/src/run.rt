@@ -5,17 +5,17 @@ ghost use Rattle.guest_types.specs.Memory.{Memory};
 ghost use Rattle.kernel_meaning.specs.Operators as operators;
 ghost use Rattle.kernel_meaning.specs.ScalarRun as running;
 ghost use Rattle.kernel_meaning.specs.Trees.{tree_of};
-ghost use Rattle.kernel_meaning.specs.Slots.{stand_of};
+ghost use Rattle.kernel_meaning.specs.Slots.{block_end_of};
 ghost use Rattle.kernel_meaning.specs.Slots as slots_of;
 ghost use Rattle.kernel_meaning.specs.Plans as plans;
-ghost use Rattle.kernel_meaning.specs.Plans.{limited_of, looped_of, planned_of, course_of};
+ghost use Rattle.kernel_meaning.specs.Plans.{limited_of, loop_plan_of, planned_of, loop_state_of};
 
 use crate::node::Node;
 use crate::outcome::ScalarOutcome;
 use crate::perform::perform;
-use crate::plan::{Cycle, Plan};
-use crate::progress::{At, Progress};
-use crate::turn::Turn;
+use crate::plan::{ResolvedLoop, Plan};
+use crate::loop_state::{At, LoopState};
+use crate::block_end::BlockEnd;
 use crate::value::{slot_at, value};
 use crate::words::word;
 use guest_types::guest::GuestMemory;
@@ -29,9 +29,9 @@ fn put(slots: &mut [i128], slot: usize, value: i128)
 }
 
 // One iteration.
-fn iterate<M: GuestMemory>(cycle: &Cycle, at: u64, memory: &mut M, slots: &mut [i128]) -> Turn
-    ensures { stand_of result (M.memory memory.new) slots.new
-        ≡ plans.turn (looped_of cycle.now) at (M.memory memory.old) slots.old }
+fn iterate<M: GuestMemory>(cycle: &ResolvedLoop, at: u64, memory: &mut M, slots: &mut [i128]) -> BlockEnd
+    ensures { block_end_of result (M.memory memory.new) slots.new
+        ≡ plans.turn (loop_plan_of cycle.now) at (M.memory memory.old) slots.old }
 {
     put(slots, cycle.index, at as i128);
     let turn = perform(&cycle.body, memory, slots);
@@ -39,18 +39,18 @@ fn iterate<M: GuestMemory>(cycle: &Cycle, at: u64, memory: &mut M, slots: &mut [
 }
 
 // So many iterations.
-fn follow<M: GuestMemory>(cycle: &Cycle, count: u64, memory: &mut M, slots: &mut [i128]) -> Progress
-    ensures { course_of result (M.memory memory.new) slots.new
-        ≡ plans.slot_course (looped_of cycle.now) count 0 (M.memory memory.old) slots.old }
+fn follow<M: GuestMemory>(cycle: &ResolvedLoop, count: u64, memory: &mut M, slots: &mut [i128]) -> LoopState
+    ensures { loop_state_of result (M.memory memory.new) slots.new
+        ≡ plans.slot_course (loop_plan_of cycle.now) count 0 (M.memory memory.old) slots.old }
 {
     for at in 0..count {
         match iterate(cycle, at, memory, slots) {
-            Turn::Next => {}
-            Turn::Broke => return Progress::Left(At { number: at }),
-            Turn::Faulted => return Progress::Failed(At { number: at }),
+            BlockEnd::Next => {}
+            BlockEnd::Broke => return LoopState::Left(At { number: at }),
+            BlockEnd::Faulted => return LoopState::Failed(At { number: at }),
         }
     }
-    Progress::Going
+    LoopState::Going
 }
 
 // The result, unless its expression faults.
@@ -97,42 +97,42 @@ fn close<M: GuestMemory>(
 
 // The end of a loop of `count` iterations, of which at most `limit` are done.
 fn finish<M: GuestMemory>(
-    cycle: &Cycle,
+    cycle: &ResolvedLoop,
     answer: &Option<Node>,
     count: u64,
     limit: u64,
-    progress: Progress,
+    progress: LoopState,
     memory: &M,
     slots: &mut [i128],
 ) -> ScalarOutcome
     ensures { limited_of result (M.memory memory.now)
         ≡ plans.slot_finish (option_map tree_of answer.now) cycle.now.index count limit
-        (course_of progress (M.memory memory.now) slots.old) }
+        (loop_state_of progress (M.memory memory.now) slots.old) }
 {
     match progress {
-        Progress::Going => {
+        LoopState::Going => {
             if limit < count {
                 ScalarOutcome::Spent
             } else {
                 close(answer, cycle.index, memory, slots, count, count)
             }
         }
-        Progress::Left(at) => close(answer, cycle.index, memory, slots, at.number, at.number + 1),
-        Progress::Failed(at) => ScalarOutcome::Fault {
+        LoopState::Left(at) => close(answer, cycle.index, memory, slots, at.number, at.number + 1),
+        LoopState::Failed(at) => ScalarOutcome::Fault {
             begun: at.number + 1,
         },
     }
 }
 
 fn run_loop<M: GuestMemory>(
-    cycle: &Cycle,
+    cycle: &ResolvedLoop,
     answer: &Option<Node>,
     limit: u64,
     memory: &mut M,
     slots: &mut [i128],
 ) -> ScalarOutcome
     ensures { limited_of result (M.memory memory.new)
-        ≡ plans.slot_loop (option_map tree_of answer.now) (looped_of cycle.now) limit
+        ≡ plans.slot_loop (option_map tree_of answer.now) (loop_plan_of cycle.now) limit
         (operators.word (slots_of.slot_at slots.old cycle.now.bound)) (M.memory memory.old) slots.old }
 {
     let count = word(slot_at(slots, cycle.bound));
@@ -167,8 +167,8 @@ pub fn run<M: GuestMemory>(
         ≡ plans.slot_run (planned_of plan.now) limit (M.memory memory.old) slots.old }
 {
     match perform(&plan.start, memory, slots) {
-        Turn::Next => run_turns(plan, limit, memory, slots),
-        Turn::Broke => ScalarOutcome::Fault { begun: 0 },
-        Turn::Faulted => ScalarOutcome::Fault { begun: 0 },
+        BlockEnd::Next => run_turns(plan, limit, memory, slots),
+        BlockEnd::Broke => ScalarOutcome::Fault { begun: 0 },
+        BlockEnd::Faulted => ScalarOutcome::Fault { begun: 0 },
     }
 }

@@ -7,25 +7,25 @@ use Rattle.kernel_tree.specs.declared.mark.Mark.TheVariants as mark
 use Rattle.kernel_tree.specs.Word.{Word, IsName, IsNumber, IsType, IsCompare, IsUpdate, IsMark}
 use Rattle.kernel_tree.specs.Plain.{Term, Action, Define, Put, Update, Choose, Leave, Block, Done, Then, Nothing, Else}
 use Rattle.kernel_tree.specs.Grammar.{Spells, SpellsType, untyped, typed, SpellsAction, define, put, update, choose, choose_else, leave, SpellsBlock, done, then, beginning_of_mark}
-use Rattle.kernel_syntax.specs.Reading.{◌>>=◌, given, behind, after, name_at, type_at, update_front, unary_at, chain_at}
+use Rattle.kernel_syntax.specs.Reading.{◌>>=◌, given, following, after, name_at, type_at, update_front, unary_at, chain_at}
 use Rattle.kernel_syntax.specs.Statements.{Statement, Statements, term_at, type_part, define_at, put_at, update_at, target_at, leave_at, choose_by, begun_by, statement_by, block_by, block_at}
-use Rattle.kernel_syntax.proofs.Sound.{bind_ok, ok_is, not_err, after-is, behind-is, name-is, type-is, update-is, reads_spells, before_spells}
+use Rattle.kernel_syntax.proofs.Sound.{bind_ok, ok_is, not_err, after-is, following-is, name-is, type-is, update-is, reads_spells, before_spells}
 
 -- an expression and the mark after it
 pub term_spells : (m : Mark) (words : List Word) (x : Term × List Word) → term_at m words ≡ Ok x → Spells 10 words x.0 (IsMark m ∷ x.1)
 unfolding term_at
 term_spells m words x q = before_spells (chain_at (unary_at (length words)) 10) (reads_spells (length words) 10) m words x q
 
-type_spells : (words : List Word) (x : Option Ty × List Word) (o : Option (List Word)) → behind mark.Colon words ≡ o → given {B = Result (Option Ty × List Word) ℕ} o (λ rest. type_at rest >>= (λ t. Ok (Some t.0, t.1))) (Ok (None, words)) ≡ Ok x → SpellsType words x.0 x.1
+type_spells : (words : List Word) (x : Option Ty × List Word) (o : Option (List Word)) → following mark.Colon words ≡ o → given {B = Result (Option Ty × List Word) ℕ} o (λ rest. type_at rest >>= (λ t. Ok (Some t.0, t.1))) (Ok (None, words)) ≡ Ok x → SpellsType words x.0 x.1
 type_spells words x None p q = subst (λ (x : Option Ty × List Word). SpellsType words x.0 x.1) (ok_is (None, words) x q) untyped
 type_spells words x (Some from) p q =
     let b = bind_ok (type_at from) (λ t. Ok (Some t.0, t.1)) x q in
-    let there : words ≡ IsMark mark.Colon ∷ IsType b.0.0 ∷ b.0.1 = behind-is mark.Colon words from p ∙ ap (λ (z : List Word). IsMark mark.Colon ∷ z) (type-is from b.0 b.1) in
+    let there : words ≡ IsMark mark.Colon ∷ IsType b.0.0 ∷ b.0.1 = following-is mark.Colon words from p ∙ ap (λ (z : List Word). IsMark mark.Colon ∷ z) (type-is from b.0 b.1) in
     subst (λ (x : Option Ty × List Word). SpellsType words x.0 x.1) (ok_is (Some b.0.0, b.0.1) x b.2) (subst (λ (z : List Word). SpellsType z (Some b.0.0) b.0.1) (sym there) typed)
 
 pub type_part_spells : (words : List Word) (x : Option Ty × List Word) → type_part words ≡ Ok x → SpellsType words x.0 x.1
 unfolding type_part
-type_part_spells words x q = type_spells words x (behind mark.Colon words) refl q
+type_part_spells words x q = type_spells words x (following mark.Colon words) refl q
 
 at_action : (whole : Bool) (words : List Word) (x y : Action × List Word) → x ≡ y → SpellsAction whole words x.0 x.1 → SpellsAction whole words y.0 y.1
 at_action whole words x y p h = subst (λ (x : Action × List Word). SpellsAction whole words x.0 x.1) p h
@@ -63,13 +63,13 @@ by_update : (whole : Bool) (x : List ℕ) (words : List Word) (y : Action × Lis
 by_update whole x words y None p q = absurd (not_err (length words) y q)
 by_update whole x words y (Some u) p q = from_action whole _ _ y (ap (λ (z : List Word). IsName x ∷ z) (update-is words u p)) (update_spells whole x u.0 u.1 y q)
 
-by_target : (whole : Bool) (x : List ℕ) (words : List Word) (y : Action × List Word) (o : Option (List Word)) → behind mark.OpenBracket words ≡ o → given {B = Statement} o (λ from. put_at x from) (given (update_front words) (λ u. update_at x u.0 u.1) (Err (length words))) ≡ Ok y → SpellsAction whole (IsName x ∷ words) y.0 y.1
+by_target : (whole : Bool) (x : List ℕ) (words : List Word) (y : Action × List Word) (o : Option (List Word)) → following mark.OpenBracket words ≡ o → given {B = Statement} o (λ from. put_at x from) (given (update_front words) (λ u. update_at x u.0 u.1) (Err (length words))) ≡ Ok y → SpellsAction whole (IsName x ∷ words) y.0 y.1
 by_target whole x words y None p q = by_update whole x words y (update_front words) refl q
-by_target whole x words y (Some from) p q = from_action whole _ _ y (ap (λ (z : List Word). IsName x ∷ z) (behind-is mark.OpenBracket words from p)) (put_spells whole x from y q)
+by_target whole x words y (Some from) p q = from_action whole _ _ y (ap (λ (z : List Word). IsName x ∷ z) (following-is mark.OpenBracket words from p)) (put_spells whole x from y q)
 
 target_spells : (whole : Bool) (x : List ℕ) (words : List Word) (y : Action × List Word) → target_at x words ≡ Ok y → SpellsAction whole (IsName x ∷ words) y.0 y.1
 unfolding target_at
-target_spells whole x words y q = by_target whole x words y (behind mark.OpenBracket words) refl q
+target_spells whole x words y q = by_target whole x words y (following mark.OpenBracket words) refl q
 
 leave_spells : (whole : Bool) (words : List Word) (y : Action × List Word) → leave_at whole words ≡ Ok y → SpellsAction whole (IsMark mark.Break ∷ words) y.0 y.1
 unfolding leave_at
@@ -84,20 +84,20 @@ abbrev pub SoundBlock : Bool → (List Word → Statements) → Type 0
 SoundBlock whole block = (words : List Word) (x : Block × List Word) → block words ≡ Ok x → SpellsBlock whole words x.0 x.1
 
 module _ (block : List Word → Statements) (sound : SoundBlock false block) (whole : Bool) where
-  else_spells : (words from : List Word) (c : Term) (b : Block) (next : List Word) (y : Action × List Word) → Spells 10 words c (IsMark mark.OpenBrace ∷ from) → SpellsBlock false from b next → (o : Option (List Word)) → behind mark.Else next ≡ o → given {B = Statement} o (λ rest. after mark.OpenBrace rest >>= (λ from. block from >>= (λ d. Ok (Choose c b (Else d.0), d.1)))) (Ok (Choose c b Nothing, next)) ≡ Ok y → SpellsAction whole (IsMark mark.If ∷ words) y.0 y.1
+  else_spells : (words from : List Word) (c : Term) (b : Block) (next : List Word) (y : Action × List Word) → Spells 10 words c (IsMark mark.OpenBrace ∷ from) → SpellsBlock false from b next → (o : Option (List Word)) → following mark.Else next ≡ o → given {B = Statement} o (λ rest. after mark.OpenBrace rest >>= (λ from. block from >>= (λ d. Ok (Choose c b (Else d.0), d.1)))) (Ok (Choose c b Nothing, next)) ≡ Ok y → SpellsAction whole (IsMark mark.If ∷ words) y.0 y.1
   else_spells words from c b next y hc hb None p q = at_action whole _ (Choose c b Nothing, next) y (ok_is (Choose c b Nothing, next) y q) (choose hc hb)
   else_spells words start c b next y hc hb (Some more) p q =
       let from = bind_ok (after mark.OpenBrace more) (λ from. block from >>= (λ d. Ok (Choose c b (Else d.0), d.1))) y q in
       let d = bind_ok (block from.0) (λ d. Ok (Choose c b (Else d.0), d.1)) y from.2 in
-      let there : next ≡ IsMark mark.Else ∷ IsMark mark.OpenBrace ∷ from.0 = behind-is mark.Else next more p ∙ ap (λ (z : List Word). IsMark mark.Else ∷ z) (after-is mark.OpenBrace more from.0 from.1) in
+      let there : next ≡ IsMark mark.Else ∷ IsMark mark.OpenBrace ∷ from.0 = following-is mark.Else next more p ∙ ap (λ (z : List Word). IsMark mark.Else ∷ z) (after-is mark.OpenBrace more from.0 from.1) in
       at_action whole _ (Choose c b (Else d.0.0), d.0.1) y (ok_is (Choose c b (Else d.0.0), d.0.1) y d.2) (choose_else hc (subst (λ (z : List Word). SpellsBlock false start b z) there hb) (sound from.0 d.0 d.1))
 
   choose_spells : (words : List Word) (y : Action × List Word) → choose_by block words ≡ Ok y → SpellsAction whole (IsMark mark.If ∷ words) y.0 y.1
   unfolding choose_by
   choose_spells words y q =
-      let c = bind_ok (term_at mark.OpenBrace words) (λ c. block c.1 >>= (λ b. given {B = Statement} (behind mark.Else b.1) (λ rest. after mark.OpenBrace rest >>= (λ from. block from >>= (λ d. Ok (Choose c.0 b.0 (Else d.0), d.1)))) (Ok (Choose c.0 b.0 Nothing, b.1)))) y q in
-      let b = bind_ok (block c.0.1) (λ b. given {B = Statement} (behind mark.Else b.1) (λ rest. after mark.OpenBrace rest >>= (λ from. block from >>= (λ d. Ok (Choose c.0.0 b.0 (Else d.0), d.1)))) (Ok (Choose c.0.0 b.0 Nothing, b.1))) y c.2 in
-      else_spells words c.0.1 c.0.0 b.0.0 b.0.1 y (term_spells mark.OpenBrace words c.0 c.1) (sound c.0.1 b.0 b.1) (behind mark.Else b.0.1) refl b.2
+      let c = bind_ok (term_at mark.OpenBrace words) (λ c. block c.1 >>= (λ b. given {B = Statement} (following mark.Else b.1) (λ rest. after mark.OpenBrace rest >>= (λ from. block from >>= (λ d. Ok (Choose c.0 b.0 (Else d.0), d.1)))) (Ok (Choose c.0 b.0 Nothing, b.1)))) y q in
+      let b = bind_ok (block c.0.1) (λ b. given {B = Statement} (following mark.Else b.1) (λ rest. after mark.OpenBrace rest >>= (λ from. block from >>= (λ d. Ok (Choose c.0.0 b.0 (Else d.0), d.1)))) (Ok (Choose c.0.0 b.0 Nothing, b.1))) y c.2 in
+      else_spells words c.0.1 c.0.0 b.0.0 b.0.1 y (term_spells mark.OpenBrace words c.0 c.1) (sound c.0.1 b.0 b.1) (following mark.Else b.0.1) refl b.2
 
   begun_spells : (m : Mark) (words : List Word) (y : Action × List Word) → begun_by whole block (beginning_of_mark m) words ≡ Ok y → SpellsAction whole (IsMark m ∷ words) y.0 y.1
   begun_spells mark.Let words y q = define_spells whole words y q
@@ -115,8 +115,8 @@ module _ (block : List Word → Statements) (sound : SoundBlock false block) (wh
   statement_spells (IsCompare op ∷ words) y q = absurd (not_err (suc (length words)) y q)
   statement_spells (IsUpdate op ∷ words) y q = absurd (not_err (suc (length words)) y q)
 
-  given_block : (k : ℕ) (words : List Word) (y : Block × List Word) → ((next : List Word) (z : Block × List Word) → block_by (statement_by whole block) k next ≡ Ok z → SpellsBlock whole next z.0 z.1) → (o : Option (List Word)) → behind mark.CloseBrace words ≡ o → given {B = Statements} o (λ rest. Ok (Done, rest)) (statement_by whole block words >>= (λ s. block_by (statement_by whole block) k s.1 >>= (λ b. Ok (Then s.0 b.0, b.1)))) ≡ Ok y → SpellsBlock whole words y.0 y.1
-  given_block k words y again (Some next) p q = subst (λ (x : Block × List Word). SpellsBlock whole words x.0 x.1) (ok_is (Done, next) y q) (subst (λ (z : List Word). SpellsBlock whole z Done next) (sym (behind-is mark.CloseBrace words next p)) done)
+  given_block : (k : ℕ) (words : List Word) (y : Block × List Word) → ((next : List Word) (z : Block × List Word) → block_by (statement_by whole block) k next ≡ Ok z → SpellsBlock whole next z.0 z.1) → (o : Option (List Word)) → following mark.CloseBrace words ≡ o → given {B = Statements} o (λ rest. Ok (Done, rest)) (statement_by whole block words >>= (λ s. block_by (statement_by whole block) k s.1 >>= (λ b. Ok (Then s.0 b.0, b.1)))) ≡ Ok y → SpellsBlock whole words y.0 y.1
+  given_block k words y again (Some next) p q = subst (λ (x : Block × List Word). SpellsBlock whole words x.0 x.1) (ok_is (Done, next) y q) (subst (λ (z : List Word). SpellsBlock whole z Done next) (sym (following-is mark.CloseBrace words next p)) done)
   given_block k words y again None p q =
       let s = bind_ok (statement_by whole block words) (λ s. block_by (statement_by whole block) k s.1 >>= (λ b. Ok (Then s.0 b.0, b.1))) y q in
       let c = bind_ok (block_by (statement_by whole block) k s.0.1) (λ b. Ok (Then s.0.0 b.0, b.1)) y s.2 in
@@ -125,7 +125,7 @@ module _ (block : List Word → Statements) (sound : SoundBlock false block) (wh
   block_by_spells : (k : ℕ) (words : List Word) (y : Block × List Word) → block_by (statement_by whole block) k words ≡ Ok y → SpellsBlock whole words y.0 y.1
   unfolding block_by
   block_by_spells zero words y q = absurd (not_err (length words) y q)
-  block_by_spells (suc k) words y q = given_block k words y (block_by_spells k) (behind mark.CloseBrace words) refl q
+  block_by_spells (suc k) words y q = given_block k words y (block_by_spells k) (following mark.CloseBrace words) refl q
 
 pub block_spells : (room : ℕ) (whole : Bool) → SoundBlock whole (block_at whole room)
 unfolding block_at

@@ -5,7 +5,7 @@ use Rattle.kernel_tree.specs.declared.mark.Mark.TheVariants as mark
 use Rattle.kernel_tree.specs.Word.{Word}
 use Rattle.kernel_tree.specs.Plain.{Block, Done, Then, action_of, block_of}
 use Rattle.kernel_syntax.specs.declared.fault.Stop.{Stop}
-use Rattle.kernel_syntax.specs.Reading.{◌>>=◌, Fails, given, behind}
+use Rattle.kernel_syntax.specs.Reading.{◌>>=◌, Fails, given, following}
 use Rattle.kernel_syntax.specs.Statements.{Statement, Statements, block_by, statement_by, block_at}
 use Rattle.kernel_syntax.proofs.Chain.{fails_on}
 
@@ -43,18 +43,18 @@ bind_assoc (Ok x) f g = refl
 bind_assoc (Err e) f g = refl
 
 module _ (statement : List Word → Statement) (whole : Statements) (ss : List Stmt) (rest : List Word) (f : Follows statement whole ss rest) where
-  pub closes : (next : List Word) → Some next ≡ behind mark.CloseBrace rest → whole ≡ Ok (block_of ss, next)
+  pub closes : (next : List Word) → Some next ≡ following mark.CloseBrace rest → whole ≡ Ok (block_of ss, next)
   unfolding block_by
   closes next e = sym f.same ∙ ap (λ o. given o (λ rest. Ok (Done, rest)) (statement rest >>= (λ s. block_by statement f.room s.1 >>= (λ b. Ok (Then s.0 b.0, b.1)))) >>= in_front ss) (sym e) ∙ ap (λ b. Ok (b, next)) (before-done ss)
 
-  goes : None ≡ behind mark.CloseBrace rest → whole ≡ (statement rest >>= (λ s. (block_by statement f.room s.1 >>= (λ b. Ok (Then s.0 b.0, b.1))) >>= in_front ss))
+  goes : None ≡ following mark.CloseBrace rest → whole ≡ (statement rest >>= (λ s. (block_by statement f.room s.1 >>= (λ b. Ok (Then s.0 b.0, b.1))) >>= in_front ss))
   unfolding block_by
   goes e = sym f.same ∙ ap (λ o. given o (λ rest. Ok (Done, rest)) (statement rest >>= (λ s. block_by statement f.room s.1 >>= (λ b. Ok (Then s.0 b.0, b.1)))) >>= in_front ss) (sym e) ∙ bind_assoc (statement rest) (λ s. block_by statement f.room s.1 >>= (λ b. Ok (Then s.0 b.0, b.1))) (in_front ss)
 
-  pub fails_inside : (e : Stop) → None ≡ behind mark.CloseBrace rest → Fails e (statement rest) → Fails e whole
+  pub fails_inside : (e : Stop) → None ≡ following mark.CloseBrace rest → Fails e (statement rest) → Fails e whole
   fails_inside e n h = fails_on e (statement rest) (λ s. (block_by statement f.room s.1 >>= (λ b. Ok (Then s.0 b.0, b.1))) >>= in_front ss) whole (goes n) h
 
-  pub takes : (s : Stmt) (next : List Word) → None ≡ behind mark.CloseBrace rest → statement rest ≡ Ok (action_of s, next) → length next < length rest → Follows statement whole (ss ++ s ∷ []) next
+  pub takes : (s : Stmt) (next : List Word) → None ≡ following mark.CloseBrace rest → statement rest ≡ Ok (action_of s, next) → length next < length rest → Follows statement whole (ss ++ s ∷ []) next
   takes s next n h lt =
       let first = goes n ∙ ap (λ r. r >>= (λ s. (block_by statement f.room s.1 >>= (λ b. Ok (Then s.0 b.0, b.1))) >>= in_front ss)) h in
       let pushed : (block_by statement f.room next >>= (λ b. in_front ss (Then (action_of s) b.0, b.1))) ≡ (block_by statement f.room next >>= in_front (ss ++ s ∷ [])) = by_cases (block_by statement f.room next) in

@@ -5,8 +5,8 @@ use Rattle.kernel_tree.specs.declared.mark.Mark.TheVariants as mark
 use Rattle.kernel_tree.specs.declared.mark.Sign.{Sign}
 use Rattle.kernel_tree.specs.declared.mark.Sign.TheVariants as sign
 use Rattle.kernel_tree.specs.Word.{Word, IsName, IsNumber, IsType, IsCompare, IsUpdate, IsMark}
-use Rattle.kernel_tree.specs.Plain.{Term, Action, Block, Parameter, Accumulator, Turns}
-use Rattle.kernel_tree.specs.Grammar.{Spells, SpellsType, SpellsAction, SpellsBlock, SpellsParam, SpellsSome, SpellsParams, SpellsVars, SpellsLoop, number, name, element, group, pair, absolute, choice, negative, prefix, up, conversion, shift, operation, comparison, untyped, typed, define, put, update, choose, choose_else, leave, done, then, scalar, array, last, more, none, some, no_var, var, no_loop, loop, number_behind}
+use Rattle.kernel_tree.specs.Plain.{Term, Action, Block, Parameter, Accumulator, PlainLoop}
+use Rattle.kernel_tree.specs.Grammar.{Spells, SpellsType, SpellsAction, SpellsBlock, SpellsParam, SpellsSome, SpellsParams, SpellsVars, SpellsLoop, number, name, element, group, pair, absolute, choice, negative, prefix, up, conversion, shift, operation, comparison, untyped, typed, define, put, update, choose, choose_else, leave, done, then, scalar, array, last, more, none, some, no_var, var, no_loop, loop, number_following}
 use Rattle.kernel_tree.specs.Front.{Fronts, TypeFronts, ActionFronts, BlockFronts, ParamFronts, SomeFronts, VarFronts, LoopFronts, BodyFronts, KernelFronts, nothing, above, in_element, end_element, in_group, end_group, at_pair, first_pair, comma_pair, second_pair, end_pair, at_absolute, in_absolute, end_absolute, at_choice, first_choice, comma_choice, second_choice, next_choice, third_choice, end_choice, in_sign, at_operator, at_type, at_count, in_operation, in_comparison, no_type, at_type_word, no_action, define_name, define_type, define_equals, define_value, define_end, at_target, put_index, put_bracket, put_equals, put_value, put_end, update_value, update_end, choose_condition, choose_brace, choose_block, else_brace, else_block, leave_if, leave_condition, leave_end, whole_action, in_action, next_action, whole_block, no_param, param_colon, param_shape, param_element, param_bracket, whole_param, in_param, next_param, no_var_yet, var_name, var_colon, var_type, var_equals, var_value, var_end, next_var, no_loop_yet, loop_name, loop_in, loop_zero, loop_range, loop_bound, loop_brace, loop_block, in_vars, in_loop, end_body, in_answer, end_answer, at_brace, end_function, no_kernel, kernel_name, kernel_paren, in_params, kernel_tail, kernel_type, kernel_brace, in_procedure, in_function}
 
 -- the words before some others, and what stands there alone
@@ -15,7 +15,7 @@ pub record Cut (Here : List Word → Type 0) (bad words : List Word) : Type 0 wh
   pub whole : words ≡ pre ++ bad
   pub here : Here pre
 
-uncut : (s : Sign) (pre bad : List Word) → number_behind s (pre ++ bad) ≡ None → number_behind s pre ≡ None
+uncut : (s : Sign) (pre bad : List Word) → number_following s (pre ++ bad) ≡ None → number_following s pre ≡ None
 uncut sign.Flip pre bad n = refl
 uncut sign.Not pre bad n = refl
 uncut sign.Minus [] bad n = refl
@@ -50,7 +50,7 @@ cut_spells bad (choice d1 d2 d3) end same =
 cut_spells bad (negative {n = n}) end same = record { pre = IsMark mark.Minus ∷ IsNumber n ∷ end; whole = ap (λ (z : List Word). IsMark mark.Minus ∷ IsNumber n ∷ z) same; here = negative }
 cut_spells bad (prefix {s = s} {m = m} {from = from} d1 d2 d3) end same =
     let c3 = cut_spells bad d3 end same in
-    record { pre = IsMark m ∷ c3.pre; whole = ap (λ (z : List Word). IsMark m ∷ z) c3.whole; here = prefix d1 (uncut s c3.pre bad (subst (λ (z : List Word). number_behind s z ≡ None) c3.whole d2)) c3.here }
+    record { pre = IsMark m ∷ c3.pre; whole = ap (λ (z : List Word). IsMark m ∷ z) c3.whole; here = prefix d1 (uncut s c3.pre bad (subst (λ (z : List Word). number_following s z ≡ None) c3.whole d2)) c3.here }
 cut_spells bad (up d1) end same =
     let c1 = cut_spells bad d1 end same in
     record { pre = c1.pre; whole = c1.whole; here = up c1.here }
@@ -132,7 +132,7 @@ cut_vars bad (var {x = x} {t = t} d1 d2) end same =
     let c1 = cut_spells bad d1 (IsMark mark.Semicolon ∷ c2.pre) (ap (λ (z : List Word). IsMark mark.Semicolon ∷ z) c2.whole) in
     record { pre = IsMark mark.Var ∷ IsName x ∷ IsMark mark.Colon ∷ IsType t ∷ IsMark mark.Equals ∷ c1.pre; whole = ap (λ (z : List Word). IsMark mark.Var ∷ IsName x ∷ IsMark mark.Colon ∷ IsType t ∷ IsMark mark.Equals ∷ z) c1.whole; here = var c1.here c2.here }
 
-cut_loop : (bad : List Word) {words : List Word} {l : Option Turns} {rest : List Word} → SpellsLoop words l rest → (end : List Word) → rest ≡ end ++ bad → Cut (λ pre. SpellsLoop pre l end) bad words
+cut_loop : (bad : List Word) {words : List Word} {l : Option PlainLoop} {rest : List Word} → SpellsLoop words l rest → (end : List Word) → rest ≡ end ++ bad → Cut (λ pre. SpellsLoop pre l end) bad words
 cut_loop bad no_loop end same = record { pre = end; whole = same; here = no_loop }
 cut_loop bad (loop {i = i} {n = n} d1) end same =
     let c1 = cut_block bad d1 end same in

@@ -3,28 +3,28 @@ use Rattle.std.proofs.Common.{◌≡◌, ℕ, zero, suc, ◌<◌, ◌≤◌, Boo
 use Rattle.kernel_tree.specs.declared.ops.Ty.{Ty}
 use Rattle.kernel_tree.specs.declared.mark.Mark.TheVariants as mark
 use Rattle.kernel_tree.specs.Word.{Word, IsType, IsMark}
-use Rattle.kernel_tree.specs.Plain.{Term, Action, Block, Parameter, Accumulator, Turns, Program}
+use Rattle.kernel_tree.specs.Plain.{Term, Action, Block, Parameter, Accumulator, PlainLoop, Program}
 use Rattle.kernel_tree.specs.Grammar.{Spells, SpellsType, untyped, typed, SpellsAction, define, put, update, choose, choose_else, leave, SpellsBlock, done, then, SpellsParam, scalar, array, SpellsSome, last, more, SpellsParams, none, some, SpellsVars, no_var, var, SpellsLoop, no_loop, loop, Tree, procedure, function}
-use Rattle.kernel_syntax.specs.Reading.{behind, after, name_at, type_at}
+use Rattle.kernel_syntax.specs.Reading.{following, after, name_at, type_at}
 use Rattle.kernel_syntax.specs.Statements.{term_at, type_part, define_at, put_at, update_at, target_at, leave_at, choose_by, statement_by, block_by, block_at}
 use Rattle.kernel_syntax.specs.Headers.{shape_at, param_at, some_at, params_at, var_at, vars_by, vars_at, zero_at, turns_at, loop_at, tail_at, answer_by, kernel_at}
 use Rattle.kernel_syntax.proofs.Sound.{ok_is, not_err}
 use Rattle.kernel_syntax.proofs.Complete.{shorter, spells_before}
 
 pub semicolon_reads : (words : List Word) (e : Term) (rest : List Word) → Spells 10 words e (IsMark mark.Semicolon ∷ rest) → term_at mark.Semicolon words ≡ Ok (e, rest)
-unfolding term_at after behind
+unfolding term_at after following
 semicolon_reads words e rest d = spells_before mark.Semicolon words e rest (length words) refl refl refl (omega arith) d
 
 pub bracket_reads : (words : List Word) (e : Term) (rest : List Word) → Spells 10 words e (IsMark mark.CloseBracket ∷ rest) → term_at mark.CloseBracket words ≡ Ok (e, rest)
-unfolding term_at after behind
+unfolding term_at after following
 bracket_reads words e rest d = spells_before mark.CloseBracket words e rest (length words) refl refl refl (omega arith) d
 
 pub brace_reads : (words : List Word) (e : Term) (rest : List Word) → Spells 10 words e (IsMark mark.OpenBrace ∷ rest) → term_at mark.OpenBrace words ≡ Ok (e, rest)
-unfolding term_at after behind
+unfolding term_at after following
 brace_reads words e rest d = spells_before mark.OpenBrace words e rest (length words) refl refl refl (omega arith) d
 
-before_else : (whole : Bool) (b : Block) (words rest : List Word) → SpellsBlock whole words b rest → behind mark.Else words ≡ None
-unfolding behind
+before_else : (whole : Bool) (b : Block) (words rest : List Word) → SpellsBlock whole words b rest → following mark.Else words ≡ None
+unfolding following
 before_else whole b words rest done = refl
 before_else whole b words rest (then (define t e) d) = refl
 before_else whole b words rest (then (put i e) d) = refl
@@ -33,8 +33,8 @@ before_else whole b words rest (then (choose c a) d) = refl
 before_else whole b words rest (then (choose_else c a e) d) = refl
 before_else whole b words rest (then (leave c) d) = refl
 
-pub action_closes : (whole : Bool) (s : Action) (words rest : List Word) → SpellsAction whole words s rest → behind mark.CloseBrace words ≡ None
-unfolding behind
+pub action_closes : (whole : Bool) (s : Action) (words rest : List Word) → SpellsAction whole words s rest → following mark.CloseBrace words ≡ None
+unfolding following
 action_closes whole s words rest (define t e) = refl
 action_closes whole s words rest (put i e) = refl
 action_closes whole s words rest (update e) = refl
@@ -42,8 +42,8 @@ action_closes whole s words rest (choose c a) = refl
 action_closes whole s words rest (choose_else c a e) = refl
 action_closes whole s words rest (leave c) = refl
 
-pub type_reads : (words : List Word) (t : Option Ty) (rest : List Word) → SpellsType words t rest → behind mark.Colon rest ≡ None → type_part words ≡ Ok (t, rest)
-unfolding type_part behind type_at
+pub type_reads : (words : List Word) (t : Option Ty) (rest : List Word) → SpellsType words t rest → following mark.Colon rest ≡ None → type_part words ≡ Ok (t, rest)
+unfolding type_part following type_at
 type_reads words t rest untyped n = rw n refl
 type_reads words t rest typed n = refl
 
@@ -70,9 +70,9 @@ block_from whole words b rest lt goes zero h = absurd (omega arith)
 block_from whole words b rest lt goes (suc room) h = goes room h (suc (length words)) (omega arith)
 
 mutual
-  unfolding statement_by define_at name_at target_at put_at update_at leave_at choose_by block_by after behind
+  unfolding statement_by define_at name_at target_at put_at update_at leave_at choose_by block_by after following
 
-  pub action_reads : {whole : Bool} {words : List Word} {s : Action} {rest : List Word} → SpellsAction whole words s rest → (room : ℕ) → length words ≤ suc room → behind mark.Else rest ≡ None → statement_by whole (block_at false room) words ≡ Ok (s, rest)
+  pub action_reads : {whole : Bool} {words : List Word} {s : Action} {rest : List Word} → SpellsAction whole words s rest → (room : ℕ) → length words ≤ suc room → following mark.Else rest ≡ None → statement_by whole (block_at false room) words ≡ Ok (s, rest)
   action_reads (define {x = x} {t = t} {e = e} {from = from} {next = next} {rest = rest} p d) room h n = rw (type_reads from t (IsMark mark.Equals ∷ next) p refl, semicolon_reads next e rest d) refl
   action_reads (put {x = x} {i = i} {e = e} {from = from} {next = next} {rest = rest} d1 d2) room h n = rw (bracket_reads from i (IsMark mark.Equals ∷ next) d1, semicolon_reads next e rest d2) refl
   action_reads (update {x = x} {op = op} {e = e} {from = from} {rest = rest} d) room h n = rw (semicolon_reads from e rest d) refl
@@ -92,25 +92,25 @@ mutual
 -- ---- kernels
 
 pub param_reads : (words : List Word) (p : Parameter) (rest : List Word) → SpellsParam words p rest → param_at words ≡ Ok (p, rest)
-unfolding param_at name_at after behind shape_at type_at
+unfolding param_at name_at after following shape_at type_at
 param_reads words p rest scalar = refl
 param_reads words p rest array = refl
 
 some_reads : {others : ℕ} {words : List Word} {ps : List Parameter} {rest : List Word} → SpellsSome others words ps rest → some_at others words ≡ Ok (ps, rest)
-unfolding some_at behind after
+unfolding some_at following after
 some_reads (last {others = zero} {p = p} {from = from} {rest = rest} d) = rw (param_reads from p (IsMark mark.CloseParen ∷ rest) d) refl
 some_reads (last {others = suc n} {p = p} {from = from} {rest = rest} d) = rw (param_reads from p (IsMark mark.CloseParen ∷ rest) d) refl
 some_reads (more {p = p} {from = from} {next = next} d ds) = rw (param_reads from p (IsMark mark.Comma ∷ next) d, some_reads ds) refl
 
-some_opens : {others : ℕ} {words : List Word} {ps : List Parameter} {rest : List Word} → SpellsSome others words ps rest → behind mark.CloseParen words ≡ None
-unfolding behind
+some_opens : {others : ℕ} {words : List Word} {ps : List Parameter} {rest : List Word} → SpellsSome others words ps rest → following mark.CloseParen words ≡ None
+unfolding following
 some_opens (last scalar) = refl
 some_opens (last array) = refl
 some_opens (more scalar ds) = refl
 some_opens (more array ds) = refl
 
 pub params_reads : (words : List Word) (ps : List Parameter) (rest : List Word) → SpellsParams words ps rest → params_at words ≡ Ok (ps, rest)
-unfolding params_at behind
+unfolding params_at following
 params_reads words ps rest none = refl
 params_reads words ps rest (some d) = rw (some_opens d) (some_reads d)
 
@@ -118,30 +118,30 @@ vars_shorter : {words : List Word} {vs : List Accumulator} {rest : List Word} �
 vars_shorter no_var = omega arith
 vars_shorter (var e ds) = omega (arith, shorter e, vars_shorter ds)
 
-vars_goes : {words : List Word} {vs : List Accumulator} {rest : List Word} → SpellsVars words vs rest → behind mark.Var rest ≡ None → (k : ℕ) → length words < k → vars_by k words ≡ Ok (vs, rest)
-unfolding vars_by var_at name_at type_at after behind
+vars_goes : {words : List Word} {vs : List Accumulator} {rest : List Word} → SpellsVars words vs rest → following mark.Var rest ≡ None → (k : ℕ) → length words < k → vars_by k words ≡ Ok (vs, rest)
+unfolding vars_by var_at name_at type_at after following
 vars_goes no_var n zero l = absurd (omega arith)
 vars_goes no_var n (suc k) l = rw n refl
 vars_goes (var e ds) n zero l = absurd (omega arith)
 vars_goes (var {e = e} {from = from} {next = next} d ds) n (suc k) l = rw (semicolon_reads from e next d, vars_goes ds n k (omega (arith, shorter d))) refl
 
-pub vars_reads : (words : List Word) (vs : List Accumulator) (rest : List Word) → SpellsVars words vs rest → behind mark.Var rest ≡ None → vars_at words ≡ Ok (vs, rest)
+pub vars_reads : (words : List Word) (vs : List Accumulator) (rest : List Word) → SpellsVars words vs rest → following mark.Var rest ≡ None → vars_at words ≡ Ok (vs, rest)
 unfolding vars_at
 vars_reads words vs rest d n = vars_goes d n (suc (length words)) (omega arith)
 
-pub loop_reads : (words : List Word) (l : Option Turns) (rest : List Word) → SpellsLoop words l rest → behind mark.For rest ≡ None → loop_at words ≡ Ok (l, rest)
-unfolding loop_at turns_at name_at zero_at after behind
+pub loop_reads : (words : List Word) (l : Option PlainLoop) (rest : List Word) → SpellsLoop words l rest → following mark.For rest ≡ None → loop_at words ≡ Ok (l, rest)
+unfolding loop_at turns_at name_at zero_at after following
 loop_reads words l rest no_loop n = rw n refl
 loop_reads words l end (loop {b = b} {from = from} {rest = rest} d) n = rw (block_from true from b rest (block_shorter d) (block_goes d) (length from) (omega arith)) refl
 
 -- no accumulator begins a loop or what follows it
-pub ends_vars : (words : List Word) (l : Option Turns) (rest : List Word) → SpellsLoop words l rest → behind mark.Var rest ≡ None → behind mark.Var words ≡ None
-unfolding behind
+pub ends_vars : (words : List Word) (l : Option PlainLoop) (rest : List Word) → SpellsLoop words l rest → following mark.Var rest ≡ None → following mark.Var words ≡ None
+unfolding following
 ends_vars words l rest no_loop n = n
 ends_vars words l rest (loop d) n = refl
 
 pub tree_reads : (words : List Word) (k : Program) → Tree words k → kernel_at words ≡ Ok k
-unfolding kernel_at name_at type_at tail_at answer_by after behind
+unfolding kernel_at name_at type_at tail_at answer_by after following
 tree_reads words k (procedure {ps = ps} {vs = vs} {l = l} {from = from} {body = body} {next = next} p v s) =
     rw (params_reads from ps (IsMark mark.OpenBrace ∷ body) p, vars_reads body vs next v (ends_vars next l (IsMark mark.CloseBrace ∷ []) s refl), loop_reads next l (IsMark mark.CloseBrace ∷ []) s refl) refl
 tree_reads words k (function {ps = ps} {t = t} {vs = vs} {l = l} {e = e} {from = from} {body = body} {next = next} {last = end} p v s d) =

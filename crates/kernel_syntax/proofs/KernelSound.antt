@@ -7,12 +7,12 @@ use Rattle.kernel_tree.specs.declared.ast.Shape.TheVariants as shape
 use Rattle.kernel_tree.specs.declared.mark.Mark.{Mark}
 use Rattle.kernel_tree.specs.declared.mark.Mark.TheVariants as mark
 use Rattle.kernel_tree.specs.Word.{Word, IsName, IsNumber, IsType, IsMark}
-use Rattle.kernel_tree.specs.Plain.{Term, Parameter, Accumulator, Turns, Returned, Program}
+use Rattle.kernel_tree.specs.Plain.{Term, Parameter, Accumulator, PlainLoop, Returned, Program}
 use Rattle.kernel_tree.specs.Grammar.{Spells, SpellsBlock, SpellsParam, scalar, array, SpellsSome, last, more, SpellsParams, none, some, SpellsVars, no_var, var, SpellsLoop, no_loop, loop, Tree, procedure, function, number_at}
-use Rattle.kernel_syntax.specs.Reading.{◌>>=◌, given, behind, after, name_at, type_at}
+use Rattle.kernel_syntax.specs.Reading.{◌>>=◌, given, following, after, name_at, type_at}
 use Rattle.kernel_syntax.specs.Statements.{term_at, block_at}
 use Rattle.kernel_syntax.specs.Headers.{Read, shape_at, param_at, some_at, params_at, var_at, vars_by, vars_at, zero_at, turns_at, loop_at, tail_at, answer_by, alone, kernel_at}
-use Rattle.kernel_syntax.proofs.Sound.{bind_ok, ok_is, not_err, cond_is, after-is, behind-is, name-is, type-is, number-is, until_spells}
+use Rattle.kernel_syntax.proofs.Sound.{bind_ok, ok_is, not_err, cond_is, after-is, following-is, name-is, type-is, number-is, until_spells}
 use Rattle.kernel_syntax.proofs.ActionSound.{term_spells, block_spells}
 
 -- what stands after the colon of a parameter
@@ -26,19 +26,19 @@ at_shape words x y p h = subst (λ (x : Shape × List Word). SpellsShape words x
 from_shape : (to from : List Word) (y : Shape × List Word) → to ≡ from → SpellsShape from y.0 y.1 → SpellsShape to y.0 y.1
 from_shape to from y p h = subst (λ (z : List Word). SpellsShape z y.0 y.1) (sym p) h
 
-by_shape : (words : List Word) (y : Shape × List Word) (o : Option (List Word)) → behind mark.OpenBracket words ≡ o → given {B = Read Shape} o (λ from. type_at from >>= (λ t. after mark.CloseBracket t.1 >>= (λ rest. Ok (shape.Array t.0, rest)))) (type_at words >>= (λ t. Ok (shape.Scalar t.0, t.1))) ≡ Ok y → SpellsShape words y.0 y.1
+by_shape : (words : List Word) (y : Shape × List Word) (o : Option (List Word)) → following mark.OpenBracket words ≡ o → given {B = Read Shape} o (λ from. type_at from >>= (λ t. after mark.CloseBracket t.1 >>= (λ rest. Ok (shape.Array t.0, rest)))) (type_at words >>= (λ t. Ok (shape.Scalar t.0, t.1))) ≡ Ok y → SpellsShape words y.0 y.1
 by_shape words y None p q =
     let t = bind_ok (type_at words) (λ t. Ok (shape.Scalar t.0, t.1)) y q in
     from_shape _ _ y (type-is words t.0 t.1) (at_shape _ (shape.Scalar t.0.0, t.0.1) y (ok_is (shape.Scalar t.0.0, t.0.1) y t.2) scalar_shape)
 by_shape words y (Some from) p q =
     let t = bind_ok (type_at from) (λ t. after mark.CloseBracket t.1 >>= (λ rest. Ok (shape.Array t.0, rest))) y q in
     let rest = bind_ok (after mark.CloseBracket t.0.1) (λ rest. Ok (shape.Array t.0.0, rest)) y t.2 in
-    let w : words ≡ IsMark mark.OpenBracket ∷ IsType t.0.0 ∷ IsMark mark.CloseBracket ∷ rest.0 = behind-is mark.OpenBracket words from p ∙ ap (λ (z : List Word). IsMark mark.OpenBracket ∷ z) (type-is from t.0 t.1 ∙ ap (λ (z : List Word). IsType t.0.0 ∷ z) (after-is mark.CloseBracket t.0.1 rest.0 rest.1)) in
+    let w : words ≡ IsMark mark.OpenBracket ∷ IsType t.0.0 ∷ IsMark mark.CloseBracket ∷ rest.0 = following-is mark.OpenBracket words from p ∙ ap (λ (z : List Word). IsMark mark.OpenBracket ∷ z) (type-is from t.0 t.1 ∙ ap (λ (z : List Word). IsType t.0.0 ∷ z) (after-is mark.CloseBracket t.0.1 rest.0 rest.1)) in
     from_shape _ _ y w (at_shape _ (shape.Array t.0.0, rest.0) y (ok_is (shape.Array t.0.0, rest.0) y rest.2) array_shape)
 
 shape_spells : (words : List Word) (y : Shape × List Word) → shape_at words ≡ Ok y → SpellsShape words y.0 y.1
 unfolding shape_at
-shape_spells words y q = by_shape words y (behind mark.OpenBracket words) refl q
+shape_spells words y q = by_shape words y (following mark.OpenBracket words) refl q
 
 shaped : (x : List ℕ) (words : List Word) (s : Shape) (rest : List Word) → SpellsShape words s rest → SpellsParam (IsName x ∷ IsMark mark.Colon ∷ words) (record { name = x; shape = s }) rest
 shaped x words s rest scalar_shape = scalar
@@ -60,14 +60,14 @@ at_some others words x y p h = subst (λ (x : List Parameter × List Word). Spel
 param_then : (words : List Word) (p : Parameter × List Word) (m : Mark) (next : List Word) → p.1 ≡ IsMark m ∷ next → SpellsParam words p.0 p.1 → SpellsParam words p.0 (IsMark m ∷ next)
 param_then words p m next e h = subst (λ (z : List Word). SpellsParam words p.0 z) e h
 
-last_spells : (others : ℕ) (words : List Word) (p : Parameter × List Word) (y : List Parameter × List Word) → SpellsParam words p.0 p.1 → (next : List Word) → behind mark.CloseParen p.1 ≡ Some next → ◌≡◌ {A = Read (List Parameter)} (Ok (p.0 ∷ [], next)) (Ok y) → SpellsSome others words y.0 y.1
-last_spells others words p y h next e q = at_some others words (p.0 ∷ [], next) y (ok_is (p.0 ∷ [], next) y q) (last (param_then words p mark.CloseParen next (behind-is mark.CloseParen p.1 next e) h))
+last_spells : (others : ℕ) (words : List Word) (p : Parameter × List Word) (y : List Parameter × List Word) → SpellsParam words p.0 p.1 → (next : List Word) → following mark.CloseParen p.1 ≡ Some next → ◌≡◌ {A = Read (List Parameter)} (Ok (p.0 ∷ [], next)) (Ok y) → SpellsSome others words y.0 y.1
+last_spells others words p y h next e q = at_some others words (p.0 ∷ [], next) y (ok_is (p.0 ∷ [], next) y q) (last (param_then words p mark.CloseParen next (following-is mark.CloseParen p.1 next e) h))
 
-by_last : (words : List Word) (p : Parameter × List Word) (y : List Parameter × List Word) → SpellsParam words p.0 p.1 → (o : Option (List Word)) → behind mark.CloseParen p.1 ≡ o → given {B = Read (List Parameter)} o (λ rest. Ok (p.0 ∷ [], rest)) (Err (length p.1)) ≡ Ok y → SpellsSome 0 words y.0 y.1
+by_last : (words : List Word) (p : Parameter × List Word) (y : List Parameter × List Word) → SpellsParam words p.0 p.1 → (o : Option (List Word)) → following mark.CloseParen p.1 ≡ o → given {B = Read (List Parameter)} o (λ rest. Ok (p.0 ∷ [], rest)) (Err (length p.1)) ≡ Ok y → SpellsSome 0 words y.0 y.1
 by_last words p y h None e q = absurd (not_err (length p.1) y q)
 by_last words p y h (Some next) e q = last_spells 0 words p y h next e q
 
-by_more : (others : ℕ) → ((next : List Word) (z : List Parameter × List Word) → some_at others next ≡ Ok z → SpellsSome others next z.0 z.1) → (words : List Word) (p : Parameter × List Word) (y : List Parameter × List Word) → SpellsParam words p.0 p.1 → (o : Option (List Word)) → behind mark.CloseParen p.1 ≡ o → given {B = Read (List Parameter)} o (λ rest. Ok (p.0 ∷ [], rest)) (after mark.Comma p.1 >>= (λ next. some_at others next >>= (λ ps. Ok (p.0 ∷ ps.0, ps.1)))) ≡ Ok y → SpellsSome (suc others) words y.0 y.1
+by_more : (others : ℕ) → ((next : List Word) (z : List Parameter × List Word) → some_at others next ≡ Ok z → SpellsSome others next z.0 z.1) → (words : List Word) (p : Parameter × List Word) (y : List Parameter × List Word) → SpellsParam words p.0 p.1 → (o : Option (List Word)) → following mark.CloseParen p.1 ≡ o → given {B = Read (List Parameter)} o (λ rest. Ok (p.0 ∷ [], rest)) (after mark.Comma p.1 >>= (λ next. some_at others next >>= (λ ps. Ok (p.0 ∷ ps.0, ps.1)))) ≡ Ok y → SpellsSome (suc others) words y.0 y.1
 by_more others again words p y h None e q =
     let next = bind_ok (after mark.Comma p.1) (λ next. some_at others next >>= (λ ps. Ok (p.0 ∷ ps.0, ps.1))) y q in
     let ps = bind_ok (some_at others next.0) (λ ps. Ok (p.0 ∷ ps.0, ps.1)) y next.2 in
@@ -77,19 +77,19 @@ by_more others again words p y h (Some next) e q = last_spells (suc others) word
 some_spells : (others : ℕ) (words : List Word) (y : List Parameter × List Word) → some_at others words ≡ Ok y → SpellsSome others words y.0 y.1
 unfolding some_at
 some_spells zero words y q =
-    let p = bind_ok (param_at words) (λ p. given {B = Read (List Parameter)} (behind mark.CloseParen p.1) (λ rest. Ok (p.0 ∷ [], rest)) (Err (length p.1))) y q in
-    by_last words p.0 y (param_spells words p.0 p.1) (behind mark.CloseParen p.0.1) refl p.2
+    let p = bind_ok (param_at words) (λ p. given {B = Read (List Parameter)} (following mark.CloseParen p.1) (λ rest. Ok (p.0 ∷ [], rest)) (Err (length p.1))) y q in
+    by_last words p.0 y (param_spells words p.0 p.1) (following mark.CloseParen p.0.1) refl p.2
 some_spells (suc others) words y q =
-    let p = bind_ok (param_at words) (λ p. given {B = Read (List Parameter)} (behind mark.CloseParen p.1) (λ rest. Ok (p.0 ∷ [], rest)) (after mark.Comma p.1 >>= (λ next. some_at others next >>= (λ ps. Ok (p.0 ∷ ps.0, ps.1))))) y q in
-    by_more others (some_spells others) words p.0 y (param_spells words p.0 p.1) (behind mark.CloseParen p.0.1) refl p.2
+    let p = bind_ok (param_at words) (λ p. given {B = Read (List Parameter)} (following mark.CloseParen p.1) (λ rest. Ok (p.0 ∷ [], rest)) (after mark.Comma p.1 >>= (λ next. some_at others next >>= (λ ps. Ok (p.0 ∷ ps.0, ps.1))))) y q in
+    by_more others (some_spells others) words p.0 y (param_spells words p.0 p.1) (following mark.CloseParen p.0.1) refl p.2
 
-by_params : (words : List Word) (y : List Parameter × List Word) (o : Option (List Word)) → behind mark.CloseParen words ≡ o → given {B = Read (List Parameter)} o (λ rest. Ok ([], rest)) (some_at 7 words) ≡ Ok y → SpellsParams words y.0 y.1
+by_params : (words : List Word) (y : List Parameter × List Word) (o : Option (List Word)) → following mark.CloseParen words ≡ o → given {B = Read (List Parameter)} o (λ rest. Ok ([], rest)) (some_at 7 words) ≡ Ok y → SpellsParams words y.0 y.1
 by_params words y None p q = some (some_spells 7 words y q)
-by_params words y (Some rest) p q = subst (λ (x : List Parameter × List Word). SpellsParams words x.0 x.1) (ok_is ([], rest) y q) (subst (λ (z : List Word). SpellsParams z [] rest) (sym (behind-is mark.CloseParen words rest p)) none)
+by_params words y (Some rest) p q = subst (λ (x : List Parameter × List Word). SpellsParams words x.0 x.1) (ok_is ([], rest) y q) (subst (λ (z : List Word). SpellsParams z [] rest) (sym (following-is mark.CloseParen words rest p)) none)
 
 pub params_spells : (words : List Word) (y : List Parameter × List Word) → params_at words ≡ Ok y → SpellsParams words y.0 y.1
 unfolding params_at
-params_spells words y q = by_params words y (behind mark.CloseParen words) refl q
+params_spells words y q = by_params words y (following mark.CloseParen words) refl q
 
 -- an accumulator after its first word
 pub record SpellsVar (words : List Word) (v : Accumulator) (rest : List Word) : Type 0 where
@@ -109,19 +109,19 @@ var_spells words y q =
     let v : Accumulator × List Word = (record { name = x.0.0; type = t.0.0; init = e.0.0 }, e.0.1) in
     subst (λ (z : Accumulator × List Word). SpellsVar words z.0 z.1) (ok_is v y e.2) (record { from = next.0; front = w; value = term_spells mark.Semicolon next.0 e.0 e.1 })
 
-by_vars : (k : ℕ) → ((next : List Word) (z : List Accumulator × List Word) → vars_by k next ≡ Ok z → SpellsVars next z.0 z.1) → (words : List Word) (y : List Accumulator × List Word) (o : Option (List Word)) → behind mark.Var words ≡ o → given {B = Read (List Accumulator)} o (λ rest. var_at rest >>= (λ v. vars_by k v.1 >>= (λ vs. Ok (v.0 ∷ vs.0, vs.1)))) (Ok ([], words)) ≡ Ok y → SpellsVars words y.0 y.1
+by_vars : (k : ℕ) → ((next : List Word) (z : List Accumulator × List Word) → vars_by k next ≡ Ok z → SpellsVars next z.0 z.1) → (words : List Word) (y : List Accumulator × List Word) (o : Option (List Word)) → following mark.Var words ≡ o → given {B = Read (List Accumulator)} o (λ rest. var_at rest >>= (λ v. vars_by k v.1 >>= (λ vs. Ok (v.0 ∷ vs.0, vs.1)))) (Ok ([], words)) ≡ Ok y → SpellsVars words y.0 y.1
 by_vars k again words y None p q = subst (λ (x : List Accumulator × List Word). SpellsVars words x.0 x.1) (ok_is ([], words) y q) no_var
 by_vars k again words y (Some from) p q =
     let v = bind_ok (var_at from) (λ v. vars_by k v.1 >>= (λ vs. Ok (v.0 ∷ vs.0, vs.1))) y q in
     let vs = bind_ok (vars_by k v.0.1) (λ vs. Ok (v.0.0 ∷ vs.0, vs.1)) y v.2 in
     let s = var_spells from v.0 v.1 in
-    let w : words ≡ IsMark mark.Var ∷ IsName v.0.0.name ∷ IsMark mark.Colon ∷ IsType v.0.0.type ∷ IsMark mark.Equals ∷ s.from = behind-is mark.Var words from p ∙ ap (λ (z : List Word). IsMark mark.Var ∷ z) s.front in
+    let w : words ≡ IsMark mark.Var ∷ IsName v.0.0.name ∷ IsMark mark.Colon ∷ IsType v.0.0.type ∷ IsMark mark.Equals ∷ s.from = following-is mark.Var words from p ∙ ap (λ (z : List Word). IsMark mark.Var ∷ z) s.front in
     subst (λ (x : List Accumulator × List Word). SpellsVars words x.0 x.1) (ok_is (v.0.0 ∷ vs.0.0, vs.0.1) y vs.2) (subst (λ (z : List Word). SpellsVars z (v.0.0 ∷ vs.0.0) vs.0.1) (sym w) (var s.value (again v.0.1 vs.0 vs.1)))
 
 vars_by_spells : (k : ℕ) (words : List Word) (y : List Accumulator × List Word) → vars_by k words ≡ Ok y → SpellsVars words y.0 y.1
 unfolding vars_by
 vars_by_spells zero words y q = absurd (not_err (length words) y q)
-vars_by_spells (suc k) words y q = by_vars k (vars_by_spells k) words y (behind mark.Var words) refl q
+vars_by_spells (suc k) words y q = by_vars k (vars_by_spells k) words y (following mark.Var words) refl q
 
 pub vars_spells : (words : List Word) (y : List Accumulator × List Word) → vars_at words ≡ Ok y → SpellsVars words y.0 y.1
 unfolding vars_at
@@ -140,12 +140,12 @@ unfolding zero_at
 zero-is words rest q = by_zero words rest (number_at words) refl q
 
 -- a loop after its first word
-record SpellsTurns (words : List Word) (l : Turns) (rest : List Word) : Type 0 where
+record SpellsTurns (words : List Word) (l : PlainLoop) (rest : List Word) : Type 0 where
   pub from : List Word
   front : words ≡ IsName l.index ∷ IsMark mark.In ∷ IsNumber 0 ∷ IsMark mark.Range ∷ IsName l.bound ∷ IsMark mark.OpenBrace ∷ from
   inside : SpellsBlock true from l.body rest
 
-turns_spells : (words : List Word) (y : Turns × List Word) → turns_at words ≡ Ok y → SpellsTurns words y.0 y.1
+turns_spells : (words : List Word) (y : PlainLoop × List Word) → turns_at words ≡ Ok y → SpellsTurns words y.0 y.1
 unfolding turns_at
 turns_spells words y q =
     let i = bind_ok (name_at words) (λ i. after mark.In i.1 >>= (λ from. zero_at from >>= (λ range. after mark.Range range >>= (λ end. name_at end >>= (λ n. after mark.OpenBrace n.1 >>= (λ inside. block_at true (length inside) inside >>= (λ b. Ok (record { index = i.0; bound = n.0; body = b.0 }, b.1)))))))) y q in
@@ -156,28 +156,28 @@ turns_spells words y q =
     let inside = bind_ok (after mark.OpenBrace n.0.1) (λ inside. block_at true (length inside) inside >>= (λ b. Ok (record { index = i.0.0; bound = n.0.0; body = b.0 }, b.1))) y n.2 in
     let b = bind_ok (block_at true (length inside.0) inside.0) (λ b. Ok (record { index = i.0.0; bound = n.0.0; body = b.0 }, b.1)) y inside.2 in
     let w : words ≡ IsName i.0.0 ∷ IsMark mark.In ∷ IsNumber 0 ∷ IsMark mark.Range ∷ IsName n.0.0 ∷ IsMark mark.OpenBrace ∷ inside.0 = name-is words i.0 i.1 ∙ ap (λ (z : List Word). IsName i.0.0 ∷ z) (after-is mark.In i.0.1 from.0 from.1 ∙ ap (λ (z : List Word). IsMark mark.In ∷ z) (zero-is from.0 range.0 range.1 ∙ ap (λ (z : List Word). IsNumber 0 ∷ z) (after-is mark.Range range.0 end.0 end.1 ∙ ap (λ (z : List Word). IsMark mark.Range ∷ z) (name-is end.0 n.0 n.1 ∙ ap (λ (z : List Word). IsName n.0.0 ∷ z) (after-is mark.OpenBrace n.0.1 inside.0 inside.1))))) in
-    let l : Turns × List Word = (record { index = i.0.0; bound = n.0.0; body = b.0.0 }, b.0.1) in
-    subst (λ (z : Turns × List Word). SpellsTurns words z.0 z.1) (ok_is l y b.2) (record { from = inside.0; front = w; inside = block_spells (length inside.0) true inside.0 b.0 b.1 })
+    let l : PlainLoop × List Word = (record { index = i.0.0; bound = n.0.0; body = b.0.0 }, b.0.1) in
+    subst (λ (z : PlainLoop × List Word). SpellsTurns words z.0 z.1) (ok_is l y b.2) (record { from = inside.0; front = w; inside = block_spells (length inside.0) true inside.0 b.0 b.1 })
 
-by_loop : (words : List Word) (y : Option Turns × List Word) (o : Option (List Word)) → behind mark.For words ≡ o → given {B = Read (Option Turns)} o (λ rest. turns_at rest >>= (λ l. Ok (Some l.0, l.1))) (Ok (None, words)) ≡ Ok y → SpellsLoop words y.0 y.1
-by_loop words y None p q = subst (λ (x : Option Turns × List Word). SpellsLoop words x.0 x.1) (ok_is (None, words) y q) no_loop
+by_loop : (words : List Word) (y : Option PlainLoop × List Word) (o : Option (List Word)) → following mark.For words ≡ o → given {B = Read (Option PlainLoop)} o (λ rest. turns_at rest >>= (λ l. Ok (Some l.0, l.1))) (Ok (None, words)) ≡ Ok y → SpellsLoop words y.0 y.1
+by_loop words y None p q = subst (λ (x : Option PlainLoop × List Word). SpellsLoop words x.0 x.1) (ok_is (None, words) y q) no_loop
 by_loop words y (Some from) p q =
     let l = bind_ok (turns_at from) (λ l. Ok (Some l.0, l.1)) y q in
     let s = turns_spells from l.0 l.1 in
-    let w : words ≡ IsMark mark.For ∷ IsName l.0.0.index ∷ IsMark mark.In ∷ IsNumber 0 ∷ IsMark mark.Range ∷ IsName l.0.0.bound ∷ IsMark mark.OpenBrace ∷ s.from = behind-is mark.For words from p ∙ ap (λ (z : List Word). IsMark mark.For ∷ z) s.front in
-    subst (λ (x : Option Turns × List Word). SpellsLoop words x.0 x.1) (ok_is (Some l.0.0, l.0.1) y l.2) (subst (λ (z : List Word). SpellsLoop z (Some l.0.0) l.0.1) (sym w) (loop s.inside))
+    let w : words ≡ IsMark mark.For ∷ IsName l.0.0.index ∷ IsMark mark.In ∷ IsNumber 0 ∷ IsMark mark.Range ∷ IsName l.0.0.bound ∷ IsMark mark.OpenBrace ∷ s.from = following-is mark.For words from p ∙ ap (λ (z : List Word). IsMark mark.For ∷ z) s.front in
+    subst (λ (x : Option PlainLoop × List Word). SpellsLoop words x.0 x.1) (ok_is (Some l.0.0, l.0.1) y l.2) (subst (λ (z : List Word). SpellsLoop z (Some l.0.0) l.0.1) (sym w) (loop s.inside))
 
-pub loop_spells : (words : List Word) (y : Option Turns × List Word) → loop_at words ≡ Ok y → SpellsLoop words y.0 y.1
+pub loop_spells : (words : List Word) (y : Option PlainLoop × List Word) → loop_at words ≡ Ok y → SpellsLoop words y.0 y.1
 unfolding loop_at
-loop_spells words y q = by_loop words y (behind mark.For words) refl q
+loop_spells words y q = by_loop words y (following mark.For words) refl q
 
 -- what stands between the parameters and the accumulators
 pub data SpellsTail : List Word → Option Ty → List Word → Type 0 where
   no_type : {rest : List Word} → SpellsTail (IsMark mark.OpenBrace ∷ rest) None rest
   with_type : {t : Ty} {rest : List Word} → SpellsTail (IsMark mark.Arrow ∷ IsType t ∷ IsMark mark.OpenBrace ∷ rest) (Some t) rest
 
-by_tail : (words : List Word) (y : Option Ty × List Word) (o : Option (List Word)) → behind mark.OpenBrace words ≡ o → given {B = Read (Option Ty)} o (λ body. Ok (None, body)) (after mark.Arrow words >>= (λ from. type_at from >>= (λ t. after mark.OpenBrace t.1 >>= (λ body. Ok (Some t.0, body))))) ≡ Ok y → SpellsTail words y.0 y.1
-by_tail words y (Some rest) p q = subst (λ (x : Option Ty × List Word). SpellsTail words x.0 x.1) (ok_is (None, rest) y q) (subst (λ (z : List Word). SpellsTail z None rest) (sym (behind-is mark.OpenBrace words rest p)) no_type)
+by_tail : (words : List Word) (y : Option Ty × List Word) (o : Option (List Word)) → following mark.OpenBrace words ≡ o → given {B = Read (Option Ty)} o (λ body. Ok (None, body)) (after mark.Arrow words >>= (λ from. type_at from >>= (λ t. after mark.OpenBrace t.1 >>= (λ body. Ok (Some t.0, body))))) ≡ Ok y → SpellsTail words y.0 y.1
+by_tail words y (Some rest) p q = subst (λ (x : Option Ty × List Word). SpellsTail words x.0 x.1) (ok_is (None, rest) y q) (subst (λ (z : List Word). SpellsTail z None rest) (sym (following-is mark.OpenBrace words rest p)) no_type)
 by_tail words y None p q =
     let from = bind_ok (after mark.Arrow words) (λ from. type_at from >>= (λ t. after mark.OpenBrace t.1 >>= (λ rest. Ok (Some t.0, rest)))) y q in
     let t = bind_ok (type_at from.0) (λ t. after mark.OpenBrace t.1 >>= (λ rest. Ok (Some t.0, rest))) y from.2 in
@@ -187,7 +187,7 @@ by_tail words y None p q =
 
 pub tail_spells : (words : List Word) (y : Option Ty × List Word) → tail_at words ≡ Ok y → SpellsTail words y.0 y.1
 unfolding tail_at
-tail_spells words y q = by_tail words y (behind mark.OpenBrace words) refl q
+tail_spells words y q = by_tail words y (following mark.OpenBrace words) refl q
 
 -- what stands after the loop
 pub data SpellsAnswer : Option Ty → List Word → Option Returned → List Word → Type 0 where
@@ -208,7 +208,7 @@ answer_spells (Some t) words y q =
     subst (λ (x : Option Returned × List Word). SpellsAnswer (Some t) words x.0 x.1) (ok_is (Some a, rest.0) y rest.2) (subst (λ (z : List Word). SpellsAnswer (Some t) z (Some a) rest.0) (sym (after-is mark.Return words from.0 from.1)) (with_answer value))
 
 -- a kernel by its parts
-kernel_of_parts : (x : List ℕ) (ps : List Parameter) (t : Option Ty) (vs : List Accumulator) (l : Option Turns) (a : Option Returned) (from tail body next end : List Word) → SpellsParams from ps tail → SpellsTail tail t body → SpellsVars body vs next → SpellsLoop next l end → SpellsAnswer t end a [] → Tree (IsMark mark.Kernel ∷ IsName x ∷ IsMark mark.OpenParen ∷ from) (record { name = x; params = ps; vars = vs; turns = l; answer = a })
+kernel_of_parts : (x : List ℕ) (ps : List Parameter) (t : Option Ty) (vs : List Accumulator) (l : Option PlainLoop) (a : Option Returned) (from tail body next end : List Word) → SpellsParams from ps tail → SpellsTail tail t body → SpellsVars body vs next → SpellsLoop next l end → SpellsAnswer t end a [] → Tree (IsMark mark.Kernel ∷ IsName x ∷ IsMark mark.OpenParen ∷ from) (record { name = x; params = ps; vars = vs; turns = l; answer = a })
 kernel_of_parts x ps None vs l a from tail body next end p no_type v s no_answer = procedure p v s
 kernel_of_parts x ps (Some t) vs l a from tail body next end p with_type v s (with_answer e) = function p v s e
 

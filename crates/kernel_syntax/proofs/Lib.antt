@@ -9,7 +9,7 @@ pub mod Lists
 pub mod Deep
 pub mod Outcomes
 pub mod Rooms
-pub mod Rows
+pub mod SignRows
 pub mod Decided
 pub mod Stuck
 pub mod StuckActions

@@ -5,7 +5,7 @@ use Rattle.kernel_tree.specs.declared.mark.Mark.TheVariants as mark
 use Rattle.kernel_tree.specs.Word.{Word}
 use Rattle.kernel_tree.specs.Plain.{Parameter, Accumulator}
 use Rattle.kernel_syntax.specs.declared.fault.Stop.{Stop}
-use Rattle.kernel_syntax.specs.Reading.{◌>>=◌, Fails, given, behind, after}
+use Rattle.kernel_syntax.specs.Reading.{◌>>=◌, Fails, given, following, after}
 use Rattle.kernel_syntax.specs.Headers.{Read, param_at, some_at, var_at, vars_by, vars_at}
 use Rattle.kernel_syntax.proofs.Chain.{fails_on}
 use Rattle.kernel_syntax.proofs.Blocks.{bind_assoc}
@@ -29,7 +29,7 @@ others_next zero p = Err (length p.1)
 others_next (suc others) p = after mark.Comma p.1 >>= (λ next. some_at others next >>= (λ ps. Ok (p.0 ∷ ps.0, ps.1)))
 
 abbrev by_param : ℕ → Parameter × List Word → Read (List Parameter)
-by_param others p = given (behind mark.CloseParen p.1) (λ rest. Ok (p.0 ∷ [], rest)) (others_next others p)
+by_param others p = given (following mark.CloseParen p.1) (λ rest. Ok (p.0 ∷ [], rest)) (others_next others p)
 
 some-is : (others : ℕ) (words : List Word) → some_at others words ≡ (param_at words >>= by_param others)
 unfolding some_at
@@ -50,24 +50,24 @@ module _ (whole : Read (List Parameter)) (others : ℕ) (ps : List Parameter) (r
   pub fails_param : (e : Stop) → Fails e (param_at rest) → Fails e whole
   fails_param e h = fails_on e (param_at rest) (λ p. by_param others p >>= in_list ps) whole first h
 
-  step : (p : Parameter) (next : List Word) (o : Option (List Word)) → param_at rest ≡ Ok (p, next) → o ≡ behind mark.CloseParen next → whole ≡ (given o (λ r. Ok (p ∷ [], r)) (others_next others (p, next)) >>= in_list ps)
+  step : (p : Parameter) (next : List Word) (o : Option (List Word)) → param_at rest ≡ Ok (p, next) → o ≡ following mark.CloseParen next → whole ≡ (given o (λ r. Ok (p ∷ [], r)) (others_next others (p, next)) >>= in_list ps)
   step p next o h e = first ∙ ap (λ r. r >>= (λ p. by_param others p >>= in_list ps)) h ∙ ap (λ o. given o (λ r. Ok (p ∷ [], r)) (others_next others (p, next)) >>= in_list ps) (sym e)
 
-  pub ends_params : (p : Parameter) (next end : List Word) → param_at rest ≡ Ok (p, next) → Some end ≡ behind mark.CloseParen next → whole ≡ Ok (ps ++ p ∷ [], end)
+  pub ends_params : (p : Parameter) (next end : List Word) → param_at rest ≡ Ok (p, next) → Some end ≡ following mark.CloseParen next → whole ≡ Ok (ps ++ p ∷ [], end)
   ends_params p next end h e = step p next (Some end) h e
 
-  pub full_params : (p : Parameter) (next : List Word) → others ≡ 0 → param_at rest ≡ Ok (p, next) → None ≡ behind mark.CloseParen next → whole ≡ Err (length next)
+  pub full_params : (p : Parameter) (next : List Word) → others ≡ 0 → param_at rest ≡ Ok (p, next) → None ≡ following mark.CloseParen next → whole ≡ Err (length next)
   full_params p next z h e = step p next None h e ∙ ap (λ k. others_next k (p, next) >>= in_list ps) z
 
-  comma : (p : Parameter) (next : List Word) (k : ℕ) → others ≡ suc k → param_at rest ≡ Ok (p, next) → None ≡ behind mark.CloseParen next → whole ≡ (after mark.Comma next >>= (λ to. (some_at k to >>= (λ ps. Ok (p ∷ ps.0, ps.1))) >>= in_list ps))
+  comma : (p : Parameter) (next : List Word) (k : ℕ) → others ≡ suc k → param_at rest ≡ Ok (p, next) → None ≡ following mark.CloseParen next → whole ≡ (after mark.Comma next >>= (λ to. (some_at k to >>= (λ ps. Ok (p ∷ ps.0, ps.1))) >>= in_list ps))
   comma p next k z h e = step p next None h e ∙ ap (λ k. others_next k (p, next) >>= in_list ps) z ∙ bind_assoc (after mark.Comma next) (λ to. some_at k to >>= (λ ps. Ok (p ∷ ps.0, ps.1))) (in_list ps)
 
-  pub fails_comma : (p : Parameter) (next : List Word) (e : Stop) → 0 < others → param_at rest ≡ Ok (p, next) → None ≡ behind mark.CloseParen next → Fails e (after mark.Comma next) → Fails e whole
+  pub fails_comma : (p : Parameter) (next : List Word) (e : Stop) → 0 < others → param_at rest ≡ Ok (p, next) → None ≡ following mark.CloseParen next → Fails e (after mark.Comma next) → Fails e whole
   fails_comma p next e z h n q =
       let k : others ≡ suc (others - 1) = omega arith in
       fails_on e (after mark.Comma next) (λ to. (some_at (others - 1) to >>= (λ ps. Ok (p ∷ ps.0, ps.1))) >>= in_list ps) whole (comma p next (others - 1) k h n) q
 
-  pub takes_param : (p : Parameter) (next to : List Word) → 0 < others → param_at rest ≡ Ok (p, next) → None ≡ behind mark.CloseParen next → after mark.Comma next ≡ Ok to → ParamsFollow whole (others - 1) (ps ++ p ∷ []) to
+  pub takes_param : (p : Parameter) (next to : List Word) → 0 < others → param_at rest ≡ Ok (p, next) → None ≡ following mark.CloseParen next → after mark.Comma next ≡ Ok to → ParamsFollow whole (others - 1) (ps ++ p ∷ []) to
   takes_param p next to z h n q =
       let k : others ≡ suc (others - 1) = omega arith in
       let went = comma p next (others - 1) k h n ∙ ap (λ r. r >>= (λ to. (some_at (others - 1) to >>= (λ ps. Ok (p ∷ ps.0, ps.1))) >>= in_list ps)) q in
@@ -85,20 +85,20 @@ unfolding vars_at
 vars_start words = record { room = length words; enough = omega arith; same = nothing_before (vars_by (suc (length words)) words) }
 
 module _ (whole : Read (List Accumulator)) (vs : List Accumulator) (rest : List Word) (f : VarsFollow whole vs rest) where
-  on : (o : Option (List Word)) → o ≡ behind mark.Var rest → whole ≡ (given o (λ rest. var_at rest >>= (λ v. vars_by f.room v.1 >>= (λ vs. Ok (v.0 ∷ vs.0, vs.1)))) (Ok ([], rest)) >>= in_list vs)
+  on : (o : Option (List Word)) → o ≡ following mark.Var rest → whole ≡ (given o (λ rest. var_at rest >>= (λ v. vars_by f.room v.1 >>= (λ vs. Ok (v.0 ∷ vs.0, vs.1)))) (Ok ([], rest)) >>= in_list vs)
   unfolding vars_by
   on o e = sym f.same ∙ ap (λ o. given o (λ rest. var_at rest >>= (λ v. vars_by f.room v.1 >>= (λ vs. Ok (v.0 ∷ vs.0, vs.1)))) (Ok ([], rest)) >>= in_list vs) (sym e)
 
-  pub ends_accumulators : None ≡ behind mark.Var rest → whole ≡ Ok (vs, rest)
+  pub ends_accumulators : None ≡ following mark.Var rest → whole ≡ Ok (vs, rest)
   ends_accumulators e = on None e ∙ ap (λ l. Ok (l, rest)) (append-nil vs)
 
-  taken : (from : List Word) → Some from ≡ behind mark.Var rest → whole ≡ (var_at from >>= (λ v. (vars_by f.room v.1 >>= (λ vs. Ok (v.0 ∷ vs.0, vs.1))) >>= in_list vs))
+  taken : (from : List Word) → Some from ≡ following mark.Var rest → whole ≡ (var_at from >>= (λ v. (vars_by f.room v.1 >>= (λ vs. Ok (v.0 ∷ vs.0, vs.1))) >>= in_list vs))
   taken from e = on (Some from) e ∙ bind_assoc (var_at from) (λ v. vars_by f.room v.1 >>= (λ vs. Ok (v.0 ∷ vs.0, vs.1))) (in_list vs)
 
-  pub fails_accumulator : (from : List Word) (e : Stop) → Some from ≡ behind mark.Var rest → Fails e (var_at from) → Fails e whole
+  pub fails_accumulator : (from : List Word) (e : Stop) → Some from ≡ following mark.Var rest → Fails e (var_at from) → Fails e whole
   fails_accumulator from e n h = fails_on e (var_at from) (λ v. (vars_by f.room v.1 >>= (λ vs. Ok (v.0 ∷ vs.0, vs.1))) >>= in_list vs) whole (taken from n) h
 
-  pub takes_accumulator : (from : List Word) (v : Accumulator) (next : List Word) → Some from ≡ behind mark.Var rest → var_at from ≡ Ok (v, next) → length next < length rest → VarsFollow whole (vs ++ v ∷ []) next
+  pub takes_accumulator : (from : List Word) (v : Accumulator) (next : List Word) → Some from ≡ following mark.Var rest → var_at from ≡ Ok (v, next) → length next < length rest → VarsFollow whole (vs ++ v ∷ []) next
   takes_accumulator from v next n h lt =
       let went = taken from n ∙ ap (λ r. r >>= (λ v. (vars_by f.room v.1 >>= (λ vs. Ok (v.0 ∷ vs.0, vs.1))) >>= in_list vs)) h ∙ bind_assoc (vars_by f.room next) (λ vs. Ok (v ∷ vs.0, vs.1)) (in_list vs) ∙ one_more vs v (vars_by f.room next) in
       let positive : f.room ≡ suc (f.room - 1) = omega (arith, f.enough) in

@@ -57,6 +57,6 @@ read_within text (Ok k) g = g.0
 read_within text (Err e) g = tt
 
 -- tokens are left after a kernel
-pub left_behind : (k : Program) (ts : List Token) → 1 ≤ length ts → alone k (words_of ts) ≡ Err (length ts)
-left_behind k [] h = absurd (omega arith)
-left_behind k (t ∷ ts) h = ap (λ n. Err (suc n)) (length-map ts word_of)
+pub left_following : (k : Program) (ts : List Token) → 1 ≤ length ts → alone k (words_of ts) ≡ Err (length ts)
+left_following k [] h = absurd (omega arith)
+left_following k (t ∷ ts) h = ap (λ n. Err (suc n)) (length-map ts word_of)

@@ -8,9 +8,9 @@ use Rattle.kernel_tree.specs.Word.{Word, IsName, IsUpdate, IsMark}
 use Rattle.kernel_tree.specs.Plain.{Term, Action, Define, Put, Update, Choose, Leave, Block, Done, Then, Nothing, Else}
 use Rattle.kernel_tree.specs.Grammar.{Spells, SpellsType, untyped, typed, SpellsAction, define, put, update, choose, choose_else, leave, SpellsBlock}
 use Rattle.kernel_tree.specs.Front.{Fronts, TypeFronts, no_type, at_type_word, ActionFronts, no_action, define_name, define_type, define_equals, define_value, define_end, at_target, put_index, put_bracket, put_equals, put_value, put_end, update_value, update_end, choose_condition, choose_brace, choose_block, else_brace, else_block, leave_if, leave_condition, leave_end, whole_action, BlockFronts, in_action, next_action, whole_block}
-use Rattle.kernel_syntax.specs.Reading.{◌>>=◌, given, behind, after, name_at, type_at}
+use Rattle.kernel_syntax.specs.Reading.{◌>>=◌, given, following, after, name_at, type_at}
 use Rattle.kernel_syntax.specs.Statements.{Statement, Statements, term_at, type_part, define_at, put_at, update_at, target_at, leave_at, choose_by, statement_by, block_by, block_at}
-use Rattle.kernel_syntax.proofs.Sound.{behind-is}
+use Rattle.kernel_syntax.proofs.Sound.{following-is}
 use Rattle.kernel_syntax.proofs.Complete.{shorter}
 use Rattle.kernel_syntax.proofs.KernelComplete.{semicolon_reads, bracket_reads, brace_reads, action_closes, type_reads, action_shorter, block_shorter, block_from, action_reads, block_goes}
 use Rattle.kernel_syntax.proofs.Within.{Passes, passes_bind, passes_one, passes_is, passes_same, after_passes, type_passes}
@@ -37,17 +37,17 @@ term_exact m words e rest q = passes_is (term_at m words) (e, rest) (length rest
 -- ---- one statement
 
 type_front_reaches : {words bad : List Word} → TypeFronts words bad → Passes (type_part words) (length bad)
-unfolding type_part behind
+unfolding type_part following
 type_front_reaches (no_type {bad = bad}) = type_part_goes bad (length bad) (omega arith)
 type_front_reaches (at_type_word {bad = bad}) = passes_bind (type_at bad) (λ t. Ok (Some t.0, t.1)) (length bad) (type_passes bad (length bad) (omega arith)) (λ t k. k)
 
 type_spelled_reaches : {words : List Word} {t : Option Ty} {rest : List Word} → SpellsType words t rest → Passes (type_part words) (length rest)
-unfolding type_part behind type_at
+unfolding type_part following type_at
 type_spelled_reaches (untyped {rest = rest}) = type_part_goes rest (length rest) (omega arith)
 type_spelled_reaches (typed {rest = rest}) = omega arith
 
 type_is : (words : List Word) (t : Option Ty) (next : List Word) → SpellsType words t (IsMark mark.Equals ∷ next) → type_part words ≡ Ok (t, IsMark mark.Equals ∷ next)
-unfolding behind
+unfolding following
 type_is words t next d = type_reads words t (IsMark mark.Equals ∷ next) d refl
 
 module _ (whole : Bool) (room : ℕ) (n : ℕ) where
@@ -60,7 +60,7 @@ module _ (whole : Bool) (room : ℕ) (n : ℕ) where
   define_let words h = define_goes words n h
 
   define_on : (x : List ℕ) (from : List Word) (t : Option Ty) (next : List Word) → type_part from ≡ Ok (t, IsMark mark.Equals ∷ next) → Passes (term_at mark.Semicolon next) n → Passes (statement_by whole (block_at false room) (IsMark mark.Let ∷ IsName x ∷ from)) n
-  unfolding statement_by define_at name_at after behind
+  unfolding statement_by define_at name_at after following
   define_on x from t next q p =
       passes_same _ _ n (ap (λ r. r >>= (λ t. after mark.Equals t.1 >>= (λ from. term_at mark.Semicolon from >>= (λ e. Ok (Define x t.0 e.0, e.1))))) q)
       (passes_bind (term_at mark.Semicolon next) (λ e. Ok (Define x t e.0, e.1)) n p (λ e k. k))
@@ -70,22 +70,22 @@ module _ (whole : Bool) (room : ℕ) (n : ℕ) where
   at_name x words h = target_goes x words n h
 
   put_from : (x : List ℕ) (from : List Word) → Passes (term_at mark.CloseBracket from) n → Passes (statement_by whole (block_at false room) (IsName x ∷ IsMark mark.OpenBracket ∷ from)) n
-  unfolding statement_by target_at put_at behind
+  unfolding statement_by target_at put_at following
   put_from x from p = passes_bind (term_at mark.CloseBracket from) (λ i. after mark.Equals i.1 >>= (λ next. term_at mark.Semicolon next >>= (λ e. Ok (Put x i.0 e.0, e.1)))) n p (put_passes x n)
 
-  put_behind : (x : List ℕ) (from : List Word) (i : Term) (next : List Word) → term_at mark.CloseBracket from ≡ Ok (i, next) → Passes (after mark.Equals next >>= (λ next. term_at mark.Semicolon next >>= (λ e. Ok (Put x i e.0, e.1)))) n → Passes (statement_by whole (block_at false room) (IsName x ∷ IsMark mark.OpenBracket ∷ from)) n
-  unfolding statement_by target_at put_at behind
-  put_behind x from i next q p = passes_same _ _ n (ap (λ r. r >>= (λ i. after mark.Equals i.1 >>= (λ next. term_at mark.Semicolon next >>= (λ e. Ok (Put x i.0 e.0, e.1))))) q) p
+  put_following : (x : List ℕ) (from : List Word) (i : Term) (next : List Word) → term_at mark.CloseBracket from ≡ Ok (i, next) → Passes (after mark.Equals next >>= (λ next. term_at mark.Semicolon next >>= (λ e. Ok (Put x i e.0, e.1)))) n → Passes (statement_by whole (block_at false room) (IsName x ∷ IsMark mark.OpenBracket ∷ from)) n
+  unfolding statement_by target_at put_at following
+  put_following x from i next q p = passes_same _ _ n (ap (λ r. r >>= (λ i. after mark.Equals i.1 >>= (λ next. term_at mark.Semicolon next >>= (λ e. Ok (Put x i.0 e.0, e.1))))) q) p
 
   put_valued : (x : List ℕ) (i : Term) (next : List Word) → Passes (term_at mark.Semicolon next) n → Passes (after mark.Equals (IsMark mark.Equals ∷ next) >>= (λ next. term_at mark.Semicolon next >>= (λ e. Ok (Put x i e.0, e.1)))) n
-  unfolding after behind
+  unfolding after following
   put_valued x i next p = passes_bind (term_at mark.Semicolon next) (λ e. Ok (Put x i e.0, e.1)) n p (λ e k. k)
 
   put_on : (x : List ℕ) (from : List Word) (i : Term) (next : List Word) → Spells 10 from i (IsMark mark.CloseBracket ∷ IsMark mark.Equals ∷ next) → Passes (term_at mark.Semicolon next) n → Passes (statement_by whole (block_at false room) (IsName x ∷ IsMark mark.OpenBracket ∷ from)) n
-  put_on x from i next d p = put_behind x from i (IsMark mark.Equals ∷ next) (bracket_reads from i (IsMark mark.Equals ∷ next) d) (put_valued x i next p)
+  put_on x from i next d p = put_following x from i (IsMark mark.Equals ∷ next) (bracket_reads from i (IsMark mark.Equals ∷ next) d) (put_valued x i next p)
 
   update_on : (x : List ℕ) (op : UpdateOp) (from : List Word) → Passes (term_at mark.Semicolon from) n → Passes (statement_by whole (block_at false room) (IsName x ∷ IsUpdate op ∷ from)) n
-  unfolding statement_by target_at update_at behind
+  unfolding statement_by target_at update_at following
   update_on x op from p = passes_bind (term_at mark.Semicolon from) (λ e. Ok (Update x op e.0, e.1)) n p (λ e k. k)
 
   choose_on : (from : List Word) → Passes (term_at mark.OpenBrace from) n → Passes (statement_by whole (block_at false room) (IsMark mark.If ∷ from)) n
@@ -93,24 +93,24 @@ module _ (whole : Bool) (room : ℕ) (n : ℕ) where
   choose_on from p = choose_passes (block_at false room) (block_at_goes false room) from n p
 
   -- after the condition of a choice
-  condition_on : (from : List Word) (c : Term) (next : List Word) → Spells 10 from c (IsMark mark.OpenBrace ∷ next) → Passes (block_at false room next >>= (λ b. given {B = Statement} (behind mark.Else b.1) (λ rest. after mark.OpenBrace rest >>= (λ from. block_at false room from >>= (λ d. Ok (Choose c b.0 (Else d.0), d.1)))) (Ok (Choose c b.0 Nothing, b.1)))) n → Passes (statement_by whole (block_at false room) (IsMark mark.If ∷ from)) n
+  condition_on : (from : List Word) (c : Term) (next : List Word) → Spells 10 from c (IsMark mark.OpenBrace ∷ next) → Passes (block_at false room next >>= (λ b. given {B = Statement} (following mark.Else b.1) (λ rest. after mark.OpenBrace rest >>= (λ from. block_at false room from >>= (λ d. Ok (Choose c b.0 (Else d.0), d.1)))) (Ok (Choose c b.0 Nothing, b.1)))) n → Passes (statement_by whole (block_at false room) (IsMark mark.If ∷ from)) n
   unfolding statement_by choose_by
-  condition_on from c next d p = passes_same _ _ n (ap (λ r. r >>= (λ c. block_at false room c.1 >>= (λ b. given {B = Statement} (behind mark.Else b.1) (λ rest. after mark.OpenBrace rest >>= (λ from. block_at false room from >>= (λ d. Ok (Choose c.0 b.0 (Else d.0), d.1)))) (Ok (Choose c.0 b.0 Nothing, b.1))))) (brace_reads from c next d)) p
+  condition_on from c next d p = passes_same _ _ n (ap (λ r. r >>= (λ c. block_at false room c.1 >>= (λ b. given {B = Statement} (following mark.Else b.1) (λ rest. after mark.OpenBrace rest >>= (λ from. block_at false room from >>= (λ d. Ok (Choose c.0 b.0 (Else d.0), d.1)))) (Ok (Choose c.0 b.0 Nothing, b.1))))) (brace_reads from c next d)) p
 
   block_on : (from : List Word) (c : Term) (next : List Word) → Spells 10 from c (IsMark mark.OpenBrace ∷ next) → Passes (block_at false room next) n → Passes (statement_by whole (block_at false room) (IsMark mark.If ∷ from)) n
   block_on from c next d p = condition_on from c next d (block_passes (block_at false room) (block_at_goes false room) n c next p)
 
   -- after the first block of a choice
-  then_on : (from : List Word) (c : Term) (next : List Word) (b : Block) (rest : List Word) → Spells 10 from c (IsMark mark.OpenBrace ∷ next) → block_at false room next ≡ Ok (b, rest) → Passes (given {B = Statement} (behind mark.Else rest) (λ rest. after mark.OpenBrace rest >>= (λ from. block_at false room from >>= (λ d. Ok (Choose c b (Else d.0), d.1)))) (Ok (Choose c b Nothing, rest))) n → Passes (statement_by whole (block_at false room) (IsMark mark.If ∷ from)) n
-  then_on from c next b rest d q p = condition_on from c next d (passes_same _ _ n (ap (λ r. r >>= (λ b. given {B = Statement} (behind mark.Else b.1) (λ rest. after mark.OpenBrace rest >>= (λ from. block_at false room from >>= (λ d. Ok (Choose c b.0 (Else d.0), d.1)))) (Ok (Choose c b.0 Nothing, b.1)))) q) p)
+  then_on : (from : List Word) (c : Term) (next : List Word) (b : Block) (rest : List Word) → Spells 10 from c (IsMark mark.OpenBrace ∷ next) → block_at false room next ≡ Ok (b, rest) → Passes (given {B = Statement} (following mark.Else rest) (λ rest. after mark.OpenBrace rest >>= (λ from. block_at false room from >>= (λ d. Ok (Choose c b (Else d.0), d.1)))) (Ok (Choose c b Nothing, rest))) n → Passes (statement_by whole (block_at false room) (IsMark mark.If ∷ from)) n
+  then_on from c next b rest d q p = condition_on from c next d (passes_same _ _ n (ap (λ r. r >>= (λ b. given {B = Statement} (following mark.Else b.1) (λ rest. after mark.OpenBrace rest >>= (λ from. block_at false room from >>= (λ d. Ok (Choose c b.0 (Else d.0), d.1)))) (Ok (Choose c b.0 Nothing, b.1)))) q) p)
 
-  else_on : (c : Term) (b : Block) (rest : List Word) → length rest ≤ n → Passes (given {B = Statement} (behind mark.Else (IsMark mark.Else ∷ rest)) (λ rest. after mark.OpenBrace rest >>= (λ from. block_at false room from >>= (λ d. Ok (Choose c b (Else d.0), d.1)))) (Ok (Choose c b Nothing, IsMark mark.Else ∷ rest))) n
-  unfolding behind
+  else_on : (c : Term) (b : Block) (rest : List Word) → length rest ≤ n → Passes (given {B = Statement} (following mark.Else (IsMark mark.Else ∷ rest)) (λ rest. after mark.OpenBrace rest >>= (λ from. block_at false room from >>= (λ d. Ok (Choose c b (Else d.0), d.1)))) (Ok (Choose c b Nothing, IsMark mark.Else ∷ rest))) n
+  unfolding following
   else_on c b rest h = passes_one (after mark.OpenBrace rest) (λ from. block_at false room from >>= (λ d. Ok (Choose c b (Else d.0), d.1))) n (after_passes mark.OpenBrace rest n h)
       (λ from k. passes_bind (block_at false room from) (λ d. Ok (Choose c b (Else d.0), d.1)) n (block_at_goes false room from n k) (λ d i. i))
 
-  other_on : (c : Term) (b : Block) (from : List Word) → Passes (block_at false room from) n → Passes (given {B = Statement} (behind mark.Else (IsMark mark.Else ∷ IsMark mark.OpenBrace ∷ from)) (λ rest. after mark.OpenBrace rest >>= (λ from. block_at false room from >>= (λ d. Ok (Choose c b (Else d.0), d.1)))) (Ok (Choose c b Nothing, IsMark mark.Else ∷ IsMark mark.OpenBrace ∷ from))) n
-  unfolding behind after
+  other_on : (c : Term) (b : Block) (from : List Word) → Passes (block_at false room from) n → Passes (given {B = Statement} (following mark.Else (IsMark mark.Else ∷ IsMark mark.OpenBrace ∷ from)) (λ rest. after mark.OpenBrace rest >>= (λ from. block_at false room from >>= (λ d. Ok (Choose c b (Else d.0), d.1)))) (Ok (Choose c b Nothing, IsMark mark.Else ∷ IsMark mark.OpenBrace ∷ from))) n
+  unfolding following after
   other_on c b from p = passes_bind (block_at false room from) (λ d. Ok (Choose c b (Else d.0), d.1)) n p (λ d i. i)
 
 leave_on : (room n : ℕ) (words : List Word) → length words ≤ n → Passes (statement_by true (block_at false room) (IsMark mark.Break ∷ words)) n
@@ -119,7 +119,7 @@ leave_on room n words h = passes_one (after mark.If words) (λ from. term_at mar
     (λ from l. passes_bind (term_at mark.Semicolon from) (λ c. Ok (Leave c.0, c.1)) n (term_goes mark.Semicolon from n l) (λ c k. k))
 
 leave_by : (room n : ℕ) (from : List Word) → Passes (term_at mark.Semicolon from) n → Passes (statement_by true (block_at false room) (IsMark mark.Break ∷ IsMark mark.If ∷ from)) n
-unfolding statement_by leave_at after behind
+unfolding statement_by leave_at after following
 leave_by room n from p = passes_bind (term_at mark.Semicolon from) (λ c. Ok (Leave c.0, c.1)) n p (λ c k. k)
 
 -- a block is read where its end stands
@@ -150,33 +150,33 @@ unfolding statement_by
 at_else whole block rest = refl
 
 module _ (whole : Bool) (room : ℕ) where
-  first_by : (k : ℕ) (words : List Word) (n : ℕ) → Passes (statement_by whole (block_at false room) words) n → (o : Option (List Word)) → behind mark.CloseBrace words ≡ o → Passes (given {B = Statements} o (λ rest. Ok (Done, rest)) (statement_by whole (block_at false room) words >>= (λ s. block_by (statement_by whole (block_at false room)) k s.1 >>= (λ b. Ok (Then s.0 b.0, b.1))))) n
+  first_by : (k : ℕ) (words : List Word) (n : ℕ) → Passes (statement_by whole (block_at false room) words) n → (o : Option (List Word)) → following mark.CloseBrace words ≡ o → Passes (given {B = Statements} o (λ rest. Ok (Done, rest)) (statement_by whole (block_at false room) words >>= (λ s. block_by (statement_by whole (block_at false room)) k s.1 >>= (λ b. Ok (Then s.0 b.0, b.1))))) n
   first_by k words n p None e = passes_bind (statement_by whole (block_at false room) words) (λ s. block_by (statement_by whole (block_at false room)) k s.1 >>= (λ b. Ok (Then s.0 b.0, b.1))) n p
       (λ s l. passes_bind (block_by (statement_by whole (block_at false room)) k s.1) (λ b. Ok (Then s.0 b.0, b.1)) n (block_by_goes (statement_by whole (block_at false room)) (statement_goes (block_at false room) (block_at_goes false room) whole) k s.1 n l) (λ b i. i))
   first_by k words n p (Some rest) e =
-      let at : Passes (statement_by whole (block_at false room) (IsMark mark.CloseBrace ∷ rest)) n = subst (λ (z : List Word). Passes (statement_by whole (block_at false room) z) n) (behind-is mark.CloseBrace words rest e) p in
+      let at : Passes (statement_by whole (block_at false room) (IsMark mark.CloseBrace ∷ rest)) n = subst (λ (z : List Word). Passes (statement_by whole (block_at false room) z) n) (following-is mark.CloseBrace words rest e) p in
       omega (arith, no_statement whole (block_at false room) mark.CloseBrace rest n (at_close whole (block_at false room) rest) at)
 
   first_reaches : (k : ℕ) (words : List Word) (n : ℕ) → Passes (statement_by whole (block_at false room) words) n → Passes (block_by (statement_by whole (block_at false room)) (suc k) words) n
   unfolding block_by
-  first_reaches k words n p = first_by k words n p (behind mark.CloseBrace words) refl
+  first_reaches k words n p = first_by k words n p (following mark.CloseBrace words) refl
 
   -- nothing is read of a block at an else
   else_stands : (k : ℕ) (rest : List Word) (n : ℕ) → Passes (block_by (statement_by whole (block_at false room)) (suc k) (IsMark mark.Else ∷ rest)) n → suc (length rest) ≤ n
-  unfolding block_by behind
+  unfolding block_by following
   else_stands k rest n p = subst (λ (z : Statement). Passes (z >>= (λ s. block_by (statement_by whole (block_at false room)) k s.1 >>= (λ b. Ok (Then s.0 b.0, b.1)))) n) (at_else whole (block_at false room) rest) p
 
-  next_is : (k : ℕ) (words : List Word) (s : Action) (next : List Word) (n : ℕ) → behind mark.CloseBrace words ≡ None → statement_by whole (block_at false room) words ≡ Ok (s, next) → Passes (block_by (statement_by whole (block_at false room)) k next) n → Passes (block_by (statement_by whole (block_at false room)) (suc k) words) n
+  next_is : (k : ℕ) (words : List Word) (s : Action) (next : List Word) (n : ℕ) → following mark.CloseBrace words ≡ None → statement_by whole (block_at false room) words ≡ Ok (s, next) → Passes (block_by (statement_by whole (block_at false room)) k next) n → Passes (block_by (statement_by whole (block_at false room)) (suc k) words) n
   unfolding block_by
   next_is k words s next n c q p =
       passes_same _ _ n (ap (λ o. given {B = Statements} o (λ rest. Ok (Done, rest)) (statement_by whole (block_at false room) words >>= (λ s. block_by (statement_by whole (block_at false room)) k s.1 >>= (λ b. Ok (Then s.0 b.0, b.1))))) c ∙ ap (λ r. r >>= (λ s. block_by (statement_by whole (block_at false room)) k s.1 >>= (λ b. Ok (Then s.0 b.0, b.1)))) q)
       (passes_bind (block_by (statement_by whole (block_at false room)) k next) (λ b. Ok (Then s b.0, b.1)) n p (λ b i. i))
 
-  next_by : (k : ℕ) (words : List Word) (s : Action) (next : List Word) (n : ℕ) → SpellsAction whole words s next → length words ≤ suc room → length next < k → Passes (block_by (statement_by whole (block_at false room)) k next) n → (o : Option (List Word)) → behind mark.Else next ≡ o → Passes (block_by (statement_by whole (block_at false room)) (suc k) words) n
+  next_by : (k : ℕ) (words : List Word) (s : Action) (next : List Word) (n : ℕ) → SpellsAction whole words s next → length words ≤ suc room → length next < k → Passes (block_by (statement_by whole (block_at false room)) k next) n → (o : Option (List Word)) → following mark.Else next ≡ o → Passes (block_by (statement_by whole (block_at false room)) (suc k) words) n
   next_by k words s next n d h l p None e = next_is k words s next n (action_closes whole s words next d) (action_reads d room h e) p
   next_by zero words s next n d h l p (Some rest) e = absurd (omega (arith, l))
   next_by (suc k) words s next n d h l p (Some rest) e =
-      let there = behind-is mark.Else next rest e in
+      let there = following-is mark.Else next rest e in
       let left = else_stands k rest n (subst (λ (z : List Word). Passes (block_by (statement_by whole (block_at false room)) (suc k) z) n) there p) in
       first_reaches (suc k) words n (passes_more (statement_by whole (block_at false room) words) (length next) n (omega (arith, ap length there, left)) (action_whole d room h))
 
@@ -196,7 +196,7 @@ mutual
   action_reaches (at_target {whole = whole} {x = x} {bad = bad}) room h = at_name whole room (length bad) x bad (omega arith)
   action_reaches (put_index {whole = whole} {x = x} {from = from} {bad = bad} f) room h = put_from whole room (length bad) x from (term_front f mark.CloseBracket)
   action_reaches (put_bracket {whole = whole} {x = x} {from = from} {bad = bad} d) room h = put_from whole room (length bad) x from (term_spelled d mark.CloseBracket)
-  action_reaches (put_equals {whole = whole} {x = x} {i = i} {from = from} {bad = bad} d) room h = put_behind whole room (length bad) x from i bad (bracket_reads from i bad d) (put_passes x (length bad) (i, bad) (omega arith))
+  action_reaches (put_equals {whole = whole} {x = x} {i = i} {from = from} {bad = bad} d) room h = put_following whole room (length bad) x from i bad (bracket_reads from i bad d) (put_passes x (length bad) (i, bad) (omega arith))
   action_reaches (put_value {whole = whole} {x = x} {i = i} {from = from} {next = next} {bad = bad} d f) room h = put_on whole room (length bad) x from i next d (term_front f mark.Semicolon)
   action_reaches (put_end {whole = whole} {x = x} {i = i} {from = from} {next = next} {bad = bad} d f) room h = put_on whole room (length bad) x from i next d (term_spelled f mark.Semicolon)
   action_reaches (update_value {whole = whole} {x = x} {op = op} {from = from} {bad = bad} f) room h = update_on whole room (length bad) x op from (term_front f mark.Semicolon)
@@ -215,7 +215,7 @@ mutual
   block_reaches (in_action f) room h zero l = absurd (omega arith)
   block_reaches (in_action {whole = whole} {from = from} {bad = bad} f) room h (suc k) l = first_reaches whole room k from (length bad) (action_reaches f room h)
   block_reaches (next_action d f) room h zero l = absurd (omega arith)
-  block_reaches (next_action {whole = whole} {s = s} {from = from} {next = next} {bad = bad} d f) room h (suc k) l = next_by whole room k from s next (length bad) d h (omega (arith, action_shorter d)) (block_reaches f room (omega (arith, action_shorter d)) k (omega (arith, action_shorter d))) (behind mark.Else next) refl
+  block_reaches (next_action {whole = whole} {s = s} {from = from} {next = next} {bad = bad} d f) room h (suc k) l = next_by whole room k from s next (length bad) d h (omega (arith, action_shorter d)) (block_reaches f room (omega (arith, action_shorter d)) k (omega (arith, action_shorter d))) (following mark.Else next) refl
   block_reaches (whole_block {whole = whole} {b = b} {from = from} {bad = bad} d) room h k l = passes_is (block_by (statement_by whole (block_at false room)) k from) (b, bad) (length bad) (block_goes d room h k l) (omega arith)
 
 pub block_front_reaches : {whole : Bool} {words bad : List Word} → BlockFronts whole words bad → (room : ℕ) → length words ≤ room → Passes (block_at whole room words) (length bad)

@@ -4,13 +4,13 @@ use Rattle.kernel_tree.specs.declared.ops.Ty.{Ty}
 use Rattle.kernel_tree.specs.declared.ast.Shape.TheVariants as shape
 use Rattle.kernel_tree.specs.declared.mark.Mark.TheVariants as mark
 use Rattle.kernel_tree.specs.Word.{Word, IsName, IsNumber, IsType, IsMark}
-use Rattle.kernel_tree.specs.Plain.{Term, Parameter, Accumulator, Turns, Program}
+use Rattle.kernel_tree.specs.Plain.{Term, Parameter, Accumulator, PlainLoop, Program}
 use Rattle.kernel_tree.specs.Grammar.{Spells, SpellsParams, SpellsVars, no_var, var, SpellsLoop}
 use Rattle.kernel_tree.specs.Front.{ParamFronts, no_param, param_colon, param_shape, param_element, param_bracket, whole_param, SomeFronts, in_param, next_param, VarFronts, no_var_yet, var_name, var_colon, var_type, var_equals, var_value, var_end, next_var, LoopFronts, no_loop_yet, loop_name, loop_in, loop_zero, loop_range, loop_bound, loop_brace, loop_block, BlockFronts, BodyFronts, in_vars, in_loop, end_body, in_answer, end_answer, at_brace, end_function, KernelFronts, no_kernel, kernel_name, kernel_paren, in_params, kernel_tail, kernel_type, kernel_brace, in_procedure, in_function}
-use Rattle.kernel_syntax.specs.Reading.{◌>>=◌, given, behind, after, name_at, type_at}
+use Rattle.kernel_syntax.specs.Reading.{◌>>=◌, given, following, after, name_at, type_at}
 use Rattle.kernel_syntax.specs.Statements.{term_at}
 use Rattle.kernel_syntax.specs.Headers.{Read, shape_at, param_at, some_at, params_at, var_at, vars_by, vars_at, zero_at, turns_at, loop_at, tail_at, answer_by, kernel_at}
-use Rattle.kernel_syntax.proofs.Sound.{behind-is}
+use Rattle.kernel_syntax.proofs.Sound.{following-is}
 use Rattle.kernel_syntax.proofs.Complete.{shorter}
 use Rattle.kernel_syntax.proofs.KernelComplete.{semicolon_reads, param_reads, params_reads, vars_reads, loop_reads, ends_vars}
 use Rattle.kernel_syntax.proofs.StuckKernel.{returns}
@@ -24,7 +24,7 @@ ends_same {A = A} r s n e h = subst (λ (z : Result A ℕ). PassesEnd z n) (sym 
 -- ---- parameters
 
 param_reaches : {words bad : List Word} → ParamFronts words bad → Passes (param_at words) (length bad)
-unfolding param_at name_at after behind shape_at type_at
+unfolding param_at name_at after following shape_at type_at
 param_reaches (no_param {bad = bad}) = param_goes bad (length bad) (omega arith)
 param_reaches (param_colon {x = x} {bad = bad}) = colon_passes x bad (length bad) (omega arith)
 param_reaches (param_shape {x = x} {bad = bad}) = shape_passes x bad (length bad) (shape_goes bad (length bad) (omega arith))
@@ -34,9 +34,9 @@ param_reaches (param_bracket {x = x} {t = t} {bad = bad}) = passes_bind (after m
 param_reaches (whole_param {p = p} {from = from} {bad = bad} d) = passes_is (param_at from) (p, bad) (length bad) (param_reads from p bad d) (omega arith)
 
 some_next : (others : ℕ) (words : List Word) (p : Parameter) (next : List Word) (n : ℕ) → param_at words ≡ Ok (p, IsMark mark.Comma ∷ next) → Passes (some_at others next) n → Passes (some_at (suc others) words) n
-unfolding some_at after behind
+unfolding some_at after following
 some_next others words p next n q h =
-    passes_same _ _ n (ap (λ r. r >>= (λ p. given {B = Read (List Parameter)} (behind mark.CloseParen p.1) (λ rest. Ok (p.0 ∷ [], rest)) (after mark.Comma p.1 >>= (λ next. some_at others next >>= (λ ps. Ok (p.0 ∷ ps.0, ps.1)))))) q)
+    passes_same _ _ n (ap (λ r. r >>= (λ p. given {B = Read (List Parameter)} (following mark.CloseParen p.1) (λ rest. Ok (p.0 ∷ [], rest)) (after mark.Comma p.1 >>= (λ next. some_at others next >>= (λ ps. Ok (p.0 ∷ ps.0, ps.1)))))) q)
     (passes_bind (some_at others next) (λ ps. Ok (p ∷ ps.0, ps.1)) n h (λ ps k. k))
 
 some_reaches : {others : ℕ} {words bad : List Word} → SomeFronts others words bad → Passes (some_at others words) (length bad)
@@ -49,45 +49,45 @@ unfolding some_at param_at name_at
 no_param_here zero rest n p = p
 no_param_here (suc others) rest n p = p
 
-by_close : (words : List Word) (n : ℕ) → Passes (some_at 7 words) n → (o : Option (List Word)) → behind mark.CloseParen words ≡ o → Passes (given {B = Read (List Parameter)} o (λ rest. Ok ([], rest)) (some_at 7 words)) n
+by_close : (words : List Word) (n : ℕ) → Passes (some_at 7 words) n → (o : Option (List Word)) → following mark.CloseParen words ≡ o → Passes (given {B = Read (List Parameter)} o (λ rest. Ok ([], rest)) (some_at 7 words)) n
 by_close words n p None e = p
-by_close words n p (Some rest) e = omega (arith, no_param_here 7 rest n (subst (λ (z : List Word). Passes (some_at 7 z) n) (behind-is mark.CloseParen words rest e) p))
+by_close words n p (Some rest) e = omega (arith, no_param_here 7 rest n (subst (λ (z : List Word). Passes (some_at 7 z) n) (following-is mark.CloseParen words rest e) p))
 
 params_reach : {words bad : List Word} → SomeFronts 7 words bad → Passes (params_at words) (length bad)
 unfolding params_at
-params_reach {words = words} {bad = bad} f = by_close words (length bad) (some_reaches f) (behind mark.CloseParen words) refl
+params_reach {words = words} {bad = bad} f = by_close words (length bad) (some_reaches f) (following mark.CloseParen words) refl
 
 -- ---- accumulators
 
 var_first : (k : ℕ) (words : List Word) (n : ℕ) → Passes (var_at words) n → Passes (vars_by (suc k) (IsMark mark.Var ∷ words)) n
-unfolding vars_by behind
+unfolding vars_by following
 var_first k words n p = var_passes k words n p
 
 var_then : (k : ℕ) (words : List Word) (v : Accumulator) (next : List Word) (n : ℕ) → var_at words ≡ Ok (v, next) → Passes (vars_by k next) n → Passes (vars_by (suc k) (IsMark mark.Var ∷ words)) n
-unfolding vars_by behind
+unfolding vars_by following
 var_then k words v next n q p =
     passes_same _ _ n (ap (λ r. r >>= (λ v. vars_by k v.1 >>= (λ vs. Ok (v.0 ∷ vs.0, vs.1)))) q)
     (passes_bind (vars_by k next) (λ vs. Ok (v ∷ vs.0, vs.1)) n p (λ vs j. j))
 
 module _ (x : List ℕ) (n : ℕ) where
   var_named : (words : List Word) → length words ≤ n → Passes (var_at (IsName x ∷ words)) n
-  unfolding var_at name_at type_at after behind
+  unfolding var_at name_at type_at after following
   var_named words h = named_passes x words n h
 
   var_typed : (words : List Word) → length words ≤ n → Passes (var_at (IsName x ∷ IsMark mark.Colon ∷ words)) n
-  unfolding var_at name_at type_at after behind
+  unfolding var_at name_at type_at after following
   var_typed words h = type_passes_on x words n h
 
   var_equal : (t : Ty) (words : List Word) → length words ≤ n → Passes (var_at (IsName x ∷ IsMark mark.Colon ∷ IsType t ∷ words)) n
-  unfolding var_at name_at type_at after behind
+  unfolding var_at name_at type_at after following
   var_equal t words h = equals_passes x t words n h
 
   var_valued : (t : Ty) (words : List Word) → Passes (term_at mark.Semicolon words) n → Passes (var_at (IsName x ∷ IsMark mark.Colon ∷ IsType t ∷ IsMark mark.Equals ∷ words)) n
-  unfolding var_at name_at type_at after behind
+  unfolding var_at name_at type_at after following
   var_valued t words p = value_passes x t words n p
 
 var_is : (x : List ℕ) (t : Ty) (e : Term) (words next : List Word) → term_at mark.Semicolon words ≡ Ok (e, next) → var_at (IsName x ∷ IsMark mark.Colon ∷ IsType t ∷ IsMark mark.Equals ∷ words) ≡ Ok (record { name = x; type = t; init = e }, next)
-unfolding var_at name_at type_at after behind
+unfolding var_at name_at type_at after following
 var_is x t e words next q = ap (λ r. r >>= initial x t) q
 
 vars_reach_by : {words bad : List Word} → VarFronts words bad → (k : ℕ) → length words < k → Passes (vars_by k words) (length bad)
@@ -113,32 +113,32 @@ vars_front (var d ds) = next_var d (vars_front ds)
 -- ---- the loop
 
 loop_first : (words : List Word) (n : ℕ) → Passes (turns_at words) n → Passes (loop_at (IsMark mark.For ∷ words)) n
-unfolding loop_at behind
+unfolding loop_at following
 loop_first words n p = passes_bind (turns_at words) (λ l. Ok (Some l.0, l.1)) n p (λ l k. k)
 
 module _ (i : List ℕ) (n : ℕ) where
   turns_in : (words : List Word) → length words ≤ n → Passes (turns_at (IsName i ∷ words)) n
-  unfolding turns_at name_at zero_at after behind
+  unfolding turns_at name_at zero_at after following
   turns_in words h = index_passes n (i, words) h
 
   turns_zero : (words : List Word) → length words ≤ n → Passes (turns_at (IsName i ∷ IsMark mark.In ∷ words)) n
-  unfolding turns_at name_at zero_at after behind
+  unfolding turns_at name_at zero_at after following
   turns_zero words h = zero_of_passes i n words h
 
   turns_range : (words : List Word) → length words ≤ n → Passes (turns_at (IsName i ∷ IsMark mark.In ∷ IsNumber 0 ∷ words)) n
-  unfolding turns_at name_at zero_at after behind
+  unfolding turns_at name_at zero_at after following
   turns_range words h = range_passes i n words h
 
   turns_bound : (words : List Word) → length words ≤ n → Passes (turns_at (IsName i ∷ IsMark mark.In ∷ IsNumber 0 ∷ IsMark mark.Range ∷ words)) n
-  unfolding turns_at name_at zero_at after behind
+  unfolding turns_at name_at zero_at after following
   turns_bound words h = end_passes i n words h
 
   turns_brace : (b : List ℕ) (words : List Word) → length words ≤ n → Passes (turns_at (IsName i ∷ IsMark mark.In ∷ IsNumber 0 ∷ IsMark mark.Range ∷ IsName b ∷ words)) n
-  unfolding turns_at name_at zero_at after behind
+  unfolding turns_at name_at zero_at after following
   turns_brace b words h = bound_passes i n (b, words) h
 
   turns_block : (b : List ℕ) {words bad : List Word} → BlockFronts true words bad → length bad ≤ n → Passes (turns_at (IsName i ∷ IsMark mark.In ∷ IsNumber 0 ∷ IsMark mark.Range ∷ IsName b ∷ IsMark mark.OpenBrace ∷ words)) n
-  unfolding turns_at name_at zero_at after behind
+  unfolding turns_at name_at zero_at after following
   turns_block b {words = words} {bad = bad} f h = inside_passes i b words n (passes_more _ (length bad) n h (block_front_reaches f (length words) (omega arith)))
 
 loop_reaches : {words bad : List Word} → LoopFronts words bad → Passes (loop_at words) (length bad)
@@ -153,7 +153,7 @@ loop_reaches (loop_block {i = i} {n = b} {bad = bad} f) = loop_first _ (length b
 
 -- a word that begins an accumulator begins no loop
 no_loop_here : (rest : List Word) (n : ℕ) → Passes (loop_at (IsMark mark.Var ∷ rest)) n → suc (length rest) ≤ n
-unfolding loop_at behind
+unfolding loop_at following
 no_loop_here rest n p = p
 
 -- ---- what stands in the braces
@@ -163,36 +163,36 @@ module _ (x : List ℕ) (ps : List Parameter) (t : Option Ty) (body : List Word)
   through_vars p = ends_bind (vars_at body) (by_vars x ps t) n p (vars_end x ps t n)
 
   module _ (vs : List Accumulator) (next : List Word) (v : SpellsVars body vs next) where
-    past_vars : behind mark.Var next ≡ None → PassesEnd (by_vars x ps t (vs, next)) n → PassesEnd (by_tail x ps (t, body)) n
+    past_vars : following mark.Var next ≡ None → PassesEnd (by_vars x ps t (vs, next)) n → PassesEnd (by_tail x ps (t, body)) n
     past_vars e p = ends_same _ _ n (ap (λ r. r >>= by_vars x ps t) (vars_reads body vs next v e)) p
 
-    by_more : Passes (loop_at next) n → (o : Option (List Word)) → behind mark.Var next ≡ o → PassesEnd (by_tail x ps (t, body)) n
+    by_more : Passes (loop_at next) n → (o : Option (List Word)) → following mark.Var next ≡ o → PassesEnd (by_tail x ps (t, body)) n
     by_more p None e = past_vars e (ends_bind (loop_at next) (by_turns x ps t vs) n p (turns_end x ps t vs n))
     by_more p (Some rest) e =
-        let there = behind-is mark.Var next rest e in
+        let there = following-is mark.Var next rest e in
         let left = no_loop_here rest n (subst (λ (z : List Word). Passes (loop_at z) n) there p) in
         through_vars (passes_more (vars_at body) (length next) n (omega (arith, ap length there, left)) (vars_reach (vars_front v)))
 
     through_loop : Passes (loop_at next) n → PassesEnd (by_tail x ps (t, body)) n
-    through_loop p = by_more p (behind mark.Var next) refl
+    through_loop p = by_more p (following mark.Var next) refl
 
-    past_loop : (l : Option Turns) (rest : List Word) → SpellsLoop next l rest → behind mark.Var rest ≡ None → behind mark.For rest ≡ None → PassesEnd (by_turns x ps t vs (l, rest)) n → PassesEnd (by_tail x ps (t, body)) n
+    past_loop : (l : Option PlainLoop) (rest : List Word) → SpellsLoop next l rest → following mark.Var rest ≡ None → following mark.For rest ≡ None → PassesEnd (by_turns x ps t vs (l, rest)) n → PassesEnd (by_tail x ps (t, body)) n
     past_loop l rest d e f p = past_vars (ends_vars next l rest d e) (ends_same _ _ n (ap (λ r. r >>= by_turns x ps t vs) (loop_reads next l rest d f)) p)
 
-module _ (x : List ℕ) (ps : List Parameter) (body : List Word) (n : ℕ) (vs : List Accumulator) (next : List Word) (v : SpellsVars body vs next) (l : Option Turns) where
+module _ (x : List ℕ) (ps : List Parameter) (body : List Word) (n : ℕ) (vs : List Accumulator) (next : List Word) (v : SpellsVars body vs next) (l : Option PlainLoop) where
   past_close : (bad : List Word) → SpellsLoop next l (IsMark mark.CloseBrace ∷ bad) → length bad ≤ n → PassesEnd (by_tail x ps (None, body)) n
-  unfolding answer_by after behind
+  unfolding answer_by after following
   past_close bad d h = past_loop x ps None body n vs next v l (IsMark mark.CloseBrace ∷ bad) d refl refl (answer_ends x ps vs l n (None, bad) h)
 
   past_return : (t : Ty) (last : List Word) → SpellsLoop next l (IsMark mark.Return ∷ last) → Passes (term_at mark.Semicolon last >>= (λ e. after mark.CloseBrace e.1 >>= returned t e.0)) n → PassesEnd (by_tail x ps (Some t, body)) n
-  unfolding answer_by after behind
+  unfolding answer_by after following
   past_return t last d p = past_loop x ps (Some t) body n vs next v l (IsMark mark.Return ∷ last) d refl refl (ends_bind (term_at mark.Semicolon last >>= (λ e. after mark.CloseBrace e.1 >>= returned t e.0)) (by_answer x ps vs l) n p (answer_ends x ps vs l n))
 
   past_value : (t : Ty) (last : List Word) (e : Term) (rest : List Word) → SpellsLoop next l (IsMark mark.Return ∷ last) → Spells 10 last e (IsMark mark.Semicolon ∷ rest) → Passes (after mark.CloseBrace rest >>= returned t e) n → PassesEnd (by_tail x ps (Some t, body)) n
   past_value t last e rest d s p = past_return t last d (passes_same _ _ n (ap (λ r. r >>= (λ e. after mark.CloseBrace e.1 >>= returned t e.0)) (semicolon_reads last e rest s)) p)
 
   past_end : (t : Ty) (last : List Word) (e : Term) (rest : List Word) → SpellsLoop next l (IsMark mark.Return ∷ last) → Spells 10 last e (IsMark mark.Semicolon ∷ IsMark mark.CloseBrace ∷ rest) → length rest ≤ n → PassesEnd (by_tail x ps (Some t, body)) n
-  unfolding after behind
+  unfolding after following
   past_end t last e rest d s h = past_value t last e (IsMark mark.CloseBrace ∷ rest) d s h
 
 none_returns : (t : Option Ty) → returns t ≡ false → t ≡ None
@@ -228,7 +228,7 @@ module _ (x : List ℕ) (ps : List Parameter) (t : Option Ty) where
 
 module _ (x : List ℕ) (from : List Word) (n : ℕ) where
   header : PassesEnd (by_inside x from) n → PassesEnd (kernel_at (IsMark mark.Kernel ∷ IsName x ∷ IsMark mark.OpenParen ∷ from)) n
-  unfolding kernel_at name_at after behind
+  unfolding kernel_at name_at after following
   header p = p
 
   past_params : (ps : List Parameter) (rest : List Word) → SpellsParams from ps rest → PassesEnd (by_params x (ps, rest)) n → PassesEnd (kernel_at (IsMark mark.Kernel ∷ IsName x ∷ IsMark mark.OpenParen ∷ from)) n
@@ -236,27 +236,27 @@ module _ (x : List ℕ) (from : List Word) (n : ℕ) where
 
   module _ (ps : List Parameter) where
     at_arrow : (words : List Word) → length words ≤ n → PassesEnd (by_params x (ps, IsMark mark.Arrow ∷ words)) n
-    unfolding tail_at after behind
+    unfolding tail_at after following
     at_arrow words h = ends_bind (type_at words >>= (λ t. after mark.OpenBrace t.1 >>= opened t.0)) (by_tail x ps) n (type_opens words n h) (tail_ends x ps n)
 
     at_type : (t : Ty) (words : List Word) → length words ≤ n → PassesEnd (by_params x (ps, IsMark mark.Arrow ∷ IsType t ∷ words)) n
-    unfolding tail_at type_at after behind
+    unfolding tail_at type_at after following
     at_type t words h = ends_bind (after mark.OpenBrace words >>= opened t) (by_tail x ps) n (passes_one (after mark.OpenBrace words) (opened t) n (after_passes mark.OpenBrace words n h) (λ body k. k)) (tail_ends x ps n)
 
     at_body : (body : List Word) → PassesEnd (by_tail x ps (None, body)) n → PassesEnd (by_params x (ps, IsMark mark.OpenBrace ∷ body)) n
-    unfolding tail_at behind
+    unfolding tail_at following
     at_body body p = p
 
     at_typed_body : (t : Ty) (body : List Word) → PassesEnd (by_tail x ps (Some t, body)) n → PassesEnd (by_params x (ps, IsMark mark.Arrow ∷ IsType t ∷ IsMark mark.OpenBrace ∷ body)) n
-    unfolding tail_at type_at after behind
+    unfolding tail_at type_at after following
     at_typed_body t body p = p
 
 first_word : (words : List Word) (n : ℕ) → length words ≤ n → PassesEnd (kernel_at (IsMark mark.Kernel ∷ words)) n
-unfolding kernel_at after behind
+unfolding kernel_at after following
 first_word words n h = kernel_ends n words h
 
 second_word : (x : List ℕ) (words : List Word) (n : ℕ) → length words ≤ n → PassesEnd (kernel_at (IsMark mark.Kernel ∷ IsName x ∷ words)) n
-unfolding kernel_at name_at after behind
+unfolding kernel_at name_at after following
 second_word x words n h = name_ends n (x, words) h
 
 kernel_reaches : {words bad : List Word} → KernelFronts words bad → PassesEnd (kernel_at words) (length bad)

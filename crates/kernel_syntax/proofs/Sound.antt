@@ -18,9 +18,9 @@ use Rattle.kernel_tree.specs.declared.mark.Sign.TheVariants as sign
 use Rattle.kernel_tree.specs.declared.mark.Opening.TheVariants as opening
 use Rattle.kernel_tree.specs.Word.{Word, IsName, IsNumber, IsType, IsCompare, IsUpdate, IsMark}
 use Rattle.kernel_tree.specs.Plain.{Term, Literal, Variable, Element, Unary, Operation, Shift, Conversion, Choice, Comparison, same}
-use Rattle.kernel_tree.specs.Grammar.{Spells, number, name, element, group, pair, absolute, choice, negative, prefix, up, conversion, shift, operation, comparison, operator_of, level_of, level_of_dual, joined, opening_of_mark, signed, number_at, number_behind}
+use Rattle.kernel_tree.specs.Grammar.{Spells, number, name, element, group, pair, absolute, choice, negative, prefix, up, conversion, shift, operation, comparison, operator_of, level_of, level_of_dual, joined, opening_of_mark, signed, number_at, number_following}
 use Rattle.kernel_tree.proofs.Marks.{same-true}
-use Rattle.kernel_syntax.specs.Reading.{◌>>=◌, given, needed, Outcome, mark_at, name_front, type_front, update_front, behind, after, name_at, type_at, count_at, operator_at, by_operator, more, chain_at, term_before, name_by, pair_by, absolute_by, choice_by, signed_by, opened_by, unary_by, unary_at}
+use Rattle.kernel_syntax.specs.Reading.{◌>>=◌, given, needed, Outcome, mark_at, name_front, type_front, update_front, following, after, name_at, type_at, count_at, operator_at, by_operator, more, chain_at, term_before, name_by, pair_by, absolute_by, choice_by, signed_by, opened_by, unary_by, unary_at}
 
 pub bind_ok : {A B : Type 0} (r : Result A ℕ) (f : A → Result B ℕ) (y : B) → (r >>= f) ≡ Ok y → (x : A) × (r ≡ Ok x) × (f x ≡ Ok y)
 bind_ok (Ok x) f y e = (x, refl, e)
@@ -99,9 +99,9 @@ number-is (IsType t ∷ words) x e = absurd cc
 number-is (IsCompare op ∷ words) x e = absurd cc
 number-is (IsUpdate op ∷ words) x e = absurd cc
 
-pub behind-is : (m : Mark) (words rest : List Word) → behind m words ≡ Some rest → words ≡ IsMark m ∷ rest
-unfolding behind
-behind-is m words rest e =
+pub following-is : (m : Mark) (words rest : List Word) → following m words ≡ Some rest → words ≡ IsMark m ∷ rest
+unfolding following
+following-is m words rest e =
     let g = given_is (mark_at words) (λ x. cond (same x.0 m) (Some x.1) None) None (Some rest) (not_none rest) e in
     let h = cond_is (same g.0.0 m) (Some g.0.1) None (Some rest) (not_none rest) g.2 in
     let w : words ≡ IsMark g.0.0 ∷ g.0.1 = mark-is words g.0 g.1 in
@@ -111,7 +111,7 @@ behind-is m words rest e =
 
 pub after-is : (m : Mark) (words rest : List Word) → after m words ≡ Ok rest → words ≡ IsMark m ∷ rest
 unfolding after
-after-is m words rest e = behind-is m words rest (needed_is (behind m words) (length words) rest e)
+after-is m words rest e = following-is m words rest (needed_is (following m words) (length words) rest e)
 
 pub name-is : (words : List Word) (x : List ℕ × List Word) → name_at words ≡ Ok x → words ≡ IsName x.0 ∷ x.1
 unfolding name_at
@@ -227,11 +227,11 @@ before_spells read sound m words x q =
     subst (λ (x : Term × List Word). Spells 10 words x.0 (IsMark m ∷ x.1)) p (until_spells 10 words b.0.0 b.0.1 (IsMark m ∷ a.0) w (sound words b.0.0 b.0.1 b.1))
 
 module _ (read inner : List Word → Outcome) (whole : Sound 10 read) (sound : Sound 0 inner) where
-  name_spells : (x : List ℕ) (words : List Word) (e : Term) (rest : List Word) → (o : Option (List Word)) → behind mark.OpenBracket words ≡ o → given {B = Outcome} o (λ from. term_before read mark.CloseBracket from >>= (λ i. Ok (Element x i.0, i.1))) (Ok (Variable x, words)) ≡ Ok (e, rest) → Spells 0 (IsName x ∷ words) e rest
+  name_spells : (x : List ℕ) (words : List Word) (e : Term) (rest : List Word) → (o : Option (List Word)) → following mark.OpenBracket words ≡ o → given {B = Outcome} o (λ from. term_before read mark.CloseBracket from >>= (λ i. Ok (Element x i.0, i.1))) (Ok (Variable x, words)) ≡ Ok (e, rest) → Spells 0 (IsName x ∷ words) e rest
   name_spells x words e rest None p q = first_spells 0 (IsName x ∷ words) (Variable x, words) (e, rest) (ok_is (Variable x, words) (e, rest) q) name
   name_spells x words e rest (Some from) p q =
       let b = bind_ok (term_before read mark.CloseBracket from) (λ i. Ok (Element x i.0, i.1)) (e, rest) q in
-      let w : IsName x ∷ words ≡ IsName x ∷ IsMark mark.OpenBracket ∷ from = ap (λ (z : List Word). IsName x ∷ z) (behind-is mark.OpenBracket words from p) in
+      let w : IsName x ∷ words ≡ IsName x ∷ IsMark mark.OpenBracket ∷ from = ap (λ (z : List Word). IsName x ∷ z) (following-is mark.OpenBracket words from p) in
       from_spells 0 (IsName x ∷ IsMark mark.OpenBracket ∷ from) (IsName x ∷ words) e rest w (first_spells 0 _ (Element x b.0.0, b.0.1) (e, rest) (ok_is (Element x b.0.0, b.0.1) (e, rest) b.2) (element (before_spells read whole mark.CloseBracket from b.0 b.1)))
 
   called : (m : Mark) (words from : List Word) → after mark.OpenParen words ≡ Ok from → IsMark m ∷ words ≡ IsMark m ∷ IsMark mark.OpenParen ∷ from
@@ -261,7 +261,7 @@ module _ (read inner : List Word → Outcome) (whole : Sound 10 read) (sound : S
       let b = bind_ok (term_before read mark.CloseParen a.0.1) (λ b. Ok (Choice c.0.0 a.0.0 b.0, b.1)) (e, rest) a.2 in
       from_spells 0 _ (IsMark mark.Select ∷ words) e rest (called mark.Select words f.0 f.1) (first_spells 0 _ (Choice c.0.0 a.0.0 b.0.0, b.0.1) (e, rest) (ok_is (Choice c.0.0 a.0.0 b.0.0, b.0.1) (e, rest) b.2) (choice (before_spells read whole mark.Comma f.0 c.0 c.1) (before_spells read whole mark.Comma c.0.1 a.0 a.1) (before_spells read whole mark.CloseParen a.0.1 b.0 b.1)))
 
-  sign_spells : (s : Sign) (m : Mark) → opening_of_mark m ≡ Some (opening.Signed s) → (words : List Word) (e : Term) (rest : List Word) → number_behind s words ≡ None → ◌>>=◌ {A = Term × List Word} {B = Term × List Word} (inner words) (λ e. Ok (signed s e.0, e.1)) ≡ Ok (e, rest) → Spells 0 (IsMark m ∷ words) e rest
+  sign_spells : (s : Sign) (m : Mark) → opening_of_mark m ≡ Some (opening.Signed s) → (words : List Word) (e : Term) (rest : List Word) → number_following s words ≡ None → ◌>>=◌ {A = Term × List Word} {B = Term × List Word} (inner words) (λ e. Ok (signed s e.0, e.1)) ≡ Ok (e, rest) → Spells 0 (IsMark m ∷ words) e rest
   sign_spells s m o words e rest n q =
       let b = bind_ok (inner words) (λ e. Ok (signed s e.0, e.1)) (e, rest) q in
       first_spells 0 (IsMark m ∷ words) (signed s b.0.0, b.0.1) (e, rest) (ok_is (signed s b.0.0, b.0.1) (e, rest) b.2) (prefix o n (sound words b.0.0 b.0.1 b.1))
@@ -288,7 +288,7 @@ module _ (read inner : List Word → Outcome) (whole : Sound 10 read) (sound : S
   unfolding name_by
   unary_by_spells [] e rest q = absurd (not_err 0 (e, rest) q)
   unary_by_spells (IsNumber n ∷ words) e rest q = first_spells 0 (IsNumber n ∷ words) (Literal (pos n), words) (e, rest) (ok_is (Literal (pos n), words) (e, rest) q) number
-  unary_by_spells (IsName x ∷ words) e rest q = name_spells x words e rest (behind mark.OpenBracket words) refl q
+  unary_by_spells (IsName x ∷ words) e rest q = name_spells x words e rest (following mark.OpenBracket words) refl q
   unary_by_spells (IsMark m ∷ words) e rest q = opened_spells m words e rest q
   unary_by_spells (IsType t ∷ words) e rest q = absurd (not_err (suc (length words)) (e, rest) q)
   unary_by_spells (IsCompare op ∷ words) e rest q = absurd (not_err (suc (length words)) (e, rest) q)

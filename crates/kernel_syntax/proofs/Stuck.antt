@@ -15,8 +15,8 @@ use Rattle.kernel_tree.specs.Word.{Word, IsName, IsNumber, IsType, IsCompare, Is
 use Rattle.kernel_tree.specs.Plain.{Term, Literal, Variable, Element, Unary, Operation, Shift, Conversion, Choice, Comparison}
 use Rattle.kernel_tree.specs.Grammar.{up, operation, conversion, shift, joined, opening_of_mark, signed, number_at}
 use Rattle.kernel_tree.specs.Front.{Fronts, nothing, above, in_element, in_group, at_pair, first_pair, second_pair, at_absolute, in_absolute, at_choice, first_choice, second_choice, third_choice, in_sign, at_operator, at_type, at_count, in_operation, in_comparison}
-use Rattle.kernel_syntax.specs.Reading.{◌>>=◌, given, needed, Outcome, behind, after, name_at, type_at, count_at, operator_at, by_operator, more, chain_at, term_before, name_by, pair_by, absolute_by, choice_by, signed_by, opened_by, unary_by, unary_at}
-use Rattle.kernel_syntax.proofs.Sound.{after-is, behind-is, operator-is, count-is, type-is, Sound, Left, until_spells, before_spells, joined_is_no_8, other_is_no_8, chain_spells, unary_spells}
+use Rattle.kernel_syntax.specs.Reading.{◌>>=◌, given, needed, Outcome, following, after, name_at, type_at, count_at, operator_at, by_operator, more, chain_at, term_before, name_by, pair_by, absolute_by, choice_by, signed_by, opened_by, unary_by, unary_at}
+use Rattle.kernel_syntax.proofs.Sound.{after-is, following-is, operator-is, count-is, type-is, Sound, Left, until_spells, before_spells, joined_is_no_8, other_is_no_8, chain_spells, unary_spells}
 
 -- reading stopped with so many words left, and up to there stands a front
 pub record Stuck (Front : List Word → List Word → Type 0) (words : List Word) (left : ℕ) : Type 0 where
@@ -41,7 +41,7 @@ needed_err (Some x) m n e = absurd (ok_not_err x n e)
 
 pub after-stops : (m : Mark) (words : List Word) (n : ℕ) → after m words ≡ Err n → length words ≡ n
 unfolding after
-after-stops m words n e = needed_err (behind m words) (length words) n e
+after-stops m words n e = needed_err (following m words) (length words) n e
 
 pub name-stops : (words : List Word) (n : ℕ) → name_at words ≡ Err n → length words ≡ n
 unfolding name_at
@@ -120,10 +120,10 @@ module _ (read inner : List Word → Outcome) (whole : Sound 10 read) (stops : S
   before : (m : Mark) (words : List Word) (n : ℕ) → term_before read m words ≡ Err n → Stuck (Fronts 10) words n
   before m words n q = before_stops read whole stops m words n q
 
-  name_stops : (x : List ℕ) (words : List Word) (n : ℕ) (o : Option (List Word)) → behind mark.OpenBracket words ≡ o → given {B = Outcome} o (λ from. term_before read mark.CloseBracket from >>= (λ i. Ok (Element x i.0, i.1))) (Ok (Variable x, words)) ≡ Err n → Stuck (Fronts 0) (IsName x ∷ words) n
+  name_stops : (x : List ℕ) (words : List Word) (n : ℕ) (o : Option (List Word)) → following mark.OpenBracket words ≡ o → given {B = Outcome} o (λ from. term_before read mark.CloseBracket from >>= (λ i. Ok (Element x i.0, i.1))) (Ok (Variable x, words)) ≡ Err n → Stuck (Fronts 0) (IsName x ∷ words) n
   name_stops x words n None p q = absurd (ok_not_err (Variable x, words) n q)
   name_stops x words n (Some from) p q =
-      stuck_from (Fronts 0) _ _ n (ap (λ (z : List Word). IsName x ∷ z) (behind-is mark.OpenBracket words from p))
+      stuck_from (Fronts 0) _ _ n (ap (λ (z : List Word). IsName x ∷ z) (following-is mark.OpenBracket words from p))
       (stuck_bind (term_before read mark.CloseBracket from) (λ i. Ok (Element x i.0, i.1)) n q
       (λ f. let s = before mark.CloseBracket from n f in record { bad = s.bad; front = in_element s.front; place = s.place })
       (λ i r f. absurd (ok_not_err (Element x i.0, i.1) n f)))
@@ -194,7 +194,7 @@ module _ (read inner : List Word → Outcome) (whole : Sound 10 read) (stops : S
   unfolding name_by
   unary_by_stops [] n q = record { bad = []; front = nothing; place = err_is 0 n q }
   unary_by_stops (IsNumber k ∷ words) n q = absurd (ok_not_err (Literal (pos k), words) n q)
-  unary_by_stops (IsName x ∷ words) n q = name_stops x words n (behind mark.OpenBracket words) refl q
+  unary_by_stops (IsName x ∷ words) n q = name_stops x words n (following mark.OpenBracket words) refl q
   unary_by_stops (IsMark m ∷ words) n q = opened_stops m words n q
   unary_by_stops (IsType t ∷ words) n q = nowhere (IsType t) words n q
   unary_by_stops (IsCompare op ∷ words) n q = nowhere (IsCompare op) words n q

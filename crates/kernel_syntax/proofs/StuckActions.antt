@@ -8,9 +8,9 @@ use Rattle.kernel_tree.specs.Word.{Word, IsName, IsNumber, IsType, IsCompare, Is
 use Rattle.kernel_tree.specs.Plain.{Term, Define, Put, Update, Choose, Leave, Block, Done, Then, Nothing, Else}
 use Rattle.kernel_tree.specs.Grammar.{Spells, SpellsType, SpellsBlock, beginning_of_mark}
 use Rattle.kernel_tree.specs.Front.{Fronts, TypeFronts, at_type_word, ActionFronts, no_action, define_name, define_type, define_equals, define_value, at_target, put_index, put_equals, put_value, update_value, choose_condition, choose_block, else_brace, else_block, leave_if, leave_condition, BlockFronts, in_action, next_action}
-use Rattle.kernel_syntax.specs.Reading.{◌>>=◌, given, behind, after, name_at, type_at, update_front, unary_at, chain_at}
+use Rattle.kernel_syntax.specs.Reading.{◌>>=◌, given, following, after, name_at, type_at, update_front, unary_at, chain_at}
 use Rattle.kernel_syntax.specs.Statements.{Statement, Statements, term_at, type_part, define_at, put_at, update_at, target_at, leave_at, choose_by, begun_by, statement_by, block_by, block_at}
-use Rattle.kernel_syntax.proofs.Sound.{after-is, behind-is, name-is, type-is, update-is, reads_spells}
+use Rattle.kernel_syntax.proofs.Sound.{after-is, following-is, name-is, type-is, update-is, reads_spells}
 use Rattle.kernel_syntax.proofs.ActionSound.{term_spells, type_part_spells, SoundBlock, statement_spells, block_spells}
 use Rattle.kernel_syntax.proofs.Stuck.{Stuck, err_is, ok_not_err, stuck_bind, stuck_from, after-stops, name-stops, type-stops, before_stops, reads_stops}
 
@@ -18,8 +18,8 @@ use Rattle.kernel_syntax.proofs.Stuck.{Stuck, err_is, ok_not_err, stuck_bind, st
 pub past_mark : (Front : List Word → List Word → Type 0) (before : List Word → List Word) (m : Mark) (words from : List Word) (n : ℕ) → after m words ≡ Ok from → Stuck Front (before (IsMark m ∷ from)) n → Stuck Front (before words) n
 past_mark Front before m words from n p h = stuck_from Front _ _ n (ap before (after-is m words from p)) h
 
-pub past_behind : (Front : List Word → List Word → Type 0) (before : List Word → List Word) (m : Mark) (words from : List Word) (n : ℕ) → behind m words ≡ Some from → Stuck Front (before (IsMark m ∷ from)) n → Stuck Front (before words) n
-past_behind Front before m words from n p h = stuck_from Front _ _ n (ap before (behind-is m words from p)) h
+pub past_following : (Front : List Word → List Word → Type 0) (before : List Word → List Word) (m : Mark) (words from : List Word) (n : ℕ) → following m words ≡ Some from → Stuck Front (before (IsMark m ∷ from)) n → Stuck Front (before words) n
+past_following Front before m words from n p h = stuck_from Front _ _ n (ap before (following-is m words from p)) h
 
 pub past_name : (Front : List Word → List Word → Type 0) (before : List Word → List Word) (words : List Word) (x : List ℕ × List Word) (n : ℕ) → name_at words ≡ Ok x → Stuck Front (before (IsName x.0 ∷ x.1)) n → Stuck Front (before words) n
 past_name Front before words x n p h = stuck_from Front _ _ n (ap before (name-is words x p)) h
@@ -32,17 +32,17 @@ pub term_stops : (m : Mark) (words : List Word) (n : ℕ) → term_at m words �
 unfolding term_at
 term_stops m words n q = before_stops (chain_at (unary_at (length words)) 10) (reads_spells (length words) 10) (reads_stops (length words) 10) m words n q
 
-type_stops : (words : List Word) (n : ℕ) (o : Option (List Word)) → behind mark.Colon words ≡ o → given {B = Result (Option Ty × List Word) ℕ} o (λ rest. type_at rest >>= (λ t. Ok (Some t.0, t.1))) (Ok (None, words)) ≡ Err n → Stuck TypeFronts words n
+type_stops : (words : List Word) (n : ℕ) (o : Option (List Word)) → following mark.Colon words ≡ o → given {B = Result (Option Ty × List Word) ℕ} o (λ rest. type_at rest >>= (λ t. Ok (Some t.0, t.1))) (Ok (None, words)) ≡ Err n → Stuck TypeFronts words n
 type_stops words n None p q = absurd (ok_not_err (None, words) n q)
 type_stops words n (Some from) p q =
-    past_behind TypeFronts (λ z. z) mark.Colon words from n p
+    past_following TypeFronts (λ z. z) mark.Colon words from n p
     (stuck_bind (type_at from) (λ t. Ok (Some t.0, t.1)) n q
     (λ f. record { bad = from; front = at_type_word; place = type-stops from n f })
     (λ t r f. absurd (ok_not_err (Some t.0, t.1) n f)))
 
 type_part_stops : (words : List Word) (n : ℕ) → type_part words ≡ Err n → Stuck TypeFronts words n
 unfolding type_part
-type_part_stops words n q = type_stops words n (behind mark.Colon words) refl q
+type_part_stops words n q = type_stops words n (following mark.Colon words) refl q
 
 define_stops : (whole : Bool) (words : List Word) (n : ℕ) → define_at words ≡ Err n → Stuck (ActionFronts whole) (IsMark mark.Let ∷ words) n
 unfolding define_at
@@ -82,13 +82,13 @@ by_update : (whole : Bool) (x : List ℕ) (words : List Word) (n : ℕ) (o : Opt
 by_update whole x words n None p q = record { bad = words; front = at_target; place = err_is (length words) n q }
 by_update whole x words n (Some u) p q = stuck_from (ActionFronts whole) _ _ n (ap (λ (z : List Word). IsName x ∷ z) (update-is words u p)) (update_stops whole x u.0 u.1 n q)
 
-by_target : (whole : Bool) (x : List ℕ) (words : List Word) (n : ℕ) (o : Option (List Word)) → behind mark.OpenBracket words ≡ o → given {B = Statement} o (λ from. put_at x from) (given (update_front words) (λ u. update_at x u.0 u.1) (Err (length words))) ≡ Err n → Stuck (ActionFronts whole) (IsName x ∷ words) n
+by_target : (whole : Bool) (x : List ℕ) (words : List Word) (n : ℕ) (o : Option (List Word)) → following mark.OpenBracket words ≡ o → given {B = Statement} o (λ from. put_at x from) (given (update_front words) (λ u. update_at x u.0 u.1) (Err (length words))) ≡ Err n → Stuck (ActionFronts whole) (IsName x ∷ words) n
 by_target whole x words n None p q = by_update whole x words n (update_front words) refl q
-by_target whole x words n (Some from) p q = past_behind (ActionFronts whole) (λ z. IsName x ∷ z) mark.OpenBracket words from n p (put_stops whole x from n q)
+by_target whole x words n (Some from) p q = past_following (ActionFronts whole) (λ z. IsName x ∷ z) mark.OpenBracket words from n p (put_stops whole x from n q)
 
 target_stops : (whole : Bool) (x : List ℕ) (words : List Word) (n : ℕ) → target_at x words ≡ Err n → Stuck (ActionFronts whole) (IsName x ∷ words) n
 unfolding target_at
-target_stops whole x words n q = by_target whole x words n (behind mark.OpenBracket words) refl q
+target_stops whole x words n q = by_target whole x words n (following mark.OpenBracket words) refl q
 
 nowhere : (whole : Bool) (w : Word) (words : List Word) (n : ℕ) → ◌≡◌ {A = Statement} (Err (suc (length words))) (Err n) → Stuck (ActionFronts whole) (w ∷ words) n
 nowhere whole w words n q = record { bad = w ∷ words; front = no_action; place = err_is (suc (length words)) n q }
@@ -108,10 +108,10 @@ abbrev StopsBlock : Bool → (List Word → Statements) → Type 0
 StopsBlock whole block = (words : List Word) (n : ℕ) → block words ≡ Err n → Stuck (BlockFronts whole) words n
 
 module _ (block : List Word → Statements) (sound : SoundBlock false block) (stops : StopsBlock false block) (whole : Bool) where
-  else_stops : (words from : List Word) (c : Term) (b : Block) (next : List Word) (n : ℕ) → Spells 10 words c (IsMark mark.OpenBrace ∷ from) → SpellsBlock false from b next → (o : Option (List Word)) → behind mark.Else next ≡ o → given {B = Statement} o (λ rest. after mark.OpenBrace rest >>= (λ from. block from >>= (λ d. Ok (Choose c b (Else d.0), d.1)))) (Ok (Choose c b Nothing, next)) ≡ Err n → Stuck (ActionFronts whole) (IsMark mark.If ∷ words) n
+  else_stops : (words from : List Word) (c : Term) (b : Block) (next : List Word) (n : ℕ) → Spells 10 words c (IsMark mark.OpenBrace ∷ from) → SpellsBlock false from b next → (o : Option (List Word)) → following mark.Else next ≡ o → given {B = Statement} o (λ rest. after mark.OpenBrace rest >>= (λ from. block from >>= (λ d. Ok (Choose c b (Else d.0), d.1)))) (Ok (Choose c b Nothing, next)) ≡ Err n → Stuck (ActionFronts whole) (IsMark mark.If ∷ words) n
   else_stops words from c b next n hc hb None p q = absurd (ok_not_err (Choose c b Nothing, next) n q)
   else_stops words start c b next n hc hb (Some rest) p q =
-      let then_part : SpellsBlock false start b (IsMark mark.Else ∷ rest) = subst (λ (z : List Word). SpellsBlock false start b z) (behind-is mark.Else next rest p) hb in
+      let then_part : SpellsBlock false start b (IsMark mark.Else ∷ rest) = subst (λ (z : List Word). SpellsBlock false start b z) (following-is mark.Else next rest p) hb in
       stuck_bind (after mark.OpenBrace rest) (λ from. block from >>= (λ d. Ok (Choose c b (Else d.0), d.1))) n q
       (λ f. record { bad = rest; front = else_brace hc then_part; place = after-stops mark.OpenBrace rest n f })
       (λ from r f. stuck_bind (block from) (λ d. Ok (Choose c b (Else d.0), d.1)) n f
@@ -121,12 +121,12 @@ module _ (block : List Word → Statements) (sound : SoundBlock false block) (st
   choose_stops : (words : List Word) (n : ℕ) → choose_by block words ≡ Err n → Stuck (ActionFronts whole) (IsMark mark.If ∷ words) n
   unfolding choose_by
   choose_stops words n q =
-      stuck_bind (term_at mark.OpenBrace words) (λ c. block c.1 >>= (λ b. given {B = Statement} (behind mark.Else b.1) (λ rest. after mark.OpenBrace rest >>= (λ from. block from >>= (λ d. Ok (Choose c.0 b.0 (Else d.0), d.1)))) (Ok (Choose c.0 b.0 Nothing, b.1)))) n q
+      stuck_bind (term_at mark.OpenBrace words) (λ c. block c.1 >>= (λ b. given {B = Statement} (following mark.Else b.1) (λ rest. after mark.OpenBrace rest >>= (λ from. block from >>= (λ d. Ok (Choose c.0 b.0 (Else d.0), d.1)))) (Ok (Choose c.0 b.0 Nothing, b.1)))) n q
       (λ f. let s = term_stops mark.OpenBrace words n f in record { bad = s.bad; front = choose_condition s.front; place = s.place })
       (λ c r f. let cond = term_spells mark.OpenBrace words c r in
-      stuck_bind (block c.1) (λ b. given {B = Statement} (behind mark.Else b.1) (λ rest. after mark.OpenBrace rest >>= (λ from. block from >>= (λ d. Ok (Choose c.0 b.0 (Else d.0), d.1)))) (Ok (Choose c.0 b.0 Nothing, b.1))) n f
+      stuck_bind (block c.1) (λ b. given {B = Statement} (following mark.Else b.1) (λ rest. after mark.OpenBrace rest >>= (λ from. block from >>= (λ d. Ok (Choose c.0 b.0 (Else d.0), d.1)))) (Ok (Choose c.0 b.0 Nothing, b.1))) n f
       (λ g. let s = stops c.1 n g in record { bad = s.bad; front = choose_block cond s.front; place = s.place })
-      (λ b t g. else_stops words c.1 c.0 b.0 b.1 n cond (sound c.1 b t) (behind mark.Else b.1) refl g))
+      (λ b t g. else_stops words c.1 c.0 b.0 b.1 n cond (sound c.1 b t) (following mark.Else b.1) refl g))
 
   begun_stops : (m : Mark) (words : List Word) (n : ℕ) → begun_by whole block (beginning_of_mark m) words ≡ Err n → Stuck (ActionFronts whole) (IsMark m ∷ words) n
   begun_stops mark.Let words n q = define_stops whole words n q
@@ -144,7 +144,7 @@ module _ (block : List Word → Statements) (sound : SoundBlock false block) (st
   statement_stops (IsCompare op ∷ words) n q = nowhere whole (IsCompare op) words n q
   statement_stops (IsUpdate op ∷ words) n q = nowhere whole (IsUpdate op) words n q
 
-  given_stops : (k : ℕ) (words : List Word) (n : ℕ) → ((next : List Word) → block_by (statement_by whole block) k next ≡ Err n → Stuck (BlockFronts whole) next n) → (o : Option (List Word)) → behind mark.CloseBrace words ≡ o → given {B = Statements} o (λ rest. Ok (Done, rest)) (statement_by whole block words >>= (λ s. block_by (statement_by whole block) k s.1 >>= (λ b. Ok (Then s.0 b.0, b.1)))) ≡ Err n → Stuck (BlockFronts whole) words n
+  given_stops : (k : ℕ) (words : List Word) (n : ℕ) → ((next : List Word) → block_by (statement_by whole block) k next ≡ Err n → Stuck (BlockFronts whole) next n) → (o : Option (List Word)) → following mark.CloseBrace words ≡ o → given {B = Statements} o (λ rest. Ok (Done, rest)) (statement_by whole block words >>= (λ s. block_by (statement_by whole block) k s.1 >>= (λ b. Ok (Then s.0 b.0, b.1)))) ≡ Err n → Stuck (BlockFronts whole) words n
   given_stops k words n again (Some next) p q = absurd (ok_not_err (Done, next) n q)
   given_stops k words n again None p q =
       stuck_bind (statement_by whole block words) (λ s. block_by (statement_by whole block) k s.1 >>= (λ b. Ok (Then s.0 b.0, b.1))) n q
@@ -156,7 +156,7 @@ module _ (block : List Word → Statements) (sound : SoundBlock false block) (st
   block_by_stops : (k : ℕ) (words : List Word) (n : ℕ) → block_by (statement_by whole block) k words ≡ Err n → Stuck (BlockFronts whole) words n
   unfolding block_by
   block_by_stops zero words n q = record { bad = words; front = in_action no_action; place = err_is (length words) n q }
-  block_by_stops (suc k) words n q = given_stops k words n (λ next. block_by_stops k next n) (behind mark.CloseBrace words) refl q
+  block_by_stops (suc k) words n q = given_stops k words n (λ next. block_by_stops k next n) (following mark.CloseBrace words) refl q
 
 pub block_stops : (room : ℕ) (whole : Bool) → StopsBlock whole (block_at whole room)
 unfolding block_at

@@ -5,27 +5,27 @@ use Rattle.kernel_tree.specs.declared.ast.Shape.{Shape}
 use Rattle.kernel_tree.specs.declared.ast.Shape.TheVariants as shape
 use Rattle.kernel_tree.specs.declared.mark.Mark.TheVariants as mark
 use Rattle.kernel_tree.specs.Word.{Word, IsName, IsNumber, IsType, IsMark}
-use Rattle.kernel_tree.specs.Plain.{Parameter, Accumulator, Turns, Returned, Program}
+use Rattle.kernel_tree.specs.Plain.{Parameter, Accumulator, PlainLoop, Returned, Program}
 use Rattle.kernel_tree.specs.Grammar.{SpellsParam, SpellsParams, SpellsVars, SpellsLoop, no_loop, loop, number_at}
 use Rattle.kernel_tree.specs.Front.{ParamFronts, no_param, param_colon, param_shape, param_element, param_bracket, whole_param, SomeFronts, in_param, next_param, VarFronts, no_var_yet, var_name, var_colon, var_type, var_equals, var_value, next_var, LoopFronts, no_loop_yet, loop_name, loop_in, loop_zero, loop_range, loop_bound, loop_brace, loop_block, whole_block, BodyFronts, in_vars, in_loop, end_body, in_answer, at_brace, end_function, KernelFronts, no_kernel, kernel_name, kernel_paren, in_params, kernel_tail, kernel_type, kernel_brace, in_procedure, in_function}
-use Rattle.kernel_syntax.specs.Reading.{◌>>=◌, given, behind, after, name_at, type_at}
+use Rattle.kernel_syntax.specs.Reading.{◌>>=◌, given, following, after, name_at, type_at}
 use Rattle.kernel_syntax.specs.Statements.{term_at, block_at}
 use Rattle.kernel_syntax.specs.Headers.{Read, shape_at, param_at, some_at, params_at, var_at, vars_by, vars_at, zero_at, turns_at, loop_at, tail_at, answer_by, alone, kernel_at}
 use Rattle.kernel_syntax.proofs.Sound.{after-is, type-is}
 use Rattle.kernel_syntax.proofs.ActionSound.{term_spells}
 use Rattle.kernel_syntax.proofs.KernelSound.{param_spells, params_spells, var_spells, vars_spells, zero-is, loop_spells, SpellsTail, no_type, with_type, tail_spells, SpellsAnswer, no_answer, with_answer, answer_spells}
 use Rattle.kernel_syntax.proofs.Stuck.{Stuck, err_is, ok_not_err, stuck_bind, stuck_from, after-stops, name-stops, type-stops}
-use Rattle.kernel_syntax.proofs.StuckActions.{past_mark, past_behind, past_name, past_type, term_stops, block_stops}
+use Rattle.kernel_syntax.proofs.StuckActions.{past_mark, past_following, past_name, past_type, term_stops, block_stops}
 
 -- ---- parameters
 
-by_shape : (x : List ℕ) (words : List Word) (n : ℕ) (o : Option (List Word)) → behind mark.OpenBracket words ≡ o → given {B = Read Shape} o (λ from. type_at from >>= (λ t. after mark.CloseBracket t.1 >>= (λ rest. Ok (shape.Array t.0, rest)))) (type_at words >>= (λ t. Ok (shape.Scalar t.0, t.1))) ≡ Err n → Stuck ParamFronts (IsName x ∷ IsMark mark.Colon ∷ words) n
+by_shape : (x : List ℕ) (words : List Word) (n : ℕ) (o : Option (List Word)) → following mark.OpenBracket words ≡ o → given {B = Read Shape} o (λ from. type_at from >>= (λ t. after mark.CloseBracket t.1 >>= (λ rest. Ok (shape.Array t.0, rest)))) (type_at words >>= (λ t. Ok (shape.Scalar t.0, t.1))) ≡ Err n → Stuck ParamFronts (IsName x ∷ IsMark mark.Colon ∷ words) n
 by_shape x words n None p q =
     stuck_bind (type_at words) (λ t. Ok (shape.Scalar t.0, t.1)) n q
     (λ f. record { bad = words; front = param_shape; place = type-stops words n f })
     (λ t r f. absurd (ok_not_err (shape.Scalar t.0, t.1) n f))
 by_shape x words n (Some from) p q =
-    past_behind ParamFronts (λ z. IsName x ∷ IsMark mark.Colon ∷ z) mark.OpenBracket words from n p
+    past_following ParamFronts (λ z. IsName x ∷ IsMark mark.Colon ∷ z) mark.OpenBracket words from n p
     (stuck_bind (type_at from) (λ t. after mark.CloseBracket t.1 >>= (λ rest. Ok (shape.Array t.0, rest))) n q
     (λ f. record { bad = from; front = param_element; place = type-stops from n f })
     (λ t r f. past_type ParamFronts (λ z. IsName x ∷ IsMark mark.Colon ∷ IsMark mark.OpenBracket ∷ z) from t n r
@@ -35,7 +35,7 @@ by_shape x words n (Some from) p q =
 
 shape_stops : (x : List ℕ) (words : List Word) (n : ℕ) → shape_at words ≡ Err n → Stuck ParamFronts (IsName x ∷ IsMark mark.Colon ∷ words) n
 unfolding shape_at
-shape_stops x words n q = by_shape x words n (behind mark.OpenBracket words) refl q
+shape_stops x words n q = by_shape x words n (following mark.OpenBracket words) refl q
 
 param_stops : (words : List Word) (n : ℕ) → param_at words ≡ Err n → Stuck ParamFronts words n
 unfolding param_at
@@ -72,13 +72,13 @@ in_first others words n q = let s = param_stops words n q in record { bad = s.ba
 some_stops : (others : ℕ) (words : List Word) (n : ℕ) → some_at others words ≡ Err n → Stuck (SomeFronts others) words n
 unfolding some_at
 some_stops zero words n q =
-    stuck_bind (param_at words) (λ p. given {B = Read (List Parameter)} (behind mark.CloseParen p.1) (λ rest. Ok (p.0 ∷ [], rest)) (Err (length p.1))) n q
+    stuck_bind (param_at words) (λ p. given {B = Read (List Parameter)} (following mark.CloseParen p.1) (λ rest. Ok (p.0 ∷ [], rest)) (Err (length p.1))) n q
     (in_first 0 words n)
-    (λ p r f. by_last words p n (param_spells words p r) (behind mark.CloseParen p.1) f)
+    (λ p r f. by_last words p n (param_spells words p r) (following mark.CloseParen p.1) f)
 some_stops (suc others) words n q =
-    stuck_bind (param_at words) (λ p. given {B = Read (List Parameter)} (behind mark.CloseParen p.1) (λ rest. Ok (p.0 ∷ [], rest)) (after mark.Comma p.1 >>= (λ next. some_at others next >>= (λ ps. Ok (p.0 ∷ ps.0, ps.1))))) n q
+    stuck_bind (param_at words) (λ p. given {B = Read (List Parameter)} (following mark.CloseParen p.1) (λ rest. Ok (p.0 ∷ [], rest)) (after mark.Comma p.1 >>= (λ next. some_at others next >>= (λ ps. Ok (p.0 ∷ ps.0, ps.1))))) n q
     (in_first (suc others) words n)
-    (λ p r f. by_more others (some_stops others) words p n (param_spells words p r) (behind mark.CloseParen p.1) f)
+    (λ p r f. by_more others (some_stops others) words p n (param_spells words p r) (following mark.CloseParen p.1) f)
 
 by_params : (words : List Word) (n : ℕ) (o : Option (List Word)) → given {B = Read (List Parameter)} o (λ rest. Ok ([], rest)) (some_at 7 words) ≡ Err n → Stuck (SomeFronts 7) words n
 by_params words n None q = some_stops 7 words n q
@@ -86,7 +86,7 @@ by_params words n (Some rest) q = absurd (ok_not_err ([], rest) n q)
 
 params_stop : (words : List Word) (n : ℕ) → params_at words ≡ Err n → Stuck (SomeFronts 7) words n
 unfolding params_at
-params_stop words n q = by_params words n (behind mark.CloseParen words) q
+params_stop words n q = by_params words n (following mark.CloseParen words) q
 
 -- ---- accumulators
 
@@ -109,10 +109,10 @@ var_stops words n q =
     (λ j. let s = term_stops mark.Semicolon next n j in record { bad = s.bad; front = var_value s.front; place = s.place })
     (λ e w j. absurd (ok_not_err (record { name = x.0; type = t.0; init = e.0 }, e.1) n j))))))))))
 
-by_vars : (k : ℕ) → ((next : List Word) (n : ℕ) → vars_by k next ≡ Err n → Stuck VarFronts next n) → (words : List Word) (n : ℕ) (o : Option (List Word)) → behind mark.Var words ≡ o → given {B = Read (List Accumulator)} o (λ rest. var_at rest >>= (λ v. vars_by k v.1 >>= (λ vs. Ok (v.0 ∷ vs.0, vs.1)))) (Ok ([], words)) ≡ Err n → Stuck VarFronts words n
+by_vars : (k : ℕ) → ((next : List Word) (n : ℕ) → vars_by k next ≡ Err n → Stuck VarFronts next n) → (words : List Word) (n : ℕ) (o : Option (List Word)) → following mark.Var words ≡ o → given {B = Read (List Accumulator)} o (λ rest. var_at rest >>= (λ v. vars_by k v.1 >>= (λ vs. Ok (v.0 ∷ vs.0, vs.1)))) (Ok ([], words)) ≡ Err n → Stuck VarFronts words n
 by_vars k again words n None p q = absurd (ok_not_err ([], words) n q)
 by_vars k again words n (Some from) p q =
-    past_behind VarFronts (λ z. z) mark.Var words from n p
+    past_following VarFronts (λ z. z) mark.Var words from n p
     (stuck_bind (var_at from) (λ v. vars_by k v.1 >>= (λ vs. Ok (v.0 ∷ vs.0, vs.1))) n q
     (var_stops from n)
     (λ v r f. let s = var_spells from v r in
@@ -123,7 +123,7 @@ by_vars k again words n (Some from) p q =
 vars_by_stop : (k : ℕ) (words : List Word) (n : ℕ) → vars_by k words ≡ Err n → Stuck VarFronts words n
 unfolding vars_by
 vars_by_stop zero words n q = record { bad = words; front = no_var_yet; place = err_is (length words) n q }
-vars_by_stop (suc k) words n q = by_vars k (vars_by_stop k) words n (behind mark.Var words) refl q
+vars_by_stop (suc k) words n q = by_vars k (vars_by_stop k) words n (following mark.Var words) refl q
 
 vars_stop : (words : List Word) (n : ℕ) → vars_at words ≡ Err n → Stuck VarFronts words n
 unfolding vars_at
@@ -146,7 +146,7 @@ zero-stops words n q = by_zero words n (number_at words) q
 past_zero : (before : List Word → List Word) (words from : List Word) (n : ℕ) → zero_at words ≡ Ok from → Stuck LoopFronts (before (IsNumber 0 ∷ from)) n → Stuck LoopFronts (before words) n
 past_zero before words from n p h = stuck_from LoopFronts _ _ n (ap before (zero-is words from p)) h
 
-bound_stops : (i : List ℕ) (end : List Word) (n : ℕ) → ◌≡◌ {A = Read Turns} (name_at end >>= (λ n. after mark.OpenBrace n.1 >>= (λ inside. block_at true (length inside) inside >>= (λ b. Ok (record { index = i; bound = n.0; body = b.0 }, b.1))))) (Err n) → Stuck LoopFronts (IsMark mark.For ∷ IsName i ∷ IsMark mark.In ∷ IsNumber 0 ∷ IsMark mark.Range ∷ end) n
+bound_stops : (i : List ℕ) (end : List Word) (n : ℕ) → ◌≡◌ {A = Read PlainLoop} (name_at end >>= (λ n. after mark.OpenBrace n.1 >>= (λ inside. block_at true (length inside) inside >>= (λ b. Ok (record { index = i; bound = n.0; body = b.0 }, b.1))))) (Err n) → Stuck LoopFronts (IsMark mark.For ∷ IsName i ∷ IsMark mark.In ∷ IsNumber 0 ∷ IsMark mark.Range ∷ end) n
 bound_stops i end n q =
     stuck_bind (name_at end) (λ n. after mark.OpenBrace n.1 >>= (λ inside. block_at true (length inside) inside >>= (λ b. Ok (record { index = i; bound = n.0; body = b.0 }, b.1)))) n q
     (λ f. record { bad = end; front = loop_bound; place = name-stops end n f })
@@ -174,17 +174,17 @@ turns_stop words n q =
     (λ j. record { bad = range; front = loop_range; place = after-stops mark.Range range n j })
     (λ end u j. past_mark LoopFronts (λ z. IsMark mark.For ∷ IsName i.0 ∷ IsMark mark.In ∷ IsNumber 0 ∷ z) mark.Range range end n u (bound_stops i.0 end n j))))))))
 
-by_loop : (words : List Word) (n : ℕ) (o : Option (List Word)) → behind mark.For words ≡ o → given {B = Read (Option Turns)} o (λ rest. turns_at rest >>= (λ l. Ok (Some l.0, l.1))) (Ok (None, words)) ≡ Err n → Stuck LoopFronts words n
+by_loop : (words : List Word) (n : ℕ) (o : Option (List Word)) → following mark.For words ≡ o → given {B = Read (Option PlainLoop)} o (λ rest. turns_at rest >>= (λ l. Ok (Some l.0, l.1))) (Ok (None, words)) ≡ Err n → Stuck LoopFronts words n
 by_loop words n None p q = absurd (ok_not_err (None, words) n q)
 by_loop words n (Some from) p q =
-    past_behind LoopFronts (λ z. z) mark.For words from n p
+    past_following LoopFronts (λ z. z) mark.For words from n p
     (stuck_bind (turns_at from) (λ l. Ok (Some l.0, l.1)) n q
     (turns_stop from n)
     (λ l r f. absurd (ok_not_err (Some l.0, l.1) n f)))
 
 loop_stops : (words : List Word) (n : ℕ) → loop_at words ≡ Err n → Stuck LoopFronts words n
 unfolding loop_at
-loop_stops words n q = by_loop words n (behind mark.For words) refl q
+loop_stops words n q = by_loop words n (following mark.For words) refl q
 
 -- ---- the kernel
 
@@ -207,18 +207,18 @@ module _ (x : List ℕ) (ps : List Parameter) (from : List Word) where
 
   tail_stops : (words : List Word) (n : ℕ) → SpellsParams from ps words → tail_at words ≡ Err n → Stuck KernelFronts (IsMark mark.Kernel ∷ IsName x ∷ IsMark mark.OpenParen ∷ from) n
   unfolding tail_at
-  tail_stops words n d q = by_tail words n d (behind mark.OpenBrace words) q
+  tail_stops words n d q = by_tail words n d (following mark.OpenBrace words) q
 
   in_body : (words body : List Word) (t : Option Ty) (n : ℕ) → SpellsParams from ps words → SpellsTail words t body → Stuck (BodyFronts (returns t)) body n → Stuck KernelFronts (IsMark mark.Kernel ∷ IsName x ∷ IsMark mark.OpenParen ∷ from) n
   in_body words body None n d no_type s = record { bad = s.bad; front = in_procedure d s.front; place = s.place }
   in_body words body (Some t) n d with_type s = record { bad = s.bad; front = in_function d s.front; place = s.place }
 
-loop_fronts : (words rest : List Word) (l : Option Turns) → SpellsLoop words l rest → LoopFronts words rest
+loop_fronts : (words rest : List Word) (l : Option PlainLoop) → SpellsLoop words l rest → LoopFronts words rest
 loop_fronts words rest l no_loop = no_loop_yet
 loop_fronts words rest l (loop d) = loop_block (whole_block d)
 
 module _ (body : List Word) (vs : List Accumulator) (next : List Word) (v : SpellsVars body vs next) where
-  answer_stops : (t : Option Ty) (l : Option Turns) (words : List Word) (n : ℕ) → SpellsLoop next l words → answer_by t words ≡ Err n → Stuck (BodyFronts (returns t)) body n
+  answer_stops : (t : Option Ty) (l : Option PlainLoop) (words : List Word) (n : ℕ) → SpellsLoop next l words → answer_by t words ≡ Err n → Stuck (BodyFronts (returns t)) body n
   unfolding answer_by
   answer_stops None l words n d q =
       stuck_bind (after mark.CloseBrace words) (λ rest. Ok (None, rest)) n q
@@ -234,7 +234,7 @@ module _ (body : List Word) (vs : List Accumulator) (next : List Word) (v : Spel
       (λ h. record { bad = e.1; front = at_brace v back (term_spells mark.Semicolon from e s); place = after-stops mark.CloseBrace e.1 n h })
       (λ rest u h. absurd (ok_not_err (Some (record { type = t; value = e.0 }), rest) n h))))
 
-  end_stops : (t : Option Ty) (l : Option Turns) (a : Option Returned) (words rest : List Word) (k : Program) (n : ℕ) → SpellsLoop next l words → SpellsAnswer t words a rest → alone k rest ≡ Err n → Stuck (BodyFronts (returns t)) body n
+  end_stops : (t : Option Ty) (l : Option PlainLoop) (a : Option Returned) (words rest : List Word) (k : Program) (n : ℕ) → SpellsLoop next l words → SpellsAnswer t words a rest → alone k rest ≡ Err n → Stuck (BodyFronts (returns t)) body n
   end_stops t l a words [] k n d s q = absurd (ok_not_err k n q)
   end_stops None l a words (w ∷ rest) k n d no_answer q = record { bad = w ∷ rest; front = end_body v d; place = err_is (suc (length rest)) n q }
   end_stops (Some t) l a words (w ∷ rest) k n d (with_answer e) q = record { bad = w ∷ rest; front = end_function v d e; place = err_is (suc (length rest)) n q }

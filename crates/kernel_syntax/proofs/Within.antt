@@ -14,9 +14,9 @@ use Rattle.kernel_tree.specs.declared.mark.Opening.{Opening}
 use Rattle.kernel_tree.specs.declared.mark.Opening.TheVariants as opening
 use Rattle.kernel_tree.specs.Word.{Word, IsName, IsNumber, IsType, IsCompare, IsUpdate, IsMark}
 use Rattle.kernel_tree.specs.Plain.{Term, Literal, Variable, Element, Unary, Operation, Shift, Conversion, Choice, Comparison}
-use Rattle.kernel_tree.specs.Grammar.{joined, opening_of_mark, signed, number_behind}
-use Rattle.kernel_syntax.specs.Reading.{◌>>=◌, given, Outcome, behind, after, name_at, type_at, count_at, operator_at, by_operator, more, chain_at, term_before, name_by, pair_by, absolute_by, choice_by, signed_by, opened_by, unary_by, unary_at}
-use Rattle.kernel_syntax.proofs.Sound.{after-is, behind-is, name-is, type-is, count-is, operator-is, number-is}
+use Rattle.kernel_tree.specs.Grammar.{joined, opening_of_mark, signed, number_following}
+use Rattle.kernel_syntax.specs.Reading.{◌>>=◌, given, Outcome, following, after, name_at, type_at, count_at, operator_at, by_operator, more, chain_at, term_before, name_by, pair_by, absolute_by, choice_by, signed_by, opened_by, unary_by, unary_at}
+use Rattle.kernel_syntax.proofs.Sound.{after-is, following-is, name-is, type-is, count-is, operator-is, number-is}
 use Rattle.kernel_syntax.proofs.Stuck.{after-stops, name-stops, type-stops, count-stops}
 
 -- reading goes on at least to where so many words are left
@@ -71,12 +71,12 @@ count_passes words n h = go (count_at words) refl
     go (Err left) e = omega (arith, count-stops words left e, h)
 
 -- a mark that may be there
-pub passes_given : {B : Type 0} (m : Mark) (words : List Word) (f : List Word → Result (B × List Word) ℕ) (b : Result (B × List Word) ℕ) (n : ℕ) → length words ≤ n → ((rest : List Word) → length rest ≤ n → Passes (f rest) n) → Passes b n → Passes (given (behind m words) f b) n
-passes_given m words f b n h there not_there = go (behind m words) refl
+pub passes_given : {B : Type 0} (m : Mark) (words : List Word) (f : List Word → Result (B × List Word) ℕ) (b : Result (B × List Word) ℕ) (n : ℕ) → length words ≤ n → ((rest : List Word) → length rest ≤ n → Passes (f rest) n) → Passes b n → Passes (given (following m words) f b) n
+passes_given m words f b n h there not_there = go (following m words) refl
   where
-    go : (o : Option (List Word)) → behind m words ≡ o → Passes (given o f b) n
+    go : (o : Option (List Word)) → following m words ≡ o → Passes (given o f b) n
     go None e = not_there
-    go (Some rest) e = there rest (omega (arith, ap length (behind-is m words rest e), h))
+    go (Some rest) e = there rest (omega (arith, ap length (following-is m words rest e), h))
 
 -- a reader that goes on
 abbrev pub Going : {A : Type 0} → (List Word → Result (A × List Word) ℕ) → Type 0
@@ -141,18 +141,18 @@ module _ (read inner : List Word → Outcome) (goes : Going read) (runs : Going 
       (λ c k. passes_bind (term_before read mark.Comma c.1) (λ a. term_before read mark.CloseParen a.1 >>= (λ b. Ok (Choice c.0 a.0 b.0, b.1))) n (before mark.Comma c.1 n k)
       (λ a i. passes_bind (term_before read mark.CloseParen a.1) (λ b. Ok (Choice c.0 a.0 b.0, b.1)) n (before mark.CloseParen a.1 n i) (λ b j. j))))
 
-  number_shorter : (s : Sign) (words : List Word) (x : ℕ × List Word) (n : ℕ) → length words ≤ n → number_behind s words ≡ Some x → length x.1 ≤ n
+  number_shorter : (s : Sign) (words : List Word) (x : ℕ × List Word) (n : ℕ) → length words ≤ n → number_following s words ≡ Some x → length x.1 ≤ n
   number_shorter sign.Minus words x n h e = omega (arith, ap length (number-is words x e), h)
   number_shorter sign.Flip words x n h e = absurd cc
   number_shorter sign.Not words x n h e = absurd cc
 
-  by_number : (s : Sign) (words : List Word) (n : ℕ) → length words ≤ n → (o : Option (ℕ × List Word)) → number_behind s words ≡ o → Passes (given {B = Outcome} o (λ x. Ok (Literal (neg_ℤ (pos x.0)), x.1)) (inner words >>= (λ e. Ok (signed s e.0, e.1)))) n
+  by_number : (s : Sign) (words : List Word) (n : ℕ) → length words ≤ n → (o : Option (ℕ × List Word)) → number_following s words ≡ o → Passes (given {B = Outcome} o (λ x. Ok (Literal (neg_ℤ (pos x.0)), x.1)) (inner words >>= (λ e. Ok (signed s e.0, e.1)))) n
   by_number s words n h None e = passes_bind (inner words) (λ e. Ok (signed s e.0, e.1)) n (runs words n h) (λ e l. l)
   by_number s words n h (Some x) e = number_shorter s words x n h e
 
   pub signed_goes : (s : Sign) → Going (signed_by inner s)
   unfolding signed_by
-  signed_goes s words n h = by_number s words n h (number_behind s words) refl
+  signed_goes s words n h = by_number s words n h (number_following s words) refl
 
   pub opened_goes : (o : Option Opening) (words : List Word) (n : ℕ) → suc (length words) ≤ n → Passes (opened_by read inner o words) n
   opened_goes None words n h = h

@@ -9,9 +9,9 @@ use Rattle.kernel_tree.specs.declared.mark.Mark.TheVariants as mark
 use Rattle.kernel_tree.specs.declared.mark.Beginning.{Beginning}
 use Rattle.kernel_tree.specs.declared.mark.Beginning.TheVariants as beginning
 use Rattle.kernel_tree.specs.Word.{Word, IsName, IsNumber, IsType, IsCompare, IsUpdate, IsMark}
-use Rattle.kernel_tree.specs.Plain.{Term, Define, Put, Update, Choose, Leave, Block, Done, Then, Nothing, Else, Parameter, Accumulator, Turns, Returned, Program}
+use Rattle.kernel_tree.specs.Plain.{Term, Define, Put, Update, Choose, Leave, Block, Done, Then, Nothing, Else, Parameter, Accumulator, PlainLoop, Returned, Program}
 use Rattle.kernel_tree.specs.Grammar.{beginning_of_mark}
-use Rattle.kernel_syntax.specs.Reading.{◌>>=◌, given, behind, after, name_at, type_at, update_front, unary_at, chain_at}
+use Rattle.kernel_syntax.specs.Reading.{◌>>=◌, given, following, after, name_at, type_at, update_front, unary_at, chain_at}
 use Rattle.kernel_syntax.specs.Statements.{Statement, Statements, term_at, type_part, define_at, put_at, update_at, target_at, leave_at, choose_by, begun_by, statement_by, block_by, block_at}
 use Rattle.kernel_syntax.specs.Headers.{Read, shape_at, param_at, some_at, params_at, var_at, vars_by, vars_at, zero_at, turns_at, loop_at, tail_at, answer_by, alone, kernel_at}
 use Rattle.kernel_syntax.proofs.Sound.{update-is}
@@ -68,17 +68,17 @@ leave_goes true words n h = passes_one (after mark.If words) (λ from. term_at m
     (λ from l. passes_bind (term_at mark.Semicolon from) (λ c. Ok (Leave c.0, c.1)) n (term_goes mark.Semicolon from n l) (λ c k. k))
 
 module _ (block : List Word → Statements) (goes : Going block) where
-  pub else_passes : (c : Term) (n : ℕ) (b : Block × List Word) → length b.1 ≤ n → Passes (given {B = Statement} (behind mark.Else b.1) (λ rest. after mark.OpenBrace rest >>= (λ from. block from >>= (λ d. Ok (Choose c b.0 (Else d.0), d.1)))) (Ok (Choose c b.0 Nothing, b.1))) n
+  pub else_passes : (c : Term) (n : ℕ) (b : Block × List Word) → length b.1 ≤ n → Passes (given {B = Statement} (following mark.Else b.1) (λ rest. after mark.OpenBrace rest >>= (λ from. block from >>= (λ d. Ok (Choose c b.0 (Else d.0), d.1)))) (Ok (Choose c b.0 Nothing, b.1))) n
   else_passes c n b h = passes_given mark.Else b.1 (λ rest. after mark.OpenBrace rest >>= (λ from. block from >>= (λ d. Ok (Choose c b.0 (Else d.0), d.1)))) (Ok (Choose c b.0 Nothing, b.1)) n h
       (λ rest l. passes_one (after mark.OpenBrace rest) (λ from. block from >>= (λ d. Ok (Choose c b.0 (Else d.0), d.1))) n (after_passes mark.OpenBrace rest n l)
       (λ from k. passes_bind (block from) (λ d. Ok (Choose c b.0 (Else d.0), d.1)) n (goes from n k) (λ d i. i))) h
 
-  pub block_passes : (n : ℕ) (c : Term) (words : List Word) → Passes (block words) n → Passes (block words >>= (λ b. given {B = Statement} (behind mark.Else b.1) (λ rest. after mark.OpenBrace rest >>= (λ from. block from >>= (λ d. Ok (Choose c b.0 (Else d.0), d.1)))) (Ok (Choose c b.0 Nothing, b.1)))) n
-  block_passes n c words p = passes_bind (block words) (λ b. given {B = Statement} (behind mark.Else b.1) (λ rest. after mark.OpenBrace rest >>= (λ from. block from >>= (λ d. Ok (Choose c b.0 (Else d.0), d.1)))) (Ok (Choose c b.0 Nothing, b.1))) n p (else_passes c n)
+  pub block_passes : (n : ℕ) (c : Term) (words : List Word) → Passes (block words) n → Passes (block words >>= (λ b. given {B = Statement} (following mark.Else b.1) (λ rest. after mark.OpenBrace rest >>= (λ from. block from >>= (λ d. Ok (Choose c b.0 (Else d.0), d.1)))) (Ok (Choose c b.0 Nothing, b.1)))) n
+  block_passes n c words p = passes_bind (block words) (λ b. given {B = Statement} (following mark.Else b.1) (λ rest. after mark.OpenBrace rest >>= (λ from. block from >>= (λ d. Ok (Choose c b.0 (Else d.0), d.1)))) (Ok (Choose c b.0 Nothing, b.1))) n p (else_passes c n)
 
   pub choose_passes : (words : List Word) (n : ℕ) → Passes (term_at mark.OpenBrace words) n → Passes (choose_by block words) n
   unfolding choose_by
-  choose_passes words n p = passes_bind (term_at mark.OpenBrace words) (λ c. block c.1 >>= (λ b. given {B = Statement} (behind mark.Else b.1) (λ rest. after mark.OpenBrace rest >>= (λ from. block from >>= (λ d. Ok (Choose c.0 b.0 (Else d.0), d.1)))) (Ok (Choose c.0 b.0 Nothing, b.1)))) n p
+  choose_passes words n p = passes_bind (term_at mark.OpenBrace words) (λ c. block c.1 >>= (λ b. given {B = Statement} (following mark.Else b.1) (λ rest. after mark.OpenBrace rest >>= (λ from. block from >>= (λ d. Ok (Choose c.0 b.0 (Else d.0), d.1)))) (Ok (Choose c.0 b.0 Nothing, b.1)))) n p
       (λ c l. block_passes n c.0 c.1 (goes c.1 n l))
 
   pub begun_goes : (whole : Bool) (o : Option Beginning) (words : List Word) (n : ℕ) → suc (length words) ≤ n → Passes (begun_by whole block o words) n
@@ -135,9 +135,9 @@ param_goes words n h = passes_bind (name_at words) (λ x. after mark.Colon x.1 >
 
 pub some_passes : (others : ℕ) (words : List Word) (n : ℕ) → Passes (param_at words) n → Passes (some_at others words) n
 unfolding some_at
-some_passes zero words n q = passes_bind (param_at words) (λ p. given {B = Read (List Parameter)} (behind mark.CloseParen p.1) (λ rest. Ok (p.0 ∷ [], rest)) (Err (length p.1))) n q
+some_passes zero words n q = passes_bind (param_at words) (λ p. given {B = Read (List Parameter)} (following mark.CloseParen p.1) (λ rest. Ok (p.0 ∷ [], rest)) (Err (length p.1))) n q
     (λ p l. passes_given mark.CloseParen p.1 (λ rest. Ok (p.0 ∷ [], rest)) (Err (length p.1)) n l (λ rest k. k) l)
-some_passes (suc others) words n q = passes_bind (param_at words) (λ p. given {B = Read (List Parameter)} (behind mark.CloseParen p.1) (λ rest. Ok (p.0 ∷ [], rest)) (after mark.Comma p.1 >>= (λ next. some_at others next >>= (λ ps. Ok (p.0 ∷ ps.0, ps.1))))) n q
+some_passes (suc others) words n q = passes_bind (param_at words) (λ p. given {B = Read (List Parameter)} (following mark.CloseParen p.1) (λ rest. Ok (p.0 ∷ [], rest)) (after mark.Comma p.1 >>= (λ next. some_at others next >>= (λ ps. Ok (p.0 ∷ ps.0, ps.1))))) n q
     (λ p l. passes_given mark.CloseParen p.1 (λ rest. Ok (p.0 ∷ [], rest)) (after mark.Comma p.1 >>= (λ next. some_at others next >>= (λ ps. Ok (p.0 ∷ ps.0, ps.1)))) n l (λ rest k. k)
     (passes_one (after mark.Comma p.1) (λ next. some_at others next >>= (λ ps. Ok (p.0 ∷ ps.0, ps.1))) n (after_passes mark.Comma p.1 n l)
     (λ next k. passes_bind (some_at others next) (λ ps. Ok (p.0 ∷ ps.0, ps.1)) n (some_passes others next n (param_goes next n k)) (λ ps i. i))))
@@ -190,26 +190,26 @@ zero_passes words n h = go (zero_at words) refl
     go (Ok rest) e = omega (arith, ap length (zero-is words rest e), h)
     go (Err left) e = omega (arith, zero-stops words left e, h)
 
-abbrev pub turned : List ℕ → List ℕ → Block × List Word → Read Turns
+abbrev pub turned : List ℕ → List ℕ → Block × List Word → Read PlainLoop
 turned i n b = Ok (record { index = i; bound = n; body = b.0 }, b.1)
 
 -- what follows the parts of a loop's first line
-abbrev pub inside_of : List ℕ → List ℕ → List Word → Read Turns
+abbrev pub inside_of : List ℕ → List ℕ → List Word → Read PlainLoop
 inside_of i n inside = block_at true (length inside) inside >>= turned i n
 
-abbrev pub bound_of : List ℕ → List ℕ × List Word → Read Turns
+abbrev pub bound_of : List ℕ → List ℕ × List Word → Read PlainLoop
 bound_of i n = after mark.OpenBrace n.1 >>= inside_of i n.0
 
-abbrev pub end_of : List ℕ → List Word → Read Turns
+abbrev pub end_of : List ℕ → List Word → Read PlainLoop
 end_of i end = name_at end >>= bound_of i
 
-abbrev pub range_of : List ℕ → List Word → Read Turns
+abbrev pub range_of : List ℕ → List Word → Read PlainLoop
 range_of i range = after mark.Range range >>= end_of i
 
-abbrev pub zero_of : List ℕ → List Word → Read Turns
+abbrev pub zero_of : List ℕ → List Word → Read PlainLoop
 zero_of i from = zero_at from >>= range_of i
 
-abbrev pub index_of : List ℕ × List Word → Read Turns
+abbrev pub index_of : List ℕ × List Word → Read PlainLoop
 index_of i = after mark.In i.1 >>= zero_of i.0
 
 pub inside_passes : (i b : List ℕ) (words : List Word) (n : ℕ) → Passes (block_at true (length words) words) n → Passes (inside_of i b words) n
@@ -287,10 +287,10 @@ alone_ends k [] n h = tt
 alone_ends k (w ∷ words) n h = h
 
 -- what follows the parts of a kernel
-abbrev pub by_answer : List ℕ → List Parameter → List Accumulator → Option Turns → Option Returned × List Word → Result Program ℕ
+abbrev pub by_answer : List ℕ → List Parameter → List Accumulator → Option PlainLoop → Option Returned × List Word → Result Program ℕ
 by_answer x ps vs l a = alone (record { name = x; params = ps; vars = vs; turns = l; answer = a.0 }) a.1
 
-abbrev pub by_turns : List ℕ → List Parameter → Option Ty → List Accumulator → Option Turns × List Word → Result Program ℕ
+abbrev pub by_turns : List ℕ → List Parameter → Option Ty → List Accumulator → Option PlainLoop × List Word → Result Program ℕ
 by_turns x ps t vs l = answer_by t l.1 >>= by_answer x ps vs l.0
 
 abbrev pub by_vars : List ℕ → List Parameter → Option Ty → List Accumulator × List Word → Result Program ℕ
@@ -311,10 +311,10 @@ by_name x = after mark.OpenParen x.1 >>= by_inside x.0
 abbrev pub by_kernel : List Word → Result Program ℕ
 by_kernel from = name_at from >>= by_name
 
-pub answer_ends : (x : List ℕ) (ps : List Parameter) (vs : List Accumulator) (l : Option Turns) (n : ℕ) (a : Option Returned × List Word) → length a.1 ≤ n → PassesEnd (by_answer x ps vs l a) n
+pub answer_ends : (x : List ℕ) (ps : List Parameter) (vs : List Accumulator) (l : Option PlainLoop) (n : ℕ) (a : Option Returned × List Word) → length a.1 ≤ n → PassesEnd (by_answer x ps vs l a) n
 answer_ends x ps vs l n a h = alone_ends (record { name = x; params = ps; vars = vs; turns = l; answer = a.0 }) a.1 n h
 
-pub turns_end : (x : List ℕ) (ps : List Parameter) (t : Option Ty) (vs : List Accumulator) (n : ℕ) (l : Option Turns × List Word) → length l.1 ≤ n → PassesEnd (by_turns x ps t vs l) n
+pub turns_end : (x : List ℕ) (ps : List Parameter) (t : Option Ty) (vs : List Accumulator) (n : ℕ) (l : Option PlainLoop × List Word) → length l.1 ≤ n → PassesEnd (by_turns x ps t vs l) n
 turns_end x ps t vs n l h = ends_bind (answer_by t l.1) (by_answer x ps vs l.0) n (answer_goes t l.1 n h) (answer_ends x ps vs l.0 n)
 
 pub vars_end : (x : List ℕ) (ps : List Parameter) (t : Option Ty) (n : ℕ) (vs : List Accumulator × List Word) → length vs.1 ≤ n → PassesEnd (by_vars x ps t vs) n

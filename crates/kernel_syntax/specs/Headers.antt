@@ -5,9 +5,9 @@ use Rattle.kernel_tree.specs.declared.ast.Shape.{Shape}
 use Rattle.kernel_tree.specs.declared.ast.Shape.TheVariants as shape
 use Rattle.kernel_tree.specs.declared.mark.Mark.TheVariants as mark
 use Rattle.kernel_tree.specs.Word.{Word}
-use Rattle.kernel_tree.specs.Plain.{Parameter, Accumulator, Turns, Returned, Program}
+use Rattle.kernel_tree.specs.Plain.{Parameter, Accumulator, PlainLoop, Returned, Program}
 use Rattle.kernel_tree.specs.Grammar.{number_at}
-use Rattle.kernel_syntax.specs.Reading.{◌>>=◌, given, behind, after, name_at, type_at}
+use Rattle.kernel_syntax.specs.Reading.{◌>>=◌, given, following, after, name_at, type_at}
 use Rattle.kernel_syntax.specs.Statements.{term_at, block_at}
 
 abbrev pub Read : Type 0 → Type 0
@@ -16,7 +16,7 @@ Read A = Result (A × List Word) ℕ
 -- after the colon of a parameter
 unfoldable pub shape_at : List Word → Read Shape
 shape_at words =
-    given (behind mark.OpenBracket words)
+    given (following mark.OpenBracket words)
     (λ from. type_at from >>= (λ t. after mark.CloseBracket t.1 >>= (λ rest. Ok (shape.Array t.0, rest))))
     (type_at words >>= (λ t. Ok (shape.Scalar t.0, t.1)))
 
@@ -30,13 +30,13 @@ param_at words = do
 -- a parameter, no more than so many others, and the parenthesis after them
 unfoldable pub some_at : ℕ → List Word → Read (List Parameter)
 some_at zero words =
-    param_at words >>= (λ p. given (behind mark.CloseParen p.1) (λ rest. Ok (p.0 ∷ [], rest)) (Err (length p.1)))
+    param_at words >>= (λ p. given (following mark.CloseParen p.1) (λ rest. Ok (p.0 ∷ [], rest)) (Err (length p.1)))
 some_at (suc others) words =
-    param_at words >>= (λ p. given (behind mark.CloseParen p.1) (λ rest. Ok (p.0 ∷ [], rest))
+    param_at words >>= (λ p. given (following mark.CloseParen p.1) (λ rest. Ok (p.0 ∷ [], rest))
     (after mark.Comma p.1 >>= (λ next. some_at others next >>= (λ ps. Ok (p.0 ∷ ps.0, ps.1)))))
 
 unfoldable pub params_at : List Word → Read (List Parameter)
-params_at words = given (behind mark.CloseParen words) (λ rest. Ok ([], rest)) (some_at 7 words)
+params_at words = given (following mark.CloseParen words) (λ rest. Ok ([], rest)) (some_at 7 words)
 
 -- after the word that begins an accumulator
 unfoldable pub var_at : List Word → Read Accumulator
@@ -51,7 +51,7 @@ var_at words = do
 unfoldable pub vars_by : ℕ → List Word → Read (List Accumulator)
 vars_by zero words = Err (length words)
 vars_by (suc k) words =
-    given (behind mark.Var words) (λ rest. var_at rest >>= (λ v. vars_by k v.1 >>= (λ vs. Ok (v.0 ∷ vs.0, vs.1)))) (Ok ([], words))
+    given (following mark.Var words) (λ rest. var_at rest >>= (λ v. vars_by k v.1 >>= (λ vs. Ok (v.0 ∷ vs.0, vs.1)))) (Ok ([], words))
 
 unfoldable pub vars_at : List Word → Read (List Accumulator)
 vars_at words = vars_by (suc (length words)) words
@@ -60,7 +60,7 @@ unfoldable pub zero_at : List Word → Result (List Word) ℕ
 zero_at words = given (number_at words) (λ x. if nat_eq x.0 0 then Ok x.1 else Err (length words)) (Err (length words))
 
 -- after the word that begins a loop
-unfoldable pub turns_at : List Word → Read Turns
+unfoldable pub turns_at : List Word → Read PlainLoop
 turns_at words = do
   i ← name_at words
   from ← after mark.In i.1
@@ -71,13 +71,13 @@ turns_at words = do
   b ← block_at true (length inside) inside
   Ok (record { index = i.0; bound = n.0; body = b.0 }, b.1)
 
-unfoldable pub loop_at : List Word → Read (Option Turns)
-loop_at words = given (behind mark.For words) (λ rest. turns_at rest >>= (λ l. Ok (Some l.0, l.1))) (Ok (None, words))
+unfoldable pub loop_at : List Word → Read (Option PlainLoop)
+loop_at words = given (following mark.For words) (λ rest. turns_at rest >>= (λ l. Ok (Some l.0, l.1))) (Ok (None, words))
 
 -- after the parameters: the type of what is returned, and the brace
 unfoldable pub tail_at : List Word → Read (Option Ty)
 tail_at words =
-    given (behind mark.OpenBrace words) (λ body. Ok (None, body))
+    given (following mark.OpenBrace words) (λ body. Ok (None, body))
     (after mark.Arrow words >>= (λ from. type_at from >>= (λ t. after mark.OpenBrace t.1 >>= (λ body. Ok (Some t.0, body)))))
 
 -- the end of a kernel that returns nothing, or a value of a type

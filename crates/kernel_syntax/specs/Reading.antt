@@ -13,7 +13,7 @@ use Rattle.kernel_tree.specs.declared.mark.Opening.{Opening}
 use Rattle.kernel_tree.specs.declared.mark.Opening.TheVariants as opening
 use Rattle.kernel_tree.specs.Word.{Word, IsName, IsNumber, IsType, IsCompare, IsUpdate, IsMark}
 use Rattle.kernel_tree.specs.Plain.{Term, Literal, Variable, Element, Unary, Operation, Shift, Conversion, Choice, Comparison, same}
-use Rattle.kernel_tree.specs.Grammar.{operator_of, level_of, joined, opening_of_mark, signed, number_at, number_behind}
+use Rattle.kernel_tree.specs.Grammar.{operator_of, level_of, joined, opening_of_mark, signed, number_at, number_following}
 use Rattle.kernel_syntax.specs.declared.fault.Stop.{Stop}
 use Rattle.kernel_syntax.specs.declared.fault.Stop.TheVariants as stop
 
@@ -81,12 +81,12 @@ update_front (IsCompare op ∷ rest) = None
 update_front (IsMark m ∷ rest) = None
 
 -- the words after a mark, where it stands at the front
-unfoldable pub behind : Mark → List Word → Option (List Word)
-behind m words = given (mark_at words) (λ x. if same x.0 m then Some x.1 else None) None
+unfoldable pub following : Mark → List Word → Option (List Word)
+following m words = given (mark_at words) (λ x. if same x.0 m then Some x.1 else None) None
 
 -- the words after a mark that must stand at the front
 unfoldable pub after : Mark → List Word → Result (List Word) ℕ
-after m words = needed (behind m words) (length words)
+after m words = needed (following m words) (length words)
 
 unfoldable pub name_at : List Word → Result (List ℕ × List Word) ℕ
 name_at words = needed (name_front words) (length words)
@@ -131,7 +131,7 @@ term_before read m words = read words >>= (λ e. after m e.1 >>= (λ rest. Ok (e
 
 unfoldable pub name_by : (List Word → Outcome) → List ℕ → List Word → Outcome
 name_by read x words =
-    given (behind mark.OpenBracket words) (λ from. term_before read mark.CloseBracket from >>= (λ i. Ok (Element x i.0, i.1))) (Ok (Variable x, words))
+    given (following mark.OpenBracket words) (λ from. term_before read mark.CloseBracket from >>= (λ i. Ok (Element x i.0, i.1))) (Ok (Variable x, words))
 
 unfoldable pub pair_by : (List Word → Outcome) → BinaryOp → List Word → Outcome
 pair_by read op words = do
@@ -157,7 +157,7 @@ choice_by read words = do
 -- what stands after a sign, by the reader of unary expressions
 unfoldable pub signed_by : (List Word → Outcome) → Sign → List Word → Outcome
 signed_by inner s words =
-    given (number_behind s words) (λ x. Ok (Literal (neg_ℤ (pos x.0)), x.1)) (inner words >>= (λ e. Ok (signed s e.0, e.1)))
+    given (number_following s words) (λ x. Ok (Literal (neg_ℤ (pos x.0)), x.1)) (inner words >>= (λ e. Ok (signed s e.0, e.1)))
 
 abbrev pub sign_of : Option Opening → List Word → Option (Sign × List Word)
 sign_of (Some (opening.Signed s)) rest = Some (s, rest)

@@ -9,7 +9,7 @@ use Rattle.kernel_tree.specs.declared.mark.Beginning.TheVariants as beginning
 use Rattle.kernel_tree.specs.Word.{Word, IsName, IsNumber, IsType, IsCompare, IsUpdate, IsMark}
 use Rattle.kernel_tree.specs.Plain.{Action, Define, Put, Update, Choose, Leave, Block, Done, Then, Nothing, Else}
 use Rattle.kernel_tree.specs.Grammar.{beginning_of_mark}
-use Rattle.kernel_syntax.specs.Reading.{◌>>=◌, given, Outcome, behind, after, name_at, type_at, update_front, term_before, chain_at, unary_at}
+use Rattle.kernel_syntax.specs.Reading.{◌>>=◌, given, Outcome, following, after, name_at, type_at, update_front, term_before, chain_at, unary_at}
 
 abbrev pub Statement : Type 0
 Statement = Result (Action × List Word) ℕ
@@ -22,7 +22,7 @@ unfoldable pub term_at : Mark → List Word → Outcome
 term_at m words = term_before (chain_at (unary_at (length words)) 10) m words
 
 unfoldable pub type_part : List Word → Result (Option Ty × List Word) ℕ
-type_part words = given (behind mark.Colon words) (λ rest. type_at rest >>= (λ t. Ok (Some t.0, t.1))) (Ok (None, words))
+type_part words = given (following mark.Colon words) (λ rest. type_at rest >>= (λ t. Ok (Some t.0, t.1))) (Ok (None, words))
 
 unfoldable pub define_at : List Word → Statement
 define_at words = do
@@ -45,7 +45,7 @@ update_at x op words = term_at mark.Semicolon words >>= (λ e. Ok (Update x op e
 
 -- after the name of what changes
 unfoldable pub target_at : List ℕ → List Word → Statement
-target_at x words = given (behind mark.OpenBracket words) (λ from. put_at x from) (given (update_front words) (λ u. update_at x u.0 u.1) (Err (length words)))
+target_at x words = given (following mark.OpenBracket words) (λ from. put_at x from) (given (update_front words) (λ u. update_at x u.0 u.1) (Err (length words)))
 
 -- after a break, which stands in the loop's own block alone
 unfoldable pub leave_at : Bool → List Word → Statement
@@ -57,7 +57,7 @@ unfoldable pub choose_by : (List Word → Statements) → List Word → Statemen
 choose_by block words = do
   c ← term_at mark.OpenBrace words
   b ← block c.1
-  given (behind mark.Else b.1) (λ rest. after mark.OpenBrace rest >>= (λ from. block from >>= (λ d. Ok (Choose c.0 b.0 (Else d.0), d.1)))) (Ok (Choose c.0 b.0 Nothing, b.1))
+  given (following mark.Else b.1) (λ rest. after mark.OpenBrace rest >>= (λ from. block from >>= (λ d. Ok (Choose c.0 b.0 (Else d.0), d.1)))) (Ok (Choose c.0 b.0 Nothing, b.1))
 
 abbrev pub begun_by : Bool → (List Word → Statements) → Option Beginning → List Word → Statement
 begun_by whole block None rest = Err (suc (length rest))
@@ -78,7 +78,7 @@ statement_by whole block (IsUpdate op ∷ rest) = Err (suc (length rest))
 unfoldable pub block_by : (List Word → Statement) → ℕ → List Word → Statements
 block_by statement zero words = Err (length words)
 block_by statement (suc k) words =
-    given (behind mark.CloseBrace words) (λ rest. Ok (Done, rest)) (statement words >>= (λ s. block_by statement k s.1 >>= (λ b. Ok (Then s.0 b.0, b.1))))
+    given (following mark.CloseBrace words) (λ rest. Ok (Done, rest)) (statement words >>= (λ s. block_by statement k s.1 >>= (λ b. Ok (Then s.0 b.0, b.1))))
 
 -- no more than room blocks inside one another
 unfoldable pub block_at : Bool → ℕ → List Word → Statements

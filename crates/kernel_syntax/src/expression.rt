@@ -2,7 +2,7 @@
 
 ghost use Rattle.std.specs.Prelude.{◌≡◌, ◌≤◌, ◌<◌, length, IfOk, IfSome, option_map};
 ghost use Rattle.kernel_tree.specs.Plain.{term_of, name_of, words_of};
-ghost use Rattle.kernel_tree.specs.Grammar.{number_behind, opening_of_mark};
+ghost use Rattle.kernel_tree.specs.Grammar.{number_following, opening_of_mark};
 ghost use Rattle.kernel_syntax.specs.Reading.{Gives, chain_at, unary_at, term_before, name_by, pair_by, absolute_by, choice_by, signed_by, opened_by, unary_by, sign_front};
 ghost use Rattle.kernel_syntax.specs.Signs.{all_signed};
 
@@ -35,9 +35,9 @@ fn chain<'a>(
     if level == 0 {
         return unary(alloc, tokens, room);
     }
-    let (first, behind) = chain(alloc, tokens, level - 1, room)?;
+    let (first, following) = chain(alloc, tokens, level - 1, room)?;
     let mut left = first;
-    let mut rest = behind;
+    let mut rest = following;
     'more: while let Some((operator, after)) = front_operator(rest, level) {
         match operator {
             Operator::Joined(joint) => {
@@ -132,8 +132,8 @@ pub fn term_then<'a>(
         (term_before (chain_at (unary_at room) 10) mark (words_of tokens.now)) }
     ensures shorter { IfOk result (λ x. length x.1.now < length tokens.now) }
 {
-    let (e, behind) = chain(alloc, tokens, ANY, room)?;
-    Ok((e, expect(behind, mark)?))
+    let (e, following) = chain(alloc, tokens, ANY, room)?;
+    Ok((e, expect(following, mark)?))
 }
 
 // What begins with a name.
@@ -212,7 +212,7 @@ fn choice<'a>(alloc: Global, tokens: &'a [Token], room: usize) -> Result<(Expr, 
 
 // The number that belongs to a sign in front of it.
 fn signed_number(sign: Sign, tokens: &[Token]) -> Option<(Number, &[Token])>
-    ensures value { option_map (λ x. (x.0.value, words_of x.1.now)) result ≡ number_behind sign (words_of tokens.now) }
+    ensures value { option_map (λ x. (x.0.value, words_of x.1.now)) result ≡ number_following sign (words_of tokens.now) }
     ensures shorter { IfSome result (λ x. length x.1.now < length tokens.now) }
 {
     match sign {
@@ -242,7 +242,7 @@ fn front_sign(tokens: &[Token]) -> Option<(Sign, &[Token])>
 }
 
 // An expression after signs, of which the last one is the innermost.
-fn behind_signs(alloc: Global, signs: Vec<Sign>, arg: Expr) -> Result<Expr, AllocError>
+fn following_signs(alloc: Global, signs: Vec<Sign>, arg: Expr) -> Result<Expr, AllocError>
     ensures { IfOk result (λ e. term_of e ≡ all_signed signs.items (term_of arg)) }
 {
     let mut left = signs;
@@ -291,15 +291,15 @@ fn signed<'a>(
     let mut last = sign;
     let mut rest = tokens;
     let mut inner = room;
-    'more: while let Some((next, behind)) = front_sign(rest) {
+    'more: while let Some((next, following)) = front_sign(rest) {
         if inner == 0 {
             return Err(Stop::Syntax { left: rest.len() });
         }
         signs.push(last)?;
         last = next;
-        rest = behind;
+        rest = following;
         inner -= 1;
     }
     let (arg, end) = operand(alloc, last, rest, inner)?;
-    Ok((behind_signs(alloc, signs, arg)?, end))
+    Ok((following_signs(alloc, signs, arg)?, end))
 }

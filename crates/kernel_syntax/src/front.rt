@@ -3,7 +3,7 @@
 ghost use Rattle.std.specs.Prelude.{◌≡◌, ◌≤◌, ◌<◌, length, IfOk, IfSome, option_map};
 ghost use Rattle.kernel_tree.specs.Plain.{name_of, words_of};
 ghost use Rattle.kernel_tree.specs.Grammar.{number_at};
-ghost use Rattle.kernel_syntax.specs.Reading.{Gives, mark_at, name_front, type_front, update_front, behind, after, name_at, type_at, count_at, operator_at};
+ghost use Rattle.kernel_syntax.specs.Reading.{Gives, mark_at, name_front, type_front, update_front, following, after, name_at, type_at, count_at, operator_at};
 
 use crate::class;
 use crate::fault::Stop;
@@ -93,9 +93,9 @@ pub fn front_update(tokens: &[Token]) -> Option<(UpdateOp, &[Token])>
 }
 
 // The tokens after a mark, where it stands at the front.
-#[tactic(auto, unfolding(crate::specs::Reading::behind))]
+#[tactic(auto, unfolding(crate::specs::Reading::following))]
 pub fn accept<'a>(tokens: &'a [Token], mark: Mark) -> Option<&'a [Token]>
-    ensures value { option_map (λ rest. words_of rest.now) result ≡ behind mark (words_of tokens.now) }
+    ensures value { option_map (λ rest. words_of rest.now) result ≡ following mark (words_of tokens.now) }
     ensures shorter { IfSome result (λ rest. length rest.now < length tokens.now) }
 {
     match front_mark(tokens) {

@@ -21,8 +21,8 @@ fn read_shape<'a>(tokens: &'a [Token]) -> Result<(Shape, &'a [Token]), Stop>
 {
     match accept(tokens, Mark::OpenBracket) {
         Some(from) => {
-            let (ty, behind) = expect_type(from)?;
-            let rest = expect(behind, Mark::CloseBracket)?;
+            let (ty, following) = expect_type(from)?;
+            let rest = expect(following, Mark::CloseBracket)?;
             Ok((Shape::Array(ty), rest))
         }
         None => {
@@ -37,8 +37,8 @@ fn parameter<'a>(alloc: Global, tokens: &'a [Token]) -> Result<(Param, &'a [Toke
     ensures value { Gives (λ x. (parameter_of x.0, words_of x.1.now)) result (param_at (words_of tokens.now)) }
     ensures shorter { IfOk result (λ x. length x.1.now < length tokens.now) }
 {
-    let (name, behind) = expect_name(alloc, tokens)?;
-    let from = expect(behind, Mark::Colon)?;
+    let (name, following) = expect_name(alloc, tokens)?;
+    let from = expect(following, Mark::Colon)?;
     let (shape, rest) = read_shape(from)?;
     Ok((Param { name, shape }, rest))
 }
@@ -53,15 +53,15 @@ fn some_params<'a>(alloc: Global, tokens: &'a [Token]) -> Result<(Vec<Param>, &'
     // how many more may follow
     let mut others: usize = 7;
     'more: loop {
-        let (param, behind) = parameter(alloc, rest)?;
+        let (param, following) = parameter(alloc, rest)?;
         params.push(param)?;
-        if let Some(end) = accept(behind, Mark::CloseParen) {
+        if let Some(end) = accept(following, Mark::CloseParen) {
             return Ok((params, end));
         }
         if others == 0 {
-            return Err(Stop::Syntax { left: behind.len() });
+            return Err(Stop::Syntax { left: following.len() });
         }
-        rest = expect(behind, Mark::Comma)?;
+        rest = expect(following, Mark::Comma)?;
         others -= 1;
     }
 }
@@ -84,8 +84,8 @@ fn accumulator<'a>(alloc: Global, tokens: &'a [Token]) -> Result<(Var, &'a [Toke
     ensures value { Gives (λ x. (accumulator_of x.0, words_of x.1.now)) result (var_at (words_of tokens.now)) }
     ensures shorter { IfOk result (λ x. length x.1.now < length tokens.now) }
 {
-    let (name, behind) = expect_name(alloc, tokens)?;
-    let from = expect(behind, Mark::Colon)?;
+    let (name, following) = expect_name(alloc, tokens)?;
+    let from = expect(following, Mark::Colon)?;
     let (ty, next) = expect_type(from)?;
     let value = expect(next, Mark::Equals)?;
     let (init, rest) = term(alloc, value, Mark::Semicolon)?;
@@ -131,8 +131,8 @@ fn turns<'a>(alloc: Global, tokens: &'a [Token]) -> Result<(Loop, &'a [Token]), 
     ensures value { Gives (λ x. (turns_of x.0, words_of x.1.now)) result (turns_at (words_of tokens.now)) }
     ensures shorter { IfOk result (λ x. length x.1.now < length tokens.now) }
 {
-    let (index, behind) = expect_name(alloc, tokens)?;
-    let from = expect(behind, Mark::In)?;
+    let (index, following) = expect_name(alloc, tokens)?;
+    let from = expect(following, Mark::In)?;
     let range = expect_zero(from)?;
     let end = expect(range, Mark::Range)?;
     let (bound, next) = expect_name(alloc, end)?;

@@ -26,8 +26,8 @@ fn all(alloc: Global, tokens: &[Token]) -> Result<Kernel, Stop>
     ensures { Gives program_of result (kernel_at (words_of tokens.now)) }
 {
     let from = expect(tokens, Mark::Kernel)?;
-    let (name, behind) = expect_name(alloc, from)?;
-    let inside = expect(behind, Mark::OpenParen)?;
+    let (name, following) = expect_name(alloc, from)?;
+    let inside = expect(following, Mark::OpenParen)?;
     let (params, next) = params(alloc, inside)?;
     let (ty, from) = tail(next)?;
     let (vars, next) = vars(alloc, from)?;

@@ -45,8 +45,8 @@ fn definition<'a>(alloc: Global, tokens: &'a [Token]) -> Result<(Stmt, &'a [Toke
     ensures value { Gives (λ x. (action_of x.0, words_of x.1.now)) result (define_at (words_of tokens.now)) }
     ensures shorter { IfOk result (λ x. length x.1.now < length tokens.now) }
 {
-    let (name, behind) = expect_name(alloc, tokens)?;
-    let (ty, next) = declared_type(behind)?;
+    let (name, following) = expect_name(alloc, tokens)?;
+    let (ty, next) = declared_type(following)?;
     let from = expect(next, Mark::Equals)?;
     let (value, rest) = term(alloc, from, Mark::Semicolon)?;
     Ok((Stmt::Let { name, ty, value }, rest))
@@ -60,8 +60,8 @@ fn store<'a>(alloc: Global, array: &Name, tokens: &'a [Token]) -> Result<(Stmt, 
     ensures shorter { IfOk result (λ x. length x.1.now < length tokens.now) }
 {
     let array = copy_name(alloc, array)?;
-    let (index, behind) = term(alloc, tokens, Mark::CloseBracket)?;
-    let next = expect(behind, Mark::Equals)?;
+    let (index, following) = term(alloc, tokens, Mark::CloseBracket)?;
+    let next = expect(following, Mark::Equals)?;
     let (value, rest) = term(alloc, next, Mark::Semicolon)?;
     Ok((
         Stmt::Store {
@@ -131,14 +131,14 @@ fn choice<'a>(alloc: Global, tokens: &'a [Token], room: usize) -> Result<(Stmt, 
     ensures shorter { IfOk result (λ x. length x.1.now < length tokens.now) }
 {
     let (cond, from) = term(alloc, tokens, Mark::OpenBrace)?;
-    let (then_part, behind) = block(alloc, from, false, room)?;
-    match accept(behind, Mark::Else) {
+    let (then_part, following) = block(alloc, from, false, room)?;
+    match accept(following, Mark::Else) {
         Some(rest) => {
             let from = expect(rest, Mark::OpenBrace)?;
             let (other, rest) = block(alloc, from, false, room)?;
             Ok((make::choose_else(cond, then_part, other), rest))
         }
-        None => Ok((make::choose(cond, then_part), behind)),
+        None => Ok((make::choose(cond, then_part), following)),
     }
 }
 
@@ -209,7 +209,7 @@ pub fn block<'a>(
     let mut rest = tokens;
     'more: loop {
         match accept(rest, Mark::CloseBrace) {
-            Some(behind) => return Ok((stmts, behind)),
+            Some(following) => return Ok((stmts, following)),
             None => {
                 let (stmt, next) = statement(alloc, rest, whole, room - 1)?;
                 stmts.push(stmt)?;

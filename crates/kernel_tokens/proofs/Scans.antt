@@ -8,12 +8,12 @@ use Rattle.kernel_tree.specs.Word.{Word, IsNumber, IsUpdate}
 use Rattle.kernel_tree.specs.declared.ops.UpdateOp.TheVariants as update
 use Rattle.kernel_tree.specs.Tokens.{Piece, Gap, Token, NoToken, piece, before, by_piece, scan, tokens_of, begins, begins_hex, is_blank, is_letter, run_word, hex_from, decimal_from, pair, is_in_line, is_name_byte, run_piece, run_from, number_piece, literal, symbol_of, symbol_piece, single}
 use Rattle.number_text.specs.Numbers.{value_of, is_digit, is_hex_digit}
-use Rattle.kernel_tokens.specs.Fronts.{at_front, behind_of}
+use Rattle.kernel_tokens.specs.Fronts.{at_front, following_of}
 
 -- ---- a piece ends within its text
 
 record Within (n : ℕ) (p : Piece) : Type 0 where
-  fits : behind_of p ≤ n
+  fits : following_of p ≤ n
 
 either_within : (t : Bool) (p q : Piece) (n : ℕ) → Within n p → Within n q → Within n (cond t p q)
 either_within true p q n h k = h
@@ -76,7 +76,7 @@ piece_within b rest =
     (either_within (is_letter b) (run_from b rest k) last n (run_within (b ∷ take k rest) (drop k rest) k n r)
     (either_within (is_digit b) (number_piece b rest) (symbol_piece b rest) n (number_within b rest) (symbol_within b rest))))
 
-pub ends_within : (text : List ℕ) → 0 < length text → behind_of (at_front piece text) < length text
+pub ends_within : (text : List ℕ) → 0 < length text → following_of (at_front piece text) < length text
 ends_within [] h = absurd (omega arith)
 ends_within (b ∷ rest) h = omega (arith, (piece_within b rest).fits)
 
@@ -87,9 +87,9 @@ tail_is text at = take_all (length text - at) (drop at text) (omega (arith, leng
 -- ---- the whole text
 
 -- words in front of what a scan gives
-abbrev pub behind_words : List Word → Result (List Word) ℕ → Result (List Word) ℕ
-behind_words ws (Ok vs) = Ok (ws ++ vs)
-behind_words ws (Err at) = Err at
+abbrev pub following_words : List Word → Result (List Word) ℕ → Result (List Word) ℕ
+following_words ws (Ok vs) = Ok (ws ++ vs)
+following_words ws (Err at) = Err at
 
 -- bytes that are passed over
 scan-past : (k at to : ℕ) (bytes : List ℕ) → to ≡ at + k → k ≤ length bytes → scan k at bytes ≡ scan 0 to (drop k bytes)
@@ -101,24 +101,24 @@ scan-past (suc k) at to (b ∷ rest) e h = scan-past k (at + 1) to rest (omega a
 -- the tokens of a text are some words and then those from a place on
 pub record Scanned (text : List ℕ) (at : ℕ) (ws : List Word) : Type 0 where
   pub inside : at ≤ length text
-  pub same : behind_words ws (scan 0 at (drop at text)) ≡ tokens_of text
+  pub same : following_words ws (scan 0 at (drop at text)) ≡ tokens_of text
 
 pub scanned_first : (text : List ℕ) → Scanned text 0 []
 scanned_first text = record { inside = omega arith; same = go (scan 0 0 text) }
   where
-    go : (r : Result (List Word) ℕ) → behind_words [] r ≡ r
+    go : (r : Result (List Word) ℕ) → following_words [] r ≡ r
     go (Ok vs) = refl
     go (Err at) = refl
 
-before_words : (ws : List Word) (w : Word) (r : Result (List Word) ℕ) → behind_words ws (before w r) ≡ behind_words (ws ++ w ∷ []) r
+before_words : (ws : List Word) (w : Word) (r : Result (List Word) ℕ) → following_words ws (before w r) ≡ following_words (ws ++ w ∷ []) r
 before_words ws w (Ok vs) = ap (λ (l : List Word). Ok l) (sym (append_assoc ws (w ∷ []) vs))
 before_words ws w (Err at) = refl
 
 drop-end : (k b : ℕ) (rest : List ℕ) → drop (k + 1) (b ∷ rest) ≡ drop k rest
 drop-end k b rest = rw add-one refl
 
-piece_inside : (b : ℕ) (rest : List ℕ) (p : Piece) → piece b rest ≡ p → behind_of p ≤ length rest
-piece_inside b rest p e = subst (λ q. behind_of q ≤ length rest) e (piece_within b rest).fits
+piece_inside : (b : ℕ) (rest : List ℕ) (p : Piece) → piece b rest ≡ p → following_of p ≤ length rest
+piece_inside b rest p e = subst (λ q. following_of q ≤ length rest) e (piece_within b rest).fits
 
 -- the bytes after the first one of a piece are passed over
 skip : (b : ℕ) (rest : List ℕ) (at to k : ℕ) → k ≤ length rest → to ≡ at + (k + 1) → scan k (at + 1) rest ≡ scan 0 to (drop (k + 1) (b ∷ rest))
@@ -142,9 +142,9 @@ bad_step (b ∷ rest) at e h = ap (λ q. by_piece q (λ k. scan k (at + 1) rest)
 left_over : (text : List ℕ) (at : ℕ) → at < length text → 0 < length (drop at text)
 left_over text at h = omega (arith, length-drop at text)
 
-piece_ends : (text : List ℕ) (at to k : ℕ) (p : Piece) → at < length text → at_front piece (drop at text) ≡ p → behind_of p ≡ k → to ≡ at + (k + 1) → to ≤ length text
+piece_ends : (text : List ℕ) (at to k : ℕ) (p : Piece) → at < length text → at_front piece (drop at text) ≡ p → following_of p ≡ k → to ≡ at + (k + 1) → to ≤ length text
 piece_ends text at to k p h e l t =
-    let w : behind_of p < length (drop at text) = subst (λ q. behind_of q < length (drop at text)) e (ends_within (drop at text) (left_over text at h)) in
+    let w : following_of p < length (drop at text) = subst (λ q. following_of q < length (drop at text)) e (ends_within (drop at text) (left_over text at h)) in
     omega (arith, w, length-drop at text)
 
 -- a piece and its place fit in the text
@@ -160,18 +160,18 @@ dropped text at to k t = rw t (drop-drop (k + 1) at text)
 pub scanned_gap : (text : List ℕ) (at k to : ℕ) (ws : List Word) → Scanned text at ws → at < length text → at_front piece (drop at text) ≡ Gap k → to ≡ at + (k + 1) → Scanned text to ws
 scanned_gap text at k to ws s h e t = record {
   inside = piece_ends text at to k (Gap k) h e refl t;
-  same = ap (λ (l : List ℕ). behind_words ws (scan 0 to l)) (sym (dropped text at to k t)) ∙ ap (behind_words ws) (sym (gap_step (drop at text) at to k e (left_over text at h) t)) ∙ s.same;
+  same = ap (λ (l : List ℕ). following_words ws (scan 0 to l)) (sym (dropped text at to k t)) ∙ ap (following_words ws) (sym (gap_step (drop at text) at to k e (left_over text at h) t)) ∙ s.same;
 }
 
 pub scanned_token : (text : List ℕ) (at k to : ℕ) (ws : List Word) (w : Word) → Scanned text at ws → at < length text → at_front piece (drop at text) ≡ Token w k → to ≡ at + (k + 1) → Scanned text to (ws ++ w ∷ [])
 scanned_token text at k to ws w s h e t = record {
   inside = piece_ends text at to k (Token w k) h e refl t;
-  same = ap (λ (l : List ℕ). behind_words (ws ++ w ∷ []) (scan 0 to l)) (sym (dropped text at to k t)) ∙ sym (before_words ws w (scan 0 to (drop (k + 1) (drop at text)))) ∙ ap (behind_words ws) (sym (token_step (drop at text) at to k w e (left_over text at h) t)) ∙ s.same;
+  same = ap (λ (l : List ℕ). following_words (ws ++ w ∷ []) (scan 0 to l)) (sym (dropped text at to k t)) ∙ sym (before_words ws w (scan 0 to (drop (k + 1) (drop at text)))) ∙ ap (following_words ws) (sym (token_step (drop at text) at to k w e (left_over text at h) t)) ∙ s.same;
 }
 
 pub scanned_bad : (text : List ℕ) (at : ℕ) (ws : List Word) → Scanned text at ws → at < length text → at_front piece (drop at text) ≡ NoToken → tokens_of text ≡ Err at
-scanned_bad text at ws s h e = sym s.same ∙ ap (behind_words ws) (bad_step (drop at text) at e (left_over text at h))
+scanned_bad text at ws s h e = sym s.same ∙ ap (following_words ws) (bad_step (drop at text) at e (left_over text at h))
 
 pub scanned_all : (text : List ℕ) (at : ℕ) (ws : List Word) → Scanned text at ws → length text ≤ at → tokens_of text ≡ Ok ws
 unfolding scan
-scanned_all text at ws s h = sym s.same ∙ ap (λ (l : List ℕ). behind_words ws (scan 0 at l)) (drop_all at text h) ∙ ap (λ (l : List Word). Ok l) (append-nil ws)
+scanned_all text at ws s h = sym s.same ∙ ap (λ (l : List ℕ). following_words ws (scan 0 at l)) (drop_all at text h) ∙ ap (λ (l : List Word). Ok l) (append-nil ws)

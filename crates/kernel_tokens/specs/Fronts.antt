@@ -12,10 +12,10 @@ piece_of (front.Token t k) = Token (word_of t) k
 piece_of front.NoToken = NoToken
 
 -- the number of bytes after the first one
-abbrev pub behind_of : Piece → ℕ
-behind_of (Gap k) = k
-behind_of (Token w k) = k
-behind_of NoToken = 0
+abbrev pub following_of : Piece → ℕ
+following_of (Gap k) = k
+following_of (Token w k) = k
+following_of NoToken = 0
 
 -- what stands at the front of a whole text, by its first byte and those after it
 abbrev pub at_front : (ℕ → List ℕ → Piece) → List ℕ → Piece

@@ -222,11 +222,11 @@ word_scans (IsUpdate op) h = update_scans op
 word_scans (IsMark m) h = mark_scans m
 
 -- what stands after a token of a list
-abbrev behind : List Word → Option (List ℕ)
-behind [] = None
-behind (w ∷ ws) = Some (word_text w ++ spaced ws)
+abbrev following : List Word → Option (List ℕ)
+following [] = None
+following (w ∷ ws) = Some (word_text w ++ spaced ws)
 
-spaced-is : (ws : List Word) → spaced ws ≡ tail_of (behind ws)
+spaced-is : (ws : List Word) → spaced ws ≡ tail_of (following ws)
 unfolding spaced
 spaced-is [] = refl
 spaced-is (w ∷ ws) = refl
@@ -234,7 +234,7 @@ spaced-is (w ∷ ws) = refl
 mutual_scan : (w : Word) (ws : List Word) (at : ℕ) → IsTrue (is_token w) → ((at : ℕ) → scan 0 at (spaced ws) ≡ Ok ws) → scan 0 at (word_text w ++ spaced ws) ≡ Ok (w ∷ ws)
 mutual_scan w ws at h again =
     ap (λ (s : List ℕ). scan 0 at (word_text w ++ s)) (spaced-is ws)
-    ∙ word_scans w h at (behind ws)
+    ∙ word_scans w h at (following ws)
     ∙ ap (λ (s : List ℕ). before w (scan 0 (moved (length (word_text w)) at) s)) (sym (spaced-is ws))
     ∙ ap (before w) (again (moved (length (word_text w)) at))
 

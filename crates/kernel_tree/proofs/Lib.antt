@@ -1,4 +1,4 @@
-pub mod Rows
+pub mod StatementLists
 pub mod Marks
 pub mod TokenList
 pub mod Well

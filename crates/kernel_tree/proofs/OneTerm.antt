@@ -14,7 +14,7 @@ use Rattle.kernel_tree.specs.declared.mark.Opening.{Opening}
 use Rattle.kernel_tree.specs.declared.mark.Opening.TheVariants as opening
 use Rattle.kernel_tree.specs.Word.{Word, IsName, IsNumber, IsType, IsCompare, IsUpdate, IsMark}
 use Rattle.kernel_tree.specs.Plain.{Term, Literal, Variable, Element, Unary, Operation, Shift, Conversion, Choice, Comparison, same}
-use Rattle.kernel_tree.specs.Grammar.{Spells, number, name, element, group, pair, absolute, choice, negative, prefix, up, conversion, shift, operation, comparison, operator_of, operator_of_mark, level_of, opening_of_mark, joined, signed, number_behind}
+use Rattle.kernel_tree.specs.Grammar.{Spells, number, name, element, group, pair, absolute, choice, negative, prefix, up, conversion, shift, operation, comparison, operator_of, operator_of_mark, level_of, opening_of_mark, joined, signed, number_following}
 
 -- ---- what may follow
 
@@ -132,12 +132,12 @@ record ChoiceView (from : List Word) (e : Term) (rest : List Word) : Type 0 wher
 
 record NegativeView (s : Sign) (from : List Word) (e : Term) (rest : List Word) : Type 0 where
   n : ℕ
-  at : number_behind s from ≡ Some (n, rest)
+  at : number_following s from ≡ Some (n, rest)
   is : e ≡ Literal (neg_ℤ (pos n))
 
 record OperandView (s : Sign) (from : List Word) (e : Term) (rest : List Word) : Type 0 where
   a : Term
-  free : number_behind s from ≡ None
+  free : number_following s from ≡ None
   is : e ≡ signed s a
   spells : Spells 0 from a rest
 

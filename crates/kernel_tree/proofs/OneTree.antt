@@ -4,7 +4,7 @@ use Rattle.kernel_tree.specs.declared.ops.Ty.{Ty}
 use Rattle.kernel_tree.specs.declared.mark.Mark.{Mark}
 use Rattle.kernel_tree.specs.declared.mark.Mark.TheVariants as mark
 use Rattle.kernel_tree.specs.Word.{Word, IsName, IsNumber, IsType, IsCompare, IsUpdate, IsMark}
-use Rattle.kernel_tree.specs.Plain.{Term, Action, Define, Put, Update, Choose, Leave, Block, Then, Nothing, Else, Parameter, Accumulator, Turns, Returned, Program, same}
+use Rattle.kernel_tree.specs.Plain.{Term, Action, Define, Put, Update, Choose, Leave, Block, Then, Nothing, Else, Parameter, Accumulator, PlainLoop, Returned, Program, same}
 use Rattle.kernel_tree.specs.Grammar.{Spells, SpellsType, untyped, typed, SpellsAction, define, put, update, choose, choose_else, leave, SpellsBlock, done, then, SpellsParam, scalar, array, SpellsSome, last, more, SpellsParams, none, some, SpellsVars, no_var, var, SpellsLoop, no_loop, loop, Tree, procedure, function}
 use Rattle.kernel_tree.proofs.OneTerm.{one_term}
 
@@ -141,11 +141,11 @@ vars_once (var {x = x} {t = t} d f) us q (var {vs = ws} g h) a b =
     let v = vars_once f ws q (subst (λ (z : List Word). SpellsVars z ws q) (sym u.1) h) a b in
     (ap₂ (λ (e : Term) (xs : List Accumulator). record { name = x; type = t; init = e } ∷ xs) u.0 v.0, v.1)
 
-loop_front : {words : List Word} {l : Option Turns} {r : List Word} → SpellsLoop words l r → begins_with mark.Var r ≡ false → begins_with mark.Var words ≡ false
+loop_front : {words : List Word} {l : Option PlainLoop} {r : List Word} → SpellsLoop words l r → begins_with mark.Var r ≡ false → begins_with mark.Var words ≡ false
 loop_front no_loop h = h
 loop_front (loop d) h = refl
 
-loop_once : {words : List Word} {l : Option Turns} {r : List Word} → SpellsLoop words l r → (m : Option Turns) (q : List Word) → SpellsLoop words m q → begins_with mark.For r ≡ false → begins_with mark.For q ≡ false → (l ≡ m) × (r ≡ q)
+loop_once : {words : List Word} {l : Option PlainLoop} {r : List Word} → SpellsLoop words l r → (m : Option PlainLoop) (q : List Word) → SpellsLoop words m q → begins_with mark.For r ≡ false → begins_with mark.For q ≡ false → (l ≡ m) × (r ≡ q)
 loop_once no_loop m q no_loop a b = (refl, refl)
 loop_once no_loop m q (loop g) a b = absurd cc
 loop_once (loop d) m q no_loop a b = absurd cc
@@ -156,13 +156,13 @@ loop_once (loop {i = i} {n = n} d) m q (loop g) a b =
 vars_from : {v w : List Word} {vs : List Accumulator} {r : List Word} → v ≡ w → SpellsVars v vs r → SpellsVars w vs r
 vars_from {v} {w} {vs} {r} p d = subst (λ (z : List Word). SpellsVars z vs r) p d
 
-loop_from : {v w : List Word} {l : Option Turns} {r : List Word} → v ≡ w → SpellsLoop v l r → SpellsLoop w l r
+loop_from : {v w : List Word} {l : Option PlainLoop} {r : List Word} → v ≡ w → SpellsLoop v l r → SpellsLoop w l r
 loop_from {v} {w} {l} {r} p d = subst (λ (z : List Word). SpellsLoop z l r) p d
 
-made_same : (x : List ℕ) (ps os : List Parameter) (vs us : List Accumulator) (l m : Option Turns) (a b : Option Returned) → ps ≡ os → vs ≡ us → l ≡ m → a ≡ b → ◌≡◌ {A = Program} (record { name = x; params = ps; vars = vs; turns = l; answer = a }) (record { name = x; params = os; vars = us; turns = m; answer = b })
+made_same : (x : List ℕ) (ps os : List Parameter) (vs us : List Accumulator) (l m : Option PlainLoop) (a b : Option Returned) → ps ≡ os → vs ≡ us → l ≡ m → a ≡ b → ◌≡◌ {A = Program} (record { name = x; params = ps; vars = vs; turns = l; answer = a }) (record { name = x; params = os; vars = us; turns = m; answer = b })
 made_same x ps os vs us l m a b p v t e =
     ap₂ (λ (z : List Parameter) (y : List Accumulator). record { name = x; params = z; vars = y; turns = l; answer = a }) p v
-    ∙ ap₂ (λ (z : Option Turns) (y : Option Returned). record { name = x; params = os; vars = us; turns = z; answer = y }) t e
+    ∙ ap₂ (λ (z : Option PlainLoop) (y : Option Returned). record { name = x; params = os; vars = us; turns = z; answer = y }) t e
 
 pub tree_once : {words : List Word} {j : Program} → Tree words j → (k : Program) → Tree words k → j ≡ k
 tree_once (procedure {x = x} d f g) k (procedure i m n) =

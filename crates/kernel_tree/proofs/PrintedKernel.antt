@@ -6,7 +6,7 @@ use Rattle.kernel_tree.specs.declared.ast.Shape.TheVariants as shape
 use Rattle.kernel_tree.specs.declared.place.Place.TheVariants as site
 use Rattle.kernel_tree.specs.declared.mark.Mark.TheVariants as mark
 use Rattle.kernel_tree.specs.Word.{Word, IsName, IsMark}
-use Rattle.kernel_tree.specs.Plain.{Term, Action, Define, Put, Update, Choose, Leave, Block, Done, Then, Nothing, Else, Parameter, Accumulator, Turns, Returned, Program}
+use Rattle.kernel_tree.specs.Plain.{Term, Action, Define, Put, Update, Choose, Leave, Block, Done, Then, Nothing, Else, Parameter, Accumulator, PlainLoop, Returned, Program}
 use Rattle.kernel_tree.specs.Grammar.{Spells, SpellsType, untyped, typed, SpellsAction, define, put, update, choose, choose_else, leave, SpellsBlock, done, then, SpellsParam, scalar, array, SpellsSome, last, more, SpellsParams, none, some, SpellsVars, no_var, var, SpellsLoop, no_loop, loop, Tree, procedure, function, IsTree}
 use Rattle.kernel_tree.specs.Printing.{print_term, print_type, print_action, print_block, print_shape, print_param, print_others, print_params, print_vars, print_turns, canonical_words, canonical_text}
 use Rattle.kernel_tree.specs.Text.{IsTextOf}
@@ -56,11 +56,11 @@ vars_spells : (vs : List Accumulator) → WellVars vs → (rest : List Word) →
 vars_spells [] h rest = no_var
 vars_spells (v ∷ vs) h rest = var (alone v.init h.1.0 _) (vars_spells vs h.1.1 rest)
 
-loop_spells : (l : Option Turns) → WellTurns l → (rest : List Word) → SpellsLoop (print_turns l rest) l rest
+loop_spells : (l : Option PlainLoop) → WellTurns l → (rest : List Word) → SpellsLoop (print_turns l rest) l rest
 loop_spells None h rest = no_loop
 loop_spells (Some l) h rest = loop (block_spells true l.body h.1.1 rest)
 
-tree_at : (x : List ℕ) (ps : List Parameter) (vs : List Accumulator) (l : Option Turns) (a : Option Returned) → let k : Program = record { name = x; params = ps; vars = vs; turns = l; answer = a } in WellProgram k → Tree (canonical_words k) k
+tree_at : (x : List ℕ) (ps : List Parameter) (vs : List Accumulator) (l : Option PlainLoop) (a : Option Returned) → let k : Program = record { name = x; params = ps; vars = vs; turns = l; answer = a } in WellProgram k → Tree (canonical_words k) k
 tree_at x ps vs l None h = procedure (params_spells ps _ h.few) (vars_spells vs h.vars _) (loop_spells l h.turns _)
 tree_at x ps vs l (Some a) h = function (params_spells ps _ h.few) (vars_spells vs h.vars _) (loop_spells l h.turns _) (alone a.value h.answer _)
 

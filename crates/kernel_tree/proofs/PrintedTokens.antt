@@ -12,7 +12,7 @@ use Rattle.kernel_tree.specs.declared.place.Place.TheVariants as site
 use Rattle.kernel_tree.specs.declared.mark.Mark.{Mark}
 use Rattle.kernel_tree.specs.Word.{Word, IsCompare, IsMark}
 use Rattle.kernel_tree.specs.Tokens.{is_token}
-use Rattle.kernel_tree.specs.Plain.{Term, Literal, Variable, Element, Unary, Operation, Shift, Conversion, Choice, Comparison, Both, Either, Not, Action, Define, Put, Update, Choose, Leave, Block, Done, Then, Otherwise, Nothing, Else, Parameter, Accumulator, Turns, Returned, Program}
+use Rattle.kernel_tree.specs.Plain.{Term, Literal, Variable, Element, Unary, Operation, Shift, Conversion, Choice, Comparison, Both, Either, Not, Action, Define, Put, Update, Choose, Leave, Block, Done, Then, Otherwise, Nothing, Else, Parameter, Accumulator, PlainLoop, Returned, Program}
 use Rattle.kernel_tree.specs.Printing.{opened, closed, number_opened, number_closed, print_literal, print_count, mark_of_binary, print_between, print_binary, print_unary, print_term, print_type, print_action, print_block, print_otherwise, print_shape, print_others, print_params, print_vars, print_turns, print_arrow, print_answer, canonical_words}
 use Rattle.kernel_tree.proofs.Well.{Tokens, IsCount, Well, WellAction, WellBlock, WellOtherwise, WellParams, WellVars, WellTurns, WellAnswer, WellProgram}
 
@@ -109,7 +109,7 @@ vars_tokens : (vs : List Accumulator) → WellVars vs → (rest : List Word) →
 vars_tokens [] h rest t = t
 vars_tokens (v ∷ vs) h rest t = (refl, (h.0, (refl, (refl, (refl, alone v.init h.1.0 _ (refl, vars_tokens vs h.1.1 rest t))))))
 
-turns_tokens : (l : Option Turns) → WellTurns l → (rest : List Word) → Tokens rest → Tokens (print_turns l rest)
+turns_tokens : (l : Option PlainLoop) → WellTurns l → (rest : List Word) → Tokens rest → Tokens (print_turns l rest)
 turns_tokens None h rest t = t
 turns_tokens (Some l) h rest t = (refl, (h.0, (refl, (refl, (refl, (h.1.0, (refl, block_tokens true l.body h.1.1 rest t)))))))
 

@@ -7,7 +7,7 @@ use Rattle.kernel_tree.specs.declared.mark.Sign.{Sign}
 use Rattle.kernel_tree.specs.declared.mark.Sign.TheVariants as sign
 use Rattle.kernel_tree.specs.Word.{Word}
 use Rattle.kernel_tree.specs.Tokens.{is_name, is_token, are_tokens}
-use Rattle.kernel_tree.specs.Plain.{Term, Literal, Variable, Element, Unary, Operation, Shift, Conversion, Choice, Comparison, Both, Either, Not, Action, Define, Put, Update, Choose, Leave, Block, Done, Then, Otherwise, Nothing, Else, Parameter, Accumulator, Turns, Returned, Program}
+use Rattle.kernel_tree.specs.Plain.{Term, Literal, Variable, Element, Unary, Operation, Shift, Conversion, Choice, Comparison, Both, Either, Not, Action, Define, Put, Update, Choose, Leave, Block, Done, Then, Otherwise, Nothing, Else, Parameter, Accumulator, PlainLoop, Returned, Program}
 use Rattle.kernel_tree.specs.Grammar.{Spells, number, name, element, group, pair, absolute, choice, negative, prefix, up, conversion, shift, operation, comparison, joined, signed, SpellsType, untyped, typed, SpellsAction, define, put, update, choose, choose_else, leave, SpellsBlock, done, then, SpellsParam, scalar, array, SpellsSome, last, more, SpellsParams, none, some, SpellsVars, no_var, var, SpellsLoop, no_loop, loop, Tree, procedure, function}
 
 -- the words are tokens, one by one
@@ -118,7 +118,7 @@ abbrev pub WellVars : List Accumulator → Type 0
 WellVars [] = Unit {0}
 WellVars (v ∷ vs) = IsTrue (is_name v.name) × (Well v.init × WellVars vs)
 
-abbrev pub WellTurns : Option Turns → Type 0
+abbrev pub WellTurns : Option PlainLoop → Type 0
 WellTurns None = Unit {0}
 WellTurns (Some l) = IsTrue (is_name l.index) × (IsTrue (is_name l.bound) × WellBlock true l.body)
 
@@ -150,7 +150,7 @@ well_vars : {words : List Word} {vs : List Accumulator} {rest : List Word} → S
 well_vars no_var t = (tt, t)
 well_vars (var d f) t = let r = well d t.1.1.1.1.1 in let s = well_vars f r.1.1 in ((t.1.0, (r.0, s.0)), s.1)
 
-well_loop : {words : List Word} {l : Option Turns} {rest : List Word} → SpellsLoop words l rest → Tokens words → WellTurns l × Tokens rest
+well_loop : {words : List Word} {l : Option PlainLoop} {rest : List Word} → SpellsLoop words l rest → Tokens words → WellTurns l × Tokens rest
 well_loop no_loop t = (tt, t)
 well_loop (loop d) t = let r = well_block d t.1.1.1.1.1.1.1 in ((t.1.0, (t.1.1.1.1.1.0, r.0)), r.1)
 

@@ -12,7 +12,7 @@ use Rattle.kernel_tree.specs.declared.mark.Operator.TheVariants as operator
 use Rattle.kernel_tree.specs.declared.mark.Sign.{Sign}
 use Rattle.kernel_tree.specs.declared.mark.Opening.TheVariants as opening
 use Rattle.kernel_tree.specs.Word.{Word, IsName, IsNumber, IsType, IsUpdate, IsMark}
-use Rattle.kernel_tree.specs.Plain.{Term, Action, Block, Parameter, Accumulator, Turns}
+use Rattle.kernel_tree.specs.Plain.{Term, Action, Block, Parameter, Accumulator, PlainLoop}
 use Rattle.kernel_tree.specs.Grammar.{Spells, SpellsType, SpellsAction, SpellsBlock, SpellsParam, SpellsParams, SpellsVars, SpellsLoop, opening_of_mark, operator_of, level_of}
 
 -- ---- expressions
@@ -126,11 +126,11 @@ pub data LoopFronts : List Word → List Word → Type 0 where
 pub data BodyFronts : Bool → List Word → List Word → Type 0 where
   in_vars : {returns : Bool} {from bad : List Word} → VarFronts from bad → BodyFronts returns from bad
   in_loop : {returns : Bool} {vs : List Accumulator} {from next bad : List Word} → SpellsVars from vs next → LoopFronts next bad → BodyFronts returns from bad
-  end_body : {vs : List Accumulator} {l : Option Turns} {from next bad : List Word} → SpellsVars from vs next → SpellsLoop next l (IsMark mark.CloseBrace ∷ bad) → BodyFronts false from bad
-  in_answer : {vs : List Accumulator} {l : Option Turns} {from next last bad : List Word} → SpellsVars from vs next → SpellsLoop next l (IsMark mark.Return ∷ last) → Fronts 10 last bad → BodyFronts true from bad
-  end_answer : {vs : List Accumulator} {l : Option Turns} {e : Term} {from next last bad : List Word} → SpellsVars from vs next → SpellsLoop next l (IsMark mark.Return ∷ last) → Spells 10 last e bad → BodyFronts true from bad
-  at_brace : {vs : List Accumulator} {l : Option Turns} {e : Term} {from next last bad : List Word} → SpellsVars from vs next → SpellsLoop next l (IsMark mark.Return ∷ last) → Spells 10 last e (IsMark mark.Semicolon ∷ bad) → BodyFronts true from bad
-  end_function : {vs : List Accumulator} {l : Option Turns} {e : Term} {from next last bad : List Word} → SpellsVars from vs next → SpellsLoop next l (IsMark mark.Return ∷ last) → Spells 10 last e (IsMark mark.Semicolon ∷ IsMark mark.CloseBrace ∷ bad) → BodyFronts true from bad
+  end_body : {vs : List Accumulator} {l : Option PlainLoop} {from next bad : List Word} → SpellsVars from vs next → SpellsLoop next l (IsMark mark.CloseBrace ∷ bad) → BodyFronts false from bad
+  in_answer : {vs : List Accumulator} {l : Option PlainLoop} {from next last bad : List Word} → SpellsVars from vs next → SpellsLoop next l (IsMark mark.Return ∷ last) → Fronts 10 last bad → BodyFronts true from bad
+  end_answer : {vs : List Accumulator} {l : Option PlainLoop} {e : Term} {from next last bad : List Word} → SpellsVars from vs next → SpellsLoop next l (IsMark mark.Return ∷ last) → Spells 10 last e bad → BodyFronts true from bad
+  at_brace : {vs : List Accumulator} {l : Option PlainLoop} {e : Term} {from next last bad : List Word} → SpellsVars from vs next → SpellsLoop next l (IsMark mark.Return ∷ last) → Spells 10 last e (IsMark mark.Semicolon ∷ bad) → BodyFronts true from bad
+  end_function : {vs : List Accumulator} {l : Option PlainLoop} {e : Term} {from next last bad : List Word} → SpellsVars from vs next → SpellsLoop next l (IsMark mark.Return ∷ last) → Spells 10 last e (IsMark mark.Semicolon ∷ IsMark mark.CloseBrace ∷ bad) → BodyFronts true from bad
 
 pub data KernelFronts : List Word → List Word → Type 0 where
   no_kernel : {bad : List Word} → KernelFronts bad bad

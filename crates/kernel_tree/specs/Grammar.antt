@@ -22,7 +22,7 @@ use Rattle.kernel_tree.specs.declared.mark.Beginning.{Beginning}
 use Rattle.kernel_tree.specs.declared.mark.Beginning.TheVariants as beginning
 use Rattle.kernel_tree.specs.Word.{Word, IsName, IsNumber, IsType, IsCompare, IsUpdate, IsMark}
 use Rattle.kernel_tree.specs.Tokens.{are_tokens}
-use Rattle.kernel_tree.specs.Plain.{Term, Literal, Variable, Element, Unary, Operation, Shift, Conversion, Choice, Comparison, Both, Either, Not, Action, Define, Put, Update, Choose, Leave, Block, Done, Then, Nothing, Else, Parameter, Accumulator, Turns, Program}
+use Rattle.kernel_tree.specs.Plain.{Term, Literal, Variable, Element, Unary, Operation, Shift, Conversion, Choice, Comparison, Both, Either, Not, Action, Define, Put, Update, Choose, Leave, Block, Done, Then, Nothing, Else, Parameter, Accumulator, PlainLoop, Program}
 
 -- ---- operators
 
@@ -115,10 +115,10 @@ number_at (IsUpdate op ∷ rest) = None
 number_at (IsMark m ∷ rest) = None
 
 -- the number that a sign in front of these words belongs to: a minus before a number is the number's
-abbrev pub number_behind : Sign → List Word → Option (ℕ × List Word)
-number_behind sign.Minus words = number_at words
-number_behind sign.Flip words = None
-number_behind sign.Not words = None
+abbrev pub number_following : Sign → List Word → Option (ℕ × List Word)
+number_following sign.Minus words = number_at words
+number_following sign.Flip words = None
+number_following sign.Not words = None
 
 -- ---- expressions
 
@@ -149,7 +149,7 @@ pub data Spells : ℕ → List Word → Term → List Word → Type 0 where
       Spells 0 (IsMark mark.Minus ∷ IsNumber n ∷ rest) (Literal (neg_ℤ (pos n))) rest
   prefix : {s : Sign} {m : Mark} {e : Term} {from rest : List Word} →
       opening_of_mark m ≡ Some (opening.Signed s) →
-      number_behind s from ≡ None →
+      number_following s from ≡ None →
       Spells 0 from e rest →
       Spells 0 (IsMark m ∷ from) (signed s e) rest
   up : {level : ℕ} {e : Term} {from rest : List Word} → Spells level from e rest → Spells (suc level) from e rest
@@ -246,7 +246,7 @@ pub data SpellsVars : List Word → List Accumulator → List Word → Type 0 wh
       SpellsVars next vs rest →
       SpellsVars (IsMark mark.Var ∷ IsName x ∷ IsMark mark.Colon ∷ IsType t ∷ IsMark mark.Equals ∷ from) (record { name = x; type = t; init = e } ∷ vs) rest
 
-pub data SpellsLoop : List Word → Option Turns → List Word → Type 0 where
+pub data SpellsLoop : List Word → Option PlainLoop → List Word → Type 0 where
   no_loop : {rest : List Word} → SpellsLoop rest None rest
   loop : {i n : List ℕ} {b : Block} {from rest : List Word} →
       SpellsBlock true from b rest →
@@ -254,12 +254,12 @@ pub data SpellsLoop : List Word → Option Turns → List Word → Type 0 where
 
 -- Tree words k: the words are the tokens of the kernel k
 pub data Tree : List Word → Program → Type 0 where
-  procedure : {x : List ℕ} {ps : List Parameter} {vs : List Accumulator} {l : Option Turns} {from body next : List Word} →
+  procedure : {x : List ℕ} {ps : List Parameter} {vs : List Accumulator} {l : Option PlainLoop} {from body next : List Word} →
       SpellsParams from ps (IsMark mark.OpenBrace ∷ body) →
       SpellsVars body vs next →
       SpellsLoop next l (IsMark mark.CloseBrace ∷ []) →
       Tree (IsMark mark.Kernel ∷ IsName x ∷ IsMark mark.OpenParen ∷ from) (record { name = x; params = ps; vars = vs; turns = l; answer = None })
-  function : {x : List ℕ} {ps : List Parameter} {t : Ty} {vs : List Accumulator} {l : Option Turns} {e : Term} {from body next last : List Word} →
+  function : {x : List ℕ} {ps : List Parameter} {t : Ty} {vs : List Accumulator} {l : Option PlainLoop} {e : Term} {from body next last : List Word} →
       SpellsParams from ps (IsMark mark.Arrow ∷ IsType t ∷ IsMark mark.OpenBrace ∷ body) →
       SpellsVars body vs next →
       SpellsLoop next l (IsMark mark.Return ∷ last) →

@@ -3,7 +3,7 @@
 use Rattle.std.specs.Prelude.{ℕ, ◌+◌, ℤ, pos, neg_ℤ, List, [], ◌∷◌, length, Option, Some, None, Bool, false, bytes_eq, if◌then◌else◌, option_map, option_and_then}
 use Rattle.kernel_tree.specs.declared.ops.BinaryOp.{BinaryOp}
 use Rattle.kernel_tree.specs.declared.ops.BinaryOp.TheVariants as binary
-use Rattle.kernel_tree.specs.Plain.{Term, Literal, Variable, Element, Unary, Operation, Shift, Conversion, Choice, Comparison, Both, Either, Not, Action, Define, Put, Update, Choose, Leave, Block, Done, Then, Otherwise, Nothing, Else, Accumulator, Turns, Returned, Program}
+use Rattle.kernel_tree.specs.Plain.{Term, Literal, Variable, Element, Unary, Operation, Shift, Conversion, Choice, Comparison, Both, Either, Not, Action, Define, Put, Update, Choose, Leave, Block, Done, Then, Otherwise, Nothing, Else, Accumulator, PlainLoop, Returned, Program}
 
 -- ---- indexes
 
@@ -80,7 +80,7 @@ vars_size i [] = 0
 vars_size i (v ∷ vs) = term_size i v.init + 1 + vars_size i vs
 
 -- `for` and the body
-abbrev pub turns_size : Option Turns → ℕ
+abbrev pub turns_size : Option PlainLoop → ℕ
 turns_size None = 0
 turns_size (Some l) = 1 + block_size (Some l.index) l.body
 
@@ -89,7 +89,7 @@ abbrev pub answer_size : Option (List ℕ) → Option Returned → ℕ
 answer_size i None = 0
 answer_size i (Some a) = term_size i a.value + 1
 
-abbrev pub index_of : Turns → List ℕ
+abbrev pub index_of : PlainLoop → List ℕ
 index_of l = l.index
 
 -- the name of the loop variable

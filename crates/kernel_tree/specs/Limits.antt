@@ -1,6 +1,6 @@
 -- The limits of kernels and their texts, and the depth of a kernel.
 use Rattle.std.specs.Prelude.{ℕ, ◌+◌, List, [], ◌∷◌, Option, Some, None, max}
-use Rattle.kernel_tree.specs.Plain.{Term, Literal, Variable, Element, Unary, Operation, Shift, Conversion, Choice, Comparison, Both, Either, Not, Action, Define, Put, Update, Choose, Leave, Block, Done, Then, Otherwise, Nothing, Else, Accumulator, Turns, Returned, Program}
+use Rattle.kernel_tree.specs.Plain.{Term, Literal, Variable, Element, Unary, Operation, Shift, Conversion, Choice, Comparison, Both, Either, Not, Action, Define, Put, Update, Choose, Leave, Block, Done, Then, Otherwise, Nothing, Else, Accumulator, PlainLoop, Returned, Program}
 
 -- the bytes and the tokens of a kernel's text
 abbrev pub most_bytes : ℕ
@@ -61,7 +61,7 @@ abbrev pub vars_depth : List Accumulator → ℕ
 vars_depth [] = 0
 vars_depth (v ∷ vs) = max (term_depth v.init) (vars_depth vs)
 
-abbrev pub turns_depth : Option Turns → ℕ
+abbrev pub turns_depth : Option PlainLoop → ℕ
 turns_depth None = 0
 turns_depth (Some l) = block_depth l.body
 

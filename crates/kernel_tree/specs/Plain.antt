@@ -65,7 +65,7 @@ pub record Accumulator : Type 0 where
   pub type : Ty
   pub init : Term
 
-pub record Turns : Type 0 where
+pub record PlainLoop : Type 0 where
   pub index : List ℕ
   pub bound : List ℕ
   pub body : Block
@@ -79,7 +79,7 @@ pub record Program : Type 0 where
   pub name : List ℕ
   pub params : List Parameter
   pub vars : List Accumulator
-  pub turns : Option Turns
+  pub turns : Option PlainLoop
   pub answer : Option Returned
 
 -- a name's bytes
@@ -132,7 +132,7 @@ accumulator_of v = record { name = name_of v.name; type = v.ty; init = term_of v
 abbrev pub accumulators_of : List Var → List Accumulator
 accumulators_of vs = map accumulator_of vs
 
-abbrev pub turns_of : Loop → Turns
+abbrev pub turns_of : Loop → PlainLoop
 turns_of l = record { index = name_of l.index; bound = name_of l.bound; body = block_of l.body.items }
 
 abbrev pub returned_of : Answer → Returned

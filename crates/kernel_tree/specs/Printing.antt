@@ -17,7 +17,7 @@ use Rattle.kernel_tree.specs.declared.mark.Mark.TheVariants as mark
 use Rattle.kernel_tree.specs.declared.place.Place.{Place}
 use Rattle.kernel_tree.specs.declared.place.Place.TheVariants as site
 use Rattle.kernel_tree.specs.Word.{Word, IsName, IsNumber, IsType, IsCompare, IsUpdate, IsMark}
-use Rattle.kernel_tree.specs.Plain.{Term, Literal, Variable, Element, Unary, Operation, Shift, Conversion, Choice, Comparison, Both, Either, Not, Action, Define, Put, Update, Choose, Leave, Block, Done, Then, Otherwise, Nothing, Else, Parameter, Accumulator, Turns, Returned, Program}
+use Rattle.kernel_tree.specs.Plain.{Term, Literal, Variable, Element, Unary, Operation, Shift, Conversion, Choice, Comparison, Both, Either, Not, Action, Define, Put, Update, Choose, Leave, Block, Done, Then, Otherwise, Nothing, Else, Parameter, Accumulator, PlainLoop, Returned, Program}
 
 -- ---- expressions
 
@@ -146,7 +146,7 @@ abbrev pub print_vars : List Accumulator → List Word → List Word
 print_vars [] rest = rest
 print_vars (v ∷ vs) rest = IsMark mark.Var ∷ IsName v.name ∷ IsMark mark.Colon ∷ IsType v.type ∷ IsMark mark.Equals ∷ print_term v.init site.Alone (IsMark mark.Semicolon ∷ print_vars vs rest)
 
-abbrev pub print_turns : Option Turns → List Word → List Word
+abbrev pub print_turns : Option PlainLoop → List Word → List Word
 print_turns None rest = rest
 print_turns (Some l) rest = IsMark mark.For ∷ IsName l.index ∷ IsMark mark.In ∷ IsNumber 0 ∷ IsMark mark.Range ∷ IsName l.bound ∷ IsMark mark.OpenBrace ∷ print_block l.body rest
 

@@ -11,7 +11,7 @@ use Rattle.kernel_tree.specs.declared.fault.Fault.TheVariants as fault
 use Rattle.kernel_tree.specs.declared.fault.Found.{Found}
 use Rattle.kernel_tree.specs.declared.fault.Binding.{Binding}
 use Rattle.kernel_tree.specs.declared.fault.Binding.TheVariants as binding
-use Rattle.kernel_tree.specs.Plain.{Term, Literal, Variable, Element, Unary, Operation, Shift, Conversion, Choice, Comparison, Both, Either, Not, Action, Define, Put, Update, Choose, Leave, Block, Done, Then, Otherwise, Nothing, Else, Parameter, Accumulator, Turns, Returned, Program}
+use Rattle.kernel_tree.specs.Plain.{Term, Literal, Variable, Element, Unary, Operation, Shift, Conversion, Choice, Comparison, Both, Either, Not, Action, Define, Put, Update, Choose, Leave, Block, Done, Then, Otherwise, Nothing, Else, Parameter, Accumulator, PlainLoop, Returned, Program}
 use Rattle.kernel_tree.specs.Wrap.{bits_of, is_signed}
 use Rattle.kernel_tree.specs.Items.{term_size, stream_offset, index_items, action_size, block_size, vars_size, turns_size, loop_index, size_of}
 use Rattle.kernel_tree.specs.Limits.{depth_of, most_items, most_depth, most_offset}
@@ -324,10 +324,10 @@ after_vars scope [] = scope
 after_vars scope (v ∷ vs) = after_vars (declared scope v.name (binding.Accumulator v.type)) vs
 
 -- the scope in which the body of a loop begins, and the returned expression after a loop
-abbrev pub in_loop : Scope → Turns → Scope
+abbrev pub in_loop : Scope → PlainLoop → Scope
 in_loop scope l = let s = declared scope l.index binding.Index in record s { inside = true }
 
-abbrev pub after_turns : Scope → Option Turns → Scope
+abbrev pub after_turns : Scope → Option PlainLoop → Scope
 after_turns scope None = scope
 after_turns scope (Some l) = declared scope l.index binding.Index
 
@@ -347,7 +347,7 @@ bound_faults item None = found_at item fault.Unknown
 bound_faults item (Some (binding.Scalar t)) = mismatch item (Some ty.U64) t
 bound_faults item (Some b) = found_at item fault.WrongKind
 
-abbrev pub turns_faults : Scope → ℕ → Option Turns → List Found
+abbrev pub turns_faults : Scope → ℕ → Option PlainLoop → List Found
 turns_faults scope from None = []
 turns_faults scope from (Some l) =
     bound_faults from (lookup scope l.bound) ++ (twice from scope l.index ++ block_faults (in_loop scope l) (from + 1) l.body)
@@ -455,7 +455,7 @@ abbrev pub vars_types : Scope → List Accumulator → List (Option Ty)
 vars_types scope [] = []
 vars_types scope (v ∷ vs) = term_types scope (Value (Some v.type)) v.init ++ (None ∷ vars_types (declared scope v.name (binding.Accumulator v.type)) vs)
 
-abbrev pub turns_types : Scope → Option Turns → List (Option Ty)
+abbrev pub turns_types : Scope → Option PlainLoop → List (Option Ty)
 turns_types scope None = []
 turns_types scope (Some l) = None ∷ block_types (in_loop scope l) l.body
 

@@ -6,7 +6,7 @@ use Rattle.kernel_tree.specs.declared.mark.Joint.TheVariants as joint
 use Rattle.kernel_tree.specs.declared.mark.Sign.{Sign}
 use Rattle.kernel_tree.specs.declared.mark.Sign.TheVariants as sign
 use Rattle.kernel_tree.specs.Word.{Word}
-use Rattle.kernel_tree.specs.Plain.{Term, Action, Block, Parameter, Accumulator, Turns, Program}
+use Rattle.kernel_tree.specs.Plain.{Term, Action, Block, Parameter, Accumulator, PlainLoop, Program}
 use Rattle.kernel_tree.specs.Items.{stream_offset, index_size, term_size, action_size, block_size, vars_size, turns_size, loop_index, size_of}
 use Rattle.kernel_tree.specs.Limits.{term_depth, action_depth, block_depth, vars_depth, turns_depth, depth_of}
 use Rattle.kernel_tree.specs.Grammar.{Spells, number, name, element, group, pair, absolute, choice, negative, prefix, up, conversion, shift, operation, comparison, joined, signed, SpellsType, untyped, typed, SpellsAction, define, put, update, choose, choose_else, leave, SpellsBlock, done, then, SpellsParam, scalar, array, SpellsSome, last, more, SpellsParams, none, some, SpellsVars, no_var, var, SpellsLoop, no_loop, loop, Tree, procedure, function}
@@ -87,7 +87,7 @@ vars_items : {from : List Word} {vs : List Accumulator} {rest : List Word} (i : 
 vars_items i no_var = omega arith
 vars_items i (var d v) = omega (arith, term_items i d, vars_items i v)
 
-turns_items : {from : List Word} {l : Option Turns} {rest : List Word} → SpellsLoop from l rest → turns_size l + 2 * length rest ≤ 2 * length from
+turns_items : {from : List Word} {l : Option PlainLoop} {rest : List Word} → SpellsLoop from l rest → turns_size l + 2 * length rest ≤ 2 * length from
 turns_items no_loop = omega arith
 turns_items (loop {i = i} b) = omega (arith, block_items (Some i) b)
 
@@ -130,7 +130,7 @@ vars_levels : {from : List Word} {vs : List Accumulator} {rest : List Word} → 
 vars_levels no_var = omega arith
 vars_levels (var d v) = omega (arith, term_levels d, vars_levels v)
 
-turns_levels : {from : List Word} {l : Option Turns} {rest : List Word} → SpellsLoop from l rest → turns_depth l + length rest ≤ length from
+turns_levels : {from : List Word} {l : Option PlainLoop} {rest : List Word} → SpellsLoop from l rest → turns_depth l + length rest ≤ length from
 turns_levels no_loop = omega arith
 turns_levels (loop b) = omega (arith, block_levels b)
 

@@ -30,8 +30,8 @@ further s t u g h = record {
   inside = h.inside ∙ g.inside;
 }
 
-behind : (s t : Scope) → Grows s t → Grows s (left s t)
-behind s t g = record { more = []; visible = sym (append-nil s.visible); names = g.names; taken = g.taken; index = refl; inside = refl }
+following : (s t : Scope) → Grows s t → Grows s (left s t)
+following s t g = record { more = []; visible = sym (append-nil s.visible); names = g.names; taken = g.taken; index = refl; inside = refl }
 
 -- a name that is declared again is no new one
 no_more : (b : Bool) (names : List (List ℕ)) (x : List ℕ) → (if b then names else names ++ x ∷ []) ≡ names ++ (if b then [] else x ∷ [])
@@ -56,7 +56,7 @@ mutual
   grows_by_action (Choose c b d) s =
       let t = left s (after_block s b) in
       let u = after_otherwise t d in
-      behind s u (further s t u (behind s (after_block s b) (grows_by_block b s)) (grows_by_otherwise d t))
+      following s u (further s t u (following s (after_block s b) (grows_by_block b s)) (grows_by_otherwise d t))
   grows_by_action (Leave c) s = stays s
 
   pub grows_by_block : (b : Block) (s : Scope) → Grows s (after_block s b)

@@ -1,6 +1,6 @@
 pub mod Least
 pub mod Growth
 pub mod Steps
-pub mod Whole
+pub mod KernelWalks
 pub mod Bounds
 pub mod Refused

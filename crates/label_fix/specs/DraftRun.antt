@@ -48,8 +48,8 @@ pub record Laid : Type 0 where
   pub base : ℕ
   pub entries : List Entry
 
-abbrev pub behind : Laid → ℕ → List Entry
-behind d l = after d.entries l
+abbrev pub following : Laid → ℕ → List Entry
+following d l = after d.entries l
 
 -- the address of a label
 abbrev pub address_of : Laid → ℕ → ℕ
@@ -59,7 +59,7 @@ address_of d l = (d.base + 4 * place_of d.entries l) % 2 ^ 64
 abbrev pub walk : Laid → (List Entry → State → Outcome) → (State → Outcome) → ℕ → List Entry → State → Outcome
 walk d on past taken [] s = past s
 walk d on past taken (Put i ∷ rest) s = go_on (effect i s) s taken (on rest)
-walk d on past taken (Branch k l ∷ rest) s = if is_taken k s then on (behind d l) (jump s (address_of d l)) else on rest (next s)
+walk d on past taken (Branch k l ∷ rest) s = if is_taken k s then on (following d l) (jump s (address_of d l)) else on rest (next s)
 walk d on past taken (Place l ∷ rest) s = walk d on past taken rest s
 
 -- at most n words of a draft from the first of `rest` on, after so many that were taken

@@ -5,7 +5,7 @@ use Rattle.machine_model.specs.declared.outcome.StopKind.{StopKind}
 use Rattle.machine_model.specs.Machine.{State}
 use Rattle.machine_model.specs.Run.{End, Stop}
 use Rattle.machine_model.specs.States.{IsState}
-use Rattle.label_fix.specs.DraftRun.{Entry, Put, Branch, Place, Laid, behind, draft_run}
+use Rattle.label_fix.specs.DraftRun.{Entry, Put, Branch, Place, Laid, following, draft_run}
 use Rattle.label_fix.specs.Finished.{AreFit}
 use Rattle.label_fix.specs.Cuts.{cuts}
 
@@ -14,7 +14,7 @@ abbrev pub Resolves : Laid → List Entry → Type 0
 Resolves d [] = Unit {0}
 Resolves d (Put i ∷ rest) = Resolves d rest
 Resolves d (Branch k l ∷ rest) = Resolves d rest
-Resolves d (Place l ∷ rest) = (behind d l ≡ rest) × Resolves d rest
+Resolves d (Place l ∷ rest) = (following d l ≡ rest) × Resolves d rest
 
 -- At most this many words lead from the entries c and the state s to e and t. What free elements the words after them
 -- suppress is counted from c too; and of a fit draft the shape of the state is kept.

@@ -66,8 +66,8 @@ page_at-with_span (p ∷ ps) a xs = go (nat_eq p.page (a / 4096)) refl (page_at-
     go false e rest = cond-false _ _ _ e ∙ rest
 
 -- what stands after bytes that were written
-pub span_of-behind : (memory : Memory) (a k len : ℕ) (xs : List ℕ) → IsMemory memory → can_write memory a ≡ true → length xs ≡ k → (a + k) / 4096 ≡ a / 4096 → (a + k) % 4096 ≡ a % 4096 + k → span_of (with_span memory a xs) (a + k) len ≡ drop k (span_of memory a (k + len))
-span_of-behind memory a k len xs is writable size same place = go (page_at memory (a / 4096)) refl
+pub span_of-following : (memory : Memory) (a k len : ℕ) (xs : List ℕ) → IsMemory memory → can_write memory a ≡ true → length xs ≡ k → (a + k) / 4096 ≡ a / 4096 → (a + k) % 4096 ≡ a % 4096 + k → span_of (with_span memory a xs) (a + k) len ≡ drop k (span_of memory a (k + len))
+span_of-following memory a k len xs is writable size same place = go (page_at memory (a / 4096)) refl
   where
     go : (o : Option Page) → page_at memory (a / 4096) ≡ o → span_of (with_span memory a xs) (a + k) len ≡ drop k (span_of memory a (k + len))
     go None none = let clash : false ≡ true = sym (ap may_write none) ∙ writable in cc
@@ -205,13 +205,13 @@ stored-merged on f v k (suc (suc n)) left e a memory is low writable fits some p
     let page : (a + k) / 4096 ≡ a / 4096 = omega arith in
     let place : (a + k) % 4096 ≡ a % 4096 + k = omega arith in
     let after : can_write m1 (a + k) ≡ true = one.writable (a + k) ∙ ap (λ n. may_write (page_at memory n)) page ∙ writable in
-    let behind : span_of m1 (a + k) (k * rest) ≡ drop k old = span_of-behind memory a k (k * rest) xs is writable one.long page place ∙ ap (λ n. drop k (span_of memory a n)) (sym long) in
+    let following : span_of m1 (a + k) (k * rest) ≡ drop k old = span_of-following memory a k (k * rest) xs is writable one.long page place ∙ ap (λ n. drop k (span_of memory a n)) (sym long) in
     let ys = merged on v k rest (e + 1) (drop k old) in
     ap (λ m. store_lanes on f v k m e memory) (let q : suc (suc n) + left ≡ suc (rest + left) = omega arith in q)
     ∙ one.step
     ∙ stored-merged on f v k (suc n) left (e + 1) (a + k) m1 one.is (omega arith) after (omega arith) some
     (λ i l. ap f (let q : e + 1 + i ≡ e + suc i = omega arith in q) ∙ places (suc i) (omega arith) ∙ (let q : a + k * suc i ≡ a + k + k * i = omega (arith, mul-suc k i) in q))
-    ∙ ap₂ (λ i l. store_lanes on f v k left i (with_span m1 (a + k) (merged on v k rest (e + 1) l))) (let q : e + 1 + rest ≡ e + suc rest = omega arith in q) behind
+    ∙ ap₂ (λ i l. store_lanes on f v k left i (with_span m1 (a + k) (merged on v k rest (e + 1) l))) (let q : e + 1 + rest ≡ e + suc rest = omega arith in q) following
     ∙ ap (store_lanes on f v k left (e + suc rest)) (with_span-append memory a k xs ys is.pages one.long page place)
 
 -- ---- elements that are not active

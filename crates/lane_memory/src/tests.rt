@@ -180,7 +180,7 @@ fn lengths(rt: HostRuntime) -> Result<(), Fail> {
     Ok(())
 }
 
-// LD1B of every length, whose last byte is 0x87 in memory. 0x88 stands behind it, and is not read.
+// LD1B of every length, whose last byte is 0x87 in memory. 0x88 stands following it, and is not read.
 #[test]
 fn every_length(rt: HostRuntime) -> Result<(), Fail> {
     let pages = built(rt.alloc())?;

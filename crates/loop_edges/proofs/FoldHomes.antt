@@ -211,13 +211,13 @@ var_found R j (v ∷ vs) x h = by (bytes_eq v.name x) h (var_found R (j + 1) vs 
     by true h more = refl
     by false h more = more h
 
-found_behind : (hs gs : Homes) (x : List ℕ) → is_found x gs ≡ true → is_found x (hs ++ gs) ≡ true
-found_behind [] gs x h = h
-found_behind (y ∷ hs) gs x h = ap (λ b. bytes_eq y.name x || b) (found_behind hs gs x h) ∙ or_true (bytes_eq y.name x)
+found_following : (hs gs : Homes) (x : List ℕ) → is_found x gs ≡ true → is_found x (hs ++ gs) ≡ true
+found_following [] gs x h = h
+found_following (y ∷ hs) gs x h = ap (λ b. bytes_eq y.name x || b) (found_following hs gs x h) ∙ or_true (bytes_eq y.name x)
 
 -- an accumulator is found
 pub accumulator_found : (R : ℕ → ℕ) (k : Program) (x : List ℕ) → list_any (is_var x) k.vars ≡ true → is_found x (kernel_homes R k) ≡ true
-accumulator_found R k x h = found_behind (param_homes 0 k.params) (var_homes R 0 k.vars) x (var_found R 0 k.vars x h)
+accumulator_found R k x h = found_following (param_homes 0 k.params) (var_homes R 0 k.vars) x (var_found R 0 k.vars x h)
 
 pub at_home : (k : Program) (hs : Homes) (ns : Names) (s : State) → check_fault k ≡ None → AreRanged (var_scope k).visible ns → AreHeld hs ns s → AreAtHome hs hs
 at_home k hs ns s e r h = homes_own hs (subst Distinct (ranged_names (var_scope k).visible ns r ∙ held_names hs ns s h) (visible_distinct k e))

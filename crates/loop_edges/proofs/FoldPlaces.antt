@@ -113,10 +113,10 @@ moved_none : (o : Option ℕ) → o ≡ moved_by 0 o
 moved_none None = refl
 moved_none (Some m) = ap Some (let e : m ≡ 0 + m = omega arith in e)
 
-place_behind : (xs ys : List Throughout) (x : List ℕ) → NoSums xs → place_in (Accumulating x) (xs ++ ys) ≡ moved_by (length xs) (place_in (Accumulating x) ys)
-place_behind [] ys x h = moved_none (place_in (Accumulating x) ys)
-place_behind (t ∷ xs) ys x h =
-    ap (λ b. cond b (Some 0) (next_place (place_in (Accumulating x) (xs ++ ys)))) (not_same t x h.0) ∙ ap next_place (place_behind xs ys x h.1)
+place_following : (xs ys : List Throughout) (x : List ℕ) → NoSums xs → place_in (Accumulating x) (xs ++ ys) ≡ moved_by (length xs) (place_in (Accumulating x) ys)
+place_following [] ys x h = moved_none (place_in (Accumulating x) ys)
+place_following (t ∷ xs) ys x h =
+    ap (λ b. cond b (Some 0) (next_place (place_in (Accumulating x) (xs ++ ys)))) (not_same t x h.0) ∙ ap next_place (place_following xs ys x h.1)
     ∙ next_moved (length xs) (place_in (Accumulating x) ys)
 
 -- an accumulator at a place of the second part
@@ -128,10 +128,10 @@ record Behind (xs ys : List Throughout) (x : List ℕ) (j : ℕ) : Type 0 where
 some_same : {t u : Throughout} → Some t ≡ Some u → t ≡ u
 some_same e = cc
 
-behind : (xs ys : List Throughout) (x : List ℕ) (j : ℕ) → NoSums xs → slice_get (xs ++ ys) j ≡ Some (Accumulating x) → Behind xs ys x j
-behind [] ys x j h e = record { i = j; place = omega arith; is = e }
-behind (t ∷ xs) ys x zero h e = let no = sym h.0 ∙ ap is_sum (some_same e) in absurd cc
-behind (t ∷ xs) ys x (suc j) h e = let b = behind xs ys x j h.1 e in let p = b.place in record { i = b.i; place = omega (arith, p); is = b.is }
+following : (xs ys : List Throughout) (x : List ℕ) (j : ℕ) → NoSums xs → slice_get (xs ++ ys) j ≡ Some (Accumulating x) → Behind xs ys x j
+following [] ys x j h e = record { i = j; place = omega arith; is = e }
+following (t ∷ xs) ys x zero h e = let no = sym h.0 ∙ ap is_sum (some_same e) in absurd cc
+following (t ∷ xs) ys x (suc j) h e = let b = following xs ys x j h.1 e in let p = b.place in record { i = b.i; place = omega (arith, p); is = b.is }
 
 name_same : {x y : List ℕ} → Some (Accumulating x) ≡ Some (Accumulating y) → x ≡ y
 name_same e = cc
@@ -151,8 +151,8 @@ sums_first (v ∷ vs) y (suc i) d e =
 -- the place of an accumulator is the one at which it stands
 pub first_place : (k : Program) (y : List ℕ) (j : ℕ) → check_fault k ≡ None → slice_get (throughout k Z) j ≡ Some (Accumulating y) → sum_place k y ≡ Some j
 first_place k y j c e =
-    let b = behind (others k) (sums_of (updated_vars k)) y j (no_others k) (ap (λ ts. slice_get ts j) (sym (parts k)) ∙ e) in
-    ap (place_in (Accumulating y)) (parts k) ∙ place_behind (others k) (sums_of (updated_vars k)) y (no_others k)
+    let b = following (others k) (sums_of (updated_vars k)) y j (no_others k) (ap (λ ts. slice_get ts j) (sym (parts k)) ∙ e) in
+    ap (place_in (Accumulating y)) (parts k) ∙ place_following (others k) (sums_of (updated_vars k)) y (no_others k)
     ∙ ap (moved_by (length (others k))) (sums_first (updated_vars k) y b.i (distinct_kept (is_updated (loop_entries k)) k.vars (vars_distinct k c)) b.is) ∙ ap Some (sym b.place)
 
 same_is : (t : Throughout) (x : List ℕ) → is_same t (Accumulating x) ≡ true → t ≡ Accumulating x
@@ -207,7 +207,7 @@ in_sums es (v ∷ vs) x i e = by (is_updated es v) refl e (λ j q. later (in_sum
 
 pub sum_is : (k : Program) (x : List ℕ) (m : ℕ) → sum_place k x ≡ Some m → IsSum k x
 sum_is k x m e =
-    let all = sym (place_behind (others k) (sums_of (updated_vars k)) x (no_others k)) ∙ sym (ap (place_in (Accumulating x)) (parts k)) ∙ e in
+    let all = sym (place_following (others k) (sums_of (updated_vars k)) x (no_others k)) ∙ sym (ap (place_in (Accumulating x)) (parts k)) ∙ e in
     by (place_in (Accumulating x) (sums_of (updated_vars k))) refl all
   where
     by : (o : Option ℕ) → place_in (Accumulating x) (sums_of (updated_vars k)) ≡ o → moved_by (length (others k)) o ≡ Some m → IsSum k x

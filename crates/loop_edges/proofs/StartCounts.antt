@@ -4,7 +4,7 @@ use Rattle.std.specs.Prelude.{map, filter, cond, option_map}
 use Rattle.std.specs.List.{list_any}
 use Rattle.std.proofs.lemmas.List.{length-map}
 use Rattle.std.proofs.lemmas.List.Sums.{count_by-le-length, length-filter}
-use Rattle.kernel_tree.specs.Plain.{Turns, Program}
+use Rattle.kernel_tree.specs.Plain.{PlainLoop, Program}
 use Rattle.kernel_tree.specs.Items.{index_of, loop_index}
 use Rattle.loop_form.specs.declared.item.ItemKind.TheVariants as kind
 use Rattle.loop_form.specs.Entries.{Content, IsLiteral, IsName, IsRead, IsLet, IsStore, IsUpdate, IsPlain, Entry, entry, block_entries, turns_entries, loop_start, loop_entries}
@@ -48,11 +48,11 @@ index_few es (Some i) = by (list_any (names i) es)
     by false = omega arith
 
 -- the first item of a loop is no literal, so there is room for the loop variable
-first_few : (k : Program) (b : ℕ) (l : Turns) → length (constants [] (turns_entries k b (Some l))) + 1 ≤ length (turns_entries k b (Some l))
+first_few : (k : Program) (b : ℕ) (l : PlainLoop) → length (constants [] (turns_entries k b (Some l))) + 1 ≤ length (turns_entries k b (Some l))
 unfolding constants
 first_few k b l = let c = constants_few (entry k b (IsPlain kind.For) b ∷ []) (block_entries k (b + 1) l.body) in omega (arith, c)
 
-loop_few : (k : Program) (b : ℕ) (o : Option Turns) → length (constants [] (turns_entries k b o)) + length (index_held (turns_entries k b o) (option_map index_of o)) ≤ length (turns_entries k b o)
+loop_few : (k : Program) (b : ℕ) (o : Option PlainLoop) → length (constants [] (turns_entries k b o)) + length (index_held (turns_entries k b o) (option_map index_of o)) ≤ length (turns_entries k b o)
 loop_few k b None = let c = constants_few [] [] in omega (arith, c)
 loop_few k b (Some l) = let c = first_few k b l in let i = index_few (turns_entries k b (Some l)) (Some l.index) in omega (arith, c, i)
 

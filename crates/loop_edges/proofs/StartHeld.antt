@@ -26,7 +26,7 @@ use Rattle.loop_form.specs.Needs.{Throughout, is_scalar, is_named_scalar, scalar
 use Rattle.loop_form.specs.Streams.{place_from, place_of}
 use Rattle.chunk_order.proofs.Blocks.{nil-left, nil-right}
 use Rattle.chunk_order.proofs.Sites.{locals_of, accs_of, var_visible, bytes_same, bytes_told, NoName, Untaken, untaken_by_twice, params_untaken, untaken_before}
-use Rattle.chunk_order.proofs.Whole.{faultless}
+use Rattle.chunk_order.proofs.OrderLaw.{faultless}
 use Rattle.lane_emit.specs.Right.{IsOf}
 use Rattle.scalar_emit.proofs.FitsOf.{no_mismatch}
 use Rattle.chunk_emit.specs.KernelLayout.{is_same, place_in}
@@ -118,9 +118,9 @@ or_true : (b : Bool) → b || true ≡ true
 or_true true = refl
 or_true false = refl
 
-any_behind : {A : Type 0} (p : A → Bool) (xs : List A) (y : A) (ys : List A) → p y ≡ true → list_any p (xs ++ y ∷ ys) ≡ true
-any_behind p [] y ys e = ap (λ b. b || list_any p ys) e
-any_behind p (x ∷ xs) y ys e = ap (λ b. p x || b) (any_behind p xs y ys e) ∙ or_true (p x)
+any_following : {A : Type 0} (p : A → Bool) (xs : List A) (y : A) (ys : List A) → p y ≡ true → list_any p (xs ++ y ∷ ys) ≡ true
+any_following p [] y ys e = ap (λ b. b || list_any p ys) e
+any_following p (x ∷ xs) y ys e = ap (λ b. p x || b) (any_following p xs y ys e) ∙ or_true (p x)
 
 one_more : {A : Type 0} (xs : List A) (y : A) (ys : List A) → (xs ++ y ∷ []) ++ ys ≡ xs ++ y ∷ ys
 one_more [] y ys = refl
@@ -129,7 +129,7 @@ one_more (x ∷ xs) y ys = ap (λ r. x ∷ r) (one_more xs y ys)
 are_vars : (k : Program) (before vs : List Accumulator) → before ++ vs ≡ k.vars → AreVars k vs
 are_vars k before [] e = tt
 are_vars k before (v ∷ vs) e =
-    (var_there k.vars v.name (ap (list_any (λ v2. bytes_eq v2.name v.name)) (sym e) ∙ any_behind (λ v2. bytes_eq v2.name v.name) before v vs (bytes_same v.name)), are_vars k (before ++ v ∷ []) vs (one_more before v vs ∙ e))
+    (var_there k.vars v.name (ap (list_any (λ v2. bytes_eq v2.name v.name)) (sym e) ∙ any_following (λ v2. bytes_eq v2.name v.name) before v vs (bytes_same v.name)), are_vars k (before ++ v ∷ []) vs (one_more before v vs ∙ e))
 
 sums_come : (k : Program) (vs : List Accumulator) → AreVars k vs → AllCome k (map accumulating_of (filter (is_updated (loop_entries k)) vs))
 sums_come k [] h = tt
@@ -213,16 +213,16 @@ param_place k p q sound e =
 
 var_apart : (vs : List Accumulator) (scope : Scope) (from : ℕ) (x : List ℕ) (t : Ty) → vars_faults scope from vs ≡ [] → var_type x vs ≡ Some t → Untaken x scope.taken
 var_apart [] scope from x t f e = absurd cc
-var_apart (v ∷ vs) scope from x t f e = by (bytes_eq v.name x) refl e (var_apart vs (declared scope v.name (binding.Accumulator v.type)) (item + 1) x t (nil-right (twice item scope v.name) _ behind))
+var_apart (v ∷ vs) scope from x t f e = by (bytes_eq v.name x) refl e (var_apart vs (declared scope v.name (binding.Accumulator v.type)) (item + 1) x t (nil-right (twice item scope v.name) _ following))
   where
     item : ℕ
     item = from + term_size scope.index v.init
 
-    behind : twice item scope v.name ++ vars_faults (declared scope v.name (binding.Accumulator v.type)) (item + 1) vs ≡ []
-    behind = nil-right (faults scope from (Value (Some v.type)) v.init) _ f
+    following : twice item scope v.name ++ vars_faults (declared scope v.name (binding.Accumulator v.type)) (item + 1) vs ≡ []
+    following = nil-right (faults scope from (Value (Some v.type)) v.init) _ f
 
     by : (b : Bool) → bytes_eq v.name x ≡ b → cond b (Some v.type) (var_type x vs) ≡ Some t → (var_type x vs ≡ Some t → Untaken x (insert_name scope.taken v.name)) → Untaken x scope.taken
-    by true g e more = subst (λ y. Untaken y scope.taken) (bytes_told v.name x g) (untaken_by_twice (is_taken scope v.name) _ (nil-left (twice item scope v.name) _ behind))
+    by true g e more = subst (λ y. Untaken y scope.taken) (bytes_told v.name x g) (untaken_by_twice (is_taken scope v.name) _ (nil-left (twice item scope v.name) _ following))
     by false g e more = (untaken_before x v.name scope.taken (more e)).0
 
 past_params : (ls rest : List Local) (x : List ℕ) → NoName x ls → found_type (ls ++ rest) x ≡ found_type rest x

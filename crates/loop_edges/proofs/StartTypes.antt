@@ -16,7 +16,7 @@ use Rattle.kernel_meaning.specs.Eval.{Names, is_named, value_at, on_both, chosen
 use Rattle.kernel_meaning.specs.Iterate.{named, with_name}
 use Rattle.kernel_meaning.specs.ScalarRun.{argument, given, initial, started}
 use Rattle.chunk_order.proofs.Blocks.{nil-left, nil-right}
-use Rattle.chunk_order.proofs.Whole.{faultless}
+use Rattle.chunk_order.proofs.OrderLaw.{faultless}
 use Rattle.scalar_emit.proofs.FitsOf.{no_mismatch}
 use Rattle.scalar_emit.proofs.KindsOf.{never}
 use Rattle.lane_emit.specs.Right.{IsOf}

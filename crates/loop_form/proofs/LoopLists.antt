@@ -1,7 +1,7 @@
 -- What the lists of a loop's items want: a statement has an item, and the names at the loop's head.
 use Rattle.std.proofs.Common.{◌≡◌, ℕ, suc, ◌+◌, ◌≤◌, List, [], ◌∷◌, ◌++◌, length, map, Option, refl, sym, ap, ap₂, ◌∙◌, subst, arith, append_assoc, true}
 use Rattle.kernel_tree.specs.declared.fault.Binding.TheVariants as binding
-use Rattle.kernel_tree.specs.Plain.{Action, Define, Put, Update, Choose, Leave, Parameter, Accumulator, Turns, Program}
+use Rattle.kernel_tree.specs.Plain.{Action, Define, Put, Update, Choose, Leave, Parameter, Accumulator, PlainLoop, Program}
 use Rattle.kernel_tree.specs.Items.{loop_index, action_size}
 use Rattle.kernel_tree.specs.Typing.{Scope, Local, local, declared, binding_of_shape, after_params, after_vars, param_scope, var_scope, in_loop, empty}
 use Rattle.loop_form.specs.declared.loop_item.Source.TheVariants.{Outer, Turn}
@@ -43,7 +43,7 @@ outer-append : (n : ℕ) (xs ys : List Local) → outer_env n (xs ++ ys) ≡ out
 outer-append n [] ys = ap (λ m. outer_env m ys) (let e : n ≡ n + 0 = omega arith in e)
 outer-append n (x ∷ xs) ys = ap (λ l. bound x.name (Outer n) ∷ l) (outer-append (suc n) xs ys ∙ ap (λ m. outer_env (suc n) xs ++ outer_env m ys) (let e : suc n + length xs ≡ n + length (x ∷ xs) = omega arith in e))
 
-pub loop-head : (k : Program) (l : Turns) (ps vs names : List Visible) (v : Visible) → AddsOuter (map param_local k.params) [] ps → AddsOuter (map var_local k.vars) ps vs → names ≡ vs ++ v ∷ [] → local_of v ≡ local l.index binding.Index → bound_of v ≡ bound l.index Turn → IsLoopHead k l names
+pub loop-head : (k : Program) (l : PlainLoop) (ps vs names : List Visible) (v : Visible) → AddsOuter (map param_local k.params) [] ps → AddsOuter (map var_local k.vars) ps vs → names ≡ vs ++ v ∷ [] → local_of v ≡ local l.index binding.Index → bound_of v ≡ bound l.index Turn → IsLoopHead k l names
 loop-head k l ps vs names v p q n a b = (scope, env)
   where
     seen : locals names ≡ (var_scope k).visible ++ local l.index binding.Index ∷ []

@@ -5,7 +5,7 @@ use Rattle.std.specs.Prelude.{unsigned_abs, nat_le}
 use Rattle.kernel_tree.specs.declared.ops.Ty.{Ty}
 use Rattle.kernel_tree.specs.declared.ops.Ty.TheVariants as ty
 use Rattle.kernel_tree.specs.declared.fault.Found.{Found}
-use Rattle.kernel_tree.specs.Plain.{Term, Literal, Variable, Element, Unary, Operation, Shift, Conversion, Choice, Comparison, Both, Either, Not, Action, Define, Put, Update, Choose, Leave, Block, Done, Then, Otherwise, Nothing, Else, Turns, Program}
+use Rattle.kernel_tree.specs.Plain.{Term, Literal, Variable, Element, Unary, Operation, Shift, Conversion, Choice, Comparison, Both, Either, Not, Action, Define, Put, Update, Choose, Leave, Block, Done, Then, Otherwise, Nothing, Else, PlainLoop, Program}
 use Rattle.kernel_tree.specs.Items.{stream_offset, loop_index, index_items}
 use Rattle.kernel_tree.specs.Limits.{most_offset}
 use Rattle.kernel_tree.specs.Typing.{Scope, Role, Value, lookup, as_value, read_faults, wanted, first, own, faults, inner_faults, index_faults, stream_faults, offset_faults, action_faults, block_faults, otherwise_faults, after_action, after_block, defined, left, in_loop, var_scope, turns_faults, check_fault}
@@ -86,7 +86,7 @@ mutual
   otherwise-near k Nothing s from f end q h = tt
   otherwise-near k (Else b) s from f end q h = (tt, block-near k b s _ _ q h)
 
-turns-near : (k : Program) (s : Scope) (from f : ℕ) (o : Option Turns) → s.index ≡ loop_index k → turns_faults s from o ≡ [] → AreNear (loop_index k) (turns_entries k f o)
+turns-near : (k : Program) (s : Scope) (from f : ℕ) (o : Option PlainLoop) → s.index ≡ loop_index k → turns_faults s from o ≡ [] → AreNear (loop_index k) (turns_entries k f o)
 turns-near k s from f None q h = tt
 turns-near k s from f (Some l) q h = (tt, block-near k l.body (in_loop s l) _ _ q (nil-right _ _ (nil-right _ _ h)))
 
@@ -147,7 +147,7 @@ mutual
   otherwise-tree k Nothing f end h = tt
   otherwise-tree k (Else b) f end h = block-tree k b _ h.1
 
-turns-tree : (k : Program) (f : ℕ) (o : Option Turns) → AreNear (loop_index k) (turns_entries k f o) → NearTurns (loop_index k) o
+turns-tree : (k : Program) (f : ℕ) (o : Option PlainLoop) → AreNear (loop_index k) (turns_entries k f o) → NearTurns (loop_index k) o
 turns-tree k f None h = tt
 turns-tree k f (Some l) h = block-tree k l.body _ h.1
 

@@ -1,7 +1,7 @@
 -- The items of a kernel are numbered from 0, are as many as its size says, and are used no earlier than they stand.
 use Rattle.std.proofs.Common.{◌≡◌, ℕ, zero, suc, ◌+◌, ◌≤◌, ℤ, List, [], ◌∷◌, ◌++◌, length, Option, Some, None, refl, sym, ap, subst, arith}
 use Rattle.std.specs.Prelude.{option_map, slice_get}
-use Rattle.kernel_tree.specs.Plain.{Term, Literal, Variable, Element, Unary, Operation, Shift, Conversion, Choice, Comparison, Both, Either, Not, Action, Define, Put, Update, Choose, Leave, Block, Done, Then, Otherwise, Nothing, Else, Parameter, Accumulator, Turns, Returned, Program}
+use Rattle.kernel_tree.specs.Plain.{Term, Literal, Variable, Element, Unary, Operation, Shift, Conversion, Choice, Comparison, Both, Either, Not, Action, Define, Put, Update, Choose, Leave, Block, Done, Then, Otherwise, Nothing, Else, Parameter, Accumulator, PlainLoop, Returned, Program}
 use Rattle.kernel_tree.specs.Items.{stream_offset, index_size, index_items, term_size, action_size, block_size, otherwise_size, vars_size, turns_size, answer_size, loop_index, index_of, size_of}
 use Rattle.loop_form.specs.Entries.{Entry, inner_entries, term_entries, action_entries, block_entries, otherwise_entries, params_entries, vars_entries, turns_entries, answer_entries, entries_of, loop_start, loop_entries}
 use Rattle.loop_form.specs.Numbers.{Numbered}
@@ -130,7 +130,7 @@ vars-listed k from (v ∷ vs) =
     let n : ℕ = vars_size (loop_index k) vs in
     sized from (m + (1 + n)) (m + 1 + n) _ (omega arith) (joined from m (1 + n) _ _ (term-listed k from (from + m) v.init (omega arith)) (ahead _ n _ (omega arith) (vars-listed k (from + m + 1) vs)))
 
-turns-listed : (k : Program) (from : ℕ) (o : Option Turns) → loop_index k ≡ option_map index_of o → Listed from (turns_size o) (turns_entries k from o)
+turns-listed : (k : Program) (from : ℕ) (o : Option PlainLoop) → loop_index k ≡ option_map index_of o → Listed from (turns_size o) (turns_entries k from o)
 turns-listed k from None q = none from
 turns-listed k from (Some l) q = sized from (1 + block_size (loop_index k) l.body) (1 + block_size (Some l.index) l.body) _ (ap (λ i. 1 + block_size i l.body) q) (ahead _ (block_size (loop_index k) l.body) _ (omega arith) (block-listed k (from + 1) l.body))
 

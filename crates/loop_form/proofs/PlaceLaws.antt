@@ -44,8 +44,8 @@ get-append [] ys m = ap (slice_get ys) (let e : 0 + m ≡ m = omega arith in e)
 get-append (x ∷ xs) ys m = ap (slice_get (x ∷ (xs ++ ys))) (let e : length (x ∷ xs) + m ≡ suc (length xs + m) = omega arith in e) ∙ get-append xs ys m
 
 -- the values come after what is held throughout
-pub interval-behind : (k : Program) (class : RegClass) (i : ℕ) → slice_get (intervals k class) (length (throughout k class) + i) ≡ slice_get (values k class) i
-interval-behind k class i = ap (slice_get (intervals k class)) (let a = length-map (throughout k class) (whole k) in let e : length (throughout k class) + i ≡ length (map (whole k) (throughout k class)) + i = omega (arith, a) in e) ∙ get-append (map (whole k) (throughout k class)) (values k class) i
+pub interval-following : (k : Program) (class : RegClass) (i : ℕ) → slice_get (intervals k class) (length (throughout k class) + i) ≡ slice_get (values k class) i
+interval-following k class i = ap (slice_get (intervals k class)) (let a = length-map (throughout k class) (whole k) in let e : length (throughout k class) + i ≡ length (map (whole k) (throughout k class)) + i = omega (arith, a) in e) ∙ get-append (map (whole k) (throughout k class)) (values k class) i
 
 counted-numbers : (k : Program) (class : RegClass) → Numbered (first_counted k class) (counted k class)
 counted-numbers k X = (all-listed k).numbered
@@ -56,7 +56,7 @@ pub place-value : (k : Program) (class : RegClass) (n m : ℕ) → slice_get (va
 place-value k class n m e =
     let p = placed class (entries_of k) (counted k class) (length (throughout k class)) n m e in
     let number = item-at (first_counted k class) n (counted k class) p.entry (counted-numbers k class) p.is in
-    (p.last_use, ap (slice_get (intervals k class)) p.at ∙ interval-behind k class p.i ∙ p.interval ∙ ap (λ q. Some (record { from = q; last_use = p.last_use })) number)
+    (p.last_use, ap (slice_get (intervals k class)) p.at ∙ interval-following k class p.i ∙ p.interval ∙ ap (λ q. Some (record { from = q; last_use = p.last_use })) number)
 
 places-length : (class : RegClass) (all es : List Entry) (j : ℕ) → length (places_from class all j es) ≡ length es
 places-length class all [] j = refl

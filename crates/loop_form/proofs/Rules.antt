@@ -3,7 +3,7 @@ use Rattle.std.proofs.Common.{◌≡◌, ℕ, ◌+◌, Bool, true, false, cond, 
 use Rattle.std.specs.Prelude.{nat_lt, option_map}
 use Rattle.kernel_tree.specs.declared.fault.Found.{Found}
 use Rattle.kernel_tree.specs.declared.fault.Binding.TheVariants as binding
-use Rattle.kernel_tree.specs.Plain.{Parameter, Accumulator, Turns, Program}
+use Rattle.kernel_tree.specs.Plain.{Parameter, Accumulator, PlainLoop, Program}
 use Rattle.kernel_tree.specs.Items.{loop_index, size_of, vars_size}
 use Rattle.kernel_tree.specs.Limits.{most_items, most_depth, depth_of}
 use Rattle.kernel_tree.specs.Typing.{TooLarge, TooDeep, Fails, Scope, sooner, least, params_faults, vars_faults, turns_faults, kernel_faults, check_fault, declared, binding_of_shape, empty, after_params, after_vars, param_scope, var_scope}
@@ -38,7 +38,7 @@ faultless k e =
 abbrev pub turns_from : Program → ℕ
 turns_from k = length k.params + vars_size (loop_index k) k.vars
 
-pub turns_faultless : (k : Program) (l : Turns) → check_fault k ≡ None → k.turns ≡ Some l → turns_faults (var_scope k) (turns_from k) (Some l) ≡ []
+pub turns_faultless : (k : Program) (l : PlainLoop) → check_fault k ≡ None → k.turns ≡ Some l → turns_faults (var_scope k) (turns_from k) (Some l) ≡ []
 turns_faultless k l e t =
     subst (λ o. turns_faults (var_scope k) (turns_from k) o ≡ []) t
     (nil-left (turns_faults (var_scope k) (turns_from k) k.turns) _ (nil-right (vars_faults (param_scope k) (length k.params) k.vars) _ (nil-right (params_faults (empty (loop_index k)) 0 k.params) _ (faultless k e))))

@@ -3,7 +3,7 @@
 use Rattle.std.specs.Prelude.{ℕ, ◌+◌, ℤ, List, [], ◌∷◌, ◌++◌, length, Option, Some, None}
 use Rattle.kernel_tree.specs.declared.ops.Ty.{Ty}
 use Rattle.kernel_tree.specs.declared.ops.UpdateOp.{UpdateOp}
-use Rattle.kernel_tree.specs.Plain.{Term, Literal, Variable, Element, Unary, Operation, Shift, Conversion, Choice, Comparison, Both, Either, Not, Action, Define, Put, Update, Choose, Leave, Block, Done, Then, Otherwise, Nothing, Else, Parameter, Accumulator, Turns, Returned, Program}
+use Rattle.kernel_tree.specs.Plain.{Term, Literal, Variable, Element, Unary, Operation, Shift, Conversion, Choice, Comparison, Both, Either, Not, Action, Define, Put, Update, Choose, Leave, Block, Done, Then, Otherwise, Nothing, Else, Parameter, Accumulator, PlainLoop, Returned, Program}
 use Rattle.kernel_tree.specs.Items.{term_size, index_items, stream_offset, action_size, block_size, otherwise_size, vars_size, turns_size, loop_index}
 use Rattle.kernel_tree.specs.Checked.{type_at}
 use Rattle.loop_form.specs.declared.item.ItemKind.{ItemKind}
@@ -108,9 +108,9 @@ abbrev mutual
       term_entries k from item e ++ entry k item (IsUpdate x op) item ∷ []
   action_entries k from (Choose c b d) =
       let first = from + term_size (loop_index k) c in
-      let behind = first + 1 + block_size (loop_index k) b in
-      let end = behind + otherwise_size (loop_index k) d in
-      term_entries k from behind c ++ (entry k first (IsPlain kind.Then) first ∷ (block_entries k (first + 1) b ++ (otherwise_entries k behind end d ++ entry k end (IsPlain kind.End) end ∷ [])))
+      let following = first + 1 + block_size (loop_index k) b in
+      let end = following + otherwise_size (loop_index k) d in
+      term_entries k from following c ++ (entry k first (IsPlain kind.Then) first ∷ (block_entries k (first + 1) b ++ (otherwise_entries k following end d ++ entry k end (IsPlain kind.End) end ∷ [])))
   action_entries k from (Leave c) =
       let item = from + term_size (loop_index k) c in
       term_entries k from item c ++ entry k item (IsPlain kind.Break) item ∷ []
@@ -135,7 +135,7 @@ vars_entries k from (v ∷ vs) =
     let item = from + term_size (loop_index k) v.init in
     term_entries k from item v.init ++ (entry k item (IsPlain kind.Var) item ∷ vars_entries k (item + 1) vs)
 
-abbrev pub turns_entries : Program → (from : ℕ) → Option Turns → List Entry
+abbrev pub turns_entries : Program → (from : ℕ) → Option PlainLoop → List Entry
 turns_entries k from None = []
 turns_entries k from (Some l) = entry k from (IsPlain kind.For) from ∷ block_entries k (from + 1) l.body
 

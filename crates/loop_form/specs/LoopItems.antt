@@ -6,7 +6,7 @@ use Rattle.kernel_tree.specs.declared.ops.UnaryOp.{UnaryOp}
 use Rattle.kernel_tree.specs.declared.ops.BinaryOp.{BinaryOp}
 use Rattle.kernel_tree.specs.declared.ops.CompareOp.{CompareOp}
 use Rattle.kernel_tree.specs.declared.ops.UpdateOp.{UpdateOp}
-use Rattle.kernel_tree.specs.Plain.{Term, Literal, Variable, Element, Unary, Operation, Shift, Conversion, Choice, Comparison, Both, Either, Not, Action, Define, Put, Update, Choose, Leave, Block, Done, Then, Otherwise, Nothing, Else, Turns, Program}
+use Rattle.kernel_tree.specs.Plain.{Term, Literal, Variable, Element, Unary, Operation, Shift, Conversion, Choice, Comparison, Both, Either, Not, Action, Define, Put, Update, Choose, Leave, Block, Done, Then, Otherwise, Nothing, Else, PlainLoop, Program}
 use Rattle.kernel_tree.specs.Items.{stream_offset, term_size, index_items, action_size, block_size}
 use Rattle.kernel_tree.specs.Typing.{Scope, Local, lookup, own, first, element_type, accumulator_type, side_type, after_action, after_block, left, in_loop, var_scope}
 use Rattle.loop_form.specs.declared.loop_item.Source.{Source}
@@ -180,10 +180,10 @@ abbrev mutual
 -- ---- the loop
 
 -- the items of the loop's body
-abbrev pub loop_items : Program → Turns → List Item
+abbrev pub loop_items : Program → PlainLoop → List Item
 loop_items k l = block_items (in_loop (var_scope k) l) None (loop_start k + 1) (loop_env (var_scope k) l.index) l.body []
 
-abbrev pub turns_items : Program → Option Turns → List Item
+abbrev pub turns_items : Program → Option PlainLoop → List Item
 turns_items k None = []
 turns_items k (Some l) = loop_items k l
 

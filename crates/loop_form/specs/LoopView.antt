@@ -2,7 +2,7 @@
 use Rattle.std.specs.Prelude.{◌≡◌, ℕ, ◌+◌, List, ◌++◌, length, map, true, Option}
 use Rattle.kernel_tree.specs.declared.ops.Ty.{Ty}
 use Rattle.kernel_tree.specs.declared.fault.Binding.TheVariants as binding
-use Rattle.kernel_tree.specs.Plain.{Term, Action, Block, Parameter, Accumulator, Turns, Program}
+use Rattle.kernel_tree.specs.Plain.{Term, Action, Block, Parameter, Accumulator, PlainLoop, Program}
 use Rattle.kernel_tree.specs.Items.{loop_index}
 use Rattle.kernel_tree.specs.Typing.{Scope, Local, local, after_action, binding_of_shape, in_loop, var_scope}
 use Rattle.loop_form.specs.declared.loop_item.LoopOp.{LoopOp}
@@ -86,5 +86,5 @@ var_local v = local v.name (binding.Accumulator v.type)
 abbrev pub AddsOuter : List Local → (old new : List Visible) → Type 0
 AddsOuter more old new = (locals new ≡ locals old ++ more) × (env_of new ≡ env_of old ++ outer_env (length old) more) × (length new ≡ length old + length more)
 
-abbrev pub IsLoopHead : Program → Turns → List Visible → Type 0
+abbrev pub IsLoopHead : Program → PlainLoop → List Visible → Type 0
 IsLoopHead k l names = (in_loop (var_scope k) l ≡ scope_of (loop_index k) names (in_loop (var_scope k) l).taken) × (loop_env (var_scope k) l.index ≡ env_of names)

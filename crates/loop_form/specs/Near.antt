@@ -1,6 +1,6 @@
 -- Offsets of stream indexes that are in range.
 use Rattle.std.specs.Prelude.{ℕ, ◌≤◌, ℤ, List, [], ◌∷◌, Option, Some, None, unsigned_abs}
-use Rattle.kernel_tree.specs.Plain.{Term, Literal, Variable, Element, Unary, Operation, Shift, Conversion, Choice, Comparison, Both, Either, Not, Action, Define, Put, Update, Choose, Leave, Block, Done, Then, Otherwise, Nothing, Else, Turns}
+use Rattle.kernel_tree.specs.Plain.{Term, Literal, Variable, Element, Unary, Operation, Shift, Conversion, Choice, Comparison, Both, Either, Not, Action, Define, Put, Update, Choose, Leave, Block, Done, Then, Otherwise, Nothing, Else, PlainLoop}
 use Rattle.kernel_tree.specs.Items.{stream_offset}
 use Rattle.kernel_tree.specs.Limits.{most_offset}
 use Rattle.loop_form.specs.Entries.{Content, IsRead, IsStore, Entry}
@@ -53,6 +53,6 @@ abbrev mutual
   NearOtherwise i Nothing = Unit {0}
   NearOtherwise i (Else b) = NearBlock i b
 
-abbrev pub NearTurns : Option (List ℕ) → Option Turns → Type 0
+abbrev pub NearTurns : Option (List ℕ) → Option PlainLoop → Type 0
 NearTurns i None = Unit {0}
 NearTurns i (Some l) = NearBlock i l.body

@@ -41,7 +41,7 @@ fn list_params(kernel: &Checked, entries: &mut Entries<'_>, params: &[Param])
 }
 
 fn list_turns<'a>(kernel: &Checked, entries: &mut Entries<'a>, from: u32, turns: &'a Option<Loop>)
-    requires behind { array_vec_len entries.old ≤ from }
+    requires following { array_vec_len entries.old ≤ from }
     requires fits { from + turns_size (option_map turns_of turns.now) ≤ 1000 }
     requires index { loop_index (program kernel.now) ≡ option_map index_of (option_map turns_of turns.now) }
     ensures items { seen entries.new.items ≡ seen entries.old.items
@@ -60,7 +60,7 @@ fn list_answer<'a>(
     from: u32,
     answer: &'a Option<Answer>,
 )
-    requires behind { array_vec_len entries.old ≤ from }
+    requires following { array_vec_len entries.old ≤ from }
     requires fits { from + answer_size (loop_index (program kernel.now)) (option_map returned_of answer.now) ≤ 1000 }
     ensures items { seen entries.new.items ≡ seen entries.old.items
         ++ answer_entries (program kernel.now) from (option_map returned_of answer.now) }

@@ -51,7 +51,7 @@ pub fn list_expr<'a>(
     last_use: u32,
     expr: &'a Expr,
 )
-    requires behind { array_vec_len entries.old ≤ from }
+    requires following { array_vec_len entries.old ≤ from }
     requires fits { from + term_size (loop_index (program kernel.now)) (term_of expr.now) ≤ 1000 }
     ensures items { seen entries.new.items ≡ seen entries.old.items
         ++ term_entries (program kernel.now) from last_use (term_of expr.now) }
@@ -94,7 +94,7 @@ fn list_read<'a>(
     array: &'a Name,
     index: &'a Expr,
 )
-    requires behind { array_vec_len entries.old ≤ from }
+    requires following { array_vec_len entries.old ≤ from }
     requires fits { from + (index_items (loop_index (program kernel.now)) (term_of index.now) + 1) ≤ 1000 }
     ensures items { let k = program kernel.now in seen entries.new.items
         ≡ seen entries.old.items ++ term_entries k from last_use (Element (name_of array.now) (term_of index.now)) }
@@ -124,7 +124,7 @@ fn list_one<'a>(
     arg: &'a Expr,
     kind: ItemKind,
 )
-    requires behind { array_vec_len entries.old ≤ from }
+    requires following { array_vec_len entries.old ≤ from }
     requires fits { from + (term_size (loop_index (program kernel.now)) (term_of arg.now) + 1) ≤ 1000 }
     ensures items { let k = program kernel.now in let item = from + term_size (loop_index k)
         (term_of arg.now) in seen entries.new.items
@@ -149,7 +149,7 @@ fn list_two<'a>(
     right: &'a Expr,
     kind: ItemKind,
 )
-    requires behind { array_vec_len entries.old ≤ from }
+    requires following { array_vec_len entries.old ≤ from }
     requires fits { let i = loop_index (program kernel.now) in from +
         (term_size i (term_of left.now) + term_size i (term_of right.now) + 1) ≤ 1000 }
     ensures items { let k = program kernel.now in let next = from + term_size (loop_index k)
@@ -176,7 +176,7 @@ fn list_or<'a>(
     left: &'a Expr,
     right: &'a Expr,
 )
-    requires behind { array_vec_len entries.old ≤ from }
+    requires following { array_vec_len entries.old ≤ from }
     requires fits { from + term_size (loop_index (program kernel.now))
         (Either (term_of left.now) (term_of right.now)) ≤ 1000 }
     ensures items { seen entries.new.items ≡ seen entries.old.items
@@ -209,7 +209,7 @@ fn list_select<'a>(
     no: &'a Expr,
     cond: &'a Expr,
 )
-    requires behind { array_vec_len entries.old ≤ from }
+    requires following { array_vec_len entries.old ≤ from }
     requires fits { from + term_size (loop_index (program kernel.now))
         (Choice (term_of cond.now) (term_of yes.now) (term_of no.now)) ≤ 1000 }
     ensures items { seen entries.new.items ≡ seen entries.old.items
@@ -235,7 +235,7 @@ fn list_select<'a>(
 /// Lists a statement.
 #[cycle(statements)]
 fn list_stmt<'a>(kernel: &Checked, entries: &mut Entries<'a>, from: u32, stmt: &'a Stmt)
-    requires behind { array_vec_len entries.old ≤ from }
+    requires following { array_vec_len entries.old ≤ from }
     requires fits { from + action_size (loop_index (program kernel.now)) (action_of stmt.now) ≤ 1000 }
     ensures items { seen entries.new.items ≡ seen entries.old.items
         ++ action_entries (program kernel.now) from (action_of stmt.now) }
@@ -282,7 +282,7 @@ pub fn list_ended<'a>(
     value: &'a Expr,
     content: Content<'a>,
 )
-    requires behind { array_vec_len entries.old ≤ from }
+    requires following { array_vec_len entries.old ≤ from }
     requires fits { from + (term_size (loop_index (program kernel.now)) (term_of value.now) + 1) ≤ 1000 }
     ensures items { let k = program kernel.now in let item = from + term_size (loop_index k)
         (term_of value.now) in seen entries.new.items
@@ -305,10 +305,10 @@ fn list_then<'a>(
     cond: &'a Expr,
     block: &'a [Stmt],
 ) -> u32
-    requires behind { array_vec_len entries.old ≤ from }
+    requires following { array_vec_len entries.old ≤ from }
     requires fits { let i = loop_index (program kernel.now) in from +
         (term_size i (term_of cond.now) + 1 + block_size i (block_of block.now)) ≤ 1000 }
-    ensures behind { let i = loop_index (program kernel.now) in result
+    ensures following { let i = loop_index (program kernel.now) in result
         ≡ from + term_size i (term_of cond.now) + 1 + block_size i (block_of block.now) }
     ensures items { let k = program kernel.now in let first = from + term_size (loop_index k)
         (term_of cond.now) in seen entries.new.items
@@ -318,8 +318,8 @@ fn list_then<'a>(
         ≡ array_vec_len entries.old + (term_size i (term_of cond.now) + 1 + block_size i (block_of block.now)) }
 {
     let first = from + expr_size(kernel, cond);
-    let behind = first + 1 + statements_size(kernel, block);
-    list_expr(kernel, entries, from, behind, cond);
+    let following = first + 1 + statements_size(kernel, block);
+    list_expr(kernel, entries, from, following, cond);
     put(
         kernel,
         entries,
@@ -328,7 +328,7 @@ fn list_then<'a>(
         first,
     );
     list_block(kernel, entries, first + 1, block);
-    behind
+    following
 }
 
 #[cycle(statements)]
@@ -339,7 +339,7 @@ fn list_if<'a>(
     cond: &'a Expr,
     block: &'a [Stmt],
 )
-    requires behind { array_vec_len entries.old ≤ from }
+    requires following { array_vec_len entries.old ≤ from }
     requires fits { from + action_size (loop_index (program kernel.now))
         (Choose (term_of cond.now) (block_of block.now) Nothing) ≤ 1000 }
     ensures items { seen entries.new.items ≡ seen entries.old.items
@@ -360,7 +360,7 @@ fn list_if_else<'a>(
     block: &'a [Stmt],
     other: &'a [Stmt],
 )
-    requires behind { array_vec_len entries.old ≤ from }
+    requires following { array_vec_len entries.old ≤ from }
     requires fits { from + action_size (loop_index (program kernel.now))
         (Choose (term_of cond.now) (block_of block.now) (Else (block_of other.now))) ≤ 1000 }
     ensures items { seen entries.new.items ≡ seen entries.old.items
@@ -369,17 +369,17 @@ fn list_if_else<'a>(
     ensures len { array_vec_len entries.new ≡ array_vec_len entries.old + action_size (loop_index (program kernel.now))
         (Choose (term_of cond.now) (block_of block.now) (Else (block_of other.now))) }
 {
-    let behind = list_then(kernel, entries, from, cond, block);
-    let end = behind + (1 + statements_size(kernel, other));
-    put(kernel, entries, behind, Content::Plain(ItemKind::Else), end);
-    list_block(kernel, entries, behind + 1, other);
+    let place = list_then(kernel, entries, from, cond, block);
+    let end = place + (1 + statements_size(kernel, other));
+    put(kernel, entries, place, Content::Plain(ItemKind::Else), end);
+    list_block(kernel, entries, place + 1, other);
     put(kernel, entries, end, Content::Plain(ItemKind::End), end);
 }
 
 /// Lists the statements of a block.
 #[cycle(statements)]
 pub fn list_block<'a>(kernel: &Checked, entries: &mut Entries<'a>, from: u32, block: &'a [Stmt])
-    requires behind { array_vec_len entries.old ≤ from }
+    requires following { array_vec_len entries.old ≤ from }
     requires fits { from + block_size (loop_index (program kernel.now)) (block_of block.now) ≤ 1000 }
     ensures items { seen entries.new.items ≡ seen entries.old.items
         ++ block_entries (program kernel.now) from (block_of block.now) }
@@ -396,7 +396,7 @@ pub fn list_block<'a>(kernel: &Checked, entries: &mut Entries<'a>, from: u32, bl
 
 /// Lists the accumulators with their initial values.
 pub fn list_vars<'a>(kernel: &Checked, entries: &mut Entries<'a>, from: u32, vars: &'a [Var])
-    requires behind { array_vec_len entries.old ≤ from }
+    requires following { array_vec_len entries.old ≤ from }
     requires fits { from + vars_size (loop_index (program kernel.now)) (accumulators_of vars.now) ≤ 1000 }
     ensures items { seen entries.new.items ≡ seen entries.old.items
         ++ vars_entries (program kernel.now) from (accumulators_of vars.now) }

@@ -1,13 +1,13 @@
 pub mod Runs
 pub mod Files
 pub mod Fetch
-pub mod Rows
+pub mod Examples
 pub mod Standing
 pub mod States
 pub mod Frames
 pub mod ScalarFrames
 pub mod ScalarStates
-pub mod Whole
+pub mod StateShapes
 pub mod Shapes
 pub mod CodeStays
 pub mod Quiet

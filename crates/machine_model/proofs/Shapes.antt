@@ -16,7 +16,7 @@ use Rattle.machine_model.specs.OneStep.{step, does, do_word, reads_word}
 use Rattle.machine_model.specs.Run.{after_steps}
 use Rattle.machine_model.specs.States.{IsState}
 use Rattle.machine_model.proofs.ScalarStates.{scalar_keeps}
-use Rattle.machine_model.proofs.Whole.{vector_keeps}
+use Rattle.machine_model.proofs.StateShapes.{vector_keeps}
 
 -- ---- what is read is listed
 

@@ -7,7 +7,7 @@ use Rattle.guest_types.specs.declared.length.Width.{Width}
 use Rattle.machine_model.specs.Machine.{State, Went, x_at, next, jump}
 use Rattle.machine_model.specs.Arithmetic.{sum, difference, shifted, holds}
 use Rattle.a64_code.specs.Table.{add}
-use Rattle.label_fix.specs.DraftRun.{Entry, Branch, If, Laid, behind, address_of, effect}
+use Rattle.label_fix.specs.DraftRun.{Entry, Branch, If, Laid, following, address_of, effect}
 use Rattle.label_fix.proofs.Steps.{Goes, put_goes, taken_goes, passed_goes, chain}
 use Rattle.dependence.specs.declared.used.Used.{Used}
 use Rattle.dependence.specs.Apart.{base_in, begin_in, end_in, IsBased}
@@ -47,7 +47,7 @@ turned : (x y : ℕ) (e b : ℤ) → e ≡ pos x → b ≡ pos y → y < x → b
 turned x y e b p q h = omega (arith, ints)
 
 module _ (D : Laid) (args : List ℕ) (r n : ℕ) (reg : r ≤ 7) (few : n < 2 ^ 40) where
-  pub below : (s : State) (rest : List Entry) (ok : ℕ) (u v : Used) → Entered r n s → IsFit u → IsFit v → IsBased (base_in args u) → IsBased (base_in args v) → x_at s u.place ≡ base_in args u → x_at s v.place ≡ base_in args v → Tests D (below_code r ok u v rest) s (behind D ok) rest (end_in args n u ≤ℤ begin_in args v) (begin_in args v <ℤ end_in args n u) 6
+  pub below : (s : State) (rest : List Entry) (ok : ℕ) (u v : Used) → Entered r n s → IsFit u → IsFit v → IsBased (base_in args u) → IsBased (base_in args v) → x_at s u.place ≡ base_in args u → x_at s v.place ≡ base_in args v → Tests D (below_code r ok u v rest) s (following D ok) rest (end_in args n u ≤ℤ begin_in args v) (begin_in args v <ℤ end_in args n u) 6
   below s rest ok u v ent fu fv bu bv hu hv =
       let v1 = bound_word n u.greatest in
       let s1 = wrote s 26 v1 in
@@ -81,6 +81,6 @@ module _ (D : Laid) (args : List ℕ) (r n : ℕ) (reg : r ≤ 7) (few : n < 2 ^
       let b = begin-is v.width (base_in args v) v.least bv.0 bv.1 fv.1 in
       by (nat_le v2 v4) s5 v2 v4 refl flag g k5 e b
     where
-      by : (t : Bool) (s5 : State) (v2 v4 : ℕ) → nat_le v2 v4 ≡ t → holds 2 s5.flags ≡ nat_le v2 v4 → Goes D (below_code r ok u v rest) s (Branch (If 2) ok ∷ rest) s5 5 → Same s s5 → end_in args n u ≡ pos v2 → begin_in args v ≡ pos v4 → Tests D (below_code r ok u v rest) s (behind D ok) rest (end_in args n u ≤ℤ begin_in args v) (begin_in args v <ℤ end_in args n u) 6
+      by : (t : Bool) (s5 : State) (v2 v4 : ℕ) → nat_le v2 v4 ≡ t → holds 2 s5.flags ≡ nat_le v2 v4 → Goes D (below_code r ok u v rest) s (Branch (If 2) ok ∷ rest) s5 5 → Same s s5 → end_in args n u ≡ pos v2 → begin_in args v ≡ pos v4 → Tests D (below_code r ok u v rest) s (following D ok) rest (end_in args n u ≤ℤ begin_in args v) (begin_in args v <ℤ end_in args n u) 6
       by true s5 v2 v4 q flag g k e b = goes_on (ordered v2 v4 _ _ e b (leb-true v2 v4 q)) (jump s5 (address_of D ok)) (chain 6 (omega arith) g (taken_goes (flag ∙ q))) (same_on k (same_jump s5 _))
       by false s5 v2 v4 q flag g k e b = goes_off (turned v2 v4 _ _ e b (leb-false v2 v4 q)) (next s5) (chain 6 (omega arith) g (passed_goes (flag ∙ q))) (same_on k (same_jump s5 _))

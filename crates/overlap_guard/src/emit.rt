@@ -163,10 +163,10 @@ fn emit_pairs(draft: &mut Draft, bound: Reg, fail: Label, used: &[Used]) -> Resu
         → draft.new.entries ++ rest ≡ draft.old.entries
         ++ guard.pairs_code bound.number fail draft.old.labels used.now rest) }
 {
-    let mut behind = 0;
+    let mut following = 0;
     for u in used {
-        behind += 1;
-        emit_with(draft, bound, fail, *u, &used[behind..])?;
+        following += 1;
+        emit_with(draft, bound, fail, *u, &used[following..])?;
     }
     Ok(())
 }

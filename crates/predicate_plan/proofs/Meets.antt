@@ -1,7 +1,7 @@
 -- The masks of a kernel are met exactly where the walk of an iteration comes to their items.
 use Rattle.std.proofs.Common.{◌≡◌, ℕ, zero, suc, ◌+◌, ◌-◌, ◌<◌, ◌≤◌, ℤ, List, [], ◌∷◌, ◌++◌, length, replicate, map, Option, Some, None, Bool, true, false, not, ◌&&◌, refl, sym, ap, ap₂, ◌∙◌, subst, arith, length-append, get_or}
 use Rattle.std.proofs.lemmas.List.{get_or-append_right, get_or_append_left, get_or-map, length-map, length-replicate}
-use Rattle.kernel_tree.specs.Plain.{Term, Literal, Variable, Element, Unary, Operation, Shift, Conversion, Choice, Comparison, Both, Either, Not, Action, Define, Put, Update, Choose, Leave, Block, Done, Then, Otherwise, Nothing, Else, Turns, Program}
+use Rattle.kernel_tree.specs.Plain.{Term, Literal, Variable, Element, Unary, Operation, Shift, Conversion, Choice, Comparison, Both, Either, Not, Action, Define, Put, Update, Choose, Leave, Block, Done, Then, Otherwise, Nothing, Else, PlainLoop, Program}
 use Rattle.kernel_tree.specs.Items.{stream_offset, term_size, action_size, block_size, otherwise_size, turns_size, index_size, answer_size, loop_index}
 use Rattle.kernel_meaning.specs.Reaches.{at_item, inner_reached, term_reached, action_reached, block_reached, otherwise_reached, turns_reached}
 use Rattle.loop_form.specs.Entries.{loop_start}
@@ -88,7 +88,7 @@ module _ (index : Option (List ℕ)) (truths : List Bool) where
     otherwise_met Nothing from on in_on mask in_mask h i = refl
     otherwise_met (Else b) from on in_on mask in_mask h i = joined (mask ∷ []) _ (one mask h) (block_met b (from + 1) in_on in_mask i)
 
-pub turns_met : (l : Turns) (truths : List Bool) (from : ℕ) → turns_reached truths from (Some l) ≡ map (meets (at_item truths)) (turns_masks from l)
+pub turns_met : (l : PlainLoop) (truths : List Bool) (from : ℕ) → turns_reached truths from (Some l) ≡ map (meets (at_item truths)) (turns_masks from l)
 turns_met l truths from = ap (λ bs. true ∷ bs) (block_met (Some l.index) truths l.body (from + 1) true [] refl)
 
 -- ---- how many masks there are
@@ -140,10 +140,10 @@ module _ (index : Option (List ℕ)) where
     otherwise_count Nothing from mask in_mask = refl
     otherwise_count (Else b) from mask in_mask = both (mask ∷ []) _ 1 _ refl (block_count b (from + 1) in_mask)
 
-turns_count : (l : Turns) (from : ℕ) → length (turns_masks from l) ≡ turns_size (Some l)
+turns_count : (l : PlainLoop) (from : ℕ) → length (turns_masks from l) ≡ turns_size (Some l)
 turns_count l from = both (Some l.index) ([] ∷ []) _ 1 _ refl (block_count (Some l.index) l.body (from + 1) [])
 
-pub masks_count : (o : Option Turns) (from : ℕ) (l : Turns) → o ≡ Some l → length (loop_masks from o) ≡ from + turns_size o
+pub masks_count : (o : Option PlainLoop) (from : ℕ) (l : PlainLoop) → o ≡ Some l → length (loop_masks from o) ≡ from + turns_size o
 masks_count o from l e =
     subst (λ o. length (loop_masks from o) ≡ from + turns_size o) (sym e)
     (length-append (replicate from []) (turns_masks from l) ∙ ap₂ ◌+◌ (length-replicate {A = List MaskPart} from []) (turns_count l from))
@@ -156,7 +156,7 @@ at_item-is (b ∷ bs) zero = refl
 at_item-is (b ∷ bs) (suc i) = at_item-is bs i
 
 -- the items of a loop stand after some items and before others
-in_loop : (o : Option Turns) (truths : List Bool) (from after item : ℕ) → from ≤ item → item < from + turns_size o → at_item (replicate from false ++ (turns_reached truths from o ++ replicate after false)) item ≡ meets (at_item truths) (mask_at (loop_masks from o) item)
+in_loop : (o : Option PlainLoop) (truths : List Bool) (from after item : ℕ) → from ≤ item → item < from + turns_size o → at_item (replicate from false ++ (turns_reached truths from o ++ replicate after false)) item ≡ meets (at_item truths) (mask_at (loop_masks from o) item)
 in_loop None truths from after item le lt = absurd (omega (arith, le, lt))
 in_loop (Some l) truths from after item le lt =
     let i = item - from in

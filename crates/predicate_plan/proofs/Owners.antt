@@ -4,12 +4,12 @@ use Rattle.std.specs.Prelude.{slice_index_or}
 use Rattle.std.proofs.lemmas.Bool.{and_parts}
 use Rattle.std.proofs.lemmas.List.{get_or-append_right, length-replicate}
 use Rattle.kernel_tree.specs.declared.ops.Ty.{Ty}
-use Rattle.kernel_tree.specs.Plain.{Term, Literal, Variable, Element, Unary, Operation, Shift, Conversion, Choice, Comparison, Both, Either, Not, Action, Define, Put, Update, Choose, Leave, Block, Done, Then, Otherwise, Nothing, Else, Turns, Program}
+use Rattle.kernel_tree.specs.Plain.{Term, Literal, Variable, Element, Unary, Operation, Shift, Conversion, Choice, Comparison, Both, Either, Not, Action, Define, Put, Update, Choose, Leave, Block, Done, Then, Otherwise, Nothing, Else, PlainLoop, Program}
 use Rattle.kernel_tree.specs.Items.{index_of, stream_offset, term_size, index_size, action_size, block_size, otherwise_size}
 use Rattle.kernel_tree.specs.Typing.{Scope, own, first, side_type, defined, after_action, after_block, left, in_loop, var_scope}
 use Rattle.loop_form.specs.LoopItems.{Item, Bound, array_type, accumulator_of, truth_home, load_item, store_item, term_items, cond_items, after_env, action_items, block_items, otherwise_items, loop_env, loop_items}
 use Rattle.loop_form.specs.Entries.{loop_start}
-use Rattle.chunk_order.proofs.Whole.{scope_index}
+use Rattle.chunk_order.proofs.OrderLaw.{scope_index}
 use Rattle.vector_order.proofs.Forms.{ValueForm, CondForm, ActionForm, BlockForm, OtherwiseForm}
 use Rattle.predicate_plan.specs.declared.part.MaskPart.{MaskPart}
 use Rattle.predicate_plan.specs.Masks.{meets, and_part, inner_masks, term_masks, action_masks, block_masks, otherwise_masks, mask_at, loop_masks, masks_of}
@@ -234,7 +234,7 @@ agree_list xs (y ∷ ys) zs n e f = (
   agree_list (xs ++ y ∷ []) ys zs (n + 1) (e ∙ sym (append_assoc xs (y ∷ []) ys)) (length-append xs (y ∷ []) ∙ omega (arith, f)),
 )
 
-turns_agree : (from : ℕ) (l : Turns) → Agree (mask_at (loop_masks from (Some l))) (from + 1) (block_masks (Some l.index) (from + 1) [] l.body)
+turns_agree : (from : ℕ) (l : PlainLoop) → Agree (mask_at (loop_masks from (Some l))) (from + 1) (block_masks (Some l.index) (from + 1) [] l.body)
 turns_agree from l =
     agree_list (replicate from [] ++ [] ∷ []) (block_masks (Some l.index) (from + 1) [] l.body) (loop_masks from (Some l)) (from + 1)
     (sym (append_assoc (replicate from []) ([] ∷ []) (block_masks (Some l.index) (from + 1) [] l.body)))
@@ -242,7 +242,7 @@ turns_agree from l =
 
 -- In a lane whose truths are those that the items of the loop leave, each item is done exactly where all parts of its mask
 -- are met.
-pub owners_met : (k : Program) (l : Turns) (truth : ℕ → Bool) → k.turns ≡ Some l → BlockForm l.body → AreSettled truth (loop_items k l) → AreOwned (mask_at (masks_of k)) truth (loop_items k l)
+pub owners_met : (k : Program) (l : PlainLoop) (truth : ℕ → Bool) → k.turns ≡ Some l → BlockForm l.body → AreSettled truth (loop_items k l) → AreOwned (mask_at (masks_of k)) truth (loop_items k l)
 owners_met k l truth loop form settled =
     let from = loop_start k in
     let scope = in_loop (var_scope k) l in

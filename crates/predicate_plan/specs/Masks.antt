@@ -1,7 +1,7 @@
 -- The mask of an item: the conditions of the listing under which an iteration evaluates it, each with the truth value that
 -- it must have.
 use Rattle.std.specs.Prelude.{◌≡◌, ℕ, ◌+◌, ◌-◌, ◌<◌, ◌≤◌, ℤ, List, [], ◌∷◌, ◌++◌, replicate, Option, Some, None, Bool, true, false, not, ◌&&◌, slice_index_or}
-use Rattle.kernel_tree.specs.Plain.{Term, Literal, Variable, Element, Unary, Operation, Shift, Conversion, Choice, Comparison, Both, Either, Not, Action, Define, Put, Update, Choose, Leave, Block, Done, Then, Otherwise, Nothing, Else, Turns, Program}
+use Rattle.kernel_tree.specs.Plain.{Term, Literal, Variable, Element, Unary, Operation, Shift, Conversion, Choice, Comparison, Both, Either, Not, Action, Define, Put, Update, Choose, Leave, Block, Done, Then, Otherwise, Nothing, Else, PlainLoop, Program}
 use Rattle.kernel_tree.specs.Items.{stream_offset, term_size, action_size, block_size}
 use Rattle.kernel_meaning.specs.Reaches.{at_item, reaches}
 use Rattle.loop_form.specs.Entries.{loop_start, loop_end}
@@ -85,11 +85,11 @@ abbrev mutual
   otherwise_masks index from mask inner (Else b) = mask ∷ block_masks index (from + 1) inner b
 
 -- `for` and the body
-abbrev pub turns_masks : ℕ → Turns → List (List MaskPart)
+abbrev pub turns_masks : ℕ → PlainLoop → List (List MaskPart)
 turns_masks from l = [] ∷ block_masks (Some l.index) (from + 1) [] l.body
 
 -- of all items up to the last one of the loop; those before the loop have none
-abbrev pub loop_masks : ℕ → Option Turns → List (List MaskPart)
+abbrev pub loop_masks : ℕ → Option PlainLoop → List (List MaskPart)
 loop_masks from None = []
 loop_masks from (Some l) = replicate from [] ++ turns_masks from l
 

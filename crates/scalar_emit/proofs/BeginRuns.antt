@@ -191,14 +191,14 @@ module _ (D : Laid) (L : Layout) (fit : Assigned L) (R : ℕ → ℕ) where
   vars_step None v vs s j b n rest safe hi fits at e g on = cannot
   vars_step (Some x) v vs {w = w} {hs = hs} s {names = names} {m = m} j b n rest safe hi fits at e (a_value g) on =
       let q = b + term_size s.index v.init in
-      let behind = vars_code L R (hs ++ var_home R j v ∷ []) (after_var s v) (j + 1) (b + term_size s.index v.init + 1) (n + labels s.index v.init) vs rest in
-      let k = copied_sets D L fit {rest = behind} {s = g.end} (counted_x (R j)) (home L hs s.index b v.init) x (g.kept.sized ∙ at.sized) (omega (arith, hi)) g.value in
+      let following = vars_code L R (hs ++ var_home R j v ∷ []) (after_var s v) (j + 1) (b + term_size s.index v.init + 1) (n + labels s.index v.init) vs rest in
+      let k = copied_sets D L fit {rest = following} {s = g.end} (counted_x (R j)) (home L hs s.index b v.init) x (g.kept.sized ∙ at.sized) (omega (arith, hi)) g.value in
       let here = at_kept L fit b q (omega arith) safe.0 at g.kept in
       let range = value-range L hs s names m v.init v.type b q x fits.0 at.ranged e in
       let at1 = at_var s j q v x (safe_later L hs b q (omega arith) safe.0) safe.1 range here k.changes k.value in
       let r = on x k.end at1 in
       starts_after (4 * (term_size s.index v.init + 1 + vars_size s.index vs)) (omega arith) (chain (4 * term_size s.index v.init + 1) (omega arith) g.goes k.goes) (k.changes.frame ∙ g.kept.frame)
-      (starts_at (b + (term_size s.index v.init + 1 + vars_size s.index vs)) (omega arith) (subst (λ hs. Starts D w behind k.end rest hs (after_vars (after_var s v) vs).visible (q + 1 + vars_size s.index vs) m (4 * vars_size s.index vs) (initial (after_var s v) vs m (with_name v.name names x))) (append_assoc hs (var_home R j v ∷ []) (var_homes R (j + 1) vs)) r))
+      (starts_at (b + (term_size s.index v.init + 1 + vars_size s.index vs)) (omega arith) (subst (λ hs. Starts D w following k.end rest hs (after_vars (after_var s v) vs).visible (q + 1 + vars_size s.index vs) m (4 * vars_size s.index vs) (initial (after_var s v) vs m (with_name v.name names x))) (append_assoc hs (var_home R j v ∷ []) (var_homes R (j + 1) vs)) r))
 
   vars_first : (vs : List Accumulator) (hs : Homes) (s : Scope) (j b : ℕ) → AreSafeVars L R hs s j b vs → AreSafe L b hs
   vars_first [] hs s j b h = h
@@ -323,8 +323,8 @@ begin_runs R k checked few fits D n rest args m st has res =
     let L = layout_of_kernel R k in
     let z = has.sized in
     let short = has.few in
-    let behind = vars_code L R (param_homes 0 k.params) (param_scope k) 0 (length k.params) n k.vars (zero_index rest) in
-    let a = arguments_runs D k.params 0 args st behind (omega (arith, few, z)) (are_given k.params 0 args st has.words has.held) in
+    let following = vars_code L R (param_homes 0 k.params) (param_scope k) 0 (length k.params) n k.vars (zero_index rest) in
+    let a = arguments_runs D k.params 0 args st following (omega (arith, few, z)) (are_given k.params 0 args st has.words has.held) in
     let at : At (standing 0 a.end.x) (param_homes 0 k.params) (param_scope k).visible (given k.params args) m (length k.params) a.end = record {
       sized = a.sized ∙ has.sized;
       nine = a.high 9 (omega (arith, few)) ∙ has.held 9 ∙ past_arguments args 9 (omega (arith, short));
@@ -335,7 +335,7 @@ begin_runs R k checked few fits D n rest args m st has res =
       held = held_given 0 k.params args (length k.params) a.end a.wrapped;
     } in
     let high = high_vars L R 0 0 k.vars (safe_right L 0 (param_homes 0 k.params) (var_homes R 0 k.vars) (fits.safe 0)) in
-    let v = vars_runs D L fits.assigned R k.vars (param_scope k) 0 (length k.params) n (zero_index rest) fits.vars_safe high fits.vars at (arguments_back D 0 k.params behind res) in
+    let v = vars_runs D L fits.assigned R k.vars (param_scope k) 0 (length k.params) n (zero_index rest) fits.vars_safe high fits.vars at (arguments_back D 0 k.params following res) in
     let i = ap (λ i. vars_size i k.vars) (param_index k) in
     let steps : length k.params + (4 * vars_size (param_scope k).index k.vars + 1) ≤ 40 + 8 * size_of k = omega (arith, i) in
     let known = all_start k args m checked in

@@ -8,7 +8,7 @@ use Rattle.kernel_tree.specs.declared.ops.BinaryOp.{BinaryOp}
 use Rattle.kernel_tree.specs.declared.ops.BinaryOp.TheVariants as binary
 use Rattle.kernel_tree.specs.declared.ast.Shape.{Shape}
 use Rattle.kernel_tree.specs.declared.ast.Shape.TheVariants as shape
-use Rattle.kernel_tree.specs.Plain.{Term, Literal, Variable, Element, Unary, Operation, Shift, Conversion, Choice, Comparison, Both, Either, Not, Action, Define, Put as PutTo, Update, Choose, Leave, Block, Done, Then, Otherwise, Nothing, Else, Parameter, Accumulator, Turns, Returned, Program}
+use Rattle.kernel_tree.specs.Plain.{Term, Literal, Variable, Element, Unary, Operation, Shift, Conversion, Choice, Comparison, Both, Either, Not, Action, Define, Put as PutTo, Update, Choose, Leave, Block, Done, Then, Otherwise, Nothing, Else, Parameter, Accumulator, PlainLoop, Returned, Program}
 use Rattle.kernel_tree.specs.Items.{index_size, term_size, action_size, block_size, otherwise_size, vars_size, turns_size, answer_size, index_of, stream_offset, loop_index, size_of}
 use Rattle.kernel_tree.specs.Wrap.{is_signed}
 use Rattle.kernel_tree.specs.Typing.{Scope, lookup, own, first, element_type, accumulator_type, index_type, side_type, after_action, after_block, left, in_loop, after_turns, param_scope, var_scope}
@@ -187,7 +187,7 @@ module _ (L : Layout) where
   answer_words hs s b n None rest k h = omega (arith, h)
   answer_words hs s b n (Some a) rest k h = within (omega arith) (value_words L hs a.value s (Some a.type) b n _ _ (one_word (copy_word 0 (home L hs s.index b a.value)) _ _ (one_more (one_more h))))
 
-  loop_words : (hs : Homes) (s : Scope) (t : Turns) (b n b2 : ℕ) (o : Option Returned) (rest : List Entry) (k : ℕ) → size rest ≤ k → size (loop_code L hs s t b n b2 o rest) ≤ 4 * (1 + block_size s.index t.body) + 4 * answer_size s.index o + 3 + k
+  loop_words : (hs : Homes) (s : Scope) (t : PlainLoop) (b n b2 : ℕ) (o : Option Returned) (rest : List Entry) (k : ℕ) → size rest ≤ k → size (loop_code L hs s t b n b2 o rest) ≤ 4 * (1 + block_size s.index t.body) + 4 * answer_size s.index o + 3 + k
   loop_words hs s t b n b2 o rest k h =
       within (omega arith) (one_more (one_more (block_words t.body (with_index hs t) (in_loop s t) (n + 1) (b + 1) (n + 2) _ _ (one_more (one_more (answer_words (with_index hs t) (after_turns s (Some t)) b2 (n + 2 + block_labels s.index t.body) o rest k h))))))
 
@@ -200,7 +200,7 @@ module _ (L : Layout) where
 
 -- ---- kernels
 
-turns_words : (L : Layout) (hs : Homes) (s : Scope) (i : Option (List ℕ)) (t : Option Turns) (b n b2 : ℕ) (o : Option Returned) (rest : List Entry) (k : ℕ) → s.index ≡ i → i ≡ option_map index_of t → size rest ≤ k → size (turns_code L hs s t b n b2 o rest) ≤ 4 * turns_size t + 4 * answer_size i o + 3 + k
+turns_words : (L : Layout) (hs : Homes) (s : Scope) (i : Option (List ℕ)) (t : Option PlainLoop) (b n b2 : ℕ) (o : Option Returned) (rest : List Entry) (k : ℕ) → s.index ≡ i → i ≡ option_map index_of t → size rest ≤ k → size (turns_code L hs s t b n b2 o rest) ≤ 4 * turns_size t + 4 * answer_size i o + 3 + k
 turns_words L hs s i None b n b2 o rest k e f h = let q = ap (λ i. answer_size i o) e in within (omega (arith, q)) (answer_words L hs s b2 (n + 1) o rest k h)
 turns_words L hs s i (Some t) b n b2 o rest k e f h =
     let q = ap (λ i. answer_size i o) e in

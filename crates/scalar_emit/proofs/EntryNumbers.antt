@@ -1,7 +1,7 @@
 -- The entries of a kernel's parts are numbered one after another, and are as many as the sizes of the parts say.
 use Rattle.std.proofs.Common.{◌≡◌, ℕ, suc, ◌+◌, List, [], ◌∷◌, ◌++◌, length, Option, Some, None, refl, ap, subst, arith, length-append}
 use Rattle.std.specs.Prelude.{ℤ, option_map}
-use Rattle.kernel_tree.specs.Plain.{Term, Literal, Variable, Element, Unary, Operation, Shift, Conversion, Choice, Comparison, Both, Either, Not, Action, Define, Put, Update, Choose, Leave, Block, Done, Then, Otherwise, Nothing, Else, Parameter, Accumulator, Turns, Returned, Program}
+use Rattle.kernel_tree.specs.Plain.{Term, Literal, Variable, Element, Unary, Operation, Shift, Conversion, Choice, Comparison, Both, Either, Not, Action, Define, Put, Update, Choose, Leave, Block, Done, Then, Otherwise, Nothing, Else, Parameter, Accumulator, PlainLoop, Returned, Program}
 use Rattle.kernel_tree.specs.Items.{term_size, index_size, index_items, stream_offset, action_size, block_size, otherwise_size, vars_size, turns_size, answer_size, index_of, loop_index, size_of}
 use Rattle.loop_form.specs.Entries.{Entry, inner_entries, term_entries, action_entries, block_entries, otherwise_entries, params_entries, vars_entries, turns_entries, answer_entries, loop_start, loop_end, entries_of}
 use Rattle.loop_form.specs.Numbers.{Numbered}
@@ -95,7 +95,7 @@ module _ (k : Program) where
       stretch_on p (term_size i v.init + 1 + vars_size i vs) refl (omega arith) (term_stretch v.init b p)
       (stretch_on {xs = _ ∷ []} (p + 1) (1 + vars_size i vs) refl refl (stretch_one _) (vars_stretch vs (p + 1)))
 
-  pub turns_stretch : (o : Option Turns) (b : ℕ) → k.turns ≡ o → Stretch b (turns_size o) (turns_entries k b o)
+  pub turns_stretch : (o : Option PlainLoop) (b : ℕ) → k.turns ≡ o → Stretch b (turns_size o) (turns_entries k b o)
   turns_stretch None b e = stretch_none b
   turns_stretch (Some l) b e =
       let same : loop_index k ≡ Some l.index = ap (option_map index_of) e in

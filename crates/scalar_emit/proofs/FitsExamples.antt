@@ -4,7 +4,7 @@ use Rattle.std.specs.Prelude.{slice_index}
 use Rattle.kernel_tree.specs.declared.ops.Ty.TheVariants as ty
 use Rattle.kernel_tree.specs.declared.ops.UpdateOp.TheVariants as update
 use Rattle.kernel_tree.specs.declared.ast.Shape.TheVariants as shape
-use Rattle.kernel_tree.specs.Plain.{Literal, Variable, Element, Conversion, Define, Update, Done, Then, Turns, Program}
+use Rattle.kernel_tree.specs.Plain.{Literal, Variable, Element, Conversion, Define, Update, Done, Then, PlainLoop, Program}
 use Rattle.reg_assign.specs.declared.interval.RegClass.TheVariants.{X}
 use Rattle.reg_assign.specs.declared.interval.Interval.{Interval}
 use Rattle.loop_form.specs.Entries.{item_type}
@@ -30,7 +30,7 @@ abbrev x : List ℕ
 x = 120 ∷ []
 
 -- for i in 0..n { let x = a[i]; s += x as u64; }
-abbrev adding : Turns
+abbrev adding : PlainLoop
 adding = record { index = i; bound = n; body = Then (Define x None (Element a (Variable i))) (Then (Update s update.Add (Conversion (Variable x) ty.U64)) Done) }
 
 -- kernel s(a: [u8], n: u64) -> u64 { var s: u64 = 0; .. return s; }

@@ -10,7 +10,7 @@ use Rattle.kernel_tree.specs.declared.ast.Shape.TheVariants as shape
 use Rattle.kernel_tree.specs.declared.fault.Found.{Found}
 use Rattle.kernel_tree.specs.declared.fault.Binding.{Binding}
 use Rattle.kernel_tree.specs.declared.fault.Binding.TheVariants as binding
-use Rattle.kernel_tree.specs.Plain.{Parameter, Accumulator, Turns, Returned, Program}
+use Rattle.kernel_tree.specs.Plain.{Parameter, Accumulator, PlainLoop, Returned, Program}
 use Rattle.kernel_tree.specs.Items.{term_size, vars_size, turns_size, index_of, loop_index, size_of}
 use Rattle.kernel_tree.specs.Limits.{most_items, most_depth, depth_of}
 use Rattle.kernel_tree.specs.Typing.{Scope, Local, local, Value, lookup, declared, insert_name, is_taken, binding_of_shape, empty, after_params, after_vars, after_turns, faults, twice, params_faults, vars_faults, bound_faults, turns_faults, answer_faults, param_scope, var_scope, kernel_faults, sooner, least, check_fault, TooLarge, TooDeep, Fails}
@@ -303,7 +303,7 @@ module _ (R : ℕ → ℕ) (k : Program) (L : Layout) (all : List Entry) where
 
     -- ---- the loop
 
-    loop_fits : (l : Turns) (tk : List (List ℕ)) (b b2 : ℕ) (rest : List ℕ) → loop_index k ≡ Some l.index → NoHome l.index (kernel_homes R k) → b ≤ b2 → turns_faults (scope_at k (locals_of k.params ++ accs_of k.vars) tk false) b (Some l) ≡ [] → answer_faults (after_turns (scope_at k (locals_of k.params ++ accs_of k.vars) tk false) (Some l)) b2 k.answer ≡ []
+    loop_fits : (l : PlainLoop) (tk : List (List ℕ)) (b b2 : ℕ) (rest : List ℕ) → loop_index k ≡ Some l.index → NoHome l.index (kernel_homes R k) → b ≤ b2 → turns_faults (scope_at k (locals_of k.params ++ accs_of k.vars) tk false) b (Some l) ≡ [] → answer_faults (after_turns (scope_at k (locals_of k.params ++ accs_of k.vars) tk false) (Some l)) b2 k.answer ≡ []
         → Sits L.untils b (untils all (turns_entries k b (Some l)) rest) → AreUsesCounted all (turns_entries k b (Some l)) → Sits L.untils b2 (untils all (answer_entries k b2 k.answer) []) → AreUsesCounted all (answer_entries k b2 k.answer)
         → FitsLoop L (kernel_homes R k) (scope_at k (locals_of k.params ++ accs_of k.vars) tk false) l b b2 k.answer × IsBound R k l
     loop_fits l tk b b2 rest ix alone le f fa h c ha ca =
@@ -324,7 +324,7 @@ module _ (R : ℕ → ℕ) (k : Program) (L : Layout) (all : List Entry) where
             body = block_fits k R L all few spread l.body (v ++ local l.index binding.Index ∷ []) (insert_name tk l.index) true (with_index hs l) (b + 1) rest (are (b + 1)) (λ e p. index p) refl body (sits_next L.untils b _ _ h) c.1;
             nine = others-append (param_homes 0 k.params) (var_homes R 0 k.vars) 9 b (params_nine 0 b k.params (omega (arith, few))) (vars_nine R 0 b k.vars);
             answered = answer_fits k.answer (v ++ local l.index binding.Index ∷ []) (insert_name tk l.index) (with_index hs l) b2 (are b2) fa ha ca;
-            behind = le;
+            following = le;
           },
           ap (slice_get k.params) reg ∙ param ∙ ap (λ x. Some (record { name = x; shape = shape.Scalar U64 })) at.named,
         )
@@ -395,7 +395,7 @@ module _ (R : ℕ → ℕ) (k : Program) (checked : check_fault k ≡ None) (few
       subst (λ s. AreSafeVars L R (param_homes 0 k.params) s 0 (length k.params) k.vars) (sym (param_scope_is k))
       (vars_safe R k L all few spread k.vars (locals_of k.params) (param_scope k).taken (param_homes 0 k.params) 0 (length k.params) (first_are R k L all (length k.params)) (numbers_params 0 k.params) (omega arith))
 
-  turns_fit : (l : Turns) → k.turns ≡ Some l → FitsLoop L (kernel_homes R k) (var_scope k) l (loop_start k) (loop_end k) k.answer × IsBound R k l
+  turns_fit : (l : PlainLoop) → k.turns ≡ Some l → FitsLoop L (kernel_homes R k) (var_scope k) l (loop_start k) (loop_end k) k.answer × IsBound R k l
   turns_fit l e =
       let s = var_scope_is k in
       let ix : loop_index k ≡ Some l.index = ap (option_map index_of) e in

@@ -4,7 +4,7 @@ use Rattle.std.specs.Prelude.{slice_index, option_map}
 use Rattle.std.proofs.Math.Nat.{mul-le-mul_right}
 use Rattle.guest_types.specs.Memory.{Memory}
 use Rattle.machine_model.specs.Machine.{State}
-use Rattle.kernel_tree.specs.Plain.{Turns, Returned, Program}
+use Rattle.kernel_tree.specs.Plain.{PlainLoop, Returned, Program}
 use Rattle.kernel_tree.specs.Items.{block_size, turns_size, answer_size, index_of, size_of}
 use Rattle.kernel_tree.specs.Typing.{Scope, var_scope, check_fault}
 use Rattle.reg_assign.specs.declared.interval.RegClass.TheVariants.{X}
@@ -14,7 +14,7 @@ use Rattle.kernel_meaning.specs.Eval.{Names, value_at}
 use Rattle.kernel_meaning.specs.ScalarRun.{Run, bound_of, course, finish, returned, ended}
 use Rattle.kernel_meaning.proofs.Residues.{word-below}
 use Rattle.loop_form.specs.Entries.{loop_start, loop_end}
-use Rattle.label_fix.specs.DraftRun.{Entry, Place, Laid, behind}
+use Rattle.label_fix.specs.DraftRun.{Entry, Place, Laid, following}
 use Rattle.label_fix.proofs.Steps.{Goes, Resolves, stay, end_after, stop_after, stop_more, pass}
 use Rattle.scalar_emit.specs.Layout.{Layout, Homes, register_at}
 use Rattle.scalar_emit.specs.Loop.{answer_code, test_code, loop_code, FitsAnswer, FitsLoop}
@@ -34,9 +34,9 @@ comes_within : {D : Laid} {c : List Entry} {s : State} {K F i : ℕ} {r : Run} (
 comes_within {K = K} {F = F} K2 F2 a b (ends_so n e h) = let k = mul-le-mul_right n a in ends_so n e (end_after (K2 * n + F2) (omega (arith, k, b)) (stay 0) h)
 comes_within {K = K} {F = F} K2 F2 a b (faults_so n kind e ok h) = let k = mul-le-mul_right n a in faults_so n kind e ok (stop_more (K2 * n + F2) (omega (arith, k, b)) h)
 
-comes_behind : {D : Laid} {c e : List Entry} {s t : State} {K F i : ℕ} {r : Run} → Goes D c s e t 0 → Comes D e t K F i r → Comes D c s K F i r
-comes_behind {K = K} {F = F} g (ends_so n e h) = ends_so n e (end_after (K * n + F) (omega arith) g h)
-comes_behind {K = K} {F = F} g (faults_so n kind e ok h) = faults_so n kind e ok (stop_after (K * n + F) (omega arith) g h)
+comes_following : {D : Laid} {c e : List Entry} {s t : State} {K F i : ℕ} {r : Run} → Goes D c s e t 0 → Comes D e t K F i r → Comes D c s K F i r
+comes_following {K = K} {F = F} g (ends_so n e h) = ends_so n e (end_after (K * n + F) (omega arith) g h)
+comes_following {K = K} {F = F} g (faults_so n kind e ok h) = faults_so n kind e ok (stop_after (K * n + F) (omega arith) g h)
 
 -- ---- states
 
@@ -59,26 +59,26 @@ at_head R k i names m s p at = record {
 
 -- ---- the loop, and what follows it
 
-abbrev FitsTurns : Layout → Homes → Scope → Option Turns → (b b2 : ℕ) → Option Returned → Type 0
+abbrev FitsTurns : Layout → Homes → Scope → Option PlainLoop → (b b2 : ℕ) → Option Returned → Type 0
 FitsTurns L hs s (Some l) b b2 answer = FitsLoop L hs s l b b2 answer
 FitsTurns L hs s None b b2 answer = FitsAnswer L hs s b2 answer
 
-fits_turns : (L : Layout) (hs : Homes) (s : Scope) (b b2 : ℕ) (answer : Option Returned) (turns : Option Turns) → ((l : Turns) → turns ≡ Some l → FitsLoop L hs s l b b2 answer) → (turns ≡ None → FitsAnswer L hs s b2 answer) → FitsTurns L hs s turns b b2 answer
+fits_turns : (L : Layout) (hs : Homes) (s : Scope) (b b2 : ℕ) (answer : Option Returned) (turns : Option PlainLoop) → ((l : PlainLoop) → turns ≡ Some l → FitsLoop L hs s l b b2 answer) → (turns ≡ None → FitsAnswer L hs s b2 answer) → FitsTurns L hs s turns b b2 answer
 fits_turns L hs s b b2 answer (Some l) f g = f l refl
 fits_turns L hs s b b2 answer None f g = g refl
 
-abbrev turn_steps : Option (List ℕ) → Option Turns → ℕ
+abbrev turn_steps : Option (List ℕ) → Option PlainLoop → ℕ
 turn_steps i (Some l) = 4 * block_size i l.body + 4
 turn_steps i None = 0
 
 -- the steps of an iteration
-turn_size : (i : Option (List ℕ)) (turns : Option Turns) → i ≡ option_map index_of turns → turn_steps i turns ≤ 4 * turns_size turns
+turn_size : (i : Option (List ℕ)) (turns : Option PlainLoop) → i ≡ option_map index_of turns → turn_steps i turns ≤ 4 * turns_size turns
 turn_size i (Some l) e = let z = ap (λ j. block_size j l.body) e in omega (arith, z)
 turn_size i None e = omega arith
 
 module _ (D : Laid) (L : Layout) (fit : Assigned L) (hs : Homes) (s : Scope) (steady : AreSteady hs) (safe : (b : ℕ) → AreSafe L b hs) where
-  turns_run : (turns : Option Turns) (b n b2 : ℕ) (answer : Option Returned) (rest : List Entry) (args : List ℕ) (i : ℕ) (names : Names) (m : Memory) (st : State) → FitsTurns L hs s turns b b2 answer → Resolves D (turns_code L hs s turns b n b2 answer rest) → IsWithin turns i names → ((p : ℕ) → At (standing i args) hs s.visible names m p st)
-      → Comes D (behind D n) st (turn_steps s.index turns) (4 * answer_size s.index answer + 5) i (turns_from s turns answer i m names)
+  turns_run : (turns : Option PlainLoop) (b n b2 : ℕ) (answer : Option Returned) (rest : List Entry) (args : List ℕ) (i : ℕ) (names : Names) (m : Memory) (st : State) → FitsTurns L hs s turns b b2 answer → Resolves D (turns_code L hs s turns b n b2 answer rest) → IsWithin turns i names → ((p : ℕ) → At (standing i args) hs s.visible names m p st)
+      → Comes D (following D n) st (turn_steps s.index turns) (4 * answer_size s.index answer + 5) i (turns_from s turns answer i m names)
   turns_run (Some l) b n b2 answer rest args i names m st fits res le at =
       let r = register_at hs l.bound in
       let a = at b in
@@ -95,13 +95,13 @@ module _ (D : Laid) (L : Layout) (fit : Assigned L) (hs : Homes) (s : Scope) (st
 
 -- ---- kernels
 
-head_first : (D : Laid) (L : Layout) (hs : Homes) (s : Scope) (turns : Option Turns) (b n b2 : ℕ) (answer : Option Returned) (rest : List Entry) (st : State) → Resolves D (turns_code L hs s turns b n b2 answer rest) → Goes D (turns_code L hs s turns b n b2 answer rest) st (behind D n) st 0
+head_first : (D : Laid) (L : Layout) (hs : Homes) (s : Scope) (turns : Option PlainLoop) (b n b2 : ℕ) (answer : Option Returned) (rest : List Entry) (st : State) → Resolves D (turns_code L hs s turns b n b2 answer rest) → Goes D (turns_code L hs s turns b n b2 answer rest) st (following D n) st 0
 head_first D L hs s (Some l) b n b2 answer rest st res = subst (λ es. Goes D (loop_code L hs s l b n b2 answer rest) st es st 0) (sym res.0) pass
 head_first D L hs s None b n b2 answer rest st res = subst (λ es. Goes D (Place n ∷ answer_code L hs s b2 (n + 1) answer rest) st es st 0) (sym res.0) pass
 
 module _ (R : ℕ → ℕ) (k : Program) (fit : KernelFits R k) where
   comes : (D : Laid) (n : ℕ) (rest : List Entry) (i : ℕ) (names : Names) (m : Memory) (s : State) → Resolves D (scalar_code R k n rest) → IsWithin k.turns i names → AtIteration R k i names m s
-      → Comes D (behind D n) s (32 + 8 * size_of k) (32 + 8 * size_of k) i (run_from k i m names)
+      → Comes D (following D n) s (32 + 8 * size_of k) (32 + 8 * size_of k) i (run_from k i m names)
   comes D n rest i names m s res le at =
       let L = layout_of_kernel R k in
       let hs = kernel_homes R k in
@@ -113,7 +113,7 @@ module _ (R : ℕ → ℕ) (k : Program) (fit : KernelFits R k) where
 
   pub scalar_runs : ScalarRuns R k
   scalar_runs = record {
-    reached = λ D n rest i names m s res le at. comes_behind (head_first D (layout_of_kernel R k) (kernel_homes R k) (var_scope k) k.turns (loop_start k) n (loop_end k) k.answer rest s res) (comes D n rest i names m s res le at);
+    reached = λ D n rest i names m s res le at. comes_following (head_first D (layout_of_kernel R k) (kernel_homes R k) (var_scope k) k.turns (loop_start k) n (loop_end k) k.answer rest s res) (comes D n rest i names m s res le at);
     entered = comes;
   }
 

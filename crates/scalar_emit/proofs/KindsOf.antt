@@ -5,7 +5,7 @@ use Rattle.kernel_tree.specs.declared.ops.Ty.{Ty}
 use Rattle.kernel_tree.specs.declared.ops.BinaryOp.{BinaryOp}
 use Rattle.kernel_tree.specs.declared.fault.Found.{Found}
 use Rattle.kernel_tree.specs.declared.fault.Binding.TheVariants as binding
-use Rattle.kernel_tree.specs.Plain.{Term, Literal, Variable, Element, Unary, Operation, Shift, Conversion, Choice, Comparison, Both, Either, Not, Action, Define, Put, Update, Choose, Leave, Block, Done, Then, Otherwise, Nothing, Else, Parameter, Accumulator, Turns, Returned, Program}
+use Rattle.kernel_tree.specs.Plain.{Term, Literal, Variable, Element, Unary, Operation, Shift, Conversion, Choice, Comparison, Both, Either, Not, Action, Define, Put, Update, Choose, Leave, Block, Done, Then, Otherwise, Nothing, Else, Parameter, Accumulator, PlainLoop, Returned, Program}
 use Rattle.kernel_tree.specs.Items.{term_size, is_index_term, literal_value, moved_by, stream_offset, size_of}
 use Rattle.kernel_tree.specs.Limits.{most_items, most_depth, depth_of}
 use Rattle.kernel_tree.specs.Typing.{Scope, Value, Condition, TooLarge, TooDeep, Fails, index_type, after_action, after_block, left, declared, in_loop, after_turns, param_scope, var_scope, faults, inner_faults, action_faults, block_faults, otherwise_faults, vars_faults, turns_faults, answer_faults, params_faults, kernel_faults, sooner, least, check_fault}
@@ -40,8 +40,8 @@ nil-right (x ∷ xs) ys e = absurd cc
 pub never : {A : Type 0} {x : A} {xs : List A} → x ∷ xs ≡ [] → ⊥
 never e = cc
 
-behind-three : (xs ys zs : List Found) (f : Found) → xs ++ (ys ++ (zs ++ f ∷ [])) ≡ [] → ⊥
-behind-three xs ys zs f h = never (nil-right zs _ (nil-right ys _ (nil-right xs _ h)))
+following-three : (xs ys zs : List Found) (f : Found) → xs ++ (ys ++ (zs ++ f ∷ [])) ≡ [] → ⊥
+following-three xs ys zs f h = never (nil-right zs _ (nil-right ys _ (nil-right xs _ h)))
 
 -- a stream index
 index-value : (i : Option (List ℕ)) (a : Term) (o : Option ℤ) (c : ℤ) → (if is_index_term i a then o else None) ≡ Some c → IsValue a
@@ -127,7 +127,7 @@ mutual
   truth-kinds (Choice c a b) s from h =
       let next = from + term_size s.index a in
       let last = next + term_size s.index b in
-      absurd (behind-three (faults s from (Value None) a) (faults s next (Value None) b) (faults s last Condition c) _ h)
+      absurd (following-three (faults s from (Value None) a) (faults s next (Value None) b) (faults s last Condition c) _ h)
   truth-kinds (Comparison op a b) s from h = (value-kinds a s _ _ (nil-left _ _ h), value-kinds b s _ _ (nil-left _ _ (nil-right _ _ h)))
   truth-kinds (Both a b) s from h = (truth-kinds a s _ (nil-left _ _ h), truth-kinds b s _ (nil-left _ _ (nil-right _ _ h)))
   truth-kinds (Either a b) s from h = (truth-kinds a s _ (nil-left _ _ h), truth-kinds b s _ (nil-left _ _ (nil-right _ _ h)))
@@ -155,7 +155,7 @@ vars-kinds : (vs : List Accumulator) (s : Scope) (from : ℕ) → vars_faults s 
 vars-kinds [] s from h = tt
 vars-kinds (v ∷ vs) s from h = (value-kinds v.init s _ _ (nil-left _ _ h), vars-kinds vs (declared s v.name (binding.Accumulator v.type)) _ (nil-right _ _ (nil-right _ _ h)))
 
-turns-kinds : (o : Option Turns) (s : Scope) (from : ℕ) → turns_faults s from o ≡ [] → TurnsKinds o
+turns-kinds : (o : Option PlainLoop) (s : Scope) (from : ℕ) → turns_faults s from o ≡ [] → TurnsKinds o
 turns-kinds None s from h = tt
 turns-kinds (Some l) s from h = block-kinds l.body (in_loop s l) _ (nil-right _ _ (nil-right _ _ h))
 

@@ -6,13 +6,14 @@ use Rattle.guest_types.specs.Memory.{Memory, stored}
 use Rattle.kernel_tree.specs.declared.ops.Ty.{Ty}
 use Rattle.kernel_tree.specs.declared.ops.UpdateOp.{UpdateOp}
 use Rattle.kernel_tree.specs.declared.fault.Binding.TheVariants as binding
-use Rattle.kernel_tree.specs.Plain.{Term, Action, Define, Put, Update, Choose, Leave, Block, Done, Then, Otherwise, Nothing, Else, Turns, Program}
+use Rattle.kernel_tree.specs.Plain.{Term, Action, Define, Put, Update, Choose, Leave, Block, Done, Then, Otherwise, Nothing, Else, PlainLoop, Program}
 use Rattle.kernel_tree.specs.Items.{term_size, stream_offset}
 use Rattle.kernel_tree.specs.Typing.{Scope, Local, local, lookup, own, first, element_type, accumulator_type, index_type, after_action, after_block, left, defined, in_loop, var_scope}
+use Rattle.kernel_meaning.specs.Ends.{BlockEnd, Next, Broke, Faulted, LoopState, Going, Left, Failed, go_on}
 use Rattle.kernel_meaning.specs.Operators.{word, binary_value, operator_of}
 use Rattle.kernel_meaning.specs.Eval.{Names, value_at, iteration, element_number, address, byte_count, value, holds}
-use Rattle.kernel_meaning.specs.Iterate.{Turn, Next, Broke, Faulted, with_name, cut, define, update, write, put, choose, leave, then_do, act, do_block, do_otherwise, iterate}
-use Rattle.kernel_meaning.specs.ScalarRun.{Standing, Going, Left, Failed, go_on, course}
+use Rattle.kernel_meaning.specs.Iterate.{with_name, cut, define, update, write, put, choose, leave, then_do, act, do_block, do_otherwise, iterate}
+use Rattle.kernel_meaning.specs.ScalarRun.{course}
 use Rattle.loop_form.specs.Entries.{loop_start}
 use Rattle.scalar_emit.specs.Layout.{Layout, Homes}
 use Rattle.scalar_emit.specs.Kernel.{layout_of_kernel, kernel_homes}
@@ -28,7 +29,7 @@ use Rattle.scalar_emit.proofs.Ranges.{value-range}
 use Rattle.scalar_emit.proofs.StmtRuns.{Extends, extends_none, extends_one, extends_on, extends_length, visible_after, visible_block, ranged_more, ranged_length, ranged_cut, take_less, ranged_assigned, acc_value}
 
 -- names that a statement leaves are in range: those that are visible after it, and after a `break` the outer ones
-abbrev pub RangedTurn : List Local → List Local → Turn → Type 0
+abbrev pub RangedTurn : List Local → List Local → BlockEnd Names → Type 0
 RangedTurn outer ls (Next m names) = AreRanged ls names
 RangedTurn outer ls (Broke m names) = AreRanged outer (take (length outer) names)
 RangedTurn outer ls (Faulted m) = Unit {0}
@@ -40,7 +41,7 @@ some_is (Some T) h = (T, refl)
 cut_front : (outer ls : List Local) (names : Names) → Extends outer ls → AreRanged ls names → AreRanged outer (take (length outer) names)
 cut_front outer ls names x h = ranged_cut outer x.more names (subst (λ l. AreRanged l names) x.is h)
 
-cut_ranged : (outer ls ls2 : List Local) (n : ℕ) (turn : Turn) → n ≡ length ls → Extends outer ls → Extends ls ls2 → RangedTurn outer ls2 turn → RangedTurn outer ls (cut n turn)
+cut_ranged : (outer ls ls2 : List Local) (n : ℕ) (turn : BlockEnd Names) → n ≡ length ls → Extends outer ls → Extends ls ls2 → RangedTurn outer ls2 turn → RangedTurn outer ls (cut n turn)
 cut_ranged outer ls ls2 n (Next m names) e x y h = subst (λ k. AreRanged ls (take k names)) (sym e) (cut_front ls ls2 names y h)
 cut_ranged outer ls ls2 n (Broke m names) e x y h = let z = extends_length x in subst (AreRanged outer) (sym (take_less (length outer) n names (omega (arith, e, z)))) h
 cut_ranged outer ls ls2 n (Faulted m) e x y h = tt
@@ -66,7 +67,7 @@ update_ranged outer s x op want T m names (Some v) e0 e h =
     subst (λ w. RangedTurn outer s.visible (update x op w m names (Some v))) (sym e)
     (ranged_assigned T s.visible names x (binary_value (operator_of op) (Some T) (value_at names x) v) (wrap-is_of T _) h (acc_value T (lookup s x) (sym e0 ∙ e)))
 
-choose_ranged : (outer ls : List Local) (m : Memory) (c : Option Bool) (one other : Turn) → RangedTurn outer ls one → RangedTurn outer ls other → RangedTurn outer ls (choose m c one other)
+choose_ranged : (outer ls : List Local) (m : Memory) (c : Option Bool) (one other : BlockEnd Names) → RangedTurn outer ls one → RangedTurn outer ls other → RangedTurn outer ls (choose m c one other)
 choose_ranged outer ls m None one other h k = tt
 choose_ranged outer ls m (Some true) one other h k = h
 choose_ranged outer ls m (Some false) one other h k = k
@@ -76,18 +77,18 @@ leave_ranged outer ls m names None x h = tt
 leave_ranged outer ls m names (Some true) x h = cut_front outer ls names x h
 leave_ranged outer ls m names (Some false) x h = h
 
-then_ranged : (outer ls ls2 : List Local) (turn : Turn) (more : Memory → Names → Turn) → RangedTurn outer ls turn → ((m : Memory) (names : Names) → AreRanged ls names → RangedTurn outer ls2 (more m names)) → RangedTurn outer ls2 (then_do turn more)
+then_ranged : (outer ls ls2 : List Local) (turn : BlockEnd Names) (more : Memory → Names → BlockEnd Names) → RangedTurn outer ls turn → ((m : Memory) (names : Names) → AreRanged ls names → RangedTurn outer ls2 (more m names)) → RangedTurn outer ls2 (then_do turn more)
 then_ranged outer ls ls2 (Next m names) more h f = f m names h
 then_ranged outer ls ls2 (Broke m names) more h f = h
 then_ranged outer ls ls2 (Faulted m) more h f = tt
 
 -- after an iteration the outer names are in range
-abbrev RangedEnd : List Local → Turn → Type 0
+abbrev RangedEnd : List Local → BlockEnd Names → Type 0
 RangedEnd ls (Next m names) = AreRanged ls names
 RangedEnd ls (Broke m names) = AreRanged ls names
 RangedEnd ls (Faulted m) = Unit {0}
 
-end_ranged : (ls ls2 : List Local) (n : ℕ) (turn : Turn) → n ≡ length ls → Extends ls ls2 → RangedTurn ls ls2 turn → RangedEnd ls (cut n turn)
+end_ranged : (ls ls2 : List Local) (n : ℕ) (turn : BlockEnd Names) → n ≡ length ls → Extends ls ls2 → RangedTurn ls ls2 turn → RangedEnd ls (cut n turn)
 end_ranged ls ls2 n (Next m names) e x h = subst (λ k. AreRanged ls (take k names)) (sym e) (cut_front ls ls2 names x h)
 end_ranged ls ls2 n (Broke m names) e x h = subst (λ k. AreRanged ls (take k names)) (sym e) h
 end_ranged ls ls2 n (Faulted m) e x h = tt
@@ -125,7 +126,7 @@ module _ (L : Layout) where
     otherwise_ranged Nothing outer hs s b m names n ext fits h = cut_ranged outer s.visible s.visible (length names) (Next m names) n ext (extends_none s.visible) h
     otherwise_ranged (Else blk) outer hs s b m names n ext fits h = cut_ranged outer s.visible (after_block s blk).visible (length names) (do_block s blk m names) n ext (visible_block s blk) (block_ranged blk outer hs s (b + 1) m names ext fits h)
 
-  iterate_ranged : (hs : Homes) (s : Scope) (l : Turns) (b i : ℕ) (m : Memory) (names : Names) → FitsBlock L (with_index hs l) (in_loop s l) (b + 1) l.body → i < 2 ^ 64 → AreRanged s.visible names → RangedEnd s.visible (iterate s l i m names)
+  iterate_ranged : (hs : Homes) (s : Scope) (l : PlainLoop) (b i : ℕ) (m : Memory) (names : Names) → FitsBlock L (with_index hs l) (in_loop s l) (b + 1) l.body → i < 2 ^ 64 → AreRanged s.visible names → RangedEnd s.visible (iterate s l i m names)
   iterate_ranged hs s l b i m names fits small h =
       let inner = extends_one s.visible (local l.index binding.Index) in
       let start : AreRanged (in_loop s l).visible (with_name l.index names (pos i)) = ranged_more s.visible names (local l.index binding.Index) (pos i) h (is_of U64 (pos i) small) in
@@ -133,17 +134,17 @@ module _ (L : Layout) where
       (block_ranged l.body s.visible (with_index hs l) (in_loop s l) (b + 1) m (with_name l.index names (pos i)) inner fits start)
 
 -- the names that some iterations leave
-abbrev pub RangedStanding : List Local → Standing → Type 0
+abbrev pub RangedStanding : List Local → LoopState Names → Type 0
 RangedStanding ls (Going m names) = AreRanged ls names
 RangedStanding ls (Left m names i) = AreRanged ls names
 RangedStanding ls (Failed m i) = Unit {0}
 
-go_on_ranged : (ls : List Local) (turn : Turn) (i : ℕ) (rest : Memory → Names → Standing) → RangedEnd ls turn → ((m : Memory) (names : Names) → AreRanged ls names → RangedStanding ls (rest m names)) → RangedStanding ls (go_on turn i rest)
+go_on_ranged : (ls : List Local) (turn : BlockEnd Names) (i : ℕ) (rest : Memory → Names → LoopState Names) → RangedEnd ls turn → ((m : Memory) (names : Names) → AreRanged ls names → RangedStanding ls (rest m names)) → RangedStanding ls (go_on turn i rest)
 go_on_ranged ls (Next m names) i rest h f = f m names h
 go_on_ranged ls (Broke m names) i rest h f = h
 go_on_ranged ls (Faulted m) i rest h f = tt
 
-pub course_ranged : (L : Layout) (hs : Homes) (s : Scope) (l : Turns) (b count i : ℕ) (m : Memory) (names : Names) → FitsBlock L (with_index hs l) (in_loop s l) (b + 1) l.body → i + count ≤ 2 ^ 64 → AreRanged s.visible names → RangedStanding s.visible (course s l count i m names)
+pub course_ranged : (L : Layout) (hs : Homes) (s : Scope) (l : PlainLoop) (b count i : ℕ) (m : Memory) (names : Names) → FitsBlock L (with_index hs l) (in_loop s l) (b + 1) l.body → i + count ≤ 2 ^ 64 → AreRanged s.visible names → RangedStanding s.visible (course s l count i m names)
 unfolding course
 course_ranged L hs s l b zero i m names fits small h = h
 course_ranged L hs s l b (suc count) i m names fits small h =
@@ -151,5 +152,5 @@ course_ranged L hs s l b (suc count) i m names fits small h =
     (λ m2 names2 k. course_ranged L hs s l b count (i + 1) m2 names2 fits (omega (arith, small)) k)
 
 -- the loop of a kernel that registers fit
-pub kernel_ranged : (R : ℕ → ℕ) (k : Program) (fit : KernelFits R k) (l : Turns) (count i : ℕ) (m : Memory) (names : Names) → k.turns ≡ Some l → i + count ≤ 2 ^ 64 → AreRanged (var_scope k).visible names → RangedStanding (var_scope k).visible (course (var_scope k) l count i m names)
+pub kernel_ranged : (R : ℕ → ℕ) (k : Program) (fit : KernelFits R k) (l : PlainLoop) (count i : ℕ) (m : Memory) (names : Names) → k.turns ≡ Some l → i + count ≤ 2 ^ 64 → AreRanged (var_scope k).visible names → RangedStanding (var_scope k).visible (course (var_scope k) l count i m names)
 kernel_ranged R k fit l count i m names e small h = course_ranged (layout_of_kernel R k) (kernel_homes R k) (var_scope k) l (loop_start k) count i m names (fit.looped l e).body small h

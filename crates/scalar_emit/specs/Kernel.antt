@@ -4,7 +4,7 @@ use Rattle.std.specs.Prelude.{ℕ, true, suc, ◌+◌, List, [], ◌∷◌, ◌+
 use Rattle.kernel_tree.specs.declared.ast.Shape.{Shape}
 use Rattle.kernel_tree.specs.declared.ast.Shape.TheVariants as shape
 use Rattle.kernel_tree.specs.declared.fault.Binding.TheVariants as binding
-use Rattle.kernel_tree.specs.Plain.{Parameter, Accumulator, Turns, Returned, Program}
+use Rattle.kernel_tree.specs.Plain.{Parameter, Accumulator, PlainLoop, Returned, Program}
 use Rattle.kernel_tree.specs.Items.{term_size, loop_index}
 use Rattle.kernel_tree.specs.Typing.{Scope, declared, param_scope, var_scope}
 use Rattle.reg_assign.specs.declared.interval.RegClass.TheVariants.{X}
@@ -135,11 +135,11 @@ straight_code L hs s n b answer rest = Place n ∷ answer_code L hs s b (n + 1) 
 
 -- A loop whose items begin at b, and an answer whose items begin at b2. Label n stands at the head of the loop, and without
 -- a loop before the answer.
-abbrev pub turns_code : Layout → Homes → Scope → Option Turns → (b n b2 : ℕ) → Option Returned → List Line → List Line
+abbrev pub turns_code : Layout → Homes → Scope → Option PlainLoop → (b n b2 : ℕ) → Option Returned → List Line → List Line
 turns_code L hs s (Some l) b n b2 answer rest = loop_code L hs s l b n b2 answer rest
 turns_code L hs s None b n b2 answer rest = straight_code L hs s n b2 answer rest
 
-abbrev pub turns_labels : Option (List ℕ) → Option Turns → Option Returned → ℕ
+abbrev pub turns_labels : Option (List ℕ) → Option PlainLoop → Option Returned → ℕ
 turns_labels i (Some l) answer = loop_labels i l answer
 turns_labels i None answer = 1 + answer_labels i answer
 

@@ -3,7 +3,7 @@ use Rattle.std.specs.Prelude.{◌≡◌, ◌≢◌, ℕ, ◌+◌, ◌<◌, ◌�
 use Rattle.kernel_tree.specs.declared.ops.Ty.TheVariants.{U64}
 use Rattle.kernel_tree.specs.declared.ast.Shape.TheVariants.{Scalar}
 use Rattle.kernel_tree.specs.declared.fault.Binding.TheVariants as binding
-use Rattle.kernel_tree.specs.Plain.{Accumulator, Turns, Program}
+use Rattle.kernel_tree.specs.Plain.{Accumulator, PlainLoop, Program}
 use Rattle.kernel_tree.specs.Items.{term_size}
 use Rattle.kernel_tree.specs.Typing.{Scope, declared, param_scope, var_scope}
 use Rattle.reg_assign.specs.declared.interval.RegClass.TheVariants.{X}
@@ -49,11 +49,11 @@ VarsAreSafe R k = AreSafeVars (layout_of_kernel R k) R (param_homes 0 k.params) 
 
 -- ---- the loop, and the returned expression
 
-abbrev pub LoopFits : (ℕ → ℕ) → Program → Turns → Type 0
+abbrev pub LoopFits : (ℕ → ℕ) → Program → PlainLoop → Type 0
 LoopFits R k l = FitsLoop (layout_of_kernel R k) (kernel_homes R k) (var_scope k) l (loop_start k) (loop_end k) k.answer
 
 -- the register of the loop's bound is that of the parameter with its name, which is of type u64
-abbrev pub IsBound : (ℕ → ℕ) → Program → Turns → Type 0
+abbrev pub IsBound : (ℕ → ℕ) → Program → PlainLoop → Type 0
 IsBound R k l = slice_get k.params (register_at (kernel_homes R k) l.bound) ≡ Some (record { name = l.bound; shape = Scalar U64 })
 
 -- the returned expression of a kernel without a loop
@@ -69,6 +69,6 @@ pub record KernelFits (R : ℕ → ℕ) (k : Program) : Type 0 where
   -- the parameters and accumulators: held throughout, and left alone by every item
   pub steady : AreSteady (kernel_homes R k)
   pub safe : (b : ℕ) → AreSafe (layout_of_kernel R k) b (kernel_homes R k)
-  pub looped : (l : Turns) → k.turns ≡ Some l → LoopFits R k l
-  pub bound : (l : Turns) → k.turns ≡ Some l → IsBound R k l
+  pub looped : (l : PlainLoop) → k.turns ≡ Some l → LoopFits R k l
+  pub bound : (l : PlainLoop) → k.turns ≡ Some l → IsBound R k l
   pub straight : k.turns ≡ None → AnswerFits R k

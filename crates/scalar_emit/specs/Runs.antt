@@ -6,14 +6,14 @@ use Rattle.machine_model.specs.declared.outcome.StopKind.{StopKind}
 use Rattle.machine_model.specs.declared.outcome.StopKind.TheVariants.{Read, Write}
 use Rattle.machine_model.specs.Machine.{State, x_at}
 use Rattle.kernel_tree.specs.declared.ops.Ty.{Ty}
-use Rattle.kernel_tree.specs.Plain.{Turns, Returned, Program}
+use Rattle.kernel_tree.specs.Plain.{PlainLoop, Returned, Program}
 use Rattle.kernel_tree.specs.Items.{size_of}
 use Rattle.kernel_tree.specs.Typing.{Scope, Local, value_type, var_scope}
 use Rattle.kernel_meaning.specs.Operators.{word}
 use Rattle.kernel_meaning.specs.TypeValues.{IsOf}
 use Rattle.kernel_meaning.specs.Eval.{Names}
 use Rattle.kernel_meaning.specs.ScalarRun.{Run, End, Fault, bound_of, course, returned, ended, finish, started}
-use Rattle.label_fix.specs.DraftRun.{Entry, Laid, behind}
+use Rattle.label_fix.specs.DraftRun.{Entry, Laid, following}
 use Rattle.label_fix.specs.Stretches.{Resolves, Goes, Stops, Ends}
 use Rattle.scalar_emit.specs.Layout.{Homes}
 use Rattle.scalar_emit.specs.Kernel.{kernel_homes, begin_code, scalar_code}
@@ -98,7 +98,7 @@ pub data Comes (D : Laid) (c : List Entry) (s : State) (K F i : ℕ) : Run → T
   faults_so : {m : Memory} {bg : ℕ} (n : ℕ) (kind : StopKind) → bg ≡ i + n → IsAccess kind → Stops D c s kind m (K * n + F) → Comes D c s K F i (Fault m bg)
 
 -- what the scalar loop does from iteration i on, up to the end of the run
-abbrev pub turns_from : Scope → Option Turns → Option Returned → ℕ → Memory → Names → Run
+abbrev pub turns_from : Scope → Option PlainLoop → Option Returned → ℕ → Memory → Names → Run
 turns_from s None answer i m names = ended m 0 (returned s answer m names)
 turns_from s (Some l) answer i m names = finish s l answer (bound_of l names) (course s l (bound_of l names - i) i m names)
 
@@ -106,7 +106,7 @@ abbrev pub run_from : Program → ℕ → Memory → Names → Run
 run_from k i m names = turns_from (var_scope k) k.turns k.answer i m names
 
 -- no more iterations than the loop has are completed; without a loop there are none
-abbrev pub IsWithin : Option Turns → ℕ → Names → Type 0
+abbrev pub IsWithin : Option PlainLoop → ℕ → Names → Type 0
 IsWithin None i names = i ≡ 0
 IsWithin (Some l) i names = i ≤ bound_of l names
 
@@ -115,4 +115,4 @@ pub record ScalarRuns (R : ℕ → ℕ) (k : Program) : Type 0 where
   pub reached : (D : Laid) (n : ℕ) (rest : List Entry) (i : ℕ) (names : Names) (m : Memory) (s : State) → Resolves D (scalar_code R k n rest) → IsWithin k.turns i names → AtIteration R k i names m s
       → Comes D (scalar_code R k n rest) s (32 + 8 * size_of k) (32 + 8 * size_of k) i (run_from k i m names)
   pub entered : (D : Laid) (n : ℕ) (rest : List Entry) (i : ℕ) (names : Names) (m : Memory) (s : State) → Resolves D (scalar_code R k n rest) → IsWithin k.turns i names → AtIteration R k i names m s
-      → Comes D (behind D n) s (32 + 8 * size_of k) (32 + 8 * size_of k) i (run_from k i m names)
+      → Comes D (following D n) s (32 + 8 * size_of k) (32 + 8 * size_of k) i (run_from k i m names)

@@ -459,7 +459,7 @@ fn emit_turns(
 }
 
 // The returned value of a kernel after its loop.
-fn emit_behind(
+fn emit_following(
     alloc: Global,
     draft: &mut Draft,
     places: &Places,
@@ -559,7 +559,7 @@ pub fn emit_scalar(
         }
         Some(turns) => {
             let at_iteration = emit_turns(alloc, draft, &places, regs, tree, turns, &mut item)?;
-            emit_behind(alloc, draft, &places, regs, tree, turns, item)?;
+            emit_following(alloc, draft, &places, regs, tree, turns, item)?;
             Ok(ScalarEntry { at_iteration })
         }
     }

@@ -127,7 +127,7 @@ kept_by v breaks last more start d none h =
     let all : last ++ more ≡ keep_last 64 d.places = ap (λ m. last ++ m) none ∙ append-nil last ∙ h.last in
     subst (λ l. Stands (held_by v breaks l) start d) (sym (ap (keep_last 64) all ∙ ap (λ n. drop n (keep_last 64 d.places)) few ∙ sym h.last)) h
 
--- a step more, whose place is told behind the others
+-- a step more, whose place is told following the others
 pub told : (v w : View) (breaks last recent : List ℕ) (start : State) (k pc : ℕ) → pc ≡ v.state.pc → k < length recent → ((last : List ℕ) (e : Session) → Stands (held_by v breaks last) start e → Stands (held_by w breaks (keep_last 64 (last ++ v.state.pc ∷ []))) start (stepped e)) → Steps v w breaks (keep_last 64 (last ++ take k recent)) (keep_last 64 (last ++ take (k + 1) (set recent k pc))) start
 told v w breaks last recent start k pc is inside next e h =
     let places : keep_last 64 (keep_last 64 (last ++ take k recent) ++ v.state.pc ∷ []) ≡ keep_last 64 (last ++ take (k + 1) (set recent k pc)) =

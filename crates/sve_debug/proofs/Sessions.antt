@@ -185,7 +185,7 @@ pub record Turn (held held' : Held) (start : State) (line : List ℕ) (byte : �
   pub told : (e : Session) → Stands held start e → Tells mid new (turn_text line byte e) result
 
 pub under_next : (held held' : Held) (start : State) (d : Session) (whole line line' : List ℕ) (most k byte : ℕ) (on : Bool) (input input' old mid new : Option (List ℕ)) → k + 1 ≤ most → IsPending line → IfSome input (λ bytes. Some byte ≡ slice_get bytes 0) → IfSome input (λ bytes. input' ≡ Some (drop 1 bytes)) → line' ≡ pending line byte → on ≡ true → on ≡ not (ends line byte) → Turn held held' start line byte mid new (Ok on) → Under held start d whole line (most - k) input old mid → Under held' start d whole line' (most - (k + 1)) input' old new
-under_next held held' start d whole line line' most k byte on input input' old mid new inside pends next left behind is e t u =
+under_next held held' start d whole line line' most k byte on input input' old mid new inside pends next left following is e t u =
     let here : Some byte ≡ slice_get u.left 0 = subst (λ i. IfSome i (λ bytes. Some byte ≡ slice_get bytes 0)) u.input_is next in
     let rest : input' ≡ Some (drop 1 u.left) = subst (λ i. IfSome i (λ bytes. input' ≡ Some (drop 1 bytes))) u.input_is left in
     let after = take (most - (k + 1)) (drop 1 u.left) in
@@ -201,7 +201,7 @@ under_next held held' start d whole line line' most k byte on input input' old m
           ∙ ap (λ l. u.text ++ replies u.session (lines_of (line ++ l))) (one_left u.left most k byte inside here)
           ∙ ap (λ r. u.text ++ r) (on_by (is_byte 10 byte) line after byte u.session refl pends (goes on (ends line byte) is e))
           ∙ sym (append_assoc u.text said (replies (turned line byte u.session) (lines_of (pending line byte ++ after))))
-          ∙ ap (λ l. (u.text ++ said) ++ replies (turned line byte u.session) (lines_of (l ++ after))) (sym behind);
+          ∙ ap (λ l. (u.text ++ said) ++ replies (turned line byte u.session) (lines_of (l ++ after))) (sym following);
       put = joined old mid new u.text said u.put (all_put mid new said on (t.told u.session u.stands));
     }
 

@@ -28,7 +28,7 @@ use Rattle.machine_model.specs.Machine.{State, Went, next, with_x, with_p, with_
 use Rattle.machine_model.specs.VectorEffects.{do_vector}
 use Rattle.machine_model.specs.States.{IsPredicate}
 use Rattle.machine_model.proofs.States.{truths_made, fills}
-use Rattle.machine_model.proofs.Whole.{logic_whole, brk_whole, pred_test-ext}
+use Rattle.machine_model.proofs.StateShapes.{logic_whole, brk_whole, pred_test-ext}
 use Rattle.a64_machine.specs.Cores.{VectorState, state_of, flags_in}
 use Rattle.a64_machine.specs.declared.core_state.Core.{Core}
 use Rattle.sve_machine.specs.Rests.{z_of, p_of, put_p, put_ffr}

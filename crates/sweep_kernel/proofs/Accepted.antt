@@ -17,8 +17,8 @@ use Rattle.sweep_kernel.proofs.Checks.{checked_with, enough_with}
 digits_few : (n : ℕ) → n < 2 ^ 64 → length (decimal n) ≤ 20
 digits_few n h = length-decimal-le 20 n (omega arith) (omega arith) h
 
-behind : (part digits rest : List ℕ) (p d r : ℕ) → length part ≤ p → length digits ≤ d → length rest ≤ r → length (part ++ (digits ++ rest)) ≤ p + d + r
-behind part digits rest p d r hp hd hr = omega (arith, length-append part (digits ++ rest), length-append digits rest)
+following : (part digits rest : List ℕ) (p d r : ℕ) → length part ≤ p → length digits ≤ d → length rest ≤ r → length (part ++ (digits ++ rest)) ≤ p + d + r
+following part digits rest p d r hp hd hr = omega (arith, length-append part (digits ++ rest), length-append digits rest)
 
 abbrev third_rest : ℕ → List ℕ
 third_rest level = third_part ++ (decimal level ++ last_part)
@@ -30,9 +30,9 @@ second_rest offset level = second_part ++ (decimal offset ++ third_rest level)
 short_with : (initial offset level : ℕ) → initial < 2 ^ 64 → offset < 2 ^ 64 → level < 2 ^ 64 → length (text_with initial offset level) ≤ 65536
 unfolding text_with
 short_with initial offset level hi ho hl =
-    let third = behind third_part (decimal level) last_part 17 20 86 (omega arith) (digits_few level hl) (omega arith) in
-    let second = behind second_part (decimal offset) (third_rest level) 50 20 123 (omega arith) (digits_few offset ho) third in
-    let first = behind first_part (decimal initial) (second_rest offset level) 96 20 193 (omega arith) (digits_few initial hi) second in
+    let third = following third_part (decimal level) last_part 17 20 86 (omega arith) (digits_few level hl) (omega arith) in
+    let second = following second_part (decimal offset) (third_rest level) 50 20 123 (omega arith) (digits_few offset ho) third in
+    let first = following first_part (decimal initial) (second_rest offset level) 96 20 193 (omega arith) (digits_few initial hi) second in
     omega (arith, first)
 
 sound_with : (initial offset level : ℕ) → initial < 2 ^ 31 → offset ≤ 1024 → level < 2 ^ 31 → IsVerdict (text_with initial offset level) (Sound (kernel_with initial offset level))

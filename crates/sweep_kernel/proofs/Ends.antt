@@ -5,9 +5,10 @@ use Rattle.std.proofs.lemmas.Nat.{mod_below}
 use Rattle.kernel_tree.specs.declared.ops.Ty.TheVariants as ty
 use Rattle.kernel_tree.specs.Wrap.{wrap}
 use Rattle.guest_types.specs.Memory.{Memory, DoNotMeet, merged}
+use Rattle.kernel_meaning.specs.Ends.{BlockEnd, LoopState, Going, go_on}
 use Rattle.kernel_meaning.specs.Eval.{Names}
-use Rattle.kernel_meaning.specs.Iterate.{Turn, iterate}
-use Rattle.kernel_meaning.specs.ScalarRun.{Standing, Going, Run, End, go_on, course, finish, started, run_named, scalar_run}
+use Rattle.kernel_meaning.specs.Iterate.{iterate}
+use Rattle.kernel_meaning.specs.ScalarRun.{Run, End, course, finish, started, run_named, scalar_run}
 use Rattle.sweep_kernel.specs.Numbers.{random, initial_of, offset_of, level_of, factor_of, count_of}
 use Rattle.sweep_kernel.specs.Tree.{kernel_with}
 use Rattle.sweep_kernel.specs.Pages.{pages_of}
@@ -17,7 +18,7 @@ use Rattle.sweep_kernel.proofs.Turn.{names_with, loop_with}
 use Rattle.sweep_kernel.proofs.Iteration.{scope_with, goes_on}
 
 -- a loop that comes through with other accumulators
-record Through (factor count : ℤ) (standing : Standing) : Type 0 where
+record Through (factor count : ℤ) (standing : LoopState Names) : Type 0 where
   memory : Memory
   sum : ℤ
   greatest : ℤ
@@ -42,7 +43,7 @@ through initial offset level (suc turns) x memory factor count sum greatest h o 
       sum = c.sum;
       greatest = c.greatest;
       is = course_suc initial offset level turns x memory (names_with factor count sum greatest)
-          ∙ ap (λ (r : Turn). go_on r x (course (scope_with initial offset level) (loop_with offset level) turns (x + 1))) g.is
+          ∙ ap (λ (r : BlockEnd Names). go_on r x (course (scope_with initial offset level) (loop_with offset level) turns (x + 1))) g.is
           ∙ c.is;
     }
 

@@ -2,12 +2,13 @@
 use Rattle.std.proofs.Common.{◌≡◌, ℕ, ◌+◌, ◌*◌, ◌%◌, ◌<◌, ◌^◌, [], ◌∷◌, Some, Ok, ap, ◌∙◌, arith}
 use Rattle.std.specs.Prelude.{ℤ, pos, ◌+ℤ◌}
 use Rattle.kernel_tree.specs.declared.ops.Ty.TheVariants as ty
-use Rattle.kernel_tree.specs.Plain.{Turns}
+use Rattle.kernel_tree.specs.Plain.{PlainLoop}
 use Rattle.kernel_tree.specs.Wrap.{wrap}
 use Rattle.guest_types.specs.Memory.{Memory, can_write, stored, number_at, put_number}
 use Rattle.guest_types.proofs.Stores.{read_where_written, loaded-done, stored-done, can_write-stored}
+use Rattle.kernel_meaning.specs.Ends.{BlockEnd, Next}
 use Rattle.kernel_meaning.specs.Eval.{Names, read_value, read_element}
-use Rattle.kernel_meaning.specs.Iterate.{Turn, Next, named}
+use Rattle.kernel_meaning.specs.Iterate.{named}
 use Rattle.sweep_kernel.specs.Tree.{a, b, y, k, n, s, m, i, body_with}
 use Rattle.sweep_kernel.proofs.Arrays.{HasArrays, no_fault}
 
@@ -16,11 +17,11 @@ abbrev pub names_with : (factor count sum greatest : ℤ) → Names
 names_with factor count sum greatest =
     named a (pos 0x1000000) ∷ named b (pos 0x2000000) ∷ named y (pos 0x3000000) ∷ named k factor ∷ named n count ∷ named s sum ∷ named m greatest ∷ []
 
-abbrev pub loop_with : (offset level : ℕ) → Turns
+abbrev pub loop_with : (offset level : ℕ) → PlainLoop
 loop_with offset level = record { index = i; bound = n; body = body_with offset level }
 
 -- an iteration goes on with mapped arrays and other accumulators
-pub record GoesOn (factor count : ℤ) (turn : Turn) : Type 0 where
+pub record GoesOn (factor count : ℤ) (turn : BlockEnd Names) : Type 0 where
   pub memory : Memory
   pub sum : ℤ
   pub greatest : ℤ

@@ -3,7 +3,7 @@ use Rattle.std.proofs.Common.{◌≡◌, ℕ, ◌+◌, false, List, [], ◌∷�
 use Rattle.std.specs.Prelude.{option_map}
 use Rattle.guest_types.specs.Memory.{Memory}
 use Rattle.kernel_tree.specs.declared.fault.Binding.TheVariants as binding
-use Rattle.kernel_tree.specs.Plain.{Parameter, Accumulator, Turns, Returned, Program}
+use Rattle.kernel_tree.specs.Plain.{Parameter, Accumulator, PlainLoop, Returned, Program}
 use Rattle.kernel_tree.specs.Items.{loop_index, turns_size, vars_size}
 use Rattle.kernel_tree.specs.Typing.{Scope, declared, binding_of_shape, empty, after_params, after_vars, after_turns, param_scope, var_scope, params_faults, vars_faults, turns_faults, answer_faults, check_fault}
 use Rattle.kernel_meaning.specs.Operators.{word}
@@ -11,7 +11,7 @@ use Rattle.kernel_meaning.specs.Eval.{Names}
 use Rattle.kernel_meaning.specs.ScalarRun.{returned}
 use Rattle.scalar_emit.proofs.Initial.{IsThere, value_there}
 use Rattle.chunk_order.proofs.Blocks.{nil-right}
-use Rattle.chunk_order.proofs.Whole.{faultless}
+use Rattle.chunk_order.proofs.OrderLaw.{faultless}
 use Rattle.vector_emit.proofs.Courses.{Answers}
 
 outside_params : (s : Scope) (ps : List Parameter) → (after_params s ps).inside ≡ s.inside
@@ -26,7 +26,7 @@ returned_there : (s : Scope) (from : ℕ) (answer : Option Returned) (m : Memory
 returned_there s from None m ns out none = (0, refl)
 returned_there s from (Some a) m ns out none = let h = value_there a.value s from (Some a.type) m ns out none in (word h.0, ap (option_map word) h.1)
 
-pub answered : (k : Program) (l : Turns) → check_fault k ≡ None → k.turns ≡ Some l → Answers (var_scope k) l k.answer
+pub answered : (k : Program) (l : PlainLoop) → check_fault k ≡ None → k.turns ≡ Some l → Answers (var_scope k) l k.answer
 answered k l checked is m ns =
     let vars = length k.params in
     let turns = vars + vars_size (loop_index k) k.vars in

@@ -5,7 +5,7 @@ use Rattle.std.specs.List.{list_any}
 use Rattle.kernel_tree.specs.declared.ops.Ty.TheVariants.{U64}
 use Rattle.kernel_tree.specs.declared.ast.Shape.TheVariants.{Scalar}
 use Rattle.kernel_tree.specs.declared.fault.Binding.TheVariants as binding
-use Rattle.kernel_tree.specs.Plain.{Parameter, Accumulator, Turns, Program}
+use Rattle.kernel_tree.specs.Plain.{Parameter, Accumulator, PlainLoop, Program}
 use Rattle.kernel_tree.specs.Items.{loop_index, term_size}
 use Rattle.kernel_tree.specs.Typing.{Scope, Value, faults, twice, declared, vars_faults, params_faults, empty, param_scope, check_fault}
 use Rattle.kernel_meaning.specs.Operators.{word}
@@ -13,7 +13,7 @@ use Rattle.kernel_meaning.specs.Eval.{Names, is_named, value_of, value_at}
 use Rattle.kernel_meaning.specs.ScalarRun.{bound_of}
 use Rattle.chunk_order.proofs.Blocks.{nil-left, nil-right}
 use Rattle.chunk_order.proofs.Sites.{locals_of, bytes_told, bytes_swap, untaken_before, params_untaken, untaken_by_twice, NoName, Untaken}
-use Rattle.chunk_order.proofs.Whole.{faultless}
+use Rattle.chunk_order.proofs.OrderLaw.{faultless}
 use Rattle.vector_order.specs.Order.{is_var, is_accumulator, Steady}
 
 -- ---- a parameter is no accumulator
@@ -50,5 +50,5 @@ value_steady k x (m ∷ ms) (n ∷ ns) no' h =
     by_name true e more = h.1 (ap (is_accumulator k) (bytes_told m.name x e) ∙ no')
     by_name false e more = more
 
-pub bound_steady : (k : Program) (l : Turns) (r : ℕ) (ms ns : Names) → check_fault k ≡ None → slice_get k.params r ≡ Some (record { name = l.bound; shape = Scalar U64 }) → Steady k ms ns → bound_of l ns ≡ bound_of l ms
+pub bound_steady : (k : Program) (l : PlainLoop) (r : ℕ) (ms ns : Names) → check_fault k ≡ None → slice_get k.params r ≡ Some (record { name = l.bound; shape = Scalar U64 }) → Steady k ms ns → bound_of l ns ≡ bound_of l ms
 bound_steady k l r ms ns checked at h = ap word (value_steady k l.bound ms ns (not_accumulator k r _ checked at) h)

@@ -8,10 +8,11 @@ use Rattle.guest_types.specs.Memory.{Memory}
 use Rattle.a64_code.specs.Table.{subs}
 use Rattle.machine_model.specs.Machine.{State}
 use Rattle.kernel_tree.specs.Typing.{var_scope}
+use Rattle.kernel_meaning.specs.Ends.{Going}
 use Rattle.kernel_meaning.specs.Eval.{Names}
 use Rattle.kernel_meaning.specs.Iterate.{iterate}
-use Rattle.kernel_meaning.specs.ScalarRun.{Going, course}
-use Rattle.label_fix.specs.DraftRun.{If, Entry, Put, Branch, Place, Laid, behind}
+use Rattle.kernel_meaning.specs.ScalarRun.{course}
+use Rattle.label_fix.specs.DraftRun.{If, Entry, Put, Branch, Place, Laid, following}
 use Rattle.label_fix.specs.Stretches.{Resolves}
 use Rattle.label_fix.proofs.Steps.{Goes, chain, pass}
 use Rattle.dependence.specs.Apart.{bound_place}
@@ -19,7 +20,7 @@ use Rattle.scalar_emit.specs.Words.{ins}
 use Rattle.chunk_emit.specs.ChunkCode.{puts}
 use Rattle.chunk_emit.specs.Head.{Ground, IsGround, AtHead, Turned, layout, width, most_lanes, limit}
 use Rattle.first_fault.specs.Split.{is_quit}
-use Rattle.first_fault.proofs.Stretches.{stop_behind}
+use Rattle.first_fault.proofs.Stretches.{stop_following}
 use Rattle.chunk_loop.specs.Halts.{Breaks}
 use Rattle.chunk_loop.specs.Chunks.{items_of}
 use Rattle.chunk_loop.specs.PassCode.{chunk_words, turn_words}
@@ -29,10 +30,10 @@ use Rattle.vector_emit.specs.VectorCode.{any_lane, breaking_code}
 use Rattle.vector_emit.specs.VectorRuns.{turn_steps}
 use Rattle.vector_emit.proofs.Courses.{none_gone, none_done}
 use Rattle.vector_emit.proofs.Rounds.{Passing, Pays, pays_lanes, pays_cut, pays_last, pays_one, Stuck, leaves_here, stops_here, passes_on}
-use Rattle.vector_emit.proofs.LoopOf.{HeadOf, loop_of, stop_of, has_lanes, head_at, same_place, Longer, behind_leads, behind_goes}
+use Rattle.vector_emit.proofs.LoopOf.{HeadOf, loop_of, stop_of, has_lanes, head_at, same_place, Longer, following_leads, following_goes}
 use Rattle.vector_emit.proofs.PassSizes.{chunk_fits, turn_fits}
 use Rattle.vector_emit.proofs.Tests.{Tests, turned_kept, lanes_back, lanes_none, bound_reached, bound_ahead}
-use Rattle.vector_emit.proofs.Labels.{behind_puts}
+use Rattle.vector_emit.proofs.Labels.{following_puts}
 
 module _ (g : Ground) (ground : IsGround g) (quits : list_any is_quit (items_of g) ≡ true) (d : Laid) (n : ℕ) (rest : List Entry) where
   abbrev tail : List Entry
@@ -59,7 +60,7 @@ module _ (g : Ground) (ground : IsGround g) (quits : list_any is_quit (items_of 
   abbrev turn_most : ℕ
   turn_most = length (turn_words (width g) (layout g) (items_of g))
 
-  module _ (back : behind d n ≡ head) (out : behind d (suc n) ≡ rest) where
+  module _ (back : following d n ≡ head) (out : following d (suc n) ≡ rest) where
     abbrev Runs : ℕ → Names → Memory → State → Type 0
     Runs i cur m s = Passing (loop_of g d rest) head s i cur m
 
@@ -88,13 +89,13 @@ module _ (g : Ground) (ground : IsGround g) (quits : list_any is_quit (items_of 
       by_turn {cut = cut} lt lead reason (stops k j left faulted kind le fails lo hi access kept stop) =
           let c = chunk_fits g ground in
           let t = turn_fits g ground in
-          stops_here (loop_of g d rest) (has_lanes g ground) k j faulted (stop_behind (chunk_most + 4 + turn_most) (omega arith) lead.leads stop) (omega (arith, c, t)) (omega (arith, lt, le)) lo hi fails
+          stops_here (loop_of g d rest) (has_lanes g ground) k j faulted (stop_following (chunk_most + 4 + turn_most) (omega arith) lead.leads stop) (omega (arith, c, t)) (omega (arith, lt, le)) lo hi fails
           (stop_of g i k j left faulted kind (let l = has_lanes g ground in omega (arith, le, l)) (omega (arith, lt, le)) lo hi access kept)
       by_turn {cut = cut} lt lead reason (comes k now names sum end le goes turn why h top turned) =
           ⊎_elim (λ none. broke (lanes_none d end k n tail h top none) none) (λ some. goes_on (lanes_back d end k n tail h top (omega (arith, some))) (omega (arith, some, le))) (cases_eq k 0)
         where
           both : Longer d head s after_turn end (chunk_most + 4 + turn_most) cut
-          both = behind_leads (chunk_most + 4 + turn_most) (omega arith) lead turn
+          both = following_leads (chunk_most + 4 + turn_most) (omega arith) lead turn
 
           fits : chunk_most + 4 + (turn_most + 4) ≤ turn_steps g * 2
           fits = let c = chunk_fits g ground in let t = turn_fits g ground in omega (arith, c, t)
@@ -103,7 +104,7 @@ module _ (g : Ground) (ground : IsGround g) (quits : list_any is_quit (items_of 
           broke x none =
               let same = none_done (var_scope g.kernel) g.turns i m cur now names (subst (λ k. course (var_scope g.kernel) g.turns k i m cur ≡ Going now names) none goes) in
               let place : i + k ≡ i = omega (arith, none) in
-              let all = behind_goes (chunk_most + 4 + turn_most + 2) (omega arith) both (chain 2 (omega arith) x.goes pass) in
+              let all = following_goes (chunk_most + 4 + turn_most + 2) (omega arith) both (chain 2 (omega arith) x.goes pass) in
               leaves_here (loop_of g d rest) (has_lanes g ground) all.leads (omega (arith, fits)) (omega (arith, lt)) (inr (same_place (λ i m ns. Breaks (iterate (var_scope g.kernel) g.turns i m ns)) place same.0 same.1 (why (omega (arith, none)))))
               (same_place (λ i m ns. HeadOf g i ns m x.end) place same.0 same.1 (record { sum = sum; head = x.head }))
 
@@ -112,9 +113,9 @@ module _ (g : Ground) (ground : IsGround g) (quits : list_any is_quit (items_of 
           cut_some (faults h) one = let z = none_gone (var_scope g.kernel) g.turns k i m cur now names (inr h) goes in absurd (omega (arith, z, one))
           cut_some (suppressed some) one = let more = both.more in omega (arith, some, more)
 
-          goes_on : Tests g (i + k) names now sum d after_turn end (behind d n) 2 → k ≡ 1 → Runs i cur m s
+          goes_on : Tests g (i + k) names now sum d after_turn end (following d n) 2 → k ≡ 1 → Runs i cur m s
           goes_on x one =
-              let all = behind_goes (chunk_most + 4 + turn_most + 2) (omega arith) (record { leads = both.leads; more = cut_some reason one }) (subst (λ es. Goes d after_turn end es x.end 2) back x.goes) in
+              let all = following_goes (chunk_most + 4 + turn_most + 2) (omega arith) (record { leads = both.leads; more = cut_some reason one }) (subst (λ es. Goes d after_turn end es x.end 2) back x.goes) in
               let place : i + k ≡ i + 1 = omega (arith, one) in
               passes_on (loop_of g d rest) (has_lanes g ground) 2 k all.leads (omega (arith, fits)) (omega arith) goes (pays_one all.more one)
               (subst (λ j. Runs j names now x.end) (sym place) (ih sum names now x.end (head_at place x.head)))
@@ -125,7 +126,7 @@ module _ (g : Ground) (ground : IsGround g) (quits : list_any is_quit (items_of 
           reached : limit g ≤ i → Runs i cur m s
           reached le =
               let x = bound_reached d t (suc n) alone ground h le in
-              let all = behind_goes (chunk_most + 4) (omega arith) lead (subst (λ es. Goes d dry t es x.end 2) out x.goes) in
+              let all = following_goes (chunk_most + 4) (omega arith) lead (subst (λ es. Goes d dry t es x.end 2) out x.goes) in
               let c = chunk_fits g ground in
               let within = h.between.within in
               leaves_here (loop_of g d rest) (has_lanes g ground) all.leads (omega (arith, c)) within (inl (omega (arith, le, within))) (record { sum = sum; head = x.head })
@@ -133,7 +134,7 @@ module _ (g : Ground) (ground : IsGround g) (quits : list_any is_quit (items_of 
           ahead : i < limit g → Runs i cur m s
           ahead lt =
               let x = bound_ahead d t (suc n) alone ground h lt in
-              by_turn lt (behind_goes (chunk_most + 4) (omega arith) lead x.goes) (why lt) (turn_law g d after_turn i cur m sum x.end ground quits x.head (turned_kept g i t x.end x.z turned) lt)
+              by_turn lt (following_goes (chunk_most + 4) (omega arith) lead x.goes) (why lt) (turn_law g d after_turn i cur m sum x.end ground quits x.head (turned_kept g i t x.end x.z turned) lt)
 
     -- ---- the loop
 
@@ -153,9 +154,9 @@ module _ (g : Ground) (ground : IsGround g) (quits : list_any is_quit (items_of 
         fits : chunk_most + 4 ≤ turn_steps g
         fits = chunk_fits g ground
 
-        goes_on : Tests g (i + k) names now sum d after_chunk end (behind d n) 2 → 0 < k → Runs i cur m s
+        goes_on : Tests g (i + k) names now sum d after_chunk end (following d n) 2 → 0 < k → Runs i cur m s
         goes_on x some =
-            let all = behind_goes (chunk_most + 2) (omega arith) first (subst (λ es. Goes d after_chunk end es x.end 2) back x.goes) in
+            let all = following_goes (chunk_most + 2) (omega arith) first (subst (λ es. Goes d after_chunk end es x.end 2) back x.goes) in
             passes_on (loop_of g d rest) (has_lanes g ground) 1 k all.leads (omega (arith, fits)) (omega arith) goes (chunk_pays i k lead.cut all.leads.cut now names some le within all.more why)
             (ih (i + k) names now sum x.end (omega (arith, less, some)) x.head)
 
@@ -163,7 +164,7 @@ module _ (g : Ground) (ground : IsGround g) (quits : list_any is_quit (items_of 
         dried x none =
             let same = none_done (var_scope g.kernel) g.turns i m cur now names (subst (λ k. course (var_scope g.kernel) g.turns k i m cur ≡ Going now names) none goes) in
             let place : i + k ≡ i = omega (arith, none) in
-            after_dry i cur m s (λ sum names now t h. ih (i + 1) names now sum t (omega (arith, less)) h) (behind_goes (chunk_most + 2) (omega arith) first x.goes)
+            after_dry i cur m s (λ sum names now t h. ih (i + 1) names now sum t (omega (arith, less)) h) (following_goes (chunk_most + 2) (omega arith) first x.goes)
             (same_place (λ i m ns. AtHead g i ns m sum x.end) place same.0 same.1 x.head) (turned_kept g i end x.end x.z turned)
             (λ lt. same_place (λ i m ns. LeftOut (iterate (var_scope g.kernel) g.turns i m ns) lead.cut) place same.0 same.1 (why (let l = has_lanes g ground in omega (arith, none, lt, l))))
 
@@ -173,6 +174,6 @@ module _ (g : Ground) (ground : IsGround g) (quits : list_any is_quit (items_of 
 
   pub breaking_runs : {sum : List ℕ → ℕ → ℤ} {cur : Names} {m : Memory} {s : State} → Resolves d (breaking_code g.kernel g.vectors g.predicates (items_of g) n rest) → AtHead g 0 cur m sum s → Passing (loop_of g d rest) head s 0 cur m
   breaking_runs {sum = sum} {cur = cur} {m = m} {s = s} res h =
-      let again = behind_puts d (chunk_words (width g) (layout g) (bound_place g.kernel) (items_of g)) after_chunk res.1 in
-      let done = behind_puts d (turn_words (width g) (layout g) (items_of g)) after_turn again in
+      let again = following_puts d (chunk_words (width g) (layout g) (bound_place g.kernel) (items_of g)) after_chunk res.1 in
+      let done = following_puts d (turn_words (width g) (layout g) (items_of g)) after_turn again in
       follows res.0 done.0 (suc (limit g)) 0 cur m sum s (omega arith) h

@@ -7,13 +7,13 @@ use Rattle.a64_code.specs.Table.{subs}
 use Rattle.machine_model.specs.InstructionTable.{Listed}
 use Rattle.kernel_tree.specs.declared.ops.Ty.{Ty}
 use Rattle.kernel_tree.specs.declared.ops.UpdateOp.{UpdateOp}
-use Rattle.kernel_tree.specs.Plain.{Turns, Program}
+use Rattle.kernel_tree.specs.Plain.{PlainLoop, Program}
 use Rattle.kernel_tree.specs.Items.{size_of}
 use Rattle.kernel_meaning.specs.Operators as meaning
 use Rattle.kernel_meaning.specs.Operators.{wrapped, operator_of}
 use Rattle.label_fix.specs.DraftRun.{Entry, Always, If, Put, Branch, Place}
 use Rattle.label_fix.specs.Finished.{size}
-use Rattle.label_fix.proofs.Same.{size-append}
+use Rattle.label_fix.proofs.PlacedRuns.{size-append}
 use Rattle.reg_assign.specs.declared.interval.RegClass.TheVariants.{Z}
 use Rattle.reg_assign.specs.Registers.{Assignment}
 use Rattle.loop_form.specs.Lanes.{lane_width_of}
@@ -99,7 +99,7 @@ passes_few false k a b items n rest =
 all_items : (k : Program) → length (loop_items_of k) ≤ size_of k
 all_items k = by_turns k.turns refl
   where
-    by_turns : (o : Option Turns) → k.turns ≡ o → length (turns_items k o) ≤ size_of k
+    by_turns : (o : Option PlainLoop) → k.turns ≡ o → length (turns_items k o) ≤ size_of k
     by_turns None e = omega arith
     by_turns (Some l) e = few_items k l e
 

@@ -18,20 +18,20 @@ use Rattle.reductions.specs.Joins.{identity}
 use Rattle.chunk_emit.specs.KernelLayout.{update_of}
 use Rattle.loop_edges.specs.EdgeCode.{type_of_var, hold_code, holds_code, start_code}
 
-pub behind_puts : (d : Laid) (is : List Listed) (rest : List Entry) → Resolves d (puts is rest) → Resolves d rest
-behind_puts d [] rest h = h
-behind_puts d (i ∷ is) rest h = behind_puts d is rest h
+pub following_puts : (d : Laid) (is : List Listed) (rest : List Entry) → Resolves d (puts is rest) → Resolves d rest
+following_puts d [] rest h = h
+following_puts d (i ∷ is) rest h = following_puts d is rest h
 
-behind_hold : (d : Laid) (k : Program) (z : ℕ) (t : Throughout) (rest : List Entry) → Resolves d (hold_code k z t rest) → Resolves d rest
-behind_hold d k z (Scalar x) rest h = h
-behind_hold d k z (Constant t n) rest h = behind_puts d (vectors (dup_code (lane_width_of k) z 26)) rest (const_back d 26 (meaning.word (wrapped t n)) (puts (vectors (dup_code (lane_width_of k) z 26)) rest) h)
-behind_hold d k z Index rest h = h
-behind_hold d k z (Accumulating x) rest h = behind_puts d (vectors (dup_code (lane_width_of k) z 26)) rest (const_back d 26 (meaning.word (identity (update_of k x) (type_of_var k x))) (puts (vectors (dup_code (lane_width_of k) z 26)) rest) h)
+following_hold : (d : Laid) (k : Program) (z : ℕ) (t : Throughout) (rest : List Entry) → Resolves d (hold_code k z t rest) → Resolves d rest
+following_hold d k z (Scalar x) rest h = h
+following_hold d k z (Constant t n) rest h = following_puts d (vectors (dup_code (lane_width_of k) z 26)) rest (const_back d 26 (meaning.word (wrapped t n)) (puts (vectors (dup_code (lane_width_of k) z 26)) rest) h)
+following_hold d k z Index rest h = h
+following_hold d k z (Accumulating x) rest h = following_puts d (vectors (dup_code (lane_width_of k) z 26)) rest (const_back d 26 (meaning.word (identity (update_of k x) (type_of_var k x))) (puts (vectors (dup_code (lane_width_of k) z 26)) rest) h)
 
-behind_holds : (d : Laid) (k : Program) (a : Assignment) (j : ℕ) (ts : List Throughout) (rest : List Entry) → Resolves d (holds_code k a j ts rest) → Resolves d rest
-behind_holds d k a j [] rest h = h
-behind_holds d k a j (t ∷ ts) rest h = behind_holds d k a (suc j) ts rest (behind_hold d k (slice_index a.registers j) t (holds_code k a (suc j) ts rest) h)
+following_holds : (d : Laid) (k : Program) (a : Assignment) (j : ℕ) (ts : List Throughout) (rest : List Entry) → Resolves d (holds_code k a j ts rest) → Resolves d rest
+following_holds d k a j [] rest h = h
+following_holds d k a j (t ∷ ts) rest h = following_holds d k a (suc j) ts rest (following_hold d k (slice_index a.registers j) t (holds_code k a (suc j) ts rest) h)
 
 -- no label is placed before the passes
-pub behind_start : (d : Laid) (k : Program) (a : Assignment) (rest : List Entry) → Resolves d (start_code k a rest) → Resolves d rest
-behind_start d k a rest h = behind_holds d k a 0 (throughout k Z) rest h
+pub following_start : (d : Laid) (k : Program) (a : Assignment) (rest : List Entry) → Resolves d (start_code k a rest) → Resolves d rest
+following_start d k a rest h = following_holds d k a 0 (throughout k Z) rest h

@@ -13,6 +13,6 @@ pub mod Straight
 pub mod Bounds
 pub mod Holds
 pub mod Answered
-pub mod Whole
+pub mod LoopRuns
 pub mod CodeSizes
 mod Unbroken

@@ -65,8 +65,8 @@ pub record Longer (d : Laid) (c : List Entry) (s : State) (e : List Entry) (t : 
   pub leads : Leads d c s e t most
   pub more : r ≤ leads.cut
 
-pub behind_leads : {d : Laid} {c e g : List Entry} {s t u : State} {m n r : ℕ} (most : ℕ) → m + n ≤ most → Longer d c s e t m r → Leads d e t g u n → Longer d c s g u most r
-behind_leads most le a b = record { leads = follow most le a.leads b; more = let c = follow-cut most le a.leads b in let k = a.more in omega (arith, c, k) }
+pub following_leads : {d : Laid} {c e g : List Entry} {s t u : State} {m n r : ℕ} (most : ℕ) → m + n ≤ most → Longer d c s e t m r → Leads d e t g u n → Longer d c s g u most r
+following_leads most le a b = record { leads = follow most le a.leads b; more = let c = follow-cut most le a.leads b in let k = a.more in omega (arith, c, k) }
 
-pub behind_goes : {d : Laid} {c e g : List Entry} {s t u : State} {m n r : ℕ} (most : ℕ) → m + n ≤ most → Longer d c s e t m r → Goes d e t g u n → Longer d c s g u most r
-behind_goes most le a b = behind_leads most le a (leads_of b)
+pub following_goes : {d : Laid} {c e g : List Entry} {s t u : State} {m n r : ℕ} (most : ℕ) → m + n ≤ most → Longer d c s e t m r → Goes d e t g u n → Longer d c s g u most r
+following_goes most le a b = following_leads most le a (leads_of b)

@@ -5,7 +5,7 @@ use Rattle.std.proofs.lemmas.Bool.{cases_lt}
 use Rattle.std.proofs.Math.Nat.{mul-le-mul_left}
 use Rattle.machine_model.specs.Machine.{State, Step, Went, Ended, Stopped, jump, next}
 use Rattle.machine_model.specs.OneStep.{cuts_in}
-use Rattle.label_fix.specs.DraftRun.{Entry, Put, Branch, Place, Laid, is_taken, effect, behind, address_of}
+use Rattle.label_fix.specs.DraftRun.{Entry, Put, Branch, Place, Laid, is_taken, effect, following, address_of}
 use Rattle.label_fix.specs.Cuts.{count_on, walk_cuts, cuts}
 
 -- ---- the free elements of more words are no fewer
@@ -20,8 +20,8 @@ walk_more d few many [] s h = omega arith
 walk_more d few many (Put i ∷ rest) s h = count_more (effect i s) (cuts_in i s) (few rest) (many rest) (h rest)
 walk_more d few many (Branch k l ∷ rest) s h = by_taken (is_taken k s)
   where
-    by_taken : (b : Bool) → (if b then few (behind d l) (jump s (address_of d l)) else few rest (next s)) ≤ (if b then many (behind d l) (jump s (address_of d l)) else many rest (next s))
-    by_taken true = h (behind d l) (jump s (address_of d l))
+    by_taken : (b : Bool) → (if b then few (following d l) (jump s (address_of d l)) else few rest (next s)) ≤ (if b then many (following d l) (jump s (address_of d l)) else many rest (next s))
+    by_taken true = h (following d l) (jump s (address_of d l))
     by_taken false = h rest (next s)
 walk_more d few many (Place l ∷ rest) s h = walk_more d few many rest s h
 
@@ -87,14 +87,14 @@ spends_on {lanes = L} {unit = unit} {i = i} {j = j} {r = r} {a = a} {q = q} {t =
 
 -- a words before the passes, n of the passes and k after them
 pub in_all : (L U size j bg a n k q r : ℕ) → 0 < L → j ≤ bg → a ≤ 3 + 5 * size → k ≤ 6 * size + 1 + 2 * U → q ≤ r → Spends L U 0 j n q → L * (a + n + k) < L * (100 + 24 * size) + U * (bg + 5 * L) + 2 * (L * U) * r
-in_all L U size j bg a n k q r some le before behind more s =
+in_all L U size j bg a n k q r some le before following more s =
     let w = s.within in
     let f = s.few in
     let few : L * s.passes ≤ bg + 3 * L + 2 * (L * q) = omega (arith, f, le) in
     let n1 : L * n ≤ L * (U * s.passes) = mul-le-mul_left L w in
     let n2 : U * (L * s.passes) ≤ U * (bg + 3 * L + 2 * (L * q)) = mul-le-mul_left U few in
     let n3 : L * a ≤ L * (3 + 5 * size) = mul-le-mul_left L before in
-    let n4 : L * k ≤ L * (6 * size + 1 + 2 * U) = mul-le-mul_left L behind in
+    let n4 : L * k ≤ L * (6 * size + 1 + 2 * U) = mul-le-mul_left L following in
     let n5 : L * U * q ≤ L * U * r = mul-le-mul_left (L * U) more in
     omega (arith, n1, n2, n3, n4, n5, some)
 

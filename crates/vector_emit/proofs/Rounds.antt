@@ -10,11 +10,12 @@ use Rattle.machine_model.specs.Run.{Stop}
 use Rattle.label_fix.specs.DraftRun.{Entry, Laid, draft_run}
 use Rattle.label_fix.specs.Cuts.{cuts}
 use Rattle.label_fix.specs.Stretches.{Leads, Stops}
-use Rattle.kernel_tree.specs.Plain.{Turns}
+use Rattle.kernel_tree.specs.Plain.{PlainLoop}
 use Rattle.kernel_tree.specs.Typing.{Scope}
+use Rattle.kernel_meaning.specs.Ends.{Going, Failed}
 use Rattle.kernel_meaning.specs.Eval.{Names}
 use Rattle.kernel_meaning.specs.Iterate.{iterate}
-use Rattle.kernel_meaning.specs.ScalarRun.{Going, Failed, course}
+use Rattle.kernel_meaning.specs.ScalarRun.{course}
 use Rattle.chunk_loop.specs.Halts.{Breaks}
 use Rattle.vector_emit.proofs.Courses.{course_on, Halts, none_gone, fails_here, nothing}
 use Rattle.vector_emit.proofs.Paces.{Spends, in_two, Paid, by_lanes, by_cut, by_last, by_one, spends_on}
@@ -24,7 +25,7 @@ use Rattle.vector_emit.proofs.Paces.{Spends, in_two, Paid, by_lanes, by_cut, by_
 -- and that of the scalar loop.
 pub record Rounds : Type 1 where
   pub scope : Scope
-  pub turns : Turns
+  pub turns : PlainLoop
   pub limit : ℕ
   pub lanes : ℕ
   pub unit : ℕ

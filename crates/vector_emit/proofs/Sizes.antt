@@ -2,13 +2,13 @@
 use Rattle.std.proofs.Common.{◌≡◌, ℕ, suc, ◌+◌, ◌≤◌, ℤ, List, [], length, Option, Some, None, refl, ap, ◌∙◌, arith}
 use Rattle.std.specs.Prelude.{option_map}
 use Rattle.kernel_tree.specs.declared.ops.Ty.{Ty}
-use Rattle.kernel_tree.specs.Plain.{Term, Literal, Variable, Element, Unary, Operation, Shift, Conversion, Choice, Comparison, Both, Either, Not, Action, Define, Put, Update, Choose, Leave, Block, Done, Then, Otherwise, Nothing, Else, Turns, Program}
+use Rattle.kernel_tree.specs.Plain.{Term, Literal, Variable, Element, Unary, Operation, Shift, Conversion, Choice, Comparison, Both, Either, Not, Action, Define, Put, Update, Choose, Leave, Block, Done, Then, Otherwise, Nothing, Else, PlainLoop, Program}
 use Rattle.kernel_tree.specs.Items.{stream_offset, index_items, term_size, action_size, block_size, otherwise_size, index_of, turns_size, size_of}
 use Rattle.kernel_tree.specs.Typing.{Scope, own, first, side_type, defined, after_action, after_block, left, in_loop, var_scope}
 use Rattle.loop_form.specs.Entries.{loop_start}
 use Rattle.loop_form.specs.declared.loop_item.Source.{Source}
 use Rattle.loop_form.specs.LoopItems.{Bound, Item, array_type, accumulator_of, truth_home, load_item, store_item, term_items, cond_items, after_env, action_items, block_items, otherwise_items, loop_env, loop_items}
-use Rattle.chunk_order.proofs.Whole.{scope_index}
+use Rattle.chunk_order.proofs.OrderLaw.{scope_index}
 
 load_few : (scope : Scope) (mask : Option ℕ) (q : ℕ) (env : List Bound) (a : List ℕ) (o : Option ℤ) (rest : List Item) → length (load_item scope mask q env a o rest) ≤ 1 + length rest
 load_few scope mask q env a None rest = omega arith
@@ -25,14 +25,14 @@ record TermFew (t : Term) : Type 0 where
   as_cond : (s : Scope) (mask : Option ℕ) (b : ℕ) (env : List Bound) (rest : List Item) → length (cond_items s mask b env t rest) ≤ term_size s.index t + length rest
 
 -- one item, after another expression's
-behind_one : (n m k : ℕ) → n ≤ m + suc k → n ≤ m + 1 + k
-behind_one n m k h = omega (arith, h)
+following_one : (n m k : ℕ) → n ≤ m + suc k → n ≤ m + 1 + k
+following_one n m k h = omega (arith, h)
 
-behind_two : (n p q r k : ℕ) → n ≤ p + q → q ≤ r + suc k → n ≤ p + r + 1 + k
-behind_two n p q r k h j = omega (arith, h, j)
+following_two : (n p q r k : ℕ) → n ≤ p + q → q ≤ r + suc k → n ≤ p + r + 1 + k
+following_two n p q r k h j = omega (arith, h, j)
 
-behind_three : (n p q r u v k : ℕ) → n ≤ p + q → q ≤ r + u → u ≤ v + suc k → n ≤ p + r + v + 1 + k
-behind_three n p q r u v k h j l = omega (arith, h, j, l)
+following_three : (n p q r u v k : ℕ) → n ≤ p + q → q ≤ r + u → u ≤ v + suc k → n ≤ p + r + v + 1 + k
+following_three n p q r u v k h j l = omega (arith, h, j, l)
 
 term_few : (t : Term) → TermFew t
 term_few (Literal n) = record { as_value = λ s want mask b env rest. omega arith; as_cond = λ s mask b env rest. omega arith }
@@ -42,32 +42,32 @@ term_few (Element a j) = record {
   as_cond = λ s mask b env rest. omega arith;
 }
 term_few (Unary op e) = record {
-  as_value = λ s want mask b env rest. behind_one _ _ _ ((term_few e).as_value s want mask b env _);
+  as_value = λ s want mask b env rest. following_one _ _ _ ((term_few e).as_value s want mask b env _);
   as_cond = λ s mask b env rest. omega arith;
 }
 term_few (Operation op x y) = record {
-  as_value = λ s want mask b env rest. behind_two _ _ _ _ _ ((term_few x).as_value s want mask b env _) ((term_few y).as_value s want mask _ env _);
+  as_value = λ s want mask b env rest. following_two _ _ _ _ _ ((term_few x).as_value s want mask b env _) ((term_few y).as_value s want mask _ env _);
   as_cond = λ s mask b env rest. omega arith;
 }
 term_few (Shift to_left e n) = record {
-  as_value = λ s want mask b env rest. behind_one _ _ _ ((term_few e).as_value s want mask b env _);
+  as_value = λ s want mask b env rest. following_one _ _ _ ((term_few e).as_value s want mask b env _);
   as_cond = λ s mask b env rest. omega arith;
 }
 term_few (Conversion e t) = record {
-  as_value = λ s want mask b env rest. behind_one _ _ _ ((term_few e).as_value s (own s e) mask b env _);
+  as_value = λ s want mask b env rest. following_one _ _ _ ((term_few e).as_value s (own s e) mask b env _);
   as_cond = λ s mask b env rest. omega arith;
 }
 term_few (Choice c x y) = record {
-  as_value = λ s want mask b env rest. behind_three _ _ _ _ _ _ _ ((term_few x).as_value s want mask b env _) ((term_few y).as_value s want mask _ env _) ((term_few c).as_cond s mask _ env _);
+  as_value = λ s want mask b env rest. following_three _ _ _ _ _ _ _ ((term_few x).as_value s want mask b env _) ((term_few y).as_value s want mask _ env _) ((term_few c).as_cond s mask _ env _);
   as_cond = λ s mask b env rest. omega arith;
 }
 term_few (Comparison op x y) = record {
   as_value = λ s want mask b env rest. omega arith;
-  as_cond = λ s mask b env rest. behind_two _ _ _ _ _ ((term_few x).as_value s (side_type s x y) mask b env _) ((term_few y).as_value s (side_type s x y) mask _ env _);
+  as_cond = λ s mask b env rest. following_two _ _ _ _ _ ((term_few x).as_value s (side_type s x y) mask b env _) ((term_few y).as_value s (side_type s x y) mask _ env _);
 }
 term_few (Both x y) = record {
   as_value = λ s want mask b env rest. omega arith;
-  as_cond = λ s mask b env rest. behind_two _ _ _ _ _ ((term_few x).as_cond s mask b env _) ((term_few y).as_cond s (Some (truth_home s.index b x)) _ env _);
+  as_cond = λ s mask b env rest. following_two _ _ _ _ _ ((term_few x).as_cond s mask b env _) ((term_few y).as_cond s (Some (truth_home s.index b x)) _ env _);
 }
 term_few (Either x y) = record {
   as_value = λ s want mask b env rest. omega arith;
@@ -78,7 +78,7 @@ term_few (Either x y) = record {
     both_sides n p q r k h j = omega (arith, h, j)
 term_few (Not e) = record {
   as_value = λ s want mask b env rest. omega arith;
-  as_cond = λ s mask b env rest. behind_one _ _ _ ((term_few e).as_cond s mask b env _);
+  as_cond = λ s mask b env rest. following_one _ _ _ ((term_few e).as_cond s mask b env _);
 }
 
 -- ---- statements
@@ -96,18 +96,18 @@ same_index (Leave c) s = refl
 
 mutual
   action_few : (a : Action) (s : Scope) (mask : Option ℕ) (b : ℕ) (env : List Bound) (rest : List Item) → length (action_items s mask b env a rest) ≤ action_size s.index a + length rest
-  action_few (Define x t e) s mask b env rest = behind_one _ _ _ ((term_few e).as_value s (first t (own s e)) mask b env _)
+  action_few (Define x t e) s mask b env rest = following_one _ _ _ ((term_few e).as_value s (first t (own s e)) mask b env _)
   action_few (Put a j e) s mask b env rest = stored _ _ _ _ ((term_few e).as_value s (array_type s a) mask b env _) (store_few s mask (b + term_size s.index e) env a (stream_offset s.index j) _ rest)
     where
       stored : (n p q k : ℕ) → n ≤ p + q → q ≤ 1 + k → n ≤ p + 1 + k
       stored n p q k h j = omega (arith, h, j)
-  action_few (Update x op e) s mask b env rest = behind_one _ _ _ ((term_few e).as_value s (accumulator_of s x) mask b env _)
+  action_few (Update x op e) s mask b env rest = following_one _ _ _ ((term_few e).as_value s (accumulator_of s x) mask b env _)
   action_few (Choose c t d) s mask b env rest =
       chosen _ _ _ _ _ _ _ ((term_few c).as_cond s mask b env _) (block_few t s (Some (truth_home s.index b c)) (b + term_size s.index c + 1) env _) (otherwise_few d (left s (after_block s t)) mask (b + term_size s.index c + 1 + block_size s.index t) (truth_home s.index b c) env rest)
     where
       chosen : (n p q r u v k : ℕ) → n ≤ p + q → q ≤ r + u → u ≤ v + k → n ≤ p + 1 + r + v + 1 + k
       chosen n p q r u v k h j l = omega (arith, h, j, l)
-  action_few (Leave c) s mask b env rest = behind_one _ _ _ ((term_few c).as_cond s mask b env _)
+  action_few (Leave c) s mask b env rest = following_one _ _ _ ((term_few c).as_cond s mask b env _)
 
   block_few : (t : Block) (s : Scope) (mask : Option ℕ) (b : ℕ) (env : List Bound) (rest : List Item) → length (block_items s mask b env t rest) ≤ block_size s.index t + length rest
   block_few Done s mask b env rest = omega arith
@@ -127,7 +127,7 @@ mutual
 
 -- ---- the loop
 
-pub few_items : (k : Program) (l : Turns) → k.turns ≡ Some l → length (loop_items k l) ≤ size_of k
+pub few_items : (k : Program) (l : PlainLoop) → k.turns ≡ Some l → length (loop_items k l) ≤ size_of k
 few_items k l is =
     let h = block_few l.body (in_loop (var_scope k) l) None (loop_start k + 1) (loop_env (var_scope k) l.index) [] in
     let index : (var_scope k).index ≡ Some l.index = scope_index k ∙ ap (option_map index_of) is in

@@ -6,7 +6,7 @@ use Rattle.std.proofs.lemmas.Bool.{cases_lt}
 use Rattle.guest_types.specs.Memory.{Memory}
 use Rattle.machine_model.specs.Machine.{State, p_at}
 use Rattle.kernel_meaning.specs.Eval.{Names}
-use Rattle.label_fix.specs.DraftRun.{If, Entry, Put, Branch, Place, Laid, behind}
+use Rattle.label_fix.specs.DraftRun.{If, Entry, Put, Branch, Place, Laid, following}
 use Rattle.label_fix.specs.Stretches.{Resolves}
 use Rattle.label_fix.proofs.Steps.{Goes, chain, pass}
 use Rattle.dependence.specs.Apart.{bound_place}
@@ -22,10 +22,10 @@ use Rattle.chunk_loop.proofs.PassLaws.{plain_law}
 use Rattle.vector_emit.specs.VectorCode.{straight_code}
 use Rattle.vector_emit.specs.VectorRuns.{turn_steps}
 use Rattle.vector_emit.proofs.Rounds.{Passing, pays_lanes, pays_last, leaves_here, stops_here, passes_on}
-use Rattle.vector_emit.proofs.LoopOf.{loop_of, stop_of, has_lanes, Longer, behind_goes}
+use Rattle.vector_emit.proofs.LoopOf.{loop_of, stop_of, has_lanes, Longer, following_goes}
 use Rattle.vector_emit.proofs.PassSizes.{plain_fits}
 use Rattle.vector_emit.proofs.While.{while_ends, while_begins, while_over, while_back}
-use Rattle.vector_emit.proofs.Labels.{behind_puts}
+use Rattle.vector_emit.proofs.Labels.{following_puts}
 
 -- the words lead to entries from which the passes run
 pub record Enters (g : Ground) (d : Laid) (rest c : List Entry) (s : State) (cur : Names) (m : Memory) : Type 0 where
@@ -56,7 +56,7 @@ module _ (g : Ground) (ground : IsGround g) (quits : list_any is_quit (items_of 
       let within = h.between.within in
       leaves_here (loop_of g d rest) (has_lanes g ground) (rest_at 0) (omega arith) within (inl (omega (arith, le, within))) (record { sum = sum; head = h })
 
-  module _ (back : behind d n ≡ head) (out : behind d (suc n) ≡ rest) where
+  module _ (back : following d n ≡ head) (out : following d (suc n) ≡ rest) where
     abbrev Later : ℕ → Type 0
     Later fuel = (i : ℕ) (cur : Names) (m : Memory) (sum : List ℕ → ℕ → ℤ) (s : State) → limit g < i + fuel → AtHead g i cur m sum s → i < limit g → IsTop (width g) (lanes_at g i) (p_at s 0) → Runs head i cur m s
 
@@ -82,14 +82,14 @@ module _ (g : Ground) (ground : IsGround g) (quits : list_any is_quit (items_of 
         more : i + k < limit g → Runs head i cur m s
         more ahead =
             let x = while_back d end n tail ground h ahead in
-            let long = behind_goes (most + 2) (omega arith) first (subst (λ es. Goes d after end es x.end 2) back x.goes) in
+            let long = following_goes (most + 2) (omega arith) first (subst (λ es. Goes d after end es x.end 2) back x.goes) in
             let a = all in
             passes_on (loop_of g d rest) (has_lanes g ground) 1 k long.leads (omega (arith, fits)) (omega arith) goes (pays_lanes (omega (arith, a, ahead))) (ih (i + k) names now sum x.end (let p = some in omega (arith, less, p)) x.head ahead x.top)
 
         over : limit g ≤ i + k → Runs head i cur m s
         over past =
             let x = while_over d end n tail ground h past in
-            let long = behind_goes (most + 2) (omega arith) first (chain 2 (omega arith) x.goes pass) in
+            let long = following_goes (most + 2) (omega arith) first (chain 2 (omega arith) x.goes pass) in
             let within = x.head.between.within in
             passes_on (loop_of g d rest) (has_lanes g ground) 1 k long.leads (omega (arith, fits)) (omega arith) goes (pays_last some (inl (omega (arith, past, within)))) (ends_here (i + k) names now x.end x.head past)
 
@@ -112,4 +112,4 @@ module _ (g : Ground) (ground : IsGround g) (quits : list_any is_quit (items_of 
 
   pub straight_runs : {sum : List ℕ → ℕ → ℤ} {cur : Names} {m : Memory} {s : State} → Resolves d (straight_code g.kernel g.vectors g.predicates (items_of g) n rest) → AtHead g 0 cur m sum s
       → Enters g d rest (straight_code g.kernel g.vectors g.predicates (items_of g) n rest) s cur m
-  straight_runs res h = let done = behind_puts d (plain_words (width g) (layout g) (items_of g)) after res.1 in enter res.0 done.0 h
+  straight_runs res h = let done = following_puts d (plain_words (width g) (layout g) (items_of g)) after res.1 in enter res.0 done.0 h

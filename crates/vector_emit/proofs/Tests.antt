@@ -17,7 +17,7 @@ use Rattle.a64_code.specs.Table.{subs}
 use Rattle.kernel_meaning.specs.Operators.{word}
 use Rattle.kernel_meaning.specs.Eval.{Names, value_at}
 use Rattle.kernel_meaning.proofs.Residues.{word-below}
-use Rattle.label_fix.specs.DraftRun.{Kind, If, Entry, Put, Branch, Laid, is_taken, behind, place_of, address_of}
+use Rattle.label_fix.specs.DraftRun.{Kind, If, Entry, Put, Branch, Laid, is_taken, following, place_of, address_of}
 use Rattle.label_fix.proofs.Steps.{Goes, chain, put_goes, taken_goes, passed_goes}
 use Rattle.loop_form.specs.declared.loop_item.Source.{Source}
 use Rattle.loop_form.specs.declared.loop_item.Source.TheVariants.{Turn}
@@ -85,7 +85,7 @@ pub record Branched (g : Ground) (i : ℕ) (cur : Names) (m : Memory) (sum : Lis
   pub z : end.z ≡ t.z
   pub p : end.p ≡ t.p
 
-pub branch_taken : {g : Ground} {i : ℕ} {cur : Names} {m : Memory} {sum : List ℕ → ℕ → ℤ} (d : Laid) {t : State} (k : Kind) (l : ℕ) (rest : List Entry) → AtHead g i cur m sum t → is_taken k t ≡ true → Branched g i cur m sum d (Branch k l ∷ rest) t (behind d l)
+pub branch_taken : {g : Ground} {i : ℕ} {cur : Names} {m : Memory} {sum : List ℕ → ℕ → ℤ} (d : Laid) {t : State} (k : Kind) (l : ℕ) (rest : List Entry) → AtHead g i cur m sum t → is_taken k t ≡ true → Branched g i cur m sum d (Branch k l ∷ rest) t (following d l)
 branch_taken d {t = t} k l rest h yes' = record {
   end = jump t (address_of d l);
   goes = taken_goes yes';
@@ -103,8 +103,8 @@ branch_passed d {t = t} k l rest h no' = record {
   p = refl;
 }
 
-behind_word : {g : Ground} {i : ℕ} {cur : Names} {m : Memory} {sum : List ℕ → ℕ → ℤ} {d : Laid} {c b e : List Entry} {s t : State} → Goes d c s b t 1 → t.z ≡ s.z → t.p ≡ s.p → Branched g i cur m sum d b t e → Tests g i cur m sum d c s e 2
-behind_word goes z p b = record { end = b.end; goes = chain 2 (omega arith) goes b.goes; head = b.head; z = b.z ∙ z; p = ap (λ ps. slice_index_or ps 0 []) (b.p ∙ p) }
+following_word : {g : Ground} {i : ℕ} {cur : Names} {m : Memory} {sum : List ℕ → ℕ → ℤ} {d : Laid} {c b e : List Entry} {s t : State} → Goes d c s b t 1 → t.z ≡ s.z → t.p ≡ s.p → Branched g i cur m sum d b t e → Tests g i cur m sum d c s e 2
+following_word goes z p b = record { end = b.end; goes = chain 2 (omega arith) goes b.goes; head = b.head; z = b.z ∙ z; p = ap (λ ps. slice_index_or ps 0 []) (b.p ∙ p) }
 
 -- ---- PTEST, and B.NE
 
@@ -120,16 +120,16 @@ unfolding lane_state
 lane_goes d rest s = put_goes refl
 
 -- some lane came through
-pub lanes_back : {g : Ground} {i : ℕ} {cur : Names} {m : Memory} {sum : List ℕ → ℕ → ℤ} (d : Laid) (s : State) (k l : ℕ) (rest : List Entry) → AtHead g i cur m sum s → IsTop (width g) k (p_at s 0) → 0 < k → Tests g i cur m sum d (Put any_lane ∷ Branch (If 1) l ∷ rest) s (behind d l) 2
+pub lanes_back : {g : Ground} {i : ℕ} {cur : Names} {m : Memory} {sum : List ℕ → ℕ → ℤ} (d : Laid) (s : State) (k l : ℕ) (rest : List Entry) → AtHead g i cur m sum s → IsTop (width g) k (p_at s 0) → 0 < k → Tests g i cur m sum d (Put any_lane ∷ Branch (If 1) l ∷ rest) s (following d l) 2
 unfolding lane_state
 lanes_back {g = g} d s k l rest h top some =
-    behind_word (lane_goes d (Branch (If 1) l ∷ rest) s) refl refl (branch_taken d (If 1) l rest (lane_head h) (ap not (top_some s.vl (width g) h.is.sized (p_at s 0) k top some)))
+    following_word (lane_goes d (Branch (If 1) l ∷ rest) s) refl refl (branch_taken d (If 1) l rest (lane_head h) (ap not (top_some s.vl (width g) h.is.sized (p_at s 0) k top some)))
 
 -- none did
 pub lanes_none : {g : Ground} {i : ℕ} {cur : Names} {m : Memory} {sum : List ℕ → ℕ → ℤ} (d : Laid) (s : State) (k l : ℕ) (rest : List Entry) → AtHead g i cur m sum s → IsTop (width g) k (p_at s 0) → k ≡ 0 → Tests g i cur m sum d (Put any_lane ∷ Branch (If 1) l ∷ rest) s rest 2
 unfolding lane_state
 lanes_none {g = g} d s k l rest h top none =
-    behind_word (lane_goes d (Branch (If 1) l ∷ rest) s) refl refl (branch_passed d (If 1) l rest (lane_head h) (ap not (top_none s.vl (width g) h.is.sized (p_at s 0) k top none)))
+    following_word (lane_goes d (Branch (If 1) l ∷ rest) s) refl refl (branch_passed d (If 1) l rest (lane_head h) (ap not (top_none s.vl (width g) h.is.sized (p_at s 0) k top none)))
 
 -- ---- SUBS, and B.HS
 
@@ -159,11 +159,11 @@ tested_holds {g = g} {i = i} {s = s} ground h =
     ap (holds 2) (tested_flags s 9 (bound_place g.kernel) (pos i) (pos (limit g)) e9 en) ∙ ap₂ nat_le (mod-eq_of_lt (limit_small g)) (mod-eq_of_lt (index_small h))
 
 pub bound_reached : {g : Ground} {i : ℕ} {cur : Names} {m : Memory} {sum : List ℕ → ℕ → ℤ} (d : Laid) (s : State) (l : ℕ) (rest : List Entry) → IsGround g → AtHead g i cur m sum s → limit g ≤ i
-    → Tests g i cur m sum d (ins subs (31 ∷ 9 ∷ 0 ∷ bound_place g.kernel ∷ 0 ∷ []) ∷ Branch (If 2) l ∷ rest) s (behind d l) 2
+    → Tests g i cur m sum d (ins subs (31 ∷ 9 ∷ 0 ∷ bound_place g.kernel ∷ 0 ∷ []) ∷ Branch (If 2) l ∷ rest) s (following d l) 2
 bound_reached {g = g} {i = i} d s l rest ground h le =
-    behind_word (tested_goes d (Branch (If 2) l ∷ rest) s 9 (bound_place g.kernel)) refl refl (branch_taken d (If 2) l rest (tested_head h) (tested_holds ground h ∙ le-leb (limit g) i le))
+    following_word (tested_goes d (Branch (If 2) l ∷ rest) s 9 (bound_place g.kernel)) refl refl (branch_taken d (If 2) l rest (tested_head h) (tested_holds ground h ∙ le-leb (limit g) i le))
 
 pub bound_ahead : {g : Ground} {i : ℕ} {cur : Names} {m : Memory} {sum : List ℕ → ℕ → ℤ} (d : Laid) (s : State) (l : ℕ) (rest : List Entry) → IsGround g → AtHead g i cur m sum s → i < limit g
     → Tests g i cur m sum d (ins subs (31 ∷ 9 ∷ 0 ∷ bound_place g.kernel ∷ 0 ∷ []) ∷ Branch (If 2) l ∷ rest) s rest 2
 bound_ahead {g = g} {i = i} d s l rest ground h lt =
-    behind_word (tested_goes d (Branch (If 2) l ∷ rest) s 9 (bound_place g.kernel)) refl refl (branch_passed d (If 2) l rest (tested_head h) (tested_holds ground h ∙ lt-leb (limit g) i lt))
+    following_word (tested_goes d (Branch (If 2) l ∷ rest) s 9 (bound_place g.kernel)) refl refl (branch_passed d (If 2) l rest (tested_head h) (tested_holds ground h ∙ lt-leb (limit g) i lt))

@@ -7,7 +7,7 @@ use Rattle.kernel_meaning.specs.ScalarRun.{Run, End, Fault}
 use Rattle.machine_model.specs.declared.outcome.StopKind.{StopKind}
 use Rattle.machine_model.specs.Machine.{State, x_at}
 use Rattle.machine_model.specs.States.{IsState}
-use Rattle.label_fix.specs.DraftRun.{Entry, Laid, behind}
+use Rattle.label_fix.specs.DraftRun.{Entry, Laid, following}
 use Rattle.label_fix.specs.Stretches.{Resolves, StopsPaced, EndsPaced}
 use Rattle.reg_assign.specs.declared.interval.RegClass.TheVariants.{X}
 use Rattle.reg_assign.specs.Registers.{Assignment}
@@ -47,7 +47,7 @@ vector_base g bg = most_lanes g * (100 + 24 * size_of g.kernel) + turn_steps g *
 abbrev pub ReachesScalar : Ground → Assignment → Laid → (scalar : ℕ) → Type 0
 ReachesScalar g c d scalar =
     (i : ℕ) (names : Names) (m : Memory) (s : State) → IsWithin g.kernel.turns i names → AtIteration (register_in c) g.kernel i names m s
-    → Comes d (behind d scalar) s (turn_steps g) (turn_steps g) i (run_from g.kernel i m names)
+    → Comes d (following d scalar) s (turn_steps g) (turn_steps g) i (run_from g.kernel i m names)
 
 -- The vector code, from a state as the loop begins; `scalar` is the label of scalar code.
 abbrev pub VectorRuns : Type 0

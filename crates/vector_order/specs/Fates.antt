@@ -2,10 +2,11 @@
 use Rattle.std.specs.Prelude.{◌≡◌, ℕ, List, [], ◌∷◌, Some, None, Result, Ok, Err}
 use Rattle.guest_types.specs.declared.memory.AccessFault.{AccessFault}
 use Rattle.guest_types.specs.Memory.{Memory, stored}
-use Rattle.kernel_tree.specs.Plain.{Turns, Program}
+use Rattle.kernel_tree.specs.Plain.{PlainLoop, Program}
 use Rattle.kernel_tree.specs.Typing.{check_fault, var_scope}
+use Rattle.kernel_meaning.specs.Ends.{BlockEnd, Next, Broke, Faulted}
 use Rattle.kernel_meaning.specs.Eval.{Names}
-use Rattle.kernel_meaning.specs.Iterate.{Turn, Next, Broke, Faulted, iterate}
+use Rattle.kernel_meaning.specs.Iterate.{iterate}
 use Rattle.kernel_meaning.specs.ScalarRun.{started}
 use Rattle.loop_form.specs.LoopItems.{Op, Quit, Item, loop_items}
 use Rattle.dependence.specs.Classes.{class_of}
@@ -42,7 +43,7 @@ fate names [] i m l = Through m l
 fate names (it ∷ items) i m l = effect_on (cause_of it.op) (item_act names it i m l) m l (fate names items i)
 
 -- an iteration goes on, breaks or faults, and so do its items, with the same memory
-abbrev pub SameEnd : Turn → Fate → Type 0
+abbrev pub SameEnd : BlockEnd Names → Fate → Type 0
 SameEnd (Next m ns) (Through a l) = a ≡ m
 SameEnd (Broke m ns) (Ended ByBreak a) = a ≡ m
 SameEnd (Faulted m) (Ended ByFault a) = a ≡ m
@@ -50,5 +51,5 @@ SameEnd _ _ = ⊥
 
 abbrev pub TurnIsFate : Type 0
 TurnIsFate =
-    (k : Program) (l : Turns) (args : List ℕ) (start : Memory) (names cur : Names) (i : ℕ) (m : Memory) (lane : Lane) → check_fault k ≡ None → k.turns ≡ Some l → class_of k ≡ Vector → started k args start ≡ Some names → Steady k names cur
+    (k : Program) (l : PlainLoop) (args : List ℕ) (start : Memory) (names cur : Names) (i : ℕ) (m : Memory) (lane : Lane) → check_fault k ≡ None → k.turns ≡ Some l → class_of k ≡ Vector → started k args start ≡ Some names → Steady k names cur
     → SameEnd (iterate (var_scope k) l i m cur) (fate names (loop_items k l) i m lane)

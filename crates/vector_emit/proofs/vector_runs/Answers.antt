@@ -1,4 +1,4 @@
-use Rattle.vector_emit.proofs.Whole as laws
+use Rattle.vector_emit.proofs.LoopRuns as laws
 use Rattle.vector_emit.proofs.vector_runs.Goals as goal
 
 pub returns : goal.returns

@@ -1,11 +1,11 @@
 use Rattle.std.proofs.Common.{ap, ◌∙◌, ◌++◌}
 use Rattle.chunk_emit.specs.View.{layout_in, width_in}
-use Rattle.chunk_emit.proofs.Chosen.{writable_behind, none_left}
+use Rattle.chunk_emit.proofs.Chosen.{writable_following, none_left}
 use Rattle.chunk_emit.proofs.items.emit_items.Goals as goal
 
 pub loop-place-preserved : goal.loop-place-preserved
 loop-place-preserved c = record {
-  writable = writable_behind (width_in c.args.layout.now) c.args.items.now c.loop-place.place c.loop-place.invariant.writable;
+  writable = writable_following (width_in c.args.layout.now) c.args.items.now c.loop-place.place c.loop-place.invariant.writable;
   labels = c.in_ok-done.ensures.labels ∙ c.loop-place.invariant.labels;
   code = λ rest. c.in_ok-done.ensures.code rest ∙ c.loop-place.invariant.code rest;
 }

@@ -32,14 +32,14 @@ returns-clause-code c rest =
     let l : Layout = layout_in c.args.layout.now in
     let items : List Item = view c.args.items.now in
     let last : List Entry = Put (advance_word w) ∷ rest in
-    let behind : List Entry = puts (items_words w l (rest_of items)) last in
-    let read : List Entry = puts (single_words w l (split_breaks l (region_of items))) behind in
+    let following : List Entry = puts (items_words w l (rest_of items)) last in
+    let read : List Entry = puts (single_words w l (split_breaks l (region_of items))) following in
     c.in_ok-put-3.ensures.code rest
     ∙ ap (λ x. c.emit_items.new.draft.entries ++ Put x ∷ rest) (c.advance.ensures ∙ ap advance_word c.width-2.ensures)
     ∙ c.in_ok-emit_items.ensures.code last
     ∙ ap (λ its. c.emit_single.new.draft.entries ++ puts (items_words w l its) last) c.rest.ensures
-    ∙ c.in_ok-emit_single.ensures.code behind
-    ∙ ap (λ its. c.put-2.new.self.entries ++ puts (single_words w l its) behind) (ap view c.deref.ensures.value ∙ c.in_ok-steps.ensures ∙ ap (split_breaks l) c.region.ensures)
+    ∙ c.in_ok-emit_single.ensures.code following
+    ∙ ap (λ its. c.put-2.new.self.entries ++ puts (single_words w l its) following) (ap view c.deref.ensures.value ∙ c.in_ok-steps.ensures ∙ ap (split_breaks l) c.region.ensures)
     ∙ c.in_ok-put-2.ensures.code read
     ∙ ap (λ x. c.put.new.self.entries ++ Put x ∷ read) (c.first_lane.ensures ∙ ap (λ v. Vector (word whilelo (0 ∷ 31 ∷ 26 ∷ size_of v ∷ []))) c.width.ensures)
     ∙ c.in_ok-put.ensures.code (Put (Vector (word whilelo (0 ∷ 31 ∷ 26 ∷ size_of w ∷ []))) ∷ read)

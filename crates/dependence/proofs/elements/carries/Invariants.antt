@@ -4,6 +4,6 @@ use Rattle.dependence.proofs.elements.carries.Given as goal
 
 abbrev pub invariant-loop-stream : goal.invariant-loop-stream
 invariant-loop-stream l = record {
-  place : l.behind ≡ l.stream-index;
+  place : l.following ≡ l.stream-index;
   rest : carried l.fn.width (drop l.stream-index l.streams) ≡ carried l.fn.width l.streams;
 }

@@ -5,6 +5,6 @@ use Rattle.dependence.proofs.updates.writes_before_break.Given as goal
 
 abbrev pub invariant-loop-entry : goal.invariant-loop-entry
 invariant-loop-entry l = record {
-  place : l.behind ≡ l.entry-index;
+  place : l.following ≡ l.entry-index;
   rest : before_break (seen (drop l.entry-index l.entries)) ≡ before_break (seen l.entries);
 }

@@ -1,13 +1,13 @@
 use Rattle.std.proofs.Common.{ap, ◌∙◌, ◌++◌}
 use Rattle.chunk_emit.specs.View.{layout_in, width_in}
-use Rattle.chunk_emit.proofs.Chosen.{writable_behind}
+use Rattle.chunk_emit.proofs.Chosen.{writable_following}
 use Rattle.first_fault.specs.View.{mode_of}
 use Rattle.first_fault.proofs.Joined.{next_puts, none_left}
 use Rattle.first_fault.proofs.emit.emit_region.Goals as goal
 
 pub loop-item-preserved : goal.loop-item-preserved
 loop-item-preserved c = record {
-  writable = writable_behind (width_in c.args.layout.now) c.args.items.now c.loop-item.item-index c.loop-item.invariant.writable;
+  writable = writable_following (width_in c.args.layout.now) c.args.items.now c.loop-item.item-index c.loop-item.invariant.writable;
   labels = c.in_ok-emit_step.ensures.labels ∙ c.loop-item.invariant.labels;
   code = λ rest.
       c.in_ok-emit_step.ensures.code _

@@ -3,7 +3,7 @@ use Rattle.kernel_tree.specs.declared.checked.Checked.{Checked}
 use Rattle.kernel_tree.specs.Grammar.{IsTree}
 use Rattle.kernel_tree.specs.Typing.{check_fault}
 use Rattle.loop_form.specs.View.{program}
-use Rattle.label_fix.proofs.Same.{words_length}
+use Rattle.label_fix.proofs.PlacedRuns.{words_length}
 use Rattle.overlap_guard.proofs.Bound.{few-arrays}
 use Rattle.scalar_emit.specs.Kernel.{register_in}
 use Rattle.kernel_compile.proofs.VectorJoin.{IsJoined}

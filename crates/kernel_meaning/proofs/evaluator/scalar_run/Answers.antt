@@ -7,7 +7,7 @@ use Rattle.kernel_meaning.specs.ScalarRun.{given}
 use Rattle.kernel_meaning.specs.Slots.{Slots}
 use Rattle.kernel_meaning.specs.Plans.{Planned, planned, filled, slot_run}
 use Rattle.kernel_meaning.proofs.Courses.{planned-same}
-use Rattle.kernel_meaning.proofs.Whole.{run-outcome, checked-room}
+use Rattle.kernel_meaning.proofs.LimitedRuns.{run-outcome, checked-room}
 use Rattle.kernel_meaning.proofs.evaluator.scalar_run.Goals as goal
 
 pub returns-clause-outcome : goal.returns-clause-outcome

@@ -1,4 +1,4 @@
-use Rattle.kernel_meaning.proofs.Rows.{if-is}
+use Rattle.kernel_meaning.proofs.StepLists.{if-is}
 use Rattle.kernel_meaning.proofs.make.branch.Goals as goal
 
 pub returns : goal.returns

@@ -2,7 +2,7 @@ use Rattle.std.proofs.Common.{List, ap, sym, ◌∙◌, arith, Some}
 use Rattle.kernel_meaning.specs.declared.step.Step.{Step}
 use Rattle.kernel_meaning.specs.Trees.{tree_of, tasks_of, task_of, task_depth, tasks_depth}
 use Rattle.kernel_meaning.specs.Slots.{do_tasks}
-use Rattle.kernel_meaning.proofs.Rows.{if-is, branch-true, branch-false}
+use Rattle.kernel_meaning.proofs.StepLists.{if-is, branch-true, branch-false}
 use Rattle.kernel_meaning.proofs.perform.+steps.Goals as goal
 
 pub perform_step-perform-requires : goal.perform_step-perform-requires

@@ -4,7 +4,7 @@ use Rattle.std.proofs.lemmas.Int.{to_z-of_z}
 use Rattle.kernel_tree.specs.Plain.{parameter_of, parameters_of}
 use Rattle.kernel_meaning.specs.ScalarRun as running
 use Rattle.kernel_meaning.proofs.Steps.{next_item}
-use Rattle.kernel_meaning.proofs.Turned.{given_step}
+use Rattle.kernel_meaning.proofs.WalkSteps.{given_step}
 use Rattle.kernel_meaning.proofs.start.given.Goals as goal
 
 pub loop-i-preserved : goal.loop-i-preserved

@@ -6,7 +6,7 @@ use Rattle.kernel_tree.specs.declared.mark.Operator.TheVariants.{Joined, Compare
 use Rattle.kernel_syntax.specs.Reading.{operator_at, chain_at, unary_at, signed_by}
 use Rattle.kernel_syntax.proofs.Chain.{chain-zero, chain-above, fails_on, begins, ends, goes_joined, goes_shifted, goes_as, ends_compared, fails_joined, fails_compared, fails_shifted, fails_as}
 use Rattle.kernel_syntax.proofs.Rooms.{unary-some}
-use Rattle.kernel_syntax.proofs.Rows.{wraps_none, wraps_more, wraps_fails, wraps_stops, wraps_all}
+use Rattle.kernel_syntax.proofs.SignRows.{wraps_none, wraps_more, wraps_fails, wraps_stops, wraps_all}
 use Rattle.kernel_syntax.proofs.expression.+expression.Goals as goal
 
 pub chain-returns-then-level-eq0-clause-value : goal.chain-returns-then-level-eq0-clause-value
@@ -77,13 +77,13 @@ pub signed-more-init : goal.signed-more-init
 signed-more-init t c = record { short = omega arith; less = omega arith; wraps = rw c.new-signs.ensures.items (wraps_none (signed_by (unary_at c.args.room) c.args.sign (words_of c.args.tokens.now))) }
 
 pub signed-returns-then-inner-eq0-clause-value : goal.signed-returns-then-inner-eq0-clause-value
-signed-returns-then-inner-eq0-clause-value t c = wraps_stops _ c.more.signs.items c.more.inner c.more.last (words_of c.more.rest.now) c.in-Some.next (words_of c.in-Some.behind.now) c.more.invariant.wraps c.if-inner-eq0.true c.in-Some.ensures.value ∙ ap Err (length-map c.more.rest.now word_of)
+signed-returns-then-inner-eq0-clause-value t c = wraps_stops _ c.more.signs.items c.more.inner c.more.last (words_of c.more.rest.now) c.in-Some.next (words_of c.in-Some.following.now) c.more.invariant.wraps c.if-inner-eq0.true c.in-Some.ensures.value ∙ ap Err (length-map c.more.rest.now word_of)
 
 pub signed-more-preserved : goal.signed-more-preserved
 signed-more-preserved t c = record {
   short = omega (arith, c.in-Some.ensures.shorter);
   less = omega arith;
-  wraps = rw c.in_ok-push.ensures.items (wraps_more _ c.more.signs.items c.more.inner c.more.last (words_of c.more.rest.now) c.in-Some.next (words_of c.in-Some.behind.now) c.more.invariant.wraps (omega arith) c.in-Some.ensures.value);
+  wraps = rw c.in_ok-push.ensures.items (wraps_more _ c.more.signs.items c.more.inner c.more.last (words_of c.more.rest.now) c.in-Some.next (words_of c.in-Some.following.now) c.more.invariant.wraps (omega arith) c.in-Some.ensures.value);
 }
 
 pub signed-returns-in_err-arg-clause-value : goal.signed-returns-in_err-arg-clause-value
@@ -92,4 +92,4 @@ signed-returns-in_err-arg-clause-value t c =
     rw (p.1, p.2) (wraps_fails _ c.more.signs.items _ _ c.more.invariant.wraps c.in_err-arg.ensures.value)
 
 pub signed-returns-clause-value : goal.signed-returns-clause-value
-signed-returns-clause-value t c = rw c.in_ok-behind_signs.ensures (wraps_all _ c.more.signs.items _ _ _ c.more.invariant.wraps c.in_ok-arg.ensures.value)
+signed-returns-clause-value t c = rw c.in_ok-following_signs.ensures (wraps_all _ c.more.signs.items _ _ _ c.more.invariant.wraps c.in_ok-arg.ensures.value)

@@ -2,7 +2,7 @@ use Rattle.std.proofs.Common.{◌+◌, ◌*◌, ◌<◌, ◌≤◌, length}
 use Rattle.kernel_tree.specs.Plain.{term_of, words_of}
 use Rattle.kernel_syntax.specs.Reading.{unary_at, signed_by}
 use Rattle.kernel_syntax.proofs.Chain.{Goes}
-use Rattle.kernel_syntax.proofs.Rows.{Wraps}
+use Rattle.kernel_syntax.proofs.SignRows.{Wraps}
 use Rattle.kernel_syntax.proofs.expression.+expression.Given as goal
 
 abbrev pub decreases-chain : goal.decreases-chain

@@ -15,18 +15,18 @@ returns-in_err-param-clause-value c =
     rw (p.1, p.2) (fails_param (some_at 7 (words_of c.args.tokens.now)) c.more.others (parameters_of c.more.params.items) (words_of c.more.rest.now) c.more.invariant.follows _ c.in_err-param.ensures.value)
 
 pub returns-in-Some-clause-value : goal.returns-in-Some-clause-value
-returns-in-Some-clause-value c = rw (c.in_ok-push.ensures.items, map-append) (ends_params (some_at 7 (words_of c.args.tokens.now)) c.more.others (parameters_of c.more.params.items) (words_of c.more.rest.now) c.more.invariant.follows (parameter_of c.in_ok-param.param) (words_of c.in_ok-param.behind.now) (words_of c.in-Some.end.now) c.in_ok-param.ensures.value c.in-Some.ensures.value)
+returns-in-Some-clause-value c = rw (c.in_ok-push.ensures.items, map-append) (ends_params (some_at 7 (words_of c.args.tokens.now)) c.more.others (parameters_of c.more.params.items) (words_of c.more.rest.now) c.more.invariant.follows (parameter_of c.in_ok-param.param) (words_of c.in_ok-param.following.now) (words_of c.in-Some.end.now) c.in_ok-param.ensures.value c.in-Some.ensures.value)
 
 pub returns-then-others-eq0-clause-value : goal.returns-then-others-eq0-clause-value
-returns-then-others-eq0-clause-value c = full_params (some_at 7 (words_of c.args.tokens.now)) c.more.others (parameters_of c.more.params.items) (words_of c.more.rest.now) c.more.invariant.follows (parameter_of c.in_ok-param.param) (words_of c.in_ok-param.behind.now) c.if-others-eq0.true c.in_ok-param.ensures.value c.in_default.ensures.value ∙ ap Err (length-map c.in_ok-param.behind.now word_of)
+returns-then-others-eq0-clause-value c = full_params (some_at 7 (words_of c.args.tokens.now)) c.more.others (parameters_of c.more.params.items) (words_of c.more.rest.now) c.more.invariant.follows (parameter_of c.in_ok-param.param) (words_of c.in_ok-param.following.now) c.if-others-eq0.true c.in_ok-param.ensures.value c.in_default.ensures.value ∙ ap Err (length-map c.in_ok-param.following.now word_of)
 
 pub returns-in_err-rest-clause-value : goal.returns-in_err-rest-clause-value
 returns-in_err-rest-clause-value c =
     let p = err_from_is_err_and c.from_residual-in_err-rest.result c.from_residual-in_err-rest.ensures.1 in
-    rw (p.1, p.2) (fails_comma (some_at 7 (words_of c.args.tokens.now)) c.more.others (parameters_of c.more.params.items) (words_of c.more.rest.now) c.more.invariant.follows (parameter_of c.in_ok-param.param) (words_of c.in_ok-param.behind.now) _ (omega arith) c.in_ok-param.ensures.value c.in_default.ensures.value c.in_err-rest.ensures.value)
+    rw (p.1, p.2) (fails_comma (some_at 7 (words_of c.args.tokens.now)) c.more.others (parameters_of c.more.params.items) (words_of c.more.rest.now) c.more.invariant.follows (parameter_of c.in_ok-param.param) (words_of c.in_ok-param.following.now) _ (omega arith) c.in_ok-param.ensures.value c.in_default.ensures.value c.in_err-rest.ensures.value)
 
 pub more-preserved : goal.more-preserved
 more-preserved c = record {
   short = omega (arith, c.in_ok-param.ensures.shorter, c.in_ok-rest.ensures.shorter);
-  follows = rw (c.in_ok-push.ensures.items, map-append) (takes_param (some_at 7 (words_of c.args.tokens.now)) c.more.others (parameters_of c.more.params.items) (words_of c.more.rest.now) c.more.invariant.follows (parameter_of c.in_ok-param.param) (words_of c.in_ok-param.behind.now) _ (omega arith) c.in_ok-param.ensures.value c.in_default.ensures.value c.in_ok-rest.ensures.value);
+  follows = rw (c.in_ok-push.ensures.items, map-append) (takes_param (some_at 7 (words_of c.args.tokens.now)) c.more.others (parameters_of c.more.params.items) (words_of c.more.rest.now) c.more.invariant.follows (parameter_of c.in_ok-param.param) (words_of c.in_ok-param.following.now) _ (omega arith) c.in_ok-param.ensures.value c.in_default.ensures.value c.in_ok-rest.ensures.value);
 }

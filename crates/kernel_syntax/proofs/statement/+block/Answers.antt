@@ -18,7 +18,7 @@ block-more-init t c =
     (omega arith, subst (λ (s : List Stmt). Follows inner (block_at c.args.whole c.args.room words) s words) (sym c.new-stmts.ensures.items) first)
 
 pub block-returns-in-Some-clause-value : goal.block-returns-in-Some-clause-value
-block-returns-in-Some-clause-value t c = closes (statement_by c.args.whole (block_at false (c.args.room - 1))) (block_at c.args.whole c.args.room (words_of c.args.tokens.now)) c.more.stmts.items (words_of c.more.rest.now) c.more.invariant.1 (words_of c.in-Some.behind.now) c.in-Some.ensures.value
+block-returns-in-Some-clause-value t c = closes (statement_by c.args.whole (block_at false (c.args.room - 1))) (block_at c.args.whole c.args.room (words_of c.args.tokens.now)) c.more.stmts.items (words_of c.more.rest.now) c.more.invariant.1 (words_of c.in-Some.following.now) c.in-Some.ensures.value
 
 pub block-returns-in_err-stmt-in-None-clause-value : goal.block-returns-in_err-stmt-in-None-clause-value
 block-returns-in_err-stmt-in-None-clause-value t c =

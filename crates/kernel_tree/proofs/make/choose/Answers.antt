@@ -1,4 +1,4 @@
-use Rattle.kernel_tree.proofs.Rows.{choose-is}
+use Rattle.kernel_tree.proofs.StatementLists.{choose-is}
 use Rattle.kernel_tree.proofs.make.choose.Goals as goal
 
 pub returns : goal.returns

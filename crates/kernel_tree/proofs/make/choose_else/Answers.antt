@@ -1,4 +1,4 @@
-use Rattle.kernel_tree.proofs.Rows.{choose_else-is}
+use Rattle.kernel_tree.proofs.StatementLists.{choose_else-is}
 use Rattle.kernel_tree.proofs.make.choose_else.Goals as goal
 
 pub returns : goal.returns

@@ -1,7 +1,7 @@
 use Rattle.std.proofs.Common.{List, Option, Vec, Global, sym, ap, ap₂, ◌∙◌}
 use Rattle.kernel_tree.specs.declared.ast.Stmt.{Stmt}
 use Rattle.kernel_tree.specs.Plain.{Choose, Nothing, Else, term_of, action_of, block_of}
-use Rattle.kernel_tree.proofs.Rows.{if-is, otherwise_of}
+use Rattle.kernel_tree.proofs.StatementLists.{if-is, otherwise_of}
 use Rattle.kernel_tree.proofs.take_apart.parts.Goals as goal
 
 pub returns-in-None : goal.returns-in-None

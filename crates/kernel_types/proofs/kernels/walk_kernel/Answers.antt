@@ -3,7 +3,7 @@ use Rattle.kernel_tree.specs.Plain.{parameters_of, accumulators_of, program_of}
 use Rattle.kernel_tree.specs.Items.{turns_size}
 use Rattle.kernel_tree.specs.Typing.{Scope, empty, after_params, after_vars, after_turns, param_scope, var_scope}
 use Rattle.kernel_scope.specs.Scopes.{scope_of}
-use Rattle.kernel_types.proofs.Whole.{count_params, vars_index, vars_outside, vars_room, turns_room, answer_room, vars_count, whole}
+use Rattle.kernel_types.proofs.KernelWalks.{count_params, vars_index, vars_outside, vars_room, turns_room, answer_room, vars_count, whole}
 use Rattle.kernel_types.proofs.kernels.walk_kernel.Goals as goal
 
 pub walk_vars-requires : goal.walk_vars-requires

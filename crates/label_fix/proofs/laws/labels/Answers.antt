@@ -1,4 +1,4 @@
-use Rattle.label_fix.proofs.Same.{runs_as_draft, cuts_are_suppressed, words_length}
+use Rattle.label_fix.proofs.PlacedRuns.{runs_as_draft, cuts_are_suppressed, words_length}
 use Rattle.label_fix.proofs.laws.labels.Goals as goal
 
 pub returns : goal.returns

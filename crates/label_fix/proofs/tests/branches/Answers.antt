@@ -1,7 +1,7 @@
 use Rattle.std.proofs.Common.{◌≡◌, ℕ, ◌+◌, ◌≤◌, List, [], ◌∷◌, ◌++◌, ap, arith}
 use Rattle.label_fix.specs.DraftRun.{Entry, Put, Branch, Place}
 use Rattle.label_fix.specs.Finished.{size}
-use Rattle.label_fix.proofs.Same.{size-append}
+use Rattle.label_fix.proofs.PlacedRuns.{size-append}
 use Rattle.label_fix.proofs.tests.branches.Goals as goal
 
 one : (e : Entry) → size (e ∷ []) ≤ 1

@@ -11,7 +11,7 @@ abbrev pub invariant-list_block-loop-stmt : goal.invariant-list_block-loop-stmt
 invariant-list_block-loop-stmt l = record {
   depth : block_depth (block_of (drop l.stmt-index l.block)) ≤ block_depth (block_of l.block);
   numbers : l.next + block_size (loop_index (program l.fn.kernel)) (block_of (drop l.stmt-index l.block)) ≡ l.fn.from + block_size (loop_index (program l.fn.kernel)) (block_of l.block);
-  behind : length l.entries.items + l.fn.from ≡ length l.fn.entries.items + l.next;
+  following : length l.entries.items + l.fn.from ≡ length l.fn.entries.items + l.next;
   items : seen l.entries.items ++ block_entries (program l.fn.kernel) l.next (block_of (drop l.stmt-index l.block)) ≡ seen l.fn.entries.items ++ block_entries (program l.fn.kernel) l.fn.from (block_of l.block);
 }
 

@@ -9,6 +9,6 @@ use Rattle.loop_form.proofs.walk.list_vars.Given as goal
 abbrev pub invariant-loop-var : goal.invariant-loop-var
 invariant-loop-var l = record {
   numbers : l.next + vars_size (loop_index (program l.fn.kernel)) (accumulators_of (drop l.var-index l.vars)) ≡ l.fn.from + vars_size (loop_index (program l.fn.kernel)) (accumulators_of l.vars);
-  behind : length l.entries.items + l.fn.from ≡ length l.fn.entries.items + l.next;
+  following : length l.entries.items + l.fn.from ≡ length l.fn.entries.items + l.next;
   items : seen l.entries.items ++ vars_entries (program l.fn.kernel) l.next (accumulators_of (drop l.var-index l.vars)) ≡ seen l.fn.entries.items ++ vars_entries (program l.fn.kernel) l.fn.from (accumulators_of l.vars);
 }

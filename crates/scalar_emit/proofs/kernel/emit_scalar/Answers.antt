@@ -26,7 +26,7 @@ returns-clause-code c rest =
     let vars = c.vars_size_of.ensures ∙ ap₂ (λ (t : Kernel) (vs : List Var). vars_size (loop_index (program_of t)) (accumulators_of vs)) (sym c.kernel-tree.ensures) c.deref.ensures.value in
     let first : c.len.result + c.vars_size_of.result ≡ loop_start k = ap₂ (λ m n. m + n) params vars in
     let end : c.emit_turns.new.item ≡ loop_end k = c.in_ok-at_iteration-in-Some.ensures.item ∙ ap₂ (λ m n. m + n) first (ap turns_size (sym turns)) in
-    c.in_ok-emit_behind-in-Some.ensures.code rest
+    c.in_ok-emit_following-in-Some.ensures.code rest
     ∙ c.in_ok-at_iteration-in-Some.ensures.code _
     ∙ ap (λ (es : List Entry). c.args.draft.now.entries ++ es)
     (scalar_is R k c.in_ok-places.places (turns_of c.in-Some.turns) (c.len.result + c.vars_size_of.result) c.args.draft.now.labels c.emit_turns.new.item c.emit_turns.new.draft.labels rest places turns first end c.in_ok-at_iteration-in-Some.ensures.labels
@@ -37,7 +37,7 @@ returns-clause-words c =
     let k = program c.args.kernel.now in
     let R = register_in c.args.regs.now in
     let n = c.args.draft.now.labels in
-    words_added c.args.draft.now.entries c.emit_behind.new.draft.entries (scalar_code R k n []) (64 + 16 * size_of k) (returns-clause-code c []) (scalar_words R k n [])
+    words_added c.args.draft.now.entries c.emit_following.new.draft.entries (scalar_code R k n []) (64 + 16 * size_of k) (returns-clause-code c []) (scalar_words R k n [])
 
 pub returns-in-None-clause-code : goal.returns-in-None-clause-code
 unfolding program

@@ -2,7 +2,7 @@ use Rattle.std.proofs.Common.{◌≡◌, ◌≤◌, ℕ, List, [], ◌∷◌, ap
 use Rattle.kernel_tree.specs.Items.{size_of}
 use Rattle.label_fix.specs.DraftRun.{Entry, Place}
 use Rattle.label_fix.specs.Finished.{size}
-use Rattle.label_fix.proofs.Same.{size-append}
+use Rattle.label_fix.proofs.PlacedRuns.{size-append}
 use Rattle.loop_form.specs.View.{program}
 use Rattle.vector_emit.proofs.listings.words_of.Goals as goal
 

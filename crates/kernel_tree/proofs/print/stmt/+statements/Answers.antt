@@ -4,7 +4,7 @@ use Rattle.kernel_tree.specs.declared.ast.Stmt.{Stmt}
 use Rattle.kernel_tree.specs.Plain.{Action, Choose, Nothing, Else, term_of, action_of, block_of}
 use Rattle.kernel_tree.specs.Limits.{action_depth, block_depth}
 use Rattle.kernel_tree.specs.Printing.{spaced, print_action}
-use Rattle.kernel_tree.proofs.Rows.{if-is, otherwise_of}
+use Rattle.kernel_tree.proofs.StatementLists.{if-is, otherwise_of}
 use Rattle.kernel_tree.proofs.print.stmt.+statements.Goals as goal
 
 pub print_stmt-print_then-requires : goal.print_stmt-print_then-requires

@@ -10,13 +10,14 @@ use Rattle.kernel_tree.specs.Plain.{Action, Define, Put, Update, Choose, Leave, 
 use Rattle.kernel_tree.specs.Typing.{Scope, Local, local, first, own, lookup, element_type, accumulator_type, index_type, left, defined, after_action, after_block}
 use Rattle.guest_types.specs.declared.memory.AccessFault.{AccessFault}
 use Rattle.guest_types.specs.Memory.{Memory, stored}
+use Rattle.kernel_meaning.specs.Ends.{BlockEnd, Next, Broke, Faulted}
 use Rattle.kernel_meaning.specs.Operators.{word, binary_value, operator_of}
 use Rattle.kernel_meaning.specs.Eval.{Names, value_at, address, byte_count, iteration, element_number, on_both, value, holds}
-use Rattle.kernel_meaning.specs.Iterate.{Turn, Next, Broke, Faulted, with_name, assigned, cut, define, update, write, put, choose, leave, then_do, act, do_block, do_otherwise}
-use Rattle.kernel_meaning.specs.Slots.{Slots, Stand, Went, Quit, Stuck, slot_at, tree_value, set_slot, write as write_slots, store, branch, quit, then_go, do_task, do_tasks}
+use Rattle.kernel_meaning.specs.Iterate.{with_name, assigned, cut, define, update, write, put, choose, leave, then_do, act, do_block, do_otherwise}
+use Rattle.kernel_meaning.specs.Slots.{Slots, slot_at, tree_value, set_slot, write as write_slots, store, branch, quit, then_go, do_task, do_tasks}
 use Rattle.kernel_meaning.specs.Resolve.{most_slots, slot_of, let_slot, number_tree, resolved, resolved_action, resolved_block, resolved_otherwise}
-use Rattle.kernel_meaning.proofs.Held.{Held, value-held, assigned-held, named-held, cut-held, held-length}
-use Rattle.kernel_meaning.proofs.Sames.{Alike, Neither, Words, same, number-alike, address-word}
+use Rattle.kernel_meaning.proofs.HeldSlots.{Held, value-held, assigned-held, named-held, cut-held, held-length}
+use Rattle.kernel_meaning.proofs.ResolvedValues.{Alike, Neither, Words, same, number-alike, address-word}
 use Rattle.kernel_meaning.proofs.Growth.{Grows, grows_by_block, grows_by_action}
 
 -- more names are visible
@@ -38,16 +39,16 @@ wider_left s t = record { more = []; visible = sym (append-nil s.visible) }
 
 -- two turns that leave the same memory, and in the slots what the names have: those of the scope after the statements, or
 -- of a wider one than theirs where a `break` ended the loop
-pub data Matches (s t : Scope) : Turn → Stand → Type 0 where
-  Nexts : (m : Memory) (ns : Names) (vs : Slots) → Held t.visible ns vs → length vs ≡ most_slots → Matches s t (Next m ns) (Went m vs)
-  Breaks : (m : Memory) (ns : Names) (vs : Slots) (u : Scope) → Wider s u → Held u.visible ns vs → length vs ≡ most_slots → Matches s t (Broke m ns) (Quit m vs)
-  Faults : (m : Memory) → Matches s t (Faulted m) (Stuck m)
+pub data Matches (s t : Scope) : BlockEnd Names → BlockEnd Slots → Type 0 where
+  Nexts : (m : Memory) (ns : Names) (vs : Slots) → Held t.visible ns vs → length vs ≡ most_slots → Matches s t (Next m ns) (Next m vs)
+  Breaks : (m : Memory) (ns : Names) (vs : Slots) (u : Scope) → Wider s u → Held u.visible ns vs → length vs ≡ most_slots → Matches s t (Broke m ns) (Broke m vs)
+  Faults : (m : Memory) → Matches s t (Faulted m) (Faulted m)
 
 -- the same after a block
-pub data Closed (s : Scope) : Turn → Stand → Type 0 where
-  NextsIn : (m : Memory) (ns : Names) (vs : Slots) → Held s.visible ns vs → length vs ≡ most_slots → Closed s (Next m ns) (Went m vs)
-  BreaksIn : (m : Memory) (ns : Names) (vs : Slots) → Held s.visible ns vs → length vs ≡ most_slots → Closed s (Broke m ns) (Quit m vs)
-  FaultsIn : (m : Memory) → Closed s (Faulted m) (Stuck m)
+pub data Closed (s : Scope) : BlockEnd Names → BlockEnd Slots → Type 0 where
+  NextsIn : (m : Memory) (ns : Names) (vs : Slots) → Held s.visible ns vs → length vs ≡ most_slots → Closed s (Next m ns) (Next m vs)
+  BreaksIn : (m : Memory) (ns : Names) (vs : Slots) → Held s.visible ns vs → length vs ≡ most_slots → Closed s (Broke m ns) (Broke m vs)
+  FaultsIn : (m : Memory) → Closed s (Faulted m) (Faulted m)
 
 -- ---- statements, by what their expressions give
 
@@ -62,7 +63,7 @@ define-same s x (Some t) m ns vs (Some v) h l room =
 update-same : (s : Scope) (x : List ℕ) (op : UpdateOp) (want : Option Ty) (m : Memory) (ns : Names) (vs : Slots) (o : Option ℤ) → Held s.visible ns vs → length vs ≡ most_slots → Matches s s (update x op want m ns o) (set_slot (slot_of s x) m vs (on_both (binary_value (operator_of op) want) (Some (slot_at vs (slot_of s x))) o))
 update-same s x op want m ns vs None h l = Faults m
 update-same s x op want m ns vs (Some v) h l =
-    subst (λ w. Matches s s (update x op want m ns (Some v)) (Went m (slice_set vs (slot_of s x) (binary_value (operator_of op) want w v)))) (sym (value-held s.visible ns vs x h (omega arith)))
+    subst (λ w. Matches s s (update x op want m ns (Some v)) (Next m (slice_set vs (slot_of s x) (binary_value (operator_of op) want w v)))) (sym (value-held s.visible ns vs x h (omega arith)))
     (Nexts m (assigned x (binary_value (operator_of op) want (value_at ns x) v) ns) (slice_set vs (slot_of s x) (binary_value (operator_of op) want (value_at ns x) v)) (assigned-held s.visible ns vs x (binary_value (operator_of op) want (value_at ns x) v) h) (length-set vs (slot_of s x) (binary_value (operator_of op) want (value_at ns x) v) ∙ l))
 
 write-same : (s : Scope) (m : Memory) (ns : Names) (vs : Slots) (r : Result Memory AccessFault) → Held s.visible ns vs → length vs ≡ most_slots → Matches s s (write m ns r) (write_slots m vs r)
@@ -85,27 +86,27 @@ leave-same s m ns vs (Some false) h l = Nexts m ns vs h l
 narrow : (s u : Scope) (n : ℕ) (ns : Names) (vs : Slots) → Wider s u → n ≡ length s.visible → Held u.visible ns vs → Held s.visible (take n ns) vs
 narrow s u n ns vs g e h = subst (λ k. Held s.visible (take k ns) vs) (sym e) (cut-held s.visible g.more ns vs (subst (λ ls. Held ls ns vs) g.visible h))
 
-pub cut-same : (s t : Scope) (n : ℕ) (turn : Turn) (stand : Stand) → Matches s t turn stand → Wider s t → n ≡ length s.visible → Closed s (cut n turn) stand
+pub cut-same : (s t : Scope) (n : ℕ) (turn : BlockEnd Names) (stand : BlockEnd Slots) → Matches s t turn stand → Wider s t → n ≡ length s.visible → Closed s (cut n turn) stand
 cut-same s t n _ _ (Nexts m ns vs h l) g e = NextsIn m (take n ns) vs (narrow s t n ns vs g e h) l
 cut-same s t n _ _ (Breaks m ns vs u w h l) g e = BreaksIn m (take n ns) vs (narrow s u n ns vs w e h) l
 cut-same s t n _ _ (Faults m) g e = FaultsIn m
 
-reopen : (s t : Scope) (turn : Turn) (stand : Stand) → t.visible ≡ s.visible → Closed s turn stand → Matches s t turn stand
+reopen : (s t : Scope) (turn : BlockEnd Names) (stand : BlockEnd Slots) → t.visible ≡ s.visible → Closed s turn stand → Matches s t turn stand
 reopen s t _ _ e (NextsIn m ns vs h l) = Nexts m ns vs (subst (λ ls. Held ls ns vs) (sym e) h) l
 reopen s t _ _ e (BreaksIn m ns vs h l) = Breaks m ns vs s (wider_same s) h l
 reopen s t _ _ e (FaultsIn m) = Faults m
 
-branch-same : (s t : Scope) (m : Memory) (o : Option Bool) (one other : Turn) (a b : Stand) → Matches s t one a → Matches s t other b → Matches s t (choose m o one other) (branch m o a b)
+branch-same : (s t : Scope) (m : Memory) (o : Option Bool) (one other : BlockEnd Names) (a b : BlockEnd Slots) → Matches s t one a → Matches s t other b → Matches s t (choose m o one other) (branch m o a b)
 branch-same s t m None one other a b p q = Faults m
 branch-same s t m (Some true) one other a b p q = p
 branch-same s t m (Some false) one other a b p q = q
 
-pub widen : (r s t : Scope) (turn : Turn) (stand : Stand) → Wider r s → Matches s t turn stand → Matches r t turn stand
+pub widen : (r s t : Scope) (turn : BlockEnd Names) (stand : BlockEnd Slots) → Wider r s → Matches s t turn stand → Matches r t turn stand
 widen r s t _ _ g (Nexts m ns vs h l) = Nexts m ns vs h l
 widen r s t _ _ g (Breaks m ns vs u w h l) = Breaks m ns vs u (wider_further r s u g w) h l
 widen r s t _ _ g (Faults m) = Faults m
 
-then-same : (r s t : Scope) (turn : Turn) (stand : Stand) (rest : Memory → Names → Turn) (others : Memory → Slots → Stand) → Matches r s turn stand → Wider r s → ((m : Memory) (ns : Names) (vs : Slots) → Held s.visible ns vs → length vs ≡ most_slots → Matches s t (rest m ns) (others m vs)) → Matches r t (then_do turn rest) (then_go stand others)
+then-same : (r s t : Scope) (turn : BlockEnd Names) (stand : BlockEnd Slots) (rest : Memory → Names → BlockEnd Names) (others : Memory → Slots → BlockEnd Slots) → Matches r s turn stand → Wider r s → ((m : Memory) (ns : Names) (vs : Slots) → Held s.visible ns vs → length vs ≡ most_slots → Matches s t (rest m ns) (others m vs)) → Matches r t (then_do turn rest) (then_go stand others)
 then-same r s t _ _ rest others (Nexts m ns vs h l) g next = widen r s t (rest m ns) (others m vs) g (next m ns vs h l)
 then-same r s t _ _ rest others (Breaks m ns vs u w h l) g next = Breaks m ns vs u w h l
 then-same r s t _ _ rest others (Faults m) g next = Faults m
@@ -185,5 +186,5 @@ mutual
       (act-same a s m ns vs h l (omega arith)) (wider s (after_action s a) (grows_by_action a s)) (λ m' ns' vs' h' l'. block-same b (after_action s a) m' ns' vs' h' l' (omega arith))
 
   otherwise-same : (d : Otherwise) (s : Scope) (n : ℕ) (m : Memory) (ns : Names) (vs : Slots) → Held s.visible ns vs → length vs ≡ most_slots → length s.visible + otherwise_lets d ≤ most_slots → n ≡ length s.visible → Closed s (cut n (do_otherwise s d m ns)) (do_tasks (resolved_otherwise s d) m vs)
-  otherwise-same Nothing s n m ns vs h l room e = cut-same s s n (Next m ns) (Went m vs) (Nexts m ns vs h l) (wider_same s) e
+  otherwise-same Nothing s n m ns vs h l room e = cut-same s s n (Next m ns) (Next m vs) (Nexts m ns vs h l) (wider_same s) e
   otherwise-same (Else b) s n m ns vs h l room e = cut-same s (after_block s b) n (do_block s b m ns) (do_tasks (resolved_block s b) m vs) (block-same b s m ns vs h l room) (wider s (after_block s b) (grows_by_block b s)) e

@@ -11,7 +11,7 @@ pub struct At {
 
 /// How a loop stands after some iterations.
 #[derive(Clone, Copy, Debug)]
-pub enum Progress {
+pub enum LoopState {
     Going,
     /// A `break` ended this iteration and the loop.
     Left(At),

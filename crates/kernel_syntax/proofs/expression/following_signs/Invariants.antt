@@ -1,7 +1,7 @@
 use Rattle.std.proofs.Common.{◌≡◌, vec_len}
 use Rattle.kernel_tree.specs.Plain.{term_of}
 use Rattle.kernel_syntax.specs.Signs.{all_signed}
-use Rattle.kernel_syntax.proofs.expression.behind_signs.Given as goal
+use Rattle.kernel_syntax.proofs.expression.following_signs.Given as goal
 
 abbrev pub invariant-more : goal.invariant-more
 invariant-more l = all_signed l.left.items (term_of l.expr) ≡ all_signed l.fn.signs.items (term_of l.fn.arg)

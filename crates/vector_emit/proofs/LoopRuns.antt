@@ -9,10 +9,11 @@ use Rattle.machine_model.specs.Run.{End, Stop}
 use Rattle.kernel_tree.specs.Plain.{Program}
 use Rattle.kernel_tree.specs.Items.{size_of}
 use Rattle.kernel_tree.specs.Typing.{var_scope}
+use Rattle.kernel_meaning.specs.Ends.{Going, Failed}
 use Rattle.kernel_meaning.specs.Eval.{Names}
 use Rattle.kernel_meaning.specs.ScalarRun as run
-use Rattle.kernel_meaning.specs.ScalarRun.{Run, Going, Failed, course, bound_of}
-use Rattle.label_fix.specs.DraftRun.{Always, Entry, Branch, Laid, behind, address_of, draft_run}
+use Rattle.kernel_meaning.specs.ScalarRun.{Run, course, bound_of}
+use Rattle.label_fix.specs.DraftRun.{Always, Entry, Branch, Laid, following, address_of, draft_run}
 use Rattle.label_fix.specs.Cuts.{cuts}
 use Rattle.label_fix.specs.Stretches.{Resolves}
 use Rattle.label_fix.proofs.Steps.{Goes, Ends, chain, go_more, pass, taken_goes, end_after}
@@ -39,7 +40,7 @@ use Rattle.vector_emit.proofs.Courses.{turns_on, turns_fail, late_ends}
 use Rattle.vector_emit.proofs.Paces.{Spends, in_all, none_spent, cuts_more}
 use Rattle.vector_emit.proofs.Rounds.{Passing, leaves, stops, Late, split}
 use Rattle.vector_emit.proofs.LoopOf.{HeadOf, loop_of, has_lanes}
-use Rattle.vector_emit.proofs.Labels.{behind_start}
+use Rattle.vector_emit.proofs.Labels.{following_start}
 use Rattle.vector_emit.proofs.Bounds.{bound_steady}
 use Rattle.vector_emit.proofs.Holds.{held_still}
 use Rattle.vector_emit.proofs.Answered.{answered}
@@ -81,22 +82,22 @@ module _ (L U size : ℕ) (some : 0 < L) {d : Laid} {c e : List Entry} {s t : St
 
   -- k words after n words of the passes
   late : (bg j n k : ℕ) → j ≤ bg → k ≤ 6 * size + 1 + 2 * U → Spends L U 0 j n (cuts d n e t) → InPace bg (before.count + (n + k))
-  late bg j n k le behind spent =
+  late bg j n k le following spent =
       let f = before.within in
       let told = before.tells (n + k) in
       let more = cuts_more d n k e t in
-      let h = in_all L U size j bg before.count n k (cuts d n e t) (cuts d (before.count + (n + k)) c s) some le (omega (arith, f, few)) behind (omega (arith, told, more)) spent in
+      let h = in_all L U size j bg before.count n k (cuts d n e t) (cuts d (before.count + (n + k)) c s) some le (omega (arith, f, few)) following (omega (arith, told, more)) spent in
       let e : before.count + n + k ≡ before.count + (n + k) = omega arith in
       subst (λ x. L * x < L * (100 + 24 * size) + U * (bg + 5 * L) + 2 * (L * U) * cuts d (before.count + (n + k)) c s) e h
 
   whole : (bg j count : ℕ) → j ≤ bg → ((n : ℕ) → n ≤ count → Spends L U 0 j n (cuts d n e t)) → (n : ℕ) → n ≤ before.count + count → InPace bg n
   whole bg j count le pace = split (InPace bg) before.count count (early bg) (λ n below. (let e : n + 0 ≡ n = omega arith in subst (λ n. InPace bg (before.count + n)) e (late bg j n 0 le (omega arith) (pace n below))))
 
-  whole_behind : (bg j count last : ℕ) → j ≤ bg → last ≤ 6 * size + 1 + 2 * U → ((n : ℕ) → n ≤ count → Spends L U 0 j n (cuts d n e t)) → (n : ℕ) → n ≤ before.count + (count + last) → InPace bg n
-  whole_behind bg j count last le behind pace =
+  whole_following : (bg j count last : ℕ) → j ≤ bg → last ≤ 6 * size + 1 + 2 * U → ((n : ℕ) → n ≤ count → Spends L U 0 j n (cuts d n e t)) → (n : ℕ) → n ≤ before.count + (count + last) → InPace bg n
+  whole_following bg j count last le following pace =
       split (InPace bg) before.count (count + last) (early bg)
       (split (λ n. InPace bg (before.count + n)) count last (λ n below. (let e : n + 0 ≡ n = omega arith in subst (λ n. InPace bg (before.count + n)) e (late bg j n 0 le (omega arith) (pace n below))))
-      (λ k below. late bg j count k le (omega (arith, behind, below)) (pace count (omega arith))))
+      (λ k below. late bg j count k le (omega (arith, following, below)) (pace count (omega arith))))
 
 -- ---- the passes
 
@@ -152,15 +153,15 @@ module _ (g : Ground) (c : Assignment) (d : Laid) (scalar n : ℕ) (rest : List 
       late : j ≤ begun
       ends : Ends d leave end memory result (6 * size_of g.kernel + 1 + 2 * turn_steps g)
 
-    behind_passes : (j : ℕ) (now : Memory) (names : Names) (end : State) → HeadOf g j names now end → j ≤ limit g → Late (loop_of g d leave) j now names → Behind j now names end
-    behind_passes j now names end h le late =
+    following_passes : (j : ℕ) (now : Memory) (names : Names) (end : State) → HeadOf g j names now end → j ≤ limit g → Late (loop_of g d leave) j now names → Behind j now names end
+    following_passes j now names end h le late =
         let bound = bound_is j names now end h in
         let f = folds_at g c j names now h.sum d (Branch Always scalar ∷ rest) end ground fit at.ranged (names_held j names now end h) h.head in
         let there : AtIteration R g.kernel j names now (jump f.end (address_of d scalar)) = jump_at (address_of d scalar) f.at in
         let within : IsWithin g.kernel.turns j names = subst (λ l. IsWithin l j names) (sym ground.loops) (let b : j ≤ bound_of g.turns names = omega (arith, le, bound) in b) in
         let ends = late_ends (var_scope g.kernel) g.turns g.kernel.answer (limit g) j now names (answered g.kernel g.turns ground.sound ground.loops) bound le late in
         let is : run_from g.kernel j now names ≡ run.End ends.memory ends.result ends.count = loop_is j now names ∙ ends.is in
-        let e = ended (subst (λ r. Comes d (behind d scalar) (jump f.end (address_of d scalar)) (turn_steps g) (turn_steps g) j r) is (reaches j names now (jump f.end (address_of d scalar)) within there)) in
+        let e = ended (subst (λ r. Comes d (following d scalar) (jump f.end (address_of d scalar)) (turn_steps g) (turn_steps g) j r) is (reaches j names now (jump f.end (address_of d scalar)) within there)) in
         let begun = e.is in
         let most = ends.few in
         let one : turn_steps g * e.n ≤ turn_steps g * 1 = mul-le-mul_left (turn_steps g) (omega (arith, begun, most)) in
@@ -176,7 +177,7 @@ module _ (g : Ground) (c : Assignment) (d : Laid) (scalar n : ℕ) (rest : List 
 
     finish : Passing (loop_of g d leave) head start 0 g.names m → Done (run_from g.kernel 0 m g.names)
     finish (leaves k j now names end count place le goes late h by pace) =
-        let b = behind_passes j now names end h le late in
+        let b = following_passes j now names end h le late in
         let on : run_from g.kernel 0 m g.names ≡ run_from g.kernel j now names
         = loop_is 0 m g.names ∙ turns_on (var_scope g.kernel) g.turns g.kernel.answer (limit g) k 0 m g.names now names refl (bound_is j names now end h) (omega (arith, place, le)) goes
         ∙ ap (λ j. turns_from (var_scope g.kernel) (Some g.turns) g.kernel.answer j now names) (sym place) ∙ sym (loop_is j now names) in
@@ -187,7 +188,7 @@ module _ (g : Ground) (c : Assignment) (d : Laid) (scalar n : ℕ) (rest : List 
               let e : before.count + (count + b.ends.count) + n ≡ before.count + (count + (b.ends.count + n)) = omega arith in
               let f : taken + before.count + count + b.ends.count ≡ taken + (before.count + (count + b.ends.count)) = omega arith in
               ap (λ n. draft_run d n taken code s) e ∙ before.by (count + (b.ends.count + n)) taken ∙ by (b.ends.count + n) (taken + before.count) ∙ b.ends.by n (taken + before.count + count) ∙ ap (End b.memory b.result) f;
-          paced = λ n below. whole_behind (most_lanes g) (turn_steps g) (size_of g.kernel) (has_lanes g ground) before few b.begun j count b.ends.count b.late b.ends.within pace n (omega (arith, below));
+          paced = λ n below. whole_following (most_lanes g) (turn_steps g) (size_of g.kernel) (has_lanes g ground) before few b.begun j count b.ends.count b.late b.ends.within pace n (omega (arith, below));
         }))
     finish (stops k j left faulted kind count pc place within lo hi fails ends by pace) =
         subst Done (sym (loop_is 0 m g.names ∙ turns_fail (var_scope g.kernel) g.turns g.kernel.answer (limit g) k 0 m g.names faulted j refl within fails))
@@ -207,6 +208,6 @@ vector_runs g c d scalar n rest m s ground fit is vl at x res reaches =
     let leave = fold_code (register_in c) g.kernel g.vectors (Branch Always scalar ∷ rest) in
     let passes = passes_code g.kernel g.vectors g.predicates n leave in
     let st = start_runs g m d passes s ground is vl at.memory at.index x in
-    let e = enters g ground d n leave (behind_start d g.kernel g.vectors passes res) st.head in
+    let e = enters g ground d n leave (following_start d g.kernel g.vectors passes res) st.head in
     let few = few_held g.kernel in
     finish g c d scalar n rest m s ground fit at x reaches (chain (1 + 5 * length (throughout g.kernel Z) + 2) (omega arith) st.goes e.goes) (omega (arith, few)) e.passing

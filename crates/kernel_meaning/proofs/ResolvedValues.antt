@@ -15,7 +15,7 @@ use Rattle.kernel_meaning.specs.Trees.{Tree}
 use Rattle.kernel_meaning.specs.Slots.{Slots, slot_at, tree_value, tree_holds}
 use Rattle.kernel_meaning.specs.Resolve.{most_slots, index_slot, number_tree, resolved}
 use Rattle.kernel_meaning.proofs.Residues.{word-below, word-mul, word-add}
-use Rattle.kernel_meaning.proofs.Held.{Held, value-held}
+use Rattle.kernel_meaning.proofs.HeldSlots.{Held, value-held}
 
 -- ---- addresses
 

@@ -3,7 +3,7 @@ use Rattle.std.proofs.Common.{◌≡◌, ℕ, ◌+◌, ◌<◌, ◌^◌, List, [
 use Rattle.std.proofs.lemmas.List.{length-map}
 use Rattle.kernel_tree.specs.declared.ast.Param.{Param}
 use Rattle.kernel_tree.specs.declared.fault.Found.{Found}
-use Rattle.kernel_tree.specs.Plain.{Parameter, Accumulator, Turns, Program, parameter_of, parameters_of}
+use Rattle.kernel_tree.specs.Plain.{Parameter, Accumulator, PlainLoop, Program, parameter_of, parameters_of}
 use Rattle.kernel_tree.specs.Items.{vars_size, turns_size, answer_size, loop_index, size_of}
 use Rattle.kernel_tree.specs.Typing.{Scope, empty, after_params, after_vars, after_turns, param_scope, var_scope, params_faults, vars_faults, turns_faults, answer_faults, kernel_faults, sooner, least}
 use Rattle.kernel_types.proofs.Least.{sooner-assoc, least-append}
@@ -25,7 +25,7 @@ inside_after_vars : (s : Scope) (vs : List Accumulator) → (after_vars s vs).in
 inside_after_vars s [] = refl
 inside_after_vars s (v ∷ vs) = inside_after_vars (after_var s v) vs
 
-index_after_turns : (s : Scope) (o : Option Turns) → (after_turns s o).index ≡ s.index
+index_after_turns : (s : Scope) (o : Option PlainLoop) → (after_turns s o).index ≡ s.index
 index_after_turns s None = refl
 index_after_turns s (Some l) = refl
 
@@ -35,8 +35,8 @@ index_of_params k = index_after_params (empty (loop_index k)) k.params
 index_of_vars : (k : Program) → (var_scope k).index ≡ loop_index k
 index_of_vars k = index_after_vars (param_scope k) k.vars ∙ index_of_params k
 
-index_behind : (k : Program) → (after_turns (var_scope k) k.turns).index ≡ loop_index k
-index_behind k = index_after_turns (var_scope k) k.turns ∙ index_of_vars k
+index_following : (k : Program) → (after_turns (var_scope k) k.turns).index ≡ loop_index k
+index_following k = index_after_turns (var_scope k) k.turns ∙ index_of_vars k
 
 index : Scope → Option (List ℕ)
 index s = s.index
@@ -57,7 +57,7 @@ pub turns_room : (k : Program) (n : ℕ) → n ≡ length k.params + vars_size (
 turns_room k n e h = omega arith
 
 pub answer_room : (k : Program) (s : Scope) (n : ℕ) → s ≡ after_turns (var_scope k) k.turns → n ≡ length k.params + vars_size (loop_index k) k.vars + turns_size k.turns → size_of k < 2 ^ 32 → n + answer_size s.index k.answer < 2 ^ 32
-answer_room k s n e f h = rw e (rw (index_behind k) (omega arith))
+answer_room k s n e f h = rw e (rw (index_following k) (omega arith))
 
 pub vars_count : (k : Program) (s : Scope) (n m : ℕ) (vs : List Accumulator) → s ≡ param_scope k → n ≡ length k.params → vs ≡ k.vars → m ≡ n + vars_size s.index vs → m ≡ length k.params + vars_size (loop_index k) k.vars
 vars_count k s n m vs e f g h = h ∙ ap₂ (λ i xs. n + vars_size i xs) (rw e (index_of_params k)) g ∙ ap (λ x. x + vars_size (loop_index k) k.vars) f

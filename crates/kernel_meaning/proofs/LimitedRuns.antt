@@ -2,20 +2,21 @@
 use Rattle.std.proofs.Common.{◌≡◌, ℕ, zero, suc, ◌+◌, ◌-◌, ◌<◌, ◌≤◌, List, [], ◌∷◌, Bool, true, false, cond, Option, Some, None, length, refl, sym, ap, ap₂, subst, ◌∙◌, arith, ltb}
 use Rattle.std.specs.Prelude.{pos, nat_lt, min}
 use Rattle.std.proofs.lemmas.Bool.{ltb-true, ltb-false}
-use Rattle.kernel_tree.specs.Plain.{Action, Define, Put, Update, Choose, Leave, Block, Done, Then, Otherwise, Nothing, Else, Accumulator, Turns, Returned, Program}
+use Rattle.kernel_tree.specs.Plain.{Action, Define, Put, Update, Choose, Leave, Block, Done, Then, Otherwise, Nothing, Else, Accumulator, PlainLoop, Returned, Program}
 use Rattle.kernel_tree.specs.Items.{action_size, block_size, otherwise_size, vars_size, turns_size, loop_index, size_of}
 use Rattle.kernel_tree.specs.Limits.{most_items}
 use Rattle.kernel_tree.specs.Typing.{Scope, after_turns, var_scope, check_fault, Refusal, TooLarge}
 use Rattle.guest_types.specs.Memory.{Memory}
+use Rattle.kernel_meaning.specs.Ends.{BlockEnd, Next, Broke, Faulted, LoopState, Going, Left, Failed, go_on}
 use Rattle.kernel_meaning.specs.Eval.{Names}
-use Rattle.kernel_meaning.specs.Iterate.{Turn, Next, Broke, Faulted, with_name, iterate}
-use Rattle.kernel_meaning.specs.ScalarRun.{Standing, Going, Left, Failed, go_on, course, bound_of, Run, End, Fault, begun, returned, ended, closed, finish, run_turns, run_named, started, scalar_run, memory_of, turns_leave, first_leave}
+use Rattle.kernel_meaning.specs.Iterate.{with_name, iterate}
+use Rattle.kernel_meaning.specs.ScalarRun.{course, bound_of, Run, End, Fault, begun, returned, ended, closed, finish, run_turns, run_named, started, scalar_run, memory_of, turns_leave, first_leave}
 use Rattle.kernel_meaning.specs.Answers.{IsOutcome}
 use Rattle.kernel_meaning.specs.declared.outcome.ScalarOutcome.{ScalarOutcome}
 use Rattle.kernel_meaning.specs.declared.outcome.ScalarOutcome.TheVariants as outcome
 use Rattle.kernel_meaning.specs.Resolve.{most_slots}
 use Rattle.kernel_meaning.specs.Plans.{Ended, Cut, limited_of}
-use Rattle.kernel_meaning.proofs.Turns.{action_lets, block_lets, otherwise_lets}
+use Rattle.kernel_meaning.proofs.ResolvedStatements.{action_lets, block_lets, otherwise_lets}
 use Rattle.kernel_meaning.proofs.Courses.{finish_limited, loop_limited, turns_limited, run_limited, turns_lets}
 
 -- ---- outcomes
@@ -34,39 +35,39 @@ past_limit outcome.Spent limit run after first e lt = let h : after ≡ first = 
 -- ---- courses
 
 -- where a course ends: at an iteration before its last, or it goes on
-pub data Ends (from last_use : ℕ) : Standing → Type 0 where
+pub data Ends (from last_use : ℕ) : LoopState Names → Type 0 where
   GoesOn : (m : Memory) (ns : Names) → Ends from last_use (Going m ns)
   LeftAt : (m : Memory) (ns : Names) (i : ℕ) → from ≤ i → i < last_use → Ends from last_use (Left m ns i)
   FailedAt : (m : Memory) (i : ℕ) → from ≤ i → i < last_use → Ends from last_use (Failed m i)
 
-later : (from next last_use : ℕ) (st : Standing) → from ≤ next → Ends next last_use st → Ends from last_use st
+later : (from next last_use : ℕ) (st : LoopState Names) → from ≤ next → Ends next last_use st → Ends from last_use st
 later from next last_use _ le (GoesOn m ns) = GoesOn m ns
 later from next last_use _ le (LeftAt m ns i h g) = LeftAt m ns i (omega arith) g
 later from next last_use _ le (FailedAt m i h g) = FailedAt m i (omega arith) g
 
-ends_step : (t : Turn) (i last_use : ℕ) (rest : Memory → Names → Standing) → i < last_use → ((m : Memory) (ns : Names) → Ends (i + 1) last_use (rest m ns)) → Ends i last_use (go_on t i rest)
+ends_step : (t : BlockEnd Names) (i last_use : ℕ) (rest : Memory → Names → LoopState Names) → i < last_use → ((m : Memory) (ns : Names) → Ends (i + 1) last_use (rest m ns)) → Ends i last_use (go_on t i rest)
 ends_step (Next m ns) i last_use rest lt next = later i (i + 1) last_use (rest m ns) (omega arith) (next m ns)
 ends_step (Broke m ns) i last_use rest lt next = LeftAt m ns i (omega arith) lt
 ends_step (Faulted m) i last_use rest lt next = FailedAt m i (omega arith) lt
 
-course-ends : (s : Scope) (l : Turns) (count i last_use : ℕ) (m : Memory) (ns : Names) → last_use ≡ i + count → Ends i last_use (course s l count i m ns)
+course-ends : (s : Scope) (l : PlainLoop) (count i last_use : ℕ) (m : Memory) (ns : Names) → last_use ≡ i + count → Ends i last_use (course s l count i m ns)
 unfolding course
 course-ends s l zero i last_use m ns e = GoesOn m ns
 course-ends s l (suc count) i last_use m ns e = ends_step (iterate s l i m ns) i last_use (course s l count (i + 1)) (omega arith) (λ m' ns'. course-ends s l count (i + 1) last_use m' ns' (omega arith))
 
 -- more iterations after a course
-abbrev pub further : Scope → Turns → ℕ → ℕ → Standing → Standing
+abbrev pub further : Scope → PlainLoop → ℕ → ℕ → LoopState Names → LoopState Names
 further s l more i (Going m ns) = course s l more i m ns
 further s l more i (Left m ns j) = Left m ns j
 further s l more i (Failed m j) = Failed m j
 
-further_step : (s : Scope) (l : Turns) (more i last_use : ℕ) (t : Turn) (rest whole : Memory → Names → Standing) → ((m : Memory) (ns : Names) → whole m ns ≡ further s l more last_use (rest m ns)) → go_on t i whole ≡ further s l more last_use (go_on t i rest)
+further_step : (s : Scope) (l : PlainLoop) (more i last_use : ℕ) (t : BlockEnd Names) (rest whole : Memory → Names → LoopState Names) → ((m : Memory) (ns : Names) → whole m ns ≡ further s l more last_use (rest m ns)) → go_on t i whole ≡ further s l more last_use (go_on t i rest)
 further_step s l more i last_use (Next m ns) rest whole h = h m ns
 further_step s l more i last_use (Broke m ns) rest whole h = refl
 further_step s l more i last_use (Faulted m) rest whole h = refl
 
 -- a course of count and more iterations
-course-further : (s : Scope) (l : Turns) (more count i all last_use : ℕ) (m : Memory) (ns : Names) → all ≡ count + more → last_use ≡ i + count → course s l all i m ns ≡ further s l more last_use (course s l count i m ns)
+course-further : (s : Scope) (l : PlainLoop) (more count i all last_use : ℕ) (m : Memory) (ns : Names) → all ≡ count + more → last_use ≡ i + count → course s l all i m ns ≡ further s l more last_use (course s l count i m ns)
 unfolding course
 course-further s l more zero i all last_use m ns e f =
     let p : all ≡ more = omega arith in
@@ -84,27 +85,27 @@ begun_ended m n None = refl
 begun_ended m n (Some r) = refl
 
 -- a loop that begins no more iterations than the limit
-finish_within : (s : Scope) (l : Turns) (a : Option Returned) (n limit : ℕ) (st : Standing) (outcome : ScalarOutcome) (after first : Memory) → Ends 0 n st → n ≤ limit → nat_lt limit n ≡ false → limited_of outcome after ≡ finish_limited s l a n limit st → IsOutcome outcome limit (finish s l a n st) after first
+finish_within : (s : Scope) (l : PlainLoop) (a : Option Returned) (n limit : ℕ) (st : LoopState Names) (outcome : ScalarOutcome) (after first : Memory) → Ends 0 n st → n ≤ limit → nat_lt limit n ≡ false → limited_of outcome after ≡ finish_limited s l a n limit st → IsOutcome outcome limit (finish s l a n st) after first
 finish_within s l a n limit _ outcome after first (GoesOn m ns) le e h =
     within_limit outcome limit (closed s l a m ns n n) after first (h ∙ ap (λ b. cond b (Cut m) (Ended (closed s l a m ns n n))) e) (omega (arith, begun_ended m n (returned (after_turns s (Some l)) a m (with_name l.index ns (pos n)))))
 finish_within s l a n limit _ outcome after first (LeftAt m ns i f g) le e h =
     within_limit outcome limit (closed s l a m ns i (i + 1)) after first h (omega (arith, begun_ended m (i + 1) (returned (after_turns s (Some l)) a m (with_name l.index ns (pos i)))))
 finish_within s l a n limit _ outcome after first (FailedAt m i f g) le e h = within_limit outcome limit (Fault m (i + 1)) after first h (omega arith)
 
-begun_past : (s : Scope) (l : Turns) (a : Option Returned) (n limit : ℕ) (st : Standing) → Ends limit n st → limit < n → limit < begun (finish s l a n st)
+begun_past : (s : Scope) (l : PlainLoop) (a : Option Returned) (n limit : ℕ) (st : LoopState Names) → Ends limit n st → limit < n → limit < begun (finish s l a n st)
 begun_past s l a n limit _ (GoesOn m ns) lt = omega (arith, begun_ended m n (returned (after_turns s (Some l)) a m (with_name l.index ns (pos n))))
 begun_past s l a n limit _ (LeftAt m ns i f g) lt = omega (arith, begun_ended m (i + 1) (returned (after_turns s (Some l)) a m (with_name l.index ns (pos i))))
 begun_past s l a n limit _ (FailedAt m i f g) lt = omega arith
 
 -- one that may begin more
-finish_past : (s : Scope) (l : Turns) (a : Option Returned) (n limit more : ℕ) (st : Standing) (outcome : ScalarOutcome) (after : Memory) → Ends 0 limit st → n ≡ limit + more → limit < n → nat_lt limit n ≡ true → limited_of outcome after ≡ finish_limited s l a n limit st → IsOutcome outcome limit (finish s l a n (further s l more limit st)) after (memory_of st)
+finish_past : (s : Scope) (l : PlainLoop) (a : Option Returned) (n limit more : ℕ) (st : LoopState Names) (outcome : ScalarOutcome) (after : Memory) → Ends 0 limit st → n ≡ limit + more → limit < n → nat_lt limit n ≡ true → limited_of outcome after ≡ finish_limited s l a n limit st → IsOutcome outcome limit (finish s l a n (further s l more limit st)) after (memory_of st)
 finish_past s l a n limit more _ outcome after (GoesOn m ns) e lt f h =
     past_limit outcome limit (finish s l a n (course s l more limit m ns)) after m (h ∙ ap (λ b. cond b (Cut m) (Ended (closed s l a m ns n n))) f) (begun_past s l a n limit (course s l more limit m ns) (course-ends s l more limit n m ns e) lt)
 finish_past s l a n limit more _ outcome after (LeftAt m ns i f g) e lt t h =
     within_limit outcome limit (closed s l a m ns i (i + 1)) after m h (omega (arith, begun_ended m (i + 1) (returned (after_turns s (Some l)) a m (with_name l.index ns (pos i)))))
 finish_past s l a n limit more _ outcome after (FailedAt m i f g) e lt t h = within_limit outcome limit (Fault m (i + 1)) after m h (omega arith)
 
-loop-outcome : (s : Scope) (l : Turns) (a : Option Returned) (limit n : ℕ) (m : Memory) (ns : Names) (outcome : ScalarOutcome) (after : Memory) → limited_of outcome after ≡ loop_limited s l a limit n m ns → IsOutcome outcome limit (finish s l a n (course s l n 0 m ns)) after (memory_of (course s l limit 0 m ns))
+loop-outcome : (s : Scope) (l : PlainLoop) (a : Option Returned) (limit n : ℕ) (m : Memory) (ns : Names) (outcome : ScalarOutcome) (after : Memory) → limited_of outcome after ≡ loop_limited s l a limit n m ns → IsOutcome outcome limit (finish s l a n (course s l n 0 m ns)) after (memory_of (course s l limit 0 m ns))
 loop-outcome s l a limit n m ns outcome after h = by_limit (ltb limit n) refl
   where
     by_limit : (b : Bool) → ltb limit n ≡ b → IsOutcome outcome limit (finish s l a n (course s l n 0 m ns)) after (memory_of (course s l limit 0 m ns))
@@ -121,7 +122,7 @@ loop-outcome s l a limit n m ns outcome after h = by_limit (ltb limit n) refl
 
 -- ---- kernels
 
-turns-outcome : (s : Scope) (t : Option Turns) (a : Option Returned) (limit : ℕ) (m : Memory) (ns : Names) (outcome : ScalarOutcome) (after : Memory) → limited_of outcome after ≡ turns_limited s t a limit m ns → IsOutcome outcome limit (run_turns s t a m ns) after (turns_leave s t limit m (Some ns))
+turns-outcome : (s : Scope) (t : Option PlainLoop) (a : Option Returned) (limit : ℕ) (m : Memory) (ns : Names) (outcome : ScalarOutcome) (after : Memory) → limited_of outcome after ≡ turns_limited s t a limit m ns → IsOutcome outcome limit (run_turns s t a m ns) after (turns_leave s t limit m (Some ns))
 turns-outcome s None a limit m ns outcome after h = within_limit outcome limit (ended m 0 (returned s a m ns)) after m h (omega (arith, begun_ended m 0 (returned s a m ns)))
 turns-outcome s (Some l) a limit m ns outcome after h = loop-outcome s l a limit (bound_of l ns) m ns outcome after h
 
@@ -155,7 +156,7 @@ vars_within : (us : List Accumulator) (i : Option (List ℕ)) → length us ≤ 
 vars_within [] i = omega arith
 vars_within (v ∷ us) i = omega (arith, vars_within us i)
 
-turns_within : (t : Option Turns) → turns_lets t ≤ turns_size t
+turns_within : (t : Option PlainLoop) → turns_lets t ≤ turns_size t
 turns_within None = omega arith
 turns_within (Some l) = omega (arith, block_within l.body (Some l.index))
 

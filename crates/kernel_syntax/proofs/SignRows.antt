@@ -7,7 +7,7 @@ use Rattle.kernel_tree.specs.declared.mark.Opening.{Opening}
 use Rattle.kernel_tree.specs.declared.mark.Opening.TheVariants as opening
 use Rattle.kernel_tree.specs.Word.{Word, IsMark}
 use Rattle.kernel_tree.specs.Plain.{Term}
-use Rattle.kernel_tree.specs.Grammar.{opening_of_mark, signed, number_behind}
+use Rattle.kernel_tree.specs.Grammar.{opening_of_mark, signed, number_following}
 use Rattle.kernel_syntax.specs.declared.fault.Stop.{Stop}
 use Rattle.kernel_syntax.specs.Reading.{◌>>=◌, Fails, Outcome, mark_at, sign_of, sign_front, signed_by, opened_by, chain_at, unary_at}
 use Rattle.kernel_syntax.specs.Signs.{all_signed}
@@ -18,21 +18,21 @@ pub all_signed-push : (ss : List Sign) (s : Sign) (e : Term) → all_signed (ss 
 all_signed-push [] s e = refl
 all_signed-push (x ∷ ss) s e = ap (signed x) (all_signed-push ss s e)
 
-abbrev behind_row : List Sign → Term × List Word → Outcome
-behind_row ss e = Ok (all_signed ss e.0, e.1)
+abbrev following_row : List Sign → Term × List Word → Outcome
+following_row ss e = Ok (all_signed ss e.0, e.1)
 
 -- the whole is what is read now, after some signs
 pub record Wraps (whole : Outcome) (ss : List Sign) (now : Outcome) : Type 0 where
-  pub same : (now >>= behind_row ss) ≡ whole
+  pub same : (now >>= following_row ss) ≡ whole
 
 pub wraps_none : (whole : Outcome) → Wraps whole [] whole
 wraps_none whole = record { same = go whole }
   where
-    go : (r : Outcome) → (r >>= behind_row []) ≡ r
+    go : (r : Outcome) → (r >>= following_row []) ≡ r
     go (Ok e) = refl
     go (Err n) = refl
 
-no_number : (s : Sign) (m : Mark) (rest : List Word) → number_behind s (IsMark m ∷ rest) ≡ None
+no_number : (s : Sign) (m : Mark) (rest : List Word) → number_following s (IsMark m ∷ rest) ≡ None
 no_number sign.Minus m rest = refl
 no_number sign.Flip m rest = refl
 no_number sign.Not m rest = refl
@@ -80,9 +80,9 @@ again (suc room) s words t rest h e =
     rw p (ap (signed_by (unary_at (suc room)) s) f.front ∙ two_signs room s f.m t rest f.opens)
 
 pub wraps_more : (whole : Outcome) (ss : List Sign) (room : ℕ) (s : Sign) (words : List Word) (t : Sign) (rest : List Word) → Wraps whole ss (signed_by (unary_at room) s words) → 0 < room → Some (t, rest) ≡ sign_front words → Wraps whole (ss ++ s ∷ []) (signed_by (unary_at (room - 1)) t rest)
-wraps_more whole ss room s words t rest w h e = record { same = go (signed_by (unary_at (room - 1)) t rest) ∙ ap (λ r. r >>= behind_row ss) (sym (again room s words t rest h e)) ∙ w.same }
+wraps_more whole ss room s words t rest w h e = record { same = go (signed_by (unary_at (room - 1)) t rest) ∙ ap (λ r. r >>= following_row ss) (sym (again room s words t rest h e)) ∙ w.same }
   where
-    go : (r : Outcome) → (r >>= behind_row (ss ++ s ∷ [])) ≡ ((r >>= (λ e. Ok (signed s e.0, e.1))) >>= behind_row ss)
+    go : (r : Outcome) → (r >>= following_row (ss ++ s ∷ [])) ≡ ((r >>= (λ e. Ok (signed s e.0, e.1))) >>= following_row ss)
     go (Ok e) = ap (λ z. Ok (z, e.1)) (all_signed-push ss s e.0)
     go (Err n) = refl
 
@@ -90,10 +90,10 @@ pub wraps_stops : (whole : Outcome) (ss : List Sign) (room : ℕ) (s : Sign) (wo
 wraps_stops whole ss room s words t rest w z e =
     let f = sign-is words (t, rest) (sym e) in
     let none : signed_by (unary_at room) s words ≡ Err (length words) = rw (z, f.front) (no_room s f.m rest) in
-    sym w.same ∙ ap (λ r. r >>= behind_row ss) none
+    sym w.same ∙ ap (λ r. r >>= following_row ss) none
 
 pub wraps_fails : (whole : Outcome) (ss : List Sign) (now : Outcome) (e : Stop) → Wraps whole ss now → Fails e now → Fails e whole
-wraps_fails whole ss now e w h = fails_on e now (behind_row ss) whole (sym w.same) h
+wraps_fails whole ss now e w h = fails_on e now (following_row ss) whole (sym w.same) h
 
 pub wraps_all : (whole : Outcome) (ss : List Sign) (now : Outcome) (e : Term) (rest : List Word) → Wraps whole ss now → now ≡ Ok (e, rest) → whole ≡ Ok (all_signed ss e, rest)
-wraps_all whole ss now e rest w h = sym w.same ∙ ap (λ r. r >>= behind_row ss) h
+wraps_all whole ss now e rest w h = sym w.same ∙ ap (λ r. r >>= following_row ss) h

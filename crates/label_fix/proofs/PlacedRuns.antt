@@ -16,7 +16,7 @@ use Rattle.machine_model.specs.VectorEffects.{field_of}
 use Rattle.machine_model.proofs.Frames.{went_leaves}
 use Rattle.machine_model.proofs.ListedWords.{spell, IsListed, step_does, step_cuts}
 use Rattle.sve_code.specs.Table as sve
-use Rattle.label_fix.specs.DraftRun.{Kind, Always, If, Zero, NotZero, Entry, Put, Branch, Place, Laid, is_taken, effect, after, behind, place_of, address_of, walk, draft_run}
+use Rattle.label_fix.specs.DraftRun.{Kind, Always, If, Zero, NotZero, Entry, Put, Branch, Place, Laid, is_taken, effect, after, following, place_of, address_of, walk, draft_run}
 use Rattle.label_fix.specs.Cuts.{count_on, walk_cuts, cuts}
 use Rattle.label_fix.specs.Finished.{size, offset, branch_of, is_straight, IsWord, IsBranch, AreFit, StandAt, words_from, words_of}
 use Rattle.label_fix.proofs.Keeps.{Keeps, keeps}
@@ -148,8 +148,8 @@ module _ (d : Laid) (few : size d.entries ≤ 65536) (n : ℕ) (ih : Same d n) w
   vector_on v (Ended r) taken pre rest s is e p h = refl
   vector_on v (Stopped kind pc at m) taken pre rest s is e p h = refl
 
-  branched : (c : Bool) (k : Kind) (l taken : ℕ) (pre rest : List Entry) (s : State) → d.entries ≡ pre ++ Branch k l ∷ rest → s.pc ≡ address_at d (size pre) → Stands d s.memory 0 d.entries → run n taken (if c then jump s (address_of d l) else next s) ≡ (if c then draft_run d n taken (behind d l) (jump s (address_of d l)) else draft_run d n taken rest (next s))
-  branched true k l taken pre rest s e p h = ih taken (before d.entries l) (behind d l) (jump s (address_of d l)) (parts d.entries l) (ap (address_at d) (placed d.entries l)) h
+  branched : (c : Bool) (k : Kind) (l taken : ℕ) (pre rest : List Entry) (s : State) → d.entries ≡ pre ++ Branch k l ∷ rest → s.pc ≡ address_at d (size pre) → Stands d s.memory 0 d.entries → run n taken (if c then jump s (address_of d l) else next s) ≡ (if c then draft_run d n taken (following d l) (jump s (address_of d l)) else draft_run d n taken rest (next s))
+  branched true k l taken pre rest s e p h = ih taken (before d.entries l) (following d l) (jump s (address_of d l)) (parts d.entries l) (ap (address_at d) (placed d.entries l)) h
   branched false k l taken pre rest s e p h =
       let z : size (pre ++ Branch k l ∷ []) ≡ size pre + 1 = size-append pre (Branch k l ∷ []) in
       ih taken (pre ++ Branch k l ∷ []) rest (next s) (onward (Branch k l) pre rest e) (next_place s.pc (size pre) p ∙ ap (address_at d) (sym z)) h
@@ -264,8 +264,8 @@ module _ (d : Laid) (few : size d.entries ≤ 65536) (n : ℕ) (ih : Fewer d n) 
   fewer_vector v (Ended r) cut pre rest s is e p h = omega arith
   fewer_vector v (Stopped kind pc at m) cut pre rest s is e p h = omega arith
 
-  fewer_branch : (c : Bool) (k : Kind) (l : ℕ) (pre rest : List Entry) (s : State) → d.entries ≡ pre ++ Branch k l ∷ rest → s.pc ≡ address_at d (size pre) → Stands d s.memory 0 d.entries → (if c then cuts d n (behind d l) (jump s (address_of d l)) else cuts d n rest (next s)) ≤ suppressed n (if c then jump s (address_of d l) else next s)
-  fewer_branch true k l pre rest s e p h = ih (before d.entries l) (behind d l) (jump s (address_of d l)) (parts d.entries l) (ap (address_at d) (placed d.entries l)) h
+  fewer_branch : (c : Bool) (k : Kind) (l : ℕ) (pre rest : List Entry) (s : State) → d.entries ≡ pre ++ Branch k l ∷ rest → s.pc ≡ address_at d (size pre) → Stands d s.memory 0 d.entries → (if c then cuts d n (following d l) (jump s (address_of d l)) else cuts d n rest (next s)) ≤ suppressed n (if c then jump s (address_of d l) else next s)
+  fewer_branch true k l pre rest s e p h = ih (before d.entries l) (following d l) (jump s (address_of d l)) (parts d.entries l) (ap (address_at d) (placed d.entries l)) h
   fewer_branch false k l pre rest s e p h =
       let z : size (pre ++ Branch k l ∷ []) ≡ size pre + 1 = size-append pre (Branch k l ∷ []) in
       ih (pre ++ Branch k l ∷ []) rest (next s) (beyond (Branch k l) pre rest e) (next_at s.pc (size pre) p ∙ ap (address_at d) (sym z)) h

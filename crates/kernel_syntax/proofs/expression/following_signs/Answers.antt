@@ -3,8 +3,8 @@ use Rattle.std.proofs.lemmas.List.{nil_from_length}
 use Rattle.kernel_tree.specs.declared.mark.Sign.{Sign}
 use Rattle.kernel_tree.specs.Plain.{term_of}
 use Rattle.kernel_syntax.specs.Signs.{all_signed}
-use Rattle.kernel_syntax.proofs.Rows.{all_signed-push}
-use Rattle.kernel_syntax.proofs.expression.behind_signs.Goals as goal
+use Rattle.kernel_syntax.proofs.SignRows.{all_signed-push}
+use Rattle.kernel_syntax.proofs.expression.following_signs.Goals as goal
 
 pub more-preserved : goal.more-preserved
 more-preserved c = rw c.in_ok-expr.ensures (sym (all_signed-push c.pop.new.self.items c.in-Some.sign (term_of c.more.expr)) ∙ ap (λ (ss : List Sign). all_signed ss (term_of c.more.expr)) (sym c.in-Some.ensures.items) ∙ c.more.invariant)

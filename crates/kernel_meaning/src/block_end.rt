@@ -2,7 +2,7 @@
 
 /// How statements end.
 #[derive(Clone, Copy, PartialEq, Eq, Debug)]
-pub enum Turn {
+pub enum BlockEnd {
     /// The next one follows.
     Next,
     /// A `break` ended the loop.

@@ -149,8 +149,8 @@ scattered = record {
 }
 
 -- kernel after(a: [u8], y: [u8], n: u64) { for i in 0..n { a[i] = 1; y[i] = a[i + 1]; } }
-abbrev behind : Program
-behind = record {
+abbrev following : Program
+following = record {
   name = f;
   params = record { name = a; shape = shape.Array ty.U8 } ∷ record { name = y; shape = shape.Array ty.U8 } ∷ record { name = n; shape = shape.Scalar ty.U64 } ∷ [];
   vars = [];
@@ -208,9 +208,9 @@ scattered-class : class_of scattered ≡ Scalar why.ComputedIndex
 unfolding item_type widest before_break carried
 scattered-class = refl
 
-behind-class : class_of behind ≡ Scalar why.Carried
+following-class : class_of following ≡ Scalar why.Carried
 unfolding item_type widest before_break carried
-behind-class = refl
+following-class = refl
 
 ahead-class : class_of ahead ≡ Vector
 unfolding item_type widest before_break carried

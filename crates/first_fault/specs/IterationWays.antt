@@ -1,11 +1,12 @@
 -- How an iteration fares in the break region, and the turn of the scalar loop.
 use Rattle.std.specs.Prelude.{◌≡◌, ℕ, List, Some, None}
 use Rattle.guest_types.specs.Memory.{Memory}
-use Rattle.kernel_tree.specs.Plain.{Turns, Program}
+use Rattle.kernel_tree.specs.Plain.{PlainLoop, Program}
 use Rattle.kernel_tree.specs.Typing.{check_fault, var_scope}
+use Rattle.kernel_meaning.specs.Ends.{BlockEnd}
 use Rattle.kernel_meaning.specs.Eval.{Names}
 use Rattle.kernel_meaning.specs.Iterate as iteration
-use Rattle.kernel_meaning.specs.Iterate.{Turn, iterate}
+use Rattle.kernel_meaning.specs.Iterate.{iterate}
 use Rattle.kernel_meaning.specs.ScalarRun.{started}
 use Rattle.loop_form.specs.LoopItems.{loop_items}
 use Rattle.dependence.specs.Classes.{class_of}
@@ -16,7 +17,7 @@ use Rattle.first_fault.specs.Region.{Way, On, Broke, Fell, region_way}
 use Rattle.first_fault.specs.Split.{region_of}
 
 -- an iteration that breaks, or faults, in the region is a turn that does, and has stored nothing
-abbrev pub IsTurn : Way → Memory → Turn → Type 0
+abbrev pub IsTurn : Way → Memory → BlockEnd Names → Type 0
 IsTurn (On l) m turn = Unit {0}
 IsTurn Broke m (iteration.Broke after names) = after ≡ m
 IsTurn Fell m (iteration.Faulted after) = after ≡ m
@@ -24,5 +25,5 @@ IsTurn _ m _ = ⊥
 
 abbrev pub WayIsTurn : Type 0
 WayIsTurn =
-    (k : Program) (l : Turns) (args : List ℕ) (start : Memory) (names cur : Names) (i : ℕ) (m : Memory) (lane : Lane) → check_fault k ≡ None → k.turns ≡ Some l → class_of k ≡ Vector → started k args start ≡ Some names → Steady k names cur
+    (k : Program) (l : PlainLoop) (args : List ℕ) (start : Memory) (names cur : Names) (i : ℕ) (m : Memory) (lane : Lane) → check_fault k ≡ None → k.turns ≡ Some l → class_of k ≡ Vector → started k args start ≡ Some names → Steady k names cur
     → IsTurn (region_way names (region_of (loop_items k l)) i m lane) m (iterate (var_scope k) l i m cur)

@@ -3,18 +3,19 @@ use Rattle.std.proofs.Common.{◌≡◌, ℕ, zero, suc, ◌+◌, ◌-◌, ◌<�
 use Rattle.std.specs.Prelude.{ℤ, slice_index}
 use Rattle.kernel_tree.specs.Plain.{Parameter}
 use Rattle.guest_types.specs.Memory.{Memory}
+use Rattle.kernel_meaning.specs.Ends.{BlockEnd, Going, go_on}
 use Rattle.kernel_meaning.specs.Eval.{value_of}
 use Rattle.kernel_meaning.specs.ScalarRun.{argument, given}
-use Rattle.kernel_meaning.specs.Slots.{Slots, Stand}
-use Rattle.kernel_meaning.specs.Plans.{Looped, Goes, next_turn, turn, slot_course}
+use Rattle.kernel_meaning.specs.Slots.{Slots}
+use Rattle.kernel_meaning.specs.Plans.{LoopPlan, turn, slot_course}
 
-pub course_step : (l : Looped) (count at : ℕ) (m : Memory) (vs : Slots) (stand : Stand) → at < count → stand ≡ turn l at m vs → next_turn stand at (slot_course l (count - (at + 1)) (at + 1)) ≡ slot_course l (count - at) at m vs
+pub course_step : (l : LoopPlan) (count at : ℕ) (m : Memory) (vs : Slots) (stand : BlockEnd Slots) → at < count → stand ≡ turn l at m vs → go_on stand at (slot_course l (count - (at + 1)) (at + 1)) ≡ slot_course l (count - at) at m vs
 unfolding slot_course
 course_step l count at m vs stand lt h =
     let e : count - at ≡ suc (count - (at + 1)) = omega arith in
-    ap (λ s. next_turn s at (slot_course l (count - (at + 1)) (at + 1))) h ∙ ap (λ n. slot_course l n at m vs) (sym e)
+    ap (λ s. go_on s at (slot_course l (count - (at + 1)) (at + 1))) h ∙ ap (λ n. slot_course l n at m vs) (sym e)
 
-pub course_done : (l : Looped) (n at : ℕ) (m : Memory) (vs : Slots) → n ≡ 0 → Goes m vs ≡ slot_course l n at m vs
+pub course_done : (l : LoopPlan) (n at : ℕ) (m : Memory) (vs : Slots) → n ≡ 0 → Going m vs ≡ slot_course l n at m vs
 unfolding slot_course
 course_done l n at m vs e = ap (λ n. slot_course l n at m vs) (sym e)
 
