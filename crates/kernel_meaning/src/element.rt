@@ -56,7 +56,13 @@ pub fn read<M: GuestMemory>(
 }
 
 // Replaces an element of an array.
-fn write_at<M: GuestMemory>(memory: &mut M, ty: Ty, base: i128, number: i128, value: i128) -> BlockEnd
+fn write_at<M: GuestMemory>(
+    memory: &mut M,
+    ty: Ty,
+    base: i128,
+    number: i128,
+    value: i128,
+) -> BlockEnd
     ensures { (slots : Slots) → block_end_of result (M.memory memory.new) slots
         ≡ store (Some ty) base (M.memory memory.old) slots (Some value) (Some number) }
 {

@@ -11,7 +11,7 @@ ghost use Rattle.kernel_scope.specs.Scopes.{scope_of};
 
 use crate::names::slot;
 use crate::node::Node;
-use crate::plan::{ResolvedLoop, Plan};
+use crate::plan::{Plan, ResolvedLoop};
 use crate::resolve::resolve;
 use crate::statements::resolve_block;
 use crate::step::Step;

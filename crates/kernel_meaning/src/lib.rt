@@ -1,10 +1,12 @@
 //! What a kernel means: its run, one iteration after another.
 #![tactic(auto)]
 
+mod block_end;
 mod build;
 mod element;
 mod evaluator;
 mod kernels;
+mod loop_state;
 mod make;
 mod names;
 mod node;
@@ -13,13 +15,11 @@ mod operate;
 mod outcome;
 mod perform;
 mod plan;
-mod loop_state;
 mod resolve;
 mod run;
 mod start;
 mod statements;
 mod step;
-mod block_end;
 mod types;
 mod value;
 mod words;

@@ -6,10 +6,10 @@ ghost use Rattle.kernel_meaning.specs.Slots as meaning;
 ghost use Rattle.kernel_meaning.specs.Slots.{block_end_of};
 ghost use Rattle.guest_types.specs.Memory.{Memory};
 
+use crate::block_end::BlockEnd;
 use crate::element::write;
 use crate::node::Node;
 use crate::step::Step;
-use crate::block_end::BlockEnd;
 use crate::value::{holds, slot_at, value};
 use guest_types::guest::GuestMemory;
 

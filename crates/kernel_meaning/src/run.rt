@@ -10,12 +10,12 @@ ghost use Rattle.kernel_meaning.specs.Slots as slots_of;
 ghost use Rattle.kernel_meaning.specs.Plans as plans;
 ghost use Rattle.kernel_meaning.specs.Plans.{limited_of, loop_plan_of, planned_of, loop_state_of};
 
+use crate::block_end::BlockEnd;
+use crate::loop_state::{At, LoopState};
 use crate::node::Node;
 use crate::outcome::ScalarOutcome;
 use crate::perform::perform;
-use crate::plan::{ResolvedLoop, Plan};
-use crate::loop_state::{At, LoopState};
-use crate::block_end::BlockEnd;
+use crate::plan::{Plan, ResolvedLoop};
 use crate::value::{slot_at, value};
 use crate::words::word;
 use guest_types::guest::GuestMemory;
@@ -29,7 +29,12 @@ fn put(slots: &mut [i128], slot: usize, value: i128)
 }
 
 // One iteration.
-fn iterate<M: GuestMemory>(cycle: &ResolvedLoop, at: u64, memory: &mut M, slots: &mut [i128]) -> BlockEnd
+fn iterate<M: GuestMemory>(
+    cycle: &ResolvedLoop,
+    at: u64,
+    memory: &mut M,
+    slots: &mut [i128],
+) -> BlockEnd
     ensures { block_end_of result (M.memory memory.new) slots.new
         ≡ plans.turn (loop_plan_of cycle.now) at (M.memory memory.old) slots.old }
 {
@@ -39,7 +44,12 @@ fn iterate<M: GuestMemory>(cycle: &ResolvedLoop, at: u64, memory: &mut M, slots:
 }
 
 // So many iterations.
-fn follow<M: GuestMemory>(cycle: &ResolvedLoop, count: u64, memory: &mut M, slots: &mut [i128]) -> LoopState
+fn follow<M: GuestMemory>(
+    cycle: &ResolvedLoop,
+    count: u64,
+    memory: &mut M,
+    slots: &mut [i128],
+) -> LoopState
     ensures { loop_state_of result (M.memory memory.new) slots.new
         ≡ plans.slot_course (loop_plan_of cycle.now) count 0 (M.memory memory.old) slots.old }
 {

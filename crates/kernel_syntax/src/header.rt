@@ -59,7 +59,9 @@ fn some_params<'a>(alloc: Global, tokens: &'a [Token]) -> Result<(Vec<Param>, &'
             return Ok((params, end));
         }
         if others == 0 {
-            return Err(Stop::Syntax { left: following.len() });
+            return Err(Stop::Syntax {
+                left: following.len(),
+            });
         }
         rest = expect(following, Mark::Comma)?;
         others -= 1;
