@@ -2,6 +2,7 @@
 
 use crate::{KernelFault, accept};
 use kernel_syntax::ReadFault;
+use kernel_tree::Ty;
 use kernel_types::TypeFault;
 use std::alloc::Global;
 use std::test::Fail;
@@ -14,6 +15,10 @@ fn fault_of(alloc: Global, text: &str) -> Option<KernelFault> {
 fn accepts_a_sound_kernel(rt: HostRuntime) -> Result<(), Fail> {
     let kernel = accept(rt.alloc(), b"kernel f(x: u64) -> u64 { return x + 1; }")?;
     assert_eq!(rt; kernel.kernel().name.text(), "f");
+    assert_eq!(rt; kernel.ty(0), None);
+    assert_eq!(rt; kernel.ty(1), Some(Ty::U64));
+    assert_eq!(rt; kernel.ty(3), Some(Ty::U64));
+    assert_eq!(rt; kernel.ty(4), None);
     Ok(())
 }
 

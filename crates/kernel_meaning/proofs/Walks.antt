@@ -5,7 +5,7 @@ use Rattle.kernel_tree.specs.declared.ops.Ty.TheVariants as ty
 use Rattle.kernel_tree.specs.declared.ops.CompareOp.TheVariants as compare
 use Rattle.kernel_tree.specs.declared.ast.Shape.TheVariants as shape
 use Rattle.kernel_tree.specs.Plain.{Term, Literal, Variable, Element, Comparison, Either, Both, Put, Choose, Leave, Done, Then, Else, Program}
-use Rattle.kernel_meaning.specs.Reaches.{reached}
+use Rattle.kernel_meaning.specs.Reaches.{reached, reaches}
 
 abbrev at : Term
 at = Element (codes "a") (Variable (codes "i"))
@@ -46,3 +46,13 @@ all-false = refl
 -- the left side of the second condition is true
 inner-true : reached branching (no ∷ no ∷ no ∷ no ∷ no ∷ no ∷ no ∷ no ∷ no ∷ no ∷ no ∷ no ∷ no ∷ no ∷ no ∷ no ∷ no ∷ on ∷ []) ≡ no ∷ no ∷ on ∷ on ∷ on ∷ on ∷ on ∷ on ∷ on ∷ on ∷ on ∷ on ∷ no ∷ no ∷ on ∷ on ∷ on ∷ on ∷ on ∷ on ∷ on ∷ on ∷ on ∷ on ∷ []
 inner-true = refl
+
+-- where all are false, the walk comes to the break, not to the store, and to no item past the last one
+to-break : reaches branching [] 22 ≡ true
+to-break = refl
+
+past-store : reaches branching [] 13 ≡ false
+past-store = refl
+
+past-last : reaches branching [] 24 ≡ false
+past-last = refl

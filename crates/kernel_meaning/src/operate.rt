@@ -1,11 +1,12 @@
 //! The operators.
 
 ghost use Rattle.std.specs.Prelude.{◌≡◌, ◌<◌, option_map};
+ghost use Rattle.kernel_tree.specs.Wrap as wraps;
 ghost use Rattle.kernel_meaning.specs.Operators as operators;
 ghost use Rattle.kernel_meaning.specs.Eval as eval;
 ghost use Rattle.kernel_meaning.specs.Operators.{word};
 
-use crate::words::{word, wrapped};
+use crate::words::{word, wrap, wrapped};
 use kernel_tree::{BinaryOp, CompareOp, Ty, UnaryOp};
 
 // The result of an operator modulo 2^64.
@@ -116,6 +117,17 @@ pub fn shift(left_shift: bool, count: i128, ty: Option<Ty>, value: Option<i128>)
     match value {
         None => None,
         Some(value) => Some(shift_at(left_shift, count, ty, value)),
+    }
+}
+
+/// The value of a type that is congruent to a value, unless that faults.
+#[inline(always)]
+pub fn cast(ty: Ty, value: Option<i128>) -> Option<i128>
+    ensures { result ≡ option_map (wraps.wrap ty) value }
+{
+    match value {
+        None => None,
+        Some(value) => Some(wrap(ty, value)),
     }
 }
 

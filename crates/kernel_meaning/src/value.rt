@@ -6,8 +6,7 @@ ghost use Rattle.kernel_meaning.specs.Slots as meaning;
 
 use crate::element::read;
 use crate::node::Node;
-use crate::operate::{binary, compare, select, shift, unary};
-use crate::words::wrap;
+use crate::operate::{binary, cast, compare, select, shift, unary};
 use guest_types::guest::GuestMemory;
 
 /// The value of a slot, and 0 past the last one.
@@ -51,19 +50,13 @@ pub fn value<M: GuestMemory>(node: &Node, memory: &M, slots: &[i128]) -> Option<
             ty,
             arg,
         } => shift(*left_shift, *count, *ty, value(arg, memory, slots)),
-        Node::Cast { ty, arg } => match value(arg, memory, slots) {
-            None => None,
-            Some(value) => Some(wrap(*ty, value)),
-        },
+        Node::Cast { ty, arg } => cast(*ty, value(arg, memory, slots)),
         Node::Select { cond, yes, no } => select(
             holds(cond, memory, slots),
             value(yes, memory, slots),
             value(no, memory, slots),
         ),
-        Node::Compare { .. } => Some(0),
-        Node::And { .. } => Some(0),
-        Node::Or { .. } => Some(0),
-        Node::Not { .. } => Some(0),
+        _ => Some(0),
     }
 }
 

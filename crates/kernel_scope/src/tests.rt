@@ -1,25 +1,14 @@
 //! Names that are declared, and left.
 
-ghost use Rattle.std.specs.Prelude.{◌≡◌, IfOk};
-ghost use Rattle.kernel_tree.specs.Plain.{name_of};
-
 use crate::{declare, declared_count, empty, is_taken, leave, lookup, reserve, visible_count};
 use kernel_tree::fault::Binding;
 use kernel_tree::{Name, Ty};
-use std::alloc::Global;
 use std::test::Fail;
-
-fn name(alloc: Global, text: &str) -> Result<Name, Fail>
-    ensures { IfOk result (λ name. name_of name ≡ text.now) }
-{
-    let name = Name::new(alloc, text)?.ok_or("no name")?;
-    Ok(name)
-}
 
 #[test]
 fn keeps_a_name_once(rt: HostRuntime) -> Result<(), Fail> {
     let alloc = rt.alloc();
-    let x = name(alloc, "x")?;
+    let x = Name::new(alloc, "x")?.ok_or("no name")?;
     let mut scope = empty(alloc, None);
     assert!(rt; !is_taken(&scope, &x));
     declare(&mut scope, &x, Binding::Value(Ty::U8))?;
@@ -33,8 +22,8 @@ fn keeps_a_name_once(rt: HostRuntime) -> Result<(), Fail> {
 #[test]
 fn keeps_names_in_order(rt: HostRuntime) -> Result<(), Fail> {
     let alloc = rt.alloc();
-    let later = name(alloc, "z")?;
-    let early = name(alloc, "a")?;
+    let later = Name::new(alloc, "z")?.ok_or("no name")?;
+    let early = Name::new(alloc, "a")?.ok_or("no name")?;
     let mut scope = empty(alloc, None);
     reserve(&mut scope, &later)?;
     declare(&mut scope, &early, Binding::Index)?;
@@ -46,7 +35,7 @@ fn keeps_names_in_order(rt: HostRuntime) -> Result<(), Fail> {
 #[test]
 fn takes_names_out_of_sight(rt: HostRuntime) -> Result<(), Fail> {
     let alloc = rt.alloc();
-    let x = name(alloc, "x")?;
+    let x = Name::new(alloc, "x")?.ok_or("no name")?;
     let mut scope = empty(alloc, None);
     declare(&mut scope, &x, Binding::Accumulator(Ty::U32))?;
     leave(&mut scope, 0);

@@ -22,3 +22,4 @@ pub mod ReachKernel
 pub mod Extend
 pub mod Cut
 pub mod Place
+mod Examples

@@ -2,7 +2,7 @@
 
 use crate::{ReadFault, read_kernel};
 use kernel_tree::print_kernel;
-use std::alloc::{AllocError, Global};
+use std::alloc::Global;
 use std::test::Fail;
 
 // Why a text is refused.
@@ -17,22 +17,6 @@ fn fault_of(alloc: Global, text: &str) -> Option<ReadFault> {
 fn printed(alloc: Global, text: &str) -> Result<String, ReadFault> {
     let kernel = read_kernel(alloc, text.as_bytes())?;
     Ok(print_kernel(alloc, &kernel)?)
-}
-
-// A text between a start and an end, so many times.
-fn repeated(
-    alloc: Global,
-    start: &str,
-    unit: &str,
-    times: u32,
-    end: &str,
-) -> Result<String, AllocError> {
-    let mut text = String::from_str(alloc, start)?;
-    for _ in 0..times {
-        text.push_str(unit)?;
-    }
-    text.push_str(end)?;
-    Ok(text)
 }
 
 #[test]
@@ -139,14 +123,8 @@ fn expressions_print_as_their_canonical_text(rt: HostRuntime) -> Result<(), Fail
         ("a as i8 as u64 * ((b))", "( ( a as i8 ) as u64 ) * b"),
     ];
     for (text, canonical) in texts {
-        let whole = repeated(rt.alloc(), "kernel f() -> u8 { return ", text, 1, "; }")?;
-        let want = repeated(
-            rt.alloc(),
-            "kernel f ( ) -> u8 { return ",
-            canonical,
-            1,
-            " ; }",
-        )?;
+        let whole = format!(in rt.alloc(); "kernel f() -> u8 {{ return {text}; }}")?;
+        let want = format!(in rt.alloc(); "kernel f ( ) -> u8 {{ return {canonical} ; }}")?;
         assert_eq!(rt;
             printed(rt.alloc(), whole.as_str())?.as_str(),
             want.as_str()
@@ -250,7 +228,7 @@ fn places_in_expressions(rt: HostRuntime) -> Result<(), Fail> {
         ("1; } x", 11),
     ];
     for (text, token) in texts {
-        let whole = repeated(rt.alloc(), "kernel f() -> u8 { return ", text, 1, "")?;
+        let whole = format!(in rt.alloc(); "kernel f() -> u8 {{ return {text}")?;
         assert_eq!(rt;
             fault_of(rt.alloc(), whole.as_str()),
             Some(ReadFault::Syntax { token }),
@@ -290,7 +268,8 @@ fn limits(rt: HostRuntime) -> Result<(), Fail> {
         ("", "9", 65536, "", ReadFault::BadByte { at: 0 }),
     ];
     for (start, unit, times, end, fault) in texts {
-        let text = repeated(rt.alloc(), start, unit, times, end)?;
+        let units = unit.repeat(rt.alloc(), times)?;
+        let text = format!(in rt.alloc(); "{start}{units}{end}")?;
         assert_eq!(rt; fault_of(rt.alloc(), text.as_str()), Some(fault));
     }
     Ok(())
@@ -299,14 +278,12 @@ fn limits(rt: HostRuntime) -> Result<(), Fail> {
 // Rows of signs within brackets: the deepest tree that a text has.
 #[test]
 fn deepest(rt: HostRuntime) -> Result<(), Fail> {
-    let mut text = repeated(
+    let open = "!~~~~~~~~~~~~~~~~~~~~~~~~~~~~~~~~~~~~~~~~~~~~~~~~~~~~~~~~~~~~~~(".repeat(
         rt.alloc(),
-        "kernel f() -> u64 { return ",
-        "!~~~~~~~~~~~~~~~~~~~~~~~~~~~~~~~~~~~~~~~~~~~~~~~~~~~~~~~~~~~~~~(",
         62,
-        "x",
     )?;
-    text.push_str(repeated(rt.alloc(), "", ")", 62, "; }")?.as_str())?;
+    let close = ")".repeat(rt.alloc(), 62)?;
+    let text = format!(in rt.alloc(); "kernel f() -> u64 {{ return {open}x{close}; }}")?;
     assert_eq!(rt; fault_of(rt.alloc(), text.as_str()), None);
     Ok(())
 }

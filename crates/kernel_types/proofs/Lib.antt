@@ -4,4 +4,3 @@ pub mod Steps
 pub mod KernelWalks
 pub mod Bounds
 pub mod Refused
-pub mod Example

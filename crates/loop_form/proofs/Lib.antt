@@ -1,4 +1,5 @@
 pub mod Limits
+pub mod Rules
 pub mod Near
 pub mod Numbers
 pub mod IntervalLaws

@@ -8,6 +8,7 @@ use Rattle.loop_form.specs.declared.loop_item.Source.TheVariants.{Outer, Turn}
 use Rattle.loop_form.specs.declared.visible.Visible.{Visible}
 use Rattle.loop_form.specs.LoopItems.{Bound, bound, outer_env, loop_env}
 use Rattle.loop_form.specs.LoopView.{local_of, bound_of, locals, env_of, scope_of, param_local, var_local, AddsOuter, IsLoopHead}
+use Rattle.loop_form.proofs.Rules.{scope_index}
 
 -- a statement has an item
 pub some_item : (i : Option (List ℕ)) (s : Action) → 1 ≤ action_size i s
@@ -22,14 +23,6 @@ map-push f [] y = refl
 map-push f (x ∷ xs) y = ap (λ l. f x ∷ l) (map-push f xs y)
 
 -- ---- the names at the head
-
-params-index : (ps : List Parameter) (s : Scope) → (after_params s ps).index ≡ s.index
-params-index [] s = refl
-params-index (p ∷ ps) s = params-index ps (declared s p.name (binding_of_shape p.shape))
-
-vars-index : (vs : List Accumulator) (s : Scope) → (after_vars s vs).index ≡ s.index
-vars-index [] s = refl
-vars-index (v ∷ vs) s = vars-index vs (declared s v.name (binding.Accumulator v.type))
 
 nothing : {A : Type 0} (xs : List A) → xs ++ [] ≡ xs
 nothing [] = refl
@@ -46,9 +39,6 @@ vars-visible (v ∷ vs) s = vars-visible vs (declared s v.name (binding.Accumula
 head-visible : (k : Program) → (var_scope k).visible ≡ map param_local k.params ++ map var_local k.vars
 head-visible k = vars-visible k.vars (param_scope k) ∙ ap (λ xs. xs ++ map var_local k.vars) (params-visible k.params (empty (loop_index k)))
 
-head-index : (k : Program) → (var_scope k).index ≡ loop_index k
-head-index k = vars-index k.vars (param_scope k) ∙ params-index k.params (empty (loop_index k))
-
 outer-append : (n : ℕ) (xs ys : List Local) → outer_env n (xs ++ ys) ≡ outer_env n xs ++ outer_env (n + length xs) ys
 outer-append n [] ys = ap (λ m. outer_env m ys) (let e : n ≡ n + 0 = omega arith in e)
 outer-append n (x ∷ xs) ys = ap (λ l. bound x.name (Outer n) ∷ l) (outer-append (suc n) xs ys ∙ ap (λ m. outer_env (suc n) xs ++ outer_env m ys) (let e : suc n + length xs ≡ n + length (x ∷ xs) = omega arith in e))
@@ -60,7 +50,7 @@ loop-head k l ps vs names v p q n a b = (scope, env)
     seen = ap locals n ∙ map-push local_of vs v ∙ ap₂ (λ (xs : List Local) (y : Local). xs ++ y ∷ []) (q.0 ∙ ap (λ xs. xs ++ map var_local k.vars) p.0 ∙ sym (head-visible k)) a
 
     scope : in_loop (var_scope k) l ≡ scope_of (loop_index k) names (in_loop (var_scope k) l).taken
-    scope = ap₂ (λ (xs : List Local) (i : Option (List ℕ)). record { visible = xs; taken = (in_loop (var_scope k) l).taken; index = i; inside = true }) (sym seen) (head-index k)
+    scope = ap₂ (λ (xs : List Local) (i : Option (List ℕ)). record { visible = xs; taken = (in_loop (var_scope k) l).taken; index = i; inside = true }) (sym seen) (scope_index k)
 
     places : env_of vs ≡ outer_env 0 (var_scope k).visible
     places = q.1 ∙ ap₂ (λ (xs ys : List Bound). xs ++ ys) p.1 (ap (λ m. outer_env m (map var_local k.vars)) p.2) ∙ sym (outer-append 0 (map param_local k.params) (map var_local k.vars)) ∙ ap (outer_env 0) (sym (head-visible k))

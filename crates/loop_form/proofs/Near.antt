@@ -1,25 +1,17 @@
 -- In a kernel that meets the rules the offsets of all stream indexes are in range.
 use Rattle.std.proofs.Common.{◌≡◌, ℕ, ◌+◌, ◌≤◌, ℤ, Bool, true, false, cond, List, [], ◌∷◌, ◌++◌, Option, Some, None, refl, subst, ◌∙◌}
 use Rattle.std.proofs.lemmas.Bool.{leb-true}
-use Rattle.std.specs.Prelude.{unsigned_abs, nat_lt, nat_le, option_map}
+use Rattle.std.specs.Prelude.{unsigned_abs, nat_le}
 use Rattle.kernel_tree.specs.declared.ops.Ty.{Ty}
 use Rattle.kernel_tree.specs.declared.ops.Ty.TheVariants as ty
 use Rattle.kernel_tree.specs.declared.fault.Found.{Found}
-use Rattle.kernel_tree.specs.Plain.{Term, Literal, Variable, Element, Unary, Operation, Shift, Conversion, Choice, Comparison, Both, Either, Not, Action, Define, Put, Update, Choose, Leave, Block, Done, Then, Otherwise, Nothing, Else, Parameter, Accumulator, PlainLoop, Program}
-use Rattle.kernel_tree.specs.Items.{stream_offset, loop_index, index_items, size_of}
-use Rattle.kernel_tree.specs.Limits.{most_items, most_depth, most_offset, depth_of}
-use Rattle.kernel_tree.specs.declared.fault.Binding.TheVariants as binding
-use Rattle.kernel_tree.specs.Typing.{TooLarge, TooDeep, Fails, Scope, Role, Value, lookup, as_value, read_faults, wanted, first, own, faults, inner_faults, index_faults, stream_faults, offset_faults, action_faults, block_faults, otherwise_faults, after_action, after_block, defined, left, in_loop, empty, after_params, after_vars, param_scope, var_scope, turns_faults, kernel_faults, sooner, least, check_fault, declared, binding_of_shape}
+use Rattle.kernel_tree.specs.Plain.{Term, Literal, Variable, Element, Unary, Operation, Shift, Conversion, Choice, Comparison, Both, Either, Not, Action, Define, Put, Update, Choose, Leave, Block, Done, Then, Otherwise, Nothing, Else, PlainLoop, Program}
+use Rattle.kernel_tree.specs.Items.{stream_offset, loop_index, index_items}
+use Rattle.kernel_tree.specs.Limits.{most_offset}
+use Rattle.kernel_tree.specs.Typing.{Scope, Role, Value, lookup, as_value, read_faults, wanted, first, own, faults, inner_faults, index_faults, stream_faults, offset_faults, action_faults, block_faults, otherwise_faults, after_action, after_block, defined, left, in_loop, var_scope, turns_faults, check_fault}
 use Rattle.loop_form.specs.Entries.{Entry, inner_entries, term_entries, action_entries, block_entries, otherwise_entries, turns_entries, loop_entries, loop_start}
 use Rattle.loop_form.specs.Near.{IsNear, AreNear, NearTerm, NearAction, NearBlock, NearOtherwise, NearTurns}
-
-nil-left : {A : Type 0} (xs ys : List A) → xs ++ ys ≡ [] → xs ≡ []
-nil-left [] ys e = refl
-nil-left (x ∷ xs) ys e = absurd cc
-
-nil-right : {A : Type 0} (xs ys : List A) → xs ++ ys ≡ [] → ys ≡ []
-nil-right [] ys e = e
-nil-right (x ∷ xs) ys e = absurd cc
+use Rattle.loop_form.proofs.Rules.{nil-left, nil-right, faultless, scope_index}
 
 near-append : (i : Option (List ℕ)) (xs ys : List Entry) → AreNear i xs → AreNear i ys → AreNear i (xs ++ ys)
 near-append i [] ys p q = q
@@ -98,31 +90,9 @@ turns-near : (k : Program) (s : Scope) (from f : ℕ) (o : Option PlainLoop) →
 turns-near k s from f None q h = tt
 turns-near k s from f (Some l) q h = (tt, block-near k l.body (in_loop s l) _ _ q (nil-right _ _ (nil-right _ _ h)))
 
-params-index : (s : Scope) (ps : List Parameter) → (after_params s ps).index ≡ s.index
-params-index s [] = refl
-params-index s (p ∷ ps) = params-index (declared s p.name (binding_of_shape p.shape)) ps
-
-vars-index : (s : Scope) (vs : List Accumulator) → (after_vars s vs).index ≡ s.index
-vars-index s [] = refl
-vars-index s (v ∷ vs) = vars-index (declared s v.name (binding.Accumulator v.type)) vs
-
-none : (fs : List Found) → option_map Fails (least fs) ≡ None → fs ≡ []
-none [] e = refl
-none (f ∷ fs) e = some-first (least fs) e
-  where
-    some-first : (o : Option Found) → option_map Fails (sooner (Some f) o) ≡ None → f ∷ fs ≡ []
-    some-first None e = absurd cc
-    some-first (Some g) e = absurd cc
-
-unrefused : {A : Type 0} (b : Bool) (x : A) (o : Option A) → cond b (Some x) o ≡ None → o ≡ None
-unrefused true x o e = absurd cc
-unrefused false x o e = e
-
 pub loop-near : (k : Program) → check_fault k ≡ None → AreNear (loop_index k) (loop_entries k)
 loop-near k e =
-    let inner : _ ≡ None = unrefused (nat_lt most_items (size_of k)) (TooLarge (size_of k)) _ e in
-    let faultless : kernel_faults k ≡ [] = none (kernel_faults k) (unrefused (nat_lt most_depth (depth_of k)) (TooDeep (depth_of k)) _ inner) in
-    turns-near k (var_scope k) _ (loop_start k) k.turns (vars-index (param_scope k) k.vars ∙ params-index (empty (loop_index k)) k.params) (nil-left _ _ (nil-right _ _ (nil-right _ _ faultless)))
+    turns-near k (var_scope k) _ (loop_start k) k.turns (scope_index k) (nil-left _ _ (nil-right _ _ (nil-right _ _ (faultless k e))))
 
 -- ---- the same, of the tree
 

@@ -1,12 +1,10 @@
 //! Lists what the items of statements in a loop do.
 
-ghost use Rattle.std.specs.Prelude.{◌≡◌, ◌+◌, ◌≤◌, take, length, IfOk, OnOk};
-ghost use Rattle.kernel_tree.specs.Plain.{Put, Choose, Nothing, Else, name_of, term_of, action_of, block_of, program_of};
-ghost use Rattle.kernel_tree.specs.Checked.{kernel_of};
-ghost use Rattle.kernel_tree.specs.Items.{loop_index, stream_offset, action_size, block_size};
-ghost use Rattle.loop_form.specs.LoopItems.{loop_items_of};
-ghost use Rattle.loop_form.specs.LoopView.{view, AppendsAction, AppendsBlock, Declares};
-ghost use Rattle.loop_form.specs.Near.{NearAction, NearBlock};
+ghost use Rattle.std.specs.Prelude.{◌≡◌, ◌+◌, ◌≤◌, [], take, length, OnOk};
+ghost use Rattle.kernel_tree.specs.Plain.{Define, Put, Update, Leave, Choose, Nothing, Else, name_of, term_of, action_of, block_of};
+ghost use Rattle.kernel_tree.specs.Items.{loop_index, term_size, action_size, block_size};
+ghost use Rattle.loop_form.specs.LoopView.{AppendsAction, AppendsBlock, Declares};
+ghost use Rattle.loop_form.specs.Near.{NearTerm, NearAction, NearBlock};
 ghost use Rattle.loop_form.specs.View.{program};
 
 use crate::access::offset;
@@ -18,8 +16,32 @@ use crate::visible::{
     Visible, accumulator_type_of, array_type_of, first_type, own_type, source_of,
 };
 use kernel_tree::fault::Binding;
-use kernel_tree::{Checked, Expr, Name, Part, Stmt, parts};
+use kernel_tree::{Checked, Expr, Name, Part, Stmt, Ty, UpdateOp, parts};
 use std::alloc::AllocError;
+
+// A `let`, whose name plays no part in its items, so that none stands for any: its value, and the copy.
+fn list_let<'a>(
+    kernel: &Checked,
+    names: &[Visible<'a>],
+    items: &mut Vec<LoopItem<'a>>,
+    mask: Option<u32>,
+    from: u32,
+    ty: Option<Ty>,
+    value: &'a Expr,
+) -> Result<(), AllocError>
+    requires fits { from + (term_size (loop_index (program kernel.now)) (term_of value.now) + 1) ≤ 1000 }
+    requires near { NearTerm (loop_index (program kernel.now)) (term_of value.now) }
+    ensures { OnOk result (AppendsAction (loop_index (program kernel.now)) names.now mask from
+        (Define [] ty (term_of value.now)) items.old.items items.new.items) }
+{
+    let want = first_type(ty, own_type(names, value));
+    let op = LoopOp::Copy {
+        ty: want,
+        arg: source(kernel, names, want, from, value),
+    };
+    list_one(kernel, names, items, want, mask, from, value, op)?;
+    Ok(())
+}
 
 // A store: its value, and the store.
 fn list_store<'a>(
@@ -56,6 +78,54 @@ fn list_store<'a>(
     Ok(())
 }
 
+// An update: its value, and the update.
+fn list_update<'a>(
+    kernel: &Checked,
+    names: &[Visible<'a>],
+    items: &mut Vec<LoopItem<'a>>,
+    mask: Option<u32>,
+    from: u32,
+    name: &'a Name,
+    op: UpdateOp,
+    value: &'a Expr,
+) -> Result<(), AllocError>
+    requires fits { from + (term_size (loop_index (program kernel.now)) (term_of value.now) + 1) ≤ 1000 }
+    requires near { NearTerm (loop_index (program kernel.now)) (term_of value.now) }
+    ensures { OnOk result (AppendsAction (loop_index (program kernel.now)) names.now mask from
+        (Update (name_of name.now) op (term_of value.now)) items.old.items items.new.items) }
+{
+    let name = name.text();
+    let want = accumulator_type_of(names, name);
+    let op = LoopOp::Add {
+        name,
+        op,
+        ty: want,
+        value: source(kernel, names, want, from, value),
+    };
+    list_one(kernel, names, items, want, mask, from, value, op)?;
+    Ok(())
+}
+
+// A `break`: its condition, and the break.
+fn list_break<'a>(
+    kernel: &Checked,
+    names: &[Visible<'a>],
+    items: &mut Vec<LoopItem<'a>>,
+    mask: Option<u32>,
+    from: u32,
+    cond: &'a Expr,
+) -> Result<(), AllocError>
+    requires fits { from + (term_size (loop_index (program kernel.now)) (term_of cond.now) + 1) ≤ 1000 }
+    requires near { NearTerm (loop_index (program kernel.now)) (term_of cond.now) }
+    ensures { OnOk result (AppendsAction (loop_index (program kernel.now)) names.now mask from
+        (Leave (term_of cond.now)) items.old.items items.new.items) }
+{
+    let op = LoopOp::Quit(condition_item(kernel, from, cond));
+    list_condition(kernel, names, items, mask, from, cond)?;
+    append(items, from + expr_size(kernel, cond), mask, op)?;
+    Ok(())
+}
+
 // A statement; the names after it are not yet declared.
 #[cycle(loop_statements)]
 fn list_stmt<'a>(
@@ -73,50 +143,22 @@ fn list_stmt<'a>(
         (action_of stmt.now) items.old.items items.new.items) }
 {
     match parts(stmt) {
-        Part::Let { ty, value, .. } => {
-            let want = first_type(ty, own_type(names, value));
-            let op = LoopOp::Copy {
-                ty: want,
-                arg: source(kernel, names, want, from, value),
-            };
-            list_one(kernel, names, items, want, mask, from, value, op)?;
-            Ok(())
-        }
+        Part::Let { ty, value, .. } => list_let(kernel, names, items, mask, from, ty, value)?,
         Part::Store {
             array,
             index,
             value,
-        } => {
-            list_store(kernel, names, items, mask, from, array, index, value)?;
-            Ok(())
-        }
+        } => list_store(kernel, names, items, mask, from, array, index, value)?,
         Part::Update { name, op, value } => {
-            let name = name.text();
-            let want = accumulator_type_of(names, name);
-            let op = LoopOp::Add {
-                name,
-                op,
-                ty: want,
-                value: source(kernel, names, want, from, value),
-            };
-            list_one(kernel, names, items, want, mask, from, value, op)?;
-            Ok(())
+            list_update(kernel, names, items, mask, from, name, op, value)?;
         }
-        Part::If { cond, block } => {
-            list_if(kernel, names, items, mask, from, cond, block)?;
-            Ok(())
-        }
+        Part::If { cond, block } => list_if(kernel, names, items, mask, from, cond, block)?,
         Part::IfElse { cond, block, other } => {
             list_if_else(kernel, names, items, mask, from, cond, block, other)?;
-            Ok(())
         }
-        Part::Break { cond } => {
-            let op = LoopOp::Quit(condition_item(kernel, from, cond));
-            list_condition(kernel, names, items, mask, from, cond)?;
-            append(items, from + expr_size(kernel, cond), mask, op)?;
-            Ok(())
-        }
+        Part::Break { cond } => list_break(kernel, names, items, mask, from, cond)?,
     }
+    Ok(())
 }
 
 #[cycle(loop_statements)]

@@ -1,9 +1,9 @@
 //! Lists what the items of expressions in a loop do.
 
-ghost use Rattle.std.specs.Prelude.{◌≡◌, ◌+◌, ◌≤◌, List, ℕ, ◌∷◌, ◌++◌, OnOk};
-ghost use Rattle.kernel_tree.specs.Plain.{Shift, Choice, Both, Either, Not, name_of, term_of};
+ghost use Rattle.std.specs.Prelude.{◌≡◌, ◌+◌, ◌≤◌, List, ℕ, ◌∷◌, ◌++◌, None, OnOk};
+ghost use Rattle.kernel_tree.specs.Plain.{Unary, Operation, Shift, Conversion, Choice, Both, Either, Not, name_of, term_of};
 ghost use Rattle.kernel_tree.specs.Items.{loop_index, stream_offset, term_size, index_items};
-ghost use Rattle.loop_form.specs.LoopItems.{Item, item, load_item, term_items, cond_items};
+ghost use Rattle.loop_form.specs.LoopItems.{Item, item, load_item, term_items};
 ghost use Rattle.loop_form.specs.LoopView.{op_of, view, env_of, scope_of, AppendsValue, AppendsCondition};
 ghost use Rattle.loop_form.specs.Near.{IsNear, NearTerm};
 ghost use Rattle.loop_form.specs.View.{program};
@@ -13,7 +13,7 @@ use crate::loop_item::{LoopItem, LoopOp};
 use crate::operands::{condition_item, source};
 use crate::size::expr_size;
 use crate::visible::{Visible, array_type_of, first_type, own_type, source_of};
-use kernel_tree::{Checked, Expr, Name, Ty};
+use kernel_tree::{BinaryOp, Checked, Expr, Name, Ty, UnaryOp};
 use std::alloc::AllocError;
 
 /// Appends an item.
@@ -51,65 +51,23 @@ pub fn list_value<'a>(
         (term_of expr.now) items.old.items items.new.items) }
 {
     match expr {
-        Expr::Read { array, index } => {
-            list_read(kernel, names, items, mask, from, array, index)?;
-            Ok(())
-        }
-        Expr::Unary { op, arg } => {
-            let arg_source = source(kernel, names, want, from, arg);
-            let op = LoopOp::Apply {
-                op: *op,
-                ty: want,
-                arg: arg_source,
-            };
-            list_one(kernel, names, items, want, mask, from, arg, op)?;
-            Ok(())
-        }
+        Expr::Read { array, index } => list_read(kernel, names, items, mask, from, array, index)?,
+        Expr::Unary { op, arg } => list_unary(kernel, names, items, want, mask, from, *op, arg)?,
         Expr::Binary { op, left, right } => {
-            let next = from + expr_size(kernel, left);
-            let op = LoopOp::Combine {
-                op: *op,
-                ty: want,
-                left: source(kernel, names, want, from, left),
-                right: source(kernel, names, want, next, right),
-            };
-            list_two(kernel, names, items, want, mask, from, left, right, op)?;
-            Ok(())
+            list_binary(kernel, names, items, want, mask, from, *op, left, right)?;
         }
         Expr::Shift {
-            left_shift,
+            left_shift: left,
             arg,
             count,
-        } => {
-            list_shift(
-                kernel,
-                names,
-                items,
-                want,
-                mask,
-                from,
-                *left_shift,
-                arg,
-                count,
-            )?;
-            Ok(())
-        }
-        Expr::Cast { arg, ty } => {
-            let own = own_type(names, arg);
-            let op = LoopOp::Cast {
-                from: own,
-                to: *ty,
-                arg: source(kernel, names, own, from, arg),
-            };
-            list_one(kernel, names, items, own, mask, from, arg, op)?;
-            Ok(())
-        }
+        } => list_shift(kernel, names, items, want, mask, from, *left, arg, count)?,
+        Expr::Cast { arg, ty } => list_cast(kernel, names, items, mask, from, arg, *ty)?,
         Expr::Select { cond, yes, no } => {
             list_select(kernel, names, items, want, mask, from, yes, no, cond)?;
-            Ok(())
         }
-        _ => Ok(()),
+        _ => {}
     }
+    Ok(())
 }
 
 // A read of an element by a stream index.
@@ -162,6 +120,89 @@ pub fn list_one<'a>(
 {
     list_value(kernel, names, items, want, mask, from, arg)?;
     append(items, from + expr_size(kernel, arg), mask, op)?;
+    Ok(())
+}
+
+// A unary operator.
+#[cycle(loop_values)]
+fn list_unary<'a>(
+    kernel: &Checked,
+    names: &[Visible<'a>],
+    items: &mut Vec<LoopItem<'a>>,
+    want: Option<Ty>,
+    mask: Option<u32>,
+    from: u32,
+    op: UnaryOp,
+    arg: &'a Expr,
+) -> Result<(), AllocError>
+    requires fits { from + (term_size (loop_index (program kernel.now)) (term_of arg.now) + 1) ≤ 1000 }
+    requires near { NearTerm (loop_index (program kernel.now)) (term_of arg.now) }
+    ensures { OnOk result (AppendsValue (loop_index (program kernel.now)) names.now want mask from
+        (Unary op (term_of arg.now)) items.old.items items.new.items) }
+{
+    let op = LoopOp::Apply {
+        op,
+        ty: want,
+        arg: source(kernel, names, want, from, arg),
+    };
+    list_one(kernel, names, items, want, mask, from, arg, op)?;
+    Ok(())
+}
+
+// A binary operator.
+#[cycle(loop_values)]
+fn list_binary<'a>(
+    kernel: &Checked,
+    names: &[Visible<'a>],
+    items: &mut Vec<LoopItem<'a>>,
+    want: Option<Ty>,
+    mask: Option<u32>,
+    from: u32,
+    op: BinaryOp,
+    left: &'a Expr,
+    right: &'a Expr,
+) -> Result<(), AllocError>
+    requires fits { from + term_size (loop_index (program kernel.now))
+        (Operation op (term_of left.now) (term_of right.now)) ≤ 1000 }
+    requires near { NearTerm (loop_index (program kernel.now))
+        (Operation op (term_of left.now) (term_of right.now)) }
+    ensures { OnOk result (AppendsValue (loop_index (program kernel.now)) names.now want mask from
+        (Operation op (term_of left.now) (term_of right.now)) items.old.items items.new.items) }
+{
+    let next = from + expr_size(kernel, left);
+    let op = LoopOp::Combine {
+        op,
+        ty: want,
+        left: source(kernel, names, want, from, left),
+        right: source(kernel, names, want, next, right),
+    };
+    list_two(kernel, names, items, want, mask, from, left, right, op)?;
+    Ok(())
+}
+
+// A conversion: its operand has its own type, and what is wanted of the whole plays no part.
+#[cycle(loop_values)]
+fn list_cast<'a>(
+    kernel: &Checked,
+    names: &[Visible<'a>],
+    items: &mut Vec<LoopItem<'a>>,
+    mask: Option<u32>,
+    from: u32,
+    arg: &'a Expr,
+    ty: Ty,
+) -> Result<(), AllocError>
+    requires fits { from + (term_size (loop_index (program kernel.now)) (term_of arg.now) + 1) ≤ 1000 }
+    requires near { NearTerm (loop_index (program kernel.now)) (term_of arg.now) }
+    ensures { OnOk result (AppendsValue (loop_index (program kernel.now)) names.now None mask from
+        (Conversion (term_of arg.now) ty) items.old.items items.new.items) }
+{
+    let own = own_type(names, arg);
+    let op = LoopOp::Cast {
+        from: own,
+        to: ty,
+        arg: source(kernel, names, own, from, arg),
+    };
+    list_one(kernel, names, items, own, mask, from, arg, op)?;
     Ok(())
 }
 
@@ -288,22 +329,13 @@ pub fn list_condition<'a>(
                 right: source(kernel, names, want, next, right),
             };
             list_two(kernel, names, items, want, mask, from, left, right, op)?;
-            Ok(())
         }
-        Expr::And { left, right } => {
-            list_and(kernel, names, items, mask, from, left, right)?;
-            Ok(())
-        }
-        Expr::Or { left, right } => {
-            list_or(kernel, names, items, mask, from, left, right)?;
-            Ok(())
-        }
-        Expr::Not { arg } => {
-            list_not(kernel, names, items, mask, from, arg)?;
-            Ok(())
-        }
-        _ => Ok(()),
+        Expr::And { left, right } => list_and(kernel, names, items, mask, from, left, right)?,
+        Expr::Or { left, right } => list_or(kernel, names, items, mask, from, left, right)?,
+        Expr::Not { arg } => list_not(kernel, names, items, mask, from, arg)?,
+        _ => {}
     }
+    Ok(())
 }
 
 // `&&`: its right side is done where the left one holds.

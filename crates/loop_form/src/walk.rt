@@ -1,10 +1,10 @@
 //! Lists the items of a kernel, with what stands in them, into a buffer.
 
-ghost use Rattle.std.specs.Prelude.{◌≡◌, ◌+◌, ◌<◌, ◌≤◌, [], ◌∷◌, ◌++◌, option_map};
+ghost use Rattle.std.specs.Prelude.{◌≡◌, ◌+◌, ◌<◌, ◌≤◌, [], ◌∷◌, ◌++◌};
 ghost use Rattle.arrayvec.specs.ArrayVec.{array_vec_len};
 ghost use Rattle.kernel_tree.specs.Plain.{Element, Either, Choice, Choose, Nothing, Else, name_of, term_of, action_of, block_of, accumulators_of};
 ghost use Rattle.kernel_tree.specs.Items.{loop_index, term_size, index_items, action_size, block_size, vars_size};
-ghost use Rattle.loop_form.specs.Entries.{entry, term_entries, action_entries, block_entries, vars_entries, item_type, inner_entries, IsPlain, IsRead};
+ghost use Rattle.loop_form.specs.Entries.{entry, term_entries, action_entries, block_entries, vars_entries, item_type, IsPlain};
 ghost use Rattle.loop_form.specs.View.{program, content_of, seen};
 
 use crate::entry::{Content, Entries, Entry};
@@ -42,7 +42,7 @@ pub fn put<'a>(
     });
 }
 
-/// Lists an expression whose items begin at a number and whose value is used by the item `until`.
+/// Lists an expression whose items begin at a number and whose value is used by the item `last_use`.
 #[cycle(terms)]
 pub fn list_expr<'a>(
     kernel: &Checked,
@@ -64,15 +64,8 @@ pub fn list_expr<'a>(
         Expr::Read { array, index } => list_read(kernel, entries, from, last_use, array, index),
         Expr::Unary { arg, .. } => list_one(kernel, entries, from, last_use, arg, ItemKind::Unary),
         Expr::Binary { left, right, .. } => {
-            list_two(
-                kernel,
-                entries,
-                from,
-                last_use,
-                left,
-                right,
-                ItemKind::Binary,
-            )
+            let kind = ItemKind::Binary;
+            list_two(kernel, entries, from, last_use, left, right, kind);
         }
         Expr::Shift { arg, .. } => list_one(kernel, entries, from, last_use, arg, ItemKind::Shift),
         Expr::Cast { arg, .. } => list_one(kernel, entries, from, last_use, arg, ItemKind::Cast),
@@ -80,15 +73,8 @@ pub fn list_expr<'a>(
             list_select(kernel, entries, from, last_use, yes, no, cond)
         }
         Expr::Compare { left, right, .. } => {
-            list_two(
-                kernel,
-                entries,
-                from,
-                last_use,
-                left,
-                right,
-                ItemKind::Compare,
-            )
+            let kind = ItemKind::Compare;
+            list_two(kernel, entries, from, last_use, left, right, kind);
         }
         Expr::And { left, right } => {
             list_two(kernel, entries, from, last_use, left, right, ItemKind::And)

@@ -1,59 +1,20 @@
 //! The words of a kernel that counts, as GNU `as` writes them.
 
-ghost use Rattle.std.specs.Prelude.{◌≡◌, ◌≤◌, IfOk};
-ghost use Rattle.kernel_tree.specs.Items.{size_of};
-ghost use Rattle.kernel_tree.specs.Plain.{name_of};
+ghost use Rattle.std.specs.Prelude.{IfOk};
 ghost use Rattle.reg_assign.specs.declared.interval.RegClass.TheVariants.{X};
 ghost use Rattle.loop_form.specs.Registers.{FitsKernel};
 ghost use Rattle.loop_form.specs.View.{program};
 
 use crate::laws::few_items;
 use crate::{emit_begin, emit_scalar};
-use kernel_tree::{Answer, Checked, Expr, Kernel, Loop, Name, Param, Shape, Ty};
+use kernel_front::accept;
+use kernel_tree::Checked;
 use label_fix::Draft;
 use loop_form::laws::ordered_intervals;
 use loop_form::{counted_registers, intervals};
 use reg_assign::{Assigned, RegClass, assign};
 use std::alloc::Global;
 use std::test::Fail;
-
-fn name(alloc: Global, text: &str) -> Result<Name, Fail>
-    ensures { IfOk result (λ name. name_of name ≡ text.now) }
-{
-    let name = Name::new(alloc, text)?.ok_or("no name")?;
-    Ok(name)
-}
-
-// kernel f(n: u64) -> u64 { for i in 0..n { } return i; }
-fn count(alloc: Global) -> Result<Checked, Fail> {
-    let mut params = Vec::new(alloc);
-    params.push(Param {
-        name: name(alloc, "n")?,
-        shape: Shape::Scalar(Ty::U64),
-    })?;
-    let turns = Loop {
-        index: name(alloc, "i")?,
-        bound: name(alloc, "n")?,
-        body: Vec::new(alloc),
-    };
-    let answer = Answer {
-        ty: Ty::U64,
-        value: Expr::Var(name(alloc, "i")?),
-    };
-    let kernel = Kernel {
-        name: name(alloc, "f")?,
-        params,
-        vars: Vec::new(alloc),
-        body: Some(turns),
-        answer: Some(answer),
-    };
-    let mut types = Vec::new(alloc);
-    types.push(None)?;
-    types.push(None)?;
-    types.push(Some(Ty::U64))?;
-    types.push(None)?;
-    Ok(Checked::new(kernel, types))
-}
 
 fn registers(alloc: Global, kernel: &Checked) -> Result<Assigned, Fail>
     ensures { IfOk result (λ regs. FitsKernel (program kernel.now) X regs) }
@@ -70,7 +31,8 @@ fn registers(alloc: Global, kernel: &Checked) -> Result<Assigned, Fail>
 #[test]
 fn counts(rt: HostRuntime) -> Result<(), Fail> {
     let alloc = rt.alloc();
-    let kernel = count(alloc)?;
+    let text = b"kernel f(n: u64) -> u64 { for i in 0..n { } return i; }";
+    let kernel = accept(alloc, text)?;
     let regs = registers(alloc, &kernel)?;
     let mut draft = Draft::new(alloc);
     few_items(&kernel);

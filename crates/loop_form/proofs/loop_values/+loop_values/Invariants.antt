@@ -6,28 +6,37 @@ use Rattle.loop_form.proofs.loop_values.+loop_values.Given as goal
 
 -- an expression stands above what lists it by its kind, and that above its operands
 abbrev pub decreases-list_value : goal.decreases-list_value
-decreases-list_value l = 2 * term_depth (term_of l.expr.now)
+decreases-list_value l = 3 * term_depth (term_of l.expr.now)
 
 abbrev pub decreases-list_one : goal.decreases-list_one
-decreases-list_one l = 2 * term_depth (term_of l.arg.now) + 1
+decreases-list_one l = 3 * term_depth (term_of l.arg.now) + 1
+
+abbrev pub decreases-list_unary : goal.decreases-list_unary
+decreases-list_unary l = 3 * term_depth (term_of l.arg.now) + 2
+
+abbrev pub decreases-list_binary : goal.decreases-list_binary
+decreases-list_binary l = 3 * max (term_depth (term_of l.left.now)) (term_depth (term_of l.right.now)) + 2
+
+abbrev pub decreases-list_cast : goal.decreases-list_cast
+decreases-list_cast l = 3 * term_depth (term_of l.arg.now) + 2
 
 abbrev pub decreases-list_shift : goal.decreases-list_shift
-decreases-list_shift l = 2 * term_depth (term_of l.arg.now) + 1
+decreases-list_shift l = 3 * term_depth (term_of l.arg.now) + 1
 
 abbrev pub decreases-list_two : goal.decreases-list_two
-decreases-list_two l = 2 * max (term_depth (term_of l.left.now)) (term_depth (term_of l.right.now)) + 1
+decreases-list_two l = 3 * max (term_depth (term_of l.left.now)) (term_depth (term_of l.right.now)) + 1
 
 abbrev pub decreases-list_select : goal.decreases-list_select
-decreases-list_select l = 2 * max (term_depth (term_of l.cond.now)) (max (term_depth (term_of l.yes.now)) (term_depth (term_of l.no.now))) + 1
+decreases-list_select l = 3 * max (term_depth (term_of l.cond.now)) (max (term_depth (term_of l.yes.now)) (term_depth (term_of l.no.now))) + 1
 
 abbrev pub decreases-list_condition : goal.decreases-list_condition
-decreases-list_condition l = 2 * term_depth (term_of l.expr.now)
+decreases-list_condition l = 3 * term_depth (term_of l.expr.now)
 
 abbrev pub decreases-list_and : goal.decreases-list_and
-decreases-list_and l = 2 * max (term_depth (term_of l.left.now)) (term_depth (term_of l.right.now)) + 1
+decreases-list_and l = 3 * max (term_depth (term_of l.left.now)) (term_depth (term_of l.right.now)) + 1
 
 abbrev pub decreases-list_or : goal.decreases-list_or
-decreases-list_or l = 2 * max (term_depth (term_of l.left.now)) (term_depth (term_of l.right.now)) + 1
+decreases-list_or l = 3 * max (term_depth (term_of l.left.now)) (term_depth (term_of l.right.now)) + 1
 
 abbrev pub decreases-list_not : goal.decreases-list_not
-decreases-list_not l = 2 * term_depth (term_of l.arg.now) + 1
+decreases-list_not l = 3 * term_depth (term_of l.arg.now) + 1
