@@ -212,7 +212,8 @@ fn choice<'a>(alloc: Global, tokens: &'a [Token], room: usize) -> Result<(Expr, 
 
 // The number that belongs to a sign in front of it.
 fn signed_number(sign: Sign, tokens: &[Token]) -> Option<(Number, &[Token])>
-    ensures value { option_map (λ x. (x.0.value, words_of x.1.now)) result ≡ number_following sign (words_of tokens.now) }
+    ensures value { option_map (λ x. (x.0.value, words_of x.1.now)) result
+        ≡ number_following sign (words_of tokens.now) }
     ensures shorter { IfSome result (λ x. length x.1.now < length tokens.now) }
 {
     match sign {

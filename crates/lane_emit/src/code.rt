@@ -115,7 +115,8 @@ fn absolute(
     d: VectorReg,
     a: VectorReg,
 ) -> Result<(), AllocError>
-    ensures { OnOk result (Adds (code.unary_code width operator.Abs ty d.number a.number) words.old.items words.new.items) }
+    ensures { OnOk result (Adds (code.unary_code width operator.Abs ty d.number a.number)
+        words.old.items words.new.items) }
 {
     if is_signed(ty) {
         let leaves = unary_leaves(UnaryOp::Abs, ty);

@@ -213,7 +213,8 @@ fn list_select<'a>(
     requires fits { from + term_size (loop_index (program kernel.now))
         (Choice (term_of cond.now) (term_of yes.now) (term_of no.now)) ≤ 1000 }
     ensures items { seen entries.new.items ≡ seen entries.old.items
-        ++ term_entries (program kernel.now) from last_use (Choice (term_of cond.now) (term_of yes.now) (term_of no.now)) }
+        ++ term_entries (program kernel.now) from last_use
+        (Choice (term_of cond.now) (term_of yes.now) (term_of no.now)) }
     ensures len { array_vec_len entries.new ≡ array_vec_len entries.old + term_size (loop_index (program kernel.now))
         (Choice (term_of cond.now) (term_of yes.now) (term_of no.now)) }
 {

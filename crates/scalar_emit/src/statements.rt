@@ -249,7 +249,8 @@ fn emit_plain<'a>(
     requires exit { exit < draft.old.labels }
     requires kinds { ActionKinds (part_action part) }
     requires fits { item.old + action_size (scope_of scope.old).index (part_action part) < 2 ^ 32 }
-    ensures scope { OnOk result (scope_of scope.new ≡ typing.after_action (scope_of scope.old) (part_action part.entry)) }
+    ensures scope { OnOk result (scope_of scope.new
+        ≡ typing.after_action (scope_of scope.old) (part_action part.entry)) }
     ensures homes { OnOk result (homes_of homes.new.items
         ≡ statements.after_homes places.now (homes_of homes.old.items) (scope_of scope.old) item.old
         (part_action part.entry)) }
