@@ -1,6 +1,7 @@
 -- What the reader's values stand for.
 use Rattle.std.specs.Prelude.{ℕ, List, map, option_map, String, string_bytes, Vec}
 use Rattle.std.specs.Borrow.{Bor}
+use Rattle.number_text.specs.View.{bytes_left}
 use Rattle.command_line.specs.declared.command.Command.{Command}
 use Rattle.command_line.specs.declared.command.Command.TheVariants.{Compile, Check, Eval, List as Listing, Run, Debug, Sweep}
 use Rattle.command_line.specs.declared.command.Extent.{Extent as ExtentData}
@@ -15,9 +16,6 @@ texts words = map string_bytes words
 -- the words of a vector
 abbrev pub texts_in : {A B : Type 0} → Vec (String A) B → Words
 texts_in words = texts words.items
-
-abbrev pub bytes_left : Bor (List ℕ) → List ℕ
-bytes_left bytes = bytes.now
 
 abbrev pub both_left : Bor (List ℕ) × Bor (List ℕ) → List ℕ × List ℕ
 both_left x = (x.0.now, x.1.now)

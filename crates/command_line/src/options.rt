@@ -6,7 +6,8 @@ ghost use Rattle.command_line.specs.Numbers.{parted};
 ghost use Rattle.command_line.specs.Given.{spelt_value, options_in};
 ghost use Rattle.command_line.specs.Taken.{given_view};
 ghost use Rattle.number_text.specs.Numbers.{number_of};
-ghost use Rattle.command_line.specs.View.{both_left, bytes_left, extent_view, options_view, all_left};
+ghost use Rattle.command_line.specs.View.{both_left, extent_view, options_view, all_left};
+ghost use Rattle.number_text.specs.View.{bytes_left};
 
 use crate::command::Extent;
 use clap::ArgMatches;

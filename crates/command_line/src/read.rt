@@ -2,8 +2,8 @@
 
 ghost use Rattle.std.specs.Prelude.{◌≡◌, ◌≤◌, IfOk, IfSome, option_map, is_some, length, [], string_bytes};
 ghost use Rattle.command_line.specs.Line.{is_length, positional, arguments_from, arguments_of, task_of, run_with, run_of, debug_with, debug_of, compile_of, sweep_of, file_of, eval_with, eval_of, line_of, CheckLine, ListLine};
-ghost use Rattle.command_line.specs.View.{texts, bytes_left, all_left, all_in, options_view, task_view, command_view};
-ghost use Rattle.number_text.specs.View.{items_in};
+ghost use Rattle.command_line.specs.View.{texts, all_left, all_in, options_view, task_view, command_view};
+ghost use Rattle.number_text.specs.View.{items_in, bytes_left};
 
 use crate::command::{Command, Task};
 use crate::number::argument;
