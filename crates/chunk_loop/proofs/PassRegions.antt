@@ -3,10 +3,10 @@ use Rattle.std.proofs.Common.{◌≡◌, ℕ, zero, ◌+◌, ◌<◌, ◌≤◌,
 use Rattle.guest_types.specs.EarlyLoads.{StopList}
 use Rattle.guest_types.specs.Memory.{Memory, byte_at}
 use Rattle.kernel_tree.specs.Typing.{var_scope}
+use Rattle.kernel_meaning.specs.Ends as ends
 use Rattle.kernel_meaning.specs.Ends.{BlockEnd, Next, Faulted, Going, Failed}
 use Rattle.kernel_meaning.specs.Eval.{Names}
 use Rattle.kernel_meaning.specs.Iterate.{Broke as BrokeOut, iterate}
-use Rattle.kernel_meaning.specs.ScalarRun as scalar
 use Rattle.kernel_meaning.specs.ScalarRun.{course}
 use Rattle.machine_model.specs.declared.outcome.StopKind.TheVariants.{Read}
 use Rattle.machine_model.specs.Machine.{State}
@@ -59,7 +59,7 @@ fell_fails : (g : Ground) (i : ℕ) (cur : Names) (m : Memory) → IsTurn Fell m
 unfolding course
 fell_fails g i cur m is = by (iterate (var_scope g.kernel) g.turns i m cur) is
   where
-    by : (turn : BlockEnd Names) → IsTurn Fell m turn → scalar.go_on turn i (course (var_scope g.kernel) g.turns zero (i + 1)) ≡ Failed m i
+    by : (turn : BlockEnd Names) → IsTurn Fell m turn → ends.go_on turn i (course (var_scope g.kernel) g.turns zero (i + 1)) ≡ Failed m i
     by (Next after names) is = absurd is
     by (BrokeOut after names) is = absurd is
     by (Faulted after) is = ap (λ memory. Failed memory i) is

@@ -1,9 +1,9 @@
 -- Where an iteration breaks or faults in the region, its turn does.
 use Rattle.std.proofs.Common.{◌≡◌, ℕ, List, [], ◌∷◌, ◌++◌, refl, sym, ap, ◌∙◌, subst}
 use Rattle.guest_types.specs.Memory.{Memory}
+use Rattle.kernel_meaning.specs.Ends as ends
 use Rattle.kernel_meaning.specs.Ends.{BlockEnd}
 use Rattle.kernel_meaning.specs.Eval.{Names}
-use Rattle.kernel_meaning.specs.Iterate as iteration
 use Rattle.kernel_meaning.specs.Iterate.{iterate}
 use Rattle.kernel_tree.specs.Typing.{var_scope}
 use Rattle.chunk_order.specs.Orders.{Lane, Effect, Halts, Keeps, Writes}
@@ -51,12 +51,12 @@ fate_is names (it ∷ items) rest j m l quiet = by (item_act names it j m l) ref
 
 as_turn : (w : Way) (m : Memory) (f : Lane → Fate) (turn : BlockEnd Names) → SameEnd turn (fate_after w m f) → IsTurn w m turn
 as_turn (On l) m f turn h = tt
-as_turn Broke m f (iteration.Next after names) h = h
-as_turn Broke m f (iteration.Broke after names) h = sym h
-as_turn Broke m f (iteration.Faulted after) h = h
-as_turn Fell m f (iteration.Next after names) h = h
-as_turn Fell m f (iteration.Broke after names) h = h
-as_turn Fell m f (iteration.Faulted after) h = sym h
+as_turn Broke m f (ends.Next after names) h = h
+as_turn Broke m f (ends.Broke after names) h = sym h
+as_turn Broke m f (ends.Faulted after) h = h
+as_turn Fell m f (ends.Next after names) h = h
+as_turn Fell m f (ends.Broke after names) h = h
+as_turn Fell m f (ends.Faulted after) h = sym h
 
 pub way_is_turn : WayIsTurn
 way_is_turn k l args start names cur i m lane checked loop vector began steady =

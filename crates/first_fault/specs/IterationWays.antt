@@ -3,9 +3,9 @@ use Rattle.std.specs.Prelude.{◌≡◌, ℕ, List, Some, None}
 use Rattle.guest_types.specs.Memory.{Memory}
 use Rattle.kernel_tree.specs.Plain.{PlainLoop, Program}
 use Rattle.kernel_tree.specs.Typing.{check_fault, var_scope}
+use Rattle.kernel_meaning.specs.Ends as ends
 use Rattle.kernel_meaning.specs.Ends.{BlockEnd}
 use Rattle.kernel_meaning.specs.Eval.{Names}
-use Rattle.kernel_meaning.specs.Iterate as iteration
 use Rattle.kernel_meaning.specs.Iterate.{iterate}
 use Rattle.kernel_meaning.specs.ScalarRun.{started}
 use Rattle.loop_form.specs.LoopItems.{loop_items}
@@ -19,8 +19,8 @@ use Rattle.first_fault.specs.Split.{region_of}
 -- an iteration that breaks, or faults, in the region is a turn that does, and has stored nothing
 abbrev pub IsTurn : Way → Memory → BlockEnd Names → Type 0
 IsTurn (On l) m turn = Unit {0}
-IsTurn Broke m (iteration.Broke after names) = after ≡ m
-IsTurn Fell m (iteration.Faulted after) = after ≡ m
+IsTurn Broke m (ends.Broke after names) = after ≡ m
+IsTurn Fell m (ends.Faulted after) = after ≡ m
 IsTurn _ m _ = ⊥
 
 abbrev pub WayIsTurn : Type 0
