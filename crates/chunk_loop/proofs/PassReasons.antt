@@ -4,7 +4,8 @@ use Rattle.guest_types.specs.Memory.{Memory}
 use Rattle.kernel_tree.specs.Typing.{var_scope}
 use Rattle.kernel_meaning.specs.Ends.{BlockEnd, Next, Faulted, Going}
 use Rattle.kernel_meaning.specs.Eval.{Names}
-use Rattle.kernel_meaning.specs.Iterate.{Broke as BrokeOut, iterate}
+use Rattle.kernel_meaning.specs.Iterate.{iterate}
+use Rattle.kernel_meaning.specs.Ends.{Broke as BrokeOut}
 use Rattle.kernel_meaning.specs.ScalarRun.{course}
 use Rattle.chunk_emit.specs.Head.{Ground, IsGround, Between, most_lanes, limit}
 use Rattle.first_fault.specs.Region.{Broke, lane_left}

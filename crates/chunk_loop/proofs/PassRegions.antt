@@ -6,7 +6,8 @@ use Rattle.kernel_tree.specs.Typing.{var_scope}
 use Rattle.kernel_meaning.specs.Ends as ends
 use Rattle.kernel_meaning.specs.Ends.{BlockEnd, Next, Faulted, Going, Failed}
 use Rattle.kernel_meaning.specs.Eval.{Names}
-use Rattle.kernel_meaning.specs.Iterate.{Broke as BrokeOut, iterate}
+use Rattle.kernel_meaning.specs.Iterate.{iterate}
+use Rattle.kernel_meaning.specs.Ends.{Broke as BrokeOut}
 use Rattle.kernel_meaning.specs.ScalarRun.{course}
 use Rattle.machine_model.specs.declared.outcome.StopKind.TheVariants.{Read}
 use Rattle.machine_model.specs.Machine.{State}
