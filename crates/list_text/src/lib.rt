@@ -7,6 +7,7 @@
 ghost use Rattle.std.specs.Prelude.{◌≡◌, [], ◌∷◌, ◌≤◌, ◌<◌, ◌+◌, ◌++◌};
 ghost use Rattle.arrayvec.specs.ArrayString.{array_string_len};
 ghost use Rattle.list_text.specs.Text as text;
+ghost use Rattle.number_text.specs.Hexadecimal.{hex_digit};
 
 use arrayvec::ArrayString;
 use word_rows::field;
@@ -79,7 +80,7 @@ fn push_hex_word<const N: usize>(into: &mut ArrayString<N>, word: u32)
 fn push_hex_digit<const N: usize>(into: &mut ArrayString<N>, digit: u32)
     requires room { array_string_len into.old < N }
     requires below { digit < 16 }
-    ensures bytes { into.new.bytes ≡ into.old.bytes ++ text.hex_digit digit ∷ [] }
+    ensures bytes { into.new.bytes ≡ into.old.bytes ++ hex_digit digit ∷ [] }
     ensures len { array_string_len into.new ≡ array_string_len into.old + 1 }
 {
     into.push(b"0123456789abcdef"[digit as usize] as char);
