@@ -7,7 +7,7 @@ use Rattle.guest_types.specs.declared.memory.Perm.TheVariants.{Read, ReadWrite}
 use Rattle.a64_code.specs.Table.{Name, add_imm, sub_imm, subs_imm, add, sub, subs, orn, movz, movk, movn, madd, msub, lslv, lsrv, asrv, csel, csinc, b, b_cond, cbz, cbnz, ret, svc, brk, ldrb, ldrsb, ldrh, ldrsh, ldr_w, ldrsw, ldr_x, strb, str_x, ldr_x_register, strh_register}
 use Rattle.machine_model.specs.declared.outcome.StopKind.{StopKind}
 use Rattle.machine_model.specs.declared.outcome.StopKind.TheVariants.{Read as ReadStop, Write as WriteStop, Call, Break}
-use Rattle.machine_model.specs.Arithmetic.{flags_of, signed_field, unsigned_field, holds, shifted}
+use Rattle.machine_model.specs.Arithmetic.{flags_of, signed_field, unsigned_field, holds, shifted_word}
 use Rattle.machine_model.specs.Machine.{State, Step, Went, Ended, Stopped}
 use Rattle.machine_model.specs.InstructionTable.{Scalar}
 use Rattle.machine_model.specs.OneStep.{does}
@@ -110,19 +110,19 @@ top_bit = refl
 
 -- ---- shifts of a register
 
-shift_left : shifted 0 0x8000000000000001 1 ≡ 2
+shift_left : shifted_word 0 0x8000000000000001 1 ≡ 2
 shift_left = refl
 
-shift_right : shifted 1 0x8000000000000001 1 ≡ 0x4000000000000000
+shift_right : shifted_word 1 0x8000000000000001 1 ≡ 0x4000000000000000
 shift_right = refl
 
-shift_signed : shifted 2 0x8000000000000001 1 ≡ 0xc000000000000000
+shift_signed : shifted_word 2 0x8000000000000001 1 ≡ 0xc000000000000000
 shift_signed = refl
 
-rotate : shifted 3 0x8000000000000001 1 ≡ 0xc000000000000000
+rotate : shifted_word 3 0x8000000000000001 1 ≡ 0xc000000000000000
 rotate = refl
 
-rotate_by_none : shifted 3 0x8000000000000001 0 ≡ 0x8000000000000001
+rotate_by_none : shifted_word 3 0x8000000000000001 0 ≡ 0x8000000000000001
 rotate_by_none = refl
 
 -- ---- instructions, on a state with a page to read at 0x1000 and a page to write at 0x2000

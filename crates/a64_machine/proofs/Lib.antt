@@ -1,3 +1,3 @@
 pub mod Fields
-pub mod Forms
+pub mod AddressForms
 pub mod Examples

@@ -1,13 +1,13 @@
 -- What a prepared instruction does.
 use Rattle.std.specs.Prelude.{◌≡◌, ℕ, ◌+◌, ◌*◌, ◌%◌, ◌^◌, Bool, not, nat_eq, bit_and, bit_or, bit_xor}
 use Rattle.guest_types.specs.Elements.{nzcv}
-use Rattle.a64_code.specs.View.{seen}
+use Rattle.a64_code.specs.View.{instruction_view}
 use Rattle.a64_code.specs.declared.A64.{A64}
 use Rattle.a64_code.specs.declared.BitfieldOp.{BitfieldOp}
 use Rattle.a64_code.specs.declared.BitfieldOp.TheVariants as bitfield_ops
 use Rattle.a64_code.specs.declared.LogicalOp.{LogicalOp}
 use Rattle.a64_code.specs.declared.LogicalOp.TheVariants as logical_ops
-use Rattle.machine_model.specs.Arithmetic.{sum, difference, inverted, shifted, signed_field, unsigned_field}
+use Rattle.machine_model.specs.Arithmetic.{sum, difference, inverted, shifted_word, signed_field, unsigned_field}
 use Rattle.machine_model.specs.Machine.{State, Step, Went, x_at, jump}
 use Rattle.machine_model.specs.Effects.{jump_if, write, write_with_flags}
 use Rattle.machine_model.specs.InstructionTable.{Scalar}
@@ -32,10 +32,10 @@ abbrev pub prepared_does : Prepared → State → Step
 prepared_does (AddNumber rd rn number) s = write s rd.number (sum (x_at s rn.number) number)
 prepared_does (LessNumber rd rn number) s = write_with_flags s rd.number (x_at s rn.number) number
 prepared_does (CompareNumber rn number) s = write_with_flags s 31 (x_at s rn.number) number
-prepared_does (Add rd rn rm by) s = write s rd.number (sum (x_at s rn.number) (shifted 0 (x_at s rm.number) by.number))
-prepared_does (Subtract rd rn rm by) s = write s rd.number (difference (x_at s rn.number) (shifted 0 (x_at s rm.number) by.number))
-prepared_does (Compare rn rm by) s = write_with_flags s 31 (x_at s rn.number) (shifted 0 (x_at s rm.number) by.number)
-prepared_does (Logical op rd rn rm by) s = write s rd.number (logical op (x_at s rn.number) (shifted 0 (x_at s rm.number) by.number))
+prepared_does (Add rd rn rm by) s = write s rd.number (sum (x_at s rn.number) (shifted_word 0 (x_at s rm.number) by.number))
+prepared_does (Subtract rd rn rm by) s = write s rd.number (difference (x_at s rn.number) (shifted_word 0 (x_at s rm.number) by.number))
+prepared_does (Compare rn rm by) s = write_with_flags s 31 (x_at s rn.number) (shifted_word 0 (x_at s rm.number) by.number)
+prepared_does (Logical op rd rn rm by) s = write s rd.number (logical op (x_at s rn.number) (shifted_word 0 (x_at s rm.number) by.number))
 prepared_does (Field op rd rn imms immr) s = write s rd.number (field op (x_at s rn.number) immr.number imms.number)
 prepared_does (MultiplyAdd rd rn ra rm) s = write s rd.number (sum (x_at s ra.number) (x_at s rn.number * x_at s rm.number % 2 ^ 64))
 prepared_does (Constant rd number) s = write s rd.number number
@@ -50,7 +50,7 @@ prepared_does (WideAtNumber op rt rn number) s = access op s rt.number (sum (x_a
 
 -- at this place a prepared instruction does what the instruction does
 abbrev pub IsReady : A64 → (pc : ℕ) → Prepared → Type 0
-IsReady word pc prepared = (s : State) → s.pc ≡ pc → does (Scalar (seen word)) s ≡ prepared_does prepared s
+IsReady word pc prepared = (s : State) → s.pc ≡ pc → does (Scalar (instruction_view word)) s ≡ prepared_does prepared s
 
 -- it is no load and no store
 abbrev pub IsOnGeneral : Prepared → Type 0

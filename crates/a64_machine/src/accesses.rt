@@ -1,4 +1,4 @@
-// Loads and stores.
+//! Loads and stores.
 
 ghost use Rattle.std.specs.Prelude.{◌≡◌, ◌<◌, ◌+◌, ◌-◌, ◌*◌, ◌^◌, ◌⊎◌, nat_le, false, if◌then◌else◌};
 ghost use Rattle.machine_model.specs.Answers.{IsAnswer};

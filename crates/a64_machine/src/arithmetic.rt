@@ -1,16 +1,16 @@
-// Numbers of 64 bits as the A64 instructions compute with them.
+//! Numbers of 64 bits as the A64 instructions compute with them.
 
 ghost use Rattle.std.specs.Prelude.{◌≡◌, ◌<◌, ◌≤◌, ◌*◌, ◌+◌, ◌^◌, ◌%◌};
 ghost use Rattle.a64_code.specs.View.{shift_number, add_sub_shift_number};
-ghost use Rattle.machine_model.specs.Arithmetic.{sum, difference, inverted, shifted, replaced, target};
+ghost use Rattle.machine_model.specs.Arithmetic.{sum, difference, inverted, shifted_word, replaced, target};
 
 use a64_code::{AddSubShift, Shift};
 
 /// A number shifted by less than 64 bits.
 #[inline(always)]
-pub fn shifted(shift: Shift, value: u64, by: u32) -> u64
+pub fn shifted_word(shift: Shift, value: u64, by: u32) -> u64
     requires { by < 64 }
-    ensures { result ≡ shifted (shift_number shift) value by }
+    ensures { result ≡ shifted_word (shift_number shift) value by }
 {
     match shift {
         Shift::Lsl => value << by,
@@ -24,7 +24,7 @@ pub fn shifted(shift: Shift, value: u64, by: u32) -> u64
 #[inline(always)]
 pub fn shifted_to_add(shift: AddSubShift, value: u64, by: u32) -> u64
     requires { by < 64 }
-    ensures { result ≡ shifted (add_sub_shift_number shift) value by }
+    ensures { result ≡ shifted_word (add_sub_shift_number shift) value by }
 {
     match shift {
         AddSubShift::Lsl => value << by,

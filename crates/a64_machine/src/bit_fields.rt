@@ -1,8 +1,8 @@
-// Bit fields: where immr is at most imms, bits imms down to immr go to the low end; else bits imms
-// down to 0 go to bit 64 - immr.
+//! Bit fields: where immr is at most imms, bits imms down to immr go to the low end; else bits imms
+//! down to 0 go to bit 64 - immr.
 
 ghost use Rattle.std.specs.Prelude.{◌≡◌, ◌<◌, ◌≤◌, ◌+◌, ◌%◌, ◌^◌, ◌*◌};
-ghost use Rattle.machine_model.specs.Arithmetic.{field_width, field_taken, field_place, sign_extended, signed_field, unsigned_field};
+ghost use Rattle.machine_model.specs.Arithmetic.{field_width, field_taken, field_place, extended_word, signed_field, unsigned_field};
 
 /// The highest number of so many bits.
 #[inline(always)]
@@ -26,11 +26,11 @@ fn low_bits(value: u64, width: u32) -> u64
 
 /// A number of so many bits as 64 bits, with copies of its top bit above it.
 #[inline(always)]
-fn sign_extended(width: u32, value: u64) -> u64
+fn extended_word(width: u32, value: u64) -> u64
     requires some { 1 ≤ width }
     requires few { width ≤ 64 }
     requires fits { value < 2 ^ width }
-    ensures { result ≡ sign_extended width value }
+    ensures { result ≡ extended_word width value }
 {
     if value < 1 << (width - 1) {
         value
@@ -78,8 +78,8 @@ pub fn signed_field(value: u64, immr: u32, imms: u32) -> u64
 {
     let taken = field_taken(value, immr, imms);
     if immr <= imms {
-        sign_extended(imms + 1 - immr, taken)
+        extended_word(imms + 1 - immr, taken)
     } else {
-        sign_extended(imms + 1, taken) << (64 - immr)
+        extended_word(imms + 1, taken) << (64 - immr)
     }
 }

@@ -1,4 +1,4 @@
-// Condition flags.
+//! Condition flags.
 
 ghost use Rattle.std.specs.Prelude.{◌≡◌, ◌<◌, ◌^◌};
 ghost use Rattle.guest_types.specs.Elements.{Flags, nzcv};

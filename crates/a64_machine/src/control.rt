@@ -1,4 +1,4 @@
-// Branches and exceptions.
+//! Branches and exceptions.
 
 ghost use Rattle.std.specs.Prelude.{◌≡◌, [], ◌∷◌, slice_index};
 ghost use Rattle.guest_types.specs.Memory.{Memory};

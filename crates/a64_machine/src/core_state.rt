@@ -1,4 +1,4 @@
-// The registers that A64 instructions use.
+//! The registers that A64 instructions use.
 
 /// The registers that A64 instructions use: X0 to X30, SP, PC and the flags, of which bits 3 to 0
 /// of `nzcv` are N, Z, C and V. `vzero` is doubleword 0 of the vector register that UMOV reads; the

@@ -1,4 +1,4 @@
-// Data processing.
+//! Data processing.
 
 ghost use Rattle.std.specs.Prelude.{◌≡◌, ◌+◌, ◌*◌, ◌%◌, ◌^◌, [], ◌∷◌, slice_set, if◌then◌else◌};
 ghost use Rattle.guest_types.specs.Memory.{Memory};
@@ -8,7 +8,7 @@ ghost use Rattle.machine_model.specs.Machine.{Went};
 ghost use Rattle.machine_model.specs.Effects.{act};
 ghost use Rattle.a64_machine.specs.Cores.{VectorState, state_of};
 
-use crate::arithmetic::{moved, replaced, shifted, shifted_to_add};
+use crate::arithmetic::{moved, replaced, shifted_to_add, shifted_word};
 use crate::bit_fields::{signed_field, unsigned_field};
 use crate::conditions::holds;
 use crate::core_state::Core;
@@ -91,7 +91,7 @@ pub fn logical(
         ≡ Went (state_of core.new memory rest) }
 {
     let left = core.register(rn);
-    let right = shifted(shift, core.register(rm), imm6.number);
+    let right = shifted_word(shift, core.register(rm), imm6.number);
     match op {
         LogicalOp::And => write(core, rd, left & right),
         LogicalOp::Orr => write(core, rd, left | right),
@@ -142,9 +142,9 @@ pub fn shift_variable(core: &mut Core, op: ShiftVariableOp, rd: Reg, rn: Reg, rm
     let value = core.register(rn);
     let by = (core.register(rm) % 64) as u32;
     match op {
-        ShiftVariableOp::Lslv => write(core, rd, shifted(Shift::Lsl, value, by)),
-        ShiftVariableOp::Lsrv => write(core, rd, shifted(Shift::Lsr, value, by)),
-        ShiftVariableOp::Asrv => write(core, rd, shifted(Shift::Asr, value, by)),
+        ShiftVariableOp::Lslv => write(core, rd, shifted_word(Shift::Lsl, value, by)),
+        ShiftVariableOp::Lsrv => write(core, rd, shifted_word(Shift::Lsr, value, by)),
+        ShiftVariableOp::Asrv => write(core, rd, shifted_word(Shift::Asr, value, by)),
     }
 }
 

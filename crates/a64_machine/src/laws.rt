@@ -1,4 +1,4 @@
-// Laws of the definitions.
+//! Laws of the definitions.
 
 ghost use Rattle.std.specs.Prelude.{◌≡◌};
 ghost use Rattle.guest_types.specs.Elements.{Flags, nzcv};

@@ -1,4 +1,4 @@
-// Loads and stores by their address forms.
+//! Loads and stores by their address forms.
 
 ghost use Rattle.std.specs.Prelude.{◌≡◌, ◌≤◌, ◌*◌, ◌%◌, ◌^◌, [], ◌∷◌, nat_eq, slice_index, if◌then◌else◌};
 ghost use Rattle.word_rows.specs.Field.{flag_number};

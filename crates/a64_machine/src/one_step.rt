@@ -1,7 +1,7 @@
-// One instruction.
+//! One instruction.
 
 ghost use Rattle.std.specs.Prelude.{◌≡◌};
-ghost use Rattle.a64_code.specs.View.{seen};
+ghost use Rattle.a64_code.specs.View.{instruction_view};
 ghost use Rattle.guest_types.specs.Memory.{Memory};
 ghost use Rattle.machine_model.specs.Machine.{Went};
 ghost use Rattle.machine_model.specs.InstructionTable.{Scalar};
@@ -29,7 +29,8 @@ use paged_memory::pages::Pages;
 pub fn a64_goes(core: &mut Core, pages: &mut Pages, word: A64, answer: &mut Step) -> bool
     ensures answer { (rest : VectorState) → HasVector word core.old rest
         → let before = state_of core.old pages.old rest in
-        IsAnswer (does (Scalar (seen word)) before) (said result answer.new) before (state_of core.new pages.new rest) }
+        IsAnswer (does (Scalar (instruction_view word)) before) (said result answer.new) before
+        (state_of core.new pages.new rest) }
     ensures kept { OnStop (said result answer.new) (core.new ≡ core.old) }
     ensures kept_memory { OnStop (said result answer.new) (pages.new ≡ pages.old) }
 {
@@ -62,7 +63,7 @@ pub fn a64_goes(core: &mut Core, pages: &mut Pages, word: A64, answer: &mut Step
 pub fn a64_step(core: &mut Core, pages: &mut Pages, word: A64) -> Step
     ensures answer { (rest : VectorState) → HasVector word core.old rest
         → let before = state_of core.old pages.old rest in
-        IsAnswer (does (Scalar (seen word)) before) result before (state_of core.new pages.new rest) }
+        IsAnswer (does (Scalar (instruction_view word)) before) result before (state_of core.new pages.new rest) }
     ensures kept { OnStop result (core.new ≡ core.old) }
     ensures kept_memory { OnStop result (pages.new ≡ pages.old) }
 {
@@ -78,7 +79,7 @@ pub fn a64_step(core: &mut Core, pages: &mut Pages, word: A64) -> Step
 #[inline(always)]
 fn on_registers(core: &mut Core, word: A64)
     ensures { (memory : Memory) (rest : VectorState) → IsOnRegisters word → HasVector word core.old rest →
-        does (Scalar (seen word)) (state_of core.old memory rest) ≡ Went (state_of core.new memory rest) }
+        does (Scalar (instruction_view word)) (state_of core.old memory rest) ≡ Went (state_of core.new memory rest) }
 {
     match word {
         A64::Branch { imm26 } => branch(core, imm26),
@@ -94,7 +95,7 @@ fn on_registers(core: &mut Core, word: A64)
 #[inline(always)]
 fn moved(core: &mut Core, word: A64)
     ensures { (memory : Memory) (rest : VectorState) → IsMove word → HasVector word core.old rest →
-        does (Scalar (seen word)) (state_of core.old memory rest) ≡ Went (state_of core.new memory rest) }
+        does (Scalar (instruction_view word)) (state_of core.old memory rest) ≡ Went (state_of core.new memory rest) }
 {
     match word {
         A64::MoveWide { op, rd, imm16, hw } => move_wide(core, op, rd, imm16, hw),
@@ -121,7 +122,7 @@ fn moved(core: &mut Core, word: A64)
 #[inline(always)]
 fn data(core: &mut Core, word: A64)
     ensures { (memory : Memory) (rest : VectorState) → IsData word → HasVector word core.old rest →
-        does (Scalar (seen word)) (state_of core.old memory rest) ≡ Went (state_of core.new memory rest) }
+        does (Scalar (instruction_view word)) (state_of core.old memory rest) ≡ Went (state_of core.new memory rest) }
 {
     match word {
         A64::AddSubImmediate {

@@ -1,4 +1,4 @@
-// A64 instructions made ready for the places of their words.
+//! A64 instructions made ready for the places of their words.
 
 ghost use Rattle.std.specs.Prelude.{◌<◌};
 

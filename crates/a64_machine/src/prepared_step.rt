@@ -1,4 +1,4 @@
-// One prepared instruction.
+//! One prepared instruction.
 
 ghost use Rattle.std.specs.Prelude.{◌≡◌, ◌+◌, ◌%◌, ◌^◌, slice_set};
 ghost use Rattle.guest_types.specs.Memory.{Memory};

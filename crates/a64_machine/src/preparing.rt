@@ -1,4 +1,4 @@
-// A64 instructions are made ready for the places of their words.
+//! A64 instructions are made ready for the places of their words.
 
 ghost use Rattle.std.specs.Prelude.{◌≡◌, ℕ, IfSome, MatchOption};
 ghost use Rattle.a64_machine.specs.Prepared.{IsReady};

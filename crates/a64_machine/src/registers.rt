@@ -1,4 +1,4 @@
-// General registers by number.
+//! General registers by number.
 
 ghost use Rattle.std.specs.Prelude.{◌≡◌, ◌+◌, ◌%◌, ◌^◌, nat_eq, if◌then◌else◌, slice_index, slice_set};
 

@@ -1,4 +1,4 @@
-// A few instructions, by their words.
+//! A few instructions, by their words.
 
 use super::*;
 use a64_code::decode;

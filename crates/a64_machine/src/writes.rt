@@ -1,4 +1,4 @@
-// What instructions leave in the registers, before the next one.
+//! What instructions leave in the registers, before the next one.
 
 ghost use Rattle.std.specs.Prelude.{◌≡◌, ◌+◌, ◌%◌, ◌^◌, slice_set, if◌then◌else◌};
 ghost use Rattle.guest_types.specs.Memory.{Memory};

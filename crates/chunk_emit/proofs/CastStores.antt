@@ -18,20 +18,20 @@ use Rattle.chunk_order.specs.Orders.{Lane, Lanes, Act, Out, go_on, column}
 use Rattle.loop_form.specs.declared.loop_item.Source.{Source}
 use Rattle.loop_form.specs.declared.loop_item.Source.TheVariants.{Outer, Made}
 use Rattle.chunk_order.specs.Items.{nth_value, source_value, with_value}
-use Rattle.chunk_order.proofs.Solo.{value_same, value_other}
+use Rattle.chunk_order.proofs.LaneValues.{value_same, value_other}
 use Rattle.loop_form.specs.LoopItems.{Cast, Store}
 use Rattle.vector_order.specs.Items.{item_act}
 use Rattle.lane_emit.specs.ItemCode.{operand, mask_register}
 use Rattle.lane_emit.proofs.Residues.{held}
-use Rattle.lane_emit.proofs.Tops.{held-wrap}
+use Rattle.lane_emit.proofs.ExtendedLanes.{held-wrap}
 use Rattle.chunk_emit.specs.Registers.{Layout}
 use Rattle.chunk_emit.specs.ChunkCode.{op_words, puts}
 use Rattle.chunk_emit.specs.Chunk.{Setting, chunk_of, Holds}
 use Rattle.chunk_emit.specs.Fits.{Assigned, FitsMask, FitsOperand, MakesValue, MakesNothing, NoneBetween, IsNear}
 use Rattle.chunk_emit.specs.ItemsRun.{Does, does_fine, does_fail}
-use Rattle.chunk_emit.proofs.Columns.{OwnColumn, own_fine}
-use Rattle.chunk_emit.proofs.States.{holds_on, holds_later, operand_right}
-use Rattle.chunk_emit.proofs.Pures.{unused_moves, pure_column}
+use Rattle.chunk_emit.proofs.ItemLanes.{OwnColumn, own_fine}
+use Rattle.chunk_emit.proofs.ChunkStates.{holds_on, holds_later, operand_right}
+use Rattle.chunk_emit.proofs.PureItems.{unused_moves, pure_column}
 use Rattle.chunk_emit.proofs.StoreRuns.{store_from}
 use Rattle.chunk_emit.proofs.StoredBits.{stored-held}
 

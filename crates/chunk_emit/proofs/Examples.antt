@@ -6,23 +6,23 @@ use Rattle.std.proofs.lemmas.Bool.{cases_lt, true≢false, and_parts, leb-true}
 use Rattle.guest_types.specs.declared.length.Width.TheVariants.{S}
 use Rattle.guest_types.specs.EarlyLoads.{never}
 use Rattle.kernel_tree.specs.declared.ops.Ty.{Ty}
-use Rattle.kernel_tree.specs.declared.ops.Ty.TheVariants as ty
-use Rattle.kernel_tree.specs.declared.ops.BinaryOp.TheVariants as binary
-use Rattle.kernel_tree.specs.declared.ops.CompareOp.TheVariants as compare
-use Rattle.kernel_tree.specs.declared.ops.UpdateOp.TheVariants as update
+use Rattle.kernel_tree.proofs.Names.{bytes_told, bytes_same}
 use Rattle.kernel_meaning.specs.Iterate.{named}
-use Rattle.a64_code.specs.Table as a64
 use Rattle.sve_code.specs.Table.{ld1, st1, cmpne, m_smin, m_add, z_add, z_orr}
 use Rattle.machine_model.specs.InstructionTable.{Scalar, Vector}
 use Rattle.loop_form.specs.declared.loop_item.Source.{Source}
-use Rattle.loop_form.specs.declared.loop_item.Source.TheVariants.{Constant, Outer, Turn, Made}
+use Rattle.loop_form.specs.declared.loop_item.Source.TheVariants.{Constant, Outer, LoopIndex, Made}
 use Rattle.loop_form.specs.LoopItems.{Item, item, Load, Combine, Cast, Store, Add, Test}
-use Rattle.chunk_order.proofs.Sites.{bytes_told, bytes_same}
 use Rattle.lane_emit.specs.Stretch.{word}
 use Rattle.chunk_emit.specs.Registers.{Layout}
 use Rattle.chunk_emit.specs.ChunkCode.{items_words}
 use Rattle.chunk_emit.specs.Chunk.{Setting}
 use Rattle.chunk_emit.specs.Fits.{Assigned, MakesNothing, NoneBetween, FitsItems}
+use Rattle.kernel_tree.specs.declared.ops.Ty.TheVariants as ty
+use Rattle.kernel_tree.specs.declared.ops.BinaryOp.TheVariants as binary
+use Rattle.kernel_tree.specs.declared.ops.CompareOp.TheVariants as compare
+use Rattle.kernel_tree.specs.declared.ops.UpdateOp.TheVariants as update
+use Rattle.a64_code.specs.Table as a64
 
 abbrev one : Source
 one = Constant (Some ty.I32) (pos 1)
@@ -54,13 +54,13 @@ abbrev register : Source → ℕ
 register (Constant t (pos n)) = if nat_eq n 7 then 1 else if nat_eq n 1 then 2 else 0
 register (Constant t (negsuc n)) = 0
 register (Outer p) = 31
-register Turn = 31
+register LoopIndex = 31
 register (Made q) = own q
 
 abbrev is_held : Source → Bool
 is_held (Constant t z) = true
 is_held (Outer p) = false
-is_held Turn = false
+is_held LoopIndex = false
 is_held (Made q) = false
 
 -- by item
@@ -70,7 +70,7 @@ types q = if nat_eq q 1 || nat_eq q 6 then ty.U8 else if nat_eq q 18 then ty.I8 
 abbrev type_of : Source → Ty
 type_of (Constant t z) = ty.I32
 type_of (Outer p) = ty.I32
-type_of Turn = ty.U64
+type_of LoopIndex = ty.U64
 type_of (Made q) = types q
 
 abbrev uses : List ℕ
@@ -141,7 +141,7 @@ held_low (Constant t (pos n)) h = either (nat_eq n 7) (nat_eq n 1)
     either false false = omega arith
 held_low (Constant t (negsuc n)) h = omega arith
 held_low (Outer p) h = absurd cc
-held_low Turn h = absurd cc
+held_low LoopIndex h = absurd cc
 held_low (Made q) h = absurd cc
 
 late : (p : ℕ) → 3 < p → slice_index truth_uses p ≡ 0

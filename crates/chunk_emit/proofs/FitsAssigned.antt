@@ -5,20 +5,22 @@ use Rattle.std.proofs.Math.Nat.{lt_of_not-le}
 use Rattle.std.proofs.lemmas.Option.{slice_get_within}
 use Rattle.kernel_tree.specs.Plain.{Parameter, Program}
 use Rattle.kernel_tree.specs.Items.{size_of, loop_index}
+use Rattle.kernel_tree.proofs.Names.{bytes_told, bytes_same}
 use Rattle.reg_assign.specs.declared.interval.Interval.{Interval}
 use Rattle.reg_assign.specs.declared.interval.RegClass.TheVariants.{Z, P}
 use Rattle.reg_assign.specs.Registers.{Assignment}
 use Rattle.loop_form.specs.declared.loop_item.Source.{Source}
-use Rattle.loop_form.specs.declared.loop_item.Source.TheVariants.{Constant, Outer, Turn, Made}
-use Rattle.loop_form.specs.Needs as needs
+use Rattle.loop_form.specs.declared.loop_item.Source.TheVariants.{Constant, Outer, LoopIndex, Made}
 use Rattle.loop_form.specs.Needs.{Throughout, scalar_of, throughout, intervals}
 use Rattle.loop_form.specs.Registers.{FitsKernel}
-use Rattle.loop_form.proofs.Limits.{vars-small}
+use Rattle.loop_form.proofs.FewItems.{vars-small}
 use Rattle.loop_form.proofs.IntervalLaws.{throughout-few}
-use Rattle.chunk_order.proofs.Sites.{bytes_told, bytes_same}
+use Rattle.loop_form.proofs.IntervalRegisters.{Chosen, chosen_of}
+use Rattle.loop_form.proofs.PlaceLaws.{throughout-place}
 use Rattle.chunk_emit.specs.KernelLayout.{register_of, item_place, item_last_use, throughout_of, is_same, next_place, place_in, place_of_one, held_place, sum_place, source_register, layout_of_loop}
 use Rattle.chunk_emit.specs.Fits.{Assigned}
-use Rattle.chunk_emit.proofs.FitsIntervals.{Chosen, chosen_of, throughout-place, of_z, of_p, is_placed, placed_interval}
+use Rattle.chunk_emit.proofs.FitsIntervals.{of_z, of_p, is_placed, placed_interval}
+use Rattle.loop_form.specs.Needs as needs
 
 -- ---- places in a list
 
@@ -42,11 +44,11 @@ stands t (u ∷ us) m e = by (is_same u t) refl e (λ i q. stands t us i q)
     by false f e more = later (place_in t us) m e more
 
 -- an operand's place is that of the value that is held for it
-of_one : (ts : List Throughout) (o : Option Throughout) (m : ℕ) → place_of_one ts o ≡ Some m → (t : Throughout) × (o ≡ Some t) × (place_in t ts ≡ Some m)
+pub of_one : (ts : List Throughout) (o : Option Throughout) (m : ℕ) → place_of_one ts o ≡ Some m → (t : Throughout) × (o ≡ Some t) × (place_in t ts ≡ Some m)
 of_one ts None m e = absurd cc
 of_one ts (Some t) m e = (t, refl, e)
 
-there : (o : Option ℕ) → is_some o ≡ true → (m : ℕ) × (o ≡ Some m)
+pub there : (o : Option ℕ) → is_some o ≡ true → (m : ℕ) × (o ≡ Some m)
 there None e = absurd cc
 there (Some m) e = (m, refl)
 
@@ -69,7 +71,7 @@ operand_no_accumulator k (Outer p) = by (slice_get k.params p)
     by : (o : Option Parameter) → is_accumulating_one (option_map scalar_of o) ≡ false
     by None = refl
     by (Some p) = refl
-operand_no_accumulator k Turn = refl
+operand_no_accumulator k LoopIndex = refl
 operand_no_accumulator k (Made q) = refl
 
 both_accumulate : (it t : Throughout) (x : List ℕ) → is_same it t ≡ true → is_same it (needs.Accumulating x) ≡ true → is_accumulating t ≡ true
@@ -87,7 +89,7 @@ same_name (needs.Scalar z) x y e f = absurd cc
 same_name (needs.Constant s n) x y e f = absurd cc
 same_name needs.Index x y e f = absurd cc
 
-some_same : {A : Type 0} {x y : A} → Some x ≡ Some y → x ≡ y
+pub some_same : {A : Type 0} {x y : A} → Some x ≡ Some y → x ≡ y
 some_same e = cc
 
 -- ---- the layout
@@ -139,7 +141,7 @@ module _ (k : Program) (a b : Assignment) (f : FitsKernel k Z a) (g : FitsKernel
   source_held : (y : Source) → is_some (held_place k y) ≡ true → source_register k a y ≡ register_of 31 a (held_place k y)
   source_held (Constant t n) e = refl
   source_held (Outer p) e = refl
-  source_held Turn e = refl
+  source_held LoopIndex e = refl
   source_held (Made q) e = absurd cc
 
   small : (o : Option ℕ) → ((m : ℕ) → o ≡ Some m → slice_index a.registers m < 30) → register_of 31 a o < 32

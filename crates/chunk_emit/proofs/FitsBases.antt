@@ -3,12 +3,12 @@ use Rattle.std.proofs.Common.{◌≡◌, ℕ, zero, suc, ◌<◌, ◌≤◌, Lis
 use Rattle.kernel_tree.specs.declared.ops.Ty.{Ty}
 use Rattle.kernel_tree.specs.Plain.{Parameter, Program}
 use Rattle.loop_form.specs.declared.loop_item.Source.TheVariants.{Outer}
-use Rattle.chunk_order.specs.Apart.{type_of_place}
+use Rattle.loop_form.specs.Streams.{type_of_place}
 use Rattle.chunk_emit.specs.Chunk.{Setting}
 use Rattle.chunk_emit.specs.Fits.{FitsBase}
 use Rattle.chunk_emit.specs.LoopFits.{FitsSetting}
 
-place_within : (ps : List Parameter) (p : ℕ) (t : Ty) → type_of_place ps p ≡ Some t → p < length ps
+pub place_within : (ps : List Parameter) (p : ℕ) (t : Ty) → type_of_place ps p ≡ Some t → p < length ps
 place_within [] p t e = absurd cc
 place_within (q ∷ ps) zero t e = omega arith
 place_within (q ∷ ps) (suc p) t e = let r = place_within ps p t e in omega (arith, r)

@@ -6,23 +6,24 @@ use Rattle.std.specs.List.{list_any}
 use Rattle.std.proofs.lemmas.Bool.{and_parts, eqb-true, eq-eqb}
 use Rattle.std.proofs.lemmas.List.Folds.{list_any-append}
 use Rattle.kernel_tree.specs.declared.ops.Ty.{Ty}
-use Rattle.kernel_tree.specs.declared.ops.Ty.TheVariants as ty
-use Rattle.kernel_tree.specs.declared.ast.Shape.TheVariants as shape
 use Rattle.kernel_tree.specs.Plain.{Parameter, Accumulator, Program}
 use Rattle.kernel_tree.specs.Items.{loop_index}
-use Rattle.kernel_tree.specs.Typing.{number_of_type}
+use Rattle.kernel_tree.specs.Typing.{number_of_type, found_at}
+use Rattle.kernel_tree.proofs.Names.{bytes_told, bytes_same}
+use Rattle.kernel_tree.proofs.NoFault.{no_mismatch}
 use Rattle.reg_assign.specs.declared.interval.RegClass.{RegClass}
 use Rattle.reg_assign.specs.declared.interval.RegClass.TheVariants.{Z, P}
-use Rattle.loop_form.specs.declared.loop_item.Source.TheVariants.{Constant, Outer, Turn}
+use Rattle.loop_form.specs.declared.loop_item.Source.TheVariants.{Constant, Outer, LoopIndex}
 use Rattle.loop_form.specs.Entries.{Content, IsLiteral, IsName, IsRead, IsLet, IsStore, IsUpdate, IsPlain, Entry, entries_of, loop_entries, loop_start}
 use Rattle.loop_form.specs.Lanes.{var_type}
 use Rattle.loop_form.specs.Listing.{is_named, names}
-use Rattle.loop_form.specs.Needs as needs
 use Rattle.loop_form.specs.Needs.{Throughout, scalar_of, scalars, is_named_scalar, constants, new_constant, is_constant, is_literal, same_type, same_number, index_held, is_update, updates, is_updated, accumulating_of, throughout}
 use Rattle.loop_form.specs.Numbers.{Numbered}
 use Rattle.loop_form.proofs.Numbers.{loop-listed}
-use Rattle.chunk_order.proofs.Sites.{bytes_told, bytes_same}
 use Rattle.chunk_emit.specs.KernelLayout.{is_same, next_place, place_in, place_of_one, held_place, sum_place, last_in, item_last_use}
+use Rattle.kernel_tree.specs.declared.ast.Shape.TheVariants as shape
+use Rattle.kernel_tree.specs.declared.fault.Fault.TheVariants as fault
+use Rattle.loop_form.specs.Needs as needs
 
 -- ---- a value that is in a list has a place there
 
@@ -72,36 +73,15 @@ both_true : (a b : Bool) → a ≡ true → b ≡ true → a && b ≡ true
 both_true true b e f = f
 both_true false b e f = absurd cc
 
-same_number-told : (m n : ℤ) → same_number m n ≡ true → m ≡ n
+pub same_number-told : (m n : ℤ) → same_number m n ≡ true → m ≡ n
 same_number-told (pos m) (pos n) e = ap pos (eqb-true m n e)
 same_number-told (negsuc m) (negsuc n) e = ap negsuc (eqb-true m n e)
 same_number-told (pos m) (negsuc n) e = absurd cc
 same_number-told (negsuc m) (pos n) e = absurd cc
 
-pub type_from : ℕ → Ty
-type_from zero = ty.I8
-type_from (suc zero) = ty.I16
-type_from (suc (suc zero)) = ty.I32
-type_from (suc (suc (suc zero))) = ty.I64
-type_from (suc (suc (suc (suc zero)))) = ty.U8
-type_from (suc (suc (suc (suc (suc zero))))) = ty.U16
-type_from (suc (suc (suc (suc (suc (suc zero)))))) = ty.U32
-type_from (suc (suc (suc (suc (suc (suc (suc n))))))) = ty.U64
-
-pub type_back : (t : Ty) → type_from (number_of_type t) ≡ t
-unfolding type_from
-type_back ty.I8 = refl
-type_back ty.I16 = refl
-type_back ty.I32 = refl
-type_back ty.I64 = refl
-type_back ty.U8 = refl
-type_back ty.U16 = refl
-type_back ty.U32 = refl
-type_back ty.U64 = refl
-
-same_type-told : (t u : Option Ty) → same_type t u ≡ true → t ≡ u
+pub same_type-told : (t u : Option Ty) → same_type t u ≡ true → t ≡ u
 same_type-told None None e = refl
-same_type-told (Some t) (Some u) e = ap Some (sym (type_back t) ∙ ap type_from (eqb-true _ _ e) ∙ type_back u)
+same_type-told (Some t) (Some u) e = ap Some (no_mismatch 0 t u (ap (λ b. cond b [] (found_at 0 (fault.Mismatch t u))) e))
 same_type-told None (Some u) e = absurd cc
 same_type-told (Some t) None e = absurd cc
 
@@ -191,7 +171,7 @@ scalar_held k p x t e named =
     place o e h = ap (λ (r : Option Parameter). is_some (place_of_one (throughout k Z) (option_map scalar_of r))) e ∙ h
 
 -- the loop variable, where a name item of the loop names it
-pub index_is_held : (k : Program) (i : List ℕ) → loop_index k ≡ Some i → list_any (names i) (loop_entries k) ≡ true → is_some (held_place k Turn) ≡ true
+pub index_is_held : (k : Program) (i : List ℕ) → loop_index k ≡ Some i → list_any (names i) (loop_entries k) ≡ true → is_some (held_place k LoopIndex) ≡ true
 index_is_held k i e named =
     has_place needs.Index (throughout k Z) (any_right (same_as needs.Index) (scalars (loop_entries k) k.params) (constants [] (loop_entries k) ++ rest_of k)
     (any_right (same_as needs.Index) (constants [] (loop_entries k)) (rest_of k)
@@ -231,7 +211,7 @@ sum_is_held k x t e updated =
 abbrev pub GivesContent : Program → Option Ty → Content → Type 0
 GivesContent k t (IsLiteral n) = is_some (held_place k (Constant t n)) ≡ true
 GivesContent k t (IsName x) =
-    ((p : ℕ) (u : Ty) → slice_get k.params p ≡ Some (record { name = x; shape = shape.Scalar u }) → is_some (held_place k (Outer p)) ≡ true) × (loop_index k ≡ Some x → is_some (held_place k Turn) ≡ true)
+    ((p : ℕ) (u : Ty) → slice_get k.params p ≡ Some (record { name = x; shape = shape.Scalar u }) → is_some (held_place k (Outer p)) ≡ true) × (loop_index k ≡ Some x → is_some (held_place k LoopIndex) ≡ true)
 GivesContent k t (IsUpdate x op) = (u : Ty) → var_type x k.vars ≡ Some u → is_some (sum_place k x) ≡ true
 GivesContent k t _ = Unit {0}
 

@@ -1,51 +1,22 @@
--- What registers that fit a kernel's loop say of its items and of what is held throughout it: numbers in range, and different
--- ones for intervals that share an item.
-use Rattle.std.proofs.Common.{◌≡◌, ◌≢◌, ℕ, zero, suc, ◌+◌, ◌-◌, ◌<◌, ◌≤◌, List, [], ◌∷◌, ◌++◌, length, map, Option, Some, None, refl, sym, ap, ◌∙◌, arith, ⊎_elim}
+-- An item of a loop whose value is used has a place, and the interval there begins at the item.
+use Rattle.std.proofs.Common.{◌≡◌, ℕ, zero, suc, ◌+◌, ◌-◌, ◌<◌, ◌≤◌, List, [], ◌∷◌, length, map, Option, Some, None, refl, sym, ap, ◌∙◌, arith, ⊎_elim}
 use Rattle.std.specs.Prelude.{slice_get, slice_index, unwrap_or}
 use Rattle.std.specs.List.{cons_option}
 use Rattle.std.proofs.lemmas.Bool.{cases_lt}
-use Rattle.std.proofs.lemmas.Option.{slice_get_within}
 use Rattle.std.proofs.lemmas.List.{get_or_past, length-map}
 use Rattle.kernel_tree.specs.Plain.{PlainLoop, Program}
 use Rattle.kernel_tree.specs.Items.{size_of}
 use Rattle.reg_assign.specs.declared.interval.Interval.{Interval}
 use Rattle.reg_assign.specs.declared.interval.RegClass.{RegClass}
 use Rattle.reg_assign.specs.declared.interval.RegClass.TheVariants.{Z, P, X}
-use Rattle.reg_assign.specs.Registers.{Assignment, is_live_one}
-use Rattle.reg_assign.proofs.Overlaps.{live}
 use Rattle.loop_form.specs.Entries.{Entry, entries_of, turns_entries, loop_entries, loop_start}
 use Rattle.loop_form.specs.Listing.{last_use_in}
-use Rattle.loop_form.specs.Needs.{Throughout, throughout, span, spans_of, whole, values, counted, intervals}
+use Rattle.loop_form.specs.Needs.{throughout, span, spans_of, counted, intervals}
 use Rattle.loop_form.specs.Numbers.{Numbered}
 use Rattle.loop_form.specs.Places.{place_of, places_from, value_places, first_counted, IsValueOf}
-use Rattle.loop_form.specs.Registers.{counted_registers, FitsKernel}
 use Rattle.loop_form.proofs.Numbers.{loop-listed}
 use Rattle.loop_form.proofs.PlaceLaws.{interval-following, place-value}
 use Rattle.chunk_emit.specs.KernelLayout.{flat, item_place, last_in, item_last_use}
-
--- Registers by interval.
-pub record Chosen (k : Program) (class : RegClass) (a : Assignment) : Type 0 where
-  pub below : (i : ℕ) (s : Interval) → slice_get (intervals k class) i ≡ Some s → slice_index a.registers i < counted_registers class
-  pub apart : (i j p : ℕ) (s t : Interval) → i ≢ j → slice_get (intervals k class) i ≡ Some s → slice_get (intervals k class) j ≡ Some t → s.from ≤ p → p < s.last_use → t.from ≤ p → p < t.last_use → slice_index a.registers i ≢ slice_index a.registers j
-
-pub chosen_of : (k : Program) (class : RegClass) (a : Assignment) → FitsKernel k class a → Chosen k class a
-chosen_of k class a f = record {
-  below = λ i s e. let l = slice_get_within (intervals k class) i s e in let n = ap length f.intervals in let m = f.assigned.each in f.assigned.below i (omega (arith, l, n, m));
-  apart = λ i j p s t ne e g sf su tf tu. f.assigned.apart i j p ne (ap (is_live_one p) (same i s e) ∙ live p s sf su) (ap (is_live_one p) (same j t g) ∙ live p t tf tu);
-}
-  where
-    same : (i : ℕ) (s : Interval) → slice_get (intervals k class) i ≡ Some s → slice_get a.intervals i ≡ Some s
-    same i s e = ap (λ l. slice_get l i) f.intervals ∙ e
-
--- ---- what is held throughout
-
-get-whole : (k : Program) (ts : List Throughout) (is : List Interval) (v : ℕ) → v < length ts → slice_get (map (whole k) ts ++ is) v ≡ Some (record { from = 0; last_use = size_of k })
-get-whole k [] is v h = absurd (omega arith)
-get-whole k (t ∷ ts) is zero h = refl
-get-whole k (t ∷ ts) is (suc v) h = get-whole k ts is v (omega arith)
-
-pub throughout-place : (k : Program) (class : RegClass) (v : ℕ) → v < length (throughout k class) → slice_get (intervals k class) v ≡ Some (record { from = 0; last_use = size_of k })
-throughout-place k class v h = get-whole k (throughout k class) (values k class) v h
 
 -- ---- items
 

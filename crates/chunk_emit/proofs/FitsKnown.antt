@@ -7,21 +7,23 @@ use Rattle.kernel_tree.specs.declared.ops.UpdateOp.{UpdateOp}
 use Rattle.kernel_tree.specs.Plain.{Accumulator, Program}
 use Rattle.kernel_tree.specs.Items.{loop_index}
 use Rattle.kernel_tree.specs.Typing.{check_fault}
+use Rattle.kernel_tree.proofs.Names.{bytes_told, bytes_same}
 use Rattle.loop_form.specs.Entries.{Content, IsUpdate, Entry, entry, item_type, params_entries, vars_entries, answer_entries, loop_end, loop_entries, entries_of}
 use Rattle.loop_form.specs.Lanes.{var_type, lane_width_of}
 use Rattle.loop_form.specs.Listing.{names}
 use Rattle.loop_form.specs.Needs.{is_update, updates}
 use Rattle.loop_form.specs.Near.{HasNear, AreNear}
 use Rattle.loop_form.proofs.Near.{loop-near}
+use Rattle.loop_form.proofs.ItemTypes.{type_of, Matches, first_types, later_types}
+use Rattle.loop_form.proofs.ItemWidths.{IsWide, AreWide, loop_wide}
+use Rattle.loop_form.proofs.NameUses.{IsUseCounted, AreUsesCounted, counted_left, counted_right, all_counted}
 use Rattle.dependence.specs.Classes.{is_read, computed_content, is_computed, class_of}
 use Rattle.dependence.specs.declared.reason.Class.TheVariants.{Vector}
-use Rattle.chunk_order.proofs.Sites.{bytes_told, bytes_same}
-use Rattle.chunk_order.proofs.OrderLaw.{class_facts}
+use Rattle.dependence.proofs.ClassLaws.{class_facts}
+use Rattle.chunk_order.proofs.Accesses.{or_false}
 use Rattle.chunk_emit.specs.KernelLayout.{update_of}
 use Rattle.chunk_emit.proofs.FitsEntries.{Gives, AllGive, loop_gives, any_here}
-use Rattle.chunk_emit.proofs.FitsTypes.{type_of, Matches, first_types, later_types}
-use Rattle.chunk_emit.proofs.FitsWidths.{IsWide, AreWide, loop_wide, not_read, one_operator, neither, any_none}
-use Rattle.chunk_emit.proofs.FitsUses.{IsUseCounted, AreUsesCounted, counted_left, counted_right, all_counted}
+use Rattle.chunk_emit.proofs.FitsUpdates.{one_operator, any_none}
 
 -- an item of the loop
 pub record Known (k : Program) (e : Entry) : Type 0 where
@@ -50,7 +52,7 @@ known_right k (x ∷ xs) ys h = known_right k xs ys h.1
 unread_in : (es : List Entry) (vs : List Accumulator) (x : List ℕ) (t : Ty) → list_any (is_read es) vs ≡ false → var_type x vs ≡ Some t → list_any (names x) es ≡ false
 unread_in es [] x t e f = absurd cc
 unread_in es (v ∷ vs) x t e f =
-    let parts = neither (is_read es v) (list_any (is_read es) vs) e in
+    let parts = or_false (is_read es v) (list_any (is_read es) vs) e in
     by (bytes_eq v.name x) refl f (unread_in es vs x t parts.1) parts.0
   where
     by : (b : Bool) → bytes_eq v.name x ≡ b → cond b (Some v.type) (var_type x vs) ≡ Some t → (var_type x vs ≡ Some t → list_any (names x) es ≡ false) → list_any (names v.name) es ≡ false → list_any (names x) es ≡ false
@@ -59,7 +61,7 @@ unread_in es (v ∷ vs) x t e f =
 
 module _ (k : Program) (vector : class_of k ≡ Vector) where
   unread_here : (xs : List Entry) (e : Entry) (ys : List Entry) → xs ++ e ∷ ys ≡ loop_entries k → (x : List ℕ) (t : Ty) → var_type x k.vars ≡ Some t → names x e ≡ false
-  unread_here xs e ys split x t f = any_none (names x) xs e ys (ap (list_any (names x)) split ∙ unread_in (loop_entries k) k.vars x t (not_read k vector) f)
+  unread_here xs e ys split x t f = any_none (names x) xs e ys (ap (list_any (names x)) split ∙ unread_in (loop_entries k) k.vars x t (class_facts k vector).unread f)
 
   streamed_here : (xs : List Entry) (e : Entry) (ys : List Entry) → xs ++ e ∷ ys ≡ loop_entries k → is_computed (loop_index k) e ≡ false
   streamed_here xs e ys split = any_none (is_computed (loop_index k)) xs e ys (ap (list_any (is_computed (loop_index k))) split ∙ (class_facts k vector).streamed)

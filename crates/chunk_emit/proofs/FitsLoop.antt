@@ -1,27 +1,26 @@
 -- The items of a checked kernel's loop fit the layout that the registers of its intervals give.
 use Rattle.std.proofs.Common.{◌≡◌, ℕ, ◌+◌, ◌≤◌, true, List, [], ◌∷◌, ◌++◌, length, Option, Some, None, sym, ap, ◌∙◌, subst, append_assoc}
-use Rattle.kernel_tree.specs.declared.fault.Binding.TheVariants as binding
 use Rattle.kernel_tree.specs.Plain.{PlainLoop, Program}
 use Rattle.kernel_tree.specs.Items.{loop_index}
-use Rattle.kernel_tree.specs.Typing.{Scope, Local, local, lookup, insert_name, twice, bound_faults, block_faults, block_types, turns_types, check_fault, in_loop, var_scope}
+use Rattle.kernel_tree.specs.Typing.{Scope, Local, local, insert_name, block_faults, block_types, turns_types, check_fault, in_loop, var_scope}
+use Rattle.kernel_tree.proofs.Scopes.{var_visible, scope_index}
+use Rattle.kernel_tree.proofs.Faultless.{turns_from, body_faultless}
 use Rattle.reg_assign.specs.Registers.{Assignment}
-use Rattle.loop_form.specs.declared.loop_item.Source.TheVariants.{Turn}
+use Rattle.loop_form.specs.declared.loop_item.Source.TheVariants.{LoopIndex}
 use Rattle.loop_form.specs.Entries.{block_entries, turns_entries, loop_start}
 use Rattle.loop_form.specs.LoopItems.{bound, Item, outer_env, loop_env, block_items, loop_items, turns_items, loop_items_of}
+use Rattle.loop_form.proofs.ItemTypes.{loop_types}
 use Rattle.dependence.specs.Classes.{class_of}
 use Rattle.dependence.specs.declared.reason.Class.TheVariants.{Vector}
-use Rattle.chunk_order.proofs.Sites.{var_visible}
-use Rattle.chunk_order.proofs.OrderLaw.{turns_from, turns_faultless, scope_index}
 use Rattle.chunk_emit.specs.Chunk.{Setting}
 use Rattle.chunk_emit.specs.KernelLayout.{type_in, layout_of_loop}
 use Rattle.chunk_emit.specs.LoopFits.{FitsSetting, FitsSteps}
 use Rattle.chunk_emit.proofs.FitsNumbers.{Ascends, loop_ascends, type_at_item}
-use Rattle.chunk_emit.proofs.FitsTypes.{loop_types}
 use Rattle.chunk_emit.proofs.FitsKnown.{Part, part_following, loop_known}
 use Rattle.chunk_emit.proofs.FitsNames.{head_locals, head_env, head_names}
-use Rattle.chunk_emit.proofs.FitsTrees.{nil-right}
 use Rattle.chunk_emit.proofs.FitsSources.{AllTyped}
 use Rattle.chunk_emit.proofs.FitsStatements.{block_steps}
+use Rattle.kernel_tree.specs.declared.fault.Binding.TheVariants as binding
 
 -- ---- the types of all items
 
@@ -45,12 +44,7 @@ scope_is k l =
     ∙ ap (λ (i : Option (List ℕ)). record { visible = head_locals k.params k.vars l.index; taken = insert_name (var_scope k).taken l.index; index = i; inside = true }) (scope_index k)
 
 env_is : (k : Program) (l : PlainLoop) → loop_env (var_scope k) l.index ≡ head_env 0 k.params k.vars l.index
-env_is k l = ap (λ vs. outer_env 0 vs ++ bound l.index Turn ∷ []) (var_visible k)
-
-body_faultless : (k : Program) (l : PlainLoop) → check_fault k ≡ None → k.turns ≡ Some l → block_faults (in_loop (var_scope k) l) (turns_from k + 1) l.body ≡ []
-body_faultless k l checked turns =
-    let scope = var_scope k in
-    nil-right (twice (turns_from k) scope l.index) _ (nil-right (bound_faults (turns_from k) (lookup scope l.bound)) _ (turns_faultless k l checked turns))
+env_is k l = ap (λ vs. outer_env 0 vs ++ bound l.index LoopIndex ∷ []) (var_visible k)
 
 body_known : (k : Program) (l : PlainLoop) → check_fault k ≡ None → k.turns ≡ Some l → class_of k ≡ Vector → Part k (block_entries k (loop_start k + 1) l.body) (block_types (in_loop (var_scope k) l) l.body)
 body_known k l checked turns vector =

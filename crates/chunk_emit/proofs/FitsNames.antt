@@ -4,23 +4,24 @@ use Rattle.std.specs.Prelude.{slice_get, option_map, option_and_then, bytes_eq}
 use Rattle.std.specs.List.{find}
 use Rattle.kernel_tree.specs.declared.ops.Ty.{Ty}
 use Rattle.kernel_tree.specs.declared.ast.Shape.{Shape}
-use Rattle.kernel_tree.specs.declared.ast.Shape.TheVariants as shape
 use Rattle.kernel_tree.specs.declared.fault.Binding.{Binding}
-use Rattle.kernel_tree.specs.declared.fault.Binding.TheVariants as binding
 use Rattle.kernel_tree.specs.Plain.{Parameter, Accumulator, PlainLoop, Program}
 use Rattle.kernel_tree.specs.Items.{loop_index, index_of}
-use Rattle.kernel_tree.specs.Typing.{Local, local, has_name, binding_of, binding_of_shape}
+use Rattle.kernel_tree.specs.Typing.{Local, local, has_name, binding_of, binding_of_shape, element_type}
+use Rattle.kernel_tree.proofs.Names.{bytes_told}
+use Rattle.kernel_tree.specs.Scopes.{locals_of, accs_of}
 use Rattle.reg_assign.specs.declared.interval.RegClass.TheVariants.{Z}
 use Rattle.loop_form.specs.declared.loop_item.Source.{Source}
-use Rattle.loop_form.specs.declared.loop_item.Source.TheVariants.{Constant, Outer, Turn, Made}
+use Rattle.loop_form.specs.declared.loop_item.Source.TheVariants.{Constant, Outer, LoopIndex, Made}
 use Rattle.loop_form.specs.Entries.{entries_of}
-use Rattle.loop_form.specs.Lanes as lanes
 use Rattle.loop_form.specs.Lanes.{var_type}
 use Rattle.loop_form.specs.Listing.{last_use_from}
 use Rattle.loop_form.specs.LoopItems.{Bound, bound, source_at, outer_env}
-use Rattle.chunk_order.specs.Apart.{elements_of, type_of_place}
-use Rattle.chunk_order.proofs.Sites.{bytes_told, locals_of, accs_of}
+use Rattle.loop_form.specs.Streams.{elements_of, type_of_place}
 use Rattle.chunk_emit.specs.KernelLayout.{source_type, item_last_use}
+use Rattle.kernel_tree.specs.declared.ast.Shape.TheVariants as shape
+use Rattle.kernel_tree.specs.declared.fault.Binding.TheVariants as binding
+use Rattle.loop_form.specs.Lanes as lanes
 
 -- what a visible name stands for
 abbrev pub binding_at : List Local → List ℕ → Option Binding
@@ -41,7 +42,7 @@ HomeIs k b x (binding.Scalar t) s = (p : ℕ) × (s ≡ Outer p) × (slice_get k
 HomeIs k b x (binding.Array t) s = (p : ℕ) × (s ≡ Outer p) × (type_of_place k.params p ≡ Some t)
 HomeIs k b x (binding.Accumulator t) s = var_type x k.vars ≡ Some t
 HomeIs k b x (binding.Value t) s = LetHome k b x t s
-HomeIs k b x binding.Index s = (s ≡ Turn) × (loop_index k ≡ Some x)
+HomeIs k b x binding.Index s = (s ≡ LoopIndex) × (loop_index k ≡ Some x)
 
 -- the same names in the same order
 abbrev pub AreNamed : List Local → List Bound → Type 0
@@ -128,19 +129,19 @@ shape_home k b n x q bd (shape.Scalar t) e named at f =
 shape_home k b n x q bd (shape.Array t) e named at f =
     let same : binding.Array t ≡ bd = cc in
     subst (λ d. HomeIs k b x d (Outer n)) same
-    (n, refl, ap (option_and_then elements_of) at ∙ ap lanes.element_type e)
+    (n, refl, ap (option_and_then elements_of) at ∙ ap (λ s. element_type (binding_of_shape s)) e)
 
-index_home : (k : Program) (b : ℕ) (x index : List ℕ) (bd : Binding) (t : Bool) → loop_index k ≡ Some index → bytes_eq index x ≡ t → option_map binding_of (cond t (Some (local index binding.Index)) None) ≡ Some bd → HomeIs k b x bd (cond t Turn (Constant None (pos 0)))
+index_home : (k : Program) (b : ℕ) (x index : List ℕ) (bd : Binding) (t : Bool) → loop_index k ≡ Some index → bytes_eq index x ≡ t → option_map binding_of (cond t (Some (local index binding.Index)) None) ≡ Some bd → HomeIs k b x bd (cond t LoopIndex (Constant None (pos 0)))
 index_home k b x index bd true loop e f =
     let same : binding.Index ≡ bd = cc in
-    subst (λ d. HomeIs k b x d Turn) same (refl, loop ∙ ap Some (bytes_told index x e))
+    subst (λ d. HomeIs k b x d LoopIndex) same (refl, loop ∙ ap Some (bytes_told index x e))
 index_home k b x index bd false loop e f = absurd cc
 
 abbrev pub head_locals : List Parameter → List Accumulator → List ℕ → List Local
 head_locals ps vs index = (locals_of ps ++ accs_of vs) ++ local index binding.Index ∷ []
 
 abbrev pub head_env : ℕ → List Parameter → List Accumulator → List ℕ → List Bound
-head_env n ps vs index = outer_env n (locals_of ps ++ accs_of vs) ++ bound index Turn ∷ []
+head_env n ps vs index = outer_env n (locals_of ps ++ accs_of vs) ++ bound index LoopIndex ∷ []
 
 vars_home : (k : Program) (b n : ℕ) (vs : List Accumulator) (index x : List ℕ) (bd : Binding) → loop_index k ≡ Some index → var_type x vs ≡ var_type x k.vars → binding_at (head_locals [] vs index) x ≡ Some bd → HomeIs k b x bd (source_at (head_env n [] vs index) x)
 vars_home k b n [] index x bd loop same f = index_home k b x index bd (bytes_eq index x) loop refl f
@@ -168,7 +169,7 @@ params_home k b n (p ∷ ps) index x bd loop at f =
 -- the names of a kernel's loop
 pub head_names : (k : Program) (l : PlainLoop) (b : ℕ) → k.turns ≡ Some l → Names k b (head_locals k.params k.vars l.index) (head_env 0 k.params k.vars l.index)
 head_names k l b turns = record {
-  named = named_on (locals_of k.params ++ accs_of k.vars) (local l.index binding.Index ∷ []) (outer_env 0 (locals_of k.params ++ accs_of k.vars)) (bound l.index Turn ∷ []) (named_outer 0 (locals_of k.params ++ accs_of k.vars)) (refl, tt);
+  named = named_on (locals_of k.params ++ accs_of k.vars) (local l.index binding.Index ∷ []) (outer_env 0 (locals_of k.params ++ accs_of k.vars)) (bound l.index LoopIndex ∷ []) (named_outer 0 (locals_of k.params ++ accs_of k.vars)) (refl, tt);
   home = λ x bd e. params_home k b 0 k.params l.index x bd (ap (option_map index_of) turns) (λ m. ap (slice_get k.params) (zero_first m)) e;
 }
   where

@@ -5,7 +5,8 @@ use Rattle.std.proofs.lemmas.Bool.{eqb-true, eq-eqb}
 use Rattle.kernel_tree.specs.declared.ops.Ty.{Ty}
 use Rattle.kernel_tree.specs.Plain.{Term, Literal, Variable, Element, Unary, Operation, Shift, Conversion, Choice, Comparison, Both, Either, Not, Action, Define, Put, Update, Choose, Leave, Block, Done, Then, Otherwise, Nothing, Else, PlainLoop, Program}
 use Rattle.kernel_tree.specs.Items.{stream_offset, index_items, term_size, action_size, block_size, otherwise_size}
-use Rattle.kernel_tree.specs.Typing.{Scope, own, first, side_type, defined, after_action, after_block, left, in_loop, var_scope}
+use Rattle.kernel_tree.specs.Typing.{Scope, own, first, side_type, after_action, after_block, left, in_loop, var_scope}
+use Rattle.kernel_tree.proofs.Scopes.{index_after}
 use Rattle.loop_form.specs.Entries.{loop_start}
 use Rattle.loop_form.specs.declared.loop_item.Source.{Source}
 use Rattle.loop_form.specs.LoopItems.{Bound, Item, array_type, accumulator_of, truth_home, load_item, store_item, term_items, cond_items, after_env, action_items, block_items, otherwise_items, loop_env, loop_items}
@@ -85,17 +86,6 @@ term_ascends (Not e) = record {
 
 -- ---- statements
 
-same_index : (a : Action) (s : Scope) → (after_action s a).index ≡ s.index
-same_index (Define x t e) s = by (first t (own s e))
-  where
-    by : (o : Option Ty) → (defined s x o).index ≡ s.index
-    by None = refl
-    by (Some u) = refl
-same_index (Put a i e) s = refl
-same_index (Update x op e) s = refl
-same_index (Choose c b d) s = refl
-same_index (Leave c) s = refl
-
 mutual
   action_ascends : (a : Action) (s : Scope) (mask : Option ℕ) (b : ℕ) (env : List Bound) (rest : List Item) → Ascends (b + action_size s.index a) rest → Ascends b (action_items s mask b env a rest)
   action_ascends (Define x t e) s mask b env rest h = (term_ascends e).as_value s (first t (own s e)) mask b env _ (step _ _ (b + (term_size s.index e + 1)) rest (omega arith) (omega arith) h)
@@ -112,7 +102,7 @@ mutual
   block_ascends Done s mask b env rest h = sooner b _ rest (omega arith) h
   block_ascends (Then a t) s mask b env rest h =
       let next = b + action_size s.index a in
-      let size : block_size s.index t ≡ block_size (after_action s a).index t = ap (λ i. block_size i t) (sym (same_index a s)) in
+      let size : block_size s.index t ≡ block_size (after_action s a).index t = ap (λ i. block_size i t) (sym (index_after s a)) in
       action_ascends a s mask b env _ (block_ascends t (after_action s a) mask next (after_env s b env a) rest (sooner (next + block_size (after_action s a).index t) (b + block_size s.index (Then a t)) rest (omega (arith, size)) h))
 
   otherwise_ascends : (d : Otherwise) (s : Scope) (mask : Option ℕ) (b c : ℕ) (env : List Bound) (rest : List Item) → Ascends (b + otherwise_size s.index d) rest → Ascends b (otherwise_items s mask b c env d rest)

@@ -5,11 +5,11 @@ use Rattle.guest_types.specs.Length.{width_bits}
 use Rattle.kernel_tree.specs.declared.ops.Ty.{Ty}
 use Rattle.kernel_tree.specs.declared.ops.Ty.TheVariants.{U64}
 use Rattle.kernel_tree.specs.declared.fault.Binding.{Binding}
-use Rattle.kernel_tree.specs.declared.fault.Binding.TheVariants as binding
 use Rattle.kernel_tree.specs.Plain.{Term, Literal, Variable, Element, Unary, Operation, Shift, Conversion, Choice, Comparison, Both, Either, Not, Program}
 use Rattle.kernel_tree.specs.Wrap.{bits_of}
 use Rattle.kernel_tree.specs.Items.{stream_offset, term_size, loop_index}
 use Rattle.kernel_tree.specs.Typing.{Scope, Local, own, value_type, side_type}
+use Rattle.kernel_tree.proofs.Names.{bytes_same}
 use Rattle.reg_assign.specs.declared.interval.RegClass.TheVariants.{Z, P}
 use Rattle.reg_assign.specs.Registers.{Assignment}
 use Rattle.loop_form.specs.declared.loop_item.Source.{Source}
@@ -17,7 +17,6 @@ use Rattle.loop_form.specs.declared.loop_item.Source.TheVariants.{Constant, Made
 use Rattle.loop_form.specs.Entries.{Content, IsLiteral, IsName, IsRead}
 use Rattle.loop_form.specs.LoopItems.{Bound, Item, source_at, array_type, home, truth_home, load_item, term_items, cond_items, loop_items_of}
 use Rattle.lane_emit.specs.ItemCode.{made_type}
-use Rattle.chunk_order.proofs.Sites.{bytes_same}
 use Rattle.chunk_emit.specs.Chunk.{Setting}
 use Rattle.chunk_emit.specs.Fits.{FitsSource, FitsOperand, FitsTruth}
 use Rattle.chunk_emit.specs.KernelLayout.{held_place, scalar_type, source_type, item_last_use, type_in, layout_of_loop}
@@ -25,6 +24,7 @@ use Rattle.chunk_emit.specs.LoopFits.{FitsSetting}
 use Rattle.chunk_emit.proofs.FitsKnown.{At}
 use Rattle.chunk_emit.proofs.FitsNames.{binding_at, HomeIs, Names}
 use Rattle.chunk_emit.proofs.FitsTrees.{KnownValue, KnownTruth}
+use Rattle.kernel_tree.specs.declared.fault.Binding.TheVariants as binding
 
 -- ---- the types of items
 

@@ -1,32 +1,32 @@
 -- The items of the statements of a checked kernel's loop fit its layout.
-use Rattle.std.proofs.Common.{◌≡◌, ℕ, ◌+◌, ◌≤◌, ℤ, Bool, false, List, [], ◌∷◌, ◌++◌, length, Option, Some, None, refl, sym, ap, ◌∙◌, subst, arith}
-use Rattle.std.specs.Prelude.{is_none, option_and_then}
+use Rattle.std.proofs.Common.{◌≡◌, ℕ, ◌+◌, ◌≤◌, ℤ, Bool, List, [], ◌∷◌, ◌++◌, length, Option, Some, None, refl, sym, ap, ◌∙◌, subst, arith}
 use Rattle.kernel_tree.specs.declared.ops.Ty.{Ty}
 use Rattle.kernel_tree.specs.declared.ops.UpdateOp.{UpdateOp}
-use Rattle.kernel_tree.specs.declared.fault.Binding.{Binding}
-use Rattle.kernel_tree.specs.declared.fault.Binding.TheVariants as binding
 use Rattle.kernel_tree.specs.Plain.{Term, Action, Define, Put, Update, Choose, Leave, Block, Done, Then, Otherwise, Nothing, Else, Program}
 use Rattle.kernel_tree.specs.Items.{stream_offset, term_size, action_size, block_size, otherwise_size, loop_index}
-use Rattle.kernel_tree.specs.Typing.{Scope, Local, local, Value, Condition, lookup, own, first, element_type, accumulator_type, insert_name, defined, left, after_action, after_block, after_otherwise, faults, kind_faults, target_faults, stream_faults, update_faults, twice, action_faults, block_faults, otherwise_faults, term_types, action_types, block_types, otherwise_types}
+use Rattle.kernel_tree.specs.Typing.{Scope, Local, local, Value, Condition, lookup, own, first, insert_name, defined, left, after_action, after_block, after_otherwise, faults, target_faults, twice, action_faults, block_faults, otherwise_faults, term_types, action_types, block_types, otherwise_types}
+use Rattle.kernel_tree.proofs.Faultless.{nil-left, nil-right}
+use Rattle.kernel_tree.proofs.NoFault.{untyped_some, target_some, update_some, stream_some}
 use Rattle.reg_assign.specs.declared.interval.RegClass.TheVariants.{P}
 use Rattle.reg_assign.specs.Registers.{Assignment}
 use Rattle.loop_form.specs.declared.loop_item.Source.{Source}
 use Rattle.loop_form.specs.declared.loop_item.Source.TheVariants.{Made}
-use Rattle.loop_form.specs.declared.item.ItemKind.TheVariants as kind
 use Rattle.loop_form.specs.Entries.{IsLet, IsStore, IsUpdate, IsPlain, term_entries, action_entries, block_entries, otherwise_entries}
 use Rattle.loop_form.specs.LoopItems.{Copy, Add, Invert, Quit, Item, item, Bound, bound, with_bound, array_type, accumulator_of, home, truth_home, term_items, store_item, after_env, action_items, block_items, otherwise_items}
+use Rattle.loop_form.proofs.ItemTypes.{term_matches, action_matches, block_matches, otherwise_matches}
 use Rattle.chunk_emit.specs.Chunk.{Setting}
 use Rattle.chunk_emit.specs.Fits.{FitsTruth}
 use Rattle.chunk_emit.specs.KernelLayout.{item_last_use, layout_of_loop}
 use Rattle.chunk_emit.specs.LoopFits.{FitsSetting, FitsSteps}
-use Rattle.chunk_emit.proofs.FitsTypes.{term_matches, action_matches, block_matches, otherwise_matches}
 use Rattle.chunk_emit.proofs.FitsKnown.{Part, part_left, part_right, part_following, At, at_head}
 use Rattle.chunk_emit.proofs.FitsNames.{LetHome, Names, names_later, names_more}
-use Rattle.chunk_emit.proofs.FitsTrees.{nil-left, nil-right, typed, IsStream, is_stream, value_known, truth_known}
+use Rattle.chunk_emit.proofs.FitsTrees.{IsStream, is_stream, value_known, truth_known}
 use Rattle.chunk_emit.proofs.FitsSources.{AllTyped, value_following, truth_following, made_is, truth_is, truth_lasts}
 use Rattle.chunk_emit.proofs.FitsPlaces.{moved, skip, plain_step, IsMasked, plain_casts}
 use Rattle.chunk_emit.proofs.FitsTerms.{value_makes, truth_makes, nothing_made, operand, value_steps, truth_steps}
 use Rattle.chunk_emit.proofs.FitsWrites.{store_ends, store_steps, update_steps}
+use Rattle.kernel_tree.specs.declared.fault.Binding.TheVariants as binding
+use Rattle.loop_form.specs.declared.item.ItemKind.TheVariants as kind
 
 -- ---- the types of the items after
 
@@ -55,22 +55,6 @@ mutual
 
 -- ---- what no fault tells
 
-kind_known : (item : ℕ) (o : Option Ty) → kind_faults item o ≡ [] → (T : Ty) × (o ≡ Some T)
-kind_known item None e = absurd cc
-kind_known item (Some T) e = (T, refl)
-
-target_known : (item : ℕ) (o : Option Binding) → target_faults item o ≡ [] → (T : Ty) × (option_and_then element_type o ≡ Some T)
-target_known item None e = absurd cc
-target_known item (Some bd) e = kind_known item (element_type bd) e
-
-update_known : (item : ℕ) (o : Option Binding) → update_faults item o ≡ [] → (T : Ty) × (option_and_then accumulator_type o ≡ Some T)
-update_known item None e = absurd cc
-update_known item (Some bd) e = kind_known item (accumulator_type bd) e
-
-stream_known : (item : ℕ) (o : Option ℤ) → stream_faults item o ≡ [] → is_none o ≡ false
-stream_known item None e = absurd cc
-stream_known item (Some c) e = refl
-
 module _ (k : Program) (zs ps : Assignment) (f : Setting) (setting : FitsSetting k f) (few : length k.params ≤ 8) where
   abbrev i : Option (List ℕ)
   i = loop_index k
@@ -97,7 +81,7 @@ module _ (k : Program) (zs ps : Assignment) (f : Setting) (setting : FitsSetting
       let S = scope v tk ins in
       let q = b + term_size i e in
       let want = first t (own S e) in
-      let w = typed (g + term_size i e) want (nil-right (twice (g + term_size i e) S x) _ (nil-right (faults S g (Value want) e) _ none)) in
+      let w = untyped_some (g + term_size i e) want (nil-right (twice (g + term_size i e) S x) _ (nil-right (faults S g (Value want) e) _ none)) in
       let T = w.0 in
       let at = at_head k q (IsLet x) q [] want [] (part_right k (term_entries k b q e) _ (term_types S (Value want) e) _ (term_matches k e S (Value want) b q refl) part) in
       let ti = value_following k e S want mask b env (item q mask (Copy want (home i want b env e)) ∷ rest) types in
@@ -187,7 +171,7 @@ module _ (k : Program) (zs ps : Assignment) (f : Setting) (setting : FitsSetting
         let S = scope v tk ins in
         let q = b + term_size i e in
         let want = first t (own S e) in
-        let w = typed (g + term_size i e) want (nil-right (twice (g + term_size i e) S x) _ (nil-right (faults S g (Value want) e) _ none)) in
+        let w = untyped_some (g + term_size i e) want (nil-right (twice (g + term_size i e) S x) _ (nil-right (faults S g (Value want) e) _ none)) in
         let m = term_matches k e S (Value want) b q refl in
         let at = at_head k q (IsLet x) q [] want [] (part_right k (term_entries k b q e) _ _ _ m part) in
         let_steps v tk ins b env names x e mask g (b + action_size i (Define x t e)) rest want w.0 w.1 (nil-left (faults S g (Value want) e) _ none) (part_left k (term_entries k b q e) _ _ _ m part) at (omega arith) types masked following
@@ -197,16 +181,16 @@ module _ (k : Program) (zs ps : Assignment) (f : Setting) (setting : FitsSetting
         let n = g + term_size i e in
         let want = array_type S a in
         let none2 = nil-right (faults S g (Value want) e) _ none in
-        let w = target_known n (lookup S a) (nil-left (target_faults n (lookup S a)) _ none2) in
+        let w = target_some n (lookup S a) (nil-left (target_faults n (lookup S a)) _ none2) in
         let m = term_matches k e S (Value want) b q refl in
         let at = at_head k q (IsStore a j) q [] None [] (part_right k (term_entries k b q e) _ _ _ m part) in
-        let stream = is_stream i j (stream_known n (stream_offset i j) (nil-right (target_faults n (lookup S a)) _ none2)) at.known.near in
+        let stream = is_stream i j (stream_some n (stream_offset i j) (nil-right (target_faults n (lookup S a)) _ none2)) at.known.near in
         put_steps v tk ins b env names a j e mask g (b + action_size i (Put a j e)) rest want w.0 refl w.1 stream (nil-left (faults S g (Value want) e) _ none) (part_left k (term_entries k b q e) _ _ _ m part) at (omega arith) types masked following
     action_steps (Update x op e) v tk ins env mask b g rest names none part types masked following =
         let S = scope v tk ins in
         let q = b + term_size i e in
         let want = accumulator_of S x in
-        let w = update_known (g + term_size i e) (lookup S x) (nil-right (faults S g (Value want) e) _ none) in
+        let w = update_some (g + term_size i e) (lookup S x) (nil-right (faults S g (Value want) e) _ none) in
         let m = term_matches k e S (Value want) b q refl in
         let at = at_head k q (IsUpdate x op) q [] None [] (part_right k (term_entries k b q e) _ _ _ m part) in
         add_steps v tk ins b env names x op e mask g (b + action_size i (Update x op e)) rest want w.0 refl w.1 (nil-left (faults S g (Value want) e) _ none) (part_left k (term_entries k b q e) _ _ _ m part) at (omega arith) types masked following

@@ -1,57 +1,22 @@
 -- What is known of each expression of a checked kernel's loop: its items, the types of its places, and its stream indexes.
-use Rattle.std.proofs.Common.{◌≡◌, ℕ, ◌+◌, ℤ, Bool, true, false, cond, List, [], ◌∷◌, ◌++◌, Option, Some, None, refl, sym, ap, ◌∙◌, subst}
-use Rattle.std.specs.Prelude.{is_none, nat_eq, option_and_then}
-use Rattle.std.proofs.lemmas.Bool.{eqb-true}
+use Rattle.std.proofs.Common.{◌≡◌, ℕ, ◌+◌, ℤ, Bool, true, false, List, [], Option, Some, None, refl, sym, ap, ◌∙◌, subst}
+use Rattle.std.specs.Prelude.{is_none, option_and_then}
 use Rattle.kernel_tree.specs.declared.ops.Ty.{Ty}
-use Rattle.kernel_tree.specs.declared.fault.Binding.{Binding}
 use Rattle.kernel_tree.specs.Plain.{Term, Literal, Variable, Element, Unary, Operation, Shift, Conversion, Choice, Comparison, Both, Either, Not, Program}
 use Rattle.kernel_tree.specs.Wrap.{bits_of}
 use Rattle.kernel_tree.specs.Items.{term_size, index_items, stream_offset, loop_index}
-use Rattle.kernel_tree.specs.Typing.{Scope, Local, Value, Condition, lookup, own, element_type, value_type, index_type, side_type, number_of_type, faults, as_value, as_condition, name_faults, typed_faults, mismatch, read_faults, inner_faults, is_below, shift_faults, untyped, inner_types, term_types}
-use Rattle.loop_form.specs.declared.item.ItemKind.TheVariants as kind
+use Rattle.kernel_tree.specs.Typing.{Scope, Local, Value, Condition, lookup, own, element_type, value_type, index_type, side_type, faults, as_value, as_condition, mismatch, read_faults, inner_faults, is_below, shift_faults, inner_types, term_types}
+use Rattle.kernel_tree.proofs.Faultless.{nil-left, nil-right, never}
+use Rattle.kernel_tree.proofs.NoFault.{is_empty, no_mismatch, no_name, no_read, untyped_some}
 use Rattle.loop_form.specs.Entries.{IsLiteral, IsName, IsRead, IsPlain, inner_entries, term_entries}
-use Rattle.loop_form.specs.Near as near
 use Rattle.chunk_emit.specs.Fits.{IsNear}
-use Rattle.chunk_emit.proofs.FitsEntries.{type_from, type_back}
-use Rattle.chunk_emit.proofs.FitsTypes.{inner, term_matches}
+use Rattle.loop_form.proofs.ItemTypes.{inner, term_matches}
 use Rattle.chunk_emit.proofs.FitsKnown.{Part, part_left, part_right, part_following, At, at_head}
-
-pub nil-left : {A : Type 0} (xs ys : List A) → xs ++ ys ≡ [] → xs ≡ []
-nil-left [] ys e = refl
-nil-left (x ∷ xs) ys e = absurd cc
-
-pub nil-right : {A : Type 0} (xs ys : List A) → xs ++ ys ≡ [] → ys ≡ []
-nil-right [] ys e = e
-nil-right (x ∷ xs) ys e = absurd cc
-
-never : {A : Type 0} {x : A} {xs : List A} → x ∷ xs ≡ [] → ⊥
-never e = cc
-
-is_empty : {A : Type 0} (b : Bool) (x : A) (xs : List A) → cond b [] (x ∷ xs) ≡ [] → b ≡ true
-is_empty true x xs e = refl
-is_empty false x xs e = absurd cc
+use Rattle.loop_form.specs.Near as near
+use Rattle.loop_form.specs.declared.item.ItemKind.TheVariants as kind
+use Rattle.loop_form.specs.Near as near
 
 -- ---- what no fault tells
-
-pub no_mismatch : (item : ℕ) (T t : Ty) → mismatch item (Some T) t ≡ [] → T ≡ t
-no_mismatch item T t e = sym (type_back T) ∙ ap type_from (eqb-true _ _ (is_empty (nat_eq (number_of_type T) (number_of_type t)) _ _ e)) ∙ type_back t
-
-no_typed : (item : ℕ) (T : Ty) (o : Option Ty) → typed_faults item (Some T) o ≡ [] → o ≡ Some T
-no_typed item T None e = absurd cc
-no_typed item T (Some t) e = ap Some (sym (no_mismatch item T t e))
-
-no_name : (item : ℕ) (T : Ty) (o : Option Binding) → name_faults item (Some T) o ≡ [] → option_and_then value_type o ≡ Some T
-no_name item T None e = absurd cc
-no_name item T (Some b) e = no_typed item T (value_type b) e
-
-no_read : (item : ℕ) (ins : Bool) (T : Ty) (o : Option Binding) → read_faults item ins (Some T) o ≡ [] → option_and_then element_type o ≡ Some T
-no_read item ins T None e = absurd cc
-no_read item true T (Some b) e = no_typed item T (element_type b) e
-no_read item false T (Some b) e = absurd cc
-
-pub typed : (item : ℕ) (o : Option Ty) → untyped item o ≡ [] → (T : Ty) × (o ≡ Some T)
-typed item None e = absurd cc
-typed item (Some t) e = (t, refl)
 
 no_shift : (item : ℕ) (T : Ty) (n : ℤ) → shift_faults item (Some T) n ≡ [] → is_below n (bits_of T) ≡ true
 no_shift item T n e = is_empty (is_below n (bits_of T)) _ _ e
@@ -167,7 +132,7 @@ module _ (k : Program) (v : List Local) (tk : List (List ℕ)) (ins : Bool) wher
         let q = b + term_size i x in
         let m = term_matches k x S (Value (own S x)) b q refl in
         let e2 = nil-right (as_value (f + term_size i x) (Value (Some T))) _ (nil-right (faults S f (Value (own S x)) x) _ e) in
-        let w = typed _ (own S x) (nil-right (mismatch (f + term_size i x) (Some T) t) _ e2) in
+        let w = untyped_some _ (own S x) (nil-right (mismatch (f + term_size i x) (Some T) t) _ e2) in
         let px = part_left k (term_entries k b q x) _ _ _ m p in (
           w.0,
           w.1,
@@ -206,7 +171,7 @@ module _ (k : Program) (v : List Local) (tk : List (List ℕ)) (ins : Bool) wher
         let e1 = nil-left (faults S f (Value w) x) _ e in
         let e2 = nil-right (faults S f (Value w) x) _ e in
         let e3 = nil-left (faults S (f + term_size i x) (Value w) y) _ e2 in
-        let known = typed _ w (nil-right (as_condition (f + term_size i x + term_size i y) Condition) _ (nil-right (faults S (f + term_size i x) (Value w) y) _ e2)) in (
+        let known = untyped_some _ w (nil-right (as_condition (f + term_size i x + term_size i y) Condition) _ (nil-right (faults S (f + term_size i x) (Value w) y) _ e2)) in (
           known.0,
           known.1,
           value_known x known.0 f b q (sym (ap (λ o. faults S f (Value o) x) known.1) ∙ e1) (subst (λ o. Part k (term_entries k b q x) (term_types S (Value o) x)) known.1 p1),

@@ -7,11 +7,11 @@ use Rattle.kernel_tree.specs.declared.ops.Ty.TheVariants.{U64}
 use Rattle.kernel_tree.specs.declared.ast.Shape.TheVariants as shape
 use Rattle.kernel_tree.specs.Plain.{Parameter, Program}
 use Rattle.kernel_meaning.specs.Eval.{Names}
-use Rattle.kernel_meaning.specs.ScalarRun.{given, argument, started}
-use Rattle.loop_form.specs.declared.loop_item.Source.TheVariants.{Constant, Turn}
+use Rattle.kernel_meaning.specs.ScalarRun.{argument_names, argument, started}
+use Rattle.kernel_meaning.proofs.Started.{started_names}
+use Rattle.loop_form.specs.declared.loop_item.Source.TheVariants.{Constant, LoopIndex}
 use Rattle.chunk_order.specs.Orders.{Lane}
 use Rattle.chunk_order.specs.Items.{nth_value, source_value}
-use Rattle.chunk_order.proofs.Sites.{started_names}
 use Rattle.lane_emit.specs.Right.{IsOf}
 use Rattle.lane_emit.proofs.Ranges.{is_of, wrap-is_of}
 
@@ -19,11 +19,11 @@ use Rattle.lane_emit.proofs.Ranges.{is_of, wrap-is_of}
 pub literal_typed : (names : Names) (i : ℕ) (a : Lane) (t : Ty) (z : ℤ) → IsOf t (source_value names i a (Constant (Some t) z))
 literal_typed names i a t z = wrap-is_of t z
 
-pub turn_typed : (names : Names) (i : ℕ) (a : Lane) → i < 2 ^ 64 → IsOf U64 (source_value names i a Turn)
+pub turn_typed : (names : Names) (i : ℕ) (a : Lane) → i < 2 ^ 64 → IsOf U64 (source_value names i a LoopIndex)
 turn_typed names i a h = is_of U64 (pos i) h
 
 -- a scalar parameter, whose argument was wrapped to its type
-given_typed : (ps : List Parameter) (args : List ℕ) (more : Names) (p : ℕ) (x : List ℕ) (t : Ty) → slice_get ps p ≡ Some (record { name = x; shape = shape.Scalar t }) → IsOf t (nth_value (given ps args ++ more) p)
+given_typed : (ps : List Parameter) (args : List ℕ) (more : Names) (p : ℕ) (x : List ℕ) (t : Ty) → slice_get ps p ≡ Some (record { name = x; shape = shape.Scalar t }) → IsOf t (nth_value (argument_names ps args ++ more) p)
 given_typed [] args more p x t e = absurd cc
 given_typed (q ∷ ps) args more zero x t e =
     let same : q ≡ record { name = x; shape = shape.Scalar t } = cc in

@@ -6,18 +6,17 @@ use Rattle.kernel_tree.specs.declared.ops.Ty.{Ty}
 use Rattle.kernel_tree.specs.declared.ops.Ty.TheVariants.{U64}
 use Rattle.kernel_tree.specs.declared.ops.UpdateOp.{UpdateOp}
 use Rattle.kernel_tree.specs.declared.fault.Binding.{Binding}
-use Rattle.kernel_tree.specs.declared.fault.Binding.TheVariants as binding
 use Rattle.kernel_tree.specs.Plain.{Term, Literal, Variable, Element, Unary, Operation, Shift, Conversion, Choice, Comparison, Both, Either, Not, Program}
 use Rattle.kernel_tree.specs.Items.{stream_offset, loop_index}
 use Rattle.kernel_tree.specs.Typing.{Scope, Local, value_type, accumulator_type}
+use Rattle.kernel_tree.proofs.Names.{bytes_same}
 use Rattle.reg_assign.specs.declared.interval.RegClass.TheVariants.{Z}
 use Rattle.reg_assign.specs.Registers.{Assignment}
 use Rattle.loop_form.specs.declared.loop_item.Source.{Source}
-use Rattle.loop_form.specs.declared.loop_item.Source.TheVariants.{Constant, Outer, Turn, Made}
+use Rattle.loop_form.specs.declared.loop_item.Source.TheVariants.{Constant, Outer, LoopIndex, Made}
 use Rattle.loop_form.specs.Entries.{IsName, IsStore, IsUpdate}
 use Rattle.loop_form.specs.Lanes.{var_type}
 use Rattle.loop_form.specs.LoopItems.{Op, Load, Apply, Combine, Move, Cast, Copy, Pick, Store, Add, Test, Invert, Same, Any, Quit, Item, item, Bound, source_at, array_type, accumulator_of, home, store_item}
-use Rattle.chunk_order.proofs.Sites.{bytes_same}
 use Rattle.chunk_emit.specs.Registers.{Layout}
 use Rattle.chunk_emit.specs.ChunkCode.{past_cast, is_made}
 use Rattle.chunk_emit.specs.Chunk.{Setting}
@@ -29,13 +28,14 @@ use Rattle.chunk_emit.proofs.FitsNames.{binding_at, HomeIs, Names}
 use Rattle.chunk_emit.proofs.FitsTrees.{IsStream, KnownValue}
 use Rattle.chunk_emit.proofs.FitsPlaces.{plain_step, CastsEnd}
 use Rattle.chunk_emit.proofs.FitsTerms.{nothing_made, array_fits}
+use Rattle.kernel_tree.specs.declared.fault.Binding.TheVariants as binding
 
 -- ---- a cast before a store
 
 made_same : (q : ℕ) (v : Source) → is_made q v ≡ true → v ≡ Made q
 made_same q (Constant t z) e = absurd cc
 made_same q (Outer p) e = absurd cc
-made_same q Turn e = absurd cc
+made_same q LoopIndex e = absurd cc
 made_same q (Made r) e = ap Made (sym (eqb-true q r e))
 
 cond_made : (b : Bool) (o : Op) (op : Op) → cond b (Some o) None ≡ Some op → b ≡ true

@@ -9,10 +9,10 @@ use Rattle.kernel_meaning.specs.Eval.{address, byte_count}
 use Rattle.kernel_meaning.proofs.Residues.{word-add, word-mul}
 use Rattle.machine_model.specs.InstructionTable.{Listed}
 use Rattle.machine_model.specs.Machine.{State, x_at, with_x, next}
-use Rattle.machine_model.proofs.States.{x_put}
+use Rattle.machine_model.proofs.StateSteps.{x_put}
 use Rattle.label_fix.specs.DraftRun.{Entry, Laid}
 use Rattle.label_fix.specs.Stretches.{Goes}
-use Rattle.label_fix.proofs.Steps.{stay, put_goes}
+use Rattle.label_fix.proofs.StretchSteps.{stay, put_goes}
 use Rattle.chunk_order.specs.Orders.{Lanes}
 use Rattle.chunk_emit.specs.Registers.{Layout}
 use Rattle.chunk_emit.specs.ChunkCode.{with_index, index_of, puts}

@@ -10,10 +10,10 @@ use Rattle.kernel_tree.specs.Wrap.{wrap}
 use Rattle.machine_model.specs.InstructionTable.{Listed}
 use Rattle.machine_model.specs.Machine.{State}
 use Rattle.label_fix.specs.DraftRun.{Entry, Put, Laid}
-use Rattle.label_fix.proofs.Steps.{stay, chain, stop_after, stop_more}
+use Rattle.label_fix.proofs.StretchSteps.{stay, chain, stop_after, stop_more}
 use Rattle.chunk_order.specs.Orders.{Lanes, Out, Fine, Fail, go_on, column, by_item}
 use Rattle.loop_form.specs.declared.loop_item.Source.{Source}
-use Rattle.loop_form.specs.declared.loop_item.Source.TheVariants.{Constant, Outer, Turn, Made}
+use Rattle.loop_form.specs.declared.loop_item.Source.TheVariants.{Constant, Outer, LoopIndex, Made}
 use Rattle.loop_form.specs.LoopItems.{Op, Load, Apply, Combine, Move, Cast, Copy, Pick, Store, Add, Test, Invert, Same, Any, Quit}
 use Rattle.chunk_order.specs.Items.{source_value, on_mask}
 use Rattle.vector_order.specs.Items.{item_act, acts_of}
@@ -23,8 +23,8 @@ use Rattle.chunk_emit.specs.ChunkCode.{past_cast, op_words, item_words, either_w
 use Rattle.chunk_emit.specs.Chunk.{Setting, Holds}
 use Rattle.chunk_emit.specs.Fits.{Assigned, FitsMask, FitsOp, NoneBetween, following_items}
 use Rattle.chunk_emit.specs.ItemsRun.{Does, does_fine, does_fail, ItemsRun}
-use Rattle.chunk_emit.proofs.States.{holds_later, operand_right, truth_right}
-use Rattle.chunk_emit.proofs.Pures.{value_runs, truth_runs}
+use Rattle.chunk_emit.proofs.ChunkStates.{holds_later, operand_right, truth_right}
+use Rattle.chunk_emit.proofs.PureItems.{value_runs, truth_runs}
 use Rattle.chunk_emit.proofs.Loads.{load_runs}
 use Rattle.chunk_emit.proofs.StoreRuns.{store_runs}
 use Rattle.chunk_emit.proofs.Updates.{update_runs}
@@ -40,7 +40,7 @@ module _ (l : Layout) (fit : Assigned l) (f : Setting) (d : Laid) (rest : List E
   pub op_runs : (op : Op) → FitsOp l f p op → OpDoes op
   op_runs (Load a (Outer x) (Some ty) c) k = load_runs l fit f d rest p t mask fm a x ty c k.0.0 k.0.1 k.2 k.4 k.3 h k.1
   op_runs (Load a (Constant u z) (Some ty) c) k = absurd k.0
-  op_runs (Load a Turn (Some ty) c) k = absurd k.0
+  op_runs (Load a LoopIndex (Some ty) c) k = absurd k.0
   op_runs (Load a (Made q) (Some ty) c) k = absurd k.0
   op_runs (Load a base None c) k = absurd k
   op_runs (Apply op (Some ty) x) k =
@@ -64,7 +64,7 @@ module _ (l : Layout) (fit : Assigned l) (f : Setting) (d : Laid) (rest : List E
   op_runs (Pick None c x y) k = absurd k
   op_runs (Store a (Outer x) (Some ty) c v) k = store_runs l fit f d rest p t mask fm a x ty c v k.0.0 k.0.1 k.2 k.3 h k.1
   op_runs (Store a (Constant u z) (Some ty) c v) k = absurd k.0
-  op_runs (Store a Turn (Some ty) c v) k = absurd k.0
+  op_runs (Store a LoopIndex (Some ty) c v) k = absurd k.0
   op_runs (Store a (Made q) (Some ty) c v) k = absurd k.0
   op_runs (Store a base None c v) k = absurd k
   op_runs (Add x op (Some ty) v) k = update_runs l fit f d rest h mask fm x op ty v k.0 k.1 k.2 k.3 k.4
@@ -124,7 +124,7 @@ pub taken : (q : ℕ) (op next joined : Op) → past_cast q op next ≡ Some joi
 taken q (Cast s t x) (Store a base ty c (Made r)) joined h = made_taken q r s t x a base ty c joined (nat_eq q r) refl h
 taken q (Cast s t x) (Store a base ty c (Constant u z)) joined h = absurd cc
 taken q (Cast s t x) (Store a base ty c (Outer p)) joined h = absurd cc
-taken q (Cast s t x) (Store a base ty c Turn) joined h = absurd cc
+taken q (Cast s t x) (Store a base ty c LoopIndex) joined h = absurd cc
 taken q (Cast s t x) (Load a base ty c) joined h = absurd cc
 taken q (Cast s t x) (Apply op ty y) joined h = absurd cc
 taken q (Cast s t x) (Combine op ty y z) joined h = absurd cc
@@ -163,7 +163,7 @@ module _ (l : Layout) (fit : Assigned l) (f : Setting) (d : Laid) (rest : List E
   cast_store (Some own) cast x a (Outer place) (Some ty) c k j =
       pair_runs l fit f d rest q p first second own cast x a place ty c mask following_mask k.0 k.2 j.0.0 j.0.1 j.1 j.2.0.1 j.2.1 j.3 (omega (arith, lt)) between last t s h
   cast_store (Some own) cast x a (Constant u z) (Some ty) c k j = absurd j.0
-  cast_store (Some own) cast x a Turn (Some ty) c k j = absurd j.0
+  cast_store (Some own) cast x a LoopIndex (Some ty) c k j = absurd j.0
   cast_store (Some own) cast x a (Made r) (Some ty) c k j = absurd j.0
   cast_store (Some own) cast x a base None c k j = absurd j
   cast_store None cast x a base ty c k j = absurd k

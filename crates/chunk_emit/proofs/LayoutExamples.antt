@@ -1,10 +1,5 @@
 -- The layout of a worked kernel's loop: where its values are kept, and until when.
-use Rattle.std.proofs.Common.{◌≡◌, ℕ, pos, true, false, List, [], ◌∷◌, map, Some, None, refl}
-use Rattle.kernel_tree.specs.declared.ops.Ty.TheVariants as ty
-use Rattle.kernel_tree.specs.declared.ops.BinaryOp.TheVariants as binary
-use Rattle.kernel_tree.specs.declared.ops.CompareOp.TheVariants as compare
-use Rattle.kernel_tree.specs.declared.ops.UpdateOp.TheVariants as update
-use Rattle.kernel_tree.specs.declared.ast.Shape.TheVariants as shape
+use Rattle.std.proofs.Common.{◌≡◌, ℕ, pos, true, false, [], ◌∷◌, map, Some, None, refl}
 use Rattle.kernel_tree.specs.Plain.{Literal, Variable, Element, Operation, Comparison, Update, Choose, Done, Then, Nothing, Program}
 use Rattle.reg_assign.specs.declared.interval.Interval.{Interval}
 use Rattle.reg_assign.specs.declared.interval.RegClass.TheVariants.{Z, P}
@@ -12,29 +7,20 @@ use Rattle.reg_assign.specs.Registers.{Assignment, assignment}
 use Rattle.loop_form.specs.Entries.{item_type}
 use Rattle.loop_form.specs.Listing.{last_use_from}
 use Rattle.loop_form.specs.Needs.{constants, intervals}
-use Rattle.loop_form.specs.declared.loop_item.Source.TheVariants.{Constant, Outer, Turn, Made}
+use Rattle.loop_form.specs.declared.loop_item.Source.TheVariants.{Constant, Outer, LoopIndex, Made}
+use Rattle.loop_form.proofs.Kernels.{a, f, i, m, n, s}
 use Rattle.chunk_emit.specs.Registers.{Layout}
 use Rattle.chunk_emit.specs.KernelLayout.{layout_of_loop}
-
-abbrev a : List ℕ
-a = 97 ∷ []
-
-abbrev i : List ℕ
-i = 105 ∷ []
-
-abbrev m : List ℕ
-m = 109 ∷ []
-
-abbrev n : List ℕ
-n = 110 ∷ []
-
-abbrev s : List ℕ
-s = 115 ∷ []
+use Rattle.kernel_tree.specs.declared.ops.Ty.TheVariants as ty
+use Rattle.kernel_tree.specs.declared.ops.BinaryOp.TheVariants as binary
+use Rattle.kernel_tree.specs.declared.ops.CompareOp.TheVariants as compare
+use Rattle.kernel_tree.specs.declared.ops.UpdateOp.TheVariants as update
+use Rattle.kernel_tree.specs.declared.ast.Shape.TheVariants as shape
 
 -- kernel f(a: [u8], m: u8, n: u64) { var s: u8 = 0; for i in 0..n { if a[i] > m { s ^= a[i] & 7; } } }
 abbrev masked : Program
 masked = record {
-  name = 102 ∷ [];
+  name = f;
   params = record { name = a; shape = shape.Array ty.U8 } ∷ record { name = m; shape = shape.Scalar ty.U8 } ∷ record { name = n; shape = shape.Scalar ty.U64 } ∷ [];
   vars = record { name = s; type = ty.U8; init = (Literal (pos 0)) } ∷ [];
   turns = Some (record { index = i; bound = n; body = (Then (Choose (Comparison compare.Gt (Element a (Variable i)) (Variable m)) (Then (Update s update.Xor (Operation binary.And (Element a (Variable i)) (Literal (pos 7)))) Done) Nothing) Done) });
@@ -75,7 +61,7 @@ unfolding item_type last_use_from constants
 condition-register = refl
 
 -- a, m and n, a literal of another type, and the loop variable
-throughout-values : map layout.held (Outer 0 ∷ Outer 1 ∷ Outer 2 ∷ Outer 3 ∷ Constant (Some ty.I8) (pos 7) ∷ Constant (Some ty.U8) (pos 7) ∷ Turn ∷ []) ≡ false ∷ true ∷ false ∷ false ∷ false ∷ true ∷ false ∷ []
+throughout-values : map layout.held (Outer 0 ∷ Outer 1 ∷ Outer 2 ∷ Outer 3 ∷ Constant (Some ty.I8) (pos 7) ∷ Constant (Some ty.U8) (pos 7) ∷ LoopIndex ∷ []) ≡ false ∷ true ∷ false ∷ false ∷ false ∷ true ∷ false ∷ []
 unfolding item_type last_use_from constants
 throughout-values = refl
 
@@ -95,5 +81,5 @@ condition-uses : map layout.p_last_use (0 ∷ 3 ∷ 6 ∷ 8 ∷ 9 ∷ 15 ∷ [])
 unfolding item_type last_use_from
 condition-uses = refl
 
-types : map layout.type (Outer 1 ∷ Outer 2 ∷ Turn ∷ Made 6 ∷ Made 12 ∷ []) ≡ ty.U8 ∷ ty.U64 ∷ ty.U64 ∷ ty.U8 ∷ ty.U8 ∷ []
+types : map layout.type (Outer 1 ∷ Outer 2 ∷ LoopIndex ∷ Made 6 ∷ Made 12 ∷ []) ≡ ty.U8 ∷ ty.U64 ∷ ty.U64 ∷ ty.U8 ∷ ty.U8 ∷ []
 types = refl

@@ -1,8 +1,8 @@
-pub mod Puts
-pub mod Chosen
-pub mod Columns
-pub mod States
-pub mod Pures
+pub mod DraftVectors
+pub mod StepCode
+pub mod ItemLanes
+pub mod ChunkStates
+pub mod PureItems
 pub mod Indexes
 pub mod LoadForms
 pub mod Loads
@@ -17,12 +17,10 @@ pub mod FitsIntervals
 pub mod FitsAssigned
 pub mod FitsParts
 pub mod FitsEntries
-pub mod FitsWidths
-pub mod FitsTypes
+pub mod FitsUpdates
 pub mod FitsTyped
 pub mod FitsNumbers
 pub mod FitsBases
-pub mod FitsUses
 pub mod FitsKnown
 pub mod FitsNames
 pub mod FitsTrees

@@ -14,7 +14,7 @@ use Rattle.kernel_tree.specs.declared.ops.Ty.TheVariants as ty
 use Rattle.kernel_tree.specs.Wrap.{wrap, residue, bits_of, is_signed, width_of}
 use Rattle.kernel_meaning.specs.Eval.{byte_count}
 use Rattle.lane_emit.proofs.Residues.{held, held-plain}
-use Rattle.lane_emit.proofs.Tops.{held-wrap, sxtb-held, sxth-held, sxtw-held}
+use Rattle.lane_emit.proofs.ExtendedLanes.{held-wrap, sxtb-held, sxth-held, sxtw-held}
 use Rattle.chunk_emit.specs.ChunkCode.{dtype_of}
 
 -- a number of a type's bytes in a lane

@@ -1,5 +1,5 @@
 -- The code of a load does what the load does over the lanes of the chunk.
-use Rattle.std.proofs.Common.{◌≡◌, ℕ, ◌+◌, ◌%◌, ◌^◌, ◌<◌, ◌≤◌, ℤ, pos, ◌+ℤ◌, Bool, true, false, ◌&&◌, cond, List, [], ◌∷◌, length, Option, Some, None, Result, Ok, Err, refl, sym, ap, ap₂, ◌∙◌, subst, arith, inl, get_or-set_same, get_or-set_other}
+use Rattle.std.proofs.Common.{◌≡◌, ℕ, ◌+◌, ◌%◌, ◌^◌, ◌<◌, ◌≤◌, ℤ, pos, ◌+ℤ◌, Bool, true, false, ◌&&◌, cond, List, [], ◌∷◌, length, Option, Some, None, Result, Ok, Err, refl, sym, ap, ap₂, ◌∙◌, subst, arith, inl, get_or-set_same}
 use Rattle.std.specs.Prelude.{is_some, slice_index, if◌then◌else◌}
 use Rattle.std.proofs.lemmas.Bool.{ne_eqb, and_parts}
 use Rattle.std.proofs.Math.Nat.{zero-mod}
@@ -21,17 +21,16 @@ use Rattle.machine_model.specs.InstructionTable.{Vector}
 use Rattle.machine_model.specs.Machine.{State, Step, x_at, x_or_sp, z_at, with_z, p_at, next}
 use Rattle.machine_model.specs.States.{IsState}
 use Rattle.machine_model.specs.VectorEffects.{do_vector, after_load}
-use Rattle.machine_model.proofs.States.{load_put}
+use Rattle.machine_model.proofs.StateSteps.{load_put}
 use Rattle.label_fix.specs.DraftRun.{Entry, Laid}
 use Rattle.label_fix.specs.Stretches.{Goes, Stops}
-use Rattle.label_fix.proofs.Steps.{put_goes, put_stops, chain, stop_after}
+use Rattle.label_fix.proofs.StretchSteps.{put_goes, put_stops, chain, stop_after}
 use Rattle.chunk_order.specs.Orders.{Lane, Lanes, Keeps, Act, Out, done, column}
 use Rattle.loop_form.specs.declared.loop_item.Source.TheVariants.{Outer}
 use Rattle.chunk_order.specs.Items.{nth_value, with_value, on_mask, load_effect}
 use Rattle.loop_form.specs.LoopItems.{Load}
 use Rattle.vector_order.specs.Items.{item_act}
 use Rattle.lane_emit.specs.Right.{IsOf}
-use Rattle.lane_emit.specs.Stretch.{OnlyZ}
 use Rattle.lane_emit.specs.ItemCode.{mask_register}
 use Rattle.lane_emit.proofs.Residues.{held, held-whole}
 use Rattle.lane_emit.proofs.Ranges.{wrap-is_of}
@@ -40,11 +39,12 @@ use Rattle.chunk_emit.specs.ChunkCode.{index_of, dtype_of, load_word, op_words, 
 use Rattle.chunk_emit.specs.Chunk.{Setting, count_of, Holds}
 use Rattle.chunk_emit.specs.Fits.{Assigned, FitsMask, MakesValue, IsNear}
 use Rattle.chunk_emit.specs.ItemsRun.{Does, does_fine, does_fail}
-use Rattle.chunk_emit.proofs.Columns.{first_short, first_holds, lane_out, Own, OwnColumn, own_fine, own_fail, own_column}
-use Rattle.chunk_emit.proofs.States.{holds_on, mask_exact, inside, outside}
-use Rattle.chunk_emit.proofs.Pures.{value_moves}
+use Rattle.chunk_emit.proofs.ItemLanes.{first_short, first_holds, lane_out, Own, OwnColumn, own_fine, own_fail, own_column}
+use Rattle.chunk_emit.proofs.ChunkStates.{holds_on, mask_exact, inside, outside}
+use Rattle.chunk_emit.proofs.PureItems.{value_moves}
 use Rattle.chunk_emit.proofs.Indexes.{indexed, lane_place}
 use Rattle.chunk_emit.proofs.LoadForms.{IsForm, is_form, bytes_power}
+pub use Rattle.lane_emit.proofs.Stretches.{only_wrote}
 
 -- the value of a read in one lane: 0 outside its mask
 abbrev pub read_lane : Ty → Bool → ℕ → ℤ
@@ -60,7 +60,7 @@ read_does t q i s false None n = refl
 read_does t q i s false (Some fault) n = refl
 
 -- 0 is a value of each type
-zero_of : (t : Ty) → IsOf t (pos 0)
+pub zero_of : (t : Ty) → IsOf t (pos 0)
 zero_of ty.I8 = wrap-is_of ty.I8 (pos 0)
 zero_of ty.I16 = wrap-is_of ty.I16 (pos 0)
 zero_of ty.I32 = wrap-is_of ty.I32 (pos 0)
@@ -70,17 +70,14 @@ zero_of ty.U16 = wrap-is_of ty.U16 (pos 0)
 zero_of ty.U32 = wrap-is_of ty.U32 (pos 0)
 zero_of ty.U64 = wrap-is_of ty.U64 (pos 0)
 
-read_of : (t : Ty) (b : Bool) (n : ℕ) → IsOf t (read_lane t b n)
+pub read_of : (t : Ty) (b : Bool) (n : ℕ) → IsOf t (read_lane t b n)
 read_of t true n = wrap-is_of t (pos n)
 read_of t false n = zero_of t
 
 -- an element of a load
-lane_value : (t : Ty) (w : Width) (b : Bool) (v : ℕ) → IsForm t w → v < 2 ^ bits_of t → cond b (extended (load_form (dtype_of t w)) v) 0 % modulus w ≡ held w (read_lane t b v)
+pub lane_value : (t : Ty) (w : Width) (b : Bool) (v : ℕ) → IsForm t w → v < 2 ^ bits_of t → cond b (extended (load_form (dtype_of t w)) v) 0 % modulus w ≡ held w (read_lane t b v)
 lane_value t w true v form lt = ap (λ m. m % modulus w) (form.reads v lt) ∙ held-whole w (wrap t (pos v))
 lane_value t w false v form lt = zero-mod (modulus w) ∙ sym (zero-mod (2 ^ width_bits w))
-
-pub only_wrote : (d : ℕ) (s : State) (bytes : List ℕ) → OnlyZ d s (next (with_z s d bytes))
-only_wrote d s bytes = record { memory = refl; x = refl; sp = refl; flags = refl; z = λ n ne. get_or-set_other s.z d n bytes [] ne; p = refl; ffr = refl; vl = refl; stops = refl }
 
 -- words before code that does what it should
 pub does_after : {l : Layout} {f : Setting} {d : Laid} {c e rest : List Entry} {s u : State} {p m n : ℕ} {out : Out} (most : ℕ) → most ≡ m + n → Goes d c s e u m → Does l f d e u rest p n out → Does l f d c s rest p most out

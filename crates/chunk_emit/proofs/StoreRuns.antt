@@ -16,9 +16,9 @@ use Rattle.machine_model.specs.InstructionTable.{Vector}
 use Rattle.machine_model.specs.Machine.{State, x_at, x_or_sp, z_at, p_at, next}
 use Rattle.machine_model.specs.States.{IsState}
 use Rattle.machine_model.specs.VectorEffects.{do_vector, after_store}
-use Rattle.machine_model.proofs.States.{stored_memory, store_put}
+use Rattle.machine_model.proofs.StateSteps.{stored_memory, store_put}
 use Rattle.label_fix.specs.DraftRun.{Entry, Laid}
-use Rattle.label_fix.proofs.Steps.{put_goes, put_stops}
+use Rattle.label_fix.proofs.StretchSteps.{put_goes, put_stops}
 use Rattle.chunk_order.specs.Orders.{Lane, Lanes, Keeps, Writes, Act, Out, column}
 use Rattle.loop_form.specs.declared.loop_item.Source.{Source}
 use Rattle.loop_form.specs.declared.loop_item.Source.TheVariants.{Outer}
@@ -36,9 +36,9 @@ use Rattle.chunk_emit.specs.ChunkCode.{with_index, index_of, memory_size, store_
 use Rattle.chunk_emit.specs.Chunk.{Setting, chunk_of, count_of, Holds}
 use Rattle.chunk_emit.specs.Fits.{Assigned, FitsMask, FitsOperand, MakesNothing, IsNear}
 use Rattle.chunk_emit.specs.ItemsRun.{Does, does_fine, does_fail}
-use Rattle.chunk_emit.proofs.Columns.{store_short, StoreColumn, all_stored, store_stopped, store_column}
-use Rattle.chunk_emit.proofs.States.{Moves, holds_on, mask_exact, inside, outside, operand_right}
-use Rattle.chunk_emit.proofs.Pures.{sums_kept}
+use Rattle.chunk_emit.proofs.ItemLanes.{store_short, StoreColumn, all_stored, store_stopped, store_column}
+use Rattle.chunk_emit.proofs.ChunkStates.{Moves, holds_on, mask_exact, inside, outside, operand_right}
+use Rattle.chunk_emit.proofs.PureItems.{sums_kept}
 use Rattle.chunk_emit.proofs.Indexes.{indexed, lane_place}
 use Rattle.chunk_emit.proofs.Loads.{does_after}
 use Rattle.chunk_emit.proofs.StoredBits.{stored-held}

@@ -6,7 +6,7 @@ use lib.Arith.{mod-mul}
 use Rattle.guest_types.specs.declared.length.Width.{Width}
 use Rattle.guest_types.specs.declared.memory.AccessFault.{AccessFault}
 use Rattle.guest_types.specs.Length.{width_bits}
-use Rattle.guest_types.specs.Memory.{Memory, put_byte, put_number, after, can_write, first_fault, stored}
+use Rattle.guest_types.specs.Memory.{Memory, put_byte, put_number, next_address, can_write, first_fault, stored}
 use Rattle.guest_types.proofs.Shifts.{modulus-power}
 use Rattle.kernel_tree.specs.declared.ops.Ty.{Ty}
 use Rattle.kernel_tree.specs.Wrap.{bits_of}
@@ -23,7 +23,7 @@ put_number-low (suc n) m a u v h =
     let e : (u / 256 % 256 ^ n) * 256 + u % 256 ≡ (v / 256 % 256 ^ n) * 256 + v % 256 = sym (cut u) ∙ h ∙ cut v in
     let low : u % 256 ≡ v % 256 = omega (arith, e) in
     let high : u / 256 % 256 ^ n ≡ v / 256 % 256 ^ n = omega (arith, e) in
-    ap (λ b. put_number (put_byte m a b) (after a) n (u / 256)) low ∙ put_number-low n (put_byte m a (v % 256)) (after a) (u / 256) (v / 256) high
+    ap (λ b. put_number (put_byte m a b) (next_address a) n (u / 256)) low ∙ put_number-low n (put_byte m a (v % 256)) (next_address a) (u / 256) (v / 256) high
 
 stored-low : (m : Memory) (a n u v : ℕ) → u % 256 ^ n ≡ v % 256 ^ n → stored m a n u ≡ stored m a n v
 stored-low m a n u v h = ap (λ x. elim (first_fault (can_write m) a n) as (λ _. Result Memory AccessFault) [ None ↦ Ok x | Some fault ↦ Err (record { address = fault; write = true }) ]) (put_number-low n m a u v h)

@@ -7,6 +7,7 @@ use Rattle.guest_types.specs.Elements.{at}
 use Rattle.kernel_tree.specs.declared.ops.Ty.{Ty}
 use Rattle.kernel_tree.specs.declared.ops.UpdateOp.{UpdateOp}
 use Rattle.kernel_tree.specs.Wrap.{residue}
+use Rattle.kernel_tree.proofs.Names.{bytes_told, bytes_same}
 use Rattle.kernel_meaning.specs.Operators.{operator_of}
 use Rattle.machine_model.specs.Machine.{State, z_at}
 use Rattle.label_fix.specs.DraftRun.{Entry, Laid}
@@ -14,14 +15,12 @@ use Rattle.loop_form.specs.declared.loop_item.Source.{Source}
 use Rattle.loop_form.specs.LoopItems.{Op, Add}
 use Rattle.chunk_order.specs.Orders.{Share, Lane, Lanes, Act, Out, column}
 use Rattle.chunk_order.specs.Items.{source_value, on_mask}
-use Rattle.chunk_order.proofs.Sites.{bytes_told, bytes_same}
 use Rattle.vector_order.specs.Items.{item_act, with_share, share}
 use Rattle.lane_emit.specs.Right.{IsOf, within}
 use Rattle.lane_emit.specs.ItemCode.{operand, mask_of, mask_register}
 use Rattle.reductions.specs.Joins.{joined}
 use Rattle.reductions.specs.Folds.{after_all, AreOf, given_to, ShareAlike}
-use Rattle.reductions.specs.AccumulatorLanes as accumulators
-use Rattle.reductions.specs.AccumulatorLanes.{LanesHold, update_code, Updated}
+use Rattle.reductions.specs.AccumulatorLanes.{update_code, Updated}
 use Rattle.reductions.proofs.Orders.{after_of}
 use Rattle.reductions.proofs.Lanes.{update_taken}
 use Rattle.chunk_emit.specs.Registers.{Layout, z_of, p_of}
@@ -29,10 +28,11 @@ use Rattle.chunk_emit.specs.ChunkCode.{op_words, puts}
 use Rattle.chunk_emit.specs.Chunk.{Setting, chunk_of, count_of, sum_at, SumRight, Holds}
 use Rattle.chunk_emit.specs.Fits.{Assigned, FitsMask, FitsOperand, MakesNothing}
 use Rattle.chunk_emit.specs.ItemsRun.{Does, does_fine}
-use Rattle.chunk_emit.proofs.Puts.{do_goes}
-use Rattle.chunk_emit.proofs.Columns.{OwnColumn, own_fine}
-use Rattle.chunk_emit.proofs.States.{Moves, holds_on, mask_right, operand_right}
-use Rattle.chunk_emit.proofs.Pures.{sum_same, taken_same, pure_column}
+use Rattle.chunk_emit.proofs.DraftVectors.{do_goes}
+use Rattle.chunk_emit.proofs.ItemLanes.{OwnColumn, own_fine}
+use Rattle.chunk_emit.proofs.ChunkStates.{Moves, holds_on, mask_right, operand_right}
+use Rattle.chunk_emit.proofs.PureItems.{sum_same, taken_same, pure_column}
+use Rattle.reductions.specs.AccumulatorLanes as accumulators
 
 -- ---- shares
 

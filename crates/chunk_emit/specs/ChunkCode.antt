@@ -10,7 +10,7 @@ use Rattle.sve_code.specs.Table.{ld1, st1}
 use Rattle.machine_model.specs.InstructionTable.{Listed, Scalar, Vector}
 use Rattle.label_fix.specs.DraftRun.{Entry, Put}
 use Rattle.loop_form.specs.declared.loop_item.Source.{Source}
-use Rattle.loop_form.specs.declared.loop_item.Source.TheVariants.{Constant, Outer, Turn, Made}
+use Rattle.loop_form.specs.declared.loop_item.Source.TheVariants.{Constant, Outer, LoopIndex, Made}
 use Rattle.loop_form.specs.LoopItems.{Op, Load, Cast, Store, Add, Item}
 use Rattle.lane_emit.specs.Stretch.{Word, word}
 use Rattle.lane_emit.specs.LaneCode.{size_of}
@@ -100,7 +100,7 @@ abbrev pub is_made : ℕ → Source → Bool
 is_made q (Made r) = nat_eq q r
 is_made q (Constant t z) = false
 is_made q (Outer p) = false
-is_made q Turn = false
+is_made q LoopIndex = false
 
 -- The store after item q, where it takes the item's value and the item is a cast: it stores the cast's operand, since it keeps
 -- the low bytes alone.

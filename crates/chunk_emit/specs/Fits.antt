@@ -6,7 +6,7 @@ use Rattle.kernel_tree.specs.declared.ops.Ty.{Ty}
 use Rattle.kernel_tree.specs.Wrap.{bits_of}
 use Rattle.kernel_meaning.specs.Operators.{word, shift_count}
 use Rattle.loop_form.specs.declared.loop_item.Source.{Source}
-use Rattle.loop_form.specs.declared.loop_item.Source.TheVariants.{Constant, Outer, Turn, Made}
+use Rattle.loop_form.specs.declared.loop_item.Source.TheVariants.{Constant, Outer, LoopIndex, Made}
 use Rattle.chunk_order.specs.Items.{nth_value}
 use Rattle.loop_form.specs.LoopItems.{Op, Load, Apply, Combine, Move, Cast, Copy, Pick, Store, Add, Test, Invert, Same, Any, Item}
 use Rattle.chunk_emit.specs.Registers.{Layout, z_of, p_of, IsValueUsed, IsTruthUsed}
@@ -37,7 +37,7 @@ IsLive l q p = (q < p) × (p ≤ l.z_last_use q)
 abbrev pub FitsSource : Layout → ℕ → Ty → Source → Type 0
 FitsSource l p t (Constant s z) = (l.held (Constant s z) ≡ true) × (s ≡ Some t)
 FitsSource l p t (Outer x) = (l.held (Outer x) ≡ true) × (l.type (Outer x) ≡ t)
-FitsSource l p t Turn = (l.held Turn ≡ true) × (l.type Turn ≡ t)
+FitsSource l p t LoopIndex = (l.held LoopIndex ≡ true) × (l.type LoopIndex ≡ t)
 FitsSource l p t (Made q) = IsLive l q p × (l.type (Made q) ≡ t)
 
 -- the same of a type that is no wider than the lanes
@@ -55,7 +55,7 @@ FitsMask l p (Some q) = FitsTruth l p q
 abbrev pub FitsBase : Setting → Source → Type 0
 FitsBase f (Outer p) = (p < 8) × (slice_index f.x p ≡ word (nth_value f.names p))
 FitsBase f (Constant t z) = ⊥
-FitsBase f Turn = ⊥
+FitsBase f LoopIndex = ⊥
 FitsBase f (Made q) = ⊥
 
 -- an offset that one word adds

@@ -15,13 +15,13 @@ use Rattle.machine_model.specs.States.{IsState}
 use Rattle.reg_assign.specs.declared.interval.RegClass.TheVariants.{Z, P}
 use Rattle.reg_assign.specs.Registers.{Assignment}
 use Rattle.loop_form.specs.declared.loop_item.Source.{Source}
-use Rattle.loop_form.specs.declared.loop_item.Source.TheVariants.{Turn}
+use Rattle.loop_form.specs.declared.loop_item.Source.TheVariants.{LoopIndex}
 use Rattle.loop_form.specs.Lanes.{lane_width_of}
 use Rattle.loop_form.specs.Registers.{FitsKernel}
 use Rattle.dependence.specs.Apart.{bound_place}
 use Rattle.dependence.specs.Classes.{class_of}
 use Rattle.dependence.specs.declared.reason.Class.TheVariants.{Vector}
-use Rattle.chunk_order.specs.Apart.{Apart}
+use Rattle.chunk_order.specs.Apart.{StreamsApart}
 use Rattle.chunk_order.specs.Items.{nth_value, source_value}
 use Rattle.chunk_order.specs.Orders.{Lane}
 use Rattle.vector_order.specs.Order.{Steady}
@@ -67,7 +67,7 @@ pub record IsGround (g : Ground) : Type 0 where
   pub sound : check_fault g.kernel ≡ None
   pub loops : g.kernel.turns ≡ Some g.turns
   pub vector : class_of g.kernel ≡ Vector
-  pub apart : Apart g.kernel g.args
+  pub apart : StreamsApart g.kernel g.args
   pub begins : started g.kernel g.args g.start ≡ Some g.names
   pub z_fits : FitsKernel g.kernel Z g.vectors
   pub p_fits : FitsKernel g.kernel P g.predicates
@@ -107,9 +107,9 @@ pub record AtHead (g : Ground) (i : ℕ) (cur : Names) (m : Memory) (sum : List 
   pub index : x_at s 9 ≡ i
   pub x : (r : ℕ) → r ≤ 25 → r ≢ 9 → x_at s r ≡ slice_index g.x r
   pub all : PRight (width g) (most_lanes g) (p_at s 1) all_at
-  pub held : (x : Source) → (layout g).held x ≡ true → x ≢ Turn → HeldAll g s x
+  pub held : (x : Source) → (layout g).held x ≡ true → x ≢ LoopIndex → HeldAll g s x
   pub lanes : (x : List ℕ) → (layout g).updated x ≡ true → LanesHold ((layout g).update x) ((layout g).sum_type x) (width g) (most_lanes g) (z_at s ((layout g).sum x)) (sum x)
 
 -- the loop variable, where it has a register: the iterations of a chunk from iteration i on
-abbrev pub Turned : Ground → ℕ → State → Type 0
-Turned g i s = (layout g).held Turn ≡ true → ZRight (width g) (most_lanes g) (z_at s ((layout g).registers.source Turn)) (λ e. pos (i + e))
+abbrev pub IndexHeld : Ground → ℕ → State → Type 0
+IndexHeld g i s = (layout g).held LoopIndex ≡ true → ZRight (width g) (most_lanes g) (z_at s ((layout g).registers.source LoopIndex)) (λ e. pos (i + e))

@@ -12,7 +12,7 @@ use Rattle.reg_assign.specs.declared.interval.RegClass.{RegClass}
 use Rattle.reg_assign.specs.declared.interval.RegClass.TheVariants.{Z, P}
 use Rattle.reg_assign.specs.Registers.{Assignment}
 use Rattle.loop_form.specs.declared.loop_item.Source.{Source}
-use Rattle.loop_form.specs.declared.loop_item.Source.TheVariants.{Constant, Outer, Turn, Made}
+use Rattle.loop_form.specs.declared.loop_item.Source.TheVariants.{Constant, Outer, LoopIndex, Made}
 use Rattle.loop_form.specs.Entries.{Content, IsUpdate, Entry, entries_of, loop_entries, loop_start}
 use Rattle.loop_form.specs.Lanes.{var_type}
 use Rattle.loop_form.specs.Listing.{last_use_in}
@@ -65,7 +65,7 @@ update_of k x = operator_of (find (updates x) (loop_entries k))
 abbrev pub source_type : Program → Source → Ty
 source_type k (Constant t n) = unwrap_or t U64
 source_type k (Outer p) = scalar_type (slice_get k.params p)
-source_type k Turn = U64
+source_type k LoopIndex = U64
 source_type k (Made q) = unwrap_or (type_in (loop_items_of k) q) U64
 
 -- The layout of a kernel's loop, by the registers of its intervals of class Z and of class P. Each value has the register of

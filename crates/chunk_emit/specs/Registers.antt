@@ -3,7 +3,7 @@ use Rattle.std.specs.Prelude.{ℕ, ◌<◌, Bool, List, nat_lt, if◌then◌else
 use Rattle.kernel_tree.specs.declared.ops.Ty.{Ty}
 use Rattle.kernel_tree.specs.declared.ops.UpdateOp.{UpdateOp}
 use Rattle.loop_form.specs.declared.loop_item.Source.{Source}
-use Rattle.loop_form.specs.declared.loop_item.Source.TheVariants.{Constant, Outer, Turn, Made}
+use Rattle.loop_form.specs.declared.loop_item.Source.TheVariants.{Constant, Outer, LoopIndex, Made}
 use Rattle.loop_form.specs.LoopItems.{Op}
 use Rattle.lane_emit.specs.ItemCode.{Registers, makes_truth}
 
@@ -43,5 +43,5 @@ is_used l op q = nat_lt q (if makes_truth op then l.p_last_use q else l.z_last_u
 abbrev pub base_of : Source → ℕ
 base_of (Outer p) = p
 base_of (Constant t z) = 0
-base_of Turn = 0
+base_of LoopIndex = 0
 base_of (Made q) = 0

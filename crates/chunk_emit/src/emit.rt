@@ -4,7 +4,7 @@ ghost use Rattle.std.specs.Prelude.{◌≡◌, ◌<◌, ◌≤◌, List, [], ◌
 ghost use Rattle.machine_model.specs.InstructionTable.{Listed, Vector};
 ghost use Rattle.label_fix.specs.DraftRun as plain;
 ghost use Rattle.loop_form.specs.LoopView.{op_of, view_of};
-ghost use Rattle.sve_code.specs.View.{seen};
+ghost use Rattle.sve_code.specs.View.{instruction_view};
 ghost use Rattle.lane_emit.specs.ItemCode as lane;
 ghost use Rattle.lane_emit.specs.LaneCode.{size_of};
 ghost use Rattle.lane_emit.specs.View.{words_of};

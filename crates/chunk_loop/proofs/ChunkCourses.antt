@@ -17,7 +17,7 @@ use Rattle.vector_order.proofs.OrderLaw.{vector_order}
 use Rattle.chunk_emit.specs.Head.{Ground, IsGround, most_lanes, limit}
 use Rattle.first_fault.specs.Region.{lane_left, region_way}
 use Rattle.first_fault.specs.Split.{region_of, rest_of}
-use Rattle.first_fault.proofs.Rests.{way_is_run}
+use Rattle.first_fault.proofs.RestHolds.{way_is_run}
 use Rattle.first_fault.proofs.Splits.{region_splits}
 use Rattle.chunk_loop.specs.Chunks.{items_of}
 use Rattle.chunk_loop.proofs.ChunkClear.{clear_of_chunk}

@@ -5,13 +5,13 @@ use Rattle.std.specs.List.{list_any}
 use Rattle.kernel_tree.specs.Typing.{var_scope}
 use Rattle.kernel_meaning.specs.Ends.{LoopState, Going, Left, Failed}
 use Rattle.kernel_meaning.specs.Eval.{Names, value_at, is_named}
-use Rattle.kernel_meaning.specs.ScalarRun.{course}
+use Rattle.kernel_meaning.specs.ScalarRun.{iterations}
+use Rattle.kernel_meaning.proofs.Started.{started_names}
 use Rattle.chunk_order.specs.Orders.{Lanes, Fine, by_item}
-use Rattle.chunk_order.proofs.Sites.{started_names}
 use Rattle.vector_order.specs.Items.{acts_of}
 use Rattle.vector_order.specs.Shares.{apply_lanes}
 use Rattle.vector_order.specs.Order.{is_accumulator, Steady, EndsAlike, SameChunk}
-use Rattle.vector_order.proofs.Heads.{started_accs, steady_accs}
+use Rattle.vector_order.proofs.LoopHead.{started_accs, steady_accs}
 use Rattle.reductions.specs.Folds.{after_all, given_to}
 use Rattle.lane_emit.specs.Right.{IsOf}
 use Rattle.reductions.specs.Joins.{joined}
@@ -67,12 +67,12 @@ module _ (g : Ground) (f : Setting) (i k : ℕ) (cur : Names) (sum : List ℕ �
 
 pub fine_is_done : FineIsDone
 fine_is_done g f i k cur sum t out is between set chunk done given =
-    by (course (var_scope g.kernel) g.turns k i t.memory cur) refl (subst (EndsAlike g.kernel g.names cur i k (course (var_scope g.kernel) g.turns k i t.memory cur)) done (same.same t chunk.fresh))
+    by (iterations (var_scope g.kernel) g.turns k i t.memory cur) refl (subst (EndsAlike g.kernel g.names cur i k (iterations (var_scope g.kernel) g.turns k i t.memory cur)) done (same.same t chunk.fresh))
   where
     same : SameChunk g.kernel g.turns g.args g.names cur i k
     same = chunk_same g i k cur is between.steady chunk.few chunk.within
 
-    by : (r : LoopState Names) → course (var_scope g.kernel) g.turns k i t.memory cur ≡ r → EndsAlike g.kernel g.names cur i k r (Fine out) → Done g f i k cur t.memory out
+    by : (r : LoopState Names) → iterations (var_scope g.kernel) g.turns k i t.memory cur ≡ r → EndsAlike g.kernel g.names cur i k r (Fine out) → Done g f i k cur t.memory out
     by (Going m ns) e h = record { names = ns; goes = e ∙ ap (λ m. Going m ns) (sym h.0); between = between_after g f i k cur sum t out is between set chunk done ns h.1 h.2 given }
     by (Left m ns j) e h = elim h [ ]
     by (Failed m j) e h = elim h [ ]

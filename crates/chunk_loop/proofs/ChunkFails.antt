@@ -6,7 +6,7 @@ use Rattle.kernel_meaning.specs.Ends.{LoopState, Going, Left, Failed}
 use Rattle.kernel_meaning.specs.Eval.{Names}
 use Rattle.kernel_meaning.specs.Iterate.{iterate}
 use Rattle.kernel_meaning.specs.ScalarRun as run
-use Rattle.kernel_meaning.specs.ScalarRun.{course}
+use Rattle.kernel_meaning.specs.ScalarRun.{iterations}
 use Rattle.chunk_order.specs.Orders.{Lanes, Fail, by_item, memory_of}
 use Rattle.vector_order.specs.Items.{acts_of}
 use Rattle.vector_order.specs.Fates.{fate, SameEnd}
@@ -41,12 +41,12 @@ none_breaks g i k cur t is steady few within fresh on b =
     (subst (λ m. Breaks (iterate (var_scope g.kernel) g.turns at m b.names)) (sym before.memory) b.breaks)
 
 pub fail_is_fault : FailIsFault
-fail_is_fault g i k cur sum t left is between chunk on e = by (course (var_scope g.kernel) g.turns k i t.memory cur) refl (subst (EndsAlike g.kernel g.names cur i k (course (var_scope g.kernel) g.turns k i t.memory cur)) e (same.same t chunk.fresh))
+fail_is_fault g i k cur sum t left is between chunk on e = by (iterations (var_scope g.kernel) g.turns k i t.memory cur) refl (subst (EndsAlike g.kernel g.names cur i k (iterations (var_scope g.kernel) g.turns k i t.memory cur)) e (same.same t chunk.fresh))
   where
     same : SameChunk g.kernel g.turns g.args g.names cur i k
     same = chunk_same g i k cur is between.steady chunk.few chunk.within
 
-    by : (r : LoopState Names) → course (var_scope g.kernel) g.turns k i t.memory cur ≡ r → EndsAlike g.kernel g.names cur i k r (Fail left) → Failing g i k cur t.memory left
+    by : (r : LoopState Names) → iterations (var_scope g.kernel) g.turns k i t.memory cur ≡ r → EndsAlike g.kernel g.names cur i k r (Fail left) → Failing g i k cur t.memory left
     by (Going m ns) f h = elim h [ ]
     by (Failed m j) f h = record {
       j = j;

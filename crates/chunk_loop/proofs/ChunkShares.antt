@@ -8,6 +8,7 @@ use Rattle.guest_types.specs.declared.memory.AccessFault.{AccessFault}
 use Rattle.guest_types.specs.Memory.{Memory, stored}
 use Rattle.kernel_tree.specs.declared.ops.Ty.{Ty}
 use Rattle.kernel_tree.specs.Plain.{Program}
+use Rattle.kernel_tree.proofs.Names.{bytes_told}
 use Rattle.kernel_meaning.specs.Operators.{binary_value}
 use Rattle.kernel_meaning.specs.Eval.{Named, Names, value_of, is_named, value_at}
 use Rattle.kernel_meaning.specs.Iterate.{named, assigned}
@@ -16,7 +17,6 @@ use Rattle.chunk_order.specs.Orders.{Share, Lane, Lanes, Effect, Halts, Keeps, W
 use Rattle.chunk_order.specs.Items.{on_mask, with_value, load_effect, store_effect}
 use Rattle.chunk_order.proofs.Accesses.{or_false}
 use Rattle.chunk_order.proofs.Interchange.{lane_same, lane_other}
-use Rattle.chunk_order.proofs.Sites.{bytes_told}
 use Rattle.vector_order.specs.Items.{op_effect, item_act, acts_of, with_share}
 use Rattle.vector_order.specs.Shares.{apply_shares, apply_lanes}
 use Rattle.vector_order.specs.Order.{is_accumulator, Steady}
@@ -42,7 +42,7 @@ module _ (x : List ℕ) where
   load_nothing l q false o h = h
 
   store_nothing : (l : Lane) (on : Bool) (t : Option Ty) (base at v : ℤ) → GaveNothing l → NothingIn (if on then store_effect l t base at v else Keeps l)
-  store_nothing l true None base at v h = h
+  store_nothing l true None base at v h = tt
   store_nothing l true (Some t) base at v h = tt
   store_nothing l false t base at v h = h
 

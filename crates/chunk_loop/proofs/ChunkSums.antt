@@ -11,7 +11,7 @@ use Rattle.vector_order.specs.Shares.{apply_lanes}
 use Rattle.lane_emit.specs.Right.{IsOf}
 use Rattle.reductions.specs.Joins.{joined, identity, Joins}
 use Rattle.reductions.specs.Folds.{after_all, taken, together, AreOf, given_to, ShareAlike}
-use Rattle.reductions.proofs.Laws.{joins}
+use Rattle.reductions.proofs.JoinLaws.{joins}
 use Rattle.reductions.proofs.Orders.{after_of, taken_of, together_of, after_split, chunk_taken}
 use Rattle.reductions.proofs.Shares.{accumulator_law}
 

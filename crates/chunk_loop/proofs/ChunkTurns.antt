@@ -9,7 +9,7 @@ use Rattle.kernel_meaning.specs.Ends as ends
 use Rattle.kernel_meaning.specs.Ends.{BlockEnd, Next, Broke, Faulted, Going, Left}
 use Rattle.kernel_meaning.specs.Eval.{Names}
 use Rattle.kernel_meaning.specs.Iterate.{iterate}
-use Rattle.kernel_meaning.specs.ScalarRun.{course}
+use Rattle.kernel_meaning.specs.ScalarRun.{iterations}
 use Rattle.loop_form.specs.LoopItems.{Op, Load, Apply, Combine, Move, Cast, Copy, Pick, Store, Add, Test, Invert, Same, Any, Quit, Item}
 use Rattle.chunk_order.specs.Orders.{Lane, Effect, Halts, Keeps, Writes, Act}
 use Rattle.chunk_order.specs.Regions.{AllQuiet}
@@ -34,15 +34,15 @@ pub record BreaksAt (scope : Scope) (l : PlainLoop) (n i : ℕ) (m : Memory) (cu
   pub few : e < n
   pub memory : Memory
   pub names : Names
-  pub goes : course scope l e i m cur ≡ Going memory names
+  pub goes : iterations scope l e i m cur ≡ Going memory names
   pub breaks : Breaks (iterate scope l (i + e) memory names)
 
-pub breaks_at : (scope : Scope) (l : PlainLoop) (n i : ℕ) (m after : Memory) (cur names : Names) (j : ℕ) → course scope l n i m cur ≡ Left after names j → BreaksAt scope l n i m cur
-unfolding course
+pub breaks_at : (scope : Scope) (l : PlainLoop) (n i : ℕ) (m after : Memory) (cur names : Names) (j : ℕ) → iterations scope l n i m cur ≡ Left after names j → BreaksAt scope l n i m cur
+unfolding iterations
 breaks_at scope l zero i m after cur names j e = absurd cc
 breaks_at scope l (suc n) i m after cur names j e = by (iterate scope l i m cur) refl e (λ a ns f. breaks_at scope l n (i + 1) a after ns names j f)
   where
-    by : (turn : BlockEnd Names) → iterate scope l i m cur ≡ turn → ends.go_on turn i (course scope l n (i + 1)) ≡ Left after names j → ((a : Memory) (ns : Names) → course scope l n (i + 1) a ns ≡ Left after names j → BreaksAt scope l n (i + 1) a ns) → BreaksAt scope l (suc n) i m cur
+    by : (turn : BlockEnd Names) → iterate scope l i m cur ≡ turn → ends.go_on turn i (iterations scope l n (i + 1)) ≡ Left after names j → ((a : Memory) (ns : Names) → iterations scope l n (i + 1) a ns ≡ Left after names j → BreaksAt scope l n (i + 1) a ns) → BreaksAt scope l (suc n) i m cur
     by (Next a ns) is f more =
         let r = more a ns f in
         let lt = r.few in
@@ -52,7 +52,7 @@ breaks_at scope l (suc n) i m after cur names j e = by (iterate scope l i m cur)
           few = omega (arith, lt);
           memory = r.memory;
           names = r.names;
-          goes = ap (λ turn. ends.go_on turn i (course scope l r.e (i + 1))) is ∙ r.goes;
+          goes = ap (λ turn. ends.go_on turn i (iterations scope l r.e (i + 1))) is ∙ r.goes;
           breaks = subst (λ at. Breaks (iterate scope l at r.memory r.names)) place r.breaks;
         }
     by (Broke a ns) is f more =

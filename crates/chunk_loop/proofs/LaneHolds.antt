@@ -1,5 +1,5 @@
 -- The state before a pass holds the lanes of a chunk.
-use Rattle.std.proofs.Common.{◌≡◌, ◌≢◌, ℕ, zero, suc, ◌+◌, ◌-◌, ◌*◌, ◌<◌, ◌≤◌, ℤ, pos, Bool, true, false, ◌&&◌, ltb, List, [], ◌∷◌, length, map, Option, Some, None, refl, sym, ap, ◌∙◌, subst, arith}
+use Rattle.std.proofs.Common.{◌≡◌, ◌≢◌, ℕ, ◌+◌, ◌-◌, ◌*◌, ◌<◌, ◌≤◌, ℤ, pos, Bool, true, false, ◌&&◌, ltb, List, [], map, Option, Some, None, refl, sym, ap, ◌∙◌, subst, arith}
 use Rattle.std.specs.Prelude.{nat_lt, slice_index, if◌then◌else◌}
 use Rattle.guest_types.specs.Length.{width_bits, width_bytes, all_lanes}
 use Rattle.guest_types.specs.Elements.{at, active}
@@ -7,38 +7,32 @@ use Rattle.guest_types.specs.EarlyLoads.{StopList}
 use Rattle.guest_types.specs.Memory.{Memory}
 use Rattle.guest_types.proofs.AtWidths.{lanes-bound}
 use Rattle.guest_types.proofs.Widths.{whole-register, lane-inside}
-use Rattle.kernel_tree.specs.declared.ops.Ty.{Ty}
-use Rattle.kernel_tree.specs.Plain.{Parameter, PlainLoop, Program}
+use Rattle.kernel_tree.specs.Plain.{PlainLoop, Program}
 use Rattle.kernel_tree.specs.Wrap.{residue}
 use Rattle.kernel_meaning.specs.Eval.{Names}
 use Rattle.machine_model.specs.Machine.{State, z_at, p_at}
 use Rattle.reg_assign.specs.declared.interval.RegClass.TheVariants.{Z, P}
 use Rattle.loop_form.specs.declared.loop_item.Source.{Source}
-use Rattle.loop_form.specs.declared.loop_item.Source.TheVariants.{Constant, Outer, Turn, Made}
+use Rattle.loop_form.specs.declared.loop_item.Source.TheVariants.{Constant, Outer, LoopIndex, Made}
 use Rattle.loop_form.specs.Entries.{entries_of, turns_entries, loop_entries, loop_start}
 use Rattle.chunk_order.specs.Orders.{Lane, Lanes}
-use Rattle.chunk_order.specs.Apart.{type_of_place}
 use Rattle.chunk_order.specs.Items.{source_value}
 use Rattle.lane_emit.specs.Right.{IsOf, within}
 use Rattle.reductions.specs.Folds.{after_all, given_to}
-use Rattle.reductions.specs.AccumulatorLanes as accumulators
 use Rattle.chunk_emit.specs.KernelLayout.{last_in, item_last_use}
 use Rattle.chunk_emit.specs.LoopFits.{FitsSetting}
 use Rattle.chunk_emit.specs.Chunk.{Setting, HeldRight, IsTop, sum_at, SumRight, Holds}
-use Rattle.chunk_emit.specs.Head.{Ground, IsGround, AtHead, Turned, layout, width, most_lanes, limit}
+use Rattle.chunk_emit.specs.Head.{Ground, IsGround, AtHead, IndexHeld, layout, width, most_lanes, limit}
 use Rattle.chunk_emit.proofs.FitsTyped.{turn_typed}
-use Rattle.first_fault.proofs.Bits.{top_active}
+use Rattle.first_fault.proofs.PrefixBits.{top_active}
 use Rattle.chunk_loop.specs.Chunks.{IsSetting, IsChunk}
 use Rattle.chunk_loop.proofs.LaneHeads.{limit_below}
+use Rattle.reductions.specs.AccumulatorLanes as accumulators
+use Rattle.chunk_emit.proofs.FitsBases.{place_within}
 
 -- the setting of n lanes from iteration i on
 abbrev pub setting : Ground → (i n : ℕ) → (List ℕ → ℕ → ℤ) → (x : List ℕ) → StopList → Setting
 setting g i n sum x stops = record { w = width g; names = g.names; i = i; n = n; vl = g.vl; stops = stops; x = x; sum = sum }
-
-place_within : (ps : List Parameter) (p : ℕ) (t : Ty) → type_of_place ps p ≡ Some t → p < length ps
-place_within [] p t e = absurd cc
-place_within (q ∷ ps) zero t e = omega arith
-place_within (q ∷ ps) (suc p) t e = let r = place_within ps p t e in omega (arith, r)
 
 -- the addresses of arrays are in the registers of their parameters
 pub fits_setting : (g : Ground) {i : ℕ} {cur : Names} {m : Memory} {sum : List ℕ → ℕ → ℤ} {s : State} (n : ℕ) (stops : StopList) → IsGround g → AtHead g i cur m sum s → FitsSetting g.kernel (setting g i n sum s.x stops)
@@ -65,20 +59,20 @@ is_chunk g i n m few within = record { few = few; within = within; fresh = λ j 
 -- ---- values from before the loop
 
 -- that of any operand but the loop variable is the same in all lanes
-pub outer_same : (names : Names) (i j : ℕ) (a : Lane) (x : Source) → x ≢ Turn → source_value names i a x ≡ source_value names j a x
+pub outer_same : (names : Names) (i j : ℕ) (a : Lane) (x : Source) → x ≢ LoopIndex → source_value names i a x ≡ source_value names j a x
 outer_same names i j a (Constant t z) ne = refl
 outer_same names i j a (Outer p) ne = refl
-outer_same names i j a Turn ne = absurd (ne refl)
+outer_same names i j a LoopIndex ne = absurd (ne refl)
 outer_same names i j a (Made q) ne = refl
 
 pub data IsTurn (x : Source) : Type 0 where
-  is_turn : x ≡ Turn → IsTurn x
-  no_turn : x ≢ Turn → IsTurn x
+  is_turn : x ≡ LoopIndex → IsTurn x
+  no_turn : x ≢ LoopIndex → IsTurn x
 
 pub turn_or_not : (x : Source) → IsTurn x
 turn_or_not (Constant t z) = no_turn (λ e. cc)
 turn_or_not (Outer p) = no_turn (λ e. cc)
-turn_or_not Turn = is_turn refl
+turn_or_not LoopIndex = is_turn refl
 turn_or_not (Made q) = no_turn (λ e. cc)
 
 -- ---- P0
@@ -120,14 +114,14 @@ no_truth_before k q lt =
     let place : q - loop_start k ≡ 0 = omega (arith, lt) in
     ap (slice_index (map (last_in P (entries_of k)) (loop_entries k))) place ∙ first_truth k
 
-module _ (g : Ground) {i : ℕ} {cur : Names} {m : Memory} {sum : List ℕ → ℕ → ℤ} {s : State} (n : ℕ) (ground : IsGround g) (h : AtHead g i cur m sum s) (turned : Turned g i s) (few : n ≤ most_lanes g) (within : i + n ≤ limit g) where
-  held_turn : (layout g).held Turn ≡ true → HeldRight (layout g) (setting g i n sum s.x s.stops) s Turn
+module _ (g : Ground) {i : ℕ} {cur : Names} {m : Memory} {sum : List ℕ → ℕ → ℤ} {s : State} (n : ℕ) (ground : IsGround g) (h : AtHead g i cur m sum s) (turned : IndexHeld g i s) (few : n ≤ most_lanes g) (within : i + n ≤ limit g) where
+  held_turn : (layout g).held LoopIndex ≡ true → HeldRight (layout g) (setting g i n sum s.x s.stops) s LoopIndex
   held_turn is = record {
     right = λ a. turned is;
     typed = λ a e lt. turn_typed g.names (i + e) a (omega (arith, lt, within, limit_below ground h));
   }
 
-  held_other : (x : Source) → (layout g).held x ≡ true → x ≢ Turn → HeldRight (layout g) (setting g i n sum s.x s.stops) s x
+  held_other : (x : Source) → (layout g).held x ≡ true → x ≢ LoopIndex → HeldRight (layout g) (setting g i n sum s.x s.stops) s x
   held_other x is ne =
       let old = h.held x is ne in
       record {

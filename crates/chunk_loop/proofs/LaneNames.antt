@@ -2,19 +2,20 @@
 use Rattle.std.proofs.Common.{◌≡◌, ℕ, ◌+◌, ℤ, Bool, true, false, cond, List, [], ◌∷◌, ◌++◌, map, Option, Some, None, refl, sym, ap, ◌∙◌, subst}
 use Rattle.std.specs.Prelude.{bytes_eq, find, option_map, option_and_then}
 use Rattle.kernel_tree.specs.declared.ops.Ty.{Ty}
-use Rattle.kernel_tree.specs.declared.ops.Ty.TheVariants as ty
 use Rattle.kernel_tree.specs.declared.fault.Binding.{Binding}
-use Rattle.kernel_tree.specs.declared.fault.Binding.TheVariants as binding
 use Rattle.kernel_tree.specs.declared.fault.Found.{Found}
 use Rattle.kernel_tree.specs.Plain.{Term, Literal, Variable, Element, Unary, Operation, Shift, Conversion, Choice, Comparison, Both, Either, Not, Action, Define, Put, Update, Choose, Leave, Block, Done, Then, Otherwise, Nothing, Else, PlainLoop, Program}
 use Rattle.kernel_tree.specs.Items.{term_size, stream_offset, index_items, loop_index}
-use Rattle.kernel_tree.specs.Typing.{Scope, Local, Role, Value, Condition, wanted, own, first, index_type, side_type, local, has_name, binding_of, lookup, defined, left, after_action, after_block, empty, param_scope, var_scope, in_loop, is_taken, twice, element_type, accumulator_type, as_value, as_condition, mismatch, name_faults, untyped, inner_faults, faults, target_faults, update_faults, bound_faults, action_faults, block_faults, otherwise_faults, check_fault, inner_types, term_types, action_types, block_types, otherwise_types, turns_types}
+use Rattle.kernel_tree.specs.Typing.{Scope, Local, Role, Value, Condition, wanted, own, first, index_type, side_type, local, has_name, binding_of, lookup, defined, left, after_action, after_block, var_scope, in_loop, twice, element_type, accumulator_type, as_value, as_condition, mismatch, name_faults, untyped, inner_faults, faults, target_faults, update_faults, action_faults, block_faults, otherwise_faults, check_fault, inner_types, term_types, action_types, block_types, otherwise_types, turns_types}
 use Rattle.loop_form.specs.Entries.{Entry, inner_entries, term_entries, action_entries, block_entries, otherwise_entries, turns_entries, loop_entries, loop_start}
 use Rattle.loop_form.specs.Listing.{names}
-use Rattle.chunk_order.proofs.Blocks.{nil-left, nil-right}
-use Rattle.chunk_order.proofs.Sites.{locals_of, accs_of, var_visible, bytes_told, bytes_same, params_untaken, vars_untaken, untaken_by_twice, NoName}
-use Rattle.chunk_order.proofs.OrderLaw.{turns_from, turns_faultless, scope_index}
-use Rattle.chunk_emit.proofs.FitsTypes.{type_of, action_index, loop_types}
+use Rattle.kernel_tree.proofs.Faultless.{nil-left, nil-right, turns_from, body_faultless}
+use Rattle.kernel_tree.proofs.Scopes.{scope_index, index_after}
+use Rattle.kernel_tree.proofs.Names.{bytes_told, bytes_same, NoName, index_alone}
+use Rattle.kernel_tree.proofs.NoFault.{no_mismatch}
+use Rattle.loop_form.proofs.ItemTypes.{type_of, loop_types}
+use Rattle.kernel_tree.specs.declared.ops.Ty.TheVariants as ty
+use Rattle.kernel_tree.specs.declared.fault.Binding.TheVariants as binding
 
 -- of items and their types: each that names x is of type u64
 abbrev pub Typed : List ℕ → List Entry → List (Option Ty) → Type 0
@@ -65,21 +66,11 @@ update_wants item (Some (binding.Array t)) e = absurd cc
 update_wants item (Some (binding.Value t)) e = absurd cc
 update_wants item (Some binding.Index) e = absurd cc
 
-same_type : (item : ℕ) (t : Ty) → mismatch item (Some t) ty.U64 ≡ [] → t ≡ ty.U64
-same_type item ty.U64 e = refl
-same_type item ty.I8 e = absurd cc
-same_type item ty.I16 e = absurd cc
-same_type item ty.I32 e = absurd cc
-same_type item ty.I64 e = absurd cc
-same_type item ty.U8 e = absurd cc
-same_type item ty.U16 e = absurd cc
-same_type item ty.U32 e = absurd cc
-
 -- the name itself
 name_wanted : (item : ℕ) (role : Role) (o : Option Binding) → Wants role → as_value item role ≡ [] → name_faults item (wanted role) o ≡ [] → o ≡ Some binding.Index → wanted role ≡ Some ty.U64
 name_wanted item Condition o w e f is = absurd cc
 name_wanted item (Value None) o w e f is = absurd w
-name_wanted item (Value (Some t)) o w e f is = ap Some (same_type item t (ap (name_faults item (Some t)) (sym is) ∙ f))
+name_wanted item (Value (Some t)) o w e f is = ap Some (no_mismatch item t ty.U64 (ap (name_faults item (Some t)) (sym is) ∙ f))
 
 -- ---- the variable stays visible
 
@@ -193,17 +184,13 @@ module _ (k : Program) (x : List ℕ) where
     block_typed : (b : Block) (s : Scope) (from f : ℕ) → s.index ≡ loop_index k → lookup s x ≡ Some binding.Index → block_faults s from b ≡ [] → Typed x (block_entries k f b) (block_types s b)
     block_typed Done s from f q sees h = tt
     block_typed (Then a b) s from f q sees h =
-        on x _ _ _ _ (action_typed a s from f q sees (nil-left _ _ h)) (block_typed b (after_action s a) _ _ (action_index k a s ∙ q) (action_sees s x a sees) (nil-right (action_faults s from a) _ h))
+        on x _ _ _ _ (action_typed a s from f q sees (nil-left _ _ h)) (block_typed b (after_action s a) _ _ (index_after s a ∙ q) (action_sees s x a sees) (nil-right (action_faults s from a) _ h))
 
     otherwise_typed : (d : Otherwise) (s : Scope) (from f end : ℕ) → s.index ≡ loop_index k → lookup s x ≡ Some binding.Index → otherwise_faults s from d ≡ [] → Typed x (otherwise_entries k f end d) (otherwise_types s d)
     otherwise_typed Nothing s from f end q sees h = tt
     otherwise_typed (Else b) s from f end q sees h = (λ named. absurd cc, block_typed b s _ _ q sees h)
 
 -- ---- the loop
-
-no_name_both : (x : List ℕ) (xs ys : List Local) → NoName x xs → NoName x ys → NoName x (xs ++ ys)
-no_name_both x [] ys h k = k
-no_name_both x (v ∷ xs) ys h k = (h.0, no_name_both x xs ys h.1 k)
 
 -- each item that names x is of type u64
 abbrev pub AreTyped : List ℕ → List Entry → Type 0
@@ -219,14 +206,7 @@ paired x (y ∷ es) (t ∷ ts) h e = let here : y.type ≡ t = cc in let more : 
 pub index_typed : (k : Program) (l : PlainLoop) → check_fault k ≡ None → k.turns ≡ Some l → AreTyped l.index (loop_entries k)
 index_typed k l checked loop =
     let scope = var_scope k in
-    let turns = turns_faultless k l checked loop in
-    let rest = nil-right (bound_faults (turns_from k) (lookup scope l.bound)) _ turns in
-    let free : is_taken scope l.index ≡ false = untaken_by_twice (is_taken scope l.index) _ (nil-left (twice (turns_from k) scope l.index) _ rest) in
-    let body : block_faults (in_loop scope l) (turns_from k + 1) l.body ≡ [] = nil-right (twice (turns_from k) scope l.index) _ rest in
-    let vars = vars_untaken l.index k.vars (param_scope k) free in
-    let params = params_untaken l.index k.params (empty (loop_index k)) vars.0 in
-    let alone : NoName l.index scope.visible = subst (NoName l.index) (sym (var_visible k)) (no_name_both l.index (locals_of k.params) (accs_of k.vars) params.1 vars.1) in
-    let here : Typed l.index (block_entries k (loop_start k + 1) l.body) (block_types (in_loop scope l) l.body) = block_typed k l.index l.body (in_loop scope l) (turns_from k + 1) (loop_start k + 1) (scope_index k) (find_last l.index scope.visible alone) body in
+    let here : Typed l.index (block_entries k (loop_start k + 1) l.body) (block_types (in_loop scope l) l.body) = block_typed k l.index l.body (in_loop scope l) (turns_from k + 1) (loop_start k + 1) (scope_index k) (find_last l.index scope.visible (index_alone k l checked loop).visible) (body_faultless k l checked loop) in
     paired l.index (loop_entries k) (turns_types scope (Some l))
     (subst (λ (o : Option PlainLoop). Typed l.index (turns_entries k (loop_start k) o) (turns_types scope (Some l))) (sym loop) (λ e. absurd cc, here))
     (loop_types k ∙ ap (turns_types scope) loop)

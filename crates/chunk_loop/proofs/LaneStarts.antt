@@ -7,14 +7,14 @@ use Rattle.guest_types.specs.Memory.{Memory}
 use Rattle.kernel_meaning.specs.Eval.{Names}
 use Rattle.machine_model.specs.Machine.{State, x_at, p_at, with_x, next}
 use Rattle.machine_model.specs.States.{IsState}
-use Rattle.machine_model.proofs.States.{x_put}
+use Rattle.machine_model.proofs.StateSteps.{x_put}
 use Rattle.label_fix.specs.DraftRun.{Entry, Put, Laid}
 use Rattle.label_fix.specs.Stretches.{Leads}
 use Rattle.dependence.specs.Apart.{bound_place}
 use Rattle.chunk_emit.specs.ChunkCode.{puts}
 use Rattle.chunk_emit.specs.Chunk.{IsTop}
 use Rattle.chunk_emit.specs.Fits.{Assigned}
-use Rattle.chunk_emit.specs.Head.{Ground, IsGround, AtHead, Turned, layout, width, most_lanes, limit}
+use Rattle.chunk_emit.specs.Head.{Ground, IsGround, AtHead, IndexHeld, layout, width, most_lanes, limit}
 use Rattle.chunk_emit.proofs.FitsAssigned.{assigned_of}
 use Rattle.first_fault.proofs.Stretches.{follow}
 use Rattle.chunk_loop.specs.PassCode.{lanes_word, first_lane_words, index_words}
@@ -30,7 +30,7 @@ pub record Begun (g : Ground) (i n : ℕ) (d : Laid) (code rest : List Entry) (c
   pub leads : Leads d code s rest end words
   pub head : AtHead g i cur m sum end
   pub top : IsTop (width g) n (p_at end 0)
-  pub turned : Turned g i end
+  pub turned : IndexHeld g i end
 
 pub assigned_in : (g : Ground) → IsGround g → Assigned (layout g)
 assigned_in g ground = assigned_of g.kernel g.vectors g.predicates ground.z_fits ground.p_fits
@@ -66,7 +66,7 @@ module _ (g : Ground) (ground : IsGround g) {i : ℕ} {cur : Names} {m : Memory}
       record { end = t.end; leads = follow (1 + length (index_words (layout g))) (omega arith) (lanes_lead (width g) (bound_place g.kernel) s) t.leads; head = t.head; top = t.top; turned = t.turned }
 
   -- lane 0 alone
-  pub turn_begun : (s : State) → 1 ≤ most_lanes g → AtHead g i cur m sum s → Turned g i s → Begun g i 1 d (puts (first_lane_words (width g)) rest) rest cur m sum s 2
+  pub turn_begun : (s : State) → 1 ≤ most_lanes g → AtHead g i cur m sum s → IndexHeld g i s → Begun g i 1 d (puts (first_lane_words (width g)) rest) rest cur m sum s 2
   turn_begun s some h turned =
       let t = next (with_x s 26 1) in
       let truth = while_at (x_at t 31) (x_at t 26) in

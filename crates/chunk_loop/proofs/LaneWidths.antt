@@ -8,7 +8,6 @@ use Rattle.guest_types.specs.declared.length.Width.{Width}
 use Rattle.guest_types.specs.declared.length.Width.TheVariants.{B, H, S, D}
 use Rattle.guest_types.specs.Length.{width_bits}
 use Rattle.kernel_tree.specs.declared.ops.Ty.{Ty}
-use Rattle.kernel_tree.specs.declared.ops.Ty.TheVariants as ty
 use Rattle.kernel_tree.specs.Plain.{Parameter, Accumulator, PlainLoop, Program}
 use Rattle.kernel_tree.specs.Items.{size_of, index_of, loop_index}
 use Rattle.kernel_tree.specs.Typing.{check_fault}
@@ -16,20 +15,22 @@ use Rattle.reg_assign.specs.declared.interval.Interval.{Interval}
 use Rattle.reg_assign.specs.declared.interval.RegClass.TheVariants.{Z}
 use Rattle.reg_assign.specs.Registers.{Assignment}
 use Rattle.loop_form.specs.declared.loop_item.Source.{Source}
-use Rattle.loop_form.specs.declared.loop_item.Source.TheVariants.{Constant, Outer, Turn, Made}
+use Rattle.loop_form.specs.declared.loop_item.Source.TheVariants.{Constant, Outer, LoopIndex, Made}
 use Rattle.loop_form.specs.Entries.{Content, IsLiteral, IsName, IsRead, IsLet, IsStore, IsUpdate, IsPlain, Entry, loop_entries}
 use Rattle.loop_form.specs.Lanes.{lane_width_of}
 use Rattle.loop_form.specs.Listing.{names}
-use Rattle.loop_form.specs.Needs as needs
-use Rattle.loop_form.specs.Needs.{Throughout, scalar_of, is_named_scalar, scalars, new_constant, constants, is_constant, index_held, accumulating_of, is_updated, throughout, intervals}
+use Rattle.loop_form.specs.Needs.{Throughout, scalar_of, is_named_scalar, scalars, new_constant, constants, is_constant, index_held, accumulating_of, is_updated, throughout}
 use Rattle.loop_form.specs.Registers.{FitsKernel}
-use Rattle.loop_form.proofs.Limits.{vars-small}
+use Rattle.loop_form.proofs.FewItems.{vars-small}
 use Rattle.loop_form.proofs.IntervalLaws.{throughout-few}
-use Rattle.chunk_emit.specs.KernelLayout.{register_of, throughout_of, is_same, next_place, place_in, place_of_one, held_place, source_register}
-use Rattle.chunk_emit.proofs.FitsIntervals.{Chosen, chosen_of, throughout-place}
-use Rattle.chunk_emit.proofs.FitsAssigned.{Stands, stands}
-use Rattle.chunk_emit.proofs.FitsWidths.{AreWide, loop_wide}
+use Rattle.loop_form.proofs.IntervalRegisters.{Chosen, chosen_of}
+use Rattle.loop_form.proofs.PlaceLaws.{throughout-place}
+use Rattle.loop_form.proofs.ItemWidths.{AreWide, loop_wide}
+use Rattle.chunk_emit.specs.KernelLayout.{register_of, throughout_of, is_same, next_place, place_in, held_place, source_register}
+use Rattle.chunk_emit.proofs.FitsAssigned.{Stands, stands, of_one, there, some_same as same_it}
 use Rattle.chunk_loop.proofs.LaneNames.{AreTyped, index_typed}
+use Rattle.kernel_tree.specs.declared.ops.Ty.TheVariants as ty
+use Rattle.loop_form.specs.Needs as needs
 
 -- ---- doublewords
 
@@ -99,7 +100,7 @@ index_named es x vs e = by (list_any (names x) es) e
     by true e = refl
     by false e = let none = no_accumulator vs in absurd cc
 
-turn_named : (k : Program) (x : List ℕ) → loop_index k ≡ Some x → is_some (held_place k Turn) ≡ true → list_any (names x) (loop_entries k) ≡ true
+turn_named : (k : Program) (x : List ℕ) → loop_index k ≡ Some x → is_some (held_place k LoopIndex) ≡ true → list_any (names x) (loop_entries k) ≡ true
 turn_named k x e held =
     let vs = filter (is_updated (loop_entries k)) k.vars in
     let one = place_any (throughout k Z) held in
@@ -122,36 +123,25 @@ only_doublewords H h = absurd (omega (arith, h))
 only_doublewords S h = absurd (omega (arith, h))
 
 -- where the loop variable has a register, the lanes are doublewords
-pub turn_wide : (k : Program) (l : PlainLoop) → check_fault k ≡ None → k.turns ≡ Some l → is_some (held_place k Turn) ≡ true → lane_width_of k ≡ D
+pub turn_wide : (k : Program) (l : PlainLoop) → check_fault k ≡ None → k.turns ≡ Some l → is_some (held_place k LoopIndex) ≡ true → lane_width_of k ≡ D
 turn_wide k l checked loop held =
     let index : loop_index k ≡ Some l.index = ap (option_map index_of) loop in
     only_doublewords (lane_width_of k) (any_wide k (lane_width_of k) l.index (loop_entries k) (loop_wide k) (index_typed k l checked loop) (turn_named k l.index index held))
 
 -- ---- a register of its own
 
-there : (o : Option ℕ) → is_some o ≡ true → (m : ℕ) × (o ≡ Some m)
-there None e = absurd cc
-there (Some m) e = (m, refl)
-
-of_one : (ts : List Throughout) (o : Option Throughout) (m : ℕ) → place_of_one ts o ≡ Some m → (t : Throughout) × (o ≡ Some t) × (place_in t ts ≡ Some m)
-of_one ts None m e = absurd cc
-of_one ts (Some t) m e = (t, refl, e)
-
-same_it : {A : Type 0} {x y : A} → Some x ≡ Some y → x ≡ y
-same_it e = cc
-
 abbrev is_index_one : Option Throughout → Bool
 is_index_one None = false
 is_index_one (Some t) = is_index t
 
-no_index : (k : Program) (x : Source) → x ≢ Turn → is_index_one (throughout_of k x) ≡ false
+no_index : (k : Program) (x : Source) → x ≢ LoopIndex → is_index_one (throughout_of k x) ≡ false
 no_index k (Constant t n) ne = refl
 no_index k (Outer p) ne = by (slice_get k.params p)
   where
     by : (o : Option Parameter) → is_index_one (option_map scalar_of o) ≡ false
     by None = refl
     by (Some p) = refl
-no_index k Turn ne = absurd (ne refl)
+no_index k LoopIndex ne = absurd (ne refl)
 no_index k (Made q) ne = refl
 
 -- a value that is the same as the loop variable and as another one
@@ -167,15 +157,15 @@ both_index (needs.Accumulating x) t e f = absurd cc
 source_is : (k : Program) (a : Assignment) (x : Source) → is_some (held_place k x) ≡ true → source_register k a x ≡ register_of 31 a (held_place k x)
 source_is k a (Constant t n) e = refl
 source_is k a (Outer p) e = refl
-source_is k a Turn e = refl
+source_is k a LoopIndex e = refl
 source_is k a (Made q) e = absurd cc
 
-pub turn_apart : (k : Program) (a : Assignment) → FitsKernel k Z a → is_some (held_place k Turn) ≡ true → (x : Source) → is_some (held_place k x) ≡ true → x ≢ Turn → source_register k a x ≢ source_register k a Turn
+pub turn_apart : (k : Program) (a : Assignment) → FitsKernel k Z a → is_some (held_place k LoopIndex) ≡ true → (x : Source) → is_some (held_place k x) ≡ true → x ≢ LoopIndex → source_register k a x ≢ source_register k a LoopIndex
 turn_apart k a f turn x held ne same =
     let chosen : Chosen k Z a = chosen_of k Z a f in
     let all = throughout k Z in
     let always : Interval = record { from = 0; last_use = size_of k } in
-    let p = there (held_place k Turn) turn in
+    let p = there (held_place k LoopIndex) turn in
     let q = there (held_place k x) held in
     let t = of_one all (throughout_of k x) q.0 q.1 in
     let sp : Stands needs.Index all p.0 = stands needs.Index all p.0 p.1 in

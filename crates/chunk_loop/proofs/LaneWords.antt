@@ -10,14 +10,14 @@ use Rattle.machine_model.specs.Arithmetic.{sum}
 use Rattle.machine_model.specs.Machine.{State, x_at, p_at, with_x, with_p, with_flags, next}
 use Rattle.machine_model.specs.States.{IsState}
 use Rattle.machine_model.specs.VectorEffects.{put_tested, put_x}
-use Rattle.machine_model.proofs.States.{tested_put}
+use Rattle.machine_model.proofs.StateSteps.{tested_put}
 use Rattle.label_fix.specs.DraftRun.{Entry, Put, Laid}
 use Rattle.label_fix.specs.Stretches.{Leads}
 use Rattle.lane_emit.proofs.Stretches.{width-size}
 use Rattle.chunk_emit.specs.Chunk.{IsTop}
 use Rattle.chunk_emit.specs.ChunkCode.{puts}
 use Rattle.chunk_emit.specs.Head.{Ground, width}
-use Rattle.first_fault.proofs.Bits.{top_made}
+use Rattle.first_fault.proofs.PrefixBits.{top_made}
 use Rattle.first_fault.proofs.Stretches.{follow, word_leads}
 use Rattle.chunk_loop.specs.PassCode.{lanes_word, first_lane_words, advance_word}
 use Rattle.chunk_loop.proofs.LaneHeads.{Kept}

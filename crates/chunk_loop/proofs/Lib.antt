@@ -22,4 +22,4 @@ pub mod ChunkDone
 pub mod ChunkFails
 pub mod ChunkNext
 pub mod PassLaws
-pub mod Joined
+pub mod PassPuts

@@ -6,7 +6,7 @@ use Rattle.kernel_meaning.specs.Ends.{BlockEnd, Next, Faulted, Going}
 use Rattle.kernel_meaning.specs.Eval.{Names}
 use Rattle.kernel_meaning.specs.Iterate.{iterate}
 use Rattle.kernel_meaning.specs.Ends.{Broke as BrokeOut}
-use Rattle.kernel_meaning.specs.ScalarRun.{course}
+use Rattle.kernel_meaning.specs.ScalarRun.{iterations}
 use Rattle.chunk_emit.specs.Head.{Ground, IsGround, Between, most_lanes, limit}
 use Rattle.first_fault.specs.Region.{Broke, lane_left}
 use Rattle.first_fault.specs.RegionCode.{Early, Single}
@@ -49,8 +49,8 @@ going_memory e = cc
 going_names : {m n : Memory} {a b : Names} → Going m a ≡ Going n b → a ≡ b
 going_names e = cc
 
-nothing_done : (g : Ground) (i : ℕ) (m : Memory) (cur : Names) → course (var_scope g.kernel) g.turns 0 i m cur ≡ Going m cur
-unfolding course
+nothing_done : (g : Ground) (i : ℕ) (m : Memory) (cur : Names) → iterations (var_scope g.kernel) g.turns 0 i m cur ≡ Going m cur
+unfolding iterations
 nothing_done g i m cur = refl
 
 pub turn_reasons : (g : Ground) (i : ℕ) (cur : Names) (m : Memory) {sum : List ℕ → ℕ → ℤ} → IsGround g → Between g i cur sum → Reasons g i 1 cur m (λ turn cut. Breaks turn) Single

@@ -8,7 +8,7 @@ use Rattle.kernel_meaning.specs.Ends.{BlockEnd, Next, Faulted, Going, Failed}
 use Rattle.kernel_meaning.specs.Eval.{Names}
 use Rattle.kernel_meaning.specs.Iterate.{iterate}
 use Rattle.kernel_meaning.specs.Ends.{Broke as BrokeOut}
-use Rattle.kernel_meaning.specs.ScalarRun.{course}
+use Rattle.kernel_meaning.specs.ScalarRun.{iterations}
 use Rattle.machine_model.specs.declared.outcome.StopKind.TheVariants.{Read}
 use Rattle.machine_model.specs.Machine.{State}
 use Rattle.label_fix.specs.DraftRun.{Entry, Laid}
@@ -31,7 +31,7 @@ use Rattle.first_fault.specs.Split.{region_of, rest_of}
 use Rattle.first_fault.specs.KernelFits.{following_region, LoopFits, KernelFits}
 use Rattle.first_fault.proofs.Spelled.{as_spelled}
 use Rattle.first_fault.specs.IterationWays.{IsTurn}
-use Rattle.first_fault.proofs.Rests.{rest_holds}
+use Rattle.first_fault.proofs.RestHolds.{rest_holds}
 use Rattle.first_fault.proofs.Splits.{region_splits}
 use Rattle.first_fault.proofs.Stretches.{stop_following}
 use Rattle.first_fault.proofs.TurnWays.{way_is_turn}
@@ -56,11 +56,11 @@ acts_append names (x ∷ xs) ys n i t = by (column (item_act names x) n i t) (λ
 -- ---- one iteration of the scalar loop
 
 -- an iteration that faults
-fell_fails : (g : Ground) (i : ℕ) (cur : Names) (m : Memory) → IsTurn Fell m (iterate (var_scope g.kernel) g.turns i m cur) → course (var_scope g.kernel) g.turns 1 i m cur ≡ Failed m i
-unfolding course
+fell_fails : (g : Ground) (i : ℕ) (cur : Names) (m : Memory) → IsTurn Fell m (iterate (var_scope g.kernel) g.turns i m cur) → iterations (var_scope g.kernel) g.turns 1 i m cur ≡ Failed m i
+unfolding iterations
 fell_fails g i cur m is = by (iterate (var_scope g.kernel) g.turns i m cur) is
   where
-    by : (turn : BlockEnd Names) → IsTurn Fell m turn → ends.go_on turn i (course (var_scope g.kernel) g.turns zero (i + 1)) ≡ Failed m i
+    by : (turn : BlockEnd Names) → IsTurn Fell m turn → ends.go_on turn i (iterations (var_scope g.kernel) g.turns zero (i + 1)) ≡ Failed m i
     by (Next after names) is = absurd is
     by (BrokeOut after names) is = absurd is
     by (Faulted after) is = ap (λ memory. Failed memory i) is
@@ -77,7 +77,7 @@ region_turn g i cur m ground h lane way is =
 -- a reason of the pass from that of the region, for n lanes from iteration i on
 abbrev pub Reasons : Ground → (i n : ℕ) → Names → Memory → (BlockEnd Names → ℕ → Type 0) → Mode → Type 0
 Reasons g i n cur m why mode =
-    (k : ℕ) → k < n → (cut : ℕ) → Why mode (way_in g m (i + k) blank) cut → (out : Lanes) (names : Names) → by_item (acts_of g.names (items_of g)) k i (blank_lanes m) ≡ Fine out → course (var_scope g.kernel) g.turns k i m cur ≡ Going out.memory names → (all : ℕ) → cut ≤ all
+    (k : ℕ) → k < n → (cut : ℕ) → Why mode (way_in g m (i + k) blank) cut → (out : Lanes) (names : Names) → by_item (acts_of g.names (items_of g)) k i (blank_lanes m) ≡ Fine out → iterations (var_scope g.kernel) g.turns k i m cur ≡ Going out.memory names → (all : ℕ) → cut ≤ all
     → why (iterate (var_scope g.kernel) g.turns (i + k) out.memory names) all
 
 -- ---- the region, and the rest

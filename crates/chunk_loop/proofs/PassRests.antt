@@ -7,7 +7,7 @@ use Rattle.kernel_tree.specs.Typing.{var_scope}
 use Rattle.kernel_meaning.specs.Ends.{BlockEnd, Going}
 use Rattle.kernel_meaning.specs.Eval.{Names}
 use Rattle.kernel_meaning.specs.Iterate.{iterate}
-use Rattle.kernel_meaning.specs.ScalarRun.{course}
+use Rattle.kernel_meaning.specs.ScalarRun.{iterations}
 use Rattle.machine_model.specs.Machine.{State, p_at}
 use Rattle.label_fix.specs.DraftRun.{Entry, Put, Laid}
 use Rattle.label_fix.specs.Stretches.{Leads}
@@ -35,7 +35,7 @@ rest_words g items rest = puts (items_words (width g) (layout g) items) (Put (ad
 -- a reason for a lane that is left out after k of n lanes, where so many free elements or more were suppressed
 abbrev pub Reason : Ground → (i k n : ℕ) → Names → Lanes → (BlockEnd Names → ℕ → Type 0) → (cut : ℕ) → Type 0
 Reason g i k n cur t why cut =
-    k < n → (out : Lanes) (names : Names) → by_item (acts_of g.names (items_of g)) k i t ≡ Fine out → course (var_scope g.kernel) g.turns k i t.memory cur ≡ Going out.memory names → (all : ℕ) → cut ≤ all
+    k < n → (out : Lanes) (names : Names) → by_item (acts_of g.names (items_of g)) k i t ≡ Fine out → iterations (var_scope g.kernel) g.turns k i t.memory cur ≡ Going out.memory names → (all : ℕ) → cut ≤ all
     → why (iterate (var_scope g.kernel) g.turns (i + k) out.memory names) all
 
 module _
@@ -51,7 +51,7 @@ module _
         let last = advance_leads (width g) k end (omega (arith, holds.few, count)) (λ e lt. top e (omega (arith, lt, count))) in
         let whole = further most le before (follow (length (items_words (width g) (layout g) items) + 1) (omega arith) leads last) in
         comes k out.memory done.names (sum_at (layout g) (setting g i k sum s.x stop) out) (following g ground h chunk.within holds) few
-        (ap (λ memory. course (var_scope g.kernel) g.turns k i memory cur) (sym now) ∙ done.goes) whole.leads
+        (ap (λ memory. iterations (var_scope g.kernel) g.turns k i memory cur) (sym now) ∙ done.goes) whole.leads
         (λ left. reason left out done.names is done.goes whole.leads.cut whole.more)
         (head_following g ground h chunk.within holds done.between) (top_following g ground h chunk.within holds) (turned_following g ground h chunk.within holds)
 
@@ -59,5 +59,5 @@ module _
     rest_pass is all (does_fine end goes holds) = fine_pass end is (as_leads goes) holds
     rest_pass is all (does_fail {m = left} kind access stopped) =
         let failing : Failing g i k cur t.memory left = fails g i k cur sum t left ground h.between chunk all is in
-        stops k failing.j left failing.faulted kind few (ap (λ memory. course (var_scope g.kernel) g.turns k i memory cur) (sym now) ∙ failing.fails) failing.from failing.last_use access failing.kept
+        stops k failing.j left failing.faulted kind few (ap (λ memory. iterations (var_scope g.kernel) g.turns k i memory cur) (sym now) ∙ failing.fails) failing.from failing.last_use access failing.kept
         (stop_following most (omega (arith, le)) before stopped)

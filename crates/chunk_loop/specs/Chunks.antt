@@ -5,7 +5,7 @@ use Rattle.kernel_tree.specs.Typing.{var_scope}
 use Rattle.kernel_meaning.specs.Ends.{Going, Failed}
 use Rattle.kernel_meaning.specs.Eval.{Names}
 use Rattle.kernel_meaning.specs.Iterate.{iterate}
-use Rattle.kernel_meaning.specs.ScalarRun.{course}
+use Rattle.kernel_meaning.specs.ScalarRun.{iterations}
 use Rattle.loop_form.specs.LoopItems.{Item, loop_items}
 use Rattle.chunk_order.specs.Order.{Elsewhere}
 use Rattle.chunk_order.specs.Orders.{Lane, Lanes, Fine, Fail, by_item}
@@ -45,7 +45,7 @@ GivenRight g i k out =
 -- the scalar loop has done the iterations of the lanes, with the same memory
 pub record Done (g : Ground) (f : Setting) (i k : ℕ) (cur : Names) (m : Memory) (out : Lanes) : Type 0 where
   pub names : Names
-  pub goes : course (var_scope g.kernel) g.turns k i m cur ≡ Going out.memory names
+  pub goes : iterations (var_scope g.kernel) g.turns k i m cur ≡ Going out.memory names
   pub between : Between g (i + k) names (sum_at (layout g) f out)
 
 -- Lanes that end well.
@@ -58,7 +58,7 @@ FineIsDone =
 pub record Failing (g : Ground) (i k : ℕ) (cur : Names) (m left : Memory) : Type 0 where
   pub j : ℕ
   pub faulted : Memory
-  pub fails : course (var_scope g.kernel) g.turns k i m cur ≡ Failed faulted j
+  pub fails : iterations (var_scope g.kernel) g.turns k i m cur ≡ Failed faulted j
   pub from : i ≤ j
   pub last_use : j < i + k
   pub kept : (z : ℕ) → z < 2 ^ 64 → Elsewhere g.kernel g.args i k z → byte_at left z ≡ byte_at faulted z
@@ -77,6 +77,6 @@ FailIsFault =
 abbrev pub NextHalts : Type 0
 NextHalts =
     (g : Ground) (i k : ℕ) (cur names : Names) (sum : List ℕ → ℕ → ℤ) (t out : Lanes) → IsGround g → Between g i cur sum → IsChunk g i k t → k < most_lanes g → i + k < limit g
-    → by_item (acts_of g.names (items_of g)) k i t ≡ Fine out → course (var_scope g.kernel) g.turns k i t.memory cur ≡ Going out.memory names
+    → by_item (acts_of g.names (items_of g)) k i t ≡ Fine out → iterations (var_scope g.kernel) g.turns k i t.memory cur ≡ Going out.memory names
     → lane_left (region_way g.names (region_of (items_of g)) (i + k) t.memory (t.lane (i + k))) ≡ None
     → Breaks (iterate (var_scope g.kernel) g.turns (i + k) out.memory names) ⊎ Faults (iterate (var_scope g.kernel) g.turns (i + k) out.memory names)

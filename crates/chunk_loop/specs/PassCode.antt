@@ -5,7 +5,7 @@ use Rattle.guest_types.specs.declared.length.Width.{Width}
 use Rattle.a64_code.specs.Table as a64
 use Rattle.sve_code.specs.Table.{whilelo, incp}
 use Rattle.machine_model.specs.InstructionTable.{Listed, Scalar, Vector}
-use Rattle.loop_form.specs.declared.loop_item.Source.TheVariants.{Turn}
+use Rattle.loop_form.specs.declared.loop_item.Source.TheVariants.{LoopIndex}
 use Rattle.loop_form.specs.LoopItems.{Item}
 use Rattle.lane_emit.specs.Stretch.{word}
 use Rattle.lane_emit.specs.LaneCode.{size_of, index_code}
@@ -25,7 +25,7 @@ first_lane_words w = Scalar (record { name = a64.movz; numbers = 26 ∷ 1 ∷ 0 
 
 -- INDEX z, X9, #1: the loop variable, where it has a register; then the lanes are doublewords
 abbrev pub index_words : Layout → List Listed
-index_words l = if l.held Turn then vectors (index_code (l.registers.source Turn) 9) else []
+index_words l = if l.held LoopIndex then vectors (index_code (l.registers.source LoopIndex) 9) else []
 
 -- INCP X9, P0
 abbrev pub advance_word : Width → Listed

@@ -21,8 +21,8 @@ fn emit_turns(layout: &LoopLayout<'_>, draft: &mut Draft) -> Result<(), AllocErr
     ensures labels { OnOk result (draft.new.labels ≡ draft.old.labels) }
     ensures code { OnOk result (AppendsPuts (pass.index_words (layout_in layout.now)) draft.old draft.new) }
 {
-    if layout.registers.is_turn_held() {
-        let d = layout.registers.source(Source::Turn);
+    if layout.registers.is_index_held() {
+        let d = layout.registers.source(Source::LoopIndex);
         draft.put(Word::V(index(d)))?;
     }
     Ok(())

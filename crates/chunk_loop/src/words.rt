@@ -3,7 +3,7 @@
 ghost use Rattle.std.specs.Prelude.{◌≡◌, [], ◌∷◌};
 ghost use Rattle.a64_code.specs.Table as a64;
 ghost use Rattle.sve_code.specs.Table as sve;
-ghost use Rattle.sve_code.specs.View.{seen};
+ghost use Rattle.sve_code.specs.View.{instruction_view};
 ghost use Rattle.machine_model.specs.InstructionTable.{Scalar, Vector};
 ghost use Rattle.label_fix.specs.Draft.{word_view};
 ghost use Rattle.lane_emit.specs.Stretch.{word};
@@ -62,7 +62,7 @@ pub fn first_lane(width: Width) -> Word
 
 /// The loop variable of each lane.
 pub fn index(d: VectorReg) -> Sve
-    ensures { index_code d.number 9 ≡ seen result ∷ [] }
+    ensures { index_code d.number 9 ≡ instruction_view result ∷ [] }
 {
     Sve::IndexScalarImmediate {
         zd: d,

@@ -12,14 +12,14 @@ use Rattle.command_line.specs.declared.place.OptionName.{OptionName}
 use Rattle.command_line.specs.declared.place.OptionName.TheVariants.{Vl, Steps, Map, Dump}
 
 -- the name without its minuses
-abbrev pub text_of : OptionName → Text
-text_of Vl = codes "vl"
-text_of Steps = codes "steps"
-text_of Map = codes "map"
-text_of Dump = codes "dump"
+abbrev pub option_text : OptionName → Text
+option_text Vl = codes "vl"
+option_text Steps = codes "steps"
+option_text Map = codes "map"
+option_text Dump = codes "dump"
 
 abbrev pub option_built : OptionName → Rule
-option_built name = filled (option_rule (text_of name))
+option_built name = filled (option_rule (option_text name))
 
 abbrev pub words_built : Rule
 words_built = with_index 1 (filled words_rule)
@@ -78,17 +78,17 @@ simple name = each (λ a. is_simple (command_taking name a) ≡ true) refl refl 
 abbrev option_at : Allowed → OptionName → Option Rule
 option_at a n = if allows a n then Some (option_built n) else None
 
-pub by_long : (n : OptionName) (a : Allowed) → arg_by_long (rules a) (text_of n) ≡ option_at a n
-by_long Vl = each (λ a. arg_by_long (rules a) (text_of Vl) ≡ option_at a Vl) refl refl refl refl refl refl refl refl refl refl refl refl refl refl refl refl
-by_long Steps = each (λ a. arg_by_long (rules a) (text_of Steps) ≡ option_at a Steps) refl refl refl refl refl refl refl refl refl refl refl refl refl refl refl refl
-by_long Map = each (λ a. arg_by_long (rules a) (text_of Map) ≡ option_at a Map) refl refl refl refl refl refl refl refl refl refl refl refl refl refl refl refl
-by_long Dump = each (λ a. arg_by_long (rules a) (text_of Dump) ≡ option_at a Dump) refl refl refl refl refl refl refl refl refl refl refl refl refl refl refl refl
+pub by_long : (n : OptionName) (a : Allowed) → arg_by_long (rules a) (option_text n) ≡ option_at a n
+by_long Vl = each (λ a. arg_by_long (rules a) (option_text Vl) ≡ option_at a Vl) refl refl refl refl refl refl refl refl refl refl refl refl refl refl refl refl
+by_long Steps = each (λ a. arg_by_long (rules a) (option_text Steps) ≡ option_at a Steps) refl refl refl refl refl refl refl refl refl refl refl refl refl refl refl refl
+by_long Map = each (λ a. arg_by_long (rules a) (option_text Map) ≡ option_at a Map) refl refl refl refl refl refl refl refl refl refl refl refl refl refl refl refl
+by_long Dump = each (λ a. arg_by_long (rules a) (option_text Dump) ≡ option_at a Dump) refl refl refl refl refl refl refl refl refl refl refl refl refl refl refl refl
 
-pub by_id : (n : OptionName) (a : Allowed) → arg_by_id (rules a) (text_of n) ≡ option_at a n
-by_id Vl = each (λ a. arg_by_id (rules a) (text_of Vl) ≡ option_at a Vl) refl refl refl refl refl refl refl refl refl refl refl refl refl refl refl refl
-by_id Steps = each (λ a. arg_by_id (rules a) (text_of Steps) ≡ option_at a Steps) refl refl refl refl refl refl refl refl refl refl refl refl refl refl refl refl
-by_id Map = each (λ a. arg_by_id (rules a) (text_of Map) ≡ option_at a Map) refl refl refl refl refl refl refl refl refl refl refl refl refl refl refl refl
-by_id Dump = each (λ a. arg_by_id (rules a) (text_of Dump) ≡ option_at a Dump) refl refl refl refl refl refl refl refl refl refl refl refl refl refl refl refl
+pub by_id : (n : OptionName) (a : Allowed) → arg_by_id (rules a) (option_text n) ≡ option_at a n
+by_id Vl = each (λ a. arg_by_id (rules a) (option_text Vl) ≡ option_at a Vl) refl refl refl refl refl refl refl refl refl refl refl refl refl refl refl refl
+by_id Steps = each (λ a. arg_by_id (rules a) (option_text Steps) ≡ option_at a Steps) refl refl refl refl refl refl refl refl refl refl refl refl refl refl refl refl
+by_id Map = each (λ a. arg_by_id (rules a) (option_text Map) ≡ option_at a Map) refl refl refl refl refl refl refl refl refl refl refl refl refl refl refl refl
+by_id Dump = each (λ a. arg_by_id (rules a) (option_text Dump) ≡ option_at a Dump) refl refl refl refl refl refl refl refl refl refl refl refl refl refl refl refl
 
 pub words_by_id : (a : Allowed) → arg_by_id (rules a) (codes "words") ≡ Some words_built
 words_by_id = each (λ a. arg_by_id (rules a) (codes "words") ≡ Some words_built) refl refl refl refl refl refl refl refl refl refl refl refl refl refl refl refl

@@ -21,7 +21,7 @@ use Rattle.command_line.specs.declared.place.Allowed.{Allowed}
 use Rattle.command_line.specs.declared.place.OptionName.{OptionName}
 use Rattle.command_line.specs.declared.place.OptionName.TheVariants.{Vl, Steps, Map, Dump}
 use Rattle.command_line.specs.declared.place.Place.{Place}
-use Rattle.command_line.proofs.Commands.{text_of, rules, app, built_is, simple, words_are, no_defaults, defaults_pass, valid}
+use Rattle.command_line.proofs.Commands.{option_text, rules, app, built_is, simple, words_are, no_defaults, defaults_pass, valid}
 use Rattle.command_line.proofs.Splits.{text_given, option_found, words_found, both_true}
 use Rattle.command_line.proofs.Opens.{Open, Ends, opened}
 
@@ -95,8 +95,8 @@ module _ (name : Text) (a : Allowed) (words : Words) (g : Given) (few : length w
       ap₂ (λ (x : App) (ws : Words). rows_after x.top.rules (names_of x) ws) (built_is name a) (words_are name a words)
       ∙ kept (rules a) (settled (rules a) (walk (rules a) [] nothing_held words).held).rows (no_defaults a)
 
-  first_is : (n : OptionName) → first_of (text_of n) (matches_of (command_taking name a) words) ≡ text_given n g
-  first_is n = ap (first_of (text_of n)) rows_are ∙ ap (option_and_then (λ (r : Row). slice_get r.values 0)) (ends.options n) ∙ first_found n (text_given n g)
+  first_is : (n : OptionName) → first_of (option_text n) (matches_of (command_taking name a) words) ≡ text_given n g
+  first_is n = ap (first_of (option_text n)) rows_are ∙ ap (option_and_then (λ (r : Row). slice_get r.values 0)) (ends.options n) ∙ first_found n (text_given n g)
 
   all_is : unwrap_or (all_of (codes "words") (matches_of (command_taking name a) words)) [] ≡ g.words
   all_is = ap (λ rows. unwrap_or (all_of (codes "words") rows) []) rows_are ∙ ap (λ o. unwrap_or (option_map (λ (r : Row). r.values) o) []) ends.words_are ∙ all_found g.words

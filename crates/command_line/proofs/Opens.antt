@@ -18,7 +18,7 @@ use Rattle.command_line.specs.declared.place.OptionName.{OptionName}
 use Rattle.command_line.specs.declared.place.OptionName.TheVariants.{Vl, Steps, Map, Dump}
 use Rattle.command_line.specs.declared.place.Place.{Place}
 use Rattle.command_line.specs.declared.place.Place.TheVariants as place
-use Rattle.command_line.proofs.Commands.{text_of, option_built, words_built, rules, shape, words_by_id}
+use Rattle.command_line.proofs.Commands.{option_text, option_built, words_built, rules, shape, words_by_id}
 use Rattle.command_line.proofs.Sorts.{Sorted, ends, plain, alone, joined, other, sorted, name_is, joined_is, same_bytes, unwrapped}
 use Rattle.command_line.proofs.Walks.{row, found_in, option_used, words_used, id_is, not_true, waiting_for, alone_step, joined_step, value_step, in_words, trailing_from, end_first, literal_first, plain_first, alone_turns, use_passes-option, joined_turns, value_turns, end_first_turns, literal_first_turns, plain_first_turns}
 use Rattle.command_line.proofs.Splits.{text_given, option_found, words_found, Follows, follows, both_true, or_none, or_assoc, Pushes, no_value, literal_words, positional_words, literal_next}
@@ -26,7 +26,7 @@ use Rattle.command_line.proofs.Splits.{text_given, option_found, words_found, Fo
 -- ---- names
 
 -- an option that may still come after this one is another
-free_after : (left : Allowed) (n m : OptionName) → allows (without left n) m ≡ true → (allows left m ≡ true) × (bytes_eq (text_of n) (text_of m) ≡ false)
+free_after : (left : Allowed) (n m : OptionName) → allows (without left n) m ≡ true → (allows left m ≡ true) × (bytes_eq (option_text n) (option_text m) ≡ false)
 free_after left Vl Vl e = absurd (true≢false (sym e))
 free_after left Vl Steps e = (e, refl)
 free_after left Vl Map e = (e, refl)
@@ -45,10 +45,10 @@ free_after left Dump Map e = (e, refl)
 free_after left Dump Dump e = absurd (true≢false (sym e))
 
 abbrev one : OptionName → Text → List Row
-one n v = row (text_of n) (v ∷ []) ∷ []
+one n v = row (option_text n) (v ∷ []) ∷ []
 
 -- a value is found under its own name alone
-found_one : (n m : OptionName) (v : Text) (g : Given) → option_or (found_in (text_of m) (one n v)) (option_found m (text_given m g)) ≡ option_found m (text_given m (with_value n v g))
+found_one : (n m : OptionName) (v : Text) (g : Given) → option_or (found_in (option_text m) (one n v)) (option_found m (text_given m g)) ≡ option_found m (text_given m (with_value n v g))
 found_one Vl Vl v g = refl
 found_one Vl Steps v g = refl
 found_one Vl Map v g = refl
@@ -72,7 +72,7 @@ not_words Steps v = refl
 not_words Map v = refl
 not_words Dump v = refl
 
-words_not : (n : OptionName) (x : Text) (xs : Words) → found_in (text_of n) (row (codes "words") (x ∷ xs) ∷ []) ≡ None
+words_not : (n : OptionName) (x : Text) (xs : Words) → found_in (option_text n) (row (codes "words") (x ∷ xs) ∷ []) ≡ None
 words_not Vl x xs = refl
 words_not Steps x xs = refl
 words_not Map x xs = refl
@@ -84,7 +84,7 @@ same_words Steps v g = refl
 same_words Map v g = refl
 same_words Dump v g = refl
 
-not_pending : (n : OptionName) (v : Text) → is_pending words_built (Some (text_of n, v ∷ [])) ≡ false
+not_pending : (n : OptionName) (v : Text) → is_pending words_built (Some (option_text n, v ∷ [])) ≡ false
 not_pending Vl v = refl
 not_pending Steps v = refl
 not_pending Map v = refl
@@ -94,14 +94,14 @@ not_pending Dump v = refl
 
 pub record Open (a left : Allowed) (h : Held) : Type 0 where
   pub pending : is_pending words_built h.pending ≡ false
-  pub free : (n : OptionName) → allows left n ≡ true → (allows a n ≡ true) × (found_in (text_of n) (settled (rules a) h).rows ≡ None)
+  pub free : (n : OptionName) → allows left n ≡ true → (allows a n ≡ true) × (found_in (option_text n) (settled (rules a) h).rows ≡ None)
   pub no_words : found_in (codes "words") (settled (rules a) h).rows ≡ None
   pub passes : settle_passes (rules a) false h ≡ true
 
 found_more : (id : Text) (rows more : List Row) → found_in id rows ≡ None → found_in id more ≡ None → found_in id (rows ++ more) ≡ None
 found_more id rows more e f = find-append (λ r. bytes_eq r.id id) rows more ∙ ap₂ option_or e f
 
-other_row : (n m : OptionName) (v : Text) → bytes_eq (text_of n) (text_of m) ≡ false → found_in (text_of m) (one n v) ≡ None
+other_row : (n m : OptionName) (v : Text) → bytes_eq (option_text n) (option_text m) ≡ false → found_in (option_text m) (one n v) ≡ None
 other_row n m v e = rw e refl
 
 open_after : (a left : Allowed) (h after : Held) (n : OptionName) (v : Text) → Open a left h → is_pending words_built after.pending ≡ false → settle_passes (rules a) false after ≡ true
@@ -109,7 +109,7 @@ open_after : (a left : Allowed) (h after : Held) (n : OptionName) (v : Text) →
 open_after a left h after n v o p s e = record {
   pending = p;
   free = λ m f. let q = free_after left n m f in let r = o.free m q.0 in
-      (r.0, ap (found_in (text_of m)) e ∙ found_more (text_of m) (settled (rules a) h).rows (one n v) r.1 (other_row n m v q.1));
+      (r.0, ap (found_in (option_text m)) e ∙ found_more (option_text m) (settled (rules a) h).rows (one n v) r.1 (other_row n m v q.1));
   no_words = ap (found_in (codes "words")) e ∙ found_more (codes "words") (settled (rules a) h).rows (one n v) o.no_words (not_words n v);
   passes = s;
 }
@@ -120,12 +120,12 @@ open_after a left h after n v o p s e = record {
 pub record Ends (a : Allowed) (name : Text) (rows : List Row) (w : Walk) (words : Words) (g : Given) : Type 0 where
   pub passes : walk_passes (shape name a) [] w words ≡ true
   pub settles : settle_passes (rules a) false (fold (walked (rules a) []) w words).held ≡ true
-  pub options : (n : OptionName) → found_in (text_of n) (settled (rules a) (fold (walked (rules a) []) w words).held).rows ≡ option_or (found_in (text_of n) rows) (option_found n (text_given n g))
+  pub options : (n : OptionName) → found_in (option_text n) (settled (rules a) (fold (walked (rules a) []) w words).held).rows ≡ option_or (found_in (option_text n) rows) (option_found n (text_given n g))
   pub words_are : found_in (codes "words") (settled (rules a) (fold (walked (rules a) []) w words).held).rows ≡ words_found g.words
 
 ends_step : (a : Allowed) (name : Text) (rows more : List Row) (w after : Walk) (word : Text) (words : Words) (g r : Given)
     → walked (rules a) [] w word ≡ after → turn_passes (shape name a) [] w word ≡ true → Ends a name more after words r
-    → ((n : OptionName) → option_or (found_in (text_of n) more) (option_found n (text_given n r)) ≡ option_or (found_in (text_of n) rows) (option_found n (text_given n g)))
+    → ((n : OptionName) → option_or (found_in (option_text n) more) (option_found n (text_given n r)) ≡ option_or (found_in (option_text n) rows) (option_found n (text_given n g)))
     → r.words ≡ g.words → Ends a name rows w (word ∷ words) g
 unfolding walk_passes
 ends_step a name rows more w after word words g r step turn e same ws =
@@ -133,7 +133,7 @@ ends_step a name rows more w after word words g r step turn e same ws =
     record {
       passes = both_true _ _ turn (ap (λ (x : Walk). walk_passes (shape name a) [] x words) step ∙ e.passes);
       settles = ap (λ (x : Walk). settle_passes (rules a) false x.held) walk ∙ e.settles;
-      options = λ n. ap (λ (x : Walk). found_in (text_of n) (settled (rules a) x.held).rows) walk ∙ e.options n ∙ same n;
+      options = λ n. ap (λ (x : Walk). found_in (option_text n) (settled (rules a) x.held).rows) walk ∙ e.options n ∙ same n;
       words_are = ap (λ (x : Walk). found_in (codes "words") (settled (rules a) x.held).rows) walk ∙ e.words_are ∙ ap words_found ws;
     }
 
@@ -142,9 +142,9 @@ ends_value : (a : Allowed) (name : Text) (rows more : List Row) (w after : Walk)
     → walked (rules a) [] w word ≡ after → turn_passes (shape name a) [] w word ≡ true → Ends a name more after words r → more ≡ rows ++ one n v
     → Ends a name rows w (word ∷ words) (with_value n v r)
 ends_value a name rows more w after word words n v r step turn e m = ends_step a name rows more w after word words (with_value n v r) r step turn e
-    (λ k. ap (λ o. option_or o (option_found k (text_given k r))) (ap (found_in (text_of k)) m ∙ find-append (λ x. bytes_eq x.id (text_of k)) rows (one n v))
-    ∙ or_assoc (found_in (text_of k) rows) (found_in (text_of k) (one n v)) (option_found k (text_given k r))
-    ∙ ap (option_or (found_in (text_of k) rows)) (found_one n k v r))
+    (λ k. ap (λ o. option_or o (option_found k (text_given k r))) (ap (found_in (option_text k)) m ∙ find-append (λ x. bytes_eq x.id (option_text k)) rows (one n v))
+    ∙ or_assoc (found_in (option_text k) rows) (found_in (option_text k) (one n v)) (option_found k (text_given k r))
+    ∙ ap (option_or (found_in (option_text k) rows)) (found_one n k v r))
     (sym (same_words n v r))
 
 all_pass : (vs : Words) → values_pass words_built vs ≡ true
@@ -157,9 +157,9 @@ pub ends_words : (a : Allowed) (name : Text) (h : Held) (w : Walk) (x : Text) (w
 ends_words a name h w x words r p e few = record {
   passes = p.passes;
   settles = ap (settle_passes (rules a) false) p.held ∙ settle_is;
-  options = λ n. ap (λ (k : Held). found_in (text_of n) (settled (rules a) k).rows) p.held ∙ ap (found_in (text_of n)) rows_are
-      ∙ find-append (λ k. bytes_eq k.id (text_of n)) h.rows (row (codes "words") (x ∷ r.words) ∷ [])
-      ∙ ap (option_or (found_in (text_of n) h.rows)) (words_not n x r.words ∙ sym (ap (option_found n) (value_is n ∙ p.none n)));
+  options = λ n. ap (λ (k : Held). found_in (option_text n) (settled (rules a) k).rows) p.held ∙ ap (found_in (option_text n)) rows_are
+      ∙ find-append (λ k. bytes_eq k.id (option_text n)) h.rows (row (codes "words") (x ∷ r.words) ∷ [])
+      ∙ ap (option_or (found_in (option_text n) h.rows)) (words_not n x r.words ∙ sym (ap (option_found n) (value_is n ∙ p.none n)));
   words_are = ap (λ (k : Held). found_in (codes "words") (settled (rules a) k).rows) p.held ∙ ap (found_in (codes "words")) rows_are
       ∙ find-append (λ k. bytes_eq k.id (codes "words")) h.rows (row (codes "words") (x ∷ r.words) ∷ []) ∙ ap (λ o. option_or o (words_found (x ∷ r.words))) e;
 }
@@ -187,7 +187,7 @@ unfolding walk_passes
 ends_nothing a left name h w g o held e = record {
   passes = refl;
   settles = ap (settle_passes (rules a) false) held ∙ o.passes;
-  options = λ n. ap (λ (k : Held). found_in (text_of n) (settled (rules a) k).rows) held ∙ sym (or_none _) ∙ ap (λ p. option_or (found_in (text_of n) (settled (rules a) h).rows) (option_found n p)) (sym (no_value n) ∙ ap (text_given n) e);
+  options = λ n. ap (λ (k : Held). found_in (option_text n) (settled (rules a) k).rows) held ∙ sym (or_none _) ∙ ap (λ p. option_or (found_in (option_text n) (settled (rules a) h).rows) (option_found n p)) (sym (no_value n) ∙ ap (text_given n) e);
   words_are = ap (λ (k : Held). found_in (codes "words") (settled (rules a) k).rows) held ∙ o.no_words ∙ ap (λ (x : Given). words_found x.words) e;
 }
 
@@ -325,7 +325,7 @@ module _ (a : Allowed) (name : Text) where
       let s = some_if (is_plain v) (place.Options (without left n)) f.after (sym (next_value left n v) ∙ f.goes) in
       let has = (o.free n al).0 in
       let no = (o.free n al).1 in
-      let after : Held = record (settled (rules a) h) { pending = Some (text_of n, v ∷ []) } in
+      let after : Held = record (settled (rules a) h) { pending = Some (option_text n, v ∷ []) } in
       let more : (settled (rules a) after).rows ≡ (settled (rules a) h).rows ++ one n v = ap (λ r. used_by_id r (v ∷ []) (settled (rules a) h).rows) (id_is n a has) ∙ option_used n v (settled (rules a) h).rows no in
       let settles : settle_passes (rules a) false after ≡ true = ap (λ r. option_map_or (λ x. use_passes false x (v ∷ []) (settled (rules a) h).rows) r true) (id_is n a has) ∙ use_passes-option a n v (settled (rules a) h).rows no in
       same_given (settled (rules a) h).rows (waiting_for n (settled (rules a) h)) (v ∷ words) g (with_value n v f.rest) (sym (gives-value left v n f.rest) ∙ f.all)

@@ -15,7 +15,7 @@ use Rattle.command_line.specs.declared.place.OptionName.{OptionName}
 use Rattle.command_line.specs.declared.place.OptionName.TheVariants.{Vl, Steps, Map, Dump}
 use Rattle.command_line.specs.declared.place.Place.{Place}
 use Rattle.command_line.specs.declared.place.Place.TheVariants as place
-use Rattle.command_line.proofs.Commands.{text_of, rules, shape}
+use Rattle.command_line.proofs.Commands.{option_text, rules, shape}
 use Rattle.command_line.proofs.Sorts.{same_bytes, unwrapped}
 use Rattle.command_line.proofs.Walks.{row, not_true, in_words, literal_step, plain_step, end_step, literal_turns, plain_turns, end_turns}
 
@@ -28,7 +28,7 @@ text_given Map g = g.map
 text_given Dump g = g.dump
 
 abbrev pub option_found : OptionName → Option Text → Option Row
-option_found n o = option_map (λ v. row (text_of n) (v ∷ [])) o
+option_found n o = option_map (λ v. row (option_text n) (v ∷ [])) o
 
 abbrev pub words_found : Words → Option Row
 words_found [] = None

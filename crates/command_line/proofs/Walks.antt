@@ -14,7 +14,7 @@ use Rattle.command_line.specs.Given.{allows}
 use Rattle.command_line.specs.declared.place.Allowed.{Allowed}
 use Rattle.command_line.specs.declared.place.OptionName.{OptionName}
 use Rattle.command_line.specs.declared.place.OptionName.TheVariants.{Vl, Steps, Map, Dump}
-use Rattle.command_line.proofs.Commands.{text_of, option_built, words_built, rules, shape, by_long, by_id, words_by_index}
+use Rattle.command_line.proofs.Commands.{option_text, option_built, words_built, rules, shape, by_long, by_id, words_by_index}
 use Rattle.command_line.proofs.Sorts.{word_of}
 
 -- ---- the rows
@@ -34,10 +34,10 @@ at_missing id change missing (r ∷ rs) e = go (bytes_eq r.id id) refl e (at_mis
     go true t f h = absurd (none-some r (sym f))
     go false t f h = rw t (ap (λ (xs : List Row). r ∷ xs) (h f))
 
-pub option_used : (n : OptionName) (v : Text) (rows : List Row) → found_in (text_of n) rows ≡ None → used (option_built n) (v ∷ []) rows ≡ rows ++ row (text_of n) (v ∷ []) ∷ []
+pub option_used : (n : OptionName) (v : Text) (rows : List Row) → found_in (option_text n) rows ≡ None → used (option_built n) (v ∷ []) rows ≡ rows ++ row (option_text n) (v ∷ []) ∷ []
 option_used n v rows e =
-    ap (with_values (text_of n) reading.AsWritten CommandLine (v ∷ [])) (at_missing (text_of n) (λ _. []) [] rows e ∙ append-nil rows)
-    ∙ at_missing (text_of n) (more_values CommandLine (v ∷ [])) (row (text_of n) (v ∷ []) ∷ []) rows e
+    ap (with_values (option_text n) reading.AsWritten CommandLine (v ∷ [])) (at_missing (option_text n) (λ _. []) [] rows e ∙ append-nil rows)
+    ∙ at_missing (option_text n) (more_values CommandLine (v ∷ [])) (row (option_text n) (v ∷ []) ∷ []) rows e
 
 pub words_used : (x : Text) (xs : List Text) (rows : List Row) → found_in (codes "words") rows ≡ None → used words_built (x ∷ xs) rows ≡ rows ++ row (codes "words") (x ∷ xs) ∷ []
 words_used x xs rows e = at_missing (codes "words") (more_values CommandLine (x ∷ xs)) (row (codes "words") (x ∷ xs) ∷ []) rows e
@@ -56,10 +56,10 @@ either_true false = refl
 
 -- ---- the arguments
 
-pub long_is : (n : OptionName) (a : Allowed) → allows a n ≡ true → arg_by_long (rules a) (text_of n) ≡ Some (option_built n)
+pub long_is : (n : OptionName) (a : Allowed) → allows a n ≡ true → arg_by_long (rules a) (option_text n) ≡ Some (option_built n)
 long_is n a e = by_long n a ∙ ap (λ b. if b then Some (option_built n) else None) e
 
-pub id_is : (n : OptionName) (a : Allowed) → allows a n ≡ true → arg_by_id (rules a) (text_of n) ≡ Some (option_built n)
+pub id_is : (n : OptionName) (a : Allowed) → allows a n ≡ true → arg_by_id (rules a) (option_text n) ≡ Some (option_built n)
 id_is n a e = by_id n a ∙ ap (λ b. if b then Some (option_built n) else None) e
 
 -- ---- one more word
@@ -82,7 +82,7 @@ plain_met c (option id) position b bs h e = rw (long_none b bs e, short_none b b
 plain_met c positional position b bs h e = rw (long_none b bs e, short_none b bs e, e) refl
 
 abbrev pub waiting_for : OptionName → Held → Walk
-waiting_for n h = record (walk_from (record h { pending = Some (text_of n, []) })) { waiting = option (text_of n) }
+waiting_for n h = record (walk_from (record h { pending = Some (option_text n, []) })) { waiting = option (option_text n) }
 
 module _ (a : Allowed) where
   pub alone_step : (n : OptionName) (h : Held) → allows a n ≡ true → walked (rules a) [] (walk_from h) (word_of n) ≡ waiting_for n (settled (rules a) h)
@@ -101,7 +101,7 @@ module _ (a : Allowed) where
   joined_step Dump v h e = rw (long_is Dump a e) refl
 
   pub value_step : (n : OptionName) (v : Text) (h : Held) → allows a n ≡ true → is_plain v ≡ true
-      → walked (rules a) [] (waiting_for n h) v ≡ walk_from (record h { pending = Some (text_of n, v ∷ []) })
+      → walked (rules a) [] (waiting_for n h) v ≡ walk_from (record h { pending = Some (option_text n, v ∷ []) })
   unfolding walked
   value_step n [] h e p = absurd (true≢false (sym p))
   value_step Vl (b ∷ bs) h e p = rw (plain_met (rules a) (option (codes "vl")) 1 b bs (record h { pending = Some (codes "vl", []) }) (not_true _ p), id_is Vl a e) refl
@@ -159,8 +159,8 @@ module _ (a : Allowed) where
   alone_turns name Dump h e p = rw (long_is Dump a e, p) refl
 
   -- a use of an option with one value
-  pub use_passes-option : (n : OptionName) (v : Text) (rows : List Row) → found_in (text_of n) rows ≡ None → use_passes false (option_built n) (v ∷ []) rows ≡ true
-  use_passes-option n v rows e = rw (no_row (text_of n) rows e) refl
+  pub use_passes-option : (n : OptionName) (v : Text) (rows : List Row) → found_in (option_text n) rows ≡ None → use_passes false (option_built n) (v ∷ []) rows ≡ true
+  use_passes-option n v rows e = rw (no_row (option_text n) rows e) refl
 
   pub joined_turns : (name : Text) (n : OptionName) (v : Text) (h : Held) → allows a n ≡ true → settle_passes (rules a) false h ≡ true
       → use_passes false (option_built n) (v ∷ []) (settled (rules a) h).rows ≡ true → turns name (walk_from h) (word_of n ++ (61 ∷ v)) ≡ true
@@ -173,7 +173,7 @@ module _ (a : Allowed) where
   value_turns name n [] h e p = absurd (true≢false (sym p))
   value_turns name n (b ∷ bs) h e p =
       let q = not_true _ p in
-      rw (plain_met (rules a) (option (text_of n)) 1 b bs (record h { pending = Some (text_of n, []) }) q, long_none b bs q, short_none b bs q, q) refl
+      rw (plain_met (rules a) (option (option_text n)) 1 b bs (record h { pending = Some (option_text n, []) }) q, long_none b bs q, short_none b bs q, q) refl
 
   pub literal_turns : (name : Text) (waiting : Waiting) (found : List Text) (h : Held) (word : Text) → turns name (in_words true waiting found h) word ≡ true
   literal_turns name waiting found h word = rw (words_by_index a) refl

@@ -3,7 +3,7 @@
 ghost use Rattle.std.specs.Prelude.{◌≡◌};
 ghost use Rattle.command_line.specs.Numbers.{argument_of, negative};
 
-use number_text::{after, decimal, number};
+use number_text::{decimal, following, number};
 
 // The number -n, modulo 2^64.
 fn negative(n: u64) -> Option<u64>
@@ -21,7 +21,7 @@ fn negative(n: u64) -> Option<u64>
 pub fn argument(word: &[u8]) -> Option<u64>
     ensures { result ≡ argument_of word.now }
 {
-    match after(b"-".as_slice(), word) {
+    match following(b"-".as_slice(), word) {
         Some(digits) => negative(decimal(digits)?),
         None => number(word),
     }

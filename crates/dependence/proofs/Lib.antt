@@ -1,3 +1,4 @@
 mod ClassExamples
+pub mod ClassLaws
 pub mod Bounds
 mod Examples

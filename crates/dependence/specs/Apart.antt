@@ -1,19 +1,16 @@
 -- Whether the elements that a loop stores lie apart from those that it comes to by other parameters.
-use Rattle.std.specs.Prelude.{◌≡◌, ℕ, ◌+◌, ◌^◌, ◌<◌, ◌≤◌, ℤ, pos, ◌+ℤ◌, ◌*ℤ◌, ◌≤ℤ◌, ◌<ℤ◌, ◌⊎◌, List, [], ◌∷◌, ◌++◌, length, Option, Some, None, unwrap_or, option_map, option_and_then, Bool, true, false, ◌||◌, nat_eq, slice_index, filter}
+use Rattle.std.specs.Prelude.{◌≡◌, ℕ, ◌+◌, ◌^◌, ◌<◌, ◌≤◌, ℤ, pos, ◌+ℤ◌, ◌*ℤ◌, ◌≤ℤ◌, ◌<ℤ◌, ◌⊎◌, List, [], ◌∷◌, ◌++◌, length, Option, unwrap_or, option_and_then, Bool, true, false, ◌||◌, slice_index, filter}
 use Rattle.std.specs.Int.{int_min, int_max}
 use Rattle.std.specs.List.{list_any}
 use Rattle.guest_types.specs.declared.length.Width.{Width}
 use Rattle.guest_types.specs.Length.{width_bytes}
 use Rattle.kernel_tree.specs.declared.ast.Shape.{Shape}
-use Rattle.kernel_tree.specs.declared.ast.Shape.TheVariants as shape
 use Rattle.kernel_tree.specs.Plain.{Parameter, PlainLoop, Program}
 use Rattle.loop_form.specs.declared.stream.Stream.{Stream}
-use Rattle.loop_form.specs.Streams.{place_of, streams_of}
+use Rattle.loop_form.specs.Streams.{place_of, streams_of, is_of}
 use Rattle.loop_form.specs.Lanes.{width_of}
 use Rattle.dependence.specs.declared.used.Used.{Used}
-
-abbrev pub is_at : ℕ → Stream → Bool
-is_at n s = nat_eq s.param n
+use Rattle.kernel_tree.specs.declared.ast.Shape.TheVariants as shape
 
 abbrev pub is_store : Stream → Bool
 is_store s = s.store
@@ -33,7 +30,7 @@ used_by n w (s ∷ ss) = record { place = n; width = w; least = least_of s.offse
 
 abbrev pub used_at : List Stream → ℕ → Shape → List Used
 used_at ss n (shape.Scalar t) = []
-used_at ss n (shape.Array t) = used_by n (width_of t) (filter (is_at n) ss)
+used_at ss n (shape.Array t) = used_by n (width_of t) (filter (is_of n) ss)
 
 unfoldable pub used_from : List Stream → ℕ → List Parameter → List Used
 used_from ss n [] = []

@@ -3,7 +3,7 @@
 ghost use Rattle.std.specs.Prelude.{◌≡◌};
 ghost use Rattle.kernel_tree.specs.Plain.{program_of};
 ghost use Rattle.kernel_tree.specs.Checked.{kernel_of};
-ghost use Rattle.loop_form.specs.View.{program, seen};
+ghost use Rattle.loop_form.specs.View.{program, entries_view};
 ghost use Rattle.dependence.specs.Classes.{reason, class_of};
 
 use crate::elements::{carries, reads_computed};
@@ -15,7 +15,7 @@ use loop_form::{Entry, accesses, lane_width, loop_entries};
 // The first reason that applies to the items of the loop.
 #[tactic(auto, unfolding(loop_form::specs::View::program))]
 fn first_reason(kernel: &Checked, entries: &[Entry<'_>]) -> Option<Why>
-    ensures { result ≡ reason (program kernel.now) (seen entries.now) }
+    ensures { result ≡ reason (program kernel.now) (entries_view entries.now) }
 {
     if reads_accumulator(entries, &kernel.kernel().vars) {
         Some(Why::AccumulatorRead)

@@ -4,7 +4,7 @@ ghost use Rattle.std.specs.Prelude.{◌≡◌, ◌/◌, pos};
 ghost use Rattle.std.specs.List.{list_any};
 ghost use Rattle.guest_types.specs.Length.{width_bits};
 ghost use Rattle.kernel_tree.specs.Items.{loop_index};
-ghost use Rattle.loop_form.specs.View.{program, entry_of, seen};
+ghost use Rattle.loop_form.specs.View.{program, entry_of, entries_view};
 ghost use Rattle.dependence.specs.Classes.{is_computed, conflict, distance, is_near, is_carried, carried};
 
 use guest_types::length::Width;
@@ -22,7 +22,7 @@ fn is_computed_read(kernel: &Checked, entry: &Entry<'_>) -> bool
 
 /// Whether an element is read by a computed index.
 pub fn reads_computed(kernel: &Checked, entries: &[Entry<'_>]) -> bool
-    ensures { result ≡ list_any (is_computed (loop_index (program kernel.now))) (seen entries.now) }
+    ensures { result ≡ list_any (is_computed (loop_index (program kernel.now))) (entries_view entries.now) }
 {
     for entry in entries {
         if is_computed_read(kernel, entry) {

@@ -3,7 +3,7 @@
 ghost use Rattle.std.specs.Prelude.{◌≡◌};
 ghost use Rattle.std.specs.List.{list_any};
 ghost use Rattle.kernel_tree.specs.Plain.{accumulators_of};
-ghost use Rattle.loop_form.specs.View.{content_of, entry_of, seen};
+ghost use Rattle.loop_form.specs.View.{content_of, entry_of, entries_view};
 ghost use Rattle.dependence.specs.Classes.{accumulator_read, number_of_update, updates_otherwise, is_mixed, mixed_update, is_write, is_break, before_break};
 
 use kernel_tree::{UpdateOp, Var};
@@ -11,7 +11,7 @@ use loop_form::{Content, Entry, ItemKind, is_named};
 
 /// Whether some accumulator is read.
 pub fn reads_accumulator(entries: &[Entry<'_>], vars: &[Var]) -> bool
-    ensures { result ≡ accumulator_read (seen entries.now) (accumulators_of vars.now) }
+    ensures { result ≡ accumulator_read (entries_view entries.now) (accumulators_of vars.now) }
 {
     for var in vars {
         if is_named(entries, var.name.text()) {
@@ -48,7 +48,7 @@ fn is_other_update(entry: &Entry<'_>, name: &str, op: UpdateOp) -> bool
 }
 
 fn has_other_update(entries: &[Entry<'_>], name: &str, op: UpdateOp) -> bool
-    ensures { result ≡ list_any (updates_otherwise name.now op) (seen entries.now) }
+    ensures { result ≡ list_any (updates_otherwise name.now op) (entries_view entries.now) }
 {
     for entry in entries {
         if is_other_update(entry, name, op) {
@@ -59,7 +59,7 @@ fn has_other_update(entries: &[Entry<'_>], name: &str, op: UpdateOp) -> bool
 }
 
 fn is_mixed_update(entries: &[Entry<'_>], entry: &Entry<'_>) -> bool
-    ensures { result ≡ is_mixed (seen entries.now) (entry_of entry.now) }
+    ensures { result ≡ is_mixed (entries_view entries.now) (entry_of entry.now) }
 {
     match entry.content {
         Content::Update { name, op } => has_other_update(entries, name, op),
@@ -69,7 +69,7 @@ fn is_mixed_update(entries: &[Entry<'_>], entry: &Entry<'_>) -> bool
 
 /// Whether two updates of one accumulator have different operators.
 pub fn mixes_updates(entries: &[Entry<'_>]) -> bool
-    ensures { result ≡ mixed_update (seen entries.now) }
+    ensures { result ≡ mixed_update (entries_view entries.now) }
 {
     for entry in entries {
         if is_mixed_update(entries, entry) {
@@ -95,7 +95,7 @@ fn is_leaving(entry: &Entry<'_>) -> bool
 }
 
 fn has_break(entries: &[Entry<'_>]) -> bool
-    ensures { result ≡ list_any is_break (seen entries.now) }
+    ensures { result ≡ list_any is_break (entries_view entries.now) }
 {
     for entry in entries {
         if is_leaving(entry) {
@@ -108,7 +108,7 @@ fn has_break(entries: &[Entry<'_>]) -> bool
 /// Whether a store or an update stands before some `break`.
 #[tactic(auto, unfolding(crate::specs::Classes::before_break))]
 pub fn writes_before_break(entries: &[Entry<'_>]) -> bool
-    ensures { result ≡ before_break (seen entries.now) }
+    ensures { result ≡ before_break (entries_view entries.now) }
 {
     let mut following = 0;
     for entry in entries {

@@ -1,4 +1,4 @@
-// Dumps of a page whose last bytes are `a`, `b` and 0.
+//! Dumps of a page whose last bytes are `a`, `b` and 0.
 
 use crate::dump_text;
 use guest_types::image::{Image, PageMap};

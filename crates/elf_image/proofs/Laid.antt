@@ -28,13 +28,13 @@ zeros f start (suc n) h =
     ∙ ap (λ rest. f start ∷ rest) (zeros f (start + 1) n (λ a low high. h a (omega arith) (omega arith)))
 
 -- what a segment puts at an address outside its file bytes and inside them
-byte_below : (bytes : List ℕ) (s : Segment) (a : ℕ) → a < s.vaddr → segment_byte bytes s a ≡ 0
+pub byte_below : (bytes : List ℕ) (s : Segment) (a : ℕ) → a < s.vaddr → segment_byte bytes s a ≡ 0
 byte_below bytes s a h = grind (arith, nat_tests)
 
-byte_past : (bytes : List ℕ) (s : Segment) (a : ℕ) → s.vaddr + s.filesz ≤ a → segment_byte bytes s a ≡ 0
+pub byte_past : (bytes : List ℕ) (s : Segment) (a : ℕ) → s.vaddr + s.filesz ≤ a → segment_byte bytes s a ≡ 0
 byte_past bytes s a h = grind (arith, nat_tests)
 
-byte_inside : (bytes : List ℕ) (s : Segment) (a : ℕ) → s.vaddr ≤ a → a < s.vaddr + s.filesz → segment_byte bytes s a ≡ get_or bytes (s.offset + (a - s.vaddr)) 0
+pub byte_inside : (bytes : List ℕ) (s : Segment) (a : ℕ) → s.vaddr ≤ a → a < s.vaddr + s.filesz → segment_byte bytes s a ≡ get_or bytes (s.offset + (a - s.vaddr)) 0
 byte_inside bytes s a low high = grind (arith, nat_tests)
 
 -- the file bytes of a segment from one address until another

@@ -3,3 +3,4 @@ pub mod Tables
 pub mod Ordering
 pub mod Laid
 pub mod Memories
+pub mod Mapped

@@ -37,7 +37,7 @@ climbs-pages bytes s n first zero rest h c = climbs-lower n (first + 0) rest (om
 climbs-pages bytes s n first (suc count) rest h c =
     (h, climbs-pages bytes s (first + 1) (first + 1) count rest (omega arith) (climbs-lower (first + 1 + count) (first + suc count) rest (omega arith) c))
 
-neither : (a b : Bool) → (a || b) ≡ false → (a ≡ false) × (b ≡ false)
+pub neither : (a b : Bool) → (a || b) ≡ false → (a ≡ false) × (b ≡ false)
 neither true b e = absurd cc
 neither false b e = (refl, e)
 

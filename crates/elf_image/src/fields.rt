@@ -1,4 +1,4 @@
-// The little-endian fields of a file.
+//! The little-endian fields of a file.
 
 ghost use Rattle.std.specs.Prelude.{◌≡◌, ◌+◌, ◌≤◌, ◌++◌, length, IfOk};
 ghost use Rattle.std.specs.Int.{to_le_bytes, w16, w32, w64};

@@ -1,4 +1,4 @@
-// The header of a file.
+//! The header of a file.
 
 ghost use Rattle.std.specs.Prelude.{◌≡◌, ◌+◌, ◌*◌, ◌<◌, ◌≤◌, ◌&&◌, length, IfOk, IfErr, Err};
 ghost use Rattle.machine_model.specs.Load.{load, load_segments, segments_from, has_ident};

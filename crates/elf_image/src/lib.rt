@@ -3,6 +3,7 @@
 
 mod fields;
 mod header;
+pub mod laws;
 pub mod load;
 mod order;
 mod pages;

@@ -1,4 +1,4 @@
-// Loading a file as an image.
+//! Loading a file as an image.
 
 ghost use Rattle.std.specs.Prelude.{◌≡◌, ◌%◌, ◌<◌, length, nat_eq, if◌then◌else◌, IfOk, IfErr, Ok, Err};
 ghost use Rattle.machine_model.specs.Load.{load, code_end_of};

@@ -1,4 +1,4 @@
-// The pages of segments.
+//! The pages of segments.
 
 ghost use Rattle.std.specs.Prelude.{◌≡◌, ◌+◌, ◌*◌, ◌^◌, ◌<◌, ◌≤◌, ◌++◌, ◌-◌, length, replicate, map, flat_map, IfOk};
 ghost use Rattle.std.specs.List.{range_with_len};

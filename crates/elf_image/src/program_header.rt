@@ -1,4 +1,4 @@
-// Program headers, as far as they are read.
+//! Program headers, as far as they are read.
 
 ghost use Rattle.std.specs.Prelude.{◌≡◌, ◌+◌, ◌-◌, ◌^◌, ◌<◌, ◌≤◌, take, drop, length, if◌then◌else◌, Some, None};
 ghost use Rattle.machine_model.specs.Load.{Segment, segment_at, has_flag, is_loaded, is_dynamic, is_bad, first_page, page_count, perm_of, holds_entry};

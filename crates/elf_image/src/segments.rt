@@ -1,4 +1,4 @@
-// The segments of a file that are loaded.
+//! The segments of a file that are loaded.
 
 ghost use Rattle.std.specs.Prelude.{◌≡◌, ◌+◌, ◌*◌, ◌^◌, ◌<◌, ◌≤◌, length, filter, sum_by, nat_lt, IfOk, IfErr};
 ghost use Rattle.machine_model.specs.Load.{load_segments, segments_from, any_segment, is_dynamic, is_loaded, first_bad, page_count};

@@ -1,4 +1,4 @@
-// Files from outside, and files with one thing wrong.
+//! Files from outside, and files with one thing wrong.
 
 use crate::{ElfFault, load_elf, write_elf};
 use guest_types::image::Image;

@@ -1,4 +1,4 @@
-// Writing the file of some words.
+//! Writing the file of some words.
 
 ghost use Rattle.std.specs.Prelude.{◌≡◌, ℕ, ◌+◌, ◌*◌, ◌≤◌, ◌++◌, List, [], take, length, IfOk, Ok};
 ghost use Rattle.machine_model.specs.Load.{load};

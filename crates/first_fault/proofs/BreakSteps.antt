@@ -10,7 +10,7 @@ use Rattle.guest_types.specs.Lanes.{broken, brk_at}
 use Rattle.guest_types.proofs.AtWidths.{width_bytes-lanes, bit-predicate}
 use Rattle.guest_types.proofs.Widths.{some-bytes}
 use Rattle.machine_model.specs.Machine.{State, p_at, with_p, next}
-use Rattle.machine_model.proofs.States.{truths_put}
+use Rattle.machine_model.proofs.StateSteps.{truths_put}
 use Rattle.label_fix.specs.DraftRun.{Entry, Laid}
 use Rattle.chunk_order.specs.Orders.{Lane, Lanes, Halts, Keeps}
 use Rattle.loop_form.specs.LoopItems.{Quit, item}
@@ -22,9 +22,9 @@ use Rattle.first_fault.specs.Region.{Way, Broke, way_of, item_way}
 use Rattle.first_fault.specs.RegionCode.{Mode, break_word}
 use Rattle.first_fault.specs.Prefix.{IsTop, Inside}
 use Rattle.first_fault.specs.RegionRuns.{by_break, Cuts, comes}
-use Rattle.first_fault.proofs.Bits.{inside, narrow, not_broken, is_broken, First, missing, found, first_is}
+use Rattle.first_fault.proofs.PrefixBits.{inside, narrow, not_broken, is_broken, First, missing, found, first_is}
 use Rattle.first_fault.proofs.Stretches.{word_leads}
-use Rattle.first_fault.proofs.Insides.{long, low, byte_made, length_is, few_all, top_is, inside_on}
+use Rattle.first_fault.proofs.PrefixSteps.{long, low, byte_made, length_is, few_all, top_is, inside_on}
 use Rattle.first_fault.proofs.PureSteps.{same_p, only_put}
 
 and_false : (b : Bool) → (b && false) ≡ false

@@ -18,11 +18,11 @@ use Rattle.machine_model.specs.Machine.{State, Went, x_at, x_or_sp, z_at, p_at, 
 use Rattle.machine_model.specs.OneStep.{cuts_in}
 use Rattle.machine_model.specs.States.{IsState}
 use Rattle.machine_model.specs.VectorEffects.{field_of, do_vector, with_early, after_early, is_early_cut}
-use Rattle.machine_model.proofs.States.{truths_put, went_keeps}
+use Rattle.machine_model.proofs.StateSteps.{truths_put, went_keeps}
 use Rattle.machine_model.specs.declared.outcome.StopKind.TheVariants.{Read}
 use Rattle.label_fix.specs.DraftRun.{Entry, Laid}
 use Rattle.label_fix.specs.Stretches.{Stops}
-use Rattle.label_fix.proofs.Steps.{put_stops, stop_more}
+use Rattle.label_fix.proofs.StretchSteps.{put_stops, stop_more}
 use Rattle.chunk_order.specs.Orders.{Lane, Lanes}
 use Rattle.chunk_order.specs.Items.{nth_value}
 use Rattle.lane_emit.specs.Right.{PRight, within}
@@ -32,14 +32,14 @@ use Rattle.chunk_emit.specs.Registers.{Layout, z_of, IsValueUsed}
 use Rattle.chunk_emit.specs.ChunkCode.{puts}
 use Rattle.chunk_emit.specs.Chunk.{Setting, count_of, Holds}
 use Rattle.chunk_emit.specs.Fits.{Assigned, MakesValue}
-use Rattle.chunk_emit.proofs.Columns.{first_none}
+use Rattle.chunk_emit.proofs.ItemLanes.{first_none}
 use Rattle.first_fault.specs.Region.{Way}
 use Rattle.first_fault.specs.RegionCode.{Early, first_fault_word, non_fault_word, read_faults}
 use Rattle.first_fault.specs.Prefix.{Inside}
 use Rattle.first_fault.specs.RegionRuns.{Why, by_fault, by_stop, Cuts, stops, comes}
-use Rattle.first_fault.proofs.Bits.{scaled, narrow, First, missing, found, first_is}
+use Rattle.first_fault.proofs.PrefixBits.{scaled, narrow, First, missing, found, first_is}
 use Rattle.first_fault.proofs.Stretches.{Pair, pair}
-use Rattle.first_fault.proofs.Insides.{prefix, low, length_is, few_all}
+use Rattle.first_fault.proofs.PrefixSteps.{prefix, low, length_is, few_all}
 use Rattle.first_fault.proofs.BreakSteps.{byte_and}
 use Rattle.first_fault.proofs.ReadLanes as reads
 use Rattle.first_fault.proofs.ReadLanes.{not_both}

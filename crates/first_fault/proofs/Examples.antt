@@ -14,7 +14,7 @@ use Rattle.sve_code.specs.Table.{p_and, brkb, rdffr_z, setffr, cmpeq, ld1, ldff1
 use Rattle.machine_model.specs.InstructionTable.{Scalar, Vector}
 use Rattle.chunk_order.specs.Orders.{Lane}
 use Rattle.loop_form.specs.declared.loop_item.Source.{Source}
-use Rattle.loop_form.specs.declared.loop_item.Source.TheVariants.{Constant, Outer, Turn, Made}
+use Rattle.loop_form.specs.declared.loop_item.Source.TheVariants.{Constant, Outer, LoopIndex, Made}
 use Rattle.loop_form.specs.LoopItems.{Item, item, Load, Store, Test, Invert, Any, Quit}
 use Rattle.lane_emit.specs.Stretch.{word}
 use Rattle.chunk_emit.specs.Registers.{Layout}
@@ -97,7 +97,7 @@ falls = refl
 
 -- `break if i == 20;`
 abbrev at_twenty : List Item
-at_twenty = item 4 None (Test compare.Eq (Some ty.U64) Turn (Constant (Some ty.U64) (pos 20))) ∷ item 5 None (Quit 4) ∷ []
+at_twenty = item 4 None (Test compare.Eq (Some ty.U64) LoopIndex (Constant (Some ty.U64) (pos 20))) ∷ item 5 None (Quit 4) ∷ []
 
 breaks : region_way [] at_twenty 20 [] fresh ≡ Broke
 breaks = refl
@@ -143,7 +143,7 @@ one_truth (suc (suc (suc (suc (suc (suc q)))))) lt = absurd (omega (arith, lt))
 held_zero : (x : Source) → is_held x ≡ true → register x ≡ 0
 held_zero (Constant t z) e = refl
 held_zero (Outer p) e = refl
-held_zero Turn e = refl
+held_zero LoopIndex e = refl
 held_zero (Made q) e = absurd cc
 
 assigned : Assigned layout

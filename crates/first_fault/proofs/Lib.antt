@@ -1,16 +1,16 @@
-pub mod Bits
+pub mod PrefixBits
 pub mod Stretches
 mod PlainCode
-pub mod Insides
+pub mod PrefixSteps
 mod PureSteps
 mod BreakSteps
 mod ReadLanes
 mod SingleReads
 mod EarlyReads
-mod Steps
-pub mod Runs
+mod CutsLists
+pub mod RegionRuns
 pub mod RegionItems
-pub mod Rests
+pub mod RestHolds
 pub mod Counts
 pub mod Splits
 pub mod TurnWays
@@ -25,5 +25,5 @@ pub mod SplitCode
 mod SplitWays
 mod SplitFits
 pub mod SplitLaws
-mod Joined
+mod RegionPuts
 mod Examples

@@ -6,6 +6,7 @@ use Rattle.std.proofs.lemmas.Bool.{cases_lt}
 use Rattle.kernel_tree.specs.Plain.{Term, Literal, Variable, Element, Unary, Operation, Shift, Conversion, Choice, Comparison, Both, Either, Not, Action, Define, Put, Update, Choose, Leave, Block, Done, Then, Otherwise, Nothing, Else, PlainLoop, Program}
 use Rattle.kernel_tree.specs.Items.{stream_offset, index_size, index_items, term_size, action_size, block_size, otherwise_size, loop_index}
 use Rattle.kernel_tree.specs.Typing.{Scope, after_action, in_loop, var_scope}
+use Rattle.kernel_tree.proofs.Scopes.{index_after, scope_index}
 use Rattle.reg_assign.specs.declared.interval.RegClass.TheVariants.{P}
 use Rattle.reg_assign.specs.Registers.{Assignment}
 use Rattle.loop_form.specs.Entries.{Content, IsLiteral, IsName, IsRead, IsLet, IsStore, IsUpdate, IsPlain, Entry, kind_of, inner_entries, term_entries, action_entries, block_entries, otherwise_entries, turns_entries, loop_entries, loop_start, entries_of}
@@ -13,11 +14,9 @@ use Rattle.loop_form.specs.Listing.{has_p, held, last_of}
 use Rattle.loop_form.specs.LoopItems.{Bound, Item, after_env, block_items, loop_env, loop_items}
 use Rattle.loop_form.specs.Numbers.{Numbered}
 use Rattle.loop_form.proofs.Numbers.{action-listed}
-use Rattle.chunk_order.proofs.OrderLaw.{scope_index}
 use Rattle.chunk_emit.specs.KernelLayout.{last_in, item_last_use, layout_of_loop}
 use Rattle.chunk_emit.proofs.FitsEntries.{AllGive, give_left, give_right, loop_gives}
 use Rattle.chunk_emit.proofs.FitsIntervals.{of_p, first_nothing}
-use Rattle.chunk_emit.proofs.FitsTypes.{action_index}
 use Rattle.first_fault.specs.KernelFits.{following_region, is_inner_break}
 use Rattle.first_fault.specs.Rest.{NoTruthLive}
 use Rattle.first_fault.proofs.TopBreaks.{breaks_of, following_break, region_end, outer_of, TopAction, goes, ends, top_action}
@@ -129,7 +128,7 @@ module _ (k : Program) where
       let later : List Item = block_items (after_action s a) None next (after_env s b env a) t [] in
       let there : Ended next = subst Ended size (action_ended a b (give_left k (action_entries k b a) _ g) here) in
       let gives : AllGive k (block_entries k next t) = subst (λ n. AllGive k (block_entries k n t)) size (give_right k (action_entries k b a) _ g) in
-      by (top_action a s b env later none) there (λ q. block_ended t (after_action s a) next q (after_env s b env a) (action_index k a s ∙ e) gives)
+      by (top_action a s b env later none) there (λ q. block_ended t (after_action s a) next q (after_env s b env a) (index_after s a ∙ e) gives)
     where
       by : TopAction s b env a (block_items (after_action s a) None (b + action_size s.index a) (after_env s b env a) t []) → Ended (b + action_size s.index a)
           → ((q : ℕ) → Ended q → Ended (b + action_size s.index a) → list_any is_inner_break (breaks_of (block_items (after_action s a) None (b + action_size s.index a) (after_env s b env a) t [])) ≡ false → Ended (following_break q (breaks_of (block_items (after_action s a) None (b + action_size s.index a) (after_env s b env a) t []))))

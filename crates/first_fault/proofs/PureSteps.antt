@@ -13,7 +13,7 @@ use Rattle.kernel_tree.specs.declared.ops.Ty.{Ty}
 use Rattle.kernel_tree.specs.Wrap.{residue}
 use Rattle.machine_model.specs.InstructionTable.{Listed}
 use Rattle.machine_model.specs.Machine.{State, p_at, with_p, next}
-use Rattle.machine_model.proofs.States.{truths_put}
+use Rattle.machine_model.proofs.StateSteps.{truths_put}
 use Rattle.label_fix.specs.DraftRun.{Entry, Laid}
 use Rattle.chunk_order.specs.Orders.{Lane, Lanes, Keeps}
 use Rattle.loop_form.specs.declared.loop_item.Source.TheVariants.{Made}
@@ -28,7 +28,7 @@ use Rattle.chunk_emit.specs.Registers.{Layout, z_of, p_of, IsValueUsed, IsTruthU
 use Rattle.chunk_emit.specs.ChunkCode.{vectors, puts}
 use Rattle.chunk_emit.specs.Chunk.{Setting, count_of, Holds}
 use Rattle.chunk_emit.specs.Fits.{Assigned, FitsMask, MakesValue, MakesTruth}
-use Rattle.chunk_order.proofs.Solo.{value_same, value_other}
+use Rattle.chunk_order.proofs.LaneValues.{value_same, value_other}
 use Rattle.vector_order.proofs.Terms.{truth_same, truth_other}
 use Rattle.first_fault.specs.Region.{Way, halted, way_of, item_way}
 use Rattle.first_fault.specs.RegionCode.{Mode, narrow_words, step_words}
@@ -37,7 +37,7 @@ use Rattle.first_fault.specs.Prefix.{Same, Inside}
 use Rattle.first_fault.specs.RegionRuns.{Cuts, comes}
 use Rattle.first_fault.proofs.Stretches.{rest_at, word_leads, follow, words_lead}
 use Rattle.first_fault.proofs.PlainCode.{op_plain}
-use Rattle.first_fault.proofs.Insides.{same_then, prefix, in_bytes, byte_made, length_is, few_all, top_is, inside_on, ready}
+use Rattle.first_fault.proofs.PrefixSteps.{same_then, prefix, in_bytes, byte_made, length_is, few_all, top_is, inside_on, ready}
 
 pub and_true : (b : Bool) → b ≡ (b && true)
 and_true true = refl

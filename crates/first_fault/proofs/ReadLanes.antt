@@ -3,8 +3,6 @@ use Rattle.std.proofs.Common.{◌≡◌, ◌≢◌, ℕ, zero, suc, ◌+◌, ◌
 use Rattle.std.specs.Prelude.{is_some, slice_index, if◌then◌else◌}
 use Rattle.std.proofs.lemmas.Bool.{cases_lt, lt-ltb, le-ltb}
 use Rattle.std.proofs.lemmas.List.Elements.{All-get_or}
-use Rattle.std.proofs.Math.Nat.{zero-mod}
-use Rattle.guest_types.specs.declared.length.Width.{Width}
 use Rattle.guest_types.specs.declared.memory.AccessFault.{AccessFault}
 use Rattle.guest_types.specs.Length.{width_bits, width_bytes, modulus, lanes}
 use Rattle.guest_types.specs.Memory.{can_read, first_fault, number_at}
@@ -14,13 +12,13 @@ use Rattle.guest_types.proofs.Stores.{number_at-below}
 use Rattle.guest_types.proofs.AtWidths.{at-register}
 use Rattle.kernel_tree.specs.declared.ops.Ty.{Ty}
 use Rattle.kernel_tree.specs.declared.ops.Ty.TheVariants as ty
-use Rattle.kernel_tree.specs.Wrap.{wrap, bits_of}
+use Rattle.kernel_tree.specs.Wrap.{bits_of}
 use Rattle.kernel_meaning.specs.Operators.{word}
 use Rattle.kernel_meaning.specs.Eval.{address, byte_count, read_value}
 use Rattle.kernel_meaning.proofs.Residues.{word-add}
 use Rattle.machine_model.specs.InstructionTable.{Listed}
 use Rattle.machine_model.specs.Machine.{State, x_at, p_at}
-use Rattle.machine_model.proofs.States.{x_put}
+use Rattle.machine_model.proofs.StateSteps.{x_put}
 use Rattle.label_fix.specs.DraftRun.{Entry, Laid}
 use Rattle.chunk_order.specs.Orders.{Lane, Lanes, Halts, Keeps}
 use Rattle.loop_form.specs.declared.loop_item.Source.TheVariants.{Outer}
@@ -28,21 +26,20 @@ use Rattle.loop_form.specs.LoopItems.{Load, item}
 use Rattle.chunk_order.specs.Items.{nth_value, with_value, on_mask, load_effect}
 use Rattle.lane_emit.specs.Right.{IsOf, PRight, within}
 use Rattle.lane_emit.specs.ItemCode.{mask_of, mask_register}
-use Rattle.lane_emit.proofs.Residues.{held, held-whole}
-use Rattle.lane_emit.proofs.Ranges.{wrap-is_of}
+use Rattle.lane_emit.proofs.Residues.{held}
 use Rattle.chunk_emit.specs.Registers.{Layout}
 use Rattle.chunk_emit.specs.ChunkCode.{with_index, index_of, dtype_of, memory_size, puts}
 use Rattle.chunk_emit.specs.Chunk.{Setting, count_of, Holds}
 use Rattle.chunk_emit.specs.Fits.{Assigned, IsNear}
 use Rattle.chunk_emit.proofs.Indexes.{scratched}
 use Rattle.chunk_emit.proofs.LoadForms.{IsForm, is_form, bytes_power}
-use Rattle.chunk_emit.proofs.Loads.{read_lane}
+use Rattle.chunk_emit.proofs.Loads.{read_lane, lane_value, read_of}
 use Rattle.first_fault.specs.Region.{Way, On, Fell, way_of, item_way}
 use Rattle.first_fault.specs.RegionCode.{Mode}
 use Rattle.label_fix.specs.Stretches.{Leads}
 use Rattle.first_fault.specs.Prefix.{Inside}
 use Rattle.first_fault.proofs.Stretches.{rest_at, word_leads}
-use Rattle.first_fault.proofs.Insides.{same_then, prefix, length_is, few_all}
+use Rattle.first_fault.proofs.PrefixSteps.{same_then, prefix, length_is, few_all}
 
 -- ---- what a read does in one lane
 
@@ -53,24 +50,6 @@ read_does t q l true None n = refl
 read_does t q l true (Some fault) n = refl
 read_does t q l false None n = refl
 read_does t q l false (Some fault) n = refl
-
-zero_of : (t : Ty) → IsOf t (pos 0)
-zero_of ty.I8 = wrap-is_of ty.I8 (pos 0)
-zero_of ty.I16 = wrap-is_of ty.I16 (pos 0)
-zero_of ty.I32 = wrap-is_of ty.I32 (pos 0)
-zero_of ty.I64 = wrap-is_of ty.I64 (pos 0)
-zero_of ty.U8 = wrap-is_of ty.U8 (pos 0)
-zero_of ty.U16 = wrap-is_of ty.U16 (pos 0)
-zero_of ty.U32 = wrap-is_of ty.U32 (pos 0)
-zero_of ty.U64 = wrap-is_of ty.U64 (pos 0)
-
-read_of : (t : Ty) (b : Bool) (n : ℕ) → IsOf t (read_lane t b n)
-read_of t true n = wrap-is_of t (pos n)
-read_of t false n = zero_of t
-
-lane_value : (t : Ty) (w : Width) (b : Bool) (v : ℕ) → IsForm t w → v < 2 ^ bits_of t → cond b (extended (load_form (dtype_of t w)) v) 0 % modulus w ≡ held w (read_lane t b v)
-lane_value t w true v form lt = ap (λ m. m % modulus w) (form.reads v lt) ∙ held-whole w (wrap t (pos v))
-lane_value t w false v form lt = zero-mod (modulus w) ∙ sym (zero-mod (2 ^ width_bits w))
 
 true_false : (b : Bool) → b ≡ true → b ≡ false → ⊥
 true_false true e g = subst (λ b. elim b as (λ _. Type 0) [ true ↦ Unit {0} | false ↦ ⊥ ]) g tt

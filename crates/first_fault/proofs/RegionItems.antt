@@ -7,7 +7,7 @@ use Rattle.chunk_order.specs.Items.{on_mask}
 use Rattle.vector_order.specs.Items.{item_act, acts_of}
 use Rattle.chunk_emit.specs.Registers.{Layout}
 use Rattle.chunk_emit.specs.Chunk.{Setting}
-use Rattle.chunk_emit.proofs.Columns.{first_none, lane_out, Own, OwnColumn, own_fine, own_column}
+use Rattle.chunk_emit.proofs.ItemLanes.{first_none, lane_out, Own, OwnColumn, own_fine, own_column}
 use Rattle.first_fault.specs.Region.{Way, On, halted, way_of, way_on, region_way}
 use Rattle.first_fault.specs.Fits.{FitsStep, FitsRegion}
 use Rattle.first_fault.specs.Split.{writes}

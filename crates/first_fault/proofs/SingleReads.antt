@@ -13,12 +13,12 @@ use Rattle.machine_model.specs.InstructionTable.{Vector}
 use Rattle.machine_model.specs.Machine.{State, Step, x_at, x_or_sp, z_at, with_z, p_at, next}
 use Rattle.machine_model.specs.States.{IsState}
 use Rattle.machine_model.specs.VectorEffects.{do_vector, after_load}
-use Rattle.machine_model.proofs.States.{load_put}
+use Rattle.machine_model.proofs.StateSteps.{load_put}
 use Rattle.label_fix.specs.DraftRun.{Entry, Laid}
 use Rattle.label_fix.specs.Stretches.{Stops}
-use Rattle.label_fix.proofs.Steps.{put_stops}
+use Rattle.label_fix.proofs.StretchSteps.{put_stops}
 use Rattle.chunk_order.specs.Orders.{Lane, Lanes}
-use Rattle.chunk_order.proofs.Solo.{value_same, value_other}
+use Rattle.chunk_order.proofs.LaneValues.{value_same, value_other}
 use Rattle.chunk_order.specs.Items.{nth_value}
 use Rattle.lane_emit.specs.Right.{IsOf, PRight, within}
 use Rattle.lane_emit.specs.ItemCode.{mask_of, mask_register}
@@ -33,9 +33,9 @@ use Rattle.first_fault.specs.Region.{Fell}
 use Rattle.first_fault.specs.RegionCode.{Mode, Early, Single}
 use Rattle.first_fault.specs.Prefix.{IsTop, Same, Inside}
 use Rattle.first_fault.specs.RegionRuns.{Cuts, stops, comes}
-use Rattle.first_fault.proofs.Bits.{First, missing, found, first_is}
+use Rattle.first_fault.proofs.PrefixBits.{First, missing, found, first_is}
 use Rattle.first_fault.proofs.Stretches.{word_leads}
-use Rattle.first_fault.proofs.Insides.{prefix, inside_on}
+use Rattle.first_fault.proofs.PrefixSteps.{prefix, inside_on}
 use Rattle.first_fault.proofs.PureSteps.{same_z}
 use Rattle.first_fault.proofs.ReadLanes as reads
 use Rattle.first_fault.proofs.ReadLanes.{x_is}

@@ -8,7 +8,7 @@ use Rattle.loop_form.specs.LoopView.{view_of, view}
 use Rattle.loop_form.specs.LoopItems.{Op, Item, item}
 use Rattle.chunk_emit.specs.Registers.{Layout}
 use Rattle.chunk_emit.specs.Writable.{IsWritable, AreWritable}
-use Rattle.chunk_emit.proofs.Chosen.{no_item, at_place}
+use Rattle.chunk_emit.proofs.StepCode.{no_item, at_place}
 use Rattle.first_fault.specs.SplitBreaks.{takes_truth, next_item, ends_second, in_second, is_split, opens, Spot, Alone, Second, Closed, after_opening, after_second, next_spot, opening, second_step, step_at, with_step, steps_from, split_breaks}
 
 -- ---- how many

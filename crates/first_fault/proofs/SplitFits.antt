@@ -7,7 +7,7 @@ use Rattle.std.proofs.lemmas.Bool.Decides.{eqb_tells}
 use Rattle.guest_types.specs.declared.length.Width.{Width}
 use Rattle.kernel_tree.specs.declared.ops.Ty.{Ty}
 use Rattle.loop_form.specs.declared.loop_item.Source.{Source}
-use Rattle.loop_form.specs.declared.loop_item.Source.TheVariants.{Constant, Outer, Turn, Made}
+use Rattle.loop_form.specs.declared.loop_item.Source.TheVariants.{Constant, Outer, LoopIndex, Made}
 use Rattle.loop_form.specs.LoopItems.{Op, Load, Apply, Combine, Move, Cast, Copy, Pick, Store, Add, Test, Invert, Same, Any, Quit, Item, item}
 use Rattle.chunk_emit.specs.Registers.{Layout}
 use Rattle.chunk_emit.specs.Chunk.{Setting}
@@ -55,7 +55,7 @@ without_assigned l out fit = record {
 source_fits : (l : Layout) (out : ℕ → Bool) (p : ℕ) (t : Ty) (x : Source) → FitsSource l p t x → FitsSource (without l out) p t x
 source_fits l out p t (Constant s z) k = k
 source_fits l out p t (Outer x) k = k
-source_fits l out p t Turn k = k
+source_fits l out p t LoopIndex k = k
 source_fits l out p t (Made q) k = k
 
 -- none of the conditions that an operation takes is left out

@@ -29,7 +29,7 @@ use Rattle.first_fault.specs.Rest.{NoTruthLive}
 use Rattle.first_fault.specs.Split.{quits}
 use Rattle.first_fault.specs.SplitBreaks.{Alone, steps_from, split_breaks}
 use Rattle.first_fault.specs.SplitRuns.{SplitExitsRun, SplitSingleRuns}
-use Rattle.first_fault.proofs.Runs.{exits_run, single_runs}
+use Rattle.first_fault.proofs.RegionRuns.{exits_run, single_runs}
 use Rattle.first_fault.proofs.SplitWays.{Alike, AlikeWay, goes}
 use Rattle.first_fault.proofs.SplitFits.{without, without_less, without_same, without_assigned, quits_at, Ascends, Ahead, ahead_next, none_early, ahead_here, steps_ascend, StepsFit, fits_from}
 

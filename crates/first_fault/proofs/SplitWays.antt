@@ -2,24 +2,22 @@
 use Rattle.std.proofs.Common.{◌≡◌, ◌≢◌, ℕ, ◌+◌, ◌<◌, ◌≤◌, ℤ, pos, ◌+ℤ◌, Bool, true, false, not, ◌&&◌, ◌||◌, List, [], ◌∷◌, Option, Some, None, refl, sym, ap, ap₂, ◌∙◌, subst, arith, ⊎_elim}
 use Rattle.std.specs.Prelude.{nat_eq, nat_le, if◌then◌else◌}
 use Rattle.std.proofs.lemmas.Bool.{cases_lt, leb-true, and_parts, true≢false}
-use Rattle.std.proofs.lemmas.Bool.Decides.{eqb_tells, nat_tests}
+use Rattle.std.proofs.lemmas.Bool.Decides.{eqb_tells}
 use Rattle.guest_types.specs.Memory.{Memory}
-use Rattle.kernel_tree.specs.declared.ops.Ty.{Ty}
 use Rattle.kernel_tree.specs.Wrap.{wrap}
 use Rattle.kernel_meaning.specs.Operators.{unary_value, binary_value, shift_value, compare_on}
 use Rattle.kernel_meaning.specs.Eval.{Names, read_element, choose_value}
 use Rattle.chunk_order.specs.Orders.{Lane, Effect, Halts, Keeps, Writes}
-use Rattle.chunk_order.proofs.Solo.{value_same, value_other}
 use Rattle.loop_form.specs.declared.loop_item.Source.{Source}
-use Rattle.loop_form.specs.declared.loop_item.Source.TheVariants.{Constant, Outer, Turn, Made}
+use Rattle.loop_form.specs.declared.loop_item.Source.TheVariants.{Constant, Outer, LoopIndex, Made}
 use Rattle.loop_form.specs.LoopItems.{Op, Load, Apply, Combine, Move, Cast, Copy, Pick, Store, Add, Test, Invert, Same, Any, Quit, Item, item}
 use Rattle.chunk_order.specs.Items.{source_value, with_value, on_mask, load_effect}
-use Rattle.vector_order.specs.Items.{with_truth, op_effect, item_act}
+use Rattle.vector_order.specs.Items.{with_truth, op_effect}
 use Rattle.vector_order.proofs.Terms.{truth_same, truth_other}
 use Rattle.chunk_emit.specs.Registers.{Layout}
 use Rattle.chunk_emit.specs.Chunk.{Setting}
 use Rattle.chunk_emit.specs.Fits.{FitsMask, NoneBetween}
-use Rattle.first_fault.specs.Region.{Way, On, Broke, Fell, halted, way_of, way_on, item_way, region_way}
+use Rattle.first_fault.specs.Region.{Way, On, Broke, Fell, halted, way_of, way_on, region_way}
 use Rattle.first_fault.specs.Fits.{FitsStep, FitsRegion}
 use Rattle.first_fault.specs.SplitBreaks.{takes_truth, is_quit_on, breaks_next, next_item, ends_second, in_second, is_split, opens, Spot, Alone, Second, Closed, after_opening, after_second, break_on, opening, second_of, second_step, steps_from}
 
@@ -33,7 +31,7 @@ pub record Alike (l : Layout) (p : ℕ) (a b : Lane) : Type 0 where
 source_alike : {l : Layout} {p : ℕ} {a b : Lane} (names : Names) (i : ℕ) (x : Source) → Alike l p a b → source_value names i a x ≡ source_value names i b x
 source_alike names i (Constant t z) h = refl
 source_alike names i (Outer q) h = refl
-source_alike names i Turn h = refl
+source_alike names i LoopIndex h = refl
 source_alike names i (Made q) h = h.values q
 
 -- later
@@ -310,7 +308,7 @@ op_stays names q j on m a r ne (Cast s t x) = refl
 op_stays names q j on m a r ne (Copy t x) = refl
 op_stays names q j on m a r ne (Pick t c x y) = refl
 op_stays names q j false m a r ne (Store array base t c v) = refl
-op_stays names q j true m a r ne (Store array base None c v) = refl
+op_stays names q j true m a r ne (Store array base None c v) = tt
 op_stays names q j true m a r ne (Store array base (Some t) c v) = tt
 op_stays names q j false m a r ne (Add x op t v) = refl
 op_stays names q j true m a r ne (Add x op t v) = refl

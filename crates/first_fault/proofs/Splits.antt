@@ -1,6 +1,6 @@
 -- A loop of class Vector stores and updates nothing up to its last break.
 use Rattle.std.proofs.Common.{◌≡◌, ℕ, ◌+◌, ℤ, Bool, true, false, not, ◌&&◌, ◌||◌, List, [], ◌∷◌, ◌++◌, Option, Some, None, refl, sym, ap, ap₂, ◌∙◌, subst}
-use Rattle.std.specs.Prelude.{is_none, if◌then◌else◌}
+use Rattle.std.specs.Prelude.{if◌then◌else◌}
 use Rattle.std.specs.List.{list_any}
 use Rattle.kernel_tree.specs.declared.ops.Ty.{Ty}
 use Rattle.kernel_tree.specs.Plain.{Term, Literal, Variable, Element, Unary, Operation, Shift, Conversion, Choice, Comparison, Both, Either, Not, Action, Define, Put, Update, Choose, Leave, Block, Done, Then, Otherwise, Nothing, Else, Program}
@@ -8,19 +8,17 @@ use Rattle.kernel_tree.specs.Items.{stream_offset, loop_index, term_size, action
 use Rattle.kernel_tree.specs.Typing.{Scope, own, first, side_type, after_action, after_block, left, in_loop, var_scope}
 use Rattle.guest_types.specs.Memory.{Memory}
 use Rattle.kernel_meaning.specs.Eval.{Names}
-use Rattle.loop_form.specs.declared.item.ItemKind.TheVariants as kind
 use Rattle.loop_form.specs.Entries.{Content, IsLiteral, IsName, IsRead, IsLet, IsStore, IsUpdate, IsPlain, Entry, entry, inner_entries, term_entries, action_entries, block_entries, otherwise_entries, loop_start, loop_entries, turns_entries}
 use Rattle.loop_form.specs.declared.loop_item.Source.{Source}
 use Rattle.loop_form.specs.LoopItems.{Bound, array_type, Op, Load, Apply, Combine, Move, Cast, Copy, Pick, Store, Add, Test, Invert, Same, Any, Quit, Item, truth_home, load_item, term_items, cond_items, store_item, accumulator_of, after_env, action_items, block_items, otherwise_items, loop_env, loop_items}
-use Rattle.dependence.specs.declared.reason.Class.TheVariants.{Vector}
-use Rattle.dependence.specs.declared.reason.Why.TheVariants as why
-use Rattle.dependence.specs.Classes.{accumulator_read, mixed_update, write_content, break_content, is_break, before_break, reason, class_by, class_of}
+use Rattle.dependence.specs.Classes.{write_content, break_content, is_break, before_break}
+use Rattle.dependence.proofs.ClassLaws.{class_facts}
 use Rattle.chunk_order.specs.Orders.{Lane, Effect, Halts, Keeps, Writes}
 use Rattle.chunk_order.specs.Regions.{AllQuiet}
 use Rattle.chunk_order.specs.Items.{on_mask, load_effect}
-use Rattle.chunk_order.proofs.OrderLaw.{no_reason, vector_by, vector_loop}
 use Rattle.vector_order.specs.Items.{op_effect, acts_of}
 use Rattle.first_fault.specs.Split.{quits, is_quit, writes, is_write, region_of, rest_of, RegionSplits}
+use Rattle.loop_form.specs.declared.item.ItemKind.TheVariants as kind
 
 -- ---- writes and breaks as marks: a break is true
 
@@ -325,13 +323,6 @@ all_quiet names (it ∷ items) h =
     let parts = or_left (is_write it) (list_any is_write items) h in
     (record { never = λ i m l a k v e. subst IsQuiet e (op_quiet names it.item i (on_mask it.mask l) m l it.op parts.0) }, all_quiet names items parts.1)
 
-class_unbroken : (k : Program) → class_of k ≡ Vector → before_break (loop_entries k) ≡ false
-class_unbroken k e =
-    let all : reason k (loop_entries k) ≡ None = vector_by (reason k (loop_entries k)) (vector_loop (is_none k.turns) (class_by (reason k (loop_entries k))) e) in
-    let a = no_reason (accumulator_read (loop_entries k) k.vars) why.AccumulatorRead _ all in
-    let b = no_reason (mixed_update (loop_entries k)) why.MixedUpdate _ a.1 in
-    (no_reason (before_break (loop_entries k)) why.BeforeBreak _ b.1).0
-
 nothing_following : (bs : List Bool) → bs ++ [] ≡ bs
 nothing_following [] = refl
 nothing_following (b ∷ bs) = ap (λ r. b ∷ r) (nothing_following bs)
@@ -342,7 +333,7 @@ region_splits k l is e =
     let inner : List Entry = block_entries k (loop_start k + 1) l.body in
     let entries : entry_marks (loop_entries k) ≡ entry_marks inner = ap (λ o. entry_marks (turns_entries k (loop_start k) o)) is in
     let sub : Sub (marks items) (entry_marks inner) = subst (Sub (marks items)) (nothing_following (entry_marks inner)) (block_sub k l.body (in_loop (var_scope k) l) None (loop_start k + 1) (loop_start k + 1) (loop_env (var_scope k) l.index) [] [] sub_none) in
-    let good : is_bad (marks items) ≡ false = sub_bad sub (ap is_bad (sym entries) ∙ sym (entry_bad (loop_entries k)) ∙ class_unbroken k e) in
+    let good : is_bad (marks items) ≡ false = sub_bad sub (ap is_bad (sym entries) ∙ sym (entry_bad (loop_entries k)) ∙ (class_facts k e).unbroken) in
     let unwritten = region_unwritten items good in
     record {
       whole = split_whole items;

@@ -12,7 +12,7 @@ use Rattle.kernel_tree.specs.Typing.{check_fault}
 use Rattle.reg_assign.specs.declared.interval.RegClass.TheVariants.{Z, P}
 use Rattle.reg_assign.specs.Registers.{Assignment}
 use Rattle.loop_form.specs.declared.loop_item.Source.{Source}
-use Rattle.loop_form.specs.declared.loop_item.Source.TheVariants.{Constant, Outer, Turn, Made}
+use Rattle.loop_form.specs.declared.loop_item.Source.TheVariants.{Constant, Outer, LoopIndex, Made}
 use Rattle.loop_form.specs.Lanes.{lane_width_of}
 use Rattle.loop_form.specs.LoopItems.{Op, Load, Apply, Combine, Move, Cast, Copy, Pick, Store, Add, Test, Invert, Same, Any, Quit, Item, loop_items, turns_items, loop_items_of}
 use Rattle.loop_form.specs.Registers.{FitsKernel}
@@ -36,7 +36,7 @@ use Rattle.first_fault.proofs.LoopFits.{kernel_fits}
 fits_place : (f : Setting) (base : Source) (c : ℤ) → FitsBase f base → IsNear c → IsPlace base c
 fits_place f (Outer p) c h near = let small = h.0 in (omega (arith, small), omega (arith, near))
 fits_place f (Constant t z) c h near = elim h [ ]
-fits_place f Turn c h near = elim h [ ]
+fits_place f LoopIndex c h near = elim h [ ]
 fits_place f (Made q) c h near = elim h [ ]
 
 -- in each size

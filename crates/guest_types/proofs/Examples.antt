@@ -11,10 +11,11 @@ use Rattle.guest_types.specs.declared.operation.ShiftOp.TheVariants.{Lsl, Lsr, A
 use Rattle.guest_types.specs.declared.operation.ReduceOp.TheVariants.{UAdd, SMax as ReduceSMax, SMin as ReduceSMin, UMin as ReduceUMin, And as ReduceAnd}
 use Rattle.guest_types.specs.declared.operation.LaneCompare.TheVariants.{Hi, Ge, Gt}
 use Rattle.guest_types.specs.Length.{modulus}
-use Rattle.guest_types.specs.Memory.{Page, Memory, byte_at, number_at, put_number, loaded, stored, fetched, merged, after}
+use Rattle.guest_types.specs.Memory.{Page, Memory, byte_at, number_at, put_number, loaded, stored, fetched, merged, next_address}
 use Rattle.guest_types.specs.Elements.{elements, at, active, bits_of, pred_test, nzcv}
 use Rattle.guest_types.specs.Spans.{has_span, has_span_mut, span_of, with_span}
-use Rattle.guest_types.specs.LaneMemory.{load_form, load_form_of, lane_address, lane_faults, plain_load, first_fault_load, non_fault_load, store_lanes, StoreFault}
+use Rattle.guest_types.specs.LaneMemory.{load_form, load_form_of, lane_address, plain_load, store_lanes, StoreFault}
+use Rattle.guest_types.specs.EarlyLoads.{never, first_fault_early, non_fault_early}
 use Rattle.guest_types.specs.Lanes.{lane, unary, shifted, is_true, identity, joined, all_at, while_at, while_of, brk_of, broken}
 
 -- ---- memory
@@ -65,7 +66,7 @@ refuses_last : loaded memory (2 ^ 64 - 1) 2 ≡ Err (refused (2 ^ 64 - 1) false)
 unfolding memory page_of refused
 refuses_last = refl
 
-after_last : after (2 ^ 64 - 1) ≡ 0
+after_last : next_address (2 ^ 64 - 1) ≡ 0
 after_last = refl
 
 -- reading goes on at address 0
@@ -204,17 +205,17 @@ unfolding memory page_of address_of all_set elements first_only
 load_inactive = refl
 
 -- LDFF1B stops before it and clears FFR from its bit on
-first_fault_stops : first_fault_load (load_form 0) memory (lane_faults (load_form 0) memory (address_of 16382)) all_at (address_of 16382) 4 all_set ≡ Ok (record { z = 0x44 ∷ 0x44 ∷ replicate 254 0; ffr = 0x03 ∷ replicate 31 0 })
+first_fault_stops : first_fault_early (load_form 0) memory never all_at (address_of 16382) 4 all_set ≡ Ok (record { loaded = record { z = 0x44 ∷ 0x44 ∷ replicate 254 0; ffr = 0x03 ∷ replicate 31 0 }; stops = never; cut = false })
 unfolding memory page_of address_of all_set elements bits_of
 first_fault_stops = refl
 
 -- but faults at its first active element
-first_fault_refused : first_fault_load (load_form 0) memory (lane_faults (load_form 0) memory (address_of 16384)) all_at (address_of 16384) 4 all_set ≡ Err (refused 16384 false)
+first_fault_refused : first_fault_early (load_form 0) memory never all_at (address_of 16384) 4 all_set ≡ Err (refused 16384 false)
 unfolding memory page_of refused address_of all_set elements bits_of
 first_fault_refused = refl
 
 -- where LDNF1B gives zeros
-non_fault_stops : non_fault_load (load_form 0) memory (lane_faults (load_form 0) memory (address_of 16384)) all_at (address_of 16384) 4 all_set ≡ Ok (record { z = replicate 256 0; ffr = replicate 32 0 })
+non_fault_stops : non_fault_early (load_form 0) memory never all_at (address_of 16384) 4 all_set ≡ record { loaded = record { z = replicate 256 0; ffr = replicate 32 0 }; stops = never; cut = false }
 unfolding memory page_of address_of all_set elements bits_of
 non_fault_stops = refl
 

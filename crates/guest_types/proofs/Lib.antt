@@ -11,5 +11,6 @@ mod Examples
 pub mod Writes
 pub mod Stores
 pub mod AfterStores
+pub mod Ascending
 pub mod Merges
 pub mod EarlyLoads

@@ -4,7 +4,7 @@ use Rattle.std.proofs.lemmas.List.{drop_more}
 use Rattle.std.proofs.Math.Nat.{pow-suc, pow-le-pow_right, one-le-pow, div-one, mod-one, mul_comm, div-div-eq-div-mul, add-mul-mod_self_left, mod-eq_of_lt, div-eq_of_lt, add-mul-div_left}
 use lib.Arith.{mod-mul}
 use lib.Lanes.{Each1}
-use Rattle.guest_types.specs.Elements.{number_of, bytes_of}
+use Rattle.guest_types.specs.Elements.{number_of_bytes, bytes_of}
 
 pub length-bytes_of : (k x : ℕ) → length (bytes_of k x) ≡ k
 length-bytes_of zero x = refl
@@ -29,7 +29,7 @@ bytes_of-more k x = ap (λ n. bytes_of n x) (add-one k) ∙ go k x
     go zero x = ap (λ n. n % 256 ∷ []) (sym (div-one x))
     go (suc k) x = ap (λ l. x % 256 ∷ l) (go k (x / 256) ∙ ap (λ n. bytes_of k (x / 256) ++ (n % 256) ∷ []) (sym (shifted x k)))
 
-pub number-bytes_of : (k x : ℕ) → number_of (bytes_of k x) ≡ x % 256 ^ k
+pub number-bytes_of : (k x : ℕ) → number_of_bytes (bytes_of k x) ≡ x % 256 ^ k
 number-bytes_of zero x = sym (mod-one x)
 number-bytes_of (suc k) x =
     let e = number-bytes_of k (x / 256) in
@@ -40,13 +40,13 @@ number-bytes_of (suc k) x =
 digit : (x r : ℕ) → x < 256 → ((x + 256 * r) % 256 ≡ x) × ((x + 256 * r) / 256 ≡ r)
 digit x r lt = (add-mul-mod_self_left x 256 r ∙ mod-eq_of_lt lt, omega (arith, add-mul-div_left x r {y = 256} (omega arith), div-eq_of_lt lt))
 
-pub bytes_of-number : (bs : List ℕ) → Each1 (λ b. b < 256) bs → bytes_of (length bs) (number_of bs) ≡ bs
+pub bytes_of-number : (bs : List ℕ) → Each1 (λ b. b < 256) bs → bytes_of (length bs) (number_of_bytes bs) ≡ bs
 bytes_of-number [] h = refl
 bytes_of-number (b ∷ bs) h =
-    let d = digit b (number_of bs) h.0 in
-    ap (λ n. n ∷ bytes_of (length bs) ((b + 256 * number_of bs) / 256)) d.0 ∙ ap (λ n. b ∷ bytes_of (length bs) n) d.1 ∙ ap (λ l. b ∷ l) (bytes_of-number bs h.1)
+    let d = digit b (number_of_bytes bs) h.0 in
+    ap (λ n. n ∷ bytes_of (length bs) ((b + 256 * number_of_bytes bs) / 256)) d.0 ∙ ap (λ n. b ∷ bytes_of (length bs) n) d.1 ∙ ap (λ l. b ∷ l) (bytes_of-number bs h.1)
 
-pub number-below : (bs : List ℕ) → Each1 (λ b. b < 256) bs → number_of bs < 256 ^ length bs
+pub number-below : (bs : List ℕ) → Each1 (λ b. b < 256) bs → number_of_bytes bs < 256 ^ length bs
 number-below [] h = omega arith
 number-below (b ∷ bs) h =
     let e : 256 ^ suc (length bs) ≡ 256 ^ length bs * 256 = pow-suc 256 (length bs) in
@@ -56,12 +56,12 @@ number-below (b ∷ bs) h =
 
 -- only the low k bytes count
 pub bytes_of-mod : (k x : ℕ) → bytes_of k (x % 256 ^ k) ≡ bytes_of k x
-bytes_of-mod k x = ap (bytes_of k) (sym (number-bytes_of k x)) ∙ ap (λ n. bytes_of n (number_of (bytes_of k x))) (sym (length-bytes_of k x)) ∙ bytes_of-number (bytes_of k x) (below k x)
+bytes_of-mod k x = ap (bytes_of k) (sym (number-bytes_of k x)) ∙ ap (λ n. bytes_of n (number_of_bytes (bytes_of k x))) (sym (length-bytes_of k x)) ∙ bytes_of-number (bytes_of k x) (below k x)
   where
     below : (k x : ℕ) → Each1 (λ b. b < 256) (bytes_of k x)
     below zero x = tt
     below (suc k) x = (omega arith, below k (x / 256))
 
 -- a step of the loop that reads from the top
-pub number-step : (bs : List ℕ) (i : ℕ) → i < length bs → number_of (drop i bs) ≡ get_or bs i 0 + 256 * number_of (drop (i + 1) bs)
-number-step bs i h = ap number_of (drop_more bs i 0 h)
+pub number-step : (bs : List ℕ) (i : ℕ) → i < length bs → number_of_bytes (drop i bs) ≡ get_or bs i 0 + 256 * number_of_bytes (drop (i + 1) bs)
+number-step bs i h = ap number_of_bytes (drop_more bs i 0 h)

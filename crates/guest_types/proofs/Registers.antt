@@ -5,7 +5,7 @@ use Rattle.std.proofs.lemmas.Bool.{cases_lt}
 use Rattle.std.proofs.Math.Nat.{mul-suc, mul-add, mul-zero, mul-le-mul_left, mul_assoc, add-suc, add-zero}
 use borrow.Rule.Slice.PartMut.{put_mid}
 use lib.Lanes.{chunk}
-use Rattle.guest_types.specs.Elements.{number_of, bytes_of}
+use Rattle.guest_types.specs.Elements.{number_of_bytes, bytes_of}
 use Rattle.guest_types.specs.Elements.{element, elements, register, with_element}
 use lib.Lanes.{Each1}
 use Rattle.std.proofs.lemmas.Simd.{Each1-from_get_or}
@@ -48,7 +48,7 @@ chunk-elements k f (suc n) e zs h =
 
 -- what element e of a register is
 pub element-register : (k : ℕ) (f : ℕ → ℕ) (n e : ℕ) → e < n → element k (register k f n) e ≡ f e % 256 ^ k
-element-register k f n e h = ap number_of (chunk-elements k f n e (replicate (256 - k * n) 0) h) ∙ number-bytes_of k (f e)
+element-register k f n e h = ap number_of_bytes (chunk-elements k f n e (replicate (256 - k * n) 0) h) ∙ number-bytes_of k (f e)
 
 pub register-ext : (k : ℕ) (f g : ℕ → ℕ) (n : ℕ) → ((e : ℕ) → e < n → f e ≡ g e) → register k f n ≡ register k g n
 register-ext k f g n h = ap (λ l. l ++ replicate (256 - k * n) 0) (elements-ext k f g n h)
@@ -112,12 +112,12 @@ elements-of k f (suc n) z long small each =
       | inl l ↦ subst (λ b. b < 256) (sym (get_or-take (k * n) z j 0 l)) (small j)
       | inr g ↦ subst (λ b. b < 256) (sym (get_or_past front j 0 (omega arith))) (omega arith)
     ])
-    (λ e l. ap number_of (chunk-take (k * e) k (k * n) z (omega (arith, mul-suc k e, mul-le-mul_left k (let u : suc e ≤ n = l in u)))) ∙ each e (omega arith)))
+    (λ e l. ap number_of_bytes (chunk-take (k * e) k (k * n) z (omega (arith, mul-suc k e, mul-le-mul_left k (let u : suc e ≤ n = l in u)))) ∙ each e (omega arith)))
     (sym (bytes_of-number back (subst (λ l. Each1 (λ b. b < 256) l) last (chunk-below (k * n) k z small)))
-    ∙ ap₂ bytes_of length-back (ap number_of (sym last) ∙ each n (omega arith)))
+    ∙ ap₂ bytes_of length-back (ap number_of_bytes (sym last) ∙ each n (omega arith)))
 
 -- element e of block i, where a block has q elements
 pub element-block : (k q i e : ℕ) (z : List ℕ) → e < q → element k (chunk (k * q * i) (k * q) z) e ≡ element k z (q * i + e)
 element-block k q i e z l =
-    ap number_of (chunk-take (k * e) k (k * q) (drop (k * q * i) z) (omega (arith, mul-suc k e, mul-le-mul_left k (let u : suc e ≤ q = l in u)))
+    ap number_of_bytes (chunk-take (k * e) k (k * q) (drop (k * q * i) z) (omega (arith, mul-suc k e, mul-le-mul_left k (let u : suc e ≤ q = l in u)))
     ∙ ap (take k) (drop-drop (k * e) (k * q * i) z ∙ ap (λ j. drop j z) (omega (arith, mul-add k (q * i) e, mul_assoc k q i))))

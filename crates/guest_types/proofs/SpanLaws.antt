@@ -6,8 +6,8 @@ use Rattle.std.proofs.lemmas.Bool.{cond-true, cond-false, leb-true}
 use Rattle.std.proofs.lemmas.List.{take_more_set, drop-set-lt, drop-drop, drop_more, take-append-drop}
 use Rattle.std.proofs.lemmas.List.Elements.{All-head, All-tail}
 use Rattle.guest_types.specs.declared.memory.AccessFault.{AccessFault}
-use Rattle.guest_types.specs.Memory.{Page, Memory, IsPage, IsMemory, page_at, byte_of, byte_or_zero, number_at, after, first_fault, can_read, can_write, may_write, put_byte, put_number, with_byte, loaded, stored}
-use Rattle.guest_types.specs.Elements.{number_of, bytes_of}
+use Rattle.guest_types.specs.Memory.{Page, Memory, IsPage, IsMemory, page_at, byte_of, byte_or_zero, number_at, next_address, first_fault, can_read, can_write, may_write, put_byte, put_number, with_byte, loaded, stored}
+use Rattle.guest_types.specs.Elements.{number_of_bytes, bytes_of}
 use Rattle.guest_types.specs.Spans.{in_one_page, has_span, has_span_mut, bytes_or_none, span_of, with_bytes, with_span}
 use Rattle.guest_types.proofs.Writes.{All-page_at, IsMemory-put_byte}
 use Rattle.guest_types.proofs.Stores.{stored-done}
@@ -31,8 +31,8 @@ faults_none : (g : ℕ → Bool) (a n : ℕ) → a < 2 ^ 64 → a % 4096 + n ≤
 faults_none g a zero low fits here = refl
 faults_none g a (suc zero) low fits here = cond-true _ _ _ here
 faults_none g a (suc (suc n)) low fits here =
-    let same : after a / 4096 ≡ a / 4096 = omega arith in
-    cond-true _ _ _ here ∙ faults_none g (after a) (suc n) (omega arith) (omega arith) (ap g same ∙ here)
+    let same : next_address a / 4096 ≡ a / 4096 = omega arith in
+    cond-true _ _ _ here ∙ faults_none g (next_address a) (suc n) (omega arith) (omega arith) (ap g same ∙ here)
 
 readable : Memory → ℕ → Bool
 readable memory n = is_some (page_at memory n)
@@ -57,31 +57,31 @@ write_faults-span memory a n low has =
 first_byte : (memory : Memory) (a : ℕ) (p : Page) → page_at memory (a / 4096) ≡ Some p → byte_or_zero memory a ≡ get_or p.bytes (a % 4096) 0
 first_byte memory a p found = ap (λ o. unwrap_or (option_map (λ page. byte_of page a) o) 0) found
 
-number_in_page : (memory : Memory) (a n : ℕ) (p : Page) → a < 2 ^ 64 → a % 4096 + n ≤ 4096 → page_at memory (a / 4096) ≡ Some p → length p.bytes ≡ 4096 → number_at memory a n ≡ number_of (take n (drop (a % 4096) p.bytes))
+number_in_page : (memory : Memory) (a n : ℕ) (p : Page) → a < 2 ^ 64 → a % 4096 + n ≤ 4096 → page_at memory (a / 4096) ≡ Some p → length p.bytes ≡ 4096 → number_at memory a n ≡ number_of_bytes (take n (drop (a % 4096) p.bytes))
 number_in_page memory a zero p low fits found whole = refl
 number_in_page memory a (suc zero) p low fits found whole =
-    ap (λ x. x + 256 * 0) (first_byte memory a p found) ∙ ap (λ l. number_of (take 1 l)) (sym (drop_more p.bytes (a % 4096) 0 (omega arith)))
+    ap (λ x. x + 256 * 0) (first_byte memory a p found) ∙ ap (λ l. number_of_bytes (take 1 l)) (sym (drop_more p.bytes (a % 4096) 0 (omega arith)))
 number_in_page memory a (suc (suc n)) p low fits found whole =
-    let next : after a / 4096 ≡ a / 4096 = omega arith in
-    let place : after a % 4096 ≡ a % 4096 + 1 = omega arith in
-    let rest = number_in_page memory (after a) (suc n) p (omega arith) (omega arith) (ap (page_at memory) next ∙ found) whole in
-    ap₂ (λ x y. x + 256 * y) (first_byte memory a p found) (rest ∙ ap (λ i. number_of (take (suc n) (drop i p.bytes))) place)
-    ∙ ap (λ l. number_of (take (suc (suc n)) l)) (sym (drop_more p.bytes (a % 4096) 0 (omega arith)))
+    let next : next_address a / 4096 ≡ a / 4096 = omega arith in
+    let place : next_address a % 4096 ≡ a % 4096 + 1 = omega arith in
+    let rest = number_in_page memory (next_address a) (suc n) p (omega arith) (omega arith) (ap (page_at memory) next ∙ found) whole in
+    ap₂ (λ x y. x + 256 * y) (first_byte memory a p found) (rest ∙ ap (λ i. number_of_bytes (take (suc n) (drop i p.bytes))) place)
+    ∙ ap (λ l. number_of_bytes (take (suc (suc n)) l)) (sym (drop_more p.bytes (a % 4096) 0 (omega arith)))
 
 -- a number in one page is spelled by its bytes
-pub number_at-span : (memory : Memory) (a n : ℕ) → IsMemory memory → a < 2 ^ 64 → has_span memory a n ≡ true → number_at memory a n ≡ number_of (span_of memory a n)
+pub number_at-span : (memory : Memory) (a n : ℕ) → IsMemory memory → a < 2 ^ 64 → has_span memory a n ≡ true → number_at memory a n ≡ number_of_bytes (span_of memory a n)
 number_at-span memory a n is low has = go (page_at memory (a / 4096)) refl
   where
-    go : (o : Option Page) → page_at memory (a / 4096) ≡ o → number_at memory a n ≡ number_of (span_of memory a n)
+    go : (o : Option Page) → page_at memory (a / 4096) ≡ o → number_at memory a n ≡ number_of_bytes (span_of memory a n)
     go None found =
         let parts = both_true (in_one_page a n) (can_read memory a) has in
         let clash : false ≡ true = sym (ap is_some found) ∙ parts.1 in cc
     go (Some p) found =
         let parts = both_true (in_one_page a n) (can_read memory a) has in
         number_in_page memory a n p low (in_one_page-fits a n parts.0).1 found (All-page_at IsPage memory (a / 4096) p is.pages found).whole
-        ∙ ap (λ o. number_of (take n (drop (a % 4096) (bytes_or_none o)))) (sym found)
+        ∙ ap (λ o. number_of_bytes (take n (drop (a % 4096) (bytes_or_none o)))) (sym found)
 
-pub loaded-span : (memory : Memory) (a n : ℕ) → IsMemory memory → a < 2 ^ 64 → has_span memory a n ≡ true → loaded memory a n ≡ Ok (number_of (span_of memory a n))
+pub loaded-span : (memory : Memory) (a n : ℕ) → IsMemory memory → a < 2 ^ 64 → has_span memory a n ≡ true → loaded memory a n ≡ Ok (number_of_bytes (span_of memory a n))
 loaded-span memory a n is low has =
     ap₂ (λ o x. elim o as (λ _. Result ℕ AccessFault) [ None ↦ Ok x | Some fault ↦ Err (record { address = fault; write = false }) ])
     (read_faults-span memory a n low has)
@@ -103,11 +103,11 @@ bytes_next bytes i b ws inside =
     ∙ append_assoc (take i bytes) (b ∷ []) (ws ++ drop (length ws) (drop (i + 1) bytes))
     ∙ ap (λ r. take i bytes ++ (b ∷ (ws ++ r))) (drop-drop (length ws) (i + 1) bytes ∙ ap (λ j. drop j bytes) (let e : i + 1 + length ws ≡ i + suc (length ws) = omega arith in e) ∙ sym (drop-drop (suc (length ws)) i bytes))
 
-span_next : (memory : Memory) (a b : ℕ) (ws : List ℕ) → All IsPage memory → after a / 4096 ≡ a / 4096 → after a % 4096 ≡ a % 4096 + 1 → with_span (put_byte memory a b) (after a) ws ≡ with_span memory a (b ∷ ws)
+span_next : (memory : Memory) (a b : ℕ) (ws : List ℕ) → All IsPage memory → next_address a / 4096 ≡ a / 4096 → next_address a % 4096 ≡ a % 4096 + 1 → with_span (put_byte memory a b) (next_address a) ws ≡ with_span memory a (b ∷ ws)
 span_next [] a b ws each same place = refl
 span_next (p ∷ ps) a b ws each same place = go (nat_eq p.page (a / 4096)) refl (span_next ps a b ws (All-tail IsPage p ps each) same place)
   where
-    go : (t : Bool) → nat_eq p.page (a / 4096) ≡ t → with_span (put_byte ps a b) (after a) ws ≡ with_span ps a (b ∷ ws) → with_span (cond t (with_byte p a b ∷ ps) (p ∷ put_byte ps a b)) (after a) ws ≡ cond t (with_bytes p (a % 4096) (b ∷ ws) ∷ ps) (p ∷ with_span ps a (b ∷ ws))
+    go : (t : Bool) → nat_eq p.page (a / 4096) ≡ t → with_span (put_byte ps a b) (next_address a) ws ≡ with_span ps a (b ∷ ws) → with_span (cond t (with_byte p a b ∷ ps) (p ∷ put_byte ps a b)) (next_address a) ws ≡ cond t (with_bytes p (a % 4096) (b ∷ ws) ∷ ps) (p ∷ with_span ps a (b ∷ ws))
     go true e rest =
         let whole = (All-head IsPage p ps each).whole in
         cond-true _ _ _ (ap (nat_eq p.page) same ∙ e)
@@ -138,7 +138,7 @@ pub put_number-span : (memory : Memory) (a n v : ℕ) → IsMemory memory → a 
 put_number-span memory a zero v is low fits = sym (with_span-nil memory a)
 put_number-span memory a (suc zero) v is low fits = put_byte-span memory a (v % 256) is.pages
 put_number-span memory a (suc (suc n)) v is low fits =
-    put_number-span (put_byte memory a (v % 256)) (after a) (suc n) (v / 256) (IsMemory-put_byte memory a (v % 256) is (omega arith)) (omega arith) (omega arith)
+    put_number-span (put_byte memory a (v % 256)) (next_address a) (suc n) (v / 256) (IsMemory-put_byte memory a (v % 256) is (omega arith)) (omega arith) (omega arith)
     ∙ span_next memory a (v % 256) (bytes_of (suc n) (v / 256)) is.pages (omega arith) (omega arith)
 
 pub stored-span : (memory : Memory) (a n v : ℕ) → IsMemory memory → a < 2 ^ 64 → has_span_mut memory a n ≡ true → stored memory a n v ≡ Ok (with_span memory a (bytes_of n v))
@@ -147,6 +147,6 @@ stored-span memory a n v is low has =
     stored-done memory a n v (write_faults-span memory a n low has) ∙ ap Ok (put_number-span memory a n v is low (in_one_page-fits a n parts.0).1)
 
 -- bytes written in one page are the number that they spell, written there
-pub with_span-number : (memory : Memory) (a : ℕ) (bytes : List ℕ) → IsMemory memory → a < 2 ^ 64 → a % 4096 + length bytes ≤ 4096 → Each1 (λ b. b < 256) bytes → with_span memory a bytes ≡ put_number memory a (length bytes) (number_of bytes)
+pub with_span-number : (memory : Memory) (a : ℕ) (bytes : List ℕ) → IsMemory memory → a < 2 ^ 64 → a % 4096 + length bytes ≤ 4096 → Each1 (λ b. b < 256) bytes → with_span memory a bytes ≡ put_number memory a (length bytes) (number_of_bytes bytes)
 with_span-number memory a bytes is low fits small =
-    ap (with_span memory a) (sym (bytes_of-number bytes small)) ∙ sym (put_number-span memory a (length bytes) (number_of bytes) is low fits)
+    ap (with_span memory a) (sym (bytes_of-number bytes small)) ∙ sym (put_number-span memory a (length bytes) (number_of_bytes bytes) is low fits)

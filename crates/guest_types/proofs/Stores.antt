@@ -7,7 +7,7 @@ use lib.Arith.{mod-mul}
 use Rattle.guest_types.specs.declared.memory.AccessFault.{AccessFault}
 use Rattle.guest_types.specs.declared.memory.Perm.{Perm}
 use Rattle.guest_types.specs.declared.memory.Perm.TheVariants.{Read, ReadWrite, ReadExec}
-use Rattle.guest_types.specs.Memory.{Page, Memory, IsPage, IsMemory, page_at, page_numbers, put_byte, with_byte, put_number, byte_at, number_at, after, first_fault, can_read, can_write, may_write, is_writable, is_executable, loaded, stored, fetched, Disjoint, byte_or_zero, byte_of}
+use Rattle.guest_types.specs.Memory.{Page, Memory, IsPage, IsMemory, page_at, page_numbers, put_byte, with_byte, put_number, byte_at, number_at, next_address, first_fault, can_read, can_write, may_write, is_writable, is_executable, loaded, stored, fetched, Disjoint, byte_or_zero, byte_of}
 use Rattle.guest_types.proofs.Writes.{after_write, page_at-put_byte, byte_at-put_byte_same, byte_at-put_byte_other, can_read-put_byte, can_write-put_byte, page_numbers-put_byte, IsMemory-put_byte, put_byte-put_byte_other, All-page_at, page_at-number}
 
 -- ---- addresses apart
@@ -15,44 +15,44 @@ use Rattle.guest_types.proofs.Writes.{after_write, page_at-put_byte, byte_at-put
 -- a is none of the k addresses from c on
 abbrev pub Misses : (a c k : ℕ) → Type 0
 Misses a c zero = Unit {0}
-Misses a c (suc k) = (c ≢ a) × Misses a (after c) k
+Misses a c (suc k) = (c ≢ a) × Misses a (next_address c) k
 
 -- nor is any of the n addresses from a on
 abbrev pub AllMiss : (a n c k : ℕ) → Type 0
 AllMiss a zero c k = Unit {0}
-AllMiss a (suc n) c k = Misses a c k × AllMiss (after a) n c k
+AllMiss a (suc n) c k = Misses a c k × AllMiss (next_address a) n c k
 
 Misses-from : (a c k : ℕ) → c < 2 ^ 64 → ((j : ℕ) → j < k → a ≢ (c + j) % 2 ^ 64) → Misses a c k
 Misses-from a c zero low h = tt
 Misses-from a c (suc k) low h =
-    (λ e. h 0 (omega arith) (omega arith), Misses-from a (after c) k (omega arith) (λ j l e. h (suc j) (omega arith) (omega arith)))
+    (λ e. h 0 (omega arith) (omega arith), Misses-from a (next_address c) k (omega arith) (λ j l e. h (suc j) (omega arith) (omega arith)))
 
 AllMiss-from : (a n c k : ℕ) → a < 2 ^ 64 → c < 2 ^ 64 → Disjoint a n c k → AllMiss a n c k
 AllMiss-from a zero c k la lc h = tt
 AllMiss-from a (suc n) c k la lc h =
-    (Misses-from a c k lc (λ j l e. h 0 j (omega arith) l (omega arith)), AllMiss-from (after a) n c k (omega arith) lc (λ i j li lj e. h (suc i) j (omega arith) lj (omega arith)))
+    (Misses-from a c k lc (λ j l e. h 0 j (omega arith) l (omega arith)), AllMiss-from (next_address a) n c k (omega arith) lc (λ i j li lj e. h (suc i) j (omega arith) lj (omega arith)))
 
 -- ---- faults
 
 pub first_fault-ext : (f g : ℕ → Bool) (a n : ℕ) → ((c : ℕ) → f c ≡ g c) → first_fault f a n ≡ first_fault g a n
 first_fault-ext f g a zero same = refl
-first_fault-ext f g a (suc n) same = ap₂ (λ t r. cond t r (Some a)) (same a) (first_fault-ext f g (after a) n same)
+first_fault-ext f g a (suc n) same = ap₂ (λ t r. cond t r (Some a)) (same a) (first_fault-ext f g (next_address a) n same)
 
 pub can_read-put_number : (memory : Memory) (a n v c : ℕ) → can_read (put_number memory a n v) c ≡ can_read memory c
 can_read-put_number memory a zero v c = refl
-can_read-put_number memory a (suc n) v c = can_read-put_number (put_byte memory a (v % 256)) (after a) n (v / 256) c ∙ can_read-put_byte memory a (v % 256) c
+can_read-put_number memory a (suc n) v c = can_read-put_number (put_byte memory a (v % 256)) (next_address a) n (v / 256) c ∙ can_read-put_byte memory a (v % 256) c
 
 pub can_write-put_number : (memory : Memory) (a n v c : ℕ) → can_write (put_number memory a n v) c ≡ can_write memory c
 can_write-put_number memory a zero v c = refl
-can_write-put_number memory a (suc n) v c = can_write-put_number (put_byte memory a (v % 256)) (after a) n (v / 256) c ∙ can_write-put_byte memory a (v % 256) c
+can_write-put_number memory a (suc n) v c = can_write-put_number (put_byte memory a (v % 256)) (next_address a) n (v / 256) c ∙ can_write-put_byte memory a (v % 256) c
 
 pub page_numbers-put_number : (memory : Memory) (a n v : ℕ) → page_numbers (put_number memory a n v) ≡ page_numbers memory
 page_numbers-put_number memory a zero v = refl
-page_numbers-put_number memory a (suc n) v = page_numbers-put_number (put_byte memory a (v % 256)) (after a) n (v / 256) ∙ page_numbers-put_byte memory a (v % 256)
+page_numbers-put_number memory a (suc n) v = page_numbers-put_number (put_byte memory a (v % 256)) (next_address a) n (v / 256) ∙ page_numbers-put_byte memory a (v % 256)
 
 pub IsMemory-put_number : (memory : Memory) (a n v : ℕ) → IsMemory memory → IsMemory (put_number memory a n v)
 IsMemory-put_number memory a zero v is = is
-IsMemory-put_number memory a (suc n) v is = IsMemory-put_number (put_byte memory a (v % 256)) (after a) n (v / 256) (IsMemory-put_byte memory a (v % 256) is (omega arith))
+IsMemory-put_number memory a (suc n) v is = IsMemory-put_number (put_byte memory a (v % 256)) (next_address a) n (v / 256) (IsMemory-put_byte memory a (v % 256) is (omega arith))
 
 -- a store is done exactly where each byte is writable
 stored_cases : (memory m : Memory) (a n v : ℕ) (o : Option ℕ) → elim o as (λ _. Result Memory AccessFault) [ None ↦ Ok (put_number memory a n v) | Some fault ↦ Err (record { address = fault; write = true }) ] ≡ Ok m → (o ≡ None) × (m ≡ put_number memory a n v)
@@ -89,12 +89,12 @@ write_faults-stored memory m a n v c k h = first_fault-ext (can_write m) (can_wr
 number_at-put_byte : (memory : Memory) (a b c k : ℕ) → Misses a c k → number_at (put_byte memory a b) c k ≡ number_at memory c k
 number_at-put_byte memory a b c zero h = refl
 number_at-put_byte memory a b c (suc k) h =
-    ap₂ (λ low rest. low + 256 * rest) (ap (λ o. unwrap_or o 0) (byte_at-put_byte_other memory a b c h.0)) (number_at-put_byte memory a b (after c) k h.1)
+    ap₂ (λ low rest. low + 256 * rest) (ap (λ o. unwrap_or o 0) (byte_at-put_byte_other memory a b c h.0)) (number_at-put_byte memory a b (next_address c) k h.1)
 
 number_at-apart : (memory : Memory) (a n v c k : ℕ) → AllMiss a n c k → number_at (put_number memory a n v) c k ≡ number_at memory c k
 number_at-apart memory a zero v c k h = refl
 number_at-apart memory a (suc n) v c k h =
-    number_at-apart (put_byte memory a (v % 256)) (after a) n (v / 256) c k h.1 ∙ number_at-put_byte memory a (v % 256) c k h.0
+    number_at-apart (put_byte memory a (v % 256)) (next_address a) n (v / 256) c k h.1 ∙ number_at-put_byte memory a (v % 256) c k h.0
 
 -- the number of other bytes stays
 pub number_at-put_number_other : (memory : Memory) (a n v c k : ℕ) → a < 2 ^ 64 → c < 2 ^ 64 → Disjoint a n c k → number_at (put_number memory a n v) c k ≡ number_at memory c k
@@ -112,14 +112,14 @@ loaded-stored memory m a n v c k la lc apart h =
 put_number-put_byte : (memory : Memory) (a b c k w : ℕ) → Misses a c k → put_number (put_byte memory a b) c k w ≡ put_byte (put_number memory c k w) a b
 put_number-put_byte memory a b c zero w h = refl
 put_number-put_byte memory a b c (suc k) w h =
-    ap (λ m. put_number m (after c) k (w / 256)) (put_byte-put_byte_other memory a b c (w % 256) (λ e. h.0 (sym e)))
-    ∙ put_number-put_byte (put_byte memory c (w % 256)) a b (after c) k (w / 256) h.1
+    ap (λ m. put_number m (next_address c) k (w / 256)) (put_byte-put_byte_other memory a b c (w % 256) (λ e. h.0 (sym e)))
+    ∙ put_number-put_byte (put_byte memory c (w % 256)) a b (next_address c) k (w / 256) h.1
 
 put_number-apart : (memory : Memory) (a n v c k w : ℕ) → AllMiss a n c k → put_number (put_number memory a n v) c k w ≡ put_number (put_number memory c k w) a n v
 put_number-apart memory a zero v c k w h = refl
 put_number-apart memory a (suc n) v c k w h =
-    put_number-apart (put_byte memory a (v % 256)) (after a) n (v / 256) c k w h.1
-    ∙ ap (λ m. put_number m (after a) n (v / 256)) (put_number-put_byte memory a (v % 256) c k w h.0)
+    put_number-apart (put_byte memory a (v % 256)) (next_address a) n (v / 256) c k w h.1
+    ∙ ap (λ m. put_number m (next_address a) n (v / 256)) (put_number-put_byte memory a (v % 256) c k w h.0)
 
 -- two writes of different bytes commute
 pub put_number-put_number_other : (memory : Memory) (a n v c k w : ℕ) → a < 2 ^ 64 → c < 2 ^ 64 → Disjoint a n c k → put_number (put_number memory a n v) c k w ≡ put_number (put_number memory c k w) a n v
@@ -142,7 +142,7 @@ stored-stored memory m both a n v c k w la lc apart first second =
 byte_at-apart : (memory : Memory) (a n v c : ℕ) → AllMiss a n c 1 → byte_at (put_number memory a n v) c ≡ byte_at memory c
 byte_at-apart memory a zero v c h = refl
 byte_at-apart memory a (suc n) v c h =
-    byte_at-apart (put_byte memory a (v % 256)) (after a) n (v / 256) c h.1 ∙ byte_at-put_byte_other memory a (v % 256) c h.0.0
+    byte_at-apart (put_byte memory a (v % 256)) (next_address a) n (v / 256) c h.1 ∙ byte_at-put_byte_other memory a (v % 256) c h.0.0
 
 -- a byte that none of the bytes written is stays
 pub byte_at-put_number_other : (memory : Memory) (a n v c : ℕ) → a < 2 ^ 64 → c < 2 ^ 64 → Disjoint a n c 1 → byte_at (put_number memory a n v) c ≡ byte_at memory c
@@ -150,17 +150,17 @@ byte_at-put_number_other memory a n v c la lc h = byte_at-apart memory a n v c (
 
 pub number_at-put_number_same : (memory : Memory) (a n v : ℕ) → IsMemory memory → a < 2 ^ 64 → n ≤ 2 ^ 64 → first_fault (can_read memory) a n ≡ None → number_at (put_number memory a n v) a n ≡ v % 256 ^ n
 number_at-put_number_same memory a zero v is low short readable = sym (mod-one v)
-number_at-put_number_same memory a (suc n) v is low short readable = go (can_read memory a) refl readable (number_at-put_number_same (put_byte memory a (v % 256)) (after a) n (v / 256) (IsMemory-put_byte memory a (v % 256) is (omega arith)) (omega arith) (omega arith))
+number_at-put_number_same memory a (suc n) v is low short readable = go (can_read memory a) refl readable (number_at-put_number_same (put_byte memory a (v % 256)) (next_address a) n (v / 256) (IsMemory-put_byte memory a (v % 256) is (omega arith)) (omega arith) (omega arith))
   where
-    go : (t : Bool) → can_read memory a ≡ t → cond t (first_fault (can_read memory) (after a) n) (Some a) ≡ None → (first_fault (can_read (put_byte memory a (v % 256))) (after a) n ≡ None → number_at (put_number (put_byte memory a (v % 256)) (after a) n (v / 256)) (after a) n ≡ v / 256 % 256 ^ n) → number_at (put_number memory a (suc n) v) a (suc n) ≡ v % 256 ^ suc n
+    go : (t : Bool) → can_read memory a ≡ t → cond t (first_fault (can_read memory) (next_address a) n) (Some a) ≡ None → (first_fault (can_read (put_byte memory a (v % 256))) (next_address a) n ≡ None → number_at (put_number (put_byte memory a (v % 256)) (next_address a) n (v / 256)) (next_address a) n ≡ v / 256 % 256 ^ n) → number_at (put_number memory a (suc n) v) a (suc n) ≡ v % 256 ^ suc n
     go false e readable rest = cc
     go true e readable rest =
-        let apart : Disjoint (after a) n a 1 = λ i j li lj h. omega arith in
-        let here : byte_at (put_number (put_byte memory a (v % 256)) (after a) n (v / 256)) a ≡ Some (v % 256) =
-        byte_at-put_number_other (put_byte memory a (v % 256)) (after a) n (v / 256) a (omega arith) low apart ∙ byte_at-put_byte_same memory a (v % 256) is e in
+        let apart : Disjoint (next_address a) n a 1 = λ i j li lj h. omega arith in
+        let here : byte_at (put_number (put_byte memory a (v % 256)) (next_address a) n (v / 256)) a ≡ Some (v % 256) =
+        byte_at-put_number_other (put_byte memory a (v % 256)) (next_address a) n (v / 256) a (omega arith) low apart ∙ byte_at-put_byte_same memory a (v % 256) is e in
         let some : 0 < 256 ^ n = omega (arith, one-le-pow n 256 (omega arith)) in
         let split : v % 256 ^ suc n ≡ (v / 256 % 256 ^ n) * 256 + v % 256 = ap (λ n. v % n) (pow-suc 256 n) ∙ mod-mul v {m = 256 ^ n} {c = 256} some (omega arith) in
-        ap₂ (λ low rest. low + 256 * rest) (ap (λ o. unwrap_or o 0) here) (rest (first_fault-ext (can_read (put_byte memory a (v % 256))) (can_read memory) (after a) n (λ c. can_read-put_byte memory a (v % 256) c) ∙ readable))
+        ap₂ (λ low rest. low + 256 * rest) (ap (λ o. unwrap_or o 0) here) (rest (first_fault-ext (can_read (put_byte memory a (v % 256))) (can_read memory) (next_address a) n (λ c. can_read-put_byte memory a (v % 256) c) ∙ readable))
         ∙ omega (arith, split)
 
 -- what is writable is readable
@@ -170,9 +170,9 @@ reads_where_written (Some p) h = refl
 
 pub read_where_written : (memory : Memory) (a n : ℕ) → first_fault (can_write memory) a n ≡ None → first_fault (can_read memory) a n ≡ None
 read_where_written memory a zero h = refl
-read_where_written memory a (suc n) h = go (can_write memory a) refl h (read_where_written memory (after a) n)
+read_where_written memory a (suc n) h = go (can_write memory a) refl h (read_where_written memory (next_address a) n)
   where
-    go : (t : Bool) → can_write memory a ≡ t → cond t (first_fault (can_write memory) (after a) n) (Some a) ≡ None → (first_fault (can_write memory) (after a) n ≡ None → first_fault (can_read memory) (after a) n ≡ None) → first_fault (can_read memory) a (suc n) ≡ None
+    go : (t : Bool) → can_write memory a ≡ t → cond t (first_fault (can_write memory) (next_address a) n) (Some a) ≡ None → (first_fault (can_write memory) (next_address a) n ≡ None → first_fault (can_read memory) (next_address a) n ≡ None) → first_fault (can_read memory) a (suc n) ≡ None
     go false e h rest = cc
     go true e h rest = cond-true _ _ _ (reads_where_written (page_at memory (a / 4096)) e) ∙ rest h
 
@@ -217,12 +217,12 @@ fetched-put_byte memory a b pc low writable = go (nat_eq (pc % 4) 0) refl
 
 pub fetched-put_number : (memory : Memory) (a n v pc : ℕ) → pc < 2 ^ 64 → first_fault (can_write memory) a n ≡ None → fetched (put_number memory a n v) pc ≡ fetched memory pc
 fetched-put_number memory a zero v pc low writable = refl
-fetched-put_number memory a (suc n) v pc low writable = go (can_write memory a) refl writable (fetched-put_number (put_byte memory a (v % 256)) (after a) n (v / 256) pc low)
+fetched-put_number memory a (suc n) v pc low writable = go (can_write memory a) refl writable (fetched-put_number (put_byte memory a (v % 256)) (next_address a) n (v / 256) pc low)
   where
-    go : (t : Bool) → can_write memory a ≡ t → cond t (first_fault (can_write memory) (after a) n) (Some a) ≡ None → (first_fault (can_write (put_byte memory a (v % 256))) (after a) n ≡ None → fetched (put_number (put_byte memory a (v % 256)) (after a) n (v / 256)) pc ≡ fetched (put_byte memory a (v % 256)) pc) → fetched (put_number memory a (suc n) v) pc ≡ fetched memory pc
+    go : (t : Bool) → can_write memory a ≡ t → cond t (first_fault (can_write memory) (next_address a) n) (Some a) ≡ None → (first_fault (can_write (put_byte memory a (v % 256))) (next_address a) n ≡ None → fetched (put_number (put_byte memory a (v % 256)) (next_address a) n (v / 256)) pc ≡ fetched (put_byte memory a (v % 256)) pc) → fetched (put_number memory a (suc n) v) pc ≡ fetched memory pc
     go false e writable rest = cc
     go true e writable rest =
-        rest (first_fault-ext (can_write (put_byte memory a (v % 256))) (can_write memory) (after a) n (λ c. can_write-put_byte memory a (v % 256) c) ∙ writable)
+        rest (first_fault-ext (can_write (put_byte memory a (v % 256))) (can_write memory) (next_address a) n (λ c. can_write-put_byte memory a (v % 256) c) ∙ writable)
         ∙ fetched-put_byte memory a (v % 256) pc low e
 
 -- a store leaves the words of executable pages alone
@@ -264,7 +264,7 @@ byte_or_zero-below memory a is = go (page_at memory (a / 4096)) refl
 pub number_at-below : (memory : Memory) (a n : ℕ) → IsMemory memory → number_at memory a n < 256 ^ n
 number_at-below memory a zero is = omega arith
 number_at-below memory a (suc n) is =
-    omega (arith, pow-suc 256 n, byte_or_zero-below memory a is, number_at-below memory (after a) n is)
+    omega (arith, pow-suc 256 n, byte_or_zero-below memory a is, number_at-below memory (next_address a) n is)
 
 loaded_cases : (memory : Memory) (a n v : ℕ) (o : Option ℕ) → elim o as (λ _. Result ℕ AccessFault) [ None ↦ Ok (number_at memory a n) | Some fault ↦ Err (record { address = fault; write = false }) ] ≡ Ok v → (o ≡ None) × (v ≡ number_at memory a n)
 loaded_cases memory a n v None h = (refl, cc)

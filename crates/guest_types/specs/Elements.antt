@@ -1,7 +1,7 @@
 -- Elements of vector and predicate registers (Arm DDI 0584). A vector register is the list of its 256 bytes and a
 -- predicate register the list of the 32 bytes that hold its 256 bits, the lowest first in both. What lies past the
 -- vector length is zero.
-use Rattle.std.specs.Prelude.{ℕ, zero, suc, ◌+◌, ◌-◌, ◌*◌, ◌/◌, ◌%◌, ◌^◌, List, [], ◌∷◌, ◌++◌, take, drop, Bool, false, not, ◌&&◌, map, nat_eq, nat_lt, cond, slice_index, slice_set, bit_or, Option, Some, None, is_none, if◌then◌else◌}
+use Rattle.std.specs.Prelude.{ℕ, zero, suc, ◌+◌, ◌-◌, ◌*◌, ◌/◌, ◌%◌, ◌^◌, List, [], ◌∷◌, ◌++◌, take, drop, Bool, true, false, not, ◌&&◌, map, nat_eq, nat_lt, cond, slice_index, slice_set, bit_or, Option, Some, None, is_none, if◌then◌else◌}
 use Rattle.std.specs.List.{range_with_len}
 use lib.ListN.{replicate}
 use lib.Lanes.{number_l, digits_l, chunk, mask_l}
@@ -9,8 +9,8 @@ use Rattle.guest_types.specs.declared.length.Width.{Width}
 use Rattle.guest_types.specs.Length.{width_bytes}
 
 -- the number that bytes spell, the lowest first
-abbrev pub number_of : List ℕ → ℕ
-number_of bs = number_l 256 bs
+abbrev pub number_of_bytes : List ℕ → ℕ
+number_of_bytes bs = number_l 256 bs
 
 -- the lowest k bytes of a number, the lowest first
 abbrev pub bytes_of : ℕ → ℕ → List ℕ
@@ -18,7 +18,7 @@ bytes_of k x = digits_l 256 k x
 
 -- element e of k bytes
 abbrev pub element : ℕ → List ℕ → ℕ → ℕ
-element k z e = number_of (chunk (k * e) k z)
+element k z e = number_of_bytes (chunk (k * e) k z)
 
 -- n elements of k bytes, where element e is f e
 unfoldable pub elements : ℕ → (ℕ → ℕ) → ℕ → List ℕ
@@ -64,7 +64,8 @@ predicate k h n = bits_of (element_bit k h n) 32
 
 -- the bits with bit j set where the value is true
 abbrev pub put_bit : List ℕ → ℕ → Bool → List ℕ
-put_bit bs j value = cond value (slice_set bs (j / 8) (bit_or (slice_index bs (j / 8)) (1 * 2 ^ (j % 8) % 256))) bs
+put_bit bs j true = slice_set bs (j / 8) (bit_or (slice_index bs (j / 8)) (2 ^ (j % 8)))
+put_bit bs j false = bs
 
 -- bit j after element e of k bytes was written, which zeroes the other bits of its group
 abbrev pub written_bit : ℕ → List ℕ → ℕ → Bool → ℕ → Bool

@@ -48,6 +48,13 @@ load_form dtype = slice_index_or load_forms dtype (load_form_of B B false)
 abbrev pub width_of_size : ℕ → Width
 width_of_size size = slice_index_or (B ∷ H ∷ S ∷ D ∷ []) size D
 
+-- and that logarithm
+abbrev pub size_of_width : Width → ℕ
+size_of_width B = 0
+size_of_width H = 1
+size_of_width S = 2
+size_of_width D = 3
+
 -- the address of element e, where an element has k bytes in memory
 abbrev pub lane_address : (base index k e : ℕ) → ℕ
 lane_address base index k e = (base + (index + e) * k) % 2 ^ 64
@@ -121,21 +128,6 @@ loaded_with form memory on f n ffr =
       z = register (width_bytes form.element) (kept_lane form memory on f (first_true (is_clear form.element ffr) n 0)) n;
       ffr = ffr;
     }
-
--- a load that suppresses its first active element that is bad, and clears FFR from it on
-abbrev pub suppressing_load : LoadForm → Memory → (ℕ → Bool) → (ℕ → Bool) → (ℕ → ℕ) → ℕ → List ℕ → Loaded
-suppressing_load form memory bad on f n ffr =
-    loaded_with form memory on f n (cleared_from form.element (first_true (both on bad) n 0) ffr)
-
--- LDFF1: its first active element is read as by LD1. `bad` is false there, and true elsewhere at least where the
--- access would fault
-abbrev pub first_fault_load : LoadForm → Memory → (ℕ → Bool) → (ℕ → Bool) → (ℕ → ℕ) → ℕ → List ℕ → Result Loaded AccessFault
-first_fault_load form memory bad on f n ffr =
-    or_fault (fault_at form memory f (first_true on n 0)) (suppressing_load form memory bad on f n ffr)
-
--- LDNF1 never faults. `bad` is true at least where the access would fault
-abbrev pub non_fault_load : LoadForm → Memory → (ℕ → Bool) → (ℕ → Bool) → (ℕ → ℕ) → ℕ → List ℕ → Result Loaded AccessFault
-non_fault_load form memory bad on f n ffr = Ok (suppressing_load form memory bad on f n ffr)
 
 -- ---- stores
 

@@ -67,13 +67,13 @@ abbrev pub can_write : Memory → ℕ → Bool
 can_write memory address = may_write (page_at memory (address / 4096))
 
 -- the next address
-abbrev pub after : ℕ → ℕ
-after address = (address + 1) % 2 ^ 64
+abbrev pub next_address : ℕ → ℕ
+next_address address = (address + 1) % 2 ^ 64
 
 -- the first of so many addresses that fails a test
 abbrev pub first_fault : (ℕ → Bool) → ℕ → ℕ → Option ℕ
 first_fault test address zero = None
-first_fault test address (suc size) = if test address then first_fault test (after address) size else Some address
+first_fault test address (suc size) = if test address then first_fault test (next_address address) size else Some address
 
 -- the byte at an address, or 0 where it is not readable
 abbrev pub byte_or_zero : Memory → ℕ → ℕ
@@ -82,7 +82,7 @@ byte_or_zero memory address = unwrap_or (byte_at memory address) 0
 -- the little-endian number of so many bytes
 abbrev pub number_at : Memory → ℕ → ℕ → ℕ
 number_at memory address zero = 0
-number_at memory address (suc size) = byte_or_zero memory address + 256 * number_at memory (after address) size
+number_at memory address (suc size) = byte_or_zero memory address + 256 * number_at memory (next_address address) size
 
 -- what a read gives
 abbrev pub loaded : Memory → ℕ → ℕ → Result ℕ AccessFault
@@ -105,7 +105,7 @@ put_byte (page ∷ pages) address b =
 -- the memory with the lowest bytes of a number written
 abbrev pub put_number : Memory → ℕ → ℕ → ℕ → Memory
 put_number memory address zero v = memory
-put_number memory address (suc size) v = put_number (put_byte memory address (v % 256)) (after address) size (v / 256)
+put_number memory address (suc size) v = put_number (put_byte memory address (v % 256)) (next_address address) size (v / 256)
 
 -- what a write leaves
 abbrev pub stored : Memory → ℕ → ℕ → ℕ → Result Memory AccessFault

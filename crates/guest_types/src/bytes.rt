@@ -1,12 +1,12 @@
-// Numbers as bytes, the lowest first.
+//! Numbers as bytes, the lowest first.
 
 ghost use Rattle.std.specs.Prelude.{◌≡◌, ◌+◌, ◌*◌, ◌%◌, ◌^◌, ◌<◌, ◌≤◌, length};
-ghost use Rattle.guest_types.specs.Elements.{number_of, bytes_of};
+ghost use Rattle.guest_types.specs.Elements.{number_of_bytes, bytes_of};
 
 /// The number that at most eight bytes spell, the lowest first.
 pub fn number(bytes: &[u8]) -> u64
     requires { length bytes.now ≤ 8 }
-    ensures { result ≡ number_of bytes.now }
+    ensures { result ≡ number_of_bytes bytes.now }
 {
     let mut value: u64 = 0;
     let k = bytes.len();

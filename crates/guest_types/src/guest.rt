@@ -1,4 +1,4 @@
-// Memory that a guest reads and writes.
+//! Memory that a guest reads and writes.
 
 ghost use Rattle.std.specs.Prelude.{◌≡◌, ℕ, ◌⊎◌, Ok, Err, OnOk, OnErr, IfErr};
 ghost use Rattle.guest_types.specs.Memory.{Memory, loaded, stored};

@@ -1,4 +1,4 @@
-// The pages of a program, and pages that are mapped beside it.
+//! The pages of a program, and pages that are mapped beside it.
 
 ghost use Rattle.std.specs.Prelude.{◌≡◌, []};
 ghost use Rattle.guest_types.specs.Memory.{IsMemory};

@@ -1,7 +1,8 @@
-//! Laws of the definitions: what stores leave alone, and how a stop list goes on.
+//! Laws of the definitions: what stores leave alone, what a merge has, and how a stop list goes on.
 
 ghost use Rattle.std.specs.Prelude.{◌≡◌, ℕ, ◌+◌, ◌^◌, ◌<◌, Bool};
-ghost use Rattle.guest_types.specs.Memory.{Memory, IsMemory, can_read, can_write, fetched};
+ghost use Rattle.std.specs.Option.{option_or};
+ghost use Rattle.guest_types.specs.Memory.{Memory, IsMemory, DoNotMeet, page_at, merged, can_read, can_write, fetched};
 ghost use Rattle.guest_types.specs.AfterStores.{AfterStores};
 ghost use Rattle.guest_types.specs.EarlyLoads.{StopList, later, stop_at, rank, suppressed_at};
 
@@ -15,6 +16,12 @@ pub fn stores_leave_alone()
     ensures code { (before after : Memory) → AfterStores before after → (a : ℕ) → a < 2 ^ 64
         → fetched after a ≡ fetched before a }
     ensures memory { (before after : Memory) → AfterStores before after → IsMemory before → IsMemory after }
+{}
+
+/// A look-up in the merge of two memories that have no page in common finds the page of the one that has it.
+pub fn merged_pages()
+    ensures pages { (memory other : Memory) → (n : ℕ) → DoNotMeet memory other
+        → page_at (merged memory other) n ≡ option_or (page_at memory n) (page_at other n) }
 {}
 
 /// What a stop list suppresses from the element n on is what the list, as it is counted after the free elements below n,

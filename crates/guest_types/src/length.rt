@@ -1,4 +1,4 @@
-// Vector lengths and element widths.
+//! Vector lengths and element widths.
 
 ghost use Rattle.std.specs.Prelude.{◌≡◌, ℕ, ◌+◌, ◌/◌, ◌%◌, ◌<◌, ◌≤◌, IsSome, IfSome, ◌↔◌};
 ghost use Rattle.guest_types.specs.Length.{IsLength, lanes, width_bits, width_bytes, all_lanes, modulus};

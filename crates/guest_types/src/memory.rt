@@ -1,4 +1,4 @@
-// Pages of 4,096 bytes, and refused accesses.
+//! Pages of 4,096 bytes, and refused accesses.
 
 ghost use Rattle.std.specs.Prelude.{◌≡◌, ℕ, ◌<◌, ◌^◌, List, length, IsSome, IfSome, ◌↔◌, slice_set, true, false, All};
 

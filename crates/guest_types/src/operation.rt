@@ -1,4 +1,4 @@
-// The operations of lanes, and what each does to one element.
+//! The operations of lanes, and what each does to one element.
 
 ghost use Rattle.std.specs.Prelude.{◌≡◌, ℕ, ◌+◌, ◌-◌, ◌*◌, ◌/◌, ◌%◌, ◌^◌, ◌<◌, ◌≤◌, Bool};
 ghost use Rattle.guest_types.specs.Length.{width_bits, modulus};

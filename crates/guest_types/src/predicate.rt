@@ -1,6 +1,6 @@
-// Predicate registers.
+//! Predicate registers.
 
-ghost use Rattle.std.specs.Prelude.{◌≡◌, ℕ, ◌+◌, ◌*◌, ◌<◌, ◌≤◌, Bool, true};
+ghost use Rattle.std.specs.Prelude.{◌≡◌, ℕ, ◌+◌, ◌*◌, ◌<◌, ◌≤◌, Bool, true, replicate};
 ghost use Rattle.guest_types.specs.Length.{width_bytes, all_lanes};
 ghost use Rattle.guest_types.specs.Elements.{bit, active, predicate, put_bit};
 
@@ -16,7 +16,8 @@ pub struct PReg {
 impl PReg {
     /// The register with no bit set.
     pub fn none() -> PReg
-        ensures { (k : ℕ) → (h : ℕ → Bool) → result.bits ≡ predicate k h 0 }
+        ensures zeros { result.bits ≡ replicate 32 0 }
+        ensures elements { (k : ℕ) → (h : ℕ → Bool) → result.bits ≡ predicate k h 0 }
     {
         PReg { bits: [0; 32] }
     }

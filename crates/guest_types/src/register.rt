@@ -1,6 +1,6 @@
-// Vector registers.
+//! Vector registers.
 
-ghost use Rattle.std.specs.Prelude.{◌≡◌, ℕ, ◌+◌, ◌-◌, ◌*◌, ◌/◌, ◌%◌, ◌<◌, ◌≤◌, Bool, length};
+ghost use Rattle.std.specs.Prelude.{◌≡◌, ℕ, ◌+◌, ◌-◌, ◌*◌, ◌/◌, ◌%◌, ◌<◌, ◌≤◌, Bool, length, replicate};
 ghost use Rattle.guest_types.specs.Length.{width_bytes, modulus, all_lanes};
 ghost use Rattle.guest_types.specs.Elements.{at, with_element, register};
 
@@ -16,7 +16,8 @@ pub struct ZReg {
 impl ZReg {
     /// The register of zeros.
     pub fn zero() -> ZReg
-        ensures { (k : ℕ) → (f : ℕ → ℕ) → result.bytes ≡ register k f 0 }
+        ensures zeros { result.bytes ≡ replicate 256 0 }
+        ensures elements { (k : ℕ) → (f : ℕ → ℕ) → result.bytes ≡ register k f 0 }
     {
         ZReg { bytes: [0; 256] }
     }

@@ -1,4 +1,4 @@
-// The forms of vector loads and stores.
+//! The forms of vector loads and stores.
 
 ghost use Rattle.std.specs.Prelude.{◌≡◌, ◌<◌, ◌≤◌, IsSome, IfSome, ◌↔◌};
 ghost use Rattle.guest_types.specs.LaneMemory.{load_form, width_of_size};

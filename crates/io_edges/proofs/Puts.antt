@@ -20,7 +20,7 @@ puts_untold t1 t2 bytes result h p = subst (λ t. Puts t t2 bytes result) h p
 -- ---- texts
 
 -- a text of which nothing was put, and nothing of an empty text
-part_none : (bytes text : List ℕ) → GainsPart bytes (Some bytes) text
+pub part_none : (bytes text : List ℕ) → GainsPart bytes (Some bytes) text
 part_none bytes text = (0, omega arith, ap Some (sym (append-nil bytes)))
 
 pub puts_nothing : (old : Option (List ℕ)) (n : ℕ) → PutsText {T = Unit {0}} old old n n [] (Ok tt)
@@ -46,7 +46,7 @@ part_more bytes x y new p =
     let most : p.0 ≤ length (x ++ y) = omega (arith, p.1, length-append x y) in
     (p.0, most, p.2 ∙ ap (λ t. Some (bytes ++ t)) (sym (take-append-le p.0 x y p.1)))
 
-later_rose : (a b c : ℕ) → a ≤ b → Rose b c → Rose a c
+pub later_rose : (a b c : ℕ) → a ≤ b → Rose b c → Rose a c
 later_rose a b c h r = omega arith
 
 causes : (a b c : ℕ) (result : Result (Unit {0}) Failed) → a ≤ b → HasCause b c result → HasCause a c result

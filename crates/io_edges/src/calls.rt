@@ -1,4 +1,4 @@
-// The count of calls, of which some are to fail.
+//! The count of calls, of which some are to fail.
 
 ghost use Rattle.std.specs.Prelude.{◌≡◌, ℕ, ◌≤◌, ◌||◌, IsTrue};
 ghost use Rattle.io_edges.specs.Files.{Rose};

@@ -1,4 +1,4 @@
-// Files by name.
+//! Files by name.
 
 ghost use Rattle.std.specs.Prelude.{◌≡◌, ◌≢◌, ℕ, Bool, List, Option, IsTrue, IsSome, OnErr};
 ghost use Rattle.io_edges.specs.Files.{HasCause, Reads, Writes, ReadsSteadily, WritesSteadily};

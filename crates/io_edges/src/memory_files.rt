@@ -1,4 +1,4 @@
-// Files in memory.
+//! Files in memory.
 
 ghost use Rattle.std.specs.Prelude.{◌≡◌, ◌≢◌, ◌↔◌, ◌<◌, ◌||◌, ℕ, List, [], Some, None, length, is_none, IsTrue, IsFalse, IfSome, OnErr, MatchOption, position, refl};
 ghost use Rattle.std.specs.Option.{option_copied};

@@ -1,4 +1,4 @@
-// A sink in memory.
+//! A sink in memory.
 
 ghost use Rattle.std.specs.Prelude.{◌≡◌, ◌<◌, ◌≤◌, ◌+◌, ◌||◌, ℕ, Some, min, nat_eq, is_err, [], length, IfOk, MatchResult};
 ghost use Rattle.io_edges.specs.Sink.{Puts, HasCause};

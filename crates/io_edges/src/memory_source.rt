@@ -1,4 +1,4 @@
-// A source in memory.
+//! A source in memory.
 
 ghost use Rattle.std.specs.Prelude.{◌≡◌, ◌↔◌, ◌<◌, ◌≤◌, ℕ, Some, min, is_err, [], length, drop, IfSome, IfOk, OnErr};
 ghost use Rattle.io_edges.specs.Sink.{HasCause};

@@ -1,4 +1,4 @@
-// Places for bytes to go to.
+//! Places for bytes to go to.
 
 ghost use Rattle.std.specs.Prelude.{◌≡◌, ◌<◌, ◌≤◌, ℕ, List, ◌++◌, length, take, Option, None, IfSome, IfOk, OnOk};
 ghost use Rattle.io_edges.specs.Sink.{Puts, HasCause, PutsText, text_in};

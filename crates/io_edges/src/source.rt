@@ -1,4 +1,4 @@
-// Sources that bytes come from.
+//! Sources that bytes come from.
 
 ghost use Rattle.std.specs.Prelude.{◌≡◌, ◌↔◌, ◌<◌, ◌≤◌, ℕ, List, [], length, drop, Option, IfSome, IfOk, OnErr};
 ghost use Rattle.io_edges.specs.Sink.{HasCause};

@@ -1,4 +1,4 @@
-// The files of the system.
+//! The files of the system.
 
 ghost use Rattle.std.specs.Prelude.{◌≡◌, ◌≢◌, None, false};
 ghost use Rattle.std.specs.Io.{StartsWith};

@@ -1,4 +1,4 @@
-// An output of the system.
+//! An output of the system.
 
 ghost use Rattle.std.specs.Prelude.{◌≡◌, ◌<◌, ◌≤◌, None, take, length, IfOk};
 ghost use Rattle.std.specs.Io.KnownBytes.{Appends};

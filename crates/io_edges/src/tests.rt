@@ -1,4 +1,4 @@
-// The forms in memory by the rules for them, and the adapters over what the system gives.
+//! The forms in memory by the rules for them, and the adapters over what the system gives.
 
 use crate::files::{FileError, Files, MAX_FILE};
 use crate::memory_files::{MemoryFiles, NamedFile, have_different_names};

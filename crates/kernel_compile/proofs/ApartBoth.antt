@@ -6,28 +6,29 @@ use Rattle.std.specs.Int.{int_min, int_max}
 use Rattle.std.proofs.lemmas.Bool.{eqb-true, eq-eqb}
 use Rattle.guest_types.specs.Length.{width_bytes}
 use Rattle.kernel_tree.specs.declared.ops.Ty.{Ty}
-use Rattle.kernel_tree.specs.declared.ops.Ty.TheVariants as ty
 use Rattle.kernel_tree.specs.declared.ast.Shape.{Shape}
-use Rattle.kernel_tree.specs.declared.ast.Shape.TheVariants as shape
 use Rattle.kernel_tree.specs.Plain.{Parameter, PlainLoop, Program}
+use Rattle.kernel_tree.specs.Typing.{element_type, binding_of_shape}
 use Rattle.kernel_meaning.specs.Eval.{byte_count}
-use Rattle.kernel_meaning.specs.ScalarRun.{given, argument, bound_of}
+use Rattle.kernel_meaning.specs.ScalarRun.{argument_names, argument, bound_of}
 use Rattle.loop_form.specs.declared.stream.Stream.{Stream}
-use Rattle.loop_form.specs.Lanes.{width_of, element_type}
-use Rattle.loop_form.specs.Streams.{streams_of}
+use Rattle.loop_form.specs.Lanes.{width_of}
+use Rattle.loop_form.specs.Streams.{streams_of, is_of, offsets_of, least_offset, greatest_offset, type_of_place, In}
+use Rattle.loop_form.proofs.StreamLaws.{in_any}
 use Rattle.dependence.specs.declared.used.Used.{Used}
-use Rattle.dependence.specs.Apart as by_use
-use Rattle.dependence.specs.Apart.{is_at, is_stored, used_by, used_at, used_from, used_of, bound_place, base_in, begin_in, end_in, IsBased, AreBased, PairApart, IsApartFrom, AreApart, is_store}
+use Rattle.dependence.specs.Apart.{is_stored, used_by, used_at, used_from, used_of, bound_place, base_in, begin_in, end_in, IsBased, AreBased, PairApart, IsApartFrom, AreApart, is_store}
 use Rattle.chunk_order.specs.Items.{nth_value}
-use Rattle.chunk_order.specs.Apart.{is_of, is_store_of, one_array, offsets_of, least_of, greatest_of, type_of_place, size_of_type, place_size, base_of, begin_of, end_of, Within, IsBase, Separate, ApartBy, Apart}
-use Rattle.chunk_order.specs.Order.{In}
+use Rattle.chunk_order.specs.Apart.{is_store_of, one_array, size_of_type, place_size, base_of, begin_of, end_of, Within, IsBase, Separate, StreamsApartBy, StreamsApart}
 use Rattle.kernel_compile.proofs.ArrayStreams.{IsTyped}
+use Rattle.kernel_tree.specs.declared.ops.Ty.TheVariants as ty
+use Rattle.kernel_tree.specs.declared.ast.Shape.TheVariants as shape
+use Rattle.dependence.specs.Apart as by_use
 
 -- ---- a parameter that is used is found
 
 -- what is known of the parameter at a place, an array, by the accesses
 abbrev used_for : ℕ → Ty → List Stream → Used
-used_for p t ss = record { place = p; width = width_of t; least = least_of (offsets_of p ss); greatest = greatest_of (offsets_of p ss); stored = list_any (is_store_of p) ss }
+used_for p t ss = record { place = p; width = width_of t; least = least_offset (offsets_of p ss); greatest = greatest_offset (offsets_of p ss); stored = list_any (is_store_of p) ss }
 
 abbrev IsIn : Used → List Used → Type 0
 IsIn u [] = ⊥
@@ -45,27 +46,27 @@ in_right u (v ∷ us) vs h = inr (in_right u us vs h)
 abbrev offset_of : Stream → ℤ
 offset_of s = s.offset
 
-offsets_filtered : (p : ℕ) (ss : List Stream) → offsets_of p ss ≡ map offset_of (filter (is_at p) ss)
+offsets_filtered : (p : ℕ) (ss : List Stream) → offsets_of p ss ≡ map offset_of (filter (is_of p) ss)
 offsets_filtered p [] = refl
 offsets_filtered p (s ∷ ss) = by (is_of p s) (offsets_filtered p ss)
   where
-    by : (b : Bool) → offsets_of p ss ≡ map offset_of (filter (is_at p) ss) → (if b then s.offset ∷ offsets_of p ss else offsets_of p ss) ≡ map offset_of (cond b (s ∷ filter (is_at p) ss) (filter (is_at p) ss))
+    by : (b : Bool) → offsets_of p ss ≡ map offset_of (filter (is_of p) ss) → (if b then s.offset ∷ offsets_of p ss else offsets_of p ss) ≡ map offset_of (cond b (s ∷ filter (is_of p) ss) (filter (is_of p) ss))
     by true h = ap (λ cs. s.offset ∷ cs) h
     by false h = h
 
-stored_filtered : (p : ℕ) (ss : List Stream) → list_any (is_store_of p) ss ≡ list_any by_use.is_store (filter (is_at p) ss)
+stored_filtered : (p : ℕ) (ss : List Stream) → list_any (is_store_of p) ss ≡ list_any by_use.is_store (filter (is_of p) ss)
 stored_filtered p [] = refl
 stored_filtered p (s ∷ ss) = by (is_of p s) s.store (stored_filtered p ss)
   where
-    by : (b c : Bool) → list_any (is_store_of p) ss ≡ list_any by_use.is_store (filter (is_at p) ss) → (b && c) || list_any (is_store_of p) ss ≡ list_any by_use.is_store (cond b (record s { store = c } ∷ filter (is_at p) ss) (filter (is_at p) ss))
+    by : (b c : Bool) → list_any (is_store_of p) ss ≡ list_any by_use.is_store (filter (is_of p) ss) → (b && c) || list_any (is_store_of p) ss ≡ list_any by_use.is_store (cond b (record s { store = c } ∷ filter (is_of p) ss) (filter (is_of p) ss))
     by true c h = ap (λ b. c || b) h
     by false c h = h
 
-some_filtered : (p : ℕ) (ss : List Stream) → list_any (is_of p) ss ≡ true → filter (is_at p) ss ≡ [] → ⊥
+some_filtered : (p : ℕ) (ss : List Stream) → list_any (is_of p) ss ≡ true → filter (is_of p) ss ≡ [] → ⊥
 some_filtered p [] e f = cc
 some_filtered p (s ∷ ss) e f = by (is_of p s) e f (some_filtered p ss)
   where
-    by : (b : Bool) → b || list_any (is_of p) ss ≡ true → cond b (s ∷ filter (is_at p) ss) (filter (is_at p) ss) ≡ [] → (list_any (is_of p) ss ≡ true → filter (is_at p) ss ≡ [] → ⊥) → ⊥
+    by : (b : Bool) → b || list_any (is_of p) ss ≡ true → cond b (s ∷ filter (is_of p) ss) (filter (is_of p) ss) ≡ [] → (list_any (is_of p) ss ≡ true → filter (is_of p) ss ≡ [] → ⊥) → ⊥
     by true e f h = cc
     by false e f h = h e f
 
@@ -79,23 +80,23 @@ unfolding by_use.greatest_of
 greatest_same c [] = refl
 greatest_same c (s ∷ ss) = greatest_same (int_max c s.offset) ss
 
-used_alone : (p : ℕ) (t : Ty) (ss : List Stream) → list_any (is_of p) ss ≡ true → used_by p (width_of t) (filter (is_at p) ss) ≡ used_for p t ss ∷ []
-used_alone p t ss some = by (filter (is_at p) ss) (some_filtered p ss some) (offsets_filtered p ss) (stored_filtered p ss)
+used_alone : (p : ℕ) (t : Ty) (ss : List Stream) → list_any (is_of p) ss ≡ true → used_by p (width_of t) (filter (is_of p) ss) ≡ used_for p t ss ∷ []
+used_alone p t ss some = by (filter (is_of p) ss) (some_filtered p ss some) (offsets_filtered p ss) (stored_filtered p ss)
   where
     by : (fs : List Stream) → (fs ≡ [] → ⊥) → offsets_of p ss ≡ map offset_of fs → list_any (is_store_of p) ss ≡ list_any by_use.is_store fs → used_by p (width_of t) fs ≡ used_for p t ss ∷ []
     by [] ne o st = absurd (ne refl)
     by (s ∷ fs) ne o st =
-        let low : least_of (offsets_of p ss) ≡ by_use.least_of s.offset fs = ap least_of o ∙ least_same s.offset fs in
-        let high : greatest_of (offsets_of p ss) ≡ by_use.greatest_of s.offset fs = ap greatest_of o ∙ greatest_same s.offset fs in
+        let low : least_offset (offsets_of p ss) ≡ by_use.least_of s.offset fs = ap least_offset o ∙ least_same s.offset fs in
+        let high : greatest_offset (offsets_of p ss) ≡ by_use.greatest_of s.offset fs = ap greatest_offset o ∙ greatest_same s.offset fs in
         ap (λ (c : ℤ). record { place = p; width = width_of t; least = c; greatest = by_use.greatest_of s.offset fs; stored = list_any by_use.is_store (s ∷ fs) } ∷ []) (sym low)
-        ∙ ap (λ (c : ℤ). record { place = p; width = width_of t; least = least_of (offsets_of p ss); greatest = c; stored = list_any by_use.is_store (s ∷ fs) } ∷ []) (sym high)
-        ∙ ap (λ (b : Bool). record { place = p; width = width_of t; least = least_of (offsets_of p ss); greatest = greatest_of (offsets_of p ss); stored = b } ∷ []) (sym st)
+        ∙ ap (λ (c : ℤ). record { place = p; width = width_of t; least = least_offset (offsets_of p ss); greatest = c; stored = list_any by_use.is_store (s ∷ fs) } ∷ []) (sym high)
+        ∙ ap (λ (b : Bool). record { place = p; width = width_of t; least = least_offset (offsets_of p ss); greatest = greatest_offset (offsets_of p ss); stored = b } ∷ []) (sym st)
 
-found_at : (ss : List Stream) (n : ℕ) (h : Shape) (t : Ty) → element_type h ≡ Some t → list_any (is_of n) ss ≡ true → IsIn (used_for n t ss) (used_at ss n h)
+found_at : (ss : List Stream) (n : ℕ) (h : Shape) (t : Ty) → element_type (binding_of_shape h) ≡ Some t → list_any (is_of n) ss ≡ true → IsIn (used_for n t ss) (used_at ss n h)
 found_at ss n (shape.Scalar u) t e some = absurd cc
 found_at ss n (shape.Array u) t e some =
     let same : t ≡ u = cc in
-    subst (λ us. IsIn (used_for n t ss) us) (sym (ap (λ v. used_by n (width_of v) (filter (is_at n) ss)) (sym same) ∙ used_alone n t ss some)) (inl refl)
+    subst (λ us. IsIn (used_for n t ss) us) (sym (ap (λ v. used_by n (width_of v) (filter (is_of n) ss)) (sym same) ∙ used_alone n t ss some)) (inl refl)
 
 found_from : (ss : List Stream) (n : ℕ) (ps : List Parameter) (j p : ℕ) (t : Ty) → type_of_place ps j ≡ Some t → p ≡ n + j → list_any (is_of p) ss ≡ true → IsIn (used_for p t ss) (used_from ss n ps)
 unfolding used_from
@@ -115,15 +116,6 @@ any_in test (s ∷ ss) e = by (test s) refl e (any_in test ss)
     by : (b : Bool) → test s ≡ b → b || list_any test ss ≡ true → (list_any test ss ≡ true → (x : Stream) × (In x ss) × (test x ≡ true)) → (x : Stream) × (In x (s ∷ ss)) × (test x ≡ true)
     by true f e h = (s, inl refl, f)
     by false f e h = let r = h e in (r.0, inr r.1, r.2)
-
-in_any : (test : Stream → Bool) (s : Stream) (ss : List Stream) → In s ss → test s ≡ true → list_any test ss ≡ true
-in_any test s [] h e = elim h [ ]
-in_any test s (t ∷ ts) (inl same) e = ap (λ b. b || list_any test ts) (ap test same ∙ e)
-in_any test s (t ∷ ts) (inr h) e = by (test t) (in_any test s ts h e)
-  where
-    by : (b : Bool) → list_any test ts ≡ true → b || list_any test ts ≡ true
-    by true h = refl
-    by false h = h
 
 all_in : (test : Stream → Bool) (ss : List Stream) → ((s : Stream) → In s ss → test s ≡ true) → list_all test ss ≡ true
 all_in test [] h = refl
@@ -171,12 +163,12 @@ pub dropped : (args : List ℕ) (p : ℕ) → slice_index (drop 1 args) p ≡ sl
 dropped [] p = refl
 dropped (a ∷ args) p = refl
 
-array_value : (h : Shape) (n : ℕ) (t : Ty) → element_type h ≡ Some t → argument h n ≡ pos n
+array_value : (h : Shape) (n : ℕ) (t : Ty) → element_type (binding_of_shape h) ≡ Some t → argument h n ≡ pos n
 array_value (shape.Scalar u) n t e = absurd cc
 array_value (shape.Array u) n t e = refl
 
 -- an array's value is its argument
-pub base_given : (ps : List Parameter) (args : List ℕ) (p : ℕ) (t : Ty) → type_of_place ps p ≡ Some t → nth_value (given ps args) p ≡ pos (slice_index args p)
+pub base_given : (ps : List Parameter) (args : List ℕ) (p : ℕ) (t : Ty) → type_of_place ps p ≡ Some t → nth_value (argument_names ps args) p ≡ pos (slice_index args p)
 base_given [] args p t e = absurd cc
 base_given (q ∷ ps) args zero t e = array_value q.shape (slice_index args 0) t e
 base_given (q ∷ ps) args (suc p) t e = base_given ps (drop 1 args) p t e ∙ ap pos (dropped args p)
@@ -194,13 +186,13 @@ same_bytes ty.U64 = refl
 module _ (k : Program) (args : List ℕ) where
   begin_same : (p : ℕ) (t : Ty) → type_of_place k.params p ≡ Some t → begin_of k args p ≡ begin_in args (used_for p t (streams_of k))
   begin_same p t e =
-      ap (λ (b : ℤ). b +ℤ pos (place_size k.params p) *ℤ least_of (offsets_of p (streams_of k))) (base_given k.params args p t e)
-      ∙ ap (λ (s : ℕ). pos (slice_index args p) +ℤ pos s *ℤ least_of (offsets_of p (streams_of k))) (ap size_of_type e ∙ same_bytes t)
+      ap (λ (b : ℤ). b +ℤ pos (place_size k.params p) *ℤ least_offset (offsets_of p (streams_of k))) (base_given k.params args p t e)
+      ∙ ap (λ (s : ℕ). pos (slice_index args p) +ℤ pos s *ℤ least_offset (offsets_of p (streams_of k))) (ap size_of_type e ∙ same_bytes t)
 
   end_same : (n p : ℕ) (t : Ty) → type_of_place k.params p ≡ Some t → end_of k args n p ≡ end_in args n (used_for p t (streams_of k))
   end_same n p t e =
-      ap (λ (b : ℤ). b +ℤ pos (place_size k.params p) *ℤ (pos n +ℤ greatest_of (offsets_of p (streams_of k)))) (base_given k.params args p t e)
-      ∙ ap (λ (s : ℕ). pos (slice_index args p) +ℤ pos s *ℤ (pos n +ℤ greatest_of (offsets_of p (streams_of k)))) (ap size_of_type e ∙ same_bytes t)
+      ap (λ (b : ℤ). b +ℤ pos (place_size k.params p) *ℤ (pos n +ℤ greatest_offset (offsets_of p (streams_of k)))) (base_given k.params args p t e)
+      ∙ ap (λ (s : ℕ). pos (slice_index args p) +ℤ pos s *ℤ (pos n +ℤ greatest_offset (offsets_of p (streams_of k)))) (ap size_of_type e ∙ same_bytes t)
 
   module _ (typed : (s : Stream) → In s (streams_of k) → IsTyped k.params s) where
     -- the array at a place that some access is of
@@ -281,10 +273,10 @@ module _ (k : Program) (args : List ℕ) where
         first_part false c e = absurd cc
 
 -- the loop's bound is a parameter, with its argument as its value
-pub apart_both : (k : Program) (args : List ℕ) (l : PlainLoop) → ((s : Stream) → In s (streams_of k) → IsTyped k.params s) → k.turns ≡ Some l → bound_of l (given k.params args) ≡ slice_index args (bound_place k) → by_use.Apart k args → Apart k args
-apart_both k args l typed is bound h = subst (λ o. ApartBy k args o) (sym is) (by h)
+pub apart_both : (k : Program) (args : List ℕ) (l : PlainLoop) → ((s : Stream) → In s (streams_of k) → IsTyped k.params s) → k.turns ≡ Some l → bound_of l (argument_names k.params args) ≡ slice_index args (bound_place k) → by_use.Apart k args → StreamsApart k args
+apart_both k args l typed is bound h = subst (λ o. StreamsApartBy k args o) (sym is) (by h)
   where
-    by : by_use.Apart k args → ApartBy k args (Some l)
+    by : by_use.Apart k args → StreamsApartBy k args (Some l)
     by (inl none) = inl (none_stored k args typed none)
     by (inr (inl few)) = inr (inl (alone k args typed few))
     by (inr (inr spread)) = inr (inr (subst (λ n. Separate k args n) (sym bound) (separate k args typed (slice_index args (bound_place k)) spread)))

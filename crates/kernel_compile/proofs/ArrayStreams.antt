@@ -1,22 +1,21 @@
 -- In a kernel that meets the rules each access of the loop is one to an array parameter.
-use Rattle.std.proofs.Common.{◌≡◌, ℕ, ◌+◌, ℤ, Bool, true, false, List, [], ◌∷◌, ◌++◌, Option, Some, None, refl, sym, ap, ◌∙◌, subst, inl, inr}
+use Rattle.std.proofs.Common.{◌≡◌, ℕ, ◌+◌, ℤ, Bool, true, false, List, [], ◌∷◌, ◌++◌, Option, Some, None, sym, ap, ◌∙◌, subst, inl, inr}
 use Rattle.std.specs.Prelude.{option_and_then, filter_map}
 use Rattle.std.specs.List.{cons_option}
 use Rattle.kernel_tree.specs.declared.ops.Ty.{Ty}
-use Rattle.kernel_tree.specs.declared.ops.Ty.TheVariants as ty
-use Rattle.kernel_tree.specs.declared.fault.Found as fault
-use Rattle.kernel_tree.specs.declared.fault.Binding.{Binding}
-use Rattle.kernel_tree.specs.declared.fault.Binding.TheVariants as binding
-use Rattle.kernel_tree.specs.Plain.{Term, Literal, Variable, Element, Unary, Operation, Shift, Conversion, Choice, Comparison, Both, Either, Not, Action, Define, Put, Update, Choose, Leave, Block, Done, Then, Otherwise, Nothing, Else, Parameter, Accumulator, PlainLoop, Program}
+use Rattle.kernel_tree.specs.Plain.{Term, Literal, Variable, Element, Unary, Operation, Shift, Conversion, Choice, Comparison, Both, Either, Not, Action, Define, Put, Update, Choose, Leave, Block, Done, Then, Otherwise, Nothing, Else, Parameter, PlainLoop, Program}
 use Rattle.kernel_tree.specs.Items.{stream_offset, loop_index, index_items}
-use Rattle.kernel_tree.specs.Typing.{Scope, Local, Role, Value, lookup, element_type, as_value, read_faults, typed_faults, kind_faults, target_faults, wanted, first, own, faults, inner_faults, index_faults, action_faults, block_faults, otherwise_faults, after_action, after_block, defined, left, in_loop, empty, after_params, after_vars, param_scope, var_scope, turns_faults, check_fault, declared, binding_of_shape}
+use Rattle.kernel_tree.specs.Typing.{Scope, Local, Role, Value, lookup, element_type, as_value, read_faults, wanted, first, own, faults, inner_faults, index_faults, action_faults, block_faults, otherwise_faults, after_action, after_block, defined, left, in_loop, var_scope, turns_faults, check_fault}
+use Rattle.kernel_tree.proofs.Names.{array_of, array_before}
+use Rattle.kernel_tree.proofs.Faultless.{nil-left, nil-right, loop_faultless}
+use Rattle.kernel_tree.proofs.NoFault.{read_some, target_some}
+use Rattle.kernel_tree.proofs.Scopes.{index_after, scope_index}
 use Rattle.loop_form.specs.declared.stream.Stream.{Stream}
 use Rattle.loop_form.specs.Entries.{Content, IsLiteral, IsName, IsRead, IsLet, IsStore, IsUpdate, IsPlain, Entry, inner_entries, term_entries, action_entries, block_entries, otherwise_entries, turns_entries, loop_entries, loop_start}
-use Rattle.loop_form.specs.Streams.{place_of, access, access_of, stream_of, streams_of}
-use Rattle.chunk_order.specs.Apart.{type_of_place}
-use Rattle.chunk_order.specs.Order.{In}
-use Rattle.chunk_order.proofs.Sites.{array_of, array_before, head_fits}
-use Rattle.chunk_order.proofs.OrderLaw.{faultless}
+use Rattle.loop_form.specs.Streams.{place_of, access, access_of, stream_of, streams_of, type_of_place, In}
+use Rattle.loop_form.proofs.ArrayNames.{head_fits}
+use Rattle.kernel_tree.specs.declared.ops.Ty.TheVariants as ty
+use Rattle.kernel_tree.specs.declared.fault.Found as fault
 
 -- an array that the loop may name is a parameter
 abbrev Found : List Parameter → List Local → Type 0
@@ -38,31 +37,6 @@ AreArrays ps [] = Unit {0}
 AreArrays ps (e ∷ es) = HasArray ps e.content × AreArrays ps es
 
 -- ---- a name where the rules ask for an array
-
-nil-left : {A : Type 0} (xs ys : List A) → xs ++ ys ≡ [] → xs ≡ []
-nil-left [] ys e = refl
-nil-left (x ∷ xs) ys e = absurd cc
-
-nil-right : {A : Type 0} (xs ys : List A) → xs ++ ys ≡ [] → ys ≡ []
-nil-right [] ys e = e
-nil-right (x ∷ xs) ys e = absurd cc
-
-typed_array : (item : ℕ) (want o : Option Ty) → typed_faults item want o ≡ [] → (t : Ty) × (o ≡ Some t)
-typed_array item want None e = absurd cc
-typed_array item want (Some t) e = (t, refl)
-
-kind_array : (item : ℕ) (o : Option Ty) → kind_faults item o ≡ [] → (t : Ty) × (o ≡ Some t)
-kind_array item None e = absurd cc
-kind_array item (Some t) e = (t, refl)
-
-read_array : (item : ℕ) (inside : Bool) (want : Option Ty) (o : Option Binding) → read_faults item inside want o ≡ [] → (t : Ty) × (option_and_then element_type o ≡ Some t)
-read_array item inside want None e = absurd cc
-read_array item true want (Some b) e = typed_array item want (element_type b) e
-read_array item false want (Some b) e = absurd cc
-
-target_array : (item : ℕ) (o : Option Binding) → target_faults item o ≡ [] → (t : Ty) × (option_and_then element_type o ≡ Some t)
-target_array item None e = absurd cc
-target_array item (Some b) e = kind_array item (element_type b) e
 
 is_array : (ps : List Parameter) (s : Scope) (a : List ℕ) → Found ps s.visible → (t : Ty) × (option_and_then element_type (lookup s a) ≡ Some t) → IsArray ps a
 is_array ps s a f h = let r = f a h.0 h.1 in record { place = r.0; type = h.0; found = r.1; typed = r.2 }
@@ -89,7 +63,7 @@ module _ (k : Program) where
       let read : read_faults item s.inside (wanted role) (lookup s a) ≡ [] = nil-left _ _ (nil-right (as_value item role) _ outer) in
       arrays-append k.params _ _
       (inner_arrays k.params (stream_offset (loop_index k) i) (term_entries k f (f + index_items (loop_index k) i) i) fs (term_arrays i s from (Value (first (own s i) (Some ty.U64))) f (f + index_items (loop_index k) i) q v) (subst (λ (j : Option (List ℕ)). inner_faults (stream_offset j i) fs ≡ []) q inner))
-      (is_array k.params s a v (read_array item s.inside (wanted role) (lookup s a) read), tt)
+      (is_array k.params s a v (read_some item s.inside (wanted role) (lookup s a) read), tt)
   term_arrays (Unary op e) s from role f u q v h = arrays-append k.params _ _ (term_arrays e s from (Value (wanted role)) f _ q v (nil-left _ _ h)) (tt, tt)
   term_arrays (Operation op a b) s from role f u q v h = arrays-append k.params _ _ (term_arrays a s _ _ f _ q v (nil-left _ _ h)) (arrays-append k.params _ _ (term_arrays b s _ _ _ _ q v (nil-left _ _ (nil-right _ _ h))) (tt, tt))
   term_arrays (Shift l e n) s from role f u q v h = arrays-append k.params _ _ (term_arrays e s _ _ f _ q v (nil-left _ _ h)) (tt, tt)
@@ -112,23 +86,12 @@ module _ (k : Program) where
   action_found s (Choose c b d) v = v
   action_found s (Leave c) v = v
 
-  defined_index : (s : Scope) (x : List ℕ) (o : Option Ty) → (defined s x o).index ≡ s.index
-  defined_index s x None = refl
-  defined_index s x (Some t) = refl
-
-  action_index : (s : Scope) (a : Action) → (after_action s a).index ≡ s.index
-  action_index s (Define x t e) = defined_index s x (first t (own s e))
-  action_index s (Put a i e) = refl
-  action_index s (Update x op e) = refl
-  action_index s (Choose c b d) = refl
-  action_index s (Leave c) = refl
-
   mutual
     action_arrays : (a : Action) (s : Scope) (from f : ℕ) → s.index ≡ loop_index k → Found k.params s.visible → action_faults s from a ≡ [] → AreArrays k.params (action_entries k f a)
     action_arrays (Define x t e) s from f q v h = arrays-append k.params _ _ (term_arrays e s _ _ f _ q v (nil-left _ _ h)) (tt, tt)
     action_arrays (Put a i e) s from f q v h =
         arrays-append k.params _ _ (term_arrays e s _ _ f _ q v (nil-left _ _ h))
-        (is_array k.params s a v (target_array _ (lookup s a) (nil-left _ _ (nil-right _ _ h))), tt)
+        (is_array k.params s a v (target_some _ (lookup s a) (nil-left _ _ (nil-right _ _ h))), tt)
     action_arrays (Update x op e) s from f q v h = arrays-append k.params _ _ (term_arrays e s _ _ f _ q v (nil-left _ _ h)) (tt, tt)
     action_arrays (Choose c b d) s from f q v h =
         arrays-append k.params _ _ (term_arrays c s _ _ f _ q v (nil-left _ _ h)) (tt, arrays-append k.params _ _ (block_arrays b s _ _ q v (nil-left _ _ (nil-right _ _ h))) (arrays-append k.params _ _ (otherwise_arrays d (left s (after_block s b)) _ _ _ q v (nil-right _ _ (nil-right _ _ h))) (tt, tt)))
@@ -136,7 +99,7 @@ module _ (k : Program) where
 
     block_arrays : (b : Block) (s : Scope) (from f : ℕ) → s.index ≡ loop_index k → Found k.params s.visible → block_faults s from b ≡ [] → AreArrays k.params (block_entries k f b)
     block_arrays Done s from f q v h = tt
-    block_arrays (Then a b) s from f q v h = arrays-append k.params _ _ (action_arrays a s from f q v (nil-left _ _ h)) (block_arrays b (after_action s a) _ _ (action_index s a ∙ q) (action_found s a v) (nil-right _ _ h))
+    block_arrays (Then a b) s from f q v h = arrays-append k.params _ _ (action_arrays a s from f q v (nil-left _ _ h)) (block_arrays b (after_action s a) _ _ (index_after s a ∙ q) (action_found s a v) (nil-right _ _ h))
 
     otherwise_arrays : (d : Otherwise) (s : Scope) (from f end : ℕ) → s.index ≡ loop_index k → Found k.params s.visible → otherwise_faults s from d ≡ [] → AreArrays k.params (otherwise_entries k f end d)
     otherwise_arrays Nothing s from f end q v h = tt
@@ -149,16 +112,8 @@ module _ (k : Program) where
   turns_arrays from f None q h = tt
   turns_arrays from f (Some l) q h = (tt, block_arrays l.body (in_loop (var_scope k) l) _ _ q (head_found l) (nil-right _ _ (nil-right _ _ h)))
 
-params_index : (s : Scope) (ps : List Parameter) → (after_params s ps).index ≡ s.index
-params_index s [] = refl
-params_index s (p ∷ ps) = params_index (declared s p.name (binding_of_shape p.shape)) ps
-
-vars_index : (s : Scope) (vs : List Accumulator) → (after_vars s vs).index ≡ s.index
-vars_index s [] = refl
-vars_index s (v ∷ vs) = vars_index (declared s v.name (binding.Accumulator v.type)) vs
-
 loop_arrays : (k : Program) → check_fault k ≡ None → AreArrays k.params (loop_entries k)
-loop_arrays k e = turns_arrays k _ (loop_start k) k.turns (vars_index (param_scope k) k.vars ∙ params_index (empty (loop_index k)) k.params) (nil-left _ _ (nil-right _ _ (nil-right _ _ (faultless k e))))
+loop_arrays k e = turns_arrays k _ (loop_start k) k.turns (scope_index k) (loop_faultless k e)
 
 -- ---- the accesses
 

@@ -1,36 +1,38 @@
 -- What the registers of parameters hold as a loop begins: the arguments of its arrays and of its bound as they are.
-use Rattle.std.proofs.Common.{◌≡◌, ℕ, zero, suc, ◌+◌, ◌%◌, ◌^◌, ◌<◌, Bool, true, false, cond, List, [], ◌∷◌, ◌++◌, length, Option, Some, None, refl, sym, ap, ◌∙◌, subst, arith}
+use Rattle.std.proofs.Common.{◌≡◌, ℕ, zero, suc, ◌+◌, ◌%◌, ◌^◌, ◌<◌, Bool, true, false, cond, List, [], ◌∷◌, ◌++◌, length, Some, None, refl, sym, ap, ◌∙◌, subst, arith}
 use Rattle.std.specs.Prelude.{All, pos, bytes_eq, option_map, option_and_then, unwrap_or, slice_index, drop, filter, if◌then◌else◌}
 use Rattle.std.specs.List.{find}
 use Rattle.std.proofs.Math.Nat.{mod-eq_of_lt}
 use Rattle.guest_types.specs.Memory.{Memory}
 use Rattle.machine_model.specs.Machine.{State, x_at}
 use Rattle.kernel_tree.specs.declared.ops.Ty.{Ty}
-use Rattle.kernel_tree.specs.declared.ops.Ty.TheVariants as ty
 use Rattle.kernel_tree.specs.declared.ast.Shape.{Shape}
-use Rattle.kernel_tree.specs.declared.ast.Shape.TheVariants as shape
-use Rattle.kernel_tree.specs.declared.fault.Binding.{Binding}
-use Rattle.kernel_tree.specs.declared.fault.Binding.TheVariants as binding
 use Rattle.kernel_tree.specs.Plain.{Parameter, Accumulator, PlainLoop, Program}
-use Rattle.kernel_tree.specs.Typing.{local, lookup, has_name, binding_of, binding_of_shape, mismatch, bound_faults, var_scope, check_fault}
+use Rattle.kernel_tree.specs.Typing.{local, has_name, binding_of, binding_of_shape, check_fault, element_type}
+use Rattle.kernel_tree.specs.Scopes.{locals_of, accs_of}
+use Rattle.kernel_tree.proofs.Scopes.{var_visible}
+use Rattle.kernel_tree.proofs.NoFault.{bound_scalar}
+use Rattle.kernel_tree.proofs.Names.{no_scalar}
 use Rattle.kernel_meaning.specs.Operators.{word}
 use Rattle.kernel_meaning.specs.Eval.{Names, is_named, value_of, value_at}
 use Rattle.kernel_meaning.specs.Iterate.{named}
-use Rattle.kernel_meaning.specs.ScalarRun.{given, argument, started, bound_of}
+use Rattle.kernel_meaning.specs.ScalarRun.{argument_names, argument, started, bound_of}
+use Rattle.kernel_meaning.proofs.Started.{started_names, started_bound}
 use Rattle.loop_form.specs.declared.stream.Stream.{Stream}
-use Rattle.loop_form.specs.Lanes.{element_type, width_of}
-use Rattle.loop_form.specs.Streams.{place_from, streams_of}
+use Rattle.loop_form.specs.Lanes.{width_of}
+use Rattle.loop_form.specs.Streams.{place_from, streams_of, is_of, type_of_place}
 use Rattle.dependence.specs.declared.used.Used.{Used}
-use Rattle.dependence.specs.Apart.{is_at, used_by, used_at, used_from, used_of, bound_in, bound_place}
+use Rattle.dependence.specs.Apart.{used_by, used_at, used_from, used_of, bound_in, bound_place}
 use Rattle.chunk_order.specs.Items.{nth_value}
-use Rattle.chunk_order.specs.Apart.{type_of_place}
-use Rattle.chunk_order.proofs.Sites.{locals_of, accs_of, var_visible, started_names, started_bases, started_bound}
-use Rattle.chunk_order.proofs.OrderLaw.{turns_faultless}
+use Rattle.chunk_order.proofs.ArrayParameters.{started_bases}
 use Rattle.overlap_guard.specs.Meets.{BasesHeld}
 use Rattle.scalar_emit.specs.Layout.{Homes}
 use Rattle.scalar_emit.specs.Kernel.{param_homes, var_homes, kernel_homes}
 use Rattle.scalar_emit.specs.Runs.{AreHeld}
 use Rattle.kernel_compile.proofs.ApartBoth.{base_given, dropped}
+use Rattle.kernel_tree.specs.declared.ops.Ty.TheVariants as ty
+use Rattle.kernel_tree.specs.declared.ast.Shape.TheVariants as shape
+use Rattle.kernel_tree.specs.declared.fault.Binding.TheVariants as binding
 
 -- ---- parameters in their registers
 
@@ -68,9 +70,9 @@ bases-append : (args : List ℕ) (us vs : List Used) (s : State) → BasesHeld a
 bases-append args [] vs s h k = k
 bases-append args (u ∷ us) vs s h k = (h.0, bases-append args us vs s h.1 k)
 
-bases_at : (args : List ℕ) (ss : List Stream) (n : ℕ) (h : Shape) (s : State) → ((t : Ty) → element_type h ≡ Some t → x_at s n ≡ slice_index args n) → BasesHeld args (used_at ss n h) s
+bases_at : (args : List ℕ) (ss : List Stream) (n : ℕ) (h : Shape) (s : State) → ((t : Ty) → element_type (binding_of_shape h) ≡ Some t → x_at s n ≡ slice_index args n) → BasesHeld args (used_at ss n h) s
 bases_at args ss n (shape.Scalar t) s held = tt
-bases_at args ss n (shape.Array t) s held = by (filter (is_at n) ss)
+bases_at args ss n (shape.Array t) s held = by (filter (is_of n) ss)
   where
     by : (fs : List Stream) → BasesHeld args (used_by n (width_of t) fs) s
     by [] = tt
@@ -94,41 +96,15 @@ record IsBound (ps : List Parameter) (x : List ℕ) (n : ℕ) (args : List ℕ) 
   place : ℕ
   is : place_from x n ps ≡ Some (n + place)
   low : place < length ps
-  value : value_at (given ps args) x ≡ pos (slice_index args place % 2 ^ 64)
-  own : nth_value (given ps args ++ more) place ≡ pos (slice_index args place % 2 ^ 64)
-
-no_match : (item : ℕ) (t : Ty) → mismatch item (Some ty.U64) t ≡ [] → t ≡ ty.U64
-no_match item ty.I8 e = absurd cc
-no_match item ty.I16 e = absurd cc
-no_match item ty.I32 e = absurd cc
-no_match item ty.I64 e = absurd cc
-no_match item ty.U8 e = absurd cc
-no_match item ty.U16 e = absurd cc
-no_match item ty.U32 e = absurd cc
-no_match item ty.U64 e = refl
-
-bound_scalar : (item : ℕ) (o : Option Binding) → bound_faults item o ≡ [] → o ≡ Some (binding.Scalar ty.U64)
-bound_scalar item None e = absurd cc
-bound_scalar item (Some (binding.Scalar t)) e = ap (λ u. Some (binding.Scalar u)) (no_match item t e)
-bound_scalar item (Some (binding.Array t)) e = absurd cc
-bound_scalar item (Some (binding.Accumulator t)) e = absurd cc
-bound_scalar item (Some (binding.Value t)) e = absurd cc
-bound_scalar item (Some binding.Index) e = absurd cc
-
-no_var : (vs : List Accumulator) (x : List ℕ) → option_map binding_of (find (has_name x) (accs_of vs)) ≡ Some (binding.Scalar ty.U64) → ⊥
-no_var [] x e = cc
-no_var (v ∷ vs) x e = by (bytes_eq v.name x) e (no_var vs x)
-  where
-    by : (b : Bool) → option_map binding_of (cond b (Some (local v.name (binding.Accumulator v.type))) (find (has_name x) (accs_of vs))) ≡ Some (binding.Scalar ty.U64) → (option_map binding_of (find (has_name x) (accs_of vs)) ≡ Some (binding.Scalar ty.U64) → ⊥) → ⊥
-    by true e h = cc
-    by false e h = h e
+  value : value_at (argument_names ps args) x ≡ pos (slice_index args place % 2 ^ 64)
+  own : nth_value (argument_names ps args ++ more) place ≡ pos (slice_index args place % 2 ^ 64)
 
 whole_argument : (h : Shape) (n : ℕ) → Some (binding_of_shape h) ≡ Some (binding.Scalar ty.U64) → argument h n ≡ pos (n % 2 ^ 64)
 whole_argument (shape.Array t) n e = absurd cc
 whole_argument (shape.Scalar t) n e = let same : t ≡ ty.U64 = cc in ap (λ u. argument (shape.Scalar u) n) same
 
 bound_from : (n : ℕ) (ps : List Parameter) (vs : List Accumulator) (args : List ℕ) (more : Names) (x : List ℕ) → option_map binding_of (find (has_name x) (locals_of ps ++ accs_of vs)) ≡ Some (binding.Scalar ty.U64) → IsBound ps x n args more
-bound_from n [] vs args more x e = absurd (no_var vs x e)
+bound_from n [] vs args more x e = absurd (no_scalar vs x ty.U64 e)
 bound_from n (p ∷ ps) vs args more x e = by (bytes_eq p.name x) refl e (bound_from (n + 1) ps vs (drop 1 args) more x)
   where
     by : (b : Bool) → bytes_eq p.name x ≡ b → option_map binding_of (cond b (Some (local p.name (binding_of_shape p.shape))) (find (has_name x) (locals_of ps ++ accs_of vs))) ≡ Some (binding.Scalar ty.U64)
@@ -137,7 +113,7 @@ bound_from n (p ∷ ps) vs args more x e = by (bytes_eq p.name x) refl e (bound_
       place = 0;
       is = ap (λ b. if b then Some n else place_from x (n + 1) ps) f ∙ (let z : n ≡ n + 0 = omega arith in ap Some z);
       low = omega arith;
-      value = ap (λ b. unwrap_or (option_map value_of (cond b (Some (named p.name (argument p.shape (slice_index args 0)))) (find (is_named x) (given ps (drop 1 args))))) (pos 0)) f ∙ whole_argument p.shape (slice_index args 0) e;
+      value = ap (λ b. unwrap_or (option_map value_of (cond b (Some (named p.name (argument p.shape (slice_index args 0)))) (find (is_named x) (argument_names ps (drop 1 args))))) (pos 0)) f ∙ whole_argument p.shape (slice_index args 0) e;
       own = whole_argument p.shape (slice_index args 0) e;
     }
     by false f e h =
@@ -147,32 +123,27 @@ bound_from n (p ∷ ps) vs args more x e = by (bytes_eq p.name x) refl e (bound_
           place = suc r.place;
           is = ap (λ b. if b then Some n else place_from x (n + 1) ps) f ∙ r.is ∙ ap Some at;
           low = (let l = r.low in omega (arith, l));
-          value = ap (λ b. unwrap_or (option_map value_of (cond b (Some (named p.name (argument p.shape (slice_index args 0)))) (find (is_named x) (given ps (drop 1 args))))) (pos 0)) f ∙ r.value ∙ ap (λ a. pos (a % 2 ^ 64)) (dropped args r.place);
+          value = ap (λ b. unwrap_or (option_map value_of (cond b (Some (named p.name (argument p.shape (slice_index args 0)))) (find (is_named x) (argument_names ps (drop 1 args))))) (pos 0)) f ∙ r.value ∙ ap (λ a. pos (a % 2 ^ 64)) (dropped args r.place);
           own = r.own ∙ ap (λ a. pos (a % 2 ^ 64)) (dropped args r.place);
         }
 
 -- What a loop's bound is: its argument, in the register of its place.
 pub record Bounded (R : ℕ → ℕ) (k : Program) (l : PlainLoop) (args : List ℕ) (names : Names) (s : State) : Type 0 where
   pub limit : bound_of l names ≡ slice_index args (bound_place k)
-  pub first : bound_of l (given k.params args) ≡ slice_index args (bound_place k)
+  pub first : bound_of l (argument_names k.params args) ≡ slice_index args (bound_place k)
   pub held : x_at s (bound_place k) ≡ slice_index args (bound_place k)
 
 pub bounded : (R : ℕ → ℕ) (k : Program) (l : PlainLoop) (args : List ℕ) (m : Memory) (names : Names) (s : State) → check_fault k ≡ None → k.turns ≡ Some l → All (λ arg. arg < 2 ^ 64) args → started k args m ≡ Some names → AreHeld (kernel_homes R k) names s → Bounded R k l args names s
 bounded R k l args m names s sound is small start h =
-    let front : bound_faults _ (lookup (var_scope k) l.bound) ≡ [] = nil_left _ _ (turns_faultless k l sound is) in
-    let seen = bound_scalar _ (lookup (var_scope k) l.bound) front in
+    let seen = bound_scalar k l sound is in
     let more = started_names k args m names start in
     let found = bound_from 0 k.params k.vars args more.0 l.bound (ap (λ vs. option_map binding_of (find (has_name l.bound) vs)) (sym (var_visible k)) ∙ seen) in
     let zero_first : 0 + found.place ≡ found.place = omega arith in
     let place : bound_place k ≡ found.place = ap (λ t. unwrap_or (option_and_then (bound_in k.params) t) 0) is ∙ ap (λ q. unwrap_or q 0) (found.is ∙ ap Some zero_first) in
     let fits : slice_index args found.place % 2 ^ 64 ≡ slice_index args found.place = mod-eq_of_lt (argument_small args small found.place) in
-    let first : bound_of l (given k.params args) ≡ slice_index args (bound_place k) = ap word found.value ∙ ap (λ n. n % 2 ^ 64) fits ∙ fits ∙ ap (slice_index args) (sym place) in
+    let first : bound_of l (argument_names k.params args) ≡ slice_index args (bound_place k) = ap word found.value ∙ ap (λ n. n % 2 ^ 64) fits ∙ fits ∙ ap (slice_index args) (sym place) in
     record {
       limit = started_bound k l args m names ty.U64 start seen ∙ first;
       first = first;
       held = ap (x_at s) place ∙ params_held R k names s h found.place found.low ∙ ap word (ap (λ ns. nth_value ns found.place) more.1 ∙ found.own) ∙ ap (λ n. n % 2 ^ 64) fits ∙ fits ∙ ap (slice_index args) (sym place);
     }
-  where
-    nil_left : {A : Type 0} (xs ys : List A) → xs ++ ys ≡ [] → xs ≡ []
-    nil_left [] ys e = refl
-    nil_left (x ∷ xs) ys e = absurd cc

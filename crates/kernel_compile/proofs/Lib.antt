@@ -1,6 +1,6 @@
 pub mod Promises
-pub mod Loaded
-pub mod Join
+pub mod FileStart
+pub mod ScalarFaithful
 pub mod ScalarFiles
 pub mod ArrayStreams
 pub mod ApartBoth

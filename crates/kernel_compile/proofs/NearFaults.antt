@@ -5,18 +5,18 @@ use Rattle.guest_types.specs.Memory.{Memory, Page, IsMemory, byte_of, page_at, b
 use Rattle.guest_types.proofs.Stores.{can_read-below}
 use Rattle.kernel_tree.specs.declared.ops.Ty.{Ty}
 use Rattle.kernel_tree.specs.declared.ast.Shape.{Shape}
-use Rattle.kernel_tree.specs.declared.ast.Shape.TheVariants as shape
 use Rattle.kernel_tree.specs.Plain.{Parameter, Program}
+use Rattle.kernel_tree.specs.Typing.{element_type, binding_of_shape}
 use Rattle.kernel_meaning.specs.Eval.{address, byte_count}
 use Rattle.kernel_meaning.proofs.Residues.{word-add}
 use Rattle.loop_form.specs.declared.stream.Stream.{Stream}
-use Rattle.loop_form.specs.Lanes.{element_type}
-use Rattle.loop_form.specs.Streams.{streams_of}
+use Rattle.loop_form.specs.Streams.{streams_of, elements_of, type_of_place, In}
 use Rattle.dependence.specs.Apart.{bound_place}
-use Rattle.chunk_order.specs.Apart.{elements_of, type_of_place, base_of}
-use Rattle.chunk_order.specs.Order.{In, Elsewhere}
+use Rattle.chunk_order.specs.Apart.{base_of}
+use Rattle.chunk_order.specs.Order.{Elsewhere}
 use Rattle.kernel_compile.specs.Faithful.{byte_address, IsNearFault}
 use Rattle.kernel_compile.proofs.ApartBoth.{base_given}
+use Rattle.kernel_tree.specs.declared.ast.Shape.TheVariants as shape
 
 -- ---- addresses that are no words
 
@@ -50,7 +50,7 @@ record Declared (ps : List Parameter) (p : ℕ) (t : Ty) : Type 0 where
   is : slice_get ps p ≡ Some param
   typed : param.shape ≡ shape.Array t
 
-array_shape : (h : Shape) (t : Ty) → element_type h ≡ Some t → h ≡ shape.Array t
+array_shape : (h : Shape) (t : Ty) → element_type (binding_of_shape h) ≡ Some t → h ≡ shape.Array t
 array_shape (shape.Scalar u) t e = absurd cc
 array_shape (shape.Array u) t e = let same : u ≡ t = cc in ap shape.Array same
 

@@ -2,7 +2,7 @@
 use Rattle.std.proofs.Common.{◌≡◌, ℕ, List, refl, ap, ◌∙◌, arith}
 use Rattle.guest_types.specs.EarlyLoads.{never}
 use Rattle.guest_types.specs.Memory.{Memory, merged}
-use Rattle.machine_model.specs.Run.{start, free_start, free_run, machine_run}
+use Rattle.machine_model.specs.Run.{start, start_of, free_start, free_run, machine_run}
 use Rattle.machine_model.proofs.Suppressed.{none_suppressed}
 use Rattle.kernel_tree.specs.Plain.{Program}
 use Rattle.kernel_meaning.specs.ScalarRun.{begun, scalar_run}
@@ -18,7 +18,7 @@ pub free_slow : (k : Program) (file : List ℕ) → FreeSlowFaithful k file → 
 free_slow k file f = record { image = f.image; loaded = f.loaded; runs = λ args pages vl stops steps begins empty le. f.runs args pages vl stops steps begins tt le }
 
 pub free : (k : Program) (file : List ℕ) → FreeFaithful k file → Faithful k file
-unfolding free_start
+unfolding free_start start_of
 free k file f = record {
   image = f.image;
   loaded = f.loaded;

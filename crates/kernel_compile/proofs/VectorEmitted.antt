@@ -4,7 +4,7 @@ use Rattle.kernel_tree.specs.Plain.{PlainLoop, Returned, Program}
 use Rattle.kernel_tree.specs.Items.{size_of, loop_index}
 use Rattle.label_fix.specs.DraftRun.{Entry, Branch, Place, Always}
 use Rattle.label_fix.specs.Finished.{size}
-use Rattle.label_fix.proofs.Once.{Once}
+use Rattle.label_fix.proofs.LabelsOnce.{Once}
 use Rattle.label_fix.proofs.PlacedRuns.{size-append}
 use Rattle.reg_assign.specs.Registers.{Assignment}
 use Rattle.dependence.specs.Apart.{used_of}

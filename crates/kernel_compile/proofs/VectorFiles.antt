@@ -4,11 +4,11 @@ use Rattle.std.specs.Prelude.{All}
 use Rattle.guest_types.specs.EarlyLoads.{StopList}
 use Rattle.guest_types.specs.Length.{IsLength}
 use Rattle.guest_types.specs.Memory.{Memory, IsMemory, DoNotMeet, merged}
-use Rattle.machine_model.specs.Run.{Outcome, run, start, free_start, suppressed}
+use Rattle.machine_model.specs.Run.{Outcome, run, start_of, free_start, suppressed}
 use Rattle.machine_model.specs.States.{IsState}
 use Rattle.machine_model.specs.Written.{file_of, code_base, image_of_words}
-use Rattle.machine_model.proofs.Files.{load-file_of}
-use Rattle.machine_model.proofs.States.{start_is}
+use Rattle.machine_model.proofs.WrittenLoads.{load-file_of}
+use Rattle.machine_model.proofs.StateSteps.{free_start_is}
 use Rattle.kernel_tree.specs.Plain.{Program}
 use Rattle.kernel_meaning.specs.ScalarRun.{begun, scalar_run}
 use Rattle.reg_assign.specs.Registers.{Assignment}
@@ -16,12 +16,12 @@ use Rattle.dependence.specs.Bound.{free_bound}
 use Rattle.label_fix.specs.DraftRun.{Entry, Laid, Place, draft_run}
 use Rattle.label_fix.specs.Cuts.{cuts}
 use Rattle.label_fix.specs.Finished.{AreFit, StandAt, size, words_of}
-use Rattle.label_fix.proofs.Once.{Once, resolves_in}
+use Rattle.label_fix.proofs.LabelsOnce.{Once, resolves_in}
 use Rattle.label_fix.proofs.PlacedRuns.{runs_as_draft, cuts_are_suppressed, words_length}
 use Rattle.scalar_emit.specs.Kernel.{register_in}
 use Rattle.scalar_emit.specs.Runs.{HasArguments}
 use Rattle.kernel_compile.specs.Faithful.{Follows, FreeFaithful}
-use Rattle.kernel_compile.proofs.Loaded.{image_memory, starts, start_memory, words_stand}
+use Rattle.kernel_compile.proofs.FileStart.{image_memory, starts, start_memory, words_stand}
 use Rattle.kernel_compile.proofs.VectorPlaced.{whole_code}
 use Rattle.kernel_compile.proofs.VectorJoin.{scalar_part, guard_part, vector_part, IsJoined, code_follows}
 
@@ -29,13 +29,19 @@ use Rattle.kernel_compile.proofs.VectorJoin.{scalar_part, guard_part, vector_par
 
 -- whatever the stop list
 start_state : (words args : List ℕ) (pages : Memory) (vl : ℕ) (stops : StopList) → length words ≤ 65536 → length args ≤ 8 → All (λ arg. arg < 2 ^ 64) args → IsMemory pages → DoNotMeet (image_of_words words).pages pages → IsLength vl → IsState (free_start (image_of_words words) args pages vl stops)
-unfolding free_start
 start_state words args pages vl stops few args_few small mapped apart sized =
-    let h = start_is (image_of_words words) args pages vl sized (omega (arith, args_few)) small (image_memory words few) mapped apart (let low : code_base < 2 ^ 64 = omega arith in low) in
-    record { sized = h.sized; mapped = h.mapped; place = h.place; x_count = h.x_count; x_small = h.x_small; sp_small = h.sp_small; z_count = h.z_count; z_each = h.z_each; p_count = h.p_count; p_each = h.p_each; ffr_is = h.ffr_is }
+    free_start_is (image_of_words words) args pages vl stops (record {
+      sized = sized;
+      few = omega (arith, args_few);
+      small = small;
+      loaded = image_memory words few;
+      mapped = mapped;
+      apart = apart;
+      place = let low : code_base < 2 ^ 64 = omega arith in low;
+    })
 
 start_length : (words args : List ℕ) (pages : Memory) (vl : ℕ) (stops : StopList) → (free_start (image_of_words words) args pages vl stops).vl ≡ vl
-unfolding start free_start
+unfolding free_start start_of
 start_length words args pages vl stops = refl
 
 -- ---- the file

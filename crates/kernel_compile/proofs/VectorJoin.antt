@@ -13,10 +13,11 @@ use Rattle.machine_model.specs.States.{IsState}
 use Rattle.kernel_tree.specs.Plain.{Program}
 use Rattle.kernel_tree.specs.Items.{size_of}
 use Rattle.kernel_tree.specs.Grammar.{IsTree}
-use Rattle.kernel_tree.specs.Typing.{var_scope, check_fault}
+use Rattle.kernel_tree.specs.Typing.{check_fault}
 use Rattle.kernel_meaning.specs.Eval.{Names}
 use Rattle.kernel_meaning.specs.ScalarRun as scalar
-use Rattle.kernel_meaning.specs.ScalarRun.{begun, bound_of, started, run_named, scalar_run}
+use Rattle.kernel_meaning.specs.ScalarRun.{begun, started, scalar_run}
+use Rattle.kernel_meaning.proofs.RunsFrom.{start_within, whole_run}
 use Rattle.reg_assign.specs.declared.interval.RegClass.TheVariants.{X, Z, P}
 use Rattle.reg_assign.specs.Registers.{Assignment}
 use Rattle.loop_form.specs.Lanes.{lane_width_of}
@@ -30,9 +31,9 @@ use Rattle.label_fix.specs.DraftRun.{Entry, Laid, Branch, Place, Always, followi
 use Rattle.label_fix.specs.Cuts.{cuts}
 use Rattle.label_fix.specs.Finished.{AreFit}
 use Rattle.label_fix.specs.Stretches.{Goes, Resolves}
-use Rattle.label_fix.proofs.Steps.{chain, taken_goes}
+use Rattle.label_fix.proofs.StretchSteps.{chain, taken_goes}
 use Rattle.scalar_emit.specs.Kernel.{scalar_code, register_in}
-use Rattle.scalar_emit.specs.Runs.{Frame, HasArguments, AtIteration, BeginRuns, Comes, faults_so, run_from, ScalarRuns}
+use Rattle.scalar_emit.specs.Runs.{Frame, HasArguments, AtIteration, BeginRuns, Comes, faults_so, ScalarRuns}
 use Rattle.overlap_guard.specs.Guard.{guard_code}
 use Rattle.overlap_guard.specs.Meets.{Passes, Chooses, on_where, off_where, MeetsApart}
 use Rattle.chunk_emit.specs.Head.{Ground, IsGround, most_lanes, limit}
@@ -40,7 +41,7 @@ use Rattle.vector_emit.specs.VectorCode.{vector_code}
 use Rattle.vector_emit.specs.VectorRuns as vectors
 use Rattle.vector_emit.specs.VectorRuns.{Near, VectorRuns, turn_steps, vector_base}
 use Rattle.kernel_compile.specs.Faithful.{Follows, IsNearFault}
-use Rattle.kernel_compile.proofs.Join.{comes_after, comes_follow, from_start, start_within}
+use Rattle.kernel_compile.proofs.ScalarFaithful.{comes_after, comes_follow}
 use Rattle.kernel_compile.proofs.MapStays.{draft_map}
 use Rattle.kernel_compile.proofs.Paces.{end_paced, stop_paced, enough}
 use Rattle.kernel_compile.proofs.NearFaults.{both_unmapped, elsewhere}
@@ -200,9 +201,6 @@ module _ (k : Program) (a b c : Assignment) (j : IsJoined k a b c) where
         vl = ap (λ (f : Frame). f.vl) begin.frame;
       }
 
-  same_run : (args : List ℕ) (m : Memory) (names : Names) → started k args m ≡ Some names → run_from k 0 m names ≡ scalar_run k args m
-  same_run args m names starts = from_start (var_scope k) k.turns k.answer m names ∙ sym (ap (run_named k m) starts)
-
   -- to scalar code, where the arrays do not lie apart
   off_follows : (labels n1 n2 n3 : ℕ) (D : Laid) (args : List ℕ) (m : Memory) (s : State) (q steps : ℕ) → IsLaid (register_in c) k a b labels n1 n2 n3 D → (h : AtGuard (register_in c) k a b n1 n2 n3 D args m s) → (Apart k args → ⊥)
       → Passes D (guard_part (register_in c) k a b n1 n2 n3) h.end (following D n1) → free_bound k args s.vl (begun (scalar_run k args m)) q ≤ steps → Follows k args s.vl (scalar_run k args m) (draft_run D steps 0 (whole_code (register_in c) k a b n1 n2 n3) s)
@@ -213,7 +211,7 @@ module _ (k : Program) (a b c : Assignment) (j : IsJoined k a b c) where
       let there : Goes D whole s (following D n1) pass.end (596 + 8 * size_of k) = chain (596 + 8 * size_of k) (omega arith) h.goes pass.goes in
       let entered = j.runs.entered D n1 (Place 0 ∷ guard_part R k a b n1 n2 n3) 0 h.names m pass.end is.scalar (start_within k.turns h.names) at in
       let comes : Comes D whole s (32 + 8 * size_of k) (628 + 16 * size_of k) 0 (scalar_run k args m) =
-      subst (λ r. Comes D whole s (32 + 8 * size_of k) (628 + 16 * size_of k) 0 r) (same_run args m h.names h.starts) (comes_after (omega arith) there entered) in
+      subst (λ r. Comes D whole s (32 + 8 * size_of k) (628 + 16 * size_of k) 0 r) (whole_run k args m h.names h.starts) (comes_after (omega arith) there entered) in
       let n = begun (scalar_run k args m) in
       let few = few_steps k args s.vl 1 n q steps (one_lane k args s.vl j.vector not) le in
       let each : div_ceil n 1 ≡ n = omega arith in
@@ -238,7 +236,7 @@ module _ (k : Program) (a b c : Assignment) (j : IsJoined k a b c) where
       let reaches = λ (i : ℕ) (names : Names) (memory : Memory) (t : State). j.runs.entered D n1 (Place 0 ∷ guard_part R k a b n1 n2 n3) i names memory t is.scalar in
       let run = j.vectors g c D n1 n3 [] m pass.end ground j.x kept.0 refl at (λ r low. refl) is.vector reaches in
       let entered = reaches 0 h.names m pass.end (start_within k.turns h.names) at in
-      let same = same_run args m h.names h.starts in
+      let same = whole_run k args m h.names h.starts in
       let x : Entered g D whole part (following D n1) s pass.end s.vl q steps m = record {
         is = ground;
         bound = bound.limit;

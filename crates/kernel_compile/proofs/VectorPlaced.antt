@@ -1,13 +1,13 @@
 -- Each label of a kernel's code with a vector part is placed once.
 use Rattle.std.proofs.Common.{◌≡◌, ◌≢◌, ℕ, suc, ◌+◌, ◌<◌, ◌≤◌, Bool, true, false, List, [], ◌∷◌, Some, subst, arith}
-use Rattle.std.specs.Prelude.{◌||◌, unwrap_or}
+use Rattle.std.specs.Prelude.{unwrap_or}
 use Rattle.std.specs.List.{list_any}
 use Rattle.a64_code.specs.Table.{umov}
 use Rattle.machine_model.specs.InstructionTable.{Listed}
 use Rattle.kernel_tree.specs.Plain.{Program}
 use Rattle.kernel_meaning.specs.Operators.{word, wrapped, operator_of}
 use Rattle.label_fix.specs.DraftRun.{Entry, Put, Branch, Place, Always, If, word_of}
-use Rattle.label_fix.proofs.Once.{Unplaced, Once}
+use Rattle.label_fix.proofs.LabelsOnce.{Unplaced, Once}
 use Rattle.reg_assign.specs.declared.interval.RegClass.TheVariants as class
 use Rattle.reg_assign.specs.Registers.{Assignment}
 use Rattle.loop_form.specs.Lanes.{lane_width_of}
@@ -19,7 +19,7 @@ use Rattle.dependence.specs.Apart.{used_of, bound_place}
 use Rattle.scalar_emit.specs.Words.{settle_word}
 use Rattle.scalar_emit.specs.Layout.{register_at}
 use Rattle.scalar_emit.specs.Kernel.{kernel_homes, begin_code, begin_labels, scalar_code, scalar_labels}
-use Rattle.scalar_emit.proofs.Placed.{word_put, const_put, binary_put, begin_once, scalar_unplaced, scalar_once}
+use Rattle.scalar_emit.proofs.Placed.{word_put, const_put, binary_put, begin_once, scalar_unplaced, scalar_once, unplaced_put, once_put}
 use Rattle.lane_emit.specs.LaneCode.{dup_code}
 use Rattle.reductions.specs.Joins.{identity}
 use Rattle.reductions.specs.AccumulatorLanes.{reduce_code}
@@ -29,8 +29,8 @@ use Rattle.first_fault.specs.Split.{is_quit}
 use Rattle.loop_edges.specs.EdgeCode.{type_of_var, hold_code, holds_code, start_code, fold_one, folds_code, fold_code}
 use Rattle.chunk_loop.specs.PassCode.{lanes_word, chunk_words, turn_words, plain_words}
 use Rattle.vector_emit.specs.VectorCode.{any_lane, passes_by, vector_code}
-use Rattle.overlap_guard.specs.Guard.{label_if, label_with, label_pairs, label_by, is_free, guard_code}
-use Rattle.overlap_guard.proofs.Placed.{guard_unplaced, guard_once}
+use Rattle.overlap_guard.specs.Guard.{label_by, is_free, guard_code}
+use Rattle.overlap_guard.proofs.Placed.{guard_unplaced, guard_once, grows_pairs}
 
 -- ---- code that places no label
 
@@ -67,12 +67,6 @@ module _ (P : List Entry → Type 0) (put : (i : Listed) (rest : List Entry) →
 
   fold_put : (R : ℕ → ℕ) (k : Program) (a : Assignment) (rest : List Entry) → P rest → P (fold_code R k a rest)
   fold_put R k a rest h = folds_put R k a 0 (throughout k class.Z) rest h
-
-unplaced_put : (l : ℕ) (i : Listed) (rest : List Entry) → Unplaced l rest → Unplaced l (Put i ∷ rest)
-unplaced_put l i rest h = h
-
-once_put : (i : Listed) (rest : List Entry) → Once rest → Once (Put i ∷ rest)
-once_put i rest h = h
 
 -- ---- the vector part
 
@@ -116,18 +110,6 @@ vector_once R k a b scalar n rest u v h =
     (passes_once (list_any is_quit (loop_items_of k)) k a b (loop_items_of k) n _ (fold_put (Unplaced n) (unplaced_put n) R k a _ u) (fold_put (Unplaced (suc n)) (unplaced_put (suc n)) R k a _ v) (fold_put Once once_put R k a _ h))
 
 -- ---- the whole
-
-grows_if : (w : Bool) (label : ℕ) → label ≤ label_if w label
-grows_if true label = omega arith
-grows_if false label = omega arith
-
-grows_with : (label : ℕ) (u : Used) (vs : List Used) → label ≤ label_with label u vs
-grows_with label u [] = omega arith
-grows_with label u (v ∷ vs) = let a = grows_if (u.stored || v.stored) label in let b = grows_with (label_if (u.stored || v.stored) label) u vs in omega (arith, a, b)
-
-grows_pairs : (label : ℕ) (us : List Used) → label ≤ label_pairs label us
-grows_pairs label [] = omega arith
-grows_pairs label (u ∷ us) = let a = grows_with label u us in let b = grows_pairs (label_with label u us) us in omega (arith, a, b)
 
 pub grows_by : (w : Bool) (label : ℕ) (us : List Used) → label ≤ label_by w label us
 grows_by true label us = omega arith

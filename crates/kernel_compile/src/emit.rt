@@ -15,7 +15,6 @@ use label_fix::{BranchKind, Draft};
 use loop_form::laws::few_items;
 use overlap_guard::{guard, meets_apart};
 use reg_assign::{Assigned, VectorRegs};
-use scalar_emit::laws::few_params;
 use scalar_emit::{begin_runs, emit_begin, emit_scalar, scalar_runs};
 use std::alloc::{AllocError, Global};
 use vector_emit::{emit_vector, vector_runs};
@@ -56,7 +55,6 @@ pub fn emit_lanes(
     ensures short { IfOk result (λ words. length words.items ≤ 1000 + 60 * size_of (program kernel.now)) }
 {
     few_items(kernel);
-    few_params(kernel);
     begin_runs(kernel, &regs.x);
     scalar_runs(kernel, &regs.x);
     meets_apart(kernel);

@@ -1,16 +1,25 @@
-mod Runs
-mod Walks
-mod Corners
-pub mod Example
+mod RunExamples
+mod WalkExamples
+mod CornerExamples
+pub mod Examples
 pub mod Residues
 pub mod StepLists
-pub mod Growth
-pub mod Steps
+pub mod ListWalks
 pub mod HeldSlots
 pub mod ResolvedValues
 pub mod ResolvedStatements
-pub mod Courses
+pub mod NameLists
+pub mod Started
+pub mod ResolvedRuns
+pub mod RunsFrom
 pub mod LimitedRuns
-pub mod WalkSteps
+pub mod IterationWalks
 pub mod TypeRanges
 pub mod ExtendedForm
+pub mod Extends
+pub mod NameRanges
+pub mod ValueRanges
+pub mod StartRanges
+pub mod CourseRanges
+pub mod Addresses
+pub mod Intervals

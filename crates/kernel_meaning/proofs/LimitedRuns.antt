@@ -1,5 +1,5 @@
 -- What a run of at most some iterations answers is what the whole run does.
-use Rattle.std.proofs.Common.{◌≡◌, ℕ, zero, suc, ◌+◌, ◌-◌, ◌<◌, ◌≤◌, List, [], ◌∷◌, Bool, true, false, cond, Option, Some, None, length, refl, sym, ap, ap₂, subst, ◌∙◌, arith, ltb}
+use Rattle.std.proofs.Common.{◌≡◌, ℕ, ◌+◌, ◌-◌, ◌<◌, ◌≤◌, List, [], ◌∷◌, Bool, true, false, cond, Option, Some, None, length, refl, sym, ap, subst, ◌∙◌, arith, ltb}
 use Rattle.std.specs.Prelude.{pos, nat_lt, min}
 use Rattle.std.proofs.lemmas.Bool.{ltb-true, ltb-false}
 use Rattle.kernel_tree.specs.Plain.{Action, Define, Put, Update, Choose, Leave, Block, Done, Then, Otherwise, Nothing, Else, Accumulator, PlainLoop, Returned, Program}
@@ -7,17 +7,18 @@ use Rattle.kernel_tree.specs.Items.{action_size, block_size, otherwise_size, var
 use Rattle.kernel_tree.specs.Limits.{most_items}
 use Rattle.kernel_tree.specs.Typing.{Scope, after_turns, var_scope, check_fault, Refusal, TooLarge}
 use Rattle.guest_types.specs.Memory.{Memory}
-use Rattle.kernel_meaning.specs.Ends.{BlockEnd, Next, Broke, Faulted, LoopState, Going, Left, Failed, go_on}
+use Rattle.kernel_meaning.specs.Ends.{LoopState}
 use Rattle.kernel_meaning.specs.Eval.{Names}
-use Rattle.kernel_meaning.specs.Iterate.{with_name, iterate}
-use Rattle.kernel_meaning.specs.ScalarRun.{course, bound_of, Run, End, Fault, begun, returned, ended, closed, finish, run_turns, run_named, started, scalar_run, memory_of, turns_leave, first_leave}
+use Rattle.kernel_meaning.specs.Iterate.{with_name}
+use Rattle.kernel_meaning.specs.ScalarRun.{iterations, bound_of, Run, End, Fault, begun, returned, ended, closed, finish, run_turns, run_named, started, scalar_run, memory_of, turns_leave, first_leave}
 use Rattle.kernel_meaning.specs.Answers.{IsOutcome}
 use Rattle.kernel_meaning.specs.declared.outcome.ScalarOutcome.{ScalarOutcome}
 use Rattle.kernel_meaning.specs.declared.outcome.ScalarOutcome.TheVariants as outcome
 use Rattle.kernel_meaning.specs.Resolve.{most_slots}
 use Rattle.kernel_meaning.specs.Plans.{Ended, Cut, limited_of}
 use Rattle.kernel_meaning.proofs.ResolvedStatements.{action_lets, block_lets, otherwise_lets}
-use Rattle.kernel_meaning.proofs.Courses.{finish_limited, loop_limited, turns_limited, run_limited, turns_lets}
+use Rattle.kernel_meaning.proofs.ResolvedRuns.{finish_limited, loop_limited, turns_limited, run_limited, turns_lets}
+use Rattle.kernel_meaning.proofs.RunsFrom.{Ends, GoesOn, LeftAt, FailedAt, iterations-ends, further, iterations-further}
 
 -- ---- outcomes
 
@@ -31,52 +32,6 @@ pub past_limit : (outcome : ScalarOutcome) (limit : ℕ) (run : Run) (after firs
 past_limit (outcome.End r n) limit run after first e lt = absurd (let no : Ended (End after r n) ≡ Cut first = e in cc)
 past_limit (outcome.Fault n) limit run after first e lt = absurd (let no : Ended (Fault after n) ≡ Cut first = e in cc)
 past_limit outcome.Spent limit run after first e lt = let h : after ≡ first = cc in (lt, h)
-
--- ---- courses
-
--- where a course ends: at an iteration before its last, or it goes on
-pub data Ends (from last_use : ℕ) : LoopState Names → Type 0 where
-  GoesOn : (m : Memory) (ns : Names) → Ends from last_use (Going m ns)
-  LeftAt : (m : Memory) (ns : Names) (i : ℕ) → from ≤ i → i < last_use → Ends from last_use (Left m ns i)
-  FailedAt : (m : Memory) (i : ℕ) → from ≤ i → i < last_use → Ends from last_use (Failed m i)
-
-later : (from next last_use : ℕ) (st : LoopState Names) → from ≤ next → Ends next last_use st → Ends from last_use st
-later from next last_use _ le (GoesOn m ns) = GoesOn m ns
-later from next last_use _ le (LeftAt m ns i h g) = LeftAt m ns i (omega arith) g
-later from next last_use _ le (FailedAt m i h g) = FailedAt m i (omega arith) g
-
-ends_step : (t : BlockEnd Names) (i last_use : ℕ) (rest : Memory → Names → LoopState Names) → i < last_use → ((m : Memory) (ns : Names) → Ends (i + 1) last_use (rest m ns)) → Ends i last_use (go_on t i rest)
-ends_step (Next m ns) i last_use rest lt next = later i (i + 1) last_use (rest m ns) (omega arith) (next m ns)
-ends_step (Broke m ns) i last_use rest lt next = LeftAt m ns i (omega arith) lt
-ends_step (Faulted m) i last_use rest lt next = FailedAt m i (omega arith) lt
-
-course-ends : (s : Scope) (l : PlainLoop) (count i last_use : ℕ) (m : Memory) (ns : Names) → last_use ≡ i + count → Ends i last_use (course s l count i m ns)
-unfolding course
-course-ends s l zero i last_use m ns e = GoesOn m ns
-course-ends s l (suc count) i last_use m ns e = ends_step (iterate s l i m ns) i last_use (course s l count (i + 1)) (omega arith) (λ m' ns'. course-ends s l count (i + 1) last_use m' ns' (omega arith))
-
--- more iterations after a course
-abbrev pub further : Scope → PlainLoop → ℕ → ℕ → LoopState Names → LoopState Names
-further s l more i (Going m ns) = course s l more i m ns
-further s l more i (Left m ns j) = Left m ns j
-further s l more i (Failed m j) = Failed m j
-
-further_step : (s : Scope) (l : PlainLoop) (more i last_use : ℕ) (t : BlockEnd Names) (rest whole : Memory → Names → LoopState Names) → ((m : Memory) (ns : Names) → whole m ns ≡ further s l more last_use (rest m ns)) → go_on t i whole ≡ further s l more last_use (go_on t i rest)
-further_step s l more i last_use (Next m ns) rest whole h = h m ns
-further_step s l more i last_use (Broke m ns) rest whole h = refl
-further_step s l more i last_use (Faulted m) rest whole h = refl
-
--- a course of count and more iterations
-course-further : (s : Scope) (l : PlainLoop) (more count i all last_use : ℕ) (m : Memory) (ns : Names) → all ≡ count + more → last_use ≡ i + count → course s l all i m ns ≡ further s l more last_use (course s l count i m ns)
-unfolding course
-course-further s l more zero i all last_use m ns e f =
-    let p : all ≡ more = omega arith in
-    let q : i ≡ last_use = omega arith in
-    ap₂ (λ a b. course s l a b m ns) p q
-course-further s l more (suc count) i all last_use m ns e f =
-    let p : all ≡ suc (count + more) = omega arith in
-    ap (λ a. course s l a i m ns) p
-    ∙ further_step s l more i last_use (iterate s l i m ns) (course s l count (i + 1)) (course s l (count + more) (i + 1)) (λ m' ns'. course-further s l more count (i + 1) (count + more) last_use m' ns' refl (omega arith))
 
 -- ---- loops
 
@@ -100,25 +55,25 @@ begun_past s l a n limit _ (FailedAt m i f g) lt = omega arith
 -- one that may begin more
 finish_past : (s : Scope) (l : PlainLoop) (a : Option Returned) (n limit more : ℕ) (st : LoopState Names) (outcome : ScalarOutcome) (after : Memory) → Ends 0 limit st → n ≡ limit + more → limit < n → nat_lt limit n ≡ true → limited_of outcome after ≡ finish_limited s l a n limit st → IsOutcome outcome limit (finish s l a n (further s l more limit st)) after (memory_of st)
 finish_past s l a n limit more _ outcome after (GoesOn m ns) e lt f h =
-    past_limit outcome limit (finish s l a n (course s l more limit m ns)) after m (h ∙ ap (λ b. cond b (Cut m) (Ended (closed s l a m ns n n))) f) (begun_past s l a n limit (course s l more limit m ns) (course-ends s l more limit n m ns e) lt)
+    past_limit outcome limit (finish s l a n (iterations s l more limit m ns)) after m (h ∙ ap (λ b. cond b (Cut m) (Ended (closed s l a m ns n n))) f) (begun_past s l a n limit (iterations s l more limit m ns) (iterations-ends s l more limit n m ns e) lt)
 finish_past s l a n limit more _ outcome after (LeftAt m ns i f g) e lt t h =
     within_limit outcome limit (closed s l a m ns i (i + 1)) after m h (omega (arith, begun_ended m (i + 1) (returned (after_turns s (Some l)) a m (with_name l.index ns (pos i)))))
 finish_past s l a n limit more _ outcome after (FailedAt m i f g) e lt t h = within_limit outcome limit (Fault m (i + 1)) after m h (omega arith)
 
-loop-outcome : (s : Scope) (l : PlainLoop) (a : Option Returned) (limit n : ℕ) (m : Memory) (ns : Names) (outcome : ScalarOutcome) (after : Memory) → limited_of outcome after ≡ loop_limited s l a limit n m ns → IsOutcome outcome limit (finish s l a n (course s l n 0 m ns)) after (memory_of (course s l limit 0 m ns))
+loop-outcome : (s : Scope) (l : PlainLoop) (a : Option Returned) (limit n : ℕ) (m : Memory) (ns : Names) (outcome : ScalarOutcome) (after : Memory) → limited_of outcome after ≡ loop_limited s l a limit n m ns → IsOutcome outcome limit (finish s l a n (iterations s l n 0 m ns)) after (memory_of (iterations s l limit 0 m ns))
 loop-outcome s l a limit n m ns outcome after h = by_limit (ltb limit n) refl
   where
-    by_limit : (b : Bool) → ltb limit n ≡ b → IsOutcome outcome limit (finish s l a n (course s l n 0 m ns)) after (memory_of (course s l limit 0 m ns))
+    by_limit : (b : Bool) → ltb limit n ≡ b → IsOutcome outcome limit (finish s l a n (iterations s l n 0 m ns)) after (memory_of (iterations s l limit 0 m ns))
     by_limit false e =
         let le = ltb-false limit n e in
         let short : min n limit ≡ n = omega arith in
-        finish_within s l a n limit (course s l n 0 m ns) outcome after (memory_of (course s l limit 0 m ns)) (course-ends s l n 0 n m ns (omega arith)) le e (h ∙ ap (λ c. finish_limited s l a n limit (course s l c 0 m ns)) short)
+        finish_within s l a n limit (iterations s l n 0 m ns) outcome after (memory_of (iterations s l limit 0 m ns)) (iterations-ends s l n 0 n m ns (omega arith)) le e (h ∙ ap (λ c. finish_limited s l a n limit (iterations s l c 0 m ns)) short)
     by_limit true e =
         let lt = ltb-true limit n e in
         let short : min n limit ≡ limit = omega arith in
-        let whole : course s l n 0 m ns ≡ further s l (n - limit) limit (course s l limit 0 m ns) = course-further s l (n - limit) limit 0 n limit m ns (omega arith) (omega arith) in
-        subst (λ st. IsOutcome outcome limit (finish s l a n st) after (memory_of (course s l limit 0 m ns))) (sym whole)
-        (finish_past s l a n limit (n - limit) (course s l limit 0 m ns) outcome after (course-ends s l limit 0 limit m ns (omega arith)) (omega arith) lt e (h ∙ ap (λ c. finish_limited s l a n limit (course s l c 0 m ns)) short))
+        let whole : iterations s l n 0 m ns ≡ further s l (n - limit) limit (iterations s l limit 0 m ns) = iterations-further s l (n - limit) limit 0 n limit m ns (omega arith) (omega arith) in
+        subst (λ st. IsOutcome outcome limit (finish s l a n st) after (memory_of (iterations s l limit 0 m ns))) (sym whole)
+        (finish_past s l a n limit (n - limit) (iterations s l limit 0 m ns) outcome after (iterations-ends s l limit 0 limit m ns (omega arith)) (omega arith) lt e (h ∙ ap (λ c. finish_limited s l a n limit (iterations s l c 0 m ns)) short))
 
 -- ---- kernels
 

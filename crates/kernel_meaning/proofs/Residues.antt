@@ -12,15 +12,15 @@ use Rattle.kernel_tree.specs.declared.ops.Ty.TheVariants as ty
 use Rattle.kernel_tree.specs.Wrap.{wrap, residue}
 use Rattle.kernel_meaning.specs.Operators.{word, wrapped}
 
-residue-8 : (z : ℤ) → residue 8 z ≡ word z % 2 ^ 8
+pub residue-8 : (z : ℤ) → residue 8 z ≡ word z % 2 ^ 8
 residue-8 (pos n) = omega arith
 residue-8 (negsuc n) = omega arith
 
-residue-16 : (z : ℤ) → residue 16 z ≡ word z % 2 ^ 16
+pub residue-16 : (z : ℤ) → residue 16 z ≡ word z % 2 ^ 16
 residue-16 (pos n) = omega arith
 residue-16 (negsuc n) = omega arith
 
-residue-32 : (z : ℤ) → residue 32 z ≡ word z % 2 ^ 32
+pub residue-32 : (z : ℤ) → residue 32 z ≡ word z % 2 ^ 32
 residue-32 (pos n) = omega arith
 residue-32 (negsuc n) = omega arith
 

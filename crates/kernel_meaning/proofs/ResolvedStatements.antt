@@ -18,7 +18,7 @@ use Rattle.kernel_meaning.specs.Slots.{Slots, slot_at, tree_value, set_slot, wri
 use Rattle.kernel_meaning.specs.Resolve.{most_slots, slot_of, let_slot, number_tree, resolved, resolved_action, resolved_block, resolved_otherwise}
 use Rattle.kernel_meaning.proofs.HeldSlots.{Held, value-held, assigned-held, named-held, cut-held, held-length}
 use Rattle.kernel_meaning.proofs.ResolvedValues.{Alike, Neither, Words, same, number-alike, address-word}
-use Rattle.kernel_meaning.proofs.Growth.{Grows, grows_by_block, grows_by_action}
+use Rattle.kernel_scope.proofs.Growth.{Grows, grows_by_block, grows_by_action}
 
 -- more names are visible
 pub record Wider (s t : Scope) : Type 0 where
@@ -71,9 +71,9 @@ write-same s m ns vs (Ok after) h l = Nexts after ns vs h l
 write-same s m ns vs (Err f) h l = Faults m
 
 put-alike : (s : Scope) (t : Option Ty) (base : ℤ) (m : Memory) (ns : Names) (vs : Slots) (v x y : Option ℤ) → Alike y x → Held s.visible ns vs → length vs ≡ most_slots → Matches s s (put t base m ns v x) (store t base m vs v y)
-put-alike s None base m ns vs v x y a h l = Nexts m ns vs h l
-put-alike s (Some t) base m ns vs None x y a h l = Faults m
-put-alike s (Some t) base m ns vs (Some v) _ _ Neither h l = Faults m
+put-alike s t base m ns vs None x y a h l = Faults m
+put-alike s t base m ns vs (Some v) _ _ Neither h l = Faults m
+put-alike s None base m ns vs (Some v) _ _ (Words y x e) h l = Faults m
 put-alike s (Some t) base m ns vs (Some v) _ _ (Words y x e) h l =
     subst (λ a. Matches s s (write m ns (stored m (address t base x) (byte_count t) (word v))) (write_slots m vs (stored m a (byte_count t) (word v)))) (sym (address-word t base y x e))
     (write-same s m ns vs (stored m (address t base x) (byte_count t) (word v)) h l)

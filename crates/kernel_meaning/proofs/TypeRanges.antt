@@ -62,7 +62,7 @@ widened false k j (negsuc n) le h = absurd h
 
 -- ---- wrapping gives a value of the type, and keeps one
 
-residue-below : (k : ℕ) (z : ℤ) → 0 < 2 ^ k → residue k z < 2 ^ k
+pub residue-below : (k : ℕ) (z : ℤ) → 0 < 2 ^ k → residue k z < 2 ^ k
 residue-below k (pos n) h = omega arith
 residue-below k (negsuc n) h = omega arith
 

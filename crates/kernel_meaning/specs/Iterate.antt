@@ -51,11 +51,11 @@ abbrev pub write : Memory → Names → Result Memory AccessFault → BlockEnd N
 write memory names (Ok after) = Next after names
 write memory names (Err fault) = Faulted memory
 
--- the low bytes of a value, to an element of an array at an address
+-- the low bytes of a value, to an element of an array at an address; an array has a type in a checked kernel
 abbrev pub put : Option Ty → ℤ → Memory → Names → Option ℤ → Option ℤ → BlockEnd Names
-put None base memory names v x = Next memory names
-put (Some t) base memory names None x = Faulted memory
-put (Some t) base memory names (Some v) None = Faulted memory
+put t base memory names None x = Faulted memory
+put t base memory names (Some v) None = Faulted memory
+put None base memory names (Some v) (Some x) = Faulted memory
 put (Some t) base memory names (Some v) (Some x) = write memory names (stored memory (address t base x) (byte_count t) (word v))
 
 abbrev pub choose : Memory → Option Bool → BlockEnd Names → BlockEnd Names → BlockEnd Names

@@ -4,6 +4,7 @@ pub mod Eval
 pub mod Ends
 pub mod Iterate
 pub mod ScalarRun
+pub mod Ranges
 pub mod Reaches
 pub mod Answers
 pub mod Trees

@@ -79,9 +79,9 @@ abbrev pub turn : LoopPlan → ℕ → Memory → Slots → BlockEnd Slots
 turn l i memory slots = do_tasks l.body memory (slice_set slots l.index (pos i))
 
 -- so many iterations, from iteration i on
-unfoldable pub slot_course : LoopPlan → ℕ → ℕ → Memory → Slots → LoopState Slots
-slot_course l zero i memory slots = Going memory slots
-slot_course l (suc count) i memory slots = go_on (turn l i memory slots) i (slot_course l count (i + 1))
+unfoldable pub slot_iterations : LoopPlan → ℕ → ℕ → Memory → Slots → LoopState Slots
+slot_iterations l zero i memory slots = Going memory slots
+slot_iterations l (suc count) i memory slots = go_on (turn l i memory slots) i (slot_iterations l count (i + 1))
 
 abbrev pub slot_answer : Option Tree → Memory → Slots → Option ℕ
 slot_answer None memory slots = Some 0
@@ -107,7 +107,7 @@ slot_finish answer index n limit (Left memory slots i) = Ended (slot_closed answ
 slot_finish answer index n limit (Failed memory i) = Ended (Fault memory (i + 1))
 
 abbrev pub slot_loop : Option Tree → LoopPlan → ℕ → ℕ → Memory → Slots → Limited
-slot_loop answer l limit n memory slots = slot_finish answer l.index n limit (slot_course l (min n limit) 0 memory slots)
+slot_loop answer l limit n memory slots = slot_finish answer l.index n limit (slot_iterations l (min n limit) 0 memory slots)
 
 abbrev pub slot_turns : Option Tree → Option LoopPlan → ℕ → Memory → Slots → Limited
 slot_turns answer None limit memory slots = Ended (ended memory 0 (slot_answer answer memory slots))

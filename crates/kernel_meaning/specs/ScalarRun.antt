@@ -1,5 +1,5 @@
 -- What a kernel does: its iterations run one after another, each statement by statement.
-use Rattle.std.specs.Prelude.{ℕ, zero, suc, ◌+◌, ℤ, pos, List, [], ◌∷◌, drop, slice_index, Option, Some, None, option_map, option_and_then}
+use Rattle.std.specs.Prelude.{◌≡◌, ℕ, zero, suc, ◌+◌, ◌-◌, ◌≤◌, ℤ, pos, List, [], ◌∷◌, drop, slice_index, Option, Some, None, option_map, option_and_then}
 use Rattle.kernel_tree.specs.declared.ast.Shape.{Shape}
 use Rattle.kernel_tree.specs.declared.ast.Shape.TheVariants as shape
 use Rattle.kernel_tree.specs.declared.fault.Binding.TheVariants as binding
@@ -7,7 +7,7 @@ use Rattle.kernel_tree.specs.Plain.{Parameter, Accumulator, PlainLoop, Returned,
 use Rattle.kernel_tree.specs.Wrap.{wrap}
 use Rattle.kernel_tree.specs.Typing.{Scope, declared, after_turns, param_scope, var_scope}
 use Rattle.guest_types.specs.Memory.{Memory}
-use Rattle.kernel_meaning.specs.Ends.{BlockEnd, Next, Broke, Faulted, LoopState, Going, Left, Failed, go_on}
+use Rattle.kernel_meaning.specs.Ends.{LoopState, Going, Left, Failed, go_on}
 use Rattle.kernel_meaning.specs.Operators.{word}
 use Rattle.kernel_meaning.specs.Eval.{Names, value_at, value}
 use Rattle.kernel_meaning.specs.Iterate.{named, with_name, iterate}
@@ -20,9 +20,9 @@ argument (shape.Scalar t) n = wrap t (pos n)
 argument (shape.Array t) n = pos n
 
 -- the parameters with the arguments; missing ones are zero
-abbrev pub given : List Parameter → List ℕ → Names
-given [] args = []
-given (p ∷ ps) args = named p.name (argument p.shape (slice_index args 0)) ∷ given ps (drop 1 args)
+abbrev pub argument_names : List Parameter → List ℕ → Names
+argument_names [] args = []
+argument_names (p ∷ ps) args = named p.name (argument p.shape (slice_index args 0)) ∷ argument_names ps (drop 1 args)
 
 -- the accumulators with their initial values, after the names that are there
 abbrev pub initial : Scope → List Accumulator → Memory → Names → Option Names
@@ -33,9 +33,9 @@ initial scope (v ∷ vs) memory names =
 -- ---- the loop
 
 -- so many iterations, from iteration i on
-unfoldable pub course : Scope → PlainLoop → ℕ → ℕ → Memory → Names → LoopState Names
-course scope l zero i memory names = Going memory names
-course scope l (suc count) i memory names = go_on (iterate scope l i memory names) i (course scope l count (i + 1))
+unfoldable pub iterations : Scope → PlainLoop → ℕ → ℕ → Memory → Names → LoopState Names
+iterations scope l zero i memory names = Going memory names
+iterations scope l (suc count) i memory names = go_on (iterate scope l i memory names) i (iterations scope l count (i + 1))
 
 -- how often the loop is to run
 abbrev pub bound_of : PlainLoop → Names → ℕ
@@ -74,7 +74,7 @@ finish scope l answer n (Failed memory i) = Fault memory (i + 1)
 
 abbrev pub run_turns : Scope → Option PlainLoop → Option Returned → Memory → Names → Run
 run_turns scope None answer memory names = ended memory 0 (returned scope answer memory names)
-run_turns scope (Some l) answer memory names = finish scope l answer (bound_of l names) (course scope l (bound_of l names) 0 memory names)
+run_turns scope (Some l) answer memory names = finish scope l answer (bound_of l names) (iterations scope l (bound_of l names) 0 memory names)
 
 abbrev pub run_named : Program → Memory → Option Names → Run
 run_named k memory None = Fault memory 0
@@ -82,11 +82,26 @@ run_named k memory (Some names) = run_turns (var_scope k) k.turns k.answer memor
 
 -- the names at the start of the loop
 abbrev pub started : Program → List ℕ → Memory → Option Names
-started k args memory = initial (param_scope k) k.vars memory (given k.params args)
+started k args memory = initial (param_scope k) k.vars memory (argument_names k.params args)
 
 -- the run of a kernel from arguments and a memory
 abbrev pub scalar_run : Program → List ℕ → Memory → Run
 scalar_run k args memory = run_named k memory (started k args memory)
+
+-- ---- the run from an iteration on
+
+-- what the loop does from iteration i on, up to the end of the run
+abbrev pub turns_from : Scope → Option PlainLoop → Option Returned → ℕ → Memory → Names → Run
+turns_from scope None answer i memory names = ended memory 0 (returned scope answer memory names)
+turns_from scope (Some l) answer i memory names = finish scope l answer (bound_of l names) (iterations scope l (bound_of l names - i) i memory names)
+
+abbrev pub run_from : Program → ℕ → Memory → Names → Run
+run_from k i memory names = turns_from (var_scope k) k.turns k.answer i memory names
+
+-- no more iterations than the loop has are completed; without a loop there are none
+abbrev pub IsWithin : Option PlainLoop → ℕ → Names → Type 0
+IsWithin None i names = i ≡ 0
+IsWithin (Some l) i names = i ≤ bound_of l names
 
 -- ---- a part of a run
 
@@ -98,7 +113,7 @@ memory_of (Failed memory i) = memory
 abbrev pub turns_leave : Scope → Option PlainLoop → ℕ → Memory → Option Names → Memory
 turns_leave scope None count memory names = memory
 turns_leave scope (Some l) count memory None = memory
-turns_leave scope (Some l) count memory (Some names) = memory_of (course scope l count 0 memory names)
+turns_leave scope (Some l) count memory (Some names) = memory_of (iterations scope l count 0 memory names)
 
 -- the memory that the first iterations leave, so many of them
 abbrev pub first_leave : Program → List ℕ → ℕ → Memory → Memory

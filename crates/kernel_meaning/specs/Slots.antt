@@ -62,9 +62,9 @@ write memory slots (Ok after) = Next after slots
 write memory slots (Err fault) = Faulted memory
 
 abbrev pub store : Option Ty → ℤ → Memory → Slots → Option ℤ → Option ℤ → BlockEnd Slots
-store None base memory slots v x = Next memory slots
-store (Some t) base memory slots None x = Faulted memory
-store (Some t) base memory slots (Some v) None = Faulted memory
+store t base memory slots None x = Faulted memory
+store t base memory slots (Some v) None = Faulted memory
+store None base memory slots (Some v) (Some x) = Faulted memory
 store (Some t) base memory slots (Some v) (Some x) = write memory slots (stored memory (address t base x) (byte_count t) (word v))
 
 abbrev pub branch : Memory → Option Bool → BlockEnd Slots → BlockEnd Slots → BlockEnd Slots

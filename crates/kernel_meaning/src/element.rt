@@ -84,7 +84,6 @@ pub fn write<M: GuestMemory>(
         ≡ store ty base (M.memory memory.old) slots value number }
 {
     match (ty, value, number) {
-        (None, _, _) => BlockEnd::Next,
         (Some(ty), Some(value), Some(number)) => write_at(memory, ty, base, number, value),
         _ => BlockEnd::Faulted,
     }

@@ -6,6 +6,7 @@ mod build;
 mod element;
 mod evaluator;
 mod kernels;
+pub mod laws;
 mod loop_state;
 mod make;
 mod names;

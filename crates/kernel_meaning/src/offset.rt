@@ -5,7 +5,7 @@ ghost use Rattle.kernel_tree.specs.declared.ops.Ty.TheVariants as ty;
 ghost use Rattle.kernel_tree.specs.Plain.{term_of};
 ghost use Rattle.kernel_tree.specs.Items as items;
 ghost use Rattle.kernel_tree.specs.Wrap as wraps;
-ghost use Rattle.kernel_scope.specs.Scopes.{text_of};
+ghost use Rattle.kernel_scope.specs.Scopes.{lent_text};
 
 use crate::words::wrap;
 use kernel_scope::{is_index, is_index_term, literal_value};
@@ -26,7 +26,7 @@ fn moved_by(op: BinaryOp, by: Option<i128>) -> Option<i128>
 /// The offset of a stream index, modulo 2^64; None for any other index.
 pub fn stream_offset(index: Option<&str>, expr: &Expr) -> Option<i128>
     ensures { result ≡ option_map (wraps.wrap ty.U64)
-        (items.stream_offset (option_map text_of index.entry) (term_of expr.now)) }
+        (items.stream_offset (option_map lent_text index.entry) (term_of expr.now)) }
 {
     match expr {
         Expr::Var(name) => { if is_index(index, name) { Some(0) } else { None } }

@@ -30,31 +30,31 @@ fn put(slots: &mut [i128], slot: usize, value: i128)
 
 // One iteration.
 fn iterate<M: GuestMemory>(
-    cycle: &ResolvedLoop,
+    resolved: &ResolvedLoop,
     at: u64,
     memory: &mut M,
     slots: &mut [i128],
 ) -> BlockEnd
     ensures { block_end_of result (M.memory memory.new) slots.new
-        ≡ plans.turn (loop_plan_of cycle.now) at (M.memory memory.old) slots.old }
+        ≡ plans.turn (loop_plan_of resolved.now) at (M.memory memory.old) slots.old }
 {
-    put(slots, cycle.index, at as i128);
-    let turn = perform(&cycle.body, memory, slots);
+    put(slots, resolved.index, at as i128);
+    let turn = perform(&resolved.body, memory, slots);
     turn
 }
 
 // So many iterations.
 fn follow<M: GuestMemory>(
-    cycle: &ResolvedLoop,
+    resolved: &ResolvedLoop,
     count: u64,
     memory: &mut M,
     slots: &mut [i128],
 ) -> LoopState
     ensures { loop_state_of result (M.memory memory.new) slots.new
-        ≡ plans.slot_course (loop_plan_of cycle.now) count 0 (M.memory memory.old) slots.old }
+        ≡ plans.slot_iterations (loop_plan_of resolved.now) count 0 (M.memory memory.old) slots.old }
 {
     for at in 0..count {
-        match iterate(cycle, at, memory, slots) {
+        match iterate(resolved, at, memory, slots) {
             BlockEnd::Next => {}
             BlockEnd::Broke => return LoopState::Left(At { number: at }),
             BlockEnd::Faulted => return LoopState::Failed(At { number: at }),
@@ -107,27 +107,34 @@ fn close<M: GuestMemory>(
 
 // The end of a loop of `count` iterations, of which at most `limit` are done.
 fn finish<M: GuestMemory>(
-    cycle: &ResolvedLoop,
+    resolved: &ResolvedLoop,
     answer: &Option<Node>,
     count: u64,
     limit: u64,
-    progress: LoopState,
+    state: LoopState,
     memory: &M,
     slots: &mut [i128],
 ) -> ScalarOutcome
     ensures { limited_of result (M.memory memory.now)
-        ≡ plans.slot_finish (option_map tree_of answer.now) cycle.now.index count limit
-        (loop_state_of progress (M.memory memory.now) slots.old) }
+        ≡ plans.slot_finish (option_map tree_of answer.now) resolved.now.index count limit
+        (loop_state_of state (M.memory memory.now) slots.old) }
 {
-    match progress {
+    match state {
         LoopState::Going => {
             if limit < count {
                 ScalarOutcome::Spent
             } else {
-                close(answer, cycle.index, memory, slots, count, count)
+                close(answer, resolved.index, memory, slots, count, count)
             }
         }
-        LoopState::Left(at) => close(answer, cycle.index, memory, slots, at.number, at.number + 1),
+        LoopState::Left(at) => close(
+            answer,
+            resolved.index,
+            memory,
+            slots,
+            at.number,
+            at.number + 1,
+        ),
         LoopState::Failed(at) => ScalarOutcome::Fault {
             begun: at.number + 1,
         },
@@ -135,19 +142,19 @@ fn finish<M: GuestMemory>(
 }
 
 fn run_loop<M: GuestMemory>(
-    cycle: &ResolvedLoop,
+    resolved: &ResolvedLoop,
     answer: &Option<Node>,
     limit: u64,
     memory: &mut M,
     slots: &mut [i128],
 ) -> ScalarOutcome
     ensures { limited_of result (M.memory memory.new)
-        ≡ plans.slot_loop (option_map tree_of answer.now) (loop_plan_of cycle.now) limit
-        (operators.word (slots_of.slot_at slots.old cycle.now.bound)) (M.memory memory.old) slots.old }
+        ≡ plans.slot_loop (option_map tree_of answer.now) (loop_plan_of resolved.now) limit
+        (operators.word (slots_of.slot_at slots.old resolved.now.bound)) (M.memory memory.old) slots.old }
 {
-    let count = word(slot_at(slots, cycle.bound));
-    let progress = follow(cycle, count.min(limit), memory, slots);
-    finish(cycle, answer, count, limit, progress, &*memory, slots)
+    let count = word(slot_at(slots, resolved.bound));
+    let state = follow(resolved, count.min(limit), memory, slots);
+    finish(resolved, answer, count, limit, state, &*memory, slots)
 }
 
 fn run_turns<M: GuestMemory>(
@@ -162,7 +169,7 @@ fn run_turns<M: GuestMemory>(
 {
     match &plan.turns {
         None => ended(result_of(&plan.answer, &*memory, slots), 0),
-        Some(cycle) => run_loop(cycle, &plan.answer, limit, memory, slots),
+        Some(resolved) => run_loop(resolved, &plan.answer, limit, memory, slots),
     }
 }
 

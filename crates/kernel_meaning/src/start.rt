@@ -30,8 +30,8 @@ fn argument_at(args: &[u64], i: usize) -> u64
 }
 
 // The values of the parameters.
-fn given(alloc: Global, params: &[Param], args: &[u64]) -> Result<Vec<i128>, AllocError>
-    ensures { IfOk result (λ v. v.items ≡ map value_of (running.given (parameters_of params.now) args.now)) }
+fn argument_names(alloc: Global, params: &[Param], args: &[u64]) -> Result<Vec<i128>, AllocError>
+    ensures { IfOk result (λ v. v.items ≡ map value_of (running.argument_names (parameters_of params.now) args.now)) }
 {
     let mut slots = Vec::new(alloc);
     for (i, param) in params.iter().enumerate() {
@@ -54,9 +54,9 @@ fn pad(slots: &mut Vec<i128>) -> Result<(), AllocError>
 
 /// The slots at the start: the values of the parameters, and zeros.
 pub fn start(alloc: Global, params: &[Param], args: &[u64]) -> Result<Vec<i128>, AllocError>
-    ensures { IfOk result (λ v. v.items ≡ filled (running.given (parameters_of params.now) args.now)) }
+    ensures { IfOk result (λ v. v.items ≡ filled (running.argument_names (parameters_of params.now) args.now)) }
 {
-    let mut slots = given(alloc, params, args)?;
+    let mut slots = argument_names(alloc, params, args)?;
     pad(&mut slots)?;
     Ok(slots)
 }

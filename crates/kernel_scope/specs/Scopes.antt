@@ -1,29 +1,31 @@
 -- What the code keeps of a scope, as the rules of typing have it.
-use Rattle.std.specs.Prelude.{ℕ, List, map, take, Option, option_map, Bool, false, bytes_eq}
+use Rattle.std.specs.Prelude.{ℕ, List, map, take, Option, option_map, Bool, true, false, bytes_eq}
 use Rattle.std.specs.List.{find}
 use Rattle.std.specs.Borrow.{Bor}
 use Rattle.kernel_tree.specs.declared.fault.Binding.{Binding}
+use Rattle.kernel_tree.specs.declared.fault.Binding.TheVariants as binding
+use Rattle.kernel_tree.specs.Plain.{Parameter, Accumulator}
 use Rattle.kernel_tree.specs.Typing as typing
 use Rattle.kernel_scope.specs.declared.scope.Local.{Local}
 use Rattle.kernel_scope.specs.declared.scope.Scope.{Scope}
 
 -- the bytes of a text that is lent
-abbrev pub text_of : Bor (List ℕ) → List ℕ
-text_of t = t.now
+abbrev pub lent_text : Bor (List ℕ) → List ℕ
+lent_text t = t.now
 
 abbrev pub local_of : Local → typing.Local
-local_of l = record { name = text_of l.name; binding = l.binding }
+local_of l = record { name = lent_text l.name; binding = l.binding }
 
 abbrev pub scope_of : Scope → typing.Scope
 scope_of s = record {
   visible = map local_of s.visible.items;
-  taken = map text_of s.declared.keys;
-  index = option_map text_of s.index;
+  taken = map lent_text s.declared.keys;
+  index = option_map lent_text s.index;
   inside = s.inside;
 }
 
 abbrev pub named : List ℕ → Local → Bool
-named x l = bytes_eq (text_of l.name) x
+named x l = bytes_eq (lent_text l.name) x
 
 abbrev pub binding_in : Local → Binding
 binding_in l = l.binding
@@ -43,3 +45,14 @@ kept n scope = record scope { visible = take n scope.visible }
 -- after the loop: so many names stay visible, and so many declared
 abbrev pub closed : ℕ → ℕ → typing.Scope → typing.Scope
 closed visible taken scope = record scope { visible = take visible scope.visible; taken = take taken scope.taken; inside = false }
+
+-- in the body of the loop
+abbrev pub in_body : typing.Scope → typing.Scope
+in_body scope = record scope { inside = true }
+
+-- what a parameter and an accumulator declare
+abbrev pub after_param : typing.Scope → Parameter → typing.Scope
+after_param scope p = typing.declared scope p.name (typing.binding_of_shape p.shape)
+
+abbrev pub after_var : typing.Scope → Accumulator → typing.Scope
+after_var scope v = typing.declared scope v.name (binding.Accumulator v.type)

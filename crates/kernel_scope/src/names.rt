@@ -3,7 +3,7 @@
 ghost use Rattle.std.specs.Prelude.{◌≡◌, IfOk, length, option_map};
 ghost use Rattle.kernel_tree.specs.Plain.{name_of};
 ghost use Rattle.kernel_tree.specs.Typing as typing;
-ghost use Rattle.kernel_scope.specs.Scopes.{scope_of, text_of, binding_among, reserved, kept, closed};
+ghost use Rattle.kernel_scope.specs.Scopes.{scope_of, lent_text, binding_among, reserved, kept, closed};
 
 use crate::scope::{Local, Scope};
 use indexmap::IndexSet;
@@ -13,7 +13,7 @@ use std::alloc::{AllocError, Global};
 
 /// A place outside the loop, before which nothing is declared.
 pub fn empty<'a>(alloc: Global, index: Option<&'a str>) -> Scope<'a>
-    ensures { scope_of result ≡ typing.empty (option_map text_of index.entry) }
+    ensures { scope_of result ≡ typing.empty (option_map lent_text index.entry) }
 {
     Scope {
         visible: Vec::new(alloc),

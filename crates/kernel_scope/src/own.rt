@@ -4,7 +4,7 @@ ghost use Rattle.std.specs.Prelude.{◌≡◌, option_map};
 ghost use Rattle.kernel_tree.specs.Plain.{name_of, term_of, turns_of};
 ghost use Rattle.kernel_tree.specs.Items as items;
 ghost use Rattle.kernel_tree.specs.Typing as typing;
-ghost use Rattle.kernel_scope.specs.Scopes.{scope_of, text_of};
+ghost use Rattle.kernel_scope.specs.Scopes.{scope_of, lent_text};
 
 use crate::names::lookup;
 use crate::scope::Scope;
@@ -71,7 +71,7 @@ pub fn own_type(scope: &Scope, expr: &Expr) -> Option<Ty>
 
 /// The name of the loop variable.
 pub fn loop_index(turns: &Option<Loop>) -> Option<&str>
-    ensures { option_map text_of result ≡ option_map items.index_of (option_map turns_of turns.now) }
+    ensures { option_map lent_text result ≡ option_map items.index_of (option_map turns_of turns.now) }
 {
     match turns {
         None => None,
@@ -81,7 +81,7 @@ pub fn loop_index(turns: &Option<Loop>) -> Option<&str>
 
 /// Whether a name is that of the loop variable.
 pub fn is_index(index: Option<&str>, name: &Name) -> bool
-    ensures { result ≡ items.is_index (option_map text_of index.entry) (name_of name.now) }
+    ensures { result ≡ items.is_index (option_map lent_text index.entry) (name_of name.now) }
 {
     match index {
         None => false,
@@ -91,7 +91,7 @@ pub fn is_index(index: Option<&str>, name: &Name) -> bool
 
 /// Whether an expression is the loop variable.
 pub fn is_index_term(index: Option<&str>, expr: &Expr) -> bool
-    ensures { result ≡ items.is_index_term (option_map text_of index.entry) (term_of expr.now) }
+    ensures { result ≡ items.is_index_term (option_map lent_text index.entry) (term_of expr.now) }
 {
     match expr {
         Expr::Var(name) => is_index(index, name),

@@ -7,7 +7,7 @@ use Rattle.kernel_tree.specs.declared.mark.Mark.TheVariants as mark
 use Rattle.kernel_tree.specs.Word.{Word, IsName, IsNumber, IsType, IsCompare, IsUpdate, IsMark}
 use Rattle.kernel_tree.specs.Plain.{Term, Action, Define, Put, Update, Choose, Leave, Block, Done, Then, Nothing, Else}
 use Rattle.kernel_tree.specs.Grammar.{Spells, SpellsType, untyped, typed, SpellsAction, define, put, update, choose, choose_else, leave, SpellsBlock, done, then, beginning_of_mark}
-use Rattle.kernel_syntax.specs.Reading.{◌>>=◌, given, following, after, name_at, type_at, update_front, unary_at, chain_at}
+use Rattle.kernel_syntax.specs.Reading.{◌>>=◌, given, following, past, name_at, type_at, update_front, unary_at, chain_at}
 use Rattle.kernel_syntax.specs.Statements.{Statement, Statements, term_at, type_part, define_at, put_at, update_at, target_at, leave_at, choose_by, begun_by, statement_by, block_by, block_at}
 use Rattle.kernel_syntax.proofs.Sound.{bind_ok, ok_is, not_err, after-is, following-is, name-is, type-is, update-is, reads_spells, before_spells}
 
@@ -36,9 +36,9 @@ from_action whole to from y p h = subst (λ (z : List Word). SpellsAction whole 
 define_spells : (whole : Bool) (words : List Word) (y : Action × List Word) → define_at words ≡ Ok y → SpellsAction whole (IsMark mark.Let ∷ words) y.0 y.1
 unfolding define_at
 define_spells whole words y q =
-    let x = bind_ok (name_at words) (λ x. type_part x.1 >>= (λ t. after mark.Equals t.1 >>= (λ from. term_at mark.Semicolon from >>= (λ e. Ok (Define x.0 t.0 e.0, e.1))))) y q in
-    let t = bind_ok (type_part x.0.1) (λ t. after mark.Equals t.1 >>= (λ from. term_at mark.Semicolon from >>= (λ e. Ok (Define x.0.0 t.0 e.0, e.1)))) y x.2 in
-    let from = bind_ok (after mark.Equals t.0.1) (λ from. term_at mark.Semicolon from >>= (λ e. Ok (Define x.0.0 t.0.0 e.0, e.1))) y t.2 in
+    let x = bind_ok (name_at words) (λ x. type_part x.1 >>= (λ t. past mark.Equals t.1 >>= (λ from. term_at mark.Semicolon from >>= (λ e. Ok (Define x.0 t.0 e.0, e.1))))) y q in
+    let t = bind_ok (type_part x.0.1) (λ t. past mark.Equals t.1 >>= (λ from. term_at mark.Semicolon from >>= (λ e. Ok (Define x.0.0 t.0 e.0, e.1)))) y x.2 in
+    let from = bind_ok (past mark.Equals t.0.1) (λ from. term_at mark.Semicolon from >>= (λ e. Ok (Define x.0.0 t.0.0 e.0, e.1))) y t.2 in
     let e = bind_ok (term_at mark.Semicolon from.0) (λ e. Ok (Define x.0.0 t.0.0 e.0, e.1)) y from.2 in
     let ty : SpellsType x.0.1 t.0.0 (IsMark mark.Equals ∷ from.0) = subst (λ (z : List Word). SpellsType x.0.1 t.0.0 z) (after-is mark.Equals t.0.1 from.0 from.1) (type_part_spells x.0.1 t.0 t.1) in
     let w : IsMark mark.Let ∷ words ≡ IsMark mark.Let ∷ IsName x.0.0 ∷ x.0.1 = ap (λ (z : List Word). IsMark mark.Let ∷ z) (name-is words x.0 x.1) in
@@ -47,8 +47,8 @@ define_spells whole words y q =
 put_spells : (whole : Bool) (x : List ℕ) (words : List Word) (y : Action × List Word) → put_at x words ≡ Ok y → SpellsAction whole (IsName x ∷ IsMark mark.OpenBracket ∷ words) y.0 y.1
 unfolding put_at
 put_spells whole x words y q =
-    let i = bind_ok (term_at mark.CloseBracket words) (λ i. after mark.Equals i.1 >>= (λ next. term_at mark.Semicolon next >>= (λ e. Ok (Put x i.0 e.0, e.1)))) y q in
-    let next = bind_ok (after mark.Equals i.0.1) (λ next. term_at mark.Semicolon next >>= (λ e. Ok (Put x i.0.0 e.0, e.1))) y i.2 in
+    let i = bind_ok (term_at mark.CloseBracket words) (λ i. past mark.Equals i.1 >>= (λ next. term_at mark.Semicolon next >>= (λ e. Ok (Put x i.0 e.0, e.1)))) y q in
+    let next = bind_ok (past mark.Equals i.0.1) (λ next. term_at mark.Semicolon next >>= (λ e. Ok (Put x i.0.0 e.0, e.1))) y i.2 in
     let e = bind_ok (term_at mark.Semicolon next.0) (λ e. Ok (Put x i.0.0 e.0, e.1)) y next.2 in
     let index : Spells 10 words i.0.0 (IsMark mark.CloseBracket ∷ IsMark mark.Equals ∷ next.0) = subst (λ (z : List Word). Spells 10 words i.0.0 (IsMark mark.CloseBracket ∷ z)) (after-is mark.Equals i.0.1 next.0 next.1) (term_spells mark.CloseBracket words i.0 i.1) in
     at_action whole _ (Put x i.0.0 e.0.0, e.0.1) y (ok_is (Put x i.0.0 e.0.0, e.0.1) y e.2) (put index (term_spells mark.Semicolon next.0 e.0 e.1))
@@ -75,7 +75,7 @@ leave_spells : (whole : Bool) (words : List Word) (y : Action × List Word) → 
 unfolding leave_at
 leave_spells false words y q = absurd (not_err (suc (length words)) y q)
 leave_spells true words y q =
-    let from = bind_ok (after mark.If words) (λ from. term_at mark.Semicolon from >>= (λ c. Ok (Leave c.0, c.1))) y q in
+    let from = bind_ok (past mark.If words) (λ from. term_at mark.Semicolon from >>= (λ c. Ok (Leave c.0, c.1))) y q in
     let c = bind_ok (term_at mark.Semicolon from.0) (λ c. Ok (Leave c.0, c.1)) y from.2 in
     let w : IsMark mark.Break ∷ words ≡ IsMark mark.Break ∷ IsMark mark.If ∷ from.0 = ap (λ (z : List Word). IsMark mark.Break ∷ z) (after-is mark.If words from.0 from.1) in
     from_action true _ _ y w (at_action true _ (Leave c.0.0, c.0.1) y (ok_is (Leave c.0.0, c.0.1) y c.2) (leave (term_spells mark.Semicolon from.0 c.0 c.1)))
@@ -84,10 +84,10 @@ abbrev pub SoundBlock : Bool → (List Word → Statements) → Type 0
 SoundBlock whole block = (words : List Word) (x : Block × List Word) → block words ≡ Ok x → SpellsBlock whole words x.0 x.1
 
 module _ (block : List Word → Statements) (sound : SoundBlock false block) (whole : Bool) where
-  else_spells : (words from : List Word) (c : Term) (b : Block) (next : List Word) (y : Action × List Word) → Spells 10 words c (IsMark mark.OpenBrace ∷ from) → SpellsBlock false from b next → (o : Option (List Word)) → following mark.Else next ≡ o → given {B = Statement} o (λ rest. after mark.OpenBrace rest >>= (λ from. block from >>= (λ d. Ok (Choose c b (Else d.0), d.1)))) (Ok (Choose c b Nothing, next)) ≡ Ok y → SpellsAction whole (IsMark mark.If ∷ words) y.0 y.1
+  else_spells : (words from : List Word) (c : Term) (b : Block) (next : List Word) (y : Action × List Word) → Spells 10 words c (IsMark mark.OpenBrace ∷ from) → SpellsBlock false from b next → (o : Option (List Word)) → following mark.Else next ≡ o → given {B = Statement} o (λ rest. past mark.OpenBrace rest >>= (λ from. block from >>= (λ d. Ok (Choose c b (Else d.0), d.1)))) (Ok (Choose c b Nothing, next)) ≡ Ok y → SpellsAction whole (IsMark mark.If ∷ words) y.0 y.1
   else_spells words from c b next y hc hb None p q = at_action whole _ (Choose c b Nothing, next) y (ok_is (Choose c b Nothing, next) y q) (choose hc hb)
   else_spells words start c b next y hc hb (Some more) p q =
-      let from = bind_ok (after mark.OpenBrace more) (λ from. block from >>= (λ d. Ok (Choose c b (Else d.0), d.1))) y q in
+      let from = bind_ok (past mark.OpenBrace more) (λ from. block from >>= (λ d. Ok (Choose c b (Else d.0), d.1))) y q in
       let d = bind_ok (block from.0) (λ d. Ok (Choose c b (Else d.0), d.1)) y from.2 in
       let there : next ≡ IsMark mark.Else ∷ IsMark mark.OpenBrace ∷ from.0 = following-is mark.Else next more p ∙ ap (λ (z : List Word). IsMark mark.Else ∷ z) (after-is mark.OpenBrace more from.0 from.1) in
       at_action whole _ (Choose c b (Else d.0.0), d.0.1) y (ok_is (Choose c b (Else d.0.0), d.0.1) y d.2) (choose_else hc (subst (λ (z : List Word). SpellsBlock false start b z) there hb) (sound from.0 d.0 d.1))
@@ -95,8 +95,8 @@ module _ (block : List Word → Statements) (sound : SoundBlock false block) (wh
   choose_spells : (words : List Word) (y : Action × List Word) → choose_by block words ≡ Ok y → SpellsAction whole (IsMark mark.If ∷ words) y.0 y.1
   unfolding choose_by
   choose_spells words y q =
-      let c = bind_ok (term_at mark.OpenBrace words) (λ c. block c.1 >>= (λ b. given {B = Statement} (following mark.Else b.1) (λ rest. after mark.OpenBrace rest >>= (λ from. block from >>= (λ d. Ok (Choose c.0 b.0 (Else d.0), d.1)))) (Ok (Choose c.0 b.0 Nothing, b.1)))) y q in
-      let b = bind_ok (block c.0.1) (λ b. given {B = Statement} (following mark.Else b.1) (λ rest. after mark.OpenBrace rest >>= (λ from. block from >>= (λ d. Ok (Choose c.0.0 b.0 (Else d.0), d.1)))) (Ok (Choose c.0.0 b.0 Nothing, b.1))) y c.2 in
+      let c = bind_ok (term_at mark.OpenBrace words) (λ c. block c.1 >>= (λ b. given {B = Statement} (following mark.Else b.1) (λ rest. past mark.OpenBrace rest >>= (λ from. block from >>= (λ d. Ok (Choose c.0 b.0 (Else d.0), d.1)))) (Ok (Choose c.0 b.0 Nothing, b.1)))) y q in
+      let b = bind_ok (block c.0.1) (λ b. given {B = Statement} (following mark.Else b.1) (λ rest. past mark.OpenBrace rest >>= (λ from. block from >>= (λ d. Ok (Choose c.0.0 b.0 (Else d.0), d.1)))) (Ok (Choose c.0.0 b.0 Nothing, b.1))) y c.2 in
       else_spells words c.0.1 c.0.0 b.0.0 b.0.1 y (term_spells mark.OpenBrace words c.0 c.1) (sound c.0.1 b.0 b.1) (following mark.Else b.0.1) refl b.2
 
   begun_spells : (m : Mark) (words : List Word) (y : Action × List Word) → begun_by whole block (beginning_of_mark m) words ≡ Ok y → SpellsAction whole (IsMark m ∷ words) y.0 y.1

@@ -10,7 +10,7 @@ use Rattle.kernel_tree.specs.declared.mark.Operator.TheVariants.{Joined, Compare
 use Rattle.kernel_tree.specs.Word.{Word, IsName, IsNumber, IsType, IsCompare, IsUpdate, IsMark}
 use Rattle.kernel_tree.specs.Plain.{Term}
 use Rattle.kernel_tree.specs.Grammar.{Spells, number, name, element, group, pair, absolute, choice, negative, prefix, up, conversion, shift, operation, comparison, operator_of, operator_of_mark, level_of}
-use Rattle.kernel_syntax.specs.Reading.{following, after, type_at, count_at, operator_at, chain_at, term_before, name_by, pair_by, absolute_by, choice_by, signed_by, unary_at}
+use Rattle.kernel_syntax.specs.Reading.{following, past, type_at, count_at, operator_at, chain_at, term_before, name_by, pair_by, absolute_by, choice_by, signed_by, unary_at}
 use Rattle.kernel_syntax.proofs.Chain.{Goes, begins, ends, goes_joined, goes_shifted, goes_as, ends_compared}
 use Rattle.kernel_syntax.proofs.Sound.{joined_is_no_8, other_is_no_8}
 
@@ -84,7 +84,7 @@ goes_of room level words e rest n (inl g) = g
 goes_of room level words e rest n (inr c) = absurd (n c.0)
 
 -- an expression and the mark after it
-pub before_reads : (room : ℕ) (m : Mark) (words : List Word) (e : Term) (rest : List Word) → operator_of_mark m ≡ None → following mark.OpenBracket (IsMark m ∷ rest) ≡ None → after m (IsMark m ∷ rest) ≡ Ok rest → Reads room 10 words e (IsMark m ∷ rest) → term_before (chain_at (unary_at room) 10) m words ≡ Ok (e, rest)
+pub before_reads : (room : ℕ) (m : Mark) (words : List Word) (e : Term) (rest : List Word) → operator_of_mark m ≡ None → following mark.OpenBracket (IsMark m ∷ rest) ≡ None → past m (IsMark m ∷ rest) ≡ Ok rest → Reads room 10 words e (IsMark m ∷ rest) → term_before (chain_at (unary_at room) 10) m words ≡ Ok (e, rest)
 unfolding term_before
 before_reads room m words e rest o b a r = rw (finish room 10 words e (IsMark m ∷ rest) r (stops_at 10 m rest o b), a) refl
 
@@ -97,7 +97,7 @@ unfolding count_at
 count_there n rest = refl
 
 pub reads : {level : ℕ} {words : List Word} {e : Term} {rest : List Word} → Spells level words e rest → (room : ℕ) → length words ≤ room → Reads room level words e rest
-unfolding unary_at name_by pair_by absolute_by choice_by signed_by following after
+unfolding unary_at name_by pair_by absolute_by choice_by signed_by following past
 reads number zero h = λ s. absurd (omega arith)
 reads number (suc room) h = λ s. refl
 reads name zero h = λ s. absurd (omega arith)
@@ -138,5 +138,5 @@ reads (comparison {level = level} {op = op} {w = w} {a = a} {b = b} {from = from
     inr (sym l, ends_compared (unary_at room) (suc level) from a (w ∷ next) g op next b rest (sym (operator_there (suc level) w (Compared op) next o l)) (rw p right))
 
 -- an expression and the mark after it, with room for as many as there are words
-pub spells_before : (m : Mark) (words : List Word) (e : Term) (rest : List Word) (room : ℕ) → operator_of_mark m ≡ None → following mark.OpenBracket (IsMark m ∷ rest) ≡ None → after m (IsMark m ∷ rest) ≡ Ok rest → length words ≤ room → Spells 10 words e (IsMark m ∷ rest) → term_before (chain_at (unary_at room) 10) m words ≡ Ok (e, rest)
+pub spells_before : (m : Mark) (words : List Word) (e : Term) (rest : List Word) (room : ℕ) → operator_of_mark m ≡ None → following mark.OpenBracket (IsMark m ∷ rest) ≡ None → past m (IsMark m ∷ rest) ≡ Ok rest → length words ≤ room → Spells 10 words e (IsMark m ∷ rest) → term_before (chain_at (unary_at room) 10) m words ≡ Ok (e, rest)
 spells_before m words e rest room o b a h d = before_reads room m words e rest o b a (reads d room h)

@@ -5,22 +5,22 @@ use Rattle.kernel_tree.specs.declared.mark.Mark.TheVariants as mark
 use Rattle.kernel_tree.specs.Word.{Word, IsType, IsMark}
 use Rattle.kernel_tree.specs.Plain.{Term, Action, Block, Parameter, Accumulator, PlainLoop, Program}
 use Rattle.kernel_tree.specs.Grammar.{Spells, SpellsType, untyped, typed, SpellsAction, define, put, update, choose, choose_else, leave, SpellsBlock, done, then, SpellsParam, scalar, array, SpellsSome, last, more, SpellsParams, none, some, SpellsVars, no_var, var, SpellsLoop, no_loop, loop, Tree, procedure, function}
-use Rattle.kernel_syntax.specs.Reading.{following, after, name_at, type_at}
+use Rattle.kernel_syntax.specs.Reading.{following, past, name_at, type_at}
 use Rattle.kernel_syntax.specs.Statements.{term_at, type_part, define_at, put_at, update_at, target_at, leave_at, choose_by, statement_by, block_by, block_at}
 use Rattle.kernel_syntax.specs.Headers.{shape_at, param_at, some_at, params_at, var_at, vars_by, vars_at, zero_at, turns_at, loop_at, tail_at, answer_by, kernel_at}
 use Rattle.kernel_syntax.proofs.Sound.{ok_is, not_err}
 use Rattle.kernel_syntax.proofs.Complete.{shorter, spells_before}
 
 pub semicolon_reads : (words : List Word) (e : Term) (rest : List Word) → Spells 10 words e (IsMark mark.Semicolon ∷ rest) → term_at mark.Semicolon words ≡ Ok (e, rest)
-unfolding term_at after following
+unfolding term_at past following
 semicolon_reads words e rest d = spells_before mark.Semicolon words e rest (length words) refl refl refl (omega arith) d
 
 pub bracket_reads : (words : List Word) (e : Term) (rest : List Word) → Spells 10 words e (IsMark mark.CloseBracket ∷ rest) → term_at mark.CloseBracket words ≡ Ok (e, rest)
-unfolding term_at after following
+unfolding term_at past following
 bracket_reads words e rest d = spells_before mark.CloseBracket words e rest (length words) refl refl refl (omega arith) d
 
 pub brace_reads : (words : List Word) (e : Term) (rest : List Word) → Spells 10 words e (IsMark mark.OpenBrace ∷ rest) → term_at mark.OpenBrace words ≡ Ok (e, rest)
-unfolding term_at after following
+unfolding term_at past following
 brace_reads words e rest d = spells_before mark.OpenBrace words e rest (length words) refl refl refl (omega arith) d
 
 before_else : (whole : Bool) (b : Block) (words rest : List Word) → SpellsBlock whole words b rest → following mark.Else words ≡ None
@@ -70,7 +70,7 @@ block_from whole words b rest lt goes zero h = absurd (omega arith)
 block_from whole words b rest lt goes (suc room) h = goes room h (suc (length words)) (omega arith)
 
 mutual
-  unfolding statement_by define_at name_at target_at put_at update_at leave_at choose_by block_by after following
+  unfolding statement_by define_at name_at target_at put_at update_at leave_at choose_by block_by past following
 
   pub action_reads : {whole : Bool} {words : List Word} {s : Action} {rest : List Word} → SpellsAction whole words s rest → (room : ℕ) → length words ≤ suc room → following mark.Else rest ≡ None → statement_by whole (block_at false room) words ≡ Ok (s, rest)
   action_reads (define {x = x} {t = t} {e = e} {from = from} {next = next} {rest = rest} p d) room h n = rw (type_reads from t (IsMark mark.Equals ∷ next) p refl, semicolon_reads next e rest d) refl
@@ -92,12 +92,12 @@ mutual
 -- ---- kernels
 
 pub param_reads : (words : List Word) (p : Parameter) (rest : List Word) → SpellsParam words p rest → param_at words ≡ Ok (p, rest)
-unfolding param_at name_at after following shape_at type_at
+unfolding param_at name_at past following shape_at type_at
 param_reads words p rest scalar = refl
 param_reads words p rest array = refl
 
 some_reads : {others : ℕ} {words : List Word} {ps : List Parameter} {rest : List Word} → SpellsSome others words ps rest → some_at others words ≡ Ok (ps, rest)
-unfolding some_at following after
+unfolding some_at following past
 some_reads (last {others = zero} {p = p} {from = from} {rest = rest} d) = rw (param_reads from p (IsMark mark.CloseParen ∷ rest) d) refl
 some_reads (last {others = suc n} {p = p} {from = from} {rest = rest} d) = rw (param_reads from p (IsMark mark.CloseParen ∷ rest) d) refl
 some_reads (more {p = p} {from = from} {next = next} d ds) = rw (param_reads from p (IsMark mark.Comma ∷ next) d, some_reads ds) refl
@@ -119,7 +119,7 @@ vars_shorter no_var = omega arith
 vars_shorter (var e ds) = omega (arith, shorter e, vars_shorter ds)
 
 vars_goes : {words : List Word} {vs : List Accumulator} {rest : List Word} → SpellsVars words vs rest → following mark.Var rest ≡ None → (k : ℕ) → length words < k → vars_by k words ≡ Ok (vs, rest)
-unfolding vars_by var_at name_at type_at after following
+unfolding vars_by var_at name_at type_at past following
 vars_goes no_var n zero l = absurd (omega arith)
 vars_goes no_var n (suc k) l = rw n refl
 vars_goes (var e ds) n zero l = absurd (omega arith)
@@ -130,7 +130,7 @@ unfolding vars_at
 vars_reads words vs rest d n = vars_goes d n (suc (length words)) (omega arith)
 
 pub loop_reads : (words : List Word) (l : Option PlainLoop) (rest : List Word) → SpellsLoop words l rest → following mark.For rest ≡ None → loop_at words ≡ Ok (l, rest)
-unfolding loop_at turns_at name_at zero_at after following
+unfolding loop_at turns_at name_at zero_at past following
 loop_reads words l rest no_loop n = rw n refl
 loop_reads words l end (loop {b = b} {from = from} {rest = rest} d) n = rw (block_from true from b rest (block_shorter d) (block_goes d) (length from) (omega arith)) refl
 
@@ -141,7 +141,7 @@ ends_vars words l rest no_loop n = n
 ends_vars words l rest (loop d) n = refl
 
 pub tree_reads : (words : List Word) (k : Program) → Tree words k → kernel_at words ≡ Ok k
-unfolding kernel_at name_at type_at tail_at answer_by after following
+unfolding kernel_at name_at type_at tail_at answer_by past following
 tree_reads words k (procedure {ps = ps} {vs = vs} {l = l} {from = from} {body = body} {next = next} p v s) =
     rw (params_reads from ps (IsMark mark.OpenBrace ∷ body) p, vars_reads body vs next v (ends_vars next l (IsMark mark.CloseBrace ∷ []) s refl), loop_reads next l (IsMark mark.CloseBrace ∷ []) s refl) refl
 tree_reads words k (function {ps = ps} {t = t} {vs = vs} {l = l} {e = e} {from = from} {body = body} {next = next} {last = end} p v s d) =

@@ -9,7 +9,7 @@ use Rattle.kernel_tree.specs.declared.mark.Mark.TheVariants as mark
 use Rattle.kernel_tree.specs.Word.{Word, IsName, IsNumber, IsType, IsMark}
 use Rattle.kernel_tree.specs.Plain.{Term, Parameter, Accumulator, PlainLoop, Returned, Program}
 use Rattle.kernel_tree.specs.Grammar.{Spells, SpellsBlock, SpellsParam, scalar, array, SpellsSome, last, more, SpellsParams, none, some, SpellsVars, no_var, var, SpellsLoop, no_loop, loop, Tree, procedure, function, number_at}
-use Rattle.kernel_syntax.specs.Reading.{◌>>=◌, given, following, after, name_at, type_at}
+use Rattle.kernel_syntax.specs.Reading.{◌>>=◌, given, following, past, name_at, type_at}
 use Rattle.kernel_syntax.specs.Statements.{term_at, block_at}
 use Rattle.kernel_syntax.specs.Headers.{Read, shape_at, param_at, some_at, params_at, var_at, vars_by, vars_at, zero_at, turns_at, loop_at, tail_at, answer_by, alone, kernel_at}
 use Rattle.kernel_syntax.proofs.Sound.{bind_ok, ok_is, not_err, cond_is, after-is, following-is, name-is, type-is, number-is, until_spells}
@@ -26,13 +26,13 @@ at_shape words x y p h = subst (λ (x : Shape × List Word). SpellsShape words x
 from_shape : (to from : List Word) (y : Shape × List Word) → to ≡ from → SpellsShape from y.0 y.1 → SpellsShape to y.0 y.1
 from_shape to from y p h = subst (λ (z : List Word). SpellsShape z y.0 y.1) (sym p) h
 
-by_shape : (words : List Word) (y : Shape × List Word) (o : Option (List Word)) → following mark.OpenBracket words ≡ o → given {B = Read Shape} o (λ from. type_at from >>= (λ t. after mark.CloseBracket t.1 >>= (λ rest. Ok (shape.Array t.0, rest)))) (type_at words >>= (λ t. Ok (shape.Scalar t.0, t.1))) ≡ Ok y → SpellsShape words y.0 y.1
+by_shape : (words : List Word) (y : Shape × List Word) (o : Option (List Word)) → following mark.OpenBracket words ≡ o → given {B = Read Shape} o (λ from. type_at from >>= (λ t. past mark.CloseBracket t.1 >>= (λ rest. Ok (shape.Array t.0, rest)))) (type_at words >>= (λ t. Ok (shape.Scalar t.0, t.1))) ≡ Ok y → SpellsShape words y.0 y.1
 by_shape words y None p q =
     let t = bind_ok (type_at words) (λ t. Ok (shape.Scalar t.0, t.1)) y q in
     from_shape _ _ y (type-is words t.0 t.1) (at_shape _ (shape.Scalar t.0.0, t.0.1) y (ok_is (shape.Scalar t.0.0, t.0.1) y t.2) scalar_shape)
 by_shape words y (Some from) p q =
-    let t = bind_ok (type_at from) (λ t. after mark.CloseBracket t.1 >>= (λ rest. Ok (shape.Array t.0, rest))) y q in
-    let rest = bind_ok (after mark.CloseBracket t.0.1) (λ rest. Ok (shape.Array t.0.0, rest)) y t.2 in
+    let t = bind_ok (type_at from) (λ t. past mark.CloseBracket t.1 >>= (λ rest. Ok (shape.Array t.0, rest))) y q in
+    let rest = bind_ok (past mark.CloseBracket t.0.1) (λ rest. Ok (shape.Array t.0.0, rest)) y t.2 in
     let w : words ≡ IsMark mark.OpenBracket ∷ IsType t.0.0 ∷ IsMark mark.CloseBracket ∷ rest.0 = following-is mark.OpenBracket words from p ∙ ap (λ (z : List Word). IsMark mark.OpenBracket ∷ z) (type-is from t.0 t.1 ∙ ap (λ (z : List Word). IsType t.0.0 ∷ z) (after-is mark.CloseBracket t.0.1 rest.0 rest.1)) in
     from_shape _ _ y w (at_shape _ (shape.Array t.0.0, rest.0) y (ok_is (shape.Array t.0.0, rest.0) y rest.2) array_shape)
 
@@ -47,8 +47,8 @@ shaped x words s rest array_shape = array
 pub param_spells : (words : List Word) (y : Parameter × List Word) → param_at words ≡ Ok y → SpellsParam words y.0 y.1
 unfolding param_at
 param_spells words y q =
-    let x = bind_ok (name_at words) (λ x. after mark.Colon x.1 >>= (λ from. shape_at from >>= (λ s. Ok (record { name = x.0; shape = s.0 }, s.1)))) y q in
-    let from = bind_ok (after mark.Colon x.0.1) (λ from. shape_at from >>= (λ s. Ok (record { name = x.0.0; shape = s.0 }, s.1))) y x.2 in
+    let x = bind_ok (name_at words) (λ x. past mark.Colon x.1 >>= (λ from. shape_at from >>= (λ s. Ok (record { name = x.0; shape = s.0 }, s.1)))) y q in
+    let from = bind_ok (past mark.Colon x.0.1) (λ from. shape_at from >>= (λ s. Ok (record { name = x.0.0; shape = s.0 }, s.1))) y x.2 in
     let s = bind_ok (shape_at from.0) (λ s. Ok (record { name = x.0.0; shape = s.0 }, s.1)) y from.2 in
     let w : words ≡ IsName x.0.0 ∷ IsMark mark.Colon ∷ from.0 = name-is words x.0 x.1 ∙ ap (λ (z : List Word). IsName x.0.0 ∷ z) (after-is mark.Colon x.0.1 from.0 from.1) in
     let p : Parameter × List Word = (record { name = x.0.0; shape = s.0.0 }, s.0.1) in
@@ -67,9 +67,9 @@ by_last : (words : List Word) (p : Parameter × List Word) (y : List Parameter �
 by_last words p y h None e q = absurd (not_err (length p.1) y q)
 by_last words p y h (Some next) e q = last_spells 0 words p y h next e q
 
-by_more : (others : ℕ) → ((next : List Word) (z : List Parameter × List Word) → some_at others next ≡ Ok z → SpellsSome others next z.0 z.1) → (words : List Word) (p : Parameter × List Word) (y : List Parameter × List Word) → SpellsParam words p.0 p.1 → (o : Option (List Word)) → following mark.CloseParen p.1 ≡ o → given {B = Read (List Parameter)} o (λ rest. Ok (p.0 ∷ [], rest)) (after mark.Comma p.1 >>= (λ next. some_at others next >>= (λ ps. Ok (p.0 ∷ ps.0, ps.1)))) ≡ Ok y → SpellsSome (suc others) words y.0 y.1
+by_more : (others : ℕ) → ((next : List Word) (z : List Parameter × List Word) → some_at others next ≡ Ok z → SpellsSome others next z.0 z.1) → (words : List Word) (p : Parameter × List Word) (y : List Parameter × List Word) → SpellsParam words p.0 p.1 → (o : Option (List Word)) → following mark.CloseParen p.1 ≡ o → given {B = Read (List Parameter)} o (λ rest. Ok (p.0 ∷ [], rest)) (past mark.Comma p.1 >>= (λ next. some_at others next >>= (λ ps. Ok (p.0 ∷ ps.0, ps.1)))) ≡ Ok y → SpellsSome (suc others) words y.0 y.1
 by_more others again words p y h None e q =
-    let next = bind_ok (after mark.Comma p.1) (λ next. some_at others next >>= (λ ps. Ok (p.0 ∷ ps.0, ps.1))) y q in
+    let next = bind_ok (past mark.Comma p.1) (λ next. some_at others next >>= (λ ps. Ok (p.0 ∷ ps.0, ps.1))) y q in
     let ps = bind_ok (some_at others next.0) (λ ps. Ok (p.0 ∷ ps.0, ps.1)) y next.2 in
     at_some (suc others) words (p.0 ∷ ps.0.0, ps.0.1) y (ok_is (p.0 ∷ ps.0.0, ps.0.1) y ps.2) (more (param_then words p mark.Comma next.0 (after-is mark.Comma p.1 next.0 next.1) h) (again next.0 ps.0 ps.1))
 by_more others again words p y h (Some next) e q = last_spells (suc others) words p y h next e q
@@ -80,7 +80,7 @@ some_spells zero words y q =
     let p = bind_ok (param_at words) (λ p. given {B = Read (List Parameter)} (following mark.CloseParen p.1) (λ rest. Ok (p.0 ∷ [], rest)) (Err (length p.1))) y q in
     by_last words p.0 y (param_spells words p.0 p.1) (following mark.CloseParen p.0.1) refl p.2
 some_spells (suc others) words y q =
-    let p = bind_ok (param_at words) (λ p. given {B = Read (List Parameter)} (following mark.CloseParen p.1) (λ rest. Ok (p.0 ∷ [], rest)) (after mark.Comma p.1 >>= (λ next. some_at others next >>= (λ ps. Ok (p.0 ∷ ps.0, ps.1))))) y q in
+    let p = bind_ok (param_at words) (λ p. given {B = Read (List Parameter)} (following mark.CloseParen p.1) (λ rest. Ok (p.0 ∷ [], rest)) (past mark.Comma p.1 >>= (λ next. some_at others next >>= (λ ps. Ok (p.0 ∷ ps.0, ps.1))))) y q in
     by_more others (some_spells others) words p.0 y (param_spells words p.0 p.1) (following mark.CloseParen p.0.1) refl p.2
 
 by_params : (words : List Word) (y : List Parameter × List Word) (o : Option (List Word)) → following mark.CloseParen words ≡ o → given {B = Read (List Parameter)} o (λ rest. Ok ([], rest)) (some_at 7 words) ≡ Ok y → SpellsParams words y.0 y.1
@@ -100,10 +100,10 @@ pub record SpellsVar (words : List Word) (v : Accumulator) (rest : List Word) : 
 pub var_spells : (words : List Word) (y : Accumulator × List Word) → var_at words ≡ Ok y → SpellsVar words y.0 y.1
 unfolding var_at
 var_spells words y q =
-    let x = bind_ok (name_at words) (λ x. after mark.Colon x.1 >>= (λ from. type_at from >>= (λ t. after mark.Equals t.1 >>= (λ next. term_at mark.Semicolon next >>= (λ e. Ok (record { name = x.0; type = t.0; init = e.0 }, e.1)))))) y q in
-    let from = bind_ok (after mark.Colon x.0.1) (λ from. type_at from >>= (λ t. after mark.Equals t.1 >>= (λ next. term_at mark.Semicolon next >>= (λ e. Ok (record { name = x.0.0; type = t.0; init = e.0 }, e.1))))) y x.2 in
-    let t = bind_ok (type_at from.0) (λ t. after mark.Equals t.1 >>= (λ next. term_at mark.Semicolon next >>= (λ e. Ok (record { name = x.0.0; type = t.0; init = e.0 }, e.1)))) y from.2 in
-    let next = bind_ok (after mark.Equals t.0.1) (λ next. term_at mark.Semicolon next >>= (λ e. Ok (record { name = x.0.0; type = t.0.0; init = e.0 }, e.1))) y t.2 in
+    let x = bind_ok (name_at words) (λ x. past mark.Colon x.1 >>= (λ from. type_at from >>= (λ t. past mark.Equals t.1 >>= (λ next. term_at mark.Semicolon next >>= (λ e. Ok (record { name = x.0; type = t.0; init = e.0 }, e.1)))))) y q in
+    let from = bind_ok (past mark.Colon x.0.1) (λ from. type_at from >>= (λ t. past mark.Equals t.1 >>= (λ next. term_at mark.Semicolon next >>= (λ e. Ok (record { name = x.0.0; type = t.0; init = e.0 }, e.1))))) y x.2 in
+    let t = bind_ok (type_at from.0) (λ t. past mark.Equals t.1 >>= (λ next. term_at mark.Semicolon next >>= (λ e. Ok (record { name = x.0.0; type = t.0; init = e.0 }, e.1)))) y from.2 in
+    let next = bind_ok (past mark.Equals t.0.1) (λ next. term_at mark.Semicolon next >>= (λ e. Ok (record { name = x.0.0; type = t.0.0; init = e.0 }, e.1))) y t.2 in
     let e = bind_ok (term_at mark.Semicolon next.0) (λ e. Ok (record { name = x.0.0; type = t.0.0; init = e.0 }, e.1)) y next.2 in
     let w : words ≡ IsName x.0.0 ∷ IsMark mark.Colon ∷ IsType t.0.0 ∷ IsMark mark.Equals ∷ next.0 = name-is words x.0 x.1 ∙ ap (λ (z : List Word). IsName x.0.0 ∷ z) (after-is mark.Colon x.0.1 from.0 from.1 ∙ ap (λ (z : List Word). IsMark mark.Colon ∷ z) (type-is from.0 t.0 t.1 ∙ ap (λ (z : List Word). IsType t.0.0 ∷ z) (after-is mark.Equals t.0.1 next.0 next.1))) in
     let v : Accumulator × List Word = (record { name = x.0.0; type = t.0.0; init = e.0.0 }, e.0.1) in
@@ -148,12 +148,12 @@ record SpellsTurns (words : List Word) (l : PlainLoop) (rest : List Word) : Type
 turns_spells : (words : List Word) (y : PlainLoop × List Word) → turns_at words ≡ Ok y → SpellsTurns words y.0 y.1
 unfolding turns_at
 turns_spells words y q =
-    let i = bind_ok (name_at words) (λ i. after mark.In i.1 >>= (λ from. zero_at from >>= (λ range. after mark.Range range >>= (λ end. name_at end >>= (λ n. after mark.OpenBrace n.1 >>= (λ inside. block_at true (length inside) inside >>= (λ b. Ok (record { index = i.0; bound = n.0; body = b.0 }, b.1)))))))) y q in
-    let from = bind_ok (after mark.In i.0.1) (λ from. zero_at from >>= (λ range. after mark.Range range >>= (λ end. name_at end >>= (λ n. after mark.OpenBrace n.1 >>= (λ inside. block_at true (length inside) inside >>= (λ b. Ok (record { index = i.0.0; bound = n.0; body = b.0 }, b.1))))))) y i.2 in
-    let range = bind_ok (zero_at from.0) (λ range. after mark.Range range >>= (λ end. name_at end >>= (λ n. after mark.OpenBrace n.1 >>= (λ inside. block_at true (length inside) inside >>= (λ b. Ok (record { index = i.0.0; bound = n.0; body = b.0 }, b.1)))))) y from.2 in
-    let end = bind_ok (after mark.Range range.0) (λ end. name_at end >>= (λ n. after mark.OpenBrace n.1 >>= (λ inside. block_at true (length inside) inside >>= (λ b. Ok (record { index = i.0.0; bound = n.0; body = b.0 }, b.1))))) y range.2 in
-    let n = bind_ok (name_at end.0) (λ n. after mark.OpenBrace n.1 >>= (λ inside. block_at true (length inside) inside >>= (λ b. Ok (record { index = i.0.0; bound = n.0; body = b.0 }, b.1)))) y end.2 in
-    let inside = bind_ok (after mark.OpenBrace n.0.1) (λ inside. block_at true (length inside) inside >>= (λ b. Ok (record { index = i.0.0; bound = n.0.0; body = b.0 }, b.1))) y n.2 in
+    let i = bind_ok (name_at words) (λ i. past mark.In i.1 >>= (λ from. zero_at from >>= (λ range. past mark.Range range >>= (λ end. name_at end >>= (λ n. past mark.OpenBrace n.1 >>= (λ inside. block_at true (length inside) inside >>= (λ b. Ok (record { index = i.0; bound = n.0; body = b.0 }, b.1)))))))) y q in
+    let from = bind_ok (past mark.In i.0.1) (λ from. zero_at from >>= (λ range. past mark.Range range >>= (λ end. name_at end >>= (λ n. past mark.OpenBrace n.1 >>= (λ inside. block_at true (length inside) inside >>= (λ b. Ok (record { index = i.0.0; bound = n.0; body = b.0 }, b.1))))))) y i.2 in
+    let range = bind_ok (zero_at from.0) (λ range. past mark.Range range >>= (λ end. name_at end >>= (λ n. past mark.OpenBrace n.1 >>= (λ inside. block_at true (length inside) inside >>= (λ b. Ok (record { index = i.0.0; bound = n.0; body = b.0 }, b.1)))))) y from.2 in
+    let end = bind_ok (past mark.Range range.0) (λ end. name_at end >>= (λ n. past mark.OpenBrace n.1 >>= (λ inside. block_at true (length inside) inside >>= (λ b. Ok (record { index = i.0.0; bound = n.0; body = b.0 }, b.1))))) y range.2 in
+    let n = bind_ok (name_at end.0) (λ n. past mark.OpenBrace n.1 >>= (λ inside. block_at true (length inside) inside >>= (λ b. Ok (record { index = i.0.0; bound = n.0; body = b.0 }, b.1)))) y end.2 in
+    let inside = bind_ok (past mark.OpenBrace n.0.1) (λ inside. block_at true (length inside) inside >>= (λ b. Ok (record { index = i.0.0; bound = n.0.0; body = b.0 }, b.1))) y n.2 in
     let b = bind_ok (block_at true (length inside.0) inside.0) (λ b. Ok (record { index = i.0.0; bound = n.0.0; body = b.0 }, b.1)) y inside.2 in
     let w : words ≡ IsName i.0.0 ∷ IsMark mark.In ∷ IsNumber 0 ∷ IsMark mark.Range ∷ IsName n.0.0 ∷ IsMark mark.OpenBrace ∷ inside.0 = name-is words i.0 i.1 ∙ ap (λ (z : List Word). IsName i.0.0 ∷ z) (after-is mark.In i.0.1 from.0 from.1 ∙ ap (λ (z : List Word). IsMark mark.In ∷ z) (zero-is from.0 range.0 range.1 ∙ ap (λ (z : List Word). IsNumber 0 ∷ z) (after-is mark.Range range.0 end.0 end.1 ∙ ap (λ (z : List Word). IsMark mark.Range ∷ z) (name-is end.0 n.0 n.1 ∙ ap (λ (z : List Word). IsName n.0.0 ∷ z) (after-is mark.OpenBrace n.0.1 inside.0 inside.1))))) in
     let l : PlainLoop × List Word = (record { index = i.0.0; bound = n.0.0; body = b.0.0 }, b.0.1) in
@@ -176,12 +176,12 @@ pub data SpellsTail : List Word → Option Ty → List Word → Type 0 where
   no_type : {rest : List Word} → SpellsTail (IsMark mark.OpenBrace ∷ rest) None rest
   with_type : {t : Ty} {rest : List Word} → SpellsTail (IsMark mark.Arrow ∷ IsType t ∷ IsMark mark.OpenBrace ∷ rest) (Some t) rest
 
-by_tail : (words : List Word) (y : Option Ty × List Word) (o : Option (List Word)) → following mark.OpenBrace words ≡ o → given {B = Read (Option Ty)} o (λ body. Ok (None, body)) (after mark.Arrow words >>= (λ from. type_at from >>= (λ t. after mark.OpenBrace t.1 >>= (λ body. Ok (Some t.0, body))))) ≡ Ok y → SpellsTail words y.0 y.1
+by_tail : (words : List Word) (y : Option Ty × List Word) (o : Option (List Word)) → following mark.OpenBrace words ≡ o → given {B = Read (Option Ty)} o (λ body. Ok (None, body)) (past mark.Arrow words >>= (λ from. type_at from >>= (λ t. past mark.OpenBrace t.1 >>= (λ body. Ok (Some t.0, body))))) ≡ Ok y → SpellsTail words y.0 y.1
 by_tail words y (Some rest) p q = subst (λ (x : Option Ty × List Word). SpellsTail words x.0 x.1) (ok_is (None, rest) y q) (subst (λ (z : List Word). SpellsTail z None rest) (sym (following-is mark.OpenBrace words rest p)) no_type)
 by_tail words y None p q =
-    let from = bind_ok (after mark.Arrow words) (λ from. type_at from >>= (λ t. after mark.OpenBrace t.1 >>= (λ rest. Ok (Some t.0, rest)))) y q in
-    let t = bind_ok (type_at from.0) (λ t. after mark.OpenBrace t.1 >>= (λ rest. Ok (Some t.0, rest))) y from.2 in
-    let rest = bind_ok (after mark.OpenBrace t.0.1) (λ rest. Ok (Some t.0.0, rest)) y t.2 in
+    let from = bind_ok (past mark.Arrow words) (λ from. type_at from >>= (λ t. past mark.OpenBrace t.1 >>= (λ rest. Ok (Some t.0, rest)))) y q in
+    let t = bind_ok (type_at from.0) (λ t. past mark.OpenBrace t.1 >>= (λ rest. Ok (Some t.0, rest))) y from.2 in
+    let rest = bind_ok (past mark.OpenBrace t.0.1) (λ rest. Ok (Some t.0.0, rest)) y t.2 in
     let w : words ≡ IsMark mark.Arrow ∷ IsType t.0.0 ∷ IsMark mark.OpenBrace ∷ rest.0 = after-is mark.Arrow words from.0 from.1 ∙ ap (λ (z : List Word). IsMark mark.Arrow ∷ z) (type-is from.0 t.0 t.1 ∙ ap (λ (z : List Word). IsType t.0.0 ∷ z) (after-is mark.OpenBrace t.0.1 rest.0 rest.1)) in
     subst (λ (x : Option Ty × List Word). SpellsTail words x.0 x.1) (ok_is (Some t.0.0, rest.0) y rest.2) (subst (λ (z : List Word). SpellsTail z (Some t.0.0) rest.0) (sym w) with_type)
 
@@ -197,12 +197,12 @@ pub data SpellsAnswer : Option Ty → List Word → Option Returned → List Wor
 pub answer_spells : (t : Option Ty) (words : List Word) (y : Option Returned × List Word) → answer_by t words ≡ Ok y → SpellsAnswer t words y.0 y.1
 unfolding answer_by
 answer_spells None words y q =
-    let rest = bind_ok (after mark.CloseBrace words) (λ rest. Ok (None, rest)) y q in
+    let rest = bind_ok (past mark.CloseBrace words) (λ rest. Ok (None, rest)) y q in
     subst (λ (x : Option Returned × List Word). SpellsAnswer None words x.0 x.1) (ok_is (None, rest.0) y rest.2) (subst (λ (z : List Word). SpellsAnswer None z None rest.0) (sym (after-is mark.CloseBrace words rest.0 rest.1)) no_answer)
 answer_spells (Some t) words y q =
-    let from = bind_ok (after mark.Return words) (λ from. term_at mark.Semicolon from >>= (λ e. after mark.CloseBrace e.1 >>= (λ rest. Ok (Some (record { type = t; value = e.0 }), rest)))) y q in
-    let e = bind_ok (term_at mark.Semicolon from.0) (λ e. after mark.CloseBrace e.1 >>= (λ rest. Ok (Some (record { type = t; value = e.0 }), rest))) y from.2 in
-    let rest = bind_ok (after mark.CloseBrace e.0.1) (λ rest. Ok (Some (record { type = t; value = e.0.0 }), rest)) y e.2 in
+    let from = bind_ok (past mark.Return words) (λ from. term_at mark.Semicolon from >>= (λ e. past mark.CloseBrace e.1 >>= (λ rest. Ok (Some (record { type = t; value = e.0 }), rest)))) y q in
+    let e = bind_ok (term_at mark.Semicolon from.0) (λ e. past mark.CloseBrace e.1 >>= (λ rest. Ok (Some (record { type = t; value = e.0 }), rest))) y from.2 in
+    let rest = bind_ok (past mark.CloseBrace e.0.1) (λ rest. Ok (Some (record { type = t; value = e.0.0 }), rest)) y e.2 in
     let value : Spells 10 from.0 e.0.0 (IsMark mark.Semicolon ∷ IsMark mark.CloseBrace ∷ rest.0) = until_spells 10 from.0 e.0.0 (IsMark mark.Semicolon ∷ e.0.1) (IsMark mark.Semicolon ∷ IsMark mark.CloseBrace ∷ rest.0) (ap (λ (z : List Word). IsMark mark.Semicolon ∷ z) (after-is mark.CloseBrace e.0.1 rest.0 rest.1)) (term_spells mark.Semicolon from.0 e.0 e.1) in
     let a : Returned = record { type = t; value = e.0.0 } in
     subst (λ (x : Option Returned × List Word). SpellsAnswer (Some t) words x.0 x.1) (ok_is (Some a, rest.0) y rest.2) (subst (λ (z : List Word). SpellsAnswer (Some t) z (Some a) rest.0) (sym (after-is mark.Return words from.0 from.1)) (with_answer value))
@@ -219,9 +219,9 @@ alone_is x (w ∷ rest) y q = absurd (not_err (suc (length rest)) y q)
 pub kernel_spells : (words : List Word) (k : Program) → kernel_at words ≡ Ok k → Tree words k
 unfolding kernel_at
 kernel_spells words k q =
-    let from = bind_ok (after mark.Kernel words) (λ from. name_at from >>= (λ x. after mark.OpenParen x.1 >>= (λ inside. params_at inside >>= (λ ps. tail_at ps.1 >>= (λ t. vars_at t.1 >>= (λ vs. loop_at vs.1 >>= (λ l. answer_by t.0 l.1 >>= (λ a. alone (record { name = x.0; params = ps.0; vars = vs.0; turns = l.0; answer = a.0 }) a.1)))))))) k q in
-    let x = bind_ok (name_at from.0) (λ x. after mark.OpenParen x.1 >>= (λ inside. params_at inside >>= (λ ps. tail_at ps.1 >>= (λ t. vars_at t.1 >>= (λ vs. loop_at vs.1 >>= (λ l. answer_by t.0 l.1 >>= (λ a. alone (record { name = x.0; params = ps.0; vars = vs.0; turns = l.0; answer = a.0 }) a.1))))))) k from.2 in
-    let inside = bind_ok (after mark.OpenParen x.0.1) (λ inside. params_at inside >>= (λ ps. tail_at ps.1 >>= (λ t. vars_at t.1 >>= (λ vs. loop_at vs.1 >>= (λ l. answer_by t.0 l.1 >>= (λ a. alone (record { name = x.0.0; params = ps.0; vars = vs.0; turns = l.0; answer = a.0 }) a.1)))))) k x.2 in
+    let from = bind_ok (past mark.Kernel words) (λ from. name_at from >>= (λ x. past mark.OpenParen x.1 >>= (λ inside. params_at inside >>= (λ ps. tail_at ps.1 >>= (λ t. vars_at t.1 >>= (λ vs. loop_at vs.1 >>= (λ l. answer_by t.0 l.1 >>= (λ a. alone (record { name = x.0; params = ps.0; vars = vs.0; turns = l.0; answer = a.0 }) a.1)))))))) k q in
+    let x = bind_ok (name_at from.0) (λ x. past mark.OpenParen x.1 >>= (λ inside. params_at inside >>= (λ ps. tail_at ps.1 >>= (λ t. vars_at t.1 >>= (λ vs. loop_at vs.1 >>= (λ l. answer_by t.0 l.1 >>= (λ a. alone (record { name = x.0; params = ps.0; vars = vs.0; turns = l.0; answer = a.0 }) a.1))))))) k from.2 in
+    let inside = bind_ok (past mark.OpenParen x.0.1) (λ inside. params_at inside >>= (λ ps. tail_at ps.1 >>= (λ t. vars_at t.1 >>= (λ vs. loop_at vs.1 >>= (λ l. answer_by t.0 l.1 >>= (λ a. alone (record { name = x.0.0; params = ps.0; vars = vs.0; turns = l.0; answer = a.0 }) a.1)))))) k x.2 in
     let ps = bind_ok (params_at inside.0) (λ ps. tail_at ps.1 >>= (λ t. vars_at t.1 >>= (λ vs. loop_at vs.1 >>= (λ l. answer_by t.0 l.1 >>= (λ a. alone (record { name = x.0.0; params = ps.0; vars = vs.0; turns = l.0; answer = a.0 }) a.1))))) k inside.2 in
     let t = bind_ok (tail_at ps.0.1) (λ t. vars_at t.1 >>= (λ vs. loop_at vs.1 >>= (λ l. answer_by t.0 l.1 >>= (λ a. alone (record { name = x.0.0; params = ps.0.0; vars = vs.0; turns = l.0; answer = a.0 }) a.1)))) k ps.2 in
     let vs = bind_ok (vars_at t.0.1) (λ vs. loop_at vs.1 >>= (λ l. answer_by t.0.0 l.1 >>= (λ a. alone (record { name = x.0.0; params = ps.0.0; vars = vs.0; turns = l.0; answer = a.0 }) a.1))) k t.2 in

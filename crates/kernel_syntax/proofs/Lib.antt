@@ -5,8 +5,8 @@ pub mod Complete
 pub mod ActionSound
 pub mod KernelSound
 pub mod KernelComplete
-pub mod Lists
-pub mod Deep
+pub mod ParamLists
+pub mod NestingWalk
 pub mod Outcomes
 pub mod Rooms
 pub mod SignRows
@@ -20,6 +20,6 @@ pub mod WithinKernel
 pub mod ReachActions
 pub mod ReachKernel
 pub mod Extend
-pub mod Cut
+pub mod FrontsCut
 pub mod Place
 mod Examples

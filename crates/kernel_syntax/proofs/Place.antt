@@ -12,7 +12,7 @@ use Rattle.kernel_syntax.proofs.KernelSound.{kernel_spells}
 use Rattle.kernel_syntax.proofs.StuckKernel.{kernel_stops}
 use Rattle.kernel_syntax.proofs.ReachKernel.{no_further}
 use Rattle.kernel_syntax.proofs.Extend.{extend_kernel_fronts}
-use Rattle.kernel_syntax.proofs.Cut.{cut_kernel_fronts}
+use Rattle.kernel_syntax.proofs.FrontsCut.{cut_kernel_fronts}
 
 -- a front that some words begin with reaches up to the others
 pub fronts_of : (words : List Word) (n : ℕ) → Viable (take n words) → KernelFronts words (drop n words)

@@ -16,7 +16,7 @@ use Rattle.kernel_tree.specs.Word.{Word, IsName, IsNumber, IsType, IsMark}
 use Rattle.kernel_tree.specs.Plain.{Term, Literal, Element, Unary, Operation, Shift, Conversion, Choice, Comparison}
 use Rattle.kernel_tree.specs.Grammar.{Spells, number, name, element, group, pair, absolute, choice, negative, prefix, up, conversion, shift, operation, comparison, operator_of, level_of, joined, opening_of_mark, signed, number_following}
 use Rattle.kernel_tree.specs.Front.{Fronts, nothing, above, in_element, end_element, in_group, end_group, at_pair, first_pair, comma_pair, second_pair, end_pair, at_absolute, in_absolute, end_absolute, at_choice, first_choice, comma_choice, second_choice, next_choice, third_choice, end_choice, in_sign, at_operator, at_type, at_count, in_operation, in_comparison}
-use Rattle.kernel_syntax.specs.Reading.{◌>>=◌, given, Outcome, following, after, type_at, count_at, by_operator, more, chain_at, term_before, name_by, pair_by, absolute_by, choice_by, signed_by, unary_at}
+use Rattle.kernel_syntax.specs.Reading.{◌>>=◌, given, Outcome, following, past, type_at, count_at, by_operator, more, chain_at, term_before, name_by, pair_by, absolute_by, choice_by, signed_by, unary_at}
 use Rattle.kernel_syntax.proofs.Chain.{Goes, begins, step}
 use Rattle.kernel_syntax.proofs.Sound.{joined_is_no_8, other_is_no_8, number-is}
 use Rattle.kernel_syntax.proofs.Complete.{shorter, finish, goes_of, before_reads, reads, stops_before, operator_there, type_there, count_there}
@@ -88,7 +88,7 @@ module _ (room : ℕ) (n : ℕ) where
   at_pair_reaches m op words o h = passes_same _ _ n (opens m op words o) (pair_goes (chain_at (unary_at room) 10) (unary_at room) (reads_go room 10) (unary_goes room) op words n h)
 
   pair_first : (m : Mark) (op : BinaryOp) (from : List Word) → opening_of_mark m ≡ Some (opening.Pair op) → Passes (any room from) n → Passes (pair_by (chain_at (unary_at room) 10) op (IsMark mark.OpenParen ∷ from)) n
-  unfolding pair_by after following
+  unfolding pair_by past following
   pair_first m op from o p =
       passes_bind (term_before (chain_at (unary_at room) 10) mark.Comma from) (λ a. term_before (chain_at (unary_at room) 10) mark.CloseParen a.1 >>= (λ b. Ok (Operation op a.0 b.0, b.1))) n (term_passes (chain_at (unary_at room) 10) mark.Comma from n p)
       (λ a k. passes_bind (term_before (chain_at (unary_at room) 10) mark.CloseParen a.1) (λ b. Ok (Operation op a.0 b.0, b.1)) n (term_passes (chain_at (unary_at room) 10) mark.CloseParen a.1 n (reads_go room 10 a.1 n k)) (λ b i. i))
@@ -98,11 +98,11 @@ module _ (room : ℕ) (n : ℕ) where
 
   -- the argument of a call and the comma after it are read
   argument : (from : List Word) (a : Term) (next : List Word) → length from ≤ room → Spells 10 from a (IsMark mark.Comma ∷ next) → term_before (chain_at (unary_at room) 10) mark.Comma from ≡ Ok (a, next)
-  unfolding after following
+  unfolding past following
   argument from a next h d = before_reads room mark.Comma from a next refl refl refl (reads d room h)
 
   pair_second : (op : BinaryOp) (from : List Word) (a : Term) (next : List Word) → term_before (chain_at (unary_at room) 10) mark.Comma from ≡ Ok (a, next) → Passes (any room next) n → Passes (pair_by (chain_at (unary_at room) 10) op (IsMark mark.OpenParen ∷ from)) n
-  unfolding pair_by after following
+  unfolding pair_by past following
   pair_second op from a next e p =
       passes_same _ _ n (ap (λ r. r >>= (λ a. term_before (chain_at (unary_at room) 10) mark.CloseParen a.1 >>= (λ b. Ok (Operation op a.0 b.0, b.1)))) e)
       (passes_bind (term_before (chain_at (unary_at room) 10) mark.CloseParen next) (λ b. Ok (Operation op a b.0, b.1)) n (term_passes (chain_at (unary_at room) 10) mark.CloseParen next n p) (λ b i. i))
@@ -115,7 +115,7 @@ module _ (room : ℕ) (n : ℕ) where
   at_absolute_reaches words h = absolute_goes (chain_at (unary_at room) 10) (unary_at room) (reads_go room 10) (unary_goes room) words n h
 
   absolute_reaches : (from : List Word) → Passes (any room from) n → Passes (unary_at (suc room) (IsMark mark.Abs ∷ IsMark mark.OpenParen ∷ from)) n
-  unfolding unary_at absolute_by after following
+  unfolding unary_at absolute_by past following
   absolute_reaches from p = passes_bind (term_before (chain_at (unary_at room) 10) mark.CloseParen from) (λ a. Ok (Unary unary.Abs a.0, a.1)) n (term_passes (chain_at (unary_at room) 10) mark.CloseParen from n p) (λ a k. k)
 
   at_choice_reaches : (words : List Word) → length words ≤ n → Passes (unary_at (suc room) (IsMark mark.Select ∷ words)) n
@@ -132,19 +132,19 @@ module _ (room : ℕ) (n : ℕ) where
       (λ a k. last_of_choice c a.0 a.1 (reads_go room 10 a.1 n k))
 
   first_choice_reaches : (from : List Word) → Passes (any room from) n → Passes (unary_at (suc room) (IsMark mark.Select ∷ IsMark mark.OpenParen ∷ from)) n
-  unfolding unary_at choice_by after following
+  unfolding unary_at choice_by past following
   first_choice_reaches from p =
       passes_bind (term_before (chain_at (unary_at room) 10) mark.Comma from) (λ c. term_before (chain_at (unary_at room) 10) mark.Comma c.1 >>= (λ a. term_before (chain_at (unary_at room) 10) mark.CloseParen a.1 >>= (λ b. Ok (Choice c.0 a.0 b.0, b.1)))) n (term_passes (chain_at (unary_at room) 10) mark.Comma from n p)
       (λ c k. next_of_choice c.0 c.1 (reads_go room 10 c.1 n k))
 
   second_choice_reaches : (from : List Word) (c : Term) (next : List Word) → length from ≤ room → Spells 10 from c (IsMark mark.Comma ∷ next) → Passes (any room next) n → Passes (unary_at (suc room) (IsMark mark.Select ∷ IsMark mark.OpenParen ∷ from)) n
-  unfolding unary_at choice_by after following
+  unfolding unary_at choice_by past following
   second_choice_reaches from c next h d p =
       passes_same _ _ n (ap (λ r. r >>= (λ c. term_before (chain_at (unary_at room) 10) mark.Comma c.1 >>= (λ a. term_before (chain_at (unary_at room) 10) mark.CloseParen a.1 >>= (λ b. Ok (Choice c.0 a.0 b.0, b.1))))) (argument from c next h d))
       (next_of_choice c next p)
 
   third_choice_reaches : (from : List Word) (c : Term) (next : List Word) (a : Term) (last : List Word) → length from ≤ room → length next ≤ room → Spells 10 from c (IsMark mark.Comma ∷ next) → Spells 10 next a (IsMark mark.Comma ∷ last) → Passes (any room last) n → Passes (unary_at (suc room) (IsMark mark.Select ∷ IsMark mark.OpenParen ∷ from)) n
-  unfolding unary_at choice_by after following
+  unfolding unary_at choice_by past following
   third_choice_reaches from c next a last h i d f p =
       passes_same _ _ n (ap (λ r. r >>= (λ c. term_before (chain_at (unary_at room) 10) mark.Comma c.1 >>= (λ a. term_before (chain_at (unary_at room) 10) mark.CloseParen a.1 >>= (λ b. Ok (Choice c.0 a.0 b.0, b.1))))) (argument from c next h d) ∙ ap (λ r. r >>= (λ a. term_before (chain_at (unary_at room) 10) mark.CloseParen a.1 >>= (λ b. Ok (Choice c a.0 b.0, b.1)))) (argument next a last i f))
       (last_of_choice c a last p)
@@ -195,7 +195,7 @@ unfolding unary_at
 name_reaches room x rest = name_goes (chain_at (unary_at room) 10) (unary_at room) (reads_go room 10) (unary_goes room) x rest (length rest) (omega arith)
 
 reach : {level : ℕ} {words : List Word} {e : Term} {rest : List Word} → Spells level words e rest → (room : ℕ) → length words ≤ room → Passes (chain_at (unary_at room) level words) (length rest)
-unfolding unary_at name_by pair_by absolute_by choice_by signed_by following after
+unfolding unary_at name_by pair_by absolute_by choice_by signed_by following past
 reach number zero h = absurd (omega arith)
 reach (number {n = n} {rest = rest}) (suc room) h = whole_reads (IsNumber n ∷ rest) (Literal (pos n)) rest room refl
 reach name zero h = absurd (omega arith)

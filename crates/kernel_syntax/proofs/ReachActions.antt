@@ -8,7 +8,7 @@ use Rattle.kernel_tree.specs.Word.{Word, IsName, IsUpdate, IsMark}
 use Rattle.kernel_tree.specs.Plain.{Term, Action, Define, Put, Update, Choose, Leave, Block, Done, Then, Nothing, Else}
 use Rattle.kernel_tree.specs.Grammar.{Spells, SpellsType, untyped, typed, SpellsAction, define, put, update, choose, choose_else, leave, SpellsBlock}
 use Rattle.kernel_tree.specs.Front.{Fronts, TypeFronts, no_type, at_type_word, ActionFronts, no_action, define_name, define_type, define_equals, define_value, define_end, at_target, put_index, put_bracket, put_equals, put_value, put_end, update_value, update_end, choose_condition, choose_brace, choose_block, else_brace, else_block, leave_if, leave_condition, leave_end, whole_action, BlockFronts, in_action, next_action, whole_block}
-use Rattle.kernel_syntax.specs.Reading.{◌>>=◌, given, following, after, name_at, type_at}
+use Rattle.kernel_syntax.specs.Reading.{◌>>=◌, given, following, past, name_at, type_at}
 use Rattle.kernel_syntax.specs.Statements.{Statement, Statements, term_at, type_part, define_at, put_at, update_at, target_at, leave_at, choose_by, statement_by, block_by, block_at}
 use Rattle.kernel_syntax.proofs.Sound.{following-is}
 use Rattle.kernel_syntax.proofs.Complete.{shorter}
@@ -53,16 +53,16 @@ type_is words t next d = type_reads words t (IsMark mark.Equals ∷ next) d refl
 module _ (whole : Bool) (room : ℕ) (n : ℕ) where
   define_from : (x : List ℕ) (from : List Word) → Passes (type_part from) n → Passes (statement_by whole (block_at false room) (IsMark mark.Let ∷ IsName x ∷ from)) n
   unfolding statement_by define_at name_at
-  define_from x from p = passes_bind (type_part from) (λ t. after mark.Equals t.1 >>= (λ from. term_at mark.Semicolon from >>= (λ e. Ok (Define x t.0 e.0, e.1)))) n p (define_passes x n)
+  define_from x from p = passes_bind (type_part from) (λ t. past mark.Equals t.1 >>= (λ from. term_at mark.Semicolon from >>= (λ e. Ok (Define x t.0 e.0, e.1)))) n p (define_passes x n)
 
   define_let : (words : List Word) → length words ≤ n → Passes (statement_by whole (block_at false room) (IsMark mark.Let ∷ words)) n
   unfolding statement_by
   define_let words h = define_goes words n h
 
   define_on : (x : List ℕ) (from : List Word) (t : Option Ty) (next : List Word) → type_part from ≡ Ok (t, IsMark mark.Equals ∷ next) → Passes (term_at mark.Semicolon next) n → Passes (statement_by whole (block_at false room) (IsMark mark.Let ∷ IsName x ∷ from)) n
-  unfolding statement_by define_at name_at after following
+  unfolding statement_by define_at name_at past following
   define_on x from t next q p =
-      passes_same _ _ n (ap (λ r. r >>= (λ t. after mark.Equals t.1 >>= (λ from. term_at mark.Semicolon from >>= (λ e. Ok (Define x t.0 e.0, e.1))))) q)
+      passes_same _ _ n (ap (λ r. r >>= (λ t. past mark.Equals t.1 >>= (λ from. term_at mark.Semicolon from >>= (λ e. Ok (Define x t.0 e.0, e.1))))) q)
       (passes_bind (term_at mark.Semicolon next) (λ e. Ok (Define x t e.0, e.1)) n p (λ e k. k))
 
   at_name : (x : List ℕ) (words : List Word) → length words ≤ n → Passes (statement_by whole (block_at false room) (IsName x ∷ words)) n
@@ -71,14 +71,14 @@ module _ (whole : Bool) (room : ℕ) (n : ℕ) where
 
   put_from : (x : List ℕ) (from : List Word) → Passes (term_at mark.CloseBracket from) n → Passes (statement_by whole (block_at false room) (IsName x ∷ IsMark mark.OpenBracket ∷ from)) n
   unfolding statement_by target_at put_at following
-  put_from x from p = passes_bind (term_at mark.CloseBracket from) (λ i. after mark.Equals i.1 >>= (λ next. term_at mark.Semicolon next >>= (λ e. Ok (Put x i.0 e.0, e.1)))) n p (put_passes x n)
+  put_from x from p = passes_bind (term_at mark.CloseBracket from) (λ i. past mark.Equals i.1 >>= (λ next. term_at mark.Semicolon next >>= (λ e. Ok (Put x i.0 e.0, e.1)))) n p (put_passes x n)
 
-  put_following : (x : List ℕ) (from : List Word) (i : Term) (next : List Word) → term_at mark.CloseBracket from ≡ Ok (i, next) → Passes (after mark.Equals next >>= (λ next. term_at mark.Semicolon next >>= (λ e. Ok (Put x i e.0, e.1)))) n → Passes (statement_by whole (block_at false room) (IsName x ∷ IsMark mark.OpenBracket ∷ from)) n
+  put_following : (x : List ℕ) (from : List Word) (i : Term) (next : List Word) → term_at mark.CloseBracket from ≡ Ok (i, next) → Passes (past mark.Equals next >>= (λ next. term_at mark.Semicolon next >>= (λ e. Ok (Put x i e.0, e.1)))) n → Passes (statement_by whole (block_at false room) (IsName x ∷ IsMark mark.OpenBracket ∷ from)) n
   unfolding statement_by target_at put_at following
-  put_following x from i next q p = passes_same _ _ n (ap (λ r. r >>= (λ i. after mark.Equals i.1 >>= (λ next. term_at mark.Semicolon next >>= (λ e. Ok (Put x i.0 e.0, e.1))))) q) p
+  put_following x from i next q p = passes_same _ _ n (ap (λ r. r >>= (λ i. past mark.Equals i.1 >>= (λ next. term_at mark.Semicolon next >>= (λ e. Ok (Put x i.0 e.0, e.1))))) q) p
 
-  put_valued : (x : List ℕ) (i : Term) (next : List Word) → Passes (term_at mark.Semicolon next) n → Passes (after mark.Equals (IsMark mark.Equals ∷ next) >>= (λ next. term_at mark.Semicolon next >>= (λ e. Ok (Put x i e.0, e.1)))) n
-  unfolding after following
+  put_valued : (x : List ℕ) (i : Term) (next : List Word) → Passes (term_at mark.Semicolon next) n → Passes (past mark.Equals (IsMark mark.Equals ∷ next) >>= (λ next. term_at mark.Semicolon next >>= (λ e. Ok (Put x i e.0, e.1)))) n
+  unfolding past following
   put_valued x i next p = passes_bind (term_at mark.Semicolon next) (λ e. Ok (Put x i e.0, e.1)) n p (λ e k. k)
 
   put_on : (x : List ℕ) (from : List Word) (i : Term) (next : List Word) → Spells 10 from i (IsMark mark.CloseBracket ∷ IsMark mark.Equals ∷ next) → Passes (term_at mark.Semicolon next) n → Passes (statement_by whole (block_at false room) (IsName x ∷ IsMark mark.OpenBracket ∷ from)) n
@@ -93,33 +93,33 @@ module _ (whole : Bool) (room : ℕ) (n : ℕ) where
   choose_on from p = choose_passes (block_at false room) (block_at_goes false room) from n p
 
   -- after the condition of a choice
-  condition_on : (from : List Word) (c : Term) (next : List Word) → Spells 10 from c (IsMark mark.OpenBrace ∷ next) → Passes (block_at false room next >>= (λ b. given {B = Statement} (following mark.Else b.1) (λ rest. after mark.OpenBrace rest >>= (λ from. block_at false room from >>= (λ d. Ok (Choose c b.0 (Else d.0), d.1)))) (Ok (Choose c b.0 Nothing, b.1)))) n → Passes (statement_by whole (block_at false room) (IsMark mark.If ∷ from)) n
+  condition_on : (from : List Word) (c : Term) (next : List Word) → Spells 10 from c (IsMark mark.OpenBrace ∷ next) → Passes (block_at false room next >>= (λ b. given {B = Statement} (following mark.Else b.1) (λ rest. past mark.OpenBrace rest >>= (λ from. block_at false room from >>= (λ d. Ok (Choose c b.0 (Else d.0), d.1)))) (Ok (Choose c b.0 Nothing, b.1)))) n → Passes (statement_by whole (block_at false room) (IsMark mark.If ∷ from)) n
   unfolding statement_by choose_by
-  condition_on from c next d p = passes_same _ _ n (ap (λ r. r >>= (λ c. block_at false room c.1 >>= (λ b. given {B = Statement} (following mark.Else b.1) (λ rest. after mark.OpenBrace rest >>= (λ from. block_at false room from >>= (λ d. Ok (Choose c.0 b.0 (Else d.0), d.1)))) (Ok (Choose c.0 b.0 Nothing, b.1))))) (brace_reads from c next d)) p
+  condition_on from c next d p = passes_same _ _ n (ap (λ r. r >>= (λ c. block_at false room c.1 >>= (λ b. given {B = Statement} (following mark.Else b.1) (λ rest. past mark.OpenBrace rest >>= (λ from. block_at false room from >>= (λ d. Ok (Choose c.0 b.0 (Else d.0), d.1)))) (Ok (Choose c.0 b.0 Nothing, b.1))))) (brace_reads from c next d)) p
 
   block_on : (from : List Word) (c : Term) (next : List Word) → Spells 10 from c (IsMark mark.OpenBrace ∷ next) → Passes (block_at false room next) n → Passes (statement_by whole (block_at false room) (IsMark mark.If ∷ from)) n
   block_on from c next d p = condition_on from c next d (block_passes (block_at false room) (block_at_goes false room) n c next p)
 
   -- after the first block of a choice
-  then_on : (from : List Word) (c : Term) (next : List Word) (b : Block) (rest : List Word) → Spells 10 from c (IsMark mark.OpenBrace ∷ next) → block_at false room next ≡ Ok (b, rest) → Passes (given {B = Statement} (following mark.Else rest) (λ rest. after mark.OpenBrace rest >>= (λ from. block_at false room from >>= (λ d. Ok (Choose c b (Else d.0), d.1)))) (Ok (Choose c b Nothing, rest))) n → Passes (statement_by whole (block_at false room) (IsMark mark.If ∷ from)) n
-  then_on from c next b rest d q p = condition_on from c next d (passes_same _ _ n (ap (λ r. r >>= (λ b. given {B = Statement} (following mark.Else b.1) (λ rest. after mark.OpenBrace rest >>= (λ from. block_at false room from >>= (λ d. Ok (Choose c b.0 (Else d.0), d.1)))) (Ok (Choose c b.0 Nothing, b.1)))) q) p)
+  then_on : (from : List Word) (c : Term) (next : List Word) (b : Block) (rest : List Word) → Spells 10 from c (IsMark mark.OpenBrace ∷ next) → block_at false room next ≡ Ok (b, rest) → Passes (given {B = Statement} (following mark.Else rest) (λ rest. past mark.OpenBrace rest >>= (λ from. block_at false room from >>= (λ d. Ok (Choose c b (Else d.0), d.1)))) (Ok (Choose c b Nothing, rest))) n → Passes (statement_by whole (block_at false room) (IsMark mark.If ∷ from)) n
+  then_on from c next b rest d q p = condition_on from c next d (passes_same _ _ n (ap (λ r. r >>= (λ b. given {B = Statement} (following mark.Else b.1) (λ rest. past mark.OpenBrace rest >>= (λ from. block_at false room from >>= (λ d. Ok (Choose c b.0 (Else d.0), d.1)))) (Ok (Choose c b.0 Nothing, b.1)))) q) p)
 
-  else_on : (c : Term) (b : Block) (rest : List Word) → length rest ≤ n → Passes (given {B = Statement} (following mark.Else (IsMark mark.Else ∷ rest)) (λ rest. after mark.OpenBrace rest >>= (λ from. block_at false room from >>= (λ d. Ok (Choose c b (Else d.0), d.1)))) (Ok (Choose c b Nothing, IsMark mark.Else ∷ rest))) n
+  else_on : (c : Term) (b : Block) (rest : List Word) → length rest ≤ n → Passes (given {B = Statement} (following mark.Else (IsMark mark.Else ∷ rest)) (λ rest. past mark.OpenBrace rest >>= (λ from. block_at false room from >>= (λ d. Ok (Choose c b (Else d.0), d.1)))) (Ok (Choose c b Nothing, IsMark mark.Else ∷ rest))) n
   unfolding following
-  else_on c b rest h = passes_one (after mark.OpenBrace rest) (λ from. block_at false room from >>= (λ d. Ok (Choose c b (Else d.0), d.1))) n (after_passes mark.OpenBrace rest n h)
+  else_on c b rest h = passes_one (past mark.OpenBrace rest) (λ from. block_at false room from >>= (λ d. Ok (Choose c b (Else d.0), d.1))) n (after_passes mark.OpenBrace rest n h)
       (λ from k. passes_bind (block_at false room from) (λ d. Ok (Choose c b (Else d.0), d.1)) n (block_at_goes false room from n k) (λ d i. i))
 
-  other_on : (c : Term) (b : Block) (from : List Word) → Passes (block_at false room from) n → Passes (given {B = Statement} (following mark.Else (IsMark mark.Else ∷ IsMark mark.OpenBrace ∷ from)) (λ rest. after mark.OpenBrace rest >>= (λ from. block_at false room from >>= (λ d. Ok (Choose c b (Else d.0), d.1)))) (Ok (Choose c b Nothing, IsMark mark.Else ∷ IsMark mark.OpenBrace ∷ from))) n
-  unfolding following after
+  other_on : (c : Term) (b : Block) (from : List Word) → Passes (block_at false room from) n → Passes (given {B = Statement} (following mark.Else (IsMark mark.Else ∷ IsMark mark.OpenBrace ∷ from)) (λ rest. past mark.OpenBrace rest >>= (λ from. block_at false room from >>= (λ d. Ok (Choose c b (Else d.0), d.1)))) (Ok (Choose c b Nothing, IsMark mark.Else ∷ IsMark mark.OpenBrace ∷ from))) n
+  unfolding following past
   other_on c b from p = passes_bind (block_at false room from) (λ d. Ok (Choose c b (Else d.0), d.1)) n p (λ d i. i)
 
 leave_on : (room n : ℕ) (words : List Word) → length words ≤ n → Passes (statement_by true (block_at false room) (IsMark mark.Break ∷ words)) n
 unfolding statement_by leave_at
-leave_on room n words h = passes_one (after mark.If words) (λ from. term_at mark.Semicolon from >>= (λ c. Ok (Leave c.0, c.1))) n (after_passes mark.If words n h)
+leave_on room n words h = passes_one (past mark.If words) (λ from. term_at mark.Semicolon from >>= (λ c. Ok (Leave c.0, c.1))) n (after_passes mark.If words n h)
     (λ from l. passes_bind (term_at mark.Semicolon from) (λ c. Ok (Leave c.0, c.1)) n (term_goes mark.Semicolon from n l) (λ c k. k))
 
 leave_by : (room n : ℕ) (from : List Word) → Passes (term_at mark.Semicolon from) n → Passes (statement_by true (block_at false room) (IsMark mark.Break ∷ IsMark mark.If ∷ from)) n
-unfolding statement_by leave_at after following
+unfolding statement_by leave_at past following
 leave_by room n from p = passes_bind (term_at mark.Semicolon from) (λ c. Ok (Leave c.0, c.1)) n p (λ c k. k)
 
 -- a block is read where its end stands

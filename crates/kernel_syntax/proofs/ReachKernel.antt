@@ -7,7 +7,7 @@ use Rattle.kernel_tree.specs.Word.{Word, IsName, IsNumber, IsType, IsMark}
 use Rattle.kernel_tree.specs.Plain.{Term, Parameter, Accumulator, PlainLoop, Program}
 use Rattle.kernel_tree.specs.Grammar.{Spells, SpellsParams, SpellsVars, no_var, var, SpellsLoop}
 use Rattle.kernel_tree.specs.Front.{ParamFronts, no_param, param_colon, param_shape, param_element, param_bracket, whole_param, SomeFronts, in_param, next_param, VarFronts, no_var_yet, var_name, var_colon, var_type, var_equals, var_value, var_end, next_var, LoopFronts, no_loop_yet, loop_name, loop_in, loop_zero, loop_range, loop_bound, loop_brace, loop_block, BlockFronts, BodyFronts, in_vars, in_loop, end_body, in_answer, end_answer, at_brace, end_function, KernelFronts, no_kernel, kernel_name, kernel_paren, in_params, kernel_tail, kernel_type, kernel_brace, in_procedure, in_function}
-use Rattle.kernel_syntax.specs.Reading.{◌>>=◌, given, following, after, name_at, type_at}
+use Rattle.kernel_syntax.specs.Reading.{◌>>=◌, given, following, past, name_at, type_at}
 use Rattle.kernel_syntax.specs.Statements.{term_at}
 use Rattle.kernel_syntax.specs.Headers.{Read, shape_at, param_at, some_at, params_at, var_at, vars_by, vars_at, zero_at, turns_at, loop_at, tail_at, answer_by, kernel_at}
 use Rattle.kernel_syntax.proofs.Sound.{following-is}
@@ -24,19 +24,19 @@ ends_same {A = A} r s n e h = subst (λ (z : Result A ℕ). PassesEnd z n) (sym 
 -- ---- parameters
 
 param_reaches : {words bad : List Word} → ParamFronts words bad → Passes (param_at words) (length bad)
-unfolding param_at name_at after following shape_at type_at
+unfolding param_at name_at past following shape_at type_at
 param_reaches (no_param {bad = bad}) = param_goes bad (length bad) (omega arith)
 param_reaches (param_colon {x = x} {bad = bad}) = colon_passes x bad (length bad) (omega arith)
 param_reaches (param_shape {x = x} {bad = bad}) = shape_passes x bad (length bad) (shape_goes bad (length bad) (omega arith))
-param_reaches (param_element {x = x} {bad = bad}) = passes_bind (type_at bad >>= (λ t. after mark.CloseBracket t.1 >>= (λ rest. Ok (shape.Array t.0, rest)))) (shaped x) (length bad)
-    (passes_bind (type_at bad) (λ t. after mark.CloseBracket t.1 >>= (λ rest. Ok (shape.Array t.0, rest))) (length bad) (type_passes bad (length bad) (omega arith)) (array_passes (length bad))) (λ s k. k)
-param_reaches (param_bracket {x = x} {t = t} {bad = bad}) = passes_bind (after mark.CloseBracket bad >>= (λ rest. Ok (shape.Array t, rest))) (shaped x) (length bad) (array_passes (length bad) (t, bad) (omega arith)) (λ s k. k)
+param_reaches (param_element {x = x} {bad = bad}) = passes_bind (type_at bad >>= (λ t. past mark.CloseBracket t.1 >>= (λ rest. Ok (shape.Array t.0, rest)))) (shaped x) (length bad)
+    (passes_bind (type_at bad) (λ t. past mark.CloseBracket t.1 >>= (λ rest. Ok (shape.Array t.0, rest))) (length bad) (type_passes bad (length bad) (omega arith)) (array_passes (length bad))) (λ s k. k)
+param_reaches (param_bracket {x = x} {t = t} {bad = bad}) = passes_bind (past mark.CloseBracket bad >>= (λ rest. Ok (shape.Array t, rest))) (shaped x) (length bad) (array_passes (length bad) (t, bad) (omega arith)) (λ s k. k)
 param_reaches (whole_param {p = p} {from = from} {bad = bad} d) = passes_is (param_at from) (p, bad) (length bad) (param_reads from p bad d) (omega arith)
 
 some_next : (others : ℕ) (words : List Word) (p : Parameter) (next : List Word) (n : ℕ) → param_at words ≡ Ok (p, IsMark mark.Comma ∷ next) → Passes (some_at others next) n → Passes (some_at (suc others) words) n
-unfolding some_at after following
+unfolding some_at past following
 some_next others words p next n q h =
-    passes_same _ _ n (ap (λ r. r >>= (λ p. given {B = Read (List Parameter)} (following mark.CloseParen p.1) (λ rest. Ok (p.0 ∷ [], rest)) (after mark.Comma p.1 >>= (λ next. some_at others next >>= (λ ps. Ok (p.0 ∷ ps.0, ps.1)))))) q)
+    passes_same _ _ n (ap (λ r. r >>= (λ p. given {B = Read (List Parameter)} (following mark.CloseParen p.1) (λ rest. Ok (p.0 ∷ [], rest)) (past mark.Comma p.1 >>= (λ next. some_at others next >>= (λ ps. Ok (p.0 ∷ ps.0, ps.1)))))) q)
     (passes_bind (some_at others next) (λ ps. Ok (p ∷ ps.0, ps.1)) n h (λ ps k. k))
 
 some_reaches : {others : ℕ} {words bad : List Word} → SomeFronts others words bad → Passes (some_at others words) (length bad)
@@ -71,23 +71,23 @@ var_then k words v next n q p =
 
 module _ (x : List ℕ) (n : ℕ) where
   var_named : (words : List Word) → length words ≤ n → Passes (var_at (IsName x ∷ words)) n
-  unfolding var_at name_at type_at after following
+  unfolding var_at name_at type_at past following
   var_named words h = named_passes x words n h
 
   var_typed : (words : List Word) → length words ≤ n → Passes (var_at (IsName x ∷ IsMark mark.Colon ∷ words)) n
-  unfolding var_at name_at type_at after following
+  unfolding var_at name_at type_at past following
   var_typed words h = type_passes_on x words n h
 
   var_equal : (t : Ty) (words : List Word) → length words ≤ n → Passes (var_at (IsName x ∷ IsMark mark.Colon ∷ IsType t ∷ words)) n
-  unfolding var_at name_at type_at after following
+  unfolding var_at name_at type_at past following
   var_equal t words h = equals_passes x t words n h
 
   var_valued : (t : Ty) (words : List Word) → Passes (term_at mark.Semicolon words) n → Passes (var_at (IsName x ∷ IsMark mark.Colon ∷ IsType t ∷ IsMark mark.Equals ∷ words)) n
-  unfolding var_at name_at type_at after following
+  unfolding var_at name_at type_at past following
   var_valued t words p = value_passes x t words n p
 
 var_is : (x : List ℕ) (t : Ty) (e : Term) (words next : List Word) → term_at mark.Semicolon words ≡ Ok (e, next) → var_at (IsName x ∷ IsMark mark.Colon ∷ IsType t ∷ IsMark mark.Equals ∷ words) ≡ Ok (record { name = x; type = t; init = e }, next)
-unfolding var_at name_at type_at after following
+unfolding var_at name_at type_at past following
 var_is x t e words next q = ap (λ r. r >>= initial x t) q
 
 vars_reach_by : {words bad : List Word} → VarFronts words bad → (k : ℕ) → length words < k → Passes (vars_by k words) (length bad)
@@ -118,27 +118,27 @@ loop_first words n p = passes_bind (turns_at words) (λ l. Ok (Some l.0, l.1)) n
 
 module _ (i : List ℕ) (n : ℕ) where
   turns_in : (words : List Word) → length words ≤ n → Passes (turns_at (IsName i ∷ words)) n
-  unfolding turns_at name_at zero_at after following
+  unfolding turns_at name_at zero_at past following
   turns_in words h = index_passes n (i, words) h
 
   turns_zero : (words : List Word) → length words ≤ n → Passes (turns_at (IsName i ∷ IsMark mark.In ∷ words)) n
-  unfolding turns_at name_at zero_at after following
+  unfolding turns_at name_at zero_at past following
   turns_zero words h = zero_of_passes i n words h
 
   turns_range : (words : List Word) → length words ≤ n → Passes (turns_at (IsName i ∷ IsMark mark.In ∷ IsNumber 0 ∷ words)) n
-  unfolding turns_at name_at zero_at after following
+  unfolding turns_at name_at zero_at past following
   turns_range words h = range_passes i n words h
 
   turns_bound : (words : List Word) → length words ≤ n → Passes (turns_at (IsName i ∷ IsMark mark.In ∷ IsNumber 0 ∷ IsMark mark.Range ∷ words)) n
-  unfolding turns_at name_at zero_at after following
+  unfolding turns_at name_at zero_at past following
   turns_bound words h = end_passes i n words h
 
   turns_brace : (b : List ℕ) (words : List Word) → length words ≤ n → Passes (turns_at (IsName i ∷ IsMark mark.In ∷ IsNumber 0 ∷ IsMark mark.Range ∷ IsName b ∷ words)) n
-  unfolding turns_at name_at zero_at after following
+  unfolding turns_at name_at zero_at past following
   turns_brace b words h = bound_passes i n (b, words) h
 
   turns_block : (b : List ℕ) {words bad : List Word} → BlockFronts true words bad → length bad ≤ n → Passes (turns_at (IsName i ∷ IsMark mark.In ∷ IsNumber 0 ∷ IsMark mark.Range ∷ IsName b ∷ IsMark mark.OpenBrace ∷ words)) n
-  unfolding turns_at name_at zero_at after following
+  unfolding turns_at name_at zero_at past following
   turns_block b {words = words} {bad = bad} f h = inside_passes i b words n (passes_more _ (length bad) n h (block_front_reaches f (length words) (omega arith)))
 
 loop_reaches : {words bad : List Word} → LoopFronts words bad → Passes (loop_at words) (length bad)
@@ -181,18 +181,18 @@ module _ (x : List ℕ) (ps : List Parameter) (t : Option Ty) (body : List Word)
 
 module _ (x : List ℕ) (ps : List Parameter) (body : List Word) (n : ℕ) (vs : List Accumulator) (next : List Word) (v : SpellsVars body vs next) (l : Option PlainLoop) where
   past_close : (bad : List Word) → SpellsLoop next l (IsMark mark.CloseBrace ∷ bad) → length bad ≤ n → PassesEnd (by_tail x ps (None, body)) n
-  unfolding answer_by after following
+  unfolding answer_by past following
   past_close bad d h = past_loop x ps None body n vs next v l (IsMark mark.CloseBrace ∷ bad) d refl refl (answer_ends x ps vs l n (None, bad) h)
 
-  past_return : (t : Ty) (last : List Word) → SpellsLoop next l (IsMark mark.Return ∷ last) → Passes (term_at mark.Semicolon last >>= (λ e. after mark.CloseBrace e.1 >>= returned t e.0)) n → PassesEnd (by_tail x ps (Some t, body)) n
-  unfolding answer_by after following
-  past_return t last d p = past_loop x ps (Some t) body n vs next v l (IsMark mark.Return ∷ last) d refl refl (ends_bind (term_at mark.Semicolon last >>= (λ e. after mark.CloseBrace e.1 >>= returned t e.0)) (by_answer x ps vs l) n p (answer_ends x ps vs l n))
+  past_return : (t : Ty) (last : List Word) → SpellsLoop next l (IsMark mark.Return ∷ last) → Passes (term_at mark.Semicolon last >>= (λ e. past mark.CloseBrace e.1 >>= returned t e.0)) n → PassesEnd (by_tail x ps (Some t, body)) n
+  unfolding answer_by past following
+  past_return t last d p = past_loop x ps (Some t) body n vs next v l (IsMark mark.Return ∷ last) d refl refl (ends_bind (term_at mark.Semicolon last >>= (λ e. past mark.CloseBrace e.1 >>= returned t e.0)) (by_answer x ps vs l) n p (answer_ends x ps vs l n))
 
-  past_value : (t : Ty) (last : List Word) (e : Term) (rest : List Word) → SpellsLoop next l (IsMark mark.Return ∷ last) → Spells 10 last e (IsMark mark.Semicolon ∷ rest) → Passes (after mark.CloseBrace rest >>= returned t e) n → PassesEnd (by_tail x ps (Some t, body)) n
-  past_value t last e rest d s p = past_return t last d (passes_same _ _ n (ap (λ r. r >>= (λ e. after mark.CloseBrace e.1 >>= returned t e.0)) (semicolon_reads last e rest s)) p)
+  past_value : (t : Ty) (last : List Word) (e : Term) (rest : List Word) → SpellsLoop next l (IsMark mark.Return ∷ last) → Spells 10 last e (IsMark mark.Semicolon ∷ rest) → Passes (past mark.CloseBrace rest >>= returned t e) n → PassesEnd (by_tail x ps (Some t, body)) n
+  past_value t last e rest d s p = past_return t last d (passes_same _ _ n (ap (λ r. r >>= (λ e. past mark.CloseBrace e.1 >>= returned t e.0)) (semicolon_reads last e rest s)) p)
 
   past_end : (t : Ty) (last : List Word) (e : Term) (rest : List Word) → SpellsLoop next l (IsMark mark.Return ∷ last) → Spells 10 last e (IsMark mark.Semicolon ∷ IsMark mark.CloseBrace ∷ rest) → length rest ≤ n → PassesEnd (by_tail x ps (Some t, body)) n
-  unfolding after following
+  unfolding past following
   past_end t last e rest d s h = past_value t last e (IsMark mark.CloseBrace ∷ rest) d s h
 
 none_returns : (t : Option Ty) → returns t ≡ false → t ≡ None
@@ -228,7 +228,7 @@ module _ (x : List ℕ) (ps : List Parameter) (t : Option Ty) where
 
 module _ (x : List ℕ) (from : List Word) (n : ℕ) where
   header : PassesEnd (by_inside x from) n → PassesEnd (kernel_at (IsMark mark.Kernel ∷ IsName x ∷ IsMark mark.OpenParen ∷ from)) n
-  unfolding kernel_at name_at after following
+  unfolding kernel_at name_at past following
   header p = p
 
   past_params : (ps : List Parameter) (rest : List Word) → SpellsParams from ps rest → PassesEnd (by_params x (ps, rest)) n → PassesEnd (kernel_at (IsMark mark.Kernel ∷ IsName x ∷ IsMark mark.OpenParen ∷ from)) n
@@ -236,27 +236,27 @@ module _ (x : List ℕ) (from : List Word) (n : ℕ) where
 
   module _ (ps : List Parameter) where
     at_arrow : (words : List Word) → length words ≤ n → PassesEnd (by_params x (ps, IsMark mark.Arrow ∷ words)) n
-    unfolding tail_at after following
-    at_arrow words h = ends_bind (type_at words >>= (λ t. after mark.OpenBrace t.1 >>= opened t.0)) (by_tail x ps) n (type_opens words n h) (tail_ends x ps n)
+    unfolding tail_at past following
+    at_arrow words h = ends_bind (type_at words >>= (λ t. past mark.OpenBrace t.1 >>= opened t.0)) (by_tail x ps) n (type_opens words n h) (tail_ends x ps n)
 
     at_type : (t : Ty) (words : List Word) → length words ≤ n → PassesEnd (by_params x (ps, IsMark mark.Arrow ∷ IsType t ∷ words)) n
-    unfolding tail_at type_at after following
-    at_type t words h = ends_bind (after mark.OpenBrace words >>= opened t) (by_tail x ps) n (passes_one (after mark.OpenBrace words) (opened t) n (after_passes mark.OpenBrace words n h) (λ body k. k)) (tail_ends x ps n)
+    unfolding tail_at type_at past following
+    at_type t words h = ends_bind (past mark.OpenBrace words >>= opened t) (by_tail x ps) n (passes_one (past mark.OpenBrace words) (opened t) n (after_passes mark.OpenBrace words n h) (λ body k. k)) (tail_ends x ps n)
 
     at_body : (body : List Word) → PassesEnd (by_tail x ps (None, body)) n → PassesEnd (by_params x (ps, IsMark mark.OpenBrace ∷ body)) n
     unfolding tail_at following
     at_body body p = p
 
     at_typed_body : (t : Ty) (body : List Word) → PassesEnd (by_tail x ps (Some t, body)) n → PassesEnd (by_params x (ps, IsMark mark.Arrow ∷ IsType t ∷ IsMark mark.OpenBrace ∷ body)) n
-    unfolding tail_at type_at after following
+    unfolding tail_at type_at past following
     at_typed_body t body p = p
 
 first_word : (words : List Word) (n : ℕ) → length words ≤ n → PassesEnd (kernel_at (IsMark mark.Kernel ∷ words)) n
-unfolding kernel_at after following
+unfolding kernel_at past following
 first_word words n h = kernel_ends n words h
 
 second_word : (x : List ℕ) (words : List Word) (n : ℕ) → length words ≤ n → PassesEnd (kernel_at (IsMark mark.Kernel ∷ IsName x ∷ words)) n
-unfolding kernel_at name_at after following
+unfolding kernel_at name_at past following
 second_word x words n h = name_ends n (x, words) h
 
 kernel_reaches : {words bad : List Word} → KernelFronts words bad → PassesEnd (kernel_at words) (length bad)

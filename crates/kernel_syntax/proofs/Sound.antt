@@ -20,7 +20,8 @@ use Rattle.kernel_tree.specs.Word.{Word, IsName, IsNumber, IsType, IsCompare, Is
 use Rattle.kernel_tree.specs.Plain.{Term, Literal, Variable, Element, Unary, Operation, Shift, Conversion, Choice, Comparison, same}
 use Rattle.kernel_tree.specs.Grammar.{Spells, number, name, element, group, pair, absolute, choice, negative, prefix, up, conversion, shift, operation, comparison, operator_of, level_of, level_of_dual, joined, opening_of_mark, signed, number_at, number_following}
 use Rattle.kernel_tree.proofs.Marks.{same-true}
-use Rattle.kernel_syntax.specs.Reading.{◌>>=◌, given, needed, Outcome, mark_at, name_front, type_front, update_front, following, after, name_at, type_at, count_at, operator_at, by_operator, more, chain_at, term_before, name_by, pair_by, absolute_by, choice_by, signed_by, opened_by, unary_by, unary_at}
+use Rattle.kernel_syntax.specs.Reading.{◌>>=◌, given, needed, Outcome, mark_at, name_front, type_front, update_front, following, past, name_at, type_at, count_at, operator_at, by_operator, more, chain_at, term_before, name_by, pair_by, absolute_by, choice_by, signed_by, opened_by, unary_by, unary_at}
+pub use Rattle.kernel_tree.proofs.OneTerm.{some_is}
 
 pub bind_ok : {A B : Type 0} (r : Result A ℕ) (f : A → Result B ℕ) (y : B) → (r >>= f) ≡ Ok y → (x : A) × (r ≡ Ok x) × (f x ≡ Ok y)
 bind_ok (Ok x) f y e = (x, refl, e)
@@ -34,9 +35,6 @@ given_is (Some x) f b y n e = (x, refl, e)
 pub cond_is : {B : Type 0} (t : Bool) (a b y : B) → (b ≡ y → ⊥) → cond t a b ≡ y → (t ≡ true) × (a ≡ y)
 cond_is true a b y n e = (refl, e)
 cond_is false a b y n e = absurd (n e)
-
-pub some_is : {A : Type 0} (x y : A) → Some x ≡ Some y → x ≡ y
-some_is x y e = cc
 
 pub ok_is : {A : Type 0} (x y : A) → ◌≡◌ {A = Result A ℕ} (Ok x) (Ok y) → x ≡ y
 ok_is x y e = cc
@@ -109,8 +107,8 @@ following-is m words rest e =
     let r-is : g.0.1 ≡ rest = some_is g.0.1 rest h.1 in
     cc
 
-pub after-is : (m : Mark) (words rest : List Word) → after m words ≡ Ok rest → words ≡ IsMark m ∷ rest
-unfolding after
+pub after-is : (m : Mark) (words rest : List Word) → past m words ≡ Ok rest → words ≡ IsMark m ∷ rest
+unfolding past
 after-is m words rest e = following-is m words rest (needed_is (following m words) (length words) rest e)
 
 pub name-is : (words : List Word) (x : List ℕ × List Word) → name_at words ≡ Ok x → words ≡ IsName x.0 ∷ x.1
@@ -220,8 +218,8 @@ chain_spells unary sound (suc level) words e rest q =
 pub before_spells : (read : List Word → Outcome) → Sound 10 read → (m : Mark) (words : List Word) (x : Term × List Word) → term_before read m words ≡ Ok x → Spells 10 words x.0 (IsMark m ∷ x.1)
 unfolding term_before
 before_spells read sound m words x q =
-    let b = bind_ok (read words) (λ e. after m e.1 >>= (λ rest. Ok (e.0, rest))) x q in
-    let a = bind_ok (after m b.0.1) (λ rest. Ok (b.0.0, rest)) x b.2 in
+    let b = bind_ok (read words) (λ e. past m e.1 >>= (λ rest. Ok (e.0, rest))) x q in
+    let a = bind_ok (past m b.0.1) (λ rest. Ok (b.0.0, rest)) x b.2 in
     let p = ok_is (b.0.0, a.0) x a.2 in
     let w : b.0.1 ≡ IsMark m ∷ a.0 = after-is m b.0.1 a.0 a.1 in
     subst (λ (x : Term × List Word). Spells 10 words x.0 (IsMark m ∷ x.1)) p (until_spells 10 words b.0.0 b.0.1 (IsMark m ∷ a.0) w (sound words b.0.0 b.0.1 b.1))
@@ -234,13 +232,13 @@ module _ (read inner : List Word → Outcome) (whole : Sound 10 read) (sound : S
       let w : IsName x ∷ words ≡ IsName x ∷ IsMark mark.OpenBracket ∷ from = ap (λ (z : List Word). IsName x ∷ z) (following-is mark.OpenBracket words from p) in
       from_spells 0 (IsName x ∷ IsMark mark.OpenBracket ∷ from) (IsName x ∷ words) e rest w (first_spells 0 _ (Element x b.0.0, b.0.1) (e, rest) (ok_is (Element x b.0.0, b.0.1) (e, rest) b.2) (element (before_spells read whole mark.CloseBracket from b.0 b.1)))
 
-  called : (m : Mark) (words from : List Word) → after mark.OpenParen words ≡ Ok from → IsMark m ∷ words ≡ IsMark m ∷ IsMark mark.OpenParen ∷ from
+  called : (m : Mark) (words from : List Word) → past mark.OpenParen words ≡ Ok from → IsMark m ∷ words ≡ IsMark m ∷ IsMark mark.OpenParen ∷ from
   called m words from p = ap (λ (z : List Word). IsMark m ∷ z) (after-is mark.OpenParen words from p)
 
   pair_spells : (m : Mark) (op : BinaryOp) → opening_of_mark m ≡ Some (opening.Pair op) → (words : List Word) (e : Term) (rest : List Word) → pair_by read op words ≡ Ok (e, rest) → Spells 0 (IsMark m ∷ words) e rest
   unfolding pair_by
   pair_spells m op o words e rest q =
-      let f = bind_ok (after mark.OpenParen words) (λ from. term_before read mark.Comma from >>= (λ a. term_before read mark.CloseParen a.1 >>= (λ b. Ok (Operation op a.0 b.0, b.1)))) (e, rest) q in
+      let f = bind_ok (past mark.OpenParen words) (λ from. term_before read mark.Comma from >>= (λ a. term_before read mark.CloseParen a.1 >>= (λ b. Ok (Operation op a.0 b.0, b.1)))) (e, rest) q in
       let a = bind_ok (term_before read mark.Comma f.0) (λ a. term_before read mark.CloseParen a.1 >>= (λ b. Ok (Operation op a.0 b.0, b.1))) (e, rest) f.2 in
       let b = bind_ok (term_before read mark.CloseParen a.0.1) (λ b. Ok (Operation op a.0.0 b.0, b.1)) (e, rest) a.2 in
       from_spells 0 _ (IsMark m ∷ words) e rest (called m words f.0 f.1) (first_spells 0 _ (Operation op a.0.0 b.0.0, b.0.1) (e, rest) (ok_is (Operation op a.0.0 b.0.0, b.0.1) (e, rest) b.2) (pair o (before_spells read whole mark.Comma f.0 a.0 a.1) (before_spells read whole mark.CloseParen a.0.1 b.0 b.1)))
@@ -248,14 +246,14 @@ module _ (read inner : List Word → Outcome) (whole : Sound 10 read) (sound : S
   absolute_spells : (words : List Word) (e : Term) (rest : List Word) → absolute_by read words ≡ Ok (e, rest) → Spells 0 (IsMark mark.Abs ∷ words) e rest
   unfolding absolute_by
   absolute_spells words e rest q =
-      let f = bind_ok (after mark.OpenParen words) (λ from. term_before read mark.CloseParen from >>= (λ a. Ok (Unary unary.Abs a.0, a.1))) (e, rest) q in
+      let f = bind_ok (past mark.OpenParen words) (λ from. term_before read mark.CloseParen from >>= (λ a. Ok (Unary unary.Abs a.0, a.1))) (e, rest) q in
       let a = bind_ok (term_before read mark.CloseParen f.0) (λ a. Ok (Unary unary.Abs a.0, a.1)) (e, rest) f.2 in
       from_spells 0 _ (IsMark mark.Abs ∷ words) e rest (called mark.Abs words f.0 f.1) (first_spells 0 _ (Unary unary.Abs a.0.0, a.0.1) (e, rest) (ok_is (Unary unary.Abs a.0.0, a.0.1) (e, rest) a.2) (absolute (before_spells read whole mark.CloseParen f.0 a.0 a.1)))
 
   choice_spells : (words : List Word) (e : Term) (rest : List Word) → choice_by read words ≡ Ok (e, rest) → Spells 0 (IsMark mark.Select ∷ words) e rest
   unfolding choice_by
   choice_spells words e rest q =
-      let f = bind_ok (after mark.OpenParen words) (λ from. term_before read mark.Comma from >>= (λ c. term_before read mark.Comma c.1 >>= (λ a. term_before read mark.CloseParen a.1 >>= (λ b. Ok (Choice c.0 a.0 b.0, b.1))))) (e, rest) q in
+      let f = bind_ok (past mark.OpenParen words) (λ from. term_before read mark.Comma from >>= (λ c. term_before read mark.Comma c.1 >>= (λ a. term_before read mark.CloseParen a.1 >>= (λ b. Ok (Choice c.0 a.0 b.0, b.1))))) (e, rest) q in
       let c = bind_ok (term_before read mark.Comma f.0) (λ c. term_before read mark.Comma c.1 >>= (λ a. term_before read mark.CloseParen a.1 >>= (λ b. Ok (Choice c.0 a.0 b.0, b.1)))) (e, rest) f.2 in
       let a = bind_ok (term_before read mark.Comma c.0.1) (λ a. term_before read mark.CloseParen a.1 >>= (λ b. Ok (Choice c.0.0 a.0 b.0, b.1))) (e, rest) c.2 in
       let b = bind_ok (term_before read mark.CloseParen a.0.1) (λ b. Ok (Choice c.0.0 a.0.0 b.0, b.1)) (e, rest) a.2 in

@@ -15,7 +15,7 @@ use Rattle.kernel_tree.specs.Word.{Word, IsName, IsNumber, IsType, IsCompare, Is
 use Rattle.kernel_tree.specs.Plain.{Term, Literal, Variable, Element, Unary, Operation, Shift, Conversion, Choice, Comparison}
 use Rattle.kernel_tree.specs.Grammar.{up, operation, conversion, shift, joined, opening_of_mark, signed, number_at}
 use Rattle.kernel_tree.specs.Front.{Fronts, nothing, above, in_element, in_group, at_pair, first_pair, second_pair, at_absolute, in_absolute, at_choice, first_choice, second_choice, third_choice, in_sign, at_operator, at_type, at_count, in_operation, in_comparison}
-use Rattle.kernel_syntax.specs.Reading.{◌>>=◌, given, needed, Outcome, following, after, name_at, type_at, count_at, operator_at, by_operator, more, chain_at, term_before, name_by, pair_by, absolute_by, choice_by, signed_by, opened_by, unary_by, unary_at}
+use Rattle.kernel_syntax.specs.Reading.{◌>>=◌, given, needed, Outcome, following, past, name_at, type_at, count_at, operator_at, by_operator, more, chain_at, term_before, name_by, pair_by, absolute_by, choice_by, signed_by, opened_by, unary_by, unary_at}
 use Rattle.kernel_syntax.proofs.Sound.{after-is, following-is, operator-is, count-is, type-is, Sound, Left, until_spells, before_spells, joined_is_no_8, other_is_no_8, chain_spells, unary_spells}
 
 -- reading stopped with so many words left, and up to there stands a front
@@ -39,8 +39,8 @@ needed_err : {A : Type 0} (o : Option A) (m n : ℕ) → needed o m ≡ Err n �
 needed_err None m n e = err_is m n e
 needed_err (Some x) m n e = absurd (ok_not_err x n e)
 
-pub after-stops : (m : Mark) (words : List Word) (n : ℕ) → after m words ≡ Err n → length words ≡ n
-unfolding after
+pub after-stops : (m : Mark) (words : List Word) (n : ℕ) → past m words ≡ Err n → length words ≡ n
+unfolding past
 after-stops m words n e = needed_err (following m words) (length words) n e
 
 pub name-stops : (words : List Word) (n : ℕ) → name_at words ≡ Err n → length words ≡ n
@@ -111,8 +111,8 @@ chain_stops unary sound stops (suc level) words n q =
 pub before_stops : (read : List Word → Outcome) → Sound 10 read → Stops 10 read → (m : Mark) (words : List Word) (n : ℕ) → term_before read m words ≡ Err n → Stuck (Fronts 10) words n
 unfolding term_before
 before_stops read sound stops m words n q =
-    stuck_bind (read words) (λ e. after m e.1 >>= (λ rest. Ok (e.0, rest))) n q (stops words n)
-    (λ e r f. stuck_bind (after m e.1) (λ rest. Ok (e.0, rest)) n f
+    stuck_bind (read words) (λ e. past m e.1 >>= (λ rest. Ok (e.0, rest))) n q (stops words n)
+    (λ e r f. stuck_bind (past m e.1) (λ rest. Ok (e.0, rest)) n f
     (λ g. record { bad = e.1; front = at_operator (sound words e.0 e.1 r); place = after-stops m e.1 n g })
     (λ rest s g. absurd (ok_not_err (e.0, rest) n g)))
 
@@ -129,13 +129,13 @@ module _ (read inner : List Word → Outcome) (whole : Sound 10 read) (stops : S
       (λ i r f. absurd (ok_not_err (Element x i.0, i.1) n f)))
 
   -- after a mark, an open parenthesis
-  called : (m : Mark) (words from : List Word) (n : ℕ) → after mark.OpenParen words ≡ Ok from → Stuck (Fronts 0) (IsMark m ∷ IsMark mark.OpenParen ∷ from) n → Stuck (Fronts 0) (IsMark m ∷ words) n
+  called : (m : Mark) (words from : List Word) (n : ℕ) → past mark.OpenParen words ≡ Ok from → Stuck (Fronts 0) (IsMark m ∷ IsMark mark.OpenParen ∷ from) n → Stuck (Fronts 0) (IsMark m ∷ words) n
   called m words from n p h = stuck_from (Fronts 0) _ _ n (ap (λ (z : List Word). IsMark m ∷ z) (after-is mark.OpenParen words from p)) h
 
   pair_stops : (m : Mark) (op : BinaryOp) → opening_of_mark m ≡ Some (opening.Pair op) → (words : List Word) (n : ℕ) → pair_by read op words ≡ Err n → Stuck (Fronts 0) (IsMark m ∷ words) n
   unfolding pair_by
   pair_stops m op o words n q =
-      stuck_bind (after mark.OpenParen words) (λ from. term_before read mark.Comma from >>= (λ a. term_before read mark.CloseParen a.1 >>= (λ b. Ok (Operation op a.0 b.0, b.1)))) n q
+      stuck_bind (past mark.OpenParen words) (λ from. term_before read mark.Comma from >>= (λ a. term_before read mark.CloseParen a.1 >>= (λ b. Ok (Operation op a.0 b.0, b.1)))) n q
       (λ f. record { bad = words; front = at_pair o; place = after-stops mark.OpenParen words n f })
       (λ from p f. called m words from n p (stuck_bind (term_before read mark.Comma from) (λ a. term_before read mark.CloseParen a.1 >>= (λ b. Ok (Operation op a.0 b.0, b.1))) n f
       (λ g. let s = before mark.Comma from n g in record { bad = s.bad; front = first_pair o s.front; place = s.place })
@@ -146,7 +146,7 @@ module _ (read inner : List Word → Outcome) (whole : Sound 10 read) (stops : S
   absolute_stops : (words : List Word) (n : ℕ) → absolute_by read words ≡ Err n → Stuck (Fronts 0) (IsMark mark.Abs ∷ words) n
   unfolding absolute_by
   absolute_stops words n q =
-      stuck_bind (after mark.OpenParen words) (λ from. term_before read mark.CloseParen from >>= (λ a. Ok (Unary unary.Abs a.0, a.1))) n q
+      stuck_bind (past mark.OpenParen words) (λ from. term_before read mark.CloseParen from >>= (λ a. Ok (Unary unary.Abs a.0, a.1))) n q
       (λ f. record { bad = words; front = at_absolute; place = after-stops mark.OpenParen words n f })
       (λ from p f. called mark.Abs words from n p (stuck_bind (term_before read mark.CloseParen from) (λ a. Ok (Unary unary.Abs a.0, a.1)) n f
       (λ g. let s = before mark.CloseParen from n g in record { bad = s.bad; front = in_absolute s.front; place = s.place })
@@ -155,7 +155,7 @@ module _ (read inner : List Word → Outcome) (whole : Sound 10 read) (stops : S
   choice_stops : (words : List Word) (n : ℕ) → choice_by read words ≡ Err n → Stuck (Fronts 0) (IsMark mark.Select ∷ words) n
   unfolding choice_by
   choice_stops words n q =
-      stuck_bind (after mark.OpenParen words) (λ from. term_before read mark.Comma from >>= (λ c. term_before read mark.Comma c.1 >>= (λ a. term_before read mark.CloseParen a.1 >>= (λ b. Ok (Choice c.0 a.0 b.0, b.1))))) n q
+      stuck_bind (past mark.OpenParen words) (λ from. term_before read mark.Comma from >>= (λ c. term_before read mark.Comma c.1 >>= (λ a. term_before read mark.CloseParen a.1 >>= (λ b. Ok (Choice c.0 a.0 b.0, b.1))))) n q
       (λ f. record { bad = words; front = at_choice; place = after-stops mark.OpenParen words n f })
       (λ from p f. called mark.Select words from n p (stuck_bind (term_before read mark.Comma from) (λ c. term_before read mark.Comma c.1 >>= (λ a. term_before read mark.CloseParen a.1 >>= (λ b. Ok (Choice c.0 a.0 b.0, b.1)))) n f
       (λ g. let s = before mark.Comma from n g in record { bad = s.bad; front = first_choice s.front; place = s.place })

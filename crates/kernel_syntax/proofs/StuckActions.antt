@@ -8,14 +8,14 @@ use Rattle.kernel_tree.specs.Word.{Word, IsName, IsNumber, IsType, IsCompare, Is
 use Rattle.kernel_tree.specs.Plain.{Term, Define, Put, Update, Choose, Leave, Block, Done, Then, Nothing, Else}
 use Rattle.kernel_tree.specs.Grammar.{Spells, SpellsType, SpellsBlock, beginning_of_mark}
 use Rattle.kernel_tree.specs.Front.{Fronts, TypeFronts, at_type_word, ActionFronts, no_action, define_name, define_type, define_equals, define_value, at_target, put_index, put_equals, put_value, update_value, choose_condition, choose_block, else_brace, else_block, leave_if, leave_condition, BlockFronts, in_action, next_action}
-use Rattle.kernel_syntax.specs.Reading.{◌>>=◌, given, following, after, name_at, type_at, update_front, unary_at, chain_at}
+use Rattle.kernel_syntax.specs.Reading.{◌>>=◌, given, following, past, name_at, type_at, update_front, unary_at, chain_at}
 use Rattle.kernel_syntax.specs.Statements.{Statement, Statements, term_at, type_part, define_at, put_at, update_at, target_at, leave_at, choose_by, begun_by, statement_by, block_by, block_at}
 use Rattle.kernel_syntax.proofs.Sound.{after-is, following-is, name-is, type-is, update-is, reads_spells}
 use Rattle.kernel_syntax.proofs.ActionSound.{term_spells, type_part_spells, SoundBlock, statement_spells, block_spells}
 use Rattle.kernel_syntax.proofs.Stuck.{Stuck, err_is, ok_not_err, stuck_bind, stuck_from, after-stops, name-stops, type-stops, before_stops, reads_stops}
 
 -- what was read stands in front
-pub past_mark : (Front : List Word → List Word → Type 0) (before : List Word → List Word) (m : Mark) (words from : List Word) (n : ℕ) → after m words ≡ Ok from → Stuck Front (before (IsMark m ∷ from)) n → Stuck Front (before words) n
+pub past_mark : (Front : List Word → List Word → Type 0) (before : List Word → List Word) (m : Mark) (words from : List Word) (n : ℕ) → past m words ≡ Ok from → Stuck Front (before (IsMark m ∷ from)) n → Stuck Front (before words) n
 past_mark Front before m words from n p h = stuck_from Front _ _ n (ap before (after-is m words from p)) h
 
 pub past_following : (Front : List Word → List Word → Type 0) (before : List Word → List Word) (m : Mark) (words from : List Word) (n : ℕ) → following m words ≡ Some from → Stuck Front (before (IsMark m ∷ from)) n → Stuck Front (before words) n
@@ -47,13 +47,13 @@ type_part_stops words n q = type_stops words n (following mark.Colon words) refl
 define_stops : (whole : Bool) (words : List Word) (n : ℕ) → define_at words ≡ Err n → Stuck (ActionFronts whole) (IsMark mark.Let ∷ words) n
 unfolding define_at
 define_stops whole words n q =
-    stuck_bind (name_at words) (λ x. type_part x.1 >>= (λ t. after mark.Equals t.1 >>= (λ from. term_at mark.Semicolon from >>= (λ e. Ok (Define x.0 t.0 e.0, e.1))))) n q
+    stuck_bind (name_at words) (λ x. type_part x.1 >>= (λ t. past mark.Equals t.1 >>= (λ from. term_at mark.Semicolon from >>= (λ e. Ok (Define x.0 t.0 e.0, e.1))))) n q
     (λ f. record { bad = words; front = define_name; place = name-stops words n f })
     (λ x r f. past_name (ActionFronts whole) (λ z. IsMark mark.Let ∷ z) words x n r
-    (stuck_bind (type_part x.1) (λ t. after mark.Equals t.1 >>= (λ from. term_at mark.Semicolon from >>= (λ e. Ok (Define x.0 t.0 e.0, e.1)))) n f
+    (stuck_bind (type_part x.1) (λ t. past mark.Equals t.1 >>= (λ from. term_at mark.Semicolon from >>= (λ e. Ok (Define x.0 t.0 e.0, e.1)))) n f
     (λ g. let s = type_part_stops x.1 n g in record { bad = s.bad; front = define_type s.front; place = s.place })
     (λ t u g. let ty = type_part_spells x.1 t u in
-    stuck_bind (after mark.Equals t.1) (λ from. term_at mark.Semicolon from >>= (λ e. Ok (Define x.0 t.0 e.0, e.1))) n g
+    stuck_bind (past mark.Equals t.1) (λ from. term_at mark.Semicolon from >>= (λ e. Ok (Define x.0 t.0 e.0, e.1))) n g
     (λ h. record { bad = t.1; front = define_equals ty; place = after-stops mark.Equals t.1 n h })
     (λ from v h. stuck_bind (term_at mark.Semicolon from) (λ e. Ok (Define x.0 t.0 e.0, e.1)) n h
     (λ i. let s = term_stops mark.Semicolon from n i in record { bad = s.bad; front = define_value (subst (λ (z : List Word). SpellsType x.1 t.0 z) (after-is mark.Equals t.1 from v) ty) s.front; place = s.place })
@@ -62,10 +62,10 @@ define_stops whole words n q =
 put_stops : (whole : Bool) (x : List ℕ) (words : List Word) (n : ℕ) → put_at x words ≡ Err n → Stuck (ActionFronts whole) (IsName x ∷ IsMark mark.OpenBracket ∷ words) n
 unfolding put_at
 put_stops whole x words n q =
-    stuck_bind (term_at mark.CloseBracket words) (λ i. after mark.Equals i.1 >>= (λ next. term_at mark.Semicolon next >>= (λ e. Ok (Put x i.0 e.0, e.1)))) n q
+    stuck_bind (term_at mark.CloseBracket words) (λ i. past mark.Equals i.1 >>= (λ next. term_at mark.Semicolon next >>= (λ e. Ok (Put x i.0 e.0, e.1)))) n q
     (λ f. let s = term_stops mark.CloseBracket words n f in record { bad = s.bad; front = put_index s.front; place = s.place })
     (λ i r f. let index = term_spells mark.CloseBracket words i r in
-    stuck_bind (after mark.Equals i.1) (λ next. term_at mark.Semicolon next >>= (λ e. Ok (Put x i.0 e.0, e.1))) n f
+    stuck_bind (past mark.Equals i.1) (λ next. term_at mark.Semicolon next >>= (λ e. Ok (Put x i.0 e.0, e.1))) n f
     (λ g. record { bad = i.1; front = put_equals index; place = after-stops mark.Equals i.1 n g })
     (λ next t g. stuck_bind (term_at mark.Semicolon next) (λ e. Ok (Put x i.0 e.0, e.1)) n g
     (λ h. let s = term_stops mark.Semicolon next n h in record { bad = s.bad; front = put_value (subst (λ (z : List Word). Spells 10 words i.0 (IsMark mark.CloseBracket ∷ z)) (after-is mark.Equals i.1 next t) index) s.front; place = s.place })
@@ -97,7 +97,7 @@ leave_stops : (whole : Bool) (words : List Word) (n : ℕ) → leave_at whole wo
 unfolding leave_at
 leave_stops false words n q = nowhere false (IsMark mark.Break) words n q
 leave_stops true words n q =
-    stuck_bind (after mark.If words) (λ from. term_at mark.Semicolon from >>= (λ c. Ok (Leave c.0, c.1))) n q
+    stuck_bind (past mark.If words) (λ from. term_at mark.Semicolon from >>= (λ c. Ok (Leave c.0, c.1))) n q
     (λ f. record { bad = words; front = leave_if; place = after-stops mark.If words n f })
     (λ from r f. past_mark (ActionFronts true) (λ z. IsMark mark.Break ∷ z) mark.If words from n r
     (stuck_bind (term_at mark.Semicolon from) (λ c. Ok (Leave c.0, c.1)) n f
@@ -108,11 +108,11 @@ abbrev StopsBlock : Bool → (List Word → Statements) → Type 0
 StopsBlock whole block = (words : List Word) (n : ℕ) → block words ≡ Err n → Stuck (BlockFronts whole) words n
 
 module _ (block : List Word → Statements) (sound : SoundBlock false block) (stops : StopsBlock false block) (whole : Bool) where
-  else_stops : (words from : List Word) (c : Term) (b : Block) (next : List Word) (n : ℕ) → Spells 10 words c (IsMark mark.OpenBrace ∷ from) → SpellsBlock false from b next → (o : Option (List Word)) → following mark.Else next ≡ o → given {B = Statement} o (λ rest. after mark.OpenBrace rest >>= (λ from. block from >>= (λ d. Ok (Choose c b (Else d.0), d.1)))) (Ok (Choose c b Nothing, next)) ≡ Err n → Stuck (ActionFronts whole) (IsMark mark.If ∷ words) n
+  else_stops : (words from : List Word) (c : Term) (b : Block) (next : List Word) (n : ℕ) → Spells 10 words c (IsMark mark.OpenBrace ∷ from) → SpellsBlock false from b next → (o : Option (List Word)) → following mark.Else next ≡ o → given {B = Statement} o (λ rest. past mark.OpenBrace rest >>= (λ from. block from >>= (λ d. Ok (Choose c b (Else d.0), d.1)))) (Ok (Choose c b Nothing, next)) ≡ Err n → Stuck (ActionFronts whole) (IsMark mark.If ∷ words) n
   else_stops words from c b next n hc hb None p q = absurd (ok_not_err (Choose c b Nothing, next) n q)
   else_stops words start c b next n hc hb (Some rest) p q =
       let then_part : SpellsBlock false start b (IsMark mark.Else ∷ rest) = subst (λ (z : List Word). SpellsBlock false start b z) (following-is mark.Else next rest p) hb in
-      stuck_bind (after mark.OpenBrace rest) (λ from. block from >>= (λ d. Ok (Choose c b (Else d.0), d.1))) n q
+      stuck_bind (past mark.OpenBrace rest) (λ from. block from >>= (λ d. Ok (Choose c b (Else d.0), d.1))) n q
       (λ f. record { bad = rest; front = else_brace hc then_part; place = after-stops mark.OpenBrace rest n f })
       (λ from r f. stuck_bind (block from) (λ d. Ok (Choose c b (Else d.0), d.1)) n f
       (λ g. let s = stops from n g in record { bad = s.bad; front = else_block hc (subst (λ (z : List Word). SpellsBlock false start b (IsMark mark.Else ∷ z)) (after-is mark.OpenBrace rest from r) then_part) s.front; place = s.place })
@@ -121,10 +121,10 @@ module _ (block : List Word → Statements) (sound : SoundBlock false block) (st
   choose_stops : (words : List Word) (n : ℕ) → choose_by block words ≡ Err n → Stuck (ActionFronts whole) (IsMark mark.If ∷ words) n
   unfolding choose_by
   choose_stops words n q =
-      stuck_bind (term_at mark.OpenBrace words) (λ c. block c.1 >>= (λ b. given {B = Statement} (following mark.Else b.1) (λ rest. after mark.OpenBrace rest >>= (λ from. block from >>= (λ d. Ok (Choose c.0 b.0 (Else d.0), d.1)))) (Ok (Choose c.0 b.0 Nothing, b.1)))) n q
+      stuck_bind (term_at mark.OpenBrace words) (λ c. block c.1 >>= (λ b. given {B = Statement} (following mark.Else b.1) (λ rest. past mark.OpenBrace rest >>= (λ from. block from >>= (λ d. Ok (Choose c.0 b.0 (Else d.0), d.1)))) (Ok (Choose c.0 b.0 Nothing, b.1)))) n q
       (λ f. let s = term_stops mark.OpenBrace words n f in record { bad = s.bad; front = choose_condition s.front; place = s.place })
       (λ c r f. let cond = term_spells mark.OpenBrace words c r in
-      stuck_bind (block c.1) (λ b. given {B = Statement} (following mark.Else b.1) (λ rest. after mark.OpenBrace rest >>= (λ from. block from >>= (λ d. Ok (Choose c.0 b.0 (Else d.0), d.1)))) (Ok (Choose c.0 b.0 Nothing, b.1))) n f
+      stuck_bind (block c.1) (λ b. given {B = Statement} (following mark.Else b.1) (λ rest. past mark.OpenBrace rest >>= (λ from. block from >>= (λ d. Ok (Choose c.0 b.0 (Else d.0), d.1)))) (Ok (Choose c.0 b.0 Nothing, b.1))) n f
       (λ g. let s = stops c.1 n g in record { bad = s.bad; front = choose_block cond s.front; place = s.place })
       (λ b t g. else_stops words c.1 c.0 b.0 b.1 n cond (sound c.1 b t) (following mark.Else b.1) refl g))
 

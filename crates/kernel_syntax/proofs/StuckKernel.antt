@@ -8,7 +8,7 @@ use Rattle.kernel_tree.specs.Word.{Word, IsName, IsNumber, IsType, IsMark}
 use Rattle.kernel_tree.specs.Plain.{Parameter, Accumulator, PlainLoop, Returned, Program}
 use Rattle.kernel_tree.specs.Grammar.{SpellsParam, SpellsParams, SpellsVars, SpellsLoop, no_loop, loop, number_at}
 use Rattle.kernel_tree.specs.Front.{ParamFronts, no_param, param_colon, param_shape, param_element, param_bracket, whole_param, SomeFronts, in_param, next_param, VarFronts, no_var_yet, var_name, var_colon, var_type, var_equals, var_value, next_var, LoopFronts, no_loop_yet, loop_name, loop_in, loop_zero, loop_range, loop_bound, loop_brace, loop_block, whole_block, BodyFronts, in_vars, in_loop, end_body, in_answer, at_brace, end_function, KernelFronts, no_kernel, kernel_name, kernel_paren, in_params, kernel_tail, kernel_type, kernel_brace, in_procedure, in_function}
-use Rattle.kernel_syntax.specs.Reading.{◌>>=◌, given, following, after, name_at, type_at}
+use Rattle.kernel_syntax.specs.Reading.{◌>>=◌, given, following, past, name_at, type_at}
 use Rattle.kernel_syntax.specs.Statements.{term_at, block_at}
 use Rattle.kernel_syntax.specs.Headers.{Read, shape_at, param_at, some_at, params_at, var_at, vars_by, vars_at, zero_at, turns_at, loop_at, tail_at, answer_by, alone, kernel_at}
 use Rattle.kernel_syntax.proofs.Sound.{after-is, type-is}
@@ -19,17 +19,17 @@ use Rattle.kernel_syntax.proofs.StuckActions.{past_mark, past_following, past_na
 
 -- ---- parameters
 
-by_shape : (x : List ℕ) (words : List Word) (n : ℕ) (o : Option (List Word)) → following mark.OpenBracket words ≡ o → given {B = Read Shape} o (λ from. type_at from >>= (λ t. after mark.CloseBracket t.1 >>= (λ rest. Ok (shape.Array t.0, rest)))) (type_at words >>= (λ t. Ok (shape.Scalar t.0, t.1))) ≡ Err n → Stuck ParamFronts (IsName x ∷ IsMark mark.Colon ∷ words) n
+by_shape : (x : List ℕ) (words : List Word) (n : ℕ) (o : Option (List Word)) → following mark.OpenBracket words ≡ o → given {B = Read Shape} o (λ from. type_at from >>= (λ t. past mark.CloseBracket t.1 >>= (λ rest. Ok (shape.Array t.0, rest)))) (type_at words >>= (λ t. Ok (shape.Scalar t.0, t.1))) ≡ Err n → Stuck ParamFronts (IsName x ∷ IsMark mark.Colon ∷ words) n
 by_shape x words n None p q =
     stuck_bind (type_at words) (λ t. Ok (shape.Scalar t.0, t.1)) n q
     (λ f. record { bad = words; front = param_shape; place = type-stops words n f })
     (λ t r f. absurd (ok_not_err (shape.Scalar t.0, t.1) n f))
 by_shape x words n (Some from) p q =
     past_following ParamFronts (λ z. IsName x ∷ IsMark mark.Colon ∷ z) mark.OpenBracket words from n p
-    (stuck_bind (type_at from) (λ t. after mark.CloseBracket t.1 >>= (λ rest. Ok (shape.Array t.0, rest))) n q
+    (stuck_bind (type_at from) (λ t. past mark.CloseBracket t.1 >>= (λ rest. Ok (shape.Array t.0, rest))) n q
     (λ f. record { bad = from; front = param_element; place = type-stops from n f })
     (λ t r f. past_type ParamFronts (λ z. IsName x ∷ IsMark mark.Colon ∷ IsMark mark.OpenBracket ∷ z) from t n r
-    (stuck_bind (after mark.CloseBracket t.1) (λ rest. Ok (shape.Array t.0, rest)) n f
+    (stuck_bind (past mark.CloseBracket t.1) (λ rest. Ok (shape.Array t.0, rest)) n f
     (λ g. record { bad = t.1; front = param_bracket; place = after-stops mark.CloseBracket t.1 n g })
     (λ rest s g. absurd (ok_not_err (shape.Array t.0, rest) n g)))))
 
@@ -40,10 +40,10 @@ shape_stops x words n q = by_shape x words n (following mark.OpenBracket words) 
 param_stops : (words : List Word) (n : ℕ) → param_at words ≡ Err n → Stuck ParamFronts words n
 unfolding param_at
 param_stops words n q =
-    stuck_bind (name_at words) (λ x. after mark.Colon x.1 >>= (λ from. shape_at from >>= (λ s. Ok (record { name = x.0; shape = s.0 }, s.1)))) n q
+    stuck_bind (name_at words) (λ x. past mark.Colon x.1 >>= (λ from. shape_at from >>= (λ s. Ok (record { name = x.0; shape = s.0 }, s.1)))) n q
     (λ f. record { bad = words; front = no_param; place = name-stops words n f })
     (λ x r f. past_name ParamFronts (λ z. z) words x n r
-    (stuck_bind (after mark.Colon x.1) (λ from. shape_at from >>= (λ s. Ok (record { name = x.0; shape = s.0 }, s.1))) n f
+    (stuck_bind (past mark.Colon x.1) (λ from. shape_at from >>= (λ s. Ok (record { name = x.0; shape = s.0 }, s.1))) n f
     (λ g. record { bad = x.1; front = param_colon; place = after-stops mark.Colon x.1 n g })
     (λ from t g. past_mark ParamFronts (λ z. IsName x.0 ∷ z) mark.Colon x.1 from n t
     (stuck_bind (shape_at from) (λ s. Ok (record { name = x.0; shape = s.0 }, s.1)) n g
@@ -57,10 +57,10 @@ by_last : (words : List Word) (p : Parameter × List Word) (n : ℕ) → SpellsP
 by_last words p n h None q = others_stop 0 words p n h (err_is (length p.1) n q)
 by_last words p n h (Some next) q = absurd (ok_not_err (p.0 ∷ [], next) n q)
 
-by_more : (others : ℕ) → ((next : List Word) (n : ℕ) → some_at others next ≡ Err n → Stuck (SomeFronts others) next n) → (words : List Word) (p : Parameter × List Word) (n : ℕ) → SpellsParam words p.0 p.1 → (o : Option (List Word)) → given {B = Read (List Parameter)} o (λ rest. Ok (p.0 ∷ [], rest)) (after mark.Comma p.1 >>= (λ next. some_at others next >>= (λ ps. Ok (p.0 ∷ ps.0, ps.1)))) ≡ Err n → Stuck (SomeFronts (suc others)) words n
+by_more : (others : ℕ) → ((next : List Word) (n : ℕ) → some_at others next ≡ Err n → Stuck (SomeFronts others) next n) → (words : List Word) (p : Parameter × List Word) (n : ℕ) → SpellsParam words p.0 p.1 → (o : Option (List Word)) → given {B = Read (List Parameter)} o (λ rest. Ok (p.0 ∷ [], rest)) (past mark.Comma p.1 >>= (λ next. some_at others next >>= (λ ps. Ok (p.0 ∷ ps.0, ps.1)))) ≡ Err n → Stuck (SomeFronts (suc others)) words n
 by_more others again words p n h (Some next) q = absurd (ok_not_err (p.0 ∷ [], next) n q)
 by_more others again words p n h None q =
-    stuck_bind (after mark.Comma p.1) (λ next. some_at others next >>= (λ ps. Ok (p.0 ∷ ps.0, ps.1))) n q
+    stuck_bind (past mark.Comma p.1) (λ next. some_at others next >>= (λ ps. Ok (p.0 ∷ ps.0, ps.1))) n q
     (λ f. others_stop (suc others) words p n h (after-stops mark.Comma p.1 n f))
     (λ next r f. stuck_bind (some_at others next) (λ ps. Ok (p.0 ∷ ps.0, ps.1)) n f
     (λ g. let s = again next n g in record { bad = s.bad; front = next_param (subst (λ (z : List Word). SpellsParam words p.0 z) (after-is mark.Comma p.1 next r) h) s.front; place = s.place })
@@ -76,7 +76,7 @@ some_stops zero words n q =
     (in_first 0 words n)
     (λ p r f. by_last words p n (param_spells words p r) (following mark.CloseParen p.1) f)
 some_stops (suc others) words n q =
-    stuck_bind (param_at words) (λ p. given {B = Read (List Parameter)} (following mark.CloseParen p.1) (λ rest. Ok (p.0 ∷ [], rest)) (after mark.Comma p.1 >>= (λ next. some_at others next >>= (λ ps. Ok (p.0 ∷ ps.0, ps.1))))) n q
+    stuck_bind (param_at words) (λ p. given {B = Read (List Parameter)} (following mark.CloseParen p.1) (λ rest. Ok (p.0 ∷ [], rest)) (past mark.Comma p.1 >>= (λ next. some_at others next >>= (λ ps. Ok (p.0 ∷ ps.0, ps.1))))) n q
     (in_first (suc others) words n)
     (λ p r f. by_more others (some_stops others) words p n (param_spells words p r) (following mark.CloseParen p.1) f)
 
@@ -93,16 +93,16 @@ params_stop words n q = by_params words n (following mark.CloseParen words) q
 var_stops : (words : List Word) (n : ℕ) → var_at words ≡ Err n → Stuck VarFronts (IsMark mark.Var ∷ words) n
 unfolding var_at
 var_stops words n q =
-    stuck_bind (name_at words) (λ x. after mark.Colon x.1 >>= (λ from. type_at from >>= (λ t. after mark.Equals t.1 >>= (λ next. term_at mark.Semicolon next >>= (λ e. Ok (record { name = x.0; type = t.0; init = e.0 }, e.1)))))) n q
+    stuck_bind (name_at words) (λ x. past mark.Colon x.1 >>= (λ from. type_at from >>= (λ t. past mark.Equals t.1 >>= (λ next. term_at mark.Semicolon next >>= (λ e. Ok (record { name = x.0; type = t.0; init = e.0 }, e.1)))))) n q
     (λ f. record { bad = words; front = var_name; place = name-stops words n f })
     (λ x r f. past_name VarFronts (λ z. IsMark mark.Var ∷ z) words x n r
-    (stuck_bind (after mark.Colon x.1) (λ from. type_at from >>= (λ t. after mark.Equals t.1 >>= (λ next. term_at mark.Semicolon next >>= (λ e. Ok (record { name = x.0; type = t.0; init = e.0 }, e.1))))) n f
+    (stuck_bind (past mark.Colon x.1) (λ from. type_at from >>= (λ t. past mark.Equals t.1 >>= (λ next. term_at mark.Semicolon next >>= (λ e. Ok (record { name = x.0; type = t.0; init = e.0 }, e.1))))) n f
     (λ g. record { bad = x.1; front = var_colon; place = after-stops mark.Colon x.1 n g })
     (λ from s g. past_mark VarFronts (λ z. IsMark mark.Var ∷ IsName x.0 ∷ z) mark.Colon x.1 from n s
-    (stuck_bind (type_at from) (λ t. after mark.Equals t.1 >>= (λ next. term_at mark.Semicolon next >>= (λ e. Ok (record { name = x.0; type = t.0; init = e.0 }, e.1)))) n g
+    (stuck_bind (type_at from) (λ t. past mark.Equals t.1 >>= (λ next. term_at mark.Semicolon next >>= (λ e. Ok (record { name = x.0; type = t.0; init = e.0 }, e.1)))) n g
     (λ h. record { bad = from; front = var_type; place = type-stops from n h })
     (λ t u h. past_type VarFronts (λ z. IsMark mark.Var ∷ IsName x.0 ∷ IsMark mark.Colon ∷ z) from t n u
-    (stuck_bind (after mark.Equals t.1) (λ next. term_at mark.Semicolon next >>= (λ e. Ok (record { name = x.0; type = t.0; init = e.0 }, e.1))) n h
+    (stuck_bind (past mark.Equals t.1) (λ next. term_at mark.Semicolon next >>= (λ e. Ok (record { name = x.0; type = t.0; init = e.0 }, e.1))) n h
     (λ i. record { bad = t.1; front = var_equals; place = after-stops mark.Equals t.1 n i })
     (λ next v i. past_mark VarFronts (λ z. IsMark mark.Var ∷ IsName x.0 ∷ IsMark mark.Colon ∷ IsType t.0 ∷ z) mark.Equals t.1 next n v
     (stuck_bind (term_at mark.Semicolon next) (λ e. Ok (record { name = x.0; type = t.0; init = e.0 }, e.1)) n i
@@ -146,12 +146,12 @@ zero-stops words n q = by_zero words n (number_at words) q
 past_zero : (before : List Word → List Word) (words from : List Word) (n : ℕ) → zero_at words ≡ Ok from → Stuck LoopFronts (before (IsNumber 0 ∷ from)) n → Stuck LoopFronts (before words) n
 past_zero before words from n p h = stuck_from LoopFronts _ _ n (ap before (zero-is words from p)) h
 
-bound_stops : (i : List ℕ) (end : List Word) (n : ℕ) → ◌≡◌ {A = Read PlainLoop} (name_at end >>= (λ n. after mark.OpenBrace n.1 >>= (λ inside. block_at true (length inside) inside >>= (λ b. Ok (record { index = i; bound = n.0; body = b.0 }, b.1))))) (Err n) → Stuck LoopFronts (IsMark mark.For ∷ IsName i ∷ IsMark mark.In ∷ IsNumber 0 ∷ IsMark mark.Range ∷ end) n
+bound_stops : (i : List ℕ) (end : List Word) (n : ℕ) → ◌≡◌ {A = Read PlainLoop} (name_at end >>= (λ n. past mark.OpenBrace n.1 >>= (λ inside. block_at true (length inside) inside >>= (λ b. Ok (record { index = i; bound = n.0; body = b.0 }, b.1))))) (Err n) → Stuck LoopFronts (IsMark mark.For ∷ IsName i ∷ IsMark mark.In ∷ IsNumber 0 ∷ IsMark mark.Range ∷ end) n
 bound_stops i end n q =
-    stuck_bind (name_at end) (λ n. after mark.OpenBrace n.1 >>= (λ inside. block_at true (length inside) inside >>= (λ b. Ok (record { index = i; bound = n.0; body = b.0 }, b.1)))) n q
+    stuck_bind (name_at end) (λ n. past mark.OpenBrace n.1 >>= (λ inside. block_at true (length inside) inside >>= (λ b. Ok (record { index = i; bound = n.0; body = b.0 }, b.1)))) n q
     (λ f. record { bad = end; front = loop_bound; place = name-stops end n f })
     (λ x r f. past_name LoopFronts (λ z. IsMark mark.For ∷ IsName i ∷ IsMark mark.In ∷ IsNumber 0 ∷ IsMark mark.Range ∷ z) end x n r
-    (stuck_bind (after mark.OpenBrace x.1) (λ inside. block_at true (length inside) inside >>= (λ b. Ok (record { index = i; bound = x.0; body = b.0 }, b.1))) n f
+    (stuck_bind (past mark.OpenBrace x.1) (λ inside. block_at true (length inside) inside >>= (λ b. Ok (record { index = i; bound = x.0; body = b.0 }, b.1))) n f
     (λ g. record { bad = x.1; front = loop_brace; place = after-stops mark.OpenBrace x.1 n g })
     (λ inside s g. past_mark LoopFronts (λ z. IsMark mark.For ∷ IsName i ∷ IsMark mark.In ∷ IsNumber 0 ∷ IsMark mark.Range ∷ IsName x.0 ∷ z) mark.OpenBrace x.1 inside n s
     (stuck_bind (block_at true (length inside) inside) (λ b. Ok (record { index = i; bound = x.0; body = b.0 }, b.1)) n g
@@ -161,16 +161,16 @@ bound_stops i end n q =
 turns_stop : (words : List Word) (n : ℕ) → turns_at words ≡ Err n → Stuck LoopFronts (IsMark mark.For ∷ words) n
 unfolding turns_at
 turns_stop words n q =
-    stuck_bind (name_at words) (λ i. after mark.In i.1 >>= (λ from. zero_at from >>= (λ range. after mark.Range range >>= (λ end. name_at end >>= (λ n. after mark.OpenBrace n.1 >>= (λ inside. block_at true (length inside) inside >>= (λ b. Ok (record { index = i.0; bound = n.0; body = b.0 }, b.1)))))))) n q
+    stuck_bind (name_at words) (λ i. past mark.In i.1 >>= (λ from. zero_at from >>= (λ range. past mark.Range range >>= (λ end. name_at end >>= (λ n. past mark.OpenBrace n.1 >>= (λ inside. block_at true (length inside) inside >>= (λ b. Ok (record { index = i.0; bound = n.0; body = b.0 }, b.1)))))))) n q
     (λ f. record { bad = words; front = loop_name; place = name-stops words n f })
     (λ i r f. past_name LoopFronts (λ z. IsMark mark.For ∷ z) words i n r
-    (stuck_bind (after mark.In i.1) (λ from. zero_at from >>= (λ range. after mark.Range range >>= (λ end. name_at end >>= (λ n. after mark.OpenBrace n.1 >>= (λ inside. block_at true (length inside) inside >>= (λ b. Ok (record { index = i.0; bound = n.0; body = b.0 }, b.1))))))) n f
+    (stuck_bind (past mark.In i.1) (λ from. zero_at from >>= (λ range. past mark.Range range >>= (λ end. name_at end >>= (λ n. past mark.OpenBrace n.1 >>= (λ inside. block_at true (length inside) inside >>= (λ b. Ok (record { index = i.0; bound = n.0; body = b.0 }, b.1))))))) n f
     (λ g. record { bad = i.1; front = loop_in; place = after-stops mark.In i.1 n g })
     (λ from s g. past_mark LoopFronts (λ z. IsMark mark.For ∷ IsName i.0 ∷ z) mark.In i.1 from n s
-    (stuck_bind (zero_at from) (λ range. after mark.Range range >>= (λ end. name_at end >>= (λ n. after mark.OpenBrace n.1 >>= (λ inside. block_at true (length inside) inside >>= (λ b. Ok (record { index = i.0; bound = n.0; body = b.0 }, b.1)))))) n g
+    (stuck_bind (zero_at from) (λ range. past mark.Range range >>= (λ end. name_at end >>= (λ n. past mark.OpenBrace n.1 >>= (λ inside. block_at true (length inside) inside >>= (λ b. Ok (record { index = i.0; bound = n.0; body = b.0 }, b.1)))))) n g
     (λ h. record { bad = from; front = loop_zero; place = zero-stops from n h })
     (λ range t h. past_zero (λ z. IsMark mark.For ∷ IsName i.0 ∷ IsMark mark.In ∷ z) from range n t
-    (stuck_bind (after mark.Range range) (λ end. name_at end >>= (λ n. after mark.OpenBrace n.1 >>= (λ inside. block_at true (length inside) inside >>= (λ b. Ok (record { index = i.0; bound = n.0; body = b.0 }, b.1))))) n h
+    (stuck_bind (past mark.Range range) (λ end. name_at end >>= (λ n. past mark.OpenBrace n.1 >>= (λ inside. block_at true (length inside) inside >>= (λ b. Ok (record { index = i.0; bound = n.0; body = b.0 }, b.1))))) n h
     (λ j. record { bad = range; front = loop_range; place = after-stops mark.Range range n j })
     (λ end u j. past_mark LoopFronts (λ z. IsMark mark.For ∷ IsName i.0 ∷ IsMark mark.In ∷ IsNumber 0 ∷ z) mark.Range range end n u (bound_stops i.0 end n j))))))))
 
@@ -193,15 +193,15 @@ returns None = false
 returns (Some t) = true
 
 module _ (x : List ℕ) (ps : List Parameter) (from : List Word) where
-  by_tail : (words : List Word) (n : ℕ) → SpellsParams from ps words → (o : Option (List Word)) → given {B = Read (Option Ty)} o (λ body. Ok (None, body)) (after mark.Arrow words >>= (λ from. type_at from >>= (λ t. after mark.OpenBrace t.1 >>= (λ body. Ok (Some t.0, body))))) ≡ Err n → Stuck KernelFronts (IsMark mark.Kernel ∷ IsName x ∷ IsMark mark.OpenParen ∷ from) n
+  by_tail : (words : List Word) (n : ℕ) → SpellsParams from ps words → (o : Option (List Word)) → given {B = Read (Option Ty)} o (λ body. Ok (None, body)) (past mark.Arrow words >>= (λ from. type_at from >>= (λ t. past mark.OpenBrace t.1 >>= (λ body. Ok (Some t.0, body))))) ≡ Err n → Stuck KernelFronts (IsMark mark.Kernel ∷ IsName x ∷ IsMark mark.OpenParen ∷ from) n
   by_tail words n d (Some rest) q = absurd (ok_not_err (None, rest) n q)
   by_tail words n d None q =
-      stuck_bind (after mark.Arrow words) (λ to. type_at to >>= (λ t. after mark.OpenBrace t.1 >>= (λ body. Ok (Some t.0, body)))) n q
+      stuck_bind (past mark.Arrow words) (λ to. type_at to >>= (λ t. past mark.OpenBrace t.1 >>= (λ body. Ok (Some t.0, body)))) n q
       (λ f. record { bad = words; front = kernel_tail d; place = after-stops mark.Arrow words n f })
       (λ to r f. let arrow = subst (λ (z : List Word). SpellsParams from ps z) (after-is mark.Arrow words to r) d in
-      stuck_bind (type_at to) (λ t. after mark.OpenBrace t.1 >>= (λ body. Ok (Some t.0, body))) n f
+      stuck_bind (type_at to) (λ t. past mark.OpenBrace t.1 >>= (λ body. Ok (Some t.0, body))) n f
       (λ g. record { bad = to; front = kernel_type arrow; place = type-stops to n g })
-      (λ t s g. stuck_bind (after mark.OpenBrace t.1) (λ body. Ok (Some t.0, body)) n g
+      (λ t s g. stuck_bind (past mark.OpenBrace t.1) (λ body. Ok (Some t.0, body)) n g
       (λ h. record { bad = t.1; front = kernel_brace (subst (λ (z : List Word). SpellsParams from ps (IsMark mark.Arrow ∷ z)) (type-is to t s) arrow); place = after-stops mark.OpenBrace t.1 n h })
       (λ body u h. absurd (ok_not_err (Some t.0, body) n h))))
 
@@ -221,16 +221,16 @@ module _ (body : List Word) (vs : List Accumulator) (next : List Word) (v : Spel
   answer_stops : (t : Option Ty) (l : Option PlainLoop) (words : List Word) (n : ℕ) → SpellsLoop next l words → answer_by t words ≡ Err n → Stuck (BodyFronts (returns t)) body n
   unfolding answer_by
   answer_stops None l words n d q =
-      stuck_bind (after mark.CloseBrace words) (λ rest. Ok (None, rest)) n q
+      stuck_bind (past mark.CloseBrace words) (λ rest. Ok (None, rest)) n q
       (λ f. record { bad = words; front = in_loop v (loop_fronts next words l d); place = after-stops mark.CloseBrace words n f })
       (λ rest r f. absurd (ok_not_err (None, rest) n f))
   answer_stops (Some t) l words n d q =
-      stuck_bind (after mark.Return words) (λ from. term_at mark.Semicolon from >>= (λ e. after mark.CloseBrace e.1 >>= (λ rest. Ok (Some (record { type = t; value = e.0 }), rest)))) n q
+      stuck_bind (past mark.Return words) (λ from. term_at mark.Semicolon from >>= (λ e. past mark.CloseBrace e.1 >>= (λ rest. Ok (Some (record { type = t; value = e.0 }), rest)))) n q
       (λ f. record { bad = words; front = in_loop v (loop_fronts next words l d); place = after-stops mark.Return words n f })
       (λ from r f. let back = subst (λ (z : List Word). SpellsLoop next l z) (after-is mark.Return words from r) d in
-      stuck_bind (term_at mark.Semicolon from) (λ e. after mark.CloseBrace e.1 >>= (λ rest. Ok (Some (record { type = t; value = e.0 }), rest))) n f
+      stuck_bind (term_at mark.Semicolon from) (λ e. past mark.CloseBrace e.1 >>= (λ rest. Ok (Some (record { type = t; value = e.0 }), rest))) n f
       (λ g. let s = term_stops mark.Semicolon from n g in record { bad = s.bad; front = in_answer v back s.front; place = s.place })
-      (λ e s g. stuck_bind (after mark.CloseBrace e.1) (λ rest. Ok (Some (record { type = t; value = e.0 }), rest)) n g
+      (λ e s g. stuck_bind (past mark.CloseBrace e.1) (λ rest. Ok (Some (record { type = t; value = e.0 }), rest)) n g
       (λ h. record { bad = e.1; front = at_brace v back (term_spells mark.Semicolon from e s); place = after-stops mark.CloseBrace e.1 n h })
       (λ rest u h. absurd (ok_not_err (Some (record { type = t; value = e.0 }), rest) n h))))
 
@@ -267,12 +267,12 @@ params_part x inside n q =
 pub kernel_stops : (words : List Word) (n : ℕ) → kernel_at words ≡ Err n → Stuck KernelFronts words n
 unfolding kernel_at
 kernel_stops words n q =
-    stuck_bind (after mark.Kernel words) (λ from. name_at from >>= (λ x. after mark.OpenParen x.1 >>= (λ inside. params_at inside >>= (λ ps. tail_at ps.1 >>= (λ t. vars_at t.1 >>= (λ vs. loop_at vs.1 >>= (λ l. answer_by t.0 l.1 >>= (λ a. alone (record { name = x.0; params = ps.0; vars = vs.0; turns = l.0; answer = a.0 }) a.1)))))))) n q
+    stuck_bind (past mark.Kernel words) (λ from. name_at from >>= (λ x. past mark.OpenParen x.1 >>= (λ inside. params_at inside >>= (λ ps. tail_at ps.1 >>= (λ t. vars_at t.1 >>= (λ vs. loop_at vs.1 >>= (λ l. answer_by t.0 l.1 >>= (λ a. alone (record { name = x.0; params = ps.0; vars = vs.0; turns = l.0; answer = a.0 }) a.1)))))))) n q
     (λ f. record { bad = words; front = no_kernel; place = after-stops mark.Kernel words n f })
     (λ from r f. past_mark KernelFronts (λ z. z) mark.Kernel words from n r
-    (stuck_bind (name_at from) (λ x. after mark.OpenParen x.1 >>= (λ inside. params_at inside >>= (λ ps. tail_at ps.1 >>= (λ t. vars_at t.1 >>= (λ vs. loop_at vs.1 >>= (λ l. answer_by t.0 l.1 >>= (λ a. alone (record { name = x.0; params = ps.0; vars = vs.0; turns = l.0; answer = a.0 }) a.1))))))) n f
+    (stuck_bind (name_at from) (λ x. past mark.OpenParen x.1 >>= (λ inside. params_at inside >>= (λ ps. tail_at ps.1 >>= (λ t. vars_at t.1 >>= (λ vs. loop_at vs.1 >>= (λ l. answer_by t.0 l.1 >>= (λ a. alone (record { name = x.0; params = ps.0; vars = vs.0; turns = l.0; answer = a.0 }) a.1))))))) n f
     (λ g. record { bad = from; front = kernel_name; place = name-stops from n g })
     (λ x s g. past_name KernelFronts (λ z. IsMark mark.Kernel ∷ z) from x n s
-    (stuck_bind (after mark.OpenParen x.1) (λ inside. params_at inside >>= (λ ps. tail_at ps.1 >>= (λ t. vars_at t.1 >>= (λ vs. loop_at vs.1 >>= (λ l. answer_by t.0 l.1 >>= (λ a. alone (record { name = x.0; params = ps.0; vars = vs.0; turns = l.0; answer = a.0 }) a.1)))))) n g
+    (stuck_bind (past mark.OpenParen x.1) (λ inside. params_at inside >>= (λ ps. tail_at ps.1 >>= (λ t. vars_at t.1 >>= (λ vs. loop_at vs.1 >>= (λ l. answer_by t.0 l.1 >>= (λ a. alone (record { name = x.0; params = ps.0; vars = vs.0; turns = l.0; answer = a.0 }) a.1)))))) n g
     (λ h. record { bad = x.1; front = kernel_paren; place = after-stops mark.OpenParen x.1 n h })
     (λ inside t h. past_mark KernelFronts (λ z. IsMark mark.Kernel ∷ IsName x.0 ∷ z) mark.OpenParen x.1 inside n t (params_part x.0 inside n h))))))

@@ -15,7 +15,7 @@ use Rattle.kernel_tree.specs.declared.mark.Opening.TheVariants as opening
 use Rattle.kernel_tree.specs.Word.{Word, IsName, IsNumber, IsType, IsCompare, IsUpdate, IsMark}
 use Rattle.kernel_tree.specs.Plain.{Term, Literal, Variable, Element, Unary, Operation, Shift, Conversion, Choice, Comparison}
 use Rattle.kernel_tree.specs.Grammar.{joined, opening_of_mark, signed, number_following}
-use Rattle.kernel_syntax.specs.Reading.{◌>>=◌, given, Outcome, following, after, name_at, type_at, count_at, operator_at, by_operator, more, chain_at, term_before, name_by, pair_by, absolute_by, choice_by, signed_by, opened_by, unary_by, unary_at}
+use Rattle.kernel_syntax.specs.Reading.{◌>>=◌, given, Outcome, following, past, name_at, type_at, count_at, operator_at, by_operator, more, chain_at, term_before, name_by, pair_by, absolute_by, choice_by, signed_by, opened_by, unary_by, unary_at}
 use Rattle.kernel_syntax.proofs.Sound.{after-is, following-is, name-is, type-is, count-is, operator-is, number-is}
 use Rattle.kernel_syntax.proofs.Stuck.{after-stops, name-stops, type-stops, count-stops}
 
@@ -42,10 +42,10 @@ passes_is {A = A} r x n e h = subst (λ (z : Result (A × List Word) ℕ). Passe
 pub passes_same : {A : Type 0} (r s : Result (A × List Word) ℕ) (n : ℕ) → r ≡ s → Passes s n → Passes r n
 passes_same {A = A} r s n e h = subst (λ (z : Result (A × List Word) ℕ). Passes z n) (sym e) h
 
-pub after_passes : (m : Mark) (words : List Word) (n : ℕ) → length words ≤ n → PassesOne (after m words) n
-after_passes m words n h = go (after m words) refl
+pub after_passes : (m : Mark) (words : List Word) (n : ℕ) → length words ≤ n → PassesOne (past m words) n
+after_passes m words n h = go (past m words) refl
   where
-    go : (r : Result (List Word) ℕ) → after m words ≡ r → PassesOne r n
+    go : (r : Result (List Word) ℕ) → past m words ≡ r → PassesOne r n
     go (Ok rest) e = omega (arith, ap length (after-is m words rest e), h)
     go (Err left) e = omega (arith, after-stops m words left e, h)
 
@@ -85,8 +85,8 @@ Going read = (words : List Word) (n : ℕ) → length words ≤ n → Passes (re
 pub term_passes : (read : List Word → Outcome) (m : Mark) (words : List Word) (n : ℕ) → Passes (read words) n → Passes (term_before read m words) n
 unfolding term_before
 term_passes read m words n p =
-    passes_bind (read words) (λ e. after m e.1 >>= (λ rest. Ok (e.0, rest))) n p
-    (λ e l. passes_one (after m e.1) (λ rest. Ok (e.0, rest)) n (after_passes m e.1 n l) (λ rest k. k))
+    passes_bind (read words) (λ e. past m e.1 >>= (λ rest. Ok (e.0, rest))) n p
+    (λ e l. passes_one (past m e.1) (λ rest. Ok (e.0, rest)) n (after_passes m e.1 n l) (λ rest k. k))
 
 module _ (operand : List Word → Outcome) (goes : Going operand) (level : ℕ) (n : ℕ) where
   by_passes : (k : ℕ) → ((left : Term) (words : List Word) → length words ≤ n → Passes (more operand level k left words) n) → (left : Term) (o : Operator) (next : List Word) → length next ≤ n → Passes (by_operator operand (more operand level k) left o next) n
@@ -123,20 +123,20 @@ module _ (read inner : List Word → Outcome) (goes : Going read) (runs : Going 
   pub pair_goes : (op : BinaryOp) → Going (pair_by read op)
   unfolding pair_by
   pair_goes op words n h =
-      passes_one (after mark.OpenParen words) (λ from. term_before read mark.Comma from >>= (λ a. term_before read mark.CloseParen a.1 >>= (λ b. Ok (Operation op a.0 b.0, b.1)))) n (after_passes mark.OpenParen words n h)
+      passes_one (past mark.OpenParen words) (λ from. term_before read mark.Comma from >>= (λ a. term_before read mark.CloseParen a.1 >>= (λ b. Ok (Operation op a.0 b.0, b.1)))) n (after_passes mark.OpenParen words n h)
       (λ from l. passes_bind (term_before read mark.Comma from) (λ a. term_before read mark.CloseParen a.1 >>= (λ b. Ok (Operation op a.0 b.0, b.1))) n (before mark.Comma from n l)
       (λ a k. passes_bind (term_before read mark.CloseParen a.1) (λ b. Ok (Operation op a.0 b.0, b.1)) n (before mark.CloseParen a.1 n k) (λ b i. i)))
 
   pub absolute_goes : Going (absolute_by read)
   unfolding absolute_by
   absolute_goes words n h =
-      passes_one (after mark.OpenParen words) (λ from. term_before read mark.CloseParen from >>= (λ a. Ok (Unary unary.Abs a.0, a.1))) n (after_passes mark.OpenParen words n h)
+      passes_one (past mark.OpenParen words) (λ from. term_before read mark.CloseParen from >>= (λ a. Ok (Unary unary.Abs a.0, a.1))) n (after_passes mark.OpenParen words n h)
       (λ from l. passes_bind (term_before read mark.CloseParen from) (λ a. Ok (Unary unary.Abs a.0, a.1)) n (before mark.CloseParen from n l) (λ a k. k))
 
   pub choice_goes : Going (choice_by read)
   unfolding choice_by
   choice_goes words n h =
-      passes_one (after mark.OpenParen words) (λ from. term_before read mark.Comma from >>= (λ c. term_before read mark.Comma c.1 >>= (λ a. term_before read mark.CloseParen a.1 >>= (λ b. Ok (Choice c.0 a.0 b.0, b.1))))) n (after_passes mark.OpenParen words n h)
+      passes_one (past mark.OpenParen words) (λ from. term_before read mark.Comma from >>= (λ c. term_before read mark.Comma c.1 >>= (λ a. term_before read mark.CloseParen a.1 >>= (λ b. Ok (Choice c.0 a.0 b.0, b.1))))) n (after_passes mark.OpenParen words n h)
       (λ from l. passes_bind (term_before read mark.Comma from) (λ c. term_before read mark.Comma c.1 >>= (λ a. term_before read mark.CloseParen a.1 >>= (λ b. Ok (Choice c.0 a.0 b.0, b.1)))) n (before mark.Comma from n l)
       (λ c k. passes_bind (term_before read mark.Comma c.1) (λ a. term_before read mark.CloseParen a.1 >>= (λ b. Ok (Choice c.0 a.0 b.0, b.1))) n (before mark.Comma c.1 n k)
       (λ a i. passes_bind (term_before read mark.CloseParen a.1) (λ b. Ok (Choice c.0 a.0 b.0, b.1)) n (before mark.CloseParen a.1 n i) (λ b j. j))))

@@ -11,7 +11,7 @@ use Rattle.kernel_tree.specs.declared.mark.Beginning.TheVariants as beginning
 use Rattle.kernel_tree.specs.Word.{Word, IsName, IsNumber, IsType, IsCompare, IsUpdate, IsMark}
 use Rattle.kernel_tree.specs.Plain.{Term, Define, Put, Update, Choose, Leave, Block, Done, Then, Nothing, Else, Parameter, Accumulator, PlainLoop, Returned, Program}
 use Rattle.kernel_tree.specs.Grammar.{beginning_of_mark}
-use Rattle.kernel_syntax.specs.Reading.{◌>>=◌, given, following, after, name_at, type_at, update_front, unary_at, chain_at}
+use Rattle.kernel_syntax.specs.Reading.{◌>>=◌, given, following, past, name_at, type_at, update_front, unary_at, chain_at}
 use Rattle.kernel_syntax.specs.Statements.{Statement, Statements, term_at, type_part, define_at, put_at, update_at, target_at, leave_at, choose_by, begun_by, statement_by, block_by, block_at}
 use Rattle.kernel_syntax.specs.Headers.{Read, shape_at, param_at, some_at, params_at, var_at, vars_by, vars_at, zero_at, turns_at, loop_at, tail_at, answer_by, alone, kernel_at}
 use Rattle.kernel_syntax.proofs.Sound.{update-is}
@@ -31,23 +31,23 @@ type_part_goes words n h = passes_given mark.Colon words (λ rest. type_at rest 
     (λ rest l. passes_bind (type_at rest) (λ t. Ok (Some t.0, t.1)) n (type_passes rest n l) (λ t k. k)) h
 
 -- after the type that a definition gives
-pub define_passes : (x : List ℕ) (n : ℕ) (t : Option Ty × List Word) → length t.1 ≤ n → Passes (after mark.Equals t.1 >>= (λ from. term_at mark.Semicolon from >>= (λ e. Ok (Define x t.0 e.0, e.1)))) n
-define_passes x n t h = passes_one (after mark.Equals t.1) (λ from. term_at mark.Semicolon from >>= (λ e. Ok (Define x t.0 e.0, e.1))) n (after_passes mark.Equals t.1 n h)
+pub define_passes : (x : List ℕ) (n : ℕ) (t : Option Ty × List Word) → length t.1 ≤ n → Passes (past mark.Equals t.1 >>= (λ from. term_at mark.Semicolon from >>= (λ e. Ok (Define x t.0 e.0, e.1)))) n
+define_passes x n t h = passes_one (past mark.Equals t.1) (λ from. term_at mark.Semicolon from >>= (λ e. Ok (Define x t.0 e.0, e.1))) n (after_passes mark.Equals t.1 n h)
     (λ from l. passes_bind (term_at mark.Semicolon from) (λ e. Ok (Define x t.0 e.0, e.1)) n (term_goes mark.Semicolon from n l) (λ e k. k))
 
 pub define_goes : Going define_at
 unfolding define_at
-define_goes words n h = passes_bind (name_at words) (λ x. type_part x.1 >>= (λ t. after mark.Equals t.1 >>= (λ from. term_at mark.Semicolon from >>= (λ e. Ok (Define x.0 t.0 e.0, e.1))))) n (name_passes words n h)
-    (λ x l. passes_bind (type_part x.1) (λ t. after mark.Equals t.1 >>= (λ from. term_at mark.Semicolon from >>= (λ e. Ok (Define x.0 t.0 e.0, e.1)))) n (type_part_goes x.1 n l) (define_passes x.0 n))
+define_goes words n h = passes_bind (name_at words) (λ x. type_part x.1 >>= (λ t. past mark.Equals t.1 >>= (λ from. term_at mark.Semicolon from >>= (λ e. Ok (Define x.0 t.0 e.0, e.1))))) n (name_passes words n h)
+    (λ x l. passes_bind (type_part x.1) (λ t. past mark.Equals t.1 >>= (λ from. term_at mark.Semicolon from >>= (λ e. Ok (Define x.0 t.0 e.0, e.1)))) n (type_part_goes x.1 n l) (define_passes x.0 n))
 
 -- after the index of the element that a store writes
-pub put_passes : (x : List ℕ) (n : ℕ) (i : Term × List Word) → length i.1 ≤ n → Passes (after mark.Equals i.1 >>= (λ next. term_at mark.Semicolon next >>= (λ e. Ok (Put x i.0 e.0, e.1)))) n
-put_passes x n i h = passes_one (after mark.Equals i.1) (λ next. term_at mark.Semicolon next >>= (λ e. Ok (Put x i.0 e.0, e.1))) n (after_passes mark.Equals i.1 n h)
+pub put_passes : (x : List ℕ) (n : ℕ) (i : Term × List Word) → length i.1 ≤ n → Passes (past mark.Equals i.1 >>= (λ next. term_at mark.Semicolon next >>= (λ e. Ok (Put x i.0 e.0, e.1)))) n
+put_passes x n i h = passes_one (past mark.Equals i.1) (λ next. term_at mark.Semicolon next >>= (λ e. Ok (Put x i.0 e.0, e.1))) n (after_passes mark.Equals i.1 n h)
     (λ next l. passes_bind (term_at mark.Semicolon next) (λ e. Ok (Put x i.0 e.0, e.1)) n (term_goes mark.Semicolon next n l) (λ e k. k))
 
 pub put_goes : (x : List ℕ) → Going (put_at x)
 unfolding put_at
-put_goes x words n h = passes_bind (term_at mark.CloseBracket words) (λ i. after mark.Equals i.1 >>= (λ next. term_at mark.Semicolon next >>= (λ e. Ok (Put x i.0 e.0, e.1)))) n (term_goes mark.CloseBracket words n h) (put_passes x n)
+put_goes x words n h = passes_bind (term_at mark.CloseBracket words) (λ i. past mark.Equals i.1 >>= (λ next. term_at mark.Semicolon next >>= (λ e. Ok (Put x i.0 e.0, e.1)))) n (term_goes mark.CloseBracket words n h) (put_passes x n)
 
 pub update_goes : (x : List ℕ) (op : UpdateOp) → Going (update_at x op)
 unfolding update_at
@@ -64,21 +64,21 @@ target_goes x words n h = passes_given mark.OpenBracket words (λ from. put_at x
 pub leave_goes : (whole : Bool) (words : List Word) (n : ℕ) → suc (length words) ≤ n → Passes (leave_at whole words) n
 unfolding leave_at
 leave_goes false words n h = h
-leave_goes true words n h = passes_one (after mark.If words) (λ from. term_at mark.Semicolon from >>= (λ c. Ok (Leave c.0, c.1))) n (after_passes mark.If words n (omega (arith, h)))
+leave_goes true words n h = passes_one (past mark.If words) (λ from. term_at mark.Semicolon from >>= (λ c. Ok (Leave c.0, c.1))) n (after_passes mark.If words n (omega (arith, h)))
     (λ from l. passes_bind (term_at mark.Semicolon from) (λ c. Ok (Leave c.0, c.1)) n (term_goes mark.Semicolon from n l) (λ c k. k))
 
 module _ (block : List Word → Statements) (goes : Going block) where
-  pub else_passes : (c : Term) (n : ℕ) (b : Block × List Word) → length b.1 ≤ n → Passes (given {B = Statement} (following mark.Else b.1) (λ rest. after mark.OpenBrace rest >>= (λ from. block from >>= (λ d. Ok (Choose c b.0 (Else d.0), d.1)))) (Ok (Choose c b.0 Nothing, b.1))) n
-  else_passes c n b h = passes_given mark.Else b.1 (λ rest. after mark.OpenBrace rest >>= (λ from. block from >>= (λ d. Ok (Choose c b.0 (Else d.0), d.1)))) (Ok (Choose c b.0 Nothing, b.1)) n h
-      (λ rest l. passes_one (after mark.OpenBrace rest) (λ from. block from >>= (λ d. Ok (Choose c b.0 (Else d.0), d.1))) n (after_passes mark.OpenBrace rest n l)
+  pub else_passes : (c : Term) (n : ℕ) (b : Block × List Word) → length b.1 ≤ n → Passes (given {B = Statement} (following mark.Else b.1) (λ rest. past mark.OpenBrace rest >>= (λ from. block from >>= (λ d. Ok (Choose c b.0 (Else d.0), d.1)))) (Ok (Choose c b.0 Nothing, b.1))) n
+  else_passes c n b h = passes_given mark.Else b.1 (λ rest. past mark.OpenBrace rest >>= (λ from. block from >>= (λ d. Ok (Choose c b.0 (Else d.0), d.1)))) (Ok (Choose c b.0 Nothing, b.1)) n h
+      (λ rest l. passes_one (past mark.OpenBrace rest) (λ from. block from >>= (λ d. Ok (Choose c b.0 (Else d.0), d.1))) n (after_passes mark.OpenBrace rest n l)
       (λ from k. passes_bind (block from) (λ d. Ok (Choose c b.0 (Else d.0), d.1)) n (goes from n k) (λ d i. i))) h
 
-  pub block_passes : (n : ℕ) (c : Term) (words : List Word) → Passes (block words) n → Passes (block words >>= (λ b. given {B = Statement} (following mark.Else b.1) (λ rest. after mark.OpenBrace rest >>= (λ from. block from >>= (λ d. Ok (Choose c b.0 (Else d.0), d.1)))) (Ok (Choose c b.0 Nothing, b.1)))) n
-  block_passes n c words p = passes_bind (block words) (λ b. given {B = Statement} (following mark.Else b.1) (λ rest. after mark.OpenBrace rest >>= (λ from. block from >>= (λ d. Ok (Choose c b.0 (Else d.0), d.1)))) (Ok (Choose c b.0 Nothing, b.1))) n p (else_passes c n)
+  pub block_passes : (n : ℕ) (c : Term) (words : List Word) → Passes (block words) n → Passes (block words >>= (λ b. given {B = Statement} (following mark.Else b.1) (λ rest. past mark.OpenBrace rest >>= (λ from. block from >>= (λ d. Ok (Choose c b.0 (Else d.0), d.1)))) (Ok (Choose c b.0 Nothing, b.1)))) n
+  block_passes n c words p = passes_bind (block words) (λ b. given {B = Statement} (following mark.Else b.1) (λ rest. past mark.OpenBrace rest >>= (λ from. block from >>= (λ d. Ok (Choose c b.0 (Else d.0), d.1)))) (Ok (Choose c b.0 Nothing, b.1))) n p (else_passes c n)
 
   pub choose_passes : (words : List Word) (n : ℕ) → Passes (term_at mark.OpenBrace words) n → Passes (choose_by block words) n
   unfolding choose_by
-  choose_passes words n p = passes_bind (term_at mark.OpenBrace words) (λ c. block c.1 >>= (λ b. given {B = Statement} (following mark.Else b.1) (λ rest. after mark.OpenBrace rest >>= (λ from. block from >>= (λ d. Ok (Choose c.0 b.0 (Else d.0), d.1)))) (Ok (Choose c.0 b.0 Nothing, b.1)))) n p
+  choose_passes words n p = passes_bind (term_at mark.OpenBrace words) (λ c. block c.1 >>= (λ b. given {B = Statement} (following mark.Else b.1) (λ rest. past mark.OpenBrace rest >>= (λ from. block from >>= (λ d. Ok (Choose c.0 b.0 (Else d.0), d.1)))) (Ok (Choose c.0 b.0 Nothing, b.1)))) n p
       (λ c l. block_passes n c.0 c.1 (goes c.1 n l))
 
   pub begun_goes : (whole : Bool) (o : Option Beginning) (words : List Word) (n : ℕ) → suc (length words) ≤ n → Passes (begun_by whole block o words) n
@@ -111,13 +111,13 @@ block_at_goes whole (suc room) words n h = block_by_goes (statement_by whole (bl
 
 -- ---- parameters
 
-pub array_passes : (n : ℕ) (t : Ty × List Word) → length t.1 ≤ n → Passes (after mark.CloseBracket t.1 >>= (λ rest. Ok (shape.Array t.0, rest))) n
-array_passes n t h = passes_one (after mark.CloseBracket t.1) (λ rest. Ok (shape.Array t.0, rest)) n (after_passes mark.CloseBracket t.1 n h) (λ rest k. k)
+pub array_passes : (n : ℕ) (t : Ty × List Word) → length t.1 ≤ n → Passes (past mark.CloseBracket t.1 >>= (λ rest. Ok (shape.Array t.0, rest))) n
+array_passes n t h = passes_one (past mark.CloseBracket t.1) (λ rest. Ok (shape.Array t.0, rest)) n (after_passes mark.CloseBracket t.1 n h) (λ rest k. k)
 
 pub shape_goes : Going shape_at
 unfolding shape_at
-shape_goes words n h = passes_given mark.OpenBracket words (λ from. type_at from >>= (λ t. after mark.CloseBracket t.1 >>= (λ rest. Ok (shape.Array t.0, rest)))) (type_at words >>= (λ t. Ok (shape.Scalar t.0, t.1))) n h
-    (λ from l. passes_bind (type_at from) (λ t. after mark.CloseBracket t.1 >>= (λ rest. Ok (shape.Array t.0, rest))) n (type_passes from n l) (array_passes n))
+shape_goes words n h = passes_given mark.OpenBracket words (λ from. type_at from >>= (λ t. past mark.CloseBracket t.1 >>= (λ rest. Ok (shape.Array t.0, rest)))) (type_at words >>= (λ t. Ok (shape.Scalar t.0, t.1))) n h
+    (λ from l. passes_bind (type_at from) (λ t. past mark.CloseBracket t.1 >>= (λ rest. Ok (shape.Array t.0, rest))) n (type_passes from n l) (array_passes n))
     (passes_bind (type_at words) (λ t. Ok (shape.Scalar t.0, t.1)) n (type_passes words n h) (λ t k. k))
 
 abbrev pub shaped : List ℕ → Shape × List Word → Read Parameter
@@ -126,20 +126,20 @@ shaped x s = Ok (record { name = x; shape = s.0 }, s.1)
 pub shape_passes : (x : List ℕ) (words : List Word) (n : ℕ) → Passes (shape_at words) n → Passes (shape_at words >>= shaped x) n
 shape_passes x words n p = passes_bind (shape_at words) (shaped x) n p (λ s k. k)
 
-pub colon_passes : (x : List ℕ) (words : List Word) (n : ℕ) → length words ≤ n → Passes (after mark.Colon words >>= (λ from. shape_at from >>= shaped x)) n
-colon_passes x words n h = passes_one (after mark.Colon words) (λ from. shape_at from >>= shaped x) n (after_passes mark.Colon words n h) (λ from l. shape_passes x from n (shape_goes from n l))
+pub colon_passes : (x : List ℕ) (words : List Word) (n : ℕ) → length words ≤ n → Passes (past mark.Colon words >>= (λ from. shape_at from >>= shaped x)) n
+colon_passes x words n h = passes_one (past mark.Colon words) (λ from. shape_at from >>= shaped x) n (after_passes mark.Colon words n h) (λ from l. shape_passes x from n (shape_goes from n l))
 
 pub param_goes : Going param_at
 unfolding param_at
-param_goes words n h = passes_bind (name_at words) (λ x. after mark.Colon x.1 >>= (λ from. shape_at from >>= shaped x.0)) n (name_passes words n h) (λ x l. colon_passes x.0 x.1 n l)
+param_goes words n h = passes_bind (name_at words) (λ x. past mark.Colon x.1 >>= (λ from. shape_at from >>= shaped x.0)) n (name_passes words n h) (λ x l. colon_passes x.0 x.1 n l)
 
 pub some_passes : (others : ℕ) (words : List Word) (n : ℕ) → Passes (param_at words) n → Passes (some_at others words) n
 unfolding some_at
 some_passes zero words n q = passes_bind (param_at words) (λ p. given {B = Read (List Parameter)} (following mark.CloseParen p.1) (λ rest. Ok (p.0 ∷ [], rest)) (Err (length p.1))) n q
     (λ p l. passes_given mark.CloseParen p.1 (λ rest. Ok (p.0 ∷ [], rest)) (Err (length p.1)) n l (λ rest k. k) l)
-some_passes (suc others) words n q = passes_bind (param_at words) (λ p. given {B = Read (List Parameter)} (following mark.CloseParen p.1) (λ rest. Ok (p.0 ∷ [], rest)) (after mark.Comma p.1 >>= (λ next. some_at others next >>= (λ ps. Ok (p.0 ∷ ps.0, ps.1))))) n q
-    (λ p l. passes_given mark.CloseParen p.1 (λ rest. Ok (p.0 ∷ [], rest)) (after mark.Comma p.1 >>= (λ next. some_at others next >>= (λ ps. Ok (p.0 ∷ ps.0, ps.1)))) n l (λ rest k. k)
-    (passes_one (after mark.Comma p.1) (λ next. some_at others next >>= (λ ps. Ok (p.0 ∷ ps.0, ps.1))) n (after_passes mark.Comma p.1 n l)
+some_passes (suc others) words n q = passes_bind (param_at words) (λ p. given {B = Read (List Parameter)} (following mark.CloseParen p.1) (λ rest. Ok (p.0 ∷ [], rest)) (past mark.Comma p.1 >>= (λ next. some_at others next >>= (λ ps. Ok (p.0 ∷ ps.0, ps.1))))) n q
+    (λ p l. passes_given mark.CloseParen p.1 (λ rest. Ok (p.0 ∷ [], rest)) (past mark.Comma p.1 >>= (λ next. some_at others next >>= (λ ps. Ok (p.0 ∷ ps.0, ps.1)))) n l (λ rest k. k)
+    (passes_one (past mark.Comma p.1) (λ next. some_at others next >>= (λ ps. Ok (p.0 ∷ ps.0, ps.1))) n (after_passes mark.Comma p.1 n l)
     (λ next k. passes_bind (some_at others next) (λ ps. Ok (p.0 ∷ ps.0, ps.1)) n (some_passes others next n (param_goes next n k)) (λ ps i. i))))
 
 pub some_goes : (others : ℕ) → Going (some_at others)
@@ -157,18 +157,18 @@ initial x t e = Ok (record { name = x; type = t; init = e.0 }, e.1)
 pub value_passes : (x : List ℕ) (t : Ty) (words : List Word) (n : ℕ) → Passes (term_at mark.Semicolon words) n → Passes (term_at mark.Semicolon words >>= initial x t) n
 value_passes x t words n p = passes_bind (term_at mark.Semicolon words) (initial x t) n p (λ e k. k)
 
-pub equals_passes : (x : List ℕ) (t : Ty) (words : List Word) (n : ℕ) → length words ≤ n → Passes (after mark.Equals words >>= (λ next. term_at mark.Semicolon next >>= initial x t)) n
-equals_passes x t words n h = passes_one (after mark.Equals words) (λ next. term_at mark.Semicolon next >>= initial x t) n (after_passes mark.Equals words n h) (λ next l. value_passes x t next n (term_goes mark.Semicolon next n l))
+pub equals_passes : (x : List ℕ) (t : Ty) (words : List Word) (n : ℕ) → length words ≤ n → Passes (past mark.Equals words >>= (λ next. term_at mark.Semicolon next >>= initial x t)) n
+equals_passes x t words n h = passes_one (past mark.Equals words) (λ next. term_at mark.Semicolon next >>= initial x t) n (after_passes mark.Equals words n h) (λ next l. value_passes x t next n (term_goes mark.Semicolon next n l))
 
-pub type_passes_on : (x : List ℕ) (words : List Word) (n : ℕ) → length words ≤ n → Passes (type_at words >>= (λ t. after mark.Equals t.1 >>= (λ next. term_at mark.Semicolon next >>= initial x t.0))) n
-type_passes_on x words n h = passes_bind (type_at words) (λ t. after mark.Equals t.1 >>= (λ next. term_at mark.Semicolon next >>= initial x t.0)) n (type_passes words n h) (λ t l. equals_passes x t.0 t.1 n l)
+pub type_passes_on : (x : List ℕ) (words : List Word) (n : ℕ) → length words ≤ n → Passes (type_at words >>= (λ t. past mark.Equals t.1 >>= (λ next. term_at mark.Semicolon next >>= initial x t.0))) n
+type_passes_on x words n h = passes_bind (type_at words) (λ t. past mark.Equals t.1 >>= (λ next. term_at mark.Semicolon next >>= initial x t.0)) n (type_passes words n h) (λ t l. equals_passes x t.0 t.1 n l)
 
-pub named_passes : (x : List ℕ) (words : List Word) (n : ℕ) → length words ≤ n → Passes (after mark.Colon words >>= (λ from. type_at from >>= (λ t. after mark.Equals t.1 >>= (λ next. term_at mark.Semicolon next >>= initial x t.0)))) n
-named_passes x words n h = passes_one (after mark.Colon words) (λ from. type_at from >>= (λ t. after mark.Equals t.1 >>= (λ next. term_at mark.Semicolon next >>= initial x t.0))) n (after_passes mark.Colon words n h) (λ from l. type_passes_on x from n l)
+pub named_passes : (x : List ℕ) (words : List Word) (n : ℕ) → length words ≤ n → Passes (past mark.Colon words >>= (λ from. type_at from >>= (λ t. past mark.Equals t.1 >>= (λ next. term_at mark.Semicolon next >>= initial x t.0)))) n
+named_passes x words n h = passes_one (past mark.Colon words) (λ from. type_at from >>= (λ t. past mark.Equals t.1 >>= (λ next. term_at mark.Semicolon next >>= initial x t.0))) n (after_passes mark.Colon words n h) (λ from l. type_passes_on x from n l)
 
 pub var_goes : Going var_at
 unfolding var_at
-var_goes words n h = passes_bind (name_at words) (λ x. after mark.Colon x.1 >>= (λ from. type_at from >>= (λ t. after mark.Equals t.1 >>= (λ next. term_at mark.Semicolon next >>= initial x.0 t.0)))) n (name_passes words n h) (λ x l. named_passes x.0 x.1 n l)
+var_goes words n h = passes_bind (name_at words) (λ x. past mark.Colon x.1 >>= (λ from. type_at from >>= (λ t. past mark.Equals t.1 >>= (λ next. term_at mark.Semicolon next >>= initial x.0 t.0)))) n (name_passes words n h) (λ x l. named_passes x.0 x.1 n l)
 
 pub vars_by_go : (k : ℕ) → Going (vars_by k)
 unfolding vars_by
@@ -198,37 +198,37 @@ abbrev pub inside_of : List ℕ → List ℕ → List Word → Read PlainLoop
 inside_of i n inside = block_at true (length inside) inside >>= turned i n
 
 abbrev pub bound_of : List ℕ → List ℕ × List Word → Read PlainLoop
-bound_of i n = after mark.OpenBrace n.1 >>= inside_of i n.0
+bound_of i n = past mark.OpenBrace n.1 >>= inside_of i n.0
 
 abbrev pub end_of : List ℕ → List Word → Read PlainLoop
 end_of i end = name_at end >>= bound_of i
 
 abbrev pub range_of : List ℕ → List Word → Read PlainLoop
-range_of i range = after mark.Range range >>= end_of i
+range_of i range = past mark.Range range >>= end_of i
 
 abbrev pub zero_of : List ℕ → List Word → Read PlainLoop
 zero_of i from = zero_at from >>= range_of i
 
 abbrev pub index_of : List ℕ × List Word → Read PlainLoop
-index_of i = after mark.In i.1 >>= zero_of i.0
+index_of i = past mark.In i.1 >>= zero_of i.0
 
 pub inside_passes : (i b : List ℕ) (words : List Word) (n : ℕ) → Passes (block_at true (length words) words) n → Passes (inside_of i b words) n
 inside_passes i b words n p = passes_bind (block_at true (length words) words) (turned i b) n p (λ c k. k)
 
 pub bound_passes : (i : List ℕ) (n : ℕ) (b : List ℕ × List Word) → length b.1 ≤ n → Passes (bound_of i b) n
-bound_passes i n b h = passes_one (after mark.OpenBrace b.1) (inside_of i b.0) n (after_passes mark.OpenBrace b.1 n h) (λ inside l. inside_passes i b.0 inside n (block_at_goes true (length inside) inside n l))
+bound_passes i n b h = passes_one (past mark.OpenBrace b.1) (inside_of i b.0) n (after_passes mark.OpenBrace b.1 n h) (λ inside l. inside_passes i b.0 inside n (block_at_goes true (length inside) inside n l))
 
 pub end_passes : (i : List ℕ) (n : ℕ) (words : List Word) → length words ≤ n → Passes (end_of i words) n
 end_passes i n words h = passes_bind (name_at words) (bound_of i) n (name_passes words n h) (bound_passes i n)
 
 pub range_passes : (i : List ℕ) (n : ℕ) (words : List Word) → length words ≤ n → Passes (range_of i words) n
-range_passes i n words h = passes_one (after mark.Range words) (end_of i) n (after_passes mark.Range words n h) (end_passes i n)
+range_passes i n words h = passes_one (past mark.Range words) (end_of i) n (after_passes mark.Range words n h) (end_passes i n)
 
 pub zero_of_passes : (i : List ℕ) (n : ℕ) (words : List Word) → length words ≤ n → Passes (zero_of i words) n
 zero_of_passes i n words h = passes_one (zero_at words) (range_of i) n (zero_passes words n h) (range_passes i n)
 
 pub index_passes : (n : ℕ) (i : List ℕ × List Word) → length i.1 ≤ n → Passes (index_of i) n
-index_passes n i h = passes_one (after mark.In i.1) (zero_of i.0) n (after_passes mark.In i.1 n h) (zero_of_passes i.0 n)
+index_passes n i h = passes_one (past mark.In i.1) (zero_of i.0) n (after_passes mark.In i.1 n h) (zero_of_passes i.0 n)
 
 pub turns_go : Going turns_at
 unfolding turns_at
@@ -244,28 +244,28 @@ loop_goes words n h = passes_given mark.For words (λ rest. turns_at rest >>= (�
 abbrev pub opened : Ty → List Word → Read (Option Ty)
 opened t body = Ok (Some t, body)
 
-pub type_opens : (words : List Word) (n : ℕ) → length words ≤ n → Passes (type_at words >>= (λ t. after mark.OpenBrace t.1 >>= opened t.0)) n
-type_opens words n h = passes_bind (type_at words) (λ t. after mark.OpenBrace t.1 >>= opened t.0) n (type_passes words n h)
-    (λ t l. passes_one (after mark.OpenBrace t.1) (opened t.0) n (after_passes mark.OpenBrace t.1 n l) (λ body k. k))
+pub type_opens : (words : List Word) (n : ℕ) → length words ≤ n → Passes (type_at words >>= (λ t. past mark.OpenBrace t.1 >>= opened t.0)) n
+type_opens words n h = passes_bind (type_at words) (λ t. past mark.OpenBrace t.1 >>= opened t.0) n (type_passes words n h)
+    (λ t l. passes_one (past mark.OpenBrace t.1) (opened t.0) n (after_passes mark.OpenBrace t.1 n l) (λ body k. k))
 
 pub tail_goes : Going tail_at
 unfolding tail_at
-tail_goes words n h = passes_given mark.OpenBrace words (λ body. Ok (None, body)) (after mark.Arrow words >>= (λ from. type_at from >>= (λ t. after mark.OpenBrace t.1 >>= opened t.0))) n h (λ body k. k)
-    (passes_one (after mark.Arrow words) (λ from. type_at from >>= (λ t. after mark.OpenBrace t.1 >>= opened t.0)) n (after_passes mark.Arrow words n h) (λ from l. type_opens from n l))
+tail_goes words n h = passes_given mark.OpenBrace words (λ body. Ok (None, body)) (past mark.Arrow words >>= (λ from. type_at from >>= (λ t. past mark.OpenBrace t.1 >>= opened t.0))) n h (λ body k. k)
+    (passes_one (past mark.Arrow words) (λ from. type_at from >>= (λ t. past mark.OpenBrace t.1 >>= opened t.0)) n (after_passes mark.Arrow words n h) (λ from l. type_opens from n l))
 
 abbrev pub returned : Ty → Term → List Word → Read (Option Returned)
 returned t e rest = Ok (Some (record { type = t; value = e }), rest)
 
-pub close_passes : (t : Ty) (n : ℕ) (e : Term × List Word) → length e.1 ≤ n → Passes (after mark.CloseBrace e.1 >>= returned t e.0) n
-close_passes t n e h = passes_one (after mark.CloseBrace e.1) (returned t e.0) n (after_passes mark.CloseBrace e.1 n h) (λ rest k. k)
+pub close_passes : (t : Ty) (n : ℕ) (e : Term × List Word) → length e.1 ≤ n → Passes (past mark.CloseBrace e.1 >>= returned t e.0) n
+close_passes t n e h = passes_one (past mark.CloseBrace e.1) (returned t e.0) n (after_passes mark.CloseBrace e.1 n h) (λ rest k. k)
 
-pub return_passes : (t : Ty) (words : List Word) (n : ℕ) → Passes (term_at mark.Semicolon words) n → Passes (term_at mark.Semicolon words >>= (λ e. after mark.CloseBrace e.1 >>= returned t e.0)) n
-return_passes t words n p = passes_bind (term_at mark.Semicolon words) (λ e. after mark.CloseBrace e.1 >>= returned t e.0) n p (close_passes t n)
+pub return_passes : (t : Ty) (words : List Word) (n : ℕ) → Passes (term_at mark.Semicolon words) n → Passes (term_at mark.Semicolon words >>= (λ e. past mark.CloseBrace e.1 >>= returned t e.0)) n
+return_passes t words n p = passes_bind (term_at mark.Semicolon words) (λ e. past mark.CloseBrace e.1 >>= returned t e.0) n p (close_passes t n)
 
 pub answer_goes : (t : Option Ty) → Going (answer_by t)
 unfolding answer_by
-answer_goes None words n h = passes_one (after mark.CloseBrace words) (λ rest. Ok (None, rest)) n (after_passes mark.CloseBrace words n h) (λ rest k. k)
-answer_goes (Some t) words n h = passes_one (after mark.Return words) (λ from. term_at mark.Semicolon from >>= (λ e. after mark.CloseBrace e.1 >>= returned t e.0)) n (after_passes mark.Return words n h) (λ from l. return_passes t from n (term_goes mark.Semicolon from n l))
+answer_goes None words n h = passes_one (past mark.CloseBrace words) (λ rest. Ok (None, rest)) n (after_passes mark.CloseBrace words n h) (λ rest k. k)
+answer_goes (Some t) words n h = passes_one (past mark.Return words) (λ from. term_at mark.Semicolon from >>= (λ e. past mark.CloseBrace e.1 >>= returned t e.0)) n (after_passes mark.Return words n h) (λ from l. return_passes t from n (term_goes mark.Semicolon from n l))
 
 -- ---- the kernel
 
@@ -306,7 +306,7 @@ abbrev pub by_inside : List ℕ → List Word → Result Program ℕ
 by_inside x inside = params_at inside >>= by_params x
 
 abbrev pub by_name : List ℕ × List Word → Result Program ℕ
-by_name x = after mark.OpenParen x.1 >>= by_inside x.0
+by_name x = past mark.OpenParen x.1 >>= by_inside x.0
 
 abbrev pub by_kernel : List Word → Result Program ℕ
 by_kernel from = name_at from >>= by_name
@@ -334,11 +334,11 @@ pub inside_ends : (x : List ℕ) (n : ℕ) (inside : List Word) → length insid
 inside_ends x n inside h = ends_bind (params_at inside) (by_params x) n (params_go inside n h) (params_end x n)
 
 pub name_ends : (n : ℕ) (x : List ℕ × List Word) → length x.1 ≤ n → PassesEnd (by_name x) n
-name_ends n x h = ends_one (after mark.OpenParen x.1) (by_inside x.0) n (after_passes mark.OpenParen x.1 n h) (inside_ends x.0 n)
+name_ends n x h = ends_one (past mark.OpenParen x.1) (by_inside x.0) n (after_passes mark.OpenParen x.1 n h) (inside_ends x.0 n)
 
 pub kernel_ends : (n : ℕ) (from : List Word) → length from ≤ n → PassesEnd (by_kernel from) n
 kernel_ends n from h = ends_bind (name_at from) by_name n (name_passes from n h) (name_ends n)
 
 pub whole_ends : (words : List Word) (n : ℕ) → length words ≤ n → PassesEnd (kernel_at words) n
 unfolding kernel_at
-whole_ends words n h = ends_one (after mark.Kernel words) by_kernel n (after_passes mark.Kernel words n h) (kernel_ends n)
+whole_ends words n h = ends_one (past mark.Kernel words) by_kernel n (after_passes mark.Kernel words n h) (kernel_ends n)

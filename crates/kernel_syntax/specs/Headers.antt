@@ -7,7 +7,7 @@ use Rattle.kernel_tree.specs.declared.mark.Mark.TheVariants as mark
 use Rattle.kernel_tree.specs.Word.{Word}
 use Rattle.kernel_tree.specs.Plain.{Parameter, Accumulator, PlainLoop, Returned, Program}
 use Rattle.kernel_tree.specs.Grammar.{number_at}
-use Rattle.kernel_syntax.specs.Reading.{◌>>=◌, given, following, after, name_at, type_at}
+use Rattle.kernel_syntax.specs.Reading.{◌>>=◌, given, following, past, name_at, type_at}
 use Rattle.kernel_syntax.specs.Statements.{term_at, block_at}
 
 abbrev pub Read : Type 0 → Type 0
@@ -17,13 +17,13 @@ Read A = Result (A × List Word) ℕ
 unfoldable pub shape_at : List Word → Read Shape
 shape_at words =
     given (following mark.OpenBracket words)
-    (λ from. type_at from >>= (λ t. after mark.CloseBracket t.1 >>= (λ rest. Ok (shape.Array t.0, rest))))
+    (λ from. type_at from >>= (λ t. past mark.CloseBracket t.1 >>= (λ rest. Ok (shape.Array t.0, rest))))
     (type_at words >>= (λ t. Ok (shape.Scalar t.0, t.1)))
 
 unfoldable pub param_at : List Word → Read Parameter
 param_at words = do
   x ← name_at words
-  from ← after mark.Colon x.1
+  from ← past mark.Colon x.1
   s ← shape_at from
   Ok (record { name = x.0; shape = s.0 }, s.1)
 
@@ -33,7 +33,7 @@ some_at zero words =
     param_at words >>= (λ p. given (following mark.CloseParen p.1) (λ rest. Ok (p.0 ∷ [], rest)) (Err (length p.1)))
 some_at (suc others) words =
     param_at words >>= (λ p. given (following mark.CloseParen p.1) (λ rest. Ok (p.0 ∷ [], rest))
-    (after mark.Comma p.1 >>= (λ next. some_at others next >>= (λ ps. Ok (p.0 ∷ ps.0, ps.1)))))
+    (past mark.Comma p.1 >>= (λ next. some_at others next >>= (λ ps. Ok (p.0 ∷ ps.0, ps.1)))))
 
 unfoldable pub params_at : List Word → Read (List Parameter)
 params_at words = given (following mark.CloseParen words) (λ rest. Ok ([], rest)) (some_at 7 words)
@@ -42,9 +42,9 @@ params_at words = given (following mark.CloseParen words) (λ rest. Ok ([], rest
 unfoldable pub var_at : List Word → Read Accumulator
 var_at words = do
   x ← name_at words
-  from ← after mark.Colon x.1
+  from ← past mark.Colon x.1
   t ← type_at from
-  next ← after mark.Equals t.1
+  next ← past mark.Equals t.1
   e ← term_at mark.Semicolon next
   Ok (record { name = x.0; type = t.0; init = e.0 }, e.1)
 
@@ -63,11 +63,11 @@ zero_at words = given (number_at words) (λ x. if nat_eq x.0 0 then Ok x.1 else 
 unfoldable pub turns_at : List Word → Read PlainLoop
 turns_at words = do
   i ← name_at words
-  from ← after mark.In i.1
+  from ← past mark.In i.1
   range ← zero_at from
-  end ← after mark.Range range
+  end ← past mark.Range range
   n ← name_at end
-  inside ← after mark.OpenBrace n.1
+  inside ← past mark.OpenBrace n.1
   b ← block_at true (length inside) inside
   Ok (record { index = i.0; bound = n.0; body = b.0 }, b.1)
 
@@ -78,15 +78,15 @@ loop_at words = given (following mark.For words) (λ rest. turns_at rest >>= (λ
 unfoldable pub tail_at : List Word → Read (Option Ty)
 tail_at words =
     given (following mark.OpenBrace words) (λ body. Ok (None, body))
-    (after mark.Arrow words >>= (λ from. type_at from >>= (λ t. after mark.OpenBrace t.1 >>= (λ body. Ok (Some t.0, body)))))
+    (past mark.Arrow words >>= (λ from. type_at from >>= (λ t. past mark.OpenBrace t.1 >>= (λ body. Ok (Some t.0, body)))))
 
 -- the end of a kernel that returns nothing, or a value of a type
 unfoldable pub answer_by : Option Ty → List Word → Read (Option Returned)
-answer_by None words = after mark.CloseBrace words >>= (λ rest. Ok (None, rest))
+answer_by None words = past mark.CloseBrace words >>= (λ rest. Ok (None, rest))
 answer_by (Some t) words = do
-  from ← after mark.Return words
+  from ← past mark.Return words
   e ← term_at mark.Semicolon from
-  rest ← after mark.CloseBrace e.1
+  rest ← past mark.CloseBrace e.1
   Ok (Some (record { type = t; value = e.0 }), rest)
 
 -- what was read, where nothing is left after it
@@ -96,9 +96,9 @@ alone x (w ∷ rest) = Err (suc (length rest))
 
 unfoldable pub kernel_at : List Word → Result Program ℕ
 kernel_at words = do
-  from ← after mark.Kernel words
+  from ← past mark.Kernel words
   x ← name_at from
-  inside ← after mark.OpenParen x.1
+  inside ← past mark.OpenParen x.1
   ps ← params_at inside
   t ← tail_at ps.1
   vs ← vars_at t.1

@@ -1,5 +1,6 @@
 -- Reading from left to right, with the number of words left where it stops.
 use Rattle.std.specs.Prelude.{◌≡◌, ℕ, zero, suc, pos, neg_ℤ, List, [], ◌∷◌, length, Option, Some, None, Result, Ok, Err, nat_eq, if◌then◌else◌}
+pub use Rattle.number_text.specs.Numbers.{given}
 use Rattle.kernel_tree.specs.declared.ops.Ty.{Ty}
 use Rattle.kernel_tree.specs.declared.ops.UnaryOp.TheVariants as unary
 use Rattle.kernel_tree.specs.declared.ops.BinaryOp.{BinaryOp}
@@ -30,11 +31,6 @@ Fails (stop.Syntax left) read = read ≡ Err left
 abbrev pub Gives : {X Y : Type 0} → (X → Y) → Result X Stop → Result Y ℕ → Type 0
 Gives view (Ok x) read = read ≡ Ok (view x)
 Gives view (Err e) read = Fails e read
-
--- a choice by what may be there
-abbrev pub given : {A B : Type 0} → Option A → (A → B) → B → B
-given None f b = b
-given (Some x) f b = f x
 
 -- what must be there, or the number of words left
 abbrev pub needed : {A : Type 0} → Option A → ℕ → Result A ℕ
@@ -85,8 +81,8 @@ unfoldable pub following : Mark → List Word → Option (List Word)
 following m words = given (mark_at words) (λ x. if same x.0 m then Some x.1 else None) None
 
 -- the words after a mark that must stand at the front
-unfoldable pub after : Mark → List Word → Result (List Word) ℕ
-after m words = needed (following m words) (length words)
+unfoldable pub past : Mark → List Word → Result (List Word) ℕ
+past m words = needed (following m words) (length words)
 
 unfoldable pub name_at : List Word → Result (List ℕ × List Word) ℕ
 name_at words = needed (name_front words) (length words)
@@ -127,7 +123,7 @@ chain_at unary (suc level) words =
 
 -- an expression and a mark after it, by the reader of expressions
 unfoldable pub term_before : (List Word → Outcome) → Mark → List Word → Outcome
-term_before read m words = read words >>= (λ e. after m e.1 >>= (λ rest. Ok (e.0, rest)))
+term_before read m words = read words >>= (λ e. past m e.1 >>= (λ rest. Ok (e.0, rest)))
 
 unfoldable pub name_by : (List Word → Outcome) → List ℕ → List Word → Outcome
 name_by read x words =
@@ -135,20 +131,20 @@ name_by read x words =
 
 unfoldable pub pair_by : (List Word → Outcome) → BinaryOp → List Word → Outcome
 pair_by read op words = do
-  from ← after mark.OpenParen words
+  from ← past mark.OpenParen words
   a ← term_before read mark.Comma from
   b ← term_before read mark.CloseParen a.1
   Ok (Operation op a.0 b.0, b.1)
 
 unfoldable pub absolute_by : (List Word → Outcome) → List Word → Outcome
 absolute_by read words = do
-  from ← after mark.OpenParen words
+  from ← past mark.OpenParen words
   e ← term_before read mark.CloseParen from
   Ok (Unary unary.Abs e.0, e.1)
 
 unfoldable pub choice_by : (List Word → Outcome) → List Word → Outcome
 choice_by read words = do
-  from ← after mark.OpenParen words
+  from ← past mark.OpenParen words
   c ← term_before read mark.Comma from
   a ← term_before read mark.Comma c.1
   b ← term_before read mark.CloseParen a.1

@@ -9,7 +9,7 @@ use Rattle.kernel_tree.specs.declared.mark.Beginning.TheVariants as beginning
 use Rattle.kernel_tree.specs.Word.{Word, IsName, IsNumber, IsType, IsCompare, IsUpdate, IsMark}
 use Rattle.kernel_tree.specs.Plain.{Action, Define, Put, Update, Choose, Leave, Block, Done, Then, Nothing, Else}
 use Rattle.kernel_tree.specs.Grammar.{beginning_of_mark}
-use Rattle.kernel_syntax.specs.Reading.{◌>>=◌, given, Outcome, following, after, name_at, type_at, update_front, term_before, chain_at, unary_at}
+use Rattle.kernel_syntax.specs.Reading.{◌>>=◌, given, Outcome, following, past, name_at, type_at, update_front, term_before, chain_at, unary_at}
 
 abbrev pub Statement : Type 0
 Statement = Result (Action × List Word) ℕ
@@ -28,7 +28,7 @@ unfoldable pub define_at : List Word → Statement
 define_at words = do
   x ← name_at words
   t ← type_part x.1
-  from ← after mark.Equals t.1
+  from ← past mark.Equals t.1
   e ← term_at mark.Semicolon from
   Ok (Define x.0 t.0 e.0, e.1)
 
@@ -36,7 +36,7 @@ define_at words = do
 unfoldable pub put_at : List ℕ → List Word → Statement
 put_at x words = do
   i ← term_at mark.CloseBracket words
-  next ← after mark.Equals i.1
+  next ← past mark.Equals i.1
   e ← term_at mark.Semicolon next
   Ok (Put x i.0 e.0, e.1)
 
@@ -50,14 +50,14 @@ target_at x words = given (following mark.OpenBracket words) (λ from. put_at x 
 -- after a break, which stands in the loop's own block alone
 unfoldable pub leave_at : Bool → List Word → Statement
 leave_at false words = Err (suc (length words))
-leave_at true words = after mark.If words >>= (λ from. term_at mark.Semicolon from >>= (λ c. Ok (Leave c.0, c.1)))
+leave_at true words = past mark.If words >>= (λ from. term_at mark.Semicolon from >>= (λ c. Ok (Leave c.0, c.1)))
 
 -- the rest of a choice, by the reader of the statements of a block
 unfoldable pub choose_by : (List Word → Statements) → List Word → Statement
 choose_by block words = do
   c ← term_at mark.OpenBrace words
   b ← block c.1
-  given (following mark.Else b.1) (λ rest. after mark.OpenBrace rest >>= (λ from. block from >>= (λ d. Ok (Choose c.0 b.0 (Else d.0), d.1)))) (Ok (Choose c.0 b.0 Nothing, b.1))
+  given (following mark.Else b.1) (λ rest. past mark.OpenBrace rest >>= (λ from. block from >>= (λ d. Ok (Choose c.0 b.0 (Else d.0), d.1)))) (Ok (Choose c.0 b.0 Nothing, b.1))
 
 abbrev pub begun_by : Bool → (List Word → Statements) → Option Beginning → List Word → Statement
 begun_by whole block None rest = Err (suc (length rest))

@@ -3,7 +3,7 @@
 ghost use Rattle.std.specs.Prelude.{◌≡◌, ◌≤◌, ◌<◌, length, IfOk, IfSome, option_map};
 ghost use Rattle.kernel_tree.specs.Plain.{name_of, words_of};
 ghost use Rattle.kernel_tree.specs.Grammar.{number_at};
-ghost use Rattle.kernel_syntax.specs.Reading.{Gives, mark_at, name_front, type_front, update_front, following, after, name_at, type_at, count_at, operator_at};
+ghost use Rattle.kernel_syntax.specs.Reading.{Gives, mark_at, name_front, type_front, update_front, following, past, name_at, type_at, count_at, operator_at};
 
 use crate::class;
 use crate::fault::Stop;
@@ -105,9 +105,9 @@ pub fn accept<'a>(tokens: &'a [Token], mark: Mark) -> Option<&'a [Token]>
 }
 
 // The tokens after a mark, which must stand at the front.
-#[tactic(auto, unfolding(crate::specs::Reading::after))]
+#[tactic(auto, unfolding(crate::specs::Reading::past))]
 pub fn expect<'a>(tokens: &'a [Token], mark: Mark) -> Result<&'a [Token], Stop>
-    ensures value { Gives (λ rest. words_of rest.now) result (after mark (words_of tokens.now)) }
+    ensures value { Gives (λ rest. words_of rest.now) result (past mark (words_of tokens.now)) }
     ensures shorter { IfOk result (λ rest. length rest.now < length tokens.now) }
 {
     match accept(tokens, mark) {

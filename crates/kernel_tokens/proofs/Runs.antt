@@ -12,6 +12,7 @@ use Rattle.std.proofs.lemmas.List.Elements.{All-nil, All-cons}
 use Rattle.kernel_tree.specs.Tokens.{is_letter, is_name_byte, is_run, run_piece, begins_hex, literal, number_piece, decimal_from, hex_from}
 use Rattle.number_text.specs.Numbers.{is_digit, is_hex_digit, value_of}
 use Rattle.kernel_tokens.specs.Fronts.{at_front, at_letter, run_front_of}
+use Rattle.kernel_tree.proofs.Well.{both_true as both}
 
 pub within : {X : Type 0} (p : X → Bool) (xs : List X) → prefix_len p xs ≤ length xs
 within p xs = prefix_len-le-length p xs
@@ -21,10 +22,6 @@ name_byte_low b h = grind (arith, nat_tests)
 
 letter_low : (b : ℕ) → is_letter b ≡ true → b < 128
 letter_low b h = grind (arith, nat_tests)
-
-both : (a b : Bool) → (a && b) ≡ true → (a ≡ true) × (b ≡ true)
-both true b h = (refl, h)
-both false b h = absurd cc
 
 all_low : (w : List ℕ) → list_all is_name_byte w ≡ true → All (λ b. b < 128) w
 all_low [] h = All-nil (λ b. b < 128)

@@ -26,7 +26,7 @@ use Rattle.kernel_tree.proofs.Well.{Tokens}
 -- ---- places
 
 -- a place so many bytes on
-abbrev moved : ℕ → ℕ → ℕ
+abbrev pub moved : ℕ → ℕ → ℕ
 moved zero at = at
 moved (suc k) at = moved k (at + 1)
 
@@ -35,12 +35,12 @@ abbrev tail_of : Option (List ℕ) → List ℕ
 tail_of None = []
 tail_of (Some t) = 32 ∷ t
 
-scan-skip : (t : List ℕ) (at : ℕ) (s : List ℕ) → scan (length t) at (t ++ s) ≡ scan 0 (moved (length t) at) s
+pub scan-skip : (t : List ℕ) (at : ℕ) (s : List ℕ) → scan (length t) at (t ++ s) ≡ scan 0 (moved (length t) at) s
 unfolding scan
 scan-skip [] at s = refl
 scan-skip (b ∷ t) at s = scan-skip t (at + 1) s
 
-scan-token : (b : ℕ) (rest : List ℕ) (at : ℕ) (w : Word) (k : ℕ) → piece b rest ≡ Token w k → scan 0 at (b ∷ rest) ≡ before w (scan k (at + 1) rest)
+pub scan-token : (b : ℕ) (rest : List ℕ) (at : ℕ) (w : Word) (k : ℕ) → piece b rest ≡ Token w k → scan 0 at (b ∷ rest) ≡ before w (scan k (at + 1) rest)
 unfolding scan
 scan-token b rest at w k e = ap (λ (p : Piece). by_piece p (λ k. scan k (at + 1) rest) at) e
 
@@ -83,11 +83,11 @@ mark_scans _ at (Some s) = refl
 
 -- ---- runs of bytes of one kind
 
-and_true : (a b : Bool) → (a && b) ≡ true → (a ≡ true) × (b ≡ true)
+pub and_true : (a b : Bool) → (a && b) ≡ true → (a ≡ true) × (b ≡ true)
 and_true true b h = (refl, h)
 and_true false b h = absurd cc
 
-prefix_len-all : (p : ℕ → Bool) (xs : List ℕ) (s : List ℕ) → list_all p xs ≡ true → prefix_len p s ≡ 0 → prefix_len p (xs ++ s) ≡ length xs
+pub prefix_len-all : (p : ℕ → Bool) (xs : List ℕ) (s : List ℕ) → list_all p xs ≡ true → prefix_len p s ≡ 0 → prefix_len p (xs ++ s) ≡ length xs
 prefix_len-all p [] s h e = e
 prefix_len-all p (x ∷ xs) s h e =
     let q = and_true (p x) (list_all p xs) h in
@@ -99,10 +99,10 @@ prefix_len-all p (x ∷ xs) s h e =
 letter_above : (b : ℕ) → is_letter b ≡ true → 65 ≤ b
 letter_above b h = grind (arith, nat_tests, h)
 
-not_blank : (b : ℕ) → 48 ≤ b → is_blank b ≡ false
+pub not_blank : (b : ℕ) → 48 ≤ b → is_blank b ≡ false
 not_blank b h = grind (arith, nat_tests)
 
-not_slash : (b : ℕ) → 48 ≤ b → eqb b 47 ≡ false
+pub not_slash : (b : ℕ) → 48 ≤ b → eqb b 47 ≡ false
 not_slash b h = grind (arith, nat_tests)
 
 letter_piece : (b : ℕ) (rest : List ℕ) → is_letter b ≡ true → piece b rest ≡ run_from b rest (prefix_len is_name_byte rest)
@@ -138,32 +138,32 @@ name_scans (b ∷ t) h at o = scans-from (IsName (b ∷ t)) b t (λ o. name_piec
 
 -- ---- numbers
 
-digit_is : (d : ℕ) → 48 ≤ d → d ≤ 57 → is_digit d ≡ true
+pub digit_is : (d : ℕ) → 48 ≤ d → d ≤ 57 → is_digit d ≡ true
 digit_is d l u = grind (arith, nat_tests)
 
-digit_least : (d : ℕ) → is_digit d ≡ true → 48 ≤ d
+pub digit_least : (d : ℕ) → is_digit d ≡ true → 48 ≤ d
 digit_least d h = grind (arith, nat_tests, h)
 
-digit_most : (d : ℕ) → is_digit d ≡ true → d ≤ 57
+pub digit_most : (d : ℕ) → is_digit d ≡ true → d ≤ 57
 digit_most d h = grind (arith, nat_tests, h)
 
-no_letter : (d : ℕ) → d ≤ 57 → is_letter d ≡ false
+pub no_letter : (d : ℕ) → d ≤ 57 → is_letter d ≡ false
 no_letter d h = grind (arith, nat_tests)
 
-no_x : (d : ℕ) → d ≤ 57 → eqb d 120 ≡ false
+pub no_x : (d : ℕ) → d ≤ 57 → eqb d 120 ≡ false
 no_x d h = grind (arith, nat_tests)
 
-value_here : (d : ℕ) → 48 ≤ d → d ≤ 57 → digit_value d ≡ d - 48
+pub value_here : (d : ℕ) → 48 ≤ d → d ≤ 57 → digit_value d ≡ d - 48
 value_here d l u = rw (digit_is d l u) refl
 
-value_there : (d : ℕ) → 48 ≤ d → d ≤ 57 → std_value d ≡ d - 48
+pub value_there : (d : ℕ) → 48 ≤ d → d ≤ 57 → std_value d ≡ d - 48
 value_there d l u = grind (arith, nat_tests)
 
-all_digits : (ds : List ℕ) → AllDigits 10 ds → list_all is_digit ds ≡ true
+pub all_digits : (ds : List ℕ) → AllDigits 10 ds → list_all is_digit ds ≡ true
 all_digits [] h = refl
 all_digits (d ∷ ds) h = let p = tells_digits.parts d ds h in let i = all_digits ds p.1 in rw (digit_is d p.0.0 p.0.1) i
 
-value_is : (n : ℕ) (ds : List ℕ) → AllDigits 10 ds → fold (appended 10) n ds ≡ digits_value_after 10 n ds
+pub value_is : (n : ℕ) (ds : List ℕ) → AllDigits 10 ds → fold (appended 10) n ds ≡ digits_value_after 10 n ds
 value_is n [] h = refl
 value_is n (d ∷ ds) h =
     let p = tells_digits.parts d ds h in
@@ -174,14 +174,14 @@ digit_stops : (o : Option (List ℕ)) → prefix_len is_digit (tail_of o) ≡ 0
 digit_stops None = refl
 digit_stops (Some s) = refl
 
-digit_piece : (b : ℕ) (rest : List ℕ) → is_digit b ≡ true → piece b rest ≡ number_piece b rest
+pub digit_piece : (b : ℕ) (rest : List ℕ) → is_digit b ≡ true → piece b rest ≡ number_piece b rest
 digit_piece b rest h = rw (not_blank b (digit_least b h), not_slash b (digit_least b h), no_letter b (digit_most b h), h) refl
 
-never : (a z : Bool) → ((a && false) && z) ≡ false
+pub never : (a z : Bool) → ((a && false) && z) ≡ false
 never true z = refl
 never false z = refl
 
-no_hex : (b x : ℕ) (rest : List ℕ) → eqb x 120 ≡ false → begins_hex b (x ∷ rest) ≡ false
+pub no_hex : (b x : ℕ) (rest : List ℕ) → eqb x 120 ≡ false → begins_hex b (x ∷ rest) ≡ false
 no_hex b x [] h = refl
 no_hex b x (d ∷ rest) h = rw h (never (eqb b 48) (is_hex_digit d))
 

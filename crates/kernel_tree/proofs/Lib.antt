@@ -7,6 +7,12 @@ pub mod Lexed
 pub mod PrintedTokens
 pub mod PrintedKernel
 mod Examples
-mod Wraps
+mod WrapExamples
 pub mod OneTerm
 pub mod OneTree
+pub mod Faultless
+pub mod NoFault
+pub mod Scopes
+pub mod Names
+pub mod RightKinds
+pub mod Spelled

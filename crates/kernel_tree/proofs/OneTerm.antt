@@ -36,7 +36,7 @@ abbrev pub Closed : ℕ → List Word → Type 0
 Closed level [] = Unit {0}
 Closed level (w ∷ rest) = (opens_index w ≡ false) × Looser level (operator_of w)
 
-some_is : {A : Type 0} (x y : A) → Some x ≡ Some y → x ≡ y
+pub some_is : {A : Type 0} (x y : A) → Some x ≡ Some y → x ≡ y
 some_is x y e = cc
 
 no_index_mark : (m : Mark) (o : Operator) → operator_of_mark m ≡ Some o → same m mark.OpenBracket ≡ false

@@ -15,7 +15,7 @@ abbrev pub Tokens : List Word → Type 0
 Tokens [] = Unit {0}
 Tokens (w ∷ ws) = IsTrue (is_token w) × Tokens ws
 
-both_true : (a b : Bool) → (a && b) ≡ true → (a ≡ true) × (b ≡ true)
+pub both_true : (a b : Bool) → (a && b) ≡ true → (a ≡ true) × (b ≡ true)
 both_true true b h = (refl, h)
 both_true false b h = absurd cc
 

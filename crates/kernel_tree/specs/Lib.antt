@@ -5,8 +5,12 @@ pub mod Grammar
 pub mod Front
 pub mod Items
 pub mod Limits
+pub mod Walks
 pub mod Wrap
 pub mod Typing
+pub mod Kinds
+pub mod Loops
+pub mod Scopes
 pub mod Printing
 pub mod Text
 pub mod Checked

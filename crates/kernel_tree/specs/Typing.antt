@@ -372,19 +372,19 @@ kernel_faults k =
 
 -- ---- the fault that is answered
 
-abbrev pub number_of : Fault → ℕ
-number_of fault.Unknown = 1
-number_of fault.Twice = 2
-number_of fault.WrongKind = 3
-number_of (fault.Mismatch want found) = 4
-number_of fault.Untyped = 5
-number_of fault.LiteralRange = 6
-number_of fault.ShiftRange = 7
-number_of fault.OffsetRange = 8
+abbrev pub order_of : Fault → ℕ
+order_of fault.Unknown = 1
+order_of fault.Twice = 2
+order_of fault.WrongKind = 3
+order_of (fault.Mismatch want found) = 4
+order_of fault.Untyped = 5
+order_of fault.LiteralRange = 6
+order_of fault.ShiftRange = 7
+order_of fault.OffsetRange = 8
 
 -- whether a fault comes before another: at a lesser item, or at the same item with a lesser number
 abbrev pub is_before : Found → Found → Bool
-is_before f g = nat_lt (16 * f.item + number_of f.fault) (16 * g.item + number_of g.fault)
+is_before f g = nat_lt (16 * f.item + order_of f.fault) (16 * g.item + order_of g.fault)
 
 -- the one that comes first
 abbrev pub sooner : Option Found → Option Found → Option Found

@@ -1,42 +1,13 @@
 -- The walks over the parts of a kernel, put together.
-use Rattle.std.proofs.Common.{◌≡◌, ℕ, ◌+◌, ◌<◌, ◌^◌, List, [], ◌∷◌, ◌++◌, Option, Some, None, false, length, refl, sym, ap, ap₂, ◌∙◌, arith}
+use Rattle.std.proofs.Common.{◌≡◌, ℕ, ◌+◌, ◌<◌, ◌^◌, List, ◌++◌, Option, false, length, refl, sym, ap, ap₂, ◌∙◌, arith}
 use Rattle.std.proofs.lemmas.List.{length-map}
 use Rattle.kernel_tree.specs.declared.ast.Param.{Param}
 use Rattle.kernel_tree.specs.declared.fault.Found.{Found}
-use Rattle.kernel_tree.specs.Plain.{Parameter, Accumulator, PlainLoop, Program, parameter_of, parameters_of}
+use Rattle.kernel_tree.specs.Plain.{Parameter, Accumulator, Program, parameter_of, parameters_of}
 use Rattle.kernel_tree.specs.Items.{vars_size, turns_size, answer_size, loop_index, size_of}
-use Rattle.kernel_tree.specs.Typing.{Scope, empty, after_params, after_vars, after_turns, param_scope, var_scope, params_faults, vars_faults, turns_faults, answer_faults, kernel_faults, sooner, least}
-use Rattle.kernel_types.proofs.Least.{sooner-assoc, least-append}
-use Rattle.kernel_types.specs.Parts.{after_param, after_var}
-
-index_after_params : (s : Scope) (ps : List Parameter) → (after_params s ps).index ≡ s.index
-index_after_params s [] = refl
-index_after_params s (p ∷ ps) = index_after_params (after_param s p) ps
-
-inside_after_params : (s : Scope) (ps : List Parameter) → (after_params s ps).inside ≡ s.inside
-inside_after_params s [] = refl
-inside_after_params s (p ∷ ps) = inside_after_params (after_param s p) ps
-
-index_after_vars : (s : Scope) (vs : List Accumulator) → (after_vars s vs).index ≡ s.index
-index_after_vars s [] = refl
-index_after_vars s (v ∷ vs) = index_after_vars (after_var s v) vs
-
-inside_after_vars : (s : Scope) (vs : List Accumulator) → (after_vars s vs).inside ≡ s.inside
-inside_after_vars s [] = refl
-inside_after_vars s (v ∷ vs) = inside_after_vars (after_var s v) vs
-
-index_after_turns : (s : Scope) (o : Option PlainLoop) → (after_turns s o).index ≡ s.index
-index_after_turns s None = refl
-index_after_turns s (Some l) = refl
-
-index_of_params : (k : Program) → (param_scope k).index ≡ loop_index k
-index_of_params k = index_after_params (empty (loop_index k)) k.params
-
-index_of_vars : (k : Program) → (var_scope k).index ≡ loop_index k
-index_of_vars k = index_after_vars (param_scope k) k.vars ∙ index_of_params k
-
-index_following : (k : Program) → (after_turns (var_scope k) k.turns).index ≡ loop_index k
-index_following k = index_after_turns (var_scope k) k.turns ∙ index_of_vars k
+use Rattle.kernel_tree.specs.Typing.{Scope, empty, after_turns, param_scope, var_scope, params_faults, vars_faults, turns_faults, answer_faults, kernel_faults, sooner, least}
+use Rattle.kernel_tree.proofs.Scopes.{param_index, scope_index, last_index, scope_outside}
+use Rattle.kernel_types.proofs.LeastFault.{sooner-assoc, least-append}
 
 index : Scope → Option (List ℕ)
 index s = s.index
@@ -45,22 +16,22 @@ pub count_params : (ps xs : List Param) → xs ≡ ps → 0 + length xs ≡ leng
 count_params ps xs e = omega (arith, ap length e, length-map ps parameter_of)
 
 pub vars_index : (k : Program) (s : Scope) → s ≡ var_scope k → s.index ≡ loop_index k
-vars_index k s e = rw e (index_of_vars k)
+vars_index k s e = rw e (scope_index k)
 
 pub vars_outside : (k : Program) (s : Scope) → s ≡ var_scope k → s.inside ≡ false
-vars_outside k s e = rw e (inside_after_vars (param_scope k) k.vars ∙ inside_after_params (empty (loop_index k)) k.params)
+vars_outside k s e = rw e (scope_outside k)
 
 pub vars_room : (k : Program) (s : Scope) (n : ℕ) (vs : List Accumulator) → s ≡ param_scope k → n ≡ length k.params → vs ≡ k.vars → size_of k < 2 ^ 32 → n + vars_size s.index vs < 2 ^ 32
-vars_room k s n vs e f g h = rw (e, g) (rw (index_of_params k) (omega arith))
+vars_room k s n vs e f g h = rw (e, g) (rw (param_index k) (omega arith))
 
 pub turns_room : (k : Program) (n : ℕ) → n ≡ length k.params + vars_size (loop_index k) k.vars → size_of k < 2 ^ 32 → n + turns_size k.turns < 2 ^ 32
 turns_room k n e h = omega arith
 
 pub answer_room : (k : Program) (s : Scope) (n : ℕ) → s ≡ after_turns (var_scope k) k.turns → n ≡ length k.params + vars_size (loop_index k) k.vars + turns_size k.turns → size_of k < 2 ^ 32 → n + answer_size s.index k.answer < 2 ^ 32
-answer_room k s n e f h = rw e (rw (index_following k) (omega arith))
+answer_room k s n e f h = rw e (rw (last_index k) (omega arith))
 
 pub vars_count : (k : Program) (s : Scope) (n m : ℕ) (vs : List Accumulator) → s ≡ param_scope k → n ≡ length k.params → vs ≡ k.vars → m ≡ n + vars_size s.index vs → m ≡ length k.params + vars_size (loop_index k) k.vars
-vars_count k s n m vs e f g h = h ∙ ap₂ (λ i xs. n + vars_size i xs) (rw e (index_of_params k)) g ∙ ap (λ x. x + vars_size (loop_index k) k.vars) f
+vars_count k s n m vs e f g h = h ∙ ap₂ (λ i xs. n + vars_size i xs) (rw e (param_index k)) g ∙ ap (λ x. x + vars_size (loop_index k) k.vars) f
 
 -- the first fault of the kernel from those of its parts
 pub whole : (k : Program) (s₀ s₁ s₂ s₃ : Scope) (n₁ n₂ n₃ : ℕ) (ps : List Parameter) (vs : List Accumulator) (o₁ o₂ o₃ o₄ : Option Found) →

@@ -1,6 +1,5 @@
-pub mod Least
-pub mod Growth
-pub mod Steps
+pub mod LeastFault
+pub mod ListWalks
 pub mod KernelWalks
 pub mod Bounds
-pub mod Refused
+pub mod FirstFault

@@ -1,9 +1,8 @@
 -- What the code makes of a part of a kernel, as the rules of typing have it.
-use Rattle.std.specs.Prelude.{ℕ, ℤ, unsigned_abs, List, [], ◌∷◌, ◌++◌, Option, Some, None, option_map, ◌+◌, true}
+use Rattle.std.specs.Prelude.{ℕ, ℤ, unsigned_abs, List, [], ◌∷◌, ◌++◌, Option, Some, None, option_map, ◌+◌}
 use Rattle.kernel_tree.specs.declared.ops.Ty.{Ty}
 use Rattle.kernel_tree.specs.declared.fault.Found.{Found}
-use Rattle.kernel_tree.specs.declared.fault.Binding.TheVariants as binding
-use Rattle.kernel_tree.specs.Plain.{Parameter, Accumulator}
+use Rattle.kernel_tree.specs.Plain.{Accumulator}
 use Rattle.kernel_tree.specs.Items.{term_size}
 use Rattle.kernel_tree.specs.Typing as typing
 use Rattle.kernel_types.specs.declared.notes.Role.{Role}
@@ -16,17 +15,6 @@ role_of role.Condition = typing.Condition
 -- how far from the loop variable a stream index is
 abbrev pub distance_of : Option ℤ → Option ℕ
 distance_of c = option_map unsigned_abs c
-
--- in the body of the loop
-abbrev pub in_body : typing.Scope → typing.Scope
-in_body scope = record scope { inside = true }
-
--- what a parameter and an accumulator declare
-abbrev pub after_param : typing.Scope → Parameter → typing.Scope
-after_param scope p = typing.declared scope p.name (typing.binding_of_shape p.shape)
-
-abbrev pub after_var : typing.Scope → Accumulator → typing.Scope
-after_var scope v = typing.declared scope v.name (binding.Accumulator v.type)
 
 -- the faults of an accumulator and of its initial value, and the wanted types of their items
 abbrev pub var_faults : typing.Scope → ℕ → Accumulator → List Found

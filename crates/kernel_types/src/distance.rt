@@ -3,7 +3,7 @@
 ghost use Rattle.std.specs.Prelude.{◌≡◌, option_map, option_and_then};
 ghost use Rattle.kernel_tree.specs.Plain.{term_of};
 ghost use Rattle.kernel_tree.specs.Items as items;
-ghost use Rattle.kernel_scope.specs.Scopes.{text_of};
+ghost use Rattle.kernel_scope.specs.Scopes.{lent_text};
 ghost use Rattle.kernel_types.specs.Parts.{distance_of};
 
 use kernel_scope::{is_index, is_index_term, literal_value};
@@ -21,7 +21,7 @@ fn moved_by(op: BinaryOp, by: Option<i128>) -> Option<u128>
 
 /// How far from the loop variable a stream index is; None for any other index.
 pub fn stream_distance(index: Option<&str>, expr: &Expr) -> Option<u128>
-    ensures { result ≡ distance_of (items.stream_offset (option_map text_of index.entry) (term_of expr.now)) }
+    ensures { result ≡ distance_of (items.stream_offset (option_map lent_text index.entry) (term_of expr.now)) }
 {
     match expr {
         Expr::Var(name) => { if is_index(index, name) { Some(0) } else { None } }

@@ -4,8 +4,8 @@ ghost use Rattle.std.specs.Prelude.{◌≡◌, ◌∷◌, ◌++◌, [], ◌+◌,
 ghost use Rattle.kernel_tree.specs.Plain.{name_of, term_of, block_of, parameter_of, parameters_of, accumulator_of, accumulators_of, turns_of, returned_of, program_of};
 ghost use Rattle.kernel_tree.specs.Items as items;
 ghost use Rattle.kernel_tree.specs.Typing as typing;
-ghost use Rattle.kernel_scope.specs.Scopes.{scope_of};
-ghost use Rattle.kernel_types.specs.Parts.{in_body, after_param, after_var, var_faults, var_types};
+ghost use Rattle.kernel_scope.specs.Scopes.{scope_of, in_body, after_param, after_var};
+ghost use Rattle.kernel_types.specs.Parts.{var_faults, var_types};
 
 use crate::notes::{Notes, Role};
 use crate::rules::{bound_fault, sooner, twice};
@@ -18,7 +18,7 @@ use kernel_tree::fault::Binding;
 use kernel_tree::{Answer, Kernel, Loop, Param, Stmt, Var};
 use std::alloc::{AllocError, Global};
 
-#[tactic(auto, using(crate::proofs::Least::sooner_rules))]
+#[tactic(auto, using(crate::proofs::LeastFault::sooner_rules))]
 fn walk_param<'a>(
     notes: &mut Notes,
     scope: &mut Scope<'a>,
@@ -59,7 +59,7 @@ fn walk_params<'a>(
     Ok(())
 }
 
-#[tactic(auto, using(crate::proofs::Least::sooner_rules))]
+#[tactic(auto, using(crate::proofs::LeastFault::sooner_rules))]
 fn walk_var<'a>(notes: &mut Notes, scope: &mut Scope<'a>, var: &'a Var) -> Result<(), AllocError>
     requires { notes.old.next + items.term_size (scope_of scope.old).index (term_of var.now.init) + 1 < 2 ^ 32 }
     ensures scope { IfOk result (λ _. scope_of scope.new ≡ after_var (scope_of scope.old) (accumulator_of var.now)) }
@@ -101,7 +101,7 @@ fn walk_vars<'a>(
 }
 
 // Goes over the body of a loop, after which what it declared is forgotten.
-#[tactic(auto, using(crate::proofs::Least::sooner_rules))]
+#[tactic(auto, using(crate::proofs::LeastFault::sooner_rules))]
 fn walk_body<'a>(
     notes: &mut Notes,
     scope: &mut Scope<'a>,
@@ -126,7 +126,7 @@ fn walk_body<'a>(
     Ok(())
 }
 
-#[tactic(auto, using(crate::proofs::Least::sooner_rules))]
+#[tactic(auto, using(crate::proofs::LeastFault::sooner_rules))]
 fn walk_loop<'a>(
     notes: &mut Notes,
     scope: &mut Scope<'a>,
@@ -180,7 +180,7 @@ fn walk_turns<'a>(
     }
 }
 
-#[tactic(auto, using(crate::proofs::Least::sooner_rules))]
+#[tactic(auto, using(crate::proofs::LeastFault::sooner_rules))]
 fn walk_answer(notes: &mut Notes, scope: &Scope, answer: &Option<Answer>) -> Result<(), AllocError>
     requires room { notes.old.next + items.answer_size (scope_of scope.now).index
         (option_map returned_of answer.now) < 2 ^ 32 }

@@ -4,7 +4,7 @@ ghost use Rattle.std.specs.Prelude.{◌≡◌, ◌<◌, ◌^◌, option_map};
 ghost use Rattle.kernel_tree.specs.Plain.{Choose, Nothing, Else, term_of, action_of, block_of, accumulators_of, turns_of, returned_of, program_of};
 ghost use Rattle.kernel_tree.specs.Items as items;
 ghost use Rattle.kernel_tree.specs.Limits as limits;
-ghost use Rattle.kernel_scope.specs.Scopes.{text_of};
+ghost use Rattle.kernel_scope.specs.Scopes.{lent_text};
 
 use crate::distance::stream_distance;
 use kernel_scope::loop_index;
@@ -12,8 +12,8 @@ use kernel_tree::{Answer, Expr, Kernel, Loop, Part, Stmt, Var, parts};
 
 // How many items an expression makes.
 fn term_size(index: Option<&str>, expr: &Expr) -> u32
-    requires { items.term_size (option_map text_of index) (term_of expr.now) < 2 ^ 32 }
-    ensures { result ≡ items.term_size (option_map text_of index.entry) (term_of expr.now) }
+    requires { items.term_size (option_map lent_text index) (term_of expr.now) < 2 ^ 32 }
+    ensures { result ≡ items.term_size (option_map lent_text index.entry) (term_of expr.now) }
 {
     match expr {
         Expr::Lit(_) => 1,
@@ -38,8 +38,8 @@ fn term_size(index: Option<&str>, expr: &Expr) -> u32
 
 #[cycle(sizes)]
 fn stmt_size(index: Option<&str>, stmt: &Stmt) -> u32
-    requires { items.action_size (option_map text_of index) (action_of stmt.now) < 2 ^ 32 }
-    ensures { result ≡ items.action_size (option_map text_of index.entry) (action_of stmt.now) }
+    requires { items.action_size (option_map lent_text index) (action_of stmt.now) < 2 ^ 32 }
+    ensures { result ≡ items.action_size (option_map lent_text index.entry) (action_of stmt.now) }
 {
     match parts(stmt) {
         Part::Let { value, .. } => term_size(index, value) + 1,
@@ -53,9 +53,9 @@ fn stmt_size(index: Option<&str>, stmt: &Stmt) -> u32
 
 #[cycle(sizes)]
 fn if_size(index: Option<&str>, cond: &Expr, block: &[Stmt]) -> u32
-    requires { items.action_size (option_map text_of index)
+    requires { items.action_size (option_map lent_text index)
         (Choose (term_of cond.now) (block_of block.now) Nothing) < 2 ^ 32 }
-    ensures { result ≡ items.action_size (option_map text_of index.entry)
+    ensures { result ≡ items.action_size (option_map lent_text index.entry)
         (Choose (term_of cond.now) (block_of block.now) Nothing) }
 {
     term_size(index, cond) + 1 + block_size(index, block) + 1
@@ -63,9 +63,9 @@ fn if_size(index: Option<&str>, cond: &Expr, block: &[Stmt]) -> u32
 
 #[cycle(sizes)]
 fn if_else_size(index: Option<&str>, cond: &Expr, block: &[Stmt], other: &[Stmt]) -> u32
-    requires { items.action_size (option_map text_of index)
+    requires { items.action_size (option_map lent_text index)
         (Choose (term_of cond.now) (block_of block.now) (Else (block_of other.now))) < 2 ^ 32 }
-    ensures { result ≡ items.action_size (option_map text_of index.entry)
+    ensures { result ≡ items.action_size (option_map lent_text index.entry)
         (Choose (term_of cond.now) (block_of block.now) (Else (block_of other.now))) }
 {
     let first = term_size(index, cond) + 1 + block_size(index, block);
@@ -75,8 +75,8 @@ fn if_else_size(index: Option<&str>, cond: &Expr, block: &[Stmt], other: &[Stmt]
 // How many items statements make.
 #[cycle(sizes)]
 fn block_size(index: Option<&str>, block: &[Stmt]) -> u32
-    requires { items.block_size (option_map text_of index) (block_of block.now) < 2 ^ 32 }
-    ensures { result ≡ items.block_size (option_map text_of index.entry) (block_of block.now) }
+    requires { items.block_size (option_map lent_text index) (block_of block.now) < 2 ^ 32 }
+    ensures { result ≡ items.block_size (option_map lent_text index.entry) (block_of block.now) }
 {
     let mut size = 0;
     for stmt in block {
@@ -86,8 +86,8 @@ fn block_size(index: Option<&str>, block: &[Stmt]) -> u32
 }
 
 fn vars_size(index: Option<&str>, vars: &[Var]) -> u32
-    requires { items.vars_size (option_map text_of index) (accumulators_of vars.now) < 2 ^ 32 }
-    ensures { result ≡ items.vars_size (option_map text_of index.entry) (accumulators_of vars.now) }
+    requires { items.vars_size (option_map lent_text index) (accumulators_of vars.now) < 2 ^ 32 }
+    ensures { result ≡ items.vars_size (option_map lent_text index.entry) (accumulators_of vars.now) }
 {
     let mut size = 0;
     for var in vars {
@@ -107,8 +107,8 @@ fn turns_size(turns: &Option<Loop>) -> u32
 }
 
 fn answer_size(index: Option<&str>, answer: &Option<Answer>) -> u32
-    requires { items.answer_size (option_map text_of index) (option_map returned_of answer.now) < 2 ^ 32 }
-    ensures { result ≡ items.answer_size (option_map text_of index.entry) (option_map returned_of answer.now) }
+    requires { items.answer_size (option_map lent_text index) (option_map returned_of answer.now) < 2 ^ 32 }
+    ensures { result ≡ items.answer_size (option_map lent_text index.entry) (option_map returned_of answer.now) }
 {
     match answer {
         None => 0,

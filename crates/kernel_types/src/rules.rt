@@ -15,7 +15,7 @@ use kernel_tree::fault::{Binding, Fault, Found};
 const MOST_OFFSET: u128 = 1024;
 
 fn number(fault: Fault) -> u64
-    ensures { result ≡ typing.number_of fault }
+    ensures { result ≡ typing.order_of fault }
 {
     match fault {
         Fault::Unknown => 1,

@@ -18,7 +18,7 @@ use kernel_scope::{
 use kernel_tree::{Expr, Name, Part, Stmt, Ty, parts};
 use std::alloc::AllocError;
 
-#[tactic(auto, using(crate::proofs::Least::sooner_rules))]
+#[tactic(auto, using(crate::proofs::LeastFault::sooner_rules))]
 fn walk_let<'a>(
     notes: &mut Notes,
     scope: &mut Scope<'a>,
@@ -50,7 +50,7 @@ fn walk_let<'a>(
     Ok(())
 }
 
-#[tactic(auto, using(crate::proofs::Least::sooner_rules))]
+#[tactic(auto, using(crate::proofs::LeastFault::sooner_rules))]
 fn walk_store(
     notes: &mut Notes,
     scope: &Scope,
@@ -85,7 +85,7 @@ fn walk_store(
     Ok(())
 }
 
-#[tactic(auto, using(crate::proofs::Least::sooner_rules))]
+#[tactic(auto, using(crate::proofs::LeastFault::sooner_rules))]
 fn walk_update(
     notes: &mut Notes,
     scope: &Scope,
@@ -116,7 +116,7 @@ fn walk_update(
     Ok(())
 }
 
-#[tactic(auto, using(crate::proofs::Least::sooner_rules))]
+#[tactic(auto, using(crate::proofs::LeastFault::sooner_rules))]
 fn walk_break(notes: &mut Notes, scope: &Scope, cond: &Expr) -> Result<(), AllocError>
     requires { notes.old.next + (items.action_size (scope_of scope.now).index (Leave (term_of cond.now))) < 2 ^ 32 }
     ensures next { IfOk result (λ _. notes.new.next
@@ -133,7 +133,7 @@ fn walk_break(notes: &mut Notes, scope: &Scope, cond: &Expr) -> Result<(), Alloc
 }
 
 #[cycle(statements)]
-#[tactic(auto, using(crate::proofs::Least::sooner_rules))]
+#[tactic(auto, using(crate::proofs::LeastFault::sooner_rules))]
 fn walk_stmt<'a>(notes: &mut Notes, scope: &mut Scope<'a>, stmt: &'a Stmt) -> Result<(), AllocError>
     requires { notes.old.next + (items.action_size (scope_of scope.old).index (action_of stmt.now)) < 2 ^ 32 }
     ensures scope { IfOk result (λ _. scope_of scope.new
@@ -180,7 +180,7 @@ fn walk_stmt<'a>(notes: &mut Notes, scope: &mut Scope<'a>, stmt: &'a Stmt) -> Re
 
 // An `if` with one block.
 #[cycle(statements)]
-#[tactic(auto, using(crate::proofs::Least::sooner_rules))]
+#[tactic(auto, using(crate::proofs::LeastFault::sooner_rules))]
 fn walk_if<'a>(
     notes: &mut Notes,
     scope: &mut Scope<'a>,
@@ -211,7 +211,7 @@ fn walk_if<'a>(
 
 // An `if` with two blocks.
 #[cycle(statements)]
-#[tactic(auto, using(crate::proofs::Least::sooner_rules))]
+#[tactic(auto, using(crate::proofs::LeastFault::sooner_rules))]
 fn walk_if_else<'a>(
     notes: &mut Notes,
     scope: &mut Scope<'a>,
@@ -246,7 +246,7 @@ fn walk_if_else<'a>(
 
 // A block, after which its names are visible no more.
 #[cycle(statements)]
-#[tactic(auto, using(crate::proofs::Least::sooner_rules))]
+#[tactic(auto, using(crate::proofs::LeastFault::sooner_rules))]
 fn walk_inner<'a>(
     notes: &mut Notes,
     scope: &mut Scope<'a>,
@@ -271,7 +271,7 @@ fn walk_inner<'a>(
 
 /// Goes over statements, after which their names stay visible.
 #[cycle(statements)]
-#[tactic(auto, using(crate::proofs::Least::sooner_rules))]
+#[tactic(auto, using(crate::proofs::LeastFault::sooner_rules))]
 pub fn walk_block<'a>(
     notes: &mut Notes,
     scope: &mut Scope<'a>,

@@ -35,7 +35,7 @@ pub fn end(notes: &mut Notes, found: Option<Found>, ty: Option<Ty>) -> Result<()
     Ok(())
 }
 
-#[tactic(auto, using(crate::proofs::Least::sooner_rules))]
+#[tactic(auto, using(crate::proofs::LeastFault::sooner_rules))]
 fn walk_literal(notes: &mut Notes, role: Role, value: i128) -> Result<(), AllocError>
     requires { notes.old.next + 1 < 2 ^ 32 }
     ensures next { IfOk result (λ _. notes.new.next ≡ notes.old.next + 1) }
@@ -53,7 +53,7 @@ fn walk_literal(notes: &mut Notes, role: Role, value: i128) -> Result<(), AllocE
     Ok(())
 }
 
-#[tactic(auto, using(crate::proofs::Least::sooner_rules))]
+#[tactic(auto, using(crate::proofs::LeastFault::sooner_rules))]
 fn walk_name(notes: &mut Notes, scope: &Scope, role: Role, name: &Name) -> Result<(), AllocError>
     requires { notes.old.next + 1 < 2 ^ 32 }
     ensures next { IfOk result (λ _. notes.new.next ≡ notes.old.next + 1) }
@@ -76,7 +76,7 @@ fn walk_name(notes: &mut Notes, scope: &Scope, role: Role, name: &Name) -> Resul
 }
 
 // Goes past a shift by a count.
-#[tactic(auto, using(crate::proofs::Least::sooner_rules))]
+#[tactic(auto, using(crate::proofs::LeastFault::sooner_rules))]
 fn end_shift(notes: &mut Notes, role: Role, count: i128) -> Result<(), AllocError>
     requires { notes.old.next + 1 < 2 ^ 32 }
     ensures next { IfOk result (λ _. notes.new.next ≡ notes.old.next + 1) }
@@ -96,7 +96,7 @@ fn end_shift(notes: &mut Notes, role: Role, count: i128) -> Result<(), AllocErro
 
 /// Goes over an expression in a place of this role.
 #[cycle(terms)]
-#[tactic(auto, using(crate::proofs::Least::sooner_rules))]
+#[tactic(auto, using(crate::proofs::LeastFault::sooner_rules))]
 pub fn walk_expr(
     notes: &mut Notes,
     scope: &Scope,
@@ -131,7 +131,7 @@ pub fn walk_expr(
 
 // Goes over the items of an index, of which a stream index has none.
 #[cycle(terms)]
-#[tactic(auto, using(crate::proofs::Least::sooner_rules))]
+#[tactic(auto, using(crate::proofs::LeastFault::sooner_rules))]
 fn walk_index(notes: &mut Notes, scope: &Scope, index: &Expr) -> Result<(), AllocError>
     requires { notes.old.next + items.index_items (scope_of scope.now).index (term_of index.now) < 2 ^ 32 }
     ensures next { IfOk result (λ _. notes.new.next
@@ -158,7 +158,7 @@ fn walk_index(notes: &mut Notes, scope: &Scope, index: &Expr) -> Result<(), Allo
 }
 
 #[cycle(terms)]
-#[tactic(auto, using(crate::proofs::Least::sooner_rules))]
+#[tactic(auto, using(crate::proofs::LeastFault::sooner_rules))]
 fn walk_read(
     notes: &mut Notes,
     scope: &Scope,
@@ -190,7 +190,7 @@ fn walk_read(
 }
 
 #[cycle(terms)]
-#[tactic(auto, using(crate::proofs::Least::sooner_rules))]
+#[tactic(auto, using(crate::proofs::LeastFault::sooner_rules))]
 fn walk_unary(notes: &mut Notes, scope: &Scope, role: Role, arg: &Expr) -> Result<(), AllocError>
     requires { notes.old.next + items.term_size (scope_of scope.now).index
         (Unary unary.Neg (term_of arg.now)) < 2 ^ 32 }
@@ -210,7 +210,7 @@ fn walk_unary(notes: &mut Notes, scope: &Scope, role: Role, arg: &Expr) -> Resul
 }
 
 #[cycle(terms)]
-#[tactic(auto, using(crate::proofs::Least::sooner_rules))]
+#[tactic(auto, using(crate::proofs::LeastFault::sooner_rules))]
 fn walk_binary(
     notes: &mut Notes,
     scope: &Scope,
@@ -239,7 +239,7 @@ fn walk_binary(
 }
 
 #[cycle(terms)]
-#[tactic(auto, using(crate::proofs::Least::sooner_rules))]
+#[tactic(auto, using(crate::proofs::LeastFault::sooner_rules))]
 fn walk_shift(
     notes: &mut Notes,
     scope: &Scope,
@@ -264,7 +264,7 @@ fn walk_shift(
 }
 
 #[cycle(terms)]
-#[tactic(auto, using(crate::proofs::Least::sooner_rules))]
+#[tactic(auto, using(crate::proofs::LeastFault::sooner_rules))]
 fn walk_cast(
     notes: &mut Notes,
     scope: &Scope,
@@ -292,7 +292,7 @@ fn walk_cast(
 }
 
 #[cycle(terms)]
-#[tactic(auto, using(crate::proofs::Least::sooner_rules))]
+#[tactic(auto, using(crate::proofs::LeastFault::sooner_rules))]
 fn walk_select(
     notes: &mut Notes,
     scope: &Scope,
@@ -323,7 +323,7 @@ fn walk_select(
 }
 
 #[cycle(terms)]
-#[tactic(auto, using(crate::proofs::Least::sooner_rules))]
+#[tactic(auto, using(crate::proofs::LeastFault::sooner_rules))]
 fn walk_compare(
     notes: &mut Notes,
     scope: &Scope,
@@ -354,7 +354,7 @@ fn walk_compare(
 }
 
 #[cycle(terms)]
-#[tactic(auto, using(crate::proofs::Least::sooner_rules))]
+#[tactic(auto, using(crate::proofs::LeastFault::sooner_rules))]
 fn walk_and(
     notes: &mut Notes,
     scope: &Scope,
@@ -381,7 +381,7 @@ fn walk_and(
 }
 
 #[cycle(terms)]
-#[tactic(auto, using(crate::proofs::Least::sooner_rules))]
+#[tactic(auto, using(crate::proofs::LeastFault::sooner_rules))]
 fn walk_or(
     notes: &mut Notes,
     scope: &Scope,
@@ -409,7 +409,7 @@ fn walk_or(
 }
 
 #[cycle(terms)]
-#[tactic(auto, using(crate::proofs::Least::sooner_rules))]
+#[tactic(auto, using(crate::proofs::LeastFault::sooner_rules))]
 fn walk_not(notes: &mut Notes, scope: &Scope, role: Role, arg: &Expr) -> Result<(), AllocError>
     requires { notes.old.next + items.term_size (scope_of scope.now).index (Not (term_of arg.now)) < 2 ^ 32 }
     ensures next { IfOk result (λ _. notes.new.next

@@ -1,26 +1,26 @@
 -- Where the words of a draft stand in memory, the machine runs as the draft does.
-use Rattle.std.proofs.Common.{◌≡◌, ℕ, zero, suc, ◌+◌, ◌-◌, ◌*◌, ◌%◌, ◌^◌, ◌<◌, ◌≤◌, Bool, true, false, List, [], ◌∷◌, ◌++◌, length, Option, Some, None, refl, sym, ap, ap₂, ◌∙◌, subst, arith, append_assoc, ⊎_elim}
+use Rattle.std.proofs.Common.{◌≡◌, ℕ, zero, suc, ◌+◌, ◌-◌, ◌*◌, ◌%◌, ◌^◌, ◌<◌, ◌≤◌, Bool, true, false, List, [], ◌∷◌, ◌++◌, length, Some, refl, sym, ap, ◌∙◌, subst, arith, append_assoc, ⊎_elim}
 use Rattle.std.specs.Prelude.{cond, nat_eq, nat_lt, not, if◌then◌else◌, slice_get}
 use Rattle.label_fix.specs.RunsAsDraft.{RunsAsDraft, CutsAreSuppressed}
 use Rattle.std.proofs.lemmas.Bool.{cases_lt, lt-ltb, le-ltb, ltb-true, cond-true, cond-false}
 use Rattle.guest_types.specs.Memory.{Memory, fetched}
-use Rattle.word_rows.specs.Row.{Instruction, IsInstruction, spells}
+use Rattle.word_rows.specs.Row.{IsInstruction, spells}
 use Rattle.a64_code.specs.Table as table
-use Rattle.a64_code.specs.Table.{Name, row, a64_names, b, b_cond, cbz, cbnz}
+use Rattle.a64_code.specs.Table.{row, a64_names}
 use Rattle.machine_model.specs.Arithmetic.{holds, target}
 use Rattle.machine_model.specs.CodeInMemory.{spell, IsListed}
+use Rattle.machine_model.specs.Frames.{SameUnless, is_branch}
 use Rattle.machine_model.specs.InstructionTable.{Listed, Scalar, Vector}
 use Rattle.machine_model.specs.Machine.{State, Step, Went, Ended, Stopped, x_at, jump, next}
-use Rattle.machine_model.specs.OneStep.{step, does, cuts_in, suppresses}
-use Rattle.machine_model.specs.Run.{Outcome, go_on, run, suppressed}
+use Rattle.machine_model.specs.OneStep.{does, cuts_in, suppresses}
+use Rattle.machine_model.specs.Run.{go_on, run, suppressed}
 use Rattle.machine_model.specs.VectorEffects.{field_of}
 use Rattle.machine_model.proofs.Frames.{went_leaves}
+use Rattle.machine_model.proofs.ScalarFrames.{scalar_leaves}
 use Rattle.machine_model.proofs.ListedWords.{step_does, step_cuts}
-use Rattle.sve_code.specs.Table as sve
-use Rattle.label_fix.specs.DraftRun.{Kind, Always, If, Zero, NotZero, Entry, Put, Branch, Place, Laid, is_taken, effect, after, following, place_of, address_of, walk, draft_run}
+use Rattle.label_fix.specs.DraftRun.{Kind, Always, If, Zero, NotZero, Entry, Put, Branch, Place, Laid, is_taken, after_label, following, place_of, address_of, walk, draft_run}
 use Rattle.label_fix.specs.Cuts.{count_on, walk_cuts, cuts}
-use Rattle.label_fix.specs.Finished.{size, offset, branch_of, is_straight, IsWord, IsBranch, AreFit, StandAt, words_from, words_of}
-use Rattle.label_fix.proofs.Keeps.{Keeps, keeps}
+use Rattle.label_fix.specs.Finished.{size, offset, branch_of, is_plain, IsBranch, AreFit, words_from, words_of}
 
 -- ---- branches
 
@@ -61,12 +61,12 @@ before (Put i ∷ rest) l = Put i ∷ before rest l
 before (Branch k m ∷ rest) l = Branch k m ∷ before rest l
 before (Place m ∷ rest) l = Place m ∷ (if nat_eq m l then [] else before rest l)
 
-parts : (es : List Entry) (l : ℕ) → es ≡ before es l ++ after es l
+parts : (es : List Entry) (l : ℕ) → es ≡ before es l ++ after_label es l
 parts [] l = refl
 parts (Put i ∷ rest) l = ap (λ es. Put i ∷ es) (parts rest l)
 parts (Branch k m ∷ rest) l = ap (λ es. Branch k m ∷ es) (parts rest l)
 parts (Place m ∷ rest) l =
-    elim (nat_eq m l) as (λ c. Place m ∷ rest ≡ (Place m ∷ (if c then [] else before rest l)) ++ (if c then rest else after rest l)) [ true ↦ refl | false ↦ ap (λ es. Place m ∷ es) (parts rest l) ]
+    elim (nat_eq m l) as (λ c. Place m ∷ rest ≡ (Place m ∷ (if c then [] else before rest l)) ++ (if c then rest else after_label rest l)) [ true ↦ refl | false ↦ ap (λ es. Place m ∷ es) (parts rest l) ]
 
 placed : (es : List Entry) (l : ℕ) → place_of es l ≡ size (before es l)
 placed [] l = refl
@@ -76,7 +76,7 @@ placed (Place m ∷ rest) l =
     elim (nat_eq m l) as (λ c. (if c then 0 else place_of rest l) ≡ size (if c then [] else before rest l)) [ true ↦ refl | false ↦ placed rest l ]
 
 place-small : (es : List Entry) (l : ℕ) → place_of es l ≤ size es
-place-small es l = let e = ap size (parts es l) ∙ size-append (before es l) (after es l) in omega (arith, placed es l, e)
+place-small es l = let e = ap size (parts es l) ∙ size-append (before es l) (after_label es l) in omega (arith, placed es l, e)
 
 -- ---- the words of a draft in memory
 
@@ -86,8 +86,7 @@ address_at d n = (d.base + 4 * n) % 2 ^ 64
 -- the words of some entries, the first of which has number n, stand at their places
 abbrev pub Stands : Laid → Memory → ℕ → List Entry → Type 0
 Stands d m n [] = Unit {0}
-Stands d m n (Put (Scalar i) ∷ rest) = (fetched m (address_at d n) ≡ Some (spells row i)) × IsInstruction row a64_names i × (is_straight i.name ≡ true) × Stands d m (suc n) rest
-Stands d m n (Put (Vector i) ∷ rest) = (fetched m (address_at d n) ≡ Some (spells sve.row i)) × IsInstruction sve.row sve.sve_names i × Stands d m (suc n) rest
+Stands d m n (Put i ∷ rest) = (fetched m (address_at d n) ≡ Some (spell i)) × IsListed i × (is_plain i ≡ true) × Stands d m (suc n) rest
 Stands d m n (Branch k l ∷ rest) = (fetched m (address_at d n) ≡ Some (spells row (branch_of k n (place_of d.entries l)))) × IsInstruction row a64_names (branch_of k n (place_of d.entries l)) × Stands d m (suc n) rest
 Stands d m n (Place l ∷ rest) = Stands d m n rest
 
@@ -96,22 +95,45 @@ low d n = omega arith
 
 stands_keep : (d : Laid) (m w : Memory) (n : ℕ) (rest : List Entry) → ((a : ℕ) → a < 2 ^ 64 → fetched w a ≡ fetched m a) → Stands d m n rest → Stands d w n rest
 stands_keep d m w n [] f h = tt
-stands_keep d m w n (Put (Scalar i) ∷ rest) f h = (f _ (low d n) ∙ h.0, h.1, h.2, stands_keep d m w (suc n) rest f h.3)
-stands_keep d m w n (Put (Vector i) ∷ rest) f h = (f _ (low d n) ∙ h.0, h.1, stands_keep d m w (suc n) rest f h.2)
+stands_keep d m w n (Put i ∷ rest) f h = (f _ (low d n) ∙ h.0, h.1, h.2, stands_keep d m w (suc n) rest f h.3)
 stands_keep d m w n (Branch k l ∷ rest) f h = (f _ (low d n) ∙ h.0, h.1, stands_keep d m w (suc n) rest f h.2)
 stands_keep d m w n (Place l ∷ rest) f h = stands_keep d m w n rest f h
 
 stands_at : (d : Laid) (m : Memory) (n : ℕ) (pre rest : List Entry) → Stands d m n (pre ++ rest) → Stands d m (n + size pre) rest
 stands_at d m n [] rest h = let e : n ≡ n + 0 = omega arith in subst (λ k. Stands d m k rest) e h
-stands_at d m n (Put (Scalar i) ∷ pre) rest h = let e : suc n + size pre ≡ n + suc (size pre) = omega arith in subst (λ k. Stands d m k rest) e (stands_at d m (suc n) pre rest h.3)
-stands_at d m n (Put (Vector i) ∷ pre) rest h = let e : suc n + size pre ≡ n + suc (size pre) = omega arith in subst (λ k. Stands d m k rest) e (stands_at d m (suc n) pre rest h.2)
+stands_at d m n (Put i ∷ pre) rest h = let e : suc n + size pre ≡ n + suc (size pre) = omega arith in subst (λ k. Stands d m k rest) e (stands_at d m (suc n) pre rest h.3)
 stands_at d m n (Branch k l ∷ pre) rest h = let e : suc n + size pre ≡ n + suc (size pre) = omega arith in subst (λ k. Stands d m k rest) e (stands_at d m (suc n) pre rest h.2)
 stands_at d m n (Place l ∷ pre) rest h = stands_at d m n pre rest h
 
--- ---- the runs
+-- ---- from an entry to the next
 
-step_scalar : (s : State) (i : Instruction Name) → fetched s.memory s.pc ≡ Some (spells row i) → IsInstruction row a64_names i → step s ≡ does (Scalar i) s
-step_scalar s i h k = step_does s (Scalar i) k h
+onward : (d : Laid) (x : Entry) (pre rest : List Entry) → d.entries ≡ pre ++ x ∷ rest → d.entries ≡ (pre ++ x ∷ []) ++ rest
+onward d x pre rest e = e ∙ sym (append_assoc pre (x ∷ []) rest)
+
+here : (d : Laid) (pre rest : List Entry) (s : State) → d.entries ≡ pre ++ rest → Stands d s.memory 0 d.entries → Stands d s.memory (size pre) rest
+here d pre rest s e h = let z : 0 + size pre ≡ size pre = omega arith in subst (λ k. Stands d s.memory k rest) z (stands_at d s.memory 0 pre rest (subst (λ es. Stands d s.memory 0 es) e h))
+
+next_place : (d : Laid) (pc k : ℕ) → pc ≡ address_at d k → (pc + 4) % 2 ^ 64 ≡ address_at d (k + 1)
+next_place d pc k e = omega (arith, e)
+
+-- an instruction that is no branch goes on to the next word, and the code stays
+record Passes (s t : State) : Type 0 where
+  pub pc : t.pc ≡ (s.pc + 4) % 2 ^ 64
+  pub code : (a : ℕ) → a < 2 ^ 64 → fetched t.memory a ≡ fetched s.memory a
+
+passes : (i : Listed) (s t : State) → is_plain i ≡ true → does i s ≡ Went t → Passes s t
+passes (Scalar i) s t plain e =
+    let k = scalar_leaves i.name i.numbers s t e in
+    record { pc = straight (is_branch i.name) plain k.pc; code = k.code }
+  where
+    straight : (b : Bool) → not b ≡ true → SameUnless b ((s.pc + 4) % 2 ^ 64) t.pc → t.pc ≡ (s.pc + 4) % 2 ^ 64
+    straight false h same = same
+    straight true h same = absurd cc
+passes (Vector v) s t plain e =
+    let k = went_leaves v.name (field_of v.name v.numbers) s t e in
+    record { pc = k.pc; code = k.code }
+
+-- ---- the runs
 
 branch_does : (d : Laid) (k : Kind) (from to : ℕ) (s : State) → from ≤ 65536 → to ≤ 65536 → s.pc ≡ address_at d from → does (Scalar (branch_of k from to)) s ≡ Went (if is_taken k s then jump s (address_at d to) else next s)
 branch_does d Always from to s hf ht e = ap (λ p. Went (jump s p)) (target_26 d.base from to s.pc hf ht e)
@@ -124,56 +146,35 @@ abbrev Same : Laid → ℕ → Type 0
 Same d n = (taken : ℕ) (pre rest : List Entry) (s : State) → d.entries ≡ pre ++ rest → s.pc ≡ address_at d (size pre) → Stands d s.memory 0 d.entries → run n taken s ≡ draft_run d n taken rest s
 
 module _ (d : Laid) (few : size d.entries ≤ 65536) (n : ℕ) (ih : Same d n) where
-  onward : (x : Entry) (pre rest : List Entry) → d.entries ≡ pre ++ x ∷ rest → d.entries ≡ (pre ++ x ∷ []) ++ rest
-  onward x pre rest e = e ∙ sym (append_assoc pre (x ∷ []) rest)
-
-  here : (pre rest : List Entry) (s : State) → d.entries ≡ pre ++ rest → Stands d s.memory 0 d.entries → Stands d s.memory (size pre) rest
-  here pre rest s e h = let z : 0 + size pre ≡ size pre = omega arith in subst (λ k. Stands d s.memory k rest) z (stands_at d s.memory 0 pre rest (subst (λ es. Stands d s.memory 0 es) e h))
-
-  next_place : (pc k : ℕ) → pc ≡ address_at d k → (pc + 4) % 2 ^ 64 ≡ address_at d (k + 1)
-  next_place pc k e = omega (arith, e)
-
-  went_on : (i : Instruction Name) (o : Step) (taken : ℕ) (pre rest : List Entry) (s : State) → does (Scalar i) s ≡ o → (is_straight i.name ≡ true) → d.entries ≡ pre ++ Put (Scalar i) ∷ rest → s.pc ≡ address_at d (size pre) → Stands d s.memory 0 d.entries → go_on o s taken (run n taken) ≡ go_on o s taken (draft_run d n taken rest)
+  went_on : (i : Listed) (o : Step) (taken : ℕ) (pre rest : List Entry) (s : State) → does i s ≡ o → is_plain i ≡ true → d.entries ≡ pre ++ Put i ∷ rest → s.pc ≡ address_at d (size pre) → Stands d s.memory 0 d.entries → go_on o s taken (run n taken) ≡ go_on o s taken (draft_run d n taken rest)
   went_on i (Went t) taken pre rest s is plain e p h =
-      let k = keeps i.name i.numbers s t plain is in
-      let z : size (pre ++ Put (Scalar i) ∷ []) ≡ size pre + 1 = size-append pre (Put (Scalar i) ∷ []) in
-      ih taken (pre ++ Put (Scalar i) ∷ []) rest t (onward (Put (Scalar i)) pre rest e) (k.pc ∙ next_place s.pc (size pre) p ∙ ap (address_at d) (sym z)) (stands_keep d s.memory t.memory 0 d.entries k.code h)
+      let k = passes i s t plain is in
+      let z : size (pre ++ Put i ∷ []) ≡ size pre + 1 = size-append pre (Put i ∷ []) in
+      ih taken (pre ++ Put i ∷ []) rest t (onward d (Put i) pre rest e) (k.pc ∙ next_place d s.pc (size pre) p ∙ ap (address_at d) (sym z)) (stands_keep d s.memory t.memory 0 d.entries k.code h)
   went_on i (Ended r) taken pre rest s is plain e p h = refl
   went_on i (Stopped kind pc at m) taken pre rest s is plain e p h = refl
-
-  vector_on : (v : Instruction sve.Name) (o : Step) (taken : ℕ) (pre rest : List Entry) (s : State) → does (Vector v) s ≡ o → d.entries ≡ pre ++ Put (Vector v) ∷ rest → s.pc ≡ address_at d (size pre) → Stands d s.memory 0 d.entries → go_on o s taken (run n taken) ≡ go_on o s taken (draft_run d n taken rest)
-  vector_on v (Went t) taken pre rest s is e p h =
-      let k = went_leaves v.name (field_of v.name v.numbers) s t is in
-      let z : size (pre ++ Put (Vector v) ∷ []) ≡ size pre + 1 = size-append pre (Put (Vector v) ∷ []) in
-      ih taken (pre ++ Put (Vector v) ∷ []) rest t (onward (Put (Vector v)) pre rest e) (k.pc ∙ next_place s.pc (size pre) p ∙ ap (address_at d) (sym z)) (stands_keep d s.memory t.memory 0 d.entries k.code h)
-  vector_on v (Ended r) taken pre rest s is e p h = refl
-  vector_on v (Stopped kind pc at m) taken pre rest s is e p h = refl
 
   branched : (c : Bool) (k : Kind) (l taken : ℕ) (pre rest : List Entry) (s : State) → d.entries ≡ pre ++ Branch k l ∷ rest → s.pc ≡ address_at d (size pre) → Stands d s.memory 0 d.entries → run n taken (if c then jump s (address_of d l) else next s) ≡ (if c then draft_run d n taken (following d l) (jump s (address_of d l)) else draft_run d n taken rest (next s))
   branched true k l taken pre rest s e p h = ih taken (before d.entries l) (following d l) (jump s (address_of d l)) (parts d.entries l) (ap (address_at d) (placed d.entries l)) h
   branched false k l taken pre rest s e p h =
       let z : size (pre ++ Branch k l ∷ []) ≡ size pre + 1 = size-append pre (Branch k l ∷ []) in
-      ih taken (pre ++ Branch k l ∷ []) rest (next s) (onward (Branch k l) pre rest e) (next_place s.pc (size pre) p ∙ ap (address_at d) (sym z)) h
+      ih taken (pre ++ Branch k l ∷ []) rest (next s) (onward d (Branch k l) pre rest e) (next_place d s.pc (size pre) p ∙ ap (address_at d) (sym z)) h
 
   same_walk : (rest pre : List Entry) (taken : ℕ) (s : State) → d.entries ≡ pre ++ rest → s.pc ≡ address_at d (size pre) → Stands d s.memory 0 d.entries → run (suc n) taken s ≡ walk d (draft_run d n (taken + 1)) (run (suc n) taken) (taken + 1) rest s
   same_walk [] pre taken s e p h = refl
-  same_walk (Put (Scalar i) ∷ rest) pre taken s e p h =
-      let at = here pre _ s e h in
-      ap (λ o. go_on o s (taken + 1) (run n (taken + 1))) (step_scalar s i (ap (fetched s.memory) p ∙ at.0) at.1)
-      ∙ went_on i (does (Scalar i) s) (taken + 1) pre rest s refl at.2 e p h
-  same_walk (Put (Vector i) ∷ rest) pre taken s e p h =
-      let at = here pre _ s e h in
-      ap (λ o. go_on o s (taken + 1) (run n (taken + 1))) (step_does s (Vector i) at.1 (ap (fetched s.memory) p ∙ at.0))
-      ∙ vector_on i (does (Vector i) s) (taken + 1) pre rest s refl e p h
+  same_walk (Put i ∷ rest) pre taken s e p h =
+      let at = here d pre _ s e h in
+      ap (λ o. go_on o s (taken + 1) (run n (taken + 1))) (step_does s i at.1 (ap (fetched s.memory) p ∙ at.0))
+      ∙ went_on i (does i s) (taken + 1) pre rest s refl at.2 e p h
   same_walk (Branch k l ∷ rest) pre taken s e p h =
-      let at = here pre _ s e h in
+      let at = here d pre _ s e h in
       let z = ap size e ∙ size-append pre (Branch k l ∷ rest) in
       let to = place-small d.entries l in
-      ap (λ o. go_on o s (taken + 1) (run n (taken + 1))) (step_scalar s (branch_of k (size pre) (place_of d.entries l)) (ap (fetched s.memory) p ∙ at.0) at.1 ∙ branch_does d k (size pre) (place_of d.entries l) s (omega (arith, few, z)) (omega (arith, few, to)) p)
+      ap (λ o. go_on o s (taken + 1) (run n (taken + 1))) (step_does s (Scalar (branch_of k (size pre) (place_of d.entries l))) at.1 (ap (fetched s.memory) p ∙ at.0) ∙ branch_does d k (size pre) (place_of d.entries l) s (omega (arith, few, z)) (omega (arith, few, to)) p)
       ∙ branched (is_taken k s) k l (taken + 1) pre rest s e p h
   same_walk (Place l ∷ rest) pre taken s e p h =
       let z : size (pre ++ Place l ∷ []) ≡ size pre = size-append pre (Place l ∷ []) ∙ omega arith in
-      same_walk rest (pre ++ Place l ∷ []) taken s (onward (Place l) pre rest e) (p ∙ ap (address_at d) (sym z)) h
+      same_walk rest (pre ++ Place l ∷ []) taken s (onward d (Place l) pre rest e) (p ∙ ap (address_at d) (sym z)) h
 
 pub same : (d : Laid) → size d.entries ≤ 65536 → (n : ℕ) → Same d n
 same d few zero taken pre rest s e p h = refl
@@ -204,8 +205,7 @@ from_here d m n v words f = let j : n ≡ n + 0 = omega arith in ap (λ i. fetch
 
 stands_from : (d : Laid) (m : Memory) (labels n : ℕ) (rest : List Entry) → AreFit labels rest → From d m n (words_from d.entries n rest) → Stands d m n rest
 stands_from d m labels n [] h f = tt
-stands_from d m labels n (Put (Scalar i) ∷ rest) h f = (from_here d m n _ _ f, h.0.0, h.0.1, stands_from d m labels (suc n) rest h.1 (from_next d m n _ _ f))
-stands_from d m labels n (Put (Vector i) ∷ rest) h f = (from_here d m n _ _ f, h.0.0, stands_from d m labels (suc n) rest h.1 (from_next d m n _ _ f))
+stands_from d m labels n (Put i ∷ rest) h f = (from_here d m n _ _ f, h.0.0, h.0.1, stands_from d m labels (suc n) rest h.1 (from_next d m n _ _ f))
 stands_from d m labels n (Branch k l ∷ rest) h f = (from_here d m n _ _ f, branch_listed k n (place_of d.entries l) h.0, stands_from d m labels (suc n) rest h.2 (from_next d m n _ _ f))
 stands_from d m labels n (Place l ∷ rest) h f = stands_from d m labels n rest h.1 f
 
@@ -216,8 +216,7 @@ runs_as_draft d labels s fit few at p steps taken = same_run d few s p (stands_f
 
 length_from : (whole rest : List Entry) (n : ℕ) → length (words_from whole n rest) ≡ size rest
 length_from whole [] n = refl
-length_from whole (Put (Scalar i) ∷ rest) n = ap suc (length_from whole rest (suc n))
-length_from whole (Put (Vector i) ∷ rest) n = ap suc (length_from whole rest (suc n))
+length_from whole (Put i ∷ rest) n = ap suc (length_from whole rest (suc n))
 length_from whole (Branch k l ∷ rest) n = ap suc (length_from whole rest (suc n))
 length_from whole (Place l ∷ rest) n = length_from whole rest n
 
@@ -238,53 +237,30 @@ step_counts : (s : State) (i : Listed) (n : ℕ) → IsListed i → fetched s.me
 step_counts s i n h at = ap (λ o. counted_by o (suppresses s) n) (step_does s i h at) ∙ ap (λ cut. counted_by (does i s) cut n) (step_cuts s i h at)
 
 module _ (d : Laid) (few : size d.entries ≤ 65536) (n : ℕ) (ih : Fewer d n) where
-  beyond : (x : Entry) (pre rest : List Entry) → d.entries ≡ pre ++ x ∷ rest → d.entries ≡ (pre ++ x ∷ []) ++ rest
-  beyond x pre rest e = e ∙ sym (append_assoc pre (x ∷ []) rest)
-
-  stands_here : (pre rest : List Entry) (s : State) → d.entries ≡ pre ++ rest → Stands d s.memory 0 d.entries → Stands d s.memory (size pre) rest
-  stands_here pre rest s e h = let z : 0 + size pre ≡ size pre = omega arith in subst (λ k. Stands d s.memory k rest) z (stands_at d s.memory 0 pre rest (subst (λ es. Stands d s.memory 0 es) e h))
-
-  next_at : (pc k : ℕ) → pc ≡ address_at d k → (pc + 4) % 2 ^ 64 ≡ address_at d (k + 1)
-  next_at pc k e = omega (arith, e)
-
-  fewer_scalar : (i : Instruction Name) (o : Step) (cut : Bool) (pre rest : List Entry) (s : State) → does (Scalar i) s ≡ o → (is_straight i.name ≡ true) → d.entries ≡ pre ++ Put (Scalar i) ∷ rest → s.pc ≡ address_at d (size pre) → Stands d s.memory 0 d.entries → count_on o cut (cuts d n rest) ≤ counted_by o cut n
-  fewer_scalar i (Went t) cut pre rest s is plain e p h =
-      let k = keeps i.name i.numbers s t plain is in
-      let z : size (pre ++ Put (Scalar i) ∷ []) ≡ size pre + 1 = size-append pre (Put (Scalar i) ∷ []) in
-      let r = ih (pre ++ Put (Scalar i) ∷ []) rest t (beyond (Put (Scalar i)) pre rest e) (k.pc ∙ next_at s.pc (size pre) p ∙ ap (address_at d) (sym z)) (stands_keep d s.memory t.memory 0 d.entries k.code h) in
+  fewer_on : (i : Listed) (o : Step) (cut : Bool) (pre rest : List Entry) (s : State) → does i s ≡ o → is_plain i ≡ true → d.entries ≡ pre ++ Put i ∷ rest → s.pc ≡ address_at d (size pre) → Stands d s.memory 0 d.entries → count_on o cut (cuts d n rest) ≤ counted_by o cut n
+  fewer_on i (Went t) cut pre rest s is plain e p h =
+      let k = passes i s t plain is in
+      let z : size (pre ++ Put i ∷ []) ≡ size pre + 1 = size-append pre (Put i ∷ []) in
+      let r = ih (pre ++ Put i ∷ []) rest t (onward d (Put i) pre rest e) (k.pc ∙ next_place d s.pc (size pre) p ∙ ap (address_at d) (sym z)) (stands_keep d s.memory t.memory 0 d.entries k.code h) in
       omega (arith, r)
-  fewer_scalar i (Ended r) cut pre rest s is plain e p h = omega arith
-  fewer_scalar i (Stopped kind pc at m) cut pre rest s is plain e p h = omega arith
-
-  fewer_vector : (v : Instruction sve.Name) (o : Step) (cut : Bool) (pre rest : List Entry) (s : State) → does (Vector v) s ≡ o → d.entries ≡ pre ++ Put (Vector v) ∷ rest → s.pc ≡ address_at d (size pre) → Stands d s.memory 0 d.entries → count_on o cut (cuts d n rest) ≤ counted_by o cut n
-  fewer_vector v (Went t) cut pre rest s is e p h =
-      let k = went_leaves v.name (field_of v.name v.numbers) s t is in
-      let z : size (pre ++ Put (Vector v) ∷ []) ≡ size pre + 1 = size-append pre (Put (Vector v) ∷ []) in
-      let r = ih (pre ++ Put (Vector v) ∷ []) rest t (beyond (Put (Vector v)) pre rest e) (k.pc ∙ next_at s.pc (size pre) p ∙ ap (address_at d) (sym z)) (stands_keep d s.memory t.memory 0 d.entries k.code h) in
-      omega (arith, r)
-  fewer_vector v (Ended r) cut pre rest s is e p h = omega arith
-  fewer_vector v (Stopped kind pc at m) cut pre rest s is e p h = omega arith
+  fewer_on i (Ended r) cut pre rest s is plain e p h = omega arith
+  fewer_on i (Stopped kind pc at m) cut pre rest s is plain e p h = omega arith
 
   fewer_branch : (c : Bool) (k : Kind) (l : ℕ) (pre rest : List Entry) (s : State) → d.entries ≡ pre ++ Branch k l ∷ rest → s.pc ≡ address_at d (size pre) → Stands d s.memory 0 d.entries → (if c then cuts d n (following d l) (jump s (address_of d l)) else cuts d n rest (next s)) ≤ suppressed n (if c then jump s (address_of d l) else next s)
   fewer_branch true k l pre rest s e p h = ih (before d.entries l) (following d l) (jump s (address_of d l)) (parts d.entries l) (ap (address_at d) (placed d.entries l)) h
   fewer_branch false k l pre rest s e p h =
       let z : size (pre ++ Branch k l ∷ []) ≡ size pre + 1 = size-append pre (Branch k l ∷ []) in
-      ih (pre ++ Branch k l ∷ []) rest (next s) (beyond (Branch k l) pre rest e) (next_at s.pc (size pre) p ∙ ap (address_at d) (sym z)) h
+      ih (pre ++ Branch k l ∷ []) rest (next s) (onward d (Branch k l) pre rest e) (next_place d s.pc (size pre) p ∙ ap (address_at d) (sym z)) h
 
   fewer_walk : (rest pre : List Entry) (s : State) → d.entries ≡ pre ++ rest → s.pc ≡ address_at d (size pre) → Stands d s.memory 0 d.entries → walk_cuts d (cuts d n) rest s ≤ suppressed (suc n) s
   fewer_walk [] pre s e p h = omega arith
-  fewer_walk (Put (Scalar i) ∷ rest) pre s e p h =
-      let at = stands_here pre _ s e h in
-      let is = step_counts s (Scalar i) n at.1 (ap (fetched s.memory) p ∙ at.0) in
-      let le = fewer_scalar i (does (Scalar i) s) (cuts_in (Scalar i) s) pre rest s refl at.2 e p h in
-      subst (λ m. count_on (does (Scalar i) s) (cuts_in (Scalar i) s) (cuts d n rest) ≤ m) (sym is) le
-  fewer_walk (Put (Vector i) ∷ rest) pre s e p h =
-      let at = stands_here pre _ s e h in
-      let is = step_counts s (Vector i) n at.1 (ap (fetched s.memory) p ∙ at.0) in
-      let le = fewer_vector i (does (Vector i) s) (cuts_in (Vector i) s) pre rest s refl e p h in
-      subst (λ m. count_on (does (Vector i) s) (cuts_in (Vector i) s) (cuts d n rest) ≤ m) (sym is) le
+  fewer_walk (Put i ∷ rest) pre s e p h =
+      let at = here d pre _ s e h in
+      let is = step_counts s i n at.1 (ap (fetched s.memory) p ∙ at.0) in
+      let le = fewer_on i (does i s) (cuts_in i s) pre rest s refl at.2 e p h in
+      subst (λ m. count_on (does i s) (cuts_in i s) (cuts d n rest) ≤ m) (sym is) le
   fewer_walk (Branch k l ∷ rest) pre s e p h =
-      let at = stands_here pre _ s e h in
+      let at = here d pre _ s e h in
       let z = ap size e ∙ size-append pre (Branch k l ∷ rest) in
       let to = place-small d.entries l in
       let i = branch_of k (size pre) (place_of d.entries l) in
@@ -293,7 +269,7 @@ module _ (d : Laid) (few : size d.entries ≤ 65536) (n : ℕ) (ih : Fewer d n) 
       subst (λ m. walk_cuts d (cuts d n) (Branch k l ∷ rest) s ≤ m) (sym is) (omega (arith, le))
   fewer_walk (Place l ∷ rest) pre s e p h =
       let z : size (pre ++ Place l ∷ []) ≡ size pre = size-append pre (Place l ∷ []) ∙ omega arith in
-      fewer_walk rest (pre ++ Place l ∷ []) s (beyond (Place l) pre rest e) (p ∙ ap (address_at d) (sym z)) h
+      fewer_walk rest (pre ++ Place l ∷ []) s (onward d (Place l) pre rest e) (p ∙ ap (address_at d) (sym z)) h
 
 fewer : (d : Laid) → size d.entries ≤ 65536 → (n : ℕ) → Fewer d n
 fewer d few zero pre rest s e p h = omega arith

@@ -1,5 +1,5 @@
 -- Code whose branches name labels, and its run from entry to entry.
-use Rattle.std.specs.Prelude.{◌≡◌, ℕ, zero, suc, ◌+◌, ◌*◌, ◌%◌, ◌^◌, Bool, true, not, List, [], ◌∷◌, Some, nat_eq, if◌then◌else◌}
+use Rattle.std.specs.Prelude.{ℕ, zero, suc, ◌+◌, ◌*◌, ◌%◌, ◌^◌, Bool, true, not, List, [], ◌∷◌, nat_eq, if◌then◌else◌}
 use Rattle.a64_code.specs.Table.{Name}
 use Rattle.machine_model.specs.Arithmetic.{holds}
 use Rattle.machine_model.specs.InstructionTable.{Listed, Scalar}
@@ -38,11 +38,11 @@ abbrev pub effect : Listed → State → Step
 effect i s = does i s
 
 -- the entries after the place of a label
-abbrev pub after : List Entry → ℕ → List Entry
-after [] l = []
-after (Put i ∷ rest) l = after rest l
-after (Branch k m ∷ rest) l = after rest l
-after (Place m ∷ rest) l = if nat_eq m l then rest else after rest l
+abbrev pub after_label : List Entry → ℕ → List Entry
+after_label [] l = []
+after_label (Put i ∷ rest) l = after_label rest l
+after_label (Branch k m ∷ rest) l = after_label rest l
+after_label (Place m ∷ rest) l = if nat_eq m l then rest else after_label rest l
 
 -- the number of words before the place of a label
 abbrev pub place_of : List Entry → ℕ → ℕ
@@ -57,7 +57,7 @@ pub record Laid : Type 0 where
   pub entries : List Entry
 
 abbrev pub following : Laid → ℕ → List Entry
-following d l = after d.entries l
+following d l = after_label d.entries l
 
 -- the address of a label
 abbrev pub address_of : Laid → ℕ → ℕ

@@ -1,9 +1,10 @@
 -- The words of a draft: its instructions, and branches to the words after the places of their labels.
-use Rattle.std.specs.Prelude.{◌≡◌, ℕ, suc, ◌+◌, ◌-◌, ◌*◌, ◌%◌, ◌^◌, ◌<◌, ◌≤◌, Bool, true, false, List, [], ◌∷◌, Some, nat_lt, slice_get}
+use Rattle.std.specs.Prelude.{◌≡◌, ℕ, suc, ◌+◌, ◌-◌, ◌*◌, ◌%◌, ◌^◌, ◌<◌, Bool, true, not, List, [], ◌∷◌, Some, nat_lt, slice_get}
 use Rattle.guest_types.specs.Memory.{Memory, fetched}
-use Rattle.word_rows.specs.Row.{Instruction, IsInstruction, spells}
+use Rattle.word_rows.specs.Row.{Instruction, spells}
 use Rattle.a64_code.specs.Table as a64
-use Rattle.sve_code.specs.Table as sve
+use Rattle.machine_model.specs.CodeInMemory.{spell, IsListed}
+use Rattle.machine_model.specs.Frames.{is_branch}
 use Rattle.machine_model.specs.InstructionTable.{Listed, Scalar, Vector}
 use Rattle.label_fix.specs.DraftRun.{Kind, Always, If, Zero, NotZero, Entry, Put, Branch, Place, place_of}
 
@@ -27,8 +28,7 @@ branch_of (NotZero r) from to = record { name = a64.cbnz; numbers = r ∷ offset
 -- the words of some entries of a whole, the first of which has number n
 abbrev pub words_from : List Entry → ℕ → List Entry → List ℕ
 words_from whole n [] = []
-words_from whole n (Put (Scalar i) ∷ rest) = spells a64.row i ∷ words_from whole (suc n) rest
-words_from whole n (Put (Vector v) ∷ rest) = spells sve.row v ∷ words_from whole (suc n) rest
+words_from whole n (Put i ∷ rest) = spell i ∷ words_from whole (suc n) rest
 words_from whole n (Branch k l ∷ rest) = spells a64.row (branch_of k n (place_of whole l)) ∷ words_from whole (suc n) rest
 words_from whole n (Place l ∷ rest) = words_from whole n rest
 
@@ -36,16 +36,8 @@ unfoldable pub words_of : List Entry → List ℕ
 words_of entries = words_from entries 0 entries
 
 -- no branch of its own: none of B, B.cond, CBZ, CBNZ and RET
-abbrev pub is_straight : a64.Name → Bool
-is_straight a64.b = false
-is_straight a64.b_cond = false
-is_straight a64.cbz = false
-is_straight a64.cbnz = false
-is_straight a64.ret = false
-is_straight _ = true
-
 abbrev pub is_plain : Listed → Bool
-is_plain (Scalar i) = is_straight i.name
+is_plain (Scalar i) = not (is_branch i.name)
 is_plain (Vector v) = true
 
 -- a register that a branch tests has a number below 32
@@ -63,8 +55,7 @@ has_condition (NotZero r) = true
 
 -- an instruction of the tables, and no branch of its own
 abbrev pub IsWord : Listed → Type 0
-IsWord (Scalar i) = IsInstruction a64.row a64.a64_names i × (is_straight i.name ≡ true)
-IsWord (Vector v) = IsInstruction sve.row sve.sve_names v × Unit {0}
+IsWord i = IsListed i × (is_plain i ≡ true)
 
 abbrev pub IsBranch : Kind → Type 0
 IsBranch k = (has_register k ≡ true) × (has_condition k ≡ true)

@@ -1,4 +1,4 @@
-// Words of a worked draft, as GNU `as` writes them.
+//! Words of a worked draft, as GNU `as` writes them.
 
 use crate::{BranchKind, Draft, Word};
 use a64_code::{A64, Cond};

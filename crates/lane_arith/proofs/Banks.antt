@@ -11,7 +11,7 @@ use Rattle.guest_types.specs.Elements.{at, active}
 use Rattle.guest_types.specs.Lanes.{lane, binary_at, merge_at, select_at, unary, merge_one_at, shifted, shift_at}
 use Rattle.lane_blocks.specs.Blocks.{block_lanes, block_of, with_block, mask_of, choose_at, choose_of}
 use Rattle.lane_blocks.specs.Banks.{bytes_at}
-use Rattle.lane_blocks.proofs.Steps.{at-block, active-block}
+use Rattle.lane_blocks.proofs.BlockSteps.{at-block, active-block}
 use Rattle.lane_blocks.proofs.Banks.{InBank, block-kept, bank-more}
 use Rattle.lane_arith.specs.Blocks.{binary_block_of, merge_block_at, merge_block_of, merge_one_block_at, merge_one_block_of, shift_block_of}
 

@@ -10,7 +10,7 @@ use Rattle.guest_types.specs.Elements.{at, active, bit}
 use Rattle.guest_types.specs.Lanes.{lane, binary_at, merge_at, select_at, unary, merge_one_at, source_bits, shifted, shift_at}
 use Rattle.guest_types.proofs.Registers.{elements-ext}
 use Rattle.lane_blocks.specs.Blocks.{block_lanes, block_of, with_block, mask_of, choose_at, choose_of}
-use Rattle.lane_blocks.proofs.Steps.{Holds, holds-more, at-block, at-elements, active-block}
+use Rattle.lane_blocks.proofs.BlockSteps.{Holds, holds-more, at-block, at-elements, active-block}
 use Rattle.lane_arith.specs.Blocks.{binary_block_of, merge_block_at, merge_block_of, unary_at, unary_block_of, merge_one_block_at, merge_one_block_of, shift_block_of}
 use Rattle.lane_blocks.proofs.Masks.{element-small}
 use Rattle.lane_arith.proofs.Operations.{binary-below}

@@ -9,13 +9,13 @@ use Rattle.guest_types.specs.declared.length.Width.TheVariants.{B, H, S, D}
 use Rattle.guest_types.specs.declared.operation.LaneOp.{LaneOp}
 use Rattle.guest_types.specs.declared.operation.ReduceOp.{ReduceOp}
 use Rattle.guest_types.specs.Length.{width_bytes, modulus}
-use Rattle.guest_types.specs.Elements.{at, number_of}
+use Rattle.guest_types.specs.Elements.{at, number_of_bytes}
 use Rattle.guest_types.specs.Lanes.{lane, binary_at, folded, joined, identity, fold_limit}
 use Rattle.guest_types.proofs.Folds.{folded-none, folded-more}
 use Rattle.guest_types.proofs.Registers.{chunk-take}
 use Rattle.lane_blocks.specs.Blocks.{block_lanes}
 use Rattle.lane_blocks.proofs.Masks.{element-small}
-use Rattle.lane_blocks.proofs.Steps.{at-elements}
+use Rattle.lane_blocks.proofs.BlockSteps.{at-elements}
 use Rattle.lane_arith.specs.Blocks.{binary_block_of, bytes_fold}
 use Rattle.lane_arith.proofs.Joins.{joins-of, element-joins, folded-ext, folded-split, folded-zip}
 
@@ -52,8 +52,8 @@ at-above w x n h e long is inside =
     let double : length (x ++ x) ≡ 64 = omega (arith, length-append x x) in
     let some : n + (32 - n) ≤ length (x ++ x) = omega arith in
     let upper : pick_l 0 (x ++ x) (range_with_len n (32 - n)) ≡ chunk n (32 - n) (x ++ x) = pick_l-range_with_len 0 (x ++ x) n (32 - n) some in
-    ap (λ z. number_of (chunk (k * e) k (z ++ pick_l 0 (x ++ x) (range_with_len 0 n)))) upper
-    ∙ ap number_of (
+    ap (λ z. number_of_bytes (chunk (k * e) k (z ++ pick_l 0 (x ++ x) (range_with_len 0 n)))) upper
+    ∙ ap number_of_bytes (
     part-front (k * e) k (32 - n) (chunk n (32 - n) (x ++ x)) (pick_l 0 (x ++ x) (range_with_len 0 n)) (length-chunk n (32 - n) (x ++ x) some) (omega arith)
     ∙ part-part (k * e) k n (32 - n) (x ++ x) (omega arith) ∙ part-front (n + k * e) k 32 x x long (omega arith)
     ∙ ap (λ j. chunk j k x) (ap (λ j. j + k * e) (sym is) ∙ place w h e))

@@ -19,7 +19,7 @@ use Rattle.guest_types.proofs.Widths.{element-below}
 use Rattle.lane_blocks.specs.Blocks.{block_lanes, block_of, mask_of, choose_at, choose_of, bit_below, below_of}
 use Rattle.lane_blocks.proofs.Lanes.{IsLanes}
 use Rattle.lane_blocks.proofs.Masks.{chosen-small}
-use Rattle.lane_blocks.proofs.Steps.{at-block, at-elements, active-block, shorter}
+use Rattle.lane_blocks.proofs.BlockSteps.{at-block, at-elements, active-block, shorter}
 use Rattle.lane_arith.specs.Blocks.{binary_block_of, dup_block_of, block_fold, sum_step_of, fold_step_at, fold_step_of}
 use Rattle.lane_arith.proofs.Joins.{joins-of, element-joins, identity-element, folded-ext, folded-below, folded-split, folded-tail, folded-partials, folded-list}
 

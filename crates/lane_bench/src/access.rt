@@ -1,4 +1,4 @@
-// Loads and stores of lanes in one page, by the kernel and by a plain loop.
+//! Loads and stores of lanes in one page, by the kernel and by a plain loop.
 
 use crate::operands::Operands;
 use crate::plain::elements;

@@ -1,4 +1,4 @@
-// One call of a kernel.
+//! One call of a kernel.
 
 use crate::operands::Operands;
 use crate::work::Work;

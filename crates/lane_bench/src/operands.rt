@@ -1,4 +1,4 @@
-// What a kernel is timed on.
+//! What a kernel is timed on.
 
 use guest_types::length::{Vl, Width};
 use guest_types::predicate::PReg;

@@ -1,4 +1,4 @@
-// The same work by a plain loop over elements.
+//! The same work by a plain loop over elements.
 
 ghost use Rattle.std.specs.Prelude.{◌≤◌, ◌<◌, ◌≡◌};
 ghost use Rattle.guest_types.specs.Length.{all_lanes, width_bits};

@@ -1,4 +1,4 @@
-// The lines of the table.
+//! The lines of the table.
 
 ghost use Rattle.std.specs.Prelude.{◌≤◌};
 

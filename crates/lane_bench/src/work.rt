@@ -1,4 +1,4 @@
-// What is timed.
+//! What is timed.
 
 use guest_types::operation::{LaneCompare, LaneOp, LaneUnary, PredOp, ReduceOp, ShiftOp};
 

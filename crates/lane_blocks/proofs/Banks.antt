@@ -10,7 +10,7 @@ use Rattle.guest_types.specs.Elements.{elements, register}
 use Rattle.guest_types.proofs.Registers.{elements-ext}
 use Rattle.lane_blocks.specs.Blocks.{block_lanes, block_of, with_block, cleared_above, cleared_half}
 use Rattle.lane_blocks.specs.Banks.{bytes_at, with_elements, EndsAt}
-use Rattle.lane_blocks.proofs.Steps.{Begins, begins-none, begins-more, begins-cleared, written}
+use Rattle.lane_blocks.proofs.BlockSteps.{Begins, begins-none, begins-more, begins-cleared, written}
 
 -- the first i blocks of register d are the elements f, and all else is as it was
 pub record InBank (w : Width) (f : ℕ → ℕ) (d i : ℕ) (old now : List ZReg) : Type 0 where

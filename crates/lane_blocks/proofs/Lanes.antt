@@ -7,7 +7,7 @@ use Rattle.std.proofs.lemmas.List.{drop_more, get_or-map, length-map, append-nil
 use Rattle.std.proofs.lemmas.Nat.{pow-add}
 use Rattle.std.proofs.lemmas.Simd.{tops_compared, get_or_wider, get_or-zip2, length-zip2, length-sel_l, get_or-sel_l, get_or-replicate, length-replicate, Each1-from_get_or}
 use Rattle.std.proofs.Math.Nat.{pow-suc, pow-zero, mul-suc, mul-zero, mul_comm, mul-le-mul_left, add-mul-mod_self_left, mod-eq_of_lt, div-eq_of_lt, add-mul-div_left}
-use Rattle.guest_types.specs.Elements.{element, elements, number_of, bytes_of}
+use Rattle.guest_types.specs.Elements.{element, elements, number_of_bytes, bytes_of}
 use Rattle.guest_types.proofs.Registers.{elements-of, length-elements, chunk-elements}
 use Rattle.guest_types.proofs.Numbers.{length-bytes_of, number-bytes_of}
 
@@ -122,7 +122,7 @@ below-at (x ∷ xs) h zero = h.0
 below-at (x ∷ xs) h (suc j) = below-at xs h.1 j
 
 pub element-byte : (xs : List ℕ) (e : ℕ) → e < length xs → element 1 xs e ≡ get_or xs e 0
-element-byte xs e l = ap (λ l. number_of (lib.ListN.take 1 l)) (ap (λ j. lib.ListN.drop j xs) (omega arith) ∙ drop_more xs e 0 l) ∙ omega arith
+element-byte xs e l = ap (λ l. number_of_bytes (lib.ListN.take 1 l)) (ap (λ j. lib.ListN.drop j xs) (omega arith) ∙ drop_more xs e 0 l) ∙ omega arith
 
 -- bytes are their own elements
 pub lanes-bytes : (n : ℕ) (a : List ℕ) → length a ≡ n → IsLanes n (element 1 a) a
@@ -142,5 +142,5 @@ lanes-made f n below = record {
   long = length-elements 1 f n ∙ omega arith;
   lane = λ e l.
       sym (element-byte (elements 1 f n) e (omega (arith, length-elements 1 f n)))
-      ∙ ap (λ z. element 1 z e) (sym (append-nil (elements 1 f n))) ∙ ap number_of (chunk-elements 1 f n e [] l) ∙ number-bytes_of 1 (f e) ∙ mod-eq_of_lt (below e l);
+      ∙ ap (λ z. element 1 z e) (sym (append-nil (elements 1 f n))) ∙ ap number_of_bytes (chunk-elements 1 f n e [] l) ∙ number-bytes_of 1 (f e) ∙ mod-eq_of_lt (below e l);
 }

@@ -1,5 +1,5 @@
 pub mod Lanes
-pub mod Steps
+pub mod BlockSteps
 pub mod Banks
 pub mod Masks
 pub mod Bits

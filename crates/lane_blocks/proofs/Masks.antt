@@ -14,13 +14,13 @@ use lib.Lanes.{number_l, zip2, top, mask_l, digits_l, Each1}
 use Rattle.guest_types.specs.declared.length.Width.{Width}
 use Rattle.guest_types.specs.declared.length.Width.TheVariants.{B}
 use Rattle.guest_types.specs.Length.{width_bytes, modulus}
-use Rattle.guest_types.specs.Elements.{number_of, element, at, bit, bits_of}
+use Rattle.guest_types.specs.Elements.{number_of_bytes, element, at, bit, bits_of}
 use Rattle.guest_types.proofs.Predicates.{range-at, bits-ext, bit-bits_of, length-bits_of}
 use Rattle.guest_types.proofs.AtWidths.{bits_of-ext}
 use Rattle.guest_types.proofs.Widths.{modulus-is, element-below}
 use Rattle.lane_blocks.specs.Blocks.{block_lanes, bit_byte, spread_of, choose_at, choose_of, is_below, bit_below, below_of}
 use Rattle.lane_blocks.proofs.Lanes.{IsLanes, lanes-is, lanes-ext, lanes-elements, lanes-small, lanes-made, lanes-list, lanes-splat, lanes-zip, lanes-select, lanes-wide, lanes-bytes, lanes-to_bytes, selected, below-at}
-use Rattle.lane_blocks.proofs.Steps.{lane-inside}
+use Rattle.lane_blocks.proofs.BlockSteps.{lane-inside}
 
 -- ---- bits as bytes
 
@@ -72,7 +72,7 @@ lanes-bits p s is = lanes-is is (lanes-made (bit_byte p) 32 (λ e l. bit_byte-sm
 low : (k : ℕ) (v : List ℕ) (e : ℕ) → 0 < k → k * e < length v → element k v e % 2 ≡ get_or v (k * e) 0 % 2
 low zero v e some l = absurd (omega arith)
 low (suc k) v e some l =
-    ap (λ r. number_of (take (suc k) r) % 2) (drop_more v (suc k * e) 0 l) ∙ mod-two (get_or v (suc k * e) 0) (number_l 256 (take k (drop (suc k * e + 1) v)))
+    ap (λ r. number_of_bytes (take (suc k) r) % 2) (drop_more v (suc k * e) 0 l) ∙ mod-two (get_or v (suc k * e) 0) (number_l 256 (take k (drop (suc k * e + 1) v)))
   where
     mod-two : (x r : ℕ) → (x + 256 * r) % 2 ≡ x % 2
     mod-two x r = omega arith

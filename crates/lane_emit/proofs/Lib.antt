@@ -1,15 +1,15 @@
 pub mod Ranges
 pub mod Residues
 pub mod Orders
-pub mod Tops
-pub mod Parts
+pub mod ExtendedLanes
+pub mod BitwiseLanes
 pub mod Stretches
-pub mod Pieces
+pub mod CopyCode
 pub mod Shifts
 pub mod Values
 pub mod Truths
 pub mod ItemRuns
 pub mod Throughout
 pub mod PlacesWithin
-mod Moved
+pub mod PlaceMoved
 mod Examples

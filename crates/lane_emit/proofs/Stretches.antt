@@ -11,12 +11,12 @@ use Rattle.guest_types.proofs.AtWidths.{at-register, width_bytes-lanes}
 use Rattle.machine_model.specs.Machine.{State, z_at, with_z, next}
 use Rattle.machine_model.specs.VectorEffects.{do_vector, put_lanes}
 use Rattle.machine_model.specs.States.{IsVector, IsState}
-use Rattle.machine_model.proofs.States.{vector_made, lanes_put}
+use Rattle.machine_model.proofs.StateSteps.{vector_made, lanes_put}
 use Rattle.lane_emit.specs.Right.{ZRight}
 use Rattle.lane_emit.specs.Stretch.{Word, do_all, and_then, OnlyZ, Ready, MakesZ}
 use Rattle.lane_emit.specs.LaneCode.{size_of}
 use Rattle.lane_emit.proofs.Residues.{held, held-whole}
-use Rattle.lane_emit.proofs.Parts.{Small, small_all}
+use Rattle.lane_emit.proofs.BitwiseLanes.{Small, small_all}
 
 pub width-size : (w : Width) → width_of_size (size_of w) ≡ w
 width-size B = refl
@@ -42,7 +42,7 @@ only_then a b = record {
   stops = b.stops ∙ a.stops;
 }
 
-only_wrote : (d : ℕ) (s : State) (bytes : List ℕ) → OnlyZ d s (next (with_z s d bytes))
+pub only_wrote : (d : ℕ) (s : State) (bytes : List ℕ) → OnlyZ d s (next (with_z s d bytes))
 only_wrote d s bytes = record { memory = refl; x = refl; sp = refl; flags = refl; z = λ n ne. get_or-set_other s.z d n bytes [] ne; p = refl; ffr = refl; vl = refl; stops = refl }
 
 pub ready_then : {w : Width} {n d : ℕ} {s t : State} → Ready w n s → IsState t → OnlyZ d s t → Ready w n t

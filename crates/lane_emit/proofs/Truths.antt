@@ -23,7 +23,7 @@ use Rattle.kernel_meaning.specs.Operators.{compare_on}
 use Rattle.machine_model.specs.Machine.{State, Step, z_at, p_at, with_p, with_flags, next}
 use Rattle.machine_model.specs.States.{IsState}
 use Rattle.machine_model.specs.VectorEffects.{do_vector, put_truths, put_tested}
-use Rattle.machine_model.proofs.States.{truths_put, tested_put}
+use Rattle.machine_model.proofs.StateSteps.{truths_put, tested_put}
 use Rattle.sve_code.specs.Table.{cmphs, cmphi, cmpge, cmpgt, cmpeq, cmpne}
 use Rattle.lane_emit.specs.Right.{ZRight, PRight, within}
 use Rattle.lane_emit.specs.Stretch.{Word, and_then, do_all, MakesP}

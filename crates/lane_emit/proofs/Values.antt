@@ -35,11 +35,11 @@ use Rattle.lane_emit.specs.LaneCode.{size_of, z_copy, z_extend, z_settle, unary_
 use Rattle.lane_emit.proofs.Ranges.{InBits, in_bits, widened, wrap-of, of-fits, of-cond, of-shr, of-flip, abs-unsigned}
 use Rattle.lane_emit.proofs.Residues.{held, add-held, sub-held, mul-held, and-held, or-held, xor-held, neg-held, not-held, abs-held, lsl-held, lsr-held, asr-held}
 use Rattle.lane_emit.proofs.Orders.{smin-held, smax-held, umin-held, umax-held}
-use Rattle.lane_emit.proofs.Tops.{and-kept, or-kept, xor-kept}
+use Rattle.lane_emit.proofs.ExtendedLanes.{and-kept, or-kept, xor-kept}
 use Rattle.lane_emit.proofs.Shifts.{lsl_does, lsr_does, asr_does}
-use Rattle.lane_emit.proofs.Parts.{and-at, or-at, xor-at}
+use Rattle.lane_emit.proofs.BitwiseLanes.{and-at, or-at, xor-at}
 use Rattle.lane_emit.proofs.Stretches.{width-size, only_same, ready_then, small_at, small_made, done_z, renamed_z, first_z, lanes_z}
-use Rattle.lane_emit.proofs.Pieces.{copy_then, copy_z, unary_then, extend_z, settle_z}
+use Rattle.lane_emit.proofs.CopyCode.{copy_then, copy_z, unary_then, extend_z, settle_z}
 
 -- a value of the type in a lane that is as wide
 pub in_lane : (t : Ty) (w : Width) (v : ℤ) → bits_of t ≤ width_bits w → IsOf t v → InBits (is_signed t) (width_bits w) v

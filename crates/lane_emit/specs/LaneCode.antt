@@ -19,15 +19,9 @@ use Rattle.sve_code.specs.Table.{Name, dup, index_row, p_and, p_bic, p_orr, sel,
 pub use Rattle.kernel_meaning.specs.TypeValues.{unary_leaves, binary_leaves}
 use Rattle.lane_emit.specs.Right.{fits}
 use Rattle.lane_emit.specs.Stretch.{Word, word}
+pub use Rattle.guest_types.specs.LaneMemory.{size_of_width as size_of}
 
 -- ---- shared pieces
-
--- the number of a width in the field "size"
-abbrev pub size_of : Width → ℕ
-size_of B = 0
-size_of H = 1
-size_of S = 2
-size_of D = 3
 
 -- d = a, and the words after; nothing where they are one register
 abbrev pub z_copy : (d a : ℕ) → List Word → List Word

@@ -6,7 +6,7 @@ use Rattle.reg_assign.specs.declared.interval.RegClass.{RegClass}
 use Rattle.reg_assign.specs.declared.interval.RegClass.TheVariants.{Z, P}
 use Rattle.reg_assign.specs.Registers.{Assignment}
 use Rattle.loop_form.specs.declared.loop_item.Source.{Source}
-use Rattle.loop_form.specs.declared.loop_item.Source.TheVariants.{Constant, Outer, Turn, Made}
+use Rattle.loop_form.specs.declared.loop_item.Source.TheVariants.{Constant, Outer, LoopIndex, Made}
 use Rattle.loop_form.specs.Entries.{loop_start}
 use Rattle.loop_form.specs.Needs as needs
 use Rattle.loop_form.specs.Needs.{Throughout, scalar_of, same_type, same_number, throughout}
@@ -39,7 +39,7 @@ item_place k class q = flat (slice_get (value_places k class) (q - loop_start k)
 abbrev pub throughout_of : Program → Source → Option Throughout
 throughout_of k (Constant t n) = Some (needs.Constant t n)
 throughout_of k (Outer p) = option_map scalar_of (slice_get k.params p)
-throughout_of k Turn = Some needs.Index
+throughout_of k LoopIndex = Some needs.Index
 throughout_of k (Made q) = None
 
 abbrev pub is_same : Throughout → Throughout → Bool

@@ -1,11 +1,11 @@
 -- What contracts see of code.
 use Rattle.std.specs.Prelude.{◌≡◌, List, ◌++◌, map}
 use Rattle.sve_code.specs.declared.Sve.{Sve}
-use Rattle.sve_code.specs.View.{seen}
+use Rattle.sve_code.specs.View.{instruction_view}
 use Rattle.lane_emit.specs.Stretch.{Word}
 
 abbrev pub words_of : List Sve → List Word
-words_of code = map seen code
+words_of code = map instruction_view code
 
 -- what a call appends, before whatever follows
 abbrev pub Appends : (List Word → List Word) → (old new : List Sve) → Type 0

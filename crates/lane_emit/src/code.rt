@@ -99,7 +99,7 @@ fn settled(
     ty: Ty,
     d: VectorReg,
 ) -> Result<(), AllocError>
-    ensures { OnOk result (Adds (sve.seen word ∷ code.z_settle leaves width ty d.number)
+    ensures { OnOk result (Adds (sve.instruction_view word ∷ code.z_settle leaves width ty d.number)
         words.old.items words.new.items) }
 {
     words.push(word)?;

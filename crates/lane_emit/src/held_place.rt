@@ -21,7 +21,7 @@ fn is_same(value: Held<'_>, wanted: Held<'_>) -> bool
 }
 
 /// The place of a value among those that are held.
-#[tactic(auto, using(crate::proofs::Moved::moved_next, crate::proofs::Moved::moved_none))]
+#[tactic(auto, using(crate::proofs::PlaceMoved::moved_next, crate::proofs::PlaceMoved::moved_none))]
 pub fn place_among(held: &[Held<'_>], wanted: Held<'_>) -> Option<usize>
     ensures { result ≡ spec.place_in (view_of wanted.entry) (view held.now) }
 {

@@ -138,7 +138,7 @@ impl<'a> LaneRegisters<'a> {
         match source {
             Source::Constant(ty, number) => self.held_register(Held::Constant(ty, number)),
             Source::Outer(place) => self.param(place),
-            Source::Turn => self.held_register(Held::Index),
+            Source::LoopIndex => self.held_register(Held::Index),
             Source::Made(item) => self.z(item),
         }
     }
@@ -151,8 +151,8 @@ impl<'a> LaneRegisters<'a> {
     }
 
     /// Whether the loop variable has a register.
-    pub fn is_turn_held(&self) -> bool
-        ensures { result ≡ is_some (held_place (kernel_in self.now) operand.Turn) }
+    pub fn is_index_held(&self) -> bool
+        ensures { result ≡ is_some (held_place (kernel_in self.now) operand.LoopIndex) }
     {
         place_among(&self.held, Held::Index).is_some()
     }

@@ -4,7 +4,7 @@ ghost use Rattle.std.specs.Prelude.{◌≡◌, ◌+◌, ◌-◌, ◌*◌, ◌<�
 ghost use Rattle.guest_types.specs.Length.{width_bits};
 ghost use Rattle.kernel_tree.specs.Wrap as wraps;
 ghost use Rattle.kernel_meaning.specs.Operators as operators;
-ghost use Rattle.sve_code.specs.View.{seen};
+ghost use Rattle.sve_code.specs.View.{instruction_view};
 ghost use Rattle.sve_code.specs.View as sve;
 ghost use Rattle.sve_code.specs.Numbers.{size_number, size_from_h_number, size_from_s_number};
 ghost use Rattle.sve_code.specs.Table as table;
@@ -96,7 +96,8 @@ pub fn wide(p: GoverningReg) -> PredicateReg
 
 /// ADD and SUB.
 pub fn add_sub(op: AddSubOp, width: Width, d: VectorReg, a: VectorReg, b: VectorReg) -> Sve
-    ensures { seen result ≡ word (sve.add_sub_name op) (d.number ∷ a.number ∷ b.number ∷ code.size_of width ∷ []) }
+    ensures { instruction_view result ≡ word (sve.add_sub_name op)
+        (d.number ∷ a.number ∷ b.number ∷ code.size_of width ∷ []) }
 {
     Sve::AddSub {
         op,
@@ -109,7 +110,7 @@ pub fn add_sub(op: AddSubOp, width: Width, d: VectorReg, a: VectorReg, b: Vector
 
 /// AND, ORR and EOR.
 pub fn bitwise(op: BitwiseOp, d: VectorReg, a: VectorReg, b: VectorReg) -> Sve
-    ensures { seen result ≡ word (sve.logic_name op) (d.number ∷ a.number ∷ b.number ∷ []) }
+    ensures { instruction_view result ≡ word (sve.logic_name op) (d.number ∷ a.number ∷ b.number ∷ []) }
 {
     Sve::Bitwise {
         op,
@@ -121,7 +122,7 @@ pub fn bitwise(op: BitwiseOp, d: VectorReg, a: VectorReg, b: VectorReg) -> Sve
 
 /// An operation that changes its first operand, in all lanes.
 pub fn merging(op: BinaryPredicatedOp, width: Width, d: VectorReg, b: VectorReg) -> Sve
-    ensures { seen result ≡ word (sve.merging_name op) (d.number ∷ b.number ∷ 1 ∷ code.size_of width ∷ []) }
+    ensures { instruction_view result ≡ word (sve.merging_name op) (d.number ∷ b.number ∷ 1 ∷ code.size_of width ∷ []) }
 {
     Sve::BinaryPredicated {
         op,
@@ -134,7 +135,7 @@ pub fn merging(op: BinaryPredicatedOp, width: Width, d: VectorReg, b: VectorReg)
 
 /// ABS, NEG and NOT, in all lanes.
 pub fn unary(op: UnaryPredicatedOp, width: Width, d: VectorReg, a: VectorReg) -> Sve
-    ensures { seen result ≡ word (sve.unary_name op) (d.number ∷ a.number ∷ 1 ∷ code.size_of width ∷ []) }
+    ensures { instruction_view result ≡ word (sve.unary_name op) (d.number ∷ a.number ∷ 1 ∷ code.size_of width ∷ []) }
 {
     Sve::UnaryPredicated {
         op,
@@ -148,7 +149,8 @@ pub fn unary(op: UnaryPredicatedOp, width: Width, d: VectorReg, a: VectorReg) ->
 /// The extension of bytes.
 pub fn extend_byte(op: ExtendOp, width: Width, d: VectorReg, a: VectorReg) -> Sve
     requires { 8 < width_bits width }
-    ensures { seen result ≡ word (sve.extend_byte_name op) (d.number ∷ a.number ∷ 1 ∷ code.size_of width ∷ []) }
+    ensures { instruction_view result ≡ word (sve.extend_byte_name op)
+        (d.number ∷ a.number ∷ 1 ∷ code.size_of width ∷ []) }
 {
     Sve::ExtendByte {
         op,
@@ -162,7 +164,8 @@ pub fn extend_byte(op: ExtendOp, width: Width, d: VectorReg, a: VectorReg) -> Sv
 /// The extension of halfwords.
 pub fn extend_halfword(op: ExtendOp, width: Width, d: VectorReg, a: VectorReg) -> Sve
     requires { 16 < width_bits width }
-    ensures { seen result ≡ word (sve.extend_half_name op) (d.number ∷ a.number ∷ 1 ∷ code.size_of width ∷ []) }
+    ensures { instruction_view result ≡ word (sve.extend_half_name op)
+        (d.number ∷ a.number ∷ 1 ∷ code.size_of width ∷ []) }
 {
     Sve::ExtendHalfword {
         op,
@@ -175,7 +178,7 @@ pub fn extend_halfword(op: ExtendOp, width: Width, d: VectorReg, a: VectorReg) -
 
 /// The extension of words to doublewords.
 pub fn extend_word(op: ExtendOp, d: VectorReg, a: VectorReg) -> Sve
-    ensures { seen result ≡ word (sve.extend_word_name op) (d.number ∷ a.number ∷ 1 ∷ []) }
+    ensures { instruction_view result ≡ word (sve.extend_word_name op) (d.number ∷ a.number ∷ 1 ∷ []) }
 {
     Sve::ExtendWord {
         op,
@@ -188,7 +191,7 @@ pub fn extend_word(op: ExtendOp, d: VectorReg, a: VectorReg) -> Sve
 /// A shift to the left, by less bits than a lane has.
 pub fn shift_left(width: Width, d: VectorReg, a: VectorReg, count: u32) -> Sve
     requires { count < width_bits width }
-    ensures { seen result ≡ code.shift_word table.lsl_imm d.number a.number (width_bits width + count) }
+    ensures { instruction_view result ≡ code.shift_word table.lsl_imm d.number a.number (width_bits width + count) }
 {
     let value = width.bits() + count;
     Sve::ShiftImmediate {
@@ -203,7 +206,8 @@ pub fn shift_left(width: Width, d: VectorReg, a: VectorReg, count: u32) -> Sve
 pub fn shift_right(signed: bool, width: Width, d: VectorReg, a: VectorReg, count: u32) -> Sve
     requires some { 1 ≤ count }
     requires short { count < width_bits width }
-    ensures { seen result ≡ code.shift_word (code.right_by signed) d.number a.number (2 * width_bits width - count) }
+    ensures { instruction_view result ≡ code.shift_word (code.right_by signed)
+        d.number a.number (2 * width_bits width - count) }
 {
     let value = 2 * width.bits() - count;
     let op = if signed {
@@ -221,7 +225,8 @@ pub fn shift_right(signed: bool, width: Width, d: VectorReg, a: VectorReg, count
 
 /// SEL.
 pub fn select(width: Width, d: VectorReg, p: PredicateReg, a: VectorReg, b: VectorReg) -> Sve
-    ensures { seen result ≡ word table.sel (d.number ∷ a.number ∷ p.number ∷ b.number ∷ code.size_of width ∷ []) }
+    ensures { instruction_view result ≡ word table.sel
+        (d.number ∷ a.number ∷ p.number ∷ b.number ∷ code.size_of width ∷ []) }
 {
     Sve::Sel {
         zd: d,
@@ -243,7 +248,8 @@ pub fn compare(
     a: VectorReg,
     b: VectorReg,
 ) -> Sve
-    ensures { seen result ≡ code.compare_word width (sve.compare_name op) d.number m.number a.number b.number }
+    ensures { instruction_view result ≡ code.compare_word width (sve.compare_name op)
+        d.number m.number a.number b.number }
 {
     Sve::CompareVectors {
         op,
@@ -263,7 +269,7 @@ pub fn logical(
     a: PredicateReg,
     b: PredicateReg,
 ) -> Sve
-    ensures { seen result ≡ word (sve.pred_logic_name op) (d.number ∷ a.number ∷ m.number ∷ b.number ∷ []) }
+    ensures { instruction_view result ≡ word (sve.pred_logic_name op) (d.number ∷ a.number ∷ m.number ∷ b.number ∷ []) }
 {
     Sve::PredicateLogical {
         op,
@@ -284,7 +290,7 @@ pub fn test(
     a: VectorReg,
     b: VectorReg,
 ) -> Sve
-    ensures { code.test_code width op ty d.number m.number a.number b.number ≡ seen result ∷ [] }
+    ensures { code.test_code width op ty d.number m.number a.number b.number ≡ instruction_view result ∷ [] }
 {
     match op {
         CompareOp::Eq => compare(VectorCompareOp::Eq, width, d, m, a, b),

@@ -16,8 +16,8 @@ use Rattle.guest_types.proofs.LaneSteps.{first_true-on, first_true-off, first_tr
 use Rattle.lane_memory.specs.declared.reading.Reading.{Reading}
 use Rattle.lane_memory.specs.Readings.{form_of, place_of, on_of, on_from, faults_of, refused_of, lanes_of}
 use Rattle.lane_memory.specs.Loads.{LoadLeft, left_by_early}
-use Rattle.lane_memory.proofs.Firsts.{first_true-some, first_true-none, first_true-from, first_true-ext}
-use Rattle.lane_memory.proofs.Kept.{clear-there}
+use Rattle.lane_memory.proofs.FirstTrue.{first_true-some, first_true-none, first_true-from, first_true-ext}
+use Rattle.lane_memory.proofs.FfrCleared.{clear-there}
 
 -- ---- the first suppressed element
 

@@ -8,7 +8,7 @@ use Rattle.std.proofs.Math.Nat.{mul_assoc, mul-le-mul_left}
 use Rattle.guest_types.specs.declared.length.Width.{Width}
 use Rattle.guest_types.specs.declared.length.Width.TheVariants.{B, H, S, D}
 use Rattle.guest_types.specs.Length.{width_bytes, all_lanes}
-use Rattle.guest_types.specs.Elements.{number_of, bytes_of, at, active, elements, register}
+use Rattle.guest_types.specs.Elements.{number_of_bytes, bytes_of, at, active, elements, register}
 use Rattle.guest_types.specs.Lanes.{select_at}
 use lib.Lanes.{chunk}
 use Rattle.guest_types.proofs.AtWidths.{register-zeros, register-of}
@@ -16,12 +16,12 @@ use Rattle.guest_types.proofs.Predicates.{bit-bits_of}
 use Rattle.guest_types.proofs.Registers.{register-ext, elements-ext, elements-split, length-elements, chunk-elements}
 use Rattle.guest_types.proofs.Widths.{whole-register, lane-inside}
 use Rattle.lane_blocks.specs.Blocks.{block_lanes, block_of, mask_of, with_block, cleared_above, choose_at, choose_of, bit_below, below_of}
-use Rattle.lane_blocks.proofs.Steps.{Begins, block-bytes, all-blocks, at-block, active-block, begins-more}
+use Rattle.lane_blocks.proofs.BlockSteps.{Begins, block-bytes, all-blocks, at-block, active-block, begins-more}
 use Rattle.lane_memory.specs.Readings.{masked_at, masked_of}
 
 -- ---- one block more
 
-zeros_number : (k m : ℕ) → number_of (take k (replicate {A = ℕ} m 0)) ≡ 0
+zeros_number : (k m : ℕ) → number_of_bytes (take k (replicate {A = ℕ} m 0)) ≡ 0
 zeros_number zero m = refl
 zeros_number (suc k) zero = refl
 zeros_number (suc k) (suc m) = ap (λ n. 0 + 256 * n) (zeros_number k m)
@@ -29,7 +29,7 @@ zeros_number (suc k) (suc m) = ap (λ n. 0 + 256 * n) (zeros_number k m)
 at-zeros : (w : Width) (n e : ℕ) → at w (replicate n 0) e ≡ 0
 at-zeros w n e =
     let k = width_bytes w in
-    ap (λ l. number_of (take k l)) (drop-replicate (k * e) n 0) ∙ zeros_number k (n - k * e)
+    ap (λ l. number_of_bytes (take k l)) (drop-replicate (k * e) n 0) ∙ zeros_number k (n - k * e)
 
 -- as far as a loop has come: blocks that hold the elements f, and the rest as it was
 pub record Built (w : Width) (f : ℕ → ℕ) (old : List ℕ) (i : ℕ) (z : List ℕ) : Type 0 where

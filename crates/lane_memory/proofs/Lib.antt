@@ -1,9 +1,9 @@
-pub mod Chunks
+pub mod ListParts
 pub mod EarlySteps
 mod Examples
-pub mod Firsts
+pub mod FirstTrue
 pub mod KeepLaws
-pub mod Kept
+pub mod FfrCleared
 pub mod LoadLaws
 pub mod ReadLaws
 pub mod SpanWrites

@@ -12,7 +12,7 @@ use Rattle.guest_types.specs.EarlyLoads.{StopList, stop_at, later, rank, suppres
 use Rattle.lane_memory.specs.declared.reading.Reading.{Reading}
 use Rattle.lane_memory.specs.Readings.{form_of, place_of, on_of, on_from, faults_of, refused_of, place_after, IsFreeFrom}
 use Rattle.lane_memory.specs.Loads.{LoadLeft, left_by, left_by_early, left_by_first, load_of}
-use Rattle.lane_memory.proofs.Firsts.{first_true-some, first_true-none, first_true-absent, first_true-ext}
+use Rattle.lane_memory.proofs.FirstTrue.{first_true-some, first_true-none, first_true-absent, first_true-ext}
 use Rattle.lane_memory.proofs.EarlySteps.{on_from-below}
 
 -- ---- no fault

@@ -9,7 +9,7 @@ use Rattle.guest_types.specs.declared.length.Width.{Width}
 use Rattle.guest_types.specs.declared.length.Width.TheVariants.{B, H, S, D}
 use Rattle.guest_types.specs.Length.{width_bytes}
 use Rattle.guest_types.specs.Memory.{Memory, IsMemory, page_at, can_read, first_fault, number_at}
-use Rattle.guest_types.specs.Elements.{number_of}
+use Rattle.guest_types.specs.Elements.{number_of_bytes}
 use Rattle.guest_types.specs.Spans.{in_one_page, has_span, bytes_or_none, span_of}
 use Rattle.guest_types.specs.LaneMemory.{lane_address}
 use Rattle.guest_types.proofs.SpanLaws.{in_one_page-fits, read_faults-span, number_at-span}
@@ -66,7 +66,7 @@ module _ (memory : Memory) (base index : ℕ) (w : Width) (e n i : ℕ) (l : i <
   k : ℕ
   k = width_bytes w
 
-  pub part-number : IsMemory memory → let k = width_bytes w in let a = lane_address base index k e in has_span memory a (k * n) ≡ true → number_at memory (lane_address base index k (e + i)) k ≡ number_of (chunk (k * i) k (span_of memory a (k * n)))
+  pub part-number : IsMemory memory → let k = width_bytes w in let a = lane_address base index k e in has_span memory a (k * n) ≡ true → number_at memory (lane_address base index k (e + i)) k ≡ number_of_bytes (chunk (k * i) k (span_of memory a (k * n)))
   part-number is has =
       let k = width_bytes w in
       let a = lane_address base index k e in
@@ -76,7 +76,7 @@ module _ (memory : Memory) (base index : ℕ) (w : Width) (e n i : ℕ) (l : i <
       let step = address-step base index w e i room in
       ap (λ x. number_at memory x k) step
       ∙ number_at-span memory (a + k * i) k is (subst (λ x. x < 2 ^ 64) step (address-low base index k (e + i))) (has_part memory a k n i some l has)
-      ∙ ap number_of (span-part memory a k n i some l one)
+      ∙ ap number_of_bytes (span-part memory a k n i some l one)
 
   pub part-read : let k = width_bytes w in let a = lane_address base index k e in has_span memory a (k * n) ≡ true → first_fault (can_read memory) (lane_address base index k (e + i)) k ≡ None
   part-read has =

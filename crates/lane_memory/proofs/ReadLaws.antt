@@ -11,7 +11,7 @@ use Rattle.guest_types.specs.declared.length.Width.{Width}
 use Rattle.guest_types.specs.declared.length.Width.TheVariants.{B, H, S, D}
 use Rattle.guest_types.specs.Length.{width_bytes, modulus, all_lanes}
 use Rattle.guest_types.specs.Memory.{Memory, IsMemory, loaded, number_at}
-use Rattle.guest_types.specs.Elements.{number_of, bytes_of, at, elements, register}
+use Rattle.guest_types.specs.Elements.{number_of_bytes, bytes_of, at, elements, register}
 use Rattle.guest_types.specs.Spans.{has_span, span_of}
 use Rattle.guest_types.specs.Lanes.{sign_extended}
 use Rattle.guest_types.specs.LaneMemory.{extended}
@@ -22,7 +22,7 @@ use Rattle.paged_memory.specs.Numbers.{number_in, with_number}
 use Rattle.paged_memory.proofs.Bytes.{length-with_number}
 use Rattle.lane_memory.specs.declared.reading.Reading.{Reading}
 use Rattle.lane_memory.specs.Readings.{form_of, place_of, on_of, faults_of, refused_of, lane_of, lanes_of, raw_of, HoldsLanes, IsCopied, IsRead, IsActiveRange, masked_at, masked_of}
-use Rattle.lane_memory.proofs.Chunks.{put, at-written, at-unwritten, at-one, at-other}
+use Rattle.lane_memory.proofs.ListParts.{put, at-written, at-unwritten, at-one, at-other}
 use Rattle.lane_memory.proofs.Places.{part-number, part-read}
 
 -- ---- numbers of a part
@@ -32,7 +32,7 @@ chunk-bytes i n bs small =
     Each1-from_get_or (λ b. b < 256) (chunk i n bs) 0 (λ j l.
     subst (λ b. b < 256) (sym (get_or-take n (drop i bs) j 0 (omega (arith, length-take n (drop i bs))) ∙ get_or-drop i bs j 0)) (small (i + j)))
 
-pub chunk-below : (w : Width) (i : ℕ) (bs : List ℕ) → ((j : ℕ) → get_or bs j 0 < 256) → number_of (chunk i (width_bytes w) bs) < modulus w
+pub chunk-below : (w : Width) (i : ℕ) (bs : List ℕ) → ((j : ℕ) → get_or bs j 0 < 256) → number_of_bytes (chunk i (width_bytes w) bs) < modulus w
 chunk-below w i bs small =
     let k = width_bytes w in
     let part = chunk i k bs in
@@ -40,7 +40,7 @@ chunk-below w i bs small =
     let up : 256 ^ length part ≤ 256 ^ k = pow-le-pow_right {n = 256} (omega arith) {i = length part} {j = k} short in
     omega (arith, number-below part (chunk-bytes i k bs small), up, modulus-is w)
 
-pub number_in-chunk : (bs : List ℕ) (at size : ℕ) → number_in bs at size ≡ number_of (chunk at size bs)
+pub number_in-chunk : (bs : List ℕ) (at size : ℕ) → number_in bs at size ≡ number_of_bytes (chunk at size bs)
 unfolding number_in
 number_in-chunk bs at size = refl
 
@@ -71,8 +71,8 @@ copied-whole r part from n old new same size fits long small is =
     record {
       copied = λ i l.
           ap (λ z. at w z (from + i)) is ∙ at-written w old part from n long fits wide i l
-          ∙ sym (same-extended w r.signed (number_of (chunk (width_bytes w * i) (width_bytes w) part)) (chunk-below w (width_bytes w * i) part small))
-          ∙ ap (λ v. extended (record { memory = v; element = w; signed = r.signed }) (number_of (chunk (width_bytes v * i) (width_bytes v) part)) % modulus w) (sym same);
+          ∙ sym (same-extended w r.signed (number_of_bytes (chunk (width_bytes w * i) (width_bytes w) part)) (chunk-below w (width_bytes w * i) part small))
+          ∙ ap (λ v. extended (record { memory = v; element = w; signed = r.signed }) (number_of_bytes (chunk (width_bytes v * i) (width_bytes v) part)) % modulus w) (sym same);
       kept = λ i apart. ap (λ z. at w z i) is ∙ at-unwritten w old part from n long fits wide i apart;
     }
 
@@ -95,7 +95,7 @@ copied-more r part from i old was now v x h long inside read is written =
             let q : i ≡ j = omega arith in
             ap₂ (λ z e. at w z (from + e)) new (sym q) ∙ at-one w was (from + i) x long inside
             ∙ ap (λ y. y % modulus w) (is ∙ ap (extended (form_of r)) (read ∙ number_in-chunk part (m * i) m))
-            ∙ ap (λ e. extended (form_of r) (number_of (chunk (m * e) m part)) % modulus w) q
+            ∙ ap (λ e. extended (form_of r) (number_of_bytes (chunk (m * e) m part)) % modulus w) q
       ];
       kept = λ j apart.
           ap (λ z. at w z j) new
@@ -136,7 +136,7 @@ holds-part r memory pg part from e n a len old new is h place size has bytes cop
           let inside : i < n = omega arith in
           let span : has_span memory (place_of r e) (m * n) ≡ true = sym (ap₂ (has_span memory) place size) ∙ has in
           let same : part ≡ span_of memory (place_of r e) (m * n) = bytes ∙ ap₂ (span_of memory) place size in
-          let number : number_of (chunk (m * i) m part) ≡ number_at memory (place_of r (e + i)) m = ap (λ l. number_of (chunk (m * i) m l)) same ∙ sym (part-number memory r.base r.index r.memory e n i inside is span) in
+          let number : number_of_bytes (chunk (m * i) m part) ≡ number_at memory (place_of r (e + i)) m = ap (λ l. number_of_bytes (chunk (m * i) m l)) same ∙ sym (part-number memory r.base r.index r.memory e n i inside is span) in
           ap (at r.element new) (sym q) ∙ copied.copied i inside ∙ ap (λ v. extended (form_of r) v % modulus r.element) number
           ∙ ap (λ j. raw_of r memory j % modulus r.element) q
     ]

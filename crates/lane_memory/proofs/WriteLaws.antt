@@ -7,7 +7,7 @@ use Rattle.std.proofs.Math.Nat.{mul-suc, mul-add, mul-le-mul_left}
 use lib.Lanes.{chunk}
 use Rattle.guest_types.specs.Length.{width_bytes, all_lanes}
 use Rattle.guest_types.specs.Memory.{Memory, IsMemory, can_write}
-use Rattle.guest_types.specs.Elements.{number_of, bytes_of, at, active}
+use Rattle.guest_types.specs.Elements.{number_of_bytes, bytes_of, at, active}
 use Rattle.guest_types.specs.Spans.{in_one_page, has_span_mut, span_of, with_span}
 use Rattle.guest_types.specs.LaneMemory.{store_lanes}
 use Rattle.guest_types.proofs.Numbers.{length-bytes_of, bytes_of-number}
@@ -17,7 +17,7 @@ use Rattle.paged_memory.specs.Numbers.{number_in, with_number}
 use Rattle.lane_memory.specs.declared.writing.Writing.{Writing}
 use Rattle.lane_memory.specs.Writings.{target_of, stored_of, written_at, IsWritten, IsMerged, IsSpanWritten}
 use Rattle.lane_memory.specs.Readings.{IsActiveRange}
-use Rattle.lane_memory.proofs.Chunks.{put, chunk-before, chunk-inside, chunk-after, at-written}
+use Rattle.lane_memory.proofs.ListParts.{put, chunk-before, chunk-inside, chunk-after, at-written}
 use Rattle.lane_memory.proofs.Places.{address-low, address-step, room-in_page}
 use Rattle.lane_memory.proofs.ReadLaws.{number_in-chunk, with_number-put}
 use Rattle.lane_memory.proofs.SpanWrites.{length-span, merged, merged-is, stored-merged, store-skip, store-tail}
@@ -75,11 +75,11 @@ under-off w pg z from count i old was h l off =
 
 -- ---- a part that is merged as a register
 
-chunk-own : (i k : ℕ) (l : List ℕ) → ((j : ℕ) → get_or l j 0 < 256) → i + k ≤ length l → bytes_of k (number_of (chunk i k l)) ≡ chunk i k l
+chunk-own : (i k : ℕ) (l : List ℕ) → ((j : ℕ) → get_or l j 0 < 256) → i + k ≤ length l → bytes_of k (number_of_bytes (chunk i k l)) ≡ chunk i k l
 chunk-own i k l small fits =
     let part = chunk i k l in
     let long : length part ≡ k = length-take-le k (drop i l) (omega (arith, length-drop i l)) in
-    ap (λ n. bytes_of n (number_of part)) (sym long)
+    ap (λ n. bytes_of n (number_of_bytes part)) (sym long)
     ∙ bytes_of-number part (Each1-from_get_or (λ b. b < 256) part 0 (λ j u. subst (λ b. b < 256) (sym (get_or-take k (drop i l) j 0 (omega (arith, length-take k (drop i l))) ∙ get_or-drop i l j 0)) (small (i + j))))
 
 pub merged-part : (w : Writing) (pg z : List ℕ) (from n blocks : ℕ) (old zeros before after new : List ℕ) → w.memory ≡ w.element → length old ≡ width_bytes w.memory * n → from + n ≤ all_lanes w.element → ((j : ℕ) → get_or old j 0 < 256) → length zeros ≡ 256

@@ -4,7 +4,7 @@ use lib.Lanes.{chunk}
 use Rattle.guest_types.specs.declared.length.Width.{Width}
 use Rattle.guest_types.specs.Length.{width_bytes, modulus}
 use Rattle.guest_types.specs.Memory.{Memory, number_at}
-use Rattle.guest_types.specs.Elements.{active, at, both, first_true, number_of, register}
+use Rattle.guest_types.specs.Elements.{active, at, both, first_true, number_of_bytes, register}
 use Rattle.guest_types.specs.LaneMemory.{LoadForm, extended, lane_address, lane_faults, loaded_lane, fault_at}
 use Rattle.lane_memory.specs.declared.reading.Reading.{Reading}
 
@@ -60,7 +60,7 @@ HoldsLanes r memory pg from to z = (e : ℕ) → from ≤ e → e < to → on_of
 
 -- n elements from a place on are those of a part of memory, and the others stay
 pub record IsCopied (r : Reading) (part : List ℕ) (from n : ℕ) (old new : List ℕ) : Type 0 where
-  pub copied : (i : ℕ) → i < n → at r.element new (from + i) ≡ extended (form_of r) (number_of (chunk (width_bytes r.memory * i) (width_bytes r.memory) part)) % modulus r.element
+  pub copied : (i : ℕ) → i < n → at r.element new (from + i) ≡ extended (form_of r) (number_of_bytes (chunk (width_bytes r.memory * i) (width_bytes r.memory) part)) % modulus r.element
   pub kept : (i : ℕ) → (i < from) ⊎ (from + n ≤ i) → at r.element new i ≡ at r.element old i
 
 -- one element is what was read where it is active, and the others stay

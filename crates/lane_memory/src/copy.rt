@@ -1,4 +1,4 @@
-// Elements that are read from a part of one page.
+//! Elements that are read from a part of one page.
 
 ghost use Rattle.std.specs.Prelude.{◌≡◌, ◌+◌, ◌*◌, ◌≤◌, length};
 ghost use Rattle.guest_types.specs.Length.{all_lanes, width_bytes};

@@ -1,4 +1,4 @@
-// Loads that may stop early.
+//! Loads that may stop early.
 
 ghost use Rattle.std.specs.Prelude.{◌≡◌, ◌≤◌, None};
 ghost use Rattle.guest_types.specs.Length.{all_lanes};

@@ -1,4 +1,4 @@
-// The first-fault register.
+//! The first-fault register.
 
 ghost use Rattle.std.specs.Prelude.{◌≡◌, ℕ, ◌<◌, ◌≤◌, Some, unwrap_or, IsTrue};
 ghost use Rattle.guest_types.specs.Length.{all_lanes};

@@ -1,4 +1,4 @@
-// The elements of a load that nothing refuses.
+//! The elements of a load that nothing refuses.
 
 ghost use Rattle.std.specs.Prelude.{◌≡◌, ◌<◌, ◌≤◌, ℕ, IsTrue, None, false, true};
 ghost use Rattle.guest_types.specs.Length.{all_lanes};

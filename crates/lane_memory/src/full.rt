@@ -1,4 +1,4 @@
-// Masks of which the first elements are all active.
+//! Masks of which the first elements are all active.
 
 ghost use Rattle.std.specs.Prelude.{◌≡◌, ℕ, ◌<◌, ◌≤◌, IsTrue, true, length};
 ghost use Rattle.guest_types.specs.Length.{all_lanes, width_bytes};

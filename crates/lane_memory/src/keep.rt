@@ -1,4 +1,4 @@
-// The active elements of a register, and zeros elsewhere.
+//! The active elements of a register, and zeros elsewhere.
 
 ghost use Rattle.std.specs.Prelude.{◌≡◌, ◌*◌, ◌≤◌, length};
 ghost use Rattle.guest_types.specs.Length.{all_lanes};

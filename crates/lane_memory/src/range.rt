@@ -1,4 +1,4 @@
-// The elements from the first active one to the last.
+//! The elements from the first active one to the last.
 
 ghost use Rattle.std.specs.Prelude.{◌≡◌, ℕ, ◌+◌, ◌*◌, ◌<◌, ◌≤◌, slice_index};
 ghost use Rattle.guest_types.specs.Length.{all_lanes, width_bytes};

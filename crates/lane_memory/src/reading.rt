@@ -1,4 +1,4 @@
-// One load: its form, and where its elements stand.
+//! One load: its form, and where its elements stand.
 
 ghost use Rattle.std.specs.Prelude.{◌≡◌, ◌<◌, ◌≤◌};
 ghost use Rattle.guest_types.specs.Length.{modulus, width_bytes};

@@ -1,4 +1,4 @@
-// The elements of a load whose access faults.
+//! The elements of a load whose access faults.
 
 ghost use Rattle.std.specs.Prelude.{◌≡◌, ◌-◌, ◌<◌, ◌≤◌, true, Some};
 ghost use Rattle.guest_types.specs.Length.{all_lanes};

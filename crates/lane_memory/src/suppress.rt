@@ -1,4 +1,4 @@
-// The free elements of first-fault and non-fault loads that a run suppresses.
+//! The free elements of first-fault and non-fault loads that a run suppresses.
 
 ghost use Rattle.std.specs.Prelude.{◌≡◌, ◌≤◌, ◌↔◌, IsTrue, IsSome, IfSome};
 ghost use Rattle.guest_types.specs.EarlyLoads.{Each, never, stop_at, later};

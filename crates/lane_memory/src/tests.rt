@@ -1,4 +1,4 @@
-// Loads and stores of lanes over four pages: 0 and 1 may be written, 2 may be read, 3 is not mapped.
+//! Loads and stores of lanes over four pages: 0 and 1 may be written, 2 may be read, 3 is not mapped.
 
 ghost use Rattle.std.specs.Prelude.{◌≤◌, ◌<◌};
 ghost use Rattle.guest_types.specs.Length.{IsLength, all_lanes};

@@ -1,4 +1,4 @@
-// Elements that are written to a part of one page.
+//! Elements that are written to a part of one page.
 
 ghost use Rattle.std.specs.Prelude.{◌≡◌, ℕ, ◌+◌, ◌*◌, ◌<◌, ◌≤◌, true, length};
 ghost use Rattle.guest_types.specs.Length.{all_lanes, width_bytes};

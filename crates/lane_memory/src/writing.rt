@@ -1,4 +1,4 @@
-// One store: its widths, and where its elements stand.
+//! One store: its widths, and where its elements stand.
 
 ghost use Rattle.std.specs.Prelude.{◌≡◌};
 ghost use Rattle.guest_types.specs.LaneMemory.{width_of_size};

@@ -18,7 +18,7 @@ use Rattle.guest_types.proofs.Registers.{chunk-elements, length-elements}
 use Rattle.lane_blocks.specs.Blocks.{block_lanes, block_of, mask_of, with_mask, bit_below, below_of, spread_of}
 use Rattle.lane_blocks.proofs.Lanes.{IsLanes, below-at}
 use Rattle.lane_blocks.proofs.Masks.{lanes-bits}
-use Rattle.lane_blocks.proofs.Steps.{at-block, bit-mask, block-bytes}
+use Rattle.lane_blocks.proofs.BlockSteps.{at-block, bit-mask, block-bytes}
 use Rattle.lane_blocks.proofs.Bits.{bits-are, bits-made}
 use Rattle.lane_preds.specs.Bits.{starts, flag_at, flags_of, compare_bit, compare_bits_of}
 use Rattle.lane_preds.proofs.Patterns.{lane-of}

@@ -1,20 +1,23 @@
 -- The parts of an instruction's text: registers, numbers, addresses, and what stands between them, as in the assembler
 -- symbols of Arm DDI 0487. Numbers are decimal.
-use Rattle.std.specs.Prelude.{ℕ, ◌*◌, ◌-◌, ◌^◌, ◌==◌, ◌&&◌, nat_lt, if◌then◌else◌, List, [], ◌++◌, codes, decimal}
+use Rattle.std.specs.Prelude.{ℕ, ◌*◌, ◌-◌, ◌^◌, ◌==◌, ◌&&◌, nat_lt, if◌then◌else◌, List, [], ◌∷◌, ◌++◌, codes, decimal, slice_index_or}
 
 -- ---- registers, by their numbers
+abbrev pub general_register : (letter last : List ℕ) → ℕ → List ℕ
+general_register letter last n = if n == 31 then last else (letter ++ decimal n)
+
 abbrev pub x_register : ℕ → List ℕ
-x_register n = if n == 31 then codes "xzr" else (codes "x" ++ decimal n)
+x_register n = general_register (codes "x") (codes "xzr") n
 
 abbrev pub w_register : ℕ → List ℕ
-w_register n = if n == 31 then codes "wzr" else (codes "w" ++ decimal n)
+w_register n = general_register (codes "w") (codes "wzr") n
 
 -- where 31 is SP
 abbrev pub x_or_sp : ℕ → List ℕ
-x_or_sp n = if n == 31 then codes "sp" else (codes "x" ++ decimal n)
+x_or_sp n = general_register (codes "x") (codes "sp") n
 
 abbrev pub w_or_sp : ℕ → List ℕ
-w_or_sp n = if n == 31 then codes "wsp" else (codes "w" ++ decimal n)
+w_or_sp n = general_register (codes "w") (codes "wsp") n
 
 abbrev pub comma : List ℕ
 comma = codes ", "
@@ -23,10 +26,14 @@ comma = codes ", "
 abbrev pub constant : ℕ → List ℕ
 constant n = codes "#" ++ decimal n
 
+-- a number times `unit`, where those from `half` on are the negative ones, twice `half` less
+abbrev pub signed_multiple : (unit half : ℕ) → ℕ → List ℕ
+signed_multiple unit half n =
+    if nat_lt n half then (codes "#" ++ decimal (unit * n)) else (codes "#-" ++ decimal (unit * (2 * half - n)))
+
 -- a signed number of `width` bits in two's complement, times `unit`
 abbrev pub signed_constant : ℕ → ℕ → ℕ → List ℕ
-signed_constant unit width n =
-    if nat_lt n (2 ^ (width - 1)) then (codes "#" ++ decimal (unit * n)) else (codes "#-" ++ decimal (unit * (2 ^ width - n)))
+signed_constant unit width n = signed_multiple unit (2 ^ (width - 1)) n
 
 -- a shift to the left, which is left out where it is by 0
 abbrev pub lsl_by : ℕ → List ℕ
@@ -47,20 +54,21 @@ abbrev pub at_register : ℕ → ℕ → ℕ → List ℕ
 at_register rn rm shift = codes ", [" ++ x_or_sp rn ++ comma ++ x_register rm ++ lsl_by shift ++ codes "]"
 
 -- ---- conditions
+abbrev pub cond_names : List (List ℕ)
+cond_names =
+    codes "eq" ∷ codes "ne" ∷ codes "hs" ∷ codes "lo" ∷ codes "mi" ∷ codes "pl" ∷ codes "vs" ∷ codes "vc"
+    ∷ codes "hi" ∷ codes "ls" ∷ codes "ge" ∷ codes "lt" ∷ codes "gt" ∷ codes "le" ∷ codes "al" ∷ []
+
 abbrev pub cond_name : ℕ → List ℕ
-cond_name n =
-    if n == 0 then codes "eq" else (if n == 1 then codes "ne" else (if n == 2 then codes "hs" else (if n == 3 then codes "lo" else
-    (if n == 4 then codes "mi" else (if n == 5 then codes "pl" else (if n == 6 then codes "vs" else (if n == 7 then codes "vc" else
-    (if n == 8 then codes "hi" else (if n == 9 then codes "ls" else (if n == 10 then codes "ge" else (if n == 11 then codes "lt" else
-    (if n == 12 then codes "gt" else (if n == 13 then codes "le" else codes "al")))))))))))))
+cond_name n = slice_index_or cond_names n []
 
 -- ---- SVE: elements and predicates
 abbrev pub size_letter : ℕ → List ℕ
-size_letter size = if size == 0 then codes "b" else (if size == 1 then codes "h" else (if size == 2 then codes "s" else codes "d"))
+size_letter size = slice_index_or (codes "b" ∷ codes "h" ∷ codes "s" ∷ codes "d" ∷ []) size []
 
 -- the arrangement after a register
 abbrev pub dotted : ℕ → List ℕ
-dotted size = if size == 0 then codes ".b" else (if size == 1 then codes ".h" else (if size == 2 then codes ".s" else codes ".d"))
+dotted size = codes "." ++ size_letter size
 
 abbrev pub z_register : ℕ → ℕ → List ℕ
 z_register size n = codes "z" ++ decimal n ++ dotted size
@@ -70,4 +78,4 @@ p_register n = codes "p" ++ decimal n
 
 -- what a load or a store accesses: a byte, a halfword, a word or a doubleword
 abbrev pub access_letter : ℕ → List ℕ
-access_letter size = if size == 0 then codes "b" else (if size == 1 then codes "h" else (if size == 2 then codes "w" else codes "d"))
+access_letter size = slice_index_or (codes "b" ∷ codes "h" ∷ codes "w" ∷ codes "d" ∷ []) size []

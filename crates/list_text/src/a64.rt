@@ -1,7 +1,7 @@
 //! The text of A64 instructions.
 ghost use Rattle.std.specs.Prelude.{◌≡◌, ◌≤◌, [], ◌∷◌, ◌++◌, length};
 ghost use Rattle.a64_code.specs.declared.A64.{A64};
-ghost use Rattle.a64_code.specs.View.{seen, cond_number};
+ghost use Rattle.a64_code.specs.View.{instruction_view, cond_number};
 ghost use Rattle.word_rows.specs.Field.{flag_number};
 ghost use Rattle.list_text.specs.Parts.{x_register, w_register, x_or_sp};
 ghost use Rattle.list_text.specs.A64Text as text;
@@ -20,7 +20,7 @@ use word_rows::Bits;
 
 /// Replaces what `into` holds by the text of an instruction.
 pub fn instruction_text(instruction: A64, into: &mut LineBuf)
-    ensures { into.new.bytes ≡ text.a64_text (seen instruction) }
+    ensures { into.new.bytes ≡ text.a64_text (instruction_view instruction) }
 {
     match instruction {
         A64::AddSubImmediate {
@@ -91,7 +91,7 @@ pub fn instruction_text(instruction: A64, into: &mut LineBuf)
 
 /// Writes `add x0, sp, #5, lsl #12` and its like.
 fn add_sub_immediate(into: &mut LineBuf, op: AddSubOp, rd: Reg, rn: Reg, imm12: Bits<12>, sh: bool)
-    ensures { into.new.bytes ≡ text.a64_text (seen (A64.AddSubImmediate op rd rn imm12 sh)) }
+    ensures { into.new.bytes ≡ text.a64_text (instruction_view (A64.AddSubImmediate op rd rn imm12 sh)) }
 {
     match op {
         AddSubOp::Add => immediate_to_sp(into, "add ", rd, rn, imm12, sh),
@@ -132,7 +132,7 @@ fn add_sub_shifted(
     rm: Reg,
     shift: AddSubShift,
 )
-    ensures { into.new.bytes ≡ text.a64_text (seen (A64.AddSubShifted op rd rn imm6 rm shift)) }
+    ensures { into.new.bytes ≡ text.a64_text (instruction_view (A64.AddSubShifted op rd rn imm6 rm shift)) }
 {
     match op {
         AddSubOp::Add => shifted_register(into, "add ", rd, rn, imm6, rm, shift as u32),
@@ -151,7 +151,7 @@ fn logical_shifted(
     rm: Reg,
     shift: Shift,
 )
-    ensures { into.new.bytes ≡ text.a64_text (seen (A64.LogicalShifted op rd rn imm6 rm shift)) }
+    ensures { into.new.bytes ≡ text.a64_text (instruction_view (A64.LogicalShifted op rd rn imm6 rm shift)) }
 {
     match op {
         LogicalOp::And => shifted_register(into, "and ", rd, rn, imm6, rm, shift as u32),
@@ -182,7 +182,7 @@ fn shifted_register(
 
 /// Writes `movz x8, #93, lsl #16` and its like.
 fn move_wide(into: &mut LineBuf, op: MoveWideOp, rd: Reg, imm16: Bits<16>, hw: Bits<2>)
-    ensures { into.new.bytes ≡ text.a64_text (seen (A64.MoveWide op rd imm16 hw)) }
+    ensures { into.new.bytes ≡ text.a64_text (instruction_view (A64.MoveWide op rd imm16 hw)) }
 {
     match op {
         MoveWideOp::Movz => wide_immediate(into, "movz ", rd, imm16, hw),
@@ -202,7 +202,7 @@ fn wide_immediate(into: &mut LineBuf, mnemonic: &str, rd: Reg, imm16: Bits<16>, 
 
 /// Writes `madd x0, x1, x2, x3` and its like.
 fn multiply_add(into: &mut LineBuf, op: MultiplyOp, rd: Reg, rn: Reg, ra: Reg, rm: Reg)
-    ensures { into.new.bytes ≡ text.a64_text (seen (A64.MultiplyAdd op rd rn ra rm)) }
+    ensures { into.new.bytes ≡ text.a64_text (instruction_view (A64.MultiplyAdd op rd rn ra rm)) }
 {
     match op {
         MultiplyOp::Madd => four_registers(into, "madd ", rd, rn, ra, rm),
@@ -222,7 +222,7 @@ fn four_registers(into: &mut LineBuf, mnemonic: &str, rd: Reg, rn: Reg, ra: Reg,
 
 /// Writes `lslv x0, x1, x2` and its like.
 fn shift_variable(into: &mut LineBuf, op: ShiftVariableOp, rd: Reg, rn: Reg, rm: Reg)
-    ensures { into.new.bytes ≡ text.a64_text (seen (A64.ShiftVariable op rd rn rm)) }
+    ensures { into.new.bytes ≡ text.a64_text (instruction_view (A64.ShiftVariable op rd rn rm)) }
 {
     match op {
         ShiftVariableOp::Lslv => three_registers(into, "lslv ", rd, rn, rm),
@@ -242,7 +242,7 @@ fn three_registers(into: &mut LineBuf, mnemonic: &str, rd: Reg, rn: Reg, rm: Reg
 
 /// Writes `ubfm x0, x1, #3, #7` and its like.
 fn bitfield(into: &mut LineBuf, op: BitfieldOp, rd: Reg, rn: Reg, imms: Bits<6>, immr: Bits<6>)
-    ensures { into.new.bytes ≡ text.a64_text (seen (A64.Bitfield op rd rn imms immr)) }
+    ensures { into.new.bytes ≡ text.a64_text (instruction_view (A64.Bitfield op rd rn imms immr)) }
 {
     match op {
         BitfieldOp::Sbfm => two_immediates(into, "sbfm ", rd, rn, imms, immr),
@@ -269,7 +269,7 @@ fn two_immediates(
 
 /// Writes `csel x0, x1, x2, eq` and its like.
 fn conditional_select(into: &mut LineBuf, op: SelectOp, rd: Reg, rn: Reg, cond: Cond, rm: Reg)
-    ensures { into.new.bytes ≡ text.a64_text (seen (A64.ConditionalSelect op rd rn cond rm)) }
+    ensures { into.new.bytes ≡ text.a64_text (instruction_view (A64.ConditionalSelect op rd rn cond rm)) }
 {
     match op {
         SelectOp::Csel => registers_and_cond(into, "csel ", rd, rn, cond, rm),
@@ -291,7 +291,7 @@ fn registers_and_cond(into: &mut LineBuf, mnemonic: &str, rd: Reg, rn: Reg, cond
 
 /// Writes `b #-8`.
 fn branch(into: &mut LineBuf, imm26: Bits<26>)
-    ensures { into.new.bytes ≡ text.a64_text (seen (A64.Branch imm26)) }
+    ensures { into.new.bytes ≡ text.a64_text (instruction_view (A64.Branch imm26)) }
 {
     begin(into, "b ");
     push_offset_26(into, imm26);
@@ -299,7 +299,7 @@ fn branch(into: &mut LineBuf, imm26: Bits<26>)
 
 /// Writes `b.eq #12`.
 fn branch_conditional(into: &mut LineBuf, cond: Cond, imm19: Bits<19>)
-    ensures { into.new.bytes ≡ text.a64_text (seen (A64.BranchConditional cond imm19)) }
+    ensures { into.new.bytes ≡ text.a64_text (instruction_view (A64.BranchConditional cond imm19)) }
 {
     begin(into, "b.");
     into.push_str(name_of_cond(cond));
@@ -309,7 +309,7 @@ fn branch_conditional(into: &mut LineBuf, cond: Cond, imm19: Bits<19>)
 
 /// Writes `cbz x1, #12` and its like.
 fn compare_branch(into: &mut LineBuf, op: CompareBranchOp, rt: Reg, imm19: Bits<19>)
-    ensures { into.new.bytes ≡ text.a64_text (seen (A64.CompareBranch op rt imm19)) }
+    ensures { into.new.bytes ≡ text.a64_text (instruction_view (A64.CompareBranch op rt imm19)) }
 {
     match op {
         CompareBranchOp::Cbz => register_and_offset(into, "cbz ", rt, imm19),
@@ -328,7 +328,7 @@ fn register_and_offset(into: &mut LineBuf, mnemonic: &str, rt: Reg, imm19: Bits<
 
 /// Writes `svc #0` and its like.
 fn exception(into: &mut LineBuf, op: ExceptionOp, imm16: Bits<16>)
-    ensures { into.new.bytes ≡ text.a64_text (seen (A64.Exception op imm16)) }
+    ensures { into.new.bytes ≡ text.a64_text (instruction_view (A64.Exception op imm16)) }
 {
     match op {
         ExceptionOp::Svc => immediate(into, "svc ", imm16),
@@ -346,7 +346,7 @@ fn immediate(into: &mut LineBuf, mnemonic: &str, imm16: Bits<16>)
 
 /// Writes `umov x0, v1.d[0]`.
 fn umov(into: &mut LineBuf, rd: Reg, vn: Reg)
-    ensures { into.new.bytes ≡ text.a64_text (seen (A64.Umov rd vn)) }
+    ensures { into.new.bytes ≡ text.a64_text (instruction_view (A64.Umov rd vn)) }
 {
     begin_x(into, "umov ", rd);
     into.push_str(", v");
@@ -362,7 +362,7 @@ fn load_store_byte_immediate(
     rn: Reg,
     imm12: Bits<12>,
 )
-    ensures { into.new.bytes ≡ text.a64_text (seen (A64.LoadStoreByteImmediate op rt rn imm12)) }
+    ensures { into.new.bytes ≡ text.a64_text (instruction_view (A64.LoadStoreByteImmediate op rt rn imm12)) }
 {
     match op {
         LoadStoreByteOp::Ldrb => w_at_offset(into, "ldrb ", rt, rn, imm12, 1),
@@ -373,7 +373,7 @@ fn load_store_byte_immediate(
 
 /// Writes `ldr x0, [x1, #8]` and its like.
 fn load_store_immediate(into: &mut LineBuf, op: LoadStoreOp, rt: Reg, rn: Reg, imm12: Bits<12>)
-    ensures { into.new.bytes ≡ text.a64_text (seen (A64.LoadStoreImmediate op rt rn imm12)) }
+    ensures { into.new.bytes ≡ text.a64_text (instruction_view (A64.LoadStoreImmediate op rt rn imm12)) }
 {
     match op {
         LoadStoreOp::Ldrh => w_at_offset(into, "ldrh ", rt, rn, imm12, 2),
@@ -389,7 +389,7 @@ fn load_store_immediate(into: &mut LineBuf, op: LoadStoreOp, rt: Reg, rn: Reg, i
 
 /// Writes `ldrb w0, [x1, x2]` and its like.
 fn load_store_byte_register(into: &mut LineBuf, op: LoadStoreByteOp, rt: Reg, rn: Reg, rm: Reg)
-    ensures { into.new.bytes ≡ text.a64_text (seen (A64.LoadStoreByteRegister op rt rn rm)) }
+    ensures { into.new.bytes ≡ text.a64_text (instruction_view (A64.LoadStoreByteRegister op rt rn rm)) }
 {
     match op {
         LoadStoreByteOp::Ldrb => w_byte_at_register(into, "ldrb ", rt, rn, rm),
@@ -400,7 +400,7 @@ fn load_store_byte_register(into: &mut LineBuf, op: LoadStoreByteOp, rt: Reg, rn
 
 /// Writes `ldr x0, [x1, x2, lsl #3]` and its like.
 fn load_store_register(into: &mut LineBuf, op: LoadStoreOp, rt: Reg, rn: Reg, scaled: bool, rm: Reg)
-    ensures { into.new.bytes ≡ text.a64_text (seen (A64.LoadStoreRegister op rt rn scaled rm)) }
+    ensures { into.new.bytes ≡ text.a64_text (instruction_view (A64.LoadStoreRegister op rt rn scaled rm)) }
 {
     match op {
         LoadStoreOp::Ldrh => w_at_register(into, "ldrh ", rt, rn, scaled, rm, 1),

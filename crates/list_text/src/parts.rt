@@ -1,9 +1,9 @@
 //! The parts of an instruction's text, each appended to a buffer.
-ghost use Rattle.std.specs.Prelude.{◌≡◌, ◌≤◌, ◌<◌, ◌+◌, ◌++◌, length, decimal};
+ghost use Rattle.std.specs.Prelude.{◌≡◌, ◌≤◌, ◌<◌, ◌+◌, ◌*◌, ◌^◌, ◌++◌, length, decimal};
 ghost use Rattle.arrayvec.specs.ArrayString.{array_string_len};
 ghost use Rattle.a64_code.specs.View.{cond_number};
 ghost use Rattle.sve_code.specs.Numbers.{size_number};
-ghost use Rattle.list_text.specs.Parts.{x_register, w_register, x_or_sp, w_or_sp, comma, constant, signed_constant, lsl_by, shift_name, shifted_by, at_offset, at_register, cond_name, size_letter, dotted, z_register, p_register, access_letter};
+ghost use Rattle.list_text.specs.Parts.{general_register, signed_multiple, x_register, w_register, x_or_sp, w_or_sp, comma, constant, signed_constant, lsl_by, shift_name, shifted_by, at_offset, at_register, cond_name, size_letter, dotted, z_register, p_register, access_letter};
 
 use crate::LineBuf;
 use a64_code::Cond;
@@ -60,17 +60,28 @@ pub fn begin_w(into: &mut LineBuf, mnemonic: &str, register: Bits<5>)
     push_w(into, register);
 }
 
+// Appends a general-purpose register: the letter of its size and its number, or what number 31 is called.
+fn push_register(into: &mut LineBuf, letter: &str, last: &str, register: Bits<5>)
+    requires room { array_string_len into.old ≤ 50 }
+    requires one { length letter.now ≤ 1 }
+    requires three { length last.now ≤ 3 }
+    ensures bytes { into.new.bytes ≡ into.old.bytes ++ general_register letter.now last.now register.number }
+    ensures len { array_string_len into.new ≤ array_string_len into.old + 3 }
+{
+    if register.number == 31 {
+        into.push_str(last);
+    } else {
+        into.push_str(letter);
+        push_decimal(into, register.number);
+    }
+}
+
 pub fn push_x(into: &mut LineBuf, register: Bits<5>)
     requires { array_string_len into.old ≤ 50 }
     ensures bytes { into.new.bytes ≡ into.old.bytes ++ x_register register.number }
     ensures len { array_string_len into.new ≤ array_string_len into.old + 3 }
 {
-    if register.number == 31 {
-        into.push_str("xzr");
-    } else {
-        into.push_str("x");
-        push_decimal(into, register.number);
-    }
+    push_register(into, "x", "xzr", register);
 }
 
 pub fn push_w(into: &mut LineBuf, register: Bits<5>)
@@ -78,12 +89,7 @@ pub fn push_w(into: &mut LineBuf, register: Bits<5>)
     ensures bytes { into.new.bytes ≡ into.old.bytes ++ w_register register.number }
     ensures len { array_string_len into.new ≤ array_string_len into.old + 3 }
 {
-    if register.number == 31 {
-        into.push_str("wzr");
-    } else {
-        into.push_str("w");
-        push_decimal(into, register.number);
-    }
+    push_register(into, "w", "wzr", register);
 }
 
 pub fn push_x_or_sp(into: &mut LineBuf, register: Bits<5>)
@@ -91,12 +97,7 @@ pub fn push_x_or_sp(into: &mut LineBuf, register: Bits<5>)
     ensures bytes { into.new.bytes ≡ into.old.bytes ++ x_or_sp register.number }
     ensures len { array_string_len into.new ≤ array_string_len into.old + 3 }
 {
-    if register.number == 31 {
-        into.push_str("sp");
-    } else {
-        into.push_str("x");
-        push_decimal(into, register.number);
-    }
+    push_register(into, "x", "sp", register);
 }
 
 pub fn push_w_or_sp(into: &mut LineBuf, register: Bits<5>)
@@ -104,12 +105,7 @@ pub fn push_w_or_sp(into: &mut LineBuf, register: Bits<5>)
     ensures bytes { into.new.bytes ≡ into.old.bytes ++ w_or_sp register.number }
     ensures len { array_string_len into.new ≤ array_string_len into.old + 3 }
 {
-    if register.number == 31 {
-        into.push_str("wsp");
-    } else {
-        into.push_str("w");
-        push_decimal(into, register.number);
-    }
+    push_register(into, "w", "wsp", register);
 }
 
 /// Appends a comma and an X register.
@@ -151,19 +147,29 @@ pub fn comma_constant(into: &mut LineBuf, number: u32)
     push_constant(into, number);
 }
 
+// Appends a multiple of `unit` in two's complement, where the numbers from `half` on are the negative ones.
+fn push_signed(into: &mut LineBuf, unit: u32, half: u32, number: u32)
+    requires room { array_string_len into.old ≤ 52 }
+    requires range { number < 2 * half }
+    requires fits { unit * (2 * half) < 2 ^ 32 }
+    requires some { 0 < unit }
+    ensures { into.new.bytes ≡ into.old.bytes ++ signed_multiple unit half number }
+{
+    if number < half {
+        into.push_str("#");
+        push_decimal(into, unit * number);
+    } else {
+        into.push_str("#-");
+        push_decimal(into, unit * (2 * half - number));
+    }
+}
+
 /// Appends the offset of a branch in bytes, from its field of 19 bits.
 pub fn push_offset_19(into: &mut LineBuf, field: Bits<19>)
     requires { array_string_len into.old ≤ 52 }
     ensures bytes { into.new.bytes ≡ into.old.bytes ++ signed_constant 4 19 field.number }
 {
-    let number = field.number;
-    if number < 0x4_0000 {
-        into.push_str("#");
-        push_decimal(into, 4 * number);
-    } else {
-        into.push_str("#-");
-        push_decimal(into, 4 * (0x8_0000 - number));
-    }
+    push_signed(into, 4, 0x4_0000, field.number);
 }
 
 /// Appends the offset of a branch in bytes, from its field of 26 bits.
@@ -171,14 +177,7 @@ pub fn push_offset_26(into: &mut LineBuf, field: Bits<26>)
     requires { array_string_len into.old ≤ 52 }
     ensures bytes { into.new.bytes ≡ into.old.bytes ++ signed_constant 4 26 field.number }
 {
-    let number = field.number;
-    if number < 0x200_0000 {
-        into.push_str("#");
-        push_decimal(into, 4 * number);
-    } else {
-        into.push_str("#-");
-        push_decimal(into, 4 * (0x400_0000 - number));
-    }
+    push_signed(into, 4, 0x200_0000, field.number);
 }
 
 /// Appends a signed number of 5 bits.
@@ -186,14 +185,7 @@ pub fn push_signed_5(into: &mut LineBuf, field: Bits<5>)
     requires { array_string_len into.old ≤ 52 }
     ensures bytes { into.new.bytes ≡ into.old.bytes ++ signed_constant 1 5 field.number }
 {
-    let number = field.number;
-    if number < 16 {
-        into.push_str("#");
-        push_decimal(into, number);
-    } else {
-        into.push_str("#-");
-        push_decimal(into, 32 - number);
-    }
+    push_signed(into, 1, 16, field.number);
 }
 
 /// Appends a shift to the left, where it is not by 0.

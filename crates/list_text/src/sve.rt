@@ -2,7 +2,7 @@
 ghost use Rattle.std.specs.Prelude.{◌≡◌, ◌≤◌, ◌==◌, if◌then◌else◌, ◌+◌, [], ◌∷◌, ◌++◌, length, codes};
 ghost use Rattle.arrayvec.specs.ArrayString.{array_string_len};
 ghost use Rattle.sve_code.specs.declared.Sve.{Sve};
-ghost use Rattle.sve_code.specs.View.{seen};
+ghost use Rattle.sve_code.specs.View.{instruction_view};
 ghost use Rattle.sve_code.specs.Numbers.{size_number, dtype_number, left_amount, right_amount};
 ghost use Rattle.list_text.specs.Parts.{x_register, w_register, x_or_sp, w_or_sp};
 ghost use Rattle.list_text.specs.SveText as text;
@@ -23,7 +23,7 @@ use word_rows::Bits;
 
 /// Replaces what `into` holds by the text of an instruction.
 pub fn instruction_text(instruction: Sve, into: &mut LineBuf)
-    ensures { into.new.bytes ≡ text.sve_text (seen instruction) }
+    ensures { into.new.bytes ≡ text.sve_text (instruction_view instruction) }
 {
     match instruction {
         Sve::Ptrue { pd, size } => ptrue(into, pd, size),
@@ -128,7 +128,7 @@ pub fn instruction_text(instruction: Sve, into: &mut LineBuf)
 
 /// Writes `ptrue p1.b` and its like.
 fn ptrue(into: &mut LineBuf, pd: PredicateReg, size: Size)
-    ensures { into.new.bytes ≡ text.sve_text (seen (Sve.Ptrue pd size)) }
+    ensures { into.new.bytes ≡ text.sve_text (instruction_view (Sve.Ptrue pd size)) }
 {
     begin_p(into, "ptrue ", pd.number);
     into.push_str(dotted_of(size));
@@ -136,7 +136,7 @@ fn ptrue(into: &mut LineBuf, pd: PredicateReg, size: Size)
 
 /// Writes `pfalse p0.b`.
 fn pfalse(into: &mut LineBuf, pd: PredicateReg)
-    ensures { into.new.bytes ≡ text.sve_text (seen (Sve.Pfalse pd)) }
+    ensures { into.new.bytes ≡ text.sve_text (instruction_view (Sve.Pfalse pd)) }
 {
     begin_p(into, "pfalse ", pd.number);
     into.push_str(".b");
@@ -144,7 +144,7 @@ fn pfalse(into: &mut LineBuf, pd: PredicateReg)
 
 /// Writes `whilelo p0.h, x9, x1` and its like.
 fn whilelo(into: &mut LineBuf, pd: PredicateReg, rn: Reg, rm: Reg, size: Size)
-    ensures { into.new.bytes ≡ text.sve_text (seen (Sve.Whilelo pd rn rm size)) }
+    ensures { into.new.bytes ≡ text.sve_text (instruction_view (Sve.Whilelo pd rn rm size)) }
 {
     begin_p(into, "whilelo ", pd.number);
     into.push_str(dotted_of(size));
@@ -154,7 +154,7 @@ fn whilelo(into: &mut LineBuf, pd: PredicateReg, rn: Reg, rm: Reg, size: Size)
 
 /// Writes `ptest p1, p2.b`.
 fn ptest(into: &mut LineBuf, pn: PredicateReg, pg: PredicateReg)
-    ensures { into.new.bytes ≡ text.sve_text (seen (Sve.Ptest pn pg)) }
+    ensures { into.new.bytes ≡ text.sve_text (instruction_view (Sve.Ptest pn pg)) }
 {
     begin_p(into, "ptest ", pg.number);
     comma_p(into, pn.number);
@@ -170,7 +170,7 @@ fn predicate_logical(
     pg: PredicateReg,
     pm: PredicateReg,
 )
-    ensures { into.new.bytes ≡ text.sve_text (seen (Sve.PredicateLogical op pd pn pg pm)) }
+    ensures { into.new.bytes ≡ text.sve_text (instruction_view (Sve.PredicateLogical op pd pn pg pm)) }
 {
     match op {
         PredicateLogicalOp::And => four_predicates(into, "and ", pd, pn, pg, pm),
@@ -205,7 +205,7 @@ fn four_predicates(
 
 /// Writes `brkb p2.b, p0/z, p1.b` and its like.
 fn break_at(into: &mut LineBuf, op: BreakOp, pd: PredicateReg, pn: PredicateReg, pg: PredicateReg)
-    ensures { into.new.bytes ≡ text.sve_text (seen (Sve.Break op pd pn pg)) }
+    ensures { into.new.bytes ≡ text.sve_text (instruction_view (Sve.Break op pd pn pg)) }
 {
     match op {
         BreakOp::Brka => three_predicates(into, "brka ", pd, pn, pg),
@@ -233,7 +233,7 @@ fn three_predicates(
 
 /// Writes `rdffr p0.b`.
 fn rdffr(into: &mut LineBuf, pd: PredicateReg)
-    ensures { into.new.bytes ≡ text.sve_text (seen (Sve.Rdffr pd)) }
+    ensures { into.new.bytes ≡ text.sve_text (instruction_view (Sve.Rdffr pd)) }
 {
     begin_p(into, "rdffr ", pd.number);
     into.push_str(".b");
@@ -241,7 +241,7 @@ fn rdffr(into: &mut LineBuf, pd: PredicateReg)
 
 /// Writes `rdffr p0.b, p1/z`.
 fn rdffr_predicated(into: &mut LineBuf, pd: PredicateReg, pg: PredicateReg)
-    ensures { into.new.bytes ≡ text.sve_text (seen (Sve.RdffrPredicated pd pg)) }
+    ensures { into.new.bytes ≡ text.sve_text (instruction_view (Sve.RdffrPredicated pd pg)) }
 {
     begin_p(into, "rdffr ", pd.number);
     into.push_str(".b, ");
@@ -251,7 +251,7 @@ fn rdffr_predicated(into: &mut LineBuf, pd: PredicateReg, pg: PredicateReg)
 
 /// Writes `wrffr p0.b`.
 fn wrffr(into: &mut LineBuf, pn: PredicateReg)
-    ensures { into.new.bytes ≡ text.sve_text (seen (Sve.Wrffr pn)) }
+    ensures { into.new.bytes ≡ text.sve_text (instruction_view (Sve.Wrffr pn)) }
 {
     begin_p(into, "wrffr ", pn.number);
     into.push_str(".b");
@@ -259,7 +259,7 @@ fn wrffr(into: &mut LineBuf, pn: PredicateReg)
 
 /// Writes `cntb x0` and its like.
 fn element_count(into: &mut LineBuf, op: ElementCountOp, rd: Reg)
-    ensures { into.new.bytes ≡ text.sve_text (seen (Sve.ElementCount op rd)) }
+    ensures { into.new.bytes ≡ text.sve_text (instruction_view (Sve.ElementCount op rd)) }
 {
     match op {
         ElementCountOp::Cntb => begin_x(into, "cntb ", rd),
@@ -271,7 +271,7 @@ fn element_count(into: &mut LineBuf, op: ElementCountOp, rd: Reg)
 
 /// Writes `incp x9, p0.s` and its like.
 fn incp(into: &mut LineBuf, rd: Reg, pm: PredicateReg, size: Size)
-    ensures { into.new.bytes ≡ text.sve_text (seen (Sve.Incp rd pm size)) }
+    ensures { into.new.bytes ≡ text.sve_text (instruction_view (Sve.Incp rd pm size)) }
 {
     begin_x(into, "incp ", rd);
     comma_p(into, pm.number);
@@ -280,7 +280,7 @@ fn incp(into: &mut LineBuf, rd: Reg, pm: PredicateReg, size: Size)
 
 /// Writes `cntp x0, p1, p2.d` and its like.
 fn cntp(into: &mut LineBuf, rd: Reg, pn: PredicateReg, pg: PredicateReg, size: Size)
-    ensures { into.new.bytes ≡ text.sve_text (seen (Sve.Cntp rd pn pg size)) }
+    ensures { into.new.bytes ≡ text.sve_text (instruction_view (Sve.Cntp rd pn pg size)) }
 {
     begin_x(into, "cntp ", rd);
     comma_p(into, pg.number);
@@ -290,7 +290,7 @@ fn cntp(into: &mut LineBuf, rd: Reg, pn: PredicateReg, pg: PredicateReg, size: S
 
 /// Writes `dup z0.b, w1` and its like.
 fn dup_scalar(into: &mut LineBuf, zd: VectorReg, rn: Reg, size: Size)
-    ensures { into.new.bytes ≡ text.sve_text (seen (Sve.DupScalar zd rn size)) }
+    ensures { into.new.bytes ≡ text.sve_text (instruction_view (Sve.DupScalar zd rn size)) }
 {
     begin_z(into, "dup ", zd, size);
     into.push_str(", ");
@@ -299,7 +299,7 @@ fn dup_scalar(into: &mut LineBuf, zd: VectorReg, rn: Reg, size: Size)
 
 /// Writes `index z0.s, w1, #1` and its like.
 fn index(into: &mut LineBuf, zd: VectorReg, rn: Reg, imm5: Bits<5>, size: Size)
-    ensures { into.new.bytes ≡ text.sve_text (seen (Sve.IndexScalarImmediate zd rn imm5 size)) }
+    ensures { into.new.bytes ≡ text.sve_text (instruction_view (Sve.IndexScalarImmediate zd rn imm5 size)) }
 {
     begin_z(into, "index ", zd, size);
     into.push_str(", ");
@@ -342,7 +342,7 @@ fn sel(
     zm: VectorReg,
     size: Size,
 )
-    ensures { into.new.bytes ≡ text.sve_text (seen (Sve.Sel zd zn pg zm size)) }
+    ensures { into.new.bytes ≡ text.sve_text (instruction_view (Sve.Sel zd zn pg zm size)) }
 {
     begin_z(into, "sel ", zd, size);
     comma_p(into, pg.number);
@@ -359,7 +359,7 @@ fn add_sub(
     zm: VectorReg,
     size: Size,
 )
-    ensures { into.new.bytes ≡ text.sve_text (seen (Sve.AddSub op zd zn zm size)) }
+    ensures { into.new.bytes ≡ text.sve_text (instruction_view (Sve.AddSub op zd zn zm size)) }
 {
     match op {
         AddSubOp::Add => three_vectors(into, "add ", zd, zn, zm, size),
@@ -385,7 +385,7 @@ fn three_vectors(
 
 /// Writes `and z0.d, z1.d, z2.d` and its like.
 fn bitwise(into: &mut LineBuf, op: BitwiseOp, zd: VectorReg, zn: VectorReg, zm: VectorReg)
-    ensures { into.new.bytes ≡ text.sve_text (seen (Sve.Bitwise op zd zn zm)) }
+    ensures { into.new.bytes ≡ text.sve_text (instruction_view (Sve.Bitwise op zd zn zm)) }
 {
     match op {
         BitwiseOp::And => three_registers(into, "and ", zd, zn, zm),
@@ -412,7 +412,7 @@ fn shift_immediate(
     zn: VectorReg,
     amount: ShiftAmount,
 )
-    ensures { into.new.bytes ≡ text.sve_text (seen (Sve.ShiftImmediate op zd zn amount)) }
+    ensures { into.new.bytes ≡ text.sve_text (instruction_view (Sve.ShiftImmediate op zd zn amount)) }
 {
     match op {
         ShiftImmediateOp::Lsl => shift_left(into, zd, zn, amount),
@@ -455,7 +455,7 @@ fn binary_predicated(
     pg: GoverningReg,
     size: Size,
 )
-    ensures { into.new.bytes ≡ text.sve_text (seen (Sve.BinaryPredicated op zdn zm pg size)) }
+    ensures { into.new.bytes ≡ text.sve_text (instruction_view (Sve.BinaryPredicated op zdn zm pg size)) }
 {
     match op {
         BinaryPredicatedOp::Add => merging_binary(into, "add ", zdn, zm, pg, size),
@@ -499,7 +499,7 @@ fn unary_predicated(
     pg: GoverningReg,
     size: Size,
 )
-    ensures { into.new.bytes ≡ text.sve_text (seen (Sve.UnaryPredicated op zd zn pg size)) }
+    ensures { into.new.bytes ≡ text.sve_text (instruction_view (Sve.UnaryPredicated op zd zn pg size)) }
 {
     match op {
         UnaryPredicatedOp::Abs => merging_unary(into, "abs ", zd, zn, pg, size),
@@ -517,7 +517,7 @@ fn extend_byte(
     pg: GoverningReg,
     size: SizeFromH,
 )
-    ensures { into.new.bytes ≡ text.sve_text (seen (Sve.ExtendByte op zd zn pg size)) }
+    ensures { into.new.bytes ≡ text.sve_text (instruction_view (Sve.ExtendByte op zd zn pg size)) }
 {
     match op {
         ExtendOp::Signed => merging_unary(into, "sxtb ", zd, zn, pg, size.size()),
@@ -534,7 +534,7 @@ fn extend_halfword(
     pg: GoverningReg,
     size: SizeFromS,
 )
-    ensures { into.new.bytes ≡ text.sve_text (seen (Sve.ExtendHalfword op zd zn pg size)) }
+    ensures { into.new.bytes ≡ text.sve_text (instruction_view (Sve.ExtendHalfword op zd zn pg size)) }
 {
     match op {
         ExtendOp::Signed => merging_unary(into, "sxth ", zd, zn, pg, size.size()),
@@ -562,7 +562,7 @@ fn merging_unary(
 
 /// Writes `sxtw z0.d, p0/m, z1.d` and its like.
 fn extend_word(into: &mut LineBuf, op: ExtendOp, zd: VectorReg, zn: VectorReg, pg: GoverningReg)
-    ensures { into.new.bytes ≡ text.sve_text (seen (Sve.ExtendWord op zd zn pg)) }
+    ensures { into.new.bytes ≡ text.sve_text (instruction_view (Sve.ExtendWord op zd zn pg)) }
 {
     match op {
         ExtendOp::Signed => merging_unary(into, "sxtw ", zd, zn, pg, Size::D),
@@ -579,7 +579,7 @@ fn reduction(
     pg: GoverningReg,
     size: Size,
 )
-    ensures { into.new.bytes ≡ text.sve_text (seen (Sve.Reduction op zd zn pg size)) }
+    ensures { into.new.bytes ≡ text.sve_text (instruction_view (Sve.Reduction op zd zn pg size)) }
 {
     match op {
         ReductionOp::Uaddv => reduction_to(into, "uaddv ", "d", zd, zn, pg, size),
@@ -624,7 +624,7 @@ fn compare_vectors(
     zm: VectorReg,
     size: Size,
 )
-    ensures { into.new.bytes ≡ text.sve_text (seen (Sve.CompareVectors op pd zn pg zm size)) }
+    ensures { into.new.bytes ≡ text.sve_text (instruction_view (Sve.CompareVectors op pd zn pg zm size)) }
 {
     match op {
         VectorCompareOp::Hs => compare_to(into, "cmphs ", pd, zn, pg, zm, size),
@@ -666,7 +666,7 @@ fn contiguous_load(
     offset: OffsetReg,
     dtype: Dtype,
 )
-    ensures { into.new.bytes ≡ text.sve_text (seen (Sve.ContiguousLoad zt rn pg offset dtype)) }
+    ensures { into.new.bytes ≡ text.sve_text (instruction_view (Sve.ContiguousLoad zt rn pg offset dtype)) }
 {
     load(into, "ld1", zt, rn, pg, Reg::new(offset.number), dtype);
 }
@@ -680,7 +680,7 @@ fn first_fault_load(
     rm: Reg,
     dtype: Dtype,
 )
-    ensures { into.new.bytes ≡ text.sve_text (seen (Sve.FirstFaultLoad zt rn pg rm dtype)) }
+    ensures { into.new.bytes ≡ text.sve_text (instruction_view (Sve.FirstFaultLoad zt rn pg rm dtype)) }
 {
     load(into, "ldff1", zt, rn, pg, rm, dtype);
 }
@@ -706,7 +706,7 @@ fn load(
 
 /// Writes `ldnf1b {z0.b}, p0/z, [x0]` and its like.
 fn non_fault_load(into: &mut LineBuf, zt: VectorReg, rn: Reg, pg: GoverningReg, dtype: Dtype)
-    ensures { into.new.bytes ≡ text.sve_text (seen (Sve.NonFaultLoad zt rn pg dtype)) }
+    ensures { into.new.bytes ≡ text.sve_text (instruction_view (Sve.NonFaultLoad zt rn pg dtype)) }
 {
     begin(into, "ldnf1");
     push_access(into, dtype);
@@ -746,7 +746,7 @@ fn contiguous_store(
     offset: OffsetReg,
     sizes: StoreSizes,
 )
-    ensures { into.new.bytes ≡ text.sve_text (seen (Sve.ContiguousStore zt rn pg offset sizes)) }
+    ensures { into.new.bytes ≡ text.sve_text (instruction_view (Sve.ContiguousStore zt rn pg offset sizes)) }
 {
     begin(into, "st1");
     into.push_str(access_letter_of(sizes.msz));

@@ -7,20 +7,22 @@ use Rattle.guest_types.specs.Memory.{IsMemory}
 use Rattle.kernel_tree.specs.declared.ops.Ty.TheVariants.{U64}
 use Rattle.kernel_tree.specs.Plain.{Parameter, Accumulator, Program}
 use Rattle.kernel_tree.specs.Typing.{Local, value_type, check_fault, var_scope}
+use Rattle.kernel_tree.specs.Scopes.{locals_of, accs_of}
+use Rattle.kernel_tree.proofs.Scopes.{var_visible}
 use Rattle.kernel_meaning.specs.Operators.{word}
 use Rattle.kernel_meaning.specs.TypeValues.{IsOf}
 use Rattle.kernel_meaning.proofs.TypeRanges.{wrap-is_of}
 use Rattle.kernel_meaning.specs.Eval.{Names, value_at}
+use Rattle.kernel_meaning.specs.Ranges.{TypeRange, AreRanged}
 use Rattle.machine_model.specs.Machine.{State, x_at, z_at}
 use Rattle.reg_assign.specs.declared.interval.RegClass.TheVariants.{X, Z}
 use Rattle.reg_assign.specs.Registers.{Assignment}
 use Rattle.loop_form.specs.Needs.{throughout}
 use Rattle.loop_form.specs.Registers.{FitsKernel}
-use Rattle.chunk_order.proofs.Sites.{locals_of, accs_of, var_visible}
 use Rattle.vector_order.specs.Order.{is_var, Steady}
 use Rattle.scalar_emit.specs.Layout.{Homes}
 use Rattle.scalar_emit.specs.Kernel.{kernel_homes, register_in}
-use Rattle.scalar_emit.specs.Runs.{TypeRange, AreRanged, AreHeld}
+use Rattle.scalar_emit.specs.Runs.{AreHeld}
 use Rattle.reductions.specs.AccumulatorLanes.{LanesHold}
 use Rattle.chunk_emit.specs.KernelLayout.{register_of, sum_place, update_of}
 use Rattle.chunk_emit.specs.Head.{Ground, IsGround, Between, width, most_lanes}

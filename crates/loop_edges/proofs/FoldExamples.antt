@@ -1,8 +1,5 @@
 -- A worked kernel: the code after its loop.
-use Rattle.std.proofs.Common.{◌≡◌, ℕ, pos, List, [], ◌∷◌, Some, None, refl}
-use Rattle.kernel_tree.specs.declared.ops.Ty.TheVariants as ty
-use Rattle.kernel_tree.specs.declared.ops.UpdateOp.TheVariants as update
-use Rattle.kernel_tree.specs.declared.ast.Shape.TheVariants as shape
+use Rattle.std.proofs.Common.{◌≡◌, pos, [], ◌∷◌, Some, None, refl}
 use Rattle.kernel_tree.specs.Plain.{Literal, Variable, Element, Update, Done, Then, Program}
 use Rattle.a64_code.specs.Table.{umov, add, subs, csel, sbfm, ubfm}
 use Rattle.sve_code.specs.Table.{sminv, uaddv}
@@ -12,32 +9,18 @@ use Rattle.label_fix.specs.DraftRun.{Put, ins}
 use Rattle.loop_form.specs.Entries.{item_type}
 use Rattle.loop_form.specs.Lanes.{widest}
 use Rattle.loop_form.specs.Needs.{constants}
+use Rattle.loop_form.proofs.Kernels.{a, b, f, i, n, s, t}
 use Rattle.scalar_emit.specs.Kernel.{register_in}
 use Rattle.lane_emit.specs.Stretch.{word}
 use Rattle.loop_edges.specs.EdgeCode.{fold_code}
-
-abbrev a : List ℕ
-a = 97 ∷ []
-
-abbrev b : List ℕ
-b = 98 ∷ []
-
-abbrev i : List ℕ
-i = 105 ∷ []
-
-abbrev n : List ℕ
-n = 110 ∷ []
-
-abbrev s : List ℕ
-s = 115 ∷ []
-
-abbrev t : List ℕ
-t = 116 ∷ []
+use Rattle.kernel_tree.specs.declared.ops.Ty.TheVariants as ty
+use Rattle.kernel_tree.specs.declared.ops.UpdateOp.TheVariants as update
+use Rattle.kernel_tree.specs.declared.ast.Shape.TheVariants as shape
 
 -- kernel f(a: [i16], b: [u32], n: u64) { var s: i16 = 0; var t: u32 = 0; for i in 0..n { s min= a[i]; t += b[i]; } }
 abbrev two_sums : Program
 two_sums = record {
-  name = 102 ∷ [];
+  name = f;
   params = record { name = a; shape = shape.Array ty.I16 } ∷ record { name = b; shape = shape.Array ty.U32 } ∷ record { name = n; shape = shape.Scalar ty.U64 } ∷ [];
   vars = record { name = s; type = ty.I16; init = (Literal (pos 0)) } ∷ record { name = t; type = ty.U32; init = (Literal (pos 0)) } ∷ [];
   turns = Some (record { index = i; bound = n; body = (Then (Update s update.Min (Element a (Variable i))) (Then (Update t update.Add (Element b (Variable i))) Done)) });

@@ -5,17 +5,18 @@ use Rattle.std.specs.Prelude.{bytes_eq, option_map, unwrap_or, ◌||◌}
 use Rattle.std.specs.List.{find, list_any}
 use Rattle.kernel_tree.specs.Plain.{Parameter, Accumulator, Program}
 use Rattle.kernel_tree.specs.Typing.{Local, check_fault, var_scope}
+use Rattle.kernel_tree.proofs.Names.{bytes_same, bytes_swap, bytes_told}
 use Rattle.kernel_meaning.specs.Operators.{word}
 use Rattle.kernel_meaning.specs.Eval.{Named, Names, is_named, value_of, value_at}
+use Rattle.kernel_meaning.specs.Ranges.{AreRanged}
 use Rattle.machine_model.specs.Machine.{State, x_at}
 use Rattle.reg_assign.specs.declared.interval.RegClass.TheVariants.{X}
 use Rattle.reg_assign.specs.Registers.{Assignment}
 use Rattle.loop_form.specs.Registers.{FitsKernel}
-use Rattle.chunk_order.proofs.Sites.{bytes_same, bytes_swap, bytes_told}
 use Rattle.vector_order.specs.Order.{is_var, Steady}
 use Rattle.scalar_emit.specs.Layout.{Home, Homes, is_home, register_of, register_at}
 use Rattle.scalar_emit.specs.Kernel.{counted_x, param_homes, var_homes, kernel_homes, register_in}
-use Rattle.scalar_emit.specs.Runs.{AreRanged, AreHeld}
+use Rattle.scalar_emit.specs.Runs.{AreHeld}
 use Rattle.scalar_emit.proofs.AssignedOf.{counted-low, counted-high, counted-apart}
 use Rattle.scalar_emit.proofs.ChosenOf.{AccumulatorsChosen, accumulators_of, chosen_all}
 use Rattle.loop_edges.proofs.FoldNames.{Unlike, Distinct, local_name, visible_distinct}

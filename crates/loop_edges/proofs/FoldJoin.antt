@@ -16,14 +16,14 @@ use Rattle.machine_model.proofs.ScalarStates.{scalar_keeps}
 use Rattle.a64_code.specs.Table.{umov}
 use Rattle.label_fix.specs.DraftRun.{Entry, Laid, ins, word_of}
 use Rattle.label_fix.specs.Stretches.{Goes}
-use Rattle.label_fix.proofs.Steps.{put_goes, chain}
+use Rattle.label_fix.proofs.StretchSteps.{put_goes, chain}
 use Rattle.lane_emit.specs.Right.{IsOf}
 use Rattle.lane_emit.specs.Stretch.{Ready}
 use Rattle.lane_emit.proofs.Ranges.{wrap-of}
 use Rattle.reductions.specs.Joins.{joined}
 use Rattle.reductions.specs.Folds.{together}
 use Rattle.reductions.specs.AccumulatorLanes.{LanesHold, reduce_code}
-use Rattle.reductions.proofs.Laws.{own, wrap_by_held}
+use Rattle.reductions.proofs.JoinLaws.{own, wrap_by_held}
 use Rattle.reductions.proofs.Orders.{together_of}
 use Rattle.reductions.proofs.Reduce.{reduction_together}
 use Rattle.scalar_emit.specs.Layout.{Layout}
@@ -31,10 +31,10 @@ use Rattle.scalar_emit.specs.Words as scalar
 use Rattle.scalar_emit.specs.Words.{word_code, settle_word}
 use Rattle.scalar_emit.specs.Safe.{Assigned}
 use Rattle.scalar_emit.specs.Runs.{Frame}
-use Rattle.scalar_emit.proofs.States.{wrote, wrote_same, wrote_other}
-use Rattle.scalar_emit.proofs.Pieces.{extended_sets}
+use Rattle.scalar_emit.proofs.LayoutStates.{wrote, wrote_same, wrote_other}
+use Rattle.scalar_emit.proofs.WordsRuns.{extended_sets}
 use Rattle.scalar_emit.proofs.Operators.{binary_sets}
-use Rattle.chunk_emit.proofs.Puts.{do_goes}
+use Rattle.chunk_emit.proofs.DraftVectors.{do_goes}
 use Rattle.loop_form.specs.Lanes.{width_of}
 use Rattle.loop_edges.specs.EdgeCode.{join_code}
 

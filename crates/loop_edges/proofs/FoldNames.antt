@@ -4,15 +4,17 @@ use Rattle.std.specs.Prelude.{bytes_eq, filter, ◌||◌}
 use Rattle.std.specs.List.{list_any}
 use Rattle.kernel_tree.specs.declared.ops.Ty.{Ty}
 use Rattle.kernel_tree.specs.declared.fault.Binding.{Binding}
-use Rattle.kernel_tree.specs.declared.fault.Binding.TheVariants as binding
 use Rattle.kernel_tree.specs.Plain.{Parameter, Accumulator, Program}
 use Rattle.kernel_tree.specs.Items.{term_size, loop_index}
 use Rattle.kernel_tree.specs.Typing.{Scope, Local, local, Value, declared, is_taken, binding_of_shape, empty, after_params, after_vars, faults, twice, params_faults, vars_faults, param_scope, var_scope, check_fault}
 use Rattle.loop_form.specs.Lanes.{var_type}
-use Rattle.chunk_order.proofs.Blocks.{nil-left, nil-right}
-use Rattle.chunk_order.proofs.Sites.{locals_of, accs_of, var_visible, bytes_same, bytes_swap, Untaken, untaken_before, untaken_by_twice}
+use Rattle.kernel_tree.proofs.Faultless.{nil-left, nil-right, params_faultless, vars_faultless}
+use Rattle.kernel_tree.specs.Scopes.{locals_of, accs_of}
+use Rattle.kernel_tree.proofs.Scopes.{var_visible}
+use Rattle.kernel_tree.proofs.Names.{bytes_same, bytes_swap, Untaken, untaken_before}
+use Rattle.kernel_tree.proofs.NoFault.{not_added}
 use Rattle.vector_order.specs.Order.{is_var}
-use Rattle.scalar_emit.proofs.KindsOf.{kernel-none}
+use Rattle.kernel_tree.specs.declared.fault.Binding.TheVariants as binding
 
 -- ---- names that differ
 
@@ -68,7 +70,7 @@ clear_params : (ps : List Parameter) (s : Scope) (from : ℕ) → params_faults 
 clear_params [] s from e c = c
 clear_params (p ∷ ps) s from e c =
     clear_params ps (declared s p.name (binding_of_shape p.shape)) (from + 1) (nil-right (twice from s p.name) _ e)
-    (clear_more s p.name (binding_of_shape p.shape) c (untaken_by_twice (is_taken s p.name) _ (nil-left (twice from s p.name) _ e)))
+    (clear_more s p.name (binding_of_shape p.shape) c (not_added (is_taken s p.name) _ (nil-left (twice from s p.name) _ e)))
 
 clear_vars : (vs : List Accumulator) (s : Scope) (from : ℕ) → vars_faults s from vs ≡ [] → IsClear s → IsClear (after_vars s vs)
 clear_vars [] s from e c = c
@@ -76,14 +78,10 @@ clear_vars (v ∷ vs) s from e c =
     let item : ℕ = from + term_size s.index v.init in
     let r = nil-right (faults s from (Value (Some v.type)) v.init) _ e in
     clear_vars vs (declared s v.name (binding.Accumulator v.type)) (item + 1) (nil-right (twice item s v.name) _ r)
-    (clear_more s v.name (binding.Accumulator v.type) c (untaken_by_twice (is_taken s v.name) _ (nil-left (twice item s v.name) _ r)))
+    (clear_more s v.name (binding.Accumulator v.type) c (not_added (is_taken s v.name) _ (nil-left (twice item s v.name) _ r)))
 
 pub visible_distinct : (k : Program) → check_fault k ≡ None → Distinct (map local_name (var_scope k).visible)
-visible_distinct k e =
-    let all = kernel-none k e in
-    let params = nil-left (params_faults (empty (loop_index k)) 0 k.params) _ all in
-    let vars = nil-left (vars_faults (param_scope k) _ k.vars) _ (nil-right (params_faults (empty (loop_index k)) 0 k.params) _ all) in
-    (clear_vars k.vars (param_scope k) _ vars (clear_params k.params (empty (loop_index k)) 0 params (record { differ = tt; taken = λ x h. tt }))).differ
+visible_distinct k e = (clear_vars k.vars (param_scope k) _ (vars_faultless k e) (clear_params k.params (empty (loop_index k)) 0 (params_faultless k e) (record { differ = tt; taken = λ x h. tt }))).differ
 
 -- ---- accumulators
 

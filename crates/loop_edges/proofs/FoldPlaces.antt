@@ -11,18 +11,19 @@ use Rattle.kernel_tree.specs.Wrap.{bits_of}
 use Rattle.kernel_tree.specs.Plain.{Parameter, Accumulator, Program}
 use Rattle.kernel_tree.specs.Items.{loop_index}
 use Rattle.kernel_tree.specs.Typing.{check_fault}
+use Rattle.kernel_tree.proofs.Names.{bytes_same, bytes_swap, bytes_told}
 use Rattle.reg_assign.specs.declared.interval.RegClass.TheVariants.{Z}
 use Rattle.loop_form.specs.Entries.{Content, IsLiteral, IsUpdate, Entry, loop_entries}
 use Rattle.loop_form.specs.Lanes.{var_type, target_type, lane_width_of}
 use Rattle.loop_form.specs.Listing.{names}
 use Rattle.loop_form.specs.Needs.{Throughout, Scalar, Constant, Index, Accumulating, scalar_of, is_named_scalar, scalars, is_constant, new_constant, constants, index_held, is_update, updates, is_updated, accumulating_of, throughout}
-use Rattle.chunk_order.proofs.Sites.{bytes_same, bytes_swap, bytes_told}
+use Rattle.loop_form.proofs.ItemWidths.{AreWide, loop_wide}
 use Rattle.vector_order.specs.Order.{is_var}
 use Rattle.chunk_emit.specs.KernelLayout.{is_same, next_place, place_in, sum_place}
 use Rattle.chunk_emit.proofs.FitsAssigned.{stands}
-use Rattle.chunk_emit.proofs.FitsWidths.{AreWide, loop_wide}
 use Rattle.loop_edges.specs.EdgeCode.{type_of_var}
 use Rattle.loop_edges.proofs.FoldNames.{Unlike, Distinct, var_name, vars_distinct, distinct_kept, typed_var}
+use Rattle.lane_emit.proofs.PlaceMoved.{moved as moved_by}
 
 -- ---- values that are no accumulators
 
@@ -101,10 +102,6 @@ not_same (Constant t n) x e = refl
 not_same Index x e = refl
 not_same (Accumulating y) x e = absurd cc
 
-abbrev moved_by : ℕ → Option ℕ → Option ℕ
-moved_by n None = None
-moved_by n (Some m) = Some (n + m)
-
 next_moved : (n : ℕ) (o : Option ℕ) → next_place (moved_by n o) ≡ moved_by (suc n) o
 next_moved n None = refl
 next_moved n (Some m) = ap Some (let e : suc (n + m) ≡ suc n + m = omega arith in e)
@@ -120,7 +117,7 @@ place_following (t ∷ xs) ys x h =
     ∙ next_moved (length xs) (place_in (Accumulating x) ys)
 
 -- an accumulator at a place of the second part
-record Behind (xs ys : List Throughout) (x : List ℕ) (j : ℕ) : Type 0 where
+record IsFollowing (xs ys : List Throughout) (x : List ℕ) (j : ℕ) : Type 0 where
   i : ℕ
   place : j ≡ length xs + i
   is : slice_get ys i ≡ Some (Accumulating x)
@@ -128,7 +125,7 @@ record Behind (xs ys : List Throughout) (x : List ℕ) (j : ℕ) : Type 0 where
 some_same : {t u : Throughout} → Some t ≡ Some u → t ≡ u
 some_same e = cc
 
-following : (xs ys : List Throughout) (x : List ℕ) (j : ℕ) → NoSums xs → slice_get (xs ++ ys) j ≡ Some (Accumulating x) → Behind xs ys x j
+following : (xs ys : List Throughout) (x : List ℕ) (j : ℕ) → NoSums xs → slice_get (xs ++ ys) j ≡ Some (Accumulating x) → IsFollowing xs ys x j
 following [] ys x j h e = record { i = j; place = omega arith; is = e }
 following (t ∷ xs) ys x zero h e = let no = sym h.0 ∙ ap is_sum (some_same e) in absurd cc
 following (t ∷ xs) ys x (suc j) h e = let b = following xs ys x j h.1 e in let p = b.place in record { i = b.i; place = omega (arith, p); is = b.is }

@@ -15,9 +15,11 @@ use Rattle.reg_assign.specs.declared.interval.RegClass.TheVariants.{X, Z}
 use Rattle.reg_assign.specs.Registers.{Assignment}
 use Rattle.loop_form.specs.Needs.{Throughout, Scalar, Constant, Index, Accumulating, throughout}
 use Rattle.loop_form.specs.Registers.{FitsKernel}
+use Rattle.loop_form.proofs.IntervalRegisters.{chosen_of}
+use Rattle.loop_form.proofs.PlaceLaws.{throughout-place}
 use Rattle.label_fix.specs.DraftRun.{Entry, Laid}
 use Rattle.label_fix.specs.Stretches.{Goes}
-use Rattle.label_fix.proofs.Steps.{stay, chain}
+use Rattle.label_fix.proofs.StretchSteps.{stay, chain}
 use Rattle.lane_emit.specs.Right.{PRight}
 use Rattle.lane_emit.specs.Stretch.{Ready}
 use Rattle.reductions.specs.Joins.{joined}
@@ -27,7 +29,6 @@ use Rattle.scalar_emit.specs.Layout.{register_at}
 use Rattle.scalar_emit.specs.Kernel.{kernel_homes, register_in}
 use Rattle.chunk_emit.specs.KernelLayout.{sum_place, update_of}
 use Rattle.chunk_emit.specs.Head.{Ground, IsGround, Between, layout, width, most_lanes}
-use Rattle.chunk_emit.proofs.FitsIntervals.{chosen_of, throughout-place}
 use Rattle.loop_edges.specs.EdgeCode.{type_of_var, join_code, fold_one, folds_code}
 use Rattle.loop_edges.proofs.FoldPlaces.{first_place, name_at, place_names, sum_is, sum_wide}
 use Rattle.loop_edges.proofs.FoldHomes.{is_found, Settled, settled, low_at, registers_apart, accumulator_found}

@@ -6,7 +6,6 @@ pub mod FoldSteps
 pub mod FoldEnds
 mod FoldExamples
 pub mod StartCounts
-pub mod StartTypes
 pub mod StartHeld
 pub mod StartSteps
 pub mod StartRuns

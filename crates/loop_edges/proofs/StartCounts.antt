@@ -1,34 +1,16 @@
 -- A kernel holds no more values throughout its loop than it has items.
-use Rattle.std.proofs.Common.{ℕ, ◌+◌, ◌≤◌, Bool, true, false, List, [], ◌∷◌, ◌++◌, length, Option, Some, None, arith, length-append}
-use Rattle.std.specs.Prelude.{map, filter, cond, option_map}
-use Rattle.std.specs.List.{list_any}
+use Rattle.std.proofs.Common.{ℕ, ◌+◌, ◌≤◌, List, [], ◌∷◌, ◌++◌, length, Option, Some, None, arith, length-append}
+use Rattle.std.specs.Prelude.{map, filter, option_map}
 use Rattle.std.proofs.lemmas.List.{length-map}
-use Rattle.std.proofs.lemmas.List.Sums.{count_by-le-length, length-filter}
 use Rattle.kernel_tree.specs.Plain.{PlainLoop, Program}
 use Rattle.kernel_tree.specs.Items.{index_of, loop_index}
 use Rattle.loop_form.specs.declared.item.ItemKind.TheVariants as kind
-use Rattle.loop_form.specs.Entries.{Content, IsLiteral, IsName, IsRead, IsLet, IsStore, IsUpdate, IsPlain, Entry, entry, block_entries, turns_entries, loop_start, loop_entries}
-use Rattle.loop_form.specs.Listing.{names}
-use Rattle.loop_form.specs.Needs.{Index, Constant, is_constant, scalars, is_named_scalar, scalar_of, constants, new_constant, index_held, is_updated, accumulating_of}
-use Rattle.loop_form.proofs.Limits.{vars-small}
+use Rattle.loop_form.specs.Entries.{IsPlain, Entry, entry, block_entries, turns_entries, loop_start, loop_entries}
+use Rattle.loop_form.specs.Needs.{scalars, is_named_scalar, scalar_of, constants, new_constant, index_held, is_updated, accumulating_of}
+use Rattle.loop_form.proofs.FewItems.{vars-small}
 use Rattle.loop_form.proofs.Numbers.{loop-listed}
 use Rattle.loop_edges.specs.Edges.{FewHeld}
-
-filter_few : {A : Type 0} (p : A → Bool) (xs : List A) → length (filter p xs) ≤ length xs
-filter_few p xs = let a = length-filter p xs in let b = count_by-le-length p xs in omega (arith, a, b)
-
-constant_few : (before : List Entry) (e : Entry) (c : Content) → length (new_constant before e.type c) ≤ 1
-constant_few before e (IsLiteral n) = by (list_any (is_constant e.type n) before)
-  where
-    by : (b : Bool) → length (cond b [] (Constant e.type n ∷ [])) ≤ 1
-    by true = omega arith
-    by false = omega arith
-constant_few before e (IsName x) = omega arith
-constant_few before e (IsRead a i) = omega arith
-constant_few before e (IsLet x) = omega arith
-constant_few before e (IsStore a i) = omega arith
-constant_few before e (IsUpdate x op) = omega arith
-constant_few before e (IsPlain k) = omega arith
+use Rattle.loop_form.proofs.IntervalLaws.{constant-few as constant_few, index-few as index_few, filter-few as filter_few}
 
 constants_few : (before es : List Entry) → length (constants before es) ≤ length es
 unfolding constants
@@ -38,14 +20,6 @@ constants_few before (e ∷ es) =
     let b = constant_few before e e.content in
     let c = constants_few (before ++ e ∷ []) es in
     omega (arith, a, b, c)
-
-index_few : (es : List Entry) (o : Option (List ℕ)) → length (index_held es o) ≤ 1
-index_few es None = omega arith
-index_few es (Some i) = by (list_any (names i) es)
-  where
-    by : (b : Bool) → length (cond b (Index ∷ []) []) ≤ 1
-    by true = omega arith
-    by false = omega arith
 
 -- the first item of a loop is no literal, so there is room for the loop variable
 first_few : (k : Program) (b : ℕ) (l : PlainLoop) → length (constants [] (turns_entries k b (Some l))) + 1 ≤ length (turns_entries k b (Some l))

@@ -1,9 +1,5 @@
 -- A worked kernel: the code before its loop.
-use Rattle.std.proofs.Common.{◌≡◌, ℕ, pos, negsuc, List, [], ◌∷◌, Some, None, refl}
-use Rattle.kernel_tree.specs.declared.ops.Ty.TheVariants as ty
-use Rattle.kernel_tree.specs.declared.ops.BinaryOp.TheVariants as binary
-use Rattle.kernel_tree.specs.declared.ops.UpdateOp.TheVariants as update
-use Rattle.kernel_tree.specs.declared.ast.Shape.TheVariants as shape
+use Rattle.std.proofs.Common.{◌≡◌, pos, negsuc, [], ◌∷◌, Some, None, refl}
 use Rattle.kernel_tree.specs.Plain.{Literal, Variable, Element, Operation, Update, Done, Then, Program}
 use Rattle.a64_code.specs.Table.{movz, movn}
 use Rattle.sve_code.specs.Table.{ptrue, dup}
@@ -13,28 +9,18 @@ use Rattle.label_fix.specs.DraftRun.{Put, ins}
 use Rattle.loop_form.specs.Entries.{item_type}
 use Rattle.loop_form.specs.Lanes.{widest}
 use Rattle.loop_form.specs.Needs.{constants}
+use Rattle.loop_form.proofs.Kernels.{a, b, f, i, n, s}
 use Rattle.lane_emit.specs.Stretch.{word}
 use Rattle.loop_edges.specs.EdgeCode.{start_code}
-
-abbrev a : List ℕ
-a = 97 ∷ []
-
-abbrev b : List ℕ
-b = 98 ∷ []
-
-abbrev i : List ℕ
-i = 105 ∷ []
-
-abbrev n : List ℕ
-n = 110 ∷ []
-
-abbrev s : List ℕ
-s = 115 ∷ []
+use Rattle.kernel_tree.specs.declared.ops.Ty.TheVariants as ty
+use Rattle.kernel_tree.specs.declared.ops.BinaryOp.TheVariants as binary
+use Rattle.kernel_tree.specs.declared.ops.UpdateOp.TheVariants as update
+use Rattle.kernel_tree.specs.declared.ast.Shape.TheVariants as shape
 
 -- kernel f(a: [i16], b: i16, n: u64) { var s: i16 = 0; for i in 0..n { s min= a[i] + (b & -2); } }
 abbrev lowest : Program
 lowest = record {
-  name = 102 ∷ [];
+  name = f;
   params = record { name = a; shape = shape.Array ty.I16 } ∷ record { name = b; shape = shape.Scalar ty.I16 } ∷ record { name = n; shape = shape.Scalar ty.U64 } ∷ [];
   vars = record { name = s; type = ty.I16; init = (Literal (pos 0)) } ∷ [];
   turns = Some (record { index = i; bound = n; body = (Then (Update s update.Min (Operation binary.Add (Element a (Variable i)) (Operation binary.And (Variable b) (Literal (negsuc 1))))) Done) });

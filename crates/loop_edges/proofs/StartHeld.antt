@@ -1,38 +1,41 @@
 -- What is held throughout a loop: where it comes from, and the places of operands and accumulators among it.
-use Rattle.std.proofs.Common.{◌≡◌, ℕ, zero, suc, ◌+◌, ◌≤◌, ℤ, pos, negsuc, Bool, true, false, cond, List, [], ◌∷◌, ◌++◌, length, map, Option, Some, None, refl, sym, ap, ap₂, ◌∙◌, subst, arith}
+use Rattle.std.proofs.Common.{◌≡◌, ℕ, zero, suc, ◌+◌, ◌≤◌, Bool, true, false, cond, List, [], ◌∷◌, ◌++◌, length, map, Option, Some, None, refl, sym, ap, ap₂, ◌∙◌, subst, arith}
 use Rattle.std.specs.Prelude.{option_map, option_and_then, filter, slice_get, bytes_eq, ◌||◌, ◌&&◌}
 use Rattle.std.specs.List.{find, list_any}
-use Rattle.std.proofs.lemmas.Bool.{and_parts, eqb-true}
+use Rattle.std.proofs.lemmas.Bool.{and_parts}
 use Rattle.guest_types.specs.declared.length.Width.{Width}
 use Rattle.guest_types.specs.Length.{width_bits}
 use Rattle.guest_types.specs.Memory.{Memory}
 use Rattle.kernel_tree.specs.declared.ops.Ty.{Ty}
 use Rattle.kernel_tree.specs.declared.ast.Shape.{Shape}
-use Rattle.kernel_tree.specs.declared.ast.Shape.TheVariants as shape
-use Rattle.kernel_tree.specs.declared.fault.Fault.TheVariants as fault
-use Rattle.kernel_tree.specs.declared.fault.Binding.TheVariants as binding
 use Rattle.kernel_tree.specs.Plain.{Parameter, Accumulator, Program}
-use Rattle.kernel_tree.specs.Items.{term_size, loop_index}
+use Rattle.kernel_tree.specs.Items.{loop_index}
 use Rattle.kernel_tree.specs.Wrap.{bits_of}
-use Rattle.kernel_tree.specs.Typing.{Scope, Value, Local, local, has_name, binding_of, value_type, binding_of_shape, is_taken, insert_name, declared, empty, param_scope, var_scope, found_at, twice, faults, params_faults, vars_faults, check_fault}
+use Rattle.kernel_tree.specs.Typing.{Scope, Local, local, has_name, binding_of, value_type, binding_of_shape, is_taken, declared, empty, var_scope, twice, params_faults, check_fault}
+use Rattle.kernel_tree.proofs.Faultless.{nil-left, nil-right, params_faultless, vars_faultless}
+use Rattle.kernel_tree.specs.Scopes.{locals_of, accs_of}
+use Rattle.kernel_tree.proofs.Scopes.{var_visible}
+use Rattle.kernel_tree.proofs.Names.{bytes_same, bytes_told, NoName, Untaken, untaken_before, NoneNamed, vars_named}
+use Rattle.kernel_tree.proofs.NoFault.{not_added}
 use Rattle.reg_assign.specs.declared.interval.RegClass.TheVariants.{Z}
 use Rattle.kernel_meaning.specs.Eval.{Names, value_at}
 use Rattle.kernel_meaning.specs.ScalarRun.{started}
+use Rattle.kernel_meaning.specs.Ranges.{TypeRange}
+use Rattle.kernel_meaning.proofs.NameRanges.{found_type, name_range}
+use Rattle.kernel_meaning.proofs.StartRanges.{started_ranged}
 use Rattle.loop_form.specs.Entries.{Content, IsLiteral, IsName, IsRead, IsLet, IsStore, IsUpdate, IsPlain, Entry, loop_entries}
 use Rattle.loop_form.specs.Lanes.{var_type, target_type, lane_width_of}
 use Rattle.loop_form.specs.Listing.{names}
-use Rattle.loop_form.specs.Needs as needs
 use Rattle.loop_form.specs.Needs.{Throughout, is_scalar, is_named_scalar, scalar_of, scalars, new_constant, is_constant, constants, index_held, is_update, updates, is_updated, accumulating_of, same_type, same_number, throughout}
 use Rattle.loop_form.specs.Streams.{place_from, place_of}
-use Rattle.chunk_order.proofs.Blocks.{nil-left, nil-right}
-use Rattle.chunk_order.proofs.Sites.{locals_of, accs_of, var_visible, bytes_same, bytes_told, NoName, Untaken, untaken_by_twice, params_untaken, untaken_before}
-use Rattle.chunk_order.proofs.OrderLaw.{faultless}
+use Rattle.loop_form.proofs.ItemWidths.{AreWide, loop_wide}
 use Rattle.lane_emit.specs.Right.{IsOf}
-use Rattle.scalar_emit.proofs.FitsOf.{no_mismatch}
 use Rattle.chunk_emit.specs.KernelLayout.{is_same, place_in}
+use Rattle.chunk_emit.proofs.FitsEntries.{same_number-told, same_type-told}
 use Rattle.chunk_emit.proofs.FitsAssigned.{stands}
-use Rattle.chunk_emit.proofs.FitsWidths.{AreWide, loop_wide}
-use Rattle.loop_edges.proofs.StartTypes.{TypedAs, found_type, name_typed, started_typed}
+use Rattle.kernel_tree.specs.declared.ast.Shape.TheVariants as shape
+use Rattle.kernel_tree.specs.declared.fault.Binding.TheVariants as binding
+use Rattle.loop_form.specs.Needs as needs
 
 -- ---- where it comes from
 
@@ -150,18 +153,6 @@ comes k m t e = come_at k (throughout k Z) m t (all_come k) e
 
 -- ---- the places of values
 
-same_type-told : (t u : Option Ty) → same_type t u ≡ true → t ≡ u
-same_type-told None None e = refl
-same_type-told None (Some u) e = absurd cc
-same_type-told (Some t) None e = absurd cc
-same_type-told (Some t) (Some u) e = ap Some (no_mismatch 0 t u (ap (λ b. cond b [] (found_at 0 (fault.Mismatch t u))) e))
-
-same_number-told : (m n : ℤ) → same_number m n ≡ true → m ≡ n
-same_number-told (pos m) (pos n) e = ap pos (eqb-true m n e)
-same_number-told (negsuc m) (negsuc n) e = ap negsuc (eqb-true m n e)
-same_number-told (pos m) (negsuc n) e = absurd cc
-same_number-told (negsuc m) (pos n) e = absurd cc
-
 pub same_told : (t u : Throughout) → is_same t u ≡ true → t ≡ u
 same_told (needs.Scalar x) (needs.Scalar y) e = ap needs.Scalar (bytes_told x y e)
 same_told (needs.Constant s m) (needs.Constant t n) e =
@@ -193,7 +184,7 @@ placed [] scope from n p q f e = absurd cc
 placed (x ∷ ps) scope from n zero q f e =
     let same : x ≡ q = cc in
     let number : n ≡ n + 0 = omega arith in
-    let free : Untaken x.name scope.taken = untaken_by_twice (is_taken scope x.name) _ (nil-left (twice from scope x.name) _ f) in (
+    let free : Untaken x.name scope.taken = not_added (is_taken scope x.name) _ (nil-left (twice from scope x.name) _ f) in (
       ap (λ b. cond b (Some n) (place_from q.name (n + 1) ps)) (ap (λ (r : Parameter). bytes_eq r.name q.name) same ∙ bytes_same q.name) ∙ ap Some number,
       subst (λ (r : Parameter). Untaken r.name scope.taken) same free,
     )
@@ -206,24 +197,18 @@ placed (x ∷ ps) scope from n (suc p) q f e =
 -- of a checked kernel, the place of a parameter's name is its own
 pub param_place : (k : Program) (p : ℕ) (q : Parameter) → check_fault k ≡ None → slice_get k.params p ≡ Some q → place_of q.name k.params ≡ Some p
 param_place k p q sound e =
-    (placed k.params (empty (loop_index k)) 0 0 p q (nil-left (params_faults (empty (loop_index k)) 0 k.params) _ (faultless k sound)) e).0
+    (placed k.params (empty (loop_index k)) 0 0 p q (params_faultless k sound) e).0
     ∙ (let number : 0 + p ≡ p = omega arith in ap Some number)
 
 -- ---- accumulators
 
-var_apart : (vs : List Accumulator) (scope : Scope) (from : ℕ) (x : List ℕ) (t : Ty) → vars_faults scope from vs ≡ [] → var_type x vs ≡ Some t → Untaken x scope.taken
-var_apart [] scope from x t f e = absurd cc
-var_apart (v ∷ vs) scope from x t f e = by (bytes_eq v.name x) refl e (var_apart vs (declared scope v.name (binding.Accumulator v.type)) (item + 1) x t (nil-right (twice item scope v.name) _ following))
+var_named : (ps : List Parameter) (vs : List Accumulator) (x : List ℕ) (t : Ty) → NoneNamed ps vs → var_type x vs ≡ Some t → NoName x (locals_of ps)
+var_named ps [] x t h e = absurd cc
+var_named ps (v ∷ vs) x t h e = by (bytes_eq v.name x) refl e (var_named ps vs x t h.1)
   where
-    item : ℕ
-    item = from + term_size scope.index v.init
-
-    following : twice item scope v.name ++ vars_faults (declared scope v.name (binding.Accumulator v.type)) (item + 1) vs ≡ []
-    following = nil-right (faults scope from (Value (Some v.type)) v.init) _ f
-
-    by : (b : Bool) → bytes_eq v.name x ≡ b → cond b (Some v.type) (var_type x vs) ≡ Some t → (var_type x vs ≡ Some t → Untaken x (insert_name scope.taken v.name)) → Untaken x scope.taken
-    by true g e more = subst (λ y. Untaken y scope.taken) (bytes_told v.name x g) (untaken_by_twice (is_taken scope v.name) _ (nil-left (twice item scope v.name) _ following))
-    by false g e more = (untaken_before x v.name scope.taken (more e)).0
+    by : (b : Bool) → bytes_eq v.name x ≡ b → cond b (Some v.type) (var_type x vs) ≡ Some t → (var_type x vs ≡ Some t → NoName x (locals_of ps)) → NoName x (locals_of ps)
+    by true g e more = subst (λ y. NoName y (locals_of ps)) (bytes_told v.name x g) h.0
+    by false g e more = more e
 
 past_params : (ls rest : List Local) (x : List ℕ) → NoName x ls → found_type (ls ++ rest) x ≡ found_type rest x
 past_params [] rest x h = refl
@@ -240,10 +225,9 @@ var_found (v ∷ vs) x = by (bytes_eq v.name x) (var_found vs x)
 -- of a checked kernel, an accumulator's value at the start is of its type
 pub sum_typed : (k : Program) (args : List ℕ) (m : Memory) (names : Names) (x : List ℕ) (t : Ty) → check_fault k ≡ None → started k args m ≡ Some names → var_type x k.vars ≡ Some t → IsOf t (value_at names x)
 sum_typed k args m names x t sound e is =
-    let free = var_apart k.vars (param_scope k) (length k.params) x t (nil-left (vars_faults (param_scope k) (length k.params) k.vars) _ (nil-right (params_faults (empty (loop_index k)) 0 k.params) _ (faultless k sound))) is in
-    let none = (params_untaken x k.params (empty (loop_index k)) free).1 in
+    let none = var_named k.params k.vars x t (vars_named k sound) is in
     let found : found_type (var_scope k).visible x ≡ Some t = ap (λ vs. found_type vs x) (var_visible k) ∙ past_params (locals_of k.params) (accs_of k.vars) x none ∙ var_found k.vars x ∙ is in
-    subst (λ o. TypedAs o (value_at names x)) found (name_typed (var_scope k).visible names x (started_typed k args m names sound e))
+    subst (λ o. TypeRange o (value_at names x)) found (name_range (var_scope k).visible names x (started_ranged k args (length k.params) m names (vars_faultless k sound) e))
 
 -- ---- widths
 

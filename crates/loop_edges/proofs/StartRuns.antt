@@ -12,23 +12,23 @@ use Rattle.guest_types.specs.Memory.{Memory}
 use Rattle.guest_types.proofs.AtWidths.{bit-predicate}
 use Rattle.guest_types.proofs.Predicates.{element_bit-bytes}
 use Rattle.machine_model.specs.Machine.{State, z_at, p_at, with_p, next}
-use Rattle.machine_model.proofs.States.{truths_put}
+use Rattle.machine_model.proofs.StateSteps.{truths_put}
 use Rattle.kernel_tree.specs.declared.ops.Ty.{Ty}
 use Rattle.kernel_tree.specs.declared.ops.Ty.TheVariants.{U64}
 use Rattle.kernel_tree.specs.declared.ops.UpdateOp.{UpdateOp}
-use Rattle.kernel_tree.specs.declared.ast.Shape.TheVariants as shape
 use Rattle.kernel_tree.specs.Plain.{Parameter}
 use Rattle.kernel_tree.specs.Items.{size_of}
 use Rattle.kernel_meaning.specs.Operators.{wrapped}
 use Rattle.kernel_meaning.specs.Eval.{Names, value_at}
 use Rattle.label_fix.specs.DraftRun.{Entry, Laid}
-use Rattle.label_fix.proofs.Steps.{Goes, stay, put_goes, chain}
+use Rattle.label_fix.proofs.StretchSteps.{Goes, stay, put_goes, chain}
 use Rattle.reg_assign.specs.declared.interval.RegClass.TheVariants.{Z}
 use Rattle.loop_form.specs.declared.loop_item.Source.{Source}
-use Rattle.loop_form.specs.declared.loop_item.Source.TheVariants.{Constant, Outer, Turn, Made}
-use Rattle.loop_form.specs.Needs as needs
+use Rattle.loop_form.specs.declared.loop_item.Source.TheVariants.{Constant, Outer, LoopIndex, Made}
 use Rattle.loop_form.specs.Needs.{Throughout, scalar_of, throughout}
 use Rattle.loop_form.specs.Streams.{place_of}
+use Rattle.loop_form.proofs.IntervalRegisters.{Chosen, chosen_of}
+use Rattle.loop_form.proofs.PlaceLaws.{throughout-place}
 use Rattle.chunk_order.specs.Items.{nth_value}
 use Rattle.vector_order.specs.Order.{Steady}
 use Rattle.lane_emit.specs.Right.{IsOf, ZRight, PRight}
@@ -36,16 +36,18 @@ use Rattle.lane_emit.proofs.Ranges.{is_of, wrap-is_of}
 use Rattle.reductions.specs.Joins.{joined, identity}
 use Rattle.reductions.specs.Folds.{together}
 use Rattle.reductions.specs.AccumulatorLanes.{LanesHold}
-use Rattle.reductions.proofs.Laws.{joins}
+use Rattle.reductions.proofs.JoinLaws.{joins}
 use Rattle.chunk_emit.specs.Head.{Ground, IsGround, layout, width, most_lanes, HeldAll, SumSoFar, AtHead}
 use Rattle.chunk_emit.specs.KernelLayout.{register_of, place_in, place_of_one, held_place, sum_place, scalar_type}
-use Rattle.chunk_emit.proofs.FitsIntervals.{Chosen, chosen_of, throughout-place}
 use Rattle.chunk_emit.proofs.FitsTyped.{parameter_typed}
 use Rattle.loop_edges.specs.EdgeCode.{holds_code}
 use Rattle.loop_edges.specs.Edges.{nothing_taken, StartRuns}
 use Rattle.loop_edges.proofs.StartCounts.{few_held}
 use Rattle.loop_edges.proofs.StartHeld.{comes, value_stands, param_place, sum_typed}
 use Rattle.loop_edges.proofs.StartSteps.{Stays, RightIn, Lays, hold}
+use Rattle.kernel_tree.specs.declared.ast.Shape.TheVariants as shape
+use Rattle.loop_form.specs.Needs as needs
+use Rattle.chunk_emit.proofs.FitsAssigned.{there}
 
 -- ---- a predicate that is all true
 
@@ -65,10 +67,6 @@ all_true vl w h e lt =
     bit-predicate 1 all_at (lanes vl B) (width_bytes w * e) (omega (arith, low, most)) ∙ element_bit-bytes all_at (lanes vl B) (width_bytes w * e) low
 
 -- ---- the values, one after another
-
-there : (o : Option ℕ) → is_some o ≡ true → (m : ℕ) × (o ≡ Some m)
-there None e = absurd cc
-there (Some m) e = (m, refl)
 
 module _ (g : Ground) (m : Memory) (h : IsGround g) where
   abbrev all : List Throughout
@@ -157,7 +155,7 @@ module _ (g : Ground) (m : Memory) (h : IsGround g) where
           typed = λ a. subst (λ o. IsOf (scalar_type o) (nth_value g.names p)) (sym is) (parameter_typed g.kernel g.args g.start g.names p q.name c.1 h.begins is);
         }
 
-    source_held : (x : Source) → (layout g).held x ≡ true → x ≢ Turn → HeldAll g end x
+    source_held : (x : Source) → (layout g).held x ≡ true → x ≢ LoopIndex → HeldAll g end x
     source_held (Constant t n) held ne =
         let i = there (place_in (needs.Constant t n) all) held in
         record {
@@ -165,7 +163,7 @@ module _ (g : Ground) (m : Memory) (h : IsGround g) where
           typed = λ a. constant_typed t n;
         }
     source_held (Outer p) held ne = outer_held p (slice_get g.kernel.params p) refl held
-    source_held Turn held ne = absurd (ne refl)
+    source_held LoopIndex held ne = absurd (ne refl)
     source_held (Made q) held ne = absurd cc
 
     sum_lanes : (x : List ℕ) → (layout g).updated x ≡ true

@@ -15,7 +15,7 @@ use Rattle.kernel_tree.specs.Wrap.{bits_of}
 use Rattle.kernel_meaning.specs.Operators.{word, wrapped}
 use Rattle.kernel_meaning.proofs.Residues.{word-below}
 use Rattle.label_fix.specs.DraftRun.{Entry, Laid}
-use Rattle.label_fix.proofs.Steps.{Goes, stay, put_goes, chain, go_more}
+use Rattle.label_fix.proofs.StretchSteps.{Goes, stay, put_goes, chain, go_more}
 use Rattle.loop_form.specs.Needs as needs
 use Rattle.loop_form.specs.Needs.{Throughout}
 use Rattle.loop_form.specs.Streams.{place_of}
@@ -33,7 +33,7 @@ use Rattle.reductions.proofs.Lanes.{start_identity}
 use Rattle.chunk_emit.specs.ChunkCode.{vectors, puts}
 use Rattle.chunk_emit.specs.Head.{Ground, IsGround, width, most_lanes}
 use Rattle.chunk_emit.specs.KernelLayout.{update_of}
-use Rattle.chunk_emit.proofs.Puts.{do_goes}
+use Rattle.chunk_emit.proofs.DraftVectors.{do_goes}
 use Rattle.loop_edges.specs.EdgeCode.{type_of_var, hold_code}
 use Rattle.loop_edges.proofs.StartHeld.{Comes, param_place, sum_wide}
 

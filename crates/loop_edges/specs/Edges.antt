@@ -5,6 +5,7 @@ use Rattle.kernel_tree.specs.Plain.{Program}
 use Rattle.kernel_tree.specs.Items.{size_of}
 use Rattle.kernel_tree.specs.Typing.{var_scope}
 use Rattle.kernel_meaning.specs.Eval.{Names}
+use Rattle.kernel_meaning.specs.Ranges.{AreRanged}
 use Rattle.machine_model.specs.Machine.{State, x_at}
 use Rattle.machine_model.specs.States.{IsState}
 use Rattle.label_fix.specs.DraftRun.{Entry, Laid}
@@ -14,7 +15,7 @@ use Rattle.reg_assign.specs.Registers.{Assignment}
 use Rattle.loop_form.specs.Needs.{throughout}
 use Rattle.loop_form.specs.Registers.{FitsKernel}
 use Rattle.scalar_emit.specs.Kernel.{kernel_homes, register_in}
-use Rattle.scalar_emit.specs.Runs.{AreRanged, AreHeld, AtIteration}
+use Rattle.scalar_emit.specs.Runs.{AreHeld, AtIteration}
 use Rattle.reductions.specs.Joins.{identity}
 use Rattle.chunk_emit.specs.Head.{Ground, IsGround, AtHead, layout}
 use Rattle.loop_edges.specs.EdgeCode.{start_code, fold_code}

@@ -7,7 +7,7 @@ ghost use Rattle.kernel_tree.specs.Plain.{accumulators_of};
 ghost use Rattle.reg_assign.specs.Registers.{IsAssignment};
 ghost use Rattle.loop_form.specs.Lanes as lanes;
 ghost use Rattle.loop_form.specs.Needs.{updates};
-ghost use Rattle.loop_form.specs.View.{content_of, seen};
+ghost use Rattle.loop_form.specs.View.{content_of, entries_view};
 ghost use Rattle.chunk_emit.specs.KernelLayout.{operator_in, operator_of};
 
 use kernel_tree::{Ty, UpdateOp, Var};
@@ -29,7 +29,7 @@ fn operator(entry: &Entry<'_>) -> UpdateOp
 
 /// The operator of the first update of an accumulator.
 pub fn first_operator(entries: &[Entry<'_>], name: &str) -> UpdateOp
-    ensures { result ≡ operator_of (find (updates name.now) (seen entries.now)) }
+    ensures { result ≡ operator_of (find (updates name.now) (entries_view entries.now)) }
 {
     for entry in entries {
         if is_update_of(entry, name) {

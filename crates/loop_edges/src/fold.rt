@@ -7,7 +7,7 @@ ghost use Rattle.loop_form.specs.Entries as plain;
 ghost use Rattle.loop_form.specs.HeldView.{view_of, view};
 ghost use Rattle.loop_form.specs.Lanes as lanes;
 ghost use Rattle.loop_form.specs.Registers.{FitsKernel};
-ghost use Rattle.loop_form.specs.View.{program, seen};
+ghost use Rattle.loop_form.specs.View.{program, entries_view};
 ghost use Rattle.scalar_emit.specs.Drafts.{Appends};
 ghost use Rattle.scalar_emit.specs.Kernel as kernels;
 ghost use Rattle.scalar_emit.specs.Kernel.{register_in};
@@ -64,7 +64,7 @@ fn emit_one(
     z: VectorReg,
     value: Held<'_>,
 ) -> Result<(), AllocError>
-    requires entries { seen entries.now ≡ plain.loop_entries (program kernel.now) }
+    requires entries { entries_view entries.now ≡ plain.loop_entries (program kernel.now) }
     requires width { width ≡ lanes.lane_width_of (program kernel.now) }
     requires homes { homes_of homes.now ≡ kernels.kernel_homes (register_in regs.now) (program kernel.now) }
     ensures labels { OnOk result (draft.new.labels ≡ draft.old.labels) }
@@ -92,7 +92,7 @@ fn emit_values(
     regs: &VectorRegs,
     values: &[Held<'_>],
 ) -> Result<(), AllocError>
-    requires entries { seen entries.now ≡ plain.loop_entries (program kernel.now) }
+    requires entries { entries_view entries.now ≡ plain.loop_entries (program kernel.now) }
     requires width { width ≡ lanes.lane_width_of (program kernel.now) }
     requires homes { homes_of homes.now ≡ kernels.kernel_homes (register_in regs.now.x) (program kernel.now) }
     requires assigned { IsAssignment 30 regs.now.z }

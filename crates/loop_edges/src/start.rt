@@ -10,7 +10,7 @@ ghost use Rattle.loop_form.specs.Entries as plain;
 ghost use Rattle.loop_form.specs.HeldView.{view_of, view};
 ghost use Rattle.loop_form.specs.Lanes as lanes;
 ghost use Rattle.loop_form.specs.Registers.{FitsKernel};
-ghost use Rattle.loop_form.specs.View.{program, seen};
+ghost use Rattle.loop_form.specs.View.{program, entries_view};
 ghost use Rattle.loop_form.specs.Streams.{place_of};
 ghost use Rattle.label_fix.specs.Draft.{word_view};
 ghost use Rattle.lane_emit.specs.Stretch.{word};
@@ -23,6 +23,7 @@ use crate::accumulators::{counted_vector, first_operator, type_of};
 use a64_code::Reg;
 use guest_types::length::Width;
 use kernel_meaning::{greatest, least, word, wrapped};
+use kernel_tree::laws::few_params;
 use kernel_tree::{Checked, Param, Ty, UpdateOp};
 use label_fix::{Draft, Word};
 use loop_form::laws::ordered_intervals;
@@ -30,7 +31,6 @@ use loop_form::{Entry, Held, intervals, lane_width, loop_entries, throughout};
 use reductions::start_word;
 use reg_assign::{Assigned, RegClass, VectorRegs};
 use scalar_emit::emit_const;
-use scalar_emit::laws::few_params;
 use std::alloc::{AllocError, Global};
 use sve_code::{Size, Sve, VectorReg};
 use word_rows::Bits;
@@ -95,7 +95,7 @@ fn emit_value(
     value: Held<'_>,
 ) -> Result<(), AllocError>
     requires params { length (program kernel.now).params ≤ 8 }
-    requires entries { seen entries.now ≡ plain.loop_entries (program kernel.now) }
+    requires entries { entries_view entries.now ≡ plain.loop_entries (program kernel.now) }
     requires width { width ≡ lanes.lane_width_of (program kernel.now) }
     ensures labels { OnOk result (draft.new.labels ≡ draft.old.labels) }
     ensures code { OnOk result (Appends draft.old draft.new
@@ -127,7 +127,7 @@ fn emit_values(
     values: &[Held<'_>],
 ) -> Result<(), AllocError>
     requires params { length (program kernel.now).params ≤ 8 }
-    requires entries { seen entries.now ≡ plain.loop_entries (program kernel.now) }
+    requires entries { entries_view entries.now ≡ plain.loop_entries (program kernel.now) }
     requires width { width ≡ lanes.lane_width_of (program kernel.now) }
     requires assigned { IsAssignment 30 regs.now }
     requires within { length values.now ≤ length regs.now.registers }

@@ -1,6 +1,6 @@
 -- Laws of the intervals of a kernel: they stand in the order in which they begin, none ends before it begins, they are few,
 -- and the need of a class is their greatest overlap.
-use Rattle.std.proofs.Common.{◌≡◌, ℕ, zero, suc, ◌+◌, ◌-◌, ◌*◌, ◌<◌, ◌≤◌, Bool, true, false, cond, List, [], ◌∷◌, ◌++◌, length, Option, Some, None, refl, ap, ◌∙◌, arith}
+use Rattle.std.proofs.Common.{◌≡◌, ℕ, zero, suc, ◌+◌, ◌-◌, ◌*◌, ◌<◌, ◌≤◌, Bool, true, false, cond, List, [], ◌∷◌, ◌++◌, length, Option, Some, None, refl, ap, ◌∙◌, arith, length-append}
 use Rattle.std.specs.Prelude.{map, filter, max, fold, ◌&&◌}
 use Rattle.std.specs.List.{list_any, cons_option}
 use Rattle.std.proofs.Math.Nat.{le-max_left, le-max_right, max-le}
@@ -15,11 +15,12 @@ use Rattle.reg_assign.specs.declared.interval.Interval.{Interval}
 use Rattle.reg_assign.specs.Intervals.{is_live, overlap, greater_overlap, need_of, AscendFrom, Ascend}
 use Rattle.reg_assign.proofs.Overlaps.{one, live, overlap-cons, overlap-append, overlap-need, need-most}
 use Rattle.loop_form.specs.Entries.{Content, IsLiteral, IsName, IsRead, IsLet, IsStore, IsUpdate, IsPlain, Entry, kind_of, entries_of, loop_start, loop_entries}
-use Rattle.loop_form.specs.Listing.{names, last_use_from, last_of, last_use_at, last_use_in, has_value, held}
+use Rattle.loop_form.specs.Listing.{names, last_of, last_use_at, last_use_in, has_value, held}
 use Rattle.loop_form.specs.Needs.{Throughout, Index, Constant, is_constant, is_scalar, throughout, scalars, is_named_scalar, scalar_of, constants, new_constant, index_held, is_updated, accumulating_of, span, spans_of, counted, values, most_live, need, whole, intervals}
 use Rattle.loop_form.specs.Numbers.{Numbered, AreForward}
-use Rattle.loop_form.proofs.Limits.{vars-small}
+use Rattle.loop_form.proofs.FewItems.{vars-small}
 use Rattle.loop_form.proofs.Numbers.{AreUsed, loop-listed, all-listed}
+use Rattle.loop_form.proofs.NameUses.{last_from}
 
 -- ---- order
 
@@ -45,20 +46,11 @@ intervals-ascend k class = let n = counted-numbered k class in whole-ascend k (t
 
 -- ---- ends
 
-last-use-grows : (x : List ℕ) (last : ℕ) (es : List Entry) → last ≤ last_use_from x last es
-unfolding last_use_from
-last-use-grows x last [] = omega arith
-last-use-grows x last (e ∷ es) = by (names x e) (last-use-grows x (max last e.last_use) es) (last-use-grows x last es)
-  where
-    by : (b : Bool) → max last e.last_use ≤ last_use_from x (max last e.last_use) es → last ≤ last_use_from x last es → last ≤ last_use_from x (cond b (max last e.last_use) last) es
-    by true a b = let m = le-max_left last e.last_use in omega (arith, a, m)
-    by false a b = b
-
 last_use-grows : (all : List Entry) (e : Entry) → e.last_use ≤ last_use_at all e
 last_use-grows all e = by e.content
   where
     by : (c : Content) → e.last_use ≤ last_of all c e.last_use
-    by (IsLet x) = last-use-grows x e.last_use all
+    by (IsLet x) = last_from x e.last_use all
     by _ = omega arith
 
 values-forward : (class : RegClass) (all es : List Entry) → AreUsed es → AreForward (spans_of class all es)
@@ -96,10 +88,6 @@ whole-replicate k (t ∷ ts) = ap (λ l. whole k t ∷ l) (whole-replicate k ts)
 
 -- ---- how many
 
-length-append : {A : Type 0} (xs ys : List A) → length (xs ++ ys) ≡ length xs + length ys
-length-append [] ys = omega arith
-length-append (x ∷ xs) ys = let h = length-append xs ys in omega (arith, h)
-
 values-few : (class : RegClass) (all es : List Entry) → length (spans_of class all es) ≤ length es
 values-few class all [] = omega arith
 values-few class all (e ∷ es) = by (last_use_in class all e) (values-few class all es)
@@ -108,10 +96,10 @@ values-few class all (e ∷ es) = by (last_use_in class all e) (values-few class
     by None h = omega arith
     by (Some u) h = omega arith
 
-filter-few : {A : Type 0} (p : A → Bool) (xs : List A) → length (filter p xs) ≤ length xs
+pub filter-few : {A : Type 0} (p : A → Bool) (xs : List A) → length (filter p xs) ≤ length xs
 filter-few p xs = let a = length-filter p xs in let b = count_by-le-length p xs in omega (arith, a, b)
 
-constant-few : (before : List Entry) (e : Entry) (c : Content) → length (new_constant before e.type c) ≤ 1
+pub constant-few : (before : List Entry) (e : Entry) (c : Content) → length (new_constant before e.type c) ≤ 1
 constant-few before e (IsLiteral n) = by (list_any (is_constant e.type n) before)
   where
     by : (b : Bool) → length (cond b [] (Constant e.type n ∷ [])) ≤ 1
@@ -129,7 +117,7 @@ unfolding constants
 constants-few before [] = omega arith
 constants-few before (e ∷ es) = let a = length-append (new_constant before e.type e.content) (constants (before ++ e ∷ []) es) in let b = constant-few before e e.content in let c = constants-few (before ++ e ∷ []) es in omega (arith, a, b, c)
 
-index-few : (es : List Entry) (o : Option (List ℕ)) → length (index_held es o) ≤ 1
+pub index-few : (es : List Entry) (o : Option (List ℕ)) → length (index_held es o) ≤ 1
 index-few es None = omega arith
 index-few es (Some i) = by (list_any (names i) es)
   where

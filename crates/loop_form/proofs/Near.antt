@@ -1,5 +1,5 @@
 -- In a kernel that meets the rules the offsets of all stream indexes are in range.
-use Rattle.std.proofs.Common.{◌≡◌, ℕ, ◌+◌, ◌≤◌, ℤ, Bool, true, false, cond, List, [], ◌∷◌, ◌++◌, Option, Some, None, refl, subst, ◌∙◌}
+use Rattle.std.proofs.Common.{◌≡◌, ℕ, ◌+◌, ◌≤◌, ℤ, List, [], ◌∷◌, ◌++◌, Option, Some, None, subst, ◌∙◌}
 use Rattle.std.proofs.lemmas.Bool.{leb-true}
 use Rattle.std.specs.Prelude.{unsigned_abs, nat_le}
 use Rattle.kernel_tree.specs.declared.ops.Ty.{Ty}
@@ -8,18 +8,16 @@ use Rattle.kernel_tree.specs.declared.fault.Found.{Found}
 use Rattle.kernel_tree.specs.Plain.{Term, Literal, Variable, Element, Unary, Operation, Shift, Conversion, Choice, Comparison, Both, Either, Not, Action, Define, Put, Update, Choose, Leave, Block, Done, Then, Otherwise, Nothing, Else, PlainLoop, Program}
 use Rattle.kernel_tree.specs.Items.{stream_offset, loop_index, index_items}
 use Rattle.kernel_tree.specs.Limits.{most_offset}
-use Rattle.kernel_tree.specs.Typing.{Scope, Role, Value, lookup, as_value, read_faults, wanted, first, own, faults, inner_faults, index_faults, stream_faults, offset_faults, action_faults, block_faults, otherwise_faults, after_action, after_block, defined, left, in_loop, var_scope, turns_faults, check_fault}
+use Rattle.kernel_tree.specs.Typing.{Scope, Role, Value, lookup, as_value, read_faults, wanted, first, own, faults, inner_faults, index_faults, stream_faults, offset_faults, action_faults, block_faults, otherwise_faults, after_action, after_block, left, in_loop, var_scope, turns_faults, check_fault}
+use Rattle.kernel_tree.proofs.Faultless.{nil-left, nil-right, loop_faultless}
+use Rattle.kernel_tree.proofs.NoFault.{is_empty}
+use Rattle.kernel_tree.proofs.Scopes.{index_after, scope_index}
 use Rattle.loop_form.specs.Entries.{Entry, inner_entries, term_entries, action_entries, block_entries, otherwise_entries, turns_entries, loop_entries, loop_start}
 use Rattle.loop_form.specs.Near.{IsNear, AreNear, NearTerm, NearAction, NearBlock, NearOtherwise, NearTurns}
-use Rattle.loop_form.proofs.Rules.{nil-left, nil-right, faultless, scope_index}
 
 near-append : (i : Option (List ℕ)) (xs ys : List Entry) → AreNear i xs → AreNear i ys → AreNear i (xs ++ ys)
 near-append i [] ys p q = q
 near-append i (x ∷ xs) ys (h, p) q = (h, near-append i xs ys p q)
-
-is_empty : {A : Type 0} (b : Bool) (x : A) (xs : List A) → cond b [] (x ∷ xs) ≡ [] → b ≡ true
-is_empty true x xs e = refl
-is_empty false x xs e = absurd cc
 
 offset-near : (item : ℕ) (c : ℤ) → offset_faults item c ≡ [] → unsigned_abs c ≤ most_offset
 offset-near item c e = leb-true (unsigned_abs c) most_offset (is_empty (nat_le (unsigned_abs c) most_offset) _ _ e)
@@ -57,17 +55,6 @@ term-near k (Both a b) s from role f u q h = near-append (loop_index k) _ _ (ter
 term-near k (Either a b) s from role f u q h = near-append (loop_index k) _ _ (term-near k a s _ _ f _ q (nil-left _ _ h)) (tt, near-append (loop_index k) _ _ (term-near k b s _ _ _ _ q (nil-left _ _ (nil-right _ _ h))) (tt, tt))
 term-near k (Not e) s from role f u q h = near-append (loop_index k) _ _ (term-near k e s _ _ f _ q (nil-left _ _ h)) (tt, tt)
 
-defined-index : (s : Scope) (x : List ℕ) (o : Option Ty) → (defined s x o).index ≡ s.index
-defined-index s x None = refl
-defined-index s x (Some t) = refl
-
-action-index : (s : Scope) (a : Action) → (after_action s a).index ≡ s.index
-action-index s (Define x t e) = defined-index s x (first t (own s e))
-action-index s (Put a i e) = refl
-action-index s (Update x op e) = refl
-action-index s (Choose c b d) = refl
-action-index s (Leave c) = refl
-
 mutual
   pub action-near : (k : Program) (a : Action) (s : Scope) (from f : ℕ) → s.index ≡ loop_index k → action_faults s from a ≡ [] → AreNear (loop_index k) (action_entries k f a)
   action-near k (Define x t e) s from f q h = near-append (loop_index k) _ _ (term-near k e s _ _ f _ q (nil-left _ _ h)) (tt, tt)
@@ -80,7 +67,7 @@ mutual
 
   pub block-near : (k : Program) (b : Block) (s : Scope) (from f : ℕ) → s.index ≡ loop_index k → block_faults s from b ≡ [] → AreNear (loop_index k) (block_entries k f b)
   block-near k Done s from f q h = tt
-  block-near k (Then a b) s from f q h = near-append (loop_index k) _ _ (action-near k a s from f q (nil-left _ _ h)) (block-near k b (after_action s a) _ _ (action-index s a ∙ q) (nil-right _ _ h))
+  block-near k (Then a b) s from f q h = near-append (loop_index k) _ _ (action-near k a s from f q (nil-left _ _ h)) (block-near k b (after_action s a) _ _ (index_after s a ∙ q) (nil-right _ _ h))
 
   pub otherwise-near : (k : Program) (d : Otherwise) (s : Scope) (from f end : ℕ) → s.index ≡ loop_index k → otherwise_faults s from d ≡ [] → AreNear (loop_index k) (otherwise_entries k f end d)
   otherwise-near k Nothing s from f end q h = tt
@@ -92,7 +79,7 @@ turns-near k s from f (Some l) q h = (tt, block-near k l.body (in_loop s l) _ _ 
 
 pub loop-near : (k : Program) → check_fault k ≡ None → AreNear (loop_index k) (loop_entries k)
 loop-near k e =
-    turns-near k (var_scope k) _ (loop_start k) k.turns (scope_index k) (nil-left _ _ (nil-right _ _ (nil-right _ _ (faultless k e))))
+    turns-near k (var_scope k) _ (loop_start k) k.turns (scope_index k) (loop_faultless k e)
 
 -- ---- the same, of the tree
 

@@ -1,5 +1,5 @@
 -- The items of a kernel are numbered from 0, are as many as its size says, and are used no earlier than they stand.
-use Rattle.std.proofs.Common.{◌≡◌, ℕ, zero, suc, ◌+◌, ◌≤◌, ℤ, List, [], ◌∷◌, ◌++◌, length, Option, Some, None, refl, sym, ap, subst, arith}
+use Rattle.std.proofs.Common.{◌≡◌, ℕ, zero, suc, ◌+◌, ◌≤◌, ℤ, List, [], ◌∷◌, ◌++◌, length, Option, Some, None, refl, sym, ap, subst, arith, length-append}
 use Rattle.std.specs.Prelude.{option_map, slice_get}
 use Rattle.kernel_tree.specs.Plain.{Term, Literal, Variable, Element, Unary, Operation, Shift, Conversion, Choice, Comparison, Both, Either, Not, Action, Define, Put, Update, Choose, Leave, Block, Done, Then, Otherwise, Nothing, Else, Parameter, Accumulator, PlainLoop, Returned, Program}
 use Rattle.kernel_tree.specs.Items.{stream_offset, index_size, index_items, term_size, action_size, block_size, otherwise_size, vars_size, turns_size, answer_size, loop_index, index_of, size_of}
@@ -25,15 +25,11 @@ used-append : (xs ys : List Entry) → AreUsed xs → AreUsed ys → AreUsed (xs
 used-append [] ys h g = g
 used-append (x ∷ xs) ys h g = (h.0, used-append xs ys h.1 g)
 
-count-append : (xs ys : List Entry) → length (xs ++ ys) ≡ length xs + length ys
-count-append [] ys = omega arith
-count-append (x ∷ xs) ys = let h = count-append xs ys in omega (arith, h)
-
 joined : (b m n : ℕ) (xs ys : List Entry) → Listed b m xs → Listed (b + m) n ys → Listed b (m + n) (xs ++ ys)
 joined b m n xs ys h g = record {
   numbered = numbered-append b xs ys h.numbered (subst (λ c. Numbered (b + c) ys) (sym h.count) g.numbered);
   used = used-append xs ys h.used g.used;
-  count = let c = h.count in let d = g.count in let e = count-append xs ys in omega (arith, c, d, e);
+  count = let c = h.count in let d = g.count in let e = length-append xs ys in omega (arith, c, d, e);
 }
 
 -- the same number of items, said otherwise
@@ -119,11 +115,11 @@ mutual
   otherwise-listed k from end Nothing h = none from
   otherwise-listed k from end (Else b) h = ahead _ (block_size (loop_index k) b) _ h (block-listed k (from + 1) b)
 
-params-listed : (k : Program) (from : ℕ) (ps : List Parameter) → Listed from (length ps) (params_entries k from ps)
+pub params-listed : (k : Program) (from : ℕ) (ps : List Parameter) → Listed from (length ps) (params_entries k from ps)
 params-listed k from [] = none from
 params-listed k from (p ∷ ps) = sized from (1 + length ps) (length (p ∷ ps)) _ (omega arith) (ahead _ (length ps) _ (omega arith) (params-listed k (from + 1) ps))
 
-vars-listed : (k : Program) (from : ℕ) (vs : List Accumulator) → Listed from (vars_size (loop_index k) vs) (vars_entries k from vs)
+pub vars-listed : (k : Program) (from : ℕ) (vs : List Accumulator) → Listed from (vars_size (loop_index k) vs) (vars_entries k from vs)
 vars-listed k from [] = none from
 vars-listed k from (v ∷ vs) =
     let m : ℕ = term_size (loop_index k) v.init in

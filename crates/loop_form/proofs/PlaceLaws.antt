@@ -1,14 +1,16 @@
--- The place of an item is that of its interval.
-use Rattle.std.proofs.Common.{◌≡◌, ℕ, zero, suc, ◌+◌, List, [], ◌∷◌, ◌++◌, length, map, Option, Some, None, refl, ap, ◌∙◌, arith}
+-- The places of intervals: what is held throughout comes first, and the place of an item is that of its interval.
+use Rattle.std.proofs.Common.{◌≡◌, ℕ, zero, suc, ◌+◌, ◌<◌, List, [], ◌∷◌, ◌++◌, length, map, Option, Some, None, refl, ap, ◌∙◌, arith}
 use Rattle.std.specs.Prelude.{slice_get}
 use Rattle.std.specs.List.{cons_option}
 use Rattle.std.proofs.lemmas.List.{length-map}
 use Rattle.kernel_tree.specs.Plain.{Program}
+use Rattle.kernel_tree.specs.Items.{size_of}
+use Rattle.reg_assign.specs.declared.interval.Interval.{Interval}
 use Rattle.reg_assign.specs.declared.interval.RegClass.{RegClass}
 use Rattle.reg_assign.specs.declared.interval.RegClass.TheVariants.{Z, P, X}
 use Rattle.loop_form.specs.Entries.{Entry, entries_of}
 use Rattle.loop_form.specs.Listing.{last_use_in}
-use Rattle.loop_form.specs.Needs.{throughout, whole, span, spans_of, counted, values, intervals}
+use Rattle.loop_form.specs.Needs.{Throughout, throughout, whole, span, spans_of, counted, values, intervals}
 use Rattle.loop_form.specs.Numbers.{Numbered}
 use Rattle.loop_form.specs.Places.{place_of, places_from, value_places, first_counted, IsValueOf}
 use Rattle.loop_form.proofs.Numbers.{loop-listed, all-listed, item-at}
@@ -42,6 +44,15 @@ placed class all (x ∷ es) j n m e = by (last_use_in class all x) refl n e (λ 
 get-append : {A : Type 0} (xs ys : List A) (m : ℕ) → slice_get (xs ++ ys) (length xs + m) ≡ slice_get ys m
 get-append [] ys m = ap (slice_get ys) (let e : 0 + m ≡ m = omega arith in e)
 get-append (x ∷ xs) ys m = ap (slice_get (x ∷ (xs ++ ys))) (let e : length (x ∷ xs) + m ≡ suc (length xs + m) = omega arith in e) ∙ get-append xs ys m
+
+get-whole : (k : Program) (ts : List Throughout) (is : List Interval) (v : ℕ) → v < length ts → slice_get (map (whole k) ts ++ is) v ≡ Some (record { from = 0; last_use = size_of k })
+get-whole k [] is v h = absurd (omega arith)
+get-whole k (t ∷ ts) is zero h = refl
+get-whole k (t ∷ ts) is (suc v) h = get-whole k ts is v (omega arith)
+
+-- what is held throughout comes first, over all items
+pub throughout-place : (k : Program) (class : RegClass) (v : ℕ) → v < length (throughout k class) → slice_get (intervals k class) v ≡ Some (record { from = 0; last_use = size_of k })
+throughout-place k class v h = get-whole k (throughout k class) (values k class) v h
 
 -- the values come after what is held throughout
 pub interval-following : (k : Program) (class : RegClass) (i : ℕ) → slice_get (intervals k class) (length (throughout k class) + i) ≡ slice_get (values k class) i

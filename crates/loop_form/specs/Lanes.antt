@@ -4,11 +4,10 @@ use Rattle.guest_types.specs.declared.length.Width.{Width}
 use Rattle.guest_types.specs.declared.length.Width.TheVariants.{B, H, S, D}
 use Rattle.guest_types.specs.Length.{width_bits}
 use Rattle.kernel_tree.specs.declared.ops.Ty.{Ty}
-use Rattle.kernel_tree.specs.declared.ops.Ty.TheVariants as ty
-use Rattle.kernel_tree.specs.declared.ast.Shape.{Shape}
-use Rattle.kernel_tree.specs.declared.ast.Shape.TheVariants as shape
 use Rattle.kernel_tree.specs.Plain.{Parameter, Accumulator, Program}
 use Rattle.loop_form.specs.Entries.{Content, IsStore, IsUpdate, Entry, loop_entries}
+use Rattle.loop_form.specs.Streams.{elements_of}
+use Rattle.kernel_tree.specs.declared.ops.Ty.TheVariants as ty
 
 abbrev pub width_of : Ty → Width
 width_of ty.I8 = B
@@ -25,13 +24,10 @@ abbrev pub wider : Width → Option Ty → Width
 wider w None = w
 wider w (Some t) = if nat_lt (width_bits w) (width_bits (width_of t)) then width_of t else w
 
-abbrev pub element_type : Shape → Option Ty
-element_type (shape.Scalar t) = None
-element_type (shape.Array t) = Some t
-
-abbrev pub array_type : List ℕ → List Parameter → Option Ty
-array_type a [] = None
-array_type a (p ∷ ps) = if bytes_eq p.name a then element_type p.shape else array_type a ps
+-- the type of the elements of an array parameter, by its name
+abbrev pub type_of_array : List ℕ → List Parameter → Option Ty
+type_of_array a [] = None
+type_of_array a (p ∷ ps) = if bytes_eq p.name a then elements_of p else type_of_array a ps
 
 abbrev pub var_type : List ℕ → List Accumulator → Option Ty
 var_type x [] = None
@@ -39,7 +35,7 @@ var_type x (v ∷ vs) = if bytes_eq v.name x then Some v.type else var_type x vs
 
 -- the type of what a statement changes: a stored element or an updated accumulator
 abbrev pub target_type : Program → Content → Option Ty
-target_type k (IsStore a i) = array_type a k.params
+target_type k (IsStore a i) = type_of_array a k.params
 target_type k (IsUpdate x op) = var_type x k.vars
 target_type k _ = None
 

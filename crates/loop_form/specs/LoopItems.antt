@@ -10,7 +10,7 @@ use Rattle.kernel_tree.specs.Plain.{Term, Literal, Variable, Element, Unary, Ope
 use Rattle.kernel_tree.specs.Items.{stream_offset, term_size, index_items, action_size, block_size}
 use Rattle.kernel_tree.specs.Typing.{Scope, Local, lookup, own, first, element_type, accumulator_type, side_type, after_action, after_block, left, in_loop, var_scope}
 use Rattle.loop_form.specs.declared.loop_item.Source.{Source}
-use Rattle.loop_form.specs.declared.loop_item.Source.TheVariants.{Constant, Outer, Turn, Made}
+use Rattle.loop_form.specs.declared.loop_item.Source.TheVariants.{Constant, Outer, LoopIndex, Made}
 use Rattle.loop_form.specs.Entries.{loop_start}
 
 -- what an item does, with the types of its operands; an array has a name and the place where its address is held
@@ -69,7 +69,7 @@ outer_env p (x ∷ xs) = bound x.name (Outer p) ∷ outer_env (suc p) xs
 
 -- the names at the head of a loop's body
 abbrev pub loop_env : Scope → List ℕ → List Bound
-loop_env scope index = outer_env 0 scope.visible ++ bound index Turn ∷ []
+loop_env scope index = outer_env 0 scope.visible ++ bound index LoopIndex ∷ []
 
 abbrev pub array_type : Scope → List ℕ → Option Ty
 array_type scope a = option_and_then element_type (lookup scope a)

@@ -1,10 +1,9 @@
 -- The items of a loop as the code holds them, and the names that are visible where it lists them.
 use Rattle.std.specs.Prelude.{◌≡◌, ℕ, ◌+◌, List, ◌++◌, length, map, true, Option}
 use Rattle.kernel_tree.specs.declared.ops.Ty.{Ty}
-use Rattle.kernel_tree.specs.declared.fault.Binding.TheVariants as binding
-use Rattle.kernel_tree.specs.Plain.{Term, Action, Block, Parameter, Accumulator, PlainLoop, Program}
+use Rattle.kernel_tree.specs.Plain.{Term, Action, Block, PlainLoop, Program}
 use Rattle.kernel_tree.specs.Items.{loop_index}
-use Rattle.kernel_tree.specs.Typing.{Scope, Local, local, after_action, binding_of_shape, in_loop, var_scope}
+use Rattle.kernel_tree.specs.Typing.{Scope, Local, local, after_action, in_loop, var_scope}
 use Rattle.loop_form.specs.declared.loop_item.LoopOp.{LoopOp}
 use Rattle.loop_form.specs.declared.loop_item.LoopOp.TheVariants as op
 use Rattle.loop_form.specs.declared.loop_item.LoopItem.{LoopItem}
@@ -75,12 +74,6 @@ Declares index from a old new =
     (taken : List (List ℕ)) → (after_action (scope_of index old taken) a ≡ scope_of index new (after_action (scope_of index old taken) a).taken) × (after_env (scope_of index old taken) from (env_of old) a ≡ env_of new)
 
 -- ---- the names at the head of the loop's body
-
-abbrev pub param_local : Parameter → Local
-param_local p = local p.name (binding_of_shape p.shape)
-
-abbrev pub var_local : Accumulator → Local
-var_local v = local v.name (binding.Accumulator v.type)
 
 -- some more names, held in places from a number on
 abbrev pub AddsOuter : List Local → (old new : List Visible) → Type 0

@@ -25,5 +25,5 @@ content_of (content.Plain k) = IsPlain k
 abbrev pub entry_of : Entry → plain.Entry
 entry_of e = record { item = e.item; content = content_of e.content; type = e.ty; last_use = e.last_use }
 
-abbrev pub seen : List Entry → List plain.Entry
-seen es = map entry_of es
+abbrev pub entries_view : List Entry → List plain.Entry
+entries_view es = map entry_of es

@@ -6,7 +6,7 @@ ghost use Rattle.kernel_tree.specs.Plain.{term_of, parameters_of, program_of};
 ghost use Rattle.kernel_tree.specs.Items.{stream_offset, loop_index, moved_by};
 ghost use Rattle.kernel_tree.specs.Checked.{kernel_of};
 ghost use Rattle.loop_form.specs.Near.{IsNear, HasNear, AreNear};
-ghost use Rattle.loop_form.specs.View.{program, content_of, entry_of, seen};
+ghost use Rattle.loop_form.specs.View.{program, content_of, entry_of, entries_view};
 ghost use Rattle.loop_form.specs.Streams.{place_of, access, stream_of, streams_of};
 
 use crate::entry::{Content, Entry};
@@ -94,8 +94,8 @@ fn stream(kernel: &Checked, entry: &Entry<'_>) -> Option<Stream>
 
 fn streams_among(kernel: &Checked, entries: &[Entry<'_>]) -> Streams
     requires small { length entries.now ≤ 1000 }
-    requires near { AreNear (loop_index (program kernel.now)) (seen entries.now) }
-    ensures { result.items ≡ filter_map (stream_of (program kernel.now)) (seen entries.now) }
+    requires near { AreNear (loop_index (program kernel.now)) (entries_view entries.now) }
+    ensures { result.items ≡ filter_map (stream_of (program kernel.now)) (entries_view entries.now) }
 {
     let mut streams = Streams::new();
     for entry in entries {

@@ -6,7 +6,7 @@ ghost use Rattle.kernel_tree.specs.Plain.{parameters_of, turns_of, returned_of};
 ghost use Rattle.kernel_tree.specs.Items.{loop_index, size_of, turns_size, answer_size, index_of};
 ghost use Rattle.loop_form.specs.Entries.{params_entries, turns_entries, answer_entries, entries_of, loop_entries};
 ghost use Rattle.loop_form.specs.Near.{AreNear};
-ghost use Rattle.loop_form.specs.View.{program, seen};
+ghost use Rattle.loop_form.specs.View.{program, entries_view};
 
 use crate::entry::{Content, Entries};
 use crate::item::ItemKind;
@@ -29,7 +29,7 @@ fn turns_size_of(kernel: &Checked, turns: &Option<Loop>) -> u32
 
 fn list_params(kernel: &Checked, entries: &mut Entries<'_>, params: &[Param])
     requires { array_vec_len entries.old + length params.now ≤ 1000 }
-    ensures items { seen entries.new.items ≡ seen entries.old.items
+    ensures items { entries_view entries.new.items ≡ entries_view entries.old.items
         ++ params_entries (program kernel.now) 0 (parameters_of params.now) }
     ensures len { array_vec_len entries.new ≡ array_vec_len entries.old + length params.now }
 {
@@ -44,7 +44,7 @@ fn list_turns<'a>(kernel: &Checked, entries: &mut Entries<'a>, from: u32, turns:
     requires following { array_vec_len entries.old ≤ from }
     requires fits { from + turns_size (option_map turns_of turns.now) ≤ 1000 }
     requires index { loop_index (program kernel.now) ≡ option_map index_of (option_map turns_of turns.now) }
-    ensures items { seen entries.new.items ≡ seen entries.old.items
+    ensures items { entries_view entries.new.items ≡ entries_view entries.old.items
         ++ turns_entries (program kernel.now) from (option_map turns_of turns.now) }
     ensures len { array_vec_len entries.new ≡ array_vec_len entries.old + turns_size (option_map turns_of turns.now) }
 {
@@ -62,7 +62,7 @@ fn list_answer<'a>(
 )
     requires following { array_vec_len entries.old ≤ from }
     requires fits { from + answer_size (loop_index (program kernel.now)) (option_map returned_of answer.now) ≤ 1000 }
-    ensures items { seen entries.new.items ≡ seen entries.old.items
+    ensures items { entries_view entries.new.items ≡ entries_view entries.old.items
         ++ answer_entries (program kernel.now) from (option_map returned_of answer.now) }
     ensures len { array_vec_len entries.new ≡ array_vec_len entries.old + answer_size (loop_index (program kernel.now))
         (option_map returned_of answer.now) }
@@ -81,7 +81,7 @@ fn list_answer<'a>(
 /// The items of a kernel, in their order.
 #[tactic(auto, unfolding(crate::specs::View::program))]
 pub fn entries(kernel: &Checked) -> Entries<'_>
-    ensures items { seen result.items ≡ entries_of (program kernel.now) }
+    ensures items { entries_view result.items ≡ entries_of (program kernel.now) }
     ensures len { array_vec_len result ≡ size_of (program kernel.now) }
     ensures small { array_vec_len result ≤ 1000 }
 {
@@ -101,8 +101,8 @@ pub fn entries(kernel: &Checked) -> Entries<'_>
 /// The items of the loop, in their order.
 #[tactic(auto, unfolding(crate::specs::View::program))]
 pub fn loop_entries(kernel: &Checked) -> Entries<'_>
-    ensures items { seen result.items ≡ loop_entries (program kernel.now) }
-    ensures near { AreNear (loop_index (program kernel.now)) (seen result.items) }
+    ensures items { entries_view result.items ≡ loop_entries (program kernel.now) }
+    ensures near { AreNear (loop_index (program kernel.now)) (entries_view result.items) }
     ensures small { array_vec_len result ≤ 1000 }
 {
     few_items(kernel);

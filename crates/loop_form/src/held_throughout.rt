@@ -8,7 +8,7 @@ ghost use Rattle.kernel_tree.specs.Items.{loop_index};
 ghost use Rattle.loop_form.specs.HeldView.{view_of, view};
 ghost use Rattle.loop_form.specs.Listing.{names};
 ghost use Rattle.loop_form.specs.Needs.{is_scalar, is_named_scalar, scalars, same_type, is_literal, is_constant, new_constant, constants, index_held, updates, is_updated, accumulating_of, throughout};
-ghost use Rattle.loop_form.specs.View.{program, content_of, entry_of, seen};
+ghost use Rattle.loop_form.specs.View.{program, content_of, entry_of, entries_view};
 
 use crate::entry::{Content, Entry};
 use crate::entry_list::loop_entries;
@@ -32,7 +32,7 @@ pub enum Held<'a> {
 
 /// Whether a name is an item among these.
 pub fn is_named(entries: &[Entry<'_>], name: &str) -> bool
-    ensures { result ≡ list_any (names name.now) (seen entries.now) }
+    ensures { result ≡ list_any (names name.now) (entries_view entries.now) }
 {
     for entry in entries {
         if is_name(entry, name) {
@@ -52,7 +52,7 @@ fn is_scalar_shape(shape: Shape) -> bool
 }
 
 fn is_scalar_named(entries: &[Entry<'_>], param: &Param) -> bool
-    ensures { result ≡ is_named_scalar (seen entries.now) (parameter_of param.now) }
+    ensures { result ≡ is_named_scalar (entries_view entries.now) (parameter_of param.now) }
 {
     is_scalar_shape(param.shape) && is_named(entries, param.name.text())
 }
@@ -63,7 +63,7 @@ fn push_scalars<'a>(
     entries: &[Entry<'_>],
     params: &'a [Param],
 ) -> Result<(), AllocError>
-    ensures { OnOk result (view held.new.items ≡ view held.old.items ++ scalars (seen entries.now)
+    ensures { OnOk result (view held.new.items ≡ view held.old.items ++ scalars (entries_view entries.now)
         (parameters_of params.now)) }
 {
     for param in params {
@@ -103,7 +103,7 @@ fn is_constant_of(entry: &Entry<'_>, ty: Option<Ty>, value: i128) -> bool
 }
 
 fn occurs(before: &[Entry<'_>], ty: Option<Ty>, value: i128) -> bool
-    ensures { result ≡ list_any (is_constant ty value) (seen before.now) }
+    ensures { result ≡ list_any (is_constant ty value) (entries_view before.now) }
 {
     for entry in before {
         if is_constant_of(entry, ty, value) {
@@ -120,7 +120,7 @@ fn push_new(
     entry: &Entry<'_>,
 ) -> Result<(), AllocError>
     ensures { OnOk result (view held.new.items ≡ view held.old.items ++ new_constant
-        (seen before.now) entry.now.ty (content_of entry.now.content)) }
+        (entries_view before.now) entry.now.ty (content_of entry.now.content)) }
 {
     if let Content::Literal(value) = entry.content {
         if !occurs(before, entry.ty, value) {
@@ -133,7 +133,7 @@ fn push_new(
 // The pairs of a type and a literal.
 #[tactic(auto, unfolding(crate::specs::Needs::constants))]
 fn push_constants(held: &mut Vec<Held<'_>>, entries: &[Entry<'_>]) -> Result<(), AllocError>
-    ensures { OnOk result (view held.new.items ≡ view held.old.items ++ constants [] (seen entries.now)) }
+    ensures { OnOk result (view held.new.items ≡ view held.old.items ++ constants [] (entries_view entries.now)) }
 {
     let mut place = 0;
     for entry in entries {
@@ -150,7 +150,7 @@ fn push_index(
     held: &mut Vec<Held<'_>>,
     entries: &[Entry<'_>],
 ) -> Result<(), AllocError>
-    ensures { OnOk result (view held.new.items ≡ view held.old.items ++ index_held (seen entries.now)
+    ensures { OnOk result (view held.new.items ≡ view held.old.items ++ index_held (entries_view entries.now)
         (loop_index (program kernel.now))) }
 {
     if let Some(turns) = &kernel.kernel().body {
@@ -172,7 +172,7 @@ pub fn is_update_of(entry: &Entry<'_>, name: &str) -> bool
 }
 
 fn is_var_updated(entries: &[Entry<'_>], var: &Var) -> bool
-    ensures { result ≡ is_updated (seen entries.now) (accumulator_of var.now) }
+    ensures { result ≡ is_updated (entries_view entries.now) (accumulator_of var.now) }
 {
     let name = var.name.text();
     for entry in entries {
@@ -190,7 +190,7 @@ fn push_updated<'a>(
     vars: &'a [Var],
 ) -> Result<(), AllocError>
     ensures { OnOk result (view held.new.items ≡ view held.old.items ++ map accumulating_of
-        (filter (is_updated (seen entries.now)) (accumulators_of vars.now))) }
+        (filter (is_updated (entries_view entries.now)) (accumulators_of vars.now))) }
 {
     for var in vars {
         if is_var_updated(entries, var) {

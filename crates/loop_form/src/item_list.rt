@@ -5,7 +5,7 @@ ghost use Rattle.kernel_tree.specs.Plain.{program_of};
 ghost use Rattle.kernel_tree.specs.Checked.{kernel_of};
 ghost use Rattle.loop_form.specs.Entries.{kind_of};
 ghost use Rattle.loop_form.specs.Listing.{names, has_x, has_z, has_p, has_value, last_use_from, last_use_at, last_use_in, item_of, listing_of, held};
-ghost use Rattle.loop_form.specs.View.{content_of, entry_of, seen};
+ghost use Rattle.loop_form.specs.View.{content_of, entry_of, entries_view};
 
 use crate::entry::{Content, Entry};
 use crate::entry_list::entries;
@@ -81,7 +81,7 @@ pub fn is_name(entry: &Entry<'_>, name: &str) -> bool
 // The greatest of an item and the users of the name's items.
 #[tactic(auto, unfolding(crate::specs::Listing::last_use_from))]
 fn last_use_of(entries: &[Entry<'_>], name: &str, item: u32) -> u32
-    ensures { result ≡ last_use_from name.now item (seen entries.now) }
+    ensures { result ≡ last_use_from name.now item (entries_view entries.now) }
 {
     let mut last = item;
     for entry in entries {
@@ -94,7 +94,7 @@ fn last_use_of(entries: &[Entry<'_>], name: &str, item: u32) -> u32
 
 // The item that uses an item's value last.
 fn last_use(all: &[Entry<'_>], entry: &Entry<'_>) -> u32
-    ensures { result ≡ last_use_at (seen all.now) (entry_of entry.now) }
+    ensures { result ≡ last_use_at (entries_view all.now) (entry_of entry.now) }
 {
     match entry.content {
         Content::Let(name) => last_use_of(all, name, entry.last_use),
@@ -104,7 +104,7 @@ fn last_use(all: &[Entry<'_>], entry: &Entry<'_>) -> u32
 
 /// The item that uses an item's value of a class last, where it makes one.
 pub fn last_use_if_made(class: RegClass, all: &[Entry<'_>], entry: &Entry<'_>) -> Option<u32>
-    ensures { result ≡ last_use_in class (seen all.now) (entry_of entry.now) }
+    ensures { result ≡ last_use_in class (entries_view all.now) (entry_of entry.now) }
 {
     if makes(class, kind(entry)) {
         Some(last_use(all, entry))
@@ -115,7 +115,7 @@ pub fn last_use_if_made(class: RegClass, all: &[Entry<'_>], entry: &Entry<'_>) -
 
 // An item with its values.
 fn item(all: &[Entry<'_>], entry: &Entry<'_>) -> Item
-    ensures { result ≡ item_of (seen all.now) (entry_of entry.now) }
+    ensures { result ≡ item_of (entries_view all.now) (entry_of entry.now) }
 {
     Item {
         kind: kind(entry),
@@ -127,7 +127,7 @@ fn item(all: &[Entry<'_>], entry: &Entry<'_>) -> Item
 }
 
 fn items(alloc: Global, all: &[Entry<'_>]) -> Result<Vec<Item>, AllocError>
-    ensures { IfOk result (λ items. items.items ≡ map (item_of (seen all.now)) (seen all.now)) }
+    ensures { IfOk result (λ items. items.items ≡ map (item_of (entries_view all.now)) (entries_view all.now)) }
 {
     let mut items = Vec::new(alloc);
     for entry in all {

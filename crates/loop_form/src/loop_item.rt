@@ -11,7 +11,7 @@ pub enum Source {
     /// accumulators.
     Outer(u32),
     /// In the loop variable.
-    Turn,
+    LoopIndex,
     /// In what the item of this number makes.
     Made(u32),
 }

@@ -2,7 +2,8 @@
 
 ghost use Rattle.std.specs.Prelude.{◌+◌, ◌≤◌, length, map, IfOk, OnOk};
 ghost use Rattle.kernel_tree.specs.Plain.{parameters_of, accumulators_of, turns_of};
-ghost use Rattle.loop_form.specs.LoopView.{param_local, var_local, AddsOuter, IsLoopHead};
+ghost use Rattle.kernel_tree.specs.Scopes.{param_local, var_local};
+ghost use Rattle.loop_form.specs.LoopView.{AddsOuter, IsLoopHead};
 ghost use Rattle.loop_form.specs.View.{program};
 
 use crate::laws::few_items;
@@ -61,7 +62,7 @@ pub fn loop_names<'a>(
     names.push(Visible {
         name: turns.index.text(),
         binding: Binding::Index,
-        source: Source::Turn,
+        source: Source::LoopIndex,
     })?;
     Ok(names)
 }

@@ -4,7 +4,7 @@ ghost use Rattle.std.specs.Prelude.{◌≡◌, ◌+◌, ◌^◌, ◌<◌, length
 ghost use Rattle.kernel_tree.specs.Plain.{program_of};
 ghost use Rattle.kernel_tree.specs.Checked.{kernel_of};
 ghost use Rattle.loop_form.specs.Places.{places_from, value_places};
-ghost use Rattle.loop_form.specs.View.{seen};
+ghost use Rattle.loop_form.specs.View.{entries_view};
 
 use crate::entry::Entry;
 use crate::entry_list::{entries, loop_entries};
@@ -24,7 +24,8 @@ fn places(
     some: &[Entry<'_>],
 ) -> Result<Vec<Option<u32>>, AllocError>
     requires { first + length some.now < 2 ^ 32 }
-    ensures { IfOk result (λ places. places.items ≡ places_from class (seen all.now) first (seen some.now)) }
+    ensures { IfOk result (λ places. places.items
+        ≡ places_from class (entries_view all.now) first (entries_view some.now)) }
 {
     let mut places = Vec::new(alloc);
     let mut next = first;

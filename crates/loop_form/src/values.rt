@@ -7,7 +7,7 @@ ghost use Rattle.kernel_tree.specs.Plain.{program_of};
 ghost use Rattle.kernel_tree.specs.Checked.{kernel_of};
 ghost use Rattle.loop_form.specs.Entries.{entries_of, loop_entries};
 ghost use Rattle.loop_form.specs.Needs.{span_of, spans_of, values, intervals};
-ghost use Rattle.loop_form.specs.View.{program, entry_of, seen};
+ghost use Rattle.loop_form.specs.View.{program, entry_of, entries_view};
 
 use crate::entry::Entry;
 use crate::entry_list::{entries, loop_entries};
@@ -19,7 +19,7 @@ use reg_assign::{Interval, RegClass};
 use std::alloc::{AllocError, Global};
 
 fn span(class: RegClass, all: &[Entry<'_>], entry: &Entry<'_>) -> Option<Interval>
-    ensures { result ≡ span_of class (seen all.now) (entry_of entry.now) }
+    ensures { result ≡ span_of class (entries_view all.now) (entry_of entry.now) }
 {
     let last_use = last_use_if_made(class, all, entry)?;
     Some(Interval {
@@ -35,7 +35,7 @@ fn spans(
     all: &[Entry<'_>],
     some: &[Entry<'_>],
 ) -> Result<Vec<Interval>, AllocError>
-    ensures { IfOk result (λ spans. spans.items ≡ spans_of class (seen all.now) (seen some.now)) }
+    ensures { IfOk result (λ spans. spans.items ≡ spans_of class (entries_view all.now) (entries_view some.now)) }
 {
     let mut spans = Vec::new(alloc);
     for entry in some {

@@ -5,7 +5,7 @@ ghost use Rattle.arrayvec.specs.ArrayVec.{array_vec_len};
 ghost use Rattle.kernel_tree.specs.Plain.{Element, Either, Choice, Choose, Nothing, Else, name_of, term_of, action_of, block_of, accumulators_of};
 ghost use Rattle.kernel_tree.specs.Items.{loop_index, term_size, index_items, action_size, block_size, vars_size};
 ghost use Rattle.loop_form.specs.Entries.{entry, term_entries, action_entries, block_entries, vars_entries, item_type, IsPlain};
-ghost use Rattle.loop_form.specs.View.{program, content_of, seen};
+ghost use Rattle.loop_form.specs.View.{program, content_of, entries_view};
 
 use crate::entry::{Content, Entries, Entry};
 use crate::item::ItemKind;
@@ -29,7 +29,7 @@ pub fn put<'a>(
     last_use: u32,
 )
     requires { array_vec_len entries.old < 1000 }
-    ensures items { seen entries.new.items ≡ seen entries.old.items
+    ensures items { entries_view entries.new.items ≡ entries_view entries.old.items
         ++ entry (program kernel.now) item (content_of content.entry) last_use ∷ [] }
     ensures len { array_vec_len entries.new ≡ array_vec_len entries.old + 1 }
 {
@@ -53,7 +53,7 @@ pub fn list_expr<'a>(
 )
     requires following { array_vec_len entries.old ≤ from }
     requires fits { from + term_size (loop_index (program kernel.now)) (term_of expr.now) ≤ 1000 }
-    ensures items { seen entries.new.items ≡ seen entries.old.items
+    ensures items { entries_view entries.new.items ≡ entries_view entries.old.items
         ++ term_entries (program kernel.now) from last_use (term_of expr.now) }
     ensures len { array_vec_len entries.new ≡ array_vec_len entries.old + term_size (loop_index (program kernel.now))
         (term_of expr.now) }
@@ -96,8 +96,9 @@ fn list_read<'a>(
 )
     requires following { array_vec_len entries.old ≤ from }
     requires fits { from + (index_items (loop_index (program kernel.now)) (term_of index.now) + 1) ≤ 1000 }
-    ensures items { let k = program kernel.now in seen entries.new.items
-        ≡ seen entries.old.items ++ term_entries k from last_use (Element (name_of array.now) (term_of index.now)) }
+    ensures items { let k = program kernel.now in entries_view entries.new.items
+        ≡ entries_view entries.old.items
+        ++ term_entries k from last_use (Element (name_of array.now) (term_of index.now)) }
     ensures len { array_vec_len entries.new ≡ array_vec_len entries.old +
         (index_items (loop_index (program kernel.now)) (term_of index.now) + 1) }
 {
@@ -127,8 +128,8 @@ fn list_one<'a>(
     requires following { array_vec_len entries.old ≤ from }
     requires fits { from + (term_size (loop_index (program kernel.now)) (term_of arg.now) + 1) ≤ 1000 }
     ensures items { let k = program kernel.now in let item = from + term_size (loop_index k)
-        (term_of arg.now) in seen entries.new.items
-        ≡ seen entries.old.items ++ (term_entries k from item (term_of arg.now)
+        (term_of arg.now) in entries_view entries.new.items
+        ≡ entries_view entries.old.items ++ (term_entries k from item (term_of arg.now)
         ++ entry k item (IsPlain kind) last_use ∷ []) }
     ensures len { array_vec_len entries.new ≡ array_vec_len entries.old +
         (term_size (loop_index (program kernel.now)) (term_of arg.now) + 1) }
@@ -153,8 +154,9 @@ fn list_two<'a>(
     requires fits { let i = loop_index (program kernel.now) in from +
         (term_size i (term_of left.now) + term_size i (term_of right.now) + 1) ≤ 1000 }
     ensures items { let k = program kernel.now in let next = from + term_size (loop_index k)
-        (term_of left.now) in let item = next + term_size (loop_index k) (term_of right.now) in seen entries.new.items
-        ≡ seen entries.old.items ++ (term_entries k from item (term_of left.now)
+        (term_of left.now) in let item = next + term_size (loop_index k) (term_of right.now) in
+        entries_view entries.new.items
+        ≡ entries_view entries.old.items ++ (term_entries k from item (term_of left.now)
         ++ (term_entries k next item (term_of right.now) ++ entry k item (IsPlain kind) last_use ∷ [])) }
     ensures len { let i = loop_index (program kernel.now) in array_vec_len entries.new
         ≡ array_vec_len entries.old + (term_size i (term_of left.now) + term_size i (term_of right.now) + 1) }
@@ -179,7 +181,7 @@ fn list_or<'a>(
     requires following { array_vec_len entries.old ≤ from }
     requires fits { from + term_size (loop_index (program kernel.now))
         (Either (term_of left.now) (term_of right.now)) ≤ 1000 }
-    ensures items { seen entries.new.items ≡ seen entries.old.items
+    ensures items { entries_view entries.new.items ≡ entries_view entries.old.items
         ++ term_entries (program kernel.now) from last_use (Either (term_of left.now) (term_of right.now)) }
     ensures len { array_vec_len entries.new ≡ array_vec_len entries.old + term_size (loop_index (program kernel.now))
         (Either (term_of left.now) (term_of right.now)) }
@@ -212,7 +214,7 @@ fn list_select<'a>(
     requires following { array_vec_len entries.old ≤ from }
     requires fits { from + term_size (loop_index (program kernel.now))
         (Choice (term_of cond.now) (term_of yes.now) (term_of no.now)) ≤ 1000 }
-    ensures items { seen entries.new.items ≡ seen entries.old.items
+    ensures items { entries_view entries.new.items ≡ entries_view entries.old.items
         ++ term_entries (program kernel.now) from last_use
         (Choice (term_of cond.now) (term_of yes.now) (term_of no.now)) }
     ensures len { array_vec_len entries.new ≡ array_vec_len entries.old + term_size (loop_index (program kernel.now))
@@ -238,7 +240,7 @@ fn list_select<'a>(
 fn list_stmt<'a>(kernel: &Checked, entries: &mut Entries<'a>, from: u32, stmt: &'a Stmt)
     requires following { array_vec_len entries.old ≤ from }
     requires fits { from + action_size (loop_index (program kernel.now)) (action_of stmt.now) ≤ 1000 }
-    ensures items { seen entries.new.items ≡ seen entries.old.items
+    ensures items { entries_view entries.new.items ≡ entries_view entries.old.items
         ++ action_entries (program kernel.now) from (action_of stmt.now) }
     ensures len { array_vec_len entries.new ≡ array_vec_len entries.old + action_size (loop_index (program kernel.now))
         (action_of stmt.now) }
@@ -286,8 +288,8 @@ pub fn list_ended<'a>(
     requires following { array_vec_len entries.old ≤ from }
     requires fits { from + (term_size (loop_index (program kernel.now)) (term_of value.now) + 1) ≤ 1000 }
     ensures items { let k = program kernel.now in let item = from + term_size (loop_index k)
-        (term_of value.now) in seen entries.new.items
-        ≡ seen entries.old.items ++ (term_entries k from item (term_of value.now)
+        (term_of value.now) in entries_view entries.new.items
+        ≡ entries_view entries.old.items ++ (term_entries k from item (term_of value.now)
         ++ entry k item (content_of content.entry) item ∷ []) }
     ensures len { array_vec_len entries.new ≡ array_vec_len entries.old +
         (term_size (loop_index (program kernel.now)) (term_of value.now) + 1) }
@@ -312,8 +314,8 @@ fn list_then<'a>(
     ensures following { let i = loop_index (program kernel.now) in result
         ≡ from + term_size i (term_of cond.now) + 1 + block_size i (block_of block.now) }
     ensures items { let k = program kernel.now in let first = from + term_size (loop_index k)
-        (term_of cond.now) in seen entries.new.items
-        ≡ seen entries.old.items ++ (term_entries k from result (term_of cond.now)
+        (term_of cond.now) in entries_view entries.new.items
+        ≡ entries_view entries.old.items ++ (term_entries k from result (term_of cond.now)
         ++ (entry k first (IsPlain ItemKind.Then) first ∷ block_entries k (first + 1) (block_of block.now))) }
     ensures len { let i = loop_index (program kernel.now) in array_vec_len entries.new
         ≡ array_vec_len entries.old + (term_size i (term_of cond.now) + 1 + block_size i (block_of block.now)) }
@@ -343,7 +345,7 @@ fn list_if<'a>(
     requires following { array_vec_len entries.old ≤ from }
     requires fits { from + action_size (loop_index (program kernel.now))
         (Choose (term_of cond.now) (block_of block.now) Nothing) ≤ 1000 }
-    ensures items { seen entries.new.items ≡ seen entries.old.items
+    ensures items { entries_view entries.new.items ≡ entries_view entries.old.items
         ++ action_entries (program kernel.now) from (Choose (term_of cond.now) (block_of block.now) Nothing) }
     ensures len { array_vec_len entries.new ≡ array_vec_len entries.old + action_size (loop_index (program kernel.now))
         (Choose (term_of cond.now) (block_of block.now) Nothing) }
@@ -364,7 +366,7 @@ fn list_if_else<'a>(
     requires following { array_vec_len entries.old ≤ from }
     requires fits { from + action_size (loop_index (program kernel.now))
         (Choose (term_of cond.now) (block_of block.now) (Else (block_of other.now))) ≤ 1000 }
-    ensures items { seen entries.new.items ≡ seen entries.old.items
+    ensures items { entries_view entries.new.items ≡ entries_view entries.old.items
         ++ action_entries (program kernel.now) from
         (Choose (term_of cond.now) (block_of block.now) (Else (block_of other.now))) }
     ensures len { array_vec_len entries.new ≡ array_vec_len entries.old + action_size (loop_index (program kernel.now))
@@ -382,7 +384,7 @@ fn list_if_else<'a>(
 pub fn list_block<'a>(kernel: &Checked, entries: &mut Entries<'a>, from: u32, block: &'a [Stmt])
     requires following { array_vec_len entries.old ≤ from }
     requires fits { from + block_size (loop_index (program kernel.now)) (block_of block.now) ≤ 1000 }
-    ensures items { seen entries.new.items ≡ seen entries.old.items
+    ensures items { entries_view entries.new.items ≡ entries_view entries.old.items
         ++ block_entries (program kernel.now) from (block_of block.now) }
     ensures len { array_vec_len entries.new ≡ array_vec_len entries.old + block_size (loop_index (program kernel.now))
         (block_of block.now) }
@@ -399,7 +401,7 @@ pub fn list_block<'a>(kernel: &Checked, entries: &mut Entries<'a>, from: u32, bl
 pub fn list_vars<'a>(kernel: &Checked, entries: &mut Entries<'a>, from: u32, vars: &'a [Var])
     requires following { array_vec_len entries.old ≤ from }
     requires fits { from + vars_size (loop_index (program kernel.now)) (accumulators_of vars.now) ≤ 1000 }
-    ensures items { seen entries.new.items ≡ seen entries.old.items
+    ensures items { entries_view entries.new.items ≡ entries_view entries.old.items
         ++ vars_entries (program kernel.now) from (accumulators_of vars.now) }
     ensures len { array_vec_len entries.new ≡ array_vec_len entries.old + vars_size (loop_index (program kernel.now))
         (accumulators_of vars.now) }

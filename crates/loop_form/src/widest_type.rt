@@ -3,8 +3,9 @@
 ghost use Rattle.std.specs.Prelude.{◌≡◌};
 ghost use Rattle.kernel_tree.specs.Plain.{parameters_of, accumulators_of, program_of};
 ghost use Rattle.kernel_tree.specs.Checked.{kernel_of};
-ghost use Rattle.loop_form.specs.Lanes.{width_of, wider, element_type, array_type, var_type, target_type, widest, lane_width_of};
-ghost use Rattle.loop_form.specs.View.{program, content_of, seen};
+ghost use Rattle.kernel_tree.specs.Typing.{element_type, binding_of_shape};
+ghost use Rattle.loop_form.specs.Lanes.{width_of, wider, type_of_array, var_type, target_type, widest, lane_width_of};
+ghost use Rattle.loop_form.specs.View.{program, content_of, entries_view};
 
 use crate::entry::{Content, Entry};
 use crate::entry_list::loop_entries;
@@ -41,7 +42,7 @@ fn wider_of(width: Width, ty: Option<Ty>) -> Width
 }
 
 fn element(shape: Shape) -> Option<Ty>
-    ensures { result ≡ element_type shape }
+    ensures { result ≡ element_type (binding_of_shape shape) }
 {
     match shape {
         Shape::Scalar(_) => None,
@@ -51,7 +52,7 @@ fn element(shape: Shape) -> Option<Ty>
 
 // The type of an array's elements.
 fn array_element(params: &[Param], array: &str) -> Option<Ty>
-    ensures { result ≡ array_type array.now (parameters_of params.now) }
+    ensures { result ≡ type_of_array array.now (parameters_of params.now) }
 {
     for param in params {
         if param.name.text() == array {
@@ -87,7 +88,7 @@ fn target(kernel: &Checked, content: Content<'_>) -> Option<Ty>
 
 #[tactic(auto, unfolding(crate::specs::Lanes::widest))]
 fn widest_of(kernel: &Checked, entries: &[Entry<'_>]) -> Width
-    ensures { result ≡ widest (program kernel.now) Width.B (seen entries.now) }
+    ensures { result ≡ widest (program kernel.now) Width.B (entries_view entries.now) }
 {
     let mut width = Width::B;
     for entry in entries {

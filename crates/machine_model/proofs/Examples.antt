@@ -13,7 +13,7 @@ use Rattle.guest_types.specs.Memory.{page_numbers}
 use Rattle.machine_model.specs.Load.{Image, load, pages_of, page_bytes}
 use Rattle.machine_model.specs.Written.{file_of}
 use Rattle.machine_model.specs.OneStep.{reads_word}
-use Rattle.machine_model.specs.Run.{Outcome, End, Stop, Spent, machine_run, start}
+use Rattle.machine_model.specs.Run.{Outcome, End, Stop, Spent, machine_run, start, start_of}
 
 -- the file, written out: add x0, x0, #1; movz x8, #93; svc #0
 abbrev e1 : List ℕ
@@ -54,20 +54,20 @@ shown (Some (Stop k pc at m n)) = Stops k pc at n
 shown (Some (Spent pc m n)) = Spends pc n
 
 run_ends : shown (machine_run e1 (41 ∷ []) [] 128 100) ≡ Ends 42 3
-unfolding reads_word reads add_sub_imm add_sub_shifted logical move_wide multiply_add shift_variable bitfield select branch branch_if branch_zero ret_form exception start pages_of page_bytes
+unfolding reads_word reads add_sub_imm add_sub_shifted logical move_wide multiply_add shift_variable bitfield select branch branch_if branch_zero ret_form exception start start_of pages_of page_bytes
 run_ends = refl
 
 run_wraps : shown (machine_run e1 (0xffffffffffffffff ∷ []) [] 2048 3) ≡ Ends 0 3
-unfolding reads_word reads add_sub_imm add_sub_shifted logical move_wide multiply_add shift_variable bitfield select branch branch_if branch_zero ret_form exception start pages_of page_bytes
+unfolding reads_word reads add_sub_imm add_sub_shifted logical move_wide multiply_add shift_variable bitfield select branch branch_if branch_zero ret_form exception start start_of pages_of page_bytes
 run_wraps = refl
 
 run_spends : shown (machine_run e1 (41 ∷ []) [] 128 2) ≡ Spends 0x400080 2
-unfolding reads_word reads add_sub_imm add_sub_shifted logical move_wide multiply_add shift_variable bitfield select branch branch_if branch_zero ret_form exception start pages_of page_bytes
+unfolding reads_word reads add_sub_imm add_sub_shifted logical move_wide multiply_add shift_variable bitfield select branch branch_if branch_zero ret_form exception start start_of pages_of page_bytes
 run_spends = refl
 
 -- the file with its first word zero
 run_stops : shown (machine_run (file_of (0 ∷ 0xd2800ba8 ∷ 0xd4000001 ∷ [])) [] [] 128 100) ≡ Stops Undefined 0x400078 0 1
-unfolding reads_word reads add_sub_imm add_sub_shifted logical move_wide multiply_add shift_variable bitfield select branch branch_if branch_zero ret_form exception nop_form umov_form byte_imm wide_imm byte_register wide_register sve.true_form sve.false_form sve.while_below sve.test_form sve.pred_logic sve.break_form sve.read_ffr sve.read_ffr_zeroing sve.set_ffr sve.write_ffr sve.count sve.increment_by_count sve.count_true sve.duplicate sve.index sve.select sve.add_sub sve.logic sve.shift_imm sve.merging sve.unary sve.extend_byte sve.extend_half sve.extend_word sve.reduce sve.compare sve.load sve.load_first_fault sve.load_no_fault sve.store start pages_of page_bytes
+unfolding reads_word reads add_sub_imm add_sub_shifted logical move_wide multiply_add shift_variable bitfield select branch branch_if branch_zero ret_form exception nop_form umov_form byte_imm wide_imm byte_register wide_register sve.true_form sve.false_form sve.while_below sve.test_form sve.pred_logic sve.break_form sve.read_ffr sve.read_ffr_zeroing sve.set_ffr sve.write_ffr sve.count sve.increment_by_count sve.count_true sve.duplicate sve.index sve.select sve.add_sub sve.logic sve.shift_imm sve.merging sve.unary sve.extend_byte sve.extend_half sve.extend_word sve.reduce sve.compare sve.load sve.load_first_fault sve.load_no_fault sve.store start start_of pages_of page_bytes
 run_stops = refl
 
 -- ---- files that differ in one place

@@ -2,7 +2,7 @@
 use Rattle.std.proofs.Common.{◌≡◌, Bool, true, false, Option, Some, None, refl, ap, ◌∙◌}
 use Rattle.guest_types.specs.Memory.{fetched}
 use Rattle.word_rows.specs.Row.{Instruction, are_tables_apart, reads, spells}
-use Rattle.word_rows.proofs.Laws.{not_in_two_tables, reads-spells}
+use Rattle.word_rows.proofs.TableLaws.{not_in_two_tables, reads-spells}
 use Rattle.a64_code.specs.Table as a64
 use Rattle.a64_code.proofs.Valid.{a64_table}
 use Rattle.sve_code.specs.Table as sve

@@ -1,6 +1,6 @@
 -- A step of an A64 instruction that goes on keeps the shape of the state.
 use Rattle.std.proofs.Common.{◌≡◌, ℕ, zero, suc, ◌+◌, ◌-◌, ◌*◌, ◌/◌, ◌%◌, ◌^◌, ◌<◌, ◌≤◌, Bool, true, false, not, List, [], ◌∷◌, length, get_or, Some, Result, Ok, Err, refl, sym, subst, arith, lit<, inl, inr, ltb}
-use Rattle.std.specs.Prelude.{All, nat_eq, nat_lt, nat_le, slice_get, slice_index, slice_index_or, bit_and, bit_or, bit_xor, if◌then◌else◌, ◌&&◌}
+use Rattle.std.specs.Prelude.{All, nat_eq, nat_lt, nat_le, slice_get, slice_index, bit_and, bit_or, bit_xor, if◌then◌else◌, ◌&&◌}
 use Rattle.std.specs.Int.{w64, cast_signed, cast_unsigned, int_shr}
 use Rattle.std.proofs.lemmas.Bool.{cases_lt, ltb-true, leb-false}
 use Rattle.std.proofs.lemmas.List.{get_or_past}
@@ -18,11 +18,11 @@ use Rattle.word_rows.specs.Field.{Field}
 use Rattle.word_rows.specs.Row.{Fill}
 use Rattle.a64_code.specs.Table.{add_imm, sub_imm, subs_imm, add, sub, subs, land, orr, eor, orn, movz, movk, movn, madd, msub, lslv, lsrv, asrv, sbfm, ubfm, csel, csinc, b, b_cond, cbz, cbnz, ret, svc, brk, nop, umov, ldrb, ldrsb, strb, ldrh, ldr_w, ldr_x, ldrsh, ldrsw, strh, str_w, str_x, ldrb_register, ldrsb_register, strb_register, ldrh_register, ldr_w_register, ldr_x_register, ldrsh_register, ldrsw_register, strh_register, str_w_register, str_x_register, Name, row, imm16, hw}
 use Rattle.machine_model.specs.declared.outcome.StopKind.TheVariants.{Read, Write, Call}
-use Rattle.machine_model.specs.Arithmetic.{sum, difference, inverted, shifted, replaced, unsigned_field, signed_field, holds, target}
-use Rattle.machine_model.specs.Machine.{State, Step, Went, Ended, Stopped, x_at, with_x, with_x_or_sp, jump, next}
+use Rattle.machine_model.specs.Arithmetic.{sum, difference, inverted, shifted_word, replaced, unsigned_field, signed_field, holds, target}
+use Rattle.machine_model.specs.Machine.{State, Step, Went, Ended, Stopped, x_at, with_x, with_x_or_sp, z_at, jump, next}
 use Rattle.machine_model.specs.Effects.{act, arg, jump_if, write, write_or_sp, write_with_flags, load_to, store_from, as_it_is, from_byte, from_half, from_word, immediate, base, first, second, half_place, product, shift_by, at_offset, at_register, at_scaled}
 use Rattle.machine_model.specs.States.{IsVector, IsState}
-use Rattle.machine_model.proofs.States.{moved, wrapped, same_state, x_kept, sp_kept, jumped, flags_kept, memory_kept, x_put}
+use Rattle.machine_model.proofs.StateSteps.{moved, wrapped, same_state, x_kept, sp_kept, jumped, flags_kept, memory_kept, x_put}
 
 -- ---- numbers of 64 bits
 
@@ -44,7 +44,7 @@ shr_below : (b : Bool) (v k : ℕ) → v < 2 ^ 64 → ltb v (2 ^ 63) ≡ b → c
 shr_below true v k h e = let le = div-le_self v (2 ^ k) in rw e (omega (arith, h, le))
 shr_below false v k h e = rw e (omega arith)
 
-shifted_below : (kind v k : ℕ) → v < 2 ^ 64 → shifted kind v k < 2 ^ 64
+shifted_below : (kind v k : ℕ) → v < 2 ^ 64 → shifted_word kind v k < 2 ^ 64
 shifted_below zero v k h = wrapped (v * 2 ^ k)
 shifted_below (suc zero) v k h = omega (arith, h, div-le_self v (2 ^ k))
 shifted_below (suc (suc zero)) v k h = shr_below (ltb v (2 ^ 63)) v k h refl
@@ -108,7 +108,7 @@ target_below pc width imm =
     (wrapped (pc + 4 * imm)) (wrapped (pc + (2 ^ 64 - 4 * (2 ^ width - imm))))
 
 -- doubleword 0 of a vector register
-doubleword_below : (s : State) (n : ℕ) → IsState s → element 8 (slice_index_or s.z n []) 0 < 2 ^ 64
+doubleword_below : (s : State) (n : ℕ) → IsState s → element 8 (z_at s n) 0 < 2 ^ 64
 doubleword_below s n h =
     elim (cases_lt n (length s.z)) [
       | inl lt ↦
@@ -223,7 +223,7 @@ scalar_keeps ret ns s t fill h e = jump_keeps s t (x_at s (arg ns 0)) h (registe
 scalar_keeps svc ns s t fill h e = call_keeps (nat_eq (arg ns 0) 0 && nat_eq (x_at s 8) 93) s t e
 scalar_keeps brk ns s t fill h e = absurd cc
 scalar_keeps nop ns s t fill h e = same_state e (moved s h)
-scalar_keeps umov ns s t fill h e = write_keeps s t (arg ns 0) (element 8 (slice_index_or s.z (arg ns 1) []) 0) h (doubleword_below s (arg ns 1) h) e
+scalar_keeps umov ns s t fill h e = write_keeps s t (arg ns 0) (element 8 (z_at s (arg ns 1)) 0) h (doubleword_below s (arg ns 1) h) e
 scalar_keeps ldrb ns s t fill h e = load_keeps s t (arg ns 0) (at_offset 1 ns s) 1 as_it_is h from_1 e
 scalar_keeps ldrsb ns s t fill h e = load_keeps s t (arg ns 0) (at_offset 1 ns s) 1 from_byte h signed_1 e
 scalar_keeps strb ns s t fill h e = store_keeps s t (arg ns 0) (at_offset 1 ns s) 1 h e

@@ -31,11 +31,11 @@ flags_of a b = record {
 }
 
 -- shifts by less than 64: LSL, LSR, ASR, ROR
-abbrev pub shifted : ℕ → ℕ → ℕ → ℕ
-shifted zero v k = v * 2 ^ k % 2 ^ 64
-shifted (suc zero) v k = v / 2 ^ k
-shifted (suc (suc zero)) v k = cast_unsigned w64 (int_shr (cast_signed w64 v) k)
-shifted (suc (suc (suc kind))) v k = rotate_right w64 v k
+abbrev pub shifted_word : ℕ → ℕ → ℕ → ℕ
+shifted_word zero v k = v * 2 ^ k % 2 ^ 64
+shifted_word (suc zero) v k = v / 2 ^ k
+shifted_word (suc (suc zero)) v k = cast_unsigned w64 (int_shr (cast_signed w64 v) k)
+shifted_word (suc (suc (suc kind))) v k = rotate_right w64 v k
 
 -- v with the 16 bits from bit k on replaced
 abbrev pub replaced : ℕ → ℕ → ℕ → ℕ
@@ -53,15 +53,15 @@ abbrev pub field_place : ℕ → ℕ → ℕ
 field_place immr imms = if nat_le immr imms then 0 else 64 - immr
 
 -- a number of so many bits as 64 bits, with copies of its top bit above it
-abbrev pub sign_extended : ℕ → ℕ → ℕ
-sign_extended width v = if nat_lt v (2 ^ (width - 1)) then v else v + (2 ^ 64 - 2 ^ width)
+abbrev pub extended_word : ℕ → ℕ → ℕ
+extended_word width v = if nat_lt v (2 ^ (width - 1)) then v else v + (2 ^ 64 - 2 ^ width)
 
 abbrev pub unsigned_field : ℕ → ℕ → ℕ → ℕ
 unsigned_field v immr imms = field_taken v immr imms * 2 ^ field_place immr imms
 
 abbrev pub signed_field : ℕ → ℕ → ℕ → ℕ
 signed_field v immr imms =
-    sign_extended (field_width immr imms) (field_taken v immr imms) * 2 ^ field_place immr imms % 2 ^ 64
+    extended_word (field_width immr imms) (field_taken v immr imms) * 2 ^ field_place immr imms % 2 ^ 64
 
 -- ---- conditions, as the manual's ConditionHolds: bits 3 to 1 choose, and bit 0 turns it
 

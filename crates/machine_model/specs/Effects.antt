@@ -1,13 +1,13 @@
 -- What each A64 instruction does (Arm DDI 0487, "A64 Base Instruction Descriptions"). An instruction is the name of its row and
 -- the numbers of that row's fields, from the lowest field of the word to the highest.
-use Rattle.std.specs.Prelude.{ℕ, ◌*◌, ◌%◌, ◌^◌, Bool, not, ◌&&◌, List, [], Ok, Err, nat_eq, bit_and, bit_or, bit_xor, slice_index, slice_index_or, if◌then◌else◌}
+use Rattle.std.specs.Prelude.{ℕ, ◌*◌, ◌%◌, ◌^◌, Bool, not, ◌&&◌, List, Ok, Err, nat_eq, bit_and, bit_or, bit_xor, slice_index, if◌then◌else◌}
 use Rattle.std.specs.Int.{w8, w16, w32, w64, cast_signed, cast_unsigned}
 use Rattle.guest_types.specs.Memory.{loaded, stored}
 use Rattle.guest_types.specs.Elements.{element}
 use Rattle.a64_code.specs.Table.{Name, add_imm, sub_imm, subs_imm, add, sub, subs, land, orr, eor, orn, movz, movk, movn, madd, msub, lslv, lsrv, asrv, sbfm, ubfm, csel, csinc, b, b_cond, cbz, cbnz, ret, svc, brk, nop, umov, ldrb, ldrsb, strb, ldrh, ldr_w, ldr_x, ldrsh, ldrsw, strh, str_w, str_x, ldrb_register, ldrsb_register, strb_register, ldrh_register, ldr_w_register, ldr_x_register, ldrsh_register, ldrsw_register, strh_register, str_w_register, str_x_register}
 use Rattle.machine_model.specs.declared.outcome.StopKind.TheVariants.{Read, Write, Call, Break}
-use Rattle.machine_model.specs.Arithmetic.{sum, difference, inverted, flags_of, shifted, replaced, signed_field, unsigned_field, holds, target}
-use Rattle.machine_model.specs.Machine.{State, Step, Went, Ended, Stopped, x_at, with_x, x_or_sp, with_x_or_sp, jump, next}
+use Rattle.machine_model.specs.Arithmetic.{sum, difference, inverted, flags_of, shifted_word, replaced, signed_field, unsigned_field, holds, target}
+use Rattle.machine_model.specs.Machine.{State, Step, Went, Ended, Stopped, x_at, with_x, x_or_sp, with_x_or_sp, z_at, jump, next}
 
 -- the number of the field in this place
 abbrev pub arg : List ℕ → ℕ → ℕ
@@ -70,7 +70,7 @@ abbrev pub first : List ℕ → State → ℕ
 first ns s = x_at s (arg ns 1)
 
 abbrev pub second : List ℕ → State → ℕ
-second ns s = shifted (arg ns 4) (x_at s (arg ns 3)) (arg ns 2)
+second ns s = shifted_word (arg ns 4) (x_at s (arg ns 3)) (arg ns 2)
 
 -- Rd, imm16, hw: the first bit of the field that is moved to
 abbrev pub half_place : List ℕ → ℕ
@@ -82,7 +82,7 @@ product ns s = first ns s * x_at s (arg ns 3) % 2 ^ 64
 
 -- Rd, Rn, Rm: Rn shifted by Rm modulo 64
 abbrev pub shift_by : ℕ → List ℕ → State → ℕ
-shift_by kind ns s = shifted kind (first ns s) (x_at s (arg ns 2) % 64)
+shift_by kind ns s = shifted_word kind (first ns s) (x_at s (arg ns 2) % 64)
 
 -- Rt, Rn, imm12: the address, with the offset in units of the size
 abbrev pub at_offset : ℕ → List ℕ → State → ℕ
@@ -93,7 +93,7 @@ abbrev pub at_register : List ℕ → State → ℕ
 at_register ns s = sum (base ns s) (x_at s (arg ns 2))
 
 abbrev pub at_scaled : ℕ → List ℕ → State → ℕ
-at_scaled logarithm ns s = sum (base ns s) (shifted 0 (x_at s (arg ns 3)) (logarithm * arg ns 2))
+at_scaled logarithm ns s = sum (base ns s) (shifted_word 0 (x_at s (arg ns 3)) (logarithm * arg ns 2))
 
 -- ---- the instructions
 
@@ -129,7 +129,7 @@ act ret ns s = Went (jump s (x_at s (arg ns 0)))
 act svc ns s = if nat_eq (arg ns 0) 0 && nat_eq (x_at s 8) 93 then Ended (x_at s 0) else Stopped Call s.pc (x_at s 8) s.memory
 act brk ns s = Stopped Break s.pc (arg ns 0) s.memory
 act nop ns s = Went (next s)
-act umov ns s = write s (arg ns 0) (element 8 (slice_index_or s.z (arg ns 1) []) 0)
+act umov ns s = write s (arg ns 0) (element 8 (z_at s (arg ns 1)) 0)
 act ldrb ns s = load_to s (arg ns 0) (at_offset 1 ns s) 1 as_it_is
 act ldrsb ns s = load_to s (arg ns 0) (at_offset 1 ns s) 1 from_byte
 act strb ns s = store_from s (arg ns 0) (at_offset 1 ns s) 1

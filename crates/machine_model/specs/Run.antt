@@ -27,11 +27,11 @@ run (suc n) taken s = go_on (step s) s (taken + 1) (run n (taken + 1))
 abbrev pub start_x : List ℕ → List ℕ
 start_x args = args ++ replicate (31 - length args) 0
 
--- Where a run starts: the image's pages with the given ones, PC at the entry, and zero in all other registers.
-unfoldable pub start : Image → List ℕ → Memory → ℕ → State
-start image args pages vl = record {
-  memory = merged image.pages pages;
-  pc = image.entry;
+-- Where a run starts: this memory, the arguments in X0 on, PC at the entry, and zero in all other registers.
+unfoldable pub start_of : (memory : Memory) (entry : ℕ) (args : List ℕ) (vl : ℕ) → StopList → State
+start_of memory entry args vl stops = record {
+  memory = memory;
+  pc = entry;
   x = start_x args;
   sp = 0;
   flags = record { n = false; z = false; c = false; v = false };
@@ -39,8 +39,12 @@ start image args pages vl = record {
   p = replicate 16 (replicate 32 0);
   ffr = replicate 32 0;
   vl = vl;
-  stops = never;
+  stops = stops;
 }
+
+-- where a run of an image starts: its pages with the given ones, and no stop list
+unfoldable pub start : Image → List ℕ → Memory → ℕ → State
+start image args pages vl = start_of (merged image.pages pages) image.entry args vl never
 
 -- the state after n steps, where each of them went on
 abbrev pub after_steps : ℕ → State → Option State
@@ -64,16 +68,20 @@ memory_left (End memory result steps) = memory
 memory_left (Stop kind pc at memory steps) = memory
 memory_left (Spent pc memory steps) = memory
 
+-- the machine's run of an image
+abbrev pub image_run : Image → List ℕ → Memory → ℕ → ℕ → Outcome
+image_run image args pages vl steps = run steps 0 (start image args pages vl)
+
 -- the machine's run of a file, where it can be loaded
 abbrev pub machine_run : List ℕ → List ℕ → Memory → ℕ → ℕ → Option Outcome
 machine_run file args pages vl steps =
-    elim (load file) [ Ok image ↦ Some (run steps 0 (start image args pages vl)) | Err fault ↦ None ]
+    elim (load file) [ Ok image ↦ Some (image_run image args pages vl steps) | Err fault ↦ None ]
 
 -- ---- runs with a stop list
 
 -- where a run with this stop list starts
 unfoldable pub free_start : Image → List ℕ → Memory → ℕ → StopList → State
-free_start image args pages vl stops = record (start image args pages vl) { stops = stops }
+free_start image args pages vl stops = start_of (merged image.pages pages) image.entry args vl stops
 
 -- how many free elements were suppressed in the steps that went on, of the first n
 abbrev pub suppressed : ℕ → State → ℕ

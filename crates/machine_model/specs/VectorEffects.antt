@@ -87,10 +87,13 @@ do_merge op f s = put_lanes s (f zdn) (sized f) (merge_at op (sized f) (p_at s (
 abbrev pub do_unary : LaneUnary → Width → (Field → ℕ) → State → Step
 do_unary op w f s = put_lanes s (f zd) w (merge_one_at op w (p_at s (f pg)) (z_at s (f zd)) (z_at s (f zn)))
 
--- the result stands in element 0, and above it is zero
+-- the register of a reduction: its number stands in element 0, and above it is zero
+abbrev pub reduced : Width → ℕ → List ℕ
+reduced w v = register (width_bytes w) (dup_at v) 1
+
 abbrev pub do_reduce : ReduceOp → Width → (Field → ℕ) → State → Step
 do_reduce op result f s =
-    Went (next (with_z s (f zd) (register (width_bytes result) (dup_at (reduce_of op (sized f) (lanes s.vl (sized f)) (p_at s (f pg)) (z_at s (f zn)))) 1)))
+    Went (next (with_z s (f zd) (reduced result (reduce_of op (sized f) (lanes s.vl (sized f)) (p_at s (f pg)) (z_at s (f zn))))))
 
 abbrev pub do_compare : LaneCompare → (Field → ℕ) → State → Step
 do_compare op f s =

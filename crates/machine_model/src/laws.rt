@@ -4,18 +4,18 @@
 ghost use Rattle.std.specs.Prelude.{◌≡◌, ℕ, ◌+◌, ◌*◌, ◌^◌, ◌<◌, ◌≤◌, true, List, ◌∷◌, ◌++◌, length, slice_get, Some, None, Ok, All};
 ghost use Rattle.guest_types.specs.Memory.{Memory, DoNotMeet, fetched, merged};
 ghost use Rattle.guest_types.specs.AfterStores.{AfterStores};
-ghost use Rattle.guest_types.specs.EarlyLoads.{never};
+ghost use Rattle.guest_types.specs.EarlyLoads.{StopList, never};
 ghost use Rattle.word_rows.specs.Row.{Instruction, reads};
 ghost use Rattle.a64_code.specs.Table as a64;
 ghost use Rattle.sve_code.specs.Table as sve;
 ghost use Rattle.machine_model.specs.Machine.{State, Went, memory_after};
 ghost use Rattle.machine_model.specs.InstructionTable.{Listed, Vector, listed};
-ghost use Rattle.machine_model.specs.CodeInMemory.{HasCode, AllListed, place_after, words_of};
+ghost use Rattle.machine_model.specs.CodeInMemory.{HasCode, AllListed, IsListed, spell, place_after, words_of};
 ghost use Rattle.machine_model.specs.Frames.{SameAccess};
 ghost use Rattle.machine_model.specs.Load.{Image, load};
 ghost use Rattle.machine_model.specs.Written.{file_of, code_base, image_of_words};
 ghost use Rattle.machine_model.specs.OneStep.{step, does, cuts_in, suppresses};
-ghost use Rattle.machine_model.specs.Run.{Spent, run, start, after_steps, is_over, steps_taken, memory_left, suppressed};
+ghost use Rattle.machine_model.specs.Run.{Spent, run, start, free_start, after_steps, is_over, steps_taken, memory_left, suppressed};
 ghost use Rattle.machine_model.specs.States.{IsState, CanStart};
 
 /// No word is both an A64 and an SVE instruction, so the SVE instruction of a word is what the joint table has for it.
@@ -51,10 +51,12 @@ pub fn suppressed_adds_up()
     ensures quiet { (n : ℕ) (s : State) → s.stops ≡ never → suppressed n s ≡ 0 }
 {}
 
-/// The start of a run is a state, and each step that goes on leads to one, whatever the word.
+/// The start of a run is a state, with any stop list, and each step that goes on leads to one, whatever the word.
 pub fn states_keep_shape()
     ensures start { (image : Image) (args : List ℕ) (pages : Memory) (vl : ℕ) → CanStart image args pages vl
         → IsState (start image args pages vl) }
+    ensures free { (image : Image) (args : List ℕ) (pages : Memory) (vl : ℕ) (stops : StopList)
+        → CanStart image args pages vl → IsState (free_start image args pages vl stops) }
     ensures step { (s t : State) → IsState s → step s ≡ Went t → IsState t }
     ensures steps { (n : ℕ) (s t : State) → IsState s → after_steps n s ≡ Some t → IsState t }
 {}
@@ -76,6 +78,11 @@ pub fn code_stays()
     ensures step { (s : State) (a : ℕ) → a < 2 ^ 64 → fetched (memory_after (step s) s) a ≡ fetched s.memory a }
     ensures run { (n taken : ℕ) (s : State) (a : ℕ) → a < 2 ^ 64
         → fetched (memory_left (run n taken s)) a ≡ fetched s.memory a }
+{}
+
+/// The word of an instruction that a row has is read as that instruction, of both tables.
+pub fn spelled_is_listed()
+    ensures { (i : Listed) → IsListed i → listed (spell i) ≡ Some i }
 {}
 
 /// Where code stands, a step does its first instruction, and suppresses what that does; and the code goes on standing there.

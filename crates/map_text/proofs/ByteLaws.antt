@@ -6,7 +6,7 @@ use Rattle.std.proofs.lemmas.List.{get_or-replicate}
 use Rattle.std.proofs.lemmas.List.Elements.{All-head, All-tail}
 use Rattle.std.specs.Option.{option_or}
 use Rattle.guest_types.specs.declared.memory.Perm.{Perm}
-use Rattle.guest_types.specs.Memory.{Page, Memory, IsMemory, DoNotMeet, can_read, put_byte, byte_at, byte_of, page_at, merged, after}
+use Rattle.guest_types.specs.Memory.{Page, Memory, IsMemory, DoNotMeet, can_read, put_byte, byte_at, byte_of, page_at, merged, next_address}
 use Rattle.guest_types.proofs.Writes.{byte_at-put_byte_same, byte_at-put_byte_other, IsMemory-put_byte, can_read-put_byte}
 use Rattle.guest_types.proofs.Merges.{page_at-place, page_at-merged, page_at-merged_right, page_at-absent}
 use Rattle.map_text.specs.Mapping.{put_bytes, zero_page, zero_pages}
@@ -18,7 +18,7 @@ same_some x y e = cc
 -- a first byte that was put, and the rest
 record First (memory m : Memory) (a b : ℕ) (bytes : List ℕ) : Type 0 where
   readable : can_read memory a ≡ true
-  rest : put_bytes (put_byte memory a b) (after a) bytes ≡ Some m
+  rest : put_bytes (put_byte memory a b) (next_address a) bytes ≡ Some m
 
 first : (memory m : Memory) (a b : ℕ) (bytes : List ℕ) → put_bytes memory a (b ∷ bytes) ≡ Some m → First memory m a b bytes
 unfolding put_bytes
@@ -38,8 +38,8 @@ kept_by memory m a b c [] low l e out = ap (λ (m : Memory). byte_at m c) (sym (
 kept_by memory m a b c (x ∷ bytes) low l e out =
     let f = first memory m b x bytes e in
     let same : b ≡ a = omega arith in
-    let next : after b ≡ (a + 1) % 2 ^ 64 = omega arith in
-    kept_by (put_byte memory b x) m (a + 1) (after b) c bytes next (omega arith) f.rest (away out)
+    let next : next_address b ≡ (a + 1) % 2 ^ 64 = omega arith in
+    kept_by (put_byte memory b x) m (a + 1) (next_address b) c bytes next (omega arith) f.rest (away out)
     ∙ byte_at-put_byte_other memory b x c (apart out same)
   where
     away : (c < a) ⊎ (a + length (x ∷ bytes) ≤ c) → (c < a + 1) ⊎ (a + 1 + length bytes ≤ c)
@@ -55,17 +55,17 @@ put_by memory m a b i [] is small low l e h = absurd (omega arith)
 put_by memory m a b zero (x ∷ bytes) is small low l e h =
     let f = first memory m b x bytes e in
     let same : a + zero ≡ b = omega arith in
-    let next : after b ≡ (a + 1) % 2 ^ 64 = omega arith in
+    let next : next_address b ≡ (a + 1) % 2 ^ 64 = omega arith in
     let under : b < a + 1 = omega arith in
     ap (byte_at m) same
-    ∙ kept_by (put_byte memory b x) m (a + 1) (after b) b bytes next (omega arith) f.rest (inl under)
+    ∙ kept_by (put_byte memory b x) m (a + 1) (next_address b) b bytes next (omega arith) f.rest (inl under)
     ∙ byte_at-put_byte_same memory b x is f.readable
 put_by memory m a b (suc i) (x ∷ bytes) is small low l e h =
     let f = first memory m b x bytes e in
-    let next : after b ≡ (a + 1) % 2 ^ 64 = omega arith in
+    let next : next_address b ≡ (a + 1) % 2 ^ 64 = omega arith in
     let at : a + suc i ≡ a + 1 + i = omega arith in
     ap (byte_at m) at
-    ∙ put_by (put_byte memory b x) m (a + 1) (after b) i bytes (IsMemory-put_byte memory b x is (All-head (λ b. b < 256) x bytes small)) (All-tail (λ b. b < 256) x bytes small) next (omega arith) f.rest (omega arith)
+    ∙ put_by (put_byte memory b x) m (a + 1) (next_address b) i bytes (IsMemory-put_byte memory b x is (All-head (λ b. b < 256) x bytes small)) (All-tail (λ b. b < 256) x bytes small) next (omega arith) f.rest (omega arith)
 
 pub kept : (memory m : Memory) (a c : ℕ) (bytes : List ℕ) → a + length bytes ≤ 2 ^ 64 → put_bytes memory a bytes ≡ Some m → (c < a) ⊎ (a + length bytes ≤ c) → byte_at m c ≡ byte_at memory c
 kept memory m a c [] l e out = ap (λ (m : Memory). byte_at m c) (sym (nothing memory m a e))
@@ -83,10 +83,10 @@ to_mapped : (memory : Memory) (a b : ℕ) (bytes : List ℕ) → b ≡ a % 2 ^ 6
 unfolding put_bytes
 to_mapped memory a b [] low l some = λ i h. absurd (omega arith)
 to_mapped memory a b (x ∷ bytes) low l some =
-    let next : after b ≡ (a + 1) % 2 ^ 64 = omega arith in
-    go (can_read memory b) refl (to_mapped (put_byte memory b x) (a + 1) (after b) bytes next (omega arith))
+    let next : next_address b ≡ (a + 1) % 2 ^ 64 = omega arith in
+    go (can_read memory b) refl (to_mapped (put_byte memory b x) (a + 1) (next_address b) bytes next (omega arith))
   where
-    go : (t : Bool) → can_read memory b ≡ t → (IsSome (put_bytes (put_byte memory b x) (after b) bytes) → AllMapped (put_byte memory b x) (a + 1) bytes) → AllMapped memory a (x ∷ bytes)
+    go : (t : Bool) → can_read memory b ≡ t → (IsSome (put_bytes (put_byte memory b x) (next_address b) bytes) → AllMapped (put_byte memory b x) (a + 1) bytes) → AllMapped memory a (x ∷ bytes)
     go false r rest i h = let no : false ≡ true = ap is_some (sym (cond-false _ _ _ r)) ∙ some in cc
     go true r rest zero h = let at : a + zero ≡ b = omega arith in ap (can_read memory) at ∙ r
     go true r rest (suc i) h =
@@ -98,10 +98,10 @@ unfolding put_bytes
 from_mapped memory a b [] low l each = refl
 from_mapped memory a b (x ∷ bytes) low l each =
     let at : b ≡ a + 0 = omega arith in
-    let next : after b ≡ (a + 1) % 2 ^ 64 = omega arith in
+    let next : next_address b ≡ (a + 1) % 2 ^ 64 = omega arith in
     let here = ap (can_read memory) at ∙ each 0 (omega arith) in
     ap is_some (cond-true _ _ _ here)
-    ∙ from_mapped (put_byte memory b x) (a + 1) (after b) bytes next (omega arith) (λ i h. later i h)
+    ∙ from_mapped (put_byte memory b x) (a + 1) (next_address b) bytes next (omega arith) (λ i h. later i h)
   where
     later : (i : ℕ) → i < length bytes → can_read (put_byte memory b x) (a + 1 + i) ≡ true
     later i h =

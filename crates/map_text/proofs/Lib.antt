@@ -1,4 +1,4 @@
-pub mod Parts
+pub mod LineWords
 pub mod Places
 pub mod Zeros
 pub mod Puts

@@ -3,7 +3,7 @@ use Rattle.std.proofs.Common.{◌≡◌, ℕ, ◌+◌, ◌<◌, ◌≤◌, true,
 use Rattle.std.specs.Prelude.{option_map}
 use Rattle.std.proofs.Math.Seq.{drop-cons}
 use Rattle.std.proofs.lemmas.Bool.{cond-true, cond-false}
-use Rattle.guest_types.specs.Memory.{Memory, can_read, put_byte, after}
+use Rattle.guest_types.specs.Memory.{Memory, can_read, put_byte, next_address}
 use Rattle.guest_types.proofs.Writes.{page_at-put_byte, page_numbers-put_byte, IsMemory-put_byte, after_write}
 use Rattle.guest_types.proofs.Merges.{empty_memory}
 use Rattle.map_text.specs.Mapping.{put_bytes, after_lines, map_of}
@@ -14,7 +14,7 @@ use Rattle.map_text.proofs.Places.{count_numbers}
 next : (memory : Memory) (address i : ℕ) (bytes : List ℕ) → i < length bytes → put_bytes memory address (drop i bytes) ≡ put_bytes memory address (get_or bytes i 0 ∷ drop (i + 1) bytes)
 next memory address i bytes l = ap (put_bytes memory address) (drop-cons bytes i 0 l ∙ ap (λ k. get_or bytes i 0 ∷ drop k bytes) (sym (add-one i)))
 
-pub put_more : (memory : Memory) (address i : ℕ) (bytes : List ℕ) → i < length bytes → can_read memory address ≡ true → put_bytes memory address (drop i bytes) ≡ put_bytes (put_byte memory address (get_or bytes i 0)) (after address) (drop (i + 1) bytes)
+pub put_more : (memory : Memory) (address i : ℕ) (bytes : List ℕ) → i < length bytes → can_read memory address ≡ true → put_bytes memory address (drop i bytes) ≡ put_bytes (put_byte memory address (get_or bytes i 0)) (next_address address) (drop (i + 1) bytes)
 unfolding put_bytes
 put_more memory address i bytes l readable = next memory address i bytes l ∙ cond-true _ _ _ readable
 

@@ -52,12 +52,12 @@ sets_bytes address bytes = if are_bytes address (length bytes) then Some (Sets a
 unfoldable pub sets_of : (address digits : List ℕ) → Option MapLine
 sets_of address digits = option_and_then (λ a. option_and_then (sets_bytes a) (bytes_of digits)) (number_of address)
 
-unfoldable pub form_of_words : List (List ℕ) → Option MapLine
-form_of_words (name ∷ address ∷ digits ∷ []) = if bytes_eq name (codes "set") then sets_of address digits else None
-form_of_words (name ∷ address ∷ count ∷ perm ∷ []) = if bytes_eq name (codes "map") then maps_of address count perm else None
-form_of_words _ = None
+unfoldable pub line_of_words : List (List ℕ) → Option MapLine
+line_of_words (name ∷ address ∷ digits ∷ []) = if bytes_eq name (codes "set") then sets_of address digits else None
+line_of_words (name ∷ address ∷ count ∷ perm ∷ []) = if bytes_eq name (codes "map") then maps_of address count perm else None
+line_of_words _ = None
 
 -- what a line says, where it is one of these
-unfoldable pub form_of : List ℕ → Option MapLine
-form_of [] = Some Blank
-form_of (b ∷ line) = if nat_eq b 35 then Some Blank else form_of_words (words_of (b ∷ line))
+unfoldable pub map_line_of : List ℕ → Option MapLine
+map_line_of [] = Some Blank
+map_line_of (b ∷ line) = if nat_eq b 35 then Some Blank else line_of_words (words_of (b ∷ line))

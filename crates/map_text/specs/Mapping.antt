@@ -4,10 +4,10 @@
 use Rattle.std.specs.Prelude.{ℕ, ◌+◌, ◌/◌, ◌&&◌, ◌||◌, Bool, List, [], ◌∷◌, length, map, replicate, Option, Some, None, Result, Ok, Err, nat_le, nat_lt, if◌then◌else◌}
 use Rattle.std.specs.List.{list_any, range_with_len}
 use Rattle.guest_types.specs.declared.memory.Perm.{Perm}
-use Rattle.guest_types.specs.Memory.{Page, Memory, can_read, page_numbers, put_byte, after, merged}
+use Rattle.guest_types.specs.Memory.{Page, Memory, can_read, page_numbers, put_byte, next_address, merged}
 use Rattle.map_text.specs.declared.fault.MapFault.{MapFault}
 use Rattle.map_text.specs.declared.fault.MapFault.TheVariants.{BadLine, Clash, Unmapped, TooManyPages}
-use Rattle.map_text.specs.Lines.{MapLine, Blank, Maps, Sets, form_of}
+use Rattle.map_text.specs.Lines.{MapLine, Blank, Maps, Sets, map_line_of}
 use Rattle.text_parts.specs.Parts.{lines_of}
 
 -- a number is one of so many from another on
@@ -29,7 +29,7 @@ zero_pages perm first count = map (zero_page perm) (range_with_len first count)
 unfoldable pub put_bytes : Memory → ℕ → List ℕ → Option Memory
 put_bytes memory address [] = Some memory
 put_bytes memory address (b ∷ bytes) =
-    if can_read memory address then put_bytes (put_byte memory address b) (after address) bytes else None
+    if can_read memory address then put_bytes (put_byte memory address b) (next_address address) bytes else None
 
 -- so many pages of zeros beside those mapped before and those of the image
 unfoldable pub with_pages : (image : Memory) (line : ℕ) → Perm → (first count : ℕ) → Memory → Result Memory MapFault
@@ -43,18 +43,18 @@ put_or_fault line (Some pages) = Ok pages
 put_or_fault line None = Err (Unmapped line)
 
 -- the pages after a line, by what it says
-abbrev pub after_form : (image : Memory) (line : ℕ) → MapLine → Memory → Result Memory MapFault
-after_form image line Blank pages = Ok pages
-after_form image line (Maps address count perm) pages = with_pages image line perm (address / 4096) count pages
-after_form image line (Sets address bytes) pages = put_or_fault line (put_bytes pages address bytes)
+abbrev pub after_map_line : (image : Memory) (line : ℕ) → MapLine → Memory → Result Memory MapFault
+after_map_line image line Blank pages = Ok pages
+after_map_line image line (Maps address count perm) pages = with_pages image line perm (address / 4096) count pages
+after_map_line image line (Sets address bytes) pages = put_or_fault line (put_bytes pages address bytes)
 
 abbrev pub after_read : (image : Memory) (line : ℕ) → Option MapLine → Memory → Result Memory MapFault
-after_read image line (Some form) pages = after_form image line form pages
+after_read image line (Some form) pages = after_map_line image line form pages
 after_read image line None pages = Err (BadLine line)
 
 -- the pages after a line
 unfoldable pub after_line : (image : Memory) (line : ℕ) → List ℕ → Memory → Result Memory MapFault
-after_line image line text pages = after_read image line (form_of text) pages
+after_line image line text pages = after_read image line (map_line_of text) pages
 
 abbrev pub and_then : Result Memory MapFault → (Memory → Result Memory MapFault) → Result Memory MapFault
 and_then (Ok pages) next = next pages

@@ -4,22 +4,22 @@ use Rattle.std.specs.Borrow.{Bor}
 use Rattle.guest_types.specs.Memory.{Memory, IsMemory, DoNotMeet, page_numbers}
 use Rattle.map_text.specs.declared.fault.MapFault.{MapFault}
 use Rattle.map_text.specs.declared.fault.MapFault.TheVariants as faults
-use Rattle.map_text.specs.declared.form.MapLine.{MapLine as ReadForm}
-use Rattle.map_text.specs.declared.form.MapLine.TheVariants as read
-use Rattle.map_text.specs.declared.form.MappedRange.{MappedRange}
-use Rattle.map_text.specs.declared.form.Patch.{Patch}
+use Rattle.map_text.specs.declared.map_line.MapLine.{MapLine as ReadLine}
+use Rattle.map_text.specs.declared.map_line.MapLine.TheVariants as read
+use Rattle.map_text.specs.declared.map_line.MappedRange.{MappedRange}
+use Rattle.map_text.specs.declared.map_line.Patch.{Patch}
 use Rattle.map_text.specs.Lines.{MapLine, Blank, Maps, Sets}
 
-abbrev pub span_view : MappedRange → MapLine
-span_view span = Maps span.address span.count span.perm
+abbrev pub range_view : MappedRange → MapLine
+range_view span = Maps span.address span.count span.perm
 
 abbrev pub patch_view : Patch → MapLine
 patch_view patch = Sets patch.address patch.bytes.items
 
-abbrev pub form_view : ReadForm → MapLine
-form_view read.Blank = Blank
-form_view (read.Maps span) = span_view span
-form_view (read.Sets patch) = patch_view patch
+abbrev pub line_view : ReadLine → MapLine
+line_view read.Blank = Blank
+line_view (read.Maps span) = range_view span
+line_view (read.Sets patch) = patch_view patch
 
 -- a fault is the wanted refusal, or want of memory, which alone is free
 abbrev pub Refuses : Result Memory MapFault → MapFault → Type 0
@@ -27,9 +27,9 @@ Refuses wanted faults.Memory = Unit {0}
 Refuses wanted fault = wanted ≡ Err fault
 
 -- a fault of a line's form alone
-abbrev pub IsFormFault : (line : ℕ) → Option MapLine → MapFault → Type 0
-IsFormFault line form faults.Memory = Unit {0}
-IsFormFault line form fault = (form ≡ None) × (fault ≡ faults.BadLine line)
+abbrev pub IsLineFault : (line : ℕ) → Option MapLine → MapFault → Type 0
+IsLineFault line form faults.Memory = Unit {0}
+IsLineFault line form fault = (form ≡ None) × (fault ≡ faults.BadLine line)
 
 -- pages that may stand beside those of an image
 pub record IsBeside (image pages : Memory) : Type 0 where

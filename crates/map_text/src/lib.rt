@@ -2,10 +2,10 @@
 #![tactic(auto)]
 
 pub mod fault;
-mod form;
 mod insert;
 pub mod laws;
 mod line;
+mod map_line;
 mod place;
 mod put;
 mod read;

@@ -1,11 +1,11 @@
-// What the words of a line spell.
+//! What the words of a line spell.
 
 ghost use Rattle.std.specs.Prelude.{◌≡◌, IfOk, option_map};
 ghost use Rattle.map_text.specs.Lines.{are_pages, are_bytes, maps_of, sets_of, perm_of, bytes_of};
-ghost use Rattle.map_text.specs.View.{span_view, patch_view};
+ghost use Rattle.map_text.specs.View.{range_view, patch_view};
 ghost use Rattle.number_text.specs.View.{items_in};
 
-use crate::form::{MappedRange, Patch};
+use crate::map_line::{MappedRange, Patch};
 use guest_types::memory::Perm;
 use hex::FromHexError;
 use number_text::number;
@@ -32,7 +32,7 @@ fn are_pages(address: u64, count: u64) -> bool
 // The pages that a line of these words maps.
 #[tactic(auto, unfolding(crate::specs::Lines::maps_of))]
 pub fn span(address: &[u8], count: &[u8], perm_word: &[u8]) -> Option<MappedRange>
-    ensures { option_map span_view result ≡ maps_of address.now count.now perm_word.now }
+    ensures { option_map range_view result ≡ maps_of address.now count.now perm_word.now }
 {
     let address = number(address)?;
     let count = number(count)?;

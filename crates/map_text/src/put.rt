@@ -1,4 +1,4 @@
-// Bytes of pages.
+//! Bytes of pages.
 
 ghost use Rattle.std.specs.Prelude.{◌≡◌, Ok, Err, IfErr, OnOk, Some, None, true, false};
 ghost use Rattle.guest_types.specs.Memory.{Memory, IsMemory, can_read, put_byte};
@@ -6,7 +6,7 @@ ghost use Rattle.map_text.specs.Mapping.{put_bytes, put_or_fault};
 ghost use Rattle.map_text.specs.View.{IsBeside, Refuses};
 
 use crate::fault::MapFault;
-use crate::form::Patch;
+use crate::map_line::Patch;
 use crate::place::place_of;
 use guest_types::memory::PageSpec;
 

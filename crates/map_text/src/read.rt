@@ -1,14 +1,14 @@
-// Reading the lines of a text.
+//! Reading the lines of a text.
 
 ghost use Rattle.std.specs.Prelude.{◌≡◌, ◌+◌, ◌≤◌, length, Some, Ok, IfOk, IfErr, OnOk};
 ghost use Rattle.guest_types.specs.Memory.{Memory, IsMemory, DoNotMeet};
-ghost use Rattle.map_text.specs.Lines.{form_of};
+ghost use Rattle.map_text.specs.Lines.{map_line_of};
 ghost use Rattle.map_text.specs.Mapping.{after_line, after_lines, map_of};
-ghost use Rattle.map_text.specs.View.{Refuses, IsBeside, IsFormFault, form_view};
+ghost use Rattle.map_text.specs.View.{Refuses, IsBeside, IsLineFault, line_view};
 
 use crate::fault::MapFault;
-use crate::form::MapLine;
 use crate::insert::add_pages;
+use crate::map_line::MapLine;
 use crate::put::set_bytes;
 use crate::words::form;
 use guest_types::image::{Image, PageMap};
@@ -17,9 +17,9 @@ use std::alloc::Global;
 use text_parts::cut;
 
 // What a line says, or why it is refused.
-fn form_or_fault(alloc: Global, line: u64, text: &[u8]) -> Result<MapLine, MapFault>
-    ensures found { IfOk result (λ found. form_of text.now ≡ Some (form_view found)) }
-    ensures refused { IfErr result (λ fault. IsFormFault line (form_of text.now) fault) }
+fn line_or_fault(alloc: Global, line: u64, text: &[u8]) -> Result<MapLine, MapFault>
+    ensures found { IfOk result (λ found. map_line_of text.now ≡ Some (line_view found)) }
+    ensures refused { IfErr result (λ fault. IsLineFault line (map_line_of text.now) fault) }
 {
     match form(alloc, text) {
         Ok(Some(form)) => Ok(form),
@@ -43,7 +43,7 @@ fn read_line(
     ensures beside { OnOk result (IsBeside image.now pages.new.items) }
     ensures refused { IfErr result (λ fault. Refuses (after_line image.now line text.now pages.old.items) fault) }
 {
-    match form_or_fault(alloc, line, text)? {
+    match line_or_fault(alloc, line, text)? {
         MapLine::Blank => Ok(()),
         MapLine::Maps(span) => add_pages(alloc, pages, image, line, span),
         MapLine::Sets(patch) => set_bytes(pages, line, &patch),

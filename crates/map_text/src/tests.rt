@@ -1,4 +1,4 @@
-// Maps beside no pages, and beside the one page of a small file.
+//! Maps beside no pages, and beside the one page of a small file.
 
 ghost use Rattle.std.specs.Prelude.{◌≡◌, ◌≤◌, length, IfOk};
 ghost use Rattle.guest_types.specs.Memory.{IsPage};

@@ -1,13 +1,13 @@
-// The words of a line.
+//! The words of a line.
 
 ghost use Rattle.std.specs.Prelude.{◌≡◌, None, IfOk, IfSome, IfNone, option_map};
-ghost use Rattle.map_text.specs.Lines.{form_of_words, form_of};
-ghost use Rattle.map_text.specs.View.{span_view, patch_view, form_view};
+ghost use Rattle.map_text.specs.Lines.{line_of_words, map_line_of};
+ghost use Rattle.map_text.specs.View.{range_view, patch_view, line_view};
 ghost use Rattle.map_text.specs.Worded.{words_view};
 ghost use Rattle.text_parts.specs.Parts.{words_of};
 
-use crate::form::{MapLine, MappedRange, Patch};
 use crate::line::{patch, span};
+use crate::map_line::{MapLine, MappedRange, Patch};
 use std::alloc::{AllocError, Global};
 use text_parts::cut;
 
@@ -21,10 +21,10 @@ pub struct LineWords<'a> {
 }
 
 // The words of a line, where there are three or four.
-#[tactic(auto, unfolding(crate::specs::Lines::form_of_words), using(crate::proofs::Parts::five_words, crate::proofs::Parts::some_part))]
+#[tactic(auto, unfolding(crate::specs::Lines::line_of_words), using(crate::proofs::LineWords::five_words, crate::proofs::LineWords::some_part))]
 fn words(line: &[u8]) -> Option<LineWords<'_>>
     ensures some { IfSome result (λ words. words_of line.now ≡ words_view words) }
-    ensures none { IfNone result (form_of_words (words_of line.now) ≡ None) }
+    ensures none { IfNone result (line_of_words (words_of line.now) ≡ None) }
 {
     let (name, Some(rest)) = cut(b' ', line) else {
         return None;
@@ -53,7 +53,7 @@ fn words(line: &[u8]) -> Option<LineWords<'_>>
 }
 
 fn maps(span: Option<MappedRange>) -> Option<MapLine>
-    ensures { option_map form_view result ≡ option_map span_view span }
+    ensures { option_map line_view result ≡ option_map range_view span }
 {
     match span {
         Some(span) => Some(MapLine::Maps(span)),
@@ -62,7 +62,7 @@ fn maps(span: Option<MappedRange>) -> Option<MapLine>
 }
 
 fn sets(patch: Option<Patch>) -> Option<MapLine>
-    ensures { option_map form_view result ≡ option_map patch_view patch }
+    ensures { option_map line_view result ≡ option_map patch_view patch }
 {
     match patch {
         Some(patch) => Some(MapLine::Sets(patch)),
@@ -71,9 +71,9 @@ fn sets(patch: Option<Patch>) -> Option<MapLine>
 }
 
 // What some words say.
-#[tactic(auto, unfolding(crate::specs::Lines::form_of_words))]
-fn form_of_words(alloc: Global, words: LineWords<'_>) -> Result<Option<MapLine>, AllocError>
-    ensures { IfOk result (λ o. option_map form_view o ≡ form_of_words (words_view words.entry)) }
+#[tactic(auto, unfolding(crate::specs::Lines::line_of_words))]
+fn line_of_words(alloc: Global, words: LineWords<'_>) -> Result<Option<MapLine>, AllocError>
+    ensures { IfOk result (λ o. option_map line_view o ≡ line_of_words (words_view words.entry)) }
 {
     match words.fourth {
         None => {
@@ -92,9 +92,9 @@ fn form_of_words(alloc: Global, words: LineWords<'_>) -> Result<Option<MapLine>,
 }
 
 // What a line says, where it has one of the forms.
-#[tactic(auto, unfolding(crate::specs::Lines::form_of))]
+#[tactic(auto, unfolding(crate::specs::Lines::map_line_of))]
 pub fn form(alloc: Global, line: &[u8]) -> Result<Option<MapLine>, AllocError>
-    ensures { IfOk result (λ o. option_map form_view o ≡ form_of line.now) }
+    ensures { IfOk result (λ o. option_map line_view o ≡ map_line_of line.now) }
 {
     let [first, ..] = line else {
         return Ok(Some(MapLine::Blank));
@@ -105,6 +105,6 @@ pub fn form(alloc: Global, line: &[u8]) -> Result<Option<MapLine>, AllocError>
     let Some(words) = words(line) else {
         return Ok(None);
     };
-    let form = form_of_words(alloc, words)?;
+    let form = line_of_words(alloc, words)?;
     Ok(form)
 }

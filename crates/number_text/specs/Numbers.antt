@@ -8,10 +8,10 @@ given None f other = other
 given (Some x) f other = f x
 
 -- what stands after these bytes at the front of a word
-unfoldable pub after : List ℕ → List ℕ → Option (List ℕ)
-after [] word = Some word
-after (b ∷ front) [] = None
-after (b ∷ front) (c ∷ word) = if c == b then after front word else None
+unfoldable pub following : List ℕ → List ℕ → Option (List ℕ)
+following [] word = Some word
+following (b ∷ front) [] = None
+following (b ∷ front) (c ∷ word) = if c == b then following front word else None
 
 abbrev pub is_digit : ℕ → Bool
 is_digit b = nat_le 48 b && nat_le b 57
@@ -48,4 +48,4 @@ hexadecimal_of digits = if are_digits is_hex_digit digits then small_value 16 di
 
 -- the number that a word spells
 unfoldable pub number_of : List ℕ → Option ℕ
-number_of word = given (after (codes "0x") word) hexadecimal_of (decimal_of word)
+number_of word = given (following (codes "0x") word) hexadecimal_of (decimal_of word)

@@ -3,13 +3,13 @@
 
 ghost use Rattle.std.specs.Prelude.{◌≡◌, ◌<◌, ◌≤◌, ◌^◌, MatchOption, option_map, List, ℕ};
 ghost use Rattle.std.specs.List.{list_all};
-ghost use Rattle.number_text.specs.Numbers.{after, is_digit, is_hex_digit, digit_value, value_of, small_value, are_digits, decimal_of, hexadecimal_of, number_of};
+ghost use Rattle.number_text.specs.Numbers.{following, is_digit, is_hex_digit, digit_value, value_of, small_value, are_digits, decimal_of, hexadecimal_of, number_of};
 ghost use Rattle.number_text.specs.View.{bytes_left};
 
 /// What stands after these bytes at the front of a word, where it begins with them.
-#[tactic(auto, unfolding(crate::specs::Numbers::after))]
-pub fn after<'a>(front: &[u8], word: &'a [u8]) -> Option<&'a [u8]>
-    ensures { option_map bytes_left result ≡ after front.now word.now }
+#[tactic(auto, unfolding(crate::specs::Numbers::following))]
+pub fn following<'a>(front: &[u8], word: &'a [u8]) -> Option<&'a [u8]>
+    ensures { option_map bytes_left result ≡ following front.now word.now }
 {
     let [byte, others @ ..] = front else {
         return Some(word);
@@ -18,7 +18,7 @@ pub fn after<'a>(front: &[u8], word: &'a [u8]) -> Option<&'a [u8]>
         return None;
     };
     if *first == *byte {
-        after(others, rest)
+        following(others, rest)
     } else {
         None
     }
@@ -127,7 +127,7 @@ fn hexadecimal(digits: &[u8]) -> Option<u64>
 pub fn number(word: &[u8]) -> Option<u64>
     ensures { result ≡ number_of word.now }
 {
-    match after(b"0x".as_slice(), word) {
+    match following(b"0x".as_slice(), word) {
         Some(digits) => hexadecimal(digits),
         None => decimal(word),
     }

@@ -1,6 +1,6 @@
-// Numbers, and words that are none.
+//! Numbers, and words that are none.
 
-use crate::{after, decimal, number};
+use crate::{decimal, following, number};
 
 #[test]
 fn numbers(rt: HostRuntime) {
@@ -21,8 +21,8 @@ fn no_numbers(rt: HostRuntime) {
 
 #[test]
 fn parts(rt: HostRuntime) {
-    assert!(rt; after(b"0x", b"0x1f") == Some(b"1f".as_slice()));
-    assert!(rt; after(b"0x", b"1f").is_none());
+    assert!(rt; following(b"0x", b"0x1f") == Some(b"1f".as_slice()));
+    assert!(rt; following(b"0x", b"1f").is_none());
     assert!(rt; decimal(b"0042") == Some(42));
     assert!(rt; decimal(b"0x2a").is_none());
 }

@@ -1,4 +1,4 @@
-// Texts of the outcomes of a file of three words that adds 1 to its argument.
+//! Texts of the outcomes of a file of three words that adds 1 to its argument.
 
 use crate::outcome_text;
 use machine_model::outcome::{Outcome, Stop, StopKind};

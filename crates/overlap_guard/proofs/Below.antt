@@ -5,10 +5,10 @@ use Rattle.std.proofs.lemmas.Bool.{leb-true, leb-false}
 use Rattle.std.specs.Prelude.{◌≤ℤ◌, ◌<ℤ◌, nat_le}
 use Rattle.guest_types.specs.declared.length.Width.{Width}
 use Rattle.machine_model.specs.Machine.{State, Went, x_at, next, jump}
-use Rattle.machine_model.specs.Arithmetic.{sum, difference, shifted, holds}
+use Rattle.machine_model.specs.Arithmetic.{sum, difference, shifted_word, holds}
 use Rattle.a64_code.specs.Table.{add}
 use Rattle.label_fix.specs.DraftRun.{Entry, Branch, If, Laid, following, address_of, effect, word_of}
-use Rattle.label_fix.proofs.Steps.{Goes, put_goes, taken_goes, passed_goes, chain}
+use Rattle.label_fix.proofs.StretchSteps.{Goes, put_goes, taken_goes, passed_goes, chain}
 use Rattle.dependence.specs.declared.used.Used.{Used}
 use Rattle.dependence.specs.Apart.{base_in, begin_in, end_in, IsBased}
 use Rattle.overlap_guard.specs.Guard.{IsFit, log_bytes, bound_at, offset_at, below_code}
@@ -34,7 +34,7 @@ offset_does s (negsuc c) = refl
 element_does : (s : State) (d p b x : ℕ) (w : Width) → x_at s p ≡ b → x_at s d ≡ x → effect (word_of add (d ∷ p ∷ log_bytes w ∷ d ∷ 0 ∷ [])) s ≡ Went (wrote s d (element_word w b x))
 element_does s d p b x w e f = ap₂ (λ b x. Went (wrote s d (element_word w b x))) e f
 
-low : (v : ℕ) → v < 2 ^ 64 → shifted 0 v 0 ≡ v
+low : (v : ℕ) → v < 2 ^ 64 → shifted_word 0 v 0 ≡ v
 low v h = omega (arith, h)
 
 rest_low : (v : ℕ) → v % 2 ^ 64 < 2 ^ 64
@@ -76,7 +76,7 @@ module _ (D : Laid) (args : List ℕ) (r n : ℕ) (reg : r ≤ 7) (few : n < 2 ^
       let g : Goes D (below_code r ok u v rest) s (Branch (If 2) ok ∷ rest) s5 5 =
       chain 5 (omega arith) (put_goes (bound_does s r n u.greatest reg ent.bound))
       (chain 4 (omega arith) (put_goes w2) (chain 3 (omega arith) (put_goes (offset_does s2 v.least)) (chain 2 (omega arith) (put_goes w4) (put_goes refl)))) in
-      let flag : holds 2 s5.flags ≡ nat_le v2 v4 = ap₂ (λ a b. nat_le (shifted 0 b 0) a) e27 e26 ∙ ap (λ b. nat_le b v4) (low v2 (rest_low _)) in
+      let flag : holds 2 s5.flags ≡ nat_le v2 v4 = ap₂ (λ a b. nat_le (shifted_word 0 b 0) a) e27 e26 ∙ ap (λ b. nat_le b v4) (low v2 (rest_low _)) in
       let e = end-is u.width n (base_in args u) u.greatest few bu.0 bu.1 fu.2 in
       let b = begin-is v.width (base_in args v) v.least bv.0 bv.1 fv.1 in
       by (nat_le v2 v4) s5 v2 v4 refl flag g k5 e b

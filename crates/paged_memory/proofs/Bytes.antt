@@ -7,7 +7,7 @@ use Rattle.std.proofs.Math.Nat.{pow-le-pow_right, pow-suc}
 use Rattle.std.proofs.Math.Dec.{lit<}
 use borrow.Rule.Slice.PartMut.{put_mid}
 use Rattle.guest_types.proofs.Numbers.{shifted, bytes_of-mod}
-use Rattle.guest_types.specs.Elements.{number_of, bytes_of}
+use Rattle.guest_types.specs.Elements.{number_of_bytes, bytes_of}
 use Rattle.paged_memory.specs.Numbers.{number_in, with_number}
 
 -- the number of k bytes from place at + o on, lowest byte first
@@ -15,19 +15,19 @@ abbrev pub number_from : List ℕ → ℕ → ℕ → ℕ → ℕ
 number_from bs at o zero = 0
 number_from bs at o (suc k) = slice_index bs (at + o) + 256 * number_from bs at (suc o) k
 
-numbers : (bs : List ℕ) (at o k : ℕ) → at + o + k ≤ length bs → number_of (take k (drop (at + o) bs)) ≡ number_from bs at o k
+numbers : (bs : List ℕ) (at o k : ℕ) → at + o + k ≤ length bs → number_of_bytes (take k (drop (at + o) bs)) ≡ number_from bs at o k
 numbers bs at o zero l = refl
 numbers bs at o (suc k) l =
     let e : (at + o) + 1 ≡ at + suc o = omega arith in
-    ap (λ bs. number_of (take (suc k) bs)) (drop_more bs (at + o) 0 (omega arith))
-    ∙ ap (λ n. slice_index bs (at + o) + 256 * number_of (take k (drop n bs))) e
+    ap (λ bs. number_of_bytes (take (suc k) bs)) (drop_more bs (at + o) 0 (omega arith))
+    ∙ ap (λ n. slice_index bs (at + o) + 256 * number_of_bytes (take k (drop n bs))) e
     ∙ ap (λ n. slice_index bs (at + o) + 256 * n) (numbers bs at (suc o) k (omega arith))
 
 pub number_in-bytes : (bs : List ℕ) (at k : ℕ) → at + suc k ≤ length bs → number_in bs at (suc k) ≡ slice_index bs at + 256 * number_from bs at 1 k
 unfolding number_in
 number_in-bytes bs at k l =
     let e : at + 0 ≡ at = omega arith in
-    ap (λ n. number_of (take (suc k) (drop n bs))) (sym e) ∙ numbers bs at 0 (suc k) (omega arith) ∙ ap (λ n. slice_index bs n + 256 * number_from bs at 1 k) e
+    ap (λ n. number_of_bytes (take (suc k) (drop n bs))) (sym e) ∙ numbers bs at 0 (suc k) (omega arith) ∙ ap (λ n. slice_index bs n + 256 * number_from bs at 1 k) e
 
 -- ---- bytes of numbers
 

@@ -1,9 +1,9 @@
 pub mod Bytes
 mod Examples
-pub mod Found
+pub mod HeadPlaces
 pub mod LoanLaws
 pub mod Merging
 pub mod Places
 pub mod Puts
 pub mod RunLaws
-pub mod Within
+pub mod OnePage

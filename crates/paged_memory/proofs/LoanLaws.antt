@@ -10,7 +10,7 @@ use Rattle.guest_types.specs.Spans.{span_of, with_span, bytes_or_none}
 use Rattle.paged_memory.specs.declared.head.Head.{Head}
 use Rattle.paged_memory.specs.Layout.{memory_of, head_numbers, IsLaidOut, StandsAt}
 use Rattle.paged_memory.specs.Loans.{place_in, start_of, all_bytes, run_of, with_all, put_at, refilled, with_run, after_loan, IsPlaceOf}
-use Rattle.paged_memory.proofs.Found.{found}
+use Rattle.paged_memory.proofs.HeadPlaces.{found}
 use Rattle.paged_memory.proofs.Places.{IsFirst, first-stands, length-memory_of}
 
 pub all_bytes-memory_of : (heads : List Head) (bs : List ℕ) → length bs ≡ 4096 * length heads → all_bytes (memory_of heads bs) ≡ bs

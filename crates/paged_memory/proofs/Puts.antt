@@ -5,14 +5,14 @@ use Rattle.std.proofs.Math.Nat.{mul-suc}
 use Rattle.std.proofs.Math.Seq.{take-set-lt}
 use Rattle.std.proofs.lemmas.Bool.{cond-true, cond-false, eq-eqb, ne_eqb}
 use Rattle.std.proofs.lemmas.List.{length-set, take-set-le, drop-set-lt, drop-set-add}
-use Rattle.guest_types.specs.Memory.{put_byte, put_number, after, is_writable, stored}
+use Rattle.guest_types.specs.Memory.{put_byte, put_number, next_address, is_writable, stored}
 use Rattle.guest_types.proofs.Stores.{stored-done}
 use Rattle.paged_memory.specs.declared.head.Head.{Head}
 use Rattle.paged_memory.specs.Layout.{memory_of, head_numbers, IsLaidOut, StandsAt}
 use Rattle.paged_memory.specs.Numbers.{with_number}
 use Rattle.paged_memory.proofs.Bytes.{with_number-zero, with_number-suc, length-with_number}
 use Rattle.paged_memory.proofs.Places.{IsFirst, first-stands, page_of, page_at-stands}
-use Rattle.paged_memory.proofs.Within.{writable-within}
+use Rattle.paged_memory.proofs.OnePage.{writable-within}
 
 put_byte-first : (heads : List Head) (bs : List ℕ) (a b i : ℕ) → i < length heads → slice_index (head_numbers heads) i ≡ a / 4096 → IsFirst heads (a / 4096) i → put_byte (memory_of heads bs) a b ≡ memory_of heads (slice_set bs (4096 * i + a % 4096) b)
 put_byte-first [] bs a b i l here first = absurd (omega arith)
@@ -45,10 +45,10 @@ put_number-first heads bs a (suc zero) v n i first stands low here fits long =
 put_number-first heads bs a (suc (suc s)) v n i first stands low here fits long =
     let at = 4096 * i + a % 4096 in
     let b = v % 256 in
-    let same : after a / 4096 ≡ n = omega arith in
-    let up : 4096 * i + after a % 4096 ≡ at + 1 = omega arith in
-    ap (λ m. put_number m (after a) (suc s) (v / 256)) (put_byte-first heads bs a b i stands.below (stands.here ∙ sym here) (λ k l e. first k l (e ∙ here)))
-    ∙ put_number-first heads (slice_set bs at b) (after a) (suc s) (v / 256) n i first stands (omega arith) same (omega arith) (length-set bs at b ∙ long)
+    let same : next_address a / 4096 ≡ n = omega arith in
+    let up : 4096 * i + next_address a % 4096 ≡ at + 1 = omega arith in
+    ap (λ m. put_number m (next_address a) (suc s) (v / 256)) (put_byte-first heads bs a b i stands.below (stands.here ∙ sym here) (λ k l e. first k l (e ∙ here)))
+    ∙ put_number-first heads (slice_set bs at b) (next_address a) (suc s) (v / 256) n i first stands (omega arith) same (omega arith) (length-set bs at b ∙ long)
     ∙ ap (λ n. memory_of heads (with_number (slice_set bs at b) n (suc s) (v / 256))) up
     ∙ ap (memory_of heads) (sym (with_number-suc bs at (suc s) v (omega (arith, stands.below))))
 

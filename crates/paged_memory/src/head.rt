@@ -1,4 +1,4 @@
-// The heads of pages.
+//! The heads of pages.
 
 ghost use Rattle.std.specs.Prelude.{◌≡◌};
 ghost use Rattle.guest_types.specs.Memory.{is_writable, is_executable};

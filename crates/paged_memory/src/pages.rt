@@ -1,4 +1,4 @@
-// The pages of a guest.
+//! The pages of a guest.
 
 ghost use Rattle.std.specs.Prelude.{◌≡◌, ℕ, ◌+◌, ◌^◌, ◌<◌, ◌≤◌, length, Ok, Err, OnOk, OnErr, IfOk, IfErr, All};
 ghost use Rattle.guest_types.specs.Spans.{in_one_page, has_span, has_span_mut, span_of};

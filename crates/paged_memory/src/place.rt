@@ -1,4 +1,4 @@
-// The places of pages among their heads.
+//! The places of pages among their heads.
 
 ghost use Rattle.std.specs.Prelude.{◌≡◌, ◌≢◌, ℕ, ◌<◌, ◌≤◌, ◌↔◌, All, IfSome, IfNone, IsTrue};
 ghost use Rattle.std.specs.List.Sorted.{IsStrictlyIncreasing};

@@ -1,4 +1,4 @@
-// Pages that are laid out by hand, and what they answer.
+//! Pages that are laid out by hand, and what they answer.
 
 ghost use Rattle.std.specs.Prelude.{◌+◌, ◌≤◌, ◌<◌, ◌^◌};
 

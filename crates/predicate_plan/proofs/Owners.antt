@@ -6,11 +6,11 @@ use Rattle.std.proofs.lemmas.List.{get_or-append_right, length-replicate}
 use Rattle.kernel_tree.specs.declared.ops.Ty.{Ty}
 use Rattle.kernel_tree.specs.Plain.{Term, Literal, Variable, Element, Unary, Operation, Shift, Conversion, Choice, Comparison, Both, Either, Not, Action, Define, Put, Update, Choose, Leave, Block, Done, Then, Otherwise, Nothing, Else, PlainLoop, Program}
 use Rattle.kernel_tree.specs.Items.{index_of, stream_offset, term_size, index_size, action_size, block_size, otherwise_size}
-use Rattle.kernel_tree.specs.Typing.{Scope, own, first, side_type, defined, after_action, after_block, left, in_loop, var_scope}
+use Rattle.kernel_tree.specs.Typing.{Scope, own, first, side_type, after_action, after_block, left, in_loop, var_scope}
+use Rattle.kernel_tree.proofs.Scopes.{index_after, scope_index}
+use Rattle.kernel_tree.specs.Kinds.{IsValue, IsTruth, ActionKinds, BlockKinds, OtherwiseKinds}
 use Rattle.loop_form.specs.LoopItems.{Item, Bound, array_type, accumulator_of, truth_home, load_item, store_item, term_items, cond_items, after_env, action_items, block_items, otherwise_items, loop_env, loop_items}
 use Rattle.loop_form.specs.Entries.{loop_start}
-use Rattle.chunk_order.proofs.OrderLaw.{scope_index}
-use Rattle.vector_order.proofs.Forms.{ValueForm, CondForm, ActionForm, BlockForm, OtherwiseForm}
 use Rattle.predicate_plan.specs.declared.part.MaskPart.{MaskPart}
 use Rattle.predicate_plan.specs.Masks.{meets, and_part, inner_masks, term_masks, action_masks, block_masks, otherwise_masks, mask_at, loop_masks, masks_of}
 use Rattle.predicate_plan.specs.Owners.{is_on, AreSettled, AreOwned}
@@ -38,7 +38,7 @@ absorbed false false h = refl
 left_part : (a b t : Bool) → t ≡ (a && b) → t ≡ true → a ≡ true
 left_part a b t e h = (and_parts a b (sym e ∙ h)).0
 
-home-is : (index : Option (List ℕ)) (from : ℕ) (c : Term) → CondForm c → truth_home index from c ≡ from + term_size index c - 1
+home-is : (index : Option (List ℕ)) (from : ℕ) (c : Term) → IsTruth c → truth_home index from c ≡ from + term_size index c - 1
 home-is index from (Comparison op a b) f = omega arith
 home-is index from (Both a b) f = omega arith
 home-is index from (Either a b) f = omega arith
@@ -51,17 +51,6 @@ home-is index from (Operation op a b) f = absurd f
 home-is index from (Shift left e n) f = absurd f
 home-is index from (Conversion e t) f = absurd f
 home-is index from (Choice c a b) f = absurd f
-
-defined-index : (scope : Scope) (x : List ℕ) (o : Option Ty) → (defined scope x o).index ≡ scope.index
-defined-index scope x None = refl
-defined-index scope x (Some t) = refl
-
-after-index : (scope : Scope) (s : Action) → (after_action scope s).index ≡ scope.index
-after-index scope (Define x t e) = defined-index scope x (first t (own scope e))
-after-index scope (Put a i e) = refl
-after-index scope (Update x op e) = refl
-after-index scope (Choose c b d) = refl
-after-index scope (Leave c) = refl
 
 module _ (masks : ℕ → List MaskPart) (truth : ℕ → Bool) where
   abbrev Owned : List Item → Type 0
@@ -81,9 +70,9 @@ module _ (masks : ℕ → List MaskPart) (truth : ℕ → Bool) where
   load_owned scope mask from env a i (Some c) ms rest h g st k = (h ∙ ap (meets truth) (sym (ap masks (let e : from + 0 ≡ from = omega arith in e) ∙ g.0)), k st.1)
 
   record Owns (t : Term) : Type 0 where
-    value : ValueForm t → (scope : Scope) (want : Option Ty) (mask : Option ℕ) (from : ℕ) (env : List Bound) (ms : List MaskPart) (rest : List Item) → is_on truth mask ≡ meets truth ms → Agree masks from (term_masks scope.index from ms t)
+    value : IsValue t → (scope : Scope) (want : Option Ty) (mask : Option ℕ) (from : ℕ) (env : List Bound) (ms : List MaskPart) (rest : List Item) → is_on truth mask ≡ meets truth ms → Agree masks from (term_masks scope.index from ms t)
         → AreSettled truth (term_items scope want mask from env t rest) → (AreSettled truth rest → Owned rest) → Owned (term_items scope want mask from env t rest)
-    cond : CondForm t → (scope : Scope) (mask : Option ℕ) (from : ℕ) (env : List Bound) (ms : List MaskPart) (rest : List Item) → is_on truth mask ≡ meets truth ms → Agree masks from (term_masks scope.index from ms t)
+    cond : IsTruth t → (scope : Scope) (mask : Option ℕ) (from : ℕ) (env : List Bound) (ms : List MaskPart) (rest : List Item) → is_on truth mask ≡ meets truth ms → Agree masks from (term_masks scope.index from ms t)
         → AreSettled truth (cond_items scope mask from env t rest) → (AreSettled truth rest → (truth (truth_home scope.index from t) ≡ true → is_on truth mask ≡ true) → Owned rest) → Owned (cond_items scope mask from env t rest)
 
   -- the item after some others
@@ -130,9 +119,9 @@ module _ (masks : ℕ → List MaskPart) (truth : ℕ → Bool) where
         let front = agree_append masks from (term_size scope.index a) (term_masks scope.index from ms a) _ (term_count scope.index a from ms) g in
         let middle = agree_append masks next (term_size scope.index b) (term_masks scope.index next ms b) _ (term_count scope.index b next ms) front.1 in
         let parts = one_operand scope.index last ms c middle.1 in
-        (owns a).value f.1 scope want mask from env ms _ h front.0 st (λ s.
-        (owns b).value f.2 scope want mask next env ms _ h middle.0 s (λ s2.
-        (owns c).cond f.0 scope mask last env ms _ h parts.0 s2 (λ s3 _. (item_met mask ms _ _ h parts.1 refl, k s3.1))));
+        (owns a).value f.0 scope want mask from env ms _ h front.0 st (λ s.
+        (owns b).value f.1 scope want mask next env ms _ h middle.0 s (λ s2.
+        (owns c).cond f.2 scope mask last env ms _ h parts.0 s2 (λ s3 _. (item_met mask ms _ _ h parts.1 refl, k s3.1))));
     cond = λ f. absurd f;
   }
   owns (Comparison op a b) = record {
@@ -181,7 +170,7 @@ module _ (masks : ℕ → List MaskPart) (truth : ℕ → Bool) where
   store_owned scope mask q env a (Some c) v ms rest h st k = (h, k st.1)
 
   mutual
-    action_owned : (s : Action) → ActionForm s → (scope : Scope) (mask : Option ℕ) (from : ℕ) (env : List Bound) (ms : List MaskPart) (rest : List Item) → is_on truth mask ≡ meets truth ms → Agree masks from (action_masks scope.index from ms s)
+    action_owned : (s : Action) → ActionKinds s → (scope : Scope) (mask : Option ℕ) (from : ℕ) (env : List Bound) (ms : List MaskPart) (rest : List Item) → is_on truth mask ≡ meets truth ms → Agree masks from (action_masks scope.index from ms s)
         → AreSettled truth (action_items scope mask from env s rest) → (AreSettled truth rest → Owned rest) → Owned (action_items scope mask from env s rest)
     action_owned (Define x t e) f scope mask from env ms rest h g st k =
         let parts = one_operand scope.index from ms e g in
@@ -210,16 +199,16 @@ module _ (masks : ℕ → List MaskPart) (truth : ℕ → Bool) where
         let parts = one_operand scope.index from ms c g in
         (owns c).cond f scope mask from env ms _ h parts.0 st (λ s _. (item_met mask ms _ _ h parts.1 refl, k s.1))
 
-    block_owned : (b : Block) → BlockForm b → (scope : Scope) (mask : Option ℕ) (from : ℕ) (env : List Bound) (ms : List MaskPart) (rest : List Item) → is_on truth mask ≡ meets truth ms → Agree masks from (block_masks scope.index from ms b)
+    block_owned : (b : Block) → BlockKinds b → (scope : Scope) (mask : Option ℕ) (from : ℕ) (env : List Bound) (ms : List MaskPart) (rest : List Item) → is_on truth mask ≡ meets truth ms → Agree masks from (block_masks scope.index from ms b)
         → AreSettled truth (block_items scope mask from env b rest) → (AreSettled truth rest → Owned rest) → Owned (block_items scope mask from env b rest)
     block_owned Done f scope mask from env ms rest h g st k = k st
     block_owned (Then s b) f scope mask from env ms rest h g st k =
         let parts = agree_append masks from (action_size scope.index s) (action_masks scope.index from ms s) (block_masks scope.index (from + action_size scope.index s) ms b) (action_count scope.index s from ms) g in
         action_owned s f.0 scope mask from env ms _ h parts.0 st (λ s2.
         block_owned b f.1 (after_action scope s) mask (from + action_size scope.index s) (after_env scope from env s) ms rest h
-        (subst (λ i. Agree masks (from + action_size scope.index s) (block_masks i (from + action_size scope.index s) ms b)) (sym (after-index scope s)) parts.1) s2 k)
+        (subst (λ i. Agree masks (from + action_size scope.index s) (block_masks i (from + action_size scope.index s) ms b)) (sym (index_after scope s)) parts.1) s2 k)
 
-    otherwise_owned : (d : Otherwise) → OtherwiseForm d → (scope : Scope) (mask : Option ℕ) (from q c : ℕ) (env : List Bound) (ms : List MaskPart) (rest : List Item) → is_on truth mask ≡ meets truth ms → q ≡ c → Agree masks from (otherwise_masks scope.index from ms (and_part ms c false) d)
+    otherwise_owned : (d : Otherwise) → OtherwiseKinds d → (scope : Scope) (mask : Option ℕ) (from q c : ℕ) (env : List Bound) (ms : List MaskPart) (rest : List Item) → is_on truth mask ≡ meets truth ms → q ≡ c → Agree masks from (otherwise_masks scope.index from ms (and_part ms c false) d)
         → AreSettled truth (otherwise_items scope mask from q env d rest) → (AreSettled truth rest → Owned rest) → Owned (otherwise_items scope mask from q env d rest)
     otherwise_owned Nothing f scope mask from q c env ms rest h e g st k = k st
     otherwise_owned (Else b) f scope mask from q c env ms rest h e g st k =
@@ -242,7 +231,7 @@ turns_agree from l =
 
 -- In a lane whose truths are those that the items of the loop leave, each item is done exactly where all parts of its mask
 -- are met.
-pub owners_met : (k : Program) (l : PlainLoop) (truth : ℕ → Bool) → k.turns ≡ Some l → BlockForm l.body → AreSettled truth (loop_items k l) → AreOwned (mask_at (masks_of k)) truth (loop_items k l)
+pub owners_met : (k : Program) (l : PlainLoop) (truth : ℕ → Bool) → k.turns ≡ Some l → BlockKinds l.body → AreSettled truth (loop_items k l) → AreOwned (mask_at (masks_of k)) truth (loop_items k l)
 owners_met k l truth loop form settled =
     let from = loop_start k in
     let scope = in_loop (var_scope k) l in

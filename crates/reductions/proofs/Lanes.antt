@@ -1,5 +1,5 @@
 -- Updates and reductions of an accumulator in the lanes.
-use Rattle.std.proofs.Common.{◌≡◌, ℕ, ◌+◌, ◌%◌, ◌^◌, ◌<◌, ◌≤◌, ℤ, ◌+ℤ◌, Bool, true, false, cond, List, [], ◌∷◌, refl, sym, ap, ap₂, ◌∙◌, subst, arith, bit_and, bit_or, bit_xor, get_or-set_same, get_or-set_other}
+use Rattle.std.proofs.Common.{◌≡◌, ℕ, ◌+◌, ◌%◌, ◌^◌, ◌<◌, ◌≤◌, ℤ, ◌+ℤ◌, Bool, true, false, cond, [], ◌∷◌, refl, sym, ap, ap₂, ◌∙◌, subst, arith, bit_and, bit_or, bit_xor, get_or-set_same}
 use Rattle.std.specs.Prelude.{if◌then◌else◌}
 use Rattle.std.specs.Int.{int_min, int_max}
 use Rattle.guest_types.specs.declared.length.Width.{Width}
@@ -19,23 +19,24 @@ use Rattle.kernel_tree.specs.Wrap.{residue, bits_of, is_signed}
 use Rattle.kernel_meaning.specs.Operators.{word}
 use Rattle.machine_model.specs.Machine.{State, z_at, with_z, p_at, next}
 use Rattle.machine_model.specs.VectorEffects.{do_vector, put_lanes}
-use Rattle.machine_model.proofs.States.{lanes_put}
+use Rattle.machine_model.proofs.StateSteps.{lanes_put}
 use Rattle.sve_code.specs.Table as sve
 use Rattle.lane_emit.specs.Right.{IsOf}
 use Rattle.lane_emit.specs.Stretch as stretch
-use Rattle.lane_emit.specs.Stretch.{Word, do_all, and_then, OnlyZ, Ready}
+use Rattle.lane_emit.specs.Stretch.{do_all, and_then}
 use Rattle.lane_emit.specs.LaneCode.{size_of}
 use Rattle.lane_emit.proofs.Ranges.{InBits, wrap-of}
 use Rattle.lane_emit.proofs.Residues.{held, held-whole, held-word, add-held, and-held, or-held, xor-held}
 use Rattle.lane_emit.proofs.Orders.{smin-held, smax-held, umin-held, umax-held}
-use Rattle.lane_emit.proofs.Tops.{and-kept, or-kept, xor-kept}
+use Rattle.lane_emit.proofs.ExtendedLanes.{and-kept, or-kept, xor-kept}
 use Rattle.lane_emit.proofs.Stretches.{width-size}
 use Rattle.lane_emit.proofs.Throughout.{dup_z}
 use Rattle.lane_emit.proofs.Values.{in_lane}
 use Rattle.reductions.specs.Joins as joins
 use Rattle.reductions.specs.AccumulatorLanes.{Holds, update_name, StartIsIdentity, UpdateIsTaken}
-use Rattle.reductions.proofs.Laws as laws
-use Rattle.reductions.proofs.Laws.{min_of, max_of}
+use Rattle.reductions.proofs.JoinLaws as laws
+use Rattle.reductions.proofs.JoinLaws.{min_of, max_of}
+pub use Rattle.lane_emit.proofs.Stretches.{only_wrote as only_z}
 
 -- ---- one lane
 
@@ -181,9 +182,6 @@ update_does op t w s z m a = by op ∙ ap (λ k. put_lanes s z k (merge_at (lane
     by update.Xor = refl
     by update.Min = least (is_signed t)
     by update.Max = greatest (is_signed t)
-
-pub only_z : (d : ℕ) (s : State) (bytes : List ℕ) → OnlyZ d s (next (with_z s d bytes))
-only_z d s bytes = record { memory = refl; x = refl; sp = refl; flags = refl; z = λ n ne. get_or-set_other s.z d n bytes [] ne; p = refl; ffr = refl; vl = refl; stops = refl }
 
 one_lane : (op : UpdateOp) (t : Ty) (w : Width) → bits_of t ≤ width_bits w → (c b : Bool) → c ≡ b → (x y : ℕ) (v u : ℤ) → IsOf t v × IsOf t u × (b ≡ true → y ≡ held w u) → Holds op t w x v → Holds op t w (cond c (lane (lane_op op t) (modulus w) x y) x) (cond b (joins.joined op t v u) v)
 one_lane op t w wide true true e x y v u given h = subst (λ k. Holds op t w (lane (lane_op op t) (modulus w) x k) (joins.joined op t v u)) (sym (given.2 refl)) (takes_in t w wide op x v u given.0 given.1 h)

@@ -1,4 +1,4 @@
-pub mod Laws
+pub mod JoinLaws
 pub mod Orders
 pub mod Shares
 pub mod Lanes

@@ -5,7 +5,7 @@ use Rattle.kernel_tree.specs.declared.ops.UpdateOp.{UpdateOp}
 use Rattle.lane_emit.specs.Right.{IsOf}
 use Rattle.reductions.specs.Joins.{joined, identity, Joins}
 use Rattle.reductions.specs.Folds.{after_all, after_lanes, taken, together, AreOf, FoldIsOrdered, ChunkIsTaken}
-use Rattle.reductions.proofs.Laws.{joins}
+use Rattle.reductions.proofs.JoinLaws.{joins}
 
 module _ (op : UpdateOp) (t : Ty) where
   law : Joins op t

@@ -22,8 +22,8 @@ use Rattle.kernel_tree.specs.declared.ops.UpdateOp.{UpdateOp}
 use Rattle.kernel_tree.specs.declared.ops.UpdateOp.TheVariants as update
 use Rattle.kernel_tree.specs.Wrap.{residue, bits_of, is_signed}
 use Rattle.machine_model.specs.Machine.{State, Went, z_at, with_z, p_at, next}
-use Rattle.machine_model.specs.VectorEffects.{do_vector}
-use Rattle.machine_model.proofs.States.{vector_made, one_put}
+use Rattle.machine_model.specs.VectorEffects.{reduced, do_vector}
+use Rattle.machine_model.proofs.StateSteps.{vector_made, one_put}
 use Rattle.sve_code.specs.Table as sve
 use Rattle.lane_emit.specs.Right.{IsOf}
 use Rattle.lane_emit.specs.Stretch as stretch
@@ -32,12 +32,12 @@ use Rattle.lane_emit.specs.LaneCode.{size_of}
 use Rattle.lane_emit.proofs.Ranges.{InBits}
 use Rattle.lane_emit.proofs.Residues.{held, held-below}
 use Rattle.lane_emit.proofs.Orders.{smin-held, smax-held}
-use Rattle.lane_emit.proofs.Parts.{Small, small_all, at-part}
+use Rattle.lane_emit.proofs.BitwiseLanes.{Small, small_all, at-part}
 use Rattle.lane_emit.proofs.Stretches.{width-size}
 use Rattle.reductions.specs.Joins as joins
 use Rattle.reductions.specs.Folds.{together}
 use Rattle.reductions.specs.AccumulatorLanes.{Holds, reduce_name, ReductionIsTogether}
-use Rattle.reductions.proofs.Laws as laws
+use Rattle.reductions.proofs.JoinLaws as laws
 use Rattle.reductions.proofs.Orders.{together_of}
 use Rattle.reductions.proofs.Lanes.{low_sum, through, at_most_64, low_held, low_joined, takes_in, ranged, only_z}
 
@@ -178,25 +178,25 @@ one_fits vl D h = omega arith
 -- a result in the lowest element
 low_result : (t : Ty) (vl : ℕ) (w : Width) (r : ℕ) → IsLength vl → bits_of t ≤ width_bits w → at D (register (width_bytes w) (dup_at r) 1) 0 % 2 ^ bits_of t ≡ r % 2 ^ bits_of t
 low_result t vl w r h wide =
-    let z = register (width_bytes w) (dup_at r) 1 in
+    let z = reduced w r in
     let small = small_all z (vector_made vl (width_bytes w) (dup_at r) 1 h (one_fits vl w h)).small in
     sym (through t w (at D z 0) wide) ∙ ap (λ n. n % 2 ^ bits_of t) (sym (first_part w z small) ∙ at-register w (dup_at r) 1 0 (omega arith)) ∙ through t w r wide
 
 reduced_state : State → ℕ → Width → ℕ → State
-reduced_state s d w r = next (with_z s d (register (width_bytes w) (dup_at r) 1))
+reduced_state s d w r = next (with_z s d (reduced w r))
 
-reduce_does : (op : UpdateOp) (t : Ty) (w : Width) (s : State) (d z : ℕ) → do_vector (stretch.word (reduce_name op t) (d ∷ z ∷ 1 ∷ size_of w ∷ [])) s ≡ Went (next (with_z s d (register (width_bytes (result_width op w)) (dup_at (reduce_of (reduce_op op t) w (lanes s.vl w) (p_at s 1) (z_at s z))) 1)))
-reduce_does op t w s d z = by op ∙ ap (λ k. Went (next (with_z s d (register (width_bytes (result_width op k)) (dup_at (reduce_of (reduce_op op t) k (lanes s.vl k) (p_at s 1) (z_at s z))) 1)))) (width-size w)
+reduce_does : (op : UpdateOp) (t : Ty) (w : Width) (s : State) (d z : ℕ) → do_vector (stretch.word (reduce_name op t) (d ∷ z ∷ 1 ∷ size_of w ∷ [])) s ≡ Went (next (with_z s d (reduced (result_width op w) (reduce_of (reduce_op op t) w (lanes s.vl w) (p_at s 1) (z_at s z)))))
+reduce_does op t w s d z = by op ∙ ap (λ k. Went (next (with_z s d (reduced (result_width op k) (reduce_of (reduce_op op t) k (lanes s.vl k) (p_at s 1) (z_at s z)))))) (width-size w)
   where
-    least : (sg : Bool) → do_vector (stretch.word (if sg then sve.sminv else sve.uminv) (d ∷ z ∷ 1 ∷ size_of w ∷ [])) s ≡ Went (next (with_z s d (register (width_bytes (width_of_size (size_of w))) (dup_at (reduce_of (if sg then reduce_ops.SMin else reduce_ops.UMin) (width_of_size (size_of w)) (lanes s.vl (width_of_size (size_of w))) (p_at s 1) (z_at s z))) 1)))
+    least : (sg : Bool) → do_vector (stretch.word (if sg then sve.sminv else sve.uminv) (d ∷ z ∷ 1 ∷ size_of w ∷ [])) s ≡ Went (next (with_z s d (reduced (width_of_size (size_of w)) (reduce_of (if sg then reduce_ops.SMin else reduce_ops.UMin) (width_of_size (size_of w)) (lanes s.vl (width_of_size (size_of w))) (p_at s 1) (z_at s z)))))
     least true = refl
     least false = refl
 
-    greatest : (sg : Bool) → do_vector (stretch.word (if sg then sve.smaxv else sve.umaxv) (d ∷ z ∷ 1 ∷ size_of w ∷ [])) s ≡ Went (next (with_z s d (register (width_bytes (width_of_size (size_of w))) (dup_at (reduce_of (if sg then reduce_ops.SMax else reduce_ops.UMax) (width_of_size (size_of w)) (lanes s.vl (width_of_size (size_of w))) (p_at s 1) (z_at s z))) 1)))
+    greatest : (sg : Bool) → do_vector (stretch.word (if sg then sve.smaxv else sve.umaxv) (d ∷ z ∷ 1 ∷ size_of w ∷ [])) s ≡ Went (next (with_z s d (reduced (width_of_size (size_of w)) (reduce_of (if sg then reduce_ops.SMax else reduce_ops.UMax) (width_of_size (size_of w)) (lanes s.vl (width_of_size (size_of w))) (p_at s 1) (z_at s z)))))
     greatest true = refl
     greatest false = refl
 
-    by : (op : UpdateOp) → do_vector (stretch.word (reduce_name op t) (d ∷ z ∷ 1 ∷ size_of w ∷ [])) s ≡ Went (next (with_z s d (register (width_bytes (result_width op (width_of_size (size_of w)))) (dup_at (reduce_of (reduce_op op t) (width_of_size (size_of w)) (lanes s.vl (width_of_size (size_of w))) (p_at s 1) (z_at s z))) 1)))
+    by : (op : UpdateOp) → do_vector (stretch.word (reduce_name op t) (d ∷ z ∷ 1 ∷ size_of w ∷ [])) s ≡ Went (next (with_z s d (reduced (result_width op (width_of_size (size_of w))) (reduce_of (reduce_op op t) (width_of_size (size_of w)) (lanes s.vl (width_of_size (size_of w))) (p_at s 1) (z_at s z)))))
     by update.Add = refl
     by update.And = refl
     by update.Or = refl
@@ -209,7 +209,7 @@ reduction_together op t w s d z taken ready lt wide holds of =
     let n = lanes s.vl w in
     let f = reduce_at (reduce_op op t) w (p_at s 1) (z_at s z) in
     let r = reduce_of (reduce_op op t) w n (p_at s 1) (z_at s z) in
-    let bytes = register (width_bytes (result_width op w)) (dup_at r) 1 in
+    let bytes = reduced (result_width op w) r in
     let some = (lanes-bound s.vl w ready.is.sized).0 in
     let more : n ≡ suc (n - 1) = omega (arith, some) in
     let here : (e : ℕ) → e < suc (n - 1) → IsOf t (taken e) × Holds op t w (f e) (taken e) =
@@ -218,7 +218,7 @@ reduction_together op t w s d z taken ready lt wide holds of =
     record {
       end = next (with_z s d bytes);
       runs = ap (λ o. and_then o (do_all [])) (reduce_does op t w s d z);
-      is = one_put s _ d (result_width op w) (dup_at r) ready.is refl;
+      is = one_put s _ d (result_width op w) r ready.is refl;
       only = only_z d s bytes;
       low =
           ap (λ y. element 8 y 0 % 2 ^ bits_of t) (get_or-set_same s.z d bytes [] (omega (arith, ready.is.z_count, lt)))

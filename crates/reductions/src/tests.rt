@@ -1,4 +1,4 @@
-// Instructions as llvm-mc encodes their assembly text, which stands beside each.
+//! Instructions as llvm-mc encodes their assembly text, which stands beside each.
 
 use crate::{reduce_word, start_word, update_word};
 use guest_types::length::Width;

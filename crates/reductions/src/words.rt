@@ -1,7 +1,7 @@
 //! The instructions of an accumulator in the lanes.
 
 ghost use Rattle.std.specs.Prelude.{◌≡◌, [], ◌∷◌};
-ghost use Rattle.sve_code.specs.View.{seen};
+ghost use Rattle.sve_code.specs.View.{instruction_view};
 ghost use Rattle.sve_code.specs.View as sve;
 ghost use Rattle.lane_emit.specs.LaneCode.{dup_code};
 ghost use Rattle.reductions.specs.AccumulatorLanes.{update_name, reduce_name, update_code, reduce_code};
@@ -47,7 +47,7 @@ fn reduce_op(op: UpdateOp, ty: Ty) -> ReductionOp
 
 /// The start of an accumulator from a general register that holds the identity: "DUP (scalar)".
 pub fn start_word(width: Width, acc: VectorReg, identity: Reg) -> Sve
-    ensures { dup_code width acc.number identity.number ≡ seen result ∷ [] }
+    ensures { dup_code width acc.number identity.number ≡ instruction_view result ∷ [] }
 {
     Sve::DupScalar {
         zd: acc,
@@ -65,7 +65,7 @@ pub fn update_word(
     mask: GoverningReg,
     value: VectorReg,
 ) -> Sve
-    ensures { update_code width op ty acc.number mask.number value.number ≡ seen result ∷ [] }
+    ensures { update_code width op ty acc.number mask.number value.number ≡ instruction_view result ∷ [] }
 {
     Sve::BinaryPredicated {
         op: update_op(op, ty),
@@ -78,7 +78,7 @@ pub fn update_word(
 
 /// The reduction of all lanes of an accumulator to the lowest element of a vector register, under P1, which is all true.
 pub fn reduce_word(width: Width, op: UpdateOp, ty: Ty, d: VectorReg, acc: VectorReg) -> Sve
-    ensures { reduce_code width op ty d.number acc.number ≡ seen result ∷ [] }
+    ensures { reduce_code width op ty d.number acc.number ≡ instruction_view result ∷ [] }
 {
     Sve::Reduction {
         op: reduce_op(op, ty),

@@ -1,4 +1,4 @@
-// Registers of worked intervals.
+//! Registers of worked intervals.
 
 ghost use Rattle.std.specs.Prelude.{◌≡◌};
 

@@ -8,7 +8,7 @@ use Rattle.loop_form.specs.Entries.{Entry}
 use Rattle.loop_form.specs.Listing.{last_use_in}
 use Rattle.loop_form.specs.Needs.{span, spans_of}
 use Rattle.loop_form.specs.Numbers.{Numbered}
-use Rattle.scalar_emit.proofs.States.{Assigned}
+use Rattle.scalar_emit.proofs.LayoutStates.{Assigned}
 use Rattle.scalar_emit.specs.Kernel.{counted_x, x_last_use, one_reg, regs_from, layout_from}
 
 pub counted-low : (j : ℕ) → 10 ≤ counted_x j

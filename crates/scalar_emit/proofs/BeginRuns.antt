@@ -9,18 +9,17 @@ use Rattle.guest_types.specs.Memory.{Memory}
 use Rattle.machine_model.specs.Machine.{State, x_at}
 use Rattle.a64_code.specs.Table.{movz}
 use Rattle.kernel_tree.specs.declared.ast.Shape.{Shape}
-use Rattle.kernel_tree.specs.declared.ast.Shape.TheVariants as shape
-use Rattle.kernel_tree.specs.declared.fault.Binding.TheVariants as binding
 use Rattle.kernel_tree.specs.Plain.{Parameter, Accumulator, Program}
 use Rattle.kernel_tree.specs.Items.{term_size, vars_size, loop_index, size_of}
-use Rattle.kernel_tree.specs.Typing.{Scope, Local, local, declared, binding_of_shape, value_type, empty, after_params, after_vars, param_scope, var_scope, check_fault}
+use Rattle.kernel_tree.specs.Typing.{Scope, Local, local, empty, after_vars, param_scope, var_scope, check_fault}
+use Rattle.kernel_tree.proofs.Scopes.{param_index}
 use Rattle.kernel_meaning.specs.Operators.{word}
 use Rattle.kernel_meaning.specs.Eval.{Names, value}
-use Rattle.kernel_meaning.specs.Iterate.{named, with_name}
-use Rattle.kernel_meaning.specs.ScalarRun.{argument, given, initial, started}
+use Rattle.kernel_meaning.specs.Iterate.{with_name}
+use Rattle.kernel_meaning.specs.ScalarRun.{argument, argument_names, initial, started}
 use Rattle.loop_form.specs.Entries.{loop_start}
 use Rattle.label_fix.specs.DraftRun.{Entry, Laid, word_of}
-use Rattle.label_fix.proofs.Steps.{Goes, Resolves, stay, chain, put_goes, go_more}
+use Rattle.label_fix.proofs.StretchSteps.{Goes, Resolves, stay, chain, put_goes, go_more}
 use Rattle.scalar_emit.specs.Layout.{Layout, Homes, Lasts, home}
 use Rattle.scalar_emit.specs.Words.{copy_word, word_code, settle_word, is_narrow, extending}
 use Rattle.scalar_emit.specs.Code.{labels}
@@ -31,17 +30,19 @@ use Rattle.scalar_emit.specs.KernelFits.{AreSafeVars, KernelFits}
 use Rattle.scalar_emit.specs.Safe.{AreSteady}
 use Rattle.scalar_emit.specs.Runs.{AreHeld, Begins, BeginRuns}
 use Rattle.scalar_emit.proofs.AssignedOf.{counted-low}
-use Rattle.scalar_emit.proofs.States.{Assigned, Changes, AreSafe, Held, Fixed, At, AreRanged, TypeRange, frame_of, wrote, wrote_same, wrote_other, wrote_sized, kept_none, at_kept, safe_later}
-use Rattle.scalar_emit.proofs.Pieces.{Gives, a_value, extension_is, wide_wrap, copied_sets}
+use Rattle.scalar_emit.proofs.LayoutStates.{Assigned, Changes, AreSafe, Held, Fixed, At, frame_of, wrote, wrote_same, wrote_other, wrote_sized, kept_none, at_kept, safe_later}
+use Rattle.scalar_emit.proofs.WordsRuns.{Gives, a_value, extension_is, wide_wrap, copied_sets}
 use Rattle.kernel_meaning.specs.TypeValues.{IsOf}
-use Rattle.kernel_meaning.proofs.TypeRanges.{wrap-is_of}
 use Rattle.scalar_emit.proofs.Ranges.{value-range}
 use Rattle.scalar_emit.proofs.Constants.{word_back}
 use Rattle.scalar_emit.proofs.ValueRuns.{value_runs, value_back}
-use Rattle.scalar_emit.proofs.StmtRuns.{held_more, ranged_more, held_others}
-use Rattle.scalar_emit.proofs.LoopRuns.{standing}
-use Rattle.scalar_emit.proofs.Emission.{param_index}
+use Rattle.kernel_meaning.proofs.NameRanges.{ranged_more}
+use Rattle.kernel_meaning.proofs.StartRanges.{given_ranged}
+use Rattle.scalar_emit.proofs.StmtRuns.{held_more, held_others}
+use Rattle.scalar_emit.proofs.LoopRuns.{fixed_at}
 use Rattle.scalar_emit.proofs.Initial.{all_start}
+use Rattle.kernel_tree.specs.declared.ast.Shape.TheVariants as shape
+use Rattle.kernel_tree.specs.declared.fault.Binding.TheVariants as binding
 
 -- ---- arguments
 
@@ -127,21 +128,9 @@ module _ (D : Laid) where
 
 -- ---- names of parameters
 
-held_given : (n : ℕ) (ps : List Parameter) (args : List ℕ) (p : ℕ) (s : State) → AreWrapped n ps args s → Held (param_homes n ps) (given ps args) p s
+held_given : (n : ℕ) (ps : List Parameter) (args : List ℕ) (p : ℕ) (s : State) → AreWrapped n ps args s → Held (param_homes n ps) (argument_names ps args) p s
 held_given n [] args p s h = tt
 held_given n (x ∷ ps) args p s h = (refl, (λ l. h.0), held_given (n + 1) ps (drop 1 args) p s h.1)
-
-shape_range : (x : Shape) (a : ℕ) → TypeRange (value_type (binding_of_shape x)) (argument x a)
-shape_range (shape.Scalar t) a = wrap-is_of t (pos a)
-shape_range (shape.Array t) a = tt
-
-ranged_given : (ps : List Parameter) (s : Scope) (names : Names) (args : List ℕ) → AreRanged s.visible names → AreRanged (after_params s ps).visible (names ++ given ps args)
-ranged_given [] s names args h = subst (AreRanged s.visible) (sym (append-nil names)) h
-ranged_given (p ∷ ps) s names args h =
-    let v = argument p.shape (slice_index args 0) in
-    subst (AreRanged (after_params (declared s p.name (binding_of_shape p.shape)) ps).visible) (append_assoc names (named p.name v ∷ []) (given ps (drop 1 args)))
-    (ranged_given ps (declared s p.name (binding_of_shape p.shape)) (names ++ named p.name v ∷ []) (drop 1 args)
-    (ranged_more s.visible names (local p.name (binding_of_shape p.shape)) v h (shape_range p.shape (slice_index args 0))))
 
 -- ---- accumulators
 
@@ -231,7 +220,7 @@ held_like [] (n ∷ ns) p s t f h = absurd h
 held_like (x ∷ hs) [] p s t f h = absurd h
 held_like (x ∷ hs) (n ∷ ns) p s t f h = (h.0, (λ l. f x.register ∙ h.1 l), held_like hs ns p s t f h.2)
 
-at_zero : {hs : Homes} {ls : List Local} {names : Names} {m : Memory} {p : ℕ} {s : State} (args : List ℕ) → At (standing 0 args) hs ls names m p s → At (standing 0 args) hs ls names m p (wrote s 9 0)
+at_zero : {hs : Homes} {ls : List Local} {names : Names} {m : Memory} {p : ℕ} {s : State} (args : List ℕ) → At (fixed_at 0 args) hs ls names m p s → At (fixed_at 0 args) hs ls names m p (wrote s 9 0)
 at_zero {hs = hs} {names = names} {p = p} {s = s} args at =
     let z = at.sized in
     let f = same_zero s (omega (arith, z)) at.nine in
@@ -245,7 +234,7 @@ at_zero {hs = hs} {names = names} {p = p} {s = s} args at =
       held = held_like hs names p s (wrote s 9 0) f at.held;
     }
 
-starts_zero : {D : Laid} {c rest : List Entry} {s : State} {hs : Homes} {ls : List Local} {p most : ℕ} {m : Memory} {o : Option Names} (args : List ℕ) → Starts D (standing 0 args) c s (zero_index rest) hs ls p m most o → Starts D (standing 0 args) c s rest hs ls p m (most + 1) o
+starts_zero : {D : Laid} {c rest : List Entry} {s : State} {hs : Homes} {ls : List Local} {p most : ℕ} {m : Memory} {o : Option Names} (args : List ℕ) → Starts D (fixed_at 0 args) c s (zero_index rest) hs ls p m most o → Starts D (fixed_at 0 args) c s rest hs ls p m (most + 1) o
 starts_zero args cannot = cannot
 starts_zero {most = most} args (starts end k at f) = starts (wrote end 9 0) (chain (most + 1) (omega arith) k (put_goes {i = word_of movz (9 ∷ 0 ∷ 0 ∷ [])} refl)) (at_zero args at) f
 
@@ -307,7 +296,7 @@ past_arguments : (args : List ℕ) (n : ℕ) → length args ≤ n → slice_ind
 past_arguments args n le = get_or_past args n 0 le
 
 -- the names with which the loop starts
-begun : {D : Laid} {R : ℕ → ℕ} {k : Program} {c rest : List Entry} {s : State} {args words : List ℕ} {m : Memory} {most : ℕ} {o : Option Names} (names : Names) → AreSteady (kernel_homes R k) → started k args m ≡ o → o ≡ Some names → Starts D (standing 0 words) c s rest (kernel_homes R k) (var_scope k).visible (loop_start k) m most o → Begins R k D c s rest args m most
+begun : {D : Laid} {R : ℕ → ℕ} {k : Program} {c rest : List Entry} {s : State} {args words : List ℕ} {m : Memory} {most : ℕ} {o : Option Names} (names : Names) → AreSteady (kernel_homes R k) → started k args m ≡ o → o ≡ Some names → Starts D (fixed_at 0 words) c s rest (kernel_homes R k) (var_scope k).visible (loop_start k) m most o → Begins R k D c s rest args m most
 begun names steady e f cannot = absurd cc
 begun {R = R} {k = k} {m = m} names steady e f (starts {names = found} end g at h) = record {
   names = found;
@@ -325,11 +314,11 @@ begin_runs R k checked few fits D n rest args m st has res =
     let short = has.few in
     let following = vars_code L R (param_homes 0 k.params) (param_scope k) 0 (length k.params) n k.vars (zero_index rest) in
     let a = arguments_runs D k.params 0 args st following (omega (arith, few, z)) (are_given k.params 0 args st has.words has.held) in
-    let at : At (standing 0 a.end.x) (param_homes 0 k.params) (param_scope k).visible (given k.params args) m (length k.params) a.end = record {
+    let at : At (fixed_at 0 a.end.x) (param_homes 0 k.params) (param_scope k).visible (argument_names k.params args) m (length k.params) a.end = record {
       sized = a.sized ∙ has.sized;
       nine = a.high 9 (omega (arith, few)) ∙ has.held 9 ∙ past_arguments args 9 (omega (arith, short));
       args = λ r lt. refl;
-      ranged = ranged_given k.params (empty (loop_index k)) [] args tt;
+      ranged = given_ranged k.params (empty (loop_index k)) [] args tt;
       memory = a.memory ∙ has.memory;
       good = has.good;
       held = held_given 0 k.params args (length k.params) a.end a.wrapped;

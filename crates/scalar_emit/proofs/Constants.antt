@@ -9,11 +9,11 @@ use Rattle.machine_model.specs.States.{IsState}
 use Rattle.kernel_meaning.specs.Operators.{word}
 use Rattle.kernel_meaning.proofs.Residues.{word-below}
 use Rattle.label_fix.specs.DraftRun.{Entry, Laid}
-use Rattle.label_fix.proofs.Steps.{Goes, Resolves, put_goes, chain, go_more, stay}
+use Rattle.label_fix.proofs.StretchSteps.{Goes, Resolves, put_goes, chain, go_more, stay}
 use Rattle.scalar_emit.specs.Layout.{Layout, reg_of, IsMade}
 use Rattle.scalar_emit.specs.Words.{filler, has_ones, start_code, half_word, word_code, filled_code, halves_code, const_code}
-use Rattle.scalar_emit.proofs.States.{wrote, wrote_same, wrote_other, wrote_sized, wrote_shaped, Frame, frame_of, Assigned, Kept}
-use Rattle.scalar_emit.proofs.Pieces.{Gets}
+use Rattle.scalar_emit.proofs.LayoutStates.{wrote, wrote_same, wrote_other, wrote_sized, wrote_shaped, Frame, frame_of, Assigned, Kept}
+use Rattle.scalar_emit.proofs.WordsRuns.{Gets}
 
 -- labels after a constant
 module _ (D : Laid) where

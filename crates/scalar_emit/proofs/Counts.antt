@@ -12,11 +12,12 @@ use Rattle.kernel_tree.specs.Plain.{Term, Literal, Variable, Element, Unary, Ope
 use Rattle.kernel_tree.specs.Items.{index_size, term_size, action_size, block_size, otherwise_size, vars_size, turns_size, answer_size, index_of, stream_offset, loop_index, size_of}
 use Rattle.kernel_tree.specs.Wrap.{is_signed}
 use Rattle.kernel_tree.specs.Typing.{Scope, lookup, own, first, element_type, accumulator_type, index_type, side_type, after_action, after_block, left, in_loop, after_turns, param_scope, var_scope}
+use Rattle.kernel_tree.proofs.Scopes.{index_after, param_index, scope_index}
 use Rattle.kernel_meaning.specs.Operators.{word, wrapped, operator_of}
 use Rattle.kernel_meaning.specs.TypeValues.{unary_leaves, binary_leaves, shift_leaves}
 use Rattle.loop_form.specs.Entries.{loop_start, loop_end}
 use Rattle.machine_model.specs.InstructionTable.{Listed}
-use Rattle.label_fix.specs.DraftRun.{Entry, Put, Branch, Place}
+use Rattle.label_fix.specs.DraftRun.{Entry}
 use Rattle.label_fix.specs.Finished.{size}
 use Rattle.scalar_emit.specs.Layout.{Layout, Homes, reg_of, last_use_at, home}
 use Rattle.scalar_emit.specs.Words.{copy_word, filler, start_code, has_ones, half_word, filled_code, halves_code, const_code, cast_word, settle_word, index_word, word_code, load_code, store_code, operation_code, binary_code, unary_code, abs_code, shift_code}
@@ -24,7 +25,7 @@ use Rattle.scalar_emit.specs.Code.{labels, at_type, number_code, value_code, tru
 use Rattle.scalar_emit.specs.Statements.{after_homes, block_labels, put_code, action_code, block_code, otherwise_code}
 use Rattle.scalar_emit.specs.Loop.{answer_code, with_index, loop_code}
 use Rattle.scalar_emit.specs.Kernel.{counted_x, argument_code, arguments_code, after_var, var_home, vars_code, zero_index, layout_of_kernel, param_homes, kernel_homes, begin_code, turns_code, scalar_code}
-use Rattle.scalar_emit.proofs.Emission.{index_after, param_index, var_index}
+use Rattle.label_fix.proofs.PlacedRuns.{size-append as size_append}
 
 -- ---- the words of one item, before at most k others
 
@@ -214,15 +215,9 @@ begin_words R k n rest =
 
 pub scalar_words : (R : ℕ → ℕ) (k : Program) (n : ℕ) (rest : List Entry) → size (scalar_code R k n rest) ≤ 64 + 16 * size_of k + size rest
 scalar_words R k n rest =
-    within (omega arith) (turns_words (layout_of_kernel R k) (kernel_homes R k) (var_scope k) (loop_index k) k.turns (loop_start k) n (loop_end k) k.answer rest (size rest) (var_index k) refl (omega arith))
+    within (omega arith) (turns_words (layout_of_kernel R k) (kernel_homes R k) (var_scope k) (loop_index k) k.turns (loop_start k) n (loop_end k) k.answer rest (size rest) (scope_index k) refl (omega arith))
 
 -- ---- words that are appended
-
-size_append : (x y : List Entry) → size (x ++ y) ≡ size x + size y
-size_append [] y = omega arith
-size_append (Put i ∷ x) y = omega (arith, size_append x y)
-size_append (Branch k l ∷ x) y = omega (arith, size_append x y)
-size_append (Place l ∷ x) y = size_append x y
 
 pub words_added : (old new c : List Entry) (m : ℕ) → new ++ [] ≡ old ++ c → size c ≤ m + size [] → size new ≤ size old + m
 words_added old new c m e h = let a = ap size e in omega (arith, a, size_append new [], size_append old c, h)

@@ -1,10 +1,9 @@
 -- What emission keeps of names.
-use Rattle.std.proofs.Common.{◌≡◌, ℕ, zero, suc, ◌+◌, List, [], ◌∷◌, ◌++◌, length, take, Option, Some, None, refl, sym, ap, ◌∙◌, arith}
-use Rattle.kernel_tree.specs.declared.ops.Ty.{Ty}
-use Rattle.kernel_tree.specs.declared.fault.Binding.TheVariants as binding
-use Rattle.kernel_tree.specs.Plain.{Action, Define, Put, Update, Choose, Leave, Block, Parameter, Accumulator, PlainLoop, Program}
+use Rattle.std.proofs.Common.{◌≡◌, ℕ, zero, suc, ◌+◌, List, [], ◌∷◌, ◌++◌, length, take, Some, None, refl, sym, ap, ◌∙◌, arith}
+use Rattle.kernel_tree.specs.Plain.{Block, Parameter, Accumulator, PlainLoop, Program}
 use Rattle.kernel_tree.specs.Items.{turns_size, loop_index}
-use Rattle.kernel_tree.specs.Typing.{Scope, first, own, defined, declared, binding_of_shape, empty, after_action, after_params, after_vars, param_scope, var_scope}
+use Rattle.kernel_tree.specs.Typing.{Scope, first, param_scope, var_scope}
+use Rattle.kernel_tree.proofs.Scopes.{scope_index}
 use Rattle.loop_form.specs.Entries.{loop_start, loop_end}
 use Rattle.label_fix.specs.DraftRun.{Entry}
 use Rattle.scalar_emit.specs.declared.home.Home.{Home as Kept}
@@ -14,17 +13,6 @@ use Rattle.scalar_emit.specs.Loop.{turn_code, leave_code}
 use Rattle.scalar_emit.specs.Kernel.{layout_of_kernel, param_homes, arguments_code, kernel_homes, vars_code, zero_index, begin_code, straight_code, turns_code, scalar_code}
 use Rattle.scalar_emit.specs.View.{home_of, homes_of}
 use Rattle.scalar_emit.proofs.StmtRuns.{homes_block}
-
-index_defined : (s : Scope) (x : List ℕ) (o : Option Ty) → (defined s x o).index ≡ s.index
-index_defined s x None = refl
-index_defined s x (Some t) = refl
-
-pub index_after : (s : Scope) (a : Action) → (after_action s a).index ≡ s.index
-index_after s (Define x t e) = index_defined s x (first t (own s e))
-index_after s (Put a i e) = refl
-index_after s (Update x op e) = refl
-index_after s (Choose c b d) = refl
-index_after s (Leave c) = refl
 
 -- ---- after a block
 
@@ -47,22 +35,6 @@ homes_back L old new s n b blk e is =
     let x = homes_block L (homes_of old) s b blk in
     take_map n new ∙ ap (take n) (is ∙ x.is) ∙ take_front (homes_of old) x.more n (e ∙ sym (homes_length old))
 
--- ---- the name of the loop variable
-
-index_params : (s : Scope) (ps : List Parameter) → (after_params s ps).index ≡ s.index
-index_params s [] = refl
-index_params s (p ∷ ps) = index_params (declared s p.name (binding_of_shape p.shape)) ps
-
-index_vars : (s : Scope) (vs : List Accumulator) → (after_vars s vs).index ≡ s.index
-index_vars s [] = refl
-index_vars s (v ∷ vs) = index_vars (declared s v.name (binding.Accumulator v.type)) vs
-
-pub param_index : (k : Program) → (param_scope k).index ≡ loop_index k
-param_index k = index_params (empty (loop_index k)) k.params
-
-pub var_index : (k : Program) → (var_scope k).index ≡ loop_index k
-var_index k = index_vars (param_scope k) k.vars ∙ param_index k
-
 -- ---- the code before the loop
 
 pub begin_is : (R : ℕ → ℕ) (k : Program) (L : Layout) (hs : Homes) (s : Scope) (first n m : ℕ) (ps : List Parameter) (vs : List Accumulator) (rest : List Entry) → L ≡ layout_of_kernel R k → hs ≡ param_homes 0 ps → s ≡ param_scope k → first ≡ length k.params → n ≡ m → ps ≡ k.params → vs ≡ k.vars → arguments_code 0 ps (vars_code L R hs s 0 first n vs (zero_index rest)) ≡ begin_code R k m rest
@@ -72,7 +44,7 @@ begin_is R k L hs s first n m ps vs rest d e f g h i j = rw (d, e, f, g, h, i, j
 
 pub scalar_is : (R : ℕ → ℕ) (k : Program) (L : Layout) (l : PlainLoop) (b n b2 n2 : ℕ) (rest : List Entry) → L ≡ layout_of_kernel R k → k.turns ≡ Some l → b ≡ loop_start k → b2 ≡ loop_end k → n2 ≡ n + 2 + block_labels (loop_index k) l.body → turn_code L (kernel_homes R k) (var_scope k) l b n (leave_code L (kernel_homes R k) (var_scope k) l b2 n2 k.answer rest) ≡ scalar_code R k n rest
 scalar_is R k L l b n b2 n2 rest d e f g h =
-    let i : n2 ≡ n + 2 + block_labels (var_scope k).index l.body = h ∙ ap (λ j. n + 2 + block_labels j l.body) (sym (var_index k)) in
+    let i : n2 ≡ n + 2 + block_labels (var_scope k).index l.body = h ∙ ap (λ j. n + 2 + block_labels j l.body) (sym (scope_index k)) in
     rw (d, f, g, i) (ap (λ t. turns_code (layout_of_kernel R k) (kernel_homes R k) (var_scope k) t (loop_start k) n (loop_end k) k.answer rest) (sym e))
 
 pub straight_is : (R : ℕ → ℕ) (k : Program) (L : Layout) (b n : ℕ) (rest : List Entry) → L ≡ layout_of_kernel R k → k.turns ≡ None → b ≡ loop_start k → straight_code L (kernel_homes R k) (var_scope k) n b k.answer rest ≡ scalar_code R k n rest

@@ -5,19 +5,24 @@ use Rattle.std.specs.List.{find}
 use Rattle.kernel_tree.specs.declared.ops.Ty.{Ty}
 use Rattle.kernel_tree.specs.declared.fault.Found.{Found}
 use Rattle.kernel_tree.specs.declared.fault.Binding.{Binding}
-use Rattle.kernel_tree.specs.declared.fault.Binding.TheVariants as binding
 use Rattle.kernel_tree.specs.Plain.{Term, Literal, Variable, Element, Unary, Operation, Shift, Conversion, Choice, Comparison, Both, Either, Not, Action, Define, Put, Update, Choose, Leave, Block, Done, Then, Otherwise, Nothing, Else, Program}
 use Rattle.kernel_tree.specs.Items.{term_size, index_items, stream_offset, action_size, block_size, otherwise_size, loop_index}
-use Rattle.kernel_tree.specs.Typing.{Scope, Local, local, Role, Value, Condition, wanted, lookup, own, first, element_type, accumulator_type, index_type, side_type, insert_name, defined, left, after_action, after_block, after_otherwise, faults, as_value, name_faults, typed_faults, read_faults, inner_faults, kind_faults, target_faults, stream_faults, update_faults, twice, action_faults, block_faults, otherwise_faults}
+use Rattle.kernel_tree.specs.Typing.{Scope, Local, local, Role, Value, Condition, wanted, lookup, own, first, element_type, accumulator_type, index_type, side_type, insert_name, defined, left, after_action, after_block, after_otherwise, faults, as_value, name_faults, read_faults, inner_faults, target_faults, stream_faults, update_faults, twice, action_faults, block_faults, otherwise_faults}
+use Rattle.kernel_tree.proofs.Faultless.{nil-left, nil-right}
+use Rattle.kernel_tree.proofs.NoFault.{typed_some, kind_some}
+use Rattle.kernel_tree.proofs.Names.{bytes_same}
 use Rattle.loop_form.specs.Entries.{Entry, inner_entries, term_entries, action_entries, block_entries, otherwise_entries}
 use Rattle.loop_form.specs.Listing.{last_use_from}
+use Rattle.loop_form.proofs.Numbers.{term-listed, action-listed, block-listed}
+use Rattle.loop_form.proofs.NameUses.{AreUsesCounted, counted_left, counted_right}
+use Rattle.loop_form.proofs.ItemTypes.{drop_next}
 use Rattle.scalar_emit.specs.Layout.{Layout, Home, Homes, is_home, register_of, last_use_at, register_at, LastsAt, NameLasts}
 use Rattle.scalar_emit.specs.Fits.{Fits, FitsTruth, IndexAt, IsSome}
 use Rattle.scalar_emit.specs.Statements.{let_home, defined_homes, after_homes, FitsPut, FitsAction, FitsBlock, FitsOtherwise}
 use Rattle.scalar_emit.proofs.AssignedOf.{counted-low}
-use Rattle.scalar_emit.proofs.EntryNumbers.{term_stretch, action_stretch, block_stretch}
-use Rattle.scalar_emit.proofs.FitsOf.{nil-left, nil-right, some_of, no_untyped, no_offset, Sits, drop_head, drop_next, AreUsed, untils, untils_on, value_fits, truth_fits}
-use Rattle.scalar_emit.proofs.FitsNames.{bytes_same, AreUsesCounted, counted_left, counted_right, Spread, LetHome, AreHomes, homes_later, homes_on, IsAt, is_at, name_lasts, array_lasts, is_var, only_of}
+use Rattle.scalar_emit.proofs.FitsOf.{some_of, no_untyped, no_offset, Sits, drop_head, AreUsed, untils, untils_on, value_fits, truth_fits}
+use Rattle.scalar_emit.proofs.FitsNames.{Spread, LetHome, AreHomes, homes_later, homes_on, IsAt, is_at, name_lasts, array_lasts, is_var, only_of}
+use Rattle.kernel_tree.specs.declared.fault.Binding.TheVariants as binding
 
 used_on : (hs : Homes) (i : Option (List ℕ)) (xs ys : List Entry) → AreUsed hs i xs → AreUsed hs i ys → AreUsed hs i (xs ++ ys)
 used_on hs i [] ys h k = k
@@ -44,10 +49,6 @@ known_name : (item : ℕ) (want : Option Ty) (o : Option Binding) → name_fault
 known_name item want None e = absurd cc
 known_name item want (Some bd) e = (bd, refl)
 
-typed_known : (item : ℕ) (want : Option Ty) (o : Option Ty) → typed_faults item want o ≡ [] → (T : Ty) × (o ≡ Some T)
-typed_known item want None e = absurd cc
-typed_known item want (Some T) e = (T, refl)
-
 -- an array that is read inside a loop
 record IsReadable (inside : Bool) (o : Option Binding) : Type 0 where
   within : inside ≡ true
@@ -59,7 +60,7 @@ record IsReadable (inside : Bool) (o : Option Binding) : Type 0 where
 read_known : (item : ℕ) (inside : Bool) (want : Option Ty) (o : Option Binding) → read_faults item inside want o ≡ [] → IsReadable inside o
 read_known item inside want None e = absurd cc
 read_known item false want (Some bd) e = absurd cc
-read_known item true want (Some bd) e = let t = typed_known item want (element_type bd) e in record { within = refl; bd = bd; known = refl; type = t.0; array = t.1 }
+read_known item true want (Some bd) e = let t = typed_some item want (element_type bd) e in record { within = refl; bd = bd; known = refl; type = t.0; array = t.1 }
 
 -- a name that stands for something of a kind
 record IsKind (f : Binding → Option Ty) (o : Option Binding) : Type 0 where
@@ -68,17 +69,13 @@ record IsKind (f : Binding → Option Ty) (o : Option Binding) : Type 0 where
   type : Ty
   kind : f bd ≡ Some type
 
-kind_known : (item : ℕ) (o : Option Ty) → kind_faults item o ≡ [] → (T : Ty) × (o ≡ Some T)
-kind_known item None e = absurd cc
-kind_known item (Some T) e = (T, refl)
-
 target_known : (item : ℕ) (o : Option Binding) → target_faults item o ≡ [] → IsKind element_type o
 target_known item None e = absurd cc
-target_known item (Some bd) e = let t = kind_known item (element_type bd) e in record { bd = bd; known = refl; type = t.0; kind = t.1 }
+target_known item (Some bd) e = let t = kind_some item (element_type bd) e in record { bd = bd; known = refl; type = t.0; kind = t.1 }
 
 update_known : (item : ℕ) (o : Option Binding) → update_faults item o ≡ [] → IsKind accumulator_type o
 update_known item None e = absurd cc
-update_known item (Some bd) e = let t = kind_known item (accumulator_type bd) e in record { bd = bd; known = refl; type = t.0; kind = t.1 }
+update_known item (Some bd) e = let t = kind_some item (accumulator_type bd) e in record { bd = bd; known = refl; type = t.0; kind = t.1 }
 
 stream_fits : (item : ℕ) (o : Option ℤ) (A : Type 0) → stream_faults item o ≡ [] → A → FitsPut o A
 stream_fits item None A e a = absurd cc
@@ -217,7 +214,7 @@ module _ (k : Program) (R : ℕ → ℕ) (L : Layout) (all : List Entry) where
       let w = some_of want (no_untyped q want (nil-right (twice q S x) _ (nil-right (faults S b (Value want) e) _ f))) in
       let T = w.0 in
       let es = term_entries k b q e in
-      let at : last_use_at L q ≡ last_use_from x q all = drop_head L.untils q _ _ (sits_second all L.untils es _ b q (term_size i e) rest (term_stretch k e b q).many refl h) in
+      let at : last_use_at L q ≡ last_use_from x q all = drop_head L.untils q _ _ (sits_second all L.untils es _ b q (term_size i e) rest (term-listed k b q e (omega arith)).count refl h) in
       let new : LetHome L all (b + (term_size i e + 1)) (let_home L q x) = record { item = q; before = omega arith; register' = refl; last_use' = refl; from = q; last = at } in
       record {
         visible = v ++ local x (binding.Value T) ∷ [];
@@ -324,9 +321,9 @@ module _ (k : Program) (R : ℕ → ℕ) (L : Layout) (all : List Entry) where
           let bs = block_entries k (b1 + 1) blk in
           let os = otherwise_entries k g end o in
           let f2 = nil-right (faults S b Condition d) _ f in
-          let h2 = sits_second all L.untils ds _ b b1 (term_size i d) rest (term_stretch k d b g).many refl h in
+          let h2 = sits_second all L.untils ds _ b b1 (term_size i d) rest (term-listed k b g d (omega arith)).count refl h in
           let h4 = sits_next L.untils b1 _ _ h2 in
-          let h5 = sits_second all L.untils bs _ (b1 + 1) g (block_size i blk) rest (block_stretch k blk (b1 + 1)).many refl h4 in
+          let h5 = sits_second all L.untils bs _ (b1 + 1) g (block_size i blk) rest (block-listed k (b1 + 1) blk).count refl h4 in
           let c2 = (counted_right all ds _ c).1 in
           let c3 = counted_right all bs _ c2 in
           let tk2 = (after_block S blk).taken in (
@@ -349,7 +346,7 @@ module _ (k : Program) (R : ℕ → ℕ) (L : Layout) (all : List Entry) where
           let fm = nil-right (action_faults S b a) _ f in
           let ha = sits_first all L.untils es _ b rest h in
           let n = names_after a v tk ins hs b _ are indexed fa ha in
-          let hm = sits_second all L.untils es _ b b1 (action_size i a) rest (action_stretch k a b).many refl h in
+          let hm = sits_second all L.untils es _ b b1 (action_size i a) rest (action-listed k b a).count refl h in
           let rest2 = block_fits more n.visible n.taken ins n.homes b1 rest n.are n.indexed on (subst (λ s. block_faults s b1 more ≡ []) n.scope_is fm) hm (counted_right all es _ c) in (
             action_fits a v tk ins hs b _ are indexed on fa ha (counted_left all es _ c),
             subst (λ h. FitsBlock L h (after_action S a) b1 more) (sym n.homes_is) (subst (λ s. FitsBlock L n.homes s b1 more) (sym n.scope_is) rest2),

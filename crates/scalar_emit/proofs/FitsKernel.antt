@@ -1,20 +1,21 @@
 -- Registers fit a checked kernel.
-use Rattle.std.proofs.Common.{◌≡◌, ℕ, suc, ◌+◌, ◌<◌, ◌≤◌, Bool, true, false, cond, List, [], ◌∷◌, ◌++◌, length, drop, map, Option, Some, None, refl, sym, ap, ◌∙◌, subst, arith, append-nil, append_assoc}
-use Rattle.std.specs.Prelude.{slice_get, option_map, unwrap_or, bytes_eq, nat_lt, ◌||◌}
-use Rattle.std.specs.List.{find, list_any}
+use Rattle.std.proofs.Common.{◌≡◌, ℕ, suc, ◌+◌, ◌<◌, ◌≤◌, Bool, true, false, cond, List, [], ◌∷◌, ◌++◌, length, drop, map, Option, Some, None, refl, sym, ap, ◌∙◌, subst, arith}
+use Rattle.std.specs.Prelude.{slice_get, option_map, unwrap_or}
+use Rattle.std.specs.List.{find}
 use Rattle.std.proofs.lemmas.Option.{slice_get_within}
-use Rattle.std.proofs.lemmas.Slice.Eq.{bytes_eq-Decides}
 use Rattle.kernel_tree.specs.declared.ops.Ty.TheVariants.{U64}
 use Rattle.kernel_tree.specs.declared.ast.Shape.{Shape}
-use Rattle.kernel_tree.specs.declared.ast.Shape.TheVariants as shape
-use Rattle.kernel_tree.specs.declared.fault.Found.{Found}
-use Rattle.kernel_tree.specs.declared.fault.Binding.{Binding}
-use Rattle.kernel_tree.specs.declared.fault.Binding.TheVariants as binding
 use Rattle.kernel_tree.specs.Plain.{Parameter, Accumulator, PlainLoop, Returned, Program}
-use Rattle.kernel_tree.specs.Items.{term_size, vars_size, turns_size, index_of, loop_index, size_of}
-use Rattle.kernel_tree.specs.Limits.{most_items, most_depth, depth_of}
-use Rattle.kernel_tree.specs.Typing.{Scope, Local, local, Value, lookup, declared, insert_name, is_taken, binding_of_shape, empty, after_params, after_vars, after_turns, faults, twice, params_faults, vars_faults, bound_faults, turns_faults, answer_faults, param_scope, var_scope, kernel_faults, sooner, least, check_fault, TooLarge, TooDeep, Fails}
+use Rattle.kernel_tree.specs.Items.{term_size, vars_size, turns_size, index_of, loop_index}
+use Rattle.kernel_tree.specs.Typing.{Scope, Local, local, Value, lookup, insert_name, binding_of_shape, after_turns, faults, twice, vars_faults, bound_faults, turns_faults, answer_faults, param_scope, var_scope, check_fault}
+use Rattle.kernel_tree.specs.Scopes.{locals_of, accs_of}
+use Rattle.kernel_tree.proofs.Faultless.{nil-left, nil-right, vars_faultless, turns_faultless, answer_faultless}
+use Rattle.kernel_tree.proofs.Scopes.{param_visible, var_visible, param_index, scope_index, param_outside, scope_outside}
+use Rattle.kernel_tree.proofs.NoFault.{bound_known}
+use Rattle.kernel_tree.proofs.Names.{bytes_same, NoName, index_alone}
 use Rattle.loop_form.specs.Entries.{Entry, term_entries, params_entries, vars_entries, turns_entries, answer_entries, loop_entries, loop_start, loop_end, entries_of}
+use Rattle.loop_form.proofs.Numbers.{params-listed, vars-listed, term-listed, loop-listed}
+use Rattle.loop_form.proofs.NameUses.{AreUsesCounted, counted_left, counted_right, all_counted}
 use Rattle.scalar_emit.specs.Layout.{Layout, Home, Homes, is_home, register_of, LastsAt}
 use Rattle.scalar_emit.specs.Fits.{IndexAt}
 use Rattle.scalar_emit.specs.Statements.{Others}
@@ -24,63 +25,15 @@ use Rattle.scalar_emit.specs.Safe.{AreSteady}
 use Rattle.scalar_emit.specs.KernelFits.{AreChosen, AreSafeVars, IsBound, KernelFits}
 use Rattle.scalar_emit.proofs.AssignedOf.{counted-low}
 use Rattle.scalar_emit.proofs.SpreadOf.{spread_of}
-use Rattle.scalar_emit.proofs.EntryNumbers.{params_stretch, vars_stretch, turns_stretch, term_stretch}
-use Rattle.scalar_emit.proofs.FitsOf.{nil-left, nil-right, no_mismatch, Sits, untils}
-use Rattle.scalar_emit.proofs.FitsNames.{bytes_same, bytes_told, AreUsesCounted, counted_left, counted_right, all_counted, IsParam, Spread, next_number, numbers, HomeIs, AreHomes, homes_later, homes_on, is_at, register_is, others_new, are_safe}
+use Rattle.scalar_emit.proofs.FitsOf.{Sits, untils}
+use Rattle.scalar_emit.proofs.FitsNames.{IsParam, Spread, next_number, numbers, HomeIs, AreHomes, homes_later, homes_on, is_at, register_is, others_new, are_safe}
 use Rattle.scalar_emit.proofs.FitsBlocks.{sits_first, sits_second, sits_next, IsIndexed, value_stands, block_fits}
-
--- ---- no rule fails
-
-none : (fs : List Found) → option_map Fails (least fs) ≡ None → fs ≡ []
-none [] e = refl
-none (f ∷ fs) e = by (least fs) e
-  where
-    by : (o : Option Found) → option_map Fails (sooner (Some f) o) ≡ None → f ∷ fs ≡ []
-    by None e = absurd cc
-    by (Some g) e = absurd cc
-
-unrefused : {A : Type 0} (b : Bool) (x : A) (o : Option A) → cond b (Some x) o ≡ None → o ≡ None
-unrefused true x o e = absurd cc
-unrefused false x o e = e
-
-pub faultless : (k : Program) → check_fault k ≡ None → kernel_faults k ≡ []
-faultless k e =
-    let inner = unrefused (nat_lt most_items (size_of k)) (TooLarge (size_of k)) _ e in
-    none (kernel_faults k) (unrefused (nat_lt most_depth (depth_of k)) (TooDeep (depth_of k)) _ inner)
+use Rattle.kernel_tree.specs.declared.ast.Shape.TheVariants as shape
+use Rattle.kernel_tree.specs.declared.fault.Binding.TheVariants as binding
+use Rattle.kernel_tree.specs.declared.ast.Shape.TheVariants as shape
+use Rattle.kernel_tree.specs.declared.fault.Binding.TheVariants as binding
 
 -- ---- scopes
-
-abbrev locals_of : List Parameter → List Local
-locals_of [] = []
-locals_of (p ∷ ps) = local p.name (binding_of_shape p.shape) ∷ locals_of ps
-
-abbrev accs_of : List Accumulator → List Local
-accs_of [] = []
-accs_of (v ∷ vs) = local v.name (binding.Accumulator v.type) ∷ accs_of vs
-
-params_visible : (ps : List Parameter) (s : Scope) → (after_params s ps).visible ≡ s.visible ++ locals_of ps
-params_visible [] s = sym (append-nil s.visible)
-params_visible (p ∷ ps) s = params_visible ps (declared s p.name (binding_of_shape p.shape)) ∙ append_assoc s.visible (local p.name (binding_of_shape p.shape) ∷ []) (locals_of ps)
-
-vars_visible : (vs : List Accumulator) (s : Scope) → (after_vars s vs).visible ≡ s.visible ++ accs_of vs
-vars_visible [] s = sym (append-nil s.visible)
-vars_visible (v ∷ vs) s = vars_visible vs (declared s v.name (binding.Accumulator v.type)) ∙ append_assoc s.visible (local v.name (binding.Accumulator v.type) ∷ []) (accs_of vs)
-
-params_index : (ps : List Parameter) (s : Scope) → (after_params s ps).index ≡ s.index
-params_index [] s = refl
-params_index (p ∷ ps) s = params_index ps (declared s p.name (binding_of_shape p.shape))
-
-vars_index : (vs : List Accumulator) (s : Scope) → (after_vars s vs).index ≡ s.index
-vars_index [] s = refl
-vars_index (v ∷ vs) s = vars_index vs (declared s v.name (binding.Accumulator v.type))
-
-params_inside : (ps : List Parameter) (s : Scope) → (after_params s ps).inside ≡ s.inside
-params_inside [] s = refl
-params_inside (p ∷ ps) s = params_inside ps (declared s p.name (binding_of_shape p.shape))
-
-vars_inside : (vs : List Accumulator) (s : Scope) → (after_vars s vs).inside ≡ s.inside
-vars_inside [] s = refl
-vars_inside (v ∷ vs) s = vars_inside vs (declared s v.name (binding.Accumulator v.type))
 
 scope_is : (s : Scope) (v : List Local) (i : Option (List ℕ)) (b : Bool) → s.visible ≡ v → s.index ≡ i → s.inside ≡ b → s ≡ record { visible = v; taken = s.taken; index = i; inside = b }
 scope_is s v i b e f g =
@@ -92,76 +45,34 @@ abbrev scope_at : Program → List Local → List (List ℕ) → Bool → Scope
 scope_at k v tk ins = record { visible = v; taken = tk; index = loop_index k; inside = ins }
 
 param_scope_is : (k : Program) → param_scope k ≡ scope_at k (locals_of k.params) (param_scope k).taken false
-param_scope_is k = scope_is (param_scope k) (locals_of k.params) (loop_index k) false (params_visible k.params (empty (loop_index k))) (params_index k.params (empty (loop_index k))) (params_inside k.params (empty (loop_index k)))
+param_scope_is k = scope_is (param_scope k) (locals_of k.params) (loop_index k) false (param_visible k) (param_index k) (param_outside k)
 
 var_scope_is : (k : Program) → var_scope k ≡ scope_at k (locals_of k.params ++ accs_of k.vars) (var_scope k).taken false
 var_scope_is k =
-    scope_is (var_scope k) (locals_of k.params ++ accs_of k.vars) (loop_index k) false
-    (vars_visible k.vars (param_scope k) ∙ ap (λ l. l ++ accs_of k.vars) (params_visible k.params (empty (loop_index k))))
-    (vars_index k.vars (param_scope k) ∙ params_index k.params (empty (loop_index k)))
-    (vars_inside k.vars (param_scope k) ∙ params_inside k.params (empty (loop_index k)))
+    scope_is (var_scope k) (locals_of k.params ++ accs_of k.vars) (loop_index k) false (var_visible k) (scope_index k) (scope_outside k)
 
 -- ---- the loop variable's name is no other's
-
-abbrev Untaken : List ℕ → List (List ℕ) → Type 0
-Untaken x names = list_any (bytes_eq x) names ≡ false
 
 abbrev NoHome : List ℕ → Homes → Type 0
 NoHome x [] = Unit {0}
 NoHome x (h ∷ hs) = (is_home x h ≡ false) × NoHome x hs
 
-bytes_swap : (x y : List ℕ) → bytes_eq x y ≡ false → bytes_eq y x ≡ false
-bytes_swap x y h = grind (arith, bytes_eq-Decides)
-
 no_home-append : (x : List ℕ) (hs gs : Homes) → NoHome x hs → NoHome x gs → NoHome x (hs ++ gs)
 no_home-append x [] gs h k = k
 no_home-append x (y ∷ hs) gs h k = (h.0, no_home-append x hs gs h.1 k)
 
-untwice : {A : Type 0} (b : Bool) (x : A) → cond b (x ∷ []) [] ≡ [] → b ≡ false
-untwice true x e = absurd cc
-untwice false x e = refl
+no_param_home : (x : List ℕ) (n : ℕ) (ps : List Parameter) → NoName x (locals_of ps) → NoHome x (param_homes n ps)
+no_param_home x n [] h = tt
+no_param_home x n (p ∷ ps) h = (h.0, no_param_home x (n + 1) ps h.1)
 
-any_last : (x y : List ℕ) (names : List (List ℕ)) → Untaken x (names ++ y ∷ []) → Untaken x names × (bytes_eq x y ≡ false)
-any_last x y [] e = (refl, by (bytes_eq x y) e)
-  where
-    by : (b : Bool) → b || false ≡ false → b ≡ false
-    by true e = absurd cc
-    by false e = refl
-any_last x y (n ∷ names) e = by (bytes_eq x n) e (any_last x y names)
-  where
-    by : (b : Bool) → b || list_any (bytes_eq x) (names ++ y ∷ []) ≡ false → (Untaken x (names ++ y ∷ []) → Untaken x names × (bytes_eq x y ≡ false)) → (b || list_any (bytes_eq x) names ≡ false) × (bytes_eq x y ≡ false)
-    by true e h = absurd cc
-    by false e h = h e
+no_var_home : (x : List ℕ) (R : ℕ → ℕ) (j : ℕ) (vs : List Accumulator) → NoName x (accs_of vs) → NoHome x (var_homes R j vs)
+no_var_home x R j [] h = tt
+no_var_home x R j (v ∷ vs) h = (h.0, no_var_home x R (j + 1) vs h.1)
 
-untaken_before : (x y : List ℕ) (names : List (List ℕ)) → Untaken x (insert_name names y) → Untaken x names × (bytes_eq y x ≡ false)
-untaken_before x y names e = by (list_any (bytes_eq y) names) refl e
-  where
-    other : (b : Bool) → bytes_eq y x ≡ b → list_any (bytes_eq y) names ≡ true → Untaken x names → bytes_eq y x ≡ false
-    other true f g h = let same : y ≡ x = bytes_told y x f in let there : list_any (bytes_eq x) names ≡ true = ap (λ z. list_any (bytes_eq z) names) (sym same) ∙ g in absurd cc
-    other false f g h = f
-
-    by : (b : Bool) → list_any (bytes_eq y) names ≡ b → list_any (bytes_eq x) (cond b names (names ++ y ∷ [])) ≡ false → Untaken x names × (bytes_eq y x ≡ false)
-    by true f e = (e, other (bytes_eq y x) refl f e)
-    by false f e = let parts = any_last x y names e in (parts.0, bytes_swap x y parts.1)
-
-params_untaken : (x : List ℕ) (ps : List Parameter) (s : Scope) (n : ℕ) → Untaken x (after_params s ps).taken → Untaken x s.taken × NoHome x (param_homes n ps)
-params_untaken x [] s n e = (e, tt)
-params_untaken x (p ∷ ps) s n e =
-    let r = params_untaken x ps (declared s p.name (binding_of_shape p.shape)) (n + 1) e in
-    let h = untaken_before x p.name s.taken r.0 in
-    (h.0, (h.1, r.1))
-
-vars_untaken : (x : List ℕ) (R : ℕ → ℕ) (vs : List Accumulator) (s : Scope) (j : ℕ) → Untaken x (after_vars s vs).taken → Untaken x s.taken × NoHome x (var_homes R j vs)
-vars_untaken x R [] s j e = (e, tt)
-vars_untaken x R (v ∷ vs) s j e =
-    let r = vars_untaken x R vs (declared s v.name (binding.Accumulator v.type)) (j + 1) e in
-    let h = untaken_before x v.name s.taken r.0 in
-    (h.0, (h.1, r.1))
-
-index_alone : (x : List ℕ) (R : ℕ → ℕ) (k : Program) → Untaken x (var_scope k).taken → NoHome x (kernel_homes R k)
-index_alone x R k e =
-    let r = vars_untaken x R k.vars (param_scope k) 0 e in
-    no_home-append x (param_homes 0 k.params) (var_homes R 0 k.vars) (params_untaken x k.params (empty (loop_index k)) 0 r.0).1 r.1
+index_homeless : (R : ℕ → ℕ) (k : Program) (l : PlainLoop) → check_fault k ≡ None → k.turns ≡ Some l → NoHome l.index (kernel_homes R k)
+index_homeless R k l e loop =
+    let alone = index_alone k l e loop in
+    no_home-append l.index (param_homes 0 k.params) (var_homes R 0 k.vars) (no_param_home l.index 0 k.params alone.params) (no_var_home l.index R 0 k.vars alone.vars)
 
 index_found : (x : List ℕ) (hs : Homes) → NoHome x hs → find (is_home x) (hs ++ index_home x ∷ []) ≡ Some (index_home x)
 index_found x [] h = ap (λ c. cond c (Some (index_home x)) None) (bytes_same x)
@@ -198,15 +109,7 @@ vars_nine : (R : ℕ → ℕ) (j p : ℕ) (vs : List Accumulator) → Others (va
 vars_nine R j p [] = tt
 vars_nine R j p (v ∷ vs) = ((λ l e. absurd (let c = counted-low (R j) in omega (arith, c, e))), vars_nine R (j + 1) p vs)
 
--- ---- the bound of a loop
-
-bound_known : (item : ℕ) (o : Option Binding) → bound_faults item o ≡ [] → o ≡ Some (binding.Scalar U64)
-bound_known item None e = absurd cc
-bound_known item (Some (binding.Scalar t)) e = ap (λ u. Some (binding.Scalar u)) (sym (no_mismatch item U64 t e))
-bound_known item (Some (binding.Array t)) e = absurd cc
-bound_known item (Some (binding.Accumulator t)) e = absurd cc
-bound_known item (Some (binding.Value t)) e = absurd cc
-bound_known item (Some binding.Index) e = absurd cc
+-- ---- numbers of accumulators
 
 numbers_on : (j : ℕ) (xs ys : List Local) → numbers j (xs ++ ys) ≡ numbers (numbers j xs) ys
 numbers_on j [] ys = refl
@@ -278,7 +181,7 @@ module _ (R : ℕ → ℕ) (k : Program) (L : Layout) (all : List Entry) where
       let q = b + term_size (loop_index k) a.init in
       let es = term_entries k b q a.init in
       let f2 = nil-right (twice q S a.name) _ (nil-right (faults S b (Value (Some a.type)) a.init) _ f) in
-      let h2 = sits_next L.untils q _ _ (sits_second all L.untils es _ b q (term_size (loop_index k) a.init) rest (term_stretch k a.init b q).many refl h) in (
+      let h2 = sits_next L.untils q _ _ (sits_second all L.untils es _ b q (term_size (loop_index k) a.init) rest (term-listed k b q a.init (omega arith)).count refl h) in (
         value_stands k R L all v tk false hs b are (no_reads hs) a.init a.type b q _ (nil-left (faults S b (Value (Some a.type)) a.init) _ f) (sits_first all L.untils es _ b rest h) (counted_left all es _ c),
         vars_fit vs (v ++ local a.name (binding.Accumulator a.type) ∷ []) (insert_name tk a.name) (hs ++ var_home R j a ∷ []) (j + 1) (q + 1) rest (one_more (q + 1) j v hs a (homes_later k R L all b (q + 1) 0 v hs (omega arith) are) n (omega (arith, le))) (one_number j v a n) (omega (arith, le)) f2 h2 (counted_right all es _ c).1,
       )
@@ -357,13 +260,13 @@ module _ (R : ℕ → ℕ) (k : Program) (checked : check_fault k ≡ None) (few
   us = map (x_last_use (entries_of k)) (entries_of k)
 
   at_vars : Sits us (length k.params) (untils all (vs ++ (ls ++ xs)) [])
-  at_vars = sits_second all us ps (vs ++ (ls ++ xs)) 0 (length k.params) (length k.params) [] (params_stretch k k.params 0).many (omega arith) (drop_none us ∙ map_untils all all)
+  at_vars = sits_second all us ps (vs ++ (ls ++ xs)) 0 (length k.params) (length k.params) [] (params-listed k 0 k.params).count (omega arith) (drop_none us ∙ map_untils all all)
 
   at_loop : Sits us (loop_start k) (untils all (ls ++ xs) [])
-  at_loop = sits_second all us vs (ls ++ xs) (length k.params) (loop_start k) (vars_size (loop_index k) k.vars) [] (vars_stretch k k.vars (length k.params)).many refl at_vars
+  at_loop = sits_second all us vs (ls ++ xs) (length k.params) (loop_start k) (vars_size (loop_index k) k.vars) [] (vars-listed k (length k.params) k.vars).count refl at_vars
 
   at_answer : Sits us (loop_end k) (untils all xs [])
-  at_answer = sits_second all us ls xs (loop_start k) (loop_end k) (turns_size k.turns) [] (turns_stretch k k.turns (loop_start k) refl).many refl at_loop
+  at_answer = sits_second all us ls xs (loop_start k) (loop_end k) (turns_size k.turns) [] (loop-listed k).count refl at_loop
 
   counted_vars : AreUsesCounted all (vs ++ (ls ++ xs))
   counted_vars = counted_right all ps _ (all_counted all)
@@ -371,22 +274,13 @@ module _ (R : ℕ → ℕ) (k : Program) (checked : check_fault k ≡ None) (few
   counted_loop : AreUsesCounted all (ls ++ xs)
   counted_loop = counted_right all vs _ counted_vars
 
-  no_faults : kernel_faults k ≡ []
-  no_faults = faultless k checked
-
-  after_params_faults : vars_faults (param_scope k) (length k.params) k.vars ++ (turns_faults (var_scope k) (loop_start k) k.turns ++ answer_faults (after_turns (var_scope k) k.turns) (loop_end k) k.answer) ≡ []
-  after_params_faults = nil-right (params_faults (empty (loop_index k)) 0 k.params) _ no_faults
-
-  after_vars_faults : turns_faults (var_scope k) (loop_start k) k.turns ++ answer_faults (after_turns (var_scope k) k.turns) (loop_end k) k.answer ≡ []
-  after_vars_faults = nil-right (vars_faults (param_scope k) (length k.params) k.vars) _ after_params_faults
-
   spread : Spread R (layout_of_kernel R k) (length k.vars)
   spread = spread_of R k c
 
   vars_fits : FitsVars L R (param_homes 0 k.params) (param_scope k) 0 (length k.params) k.vars
   vars_fits =
       let e = param_scope_is k in
-      let f = nil-left (vars_faults (param_scope k) (length k.params) k.vars) _ after_params_faults in
+      let f = vars_faultless k checked in
       subst (λ s. FitsVars L R (param_homes 0 k.params) s 0 (length k.params) k.vars) (sym e)
       (vars_fit R k L all k.vars (locals_of k.params) (param_scope k).taken (param_homes 0 k.params) 0 (length k.params) _ (first_are R k L all (length k.params)) (numbers_params 0 k.params) (omega arith) (subst (λ s. vars_faults s (length k.params) k.vars ≡ []) e f) (sits_first all us vs (ls ++ xs) (length k.params) [] at_vars) (counted_left all vs _ counted_vars))
 
@@ -399,18 +293,17 @@ module _ (R : ℕ → ℕ) (k : Program) (checked : check_fault k ≡ None) (few
   turns_fit l e =
       let s = var_scope_is k in
       let ix : loop_index k ≡ Some l.index = ap (option_map index_of) e in
-      let f0 : turns_faults (var_scope k) (loop_start k) (Some l) ≡ [] = subst (λ o. turns_faults (var_scope k) (loop_start k) o ≡ []) e (nil-left (turns_faults (var_scope k) (loop_start k) k.turns) _ after_vars_faults) in
-      let a0 : answer_faults (after_turns (var_scope k) (Some l)) (loop_end k) k.answer ≡ [] = subst (λ o. answer_faults (after_turns (var_scope k) o) (loop_end k) k.answer ≡ []) e (nil-right (turns_faults (var_scope k) (loop_start k) k.turns) _ after_vars_faults) in
-      let free : Untaken l.index (var_scope k).taken = untwice (is_taken (var_scope k) l.index) _ (nil-left (twice (loop_start k) (var_scope k) l.index) _ (nil-right (bound_faults (loop_start k) (lookup (var_scope k) l.bound)) _ f0)) in
+      let f0 : turns_faults (var_scope k) (loop_start k) (Some l) ≡ [] = turns_faultless k l checked e in
+      let a0 : answer_faults (after_turns (var_scope k) (Some l)) (loop_end k) k.answer ≡ [] = subst (λ o. answer_faults (after_turns (var_scope k) o) (loop_end k) k.answer ≡ []) e (answer_faultless k checked) in
       let h : Sits us (loop_start k) (untils all (turns_entries k (loop_start k) (Some l)) (untils all xs [])) = subst (λ o. Sits us (loop_start k) (untils all (turns_entries k (loop_start k) o) (untils all xs []))) e (sits_first all us ls xs (loop_start k) [] at_loop) in
       let u : AreUsesCounted all (turns_entries k (loop_start k) (Some l)) = subst (λ o. AreUsesCounted all (turns_entries k (loop_start k) o)) e (counted_left all ls xs counted_loop) in
       subst (λ s. FitsLoop L (kernel_homes R k) s l (loop_start k) (loop_end k) k.answer × IsBound R k l) (sym s)
-      (loop_fits R k L all few spread l (var_scope k).taken (loop_start k) (loop_end k) _ ix (index_alone l.index R k free) (omega arith) (subst (λ s. turns_faults s (loop_start k) (Some l) ≡ []) s f0) (subst (λ s. answer_faults (after_turns s (Some l)) (loop_end k) k.answer ≡ []) s a0) h u at_answer (counted_right all ls xs counted_loop))
+      (loop_fits R k L all few spread l (var_scope k).taken (loop_start k) (loop_end k) _ ix (index_homeless R k l checked e) (omega arith) (subst (λ s. turns_faults s (loop_start k) (Some l) ≡ []) s f0) (subst (λ s. answer_faults (after_turns s (Some l)) (loop_end k) k.answer ≡ []) s a0) h u at_answer (counted_right all ls xs counted_loop))
 
   straight_fit : k.turns ≡ None → FitsAnswer L (kernel_homes R k) (var_scope k) (loop_end k) k.answer
   straight_fit e =
       let s = var_scope_is k in
-      let a0 : answer_faults (var_scope k) (loop_end k) k.answer ≡ [] = subst (λ o. answer_faults (after_turns (var_scope k) o) (loop_end k) k.answer ≡ []) e (nil-right (turns_faults (var_scope k) (loop_start k) k.turns) _ after_vars_faults) in
+      let a0 : answer_faults (var_scope k) (loop_end k) k.answer ≡ [] = subst (λ o. answer_faults (after_turns (var_scope k) o) (loop_end k) k.answer ≡ []) e (answer_faultless k checked) in
       subst (λ s. FitsAnswer L (kernel_homes R k) s (loop_end k) k.answer) (sym s)
       (answer_fits R k L all few spread k.answer (locals_of k.params ++ accs_of k.vars) (var_scope k).taken (kernel_homes R k) (loop_end k) (kernel_are R k L all (loop_end k)) (subst (λ s. answer_faults s (loop_end k) k.answer ≡ []) s a0) at_answer (counted_right all ls xs counted_loop))
 

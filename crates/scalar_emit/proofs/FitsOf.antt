@@ -1,76 +1,23 @@
 -- Registers fit an expression of a checked kernel: what its typing and its listing say.
-use Rattle.std.proofs.Common.{◌≡◌, ℕ, zero, suc, ◌+◌, ◌≤◌, Bool, true, false, cond, List, [], ◌∷◌, ◌++◌, drop, Option, Some, None, refl, sym, ap, ◌∙◌, subst, arith}
-use Rattle.std.specs.Prelude.{ℤ, pos, negsuc, unsigned_abs, nat_le, nat_eq, option_and_then, slice_index}
-use Rattle.std.proofs.lemmas.Bool.{leb-true, eqb-true}
+use Rattle.std.proofs.Common.{◌≡◌, ℕ, zero, suc, ◌+◌, ◌≤◌, Bool, List, [], ◌∷◌, ◌++◌, drop, Option, Some, None, refl, sym, ap, ◌∙◌, subst, arith}
+use Rattle.std.specs.Prelude.{ℤ, pos, negsuc, unsigned_abs, nat_le, slice_index}
+use Rattle.std.proofs.lemmas.Bool.{leb-true}
 use Rattle.kernel_tree.specs.declared.ops.Ty.{Ty}
-use Rattle.kernel_tree.specs.declared.ops.Ty.TheVariants as ty
 use Rattle.kernel_tree.specs.declared.fault.Found.{Found}
-use Rattle.kernel_tree.specs.declared.fault.Binding.{Binding}
 use Rattle.kernel_tree.specs.Plain.{Term, Literal, Variable, Element, Unary, Operation, Shift, Conversion, Choice, Comparison, Both, Either, Not, Program}
 use Rattle.kernel_tree.specs.Items.{term_size, index_items, index_size, stream_offset, loop_index}
 use Rattle.kernel_tree.specs.Limits.{most_offset}
-use Rattle.kernel_tree.specs.Typing.{Scope, Local, Value, Condition, lookup, own, first, element_type, value_type, index_type, side_type, number_of_type, faults, as_value, as_condition, name_faults, typed_faults, mismatch, read_type, read_faults, index_faults, inner_faults, offset_faults, untyped}
+use Rattle.kernel_tree.specs.Typing.{Scope, Local, Value, Condition, lookup, own, first, index_type, side_type, faults, as_value, as_condition, mismatch, read_faults, index_faults, inner_faults, offset_faults, untyped}
+use Rattle.kernel_tree.proofs.Faultless.{nil-left, nil-right, never}
+use Rattle.kernel_tree.proofs.NoFault.{is_empty, no_mismatch, no_name, no_read}
 use Rattle.loop_form.specs.Entries.{Content, IsLiteral, IsName, IsRead, IsLet, IsStore, IsUpdate, IsPlain, Entry, inner_entries, term_entries}
+use Rattle.loop_form.proofs.ItemTypes.{drop_next}
 use Rattle.scalar_emit.specs.Layout.{Layout, Homes, last_use_at, NameLasts}
 use Rattle.scalar_emit.specs.Fits.{Fits, FitsTruth, FitsIndex, IndexAt, IsSmall, IsSome}
 use Rattle.scalar_emit.specs.Kernel.{x_last_use}
-
-pub nil-left : {A : Type 0} (xs ys : List A) → xs ++ ys ≡ [] → xs ≡ []
-nil-left [] ys e = refl
-nil-left (x ∷ xs) ys e = absurd cc
-
-pub nil-right : {A : Type 0} (xs ys : List A) → xs ++ ys ≡ [] → ys ≡ []
-nil-right [] ys e = e
-nil-right (x ∷ xs) ys e = absurd cc
-
-pub never : {A : Type 0} {x : A} {xs : List A} → x ∷ xs ≡ [] → ⊥
-never e = cc
-
-pub is_empty : {A : Type 0} (b : Bool) (x : A) (xs : List A) → cond b [] (x ∷ xs) ≡ [] → b ≡ true
-is_empty true x xs e = refl
-is_empty false x xs e = absurd cc
+use Rattle.kernel_tree.specs.declared.ops.Ty.TheVariants as ty
 
 -- ---- types
-
-type_from : ℕ → Ty
-type_from zero = ty.I8
-type_from (suc zero) = ty.I16
-type_from (suc (suc zero)) = ty.I32
-type_from (suc (suc (suc zero))) = ty.I64
-type_from (suc (suc (suc (suc zero)))) = ty.U8
-type_from (suc (suc (suc (suc (suc zero))))) = ty.U16
-type_from (suc (suc (suc (suc (suc (suc zero)))))) = ty.U32
-type_from (suc (suc (suc (suc (suc (suc (suc n))))))) = ty.U64
-
-type_back : (t : Ty) → type_from (number_of_type t) ≡ t
-unfolding type_from
-type_back ty.I8 = refl
-type_back ty.I16 = refl
-type_back ty.I32 = refl
-type_back ty.I64 = refl
-type_back ty.U8 = refl
-type_back ty.U16 = refl
-type_back ty.U32 = refl
-type_back ty.U64 = refl
-
-pub no_mismatch : (item : ℕ) (T t : Ty) → mismatch item (Some T) t ≡ [] → T ≡ t
-no_mismatch item T t e = sym (type_back T) ∙ ap type_from (eqb-true _ _ (is_empty (nat_eq (number_of_type T) (number_of_type t)) _ _ e)) ∙ type_back t
-
-pub no_typed : (item : ℕ) (T : Ty) (o : Option Ty) → typed_faults item (Some T) o ≡ [] → o ≡ Some T
-no_typed item T None e = absurd cc
-no_typed item T (Some t) e = ap Some (sym (no_mismatch item T t e))
-
-no_name : (item : ℕ) (T : Ty) (o : Option Binding) → name_faults item (Some T) o ≡ [] → option_and_then value_type o ≡ Some T
-no_name item T None e = absurd cc
-no_name item T (Some b) e = no_typed item T (value_type b) e
-
-read_in : (item : ℕ) (ins : Bool) (T : Ty) (b : Binding) → typed_faults item (Some T) (read_type ins b) ≡ [] → element_type b ≡ Some T
-read_in item true T b e = no_typed item T (element_type b) e
-read_in item false T b e = absurd cc
-
-no_read : (item : ℕ) (ins : Bool) (T : Ty) (o : Option Binding) → read_faults item ins (Some T) o ≡ [] → option_and_then element_type o ≡ Some T
-no_read item ins T None e = absurd cc
-no_read item ins T (Some b) e = read_in item ins T b e
 
 pub no_untyped : (item : ℕ) (o : Option Ty) → untyped item o ≡ [] → IsSome o
 no_untyped item None e = absurd cc
@@ -102,12 +49,6 @@ drop_head [] zero y ys e = absurd cc
 drop_head [] (suc b) y ys e = absurd cc
 drop_head (x ∷ xs) zero y ys e = let f : x ≡ y = cc in f
 drop_head (x ∷ xs) (suc b) y ys e = drop_head xs b y ys e
-
-pub drop_next : (xs : List ℕ) (b y : ℕ) (ys : List ℕ) → drop b xs ≡ y ∷ ys → drop (suc b) xs ≡ ys
-drop_next [] zero y ys e = absurd cc
-drop_next [] (suc b) y ys e = absurd cc
-drop_next (x ∷ xs) zero y ys e = let f : xs ≡ ys = cc in f
-drop_next (x ∷ xs) (suc b) y ys e = drop_next xs b y ys e
 
 -- what is asked of the names of the items
 abbrev pub Used : Homes → Option (List ℕ) → Content → ℕ → ℕ → Type 0

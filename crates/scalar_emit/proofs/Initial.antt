@@ -3,15 +3,16 @@ use Rattle.std.proofs.Common.{◌≡◌, ℕ, ◌+◌, Bool, true, false, List, 
 use Rattle.std.specs.Prelude.{ℤ, not, option_map, option_and_then}
 use Rattle.guest_types.specs.Memory.{Memory}
 use Rattle.kernel_tree.specs.declared.ops.Ty.{Ty}
-use Rattle.kernel_tree.specs.declared.fault.Binding.{Binding}
-use Rattle.kernel_tree.specs.declared.fault.Binding.TheVariants as binding
-use Rattle.kernel_tree.specs.Plain.{Term, Literal, Variable, Element, Unary, Operation, Shift, Conversion, Choice, Comparison, Both, Either, Not, Parameter, Accumulator, Program}
-use Rattle.kernel_tree.specs.Items.{index_items, loop_index}
-use Rattle.kernel_tree.specs.Typing.{Scope, Value, Condition, lookup, own, side_type, declared, binding_of_shape, empty, after_params, param_scope, faults, read_faults, vars_faults, params_faults, check_fault}
+use Rattle.kernel_tree.specs.Plain.{Term, Literal, Variable, Element, Unary, Operation, Shift, Conversion, Choice, Comparison, Both, Either, Not, Accumulator, Program}
+use Rattle.kernel_tree.specs.Items.{index_items}
+use Rattle.kernel_tree.specs.Typing.{Scope, Value, Condition, lookup, own, side_type, declared, param_scope, faults, vars_faults, check_fault}
+use Rattle.kernel_tree.proofs.Faultless.{nil-left, nil-right, vars_faultless}
+use Rattle.kernel_tree.proofs.NoFault.{outside_read}
+use Rattle.kernel_tree.proofs.Scopes.{param_outside}
 use Rattle.kernel_meaning.specs.Eval.{Names, value, holds, on_both, and_then, or_else, chosen}
 use Rattle.kernel_meaning.specs.Iterate.{with_name}
-use Rattle.kernel_meaning.specs.ScalarRun.{initial, given, started}
-use Rattle.scalar_emit.proofs.KindsOf.{nil-left, nil-right, never, kernel-none}
+use Rattle.kernel_meaning.specs.ScalarRun.{initial, argument_names, started}
+use Rattle.kernel_tree.specs.declared.fault.Binding.TheVariants as binding
 
 -- there is one
 abbrev pub IsThere : {A : Type 0} → Option A → Type 0
@@ -41,17 +42,11 @@ or_there None b h k = absurd cc
 or_there (Some true) b h k = (true, refl)
 or_there (Some false) b h k = k
 
--- a read outside the loop is a fault of its own
-no_read : (item : ℕ) (inside : Bool) (want : Option Ty) (o : Option Binding) → inside ≡ false → read_faults item inside want o ≡ [] → ⊥
-no_read item true want o e h = absurd cc
-no_read item false want None e h = never h
-no_read item false want (Some b) e h = never h
-
 mutual
   pub value_there : (e : Term) (s : Scope) (from : ℕ) (want : Option Ty) (m : Memory) (names : Names) → s.inside ≡ false → faults s from (Value want) e ≡ [] → IsThere (value s want e m names)
   value_there (Literal n) s from want m names out h = (_, refl)
   value_there (Variable x) s from want m names out h = (_, refl)
-  value_there (Element a i) s from want m names out h = absurd (no_read (from + index_items s.index i) s.inside want (lookup s a) out (nil-left _ _ (nil-right _ _ h)))
+  value_there (Element a i) s from want m names out h = absurd (outside_read (from + index_items s.index i) s.inside want (lookup s a) out (nil-left _ _ (nil-right _ _ h)))
   value_there (Unary op e) s from want m names out h = map_there _ _ (value_there e s _ want m names out (nil-left _ _ h))
   value_there (Operation op a b) s from want m names out h = both_there _ _ _ (value_there a s _ want m names out (nil-left _ _ h)) (value_there b s _ want m names out (nil-left _ _ (nil-right _ _ h)))
   value_there (Shift l e n) s from want m names out h = map_there _ _ (value_there e s _ want m names out (nil-left _ _ h))
@@ -87,12 +82,6 @@ initial_there (v ∷ vs) s from m names out h =
     initial_step v vs s m names (value s (Some v.type) v.init m names) (value_there v.init s from (Some v.type) m names out (nil-left _ _ h))
     (λ more. initial_there vs (declared s v.name (binding.Accumulator v.type)) _ m more out (nil-right _ _ (nil-right _ _ h)))
 
-outside : (s : Scope) (ps : List Parameter) → (after_params s ps).inside ≡ s.inside
-outside s [] = refl
-outside s (p ∷ ps) = outside (declared s p.name (binding_of_shape p.shape)) ps
-
 -- every checked kernel comes to its loop
 pub all_start : (k : Program) (args : List ℕ) (m : Memory) → check_fault k ≡ None → (names : Names) × (started k args m ≡ Some names)
-all_start k args m e =
-    let r = nil-right (params_faults (empty (loop_index k)) 0 k.params) _ (kernel-none k e) in
-    initial_there k.vars (param_scope k) (length k.params) m (given k.params args) (outside (empty (loop_index k)) k.params) (nil-left _ _ r)
+all_start k args m e = initial_there k.vars (param_scope k) (length k.params) m (argument_names k.params args) (param_outside k) (vars_faultless k e)

@@ -7,26 +7,26 @@ use Rattle.machine_model.specs.Machine.{State}
 use Rattle.kernel_tree.specs.Plain.{PlainLoop, Returned, Program}
 use Rattle.kernel_tree.specs.Items.{block_size, turns_size, answer_size, index_of, size_of}
 use Rattle.kernel_tree.specs.Typing.{Scope, var_scope, check_fault}
+use Rattle.kernel_tree.proofs.Scopes.{scope_index}
 use Rattle.reg_assign.specs.declared.interval.RegClass.TheVariants.{X}
 use Rattle.reg_assign.specs.Registers.{Assignment}
 use Rattle.loop_form.specs.Registers.{FitsKernel}
 use Rattle.kernel_meaning.specs.Eval.{Names, value_at}
-use Rattle.kernel_meaning.specs.ScalarRun.{Run, bound_of, course, finish, returned, ended}
+use Rattle.kernel_meaning.specs.ScalarRun.{Run, bound_of, iterations, finish, returned, ended, turns_from, run_from, IsWithin}
 use Rattle.kernel_meaning.proofs.Residues.{word-below}
 use Rattle.loop_form.specs.Entries.{loop_start, loop_end}
 use Rattle.label_fix.specs.DraftRun.{Entry, Place, Laid, following}
-use Rattle.label_fix.proofs.Steps.{Goes, Resolves, stay, end_after, stop_after, stop_more, pass}
+use Rattle.label_fix.proofs.StretchSteps.{Goes, Resolves, stay, end_after, stop_after, stop_more, pass}
 use Rattle.scalar_emit.specs.Layout.{Layout, Homes, register_at}
 use Rattle.scalar_emit.specs.Loop.{answer_code, test_code, loop_code, FitsAnswer, FitsLoop}
 use Rattle.scalar_emit.specs.Kernel.{layout_of_kernel, kernel_homes, turns_code, scalar_code, register_in}
 use Rattle.scalar_emit.specs.KernelFits.{KernelFits}
 use Rattle.scalar_emit.specs.Safe.{AreSteady}
-use Rattle.scalar_emit.specs.Runs.{AreHeld, AtIteration, Comes, ends_so, faults_so, turns_from, run_from, IsWithin, ScalarRuns}
-use Rattle.scalar_emit.proofs.States.{Assigned, AreSafe, Held, At, name_held}
-use Rattle.scalar_emit.proofs.LoopRuns.{standing, answer_runs, loop_runs}
+use Rattle.scalar_emit.specs.Runs.{AreHeld, AtIteration, Comes, ends_so, faults_so, ScalarRuns}
+use Rattle.scalar_emit.proofs.LayoutStates.{Assigned, AreSafe, Held, At, name_held}
+use Rattle.scalar_emit.proofs.LoopRuns.{fixed_at, answer_runs, loop_runs}
 use Rattle.scalar_emit.proofs.ChosenOf.{chosen_all}
 use Rattle.scalar_emit.proofs.FitsKernel.{kernel_fits}
-use Rattle.scalar_emit.proofs.Emission.{var_index}
 
 -- ---- counts
 
@@ -46,7 +46,7 @@ held_all [] (n ∷ ns) p s h = absurd h
 held_all (x ∷ hs) [] p s h = absurd h
 held_all (x ∷ hs) (n ∷ ns) p s h = (h.0, (λ l. h.1), held_all hs ns p s h.2)
 
-at_head : (R : ℕ → ℕ) (k : Program) (i : ℕ) (names : Names) (m : Memory) (s : State) (p : ℕ) → AtIteration R k i names m s → At (standing i s.x) (kernel_homes R k) (var_scope k).visible names m p s
+at_head : (R : ℕ → ℕ) (k : Program) (i : ℕ) (names : Names) (m : Memory) (s : State) (p : ℕ) → AtIteration R k i names m s → At (fixed_at i s.x) (kernel_homes R k) (var_scope k).visible names m p s
 at_head R k i names m s p at = record {
   sized = at.sized;
   nine = at.index;
@@ -77,7 +77,7 @@ turn_size i (Some l) e = let z = ap (λ j. block_size j l.body) e in omega (arit
 turn_size i None e = omega arith
 
 module _ (D : Laid) (L : Layout) (fit : Assigned L) (hs : Homes) (s : Scope) (steady : AreSteady hs) (safe : (b : ℕ) → AreSafe L b hs) where
-  turns_run : (turns : Option PlainLoop) (b n b2 : ℕ) (answer : Option Returned) (rest : List Entry) (args : List ℕ) (i : ℕ) (names : Names) (m : Memory) (st : State) → FitsTurns L hs s turns b b2 answer → Resolves D (turns_code L hs s turns b n b2 answer rest) → IsWithin turns i names → ((p : ℕ) → At (standing i args) hs s.visible names m p st)
+  turns_run : (turns : Option PlainLoop) (b n b2 : ℕ) (answer : Option Returned) (rest : List Entry) (args : List ℕ) (i : ℕ) (names : Names) (m : Memory) (st : State) → FitsTurns L hs s turns b b2 answer → Resolves D (turns_code L hs s turns b n b2 answer rest) → IsWithin turns i names → ((p : ℕ) → At (fixed_at i args) hs s.visible names m p st)
       → Comes D (following D n) st (turn_steps s.index turns) (4 * answer_size s.index answer + 5) i (turns_from s turns answer i m names)
   turns_run (Some l) b n b2 answer rest args i names m st fits res le at =
       let r = register_at hs l.bound in
@@ -88,7 +88,7 @@ module _ (D : Laid) (L : Layout) (fit : Assigned L) (hs : Homes) (s : Scope) (st
       let q = loop_runs D L fit hs s l b n b2 answer rest args fits steady (safe b) res small (bound_of l names - i) i names m st sum a in
       subst (λ es. Comes D es st (turn_steps s.index (Some l)) (4 * answer_size s.index answer + 5) i (turns_from s (Some l) answer i m names)) (sym res.0)
       (comes_within (turn_steps s.index (Some l)) (4 * answer_size s.index answer + 5) (omega arith) (omega arith)
-      (subst (λ x. Comes D (test_code L hs s l b n b2 answer rest) st (turn_steps s.index (Some l)) (4 * answer_size s.index answer + 3 + 2) i (finish s l answer x (course s l (bound_of l names - i) i m names))) is q))
+      (subst (λ x. Comes D (test_code L hs s l b n b2 answer rest) st (turn_steps s.index (Some l)) (4 * answer_size s.index answer + 3 + 2) i (finish s l answer x (iterations s l (bound_of l names - i) i m names))) is q))
   turns_run None b n b2 answer rest args i names m st fits res e at =
       subst (λ es. Comes D es st 0 (4 * answer_size s.index answer + 5) i (ended m 0 (returned s answer m names))) (sym res.0)
       (comes_within 0 (4 * answer_size s.index answer + 5) (omega arith) (omega arith) (answer_runs D L fit s rest 0 i 0 0 b2 (n + 1) answer (omega (arith, e)) (safe b2) (at b2) fits res.1))
@@ -105,7 +105,7 @@ module _ (R : ℕ → ℕ) (k : Program) (fit : KernelFits R k) where
   comes D n rest i names m s res le at =
       let L = layout_of_kernel R k in
       let hs = kernel_homes R k in
-      let j = var_index k in
+      let j = scope_index k in
       let a = ap (λ j. answer_size j k.answer) j in
       let t = turn_size (var_scope k).index k.turns j in
       comes_within (32 + 8 * size_of k) (32 + 8 * size_of k) (omega (arith, t)) (omega (arith, a))
@@ -121,4 +121,4 @@ module _ (R : ℕ → ℕ) (k : Program) (fit : KernelFits R k) where
 
 -- the registers of a kernel's intervals fit it
 pub fits : (k : Program) (a : Assignment) → check_fault k ≡ None → length k.params ≤ 8 → FitsKernel k X a → KernelFits (register_in a) k
-fits k a checked few f = let c = chosen_all k a f in kernel_fits (register_in a) k checked few (record { below = c.below; apart = λ m n p s t ne is it at there. c.apart m n p s t ne is it at.0 at.1 there.0 there.1 })
+fits k a checked few f = kernel_fits (register_in a) k checked few (chosen_all k a f)

@@ -7,6 +7,7 @@ use Rattle.kernel_tree.specs.declared.fault.Binding.TheVariants as binding
 use Rattle.kernel_tree.specs.Plain.{Parameter, Accumulator, PlainLoop, Returned, Program}
 use Rattle.kernel_tree.specs.Items.{term_size, loop_index}
 use Rattle.kernel_tree.specs.Typing.{Scope, declared, param_scope, var_scope}
+pub use Rattle.kernel_scope.specs.Scopes.{after_var}
 use Rattle.reg_assign.specs.declared.interval.RegClass.TheVariants.{X}
 use Rattle.reg_assign.specs.Registers.{Assignment}
 use Rattle.loop_form.specs.declared.item.Item.{Item}
@@ -91,10 +92,6 @@ argument_code (shape.Array t) n rest = rest
 abbrev pub arguments_code : ℕ → List Parameter → List Line → List Line
 arguments_code n [] rest = rest
 arguments_code n (p ∷ ps) rest = argument_code p.shape n (arguments_code (n + 1) ps rest)
-
--- after an accumulator
-abbrev pub after_var : Scope → Accumulator → Scope
-after_var s v = declared s v.name (binding.Accumulator v.type)
 
 -- accumulator number j, whose items begin at b and whose labels at n
 abbrev pub var_code : Layout → (ℕ → ℕ) → Homes → Scope → (j b n : ℕ) → Accumulator → List Line → List Line

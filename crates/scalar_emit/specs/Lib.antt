@@ -5,7 +5,7 @@ pub mod Fits
 pub mod Statements
 pub mod Loop
 pub mod View
-pub mod Kinds
+pub mod Operands
 pub mod Kernel
 pub mod Safe
 pub mod KernelFits

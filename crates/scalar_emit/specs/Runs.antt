@@ -1,35 +1,23 @@
 -- What the code of a kernel does, by the run of a draft: what it leaves before the loop, and how it ends.
-use Rattle.std.specs.Prelude.{◌≡◌, ℕ, ◌+◌, ◌-◌, ◌*◌, ◌<◌, ◌≤◌, ◌^◌, ℤ, List, [], ◌∷◌, length, Option, Some, None, All, slice_index}
+use Rattle.std.specs.Prelude.{◌≡◌, ℕ, ◌+◌, ◌*◌, ◌<◌, ◌≤◌, ◌^◌, List, [], ◌∷◌, length, Some, All, slice_index}
 use Rattle.guest_types.specs.Memory.{Memory, IsMemory}
 use Rattle.guest_types.specs.EarlyLoads.{StopList}
 use Rattle.machine_model.specs.declared.outcome.StopKind.{StopKind}
 use Rattle.machine_model.specs.declared.outcome.StopKind.TheVariants.{Read, Write}
 use Rattle.machine_model.specs.Machine.{State, x_at}
-use Rattle.kernel_tree.specs.declared.ops.Ty.{Ty}
-use Rattle.kernel_tree.specs.Plain.{PlainLoop, Returned, Program}
+use Rattle.kernel_tree.specs.Plain.{Program}
 use Rattle.kernel_tree.specs.Items.{size_of}
-use Rattle.kernel_tree.specs.Typing.{Scope, Local, value_type, var_scope}
+use Rattle.kernel_tree.specs.Typing.{var_scope}
 use Rattle.kernel_meaning.specs.Operators.{word}
-use Rattle.kernel_meaning.specs.TypeValues.{IsOf}
+use Rattle.kernel_meaning.specs.Ranges.{AreRanged}
 use Rattle.kernel_meaning.specs.Eval.{Names}
-use Rattle.kernel_meaning.specs.ScalarRun.{Run, End, Fault, bound_of, course, returned, ended, finish, started}
+use Rattle.kernel_meaning.specs.ScalarRun.{Run, End, Fault, started, run_from, IsWithin}
 use Rattle.label_fix.specs.DraftRun.{Entry, Laid, following}
 use Rattle.label_fix.specs.Stretches.{Resolves, Goes, Stops, Ends}
 use Rattle.scalar_emit.specs.Layout.{Homes}
 use Rattle.scalar_emit.specs.Kernel.{kernel_homes, begin_code, scalar_code}
 
 -- ---- names
-
--- the value of a name is one of its type
-abbrev pub TypeRange : Option Ty → ℤ → Type 0
-TypeRange None z = Unit {0}
-TypeRange (Some t) z = IsOf t z
-
-abbrev pub AreRanged : List Local → Names → Type 0
-AreRanged [] [] = Unit {0}
-AreRanged [] (n ∷ ns) = ⊥
-AreRanged (l ∷ ls) [] = ⊥
-AreRanged (l ∷ ls) (n ∷ ns) = (n.name ≡ l.name) × TypeRange (value_type l.binding) n.value × AreRanged ls ns
 
 -- each name's register has its value
 abbrev pub AreHeld : Homes → Names → State → Type 0
@@ -96,19 +84,6 @@ IsAccess _ = ⊥
 pub data Comes (D : Laid) (c : List Entry) (s : State) (K F i : ℕ) : Run → Type 0 where
   ends_so : {m : Memory} {r bg : ℕ} (n : ℕ) → bg ≡ i + n → Ends D c s m r (K * n + F) → Comes D c s K F i (End m r bg)
   faults_so : {m : Memory} {bg : ℕ} (n : ℕ) (kind : StopKind) → bg ≡ i + n → IsAccess kind → Stops D c s kind m (K * n + F) → Comes D c s K F i (Fault m bg)
-
--- what the scalar loop does from iteration i on, up to the end of the run
-abbrev pub turns_from : Scope → Option PlainLoop → Option Returned → ℕ → Memory → Names → Run
-turns_from s None answer i m names = ended m 0 (returned s answer m names)
-turns_from s (Some l) answer i m names = finish s l answer (bound_of l names) (course s l (bound_of l names - i) i m names)
-
-abbrev pub run_from : Program → ℕ → Memory → Names → Run
-run_from k i m names = turns_from (var_scope k) k.turns k.answer i m names
-
--- no more iterations than the loop has are completed; without a loop there are none
-abbrev pub IsWithin : Option PlainLoop → ℕ → Names → Type 0
-IsWithin None i names = i ≡ 0
-IsWithin (Some l) i names = i ≤ bound_of l names
 
 -- Code that is entered before an iteration, at its first entry or after its label, does what the scalar loop does from there on.
 pub record ScalarRuns (R : ℕ → ℕ) (k : Program) : Type 0 where

@@ -1,33 +1,15 @@
 //! What scalar code needs of a checked kernel, and what it does.
 
 ghost use Rattle.std.specs.Prelude.{◌≡◌, ◌+◌, ◌≤◌, length};
-ghost use Rattle.kernel_tree.specs.Items.{size_of};
 ghost use Rattle.reg_assign.specs.declared.interval.RegClass.TheVariants.{X};
 ghost use Rattle.loop_form.specs.Listing.{listing_of};
 ghost use Rattle.loop_form.specs.Registers.{FitsKernel};
 ghost use Rattle.loop_form.specs.View.{program};
 ghost use Rattle.scalar_emit.specs.Kernel.{register_in, count_values};
-ghost use Rattle.scalar_emit.specs.Kinds.{KernelKinds};
 ghost use Rattle.scalar_emit.specs.Runs.{BeginRuns, ScalarRuns};
 
 use kernel_tree::Checked;
 use reg_assign::Assigned;
-
-/// A checked kernel has at most 1,000 items, and so at most as many accumulators.
-pub fn few_items(kernel: &Checked)
-    ensures size { size_of (program kernel.now) ≤ 1000 }
-    ensures vars { length (program kernel.now).vars ≤ 1000 }
-{}
-
-/// It has at most eight parameters.
-pub fn few_params(kernel: &Checked)
-    ensures { length (program kernel.now).params ≤ 8 }
-{}
-
-/// Values stand where values are wanted, and conditions where conditions are.
-pub fn right_kinds(kernel: &Checked)
-    ensures { KernelKinds (program kernel.now) }
-{}
 
 /// Each accumulator and each item with a value has a register.
 pub fn each_has_a_register(kernel: &Checked, regs: &Assigned)

@@ -5,12 +5,13 @@ ghost use Rattle.kernel_tree.specs.Plain.{Define, Put, Update, Choose, Leave, No
 ghost use Rattle.kernel_tree.specs.Parts.{part_action};
 ghost use Rattle.kernel_tree.specs.Items.{action_size, block_size, stream_offset};
 ghost use Rattle.kernel_tree.specs.Typing as typing;
+ghost use Rattle.kernel_tree.specs.Kinds.{IsValue, IsTruth, ActionKinds, BlockKinds};
 ghost use Rattle.kernel_scope.specs.Scopes.{scope_of};
 ghost use Rattle.kernel_meaning.specs.Operators as operators;
 ghost use Rattle.label_fix.specs.DraftRun as plain;
 ghost use Rattle.scalar_emit.specs.Words as words;
 ghost use Rattle.scalar_emit.specs.Statements as statements;
-ghost use Rattle.scalar_emit.specs.Kinds.{IsValue, IsTruth, ActionKinds, BlockKinds, has_blocks};
+ghost use Rattle.scalar_emit.specs.Operands.{has_blocks};
 ghost use Rattle.scalar_emit.specs.Drafts.{Appends};
 ghost use Rattle.scalar_emit.specs.View.{homes_of};
 

@@ -5,12 +5,11 @@ ghost use Rattle.reg_assign.specs.declared.interval.RegClass.TheVariants.{X};
 ghost use Rattle.loop_form.specs.Registers.{FitsKernel};
 ghost use Rattle.loop_form.specs.View.{program};
 
-use crate::laws::few_items;
 use crate::{emit_begin, emit_scalar};
 use kernel_front::accept;
 use kernel_tree::Checked;
 use label_fix::Draft;
-use loop_form::laws::ordered_intervals;
+use loop_form::laws::{few_items, ordered_intervals};
 use loop_form::{counted_registers, intervals};
 use reg_assign::{Assigned, RegClass, assign};
 use std::alloc::Global;

@@ -1,4 +1,4 @@
-// Texts of the runs of a kernel that looks for the end of a string.
+//! Texts of the runs of a kernel that looks for the end of a string.
 
 use crate::scalar_text;
 use kernel_meaning::ScalarOutcome;

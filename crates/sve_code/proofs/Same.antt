@@ -3,10 +3,10 @@ use Rattle.std.proofs.Common.{◌≡◌, ℕ, ◌/◌, ◌%◌, ◌<◌, ◌≤�
 use Rattle.std.proofs.Math.Bridge.{le_prop}
 use Rattle.word_rows.specs.Row.{Instruction}
 use Rattle.std.proofs.lemmas.Bool.{both_ways, eq-eqb}
-use Rattle.word_rows.proofs.Same.{same_bits}
+use Rattle.word_rows.proofs.FieldNumbers.{same_bits}
 use Rattle.sve_code.specs.Table.{Name, ptrue, pfalse, whilelo, ptest, p_and, p_bic, p_eor, p_orr, p_ands, brka, brkb, rdffr, rdffr_z, setffr, wrffr, cntb, cnth, cntw, cntd, incp, cntp, dup, index_row, sel, z_add, z_sub, z_and, z_orr, z_eor, z_bic, lsl_imm, lsr_imm, asr_imm, m_add, m_sub, m_smax, m_umax, m_smin, m_umin, m_mul, m_orr, m_eor, m_and, m_abs, m_neg, m_not, sxtb, uxtb, sxth, uxth, sxtw, uxtw, uaddv, smaxv, umaxv, sminv, uminv, orv, eorv, andv, cmphs, cmphi, cmpge, cmpgt, cmpeq, cmpne, ld1, ldff1, ldnf1, st1}
 use Rattle.sve_code.specs.Numbers.{size_number, size_from_h_number, size_from_s_number, dtype_number}
-use Rattle.sve_code.specs.View.{seen, pred_logic_name, break_form_name, count_name, add_sub_name, logic_name, shift_imm_name, merging_name, unary_name, extend_byte_name, extend_half_name, extend_word_name, reduce_name, compare_name}
+use Rattle.sve_code.specs.View.{instruction_view, pred_logic_name, break_form_name, count_name, add_sub_name, logic_name, shift_imm_name, merging_name, unary_name, extend_byte_name, extend_half_name, extend_word_name, reduce_name, compare_name}
 use Rattle.sve_code.specs.declared.Sve.{Sve}
 use Rattle.sve_code.specs.declared.Sve.TheVariants as sve
 use Rattle.sve_code.specs.declared.parts.OffsetReg.{OffsetReg}
@@ -488,7 +488,7 @@ compare_form vector_compare_ops.Gt = refl
 compare_form vector_compare_ops.Eq = refl
 compare_form vector_compare_ops.Ne = refl
 
-form_view : (x : Sve) → form_of (seen x).name ≡ form x
+form_view : (x : Sve) → form_of (instruction_view x).name ≡ form x
 unfolding form_of form
 form_view (sve.Ptrue pd size) = refl
 form_view (sve.Pfalse pd) = refl
@@ -524,7 +524,7 @@ form_view (sve.ContiguousStore zt rn pg offset sizes) = refl
 differ : (m n : ℕ) → eqb m n ≡ false → m ≡ n → ⊥
 differ m n h e = both_ways _ h (eq-eqb m n e)
 
-pub same : (x y : Sve) → seen x ≡ seen y → x ≡ y
+pub same : (x y : Sve) → instruction_view x ≡ instruction_view y → x ≡ y
 unfolding form
 same (sve.Ptrue pd size) (sve.Ptrue pd' size') e = let at_pd : pd ≡ pd' = same_bits pd pd' (ap (λ (i : Instruction Name). slice_index i.numbers 0) e) in let at_size : size ≡ size' = same_size size size' (ap (λ (i : Instruction Name). slice_index i.numbers 1) e) in cc
 same (sve.Pfalse pd) (sve.Pfalse pd') e = let at_pd : pd ≡ pd' = same_bits pd pd' (ap (λ (i : Instruction Name). slice_index i.numbers 0) e) in cc

@@ -1,5 +1,6 @@
 -- The numbers that fields hold for sizes, types and shifts (Arm DDI 0487, chapter C8, "SVE Instruction Descriptions").
-use Rattle.std.specs.Prelude.{ℕ, ◌*◌, ◌-◌, ◌^◌, ◌==◌, ◌||◌, Bool, nat_lt, if◌then◌else◌, [], ◌∷◌, slice_index}
+use Rattle.std.specs.Prelude.{ℕ, ◌*◌, ◌-◌, ◌^◌, Bool, nat_lt, if◌then◌else◌}
+use Rattle.guest_types.specs.LaneMemory.{load_form, size_of_width}
 use Rattle.sve_code.specs.declared.parts.Size.{Size}
 use Rattle.sve_code.specs.declared.parts.Size.TheVariants as sizes
 use Rattle.sve_code.specs.declared.parts.SizeFromH.{SizeFromH}
@@ -46,16 +47,15 @@ dtype_number dtypes.SignedByteToS = 13
 dtype_number dtypes.SignedByteToH = 14
 dtype_number dtypes.DoublewordToD = 15
 
--- ---- what a dtype says: the sizes in memory and of the element, in the order of the numbers ("LD1B (scalar plus scalar)" and its like)
+-- ---- what a dtype says: the sizes in memory and of the element, and whether it sign-extends ("LD1B (scalar plus scalar)" and its like)
 abbrev pub memory_size : ℕ → ℕ
-memory_size dtype = slice_index (0 ∷ 0 ∷ 0 ∷ 0 ∷ 2 ∷ 1 ∷ 1 ∷ 1 ∷ 1 ∷ 1 ∷ 2 ∷ 2 ∷ 0 ∷ 0 ∷ 0 ∷ 3 ∷ []) dtype
+memory_size dtype = size_of_width (load_form dtype).memory
 
 abbrev pub element_size : ℕ → ℕ
-element_size dtype = slice_index (0 ∷ 1 ∷ 2 ∷ 3 ∷ 3 ∷ 1 ∷ 2 ∷ 3 ∷ 3 ∷ 2 ∷ 2 ∷ 3 ∷ 3 ∷ 2 ∷ 1 ∷ 3 ∷ []) dtype
+element_size dtype = size_of_width (load_form dtype).element
 
--- whether it sign-extends
 abbrev pub is_signed : ℕ → Bool
-is_signed dtype = (dtype == 4) || (dtype == 8) || (dtype == 9) || (dtype == 12) || (dtype == 13) || (dtype == 14)
+is_signed dtype = (load_form dtype).signed
 
 -- ---- what tszh:tszl:imm3 says ("LSL (immediate, unpredicated)" and its like)
 abbrev pub shift_size : ℕ → ℕ

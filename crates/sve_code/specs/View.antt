@@ -107,34 +107,34 @@ compare_name vector_compare_ops.Gt = cmpgt
 compare_name vector_compare_ops.Eq = cmpeq
 compare_name vector_compare_ops.Ne = cmpne
 
-abbrev pub seen : Sve → Instruction Name
-seen (sve.Ptrue pd size) = record { name = ptrue; numbers = pd.number ∷ size_number size ∷ [] }
-seen (sve.Pfalse pd) = record { name = pfalse; numbers = pd.number ∷ [] }
-seen (sve.Whilelo pd rn rm size) = record { name = whilelo; numbers = pd.number ∷ rn.number ∷ rm.number ∷ size_number size ∷ [] }
-seen (sve.Ptest pn pg) = record { name = ptest; numbers = pn.number ∷ pg.number ∷ [] }
-seen (sve.PredicateLogical op pd pn pg pm) = record { name = pred_logic_name op; numbers = pd.number ∷ pn.number ∷ pg.number ∷ pm.number ∷ [] }
-seen (sve.Break op pd pn pg) = record { name = break_form_name op; numbers = pd.number ∷ pn.number ∷ pg.number ∷ [] }
-seen (sve.Rdffr pd) = record { name = rdffr; numbers = pd.number ∷ [] }
-seen (sve.RdffrPredicated pd pg) = record { name = rdffr_z; numbers = pd.number ∷ pg.number ∷ [] }
-seen sve.Setffr = record { name = setffr; numbers = [] }
-seen (sve.Wrffr pn) = record { name = wrffr; numbers = pn.number ∷ [] }
-seen (sve.ElementCount op rd) = record { name = count_name op; numbers = rd.number ∷ [] }
-seen (sve.Incp rd pm size) = record { name = incp; numbers = rd.number ∷ pm.number ∷ size_number size ∷ [] }
-seen (sve.Cntp rd pn pg size) = record { name = cntp; numbers = rd.number ∷ pn.number ∷ pg.number ∷ size_number size ∷ [] }
-seen (sve.DupScalar zd rn size) = record { name = dup; numbers = zd.number ∷ rn.number ∷ size_number size ∷ [] }
-seen (sve.IndexScalarImmediate zd rn imm5 size) = record { name = index_row; numbers = zd.number ∷ rn.number ∷ imm5.number ∷ size_number size ∷ [] }
-seen (sve.Sel zd zn pg zm size) = record { name = sel; numbers = zd.number ∷ zn.number ∷ pg.number ∷ zm.number ∷ size_number size ∷ [] }
-seen (sve.AddSub op zd zn zm size) = record { name = add_sub_name op; numbers = zd.number ∷ zn.number ∷ zm.number ∷ size_number size ∷ [] }
-seen (sve.Bitwise op zd zn zm) = record { name = logic_name op; numbers = zd.number ∷ zn.number ∷ zm.number ∷ [] }
-seen (sve.ShiftImmediate op zd zn amount) = record { name = shift_imm_name op; numbers = zd.number ∷ zn.number ∷ (amount.value % 8) ∷ (amount.value / 8 % 4) ∷ (amount.value / 32) ∷ [] }
-seen (sve.BinaryPredicated op zdn zm pg size) = record { name = merging_name op; numbers = zdn.number ∷ zm.number ∷ pg.number ∷ size_number size ∷ [] }
-seen (sve.UnaryPredicated op zd zn pg size) = record { name = unary_name op; numbers = zd.number ∷ zn.number ∷ pg.number ∷ size_number size ∷ [] }
-seen (sve.ExtendByte op zd zn pg size) = record { name = extend_byte_name op; numbers = zd.number ∷ zn.number ∷ pg.number ∷ size_from_h_number size ∷ [] }
-seen (sve.ExtendHalfword op zd zn pg size) = record { name = extend_half_name op; numbers = zd.number ∷ zn.number ∷ pg.number ∷ size_from_s_number size ∷ [] }
-seen (sve.ExtendWord op zd zn pg) = record { name = extend_word_name op; numbers = zd.number ∷ zn.number ∷ pg.number ∷ [] }
-seen (sve.Reduction op zd zn pg size) = record { name = reduce_name op; numbers = zd.number ∷ zn.number ∷ pg.number ∷ size_number size ∷ [] }
-seen (sve.CompareVectors op pd zn pg zm size) = record { name = compare_name op; numbers = pd.number ∷ zn.number ∷ pg.number ∷ zm.number ∷ size_number size ∷ [] }
-seen (sve.ContiguousLoad zt rn pg offset dtype) = record { name = ld1; numbers = zt.number ∷ rn.number ∷ pg.number ∷ offset.number ∷ dtype_number dtype ∷ [] }
-seen (sve.FirstFaultLoad zt rn pg rm dtype) = record { name = ldff1; numbers = zt.number ∷ rn.number ∷ pg.number ∷ rm.number ∷ dtype_number dtype ∷ [] }
-seen (sve.NonFaultLoad zt rn pg dtype) = record { name = ldnf1; numbers = zt.number ∷ rn.number ∷ pg.number ∷ dtype_number dtype ∷ [] }
-seen (sve.ContiguousStore zt rn pg offset sizes) = record { name = st1; numbers = zt.number ∷ rn.number ∷ pg.number ∷ offset.number ∷ size_number sizes.size ∷ size_number sizes.msz ∷ [] }
+abbrev pub instruction_view : Sve → Instruction Name
+instruction_view (sve.Ptrue pd size) = record { name = ptrue; numbers = pd.number ∷ size_number size ∷ [] }
+instruction_view (sve.Pfalse pd) = record { name = pfalse; numbers = pd.number ∷ [] }
+instruction_view (sve.Whilelo pd rn rm size) = record { name = whilelo; numbers = pd.number ∷ rn.number ∷ rm.number ∷ size_number size ∷ [] }
+instruction_view (sve.Ptest pn pg) = record { name = ptest; numbers = pn.number ∷ pg.number ∷ [] }
+instruction_view (sve.PredicateLogical op pd pn pg pm) = record { name = pred_logic_name op; numbers = pd.number ∷ pn.number ∷ pg.number ∷ pm.number ∷ [] }
+instruction_view (sve.Break op pd pn pg) = record { name = break_form_name op; numbers = pd.number ∷ pn.number ∷ pg.number ∷ [] }
+instruction_view (sve.Rdffr pd) = record { name = rdffr; numbers = pd.number ∷ [] }
+instruction_view (sve.RdffrPredicated pd pg) = record { name = rdffr_z; numbers = pd.number ∷ pg.number ∷ [] }
+instruction_view sve.Setffr = record { name = setffr; numbers = [] }
+instruction_view (sve.Wrffr pn) = record { name = wrffr; numbers = pn.number ∷ [] }
+instruction_view (sve.ElementCount op rd) = record { name = count_name op; numbers = rd.number ∷ [] }
+instruction_view (sve.Incp rd pm size) = record { name = incp; numbers = rd.number ∷ pm.number ∷ size_number size ∷ [] }
+instruction_view (sve.Cntp rd pn pg size) = record { name = cntp; numbers = rd.number ∷ pn.number ∷ pg.number ∷ size_number size ∷ [] }
+instruction_view (sve.DupScalar zd rn size) = record { name = dup; numbers = zd.number ∷ rn.number ∷ size_number size ∷ [] }
+instruction_view (sve.IndexScalarImmediate zd rn imm5 size) = record { name = index_row; numbers = zd.number ∷ rn.number ∷ imm5.number ∷ size_number size ∷ [] }
+instruction_view (sve.Sel zd zn pg zm size) = record { name = sel; numbers = zd.number ∷ zn.number ∷ pg.number ∷ zm.number ∷ size_number size ∷ [] }
+instruction_view (sve.AddSub op zd zn zm size) = record { name = add_sub_name op; numbers = zd.number ∷ zn.number ∷ zm.number ∷ size_number size ∷ [] }
+instruction_view (sve.Bitwise op zd zn zm) = record { name = logic_name op; numbers = zd.number ∷ zn.number ∷ zm.number ∷ [] }
+instruction_view (sve.ShiftImmediate op zd zn amount) = record { name = shift_imm_name op; numbers = zd.number ∷ zn.number ∷ (amount.value % 8) ∷ (amount.value / 8 % 4) ∷ (amount.value / 32) ∷ [] }
+instruction_view (sve.BinaryPredicated op zdn zm pg size) = record { name = merging_name op; numbers = zdn.number ∷ zm.number ∷ pg.number ∷ size_number size ∷ [] }
+instruction_view (sve.UnaryPredicated op zd zn pg size) = record { name = unary_name op; numbers = zd.number ∷ zn.number ∷ pg.number ∷ size_number size ∷ [] }
+instruction_view (sve.ExtendByte op zd zn pg size) = record { name = extend_byte_name op; numbers = zd.number ∷ zn.number ∷ pg.number ∷ size_from_h_number size ∷ [] }
+instruction_view (sve.ExtendHalfword op zd zn pg size) = record { name = extend_half_name op; numbers = zd.number ∷ zn.number ∷ pg.number ∷ size_from_s_number size ∷ [] }
+instruction_view (sve.ExtendWord op zd zn pg) = record { name = extend_word_name op; numbers = zd.number ∷ zn.number ∷ pg.number ∷ [] }
+instruction_view (sve.Reduction op zd zn pg size) = record { name = reduce_name op; numbers = zd.number ∷ zn.number ∷ pg.number ∷ size_number size ∷ [] }
+instruction_view (sve.CompareVectors op pd zn pg zm size) = record { name = compare_name op; numbers = pd.number ∷ zn.number ∷ pg.number ∷ zm.number ∷ size_number size ∷ [] }
+instruction_view (sve.ContiguousLoad zt rn pg offset dtype) = record { name = ld1; numbers = zt.number ∷ rn.number ∷ pg.number ∷ offset.number ∷ dtype_number dtype ∷ [] }
+instruction_view (sve.FirstFaultLoad zt rn pg rm dtype) = record { name = ldff1; numbers = zt.number ∷ rn.number ∷ pg.number ∷ rm.number ∷ dtype_number dtype ∷ [] }
+instruction_view (sve.NonFaultLoad zt rn pg dtype) = record { name = ldnf1; numbers = zt.number ∷ rn.number ∷ pg.number ∷ dtype_number dtype ∷ [] }
+instruction_view (sve.ContiguousStore zt rn pg offset sizes) = record { name = st1; numbers = zt.number ∷ rn.number ∷ pg.number ∷ offset.number ∷ size_number sizes.size ∷ size_number sizes.msz ∷ [] }

@@ -7,6 +7,7 @@
 
 use word_rows::Bits;
 
+pub mod bases;
 mod encoding;
 mod laws;
 mod parts;

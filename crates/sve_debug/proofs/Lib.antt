@@ -1,4 +1,4 @@
 mod Words
-mod Pieces
+mod PutTexts
 pub mod Runs
 mod Sessions

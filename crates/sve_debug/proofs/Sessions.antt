@@ -180,11 +180,11 @@ stops on true is e = refl
 stops on false is e = absurd cc
 
 -- what a byte and its answer do to a session under way
-pub record Turn (held held' : Held) (start : State) (line : List ℕ) (byte : ℕ) (mid new : Option (List ℕ)) (result : Result Bool SessionFault) : Type 0 where
+pub record LoopIndex (held held' : Held) (start : State) (line : List ℕ) (byte : ℕ) (mid new : Option (List ℕ)) (result : Result Bool SessionFault) : Type 0 where
   pub stands : (e : Session) → Stands held start e → Stands held' start (turned line byte e)
   pub told : (e : Session) → Stands held start e → Tells mid new (turn_text line byte e) result
 
-pub under_next : (held held' : Held) (start : State) (d : Session) (whole line line' : List ℕ) (most k byte : ℕ) (on : Bool) (input input' old mid new : Option (List ℕ)) → k + 1 ≤ most → IsPending line → IfSome input (λ bytes. Some byte ≡ slice_get bytes 0) → IfSome input (λ bytes. input' ≡ Some (drop 1 bytes)) → line' ≡ pending line byte → on ≡ true → on ≡ not (ends line byte) → Turn held held' start line byte mid new (Ok on) → Under held start d whole line (most - k) input old mid → Under held' start d whole line' (most - (k + 1)) input' old new
+pub under_next : (held held' : Held) (start : State) (d : Session) (whole line line' : List ℕ) (most k byte : ℕ) (on : Bool) (input input' old mid new : Option (List ℕ)) → k + 1 ≤ most → IsPending line → IfSome input (λ bytes. Some byte ≡ slice_get bytes 0) → IfSome input (λ bytes. input' ≡ Some (drop 1 bytes)) → line' ≡ pending line byte → on ≡ true → on ≡ not (ends line byte) → LoopIndex held held' start line byte mid new (Ok on) → Under held start d whole line (most - k) input old mid → Under held' start d whole line' (most - (k + 1)) input' old new
 under_next held held' start d whole line line' most k byte on input input' old mid new inside pends next left following is e t u =
     let here : Some byte ≡ slice_get u.left 0 = subst (λ i. IfSome i (λ bytes. Some byte ≡ slice_get bytes 0)) u.input_is next in
     let rest : input' ≡ Some (drop 1 u.left) = subst (λ i. IfSome i (λ bytes. input' ≡ Some (drop 1 bytes))) u.input_is left in
@@ -206,7 +206,7 @@ under_next held held' start d whole line line' most k byte on input input' old m
     }
 
 -- a line ends the session
-pub under_quit : {T : Type 0} (held held' : Held) (start : State) (d : Session) (whole line : List ℕ) (most k byte : ℕ) (on : Bool) (input old mid new : Option (List ℕ)) (value : T) → k + 1 ≤ most → IsPending line → IfSome input (λ bytes. Some byte ≡ slice_get bytes 0) → on ≡ false → on ≡ not (ends line byte) → Turn held held' start line byte mid new (Ok on) → Under held start d whole line (most - k) input old mid → Tells {T = T} old new (replies d (lines_of whole)) (Ok value)
+pub under_quit : {T : Type 0} (held held' : Held) (start : State) (d : Session) (whole line : List ℕ) (most k byte : ℕ) (on : Bool) (input old mid new : Option (List ℕ)) (value : T) → k + 1 ≤ most → IsPending line → IfSome input (λ bytes. Some byte ≡ slice_get bytes 0) → on ≡ false → on ≡ not (ends line byte) → LoopIndex held held' start line byte mid new (Ok on) → Under held start d whole line (most - k) input old mid → Tells {T = T} old new (replies d (lines_of whole)) (Ok value)
 under_quit held held' start d whole line most k byte on input old mid new value inside pends next is e t u =
     let here : Some byte ≡ slice_get u.left 0 = subst (λ i. IfSome i (λ bytes. Some byte ≡ slice_get bytes 0)) u.input_is next in
     let after = take (most - (k + 1)) (drop 1 u.left) in
@@ -218,7 +218,7 @@ under_quit held held' start d whole line most k byte on input old mid new value 
     tells_all old mid new u.text said (replies d (lines_of whole)) value same u.put (all_put mid new said on (t.told u.session u.stands))
 
 -- the output failed at a byte, or memory was short
-pub under_cut : {T : Type 0} (held held' : Held) (start : State) (d : Session) (whole line : List ℕ) (most k byte : ℕ) (input old mid new : Option (List ℕ)) (first : Result Bool SessionFault) (result : Result T SessionFault) → k + 1 ≤ most → IsPending line → IfSome input (λ bytes. Some byte ≡ slice_get bytes 0) → IsErr result → Turn held held' start line byte mid new first → Under held start d whole line (most - k) input old mid → Tells old new (replies d (lines_of whole)) result
+pub under_cut : {T : Type 0} (held held' : Held) (start : State) (d : Session) (whole line : List ℕ) (most k byte : ℕ) (input old mid new : Option (List ℕ)) (first : Result Bool SessionFault) (result : Result T SessionFault) → k + 1 ≤ most → IsPending line → IfSome input (λ bytes. Some byte ≡ slice_get bytes 0) → IsErr result → LoopIndex held held' start line byte mid new first → Under held start d whole line (most - k) input old mid → Tells old new (replies d (lines_of whole)) result
 under_cut held held' start d whole line most k byte input old mid new first result inside pends next err t u =
     let here : Some byte ≡ slice_get u.left 0 = subst (λ i. IfSome i (λ bytes. Some byte ≡ slice_get bytes 0)) u.input_is next in
     let after = take (most - (k + 1)) (drop 1 u.left) in

@@ -1,4 +1,4 @@
-// Sessions over a program of three words: add x0, x0, #1; movz x8, #93; svc #0.
+//! Sessions over a program of three words: add x0, x0, #1; movz x8, #93; svc #0.
 
 ghost use Rattle.std.specs.Prelude.{◌≡◌, None, IfOk, IsTrue};
 ghost use Rattle.guest_types.specs.Memory.{IsPage};

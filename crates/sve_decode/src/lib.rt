@@ -6,7 +6,7 @@ ghost use Rattle.std.specs.Option.{option_map};
 ghost use Rattle.word_rows.specs.Row.{reads, spells};
 ghost use Rattle.sve_code.specs.declared.Sve.{Sve};
 ghost use Rattle.sve_code.specs.Table.{row, sve_names, compare, duplicate, select, store};
-ghost use Rattle.sve_code.specs.View.{seen};
+ghost use Rattle.sve_code.specs.View.{instruction_view};
 ghost use Rattle.sve_decode.specs.Groups.{moves};
 
 mod memory;
@@ -15,22 +15,23 @@ mod vectors;
 
 use memory::{loads_of, store_of};
 use predicates::predicates_of;
+use sve_code::bases::{CMPEQ, CMPGE, CMPGT, CMPHI, CMPHS, CMPNE, DUP, SEL};
 use sve_code::{Size, Sve, VectorCompareOp};
 use vectors::vectors_of;
 use word_rows::Bits;
 
 /// The instruction of a word, where the word is in a row of the SVE table.
 pub fn decode(word: u32) -> Option<Sve>
-    ensures table { option_map seen result ≡ reads row sve_names word }
-    ensures spelled { IfSome result (λ x. spells row (seen x) ≡ word) }
-    ensures inverts { (x : Sve) → word ≡ spells row (seen x) → result ≡ Some x }
+    ensures table { option_map instruction_view result ≡ reads row sve_names word }
+    ensures spelled { IfSome result (λ x. spells row (instruction_view x) ≡ word) }
+    ensures inverts { (x : Sve) → word ≡ spells row (instruction_view x) → result ≡ Some x }
 {
     by_top_byte(word)
 }
 
 /// The instruction of a word, sought only among the rows that have its top byte.
 fn by_top_byte(word: u32) -> Option<Sve>
-    ensures { option_map seen result ≡ reads row sve_names word }
+    ensures { option_map instruction_view result ≡ reads row sve_names word }
 {
     match word >> 24 {
         0x04 => vectors_of(word),
@@ -43,9 +44,9 @@ fn by_top_byte(word: u32) -> Option<Sve>
     }
 }
 
-#[tactic(auto, using(word_rows::proofs::Laws::tables), unfolding(crate::specs::Groups::moves))]
+#[tactic(auto, using(word_rows::proofs::TableLaws::tables), unfolding(crate::specs::Groups::moves))]
 fn moves_of(word: u32) -> Option<Sve>
-    ensures { option_map seen result ≡ reads row moves word }
+    ensures { option_map instruction_view result ≡ reads row moves word }
 {
     if let Some(found) = duplicate_of(word) {
         return Some(found);
@@ -55,9 +56,9 @@ fn moves_of(word: u32) -> Option<Sve>
 
 #[tactic(auto, unfolding(word_rows::specs::Row::reads, sve_code::specs::Table::duplicate))]
 fn duplicate_of(word: u32) -> Option<Sve>
-    ensures { option_map seen result ≡ reads row duplicate word }
+    ensures { option_map instruction_view result ≡ reads row duplicate word }
 {
-    if word & 0xff3f_fc00 != 0x0520_3800 {
+    if word & 0xff3f_fc00 != DUP {
         return None;
     }
     Some(Sve::DupScalar {
@@ -69,9 +70,9 @@ fn duplicate_of(word: u32) -> Option<Sve>
 
 #[tactic(auto, unfolding(word_rows::specs::Row::reads, sve_code::specs::Table::select))]
 fn select_of(word: u32) -> Option<Sve>
-    ensures { option_map seen result ≡ reads row select word }
+    ensures { option_map instruction_view result ≡ reads row select word }
 {
-    if word & 0xff20_c000 != 0x0520_c000 {
+    if word & 0xff20_c000 != SEL {
         return None;
     }
     Some(Sve::Sel {
@@ -85,15 +86,15 @@ fn select_of(word: u32) -> Option<Sve>
 
 #[tactic(auto, unfolding(word_rows::specs::Row::reads, sve_code::specs::Table::compare))]
 fn compare_of(word: u32) -> Option<Sve>
-    ensures { option_map seen result ≡ reads row compare word }
+    ensures { option_map instruction_view result ≡ reads row compare word }
 {
     let op = match word & 0xff20_e010 {
-        0x2400_0000 => VectorCompareOp::Hs,
-        0x2400_0010 => VectorCompareOp::Hi,
-        0x2400_8000 => VectorCompareOp::Ge,
-        0x2400_8010 => VectorCompareOp::Gt,
-        0x2400_a000 => VectorCompareOp::Eq,
-        0x2400_a010 => VectorCompareOp::Ne,
+        CMPHS => VectorCompareOp::Hs,
+        CMPHI => VectorCompareOp::Hi,
+        CMPGE => VectorCompareOp::Ge,
+        CMPGT => VectorCompareOp::Gt,
+        CMPEQ => VectorCompareOp::Eq,
+        CMPNE => VectorCompareOp::Ne,
         _ => return None,
     };
     Some(Sve::CompareVectors {

@@ -3,15 +3,16 @@ ghost use Rattle.std.specs.Prelude.{◌≡◌};
 ghost use Rattle.std.specs.Option.{option_map};
 ghost use Rattle.word_rows.specs.Row.{reads};
 ghost use Rattle.sve_code.specs.Table.{row, load, load_first_fault, load_no_fault, store};
-ghost use Rattle.sve_code.specs.View.{seen};
+ghost use Rattle.sve_code.specs.View.{instruction_view};
 ghost use Rattle.sve_decode.specs.Groups.{loads};
 
+use sve_code::bases::{LD1, LDFF1, LDNF1, ST1};
 use sve_code::{Dtype, OffsetReg, Size, StoreSizes, Sve};
 use word_rows::{Bits, field};
 
-#[tactic(auto, using(word_rows::proofs::Laws::tables), unfolding(crate::specs::Groups::loads))]
+#[tactic(auto, using(word_rows::proofs::TableLaws::tables), unfolding(crate::specs::Groups::loads))]
 pub fn loads_of(word: u32) -> Option<Sve>
-    ensures { option_map seen result ≡ reads row loads word }
+    ensures { option_map instruction_view result ≡ reads row loads word }
 {
     if let Some(found) = load_of(word) {
         return Some(found);
@@ -24,9 +25,9 @@ pub fn loads_of(word: u32) -> Option<Sve>
 
 #[tactic(auto, unfolding(word_rows::specs::Row::reads, sve_code::specs::Table::load))]
 fn load_of(word: u32) -> Option<Sve>
-    ensures { option_map seen result ≡ reads row load word }
+    ensures { option_map instruction_view result ≡ reads row load word }
 {
-    if word & 0xfe00_e000 != 0xa400_4000 {
+    if word & 0xfe00_e000 != LD1 {
         return None;
     }
     Some(Sve::ContiguousLoad {
@@ -40,9 +41,9 @@ fn load_of(word: u32) -> Option<Sve>
 
 #[tactic(auto, unfolding(word_rows::specs::Row::reads, sve_code::specs::Table::load_first_fault))]
 fn load_first_fault_of(word: u32) -> Option<Sve>
-    ensures { option_map seen result ≡ reads row load_first_fault word }
+    ensures { option_map instruction_view result ≡ reads row load_first_fault word }
 {
-    if word & 0xfe00_e000 != 0xa400_6000 {
+    if word & 0xfe00_e000 != LDFF1 {
         return None;
     }
     Some(Sve::FirstFaultLoad {
@@ -56,9 +57,9 @@ fn load_first_fault_of(word: u32) -> Option<Sve>
 
 #[tactic(auto, unfolding(word_rows::specs::Row::reads, sve_code::specs::Table::load_no_fault))]
 fn load_no_fault_of(word: u32) -> Option<Sve>
-    ensures { option_map seen result ≡ reads row load_no_fault word }
+    ensures { option_map instruction_view result ≡ reads row load_no_fault word }
 {
-    if word & 0xfe1f_e000 != 0xa410_a000 {
+    if word & 0xfe1f_e000 != LDNF1 {
         return None;
     }
     Some(Sve::NonFaultLoad {
@@ -71,9 +72,9 @@ fn load_no_fault_of(word: u32) -> Option<Sve>
 
 #[tactic(auto, unfolding(word_rows::specs::Row::reads, sve_code::specs::Table::store))]
 pub fn store_of(word: u32) -> Option<Sve>
-    ensures { option_map seen result ≡ reads row store word }
+    ensures { option_map instruction_view result ≡ reads row store word }
 {
-    if word & 0xfe00_e000 != 0xe400_4000 {
+    if word & 0xfe00_e000 != ST1 {
         return None;
     }
     Some(Sve::ContiguousStore {

@@ -3,15 +3,19 @@ ghost use Rattle.std.specs.Prelude.{◌≡◌};
 ghost use Rattle.std.specs.Option.{option_map};
 ghost use Rattle.word_rows.specs.Row.{reads};
 ghost use Rattle.sve_code.specs.Table.{row, while_below, pred_logic, break_form, set_ffr, write_ffr, increment_by_count, count_true, true_form, false_form, test_form, read_ffr, read_ffr_zeroing};
-ghost use Rattle.sve_code.specs.View.{seen};
+ghost use Rattle.sve_code.specs.View.{instruction_view};
 ghost use Rattle.sve_decode.specs.Groups.{predicates, predicate_operations, predicate_updates, predicate_sources};
 
+use sve_code::bases::{
+    BRKA, BRKB, CNTP, INCP, P_AND, P_ANDS, P_BIC, P_EOR, P_ORR, PFALSE, PTEST, PTRUE, RDFFR,
+    RDFFR_Z, SETFFR, WHILELO, WRFFR,
+};
 use sve_code::{BreakOp, PredicateLogicalOp, Size, Sve};
 use word_rows::{Bits, field};
 
 /// The instruction on predicates of a word, sought by bits 15 and 14.
 pub fn predicates_of(word: u32) -> Option<Sve>
-    ensures { option_map seen result ≡ reads row predicates word }
+    ensures { option_map instruction_view result ≡ reads row predicates word }
 {
     match field(word, 14, 2) {
         0 => while_below_of(word),
@@ -21,9 +25,9 @@ pub fn predicates_of(word: u32) -> Option<Sve>
     }
 }
 
-#[tactic(auto, using(word_rows::proofs::Laws::tables), unfolding(crate::specs::Groups::predicate_operations))]
+#[tactic(auto, using(word_rows::proofs::TableLaws::tables), unfolding(crate::specs::Groups::predicate_operations))]
 fn predicate_operations_of(word: u32) -> Option<Sve>
-    ensures { option_map seen result ≡ reads row predicate_operations word }
+    ensures { option_map instruction_view result ≡ reads row predicate_operations word }
 {
     if let Some(found) = pred_logic_of(word) {
         return Some(found);
@@ -31,9 +35,9 @@ fn predicate_operations_of(word: u32) -> Option<Sve>
     break_form_of(word)
 }
 
-#[tactic(auto, using(word_rows::proofs::Laws::tables), unfolding(crate::specs::Groups::predicate_updates))]
+#[tactic(auto, using(word_rows::proofs::TableLaws::tables), unfolding(crate::specs::Groups::predicate_updates))]
 fn predicate_updates_of(word: u32) -> Option<Sve>
-    ensures { option_map seen result ≡ reads row predicate_updates word }
+    ensures { option_map instruction_view result ≡ reads row predicate_updates word }
 {
     if let Some(found) = set_ffr_of(word) {
         return Some(found);
@@ -47,9 +51,9 @@ fn predicate_updates_of(word: u32) -> Option<Sve>
     count_true_of(word)
 }
 
-#[tactic(auto, using(word_rows::proofs::Laws::tables), unfolding(crate::specs::Groups::predicate_sources))]
+#[tactic(auto, using(word_rows::proofs::TableLaws::tables), unfolding(crate::specs::Groups::predicate_sources))]
 fn predicate_sources_of(word: u32) -> Option<Sve>
-    ensures { option_map seen result ≡ reads row predicate_sources word }
+    ensures { option_map instruction_view result ≡ reads row predicate_sources word }
 {
     if let Some(found) = true_form_of(word) {
         return Some(found);
@@ -68,9 +72,9 @@ fn predicate_sources_of(word: u32) -> Option<Sve>
 
 #[tactic(auto, unfolding(word_rows::specs::Row::reads, sve_code::specs::Table::while_below))]
 fn while_below_of(word: u32) -> Option<Sve>
-    ensures { option_map seen result ≡ reads row while_below word }
+    ensures { option_map instruction_view result ≡ reads row while_below word }
 {
-    if word & 0xff20_fc10 != 0x2520_1c00 {
+    if word & 0xff20_fc10 != WHILELO {
         return None;
     }
     Some(Sve::Whilelo {
@@ -83,14 +87,14 @@ fn while_below_of(word: u32) -> Option<Sve>
 
 #[tactic(auto, unfolding(word_rows::specs::Row::reads, sve_code::specs::Table::pred_logic))]
 fn pred_logic_of(word: u32) -> Option<Sve>
-    ensures { option_map seen result ≡ reads row pred_logic word }
+    ensures { option_map instruction_view result ≡ reads row pred_logic word }
 {
     let op = match word & 0xfff0_c210 {
-        0x2500_4000 => PredicateLogicalOp::And,
-        0x2500_4010 => PredicateLogicalOp::Bic,
-        0x2500_4200 => PredicateLogicalOp::Eor,
-        0x2580_4000 => PredicateLogicalOp::Orr,
-        0x2540_4000 => PredicateLogicalOp::Ands,
+        P_AND => PredicateLogicalOp::And,
+        P_BIC => PredicateLogicalOp::Bic,
+        P_EOR => PredicateLogicalOp::Eor,
+        P_ORR => PredicateLogicalOp::Orr,
+        P_ANDS => PredicateLogicalOp::Ands,
         _ => return None,
     };
     Some(Sve::PredicateLogical {
@@ -104,11 +108,11 @@ fn pred_logic_of(word: u32) -> Option<Sve>
 
 #[tactic(auto, unfolding(word_rows::specs::Row::reads, sve_code::specs::Table::break_form))]
 fn break_form_of(word: u32) -> Option<Sve>
-    ensures { option_map seen result ≡ reads row break_form word }
+    ensures { option_map instruction_view result ≡ reads row break_form word }
 {
     let op = match word & 0xffff_c210 {
-        0x2510_4000 => BreakOp::Brka,
-        0x2590_4000 => BreakOp::Brkb,
+        BRKA => BreakOp::Brka,
+        BRKB => BreakOp::Brkb,
         _ => return None,
     };
     Some(Sve::Break {
@@ -121,9 +125,9 @@ fn break_form_of(word: u32) -> Option<Sve>
 
 #[tactic(auto, unfolding(word_rows::specs::Row::reads, sve_code::specs::Table::set_ffr))]
 fn set_ffr_of(word: u32) -> Option<Sve>
-    ensures { option_map seen result ≡ reads row set_ffr word }
+    ensures { option_map instruction_view result ≡ reads row set_ffr word }
 {
-    if word != 0x252c_9000 {
+    if word != SETFFR {
         return None;
     }
     Some(Sve::Setffr)
@@ -131,9 +135,9 @@ fn set_ffr_of(word: u32) -> Option<Sve>
 
 #[tactic(auto, unfolding(word_rows::specs::Row::reads, sve_code::specs::Table::write_ffr))]
 fn write_ffr_of(word: u32) -> Option<Sve>
-    ensures { option_map seen result ≡ reads row write_ffr word }
+    ensures { option_map instruction_view result ≡ reads row write_ffr word }
 {
-    if word & 0xffff_fe1f != 0x2528_9000 {
+    if word & 0xffff_fe1f != WRFFR {
         return None;
     }
     Some(Sve::Wrffr {
@@ -143,9 +147,9 @@ fn write_ffr_of(word: u32) -> Option<Sve>
 
 #[tactic(auto, unfolding(word_rows::specs::Row::reads, sve_code::specs::Table::increment_by_count))]
 fn increment_by_count_of(word: u32) -> Option<Sve>
-    ensures { option_map seen result ≡ reads row increment_by_count word }
+    ensures { option_map instruction_view result ≡ reads row increment_by_count word }
 {
-    if word & 0xff3f_fe00 != 0x252c_8800 {
+    if word & 0xff3f_fe00 != INCP {
         return None;
     }
     Some(Sve::Incp {
@@ -157,9 +161,9 @@ fn increment_by_count_of(word: u32) -> Option<Sve>
 
 #[tactic(auto, unfolding(word_rows::specs::Row::reads, sve_code::specs::Table::count_true))]
 fn count_true_of(word: u32) -> Option<Sve>
-    ensures { option_map seen result ≡ reads row count_true word }
+    ensures { option_map instruction_view result ≡ reads row count_true word }
 {
-    if word & 0xff3f_c200 != 0x2520_8000 {
+    if word & 0xff3f_c200 != CNTP {
         return None;
     }
     Some(Sve::Cntp {
@@ -172,9 +176,9 @@ fn count_true_of(word: u32) -> Option<Sve>
 
 #[tactic(auto, unfolding(word_rows::specs::Row::reads, sve_code::specs::Table::true_form))]
 fn true_form_of(word: u32) -> Option<Sve>
-    ensures { option_map seen result ≡ reads row true_form word }
+    ensures { option_map instruction_view result ≡ reads row true_form word }
 {
-    if word & 0xff3f_fff0 != 0x2518_e3e0 {
+    if word & 0xff3f_fff0 != PTRUE {
         return None;
     }
     Some(Sve::Ptrue {
@@ -185,9 +189,9 @@ fn true_form_of(word: u32) -> Option<Sve>
 
 #[tactic(auto, unfolding(word_rows::specs::Row::reads, sve_code::specs::Table::false_form))]
 fn false_form_of(word: u32) -> Option<Sve>
-    ensures { option_map seen result ≡ reads row false_form word }
+    ensures { option_map instruction_view result ≡ reads row false_form word }
 {
-    if word & 0xffff_fff0 != 0x2518_e400 {
+    if word & 0xffff_fff0 != PFALSE {
         return None;
     }
     Some(Sve::Pfalse {
@@ -197,9 +201,9 @@ fn false_form_of(word: u32) -> Option<Sve>
 
 #[tactic(auto, unfolding(word_rows::specs::Row::reads, sve_code::specs::Table::test_form))]
 fn test_form_of(word: u32) -> Option<Sve>
-    ensures { option_map seen result ≡ reads row test_form word }
+    ensures { option_map instruction_view result ≡ reads row test_form word }
 {
-    if word & 0xffff_c21f != 0x2550_c000 {
+    if word & 0xffff_c21f != PTEST {
         return None;
     }
     Some(Sve::Ptest {
@@ -210,9 +214,9 @@ fn test_form_of(word: u32) -> Option<Sve>
 
 #[tactic(auto, unfolding(word_rows::specs::Row::reads, sve_code::specs::Table::read_ffr))]
 fn read_ffr_of(word: u32) -> Option<Sve>
-    ensures { option_map seen result ≡ reads row read_ffr word }
+    ensures { option_map instruction_view result ≡ reads row read_ffr word }
 {
-    if word & 0xffff_fff0 != 0x2519_f000 {
+    if word & 0xffff_fff0 != RDFFR {
         return None;
     }
     Some(Sve::Rdffr {
@@ -222,9 +226,9 @@ fn read_ffr_of(word: u32) -> Option<Sve>
 
 #[tactic(auto, unfolding(word_rows::specs::Row::reads, sve_code::specs::Table::read_ffr_zeroing))]
 fn read_ffr_zeroing_of(word: u32) -> Option<Sve>
-    ensures { option_map seen result ≡ reads row read_ffr_zeroing word }
+    ensures { option_map instruction_view result ≡ reads row read_ffr_zeroing word }
 {
-    if word & 0xffff_fe10 != 0x2518_f000 {
+    if word & 0xffff_fe10 != RDFFR_Z {
         return None;
     }
     Some(Sve::RdffrPredicated {

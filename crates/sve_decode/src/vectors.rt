@@ -3,9 +3,15 @@ ghost use Rattle.std.specs.Prelude.{◌≡◌};
 ghost use Rattle.std.specs.Option.{option_map};
 ghost use Rattle.word_rows.specs.Row.{reads};
 ghost use Rattle.sve_code.specs.Table.{row, add_sub, merging, logic, reduce, index, shift_imm, unary, extend_byte, extend_half, extend_word, count};
-ghost use Rattle.sve_code.specs.View.{seen};
+ghost use Rattle.sve_code.specs.View.{instruction_view};
 ghost use Rattle.sve_decode.specs.Groups.{vectors, arithmetic, bitwise, unary_forms};
 
+use sve_code::bases::{
+    ANDV, ASR_IMM, CNTB, CNTD, CNTH, CNTW, EORV, INDEX_ROW, LSL_IMM, LSR_IMM, M_ABS, M_ADD, M_AND,
+    M_EOR, M_MUL, M_NEG, M_NOT, M_ORR, M_SMAX, M_SMIN, M_SUB, M_UMAX, M_UMIN, ORV, SMAXV, SMINV,
+    SXTB, SXTH, SXTW, UADDV, UMAXV, UMINV, UXTB, UXTH, UXTW, Z_ADD, Z_AND, Z_BIC, Z_EOR, Z_ORR,
+    Z_SUB,
+};
 use sve_code::{
     AddSubOp, BinaryPredicatedOp, BitwiseOp, ElementCountOp, ExtendOp, ReductionOp, ShiftAmount,
     ShiftImmediateOp, Size, SizeFromH, SizeFromS, Sve, UnaryPredicatedOp,
@@ -14,7 +20,7 @@ use word_rows::{Bits, field};
 
 /// The instruction on vectors of a word, sought by bits 15 to 13.
 pub fn vectors_of(word: u32) -> Option<Sve>
-    ensures { option_map seen result ≡ reads row vectors word }
+    ensures { option_map instruction_view result ≡ reads row vectors word }
 {
     match field(word, 13, 3) {
         0 => arithmetic_of(word),
@@ -27,9 +33,9 @@ pub fn vectors_of(word: u32) -> Option<Sve>
     }
 }
 
-#[tactic(auto, using(word_rows::proofs::Laws::tables), unfolding(crate::specs::Groups::arithmetic))]
+#[tactic(auto, using(word_rows::proofs::TableLaws::tables), unfolding(crate::specs::Groups::arithmetic))]
 fn arithmetic_of(word: u32) -> Option<Sve>
-    ensures { option_map seen result ≡ reads row arithmetic word }
+    ensures { option_map instruction_view result ≡ reads row arithmetic word }
 {
     if let Some(found) = add_sub_of(word) {
         return Some(found);
@@ -37,9 +43,9 @@ fn arithmetic_of(word: u32) -> Option<Sve>
     merging_of(word)
 }
 
-#[tactic(auto, using(word_rows::proofs::Laws::tables), unfolding(crate::specs::Groups::bitwise))]
+#[tactic(auto, using(word_rows::proofs::TableLaws::tables), unfolding(crate::specs::Groups::bitwise))]
 fn bitwise_of(word: u32) -> Option<Sve>
-    ensures { option_map seen result ≡ reads row bitwise word }
+    ensures { option_map instruction_view result ≡ reads row bitwise word }
 {
     if let Some(found) = logic_of(word) {
         return Some(found);
@@ -47,9 +53,9 @@ fn bitwise_of(word: u32) -> Option<Sve>
     reduce_of(word)
 }
 
-#[tactic(auto, using(word_rows::proofs::Laws::tables), unfolding(crate::specs::Groups::unary_forms))]
+#[tactic(auto, using(word_rows::proofs::TableLaws::tables), unfolding(crate::specs::Groups::unary_forms))]
 fn unary_forms_of(word: u32) -> Option<Sve>
-    ensures { option_map seen result ≡ reads row unary_forms word }
+    ensures { option_map instruction_view result ≡ reads row unary_forms word }
 {
     if let Some(found) = unary_of(word) {
         return Some(found);
@@ -65,11 +71,11 @@ fn unary_forms_of(word: u32) -> Option<Sve>
 
 #[tactic(auto, unfolding(word_rows::specs::Row::reads, sve_code::specs::Table::add_sub))]
 fn add_sub_of(word: u32) -> Option<Sve>
-    ensures { option_map seen result ≡ reads row add_sub word }
+    ensures { option_map instruction_view result ≡ reads row add_sub word }
 {
     let op = match word & 0xff20_fc00 {
-        0x0420_0000 => AddSubOp::Add,
-        0x0420_0400 => AddSubOp::Sub,
+        Z_ADD => AddSubOp::Add,
+        Z_SUB => AddSubOp::Sub,
         _ => return None,
     };
     Some(Sve::AddSub {
@@ -83,19 +89,19 @@ fn add_sub_of(word: u32) -> Option<Sve>
 
 #[tactic(auto, unfolding(word_rows::specs::Row::reads, sve_code::specs::Table::merging))]
 fn merging_of(word: u32) -> Option<Sve>
-    ensures { option_map seen result ≡ reads row merging word }
+    ensures { option_map instruction_view result ≡ reads row merging word }
 {
     let op = match word & 0xff3f_e000 {
-        0x0400_0000 => BinaryPredicatedOp::Add,
-        0x0401_0000 => BinaryPredicatedOp::Sub,
-        0x0408_0000 => BinaryPredicatedOp::Smax,
-        0x0409_0000 => BinaryPredicatedOp::Umax,
-        0x040a_0000 => BinaryPredicatedOp::Smin,
-        0x040b_0000 => BinaryPredicatedOp::Umin,
-        0x0410_0000 => BinaryPredicatedOp::Mul,
-        0x0418_0000 => BinaryPredicatedOp::Orr,
-        0x0419_0000 => BinaryPredicatedOp::Eor,
-        0x041a_0000 => BinaryPredicatedOp::And,
+        M_ADD => BinaryPredicatedOp::Add,
+        M_SUB => BinaryPredicatedOp::Sub,
+        M_SMAX => BinaryPredicatedOp::Smax,
+        M_UMAX => BinaryPredicatedOp::Umax,
+        M_SMIN => BinaryPredicatedOp::Smin,
+        M_UMIN => BinaryPredicatedOp::Umin,
+        M_MUL => BinaryPredicatedOp::Mul,
+        M_ORR => BinaryPredicatedOp::Orr,
+        M_EOR => BinaryPredicatedOp::Eor,
+        M_AND => BinaryPredicatedOp::And,
         _ => return None,
     };
     Some(Sve::BinaryPredicated {
@@ -109,13 +115,13 @@ fn merging_of(word: u32) -> Option<Sve>
 
 #[tactic(auto, unfolding(word_rows::specs::Row::reads, sve_code::specs::Table::logic))]
 fn logic_of(word: u32) -> Option<Sve>
-    ensures { option_map seen result ≡ reads row logic word }
+    ensures { option_map instruction_view result ≡ reads row logic word }
 {
     let op = match word & 0xffe0_fc00 {
-        0x0420_3000 => BitwiseOp::And,
-        0x0460_3000 => BitwiseOp::Orr,
-        0x04a0_3000 => BitwiseOp::Eor,
-        0x04e0_3000 => BitwiseOp::Bic,
+        Z_AND => BitwiseOp::And,
+        Z_ORR => BitwiseOp::Orr,
+        Z_EOR => BitwiseOp::Eor,
+        Z_BIC => BitwiseOp::Bic,
         _ => return None,
     };
     Some(Sve::Bitwise {
@@ -128,17 +134,17 @@ fn logic_of(word: u32) -> Option<Sve>
 
 #[tactic(auto, unfolding(word_rows::specs::Row::reads, sve_code::specs::Table::reduce))]
 fn reduce_of(word: u32) -> Option<Sve>
-    ensures { option_map seen result ≡ reads row reduce word }
+    ensures { option_map instruction_view result ≡ reads row reduce word }
 {
     let op = match word & 0xff3f_e000 {
-        0x0401_2000 => ReductionOp::Uaddv,
-        0x0408_2000 => ReductionOp::Smaxv,
-        0x0409_2000 => ReductionOp::Umaxv,
-        0x040a_2000 => ReductionOp::Sminv,
-        0x040b_2000 => ReductionOp::Uminv,
-        0x0418_2000 => ReductionOp::Orv,
-        0x0419_2000 => ReductionOp::Eorv,
-        0x041a_2000 => ReductionOp::Andv,
+        UADDV => ReductionOp::Uaddv,
+        SMAXV => ReductionOp::Smaxv,
+        UMAXV => ReductionOp::Umaxv,
+        SMINV => ReductionOp::Sminv,
+        UMINV => ReductionOp::Uminv,
+        ORV => ReductionOp::Orv,
+        EORV => ReductionOp::Eorv,
+        ANDV => ReductionOp::Andv,
         _ => return None,
     };
     Some(Sve::Reduction {
@@ -152,9 +158,9 @@ fn reduce_of(word: u32) -> Option<Sve>
 
 #[tactic(auto, unfolding(word_rows::specs::Row::reads, sve_code::specs::Table::index))]
 fn index_of(word: u32) -> Option<Sve>
-    ensures { option_map seen result ≡ reads row index word }
+    ensures { option_map instruction_view result ≡ reads row index word }
 {
-    if word & 0xff20_fc00 != 0x0420_4400 {
+    if word & 0xff20_fc00 != INDEX_ROW {
         return None;
     }
     Some(Sve::IndexScalarImmediate {
@@ -167,12 +173,12 @@ fn index_of(word: u32) -> Option<Sve>
 
 #[tactic(auto, unfolding(word_rows::specs::Row::reads, sve_code::specs::Table::shift_imm))]
 fn shift_imm_of(word: u32) -> Option<Sve>
-    ensures { option_map seen result ≡ reads row shift_imm word }
+    ensures { option_map instruction_view result ≡ reads row shift_imm word }
 {
     let op = match word & 0xff20_fc00 {
-        0x0420_9c00 => ShiftImmediateOp::Lsl,
-        0x0420_9400 => ShiftImmediateOp::Lsr,
-        0x0420_9000 => ShiftImmediateOp::Asr,
+        LSL_IMM => ShiftImmediateOp::Lsl,
+        LSR_IMM => ShiftImmediateOp::Lsr,
+        ASR_IMM => ShiftImmediateOp::Asr,
         _ => return None,
     };
     Some(Sve::ShiftImmediate {
@@ -185,12 +191,12 @@ fn shift_imm_of(word: u32) -> Option<Sve>
 
 #[tactic(auto, unfolding(word_rows::specs::Row::reads, sve_code::specs::Table::unary))]
 fn unary_of(word: u32) -> Option<Sve>
-    ensures { option_map seen result ≡ reads row unary word }
+    ensures { option_map instruction_view result ≡ reads row unary word }
 {
     let op = match word & 0xff3f_e000 {
-        0x0416_a000 => UnaryPredicatedOp::Abs,
-        0x0417_a000 => UnaryPredicatedOp::Neg,
-        0x041e_a000 => UnaryPredicatedOp::Not,
+        M_ABS => UnaryPredicatedOp::Abs,
+        M_NEG => UnaryPredicatedOp::Neg,
+        M_NOT => UnaryPredicatedOp::Not,
         _ => return None,
     };
     Some(Sve::UnaryPredicated {
@@ -204,11 +210,11 @@ fn unary_of(word: u32) -> Option<Sve>
 
 #[tactic(auto, unfolding(word_rows::specs::Row::reads, sve_code::specs::Table::extend_byte))]
 fn extend_byte_of(word: u32) -> Option<Sve>
-    ensures { option_map seen result ≡ reads row extend_byte word }
+    ensures { option_map instruction_view result ≡ reads row extend_byte word }
 {
     let op = match word & 0xff3f_e000 {
-        0x0410_a000 => ExtendOp::Signed,
-        0x0411_a000 => ExtendOp::Unsigned,
+        SXTB => ExtendOp::Signed,
+        UXTB => ExtendOp::Unsigned,
         _ => return None,
     };
     Some(Sve::ExtendByte {
@@ -222,11 +228,11 @@ fn extend_byte_of(word: u32) -> Option<Sve>
 
 #[tactic(auto, unfolding(word_rows::specs::Row::reads, sve_code::specs::Table::extend_half))]
 fn extend_half_of(word: u32) -> Option<Sve>
-    ensures { option_map seen result ≡ reads row extend_half word }
+    ensures { option_map instruction_view result ≡ reads row extend_half word }
 {
     let op = match word & 0xff3f_e000 {
-        0x0412_a000 => ExtendOp::Signed,
-        0x0413_a000 => ExtendOp::Unsigned,
+        SXTH => ExtendOp::Signed,
+        UXTH => ExtendOp::Unsigned,
         _ => return None,
     };
     Some(Sve::ExtendHalfword {
@@ -240,11 +246,11 @@ fn extend_half_of(word: u32) -> Option<Sve>
 
 #[tactic(auto, unfolding(word_rows::specs::Row::reads, sve_code::specs::Table::extend_word))]
 fn extend_word_of(word: u32) -> Option<Sve>
-    ensures { option_map seen result ≡ reads row extend_word word }
+    ensures { option_map instruction_view result ≡ reads row extend_word word }
 {
     let op = match word & 0xffff_e000 {
-        0x04d4_a000 => ExtendOp::Signed,
-        0x04d5_a000 => ExtendOp::Unsigned,
+        SXTW => ExtendOp::Signed,
+        UXTW => ExtendOp::Unsigned,
         _ => return None,
     };
     Some(Sve::ExtendWord {
@@ -257,13 +263,13 @@ fn extend_word_of(word: u32) -> Option<Sve>
 
 #[tactic(auto, unfolding(word_rows::specs::Row::reads, sve_code::specs::Table::count))]
 fn count_of(word: u32) -> Option<Sve>
-    ensures { option_map seen result ≡ reads row count word }
+    ensures { option_map instruction_view result ≡ reads row count word }
 {
     let op = match word & 0xffff_ffe0 {
-        0x0420_e3e0 => ElementCountOp::Cntb,
-        0x0460_e3e0 => ElementCountOp::Cnth,
-        0x04a0_e3e0 => ElementCountOp::Cntw,
-        0x04e0_e3e0 => ElementCountOp::Cntd,
+        CNTB => ElementCountOp::Cntb,
+        CNTH => ElementCountOp::Cnth,
+        CNTW => ElementCountOp::Cntw,
+        CNTD => ElementCountOp::Cntd,
         _ => return None,
     };
     Some(Sve::ElementCount {

@@ -8,7 +8,7 @@ use Rattle.guest_types.specs.declared.operation.ReduceOp.{ReduceOp}
 use Rattle.sve_code.specs.declared.ReductionOp.{ReductionOp}
 use Rattle.sve_code.specs.declared.ReductionOp.TheVariants as reduction_ops
 use Rattle.machine_model.specs.States.{IsVector}
-use Rattle.machine_model.proofs.States.{vector_made}
+use Rattle.machine_model.proofs.StateSteps.{vector_made}
 use Rattle.std.specs.Prelude.{nat_eq, slice_index, if◌then◌else◌}
 use Rattle.guest_types.specs.declared.length.Width.{Width}
 use Rattle.guest_types.specs.declared.length.Width.TheVariants as widths
@@ -40,10 +40,10 @@ use Rattle.sve_code.specs.declared.parts.SizeFromS.TheVariants as sizes_from_s
 use Rattle.word_rows.specs.Row.{Instruction}
 use Rattle.sve_code.specs.Table.{Name}
 use Rattle.machine_model.specs.Machine.{Went, next}
-use Rattle.machine_model.specs.VectorEffects.{do_vector}
+use Rattle.machine_model.specs.VectorEffects.{reduced, do_vector}
 use Rattle.a64_machine.specs.Cores.{VectorState, state_of}
 use Rattle.a64_machine.specs.declared.core_state.Core.{Core}
-use Rattle.sve_machine.specs.Rests.{z_of, p_of, put_z, put_lanes}
+use Rattle.sve_machine.specs.VectorStates.{z_of, p_of, put_z, put_lanes}
 use Rattle.sve_machine.specs.Rows.{add_sub_op, bitwise_op, shift_op, shift_count, merging_op, unary_op, byte_extension, half_extension, word_extension, reduction_op, reduction_width}
 
 -- an instruction by its name and the numbers of its fields
@@ -204,11 +204,7 @@ index_row_is zd rn imm5 size core r r2 w v by ew ev eb e memory =
     ap (λ x. Went (next (state_of core memory x)))
     (sym (e ∙ ap (λ a. put_lanes r zd a (index_at v by)) ew ∙ ap₂ (λ a b. put_lanes r zd (width_of_size size) (index_at a b)) ev eb))
 
--- the register that a reduction leaves: its number in element 0
-abbrev pub one_lane : Width → ℕ → List ℕ
-one_lane w v = register (width_bytes w) (dup_at v) 1
-
-reduction_here : (op : ReductionOp) (zd zn pg size : ℕ) (r : VectorState) → let w = width_of_size size in Leaves (reduce_name op) (zd ∷ zn ∷ pg ∷ size ∷ []) r (put_z r zd (one_lane (reduction_width op w) (reduce_of (reduction_op op) w (lanes r.vl w) (p_of r pg) (z_of r zn))))
+reduction_here : (op : ReductionOp) (zd zn pg size : ℕ) (r : VectorState) → let w = width_of_size size in Leaves (reduce_name op) (zd ∷ zn ∷ pg ∷ size ∷ []) r (put_z r zd (reduced (reduction_width op w) (reduce_of (reduction_op op) w (lanes r.vl w) (p_of r pg) (z_of r zn))))
 reduction_here reduction_ops.Uaddv zd zn pg size r core memory = refl
 reduction_here reduction_ops.Smaxv zd zn pg size r core memory = refl
 reduction_here reduction_ops.Umaxv zd zn pg size r core memory = refl
@@ -218,13 +214,13 @@ reduction_here reduction_ops.Orv zd zn pg size r core memory = refl
 reduction_here reduction_ops.Eorv zd zn pg size r core memory = refl
 reduction_here reduction_ops.Andv zd zn pg size r core memory = refl
 
-pub reduction_row : (op : ReductionOp) (zd zn pg size : ℕ) (r r2 : VectorState) (o : ReduceOp) (w wide : Width) (p z out : List ℕ) (v : ℕ) → o ≡ reduction_op op → w ≡ width_of_size size → wide ≡ reduction_width op w → p ≡ p_of r pg → z ≡ z_of r zn → v ≡ reduce_of o w (lanes r.vl w) p z → out ≡ one_lane wide v → r2 ≡ put_z r zd out → Leaves (reduce_name op) (zd ∷ zn ∷ pg ∷ size ∷ []) r r2
+pub reduction_row : (op : ReductionOp) (zd zn pg size : ℕ) (r r2 : VectorState) (o : ReduceOp) (w wide : Width) (p z out : List ℕ) (v : ℕ) → o ≡ reduction_op op → w ≡ width_of_size size → wide ≡ reduction_width op w → p ≡ p_of r pg → z ≡ z_of r zn → v ≡ reduce_of o w (lanes r.vl w) p z → out ≡ reduced wide v → r2 ≡ put_z r zd out → Leaves (reduce_name op) (zd ∷ zn ∷ pg ∷ size ∷ []) r r2
 reduction_row op zd zn pg size r r2 o w wide p z out v eo ew ewide ep ez ev eout e =
     let s = width_of_size size in
     let value : v ≡ reduce_of (reduction_op op) s (lanes r.vl s) (p_of r pg) (z_of r zn) =
     ev ∙ ap₂ (λ a b. reduce_of a b (lanes r.vl b) p z) eo ew ∙ ap₂ (reduce_of (reduction_op op) s (lanes r.vl s)) ep ez in
     let at : wide ≡ reduction_width op s = ewide ∙ ap (reduction_width op) ew in
-    left_as (reduce_name op) (zd ∷ zn ∷ pg ∷ size ∷ []) r _ r2 (e ∙ ap (put_z r zd) (eout ∙ ap₂ one_lane at value)) (reduction_here op zd zn pg size r)
+    left_as (reduce_name op) (zd ∷ zn ∷ pg ∷ size ∷ []) r _ r2 (e ∙ ap (put_z r zd) (eout ∙ ap₂ reduced at value)) (reduction_here op zd zn pg size r)
 
 -- the shape of that register
 one_fits : (vl : ℕ) (w : Width) → IsLength vl → width_bytes w * 1 ≤ vl / 8
@@ -233,8 +229,8 @@ one_fits vl widths.H h = omega arith
 one_fits vl widths.S h = omega arith
 one_fits vl widths.D h = omega arith
 
-pub one_shape : (vl : ℕ) (w : Width) (v : ℕ) (out : List ℕ) → IsLength vl → out ≡ one_lane w v → IsVector vl out
+pub one_shape : (vl : ℕ) (w : Width) (v : ℕ) (out : List ℕ) → IsLength vl → out ≡ reduced w v → IsVector vl out
 one_shape vl w v out h e = subst (IsVector vl) (sym e) (vector_made vl (width_bytes w) (dup_at v) 1 h (one_fits vl w h))
 
-pub one_put : (w : Width) (v : ℕ) (was out : List ℕ) → was ≡ register (width_bytes w) (dup_at v) 0 → out ≡ with_element (width_bytes w) was 0 v → out ≡ one_lane w v
+pub one_put : (w : Width) (v : ℕ) (was out : List ℕ) → was ≡ register (width_bytes w) (dup_at v) 0 → out ≡ with_element (width_bytes w) was 0 v → out ≡ reduced w v
 one_put w v was out e put = put-more (width_bytes w) (dup_at v) 0 v was out e put refl

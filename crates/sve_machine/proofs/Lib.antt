@@ -1,10 +1,10 @@
-pub mod Starts
-pub mod Shapes
-pub mod Words
-pub mod Going
-pub mod Arms
-pub mod Banks
+pub mod StartRegisters
+pub mod VectorStateLaws
+pub mod KeptWords
+pub mod RunSteps
+pub mod RegisterLanes
+pub mod BankShapes
 pub mod LaneRows
 pub mod Loads
 pub mod PredicateRows
-pub mod Forms
+pub mod RowAnswers

@@ -10,7 +10,7 @@ use Rattle.guest_types.specs.Elements.{active, first_true, both, register}
 use Rattle.guest_types.specs.LaneMemory.{store_of, LoadForm, load_form, lane_address, or_fault, fault_at, lane_faults, loaded_lane, kept_lane, is_clear, cleared_from}
 use Rattle.guest_types.specs.EarlyLoads.{StopList, EarlyLoad, unless_fault, early_load, later_than, suppressed_at, stop_at, non_fault_early}
 use Rattle.machine_model.specs.States.{IsVector, IsPredicate}
-use Rattle.machine_model.proofs.States.{vector_made, fills, cleared_is}
+use Rattle.machine_model.proofs.StateSteps.{vector_made, fills, cleared_is}
 use Rattle.lane_memory.specs.Loads.{LoadLeft, left_by_plain, left_by_early, left_by_first, left_by, load_of}
 use Rattle.a64_machine.specs.Cores.{VectorState, state_of}
 use Rattle.guest_types.specs.declared.register.ZReg.{ZReg}
@@ -20,11 +20,11 @@ use Rattle.machine_model.specs.Machine.{x_at, x_or_sp}
 use Rattle.machine_model.specs.VectorEffects.{do_vector}
 use Rattle.machine_model.specs.VectorEffects as effects
 use Rattle.a64_machine.specs.declared.core_state.Core.{Core}
-use Rattle.sve_machine.specs.Rests.{IsRest, rest_of, p_bits, p_of, z_of, put_load}
+use Rattle.sve_machine.specs.VectorStates.{IsVectorState, vector_state_of, p_bits, p_of, z_of, put_load}
 use Rattle.sve_code.specs.Table.{ld1, ldff1, ldnf1, st1}
 use Rattle.sve_machine.specs.Rows.{after_load}
 use Rattle.sve_machine.proofs.LaneRows.{row_of}
-use Rattle.sve_machine.proofs.Shapes.{z_set, z_put}
+use Rattle.sve_machine.proofs.VectorStateLaws.{z_set, z_put}
 
 -- ---- the shape
 
@@ -73,14 +73,14 @@ load_shape mode dtype base index vl memory stops pg ffr left h p e =
 
 -- ---- the registers after a load
 
-pub load_put : (z : List ZReg) (p : List PReg) (ffr : PReg) (vl : ℕ) (stops : StopList) (ffr2 : PReg) (stops2 : StopList) (n : ℕ) (out : ZReg) → IsRest (rest_of z p ffr vl stops) → IsLeft vl (record { z = out.bytes; ffr = ffr2.bits; stops = stops2 }) → IsRest (rest_of (slice_set z n out) p ffr2 vl stops2)
+pub load_put : (z : List ZReg) (p : List PReg) (ffr : PReg) (vl : ℕ) (stops : StopList) (ffr2 : PReg) (stops2 : StopList) (n : ℕ) (out : ZReg) → IsVectorState (vector_state_of z p ffr vl stops) → IsLeft vl (record { z = out.bytes; ffr = ffr2.bits; stops = stops2 }) → IsVectorState (vector_state_of (slice_set z n out) p ffr2 vl stops2)
 load_put z p ffr vl stops ffr2 stops2 n out h left =
-    subst IsRest (sym (z_set z p ffr2 vl stops2 n out))
-    (z_put (rest_of z p ffr2 vl stops2) n out.bytes (record { sized = h.sized; z_count = h.z_count; z_each = h.z_each; p_count = h.p_count; p_each = h.p_each; ffr_is = left.ffr }) left.z)
+    subst IsVectorState (sym (z_set z p ffr2 vl stops2 n out))
+    (z_put (vector_state_of z p ffr2 vl stops2) n out.bytes (record { sized = h.sized; z_count = h.z_count; z_each = h.z_each; p_count = h.p_count; p_each = h.p_each; ffr_is = left.ffr }) left.z)
 
-pub load_done : (mode : LoadMode) (dtype base index : ℕ) (memory : Memory) (z : List ZReg) (p : List PReg) (ffr : PReg) (vl : ℕ) (stops : StopList) (g n : ℕ) (ffr2 : PReg) (stops2 : StopList) (out : ZReg) → load_of mode dtype base index vl memory stops (get_or p g (record { bits = [] })).bits ffr.bits ≡ Ok (record { z = out.bytes; ffr = ffr2.bits; stops = stops2 }) → let r = rest_of z p ffr vl stops in put_load (load_of mode dtype base index r.vl memory r.stops (p_of r g) r.ffr) n r ≡ Ok (rest_of (slice_set z n out) p ffr2 vl stops2)
+pub load_done : (mode : LoadMode) (dtype base index : ℕ) (memory : Memory) (z : List ZReg) (p : List PReg) (ffr : PReg) (vl : ℕ) (stops : StopList) (g n : ℕ) (ffr2 : PReg) (stops2 : StopList) (out : ZReg) → load_of mode dtype base index vl memory stops (get_or p g (record { bits = [] })).bits ffr.bits ≡ Ok (record { z = out.bytes; ffr = ffr2.bits; stops = stops2 }) → let r = vector_state_of z p ffr vl stops in put_load (load_of mode dtype base index r.vl memory r.stops (p_of r g) r.ffr) n r ≡ Ok (vector_state_of (slice_set z n out) p ffr2 vl stops2)
 load_done mode dtype base index memory z p ffr vl stops g n ffr2 stops2 out e =
-    let r = rest_of z p ffr vl stops in
+    let r = vector_state_of z p ffr vl stops in
     ap (λ m. put_load (load_of mode dtype base index vl memory stops m ffr.bits) n r) (get_or-map p_bits p g (record { bits = [] }))
     ∙ ap (λ o. put_load o n r) e
     ∙ ap Ok (sym (z_set z p ffr2 vl stops2 n out))

@@ -27,13 +27,13 @@ use Rattle.machine_model.specs.Arithmetic.{sum}
 use Rattle.machine_model.specs.Machine.{State, Went, next, with_x, with_p, with_flags}
 use Rattle.machine_model.specs.VectorEffects.{do_vector}
 use Rattle.machine_model.specs.States.{IsPredicate}
-use Rattle.machine_model.proofs.States.{truths_made, fills}
-use Rattle.machine_model.proofs.StateShapes.{logic_whole, brk_whole, pred_test-ext}
+use Rattle.machine_model.proofs.StateSteps.{truths_made, fills}
+use Rattle.machine_model.proofs.StateLaws.{logic_whole, brk_whole, pred_test-ext}
 use Rattle.a64_machine.specs.Cores.{VectorState, state_of, flags_in}
 use Rattle.a64_machine.specs.declared.core_state.Core.{Core}
-use Rattle.sve_machine.specs.Rests.{z_of, p_of, put_p, put_ffr}
+use Rattle.sve_machine.specs.VectorStates.{z_of, p_of, put_p, put_ffr}
 use Rattle.sve_machine.specs.Rows.{logic_op, logic_flags, is_after, count_width, comparison}
-use Rattle.sve_machine.proofs.Arms.{IsP, IsZ}
+use Rattle.sve_machine.proofs.RegisterLanes.{IsP, IsZ}
 use Rattle.sve_machine.proofs.LaneRows.{row_of, Leaves}
 
 -- it goes on, and leaves these registers

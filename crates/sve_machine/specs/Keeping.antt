@@ -16,8 +16,8 @@ use Rattle.sve_machine.specs.declared.kept.Kept.TheVariants.{Nowhere, Ready, Sca
 abbrev pub kept_does : Kept → State → Step
 kept_does Nowhere s = Stopped Fetch s.pc s.pc s.memory
 kept_does (Ready prepared) s = prepared_does prepared s
-kept_does (Scalar word) s = does (table.Scalar (a64.seen word)) s
-kept_does (Vector word) s = does (table.Vector (sve.seen word)) s
+kept_does (Scalar word) s = does (table.Scalar (a64.instruction_view word)) s
+kept_does (Vector word) s = does (table.Vector (sve.instruction_view word)) s
 
 -- a step at this place does what the entry keeps
 abbrev pub Holds : Memory → ℕ → Entry → Type 0

@@ -1,6 +1,6 @@
 pub mod Listing
 pub mod Keeping
-pub mod Rests
+pub mod VectorStates
 pub mod View
 pub mod Rows
 pub mod Kinds

@@ -7,5 +7,5 @@ use Rattle.sve_machine.specs.declared.instruction.Instruction.{Instruction}
 use Rattle.sve_machine.specs.declared.instruction.Instruction.TheVariants.{Scalar, Vector}
 
 abbrev pub view_of : Instruction → Listed
-view_of (Scalar word) = table.Scalar (a64.seen word)
-view_of (Vector word) = table.Vector (sve.seen word)
+view_of (Scalar word) = table.Scalar (a64.instruction_view word)
+view_of (Vector word) = table.Vector (sve.instruction_view word)

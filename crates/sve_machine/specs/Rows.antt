@@ -42,7 +42,7 @@ use Rattle.sve_code.specs.declared.BreakOp.{BreakOp}
 use Rattle.sve_code.specs.declared.BreakOp.TheVariants as break_ops
 use Rattle.sve_code.specs.declared.Sve.{Sve}
 use Rattle.sve_code.specs.Numbers.{left_amount, right_amount}
-use Rattle.sve_code.specs.View.{seen}
+use Rattle.sve_code.specs.View.{instruction_view}
 use Rattle.machine_model.specs.Machine.{Step, Went, Stopped, next}
 use Rattle.machine_model.specs.VectorEffects.{do_vector}
 use Rattle.a64_machine.specs.Cores.{VectorState, state_of}
@@ -50,7 +50,7 @@ use Rattle.a64_machine.specs.declared.core_state.Core.{Core}
 
 -- the instruction goes on, and leaves these registers; PC is raised after it
 abbrev pub RowLeaves : Sve → Core → VectorState → (after : Core) → (left : VectorState) → Type 0
-RowLeaves word core rest after left = (memory : Memory) → do_vector (seen word) (state_of core memory rest) ≡ Went (next (state_of after memory left))
+RowLeaves word core rest after left = (memory : Memory) → do_vector (instruction_view word) (state_of core memory rest) ≡ Went (next (state_of after memory left))
 
 -- ---- the lane operation of each
 

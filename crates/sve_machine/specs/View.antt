@@ -1,6 +1,5 @@
--- What contracts see of a machine, and where a run starts.
-use Rattle.std.specs.Prelude.{◌≡◌, ℕ, ◌+◌, ◌<◌, List, Option, Some, replicate, false}
-use Rattle.guest_types.specs.EarlyLoads.{StopList}
+-- What contracts see of a machine.
+use Rattle.std.specs.Prelude.{◌≡◌, ℕ, ◌+◌, ◌<◌, Option, Some}
 use Rattle.guest_types.specs.Memory.{Memory}
 use Rattle.machine_model.specs.declared.outcome.Ending.{Ending}
 use Rattle.machine_model.specs.declared.outcome.Step.{Step as StepAnswer}
@@ -9,7 +8,7 @@ use Rattle.machine_model.specs.declared.outcome.Outcome.{Outcome as OutcomeAnswe
 use Rattle.machine_model.specs.declared.outcome.Outcome.TheVariants as outcomes
 use Rattle.machine_model.specs.Machine.{State}
 use Rattle.machine_model.specs.OneStep.{step}
-use Rattle.machine_model.specs.Run.{start_x, after_steps}
+use Rattle.machine_model.specs.Run.{after_steps}
 use Rattle.machine_model.specs.Answers.{IsAnswer}
 use Rattle.machine_model.specs.Debugged.{View, is_never}
 use Rattle.a64_machine.specs.Cores.{VectorState, state_of}
@@ -20,23 +19,8 @@ abbrev pub view_of : Core → Memory → VectorState → (steps : ℕ) → Optio
 view_of core memory rest steps over = record { state = state_of core memory rest; steps = steps; over = over; quiet = is_never rest.stops }
 
 -- the part of a state that A64 instructions leave alone
-abbrev pub rest_in : State → VectorState
-rest_in s = record { z = s.z; p = s.p; ffr = s.ffr; vl = s.vl; stops = s.stops }
-
--- where a run starts: this memory, the arguments in X0 on, PC at the entry, and zero in all other registers
-unfoldable pub start_of : (memory : Memory) (entry : ℕ) (args : List ℕ) (vl : ℕ) → StopList → State
-start_of memory entry args vl stops = record {
-  memory = memory;
-  pc = entry;
-  x = start_x args;
-  sp = 0;
-  flags = record { n = false; z = false; c = false; v = false };
-  z = replicate 32 (replicate 256 0);
-  p = replicate 16 (replicate 32 0);
-  ffr = replicate 32 0;
-  vl = vl;
-  stops = stops;
-}
+abbrev pub vector_part : State → VectorState
+vector_part s = record { z = s.z; p = s.p; ffr = s.ffr; vl = s.vl; stops = s.stops }
 
 -- some steps went, and the one after them came to this answer
 pub record Last (answer : StepAnswer) (steps done : ℕ) (before after : State) : Type 0 where

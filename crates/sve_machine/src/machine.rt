@@ -41,12 +41,12 @@ impl Model for Machine {
 
 impl Machine {
     ghost use Rattle.guest_types.specs.EarlyLoads.{never};
-    ghost use Rattle.machine_model.specs.Run.{run};
+    ghost use Rattle.machine_model.specs.Run.{run, start_of};
     ghost use Rattle.machine_model.specs.OneStep.{step};
     ghost use Rattle.machine_model.specs.Answers.{IsAnswer, outcome_of};
     ghost use Rattle.machine_model.specs.Debugged.{RunLeaves, is_never, answer_by, ending_by, outcome_by};
     ghost use Rattle.a64_machine.specs.Cores.{state_of};
-    ghost use Rattle.sve_machine.specs.View.{start_of, Leaves, rest_in};
+    ghost use Rattle.sve_machine.specs.View.{Leaves, vector_part};
 
     /// A machine that is about to do its first step: the arguments stand in X0 on, PC is the entry, and all other registers
     /// are zero.
@@ -62,7 +62,7 @@ impl Machine {
     }
 
     /// The same with a stop list: its first-fault and non-fault loads stop early where the list says so.
-    #[tactic(auto, unfolding(crate::specs::View::start_of), using(crate::proofs::Starts::copied))]
+    #[tactic(auto, unfolding(machine_model::specs::Run::start_of), using(crate::proofs::StartRegisters::copied))]
     pub fn suppressing(pages: Pages, entry: u64, args: &[u64], vl: Vl, stops: Suppress) -> Machine
         requires { length args.now ≤ 8 }
         ensures state { result.state ≡ start_of pages entry args.now vl stops }
@@ -181,14 +181,14 @@ impl Machine {
 
     // The registers of A64 instructions.
     pub(crate) fn core(&self) -> &Core
-        ensures { state_of result.now self.now.state.memory (rest_in self.now.state) ≡ self.now.state }
+        ensures { state_of result.now self.now.state.memory (vector_part self.now.state) ≡ self.now.state }
     {
         &self.core
     }
 
     // The vector registers.
     pub(crate) fn vectors(&self) -> &Vectors
-        ensures { result.now ≡ rest_in self.now.state }
+        ensures { result.now ≡ vector_part self.now.state }
     {
         &self.vectors
     }

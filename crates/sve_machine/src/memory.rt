@@ -2,14 +2,14 @@
 
 ghost use Rattle.std.specs.Prelude.{◌≡◌, slice_index};
 ghost use Rattle.sve_code.specs.Numbers.{dtype_number, size_number};
-ghost use Rattle.sve_code.specs.View.{seen};
+ghost use Rattle.sve_code.specs.View.{instruction_view};
 ghost use Rattle.sve_code.specs.declared.Sve.{Sve};
 ghost use Rattle.machine_model.specs.Answers.{IsAnswer};
 ghost use Rattle.machine_model.specs.Machine.{x_or_sp};
 ghost use Rattle.machine_model.specs.VectorEffects.{do_vector};
 ghost use Rattle.lane_memory.specs.Loads.{load_of};
 ghost use Rattle.a64_machine.specs.Cores.{state_of, said};
-ghost use Rattle.sve_machine.specs.Rests.{p_of, put_load};
+ghost use Rattle.sve_machine.specs.VectorStates.{p_of, put_load};
 ghost use Rattle.sve_machine.specs.Rows.{after_load};
 
 use crate::vectors::Vectors;
@@ -93,7 +93,7 @@ pub fn contiguous_load(
     answer: &mut Step,
 ) -> bool
     ensures { let before = state_of core.old pages.now vectors.old in
-        IsAnswer (do_vector (seen (Sve.ContiguousLoad zt rn pg offset dtype)) before)
+        IsAnswer (do_vector (instruction_view (Sve.ContiguousLoad zt rn pg offset dtype)) before)
         (said result answer.new) before (state_of core.new pages.now vectors.new) }
 {
     let base = core.register_or_sp(rn);
@@ -125,7 +125,8 @@ pub fn first_fault_load(
     answer: &mut Step,
 ) -> bool
     ensures { let before = state_of core.old pages.now vectors.old in
-        IsAnswer (do_vector (seen (Sve.FirstFaultLoad zt rn pg rm dtype)) before) (said result answer.new) before
+        IsAnswer (do_vector (instruction_view (Sve.FirstFaultLoad zt rn pg rm dtype)) before)
+        (said result answer.new) before
         (state_of core.new pages.now vectors.new) }
 {
     let base = core.register_or_sp(rn);
@@ -156,7 +157,7 @@ pub fn non_fault_load(
     answer: &mut Step,
 ) -> bool
     ensures { let before = state_of core.old pages.now vectors.old in
-        IsAnswer (do_vector (seen (Sve.NonFaultLoad zt rn pg dtype)) before) (said result answer.new) before
+        IsAnswer (do_vector (instruction_view (Sve.NonFaultLoad zt rn pg dtype)) before) (said result answer.new) before
         (state_of core.new pages.now vectors.new) }
 {
     let base = core.register_or_sp(rn);
@@ -188,7 +189,7 @@ pub fn contiguous_store(
     answer: &mut Step,
 ) -> bool
     ensures { let before = state_of core.old pages.old vectors.now in
-        IsAnswer (do_vector (seen (Sve.ContiguousStore zt rn pg offset sizes)) before)
+        IsAnswer (do_vector (instruction_view (Sve.ContiguousStore zt rn pg offset sizes)) before)
         (said result answer.new) before (state_of core.new pages.new vectors.now) }
 {
     let base = core.register_or_sp(rn);

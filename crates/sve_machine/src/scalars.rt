@@ -1,7 +1,7 @@
 //! A64 instructions of the machine.
 
 ghost use Rattle.std.specs.Prelude.{◌≡◌};
-ghost use Rattle.a64_code.specs.View.{seen};
+ghost use Rattle.a64_code.specs.View.{instruction_view};
 ghost use Rattle.a64_machine.specs.Cores.{state_of, HasVector, said};
 ghost use Rattle.machine_model.specs.InstructionTable.{Scalar};
 ghost use Rattle.machine_model.specs.OneStep.{does};
@@ -35,7 +35,7 @@ pub fn scalar_goes(
     answer: &mut Step,
 ) -> bool
     ensures { let before = state_of core.old pages.old vectors.now in
-        IsAnswer (does (Scalar (seen word)) before) (said result answer.new) before
+        IsAnswer (does (Scalar (instruction_view word)) before) (said result answer.new) before
         (state_of core.new pages.new vectors.now) }
 {
     hand_doubleword(core, vectors, word);

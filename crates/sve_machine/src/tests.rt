@@ -1,4 +1,4 @@
-// A machine with no pages, stepped and looked at.
+//! A machine with no pages, stepped and looked at.
 
 use crate::machine::Machine;
 use guest_types::image::{Image, PageMap};

@@ -2,7 +2,7 @@
 
 ghost use Rattle.std.specs.Prelude.{◌≡◌, true};
 ghost use Rattle.guest_types.specs.Memory.{Memory};
-ghost use Rattle.sve_code.specs.View.{seen};
+ghost use Rattle.sve_code.specs.View.{instruction_view};
 ghost use Rattle.a64_machine.specs.Cores.{state_of, said};
 ghost use Rattle.a64_machine.specs.declared.core_state.Core.{Core as CoreOf};
 ghost use Rattle.machine_model.specs.InstructionTable.{Vector};
@@ -30,7 +30,7 @@ pub fn vector_goes(
     answer: &mut Step,
 ) -> bool
     ensures { let before = state_of core.old pages.old vectors.old in
-        IsAnswer (does (Vector (seen word)) before) (said result answer.new) before
+        IsAnswer (does (Vector (instruction_view word)) before) (said result answer.new) before
         (state_of core.new pages.new vectors.new) }
 {
     match word {
@@ -67,7 +67,8 @@ pub fn vector_goes(
 fn in_registers(core: &mut Core, vectors: &mut Vectors, word: Sve) -> bool
     ensures goes_on { result ≡ true }
     ensures went { (memory : Memory) → IsOnRegisters word →
-        does (Vector (seen word)) (state_of core.old memory vectors.old) ≡ Went (state_of core.new memory vectors.new) }
+        does (Vector (instruction_view word)) (state_of core.old memory vectors.old)
+        ≡ Went (state_of core.new memory vectors.new) }
 {
     on_registers(core, vectors, word);
     core.go_on();

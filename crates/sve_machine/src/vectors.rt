@@ -30,21 +30,21 @@ pub struct Vectors {
 
 impl Model for Vectors {
     ghost use Rattle.a64_machine.specs.Cores.{VectorState};
-    ghost use Rattle.sve_machine.specs.Rests.{rest_of, IsRest};
+    ghost use Rattle.sve_machine.specs.VectorStates.{vector_state_of, IsVectorState};
 
     ghost Value = { VectorState };
 
-    ghost view = { λ v. rest_of v.z v.p v.ffr v.vl v.stops };
+    ghost view = { λ v. vector_state_of v.z v.p v.ffr v.vl v.stops };
 
-    ghost invariant = { λ v. IsRest (rest_of v.z v.p v.ffr v.vl v.stops) };
+    ghost invariant = { λ v. IsVectorState (vector_state_of v.z v.p v.ffr v.vl v.stops) };
 }
 
 impl Vectors {
-    ghost use Rattle.sve_machine.specs.Rests.{IsRest, zeros, z_of, p_of, put_z, put_p, put_ffr, put_lanes};
+    ghost use Rattle.sve_machine.specs.VectorStates.{IsVectorState, zeros, z_of, p_of, put_z, put_p, put_ffr, put_lanes};
     ghost use Rattle.guest_types.specs.Length.{width_bits};
     ghost use Rattle.guest_types.specs.Lanes.{ShiftFits, source_bits, binary_at, merge_at, merge_one_at, shift_at, select_at};
     ghost use Rattle.lane_memory.specs.Loads.{load_of};
-    ghost use Rattle.sve_machine.specs.Rests.{put_load};
+    ghost use Rattle.sve_machine.specs.VectorStates.{put_load};
 
     /// Registers of zeros, and a stop list.
     pub fn new(vl: Vl, stops: Suppress) -> Vectors

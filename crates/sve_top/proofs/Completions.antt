@@ -6,9 +6,9 @@ use Rattle.command_line.specs.Line.{Line, CompileLine, CheckLine, EvalLine, List
 use Rattle.refusals.specs.declared.refusal.Refusal.TheVariants.{Usage, TooManyLive, Kernel, TooLong, Elf, Map, Memory, File, Output}
 use Rattle.refusals.specs.declared.refusal.Done.{Done}
 use Rattle.refusals.specs.declared.refusal.Done.TheVariants as done
-use Rattle.sve_top.specs.Answer.{Held, Expected, Answer, answer_of, text_of, status_of}
+use Rattle.sve_top.specs.Answer.{Held, Expected, Answer, answer_of, expected_text, status_of}
 use Rattle.refusals.specs.Statuses.{status_of_done}
-use Rattle.sve_top.specs.Commands.{Expects, SomeExpected, IsSettled, IsTaken, IsOf, IsOfSweep, IsHeld}
+use Rattle.sve_top.specs.Commands.{Expects, SomeExpected, IsSettled, IsInput, IsOf, IsOfSweep, IsHeld}
 use Rattle.sve_top.specs.Does.{Outside, StreamsRose, Does}
 use Rattle.sve_top.specs.Outputs.{PrintsBy, is_done}
 use Rattle.sve_top.specs.Complete.{ComesTo, Completes}
@@ -33,9 +33,9 @@ take_none zero = refl
 take_none (suc n) = refl
 
 -- where the status is that of the work, the output gained the whole text: a refusal has none
-whole_text : (work : Expected) (old new : Option (List ℕ)) (s : ℕ) → s ≡ status_of (answer_of work) → PrintsBy old new (text_of work) s → IfSome old (λ bytes. new ≡ Some (bytes ++ text_of work))
+whole_text : (work : Expected) (old new : Option (List ℕ)) (s : ℕ) → s ≡ status_of (answer_of work) → PrintsBy old new (expected_text work) s → IfSome old (λ bytes. new ≡ Some (bytes ++ expected_text work))
 whole_text work None new s is prints = tt
-whole_text (Ok deed) (Some bytes) new s is prints = prints.0 (subst (λ n. IsTrue (is_done n)) (sym is) (told deed.how))
+whole_text (Ok success) (Some bytes) new s is prints = prints.0 (subst (λ n. IsTrue (is_done n)) (sym is) (told success.how))
   where
     told : (how : Done) → IsTrue (is_done (status_of_done how))
     told done.Ended = refl
@@ -92,8 +92,8 @@ no_file h (Some line) result of steady held e = steady held e
 pub completes : (held : Option Held) (left : Option (List ℕ)) (line : Option Line) (before after : Outside) (s : ℕ) (result : Answer) → s ≡ status_of result → IsOf line result
     → IfSome line (λ l. IfSome held (λ h. IsHeld h l → result ≢ Err File))
     → (result ≡ Err Output → StreamsRose line before after)
-    → ((input : List ℕ) → IsTaken line left input → IsSettled line → IfSome held (λ h. SomeExpected (Expects h input line) (λ work. Does line work before after s)))
-    → (input : List ℕ) → IsTaken line left input → (StreamsRose line before after → ⊥)
+    → ((input : List ℕ) → IsInput line left input → IsSettled line → IfSome held (λ h. SomeExpected (Expects h input line) (λ work. Does line work before after s)))
+    → (input : List ℕ) → IsInput line left input → (StreamsRose line before after → ⊥)
     → IfSome held (λ h. IfSome line (λ l. IsHeld h l) → Completes h input line before.printed after.printed s)
 completes None left line before after s result is of steady cause does input taken none = tt
 completes (Some h) left line before after s result is of steady cause does input taken none =

@@ -60,8 +60,8 @@ pub eval_refused : {T : Type 0} (task : Task) (map : List ℕ) (k : Program) (no
 eval_refused task map k none fault result empty is h =
     map_error_refused (pages_of_map map none) (eval_kernel task map k) fault result (eval_wanted task map k none empty) is h
 
-pub eval_played : (task : Task) (map : List ℕ) (k : Program) (none pages before after : Memory) (o : ScalarOutcome) (how : Done) (text : List ℕ) → none ≡ [] → pages_of_map map none ≡ Ok pages → before ≡ pages → IsOutcome o task.steps (scalar_run k task.args before) after (first_leave k task.args task.steps before) → how ≡ scalar_done o → text ≡ scalar_text o ++ dump_of task.dump after → eval_kernel task map k ≡ Ok (record { how = how; text = text })
-eval_played task map k none pages before after o how text empty e same is done shown =
+pub eval_reported : (task : Task) (map : List ℕ) (k : Program) (none pages before after : Memory) (o : ScalarOutcome) (how : Done) (text : List ℕ) → none ≡ [] → pages_of_map map none ≡ Ok pages → before ≡ pages → IsOutcome o task.steps (scalar_run k task.args before) after (first_leave k task.args task.steps before) → how ≡ scalar_done o → text ≡ scalar_text o ++ dump_of task.dump after → eval_kernel task map k ≡ Ok (record { how = how; text = text })
+eval_reported task map k none pages before after o how text empty e same is done shown =
     let out = outcome_is o task.steps (scalar_run k task.args before) after (first_leave k task.args task.steps before) is in
     eval_is task map k none (Ok pages) empty e
     ∙ ap (eval_over task k) (sym same)

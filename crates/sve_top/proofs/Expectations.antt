@@ -21,10 +21,10 @@ use Rattle.kernel_front.specs.declared.fault.KernelFault.TheVariants as kernels
 use Rattle.kernel_front.specs.Verdict.{Verdict, Limited, NoKernel, Refused, Sound, IsVerdict, Explains}
 use Rattle.refusals.specs.declared.refusal.Refusal.{Refusal}
 use Rattle.refusals.specs.declared.refusal.Refusal.TheVariants.{Usage, TooManyLive, Kernel, TooLong, Elf, Map, Memory, File, Output}
-use Rattle.sve_top.specs.Answer.{Held, Expected, Answer, answer_of, text_of, IsFileAnswer, IsAnswer}
+use Rattle.sve_top.specs.Answer.{Held, Expected, Answer, answer_of, expected_text, IsFileAnswer, IsAnswer}
 use Rattle.refusals.specs.Statuses.{of_kernel, of_compile, of_elf}
 use Rattle.sve_top.specs.Outputs.{Prints}
-use Rattle.sve_top.proofs.Puts.{prints_none}
+use Rattle.sve_top.proofs.Prints.{prints_none}
 use Rattle.sve_top.specs.Kernels.{IsOfText, IsExpectedOf, ByVerdict}
 use Rattle.sve_top.specs.Commands.{AfterRead, WhereExpected, WhereTold, RefusesText, RefusesEval, RefusesProgram, IsOfEval, Expects, file_of, bytes_of, map_of, compiled, compiled_by, CompilesTo, CompileExpects, RefusesCompile, IsOfCheck, IsOfList}
 
@@ -223,19 +223,19 @@ compile_refusal text k refusal (Err r) v is h = subst (RefusesText (CompileExpec
     by Output h = absurd h
 
 -- what is wanted of `compile` has no text
-no_own_text : (k : Program) (o : Option RegClass) → text_of (compiled_by k o) ≡ []
+no_own_text : (k : Program) (o : Option RegClass) → expected_text (compiled_by k o) ≡ []
 no_own_text k None = refl
 no_own_text k (Some class) = refl
 
-no_text : (v : Verdict) (work : Expected) → IsExpectedOf compiled v work → text_of work ≡ []
-no_text (Limited fault) work w = ap text_of w.is_refused
-no_text (NoKernel token) work w = ap text_of w.is_refused
-no_text (Refused refusal) work w = ap text_of w.is_refused
-no_text (Sound k) work w = ap text_of w ∙ no_own_text k (too_many k)
+no_text : (v : Verdict) (work : Expected) → IsExpectedOf compiled v work → expected_text work ≡ []
+no_text (Limited fault) work w = ap expected_text w.is_refused
+no_text (NoKernel token) work w = ap expected_text w.is_refused
+no_text (Refused refusal) work w = ap expected_text w.is_refused
+no_text (Sound k) work w = ap expected_text w ∙ no_own_text k (too_many k)
 
-pub compile_silent : (r : Result (List ℕ) Refusal) (work : Expected) → AfterRead r CompileExpects work → text_of work ≡ []
+pub compile_silent : (r : Result (List ℕ) Refusal) (work : Expected) → AfterRead r CompileExpects work → expected_text work ≡ []
 compile_silent (Ok text) work w = no_text w.verdict work w.wanted
-compile_silent (Err refusal) work w = ap text_of w
+compile_silent (Err refusal) work w = ap expected_text w
 
 -- ---- which refusals come of which command
 
@@ -287,7 +287,7 @@ pub of_every_line : (held : Option Held) (left : Option (List ℕ)) (line : Opti
 of_every_line None left line P all = λ input taken. tt
 of_every_line (Some h) left line P all = λ input taken. λ work w. (work, w, all work)
 
-pub prints_silent : (held : Option Held) (from to : List ℕ) (old : Option (List ℕ)) (result : Answer) → IfSome held (λ h. WhereExpected (Expects h [] (Some (CompileLine from to))) (λ work. Prints old old (text_of work) result))
+pub prints_silent : (held : Option Held) (from to : List ℕ) (old : Option (List ℕ)) (result : Answer) → IfSome held (λ h. WhereExpected (Expects h [] (Some (CompileLine from to))) (λ work. Prints old old (expected_text work) result))
 prints_silent None from to old result = tt
 prints_silent (Some h) from to old result = λ work w. (work, w, subst (λ t. Prints old old t result) (sym (compile_silent (file_of h from) work w)) (prints_none old result))
 

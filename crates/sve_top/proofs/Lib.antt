@@ -1,4 +1,4 @@
-pub mod Puts
+pub mod Prints
 pub mod Programs
 pub mod Listings
 pub mod Expectations

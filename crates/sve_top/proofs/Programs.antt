@@ -1,5 +1,5 @@
 -- Programs that are loaded: their pages, and where their runs start.
-use Rattle.std.proofs.Common.{◌≡◌, ℕ, zero, suc, ◌+◌, ◌≤◌, Bool, true, false, cond, List, [], ◌∷◌, ◌++◌, length, flat_map, Option, Some, None, Result, Ok, Err, refl, sym, ap, ◌∙◌, subst, arith, length-append}
+use Rattle.std.proofs.Common.{◌≡◌, ℕ, ◌+◌, ◌≤◌, Bool, true, false, cond, List, [], ◌∷◌, ◌++◌, length, flat_map, Option, Some, None, Result, Ok, Err, refl, sym, ap, ◌∙◌, subst, arith, length-append}
 use Rattle.std.specs.Prelude.{nat_lt, nat_eq, sum_by, filter, ◌*◌, ◌&&◌, ◌||◌, not, IfErr, IsErrAnd, if◌then◌else◌}
 use Rattle.std.proofs.lemmas.Bool.{ltb-false}
 use Rattle.std.proofs.lemmas.List.Sums.{sum_by-cons}
@@ -32,10 +32,7 @@ use Rattle.refusals.specs.Statuses.{of_elf, of_map}
 use Rattle.sve_top.specs.Ready.{BeginsProgram}
 use Rattle.sve_top.specs.Commands.{and_then, loaded, mapped, beside, ended, with_program, list_program, ran, run_program, debugged, debug_program, success_of, dump_of, done_by, done_of, RefusesProgram}
 use Rattle.machine_model.specs.Load.{Image, Segment, load, load_segments, segments_from, le_at, image_of, is_loaded, first_bad, any_segment, is_dynamic, has_ident, pages_from, pages_of, page_count, first_page, put_in_order, in_order, clash}
-
-length-pages_from : (bytes : List ℕ) (s : Segment) (n count : ℕ) → length (pages_from bytes s n count) ≡ count
-length-pages_from bytes s n zero = refl
-length-pages_from bytes s n (suc count) = ap suc (length-pages_from bytes s (n + 1) count)
+use Rattle.sweep_run.proofs.Programs.{count_from as length-pages_from}
 
 length-pages : (bytes : List ℕ) (xs : List Segment) → length (flat_map (pages_of bytes) xs) ≡ sum_by page_count xs
 unfolding pages_of
@@ -245,9 +242,9 @@ begun vl task image pages s taken o state none is =
     ap (λ t. run task.steps 0 t) (sym state) ∙ ap (λ n. run task.steps n s) (sym none) ∙ is
 
 -- what a machine that ran from the start comes to
-pub run_played : (vl : ℕ) (task : Task) (bytes map : List ℕ) (image : Image) (pages : Memory) (s : State) (taken : ℕ) (o : OutcomeAnswer) (memory : Memory) (pc steps : ℕ) (how : Done) (text : List ℕ) → load bytes ≡ Ok image → pages_of_map map image.pages ≡ Ok pages → s ≡ start image task.args pages vl → taken ≡ 0 → run task.steps taken s ≡ outcome_of o memory pc steps → how ≡ done_of o → text ≡ text_of_outcome o pc steps ++ dump_of task.dump memory → run_program vl task bytes map ≡ Ok (record { how = how; text = text })
+pub run_reported : (vl : ℕ) (task : Task) (bytes map : List ℕ) (image : Image) (pages : Memory) (s : State) (taken : ℕ) (o : OutcomeAnswer) (memory : Memory) (pc steps : ℕ) (how : Done) (text : List ℕ) → load bytes ≡ Ok image → pages_of_map map image.pages ≡ Ok pages → s ≡ start image task.args pages vl → taken ≡ 0 → run task.steps taken s ≡ outcome_of o memory pc steps → how ≡ done_of o → text ≡ text_of_outcome o pc steps ++ dump_of task.dump memory → run_program vl task bytes map ≡ Ok (record { how = how; text = text })
 unfolding run_program
-run_played vl task bytes map image pages s taken o memory pc steps how text e mapping state none is done shown =
+run_reported vl task bytes map image pages s taken o memory pc steps how text e mapping state none is done shown =
     let whole : text ≡ outcome_text (outcome_of o memory pc steps) ++ dump_of task.dump (memory_left (outcome_of o memory pc steps)) = shown ∙ ap (λ t. t ++ dump_of task.dump memory) (sym (same_text o memory pc steps)) ∙ ap (λ m. outcome_text (outcome_of o memory pc steps) ++ dump_of task.dump m) (sym (same_memory o memory pc steps)) in
     let way : how ≡ done_by (outcome_of o memory pc steps) = done ∙ sym (same_done o memory pc steps) in
     with_beside bytes map (ran vl task) image (Ok pages) e mapping

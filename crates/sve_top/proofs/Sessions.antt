@@ -1,6 +1,6 @@
 -- What a debugging session comes to, by the files that were read, the program that was loaded, and what was answered.
 use mathlib.Core.Logic.{⊎_elim}
-use Rattle.std.proofs.Common.{◌≡◌, ◌≢◌, ◌⊎◌, ℕ, ◌≤◌, List, Option, Some, None, Result, Ok, Err, inl, inr, refl, sym, ap, ◌∙◌, subst, arith}
+use Rattle.std.proofs.Common.{◌≡◌, ◌≢◌, ◌⊎◌, ℕ, ◌≤◌, List, Option, Some, None, Result, Ok, Err, inl, inr, refl, sym, ap, ◌∙◌, subst}
 use Rattle.std.specs.Prelude.{IfSome, IsErrAnd}
 use Rattle.io_edges.specs.Files.{Rose}
 use Rattle.command_line.specs.Line.{Task}
@@ -10,12 +10,13 @@ use Rattle.sve_debug.specs.Sessions.{Tells}
 use Rattle.refusals.specs.declared.refusal.Refusal.{Refusal}
 use Rattle.refusals.specs.declared.refusal.Refusal.TheVariants.{Usage, TooManyLive, Kernel, TooLong, Elf, Map, Memory, File, Output}
 use Rattle.refusals.specs.declared.refusal.Done.TheVariants as done
-use Rattle.sve_top.specs.Answer.{Held, Expected, Answer, answer_of, text_of, IsFileAnswer, IsAnswer}
+use Rattle.sve_top.specs.Answer.{Held, Expected, Answer, answer_of, expected_text, IsFileAnswer, IsAnswer}
 use Rattle.refusals.specs.Statuses.{of_session}
 use Rattle.sve_top.specs.Commands.{and_then, file_of, map_of, debug_program, expected_of_debug, RefusesProgram, IsOfDebug}
 use Rattle.sve_top.specs.Outputs.{Prints}
 use Rattle.sve_top.proofs.Expectations.{read_is, is_err}
-use Rattle.sve_top.proofs.Puts.{prints_nothing}
+use Rattle.sve_top.proofs.Prints.{prints_nothing}
+use Rattle.io_edges.proofs.Puts.{later_rose}
 
 -- what holds of all inputs and files
 pub whatever : (left : Option (List ℕ)) (held : Option Held) (P : List ℕ → Held → Type 0) → ((input : List ℕ) (h : Held) → P input h) → IfSome left (λ input. IfSome held (λ h. P input h))
@@ -41,9 +42,6 @@ no_file x y rose None held vl task found refusal result e is read = tt
 no_file x y rose (Some input) None vl task found refusal result e is read = tt
 no_file x y rose (Some input) (Some h) vl task found refusal result e is read =
     failed_at x y x y rose (file_of h task.file) (λ bytes. and_then (map_of h task.map) (λ map. debug_program vl task bytes map input)) refusal result (is_err refusal result is) (λ r. r) (subst (IsFileAnswer x y (file_of h task.file)) e read)
-
-later_rose : (a b c : ℕ) → a ≤ b → Rose b c → Rose a c
-later_rose a b c h r = omega arith
 
 pub no_map : (x y z : ℕ) (rose : Type 0) (left : Option (List ℕ)) (held : Option Held) (vl : ℕ) (task : Task) (bytes : List ℕ) (found other : Result (List ℕ) Refusal) (refusal : Refusal) (result : Answer) → x ≤ y → found ≡ Ok bytes → IfSome held (λ h. IsFileAnswer x y (file_of h task.file) found) → other ≡ Err refusal → IsErrAnd result (λ r. r ≡ refusal) → IfSome held (λ h. IsFileAnswer y z (map_of h task.map) other)
     → IfSome left (λ input. IfSome held (λ h. IsAnswer x z rose (answer_of (expected_of_debug h input vl task)) result))
@@ -153,10 +151,10 @@ answered_session None P all = tt
 answered_session (Some input) P all = all input
 
 -- nothing was put on the output before the session
-pub untold_session : (left : Option (List ℕ)) (held : Option Held) (vl : ℕ) (task : Task) (printed : Option (List ℕ)) (refusal : Refusal) (result : Answer) → IsErrAnd result (λ r. r ≡ refusal) → IfSome left (λ input. IfSome held (λ h. Prints printed printed (text_of (expected_of_debug h input vl task)) result))
+pub untold_session : (left : Option (List ℕ)) (held : Option Held) (vl : ℕ) (task : Task) (printed : Option (List ℕ)) (refusal : Refusal) (result : Answer) → IsErrAnd result (λ r. r ≡ refusal) → IfSome left (λ input. IfSome held (λ h. Prints printed printed (expected_text (expected_of_debug h input vl task)) result))
 untold_session left held vl task printed refusal result is =
-    whatever left held (λ input h. Prints printed printed (text_of (expected_of_debug h input vl task)) result)
-    (λ input h. subst (Prints printed printed (text_of (expected_of_debug h input vl task))) (sym (is_err refusal result is)) (prints_nothing printed (text_of (expected_of_debug h input vl task)) refusal))
+    whatever left held (λ input h. Prints printed printed (expected_text (expected_of_debug h input vl task)) result)
+    (λ input h. subst (Prints printed printed (expected_text (expected_of_debug h input vl task))) (sym (is_err refusal result is)) (prints_nothing printed (expected_text (expected_of_debug h input vl task)) refusal))
 
 all_told : (old new : Option (List ℕ)) (text : List ℕ) (told : Result (Unit {0}) SessionFault) → told ≡ Ok tt → Tells old new text told → Prints old new text (Ok done.Ended)
 all_told None new text (Ok all) is h = tt
@@ -168,14 +166,14 @@ part_told None new text refusal told h = tt
 part_told (Some bytes) new text refusal told h = (tt, h.1)
 
 -- the whole text was put
-pub told_session : (left : Option (List ℕ)) (old new : Option (List ℕ)) (wanted : List ℕ → Expected) (text : List ℕ → List ℕ) (told : Result (Unit {0}) SessionFault) → told ≡ Ok tt → ((input : List ℕ) → text_of (wanted input) ≡ text input) → IfSome left (λ input. Tells old new (text input) told) → IfSome left (λ input. Prints old new (text_of (wanted input)) (Ok done.Ended))
+pub told_session : (left : Option (List ℕ)) (old new : Option (List ℕ)) (wanted : List ℕ → Expected) (text : List ℕ → List ℕ) (told : Result (Unit {0}) SessionFault) → told ≡ Ok tt → ((input : List ℕ) → expected_text (wanted input) ≡ text input) → IfSome left (λ input. Tells old new (text input) told) → IfSome left (λ input. Prints old new (expected_text (wanted input)) (Ok done.Ended))
 told_session None old new wanted text told is same h = tt
 told_session (Some input) old new wanted text told is same h =
     subst (λ t. Prints old new t (Ok done.Ended)) (sym (same input)) (all_told old new (text input) told is h)
 
 -- a part of it was put
-pub cut_session : (left : Option (List ℕ)) (old new : Option (List ℕ)) (wanted : List ℕ → Expected) (text : List ℕ → List ℕ) (told : Result (Unit {0}) SessionFault) (refusal : Refusal) (result : Answer) → IsErrAnd result (λ r. r ≡ refusal) → ((input : List ℕ) → text_of (wanted input) ≡ text input) → IfSome left (λ input. Tells old new (text input) told) → IfSome left (λ input. Prints old new (text_of (wanted input)) result)
+pub cut_session : (left : Option (List ℕ)) (old new : Option (List ℕ)) (wanted : List ℕ → Expected) (text : List ℕ → List ℕ) (told : Result (Unit {0}) SessionFault) (refusal : Refusal) (result : Answer) → IsErrAnd result (λ r. r ≡ refusal) → ((input : List ℕ) → expected_text (wanted input) ≡ text input) → IfSome left (λ input. Tells old new (text input) told) → IfSome left (λ input. Prints old new (expected_text (wanted input)) result)
 cut_session None old new wanted text told refusal result is same h = tt
 cut_session (Some input) old new wanted text told refusal result is same h =
-    subst (Prints old new (text_of (wanted input))) (sym (is_err refusal result is))
+    subst (Prints old new (expected_text (wanted input))) (sym (is_err refusal result is))
     (subst (λ t. Prints old new t (Err refusal)) (sym (same input)) (part_told old new (text input) refusal told h))

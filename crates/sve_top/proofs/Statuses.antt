@@ -50,8 +50,8 @@ gains_nothing : (old : Option (List ℕ)) (n : ℕ) → Gains old old n n []
 gains_nothing None n = tt
 gains_nothing (Some bytes) n = inl (ap Some (sym (append-nil bytes)))
 
-pub told_done : (old : Option (List ℕ)) (n s : ℕ) (own : List ℕ) (how : Done) → s ≡ status_of_done how → Gains old old n n (error_line_by own s)
-told_done old n s own how is = subst (Gains old old n n) (sym (ap (error_line_by own) is ∙ nothing_told own how)) (gains_nothing old n)
+pub line_done : (old : Option (List ℕ)) (n s : ℕ) (own : List ℕ) (how : Done) → s ≡ status_of_done how → Gains old old n n (error_line_by own s)
+line_done old n s own how is = subst (Gains old old n n) (sym (ap (error_line_by own) is ∙ nothing_told own how)) (gains_nothing old n)
 
 -- the line of a refusal is told
 own_line : (refusal : Refusal) → error_line_by (line_of_refusal refusal) (status_of_refusal refusal) ≡ line_of_refusal refusal
@@ -84,6 +84,6 @@ gains_line None new x y text result p = tt
 gains_line (Some bytes) new x y text (Ok all) p = inl p.all
 gains_line (Some bytes) new x y text (Err failed) p = inr (p.part, p.cause.failed)
 
-pub told_refused : (x y s n k : ℕ) (rose : Type 0) (old new : Option (List ℕ)) (refusal : Refusal) (wanted : Answer) (result : Result (Unit {0}) Failed) → s ≡ status_of_refusal refusal → IsAnswer x y rose wanted (Err refusal) → PutsText old new n k (line_of_refusal refusal) result → Gains old new n k (error_line_by (error_line wanted) s)
-told_refused x y s n k rose old new refusal wanted result is h p =
+pub line_refused : (x y s n k : ℕ) (rose : Type 0) (old new : Option (List ℕ)) (refusal : Refusal) (wanted : Answer) (result : Result (Unit {0}) Failed) → s ≡ status_of_refusal refusal → IsAnswer x y rose wanted (Err refusal) → PutsText old new n k (line_of_refusal refusal) result → Gains old new n k (error_line_by (error_line wanted) s)
+line_refused x y s n k rose old new refusal wanted result is h p =
     subst (Gains old new n k) (sym (ap (error_line_by (error_line wanted)) is ∙ line_is x y rose refusal wanted h)) (gains_line old new n k (line_of_refusal refusal) result p)

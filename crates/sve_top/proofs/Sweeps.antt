@@ -16,7 +16,7 @@ use Rattle.refusals.specs.Statuses.{of_files}
 use Rattle.sve_top.specs.Commands.{Compiled}
 use Rattle.sve_top.specs.Swept.{Swept}
 use Rattle.sve_top.proofs.Expectations.{is_err, written_at}
-use Rattle.sve_top.proofs.Puts.{prints_part, prints_all}
+use Rattle.sve_top.proofs.Prints.{prints_part, prints_all}
 use Rattle.sve_top.proofs.Statuses.{prints_by}
 
 not_done_short : ◌≡◌ {A = ℕ} 7 0 ⊎ ◌≡◌ {A = ℕ} 7 9 → ⊥

@@ -23,13 +23,13 @@ abbrev pub Answer : Type 0
 Answer = Result Done Refusal
 
 abbrev pub answer_of : Expected → Answer
-answer_of (Ok deed) = Ok deed.how
+answer_of (Ok success) = Ok success.how
 answer_of (Err refusal) = Err refusal
 
 -- a command that is refused has no text
-abbrev pub text_of : Expected → List ℕ
-text_of (Ok deed) = deed.text
-text_of (Err refusal) = []
+abbrev pub expected_text : Expected → List ℕ
+expected_text (Ok success) = success.text
+expected_text (Err refusal) = []
 
 abbrev pub status_of : Answer → ℕ
 status_of (Ok how) = status_of_done how
@@ -69,7 +69,7 @@ IsQuiet (Err refusal) = Unit {0}
 
 -- a refusal, and not a command that is done
 abbrev pub IsRefusal : Expected → Type 0
-IsRefusal (Ok deed) = ⊥
+IsRefusal (Ok success) = ⊥
 IsRefusal (Err refusal) = Unit {0}
 
 -- a command that is to be refused changes no file, whatever its status

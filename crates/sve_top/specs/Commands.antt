@@ -9,7 +9,7 @@ use Rattle.machine_model.specs.declared.outcome.Outcome.TheVariants as outcomes
 use Rattle.machine_model.specs.DumpText.{dump_text}
 use Rattle.machine_model.specs.Load.{Image, load}
 use Rattle.machine_model.specs.OutcomeText.{outcome_text}
-use Rattle.machine_model.specs.Run.{Outcome, End, Stop, Spent, start, run, memory_left}
+use Rattle.machine_model.specs.Run.{Outcome, End, Stop, Spent, start, image_run, memory_left}
 use Rattle.kernel_meaning.specs.ScalarRun.{Run, scalar_run, first_leave}
 use Rattle.kernel_meaning.specs.ScalarRun as meaning
 use Rattle.kernel_meaning.specs.declared.outcome.ScalarOutcome.{ScalarOutcome}
@@ -142,7 +142,7 @@ success_of dump outcome = Ok (record { how = done_by outcome; text = outcome_tex
 
 -- the machine's run of a program with some pages
 abbrev pub ran : ℕ → Task → Image → Memory → Expected
-ran vl task image pages = success_of task.dump (run task.steps 0 (start image task.args pages vl))
+ran vl task image pages = success_of task.dump (image_run image task.args pages vl task.steps)
 
 unfoldable pub run_program : ℕ → Task → List ℕ → List ℕ → Expected
 run_program vl task bytes map = with_program bytes map (ran vl task)
@@ -227,9 +227,9 @@ IsSettled (Some (SweepLine number to)) = ⊥
 IsSettled line = Unit {0}
 
 -- these are the bytes of the input, where they count
-abbrev pub IsTaken : Option Line → (left : Option (List ℕ)) → (input : List ℕ) → Type 0
-IsTaken (Some (DebugLine vl task)) left input = left ≡ Some input
-IsTaken line left input = Unit {0}
+abbrev pub IsInput : Option Line → (left : Option (List ℕ)) → (input : List ℕ) → Type 0
+IsInput (Some (DebugLine vl task)) left input = left ≡ Some input
+IsInput line left input = Unit {0}
 
 -- some work is wanted, and this holds of it
 abbrev pub SomeExpected : (Expected → Type 0) → (Expected → Type 0) → Type 0
@@ -241,7 +241,7 @@ WhereExpected W P = (work : Expected) → W work → (w : Expected) × W w × P 
 
 -- the same where the files tell what they hold, and the input its bytes
 abbrev pub WhereTold : Option Held → (left : Option (List ℕ)) → Option Line → (Expected → Type 0) → Type 0
-WhereTold held left line P = (input : List ℕ) → IsTaken line left input → IfSome held (λ h. WhereExpected (Expects h input line) P)
+WhereTold held left line P = (input : List ℕ) → IsInput line left input → IfSome held (λ h. WhereExpected (Expects h input line) P)
 
 -- ---- what comes of which command
 

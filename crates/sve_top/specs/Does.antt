@@ -1,7 +1,7 @@
 -- What a call of `top` does where some work is wanted of it: one sentence on the files, the output and the error output.
 use Rattle.std.specs.Prelude.{ℕ, List, Option}
 use Rattle.command_line.specs.Line.{Line}
-use Rattle.sve_top.specs.Answer.{Held, Expected, answer_of, text_of, IsStatus, Unwritten}
+use Rattle.sve_top.specs.Answer.{Held, Expected, answer_of, expected_text, IsStatus, Unwritten}
 use Rattle.sve_top.specs.Commands.{StreamRose}
 use Rattle.sve_top.specs.Outputs.{PrintsBy, Gains, error_line, error_line_by}
 
@@ -35,6 +35,6 @@ StreamsRose line before after = StreamRose line before.output_faults after.outpu
 -- output the line of its refusal; and a work that is a refusal changes no file, whatever the status.
 pub record Does (line : Option Line) (work : Expected) (before after : Outside) (result : ℕ) : Type 0 where
   pub status : IsStatus before.file_faults after.file_faults (StreamsRose line before after) (answer_of work) result
-  pub prints : PrintsBy before.printed after.printed (text_of work) result
+  pub prints : PrintsBy before.printed after.printed (expected_text work) result
   pub tells : Gains before.errors after.errors before.error_faults after.error_faults (error_line_by (error_line (answer_of work)) result)
   pub unwritten : Unwritten work before.held after.held

@@ -1,3 +1,4 @@
+pub mod Asked
 pub mod Listing
 pub mod Answer
 pub mod Kernels

@@ -3,7 +3,7 @@
 ghost use Rattle.std.specs.Prelude.{◌≡◌, ◌≢◌, Some, Err, IfSome, IsSome, IfOk, IfErr, IsTrue, []};
 ghost use Rattle.io_edges.specs.Files.{Rose, content};
 ghost use Rattle.command_line.specs.Line.{CheckLine};
-ghost use Rattle.sve_top.specs.Answer.{answer_of, text_of, IsAnswer, IsQuiet};
+ghost use Rattle.sve_top.specs.Answer.{answer_of, expected_text, IsAnswer, IsQuiet};
 ghost use Rattle.sve_top.specs.Commands.{Expects, WhereExpected, CheckExpects, RefusesText, ended, IsOfCheck};
 ghost use Rattle.sve_top.specs.Outputs.{Prints};
 
@@ -40,7 +40,7 @@ pub fn check<F: Files, S: Sink>(
     ensures held { F.held files.new ≡ F.held files.old }
     ensures printed { IfSome (F.held files.old)
         (λ held. WhereExpected (Expects held [] (Some (CheckLine from.now)))
-        (λ work. Prints (S.taken out.old) (S.taken out.new) (text_of work) result)) }
+        (λ work. Prints (S.taken out.old) (S.taken out.new) (expected_text work) result)) }
     ensures quiet { IsQuiet result → out.new ≡ out.old }
     ensures failed { result ≡ Err Refusal.File → Rose (F.faults files.old) (F.faults files.new) }
     ensures output { result ≡ Err Refusal.Output → Rose (S.faults out.old) (S.faults out.new) }

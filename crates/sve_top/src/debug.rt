@@ -4,7 +4,7 @@ ghost use Rattle.std.specs.Prelude.{◌≡◌, ◌≢◌, ◌⊎◌, Err, IfSome
 ghost use Rattle.io_edges.specs.Files.{Rose};
 ghost use Rattle.command_line.specs.Line.{DebugLine};
 ghost use Rattle.command_line.specs.View.{task_view};
-ghost use Rattle.sve_top.specs.Answer.{answer_of, text_of, IsAnswer, IsQuiet};
+ghost use Rattle.sve_top.specs.Answer.{answer_of, expected_text, IsAnswer, IsQuiet};
 ghost use Rattle.sve_top.specs.Commands.{expected_of_debug, debug_program, RefusesProgram, IsOfDebug, IsHeld};
 ghost use Rattle.sve_top.specs.Outputs.{Prints};
 ghost use Rattle.sve_top.specs.Ready.{BeginsSession};
@@ -55,7 +55,7 @@ pub fn debug<F: Files, I: Source, S: Sink>(
     ensures held { F.held files.new ≡ F.held files.old }
     ensures printed { IfSome (I.left input.old) (λ bytes. IfSome (F.held files.old)
         (λ held. Prints (S.taken out.old) (S.taken out.new)
-        (text_of (expected_of_debug held bytes vl (task_view task.now))) result)) }
+        (expected_text (expected_of_debug held bytes vl (task_view task.now))) result)) }
     ensures quiet { IsQuiet result → out.new ≡ out.old }
     ensures failed { result ≡ Err Refusal.File → Rose (F.faults files.old) (F.faults files.new) }
     ensures output { result ≡ Err Refusal.Output

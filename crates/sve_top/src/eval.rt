@@ -6,7 +6,7 @@ ghost use Rattle.kernel_tree.specs.Plain.{program_of};
 ghost use Rattle.kernel_tree.specs.Checked.{kernel_of};
 ghost use Rattle.command_line.specs.Line.{EvalLine};
 ghost use Rattle.command_line.specs.View.{task_view};
-ghost use Rattle.sve_top.specs.Answer.{answer_of, text_of, IsAnswer, IsQuiet};
+ghost use Rattle.sve_top.specs.Answer.{answer_of, expected_text, IsAnswer, IsQuiet};
 ghost use Rattle.sve_top.specs.Commands.{Expects, WhereExpected, EvalExpects, eval_kernel, scalar_done, run_report, RefusesProgram, RefusesEval, IsOfEval, IsHeld};
 ghost use Rattle.sve_top.specs.Outputs.{Prints};
 
@@ -82,7 +82,7 @@ pub fn eval<F: Files, S: Sink>(
     ensures held { F.held files.new ≡ F.held files.old }
     ensures printed { IfSome (F.held files.old)
         (λ held. WhereExpected (Expects held [] (Some (EvalLine (task_view task.now))))
-        (λ work. Prints (S.taken out.old) (S.taken out.new) (text_of work) result)) }
+        (λ work. Prints (S.taken out.old) (S.taken out.new) (expected_text work) result)) }
     ensures quiet { IsQuiet result → out.new ≡ out.old }
     ensures failed { result ≡ Err Refusal.File → Rose (F.faults files.old) (F.faults files.new) }
     ensures output { result ≡ Err Refusal.Output → Rose (S.faults out.old) (S.faults out.new) }

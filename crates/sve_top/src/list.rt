@@ -3,7 +3,7 @@
 ghost use Rattle.std.specs.Prelude.{◌≡◌, ◌≢◌, ◌+◌, ◌*◌, ◌^◌, ◌<◌, Err, IfSome, IsSome, IfOk, IfErr, IsTrue};
 ghost use Rattle.io_edges.specs.Files.{Rose, content};
 ghost use Rattle.sve_top.specs.Listing.{lines_from};
-ghost use Rattle.sve_top.specs.Answer.{answer_of, text_of, IsAnswer, IsQuiet};
+ghost use Rattle.sve_top.specs.Answer.{answer_of, expected_text, IsAnswer, IsQuiet};
 ghost use Rattle.sve_top.specs.Commands.{list_program, expected_of_list, ended, RefusesProgram, IsOfList};
 ghost use Rattle.sve_top.specs.Outputs.{Prints};
 
@@ -58,7 +58,7 @@ pub fn list<F: Files, S: Sink>(
         (answer_of (expected_of_list held from.now)) result) }
     ensures held { F.held files.new ≡ F.held files.old }
     ensures printed { IfSome (F.held files.old)
-        (λ held. Prints (S.taken out.old) (S.taken out.new) (text_of (expected_of_list held from.now)) result) }
+        (λ held. Prints (S.taken out.old) (S.taken out.new) (expected_text (expected_of_list held from.now)) result) }
     ensures quiet { IsQuiet result → out.new ≡ out.old }
     ensures failed { result ≡ Err Refusal.File → Rose (F.faults files.old) (F.faults files.new) }
     ensures output { result ≡ Err Refusal.Output → Rose (S.faults out.old) (S.faults out.new) }

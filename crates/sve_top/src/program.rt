@@ -21,7 +21,7 @@ use std::alloc::{AllocError, Global};
 use sve_machine::Machine;
 
 // A machine with the pages of an image and a map.
-#[tactic(auto, unfolding(machine_model::specs::Run::start, sve_machine::specs::View::start_of))]
+#[tactic(auto, unfolding(machine_model::specs::Run::start))]
 fn machine_of(
     alloc: Global,
     image: &Image,

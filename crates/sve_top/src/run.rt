@@ -4,7 +4,7 @@ ghost use Rattle.std.specs.Prelude.{◌≡◌, ◌≢◌, Err, IfSome, IfOk, IfE
 ghost use Rattle.io_edges.specs.Files.{Rose};
 ghost use Rattle.command_line.specs.Line.{RunLine};
 ghost use Rattle.command_line.specs.View.{task_view};
-ghost use Rattle.sve_top.specs.Answer.{answer_of, text_of, IsAnswer, IsQuiet};
+ghost use Rattle.sve_top.specs.Answer.{answer_of, expected_text, IsAnswer, IsQuiet};
 ghost use Rattle.sve_top.specs.Commands.{expected_of_run, run_program, done_of, run_report, RefusesProgram, IsOfRun, IsHeld};
 ghost use Rattle.sve_top.specs.Outputs.{Prints};
 
@@ -67,7 +67,7 @@ pub fn run<F: Files, S: Sink>(
     ensures held { F.held files.new ≡ F.held files.old }
     ensures printed { IfSome (F.held files.old)
         (λ held. Prints (S.taken out.old) (S.taken out.new)
-        (text_of (expected_of_run held vl (task_view task.now))) result) }
+        (expected_text (expected_of_run held vl (task_view task.now))) result) }
     ensures quiet { IsQuiet result → out.new ≡ out.old }
     ensures failed { result ≡ Err Refusal.File → Rose (F.faults files.old) (F.faults files.new) }
     ensures output { result ≡ Err Refusal.Output → Rose (S.faults out.old) (S.faults out.new) }

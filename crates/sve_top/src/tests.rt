@@ -1,4 +1,4 @@
-// The commands over files in memory: worked rows with outside values.
+//! The commands over files in memory: worked rows with outside values.
 
 use crate::top::top;
 use io_edges::memory_files::{MemoryFiles, NamedFile, have_different_names};

@@ -2,11 +2,12 @@
 
 ghost use Rattle.std.specs.Prelude.{◌≡◌, ◌≢◌, ◌⊎◌, ℕ, List, Option, Some, None, IfSome, IsTrue, Err, OnOk, []};
 ghost use Rattle.io_edges.specs.Files.{Rose};
-ghost use Rattle.command_line.specs.Line.{Line, line_of};
-ghost use Rattle.command_line.specs.View.{texts, command_view};
-ghost use Rattle.sve_top.specs.Answer.{Held, Expected, answer_of, text_of, status_of, IsAnswer, IsKept, IsQuiet, Unwritten};
+ghost use Rattle.command_line.specs.Line.{Line};
+ghost use Rattle.command_line.specs.View.{command_view};
+ghost use Rattle.sve_top.specs.Asked.{asked};
+ghost use Rattle.sve_top.specs.Answer.{Held, Expected, answer_of, expected_text, status_of, IsAnswer, IsKept, IsQuiet, Unwritten};
 ghost use Rattle.refusals.specs.Statuses.{status_of_refusal};
-ghost use Rattle.sve_top.specs.Commands.{Expects, WhereTold, SomeExpected, IsSettled, IsTaken, IsOf, IsListed, IsSilent, IsUnread, IsHeld, OnlyReads, StreamRose, NoneRose, Compiled, OthersKept};
+ghost use Rattle.sve_top.specs.Commands.{Expects, WhereTold, SomeExpected, IsSettled, IsInput, IsOf, IsListed, IsSilent, IsUnread, IsHeld, OnlyReads, StreamRose, NoneRose, Compiled, OthersKept};
 ghost use Rattle.sve_top.specs.Does.{Does, outside};
 ghost use Rattle.sve_top.specs.Complete.{Completes};
 ghost use Rattle.sve_top.specs.Swept.{Swept};
@@ -32,9 +33,13 @@ use std::alloc::Global;
 /// Does the command that the words spell, and answers its status. The words are those after the program's name.
 ///
 /// 0 done; 2 the words are no command; 3 the kernel is refused; 4 a file is refused; 5 the program stopped; 6 its steps are
-/// spent; 7 memory is short; 8 a file failed; 9 the output failed, or for `debug` the input. A check, a listing, a run, a session and
-/// a sweep put their text on `out`. At every status but 0, 5 and 6 one line on `err` tells the cause; a failure of `err` changes no
-/// status.
+/// spent; 7 memory is short; 8 a file failed; 9 the output failed, or for `debug` the input. Every command but `compile` puts its
+/// text on `out`. At every status but 0, 5 and 6 one line on `err` tells the cause; a failure of `err` changes no status.
+///
+/// Where the files tell what they hold, `does` says what status, text and line come of the words and the files (and for `debug` of
+/// the bytes of the input), and `complete` that nothing else comes where nothing fails, but for want of memory; `sweep` has `swept` in
+/// their place. Over files that tell nothing, as those of the system, `error_line_alike` and `error_line_some` pin the line by the
+/// status, and no clause says which text is printed.
 pub fn top<F: Files, I: Source, S: Sink, E: Sink>(
     alloc: Global,
     words: &[String],
@@ -43,43 +48,43 @@ pub fn top<F: Files, I: Source, S: Sink, E: Sink>(
     out: &mut S,
     err: &mut E,
 ) -> u8
-    ensures does { (bytes : List ℕ) → IsTaken (line_of (texts words.now)) (I.left input.old) bytes
-        → IsSettled (line_of (texts words.now))
-        → IfSome (F.held files.old) (λ held. SomeExpected (Expects held bytes (line_of (texts words.now)))
-        (λ work. Does (line_of (texts words.now)) work
+    ensures does { (bytes : List ℕ) → IsInput (asked words.now) (I.left input.old) bytes
+        → IsSettled (asked words.now)
+        → IfSome (F.held files.old) (λ held. SomeExpected (Expects held bytes (asked words.now))
+        (λ work. Does (asked words.now) work
         (outside (F.held files.old) (F.faults files.old) (S.taken out.old) (S.faults out.old) (E.taken err.old)
         (E.faults err.old) (I.faults input.old))
         (outside (F.held files.new) (F.faults files.new) (S.taken out.new) (S.faults out.new) (E.taken err.new)
         (E.faults err.new) (I.faults input.new))
         result)) }
-    ensures complete { (bytes : List ℕ) → IsTaken (line_of (texts words.now)) (I.left input.old) bytes
+    ensures complete { (bytes : List ℕ) → IsInput (asked words.now) (I.left input.old) bytes
         → IsTrue (F.steady files.old)
-        → NoneRose (line_of (texts words.now)) (S.faults out.old) (S.faults out.new)
+        → NoneRose (asked words.now) (S.faults out.old) (S.faults out.new)
         (I.faults input.old) (I.faults input.new)
-        → IfSome (F.held files.old) (λ held. IfSome (line_of (texts words.now)) (λ line. IsHeld held line)
-        → Completes held bytes (line_of (texts words.now)) (S.taken out.old) (S.taken out.new) result) }
-    ensures usage { result ≡ 2 → line_of (texts words.now) ≡ None }
-    ensures listed { IsListed (line_of (texts words.now)) result }
-    ensures file { result ≡ 0 → IfSome (line_of (texts words.now))
+        → IfSome (F.held files.old) (λ held. IfSome (asked words.now) (λ line. IsHeld held line)
+        → Completes held bytes (asked words.now) (S.taken out.old) (S.taken out.new) result) }
+    ensures usage { result ≡ 2 → asked words.now ≡ None }
+    ensures listed { IsListed (asked words.now) result }
+    ensures file { result ≡ 0 → IfSome (asked words.now)
         (λ line. IfSome (F.held files.old) (λ old. IfSome (F.held files.new) (λ new. Compiled old new line))) }
     ensures others { IfSome (F.held files.old)
-        (λ old. IfSome (F.held files.new) (λ new. OthersKept old new (line_of (texts words.now)))) }
-    ensures swept { Swept (line_of (texts words.now)) (F.held files.new) (S.taken out.old) (S.taken out.new) result }
+        (λ old. IfSome (F.held files.new) (λ new. OthersKept old new (asked words.now))) }
+    ensures swept { Swept (asked words.now) (F.held files.new) (S.taken out.old) (S.taken out.new) result }
     ensures kept { (result ≡ 2) ⊎ (result ≡ 3) ⊎ (result ≡ 4) → F.held files.new ≡ F.held files.old }
-    ensures reads { OnlyReads (line_of (texts words.now)) → F.held files.new ≡ F.held files.old }
+    ensures reads { OnlyReads (asked words.now) → F.held files.new ≡ F.held files.old }
     ensures failed { result ≡ 8 → Rose (F.faults files.old) (F.faults files.new) }
-    ensures output { result ≡ 9 → StreamRose (line_of (texts words.now)) (S.faults out.old) (S.faults out.new)
+    ensures output { result ≡ 9 → StreamRose (asked words.now) (S.faults out.old) (S.faults out.new)
         (I.faults input.old) (I.faults input.new) }
     ensures steady { IsTrue (F.steady files.old)
-        → IfSome (line_of (texts words.now)) (λ line. IfSome (F.held files.old)
+        → IfSome (asked words.now) (λ line. IfSome (F.held files.old)
         (λ held. IsHeld held line → result ≢ 8)) }
     ensures quiet { (result ≡ 2) ⊎ (result ≡ 3) ⊎ (result ≡ 4) ⊎ (result ≡ 8) → out.new ≡ out.old }
-    ensures silent { IsSilent (line_of (texts words.now)) → out.new ≡ out.old }
+    ensures silent { IsSilent (asked words.now) → out.new ≡ out.old }
     ensures untold { (result ≡ 0) ⊎ (result ≡ 5) ⊎ (result ≡ 6) → err.new ≡ err.old }
-    ensures unread { IsUnread (line_of (texts words.now)) → input.new ≡ input.old }
-    ensures line_alike { result ≢ 3 → result ≢ 4
+    ensures unread { IsUnread (asked words.now) → input.new ≡ input.old }
+    ensures error_line_alike { result ≢ 3 → result ≢ 4
         → Gains (E.taken err.old) (E.taken err.new) (E.faults err.old) (E.faults err.new) (error_line_by [] result) }
-    ensures line_some { (result ≡ 3) ⊎ (result ≡ 4)
+    ensures error_line_some { (result ≡ 3) ⊎ (result ≡ 4)
         → (refusal : Refusal) × (status_of_refusal refusal ≡ result)
         × Gains (E.taken err.old) (E.taken err.new) (E.faults err.old) (E.faults err.new) (line_of_refusal refusal) }
 {
@@ -100,32 +105,32 @@ fn do_words<F: Files, I: Source, S: Sink>(
     input: &mut I,
     out: &mut S,
 ) -> Result<Done, Refusal>
-    ensures answer { WhereTold (F.held files.old) (I.left input.old) (line_of (texts words.now))
+    ensures answer { WhereTold (F.held files.old) (I.left input.old) (asked words.now)
         (λ work. IsAnswer (F.faults files.old) (F.faults files.new)
-        (StreamRose (line_of (texts words.now)) (S.faults out.old) (S.faults out.new)
+        (StreamRose (asked words.now) (S.faults out.old) (S.faults out.new)
         (I.faults input.old) (I.faults input.new)) (answer_of work) result) }
-    ensures listed { IsOf (line_of (texts words.now)) result }
-    ensures file { OnOk result (IfSome (line_of (texts words.now))
+    ensures listed { IsOf (asked words.now) result }
+    ensures file { OnOk result (IfSome (asked words.now)
         (λ line. IfSome (F.held files.old) (λ old. IfSome (F.held files.new) (λ new. Compiled old new line)))) }
     ensures others { IfSome (F.held files.old)
-        (λ old. IfSome (F.held files.new) (λ new. OthersKept old new (line_of (texts words.now)))) }
-    ensures swept { Swept (line_of (texts words.now)) (F.held files.new) (S.taken out.old) (S.taken out.new)
+        (λ old. IfSome (F.held files.new) (λ new. OthersKept old new (asked words.now))) }
+    ensures swept { Swept (asked words.now) (F.held files.new) (S.taken out.old) (S.taken out.new)
         (status_of result) }
     ensures kept { IsKept result → F.held files.new ≡ F.held files.old }
-    ensures reads { OnlyReads (line_of (texts words.now)) → F.held files.new ≡ F.held files.old }
+    ensures reads { OnlyReads (asked words.now) → F.held files.new ≡ F.held files.old }
     ensures failed { result ≡ Err Refusal.File → Rose (F.faults files.old) (F.faults files.new) }
-    ensures output { result ≡ Err Refusal.Output → StreamRose (line_of (texts words.now))
+    ensures output { result ≡ Err Refusal.Output → StreamRose (asked words.now)
         (S.faults out.old) (S.faults out.new) (I.faults input.old) (I.faults input.new) }
     ensures steady { IsTrue (F.steady files.old)
-        → IfSome (line_of (texts words.now)) (λ line. IfSome (F.held files.old)
+        → IfSome (asked words.now) (λ line. IfSome (F.held files.old)
         (λ held. IsHeld held line → result ≢ Err Refusal.File)) }
-    ensures printed { WhereTold (F.held files.old) (I.left input.old) (line_of (texts words.now))
-        (λ work. Prints (S.taken out.old) (S.taken out.new) (text_of work) result) }
+    ensures printed { WhereTold (F.held files.old) (I.left input.old) (asked words.now)
+        (λ work. Prints (S.taken out.old) (S.taken out.new) (expected_text work) result) }
     ensures quiet { IsQuiet result → out.new ≡ out.old }
-    ensures unwritten { WhereTold (F.held files.old) (I.left input.old) (line_of (texts words.now))
+    ensures unwritten { WhereTold (F.held files.old) (I.left input.old) (asked words.now)
         (λ work. Unwritten work (F.held files.old) (F.held files.new)) }
-    ensures silent { IsSilent (line_of (texts words.now)) → out.new ≡ out.old }
-    ensures unread { IsUnread (line_of (texts words.now)) → input.new ≡ input.old }
+    ensures silent { IsSilent (asked words.now) → out.new ≡ out.old }
+    ensures unread { IsUnread (asked words.now) → input.new ≡ input.old }
 {
     let Some(command) = read_line(alloc, words)? else {
         return Err(Refusal::Usage);
@@ -161,7 +166,7 @@ fn do_command<F: Files, I: Source, S: Sink>(
     ensures steady { IsTrue (F.steady files.old)
         → IfSome (F.held files.old) (λ held. IsHeld held (command_view command.now) → result ≢ Err Refusal.File) }
     ensures printed { WhereTold (F.held files.old) (I.left input.old) (Some (command_view command.now))
-        (λ work. Prints (S.taken out.old) (S.taken out.new) (text_of work) result) }
+        (λ work. Prints (S.taken out.old) (S.taken out.new) (expected_text work) result) }
     ensures quiet { IsQuiet result → out.new ≡ out.old }
     ensures unwritten { WhereTold (F.held files.old) (I.left input.old) (Some (command_view command.now))
         (λ work. Unwritten work (F.held files.old) (F.held files.new)) }

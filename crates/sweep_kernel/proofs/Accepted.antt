@@ -11,8 +11,8 @@ use Rattle.sweep_kernel.specs.KernelText.{first_part, second_part, third_part, l
 use Rattle.sweep_kernel.specs.Tree.{kernel_with}
 use Rattle.sweep_kernel.specs.Accepted.{IsAccepted}
 use Rattle.sweep_kernel.proofs.Words.{words_with, tokens_with}
-use Rattle.sweep_kernel.proofs.Read.{tree_with, shallow_with}
-use Rattle.sweep_kernel.proofs.Checks.{checked_with, enough_with}
+use Rattle.sweep_kernel.proofs.KernelRead.{tree_with, shallow_with}
+use Rattle.sweep_kernel.proofs.RulesMet.{checked_with, enough_with}
 
 digits_few : (n : ℕ) → n < 2 ^ 64 → length (decimal n) ≤ 20
 digits_few n h = length-decimal-le 20 n (omega arith) (omega arith) h

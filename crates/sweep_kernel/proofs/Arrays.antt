@@ -6,7 +6,7 @@ use Rattle.std.proofs.Math.Nat.{mod-eq_of_lt}
 use Rattle.std.proofs.lemmas.Bool.{eq-eqb}
 use Rattle.std.proofs.lemmas.Bool.Decides.{leb_tells}
 use Rattle.std.proofs.lemmas.List.Elements.{All-nil, All-cons, All-append}
-use Rattle.guest_types.specs.Memory.{Page, Memory, page_at, is_writable, may_write, can_write, after, first_fault, merged, DoNotMeet}
+use Rattle.guest_types.specs.Memory.{Page, Memory, page_at, is_writable, may_write, can_write, next_address, first_fault, merged, DoNotMeet}
 use Rattle.guest_types.proofs.Writes.{All-page_at}
 use Rattle.guest_types.proofs.Merges.{page_at-append, page_at-merged_right}
 use Rattle.sweep_kernel.specs.Pages.{page_with, drawn_page, zero_page, pages_from, pages_of}
@@ -97,5 +97,5 @@ has_arrays program seed apart = record {
 pub no_fault : (test : ℕ → Bool) (low high a n : ℕ) → ((x : ℕ) → low ≤ x → x < high → test x ≡ true) → low ≤ a → a + n ≤ high → high < 2 ^ 64 → first_fault test a n ≡ None
 no_fault test low high a zero h from last_use small = refl
 no_fault test low high a (suc n) h from last_use small =
-    let e : after a ≡ a + 1 = mod-eq_of_lt (omega arith) in
+    let e : next_address a ≡ a + 1 = mod-eq_of_lt (omega arith) in
     rw (h a from (omega arith), e) (no_fault test low high (a + 1) n h (omega arith) (omega arith) small)

@@ -8,33 +8,33 @@ use Rattle.guest_types.specs.Memory.{Memory, DoNotMeet, merged}
 use Rattle.kernel_meaning.specs.Ends.{BlockEnd, LoopState, Going, go_on}
 use Rattle.kernel_meaning.specs.Eval.{Names}
 use Rattle.kernel_meaning.specs.Iterate.{iterate}
-use Rattle.kernel_meaning.specs.ScalarRun.{Run, End, course, finish, started, run_named, scalar_run}
+use Rattle.kernel_meaning.specs.ScalarRun.{Run, End, iterations, finish, started, run_named, scalar_run}
 use Rattle.sweep_kernel.specs.Numbers.{random, initial_of, offset_of, level_of, factor_of, count_of}
 use Rattle.sweep_kernel.specs.Tree.{kernel_with}
 use Rattle.sweep_kernel.specs.Pages.{pages_of}
 use Rattle.sweep_kernel.specs.Ends.{EndsOver}
 use Rattle.sweep_kernel.proofs.Arrays.{HasArrays, has_arrays}
-use Rattle.sweep_kernel.proofs.Turn.{names_with, loop_with}
+use Rattle.sweep_kernel.proofs.IterationEnds.{names_with, loop_with}
 use Rattle.sweep_kernel.proofs.Iteration.{scope_with, goes_on}
 
 -- a loop that comes through with other accumulators
-record Through (factor count : ℤ) (standing : LoopState Names) : Type 0 where
+record Through (factor count : ℤ) (reached : LoopState Names) : Type 0 where
   memory : Memory
   sum : ℤ
   greatest : ℤ
-  is : standing ≡ Going memory (names_with factor count sum greatest)
+  is : reached ≡ Going memory (names_with factor count sum greatest)
 
-course_suc : (initial offset level turns x : ℕ) (memory : Memory) (names : Names) → course (scope_with initial offset level) (loop_with offset level) (suc turns) x memory names ≡ go_on (iterate (scope_with initial offset level) (loop_with offset level) x memory names) x (course (scope_with initial offset level) (loop_with offset level) turns (x + 1))
-unfolding course
-course_suc initial offset level turns x memory names = refl
+iterations_suc : (initial offset level turns x : ℕ) (memory : Memory) (names : Names) → iterations (scope_with initial offset level) (loop_with offset level) (suc turns) x memory names ≡ go_on (iterate (scope_with initial offset level) (loop_with offset level) x memory names) x (iterations (scope_with initial offset level) (loop_with offset level) turns (x + 1))
+unfolding iterations
+iterations_suc initial offset level turns x memory names = refl
 
-course_none : (initial offset level x : ℕ) (memory : Memory) (names : Names) → course (scope_with initial offset level) (loop_with offset level) 0 x memory names ≡ Going memory names
-unfolding course
-course_none initial offset level x memory names = refl
+iterations_none : (initial offset level x : ℕ) (memory : Memory) (names : Names) → iterations (scope_with initial offset level) (loop_with offset level) 0 x memory names ≡ Going memory names
+unfolding iterations
+iterations_none initial offset level x memory names = refl
 
-through : (initial offset level turns x : ℕ) (memory : Memory) (factor count sum greatest : ℤ) → HasArrays memory → offset < 9 → x + turns < 102000 → Through factor count (course (scope_with initial offset level) (loop_with offset level) turns x memory (names_with factor count sum greatest))
+through : (initial offset level turns x : ℕ) (memory : Memory) (factor count sum greatest : ℤ) → HasArrays memory → offset < 9 → x + turns < 102000 → Through factor count (iterations (scope_with initial offset level) (loop_with offset level) turns x memory (names_with factor count sum greatest))
 through initial offset level zero x memory factor count sum greatest h o l =
-    record { memory = memory; sum = sum; greatest = greatest; is = course_none initial offset level x memory (names_with factor count sum greatest) }
+    record { memory = memory; sum = sum; greatest = greatest; is = iterations_none initial offset level x memory (names_with factor count sum greatest) }
 through initial offset level (suc turns) x memory factor count sum greatest h o l =
     let g = goes_on initial offset level x memory factor count sum greatest h o (omega (arith, l)) in
     let c = through initial offset level turns (x + 1) g.memory factor count g.sum g.greatest g.arrays o (omega (arith, l)) in
@@ -42,8 +42,8 @@ through initial offset level (suc turns) x memory factor count sum greatest h o 
       memory = c.memory;
       sum = c.sum;
       greatest = c.greatest;
-      is = course_suc initial offset level turns x memory (names_with factor count sum greatest)
-          ∙ ap (λ (r : BlockEnd Names). go_on r x (course (scope_with initial offset level) (loop_with offset level) turns (x + 1))) g.is
+      is = iterations_suc initial offset level turns x memory (names_with factor count sum greatest)
+          ∙ ap (λ (r : BlockEnd Names). go_on r x (iterations (scope_with initial offset level) (loop_with offset level) turns (x + 1))) g.is
           ∙ c.is;
     }
 
@@ -58,7 +58,7 @@ started-is initial offset level factor count memory = refl
 -- the run from the names at the start, of so many iterations
 abbrev from_names : (initial offset level : ℕ) → Memory → Names → ℕ → Run
 from_names initial offset level memory names turns =
-    finish (scope_with initial offset level) (loop_with offset level) (kernel_with initial offset level).answer turns (course (scope_with initial offset level) (loop_with offset level) turns 0 memory names)
+    finish (scope_with initial offset level) (loop_with offset level) (kernel_with initial offset level).answer turns (iterations (scope_with initial offset level) (loop_with offset level) turns 0 memory names)
 
 named-is : (initial offset level factor count : ℕ) (memory : Memory) → run_named (kernel_with initial offset level) memory (Some (first_names factor count initial)) ≡ from_names initial offset level memory (first_names factor count initial) (count % 2 ^ 64 % 2 ^ 64)
 unfolding kernel_with

@@ -16,7 +16,7 @@ use Rattle.kernel_meaning.specs.Eval.{Names, read_element, on_both, or_else}
 use Rattle.kernel_meaning.specs.Iterate.{named, define, cut, then_do, choose, do_block, do_otherwise, write, iterate}
 use Rattle.sweep_kernel.specs.Tree.{s, i, t, scaled, chosen, summed, raised, kernel_with}
 use Rattle.sweep_kernel.proofs.Arrays.{HasArrays}
-use Rattle.sweep_kernel.proofs.Turn.{names_with, loop_with, GoesOn, read_first, read_second, store_third, keeps_arrays}
+use Rattle.sweep_kernel.proofs.IterationEnds.{names_with, loop_with, GoesOn, read_first, read_second, store_third, keeps_arrays}
 
 abbrev pub scope_with : (initial offset level : ℕ) → Scope
 scope_with initial offset level = var_scope (kernel_with initial offset level)

@@ -3,11 +3,11 @@ pub mod PageLists
 pub mod PagesMemory
 pub mod Digits
 pub mod Words
-pub mod Read
-pub mod Checks
+pub mod KernelRead
+pub mod RulesMet
 pub mod Accepted
 pub mod Arrays
-pub mod Turn
+pub mod IterationEnds
 pub mod Iteration
 pub mod Ends
 pub mod RunsEnd

@@ -9,15 +9,16 @@ use Rattle.guest_types.specs.Memory.{Page, Memory, DoNotMeet, page_at, merged}
 use Rattle.guest_types.proofs.Merges.{page_at-absent}
 use Rattle.machine_model.specs.declared.elf_fault.ElfFault.{ElfFault}
 use Rattle.machine_model.specs.Load.{Image, Segment, load, pages_from, pages_of as segment_pages}
-use Rattle.machine_model.specs.Run.{End, start, free_start, free_run, machine_run}
+use Rattle.machine_model.specs.Run.{End, machine_run}
 use Rattle.machine_model.specs.Written.{file_of, whole, image_of_words}
-use Rattle.machine_model.proofs.Files.{load-file_of}
+use Rattle.machine_model.proofs.WrittenLoads.{load-file_of}
 use Rattle.kernel_tree.specs.Plain.{Program}
 use Rattle.kernel_tree.specs.Items.{size_of}
 use Rattle.kernel_meaning.specs.ScalarRun as scalar
 use Rattle.kernel_meaning.specs.ScalarRun.{begun, scalar_run}
 use Rattle.dependence.specs.Bound.{slow_bound}
 use Rattle.kernel_compile.specs.Faithful.{IsStart, Follows, SlowFaithful}
+use Rattle.kernel_compile.proofs.Promises.{without_stops}
 use Rattle.sweep_kernel.specs.Numbers.{next, state_at, random, initial_of, offset_of, level_of, factor_of, count_of, arguments_of}
 use Rattle.sweep_kernel.specs.Tree.{kernel_with, kernel_of}
 use Rattle.sweep_kernel.specs.Pages.{pages_of}
@@ -87,11 +88,7 @@ enough initial offset level turns l = within_steps (size_of (kernel_with initial
 
 -- ---- runs
 
-same_run : (file args : List ℕ) (pages : Memory) (vl steps : ℕ) → free_run file args pages vl never steps ≡ machine_run file args pages vl steps
-unfolding start free_start
-same_run file args pages vl steps = refl
-
-same_image : (i j : Image) (r : Result Image ElfFault) → r ≡ Ok i → r ≡ Ok j → i ≡ j
+pub same_image : (i j : Image) (r : Result Image ElfFault) → r ≡ Ok i → r ≡ Ok j → i ≡ j
 same_image i j r e f = cc
 
 ends_at : (k : Program) (file args : List ℕ) (pages : Memory) (vl steps turns : ℕ) (image : Image) (memory : Memory) (result : ℕ) → SlowFaithful k file → load file ≡ Ok image → IsStart image args pages vl → scalar_run k args (merged image.pages pages) ≡ scalar.End memory result turns → slow_bound k turns ≤ steps → (taken : ℕ) × (machine_run file args pages vl steps ≡ Some (End memory result taken))
@@ -101,7 +98,7 @@ ends_at k file args pages vl steps turns image memory result f loaded begins end
     let bound : slow_bound k (begun (scalar_run k args (merged f.image.pages pages))) ≤ steps = subst (λ (r : scalar.Run). slow_bound k (begun r) ≤ steps) (sym here) le in
     let r = f.runs args pages vl never steps (subst (λ (j : Image). IsStart j args pages vl) i begins) refl bound in
     let g : Follows k args vl (scalar.End memory result turns) r.0 = subst (λ (r' : scalar.Run). Follows k args vl r' r.0) here r.2 in
-    (g.0, sym (same_run file args pages vl steps) ∙ r.1 ∙ ap Some g.1)
+    (g.0, sym (without_stops file args pages vl steps) ∙ r.1 ∙ ap Some g.1)
 
 run_ends : (words : List ℕ) (seed vl : ℕ) → length words ≤ 65536 → SlowFaithful (kernel_of seed) (file_of words) → IsLength vl → RunEnds words seed vl
 run_ends words seed vl few f length =

@@ -1,5 +1,5 @@
 -- The tokens of a sweep's text.
-use Rattle.std.proofs.Common.{◌≡◌, ℕ, zero, suc, ◌+◌, ◌<◌, ◌^◌, List, [], ◌∷◌, ◌++◌, Result, Ok, refl, ap}
+use Rattle.std.proofs.Common.{◌≡◌, ℕ, ◌+◌, ◌<◌, ◌^◌, List, [], ◌∷◌, ◌++◌, Result, Ok, refl, ap}
 use Rattle.std.specs.Prelude.{codes}
 use Rattle.kernel_tree.specs.declared.ops.Ty.TheVariants as ty
 use Rattle.kernel_tree.specs.declared.ops.CompareOp.TheVariants as compare
@@ -10,6 +10,7 @@ use Rattle.kernel_tree.specs.Tokens.{before, scan, tokens_of}
 use Rattle.sweep_kernel.specs.KernelText.{first_part, second_part, third_part, last_part, text_with}
 use Rattle.sweep_kernel.specs.Tree.{a, b, y, k, n, s, m, i, t}
 use Rattle.sweep_kernel.proofs.Digits.{Stops, number_scan}
+use Rattle.kernel_tree.proofs.Lexed.{moved}
 
 -- b[i] == 7 { y[i] = t; s += t as i64; } else { m max= t; } } return s + m as i64; }
 abbrev pub last_words : List Word
@@ -56,11 +57,6 @@ Scans text ws = (at : ℕ) → scan 0 at text ≡ Ok ws
 last_scans : Scans last_part last_words
 unfolding scan
 last_scans at = refl
-
--- a place so many bytes on
-abbrev moved : ℕ → ℕ → ℕ
-moved zero at = at
-moved (suc k) at = moved k (at + 1)
 
 abbrev all_before : List Word → Result (List Word) ℕ → Result (List Word) ℕ
 all_before [] r = r

@@ -1,4 +1,4 @@
-// Texts, arguments, pages and lines, with numbers from another program.
+//! Texts, arguments, pages and lines, with numbers from another program.
 
 use crate::input::{arguments, kernel_text};
 use crate::line::{length_at, push_line};

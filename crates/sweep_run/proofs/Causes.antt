@@ -17,7 +17,7 @@ use Rattle.machine_model.specs.declared.elf_fault.ElfFault.{ElfFault}
 use Rattle.machine_model.specs.declared.elf_fault.ElfFault.TheVariants as loading
 use Rattle.machine_model.specs.Load.{Image, load}
 use Rattle.machine_model.specs.Written.{file_of, image_of_words}
-use Rattle.machine_model.proofs.Files.{load-file_of}
+use Rattle.machine_model.proofs.WrittenLoads.{load-file_of}
 use Rattle.elf_image.specs.Loaded.{Refuses}
 use Rattle.sweep_kernel.specs.KernelText.{kernel_text}
 use Rattle.sweep_kernel.specs.Tree.{kernel_of}

@@ -1,3 +1,3 @@
 pub mod Causes
 pub mod Programs
-pub mod Told
+pub mod SweepLines

@@ -1,19 +1,19 @@
 -- The pages of a sweep's program: they are few, and not those of the number.
-use Rattle.std.proofs.Common.{◌≡◌, ℕ, zero, suc, ◌+◌, ◌*◌, ◌/◌, ◌-◌, ◌≤◌, List, [], ◌++◌, length, Result, Ok, refl, sym, ap, subst, ◌∙◌, arith, append-nil}
-use Rattle.guest_types.specs.Memory.{Memory, DoNotMeet}
-use Rattle.machine_model.specs.declared.elf_fault.ElfFault.{ElfFault}
+use Rattle.std.proofs.Common.{◌≡◌, ℕ, zero, suc, ◌+◌, ◌*◌, ◌/◌, ◌-◌, ◌≤◌, List, length, Ok, refl, ap, subst, ◌∙◌, arith, append-nil}
+use Rattle.guest_types.specs.Memory.{DoNotMeet}
 use Rattle.machine_model.specs.Load.{Image, Segment, load, pages_from, pages_of as segment_pages}
 use Rattle.machine_model.specs.Written.{file_of, whole, image_of_words}
 use Rattle.kernel_tree.specs.Plain.{Program}
 use Rattle.kernel_compile.specs.Faithful.{Faithful, SlowFaithful, FreeFaithful}
 use Rattle.sweep_kernel.specs.Tree.{kernel_of}
 use Rattle.sweep_kernel.specs.Pages.{pages_of}
-use Rattle.sweep_kernel.specs.Runs.{AllRunsEnd, FaithfulEnds}
+use Rattle.sweep_kernel.specs.Runs.{FaithfulEnds}
 use Rattle.sweep_run.specs.SweepText.{IsSweepFile}
 use Rattle.sweep_run.specs.Lines.{SweepRunsEnd}
 use Rattle.sweep_run.proofs.Causes.{loads}
+use Rattle.sweep_kernel.proofs.RunsEnd.{same_image}
 
-count_from : (bytes : List ℕ) (s : Segment) (n count : ℕ) → length (pages_from bytes s n count) ≡ count
+pub count_from : (bytes : List ℕ) (s : Segment) (n count : ℕ) → length (pages_from bytes s n count) ≡ count
 count_from bytes s n zero = refl
 count_from bytes s n (suc count) = ap suc (count_from bytes s (n + 1) count)
 
@@ -28,9 +28,6 @@ few_pages : (words : List ℕ) → length words ≤ 65536 → length (image_of_w
 few_pages words h =
     let count = count_pages words in
     omega (arith, count)
-
-same_image : (i j : Image) (r : Result Image ElfFault) → r ≡ Ok i → r ≡ Ok j → i ≡ j
-same_image i j r e f = cc
 
 -- the image that the file was loaded as is that of its words
 image_is : (number : ℕ) (file : List ℕ) (image : Image) → (f : IsSweepFile number file) → load file ≡ Ok image → image_of_words f.words ≡ image

@@ -54,7 +54,7 @@ fn image_of(alloc: Global, number: u64, file: &[u8]) -> Result<Image, AllocError
 }
 
 // A machine about to run the program of an image beside the pages of a map.
-#[tactic(auto, unfolding(machine_model::specs::Run::start, sve_machine::specs::View::start_of))]
+#[tactic(auto, unfolding(machine_model::specs::Run::start))]
 fn machine_of(
     alloc: Global,
     number: u64,

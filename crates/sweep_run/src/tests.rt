@@ -1,4 +1,4 @@
-// A sweep's text, with the result and the sum of another program.
+//! A sweep's text, with the result and the sum of another program.
 
 use crate::{sweep_file, sweep_text};
 use std::test::Fail;

@@ -1,4 +1,4 @@
-// The first part of a text.
+//! The first part of a text.
 
 ghost use Rattle.std.specs.Prelude.{◌≡◌, ◌<◌, ◌∷◌, length, IfSome};
 ghost use Rattle.text_parts.specs.Parts.{parts_at, parts_after};

@@ -1,4 +1,4 @@
-// Parts of texts, by hand.
+//! Parts of texts, by hand.
 
 use crate::cut;
 use std::test::Fail;

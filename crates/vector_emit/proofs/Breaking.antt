@@ -11,13 +11,14 @@ use Rattle.kernel_tree.specs.Typing.{var_scope}
 use Rattle.kernel_meaning.specs.Ends.{Going}
 use Rattle.kernel_meaning.specs.Eval.{Names}
 use Rattle.kernel_meaning.specs.Iterate.{iterate}
-use Rattle.kernel_meaning.specs.ScalarRun.{course}
+use Rattle.kernel_meaning.specs.ScalarRun.{iterations}
+use Rattle.kernel_meaning.proofs.RunsFrom.{none_done}
 use Rattle.label_fix.specs.DraftRun.{If, Entry, Put, Branch, Place, Laid, following, ins}
 use Rattle.label_fix.specs.Stretches.{Resolves}
-use Rattle.label_fix.proofs.Steps.{Goes, chain, pass}
+use Rattle.label_fix.proofs.StretchSteps.{Goes, chain, pass}
 use Rattle.dependence.specs.Apart.{bound_place}
 use Rattle.chunk_emit.specs.ChunkCode.{puts}
-use Rattle.chunk_emit.specs.Head.{Ground, IsGround, AtHead, Turned, layout, width, most_lanes, limit}
+use Rattle.chunk_emit.specs.Head.{Ground, IsGround, AtHead, IndexHeld, layout, width, most_lanes, limit}
 use Rattle.first_fault.specs.Split.{is_quit}
 use Rattle.first_fault.proofs.Stretches.{stop_following}
 use Rattle.chunk_loop.specs.Halts.{Breaks}
@@ -27,9 +28,9 @@ use Rattle.chunk_loop.specs.Passes.{lanes_at, LeftOut, breaks, faults, suppresse
 use Rattle.chunk_loop.proofs.PassLaws.{chunk_law, turn_law}
 use Rattle.vector_emit.specs.VectorCode.{any_lane, breaking_code}
 use Rattle.vector_emit.specs.VectorRuns.{turn_steps}
-use Rattle.vector_emit.proofs.Courses.{none_gone, none_done}
-use Rattle.vector_emit.proofs.Rounds.{Passing, Pays, pays_lanes, pays_cut, pays_last, pays_one, Stuck, leaves_here, stops_here, passes_on}
-use Rattle.vector_emit.proofs.LoopOf.{HeadOf, loop_of, stop_of, has_lanes, head_at, same_place, Longer, following_leads, following_goes}
+use Rattle.vector_emit.proofs.Iterations.{none_gone}
+use Rattle.vector_emit.proofs.PassLoop.{Passing, Pays, pays_lanes, pays_cut, pays_last, pays_one, Stuck, leaves_here, stops_here, passes_on}
+use Rattle.vector_emit.proofs.KernelPassLoop.{HeadOf, loop_of, stop_of, has_lanes, head_at, same_place, Longer, following_leads, following_goes}
 use Rattle.vector_emit.proofs.PassSizes.{chunk_fits, turn_fits}
 use Rattle.vector_emit.proofs.Tests.{Tests, turned_kept, lanes_back, lanes_none, bound_reached, bound_ahead}
 use Rattle.vector_emit.proofs.Labels.{following_puts}
@@ -101,7 +102,7 @@ module _ (g : Ground) (ground : IsGround g) (quits : list_any is_quit (items_of 
 
           broke : Tests g (i + k) names now sum d after_turn end tail 2 → k ≡ 0 → Runs i cur m s
           broke x none =
-              let same = none_done (var_scope g.kernel) g.turns i m cur now names (subst (λ k. course (var_scope g.kernel) g.turns k i m cur ≡ Going now names) none goes) in
+              let same = none_done (var_scope g.kernel) g.turns i m cur now names (subst (λ k. iterations (var_scope g.kernel) g.turns k i m cur ≡ Going now names) none goes) in
               let place : i + k ≡ i = omega (arith, none) in
               let all = following_goes (chunk_most + 4 + turn_most + 2) (omega arith) both (chain 2 (omega arith) x.goes pass) in
               leaves_here (loop_of g d rest) (has_lanes g ground) all.leads (omega (arith, fits)) (omega (arith, lt)) (inr (same_place (λ i m ns. Breaks (iterate (var_scope g.kernel) g.turns i m ns)) place same.0 same.1 (why (omega (arith, none)))))
@@ -119,7 +120,7 @@ module _ (g : Ground) (ground : IsGround g) (quits : list_any is_quit (items_of 
               passes_on (loop_of g d rest) (has_lanes g ground) 2 k all.leads (omega (arith, fits)) (omega arith) goes (pays_one all.more one)
               (subst (λ j. Runs j names now x.end) (sym place) (ih sum names now x.end (head_at place x.head)))
 
-      after_dry : {cut : ℕ} {sum : List ℕ → ℕ → ℤ} {t : State} → Longer d head s dry t (chunk_most + 2) cut → AtHead g i cur m sum t → Turned g i t → (i < limit g → LeftOut (iterate (var_scope g.kernel) g.turns i m cur) cut) → Runs i cur m s
+      after_dry : {cut : ℕ} {sum : List ℕ → ℕ → ℤ} {t : State} → Longer d head s dry t (chunk_most + 2) cut → AtHead g i cur m sum t → IndexHeld g i t → (i < limit g → LeftOut (iterate (var_scope g.kernel) g.turns i m cur) cut) → Runs i cur m s
       after_dry {sum = sum} {t = t} lead h turned why = ⊎_elim ahead reached (cases_lt i (limit g))
         where
           reached : limit g ≤ i → Runs i cur m s
@@ -161,7 +162,7 @@ module _ (g : Ground) (ground : IsGround g) (quits : list_any is_quit (items_of 
 
         dried : Tests g (i + k) names now sum d after_chunk end dry 2 → k ≡ 0 → Runs i cur m s
         dried x none =
-            let same = none_done (var_scope g.kernel) g.turns i m cur now names (subst (λ k. course (var_scope g.kernel) g.turns k i m cur ≡ Going now names) none goes) in
+            let same = none_done (var_scope g.kernel) g.turns i m cur now names (subst (λ k. iterations (var_scope g.kernel) g.turns k i m cur ≡ Going now names) none goes) in
             let place : i + k ≡ i = omega (arith, none) in
             after_dry i cur m s (λ sum names now t h. ih (i + 1) names now sum t (omega (arith, less)) h) (following_goes (chunk_most + 2) (omega arith) first x.goes)
             (same_place (λ i m ns. AtHead g i ns m sum x.end) place same.0 same.1 x.head) (turned_kept g i end x.end x.z turned)

@@ -9,9 +9,9 @@ use Rattle.guest_types.specs.Length.{IsLength, width_bytes, lanes}
 use Rattle.guest_types.specs.Elements.{bit, both, first_true}
 use Rattle.guest_types.specs.Lanes.{all_at, while_at}
 use Rattle.guest_types.proofs.Widths.{some-bytes}
-use Rattle.machine_model.proofs.States.{lanes_small}
+use Rattle.machine_model.proofs.StateSteps.{lanes_small}
 use Rattle.chunk_emit.specs.Chunk.{IsTop}
-use Rattle.first_fault.proofs.Bits.{First, missing, found, first_is}
+use Rattle.first_fault.proofs.PrefixBits.{First, missing, found, first_is}
 
 -- a register has elements
 pub some_lanes : (vl : ℕ) (w : Width) → IsLength vl → 0 < lanes vl w

@@ -1,18 +1,18 @@
 pub mod Sizes
 pub mod PassSizes
-pub mod Courses
+pub mod Iterations
 pub mod Paces
-pub mod Rounds
+pub mod PassLoop
 pub mod Flags
-pub mod LoopOf
+pub mod KernelPassLoop
 pub mod Tests
 pub mod While
 pub mod Labels
 pub mod Breaking
 pub mod Straight
 pub mod Bounds
-pub mod Holds
-pub mod Answered
+pub mod NamesHeld
+pub mod ReturnedReads
 pub mod LoopRuns
 pub mod CodeSizes
 mod Unbroken

@@ -9,14 +9,14 @@ use Rattle.machine_model.specs.Run.{End, Stop}
 use Rattle.kernel_tree.specs.Plain.{Program}
 use Rattle.kernel_tree.specs.Items.{size_of}
 use Rattle.kernel_tree.specs.Typing.{var_scope}
-use Rattle.kernel_meaning.specs.Ends.{Going, Failed}
 use Rattle.kernel_meaning.specs.Eval.{Names}
 use Rattle.kernel_meaning.specs.ScalarRun as run
-use Rattle.kernel_meaning.specs.ScalarRun.{Run, course, bound_of}
+use Rattle.kernel_meaning.specs.ScalarRun.{Run, bound_of, IsWithin, turns_from, run_from}
+use Rattle.kernel_meaning.proofs.RunsFrom.{turns_on, turns_fail}
 use Rattle.label_fix.specs.DraftRun.{Always, Entry, Branch, Laid, following, address_of, draft_run}
 use Rattle.label_fix.specs.Cuts.{cuts}
 use Rattle.label_fix.specs.Stretches.{Resolves}
-use Rattle.label_fix.proofs.Steps.{Goes, Ends, chain, go_more, pass, taken_goes, end_after}
+use Rattle.label_fix.proofs.StretchSteps.{Goes, Ends, chain, go_more, pass, taken_goes, end_after}
 use Rattle.reg_assign.specs.declared.interval.RegClass.TheVariants.{X, Z}
 use Rattle.reg_assign.specs.Registers.{Assignment}
 use Rattle.loop_form.specs.LoopItems.{turns_items}
@@ -24,7 +24,7 @@ use Rattle.loop_form.specs.Entries.{loop_start}
 use Rattle.loop_form.specs.Needs.{throughout}
 use Rattle.loop_form.specs.Registers.{FitsKernel}
 use Rattle.scalar_emit.specs.Kernel.{layout_of_kernel, kernel_homes, register_in}
-use Rattle.scalar_emit.specs.Runs.{AtIteration, AreHeld, IsWithin, Comes, ends_so, turns_from, run_from}
+use Rattle.scalar_emit.specs.Runs.{AtIteration, AreHeld, Comes, ends_so}
 use Rattle.scalar_emit.proofs.KernelRuns.{fits}
 use Rattle.chunk_emit.specs.Head.{Ground, IsGround, AtHead, most_lanes, limit}
 use Rattle.first_fault.specs.Split.{is_quit}
@@ -36,14 +36,14 @@ use Rattle.loop_edges.proofs.FoldEnds.{folds_at}
 use Rattle.vector_emit.specs.VectorCode.{passes_by, passes_code, vector_code}
 use Rattle.vector_emit.specs.VectorRuns.{Follows, turn_steps, vector_base, ReachesScalar, VectorRuns}
 use Rattle.vector_emit.specs.VectorRuns as follows
-use Rattle.vector_emit.proofs.Courses.{turns_on, turns_fail, late_ends}
+use Rattle.vector_emit.proofs.Iterations.{late_ends}
 use Rattle.vector_emit.proofs.Paces.{Spends, in_all, none_spent, cuts_more}
-use Rattle.vector_emit.proofs.Rounds.{Passing, leaves, stops, Late, split}
-use Rattle.vector_emit.proofs.LoopOf.{HeadOf, loop_of, has_lanes}
+use Rattle.vector_emit.proofs.PassLoop.{Passing, leaves, stops, Late, split}
+use Rattle.vector_emit.proofs.KernelPassLoop.{HeadOf, loop_of, has_lanes}
 use Rattle.vector_emit.proofs.Labels.{following_start}
 use Rattle.vector_emit.proofs.Bounds.{bound_steady}
-use Rattle.vector_emit.proofs.Holds.{held_still}
-use Rattle.vector_emit.proofs.Answered.{answered}
+use Rattle.vector_emit.proofs.NamesHeld.{held_still}
+use Rattle.vector_emit.proofs.ReturnedReads.{answered}
 use Rattle.vector_emit.proofs.Breaking.{breaking_runs}
 use Rattle.vector_emit.proofs.Straight.{Enters, straight_runs}
 
@@ -145,7 +145,7 @@ module _ (g : Ground) (c : Assignment) (d : Laid) (scalar n : ℕ) (rest : List 
 
   module _ {head : List Entry} {start : State} {most : ℕ} (before : Goes d code s head start most) (few : most ≤ 3 + 5 * size_of g.kernel) where
     -- after the passes: the fold, and scalar code from iteration j on
-    record Behind (j : ℕ) (now : Memory) (names : Names) (end : State) : Type 0 where
+    record Following (j : ℕ) (now : Memory) (names : Names) (end : State) : Type 0 where
       memory : Memory
       result : ℕ
       begun : ℕ
@@ -153,7 +153,7 @@ module _ (g : Ground) (c : Assignment) (d : Laid) (scalar n : ℕ) (rest : List 
       late : j ≤ begun
       ends : Ends d leave end memory result (6 * size_of g.kernel + 1 + 2 * turn_steps g)
 
-    following_passes : (j : ℕ) (now : Memory) (names : Names) (end : State) → HeadOf g j names now end → j ≤ limit g → Late (loop_of g d leave) j now names → Behind j now names end
+    following_passes : (j : ℕ) (now : Memory) (names : Names) (end : State) → HeadOf g j names now end → j ≤ limit g → Late (loop_of g d leave) j now names → Following j now names end
     following_passes j now names end h le late =
         let bound = bound_is j names now end h in
         let f = folds_at g c j names now h.sum d (Branch Always scalar ∷ rest) end ground fit at.ranged (names_held j names now end h) h.head in

@@ -4,7 +4,7 @@ use Rattle.std.specs.Prelude.{if◌then◌else◌}
 use Rattle.std.specs.List.{list_any}
 use Rattle.std.proofs.lemmas.List.{length-append}
 use Rattle.guest_types.specs.declared.length.Width.{Width}
-use Rattle.loop_form.specs.declared.loop_item.Source.TheVariants.{Turn}
+use Rattle.loop_form.specs.declared.loop_item.Source.TheVariants.{LoopIndex}
 use Rattle.loop_form.specs.LoopItems.{Item}
 use Rattle.lane_emit.specs.LaneCode.{index_code}
 use Rattle.chunk_emit.specs.Registers.{Layout}
@@ -31,9 +31,9 @@ parts (it ∷ items) = by_quit (list_any is_quit (it ∷ items)) (parts items)
     by_quit false h = omega arith
 
 index_few : (l : Layout) → length (index_words l) ≤ 1
-index_few l = by_held (l.held Turn)
+index_few l = by_held (l.held LoopIndex)
   where
-    by_held : (b : Bool) → length (if b then vectors (index_code (l.registers.source Turn) 9) else []) ≤ 1
+    by_held : (b : Bool) → length (if b then vectors (index_code (l.registers.source LoopIndex) 9) else []) ≤ 1
     by_held true = omega arith
     by_held false = omega arith
 

@@ -1,14 +1,14 @@
 -- A loop has no more items than its kernel.
-use Rattle.std.proofs.Common.{◌≡◌, ℕ, suc, ◌+◌, ◌≤◌, ℤ, List, [], length, Option, Some, None, refl, ap, ◌∙◌, arith}
+use Rattle.std.proofs.Common.{◌≡◌, ℕ, suc, ◌+◌, ◌≤◌, ℤ, List, [], length, Option, Some, None, ap, ◌∙◌, arith}
 use Rattle.std.specs.Prelude.{option_map}
 use Rattle.kernel_tree.specs.declared.ops.Ty.{Ty}
 use Rattle.kernel_tree.specs.Plain.{Term, Literal, Variable, Element, Unary, Operation, Shift, Conversion, Choice, Comparison, Both, Either, Not, Action, Define, Put, Update, Choose, Leave, Block, Done, Then, Otherwise, Nothing, Else, PlainLoop, Program}
 use Rattle.kernel_tree.specs.Items.{stream_offset, index_items, term_size, action_size, block_size, otherwise_size, index_of, turns_size, size_of}
-use Rattle.kernel_tree.specs.Typing.{Scope, own, first, side_type, defined, after_action, after_block, left, in_loop, var_scope}
+use Rattle.kernel_tree.specs.Typing.{Scope, own, first, side_type, after_action, after_block, left, in_loop, var_scope}
+use Rattle.kernel_tree.proofs.Scopes.{index_after, scope_index}
 use Rattle.loop_form.specs.Entries.{loop_start}
 use Rattle.loop_form.specs.declared.loop_item.Source.{Source}
 use Rattle.loop_form.specs.LoopItems.{Bound, Item, array_type, accumulator_of, truth_home, load_item, store_item, term_items, cond_items, after_env, action_items, block_items, otherwise_items, loop_env, loop_items}
-use Rattle.chunk_order.proofs.OrderLaw.{scope_index}
 
 load_few : (scope : Scope) (mask : Option ℕ) (q : ℕ) (env : List Bound) (a : List ℕ) (o : Option ℤ) (rest : List Item) → length (load_item scope mask q env a o rest) ≤ 1 + length rest
 load_few scope mask q env a None rest = omega arith
@@ -83,17 +83,6 @@ term_few (Not e) = record {
 
 -- ---- statements
 
-same_index : (a : Action) (s : Scope) → (after_action s a).index ≡ s.index
-same_index (Define x t e) s = by (first t (own s e))
-  where
-    by : (o : Option Ty) → (defined s x o).index ≡ s.index
-    by None = refl
-    by (Some u) = refl
-same_index (Put a i e) s = refl
-same_index (Update x op e) s = refl
-same_index (Choose c b d) s = refl
-same_index (Leave c) s = refl
-
 mutual
   action_few : (a : Action) (s : Scope) (mask : Option ℕ) (b : ℕ) (env : List Bound) (rest : List Item) → length (action_items s mask b env a rest) ≤ action_size s.index a + length rest
   action_few (Define x t e) s mask b env rest = following_one _ _ _ ((term_few e).as_value s (first t (own s e)) mask b env _)
@@ -112,7 +101,7 @@ mutual
   block_few : (t : Block) (s : Scope) (mask : Option ℕ) (b : ℕ) (env : List Bound) (rest : List Item) → length (block_items s mask b env t rest) ≤ block_size s.index t + length rest
   block_few Done s mask b env rest = omega arith
   block_few (Then a t) s mask b env rest =
-      let size : block_size (after_action s a).index t ≡ block_size s.index t = ap (λ i. block_size i t) (same_index a s) in
+      let size : block_size (after_action s a).index t ≡ block_size s.index t = ap (λ i. block_size i t) (index_after s a) in
       both _ _ _ _ _ _ (action_few a s mask b env _) (block_few t (after_action s a) mask (b + action_size s.index a) (after_env s b env a) rest) size
     where
       both : (n p q r k v : ℕ) → n ≤ p + q → q ≤ r + k → r ≡ v → n ≤ p + v + k

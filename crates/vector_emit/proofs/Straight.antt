@@ -8,7 +8,7 @@ use Rattle.machine_model.specs.Machine.{State, p_at}
 use Rattle.kernel_meaning.specs.Eval.{Names}
 use Rattle.label_fix.specs.DraftRun.{If, Entry, Put, Branch, Place, Laid, following}
 use Rattle.label_fix.specs.Stretches.{Resolves}
-use Rattle.label_fix.proofs.Steps.{Goes, chain, pass}
+use Rattle.label_fix.proofs.StretchSteps.{Goes, chain, pass}
 use Rattle.dependence.specs.Apart.{bound_place}
 use Rattle.chunk_emit.specs.Chunk.{IsTop}
 use Rattle.chunk_emit.specs.ChunkCode.{puts}
@@ -21,8 +21,8 @@ use Rattle.chunk_loop.specs.Passes.{lanes_at, Passes, comes, stops}
 use Rattle.chunk_loop.proofs.PassLaws.{plain_law}
 use Rattle.vector_emit.specs.VectorCode.{straight_code}
 use Rattle.vector_emit.specs.VectorRuns.{turn_steps}
-use Rattle.vector_emit.proofs.Rounds.{Passing, pays_lanes, pays_last, leaves_here, stops_here, passes_on}
-use Rattle.vector_emit.proofs.LoopOf.{loop_of, stop_of, has_lanes, Longer, following_goes}
+use Rattle.vector_emit.proofs.PassLoop.{Passing, pays_lanes, pays_last, leaves_here, stops_here, passes_on}
+use Rattle.vector_emit.proofs.KernelPassLoop.{loop_of, stop_of, has_lanes, Longer, following_goes}
 use Rattle.vector_emit.proofs.PassSizes.{plain_fits}
 use Rattle.vector_emit.proofs.While.{while_ends, while_begins, while_over, while_back}
 use Rattle.vector_emit.proofs.Labels.{following_puts}

@@ -12,21 +12,21 @@ use Rattle.guest_types.specs.Memory.{Memory}
 use Rattle.machine_model.specs.Arithmetic.{holds}
 use Rattle.machine_model.specs.Machine.{State, x_at, z_at, p_at, with_flags, jump, next}
 use Rattle.machine_model.specs.States.{IsState}
-use Rattle.machine_model.proofs.States.{moved, jumped, flags_kept, x_kept, wrapped}
+use Rattle.machine_model.proofs.StateSteps.{moved, jumped, flags_kept, x_kept, wrapped}
 use Rattle.a64_code.specs.Table.{subs}
 use Rattle.kernel_meaning.specs.Operators.{word}
 use Rattle.kernel_meaning.specs.Eval.{Names, value_at}
 use Rattle.kernel_meaning.proofs.Residues.{word-below}
 use Rattle.label_fix.specs.DraftRun.{Kind, If, Entry, Put, Branch, Laid, is_taken, following, place_of, address_of, ins}
-use Rattle.label_fix.proofs.Steps.{Goes, chain, put_goes, taken_goes, passed_goes}
+use Rattle.label_fix.proofs.StretchSteps.{Goes, chain, put_goes, taken_goes, passed_goes}
 use Rattle.loop_form.specs.declared.loop_item.Source.{Source}
-use Rattle.loop_form.specs.declared.loop_item.Source.TheVariants.{Turn}
+use Rattle.loop_form.specs.declared.loop_item.Source.TheVariants.{LoopIndex}
 use Rattle.dependence.specs.Apart.{bound_place}
 use Rattle.scalar_emit.proofs.Truths.{tested, tested_goes, tested_flags, tested_other}
 use Rattle.lane_emit.specs.Right.{PRight}
 use Rattle.reductions.specs.AccumulatorLanes.{LanesHold}
 use Rattle.chunk_emit.specs.Chunk.{IsTop}
-use Rattle.chunk_emit.specs.Head.{Ground, IsGround, AtHead, HeldAll, Turned, layout, width, most_lanes, limit}
+use Rattle.chunk_emit.specs.Head.{Ground, IsGround, AtHead, HeldAll, IndexHeld, layout, width, most_lanes, limit}
 use Rattle.vector_emit.specs.VectorCode.{any_lane}
 use Rattle.vector_emit.proofs.Flags.{top_none, top_some}
 
@@ -63,8 +63,8 @@ head_kept {g = g} {sum = sum} {s = s} {t = t} h k = record {
       typed = old.typed;
     }
 
-pub turned_kept : (g : Ground) (i : ℕ) (s t : State) → t.z ≡ s.z → Turned g i s → Turned g i t
-turned_kept g i s t e h held n lt = ap (λ z. at (width g) z n) (sym (z_same s t e ((layout g).registers.source Turn))) ∙ h held n lt
+pub turned_kept : (g : Ground) (i : ℕ) (s t : State) → t.z ≡ s.z → IndexHeld g i s → IndexHeld g i t
+turned_kept g i s t e h held n lt = ap (λ z. at (width g) z n) (sym (z_same s t e ((layout g).registers.source LoopIndex))) ∙ h held n lt
 
 -- ---- words
 

@@ -7,15 +7,15 @@ use Rattle.guest_types.specs.Elements.{both, first_true, predicate, pred_test}
 use Rattle.guest_types.specs.Lanes.{all_at, while_at}
 use Rattle.guest_types.specs.Memory.{Memory}
 use Rattle.machine_model.specs.Machine.{State, Went, x_at, p_at, with_p, with_flags, next}
-use Rattle.machine_model.proofs.States.{tested_put}
+use Rattle.machine_model.proofs.StateSteps.{tested_put}
 use Rattle.kernel_meaning.specs.Eval.{Names}
 use Rattle.label_fix.specs.DraftRun.{If, Entry, Put, Branch, Laid, effect, following}
-use Rattle.label_fix.proofs.Steps.{Goes, chain, put_goes}
+use Rattle.label_fix.proofs.StretchSteps.{Goes, chain, put_goes}
 use Rattle.dependence.specs.Apart.{bound_place}
 use Rattle.lane_emit.proofs.Stretches.{width-size}
 use Rattle.chunk_emit.specs.Chunk.{IsTop}
 use Rattle.chunk_emit.specs.Head.{Ground, IsGround, AtHead, width, most_lanes, limit}
-use Rattle.first_fault.proofs.Bits.{top_made}
+use Rattle.first_fault.proofs.PrefixBits.{top_made}
 use Rattle.chunk_loop.specs.PassCode.{lanes_word}
 use Rattle.chunk_loop.specs.Passes.{lanes_at}
 use Rattle.vector_emit.proofs.Flags.{some_lanes, while_none, while_some, while_first}

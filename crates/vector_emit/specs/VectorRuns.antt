@@ -3,7 +3,7 @@ use Rattle.std.specs.Prelude.{◌≡◌, ℕ, ◌+◌, ◌*◌, ◌<◌, ◌≤�
 use Rattle.guest_types.specs.Memory.{Memory, byte_at}
 use Rattle.kernel_tree.specs.Items.{size_of}
 use Rattle.kernel_meaning.specs.Eval.{Names}
-use Rattle.kernel_meaning.specs.ScalarRun.{Run, End, Fault}
+use Rattle.kernel_meaning.specs.ScalarRun.{Run, End, Fault, IsWithin, run_from}
 use Rattle.machine_model.specs.declared.outcome.StopKind.{StopKind}
 use Rattle.machine_model.specs.Machine.{State, x_at}
 use Rattle.machine_model.specs.States.{IsState}
@@ -14,7 +14,7 @@ use Rattle.reg_assign.specs.Registers.{Assignment}
 use Rattle.loop_form.specs.Registers.{FitsKernel}
 use Rattle.chunk_order.specs.Order.{Elsewhere}
 use Rattle.scalar_emit.specs.Kernel.{register_in}
-use Rattle.scalar_emit.specs.Runs.{IsAccess, AtIteration, IsWithin, Comes, run_from}
+use Rattle.scalar_emit.specs.Runs.{IsAccess, AtIteration, Comes}
 use Rattle.chunk_emit.specs.Head.{Ground, IsGround, most_lanes, limit}
 use Rattle.vector_emit.specs.VectorCode.{vector_code}
 

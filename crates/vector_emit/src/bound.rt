@@ -6,8 +6,8 @@ ghost use Rattle.dependence.specs.Apart.{bound_place};
 
 use a64_code::Reg;
 use kernel_tree::Checked;
+use kernel_tree::laws::few_params;
 use loop_edges::register_of;
-use scalar_emit::laws::few_params;
 use word_rows::Bits;
 
 /// The general register of the loop's bound.

@@ -7,7 +7,7 @@ use Rattle.std.proofs.lemmas.Option.{same_Some}
 use Rattle.std.proofs.Math.Nat.{mod-eq_of_lt, mod-lt}
 use Rattle.word_rows.specs.Field.{Field, number_in, from_to}
 use Rattle.word_rows.specs.Row.{Row, mask_of, takes, reads}
-use Rattle.word_rows.proofs.Laws.{reads-append}
+use Rattle.word_rows.proofs.TableLaws.{reads-append}
 
 -- where the row has fixed bits in the field, they are those of the key
 abbrev pub may_have : Row → Field → ℕ → Bool

@@ -1,6 +1,6 @@
 use Rattle.std.proofs.Common.{◌≡◌, ◌+◌, ◌*◌, ◌++◌, [], ap, ◌∙◌, arith}
 use Rattle.machine_model.specs.DumpText.{dump_line, line_of_dump}
-use Rattle.dump_text.proofs.Ranges.{pieces_more}
+use Rattle.dump_text.proofs.RangePieces.{pieces_more}
 use Rattle.dump_text.proofs.dump_text.Goals as goal
 
 pub loop-k-preserved : goal.loop-k-preserved

@@ -1,6 +1,6 @@
 use Rattle.std.proofs.Common.{◌+◌, ◌++◌, ap, ◌∙◌, refl}
 use Rattle.machine_model.specs.DumpText.{shown, byte_text}
-use Rattle.dump_text.proofs.Ranges.{pieces_more}
+use Rattle.dump_text.proofs.RangePieces.{pieces_more}
 use Rattle.dump_text.proofs.push_bytes.Goals as goal
 
 pub loop-k-preserved : goal.loop-k-preserved

@@ -1,4 +1,4 @@
-use Rattle.first_fault.proofs.Runs as laws
+use Rattle.first_fault.proofs.RegionRuns as laws
 use Rattle.first_fault.proofs.exits_run.Goals as goal
 
 pub returns : goal.returns

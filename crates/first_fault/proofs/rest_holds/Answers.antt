@@ -1,4 +1,4 @@
-use Rattle.first_fault.proofs.Rests as laws
+use Rattle.first_fault.proofs.RestHolds as laws
 use Rattle.first_fault.proofs.rest_holds.Goals as goal
 
 pub returns : goal.returns

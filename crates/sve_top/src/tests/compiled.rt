@@ -1,4 +1,4 @@
-// Kernels compiled and run through the commands: worked rows, whose values are those of the kernels by hand.
+//! Kernels compiled and run through the commands: worked rows, whose values are those of the kernels by hand.
 
 use crate::top::top;
 use io_edges::memory_files::{MemoryFiles, NamedFile, have_different_names};

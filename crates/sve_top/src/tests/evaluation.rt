@@ -1,4 +1,4 @@
-// The command `eval`: worked runs of kernels, with values that a model of the language in another program agrees with.
+//! The command `eval`: worked runs of kernels, with values that a model of the language in another program agrees with.
 
 use crate::top::top;
 use io_edges::memory_files::{MemoryFiles, NamedFile, have_different_names};

@@ -1,4 +1,4 @@
-// Failing calls: of each command, every call of the files, of the input and of the outputs fails in turn.
+//! Failing calls: of each command, every call of the files, of the input and of the outputs fails in turn.
 
 ghost use Rattle.std.specs.Prelude.{Some};
 

@@ -1,5 +1,5 @@
-// The command `check`: kernels with what is put on the output, or the line of the refusal, worked out by hand from the rules and
-// by a model of the language in another program.
+//! The command `check`: kernels with what is put on the output, or the line of the refusal, worked out by hand from the rules and
+//! by a model of the language in another program.
 
 use crate::top::top;
 use io_edges::memory_files::{MemoryFiles, NamedFile, have_different_names};

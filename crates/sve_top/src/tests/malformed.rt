@@ -1,4 +1,4 @@
-// Malformed files, maps and kernels through the commands.
+//! Malformed files, maps and kernels through the commands.
 
 use super::{E1, Fails, done_beside};
 use std::alloc::{AllocError, Global};

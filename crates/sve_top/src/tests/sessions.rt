@@ -1,4 +1,4 @@
-// Debugging sessions through the command.
+//! Debugging sessions through the command.
 
 use super::E1;
 use crate::top::top;

@@ -1,5 +1,5 @@
-// Each row of a load and of a store, and the edges of others, through the command at lengths from the least to the greatest. The
-// words are those of an assembler, before movz x8, #93; svc #0; what they come to is that of another machine, qemu's.
+//! Each row of a load and of a store, and the edges of others, through the command at lengths from the least to the greatest. The
+//! words are those of an assembler, before movz x8, #93; svc #0; what they come to is that of another machine, qemu's.
 
 use super::vectors::holds;
 use std::test::Fail;

@@ -1,4 +1,4 @@
-// Vector programs through the command, at lengths from the least to the greatest.
+//! Vector programs through the command, at lengths from the least to the greatest.
 
 use super::{Fails, done_beside};
 use elf_image::write_elf;

@@ -1,4 +1,4 @@
-use Rattle.word_rows.proofs.Laws.{reads-spells, spells-reads}
+use Rattle.word_rows.proofs.TableLaws.{reads-spells, spells-reads}
 use Rattle.a64_code.specs.Table.{row, a64_names}
 use Rattle.a64_code.proofs.Valid.{a64_table, valid}
 use Rattle.a64_code.proofs.decoding.table_laws.Goals as goal

@@ -1,5 +1,5 @@
 use Rattle.a64_machine.specs.Cores.{state_of}
-use Rattle.a64_machine.proofs.Forms.{byte_register, answer_as}
+use Rattle.a64_machine.proofs.AddressForms.{byte_register, answer_as}
 use Rattle.a64_machine.proofs.load_store.byte_register.Goals as goal
 
 pub returns-clause-answer : goal.returns-clause-answer

@@ -1,5 +1,5 @@
 use Rattle.a64_machine.specs.Cores.{state_of}
-use Rattle.a64_machine.proofs.Forms.{wide_immediate, answer_as}
+use Rattle.a64_machine.proofs.AddressForms.{wide_immediate, answer_as}
 use Rattle.a64_machine.proofs.load_store.wide_immediate.Goals as goal
 
 pub returns-clause-answer : goal.returns-clause-answer

@@ -1,6 +1,6 @@
 use Rattle.word_rows.specs.Field.{flag_number}
 use Rattle.a64_machine.specs.Cores.{state_of}
-use Rattle.a64_machine.proofs.Forms.{wide_register, answer_as}
+use Rattle.a64_machine.proofs.AddressForms.{wide_register, answer_as}
 use Rattle.a64_machine.proofs.load_store.wide_register.Goals as goal
 
 pub returns-clause-answer : goal.returns-clause-answer

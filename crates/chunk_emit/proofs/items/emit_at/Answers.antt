@@ -1,7 +1,7 @@
 use Rattle.std.proofs.Common.{refl, ap, ◌∙◌, ◌++◌}
 use Rattle.loop_form.specs.LoopView.{view_of}
 use Rattle.chunk_emit.specs.View.{layout_in, width_in}
-use Rattle.chunk_emit.proofs.Chosen.{done_puts, written_puts, writable_at}
+use Rattle.chunk_emit.proofs.StepCode.{done_puts, written_puts, writable_at}
 use Rattle.chunk_emit.proofs.items.emit_at.Goals as goal
 
 pub returns-then-done-clause-code : goal.returns-then-done-clause-code

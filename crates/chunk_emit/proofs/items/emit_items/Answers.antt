@@ -1,6 +1,6 @@
 use Rattle.std.proofs.Common.{ap, ◌∙◌, ◌++◌}
 use Rattle.chunk_emit.specs.View.{layout_in, width_in}
-use Rattle.chunk_emit.proofs.Chosen.{writable_following, none_left}
+use Rattle.chunk_emit.proofs.StepCode.{writable_following, none_left}
 use Rattle.chunk_emit.proofs.items.emit_items.Goals as goal
 
 pub loop-place-preserved : goal.loop-place-preserved

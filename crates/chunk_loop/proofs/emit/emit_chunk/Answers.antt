@@ -12,7 +12,7 @@ use Rattle.first_fault.specs.Split.{region_of, rest_of}
 use Rattle.first_fault.specs.SplitBreaks.{split_breaks}
 use Rattle.chunk_loop.specs.PassCode.{lanes_word, index_words, advance_word}
 use Rattle.first_fault.proofs.SplitCode.{steps_writable}
-use Rattle.chunk_loop.proofs.Joined.{chunk_puts}
+use Rattle.chunk_loop.proofs.PassPuts.{chunk_puts}
 use Rattle.chunk_loop.proofs.emit.emit_chunk.Goals as goal
 
 pub emit_exits-requires : goal.emit_exits-requires

@@ -7,7 +7,7 @@ use Rattle.chunk_emit.specs.Registers.{Layout}
 use Rattle.chunk_emit.specs.ChunkCode.{items_words, puts}
 use Rattle.chunk_emit.specs.View.{layout_in, width_in}
 use Rattle.chunk_loop.specs.PassCode.{advance_word}
-use Rattle.chunk_loop.proofs.Joined.{plain_puts}
+use Rattle.chunk_loop.proofs.PassPuts.{plain_puts}
 use Rattle.chunk_loop.proofs.emit.emit_plain.Goals as goal
 
 pub returns-clause-code : goal.returns-clause-code

@@ -16,7 +16,7 @@ use Rattle.first_fault.specs.Split.{region_of, rest_of}
 use Rattle.first_fault.specs.SplitBreaks.{split_breaks}
 use Rattle.chunk_loop.specs.PassCode.{advance_word}
 use Rattle.first_fault.proofs.SplitCode.{steps_writable}
-use Rattle.chunk_loop.proofs.Joined.{turn_puts}
+use Rattle.chunk_loop.proofs.PassPuts.{turn_puts}
 use Rattle.chunk_loop.proofs.emit.emit_turn.Goals as goal
 
 pub emit_single-requires : goal.emit_single-requires

@@ -1,8 +1,8 @@
 use Rattle.std.proofs.Common.{ap, ◌∙◌, ◌++◌}
 use Rattle.chunk_emit.specs.View.{layout_in, width_in}
-use Rattle.chunk_emit.proofs.Chosen.{writable_following}
+use Rattle.chunk_emit.proofs.StepCode.{writable_following}
 use Rattle.first_fault.specs.View.{mode_of}
-use Rattle.first_fault.proofs.Joined.{next_puts, none_left}
+use Rattle.first_fault.proofs.RegionPuts.{next_puts, none_left}
 use Rattle.first_fault.proofs.emit.emit_region.Goals as goal
 
 pub loop-item-preserved : goal.loop-item-preserved

@@ -2,7 +2,7 @@ use Rattle.std.proofs.Common.{◌+◌, ap, sym, ◌∙◌, drop, arith}
 use Rattle.std.specs.Prelude.{slice_index_or}
 use Rattle.loop_form.specs.LoopView.{view_of, view}
 use Rattle.loop_form.specs.LoopItems.{Item}
-use Rattle.chunk_emit.proofs.Chosen.{no_item, at_place}
+use Rattle.chunk_emit.proofs.StepCode.{no_item, at_place}
 use Rattle.first_fault.specs.View.{size_from}
 use Rattle.first_fault.proofs.Sizes.{at_item}
 use Rattle.first_fault.proofs.split.break_region.Goals as goal

@@ -3,7 +3,7 @@ use Rattle.loop_form.specs.View.{program}
 use Rattle.label_fix.specs.Finished.{size}
 use Rattle.label_fix.proofs.PlacedRuns.{words_length}
 use Rattle.scalar_emit.specs.Kernel.{register_in}
-use Rattle.kernel_compile.proofs.Join.{emitted, compiled}
+use Rattle.kernel_compile.proofs.ScalarFaithful.{emitted, compiled}
 use Rattle.kernel_compile.proofs.emit.emit_iterations.Goals as goal
 
 pub finish-requires : goal.finish-requires

@@ -2,6 +2,7 @@ use Rattle.std.proofs.Common.{◌≡◌, None, ◌<◌, ◌^◌, All, length, ap
 use Rattle.kernel_tree.specs.declared.checked.Checked.{Checked}
 use Rattle.kernel_tree.specs.Grammar.{IsTree}
 use Rattle.kernel_tree.specs.Typing.{check_fault}
+use Rattle.kernel_tree.proofs.Spelled.{few_params}
 use Rattle.loop_form.specs.View.{program}
 use Rattle.label_fix.proofs.PlacedRuns.{words_length}
 use Rattle.overlap_guard.proofs.Bound.{few-arrays}
@@ -47,7 +48,7 @@ finish-requires c =
       guard = c.in_ok-guard.ensures.code;
       lanes = c.in_ok-emit_vector.ensures.code;
     } in
-    let arrays = few-arrays k (sound c.args.kernel.now) c.few_params.ensures in
+    let arrays = few-arrays k (sound c.args.kernel.now) (few_params k (spelled c.args.kernel.now)) in
     let few = few_words d arrays.few c.in_ok-emit_begin.ensures.words c.in_ok-scalar.ensures.words in
     record { few = omega (arith, few, c.few_items.ensures.size) }
 
@@ -76,7 +77,7 @@ returns-clause-short c =
       guard = c.in_ok-guard.ensures.code;
       lanes = c.in_ok-emit_vector.ensures.code;
     } in
-    let arrays = few-arrays k (sound c.args.kernel.now) c.few_params.ensures in
+    let arrays = few-arrays k (sound c.args.kernel.now) (few_params k (spelled c.args.kernel.now)) in
     let few = few_words d arrays.few c.in_ok-emit_begin.ensures.words c.in_ok-scalar.ensures.words in
     let n = ap length c.in_ok-words.ensures.words in
     omega (arith, few, n, words_length c.emit_vector.new.draft.entries)
@@ -106,14 +107,14 @@ returns-clause-faithful c =
       guard = c.in_ok-guard.ensures.code;
       lanes = c.in_ok-emit_vector.ensures.code;
     } in
-    let arrays = few-arrays k (sound c.args.kernel.now) c.few_params.ensures in
+    let arrays = few-arrays k (sound c.args.kernel.now) (few_params k (spelled c.args.kernel.now)) in
     let few = few_words d arrays.few c.in_ok-emit_begin.ensures.words c.in_ok-scalar.ensures.words in
     let small : All (λ w. w < 2 ^ 32) c.in_ok-words.words.items = subst (λ ws. All (λ w. w < 2 ^ 32) ws) c.deref.ensures.value c.have_32_bits.ensures in
     let joined : IsJoined k c.args.regs.now.z c.args.regs.now.p c.args.regs.now.x = record {
       spelled = spelled c.args.kernel.now;
       sound = sound c.args.kernel.now;
       vector = c.requires.class;
-      few = c.few_params.ensures;
+      few = few_params k (spelled c.args.kernel.now);
       near = arrays.place;
       z = c.requires.vectors;
       p = c.requires.predicates;

@@ -6,7 +6,7 @@ use Rattle.kernel_scope.specs.Scopes.{scope_of}
 use Rattle.kernel_meaning.specs.Trees.{Set, tasks_of, followed}
 use Rattle.kernel_meaning.specs.declared.step.Step.TheVariants as step
 use Rattle.kernel_meaning.specs.Plans as plans
-use Rattle.kernel_meaning.proofs.Steps.{next_item, vars_go_on, followed-done}
+use Rattle.kernel_meaning.proofs.ListWalks.{next_item, vars_go_on, followed-done}
 use Rattle.kernel_meaning.proofs.kernels.resolve_vars.Goals as goal
 
 pub loop-var-preserved : goal.loop-var-preserved

@@ -1,30 +1,30 @@
 use Rattle.std.proofs.Common.{◌+◌, ◌*◌}
-use Rattle.std.specs.Prelude.{max}
 use Rattle.kernel_tree.specs.Plain.{term_of}
+use Rattle.kernel_tree.specs.Walks.{walk_of, walk_of_one, walk_of_two, walk_of_three}
 use Rattle.kernel_tree.specs.Limits.{term_depth}
 use Rattle.kernel_meaning.proofs.resolve.+nodes.Given as goal
 
 -- an expression stands above what resolves it by its kind, and that above its operands
 abbrev pub decreases-resolve : goal.decreases-resolve
-decreases-resolve l = 3 * term_depth (term_of l.expr.now)
+decreases-resolve l = walk_of (term_of l.expr.now)
 
 abbrev pub decreases-resolve_number : goal.decreases-resolve_number
-decreases-resolve_number l = 3 * term_depth (term_of l.index.now) + 1
+decreases-resolve_number l = walk_of_one (term_of l.index.now)
 
 abbrev pub decreases-resolve_read : goal.decreases-resolve_read
 decreases-resolve_read l = 3 * term_depth (term_of l.index.now) + 2
 
 abbrev pub decreases-resolve_binary : goal.decreases-resolve_binary
-decreases-resolve_binary l = 3 * max (term_depth (term_of l.left.now)) (term_depth (term_of l.right.now)) + 1
+decreases-resolve_binary l = walk_of_two (term_of l.left.now) (term_of l.right.now)
 
 abbrev pub decreases-resolve_compared : goal.decreases-resolve_compared
-decreases-resolve_compared l = 3 * max (term_depth (term_of l.left.now)) (term_depth (term_of l.right.now)) + 1
+decreases-resolve_compared l = walk_of_two (term_of l.left.now) (term_of l.right.now)
 
 abbrev pub decreases-resolve_both : goal.decreases-resolve_both
-decreases-resolve_both l = 3 * max (term_depth (term_of l.left.now)) (term_depth (term_of l.right.now)) + 1
+decreases-resolve_both l = walk_of_two (term_of l.left.now) (term_of l.right.now)
 
 abbrev pub decreases-resolve_either : goal.decreases-resolve_either
-decreases-resolve_either l = 3 * max (term_depth (term_of l.left.now)) (term_depth (term_of l.right.now)) + 1
+decreases-resolve_either l = walk_of_two (term_of l.left.now) (term_of l.right.now)
 
 abbrev pub decreases-resolve_select : goal.decreases-resolve_select
-decreases-resolve_select l = 3 * max (term_depth (term_of l.cond.now)) (max (term_depth (term_of l.yes.now)) (term_depth (term_of l.no.now))) + 1
+decreases-resolve_select l = walk_of_three (term_of l.cond.now) (term_of l.yes.now) (term_of l.no.now)

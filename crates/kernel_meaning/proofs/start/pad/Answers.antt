@@ -1,7 +1,7 @@
 use Rattle.std.proofs.Common.{◌≡◌, ◌+◌, ◌-◌, ◌++◌, pos, replicate, length, sym, ap, ◌∙◌, arith}
 use Rattle.std.proofs.lemmas.List.{append-nil}
 use Rattle.kernel_meaning.specs.Resolve.{most_slots}
-use Rattle.kernel_meaning.proofs.WalkSteps.{pad_step}
+use Rattle.kernel_meaning.proofs.IterationWalks.{pad_step}
 use Rattle.kernel_meaning.proofs.start.pad.Goals as goal
 
 pub loop-at-init : goal.loop-at-init

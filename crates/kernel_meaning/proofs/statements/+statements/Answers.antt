@@ -3,12 +3,11 @@ use Rattle.std.proofs.Math.ListN.{drop_of_length-le}
 use Rattle.kernel_tree.specs.declared.ast.Stmt.{Stmt}
 use Rattle.kernel_tree.specs.Plain.{action_of, block_of}
 use Rattle.kernel_tree.specs.Limits.{block_depth}
-use Rattle.kernel_tree.specs.Typing as typing
 use Rattle.kernel_scope.specs.Scopes.{scope_of, kept}
 use Rattle.kernel_meaning.specs.Trees.{tasks_of, followed}
 use Rattle.kernel_meaning.specs.Resolve as resolving
-use Rattle.kernel_meaning.proofs.Growth.{kept-block}
-use Rattle.kernel_meaning.proofs.Steps.{next_statement, goes_on, followed-done}
+use Rattle.kernel_scope.proofs.Growth.{kept-block}
+use Rattle.kernel_meaning.proofs.ListWalks.{next_statement, goes_on, followed-done}
 use Rattle.kernel_meaning.proofs.statements.+statements.Goals as goal
 
 pub resolve_block-loop-stmt-preserved : goal.resolve_block-loop-stmt-preserved

@@ -1,6 +1,6 @@
 use Rattle.std.proofs.Common.{refl, sym, subst}
 use Rattle.kernel_tree.specs.Grammar.{IsTree}
-use Rattle.kernel_meaning.proofs.Example.{counting_parts, counting_tree}
+use Rattle.kernel_meaning.proofs.Examples.{counting_parts, counting_tree}
 use Rattle.kernel_meaning.proofs.tests.count.Goals as goal
 
 pub new-requires-3-clause-tree : goal.new-requires-3-clause-tree

@@ -3,7 +3,7 @@ use Rattle.std.proofs.lemmas.Result.{err_from_is_err_and}
 use Rattle.std.proofs.lemmas.List.{length-map, map-append}
 use Rattle.kernel_tree.specs.Plain.{word_of, words_of, parameter_of, parameters_of}
 use Rattle.kernel_syntax.specs.Headers.{some_at}
-use Rattle.kernel_syntax.proofs.Lists.{params_start, fails_param, ends_params, full_params, fails_comma, takes_param}
+use Rattle.kernel_syntax.proofs.ParamLists.{params_start, fails_param, ends_params, full_params, fails_comma, takes_param}
 use Rattle.kernel_syntax.proofs.header.some_params.Goals as goal
 
 pub more-init : goal.more-init

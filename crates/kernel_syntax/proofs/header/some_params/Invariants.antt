@@ -1,7 +1,7 @@
 use Rattle.std.proofs.Common.{◌≤◌, length}
 use Rattle.kernel_tree.specs.Plain.{words_of, parameters_of}
 use Rattle.kernel_syntax.specs.Headers.{some_at}
-use Rattle.kernel_syntax.proofs.Lists.{ParamsFollow}
+use Rattle.kernel_syntax.proofs.ParamLists.{ParamsFollow}
 use Rattle.kernel_syntax.proofs.header.some_params.Given as goal
 
 abbrev pub invariant-more : goal.invariant-more

@@ -3,7 +3,7 @@ use Rattle.std.proofs.lemmas.Result.{err_from_is_err_and}
 use Rattle.std.proofs.lemmas.List.{length-map, map-append}
 use Rattle.kernel_tree.specs.Plain.{word_of, words_of, accumulator_of, accumulators_of}
 use Rattle.kernel_syntax.specs.Headers.{vars_at}
-use Rattle.kernel_syntax.proofs.Lists.{vars_start, fails_accumulator, takes_accumulator, ends_accumulators}
+use Rattle.kernel_syntax.proofs.ParamLists.{vars_start, fails_accumulator, takes_accumulator, ends_accumulators}
 use Rattle.kernel_syntax.proofs.header.vars.Goals as goal
 
 pub more-init : goal.more-init

@@ -1,7 +1,7 @@
 use Rattle.std.proofs.Common.{◌≤◌, length}
 use Rattle.kernel_tree.specs.Plain.{words_of, accumulators_of}
 use Rattle.kernel_syntax.specs.Headers.{vars_at}
-use Rattle.kernel_syntax.proofs.Lists.{VarsFollow}
+use Rattle.kernel_syntax.proofs.ParamLists.{VarsFollow}
 use Rattle.kernel_syntax.proofs.header.vars.Given as goal
 
 abbrev pub invariant-more : goal.invariant-more

@@ -1,7 +1,7 @@
 use Rattle.std.proofs.Common.{◌<◌, ◌≤◌, sym, ap, ◌∙◌, arith}
 use Rattle.kernel_tree.specs.Plain.{word_of}
 use Rattle.kernel_syntax.specs.Nesting.{open_by, signs_by, deep_from}
-use Rattle.kernel_syntax.proofs.Deep.{words_at, stops_open, stops_signs, goes_deeper, nothing_deep}
+use Rattle.kernel_syntax.proofs.NestingWalk.{words_at, stops_open, stops_signs, goes_deeper, nothing_deep}
 use Rattle.kernel_syntax.proofs.nesting.too_deep.Goals as goal
 use Rattle.kernel_syntax.proofs.nesting.too_deep.Goals.{then-depth-gt-MOST_OPEN-via-then-depth-gt-MOST_OPEN, then-depth-gt-MOST_OPEN-via-else-depth-gt-MOST_OPEN+then-signs-gt-MOST_OPEN}
 

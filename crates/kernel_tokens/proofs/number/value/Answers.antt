@@ -1,6 +1,6 @@
 use Rattle.std.proofs.Common.{◌+◌, ◌*◌, ◌^◌, ◌≤◌, get_or, arith}
 use Rattle.number_text.specs.Numbers.{digit_value}
-use Rattle.kernel_tokens.proofs.Digits.{too_large, not_below}
+use Rattle.number_text.proofs.Digits.{too_large, not_below}
 use Rattle.kernel_tokens.proofs.number.value.Goals as goal
 
 pub returns-then-n-ge-LIMIT : goal.returns-then-n-ge-LIMIT

@@ -3,7 +3,7 @@ use Rattle.kernel_tree.specs.Plain.{program_of}
 use Rattle.kernel_tree.specs.Items.{size_of}
 use Rattle.kernel_tree.specs.Limits.{depth_of, most_items, most_depth}
 use Rattle.kernel_types.proofs.Bounds.{few_items, few_levels}
-use Rattle.kernel_types.proofs.Refused.{fails_first}
+use Rattle.kernel_types.proofs.FirstFault.{fails_first}
 use Rattle.kernel_types.proofs.checker.check.Goals as goal
 
 pub kernel_size-size-requires : goal.kernel_size-size-requires

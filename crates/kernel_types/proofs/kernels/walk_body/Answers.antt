@@ -1,7 +1,7 @@
 use Rattle.std.proofs.Common.{ap, ◌∙◌}
 use Rattle.kernel_tree.specs.Plain.{block_of}
 use Rattle.kernel_scope.specs.Scopes.{scope_of, closed}
-use Rattle.kernel_types.proofs.Growth.{closed-body}
+use Rattle.kernel_scope.proofs.Growth.{closed-body}
 use Rattle.kernel_types.proofs.kernels.walk_body.Goals as goal
 
 pub returns-clause-scope : goal.returns-clause-scope

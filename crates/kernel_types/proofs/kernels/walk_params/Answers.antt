@@ -1,7 +1,7 @@
 use Rattle.std.proofs.Common.{◌+◌, ap, ◌∙◌, arith, drop}
 use Rattle.kernel_tree.specs.Plain.{parameter_of, parameters_of}
 use Rattle.kernel_scope.specs.Scopes.{scope_of}
-use Rattle.kernel_types.proofs.Steps.{next_item, params_go_on}
+use Rattle.kernel_types.proofs.ListWalks.{next_item, params_go_on}
 use Rattle.kernel_types.proofs.kernels.walk_params.Goals as goal
 
 pub loop-param-preserved : goal.loop-param-preserved

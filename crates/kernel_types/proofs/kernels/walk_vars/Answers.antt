@@ -1,7 +1,7 @@
 use Rattle.std.proofs.Common.{◌+◌, ap, ◌∙◌, drop}
 use Rattle.kernel_tree.specs.Plain.{accumulator_of, accumulators_of}
 use Rattle.kernel_scope.specs.Scopes.{scope_of}
-use Rattle.kernel_types.proofs.Steps.{next_item, vars_go_on}
+use Rattle.kernel_types.proofs.ListWalks.{next_item, vars_go_on}
 use Rattle.kernel_types.proofs.kernels.walk_vars.Goals as goal
 
 pub loop-var-preserved : goal.loop-var-preserved

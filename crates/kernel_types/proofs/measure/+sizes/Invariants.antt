@@ -3,13 +3,13 @@ use Rattle.std.specs.Prelude.{max, option_map}
 use Rattle.kernel_tree.specs.Plain.{action_of, block_of}
 use Rattle.kernel_tree.specs.Items as items
 use Rattle.kernel_tree.specs.Limits.{action_depth, block_depth}
-use Rattle.kernel_scope.specs.Scopes.{text_of}
+use Rattle.kernel_scope.specs.Scopes.{lent_text}
 use Rattle.kernel_types.proofs.measure.+sizes.Given as goal
 
 abbrev pub invariant-block_size-loop-stmt : goal.invariant-block_size-loop-stmt
 invariant-block_size-loop-stmt l = record {
   depth : block_depth (block_of (drop l.stmt-index l.block)) ≤ block_depth (block_of l.block);
-  size : l.size + items.block_size (option_map text_of l.index) (block_of (drop l.stmt-index l.block)) ≡ items.block_size (option_map text_of l.index) (block_of l.block);
+  size : l.size + items.block_size (option_map lent_text l.index) (block_of (drop l.stmt-index l.block)) ≡ items.block_size (option_map lent_text l.index) (block_of l.block);
 }
 
 -- a block stands above its statements, and an `if` above its blocks

@@ -4,8 +4,8 @@ use Rattle.kernel_tree.specs.Items as items
 use Rattle.kernel_tree.specs.Limits.{block_depth}
 use Rattle.kernel_tree.specs.Typing as typing
 use Rattle.kernel_scope.specs.Scopes.{scope_of, kept}
-use Rattle.kernel_types.proofs.Growth.{kept-block}
-use Rattle.kernel_types.proofs.Steps.{next_statement, goes_on}
+use Rattle.kernel_scope.proofs.Growth.{kept-block}
+use Rattle.kernel_types.proofs.ListWalks.{next_statement, goes_on}
 use Rattle.kernel_types.proofs.statements.+statements.Goals as goal
 
 pub walk_block-loop-stmt-preserved : goal.walk_block-loop-stmt-preserved

@@ -7,7 +7,7 @@ use Rattle.kernel_tree.specs.Plain.{term_of}
 use Rattle.kernel_tree.specs.Typing as typing
 use Rattle.kernel_scope.specs.Scopes.{scope_of}
 use Rattle.kernel_types.specs.Parts.{role_of}
-use Rattle.kernel_types.proofs.Least.{part_and_item}
+use Rattle.kernel_types.proofs.LeastFault.{part_and_item}
 use Rattle.kernel_types.proofs.terms.+terms.Goals as goal
 
 pub walk_shift-returns-clause-found : goal.walk_shift-returns-clause-found

@@ -1,6 +1,6 @@
 use Rattle.std.proofs.Common.{◌≡◌, length, arith}
 use Rattle.guest_types.specs.Lanes.{binary_at}
-use Rattle.lane_blocks.proofs.Steps.{holds-none, holds-end}
+use Rattle.lane_blocks.proofs.BlockSteps.{holds-none, holds-end}
 use Rattle.lane_arith.proofs.Blocks.{binary-step}
 use Rattle.lane_arith.proofs.binary.each_block.Goals as goal
 

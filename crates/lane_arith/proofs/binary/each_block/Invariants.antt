@@ -1,5 +1,5 @@
 use Rattle.guest_types.specs.Lanes.{binary_at}
-use Rattle.lane_blocks.proofs.Steps.{Holds}
+use Rattle.lane_blocks.proofs.BlockSteps.{Holds}
 use Rattle.lane_arith.proofs.binary.each_block.Given as goal
 
 abbrev pub invariant-loop-i : goal.invariant-loop-i

@@ -1,7 +1,7 @@
 use Rattle.std.proofs.Common.{◌≤◌, ◌+◌, ◌/◌, ◌∙◌, ap, refl, arith}
 use Rattle.guest_types.specs.Lanes.{dup_at}
 use Rattle.lane_blocks.specs.Blocks.{cleared_above}
-use Rattle.lane_blocks.proofs.Steps.{begins-none, begins-more, begins-cleared}
+use Rattle.lane_blocks.proofs.BlockSteps.{begins-none, begins-more, begins-cleared}
 use Rattle.lane_arith.proofs.fill.dup_into.Goals as goal
 
 pub loop-i-init : goal.loop-i-init

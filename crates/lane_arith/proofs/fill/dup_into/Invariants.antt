@@ -1,5 +1,5 @@
 use Rattle.guest_types.specs.Lanes.{dup_at}
-use Rattle.lane_blocks.proofs.Steps.{Begins}
+use Rattle.lane_blocks.proofs.BlockSteps.{Begins}
 use Rattle.lane_arith.proofs.fill.dup_into.Given as goal
 
 abbrev pub invariant-loop-i : goal.invariant-loop-i

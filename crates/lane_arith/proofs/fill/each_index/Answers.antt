@@ -1,7 +1,7 @@
 use Rattle.std.proofs.Common.{◌≤◌, ◌+◌, ◌*◌, ◌/◌, ◌∙◌, ap, refl, arith}
 use Rattle.guest_types.specs.Lanes.{index_at}
 use Rattle.lane_blocks.specs.Blocks.{block_lanes, cleared_above}
-use Rattle.lane_blocks.proofs.Steps.{begins-none, begins-more, begins-cleared}
+use Rattle.lane_blocks.proofs.BlockSteps.{begins-none, begins-more, begins-cleared}
 use Rattle.lane_arith.proofs.Filled.{block-index}
 use Rattle.lane_arith.proofs.fill.each_index.Goals as goal
 

@@ -1,5 +1,5 @@
 use Rattle.guest_types.specs.Lanes.{merge_at}
-use Rattle.lane_blocks.proofs.Steps.{Holds}
+use Rattle.lane_blocks.proofs.BlockSteps.{Holds}
 use Rattle.lane_arith.proofs.merge.each_merged.Given as goal
 
 abbrev pub invariant-loop-i : goal.invariant-loop-i

@@ -1,6 +1,6 @@
 use Rattle.std.proofs.Common.{◌≡◌, length, arith}
 use Rattle.guest_types.specs.Lanes.{shift_at}
-use Rattle.lane_blocks.proofs.Steps.{holds-none, holds-end}
+use Rattle.lane_blocks.proofs.BlockSteps.{holds-none, holds-end}
 use Rattle.lane_arith.proofs.Blocks.{shift-step}
 use Rattle.lane_arith.proofs.shift.each_shifted.Goals as goal
 

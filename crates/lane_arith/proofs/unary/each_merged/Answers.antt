@@ -1,6 +1,6 @@
 use Rattle.std.proofs.Common.{◌≡◌, length, arith}
 use Rattle.guest_types.specs.Lanes.{merge_one_at}
-use Rattle.lane_blocks.proofs.Steps.{holds-none, holds-end}
+use Rattle.lane_blocks.proofs.BlockSteps.{holds-none, holds-end}
 use Rattle.lane_arith.proofs.Blocks.{merge_one-step}
 use Rattle.lane_arith.proofs.unary.each_merged.Goals as goal
 

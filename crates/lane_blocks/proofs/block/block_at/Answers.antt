@@ -1,6 +1,6 @@
 use Rattle.std.proofs.Common.{◌≡◌, ◌/◌, length, arith, rules}
 use Rattle.std.specs.Simd.{first_chunks}
-use Rattle.lane_blocks.proofs.Steps.{part-of}
+use Rattle.lane_blocks.proofs.BlockSteps.{part-of}
 use Rattle.lane_blocks.proofs.block.block_at.Goals as goal
 
 pub returns : goal.returns

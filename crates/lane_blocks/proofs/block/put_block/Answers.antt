@@ -1,5 +1,5 @@
 use Rattle.std.proofs.Common.{◌≡◌, ◌+◌, ◌-◌, ◌*◌, length, arith, rules}
-use Rattle.lane_blocks.proofs.Steps.{put-part}
+use Rattle.lane_blocks.proofs.BlockSteps.{put-part}
 use Rattle.lane_blocks.proofs.block.put_block.Goals as goal
 
 pub returns : goal.returns

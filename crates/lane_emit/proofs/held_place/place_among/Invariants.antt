@@ -1,7 +1,7 @@
 use Rattle.std.proofs.Common.{◌≡◌, drop}
 use Rattle.loop_form.specs.HeldView.{view, view_of}
 use Rattle.lane_emit.specs.LoopRegisters.{place_in}
-use Rattle.lane_emit.proofs.Moved.{moved}
+use Rattle.lane_emit.proofs.PlaceMoved.{moved}
 use Rattle.lane_emit.proofs.held_place.place_among.Given as goal
 
 abbrev pub invariant-loop-value : goal.invariant-loop-value

@@ -3,7 +3,7 @@ use Rattle.guest_types.specs.Elements.{first_true}
 use Rattle.guest_types.specs.LaneMemory.{is_clear}
 use Rattle.guest_types.specs.EarlyLoads.{suppressed_at, stop_at}
 use Rattle.lane_memory.specs.Readings.{on_from, faults_of, refused_of, lanes_of}
-use Rattle.lane_memory.proofs.Firsts.{first_true-some, first_true-absent}
+use Rattle.lane_memory.proofs.FirstTrue.{first_true-some, first_true-absent}
 use Rattle.lane_memory.proofs.EarlySteps.{Parts, limit-inside, kept-read, early-whole}
 use Rattle.lane_memory.proofs.early.load_early.Goals as goal
 

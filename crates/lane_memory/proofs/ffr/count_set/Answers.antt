@@ -2,7 +2,7 @@ use Rattle.std.proofs.Common.{◌≡◌, ◌-◌, ◌*◌, not, sym, ap, ◌∙�
 use Rattle.std.specs.Prelude.{unwrap_or}
 use Rattle.guest_types.specs.Elements.{first_true, bits_of}
 use Rattle.lane_blocks.specs.Blocks.{is_below}
-use Rattle.lane_memory.proofs.Kept.{none-clear}
+use Rattle.lane_memory.proofs.FfrCleared.{none-clear}
 use Rattle.guest_types.specs.LaneMemory.{is_clear}
 use Rattle.guest_types.proofs.LaneSteps.{first_true-on, first_true-off, first_true-end}
 use Rattle.lane_memory.proofs.ffr.count_set.Goals as goal

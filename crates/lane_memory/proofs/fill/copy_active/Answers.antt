@@ -1,6 +1,6 @@
 use Rattle.std.proofs.Common.{◌*◌, refl, ap, arith}
 use Rattle.lane_memory.specs.Readings.{refused_of}
-use Rattle.lane_memory.proofs.Firsts.{first_true-none}
+use Rattle.lane_memory.proofs.FirstTrue.{first_true-none}
 use Rattle.lane_memory.proofs.ReadLaws.{holds-part, holds-one}
 use Rattle.lane_memory.proofs.fill.copy_active.Goals as goal
 

@@ -1,6 +1,6 @@
 use Rattle.std.proofs.Common.{◌∙◌, arith}
 use Rattle.lane_memory.specs.Readings.{refused_of}
-use Rattle.lane_memory.proofs.Firsts.{first_true-none, first_true-absent}
+use Rattle.lane_memory.proofs.FirstTrue.{first_true-none, first_true-absent}
 use Rattle.lane_memory.proofs.ReadLaws.{filled}
 use Rattle.lane_memory.proofs.fill.fill.Goals as goal
 

@@ -1,6 +1,6 @@
 use Rattle.std.proofs.Common.{◌≡◌, ◌+◌, ◌*◌, refl, ap, ◌∙◌, subst, arith}
 use Rattle.lane_memory.specs.Readings.{refused_of, HoldsLanes, IsActiveRange}
-use Rattle.lane_memory.proofs.Firsts.{first_true-absent}
+use Rattle.lane_memory.proofs.FirstTrue.{first_true-absent}
 use Rattle.lane_memory.proofs.ReadLaws.{holds-none, holds-part, filled, part-free}
 use Rattle.lane_memory.proofs.fill.fill_full.Goals as goal
 

@@ -1,7 +1,7 @@
 use Rattle.std.proofs.Common.{◌≡◌, ◌+◌, ◌-◌, ◌*◌, refl, ap, ◌∙◌, subst, arith, inl, inr}
 use Rattle.std.proofs.lemmas.Bool.{cases_lt}
 use Rattle.lane_memory.specs.Readings.{refused_of, HoldsLanes}
-use Rattle.lane_memory.proofs.Firsts.{first_true-absent}
+use Rattle.lane_memory.proofs.FirstTrue.{first_true-absent}
 use Rattle.lane_memory.proofs.ReadLaws.{holds-none, holds-part, filled, part-free, refused-inactive}
 use Rattle.lane_memory.proofs.fill.fill_range.Goals as goal
 

@@ -1,5 +1,5 @@
 use Rattle.std.proofs.Common.{◌≡◌, refl, subst, arith}
-use Rattle.lane_blocks.proofs.Steps.{begins-none}
+use Rattle.lane_blocks.proofs.BlockSteps.{begins-none}
 use Rattle.lane_memory.specs.Readings.{masked_at}
 use Rattle.lane_memory.proofs.KeepLaws.{Built, kept-more, kept-whole}
 use Rattle.lane_memory.proofs.keep.keep_blocks.Goals as goal

@@ -1,6 +1,6 @@
 use Rattle.std.proofs.Common.{sym, arith}
 use Rattle.lane_memory.specs.Readings.{on_of}
-use Rattle.lane_memory.proofs.Firsts.{first_true-some}
+use Rattle.lane_memory.proofs.FirstTrue.{first_true-some}
 use Rattle.lane_memory.proofs.load.free_from.Goals as goal
 
 pub overflow_add-result : goal.overflow_add-result

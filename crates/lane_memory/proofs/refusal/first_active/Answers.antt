@@ -1,7 +1,7 @@
 use Rattle.std.proofs.Common.{sym, arith, inl, inr}
 use Rattle.std.proofs.lemmas.Bool.{cases_lt}
 use Rattle.lane_memory.specs.Readings.{on_of}
-use Rattle.lane_memory.proofs.Firsts.{first_true-at, first_true-absent}
+use Rattle.lane_memory.proofs.FirstTrue.{first_true-at, first_true-absent}
 use Rattle.lane_memory.proofs.refusal.first_active.Goals as goal
 
 pub returns-then-is_active : goal.returns-then-is_active

@@ -1,7 +1,7 @@
 use Rattle.std.proofs.Common.{◌≡◌, ◌-◌, ◌*◌, false, sym, ap, arith, inl, inr}
 use Rattle.std.proofs.lemmas.Bool.{cases_lt}
 use Rattle.lane_memory.specs.Readings.{refused_of}
-use Rattle.lane_memory.proofs.Firsts.{first_true-at, first_true-absent}
+use Rattle.lane_memory.proofs.FirstTrue.{first_true-at, first_true-absent}
 use Rattle.lane_memory.proofs.ReadLaws.{part-free, refused-inactive, below-next}
 use Rattle.lane_memory.proofs.refusal.first_refused.Goals as goal
 

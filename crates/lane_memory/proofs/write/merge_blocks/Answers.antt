@@ -1,5 +1,5 @@
 use Rattle.std.proofs.Common.{◌≡◌, refl, subst, arith}
-use Rattle.lane_blocks.proofs.Steps.{begins-none}
+use Rattle.lane_blocks.proofs.BlockSteps.{begins-none}
 use Rattle.guest_types.specs.Lanes.{select_at}
 use Rattle.lane_memory.proofs.KeepLaws.{Built, merged-more, built-chunk}
 use Rattle.lane_memory.proofs.write.merge_blocks.Goals as goal

@@ -9,7 +9,7 @@ use Rattle.lane_preds.proofs.compare.each_block.Goals as goal
 pub loop-i-init : goal.loop-i-init
 loop-i-init c =
     let h = element_bit (width_bytes c.args.width) (compare_at c.args.op c.args.width c.args.pg.now.bits c.args.left.now.bytes c.args.right.now.bytes) (lanes c.args.vl c.args.width) in
-    none-yet h c.none.result.bits (c.none.ensures 1 h)
+    none-yet h c.none.result.bits (c.none.ensures.elements 1 h)
 
 pub loop-i-preserved : goal.loop-i-preserved
 loop-i-preserved c =

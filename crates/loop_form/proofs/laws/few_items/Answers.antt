@@ -1,7 +1,7 @@
 use Rattle.loop_form.specs.View.{program}
 use Rattle.kernel_tree.specs.Plain.{program_of}
 use Rattle.kernel_tree.specs.Checked.{kernel_of}
-use Rattle.loop_form.proofs.Limits.{size-small, params-few, vars-few}
+use Rattle.loop_form.proofs.FewItems.{size-small, params-few, vars-few}
 use Rattle.loop_form.proofs.laws.few_items.Goals as goal
 
 pub returns : goal.returns

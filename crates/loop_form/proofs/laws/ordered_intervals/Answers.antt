@@ -2,7 +2,7 @@ use Rattle.std.proofs.Common.{arith}
 use Rattle.loop_form.specs.View.{program}
 use Rattle.kernel_tree.specs.Plain.{program_of}
 use Rattle.kernel_tree.specs.Checked.{kernel_of}
-use Rattle.loop_form.proofs.Limits.{size-small, params-few, vars-few}
+use Rattle.loop_form.proofs.FewItems.{size-small, params-few, vars-few}
 use Rattle.loop_form.proofs.IntervalLaws.{intervals-ascend, intervals-forward, intervals-few, need-overlap}
 use Rattle.loop_form.proofs.laws.ordered_intervals.Goals as goal
 

@@ -1,8 +1,9 @@
 use Rattle.std.proofs.Common.{◌≡◌, ◌+◌, ◌++◌, drop}
 use Rattle.std.specs.Prelude.{length, map}
 use Rattle.kernel_tree.specs.Plain.{parameters_of}
+use Rattle.kernel_tree.specs.Scopes.{param_local}
 use Rattle.loop_form.specs.LoopItems.{outer_env}
-use Rattle.loop_form.specs.LoopView.{locals, env_of, param_local}
+use Rattle.loop_form.specs.LoopView.{locals, env_of}
 use Rattle.loop_form.proofs.loop_names.add_params.Given as goal
 
 abbrev pub invariant-loop-param : goal.invariant-loop-param

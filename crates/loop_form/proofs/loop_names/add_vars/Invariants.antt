@@ -1,8 +1,9 @@
 use Rattle.std.proofs.Common.{◌≡◌, ◌+◌, ◌++◌, drop}
 use Rattle.std.specs.Prelude.{length, map}
 use Rattle.kernel_tree.specs.Plain.{accumulators_of}
+use Rattle.kernel_tree.specs.Scopes.{var_local}
 use Rattle.loop_form.specs.LoopItems.{outer_env}
-use Rattle.loop_form.specs.LoopView.{locals, env_of, var_local}
+use Rattle.loop_form.specs.LoopView.{locals, env_of}
 use Rattle.loop_form.proofs.loop_names.add_vars.Given as goal
 
 abbrev pub invariant-loop-var : goal.invariant-loop-var

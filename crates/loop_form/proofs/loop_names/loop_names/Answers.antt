@@ -5,9 +5,9 @@ use Rattle.kernel_tree.specs.declared.ast.Var.{Var}
 use Rattle.kernel_tree.specs.declared.fault.Binding.TheVariants as binding
 use Rattle.kernel_tree.specs.Plain.{parameters_of, accumulators_of, turns_of}
 use Rattle.kernel_tree.specs.Typing.{local}
-use Rattle.loop_form.specs.declared.loop_item.Source.TheVariants.{Turn}
+use Rattle.kernel_tree.specs.Scopes.{param_local, var_local}
+use Rattle.loop_form.specs.declared.loop_item.Source.TheVariants.{LoopIndex}
 use Rattle.loop_form.specs.LoopItems.{bound}
-use Rattle.loop_form.specs.LoopView.{param_local, var_local}
 use Rattle.loop_form.specs.View.{program}
 use Rattle.loop_form.proofs.LoopLists.{loop-head, adds-same}
 use Rattle.loop_form.proofs.loop_names.loop_names.Goals as goal
@@ -21,4 +21,4 @@ returns c =
     (adds-same _ _ _ _ _ (ap (λ (vs : List Var). map var_local (accumulators_of vs)) (c.deref-2.ensures.value ∙ ap (λ (t : Kernel). t.vars.items) c.kernel-tree.ensures)) refl c.in_ok-add_vars.ensures)
     c.in_ok-push.ensures.items
     (ap (λ (x : List ℕ). local x binding.Index) c.text.ensures)
-    (ap (λ (x : List ℕ). bound x Turn) c.text.ensures)
+    (ap (λ (x : List ℕ). bound x LoopIndex) c.text.ensures)

@@ -4,7 +4,7 @@ use Rattle.kernel_tree.specs.Plain.{action_of, block_of}
 use Rattle.kernel_tree.specs.Limits.{action_depth, block_depth}
 use Rattle.kernel_tree.specs.Items.{loop_index, block_size}
 use Rattle.loop_form.specs.Entries.{block_entries}
-use Rattle.loop_form.specs.View.{program, seen}
+use Rattle.loop_form.specs.View.{program, entries_view}
 use Rattle.loop_form.proofs.walk.+statements.Given as goal
 
 abbrev pub invariant-list_block-loop-stmt : goal.invariant-list_block-loop-stmt
@@ -12,7 +12,7 @@ invariant-list_block-loop-stmt l = record {
   depth : block_depth (block_of (drop l.stmt-index l.block)) ≤ block_depth (block_of l.block);
   numbers : l.next + block_size (loop_index (program l.fn.kernel)) (block_of (drop l.stmt-index l.block)) ≡ l.fn.from + block_size (loop_index (program l.fn.kernel)) (block_of l.block);
   following : length l.entries.items + l.fn.from ≡ length l.fn.entries.items + l.next;
-  items : seen l.entries.items ++ block_entries (program l.fn.kernel) l.next (block_of (drop l.stmt-index l.block)) ≡ seen l.fn.entries.items ++ block_entries (program l.fn.kernel) l.fn.from (block_of l.block);
+  items : entries_view l.entries.items ++ block_entries (program l.fn.kernel) l.next (block_of (drop l.stmt-index l.block)) ≡ entries_view l.fn.entries.items ++ block_entries (program l.fn.kernel) l.fn.from (block_of l.block);
 }
 
 -- a block stands above its statements, and an `if` above its blocks

@@ -1,4 +1,4 @@
-use Rattle.machine_model.proofs.Standing.{code_does, code_cuts, code_stays, code_front, code_back}
+use Rattle.machine_model.proofs.CodeInMemory.{code_does, code_cuts, code_stays, code_front, code_back}
 use Rattle.machine_model.proofs.laws.code_is_done.Goals as goal
 
 pub returns-clause-does : goal.returns-clause-does

@@ -1,4 +1,4 @@
-use Rattle.word_rows.proofs.Laws.{not_in_two_tables}
+use Rattle.word_rows.proofs.TableLaws.{not_in_two_tables}
 use Rattle.a64_code.specs.Table as a64
 use Rattle.sve_code.specs.Table as sve
 use Rattle.machine_model.proofs.ListedWords.{apart, joined}

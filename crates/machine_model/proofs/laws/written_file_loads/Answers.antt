@@ -1,6 +1,6 @@
-use Rattle.machine_model.proofs.Files.{load-file_of}
-use Rattle.machine_model.proofs.Fetch.{fetch_beside}
-use Rattle.machine_model.proofs.Standing.{code_stands}
+use Rattle.machine_model.proofs.WrittenLoads.{load-file_of}
+use Rattle.machine_model.proofs.WrittenFetch.{fetch_beside}
+use Rattle.machine_model.proofs.CodeInMemory.{code_stands}
 use Rattle.machine_model.proofs.laws.written_file_loads.Goals as goal
 
 pub returns-clause-loads : goal.returns-clause-loads

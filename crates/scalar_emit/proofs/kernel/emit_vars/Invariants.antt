@@ -1,10 +1,10 @@
 use Rattle.std.proofs.Common.{◌≡◌, ◌+◌, List, ◌++◌, drop}
 use Rattle.kernel_tree.specs.Plain.{accumulators_of}
 use Rattle.kernel_tree.specs.Items.{vars_size}
+use Rattle.kernel_tree.specs.Kinds.{VarsKinds}
 use Rattle.kernel_scope.specs.Scopes.{scope_of}
 use Rattle.label_fix.specs.DraftRun as plain
 use Rattle.scalar_emit.specs.Kernel as kernels
-use Rattle.scalar_emit.specs.Kinds.{VarsKinds}
 use Rattle.scalar_emit.specs.View.{homes_of}
 use Rattle.scalar_emit.proofs.kernel.emit_vars.Given as goal
 

@@ -3,12 +3,12 @@ use Rattle.std.specs.Prelude.{max}
 use Rattle.kernel_tree.specs.Plain.{action_of, block_of}
 use Rattle.kernel_tree.specs.Items.{block_size}
 use Rattle.kernel_tree.specs.Limits.{action_depth, block_depth}
-use Rattle.kernel_tree.specs.Typing as typing
+use Rattle.kernel_tree.specs.Kinds.{BlockKinds}
 use Rattle.kernel_scope.specs.Scopes.{scope_of}
-use Rattle.label_fix.specs.DraftRun as plain
-use Rattle.scalar_emit.specs.Kinds.{BlockKinds}
-use Rattle.scalar_emit.specs.Statements as statements
 use Rattle.scalar_emit.specs.View.{homes_of}
+use Rattle.kernel_tree.specs.Typing as typing
+use Rattle.label_fix.specs.DraftRun as plain
+use Rattle.scalar_emit.specs.Statements as statements
 use Rattle.scalar_emit.proofs.statements.+statements.Given as goal
 
 -- what is left of the statements leads from here to where they all lead

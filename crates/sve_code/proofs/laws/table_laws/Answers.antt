@@ -1,4 +1,4 @@
-use Rattle.word_rows.proofs.Laws.{reads-spells, spells-reads}
+use Rattle.word_rows.proofs.TableLaws.{reads-spells, spells-reads}
 use Rattle.sve_code.specs.Table.{row, sve_names}
 use Rattle.sve_code.proofs.Valid.{sve_table, valid}
 use Rattle.sve_code.proofs.laws.table_laws.Goals as goal

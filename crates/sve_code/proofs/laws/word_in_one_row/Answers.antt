@@ -1,4 +1,4 @@
-use Rattle.word_rows.proofs.Laws.{in_one_row}
+use Rattle.word_rows.proofs.TableLaws.{in_one_row}
 use Rattle.sve_code.specs.Table.{row, sve_names}
 use Rattle.sve_code.proofs.Valid.{sve_table}
 use Rattle.sve_code.proofs.laws.word_in_one_row.Goals as goal

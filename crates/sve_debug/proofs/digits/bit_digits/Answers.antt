@@ -1,6 +1,6 @@
 use Rattle.std.proofs.Common.{◌≡◌, ◌+◌, ◌++◌, ◌∷◌, [], length, ap, ◌∙◌, arith, length-append}
 use Rattle.sve_debug.specs.Replies.{digit, bit_text}
-use Rattle.dump_text.proofs.Ranges.{pieces_more}
+use Rattle.dump_text.proofs.RangePieces.{pieces_more}
 use Rattle.sve_debug.proofs.digits.bit_digits.Goals as goal
 
 pub loop-j-preserved : goal.loop-j-preserved

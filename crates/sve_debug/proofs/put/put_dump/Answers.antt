@@ -2,8 +2,8 @@ use Rattle.std.proofs.Common.{◌≡◌, ◌+◌, ◌-◌, ◌*◌, ◌/◌, ◌
 use Rattle.std.specs.List.{range_with_len}
 use Rattle.io_edges.specs.Sink.{PutsText}
 use Rattle.machine_model.specs.DumpText.{dump_line, line_of_dump, dump_text}
-use Rattle.dump_text.proofs.Ranges.{pieces_more}
-use Rattle.sve_debug.proofs.Pieces.{puts_next, puts_front, range_texts}
+use Rattle.dump_text.proofs.RangePieces.{pieces_more}
+use Rattle.sve_debug.proofs.PutTexts.{puts_next, puts_front, range_texts}
 use Rattle.sve_debug.proofs.put.put_dump.Goals as goal
 
 pub loop-k-preserved : goal.loop-k-preserved

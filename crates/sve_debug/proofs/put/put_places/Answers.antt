@@ -1,7 +1,7 @@
 use Rattle.std.proofs.Common.{◌≡◌, ◌+◌, ◌<◌, ◌++◌, length, take, drop, flat_map, ap, ◌∙◌, subst, arith}
 use Rattle.io_edges.specs.Sink.{PutsText}
 use Rattle.sve_debug.specs.Replies.{place_text}
-use Rattle.sve_debug.proofs.Pieces.{puts_next, puts_front, list_more, list_texts}
+use Rattle.sve_debug.proofs.PutTexts.{puts_next, puts_front, list_more, list_texts}
 use Rattle.sve_debug.proofs.put.put_places.Goals as goal
 
 pub loop-j-preserved : goal.loop-j-preserved

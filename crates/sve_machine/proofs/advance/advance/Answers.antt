@@ -1,6 +1,6 @@
 use Rattle.std.proofs.Common.{◌/◌, ◌%◌, refl}
 use Rattle.a64_machine.specs.Cores.{state_of, said}
-use Rattle.sve_machine.proofs.Words.{step_by, same_code, all_still}
+use Rattle.sve_machine.proofs.KeptWords.{step_by, same_code, all_still}
 use Rattle.sve_machine.proofs.advance.advance.Goals as goal
 
 pub returns-then-not-look_up-clause-answer : goal.returns-then-not-look_up-clause-answer

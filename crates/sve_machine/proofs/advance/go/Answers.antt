@@ -1,5 +1,5 @@
 use Rattle.machine_model.proofs.Runs.{after_more}
-use Rattle.sve_machine.proofs.Going.{said_on, said_else}
+use Rattle.sve_machine.proofs.RunSteps.{said_on, said_else}
 use Rattle.sve_machine.proofs.advance.go.Goals as goal
 
 pub loop-done-preserved-then-advance : goal.loop-done-preserved-then-advance

@@ -2,7 +2,7 @@ use Rattle.std.proofs.Common.{ap, ◌∙◌}
 use Rattle.guest_types.specs.Length.{width_bytes, lanes}
 use Rattle.guest_types.specs.Elements.{register}
 use Rattle.guest_types.specs.Lanes.{dup_at}
-use Rattle.sve_machine.proofs.Arms.{lanes_are, lanes_put}
+use Rattle.sve_machine.proofs.RegisterLanes.{lanes_are, lanes_put}
 use Rattle.sve_machine.proofs.LaneRows.{dup_row}
 use Rattle.sve_machine.proofs.lanes.duplicate.Goals as goal
 

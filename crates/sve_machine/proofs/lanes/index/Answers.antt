@@ -2,7 +2,7 @@ use Rattle.std.proofs.Common.{ap, ◌∙◌}
 use Rattle.guest_types.specs.Length.{width_bytes, lanes}
 use Rattle.guest_types.specs.Elements.{register}
 use Rattle.guest_types.specs.Lanes.{index_at}
-use Rattle.sve_machine.proofs.Arms.{lanes_are, lanes_put}
+use Rattle.sve_machine.proofs.RegisterLanes.{lanes_are, lanes_put}
 use Rattle.std.specs.Int.{w32, w64, cast_unsigned}
 use Rattle.std.proofs.lemmas.Int.{to_z-of_z}
 use Rattle.sve_machine.proofs.LaneRows.{index_row_is}

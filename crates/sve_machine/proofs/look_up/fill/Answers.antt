@@ -3,7 +3,7 @@ use Rattle.std.specs.Option.{option_map}
 use Rattle.std.proofs.lemmas.List.Elements.{All-set}
 use Rattle.sve_machine.specs.Keeping.{Keeps}
 use Rattle.sve_machine.specs.Listing.{view_of}
-use Rattle.sve_machine.proofs.Words.{filled}
+use Rattle.sve_machine.proofs.KeptWords.{filled}
 use Rattle.sve_machine.proofs.look_up.fill.Goals as goal
 
 pub returns-in-Some-decode-clause-kept : goal.returns-in-Some-decode-clause-kept

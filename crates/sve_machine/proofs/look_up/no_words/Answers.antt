@@ -1,4 +1,4 @@
-use Rattle.sve_machine.proofs.Words.{none_kept}
+use Rattle.sve_machine.proofs.KeptWords.{none_kept}
 use Rattle.sve_machine.proofs.look_up.no_words.Goals as goal
 
 pub returns : goal.returns

@@ -4,7 +4,7 @@ use Rattle.sve_code.specs.Numbers.{dtype_number}
 use Rattle.machine_model.specs.Answers.{IsAnswer}
 use Rattle.lane_memory.specs.Loads.{load_of}
 use Rattle.a64_machine.specs.Cores.{state_of, said}
-use Rattle.sve_machine.specs.Rests.{p_of, put_load}
+use Rattle.sve_machine.specs.VectorStates.{p_of, put_load}
 use Rattle.sve_machine.specs.Rows.{after_load}
 use Rattle.sve_machine.proofs.Loads.{first_row}
 use Rattle.sve_machine.proofs.memory.first_fault_load.Goals as goal

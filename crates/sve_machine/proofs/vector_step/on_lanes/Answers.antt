@@ -1,4 +1,4 @@
-use Rattle.sve_machine.proofs.Forms.{as_word}
+use Rattle.sve_machine.proofs.RowAnswers.{as_word}
 use Rattle.sve_machine.proofs.vector_step.on_lanes.Goals as goal
 
 pub returns-in-DupScalar : goal.returns-in-DupScalar

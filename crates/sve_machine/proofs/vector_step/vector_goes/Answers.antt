@@ -1,4 +1,4 @@
-use Rattle.sve_machine.proofs.Forms.{answer_as}
+use Rattle.sve_machine.proofs.RowAnswers.{answer_as}
 use Rattle.sve_machine.proofs.vector_step.vector_goes.Goals as goal
 
 pub returns-in-ContiguousLoad : goal.returns-in-ContiguousLoad

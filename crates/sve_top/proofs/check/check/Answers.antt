@@ -2,11 +2,11 @@ use Rattle.std.proofs.Common.{◌≡◌, ◌++◌, Some, Ok, refl, ap, sym, ◌�
 use Rattle.std.specs.Prelude.{IfSome}
 use Rattle.refusals.specs.declared.refusal.Done.TheVariants as done
 use Rattle.refusals.specs.declared.refusal.Refusal.TheVariants.{Output}
-use Rattle.sve_top.specs.Answer.{text_of}
+use Rattle.sve_top.specs.Answer.{expected_text}
 use Rattle.sve_top.specs.Commands.{AfterRead, CheckExpects, file_of, bytes_in, ended}
 use Rattle.io_edges.specs.Sink.{GainsPart}
 use Rattle.sve_top.specs.Outputs.{Prints}
-use Rattle.sve_top.proofs.Puts.{prints_part, prints_all}
+use Rattle.sve_top.proofs.Prints.{prints_part, prints_all}
 use Rattle.sve_top.proofs.Expectations.{of_read, text_refused, with_output, is_err}
 use Rattle.sve_top.proofs.check.check.Goals as goal
 
@@ -21,7 +21,7 @@ pub returns-in_err-put_all-clause-printed : goal.returns-in_err-put_all-clause-p
 returns-in_err-put_all-clause-printed g c =
     of_read (g.F.Files.faults c.args.files.now) (g.F.Files.faults c.read_file.new.files)
     (g.F.Files.held c.args.files.now) c.args.from.now c.deref.result.now (bytes_in c.read_file.result) CheckExpects (ended c.in_ok-report.report.items)
-    (λ work. Prints (g.S.Sink.taken c.args.out.now) (g.S.Sink.taken c.put_all.new.sink) (text_of work) c.from_residual-in_err-put_all.result)
+    (λ work. Prints (g.S.Sink.taken c.args.out.now) (g.S.Sink.taken c.put_all.new.sink) (expected_text work) c.from_residual-in_err-put_all.result)
     (ap bytes_in c.in_ok-text.was ∙ ap (λ b. Ok b) (sym c.deref.ensures.value)) c.read_file.ensures.answer c.in_ok-report.ensures.wanted
     (subst (λ r. Prints (g.S.Sink.taken c.args.out.now) (g.S.Sink.taken c.put_all.new.sink) c.in_ok-report.report.items r) (sym (is_err Output c.from_residual-in_err-put_all.result c.from_residual-in_err-put_all.ensures.1))
     (prints_part (g.S.Sink.taken c.args.out.now) (g.S.Sink.taken c.put_all.new.sink) c.in_ok-report.report.items Output

@@ -6,7 +6,7 @@ use Rattle.command_line.specs.View.{task_view}
 use Rattle.sve_debug.specs.Replies.{started}
 use Rattle.sve_debug.specs.Sessions.{session_text}
 use Rattle.refusals.specs.declared.refusal.Done.TheVariants as done
-use Rattle.sve_top.specs.Answer.{answer_of, text_of, IsFileAnswer, IsAnswer}
+use Rattle.sve_top.specs.Answer.{answer_of, expected_text, IsFileAnswer, IsAnswer}
 use Rattle.refusals.specs.Statuses.{of_session}
 use Rattle.sve_top.specs.Commands.{file_of, map_of, bytes_in, debug_program, IsHeld}
 use Rattle.sve_top.specs.Outputs.{Prints}
@@ -102,14 +102,14 @@ returns-in_err-session-clause-printed g c =
     debugged_is (g.F.Files.faults c.args.files.now) (g.F.Files.faults c.read_file.new.files) (g.F.Files.faults c.read_map_file.new.files)
     (g.I.Source.left c.args.input.now) (g.F.Files.held c.args.files.now) c.args.vl (task_view c.args.task.now) c.deref.result.now c.deref-2.result.now
     (bytes_in c.read_file.result) (bytes_in c.read_map_file.result)
-    (λ work. Prints (g.S.Sink.taken c.args.out.now) (g.S.Sink.taken c.session.new.out) (text_of work) c.from_residual-in_err-session.result)
+    (λ work. Prints (g.S.Sink.taken c.args.out.now) (g.S.Sink.taken c.session.new.out) (expected_text work) c.from_residual-in_err-session.result)
     (ap bytes_in c.in_ok-bytes.was ∙ ap (λ b. Ok b) (sym c.deref.ensures.value))
     (subst (λ n. IfSome (g.F.Files.held c.args.files.now) (λ h. IsFileAnswer (g.F.Files.faults c.args.files.now) (g.F.Files.faults c.read_file.new.files) (file_of h n) (bytes_in c.read_file.result))) c.as_str.ensures.value c.read_file.ensures.answer)
     (ap bytes_in c.in_ok-map.was ∙ ap (λ b. Ok b) (sym c.deref-2.ensures.value))
     (subst (λ o. IfSome o (λ h. IsFileAnswer (g.F.Files.faults c.read_file.new.files) (g.F.Files.faults c.read_map_file.new.files) (map_of h (option_map string_bytes c.args.task.now.map)) (bytes_in c.read_map_file.result))) c.read_file.ensures.held c.read_map_file.ensures.answer)
     (cut_session (g.I.Source.left c.args.input.now) (g.S.Sink.taken c.args.out.now) (g.S.Sink.taken c.session.new.out) (debug_program c.args.vl (task_view c.args.task.now) c.deref.result.now c.deref-2.result.now) (session_text (started begins.begin))
     c.session.result (of_session c.in_err-session.field-0.0) c.from_residual-in_err-session.result c.from_residual-in_err-session.ensures.1
-    (λ input. ap text_of (begins.wanted input)) (c.session.ensures.told begins.begin (started begins.begin) begins.stands))
+    (λ input. ap expected_text (begins.wanted input)) (c.session.ensures.told begins.begin (started begins.begin) begins.stands))
 
 pub returns-clause-answer : goal.returns-clause-answer
 returns-clause-answer g c =
@@ -131,10 +131,10 @@ returns-clause-printed g c =
     debugged_is (g.F.Files.faults c.args.files.now) (g.F.Files.faults c.read_file.new.files) (g.F.Files.faults c.read_map_file.new.files)
     (g.I.Source.left c.args.input.now) (g.F.Files.held c.args.files.now) c.args.vl (task_view c.args.task.now) c.deref.result.now c.deref-2.result.now
     (bytes_in c.read_file.result) (bytes_in c.read_map_file.result)
-    (λ work. Prints (g.S.Sink.taken c.args.out.now) (g.S.Sink.taken c.session.new.out) (text_of work) (Ok done.Ended))
+    (λ work. Prints (g.S.Sink.taken c.args.out.now) (g.S.Sink.taken c.session.new.out) (expected_text work) (Ok done.Ended))
     (ap bytes_in c.in_ok-bytes.was ∙ ap (λ b. Ok b) (sym c.deref.ensures.value))
     (subst (λ n. IfSome (g.F.Files.held c.args.files.now) (λ h. IsFileAnswer (g.F.Files.faults c.args.files.now) (g.F.Files.faults c.read_file.new.files) (file_of h n) (bytes_in c.read_file.result))) c.as_str.ensures.value c.read_file.ensures.answer)
     (ap bytes_in c.in_ok-map.was ∙ ap (λ b. Ok b) (sym c.deref-2.ensures.value))
     (subst (λ o. IfSome o (λ h. IsFileAnswer (g.F.Files.faults c.read_file.new.files) (g.F.Files.faults c.read_map_file.new.files) (map_of h (option_map string_bytes c.args.task.now.map)) (bytes_in c.read_map_file.result))) c.read_file.ensures.held c.read_map_file.ensures.answer)
     (told_session (g.I.Source.left c.args.input.now) (g.S.Sink.taken c.args.out.now) (g.S.Sink.taken c.session.new.out) (debug_program c.args.vl (task_view c.args.task.now) c.deref.result.now c.deref-2.result.now) (session_text (started begins.begin))
-    c.session.result c.in_ok-session.was (λ input. ap text_of (begins.wanted input)) (c.session.ensures.told begins.begin (started begins.begin) begins.stands))
+    c.session.result c.in_ok-session.was (λ input. ap expected_text (begins.wanted input)) (c.session.ensures.told begins.begin (started begins.begin) begins.stands))

@@ -4,11 +4,11 @@ use Rattle.io_edges.specs.Files.{Rose}
 use Rattle.command_line.specs.Line.{EvalLine}
 use Rattle.command_line.specs.View.{task_view}
 use Rattle.refusals.specs.declared.refusal.Refusal.TheVariants.{Output}
-use Rattle.sve_top.specs.Answer.{answer_of, text_of, IsAnswer, IsFileAnswer}
+use Rattle.sve_top.specs.Answer.{answer_of, expected_text, IsAnswer, IsFileAnswer}
 use Rattle.sve_top.specs.Commands.{Expects, EvalExpects, file_of, map_of, bytes_in, run_report}
 use Rattle.io_edges.specs.Sink.{GainsPart}
 use Rattle.sve_top.specs.Outputs.{Prints}
-use Rattle.sve_top.proofs.Puts.{prints_nothing, prints_part, prints_all}
+use Rattle.sve_top.proofs.Prints.{prints_nothing, prints_part, prints_all}
 use Rattle.sve_top.proofs.Expectations.{of_both, refused_both, of_every, with_output, is_err}
 use Rattle.sve_top.proofs.eval.eval.Goals as goal
 
@@ -27,15 +27,15 @@ returns-in_err-run_report-clause-answer g c =
 pub returns-in_err-run_report-clause-printed : goal.returns-in_err-run_report-clause-printed
 returns-in_err-run_report-clause-printed g c =
     of_every (g.F.Files.held c.args.files.now) (λ h. Expects h [] (Some (EvalLine (task_view c.args.task.now))))
-    (λ work. Prints (g.S.Sink.taken c.args.out.now) (g.S.Sink.taken c.args.out.now) (text_of work) c.from_residual-in_err-run_report.result)
-    (λ work. subst (Prints (g.S.Sink.taken c.args.out.now) (g.S.Sink.taken c.args.out.now) (text_of work)) (sym (is_err c.in_err-run_report.field-0.0 c.from_residual-in_err-run_report.result c.from_residual-in_err-run_report.ensures.1))
-    (prints_nothing (g.S.Sink.taken c.args.out.now) (text_of work) c.in_err-run_report.field-0.0))
+    (λ work. Prints (g.S.Sink.taken c.args.out.now) (g.S.Sink.taken c.args.out.now) (expected_text work) c.from_residual-in_err-run_report.result)
+    (λ work. subst (Prints (g.S.Sink.taken c.args.out.now) (g.S.Sink.taken c.args.out.now) (expected_text work)) (sym (is_err c.in_err-run_report.field-0.0 c.from_residual-in_err-run_report.result c.from_residual-in_err-run_report.ensures.1))
+    (prints_nothing (g.S.Sink.taken c.args.out.now) (expected_text work) c.in_err-run_report.field-0.0))
 
 pub returns-in_err-put_all-clause-printed : goal.returns-in_err-put_all-clause-printed
 returns-in_err-put_all-clause-printed g c =
     of_both (g.F.Files.faults c.args.files.now) (g.F.Files.faults c.read_file.new.files) (g.F.Files.faults c.read_file.new.files) (g.F.Files.faults c.read_map_file.new.files)
     (g.F.Files.held c.args.files.now) (string_bytes c.args.task.now.file) c.deref.result.now c.deref-2.result.now (option_map string_bytes c.args.task.now.map) (bytes_in c.read_file.result) (bytes_in c.read_map_file.result) (EvalExpects (task_view c.args.task.now)) (run_report c.in_ok-run_report.run_report)
-    (λ work. Prints (g.S.Sink.taken c.args.out.now) (g.S.Sink.taken c.put_all.new.sink) (text_of work) c.from_residual-in_err-put_all.result)
+    (λ work. Prints (g.S.Sink.taken c.args.out.now) (g.S.Sink.taken c.put_all.new.sink) (expected_text work) c.from_residual-in_err-put_all.result)
     (ap bytes_in c.in_ok-text.was ∙ ap (λ b. Ok b) (sym c.deref.ensures.value))
     (subst (λ n. IfSome (g.F.Files.held c.args.files.now) (λ h. IsFileAnswer (g.F.Files.faults c.args.files.now) (g.F.Files.faults c.read_file.new.files) (file_of h n) (bytes_in c.read_file.result))) c.as_str.ensures.value c.read_file.ensures.answer)
     (ap bytes_in c.in_ok-map.was ∙ ap (λ b. Ok b) (sym c.deref-2.ensures.value))
@@ -60,7 +60,7 @@ pub returns-clause-printed : goal.returns-clause-printed
 returns-clause-printed g c =
     of_both (g.F.Files.faults c.args.files.now) (g.F.Files.faults c.read_file.new.files) (g.F.Files.faults c.read_file.new.files) (g.F.Files.faults c.read_map_file.new.files)
     (g.F.Files.held c.args.files.now) (string_bytes c.args.task.now.file) c.deref.result.now c.deref-2.result.now (option_map string_bytes c.args.task.now.map) (bytes_in c.read_file.result) (bytes_in c.read_map_file.result) (EvalExpects (task_view c.args.task.now)) (run_report c.in_ok-run_report.run_report)
-    (λ work. Prints (g.S.Sink.taken c.args.out.now) (g.S.Sink.taken c.put_all.new.sink) (text_of work) (Ok c.in_ok-run_report.run_report.done))
+    (λ work. Prints (g.S.Sink.taken c.args.out.now) (g.S.Sink.taken c.put_all.new.sink) (expected_text work) (Ok c.in_ok-run_report.run_report.done))
     (ap bytes_in c.in_ok-text.was ∙ ap (λ b. Ok b) (sym c.deref.ensures.value))
     (subst (λ n. IfSome (g.F.Files.held c.args.files.now) (λ h. IsFileAnswer (g.F.Files.faults c.args.files.now) (g.F.Files.faults c.read_file.new.files) (file_of h n) (bytes_in c.read_file.result))) c.as_str.ensures.value c.read_file.ensures.answer)
     (ap bytes_in c.in_ok-map.was ∙ ap (λ b. Ok b) (sym c.deref-2.ensures.value))

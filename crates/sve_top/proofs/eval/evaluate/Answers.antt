@@ -8,7 +8,7 @@ use Rattle.kernel_tree.specs.Plain.{program_of}
 use Rattle.kernel_tree.specs.Checked.{kernel_of}
 use Rattle.command_line.specs.View.{task_view, extent_view}
 use Rattle.sve_top.specs.Commands.{dump_of}
-use Rattle.sve_top.proofs.Evaluations.{eval_refused, eval_played}
+use Rattle.sve_top.proofs.Evaluations.{eval_refused, eval_reported}
 use Rattle.sve_top.proofs.eval.evaluate.Goals as goal
 
 pub returns-in_err-map-clause-refusal : goal.returns-in_err-map-clause-refusal
@@ -20,7 +20,7 @@ pub returns-clause-work : goal.returns-clause-work
 returns-clause-work c =
     let dump = option_map extent_view c.args.task.now.dump in
     let k = program_of (kernel_of c.args.kernel.now) in
-    eval_played (task_view c.args.task.now) c.args.map.now k c.empty-image.result.pages.items c.in_ok-map.map.pages.items
+    eval_reported (task_view c.args.task.now) c.args.map.now k c.empty-image.result.pages.items c.in_ok-map.map.pages.items
     c.in_ok-pages.pages c.scalar_run.new.memory c.in_ok-outcome.outcome c.scalar_done.result c.push_dump.new.text.items
     c.empty-image.ensures.pages c.in_ok-map.ensures.map
     (c.in_ok-pages.ensures ∙ ap (λ m. merged m c.in_ok-map.map.pages.items) c.empty-image.ensures.pages ∙ merged-nil_left c.in_ok-map.map.pages.items)

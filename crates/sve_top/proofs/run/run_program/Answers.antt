@@ -3,7 +3,7 @@ use Rattle.std.specs.Prelude.{option_map}
 use Rattle.command_line.specs.View.{task_view, extent_view}
 use Rattle.outcome_text.specs.View.{text_of}
 use Rattle.sve_top.specs.Commands.{dump_of}
-use Rattle.sve_top.proofs.Programs.{run_not_begun, run_played}
+use Rattle.sve_top.proofs.Programs.{run_not_begun, run_reported}
 use Rattle.sve_top.proofs.run.run_program.Goals as goal
 
 pub returns-in_err-machine-clause-refusal : goal.returns-in_err-machine-clause-refusal
@@ -16,7 +16,7 @@ returns-clause-work c =
     let outcome = c.run-outcome.result in
     let after = c.run-outcome.new.self in
     let dump = option_map extent_view c.args.task.now.dump in
-    run_played c.args.vl (task_view c.args.task.now) c.args.bytes.now c.args.map.now ready.image ready.pages
+    run_reported c.args.vl (task_view c.args.task.now) c.args.bytes.now c.args.map.now ready.image ready.pages
     c.in_ok-machine.machine.state c.in_ok-machine.machine.steps outcome after.state.memory after.state.pc after.steps
     c.done_of.result c.push_dump.new.text.items
     ready.loads ready.maps ready.state ready.steps

@@ -3,7 +3,7 @@ use Rattle.io_edges.specs.Files.{Rose}
 use Rattle.std.specs.Prelude.{IfSome, OnOk, string_bytes}
 use Rattle.command_line.specs.Line.{CompileLine, CheckLine, EvalLine, ListLine, RunLine, DebugLine, SweepLine}
 use Rattle.command_line.specs.View.{command_view, task_view}
-use Rattle.sve_top.specs.Answer.{answer_of, text_of, status_of, IsAnswer, Unwritten}
+use Rattle.sve_top.specs.Answer.{answer_of, expected_text, status_of, IsAnswer, Unwritten}
 use Rattle.sve_top.specs.Commands.{Compiled, Expects, StreamRose, expected_of_list, expected_of_run, expected_of_debug}
 use Rattle.sve_top.specs.Outputs.{Prints}
 use Rattle.sve_top.specs.Swept.{Swept}
@@ -20,7 +20,7 @@ returns-in-Compile-clause-answer g c =
 pub returns-in-Compile-clause-printed : goal.returns-in-Compile-clause-printed
 returns-in-Compile-clause-printed g c =
     by_line (g.F.Files.held c.args.files.now) (g.I.Source.left c.args.input.now) (Some (command_view c.args.command.now)) (Some (CompileLine (string_bytes c.in-Compile.from) (string_bytes c.in-Compile.to)))
-    (λ line work. Prints (g.S.Sink.taken c.args.out.now) (g.S.Sink.taken c.args.out.now) (text_of work) c.compile.result)
+    (λ line work. Prints (g.S.Sink.taken c.args.out.now) (g.S.Sink.taken c.args.out.now) (expected_text work) c.compile.result)
     (ap (λ l. Some l) (ap command_view c.in-Compile.is))
     (λ input taken. prints_silent (g.F.Files.held c.args.files.now) (string_bytes c.in-Compile.from) (string_bytes c.in-Compile.to) (g.S.Sink.taken c.args.out.now) c.compile.result)
 
@@ -41,7 +41,7 @@ returns-in-Check-clause-answer g c =
 pub returns-in-Check-clause-printed : goal.returns-in-Check-clause-printed
 returns-in-Check-clause-printed g c =
     by_line (g.F.Files.held c.args.files.now) (g.I.Source.left c.args.input.now) (Some (command_view c.args.command.now)) (Some (CheckLine c.as_str-in-Check.result.now))
-    (λ line work. Prints (g.S.Sink.taken c.args.out.now) (g.S.Sink.taken c.check.new.out) (text_of work) c.check.result)
+    (λ line work. Prints (g.S.Sink.taken c.args.out.now) (g.S.Sink.taken c.check.new.out) (expected_text work) c.check.result)
     (ap (λ l. Some l) (ap command_view c.in-Check.is ∙ ap CheckLine (sym c.as_str-in-Check.ensures.value)))
     (λ input taken. c.check.ensures.printed)
 
@@ -59,7 +59,7 @@ returns-in-Eval-clause-answer g c =
 pub returns-in-Eval-clause-printed : goal.returns-in-Eval-clause-printed
 returns-in-Eval-clause-printed g c =
     by_line (g.F.Files.held c.args.files.now) (g.I.Source.left c.args.input.now) (Some (command_view c.args.command.now)) (Some (EvalLine (task_view c.in-Eval.task)))
-    (λ line work. Prints (g.S.Sink.taken c.args.out.now) (g.S.Sink.taken c.eval.new.out) (text_of work) c.eval.result)
+    (λ line work. Prints (g.S.Sink.taken c.args.out.now) (g.S.Sink.taken c.eval.new.out) (expected_text work) c.eval.result)
     (ap (λ l. Some l) (ap command_view c.in-Eval.is))
     (λ input taken. c.eval.ensures.printed)
 
@@ -77,7 +77,7 @@ returns-in-List-clause-answer g c =
 pub returns-in-List-clause-printed : goal.returns-in-List-clause-printed
 returns-in-List-clause-printed g c =
     by_line (g.F.Files.held c.args.files.now) (g.I.Source.left c.args.input.now) (Some (command_view c.args.command.now)) (Some (ListLine c.as_str-in-List.result.now))
-    (λ line work. Prints (g.S.Sink.taken c.args.out.now) (g.S.Sink.taken c.list.new.out) (text_of work) c.list.result)
+    (λ line work. Prints (g.S.Sink.taken c.args.out.now) (g.S.Sink.taken c.list.new.out) (expected_text work) c.list.result)
     (ap (λ l. Some l) (ap command_view c.in-List.is ∙ ap ListLine (sym c.as_str-in-List.ensures.value)))
     (λ input taken. of_one (g.F.Files.held c.args.files.now) (λ h. expected_of_list h c.as_str-in-List.result.now) _ c.list.ensures.printed)
 
@@ -95,7 +95,7 @@ returns-in-Run-clause-answer g c =
 pub returns-in-Run-clause-printed : goal.returns-in-Run-clause-printed
 returns-in-Run-clause-printed g c =
     by_line (g.F.Files.held c.args.files.now) (g.I.Source.left c.args.input.now) (Some (command_view c.args.command.now)) (Some (RunLine c.in-Run.vl (task_view c.in-Run.task)))
-    (λ line work. Prints (g.S.Sink.taken c.args.out.now) (g.S.Sink.taken c.run.new.out) (text_of work) c.run.result)
+    (λ line work. Prints (g.S.Sink.taken c.args.out.now) (g.S.Sink.taken c.run.new.out) (expected_text work) c.run.result)
     (ap (λ l. Some l) (ap command_view c.in-Run.is))
     (λ input taken. of_one (g.F.Files.held c.args.files.now) (λ h. expected_of_run h c.in-Run.vl (task_view c.in-Run.task)) _ c.run.ensures.printed)
 
@@ -116,11 +116,11 @@ returns-in-Debug-clause-answer g c =
 pub returns-in-Debug-clause-printed : goal.returns-in-Debug-clause-printed
 returns-in-Debug-clause-printed g c =
     by_line (g.F.Files.held c.args.files.now) (g.I.Source.left c.args.input.now) (Some (command_view c.args.command.now)) (Some (DebugLine c.in-Debug.vl (task_view c.in-Debug.task)))
-    (λ line work. Prints (g.S.Sink.taken c.args.out.now) (g.S.Sink.taken c.debug.new.out) (text_of work) c.debug.result)
+    (λ line work. Prints (g.S.Sink.taken c.args.out.now) (g.S.Sink.taken c.debug.new.out) (expected_text work) c.debug.result)
     (ap (λ l. Some l) (ap command_view c.in-Debug.is))
     (λ input taken. of_one (g.F.Files.held c.args.files.now) (λ h. expected_of_debug h input c.in-Debug.vl (task_view c.in-Debug.task)) _
     (of_told (g.I.Source.left c.args.input.now) input
-    (λ bytes. IfSome (g.F.Files.held c.args.files.now) (λ h. Prints (g.S.Sink.taken c.args.out.now) (g.S.Sink.taken c.debug.new.out) (text_of (expected_of_debug h bytes c.in-Debug.vl (task_view c.in-Debug.task))) c.debug.result))
+    (λ bytes. IfSome (g.F.Files.held c.args.files.now) (λ h. Prints (g.S.Sink.taken c.args.out.now) (g.S.Sink.taken c.debug.new.out) (expected_text (expected_of_debug h bytes c.in-Debug.vl (task_view c.in-Debug.task))) c.debug.result))
     taken c.debug.ensures.printed))
 
 pub returns-in-Debug-clause-unwritten : goal.returns-in-Debug-clause-unwritten

@@ -2,7 +2,7 @@ use Rattle.std.proofs.Common.{Some, ap, sym, ◌∙◌, subst}
 use Rattle.std.specs.Prelude.{option_map}
 use Rattle.command_line.specs.Line.{line_of}
 use Rattle.command_line.specs.View.{texts, command_view}
-use Rattle.sve_top.specs.Answer.{answer_of, text_of, status_of, IsAnswer, Unwritten}
+use Rattle.sve_top.specs.Answer.{answer_of, expected_text, status_of, IsAnswer, Unwritten}
 use Rattle.sve_top.specs.Commands.{WhereTold, StreamRose}
 use Rattle.sve_top.specs.Outputs.{Prints}
 use Rattle.sve_top.specs.Swept.{Swept}
@@ -20,10 +20,10 @@ returns-in_err-done-clause-answer g c =
 
 pub returns-in_err-done-clause-printed : goal.returns-in_err-done-clause-printed
 returns-in_err-done-clause-printed g c =
-    subst (λ r. WhereTold (g.F.Files.held c.args.files.now) (g.I.Source.left c.args.input.now) (line_of (texts c.args.words.now)) (λ work. Prints (g.S.Sink.taken c.args.out.now) (g.S.Sink.taken c.do_command.new.out) (text_of work) r))
+    subst (λ r. WhereTold (g.F.Files.held c.args.files.now) (g.I.Source.left c.args.input.now) (line_of (texts c.args.words.now)) (λ work. Prints (g.S.Sink.taken c.args.out.now) (g.S.Sink.taken c.do_command.new.out) (expected_text work) r))
     (c.in_err-done.was ∙ sym (is_err c.in_err-done.field-0.0 c.from_residual-in_err-done.result c.from_residual-in_err-done.ensures.1))
     (by_line (g.F.Files.held c.args.files.now) (g.I.Source.left c.args.input.now) (line_of (texts c.args.words.now)) (Some (command_view c.in-Some.command))
-    (λ line work. Prints (g.S.Sink.taken c.args.out.now) (g.S.Sink.taken c.do_command.new.out) (text_of work) c.do_command.result)
+    (λ line work. Prints (g.S.Sink.taken c.args.out.now) (g.S.Sink.taken c.do_command.new.out) (expected_text work) c.do_command.result)
     (sym c.in_ok-command.ensures ∙ ap (option_map command_view) c.in-Some.is) c.do_command.ensures.printed)
 
 pub returns-in_err-done-clause-unwritten : goal.returns-in_err-done-clause-unwritten
@@ -42,10 +42,10 @@ returns-clause-answer g c =
 
 pub returns-clause-printed : goal.returns-clause-printed
 returns-clause-printed g c =
-    subst (λ r. WhereTold (g.F.Files.held c.args.files.now) (g.I.Source.left c.args.input.now) (line_of (texts c.args.words.now)) (λ work. Prints (g.S.Sink.taken c.args.out.now) (g.S.Sink.taken c.do_command.new.out) (text_of work) r))
+    subst (λ r. WhereTold (g.F.Files.held c.args.files.now) (g.I.Source.left c.args.input.now) (line_of (texts c.args.words.now)) (λ work. Prints (g.S.Sink.taken c.args.out.now) (g.S.Sink.taken c.do_command.new.out) (expected_text work) r))
     c.in_ok-done.was
     (by_line (g.F.Files.held c.args.files.now) (g.I.Source.left c.args.input.now) (line_of (texts c.args.words.now)) (Some (command_view c.in-Some.command))
-    (λ line work. Prints (g.S.Sink.taken c.args.out.now) (g.S.Sink.taken c.do_command.new.out) (text_of work) c.do_command.result)
+    (λ line work. Prints (g.S.Sink.taken c.args.out.now) (g.S.Sink.taken c.do_command.new.out) (expected_text work) c.do_command.result)
     (sym c.in_ok-command.ensures ∙ ap (option_map command_view) c.in-Some.is) c.do_command.ensures.printed)
 
 pub returns-clause-unwritten : goal.returns-clause-unwritten

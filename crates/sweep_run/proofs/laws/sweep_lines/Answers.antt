@@ -1,4 +1,4 @@
-use Rattle.sweep_run.proofs.Told.{sweep_lines}
+use Rattle.sweep_run.proofs.SweepLines.{sweep_lines}
 use Rattle.sweep_run.proofs.laws.sweep_lines.Goals as goal
 
 pub returns : goal.returns

@@ -1,6 +1,6 @@
 use Rattle.elf_image.specs.Loaded.{plain}
 use Rattle.sweep_run.proofs.Programs.{apart, few}
-use Rattle.sweep_run.proofs.Told.{swept_line_is}
+use Rattle.sweep_run.proofs.SweepLines.{swept_line_is}
 use Rattle.sweep_run.proofs.lines.image_of.Goals as goal
 
 pub returns-in-Ok : goal.returns-in-Ok

@@ -1,6 +1,6 @@
 use Rattle.std.proofs.Common.{◌++◌, refl, sym, ap, ◌∙◌}
 use Rattle.machine_model.specs.Answers.{outcome_of}
-use Rattle.sweep_run.proofs.Told.{run_line_is}
+use Rattle.sweep_run.proofs.SweepLines.{run_line_is}
 use Rattle.sweep_run.proofs.lines.push_run.Goals as goal
 
 pub returns : goal.returns

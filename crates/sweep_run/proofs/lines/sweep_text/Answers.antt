@@ -1,7 +1,7 @@
 use Rattle.std.proofs.Common.{◌≡◌, sym, ap, subst, ◌∙◌, arith}
 use Rattle.guest_types.specs.Memory.{DoNotMeet}
 use Rattle.elf_image.specs.Loaded.{plain}
-use Rattle.sweep_run.proofs.Told.{lines_before, lines_none, lines_all, put_line}
+use Rattle.sweep_run.proofs.SweepLines.{lines_before, lines_none, lines_all, put_line}
 use Rattle.sweep_run.proofs.lines.sweep_text.Goals as goal
 
 pub machine_of-requires-clause-apart : goal.machine_of-requires-clause-apart

@@ -1,5 +1,5 @@
 use Rattle.std.proofs.Common.{◌≡◌}
-use Rattle.sweep_run.proofs.Told.{lines_before}
+use Rattle.sweep_run.proofs.SweepLines.{lines_before}
 use Rattle.sweep_run.proofs.lines.sweep_text.Given as goal
 
 abbrev pub invariant-loop-place : goal.invariant-loop-place

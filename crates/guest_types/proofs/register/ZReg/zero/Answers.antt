@@ -3,6 +3,6 @@ use Rattle.std.proofs.Math.Nat.{mul-zero}
 use Rattle.guest_types.specs.Elements.{elements}
 use Rattle.guest_types.proofs.register.ZReg.zero.Goals as goal
 
-pub returns : goal.returns
+pub returns-clause-elements : goal.returns-clause-elements
 unfolding elements
-returns c k f = ap (λ n. replicate (256 - n) 0) (sym (mul-zero k))
+returns-clause-elements c k f = ap (λ n. replicate (256 - n) 0) (sym (mul-zero k))

@@ -1,4 +1,4 @@
-use Rattle.label_fix.proofs.Fit.{fit_put}
+use Rattle.label_fix.proofs.FitEntries.{fit_put}
 use Rattle.label_fix.proofs.draft.Draft.put.Goals as goal
 
 pub invariant_of-self-2 : goal.invariant_of-self-2

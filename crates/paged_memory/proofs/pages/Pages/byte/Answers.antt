@@ -1,5 +1,5 @@
 use Rattle.std.proofs.Common.{◌/◌}
-use Rattle.paged_memory.proofs.Found.{rising, stands, absent, byte-none, byte-found}
+use Rattle.paged_memory.proofs.HeadPlaces.{rising, stands, absent, byte-none, byte-found}
 use Rattle.paged_memory.proofs.pages.Pages.byte.Goals as goal
 
 pub read_place_of-requires : goal.read_place_of-requires

@@ -1,6 +1,6 @@
 use Rattle.std.proofs.Common.{◌/◌, sym, ap}
 use Rattle.std.specs.Prelude.{is_some}
-use Rattle.paged_memory.proofs.Found.{rising, stands, found, absent}
+use Rattle.paged_memory.proofs.HeadPlaces.{rising, stands, found, absent}
 use Rattle.paged_memory.proofs.pages.Pages.can_read.Goals as goal
 
 pub read_place_of-requires : goal.read_place_of-requires

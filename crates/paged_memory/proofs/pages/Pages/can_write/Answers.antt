@@ -1,7 +1,7 @@
 use Rattle.std.proofs.Common.{◌/◌, ap, ◌∙◌}
 use Rattle.guest_types.specs.Memory.{is_writable}
 use Rattle.paged_memory.proofs.Places.{page_of}
-use Rattle.paged_memory.proofs.Found.{rising, stands, found, absent, head-read, write-none, write-found}
+use Rattle.paged_memory.proofs.HeadPlaces.{rising, stands, found, absent, head-read, write-none, write-found}
 use Rattle.paged_memory.proofs.pages.Pages.can_write.Goals as goal
 
 pub place_of-requires : goal.place_of-requires

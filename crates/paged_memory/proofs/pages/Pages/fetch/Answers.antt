@@ -2,7 +2,7 @@ use Rattle.std.proofs.Common.{◌+◌, ◌*◌, ◌/◌, ◌%◌, sym, ap, ◌�
 use Rattle.guest_types.specs.Memory.{is_executable}
 use Rattle.paged_memory.specs.Numbers.{number_in}
 use Rattle.paged_memory.proofs.Places.{page_of}
-use Rattle.paged_memory.proofs.Found.{rising, stands, found, absent, head-read, fetch-none, fetch-unaligned, fetch-refused, fetch-found}
+use Rattle.paged_memory.proofs.HeadPlaces.{rising, stands, found, absent, head-read, fetch-none, fetch-unaligned, fetch-refused, fetch-found}
 use Rattle.paged_memory.proofs.pages.Pages.fetch.Goals as goal
 
 pub returns-then-address-ne0 : goal.returns-then-address-ne0

@@ -2,7 +2,7 @@ use Rattle.std.proofs.Common.{◌+◌, ◌*◌, ◌/◌, ◌%◌, ap, ◌∙◌,
 use Rattle.std.proofs.lemmas.List.{with_items_is}
 use Rattle.guest_types.specs.Memory.{put_number}
 use Rattle.paged_memory.specs.Numbers.{with_number}
-use Rattle.paged_memory.proofs.Found.{rising, stands, absent, laid-written, number-written, byte-written, byte-unmapped}
+use Rattle.paged_memory.proofs.HeadPlaces.{rising, stands, absent, laid-written, number-written, byte-written, byte-unmapped}
 use Rattle.paged_memory.proofs.pages.Pages.put_byte.Goals as goal
 
 pub place_of-requires : goal.place_of-requires

@@ -4,7 +4,7 @@ use Rattle.std.proofs.lemmas.Bool.{and_parts}
 use Rattle.guest_types.specs.Memory.{can_read}
 use Rattle.guest_types.specs.Spans.{in_one_page}
 use Rattle.guest_types.proofs.SpanLaws.{in_one_page-fits}
-use Rattle.paged_memory.proofs.Found.{rising, stands, found, absent}
+use Rattle.paged_memory.proofs.HeadPlaces.{rising, stands, found, absent}
 use Rattle.paged_memory.proofs.LoanLaws.{place-of}
 use Rattle.paged_memory.proofs.pages.Pages.span_place.Goals as goal
 

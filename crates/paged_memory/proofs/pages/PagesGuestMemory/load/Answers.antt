@@ -1,6 +1,6 @@
 use Rattle.std.proofs.Common.{◌+◌, ◌*◌, ◌/◌, ◌%◌, ◌≤◌, ap, ◌∙◌, arith}
 use Rattle.paged_memory.specs.Numbers.{number_in}
-use Rattle.paged_memory.proofs.Found.{rising, stands, load-found}
+use Rattle.paged_memory.proofs.HeadPlaces.{rising, stands, load-found}
 use Rattle.paged_memory.proofs.pages.PagesGuestMemory.load.Goals as goal
 
 pub read_place_of-requires : goal.read_place_of-requires

@@ -2,7 +2,7 @@ use Rattle.std.proofs.Common.{◌+◌, ◌*◌, ◌/◌, ◌%◌, ◌≤◌, sym
 use Rattle.std.proofs.lemmas.List.{with_items_is}
 use Rattle.guest_types.specs.Memory.{is_writable}
 use Rattle.paged_memory.specs.Numbers.{with_number}
-use Rattle.paged_memory.proofs.Found.{rising, stands, head-read, laid-written, store-found}
+use Rattle.paged_memory.proofs.HeadPlaces.{rising, stands, head-read, laid-written, store-found}
 use Rattle.paged_memory.proofs.pages.PagesGuestMemory.store.Goals as goal
 
 pub place_of-requires : goal.place_of-requires

@@ -1,7 +1,7 @@
 use Rattle.std.proofs.Common.{ap, ◌∙◌}
 use Rattle.machine_model.specs.Debugged.{View}
 use Rattle.a64_machine.specs.Cores.{state_of}
-use Rattle.sve_machine.proofs.Going.{quiet_left}
+use Rattle.sve_machine.proofs.RunSteps.{quiet_left}
 use Rattle.sve_machine.proofs.machine.Machine.advance.Goals as goal
 
 pub returns-clause-quiet : goal.returns-clause-quiet

@@ -2,7 +2,7 @@ use Rattle.std.proofs.Common.{◌-◌, sym, ap, ◌∙◌, subst, arith}
 use Rattle.machine_model.specs.Machine.{x_at}
 use Rattle.machine_model.specs.Debugged.{View, RunLeaves}
 use Rattle.machine_model.specs.Answers.{outcome_of}
-use Rattle.sve_machine.proofs.Going.{run_outcome, run_leaves}
+use Rattle.sve_machine.proofs.RunSteps.{run_outcome, run_leaves}
 use Rattle.sve_machine.proofs.machine.Machine.run.Goals as goal
 
 pub returns-clause-outcome : goal.returns-clause-outcome

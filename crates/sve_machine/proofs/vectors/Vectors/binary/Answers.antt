@@ -1,9 +1,9 @@
 use Rattle.std.proofs.Common.{ap, ap₂, ◌∙◌}
 use Rattle.guest_types.specs.Lanes.{binary_at}
 use Rattle.a64_machine.specs.Cores.{VectorState}
-use Rattle.sve_machine.specs.Rests.{z_of, put_lanes}
-use Rattle.sve_machine.proofs.Shapes.{z_read}
-use Rattle.sve_machine.proofs.Banks.{z_is, bank_shape, bank_put}
+use Rattle.sve_machine.specs.VectorStates.{z_of, put_lanes}
+use Rattle.sve_machine.proofs.VectorStateLaws.{z_read}
+use Rattle.sve_machine.proofs.BankShapes.{z_is, bank_shape, bank_put}
 use Rattle.sve_machine.proofs.vectors.Vectors.binary.Goals as goal
 
 pub binary_in-requires-clause-ends : goal.binary_in-requires-clause-ends

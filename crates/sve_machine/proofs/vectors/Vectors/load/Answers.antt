@@ -2,7 +2,7 @@ use Rattle.std.proofs.Common.{◌≡◌, Ok, [], get_or, subst}
 use Rattle.std.specs.Prelude.{slice_set}
 use Rattle.a64_machine.specs.Cores.{VectorState}
 use Rattle.lane_memory.specs.Loads.{load_of}
-use Rattle.sve_machine.specs.Rests.{rest_of, p_of, put_load}
+use Rattle.sve_machine.specs.VectorStates.{vector_state_of, p_of, put_load}
 use Rattle.sve_machine.proofs.Loads.{load_shape, load_put, load_done}
 use Rattle.sve_machine.proofs.vectors.Vectors.load.Goals as goal
 
@@ -18,6 +18,6 @@ pub returns-clause-done : goal.returns-clause-done
 returns-clause-done c =
     let own = c.self.inside in
     let after = c.load_into.new in
-    subst (λ (r : VectorState). put_load (load_of c.args.mode c.args.row.dtype c.args.base c.args.index r.vl c.args.pages.now r.stops (p_of r c.args.pg) r.ffr) c.args.zt r ≡ Ok (rest_of (slice_set own.z c.args.zt after.out) own.p after.ffr own.vl after.stops))
+    subst (λ (r : VectorState). put_load (load_of c.args.mode c.args.row.dtype c.args.base c.args.index r.vl c.args.pages.now r.stops (p_of r c.args.pg) r.ffr) c.args.zt r ≡ Ok (vector_state_of (slice_set own.z c.args.zt after.out) own.p after.ffr own.vl after.stops))
     c.self.view_is
     (load_done c.args.mode c.args.row.dtype c.args.base c.args.index c.args.pages.now own.z own.p own.ffr own.vl own.stops c.args.pg c.args.zt after.ffr after.stops after.out c.in_ok-load_into.ensures.done)

@@ -3,9 +3,9 @@ use Rattle.guest_types.specs.Length.{lanes}
 use Rattle.guest_types.specs.Elements.{active}
 use Rattle.guest_types.specs.Lanes.{merge_at}
 use Rattle.a64_machine.specs.Cores.{VectorState}
-use Rattle.sve_machine.specs.Rests.{rest_of, z_of, p_of, put_lanes}
-use Rattle.sve_machine.proofs.Shapes.{z_read}
-use Rattle.sve_machine.proofs.Banks.{z_is, p_is, bank_shape, bank_put, lane3, merged_all}
+use Rattle.sve_machine.specs.VectorStates.{vector_state_of, z_of, p_of, put_lanes}
+use Rattle.sve_machine.proofs.VectorStateLaws.{z_read}
+use Rattle.sve_machine.proofs.BankShapes.{z_is, p_is, bank_shape, bank_put, lane3, merged_all}
 use Rattle.sve_machine.proofs.vectors.Vectors.merge.Goals as goal
 
 pub merge_in-requires-clause-ends : goal.merge_in-requires-clause-ends
@@ -31,5 +31,5 @@ returns-then-is_all_true c =
     let w = c.args.width in
     let r = c.args.self.now in
     let all : (v : VectorState) → Type 0 = λ v. (e : ℕ) → e < lanes v.vl w → active w (p_of v c.args.pg) e ≡ true in
-    let here : all (rest_of own.z own.p own.ffr own.vl own.stops) = λ e lt. ap (λ p. active w p e) (sym (p_is own.z own.p own.ffr own.vl own.stops c.args.pg)) ∙ c.is_all_true.ensures c.if-is_all_true.true e lt in
+    let here : all (vector_state_of own.z own.p own.ffr own.vl own.stops) = λ e lt. ap (λ p. active w p e) (sym (p_is own.z own.p own.ffr own.vl own.stops c.args.pg)) ∙ c.is_all_true.ensures c.if-is_all_true.true e lt in
     c.binary.ensures ∙ merged_all r c.args.zdn c.args.op w (p_of r c.args.pg) (z_of r c.args.zdn) (z_of r c.args.zm) (subst all c.self.view_is here)

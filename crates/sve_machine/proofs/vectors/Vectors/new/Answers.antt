@@ -1,4 +1,4 @@
-use Rattle.sve_machine.proofs.Shapes.{zeros_are}
+use Rattle.sve_machine.proofs.VectorStateLaws.{zeros_are}
 use Rattle.sve_machine.proofs.vectors.Vectors.new.Goals as goal
 
 pub invariant_of-result : goal.invariant_of-result

@@ -1,9 +1,9 @@
 use Rattle.std.proofs.Common.{ap, ◌∙◌}
 use Rattle.guest_types.specs.Lanes.{select_at}
 use Rattle.a64_machine.specs.Cores.{VectorState}
-use Rattle.sve_machine.specs.Rests.{z_of, p_of, put_lanes}
-use Rattle.sve_machine.proofs.Shapes.{z_read}
-use Rattle.sve_machine.proofs.Banks.{z_is, p_is, bank_shape, bank_put, lane3}
+use Rattle.sve_machine.specs.VectorStates.{z_of, p_of, put_lanes}
+use Rattle.sve_machine.proofs.VectorStateLaws.{z_read}
+use Rattle.sve_machine.proofs.BankShapes.{z_is, p_is, bank_shape, bank_put, lane3}
 use Rattle.sve_machine.proofs.vectors.Vectors.select.Goals as goal
 
 pub select_in-requires-clause-ends : goal.select_in-requires-clause-ends

@@ -2,7 +2,7 @@ use Rattle.std.proofs.Common.{[], get_or, subst}
 use Rattle.guest_types.specs.Length.{IsLength}
 use Rattle.machine_model.specs.States.{IsVector}
 use Rattle.a64_machine.specs.Cores.{VectorState}
-use Rattle.sve_machine.proofs.Shapes.{z_read}
+use Rattle.sve_machine.proofs.VectorStateLaws.{z_read}
 use Rattle.sve_machine.proofs.vectors.Vectors.z.Goals as goal
 
 pub returns-clause-shape : goal.returns-clause-shape

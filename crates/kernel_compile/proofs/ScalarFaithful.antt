@@ -1,0 +1,106 @@
+-- The words of a kernel's code do what the kernel says.
+use Rattle.std.proofs.Common.{◌≡◌, ℕ, ◌+◌, ◌-◌, ◌*◌, ◌<◌, ◌≤◌, ◌^◌, List, [], ◌++◌, length, append-nil, Option, Some, None, Ok, Err, refl, sym, ap, ◌∙◌, subst, arith}
+use Rattle.std.specs.Prelude.{All}
+use Rattle.guest_types.specs.Memory.{Memory, merged}
+use Rattle.machine_model.specs.Machine.{State}
+use Rattle.machine_model.specs.Run.{Outcome, run, free_start}
+use Rattle.machine_model.specs.Written.{file_of, code_base, image_of_words}
+use Rattle.machine_model.proofs.WrittenLoads.{load-file_of}
+use Rattle.kernel_tree.specs.Plain.{Program}
+use Rattle.kernel_tree.specs.Items.{size_of}
+use Rattle.kernel_meaning.specs.ScalarRun as scalar
+use Rattle.kernel_meaning.specs.ScalarRun.{begun, scalar_run}
+use Rattle.kernel_meaning.proofs.RunsFrom.{start_within, whole_run}
+use Rattle.label_fix.specs.DraftRun.{Entry, Laid, draft_run}
+use Rattle.label_fix.specs.Finished.{AreFit, StandAt, size, words_of}
+use Rattle.label_fix.specs.Stretches.{Goes, Resolves}
+use Rattle.label_fix.proofs.StretchSteps.{stop_after, end_after}
+use Rattle.label_fix.proofs.LabelsOnce.{Once, resolves_in}
+use Rattle.label_fix.proofs.PlacedRuns.{runs_as_draft, words_length}
+use Rattle.scalar_emit.specs.Kernel.{begin_code, scalar_code, begin_labels}
+use Rattle.scalar_emit.specs.Runs.{HasArguments, BeginRuns, Comes, ends_so, faults_so, ScalarRuns}
+use Rattle.scalar_emit.proofs.Placed.{whole_once}
+use Rattle.kernel_compile.specs.Faithful.{Follows, FreeSlowFaithful}
+use Rattle.kernel_compile.proofs.FileStart.{starts, start_memory, words_stand}
+
+-- ---- runs that end
+
+pub comes_after : {D : Laid} {c e : List Entry} {s t : State} {K F G i a : ℕ} {r : scalar.Run} → F + a ≤ G → Goes D c s e t a → Comes D e t K F i r → Comes D c s K G i r
+comes_after {K = K} {G = G} le g (ends_so n e h) = ends_so n e (end_after (K * n + G) (omega arith) g h)
+comes_after {K = K} {G = G} le g (faults_so n kind e ok h) = faults_so n kind e ok (stop_after (K * n + G) (omega arith) g h)
+
+-- the outcome of a run of enough steps
+pub comes_follow : {D : Laid} {c : List Entry} {s : State} {K F : ℕ} {r : scalar.Run} (k : Program) (args : List ℕ) (vl steps : ℕ) → K * begun r + F ≤ steps → Comes D c s K F 0 r → Follows k args vl r (draft_run D steps 0 c s)
+comes_follow {D = D} {c = c} {s = s} {K = K} {F = F} k args vl steps le (ends_so {bg = bg} n e h) =
+    let z : bg ≡ n = omega (arith, e) in
+    let p = ap (λ x. K * x) z in
+    let w = h.within in
+    let f : h.count + (steps - h.count) ≡ steps = omega (arith, le, p, w) in
+    (0 + h.count, ap (λ j. draft_run D j 0 c s) (sym f) ∙ h.by (steps - h.count) 0)
+comes_follow {D = D} {c = c} {s = s} {K = K} {F = F} k args vl steps le (faults_so {m = m} {bg = bg} n kind e ok h) =
+    let z : bg ≡ n = omega (arith, e) in
+    let p = ap (λ x. K * x) z in
+    let w = h.within in
+    let f : h.count + (steps - h.count) ≡ steps = omega (arith, le, p, w) in
+    record {
+      kind = kind;
+      access = ok;
+      pc = h.pc;
+      at = h.at;
+      left = m;
+      steps = 0 + h.count;
+      is = ap (λ j. draft_run D j 0 c s) (sym f) ∙ h.by (steps - h.count) 0;
+      kept = λ address far. refl;
+    }
+
+-- ---- from the first iteration on
+
+module _ (R : ℕ → ℕ) (k : Program) (begins : BeginRuns R k) (runs : ScalarRuns R k) where
+  code_comes : (D : Laid) (n : ℕ) (args : List ℕ) (m : Memory) (s : State) → HasArguments args m s → Resolves D (begin_code R k 0 (scalar_code R k n [])) → Resolves D (scalar_code R k n [])
+      → Comes D (begin_code R k 0 (scalar_code R k n [])) s (32 + 8 * size_of k) (72 + 16 * size_of k) 0 (scalar_run k args m)
+  code_comes D n args m s given all res =
+      let b = begins D 0 (scalar_code R k n []) args m s given all in
+      let c = runs.reached D n [] 0 b.names m b.end res (start_within k.turns b.names) b.at in
+      subst (λ r. Comes D (begin_code R k 0 (scalar_code R k n [])) s (32 + 8 * size_of k) (72 + 16 * size_of k) 0 r) (whole_run k args m b.names b.starts) (comes_after (omega arith) b.goes c)
+
+  -- Entries that are the code of a kernel, after a front, come to a file that does what the kernel says.
+  pub compiled : (labels n : ℕ) (entries front : List Entry) (words : List ℕ) → entries ≡ front ++ scalar_code R k n [] → entries ≡ begin_code R k 0 (scalar_code R k n []) → Once entries → AreFit labels entries → size entries ≤ 65536 → words ≡ words_of entries → All (λ w. w < 2 ^ 32) words
+      → FreeSlowFaithful k (file_of words)
+  compiled labels n entries front words following begun_by placed fits few is small =
+      let many : length words ≤ 65536 = omega (arith, ap length is, words_length entries) in
+      record {
+        image = image_of_words words;
+        loaded = load-file_of words many;
+        runs = λ args pages vl stops steps start any le.
+            let D : Laid = record { base = code_base; entries = entries } in
+            let s0 = free_start (image_of_words words) args pages vl stops in
+            let m = merged (image_of_words words).pages pages in
+            let code = begin_code R k 0 (scalar_code R k n []) in
+            let st = starts words args pages vl stops start.few in
+            let stand : StandAt s0.memory D.base (words_of D.entries) = subst (λ ws. StandAt s0.memory code_base ws) is (subst (λ m. StandAt m code_base words) (sym st.memory) (words_stand words pages many small start.apart)) in
+            let same : run steps 0 s0 ≡ draft_run D steps 0 code s0 = runs_as_draft D labels s0 fits few stand st.pc steps 0 ∙ ap (λ es. draft_run D steps 0 es s0) begun_by in
+            let given : HasArguments args m s0 = record { few = start.few; words = start.words; sized = st.sized; held = st.given; memory = st.memory; good = start_memory words pages many start.memory start.apart } in
+            let c = code_comes D n args m s0 given (resolves_in D code [] begun_by placed) (resolves_in D (scalar_code R k n []) front following placed) in
+            let b = begun (scalar_run k args m) in
+            let enough : (32 + 8 * size_of k) * b + (72 + 16 * size_of k) ≤ steps = omega (arith, le) in
+            let f = comes_follow k args vl steps enough c in
+            (run steps 0 s0, ap (λ l. elim l as (λ x. Option Outcome) [ Ok image ↦ Some (run steps 0 (free_start image args pages vl stops)) | Err fault ↦ None ]) (load-file_of words many), subst (λ o. Follows k args vl (scalar_run k args m) o) (sym same) f);
+      }
+
+-- what the two emitting calls leave in a draft
+pub record Emitted (R : ℕ → ℕ) (k : Program) (n : ℕ) (entries front : List Entry) : Type 0 where
+  pub following : entries ≡ front ++ scalar_code R k n []
+  pub begun_by : entries ≡ begin_code R k 0 (scalar_code R k n [])
+  pub placed : Once entries
+
+pub emitted : (R : ℕ → ℕ) (k : Program) (l0 l1 : ℕ) (e0 e1 e2 : List Entry) → e0 ≡ [] → l0 ≡ 0 → l1 ≡ l0 + begin_labels k → ((rest : List Entry) → e1 ++ rest ≡ e0 ++ begin_code R k l0 rest) → ((rest : List Entry) → e2 ++ rest ≡ e1 ++ scalar_code R k l1 rest) → Emitted R k l1 e2 e1
+emitted R k l0 l1 e0 e1 e2 none first next begin scalar =
+    let code = scalar_code R k l1 [] in
+    let following : e2 ≡ e1 ++ code = sym (append-nil e2) ∙ scalar [] in
+    let begun_by : e2 ≡ begin_code R k 0 code = following ∙ begin code ∙ ap (λ es. es ++ begin_code R k l0 code) none ∙ ap (λ l. begin_code R k l code) first in
+    let n : 0 + begin_labels k ≡ l1 = omega (arith, first, next) in
+    record {
+      following = following;
+      begun_by = begun_by;
+      placed = subst Once (sym begun_by) (subst (λ l. Once (begin_code R k 0 (scalar_code R k l []))) n (whole_once R k 0));
+    }

@@ -1,0 +1,14 @@
+use Rattle.kernel_meaning.proofs.RunsFrom as runs
+use Rattle.kernel_meaning.proofs.laws.next_iteration.Goals as goal
+
+pub returns-clause-next : goal.returns-clause-next
+returns-clause-next c k l i memory after names others loop left same turn = runs.goes_on k l i memory after names others loop left same turn
+
+pub returns-clause-broke : goal.returns-clause-broke
+returns-clause-broke c k l i memory after names others loop left turn = runs.breaks k l i memory after names others loop left turn
+
+pub returns-clause-faulted : goal.returns-clause-faulted
+returns-clause-faulted c k l i memory after names loop left turn = runs.faults k l i memory after names loop left turn
+
+pub returns-clause-over : goal.returns-clause-over
+returns-clause-over c k l i memory names loop none = runs.over k l i memory names loop none
