@@ -1,5 +1,5 @@
 -- What a prepared instruction does.
-use Rattle.std.specs.Prelude.{◌≡◌, ℕ, ◌+◌, ◌*◌, ◌%◌, ◌^◌, Bool, not, nat_eq, bit_and, bit_or, bit_xor}
+use Rattle.std.specs.Prelude.{◌≡◌, ℕ, ◌*◌, ◌%◌, ◌^◌, not, nat_eq, bit_and, bit_or, bit_xor}
 use Rattle.guest_types.specs.Elements.{nzcv}
 use Rattle.a64_code.specs.View.{instruction_view}
 use Rattle.a64_code.specs.declared.A64.{A64}

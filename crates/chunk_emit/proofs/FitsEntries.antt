@@ -7,14 +7,14 @@ use Rattle.std.proofs.lemmas.Bool.{and_parts, eqb-true, eq-eqb}
 use Rattle.std.proofs.lemmas.List.Folds.{list_any-append}
 use Rattle.kernel_tree.specs.declared.ops.Ty.{Ty}
 use Rattle.kernel_tree.specs.Plain.{Parameter, Accumulator, Program}
-use Rattle.kernel_tree.specs.Items.{loop_index}
+use Rattle.kernel_tree.specs.Items.{loop_index, loop_start}
 use Rattle.kernel_tree.specs.Typing.{number_of_type, found_at}
 use Rattle.kernel_tree.proofs.Names.{bytes_told, bytes_same}
 use Rattle.kernel_tree.proofs.NoFault.{no_mismatch}
 use Rattle.reg_assign.specs.declared.interval.RegClass.{RegClass}
 use Rattle.reg_assign.specs.declared.interval.RegClass.TheVariants.{Z, P}
 use Rattle.loop_form.specs.declared.loop_item.Source.TheVariants.{Constant, Outer, LoopIndex}
-use Rattle.loop_form.specs.Entries.{Content, IsLiteral, IsName, IsRead, IsLet, IsStore, IsUpdate, IsPlain, Entry, entries_of, loop_entries, loop_start}
+use Rattle.loop_form.specs.Entries.{Content, IsLiteral, IsName, IsRead, IsLet, IsStore, IsUpdate, IsPlain, Entry, entries_of, loop_entries}
 use Rattle.loop_form.specs.Lanes.{var_type}
 use Rattle.loop_form.specs.Listing.{is_named, names}
 use Rattle.loop_form.specs.Needs.{Throughout, scalar_of, scalars, is_named_scalar, constants, new_constant, is_constant, is_literal, same_type, same_number, index_held, is_update, updates, is_updated, accumulating_of, throughout}

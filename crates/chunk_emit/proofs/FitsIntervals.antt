@@ -5,11 +5,11 @@ use Rattle.std.specs.List.{cons_option}
 use Rattle.std.proofs.lemmas.Bool.{cases_lt}
 use Rattle.std.proofs.lemmas.List.{get_or_past, length-map}
 use Rattle.kernel_tree.specs.Plain.{PlainLoop, Program}
-use Rattle.kernel_tree.specs.Items.{size_of}
+use Rattle.kernel_tree.specs.Items.{size_of, loop_start}
 use Rattle.reg_assign.specs.declared.interval.Interval.{Interval}
 use Rattle.reg_assign.specs.declared.interval.RegClass.{RegClass}
 use Rattle.reg_assign.specs.declared.interval.RegClass.TheVariants.{Z, P, X}
-use Rattle.loop_form.specs.Entries.{Entry, entries_of, turns_entries, loop_entries, loop_start}
+use Rattle.loop_form.specs.Entries.{Entry, entries_of, turns_entries, loop_entries}
 use Rattle.loop_form.specs.Listing.{last_use_in}
 use Rattle.loop_form.specs.Needs.{throughout, span, spans_of, counted, intervals}
 use Rattle.loop_form.specs.Numbers.{Numbered}

@@ -5,10 +5,10 @@ use Rattle.std.specs.List.{list_any}
 use Rattle.kernel_tree.specs.declared.ops.Ty.{Ty}
 use Rattle.kernel_tree.specs.declared.ops.UpdateOp.{UpdateOp}
 use Rattle.kernel_tree.specs.Plain.{Accumulator, Program}
-use Rattle.kernel_tree.specs.Items.{loop_index}
+use Rattle.kernel_tree.specs.Items.{loop_index, loop_end}
 use Rattle.kernel_tree.specs.Typing.{check_fault}
 use Rattle.kernel_tree.proofs.Names.{bytes_told, bytes_same}
-use Rattle.loop_form.specs.Entries.{Content, IsUpdate, Entry, entry, item_type, params_entries, vars_entries, answer_entries, loop_end, loop_entries, entries_of}
+use Rattle.loop_form.specs.Entries.{Content, IsUpdate, Entry, entry, item_type, params_entries, vars_entries, answer_entries, loop_entries, entries_of}
 use Rattle.loop_form.specs.Lanes.{var_type, lane_width_of}
 use Rattle.loop_form.specs.Listing.{names}
 use Rattle.loop_form.specs.Needs.{is_update, updates}

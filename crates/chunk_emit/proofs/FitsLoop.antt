@@ -1,13 +1,13 @@
 -- The items of a checked kernel's loop fit the layout that the registers of its intervals give.
 use Rattle.std.proofs.Common.{◌≡◌, ℕ, ◌+◌, ◌≤◌, true, List, [], ◌∷◌, ◌++◌, length, Option, Some, None, sym, ap, ◌∙◌, subst, append_assoc}
 use Rattle.kernel_tree.specs.Plain.{PlainLoop, Program}
-use Rattle.kernel_tree.specs.Items.{loop_index}
+use Rattle.kernel_tree.specs.Items.{loop_index, loop_start}
 use Rattle.kernel_tree.specs.Typing.{Scope, Local, local, insert_name, block_faults, block_types, turns_types, check_fault, in_loop, var_scope}
 use Rattle.kernel_tree.proofs.Scopes.{var_visible, scope_index}
-use Rattle.kernel_tree.proofs.Faultless.{turns_from, body_faultless}
+use Rattle.kernel_tree.proofs.Faultless.{body_faultless}
 use Rattle.reg_assign.specs.Registers.{Assignment}
 use Rattle.loop_form.specs.declared.loop_item.Source.TheVariants.{LoopIndex}
-use Rattle.loop_form.specs.Entries.{block_entries, turns_entries, loop_start}
+use Rattle.loop_form.specs.Entries.{block_entries, turns_entries}
 use Rattle.loop_form.specs.LoopItems.{bound, Item, outer_env, loop_env, block_items, loop_items, turns_items, loop_items_of}
 use Rattle.loop_form.proofs.ItemTypes.{loop_types}
 use Rattle.dependence.specs.Classes.{class_of}
@@ -59,8 +59,8 @@ loop_steps k l zs ps f checked turns vector few setting =
     let b = loop_start k + 1 in
     let S = body_scope k l in
     let env = head_env 0 k.params k.vars l.index in
-    let none : block_faults S (turns_from k + 1) l.body ≡ [] = subst (λ s. block_faults s (turns_from k + 1) l.body ≡ []) (scope_is k l) (body_faultless k l checked turns) in
+    let none : block_faults S (loop_start k + 1) l.body ≡ [] = subst (λ s. block_faults s (loop_start k + 1) l.body ≡ []) (scope_is k l) (body_faultless k l checked turns) in
     let part : Part k (block_entries k b l.body) (block_types S l.body) = subst (λ s. Part k (block_entries k b l.body) (block_types s l.body)) (scope_is k l) (body_known k l checked turns vector) in
     let types : AllTyped k (block_items S None b env l.body []) = subst (λ e. AllTyped k (block_items S None b e l.body [])) (env_is k l) (subst (λ s. AllTyped k (block_items s None b (loop_env (var_scope k) l.index) l.body [])) (scope_is k l) (items_typed k l turns)) in
-    let steps = block_steps k zs ps f setting few l.body (head_locals k.params k.vars l.index) (insert_name (var_scope k).taken l.index) true env None b (turns_from k + 1) [] (head_names k l b turns) none part types (λ r lo hi. tt) tt in
+    let steps = block_steps k zs ps f setting few l.body (head_locals k.params k.vars l.index) (insert_name (var_scope k).taken l.index) true env None b (loop_start k + 1) [] (head_names k l b turns) none part types (λ r lo hi. tt) tt in
     subst (λ s. FitsSteps L f b (block_items s None b (loop_env (var_scope k) l.index) l.body [])) (sym (scope_is k l)) (subst (λ e. FitsSteps L f b (block_items S None b e l.body [])) (sym (env_is k l)) steps)

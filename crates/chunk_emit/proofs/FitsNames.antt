@@ -21,7 +21,6 @@ use Rattle.loop_form.specs.Streams.{elements_of, type_of_place}
 use Rattle.chunk_emit.specs.KernelLayout.{source_type, item_last_use}
 use Rattle.kernel_tree.specs.declared.ast.Shape.TheVariants as shape
 use Rattle.kernel_tree.specs.declared.fault.Binding.TheVariants as binding
-use Rattle.loop_form.specs.Lanes as lanes
 
 -- what a visible name stands for
 abbrev pub binding_at : List Local → List ℕ → Option Binding

@@ -2,9 +2,9 @@
 use Rattle.std.proofs.Common.{◌≡◌, ℕ, ◌+◌, ◌≤◌, List, [], ◌∷◌, ◌++◌, length, map, take, drop, refl, sym, ap, ◌∙◌, arith}
 use Rattle.std.proofs.lemmas.List.{length-append, length-map, append_assoc}
 use Rattle.kernel_tree.specs.Plain.{Parameter, Accumulator, Program}
-use Rattle.kernel_tree.specs.Items.{term_size, vars_size, loop_index}
+use Rattle.kernel_tree.specs.Items.{term_size, vars_size, loop_index, loop_start, loop_end}
 use Rattle.loop_form.specs.declared.item.ItemKind.TheVariants as kind
-use Rattle.loop_form.specs.Entries.{Entry, IsPlain, entry, term_entries, params_entries, vars_entries, answer_entries, entries_of, loop_start, loop_end, loop_entries}
+use Rattle.loop_form.specs.Entries.{Entry, IsPlain, entry, term_entries, params_entries, vars_entries, answer_entries, entries_of, loop_entries}
 use Rattle.loop_form.specs.Listing.{item_of, listing_of}
 use Rattle.loop_form.proofs.Numbers.{term-listed}
 use Rattle.reg_assign.specs.declared.interval.RegClass.TheVariants.{Z, P}

@@ -1,10 +1,10 @@
 -- The law that the code of items does what the items do over the lanes of a chunk.
-use Rattle.std.specs.Prelude.{◌≡◌, ℕ, ◌*◌, ◌≤◌, List, length, ◌⊎◌}
+use Rattle.std.specs.Prelude.{ℕ, ◌*◌, ◌≤◌, List, length}
 use Rattle.guest_types.specs.declared.length.Width.{Width}
 use Rattle.guest_types.specs.Memory.{Memory}
 use Rattle.machine_model.specs.declared.outcome.StopKind.{StopKind}
-use Rattle.machine_model.specs.declared.outcome.StopKind.TheVariants.{Read, Write}
 use Rattle.machine_model.specs.Machine.{State}
+use Rattle.machine_model.specs.Run.{IsAccess}
 use Rattle.label_fix.specs.DraftRun.{Entry, Laid}
 use Rattle.label_fix.specs.Stretches.{Goes, Stops}
 use Rattle.chunk_order.specs.Orders.{Lanes, Out, Fine, Fail, by_item}
@@ -14,10 +14,6 @@ use Rattle.chunk_emit.specs.Registers.{Layout}
 use Rattle.chunk_emit.specs.ChunkCode.{items_words, puts}
 use Rattle.chunk_emit.specs.Chunk.{Setting, Holds}
 use Rattle.chunk_emit.specs.Fits.{Assigned, FitsItems, following_items}
-
--- a stop of a load or a store
-abbrev pub IsAccess : StopKind → Type 0
-IsAccess kind = (kind ≡ Read) ⊎ (kind ≡ Write)
 
 -- From entries c and a state, at most so many words: where the lanes end well, they lead to `rest` and to a state that holds
 -- them; where an access of a lane faults, to a stop with the memory that it left.

@@ -8,12 +8,13 @@ use Rattle.kernel_tree.specs.declared.ops.UpdateOp.TheVariants as update
 use Rattle.kernel_tree.specs.declared.ast.Shape.{Shape}
 use Rattle.kernel_tree.specs.declared.ast.Shape.TheVariants as shape
 use Rattle.kernel_tree.specs.Plain.{Parameter, Program}
+use Rattle.kernel_tree.specs.Items.{loop_start}
 use Rattle.reg_assign.specs.declared.interval.RegClass.{RegClass}
 use Rattle.reg_assign.specs.declared.interval.RegClass.TheVariants.{Z, P}
 use Rattle.reg_assign.specs.Registers.{Assignment}
 use Rattle.loop_form.specs.declared.loop_item.Source.{Source}
 use Rattle.loop_form.specs.declared.loop_item.Source.TheVariants.{Constant, Outer, LoopIndex, Made}
-use Rattle.loop_form.specs.Entries.{Content, IsUpdate, Entry, entries_of, loop_entries, loop_start}
+use Rattle.loop_form.specs.Entries.{Content, IsUpdate, Entry, entries_of, loop_entries}
 use Rattle.loop_form.specs.Lanes.{var_type}
 use Rattle.loop_form.specs.Listing.{last_use_in}
 use Rattle.loop_form.specs.LoopItems.{Item, loop_items_of}

@@ -6,15 +6,16 @@ use Rattle.guest_types.specs.Memory.{Memory}
 use Rattle.kernel_tree.specs.declared.ops.Ty.TheVariants.{U64}
 use Rattle.kernel_tree.specs.Plain.{PlainLoop, Program}
 use Rattle.kernel_tree.specs.Typing.{check_fault, Scope, var_scope, in_loop}
-use Rattle.kernel_tree.proofs.Faultless.{turns_from, body_faultless}
+use Rattle.kernel_tree.proofs.Faultless.{body_faultless}
 use Rattle.kernel_tree.proofs.NoFault.{bound_scalar}
 use Rattle.kernel_tree.proofs.Scopes.{scope_index}
 use Rattle.kernel_tree.proofs.RightKinds.{body-kinds}
+use Rattle.kernel_tree.specs.Items.{loop_start}
 use Rattle.kernel_meaning.specs.Eval.{Names}
 use Rattle.kernel_meaning.specs.ScalarRun.{started, bound_of, argument_names}
 use Rattle.kernel_meaning.proofs.Started.{started_bound}
 use Rattle.loop_form.specs.declared.stream.Stream.{Stream}
-use Rattle.loop_form.specs.Entries.{block_entries, turns_entries, loop_entries, loop_start}
+use Rattle.loop_form.specs.Entries.{block_entries, turns_entries, loop_entries}
 use Rattle.loop_form.specs.Lanes.{lane_width_of}
 use Rattle.loop_form.specs.LoopItems.{loop_env, Item, loop_items}
 use Rattle.loop_form.specs.Streams.{stream_of, streams_of, In}
@@ -45,7 +46,7 @@ body_ready k l names checked loop vector =
     let scope : Scope = var_scope k in
     let class = class_facts k vector in
     let listing : AllOk k (turns_entries k (loop_start k) (Some l)) = subst (λ o. AllOk k (turns_entries k (loop_start k) o)) loop (all_ok k (loop_entries k) class.unread class.streamed) in
-    ready_block k names 0 l.body (in_loop scope l) (turns_from k + 1) (loop_start k + 1) (body_faultless k l checked loop) listing.1 (head_ok k l checked)
+    ready_block k names 0 l.body (in_loop scope l) (loop_start k + 1) (loop_start k + 1) (body_faultless k l checked loop) listing.1 (head_ok k l checked)
 
 pub clear_of_chunk : (k : Program) (l : PlainLoop) (args : List ℕ) (start : Memory) (names : Names) (i n : ℕ) → check_fault k ≡ None → k.turns ≡ Some l → class_of k ≡ Vector → StreamsApart k args → started k args start ≡ Some names → n ≤ 2048 / width_bits (lane_width_of k) → i + n ≤ bound_of l names
     → ClearWithin (acts_of names (loop_items k l)) n i

@@ -4,11 +4,11 @@ use Rattle.std.specs.Prelude.{bytes_eq}
 use Rattle.std.specs.List.{list_any}
 use Rattle.std.proofs.lemmas.List.Folds.{list_any-append}
 use Rattle.kernel_tree.specs.Plain.{Term, Literal, Variable, Element, Unary, Operation, Shift, Conversion, Choice, Comparison, Both, Either, Not, Action, Define, Put, Update, Choose, Leave, Block, Done, Then, Otherwise, Nothing, Else, PlainLoop, Program}
-use Rattle.kernel_tree.specs.Items.{stream_offset, loop_index, term_size, action_size, block_size, otherwise_size}
+use Rattle.kernel_tree.specs.Items.{stream_offset, loop_index, term_size, action_size, block_size, otherwise_size, loop_start}
 use Rattle.kernel_tree.specs.Typing.{Scope, own, first, side_type, after_action, after_block, left, in_loop, var_scope}
 use Rattle.loop_form.specs.declared.item.ItemKind.TheVariants as kind
 use Rattle.loop_form.specs.declared.loop_item.Source.{Source}
-use Rattle.loop_form.specs.Entries.{Entry, IsPlain, entry, term_entries, action_entries, block_entries, otherwise_entries, turns_entries, loop_entries, loop_start}
+use Rattle.loop_form.specs.Entries.{Entry, IsPlain, entry, term_entries, action_entries, block_entries, otherwise_entries, turns_entries, loop_entries}
 use Rattle.loop_form.specs.LoopItems.{Bound, array_type, Op, Add, Item, truth_home, load_item, term_items, cond_items, store_item, accumulator_of, after_env, action_items, block_items, otherwise_items, loop_env, loop_items}
 use Rattle.loop_form.specs.Needs.{updates}
 use Rattle.chunk_order.proofs.Accesses.{or_false}

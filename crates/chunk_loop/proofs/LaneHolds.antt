@@ -9,12 +9,13 @@ use Rattle.guest_types.proofs.AtWidths.{lanes-bound}
 use Rattle.guest_types.proofs.Widths.{whole-register, lane-inside}
 use Rattle.kernel_tree.specs.Plain.{PlainLoop, Program}
 use Rattle.kernel_tree.specs.Wrap.{residue}
+use Rattle.kernel_tree.specs.Items.{loop_start}
 use Rattle.kernel_meaning.specs.Eval.{Names}
 use Rattle.machine_model.specs.Machine.{State, z_at, p_at}
 use Rattle.reg_assign.specs.declared.interval.RegClass.TheVariants.{Z, P}
 use Rattle.loop_form.specs.declared.loop_item.Source.{Source}
 use Rattle.loop_form.specs.declared.loop_item.Source.TheVariants.{Constant, Outer, LoopIndex, Made}
-use Rattle.loop_form.specs.Entries.{entries_of, turns_entries, loop_entries, loop_start}
+use Rattle.loop_form.specs.Entries.{entries_of, turns_entries, loop_entries}
 use Rattle.chunk_order.specs.Orders.{Lane, Lanes}
 use Rattle.chunk_order.specs.Items.{source_value}
 use Rattle.lane_emit.specs.Right.{IsOf, within}

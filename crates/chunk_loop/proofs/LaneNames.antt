@@ -5,11 +5,11 @@ use Rattle.kernel_tree.specs.declared.ops.Ty.{Ty}
 use Rattle.kernel_tree.specs.declared.fault.Binding.{Binding}
 use Rattle.kernel_tree.specs.declared.fault.Found.{Found}
 use Rattle.kernel_tree.specs.Plain.{Term, Literal, Variable, Element, Unary, Operation, Shift, Conversion, Choice, Comparison, Both, Either, Not, Action, Define, Put, Update, Choose, Leave, Block, Done, Then, Otherwise, Nothing, Else, PlainLoop, Program}
-use Rattle.kernel_tree.specs.Items.{term_size, stream_offset, index_items, loop_index}
+use Rattle.kernel_tree.specs.Items.{term_size, stream_offset, index_items, loop_index, loop_start}
 use Rattle.kernel_tree.specs.Typing.{Scope, Local, Role, Value, Condition, wanted, own, first, index_type, side_type, local, has_name, binding_of, lookup, defined, left, after_action, after_block, var_scope, in_loop, twice, element_type, accumulator_type, as_value, as_condition, mismatch, name_faults, untyped, inner_faults, faults, target_faults, update_faults, action_faults, block_faults, otherwise_faults, check_fault, inner_types, term_types, action_types, block_types, otherwise_types, turns_types}
-use Rattle.loop_form.specs.Entries.{Entry, inner_entries, term_entries, action_entries, block_entries, otherwise_entries, turns_entries, loop_entries, loop_start}
+use Rattle.loop_form.specs.Entries.{Entry, inner_entries, term_entries, action_entries, block_entries, otherwise_entries, turns_entries, loop_entries}
 use Rattle.loop_form.specs.Listing.{names}
-use Rattle.kernel_tree.proofs.Faultless.{nil-left, nil-right, turns_from, body_faultless}
+use Rattle.kernel_tree.proofs.Faultless.{nil-left, nil-right, body_faultless}
 use Rattle.kernel_tree.proofs.Scopes.{scope_index, index_after}
 use Rattle.kernel_tree.proofs.Names.{bytes_told, bytes_same, NoName, index_alone}
 use Rattle.kernel_tree.proofs.NoFault.{no_mismatch}
@@ -206,7 +206,7 @@ paired x (y ∷ es) (t ∷ ts) h e = let here : y.type ≡ t = cc in let more : 
 pub index_typed : (k : Program) (l : PlainLoop) → check_fault k ≡ None → k.turns ≡ Some l → AreTyped l.index (loop_entries k)
 index_typed k l checked loop =
     let scope = var_scope k in
-    let here : Typed l.index (block_entries k (loop_start k + 1) l.body) (block_types (in_loop scope l) l.body) = block_typed k l.index l.body (in_loop scope l) (turns_from k + 1) (loop_start k + 1) (scope_index k) (find_last l.index scope.visible (index_alone k l checked loop).visible) (body_faultless k l checked loop) in
+    let here : Typed l.index (block_entries k (loop_start k + 1) l.body) (block_types (in_loop scope l) l.body) = block_typed k l.index l.body (in_loop scope l) (loop_start k + 1) (loop_start k + 1) (scope_index k) (find_last l.index scope.visible (index_alone k l checked loop).visible) (body_faultless k l checked loop) in
     paired l.index (loop_entries k) (turns_types scope (Some l))
     (subst (λ (o : Option PlainLoop). Typed l.index (turns_entries k (loop_start k) o) (turns_types scope (Some l))) (sym loop) (λ e. absurd cc, here))
     (loop_types k ∙ ap (turns_types scope) loop)

@@ -3,6 +3,7 @@ use Rattle.std.proofs.Common.{◌≡◌, ℕ, zero, ◌+◌, ◌<◌, ◌≤◌,
 use Rattle.guest_types.specs.EarlyLoads.{StopList}
 use Rattle.guest_types.specs.Memory.{Memory, byte_at}
 use Rattle.kernel_tree.specs.Typing.{var_scope}
+use Rattle.kernel_tree.specs.Items.{loop_start}
 use Rattle.kernel_meaning.specs.Ends as ends
 use Rattle.kernel_meaning.specs.Ends.{BlockEnd, Next, Faulted, Going, Failed}
 use Rattle.kernel_meaning.specs.Eval.{Names}
@@ -14,7 +15,6 @@ use Rattle.machine_model.specs.Machine.{State}
 use Rattle.label_fix.specs.DraftRun.{Entry, Laid}
 use Rattle.label_fix.specs.Stretches.{Leads}
 use Rattle.loop_form.specs.LoopItems.{Item}
-use Rattle.loop_form.specs.Entries.{loop_start}
 use Rattle.chunk_order.specs.Orders.{Lane, Lanes, Out, Fine, Fail, go_on, column, by_item}
 use Rattle.vector_order.specs.Items.{item_act, acts_of}
 use Rattle.chunk_emit.specs.ChunkCode.{items_words}

@@ -8,8 +8,8 @@ use Rattle.guest_types.specs.Length.{IsLength, lanes}
 use Rattle.machine_model.specs.InstructionTable.{Listed}
 use Rattle.label_fix.specs.DraftRun.{Entry, Put}
 use Rattle.dependence.specs.Apart.{bound_place}
+use Rattle.kernel_tree.specs.Items.{loop_start}
 use Rattle.loop_form.specs.LoopItems.{Item}
-use Rattle.loop_form.specs.Entries.{loop_start}
 use Rattle.chunk_emit.specs.ChunkCode.{items_words, puts}
 use Rattle.chunk_emit.specs.Fits.{FitsItems, following_items}
 use Rattle.chunk_emit.specs.Head.{Ground, layout, width, most_lanes, limit}

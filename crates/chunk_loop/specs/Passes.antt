@@ -9,6 +9,7 @@ use Rattle.kernel_meaning.specs.Iterate.{iterate}
 use Rattle.kernel_meaning.specs.ScalarRun.{iterations}
 use Rattle.machine_model.specs.declared.outcome.StopKind.{StopKind}
 use Rattle.machine_model.specs.Machine.{State, p_at}
+use Rattle.machine_model.specs.Run.{IsAccess}
 use Rattle.label_fix.specs.DraftRun.{Entry, Laid}
 use Rattle.label_fix.specs.Stretches.{Leads, Stops}
 use Rattle.dependence.specs.Apart.{bound_place}
@@ -16,7 +17,6 @@ use Rattle.chunk_order.specs.Order.{Elsewhere}
 use Rattle.chunk_emit.specs.ChunkCode.{puts}
 use Rattle.chunk_emit.specs.Chunk.{IsTop}
 use Rattle.chunk_emit.specs.Head.{Ground, IsGround, AtHead, IndexHeld, layout, width, most_lanes, limit}
-use Rattle.chunk_emit.specs.ItemsRun.{IsAccess}
 use Rattle.first_fault.specs.Split.{is_quit}
 use Rattle.chunk_loop.specs.Halts.{Breaks, Faults}
 use Rattle.chunk_loop.specs.Chunks.{items_of}

@@ -15,7 +15,6 @@ use Rattle.kernel_tree.proofs.Names.{bytes_same, NoName, index_alone}
 use Rattle.kernel_meaning.proofs.Started.{started_names}
 use Rattle.loop_form.specs.LoopItems.{bound, source_at, outer_env, loop_env}
 use Rattle.loop_form.specs.declared.loop_item.Source.TheVariants.{Constant, Outer}
-use Rattle.kernel_tree.specs.declared.fault.Binding.TheVariants as binding
 
 -- ---- the names from before the loop
 

@@ -1,12 +1,12 @@
 -- The test of Apart, and the order of the bounds.
-use Rattle.std.proofs.Common.{◌≡◌, ℕ, suc, ◌+◌, ◌-◌, ◌*◌, ◌/◌, ◌^◌, ◌<◌, ◌≤◌, Bool, true, false, List, [], ◌∷◌, length, refl, sym, ap, ◌∙◌, subst, arith, ⊎_elim, inl, inr}
-use Rattle.std.proofs.lemmas.Bool.{leb-true, le-leb, ltb-true, lt-ltb, cases_Bool, not-true}
-use Rattle.std.proofs.lemmas.Bool.Decides.{Decides-and, Decides-or, Decides-not, Decides-ltb, Decides-like}
+use Rattle.std.proofs.Common.{◌≡◌, ℕ, ◌+◌, ◌-◌, ◌*◌, ◌/◌, ◌^◌, ◌<◌, ◌≤◌, Bool, true, false, List, [], ◌∷◌, length, refl, ap, arith, ⊎_elim, inl, inr}
+use Rattle.std.proofs.lemmas.Bool.{leb-true, le-leb}
+use Rattle.std.proofs.lemmas.Bool.Decides.{Decides-and, Decides-or, Decides-ltb, Decides-like}
 use Rattle.std.proofs.lemmas.Int.{ints, by_lt_z}
 use Rattle.std.proofs.Math.Nat.{mul-le-mul_left, mul-le-mul_right}
 use Rattle.std.specs.Bool.{Decides}
 use Rattle.std.specs.Int.{div_ceil}
-use Rattle.std.specs.Prelude.{ℤ, ◌≤ℤ◌, ◌<ℤ◌, ◌⊎◌, not, ◌&&◌, ◌||◌, nat_le, nat_lt, int_le, slice_index, if◌then◌else◌}
+use Rattle.std.specs.Prelude.{ℤ, ◌≤ℤ◌, ◌⊎◌, not, ◌&&◌, ◌||◌, nat_le, nat_lt, int_le, slice_index, if◌then◌else◌}
 use Rattle.std.specs.List.{list_any, list_all}
 use Rattle.guest_types.specs.declared.length.Width.{Width}
 use Rattle.guest_types.specs.declared.length.Width.TheVariants.{B, H, S, D}
@@ -15,7 +15,7 @@ use Rattle.kernel_tree.specs.Plain.{Program}
 use Rattle.kernel_tree.specs.Items.{size_of}
 use Rattle.loop_form.specs.Lanes.{lane_width_of}
 use Rattle.dependence.specs.declared.used.Used.{Used}
-use Rattle.dependence.specs.Apart.{AreDisjoint, IsBased, AreBased, PairApart, IsApartFrom, AreApart, Spread, ApartBy, Apart, is_stored, used_of, bound_place, base_in, begin_in, end_in}
+use Rattle.dependence.specs.Apart.{AreDisjoint, AreBased, PairApart, IsApartFrom, AreApart, Spread, ApartBy, Apart, is_stored, used_of, bound_place, base_in, begin_in, end_in}
 use Rattle.dependence.specs.Bound.{is_disjoint, is_based, is_pair_apart, are_apart, is_apart_by, is_apart, runs_in_chunks, at_once, steps_for, bound, slow_bound, free_bound}
 
 decides_le : (a b : ℕ) → Decides (nat_le a b) (a ≤ b)

@@ -1,5 +1,5 @@
 -- Apart and the bound on steps of worked kernels.
-use Rattle.std.proofs.Common.{◌≡◌, ℕ, pos, ◌^◌, List, [], ◌∷◌, Some, None, Bool, true, false, refl}
+use Rattle.std.proofs.Common.{◌≡◌, ℕ, pos, ◌^◌, List, [], ◌∷◌, Some, None, true, false, refl}
 use Rattle.kernel_tree.specs.declared.ops.Ty.TheVariants as ty
 use Rattle.kernel_tree.specs.declared.ops.BinaryOp.TheVariants as binary
 use Rattle.kernel_tree.specs.declared.ast.Shape.TheVariants as shape

@@ -4,12 +4,12 @@ use Rattle.std.specs.Prelude.{slice_index, unwrap_or}
 use Rattle.std.specs.List.{list_any}
 use Rattle.std.proofs.lemmas.Bool.{cases_lt}
 use Rattle.kernel_tree.specs.Plain.{Term, Literal, Variable, Element, Unary, Operation, Shift, Conversion, Choice, Comparison, Both, Either, Not, Action, Define, Put, Update, Choose, Leave, Block, Done, Then, Otherwise, Nothing, Else, PlainLoop, Program}
-use Rattle.kernel_tree.specs.Items.{stream_offset, index_size, index_items, term_size, action_size, block_size, otherwise_size, loop_index}
+use Rattle.kernel_tree.specs.Items.{stream_offset, index_size, index_items, term_size, action_size, block_size, otherwise_size, loop_index, loop_start}
 use Rattle.kernel_tree.specs.Typing.{Scope, after_action, in_loop, var_scope}
 use Rattle.kernel_tree.proofs.Scopes.{index_after, scope_index}
 use Rattle.reg_assign.specs.declared.interval.RegClass.TheVariants.{P}
 use Rattle.reg_assign.specs.Registers.{Assignment}
-use Rattle.loop_form.specs.Entries.{Content, IsLiteral, IsName, IsRead, IsLet, IsStore, IsUpdate, IsPlain, Entry, kind_of, inner_entries, term_entries, action_entries, block_entries, otherwise_entries, turns_entries, loop_entries, loop_start, entries_of}
+use Rattle.loop_form.specs.Entries.{Content, IsLiteral, IsName, IsRead, IsLet, IsStore, IsUpdate, IsPlain, Entry, kind_of, inner_entries, term_entries, action_entries, block_entries, otherwise_entries, turns_entries, loop_entries, entries_of}
 use Rattle.loop_form.specs.Listing.{has_p, held, last_of}
 use Rattle.loop_form.specs.LoopItems.{Bound, Item, after_env, block_items, loop_env, loop_items}
 use Rattle.loop_form.specs.Numbers.{Numbered}

@@ -1,6 +1,6 @@
 -- The items of a checked kernel's loop fit, those of its break region and those of the rest.
 use Rattle.std.proofs.Common.{◌+◌}
-use Rattle.loop_form.specs.Entries.{loop_start}
+use Rattle.kernel_tree.specs.Items.{loop_start}
 use Rattle.loop_form.specs.LoopItems.{loop_items}
 use Rattle.chunk_emit.specs.KernelLayout.{layout_of_loop}
 use Rattle.chunk_emit.proofs.FitsLoop.{loop_steps}

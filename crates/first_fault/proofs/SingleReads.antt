@@ -29,7 +29,6 @@ use Rattle.chunk_emit.specs.Chunk.{Setting, count_of, Holds}
 use Rattle.chunk_emit.specs.Fits.{Assigned, MakesValue}
 use Rattle.chunk_emit.proofs.Indexes.{lane_place}
 use Rattle.chunk_emit.proofs.Loads.{only_wrote}
-use Rattle.first_fault.specs.Region.{Fell}
 use Rattle.first_fault.specs.RegionCode.{Mode, Early, Single}
 use Rattle.first_fault.specs.Prefix.{IsTop, Same, Inside}
 use Rattle.first_fault.specs.RegionRuns.{Cuts, stops, comes}

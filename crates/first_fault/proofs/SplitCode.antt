@@ -1,11 +1,11 @@
 -- The steps of a break region as the code makes them.
-use Rattle.std.proofs.Common.{◌≡◌, ℕ, zero, suc, ◌+◌, ◌<◌, ◌≤◌, Bool, true, false, not, ◌&&◌, List, [], ◌∷◌, ◌++◌, length, Option, Some, None, drop, refl, sym, ap, ap₂, ◌∙◌, subst, arith}
-use Rattle.std.specs.Prelude.{slice_get, slice_index_or, option_map, unwrap_or}
+use Rattle.std.proofs.Common.{◌≡◌, ℕ, zero, suc, ◌+◌, ◌<◌, ◌≤◌, not, ◌&&◌, List, [], ◌∷◌, ◌++◌, length, Option, Some, None, drop, refl, sym, ap, ap₂, ◌∙◌, arith}
+use Rattle.std.specs.Prelude.{slice_get, slice_index_or, option_map}
 use Rattle.std.proofs.lemmas.List.{append-nil, append_assoc, drop_all}
 use Rattle.guest_types.specs.declared.length.Width.{Width}
 use Rattle.loop_form.specs.declared.loop_item.LoopItem.{LoopItem}
 use Rattle.loop_form.specs.LoopView.{view_of, view}
-use Rattle.loop_form.specs.LoopItems.{Op, Item, item}
+use Rattle.loop_form.specs.LoopItems.{Item, item}
 use Rattle.chunk_emit.specs.Registers.{Layout}
 use Rattle.chunk_emit.specs.Writable.{IsWritable, AreWritable}
 use Rattle.chunk_emit.proofs.StepCode.{no_item, at_place}

@@ -1,21 +1,20 @@
 -- The steps of a break region fit, by a layout in which no condition has the number of a break.
-use Rattle.std.proofs.Common.{◌≡◌, ◌≢◌, ℕ, ◌+◌, ◌<◌, ◌≤◌, Bool, true, false, not, ◌&&◌, ◌||◌, List, [], ◌∷◌, length, Option, Some, None, refl, sym, ap, ◌∙◌, subst, arith, ⊎_elim}
+use Rattle.std.proofs.Common.{◌≡◌, ◌≢◌, ℕ, ◌+◌, ◌<◌, ◌≤◌, Bool, true, false, not, ◌&&◌, ◌||◌, List, [], ◌∷◌, Option, Some, None, refl, sym, ap, ◌∙◌, subst, arith, ⊎_elim}
 use Rattle.std.specs.Prelude.{nat_eq, nat_le, if◌then◌else◌}
 use Rattle.std.specs.List.{list_any}
 use Rattle.std.proofs.lemmas.Bool.{cases_lt, leb-true, and_parts}
 use Rattle.std.proofs.lemmas.Bool.Decides.{eqb_tells}
-use Rattle.guest_types.specs.declared.length.Width.{Width}
 use Rattle.kernel_tree.specs.declared.ops.Ty.{Ty}
 use Rattle.loop_form.specs.declared.loop_item.Source.{Source}
 use Rattle.loop_form.specs.declared.loop_item.Source.TheVariants.{Constant, Outer, LoopIndex, Made}
 use Rattle.loop_form.specs.LoopItems.{Op, Load, Apply, Combine, Move, Cast, Copy, Pick, Store, Add, Test, Invert, Same, Any, Quit, Item, item}
 use Rattle.chunk_emit.specs.Registers.{Layout}
 use Rattle.chunk_emit.specs.Chunk.{Setting}
-use Rattle.chunk_emit.specs.Fits.{Assigned, FitsSource, FitsOperand, FitsTruth, FitsMask, FitsOp, MakesNothing, NoneBetween, following_items}
+use Rattle.chunk_emit.specs.Fits.{Assigned, FitsSource, FitsTruth, FitsMask, MakesNothing, NoneBetween, following_items}
 use Rattle.first_fault.specs.Fits.{FitsStep, FitsRegion}
 use Rattle.first_fault.specs.Split.{quits}
 use Rattle.first_fault.specs.SplitBreaks.{takes_truth, is_quit_on, breaks_next, next_item, ends_second, in_second, is_split, opens, Spot, Alone, Second, Closed, after_opening, after_second, break_on, opening, second_of, second_step, steps_from}
-use Rattle.first_fault.proofs.SplitWays.{same_number, IsOr, is_or, IsMark, is_mark}
+use Rattle.first_fault.proofs.SplitWays.{IsOr, is_or, IsMark, is_mark}
 
 -- ---- the layout without some conditions
 

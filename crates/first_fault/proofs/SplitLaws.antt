@@ -1,5 +1,5 @@
 -- The code of the break region with breaks that are split.
-use Rattle.std.proofs.Common.{◌≡◌, ℕ, ◌+◌, ◌<◌, ◌≤◌, ℤ, Bool, true, false, List, [], ◌∷◌, ◌++◌, length, Option, Some, None, refl, sym, ap, ap₂, ◌∙◌, subst, arith, ⊎_elim}
+use Rattle.std.proofs.Common.{◌≡◌, ℕ, ◌+◌, ◌<◌, ◌≤◌, Bool, true, false, List, [], ◌∷◌, ◌++◌, length, Option, Some, None, refl, sym, ap, ap₂, ◌∙◌, subst, arith, ⊎_elim}
 use Rattle.std.specs.Prelude.{nat_lt, if◌then◌else◌}
 use Rattle.std.specs.List.{list_any}
 use Rattle.std.proofs.lemmas.Bool.{cases_lt}
@@ -9,7 +9,6 @@ use Rattle.guest_types.specs.Memory.{Memory}
 use Rattle.kernel_tree.specs.Wrap.{residue}
 use Rattle.kernel_meaning.specs.Eval.{Names}
 use Rattle.machine_model.specs.Machine.{State}
-use Rattle.machine_model.specs.InstructionTable.{Listed}
 use Rattle.label_fix.specs.DraftRun.{Entry, Laid}
 use Rattle.chunk_order.specs.Orders.{Lane, Lanes}
 use Rattle.loop_form.specs.declared.loop_item.Source.TheVariants.{Made}
@@ -19,7 +18,7 @@ use Rattle.lane_emit.specs.ItemCode.{mask_register, op_code}
 use Rattle.chunk_emit.specs.Registers.{Layout}
 use Rattle.chunk_emit.specs.ChunkCode.{vectors, puts}
 use Rattle.chunk_emit.specs.Chunk.{Setting, Holds}
-use Rattle.chunk_emit.specs.Fits.{Assigned, MakesNothing, following_items}
+use Rattle.chunk_emit.specs.Fits.{MakesNothing, following_items}
 use Rattle.first_fault.specs.Region.{Way, On, Broke, Fell, region_way}
 use Rattle.first_fault.specs.RegionCode.{Mode, Early, Single, narrow_words, step_words, region_words, set_faults, exits_words, single_words}
 use Rattle.first_fault.specs.Fits.{FitsRegion}
@@ -27,10 +26,10 @@ use Rattle.first_fault.specs.Prefix.{Inside}
 use Rattle.first_fault.specs.RegionRuns.{Why, by_break, by_fault, by_stop, Cuts, stops, comes}
 use Rattle.first_fault.specs.Rest.{NoTruthLive}
 use Rattle.first_fault.specs.Split.{quits}
-use Rattle.first_fault.specs.SplitBreaks.{Alone, steps_from, split_breaks}
+use Rattle.first_fault.specs.SplitBreaks.{Alone, split_breaks}
 use Rattle.first_fault.specs.SplitRuns.{SplitExitsRun, SplitSingleRuns}
 use Rattle.first_fault.proofs.RegionRuns.{exits_run, single_runs}
-use Rattle.first_fault.proofs.SplitWays.{Alike, AlikeWay, goes}
+use Rattle.first_fault.proofs.SplitWays.{AlikeWay, goes}
 use Rattle.first_fault.proofs.SplitFits.{without, without_less, without_same, without_assigned, quits_at, Ascends, Ahead, ahead_next, none_early, ahead_here, steps_ascend, StepsFit, fits_from}
 
 -- ---- the same words by both layouts

@@ -4,9 +4,9 @@ use Rattle.std.specs.List.{list_any}
 use Rattle.kernel_tree.specs.Plain.{PlainLoop, Program}
 use Rattle.kernel_tree.specs.Grammar.{IsTree}
 use Rattle.kernel_tree.specs.Typing.{check_fault}
+use Rattle.kernel_tree.specs.Items.{loop_start}
 use Rattle.reg_assign.specs.declared.interval.RegClass.TheVariants.{Z, P}
 use Rattle.reg_assign.specs.Registers.{Assignment}
-use Rattle.loop_form.specs.Entries.{loop_start}
 use Rattle.loop_form.specs.LoopItems.{Item, loop_items}
 use Rattle.loop_form.specs.Registers.{FitsKernel}
 use Rattle.dependence.specs.Classes.{class_of}

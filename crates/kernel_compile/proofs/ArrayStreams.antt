@@ -4,14 +4,14 @@ use Rattle.std.specs.Prelude.{option_and_then, filter_map}
 use Rattle.std.specs.List.{cons_option}
 use Rattle.kernel_tree.specs.declared.ops.Ty.{Ty}
 use Rattle.kernel_tree.specs.Plain.{Term, Literal, Variable, Element, Unary, Operation, Shift, Conversion, Choice, Comparison, Both, Either, Not, Action, Define, Put, Update, Choose, Leave, Block, Done, Then, Otherwise, Nothing, Else, Parameter, PlainLoop, Program}
-use Rattle.kernel_tree.specs.Items.{stream_offset, loop_index, index_items}
+use Rattle.kernel_tree.specs.Items.{stream_offset, loop_index, index_items, loop_start}
 use Rattle.kernel_tree.specs.Typing.{Scope, Local, Role, Value, lookup, element_type, as_value, read_faults, wanted, first, own, faults, inner_faults, index_faults, action_faults, block_faults, otherwise_faults, after_action, after_block, defined, left, in_loop, var_scope, turns_faults, check_fault}
 use Rattle.kernel_tree.proofs.Names.{array_of, array_before}
 use Rattle.kernel_tree.proofs.Faultless.{nil-left, nil-right, loop_faultless}
 use Rattle.kernel_tree.proofs.NoFault.{read_some, target_some}
 use Rattle.kernel_tree.proofs.Scopes.{index_after, scope_index}
 use Rattle.loop_form.specs.declared.stream.Stream.{Stream}
-use Rattle.loop_form.specs.Entries.{Content, IsLiteral, IsName, IsRead, IsLet, IsStore, IsUpdate, IsPlain, Entry, inner_entries, term_entries, action_entries, block_entries, otherwise_entries, turns_entries, loop_entries, loop_start}
+use Rattle.loop_form.specs.Entries.{Content, IsLiteral, IsName, IsRead, IsLet, IsStore, IsUpdate, IsPlain, Entry, inner_entries, term_entries, action_entries, block_entries, otherwise_entries, turns_entries, loop_entries}
 use Rattle.loop_form.specs.Streams.{place_of, access, access_of, stream_of, streams_of, type_of_place, In}
 use Rattle.loop_form.proofs.ArrayNames.{head_fits}
 use Rattle.kernel_tree.specs.declared.ops.Ty.TheVariants as ty

@@ -5,7 +5,7 @@ use Rattle.guest_types.specs.Length.{IsLength}
 use Rattle.guest_types.specs.Memory.{Memory, IsMemory, DoNotMeet, byte_at, merged}
 use Rattle.machine_model.specs.declared.outcome.StopKind.{StopKind}
 use Rattle.machine_model.specs.Load.{Image, load}
-use Rattle.machine_model.specs.Run.{Outcome, End, Stop, free_start, free_run, suppressed}
+use Rattle.machine_model.specs.Run.{Outcome, End, Stop, IsAccess, free_start, free_run, suppressed}
 use Rattle.kernel_tree.specs.declared.ops.Ty.{Ty}
 use Rattle.kernel_tree.specs.declared.ast.Shape.TheVariants.{Array}
 use Rattle.kernel_tree.specs.Plain.{Parameter, Program}
@@ -15,7 +15,6 @@ use Rattle.kernel_meaning.specs.ScalarRun as scalar
 use Rattle.kernel_meaning.specs.ScalarRun.{begun, scalar_run}
 use Rattle.loop_form.specs.declared.stream.Stream.{Stream}
 use Rattle.loop_form.specs.Streams.{streams_of}
-use Rattle.scalar_emit.specs.Runs.{IsAccess}
 use Rattle.dependence.specs.Apart.{bound_place}
 use Rattle.dependence.specs.Bound.{at_once, bound, slow_bound, free_bound}
 

@@ -1,5 +1,5 @@
 -- What a fault says of the verdict of a text.
-use Rattle.std.proofs.Common.{◌≡◌, refl, sym, ◌∙◌, subst, Option, Some, None, Result, Ok, Err, List, ℕ}
+use Rattle.std.proofs.Common.{◌≡◌, refl, sym, subst, Option, Some, None, Result, Ok, Err, List, ℕ}
 use Rattle.std.specs.Prelude.{IfErr, IsErrAnd}
 use Rattle.kernel_tree.specs.Plain.{Program}
 use Rattle.kernel_tree.specs.Typing.{Refusal, check_fault}
@@ -12,7 +12,7 @@ use Rattle.kernel_types.specs.declared.fault.TypeFault.TheVariants as typing
 use Rattle.kernel_types.specs.Causes.{IsCause}
 use Rattle.kernel_front.specs.declared.fault.KernelFault.{KernelFault}
 use Rattle.kernel_front.specs.declared.fault.KernelFault.TheVariants as faults
-use Rattle.kernel_front.specs.Verdict.{Verdict, Limited, NoKernel, Refused, Sound, IsVerdict, Explains, IsBroken}
+use Rattle.kernel_front.specs.Verdict.{Verdict, Limited, NoKernel, Refused, IsVerdict, Explains, IsBroken}
 use Rattle.kernel_front.proofs.OneVerdict.{one_verdict}
 
 explained : (v : Verdict) (r : Refusal) (fault : TypeFault) → v ≡ Refused r → IsCause (Some r) fault → Explains v (faults.Broken fault)

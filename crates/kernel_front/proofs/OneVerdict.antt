@@ -1,12 +1,12 @@
 -- A text has one verdict at most.
-use Rattle.std.proofs.Common.{◌≡◌, refl, sym, ◌∙◌, ap, subst, Option, Some, None, Result, Ok, Err, List, ℕ}
+use Rattle.std.proofs.Common.{◌≡◌, sym, ◌∙◌, ap, subst, Some, None, Result, Ok, List, ℕ}
 use Rattle.kernel_tree.specs.Word.{Word}
 use Rattle.kernel_tree.specs.Plain.{Program}
 use Rattle.kernel_tree.specs.Typing.{Refusal, check_fault}
 use Rattle.kernel_tree.specs.Grammar.{Tree}
 use Rattle.kernel_tree.proofs.OneTree.{tree_once}
 use Rattle.kernel_syntax.specs.declared.fault.ReadFault.{ReadFault}
-use Rattle.kernel_syntax.specs.Refusals.{limit_fault, IsReadFrom, HasNoTree}
+use Rattle.kernel_syntax.specs.Refusals.{IsReadFrom, HasNoTree}
 use Rattle.kernel_syntax.proofs.Place.{stops_once}
 use Rattle.kernel_front.specs.Verdict.{Verdict, Limited, NoKernel, Refused, Sound, IsVerdict}
 

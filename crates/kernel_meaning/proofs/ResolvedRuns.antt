@@ -17,14 +17,14 @@ use Rattle.kernel_meaning.specs.Resolve.{most_slots, resolved_block}
 use Rattle.kernel_meaning.specs.Plans.{resolved_vars, resolved_loop, resolved_turns, resolved_answer, planned, filled, turn, slot_iterations, slot_answer, slot_closed, Limited, Ended, Cut, slot_finish, slot_loop, slot_turns, slot_begun, slot_run}
 use Rattle.kernel_meaning.proofs.HeldSlots.{Held, value-held, named-held, held-length}
 use Rattle.kernel_meaning.proofs.ResolvedValues.{same}
-use Rattle.kernel_scope.proofs.Growth.{grows_by_block}
-use Rattle.kernel_meaning.proofs.ResolvedStatements.{Wider, wider, wider_further, Closed, NextsIn, BreaksIn, FaultsIn, widen, cut-same, block-same, block_lets}
+use Rattle.kernel_meaning.proofs.Extends.{Extends, extends_one, extends_on, visible_block}
+use Rattle.kernel_meaning.proofs.ResolvedStatements.{Closed, NextsIn, BreaksIn, FaultsIn, widen, cut-same, block-same, block_lets}
 use Rattle.kernel_tree.specs.declared.fault.Binding.TheVariants as binding
 
 -- ---- iterations
 
-body_wider : (s : Scope) (l : PlainLoop) → Wider s (after_block (in_loop s l) l.body)
-body_wider s l = wider_further s (in_loop s l) (after_block (in_loop s l) l.body) (record { more = local l.index binding.Index ∷ []; visible = refl }) (wider (in_loop s l) (after_block (in_loop s l) l.body) (grows_by_block l.body (in_loop s l)))
+body_extends : (s : Scope) (l : PlainLoop) → Extends s.visible (after_block (in_loop s l) l.body).visible
+body_extends s l = extends_on (extends_one s.visible (local l.index binding.Index)) (visible_block (in_loop s l) l.body)
 
 iterate-same : (s : Scope) (l : PlainLoop) (i : ℕ) (m : Memory) (ns : Names) (vs : Slots) → Held s.visible ns vs → length vs ≡ most_slots → length s.visible + 1 + block_lets l.body ≤ most_slots → Closed s (iterate s l i m ns) (turn (resolved_loop s l) i m vs)
 iterate-same s l i m ns vs h n room =
@@ -35,7 +35,7 @@ iterate-same s l i m ns vs h n room =
     let more : length (in_loop s l).visible ≡ length s.visible + 1 = length-append s.visible (local l.index binding.Index ∷ []) in
     cut-same s (after_block (in_loop s l) l.body) (length ns) (do_block (in_loop s l) l.body m ns') (do_tasks (resolved_block (in_loop s l) l.body) m vs')
     (widen s (in_loop s l) (after_block (in_loop s l) l.body) _ _ (record { more = local l.index binding.Index ∷ []; visible = refl }) (block-same l.body (in_loop s l) m ns' vs' h' n' (omega arith)))
-    (body_wider s l) (held-length s.visible ns vs h)
+    (body_extends s l) (held-length s.visible ns vs h)
 
 -- two loops that stand alike
 pub data Alongside (s : Scope) : LoopState Names → LoopState Slots → Type 0 where

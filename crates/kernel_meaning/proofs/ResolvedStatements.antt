@@ -1,13 +1,13 @@
 -- Resolved statements do what their statements do.
-use Rattle.std.proofs.Common.{◌≡◌, ℕ, ◌+◌, ◌≤◌, List, [], ◌∷◌, ◌++◌, Bool, true, false, Option, Some, None, Result, Ok, Err, length, take, refl, sym, ap, subst, ◌∙◌, append_assoc, arith}
+use Rattle.std.proofs.Common.{◌≡◌, ℕ, ◌+◌, ◌≤◌, List, [], ◌∷◌, Bool, true, false, Option, Some, None, Result, Ok, Err, length, take, refl, sym, subst, ◌∙◌, arith}
 use Rattle.std.specs.Prelude.{ℤ, option_and_then, slice_set}
-use Rattle.std.proofs.lemmas.List.{length-set, set_past, length-append, append-nil}
+use Rattle.std.proofs.lemmas.List.{length-set, set_past, length-append}
 use Rattle.kernel_tree.specs.declared.ops.Ty.{Ty}
 use Rattle.kernel_tree.specs.declared.ops.UpdateOp.{UpdateOp}
 use Rattle.kernel_tree.specs.declared.fault.Binding.TheVariants as binding
 use Rattle.kernel_tree.specs.Items.{stream_offset}
 use Rattle.kernel_tree.specs.Plain.{Action, Define, Put, Update, Choose, Leave, Block, Done, Then, Otherwise, Nothing, Else}
-use Rattle.kernel_tree.specs.Typing.{Scope, Local, local, first, own, lookup, element_type, accumulator_type, index_type, left, defined, after_action, after_block}
+use Rattle.kernel_tree.specs.Typing.{Scope, local, first, own, lookup, element_type, accumulator_type, index_type, left, defined, after_action, after_block}
 use Rattle.guest_types.specs.declared.memory.AccessFault.{AccessFault}
 use Rattle.guest_types.specs.Memory.{Memory, stored}
 use Rattle.kernel_meaning.specs.Ends.{BlockEnd, Next, Broke, Faulted}
@@ -18,30 +18,13 @@ use Rattle.kernel_meaning.specs.Slots.{Slots, slot_at, tree_value, set_slot, wri
 use Rattle.kernel_meaning.specs.Resolve.{most_slots, slot_of, let_slot, number_tree, resolved, resolved_action, resolved_block, resolved_otherwise}
 use Rattle.kernel_meaning.proofs.HeldSlots.{Held, value-held, assigned-held, named-held, cut-held, held-length}
 use Rattle.kernel_meaning.proofs.ResolvedValues.{Alike, Neither, Words, same, number-alike, address-word}
-use Rattle.kernel_scope.proofs.Growth.{Grows, grows_by_block, grows_by_action}
-
--- more names are visible
-pub record Wider (s t : Scope) : Type 0 where
-  pub more : List Local
-  pub visible : t.visible ≡ s.visible ++ more
-
-pub wider : (s t : Scope) → Grows s t → Wider s t
-wider s t g = record { more = g.more; visible = g.visible }
-
-pub wider_further : (s t u : Scope) → Wider s t → Wider t u → Wider s u
-wider_further s t u g h = record { more = g.more ++ h.more; visible = h.visible ∙ ap (λ (ls : List Local). ls ++ h.more) g.visible ∙ append_assoc s.visible g.more h.more }
-
-wider_same : (s : Scope) → Wider s s
-wider_same s = record { more = []; visible = sym (append-nil s.visible) }
-
-wider_left : (s t : Scope) → Wider s (left s t)
-wider_left s t = record { more = []; visible = sym (append-nil s.visible) }
+use Rattle.kernel_meaning.proofs.Extends.{Extends, extends_none, extends_on, visible_after, visible_block}
 
 -- two turns that leave the same memory, and in the slots what the names have: those of the scope after the statements, or
 -- of a wider one than theirs where a `break` ended the loop
 pub data Matches (s t : Scope) : BlockEnd Names → BlockEnd Slots → Type 0 where
   Nexts : (m : Memory) (ns : Names) (vs : Slots) → Held t.visible ns vs → length vs ≡ most_slots → Matches s t (Next m ns) (Next m vs)
-  Breaks : (m : Memory) (ns : Names) (vs : Slots) (u : Scope) → Wider s u → Held u.visible ns vs → length vs ≡ most_slots → Matches s t (Broke m ns) (Broke m vs)
+  Breaks : (m : Memory) (ns : Names) (vs : Slots) (u : Scope) → Extends s.visible u.visible → Held u.visible ns vs → length vs ≡ most_slots → Matches s t (Broke m ns) (Broke m vs)
   Faults : (m : Memory) → Matches s t (Faulted m) (Faulted m)
 
 -- the same after a block
@@ -80,20 +63,20 @@ put-alike s (Some t) base m ns vs (Some v) _ _ (Words y x e) h l =
 
 leave-same : (s : Scope) (m : Memory) (ns : Names) (vs : Slots) (o : Option Bool) → Held s.visible ns vs → length vs ≡ most_slots → Matches s s (leave m ns o) (quit m vs o)
 leave-same s m ns vs None h l = Faults m
-leave-same s m ns vs (Some true) h l = Breaks m ns vs s (wider_same s) h l
+leave-same s m ns vs (Some true) h l = Breaks m ns vs s (extends_none s.visible) h l
 leave-same s m ns vs (Some false) h l = Nexts m ns vs h l
 
-narrow : (s u : Scope) (n : ℕ) (ns : Names) (vs : Slots) → Wider s u → n ≡ length s.visible → Held u.visible ns vs → Held s.visible (take n ns) vs
-narrow s u n ns vs g e h = subst (λ k. Held s.visible (take k ns) vs) (sym e) (cut-held s.visible g.more ns vs (subst (λ ls. Held ls ns vs) g.visible h))
+narrow : (s u : Scope) (n : ℕ) (ns : Names) (vs : Slots) → Extends s.visible u.visible → n ≡ length s.visible → Held u.visible ns vs → Held s.visible (take n ns) vs
+narrow s u n ns vs g e h = subst (λ k. Held s.visible (take k ns) vs) (sym e) (cut-held s.visible g.more ns vs (subst (λ ls. Held ls ns vs) g.is h))
 
-pub cut-same : (s t : Scope) (n : ℕ) (turn : BlockEnd Names) (stand : BlockEnd Slots) → Matches s t turn stand → Wider s t → n ≡ length s.visible → Closed s (cut n turn) stand
+pub cut-same : (s t : Scope) (n : ℕ) (turn : BlockEnd Names) (stand : BlockEnd Slots) → Matches s t turn stand → Extends s.visible t.visible → n ≡ length s.visible → Closed s (cut n turn) stand
 cut-same s t n _ _ (Nexts m ns vs h l) g e = NextsIn m (take n ns) vs (narrow s t n ns vs g e h) l
 cut-same s t n _ _ (Breaks m ns vs u w h l) g e = BreaksIn m (take n ns) vs (narrow s u n ns vs w e h) l
 cut-same s t n _ _ (Faults m) g e = FaultsIn m
 
 reopen : (s t : Scope) (turn : BlockEnd Names) (stand : BlockEnd Slots) → t.visible ≡ s.visible → Closed s turn stand → Matches s t turn stand
 reopen s t _ _ e (NextsIn m ns vs h l) = Nexts m ns vs (subst (λ ls. Held ls ns vs) (sym e) h) l
-reopen s t _ _ e (BreaksIn m ns vs h l) = Breaks m ns vs s (wider_same s) h l
+reopen s t _ _ e (BreaksIn m ns vs h l) = Breaks m ns vs s (extends_none s.visible) h l
 reopen s t _ _ e (FaultsIn m) = Faults m
 
 branch-same : (s t : Scope) (m : Memory) (o : Option Bool) (one other : BlockEnd Names) (a b : BlockEnd Slots) → Matches s t one a → Matches s t other b → Matches s t (choose m o one other) (branch m o a b)
@@ -101,12 +84,12 @@ branch-same s t m None one other a b p q = Faults m
 branch-same s t m (Some true) one other a b p q = p
 branch-same s t m (Some false) one other a b p q = q
 
-pub widen : (r s t : Scope) (turn : BlockEnd Names) (stand : BlockEnd Slots) → Wider r s → Matches s t turn stand → Matches r t turn stand
+pub widen : (r s t : Scope) (turn : BlockEnd Names) (stand : BlockEnd Slots) → Extends r.visible s.visible → Matches s t turn stand → Matches r t turn stand
 widen r s t _ _ g (Nexts m ns vs h l) = Nexts m ns vs h l
-widen r s t _ _ g (Breaks m ns vs u w h l) = Breaks m ns vs u (wider_further r s u g w) h l
+widen r s t _ _ g (Breaks m ns vs u w h l) = Breaks m ns vs u (extends_on g w) h l
 widen r s t _ _ g (Faults m) = Faults m
 
-then-same : (r s t : Scope) (turn : BlockEnd Names) (stand : BlockEnd Slots) (rest : Memory → Names → BlockEnd Names) (others : Memory → Slots → BlockEnd Slots) → Matches r s turn stand → Wider r s → ((m : Memory) (ns : Names) (vs : Slots) → Held s.visible ns vs → length vs ≡ most_slots → Matches s t (rest m ns) (others m vs)) → Matches r t (then_do turn rest) (then_go stand others)
+then-same : (r s t : Scope) (turn : BlockEnd Names) (stand : BlockEnd Slots) (rest : Memory → Names → BlockEnd Names) (others : Memory → Slots → BlockEnd Slots) → Matches r s turn stand → Extends r.visible s.visible → ((m : Memory) (ns : Names) (vs : Slots) → Held s.visible ns vs → length vs ≡ most_slots → Matches s t (rest m ns) (others m vs)) → Matches r t (then_do turn rest) (then_go stand others)
 then-same r s t _ _ rest others (Nexts m ns vs h l) g next = widen r s t (rest m ns) (others m vs) g (next m ns vs h l)
 then-same r s t _ _ rest others (Breaks m ns vs u w h l) g next = Breaks m ns vs u w h l
 then-same r s t _ _ rest others (Faults m) g next = Faults m
@@ -168,12 +151,12 @@ mutual
       let u = after_action s (Choose c b d) in
       let truth = (same s c m ns vs h (omega arith)).holds_is None in
       let n = held-length s.visible ns vs h in
-      let one = cut-same s (after_block s b) (length ns) (do_block s b m ns) (do_tasks (resolved_block s b) m vs) (block-same b s m ns vs h l (omega arith)) (wider s (after_block s b) (grows_by_block b s)) n in
+      let one = cut-same s (after_block s b) (length ns) (do_block s b m ns) (do_tasks (resolved_block s b) m vs) (block-same b s m ns vs h l (omega arith)) (visible_block s b) n in
       let other = otherwise-same d t (length ns) m ns vs h l (omega arith) n in
       subst (λ o. Matches s u (choose m (holds s c m ns) (cut (length ns) (do_block s b m ns)) (cut (length ns) (do_otherwise t d m ns))) (branch m o (do_tasks (resolved_block s b) m vs) (do_tasks (resolved_otherwise t d) m vs))) (sym truth)
       (branch-same s u m (holds s c m ns) (cut (length ns) (do_block s b m ns)) (cut (length ns) (do_otherwise t d m ns)) (do_tasks (resolved_block s b) m vs) (do_tasks (resolved_otherwise t d) m vs)
       (reopen s u (cut (length ns) (do_block s b m ns)) (do_tasks (resolved_block s b) m vs) refl one)
-      (widen s t u (cut (length ns) (do_otherwise t d m ns)) (do_tasks (resolved_otherwise t d) m vs) (wider_left s (after_block s b)) (reopen t u (cut (length ns) (do_otherwise t d m ns)) (do_tasks (resolved_otherwise t d) m vs) refl other)))
+      (widen s t u (cut (length ns) (do_otherwise t d m ns)) (do_tasks (resolved_otherwise t d) m vs) (extends_none s.visible) (reopen t u (cut (length ns) (do_otherwise t d m ns)) (do_tasks (resolved_otherwise t d) m vs) refl other)))
   act-same (Leave c) s m ns vs h l room =
       let truth = (same s c m ns vs h (omega arith)).holds_is None in
       subst (λ o. Matches s s (leave m ns (holds s c m ns)) (quit m vs o)) (sym truth) (leave-same s m ns vs (holds s c m ns) h l)
@@ -183,8 +166,8 @@ mutual
   block-same (Then a b) s m ns vs h l room =
       let r = action_room s a in
       then-same s (after_action s a) (after_block (after_action s a) b) (act s a m ns) (do_task (resolved_action s a) m vs) (do_block (after_action s a) b) (do_tasks (resolved_block (after_action s a) b))
-      (act-same a s m ns vs h l (omega arith)) (wider s (after_action s a) (grows_by_action a s)) (λ m' ns' vs' h' l'. block-same b (after_action s a) m' ns' vs' h' l' (omega arith))
+      (act-same a s m ns vs h l (omega arith)) (visible_after s a) (λ m' ns' vs' h' l'. block-same b (after_action s a) m' ns' vs' h' l' (omega arith))
 
   otherwise-same : (d : Otherwise) (s : Scope) (n : ℕ) (m : Memory) (ns : Names) (vs : Slots) → Held s.visible ns vs → length vs ≡ most_slots → length s.visible + otherwise_lets d ≤ most_slots → n ≡ length s.visible → Closed s (cut n (do_otherwise s d m ns)) (do_tasks (resolved_otherwise s d) m vs)
-  otherwise-same Nothing s n m ns vs h l room e = cut-same s s n (Next m ns) (Next m vs) (Nexts m ns vs h l) (wider_same s) e
-  otherwise-same (Else b) s n m ns vs h l room e = cut-same s (after_block s b) n (do_block s b m ns) (do_tasks (resolved_block s b) m vs) (block-same b s m ns vs h l room) (wider s (after_block s b) (grows_by_block b s)) e
+  otherwise-same Nothing s n m ns vs h l room e = cut-same s s n (Next m ns) (Next m vs) (Nexts m ns vs h l) (extends_none s.visible) e
+  otherwise-same (Else b) s n m ns vs h l room e = cut-same s (after_block s b) n (do_block s b m ns) (do_tasks (resolved_block s b) m vs) (block-same b s m ns vs h l room) (visible_block s b) e

@@ -5,7 +5,7 @@ use Rattle.kernel_tree.specs.declared.mark.Mark.TheVariants as mark
 use Rattle.kernel_tree.specs.Word.{Word, IsNumber, IsMark}
 use Rattle.kernel_tree.specs.Tokens.{tokens_of, scan}
 use Rattle.kernel_tree.specs.Front.{Viable, kernel_name}
-use Rattle.kernel_syntax.specs.Refusals.{IsPlace, StopsAt}
+use Rattle.kernel_syntax.specs.Refusals.{StopsAt}
 
 -- kernel 5
 abbrev words : List Word

@@ -1,9 +1,9 @@
 -- No rule of typing fails in a checked kernel: none in its parts.
-use Rattle.std.proofs.Common.{◌≡◌, ℕ, ◌+◌, Bool, true, false, cond, List, [], ◌∷◌, ◌++◌, length, Option, Some, None, refl, subst}
+use Rattle.std.proofs.Common.{◌≡◌, ◌+◌, Bool, true, false, cond, List, [], ◌∷◌, ◌++◌, length, Option, Some, None, refl, subst}
 use Rattle.std.specs.Prelude.{nat_lt, option_map}
 use Rattle.kernel_tree.specs.declared.fault.Found.{Found}
 use Rattle.kernel_tree.specs.Plain.{PlainLoop, Program}
-use Rattle.kernel_tree.specs.Items.{loop_index, size_of, vars_size, turns_size}
+use Rattle.kernel_tree.specs.Items.{loop_end, loop_index, loop_start, size_of}
 use Rattle.kernel_tree.specs.Limits.{most_items, most_depth, depth_of}
 use Rattle.kernel_tree.specs.Typing.{TooLarge, TooDeep, Fails, sooner, least, lookup, twice, bound_faults, block_faults, params_faults, vars_faults, turns_faults, answer_faults, kernel_faults, check_fault, empty, param_scope, var_scope, in_loop, after_turns}
 
@@ -47,32 +47,28 @@ params_faultless k e = nil-left (params_faults (empty (loop_index k)) 0 k.params
 pub vars_faultless : (k : Program) → check_fault k ≡ None → vars_faults (param_scope k) (length k.params) k.vars ≡ []
 vars_faultless k e = nil-left (vars_faults (param_scope k) (length k.params) k.vars) _ (nil-right (params_faults (empty (loop_index k)) 0 k.params) _ (faultless k e))
 
--- the item of the loop
-abbrev pub turns_from : Program → ℕ
-turns_from k = length k.params + vars_size (loop_index k) k.vars
-
-rest_faultless : (k : Program) → check_fault k ≡ None → turns_faults (var_scope k) (turns_from k) k.turns ++ answer_faults (after_turns (var_scope k) k.turns) (turns_from k + turns_size k.turns) k.answer ≡ []
+rest_faultless : (k : Program) → check_fault k ≡ None → turns_faults (var_scope k) (loop_start k) k.turns ++ answer_faults (after_turns (var_scope k) k.turns) loop_end k k.answer ≡ []
 rest_faultless k e = nil-right (vars_faults (param_scope k) (length k.params) k.vars) _ (nil-right (params_faults (empty (loop_index k)) 0 k.params) _ (faultless k e))
 
-pub loop_faultless : (k : Program) → check_fault k ≡ None → turns_faults (var_scope k) (turns_from k) k.turns ≡ []
-loop_faultless k e = nil-left (turns_faults (var_scope k) (turns_from k) k.turns) _ (rest_faultless k e)
+pub loop_faultless : (k : Program) → check_fault k ≡ None → turns_faults (var_scope k) (loop_start k) k.turns ≡ []
+loop_faultless k e = nil-left (turns_faults (var_scope k) (loop_start k) k.turns) _ (rest_faultless k e)
 
-pub answer_faultless : (k : Program) → check_fault k ≡ None → answer_faults (after_turns (var_scope k) k.turns) (turns_from k + turns_size k.turns) k.answer ≡ []
-answer_faultless k e = nil-right (turns_faults (var_scope k) (turns_from k) k.turns) _ (rest_faultless k e)
+pub answer_faultless : (k : Program) → check_fault k ≡ None → answer_faults (after_turns (var_scope k) k.turns) loop_end k k.answer ≡ []
+answer_faultless k e = nil-right (turns_faults (var_scope k) (loop_start k) k.turns) _ (rest_faultless k e)
 
 -- ---- in a loop
 
-pub turns_faultless : (k : Program) (l : PlainLoop) → check_fault k ≡ None → k.turns ≡ Some l → turns_faults (var_scope k) (turns_from k) (Some l) ≡ []
-turns_faultless k l e t = subst (λ o. turns_faults (var_scope k) (turns_from k) o ≡ []) t (loop_faultless k e)
+pub turns_faultless : (k : Program) (l : PlainLoop) → check_fault k ≡ None → k.turns ≡ Some l → turns_faults (var_scope k) (loop_start k) (Some l) ≡ []
+turns_faultless k l e t = subst (λ o. turns_faults (var_scope k) (loop_start k) o ≡ []) t (loop_faultless k e)
 
-pub bound_faultless : (k : Program) (l : PlainLoop) → check_fault k ≡ None → k.turns ≡ Some l → bound_faults (turns_from k) (lookup (var_scope k) l.bound) ≡ []
-bound_faultless k l e t = nil-left (bound_faults (turns_from k) (lookup (var_scope k) l.bound)) _ (turns_faultless k l e t)
+pub bound_faultless : (k : Program) (l : PlainLoop) → check_fault k ≡ None → k.turns ≡ Some l → bound_faults (loop_start k) (lookup (var_scope k) l.bound) ≡ []
+bound_faultless k l e t = nil-left (bound_faults (loop_start k) (lookup (var_scope k) l.bound)) _ (turns_faultless k l e t)
 
-index_rest : (k : Program) (l : PlainLoop) → check_fault k ≡ None → k.turns ≡ Some l → twice (turns_from k) (var_scope k) l.index ++ block_faults (in_loop (var_scope k) l) (turns_from k + 1) l.body ≡ []
-index_rest k l e t = nil-right (bound_faults (turns_from k) (lookup (var_scope k) l.bound)) _ (turns_faultless k l e t)
+index_rest : (k : Program) (l : PlainLoop) → check_fault k ≡ None → k.turns ≡ Some l → twice (loop_start k) (var_scope k) l.index ++ block_faults (in_loop (var_scope k) l) (loop_start k + 1) l.body ≡ []
+index_rest k l e t = nil-right (bound_faults (loop_start k) (lookup (var_scope k) l.bound)) _ (turns_faultless k l e t)
 
-pub index_faultless : (k : Program) (l : PlainLoop) → check_fault k ≡ None → k.turns ≡ Some l → twice (turns_from k) (var_scope k) l.index ≡ []
-index_faultless k l e t = nil-left (twice (turns_from k) (var_scope k) l.index) _ (index_rest k l e t)
+pub index_faultless : (k : Program) (l : PlainLoop) → check_fault k ≡ None → k.turns ≡ Some l → twice (loop_start k) (var_scope k) l.index ≡ []
+index_faultless k l e t = nil-left (twice (loop_start k) (var_scope k) l.index) _ (index_rest k l e t)
 
-pub body_faultless : (k : Program) (l : PlainLoop) → check_fault k ≡ None → k.turns ≡ Some l → block_faults (in_loop (var_scope k) l) (turns_from k + 1) l.body ≡ []
-body_faultless k l e t = nil-right (twice (turns_from k) (var_scope k) l.index) _ (index_rest k l e t)
+pub body_faultless : (k : Program) (l : PlainLoop) → check_fault k ≡ None → k.turns ≡ Some l → block_faults (in_loop (var_scope k) l) (loop_start k + 1) l.body ≡ []
+body_faultless k l e t = nil-right (twice (loop_start k) (var_scope k) l.index) _ (index_rest k l e t)

@@ -8,7 +8,8 @@ use Rattle.kernel_tree.specs.declared.fault.Binding.{Binding}
 use Rattle.kernel_tree.specs.declared.fault.Binding.TheVariants as binding
 use Rattle.kernel_tree.specs.Plain.{PlainLoop, Program}
 use Rattle.kernel_tree.specs.Typing.{value_type, element_type, accumulator_type, lookup, number_of_type, mismatch, typed_faults, name_faults, read_faults, untyped, kind_faults, target_faults, update_faults, stream_faults, bound_faults, check_fault, var_scope}
-use Rattle.kernel_tree.proofs.Faultless.{turns_from, bound_faultless}
+use Rattle.kernel_tree.specs.Items.{loop_start}
+use Rattle.kernel_tree.proofs.Faultless.{bound_faultless}
 
 pub is_empty : {A : Type 0} (b : Bool) (x : A) (xs : List A) → cond b [] (x ∷ xs) ≡ [] → b ≡ true
 is_empty true x xs e = refl
@@ -108,4 +109,4 @@ bound_known item (Some (binding.Value t)) e = absurd cc
 bound_known item (Some binding.Index) e = absurd cc
 
 pub bound_scalar : (k : Program) (l : PlainLoop) → check_fault k ≡ None → k.turns ≡ Some l → lookup (var_scope k) l.bound ≡ Some (binding.Scalar ty.U64)
-bound_scalar k l e t = bound_known (turns_from k) (lookup (var_scope k) l.bound) (bound_faultless k l e t)
+bound_scalar k l e t = bound_known (loop_start k) (lookup (var_scope k) l.bound) (bound_faultless k l e t)

@@ -96,6 +96,13 @@ index_of l = l.index
 abbrev pub loop_index : Program → Option (List ℕ)
 loop_index k = option_map index_of k.turns
 
+-- the number of `for`, and the first number after the loop
+abbrev pub loop_start : Program → ℕ
+loop_start k = length k.params + vars_size (loop_index k) k.vars
+
+abbrev pub loop_end : Program → ℕ
+loop_end k = loop_start k + turns_size k.turns
+
 -- the items of a kernel: its parameters, accumulators, loop and returned value
 abbrev pub size_of : Program → ℕ
 size_of k = length k.params + vars_size (loop_index k) k.vars + turns_size k.turns + answer_size (loop_index k) k.answer

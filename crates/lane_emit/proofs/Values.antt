@@ -29,7 +29,7 @@ use Rattle.machine_model.specs.VectorEffects.{do_vector, put_lanes}
 use Rattle.sve_code.specs.Table.{Name, lsr_imm, asr_imm, m_smax, m_umax, m_smin, m_umin, m_mul, m_abs}
 use Rattle.lane_emit.specs.Right.{IsOf, ZRight, PRight, fits}
 use Rattle.lane_emit.specs.Stretch as stretch
-use Rattle.lane_emit.specs.Stretch.{Word, OnlyZ, Ready, MakesZ}
+use Rattle.lane_emit.specs.Stretch.{OnlyZ, Ready, MakesZ}
 use Rattle.lane_emit.specs.ItemCode.{AllOf}
 use Rattle.lane_emit.specs.LaneCode.{size_of, z_copy, z_extend, z_settle, unary_leaves, unary_code, merged, binary_code, shift_word, right_name, lane_count, shift_by, shift_code, cast_code, copy_code, pick_code}
 use Rattle.lane_emit.proofs.Ranges.{InBits, in_bits, widened, wrap-of, of-fits, of-cond, of-shr, of-flip, abs-unsigned}

@@ -3,7 +3,7 @@
 -- after the first word that writes that register, so that it may be an operand's own.
 use Rattle.std.specs.Prelude.{ℕ, ◌+◌, ◌-◌, ◌*◌, ◌/◌, ◌%◌, ℤ, Bool, true, false, List, [], ◌∷◌, min, nat_eq, nat_le, if◌then◌else◌}
 use Rattle.guest_types.specs.declared.length.Width.{Width}
-use Rattle.guest_types.specs.declared.length.Width.TheVariants.{B, H, S, D}
+use Rattle.guest_types.specs.declared.length.Width.TheVariants.{D}
 use Rattle.guest_types.specs.Length.{width_bits}
 use Rattle.kernel_tree.specs.declared.ops.Ty.{Ty}
 use Rattle.kernel_tree.specs.declared.ops.Ty.TheVariants as ty

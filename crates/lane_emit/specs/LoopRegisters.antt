@@ -2,12 +2,12 @@
 -- register j is P (2 + j), since P0 holds the chunk and P1 is all true.
 use Rattle.std.specs.Prelude.{ℕ, suc, ◌+◌, ◌-◌, ◌<◌, List, [], ◌∷◌, Option, Some, None, Bool, true, false, ◌&&◌, option_map, bytes_eq, slice_get, slice_index, if◌then◌else◌}
 use Rattle.kernel_tree.specs.Plain.{Program}
+use Rattle.kernel_tree.specs.Items.{loop_start}
 use Rattle.reg_assign.specs.declared.interval.RegClass.{RegClass}
 use Rattle.reg_assign.specs.declared.interval.RegClass.TheVariants.{Z, P}
 use Rattle.reg_assign.specs.Registers.{Assignment}
 use Rattle.loop_form.specs.declared.loop_item.Source.{Source}
 use Rattle.loop_form.specs.declared.loop_item.Source.TheVariants.{Constant, Outer, LoopIndex, Made}
-use Rattle.loop_form.specs.Entries.{loop_start}
 use Rattle.loop_form.specs.Needs as needs
 use Rattle.loop_form.specs.Needs.{Throughout, scalar_of, same_type, same_number, throughout}
 use Rattle.loop_form.specs.Places.{value_places}

@@ -3,8 +3,9 @@
 ghost use Rattle.std.specs.Prelude.{◌≡◌, ◌+◌, ◌-◌, length, slice_get, is_some, IfOk};
 ghost use Rattle.reg_assign.specs.declared.interval.RegClass.TheVariants as class;
 ghost use Rattle.reg_assign.specs.Registers.{IsAssignment};
+ghost use Rattle.kernel_tree.specs.Items.{loop_start};
 ghost use Rattle.loop_form.specs.declared.loop_item.Source.TheVariants as operand;
-ghost use Rattle.loop_form.specs.Entries.{loop_entries, loop_start};
+ghost use Rattle.loop_form.specs.Entries.{loop_entries};
 ghost use Rattle.loop_form.specs.HeldView.{view, view_of};
 ghost use Rattle.loop_form.specs.Needs as needs;
 ghost use Rattle.loop_form.specs.Places as places;

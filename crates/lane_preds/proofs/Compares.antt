@@ -5,7 +5,7 @@ use Rattle.std.proofs.lemmas.Bool.{cond-false, cases_lt, ne_eqb, lt-ltb, le-ltb,
 use Rattle.std.proofs.lemmas.List.{append-nil}
 use Rattle.std.proofs.lemmas.Simd.{get_or-chunk, get_or-zip2, put_chunk_is, get_or-put_chunk_below, get_or-put_chunk_at, get_or-put_chunk_above, length-put_chunk, Each1-put_chunk, Each1-from_get_or}
 use Rattle.std.proofs.Math.Nat.{div-one, mod-one}
-use lib.Lanes.{zip2, put_chunk, Each1}
+use lib.Lanes.{zip2, put_chunk}
 use Rattle.guest_types.specs.declared.length.Width.{Width}
 use Rattle.guest_types.specs.declared.length.Width.TheVariants.{B, H, S, D}
 use Rattle.guest_types.specs.declared.operation.LaneCompare.{LaneCompare}

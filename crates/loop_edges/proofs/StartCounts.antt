@@ -3,9 +3,9 @@ use Rattle.std.proofs.Common.{ℕ, ◌+◌, ◌≤◌, List, [], ◌∷◌, ◌+
 use Rattle.std.specs.Prelude.{map, filter, option_map}
 use Rattle.std.proofs.lemmas.List.{length-map}
 use Rattle.kernel_tree.specs.Plain.{PlainLoop, Program}
-use Rattle.kernel_tree.specs.Items.{index_of, loop_index}
+use Rattle.kernel_tree.specs.Items.{index_of, loop_index, loop_start}
 use Rattle.loop_form.specs.declared.item.ItemKind.TheVariants as kind
-use Rattle.loop_form.specs.Entries.{IsPlain, Entry, entry, block_entries, turns_entries, loop_start, loop_entries}
+use Rattle.loop_form.specs.Entries.{IsPlain, Entry, entry, block_entries, turns_entries, loop_entries}
 use Rattle.loop_form.specs.Needs.{scalars, is_named_scalar, scalar_of, constants, new_constant, index_held, is_updated, accumulating_of}
 use Rattle.loop_form.proofs.FewItems.{vars-small}
 use Rattle.loop_form.proofs.Numbers.{loop-listed}

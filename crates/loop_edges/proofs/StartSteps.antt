@@ -1,5 +1,5 @@
 -- A value from before the loop, laid into all elements of its register.
-use Rattle.std.proofs.Common.{◌≡◌, ◌≢◌, ℕ, ◌*◌, ◌/◌, ◌%◌, ◌^◌, ◌<◌, ◌≤◌, ℤ, List, [], ◌∷◌, Option, refl, sym, ap, ◌∙◌, subst, arith}
+use Rattle.std.proofs.Common.{◌≡◌, ◌≢◌, ℕ, ◌^◌, ◌<◌, ◌≤◌, ℤ, List, [], Option, refl, sym, ap, ◌∙◌, subst, arith}
 use Rattle.std.specs.Prelude.{slice_index, slice_index_or, unwrap_or}
 use Rattle.std.proofs.lemmas.Option.{slice_get_within}
 use Rattle.guest_types.specs.Length.{width_bits, lanes}
@@ -15,7 +15,7 @@ use Rattle.kernel_tree.specs.Wrap.{bits_of}
 use Rattle.kernel_meaning.specs.Operators.{word, wrapped}
 use Rattle.kernel_meaning.proofs.Residues.{word-below}
 use Rattle.label_fix.specs.DraftRun.{Entry, Laid}
-use Rattle.label_fix.proofs.StretchSteps.{Goes, stay, put_goes, chain, go_more}
+use Rattle.label_fix.proofs.StretchSteps.{Goes, stay, chain, go_more}
 use Rattle.loop_form.specs.Needs as needs
 use Rattle.loop_form.specs.Needs.{Throughout}
 use Rattle.loop_form.specs.Streams.{place_of}

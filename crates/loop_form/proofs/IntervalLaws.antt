@@ -8,13 +8,13 @@ use Rattle.std.proofs.Math.ListN.{replicate}
 use Rattle.std.proofs.lemmas.List.{length-map}
 use Rattle.std.proofs.lemmas.List.Sums.{count_by-le-length, length-filter}
 use Rattle.kernel_tree.specs.Plain.{Program}
-use Rattle.kernel_tree.specs.Items.{size_of, loop_index}
+use Rattle.kernel_tree.specs.Items.{size_of, loop_index, loop_start}
 use Rattle.reg_assign.specs.declared.interval.RegClass.{RegClass}
 use Rattle.reg_assign.specs.declared.interval.RegClass.TheVariants.{Z, P, X}
 use Rattle.reg_assign.specs.declared.interval.Interval.{Interval}
 use Rattle.reg_assign.specs.Intervals.{is_live, overlap, greater_overlap, need_of, AscendFrom, Ascend}
 use Rattle.reg_assign.proofs.Overlaps.{one, live, overlap-cons, overlap-append, overlap-need, need-most}
-use Rattle.loop_form.specs.Entries.{Content, IsLiteral, IsName, IsRead, IsLet, IsStore, IsUpdate, IsPlain, Entry, kind_of, entries_of, loop_start, loop_entries}
+use Rattle.loop_form.specs.Entries.{Content, IsLiteral, IsName, IsRead, IsLet, IsStore, IsUpdate, IsPlain, Entry, kind_of, entries_of, loop_entries}
 use Rattle.loop_form.specs.Listing.{names, last_of, last_use_at, last_use_in, has_value, held}
 use Rattle.loop_form.specs.Needs.{Throughout, Index, Constant, is_constant, is_scalar, throughout, scalars, is_named_scalar, scalar_of, constants, new_constant, index_held, is_updated, accumulating_of, span, spans_of, counted, values, most_live, need, whole, intervals}
 use Rattle.loop_form.specs.Numbers.{Numbered, AreForward}

@@ -6,13 +6,13 @@ use Rattle.kernel_tree.specs.declared.ops.Ty.{Ty}
 use Rattle.kernel_tree.specs.declared.ops.Ty.TheVariants as ty
 use Rattle.kernel_tree.specs.declared.fault.Found.{Found}
 use Rattle.kernel_tree.specs.Plain.{Term, Literal, Variable, Element, Unary, Operation, Shift, Conversion, Choice, Comparison, Both, Either, Not, Action, Define, Put, Update, Choose, Leave, Block, Done, Then, Otherwise, Nothing, Else, PlainLoop, Program}
-use Rattle.kernel_tree.specs.Items.{stream_offset, loop_index, index_items}
+use Rattle.kernel_tree.specs.Items.{stream_offset, loop_index, index_items, loop_start}
 use Rattle.kernel_tree.specs.Limits.{most_offset}
 use Rattle.kernel_tree.specs.Typing.{Scope, Role, Value, lookup, as_value, read_faults, wanted, first, own, faults, inner_faults, index_faults, stream_faults, offset_faults, action_faults, block_faults, otherwise_faults, after_action, after_block, left, in_loop, var_scope, turns_faults, check_fault}
 use Rattle.kernel_tree.proofs.Faultless.{nil-left, nil-right, loop_faultless}
 use Rattle.kernel_tree.proofs.NoFault.{is_empty}
 use Rattle.kernel_tree.proofs.Scopes.{index_after, scope_index}
-use Rattle.loop_form.specs.Entries.{Entry, inner_entries, term_entries, action_entries, block_entries, otherwise_entries, turns_entries, loop_entries, loop_start}
+use Rattle.loop_form.specs.Entries.{Entry, inner_entries, term_entries, action_entries, block_entries, otherwise_entries, turns_entries, loop_entries}
 use Rattle.loop_form.specs.Near.{IsNear, AreNear, NearTerm, NearAction, NearBlock, NearOtherwise, NearTurns}
 
 near-append : (i : Option (List ℕ)) (xs ys : List Entry) → AreNear i xs → AreNear i ys → AreNear i (xs ++ ys)

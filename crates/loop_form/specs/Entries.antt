@@ -4,7 +4,7 @@ use Rattle.std.specs.Prelude.{ℕ, ◌+◌, ℤ, List, [], ◌∷◌, ◌++◌, 
 use Rattle.kernel_tree.specs.declared.ops.Ty.{Ty}
 use Rattle.kernel_tree.specs.declared.ops.UpdateOp.{UpdateOp}
 use Rattle.kernel_tree.specs.Plain.{Term, Literal, Variable, Element, Unary, Operation, Shift, Conversion, Choice, Comparison, Both, Either, Not, Action, Define, Put, Update, Choose, Leave, Block, Done, Then, Otherwise, Nothing, Else, Parameter, Accumulator, PlainLoop, Returned, Program}
-use Rattle.kernel_tree.specs.Items.{term_size, index_items, stream_offset, action_size, block_size, otherwise_size, vars_size, turns_size, loop_index}
+use Rattle.kernel_tree.specs.Items.{term_size, index_items, stream_offset, action_size, block_size, otherwise_size, loop_index, loop_start, loop_end}
 use Rattle.kernel_tree.specs.Checked.{type_at}
 use Rattle.loop_form.specs.declared.item.ItemKind.{ItemKind}
 use Rattle.loop_form.specs.declared.item.ItemKind.TheVariants as kind
@@ -144,13 +144,6 @@ answer_entries k from None = []
 answer_entries k from (Some a) =
     let item = from + term_size (loop_index k) a.value in
     term_entries k from item a.value ++ entry k item (IsPlain kind.Return) item ∷ []
-
--- the number of `for`, and the first number after the loop
-abbrev pub loop_start : Program → ℕ
-loop_start k = length k.params + vars_size (loop_index k) k.vars
-
-abbrev pub loop_end : Program → ℕ
-loop_end k = loop_start k + turns_size k.turns
 
 -- the items of the loop
 abbrev pub loop_entries : Program → List Entry

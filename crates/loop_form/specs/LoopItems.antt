@@ -7,11 +7,10 @@ use Rattle.kernel_tree.specs.declared.ops.BinaryOp.{BinaryOp}
 use Rattle.kernel_tree.specs.declared.ops.CompareOp.{CompareOp}
 use Rattle.kernel_tree.specs.declared.ops.UpdateOp.{UpdateOp}
 use Rattle.kernel_tree.specs.Plain.{Term, Literal, Variable, Element, Unary, Operation, Shift, Conversion, Choice, Comparison, Both, Either, Not, Action, Define, Put, Update, Choose, Leave, Block, Done, Then, Otherwise, Nothing, Else, PlainLoop, Program}
-use Rattle.kernel_tree.specs.Items.{stream_offset, term_size, index_items, action_size, block_size}
+use Rattle.kernel_tree.specs.Items.{stream_offset, term_size, index_items, action_size, block_size, loop_start}
 use Rattle.kernel_tree.specs.Typing.{Scope, Local, lookup, own, first, element_type, accumulator_type, side_type, after_action, after_block, left, in_loop, var_scope}
 use Rattle.loop_form.specs.declared.loop_item.Source.{Source}
 use Rattle.loop_form.specs.declared.loop_item.Source.TheVariants.{Constant, Outer, LoopIndex, Made}
-use Rattle.loop_form.specs.Entries.{loop_start}
 
 -- what an item does, with the types of its operands; an array has a name and the place where its address is held
 pub data Op : Type 0 where

@@ -1,9 +1,10 @@
 -- Which interval of a class an item has.
 use Rattle.std.specs.Prelude.{◌≡◌, ℕ, ◌+◌, List, [], ◌∷◌, length, slice_get, Option, Some, None}
 use Rattle.kernel_tree.specs.Plain.{Program}
+use Rattle.kernel_tree.specs.Items.{loop_start}
 use Rattle.reg_assign.specs.declared.interval.RegClass.{RegClass}
 use Rattle.reg_assign.specs.declared.interval.RegClass.TheVariants.{Z, P, X}
-use Rattle.loop_form.specs.Entries.{Entry, entries_of, loop_start}
+use Rattle.loop_form.specs.Entries.{Entry, entries_of}
 use Rattle.loop_form.specs.Listing.{last_use_in}
 use Rattle.reg_assign.specs.declared.interval.Interval.{Interval}
 use Rattle.loop_form.specs.Needs.{throughout, counted, intervals}

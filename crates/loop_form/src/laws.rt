@@ -1,9 +1,9 @@
 //! What is known of each checked kernel.
 
 ghost use Rattle.std.specs.Prelude.{◌≡◌, ◌+◌, ◌<◌, ◌≤◌, ◌^◌, length};
-ghost use Rattle.kernel_tree.specs.Items.{loop_index, size_of};
+ghost use Rattle.kernel_tree.specs.Items.{loop_index, size_of, loop_start};
 ghost use Rattle.reg_assign.specs.Intervals.{need_of, Ascend};
-ghost use Rattle.loop_form.specs.Entries.{entries_of, loop_start, loop_entries};
+ghost use Rattle.loop_form.specs.Entries.{entries_of, loop_entries};
 ghost use Rattle.loop_form.specs.Near.{AreNear, NearTurns};
 ghost use Rattle.loop_form.specs.Needs.{throughout, counted, intervals, need};
 ghost use Rattle.loop_form.specs.Numbers.{Numbered, AreForward};

@@ -1,8 +1,9 @@
 -- Runs of the machine.
-use Rattle.std.specs.Prelude.{ℕ, zero, suc, ◌+◌, ◌-◌, List, ◌++◌, length, replicate, Ok, Err, Option, Some, None, Bool, true, false, cond}
+use Rattle.std.specs.Prelude.{◌≡◌, ◌⊎◌, ℕ, zero, suc, ◌+◌, ◌-◌, List, ◌++◌, length, replicate, Ok, Err, Option, Some, None, Bool, true, false, cond}
 use Rattle.guest_types.specs.EarlyLoads.{StopList, never}
 use Rattle.guest_types.specs.Memory.{Memory, merged}
 use Rattle.machine_model.specs.declared.outcome.StopKind.{StopKind}
+use Rattle.machine_model.specs.declared.outcome.StopKind.TheVariants.{Read, Write}
 use Rattle.machine_model.specs.Machine.{State, Step, Went, Ended, Stopped}
 use Rattle.machine_model.specs.OneStep.{step, suppresses}
 use Rattle.machine_model.specs.Load.{Image, load}
@@ -17,6 +18,10 @@ abbrev pub go_on : Step → State → ℕ → (State → Outcome) → Outcome
 go_on (Went state) s steps go = go state
 go_on (Ended result) s steps go = End s.memory result steps
 go_on (Stopped kind pc at memory) s steps go = Stop kind pc at memory steps
+
+-- a stop of a load or a store
+abbrev pub IsAccess : StopKind → Type 0
+IsAccess kind = (kind ≡ Read) ⊎ (kind ≡ Write)
 
 -- at most n steps, after so many that were taken
 abbrev pub run : ℕ → ℕ → State → Outcome

@@ -2,9 +2,8 @@
 -- it must have.
 use Rattle.std.specs.Prelude.{◌≡◌, ℕ, ◌+◌, ◌-◌, ◌<◌, ◌≤◌, ℤ, List, [], ◌∷◌, ◌++◌, replicate, Option, Some, None, Bool, true, false, not, ◌&&◌, slice_index_or}
 use Rattle.kernel_tree.specs.Plain.{Term, Literal, Variable, Element, Unary, Operation, Shift, Conversion, Choice, Comparison, Both, Either, Not, Action, Define, Put, Update, Choose, Leave, Block, Done, Then, Otherwise, Nothing, Else, PlainLoop, Program}
-use Rattle.kernel_tree.specs.Items.{stream_offset, term_size, action_size, block_size}
+use Rattle.kernel_tree.specs.Items.{stream_offset, term_size, action_size, block_size, loop_start, loop_end}
 use Rattle.kernel_meaning.specs.Reaches.{at_item, reaches}
-use Rattle.loop_form.specs.Entries.{loop_start, loop_end}
 use Rattle.predicate_plan.specs.declared.part.MaskPart.{MaskPart}
 
 abbrev pub part : ℕ → Bool → MaskPart

@@ -2,8 +2,7 @@
 
 ghost use Rattle.std.specs.Prelude.{◌≡◌, ◌+◌, ◌<◌, ◌≤◌, ◌^◌, [], ◌∷◌, ◌++◌, length, replicate, is_some, true, Some, IfOk, OnOk};
 ghost use Rattle.kernel_tree.specs.Plain.{Element, Not, Choice, Both, Either, Choose, Nothing, Else, term_of, action_of, block_of, turns_of};
-ghost use Rattle.kernel_tree.specs.Items.{loop_index, index_of, term_size, index_items, action_size, block_size, turns_size};
-ghost use Rattle.loop_form.specs.Entries.{loop_start};
+ghost use Rattle.kernel_tree.specs.Items.{loop_index, index_of, term_size, index_items, action_size, block_size, turns_size, loop_start};
 ghost use Rattle.loop_form.specs.View.{program};
 ghost use Rattle.predicate_plan.specs.View.{FitsTerm, FitsAction, FitsBlock, GrowsTerm, GrowsAction, GrowsBlock, PlansTerm, PlansOne, PlansTwo, PlansAction, PlansBlock};
 ghost use Rattle.predicate_plan.specs.Masks.{MeetsMasks, part, term_masks, action_masks, block_masks, loop_masks, masks_of};

@@ -27,7 +27,7 @@ use Rattle.machine_model.proofs.StateSteps.{vector_made, one_put}
 use Rattle.sve_code.specs.Table as sve
 use Rattle.lane_emit.specs.Right.{IsOf}
 use Rattle.lane_emit.specs.Stretch as stretch
-use Rattle.lane_emit.specs.Stretch.{do_all, and_then, OnlyZ, Ready}
+use Rattle.lane_emit.specs.Stretch.{do_all, and_then}
 use Rattle.lane_emit.specs.LaneCode.{size_of}
 use Rattle.lane_emit.proofs.Ranges.{InBits}
 use Rattle.lane_emit.proofs.Residues.{held, held-below}

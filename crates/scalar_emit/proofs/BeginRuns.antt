@@ -10,14 +10,13 @@ use Rattle.machine_model.specs.Machine.{State, x_at}
 use Rattle.a64_code.specs.Table.{movz}
 use Rattle.kernel_tree.specs.declared.ast.Shape.{Shape}
 use Rattle.kernel_tree.specs.Plain.{Parameter, Accumulator, Program}
-use Rattle.kernel_tree.specs.Items.{term_size, vars_size, loop_index, size_of}
+use Rattle.kernel_tree.specs.Items.{term_size, vars_size, loop_index, size_of, loop_start}
 use Rattle.kernel_tree.specs.Typing.{Scope, Local, local, empty, after_vars, param_scope, var_scope, check_fault}
 use Rattle.kernel_tree.proofs.Scopes.{param_index}
 use Rattle.kernel_meaning.specs.Operators.{word}
 use Rattle.kernel_meaning.specs.Eval.{Names, value}
 use Rattle.kernel_meaning.specs.Iterate.{with_name}
 use Rattle.kernel_meaning.specs.ScalarRun.{argument, argument_names, initial, started}
-use Rattle.loop_form.specs.Entries.{loop_start}
 use Rattle.label_fix.specs.DraftRun.{Entry, Laid, word_of}
 use Rattle.label_fix.proofs.StretchSteps.{Goes, Resolves, stay, chain, put_goes, go_more}
 use Rattle.scalar_emit.specs.Layout.{Layout, Homes, Lasts, home}

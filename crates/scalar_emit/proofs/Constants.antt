@@ -1,5 +1,5 @@
 -- The code of a constant.
-use Rattle.std.proofs.Common.{◌≡◌, ◌≢◌, ℕ, ◌+◌, ◌-◌, ◌*◌, ◌/◌, ◌%◌, ◌^◌, ◌<◌, ◌≤◌, Bool, true, false, List, ◌∷◌, length, Option, Some, None, refl, sym, ap, ap₂, ◌∙◌, arith}
+use Rattle.std.proofs.Common.{◌≡◌, ◌≢◌, ℕ, ◌+◌, ◌-◌, ◌*◌, ◌/◌, ◌%◌, ◌^◌, ◌<◌, ◌≤◌, Bool, true, false, List, length, Option, Some, None, refl, sym, ap, ap₂, ◌∙◌, arith}
 use Rattle.std.specs.Prelude.{ℤ, nat_eq, if◌then◌else◌}
 use Rattle.std.proofs.lemmas.Bool.{eqb-true}
 use Rattle.machine_model.specs.InstructionTable.{Listed}
@@ -12,7 +12,7 @@ use Rattle.label_fix.specs.DraftRun.{Entry, Laid}
 use Rattle.label_fix.proofs.StretchSteps.{Goes, Resolves, put_goes, chain, go_more, stay}
 use Rattle.scalar_emit.specs.Layout.{Layout, reg_of, IsMade}
 use Rattle.scalar_emit.specs.Words.{filler, has_ones, start_code, half_word, word_code, filled_code, halves_code, const_code}
-use Rattle.scalar_emit.proofs.LayoutStates.{wrote, wrote_same, wrote_other, wrote_sized, wrote_shaped, Frame, frame_of, Assigned, Kept}
+use Rattle.scalar_emit.proofs.LayoutStates.{wrote, wrote_same, wrote_other, wrote_sized, wrote_shaped, frame_of, Assigned}
 use Rattle.scalar_emit.proofs.WordsRuns.{Gets}
 
 -- labels after a constant

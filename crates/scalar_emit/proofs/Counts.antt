@@ -9,13 +9,12 @@ use Rattle.kernel_tree.specs.declared.ops.BinaryOp.TheVariants as binary
 use Rattle.kernel_tree.specs.declared.ast.Shape.{Shape}
 use Rattle.kernel_tree.specs.declared.ast.Shape.TheVariants as shape
 use Rattle.kernel_tree.specs.Plain.{Term, Literal, Variable, Element, Unary, Operation, Shift, Conversion, Choice, Comparison, Both, Either, Not, Action, Define, Put as PutTo, Update, Choose, Leave, Block, Done, Then, Otherwise, Nothing, Else, Parameter, Accumulator, PlainLoop, Returned, Program}
-use Rattle.kernel_tree.specs.Items.{index_size, term_size, action_size, block_size, otherwise_size, vars_size, turns_size, answer_size, index_of, stream_offset, loop_index, size_of}
+use Rattle.kernel_tree.specs.Items.{index_size, term_size, action_size, block_size, otherwise_size, vars_size, turns_size, answer_size, index_of, stream_offset, loop_index, size_of, loop_start, loop_end}
 use Rattle.kernel_tree.specs.Wrap.{is_signed}
 use Rattle.kernel_tree.specs.Typing.{Scope, lookup, own, first, element_type, accumulator_type, index_type, side_type, after_action, after_block, left, in_loop, after_turns, param_scope, var_scope}
 use Rattle.kernel_tree.proofs.Scopes.{index_after, param_index, scope_index}
 use Rattle.kernel_meaning.specs.Operators.{word, wrapped, operator_of}
 use Rattle.kernel_meaning.specs.TypeValues.{unary_leaves, binary_leaves, shift_leaves}
-use Rattle.loop_form.specs.Entries.{loop_start, loop_end}
 use Rattle.machine_model.specs.InstructionTable.{Listed}
 use Rattle.label_fix.specs.DraftRun.{Entry}
 use Rattle.label_fix.specs.Finished.{size}

@@ -1,10 +1,9 @@
 -- What emission keeps of names.
 use Rattle.std.proofs.Common.{◌≡◌, ℕ, zero, suc, ◌+◌, List, [], ◌∷◌, ◌++◌, length, take, Some, None, refl, sym, ap, ◌∙◌, arith}
 use Rattle.kernel_tree.specs.Plain.{Block, Parameter, Accumulator, PlainLoop, Program}
-use Rattle.kernel_tree.specs.Items.{turns_size, loop_index}
+use Rattle.kernel_tree.specs.Items.{turns_size, loop_index, loop_start, loop_end}
 use Rattle.kernel_tree.specs.Typing.{Scope, first, param_scope, var_scope}
 use Rattle.kernel_tree.proofs.Scopes.{scope_index}
-use Rattle.loop_form.specs.Entries.{loop_start, loop_end}
 use Rattle.label_fix.specs.DraftRun.{Entry}
 use Rattle.scalar_emit.specs.declared.home.Home.{Home as Kept}
 use Rattle.scalar_emit.specs.Layout.{Layout, Homes}

@@ -6,14 +6,14 @@ use Rattle.std.proofs.lemmas.Option.{slice_get_within}
 use Rattle.kernel_tree.specs.declared.ops.Ty.TheVariants.{U64}
 use Rattle.kernel_tree.specs.declared.ast.Shape.{Shape}
 use Rattle.kernel_tree.specs.Plain.{Parameter, Accumulator, PlainLoop, Returned, Program}
-use Rattle.kernel_tree.specs.Items.{term_size, vars_size, turns_size, index_of, loop_index}
+use Rattle.kernel_tree.specs.Items.{term_size, vars_size, turns_size, index_of, loop_index, loop_start, loop_end}
 use Rattle.kernel_tree.specs.Typing.{Scope, Local, local, Value, lookup, insert_name, binding_of_shape, after_turns, faults, twice, vars_faults, bound_faults, turns_faults, answer_faults, param_scope, var_scope, check_fault}
 use Rattle.kernel_tree.specs.Scopes.{locals_of, accs_of}
 use Rattle.kernel_tree.proofs.Faultless.{nil-left, nil-right, vars_faultless, turns_faultless, answer_faultless}
 use Rattle.kernel_tree.proofs.Scopes.{param_visible, var_visible, param_index, scope_index, param_outside, scope_outside}
 use Rattle.kernel_tree.proofs.NoFault.{bound_known}
 use Rattle.kernel_tree.proofs.Names.{bytes_same, NoName, index_alone}
-use Rattle.loop_form.specs.Entries.{Entry, term_entries, params_entries, vars_entries, turns_entries, answer_entries, loop_entries, loop_start, loop_end, entries_of}
+use Rattle.loop_form.specs.Entries.{Entry, term_entries, params_entries, vars_entries, turns_entries, answer_entries, loop_entries, entries_of}
 use Rattle.loop_form.proofs.Numbers.{params-listed, vars-listed, term-listed, loop-listed}
 use Rattle.loop_form.proofs.NameUses.{AreUsesCounted, counted_left, counted_right, all_counted}
 use Rattle.scalar_emit.specs.Layout.{Layout, Home, Homes, is_home, register_of, LastsAt}

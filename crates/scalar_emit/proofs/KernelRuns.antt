@@ -5,7 +5,7 @@ use Rattle.std.proofs.Math.Nat.{mul-le-mul_right}
 use Rattle.guest_types.specs.Memory.{Memory}
 use Rattle.machine_model.specs.Machine.{State}
 use Rattle.kernel_tree.specs.Plain.{PlainLoop, Returned, Program}
-use Rattle.kernel_tree.specs.Items.{block_size, turns_size, answer_size, index_of, size_of}
+use Rattle.kernel_tree.specs.Items.{block_size, turns_size, answer_size, index_of, size_of, loop_start, loop_end}
 use Rattle.kernel_tree.specs.Typing.{Scope, var_scope, check_fault}
 use Rattle.kernel_tree.proofs.Scopes.{scope_index}
 use Rattle.reg_assign.specs.declared.interval.RegClass.TheVariants.{X}
@@ -14,7 +14,6 @@ use Rattle.loop_form.specs.Registers.{FitsKernel}
 use Rattle.kernel_meaning.specs.Eval.{Names, value_at}
 use Rattle.kernel_meaning.specs.ScalarRun.{Run, bound_of, iterations, finish, returned, ended, turns_from, run_from, IsWithin}
 use Rattle.kernel_meaning.proofs.Residues.{word-below}
-use Rattle.loop_form.specs.Entries.{loop_start, loop_end}
 use Rattle.label_fix.specs.DraftRun.{Entry, Place, Laid, following}
 use Rattle.label_fix.proofs.StretchSteps.{Goes, Resolves, stay, end_after, stop_after, stop_more, pass}
 use Rattle.scalar_emit.specs.Layout.{Layout, Homes, register_at}

@@ -5,13 +5,13 @@ use Rattle.kernel_tree.specs.declared.ast.Shape.{Shape}
 use Rattle.kernel_tree.specs.declared.ast.Shape.TheVariants as shape
 use Rattle.kernel_tree.specs.declared.fault.Binding.TheVariants as binding
 use Rattle.kernel_tree.specs.Plain.{Parameter, Accumulator, PlainLoop, Returned, Program}
-use Rattle.kernel_tree.specs.Items.{term_size, loop_index}
+use Rattle.kernel_tree.specs.Items.{term_size, loop_index, loop_start, loop_end}
 use Rattle.kernel_tree.specs.Typing.{Scope, declared, param_scope, var_scope}
 pub use Rattle.kernel_scope.specs.Scopes.{after_var}
 use Rattle.reg_assign.specs.declared.interval.RegClass.TheVariants.{X}
 use Rattle.reg_assign.specs.Registers.{Assignment}
 use Rattle.loop_form.specs.declared.item.Item.{Item}
-use Rattle.loop_form.specs.Entries.{Entry, entries_of, loop_start, loop_end}
+use Rattle.loop_form.specs.Entries.{Entry, entries_of}
 use Rattle.loop_form.specs.Listing.{last_use_in}
 use Rattle.label_fix.specs.DraftRun.{Entry as Line, Place, ins}
 use Rattle.scalar_emit.specs.Layout.{Layout, Home, Homes, home}

@@ -4,11 +4,10 @@ use Rattle.kernel_tree.specs.declared.ops.Ty.TheVariants.{U64}
 use Rattle.kernel_tree.specs.declared.ast.Shape.TheVariants.{Scalar}
 use Rattle.kernel_tree.specs.declared.fault.Binding.TheVariants as binding
 use Rattle.kernel_tree.specs.Plain.{Accumulator, PlainLoop, Program}
-use Rattle.kernel_tree.specs.Items.{term_size}
+use Rattle.kernel_tree.specs.Items.{term_size, loop_start, loop_end}
 use Rattle.kernel_tree.specs.Typing.{Scope, declared, param_scope, var_scope}
 use Rattle.reg_assign.specs.declared.interval.RegClass.TheVariants.{X}
 use Rattle.reg_assign.specs.declared.interval.Interval.{Interval}
-use Rattle.loop_form.specs.Entries.{loop_start, loop_end}
 use Rattle.loop_form.specs.Needs.{intervals}
 use Rattle.scalar_emit.specs.Layout.{Layout, Homes, register_at}
 use Rattle.scalar_emit.specs.Statements.{Others}

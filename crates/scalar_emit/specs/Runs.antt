@@ -3,7 +3,7 @@ use Rattle.std.specs.Prelude.{◌≡◌, ℕ, ◌+◌, ◌*◌, ◌<◌, ◌≤�
 use Rattle.guest_types.specs.Memory.{Memory, IsMemory}
 use Rattle.guest_types.specs.EarlyLoads.{StopList}
 use Rattle.machine_model.specs.declared.outcome.StopKind.{StopKind}
-use Rattle.machine_model.specs.declared.outcome.StopKind.TheVariants.{Read, Write}
+use Rattle.machine_model.specs.Run.{IsAccess}
 use Rattle.machine_model.specs.Machine.{State, x_at}
 use Rattle.kernel_tree.specs.Plain.{Program}
 use Rattle.kernel_tree.specs.Items.{size_of}
@@ -74,11 +74,6 @@ abbrev pub BeginRuns : (ℕ → ℕ) → Program → Type 0
 BeginRuns R k = (D : Laid) (n : ℕ) (rest : List Entry) (args : List ℕ) (m : Memory) (s : State) → HasArguments args m s → Resolves D (begin_code R k n rest) → Begins R k D (begin_code R k n rest) s rest args m (40 + 8 * size_of k)
 
 -- ---- the loop, and what follows it
-
-abbrev pub IsAccess : StopKind → Type 0
-IsAccess Read = Unit {0}
-IsAccess Write = Unit {0}
-IsAccess _ = ⊥
 
 -- What code does that ends the run: within K words for each iteration begun from i on, and F more.
 pub data Comes (D : Laid) (c : List Entry) (s : State) (K F i : ℕ) : Run → Type 0 where

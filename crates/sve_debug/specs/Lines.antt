@@ -1,6 +1,6 @@
 -- The lines of a debugging session. The words of a line are divided by single spaces; numbers are decimal, or hexadecimal
 -- after `0x`.
-use Rattle.std.specs.Prelude.{ℕ, ◌+◌, ◌^◌, ◌&&◌, Bool, List, [], ◌∷◌, Option, Some, None, option_and_then, option_map, nat_le, nat_eq, bytes_eq, codes, if◌then◌else◌}
+use Rattle.std.specs.Prelude.{ℕ, ◌+◌, ◌^◌, ◌&&◌, Bool, List, [], ◌∷◌, Option, Some, None, option_and_then, option_map, nat_le, bytes_eq, codes, if◌then◌else◌}
 use Rattle.number_text.specs.Numbers.{number_of}
 use Rattle.text_parts.specs.Parts.{words_of}
 use Rattle.sve_debug.specs.declared.command.Command.{Command}

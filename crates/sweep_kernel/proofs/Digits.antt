@@ -2,7 +2,6 @@
 use Rattle.std.proofs.Common.{◌≡◌, ℕ, ◌+◌, ◌-◌, ◌<◌, ◌^◌, List, [], ◌∷◌, ◌++◌, length, true, false, Ok, refl, ap, ◌∙◌, arith, eqb, ltb}
 use Rattle.std.specs.Prelude.{decimal}
 use Rattle.std.specs.List.{prefix_len, list_all}
-use Rattle.std.specs.Char.{digit_value as std_value}
 use Rattle.std.specs.Str.Parse.{AllDigits}
 use Rattle.std.proofs.lemmas.Bool.{lt-ltb}
 use Rattle.std.proofs.lemmas.Fmt.{decimal_is_IsNumeral}

@@ -1,5 +1,5 @@
 -- The kernel of a sweep and its file are refused for want of memory alone.
-use Rattle.std.proofs.Common.{◌≡◌, ℕ, List, Ok, Some, Result, refl, sym, ap, subst, ◌∙◌}
+use Rattle.std.proofs.Common.{◌≡◌, ℕ, List, Ok, Some, Result, refl, ap, subst, ◌∙◌}
 use Rattle.kernel_tree.specs.Plain.{Program}
 use Rattle.kernel_syntax.specs.declared.fault.ReadFault.{ReadFault}
 use Rattle.kernel_syntax.specs.declared.fault.ReadFault.TheVariants as reading
@@ -7,7 +7,7 @@ use Rattle.kernel_types.specs.declared.fault.TypeFault.{TypeFault}
 use Rattle.kernel_types.specs.declared.fault.TypeFault.TheVariants as typing
 use Rattle.kernel_front.specs.declared.fault.KernelFault.{KernelFault}
 use Rattle.kernel_front.specs.declared.fault.KernelFault.TheVariants.{Unread, Broken}
-use Rattle.kernel_front.specs.Verdict.{Verdict, Limited, NoKernel, Refused, Sound, IsVerdict, Explains}
+use Rattle.kernel_front.specs.Verdict.{Verdict, Sound, IsVerdict, Explains}
 use Rattle.kernel_front.proofs.OneVerdict.{one_verdict}
 use Rattle.reg_assign.specs.declared.interval.RegClass.{RegClass}
 use Rattle.kernel_compile.specs.declared.fault.CompileFault.{CompileFault}
@@ -16,7 +16,7 @@ use Rattle.kernel_compile.specs.Refusals.{too_many, IsRefusal}
 use Rattle.machine_model.specs.declared.elf_fault.ElfFault.{ElfFault}
 use Rattle.machine_model.specs.declared.elf_fault.ElfFault.TheVariants as loading
 use Rattle.machine_model.specs.Load.{Image, load}
-use Rattle.machine_model.specs.Written.{file_of, image_of_words}
+use Rattle.machine_model.specs.Written.{image_of_words}
 use Rattle.machine_model.proofs.WrittenLoads.{load-file_of}
 use Rattle.elf_image.specs.Loaded.{Refuses}
 use Rattle.sweep_kernel.specs.KernelText.{kernel_text}

@@ -2,24 +2,20 @@
 use Rattle.std.proofs.Common.{◌≡◌, ℕ, zero, suc, ◌+◌, List, [], ◌∷◌, ◌++◌, flat_map, Option, Some, None, Result, Ok, Err, refl, sym, ap, ◌∙◌, arith, add-one}
 use Rattle.std.proofs.lemmas.List.{flat_map_more}
 use Rattle.std.specs.List.{range_with_len}
-use Rattle.guest_types.specs.Length.{IsLength}
 use Rattle.guest_types.specs.Memory.{Memory}
 use Rattle.machine_model.specs.declared.elf_fault.ElfFault.{ElfFault}
-use Rattle.machine_model.specs.declared.outcome.Outcome.{Outcome as OutcomeAnswer}
-use Rattle.machine_model.specs.declared.outcome.Outcome.TheVariants as outcomes
-use Rattle.machine_model.specs.Answers.{outcome_of}
 use Rattle.machine_model.specs.Load.{Image, load}
 use Rattle.machine_model.specs.Machine.{State}
 use Rattle.machine_model.specs.Run.{Outcome, End, run, start, machine_run}
 use Rattle.machine_model.specs.Written.{file_of, image_of_words}
 use Rattle.kernel_meaning.specs.ScalarRun as scalar
 use Rattle.sweep_kernel.specs.Numbers.{count_of, arguments_of}
-use Rattle.sweep_kernel.specs.Pages.{pages_of, sum_of}
-use Rattle.sweep_kernel.specs.LengthLine.{length_line, length_at}
+use Rattle.sweep_kernel.specs.Pages.{pages_of}
+use Rattle.sweep_kernel.specs.LengthLine.{length_at}
 use Rattle.sweep_kernel.specs.Runs.{most_steps, RunEnds}
 use Rattle.sweep_kernel.specs.Ends.{AllEnd}
-use Rattle.sweep_run.specs.SweepText.{IsSweepFile, line_of, run_line, swept_line, sweep_text}
-use Rattle.sweep_run.specs.Lines.{Tells, AllTell, SweepRunsEnd, SweepLines}
+use Rattle.sweep_run.specs.SweepText.{line_of, run_line, swept_line, sweep_text}
+use Rattle.sweep_run.specs.Lines.{Tells, SweepRunsEnd, SweepLines}
 use Rattle.sweep_run.proofs.Causes.{loads}
 
 -- ---- lines, one after another

@@ -1,5 +1,5 @@
 -- The loop of passes of a kernel, and what follows from a pass that stops.
-use Rattle.std.proofs.Common.{◌≡◌, ℕ, ◌+◌, ◌<◌, ◌≤◌, inl, inr, List, sym, subst, arith}
+use Rattle.std.proofs.Common.{◌≡◌, ℕ, ◌+◌, ◌<◌, ◌≤◌, List, subst, arith}
 use Rattle.std.specs.Prelude.{ℤ, ◌^◌}
 use Rattle.guest_types.specs.Memory.{Memory, byte_at}
 use Rattle.machine_model.specs.declared.outcome.StopKind.{StopKind}
@@ -9,9 +9,8 @@ use Rattle.kernel_meaning.specs.Eval.{Names}
 use Rattle.label_fix.specs.DraftRun.{Entry, Laid}
 use Rattle.label_fix.specs.Stretches.{Leads}
 use Rattle.label_fix.proofs.StretchSteps.{Goes, leads_of}
-use Rattle.scalar_emit.specs.Runs.{IsAccess}
+use Rattle.machine_model.specs.Run.{IsAccess}
 use Rattle.chunk_order.specs.Order.{Elsewhere}
-use Rattle.chunk_emit.specs.ItemsRun as items
 use Rattle.chunk_emit.specs.Head.{Ground, IsGround, AtHead, width, most_lanes, limit}
 use Rattle.first_fault.proofs.Stretches.{follow, follow-cut}
 use Rattle.vector_emit.specs.VectorRuns.{Near, turn_steps}
@@ -41,13 +40,9 @@ loop_of g d rest = record {
   Ends = StopOf g;
 }
 
-access_of : (kind : StopKind) → items.IsAccess kind → IsAccess kind
-access_of kind (inl e) = subst IsAccess (sym e) tt
-access_of kind (inr e) = subst IsAccess (sym e) tt
-
 -- a stop within k lanes from iteration i on
-pub stop_of : (g : Ground) (i k j : ℕ) (left faulted : Memory) (kind : StopKind) → k ≤ most_lanes g → i + k ≤ limit g → i ≤ j → j < i + k → items.IsAccess kind → ((z : ℕ) → z < 2 ^ 64 → Elsewhere g.kernel g.args i k z → byte_at left z ≡ byte_at faulted z) → StopOf g kind j left faulted
-stop_of g i k j left faulted kind few within lo hi access kept = record { access = access_of kind access; near = record { i = i; k = k; few = few; within = within; from = omega (arith, lo); last_use = omega (arith, hi); kept = kept } }
+pub stop_of : (g : Ground) (i k j : ℕ) (left faulted : Memory) (kind : StopKind) → k ≤ most_lanes g → i + k ≤ limit g → i ≤ j → j < i + k → IsAccess kind → ((z : ℕ) → z < 2 ^ 64 → Elsewhere g.kernel g.args i k z → byte_at left z ≡ byte_at faulted z) → StopOf g kind j left faulted
+stop_of g i k j left faulted kind few within lo hi access kept = record { access = access; near = record { i = i; k = k; few = few; within = within; from = omega (arith, lo); last_use = omega (arith, hi); kept = kept } }
 
 pub has_lanes : (g : Ground) → IsGround g → 0 < most_lanes g
 has_lanes g ground = some_lanes g.vl (width g) ground.sized

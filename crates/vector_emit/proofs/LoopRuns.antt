@@ -7,7 +7,7 @@ use Rattle.guest_types.specs.Memory.{Memory}
 use Rattle.machine_model.specs.Machine.{State, x_at, jump}
 use Rattle.machine_model.specs.Run.{End, Stop}
 use Rattle.kernel_tree.specs.Plain.{Program}
-use Rattle.kernel_tree.specs.Items.{size_of}
+use Rattle.kernel_tree.specs.Items.{size_of, loop_start}
 use Rattle.kernel_tree.specs.Typing.{var_scope}
 use Rattle.kernel_meaning.specs.Eval.{Names}
 use Rattle.kernel_meaning.specs.ScalarRun as run
@@ -20,7 +20,6 @@ use Rattle.label_fix.proofs.StretchSteps.{Goes, Ends, chain, go_more, pass, take
 use Rattle.reg_assign.specs.declared.interval.RegClass.TheVariants.{X, Z}
 use Rattle.reg_assign.specs.Registers.{Assignment}
 use Rattle.loop_form.specs.LoopItems.{turns_items}
-use Rattle.loop_form.specs.Entries.{loop_start}
 use Rattle.loop_form.specs.Needs.{throughout}
 use Rattle.loop_form.specs.Registers.{FitsKernel}
 use Rattle.scalar_emit.specs.Kernel.{layout_of_kernel, kernel_homes, register_in}

@@ -1,11 +1,11 @@
 -- The returned expression of a checked kernel reads no memory, and so it is always there.
-use Rattle.std.proofs.Common.{◌≡◌, ℕ, ◌+◌, false, [], Option, Some, None, refl, ap, subst}
+use Rattle.std.proofs.Common.{◌≡◌, ℕ, false, [], Option, Some, None, refl, ap, subst}
 use Rattle.std.specs.Prelude.{option_map}
 use Rattle.guest_types.specs.Memory.{Memory}
 use Rattle.kernel_tree.specs.Plain.{PlainLoop, Returned, Program}
-use Rattle.kernel_tree.specs.Items.{turns_size}
+use Rattle.kernel_tree.specs.Items.{loop_end}
 use Rattle.kernel_tree.specs.Typing.{Scope, after_turns, var_scope, answer_faults, check_fault}
-use Rattle.kernel_tree.proofs.Faultless.{turns_from, answer_faultless}
+use Rattle.kernel_tree.proofs.Faultless.{answer_faultless}
 use Rattle.kernel_tree.proofs.Scopes.{scope_outside}
 use Rattle.kernel_meaning.specs.Operators.{word}
 use Rattle.kernel_meaning.specs.Eval.{Names}
@@ -19,6 +19,6 @@ returned_there s from (Some a) m ns out none = let h = value_there a.value s fro
 
 pub answered : (k : Program) (l : PlainLoop) → check_fault k ≡ None → k.turns ≡ Some l → Answers (var_scope k) l k.answer
 answered k l checked is m ns =
-    let from = turns_from k + turns_size k.turns in
+    let from = loop_end k in
     returned_there (after_turns (var_scope k) (Some l)) from k.answer m ns (scope_outside k)
     (subst (λ l. answer_faults (after_turns (var_scope k) l) from k.answer ≡ []) is (answer_faultless k checked))

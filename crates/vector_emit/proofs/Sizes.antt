@@ -3,10 +3,9 @@ use Rattle.std.proofs.Common.{◌≡◌, ℕ, suc, ◌+◌, ◌≤◌, ℤ, List
 use Rattle.std.specs.Prelude.{option_map}
 use Rattle.kernel_tree.specs.declared.ops.Ty.{Ty}
 use Rattle.kernel_tree.specs.Plain.{Term, Literal, Variable, Element, Unary, Operation, Shift, Conversion, Choice, Comparison, Both, Either, Not, Action, Define, Put, Update, Choose, Leave, Block, Done, Then, Otherwise, Nothing, Else, PlainLoop, Program}
-use Rattle.kernel_tree.specs.Items.{stream_offset, index_items, term_size, action_size, block_size, otherwise_size, index_of, turns_size, size_of}
+use Rattle.kernel_tree.specs.Items.{stream_offset, index_items, term_size, action_size, block_size, otherwise_size, index_of, turns_size, size_of, loop_start}
 use Rattle.kernel_tree.specs.Typing.{Scope, own, first, side_type, after_action, after_block, left, in_loop, var_scope}
 use Rattle.kernel_tree.proofs.Scopes.{index_after, scope_index}
-use Rattle.loop_form.specs.Entries.{loop_start}
 use Rattle.loop_form.specs.declared.loop_item.Source.{Source}
 use Rattle.loop_form.specs.LoopItems.{Bound, Item, array_type, accumulator_of, truth_home, load_item, store_item, term_items, cond_items, after_env, action_items, block_items, otherwise_items, loop_env, loop_items}
 

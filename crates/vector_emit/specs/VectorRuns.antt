@@ -7,6 +7,7 @@ use Rattle.kernel_meaning.specs.ScalarRun.{Run, End, Fault, IsWithin, run_from}
 use Rattle.machine_model.specs.declared.outcome.StopKind.{StopKind}
 use Rattle.machine_model.specs.Machine.{State, x_at}
 use Rattle.machine_model.specs.States.{IsState}
+use Rattle.machine_model.specs.Run.{IsAccess}
 use Rattle.label_fix.specs.DraftRun.{Entry, Laid, following}
 use Rattle.label_fix.specs.Stretches.{Resolves, StopsPaced, EndsPaced}
 use Rattle.reg_assign.specs.declared.interval.RegClass.TheVariants.{X}
@@ -14,7 +15,7 @@ use Rattle.reg_assign.specs.Registers.{Assignment}
 use Rattle.loop_form.specs.Registers.{FitsKernel}
 use Rattle.chunk_order.specs.Order.{Elsewhere}
 use Rattle.scalar_emit.specs.Kernel.{register_in}
-use Rattle.scalar_emit.specs.Runs.{IsAccess, AtIteration, Comes}
+use Rattle.scalar_emit.specs.Runs.{AtIteration, Comes}
 use Rattle.chunk_emit.specs.Head.{Ground, IsGround, most_lanes, limit}
 use Rattle.vector_emit.specs.VectorCode.{vector_code}
 

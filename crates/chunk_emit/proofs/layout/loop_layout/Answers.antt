@@ -1,6 +1,7 @@
 use Rattle.std.proofs.Common.{◌≡◌, ap, sym, ◌∙◌, map, take, drop, length, arith}
 use Rattle.kernel_tree.specs.Plain.{Program}
-use Rattle.loop_form.specs.Entries.{loop_entries, loop_start}
+use Rattle.kernel_tree.specs.Items.{loop_start}
+use Rattle.loop_form.specs.Entries.{loop_entries}
 use Rattle.loop_form.specs.Lanes.{lane_width_of}
 use Rattle.loop_form.specs.Listing.{listing_of}
 use Rattle.loop_form.specs.View.{program}

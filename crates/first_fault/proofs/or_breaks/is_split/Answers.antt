@@ -1,4 +1,4 @@
-use Rattle.std.proofs.Common.{Bool, ◌+◌, List, drop, sym, ap, ◌∙◌}
+use Rattle.std.proofs.Common.{Bool, ◌+◌, drop, sym, ap, ◌∙◌}
 use Rattle.std.specs.Prelude.{unwrap_or}
 use Rattle.loop_form.specs.LoopView.{view}
 use Rattle.chunk_emit.specs.View.{layout_in}

@@ -2,7 +2,6 @@ use Rattle.std.proofs.Common.{◌+◌, ap, ◌∙◌, arith, drop}
 use Rattle.kernel_tree.specs.Plain.{action_of, block_of}
 use Rattle.kernel_tree.specs.Items as items
 use Rattle.kernel_tree.specs.Limits.{block_depth}
-use Rattle.kernel_tree.specs.Typing as typing
 use Rattle.kernel_scope.specs.Scopes.{scope_of, kept}
 use Rattle.kernel_scope.proofs.Growth.{kept-block}
 use Rattle.kernel_types.proofs.ListWalks.{next_statement, goes_on}

@@ -4,8 +4,7 @@ use Rattle.kernel_tree.specs.declared.ast.Kernel.{Kernel}
 use Rattle.kernel_tree.specs.declared.ast.Loop.{Loop}
 use Rattle.kernel_tree.specs.declared.ast.Var.{Var}
 use Rattle.kernel_tree.specs.Plain.{accumulators_of, turns_of, program_of}
-use Rattle.kernel_tree.specs.Items.{loop_index, vars_size, turns_size, size_of}
-use Rattle.loop_form.specs.Entries.{loop_start, loop_end}
+use Rattle.kernel_tree.specs.Items.{loop_index, vars_size, turns_size, size_of, loop_start, loop_end}
 use Rattle.loop_form.specs.View.{program}
 use Rattle.label_fix.specs.DraftRun.{Entry}
 use Rattle.scalar_emit.specs.Kernel.{register_in, layout_of_kernel, scalar_code}

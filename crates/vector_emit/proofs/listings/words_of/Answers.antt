@@ -1,6 +1,5 @@
-use Rattle.std.proofs.Common.{◌≡◌, ◌≤◌, ℕ, List, [], ◌∷◌, ap, sym, ◌∙◌, arith}
-use Rattle.kernel_tree.specs.Items.{size_of}
-use Rattle.label_fix.specs.DraftRun.{Entry, Place}
+use Rattle.std.proofs.Common.{◌≡◌, [], ◌∷◌, ap, sym, ◌∙◌, arith}
+use Rattle.label_fix.specs.DraftRun.{Place}
 use Rattle.label_fix.specs.Finished.{size}
 use Rattle.label_fix.proofs.PlacedRuns.{size-append}
 use Rattle.loop_form.specs.View.{program}
