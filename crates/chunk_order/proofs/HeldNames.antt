@@ -25,7 +25,6 @@ pub bound_below : (env : List Bound) (x : List ℕ) (o : Option Ty) (q n : ℕ) 
 bound_below env x None q n b lt = b
 bound_below env x (Some t) q n b lt = env_below-append env (bound x (Made q) ∷ []) n b (lt, tt)
 
-
 pub outer_below : (p n : ℕ) (xs : List Local) → EnvBelow (outer_env p xs) n
 outer_below p n [] = tt
 outer_below p n (x ∷ xs) = (tt, outer_below (suc p) n xs)
