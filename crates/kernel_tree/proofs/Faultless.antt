@@ -47,13 +47,13 @@ params_faultless k e = nil-left (params_faults (empty (loop_index k)) 0 k.params
 pub vars_faultless : (k : Program) → check_fault k ≡ None → vars_faults (param_scope k) (length k.params) k.vars ≡ []
 vars_faultless k e = nil-left (vars_faults (param_scope k) (length k.params) k.vars) _ (nil-right (params_faults (empty (loop_index k)) 0 k.params) _ (faultless k e))
 
-rest_faultless : (k : Program) → check_fault k ≡ None → turns_faults (var_scope k) (loop_start k) k.turns ++ answer_faults (after_turns (var_scope k) k.turns) loop_end k k.answer ≡ []
+rest_faultless : (k : Program) → check_fault k ≡ None → turns_faults (var_scope k) (loop_start k) k.turns ++ answer_faults (after_turns (var_scope k) k.turns) (loop_end k) k.answer ≡ []
 rest_faultless k e = nil-right (vars_faults (param_scope k) (length k.params) k.vars) _ (nil-right (params_faults (empty (loop_index k)) 0 k.params) _ (faultless k e))
 
 pub loop_faultless : (k : Program) → check_fault k ≡ None → turns_faults (var_scope k) (loop_start k) k.turns ≡ []
 loop_faultless k e = nil-left (turns_faults (var_scope k) (loop_start k) k.turns) _ (rest_faultless k e)
 
-pub answer_faultless : (k : Program) → check_fault k ≡ None → answer_faults (after_turns (var_scope k) k.turns) loop_end k k.answer ≡ []
+pub answer_faultless : (k : Program) → check_fault k ≡ None → answer_faults (after_turns (var_scope k) k.turns) (loop_end k) k.answer ≡ []
 answer_faultless k e = nil-right (turns_faults (var_scope k) (loop_start k) k.turns) _ (rest_faultless k e)
 
 -- ---- in a loop
