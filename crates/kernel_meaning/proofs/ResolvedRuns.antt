@@ -34,7 +34,7 @@ iterate-same s l i m ns vs h n room =
     let n' : length vs' ≡ most_slots = length-set vs (length s.visible) (pos i) ∙ n in
     let more : length (in_loop s l).visible ≡ length s.visible + 1 = length-append s.visible (local l.index binding.Index ∷ []) in
     cut-same s (after_block (in_loop s l) l.body) (length ns) (do_block (in_loop s l) l.body m ns') (do_tasks (resolved_block (in_loop s l) l.body) m vs')
-    (widen s (in_loop s l) (after_block (in_loop s l) l.body) _ _ (record { more = local l.index binding.Index ∷ []; visible = refl }) (block-same l.body (in_loop s l) m ns' vs' h' n' (omega arith)))
+    (widen s (in_loop s l) (after_block (in_loop s l) l.body) _ _ (extends_one s.visible (local l.index binding.Index)) (block-same l.body (in_loop s l) m ns' vs' h' n' (omega arith)))
     (body_extends s l) (held-length s.visible ns vs h)
 
 -- two loops that stand alike
