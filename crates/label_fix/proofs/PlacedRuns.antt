@@ -5,8 +5,8 @@ use Rattle.label_fix.specs.RunsAsDraft.{RunsAsDraft, CutsAreSuppressed}
 use Rattle.std.proofs.lemmas.Bool.{cases_lt, lt-ltb, le-ltb, ltb-true, cond-true, cond-false}
 use Rattle.guest_types.specs.Memory.{Memory, fetched}
 use Rattle.word_rows.specs.Row.{IsInstruction, spells}
-use Rattle.a64_code.specs.Table as table
 use Rattle.a64_code.specs.Table.{row, a64_names}
+use Rattle.a64_code.proofs.Valid.{is_instruction}
 use Rattle.machine_model.specs.Arithmetic.{holds, target}
 use Rattle.machine_model.specs.CodeInMemory.{spell, IsListed}
 use Rattle.machine_model.specs.Frames.{SameUnless, is_branch}
@@ -187,11 +187,10 @@ same_run d few s p h n taken = same d few n taken [] d.entries s refl (p ∙ (le
 -- ---- from the words that stand in memory
 
 branch_listed : (k : Kind) (from to : ℕ) → IsBranch k → IsInstruction row a64_names (branch_of k from to)
-unfolding table.add_sub_imm table.add_sub_shifted table.logical table.move_wide table.multiply_add table.shift_variable table.select table.bitfield table.branch table.branch_if table.branch_zero
-branch_listed Always from to h = record { place = 22; listed = refl; fits = (omega arith, tt); admitted = refl }
-branch_listed (If c) from to h = record { place = 23; listed = refl; fits = (omega (arith, ltb-true c 15 h.1), (omega arith, tt)); admitted = h.1 }
-branch_listed (Zero r) from to h = record { place = 24; listed = refl; fits = (omega (arith, ltb-true r 32 h.0), (omega arith, tt)); admitted = refl }
-branch_listed (NotZero r) from to h = record { place = 25; listed = refl; fits = (omega (arith, ltb-true r 32 h.0), (omega arith, tt)); admitted = refl }
+branch_listed Always from to h = is_instruction _ (omega arith, tt) refl
+branch_listed (If c) from to h = is_instruction _ (omega (arith, ltb-true c 15 h.1), (omega arith, tt)) h.1
+branch_listed (Zero r) from to h = is_instruction _ (omega (arith, ltb-true r 32 h.0), (omega arith, tt)) refl
+branch_listed (NotZero r) from to h = is_instruction _ (omega (arith, ltb-true r 32 h.0), (omega arith, tt)) refl
 
 -- some words from number n on
 abbrev From : Laid → Memory → ℕ → List ℕ → Type 0
