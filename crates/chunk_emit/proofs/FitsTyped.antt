@@ -1,5 +1,5 @@
 -- The values from before a loop are of their types.
-use Rattle.std.proofs.Common.{◌≡◌, ℕ, zero, suc, ◌<◌, ◌^◌, ℤ, pos, List, [], ◌∷◌, ◌++◌, Some, sym, subst}
+use Rattle.std.proofs.Common.{◌≡◌, ℕ, zero, suc, ◌<◌, ◌^◌, pos, List, [], ◌∷◌, ◌++◌, Some, sym, subst}
 use Rattle.std.specs.Prelude.{drop, slice_get, slice_index}
 use Rattle.guest_types.specs.Memory.{Memory}
 use Rattle.kernel_tree.specs.declared.ops.Ty.{Ty}
@@ -9,15 +9,11 @@ use Rattle.kernel_tree.specs.Plain.{Parameter, Program}
 use Rattle.kernel_meaning.specs.Eval.{Names}
 use Rattle.kernel_meaning.specs.ScalarRun.{argument_names, argument, started}
 use Rattle.kernel_meaning.proofs.Started.{started_names}
-use Rattle.loop_form.specs.declared.loop_item.Source.TheVariants.{Constant, LoopIndex}
+use Rattle.loop_form.specs.declared.loop_item.Source.TheVariants.{LoopIndex}
 use Rattle.chunk_order.specs.Orders.{Lane}
 use Rattle.chunk_order.specs.Items.{nth_value, source_value}
 use Rattle.lane_emit.specs.Right.{IsOf}
 use Rattle.lane_emit.proofs.Ranges.{is_of, wrap-is_of}
-
--- a literal, and the loop variable
-pub literal_typed : (names : Names) (i : ℕ) (a : Lane) (t : Ty) (z : ℤ) → IsOf t (source_value names i a (Constant (Some t) z))
-literal_typed names i a t z = wrap-is_of t z
 
 pub turn_typed : (names : Names) (i : ℕ) (a : Lane) → i < 2 ^ 64 → IsOf U64 (source_value names i a LoopIndex)
 turn_typed names i a h = is_of U64 (pos i) h

@@ -1,10 +1,9 @@
 -- The code of one more item of the region.
-use Rattle.std.proofs.Common.{◌≡◌, ℕ, ◌+◌, ◌<◌, ◌≤◌, List, ◌∷◌, length, drop, sym, ap, ◌∙◌, subst}
+use Rattle.std.proofs.Common.{◌≡◌, ℕ, ◌+◌, ◌<◌, ◌≤◌, List, ◌∷◌, length, drop, sym, ap, ◌∙◌}
 use Rattle.std.specs.Prelude.{slice_index_or}
 use Rattle.std.proofs.lemmas.List.{drop_all}
 use Rattle.loop_form.specs.declared.loop_item.LoopItem.{LoopItem}
 use Rattle.loop_form.specs.LoopView.{view_of, view}
-use Rattle.chunk_emit.specs.Writable.{IsWritable, AreWritable}
 use Rattle.chunk_emit.proofs.StepCode.{no_item, at_place}
 use Rattle.guest_types.specs.declared.length.Width.{Width}
 use Rattle.label_fix.specs.DraftRun.{Entry}
@@ -22,10 +21,6 @@ pub next_puts : (mode : Mode) (w : Width) (l : Layout) (items : List LoopItem) (
 next_puts mode w l items p rest h =
     let it : Item = view_of (slice_index_or items p no_item) in
     sym (one_more mode w l it (view (drop (p + 1) items)) rest) ∙ ap (λ its. puts (region_words mode w l its) rest) (sym (at_place items p no_item h))
-
--- the first item
-pub first_writable : (w : Width) (items : List LoopItem) (p : ℕ) → p < length items → AreWritable w (view (drop p items)) → IsWritable w (view_of (slice_index_or items p no_item)).op
-first_writable w items p h all = (subst (AreWritable w) (at_place items p no_item h) all).0
 
 -- after the last item
 pub none_left : (mode : Mode) (w : Width) (l : Layout) (items : List LoopItem) (p : ℕ) (rest : List Entry) → length items ≤ p → rest ≡ puts (region_words mode w l (view (drop p items))) rest

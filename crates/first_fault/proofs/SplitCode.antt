@@ -1,7 +1,6 @@
 -- The steps of a break region as the code makes them.
-use Rattle.std.proofs.Common.{◌≡◌, ℕ, zero, suc, ◌+◌, ◌<◌, ◌≤◌, not, ◌&&◌, List, [], ◌∷◌, ◌++◌, length, Option, Some, None, drop, refl, sym, ap, ap₂, ◌∙◌, arith}
+use Rattle.std.proofs.Common.{◌≡◌, ℕ, zero, suc, ◌+◌, ◌<◌, ◌≤◌, not, ◌&&◌, List, [], ◌∷◌, length, Option, Some, None, drop, refl, sym, ap, ◌∙◌, arith}
 use Rattle.std.specs.Prelude.{slice_get, slice_index_or, option_map}
-use Rattle.std.proofs.lemmas.List.{append-nil, append_assoc, drop_all}
 use Rattle.guest_types.specs.declared.length.Width.{Width}
 use Rattle.loop_form.specs.declared.loop_item.LoopItem.{LoopItem}
 use Rattle.loop_form.specs.LoopView.{view_of, view}
@@ -59,20 +58,3 @@ told_by l m c p items o lt get =
     let it : Item = view_of (slice_index_or items p no_item) in
     ap (λ next. not (takes_truth m it.op) && in_second m (ends_second l m c it.item it.op next) (is_split l m c (view (drop (p + 1) items))) it.mask) (ap (option_map view_of) get ∙ sym (next_at items (p + 1)))
     ∙ sym (ap (is_split l m c) (at_place items p no_item lt))
-
--- one more step
-pub step_more : (l : Layout) (spot next : Spot) (made : Option Item) (p : ℕ) (items : List LoopItem) (other : LoopItem) (done : List Item) → p < length items
-    → made ≡ step_at l spot (view_of (slice_index_or items p other)) (view (drop (p + 1) items)) → next ≡ next_spot l spot (view_of (slice_index_or items p other)) (view (drop (p + 1) items))
-    → (done ++ with_step made []) ++ steps_from l next (view (drop (p + 1) items)) ≡ done ++ steps_from l spot (view (drop p items))
-step_more l spot next made p items other done lt is goes =
-    append_assoc done (with_step made []) (steps_from l next (view (drop (p + 1) items)))
-    ∙ ap (λ steps. done ++ steps) (joined made (steps_from l next (view (drop (p + 1) items)))
-    ∙ ap₂ (λ o s. with_step o (steps_from l s (view (drop (p + 1) items)))) is goes
-    ∙ sym (ap (steps_from l spot) (at_place items p other lt)))
-  where
-    joined : (o : Option Item) (steps : List Item) → with_step o [] ++ steps ≡ with_step o steps
-    joined None steps = refl
-    joined (Some it) steps = refl
-
-pub none_more : (l : Layout) (spot : Spot) (p : ℕ) (items : List LoopItem) (done : List Item) → length items ≤ p → done ≡ done ++ steps_from l spot (view (drop p items))
-none_more l spot p items done h = sym (append-nil done) ∙ ap (λ its. done ++ steps_from l spot (view its)) (sym (drop_all p items h))

@@ -57,9 +57,6 @@ low D n = omega arith
 held-of : (w : Width) (z : ℤ) (n : ℕ) → word z ≡ n % 2 ^ 64 → held w z ≡ n % modulus w
 held-of w z n e = held-word w z ∙ ap (λ m. m % modulus w) e ∙ low w n
 
-pub held-pos : (w : Width) (n : ℕ) → held w (pos n) ≡ n % modulus w
-held-pos w n = held-of w (pos n) n refl
-
 -- ---- sums, differences and products
 
 sum_low : (w : Width) (a b : ℕ) → (a % modulus w + b % modulus w) % modulus w ≡ (a + b) % modulus w

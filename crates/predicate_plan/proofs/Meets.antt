@@ -1,14 +1,11 @@
 -- The masks of a kernel are met exactly where the walk of an iteration comes to their items.
-use Rattle.std.proofs.Common.{◌≡◌, ℕ, zero, suc, ◌+◌, ◌-◌, ◌<◌, ◌≤◌, ℤ, List, [], ◌∷◌, ◌++◌, length, replicate, map, Option, Some, None, Bool, true, false, not, ◌&&◌, refl, sym, ap, ap₂, ◌∙◌, subst, arith, length-append, get_or}
+use Rattle.std.proofs.Common.{◌≡◌, ℕ, zero, suc, ◌+◌, ◌-◌, ◌<◌, ◌≤◌, ℤ, List, [], ◌∷◌, ◌++◌, length, replicate, map, Option, Some, None, Bool, true, false, not, ◌&&◌, refl, sym, ap, ap₂, ◌∙◌, arith, length-append, get_or}
 use Rattle.std.proofs.lemmas.List.{get_or-append_right, get_or_append_left, get_or-map, length-map, length-replicate}
 use Rattle.kernel_tree.specs.Plain.{Term, Literal, Variable, Element, Unary, Operation, Shift, Conversion, Choice, Comparison, Both, Either, Not, Action, Define, Put, Update, Choose, Leave, Block, Done, Then, Otherwise, Nothing, Else, PlainLoop, Program}
 use Rattle.kernel_tree.specs.Items.{stream_offset, term_size, action_size, block_size, otherwise_size, turns_size, index_size, answer_size, loop_index, loop_start}
 use Rattle.kernel_meaning.specs.Reaches.{at_item, inner_reached, term_reached, action_reached, block_reached, otherwise_reached, turns_reached}
 use Rattle.predicate_plan.specs.declared.part.MaskPart.{MaskPart}
 use Rattle.predicate_plan.specs.Masks.{agrees, meets, mask_at, MeetsMasks, and_part, inner_masks, term_masks, action_masks, block_masks, otherwise_masks, turns_masks, loop_masks, masks_of}
-
-meets_all : (truth : ℕ → Bool) → List (List MaskPart) → List Bool
-meets_all truth ms = map (meets truth) ms
 
 and_true : (b : Bool) → (b && true) ≡ b
 and_true true = refl
@@ -141,11 +138,6 @@ module _ (index : Option (List ℕ)) where
 
 turns_count : (l : PlainLoop) (from : ℕ) → length (turns_masks from l) ≡ turns_size (Some l)
 turns_count l from = both (Some l.index) ([] ∷ []) _ 1 _ refl (block_count (Some l.index) l.body (from + 1) [])
-
-pub masks_count : (o : Option PlainLoop) (from : ℕ) (l : PlainLoop) → o ≡ Some l → length (loop_masks from o) ≡ from + turns_size o
-masks_count o from l e =
-    subst (λ o. length (loop_masks from o) ≡ from + turns_size o) (sym e)
-    (length-append (replicate from []) (turns_masks from l) ∙ ap₂ ◌+◌ (length-replicate {A = List MaskPart} from []) (turns_count l from))
 
 -- ---- the masks of the loop
 

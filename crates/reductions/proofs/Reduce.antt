@@ -182,9 +182,6 @@ low_result t vl w r h wide =
     let small = small_all z (vector_made vl (width_bytes w) (dup_at r) 1 h (one_fits vl w h)).small in
     sym (through t w (at D z 0) wide) ∙ ap (λ n. n % 2 ^ bits_of t) (sym (first_part w z small) ∙ at-register w (dup_at r) 1 0 (omega arith)) ∙ through t w r wide
 
-reduced_state : State → ℕ → Width → ℕ → State
-reduced_state s d w r = next (with_z s d (reduced w r))
-
 reduce_does : (op : UpdateOp) (t : Ty) (w : Width) (s : State) (d z : ℕ) → do_vector (stretch.word (reduce_name op t) (d ∷ z ∷ 1 ∷ size_of w ∷ [])) s ≡ Went (next (with_z s d (reduced (result_width op w) (reduce_of (reduce_op op t) w (lanes s.vl w) (p_at s 1) (z_at s z)))))
 reduce_does op t w s d z = by op ∙ ap (λ k. Went (next (with_z s d (reduced (result_width op k) (reduce_of (reduce_op op t) k (lanes s.vl k) (p_at s 1) (z_at s z)))))) (width-size w)
   where

@@ -47,9 +47,6 @@ pub record Changes (s t : State) (d : ℕ) : Type 0 where
 pub changes_on : {s t u : State} {d : ℕ} → Changes s t d → Changes t u d → Changes s u d
 changes_on j k = record { memory = k.memory ∙ j.memory; sized = k.sized ∙ j.sized; frame = k.frame ∙ j.frame; others = λ r hi ne. k.others r hi ne ∙ j.others r hi ne }
 
-pub changes_scratch : (s : State) (r v d : ℕ) → 26 ≤ r → Changes s (wrote s r v) d
-changes_scratch s r v d le = record { memory = refl; sized = wrote_sized s r v; frame = refl; others = λ q hi ne. wrote_other s r v q (λ eq. absurd (omega arith)) }
-
 pub changes_own : (s : State) (d v : ℕ) → Changes s (wrote s d v) d
 changes_own s d v = record { memory = refl; sized = wrote_sized s d v; frame = refl; others = λ q hi ne. wrote_other s d v q ne }
 

@@ -9,77 +9,25 @@ use Rattle.reg_assign.specs.declared.interval.RegClass.{RegClass}
 use Rattle.kernel_compile.specs.declared.fault.CompileFault.{CompileFault}
 use Rattle.kernel_compile.specs.declared.fault.CompileFault.TheVariants as compiling
 use Rattle.kernel_compile.specs.Refusals.{too_many, IsRefusal}
-use Rattle.command_line.specs.Line.{Line, CompileLine, SweepLine}
+use Rattle.command_line.specs.Line.{Line, CompileLine}
 use Rattle.machine_model.specs.declared.elf_fault.ElfFault.{ElfFault}
 use Rattle.machine_model.specs.declared.elf_fault.ElfFault.TheVariants as elf
 use Rattle.kernel_tree.specs.Plain.{Program}
-use Rattle.kernel_tree.specs.Typing.{Refusal as Typing}
 use Rattle.kernel_syntax.specs.declared.fault.ReadFault.TheVariants as reading
 use Rattle.kernel_types.specs.declared.fault.TypeFault.TheVariants as typing
 use Rattle.kernel_front.specs.declared.fault.KernelFault.{KernelFault}
 use Rattle.kernel_front.specs.declared.fault.KernelFault.TheVariants as kernels
-use Rattle.kernel_front.specs.Verdict.{Verdict, Limited, NoKernel, Refused, Sound, IsVerdict, Explains}
+use Rattle.kernel_front.specs.Verdict.{Verdict, Limited, NoKernel, Refused, Sound, IsVerdict}
 use Rattle.refusals.specs.declared.refusal.Refusal.{Refusal}
 use Rattle.refusals.specs.declared.refusal.Refusal.TheVariants.{Usage, TooManyLive, Kernel, TooLong, Elf, Map, Memory, File, Output}
 use Rattle.sve_top.specs.Answer.{Held, Expected, Answer, answer_of, expected_text, IsFileAnswer, IsAnswer}
 use Rattle.refusals.specs.Statuses.{of_kernel, of_compile, of_elf}
 use Rattle.sve_top.specs.Outputs.{Prints}
 use Rattle.sve_top.proofs.Prints.{prints_none}
-use Rattle.sve_top.specs.Kernels.{IsOfText, IsExpectedOf, ByVerdict}
+use Rattle.sve_top.specs.Kernels.{IsExpectedOf, ByVerdict}
 use Rattle.sve_top.specs.Commands.{AfterRead, WhereExpected, WhereTold, RefusesText, RefusesEval, RefusesProgram, IsOfEval, Expects, file_of, bytes_of, map_of, compiled, compiled_by, CompilesTo, CompileExpects, RefusesCompile, IsOfCheck, IsOfList}
 
 -- ---- verdicts
-
-not_refused : (k : Program) (r : Typing) → Sound k ≡ Refused r → ⊥
-not_refused k r e = absurd cc
-
--- a fault explains the verdict of no sound kernel
-not_sound : (k : Program) (fault : KernelFault) → IsOfText fault → Explains (Sound k) fault → ⊥
-not_sound k (kernels.Unread reading.TooLong) t e = absurd cc
-not_sound k (kernels.Unread (reading.BadByte at)) t e = absurd cc
-not_sound k (kernels.Unread (reading.TooDeep token)) t e = absurd cc
-not_sound k (kernels.Unread (reading.Syntax token)) t e = absurd cc
-not_sound k (kernels.Unread reading.Memory) t e = t
-not_sound k (kernels.Broken (typing.Unknown item)) t e = not_refused k e.0 e.1
-not_sound k (kernels.Broken (typing.Twice item)) t e = not_refused k e.0 e.1
-not_sound k (kernels.Broken (typing.WrongKind item)) t e = not_refused k e.0 e.1
-not_sound k (kernels.Broken (typing.Mismatch item want found)) t e = not_refused k e.0 e.1
-not_sound k (kernels.Broken (typing.Untyped item)) t e = not_refused k e.0 e.1
-not_sound k (kernels.Broken (typing.LiteralRange item)) t e = not_refused k e.0 e.1
-not_sound k (kernels.Broken (typing.ShiftRange item)) t e = not_refused k e.0 e.1
-not_sound k (kernels.Broken (typing.OffsetRange item)) t e = not_refused k e.0 e.1
-not_sound k (kernels.Broken (typing.TooLarge size)) t e = not_refused k e.0 e.1
-not_sound k (kernels.Broken (typing.TooDeep depth)) t e = not_refused k e.0 e.1
-not_sound k (kernels.Broken typing.Memory) t e = t
-
-refused_for : (sound : Program → Expected) (v : Verdict) (fault : KernelFault) → IsOfText fault → Explains v fault → IsExpectedOf sound v (Err (Kernel fault))
-refused_for sound (Limited f) fault t e = record { fault = fault; explains = e; of_text = t; is_refused = refl }
-refused_for sound (NoKernel token) fault t e = record { fault = fault; explains = e; of_text = t; is_refused = refl }
-refused_for sound (Refused r) fault t e = record { fault = fault; explains = e; of_text = t; is_refused = refl }
-refused_for sound (Sound k) fault t e = absurd (not_sound k fault t e)
-
--- a fault of a text is wanted wherever something is
-of_text_refused : (sound : Program → Expected) (text : List ℕ) (fault : KernelFault) → IsOfText fault → ((v : Verdict) → IsVerdict text v → Explains v fault) → (work : Expected) → ByVerdict sound text work → ByVerdict sound text (Err (Kernel fault))
-of_text_refused sound text fault t all work w =
-    record { verdict = w.verdict; has = w.has; wanted = refused_for sound w.verdict fault t (all w.verdict w.has) }
-
-pub refused_text : (sound : Program → Expected) (text : List ℕ) (fault : KernelFault) → ((v : Verdict) → IsVerdict text v → Explains v fault) → RefusesText (ByVerdict sound text) (of_kernel fault)
-refused_text sound text (kernels.Unread reading.TooLong) all = of_text_refused sound text _ tt all
-refused_text sound text (kernels.Unread (reading.BadByte at)) all = of_text_refused sound text _ tt all
-refused_text sound text (kernels.Unread (reading.TooDeep token)) all = of_text_refused sound text _ tt all
-refused_text sound text (kernels.Unread (reading.Syntax token)) all = of_text_refused sound text _ tt all
-refused_text sound text (kernels.Unread reading.Memory) all = tt
-refused_text sound text (kernels.Broken (typing.Unknown item)) all = of_text_refused sound text _ tt all
-refused_text sound text (kernels.Broken (typing.Twice item)) all = of_text_refused sound text _ tt all
-refused_text sound text (kernels.Broken (typing.WrongKind item)) all = of_text_refused sound text _ tt all
-refused_text sound text (kernels.Broken (typing.Mismatch item want found)) all = of_text_refused sound text _ tt all
-refused_text sound text (kernels.Broken (typing.Untyped item)) all = of_text_refused sound text _ tt all
-refused_text sound text (kernels.Broken (typing.LiteralRange item)) all = of_text_refused sound text _ tt all
-refused_text sound text (kernels.Broken (typing.ShiftRange item)) all = of_text_refused sound text _ tt all
-refused_text sound text (kernels.Broken (typing.OffsetRange item)) all = of_text_refused sound text _ tt all
-refused_text sound text (kernels.Broken (typing.TooLarge size)) all = of_text_refused sound text _ tt all
-refused_text sound text (kernels.Broken (typing.TooDeep depth)) all = of_text_refused sound text _ tt all
-refused_text sound text (kernels.Broken typing.Memory) all = tt
 
 pub sound_text : (sound : Program → Expected) (text : List ℕ) (k : Program) → IsVerdict text (Sound k) → ByVerdict sound text (sound k)
 sound_text sound text k h = record { verdict = Sound k; has = h; wanted = refl }
@@ -100,33 +48,9 @@ of_read x y (Some h) from bytes found next work P is read w p =
     let e : Ok bytes ≡ file_of h from = read_is x y (file_of h from) bytes (subst (IsFileAnswer x y (file_of h from)) is read) in
     λ other o. (work, subst (λ r. AfterRead r next work) e w, p)
 
--- something that holds of each work holds of one that is wanted
-pub of_any : (held : Option Held) (from : List ℕ) (next : List ℕ → Expected → Type 0) (P : Expected → Type 0) → ((work : Expected) → P work) → IfSome held (λ h. WhereExpected (AfterRead (file_of h from) next) P)
-of_any None from next P all = tt
-of_any (Some h) from next P all = λ work w. (work, w, all work)
-
--- a read that failed
-failed_read : (x y : ℕ) (wanted : Result (List ℕ) Refusal) (next : List ℕ → Expected → Type 0) (refusal : Refusal) (result : Answer) → result ≡ Err refusal → IsFileAnswer x y wanted (Err refusal) → WhereExpected (AfterRead wanted next) (λ work. IsFileAnswer x y (answer_of work) result)
-failed_read x y wanted next refusal result is h = λ work w. (
-  work,
-  w,
-  ⊎_elim
-      (λ e. let a : AfterRead (Err refusal) next work = subst (λ r. AfterRead r next work) (sym e) w in inl (is ∙ sym (ap answer_of a)))
-      (⊎_elim (λ e. inr (inl (is ∙ same Memory e))) (λ p. inr (inr (is ∙ same File p.0, p.1))))
-      h,
-)
-  where
-    same : (other : Refusal) → ◌≡◌ {A = Result (List ℕ) Refusal} (Err refusal) (Err other) → ◌≡◌ {A = Answer} (Err refusal) (Err other)
-    same other e = cc
-
 pub is_err : (refusal : Refusal) (result : Answer) → IsErrAnd result (λ r. r ≡ refusal) → result ≡ Err refusal
 is_err refusal (Ok how) h = absurd h
 is_err refusal (Err r) h = ap (λ e. Err e) h
-
-pub read_failed : (x y : ℕ) (held : Option Held) (from : List ℕ) (next : List ℕ → Expected → Type 0) (found : Result (List ℕ) Refusal) (refusal : Refusal) (result : Answer) → found ≡ Err refusal → IsErrAnd result (λ r. r ≡ refusal) → IfSome held (λ h. IsFileAnswer x y (file_of h from) found) → IfSome held (λ h. WhereExpected (AfterRead (file_of h from) next) (λ work. IsFileAnswer x y (answer_of work) result))
-read_failed x y None from next found refusal result is err read = tt
-read_failed x y (Some h) from next found refusal result is err read =
-    failed_read x y (file_of h from) next refusal result (is_err refusal result err) (subst (IsFileAnswer x y (file_of h from)) is read)
 
 -- a text that was read and is refused
 refused_one : (x y z : ℕ) (wanted : Result (List ℕ) Refusal) (next : List ℕ → Expected → Type 0) (bytes : List ℕ) (refusal : Refusal) (result : Answer) → Ok bytes ≡ wanted → result ≡ Err refusal → RefusesText (next bytes) refusal → WhereExpected (AfterRead wanted next) (λ work. IsFileAnswer x z (answer_of work) result)
@@ -158,10 +82,6 @@ with_output x y rose (Some held) W result h = λ work w. let p = h work w in (p.
 pub of_one : (held : Option Held) (f : Held → Expected) (P : Expected → Type 0) → IfSome held (λ h. P (f h)) → IfSome held (λ h. WhereExpected (λ work. work ≡ f h) P)
 of_one None f P h = tt
 of_one (Some held) f P h = λ work w. (f held, refl, h)
-
-pub of_each : (held : Option Held) (W : Held → Expected → Type 0) (P Q : Expected → Type 0) → ((work : Expected) → P work → Q work) → IfSome held (λ h. WhereExpected (W h) P) → IfSome held (λ h. WhereExpected (W h) Q)
-of_each None W P Q all h = tt
-of_each (Some held) W P Q all h = λ work w. let p = h work w in (p.0, p.1, all p.0 p.2)
 
 -- ---- compile
 
@@ -276,11 +196,6 @@ by_line held left c d P e h = subst (λ l. WhereTold held left l (P l)) (sym e) 
 -- what holds where the bytes of the input are told
 pub of_told : (left : Option (List ℕ)) (input : List ℕ) (P : List ℕ → Type 0) → left ≡ Some input → IfSome left P → P input
 of_told left input P e h = subst (λ o. IfSome o P) e h
-
--- of a sweep no work is wanted
-pub none_expected : (held : Option Held) (left : Option (List ℕ)) (number : ℕ) (to : List ℕ) (P : Expected → Type 0) → WhereTold held left (Some (SweepLine number to)) P
-none_expected None left number to P = λ input taken. tt
-none_expected (Some h) left number to P = λ input taken. λ work w. absurd w
 
 -- what holds of each work holds of one that is wanted, whatever the line
 pub of_every_line : (held : Option Held) (left : Option (List ℕ)) (line : Option Line) (P : Expected → Type 0) → ((work : Expected) → P work) → WhereTold held left line P

@@ -37,10 +37,6 @@ length_low_bytes seed j (suc n) =
     let i = length_low_bytes seed j n in
     omega (arith, i, length-append (low_bytes seed j n) (random seed (j + n) % 256 ∷ []))
 
-pub length_drawn_page : (seed j p : ℕ) → length (drawn_page seed j p) ≡ 4096
-unfolding drawn_page
-length_drawn_page seed j p = length_low_bytes seed (j + 4096 * p) 4096
-
 pub drawn_page-is : (seed j p : ℕ) → drawn_page seed j p ≡ low_bytes seed (j + 4096 * p) 4096
 unfolding drawn_page
 drawn_page-is seed j p = refl
