@@ -1,12 +1,12 @@
 -- The size of the break region.
-use Rattle.std.proofs.Common.{◌≡◌, ℕ, zero, suc, ◌+◌, ◌≤◌, Bool, true, false, cond, List, [], ◌∷◌, length, drop, refl, ◌∙◌, arith}
+use Rattle.std.proofs.Common.{◌≡◌, ℕ, zero, suc, ◌+◌, ◌≤◌, Bool, true, false, cond, List, [], ◌∷◌, length, take, drop, refl, ap, ◌∙◌, arith}
 use Rattle.std.specs.Prelude.{if◌then◌else◌}
 use Rattle.std.specs.List.{list_any}
 use Rattle.std.proofs.lemmas.List.{length-map}
 use Rattle.loop_form.specs.declared.loop_item.LoopItem.{LoopItem}
 use Rattle.loop_form.specs.LoopView.{view_of, view}
 use Rattle.loop_form.specs.LoopItems.{Item}
-use Rattle.first_fault.specs.Split.{is_quit, rest_of}
+use Rattle.first_fault.specs.Split.{is_quit, region_of, rest_of}
 use Rattle.first_fault.specs.View.{region_size, size_from}
 
 no_region : (items : List Item) → list_any is_quit items ≡ false → region_size items ≡ 0
@@ -37,6 +37,23 @@ at_item size place it items = by (is_quit it) refl
     by true e = at_quit size place it items e
     by false e = at_other size place it items e
 
+pub none_before : (items : List Item) → size_from 0 0 items ≡ region_size items
+none_before [] = refl
+none_before (it ∷ items) = by (list_any is_quit (it ∷ items)) refl
+  where
+    by : (b : Bool) → list_any is_quit (it ∷ items) ≡ b → size_from 0 0 (it ∷ items) ≡ region_size (it ∷ items)
+    by true f = rw f (let h : 0 + suc (region_size items) ≡ suc (region_size items) = omega arith in h)
+    by false f = rw f refl
+
+-- the region and the rest by their size
+region_taken : (items : List Item) → take (region_size items) items ≡ region_of items
+region_taken [] = refl
+region_taken (it ∷ items) = by (list_any is_quit (it ∷ items)) (region_taken items)
+  where
+    by : (b : Bool) → take (region_size items) items ≡ region_of items → take (cond b (suc (region_size items)) 0) (it ∷ items) ≡ cond b (it ∷ region_of items) []
+    by true h = ap (λ its. it ∷ its) h
+    by false h = refl
+
 rest_dropped : (items : List Item) → drop (region_size items) items ≡ rest_of items
 rest_dropped [] = refl
 rest_dropped (it ∷ items) = by (list_any is_quit (it ∷ items)) (rest_dropped items)
@@ -55,10 +72,18 @@ region_small (it ∷ items) = by (list_any is_quit (it ∷ items)) (region_small
 
 -- ---- as the code has them
 
+take_view : (n : ℕ) (items : List LoopItem) → view (take n items) ≡ take n (view items)
+take_view zero items = refl
+take_view (suc n) [] = refl
+take_view (suc n) (x ∷ xs) = ap (λ its. view_of x ∷ its) (take_view n xs)
+
 drop_view : (n : ℕ) (items : List LoopItem) → view (drop n items) ≡ drop n (view items)
 drop_view zero items = refl
 drop_view (suc n) [] = refl
 drop_view (suc n) (x ∷ xs) = drop_view n xs
+
+pub region_view : (items : List LoopItem) → view (take (region_size (view items)) items) ≡ region_of (view items)
+region_view items = take_view (region_size (view items)) items ∙ region_taken (view items)
 
 pub rest_view : (items : List LoopItem) → view (drop (region_size (view items)) items) ≡ rest_of (view items)
 rest_view items = drop_view (region_size (view items)) items ∙ rest_dropped (view items)

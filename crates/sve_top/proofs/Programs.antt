@@ -3,8 +3,8 @@ use Rattle.std.proofs.Common.{◌≡◌, ℕ, ◌+◌, ◌≤◌, Bool, true, fa
 use Rattle.std.specs.Prelude.{nat_lt, nat_eq, sum_by, filter, ◌*◌, ◌&&◌, ◌||◌, not, IfErr, IsErrAnd, if◌then◌else◌}
 use Rattle.std.proofs.lemmas.Bool.{ltb-false}
 use Rattle.std.proofs.lemmas.List.Sums.{sum_by-cons}
-use Rattle.guest_types.specs.Memory.{Memory, DoNotMeet, merged}
-use Rattle.guest_types.proofs.Merges.{merged-nil_right}
+use Rattle.guest_types.specs.Memory.{Memory, IsMemory, DoNotMeet, merged}
+use Rattle.guest_types.proofs.Merges.{empty_memory, merged-nil_right}
 use Rattle.machine_model.specs.declared.elf_fault.ElfFault.{ElfFault}
 use Rattle.machine_model.specs.declared.elf_fault.ElfFault.TheVariants.{Short, NotElf, NotAarch64, NotStatic, BadSegment, SegmentsClash, TooManyPages, Memory as NoMemory}
 use Rattle.machine_model.specs.declared.outcome.Outcome.{Outcome as OutcomeAnswer}
@@ -123,6 +123,9 @@ alone memory other e = subst (DoNotMeet memory) (sym e) (λ k d h. refl)
 
 pub few_alone : (memory other : Memory) → other ≡ [] → length memory ≤ 16384 → length memory + length other ≤ 16384
 few_alone memory other e h = omega (arith, ap length e)
+
+pub none_in_order : (other : Memory) → other ≡ [] → IsMemory other
+none_in_order other e = subst IsMemory (sym e) empty_memory
 
 -- ---- programs that are refused
 
