@@ -104,6 +104,3 @@ pub fn address_digits(address: u64) -> [u8; 16]
     };
     digits
 }
-
-#[cfg(test)]
-mod tests;

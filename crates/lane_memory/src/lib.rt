@@ -14,7 +14,5 @@ mod reading;
 mod refusal;
 pub mod store;
 pub mod suppress;
-#[cfg(test)]
-mod tests;
 mod write;
 mod writing;

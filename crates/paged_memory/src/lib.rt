@@ -7,5 +7,3 @@ pub mod number;
 pub mod pages;
 mod place;
 pub mod run;
-#[cfg(test)]
-mod tests;

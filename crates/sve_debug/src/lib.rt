@@ -9,5 +9,3 @@ mod put;
 mod run;
 pub mod session;
 mod show;
-#[cfg(test)]
-mod tests;

@@ -18,6 +18,3 @@ mod vector_step;
 mod vectors;
 
 pub use machine::Machine;
-
-#[cfg(test)]
-mod tests;

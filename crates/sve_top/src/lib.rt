@@ -12,6 +12,4 @@ mod program;
 mod run;
 mod run_report;
 mod sweep;
-#[cfg(test)]
-mod tests;
 pub mod top;
