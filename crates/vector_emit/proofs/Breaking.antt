@@ -80,7 +80,7 @@ module _ (g : Ground) (ground : IsGround g) (quits : list_any is_quit (items_of 
         by_reason : LeftOut (iterate (var_scope g.kernel) g.turns (i + k) now names) cut → Pays (loop_of g d rest) (has_lanes g ground) k whole (Stuck (loop_of g d rest) (has_lanes g ground) (i + k) now names) 1
         by_reason (breaks h) = pays_last some (inr (inl h))
         by_reason (faults h) = pays_last some (inr (inr h))
-        by_reason (suppressed lt) = pays_cut (omega (arith, lt, more))
+        by_reason (suppressed lt) = pays_cut some (omega (arith, lt, more))
 
     -- ---- after a chunk of which no lane came through
 
