@@ -9,3 +9,4 @@ pub mod OneExpectedLaws
 pub mod Completions
 pub mod Sessions
 pub mod Sweeps
+pub mod CompiledRuns

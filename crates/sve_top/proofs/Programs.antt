@@ -216,6 +216,11 @@ not_mapped bytes map image fault (Err refusal) e is h =
 
 -- ---- runs
 
+-- the run of a program that is loaded beside the pages of a map
+pub run_is : (vl : ℕ) (task : Task) (bytes map : List ℕ) (image : Image) (pages : Memory) → load bytes ≡ Ok image → pages_of_map map image.pages ≡ Ok pages → run_program vl task bytes map ≡ ran vl task image pages
+unfolding run_program
+run_is vl task bytes map image pages e h = with_beside bytes map (ran vl task) image (Ok pages) e h
+
 -- no machine could be made for a run
 pub run_not_begun : {T : Type 0} (vl : ℕ) (task : Task) (bytes map : List ℕ) (refusal : Refusal) (result : Result T Refusal) → IsErrAnd result (λ r. r ≡ refusal) → ((next : Image → Memory → Expected) → RefusesProgram (with_program bytes map next) refusal) → IfErr result (λ r. RefusesProgram (run_program vl task bytes map) r)
 unfolding run_program

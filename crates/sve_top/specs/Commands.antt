@@ -21,7 +21,7 @@ use Rattle.kernel_tree.specs.Plain.{Program}
 use Rattle.kernel_front.specs.Verdict.{Sound, IsVerdict}
 use Rattle.reg_assign.specs.declared.interval.RegClass.{RegClass}
 use Rattle.loop_form.specs.Needs.{needs_of}
-use Rattle.kernel_compile.specs.Faithful.{FreeFaithful}
+use Rattle.kernel_compile.specs.Faithful.{FreeFaithful, FreeEnds}
 use Rattle.kernel_compile.specs.Refusals.{too_many, need_in}
 use Rattle.check_text.specs.CheckText.{check_text}
 use Rattle.command_line.specs.Line.{Line, Task, Extent, CompileLine, CheckLine, EvalLine, ListLine, RunLine, DebugLine, SweepLine}
@@ -384,18 +384,19 @@ done_of outcomes.Spent = done.Spent
 
 -- ---- what is left of the files
 
--- The text is that of a sound kernel, and the file is faithful to it within the bound that counts chunks, whatever stop list a
--- machine has.
+-- The text is that of a sound kernel, and the file is faithful to it, whatever stop list a machine has: within the bound that counts
+-- chunks and the free elements that are suppressed, and within the one that counts iterations alone.
 pub record CompilesTo (text file : List ℕ) : Type 0 where
   pub kernel : Program
   pub sound : IsVerdict text (Sound kernel)
   pub faithful : FreeFaithful kernel file
+  pub ends : FreeEnds kernel file
 
 -- at status 0 the one file is faithful to the kernel that the other held, and for `sweep` to that of the number
 abbrev pub Compiled : Held → Held → Line → Type 0
 Compiled old new (CompileLine from to) =
     IfSome (content old from) (λ text. (file : List ℕ) × (content new to ≡ Some file) × CompilesTo text file)
-Compiled old new (SweepLine number to) = (file : List ℕ) × (content new to ≡ Some file) × FreeFaithful (kernel_of number) file
+Compiled old new (SweepLine number to) = (file : List ℕ) × (content new to ≡ Some file) × FreeFaithful (kernel_of number) file × FreeEnds (kernel_of number) file
 Compiled old new line = Unit {0}
 
 -- every name but that of the file which `compile` or `sweep` writes has what it had

@@ -5,7 +5,7 @@ ghost use Rattle.io_edges.specs.Files.{Rose, content};
 ghost use Rattle.command_line.specs.Line.{CompileLine};
 ghost use Rattle.kernel_tree.specs.Plain.{program_of};
 ghost use Rattle.kernel_tree.specs.Checked.{kernel_of};
-ghost use Rattle.kernel_compile.specs.Faithful.{FreeFaithful};
+ghost use Rattle.kernel_compile.specs.Faithful.{FreeFaithful, FreeEnds};
 ghost use Rattle.sve_top.specs.Answer.{answer_of, IsFileAnswer, IsKept, Unwritten};
 ghost use Rattle.sve_top.specs.Commands.{Expects, WhereExpected, CompileExpects, CompilesTo, RefusesText, compiled, ended, IsOfCompile, Compiled, OthersKept, RefusesCompile};
 
@@ -22,6 +22,7 @@ use std::alloc::Global;
 // The executable of a kernel.
 fn executable(alloc: Global, kernel: &Checked) -> Result<Vec<u8>, Refusal>
     ensures faithful { IfOk result (λ file. FreeFaithful (program_of (kernel_of kernel.now)) file.items) }
+    ensures ends { IfOk result (λ file. FreeEnds (program_of (kernel_of kernel.now)) file.items) }
     ensures wanted { OnOk result (compiled (program_of (kernel_of kernel.now)) ≡ ended []) }
     ensures refusal { IfErr result (RefusesCompile (program_of (kernel_of kernel.now))) }
 {

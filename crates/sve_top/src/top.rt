@@ -10,6 +10,7 @@ ghost use Rattle.refusals.specs.Statuses.{status_of_refusal};
 ghost use Rattle.sve_top.specs.Commands.{Expects, WhereTold, SomeExpected, IsSettled, IsInput, IsOf, IsListed, IsSilent, IsUnread, IsHeld, OnlyReads, StreamRose, NoneRose, Compiled, OthersKept};
 ghost use Rattle.sve_top.specs.Does.{Does, outside};
 ghost use Rattle.sve_top.specs.Complete.{Completes};
+ghost use Rattle.sve_top.specs.CompiledRuns.{FaithfulRuns, CompiledRuns};
 ghost use Rattle.sve_top.specs.Swept.{Swept};
 ghost use Rattle.sve_top.specs.Outputs.{Prints, Gains, error_line_by};
 ghost use Rattle.refusals.specs.Lines.{line_of_refusal};
@@ -194,4 +195,10 @@ pub fn some_expected()
 pub fn one_expected()
     ensures { (held : Held) (bytes : List ℕ) (line : Option Line) (v w : Expected) → IsSettled line
         → Expects held bytes line v → Expects held bytes line w → v ≡ w }
+{}
+
+/// What is wanted of `run` for a file that `compile` wrote is what the kernel's scalar loop comes to.
+pub fn compiled_runs()
+    ensures faithful { FaithfulRuns }
+    ensures compiled { CompiledRuns }
 {}

@@ -16,6 +16,7 @@ returns-clause-file c = record {
   kernel = program_of (kernel_of c.in_ok-kernel.kernel);
   sound = c.in_ok-kernel.ensures.sound;
   faithful = c.in_ok-file.ensures.faithful;
+  ends = c.in_ok-file.ensures.ends;
 }
 
 pub returns-clause-wanted : goal.returns-clause-wanted
