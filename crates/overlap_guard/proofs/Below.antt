@@ -1,19 +1,21 @@
--- The code of one test of two intervals.
-use Rattle.std.proofs.Common.{◌≡◌, ℕ, suc, ◌*◌, ◌%◌, ◌^◌, ◌<◌, ◌≤◌, ℤ, pos, negsuc, Bool, true, false, List, [], ◌∷◌, length, refl, ap, ap₂, ◌∙◌, arith}
-use Rattle.std.proofs.lemmas.Int.{ints}
+-- The code that compares an end with a beginning.
+use Rattle.std.proofs.Common.{◌≡◌, ℕ, zero, suc, ◌+◌, ◌^◌, ◌<◌, ◌≤◌, ℤ, pos, Bool, true, false, List, [], ◌∷◌, length, refl, ap, ap₂, ◌∙◌, arith}
 use Rattle.std.proofs.lemmas.Bool.{leb-true, leb-false}
-use Rattle.std.specs.Prelude.{◌≤ℤ◌, ◌<ℤ◌, nat_le}
+use Rattle.std.proofs.lemmas.Int.{ints}
+use Rattle.std.specs.Prelude.{◌+ℤ◌, ◌*ℤ◌, ◌≤ℤ◌, ◌<ℤ◌, nat_le, int_le, not}
 use Rattle.guest_types.specs.declared.length.Width.{Width}
+use Rattle.guest_types.specs.Length.{width_bytes}
 use Rattle.machine_model.specs.Machine.{State, Went, x_at, next, jump}
-use Rattle.machine_model.specs.Arithmetic.{sum, difference, shifted_word, holds}
-use Rattle.a64_code.specs.Table.{add}
-use Rattle.label_fix.specs.DraftRun.{Entry, Branch, If, Laid, following, address_of, effect, word_of}
+use Rattle.machine_model.specs.Arithmetic.{shifted_word, holds}
+use Rattle.a64_code.specs.Table.{add, subs}
+use Rattle.label_fix.specs.DraftRun.{Entry, Branch, If, Laid, following, address_of, effect, word_of, ins}
 use Rattle.label_fix.proofs.StretchSteps.{Goes, put_goes, taken_goes, passed_goes, chain}
 use Rattle.dependence.specs.declared.used.Used.{Used}
 use Rattle.dependence.specs.Apart.{base_in, begin_in, end_in, IsBased}
-use Rattle.overlap_guard.specs.Guard.{IsFit, log_bytes, bound_at, offset_at, below_code}
-use Rattle.overlap_guard.proofs.Ends.{bound_word, offset_word, element_word, end-is, begin-is}
-use Rattle.overlap_guard.proofs.Tests.{wrote, wrote_same, wrote_other, wrote_sized, tested, not_sp, Same, same_on, same_wrote, same_tested, same_jump, Tests, goes_on, goes_off}
+use Rattle.overlap_guard.specs.Guard.{IsFit, log_bytes, gap, is_point, below_code}
+use Rattle.overlap_guard.proofs.Ends.{element_word, element-is, near-bytes, near-gap, spread, ordered, turned}
+use Rattle.overlap_guard.proofs.Shifts.{shifts}
+use Rattle.overlap_guard.proofs.Tests.{wrote, wrote_same, tested, Same, same_on, same_wrote, same_tested, same_jump, Tests, goes_on, goes_off}
 
 -- the loop's bound in its register
 pub record Entered (r n : ℕ) (s : State) : Type 0 where
@@ -23,64 +25,82 @@ pub record Entered (r n : ℕ) (s : State) : Type 0 where
 pub entered_same : {r n : ℕ} {s t : State} → r ≤ 7 → Same s t → Entered r n s → Entered r n t
 entered_same {r = r} le k e = record { sized = k.sized ∙ e.sized; bound = k.others r (omega arith) ∙ e.bound }
 
-bound_does : (s : State) (r n : ℕ) (c : ℤ) → r ≤ 7 → x_at s r ≡ n → effect (bound_at 26 r c) s ≡ Went (wrote s 26 (bound_word n c))
-bound_does s r n (pos c) le e = ap (λ b. Went (wrote s 26 (sum b (c % 4096 * 2 ^ (12 * 0))))) (not_sp s r (omega arith) ∙ e)
-bound_does s r n (negsuc c) le e = ap (λ b. Went (wrote s 26 (difference b (suc c % 4096 * 2 ^ (12 * 0))))) (not_sp s r (omega arith) ∙ e)
-
-offset_does : (s : State) (c : ℤ) → effect (offset_at 27 c) s ≡ Went (wrote s 27 (offset_word c))
-offset_does s (pos c) = refl
-offset_does s (negsuc c) = refl
-
-element_does : (s : State) (d p b x : ℕ) (w : Width) → x_at s p ≡ b → x_at s d ≡ x → effect (word_of add (d ∷ p ∷ log_bytes w ∷ d ∷ 0 ∷ [])) s ≡ Went (wrote s d (element_word w b x))
-element_does s d p b x w e f = ap₂ (λ b x. Went (wrote s d (element_word w b x))) e f
+element_does : (s : State) (p b r n : ℕ) (w : Width) → x_at s p ≡ b → x_at s r ≡ n → effect (word_of add (26 ∷ p ∷ log_bytes w ∷ r ∷ 0 ∷ [])) s ≡ Went (wrote s 26 (element_word w b n))
+element_does s p b r n w e f = ap₂ (λ b n. Went (wrote s 26 (element_word w b n))) e f
 
 low : (v : ℕ) → v < 2 ^ 64 → shifted_word 0 v 0 ≡ v
 low v h = omega (arith, h)
 
-rest_low : (v : ℕ) → v % 2 ^ 64 < 2 ^ 64
-rest_low v = omega arith
+-- a comparison of an integer with another one
+pub record Compares (D : Laid) (c e : List Entry) (s : State) (z y : ℤ) (most : ℕ) : Type 0 where
+  pub end : State
+  pub goes : Goes D c s e end most
+  pub same : Same s end
+  pub yes : Bool
+  pub flag : holds 2 end.flags ≡ yes
+  pub if_yes : yes ≡ true → z ≤ℤ y
+  pub if_no : yes ≡ false → y <ℤ z
 
-ordered : (x y : ℕ) (e b : ℤ) → e ≡ pos x → b ≡ pos y → x ≤ y → e ≤ℤ b
-ordered x y e b p q h = omega (arith, ints)
-
-turned : (x y : ℕ) (e b : ℤ) → e ≡ pos x → b ≡ pos y → y < x → b <ℤ e
-turned x y e b p q h = omega (arith, ints)
-
-module _ (D : Laid) (args : List ℕ) (r n : ℕ) (reg : r ≤ 7) (few : n < 2 ^ 40) where
-  pub below : (s : State) (rest : List Entry) (ok : ℕ) (u v : Used) → Entered r n s → IsFit u → IsFit v → IsBased (base_in args u) → IsBased (base_in args v) → x_at s u.place ≡ base_in args u → x_at s v.place ≡ base_in args v → Tests D (below_code r ok u v rest) s (following D ok) rest (end_in args n u ≤ℤ begin_in args v) (begin_in args v <ℤ end_in args n u) 6
-  below s rest ok u v ent fu fv bu bv hu hv =
-      let v1 = bound_word n u.greatest in
-      let s1 = wrote s 26 v1 in
-      let v2 = element_word u.width (base_in args u) v1 in
-      let s2 = wrote s1 26 v2 in
-      let v3 = offset_word v.least in
-      let s3 = wrote s2 27 v3 in
-      let v4 = element_word v.width (base_in args v) v3 in
-      let s4 = wrote s3 27 v4 in
-      let s5 = tested s4 27 26 in
-      let z = ent.sized in
-      let z1 : length s1.x ≡ 31 = wrote_sized s 26 v1 ∙ z in
-      let z2 : length s2.x ≡ 31 = wrote_sized s1 26 v2 ∙ z1 in
-      let z3 : length s3.x ≡ 31 = wrote_sized s2 27 v3 ∙ z2 in
-      let k1 = same_wrote s 26 v1 (omega arith) in
-      let k2 = same_on k1 (same_wrote s1 26 v2 (omega arith)) in
-      let k3 = same_on k2 (same_wrote s2 27 v3 (omega arith)) in
-      let k4 = same_on k3 (same_wrote s3 27 v4 (omega arith)) in
-      let k5 = same_on k4 (same_tested s4 27 26) in
-      let lu : u.place ≤ 25 = (let f = fu.0 in omega (arith, f)) in
-      let lv : v.place ≤ 25 = (let f = fv.0 in omega (arith, f)) in
-      let w2 = element_does s1 26 u.place (base_in args u) v1 u.width (k1.others u.place lu ∙ hu) (wrote_same s 26 v1 (omega (arith, z))) in
-      let w4 = element_does s3 27 v.place (base_in args v) v3 v.width (k3.others v.place lv ∙ hv) (wrote_same s2 27 v3 (omega (arith, z2))) in
-      let e27 : x_at s4 27 ≡ v4 = wrote_same s3 27 v4 (omega (arith, z3)) in
-      let e26 : x_at s4 26 ≡ v2 = wrote_other s3 27 v4 26 (λ e. absurd (omega (arith, e))) ∙ wrote_other s2 27 v3 26 (λ e. absurd (omega (arith, e))) ∙ wrote_same s1 26 v2 (omega (arith, z1)) in
-      let g : Goes D (below_code r ok u v rest) s (Branch (If 2) ok ∷ rest) s5 5 =
-      chain 5 (omega arith) (put_goes (bound_does s r n u.greatest reg ent.bound))
-      (chain 4 (omega arith) (put_goes w2) (chain 3 (omega arith) (put_goes (offset_does s2 v.least)) (chain 2 (omega arith) (put_goes w4) (put_goes refl)))) in
-      let flag : holds 2 s5.flags ≡ nat_le v2 v4 = ap₂ (λ a b. nat_le (shifted_word 0 b 0) a) e27 e26 ∙ ap (λ b. nat_le b v4) (low v2 (rest_low _)) in
-      let e = end-is u.width n (base_in args u) u.greatest few bu.0 bu.1 fu.2 in
-      let b = begin-is v.width (base_in args v) v.least bv.0 bv.1 fv.1 in
-      by (nat_le v2 v4) s5 v2 v4 refl flag g k5 e b
+module _ (D : Laid) where
+  -- a branch where it is not above
+  pub branch_low : {c rest : List Entry} {s : State} {z y : ℤ} {m : ℕ} (ok : ℕ) → Compares D c (Branch (If 2) ok ∷ rest) s z y m → Tests D c s (following D ok) rest (z ≤ℤ y) (y <ℤ z) (m + 1)
+  branch_low {c = c} {rest = rest} {s = s} {z = z} {y = y} {m = m} ok k = by k.yes k.end k.goes k.same k.flag k.if_yes k.if_no
     where
-      by : (t : Bool) (s5 : State) (v2 v4 : ℕ) → nat_le v2 v4 ≡ t → holds 2 s5.flags ≡ nat_le v2 v4 → Goes D (below_code r ok u v rest) s (Branch (If 2) ok ∷ rest) s5 5 → Same s s5 → end_in args n u ≡ pos v2 → begin_in args v ≡ pos v4 → Tests D (below_code r ok u v rest) s (following D ok) rest (end_in args n u ≤ℤ begin_in args v) (begin_in args v <ℤ end_in args n u) 6
-      by true s5 v2 v4 q flag g k e b = goes_on (ordered v2 v4 _ _ e b (leb-true v2 v4 q)) (jump s5 (address_of D ok)) (chain 6 (omega arith) g (taken_goes (flag ∙ q))) (same_on k (same_jump s5 _))
-      by false s5 v2 v4 q flag g k e b = goes_off (turned v2 v4 _ _ e b (leb-false v2 v4 q)) (next s5) (chain 6 (omega arith) g (passed_goes (flag ∙ q))) (same_on k (same_jump s5 _))
+      by : (b : Bool) (t : State) → Goes D c s (Branch (If 2) ok ∷ rest) t m → Same s t → holds 2 t.flags ≡ b → (b ≡ true → z ≤ℤ y) → (b ≡ false → y <ℤ z) → Tests D c s (following D ok) rest (z ≤ℤ y) (y <ℤ z) (m + 1)
+      by true t g k q low high = goes_on (low refl) (jump t (address_of D ok)) (chain (m + 1) (omega arith) g (taken_goes q)) (same_on k (same_jump t _))
+      by false t g k q low high = goes_off (high refl) (next t) (chain (m + 1) (omega arith) g (passed_goes q)) (same_on k (same_jump t _))
+
+  -- and one where it is
+  pub branch_above : {c rest : List Entry} {s : State} {z y : ℤ} {m : ℕ} (fail : ℕ) → Compares D c (Branch (If 3) fail ∷ rest) s z y m → Tests D c s rest (following D fail) (z ≤ℤ y) (y <ℤ z) (m + 1)
+  branch_above {c = c} {rest = rest} {s = s} {z = z} {y = y} {m = m} fail k = by k.yes k.end k.goes k.same k.flag k.if_yes k.if_no
+    where
+      by : (b : Bool) (t : State) → Goes D c s (Branch (If 3) fail ∷ rest) t m → Same s t → holds 2 t.flags ≡ b → (b ≡ true → z ≤ℤ y) → (b ≡ false → y <ℤ z) → Tests D c s rest (following D fail) (z ≤ℤ y) (y <ℤ z) (m + 1)
+      by true t g k q low high = goes_on (low refl) (next t) (chain (m + 1) (omega arith) g (passed_goes (ap not q))) (same_on k (same_jump t _))
+      by false t g k q low high = goes_off (high refl) (jump t (address_of D fail)) (chain (m + 1) (omega arith) g (taken_goes (ap not q))) (same_on k (same_jump t _))
+
+  module _ (args : List ℕ) (r n : ℕ) (reg : r ≤ 7) (few : n < 2 ^ 40) where
+    pub compares : (s : State) (rest : List Entry) (u v : Used) → Entered r n s → IsFit u → IsFit v → IsBased (base_in args u) → IsBased (base_in args v) → x_at s u.place ≡ base_in args u → x_at s v.place ≡ base_in args v → Compares D (below_code r u v rest) rest s (end_in args n u) (begin_in args v) 4
+    compares s rest u v ent fu fv bu bv hu hv =
+        let back = pos (width_bytes v.width) *ℤ v.least in
+        let over = pos (width_bytes u.width) *ℤ u.greatest in
+        let test = ins subs (31 ∷ v.place ∷ 0 ∷ 26 ∷ 0 ∷ []) ∷ rest in
+        let v1 = element_word u.width (base_in args u) n in
+        let a = element-is u.width (base_in args u) n few bu.0 bu.1 in
+        let s1 = wrote s 26 v1 in
+        let k1 = same_wrote s 26 v1 (omega arith) in
+        let z1 : length s1.x ≡ 31 = k1.sized ∙ ent.sized in
+        let moved = shifts D s1 test (gap u v) v1 z1 (wrote_same s 26 v1 (let z = ent.sized in omega (arith, z))) a.high (let l = a.low in omega (arith, l)) (near-gap over back (near-bytes u.width u.greatest fu.2) (near-bytes v.width v.least fv.1)) in
+        let t = moved.leaves.end in
+        let k = same_on k1 moved.leaves.same in
+        let x = moved.word in
+        let y = base_in args v in
+        let t2 = tested t v.place 26 in
+        let hy : x_at t v.place ≡ y = k.others v.place (let f = fv.0 in omega (arith, f)) ∙ hv in
+        let flag : holds 2 t2.flags ≡ nat_le x y = ap₂ (λ a b. nat_le (shifted_word 0 b 0) a) hy moved.leaves.held ∙ ap (λ b. nat_le b y) (low x (let l = moved.low in omega (arith, l))) in
+        let is : end_in args n u ≡ pos v1 +ℤ over = spread u.width (base_in args u) n u.greatest ∙ ap (λ z. z +ℤ over) a.is in
+        record {
+          end = t2;
+          goes = chain 4 (omega arith) (put_goes (element_does s u.place (base_in args u) r n u.width hu ent.bound)) (chain 3 (omega arith) moved.leaves.goes (put_goes refl));
+          same = same_on k (same_tested t v.place 26);
+          yes = nat_le x y;
+          flag = flag;
+          if_yes = λ q. ordered (end_in args n u) (pos v1) over back (begin_in args v) x y is moved.is refl (leb-true x y q);
+          if_no = λ q. turned (end_in args n u) (pos v1) over back (begin_in args v) x y is moved.is refl (leb-false x y q);
+        }
+
+-- ---- where there is an element
+
+not_low : (n : ℕ) (least g : ℤ) → least ≤ℤ g → (n ≡ 0 → int_le g least ≡ false) → least <ℤ (pos n +ℤ g)
+not_low zero least g le h = over (h refl)
+  where
+    over : int_le g least ≡ false → least <ℤ (pos 0 +ℤ g)
+    over q = grind (arith, ints)
+not_low (suc n) least g le h = omega (arith, ints)
+
+-- there is one where there is an iteration, or more elements than one in each
+pub some_element : (n : ℕ) (u : Used) → IsFit u → (n ≡ 0 → is_point u ≡ false) → u.least <ℤ (pos n +ℤ u.greatest)
+some_element n u fit h = not_low n u.least u.greatest fit.3 h
+
+-- and none elsewhere
+pub no_element : (n : ℕ) (u : Used) → n ≡ 0 → is_point u ≡ true → (pos n +ℤ u.greatest) ≤ℤ u.least
+no_element n u z q = grind (arith, ints)

@@ -1,6 +1,7 @@
 -- What a guard finds in a checked kernel: near offsets.
-use Rattle.std.proofs.Common.{ℕ, ◌+◌, ◌≤◌, ℤ, Bool, true, false, cond, List, [], ◌∷◌, ◌++◌, length, arith, length-append}
-use Rattle.std.specs.Prelude.{unsigned_abs, filter, int_lt}
+use Rattle.std.proofs.Common.{◌≡◌, ℕ, ◌+◌, ◌≤◌, ℤ, Bool, true, false, cond, List, [], ◌∷◌, ◌++◌, length, refl, arith, length-append}
+use Rattle.std.proofs.lemmas.Int.{ints}
+use Rattle.std.specs.Prelude.{unsigned_abs, filter, int_lt, ◌≤ℤ◌}
 use Rattle.std.specs.Int.{int_min, int_max}
 use Rattle.kernel_tree.specs.declared.ast.Shape.{Shape}
 use Rattle.kernel_tree.specs.Limits.{most_offset}
@@ -42,11 +43,37 @@ unfolding greatest_of
 greatest-near c [] h k = h
 greatest-near c (s ∷ ss) h k = greatest-near (int_max c s.offset) ss (chosen-near (int_lt s.offset c) c s.offset h k.0) k.1
 
+-- ---- the least offset is not above the greatest
+
+lower-min : (b : Bool) (c d : ℤ) → int_lt d c ≡ b → cond b d c ≤ℤ c
+lower-min true c d e = grind (arith, ints)
+lower-min false c d e = omega (arith, ints)
+
+upper-max : (b : Bool) (c d : ℤ) → int_lt d c ≡ b → c ≤ℤ cond b c d
+upper-max true c d e = omega (arith, ints)
+upper-max false c d e = grind (arith, ints)
+
+in-order : (a b c : ℤ) → a ≤ℤ b → b ≤ℤ c → a ≤ℤ c
+in-order a b c h k = omega (arith, ints)
+
+least-low : (c : ℤ) (ss : List Stream) → least_of c ss ≤ℤ c
+unfolding least_of
+least-low c [] = omega (arith, ints)
+least-low c (s ∷ ss) = in-order (least_of (int_min c s.offset) ss) (int_min c s.offset) c (least-low (int_min c s.offset) ss) (lower-min (int_lt s.offset c) c s.offset refl)
+
+greatest-high : (c : ℤ) (ss : List Stream) → c ≤ℤ greatest_of c ss
+unfolding greatest_of
+greatest-high c [] = omega (arith, ints)
+greatest-high c (s ∷ ss) = in-order c (int_max c s.offset) (greatest_of (int_max c s.offset) ss) (upper-max (int_lt s.offset c) c s.offset refl) (greatest-high (int_max c s.offset) ss)
+
+least-first : (c : ℤ) (ss : List Stream) → least_of c ss ≤ℤ greatest_of c ss
+least-first c ss = in-order (least_of c ss) c (greatest_of c ss) (least-low c ss) (greatest-high c ss)
+
 -- ---- the parameters that the loop uses
 
 by-fit : (n : ℕ) (w : Width) (ss : List Stream) → n ≤ 7 → NearStreams ss → AreFit (used_by n w ss)
 by-fit n w [] h k = tt
-by-fit n w (s ∷ ss) h k = ((h, least-near s.offset ss k.0 k.1, greatest-near s.offset ss k.0 k.1), tt)
+by-fit n w (s ∷ ss) h k = ((h, least-near s.offset ss k.0 k.1, greatest-near s.offset ss k.0 k.1, least-first s.offset ss), tt)
 
 at-fit : (ss : List Stream) (n : ℕ) (h : Shape) → n ≤ 7 → NearStreams ss → AreFit (used_at ss n h)
 at-fit ss n (shape.Scalar t) h k = tt

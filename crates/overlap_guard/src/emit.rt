@@ -1,18 +1,23 @@
 //! Emits the guard.
 
-ghost use Rattle.std.specs.Prelude.{◌≡◌, ◌<◌, ◌+◌, List, ◌∷◌, ◌++◌, ◌||◌, OnOk};
+ghost use Rattle.std.specs.Prelude.{◌≡◌, ◌<◌, ◌≤◌, ◌+◌, pos, ◌*ℤ◌, unsigned_abs, List, ◌∷◌, ◌++◌, ◌||◌, OnOk};
 ghost use Rattle.std.specs.List.{list_any};
 ghost use Rattle.label_fix.specs.DraftRun as plain;
 ghost use Rattle.dependence.specs.Apart.{is_stored, used_of};
 ghost use Rattle.loop_form.specs.View.{program};
 ghost use Rattle.overlap_guard.specs.Guard as guard;
-ghost use Rattle.overlap_guard.specs.Guard.{AreFit};
+ghost use Rattle.overlap_guard.specs.Guard.{IsFit, AreFit};
+ghost use Rattle.word_rows.specs.Field.{flag_number};
+ghost use Rattle.a64_code.specs.View.{add_sub_imm_name};
+ghost use Rattle.guest_types.specs.Length.{width_bytes};
+ghost use Rattle.kernel_tree.specs.Limits.{most_offset};
 
-use crate::instructions::{begin, bound_at, compare, element_at, end, offset_at, top_of};
+use crate::instructions::{compare, element_at, part, step, tested, with_top};
 use crate::laws::{fit_arrays, near_bound};
 use crate::used::{arrays, bound};
-use a64_code::{Cond, Reg};
+use a64_code::{AddSubOp, Cond, Reg, zero};
 use dependence::Used;
+use guest_types::length::Width;
 use kernel_tree::Checked;
 use label_fix::{BranchKind, Draft, Label};
 use std::alloc::AllocError;
@@ -26,20 +31,108 @@ fn register(place: u32) -> Reg
     Bits { number: place }
 }
 
-fn emit_below(draft: &mut Draft, bound: Reg, ok: Label, u: Used, v: Used) -> Result<(), AllocError>
-    requires first { u.place < 32 }
-    requires second { v.place < 32 }
+// X26 by an amount, where there is any.
+fn emit_step(draft: &mut Draft, op: AddSubOp, by: u32, sh: bool) -> Result<(), AllocError>
+    requires { by < 4096 }
+    ensures labels { OnOk result (draft.new.labels ≡ draft.old.labels) }
+    ensures code { OnOk result ((rest : List plain.Entry)
+        → draft.new.entries ++ rest ≡ draft.old.entries
+        ++ guard.step_code (add_sub_imm_name op) by (flag_number sh) rest) }
+{
+    if by != 0 {
+        draft.put(step(op, tested(), tested(), by, sh))?;
+    }
+    Ok(())
+}
+
+fn emit_steps(draft: &mut Draft, op: AddSubOp, by: u32) -> Result<(), AllocError>
+    ensures labels { OnOk result (draft.new.labels ≡ draft.old.labels) }
+    ensures code { OnOk result ((rest : List plain.Entry)
+        → draft.new.entries ++ rest ≡ draft.old.entries ++ guard.steps_code (add_sub_imm_name op) by rest) }
+{
+    emit_step(draft, op, by % 4096, false)?;
+    emit_step(draft, op, by / 4096 % 4096, true)?;
+    Ok(())
+}
+
+// X26 and a number.
+fn emit_shift(draft: &mut Draft, by: i32) -> Result<(), AllocError>
+    ensures labels { OnOk result (draft.new.labels ≡ draft.old.labels) }
+    ensures code { OnOk result ((rest : List plain.Entry)
+        → draft.new.entries ++ rest ≡ draft.old.entries ++ guard.shift_code by rest) }
+{
+    if by >= 0 {
+        emit_steps(draft, AddSubOp::Add, by.unsigned_abs())
+    } else {
+        emit_steps(draft, AddSubOp::Sub, by.unsigned_abs())
+    }
+}
+
+// The bytes of some elements.
+fn bytes_of(width: Width, count: i32) -> i32
+    requires { unsigned_abs count ≤ most_offset }
+    ensures small { unsigned_abs result ≤ 8192 }
+    ensures value { result ≡ pos (width_bytes width) *ℤ count }
+{
+    match width {
+        Width::B => count,
+        Width::H => 2 * count,
+        Width::S => 4 * count,
+        Width::D => 8 * count,
+    }
+}
+
+fn gap(u: Used, v: Used) -> i32
+    requires first { IsFit u }
+    requires second { IsFit v }
+    ensures { result ≡ guard.gap u v }
+{
+    bytes_of(u.width, u.greatest) - bytes_of(v.width, v.least)
+}
+
+// The test of an end with a beginning.
+fn emit_below(draft: &mut Draft, bound: Reg, u: Used, v: Used) -> Result<(), AllocError>
+    requires first { IsFit u }
+    requires second { IsFit v }
+    ensures labels { OnOk result (draft.new.labels ≡ draft.old.labels) }
+    ensures code { OnOk result ((rest : List plain.Entry)
+        → draft.new.entries ++ rest ≡ draft.old.entries ++ guard.below_code bound.number u v rest) }
+{
+    draft.put(element_at(bound, register(u.place), u.width))?;
+    emit_shift(draft, gap(u, v))?;
+    draft.put(compare(register(v.place), tested()))?;
+    Ok(())
+}
+
+// Whether a parameter has one element for each iteration.
+fn is_point(u: Used) -> bool
+    ensures { result ≡ guard.is_point u }
+{
+    u.greatest <= u.least
+}
+
+fn is_mixed(u: Used, v: Used) -> bool
+    ensures { result ≡ guard.is_mixed u v }
+{
+    if is_point(u) {
+        !is_point(v)
+    } else {
+        is_point(v)
+    }
+}
+
+// The test of the bound, where just one of them has.
+fn emit_none(draft: &mut Draft, bound: Reg, ok: Label, u: Used, v: Used) -> Result<(), AllocError>
+    requires register { bound.number < 32 }
     requires passed { ok < draft.old.labels }
     ensures labels { OnOk result (draft.new.labels ≡ draft.old.labels) }
     ensures code { OnOk result ((rest : List plain.Entry)
-        → draft.new.entries ++ rest ≡ draft.old.entries ++ guard.below_code bound.number ok u v rest) }
+        → draft.new.entries ++ rest ≡ draft.old.entries
+        ++ guard.none_if (guard.is_mixed u v) bound.number ok rest) }
 {
-    draft.put(bound_at(bound, u.greatest))?;
-    draft.put(element_at(end(), register(u.place), u.width))?;
-    draft.put(offset_at(v.least))?;
-    draft.put(element_at(begin(), register(v.place), v.width))?;
-    draft.put(compare())?;
-    draft.branch(BranchKind::If(Cond::Hs), ok)?;
+    if is_mixed(u, v) {
+        draft.branch(BranchKind::Zero(bound.number), ok)?;
+    }
     Ok(())
 }
 
@@ -52,19 +145,20 @@ fn emit_tests(
     u: Used,
     v: Used,
 ) -> Result<(), AllocError>
-    requires first { u.place < 32 }
-    requires second { v.place < 32 }
+    requires register { bound.number < 32 }
+    requires first { IsFit u }
+    requires second { IsFit v }
     requires failed { fail < draft.old.labels }
     requires passed { ok < draft.old.labels }
     ensures labels { OnOk result (draft.new.labels ≡ draft.old.labels) }
     ensures code { OnOk result ((rest : List plain.Entry)
         → draft.new.entries ++ rest ≡ draft.old.entries ++ guard.pair_code bound.number fail ok u v rest) }
 {
-    emit_below(draft, bound, ok, u, v)?;
-    emit_below(draft, bound, ok, v, u)?;
-    emit_below(draft, bound, ok, u, u)?;
-    emit_below(draft, bound, ok, v, v)?;
-    draft.branch(BranchKind::Always, fail)?;
+    emit_below(draft, bound, u, v)?;
+    draft.branch(BranchKind::If(Cond::Hs), ok)?;
+    emit_none(draft, bound, ok, u, v)?;
+    emit_below(draft, bound, v, u)?;
+    draft.branch(BranchKind::If(Cond::Lo), fail)?;
     draft.place(ok)?;
     Ok(())
 }
@@ -77,8 +171,9 @@ fn emit_labelled(
     u: Used,
     v: Used,
 ) -> Result<(), AllocError>
-    requires first { u.place < 32 }
-    requires second { v.place < 32 }
+    requires register { bound.number < 32 }
+    requires first { IsFit u }
+    requires second { IsFit v }
     requires failed { fail < draft.old.labels }
     ensures labels { OnOk result (draft.new.labels ≡ draft.old.labels + 1) }
     ensures code { OnOk result ((rest : List plain.Entry)
@@ -92,8 +187,9 @@ fn emit_labelled(
 
 // The tests of two parameters, where the loop stores to one of them.
 fn emit_pair(draft: &mut Draft, bound: Reg, fail: Label, u: Used, v: Used) -> Result<(), AllocError>
-    requires first { u.place < 32 }
-    requires second { v.place < 32 }
+    requires register { bound.number < 32 }
+    requires first { IsFit u }
+    requires second { IsFit v }
     requires failed { fail < draft.old.labels }
     ensures labels { OnOk result (draft.new.labels ≡ guard.label_if (u.stored || v.stored) draft.old.labels) }
     ensures code { OnOk result ((rest : List plain.Entry)
@@ -113,7 +209,8 @@ fn emit_with(
     u: Used,
     others: &[Used],
 ) -> Result<(), AllocError>
-    requires first { u.place < 32 }
+    requires register { bound.number < 32 }
+    requires first { IsFit u }
     requires others { AreFit others.now }
     requires failed { fail < draft.old.labels }
     ensures failed { OnOk result (fail < draft.new.labels) }
@@ -128,6 +225,19 @@ fn emit_with(
     Ok(())
 }
 
+// The test of a base.
+fn emit_base(draft: &mut Draft, place: u32) -> Result<(), AllocError>
+    requires { place < 32 }
+    ensures labels { OnOk result (draft.new.labels ≡ draft.old.labels) }
+    ensures code { OnOk result ((rest : List plain.Entry)
+        → draft.new.entries ++ rest ≡ draft.old.entries ++ guard.base_code place rest) }
+{
+    draft.put(step(AddSubOp::Sub, part(), register(place), 16, true))?;
+    draft.put(with_top(tested(), part(), 48))?;
+    draft.put(with_top(tested(), register(place), 48))?;
+    Ok(())
+}
+
 fn emit_bases(draft: &mut Draft, fail: Label, used: &[Used]) -> Result<(), AllocError>
     requires fit { AreFit used.now }
     requires failed { fail < draft.old.labels }
@@ -136,26 +246,14 @@ fn emit_bases(draft: &mut Draft, fail: Label, used: &[Used]) -> Result<(), Alloc
         → draft.new.entries ++ rest ≡ draft.old.entries ++ guard.bases_code fail used.now rest) }
 {
     for u in used {
-        emit_base(draft, fail, u.place)?;
+        emit_base(draft, u.place)?;
     }
-    Ok(())
-}
-
-fn emit_base(draft: &mut Draft, fail: Label, place: u32) -> Result<(), AllocError>
-    requires register { place < 32 }
-    requires failed { fail < draft.old.labels }
-    ensures labels { OnOk result (draft.new.labels ≡ draft.old.labels) }
-    ensures code { OnOk result ((rest : List plain.Entry)
-        → draft.new.entries ++ rest ≡ draft.old.entries ++ guard.base_code fail place rest) }
-{
-    draft.put(top_of(register(place), 16))?;
-    draft.branch(BranchKind::Zero(26), fail)?;
-    draft.put(top_of(register(place), 48))?;
     draft.branch(BranchKind::NotZero(26), fail)?;
     Ok(())
 }
 
 fn emit_pairs(draft: &mut Draft, bound: Reg, fail: Label, used: &[Used]) -> Result<(), AllocError>
+    requires register { bound.number < 32 }
     requires fit { AreFit used.now }
     requires failed { fail < draft.old.labels }
     ensures labels { OnOk result (draft.new.labels ≡ guard.label_pairs draft.old.labels used.now) }
@@ -172,6 +270,7 @@ fn emit_pairs(draft: &mut Draft, bound: Reg, fail: Label, used: &[Used]) -> Resu
 }
 
 fn emit_spread(draft: &mut Draft, bound: Reg, fail: Label, used: &[Used]) -> Result<(), AllocError>
+    requires register { bound.number < 32 }
     requires fit { AreFit used.now }
     requires failed { fail < draft.old.labels }
     ensures labels { OnOk result (draft.new.labels ≡ guard.label_pairs draft.old.labels used.now) }
@@ -179,8 +278,7 @@ fn emit_spread(draft: &mut Draft, bound: Reg, fail: Label, used: &[Used]) -> Res
         → draft.new.entries ++ rest ≡ draft.old.entries
         ++ guard.spread_code bound.number fail draft.old.labels used.now rest) }
 {
-    draft.put(top_of(bound, 40))?;
-    draft.branch(BranchKind::NotZero(26), fail)?;
+    draft.put(with_top(zero(), bound, 40))?;
     emit_bases(draft, fail, used)?;
     emit_pairs(draft, bound, fail, used)?;
     Ok(())
@@ -211,6 +309,7 @@ pub fn emit_used(
     fail: Label,
     used: &[Used],
 ) -> Result<(), AllocError>
+    requires register { bound.number < 32 }
     requires fit { AreFit used.now }
     requires failed { fail < draft.old.labels }
     ensures labels { OnOk result (draft.new.labels
