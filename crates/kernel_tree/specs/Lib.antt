@@ -1,5 +1,6 @@
 pub mod Word
 pub mod Tokens
+pub mod Reserved
 pub mod Plain
 pub mod Grammar
 pub mod Front

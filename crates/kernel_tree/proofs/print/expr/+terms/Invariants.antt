@@ -12,8 +12,14 @@ decreases-print_expr l = walk_of (term_of l.expr.now)
 abbrev pub decreases-print_read : goal.decreases-print_read
 decreases-print_read l = walk_of_one (term_of l.index.now)
 
+abbrev pub decreases-print_signed : goal.decreases-print_signed
+decreases-print_signed l = walk_of_one (term_of l.arg.now)
+
+abbrev pub decreases-print_absolute : goal.decreases-print_absolute
+decreases-print_absolute l = walk_of_one (term_of l.arg.now)
+
 abbrev pub decreases-print_unary : goal.decreases-print_unary
-decreases-print_unary l = walk_of_one (term_of l.arg.now)
+decreases-print_unary l = 3 * term_depth (term_of l.arg.now) + 2
 
 abbrev pub decreases-print_binary : goal.decreases-print_binary
 decreases-print_binary l = 3 * max (term_depth (term_of l.left.now)) (term_depth (term_of l.right.now)) + 2
@@ -35,6 +41,3 @@ decreases-print_cast l = walk_of_one (term_of l.arg.now)
 
 abbrev pub decreases-print_select : goal.decreases-print_select
 decreases-print_select l = walk_of_three (term_of l.cond.now) (term_of l.yes.now) (term_of l.no.now)
-
-abbrev pub decreases-print_not : goal.decreases-print_not
-decreases-print_not l = walk_of_one (term_of l.arg.now)
