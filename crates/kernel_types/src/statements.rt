@@ -46,8 +46,7 @@ fn walk_let<'a>(
     let item = notes.next;
     let found = sooner(twice(item, is_taken(scope, name)), untyped(item, wanted));
     end(notes, found, wanted)?;
-    define(scope, name, wanted)?;
-    Ok(())
+    define(scope, name, wanted)
 }
 
 #[tactic(auto, using(crate::proofs::LeastFault::sooner_rules))]
@@ -81,8 +80,7 @@ fn walk_store(
     let item = notes.next;
     let distance = stream_distance(scope.index, index);
     let found = sooner(target_fault(item, target), stream_fault(item, distance));
-    end(notes, found, None)?;
-    Ok(())
+    end(notes, found, None)
 }
 
 #[tactic(auto, using(crate::proofs::LeastFault::sooner_rules))]
@@ -112,8 +110,7 @@ fn walk_update(
         Role::Value(target.and_then(accumulator_type)),
         value,
     )?;
-    end(notes, update_fault(notes.next, target), None)?;
-    Ok(())
+    end(notes, update_fault(notes.next, target), None)
 }
 
 #[tactic(auto, using(crate::proofs::LeastFault::sooner_rules))]
@@ -128,8 +125,7 @@ fn walk_break(notes: &mut Notes, scope: &Scope, cond: &Expr) -> Result<(), Alloc
         ≡ notes.old.types.items ++ typing.action_types (scope_of scope.now) (Leave (term_of cond.now))) }
 {
     walk_expr(notes, scope, Role::Condition, cond)?;
-    end(notes, None, None)?;
-    Ok(())
+    end(notes, None, None)
 }
 
 #[cycle(statements)]
@@ -147,34 +143,16 @@ fn walk_stmt<'a>(notes: &mut Notes, scope: &mut Scope<'a>, stmt: &'a Stmt) -> Re
         ≡ notes.old.types.items ++ typing.action_types (scope_of scope.old) (action_of stmt.now)) }
 {
     match parts(stmt) {
-        Part::Let { name, ty, value } => {
-            walk_let(notes, scope, name, ty, value)?;
-            Ok(())
-        }
+        Part::Let { name, ty, value } => walk_let(notes, scope, name, ty, value),
         Part::Store {
             array,
             index,
             value,
-        } => {
-            walk_store(notes, scope, array, index, value)?;
-            Ok(())
-        }
-        Part::Update { name, value, .. } => {
-            walk_update(notes, scope, name, value)?;
-            Ok(())
-        }
-        Part::If { cond, block } => {
-            walk_if(notes, scope, cond, block)?;
-            Ok(())
-        }
-        Part::IfElse { cond, block, other } => {
-            walk_if_else(notes, scope, cond, block, other)?;
-            Ok(())
-        }
-        Part::Break { cond } => {
-            walk_break(notes, scope, cond)?;
-            Ok(())
-        }
+        } => walk_store(notes, scope, array, index, value),
+        Part::Update { name, value, .. } => walk_update(notes, scope, name, value),
+        Part::If { cond, block } => walk_if(notes, scope, cond, block),
+        Part::IfElse { cond, block, other } => walk_if_else(notes, scope, cond, block, other),
+        Part::Break { cond } => walk_break(notes, scope, cond),
     }
 }
 
@@ -205,8 +183,7 @@ fn walk_if<'a>(
     walk_expr(notes, scope, Role::Condition, cond)?;
     end(notes, None, None)?;
     walk_inner(notes, scope, block)?;
-    end(notes, None, None)?;
-    Ok(())
+    end(notes, None, None)
 }
 
 // An `if` with two blocks.
@@ -240,8 +217,7 @@ fn walk_if_else<'a>(
     walk_inner(notes, scope, block)?;
     end(notes, None, None)?;
     walk_inner(notes, scope, other)?;
-    end(notes, None, None)?;
-    Ok(())
+    end(notes, None, None)
 }
 
 // A block, after which its names are visible no more.
