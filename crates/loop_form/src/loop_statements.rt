@@ -39,8 +39,7 @@ fn list_let<'a>(
         ty: want,
         arg: source(kernel, names, want, from, value),
     };
-    list_one(kernel, names, items, want, mask, from, value, op)?;
-    Ok(())
+    list_one(kernel, names, items, want, mask, from, value, op)
 }
 
 // A store: its value, and the store.
@@ -65,17 +64,17 @@ fn list_store<'a>(
     let want = array_type_of(names, array);
     let stored = source(kernel, names, want, from, value);
     list_value(kernel, names, items, want, mask, from, value)?;
-    if let Some(offset) = offset(kernel, index) {
-        let op = LoopOp::Store {
-            array,
-            base: source_of(names, array),
-            ty: want,
-            offset,
-            value: stored,
-        };
-        append(items, from + expr_size(kernel, value), mask, op)?;
-    }
-    Ok(())
+    let Some(offset) = offset(kernel, index) else {
+        return Ok(());
+    };
+    let op = LoopOp::Store {
+        array,
+        base: source_of(names, array),
+        ty: want,
+        offset,
+        value: stored,
+    };
+    append(items, from + expr_size(kernel, value), mask, op)
 }
 
 // An update: its value, and the update.
@@ -102,8 +101,7 @@ fn list_update<'a>(
         ty: want,
         value: source(kernel, names, want, from, value),
     };
-    list_one(kernel, names, items, want, mask, from, value, op)?;
-    Ok(())
+    list_one(kernel, names, items, want, mask, from, value, op)
 }
 
 // A `break`: its condition, and the break.
@@ -122,8 +120,7 @@ fn list_break<'a>(
 {
     let op = LoopOp::Quit(condition_item(kernel, from, cond));
     list_condition(kernel, names, items, mask, from, cond)?;
-    append(items, from + expr_size(kernel, cond), mask, op)?;
-    Ok(())
+    append(items, from + expr_size(kernel, cond), mask, op)
 }
 
 // A statement; the names after it are not yet declared.
@@ -143,22 +140,21 @@ fn list_stmt<'a>(
         (action_of stmt.now) items.old.items items.new.items) }
 {
     match parts(stmt) {
-        Part::Let { ty, value, .. } => list_let(kernel, names, items, mask, from, ty, value)?,
+        Part::Let { ty, value, .. } => list_let(kernel, names, items, mask, from, ty, value),
         Part::Store {
             array,
             index,
             value,
-        } => list_store(kernel, names, items, mask, from, array, index, value)?,
+        } => list_store(kernel, names, items, mask, from, array, index, value),
         Part::Update { name, op, value } => {
-            list_update(kernel, names, items, mask, from, name, op, value)?;
+            list_update(kernel, names, items, mask, from, name, op, value)
         }
-        Part::If { cond, block } => list_if(kernel, names, items, mask, from, cond, block)?,
+        Part::If { cond, block } => list_if(kernel, names, items, mask, from, cond, block),
         Part::IfElse { cond, block, other } => {
-            list_if_else(kernel, names, items, mask, from, cond, block, other)?;
+            list_if_else(kernel, names, items, mask, from, cond, block, other)
         }
-        Part::Break { cond } => list_break(kernel, names, items, mask, from, cond)?,
+        Part::Break { cond } => list_break(kernel, names, items, mask, from, cond),
     }
-    Ok(())
 }
 
 #[cycle(loop_statements)]
@@ -183,8 +179,7 @@ fn list_if<'a>(
     let first = condition_item(kernel, from, cond);
     let inner = from + expr_size(kernel, cond) + 1;
     list_condition(kernel, names, items, mask, from, cond)?;
-    list_inner(kernel, names, items, Some(first), inner, block)?;
-    Ok(())
+    list_inner(kernel, names, items, Some(first), inner, block)
 }
 
 #[cycle(loop_statements)]
@@ -220,8 +215,7 @@ fn list_if_else<'a>(
         Some(other_side),
         other_side + 1,
         other,
-    )?;
-    Ok(())
+    )
 }
 
 // A block inside another, whose names end with it.
@@ -268,8 +262,7 @@ pub fn list_block<'a>(
     list_stmt(kernel, names, items, mask, from, stmt)?;
     declare(kernel, names, from, stmt)?;
     let next = from + count_items(kernel, stmt);
-    list_block(kernel, names, items, mask, next, rest)?;
-    Ok(())
+    list_block(kernel, names, items, mask, next, rest)
 }
 
 // The items of a statement, of which there is one at least.

@@ -1,7 +1,7 @@
 //! Lists what the items of expressions in a loop do.
 
 ghost use Rattle.std.specs.Prelude.{◌≡◌, ◌+◌, ◌≤◌, List, ℕ, ◌∷◌, ◌++◌, None, OnOk};
-ghost use Rattle.kernel_tree.specs.Plain.{Unary, Operation, Shift, Conversion, Choice, Both, Either, Not, name_of, term_of};
+ghost use Rattle.kernel_tree.specs.Plain.{Unary, Operation, Shift, Conversion, Choice, Comparison, Both, Either, Not, name_of, term_of};
 ghost use Rattle.kernel_tree.specs.Items.{loop_index, stream_offset, term_size, index_items};
 ghost use Rattle.loop_form.specs.LoopItems.{Item, item, load_item, term_items};
 ghost use Rattle.loop_form.specs.LoopView.{op_of, view, env_of, scope_of, AppendsValue, AppendsCondition};
@@ -13,7 +13,7 @@ use crate::loop_item::{LoopItem, LoopOp};
 use crate::operands::{condition_item, source};
 use crate::size::expr_size;
 use crate::visible::{Visible, array_type_of, first_type, own_type, source_of};
-use kernel_tree::{BinaryOp, Checked, Expr, Name, Ty, UnaryOp};
+use kernel_tree::{BinaryOp, Checked, CompareOp, Expr, Name, Ty, UnaryOp};
 use std::alloc::AllocError;
 
 /// Appends an item.
@@ -51,23 +51,22 @@ pub fn list_value<'a>(
         (term_of expr.now) items.old.items items.new.items) }
 {
     match expr {
-        Expr::Read { array, index } => list_read(kernel, names, items, mask, from, array, index)?,
-        Expr::Unary { op, arg } => list_unary(kernel, names, items, want, mask, from, *op, arg)?,
+        Expr::Read { array, index } => list_read(kernel, names, items, mask, from, array, index),
+        Expr::Unary { op, arg } => list_unary(kernel, names, items, want, mask, from, *op, arg),
         Expr::Binary { op, left, right } => {
-            list_binary(kernel, names, items, want, mask, from, *op, left, right)?;
+            list_binary(kernel, names, items, want, mask, from, *op, left, right)
         }
         Expr::Shift {
             left_shift: left,
             arg,
             count,
-        } => list_shift(kernel, names, items, want, mask, from, *left, arg, count)?,
-        Expr::Cast { arg, ty } => list_cast(kernel, names, items, mask, from, arg, *ty)?,
+        } => list_shift(kernel, names, items, want, mask, from, *left, arg, count),
+        Expr::Cast { arg, ty } => list_cast(kernel, names, items, mask, from, arg, *ty),
         Expr::Select { cond, yes, no } => {
-            list_select(kernel, names, items, want, mask, from, yes, no, cond)?;
+            list_select(kernel, names, items, want, mask, from, yes, no, cond)
         }
-        _ => {}
+        _ => Ok(()),
     }
-    Ok(())
 }
 
 // A read of an element by a stream index.
@@ -86,16 +85,16 @@ fn list_read<'a>(
         (scope_of i names.now taken) mask (from + index_items i (term_of index.now))
         (env_of names.now) (name_of array.now) (stream_offset i (term_of index.now)) rest) }
 {
-    if let Some(offset) = offset(kernel, index) {
-        let op = LoopOp::Load {
-            array: array.text(),
-            base: source_of(names, array.text()),
-            ty: array_type_of(names, array.text()),
-            offset,
-        };
-        append(items, from, mask, op)?;
-    }
-    Ok(())
+    let Some(offset) = offset(kernel, index) else {
+        return Ok(());
+    };
+    let op = LoopOp::Load {
+        array: array.text(),
+        base: source_of(names, array.text()),
+        ty: array_type_of(names, array.text()),
+        offset,
+    };
+    append(items, from, mask, op)
 }
 
 /// Lists an operand, and the item that it is for.
@@ -119,8 +118,7 @@ pub fn list_one<'a>(
         (op_of op.entry) ∷ rest)) }
 {
     list_value(kernel, names, items, want, mask, from, arg)?;
-    append(items, from + expr_size(kernel, arg), mask, op)?;
-    Ok(())
+    append(items, from + expr_size(kernel, arg), mask, op)
 }
 
 // A unary operator.
@@ -145,8 +143,7 @@ fn list_unary<'a>(
         ty: want,
         arg: source(kernel, names, want, from, arg),
     };
-    list_one(kernel, names, items, want, mask, from, arg, op)?;
-    Ok(())
+    list_one(kernel, names, items, want, mask, from, arg, op)
 }
 
 // A binary operator.
@@ -176,8 +173,7 @@ fn list_binary<'a>(
         left: source(kernel, names, want, from, left),
         right: source(kernel, names, want, next, right),
     };
-    list_two(kernel, names, items, want, mask, from, left, right, op)?;
-    Ok(())
+    list_two(kernel, names, items, want, mask, from, left, right, op)
 }
 
 // A conversion: its operand has its own type, and what is wanted of the whole plays no part.
@@ -202,8 +198,7 @@ fn list_cast<'a>(
         to: ty,
         arg: source(kernel, names, own, from, arg),
     };
-    list_one(kernel, names, items, own, mask, from, arg, op)?;
-    Ok(())
+    list_one(kernel, names, items, own, mask, from, arg, op)
 }
 
 // A shift by a count.
@@ -231,8 +226,7 @@ fn list_shift<'a>(
         arg: source(kernel, names, want, from, arg),
     };
     list_value(kernel, names, items, want, mask, from, arg)?;
-    append(items, from + expr_size(kernel, arg), mask, op)?;
-    Ok(())
+    append(items, from + expr_size(kernel, arg), mask, op)
 }
 
 // Two operands, and the item that they are for.
@@ -263,8 +257,7 @@ fn list_two<'a>(
     let next = from + expr_size(kernel, left);
     list_value(kernel, names, items, want, mask, from, left)?;
     list_value(kernel, names, items, want, mask, next, right)?;
-    append(items, next + expr_size(kernel, right), mask, op)?;
-    Ok(())
+    append(items, next + expr_size(kernel, right), mask, op)
 }
 
 // `select`: both values, the condition, and the choice.
@@ -299,8 +292,7 @@ fn list_select<'a>(
     list_value(kernel, names, items, want, mask, from, yes)?;
     list_value(kernel, names, items, want, mask, next, no)?;
     list_condition(kernel, names, items, mask, last, cond)?;
-    append(items, last + expr_size(kernel, cond), mask, op)?;
-    Ok(())
+    append(items, last + expr_size(kernel, cond), mask, op)
 }
 
 /// Lists the items of a condition.
@@ -320,22 +312,43 @@ pub fn list_condition<'a>(
 {
     match expr {
         Expr::Compare { op, left, right } => {
-            let want = first_type(own_type(names, left), own_type(names, right));
-            let next = from + expr_size(kernel, left);
-            let op = LoopOp::Test {
-                op: *op,
-                ty: want,
-                left: source(kernel, names, want, from, left),
-                right: source(kernel, names, want, next, right),
-            };
-            list_two(kernel, names, items, want, mask, from, left, right, op)?;
+            list_compared(kernel, names, items, mask, from, *op, left, right)
         }
-        Expr::And { left, right } => list_and(kernel, names, items, mask, from, left, right)?,
-        Expr::Or { left, right } => list_or(kernel, names, items, mask, from, left, right)?,
-        Expr::Not { arg } => list_not(kernel, names, items, mask, from, arg)?,
-        _ => {}
+        Expr::And { left, right } => list_and(kernel, names, items, mask, from, left, right),
+        Expr::Or { left, right } => list_or(kernel, names, items, mask, from, left, right),
+        Expr::Not { arg } => list_not(kernel, names, items, mask, from, arg),
+        _ => Ok(()),
     }
-    Ok(())
+}
+
+// A comparison: both sides have the first type that one of them has of its own.
+#[cycle(loop_values)]
+fn list_compared<'a>(
+    kernel: &Checked,
+    names: &[Visible<'a>],
+    items: &mut Vec<LoopItem<'a>>,
+    mask: Option<u32>,
+    from: u32,
+    op: CompareOp,
+    left: &'a Expr,
+    right: &'a Expr,
+) -> Result<(), AllocError>
+    requires fits { from + term_size (loop_index (program kernel.now))
+        (Comparison op (term_of left.now) (term_of right.now)) ≤ 1000 }
+    requires near { NearTerm (loop_index (program kernel.now))
+        (Comparison op (term_of left.now) (term_of right.now)) }
+    ensures { OnOk result (AppendsCondition (loop_index (program kernel.now)) names.now mask from
+        (Comparison op (term_of left.now) (term_of right.now)) items.old.items items.new.items) }
+{
+    let want = first_type(own_type(names, left), own_type(names, right));
+    let next = from + expr_size(kernel, left);
+    let op = LoopOp::Test {
+        op,
+        ty: want,
+        left: source(kernel, names, want, from, left),
+        right: source(kernel, names, want, next, right),
+    };
+    list_two(kernel, names, items, want, mask, from, left, right, op)
 }
 
 // `&&`: its right side is done where the left one holds.
@@ -360,8 +373,7 @@ fn list_and<'a>(
     let op = LoopOp::Same(condition_item(kernel, next, right));
     list_condition(kernel, names, items, mask, from, left)?;
     list_condition(kernel, names, items, Some(first), next, right)?;
-    append(items, next + expr_size(kernel, right), mask, op)?;
-    Ok(())
+    append(items, next + expr_size(kernel, right), mask, op)
 }
 
 // `||`: its right side is done where its mark holds, which does where the left one does not.
@@ -387,8 +399,7 @@ fn list_or<'a>(
     list_condition(kernel, names, items, mask, from, left)?;
     append(items, mark, mask, LoopOp::Invert(first))?;
     list_condition(kernel, names, items, Some(mark), mark + 1, right)?;
-    append(items, mark + 1 + expr_size(kernel, right), mask, op)?;
-    Ok(())
+    append(items, mark + 1 + expr_size(kernel, right), mask, op)
 }
 
 // `!`: it holds where its operand does not.
@@ -408,6 +419,5 @@ fn list_not<'a>(
 {
     let op = LoopOp::Invert(condition_item(kernel, from, arg));
     list_condition(kernel, names, items, mask, from, arg)?;
-    append(items, from + expr_size(kernel, arg), mask, op)?;
-    Ok(())
+    append(items, from + expr_size(kernel, arg), mask, op)
 }

@@ -33,6 +33,9 @@ decreases-list_select l = walk_of_three (term_of l.cond.now) (term_of l.yes.now)
 abbrev pub decreases-list_condition : goal.decreases-list_condition
 decreases-list_condition l = walk_of (term_of l.expr.now)
 
+abbrev pub decreases-list_compared : goal.decreases-list_compared
+decreases-list_compared l = 3 * max (term_depth (term_of l.left.now)) (term_depth (term_of l.right.now)) + 2
+
 abbrev pub decreases-list_and : goal.decreases-list_and
 decreases-list_and l = walk_of_two (term_of l.left.now) (term_of l.right.now)
 
