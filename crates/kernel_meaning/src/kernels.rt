@@ -102,29 +102,54 @@ fn resolve_loop<'a>(
     Ok((ResolvedLoop { bound, index, body }, answer))
 }
 
+// The loop, where there is one, and the returned value.
+fn resolve_rest<'a>(
+    alloc: Global,
+    scope: &mut Scope<'a>,
+    kernel: &'a Kernel,
+) -> Result<(Option<ResolvedLoop>, Option<Node>), AllocError>
+    ensures turns { IfOk result (λ p. option_map plans.loop_plan_of p.0
+        ≡ plans.resolved_turns (scope_of scope.old) (option_map turns_of kernel.now.body)) }
+    ensures answer { IfOk result (λ p. option_map tree_of p.1
+        ≡ plans.resolved_answer (typing.after_turns (scope_of scope.old) (option_map turns_of kernel.now.body))
+        (option_map returned_of kernel.now.answer)) }
+{
+    match &kernel.body {
+        None => {
+            let answer = resolve_answer(alloc, scope, &kernel.answer)?;
+            Ok((None, answer))
+        }
+        Some(turns) => {
+            let (cycle, answer) = resolve_loop(alloc, scope, turns, &kernel.answer)?;
+            Ok((Some(cycle), answer))
+        }
+    }
+}
+
+// A kernel of which nothing is declared yet.
+fn resolve_parts<'a>(
+    alloc: Global,
+    scope: &mut Scope<'a>,
+    kernel: &'a Kernel,
+) -> Result<Plan, AllocError>
+    requires { scope_of scope.old ≡ typing.empty (items.loop_index (program_of kernel.now)) }
+    ensures { IfOk result (λ p. plans.planned_of p ≡ plans.planned (program_of kernel.now)) }
+{
+    declare_params(scope, &kernel.params)?;
+    let start = resolve_vars(alloc, scope, &kernel.vars)?;
+    let (turns, answer) = resolve_rest(alloc, scope, kernel)?;
+    Ok(Plan {
+        start,
+        turns,
+        answer,
+    })
+}
+
 /// A kernel with its names and types resolved.
 pub fn resolve_kernel(alloc: Global, kernel: &Kernel) -> Result<Plan, AllocError>
     ensures { IfOk result (λ p. plans.planned_of p ≡ plans.planned (program_of kernel.now)) }
 {
     let mut scope = empty(alloc, loop_index(&kernel.body));
-    declare_params(&mut scope, &kernel.params)?;
-    let start = resolve_vars(alloc, &mut scope, &kernel.vars)?;
-    match &kernel.body {
-        None => {
-            let answer = resolve_answer(alloc, &scope, &kernel.answer)?;
-            Ok(Plan {
-                start,
-                turns: None,
-                answer,
-            })
-        }
-        Some(turns) => {
-            let (cycle, answer) = resolve_loop(alloc, &mut scope, turns, &kernel.answer)?;
-            Ok(Plan {
-                start,
-                turns: Some(cycle),
-                answer,
-            })
-        }
-    }
+    let plan = resolve_parts(alloc, &mut scope, kernel)?;
+    Ok(plan)
 }

@@ -15,7 +15,7 @@ use crate::node::Node;
 use crate::offset::stream_offset;
 use crate::words::wrapped;
 use kernel_scope::{Scope, element_type, first, lookup, own_type};
-use kernel_tree::{BinaryOp, CompareOp, Expr, Name, Ty};
+use kernel_tree::{BinaryOp, CompareOp, Expr, Name, Ty, UnaryOp};
 use std::alloc::{AllocError, Global};
 
 /// The type of the elements of an array.
@@ -59,31 +59,19 @@ pub fn resolve(
         Expr::Lit(value) => Ok(Node::Constant(wrapped(want, *value))),
         Expr::Var(name) => Ok(Node::Slot(slot(scope, name))),
         Expr::Read { array, index } => resolve_read(alloc, scope, array, index),
-        Expr::Unary { op, arg } => {
-            let arg = resolve(alloc, scope, want, arg)?;
-            build::unary(alloc, *op, want, arg)
-        }
+        Expr::Unary { op, arg } => resolve_unary(alloc, scope, *op, want, arg),
         Expr::Binary { op, left, right } => resolve_binary(alloc, scope, *op, want, left, right),
         Expr::Shift {
             left_shift,
             arg,
             count,
-        } => {
-            let arg = resolve(alloc, scope, want, arg)?;
-            build::shift(alloc, *left_shift, *count, want, arg)
-        }
-        Expr::Cast { arg, ty } => {
-            let arg = resolve(alloc, scope, own_type(scope, arg), arg)?;
-            build::cast(alloc, *ty, arg)
-        }
+        } => resolve_shift(alloc, scope, *left_shift, *count, want, arg),
+        Expr::Cast { arg, ty } => resolve_cast(alloc, scope, *ty, arg),
         Expr::Select { cond, yes, no } => resolve_select(alloc, scope, want, cond, yes, no),
         Expr::Compare { op, left, right } => resolve_compared(alloc, scope, *op, left, right),
         Expr::And { left, right } => resolve_both(alloc, scope, left, right),
         Expr::Or { left, right } => resolve_either(alloc, scope, left, right),
-        Expr::Not { arg } => {
-            let arg = resolve(alloc, scope, None, arg)?;
-            build::negate(alloc, arg)
-        }
+        Expr::Not { arg } => resolve_negated(alloc, scope, arg),
     }
 }
 
@@ -116,6 +104,55 @@ fn resolve_read(
 {
     let number = resolve_number(alloc, scope, index)?;
     build::element(alloc, slot(scope, array), array_type(scope, array), number)
+}
+
+#[cycle(nodes)]
+fn resolve_unary(
+    alloc: Global,
+    scope: &Scope,
+    op: UnaryOp,
+    want: Option<Ty>,
+    arg: &Expr,
+) -> Result<Node, AllocError>
+    ensures { IfOk result (λ n. tree_of n ≡ trees.Unary op want
+        (resolving.resolved (scope_of scope.now) want (term_of arg.now))) }
+{
+    let arg = resolve(alloc, scope, want, arg)?;
+    build::unary(alloc, op, want, arg)
+}
+
+#[cycle(nodes)]
+fn resolve_shift(
+    alloc: Global,
+    scope: &Scope,
+    left_shift: bool,
+    count: i128,
+    want: Option<Ty>,
+    arg: &Expr,
+) -> Result<Node, AllocError>
+    ensures { IfOk result (λ n. tree_of n ≡ trees.Shift left_shift count want
+        (resolving.resolved (scope_of scope.now) want (term_of arg.now))) }
+{
+    let arg = resolve(alloc, scope, want, arg)?;
+    build::shift(alloc, left_shift, count, want, arg)
+}
+
+#[cycle(nodes)]
+fn resolve_cast(alloc: Global, scope: &Scope, ty: Ty, arg: &Expr) -> Result<Node, AllocError>
+    ensures { IfOk result (λ n. tree_of n ≡ trees.Cast ty (resolving.resolved (scope_of scope.now)
+        (typing.own (scope_of scope.now) (term_of arg.now)) (term_of arg.now))) }
+{
+    let arg = resolve(alloc, scope, own_type(scope, arg), arg)?;
+    build::cast(alloc, ty, arg)
+}
+
+#[cycle(nodes)]
+fn resolve_negated(alloc: Global, scope: &Scope, arg: &Expr) -> Result<Node, AllocError>
+    ensures { IfOk result (λ n. tree_of n
+        ≡ trees.Not (resolving.resolved (scope_of scope.now) None (term_of arg.now))) }
+{
+    let arg = resolve(alloc, scope, None, arg)?;
+    build::negate(alloc, arg)
 }
 
 #[cycle(nodes)]

@@ -28,3 +28,15 @@ decreases-resolve_either l = walk_of_two (term_of l.left.now) (term_of l.right.n
 
 abbrev pub decreases-resolve_select : goal.decreases-resolve_select
 decreases-resolve_select l = walk_of_three (term_of l.cond.now) (term_of l.yes.now) (term_of l.no.now)
+
+abbrev pub decreases-resolve_unary : goal.decreases-resolve_unary
+decreases-resolve_unary l = walk_of_one (term_of l.arg.now)
+
+abbrev pub decreases-resolve_shift : goal.decreases-resolve_shift
+decreases-resolve_shift l = walk_of_one (term_of l.arg.now)
+
+abbrev pub decreases-resolve_cast : goal.decreases-resolve_cast
+decreases-resolve_cast l = walk_of_one (term_of l.arg.now)
+
+abbrev pub decreases-resolve_negated : goal.decreases-resolve_negated
+decreases-resolve_negated l = walk_of_one (term_of l.arg.now)
