@@ -14,16 +14,14 @@ use std::{env, fs, io, process};
 
 #[test]
 fn sink_takes_what_it_has_room_for(rt: HostRuntime) -> Result<(), Fail> {
-    let fail = vec![in rt.alloc(); 1]?;
-    let mut sink = MemorySink::new(rt.alloc(), 3, fail)?;
-    assert_eq!(rt; sink.put(b"ab"), Ok(2));
-    assert_eq!(rt; sink.put(b"cd"), Err(Failed), "call 1 is to fail");
-    assert_eq!(rt;
-        put_all(&mut sink, b"cd"),
-        Err(Failed),
+    let mut sink = MemorySink::new(rt.alloc(), 3, vec![in rt.alloc(); 1]?)?;
+    assert!(rt; sink.put(b"ab") == Ok(2));
+    assert!(rt; sink.put(b"cd") == Err(Failed), "call 1 is to fail");
+    assert!(rt;
+        put_all(&mut sink, b"cd") == Err(Failed),
         "there is room for one byte"
     );
-    assert_eq!(rt; sink.bytes(), b"abc".as_slice());
+    assert!(rt; sink.bytes() == b"abc".as_slice());
     Ok(())
 }
 
@@ -32,11 +30,13 @@ fn source_gives_its_bytes(rt: HostRuntime) -> Result<(), Fail> {
     let bytes = b"abc".to_vec(rt.alloc())?;
     let mut source = MemorySource::new(bytes, vec![in rt.alloc(); 0]?);
     let mut buffer = [b'-'; 2];
-    assert_eq!(rt; source.take(&mut buffer), Err(Failed), "call 0 is to fail");
-    assert_eq!(rt; source.take(&mut buffer), Ok(2));
-    assert_eq!(rt; source.take(&mut buffer), Ok(1));
-    assert_eq!(rt; buffer, [b'c', b'b']);
-    assert_eq!(rt; source.take(&mut buffer), Ok(0));
+    assert!(rt;
+        source.take(&mut buffer) == Err(Failed),
+        "call 0 is to fail"
+    );
+    assert!(rt; source.take(&mut buffer) == Ok(2));
+    assert!(rt; source.take(&mut buffer) == Ok(1) && buffer == [b'c', b'b']);
+    assert!(rt; source.take(&mut buffer) == Ok(0));
     Ok(())
 }
 
@@ -46,51 +46,38 @@ fn files_are_held_by_name(rt: HostRuntime) -> Result<(), Fail> {
     let bytes = b"one".to_vec(rt.alloc())?;
     let listed = vec![in rt.alloc(); NamedFile { name, bytes }]?;
     assert!(rt; have_different_names(&listed));
-    let mut files = MemoryFiles::new(listed, vec![in rt.alloc(); 2]?);
+    let mut files = MemoryFiles::new(listed, vec![in rt.alloc(); 1]?);
     let mut text = Vec::new(rt.alloc());
-    assert_eq!(rt;
-        files.read(rt.alloc(), "out", &mut text),
-        Err(FileError::Failed)
-    );
-    assert_eq!(rt; files.read(rt.alloc(), "in", &mut text), Ok(()));
-    assert_eq!(rt;
-        files.write(rt.alloc(), "out", b"two"),
-        Err(FileError::Failed),
-        "call 2"
-    );
-    assert_eq!(rt; files.write(rt.alloc(), "out", b"two"), Ok(()));
-    assert_eq!(rt; files.read(rt.alloc(), "out", &mut text), Ok(()));
-    assert_eq!(rt; text.as_slice(), b"onetwo".as_slice());
-    assert!(rt; files.bytes("out").is_some());
-    assert!(rt; files.bytes("ou").is_none());
+    assert!(rt; files.read(rt.alloc(), "in", &mut text) == Ok(()));
+    let failed = Err(FileError::Failed);
+    assert!(rt; files.write(rt.alloc(), "out", b"two") == failed, "call 1");
+    assert!(rt; files.write(rt.alloc(), "out", b"two") == Ok(()));
+    assert!(rt; files.read(rt.alloc(), "out", &mut text) == Ok(()));
+    assert!(rt; text.as_slice() == b"onetwo".as_slice() && files.bytes("ou").is_none());
     Ok(())
 }
 
 #[test]
 fn system_files_are_read_and_written(rt: HostRuntime) -> Result<(), Fail> {
     let directory = env::temp_dir(&rt)?;
-    let directory = directory.as_str();
     let process = process::id(rt.process());
-    let name = format!(in rt.alloc(); "{directory}/io_edges_{process}")?;
+    let name = format!(in rt.alloc(); "{}/io_edges_{process}", directory.as_str())?;
+    let name = name.as_str();
     let mut files = StdFiles::new(rt);
     let mut text = b"<".to_vec(rt.alloc())?;
-    assert_eq!(rt;
-        files.read(rt.alloc(), name.as_str(), &mut text),
-        Err(FileError::Failed)
-    );
-    assert_eq!(rt; files.write(rt.alloc(), name.as_str(), b"text"), Ok(()));
-    assert_eq!(rt; files.read(rt.alloc(), name.as_str(), &mut text), Ok(()));
-    assert_eq!(rt; text.as_slice(), b"<text".as_slice());
+    let absent = files.read(rt.alloc(), name, &mut text);
+    let written = files.write(rt.alloc(), name, b"text");
+    let read = files.read(rt.alloc(), name, &mut text);
     fs::File::options()
         .write(true)
-        .open(&rt, name.as_str())?
+        .open(&rt, name)?
         .set_len(MAX_FILE as u64 + 1)?;
-    assert_eq!(rt;
-        files.read(rt.alloc(), name.as_str(), &mut text),
-        Err(FileError::TooLong)
-    );
-    assert_eq!(rt; text.as_slice(), b"<text".as_slice());
-    fs::remove_file(&rt, name.as_str())?;
+    let long = files.read(rt.alloc(), name, &mut text);
+    fs::remove_file(&rt, name)?;
+    assert!(rt; absent == Err(FileError::Failed));
+    assert!(rt; written == Ok(()) && read == Ok(()));
+    assert!(rt; long == Err(FileError::TooLong));
+    assert!(rt; text.as_slice() == b"<text".as_slice());
     Ok(())
 }
 
@@ -100,10 +87,9 @@ fn pipe_takes_and_gives(rt: HostRuntime) -> Result<(), Fail> {
     let mut sink = StdSink::new(writer);
     let mut source = StdSource::new(reader);
     let mut buffer = [b'-'; 4];
-    assert_eq!(rt; put_all(&mut sink, b"abc"), Ok(()));
-    assert_eq!(rt; source.take(&mut buffer), Ok(3));
-    assert_eq!(rt; buffer.as_slice(), b"abc-".as_slice());
+    assert!(rt; put_all(&mut sink, b"abc") == Ok(()));
+    assert!(rt; source.take(&mut buffer) == Ok(3) && buffer == *b"abc-");
     drop(sink);
-    assert_eq!(rt; source.take(&mut buffer), Ok(0));
+    assert!(rt; source.take(&mut buffer) == Ok(0));
     Ok(())
 }

@@ -22,11 +22,14 @@ fn registers(rt: HostRuntime) -> Result<(), Fail> {
         interval(7, 9),
     ];
     let assigned = assign(rt.alloc(), &worked, RegClass::X, 2)?;
-    assert!(rt; assigned.register(0) == 0);
-    assert!(rt; assigned.register(1) == 1);
-    assert!(rt; assigned.register(2) == 1);
-    assert!(rt; assigned.register(3) == 0);
-    assert!(rt; assigned.register(4) == 0);
+    let registers = [
+        assigned.register(0),
+        assigned.register(1),
+        assigned.register(2),
+        assigned.register(3),
+        assigned.register(4),
+    ];
+    assert!(rt; registers == [0, 1, 1, 0, 0]);
     Ok(())
 }
 
