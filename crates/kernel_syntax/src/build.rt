@@ -10,32 +10,33 @@ use kernel_tree::token::Number;
 use kernel_tree::{BinaryOp, CompareOp, Expr, Name, Ty, UnaryOp};
 use std::alloc::{AllocError, Global};
 
+// Two expressions that stand side by side.
+fn boxed(alloc: Global, left: Expr, right: Expr) -> Result<(Box<Expr>, Box<Expr>), AllocError>
+    ensures left { IfOk result (λ pair. pair.0.value ≡ left) }
+    ensures right { IfOk result (λ pair. pair.1.value ≡ right) }
+{
+    Ok((Box::new(alloc, left)?, Box::new(alloc, right)?))
+}
+
 pub fn binary(alloc: Global, op: BinaryOp, left: Expr, right: Expr) -> Result<Expr, AllocError>
     ensures { IfOk result (λ e. term_of e ≡ Operation op (term_of left) (term_of right)) }
 {
-    Ok(Expr::Binary {
-        op,
-        left: Box::new(alloc, left)?,
-        right: Box::new(alloc, right)?,
-    })
+    let (left, right) = boxed(alloc, left, right)?;
+    Ok(Expr::Binary { op, left, right })
 }
 
 fn both(alloc: Global, left: Expr, right: Expr) -> Result<Expr, AllocError>
     ensures { IfOk result (λ e. term_of e ≡ Both (term_of left) (term_of right)) }
 {
-    Ok(Expr::And {
-        left: Box::new(alloc, left)?,
-        right: Box::new(alloc, right)?,
-    })
+    let (left, right) = boxed(alloc, left, right)?;
+    Ok(Expr::And { left, right })
 }
 
 fn either(alloc: Global, left: Expr, right: Expr) -> Result<Expr, AllocError>
     ensures { IfOk result (λ e. term_of e ≡ Either (term_of left) (term_of right)) }
 {
-    Ok(Expr::Or {
-        left: Box::new(alloc, left)?,
-        right: Box::new(alloc, right)?,
-    })
+    let (left, right) = boxed(alloc, left, right)?;
+    Ok(Expr::Or { left, right })
 }
 
 pub fn join(alloc: Global, joint: Joint, left: Expr, right: Expr) -> Result<Expr, AllocError>
@@ -51,11 +52,8 @@ pub fn join(alloc: Global, joint: Joint, left: Expr, right: Expr) -> Result<Expr
 pub fn compare(alloc: Global, op: CompareOp, left: Expr, right: Expr) -> Result<Expr, AllocError>
     ensures { IfOk result (λ e. term_of e ≡ Comparison op (term_of left) (term_of right)) }
 {
-    Ok(Expr::Compare {
-        op,
-        left: Box::new(alloc, left)?,
-        right: Box::new(alloc, right)?,
-    })
+    let (left, right) = boxed(alloc, left, right)?;
+    Ok(Expr::Compare { op, left, right })
 }
 
 pub fn shift(alloc: Global, to_left: bool, arg: Expr, count: Number) -> Result<Expr, AllocError>
@@ -116,9 +114,7 @@ pub fn sign(alloc: Global, sign: Sign, arg: Expr) -> Result<Expr, AllocError>
 pub fn select(alloc: Global, cond: Expr, yes: Expr, no: Expr) -> Result<Expr, AllocError>
     ensures { IfOk result (λ e. term_of e ≡ Choice (term_of cond) (term_of yes) (term_of no)) }
 {
-    Ok(Expr::Select {
-        cond: Box::new(alloc, cond)?,
-        yes: Box::new(alloc, yes)?,
-        no: Box::new(alloc, no)?,
-    })
+    let cond = Box::new(alloc, cond)?;
+    let (yes, no) = boxed(alloc, yes, no)?;
+    Ok(Expr::Select { cond, yes, no })
 }

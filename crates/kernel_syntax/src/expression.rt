@@ -4,6 +4,7 @@ ghost use Rattle.std.specs.Prelude.{◌≡◌, ◌≤◌, ◌<◌, length, IfOk,
 ghost use Rattle.kernel_tree.specs.Plain.{term_of, name_of, words_of};
 ghost use Rattle.kernel_tree.specs.Grammar.{number_following, opening_of_mark};
 ghost use Rattle.kernel_syntax.specs.Reading.{Gives, chain_at, unary_at, term_before, name_by, pair_by, absolute_by, choice_by, signed_by, opened_by, unary_by, sign_front};
+ghost use Rattle.kernel_syntax.specs.Operands.{joined_by, compared_by, shifted_by, converted_by};
 ghost use Rattle.kernel_syntax.specs.Signs.{all_signed};
 
 use crate::fault::Stop;
@@ -11,13 +12,84 @@ use crate::front::{
     accept, copy_name, expect, expect_number, expect_type, front_mark, front_number, front_operator,
 };
 use crate::{build, class};
-use kernel_tree::mark::{Mark, Opening, Operator, Sign};
+use kernel_tree::mark::{Joint, Mark, Opening, Operator, Sign};
 use kernel_tree::token::{Number, Token};
-use kernel_tree::{BinaryOp, Expr, Name, UnaryOp};
+use kernel_tree::{BinaryOp, CompareOp, Expr, Name, UnaryOp};
 use std::alloc::{AllocError, Global};
 
 // The loosest level, that of any expression.
 const ANY: u8 = 10;
+
+// What stands after an operator that joins operands.
+#[cycle(expression)]
+#[tactic(auto, unfolding(crate::specs::Operands::joined_by))]
+fn joined<'a>(
+    alloc: Global,
+    joint: Joint,
+    left: Expr,
+    tokens: &'a [Token],
+    level: u8,
+    room: usize,
+) -> Result<(Expr, &'a [Token]), Stop>
+    requires { level ≤ 9 }
+    ensures value { Gives (λ x. (term_of x.0, words_of x.1.now)) result
+        (joined_by (chain_at (unary_at room) level) joint (term_of left) (words_of tokens.now)) }
+    ensures shorter { IfOk result (λ x. length x.1.now < length tokens.now) }
+{
+    let (right, rest) = chain(alloc, tokens, level, room)?;
+    Ok((build::join(alloc, joint, left, right)?, rest))
+}
+
+// What stands after a comparison.
+#[cycle(expression)]
+#[tactic(auto, unfolding(crate::specs::Operands::compared_by))]
+fn compared<'a>(
+    alloc: Global,
+    op: CompareOp,
+    left: Expr,
+    tokens: &'a [Token],
+    level: u8,
+    room: usize,
+) -> Result<(Expr, &'a [Token]), Stop>
+    requires { level ≤ 9 }
+    ensures value { Gives (λ x. (term_of x.0, words_of x.1.now)) result
+        (compared_by (chain_at (unary_at room) level) op (term_of left) (words_of tokens.now)) }
+    ensures shorter { IfOk result (λ x. length x.1.now < length tokens.now) }
+{
+    let (right, rest) = chain(alloc, tokens, level, room)?;
+    Ok((build::compare(alloc, op, left, right)?, rest))
+}
+
+// What stands after a shift.
+#[tactic(auto, unfolding(crate::specs::Operands::shifted_by))]
+fn shifted<'a>(
+    alloc: Global,
+    to_left: bool,
+    left: Expr,
+    tokens: &'a [Token],
+) -> Result<(Expr, &'a [Token]), Stop>
+    ensures value { Gives (λ x. (term_of x.0, words_of x.1.now)) result
+        (shifted_by to_left (term_of left) (words_of tokens.now)) }
+    ensures shorter { IfOk result (λ x. length x.1.now < length tokens.now) }
+{
+    let (count, rest) = expect_number(tokens)?;
+    Ok((build::shift(alloc, to_left, left, count)?, rest))
+}
+
+// What stands after the word that begins a conversion.
+#[tactic(auto, unfolding(crate::specs::Operands::converted_by))]
+fn converted<'a>(
+    alloc: Global,
+    left: Expr,
+    tokens: &'a [Token],
+) -> Result<(Expr, &'a [Token]), Stop>
+    ensures value { Gives (λ x. (term_of x.0, words_of x.1.now)) result
+        (converted_by (term_of left) (words_of tokens.now)) }
+    ensures shorter { IfOk result (λ x. length x.1.now < length tokens.now) }
+{
+    let (ty, rest) = expect_type(tokens)?;
+    Ok((build::cast(alloc, left, ty)?, rest))
+}
 
 // An expression of a level.
 #[cycle(expression)]
@@ -41,22 +113,19 @@ fn chain<'a>(
     'more: while let Some((operator, after)) = front_operator(rest, level) {
         match operator {
             Operator::Joined(joint) => {
-                let (right, next) = chain(alloc, after, level - 1, room)?;
-                left = build::join(alloc, joint, left, right)?;
+                let (whole, next) = joined(alloc, joint, left, after, level - 1, room)?;
+                left = whole;
                 rest = next;
             }
-            Operator::Compared(op) => {
-                let (right, next) = chain(alloc, after, level - 1, room)?;
-                return Ok((build::compare(alloc, op, left, right)?, next));
-            }
+            Operator::Compared(op) => return compared(alloc, op, left, after, level - 1, room),
             Operator::Shifted(to_left) => {
-                let (count, next) = expect_number(after)?;
-                left = build::shift(alloc, to_left, left, count)?;
+                let (whole, next) = shifted(alloc, to_left, left, after)?;
+                left = whole;
                 rest = next;
             }
             Operator::As => {
-                let (ty, next) = expect_type(after)?;
-                left = build::cast(alloc, left, ty)?;
+                let (whole, next) = converted(alloc, left, after)?;
+                left = whole;
                 rest = next;
             }
         }

@@ -6,7 +6,7 @@ ghost use Rattle.kernel_syntax.specs.Reading.{Gives};
 ghost use Rattle.kernel_syntax.specs.Headers.{shape_at, param_at, some_at, params_at, var_at, vars_at, zero_at, turns_at, loop_at, tail_at, answer_by};
 
 use crate::fault::Stop;
-use crate::front::{accept, expect, expect_name, expect_type, front_number};
+use crate::front::{accept, copy_name, expect, expect_name, expect_type, front_number};
 use crate::statement::{block, term};
 use kernel_tree::mark::Mark;
 use kernel_tree::token::Token;
@@ -37,10 +37,16 @@ fn parameter<'a>(alloc: Global, tokens: &'a [Token]) -> Result<(Param, &'a [Toke
     ensures value { Gives (λ x. (parameter_of x.0, words_of x.1.now)) result (param_at (words_of tokens.now)) }
     ensures shorter { IfOk result (λ x. length x.1.now < length tokens.now) }
 {
-    let (name, following) = expect_name(alloc, tokens)?;
+    let (name, following) = expect_name(tokens)?;
     let from = expect(following, Mark::Colon)?;
     let (shape, rest) = read_shape(from)?;
-    Ok((Param { name, shape }, rest))
+    Ok((
+        Param {
+            name: copy_name(alloc, name)?,
+            shape,
+        },
+        rest,
+    ))
 }
 
 // One to eight parameters and the parenthesis after them.
@@ -86,12 +92,19 @@ fn accumulator<'a>(alloc: Global, tokens: &'a [Token]) -> Result<(Var, &'a [Toke
     ensures value { Gives (λ x. (accumulator_of x.0, words_of x.1.now)) result (var_at (words_of tokens.now)) }
     ensures shorter { IfOk result (λ x. length x.1.now < length tokens.now) }
 {
-    let (name, following) = expect_name(alloc, tokens)?;
+    let (name, following) = expect_name(tokens)?;
     let from = expect(following, Mark::Colon)?;
     let (ty, next) = expect_type(from)?;
     let value = expect(next, Mark::Equals)?;
     let (init, rest) = term(alloc, value, Mark::Semicolon)?;
-    Ok((Var { name, ty, init }, rest))
+    Ok((
+        Var {
+            name: copy_name(alloc, name)?,
+            ty,
+            init,
+        },
+        rest,
+    ))
 }
 
 // The accumulators at the front.
@@ -133,14 +146,21 @@ fn turns<'a>(alloc: Global, tokens: &'a [Token]) -> Result<(Loop, &'a [Token]), 
     ensures value { Gives (λ x. (turns_of x.0, words_of x.1.now)) result (turns_at (words_of tokens.now)) }
     ensures shorter { IfOk result (λ x. length x.1.now < length tokens.now) }
 {
-    let (index, following) = expect_name(alloc, tokens)?;
+    let (index, following) = expect_name(tokens)?;
     let from = expect(following, Mark::In)?;
     let range = expect_zero(from)?;
     let end = expect(range, Mark::Range)?;
-    let (bound, next) = expect_name(alloc, end)?;
+    let (bound, next) = expect_name(end)?;
     let inside = expect(next, Mark::OpenBrace)?;
     let (body, rest) = block(alloc, inside, true, inside.len())?;
-    Ok((Loop { index, bound, body }, rest))
+    Ok((
+        Loop {
+            index: copy_name(alloc, index)?,
+            bound: copy_name(alloc, bound)?,
+            body,
+        },
+        rest,
+    ))
 }
 
 // The loop at the front, if there is one.

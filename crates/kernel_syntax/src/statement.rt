@@ -45,11 +45,18 @@ fn definition<'a>(alloc: Global, tokens: &'a [Token]) -> Result<(Stmt, &'a [Toke
     ensures value { Gives (λ x. (action_of x.0, words_of x.1.now)) result (define_at (words_of tokens.now)) }
     ensures shorter { IfOk result (λ x. length x.1.now < length tokens.now) }
 {
-    let (name, following) = expect_name(alloc, tokens)?;
+    let (name, following) = expect_name(tokens)?;
     let (ty, next) = declared_type(following)?;
     let from = expect(next, Mark::Equals)?;
     let (value, rest) = term(alloc, from, Mark::Semicolon)?;
-    Ok((Stmt::Let { name, ty, value }, rest))
+    Ok((
+        Stmt::Let {
+            name: copy_name(alloc, name)?,
+            ty,
+            value,
+        },
+        rest,
+    ))
 }
 
 // What stands after the bracket of the element that a store writes.
@@ -59,13 +66,12 @@ fn store<'a>(alloc: Global, array: &Name, tokens: &'a [Token]) -> Result<(Stmt, 
         (put_at (name_of array.now) (words_of tokens.now)) }
     ensures shorter { IfOk result (λ x. length x.1.now < length tokens.now) }
 {
-    let array = copy_name(alloc, array)?;
     let (index, following) = term(alloc, tokens, Mark::CloseBracket)?;
     let next = expect(following, Mark::Equals)?;
     let (value, rest) = term(alloc, next, Mark::Semicolon)?;
     Ok((
         Stmt::Store {
-            array,
+            array: copy_name(alloc, array)?,
             index,
             value,
         },
