@@ -1,6 +1,8 @@
-//! Tests of the base layer: values of the guest, the outside, numbers, the parts of a text. They stand in a crate of their own, so that the crates that they call are not proved again with them.
+//! Tests of the base layer, values of the guest, the outside, numbers, the parts of a text, and of the words of a command. They stand in a crate of their own, so that the crates that they call are not proved again with them.
 #![tactic(auto)]
 
+#[cfg(test)]
+mod command_line_calls;
 #[cfg(test)]
 mod guest_types_calls;
 #[cfg(test)]
