@@ -3,13 +3,13 @@
 ghost use Rattle.std.specs.Prelude.{Some};
 
 use crate::program::E1;
-use sve_top::top::top;
 use io_edges::memory_files::{MemoryFiles, NamedFile, have_different_names};
 use io_edges::memory_sink::MemorySink;
 use io_edges::memory_source::MemorySource;
 use io_edges::sink::{Failed, Sink};
 use std::alloc::{AllocError, Global};
 use std::test::Fail;
+use sve_top::top::top;
 
 // The words of a command, and how many calls of the files it makes.
 const COMMANDS: &str = "\

@@ -1,12 +1,12 @@
 //! A debugging session whose input fails.
 
 use crate::program::E1;
-use sve_top::top::top;
 use io_edges::memory_files::{MemoryFiles, NamedFile, have_different_names};
 use io_edges::memory_sink::MemorySink;
 use io_edges::memory_source::MemorySource;
 use std::alloc::Global;
 use std::test::Fail;
+use sve_top::top::top;
 
 // A session on the program of three words with the argument 41: its status, and what it put on both outputs, one after the other.
 fn session(alloc: Global, lines: &str, fail: Vec<u64>) -> Result<(u8, Vec<u8>), Fail> {
