@@ -64,17 +64,17 @@ fn list_store<'a>(
     let want = array_type_of(names, array);
     let stored = source(kernel, names, want, from, value);
     list_value(kernel, names, items, want, mask, from, value)?;
-    let Some(offset) = offset(kernel, index) else {
-        return Ok(());
-    };
-    let op = LoopOp::Store {
-        array,
-        base: source_of(names, array),
-        ty: want,
-        offset,
-        value: stored,
-    };
-    append(items, from + expr_size(kernel, value), mask, op)
+    if let Some(offset) = offset(kernel, index) {
+        let op = LoopOp::Store {
+            array,
+            base: source_of(names, array),
+            ty: want,
+            offset,
+            value: stored,
+        };
+        append(items, from + expr_size(kernel, value), mask, op)?;
+    }
+    Ok(())
 }
 
 // An update: its value, and the update.

@@ -85,16 +85,16 @@ fn list_read<'a>(
         (scope_of i names.now taken) mask (from + index_items i (term_of index.now))
         (env_of names.now) (name_of array.now) (stream_offset i (term_of index.now)) rest) }
 {
-    let Some(offset) = offset(kernel, index) else {
-        return Ok(());
-    };
-    let op = LoopOp::Load {
-        array: array.text(),
-        base: source_of(names, array.text()),
-        ty: array_type_of(names, array.text()),
-        offset,
-    };
-    append(items, from, mask, op)
+    if let Some(offset) = offset(kernel, index) {
+        let op = LoopOp::Load {
+            array: array.text(),
+            base: source_of(names, array.text()),
+            ty: array_type_of(names, array.text()),
+            offset,
+        };
+        append(items, from, mask, op)?;
+    }
+    Ok(())
 }
 
 /// Lists an operand, and the item that it is for.
