@@ -1,8 +1,5 @@
 //! Loads and stores of lanes over four pages: 0 and 1 may be written, 2 may be read, 3 is not mapped.
 
-ghost use Rattle.std.specs.Prelude.{◌≤◌, ◌<◌};
-ghost use Rattle.guest_types.specs.Length.{IsLength, all_lanes};
-
 use guest_types::guest::GuestMemory;
 use guest_types::image::{Image, PageMap};
 use guest_types::length::{Vl, Width};
@@ -18,7 +15,7 @@ use paged_memory::run::run;
 use std::alloc::{AllocError, Global};
 use std::test::Fail;
 
-// The four pages, in which the last 16 bytes of page 1 are 0x80 to 0x8f, as are the first of page 0.
+// The four pages, in which the last 16 bytes of page 1 are 0x80 to 0x8f, as are the first of page 0 and those round the end of page 0.
 fn built(alloc: Global) -> Result<Pages, AllocError> {
     let image = Image {
         entry: 0,
@@ -30,267 +27,141 @@ fn built(alloc: Global) -> Result<Pages, AllocError> {
         pages: run(alloc, 2, 1, Perm::Read, &[])?,
     };
     let mut pages = Pages::build(alloc, &image, &map)?;
-    for at in [0, 0x1ff0] {
+    for at in [0, 0xff8, 0x1ff0] {
         let _low = pages.store(at, 8, 0x8786_8584_8382_8180);
         let _high = pages.store(at + 8, 8, 0x8f8e_8d8c_8b8a_8988);
     }
     Ok(pages)
 }
 
-fn vl(bits: u32) -> Vl
-    requires { IsLength bits }
-{
-    Vl::new(bits).unwrap()
+// The row of a load, its base and index, the bits of a vector, and a byte that the mask repeats.
+type Load = (u32, u64, u64, u32, u8);
+
+// A load, an element, and what it is then, or the address of the fault.
+static LOADS: [(Load, Width, usize, Result<u64, u64>); 34] = [
+    // element 1 by each row
+    ((0, 0x1ff0, 0, 128, 255), Width::B, 1, Ok(0x81)),
+    ((1, 0x1ff0, 0, 128, 255), Width::H, 1, Ok(0x81)),
+    ((2, 0x1ff0, 0, 128, 255), Width::S, 1, Ok(0x81)),
+    ((3, 0x1ff0, 0, 128, 255), Width::D, 1, Ok(0x81)),
+    (
+        (4, 0x1ff0, 0, 128, 255),
+        Width::D,
+        1,
+        Ok(0xffff_ffff_8786_8584),
+    ),
+    ((5, 0x1ff0, 0, 128, 255), Width::H, 1, Ok(0x8382)),
+    ((6, 0x1ff0, 0, 128, 255), Width::S, 1, Ok(0x8382)),
+    ((7, 0x1ff0, 0, 128, 255), Width::D, 1, Ok(0x8382)),
+    (
+        (8, 0x1ff0, 0, 128, 255),
+        Width::D,
+        1,
+        Ok(0xffff_ffff_ffff_8382),
+    ),
+    ((9, 0x1ff0, 0, 128, 255), Width::S, 1, Ok(0xffff_8382)),
+    ((10, 0x1ff0, 0, 128, 255), Width::S, 1, Ok(0x8786_8584)),
+    ((11, 0x1ff0, 0, 128, 255), Width::D, 1, Ok(0x8786_8584)),
+    (
+        (12, 0x1ff0, 0, 128, 255),
+        Width::D,
+        1,
+        Ok(0xffff_ffff_ffff_ff81),
+    ),
+    ((13, 0x1ff0, 0, 128, 255), Width::S, 1, Ok(0xffff_ff81)),
+    ((14, 0x1ff0, 0, 128, 255), Width::H, 1, Ok(0xff81)),
+    (
+        (15, 0x1ff0, 0, 128, 255),
+        Width::D,
+        1,
+        Ok(0x8f8e_8d8c_8b8a_8988),
+    ),
+    // masks
+    ((0, 0x3000, 0, 2048, 0), Width::B, 255, Ok(0)),
+    ((0, 0, 0, 2048, 0x5a), Width::B, 0, Ok(0)),
+    ((0, 0, 0, 2048, 0x5a), Width::B, 1, Ok(0x81)),
+    ((0, 0, 0, 2048, 0x5a), Width::B, 2, Ok(0)),
+    ((0, 0, 0, 2048, 0x5a), Width::B, 14, Ok(0x8e)),
+    ((10, 0, 0, 256, 0x10), Width::S, 0, Ok(0)),
+    ((10, 0, 0, 256, 0x10), Width::S, 1, Ok(0x8786_8584)),
+    ((10, 0, 0, 256, 0x10), Width::S, 3, Ok(0x8f8e_8d8c)),
+    // 384 bits are one block and 16 bytes, and above them is zero
+    ((0, 0x1fd0, 0, 384, 255), Width::B, 47, Ok(0x8f)),
+    ((0, 0x1fc8, 0, 384, 255), Width::B, 48, Ok(0)),
+    ((0, 0x1fc8, 0, 512, 255), Width::B, 48, Ok(0x88)),
+    // across pages, and where one is not mapped
+    ((0, 0xfff, 0, 128, 255), Width::B, 1, Ok(0x88)),
+    ((10, 0xffa, 0, 128, 255), Width::S, 1, Ok(0x8988_8786)),
+    ((10, 0x2ffa, 0, 128, 255), Width::S, 0, Err(0x3000)),
+    ((10, 0x2ffa, 0, 128, 0x01), Width::S, 0, Err(0x3002)),
+    // past the last address
+    (
+        (0, u64::MAX - 15, 0, 256, 255),
+        Width::B,
+        0,
+        Err(u64::MAX - 15),
+    ),
+    ((0, 4, u64::MAX, 128, 255), Width::B, 15, Ok(0)),
+    (
+        (15, 8, u64::MAX, 128, 255),
+        Width::D,
+        0,
+        Ok(0x8786_8584_8382_8180),
+    ),
+];
+
+fn loads() -> &'static [(Load, Width, usize, Result<u64, u64>)] {
+    &LOADS
 }
 
-// An element of what a load gives.
-fn lane(loaded: &Result<ZReg, AccessFault>, width: Width, e: usize) -> Result<u64, AccessFault>
-    requires { e < all_lanes width }
-{
-    match loaded {
-        Ok(z) => Ok(z.element(width, e)),
-        Err(fault) => Err(*fault),
-    }
-}
-
-// LD1 under a mask that repeats a byte.
-fn read(
-    pages: &Pages,
-    dtype: u32,
-    base: u64,
-    index: u64,
-    bits: u32,
-    mask: u8,
-) -> Result<ZReg, AccessFault>
-    requires row { dtype < 16 }
-    requires length { IsLength bits }
-{
-    let row = LoadRow::new(dtype).unwrap();
+// What LD1 gives of an element, or the address of its fault.
+fn read(pages: &Pages, read: Load, width: Width, e: usize) -> Option<Result<u64, u64>> {
+    let (dtype, base, index, bits, mask) = read;
+    let row = LoadRow::new(dtype)?;
+    let vl = Vl::new(bits)?;
     let pg = PReg { bits: [mask; 32] };
     let mut ffr = PReg { bits: [255; 32] };
     let mut stops = Suppress::none();
-    load(
-        pages,
-        LoadMode::Plain,
-        row,
-        base,
-        index,
-        vl(bits),
-        &pg,
-        &mut ffr,
-        &mut stops,
-    )
-}
-
-// Element 1 of a load of a row from 0x1ff0 on.
-fn second(pages: &Pages, dtype: u32, width: Width) -> Result<u64, AccessFault>
-    requires { dtype < 16 }
-{
-    let loaded = read(pages, dtype, 0x1ff0, 0, 128, 255);
-    lane(&loaded, width, 1)
+    if e >= width.all_lanes() {
+        return None;
+    }
+    let plain = LoadMode::Plain;
+    match load(
+        pages, plain, row, base, index, vl, &pg, &mut ffr, &mut stops,
+    ) {
+        Ok(z) => Some(Ok(z.element(width, e))),
+        Err(fault) => Some(Err(fault.address)),
+    }
 }
 
 #[test]
-fn rows(rt: HostRuntime) -> Result<(), Fail> {
+fn what_is_loaded(rt: HostRuntime) -> Result<(), Fail> {
     let pages = built(rt.alloc())?;
-    assert!(rt; second(&pages, 0, Width::B) == Ok(0x81));
-    assert!(rt; second(&pages, 1, Width::H) == Ok(0x81));
-    assert!(rt; second(&pages, 2, Width::S) == Ok(0x81));
-    assert!(rt; second(&pages, 3, Width::D) == Ok(0x81));
-    assert!(rt; second(&pages, 4, Width::D) == Ok(0xffff_ffff_8786_8584));
-    assert!(rt; second(&pages, 5, Width::H) == Ok(0x8382));
-    assert!(rt; second(&pages, 6, Width::S) == Ok(0x8382));
-    assert!(rt; second(&pages, 7, Width::D) == Ok(0x8382));
-    assert!(rt; second(&pages, 8, Width::D) == Ok(0xffff_ffff_ffff_8382));
-    assert!(rt; second(&pages, 9, Width::S) == Ok(0xffff_8382));
-    assert!(rt; second(&pages, 10, Width::S) == Ok(0x8786_8584));
-    assert!(rt; second(&pages, 11, Width::D) == Ok(0x8786_8584));
-    assert!(rt; second(&pages, 12, Width::D) == Ok(0xffff_ffff_ffff_ff81));
-    assert!(rt; second(&pages, 13, Width::S) == Ok(0xffff_ff81));
-    assert!(rt; second(&pages, 14, Width::H) == Ok(0xff81));
-    assert!(rt; second(&pages, 15, Width::D) == Ok(0x8f8e_8d8c_8b8a_8988));
-    Ok(())
-}
-
-#[test]
-fn masks(rt: HostRuntime) -> Result<(), Fail> {
-    let pages = built(rt.alloc())?;
-    let none = read(&pages, 0, 0x3000, 0, 2048, 0);
-    assert!(rt; lane(&none, Width::B, 255) == Ok(0));
-    let ragged = read(&pages, 0, 0, 0, 2048, 0x5a);
-    assert!(rt; lane(&ragged, Width::B, 0) == Ok(0));
-    assert!(rt; lane(&ragged, Width::B, 1) == Ok(0x81));
-    assert!(rt; lane(&ragged, Width::B, 2) == Ok(0));
-    assert!(rt; lane(&ragged, Width::B, 14) == Ok(0x8e));
-    let words = read(&pages, 10, 0, 0, 256, 0x10);
-    assert!(rt; lane(&words, Width::S, 0) == Ok(0));
-    assert!(rt; lane(&words, Width::S, 1) == Ok(0x8786_8584));
-    assert!(rt; lane(&words, Width::S, 3) == Ok(0x8f8e_8d8c));
-    Ok(())
-}
-
-// 384 bits are one block and 16 bytes, and above them is zero.
-#[test]
-fn lengths(rt: HostRuntime) -> Result<(), Fail> {
-    let mut pages = built(rt.alloc())?;
-    assert!(rt; pages.store(47, 2, 0x7755) == Ok(()));
-    let z = read(&pages, 0, 0, 0, 384, 255);
-    assert!(rt; lane(&z, Width::B, 47) == Ok(0x55));
-    assert!(rt; lane(&z, Width::B, 48) == Ok(0));
-    let z = read(&pages, 0, 0, 0, 512, 255);
-    assert!(rt; lane(&z, Width::B, 48) == Ok(0x77));
-    Ok(())
-}
-
-// LD1B of every length, whose last byte is 0x87 in memory. 0x88 stands following it, and is not read.
-#[test]
-fn every_length(rt: HostRuntime) -> Result<(), Fail> {
-    let pages = built(rt.alloc())?;
-    let row = LoadRow::new(0).unwrap();
-    let pg = PReg { bits: [255; 32] };
-    let mut ffr = PReg { bits: [255; 32] };
-    let mut stops = Suppress::none();
-    for sixteenths in 1..17 {
-        let length = Vl::new(128 * sixteenths).ok_or("no length")?;
-        let lanes = 16 * sixteenths as usize;
-        let base = 0x1ff8 - lanes as u64;
-        let z = load(
-            &pages,
-            LoadMode::Plain,
-            row,
-            base,
-            0,
-            length,
-            &pg,
-            &mut ffr,
-            &mut stops,
-        );
-        assert!(rt; lane(&z, Width::B, lanes - 9) == Ok(0), "{lanes}");
-        assert!(rt; lane(&z, Width::B, lanes - 8) == Ok(0x80), "{lanes}");
-        assert!(rt; lane(&z, Width::B, lanes - 1) == Ok(0x87), "{lanes}");
-        if lanes < 256 {
-            assert!(rt; lane(&z, Width::B, lanes) == Ok(0), "{lanes}");
-        }
+    for (load, width, e, want) in loads() {
+        let (dtype, base, ..) = *load;
+        let got = read(&pages, *load, *width, *e);
+        assert!(rt; got == Some(*want), "row {dtype} at {base}, element {e}");
     }
     Ok(())
 }
 
-#[test]
-fn edges(rt: HostRuntime) -> Result<(), Fail> {
-    let mut pages = built(rt.alloc())?;
-    assert!(rt; pages.store(0xffc, 8, 0x1122_3344_5566_7788) == Ok(()));
-    let across = read(&pages, 0, 0xfff, 0, 128, 255);
-    assert!(rt; lane(&across, Width::B, 0) == Ok(0x55));
-    assert!(rt; lane(&across, Width::B, 1) == Ok(0x44));
-    let straddles = read(&pages, 10, 0xffa, 0, 128, 255);
-    assert!(rt; lane(&straddles, Width::S, 1) == Ok(0x3344_5566));
-    assert!(rt; lane(&straddles, Width::S, 2) == Ok(0x1122));
-    let unmapped = read(&pages, 10, 0x2ffa, 0, 128, 255);
-    assert!(rt; lane(&unmapped, Width::S, 0) == Err(AccessFault::read(0x3000)));
-    let first = read(&pages, 10, 0x2ffa, 0, 128, 0x01);
-    assert!(rt; lane(&first, Width::S, 0) == Err(AccessFault::read(0x3002)));
-    Ok(())
-}
-
-// Element 16 stands at address 0, and those before it at the top of the address space.
-#[test]
-fn past_the_last_address(rt: HostRuntime) -> Result<(), Fail> {
-    let pages = built(rt.alloc())?;
-    let row = LoadRow::new(0).unwrap();
-    let mut pg = PReg { bits: [255; 32] };
-    let mut ffr = PReg { bits: [255; 32] };
-    let mut stops = Suppress::none();
-    let base = u64::MAX - 15;
-    let all = load(
-        &pages,
-        LoadMode::Plain,
-        row,
-        base,
-        0,
-        vl(256),
-        &pg,
-        &mut ffr,
-        &mut stops,
-    );
-    assert!(rt; lane(&all, Width::B, 0) == Err(AccessFault::read(base)));
-    pg.bits[0] = 0;
-    pg.bits[1] = 0;
-    let high = load(
-        &pages,
-        LoadMode::Plain,
-        row,
-        base,
-        0,
-        vl(256),
-        &pg,
-        &mut ffr,
-        &mut stops,
-    );
-    assert!(rt; lane(&high, Width::B, 15) == Ok(0));
-    assert!(rt; lane(&high, Width::B, 17) == Ok(0x81));
-    let back = load(
-        &pages,
-        LoadMode::Plain,
-        row,
-        4,
-        u64::MAX,
-        vl(128),
-        &pg,
-        &mut ffr,
-        &mut stops,
-    );
-    assert!(rt; lane(&back, Width::B, 15) == Ok(0));
-    Ok(())
-}
-
+// Words of 4 bytes from 0x2ff4 on, of which the first three can be read.
 #[test]
 fn first_faults(rt: HostRuntime) -> Result<(), Fail> {
     let pages = built(rt.alloc())?;
-    let row = LoadRow::new(10).unwrap();
+    let row = LoadRow::new(10).ok_or("no row")?;
+    let vl = Vl::new(256).ok_or("no length")?;
     let pg = PReg { bits: [255; 32] };
     let mut ffr = PReg { bits: [255; 32] };
     let mut stops = Suppress::none();
-    let z = load(
-        &pages,
-        LoadMode::FirstFault,
-        row,
-        0x2ff4,
-        0,
-        vl(256),
-        &pg,
-        &mut ffr,
-        &mut stops,
-    );
-    assert!(rt; lane(&z, Width::S, 2) == Ok(0));
-    assert!(rt; ffr.bits[0] == 255);
-    assert!(rt; ffr.bits[1] == 0x0f);
-    assert!(rt; ffr.bits[2] == 0);
-    let z = load(
-        &pages,
-        LoadMode::FirstFault,
-        row,
-        0x3000,
-        0,
-        vl(256),
-        &pg,
-        &mut ffr,
-        &mut stops,
-    );
-    assert!(rt; lane(&z, Width::S, 0) == Err(AccessFault::read(0x3000)));
-    assert!(rt; ffr.bits[1] == 0x0f);
-    let z = load(
-        &pages,
-        LoadMode::NonFault,
-        row,
-        0x3000,
-        0,
-        vl(256),
-        &pg,
-        &mut ffr,
-        &mut stops,
-    );
-    assert!(rt; lane(&z, Width::S, 0) == Ok(0));
-    assert!(rt; ffr.bits[0] == 0);
+    let mode = LoadMode::FirstFault;
+    let some = load(&pages, mode, row, 0x2ff4, 0, vl, &pg, &mut ffr, &mut stops);
+    assert!(rt; some.is_ok() && ffr.bits.starts_with(&[255, 0x0f, 0]));
+    let first = load(&pages, mode, row, 0x3000, 0, vl, &pg, &mut ffr, &mut stops);
+    assert!(rt; first.err() == Some(AccessFault::read(0x3000)) && ffr.bits[1] == 0x0f);
+    let mode = LoadMode::NonFault;
+    let none = load(&pages, mode, row, 0x3000, 0, vl, &pg, &mut ffr, &mut stops);
+    assert!(rt; none.is_ok() && ffr.bits[0] == 0);
     Ok(())
 }
 
@@ -298,121 +169,109 @@ fn first_faults(rt: HostRuntime) -> Result<(), Fail> {
 #[test]
 fn suppressed(rt: HostRuntime) -> Result<(), Fail> {
     let pages = built(rt.alloc())?;
-    let row = LoadRow::new(0).unwrap();
+    let row = LoadRow::new(0).ok_or("no row")?;
+    let vl = Vl::new(128).ok_or("no length")?;
     let pg = PReg { bits: [255; 32] };
     let mut ffr = PReg { bits: [255; 32] };
-    let Some(mut stops) = Suppress::each(3) else {
-        return Ok(());
-    };
-    let z = load(
-        &pages,
-        LoadMode::FirstFault,
-        row,
-        0,
-        0,
-        vl(128),
-        &pg,
-        &mut ffr,
-        &mut stops,
-    );
-    assert!(rt; lane(&z, Width::B, 2) == Ok(0x82));
-    assert!(rt; lane(&z, Width::B, 3) == Ok(0));
-    assert!(rt; ffr.bits[0] == 0x07);
+    let mut stops = Suppress::each(3).ok_or("no stops")?;
+    let mode = LoadMode::FirstFault;
+    let some = load(&pages, mode, row, 0, 0, vl, &pg, &mut ffr, &mut stops);
+    assert!(rt; some.is_ok() && ffr.bits[0] == 0x07);
     ffr.bits = [255; 32];
-    let z = load(
-        &pages,
-        LoadMode::NonFault,
-        row,
-        0,
-        0,
-        vl(128),
-        &pg,
-        &mut ffr,
-        &mut stops,
-    );
-    assert!(rt; lane(&z, Width::B, 1) == Ok(0x81));
-    assert!(rt; ffr.bits[0] == 0x03);
+    let mode = LoadMode::NonFault;
+    let some = load(&pages, mode, row, 0, 0, vl, &pg, &mut ffr, &mut stops);
+    assert!(rt; some.is_ok() && ffr.bits[0] == 0x03);
     assert!(rt; Suppress::each(0).is_none());
     Ok(())
 }
 
-// ST1 under a mask that repeats a byte.
-fn write(
-    pages: &mut Pages,
-    msz: u32,
-    size: u32,
-    base: u64,
-    bits: u32,
-    mask: u8,
-    z: &ZReg,
-) -> Result<(), AccessFault>
-    requires row { (msz ≤ size) × (size ≤ 3) }
-    requires length { IsLength bits }
-{
-    let row = StoreRow::new(msz, size).unwrap();
+// A row's sizes, its base and index, the bits of a vector, and a byte that the mask repeats.
+type Store = (u32, u32, u64, u64, u32, u8);
+
+// A store, the address of its fault, and eight bytes of memory then.
+static STORES: [(Store, Result<(), u64>, u64, u64); 12] = [
+    (
+        (2, 2, 0xffe, 0, 128, 255),
+        Ok(()),
+        0xffe,
+        0x0807_0605_0403_0201,
+    ),
+    (
+        (0, 2, 0x1ff8, 0, 128, 255),
+        Ok(()),
+        0x1ff8,
+        0x8f8e_8d8c_3333_0501,
+    ),
+    ((1, 3, 0x10, 0, 128, 1), Ok(()), 0x10, 0x3333_0201),
+    ((0, 0, 0x20, 0, 2048, 0x02), Ok(()), 0x20, 0x0200),
+    ((0, 0, 0x20, 0, 2048, 0x02), Ok(()), 0x110, 0x3300),
+    // an element that is not active is not tested, and a fault leaves the elements below it written
+    (
+        (0, 0, 0x1ff8, 0, 128, 0x0f),
+        Err(0x2000),
+        0x1ff8,
+        0x8f8e_8d8c_0403_0201,
+    ),
+    (
+        (0, 0, 0x1ff0, 0, 2048, 0),
+        Ok(()),
+        0x1ff0,
+        0x8786_8584_8382_8180,
+    ),
+    (
+        (3, 3, 0x1ffc, 0, 128, 255),
+        Err(0x2000),
+        0x1ff8,
+        0x8f8e_8d8c_8b8a_8988,
+    ),
+    // past the last address, where no page is, and an index that wraps
+    (
+        (0, 0, u64::MAX - 15, 0, 256, 255),
+        Err(u64::MAX - 15),
+        0,
+        0x8786_8584_8382_8180,
+    ),
+    (
+        (2, 2, u64::MAX - 1, 0, 128, 255),
+        Err(u64::MAX - 1),
+        0,
+        0x8786_8584_8382_8180,
+    ),
+    (
+        (3, 3, 0x28, u64::MAX, 128, 255),
+        Ok(()),
+        0x20,
+        0x0807_0605_0403_0201,
+    ),
+    ((3, 3, 0x28, u64::MAX, 128, 255), Ok(()), 0x30, 0),
+];
+
+fn stores() -> &'static [(Store, Result<(), u64>, u64, u64)] {
+    &STORES
+}
+
+// The result of ST1, or the address of its fault.
+fn write(pages: &mut Pages, write: Store, z: &ZReg) -> Option<Result<(), u64>> {
+    let (msz, size, base, index, bits, mask) = write;
+    let row = StoreRow::new(msz, size)?;
+    let vl = Vl::new(bits)?;
     let pg = PReg { bits: [mask; 32] };
-    store(pages, row, base, 0, vl(bits), &pg, z)
+    match store(pages, row, base, index, vl, &pg, z) {
+        Ok(()) => Some(Ok(())),
+        Err(fault) => Some(Err(fault.address)),
+    }
 }
 
 #[test]
-fn stores(rt: HostRuntime) -> Result<(), Fail> {
-    let mut pages = built(rt.alloc())?;
+fn what_is_stored(rt: HostRuntime) -> Result<(), Fail> {
     let mut z = ZReg { bytes: [0x33; 256] };
-    z.put(Width::S, 0, 0x0403_0201);
-    z.put(Width::S, 1, 0x0807_0605);
-    assert!(rt; write(&mut pages, 2, 2, 0xffe, 128, 255, &z) == Ok(()));
-    assert!(rt; pages.load(0xffe, 8) == Ok(0x0807_0605_0403_0201));
-    assert!(rt; write(&mut pages, 0, 2, 0x1ffc, 128, 255, &z) == Ok(()));
-    assert!(rt; pages.load(0x1ffc, 4) == Ok(0x3333_0501));
-    assert!(rt; write(&mut pages, 1, 3, 0x10, 128, 1, &z) == Ok(()));
-    assert!(rt; pages.load(0x10, 4) == Ok(0x3333_0201));
-    assert!(rt; write(&mut pages, 0, 0, 0x20, 2048, 0x02, &z) == Ok(()));
-    assert!(rt; pages.load(0x20, 8) == Ok(0x0200));
-    assert!(rt; pages.load(0x110, 8) == Ok(0x3300));
-    Ok(())
-}
-
-// An element that is not active is not tested, and a fault leaves the elements below it written.
-#[test]
-fn refused_stores(rt: HostRuntime) -> Result<(), Fail> {
-    let mut pages = built(rt.alloc())?;
-    let z = ZReg { bytes: [0x77; 256] };
-    assert!(rt; write(&mut pages, 0, 0, 0x1ff8, 128, 0x0f, &z) == Err(AccessFault::write(0x2000)));
-    assert!(rt; pages.load(0x1ff8, 8) == Ok(0x8f8e_8d8c_7777_7777));
-    assert!(rt; write(&mut pages, 0, 0, 0x1ff0, 2048, 0, &z) == Ok(()));
-    let row = StoreRow::new(0, 0).unwrap();
-    let mut pg = PReg { bits: [0; 32] };
-    pg.bits[0] = 0x81;
-    assert!(rt; store(&mut pages, row, 0x1ff8, 0, vl(2048), &pg, &z) == Ok(()));
-    assert!(rt; pages.load(0x1ff8, 8) == Ok(0x778e_8d8c_7777_7777));
-    assert!(rt; write(&mut pages, 3, 3, 0x1ffc, 128, 255, &z) == Err(AccessFault::write(0x2000)));
-    assert!(rt; pages.load(0x1ff8, 8) == Ok(0x778e_8d8c_7777_7777));
-    Ok(())
-}
-
-// Element 16 goes to address 0, and those before it to the top of the address space, where no page
-// is. An element across the top faults at its first byte, and an index may wrap.
-#[test]
-fn stores_past_the_last_address(rt: HostRuntime) -> Result<(), Fail> {
-    let mut pages = built(rt.alloc())?;
-    let z = ZReg { bytes: [0x77; 256] };
-    let row = StoreRow::new(0, 0).unwrap();
-    let mut pg = PReg { bits: [255; 32] };
-    let base = u64::MAX - 15;
-    assert!(rt; store(&mut pages, row, base, 0, vl(256), &pg, &z) == Err(AccessFault::write(base)));
-    assert!(rt; pages.load(0, 8) == Ok(0x8786_8584_8382_8180));
-    pg.bits[0] = 0;
-    pg.bits[1] = 0;
-    assert!(rt; store(&mut pages, row, base, 0, vl(256), &pg, &z) == Ok(()));
-    assert!(rt; pages.load(0, 8) == Ok(0x7777_7777_7777_7777));
-    assert!(rt; pages.load(8, 8) == Ok(0x7777_7777_7777_7777));
-    assert!(rt; pages.load(16, 8) == Ok(0));
-    let top = u64::MAX - 1;
-    assert!(rt; write(&mut pages, 2, 2, top, 128, 255, &z) == Err(AccessFault::write(top)));
-    let row = StoreRow::new(3, 3).unwrap();
-    pg.bits[0] = 255;
-    assert!(rt; store(&mut pages, row, 0x28, u64::MAX, vl(128), &pg, &z) == Ok(()));
-    assert!(rt; pages.load(0x20, 8) == Ok(0x7777_7777_7777_7777));
-    assert!(rt; pages.load(0x28, 8) == Ok(0));
+    z.put(Width::D, 0, 0x0807_0605_0403_0201);
+    for (store, want, at, number) in stores() {
+        let mut pages = built(rt.alloc())?;
+        let (msz, _, base, ..) = *store;
+        let got = write(&mut pages, *store, &z);
+        assert!(rt; got == Some(*want), "size {msz} at {base}");
+        assert!(rt; pages.load(*at, 8) == Ok(*number), "size {msz} at {base}");
+    }
     Ok(())
 }

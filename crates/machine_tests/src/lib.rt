@@ -1,10 +1,6 @@
-//! Tests of the machine: memory, files, maps, lanes, and the machine itself. They stand in a crate of their own, so that the crates that they call are not proved again with them.
+//! Tests of the machine: memory, files, maps and lanes. They stand in a crate of their own, so that the crates that they call are not proved again with them.
 #![tactic(auto)]
 
-#[cfg(test)]
-mod a64_machine_calls;
-#[cfg(test)]
-mod dump_text_calls;
 #[cfg(test)]
 mod elf_image_calls;
 #[cfg(test)]
@@ -18,10 +14,4 @@ mod lane_preds_calls;
 #[cfg(test)]
 mod map_text_calls;
 #[cfg(test)]
-mod outcome_text_calls;
-#[cfg(test)]
 mod paged_memory_calls;
-#[cfg(test)]
-mod sve_debug_calls;
-#[cfg(test)]
-mod sve_machine_calls;

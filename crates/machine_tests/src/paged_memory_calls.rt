@@ -32,63 +32,52 @@ fn built(alloc: Global, from: u64, count: u64, perm: Perm) -> Result<Pages, Allo
 }
 
 #[test]
-fn numbers_cross_pages(rt: HostRuntime) -> Result<(), Fail> {
+fn loads_and_stores(rt: HostRuntime) -> Result<(), Fail> {
     let mut pages = built(rt.alloc(), 0x1000, 2, Perm::ReadWrite)?;
-    assert!(rt; pages.store(0x100_0ffc, 8, 0x1122_3344_5566_7788) == Ok(()));
-    assert!(rt; pages.load(0x100_0ffc, 8) == Ok(0x1122_3344_5566_7788));
-    assert!(rt; pages.load(0x100_0ffe, 4) == Ok(0x3344_5566));
-    assert!(rt; pages.byte(0x100_0fff) == Some(0x55));
-    assert!(rt; pages.byte(0x100_1000) == Some(0x44));
-    assert!(rt; pages.byte(0x100_2000) == None);
-    Ok(())
-}
-
-#[test]
-fn numbers_within_a_page(rt: HostRuntime) -> Result<(), Fail> {
-    let mut pages = built(rt.alloc(), 0x1000, 2, Perm::ReadWrite)?;
-    assert!(rt; pages.store(0x100_0010, 8, 0x1122_3344_5566_7788) == Ok(()));
-    assert!(rt; pages.store(0x100_0012, 2, 0xffff_abcd) == Ok(()));
-    assert!(rt; pages.load(0x100_0010, 8) == Ok(0x1122_3344_abcd_7788));
-    assert!(rt; pages.load(0x100_0013, 1) == Ok(0xab));
-    Ok(())
-}
-
-#[test]
-fn the_last_byte(rt: HostRuntime) -> Result<(), Fail> {
-    let mut pages = built(rt.alloc(), 0x1000, 2, Perm::ReadWrite)?;
-    assert!(rt; pages.load(0x100_1fff, 1) == Ok(0));
-    assert!(rt; pages.load(0x100_1fff, 2) == Err(AccessFault::read(0x100_2000)));
-    assert!(rt; pages.store(0x100_1ff9, 8, u64::MAX) == Err(AccessFault::write(0x100_2000)));
-    assert!(rt; pages.load(0x100_1ff8, 8) == Ok(0));
-    assert!(rt; pages.load(u64::MAX, 2) == Err(AccessFault::read(u64::MAX)));
-    Ok(())
-}
-
-#[test]
-fn permissions(rt: HostRuntime) -> Result<(), Fail> {
-    let mut pages = built(rt.alloc(), 0x1000, 1, Perm::Read)?;
-    assert!(rt; pages.load(0x100_0000, 4) == Ok(0xd503_201f));
-    assert!(rt; pages.store(0x100_0008, 4, 1) == Err(AccessFault::write(0x100_0008)));
-    assert!(rt; pages.store(0x40_0008, 4, 1) == Err(AccessFault::write(0x40_0008)));
+    for (address, number, want) in [
+        (0x100_0ffc, 0x1122_3344_5566_7788, Ok(())),
+        (0x100_0010, 0x1122_3344_5566_7788, Ok(())),
+        (0x100_0013, 0xabcd, Ok(())),
+        (0x100_1ff9, u64::MAX, Err(AccessFault::write(0x100_2000))),
+        (0x40_0008, 1, Err(AccessFault::write(0x40_0008))),
+    ] {
+        assert!(rt; pages.store(address, 8, number) == want, "{address:x}");
+    }
+    for (address, want) in [
+        (0x100_0ffc, Ok(0x5566_7788)),
+        (0x100_0ffe, Ok(0x3344_5566)),
+        (0x100_1000, Ok(0x1122_3344)),
+        (0x100_0010, Ok(0xcd66_7788)),
+        (0x100_0013, Ok(0xabcd)),
+        (0x100_1ffc, Ok(0)),
+        (0x100_1ffe, Err(AccessFault::read(0x100_2000))),
+        (u64::MAX, Err(AccessFault::read(u64::MAX))),
+    ] {
+        assert!(rt; pages.load(address, 4) == want, "{address:x}");
+    }
+    assert!(rt; pages.byte(0x100_0fff) == Some(0x55) && pages.byte(0x100_2000).is_none());
     Ok(())
 }
 
 #[test]
 fn fetches(rt: HostRuntime) -> Result<(), Fail> {
-    let pages = built(rt.alloc(), 0x1000, 1, Perm::ReadWrite)?;
-    assert!(rt; pages.fetch(0x40_0000) == Some(0xd503_201f));
-    assert!(rt; pages.fetch(0x40_0ffc) == Some(0));
-    assert!(rt; pages.fetch(0x40_0002) == None);
-    assert!(rt; pages.fetch(0x40_1000) == None);
-    assert!(rt; pages.fetch(0x100_0000) == None);
+    let pages = built(rt.alloc(), 0x1000, 1, Perm::Read)?;
+    for (address, want) in [
+        (0x40_0000, Some(0xd503_201f)),
+        (0x40_0ffc, Some(0)),
+        (0x40_0002, None),
+        (0x40_1000, None),
+        (0x100_0000, None),
+    ] {
+        assert!(rt; pages.fetch(address) == want, "{address:x}");
+    }
     Ok(())
 }
 
 #[test]
 fn most_pages(rt: HostRuntime) -> Result<(), Fail> {
     let pages = built(rt.alloc(), 0x1000, 16383, Perm::ReadWrite)?;
-    assert!(rt; pages.load(0x4ff_e000, 4) == Ok(0xd503_201f));
-    assert!(rt; pages.byte(0x4ff_f000) == None);
+    assert!(rt; pages.load(0x4ff_e000, 4) == Ok(0xd503_201f) && pages.byte(0x4ff_f000).is_none());
     Ok(())
 }
 
@@ -100,13 +89,16 @@ fn spans(rt: HostRuntime) -> Result<(), Fail> {
         part[0] = 0x11;
         part[1] = 0x22;
     }
-    assert!(rt; pages.load(0x100_0ffc, 8) == Ok(0xd503_201f_2211_0000));
     assert!(rt; pages.span(0x100_0ffe, 2) == Some(&[0x11, 0x22]));
-    assert!(rt; pages.span(0x100_0ffe, 3).is_none());
-    assert!(rt; pages.span(0x100_1ffc, 4).is_some());
-    assert!(rt; pages.span(0x100_2000, 1).is_none());
-    assert!(rt; pages.span(0x100_0000, 0).is_none());
-    assert!(rt; pages.span(0x40_0000, 4096).is_some());
+    for (address, len, some) in [
+        (0x100_0ffe, 3, false),
+        (0x100_1ffc, 4, true),
+        (0x100_2000, 1, false),
+        (0x100_0000, 0, false),
+        (0x40_0000, 4096, true),
+    ] {
+        assert!(rt; pages.span(address, len).is_some() == some, "{address:x}");
+    }
     assert!(rt; pages.span_mut(0x40_0000, 4).is_none());
     Ok(())
 }
