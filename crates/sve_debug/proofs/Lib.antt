@@ -2,3 +2,4 @@ mod Words
 mod PutTexts
 pub mod Runs
 mod Sessions
+mod Answered

@@ -1,5 +1,5 @@
 -- What the reader of lines gives.
-use Rattle.std.specs.Prelude.{◌+◌, ◌^◌, ◌≤◌, []}
+use Rattle.std.specs.Prelude.{◌+◌, ◌^◌, ◌≤◌}
 use Rattle.sve_debug.specs.declared.command.Command.{Command}
 use Rattle.sve_debug.specs.declared.command.Command.TheVariants.{Step, Go, Break, Show, Quit}
 use Rattle.sve_debug.specs.declared.command.Part.{Part}

@@ -1,11 +1,11 @@
 //! A session: the lines of an input, answered as they come.
 
-ghost use Rattle.std.specs.Prelude.{◌≡◌, ◌≢◌, ◌+◌, ◌*◌, ◌-◌, ◌^◌, ◌≤◌, ◌++◌, ◌∷◌, [], List, ℕ, drop, slice_get, not, Some, Err, IfOk, IfErr, IfSome, OnOk, IsErrOf};
+ghost use Rattle.std.specs.Prelude.{◌≡◌, ◌≢◌, ◌+◌, ◌*◌, ◌-◌, ◌^◌, ◌≤◌, ◌++◌, ◌∷◌, [], List, ℕ, drop, slice_get, not, Some, Err, IfOk, IfErr, IfSome, OnOk, OnErr, IsErrOf};
 ghost use Rattle.io_edges.specs.Files.{Rose};
 ghost use Rattle.machine_model.specs.Machine.{State};
 ghost use Rattle.sve_debug.specs.Held.{Stands};
 ghost use Rattle.sve_debug.specs.Replies.{Session, after_line, line_text, quits};
-ghost use Rattle.sve_debug.specs.Sessions.{Tells, session_text, turned, turn_text, pending, ends};
+ghost use Rattle.sve_debug.specs.Sessions.{Tells, session_text, turned, turn_text, pending, ends, AsItCame};
 
 use crate::debugger::Debugger;
 use io_edges::sink::{Failed, Sink};
@@ -31,6 +31,7 @@ const LIMIT: u64 = 1_048_576;
 fn next<I: Source>(input: &mut I) -> Result<Option<u8>, SessionFault>
     ensures byte { IfSome (I.left input.old) (λ bytes. IfOk result (λ byte. byte ≡ slice_get bytes 0)) }
     ensures left { IfSome (I.left input.old) (λ bytes. OnOk result (I.left input.new ≡ Some (drop 1 bytes))) }
+    ensures unread { IfSome (I.left input.old) (λ bytes. OnErr result (I.left input.new ≡ Some bytes)) }
     ensures later { I.faults input.old ≤ I.faults input.new }
     ensures input { IsErrOf result SessionFault.Input → Rose (I.faults input.old) (I.faults input.new) }
     ensures output { result ≢ Err SessionFault.Output }
@@ -133,6 +134,8 @@ fn answer_lines<D: Debuggee, I: Source, S: Sink>(
     requires empty { line.old.items ≡ [] }
     ensures told { (start : State) (d : Session) → Stands debugger.old start d →
         IfSome (I.left input.old) (λ bytes. Tells (S.taken out.old) (S.taken out.new) (session_text d bytes) result) }
+    ensures as_it_comes { (start : State) (d : Session) → Stands debugger.old start d → IsErrOf result SessionFault.Input →
+        IfSome (I.left input.old) (λ bytes. AsItCame d bytes (I.left input.new) (S.taken out.old) (S.taken out.new)) }
     ensures output { IsErrOf result SessionFault.Output → Rose (S.faults out.old) (S.faults out.new) }
     ensures input { IsErrOf result SessionFault.Input → Rose (I.faults input.old) (I.faults input.new) }
 {
@@ -159,6 +162,8 @@ pub fn session<D: Debuggee, I: Source, S: Sink>(
     requires { debugger.old.machine.steps ≡ 0 }
     ensures told { (start : State) (d : Session) → Stands debugger.old start d →
         IfSome (I.left input.old) (λ bytes. Tells (S.taken out.old) (S.taken out.new) (session_text d bytes) result) }
+    ensures as_it_comes { (start : State) (d : Session) → Stands debugger.old start d → IsErrOf result SessionFault.Input →
+        IfSome (I.left input.old) (λ bytes. AsItCame d bytes (I.left input.new) (S.taken out.old) (S.taken out.new)) }
     ensures output { IsErrOf result SessionFault.Output → Rose (S.faults out.old) (S.faults out.new) }
     ensures input { IsErrOf result SessionFault.Input → Rose (I.faults input.old) (I.faults input.new) }
 {
