@@ -1,21 +1,21 @@
 //! From instructions to words.
 ghost use Rattle.std.specs.Prelude.{◌≡◌, [], ◌∷◌};
-ghost use Rattle.word_rows.specs.Field.{rd};
+ghost use Rattle.word_rows.specs.Field.{rd, rn};
 ghost use Rattle.word_rows.specs.Row.{free, spells};
-ghost use Rattle.sve_code.specs.Table.{row, where_listed, shift_from_8, only_from, pd, pn, pg4, pm, zd, zn, zm, size, imm3, tszl, tszh, zdn, zm_low, pg};
-ghost use Rattle.sve_code.specs.View.{instruction_view, pred_logic_name, break_form_name, count_name, add_sub_name, logic_name, shift_imm_name, merging_name, unary_name, extend_byte_name, extend_half_name, extend_word_name, reduce_name, compare_name};
+ghost use Rattle.sve_code.specs.Table.{row, where_listed, shift_from_8, only_from, pd, pn, pg4, pm, zd, zn, zm, size, imm3, tszl, tszh, zdn, zm_low, pg, zt};
+ghost use Rattle.sve_code.specs.View.{instruction_view, pred_logic_name, break_form_name, count_name, add_sub_name, logic_name, shift_imm_name, merging_name, unary_name, extend_byte_name, extend_half_name, extend_word_name, reduce_name, compare_name, load_gather_name};
 
 use crate::bases::{
     ANDV, ASR_IMM, BRKA, BRKB, CMPEQ, CMPGE, CMPGT, CMPHI, CMPHS, CMPNE, CNTB, CNTD, CNTH, CNTP,
-    CNTW, DUP, EORV, INCP, INDEX_ROW, LD1, LDFF1, LDNF1, LSL_IMM, LSR_IMM, M_ABS, M_ADD, M_AND,
-    M_EOR, M_MUL, M_NEG, M_NOT, M_ORR, M_SMAX, M_SMIN, M_SUB, M_UMAX, M_UMIN, ORV, P_AND, P_ANDS,
-    P_BIC, P_EOR, P_ORR, PFALSE, PTEST, PTRUE, RDFFR, RDFFR_Z, SEL, SETFFR, SMAXV, SMINV, ST1,
-    SXTB, SXTH, SXTW, UADDV, UMAXV, UMINV, UXTB, UXTH, UXTW, WHILELO, WRFFR, Z_ADD, Z_AND, Z_BIC,
-    Z_EOR, Z_ORR, Z_SUB,
+    CNTW, DUP, EORV, GLD1B, GLD1D, GLD1H, GLD1SB, GLD1SH, GLD1SW, GLD1W, INCP, INDEX_ROW, LD1,
+    LDFF1, LDNF1, LSL_IMM, LSR_IMM, M_ABS, M_ADD, M_AND, M_EOR, M_MUL, M_NEG, M_NOT, M_ORR, M_SMAX,
+    M_SMIN, M_SUB, M_UMAX, M_UMIN, ORV, P_AND, P_ANDS, P_BIC, P_EOR, P_ORR, PFALSE, PTEST, PTRUE,
+    RDFFR, RDFFR_Z, SEL, SETFFR, SMAXV, SMINV, ST1, SXTB, SXTH, SXTW, UADDV, UMAXV, UMINV, UXTB,
+    UXTH, UXTW, WHILELO, WRFFR, Z_ADD, Z_AND, Z_BIC, Z_EOR, Z_ORR, Z_SUB,
 };
 use crate::{
-    AddSubOp, BinaryPredicatedOp, BitwiseOp, BreakOp, ElementCountOp, ExtendOp, PredicateLogicalOp,
-    ReductionOp, ShiftImmediateOp, Sve, UnaryPredicatedOp, VectorCompareOp,
+    AddSubOp, BinaryPredicatedOp, BitwiseOp, BreakOp, ElementCountOp, ExtendOp, GatherOp,
+    PredicateLogicalOp, ReductionOp, ShiftImmediateOp, Sve, UnaryPredicatedOp, VectorCompareOp,
 };
 use word_rows::shifted;
 
@@ -152,6 +152,11 @@ pub fn encode(word: Sve) -> u32
             | rn.put(5)
             | pg.put(10)
             | shifted(dtype as u32, 21, 4),
+        Sve::GatherLoad { op, zt, rn, pg, zm } => op.base()
+            | zt.put(0)
+            | rn.put(5)
+            | pg.put(10)
+            | zm.put(16),
         Sve::ContiguousStore {
             zt,
             rn,
@@ -332,6 +337,22 @@ impl VectorCompareOp {
             VectorCompareOp::Gt => CMPGT,
             VectorCompareOp::Eq => CMPEQ,
             VectorCompareOp::Ne => CMPNE,
+        }
+    }
+}
+
+impl GatherOp {
+    fn base(self) -> u32
+        ensures { row (load_gather_name self) ≡ free result (zt ∷ rn ∷ pg ∷ zm ∷ []) }
+    {
+        match self {
+            GatherOp::Ld1b => GLD1B,
+            GatherOp::Ld1h => GLD1H,
+            GatherOp::Ld1w => GLD1W,
+            GatherOp::Ld1d => GLD1D,
+            GatherOp::Ld1sb => GLD1SB,
+            GatherOp::Ld1sh => GLD1SH,
+            GatherOp::Ld1sw => GLD1SW,
         }
     }
 }
