@@ -5,7 +5,9 @@ ghost use Rattle.std.specs.List.{list_any};
 ghost use Rattle.kernel_tree.specs.Plain.{parameters_of, parameter_of, accumulators_of, accumulator_of, program_of};
 ghost use Rattle.kernel_tree.specs.Checked.{kernel_of};
 ghost use Rattle.kernel_tree.specs.Items.{loop_index};
+ghost use Rattle.reg_assign.specs.declared.interval.RegClass.TheVariants.{Z};
 ghost use Rattle.loop_form.specs.HeldView.{view_of, view};
+ghost use Rattle.loop_form.specs.Entries.{loop_entries};
 ghost use Rattle.loop_form.specs.Listing.{names};
 ghost use Rattle.loop_form.specs.Needs.{is_scalar, is_named_scalar, scalars, same_type, is_literal, is_constant, new_constant, constants, index_held, updates, is_updated, accumulating_of, throughout};
 ghost use Rattle.loop_form.specs.View.{program, content_of, entry_of, entries_view};
@@ -211,6 +213,40 @@ fn push_vars<'a>(held: &mut Vec<Held<'a>>, vars: &'a [Var]) -> Result<(), AllocE
     Ok(())
 }
 
+// By the items of the loop, the scalar parameters that are named, each literal of a type, the loop variable where it is
+// named, and the accumulators that are updated.
+#[tactic(auto, unfolding(crate::specs::View::program))]
+fn push_of_loop<'a>(
+    kernel: &'a Checked,
+    held: &mut Vec<Held<'a>>,
+    entries: &[Entry<'_>],
+) -> Result<(), AllocError>
+    requires { entries_view entries.now ≡ loop_entries (program kernel.now) }
+    ensures { OnOk result (view held.new.items ≡ view held.old.items ++ throughout (program kernel.now) Z) }
+{
+    let tree = kernel.kernel();
+    push_scalars(held, entries, &tree.params)?;
+    push_constants(held, entries)?;
+    push_index(kernel, held, entries)?;
+    push_updated(held, entries, &tree.vars)
+}
+
+// What is held in the registers of a class.
+#[tactic(auto, unfolding(crate::specs::View::program))]
+fn push_of_class<'a>(
+    kernel: &'a Checked,
+    held: &mut Vec<Held<'a>>,
+    class: RegClass,
+) -> Result<(), AllocError>
+    ensures { OnOk result (view held.new.items ≡ view held.old.items ++ throughout (program kernel.now) class) }
+{
+    match class {
+        RegClass::Z => push_of_loop(kernel, held, &loop_entries(kernel)),
+        RegClass::P => Ok(()),
+        RegClass::X => push_vars(held, &kernel.kernel().vars),
+    }
+}
+
 /// What is held in the registers of a class throughout, in the order of its intervals, of which these are the first: in
 /// X registers all accumulators, and in Z registers, by the items of the loop alone, the scalar parameters that are
 /// named, each literal of a type, the loop variable where it is named, and the accumulators that are updated.
@@ -223,17 +259,6 @@ pub fn throughout(
     ensures { IfOk result (λ held. view held.items ≡ throughout (program_of (kernel_of kernel.now)) class) }
 {
     let mut held = Vec::new(alloc);
-    let tree = kernel.kernel();
-    match class {
-        RegClass::Z => {
-            let entries = loop_entries(kernel);
-            push_scalars(&mut held, &entries, &tree.params)?;
-            push_constants(&mut held, &entries)?;
-            push_index(kernel, &mut held, &entries)?;
-            push_updated(&mut held, &entries, &tree.vars)?;
-        }
-        RegClass::P => {}
-        RegClass::X => push_vars(&mut held, &tree.vars)?,
-    }
+    push_of_class(kernel, &mut held, class)?;
     Ok(held)
 }
