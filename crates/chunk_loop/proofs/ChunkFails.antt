@@ -53,7 +53,7 @@ fail_is_fault g i k cur sum t left is between chunk on e = by (iterations (var_s
       faulted = m;
       fails = f;
       from = h.0;
-      last_use = h.1;
+      until = h.1;
       kept = λ z low away.
           let stays = same.stays t chunk.fresh z low away in
           sym (ap (λ o. byte_at (memory_of o) z) e) ∙ stays.0 ∙ sym stays.1 ∙ ap (λ r. byte_at (run.memory_of r) z) f;

@@ -59,5 +59,5 @@ module _
     rest_pass is all (does_fine end goes holds) = fine_pass end is (as_leads goes) holds
     rest_pass is all (does_fail {m = left} kind access stopped) =
         let failing : Failing g i k cur t.memory left = fails g i k cur sum t left ground h.between chunk all is in
-        stops k failing.j left failing.faulted kind few (ap (λ memory. iterations (var_scope g.kernel) g.turns k i memory cur) (sym now) ∙ failing.fails) failing.from failing.last_use access failing.kept
+        stops k failing.j left failing.faulted kind few (ap (λ memory. iterations (var_scope g.kernel) g.turns k i memory cur) (sym now) ∙ failing.fails) failing.from failing.until access failing.kept
         (stop_following most (omega (arith, le)) before stopped)

@@ -60,7 +60,7 @@ pub record Failing (g : Ground) (i k : ℕ) (cur : Names) (m left : Memory) : Ty
   pub faulted : Memory
   pub fails : iterations (var_scope g.kernel) g.turns k i m cur ≡ Failed faulted j
   pub from : i ≤ j
-  pub last_use : j < i + k
+  pub until : j < i + k
   pub kept : (z : ℕ) → z < 2 ^ 64 → Elsewhere g.kernel g.args i k z → byte_at left z ≡ byte_at faulted z
 
 -- every lane goes on after the break region
