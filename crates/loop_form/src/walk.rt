@@ -406,16 +406,11 @@ pub fn list_vars<'a>(kernel: &Checked, entries: &mut Entries<'a>, from: u32, var
     ensures len { array_vec_len entries.new ≡ array_vec_len entries.old + vars_size (loop_index (program kernel.now))
         (accumulators_of vars.now) }
 {
-    let mut next = from;
-    for var in vars {
-        let size = expr_size(kernel, &var.init) + 1;
-        list_ended(
-            kernel,
-            entries,
-            next,
-            &var.init,
-            Content::Plain(ItemKind::Var),
-        );
-        next += size;
-    }
+    let [var, rest @ ..] = vars else {
+        return;
+    };
+    let next = from + expr_size(kernel, &var.init) + 1;
+    let content = Content::Plain(ItemKind::Var);
+    list_ended(kernel, entries, from, &var.init, content);
+    list_vars(kernel, entries, next, rest);
 }

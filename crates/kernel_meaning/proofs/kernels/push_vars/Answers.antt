@@ -7,7 +7,7 @@ use Rattle.kernel_meaning.specs.Trees.{Set, tasks_of, followed}
 use Rattle.kernel_meaning.specs.declared.step.Step.TheVariants as step
 use Rattle.kernel_meaning.specs.Plans as plans
 use Rattle.kernel_meaning.proofs.ListWalks.{next_item, vars_go_on, followed-done}
-use Rattle.kernel_meaning.proofs.kernels.resolve_vars.Goals as goal
+use Rattle.kernel_meaning.proofs.kernels.push_vars.Goals as goal
 
 pub loop-var-preserved : goal.loop-var-preserved
 loop-var-preserved c =
