@@ -4,7 +4,7 @@ use sve_code::encode;
 use sve_decode::*;
 
 /// Reserved numbers, neighbours that are in no row, and an A64 word.
-static UNLISTED: [u32; 26] = [
+static UNLISTED: [u32; 30] = [
     0x2518_e3c1, // ptrue p1.b, mul3
     0x0420_e3c0, // cntb x0, mul3
     0x0421_e3e0, // cntb x0, all, mul #2
@@ -28,7 +28,11 @@ static UNLISTED: [u32; 26] = [
     0x0520_3c20, // unallocated
     0xa400_a000, // ld1b {z0.b}, p0/z, [x0]
     0xe400_e000, // st1b {z0.b}, p0, [x0]
-    0xc440_c000, // ld1b {z0.d}, p0/z, [x0, z0.d]
+    0xc440_e000, // ldff1b {z0.d}, p0/z, [x0, z0.d]
+    0xc4e0_c000, // ld1h {z0.d}, p0/z, [x0, z0.d, lsl #1]
+    0xc400_4000, // ld1b {z0.d}, p0/z, [x0, z0.d, uxtw]
+    0xc420_c000, // ld1b {z0.d}, p0/z, [z0.d]
+    0xc5c0_8000, // unallocated
     0x9100_0400, // add x0, x0, #1
     0x0000_0000, // udf #0
 ];
