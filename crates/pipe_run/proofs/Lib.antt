@@ -1,1 +1,4 @@
 pub mod Commons
+pub mod Entries
+pub mod Arguments
+pub mod Names

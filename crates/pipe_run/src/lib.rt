@@ -1,8 +1,13 @@
-//! Runs over the pages of one map: whether the map fits beside an image.
+//! Runs over the pages of one map: the lines of a script, and whether the map fits beside an image.
 #![tactic(auto)]
 
 pub mod fault;
 mod fit;
+pub mod pipe_line;
+mod script;
+mod script_line;
 
 pub use fault::PipeFault;
 pub use fit::fits;
+pub use pipe_line::PipeLine;
+pub use script::read_script;
