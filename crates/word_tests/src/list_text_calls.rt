@@ -1,6 +1,7 @@
 //! The texts of words.
 use crate::listed_words::{A64_WORDS, SVE_WORDS};
 use list_text::*;
+use std::process::Abort;
 
 /// Words of no row.
 static OTHERS: &str = "\
@@ -12,13 +13,13 @@ ffffffff .word 0xffffffff
 d503203f .word 0xd503203f
 ";
 
-fn has_texts(rt: HostRuntime, lines: &str) {
+fn has_texts(rt: &impl Abort, lines: &str) {
     let mut into = LineBuf::new();
     for line in lines.lines() {
         let Some((digits, text)) = line.split_once(' ') else {
             panic!(rt; "no word in {line}");
         };
-        let word = u32::from_str_radix(digits, 16).expect(&rt, "a word");
+        let word = u32::from_str_radix(digits, 16).expect(rt, "a word");
         word_text(word, &mut into);
         assert_eq!(rt; into.as_str(), text);
     }
@@ -26,17 +27,17 @@ fn has_texts(rt: HostRuntime, lines: &str) {
 
 #[test]
 fn writes_texts_of_a64_words(rt: HostRuntime) {
-    has_texts(rt, A64_WORDS);
+    has_texts(&rt, A64_WORDS);
 }
 
 #[test]
 fn writes_texts_of_sve_words(rt: HostRuntime) {
-    has_texts(rt, SVE_WORDS);
+    has_texts(&rt, SVE_WORDS);
 }
 
 #[test]
 fn writes_other_words_as_numbers(rt: HostRuntime) {
-    has_texts(rt, OTHERS);
+    has_texts(&rt, OTHERS);
 }
 
 #[test]
