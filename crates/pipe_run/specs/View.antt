@@ -1,9 +1,12 @@
 -- What contracts see of scripts and of their lines.
-use Rattle.std.specs.Prelude.{◌≡◌, ◌<◌, ◌+◌, ℕ, List, length, map, true, Option, Some, None, Result, Err, string_bytes}
+use Rattle.std.specs.Prelude.{◌≡◌, ◌<◌, ◌+◌, ℕ, List, length, map, true, Option, Some, None, Result, Err, string_bytes, slice_set, slice_index}
 use Rattle.std.specs.Borrow.{Bor}
-use Rattle.guest_types.specs.Memory.{Memory, DoNotMeet}
+use Rattle.guest_types.specs.Memory.{Memory, Page, DoNotMeet}
+use Rattle.machine_model.specs.Answers.{outcome_of}
+use Rattle.machine_model.specs.Run.{Outcome, memory_left}
 use Rattle.pipe_run.specs.declared.fault.PipeFault.{PipeFault}
 use Rattle.pipe_run.specs.declared.fault.PipeFault.TheVariants.{TooLong, BadLine, Clash, TooManyPages, Memory as OutOfMemory}
+use Rattle.pipe_run.specs.declared.line.LineOutcome.{LineOutcome}
 use Rattle.pipe_run.specs.declared.pipe_line.PipeLine.{PipeLine}
 use Rattle.pipe_run.specs.declared.pipe_line.Said.{Said}
 use Rattle.pipe_run.specs.declared.pipe_line.Said.TheVariants as said
@@ -40,3 +43,12 @@ Misfits image pages line (BadLine at) = ⊥
 Misfits image pages line (Clash at) = (at ≡ line) × (have_common image pages ≡ true)
 Misfits image pages line (TooManyPages at) = (at ≡ line) × DoNotMeet image pages × (16384 < length image + length pages)
 Misfits image pages line OutOfMemory = ⊥
+
+-- what came of a line, with the memory that it left
+abbrev pub IsOutcomeOf : LineOutcome → Outcome → Type 0
+IsOutcomeOf line outcome = outcome ≡ outcome_of line.outcome (memory_left outcome) line.pc line.steps
+
+-- the bytes of a page with the one at this place that another has, if there is one
+abbrev pub byte_taken : Option Page → ℕ → List ℕ → List ℕ
+byte_taken None at bytes = bytes
+byte_taken (Some found) at bytes = slice_set bytes at (slice_index found.bytes at)
