@@ -1,6 +1,6 @@
 //! The pages of a guest.
 
-ghost use Rattle.std.specs.Prelude.{◌≡◌, ℕ, ◌+◌, ◌^◌, ◌<◌, ◌≤◌, length, Ok, Err, OnOk, OnErr, IfOk, IfErr, All};
+ghost use Rattle.std.specs.Prelude.{◌≡◌, ℕ, ◌+◌, ◌^◌, ◌<◌, ◌≤◌, [], length, Ok, Err, OnOk, OnErr, IfOk, IfErr, All};
 ghost use Rattle.guest_types.specs.Spans.{in_one_page, has_span, has_span_mut, span_of};
 ghost use Rattle.guest_types.specs.Memory.{IsMemory, byte_at, byte_or_zero, can_read, can_write, first_fault, loaded, stored, number_at, put_byte, put_number, fetched, merged, DoNotMeet};
 
@@ -337,6 +337,8 @@ impl Pages {
 
 impl GuestMemory for Pages {
     ghost memory = { λ memory. memory };
+
+    ghost past = { λ memory. [] };
 
     #[inline(always)]
     fn load(&self, address: u64, size: u32) -> Result<u64, AccessFault> {
