@@ -7,6 +7,7 @@ use guest_types::memory::{AccessFault, Perm};
 use guest_types::predicate::PReg;
 use guest_types::register::ZReg;
 use guest_types::row::{LoadMode, LoadRow, StoreRow};
+use lane_memory::gather::gather;
 use lane_memory::load::load;
 use lane_memory::store::store;
 use lane_memory::suppress::Suppress;
@@ -141,6 +142,58 @@ fn what_is_loaded(rt: HostRuntime) -> Result<(), Fail> {
         let (dtype, base, ..) = *load;
         let got = read(&pages, *load, *width, *e);
         assert!(rt; got == Some(*want), "row {dtype} at {base}, element {e}");
+    }
+    Ok(())
+}
+
+// The base of a gather of signed bytes, its two offsets, and a byte that the mask repeats.
+type Gather = (u64, u64, u64, u8);
+
+// A gather, an element, and what it is then, or the address of the fault.
+static GATHERS: [(Gather, usize, Result<u64, u64>); 5] = [
+    (
+        (0x1ff0, 0x0f, 0xffff_ffff_ffff_e011, 255),
+        0,
+        Ok(0xffff_ffff_ffff_ff8f),
+    ),
+    (
+        (0x1ff0, 0x0f, 0xffff_ffff_ffff_e011, 255),
+        1,
+        Ok(0xffff_ffff_ffff_ff81),
+    ),
+    ((0x1ff0, 0, 0x2000, 0xfe), 0, Ok(0)),
+    ((0x1ff0, 0, 0x2000, 0xfe), 1, Ok(0)),
+    ((0x1ff0, 0, 0x2000, 1), 1, Err(0x3ff0)),
+];
+
+fn gathers() -> &'static [(Gather, usize, Result<u64, u64>)] {
+    &GATHERS
+}
+
+// What a gather gives of an element, or the address of its fault.
+fn gathered(pages: &Pages, from: Gather, e: usize) -> Option<Result<u64, u64>> {
+    let (base, first, second, mask) = from;
+    let vl = Vl::new(128)?;
+    let mut offsets = ZReg::zero();
+    offsets.put(Width::D, 0, first);
+    offsets.put(Width::D, 1, second);
+    let pg = PReg { bits: [mask; 32] };
+    if e >= 2 {
+        return None;
+    }
+    match gather(pages, LoadRow { dtype: 12 }, base, &offsets, vl, &pg) {
+        Ok(z) => Some(Ok(z.element(Width::D, e))),
+        Err(fault) => Some(Err(fault.address)),
+    }
+}
+
+#[test]
+fn what_is_gathered(rt: HostRuntime) -> Result<(), Fail> {
+    let pages = built(rt.alloc())?;
+    for (from, e, want) in gathers() {
+        let (base, ..) = *from;
+        let got = gathered(&pages, *from, *e);
+        assert!(rt; got == Some(*want), "gather from {base}, element {e}");
     }
     Ok(())
 }

@@ -30,7 +30,7 @@ pub type PredicateReg = Bits<4>;
 pub type GoverningReg = Bits<3>;
 
 /// AND, BIC, EOR, ORR and ANDS on predicates, with zeroing ("AND (predicates)" and its like).
-#[derive(Clone, Copy, Debug, PartialEq, Eq)]
+#[derive(Clone, Copy)]
 pub enum PredicateLogicalOp {
     And,
     Bic,
@@ -40,14 +40,14 @@ pub enum PredicateLogicalOp {
 }
 
 /// BRKA and BRKB, with zeroing.
-#[derive(Clone, Copy, Debug, PartialEq, Eq)]
+#[derive(Clone, Copy)]
 pub enum BreakOp {
     Brka,
     Brkb,
 }
 
 /// CNTB, CNTH, CNTW and CNTD, with pattern ALL and a multiplier of 1.
-#[derive(Clone, Copy, Debug, PartialEq, Eq)]
+#[derive(Clone, Copy)]
 pub enum ElementCountOp {
     Cntb,
     Cnth,
@@ -56,14 +56,14 @@ pub enum ElementCountOp {
 }
 
 /// ADD and SUB of whole vectors ("ADD (vectors, unpredicated)" and its like).
-#[derive(Clone, Copy, Debug, PartialEq, Eq)]
+#[derive(Clone, Copy)]
 pub enum AddSubOp {
     Add,
     Sub,
 }
 
 /// AND, ORR, EOR and BIC of whole vectors ("AND (vectors, unpredicated)" and its like).
-#[derive(Clone, Copy, Debug, PartialEq, Eq)]
+#[derive(Clone, Copy)]
 pub enum BitwiseOp {
     And,
     Orr,
@@ -72,7 +72,7 @@ pub enum BitwiseOp {
 }
 
 /// LSL, LSR and ASR by a constant ("LSL (immediate, unpredicated)" and its like).
-#[derive(Clone, Copy, Debug, PartialEq, Eq)]
+#[derive(Clone, Copy)]
 pub enum ShiftImmediateOp {
     Lsl,
     Lsr,
@@ -81,7 +81,7 @@ pub enum ShiftImmediateOp {
 
 /// Operations on the active elements of two vectors, the first of which they change ("ADD (vectors,
 /// predicated)" and its like).
-#[derive(Clone, Copy, Debug, PartialEq, Eq)]
+#[derive(Clone, Copy)]
 pub enum BinaryPredicatedOp {
     Add,
     Sub,
@@ -96,7 +96,7 @@ pub enum BinaryPredicatedOp {
 }
 
 /// ABS, NEG and NOT of the active elements of a vector.
-#[derive(Clone, Copy, Debug, PartialEq, Eq)]
+#[derive(Clone, Copy)]
 pub enum UnaryPredicatedOp {
     Abs,
     Neg,
@@ -104,14 +104,14 @@ pub enum UnaryPredicatedOp {
 }
 
 /// Whether elements are sign-extended (SXTB, SXTH, SXTW) or zero-extended (UXTB, UXTH, UXTW).
-#[derive(Clone, Copy, Debug, PartialEq, Eq)]
+#[derive(Clone, Copy)]
 pub enum ExtendOp {
     Signed,
     Unsigned,
 }
 
 /// Reductions of the active elements to one scalar in a vector register.
-#[derive(Clone, Copy, Debug, PartialEq, Eq)]
+#[derive(Clone, Copy)]
 pub enum ReductionOp {
     Uaddv,
     Smaxv,
@@ -124,7 +124,7 @@ pub enum ReductionOp {
 }
 
 /// The conditions of "CMP<cc> (vectors)": HS and HI unsigned, GE and GT signed.
-#[derive(Clone, Copy, Debug, PartialEq, Eq)]
+#[derive(Clone, Copy)]
 pub enum VectorCompareOp {
     Hs,
     Hi,
@@ -134,8 +134,21 @@ pub enum VectorCompareOp {
     Ne,
 }
 
+/// Loads of doublewords from a base and the offsets in a vector ("LD1B (scalar plus vector)" and its like): the element
+/// in memory, and whether its sign is extended.
+#[derive(Clone, Copy)]
+pub enum GatherOp {
+    Ld1b,
+    Ld1h,
+    Ld1w,
+    Ld1d,
+    Ld1sb,
+    Ld1sh,
+    Ld1sw,
+}
+
 /// An SVE instruction. Each value has a word, and is the only one that has it.
-#[derive(Clone, Copy, Debug, PartialEq, Eq)]
+#[derive(Clone, Copy)]
 pub enum Sve {
     /// "PTRUE", with pattern ALL.
     Ptrue {
@@ -331,6 +344,14 @@ pub enum Sve {
         rn: Reg,
         pg: GoverningReg,
         dtype: Dtype,
+    },
+    /// "LD1B (scalar plus vector)" and its like, with unscaled offsets of 64 bits. Rn 31 is SP.
+    GatherLoad {
+        op: GatherOp,
+        zt: VectorReg,
+        rn: Reg,
+        pg: GoverningReg,
+        zm: VectorReg,
     },
     /// "ST1B (scalar plus scalar)" and its like. Rn 31 is SP.
     ContiguousStore {

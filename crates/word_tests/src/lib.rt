@@ -8,6 +8,8 @@ mod label_fix_calls;
 #[cfg(test)]
 mod list_text_calls;
 #[cfg(test)]
+mod listed_words;
+#[cfg(test)]
 mod sve_code_calls;
 #[cfg(test)]
 mod sve_decode_calls;
