@@ -10,6 +10,7 @@ mod full;
 pub mod gather;
 mod keep;
 pub mod load;
+mod part;
 mod range;
 mod reading;
 mod refusal;

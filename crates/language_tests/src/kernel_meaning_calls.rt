@@ -19,6 +19,8 @@ struct Unmapped {
 impl GuestMemory for Unmapped {
     ghost memory = { λ memory. [] };
 
+    ghost past = { λ memory. [] };
+
     fn load(&self, address: u64, size: u32) -> Result<u64, AccessFault> {
         let write = size == 0;
         Err(AccessFault { address, write })
