@@ -8,7 +8,8 @@ use Rattle.std.proofs.lemmas.List.Elements.{All-drop, All-push}
 use Rattle.std.proofs.lemmas.List.Folds.{length-prefix_len}
 use Rattle.std.proofs.lemmas.List.Sums.{prefix_len_passes}
 use Rattle.machine_model.specs.Debugged.{Past}
-use Rattle.debug_history.specs.Kept.{counts_of, is_kept, kept_more, counted, noted, is_reached, up_to}
+use Rattle.guest_types.specs.Kept.{kept_more}
+use Rattle.debug_history.specs.Kept.{counts_of, is_kept, counted, noted, is_reached, up_to}
 
 abbrev steps_of : Past → ℕ
 steps_of v = v.steps

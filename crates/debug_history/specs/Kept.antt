@@ -1,14 +1,12 @@
 -- The counts of steps that are kept, and what the machine was after each of them.
-use Rattle.std.specs.Prelude.{◌≡◌, ℕ, ◌+◌, ◌-◌, ◌%◌, ◌≤◌, ◌&&◌, Bool, List, [], ◌∷◌, ◌++◌, map, length, take, drop, nat_eq, nat_lt, nat_le, slice_index, slice_index_or, if◌then◌else◌}
+use Rattle.std.specs.Prelude.{◌≡◌, ℕ, ◌-◌, ◌%◌, ◌≤◌, ◌&&◌, Bool, List, map, length, take, nat_eq, nat_lt, nat_le, slice_index, slice_index_or, if◌then◌else◌}
 use Rattle.std.specs.List.{prefix_len}
+use Rattle.guest_types.specs.Kept.{kept_more}
 use Rattle.machine_model.specs.Debugged.{Past}
 
--- the steps from one count that is kept to the next, and how many counts are kept at most
+-- the steps from one count that is kept to the next
 abbrev pub gap : ℕ
 gap = 10000
-
-abbrev pub most_kept : ℕ
-most_kept = 8
 
 -- the counts of what is kept, in order
 abbrev pub counts_of : List Past → List ℕ
@@ -23,10 +21,6 @@ last_of counts = slice_index counts (length counts - 1)
 -- a count is kept where it is a multiple of the gap, and greater than the last one
 abbrev pub is_kept : (steps : ℕ) → (counts : List ℕ) → Bool
 is_kept steps counts = nat_eq (steps % gap) 0 && nat_lt (last_of counts) steps
-
--- one more, of which the last eight stay
-abbrev pub kept_more : {X : Type 0} → X → List X → List X
-kept_more x xs = drop (length xs + 1 - most_kept) (xs ++ x ∷ [])
 
 -- the counts after so many steps
 abbrev pub counted : (steps : ℕ) → (counts : List ℕ) → List ℕ

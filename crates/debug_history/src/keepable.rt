@@ -2,7 +2,7 @@
 
 ghost use Rattle.std.specs.Prelude.{◌≡◌, ◌+◌, ◌<◌, ◌≤◌, [], ◌∷◌, take, length, slice_index_or, OnOk, OnErr};
 ghost use Rattle.machine_model.specs.Debugged.{Past, now};
-ghost use Rattle.debug_history.specs.Kept.{kept_more};
+ghost use Rattle.guest_types.specs.Kept.{kept_more};
 
 use machine_model::debuggee::Debuggee;
 use std::alloc::{AllocError, Global};
