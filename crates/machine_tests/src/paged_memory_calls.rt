@@ -83,6 +83,7 @@ fn most_pages(rt: HostRuntime) -> Result<(), Fail> {
 }
 
 // What writes these bytes.
+#[derive(Clone, Copy)]
 struct Bytes<'a>(&'a [u8]);
 
 impl SpanWriter for Bytes<'_> {
