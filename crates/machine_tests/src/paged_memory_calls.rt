@@ -1,12 +1,13 @@
 //! Pages that are laid out by hand, and what they answer.
 
-ghost use Rattle.std.specs.Prelude.{◌+◌, ◌≤◌, ◌<◌, ◌^◌};
+ghost use Rattle.std.specs.Prelude.{◌≡◌, ◌+◌, ◌≤◌, ◌<◌, ◌^◌, length};
 
 use guest_types::guest::GuestMemory;
 use guest_types::image::{Image, PageMap};
 use guest_types::memory::{AccessFault, Perm};
 use paged_memory::pages::Pages;
 use paged_memory::run::run;
+use paged_memory::span_writer::SpanWriter;
 use std::alloc::{AllocError, Global};
 use std::test::Fail;
 
@@ -81,15 +82,38 @@ fn most_pages(rt: HostRuntime) -> Result<(), Fail> {
     Ok(())
 }
 
+// What writes these bytes.
+#[derive(Clone, Copy)]
+struct Bytes<'a>(&'a [u8]);
+
+impl SpanWriter for Bytes<'_> {
+    ghost can = { λ bytes len. len ≡ length bytes.0.now };
+
+    ghost writes = { λ bytes old new. new ≡ bytes.0.now };
+
+    fn write(&self, part: &mut [u8]) {
+        part.copy_from_slice(self.0);
+    }
+}
+
+// Writes four bytes, where all of them may be written.
+fn put(pages: &mut Pages, address: u64, bytes: &[u8]) -> bool
+    requires { length bytes.now ≡ 4 }
+{
+    match pages.place_mut(address, 4) {
+        Some(place) => {
+            pages.write_span(address, 4, place, &Bytes(bytes));
+            true
+        }
+        None => false,
+    }
+}
+
 #[test]
 fn spans(rt: HostRuntime) -> Result<(), Fail> {
     let mut pages = built(rt.alloc(), 0x1000, 2, Perm::ReadWrite)?;
-    if let Some(part) = pages.span_mut(0x100_0ffe, 2) {
-        assert!(rt; part.len() == 2);
-        part[0] = 0x11;
-        part[1] = 0x22;
-    }
-    assert!(rt; pages.span(0x100_0ffe, 2) == Some(&[0x11, 0x22]));
+    assert!(rt; put(&mut pages, 0x100_0ffc, &[0x11, 0x22, 0x33, 0x44]));
+    assert!(rt; pages.span(0x100_0ffe, 2) == Some(&[0x33, 0x44]));
     for (address, len, some) in [
         (0x100_0ffe, 3, false),
         (0x100_1ffc, 4, true),
@@ -99,6 +123,51 @@ fn spans(rt: HostRuntime) -> Result<(), Fail> {
     ] {
         assert!(rt; pages.span(address, len).is_some() == some, "{address:x}");
     }
-    assert!(rt; pages.span_mut(0x40_0000, 4).is_none());
+    assert!(rt; !put(&mut pages, 0x40_0000, &[0, 0, 0, 0]));
+    Ok(())
+}
+
+// Goes back to one of the memories that are kept, where there are as many.
+fn go_back(pages: &mut Pages, n: usize) -> bool {
+    if n < pages.kept() {
+        pages.back(n);
+        return true;
+    }
+    false
+}
+
+// Twelve numbers, each of which is written to page 0 and kept. The even ones also go across pages 1 and 2, and those that
+// are no multiples of 3 to page 3, as a span.
+fn write_twelve(pages: &mut Pages) {
+    for number in 1..13u64 {
+        let _low = pages.store(0x100_0010, 8, number);
+        if number % 2 == 0 {
+            let _across = pages.store(0x100_1ffc, 8, number << 32 | number);
+        }
+        if number % 3 != 0 {
+            let _span = put(pages, 0x100_3020, &[number as u8, 0, 0, 0]);
+        }
+        if pages.kept() > 0 {
+            pages.note();
+        }
+    }
+    let _after = pages.store(0x100_1ffc, 8, 0);
+}
+
+#[test]
+fn goes_back(rt: HostRuntime) -> Result<(), Fail> {
+    let mut pages = built(rt.alloc(), 0x1000, 4, Perm::ReadWrite)?;
+    assert!(rt; pages.kept() == 0);
+    pages.begin(rt.alloc())?;
+    write_twelve(&mut pages);
+    assert!(rt; pages.kept() == 8 && pages.load(0x100_1ffc, 8) == Ok(0));
+    for (n, low, across, span) in [(7, 12, 12, 11), (5, 10, 10, 10), (5, 10, 10, 10), (2, 7, 6, 7), (0, 5, 4, 5)] {
+        assert!(rt; go_back(&mut pages, n) && pages.kept() == n + 1, "{n}");
+        assert!(rt; pages.load(0x100_0010, 8) == Ok(low), "{n}");
+        assert!(rt; pages.load(0x100_1ffc, 4) == Ok(across) && pages.load(0x100_2000, 4) == Ok(across), "{n}");
+        assert!(rt; pages.load(0x100_3020, 4) == Ok(span), "{n}");
+        let _lost = pages.store(0x100_0010, 8, 99);
+    }
+    assert!(rt; !go_back(&mut pages, 1));
     Ok(())
 }

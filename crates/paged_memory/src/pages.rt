@@ -126,6 +126,13 @@ impl Pages {
         Ok(())
     }
 
+    /// How many memories are kept.
+    pub fn kept(&self) -> usize
+        ensures { result ≡ length self.now.past }
+    {
+        self.log.count()
+    }
+
     /// Keeps the memory as it is now, in place of the oldest one where eight are kept. It takes no memory.
     pub fn note(&mut self)
         requires { 1 ≤ length self.old.past }

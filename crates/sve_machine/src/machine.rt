@@ -34,9 +34,9 @@ impl Model for Machine {
 
     ghost Value = { View };
 
-    ghost view = { λ m. view_of m.core m.pages m.vectors m.steps m.over };
+    ghost view = { λ m. view_of m.core m.pages.memory m.vectors m.steps m.over };
 
-    ghost invariant = { λ m. All (Keeps m.pages) m.kept };
+    ghost invariant = { λ m. All (Keeps m.pages.memory) m.kept };
 }
 
 impl Machine {
@@ -52,7 +52,7 @@ impl Machine {
     /// are zero.
     pub fn new(pages: Pages, entry: u64, args: &[u64], vl: Vl) -> Machine
         requires { length args.now ≤ 8 }
-        ensures state { result.state ≡ start_of pages entry args.now vl never }
+        ensures state { result.state ≡ start_of pages.memory entry args.now vl never }
         ensures steps { result.steps ≡ 0 }
         ensures over { result.over ≡ None }
         ensures quiet { result.quiet ≡ true }
@@ -65,7 +65,7 @@ impl Machine {
     #[tactic(auto, unfolding(machine_model::specs::Run::start_of), using(crate::proofs::StartRegisters::copied))]
     pub fn suppressing(pages: Pages, entry: u64, args: &[u64], vl: Vl, stops: Suppress) -> Machine
         requires { length args.now ≤ 8 }
-        ensures state { result.state ≡ start_of pages entry args.now vl stops }
+        ensures state { result.state ≡ start_of pages.memory entry args.now vl stops }
         ensures steps { result.steps ≡ 0 }
         ensures over { result.over ≡ None }
         ensures quiet { result.quiet ≡ is_never stops }
@@ -195,7 +195,7 @@ impl Machine {
 
     /// The memory.
     pub fn pages(&self) -> &Pages
-        ensures { result.now ≡ self.now.state.memory }
+        ensures { result.now.memory ≡ self.now.state.memory }
     {
         &self.pages
     }

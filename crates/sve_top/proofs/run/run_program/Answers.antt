@@ -22,5 +22,5 @@ returns-clause-work c =
     ready.loads ready.maps ready.state ready.steps
     (c.run-outcome.ensures.outcome ready.over) c.done_of.ensures
     (c.in_ok-push_dump.ensures
-    ∙ ap (λ t. t ++ dump_of dump c.pages.result.now) (c.in_ok-text.ensures ∙ ap (λ p. text_of outcome p c.steps_done.result) c.pc.ensures ∙ ap (λ n. text_of outcome after.state.pc n) c.steps_done.ensures)
+    ∙ ap (λ t. t ++ dump_of dump c.pages.result.now.memory) (c.in_ok-text.ensures ∙ ap (λ p. text_of outcome p c.steps_done.result) c.pc.ensures ∙ ap (λ n. text_of outcome after.state.pc n) c.steps_done.ensures)
     ∙ ap (λ m. text_of outcome after.state.pc after.steps ++ dump_of dump m) c.pages.ensures)
