@@ -9,12 +9,11 @@ ghost use Rattle.kernel_scope.specs.Scopes.{scope_of};
 
 use crate::distance::stream_distance;
 use crate::notes::{Notes, Role};
-use crate::rules::{sooner, stream_fault, target_fault, twice, untyped, update_fault};
-use crate::terms::{end, walk_expr};
-use kernel_scope::{
-    Scope, accumulator_type, define, element_type, first, is_taken, leave, lookup, own_type,
-    visible_count,
+use crate::rules::{
+    sooner, stored_type, stream_fault, target_fault, twice, untyped, update_fault, updated_type,
 };
+use crate::terms::{end, walk_expr};
+use kernel_scope::{Scope, define, first, is_taken, leave, lookup, own_type, visible_count};
 use kernel_tree::{Expr, Name, Part, Stmt, Ty, parts};
 use std::alloc::AllocError;
 
@@ -71,12 +70,7 @@ fn walk_store(
         (Put (name_of array.now) (term_of index.now) (term_of value.now))) }
 {
     let target = lookup(scope, array);
-    walk_expr(
-        notes,
-        scope,
-        Role::Value(target.and_then(element_type)),
-        value,
-    )?;
+    walk_expr(notes, scope, Role::Value(stored_type(target)), value)?;
     let item = notes.next;
     let distance = stream_distance(scope.index, index);
     let found = sooner(target_fault(item, target), stream_fault(item, distance));
@@ -104,12 +98,7 @@ fn walk_update(
         (Update (name_of name.now) update.Add (term_of value.now))) }
 {
     let target = lookup(scope, name);
-    walk_expr(
-        notes,
-        scope,
-        Role::Value(target.and_then(accumulator_type)),
-        value,
-    )?;
+    walk_expr(notes, scope, Role::Value(updated_type(target)), value)?;
     end(notes, update_fault(notes.next, target), None)
 }
 

@@ -1,7 +1,6 @@
 use Rattle.std.proofs.Common.{◌+◌, ap, ◌∙◌, arith, drop}
 use Rattle.std.proofs.lemmas.Result.{IfOk-weaker}
 use Rattle.kernel_tree.specs.Plain.{term_of, action_of, block_of}
-use Rattle.kernel_tree.specs.Items as items
 use Rattle.kernel_tree.specs.Limits.{block_depth}
 use Rattle.kernel_scope.specs.Scopes.{scope_of, kept}
 use Rattle.kernel_scope.proofs.Growth.{kept-block}
