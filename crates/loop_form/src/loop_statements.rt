@@ -11,7 +11,7 @@ use crate::access::offset;
 use crate::listed::Listed;
 use crate::loop_item::{LoopOp, Source};
 use crate::loop_values::{append, list_operand, list_truth};
-use crate::size::{expr_size, statements_size, stmt_size};
+use crate::size::{count_items, expr_size, statements_size};
 use crate::visible::{
     Visible, accumulator_type_of, array_type_of, first_type, own_type, source_of,
 };
@@ -266,15 +266,6 @@ pub fn list_block<'a>(
     declare(kernel, names, &mut listed.short, from, stmt);
     let next = from + count_items(kernel, stmt);
     list_block(kernel, names, listed, mask, next, rest);
-}
-
-// The items of a statement, of which there is one at least.
-fn count_items(kernel: &Checked, stmt: &Stmt) -> u32
-    requires { action_size (loop_index (program kernel.now)) (action_of stmt.now) ≤ 1000 }
-    ensures size { result ≡ action_size (loop_index (program kernel.now)) (action_of stmt.now) }
-    ensures some { 1 ≤ result }
-{
-    stmt_size(kernel, stmt)
 }
 
 // The name that a statement declares.

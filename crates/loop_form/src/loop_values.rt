@@ -87,10 +87,11 @@ fn list_read<'a>(
         (env_of names.now) (name_of array.now) (stream_offset i (term_of index.now)) rest }
 {
     if let Some(offset) = offset(kernel, index) {
+        let array = array.text();
         let op = LoopOp::Load {
-            array: array.text(),
-            base: source_of(names, array.text()),
-            ty: array_type_of(names, array.text()),
+            array,
+            base: source_of(names, array),
+            ty: array_type_of(names, array),
             offset,
         };
         append(listed, from, mask, op);

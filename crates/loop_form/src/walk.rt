@@ -9,7 +9,7 @@ ghost use Rattle.loop_form.specs.View.{program, content_of, entries_view};
 
 use crate::entry::{Content, Entries, Entry};
 use crate::item::ItemKind;
-use crate::size::{expr_size, is_stream, statements_size, stmt_size};
+use crate::size::{count_items, expr_size, is_stream, statements_size};
 use kernel_tree::{Checked, Expr, Name, Part, Stmt, Ty, Var, parts};
 
 // The type of a value item.
@@ -389,12 +389,12 @@ pub fn list_block<'a>(kernel: &Checked, entries: &mut Entries<'a>, from: u32, bl
     ensures len { array_vec_len entries.new ≡ array_vec_len entries.old + block_size (loop_index (program kernel.now))
         (block_of block.now) }
 {
-    let mut next = from;
-    for stmt in block {
-        let size = stmt_size(kernel, stmt);
-        list_stmt(kernel, entries, next, stmt);
-        next += size;
-    }
+    let [stmt, rest @ ..] = block else {
+        return;
+    };
+    let next = from + count_items(kernel, stmt);
+    list_stmt(kernel, entries, from, stmt);
+    list_block(kernel, entries, next, rest);
 }
 
 /// Lists the accumulators with their initial values.
