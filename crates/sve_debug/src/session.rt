@@ -8,9 +8,9 @@ ghost use Rattle.sve_debug.specs.Replies.{Session, after_line, line_text, quits}
 ghost use Rattle.sve_debug.specs.Sessions.{Tells, session_text, turned, turn_text, pending, ends, AsItCame};
 
 use crate::debugger::Debugger;
+use debug_history::keepable::Keepable;
 use io_edges::sink::{Failed, Sink};
 use io_edges::source::Source;
-use machine_model::debuggee::Debuggee;
 use std::alloc::Global;
 
 /// What a session fails by.
@@ -45,7 +45,7 @@ fn next<I: Source>(input: &mut I) -> Result<Option<u8>, SessionFault>
 }
 
 // Answers a line.
-fn tell<D: Debuggee, S: Sink>(
+fn tell<D: Keepable, S: Sink>(
     debugger: &mut Debugger<D>,
     line: &[u8],
     out: &mut S,
@@ -78,7 +78,7 @@ fn push(line: &mut Vec<u8>, byte: u8) -> Result<(), SessionFault>
 }
 
 // Takes a byte, which belongs to the line that is pending or ends it, and says whether the session goes on.
-fn turn<D: Debuggee, S: Sink>(
+fn turn<D: Keepable, S: Sink>(
     debugger: &mut Debugger<D>,
     line: &mut Vec<u8>,
     byte: u8,
@@ -106,7 +106,7 @@ fn turn<D: Debuggee, S: Sink>(
 }
 
 // Answers the last line.
-fn finish<D: Debuggee, S: Sink>(
+fn finish<D: Keepable, S: Sink>(
     debugger: &mut Debugger<D>,
     line: &[u8],
     out: &mut S,
@@ -124,7 +124,7 @@ fn finish<D: Debuggee, S: Sink>(
 }
 
 // Answers the lines of an input, the first of which begins with no bytes.
-fn answer_lines<D: Debuggee, I: Source, S: Sink>(
+fn answer_lines<D: Keepable, I: Source, S: Sink>(
     debugger: &mut Debugger<D>,
     line: &mut Vec<u8>,
     input: &mut I,
@@ -153,7 +153,7 @@ fn answer_lines<D: Debuggee, I: Source, S: Sink>(
 
 /// Answers the lines of an input, each as it comes, up to one that ends the session, to the end of the input, or to the
 /// last of the bytes that are taken at most. What is left of a line then is a line too.
-pub fn session<D: Debuggee, I: Source, S: Sink>(
+pub fn session<D: Keepable, I: Source, S: Sink>(
     alloc: Global,
     debugger: &mut Debugger<D>,
     input: &mut I,
