@@ -52,7 +52,7 @@ nothing_swept (Some (CompileLine from to)) held printed result is = tt
 nothing_swept (Some (CheckLine from)) held printed result is = tt
 nothing_swept (Some (EvalLine task)) held printed result is = tt
 nothing_swept (Some (ListLine from)) held printed result is = tt
-nothing_swept (Some (RunLine vl task)) held printed result is = tt
+nothing_swept (Some (RunLine vl suppress task)) held printed result is = tt
 nothing_swept (Some (DebugLine vl task)) held printed result is = tt
 nothing_swept (Some (SweepLine number to)) held printed result is = memory_swept number to held printed result is
 
