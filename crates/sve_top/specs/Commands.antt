@@ -1,5 +1,5 @@
 -- What each command comes to, and what it leaves.
-use Rattle.std.specs.Prelude.{◌≡◌, ◌≢◌, ℕ, ◌⊎◌, List, [], ◌++◌, length, Option, Some, None, IfSome, IsSome, IfOk, Vec, Result, Ok, Err, nat_lt, nat_le, if◌then◌else◌}
+use Rattle.std.specs.Prelude.{◌≡◌, ◌≢◌, ℕ, ◌+◌, ◌*◌, ◌≤◌, ◌⊎◌, List, [], ◌++◌, length, Option, Some, None, IfSome, IsSome, IfOk, Vec, Result, Ok, Err, nat_lt, nat_le, if◌then◌else◌}
 use Rattle.io_edges.specs.Files.{Rose, content}
 use Rattle.io_edges.specs.declared.files.TheConstants.{MAX_FILE}
 use Rattle.guest_types.specs.Memory.{Memory}
@@ -11,6 +11,7 @@ use Rattle.machine_model.specs.DumpText.{dump_text}
 use Rattle.machine_model.specs.Load.{Image, load}
 use Rattle.machine_model.specs.OutcomeText.{outcome_text}
 use Rattle.machine_model.specs.Run.{Outcome, End, Stop, Spent, start, free_start, run, memory_left}
+use Rattle.machine_model.specs.Written.{file_of as written_file}
 use Rattle.kernel_meaning.specs.ScalarRun.{Run, scalar_run, first_leave}
 use Rattle.kernel_meaning.specs.ScalarRun as meaning
 use Rattle.kernel_meaning.specs.declared.outcome.ScalarOutcome.{ScalarOutcome}
@@ -19,6 +20,7 @@ use Rattle.scalar_text.specs.ScalarText.{scalar_text}
 use Rattle.map_text.specs.declared.fault.MapFault.{MapFault}
 use Rattle.map_text.specs.Mapping.{map_of as pages_of}
 use Rattle.kernel_tree.specs.Plain.{Program}
+use Rattle.kernel_tree.specs.Items.{size_of}
 use Rattle.kernel_front.specs.Verdict.{Sound, IsVerdict}
 use Rattle.reg_assign.specs.declared.interval.RegClass.{RegClass}
 use Rattle.loop_form.specs.Needs.{needs_of}
@@ -390,6 +392,12 @@ done_of outcomes.Spent = done.Spent
 
 -- ---- what is left of the files
 
+-- The file has one segment, from 0x400000 on, of its headers and of at most so many words.
+pub record HasWords (most : ℕ) (file : List ℕ) : Type 0 where
+  pub words : List ℕ
+  pub few : length words ≤ most
+  pub file_is : file ≡ written_file words
+
 -- The text is that of a sound kernel, and the file is faithful to it, whatever stop list a machine has: within the bound that counts
 -- chunks and the free elements that are suppressed, and within the one that counts iterations alone.
 pub record CompilesTo (text file : List ℕ) : Type 0 where
@@ -397,12 +405,14 @@ pub record CompilesTo (text file : List ℕ) : Type 0 where
   pub sound : IsVerdict text (Sound kernel)
   pub faithful : FreeFaithful kernel file
   pub ends : FreeEnds kernel file
+  pub code : HasWords (1000 + 60 * size_of kernel) file
+  pub small : size_of kernel ≤ 1000
 
 -- at status 0 the one file is faithful to the kernel that the other held, and for `sweep` to that of the number
 abbrev pub Compiled : Held → Held → Line → Type 0
 Compiled old new (CompileLine from to) =
     IfSome (content old from) (λ text. (file : List ℕ) × (content new to ≡ Some file) × CompilesTo text file)
-Compiled old new (SweepLine number to) = (file : List ℕ) × (content new to ≡ Some file) × FreeFaithful (kernel_of number) file × FreeEnds (kernel_of number) file
+Compiled old new (SweepLine number to) = (file : List ℕ) × (content new to ≡ Some file) × FreeFaithful (kernel_of number) file × FreeEnds (kernel_of number) file × HasWords 65536 file
 Compiled old new line = Unit {0}
 
 -- every name but that of the file which `compile` or `sweep` writes has what it had

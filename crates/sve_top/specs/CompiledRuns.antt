@@ -31,12 +31,11 @@ Answers k vl task (scalar.Fault memory m) work =
 abbrev pub Steps : Type 0
 Steps = Program → (args : List ℕ) (vl m q : ℕ) → ℕ
 
--- The length, the number of a stop list and the task are those of a call of `run`. Its file is this one, and is loaded; the map's text
+-- The length, the number of a stop list and the task are those of a call of `run`. Its file is loaded; the map's text
 -- gives these pages beside the image; and the most steps are enough for the kernel's run and what the stop list suppresses.
 pub record IsRun (within : Steps) (k : Program) (held : Held) (vl : ℕ) (suppress : Option ℕ) (task : Task) (file : List ℕ) (image : Image) (pages : Memory) : Type 0 where
   pub words : Words
   pub spelled : line_of words ≡ Some (RunLine vl suppress task)
-  pub read : file_of held task.file ≡ Ok file
   pub loads : load file ≡ Ok image
   pub map : List ℕ
   pub map_read : map_of held task.map ≡ Ok map
@@ -47,14 +46,14 @@ pub record IsRun (within : Steps) (k : Program) (held : Held) (vl : ℕ) (suppre
 -- within the bound of which the promise speaks.
 abbrev pub FaithfulWithin : Steps → (StopList → Type 0) → Type 0
 FaithfulWithin within IsAllowed =
-    (k : Program) (held : Held) (input : List ℕ) (vl : ℕ) (suppress : Option ℕ) (task : Task) (file : List ℕ) (image : Image) (pages : Memory) (work : Expected) → IsFaithful within IsAllowed k file → IsAllowed (stops_of suppress)
+    (k : Program) (held : Held) (input : List ℕ) (vl : ℕ) (suppress : Option ℕ) (task : Task) (file : List ℕ) (image : Image) (pages : Memory) (work : Expected) → IsFaithful within IsAllowed k file → IsAllowed (stops_of suppress) → file_of held task.file ≡ Ok file
     → IsRun within k held vl suppress task file image pages → Expects held input (Some (RunLine vl suppress task)) work → Answers k vl task (scalar_run k task.args (merged image.pages pages)) work
 
 -- The same of the file that `compile` left at status 0 under one name, where the text of a kernel stood under the other.
 abbrev pub CompiledWithin : Steps → (StopList → Type 0) → Type 0
 CompiledWithin within IsAllowed =
     (old new held : Held) (input from to text : List ℕ) (k : Program) (vl : ℕ) (suppress : Option ℕ) (task : Task) (file : List ℕ) (image : Image) (pages : Memory) (work : Expected) → content old from ≡ Some text → IsVerdict text (Sound k)
-    → Compiled old new (CompileLine from to) → content new to ≡ Some file → IsAllowed (stops_of suppress)
+    → Compiled old new (CompileLine from to) → content new to ≡ Some file → IsAllowed (stops_of suppress) → content held task.file ≡ Some file
     → IsRun within k held vl suppress task file image pages → Expects held input (Some (RunLine vl suppress task)) work → Answers k vl task (scalar_run k task.args (merged image.pages pages)) work
 
 -- without a stop list, within the bound that counts chunks; and with every one, within the bound that counts the free elements that are
