@@ -20,6 +20,7 @@ const MOST_WORDS: usize = 65_536;
 fn add_line(words: &mut Vec<u32>, line: u32, said: Option<Said>) -> Result<(), AsmFault>
     ensures added { OnOk result (after_line line (option_map line_view said) words.old.items ≡ Ok words.new.items) }
     ensures refused { IfErr result (λ fault. Refuses (after_line line (option_map line_view said) words.old.items) fault) }
+    ensures few { OnOk result (length words.old.items ≤ 65536 → length words.new.items ≤ 65536) }
 {
     match said {
         None => Err(AsmFault::BadLine { line }),
@@ -43,6 +44,7 @@ fn read_lines(alloc: Global, text: &[u8]) -> Result<Vec<u32>, AsmFault>
     requires { length text.now ≤ 8388608 }
     ensures words { IfOk result (λ words. after_lines 1 (lines_of text.now) [] ≡ Ok words.items) }
     ensures refused { IfErr result (λ fault. Refuses (after_lines 1 (lines_of text.now) []) fault) }
+    ensures few { IfOk result (λ words. length words.items ≤ 65536) }
 {
     let mut words = Vec::new(alloc);
     let mut line = 1;
@@ -63,6 +65,7 @@ fn read_lines(alloc: Global, text: &[u8]) -> Result<Vec<u32>, AsmFault>
 pub fn assemble(alloc: Global, text: &[u8]) -> Result<Vec<u32>, AsmFault>
     ensures words { IfOk result (λ words. words_of text.now ≡ Ok words.items) }
     ensures refused { IfErr result (λ fault. Refuses (words_of text.now) fault) }
+    ensures few { IfOk result (λ words. length words.items ≤ 65536) }
 {
     if text.len() > MOST_BYTES {
         return Err(AsmFault::TooLong);
