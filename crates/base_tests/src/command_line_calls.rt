@@ -51,6 +51,9 @@ fn refused(rt: HostRuntime) -> Result<(), Fail> {
         "sweep x out",
         "sweep 5 out more",
         "sweep -5 out",
+        "asm in",
+        "asm in out more",
+        "asm -in out",
     ];
     for line in lines {
         assert!(rt; read(rt.alloc(), line)?.is_none());
@@ -215,6 +218,17 @@ fn sweeps(rt: HostRuntime) -> Result<(), Fail> {
     let command = read(rt.alloc(), "sweep 0x10 -- -out")?;
     let good = match &command {
         Some(Command::Sweep { number, to }) => *number == 16 && to.as_str() == "-out",
+        _ => false,
+    };
+    assert!(rt; good);
+    Ok(())
+}
+
+#[test]
+fn assembles(rt: HostRuntime) -> Result<(), Fail> {
+    let command = read(rt.alloc(), "asm -- -a b")?;
+    let good = match &command {
+        Some(Command::Asm { from, to }) => from.as_str() == "-a" && to.as_str() == "b",
         _ => false,
     };
     assert!(rt; good);

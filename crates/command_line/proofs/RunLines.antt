@@ -6,7 +6,7 @@ use Rattle.std.proofs.lemmas.List.Elements.{All-cons, All-nil, All-append}
 use Rattle.guest_types.specs.Length.{IsLength}
 use Rattle.number_text.specs.Numbers.{given, following, is_digit, is_hex_digit, value_of, small_value, are_digits, decimal_of, hexadecimal_of, number_of}
 use Rattle.command_line.specs.Numbers.{negative, argument_of}
-use Rattle.command_line.specs.Line.{Words, Options, Task, Line, CheckLine, EvalLine, ListLine, RunLine, DebugLine, SweepLine, or_default, is_length, arguments_from, arguments_of, task_of, run_with, run_of, positional, options_of, two_files, compile_of, file_of, eval_with, eval_of, debug_with, debug_of, number_and_file, sweep_of, line_of}
+use Rattle.command_line.specs.Line.{Words, Options, Task, Line, CheckLine, EvalLine, ListLine, RunLine, DebugLine, SweepLine, or_default, is_length, arguments_from, arguments_of, task_of, run_with, run_of, positional, options_of, two_files, compile_of, file_of, eval_with, eval_of, debug_with, debug_of, number_and_file, words_and_file, asm_of, sweep_of, line_of}
 
 abbrev IsSmall : ℕ → Type 0
 IsSmall n = n < 2 ^ 64
@@ -167,6 +167,16 @@ sweep_runs : (words : Words) → IfSome (sweep_of words) Runs
 unfolding sweep_of
 sweep_runs words = after_option (positional words) number_and_file sweep_number
 
+asm_files : (words : Words) → IfSome (words_and_file words) Runs
+asm_files [] = tt
+asm_files (a ∷ []) = tt
+asm_files (from ∷ to ∷ []) = tt
+asm_files (a ∷ b ∷ c ∷ more) = tt
+
+asm_runs : (words : Words) → IfSome (asm_of words) Runs
+unfolding asm_of
+asm_runs words = after_option (positional words) words_and_file asm_files
+
 choose : (b : Bool) (o p : Option Line) → IfSome o Runs → IfSome p Runs → IfSome (if b then o else p) Runs
 choose true o p h k = h
 choose false o p h k = k
@@ -181,7 +191,8 @@ line_runs (name ∷ words) =
     (choose (bytes_eq name (codes "list")) _ _ (mapped_runs ListLine (file_of words) (λ a. tt))
     (choose (bytes_eq name (codes "run")) _ _ (run_runs words)
     (choose (bytes_eq name (codes "debug")) _ _ (debug_runs words)
-    (choose (bytes_eq name (codes "sweep")) (sweep_of words) None (sweep_runs words) tt))))))
+    (choose (bytes_eq name (codes "sweep")) _ _ (sweep_runs words)
+    (choose (bytes_eq name (codes "asm")) (asm_of words) None (asm_runs words) tt)))))))
 
 pub can_run : (words : Words) (vl : ℕ) (suppress : Option ℕ) (task : Task) → line_of words ≡ Some (RunLine vl suppress task) → CanRun vl task.args
 can_run words vl suppress task e = subst (λ o. IfSome o Runs) e (line_runs words)

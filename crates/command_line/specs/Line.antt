@@ -31,6 +31,7 @@ pub data Line : Type 0 where
   RunLine : (vl : ℕ) → (suppress : Option ℕ) → Task → Line
   DebugLine : (vl : ℕ) → Task → Line
   SweepLine : (number : ℕ) → (to : List ℕ) → Line
+  AsmLine : (from to : List ℕ) → Line
 
 -- ---- positional words
 
@@ -236,6 +237,14 @@ number_and_file _ = None
 unfoldable pub sweep_of : Words → Option Line
 sweep_of words = option_and_then number_and_file (positional words)
 
+abbrev pub words_and_file : Words → Option Line
+words_and_file (from ∷ to ∷ []) = Some (AsmLine from to)
+words_and_file _ = None
+
+-- `asm IN OUT`
+unfoldable pub asm_of : Words → Option Line
+asm_of words = option_and_then words_and_file (positional words)
+
 -- the command of some words, where they are one
 unfoldable pub line_of : Words → Option Line
 line_of [] = None
@@ -246,4 +255,5 @@ line_of (name ∷ words) =
     if bytes_eq name (codes "list") then option_map ListLine (file_of words) else
     if bytes_eq name (codes "run") then run_of words else
     if bytes_eq name (codes "debug") then debug_of words else
-    if bytes_eq name (codes "sweep") then sweep_of words else None
+    if bytes_eq name (codes "sweep") then sweep_of words else
+    if bytes_eq name (codes "asm") then asm_of words else None

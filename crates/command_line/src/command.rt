@@ -39,6 +39,11 @@ pub enum Command {
         number: u64,
         to: String,
     },
+    /// Writes the program of the words whose texts stand in the file `from` into the file `to`.
+    Asm {
+        from: String,
+        to: String,
+    },
 }
 
 /// What is to be run.

@@ -1,7 +1,7 @@
 //! Reading the words of a command.
 
 ghost use Rattle.std.specs.Prelude.{◌≡◌, ◌≤◌, IfOk, IfSome, option_map, is_some, length, [], string_bytes};
-ghost use Rattle.command_line.specs.Line.{is_length, positional, arguments_from, arguments_of, task_of, run_with, run_of, debug_with, debug_of, compile_of, sweep_of, file_of, eval_with, eval_of, line_of, CheckLine, ListLine};
+ghost use Rattle.command_line.specs.Line.{is_length, positional, arguments_from, arguments_of, task_of, run_with, run_of, debug_with, debug_of, compile_of, sweep_of, asm_of, file_of, eval_with, eval_of, line_of, CheckLine, ListLine};
 ghost use Rattle.command_line.specs.View.{texts, all_left, all_in, options_view, task_view, command_view};
 ghost use Rattle.number_text.specs.View.{items_in, bytes_left};
 
@@ -243,6 +243,23 @@ fn compile(alloc: Global, words: &[String]) -> Result<Option<Command>, AllocErro
     }))
 }
 
+// The command of the words after `asm`.
+#[tactic(auto, unfolding(crate::specs::Line::asm_of))]
+fn asm(alloc: Global, words: &[String]) -> Result<Option<Command>, AllocError>
+    ensures { IfOk result (λ o. option_map command_view o ≡ asm_of (texts words.now)) }
+{
+    let Some(found) = words_alone(alloc, "asm", words)? else {
+        return Ok(None);
+    };
+    let [from, to] = found.as_slice() else {
+        return Ok(None);
+    };
+    Ok(Some(Command::Asm {
+        from: String::from_str(alloc, from)?,
+        to: String::from_str(alloc, to)?,
+    }))
+}
+
 // The one positional word, where there are no others.
 #[tactic(auto, unfolding(crate::specs::Line::file_of))]
 fn file(alloc: Global, name: &'static str, words: &[String]) -> Result<Option<String>, AllocError>
@@ -316,7 +333,7 @@ fn eval(alloc: Global, words: &[String]) -> Result<Option<Command>, AllocError>
 /// The first word names the command, options stand next and positional words last:
 /// `compile IN OUT`, `check IN`, `eval [--map M] [--steps N] [--dump A:L] IN [ARG]..`, `list FILE`,
 /// `run [--vl N] [--steps N] [--map M] [--dump A:L] [--suppress N] FILE [ARG]..`,
-/// `debug [--vl N] [--map M] FILE [ARG]..` and `sweep NUMBER OUT`.
+/// `debug [--vl N] [--map M] FILE [ARG]..`, `sweep NUMBER OUT` and `asm IN OUT`.
 #[tactic(auto, unfolding(crate::specs::Line::line_of))]
 pub fn read_line(alloc: Global, words: &[String]) -> Result<Option<Command>, AllocError>
     ensures { IfOk result (λ o. option_map command_view o ≡ line_of (texts words.now)) }
@@ -332,6 +349,7 @@ pub fn read_line(alloc: Global, words: &[String]) -> Result<Option<Command>, All
         "run" => run(alloc, rest),
         "debug" => debug(alloc, rest),
         "sweep" => sweep(alloc, rest),
+        "asm" => asm(alloc, rest),
         _ => Ok(None),
     }
 }

@@ -10,3 +10,4 @@ pub mod Completions
 pub mod Sessions
 pub mod Sweeps
 pub mod CompiledRuns
+pub mod Assemblies

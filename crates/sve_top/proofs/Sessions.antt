@@ -9,7 +9,7 @@ use Rattle.sve_debug.specs.declared.session.SessionFault.{SessionFault}
 use Rattle.sve_debug.specs.declared.session.SessionFault.TheVariants as sessions
 use Rattle.sve_debug.specs.Sessions.{Tells}
 use Rattle.refusals.specs.declared.refusal.Refusal.{Refusal}
-use Rattle.refusals.specs.declared.refusal.Refusal.TheVariants.{Usage, TooManyLive, Kernel, TooLong, Elf, Map, Memory, File, Output}
+use Rattle.refusals.specs.declared.refusal.Refusal.TheVariants.{Usage, TooManyLive, Kernel, TooLong, Elf, Map, Asm, Memory, File, Output}
 use Rattle.refusals.specs.declared.refusal.Done.TheVariants as done
 use Rattle.sve_top.specs.Answer.{Held, Expected, Answer, answer_of, expected_text, IsFileAnswer, IsAnswer}
 use Rattle.refusals.specs.Statuses.{of_session}
@@ -81,6 +81,7 @@ refused_answer x y rose wanted Memory result is h = inl (inr (inl is))
 refused_answer x y rose wanted (Elf fault) result is h = inl (inl (is ∙ sym (ap answer_of h)))
 refused_answer x y rose wanted (Map fault) result is h = inl (inl (is ∙ sym (ap answer_of h)))
 refused_answer x y rose wanted Usage result is h = absurd h
+refused_answer x y rose wanted (Asm fault) result is h = absurd h
 refused_answer x y rose wanted (TooManyLive class need) result is h = absurd h
 refused_answer x y rose wanted (Kernel fault) result is h = absurd h
 refused_answer x y rose wanted TooLong result is h = absurd h
@@ -97,6 +98,7 @@ refusal_of wanted Memory h = tt
 refusal_of wanted (Elf fault) h = tt
 refusal_of wanted (Map fault) h = tt
 refusal_of wanted Usage h = absurd h
+refusal_of wanted (Asm fault) h = absurd h
 refusal_of wanted (TooManyLive class need) h = absurd h
 refusal_of wanted (Kernel fault) h = absurd h
 refusal_of wanted TooLong h = absurd h
@@ -108,6 +110,7 @@ no_failed_file wanted Memory h e = absurd cc
 no_failed_file wanted (Elf fault) h e = absurd cc
 no_failed_file wanted (Map fault) h e = absurd cc
 no_failed_file wanted Usage h e = absurd h
+no_failed_file wanted (Asm fault) h e = absurd h
 no_failed_file wanted (TooManyLive class need) h e = absurd h
 no_failed_file wanted (Kernel fault) h e = absurd h
 no_failed_file wanted TooLong h e = absurd h
@@ -119,6 +122,7 @@ no_failed_output wanted Memory h e = absurd cc
 no_failed_output wanted (Elf fault) h e = absurd cc
 no_failed_output wanted (Map fault) h e = absurd cc
 no_failed_output wanted Usage h e = absurd h
+no_failed_output wanted (Asm fault) h e = absurd h
 no_failed_output wanted (TooManyLive class need) h e = absurd h
 no_failed_output wanted (Kernel fault) h e = absurd h
 no_failed_output wanted TooLong h e = absurd h

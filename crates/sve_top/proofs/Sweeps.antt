@@ -6,7 +6,7 @@ use Rattle.io_edges.specs.Files.{Writes, content}
 use Rattle.io_edges.specs.Sink.{GainsPart}
 use Rattle.io_edges.specs.declared.files.FileError.{FileError}
 use Rattle.io_edges.specs.declared.files.FileError.TheVariants as files
-use Rattle.command_line.specs.Line.{Line, CompileLine, CheckLine, EvalLine, ListLine, RunLine, DebugLine, SweepLine}
+use Rattle.command_line.specs.Line.{Line, CompileLine, CheckLine, EvalLine, ListLine, RunLine, DebugLine, SweepLine, AsmLine}
 use Rattle.sweep_run.specs.SweepText.{IsSweepFile, sweep_text}
 use Rattle.refusals.specs.declared.refusal.Refusal.{Refusal}
 use Rattle.refusals.specs.declared.refusal.Refusal.TheVariants.{Memory, Output}
@@ -54,6 +54,7 @@ nothing_swept (Some (EvalLine task)) held printed result is = tt
 nothing_swept (Some (ListLine from)) held printed result is = tt
 nothing_swept (Some (RunLine vl suppress task)) held printed result is = tt
 nothing_swept (Some (DebugLine vl task)) held printed result is = tt
+nothing_swept (Some (AsmLine from to)) held printed result is = tt
 nothing_swept (Some (SweepLine number to)) held printed result is = memory_swept number to held printed result is
 
 pub write_swept : (number : ℕ) (to : List ℕ) (held : Option Held) (printed : Option (List ℕ)) (error : FileError) (result : Answer) → error ≢ files.TooLong → IsErrAnd result (λ r. r ≡ of_files error) → Swept (Some (SweepLine number to)) held printed printed (status_of result)

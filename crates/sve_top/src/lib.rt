@@ -1,6 +1,7 @@
 //! The commands of svec.
 #![tactic(auto)]
 
+mod asm;
 mod check;
 mod compile;
 mod debug;

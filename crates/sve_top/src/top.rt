@@ -15,6 +15,7 @@ ghost use Rattle.sve_top.specs.Swept.{Swept};
 ghost use Rattle.sve_top.specs.Outputs.{Prints, Gains, error_line_by};
 ghost use Rattle.refusals.specs.Lines.{line_of_refusal};
 
+use crate::asm::asm;
 use crate::check::check;
 use crate::compile::compile;
 use crate::debug::debug;
@@ -182,6 +183,7 @@ fn do_command<F: Files, I: Source, S: Sink>(
         Command::Run { vl, suppress, task } => run(alloc, *vl, *suppress, task, files, out),
         Command::Debug { vl, task } => debug(alloc, *vl, task, files, input, out),
         Command::Sweep { number, to } => sweep(alloc, *number, to.as_str(), files, out),
+        Command::Asm { from, to } => asm(alloc, from.as_str(), to.as_str(), files),
     }
 }
 

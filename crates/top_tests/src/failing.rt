@@ -22,19 +22,21 @@ eval k1 5#1
 eval --map m k1 5#2
 debug e1.elf 41#1
 debug --map m e1.elf 41#2
+asm e1.asm out#2
 ";
 
 // The input of each command. A session alone reads it.
 const SESSION: &[u8] = b"step 1\nx 0\njump\nquit\n";
 
 // The files that are read beside the program of three words.
-const TEXTS: [(&str, &str); 3] = [
+const TEXTS: [(&str, &str); 4] = [
     ("k1", "kernel f(x: u64) -> u64 { return x + 1; }"),
     (
         "k2",
         "kernel axpy(y: [i32], x: [i32], k: i32, n: u64) { for i in 0..n { y[i] = y[i] + k * x[i]; } }",
     ),
     ("m", "map 0x10000 1 rw\nset 0x10000 0102\n"),
+    ("e1.asm", "add x0, x0, #1\nmovz x8, #93\nsvc #0\n"),
 ];
 
 // The calls that fail, by their numbers from 0.
