@@ -251,11 +251,11 @@ fn asm(alloc: Global, words: &[String]) -> Result<Option<Command>, AllocError>
     let Some(found) = words_alone(alloc, "asm", words)? else {
         return Ok(None);
     };
-    let [from, to] = found.as_slice() else {
+    let [listing, to] = found.as_slice() else {
         return Ok(None);
     };
     Ok(Some(Command::Asm {
-        from: String::from_str(alloc, from)?,
+        from: String::from_str(alloc, listing)?,
         to: String::from_str(alloc, to)?,
     }))
 }
