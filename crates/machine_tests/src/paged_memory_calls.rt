@@ -161,10 +161,19 @@ fn goes_back(rt: HostRuntime) -> Result<(), Fail> {
     pages.begin(rt.alloc())?;
     write_twelve(&mut pages);
     assert!(rt; pages.kept() == 8 && pages.load(0x100_1ffc, 8) == Ok(0));
-    for (n, low, across, span) in [(7, 12, 12, 11), (5, 10, 10, 10), (5, 10, 10, 10), (2, 7, 6, 7), (0, 5, 4, 5)] {
+    for (n, low, across, span) in [
+        (7, 12, 12, 11),
+        (5, 10, 10, 10),
+        (5, 10, 10, 10),
+        (2, 7, 6, 7),
+        (0, 5, 4, 5),
+    ] {
         assert!(rt; go_back(&mut pages, n) && pages.kept() == n + 1, "{n}");
         assert!(rt; pages.load(0x100_0010, 8) == Ok(low), "{n}");
-        assert!(rt; pages.load(0x100_1ffc, 4) == Ok(across) && pages.load(0x100_2000, 4) == Ok(across), "{n}");
+        assert!(rt;
+            pages.load(0x100_1ffc, 4) == Ok(across) && pages.load(0x100_2000, 4) == Ok(across),
+            "{n}"
+        );
         assert!(rt; pages.load(0x100_3020, 4) == Ok(span), "{n}");
         let _lost = pages.store(0x100_0010, 8, 99);
     }
