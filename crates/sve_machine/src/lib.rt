@@ -4,6 +4,7 @@
 mod advance;
 mod debugged;
 mod decoding;
+mod history;
 mod instruction;
 mod kept;
 mod lanes;
@@ -14,6 +15,7 @@ mod operations;
 mod predicates;
 mod ready;
 mod scalars;
+mod snapshot;
 mod vector_step;
 mod vectors;
 
