@@ -38,6 +38,11 @@ fn refused(rt: HostRuntime) -> Result<(), Fail> {
         "run --dump 5:65537 e1.elf",
         "run --dump 0xffffffffffffffff:2 e1.elf",
         "run --dump 5:6:7 e1.elf",
+        "run --suppress 0 e1.elf",
+        "run --suppress x e1.elf",
+        "run --suppress 1 --suppress 1 e1.elf",
+        "eval --suppress 1 k",
+        "debug --suppress 1 f",
         "run e1.elf 1 2 3 4 5 6 7 8 9",
         "debug",
         "debug --steps 5 f",
@@ -57,7 +62,13 @@ fn refused(rt: HostRuntime) -> Result<(), Fail> {
 
 fn is_run(command: &Option<Command>, vl: u32, steps: u64, arg: u64) -> bool {
     match command {
-        Some(Command::Run { vl: bits, task }) => {
+        Some(
+            Command::Run {
+                vl: bits,
+                suppress: _,
+                task,
+            },
+        ) => {
             bits.bits() == vl && task.steps == steps && task.args.as_slice() == [arg].as_slice()
         }
         _ => false,
@@ -108,7 +119,13 @@ fn kernels(rt: HostRuntime) -> Result<(), Fail> {
 
 fn has(command: &Option<Command>, map: &str, address: u64, len: u64) -> bool {
     match command {
-        Some(Command::Run { vl: _, task }) => match (&task.map, &task.dump) {
+        Some(
+            Command::Run {
+                vl: _,
+                suppress: _,
+                task,
+            },
+        ) => match (&task.map, &task.dump) {
             (Some(name), Some(dump)) => {
                 name.as_str() == map && dump.address == address && dump.len == len
             }
@@ -133,6 +150,32 @@ fn maps_and_dumps(rt: HostRuntime) -> Result<(), Fail> {
         let command = read(rt.alloc(), line)?;
         assert!(rt; has(&command, map, address, len));
     }
+    Ok(())
+}
+
+fn suppresses(command: &Option<Command>) -> Option<u64> {
+    match command {
+        Some(
+            Command::Run {
+                vl: _,
+                suppress,
+                task: _,
+            },
+        ) => *suppress,
+        _ => None,
+    }
+}
+
+#[test]
+fn stop_lists(rt: HostRuntime) -> Result<(), Fail> {
+    let command = read(
+        rt.alloc(),
+        "run --vl 256 --steps 7 --map m --dump 0:1 --suppress=0x10 f",
+    )?;
+    assert!(rt; suppresses(&command) == Some(16));
+    let command = read(rt.alloc(), "run f 5")?;
+    assert!(rt; command.is_some());
+    assert!(rt; suppresses(&command) == None);
     Ok(())
 }
 

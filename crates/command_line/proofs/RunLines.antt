@@ -18,7 +18,7 @@ pub record CanRun (vl : ℕ) (args : List ℕ) : Type 0 where
   pub words : All (λ arg. arg < 2 ^ 64) args
 
 abbrev pub Runs : Line → Type 0
-Runs (RunLine vl task) = CanRun vl task.args
+Runs (RunLine vl suppress task) = CanRun vl task.args
 Runs line = Unit {0}
 
 -- ---- numbers
@@ -112,7 +112,8 @@ sized_run : (o : Options) (words : Words) → IfSome (run_with o words) Runs
 unfolding run_with
 sized_run o words = by (is_length (or_default o.vl 128)) refl (task_of o words) (few_task o words)
   where
-    by : (b : Bool) → is_length (or_default o.vl 128) ≡ b → (task : Option Task) → IfSome task (λ task. AreFew task.args) → IfSome (if b then option_map (RunLine (or_default o.vl 128)) task else None) Runs
+    by : (b : Bool) → is_length (or_default o.vl 128) ≡ b → (task : Option Task) → IfSome task (λ task. AreFew task.args)
+        → IfSome (if b then option_map (RunLine (or_default o.vl 128) o.suppress) task else None) Runs
     by true e None h = tt
     by true e (Some task) h = record { sized = (grind (arith, nat_tests, e), grind (arith, nat_tests, e), grind (arith, nat_tests, e)); few = h.few; words = h.words }
     by false e task h = tt
@@ -138,21 +139,23 @@ compile_runs words = after_option (positional words) two_files two_run
 
 eval_runs : (words : Words) → IfSome (eval_of words) Runs
 unfolding eval_of eval_with
-eval_runs words = after_option (options_of words) _ (λ p. after_option (positional p.1) _ (λ words. by (is_some p.0.vl) (task_of p.0 words)))
+eval_runs words = after_option (options_of words) _ (λ p. after_option (positional p.1) _ (λ words. by (is_some p.0.vl) (is_some p.0.suppress) (task_of p.0 words)))
   where
-    by : (b : Bool) (task : Option Task) → IfSome (if b then None else option_map EvalLine task) Runs
-    by true task = tt
-    by false task = mapped_runs EvalLine task (λ a. tt)
+    by : (a b : Bool) (task : Option Task) → IfSome (if a then None else if b then None else option_map EvalLine task) Runs
+    by true b task = tt
+    by false true task = tt
+    by false false task = mapped_runs EvalLine task (λ a. tt)
 
 debug_runs : (words : Words) → IfSome (debug_of words) Runs
 unfolding debug_of debug_with
-debug_runs words = after_option (options_of words) _ (λ p. after_option (positional p.1) _ (λ words. by (is_some p.0.steps) (is_some p.0.dump) (is_length (or_default p.0.vl 128)) (or_default p.0.vl 128) (task_of p.0 words)))
+debug_runs words = after_option (options_of words) _ (λ p. after_option (positional p.1) _ (λ words. by (is_some p.0.steps) (is_some p.0.dump) (is_some p.0.suppress) (is_length (or_default p.0.vl 128)) (or_default p.0.vl 128) (task_of p.0 words)))
   where
-    by : (a b c : Bool) (vl : ℕ) (task : Option Task) → IfSome (if a then None else if b then None else if c then option_map (DebugLine vl) task else None) Runs
-    by true b c vl task = tt
-    by false true c vl task = tt
-    by false false true vl task = mapped_runs (DebugLine vl) task (λ a. tt)
-    by false false false vl task = tt
+    by : (a b c d : Bool) (vl : ℕ) (task : Option Task) → IfSome (if a then None else if b then None else if c then None else if d then option_map (DebugLine vl) task else None) Runs
+    by true b c d vl task = tt
+    by false true c d vl task = tt
+    by false false true d vl task = tt
+    by false false false true vl task = mapped_runs (DebugLine vl) task (λ a. tt)
+    by false false false false vl task = tt
 
 sweep_number : (words : Words) → IfSome (number_and_file words) Runs
 sweep_number [] = tt
@@ -180,5 +183,5 @@ line_runs (name ∷ words) =
     (choose (bytes_eq name (codes "debug")) _ _ (debug_runs words)
     (choose (bytes_eq name (codes "sweep")) (sweep_of words) None (sweep_runs words) tt))))))
 
-pub can_run : (words : Words) (vl : ℕ) (task : Task) → line_of words ≡ Some (RunLine vl task) → CanRun vl task.args
-can_run words vl task e = subst (λ o. IfSome o Runs) e (line_runs words)
+pub can_run : (words : Words) (vl : ℕ) (suppress : Option ℕ) (task : Task) → line_of words ≡ Some (RunLine vl suppress task) → CanRun vl task.args
+can_run words vl suppress task e = subst (λ o. IfSome o Runs) e (line_runs words)

@@ -32,7 +32,7 @@ abbrev pub extent_view : ExtentData → Extent
 extent_view e = record { address = e.address; len = e.len }
 
 abbrev pub options_view : Settings → Options
-options_view s = record { vl = s.vl; steps = s.steps; map = option_map bytes_left s.map; dump = option_map extent_view s.dump }
+options_view s = record { vl = s.vl; steps = s.steps; map = option_map bytes_left s.map; dump = option_map extent_view s.dump; suppress = s.suppress }
 
 -- an option, and its value
 abbrev pub name_and_value : OptionName × Bor (List ℕ) → OptionName × List ℕ
@@ -53,6 +53,6 @@ command_view (Compile from to) = CompileLine (string_bytes from) (string_bytes t
 command_view (Check from) = CheckLine (string_bytes from)
 command_view (Eval task) = EvalLine (task_view task)
 command_view (Listing from) = ListLine (string_bytes from)
-command_view (Run vl task) = RunLine vl (task_view task)
+command_view (Run vl suppress task) = RunLine vl suppress (task_view task)
 command_view (Debug vl task) = DebugLine vl (task_view task)
 command_view (Sweep number to) = SweepLine number (string_bytes to)

@@ -19,6 +19,7 @@ const NO_OPTIONS: Allowed = Allowed {
     steps: false,
     map: false,
     dump: false,
+    suppress: false,
 };
 
 const EVAL_OPTIONS: Allowed = Allowed {
@@ -26,6 +27,7 @@ const EVAL_OPTIONS: Allowed = Allowed {
     steps: true,
     map: true,
     dump: true,
+    suppress: false,
 };
 
 const RUN_OPTIONS: Allowed = Allowed {
@@ -33,6 +35,7 @@ const RUN_OPTIONS: Allowed = Allowed {
     steps: true,
     map: true,
     dump: true,
+    suppress: true,
 };
 
 const DEBUG_OPTIONS: Allowed = Allowed {
@@ -40,6 +43,7 @@ const DEBUG_OPTIONS: Allowed = Allowed {
     steps: false,
     map: true,
     dump: false,
+    suppress: false,
 };
 
 // The positional words of a command that has no options.
@@ -143,7 +147,11 @@ fn run_with(
     let Some(task) = task(alloc, settings, words)? else {
         return Ok(None);
     };
-    Ok(Some(Command::Run { vl, task }))
+    Ok(Some(Command::Run {
+        vl,
+        suppress: settings.suppress,
+        task,
+    }))
 }
 
 // The command of the words after `run`.
@@ -171,7 +179,7 @@ fn debug_with(
     ensures { IfOk result (λ o. option_map command_view o
         ≡ debug_with (options_view settings.entry) (all_left words.now)) }
 {
-    if settings.steps.is_some() || settings.dump.is_some() {
+    if settings.steps.is_some() || settings.dump.is_some() || settings.suppress.is_some() {
         return Ok(None);
     }
     let Some(vl) = length_of(settings.vl.unwrap_or(128)) else {
@@ -279,7 +287,7 @@ fn eval_with(
     ensures { IfOk result (λ o. option_map command_view o
         ≡ eval_with (options_view settings.entry) (all_left words.now)) }
 {
-    if settings.vl.is_some() {
+    if settings.vl.is_some() || settings.suppress.is_some() {
         return Ok(None);
     }
     match task(alloc, settings, words)? {
@@ -307,8 +315,8 @@ fn eval(alloc: Global, words: &[String]) -> Result<Option<Command>, AllocError>
 ///
 /// The first word names the command, options stand next and positional words last:
 /// `compile IN OUT`, `check IN`, `eval [--map M] [--steps N] [--dump A:L] IN [ARG]..`, `list FILE`,
-/// `run [--vl N] [--steps N] [--map M] [--dump A:L] FILE [ARG]..`, `debug [--vl N] [--map M] FILE [ARG]..` and
-/// `sweep NUMBER OUT`.
+/// `run [--vl N] [--steps N] [--map M] [--dump A:L] [--suppress N] FILE [ARG]..`,
+/// `debug [--vl N] [--map M] FILE [ARG]..` and `sweep NUMBER OUT`.
 #[tactic(auto, unfolding(crate::specs::Line::line_of))]
 pub fn read_line(alloc: Global, words: &[String]) -> Result<Option<Command>, AllocError>
     ensures { IfOk result (λ o. option_map command_view o ≡ line_of (texts words.now)) }

@@ -86,7 +86,7 @@ module _ (g : Ground) (is : IsGround g) (memory left faulted : Memory) (bg : ℕ
   kept_near : (a : ℕ) → (IsNearFault g.kernel g.args (most_lanes g) bg a → ⊥) → byte_at left a ≡ byte_at faulted a
   kept_near a far =
       ⊎_elim
-      (λ (low : a < 2 ^ 64). near.kept a low (elsewhere g.kernel g.args (most_lanes g) bg near.i near.k a near.few (let w = near.within in omega (arith, w, bound)) near.from near.last_use far))
+      (λ (low : a < 2 ^ 64). near.kept a low (elsewhere g.kernel g.args (most_lanes g) bg near.i near.k a near.few (let w = near.within in omega (arith, w, bound)) near.from near.until far))
       (λ (past : 2 ^ 64 ≤ a). high a past)
       (cases_lt a (2 ^ 64))
 

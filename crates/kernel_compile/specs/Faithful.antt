@@ -43,7 +43,7 @@ pub record IsNearFault (k : Program) (args : List ℕ) (L m address : ℕ) : Typ
   pub typed : param.shape ≡ Array type
   pub i : ℕ
   pub from : m ≤ i + L
-  pub last_use : i + 1 < m + L
+  pub until : i + 1 < m + L
   pub within : i < slice_index args (bound_place k)
   pub j : ℕ
   pub byte : j < byte_count type

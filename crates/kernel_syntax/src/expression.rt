@@ -26,14 +26,14 @@ const ANY: u8 = 10;
 fn joined<'a>(
     alloc: Global,
     joint: Joint,
-    left: Expr,
+    left: Box<Expr>,
     tokens: &'a [Token],
     level: u8,
     room: usize,
-) -> Result<(Expr, &'a [Token]), Stop>
+) -> Result<(Box<Expr>, &'a [Token]), Stop>
     requires { level ≤ 9 }
-    ensures value { Gives (λ x. (term_of x.0, words_of x.1.now)) result
-        (joined_by (chain_at (unary_at room) level) joint (term_of left) (words_of tokens.now)) }
+    ensures value { Gives (λ x. (term_of x.0.value, words_of x.1.now)) result
+        (joined_by (chain_at (unary_at room) level) joint (term_of left.value) (words_of tokens.now)) }
     ensures shorter { IfOk result (λ x. length x.1.now < length tokens.now) }
 {
     let (right, rest) = chain(alloc, tokens, level, room)?;
@@ -46,14 +46,14 @@ fn joined<'a>(
 fn compared<'a>(
     alloc: Global,
     op: CompareOp,
-    left: Expr,
+    left: Box<Expr>,
     tokens: &'a [Token],
     level: u8,
     room: usize,
-) -> Result<(Expr, &'a [Token]), Stop>
+) -> Result<(Box<Expr>, &'a [Token]), Stop>
     requires { level ≤ 9 }
-    ensures value { Gives (λ x. (term_of x.0, words_of x.1.now)) result
-        (compared_by (chain_at (unary_at room) level) op (term_of left) (words_of tokens.now)) }
+    ensures value { Gives (λ x. (term_of x.0.value, words_of x.1.now)) result
+        (compared_by (chain_at (unary_at room) level) op (term_of left.value) (words_of tokens.now)) }
     ensures shorter { IfOk result (λ x. length x.1.now < length tokens.now) }
 {
     let (right, rest) = chain(alloc, tokens, level, room)?;
@@ -65,11 +65,11 @@ fn compared<'a>(
 fn shifted<'a>(
     alloc: Global,
     to_left: bool,
-    left: Expr,
+    left: Box<Expr>,
     tokens: &'a [Token],
-) -> Result<(Expr, &'a [Token]), Stop>
-    ensures value { Gives (λ x. (term_of x.0, words_of x.1.now)) result
-        (shifted_by to_left (term_of left) (words_of tokens.now)) }
+) -> Result<(Box<Expr>, &'a [Token]), Stop>
+    ensures value { Gives (λ x. (term_of x.0.value, words_of x.1.now)) result
+        (shifted_by to_left (term_of left.value) (words_of tokens.now)) }
     ensures shorter { IfOk result (λ x. length x.1.now < length tokens.now) }
 {
     let (count, rest) = expect_number(tokens)?;
@@ -80,11 +80,11 @@ fn shifted<'a>(
 #[tactic(auto, unfolding(crate::specs::Operands::converted_by))]
 fn converted<'a>(
     alloc: Global,
-    left: Expr,
+    left: Box<Expr>,
     tokens: &'a [Token],
-) -> Result<(Expr, &'a [Token]), Stop>
-    ensures value { Gives (λ x. (term_of x.0, words_of x.1.now)) result
-        (converted_by (term_of left) (words_of tokens.now)) }
+) -> Result<(Box<Expr>, &'a [Token]), Stop>
+    ensures value { Gives (λ x. (term_of x.0.value, words_of x.1.now)) result
+        (converted_by (term_of left.value) (words_of tokens.now)) }
     ensures shorter { IfOk result (λ x. length x.1.now < length tokens.now) }
 {
     let (ty, rest) = expect_type(tokens)?;
@@ -98,9 +98,9 @@ fn chain<'a>(
     tokens: &'a [Token],
     level: u8,
     room: usize,
-) -> Result<(Expr, &'a [Token]), Stop>
+) -> Result<(Box<Expr>, &'a [Token]), Stop>
     requires { level ≤ 10 }
-    ensures value { Gives (λ x. (term_of x.0, words_of x.1.now)) result
+    ensures value { Gives (λ x. (term_of x.0.value, words_of x.1.now)) result
         (chain_at (unary_at room) level (words_of tokens.now)) }
     ensures shorter { IfOk result (λ x. length x.1.now < length tokens.now) }
 {
@@ -136,8 +136,12 @@ fn chain<'a>(
 // A unary expression. No more than room of them stand inside one another.
 #[cycle(expression)]
 #[tactic(auto, unfolding(crate::specs::Reading::unary_at))]
-fn unary<'a>(alloc: Global, tokens: &'a [Token], room: usize) -> Result<(Expr, &'a [Token]), Stop>
-    ensures value { Gives (λ x. (term_of x.0, words_of x.1.now)) result (unary_at room (words_of tokens.now)) }
+fn unary<'a>(
+    alloc: Global,
+    tokens: &'a [Token],
+    room: usize,
+) -> Result<(Box<Expr>, &'a [Token]), Stop>
+    ensures value { Gives (λ x. (term_of x.0.value, words_of x.1.now)) result (unary_at room (words_of tokens.now)) }
     ensures shorter { IfOk result (λ x. length x.1.now < length tokens.now) }
 {
     if room == 0 {
@@ -148,14 +152,18 @@ fn unary<'a>(alloc: Global, tokens: &'a [Token], room: usize) -> Result<(Expr, &
 
 // A unary expression by its first token.
 #[cycle(expression)]
-fn begun<'a>(alloc: Global, tokens: &'a [Token], room: usize) -> Result<(Expr, &'a [Token]), Stop>
-    ensures value { Gives (λ x. (term_of x.0, words_of x.1.now)) result
+fn begun<'a>(
+    alloc: Global,
+    tokens: &'a [Token],
+    room: usize,
+) -> Result<(Box<Expr>, &'a [Token]), Stop>
+    ensures value { Gives (λ x. (term_of x.0.value, words_of x.1.now)) result
         (unary_by (chain_at (unary_at room) 10) (unary_at room) (words_of tokens.now)) }
     ensures shorter { IfOk result (λ x. length x.1.now < length tokens.now) }
 {
     match tokens {
         [] => Err(Stop::Syntax { left: 0 }),
-        [Token::Number(n), rest @ ..] => Ok((Expr::Lit(n.value as i128), rest)),
+        [Token::Number(n), rest @ ..] => Ok((build::literal(alloc, *n)?, rest)),
         [Token::Name(name), rest @ ..] => named(alloc, name, rest, room),
         [Token::Mark(mark), rest @ ..] => opened(alloc, *mark, rest, room),
         [Token::Type(_), ..] => Err(Stop::Syntax { left: tokens.len() }),
@@ -171,8 +179,8 @@ fn opened<'a>(
     mark: Mark,
     tokens: &'a [Token],
     room: usize,
-) -> Result<(Expr, &'a [Token]), Stop>
-    ensures value { Gives (λ x. (term_of x.0, words_of x.1.now)) result
+) -> Result<(Box<Expr>, &'a [Token]), Stop>
+    ensures value { Gives (λ x. (term_of x.0.value, words_of x.1.now)) result
         (opened_by (chain_at (unary_at room) 10) (unary_at room) (opening_of_mark mark) (words_of tokens.now)) }
     ensures shorter { IfOk result (λ x. length x.1.now < length tokens.now) }
 {
@@ -196,8 +204,8 @@ pub fn term_then<'a>(
     tokens: &'a [Token],
     mark: Mark,
     room: usize,
-) -> Result<(Expr, &'a [Token]), Stop>
-    ensures value { Gives (λ x. (term_of x.0, words_of x.1.now)) result
+) -> Result<(Box<Expr>, &'a [Token]), Stop>
+    ensures value { Gives (λ x. (term_of x.0.value, words_of x.1.now)) result
         (term_before (chain_at (unary_at room) 10) mark (words_of tokens.now)) }
     ensures shorter { IfOk result (λ x. length x.1.now < length tokens.now) }
 {
@@ -213,8 +221,8 @@ fn named<'a>(
     name: &Name,
     tokens: &'a [Token],
     room: usize,
-) -> Result<(Expr, &'a [Token]), Stop>
-    ensures value { Gives (λ x. (term_of x.0, words_of x.1.now)) result
+) -> Result<(Box<Expr>, &'a [Token]), Stop>
+    ensures value { Gives (λ x. (term_of x.0.value, words_of x.1.now)) result
         (name_by (chain_at (unary_at room) 10) (name_of name.now) (words_of tokens.now)) }
     ensures shorter { IfOk result (λ x. length x.1.now ≤ length tokens.now) }
 {
@@ -224,7 +232,7 @@ fn named<'a>(
             let (index, rest) = term_then(alloc, from, Mark::CloseBracket, room)?;
             Ok((build::element(alloc, name, index)?, rest))
         }
-        None => Ok((Expr::Var(name), tokens)),
+        None => Ok((build::variable(alloc, name)?, tokens)),
     }
 }
 
@@ -236,8 +244,8 @@ fn pair<'a>(
     op: BinaryOp,
     tokens: &'a [Token],
     room: usize,
-) -> Result<(Expr, &'a [Token]), Stop>
-    ensures value { Gives (λ x. (term_of x.0, words_of x.1.now)) result
+) -> Result<(Box<Expr>, &'a [Token]), Stop>
+    ensures value { Gives (λ x. (term_of x.0.value, words_of x.1.now)) result
         (pair_by (chain_at (unary_at room) 10) op (words_of tokens.now)) }
     ensures shorter { IfOk result (λ x. length x.1.now < length tokens.now) }
 {
@@ -254,8 +262,8 @@ fn absolute<'a>(
     alloc: Global,
     tokens: &'a [Token],
     room: usize,
-) -> Result<(Expr, &'a [Token]), Stop>
-    ensures value { Gives (λ x. (term_of x.0, words_of x.1.now)) result
+) -> Result<(Box<Expr>, &'a [Token]), Stop>
+    ensures value { Gives (λ x. (term_of x.0.value, words_of x.1.now)) result
         (absolute_by (chain_at (unary_at room) 10) (words_of tokens.now)) }
     ensures shorter { IfOk result (λ x. length x.1.now < length tokens.now) }
 {
@@ -267,8 +275,12 @@ fn absolute<'a>(
 // The three arguments of a choice.
 #[cycle(expression)]
 #[tactic(auto, unfolding(crate::specs::Reading::choice_by))]
-fn choice<'a>(alloc: Global, tokens: &'a [Token], room: usize) -> Result<(Expr, &'a [Token]), Stop>
-    ensures value { Gives (λ x. (term_of x.0, words_of x.1.now)) result
+fn choice<'a>(
+    alloc: Global,
+    tokens: &'a [Token],
+    room: usize,
+) -> Result<(Box<Expr>, &'a [Token]), Stop>
+    ensures value { Gives (λ x. (term_of x.0.value, words_of x.1.now)) result
         (choice_by (chain_at (unary_at room) 10) (words_of tokens.now)) }
     ensures shorter { IfOk result (λ x. length x.1.now < length tokens.now) }
 {
@@ -312,8 +324,8 @@ fn front_sign(tokens: &[Token]) -> Option<(Sign, &[Token])>
 }
 
 // An expression after signs, of which the last one is the innermost.
-fn following_signs(alloc: Global, signs: Vec<Sign>, arg: Expr) -> Result<Expr, AllocError>
-    ensures { IfOk result (λ e. term_of e ≡ all_signed signs.items (term_of arg)) }
+fn following_signs(alloc: Global, signs: Vec<Sign>, arg: Box<Expr>) -> Result<Box<Expr>, AllocError>
+    ensures { IfOk result (λ e. term_of e.value ≡ all_signed signs.items (term_of arg.value)) }
 {
     let mut left = signs;
     let mut expr = arg;
@@ -331,13 +343,13 @@ fn operand<'a>(
     sign: Sign,
     tokens: &'a [Token],
     room: usize,
-) -> Result<(Expr, &'a [Token]), Stop>
-    ensures value { Gives (λ x. (term_of x.0, words_of x.1.now)) result
+) -> Result<(Box<Expr>, &'a [Token]), Stop>
+    ensures value { Gives (λ x. (term_of x.0.value, words_of x.1.now)) result
         (signed_by (unary_at room) sign (words_of tokens.now)) }
     ensures shorter { IfOk result (λ x. length x.1.now < length tokens.now) }
 {
     match signed_number(sign, tokens) {
-        Some((n, rest)) => Ok((Expr::Lit(-(n.value as i128)), rest)),
+        Some((n, rest)) => Ok((build::negative(alloc, n)?, rest)),
         None => {
             let (arg, rest) = unary(alloc, tokens, room)?;
             Ok((build::sign(alloc, sign, arg)?, rest))
@@ -352,8 +364,8 @@ fn signed<'a>(
     sign: Sign,
     tokens: &'a [Token],
     room: usize,
-) -> Result<(Expr, &'a [Token]), Stop>
-    ensures value { Gives (λ x. (term_of x.0, words_of x.1.now)) result
+) -> Result<(Box<Expr>, &'a [Token]), Stop>
+    ensures value { Gives (λ x. (term_of x.0.value, words_of x.1.now)) result
         (signed_by (unary_at room) sign (words_of tokens.now)) }
     ensures shorter { IfOk result (λ x. length x.1.now < length tokens.now) }
 {

@@ -10,8 +10,8 @@ use crate::front::{accept, copy_name, expect, expect_name, expect_type, front_nu
 use crate::statement::{block, term};
 use kernel_tree::mark::Mark;
 use kernel_tree::token::Token;
-use kernel_tree::{Answer, Loop, Param, Shape, Ty, Var};
-use std::alloc::Global;
+use kernel_tree::{Answer, Loop, Name, Param, Shape, Stmt, Ty, Var};
+use std::alloc::{AllocError, Global};
 
 // What stands after the colon of a parameter.
 #[tactic(auto, unfolding(crate::specs::Headers::shape_at))]
@@ -96,15 +96,10 @@ fn accumulator<'a>(alloc: Global, tokens: &'a [Token]) -> Result<(Var, &'a [Toke
     let from = expect(following, Mark::Colon)?;
     let (ty, next) = expect_type(from)?;
     let value = expect(next, Mark::Equals)?;
+    let name = copy_name(alloc, name)?;
     let (init, rest) = term(alloc, value, Mark::Semicolon)?;
-    Ok((
-        Var {
-            name: copy_name(alloc, name)?,
-            ty,
-            init,
-        },
-        rest,
-    ))
+    let init = Box::into_inner(init);
+    Ok((Var { name, ty, init }, rest))
 }
 
 // The accumulators at the front.
@@ -140,6 +135,17 @@ fn expect_zero<'a>(tokens: &'a [Token]) -> Result<&'a [Token], Stop>
     }
 }
 
+// A loop over copies of these names.
+fn loop_of(alloc: Global, index: &Name, bound: &Name, body: Vec<Stmt>) -> Result<Loop, AllocError>
+    ensures index { IfOk result (λ turns. name_of turns.index ≡ name_of index.now) }
+    ensures bound { IfOk result (λ turns. name_of turns.bound ≡ name_of bound.now) }
+    ensures body { IfOk result (λ turns. turns.body ≡ body) }
+{
+    let index = copy_name(alloc, index)?;
+    let bound = copy_name(alloc, bound)?;
+    Ok(Loop { index, bound, body })
+}
+
 // What stands after the word that begins a loop.
 #[tactic(auto, unfolding(crate::specs::Headers::turns_at))]
 fn turns<'a>(alloc: Global, tokens: &'a [Token]) -> Result<(Loop, &'a [Token]), Stop>
@@ -153,14 +159,7 @@ fn turns<'a>(alloc: Global, tokens: &'a [Token]) -> Result<(Loop, &'a [Token]), 
     let (bound, next) = expect_name(end)?;
     let inside = expect(next, Mark::OpenBrace)?;
     let (body, rest) = block(alloc, inside, true, inside.len())?;
-    Ok((
-        Loop {
-            index: copy_name(alloc, index)?,
-            bound: copy_name(alloc, bound)?,
-            body,
-        },
-        rest,
-    ))
+    Ok((loop_of(alloc, index, bound, body)?, rest))
 }
 
 // The loop at the front, if there is one.
@@ -215,6 +214,7 @@ pub fn read_answer<'a>(
             let from = expect(tokens, Mark::Return)?;
             let (value, end) = term(alloc, from, Mark::Semicolon)?;
             let rest = expect(end, Mark::CloseBrace)?;
+            let value = Box::into_inner(value);
             Ok((Some(Answer { ty, value }), rest))
         }
     }

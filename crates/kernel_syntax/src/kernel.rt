@@ -32,10 +32,11 @@ fn all(alloc: Global, tokens: &[Token]) -> Result<Kernel, Stop>
     let (ty, from) = tail(next)?;
     let (vars, next) = vars(alloc, from)?;
     let (body, end) = body(alloc, next)?;
+    let name = copy_name(alloc, name)?;
     let (answer, rest) = read_answer(alloc, ty, end)?;
     match rest {
         [] => Ok(Kernel {
-            name: copy_name(alloc, name)?,
+            name,
             params,
             vars,
             body,

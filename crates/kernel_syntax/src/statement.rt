@@ -17,8 +17,12 @@ use std::alloc::Global;
 
 // An expression and a mark after it.
 #[tactic(auto, unfolding(crate::specs::Statements::term_at))]
-pub fn term<'a>(alloc: Global, tokens: &'a [Token], mark: Mark) -> Result<(Expr, &'a [Token]), Stop>
-    ensures value { Gives (λ x. (term_of x.0, words_of x.1.now)) result (term_at mark (words_of tokens.now)) }
+pub fn term<'a>(
+    alloc: Global,
+    tokens: &'a [Token],
+    mark: Mark,
+) -> Result<(Box<Expr>, &'a [Token]), Stop>
+    ensures value { Gives (λ x. (term_of x.0.value, words_of x.1.now)) result (term_at mark (words_of tokens.now)) }
     ensures shorter { IfOk result (λ x. length x.1.now < length tokens.now) }
 {
     term_then(alloc, tokens, mark, tokens.len())
@@ -48,15 +52,10 @@ fn definition<'a>(alloc: Global, tokens: &'a [Token]) -> Result<(Stmt, &'a [Toke
     let (name, following) = expect_name(tokens)?;
     let (ty, next) = declared_type(following)?;
     let from = expect(next, Mark::Equals)?;
+    let name = copy_name(alloc, name)?;
     let (value, rest) = term(alloc, from, Mark::Semicolon)?;
-    Ok((
-        Stmt::Let {
-            name: copy_name(alloc, name)?,
-            ty,
-            value,
-        },
-        rest,
-    ))
+    let value = Box::into_inner(value);
+    Ok((Stmt::Let { name, ty, value }, rest))
 }
 
 // What stands after the bracket of the element that a store writes.
@@ -66,14 +65,15 @@ fn store<'a>(alloc: Global, array: &Name, tokens: &'a [Token]) -> Result<(Stmt, 
         (put_at (name_of array.now) (words_of tokens.now)) }
     ensures shorter { IfOk result (λ x. length x.1.now < length tokens.now) }
 {
+    let array = copy_name(alloc, array)?;
     let (index, following) = term(alloc, tokens, Mark::CloseBracket)?;
     let next = expect(following, Mark::Equals)?;
     let (value, rest) = term(alloc, next, Mark::Semicolon)?;
     Ok((
         Stmt::Store {
-            array: copy_name(alloc, array)?,
-            index,
-            value,
+            array,
+            index: Box::into_inner(index),
+            value: Box::into_inner(value),
         },
         rest,
     ))
@@ -93,6 +93,7 @@ fn update<'a>(
 {
     let name = copy_name(alloc, name)?;
     let (value, rest) = term(alloc, tokens, Mark::Semicolon)?;
+    let value = Box::into_inner(value);
     Ok((Stmt::Update { name, op, value }, rest))
 }
 
@@ -125,6 +126,7 @@ fn leaving<'a>(alloc: Global, tokens: &'a [Token], whole: bool) -> Result<(Stmt,
     }
     let from = expect(tokens, Mark::If)?;
     let (cond, rest) = term(alloc, from, Mark::Semicolon)?;
+    let cond = Box::into_inner(cond);
     Ok((Stmt::Break { cond }, rest))
 }
 
@@ -142,9 +144,12 @@ fn choice<'a>(alloc: Global, tokens: &'a [Token], room: usize) -> Result<(Stmt, 
         Some(rest) => {
             let from = expect(rest, Mark::OpenBrace)?;
             let (other, rest) = block(alloc, from, false, room)?;
-            Ok((make::choose_else(cond, then_part, other), rest))
+            Ok((
+                make::choose_else(Box::into_inner(cond), then_part, other),
+                rest,
+            ))
         }
-        None => Ok((make::choose(cond, then_part), following)),
+        None => Ok((make::choose(Box::into_inner(cond), then_part), following)),
     }
 }
 

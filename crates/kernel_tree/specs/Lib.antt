@@ -1,6 +1,5 @@
 pub mod Word
 pub mod Tokens
-pub mod Reserved
 pub mod Plain
 pub mod Grammar
 pub mod Front

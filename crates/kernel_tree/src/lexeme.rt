@@ -2,8 +2,7 @@
 
 ghost use Rattle.std.specs.Prelude.{◌≡◌};
 ghost use Rattle.std.specs.List.{list_all};
-ghost use Rattle.kernel_tree.specs.Reserved.{unsigned_type, operation_mark, flow_mark};
-ghost use Rattle.kernel_tree.specs.Tokens.{is_letter, is_name_byte, is_run, is_name, reserved_type, reserved_mark};
+ghost use Rattle.kernel_tree.specs.Tokens.{is_letter, is_name_byte, is_run, is_name, unsigned_type, reserved_type, operation_mark, flow_mark, reserved_mark};
 
 use crate::mark::Mark;
 use crate::ops::Ty;

@@ -9,7 +9,7 @@ use Rattle.guest_types.specs.Memory.{Memory, page_numbers, put_byte, put_number,
 use Rattle.guest_types.specs.Spans.{with_span}
 use Rattle.guest_types.proofs.Stores.{stored-Ok}
 use Rattle.paged_memory.specs.Loans.{place_in, after_loan}
-use Rattle.paged_memory.specs.Past.{kept_more}
+use Rattle.guest_types.specs.Kept.{kept_more}
 use Rattle.paged_memory.specs.Epochs.{Saved, with_page, put_back, undone, has_place, past_of, undone_first, cleared_first, IsSavedAt, IsSaved, Epochs, IsKept}
 use Rattle.paged_memory.proofs.PageLaws.{with_page-twice, with_page-swap, with_page-none, numbers-with_page, place_in-numbers, length-numbers, put_byte-page, with_span-page, numbers-put_byte, numbers-put_number}
 

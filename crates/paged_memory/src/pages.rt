@@ -3,7 +3,7 @@
 ghost use Rattle.std.specs.Prelude.{◌≡◌, ℕ, ◌+◌, ◌/◌, ◌%◌, ◌<◌, ◌≤◌, [], ◌∷◌, length, take, slice_index_or, OnOk, OnErr, IfOk, IfErr, IsTrue, Ok, Err, ◌⊎◌};
 ghost use Rattle.guest_types.specs.Spans.{has_span, has_span_mut, span_of};
 ghost use Rattle.guest_types.specs.Memory.{Memory, IsMemory, byte_at, byte_or_zero, fetched, merged, stored, DoNotMeet};
-ghost use Rattle.paged_memory.specs.Past.{kept_more};
+ghost use Rattle.guest_types.specs.Kept.{kept_more};
 ghost use Rattle.paged_memory.specs.Epochs.{past_of, IsSaved};
 ghost use Rattle.paged_memory.specs.SpanWritten.{IsSpanWritten};
 

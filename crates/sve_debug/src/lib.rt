@@ -4,6 +4,7 @@
 pub mod command;
 pub mod debugger;
 mod digits;
+mod kept_run;
 mod line;
 mod put;
 mod run;

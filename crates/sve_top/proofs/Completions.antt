@@ -72,7 +72,7 @@ completes_held h input (Some (CompileLine from to)) before after s result is of 
 completes_held h input (Some (CheckLine from)) before after s result is of file cause none does = of_work h input (Some (CheckLine from)) before after s (λ e. not_eight result file (sym is ∙ e)) none (does tt)
 completes_held h input (Some (EvalLine task)) before after s result is of file cause none does = of_work h input (Some (EvalLine task)) before after s (λ e. not_eight result file (sym is ∙ e)) none (does tt)
 completes_held h input (Some (ListLine from)) before after s result is of file cause none does = of_work h input (Some (ListLine from)) before after s (λ e. not_eight result file (sym is ∙ e)) none (does tt)
-completes_held h input (Some (RunLine vl task)) before after s result is of file cause none does = of_work h input (Some (RunLine vl task)) before after s (λ e. not_eight result file (sym is ∙ e)) none (does tt)
+completes_held h input (Some (RunLine vl suppress task)) before after s result is of file cause none does = of_work h input (Some (RunLine vl suppress task)) before after s (λ e. not_eight result file (sym is ∙ e)) none (does tt)
 completes_held h input (Some (DebugLine vl task)) before after s result is of file cause none does = of_work h input (Some (DebugLine vl task)) before after s (λ e. not_eight result file (sym is ∙ e)) none (does tt)
 completes_held h input (Some (SweepLine number to)) before after s result is of file cause none does =
     subst (λ n. (n ≡ 0) ⊎ (n ≡ 7)) (sym is) (sweep_ends (StreamsRose (Some (SweepLine number to)) before after) result of file cause none)

@@ -2,6 +2,7 @@
 use mathlib.Core.Logic.{⊎_elim}
 use Rattle.std.proofs.Common.{◌≡◌, ◌≢◌, ◌⊎◌, ℕ, ◌≤◌, List, Option, Some, None, Result, Ok, Err, inl, inr, refl, sym, ap, ◌∙◌, subst}
 use Rattle.std.specs.Prelude.{IfSome, IsErrAnd}
+use Rattle.guest_types.specs.EarlyLoads.{StopList}
 use Rattle.io_edges.specs.Files.{Rose}
 use Rattle.command_line.specs.Line.{Task}
 use Rattle.sve_debug.specs.declared.session.SessionFault.{SessionFault}
@@ -12,7 +13,7 @@ use Rattle.refusals.specs.declared.refusal.Refusal.TheVariants.{Usage, TooManyLi
 use Rattle.refusals.specs.declared.refusal.Done.TheVariants as done
 use Rattle.sve_top.specs.Answer.{Held, Expected, Answer, answer_of, expected_text, IsFileAnswer, IsAnswer}
 use Rattle.refusals.specs.Statuses.{of_session}
-use Rattle.sve_top.specs.Commands.{and_then, file_of, map_of, debug_program, expected_of_debug, RefusesProgram, IsOfDebug}
+use Rattle.sve_top.specs.Commands.{and_then, file_of, map_of, debug_program, expected_of_debug, expected_of_run, RefusesProgram, IsOfDebug}
 use Rattle.sve_top.specs.Outputs.{Prints}
 use Rattle.sve_top.proofs.Expectations.{read_is, is_err}
 use Rattle.sve_top.proofs.Prints.{prints_nothing}
@@ -155,6 +156,11 @@ pub untold_session : (left : Option (List ℕ)) (held : Option Held) (vl : ℕ) 
 untold_session left held vl task printed refusal result is =
     whatever left held (λ input h. Prints printed printed (expected_text (expected_of_debug h input vl task)) result)
     (λ input h. subst (Prints printed printed (expected_text (expected_of_debug h input vl task))) (sym (is_err refusal result is)) (prints_nothing printed (expected_text (expected_of_debug h input vl task)) refusal))
+
+-- nothing was put on the output of a run that was refused
+pub untold_run : (held : Option Held) (vl : ℕ) (stops : StopList) (task : Task) (printed : Option (List ℕ)) (refusal : Refusal) (result : Answer) → IsErrAnd result (λ r. r ≡ refusal) → IfSome held (λ h. Prints printed printed (expected_text (expected_of_run h vl stops task)) result)
+untold_run None vl stops task printed refusal result is = tt
+untold_run (Some h) vl stops task printed refusal result is = subst (Prints printed printed (expected_text (expected_of_run h vl stops task))) (sym (is_err refusal result is)) (prints_nothing printed (expected_text (expected_of_run h vl stops task)) refusal)
 
 all_told : (old new : Option (List ℕ)) (text : List ℕ) (told : Result (Unit {0}) SessionFault) → told ≡ Ok tt → Tells old new text told → Prints old new text (Ok done.Ended)
 all_told None new text (Ok all) is h = tt

@@ -24,7 +24,7 @@ use Rattle.refusals.specs.declared.refusal.Refusal.{Refusal}
 use Rattle.refusals.specs.declared.refusal.Refusal.TheVariants.{Usage, Kernel}
 use Rattle.sve_top.specs.Answer.{Held, Expected}
 use Rattle.sve_top.specs.Kernels.{IsOfText, IsRefusedFor, IsExpectedOf, ByVerdict}
-use Rattle.sve_top.specs.Commands.{AfterRead, Expects, IsSettled, CompileExpects, CheckExpects, EvalExpects, file_of, map_of, compiled, checked, eval_kernel, expected_of_list, expected_of_run, expected_of_debug}
+use Rattle.sve_top.specs.Commands.{AfterRead, Expects, IsSettled, CompileExpects, CheckExpects, EvalExpects, file_of, map_of, compiled, checked, eval_kernel, expected_of_list, expected_of_run, expected_of_debug, stops_of}
 
 -- ---- a fault that explains a verdict
 
@@ -129,7 +129,7 @@ some_expected held input (Some (EvalLine task)) s =
     after (file_of held task.file) (λ text. AfterRead (map_of held task.map) (EvalExpects task text))
     (λ text. after (map_of held task.map) (EvalExpects task text) (λ map. by_verdict (eval_kernel task map) text))
 some_expected held input (Some (ListLine from)) s = (expected_of_list held from, refl)
-some_expected held input (Some (RunLine vl task)) s = (expected_of_run held vl task, refl)
+some_expected held input (Some (RunLine vl suppress task)) s = (expected_of_run held vl (stops_of suppress) task, refl)
 some_expected held input (Some (DebugLine vl task)) s = (expected_of_debug held input vl task, refl)
 some_expected held input (Some (SweepLine number to)) s = absurd s
 
@@ -231,6 +231,6 @@ one_expected held input (Some (EvalLine task)) a b s p q =
     one_after (file_of held task.file) (λ text. AfterRead (map_of held task.map) (EvalExpects task text)) a b
     (λ text. one_after (map_of held task.map) (EvalExpects task text) a b (λ map. one_by_verdict (eval_kernel task map) text a b)) p q
 one_expected held input (Some (ListLine from)) a b s p q = p ∙ sym q
-one_expected held input (Some (RunLine vl task)) a b s p q = p ∙ sym q
+one_expected held input (Some (RunLine vl suppress task)) a b s p q = p ∙ sym q
 one_expected held input (Some (DebugLine vl task)) a b s p q = p ∙ sym q
 one_expected held input (Some (SweepLine number to)) a b s p q = absurd s

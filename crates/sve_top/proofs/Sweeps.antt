@@ -52,7 +52,7 @@ nothing_swept (Some (CompileLine from to)) held printed result is = tt
 nothing_swept (Some (CheckLine from)) held printed result is = tt
 nothing_swept (Some (EvalLine task)) held printed result is = tt
 nothing_swept (Some (ListLine from)) held printed result is = tt
-nothing_swept (Some (RunLine vl task)) held printed result is = tt
+nothing_swept (Some (RunLine vl suppress task)) held printed result is = tt
 nothing_swept (Some (DebugLine vl task)) held printed result is = tt
 nothing_swept (Some (SweepLine number to)) held printed result is = memory_swept number to held printed result is
 
@@ -74,7 +74,7 @@ stands_at (Some old) (Some new) to bytes file result w ok same = written_at w ok
 pub sweep_compiled : (number : ℕ) (to file : List ℕ) (old new : Option Held) → IsSweepFile number file → IfSome new (λ h. content h to ≡ Some file) → IfSome old (λ o. IfSome new (λ n. Compiled o n (SweepLine number to)))
 sweep_compiled number to file None new is stands = tt
 sweep_compiled number to file (Some o) None is stands = tt
-sweep_compiled number to file (Some o) (Some n) is stands = (file, stands, is.faithful, is.ends)
+sweep_compiled number to file (Some o) (Some n) is stands = (file, stands, is.faithful, is.ends, record { words = is.words; few = is.few; file_is = is.file_is })
 
 -- the lines were put, or a part of them
 pub lines_swept : (number : ℕ) (to file : List ℕ) (held : Option Held) (old new : Option (List ℕ)) → IsSweepFile number file → IfSome held (λ h. content h to ≡ Some file) → IfSome old (λ bytes. new ≡ Some (bytes ++ sweep_text number file)) → IfSome old (λ bytes. GainsPart bytes new (sweep_text number file)) → Swept (Some (SweepLine number to)) held old new 0

@@ -1,15 +1,17 @@
 -- What each command comes to, and what it leaves.
-use Rattle.std.specs.Prelude.{◌≡◌, ◌≢◌, ℕ, ◌⊎◌, List, [], ◌++◌, length, Option, Some, None, IfSome, IsSome, IfOk, Vec, Result, Ok, Err, nat_lt, nat_le, if◌then◌else◌}
+use Rattle.std.specs.Prelude.{◌≡◌, ◌≢◌, ℕ, ◌+◌, ◌*◌, ◌≤◌, ◌⊎◌, List, [], ◌++◌, length, Option, Some, None, IfSome, IsSome, IfOk, Vec, Result, Ok, Err, nat_lt, nat_le, if◌then◌else◌}
 use Rattle.io_edges.specs.Files.{Rose, content}
 use Rattle.io_edges.specs.declared.files.TheConstants.{MAX_FILE}
 use Rattle.guest_types.specs.Memory.{Memory}
+use Rattle.guest_types.specs.EarlyLoads.{StopList, Each, never}
 use Rattle.machine_model.specs.declared.elf_fault.ElfFault.{ElfFault}
 use Rattle.machine_model.specs.declared.outcome.Outcome.{Outcome as OutcomeAnswer}
 use Rattle.machine_model.specs.declared.outcome.Outcome.TheVariants as outcomes
 use Rattle.machine_model.specs.DumpText.{dump_text}
 use Rattle.machine_model.specs.Load.{Image, load}
 use Rattle.machine_model.specs.OutcomeText.{outcome_text}
-use Rattle.machine_model.specs.Run.{Outcome, End, Stop, Spent, start, image_run, memory_left}
+use Rattle.machine_model.specs.Run.{Outcome, End, Stop, Spent, start, free_start, run, memory_left}
+use Rattle.machine_model.specs.Written.{file_of as written_file}
 use Rattle.kernel_meaning.specs.ScalarRun.{Run, scalar_run, first_leave}
 use Rattle.kernel_meaning.specs.ScalarRun as meaning
 use Rattle.kernel_meaning.specs.declared.outcome.ScalarOutcome.{ScalarOutcome}
@@ -18,6 +20,7 @@ use Rattle.scalar_text.specs.ScalarText.{scalar_text}
 use Rattle.map_text.specs.declared.fault.MapFault.{MapFault}
 use Rattle.map_text.specs.Mapping.{map_of as pages_of}
 use Rattle.kernel_tree.specs.Plain.{Program}
+use Rattle.kernel_tree.specs.Items.{size_of}
 use Rattle.kernel_front.specs.Verdict.{Sound, IsVerdict}
 use Rattle.reg_assign.specs.declared.interval.RegClass.{RegClass}
 use Rattle.loop_form.specs.Needs.{needs_of}
@@ -140,18 +143,23 @@ dump_of (Some e) memory = dump_text memory e.address e.len
 abbrev pub success_of : Option Extent → Outcome → Expected
 success_of dump outcome = Ok (record { how = done_by outcome; text = outcome_text outcome ++ dump_of dump (memory_left outcome) })
 
--- the machine's run of a program with some pages
-abbrev pub ran : ℕ → Task → Image → Memory → Expected
-ran vl task image pages = success_of task.dump (image_run image task.args pages vl task.steps)
+-- the stop list of a run: one free element of each so many, or none; a line gives no number less than 1
+abbrev pub stops_of : Option ℕ → StopList
+stops_of None = never
+stops_of (Some every) = if nat_lt every 1 then never else Each every 0
 
-unfoldable pub run_program : ℕ → Task → List ℕ → List ℕ → Expected
-run_program vl task bytes map = with_program bytes map (ran vl task)
+-- the machine's run of a program with some pages and a stop list
+abbrev pub ran : ℕ → StopList → Task → Image → Memory → Expected
+ran vl stops task image pages = success_of task.dump (run task.steps 0 (free_start image task.args pages vl stops))
 
-abbrev pub expected_of_run : Held → ℕ → Task → Expected
-expected_of_run held vl task =
+unfoldable pub run_program : ℕ → StopList → Task → List ℕ → List ℕ → Expected
+run_program vl stops task bytes map = with_program bytes map (ran vl stops task)
+
+abbrev pub expected_of_run : Held → ℕ → StopList → Task → Expected
+expected_of_run held vl stops task =
     and_then (file_of held task.file) (λ bytes.
     and_then (map_of held task.map) (λ map.
-    run_program vl task bytes map))
+    run_program vl stops task bytes map))
 
 -- ---- debug
 
@@ -217,7 +225,7 @@ Expects held input (Some (CheckLine from)) work = AfterRead (file_of held from) 
 Expects held input (Some (EvalLine task)) work =
     AfterRead (file_of held task.file) (λ text. AfterRead (map_of held task.map) (EvalExpects task text)) work
 Expects held input (Some (ListLine from)) work = work ≡ expected_of_list held from
-Expects held input (Some (RunLine vl task)) work = work ≡ expected_of_run held vl task
+Expects held input (Some (RunLine vl suppress task)) work = work ≡ expected_of_run held vl (stops_of suppress) task
 Expects held input (Some (DebugLine vl task)) work = work ≡ expected_of_debug held input vl task
 Expects held input (Some (SweepLine number to)) work = ⊥
 
@@ -303,7 +311,7 @@ IsOf (Some (CompileLine from to)) answer = IsOfCompile answer
 IsOf (Some (CheckLine from)) answer = IsOfCheck answer
 IsOf (Some (EvalLine task)) answer = IsOfEval answer
 IsOf (Some (ListLine from)) answer = IsOfList answer
-IsOf (Some (RunLine vl task)) answer = IsOfRun answer
+IsOf (Some (RunLine vl suppress task)) answer = IsOfRun answer
 IsOf (Some (DebugLine vl task)) answer = IsOfDebug answer
 IsOf (Some (SweepLine number to)) answer = IsOfSweep answer
 
@@ -315,7 +323,7 @@ IsListed (Some (CheckLine from)) status = (status ≡ 0) ⊎ ((status ≡ 3) ⊎
 IsListed (Some (EvalLine task)) status =
     (status ≡ 0) ⊎ ((status ≡ 3) ⊎ ((status ≡ 4) ⊎ ((status ≡ 5) ⊎ ((status ≡ 6) ⊎ ((status ≡ 7) ⊎ ((status ≡ 8) ⊎ (status ≡ 9)))))))
 IsListed (Some (ListLine from)) status = (status ≡ 0) ⊎ ((status ≡ 4) ⊎ ((status ≡ 7) ⊎ ((status ≡ 8) ⊎ (status ≡ 9))))
-IsListed (Some (RunLine vl task)) status =
+IsListed (Some (RunLine vl suppress task)) status =
     (status ≡ 0) ⊎ ((status ≡ 4) ⊎ ((status ≡ 5) ⊎ ((status ≡ 6) ⊎ ((status ≡ 7) ⊎ ((status ≡ 8) ⊎ (status ≡ 9))))))
 IsListed (Some (DebugLine vl task)) status = (status ≡ 0) ⊎ ((status ≡ 4) ⊎ ((status ≡ 7) ⊎ ((status ≡ 8) ⊎ (status ≡ 9))))
 IsListed (Some (SweepLine number to)) status = (status ≡ 0) ⊎ ((status ≡ 7) ⊎ ((status ≡ 8) ⊎ (status ≡ 9)))
@@ -384,6 +392,12 @@ done_of outcomes.Spent = done.Spent
 
 -- ---- what is left of the files
 
+-- The file has one segment, from 0x400000 on, of its headers and of at most so many words.
+pub record HasWords (most : ℕ) (file : List ℕ) : Type 0 where
+  pub words : List ℕ
+  pub few : length words ≤ most
+  pub file_is : file ≡ written_file words
+
 -- The text is that of a sound kernel, and the file is faithful to it, whatever stop list a machine has: within the bound that counts
 -- chunks and the free elements that are suppressed, and within the one that counts iterations alone.
 pub record CompilesTo (text file : List ℕ) : Type 0 where
@@ -391,12 +405,14 @@ pub record CompilesTo (text file : List ℕ) : Type 0 where
   pub sound : IsVerdict text (Sound kernel)
   pub faithful : FreeFaithful kernel file
   pub ends : FreeEnds kernel file
+  pub code : HasWords (1000 + 60 * size_of kernel) file
+  pub small : size_of kernel ≤ 1000
 
 -- at status 0 the one file is faithful to the kernel that the other held, and for `sweep` to that of the number
 abbrev pub Compiled : Held → Held → Line → Type 0
 Compiled old new (CompileLine from to) =
     IfSome (content old from) (λ text. (file : List ℕ) × (content new to ≡ Some file) × CompilesTo text file)
-Compiled old new (SweepLine number to) = (file : List ℕ) × (content new to ≡ Some file) × FreeFaithful (kernel_of number) file × FreeEnds (kernel_of number) file
+Compiled old new (SweepLine number to) = (file : List ℕ) × (content new to ≡ Some file) × FreeFaithful (kernel_of number) file × FreeEnds (kernel_of number) file × HasWords 65536 file
 Compiled old new line = Unit {0}
 
 -- every name but that of the file which `compile` or `sweep` writes has what it had
@@ -416,6 +432,6 @@ IsHeld held (CompileLine from to) = IsSome (content held from)
 IsHeld held (CheckLine from) = IsSome (content held from)
 IsHeld held (EvalLine task) = IsSome (content held task.file) × IfOk (file_of held task.file) (λ text. IsMapHeld held task.map)
 IsHeld held (ListLine from) = IsSome (content held from)
-IsHeld held (RunLine vl task) = IsSome (content held task.file) × IfOk (file_of held task.file) (λ bytes. IsMapHeld held task.map)
+IsHeld held (RunLine vl suppress task) = IsSome (content held task.file) × IfOk (file_of held task.file) (λ bytes. IsMapHeld held task.map)
 IsHeld held (DebugLine vl task) = IsSome (content held task.file) × IfOk (file_of held task.file) (λ bytes. IsMapHeld held task.map)
 IsHeld held (SweepLine number to) = Unit {0}

@@ -179,7 +179,7 @@ fn do_command<F: Files, I: Source, S: Sink>(
         Command::Check { from } => check(alloc, from.as_str(), files, out),
         Command::Eval(task) => eval(alloc, task, files, out),
         Command::List { from } => list(alloc, from.as_str(), files, out),
-        Command::Run { vl, task } => run(alloc, *vl, task, files, out),
+        Command::Run { vl, suppress, task } => run(alloc, *vl, *suppress, task, files, out),
         Command::Debug { vl, task } => debug(alloc, *vl, task, files, input, out),
         Command::Sweep { number, to } => sweep(alloc, *number, to.as_str(), files, out),
     }

@@ -313,6 +313,55 @@ fn failing_input_is_told(rt: HostRuntime) -> Result<(), Fail> {
     Ok(())
 }
 
+// How many bytes so many lines of a text take.
+fn first_lines(text: &[u8], lines: usize) -> usize {
+    let mut left = lines;
+    let mut at = 0;
+    while at < text.len() && left > 0 {
+        if text[at] == b'\n' {
+            left -= 1;
+        }
+        at += 1;
+    }
+    at
+}
+
+// How many lines end in a text.
+fn lines_of(text: &[u8]) -> usize {
+    let mut lines = 0;
+    for byte in text {
+        if *byte == b'\n' {
+            lines += 1;
+        }
+    }
+    lines
+}
+
+#[test]
+fn lines_before_a_failed_input_are_answered(rt: HostRuntime) -> Result<(), Fail> {
+    let words = "debug e1.elf 41";
+    let plan = Plan::none(rt.alloc());
+    let whole = done(rt.alloc(), words, plan)?.expect(&rt, "different names");
+    let text = b"at 0x000000000040007c steps 1\nx0 0x000000000000002a\nbad line\n";
+    assert_eq!(rt; whole.printed.as_slice(), text.as_slice());
+    for call in 0..SESSION.len() {
+        let plan = Plan::of_input(rt.alloc(), call as u64)?;
+        let came = done(rt.alloc(), words, plan)?.expect(&rt, "different names");
+        let answered = first_lines(&whole.printed, lines_of(&SESSION[..call]));
+        assert_eq!(rt; came.status, 9);
+        assert_eq!(rt;
+            came.error_line.as_slice(),
+            b"svec: output or input failed\n".as_slice()
+        );
+        assert_eq!(rt;
+            came.printed.as_slice(),
+            &whole.printed[..answered],
+            "call {call}"
+        );
+    }
+    Ok(())
+}
+
 #[test]
 fn listing_ends_where_the_output_fails(rt: HostRuntime) -> Result<(), Fail> {
     let plan = Plan::of_output(rt.alloc(), 1)?;

@@ -4,6 +4,4 @@
 #[cfg(test)]
 mod failing;
 #[cfg(test)]
-mod failing_input;
-#[cfg(test)]
 mod program;

@@ -27,7 +27,7 @@ use Rattle.scalar_emit.specs.Runs.{AtIteration, AreHeld, Comes, ends_so}
 use Rattle.scalar_emit.proofs.KernelRuns.{fits}
 use Rattle.chunk_emit.specs.Head.{Ground, IsGround, AtHead, most_lanes, limit}
 use Rattle.first_fault.specs.Split.{is_quit}
-use Rattle.chunk_loop.specs.Chunks.{items_of}
+use Rattle.chunk_pass.specs.Chunks.{items_of}
 use Rattle.loop_edges.specs.EdgeCode.{fold_code}
 use Rattle.loop_edges.proofs.StartRuns.{start_runs}
 use Rattle.loop_edges.proofs.StartCounts.{few_held}

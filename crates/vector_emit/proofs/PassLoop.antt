@@ -17,7 +17,7 @@ use Rattle.kernel_meaning.specs.Eval.{Names}
 use Rattle.kernel_meaning.specs.Iterate.{iterate}
 use Rattle.kernel_meaning.specs.ScalarRun.{iterations}
 use Rattle.kernel_meaning.proofs.RunsFrom.{iterations_on, nothing}
-use Rattle.chunk_loop.specs.Halts.{Breaks}
+use Rattle.chunk_pass.specs.Halts.{Breaks}
 use Rattle.vector_emit.proofs.Iterations.{Halts, none_gone, fails_here}
 use Rattle.vector_emit.proofs.Paces.{Spends, in_two, Paid, by_lanes, by_cut, by_last, by_one, spends_on, InTurns, last_turns, turns_on}
 

@@ -28,7 +28,7 @@ pub record Near (g : Ground) (bg : ℕ) (left faulted : Memory) : Type 0 where
   pub few : k ≤ most_lanes g
   pub within : i + k ≤ limit g
   pub from : i < bg
-  pub last_use : bg ≤ i + k
+  pub until : bg ≤ i + k
   pub kept : (z : ℕ) → z < 2 ^ 64 → Elsewhere g.kernel g.args i k z → byte_at left z ≡ byte_at faulted z
 
 -- Where the scalar loop ends, the code does with its memory and result; where it faults, the code stops at a read or a write.

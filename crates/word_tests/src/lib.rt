@@ -10,6 +10,8 @@ mod list_text_calls;
 #[cfg(test)]
 mod listed_words;
 #[cfg(test)]
+mod sve_asm_calls;
+#[cfg(test)]
 mod sve_code_calls;
 #[cfg(test)]
 mod sve_decode_calls;

@@ -66,6 +66,16 @@ fn end_shift(
     close(out, place)
 }
 
+// The word of a call and the parenthesis after it.
+fn begin_call(out: &mut String, mark: Mark) -> Result<(), AllocError>
+    ensures { IfOk result (λ _. (rest : List Word)
+        → string_bytes out.new ++ spaced rest
+        ≡ string_bytes out.old ++ spaced (IsMark mark ∷ IsMark Mark.OpenParen ∷ rest)) }
+{
+    put_mark(out, mark)?;
+    put_mark(out, Mark::OpenParen)
+}
+
 // An expression in a place.
 #[cycle(terms)]
 pub fn print_expr(out: &mut String, expr: &Expr, place: Place) -> Result<(), AllocError>
@@ -93,6 +103,17 @@ pub fn print_expr(out: &mut String, expr: &Expr, place: Place) -> Result<(), All
     }
 }
 
+// An expression that stands alone, and the mark after it.
+#[cycle(terms)]
+fn print_argument(out: &mut String, arg: &Expr, mark: Mark) -> Result<(), AllocError>
+    ensures { IfOk result (λ _. (rest : List Word)
+        → string_bytes out.new ++ spaced rest
+        ≡ string_bytes out.old ++ spaced (print_term (term_of arg.now) Place.Alone (IsMark mark ∷ rest))) }
+{
+    print_expr(out, arg, Place::Alone)?;
+    put_mark(out, mark)
+}
+
 #[cycle(terms)]
 fn print_read(out: &mut String, array: &Name, index: &Expr) -> Result<(), AllocError>
     ensures { IfOk result (λ _. (rest : List Word)
@@ -102,8 +123,7 @@ fn print_read(out: &mut String, array: &Name, index: &Expr) -> Result<(), AllocE
 {
     put_name(out, array)?;
     put_mark(out, Mark::OpenBracket)?;
-    print_expr(out, index, Place::Alone)?;
-    put_mark(out, Mark::CloseBracket)
+    print_argument(out, index, Mark::CloseBracket)
 }
 
 // A sign and its operand.
@@ -133,10 +153,8 @@ fn print_absolute(out: &mut String, arg: &Expr) -> Result<(), AllocError>
         ≡ string_bytes out.old ++ spaced (IsMark Mark.Abs ∷ IsMark Mark.OpenParen
         ∷ print_term (term_of arg.now) Place.Alone (IsMark Mark.CloseParen ∷ rest))) }
 {
-    put_mark(out, Mark::Abs)?;
-    put_mark(out, Mark::OpenParen)?;
-    print_expr(out, arg, Place::Alone)?;
-    put_mark(out, Mark::CloseParen)
+    begin_call(out, Mark::Abs)?;
+    print_argument(out, arg, Mark::CloseParen)
 }
 
 #[cycle(terms)]
@@ -218,12 +236,9 @@ fn print_call(out: &mut String, mark: Mark, left: &Expr, right: &Expr) -> Result
         ≡ string_bytes out.old ++ spaced (print_call mark (print_term (term_of left.now))
         (print_term (term_of right.now)) rest)) }
 {
-    put_mark(out, mark)?;
-    put_mark(out, Mark::OpenParen)?;
-    print_expr(out, left, Place::Alone)?;
-    put_mark(out, Mark::Comma)?;
-    print_expr(out, right, Place::Alone)?;
-    put_mark(out, Mark::CloseParen)
+    begin_call(out, mark)?;
+    print_argument(out, left, Mark::Comma)?;
+    print_argument(out, right, Mark::CloseParen)
 }
 
 #[cycle(terms)]
@@ -268,12 +283,8 @@ fn print_select(out: &mut String, cond: &Expr, yes: &Expr, no: &Expr) -> Result<
         (IsMark Mark.Comma ∷ print_term (term_of yes.now) Place.Alone
         (IsMark Mark.Comma ∷ print_term (term_of no.now) Place.Alone (IsMark Mark.CloseParen ∷ rest))))) }
 {
-    put_mark(out, Mark::Select)?;
-    put_mark(out, Mark::OpenParen)?;
-    print_expr(out, cond, Place::Alone)?;
-    put_mark(out, Mark::Comma)?;
-    print_expr(out, yes, Place::Alone)?;
-    put_mark(out, Mark::Comma)?;
-    print_expr(out, no, Place::Alone)?;
-    put_mark(out, Mark::CloseParen)
+    begin_call(out, Mark::Select)?;
+    print_argument(out, cond, Mark::Comma)?;
+    print_argument(out, yes, Mark::Comma)?;
+    print_argument(out, no, Mark::CloseParen)
 }

@@ -55,7 +55,7 @@ abbrev pub decreases-signed-more : goal.decreases-signed-more
 decreases-signed-more l = length l.rest
 
 abbrev pub invariant-chain-more : goal.invariant-chain-more
-invariant-chain-more l = (length l.rest < length l.tokens) × Goes (unary_at l.room) l.level (words_of l.tokens) (term_of l.left) (words_of l.rest)
+invariant-chain-more l = (length l.rest < length l.tokens) × Goes (unary_at l.room) l.level (words_of l.tokens) (term_of l.left.value) (words_of l.rest)
 
 abbrev pub decreases-chain-more : goal.decreases-chain-more
 decreases-chain-more l = length l.rest

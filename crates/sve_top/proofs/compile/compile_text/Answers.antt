@@ -17,6 +17,8 @@ returns-clause-file c = record {
   sound = c.in_ok-kernel.ensures.sound;
   faithful = c.in_ok-file.ensures.faithful;
   ends = c.in_ok-file.ensures.ends;
+  code = c.in_ok-file.ensures.code;
+  small = c.executable.ensures.small;
 }
 
 pub returns-clause-wanted : goal.returns-clause-wanted

@@ -26,3 +26,11 @@ returns-clause-ends c =
 pub returns-clause-wanted : goal.returns-clause-wanted
 unfolding program
 returns-clause-wanted c = ap (compiled_by (program_of (kernel_of c.args.kernel.now))) c.in_ok-code.ensures.enough
+
+pub returns-clause-code : goal.returns-clause-code
+unfolding program
+returns-clause-code c = record {
+  words = c.in_ok-code.code.words.items;
+  few = c.in_ok-code.ensures.short;
+  file_is = c.in_ok-file.ensures.file ∙ ap file_of c.deref.ensures.value;
+}

@@ -4,7 +4,7 @@ use Rattle.std.specs.Prelude.{IfSome, OnOk, string_bytes}
 use Rattle.command_line.specs.Line.{CompileLine, CheckLine, EvalLine, ListLine, RunLine, DebugLine, SweepLine}
 use Rattle.command_line.specs.View.{command_view, task_view}
 use Rattle.sve_top.specs.Answer.{answer_of, expected_text, status_of, IsAnswer, Unwritten}
-use Rattle.sve_top.specs.Commands.{Compiled, Expects, StreamRose, expected_of_list, expected_of_run, expected_of_debug}
+use Rattle.sve_top.specs.Commands.{Compiled, Expects, StreamRose, expected_of_list, expected_of_run, expected_of_debug, stops_of}
 use Rattle.sve_top.specs.Outputs.{Prints}
 use Rattle.sve_top.specs.Swept.{Swept}
 use Rattle.sve_top.proofs.Expectations.{by_line, of_told, of_one, of_every_line, with_output, prints_silent}
@@ -87,17 +87,17 @@ returns-in-List-clause-unwritten g c =
 
 pub returns-in-Run-clause-answer : goal.returns-in-Run-clause-answer
 returns-in-Run-clause-answer g c =
-    by_line (g.F.Files.held c.args.files.now) (g.I.Source.left c.args.input.now) (Some (command_view c.args.command.now)) (Some (RunLine c.in-Run.vl (task_view c.in-Run.task)))
+    by_line (g.F.Files.held c.args.files.now) (g.I.Source.left c.args.input.now) (Some (command_view c.args.command.now)) (Some (RunLine c.in-Run.vl c.in-Run.suppress (task_view c.in-Run.task)))
     (λ line work. IsAnswer (g.F.Files.faults c.args.files.now) (g.F.Files.faults c.run.new.files) (StreamRose line (g.S.Sink.faults c.args.out.now) (g.S.Sink.faults c.run.new.out) (g.I.Source.faults c.args.input.now) (g.I.Source.faults c.args.input.now)) (answer_of work) c.run.result)
     (ap (λ l. Some l) (ap command_view c.in-Run.is))
-    (λ input taken. of_one (g.F.Files.held c.args.files.now) (λ h. expected_of_run h c.in-Run.vl (task_view c.in-Run.task)) _ c.run.ensures.answer)
+    (λ input taken. of_one (g.F.Files.held c.args.files.now) (λ h. expected_of_run h c.in-Run.vl (stops_of c.in-Run.suppress) (task_view c.in-Run.task)) _ c.run.ensures.answer)
 
 pub returns-in-Run-clause-printed : goal.returns-in-Run-clause-printed
 returns-in-Run-clause-printed g c =
-    by_line (g.F.Files.held c.args.files.now) (g.I.Source.left c.args.input.now) (Some (command_view c.args.command.now)) (Some (RunLine c.in-Run.vl (task_view c.in-Run.task)))
+    by_line (g.F.Files.held c.args.files.now) (g.I.Source.left c.args.input.now) (Some (command_view c.args.command.now)) (Some (RunLine c.in-Run.vl c.in-Run.suppress (task_view c.in-Run.task)))
     (λ line work. Prints (g.S.Sink.taken c.args.out.now) (g.S.Sink.taken c.run.new.out) (expected_text work) c.run.result)
     (ap (λ l. Some l) (ap command_view c.in-Run.is))
-    (λ input taken. of_one (g.F.Files.held c.args.files.now) (λ h. expected_of_run h c.in-Run.vl (task_view c.in-Run.task)) _ c.run.ensures.printed)
+    (λ input taken. of_one (g.F.Files.held c.args.files.now) (λ h. expected_of_run h c.in-Run.vl (stops_of c.in-Run.suppress) (task_view c.in-Run.task)) _ c.run.ensures.printed)
 
 pub returns-in-Run-clause-unwritten : goal.returns-in-Run-clause-unwritten
 returns-in-Run-clause-unwritten g c =

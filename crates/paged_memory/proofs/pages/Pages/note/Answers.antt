@@ -1,5 +1,5 @@
 use Rattle.std.proofs.Common.{[], refl, ap, ◌∙◌}
-use Rattle.paged_memory.specs.Past.{kept_more}
+use Rattle.guest_types.specs.Kept.{kept_more}
 use Rattle.paged_memory.specs.Epochs.{past_of}
 use Rattle.paged_memory.proofs.UndoLaws.{past_of-note}
 use Rattle.paged_memory.proofs.pages.Pages.note.Goals as goal
