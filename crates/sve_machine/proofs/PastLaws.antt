@@ -3,7 +3,7 @@ use Rattle.std.proofs.Common.{◌≡◌, ◌≢◌, ℕ, zero, suc, ◌+◌, ◌
 use Rattle.std.proofs.lemmas.List.{length-drop, take-append-le, take_all}
 use Rattle.guest_types.specs.Memory.{Memory}
 use Rattle.machine_model.specs.Debugged.{Past}
-use Rattle.paged_memory.specs.Past.{kept_more}
+use Rattle.guest_types.specs.Kept.{kept_more}
 use Rattle.sve_machine.specs.declared.snapshot.Snapshot.{Snapshot}
 use Rattle.sve_machine.specs.Pasts.{past_at, past_by, rests_of, AreBeside}
 

@@ -1,7 +1,7 @@
 //! What a machine was, but for its memory.
 
 ghost use Rattle.std.specs.Prelude.{◌≡◌, ◌+◌, ◌-◌, ◌<◌, ◌≤◌, [], ◌∷◌, length, drop, take, slice_index_or, IfOk};
-ghost use Rattle.paged_memory.specs.Past.{kept_more};
+ghost use Rattle.guest_types.specs.Kept.{kept_more};
 ghost use Rattle.sve_machine.specs.declared.snapshot.Snapshot.{Snapshot as SnapshotOf};
 
 use crate::snapshot::Snapshot;

@@ -6,6 +6,7 @@ mod debugged;
 mod decoding;
 mod history;
 mod instruction;
+mod keeping;
 mod kept;
 mod lanes;
 mod look_up;

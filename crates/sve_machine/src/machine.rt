@@ -49,7 +49,7 @@ impl Machine {
     ghost use Rattle.machine_model.specs.Run.{run, start_of};
     ghost use Rattle.machine_model.specs.OneStep.{step};
     ghost use Rattle.machine_model.specs.Answers.{IsAnswer, outcome_of};
-    ghost use Rattle.paged_memory.specs.Past.{kept_more};
+    ghost use Rattle.guest_types.specs.Kept.{kept_more};
     ghost use Rattle.sve_machine.specs.Pasts.{past_at};
     ghost use Rattle.machine_model.specs.Debugged.{Past, now, RunLeaves, is_never, answer_by, ending_by, outcome_by};
     ghost use Rattle.a64_machine.specs.Cores.{state_of};

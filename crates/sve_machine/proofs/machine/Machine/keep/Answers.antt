@@ -1,6 +1,6 @@
 use Rattle.std.proofs.Common.{ap, ap₂, ◌∙◌, arith}
 use Rattle.machine_model.specs.Debugged.{View}
-use Rattle.paged_memory.specs.Past.{kept_more}
+use Rattle.guest_types.specs.Kept.{kept_more}
 use Rattle.sve_machine.specs.Pasts.{past_at, past_by}
 use Rattle.sve_machine.proofs.PastLaws.{past_by-more, seen-past, never-kept, beside}
 use Rattle.sve_machine.proofs.machine.Machine.keep.Goals as goal
