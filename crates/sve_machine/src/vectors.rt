@@ -64,6 +64,19 @@ impl Vectors {
         }
     }
 
+    /// The same registers once more.
+    pub fn copy(&self) -> Vectors
+        ensures { result ≡ self.now }
+    {
+        Vectors {
+            z: self.z,
+            p: self.p,
+            ffr: self.ffr,
+            vl: self.vl,
+            stops: self.stops.copy(),
+        }
+    }
+
     /// The vector length.
     #[inline(always)]
     pub fn vl(&self) -> Vl
