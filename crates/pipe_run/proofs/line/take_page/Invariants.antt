@@ -7,5 +7,5 @@ abbrev pub invariant-loop-at : goal.invariant-loop-at
 invariant-loop-at l = record {
   page : l.page.page ≡ l.initial.page.page;
   perm : l.page.perm ≡ l.initial.page.perm;
-  taken : Taken (page_at l.pages l.initial.page.page) l.initial.page l.at l.page.bytes;
+  taken : Taken (page_at l.pages.memory l.initial.page.page) l.initial.page l.at l.page.bytes;
 }
