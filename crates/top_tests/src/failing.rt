@@ -315,51 +315,35 @@ fn failing_input_is_told(rt: HostRuntime) -> Result<(), Fail> {
     Ok(())
 }
 
-// How many bytes so many lines of a text take.
-fn first_lines(text: &[u8], lines: usize) -> usize {
-    let mut left = lines;
-    let mut at = 0;
-    while at < text.len() && left > 0 {
-        if text[at] == b'\n' {
-            left -= 1;
-        }
-        at += 1;
-    }
-    at
-}
-
-// How many lines end in a text.
-fn lines_of(text: &[u8]) -> usize {
-    let mut lines = 0;
-    for byte in text {
-        if *byte == b'\n' {
-            lines += 1;
-        }
-    }
-    lines
-}
+// From which call of the input on, and up to which one, the lines that were ended have these answers.
+const ANSWERED: [(u64, u64, &str); 4] = [
+    (0, 7, ""),
+    (7, 11, "at 0x000000000040007c steps 1\n"),
+    (
+        11,
+        16,
+        "at 0x000000000040007c steps 1\nx0 0x000000000000002a\n",
+    ),
+    (
+        16,
+        21,
+        "at 0x000000000040007c steps 1\nx0 0x000000000000002a\nbad line\n",
+    ),
+];
 
 #[test]
 fn lines_before_a_failed_input_are_answered(rt: HostRuntime) -> Result<(), Fail> {
-    let words = "debug e1.elf 41";
-    let plan = Plan::none(rt.alloc());
-    let whole = done(rt.alloc(), words, plan)?.expect(&rt, "different names");
-    let text = b"at 0x000000000040007c steps 1\nx0 0x000000000000002a\nbad line\n";
-    assert_eq!(rt; whole.printed.as_slice(), text.as_slice());
-    for call in 0..SESSION.len() {
-        let plan = Plan::of_input(rt.alloc(), call as u64)?;
-        let came = done(rt.alloc(), words, plan)?.expect(&rt, "different names");
-        let answered = first_lines(&whole.printed, lines_of(&SESSION[..call]));
-        assert_eq!(rt; came.status, 9);
-        assert_eq!(rt;
-            came.error_line.as_slice(),
-            b"svec: output or input failed\n".as_slice()
-        );
-        assert_eq!(rt;
-            came.printed.as_slice(),
-            &whole.printed[..answered],
-            "call {call}"
-        );
+    for (first, end, answers) in ANSWERED {
+        for call in first..end {
+            let plan = Plan::of_input(rt.alloc(), call)?;
+            let came = done(rt.alloc(), "debug e1.elf 41", plan)?.expect(&rt, "different names");
+            assert_eq!(rt; came.status, 9);
+            assert_eq!(rt;
+                came.error_line.as_slice(),
+                b"svec: output or input failed\n".as_slice()
+            );
+            assert_eq!(rt; came.printed.as_slice(), answers.as_bytes(), "call {call}");
+        }
     }
     Ok(())
 }
