@@ -1,6 +1,6 @@
 -- Memories and rests beside each other.
-use Rattle.std.proofs.Common.{◌≡◌, ◌≢◌, ℕ, zero, suc, ◌+◌, ◌-◌, ◌<◌, ◌≤◌, List, [], ◌∷◌, ◌++◌, length, take, drop, get_or, Option, Some, None, refl, sym, ap, ap₂, ◌∙◌, subst, arith, length-append}
-use Rattle.std.proofs.lemmas.List.{length-drop, take-append-le, take_all}
+use Rattle.std.proofs.Common.{◌≡◌, ℕ, zero, suc, ◌+◌, ◌-◌, ◌<◌, List, [], ◌∷◌, ◌++◌, length, take, drop, get_or, Option, Some, None, refl, sym, ap, ap₂, ◌∙◌, subst, arith, length-append}
+use Rattle.std.proofs.lemmas.List.{length-drop}
 use Rattle.guest_types.specs.Memory.{Memory}
 use Rattle.machine_model.specs.Debugged.{Past}
 use Rattle.guest_types.specs.Kept.{kept_more}
@@ -68,14 +68,3 @@ never-kept ms h past is none = sym (ap (length {A = _}) (ap (λ h. past_by ms (r
 
 pub beside : (ms : List Memory) (h : Option (List Snapshot)) (rs : List Snapshot) → h ≡ Some rs → AreBeside ms h → length ms ≡ length rs
 beside ms h rs some are = subst (AreBeside ms) some are
-
--- the oldest of eight is dropped
-pub dropped : (rs : List Snapshot) → length rs ≡ 8 → take 7 (drop 1 rs ++ take 1 rs) ≡ drop (length rs + 1 - 8) rs
-dropped rs eight =
-    let rest = length-drop 1 rs in
-    take-append-le 7 (drop 1 rs) (take 1 rs) (omega (arith, rest, eight))
-    ∙ take_all 7 (drop 1 rs) (omega (arith, rest, eight))
-    ∙ ap (λ k. drop k rs) (let e : 1 ≡ length rs + 1 - 8 = omega (arith, eight) in e)
-
-pub room-left : (rs : List Snapshot) → length rs ≤ 8 → length rs ≢ 8 → rs ≡ drop (length rs + 1 - 8) rs
-room-left rs few other = ap (λ k. drop k rs) (let e : 0 ≡ length rs + 1 - 8 = omega (arith, few, other) in e)

@@ -1,5 +1,5 @@
 -- What a machine was each time that it was kept, by its memories and by the rest beside them.
-use Rattle.std.specs.Prelude.{◌≡◌, ℕ, ◌≤◌, List, [], ◌∷◌, length, Option, Some, None, All}
+use Rattle.std.specs.Prelude.{◌≡◌, List, [], ◌∷◌, length, Option, Some, None, All}
 use Rattle.guest_types.specs.Memory.{Memory}
 use Rattle.machine_model.specs.Debugged.{Past, is_never}
 use Rattle.a64_machine.specs.Cores.{state_of}
@@ -21,11 +21,6 @@ past_by (memory ∷ memories) (rest ∷ rests) = past_at memory rest ∷ past_by
 abbrev pub rests_of : Option (List Snapshot) → List Snapshot
 rests_of None = []
 rests_of (Some rests) = rests
-
--- at most eight, with room for so many
-pub record HasRoom (rests : List Snapshot) (capacity : ℕ) : Type 0 where
-  pub few : length rests ≤ 8
-  pub room : 8 ≤ capacity
 
 -- as many memories as rests beside them, where a past was begun
 abbrev pub AreBeside : List Memory → Option (List Snapshot) → Type 0
