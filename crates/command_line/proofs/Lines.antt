@@ -6,7 +6,7 @@ use Rattle.std.proofs.lemmas.Bool.{lt-ltb}
 use Rattle.std.proofs.lemmas.Option.{none-some}
 use Rattle.std.proofs.lemmas.List.{append-nil, append_assoc}
 use Rattle.number_text.specs.Numbers.{given, number_of}
-use Rattle.command_line.specs.Line.{Words, Options, Extent, Line, is_end, is_plain, is_filled, positional, positional_from, value_named, value_in, value_following, value_at, once, extent_of, period_of, with_vl, with_steps, with_map, with_dump, with_suppress, option_at, options_of, no_options, run_with, run_of, eval_with, eval_of, debug_with, debug_of}
+use Rattle.command_line.specs.Line.{Words, Options, Extent, Line, is_end, is_plain, is_filled, positional, positional_from, value_named, value_in, value_following, value_at, once, extent_of, period_of, with_vl, with_steps, with_map, with_dump, with_suppress, option_at, options_of, no_options, run_with, run_of, eval_with, eval_of, debug_with, debug_of, pipe_with, pipe_of}
 use Rattle.command_line.specs.Numbers.{parted}
 use Rattle.command_line.specs.Given.{Given, name_of, joined_of, name_before, allows, without, next, gives, given_from, given_of, nothing, with_value, with_word, spelt_value, options_in}
 use Rattle.command_line.specs.declared.place.Allowed.{Allowed}
@@ -713,6 +713,9 @@ run_allows = record { vl = true; steps = true; map = true; dump = true; suppress
 abbrev eval_allows : Allowed
 eval_allows = record { vl = false; steps = true; map = true; dump = true; suppress = false }
 
+abbrev pipe_allows : Allowed
+pipe_allows = record { vl = true; steps = true; map = true; dump = true; suppress = false }
+
 abbrev debug_allows : Allowed
 debug_allows = record { vl = true; steps = false; map = true; dump = false; suppress = false }
 
@@ -763,6 +766,17 @@ debug_is words = lines debug_with debug_allows words closed
     closed Map e = absurd (true≢false e)
     closed Dump e = λ o ws h. rw h (no_choice (is_some o.steps))
     closed Suppress e = λ o ws h. rw h (no_choices (is_some o.steps) (is_some o.dump))
+
+pub pipe_is : (words : Words) → pipe_of words ≡ line_by pipe_with (given_of pipe_allows words)
+unfolding pipe_of pipe_with
+pipe_is words = lines pipe_with pipe_allows words closed
+  where
+    closed : (n : OptionName) → allows pipe_allows n ≡ false → (o : Options) (ws : Words) → has n o ≡ true → pipe_with o ws ≡ None
+    closed Vl e = absurd (true≢false e)
+    closed Steps e = absurd (true≢false e)
+    closed Map e = absurd (true≢false e)
+    closed Dump e = absurd (true≢false e)
+    closed Suppress e = λ o ws h. rw h refl
 
 -- the positional words of a command that has no options
 pub words_alone : (words : Words) → positional words ≡ option_map (λ (g : Given). g.words) (given_of no_allows words)

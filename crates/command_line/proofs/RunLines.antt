@@ -6,7 +6,7 @@ use Rattle.std.proofs.lemmas.List.Elements.{All-cons, All-nil, All-append}
 use Rattle.guest_types.specs.Length.{IsLength}
 use Rattle.number_text.specs.Numbers.{given, following, is_digit, is_hex_digit, value_of, small_value, are_digits, decimal_of, hexadecimal_of, number_of}
 use Rattle.command_line.specs.Numbers.{negative, argument_of}
-use Rattle.command_line.specs.Line.{Words, Options, Task, Line, CheckLine, EvalLine, ListLine, RunLine, DebugLine, SweepLine, or_default, is_length, arguments_from, arguments_of, task_of, run_with, run_of, positional, options_of, two_files, compile_of, file_of, eval_with, eval_of, debug_with, debug_of, number_and_file, words_and_file, asm_of, sweep_of, line_of}
+use Rattle.command_line.specs.Line.{Words, Options, Task, Line, CheckLine, EvalLine, ListLine, RunLine, DebugLine, SweepLine, PipeLine, or_default, is_length, arguments_from, arguments_of, task_of, run_with, run_of, positional, options_of, two_files, compile_of, file_of, eval_with, eval_of, debug_with, debug_of, pipe_with, pipe_of, number_and_file, words_and_file, asm_of, sweep_of, line_of}
 
 abbrev IsSmall : ℕ → Type 0
 IsSmall n = n < 2 ^ 64
@@ -157,6 +157,16 @@ debug_runs words = after_option (options_of words) _ (λ p. after_option (positi
     by false false false true vl task = mapped_runs (DebugLine vl) task (λ a. tt)
     by false false false false vl task = tt
 
+pipe_runs : (words : Words) → IfSome (pipe_of words) Runs
+unfolding pipe_of pipe_with
+pipe_runs words = after_option (options_of words) _ (λ p. after_option (positional p.1) _ (λ words. by (is_some p.0.suppress) (nat_lt 1 (length words)) (is_length (or_default p.0.vl 128)) (or_default p.0.vl 128) (task_of p.0 words)))
+  where
+    by : (a b c : Bool) (vl : ℕ) (task : Option Task) → IfSome (if a then None else if b then None else if c then option_map (PipeLine vl) task else None) Runs
+    by true b c vl task = tt
+    by false true c vl task = tt
+    by false false true vl task = mapped_runs (PipeLine vl) task (λ a. tt)
+    by false false false vl task = tt
+
 sweep_number : (words : Words) → IfSome (number_and_file words) Runs
 sweep_number [] = tt
 sweep_number (a ∷ []) = tt
@@ -192,7 +202,8 @@ line_runs (name ∷ words) =
     (choose (bytes_eq name (codes "run")) _ _ (run_runs words)
     (choose (bytes_eq name (codes "debug")) _ _ (debug_runs words)
     (choose (bytes_eq name (codes "sweep")) _ _ (sweep_runs words)
-    (choose (bytes_eq name (codes "asm")) (asm_of words) None (asm_runs words) tt)))))))
+    (choose (bytes_eq name (codes "asm")) _ _ (asm_runs words)
+    (choose (bytes_eq name (codes "pipe")) (pipe_of words) None (pipe_runs words) tt))))))))
 
 pub can_run : (words : Words) (vl : ℕ) (suppress : Option ℕ) (task : Task) → line_of words ≡ Some (RunLine vl suppress task) → CanRun vl task.args
 can_run words vl suppress task e = subst (λ o. IfSome o Runs) e (line_runs words)

@@ -22,7 +22,8 @@ pub record Task : Type 0 where
   pub args : List ℕ
 
 -- a run and a debugging session have a vector length in bits too; a run may have a number each of whose multiples counts a free
--- element that is suppressed; neither the steps nor the dump of a task count in a session
+-- element that is suppressed; neither the steps nor the dump of a task count in a session; the file of the task of a pipe is its script,
+-- and it has no arguments
 pub data Line : Type 0 where
   CompileLine : (from to : List ℕ) → Line
   CheckLine : (from : List ℕ) → Line
@@ -32,6 +33,7 @@ pub data Line : Type 0 where
   DebugLine : (vl : ℕ) → Task → Line
   SweepLine : (number : ℕ) → (to : List ℕ) → Line
   AsmLine : (from to : List ℕ) → Line
+  PipeLine : (vl : ℕ) → Task → Line
 
 -- ---- positional words
 
@@ -245,6 +247,18 @@ words_and_file _ = None
 unfoldable pub asm_of : Words → Option Line
 asm_of words = option_and_then words_and_file (positional words)
 
+-- `pipe` with these options and positional words: 128 bits where no option tells, no stop list, and no arguments
+unfoldable pub pipe_with : Options → Words → Option Line
+pipe_with o words =
+    if is_some o.suppress then None
+    else if nat_lt 1 (length words) then None
+    else if is_length (or_default o.vl 128) then option_map (PipeLine (or_default o.vl 128)) (task_of o words)
+    else None
+
+-- `pipe [--vl N] [--steps N] [--map M] [--dump A:L] SCRIPT`
+unfoldable pub pipe_of : Words → Option Line
+pipe_of words = option_and_then (λ p. option_and_then (pipe_with p.0) (positional p.1)) (options_of words)
+
 -- the command of some words, where they are one
 unfoldable pub line_of : Words → Option Line
 line_of [] = None
@@ -256,4 +270,5 @@ line_of (name ∷ words) =
     if bytes_eq name (codes "run") then run_of words else
     if bytes_eq name (codes "debug") then debug_of words else
     if bytes_eq name (codes "sweep") then sweep_of words else
-    if bytes_eq name (codes "asm") then asm_of words else None
+    if bytes_eq name (codes "asm") then asm_of words else
+    if bytes_eq name (codes "pipe") then pipe_of words else None

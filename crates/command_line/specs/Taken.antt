@@ -22,16 +22,14 @@ with_option is_allowed name a = if is_allowed then with_rule a (option_rule name
 abbrev pub bare : Text → App
 bare name = on_top (λ s. record s { no_binary_name = true; disable_help_flag = true }) (new_app name)
 
+-- the options that say how a program is run
+abbrev pub with_run_options : Allowed → App → App
+with_run_options a command = with_option a.map (codes "map") (with_option a.steps (codes "steps") (with_option a.vl (codes "vl") command))
+
 -- the command of this name with these options
 abbrev pub command_taking : Text → Allowed → App
 command_taking name a =
-    with_rule
-    (with_option a.suppress (codes "suppress")
-    (with_option a.dump (codes "dump")
-    (with_option a.map (codes "map")
-    (with_option a.steps (codes "steps")
-    (with_option a.vl (codes "vl") (bare name))))))
-    words_rule
+    with_rule (with_option a.suppress (codes "suppress") (with_option a.dump (codes "dump") (with_run_options a (bare name)))) words_rule
 
 -- the values that were found, by their options, and the positional words
 abbrev pub given_view : ArgMatches → Given

@@ -1,7 +1,7 @@
 //! Reading the words of a command.
 
 ghost use Rattle.std.specs.Prelude.{◌≡◌, ◌≤◌, IfOk, IfSome, option_map, is_some, length, [], string_bytes};
-ghost use Rattle.command_line.specs.Line.{is_length, positional, arguments_from, arguments_of, task_of, run_with, run_of, debug_with, debug_of, compile_of, sweep_of, asm_of, file_of, eval_with, eval_of, line_of, CheckLine, ListLine};
+ghost use Rattle.command_line.specs.Line.{is_length, positional, arguments_from, arguments_of, task_of, run_with, run_of, debug_with, debug_of, compile_of, sweep_of, asm_of, pipe_with, pipe_of, file_of, eval_with, eval_of, line_of, CheckLine, ListLine};
 ghost use Rattle.command_line.specs.View.{texts, all_left, all_in, options_view, task_view, command_view};
 ghost use Rattle.number_text.specs.View.{items_in, bytes_left};
 
@@ -36,6 +36,14 @@ const RUN_OPTIONS: Allowed = Allowed {
     map: true,
     dump: true,
     suppress: true,
+};
+
+const PIPE_OPTIONS: Allowed = Allowed {
+    vl: true,
+    steps: true,
+    map: true,
+    dump: true,
+    suppress: false,
 };
 
 const DEBUG_OPTIONS: Allowed = Allowed {
@@ -206,6 +214,43 @@ fn debug(alloc: Global, words: &[String]) -> Result<Option<Command>, AllocError>
     debug_with(alloc, settings, &words)
 }
 
+// A script with these options and positional words.
+#[tactic(auto, unfolding(crate::specs::Line::pipe_with))]
+fn pipe_with(
+    alloc: Global,
+    settings: Settings<'_>,
+    words: &[&str],
+) -> Result<Option<Command>, AllocError>
+    ensures { IfOk result (λ o. option_map command_view o
+        ≡ pipe_with (options_view settings.entry) (all_left words.now)) }
+{
+    if settings.suppress.is_some() || words.len() > 1 {
+        return Ok(None);
+    }
+    let Some(vl) = length_of(settings.vl.unwrap_or(128)) else {
+        return Ok(None);
+    };
+    let Some(task) = task(alloc, settings, words)? else {
+        return Ok(None);
+    };
+    Ok(Some(Command::Pipe { vl, task }))
+}
+
+// The command of the words after `pipe`.
+#[tactic(auto, using(crate::proofs::Lines::pipe_is))]
+fn pipe(alloc: Global, words: &[String]) -> Result<Option<Command>, AllocError>
+    ensures { IfOk result (λ o. option_map command_view o ≡ pipe_of (texts words.now)) }
+{
+    let Some(found) = taken(alloc, "pipe", PIPE_OPTIONS, words)? else {
+        return Ok(None);
+    };
+    let Some(settings) = read_settings(&found) else {
+        return Ok(None);
+    };
+    let words = positional(alloc, &found)?;
+    pipe_with(alloc, settings, &words)
+}
+
 // The command of the words after `sweep`.
 #[tactic(auto, unfolding(crate::specs::Line::sweep_of))]
 fn sweep(alloc: Global, words: &[String]) -> Result<Option<Command>, AllocError>
@@ -333,7 +378,8 @@ fn eval(alloc: Global, words: &[String]) -> Result<Option<Command>, AllocError>
 /// The first word names the command, options stand next and positional words last:
 /// `compile IN OUT`, `check IN`, `eval [--map M] [--steps N] [--dump A:L] IN [ARG]..`, `list FILE`,
 /// `run [--vl N] [--steps N] [--map M] [--dump A:L] [--suppress N] FILE [ARG]..`,
-/// `debug [--vl N] [--map M] FILE [ARG]..`, `sweep NUMBER OUT` and `asm IN OUT`.
+/// `debug [--vl N] [--map M] FILE [ARG]..`, `sweep NUMBER OUT`, `asm IN OUT` and
+/// `pipe [--vl N] [--steps N] [--map M] [--dump A:L] SCRIPT`.
 #[tactic(auto, unfolding(crate::specs::Line::line_of))]
 pub fn read_line(alloc: Global, words: &[String]) -> Result<Option<Command>, AllocError>
     ensures { IfOk result (λ o. option_map command_view o ≡ line_of (texts words.now)) }
@@ -350,6 +396,7 @@ pub fn read_line(alloc: Global, words: &[String]) -> Result<Option<Command>, All
         "debug" => debug(alloc, rest),
         "sweep" => sweep(alloc, rest),
         "asm" => asm(alloc, rest),
+        "pipe" => pipe(alloc, rest),
         _ => Ok(None),
     }
 }

@@ -3,7 +3,7 @@
 ghost use Rattle.std.specs.Prelude.{◌≡◌, IfOk, option_map, true, false};
 ghost use Rattle.clap.specs.Words.{app_of, rule_of, kind_of};
 ghost use Rattle.command_line.specs.Given.{given_of};
-ghost use Rattle.command_line.specs.Taken.{option_rule, words_rule, with_option, bare, command_taking, given_view};
+ghost use Rattle.command_line.specs.Taken.{option_rule, words_rule, with_option, with_run_options, bare, command_taking, given_view};
 ghost use Rattle.command_line.specs.View.{texts};
 
 use crate::check::may_follow;
@@ -46,6 +46,20 @@ fn positional_words(alloc: Global) -> Arg<'static>
     Arg::new(alloc, "words").num_args(0..)
 }
 
+// The command with those options that say how a program is run.
+fn with_run_options<'a>(
+    alloc: Global,
+    command: Command<'a>,
+    allowed: Allowed,
+) -> Result<Command<'a>, AllocError>
+    ensures { IfOk result (λ c. app_of c ≡ with_run_options allowed (app_of command.entry)) }
+{
+    let command = with_option(alloc, command, "vl", allowed.vl)?;
+    let command = with_option(alloc, command, "steps", allowed.steps)?;
+    let command = with_option(alloc, command, "map", allowed.map)?;
+    Ok(command)
+}
+
 // The command of this name with these options.
 fn command_taking<'a>(
     alloc: Global,
@@ -55,9 +69,7 @@ fn command_taking<'a>(
     ensures { IfOk result (λ c. app_of c ≡ command_taking name.entry.now allowed) }
 {
     let command = bare(alloc, name);
-    let command = with_option(alloc, command, "vl", allowed.vl)?;
-    let command = with_option(alloc, command, "steps", allowed.steps)?;
-    let command = with_option(alloc, command, "map", allowed.map)?;
+    let command = with_run_options(alloc, command, allowed)?;
     let command = with_option(alloc, command, "dump", allowed.dump)?;
     let command = with_option(alloc, command, "suppress", allowed.suppress)?;
     command.arg(positional_words(alloc))

@@ -1,9 +1,11 @@
 -- Several runs over the pages of one map: each over the pages of its image and those of the map as the runs before left them.
-use Rattle.std.specs.Prelude.{ℕ, ◌+◌, ◌≤◌, List, [], ◌∷◌, map, length, Option, Some, None, option_map, option_and_then, Ok, Err, Bool, nat_eq}
+use Rattle.std.specs.Prelude.{ℕ, ◌+◌, ◌≤◌, List, [], ◌∷◌, map, length, Option, Some, None, Bool, nat_eq, nat_lt, if◌then◌else◌}
 use Rattle.std.specs.List.{list_any}
 use Rattle.guest_types.specs.Memory.{Page, Memory, DoNotMeet, page_at}
-use Rattle.machine_model.specs.Load.{Image, load}
+use Rattle.machine_model.specs.Load.{Image}
 use Rattle.machine_model.specs.Run.{Outcome, End, Stop, Spent, image_run, memory_left}
+use Rattle.pipe_script.specs.declared.fault.PipeFault.{PipeFault}
+use Rattle.pipe_script.specs.declared.fault.PipeFault.TheVariants.{Clash, TooManyPages}
 
 -- the bytes of a page, if there is one, and else those of another
 abbrev pub bytes_or : Page → Option Page → List ℕ
@@ -54,14 +56,9 @@ pub record Fits (image pages : Memory) : Type 0 where
   pub apart : DoNotMeet image pages
   pub few : length image + length pages ≤ 16384
 
--- ---- of files
-abbrev pub loaded : List ℕ → List ℕ → Option Line
-loaded file args = elim (load file) [ Ok image ↦ Some (record { image = image; args = args }) | Err fault ↦ None ]
-
-unfoldable pub lines_loaded : List (List ℕ × List ℕ) → Option (List Line)
-lines_loaded [] = Some []
-lines_loaded (f ∷ files) = option_and_then (λ line. option_map (λ lines. line ∷ lines) (lines_loaded files)) (loaded f.0 f.1)
-
--- the runs of files with their arguments, where each can be loaded
-abbrev pub pipe_run : List (List ℕ × List ℕ) → Memory → (vl steps : ℕ) → Option Runs
-pipe_run files pages vl steps = option_map (λ lines. runs_of lines pages vl steps) (lines_loaded files)
+-- why a map does not fit beside the image of a line
+abbrev pub misfit : (line : ℕ) → (image pages : Memory) → Option PipeFault
+misfit line image pages =
+    if have_common image pages then Some (Clash line)
+    else if nat_lt 16384 (length image + length pages) then Some (TooManyPages line)
+    else None

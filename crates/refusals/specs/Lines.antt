@@ -17,8 +17,10 @@ use Rattle.map_text.specs.declared.fault.MapFault.{MapFault}
 use Rattle.map_text.specs.declared.fault.MapFault.TheVariants as maps
 use Rattle.sve_asm.specs.declared.fault.AsmFault.{AsmFault}
 use Rattle.sve_asm.specs.declared.fault.AsmFault.TheVariants as assembling
+use Rattle.pipe_script.specs.declared.fault.PipeFault.{PipeFault}
+use Rattle.pipe_script.specs.declared.fault.PipeFault.TheVariants as pipes
 use Rattle.refusals.specs.declared.refusal.Refusal.{Refusal}
-use Rattle.refusals.specs.declared.refusal.Refusal.TheVariants.{Usage, TooManyLive, Kernel, TooLong, Elf, Map, Asm, Memory, File, Output}
+use Rattle.refusals.specs.declared.refusal.Refusal.TheVariants.{Usage, TooManyLive, Kernel, TooLong, Elf, Map, Asm, Pipe, Memory, File, Output}
 
 abbrev pub line : List ℕ → List ℕ
 line text = codes "svec: " ++ (text ++ line_feed)
@@ -91,6 +93,14 @@ line_of_asm (assembling.Differs place want found) = numbered (codes "svec: asm: 
 line_of_asm assembling.TooManyWords = line (codes "asm: too many words")
 line_of_asm assembling.Memory = line (codes "out of memory")
 
+-- why a text is no script, or why a map does not fit beside the file of a line
+abbrev pub line_of_pipe : PipeFault → List ℕ
+line_of_pipe pipes.TooLong = line (codes "pipe: too long")
+line_of_pipe (pipes.BadLine place) = numbered (codes "svec: pipe: bad line ") place
+line_of_pipe (pipes.Clash place) = numbered (codes "svec: pipe: clash at line ") place
+line_of_pipe (pipes.TooManyPages place) = numbered (codes "svec: pipe: too many pages at line ") place
+line_of_pipe pipes.Memory = line (codes "out of memory")
+
 abbrev pub line_of_refusal : Refusal → List ℕ
 line_of_refusal Usage = line (codes "usage")
 line_of_refusal (TooManyLive class need) = line_of_need class need
@@ -99,6 +109,7 @@ line_of_refusal TooLong = line (codes "file: too long")
 line_of_refusal (Elf fault) = line_of_fault fault
 line_of_refusal (Map fault) = line_of_map fault
 line_of_refusal (Asm fault) = line_of_asm fault
+line_of_refusal (Pipe fault) = line_of_pipe fault
 line_of_refusal Memory = line (codes "out of memory")
 line_of_refusal File = line (codes "file failed")
 line_of_refusal Output = line (codes "output or input failed")

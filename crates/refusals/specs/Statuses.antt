@@ -2,8 +2,6 @@
 use Rattle.std.specs.Prelude.{ℕ}
 use Rattle.io_edges.specs.declared.files.FileError.{FileError}
 use Rattle.io_edges.specs.declared.files.FileError.TheVariants as files
-use Rattle.kernel_compile.specs.declared.fault.CompileFault.{CompileFault}
-use Rattle.kernel_compile.specs.declared.fault.CompileFault.TheVariants as compiling
 use Rattle.kernel_syntax.specs.declared.fault.ReadFault.TheVariants as reading
 use Rattle.kernel_types.specs.declared.fault.TypeFault.TheVariants as typing
 use Rattle.kernel_front.specs.declared.fault.KernelFault.{KernelFault}
@@ -16,8 +14,10 @@ use Rattle.machine_model.specs.declared.elf_fault.ElfFault.{ElfFault}
 use Rattle.machine_model.specs.declared.elf_fault.ElfFault.TheVariants as elf
 use Rattle.sve_asm.specs.declared.fault.AsmFault.{AsmFault}
 use Rattle.sve_asm.specs.declared.fault.AsmFault.TheVariants as assembling
+use Rattle.pipe_script.specs.declared.fault.PipeFault.{PipeFault}
+use Rattle.pipe_script.specs.declared.fault.PipeFault.TheVariants as pipes
 use Rattle.refusals.specs.declared.refusal.Refusal.{Refusal}
-use Rattle.refusals.specs.declared.refusal.Refusal.TheVariants.{Usage, TooManyLive, Kernel, TooLong, Elf, Map, Asm, Memory, File, Output}
+use Rattle.refusals.specs.declared.refusal.Refusal.TheVariants.{Usage, TooManyLive, Kernel, TooLong, Elf, Map, Asm, Pipe, Memory, File, Output}
 use Rattle.refusals.specs.declared.refusal.Done.{Done}
 use Rattle.refusals.specs.declared.refusal.Done.TheVariants as done
 
@@ -36,6 +36,7 @@ status_of_refusal TooLong = 4
 status_of_refusal (Elf fault) = 4
 status_of_refusal (Map fault) = 4
 status_of_refusal (Asm fault) = 4
+status_of_refusal (Pipe fault) = 4
 status_of_refusal Memory = 7
 status_of_refusal File = 8
 status_of_refusal Output = 9
@@ -46,10 +47,6 @@ abbrev pub of_files : FileError → Refusal
 of_files files.Failed = File
 of_files files.TooLong = TooLong
 of_files files.Memory = Memory
-
-abbrev pub of_compile : CompileFault → Refusal
-of_compile (compiling.TooManyLive class need) = TooManyLive class need
-of_compile compiling.Memory = Memory
 
 abbrev pub of_elf : ElfFault → Refusal
 of_elf elf.Memory = Memory
@@ -62,6 +59,10 @@ of_map fault = Map fault
 abbrev pub of_asm : AsmFault → Refusal
 of_asm assembling.Memory = Memory
 of_asm fault = Asm fault
+
+abbrev pub of_pipe : PipeFault → Refusal
+of_pipe pipes.Memory = Memory
+of_pipe fault = Pipe fault
 
 abbrev pub of_session : SessionFault → Refusal
 of_session sessions.Memory = Memory

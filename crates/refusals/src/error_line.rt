@@ -3,7 +3,7 @@
 ghost use Rattle.std.specs.Prelude.{◌≡◌};
 ghost use Rattle.io_edges.specs.Sink.{PutsText};
 ghost use Rattle.machine_model.specs.OutcomeText.{line_feed};
-ghost use Rattle.refusals.specs.Lines.{numbered, mismatch, line_of_fault, line_of_reading, line_of_typing, line_of_kernel, line_of_need, line_of_map, line_of_asm, line_of_refusal};
+ghost use Rattle.refusals.specs.Lines.{numbered, mismatch, line_of_fault, line_of_reading, line_of_typing, line_of_kernel, line_of_need, line_of_map, line_of_asm, line_of_pipe, line_of_refusal};
 ghost use Rattle.kernel_tree.specs.Printing.{type_text};
 
 use crate::refusal::Refusal;
@@ -15,6 +15,7 @@ use kernel_tree::Ty;
 use kernel_types::TypeFault;
 use machine_model::elf_fault::ElfFault;
 use map_text::MapFault;
+use pipe_script::PipeFault;
 use reg_assign::RegClass;
 use sve_asm::AsmFault;
 
@@ -202,6 +203,24 @@ fn put_asm<S: Sink>(sink: &mut S, fault: AsmFault) -> Result<(), Failed>
     }
 }
 
+// Puts why a text is no script, or why a map does not fit beside the file of a line.
+fn put_pipe<S: Sink>(sink: &mut S, fault: PipeFault) -> Result<(), Failed>
+    ensures { PutsText (S.taken sink.old) (S.taken sink.new) (S.faults sink.old) (S.faults sink.new)
+        (line_of_pipe fault) result }
+{
+    match fault {
+        PipeFault::TooLong => put(sink, b"svec: pipe: too long\n"),
+        PipeFault::BadLine { line } => put_item(sink, b"svec: pipe: bad line ", line),
+        PipeFault::Clash { line } => put_item(sink, b"svec: pipe: clash at line ", line),
+        PipeFault::TooManyPages { line } => put_item(
+            sink,
+            b"svec: pipe: too many pages at line ",
+            line,
+        ),
+        PipeFault::Memory => put(sink, b"svec: out of memory\n"),
+    }
+}
+
 // Puts why a file is no program that can be loaded.
 fn put_fault<S: Sink>(sink: &mut S, fault: ElfFault) -> Result<(), Failed>
     ensures { PutsText (S.taken sink.old) (S.taken sink.new) (S.faults sink.old) (S.faults sink.new)
@@ -234,6 +253,7 @@ pub fn put_refusal<S: Sink>(sink: &mut S, refusal: Refusal) -> Result<(), Failed
         Refusal::Elf(fault) => put_fault(sink, fault),
         Refusal::Map(fault) => put_map(sink, fault),
         Refusal::Asm(fault) => put_asm(sink, fault),
+        Refusal::Pipe(fault) => put_pipe(sink, fault),
         Refusal::Memory => put(sink, b"svec: out of memory\n"),
         Refusal::File => put(sink, b"svec: file failed\n"),
         Refusal::Output => put(sink, b"svec: output or input failed\n"),

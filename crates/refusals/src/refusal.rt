@@ -1,17 +1,17 @@
 //! What a command comes to.
 
 ghost use Rattle.std.specs.Prelude.{◌≡◌};
-ghost use Rattle.refusals.specs.Statuses.{status_of_done, status_of_refusal, of_files, of_compile, of_kernel, of_elf, of_map, of_asm, of_session};
+ghost use Rattle.refusals.specs.Statuses.{status_of_done, status_of_refusal, of_files, of_kernel, of_elf, of_map, of_asm, of_pipe, of_session};
 
 use io_edges::files::FileError;
 use io_edges::sink::Failed;
-use kernel_compile::CompileFault;
 use kernel_front::KernelFault;
 use kernel_syntax::ReadFault;
 use kernel_types::TypeFault;
 use machine_model::elf_fault::ElfFault;
 use map_text::MapFault;
-use reg_assign::RegClass;
+use pipe_script::PipeFault;
+use reg_assign::{AssignFault, RegClass};
 use std::alloc::AllocError;
 use sve_asm::AsmFault;
 use sve_debug::session::SessionFault;
@@ -60,6 +60,9 @@ pub enum Refusal {
     /// The text is none of words.
     #[error("asm: {0}")]
     Asm(AsmFault),
+    /// The text is no script, or the map does not fit beside the file of one of its lines.
+    #[error("pipe: {0}")]
+    Pipe(PipeFault),
     #[error("out of memory")]
     Memory,
     #[error("file failed")]
@@ -81,6 +84,7 @@ impl Refusal {
             Refusal::Elf(_) => 4,
             Refusal::Map(_) => 4,
             Refusal::Asm(_) => 4,
+            Refusal::Pipe(_) => 4,
             Refusal::Memory => 7,
             Refusal::File => 8,
             Refusal::Output => 9,
@@ -100,22 +104,11 @@ impl From<FileError> for Refusal {
     }
 }
 
-// The fault of the compiler, which has the text.
-fn too_many(class: &RegClass, need: &u32) -> CompileFault {
-    CompileFault::TooManyLive {
+// The fault of register assignment, which has the text.
+fn too_many(class: &RegClass, need: &u32) -> AssignFault {
+    AssignFault::TooMany {
         class: *class,
         need: *need,
-    }
-}
-
-impl From<CompileFault> for Refusal {
-    ghost from_gives = { λ fault refusal. refusal ≡ of_compile fault };
-
-    fn from(fault: CompileFault) -> Refusal {
-        match fault {
-            CompileFault::TooManyLive { class, need } => Refusal::TooManyLive { class, need },
-            CompileFault::Memory => Refusal::Memory,
-        }
     }
 }
 
@@ -149,6 +142,17 @@ impl From<AsmFault> for Refusal {
         match fault {
             AsmFault::Memory => Refusal::Memory,
             _ => Refusal::Asm(fault),
+        }
+    }
+}
+
+impl From<PipeFault> for Refusal {
+    ghost from_gives = { λ fault refusal. refusal ≡ of_pipe fault };
+
+    fn from(fault: PipeFault) -> Refusal {
+        match fault {
+            PipeFault::Memory => Refusal::Memory,
+            _ => Refusal::Pipe(fault),
         }
     }
 }

@@ -21,10 +21,15 @@ use Rattle.kernel_compile.specs.Faithful.{IsStart, Follows, IsFaithful, IsEmpty,
 use Rattle.kernel_compile.proofs.Promises as promises
 use Rattle.command_line.specs.Line.{Task, CompileLine}
 use Rattle.refusals.specs.declared.refusal.Refusal.TheVariants.{TooLong}
-use Rattle.sve_top.specs.Answer.{Held, Expected}
-use Rattle.sve_top.specs.Commands.{and_then, success_of, done_by, dump_of, stops_of, run_program, file_of, bytes_of, map_of, expected_of_run, Compiled, CompilesTo}
+use Rattle.command_answers.specs.Answer.{Held, Expected}
+use Rattle.command_answers.specs.Reads.{and_then, file_of, bytes_of, map_of}
+use Rattle.command_answers.specs.Works.{success_of, done_by, dump_of}
+use Rattle.program_commands.specs.Commands.{stops_of, run_program, expected_of_run}
+use Rattle.sve_top.specs.Commands.{Compiled}
+use Rattle.kernel_commands.specs.Commands.{CompilesTo}
 use Rattle.sve_top.specs.CompiledRuns.{Answers, Steps, IsRun, FaithfulWithin, CompiledWithin, FaithfulRuns, CompiledRuns}
-use Rattle.sve_top.proofs.Programs.{few_pages, run_is}
+use Rattle.command_answers.proofs.Loading.{few_pages}
+use Rattle.program_commands.proofs.Programs.{run_is}
 use Rattle.map_text.proofs.MapsBeside.{map_beside}
 use Rattle.command_line.proofs.RunLines.{can_run}
 
@@ -44,8 +49,8 @@ same_kernel a b e = cc
 work_is : (within : Steps) (k : Program) (held : Held) (vl : ℕ) (suppress : Option ℕ) (task : Task) (file : List ℕ) (image : Image) (pages : Memory) → file_of held task.file ≡ Ok file → IsRun within k held vl suppress task file image pages
     → expected_of_run held vl (stops_of suppress) task ≡ success_of task.dump (run task.steps 0 (free_start image task.args pages vl (stops_of suppress)))
 work_is within k held vl suppress task file image pages read x =
-    ap (λ r. and_then r (λ bytes. and_then (map_of held task.map) (λ map. run_program vl (stops_of suppress) task bytes map))) read
-    ∙ ap (λ r. and_then r (λ map. run_program vl (stops_of suppress) task file map)) x.map_read
+    ap (λ r. and_then (and_then r (λ f. and_then (map_of held task.map) (λ map. Ok (f, map)))) (λ files. run_program vl (stops_of suppress) task files.0 files.1)) read
+    ∙ ap (λ r. and_then (and_then r (λ map. Ok (file, map))) (λ files. run_program vl (stops_of suppress) task files.0 files.1)) x.map_read
     ∙ run_is vl (stops_of suppress) task file x.map image pages x.loads x.maps
 
 -- beside the pages of its map, the run may start

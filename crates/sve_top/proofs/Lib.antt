@@ -1,13 +1,5 @@
-pub mod Prints
-pub mod Programs
-pub mod Listings
-pub mod Expectations
-pub mod Statuses
-pub mod Evaluations
+pub mod Lines
 pub mod SomeExpectedLaws
 pub mod OneExpectedLaws
 pub mod Completions
-pub mod Sessions
-pub mod Sweeps
 pub mod CompiledRuns
-pub mod Assemblies

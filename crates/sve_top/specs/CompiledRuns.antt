@@ -15,8 +15,11 @@ use Rattle.dependence.specs.Bound.{free_bound}
 use Rattle.kernel_compile.specs.Faithful.{Stops, IsFaithful, IsEmpty, IsAny, bound_steps, end_steps}
 use Rattle.command_line.specs.Line.{Words, Task, CompileLine, RunLine, line_of}
 use Rattle.refusals.specs.declared.refusal.Done.TheVariants as done
-use Rattle.sve_top.specs.Answer.{Held, Expected}
-use Rattle.sve_top.specs.Commands.{Expects, Compiled, file_of, map_of, dump_of, stops_of}
+use Rattle.command_answers.specs.Answer.{Held, Expected}
+use Rattle.sve_top.specs.Commands.{Expects, Compiled}
+use Rattle.command_answers.specs.Reads.{file_of, map_of}
+use Rattle.command_answers.specs.Works.{dump_of}
+use Rattle.program_commands.specs.Commands.{stops_of}
 
 -- Where the scalar loop ends, the text is its result and the steps, and then the dump of its memory. Where it faults, the program
 -- stopped at a read or a write, and each byte of the memory that is dumped is that of the scalar loop, but for those near the fault.

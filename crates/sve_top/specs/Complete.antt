@@ -1,8 +1,9 @@
 -- What a call of `top` comes to where nothing is in its way but want of memory.
 use Rattle.std.specs.Prelude.{◌≡◌, ◌⊎◌, ℕ, List, ◌++◌, Option, Some, IfSome}
 use Rattle.command_line.specs.Line.{Line, SweepLine}
-use Rattle.sve_top.specs.Answer.{Held, Expected, answer_of, expected_text, status_of}
-use Rattle.sve_top.specs.Commands.{Expects, SomeExpected}
+use Rattle.command_answers.specs.Answer.{Held, Expected, answer_of, expected_text, status_of}
+use Rattle.sve_top.specs.Commands.{Expects}
+use Rattle.command_answers.specs.Works.{SomeExpected}
 
 -- the status is that of the work, and the output gained the whole of its text; or memory was short
 abbrev pub ComesTo : Expected → Option (List ℕ) → Option (List ℕ) → ℕ → Type 0

@@ -1,9 +1,9 @@
 -- What a call of `top` does where some work is wanted of it: one sentence on the files, the output and the error output.
 use Rattle.std.specs.Prelude.{ℕ, List, Option}
 use Rattle.command_line.specs.Line.{Line}
-use Rattle.sve_top.specs.Answer.{Held, Expected, answer_of, expected_text, IsStatus, Unwritten}
+use Rattle.command_answers.specs.Answer.{Held, Expected, answer_of, expected_text, IsStatus, Unwritten}
 use Rattle.sve_top.specs.Commands.{StreamRose}
-use Rattle.sve_top.specs.Outputs.{PrintsBy, Gains, error_line, error_line_by}
+use Rattle.command_answers.specs.Outputs.{PrintsBy, Gains, error_line, error_line_by}
 
 -- the outside at one moment: what the files hold, and the bytes that each output has taken, as far as they tell it; and how often each
 -- of them, and the input, has failed

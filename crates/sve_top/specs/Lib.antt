@@ -1,11 +1,5 @@
 pub mod Asked
-pub mod Listing
-pub mod Answer
-pub mod Kernels
 pub mod Commands
-pub mod Ready
-pub mod Outputs
 pub mod Does
 pub mod Complete
-pub mod Swept
 pub mod CompiledRuns

@@ -5,29 +5,30 @@ ghost use Rattle.io_edges.specs.Files.{Rose};
 ghost use Rattle.command_line.specs.Line.{Line};
 ghost use Rattle.command_line.specs.View.{command_view};
 ghost use Rattle.sve_top.specs.Asked.{asked};
-ghost use Rattle.sve_top.specs.Answer.{Held, Expected, answer_of, expected_text, status_of, IsAnswer, IsKept, IsQuiet, Unwritten};
+ghost use Rattle.command_answers.specs.Answer.{Held, Expected, answer_of, expected_text, status_of, IsAnswer, IsKept, IsQuiet, Unwritten};
 ghost use Rattle.refusals.specs.Statuses.{status_of_refusal};
-ghost use Rattle.sve_top.specs.Commands.{Expects, WhereTold, SomeExpected, IsSettled, IsInput, IsOf, IsListed, IsSilent, IsUnread, IsHeld, OnlyReads, StreamRose, NoneRose, Compiled, OthersKept};
+ghost use Rattle.sve_top.specs.Commands.{Expects, WhereTold, IsSettled, IsInput, IsOf, IsListed, IsSilent, IsUnread, IsHeld, OnlyReads, StreamRose, NoneRose, Compiled, OthersKept, Swept};
+ghost use Rattle.command_answers.specs.Works.{SomeExpected};
 ghost use Rattle.sve_top.specs.Does.{Does, outside};
 ghost use Rattle.sve_top.specs.Complete.{Completes};
 ghost use Rattle.sve_top.specs.CompiledRuns.{FaithfulRuns, CompiledRuns};
-ghost use Rattle.sve_top.specs.Swept.{Swept};
-ghost use Rattle.sve_top.specs.Outputs.{Prints, Gains, error_line_by};
+ghost use Rattle.command_answers.specs.Outputs.{Prints, Gains, error_line_by};
 ghost use Rattle.refusals.specs.Lines.{line_of_refusal};
 
-use crate::asm::asm;
-use crate::check::check;
-use crate::compile::compile;
-use crate::debug::debug;
-use crate::eval::eval;
-use crate::list::list;
-use crate::run::run;
-use crate::sweep::sweep;
 use command_line::command::Command;
 use command_line::read::read_line;
 use io_edges::files::Files;
 use io_edges::sink::Sink;
 use io_edges::source::Source;
+use kernel_commands::check::check;
+use kernel_commands::compile::compile;
+use kernel_commands::eval::eval;
+use kernel_commands::sweep::sweep;
+use pipe_command::pipe::pipe;
+use program_commands::asm::asm;
+use program_commands::debug::debug;
+use program_commands::list::list;
+use program_commands::run::run;
 use refusals::put_refusal;
 use refusals::refusal::{Done, Refusal};
 use std::alloc::Global;
@@ -184,6 +185,7 @@ fn do_command<F: Files, I: Source, S: Sink>(
         Command::Debug { vl, task } => debug(alloc, *vl, task, files, input, out),
         Command::Sweep { number, to } => sweep(alloc, *number, to.as_str(), files, out),
         Command::Asm { from, to } => asm(alloc, from.as_str(), to.as_str(), files),
+        Command::Pipe { vl, task } => pipe(alloc, *vl, task, files, out),
     }
 }
 

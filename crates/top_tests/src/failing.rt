@@ -23,13 +23,15 @@ eval --map m k1 5#2
 debug e1.elf 41#1
 debug --map m e1.elf 41#2
 asm e1.asm out#2
+pipe s#3
+pipe --map m s#4
 ";
 
 // The input of each command. A session alone reads it.
 const SESSION: &[u8] = b"step 1\nx 0\njump\nquit\n";
 
 // The files that are read beside the program of three words.
-const TEXTS: [(&str, &str); 4] = [
+const TEXTS: [(&str, &str); 5] = [
     ("k1", "kernel f(x: u64) -> u64 { return x + 1; }"),
     (
         "k2",
@@ -37,6 +39,7 @@ const TEXTS: [(&str, &str); 4] = [
     ),
     ("m", "map 0x10000 1 rw\nset 0x10000 0102\n"),
     ("e1.asm", "add x0, x0, #1\nmovz x8, #93\nsvc #0\n"),
+    ("s", "run e1.elf 41\nrun e1.elf 1\n"),
 ];
 
 // The calls that fail, by their numbers from 0.

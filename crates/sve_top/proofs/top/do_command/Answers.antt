@@ -1,14 +1,18 @@
 use Rattle.std.proofs.Common.{◌≡◌, [], ◌⊎◌, Some, ap, sym, ◌∙◌, subst}
 use Rattle.io_edges.specs.Files.{Rose}
 use Rattle.std.specs.Prelude.{IfSome, OnOk, string_bytes}
-use Rattle.command_line.specs.Line.{CompileLine, CheckLine, EvalLine, ListLine, RunLine, DebugLine, SweepLine, AsmLine}
+use Rattle.command_line.specs.Line.{CompileLine, CheckLine, EvalLine, ListLine, RunLine, DebugLine, SweepLine, AsmLine, PipeLine}
 use Rattle.command_line.specs.View.{command_view, task_view}
-use Rattle.sve_top.specs.Answer.{answer_of, expected_text, status_of, IsAnswer, Unwritten}
-use Rattle.sve_top.specs.Commands.{Compiled, Expects, StreamRose, expected_of_list, expected_of_run, expected_of_debug, expected_of_asm, stops_of}
-use Rattle.sve_top.specs.Outputs.{Prints}
-use Rattle.sve_top.specs.Swept.{Swept}
-use Rattle.sve_top.proofs.Expectations.{by_line, of_told, of_one, of_every_line, with_output, prints_silent}
-use Rattle.sve_top.proofs.Assemblies.{asm_prints}
+use Rattle.command_answers.specs.Answer.{answer_of, expected_text, status_of, IsAnswer, Unwritten}
+use Rattle.sve_top.specs.Commands.{Compiled, StreamRose, Swept}
+use Rattle.program_commands.specs.Commands.{expected_of_list, expected_of_run, expected_of_debug, expected_of_asm, stops_of}
+use Rattle.command_answers.specs.Outputs.{Prints}
+use Rattle.sve_top.proofs.Lines.{by_line, of_told, of_every_line}
+use Rattle.kernel_commands.proofs.Expectations.{prints_silent}
+use Rattle.kernel_commands.specs.Commands.{ExpectsCompile}
+use Rattle.pipe_command.specs.Pipes.{expected_of_pipe}
+use Rattle.command_answers.proofs.Reading.{of_one, with_output}
+use Rattle.program_commands.proofs.Assemblies.{asm_prints}
 use Rattle.sve_top.proofs.top.do_command.Goals as goal
 
 pub returns-in-Compile-clause-answer : goal.returns-in-Compile-clause-answer
@@ -16,14 +20,14 @@ returns-in-Compile-clause-answer g c =
     by_line (g.F.Files.held c.args.files.now) (g.I.Source.left c.args.input.now) (Some (command_view c.args.command.now)) (Some (CompileLine c.as_str.result.now c.as_str-in-Compile.result.now))
     (λ line work. IsAnswer (g.F.Files.faults c.args.files.now) (g.F.Files.faults c.compile.new.files) (StreamRose line (g.S.Sink.faults c.args.out.now) (g.S.Sink.faults c.args.out.now) (g.I.Source.faults c.args.input.now) (g.I.Source.faults c.args.input.now)) (answer_of work) c.compile.result)
     (ap (λ l. Some l) (ap command_view c.in-Compile.is ∙ ap (λ a. CompileLine a (string_bytes c.in-Compile.to)) (sym c.as_str.ensures.value) ∙ ap (λ b. CompileLine c.as_str.result.now b) (sym c.as_str-in-Compile.ensures.value)))
-    (λ input taken. with_output _ _ _ (g.F.Files.held c.args.files.now) (λ h. Expects h [] (Some (CompileLine c.as_str.result.now c.as_str-in-Compile.result.now))) c.compile.result c.compile.ensures.answer)
+    (λ input taken. with_output _ _ _ (g.F.Files.held c.args.files.now) (λ h. ExpectsCompile h c.as_str.result.now) c.compile.result c.compile.ensures.answer)
 
 pub returns-in-Compile-clause-printed : goal.returns-in-Compile-clause-printed
 returns-in-Compile-clause-printed g c =
     by_line (g.F.Files.held c.args.files.now) (g.I.Source.left c.args.input.now) (Some (command_view c.args.command.now)) (Some (CompileLine (string_bytes c.in-Compile.from) (string_bytes c.in-Compile.to)))
     (λ line work. Prints (g.S.Sink.taken c.args.out.now) (g.S.Sink.taken c.args.out.now) (expected_text work) c.compile.result)
     (ap (λ l. Some l) (ap command_view c.in-Compile.is))
-    (λ input taken. prints_silent (g.F.Files.held c.args.files.now) (string_bytes c.in-Compile.from) (string_bytes c.in-Compile.to) (g.S.Sink.taken c.args.out.now) c.compile.result)
+    (λ input taken. prints_silent (g.F.Files.held c.args.files.now) (string_bytes c.in-Compile.from) (g.S.Sink.taken c.args.out.now) c.compile.result)
 
 pub returns-in-Compile-clause-unwritten : goal.returns-in-Compile-clause-unwritten
 returns-in-Compile-clause-unwritten g c =
@@ -153,7 +157,7 @@ returns-in-Asm-clause-printed g c =
     by_line (g.F.Files.held c.args.files.now) (g.I.Source.left c.args.input.now) (Some (command_view c.args.command.now)) (Some (AsmLine (string_bytes c.in-Asm.from) (string_bytes c.in-Asm.to)))
     (λ line work. Prints (g.S.Sink.taken c.args.out.now) (g.S.Sink.taken c.args.out.now) (expected_text work) c.asm.result)
     (ap (λ l. Some l) (ap command_view c.in-Asm.is))
-    (λ input taken. asm_prints (g.F.Files.held c.args.files.now) (string_bytes c.in-Asm.from) (string_bytes c.in-Asm.to) (g.S.Sink.taken c.args.out.now) c.asm.result)
+    (λ input taken. of_one (g.F.Files.held c.args.files.now) (λ h. expected_of_asm h (string_bytes c.in-Asm.from)) _ (asm_prints (g.F.Files.held c.args.files.now) (string_bytes c.in-Asm.from) (g.S.Sink.taken c.args.out.now) c.asm.result))
 
 pub returns-in-Asm-clause-unwritten : goal.returns-in-Asm-clause-unwritten
 returns-in-Asm-clause-unwritten g c =
@@ -161,3 +165,21 @@ returns-in-Asm-clause-unwritten g c =
     (λ line work. Unwritten work (g.F.Files.held c.args.files.now) (g.F.Files.held c.asm.new.files))
     (ap (λ l. Some l) (ap command_view c.in-Asm.is ∙ ap (λ a. AsmLine a (string_bytes c.in-Asm.to)) (sym c.as_str-in-Asm.ensures.value) ∙ ap (λ b. AsmLine c.as_str-in-Asm.result.now b) (sym c.as_str-in-Asm-2.ensures.value)))
     (λ input taken. of_one (g.F.Files.held c.args.files.now) (λ h. expected_of_asm h c.as_str-in-Asm.result.now) _ c.asm.ensures.unwritten)
+
+pub returns-in-Pipe-clause-answer : goal.returns-in-Pipe-clause-answer
+returns-in-Pipe-clause-answer g c =
+    by_line (g.F.Files.held c.args.files.now) (g.I.Source.left c.args.input.now) (Some (command_view c.args.command.now)) (Some (PipeLine c.in-Pipe.vl (task_view c.in-Pipe.task)))
+    (λ line work. IsAnswer (g.F.Files.faults c.args.files.now) (g.F.Files.faults c.pipe.new.files) (StreamRose line (g.S.Sink.faults c.args.out.now) (g.S.Sink.faults c.pipe.new.out) (g.I.Source.faults c.args.input.now) (g.I.Source.faults c.args.input.now)) (answer_of work) c.pipe.result)
+    (ap (λ l. Some l) (ap command_view c.in-Pipe.is))
+    (λ input taken. of_one (g.F.Files.held c.args.files.now) (λ h. expected_of_pipe h c.in-Pipe.vl (task_view c.in-Pipe.task)) _ c.pipe.ensures.answer)
+
+pub returns-in-Pipe-clause-printed : goal.returns-in-Pipe-clause-printed
+returns-in-Pipe-clause-printed g c =
+    by_line (g.F.Files.held c.args.files.now) (g.I.Source.left c.args.input.now) (Some (command_view c.args.command.now)) (Some (PipeLine c.in-Pipe.vl (task_view c.in-Pipe.task)))
+    (λ line work. Prints (g.S.Sink.taken c.args.out.now) (g.S.Sink.taken c.pipe.new.out) (expected_text work) c.pipe.result)
+    (ap (λ l. Some l) (ap command_view c.in-Pipe.is))
+    (λ input taken. of_one (g.F.Files.held c.args.files.now) (λ h. expected_of_pipe h c.in-Pipe.vl (task_view c.in-Pipe.task)) _ c.pipe.ensures.printed)
+
+pub returns-in-Pipe-clause-unwritten : goal.returns-in-Pipe-clause-unwritten
+returns-in-Pipe-clause-unwritten g c =
+    of_every_line (g.F.Files.held c.args.files.now) (g.I.Source.left c.args.input.now) (Some (command_view c.args.command.now)) (λ work. Unwritten work (g.F.Files.held c.args.files.now) (g.F.Files.held c.pipe.new.files)) (λ work r. c.pipe.ensures.held)

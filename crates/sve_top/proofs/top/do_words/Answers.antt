@@ -2,12 +2,11 @@ use Rattle.std.proofs.Common.{Some, ap, sym, ◌∙◌, subst}
 use Rattle.std.specs.Prelude.{option_map}
 use Rattle.command_line.specs.Line.{line_of}
 use Rattle.command_line.specs.View.{texts, command_view}
-use Rattle.sve_top.specs.Answer.{answer_of, expected_text, status_of, IsAnswer, Unwritten}
-use Rattle.sve_top.specs.Commands.{WhereTold, StreamRose}
-use Rattle.sve_top.specs.Outputs.{Prints}
-use Rattle.sve_top.specs.Swept.{Swept}
-use Rattle.sve_top.proofs.Sweeps.{nothing_swept}
-use Rattle.sve_top.proofs.Expectations.{by_line, is_err}
+use Rattle.command_answers.specs.Answer.{answer_of, expected_text, status_of, IsAnswer, Unwritten}
+use Rattle.sve_top.specs.Commands.{WhereTold, StreamRose, Swept}
+use Rattle.command_answers.specs.Outputs.{Prints}
+use Rattle.sve_top.proofs.Lines.{by_line, nothing_swept}
+use Rattle.command_answers.proofs.Reading.{is_err}
 use Rattle.sve_top.proofs.top.do_words.Goals as goal
 
 pub returns-in_err-done-clause-answer : goal.returns-in_err-done-clause-answer

@@ -1,14 +1,13 @@
 use Rattle.std.proofs.Common.{ap, sym, ◌∙◌, subst}
 use Rattle.command_line.specs.Line.{line_of}
 use Rattle.command_line.specs.View.{texts}
-use Rattle.sve_top.specs.Answer.{answer_of, status_of, IsAnswer}
-use Rattle.sve_top.specs.Commands.{StreamRose}
+use Rattle.command_answers.specs.Answer.{answer_of, status_of, IsAnswer}
+use Rattle.sve_top.specs.Commands.{StreamRose, Swept}
 use Rattle.sve_top.specs.Does.{outside}
-use Rattle.sve_top.specs.Outputs.{error_line}
-use Rattle.sve_top.specs.Swept.{Swept}
+use Rattle.command_answers.specs.Outputs.{error_line}
 use Rattle.sve_top.proofs.OneExpectedLaws.{does_of}
 use Rattle.sve_top.proofs.Completions.{completes}
-use Rattle.sve_top.proofs.Statuses.{line_done, line_refused}
+use Rattle.command_answers.proofs.Statuses.{line_done, line_refused}
 use Rattle.sve_top.proofs.top.top.Goals as goal
 
 pub returns-in-Ok-clause-does : goal.returns-in-Ok-clause-does
@@ -29,6 +28,12 @@ returns-in-Err-clause-does g c =
     (StreamRose (line_of (texts c.args.words.now)) (g.S.Sink.faults c.args.out.now) (g.S.Sink.faults c.do_words.new.out) (g.I.Source.faults c.args.input.now) (g.I.Source.faults c.do_words.new.input))
     (g.E.Sink.taken c.args.err.now) (g.E.Sink.taken c.put_refusal.new.sink) c.in-Err.refusal (answer_of work) c.put_refusal.result c.status-in-Err.ensures
     (subst (IsAnswer (g.F.Files.faults c.args.files.now) (g.F.Files.faults c.do_words.new.files) (StreamRose (line_of (texts c.args.words.now)) (g.S.Sink.faults c.args.out.now) (g.S.Sink.faults c.do_words.new.out) (g.I.Source.faults c.args.input.now) (g.I.Source.faults c.do_words.new.input)) (answer_of work)) c.in-Err.is p) c.put_refusal.ensures)
+
+pub returns-in-Ok-clause-listed : goal.returns-in-Ok-clause-listed
+returns-in-Ok-clause-listed g c = (c.do_words.result, c.do_words.ensures.listed, c.status.ensures ∙ sym (ap status_of c.in-Ok.is))
+
+pub returns-in-Err-clause-listed : goal.returns-in-Err-clause-listed
+returns-in-Err-clause-listed g c = (c.do_words.result, c.do_words.ensures.listed, c.status-in-Err.ensures ∙ sym (ap status_of c.in-Err.is))
 
 pub returns-in-Ok-clause-complete : goal.returns-in-Ok-clause-complete
 returns-in-Ok-clause-complete g c = λ bytes taken steady none.

@@ -1,0 +1,5 @@
+pub mod Prints
+pub mod Statuses
+pub mod Reading
+pub mod Loading
+pub mod Outcomes

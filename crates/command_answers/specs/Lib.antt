@@ -1,0 +1,4 @@
+pub mod Answer
+pub mod Reads
+pub mod Works
+pub mod Outputs

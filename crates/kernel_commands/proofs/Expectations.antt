@@ -1,0 +1,129 @@
+-- What is wanted of a command that reads the text of a kernel.
+use Rattle.std.proofs.Common.{◌≡◌, ℕ, List, [], Option, Some, None, Result, Ok, Err, inl, inr, refl, sym, ap, ◌∙◌, subst}
+use Rattle.std.specs.Prelude.{IfSome, IfErr, IsErrAnd}
+use Rattle.reg_assign.specs.declared.interval.RegClass.{RegClass}
+use Rattle.kernel_compile.specs.declared.fault.CompileFault.{CompileFault}
+use Rattle.kernel_compile.specs.declared.fault.CompileFault.TheVariants as compiling
+use Rattle.kernel_compile.specs.Refusals.{too_many, IsRefusal}
+use Rattle.command_line.specs.Line.{Task}
+use Rattle.kernel_tree.specs.Plain.{Program}
+use Rattle.kernel_front.specs.Verdict.{Verdict, Limited, NoKernel, Refused, Sound, IsVerdict}
+use Rattle.refusals.specs.declared.refusal.Refusal.{Refusal}
+use Rattle.refusals.specs.declared.refusal.Refusal.TheVariants.{Usage, TooManyLive, Kernel, TooLong, Elf, Map, Asm, Pipe, Memory, File, Output}
+use Rattle.command_answers.specs.Answer.{Held, Expected, Answer, answer_of, expected_text, IsFileAnswer}
+use Rattle.command_answers.specs.Outputs.{Prints}
+use Rattle.command_answers.specs.Reads.{file_of, task_files, AfterRead}
+use Rattle.command_answers.specs.Works.{WhereExpected, RefusesProgram}
+use Rattle.command_answers.proofs.Prints.{prints_none}
+use Rattle.command_answers.proofs.Reading.{read_is, is_err}
+use Rattle.kernel_commands.specs.Kernels.{IsExpectedOf, ByVerdict}
+use Rattle.kernel_commands.specs.Commands.{of_compile, compiled, compiled_by, CompileExpects, ExpectsCompile, RefusesText, RefusesCompile, RefusesEval, IsOfEval}
+
+-- ---- verdicts
+
+pub sound_text : (sound : Program → Expected) (text : List ℕ) (k : Program) → IsVerdict text (Sound k) → ByVerdict sound text (sound k)
+sound_text sound text k h = record { verdict = Sound k; has = h; wanted = refl }
+
+-- what was read is refused
+refused_one : {T : Type 0} (x z : ℕ) (wanted : Result T Refusal) (next : T → Expected → Type 0) (read : T) (refusal : Refusal) (result : Answer) → Ok read ≡ wanted → result ≡ Err refusal → RefusesText (next read) refusal → WhereExpected (AfterRead wanted next) (λ work. IsFileAnswer x z (answer_of work) result)
+refused_one x z wanted next read refusal result e is h = λ work w. by refusal is h work (subst (λ r. AfterRead r next work) (sym e) w) w
+  where
+    by : (refusal : Refusal) → result ≡ Err refusal → RefusesText (next read) refusal → (work : Expected) → next read work → AfterRead wanted next work → (other : Expected) × AfterRead wanted next other × IsFileAnswer x z (answer_of other) result
+    by Memory is h work n w = (work, w, inr (inl is))
+    by (TooManyLive class need) is h work n w = (Err (TooManyLive class need), subst (λ r. AfterRead r next (Err (TooManyLive class need))) e (h work n), inl is)
+    by (Kernel fault) is h work n w = (Err (Kernel fault), subst (λ r. AfterRead r next (Err (Kernel fault))) e (h work n), inl is)
+    by Usage is h work n w = absurd h
+    by TooLong is h work n w = absurd h
+    by (Elf fault) is h work n w = absurd h
+    by (Map fault) is h work n w = absurd h
+    by (Asm fault) is h work n w = absurd h
+    by (Pipe fault) is h work n w = absurd h
+    by File is h work n w = absurd h
+    by Output is h work n w = absurd h
+
+pub text_refused : (x y z : ℕ) (held : Option Held) (from bytes : List ℕ) (next : List ℕ → Expected → Type 0) (found : Result (List ℕ) Refusal) (refusal : Refusal) (result : Answer) → found ≡ Ok bytes → IsErrAnd result (λ r. r ≡ refusal) → IfSome held (λ h. IsFileAnswer x y (file_of h from) found) → RefusesText (next bytes) refusal → IfSome held (λ h. WhereExpected (AfterRead (file_of h from) next) (λ work. IsFileAnswer x z (answer_of work) result))
+text_refused x y z None from bytes next found refusal result is err read h = tt
+text_refused x y z (Some held) from bytes next found refusal result is err read h =
+    refused_one x z (file_of held from) next bytes refusal result (read_is x y (file_of held from) bytes (subst (IsFileAnswer x y (file_of held from)) is read)) (is_err refusal result err) h
+
+-- ---- compile
+
+-- a refusal of the compiler is that of a kernel with too many live values, or want of memory
+pub refuses_compile : (k : Program) (fault : CompileFault) → IsRefusal k fault → RefusesCompile k (of_compile fault)
+refuses_compile k (compiling.TooManyLive class n) h = ap (compiled_by k) h.0 ∙ ap (λ m. Err (TooManyLive class m)) (sym h.1)
+refuses_compile k compiling.Memory h = tt
+
+pub compile_refusal : {T : Type 0} (text : List ℕ) (k : Program) (refusal : Refusal) (result : Result T Refusal) → IsVerdict text (Sound k) → IsErrAnd result (λ r. r ≡ refusal) → RefusesCompile k refusal → IfErr result (λ r. RefusesText (CompileExpects text) r)
+compile_refusal text k refusal (Ok x) v is h = tt
+compile_refusal text k refusal (Err r) v is h = subst (RefusesText (CompileExpects text)) (sym is) (by refusal h)
+  where
+    by : (refusal : Refusal) → RefusesCompile k refusal → RefusesText (CompileExpects text) refusal
+    by Memory h = tt
+    by (TooManyLive class need) h = λ work w. subst (ByVerdict compiled text) h (sound_text compiled text k v)
+    by Usage h = absurd h
+    by (Kernel fault) h = absurd h
+    by TooLong h = absurd h
+    by (Elf fault) h = absurd h
+    by (Map fault) h = absurd h
+    by (Asm fault) h = absurd h
+    by (Pipe fault) h = absurd h
+    by File h = absurd h
+    by Output h = absurd h
+
+-- what is wanted of `compile` has no text
+no_own_text : (k : Program) (o : Option RegClass) → expected_text (compiled_by k o) ≡ []
+no_own_text k None = refl
+no_own_text k (Some class) = refl
+
+no_text : (v : Verdict) (work : Expected) → IsExpectedOf compiled v work → expected_text work ≡ []
+no_text (Limited fault) work w = ap expected_text w.is_refused
+no_text (NoKernel token) work w = ap expected_text w.is_refused
+no_text (Refused refusal) work w = ap expected_text w.is_refused
+no_text (Sound k) work w = ap expected_text w ∙ no_own_text k (too_many k)
+
+pub compile_silent : (r : Result (List ℕ) Refusal) (work : Expected) → AfterRead r CompileExpects work → expected_text work ≡ []
+compile_silent (Ok text) work w = no_text w.verdict work w.wanted
+compile_silent (Err refusal) work w = ap expected_text w
+
+-- nothing is put on the output
+pub prints_silent : (held : Option Held) (from : List ℕ) (old : Option (List ℕ)) (result : Answer) → IfSome held (λ h. WhereExpected (ExpectsCompile h from) (λ work. Prints old old (expected_text work) result))
+prints_silent None from old result = tt
+prints_silent (Some h) from old result = λ work w. (work, w, subst (λ t. Prints old old t result) (sym (compile_silent (file_of h from) work w)) (prints_none old result))
+
+-- ---- eval
+
+pub eval_refusal : {T : Type 0} (sound : Program → Expected) (text : List ℕ) (k : Program) (refusal : Refusal) (result : Result T Refusal) → IsVerdict text (Sound k) → IsErrAnd result (λ r. r ≡ refusal) → RefusesProgram (sound k) refusal → IsOfEval (Err refusal) → IfErr result (λ r. RefusesEval (ByVerdict sound text) r)
+eval_refusal sound text k refusal (Ok x) v is h of = tt
+eval_refusal sound text k refusal (Err r) v is h of = subst (RefusesEval (ByVerdict sound text)) (sym is) (by refusal h of)
+  where
+    by : (refusal : Refusal) → RefusesProgram (sound k) refusal → IsOfEval (Err refusal) → RefusesEval (ByVerdict sound text) refusal
+    by Memory h of = tt
+    by (Map fault) h of = subst (ByVerdict sound text) h (sound_text sound text k v)
+    by (Elf fault) h of = absurd of
+    by Usage h of = absurd h
+    by (TooManyLive class need) h of = absurd h
+    by (Kernel fault) h of = absurd h
+    by TooLong h of = absurd h
+    by (Asm fault) h of = absurd h
+    by (Pipe fault) h of = absurd h
+    by File h of = absurd h
+    by Output h of = absurd h
+
+refused_two : (x z : ℕ) (wanted : Result (List ℕ × List ℕ) Refusal) (next : List ℕ × List ℕ → Expected → Type 0) (read : List ℕ × List ℕ) (refusal : Refusal) (result : Answer) → Ok read ≡ wanted → result ≡ Err refusal → RefusesEval (next read) refusal → WhereExpected (AfterRead wanted next) (λ work. IsFileAnswer x z (answer_of work) result)
+refused_two x z wanted next read Memory result e is h = refused_one x z wanted next read Memory result e is h
+refused_two x z wanted next read (Kernel fault) result e is h = refused_one x z wanted next read (Kernel fault) result e is h
+refused_two x z wanted next read (Map fault) result e is h = λ work w. (Err (Map fault), subst (λ r. AfterRead r next (Err (Map fault))) e h, inl is)
+refused_two x z wanted next read (TooManyLive class need) result e is h = absurd h
+refused_two x z wanted next read Usage result e is h = absurd h
+refused_two x z wanted next read TooLong result e is h = absurd h
+refused_two x z wanted next read (Asm fault) result e is h = absurd h
+refused_two x z wanted next read (Pipe fault) result e is h = absurd h
+refused_two x z wanted next read (Elf fault) result e is h = absurd h
+refused_two x z wanted next read File result e is h = absurd h
+refused_two x z wanted next read Output result e is h = absurd h
+
+-- a kernel or a map that was read and is refused
+pub eval_not_run : (x y : ℕ) (held : Option Held) (task : Task) (read : List ℕ × List ℕ) (found : Result (List ℕ × List ℕ) Refusal) (next : List ℕ × List ℕ → Expected → Type 0) (refusal : Refusal) (result : Answer) → found ≡ Ok read → IfSome held (λ h. IsFileAnswer x y (task_files h task) found) → IsErrAnd result (λ r. r ≡ refusal) → RefusesEval (next read) refusal → IfSome held (λ h. WhereExpected (AfterRead (task_files h task) next) (λ work. IsFileAnswer x y (answer_of work) result))
+eval_not_run x y None task read found next refusal result is answer err h = tt
+eval_not_run x y (Some held) task read found next refusal result is answer err h =
+    refused_two x y (task_files held task) next read refusal result (read_is x y (task_files held task) read (subst (IsFileAnswer x y (task_files held task)) is answer)) (is_err refusal result err) h

@@ -1,0 +1,4 @@
+pub mod Expectations
+pub mod Verdicts
+pub mod Evaluations
+pub mod Sweeps

@@ -1,0 +1,64 @@
+use Rattle.std.proofs.Common.{◌≡◌, ◌++◌, Some, Ok, refl, ap, ap₂, sym, ◌∙◌, inl, subst}
+use Rattle.std.specs.Prelude.{IfSome}
+use Rattle.io_edges.specs.Files.{Rose}
+use Rattle.io_edges.specs.Sink.{GainsPart}
+use Rattle.command_line.specs.View.{task_view}
+use Rattle.refusals.specs.declared.refusal.Refusal.TheVariants.{Output}
+use Rattle.command_answers.specs.Answer.{answer_of, expected_text, IsAnswer}
+use Rattle.command_answers.specs.Outputs.{Prints}
+use Rattle.command_answers.specs.Reads.{task_files, files_in}
+use Rattle.command_answers.specs.Works.{run_report}
+use Rattle.command_answers.proofs.Prints.{prints_nothing, prints_part, prints_all}
+use Rattle.command_answers.proofs.Reading.{of_read, of_every, with_output, is_err}
+use Rattle.kernel_commands.specs.Commands.{EvalExpects, ExpectsEval}
+use Rattle.kernel_commands.proofs.Expectations.{eval_not_run}
+use Rattle.kernel_commands.proofs.eval.eval.Goals as goal
+
+pub returns-in_err-run_report-clause-answer : goal.returns-in_err-run_report-clause-answer
+returns-in_err-run_report-clause-answer g c =
+    let task = task_view c.args.task.now in
+    with_output _ _ _ (g.F.Files.held c.args.files.now) (λ h. ExpectsEval h task) c.from_residual-in_err-run_report.result
+    (eval_not_run (g.F.Files.faults c.args.files.now) (g.F.Files.faults c.read_task.new.files) (g.F.Files.held c.args.files.now) task (c.deref.result.now, c.deref-2.result.now) (files_in c.read_task.result)
+    (λ files. EvalExpects task files.0 files.1) c.in_err-run_report.field-0.0 c.from_residual-in_err-run_report.result
+    (ap files_in c.in_ok-read.was ∙ ap₂ (λ file map. Ok (file, map)) (sym c.deref.ensures.value) (sym c.deref-2.ensures.value)) c.read_task.ensures.answer
+    c.from_residual-in_err-run_report.ensures.1 c.in_err-run_report.ensures.refusal)
+
+pub returns-in_err-run_report-clause-printed : goal.returns-in_err-run_report-clause-printed
+returns-in_err-run_report-clause-printed g c =
+    of_every (g.F.Files.held c.args.files.now) (λ h. ExpectsEval h (task_view c.args.task.now))
+    (λ work. Prints (g.S.Sink.taken c.args.out.now) (g.S.Sink.taken c.args.out.now) (expected_text work) c.from_residual-in_err-run_report.result)
+    (λ work. subst (Prints (g.S.Sink.taken c.args.out.now) (g.S.Sink.taken c.args.out.now) (expected_text work)) (sym (is_err c.in_err-run_report.field-0.0 c.from_residual-in_err-run_report.result c.from_residual-in_err-run_report.ensures.1))
+    (prints_nothing (g.S.Sink.taken c.args.out.now) (expected_text work) c.in_err-run_report.field-0.0))
+
+pub returns-in_err-put_all-clause-printed : goal.returns-in_err-put_all-clause-printed
+returns-in_err-put_all-clause-printed g c =
+    let task = task_view c.args.task.now in
+    of_read (g.F.Files.faults c.args.files.now) (g.F.Files.faults c.read_task.new.files) (g.F.Files.held c.args.files.now) (λ h. task_files h task) (c.deref.result.now, c.deref-2.result.now) (files_in c.read_task.result)
+    (λ files. EvalExpects task files.0 files.1) (run_report c.in_ok-run_report.run_report)
+    (λ work. Prints (g.S.Sink.taken c.args.out.now) (g.S.Sink.taken c.put_all.new.sink) (expected_text work) c.from_residual-in_err-put_all.result)
+    (ap files_in c.in_ok-read.was ∙ ap₂ (λ file map. Ok (file, map)) (sym c.deref.ensures.value) (sym c.deref-2.ensures.value)) c.read_task.ensures.answer
+    c.in_ok-run_report.ensures.work
+    (subst (Prints (g.S.Sink.taken c.args.out.now) (g.S.Sink.taken c.put_all.new.sink) c.in_ok-run_report.run_report.text.items) (sym (is_err Output c.from_residual-in_err-put_all.result c.from_residual-in_err-put_all.ensures.1))
+    (prints_part (g.S.Sink.taken c.args.out.now) (g.S.Sink.taken c.put_all.new.sink) c.in_ok-run_report.run_report.text.items Output
+    (subst (λ t. IfSome (g.S.Sink.taken c.args.out.now) (λ b. GainsPart b (g.S.Sink.taken c.put_all.new.sink) t)) c.deref-3.ensures.value c.put_all.ensures.prefix)))
+
+pub returns-clause-answer : goal.returns-clause-answer
+returns-clause-answer g c =
+    let task = task_view c.args.task.now in
+    of_read (g.F.Files.faults c.args.files.now) (g.F.Files.faults c.read_task.new.files) (g.F.Files.held c.args.files.now) (λ h. task_files h task) (c.deref.result.now, c.deref-2.result.now) (files_in c.read_task.result)
+    (λ files. EvalExpects task files.0 files.1) (run_report c.in_ok-run_report.run_report)
+    (λ work. IsAnswer (g.F.Files.faults c.args.files.now) (g.F.Files.faults c.read_task.new.files) (Rose (g.S.Sink.faults c.args.out.now) (g.S.Sink.faults c.put_all.new.sink)) (answer_of work) (Ok c.in_ok-run_report.run_report.done))
+    (ap files_in c.in_ok-read.was ∙ ap₂ (λ file map. Ok (file, map)) (sym c.deref.ensures.value) (sym c.deref-2.ensures.value)) c.read_task.ensures.answer
+    c.in_ok-run_report.ensures.work (inl (inl refl))
+
+pub returns-clause-printed : goal.returns-clause-printed
+returns-clause-printed g c =
+    let task = task_view c.args.task.now in
+    of_read (g.F.Files.faults c.args.files.now) (g.F.Files.faults c.read_task.new.files) (g.F.Files.held c.args.files.now) (λ h. task_files h task) (c.deref.result.now, c.deref-2.result.now) (files_in c.read_task.result)
+    (λ files. EvalExpects task files.0 files.1) (run_report c.in_ok-run_report.run_report)
+    (λ work. Prints (g.S.Sink.taken c.args.out.now) (g.S.Sink.taken c.put_all.new.sink) (expected_text work) (Ok c.in_ok-run_report.run_report.done))
+    (ap files_in c.in_ok-read.was ∙ ap₂ (λ file map. Ok (file, map)) (sym c.deref.ensures.value) (sym c.deref-2.ensures.value)) c.read_task.ensures.answer
+    c.in_ok-run_report.ensures.work
+    (prints_all (g.S.Sink.taken c.args.out.now) (g.S.Sink.taken c.put_all.new.sink) c.in_ok-run_report.run_report.text.items c.in_ok-run_report.run_report.done
+    (subst (λ t. IfSome (g.S.Sink.taken c.args.out.now) (λ b. g.S.Sink.taken c.put_all.new.sink ≡ Some (b ++ t))) c.deref-3.ensures.value c.in_ok-put_all.ensures.all)
+    (subst (λ t. IfSome (g.S.Sink.taken c.args.out.now) (λ b. GainsPart b (g.S.Sink.taken c.put_all.new.sink) t)) c.deref-3.ensures.value c.put_all.ensures.prefix))

@@ -1,0 +1,3 @@
+pub mod Kernels
+pub mod Commands
+pub mod Swept

@@ -1,0 +1,88 @@
+-- The lines of a script, loaded one after another.
+use Rattle.std.proofs.Common.{◌≡◌, ℕ, ◌≤◌, List, [], ◌∷◌, ◌++◌, Option, Some, None, Result, Ok, Err, inl, refl, sym, ap, ◌∙◌, subst, append_assoc, append-nil}
+use Rattle.std.specs.Prelude.{IfSome, IsSome}
+use Rattle.std.specs.List.{AllByRecursion}
+use Rattle.io_edges.specs.Files.{Rose, content}
+use Rattle.io_edges.proofs.Puts.{later_rose}
+use Rattle.guest_types.specs.Memory.{Memory as Pages}
+use Rattle.machine_model.specs.Load.{Image}
+use Rattle.pipe_script.specs.Script.{Entry}
+use Rattle.pipe_run.specs.PipeRun.{Line}
+use Rattle.refusals.specs.declared.refusal.Refusal.{Refusal}
+use Rattle.command_answers.specs.Answer.{Held, IsFileAnswer}
+use Rattle.command_answers.specs.Reads.{and_then}
+use Rattle.command_answers.proofs.Reading.{read_is, refused_first}
+use Rattle.pipe_command.specs.Pipes.{image_of, with_line, lines_of, AreHeld}
+use Rattle.pipe_command.specs.View.{IsFitting}
+
+-- some lines, and those after them
+abbrev pub with_before : List Line → Result (List Line) Refusal → Result (List Line) Refusal
+with_before before rest = and_then rest (λ lines. Ok (before ++ lines))
+
+-- one line more, and those after it
+step_is : (held : Held) (pages : Pages) (before : List Line) (entry : Entry) (entries : List Entry) → with_before before (lines_of held pages (entry ∷ entries)) ≡ and_then (with_line held pages before entry) (λ lines. with_before lines (lines_of held pages entries))
+unfolding lines_of
+step_is held pages before entry entries = by (image_of held pages entry) (lines_of held pages entries)
+  where
+    by : (i : Result Image Refusal) (rest : Result (List Line) Refusal)
+        → with_before before (and_then i (λ image. and_then rest (λ lines. Ok (record { image = image; args = entry.args } ∷ lines))))
+        ≡ and_then (and_then i (λ image. Ok (before ++ record { image = image; args = entry.args } ∷ []))) (λ lines. with_before lines rest)
+    by (Err refusal) rest = refl
+    by (Ok image) (Err refusal) = refl
+    by (Ok image) (Ok lines) = ap (λ l. Ok l) (sym (append_assoc before (record { image = image; args = entry.args } ∷ []) lines))
+
+-- what is loaded, and the lines that are left, are the lines that are wanted
+abbrev pub SoFar : Option Held → Pages → List Line → (left all : List Entry) → Type 0
+SoFar held pages before left all = IfSome held (λ h. with_before before (lines_of h pages left) ≡ lines_of h pages all)
+
+pub before_first : (held : Option Held) (pages : Pages) (before : List Line) (all : List Entry) → before ≡ [] → SoFar held pages before all all
+before_first None pages before all e = tt
+before_first (Some h) pages before all e = ap (λ b. with_before b (lines_of h pages all)) e ∙ by (lines_of h pages all)
+  where
+    by : (r : Result (List Line) Refusal) → with_before [] r ≡ r
+    by (Ok lines) = refl
+    by (Err refusal) = refl
+
+pub one_more : (x y : ℕ) (held : Option Held) (pages : Pages) (before after : List Line) (entry : Entry) (left all : List Entry) (found : Result (List Line) Refusal) → SoFar held pages before (entry ∷ left) all → found ≡ Ok after → IfSome held (λ h. IsFileAnswer x y (with_line h pages before entry) found) → SoFar held pages after left all
+one_more x y None pages before after entry left all found so is answer = tt
+one_more x y (Some h) pages before after entry left all found so is answer =
+    ap (λ r. and_then r (λ lines. with_before lines (lines_of h pages left))) (read_is x y (with_line h pages before entry) after (subst (IsFileAnswer x y (with_line h pages before entry)) is answer))
+    ∙ sym (step_is h pages before entry left) ∙ so
+
+pub all_loaded : (x y : ℕ) (held : Option Held) (pages : Pages) (before : List Line) (left all : List Entry) (result : Result (List Line) Refusal) → SoFar held pages before left all → left ≡ [] → result ≡ Ok before → IfSome held (λ h. IsFileAnswer x y (lines_of h pages all) result)
+unfolding lines_of
+all_loaded x y None pages before left all result so none is = tt
+all_loaded x y (Some h) pages before left all result so none is =
+    let last : with_before before (lines_of h pages []) ≡ lines_of h pages all = subst (λ l. with_before before (lines_of h pages l) ≡ lines_of h pages all) none so in
+    inl (is ∙ ap (λ l. Ok l) (sym (append-nil before)) ∙ last)
+
+pub stops : (x y z : ℕ) (held : Option Held) (pages : Pages) (before : List Line) (entry : Entry) (left all : List Entry) (found : Result (List Line) Refusal) (refusal : Refusal) (result : Result (List Line) Refusal) → x ≤ y → SoFar held pages before (entry ∷ left) all → found ≡ Err refusal → result ≡ Err refusal → IfSome held (λ h. IsFileAnswer y z (with_line h pages before entry) found) → IfSome held (λ h. IsFileAnswer x z (lines_of h pages all) result)
+stops x y z None pages before entry left all found refusal result more so is e answer = tt
+stops x y z (Some h) pages before entry left all found refusal result more so is e answer =
+    subst (IsFileAnswer x z (lines_of h pages all)) (sym e)
+    (subst (λ w. IsFileAnswer x z w (Err refusal)) (sym (step_is h pages before entry left) ∙ so)
+    (refused_first x z y z (with_line h pages before entry) (λ lines. with_before lines (lines_of h pages left)) refusal (later_rose x y z more) (subst (IsFileAnswer y z (with_line h pages before entry)) is answer)))
+
+-- ---- the files that are held
+
+abbrev pub StillHeld : Option Held → (left all : List Entry) → Type 0
+StillHeld held left all = IfSome held (λ h. AreHeld h all → AreHeld h left)
+
+pub still_held : (held : Option Held) (entry : Entry) (left all : List Entry) → StillHeld held (entry ∷ left) all → StillHeld held left all
+still_held None entry left all h = tt
+still_held (Some held) entry left all h = λ a. (h a).1
+
+-- the file of the next line is held
+pub next_held : (held : Option Held) (entry : Entry) (left all : List Entry) (P : Type 0) → StillHeld held (entry ∷ left) all → IfSome held (λ h. IsSome (content h entry.file) → P) → IfSome held (λ h. AreHeld h all → P)
+next_held None entry left all P h p = tt
+next_held (Some held) entry left all P h p = λ a. p (h a).0
+
+pub all_held : (held : Option Held) (all : List Entry) → StillHeld held all all
+all_held None all = tt
+all_held (Some held) all = λ a. a
+
+-- ---- the map fits beside each line
+
+pub fits_more : (pages : Pages) (lines : List Line) (line : Line) → AllByRecursion (IsFitting pages) lines → IsFitting pages line → AllByRecursion (IsFitting pages) (lines ++ line ∷ [])
+fits_more pages [] line all h = (h, tt)
+fits_more pages (first ∷ lines) line all h = (all.0, fits_more pages lines line all.1 h)

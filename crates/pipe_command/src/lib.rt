@@ -1,0 +1,7 @@
+//! The command `pipe`: the lines of a script, each over the pages of one map as those before left them.
+#![tactic(auto)]
+
+mod lines;
+pub mod pipe;
+mod runs;
+mod script;

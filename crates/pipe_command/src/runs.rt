@@ -1,0 +1,130 @@
+//! The runs of the lines of a script.
+
+ghost use Rattle.std.specs.Prelude.{◌≡◌, ◌≤◌, ◌++◌, IfOk, OnOk, length, option_map};
+ghost use Rattle.std.specs.List.{AllByRecursion};
+ghost use Rattle.machine_model.specs.Run.{Outcome, memory_left};
+ghost use Rattle.command_line.specs.View.{extent_view, task_view};
+ghost use Rattle.pipe_run.specs.PipeRun.{Fits, map_left, runs_of};
+ghost use Rattle.pipe_run.specs.View.{IsOutcomeOf};
+ghost use Rattle.command_answers.specs.Works.{done_by, dump_of, run_report};
+ghost use Rattle.pipe_command.specs.Pipes.{line_run, run_text, runs_text, last_done, piped};
+ghost use Rattle.pipe_command.specs.View.{line_view, lines_view, IsFitting};
+
+use crate::lines::LoadedLine;
+use crate::script::LoadedScript;
+use command_answers::run_report::{RunReport, done_of, push_dump};
+use command_line::command::{Extent, Task};
+use guest_types::image::{Image, PageMap};
+use guest_types::length::Vl;
+use itoa::Buffer;
+use outcome_text::outcome_text;
+use paged_memory::pages::Pages;
+use pipe_run::{LineOutcome, run_line};
+use refusals::refusal::Done;
+use std::alloc::{AllocError, Global};
+
+// Adds the number of a line to a text, and what came of it.
+fn push_run(
+    text: &mut Vec<u8>,
+    alloc: Global,
+    number: u64,
+    ran: &LineOutcome,
+) -> Result<(), AllocError>
+    ensures { OnOk result ((outcome : Outcome) → IsOutcomeOf ran.now outcome
+        → text.new.items ≡ text.old.items ++ run_text number outcome) }
+{
+    let mut buffer = Buffer::new();
+    let shown = outcome_text(alloc, &ran.outcome, ran.pc, ran.steps)?;
+    text.extend_from_slice(b"run ")?;
+    text.extend_from_slice(buffer.format(number).as_bytes())?;
+    text.push(b'\n')?;
+    text.extend_from_slice(&shown)?;
+    Ok(())
+}
+
+// Runs a line over the pages of the map, and adds what came of it to a text.
+fn run_one(
+    alloc: Global,
+    vl: Vl,
+    steps: u64,
+    number: u64,
+    line: &LoadedLine,
+    map: &mut PageMap,
+    text: &mut Vec<u8>,
+) -> Result<Done, AllocError>
+    requires { Fits line.now.image.pages.items map.old.pages.items }
+    ensures done { IfOk result (λ done. done ≡ done_by (line_run (line_view line.now) map.old.pages.items vl steps)) }
+    ensures text { OnOk result (text.new.items ≡ text.old.items
+        ++ run_text number (line_run (line_view line.now) map.old.pages.items vl steps)) }
+    ensures left { OnOk result (map.new.pages.items
+        ≡ map_left (memory_left (line_run (line_view line.now) map.old.pages.items vl steps)) map.old.pages.items) }
+{
+    let ran = run_line(alloc, &line.image, map, &line.args, vl, steps)?;
+    push_run(text, alloc, number, &ran)?;
+    Ok(done_of(&ran.outcome))
+}
+
+// Runs the lines, up to the first that does not end, each over the pages of the map as those before left them.
+fn run_lines(
+    alloc: Global,
+    vl: Vl,
+    steps: u64,
+    lines: &[LoadedLine],
+    map: &mut PageMap,
+) -> Result<RunReport, AllocError>
+    requires { AllByRecursion (IsFitting map.old.pages.items) (lines_view lines.now) }
+    ensures done { IfOk result (λ report.
+        report.done ≡ last_done (runs_of (lines_view lines.now) map.old.pages.items vl steps).outcomes) }
+    ensures text { IfOk result (λ report.
+        report.text.items ≡ runs_text 1 (runs_of (lines_view lines.now) map.old.pages.items vl steps).outcomes) }
+    ensures left { OnOk result (map.new.pages.items
+        ≡ (runs_of (lines_view lines.now) map.old.pages.items vl steps).pages) }
+{
+    let mut text = Vec::new(alloc);
+    for (index, line) in lines.iter().enumerate() {
+        let number = index as u64 + 1;
+        let done = run_one(alloc, vl, steps, number, line, map, &mut text)?;
+        if !matches!(done, Done::Ended) {
+            return Ok(RunReport { done, text });
+        }
+    }
+    Ok(RunReport {
+        done: Done::Ended,
+        text,
+    })
+}
+
+// Adds the bytes of a map that are asked for to a text.
+fn push_map_dump(
+    text: &mut Vec<u8>,
+    alloc: Global,
+    map: &PageMap,
+    dump: Option<Extent>,
+) -> Result<(), AllocError>
+    requires { length map.now.pages.items ≤ 16384 }
+    ensures { OnOk result (text.new.items ≡ text.old.items ++ dump_of (option_map extent_view dump) map.now.pages.items) }
+{
+    if dump.is_none() {
+        return Ok(());
+    }
+    let none = Image::empty(alloc);
+    let pages = Pages::build(alloc, &none, map)?;
+    push_dump(text, alloc, &pages, dump)
+}
+
+/// Runs the lines of a script over the pages of its map, and tells how they came out, with the dump that is asked for.
+pub fn run_script(
+    alloc: Global,
+    vl: Vl,
+    task: &Task,
+    script: &mut LoadedScript,
+) -> Result<RunReport, AllocError>
+    requires few { length script.old.map.pages.items ≤ 16384 }
+    requires fits { AllByRecursion (IsFitting script.old.map.pages.items) (lines_view script.old.lines.items) }
+    ensures { IfOk result (λ report. run_report report ≡ piped (task_view task.now).dump
+        (runs_of (lines_view script.old.lines.items) script.old.map.pages.items vl task.now.steps)) }
+{
+    let mut report = run_lines(alloc, vl, task.steps, &script.lines, &mut script.map)?;
+    push_map_dump(&mut report.text, alloc, &script.map, task.dump)?;
+    Ok(report)
+}

@@ -1,0 +1,3 @@
+pub mod Entries
+pub mod Arguments
+pub mod Names

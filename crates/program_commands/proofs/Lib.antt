@@ -1,0 +1,4 @@
+pub mod Programs
+pub mod Listings
+pub mod Sessions
+pub mod Assemblies

@@ -1,0 +1,45 @@
+use Rattle.std.proofs.Common.{Ok, ap, sym, ◌∙◌, inl, subst}
+use Rattle.refusals.specs.declared.refusal.Done.TheVariants as done
+use Rattle.command_answers.specs.Answer.{answer_of, IsFileAnswer, Unwritten}
+use Rattle.command_answers.specs.Reads.{file_of, bytes_in}
+use Rattle.command_answers.proofs.Reading.{of_what_follows, is_err}
+use Rattle.program_commands.proofs.Reading.{written_file}
+use Rattle.program_commands.specs.Commands.{assemble_text, AssemblesTo}
+use Rattle.program_commands.proofs.Assemblies.{asm_refused}
+use Rattle.program_commands.proofs.asm.asm.Goals as goal
+
+pub returns-in_err-file-clause-answer : goal.returns-in_err-file-clause-answer
+returns-in_err-file-clause-answer g c =
+    of_what_follows (g.F.Files.faults c.args.files.now) (g.F.Files.faults c.read_file.new.files) (g.F.Files.held c.args.files.now) (λ h. file_of h c.args.from.now) c.deref.result.now (bytes_in c.read_file.result) assemble_text
+    (λ work. IsFileAnswer (g.F.Files.faults c.args.files.now) (g.F.Files.faults c.read_file.new.files) (answer_of work) c.from_residual-in_err-file.result)
+    (ap bytes_in c.in_ok-text.was ∙ ap (λ b. Ok b) (sym c.deref.ensures.value)) c.read_file.ensures.answer
+    (asm_refused _ _ _ c.in_err-file.field-0.0 c.from_residual-in_err-file.result (is_err c.in_err-file.field-0.0 c.from_residual-in_err-file.result c.from_residual-in_err-file.ensures.1) c.in_err-file.ensures.refusal)
+
+pub returns-in_err-write-clause-unwritten : goal.returns-in_err-write-clause-unwritten
+returns-in_err-write-clause-unwritten g c =
+    of_what_follows (g.F.Files.faults c.args.files.now) (g.F.Files.faults c.read_file.new.files) (g.F.Files.held c.args.files.now) (λ h. file_of h c.args.from.now) c.deref.result.now (bytes_in c.read_file.result) assemble_text
+    (λ work. Unwritten work (g.F.Files.held c.args.files.now) (g.F.Files.held c.write.new.self))
+    (ap bytes_in c.in_ok-text.was ∙ ap (λ b. Ok b) (sym c.deref.ensures.value)) c.read_file.ensures.answer
+    (subst (λ work. Unwritten work (g.F.Files.held c.args.files.now) (g.F.Files.held c.write.new.self)) (sym c.in_ok-file.ensures.wanted) (λ r. absurd r))
+
+pub returns-clause-unwritten : goal.returns-clause-unwritten
+returns-clause-unwritten g c =
+    of_what_follows (g.F.Files.faults c.args.files.now) (g.F.Files.faults c.read_file.new.files) (g.F.Files.held c.args.files.now) (λ h. file_of h c.args.from.now) c.deref.result.now (bytes_in c.read_file.result) assemble_text
+    (λ work. Unwritten work (g.F.Files.held c.args.files.now) (g.F.Files.held c.write.new.self))
+    (ap bytes_in c.in_ok-text.was ∙ ap (λ b. Ok b) (sym c.deref.ensures.value)) c.read_file.ensures.answer
+    (subst (λ work. Unwritten work (g.F.Files.held c.args.files.now) (g.F.Files.held c.write.new.self)) (sym c.in_ok-file.ensures.wanted) (λ r. absurd r))
+
+pub returns-clause-answer : goal.returns-clause-answer
+returns-clause-answer g c =
+    of_what_follows (g.F.Files.faults c.args.files.now) (g.F.Files.faults c.read_file.new.files) (g.F.Files.held c.args.files.now) (λ h. file_of h c.args.from.now) c.deref.result.now (bytes_in c.read_file.result) assemble_text
+    (λ work. IsFileAnswer (g.F.Files.faults c.args.files.now) (g.F.Files.faults c.write.new.self) (answer_of work) (Ok done.Ended))
+    (ap bytes_in c.in_ok-text.was ∙ ap (λ b. Ok b) (sym c.deref.ensures.value)) c.read_file.ensures.answer
+    (inl (sym (ap answer_of c.in_ok-file.ensures.wanted)))
+
+pub returns-clause-file : goal.returns-clause-file
+returns-clause-file g c =
+    written_file (g.F.Files.faults c.args.files.now) (g.F.Files.faults c.read_file.new.files)
+    (g.F.Files.held c.args.files.now) (g.F.Files.held c.read_file.new.files) (g.F.Files.held c.write.new.self) c.args.from.now c.args.to.now
+    c.deref.result.now c.deref-2.result.now c.in_ok-file.file.items (bytes_in c.read_file.result) c.write.result AssemblesTo
+    (ap bytes_in c.in_ok-text.was ∙ ap (λ b. Ok b) (sym c.deref.ensures.value)) c.read_file.ensures.answer c.read_file.ensures.held c.write.ensures.bytes
+    c.in_ok-write.was c.deref-2.ensures.value c.in_ok-file.ensures.file
