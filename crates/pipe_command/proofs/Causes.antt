@@ -1,7 +1,7 @@
 -- Refusals of scripts, of maps and of the files of lines.
 use mathlib.Core.Logic.{⊎_elim}
-use Rattle.std.proofs.Common.{◌≡◌, ℕ, List, [], Option, Some, None, Result, Ok, Err, inl, inr, refl, sym, ap, ◌∙◌, subst}
-use Rattle.std.specs.Prelude.{IfErr, IsErrAnd}
+use Rattle.std.proofs.Common.{◌≡◌, ◌≢◌, ℕ, List, [], Option, Some, None, Result, Ok, Err, inl, inr, refl, sym, ap, ◌∙◌, subst}
+use Rattle.std.specs.Prelude.{IfSome, IfErr, IsErrAnd}
 use Rattle.guest_types.specs.Memory.{Memory as Pages}
 use Rattle.machine_model.specs.declared.elf_fault.ElfFault.{ElfFault}
 use Rattle.machine_model.specs.declared.elf_fault.ElfFault.TheVariants as elf
@@ -17,13 +17,13 @@ use Rattle.pipe_script.specs.Script.{script_of}
 use Rattle.pipe_script.specs.View.{Refuses as RefusesScript}
 use Rattle.pipe_run.specs.PipeRun.{misfit}
 use Rattle.refusals.specs.declared.refusal.Refusal.{Refusal}
-use Rattle.refusals.specs.declared.refusal.Refusal.TheVariants.{Elf}
+use Rattle.refusals.specs.declared.refusal.Refusal.TheVariants.{Usage, TooManyLive, Kernel, TooLong, Elf, Map, Asm, Pipe, Memory, File, Output}
 use Rattle.refusals.specs.Statuses.{of_elf, of_map, of_pipe}
-use Rattle.command_answers.specs.Answer.{IsFileAnswer}
-use Rattle.command_answers.specs.Reads.{and_then}
+use Rattle.command_answers.specs.Answer.{Held, IsFileAnswer}
+use Rattle.command_answers.specs.Reads.{and_then, IsOfRead}
 use Rattle.command_answers.specs.Works.{loaded, mapped}
-use Rattle.pipe_command.specs.Pipes.{read_as, entries_of, fitted, image_in, map_alone}
-use Rattle.pipe_command.specs.View.{Refuses}
+use Rattle.pipe_command.specs.Pipes.{read_as, entries_of, fitted, image_in, map_alone, IsOfPipe}
+use Rattle.pipe_command.specs.View.{Refuses, IsOfContent}
 
 -- ---- by the fault of a layer below
 
@@ -68,6 +68,76 @@ map_refused text none fault empty h = by fault (subst (λ n. RefusesMap (pages_o
     by (maps.Unmapped line) h = inr (ap mapped h)
     by maps.TooManyPages h = inr (ap mapped h)
 
+-- ---- what comes of which command
+
+pub elf_content : (fault : ElfFault) → IsOfContent (of_elf fault)
+elf_content elf.Memory = tt
+elf_content (elf.Short need have) = tt
+elf_content elf.NotElf = tt
+elf_content elf.NotAarch64 = tt
+elf_content elf.NotStatic = tt
+elf_content (elf.BadSegment index) = tt
+elf_content elf.SegmentsClash = tt
+elf_content elf.TooManyPages = tt
+
+pub pipe_content : (fault : PipeFault) → IsOfContent (of_pipe fault)
+pipe_content pipes.Memory = tt
+pipe_content pipes.TooLong = tt
+pipe_content (pipes.BadLine line) = tt
+pipe_content (pipes.Clash line) = tt
+pipe_content (pipes.TooManyPages line) = tt
+
+pub map_content : (fault : MapFault) → IsOfContent (of_map fault)
+map_content maps.Memory = tt
+map_content (maps.BadLine line) = tt
+map_content (maps.Clash line) = tt
+map_content (maps.Unmapped line) = tt
+map_content maps.TooManyPages = tt
+
+pub by_content : {T : Type 0} (fault : Refusal) (result : Result T Refusal) → IsErrAnd result (λ r. r ≡ fault) → IsOfContent fault → IfErr result IsOfContent
+by_content fault (Ok x) is h = absurd is
+by_content fault (Err r) is h = subst IsOfContent (sym is) h
+
+pub of_content : (refusal : Refusal) → IsOfContent refusal → IsOfPipe (Err refusal)
+of_content Memory h = tt
+of_content (Elf fault) h = tt
+of_content (Map fault) h = tt
+of_content (Pipe fault) h = tt
+of_content Usage h = absurd h
+of_content (TooManyLive class need) h = absurd h
+of_content (Kernel fault) h = absurd h
+of_content TooLong h = absurd h
+of_content (Asm fault) h = absurd h
+of_content File h = absurd h
+of_content Output h = absurd h
+
+pub content_not_file : (refusal : Refusal) → IsOfContent refusal → refusal ≢ File
+content_not_file Memory h e = absurd cc
+content_not_file (Elf fault) h e = absurd cc
+content_not_file (Map fault) h e = absurd cc
+content_not_file (Pipe fault) h e = absurd cc
+content_not_file Usage h e = absurd h
+content_not_file (TooManyLive class need) h e = absurd h
+content_not_file (Kernel fault) h e = absurd h
+content_not_file TooLong h e = absurd h
+content_not_file (Asm fault) h e = absurd h
+content_not_file File h e = absurd h
+content_not_file Output h e = absurd h
+
+-- a refusal of a read
+pub of_read_refusal : (refusal : Refusal) → IsOfRead {T = Unit {0}} (Err refusal) → IsOfPipe (Err refusal)
+of_read_refusal TooLong h = tt
+of_read_refusal Memory h = tt
+of_read_refusal File h = tt
+of_read_refusal (Elf fault) h = absurd h
+of_read_refusal (Map fault) h = absurd h
+of_read_refusal (Pipe fault) h = absurd h
+of_read_refusal Usage h = absurd h
+of_read_refusal (TooManyLive class need) h = absurd h
+of_read_refusal (Kernel fault) h = absurd h
+of_read_refusal (Asm fault) h = absurd h
+of_read_refusal Output h = absurd h
+
 -- ---- answers
 
 -- a refusal that is wanted, or want of memory, is an answer
@@ -78,3 +148,12 @@ refusal_answers x y wanted result refusal is h = ⊎_elim (λ m. inr (inl (is �
 pub by_error : {T U : Type 0} (wanted : Result U Refusal) (fault : Refusal) (result : Result T Refusal) → IsErrAnd result (λ r. r ≡ fault) → Refuses wanted fault → IfErr result (Refuses wanted)
 by_error wanted fault (Ok x) is h = absurd is
 by_error wanted fault (Err r) is h = subst (Refuses wanted) (sym is) h
+
+-- what holds whatever the files hold
+pub whatever_held : (held : Option Held) (P : Held → Type 0) → ((h : Held) → P h) → IfSome held P
+whatever_held None P all = tt
+whatever_held (Some h) P all = all h
+
+-- a call that is refused so answers as is wanted
+pub refused_answer : {U : Type 0} (x : ℕ) (held : Option Held) (wanted : Held → Result U Refusal) (refusal : Refusal) (result : Result U Refusal) → result ≡ Err refusal → ((h : Held) → Refuses (wanted h) refusal) → IfSome held (λ h. IsFileAnswer x x (wanted h) result)
+refused_answer x held wanted refusal result is h = whatever_held held (λ k. IsFileAnswer x x (wanted k) result) (λ k. refusal_answers x x (wanted k) result refusal is (h k))

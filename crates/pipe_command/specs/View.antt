@@ -6,7 +6,7 @@ use Rattle.machine_model.specs.Load.{Image}
 use Rattle.elf_image.specs.Loaded.{plain}
 use Rattle.pipe_run.specs.PipeRun.{Line, Fits}
 use Rattle.refusals.specs.declared.refusal.Refusal.{Refusal}
-use Rattle.refusals.specs.declared.refusal.Refusal.TheVariants.{Memory}
+use Rattle.refusals.specs.declared.refusal.Refusal.TheVariants.{Elf, Map, Pipe, Memory}
 use Rattle.command_answers.specs.declared.run_report.RunReport.{RunReport}
 use Rattle.command_answers.specs.Answer.{Expected}
 use Rattle.command_answers.specs.Works.{run_report}
@@ -45,6 +45,14 @@ report_in (Err refusal) = Err refusal
 -- a refusal is the wanted one, or want of memory
 abbrev pub Refuses : {T : Type 0} → Result T Refusal → Refusal → Type 0
 Refuses wanted refusal = (refusal ≡ Memory) ⊎ (wanted ≡ Err refusal)
+
+-- a refusal by what a file holds, or want of memory
+abbrev pub IsOfContent : Refusal → Type 0
+IsOfContent Memory = Unit {0}
+IsOfContent (Elf fault) = Unit {0}
+IsOfContent (Map fault) = Unit {0}
+IsOfContent (Pipe fault) = Unit {0}
+IsOfContent refusal = ⊥
 
 -- a map fits beside the image of a line
 abbrev pub IsFitting : Pages → Line → Type 0

@@ -8,7 +8,7 @@ ghost use Rattle.pipe_script.specs.View.{entry_view, entries_view};
 ghost use Rattle.pipe_run.specs.PipeRun.{Fits};
 ghost use Rattle.command_answers.specs.Answer.{IsFileAnswer};
 ghost use Rattle.pipe_command.specs.Pipes.{image_in, image_of, with_line, lines_of, AreHeld, IsOfPipe};
-ghost use Rattle.pipe_command.specs.View.{lines_view, plain_in, loaded_in, lines_by, Refuses, IsFitting};
+ghost use Rattle.pipe_command.specs.View.{lines_view, plain_in, loaded_in, lines_by, Refuses, IsOfContent, IsFitting};
 
 use command_answers::files::read_file;
 use elf_image::load_elf;
@@ -37,8 +37,7 @@ fn image_in(
     ensures image { IfOk result (λ image. image_in map.now.pages.items line bytes.now ≡ Ok (plain image)) }
     ensures fits { IfOk result (λ image. Fits image.pages.items map.now.pages.items) }
     ensures refusal { IfErr result (Refuses (image_in map.now.pages.items line bytes.now)) }
-    ensures of_pipe { IfErr result (λ refusal. IsOfPipe (Err refusal)) }
-    ensures no_file { result ≢ Err Refusal.File }
+    ensures content { IfErr result IsOfContent }
 {
     let image = load_elf(alloc, bytes)?;
     fits(&image, map, line)?;

@@ -7,7 +7,7 @@ ghost use Rattle.pipe_script.specs.Script.{script_of};
 ghost use Rattle.pipe_script.specs.View.{entries_view};
 ghost use Rattle.command_answers.specs.Answer.{IsFileAnswer};
 ghost use Rattle.pipe_command.specs.Pipes.{entries_of, map_alone, script_loaded, AreHeld, IsOfPipe};
-ghost use Rattle.pipe_command.specs.View.{lines_view, script_in, Refuses, IsFitting};
+ghost use Rattle.pipe_command.specs.View.{lines_view, script_in, Refuses, IsOfContent, IsFitting};
 
 use crate::lines::{LoadedLine, load_lines};
 use guest_types::image::{Image, PageMap};
@@ -28,8 +28,7 @@ pub struct LoadedScript {
 fn entries(alloc: Global, script: &[u8]) -> Result<Vec<PipeLine>, Refusal>
     ensures entries { IfOk result (λ lines. script_of script.now ≡ Ok (entries_view lines.items)) }
     ensures refusal { IfErr result (Refuses (entries_of script.now)) }
-    ensures no_file { result ≢ Err Refusal.File }
-    ensures of_pipe { IfErr result (λ refusal. IsOfPipe (Err refusal)) }
+    ensures content { IfErr result IsOfContent }
 {
     let lines = read_script(alloc, script)?;
     Ok(lines)
@@ -40,8 +39,7 @@ fn map_alone(alloc: Global, map: &[u8]) -> Result<PageMap, Refusal>
     ensures map { IfOk result (λ pages. map_alone map.now ≡ Ok pages.pages.items) }
     ensures few { IfOk result (λ pages. length pages.pages.items ≤ 16384) }
     ensures refusal { IfErr result (Refuses (map_alone map.now)) }
-    ensures no_file { result ≢ Err Refusal.File }
-    ensures of_pipe { IfErr result (λ refusal. IsOfPipe (Err refusal)) }
+    ensures content { IfErr result IsOfContent }
 {
     let none = Image::empty(alloc);
     let pages = read_map(alloc, map, &none)?;

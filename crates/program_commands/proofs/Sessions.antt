@@ -17,8 +17,7 @@ use Rattle.command_answers.specs.Reads.{and_then}
 use Rattle.program_commands.specs.Commands.{debug_program, expected_of_debug, expected_of_run, IsOfDebug}
 use Rattle.command_answers.specs.Works.{RefusesProgram}
 use Rattle.command_answers.specs.Outputs.{Prints}
-use Rattle.command_answers.proofs.Reading.{of_what_follows, is_err}
-use Rattle.program_commands.proofs.Reading.{not_read}
+use Rattle.command_answers.proofs.Reading.{of_what_follows, is_err, not_read}
 use Rattle.command_answers.proofs.Prints.{prints_nothing}
 
 -- what holds of all inputs and files

@@ -46,7 +46,7 @@ fn machine_of(
 }
 
 /// A machine that is about to begin the program in a file, beside the pages of a map, with a stop list.
-#[tactic(auto, using(crate::proofs::Programs::few_pages))]
+#[tactic(auto, using(command_answers::proofs::Loading::few_pages))]
 pub fn load_machine(
     alloc: Global,
     vl: Vl,

@@ -2,8 +2,7 @@ use Rattle.std.proofs.Common.{Ok, ap, sym, ◌∙◌, inl, subst}
 use Rattle.refusals.specs.declared.refusal.Done.TheVariants as done
 use Rattle.command_answers.specs.Answer.{answer_of, IsFileAnswer, Unwritten}
 use Rattle.command_answers.specs.Reads.{file_of, bytes_in}
-use Rattle.command_answers.proofs.Reading.{of_what_follows, is_err}
-use Rattle.program_commands.proofs.Reading.{written_file}
+use Rattle.command_answers.proofs.Reading.{of_what_follows, is_err, written_file}
 use Rattle.program_commands.specs.Commands.{assemble_text, AssemblesTo}
 use Rattle.program_commands.proofs.Assemblies.{asm_refused}
 use Rattle.program_commands.proofs.asm.asm.Goals as goal

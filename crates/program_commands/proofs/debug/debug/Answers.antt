@@ -1,4 +1,4 @@
-use Rattle.std.proofs.Common.{◌⊎◌, [], Ok, Err, inl, ap, ap₂, sym, ◌∙◌}
+use Rattle.std.proofs.Common.{◌⊎◌, ℕ, List, [], Ok, Err, inl, ap, ap₂, sym, ◌∙◌}
 use Rattle.std.specs.Prelude.{IfSome}
 use Rattle.io_edges.specs.Files.{Rose}
 use Rattle.command_line.specs.View.{task_view}
@@ -28,7 +28,7 @@ returns-in_err-read-clause-printed g c =
 pub returns-in_err-debugger-clause-answer : goal.returns-in_err-debugger-clause-answer
 returns-in_err-debugger-clause-answer g c =
     let task = task_view c.args.task.now in
-    let read = (c.deref.result.now, c.deref-2.result.now) in
+    let read : List ℕ × List ℕ = (c.deref.result.now, c.deref-2.result.now) in
     debugged_is (g.F.Files.faults c.args.files.now) (g.F.Files.faults c.read_task.new.files)
     (g.I.Source.left c.args.input.now) (g.F.Files.held c.args.files.now) (λ h. task_files h task) read (files_in c.read_task.result)
     (λ input files. debug_program c.args.vl task files.0 files.1 input)
@@ -69,7 +69,7 @@ session-requires g c = c.in_ok-debugger.ensures.begins.stands.shows.steps
 pub returns-in_err-session-clause-answer : goal.returns-in_err-session-clause-answer
 returns-in_err-session-clause-answer g c =
     let task = task_view c.args.task.now in
-    let read = (c.deref.result.now, c.deref-2.result.now) in
+    let read : List ℕ × List ℕ = (c.deref.result.now, c.deref-2.result.now) in
     debugged_is (g.F.Files.faults c.args.files.now) (g.F.Files.faults c.read_task.new.files)
     (g.I.Source.left c.args.input.now) (g.F.Files.held c.args.files.now) (λ h. task_files h task) read (files_in c.read_task.result)
     (λ input files. debug_program c.args.vl task files.0 files.1 input)
@@ -83,7 +83,7 @@ returns-in_err-session-clause-answer g c =
 pub returns-in_err-session-clause-printed : goal.returns-in_err-session-clause-printed
 returns-in_err-session-clause-printed g c =
     let task = task_view c.args.task.now in
-    let read = (c.deref.result.now, c.deref-2.result.now) in
+    let read : List ℕ × List ℕ = (c.deref.result.now, c.deref-2.result.now) in
     let begins = c.in_ok-debugger.ensures.begins in
     debugged_is (g.F.Files.faults c.args.files.now) (g.F.Files.faults c.read_task.new.files)
     (g.I.Source.left c.args.input.now) (g.F.Files.held c.args.files.now) (λ h. task_files h task) read (files_in c.read_task.result)
@@ -97,7 +97,7 @@ returns-in_err-session-clause-printed g c =
 pub returns-clause-answer : goal.returns-clause-answer
 returns-clause-answer g c =
     let task = task_view c.args.task.now in
-    let read = (c.deref.result.now, c.deref-2.result.now) in
+    let read : List ℕ × List ℕ = (c.deref.result.now, c.deref-2.result.now) in
     let begins = c.in_ok-debugger.ensures.begins in
     debugged_is (g.F.Files.faults c.args.files.now) (g.F.Files.faults c.read_task.new.files)
     (g.I.Source.left c.args.input.now) (g.F.Files.held c.args.files.now) (λ h. task_files h task) read (files_in c.read_task.result)
@@ -110,7 +110,7 @@ returns-clause-answer g c =
 pub returns-clause-printed : goal.returns-clause-printed
 returns-clause-printed g c =
     let task = task_view c.args.task.now in
-    let read = (c.deref.result.now, c.deref-2.result.now) in
+    let read : List ℕ × List ℕ = (c.deref.result.now, c.deref-2.result.now) in
     let begins = c.in_ok-debugger.ensures.begins in
     debugged_is (g.F.Files.faults c.args.files.now) (g.F.Files.faults c.read_task.new.files)
     (g.I.Source.left c.args.input.now) (g.F.Files.held c.args.files.now) (λ h. task_files h task) read (files_in c.read_task.result)
