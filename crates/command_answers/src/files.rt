@@ -60,11 +60,7 @@ pub struct TaskFiles {
 }
 
 /// Reads the file of a task, and then that of its map.
-pub fn read_task<F: Files>(
-    alloc: Global,
-    task: &Task,
-    files: &mut F,
-) -> Result<TaskFiles, Refusal>
+pub fn read_task<F: Files>(alloc: Global, task: &Task, files: &mut F) -> Result<TaskFiles, Refusal>
     ensures answer { IfSome (F.held files.old)
         (λ held. IsFileAnswer (F.faults files.old) (F.faults files.new) (task_files held (task_view task.now))
         (files_in result)) }

@@ -7,8 +7,8 @@ ghost use Rattle.kernel_commands.specs.Commands.{CheckExpects, ExpectsCheck, Ref
 ghost use Rattle.command_answers.specs.Works.{WhereExpected, ended};
 ghost use Rattle.command_answers.specs.Outputs.{Prints};
 
-use command_answers::files::read_file;
 use check_text::check_text;
+use command_answers::files::read_file;
 use io_edges::files::Files;
 use io_edges::sink::{Sink, put_all};
 use kernel_front::accept;

@@ -19,11 +19,11 @@ use Rattle.pipe_run.specs.PipeRun.{misfit}
 use Rattle.refusals.specs.declared.refusal.Refusal.{Refusal}
 use Rattle.refusals.specs.declared.refusal.Refusal.TheVariants.{Usage, TooManyLive, Kernel, TooLong, Elf, Map, Asm, Pipe, Memory, File, Output}
 use Rattle.refusals.specs.Statuses.{of_elf, of_map, of_pipe}
-use Rattle.command_answers.specs.Answer.{Held, IsFileAnswer}
-use Rattle.command_answers.specs.Reads.{and_then, IsOfRead}
+use Rattle.command_answers.specs.Answer.{Held, Answer, IsFileAnswer}
+use Rattle.command_answers.specs.Reads.{and_then}
 use Rattle.command_answers.specs.Works.{loaded, mapped}
 use Rattle.pipe_command.specs.Pipes.{read_as, entries_of, fitted, image_in, map_alone, IsOfPipe}
-use Rattle.pipe_command.specs.View.{Refuses, IsOfContent}
+use Rattle.pipe_command.specs.View.{Refuses, IsOfContent, IsOfFiles}
 
 -- ---- by the fault of a layer below
 
@@ -98,45 +98,45 @@ pub by_content : {T : Type 0} (fault : Refusal) (result : Result T Refusal) → 
 by_content fault (Ok x) is h = absurd is
 by_content fault (Err r) is h = subst IsOfContent (sym is) h
 
-pub of_content : (refusal : Refusal) → IsOfContent refusal → IsOfPipe (Err refusal)
-of_content Memory h = tt
-of_content (Elf fault) h = tt
-of_content (Map fault) h = tt
-of_content (Pipe fault) h = tt
-of_content Usage h = absurd h
-of_content (TooManyLive class need) h = absurd h
-of_content (Kernel fault) h = absurd h
-of_content TooLong h = absurd h
-of_content (Asm fault) h = absurd h
-of_content File h = absurd h
-of_content Output h = absurd h
+pub of_files : (refusal : Refusal) → IsOfFiles refusal → IsOfPipe (Err refusal)
+of_files Usage h = absurd h
+of_files (TooManyLive class need) h = absurd h
+of_files (Kernel fault) h = absurd h
+of_files TooLong h = tt
+of_files (Elf fault) h = tt
+of_files (Map fault) h = tt
+of_files (Asm fault) h = absurd h
+of_files (Pipe fault) h = tt
+of_files Memory h = tt
+of_files File h = tt
+of_files Output h = absurd h
 
-pub content_not_file : (refusal : Refusal) → IsOfContent refusal → refusal ≢ File
-content_not_file Memory h e = absurd cc
-content_not_file (Elf fault) h e = absurd cc
-content_not_file (Map fault) h e = absurd cc
-content_not_file (Pipe fault) h e = absurd cc
-content_not_file Usage h e = absurd h
-content_not_file (TooManyLive class need) h e = absurd h
-content_not_file (Kernel fault) h e = absurd h
-content_not_file TooLong h e = absurd h
-content_not_file (Asm fault) h e = absurd h
-content_not_file File h e = absurd h
-content_not_file Output h e = absurd h
+not_output : (refusal : Refusal) → IsOfFiles refusal → refusal ≢ Output
+not_output Usage h e = absurd h
+not_output (TooManyLive class need) h e = absurd h
+not_output (Kernel fault) h e = absurd h
+not_output TooLong h e = absurd cc
+not_output (Elf fault) h e = absurd cc
+not_output (Map fault) h e = absurd cc
+not_output (Asm fault) h e = absurd h
+not_output (Pipe fault) h e = absurd cc
+not_output Memory h e = absurd cc
+not_output File h e = absurd cc
+not_output Output h e = absurd h
 
--- a refusal of a read
-pub of_read_refusal : (refusal : Refusal) → IsOfRead {T = Unit {0}} (Err refusal) → IsOfPipe (Err refusal)
-of_read_refusal TooLong h = tt
-of_read_refusal Memory h = tt
-of_read_refusal File h = tt
-of_read_refusal (Elf fault) h = absurd h
-of_read_refusal (Map fault) h = absurd h
-of_read_refusal (Pipe fault) h = absurd h
-of_read_refusal Usage h = absurd h
-of_read_refusal (TooManyLive class need) h = absurd h
-of_read_refusal (Kernel fault) h = absurd h
-of_read_refusal (Asm fault) h = absurd h
-of_read_refusal Output h = absurd h
+-- no output failed
+pub files_not_output : (refusal : Refusal) (result : Answer) → result ≡ Err refusal → IsOfFiles refusal → result ≢ Err Output
+files_not_output refusal result is h e = not_output refusal h (same refusal Output (sym is ∙ e))
+  where
+    same : (a b : Refusal) → ◌≡◌ {A = Answer} (Err a) (Err b) → a ≡ b
+    same a b e = cc
+
+-- a refusal of no file is none of what is called with it
+pub not_file_either : {T U : Type 0} (refusal : Refusal) (first : Result T Refusal) (second : Result U Refusal) → first ≡ Err refusal → second ≡ Err refusal → first ≢ Err File → second ≢ Err File
+not_file_either {U = U} refusal first second is also none e = none (is ∙ ap (λ r. Err r) (same refusal File (sym also ∙ e)))
+  where
+    same : (a b : Refusal) → ◌≡◌ {A = Result U Refusal} (Err a) (Err b) → a ≡ b
+    same a b e = cc
 
 -- ---- answers
 

@@ -1,3 +1,3 @@
 pub mod Causes
-pub mod Lines
-pub mod Runs
+pub mod LoadedLines
+pub mod LineRuns

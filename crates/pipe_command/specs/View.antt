@@ -6,12 +6,12 @@ use Rattle.machine_model.specs.Load.{Image}
 use Rattle.elf_image.specs.Loaded.{plain}
 use Rattle.pipe_run.specs.PipeRun.{Line, Fits}
 use Rattle.refusals.specs.declared.refusal.Refusal.{Refusal}
-use Rattle.refusals.specs.declared.refusal.Refusal.TheVariants.{Elf, Map, Pipe, Memory}
+use Rattle.refusals.specs.declared.refusal.Refusal.TheVariants.{TooLong, Elf, Map, Pipe, Memory, File}
 use Rattle.command_answers.specs.declared.run_report.RunReport.{RunReport}
 use Rattle.command_answers.specs.Answer.{Expected}
 use Rattle.command_answers.specs.Works.{run_report}
-use Rattle.pipe_command.specs.declared.lines.LoadedLine.{LoadedLine}
-use Rattle.pipe_command.specs.declared.script.LoadedScript.{LoadedScript}
+use Rattle.pipe_command.specs.declared.loaded.LoadedLine.{LoadedLine}
+use Rattle.pipe_command.specs.declared.loaded.LoadedScript.{LoadedScript}
 
 abbrev pub line_view : LoadedLine → Line
 line_view line = record { image = plain line.image; args = line.args.items }
@@ -53,6 +53,12 @@ IsOfContent (Elf fault) = Unit {0}
 IsOfContent (Map fault) = Unit {0}
 IsOfContent (Pipe fault) = Unit {0}
 IsOfContent refusal = ⊥
+
+-- the same, or a refusal of a read
+abbrev pub IsOfFiles : Refusal → Type 0
+IsOfFiles TooLong = Unit {0}
+IsOfFiles File = Unit {0}
+IsOfFiles refusal = IsOfContent refusal
 
 -- a map fits beside the image of a line
 abbrev pub IsFitting : Pages → Line → Type 0

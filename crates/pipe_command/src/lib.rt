@@ -2,6 +2,7 @@
 #![tactic(auto)]
 
 mod lines;
+mod loaded;
 pub mod pipe;
 mod runs;
 mod script;

@@ -7,9 +7,10 @@ ghost use Rattle.elf_image.specs.Loaded.{plain};
 ghost use Rattle.pipe_script.specs.View.{entry_view, entries_view};
 ghost use Rattle.pipe_run.specs.PipeRun.{Fits};
 ghost use Rattle.command_answers.specs.Answer.{IsFileAnswer};
-ghost use Rattle.pipe_command.specs.Pipes.{image_in, image_of, with_line, lines_of, AreHeld, IsOfPipe};
-ghost use Rattle.pipe_command.specs.View.{lines_view, plain_in, loaded_in, lines_by, Refuses, IsOfContent, IsFitting};
+ghost use Rattle.pipe_command.specs.Pipes.{image_in, image_of, with_line, lines_of, AreHeld};
+ghost use Rattle.pipe_command.specs.View.{lines_view, plain_in, loaded_in, lines_by, Refuses, IsOfContent, IsOfFiles, IsFitting};
 
+use crate::loaded::LoadedLine;
 use command_answers::files::read_file;
 use elf_image::load_elf;
 use guest_types::image::{Image, PageMap};
@@ -19,21 +20,8 @@ use pipe_script::PipeLine;
 use refusals::refusal::Refusal;
 use std::alloc::Global;
 
-/// A line of a script: the image of its file, and its arguments.
-#[derive(Drop)]
-pub struct LoadedLine {
-    pub image: Image,
-    pub args: Vec<u64>,
-    pub ghost few: { length args.items ≤ 8 },
-}
-
 // The image of a line, where the map fits beside it.
-fn image_in(
-    alloc: Global,
-    map: &PageMap,
-    line: u32,
-    bytes: &[u8],
-) -> Result<Image, Refusal>
+fn image_in(alloc: Global, map: &PageMap, line: u32, bytes: &[u8]) -> Result<Image, Refusal>
     ensures image { IfOk result (λ image. image_in map.now.pages.items line bytes.now ≡ Ok (plain image)) }
     ensures fits { IfOk result (λ image. Fits image.pages.items map.now.pages.items) }
     ensures refusal { IfErr result (Refuses (image_in map.now.pages.items line bytes.now)) }
@@ -61,7 +49,7 @@ fn image_of<F: Files>(
         → IfSome (F.held files.old) (λ held. IsSome (content held (string_bytes line.now.file))
         → result ≢ Err Refusal.File) }
     ensures fits { IfOk result (λ image. Fits image.pages.items map.now.pages.items) }
-    ensures of_pipe { IfErr result (λ refusal. IsOfPipe (Err refusal)) }
+    ensures of_files { IfErr result IsOfFiles }
 {
     let bytes = read_file(alloc, line.file.as_str(), files)?;
     let image = image_in(alloc, map, line.line, &bytes)?;
@@ -88,11 +76,13 @@ fn load_line<F: Files>(
         → result ≢ Err Refusal.File) }
     ensures fits { OnOk result (AllByRecursion (IsFitting map.now.pages.items) (lines_view loaded.old.items)
         → AllByRecursion (IsFitting map.now.pages.items) (lines_view loaded.new.items)) }
-    ensures of_pipe { IfErr result (λ refusal. IsOfPipe (Err refusal)) }
+    ensures of_files { IfErr result IsOfFiles }
 {
     let image = image_of(alloc, map, line, files)?;
-    let args = line.args.clone()?;
-    loaded.push(LoadedLine { image, args })?;
+    let args = Vec::from_slice(alloc, &line.args)?;
+    let Ok(()) = loaded.push(LoadedLine { image, args }) else {
+        return Err(Refusal::Memory);
+    };
     Ok(())
 }
 
@@ -111,7 +101,7 @@ pub fn load_lines<F: Files>(
     ensures reads { IsTrue (F.steady files.old)
         → IfSome (F.held files.old) (λ held. AreHeld held (entries_view lines.now) → result ≢ Err Refusal.File) }
     ensures fits { IfOk result (λ loaded. AllByRecursion (IsFitting map.now.pages.items) (lines_view loaded.items)) }
-    ensures of_pipe { IfErr result (λ refusal. IsOfPipe (Err refusal)) }
+    ensures of_files { IfErr result IsOfFiles }
 {
     let mut loaded = Vec::new(alloc);
     for line in lines {

@@ -7,7 +7,7 @@ ghost use Rattle.pipe_script.specs.Script.{script_of};
 ghost use Rattle.command_answers.specs.Answer.{answer_of, expected_text, IsAnswer, IsFileAnswer, IsQuiet};
 ghost use Rattle.command_answers.specs.Outputs.{Prints};
 ghost use Rattle.pipe_command.specs.Pipes.{pipe_files, expected_of_pipe, AreHeld, IsPipeHeld, IsOfPipe};
-ghost use Rattle.pipe_command.specs.View.{report_in};
+ghost use Rattle.pipe_command.specs.View.{report_in, IsOfFiles};
 
 use crate::runs::run_script;
 use crate::script::load_script;
@@ -37,7 +37,7 @@ fn pipe_files<F: Files>(
     ensures reads { IsTrue (F.steady files.old)
         → IfSome (F.held files.old) (λ held. IfOk (script_of script.now) (AreHeld held)
         → result ≢ Err Refusal.File) }
-    ensures of_pipe { IfErr result (λ refusal. IsOfPipe (Err refusal)) }
+    ensures of_files { IfErr result IsOfFiles }
 {
     let mut loaded = load_script(alloc, script, map, files)?;
     let report = run_script(alloc, vl, task, &mut loaded)?;

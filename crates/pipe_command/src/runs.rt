@@ -1,6 +1,6 @@
 //! The runs of the lines of a script.
 
-ghost use Rattle.std.specs.Prelude.{◌≡◌, ◌≤◌, ◌++◌, IfOk, OnOk, length, option_map};
+ghost use Rattle.std.specs.Prelude.{◌≡◌, ◌≢◌, ◌≤◌, ◌++◌, true, false, IfOk, OnOk, length, option_map};
 ghost use Rattle.std.specs.List.{AllByRecursion};
 ghost use Rattle.machine_model.specs.Run.{Outcome, memory_left};
 ghost use Rattle.command_line.specs.View.{extent_view, task_view};
@@ -10,8 +10,7 @@ ghost use Rattle.command_answers.specs.Works.{done_by, dump_of, run_report};
 ghost use Rattle.pipe_command.specs.Pipes.{line_run, run_text, runs_text, last_done, piped};
 ghost use Rattle.pipe_command.specs.View.{line_view, lines_view, IsFitting};
 
-use crate::lines::LoadedLine;
-use crate::script::LoadedScript;
+use crate::loaded::{LoadedLine, LoadedScript};
 use command_answers::run_report::{RunReport, done_of, push_dump};
 use command_line::command::{Extent, Task};
 use guest_types::image::{Image, PageMap};
@@ -64,6 +63,17 @@ fn run_one(
     Ok(done_of(&ran.outcome))
 }
 
+// Whether no line runs after one that came out so.
+fn is_last(done: Done) -> bool
+    ensures last { result ≡ true → done ≢ Done.Ended }
+    ensures goes_on { result ≡ false → done ≡ Done.Ended }
+{
+    match done {
+        Done::Ended => false,
+        Done::Stopped | Done::Spent => true,
+    }
+}
+
 // Runs the lines, up to the first that does not end, each over the pages of the map as those before left them.
 fn run_lines(
     alloc: Global,
@@ -84,7 +94,7 @@ fn run_lines(
     for (index, line) in lines.iter().enumerate() {
         let number = index as u64 + 1;
         let done = run_one(alloc, vl, steps, number, line, map, &mut text)?;
-        if !matches!(done, Done::Ended) {
+        if is_last(done) {
             return Ok(RunReport { done, text });
         }
     }

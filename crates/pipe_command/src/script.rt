@@ -6,23 +6,17 @@ ghost use Rattle.io_edges.specs.Files.{Rose};
 ghost use Rattle.pipe_script.specs.Script.{script_of};
 ghost use Rattle.pipe_script.specs.View.{entries_view};
 ghost use Rattle.command_answers.specs.Answer.{IsFileAnswer};
-ghost use Rattle.pipe_command.specs.Pipes.{entries_of, map_alone, script_loaded, AreHeld, IsOfPipe};
-ghost use Rattle.pipe_command.specs.View.{lines_view, script_in, Refuses, IsOfContent, IsFitting};
+ghost use Rattle.pipe_command.specs.Pipes.{entries_of, map_alone, script_loaded, AreHeld};
+ghost use Rattle.pipe_command.specs.View.{lines_view, script_in, Refuses, IsOfContent, IsOfFiles, IsFitting};
 
-use crate::lines::{LoadedLine, load_lines};
+use crate::lines::load_lines;
+use crate::loaded::LoadedScript;
 use guest_types::image::{Image, PageMap};
 use io_edges::files::Files;
 use map_text::read_map;
 use pipe_script::{PipeLine, read_script};
 use refusals::refusal::Refusal;
 use std::alloc::Global;
-
-/// The lines of a script with the images of their files, and the pages of a map, which fit beside each of them.
-#[derive(Drop)]
-pub struct LoadedScript {
-    pub lines: Vec<LoadedLine>,
-    pub map: PageMap,
-}
 
 // The `run` lines of a script.
 fn entries(alloc: Global, script: &[u8]) -> Result<Vec<PipeLine>, Refusal>
@@ -64,7 +58,7 @@ pub fn load_script<F: Files>(
     ensures few { IfOk result (λ loaded. length loaded.map.pages.items ≤ 16384) }
     ensures fits { IfOk result (λ loaded.
         AllByRecursion (IsFitting loaded.map.pages.items) (lines_view loaded.lines.items)) }
-    ensures of_pipe { IfErr result (λ refusal. IsOfPipe (Err refusal)) }
+    ensures of_files { IfErr result IsOfFiles }
 {
     let entries = entries(alloc, script)?;
     let map = map_alone(alloc, map)?;

@@ -20,6 +20,7 @@ use Rattle.dependence.specs.Bound.{free_bound}
 use Rattle.kernel_compile.specs.Faithful.{IsStart, Follows, IsFaithful, IsEmpty, IsAny, FreeFaithful, FreeEnds, bound_steps, end_steps}
 use Rattle.kernel_compile.proofs.Promises as promises
 use Rattle.command_line.specs.Line.{Task, CompileLine}
+use Rattle.refusals.specs.declared.refusal.Refusal.{Refusal}
 use Rattle.refusals.specs.declared.refusal.Refusal.TheVariants.{TooLong}
 use Rattle.command_answers.specs.Answer.{Held, Expected}
 use Rattle.command_answers.specs.Reads.{and_then, file_of, bytes_of, map_of}
@@ -49,8 +50,10 @@ same_kernel a b e = cc
 work_is : (within : Steps) (k : Program) (held : Held) (vl : ℕ) (suppress : Option ℕ) (task : Task) (file : List ℕ) (image : Image) (pages : Memory) → file_of held task.file ≡ Ok file → IsRun within k held vl suppress task file image pages
     → expected_of_run held vl (stops_of suppress) task ≡ success_of task.dump (run task.steps 0 (free_start image task.args pages vl (stops_of suppress)))
 work_is within k held vl suppress task file image pages read x =
-    ap (λ r. and_then (and_then r (λ f. and_then (map_of held task.map) (λ map. Ok (f, map)))) (λ files. run_program vl (stops_of suppress) task files.0 files.1)) read
-    ∙ ap (λ r. and_then (and_then r (λ map. Ok (file, map))) (λ files. run_program vl (stops_of suppress) task files.0 files.1)) x.map_read
+    let next : List ℕ × List ℕ → Expected = λ files. run_program vl (stops_of suppress) task files.0 files.1 in
+    let both : List ℕ → List ℕ → Result (List ℕ × List ℕ) Refusal = λ f map. Ok (f, map) in
+    ap (λ r. and_then (and_then r (λ f. and_then (map_of held task.map) (both f))) next) read
+    ∙ ap (λ r. and_then (and_then r (both file)) next) x.map_read
     ∙ run_is vl (stops_of suppress) task file x.map image pages x.loads x.maps
 
 -- beside the pages of its map, the run may start

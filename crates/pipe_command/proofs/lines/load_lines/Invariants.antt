@@ -3,7 +3,7 @@ use Rattle.std.specs.Prelude.{IsTrue}
 use Rattle.std.specs.List.{AllByRecursion}
 use Rattle.pipe_script.specs.View.{entries_view}
 use Rattle.pipe_command.specs.View.{lines_view, IsFitting}
-use Rattle.pipe_command.proofs.Lines.{SoFar, StillHeld}
+use Rattle.pipe_command.proofs.LoadedLines.{SoFar, StillHeld}
 use Rattle.pipe_command.proofs.lines.load_lines.Given as goal
 
 abbrev pub invariant-loop-line : goal.invariant-loop-line

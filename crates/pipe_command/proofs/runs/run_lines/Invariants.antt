@@ -1,7 +1,7 @@
 use Rattle.std.proofs.Common.{◌+◌, drop}
 use Rattle.std.specs.List.{AllByRecursion}
 use Rattle.pipe_command.specs.View.{lines_view, IsFitting}
-use Rattle.pipe_command.proofs.Runs.{SoFar}
+use Rattle.pipe_command.proofs.LineRuns.{SoFar}
 use Rattle.pipe_command.proofs.runs.run_lines.Given as goal
 
 abbrev pub invariant-loop-index : goal.invariant-loop-index

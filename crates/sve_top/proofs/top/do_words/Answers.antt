@@ -1,9 +1,10 @@
-use Rattle.std.proofs.Common.{Some, ap, sym, ◌∙◌, subst}
-use Rattle.std.specs.Prelude.{option_map}
+use Rattle.std.proofs.Common.{◌≢◌, Some, Err, ap, sym, ◌∙◌, subst}
+use Rattle.std.specs.Prelude.{IfSome, option_map}
 use Rattle.command_line.specs.Line.{line_of}
 use Rattle.command_line.specs.View.{texts, command_view}
+use Rattle.refusals.specs.declared.refusal.Refusal.TheVariants.{File}
 use Rattle.command_answers.specs.Answer.{answer_of, expected_text, status_of, IsAnswer, Unwritten}
-use Rattle.sve_top.specs.Commands.{WhereTold, StreamRose, Swept}
+use Rattle.sve_top.specs.Commands.{WhereTold, StreamRose, Swept, IsHeld}
 use Rattle.command_answers.specs.Outputs.{Prints}
 use Rattle.sve_top.proofs.Lines.{by_line, nothing_swept}
 use Rattle.command_answers.proofs.Reading.{is_err}
@@ -70,3 +71,10 @@ returns-clause-swept g c =
     c.in_ok-done.was
     (subst (λ line. Swept line (g.F.Files.held c.do_command.new.files) (g.S.Sink.taken c.args.out.now) (g.S.Sink.taken c.do_command.new.out) (status_of c.do_command.result))
     (sym (sym c.in_ok-command.ensures ∙ ap (option_map command_view) c.in-Some.is)) c.do_command.ensures.swept)
+
+pub returns-in_err-done-clause-steady : goal.returns-in_err-done-clause-steady
+returns-in_err-done-clause-steady g c = λ s.
+    subst (λ l. IfSome l (λ line. IfSome (g.F.Files.held c.args.files.now) (λ h. IsHeld h line → c.from_residual-in_err-done.result ≢ Err File)))
+    (sym (sym c.in_ok-command.ensures ∙ ap (option_map command_view) c.in-Some.is))
+    (subst (λ r. IfSome (g.F.Files.held c.args.files.now) (λ h. IsHeld h (command_view c.in-Some.command) → r ≢ Err File))
+    (c.in_err-done.was ∙ sym (is_err c.in_err-done.field-0.0 c.from_residual-in_err-done.result c.from_residual-in_err-done.ensures.1)) (c.do_command.ensures.steady s))

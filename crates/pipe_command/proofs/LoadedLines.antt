@@ -1,11 +1,13 @@
 -- The lines of a script, loaded one after another.
-use Rattle.std.proofs.Common.{◌≡◌, ℕ, ◌≤◌, List, [], ◌∷◌, ◌++◌, Option, Some, None, Result, Ok, Err, inl, refl, sym, ap, ◌∙◌, subst, append_assoc, append-nil}
+use Rattle.std.proofs.Common.{◌≡◌, ℕ, zero, suc, ◌+◌, ◌<◌, ◌≤◌, length, drop, get_or, arith, List, [], ◌∷◌, ◌++◌, Option, Some, None, Result, Ok, Err, inl, refl, sym, ap, ◌∙◌, subst, append_assoc, append-nil}
 use Rattle.std.specs.Prelude.{IfSome, IsSome}
 use Rattle.std.specs.List.{AllByRecursion}
+use Rattle.std.proofs.lemmas.List.{drop_more}
 use Rattle.io_edges.specs.Files.{Rose, content}
 use Rattle.io_edges.proofs.Puts.{later_rose}
 use Rattle.guest_types.specs.Memory.{Memory as Pages}
 use Rattle.machine_model.specs.Load.{Image}
+use Rattle.elf_image.specs.Loaded.{plain}
 use Rattle.pipe_script.specs.Script.{Entry}
 use Rattle.pipe_run.specs.PipeRun.{Line}
 use Rattle.refusals.specs.declared.refusal.Refusal.{Refusal}
@@ -13,7 +15,8 @@ use Rattle.command_answers.specs.Answer.{Held, IsFileAnswer}
 use Rattle.command_answers.specs.Reads.{and_then}
 use Rattle.command_answers.proofs.Reading.{read_is, refused_first}
 use Rattle.pipe_command.specs.Pipes.{image_of, with_line, lines_of, AreHeld}
-use Rattle.pipe_command.specs.View.{IsFitting}
+use Rattle.pipe_command.specs.declared.loaded.LoadedLine.{LoadedLine}
+use Rattle.pipe_command.specs.View.{line_view, lines_view, IsFitting}
 
 -- some lines, and those after them
 abbrev pub with_before : List Line → Result (List Line) Refusal → Result (List Line) Refusal
@@ -30,6 +33,19 @@ step_is held pages before entry entries = by (image_of held pages entry) (lines_
     by (Err refusal) rest = refl
     by (Ok image) (Err refusal) = refl
     by (Ok image) (Ok lines) = ap (λ l. Ok l) (sym (append_assoc before (record { image = image; args = entry.args } ∷ []) lines))
+
+lines_more : (lines : List LoadedLine) (line : LoadedLine) → lines_view (lines ++ line ∷ []) ≡ lines_view lines ++ line_view line ∷ []
+lines_more [] line = refl
+lines_more (first ∷ lines) line = ap (λ l. line_view first ∷ l) (lines_more lines line)
+
+-- a line is added where the image of its file is the one that is wanted
+pub line_added : (x y : ℕ) (held : Option Held) (pages : Pages) (before after : List LoadedLine) (line : LoadedLine) (entry : Entry) (found : Result Image Refusal) → found ≡ Ok (plain line.image) → line.args.items ≡ entry.args → IfSome held (λ h. IsFileAnswer x y (image_of h pages entry) found) → after ≡ before ++ line ∷ []
+    → IfSome held (λ h. IsFileAnswer x y (with_line h pages (lines_view before) entry) (Ok (lines_view after)))
+line_added x y None pages before after line entry found is same answer more = tt
+line_added x y (Some h) pages before after line entry found is same answer more =
+    let image : Ok (plain line.image) ≡ image_of h pages entry = read_is x y (image_of h pages entry) (plain line.image) (subst (IsFileAnswer x y (image_of h pages entry)) is answer) in
+    inl (ap (λ l. Ok l) (ap lines_view more ∙ lines_more before line ∙ ap (λ a. lines_view before ++ record { image = plain line.image; args = a } ∷ []) same)
+    ∙ ap (λ r. and_then r (λ image. Ok (lines_view before ++ record { image = image; args = entry.args } ∷ []))) image)
 
 -- what is loaded, and the lines that are left, are the lines that are wanted
 abbrev pub SoFar : Option Held → Pages → List Line → (left all : List Entry) → Type 0
@@ -86,3 +102,18 @@ all_held (Some held) all = λ a. a
 pub fits_more : (pages : Pages) (lines : List Line) (line : Line) → AllByRecursion (IsFitting pages) lines → IsFitting pages line → AllByRecursion (IsFitting pages) (lines ++ line ∷ [])
 fits_more pages [] line all h = (h, tt)
 fits_more pages (first ∷ lines) line all h = (all.0, fits_more pages lines line all.1 h)
+
+pub held_map : (held : Option Held) (A : Held → Type 0) (P Q : Type 0) → (P → Q) → IfSome held (λ h. A h → P) → IfSome held (λ h. A h → Q)
+held_map None A P Q f h = tt
+held_map (Some held) A P Q f h = λ a. f (h a)
+
+-- ---- the next of some
+
+pub next_is : {X : Type 0} (xs : List X) (i : ℕ) (x : X) → i < length xs → x ≡ get_or xs i x → drop i xs ≡ x ∷ drop (i + 1) xs
+next_is xs i x h e = drop_more xs i x h ∙ ap (λ y. y ∷ drop (i + 1) xs) (sym e)
+
+pub none_left : {X : Type 0} (xs : List X) (i : ℕ) → length xs ≤ i → drop i xs ≡ []
+none_left [] zero h = refl
+none_left [] (suc i) h = refl
+none_left (x ∷ xs) zero h = absurd (omega arith)
+none_left (x ∷ xs) (suc i) h = none_left xs i (omega arith)

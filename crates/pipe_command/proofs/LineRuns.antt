@@ -1,5 +1,5 @@
 -- Runs of lines, one after another.
-use Rattle.std.proofs.Common.{◌≡◌, ◌≢◌, ℕ, ◌+◌, ◌≤◌, List, [], ◌∷◌, ◌++◌, length, map, refl, sym, ap, ap₂, ◌∙◌, subst, append_assoc, append-nil, arith}
+use Rattle.std.proofs.Common.{◌≡◌, ◌≢◌, ℕ, suc, ◌+◌, ◌≤◌, List, [], ◌∷◌, ◌++◌, length, map, refl, sym, ap, ap₂, ◌∙◌, subst, append_assoc, append-nil, arith}
 use Rattle.std.specs.List.{AllByRecursion}
 use Rattle.guest_types.specs.Memory.{Memory, page_numbers}
 use Rattle.machine_model.specs.Run.{Outcome, End, Stop, Spent, memory_left}
@@ -100,7 +100,7 @@ last_ran text after number line left now then all first vl steps how so came not
 
 length-left : (memory pages : Memory) → length (map_left memory pages) ≡ length pages
 length-left memory [] = refl
-length-left memory (page ∷ pages) = ap (λ n. n + 1) (length-left memory pages)
+length-left memory (page ∷ pages) = ap suc (length-left memory pages)
 
 fits_left : (image memory pages : Memory) → Fits image pages → Fits image (map_left memory pages)
 fits_left image memory pages h =
@@ -110,3 +110,24 @@ fits_left image memory pages h =
 pub all_fit : (memory pages : Memory) (lines : List Line) → AllByRecursion (IsFitting pages) lines → AllByRecursion (IsFitting (map_left memory pages)) lines
 all_fit memory pages [] h = tt
 all_fit memory pages (line ∷ lines) h = (fits_left line.image.pages memory pages h.0, all_fit memory pages lines h.1)
+
+-- ---- no line changes how many pages the map has
+
+count_and : (outcome : Outcome) (pages : Memory) (go : Memory → Runs) → ((left : Memory) → length (go left).pages ≡ length left) → length (and_then outcome pages go).pages ≡ length pages
+count_and (End memory result steps) pages go h = h pages
+count_and (Stop kind pc at memory steps) pages go h = refl
+count_and (Spent pc memory steps) pages go h = refl
+
+pub count_left : (lines : List Line) (pages : Memory) (vl steps : ℕ) → length (runs_of lines pages vl steps).pages ≡ length pages
+unfolding runs_of
+count_left [] pages vl steps = refl
+count_left (line ∷ lines) pages vl steps =
+    let outcome = line_run line pages vl steps in
+    count_and outcome (map_left (memory_left outcome) pages) (λ left. runs_of lines left vl steps) (λ left. count_left lines left vl steps)
+    ∙ length-left (memory_left outcome) pages
+
+-- ---- the text of a run
+
+pub put_together : (text front digits feed shown : List ℕ) → (((text ++ front) ++ digits) ++ feed) ++ shown ≡ text ++ (front ++ (digits ++ (feed ++ shown)))
+put_together text front digits feed shown =
+    append_assoc ((text ++ front) ++ digits) feed shown ∙ append_assoc (text ++ front) digits (feed ++ shown) ∙ append_assoc text front (digits ++ (feed ++ shown))
