@@ -4,9 +4,9 @@ use Rattle.std.proofs.Math.Bridge.{le_prop}
 use Rattle.word_rows.specs.Row.{Instruction}
 use Rattle.std.proofs.lemmas.Bool.{both_ways, eq-eqb}
 use Rattle.word_rows.proofs.FieldNumbers.{same_bits}
-use Rattle.sve_code.specs.Table.{Name, ptrue, pfalse, whilelo, ptest, p_and, p_bic, p_eor, p_orr, p_ands, brka, brkb, rdffr, rdffr_z, setffr, wrffr, cntb, cnth, cntw, cntd, incp, cntp, dup, index_row, sel, z_add, z_sub, z_and, z_orr, z_eor, z_bic, lsl_imm, lsr_imm, asr_imm, m_add, m_sub, m_smax, m_umax, m_smin, m_umin, m_mul, m_orr, m_eor, m_and, m_abs, m_neg, m_not, sxtb, uxtb, sxth, uxth, sxtw, uxtw, uaddv, smaxv, umaxv, sminv, uminv, orv, eorv, andv, cmphs, cmphi, cmpge, cmpgt, cmpeq, cmpne, ld1, ldff1, ldnf1, st1}
+use Rattle.sve_code.specs.Table.{Name, ptrue, pfalse, whilelo, ptest, p_and, p_bic, p_eor, p_orr, p_ands, brka, brkb, rdffr, rdffr_z, setffr, wrffr, cntb, cnth, cntw, cntd, incp, cntp, dup, index_row, sel, z_add, z_sub, z_and, z_orr, z_eor, z_bic, lsl_imm, lsr_imm, asr_imm, m_add, m_sub, m_smax, m_umax, m_smin, m_umin, m_mul, m_orr, m_eor, m_and, m_abs, m_neg, m_not, sxtb, uxtb, sxth, uxth, sxtw, uxtw, uaddv, smaxv, umaxv, sminv, uminv, orv, eorv, andv, cmphs, cmphi, cmpge, cmpgt, cmpeq, cmpne, ld1, ldff1, ldnf1, gld1b, gld1h, gld1w, gld1d, gld1sb, gld1sh, gld1sw, st1}
 use Rattle.sve_code.specs.Numbers.{size_number, size_from_h_number, size_from_s_number, dtype_number}
-use Rattle.sve_code.specs.View.{instruction_view, pred_logic_name, break_form_name, count_name, add_sub_name, logic_name, shift_imm_name, merging_name, unary_name, extend_byte_name, extend_half_name, extend_word_name, reduce_name, compare_name}
+use Rattle.sve_code.specs.View.{instruction_view, pred_logic_name, break_form_name, count_name, add_sub_name, logic_name, shift_imm_name, merging_name, unary_name, extend_byte_name, extend_half_name, extend_word_name, reduce_name, compare_name, load_gather_name}
 use Rattle.sve_code.specs.declared.Sve.{Sve}
 use Rattle.sve_code.specs.declared.Sve.TheVariants as sve
 use Rattle.sve_code.specs.declared.parts.OffsetReg.{OffsetReg}
@@ -34,6 +34,8 @@ use Rattle.sve_code.specs.declared.ReductionOp.{ReductionOp}
 use Rattle.sve_code.specs.declared.ReductionOp.TheVariants as reduction_ops
 use Rattle.sve_code.specs.declared.VectorCompareOp.{VectorCompareOp}
 use Rattle.sve_code.specs.declared.VectorCompareOp.TheVariants as vector_compare_ops
+use Rattle.sve_code.specs.declared.GatherOp.{GatherOp}
+use Rattle.sve_code.specs.declared.GatherOp.TheVariants as gather_ops
 use Rattle.sve_code.specs.declared.parts.Size.{Size}
 use Rattle.sve_code.specs.declared.parts.Size.TheVariants as sizes
 use Rattle.sve_code.specs.declared.parts.SizeFromH.{SizeFromH}
@@ -292,6 +294,25 @@ compare_op_again vector_compare_ops.Gt = refl
 compare_op_again vector_compare_ops.Eq = refl
 compare_op_again vector_compare_ops.Ne = refl
 
+load_gather_op : Name → GatherOp
+load_gather_op gld1h = gather_ops.Ld1h
+load_gather_op gld1w = gather_ops.Ld1w
+load_gather_op gld1d = gather_ops.Ld1d
+load_gather_op gld1sb = gather_ops.Ld1sb
+load_gather_op gld1sh = gather_ops.Ld1sh
+load_gather_op gld1sw = gather_ops.Ld1sw
+load_gather_op n = gather_ops.Ld1b
+
+load_gather_op_again : (op : GatherOp) → load_gather_op (load_gather_name op) ≡ op
+unfolding load_gather_op
+load_gather_op_again gather_ops.Ld1b = refl
+load_gather_op_again gather_ops.Ld1h = refl
+load_gather_op_again gather_ops.Ld1w = refl
+load_gather_op_again gather_ops.Ld1d = refl
+load_gather_op_again gather_ops.Ld1sb = refl
+load_gather_op_again gather_ops.Ld1sh = refl
+load_gather_op_again gather_ops.Ld1sw = refl
+
 form_of : Name → ℕ
 form_of ptrue = 0
 form_of pfalse = 1
@@ -362,6 +383,13 @@ form_of cmpne = 25
 form_of ld1 = 26
 form_of ldff1 = 27
 form_of ldnf1 = 28
+form_of gld1b = 30
+form_of gld1h = 30
+form_of gld1w = 30
+form_of gld1d = 30
+form_of gld1sb = 30
+form_of gld1sh = 30
+form_of gld1sw = 30
 form_of st1 = 29
 
 form : Sve → ℕ
@@ -394,6 +422,7 @@ form (sve.CompareVectors op pd zn pg zm size) = 25
 form (sve.ContiguousLoad zt rn pg offset dtype) = 26
 form (sve.FirstFaultLoad zt rn pg rm dtype) = 27
 form (sve.NonFaultLoad zt rn pg dtype) = 28
+form (sve.GatherLoad op zt rn pg zm) = 30
 form (sve.ContiguousStore zt rn pg offset sizes) = 29
 
 pred_logic_form : (op : PredicateLogicalOp) → form_of (pred_logic_name op) ≡ 4
@@ -519,6 +548,13 @@ form_view (sve.CompareVectors op pd zn pg zm size) = compare_form op
 form_view (sve.ContiguousLoad zt rn pg offset dtype) = refl
 form_view (sve.FirstFaultLoad zt rn pg rm dtype) = refl
 form_view (sve.NonFaultLoad zt rn pg dtype) = refl
+form_view (sve.GatherLoad gather_ops.Ld1b zt rn pg zm) = refl
+form_view (sve.GatherLoad gather_ops.Ld1h zt rn pg zm) = refl
+form_view (sve.GatherLoad gather_ops.Ld1w zt rn pg zm) = refl
+form_view (sve.GatherLoad gather_ops.Ld1d zt rn pg zm) = refl
+form_view (sve.GatherLoad gather_ops.Ld1sb zt rn pg zm) = refl
+form_view (sve.GatherLoad gather_ops.Ld1sh zt rn pg zm) = refl
+form_view (sve.GatherLoad gather_ops.Ld1sw zt rn pg zm) = refl
 form_view (sve.ContiguousStore zt rn pg offset sizes) = refl
 
 differ : (m n : ℕ) → eqb m n ≡ false → m ≡ n → ⊥
@@ -555,5 +591,6 @@ same (sve.CompareVectors op pd zn pg zm size) (sve.CompareVectors op' pd' zn' pg
 same (sve.ContiguousLoad zt rn pg offset dtype) (sve.ContiguousLoad zt' rn' pg' offset' dtype') e = let at_zt : zt ≡ zt' = same_bits zt zt' (ap (λ (i : Instruction Name). slice_index i.numbers 0) e) in let at_rn : rn ≡ rn' = same_bits rn rn' (ap (λ (i : Instruction Name). slice_index i.numbers 1) e) in let at_pg : pg ≡ pg' = same_bits pg pg' (ap (λ (i : Instruction Name). slice_index i.numbers 2) e) in let at_offset : offset ≡ offset' = same_offset_reg offset offset' (ap (λ (i : Instruction Name). slice_index i.numbers 3) e) in let at_dtype : dtype ≡ dtype' = same_dtype dtype dtype' (ap (λ (i : Instruction Name). slice_index i.numbers 4) e) in cc
 same (sve.FirstFaultLoad zt rn pg rm dtype) (sve.FirstFaultLoad zt' rn' pg' rm' dtype') e = let at_zt : zt ≡ zt' = same_bits zt zt' (ap (λ (i : Instruction Name). slice_index i.numbers 0) e) in let at_rn : rn ≡ rn' = same_bits rn rn' (ap (λ (i : Instruction Name). slice_index i.numbers 1) e) in let at_pg : pg ≡ pg' = same_bits pg pg' (ap (λ (i : Instruction Name). slice_index i.numbers 2) e) in let at_rm : rm ≡ rm' = same_bits rm rm' (ap (λ (i : Instruction Name). slice_index i.numbers 3) e) in let at_dtype : dtype ≡ dtype' = same_dtype dtype dtype' (ap (λ (i : Instruction Name). slice_index i.numbers 4) e) in cc
 same (sve.NonFaultLoad zt rn pg dtype) (sve.NonFaultLoad zt' rn' pg' dtype') e = let at_zt : zt ≡ zt' = same_bits zt zt' (ap (λ (i : Instruction Name). slice_index i.numbers 0) e) in let at_rn : rn ≡ rn' = same_bits rn rn' (ap (λ (i : Instruction Name). slice_index i.numbers 1) e) in let at_pg : pg ≡ pg' = same_bits pg pg' (ap (λ (i : Instruction Name). slice_index i.numbers 2) e) in let at_dtype : dtype ≡ dtype' = same_dtype dtype dtype' (ap (λ (i : Instruction Name). slice_index i.numbers 3) e) in cc
+same (sve.GatherLoad op zt rn pg zm) (sve.GatherLoad op' zt' rn' pg' zm') e = let at_op : op ≡ op' = sym (load_gather_op_again op) ∙ ap (λ (i : Instruction Name). load_gather_op i.name) e ∙ load_gather_op_again op' in let at_zt : zt ≡ zt' = same_bits zt zt' (ap (λ (i : Instruction Name). slice_index i.numbers 0) e) in let at_rn : rn ≡ rn' = same_bits rn rn' (ap (λ (i : Instruction Name). slice_index i.numbers 1) e) in let at_pg : pg ≡ pg' = same_bits pg pg' (ap (λ (i : Instruction Name). slice_index i.numbers 2) e) in let at_zm : zm ≡ zm' = same_bits zm zm' (ap (λ (i : Instruction Name). slice_index i.numbers 3) e) in cc
 same (sve.ContiguousStore zt rn pg offset sizes) (sve.ContiguousStore zt' rn' pg' offset' sizes') e = let at_zt : zt ≡ zt' = same_bits zt zt' (ap (λ (i : Instruction Name). slice_index i.numbers 0) e) in let at_rn : rn ≡ rn' = same_bits rn rn' (ap (λ (i : Instruction Name). slice_index i.numbers 1) e) in let at_pg : pg ≡ pg' = same_bits pg pg' (ap (λ (i : Instruction Name). slice_index i.numbers 2) e) in let at_offset : offset ≡ offset' = same_offset_reg offset offset' (ap (λ (i : Instruction Name). slice_index i.numbers 3) e) in let at_sizes : sizes ≡ sizes' = same_store_sizes sizes sizes' (ap (λ (i : Instruction Name). slice_index i.numbers 4) e) (ap (λ (i : Instruction Name). slice_index i.numbers 5) e) in cc
 same x y e = absurd (differ (form x) (form y) refl (sym (form_view x) ∙ ap (λ (i : Instruction Name). form_of i.name) e ∙ form_view y))

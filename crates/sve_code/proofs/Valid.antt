@@ -3,7 +3,7 @@ use Rattle.std.proofs.Common.{◌≡◌, ℕ, ◌<◌, ◌≤◌, ◌^◌, ◌+�
 use Rattle.std.proofs.lemmas.Bool.{lt-ltb, le-leb, and_from}
 use Rattle.word_rows.specs.Row.{Instruction, IsInstruction, Fill, is_table, place_in}
 use Rattle.sve_code.specs.Numbers.{size_number, size_from_h_number, size_from_s_number, dtype_number}
-use Rattle.sve_code.specs.Table.{Name, row, sve_names, true_form, false_form, while_below, test_form, pred_logic, break_form, read_ffr, read_ffr_zeroing, set_ffr, write_ffr, count, increment_by_count, count_true, duplicate, index, select, add_sub, logic, shift_imm, merging, unary, extend_byte, extend_half, extend_word, reduce, compare, load, load_first_fault, load_no_fault, store, ptrue, pfalse, whilelo, ptest, p_and, p_bic, p_eor, p_orr, p_ands, brka, brkb, rdffr, rdffr_z, setffr, wrffr, cntb, cnth, cntw, cntd, incp, cntp, dup, index_row, sel, z_add, z_sub, z_and, z_orr, z_eor, z_bic, lsl_imm, lsr_imm, asr_imm, m_add, m_sub, m_smax, m_umax, m_smin, m_umin, m_mul, m_orr, m_eor, m_and, m_abs, m_neg, m_not, sxtb, uxtb, sxth, uxth, sxtw, uxtw, uaddv, smaxv, umaxv, sminv, uminv, orv, eorv, andv, cmphs, cmphi, cmpge, cmpgt, cmpeq, cmpne, ld1, ldff1, ldnf1, st1}
+use Rattle.sve_code.specs.Table.{Name, row, sve_names, true_form, false_form, while_below, test_form, pred_logic, break_form, read_ffr, read_ffr_zeroing, set_ffr, write_ffr, count, increment_by_count, count_true, duplicate, index, select, add_sub, logic, shift_imm, merging, unary, extend_byte, extend_half, extend_word, reduce, compare, load, load_first_fault, load_no_fault, load_gather, store, ptrue, pfalse, whilelo, ptest, p_and, p_bic, p_eor, p_orr, p_ands, brka, brkb, rdffr, rdffr_z, setffr, wrffr, cntb, cnth, cntw, cntd, incp, cntp, dup, index_row, sel, z_add, z_sub, z_and, z_orr, z_eor, z_bic, lsl_imm, lsr_imm, asr_imm, m_add, m_sub, m_smax, m_umax, m_smin, m_umin, m_mul, m_orr, m_eor, m_and, m_abs, m_neg, m_not, sxtb, uxtb, sxth, uxth, sxtw, uxtw, uaddv, smaxv, umaxv, sminv, uminv, orv, eorv, andv, cmphs, cmphi, cmpge, cmpgt, cmpeq, cmpne, ld1, ldff1, ldnf1, gld1b, gld1h, gld1w, gld1d, gld1sb, gld1sh, gld1sw, st1}
 use Rattle.sve_code.specs.View.{instruction_view}
 use Rattle.sve_code.specs.declared.Sve.{Sve}
 use Rattle.sve_code.specs.declared.Sve.TheVariants as sve
@@ -18,6 +18,7 @@ use Rattle.sve_code.specs.declared.UnaryPredicatedOp.TheVariants as unary_predic
 use Rattle.sve_code.specs.declared.ExtendOp.TheVariants as extend_ops
 use Rattle.sve_code.specs.declared.ReductionOp.TheVariants as reduction_ops
 use Rattle.sve_code.specs.declared.VectorCompareOp.TheVariants as vector_compare_ops
+use Rattle.sve_code.specs.declared.GatherOp.TheVariants as gather_ops
 use Rattle.sve_code.specs.declared.parts.Size.{Size}
 use Rattle.sve_code.specs.declared.parts.Size.TheVariants as sizes
 use Rattle.sve_code.specs.declared.parts.SizeFromH.{SizeFromH}
@@ -28,7 +29,7 @@ use Rattle.sve_code.specs.declared.parts.Dtype.{Dtype}
 use Rattle.sve_code.specs.declared.parts.Dtype.TheVariants as dtypes
 
 pub sve_table : is_table row sve_names ≡ true
-unfolding true_form false_form while_below test_form pred_logic break_form read_ffr read_ffr_zeroing set_ffr write_ffr count increment_by_count count_true duplicate index select add_sub logic shift_imm merging unary extend_byte extend_half extend_word reduce compare load load_first_fault load_no_fault store
+unfolding true_form false_form while_below test_form pred_logic break_form read_ffr read_ffr_zeroing set_ffr write_ffr count increment_by_count count_true duplicate index select add_sub logic shift_imm merging unary extend_byte extend_half extend_word reduce compare load load_first_fault load_no_fault load_gather store
 sve_table = refl
 
 size_below : (x : Size) → size_number x < 2 ^ 2
@@ -78,7 +79,7 @@ amount_from_8 v h = le-leb _ _ (omega arith)
 
 -- each row stands in the table, where its base word is found
 pub listed : (n : Name) → slice_get sve_names (place_in row sve_names (row n).base) ≡ Some n
-unfolding true_form false_form while_below test_form pred_logic break_form read_ffr read_ffr_zeroing set_ffr write_ffr count increment_by_count count_true duplicate index select add_sub logic shift_imm merging unary extend_byte extend_half extend_word reduce compare load load_first_fault load_no_fault store
+unfolding true_form false_form while_below test_form pred_logic break_form read_ffr read_ffr_zeroing set_ffr write_ffr count increment_by_count count_true duplicate index select add_sub logic shift_imm merging unary extend_byte extend_half extend_word reduce compare load load_first_fault load_no_fault load_gather store
 listed ptrue = refl
 listed pfalse = refl
 listed whilelo = refl
@@ -148,6 +149,13 @@ listed cmpne = refl
 listed ld1 = refl
 listed ldff1 = refl
 listed ldnf1 = refl
+listed gld1b = refl
+listed gld1h = refl
+listed gld1w = refl
+listed gld1d = refl
+listed gld1sb = refl
+listed gld1sh = refl
+listed gld1sw = refl
 listed st1 = refl
 
 -- an instruction whose numbers fit and are admitted
@@ -225,4 +233,11 @@ valid (sve.CompareVectors vector_compare_ops.Ne pd zn pg zm size) = is_instructi
 valid (sve.ContiguousLoad zt rn pg offset dtype) = is_instruction _ (zt.in_range, (rn.in_range, (pg.in_range, (omega (arith, offset.in_range), (dtype_below dtype, tt))))) (lt-ltb _ _ offset.in_range)
 valid (sve.FirstFaultLoad zt rn pg rm dtype) = is_instruction _ (zt.in_range, (rn.in_range, (pg.in_range, (rm.in_range, (dtype_below dtype, tt))))) refl
 valid (sve.NonFaultLoad zt rn pg dtype) = is_instruction _ (zt.in_range, (rn.in_range, (pg.in_range, (dtype_below dtype, tt)))) refl
+valid (sve.GatherLoad gather_ops.Ld1b zt rn pg zm) = is_instruction _ (zt.in_range, (rn.in_range, (pg.in_range, (zm.in_range, tt)))) refl
+valid (sve.GatherLoad gather_ops.Ld1h zt rn pg zm) = is_instruction _ (zt.in_range, (rn.in_range, (pg.in_range, (zm.in_range, tt)))) refl
+valid (sve.GatherLoad gather_ops.Ld1w zt rn pg zm) = is_instruction _ (zt.in_range, (rn.in_range, (pg.in_range, (zm.in_range, tt)))) refl
+valid (sve.GatherLoad gather_ops.Ld1d zt rn pg zm) = is_instruction _ (zt.in_range, (rn.in_range, (pg.in_range, (zm.in_range, tt)))) refl
+valid (sve.GatherLoad gather_ops.Ld1sb zt rn pg zm) = is_instruction _ (zt.in_range, (rn.in_range, (pg.in_range, (zm.in_range, tt)))) refl
+valid (sve.GatherLoad gather_ops.Ld1sh zt rn pg zm) = is_instruction _ (zt.in_range, (rn.in_range, (pg.in_range, (zm.in_range, tt)))) refl
+valid (sve.GatherLoad gather_ops.Ld1sw zt rn pg zm) = is_instruction _ (zt.in_range, (rn.in_range, (pg.in_range, (zm.in_range, tt)))) refl
 valid (sve.ContiguousStore zt rn pg offset sizes) = is_instruction _ (zt.in_range, (rn.in_range, (pg.in_range, (omega (arith, offset.in_range), (size_below sizes.size, (size_below sizes.msz, tt)))))) (and_from _ _ (lt-ltb _ _ offset.in_range) (le-leb _ _ sizes.in_range))

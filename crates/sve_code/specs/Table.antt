@@ -74,6 +74,13 @@ pub data Name : Type 0 where
   ld1 : Name
   ldff1 : Name
   ldnf1 : Name
+  gld1b : Name
+  gld1h : Name
+  gld1w : Name
+  gld1d : Name
+  gld1sb : Name
+  gld1sh : Name
+  gld1sw : Name
   st1 : Name
 
 -- ---- fields
@@ -231,6 +238,13 @@ row cmpne = free 0x2400A010 (pd ∷ zn ∷ pg ∷ zm ∷ size ∷ [])
 row ld1 = where_listed 0xA4004000 (zt ∷ rn ∷ pg ∷ rm ∷ dtype ∷ []) (only_below 3 31)
 row ldff1 = free 0xA4006000 (zt ∷ rn ∷ pg ∷ rm ∷ dtype ∷ [])
 row ldnf1 = free 0xA410A000 (zt ∷ rn ∷ pg ∷ dtype ∷ [])
+row gld1b = free 0xC440C000 (zt ∷ rn ∷ pg ∷ zm ∷ [])
+row gld1h = free 0xC4C0C000 (zt ∷ rn ∷ pg ∷ zm ∷ [])
+row gld1w = free 0xC540C000 (zt ∷ rn ∷ pg ∷ zm ∷ [])
+row gld1d = free 0xC5C0C000 (zt ∷ rn ∷ pg ∷ zm ∷ [])
+row gld1sb = free 0xC4408000 (zt ∷ rn ∷ pg ∷ zm ∷ [])
+row gld1sh = free 0xC4C08000 (zt ∷ rn ∷ pg ∷ zm ∷ [])
+row gld1sw = free 0xC5408000 (zt ∷ rn ∷ pg ∷ zm ∷ [])
 row st1 = where_listed 0xE4004000 (zt ∷ rn ∷ pg ∷ rm ∷ element ∷ memory ∷ []) store_listed
 
 -- ---- the names, by form
@@ -321,6 +335,9 @@ load_first_fault = ldff1 ∷ []
 unfoldable pub load_no_fault : List Name
 load_no_fault = ldnf1 ∷ []
 
+unfoldable pub load_gather : List Name
+load_gather = gld1b ∷ gld1h ∷ gld1w ∷ gld1d ∷ gld1sb ∷ gld1sh ∷ gld1sw ∷ []
+
 unfoldable pub store : List Name
 store = st1 ∷ []
 
@@ -330,4 +347,4 @@ sve_names =
     while_below ++ (pred_logic ++ (break_form ++ (set_ffr ++ (write_ffr ++ (increment_by_count ++ (count_true ++
     (true_form ++ (false_form ++ (test_form ++ (read_ffr ++ (read_ffr_zeroing ++ (duplicate ++ (select ++ (add_sub ++
     (merging ++ (logic ++ (reduce ++ (index ++ (shift_imm ++ (unary ++ (extend_byte ++ (extend_half ++ (extend_word ++
-    (count ++ (compare ++ (load ++ (load_first_fault ++ (load_no_fault ++ (store ++ [])))))))))))))))))))))))))))))
+    (count ++ (compare ++ (load ++ (load_first_fault ++ (load_no_fault ++ (load_gather ++ (store ++ []))))))))))))))))))))))))))))))

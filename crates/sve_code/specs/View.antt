@@ -2,7 +2,7 @@
 use Rattle.std.specs.Prelude.{◌/◌, ◌%◌, [], ◌∷◌}
 use Rattle.word_rows.specs.Row.{Instruction}
 use Rattle.sve_code.specs.Numbers.{size_number, size_from_h_number, size_from_s_number, dtype_number}
-use Rattle.sve_code.specs.Table.{Name, ptrue, pfalse, whilelo, ptest, p_and, p_bic, p_eor, p_orr, p_ands, brka, brkb, rdffr, rdffr_z, setffr, wrffr, cntb, cnth, cntw, cntd, incp, cntp, dup, index_row, sel, z_add, z_sub, z_and, z_orr, z_eor, z_bic, lsl_imm, lsr_imm, asr_imm, m_add, m_sub, m_smax, m_umax, m_smin, m_umin, m_mul, m_orr, m_eor, m_and, m_abs, m_neg, m_not, sxtb, uxtb, sxth, uxth, sxtw, uxtw, uaddv, smaxv, umaxv, sminv, uminv, orv, eorv, andv, cmphs, cmphi, cmpge, cmpgt, cmpeq, cmpne, ld1, ldff1, ldnf1, st1}
+use Rattle.sve_code.specs.Table.{Name, ptrue, pfalse, whilelo, ptest, p_and, p_bic, p_eor, p_orr, p_ands, brka, brkb, rdffr, rdffr_z, setffr, wrffr, cntb, cnth, cntw, cntd, incp, cntp, dup, index_row, sel, z_add, z_sub, z_and, z_orr, z_eor, z_bic, lsl_imm, lsr_imm, asr_imm, m_add, m_sub, m_smax, m_umax, m_smin, m_umin, m_mul, m_orr, m_eor, m_and, m_abs, m_neg, m_not, sxtb, uxtb, sxth, uxth, sxtw, uxtw, uaddv, smaxv, umaxv, sminv, uminv, orv, eorv, andv, cmphs, cmphi, cmpge, cmpgt, cmpeq, cmpne, ld1, ldff1, ldnf1, gld1b, gld1h, gld1w, gld1d, gld1sb, gld1sh, gld1sw, st1}
 use Rattle.sve_code.specs.declared.Sve.{Sve}
 use Rattle.sve_code.specs.declared.Sve.TheVariants as sve
 use Rattle.sve_code.specs.declared.PredicateLogicalOp.{PredicateLogicalOp}
@@ -27,6 +27,8 @@ use Rattle.sve_code.specs.declared.ReductionOp.{ReductionOp}
 use Rattle.sve_code.specs.declared.ReductionOp.TheVariants as reduction_ops
 use Rattle.sve_code.specs.declared.VectorCompareOp.{VectorCompareOp}
 use Rattle.sve_code.specs.declared.VectorCompareOp.TheVariants as vector_compare_ops
+use Rattle.sve_code.specs.declared.GatherOp.{GatherOp}
+use Rattle.sve_code.specs.declared.GatherOp.TheVariants as gather_ops
 
 abbrev pub pred_logic_name : PredicateLogicalOp → Name
 pred_logic_name predicate_logical_ops.And = p_and
@@ -107,6 +109,15 @@ compare_name vector_compare_ops.Gt = cmpgt
 compare_name vector_compare_ops.Eq = cmpeq
 compare_name vector_compare_ops.Ne = cmpne
 
+abbrev pub load_gather_name : GatherOp → Name
+load_gather_name gather_ops.Ld1b = gld1b
+load_gather_name gather_ops.Ld1h = gld1h
+load_gather_name gather_ops.Ld1w = gld1w
+load_gather_name gather_ops.Ld1d = gld1d
+load_gather_name gather_ops.Ld1sb = gld1sb
+load_gather_name gather_ops.Ld1sh = gld1sh
+load_gather_name gather_ops.Ld1sw = gld1sw
+
 abbrev pub instruction_view : Sve → Instruction Name
 instruction_view (sve.Ptrue pd size) = record { name = ptrue; numbers = pd.number ∷ size_number size ∷ [] }
 instruction_view (sve.Pfalse pd) = record { name = pfalse; numbers = pd.number ∷ [] }
@@ -137,4 +148,5 @@ instruction_view (sve.CompareVectors op pd zn pg zm size) = record { name = comp
 instruction_view (sve.ContiguousLoad zt rn pg offset dtype) = record { name = ld1; numbers = zt.number ∷ rn.number ∷ pg.number ∷ offset.number ∷ dtype_number dtype ∷ [] }
 instruction_view (sve.FirstFaultLoad zt rn pg rm dtype) = record { name = ldff1; numbers = zt.number ∷ rn.number ∷ pg.number ∷ rm.number ∷ dtype_number dtype ∷ [] }
 instruction_view (sve.NonFaultLoad zt rn pg dtype) = record { name = ldnf1; numbers = zt.number ∷ rn.number ∷ pg.number ∷ dtype_number dtype ∷ [] }
+instruction_view (sve.GatherLoad op zt rn pg zm) = record { name = load_gather_name op; numbers = zt.number ∷ rn.number ∷ pg.number ∷ zm.number ∷ [] }
 instruction_view (sve.ContiguousStore zt rn pg offset sizes) = record { name = st1; numbers = zt.number ∷ rn.number ∷ pg.number ∷ offset.number ∷ size_number sizes.size ∷ size_number sizes.msz ∷ [] }

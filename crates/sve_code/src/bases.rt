@@ -139,4 +139,18 @@ pub const LDFF1: u32 = 0xa400_6000;
 
 pub const LDNF1: u32 = 0xa410_a000;
 
+pub const GLD1B: u32 = 0xc440_c000;
+
+pub const GLD1H: u32 = 0xc4c0_c000;
+
+pub const GLD1W: u32 = 0xc540_c000;
+
+pub const GLD1D: u32 = 0xc5c0_c000;
+
+pub const GLD1SB: u32 = 0xc440_8000;
+
+pub const GLD1SH: u32 = 0xc4c0_8000;
+
+pub const GLD1SW: u32 = 0xc540_8000;
+
 pub const ST1: u32 = 0xe400_4000;

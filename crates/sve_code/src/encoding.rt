@@ -6,15 +6,15 @@ ghost use Rattle.sve_code.specs.View.{instruction_view};
 
 use crate::bases::{
     ANDV, ASR_IMM, BRKA, BRKB, CMPEQ, CMPGE, CMPGT, CMPHI, CMPHS, CMPNE, CNTB, CNTD, CNTH, CNTP,
-    CNTW, DUP, EORV, INCP, INDEX_ROW, LD1, LDFF1, LDNF1, LSL_IMM, LSR_IMM, M_ABS, M_ADD, M_AND,
-    M_EOR, M_MUL, M_NEG, M_NOT, M_ORR, M_SMAX, M_SMIN, M_SUB, M_UMAX, M_UMIN, ORV, P_AND, P_ANDS,
-    P_BIC, P_EOR, P_ORR, PFALSE, PTEST, PTRUE, RDFFR, RDFFR_Z, SEL, SETFFR, SMAXV, SMINV, ST1,
-    SXTB, SXTH, SXTW, UADDV, UMAXV, UMINV, UXTB, UXTH, UXTW, WHILELO, WRFFR, Z_ADD, Z_AND, Z_BIC,
-    Z_EOR, Z_ORR, Z_SUB,
+    CNTW, DUP, EORV, GLD1B, GLD1D, GLD1H, GLD1SB, GLD1SH, GLD1SW, GLD1W, INCP, INDEX_ROW, LD1,
+    LDFF1, LDNF1, LSL_IMM, LSR_IMM, M_ABS, M_ADD, M_AND, M_EOR, M_MUL, M_NEG, M_NOT, M_ORR, M_SMAX,
+    M_SMIN, M_SUB, M_UMAX, M_UMIN, ORV, P_AND, P_ANDS, P_BIC, P_EOR, P_ORR, PFALSE, PTEST, PTRUE,
+    RDFFR, RDFFR_Z, SEL, SETFFR, SMAXV, SMINV, ST1, SXTB, SXTH, SXTW, UADDV, UMAXV, UMINV, UXTB,
+    UXTH, UXTW, WHILELO, WRFFR, Z_ADD, Z_AND, Z_BIC, Z_EOR, Z_ORR, Z_SUB,
 };
 use crate::{
-    AddSubOp, BinaryPredicatedOp, BitwiseOp, BreakOp, ElementCountOp, ExtendOp, PredicateLogicalOp,
-    ReductionOp, ShiftImmediateOp, Sve, UnaryPredicatedOp, VectorCompareOp,
+    AddSubOp, BinaryPredicatedOp, BitwiseOp, BreakOp, ElementCountOp, ExtendOp, GatherOp,
+    PredicateLogicalOp, ReductionOp, ShiftImmediateOp, Sve, UnaryPredicatedOp, VectorCompareOp,
 };
 use word_rows::shifted;
 
@@ -246,6 +246,18 @@ pub fn encode(word: Sve) -> u32
             | rn.put(5)
             | pg.put(10)
             | shifted(dtype as u32, 21, 4),
+        Sve::GatherLoad { op, zt, rn, pg, zm } => {
+            let base = match op {
+                GatherOp::Ld1b => GLD1B,
+                GatherOp::Ld1h => GLD1H,
+                GatherOp::Ld1w => GLD1W,
+                GatherOp::Ld1d => GLD1D,
+                GatherOp::Ld1sb => GLD1SB,
+                GatherOp::Ld1sh => GLD1SH,
+                GatherOp::Ld1sw => GLD1SW,
+            };
+            base | zt.put(0) | rn.put(5) | pg.put(10) | zm.put(16)
+        }
         Sve::ContiguousStore {
             zt,
             rn,

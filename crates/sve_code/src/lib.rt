@@ -134,6 +134,19 @@ pub enum VectorCompareOp {
     Ne,
 }
 
+/// Loads of doublewords from a base and the offsets in a vector ("LD1B (scalar plus vector)" and its like): the element
+/// in memory, and whether its sign is extended.
+#[derive(Clone, Copy, Debug, PartialEq, Eq)]
+pub enum GatherOp {
+    Ld1b,
+    Ld1h,
+    Ld1w,
+    Ld1d,
+    Ld1sb,
+    Ld1sh,
+    Ld1sw,
+}
+
 /// An SVE instruction. Each value has a word, and is the only one that has it.
 #[derive(Clone, Copy, Debug, PartialEq, Eq)]
 pub enum Sve {
@@ -331,6 +344,14 @@ pub enum Sve {
         rn: Reg,
         pg: GoverningReg,
         dtype: Dtype,
+    },
+    /// "LD1B (scalar plus vector)" and its like, with unscaled offsets of 64 bits. Rn 31 is SP.
+    GatherLoad {
+        op: GatherOp,
+        zt: VectorReg,
+        rn: Reg,
+        pg: GoverningReg,
+        zm: VectorReg,
     },
     /// "ST1B (scalar plus scalar)" and its like. Rn 31 is SP.
     ContiguousStore {
