@@ -13,7 +13,7 @@ mod memory;
 mod predicates;
 mod vectors;
 
-use memory::{loads_of, store_of};
+use memory::{gather_of, loads_of, store_of};
 use predicates::predicates_of;
 use sve_code::bases::{CMPEQ, CMPGE, CMPGT, CMPHI, CMPHS, CMPNE, DUP, SEL};
 use sve_code::{Size, Sve, VectorCompareOp};
@@ -39,6 +39,7 @@ fn by_top_byte(word: u32) -> Option<Sve>
         0x24 => compare_of(word),
         0x25 => predicates_of(word),
         0xa4 | 0xa5 => loads_of(word),
+        0xc4 | 0xc5 => gather_of(word),
         0xe4 | 0xe5 => store_of(word),
         _ => None,
     }

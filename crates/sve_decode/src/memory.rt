@@ -2,12 +2,14 @@
 ghost use Rattle.std.specs.Prelude.{◌≡◌};
 ghost use Rattle.std.specs.Option.{option_map};
 ghost use Rattle.word_rows.specs.Row.{reads};
-ghost use Rattle.sve_code.specs.Table.{row, load, load_first_fault, load_no_fault, store};
+ghost use Rattle.sve_code.specs.Table.{row, load, load_first_fault, load_no_fault, load_gather, store};
 ghost use Rattle.sve_code.specs.View.{instruction_view};
 ghost use Rattle.sve_decode.specs.Groups.{loads};
 
-use sve_code::bases::{LD1, LDFF1, LDNF1, ST1};
-use sve_code::{Dtype, OffsetReg, Size, StoreSizes, Sve};
+use sve_code::bases::{
+    GLD1B, GLD1D, GLD1H, GLD1SB, GLD1SH, GLD1SW, GLD1W, LD1, LDFF1, LDNF1, ST1,
+};
+use sve_code::{Dtype, GatherOp, OffsetReg, Size, StoreSizes, Sve};
 use word_rows::{Bits, field};
 
 #[tactic(auto, using(word_rows::proofs::TableLaws::tables), unfolding(crate::specs::Groups::loads))]
@@ -67,6 +69,29 @@ fn load_no_fault_of(word: u32) -> Option<Sve>
         rn: Bits::at(word, 5),
         pg: Bits::at(word, 10),
         dtype: Dtype::at(word),
+    })
+}
+
+#[tactic(auto, unfolding(word_rows::specs::Row::reads, sve_code::specs::Table::load_gather))]
+pub fn gather_of(word: u32) -> Option<Sve>
+    ensures { option_map instruction_view result ≡ reads row load_gather word }
+{
+    let op = match word & 0xffe0_e000 {
+        GLD1B => GatherOp::Ld1b,
+        GLD1H => GatherOp::Ld1h,
+        GLD1W => GatherOp::Ld1w,
+        GLD1D => GatherOp::Ld1d,
+        GLD1SB => GatherOp::Ld1sb,
+        GLD1SH => GatherOp::Ld1sh,
+        GLD1SW => GatherOp::Ld1sw,
+        _ => return None,
+    };
+    Some(Sve::GatherLoad {
+        op,
+        zt: Bits::at(word, 0),
+        rn: Bits::at(word, 5),
+        pg: Bits::at(word, 10),
+        zm: Bits::at(word, 16),
     })
 }
 

@@ -186,6 +186,20 @@ a510a000 NonFaultLoad { zt: 0, rn: 0, pg: 0, dtype: SignedHalfwordToD }
 a570a000 NonFaultLoad { zt: 0, rn: 0, pg: 0, dtype: WordToD }
 a5b0a000 NonFaultLoad { zt: 0, rn: 0, pg: 0, dtype: SignedByteToS }
 a5f0a000 NonFaultLoad { zt: 0, rn: 0, pg: 0, dtype: DoublewordToD }
+c441c000 GatherLoad { op: Ld1b, zt: 0, rn: 0, pg: 0, zm: 1 }
+c45edfff GatherLoad { op: Ld1b, zt: 31, rn: 31, pg: 7, zm: 30 }
+c4c1c000 GatherLoad { op: Ld1h, zt: 0, rn: 0, pg: 0, zm: 1 }
+c4dedfff GatherLoad { op: Ld1h, zt: 31, rn: 31, pg: 7, zm: 30 }
+c541c000 GatherLoad { op: Ld1w, zt: 0, rn: 0, pg: 0, zm: 1 }
+c55edfff GatherLoad { op: Ld1w, zt: 31, rn: 31, pg: 7, zm: 30 }
+c5c1c000 GatherLoad { op: Ld1d, zt: 0, rn: 0, pg: 0, zm: 1 }
+c5dedfff GatherLoad { op: Ld1d, zt: 31, rn: 31, pg: 7, zm: 30 }
+c4418000 GatherLoad { op: Ld1sb, zt: 0, rn: 0, pg: 0, zm: 1 }
+c4448462 GatherLoad { op: Ld1sb, zt: 2, rn: 3, pg: 1, zm: 4 }
+c4c18000 GatherLoad { op: Ld1sh, zt: 0, rn: 0, pg: 0, zm: 1 }
+c4de9fff GatherLoad { op: Ld1sh, zt: 31, rn: 31, pg: 7, zm: 30 }
+c5418000 GatherLoad { op: Ld1sw, zt: 0, rn: 0, pg: 0, zm: 1 }
+c54788c5 GatherLoad { op: Ld1sw, zt: 5, rn: 6, pg: 2, zm: 7 }
 e4094000 ContiguousStore { zt: 0, rn: 0, pg: 0, offset: OffsetReg { number: 9 }, sizes: StoreSizes { msz: B, size: B } }
 e47e5fff ContiguousStore { zt: 31, rn: 31, pg: 7, offset: OffsetReg { number: 30 }, sizes: StoreSizes { msz: B, size: D } }
 e4244861 ContiguousStore { zt: 1, rn: 3, pg: 2, offset: OffsetReg { number: 4 }, sizes: StoreSizes { msz: B, size: H } }
@@ -199,7 +213,7 @@ e5e94040 ContiguousStore { zt: 0, rn: 2, pg: 0, offset: OffsetReg { number: 9 },
 ";
 
 /// Reserved numbers, neighbours that are in no row, and an A64 word.
-static UNLISTED: [u32; 26] = [
+static UNLISTED: [u32; 30] = [
     0x2518_e3c1, // ptrue p1.b, mul3
     0x0420_e3c0, // cntb x0, mul3
     0x0421_e3e0, // cntb x0, all, mul #2
@@ -223,7 +237,11 @@ static UNLISTED: [u32; 26] = [
     0x0520_3c20, // unallocated
     0xa400_a000, // ld1b {z0.b}, p0/z, [x0]
     0xe400_e000, // st1b {z0.b}, p0, [x0]
-    0xc440_c000, // ld1b {z0.d}, p0/z, [x0, z0.d]
+    0xc440_e000, // ldff1b {z0.d}, p0/z, [x0, z0.d]
+    0xc4e0_c000, // ld1h {z0.d}, p0/z, [x0, z0.d, lsl #1]
+    0xc400_4000, // ld1b {z0.d}, p0/z, [x0, z0.d, uxtw]
+    0xc420_c000, // ld1b {z0.d}, p0/z, [z0.d]
+    0xc5c0_8000, // unallocated
     0x9100_0400, // add x0, x0, #1
     0x0000_0000, // udf #0
 ];
