@@ -73,6 +73,10 @@ dotted size = codes "." ++ size_letter size
 abbrev pub z_register : ℕ → ℕ → List ℕ
 z_register size n = codes "z" ++ decimal n ++ dotted size
 
+-- an address with a vector of offsets
+abbrev pub at_vector : ℕ → ℕ → List ℕ
+at_vector rn zm = codes ", [" ++ x_or_sp rn ++ comma ++ z_register 3 zm ++ codes "]"
+
 abbrev pub p_register : ℕ → List ℕ
 p_register n = codes "p" ++ decimal n
 

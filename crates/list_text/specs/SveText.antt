@@ -3,8 +3,8 @@
 use Rattle.std.specs.Prelude.{ℕ, ◌+◌, ◌*◌, ◌==◌, if◌then◌else◌, List, [], ◌++◌, codes, decimal, slice_index}
 use Rattle.word_rows.specs.Row.{Instruction}
 use Rattle.sve_code.specs.Numbers.{memory_size, element_size, is_signed, shift_size, left_amount, right_amount}
-use Rattle.sve_code.specs.Table.{Name, ptrue, pfalse, whilelo, ptest, p_and, p_bic, p_eor, p_orr, p_ands, brka, brkb, rdffr, rdffr_z, setffr, wrffr, cntb, cnth, cntw, cntd, incp, cntp, dup, index_row, sel, z_add, z_sub, z_and, z_orr, z_eor, z_bic, lsl_imm, lsr_imm, asr_imm, m_add, m_sub, m_smax, m_umax, m_smin, m_umin, m_mul, m_orr, m_eor, m_and, m_abs, m_neg, m_not, sxtb, uxtb, sxth, uxth, sxtw, uxtw, uaddv, smaxv, umaxv, sminv, uminv, orv, eorv, andv, cmphs, cmphi, cmpge, cmpgt, cmpeq, cmpne, ld1, ldff1, ldnf1, st1}
-use Rattle.list_text.specs.Parts.{x_register, w_register, x_or_sp, w_or_sp, comma, constant, signed_constant, at_offset, at_register, size_letter, dotted, z_register, p_register, access_letter}
+use Rattle.sve_code.specs.Table.{Name, ptrue, pfalse, whilelo, ptest, p_and, p_bic, p_eor, p_orr, p_ands, brka, brkb, rdffr, rdffr_z, setffr, wrffr, cntb, cnth, cntw, cntd, incp, cntp, dup, index_row, sel, z_add, z_sub, z_and, z_orr, z_eor, z_bic, lsl_imm, lsr_imm, asr_imm, m_add, m_sub, m_smax, m_umax, m_smin, m_umin, m_mul, m_orr, m_eor, m_and, m_abs, m_neg, m_not, sxtb, uxtb, sxth, uxth, sxtw, uxtw, uaddv, smaxv, umaxv, sminv, uminv, orv, eorv, andv, cmphs, cmphi, cmpge, cmpgt, cmpeq, cmpne, ld1, ldff1, ldnf1, gld1b, gld1h, gld1w, gld1d, gld1sb, gld1sh, gld1sw, st1}
+use Rattle.list_text.specs.Parts.{x_register, w_register, x_or_sp, w_or_sp, comma, constant, signed_constant, at_offset, at_register, at_vector, size_letter, dotted, z_register, p_register, access_letter}
 
 -- of pd, pn, pg, pm
 abbrev pub predicate_logical : List ℕ → List ℕ → List ℕ
@@ -82,6 +82,10 @@ abbrev pub load : List ℕ → List ℕ → List ℕ
 load mnemonic ns =
     mnemonic ++ access_name (slice_index ns 4) ++ loaded (element_size (slice_index ns 4)) (slice_index ns 0) (slice_index ns 2) ++ at_register (slice_index ns 1) (slice_index ns 3) (memory_size (slice_index ns 4))
 
+-- of zt, rn, pg, zm
+abbrev pub gather : List ℕ → List ℕ → List ℕ
+gather mnemonic ns = mnemonic ++ loaded 3 (slice_index ns 0) (slice_index ns 2) ++ at_vector (slice_index ns 1) (slice_index ns 3)
+
 abbrev pub text_of : Name → List ℕ → List ℕ
 text_of ptrue ns = codes "ptrue " ++ p_register (slice_index ns 0) ++ dotted (slice_index ns 1)
 text_of pfalse ns = codes "pfalse " ++ p_register (slice_index ns 0) ++ codes ".b"
@@ -152,6 +156,13 @@ text_of cmpne ns = compare_vectors (codes "cmpne ") ns
 text_of ld1 ns = load (codes "ld1") ns
 text_of ldff1 ns = load (codes "ldff1") ns
 text_of ldnf1 ns = codes "ldnf1" ++ access_name (slice_index ns 3) ++ loaded (element_size (slice_index ns 3)) (slice_index ns 0) (slice_index ns 2) ++ at_offset (slice_index ns 1) 0
+text_of gld1b ns = gather (codes "ld1b") ns
+text_of gld1h ns = gather (codes "ld1h") ns
+text_of gld1w ns = gather (codes "ld1w") ns
+text_of gld1d ns = gather (codes "ld1d") ns
+text_of gld1sb ns = gather (codes "ld1sb") ns
+text_of gld1sh ns = gather (codes "ld1sh") ns
+text_of gld1sw ns = gather (codes "ld1sw") ns
 text_of st1 ns = codes "st1" ++ access_letter (slice_index ns 5) ++ codes " {" ++ z_register (slice_index ns 4) (slice_index ns 0) ++ codes "}, " ++ p_register (slice_index ns 2) ++ at_register (slice_index ns 1) (slice_index ns 3) (slice_index ns 5)
 
 abbrev pub sve_text : Instruction Name → List ℕ

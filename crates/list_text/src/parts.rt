@@ -3,7 +3,7 @@ ghost use Rattle.std.specs.Prelude.{◌≡◌, ◌≤◌, ◌<◌, ◌+◌, ◌*
 ghost use Rattle.arrayvec.specs.ArrayString.{array_string_len};
 ghost use Rattle.a64_code.specs.View.{cond_number};
 ghost use Rattle.sve_code.specs.Numbers.{size_number};
-ghost use Rattle.list_text.specs.Parts.{general_register, signed_multiple, x_register, w_register, x_or_sp, w_or_sp, comma, constant, signed_constant, lsl_by, shift_name, shifted_by, at_offset, at_register, cond_name, size_letter, dotted, z_register, p_register, access_letter};
+ghost use Rattle.list_text.specs.Parts.{general_register, signed_multiple, x_register, w_register, x_or_sp, w_or_sp, comma, constant, signed_constant, lsl_by, shift_name, shifted_by, at_offset, at_register, at_vector, cond_name, size_letter, dotted, z_register, p_register, access_letter};
 
 use crate::LineBuf;
 use a64_code::Cond;
@@ -351,6 +351,17 @@ pub fn push_p(into: &mut LineBuf, number: u32)
 {
     into.push_str("p");
     push_decimal(into, number);
+}
+
+/// Appends an address with a vector of offsets.
+pub fn push_vector_address(into: &mut LineBuf, base: Bits<5>, offsets: Bits<5>)
+    requires { array_string_len into.old ≤ 35 }
+    ensures { into.new.bytes ≡ into.old.bytes ++ at_vector base.number offsets.number }
+{
+    into.push_str(", [");
+    push_x_or_sp(into, base);
+    comma_z(into, offsets, Size::D);
+    into.push_str("]");
 }
 
 /// Appends a comma and a predicate register.

@@ -11,10 +11,10 @@ use crate::LineBuf;
 use crate::parts::{
     access_letter_of, begin, begin_p, begin_x, begin_z, comma_constant, comma_p, comma_x, comma_z,
     dotted_of, letter_of, push_decimal, push_offset_address, push_p, push_register_address,
-    push_signed_5, push_w, push_w_or_sp, push_x, push_x_or_sp, push_z,
+    push_signed_5, push_vector_address, push_w, push_w_or_sp, push_x, push_x_or_sp, push_z,
 };
 use sve_code::{
-    AddSubOp, BinaryPredicatedOp, BitwiseOp, BreakOp, Dtype, ElementCountOp, ExtendOp,
+    AddSubOp, BinaryPredicatedOp, BitwiseOp, BreakOp, Dtype, ElementCountOp, ExtendOp, GatherOp,
     GoverningReg, OffsetReg, PredicateLogicalOp, PredicateReg, ReductionOp, Reg, ShiftAmount,
     ShiftImmediateOp, Size, SizeFromH, SizeFromS, StoreSizes, Sve, UnaryPredicatedOp,
     VectorCompareOp, VectorReg,
@@ -116,6 +116,7 @@ pub fn instruction_text(instruction: Sve, into: &mut LineBuf)
             dtype,
         } => first_fault_load(into, zt, rn, pg, rm, dtype),
         Sve::NonFaultLoad { zt, rn, pg, dtype } => non_fault_load(into, zt, rn, pg, dtype),
+        Sve::GatherLoad { op, zt, rn, pg, zm } => gather_load(into, op, zt, rn, pg, zm),
         Sve::ContiguousStore {
             zt,
             rn,
@@ -735,6 +736,44 @@ fn push_loaded(into: &mut LineBuf, zt: VectorReg, size: Size, pg: GoverningReg)
     into.push_str("}, ");
     push_p(into, pg.number);
     into.push_str("/z");
+}
+
+/// Writes `ld1b {z0.d}, p0/z, [x0, z1.d]` and its like.
+fn gather_load(
+    into: &mut LineBuf,
+    op: GatherOp,
+    zt: VectorReg,
+    rn: Reg,
+    pg: GoverningReg,
+    zm: VectorReg,
+)
+    ensures { into.new.bytes ≡ text.sve_text (instruction_view (Sve.GatherLoad op zt rn pg zm)) }
+{
+    match op {
+        GatherOp::Ld1b => gather(into, "ld1b", zt, rn, pg, zm),
+        GatherOp::Ld1h => gather(into, "ld1h", zt, rn, pg, zm),
+        GatherOp::Ld1w => gather(into, "ld1w", zt, rn, pg, zm),
+        GatherOp::Ld1d => gather(into, "ld1d", zt, rn, pg, zm),
+        GatherOp::Ld1sb => gather(into, "ld1sb", zt, rn, pg, zm),
+        GatherOp::Ld1sh => gather(into, "ld1sh", zt, rn, pg, zm),
+        GatherOp::Ld1sw => gather(into, "ld1sw", zt, rn, pg, zm),
+    }
+}
+
+fn gather(
+    into: &mut LineBuf,
+    mnemonic: &str,
+    zt: VectorReg,
+    rn: Reg,
+    pg: GoverningReg,
+    zm: VectorReg,
+)
+    requires { length mnemonic.now ≤ 8 }
+    ensures { into.new.bytes ≡ text.gather mnemonic.now (zt.number ∷ rn.number ∷ pg.number ∷ zm.number ∷ []) }
+{
+    begin(into, mnemonic);
+    push_loaded(into, zt, Size::D, pg);
+    push_vector_address(into, rn, zm);
 }
 
 /// Writes `st1w {z0.s}, p0, [x2, x9, lsl #2]` and its like.
