@@ -67,7 +67,7 @@ run_spends = refl
 
 -- the file with its first word zero
 run_stops : shown (machine_run (file_of (0 ∷ 0xd2800ba8 ∷ 0xd4000001 ∷ [])) [] [] 128 100) ≡ Stops Undefined 0x400078 0 1
-unfolding reads_word reads add_sub_imm add_sub_shifted logical move_wide multiply_add shift_variable bitfield select branch branch_if branch_zero ret_form exception nop_form umov_form byte_imm wide_imm byte_register wide_register sve.true_form sve.false_form sve.while_below sve.test_form sve.pred_logic sve.break_form sve.read_ffr sve.read_ffr_zeroing sve.set_ffr sve.write_ffr sve.count sve.increment_by_count sve.count_true sve.duplicate sve.index sve.select sve.add_sub sve.logic sve.shift_imm sve.merging sve.unary sve.extend_byte sve.extend_half sve.extend_word sve.reduce sve.compare sve.load sve.load_first_fault sve.load_no_fault sve.store start start_of pages_of page_bytes
+unfolding reads_word reads add_sub_imm add_sub_shifted logical move_wide multiply_add shift_variable bitfield select branch branch_if branch_zero ret_form exception nop_form umov_form byte_imm wide_imm byte_register wide_register sve.true_form sve.false_form sve.while_below sve.test_form sve.pred_logic sve.break_form sve.read_ffr sve.read_ffr_zeroing sve.set_ffr sve.write_ffr sve.count sve.increment_by_count sve.count_true sve.duplicate sve.index sve.select sve.add_sub sve.logic sve.shift_imm sve.merging sve.unary sve.extend_byte sve.extend_half sve.extend_word sve.reduce sve.compare sve.load sve.load_first_fault sve.load_no_fault sve.load_gather sve.store start start_of pages_of page_bytes
 run_stops = refl
 
 -- ---- files that differ in one place

@@ -10,7 +10,7 @@ use Rattle.guest_types.specs.Length.{width_bytes, lanes}
 use Rattle.guest_types.specs.Elements.{at, active}
 use Rattle.word_rows.specs.Field.{Field, rd, rn, rm}
 use Rattle.sve_code.specs.Table as sve
-use Rattle.sve_code.specs.Table.{Name, pd, pg, zd, zdn, zt, ptrue, pfalse, whilelo, ptest, p_and, p_bic, p_eor, p_orr, p_ands, brka, brkb, rdffr, rdffr_z, setffr, wrffr, cntb, cnth, cntw, cntd, incp, cntp, dup, index_row, sel, z_add, z_sub, z_and, z_orr, z_eor, z_bic, lsl_imm, lsr_imm, asr_imm, m_add, m_sub, m_smax, m_umax, m_smin, m_umin, m_mul, m_orr, m_eor, m_and, m_abs, m_neg, m_not, sxtb, uxtb, sxth, uxth, sxtw, uxtw, uaddv, smaxv, umaxv, sminv, uminv, orv, eorv, andv, cmphs, cmphi, cmpge, cmpgt, cmpeq, cmpne, ld1, ldff1, ldnf1, st1}
+use Rattle.sve_code.specs.Table.{Name, pd, pg, zd, zdn, zt, ptrue, pfalse, whilelo, ptest, p_and, p_bic, p_eor, p_orr, p_ands, brka, brkb, rdffr, rdffr_z, setffr, wrffr, cntb, cnth, cntw, cntd, incp, cntp, dup, index_row, sel, z_add, z_sub, z_and, z_orr, z_eor, z_bic, lsl_imm, lsr_imm, asr_imm, m_add, m_sub, m_smax, m_umax, m_smin, m_umin, m_mul, m_orr, m_eor, m_and, m_abs, m_neg, m_not, sxtb, uxtb, sxth, uxth, sxtw, uxtw, uaddv, smaxv, umaxv, sminv, uminv, orv, eorv, andv, cmphs, cmphi, cmpge, cmpgt, cmpeq, cmpne, ld1, ldff1, ldnf1, gld1b, gld1h, gld1w, gld1d, gld1sb, gld1sh, gld1sw, st1}
 use Rattle.machine_model.specs.Machine.{x_or_sp, State, Went, x_at, z_at, p_at}
 use Rattle.machine_model.specs.VectorEffects.{vector_act, after_load, after_early, after_store}
 use Rattle.machine_model.specs.Frames.{Leaves}
@@ -107,4 +107,11 @@ went_leaves cmpne f s t e = same_state cmpne f s e (record { pc = refl; sp = ref
 went_leaves ld1 f s t e = plain_leaves f s t _ _ e
 went_leaves ldff1 f s t e = first_leaves f s t _ _ e
 went_leaves ldnf1 f s t e = same_state ldnf1 f s e (record { pc = refl; sp = refl; vl = refl; code = λ a lt. refl; access = λ a. (refl, refl); memory = refl; flags = refl; ffr = tt; stops = tt; x = refl; z = λ n ne. get_or-set_other s.z (f zt) n _ [] ne; p = refl })
+went_leaves gld1b f s t e = plain_leaves f s t _ _ e
+went_leaves gld1h f s t e = plain_leaves f s t _ _ e
+went_leaves gld1w f s t e = plain_leaves f s t _ _ e
+went_leaves gld1d f s t e = plain_leaves f s t _ _ e
+went_leaves gld1sb f s t e = plain_leaves f s t _ _ e
+went_leaves gld1sh f s t e = plain_leaves f s t _ _ e
+went_leaves gld1sw f s t e = plain_leaves f s t _ _ e
 went_leaves st1 f s t e = vector_store (f sve.memory) (f sve.element) (x_or_sp s (f rn)) (x_at s (f rm)) (p_at s (f pg)) (z_at s (f zt)) f s t e

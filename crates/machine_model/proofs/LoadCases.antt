@@ -76,13 +76,33 @@ case_190 = faults kinds.Write 69632 (state (0xe4a24022 ∷ []) (page 16 ReadWrit
 abbrev case_191 : Case
 case_191 = faults kinds.Write 69632 (state (0xe5424433 ∷ []) (page 16 ReadWrite (zeros 4070 ++ (198 ∷ 31 ∷ 129 ∷ 18 ∷ 200 ∷ 55 ∷ 162 ∷ 122 ∷ 144 ∷ 221 ∷ 43 ∷ 152 ∷ 36 ∷ 149 ∷ 20 ∷ 100 ∷ 110 ∷ 102 ∷ 73 ∷ 184 ∷ 244 ∷ 157 ∷ 12 ∷ 102 ∷ 194 ∷ 29 ∷ [])) ∷ page 17 Read (30 ∷ 18 ∷ 26 ∷ 121 ∷ 236 ∷ 107 ∷ 56 ∷ 60 ∷ 152 ∷ 147 ∷ 149 ∷ 55 ∷ 102 ∷ 37 ∷ 89 ∷ 201 ∷ 35 ∷ 143 ∷ 178 ∷ 241 ∷ 95 ∷ 3 ∷ 153 ∷ 122 ∷ 209 ∷ 190 ∷ 19 ∷ 21 ∷ 108 ∷ 160 ∷ 90 ∷ 14 ∷ 238 ∷ 150 ∷ 158 ∷ 112 ∷ 50 ∷ 98 ∷ 117 ∷ 36 ∷ zeros 4056) ∷ []) 384 6519280285257396140 (flags_from false false true false) ((1, 69617) ∷ []) ((19, 201 ∷ 207 ∷ 52 ∷ 51 ∷ 95 ∷ 22 ∷ 5 ∷ 207 ∷ 212 ∷ 159 ∷ 125 ∷ 233 ∷ 219 ∷ 50 ∷ 34 ∷ 41 ∷ 106 ∷ 59 ∷ 63 ∷ 208 ∷ 100 ∷ 210 ∷ 4 ∷ 241 ∷ 98 ∷ 190 ∷ 128 ∷ 234 ∷ 123 ∷ 109 ∷ 66 ∷ 17 ∷ 93 ∷ 218 ∷ 231 ∷ 229 ∷ 17 ∷ 12 ∷ 234 ∷ 238 ∷ 40 ∷ 248 ∷ 195 ∷ 23 ∷ 174 ∷ 51 ∷ 203 ∷ 247 ∷ zeros 208) ∷ []) ((1, 240 ∷ 255 ∷ 255 ∷ 255 ∷ 255 ∷ 255 ∷ zeros 26) ∷ []) (77 ∷ 178 ∷ 81 ∷ 44 ∷ 243 ∷ 185 ∷ zeros 26)) (λ s. with_pages s (page 16 ReadWrite (zeros 4070 ++ (198 ∷ 31 ∷ 129 ∷ 18 ∷ 200 ∷ 55 ∷ 162 ∷ 122 ∷ 144 ∷ 221 ∷ 43 ∷ 152 ∷ 36 ∷ 149 ∷ 20 ∷ 95 ∷ 22 ∷ 5 ∷ 207 ∷ 212 ∷ 159 ∷ 125 ∷ 233 ∷ 102 ∷ 194 ∷ 29 ∷ [])) ∷ page 17 Read (30 ∷ 18 ∷ 26 ∷ 121 ∷ 236 ∷ 107 ∷ 56 ∷ 60 ∷ 152 ∷ 147 ∷ 149 ∷ 55 ∷ 102 ∷ 37 ∷ 89 ∷ 201 ∷ 35 ∷ 143 ∷ 178 ∷ 241 ∷ 95 ∷ 3 ∷ 153 ∷ 122 ∷ 209 ∷ 190 ∷ 19 ∷ 21 ∷ 108 ∷ 160 ∷ 90 ∷ 14 ∷ 238 ∷ 150 ∷ 158 ∷ 112 ∷ 50 ∷ 98 ∷ 117 ∷ 36 ∷ zeros 4056) ∷ []))
 
+-- LD1SB gather sp vl 384 {'Zm': 9, 'Pg': 3, 'Rn': 31, 'Zt': 4}
+abbrev case_192 : Case
+case_192 = goes (state (0xc4498fe4 ∷ []) (page 16 ReadWrite (zeros 64 ++ (165 ∷ 77 ∷ 202 ∷ 24 ∷ 37 ∷ 48 ∷ 187 ∷ 29 ∷ 109 ∷ 19 ∷ 44 ∷ 222 ∷ 214 ∷ 35 ∷ 123 ∷ 46 ∷ 217 ∷ 30 ∷ 63 ∷ 114 ∷ 31 ∷ 203 ∷ 25 ∷ 113 ∷ 23 ∷ 68 ∷ 148 ∷ 214 ∷ 73 ∷ 60 ∷ 157 ∷ 92 ∷ 52 ∷ 96 ∷ 190 ∷ 49 ∷ 32 ∷ 30 ∷ 105 ∷ 254 ∷ 218 ∷ 160 ∷ 238 ∷ 232 ∷ 185 ∷ 153 ∷ 127 ∷ 92 ∷ 124 ∷ 41 ∷ 153 ∷ 253 ∷ 175 ∷ 229 ∷ 147 ∷ 37 ∷ 60 ∷ 214 ∷ 84 ∷ 175 ∷ 77 ∷ 250 ∷ 215 ∷ 20 ∷ zeros 3968)) ∷ []) 384 65620 (flags_from false true false true) [] ((9, zeros 8 ++ (236 ∷ 255 ∷ 255 ∷ 255 ∷ 255 ∷ 255 ∷ 255 ∷ 255 ∷ 11 ∷ 0 ∷ 0 ∷ 0 ∷ 0 ∷ 0 ∷ 0 ∷ 0 ∷ 43 ∷ 0 ∷ 0 ∷ 0 ∷ 0 ∷ 0 ∷ 0 ∷ 0 ∷ 255 ∷ 255 ∷ 255 ∷ 255 ∷ 255 ∷ 255 ∷ 255 ∷ 255 ∷ 2 ∷ zeros 215)) ∷ (4, 93 ∷ 223 ∷ 45 ∷ 245 ∷ 255 ∷ 135 ∷ 18 ∷ 59 ∷ 189 ∷ 192 ∷ 162 ∷ 38 ∷ 42 ∷ 124 ∷ 62 ∷ 21 ∷ 240 ∷ 154 ∷ 28 ∷ 45 ∷ 189 ∷ 125 ∷ 187 ∷ 38 ∷ 118 ∷ 134 ∷ 97 ∷ 59 ∷ 137 ∷ 140 ∷ 148 ∷ 168 ∷ 234 ∷ 233 ∷ 187 ∷ 59 ∷ 158 ∷ 144 ∷ 22 ∷ 3 ∷ 127 ∷ 132 ∷ 38 ∷ 124 ∷ 46 ∷ 140 ∷ 194 ∷ 212 ∷ zeros 208) ∷ []) ((3, 1 ∷ 1 ∷ 0 ∷ 1 ∷ 1 ∷ 1 ∷ zeros 26) ∷ []) (255 ∷ 255 ∷ 255 ∷ 255 ∷ 255 ∷ 255 ∷ zeros 26)) (λ s. with_z s 4 (31 ∷ 0 ∷ 0 ∷ 0 ∷ 0 ∷ 0 ∷ 0 ∷ 0 ∷ 165 ∷ 255 ∷ 255 ∷ 255 ∷ 255 ∷ 255 ∷ 255 ∷ 255 ∷ 0 ∷ 0 ∷ 0 ∷ 0 ∷ 0 ∷ 0 ∷ 0 ∷ 0 ∷ 20 ∷ 0 ∷ 0 ∷ 0 ∷ 0 ∷ 0 ∷ 0 ∷ 0 ∷ 114 ∷ 0 ∷ 0 ∷ 0 ∷ 0 ∷ 0 ∷ 0 ∷ 0 ∷ 25 ∷ zeros 215))
+
+-- LD1H gather straddles vl 256 {'Zm': 2, 'Pg': 6, 'Rn': 1, 'Zt': 25}
+abbrev case_193 : Case
+case_193 = goes (state (0xc4c2d839 ∷ []) (page 16 ReadWrite (zeros 4070 ++ (39 ∷ 160 ∷ 174 ∷ 179 ∷ 254 ∷ 233 ∷ 35 ∷ 47 ∷ 138 ∷ 242 ∷ 33 ∷ 31 ∷ 158 ∷ 228 ∷ 145 ∷ 197 ∷ 177 ∷ 11 ∷ 236 ∷ 181 ∷ 86 ∷ 59 ∷ 252 ∷ 30 ∷ 111 ∷ 147 ∷ [])) ∷ page 17 Read (66 ∷ 126 ∷ 203 ∷ 200 ∷ 254 ∷ 41 ∷ 85 ∷ 229 ∷ 205 ∷ 142 ∷ 70 ∷ 220 ∷ 142 ∷ 212 ∷ 183 ∷ 194 ∷ zeros 4080) ∷ []) 256 3363632360838974559 (flags_from false true false true) ((1, 69632) ∷ []) ((2, 255 ∷ 255 ∷ 255 ∷ 255 ∷ 255 ∷ 255 ∷ 255 ∷ 255 ∷ 5 ∷ 0 ∷ 0 ∷ 0 ∷ 0 ∷ 0 ∷ 0 ∷ 0 ∷ 230 ∷ 255 ∷ 255 ∷ 255 ∷ 255 ∷ 255 ∷ 255 ∷ 255 ∷ 3 ∷ zeros 231) ∷ (25, zeros 256) ∷ []) ((6, 1 ∷ 0 ∷ 1 ∷ 1 ∷ zeros 28) ∷ []) (255 ∷ 255 ∷ 255 ∷ 255 ∷ zeros 28)) (λ s. with_z s 25 (147 ∷ 66 ∷ 0 ∷ 0 ∷ 0 ∷ 0 ∷ 0 ∷ 0 ∷ 0 ∷ 0 ∷ 0 ∷ 0 ∷ 0 ∷ 0 ∷ 0 ∷ 0 ∷ 39 ∷ 160 ∷ 0 ∷ 0 ∷ 0 ∷ 0 ∷ 0 ∷ 0 ∷ 200 ∷ 254 ∷ zeros 230))
+
+-- LD1W gather faults at its second active vl 384 {'Zm': 8, 'Pg': 2, 'Rn': 3, 'Zt': 7}
+abbrev case_194 : Case
+case_194 = faults kinds.Read 69632 (state (0xc548c867 ∷ []) (page 16 ReadWrite (zeros 4070 ++ (39 ∷ 160 ∷ 174 ∷ 179 ∷ 254 ∷ 233 ∷ 35 ∷ 47 ∷ 138 ∷ 242 ∷ 33 ∷ 31 ∷ 158 ∷ 228 ∷ 145 ∷ 197 ∷ 177 ∷ 11 ∷ 236 ∷ 181 ∷ 86 ∷ 59 ∷ 252 ∷ 30 ∷ 111 ∷ 147 ∷ [])) ∷ []) 384 15849478474046910765 (flags_from false true false true) ((3, 65536) ∷ []) ((8, 252 ∷ 15 ∷ 0 ∷ 0 ∷ 0 ∷ 0 ∷ 0 ∷ 0 ∷ 127 ∷ 150 ∷ 152 ∷ 0 ∷ 0 ∷ 0 ∷ 0 ∷ 0 ∷ 253 ∷ 15 ∷ 0 ∷ 0 ∷ 0 ∷ 0 ∷ 0 ∷ 0 ∷ 240 ∷ 15 ∷ 0 ∷ 0 ∷ 0 ∷ 0 ∷ 0 ∷ 0 ∷ 255 ∷ 255 ∷ 255 ∷ 255 ∷ 255 ∷ 255 ∷ 255 ∷ 255 ∷ zeros 216) ∷ (7, 197 ∷ 92 ∷ 67 ∷ 67 ∷ 188 ∷ 156 ∷ 44 ∷ 72 ∷ 89 ∷ 71 ∷ 12 ∷ 1 ∷ 78 ∷ 12 ∷ 75 ∷ 37 ∷ 239 ∷ 19 ∷ 64 ∷ 107 ∷ 1 ∷ 244 ∷ 218 ∷ 136 ∷ 237 ∷ 102 ∷ 135 ∷ 94 ∷ 247 ∷ 170 ∷ 28 ∷ 156 ∷ 17 ∷ 189 ∷ 251 ∷ 144 ∷ 245 ∷ 136 ∷ 144 ∷ 81 ∷ 192 ∷ 57 ∷ 254 ∷ 243 ∷ 38 ∷ 54 ∷ 32 ∷ 32 ∷ zeros 208) ∷ []) ((2, 1 ∷ 0 ∷ 1 ∷ 1 ∷ 1 ∷ 1 ∷ zeros 26) ∷ []) (255 ∷ 255 ∷ 255 ∷ 255 ∷ 255 ∷ 255 ∷ zeros 26)) (λ s. s)
+
+-- LD1D gather of its own offsets vl 256 {'Zm': 12, 'Pg': 0, 'Rn': 6, 'Zt': 12}
+abbrev case_195 : Case
+case_195 = goes (state (0xc5ccc0cc ∷ []) (page 16 ReadWrite (zeros 4070 ++ (39 ∷ 160 ∷ 174 ∷ 179 ∷ 254 ∷ 233 ∷ 35 ∷ 47 ∷ 138 ∷ 242 ∷ 33 ∷ 31 ∷ 158 ∷ 228 ∷ 145 ∷ 197 ∷ 177 ∷ 11 ∷ 236 ∷ 181 ∷ 86 ∷ 59 ∷ 252 ∷ 30 ∷ 111 ∷ 147 ∷ [])) ∷ []) 256 17528538041507331862 (flags_from false true false true) ((6, 69536) ∷ []) ((12, 70 ∷ 0 ∷ 0 ∷ 0 ∷ 0 ∷ 0 ∷ 0 ∷ 0 ∷ 88 ∷ 0 ∷ 0 ∷ 0 ∷ 0 ∷ 0 ∷ 0 ∷ 0 ∷ 64 ∷ 226 ∷ 1 ∷ 0 ∷ 0 ∷ 0 ∷ 0 ∷ 0 ∷ 72 ∷ zeros 231) ∷ []) ((0, 1 ∷ 1 ∷ 0 ∷ 1 ∷ zeros 28) ∷ []) (255 ∷ 255 ∷ 255 ∷ 255 ∷ zeros 28)) (λ s. with_z s 12 (39 ∷ 160 ∷ 174 ∷ 179 ∷ 254 ∷ 233 ∷ 35 ∷ 47 ∷ 236 ∷ 181 ∷ 86 ∷ 59 ∷ 252 ∷ 30 ∷ 111 ∷ 147 ∷ 0 ∷ 0 ∷ 0 ∷ 0 ∷ 0 ∷ 0 ∷ 0 ∷ 0 ∷ 174 ∷ 179 ∷ 254 ∷ 233 ∷ 35 ∷ 47 ∷ 138 ∷ 242 ∷ zeros 224))
+
+-- LD1SW gather past 2^64 vl 128 {'Zm': 1, 'Pg': 7, 'Rn': 5, 'Zt': 30}
+abbrev case_196 : Case
+case_196 = goes (state (0xc5419cbe ∷ []) (page 16 ReadWrite (zeros 64 ++ (165 ∷ 77 ∷ 202 ∷ 24 ∷ 37 ∷ 48 ∷ 187 ∷ 29 ∷ 109 ∷ 19 ∷ 44 ∷ 222 ∷ 214 ∷ 35 ∷ 123 ∷ 46 ∷ 217 ∷ 30 ∷ 63 ∷ 114 ∷ 31 ∷ 203 ∷ 25 ∷ 113 ∷ 23 ∷ 68 ∷ 148 ∷ 214 ∷ 73 ∷ 60 ∷ 157 ∷ 92 ∷ 52 ∷ 96 ∷ 190 ∷ 49 ∷ 32 ∷ 30 ∷ 105 ∷ 254 ∷ 218 ∷ 160 ∷ 238 ∷ 232 ∷ 185 ∷ 153 ∷ 127 ∷ 92 ∷ 124 ∷ 41 ∷ 153 ∷ 253 ∷ 175 ∷ 229 ∷ 147 ∷ 37 ∷ 60 ∷ 214 ∷ 84 ∷ 175 ∷ 77 ∷ 250 ∷ 215 ∷ 20 ∷ zeros 3968)) ∷ []) 128 12081998651343933172 (flags_from false true false true) ((5, 18446744073709551600) ∷ []) ((1, 80 ∷ 0 ∷ 1 ∷ 0 ∷ 0 ∷ 0 ∷ 0 ∷ 0 ∷ 116 ∷ 0 ∷ 1 ∷ zeros 245) ∷ (30, zeros 256) ∷ []) ((7, 1 ∷ 1 ∷ zeros 30) ∷ []) (255 ∷ 255 ∷ zeros 30)) (λ s. with_z s 30 (165 ∷ 77 ∷ 202 ∷ 24 ∷ 0 ∷ 0 ∷ 0 ∷ 0 ∷ 32 ∷ 30 ∷ 105 ∷ 254 ∷ 255 ∷ 255 ∷ 255 ∷ 255 ∷ zeros 240))
+
 abbrev cases : List Case
-cases = case_156 ∷ case_161 ∷ case_168 ∷ case_170 ∷ case_172 ∷ case_173 ∷ case_174 ∷ case_176 ∷ case_177 ∷ case_180 ∷ case_183 ∷ case_185 ∷ case_186 ∷ case_189 ∷ case_190 ∷ case_191 ∷ []
+cases = case_156 ∷ case_161 ∷ case_168 ∷ case_170 ∷ case_172 ∷ case_173 ∷ case_174 ∷ case_176 ∷ case_177 ∷ case_180 ∷ case_183 ∷ case_185 ∷ case_186 ∷ case_189 ∷ case_190 ∷ case_191 ∷ case_192 ∷ case_193 ∷ case_194 ∷ case_195 ∷ case_196 ∷ []
 
 stepped : map step_of cases ≡ map after_of cases
-unfolding reads_word reads a64.add_sub_imm a64.add_sub_shifted a64.logical a64.move_wide a64.multiply_add a64.shift_variable a64.bitfield a64.select a64.branch a64.branch_if a64.branch_zero a64.ret_form a64.exception a64.nop_form a64.umov_form a64.byte_imm a64.wide_imm a64.byte_register a64.wide_register sve.true_form sve.false_form sve.while_below sve.test_form sve.pred_logic sve.break_form sve.read_ffr sve.read_ffr_zeroing sve.set_ffr sve.write_ffr sve.count sve.increment_by_count sve.count_true sve.duplicate sve.index sve.select sve.add_sub sve.logic sve.shift_imm sve.merging sve.unary sve.extend_byte sve.extend_half sve.extend_word sve.reduce sve.compare sve.load sve.load_first_fault sve.load_no_fault sve.store elements bits_of folded broken
+unfolding reads_word reads a64.add_sub_imm a64.add_sub_shifted a64.logical a64.move_wide a64.multiply_add a64.shift_variable a64.bitfield a64.select a64.branch a64.branch_if a64.branch_zero a64.ret_form a64.exception a64.nop_form a64.umov_form a64.byte_imm a64.wide_imm a64.byte_register a64.wide_register sve.true_form sve.false_form sve.while_below sve.test_form sve.pred_logic sve.break_form sve.read_ffr sve.read_ffr_zeroing sve.set_ffr sve.write_ffr sve.count sve.increment_by_count sve.count_true sve.duplicate sve.index sve.select sve.add_sub sve.logic sve.shift_imm sve.merging sve.unary sve.extend_byte sve.extend_half sve.extend_word sve.reduce sve.compare sve.load sve.load_first_fault sve.load_no_fault sve.load_gather sve.store elements bits_of folded broken
 stepped = refl
 
 cut : map cuts cases ≡ map cut_of cases
-unfolding reads_word reads a64.add_sub_imm a64.add_sub_shifted a64.logical a64.move_wide a64.multiply_add a64.shift_variable a64.bitfield a64.select a64.branch a64.branch_if a64.branch_zero a64.ret_form a64.exception a64.nop_form a64.umov_form a64.byte_imm a64.wide_imm a64.byte_register a64.wide_register sve.true_form sve.false_form sve.while_below sve.test_form sve.pred_logic sve.break_form sve.read_ffr sve.read_ffr_zeroing sve.set_ffr sve.write_ffr sve.count sve.increment_by_count sve.count_true sve.duplicate sve.index sve.select sve.add_sub sve.logic sve.shift_imm sve.merging sve.unary sve.extend_byte sve.extend_half sve.extend_word sve.reduce sve.compare sve.load sve.load_first_fault sve.load_no_fault sve.store elements bits_of folded broken
+unfolding reads_word reads a64.add_sub_imm a64.add_sub_shifted a64.logical a64.move_wide a64.multiply_add a64.shift_variable a64.bitfield a64.select a64.branch a64.branch_if a64.branch_zero a64.ret_form a64.exception a64.nop_form a64.umov_form a64.byte_imm a64.wide_imm a64.byte_register a64.wide_register sve.true_form sve.false_form sve.while_below sve.test_form sve.pred_logic sve.break_form sve.read_ffr sve.read_ffr_zeroing sve.set_ffr sve.write_ffr sve.count sve.increment_by_count sve.count_true sve.duplicate sve.index sve.select sve.add_sub sve.logic sve.shift_imm sve.merging sve.unary sve.extend_byte sve.extend_half sve.extend_word sve.reduce sve.compare sve.load sve.load_first_fault sve.load_no_fault sve.load_gather sve.store elements bits_of folded broken
 cut = refl

@@ -110,6 +110,13 @@ vector_store_stores msz size base index pg z s =
 vector_stores : (n : sve.Name) (f : Field → ℕ) (s : State) → ByStores (vector_act n f s) s
 vector_stores sve.ld1 f s = after_load_stores _ _ (f sve.zt) s
 vector_stores sve.ldff1 f s = after_early_stores _ _ (f sve.zt) s
+vector_stores sve.gld1b f s = after_load_stores _ _ (f sve.zt) s
+vector_stores sve.gld1h f s = after_load_stores _ _ (f sve.zt) s
+vector_stores sve.gld1w f s = after_load_stores _ _ (f sve.zt) s
+vector_stores sve.gld1d f s = after_load_stores _ _ (f sve.zt) s
+vector_stores sve.gld1sb f s = after_load_stores _ _ (f sve.zt) s
+vector_stores sve.gld1sh f s = after_load_stores _ _ (f sve.zt) s
+vector_stores sve.gld1sw f s = after_load_stores _ _ (f sve.zt) s
 vector_stores sve.st1 f s = vector_store_stores (f sve.memory) (f sve.element) (x_or_sp s (f rn)) (x_at s (f rm)) (p_at s (f sve.pg)) (z_at s (f sve.zt)) s
 vector_stores _ f s = Unchanged s.memory
 

@@ -105,6 +105,13 @@ vector_quiet sve.cmpgt f s t q e = (went_leaves sve.cmpgt f s t e).stops ∙ q
 vector_quiet sve.cmpeq f s t q e = (went_leaves sve.cmpeq f s t e).stops ∙ q
 vector_quiet sve.cmpne f s t q e = (went_leaves sve.cmpne f s t e).stops ∙ q
 vector_quiet sve.ld1 f s t q e = (went_leaves sve.ld1 f s t e).stops ∙ q
+vector_quiet sve.gld1b f s t q e = (went_leaves sve.gld1b f s t e).stops ∙ q
+vector_quiet sve.gld1h f s t q e = (went_leaves sve.gld1h f s t e).stops ∙ q
+vector_quiet sve.gld1w f s t q e = (went_leaves sve.gld1w f s t e).stops ∙ q
+vector_quiet sve.gld1d f s t q e = (went_leaves sve.gld1d f s t e).stops ∙ q
+vector_quiet sve.gld1sb f s t q e = (went_leaves sve.gld1sb f s t e).stops ∙ q
+vector_quiet sve.gld1sh f s t q e = (went_leaves sve.gld1sh f s t e).stops ∙ q
+vector_quiet sve.gld1sw f s t q e = (went_leaves sve.gld1sw f s t e).stops ∙ q
 vector_quiet sve.st1 f s t q e = (went_leaves sve.st1 f s t e).stops ∙ q
 
 does_quiet : (i : Listed) (s t : State) → s.stops ≡ never → does i s ≡ Went t → t.stops ≡ never

@@ -32,7 +32,7 @@ use Rattle.guest_types.proofs.AtWidths.{width_bytes-lanes}
 use Rattle.guest_types.proofs.Merges.{IsMemory-merged}
 use Rattle.guest_types.proofs.Stores.{IsMemory-stored}
 use Rattle.sve_code.specs.Table as sve
-use Rattle.sve_code.specs.Table.{Name, pd, size, pn, pg4, pm, pg_low, pm_low, zd, imm5, zn, zm, zdn, zm_low, pg, zt, dtype, ptrue, pfalse, whilelo, ptest, p_and, p_bic, p_eor, p_orr, p_ands, brka, brkb, rdffr, rdffr_z, setffr, wrffr, cntb, cnth, cntw, cntd, incp, cntp, dup, index_row, sel, z_add, z_sub, z_and, z_orr, z_eor, z_bic, lsl_imm, lsr_imm, asr_imm, m_add, m_sub, m_smax, m_umax, m_smin, m_umin, m_mul, m_orr, m_eor, m_and, m_abs, m_neg, m_not, sxtb, uxtb, sxth, uxth, sxtw, uxtw, uaddv, smaxv, umaxv, sminv, uminv, orv, eorv, andv, cmphs, cmphi, cmpge, cmpgt, cmpeq, cmpne, ld1, ldff1, ldnf1, st1}
+use Rattle.sve_code.specs.Table.{Name, pd, size, pn, pg4, pm, pg_low, pm_low, zd, imm5, zn, zm, zdn, zm_low, pg, zt, dtype, ptrue, pfalse, whilelo, ptest, p_and, p_bic, p_eor, p_orr, p_ands, brka, brkb, rdffr, rdffr_z, setffr, wrffr, cntb, cnth, cntw, cntd, incp, cntp, dup, index_row, sel, z_add, z_sub, z_and, z_orr, z_eor, z_bic, lsl_imm, lsr_imm, asr_imm, m_add, m_sub, m_smax, m_umax, m_smin, m_umin, m_mul, m_orr, m_eor, m_and, m_abs, m_neg, m_not, sxtb, uxtb, sxth, uxth, sxtw, uxtw, uaddv, smaxv, umaxv, sminv, uminv, orv, eorv, andv, cmphs, cmphi, cmpge, cmpgt, cmpeq, cmpne, ld1, ldff1, ldnf1, gld1b, gld1h, gld1w, gld1d, gld1sb, gld1sh, gld1sw, st1}
 use Rattle.sve_code.specs.Numbers.{shift_size, left_amount, right_amount}
 use Rattle.machine_model.specs.Arithmetic.{sum}
 use Rattle.word_rows.specs.Field.{Field, rn, rm, rd}
@@ -40,7 +40,7 @@ use Rattle.machine_model.specs.Run.{start_of, start, free_start}
 use Rattle.machine_model.specs.Load.{Image}
 use Rattle.machine_model.specs.Machine.{State, Went, x_at, with_x, x_or_sp, z_at, with_z, p_at, with_p, with_ffr, with_flags, jump, next}
 use Rattle.machine_model.specs.States.{IsVector, IsPredicate, IsState, CanStart}
-use Rattle.machine_model.specs.VectorEffects.{reduced, vector_act, put_lanes, put_truths, put_tested, put_x, sized, do_logic, do_break, do_binary, do_shift, shift_value, do_merge, do_unary, do_reduce, do_compare, load_mask, lane_places, after_load, after_early, after_store, with_early}
+use Rattle.machine_model.specs.VectorEffects.{reduced, vector_act, put_lanes, put_truths, put_tested, put_x, sized, do_logic, do_break, do_binary, do_shift, shift_value, do_merge, do_unary, do_reduce, do_compare, load_mask, lane_places, gather_places, after_load, after_early, after_store, with_early}
 
 -- ---- registers
 
@@ -543,4 +543,11 @@ went_keeps cmpne f s t small h e = compare_keeps compares.Ne f s t h e
 went_keeps ld1 f s t small h e = let form = load_form (f dtype) in plain_keeps form (load_mask form f s) (lane_places form f (x_at s (f rm)) s) (f zt) s t h e
 went_keeps ldff1 f s t small h e = let form = load_form (f dtype) in first_keeps form (load_mask form f s) (lane_places form f (x_at s (f rm)) s) (f zt) s t h e
 went_keeps ldnf1 f s t small h e = let form = load_form (f dtype) in non_keeps form (load_mask form f s) (lane_places form f 0 s) (f zt) s t h e
+went_keeps gld1b f s t small h e = plain_keeps (load_form 3) (load_mask (load_form 3) f s) (gather_places f s) (f zt) s t h e
+went_keeps gld1h f s t small h e = plain_keeps (load_form 7) (load_mask (load_form 7) f s) (gather_places f s) (f zt) s t h e
+went_keeps gld1w f s t small h e = plain_keeps (load_form 11) (load_mask (load_form 11) f s) (gather_places f s) (f zt) s t h e
+went_keeps gld1d f s t small h e = plain_keeps (load_form 15) (load_mask (load_form 15) f s) (gather_places f s) (f zt) s t h e
+went_keeps gld1sb f s t small h e = plain_keeps (load_form 12) (load_mask (load_form 12) f s) (gather_places f s) (f zt) s t h e
+went_keeps gld1sh f s t small h e = plain_keeps (load_form 8) (load_mask (load_form 8) f s) (gather_places f s) (f zt) s t h e
+went_keeps gld1sw f s t small h e = plain_keeps (load_form 4) (load_mask (load_form 4) f s) (gather_places f s) (f zt) s t h e
 went_keeps st1 f s t small h e = store_keeps (f sve.memory) (f sve.element) (x_or_sp s (f rn)) (x_at s (f rm)) (p_at s (f pg)) (z_at s (f zt)) s t h e

@@ -3,7 +3,7 @@
 use Rattle.std.specs.Prelude.{◌≡◌, ◌≢◌, ℕ, ◌+◌, ◌%◌, ◌^◌, ◌<◌, Bool, true, false, List, nat_eq, Option, Some, None, option_map}
 use Rattle.guest_types.specs.Memory.{Memory, can_read, can_write, fetched}
 use Rattle.word_rows.specs.Field.{Field, rd}
-use Rattle.sve_code.specs.Table.{Name, pd, zd, zdn, zt, ptrue, pfalse, whilelo, ptest, p_and, p_bic, p_eor, p_orr, p_ands, brka, brkb, rdffr, rdffr_z, setffr, wrffr, cntb, cnth, cntw, cntd, incp, cntp, dup, index_row, sel, z_add, z_sub, z_and, z_orr, z_eor, z_bic, lsl_imm, lsr_imm, asr_imm, m_add, m_sub, m_smax, m_umax, m_smin, m_umin, m_mul, m_orr, m_eor, m_and, m_abs, m_neg, m_not, sxtb, uxtb, sxth, uxth, sxtw, uxtw, uaddv, smaxv, umaxv, sminv, uminv, orv, eorv, andv, cmphs, cmphi, cmpge, cmpgt, cmpeq, cmpne, ld1, ldff1, ldnf1, st1}
+use Rattle.sve_code.specs.Table.{Name, pd, zd, zdn, zt, ptrue, pfalse, whilelo, ptest, p_and, p_bic, p_eor, p_orr, p_ands, brka, brkb, rdffr, rdffr_z, setffr, wrffr, cntb, cnth, cntw, cntd, incp, cntp, dup, index_row, sel, z_add, z_sub, z_and, z_orr, z_eor, z_bic, lsl_imm, lsr_imm, asr_imm, m_add, m_sub, m_smax, m_umax, m_smin, m_umin, m_mul, m_orr, m_eor, m_and, m_abs, m_neg, m_not, sxtb, uxtb, sxth, uxth, sxtw, uxtw, uaddv, smaxv, umaxv, sminv, uminv, orv, eorv, andv, cmphs, cmphi, cmpge, cmpgt, cmpeq, cmpne, ld1, ldff1, ldnf1, gld1b, gld1h, gld1w, gld1d, gld1sb, gld1sh, gld1sw, st1}
 use Rattle.a64_code.specs.Table as a64
 use Rattle.machine_model.specs.Effects.{arg}
 use Rattle.machine_model.specs.Machine.{State, x_at, z_at, p_at}
@@ -67,6 +67,13 @@ z_field andv = Some zd
 z_field ld1 = Some zt
 z_field ldff1 = Some zt
 z_field ldnf1 = Some zt
+z_field gld1b = Some zt
+z_field gld1h = Some zt
+z_field gld1w = Some zt
+z_field gld1d = Some zt
+z_field gld1sb = Some zt
+z_field gld1sh = Some zt
+z_field gld1sw = Some zt
 z_field _ = None
 
 -- the same for predicate registers and general registers

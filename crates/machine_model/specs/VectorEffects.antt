@@ -17,14 +17,14 @@ use Rattle.guest_types.specs.declared.operation.ReduceOp.TheVariants as reduce_o
 use Rattle.guest_types.specs.declared.operation.LaneCompare.{LaneCompare}
 use Rattle.guest_types.specs.declared.operation.LaneCompare.TheVariants as compares
 use Rattle.guest_types.specs.Length.{width_bytes, lanes}
-use Rattle.guest_types.specs.Elements.{register, predicate, active, bit, both, pred_test}
+use Rattle.guest_types.specs.Elements.{register, predicate, at, active, bit, both, pred_test}
 use Rattle.guest_types.specs.Lanes.{sign_extended, dup_at, index_at, select_at, binary_at, shift_at, merge_at, merge_one_at, reduce_of, compare_at, all_at, while_at, logic_at, brk_at, count_of}
 use Rattle.guest_types.specs.LaneMemory.{LoadForm, Loaded, StoredLanes, AllStored, StoreFault, load_form, width_of_size, lane_address, plain_load, store_of}
 use Rattle.guest_types.specs.EarlyLoads.{EarlyLoad, first_fault_early, non_fault_early}
 use Rattle.word_rows.specs.Field.{Field, rn, rm, rd}
 use Rattle.word_rows.specs.Row.{Instruction}
 use Rattle.sve_code.specs.Numbers.{shift_size, left_amount, right_amount}
-use Rattle.sve_code.specs.Table.{Name, row, pd, size, pn, pg4, pm, pg_low, pm_low, zd, imm5, zn, zm, imm3, tszl, tszh, zdn, zm_low, pg, zt, dtype, element, memory, ptrue, pfalse, whilelo, ptest, p_and, p_bic, p_eor, p_orr, p_ands, brka, brkb, rdffr, rdffr_z, setffr, wrffr, cntb, cnth, cntw, cntd, incp, cntp, dup, index_row, sel, z_add, z_sub, z_and, z_orr, z_eor, z_bic, lsl_imm, lsr_imm, asr_imm, m_add, m_sub, m_smax, m_umax, m_smin, m_umin, m_mul, m_orr, m_eor, m_and, m_abs, m_neg, m_not, sxtb, uxtb, sxth, uxth, sxtw, uxtw, uaddv, smaxv, umaxv, sminv, uminv, orv, eorv, andv, cmphs, cmphi, cmpge, cmpgt, cmpeq, cmpne, ld1, ldff1, ldnf1, st1}
+use Rattle.sve_code.specs.Table.{Name, row, pd, size, pn, pg4, pm, pg_low, pm_low, zd, imm5, zn, zm, imm3, tszl, tszh, zdn, zm_low, pg, zt, dtype, element, memory, ptrue, pfalse, whilelo, ptest, p_and, p_bic, p_eor, p_orr, p_ands, brka, brkb, rdffr, rdffr_z, setffr, wrffr, cntb, cnth, cntw, cntd, incp, cntp, dup, index_row, sel, z_add, z_sub, z_and, z_orr, z_eor, z_bic, lsl_imm, lsr_imm, asr_imm, m_add, m_sub, m_smax, m_umax, m_smin, m_umin, m_mul, m_orr, m_eor, m_and, m_abs, m_neg, m_not, sxtb, uxtb, sxth, uxth, sxtw, uxtw, uaddv, smaxv, umaxv, sminv, uminv, orv, eorv, andv, cmphs, cmphi, cmpge, cmpgt, cmpeq, cmpne, ld1, ldff1, ldnf1, gld1b, gld1h, gld1w, gld1d, gld1sb, gld1sh, gld1sw, st1}
 use Rattle.machine_model.specs.declared.outcome.StopKind.TheVariants.{Read, Write}
 use Rattle.machine_model.specs.Arithmetic.{sum}
 use Rattle.machine_model.specs.Machine.{State, Step, Went, Stopped, x_at, with_x, x_or_sp, z_at, with_z, p_at, with_p, with_ffr, with_flags, next}
@@ -135,6 +135,16 @@ plain_of f s =
     let form = load_form (f dtype) in
     plain_load form s.memory (load_mask form f s) (lane_places form f (x_at s (f rm)) s) (lanes s.vl form.element) s.ffr
 
+-- the address of each element of a gather: the base and the element of the vector of offsets
+abbrev pub gather_places : (Field → ℕ) → State → ℕ → ℕ
+gather_places f s e = sum (x_or_sp s (f rn)) (at D (z_at s (f zm)) e)
+
+-- a gather reads as LD1 of a form does, at these addresses
+abbrev pub gather_of : (dtype : ℕ) → (Field → ℕ) → State → Result Loaded AccessFault
+gather_of dtype f s =
+    let form = load_form dtype in
+    plain_load form s.memory (load_mask form f s) (gather_places f s) (lanes s.vl form.element) s.ffr
+
 abbrev pub after_store : StoredLanes → State → Step
 after_store (AllStored memory) s = Went (next (record s { memory = memory }))
 after_store (StoreFault fault memory) s = Stopped Write s.pc fault.address memory
@@ -214,6 +224,13 @@ vector_act cmpne f s = do_compare compares.Ne f s
 vector_act ld1 f s = after_load (plain_of f s) (f zt) s
 vector_act ldff1 f s = after_early (first_fault_of f s) (f zt) s
 vector_act ldnf1 f s = Went (next (with_early s (f zt) (non_fault_of f s)))
+vector_act gld1b f s = after_load (gather_of 3 f s) (f zt) s
+vector_act gld1h f s = after_load (gather_of 7 f s) (f zt) s
+vector_act gld1w f s = after_load (gather_of 11 f s) (f zt) s
+vector_act gld1d f s = after_load (gather_of 15 f s) (f zt) s
+vector_act gld1sb f s = after_load (gather_of 12 f s) (f zt) s
+vector_act gld1sh f s = after_load (gather_of 8 f s) (f zt) s
+vector_act gld1sw f s = after_load (gather_of 4 f s) (f zt) s
 vector_act st1 f s =
     after_store (store_of (f memory) (f element) (x_or_sp s (f rn)) (x_at s (f rm)) s.vl (p_at s (f pg)) (z_at s (f zt)) s.memory) s
 
