@@ -9,5 +9,6 @@ pub mod ReadLaws
 pub mod SpanWrites
 pub mod StopLaws
 pub mod StoreLaws
+pub mod GatherLaws
 pub mod WriteLaws
 pub mod Places

@@ -2,3 +2,4 @@ pub mod Loads
 pub mod Readings
 pub mod StopLists
 pub mod Writings
+pub mod Gathers

@@ -7,6 +7,7 @@ mod early;
 mod ffr;
 mod fill;
 mod full;
+pub mod gather;
 mod keep;
 pub mod load;
 mod range;

@@ -3,6 +3,7 @@
 ghost use Rattle.std.specs.Prelude.{◌≤◌, ◌<◌};
 ghost use Rattle.guest_types.specs.Length.{IsLength, all_lanes};
 
+use crate::gather::gather;
 use crate::load::load;
 use crate::store::store;
 use crate::suppress::Suppress;
@@ -88,6 +89,38 @@ fn second(pages: &Pages, dtype: u32, width: Width) -> Result<u64, AccessFault>
 {
     let loaded = read(pages, dtype, 0x1ff0, 0, 128, 255);
     lane(&loaded, width, 1)
+}
+
+// A gather of signed bytes of two elements, under a mask that repeats a byte.
+fn gathered(
+    pages: &Pages,
+    base: u64,
+    first: u64,
+    second: u64,
+    mask: u8,
+) -> Result<ZReg, AccessFault> {
+    let mut offsets = ZReg::zero();
+    offsets.put(Width::D, 0, first);
+    offsets.put(Width::D, 1, second);
+    let pg = PReg { bits: [mask; 32] };
+    gather(pages, LoadRow { dtype: 12 }, base, &offsets, vl(128), &pg)
+}
+
+#[test]
+fn gathers(rt: HostRuntime) -> Result<(), Fail> {
+    let pages = built(rt.alloc())?;
+    let both = gathered(&pages, 0x1ff0, 0x0f, 0xffff_ffff_ffff_e011, 255);
+    assert!(rt; lane(&both, Width::D, 0) == Ok(0xffff_ffff_ffff_ff8f));
+    assert!(rt; lane(&both, Width::D, 1) == Ok(0xffff_ffff_ffff_ff81));
+    let none = gathered(&pages, 0x1ff0, 0, 0x2000, 0xfe);
+    assert!(rt; lane(&none, Width::D, 0) == Ok(0) && lane(&none, Width::D, 1) == Ok(0));
+    let unmapped = gathered(&pages, 0x1ff0, 0, 0x2000, 1);
+    let fault = AccessFault {
+        address: 0x3ff0,
+        write: false,
+    };
+    assert!(rt; lane(&unmapped, Width::D, 1) == Err(fault));
+    Ok(())
 }
 
 #[test]
