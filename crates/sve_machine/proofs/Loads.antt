@@ -1,5 +1,5 @@
 -- What a load leaves, of the right shape, and what the rows of loads and stores say of it.
-use Rattle.std.proofs.Common.{[], ◌∷◌, get_or, ◌≡◌, ℕ, Bool, List, Option, Some, None, Result, Ok, refl, sym, ap, ◌∙◌, subst}
+use Rattle.std.proofs.Common.{[], ◌∷◌, get_or, ◌≡◌, ℕ, Bool, List, Option, Some, None, Result, Ok, refl, Err, sym, ap, ap₂, ◌∙◌, subst}
 use Rattle.std.specs.Prelude.{slice_set}
 use Rattle.guest_types.specs.declared.memory.AccessFault.{AccessFault}
 use Rattle.guest_types.specs.declared.row.LoadMode.{LoadMode}
@@ -7,11 +7,12 @@ use Rattle.guest_types.specs.declared.row.LoadMode.TheVariants.{Plain, FirstFaul
 use Rattle.guest_types.specs.Length.{IsLength, width_bytes, lanes}
 use Rattle.guest_types.specs.Memory.{Memory}
 use Rattle.guest_types.specs.Elements.{active, first_true, both, register}
-use Rattle.guest_types.specs.LaneMemory.{store_of, LoadForm, load_form, lane_address, or_fault, fault_at, lane_faults, loaded_lane, kept_lane, is_clear, cleared_from}
+use Rattle.guest_types.specs.LaneMemory.{store_of, LoadForm, load_form, plain_load, lane_address, or_fault, fault_at, lane_faults, loaded_lane, kept_lane, is_clear, cleared_from}
 use Rattle.guest_types.specs.EarlyLoads.{StopList, EarlyLoad, unless_fault, early_load, later_than, suppressed_at, stop_at, non_fault_early}
 use Rattle.machine_model.specs.States.{IsVector, IsPredicate}
 use Rattle.machine_model.proofs.StateSteps.{vector_made, fills, cleared_is}
 use Rattle.lane_memory.specs.Loads.{LoadLeft, left_by_plain, left_by_early, left_by_first, left_by, load_of}
+use Rattle.lane_memory.specs.Gathers.{gather_address, gather_of}
 use Rattle.a64_machine.specs.Cores.{VectorState, state_of}
 use Rattle.guest_types.specs.declared.register.ZReg.{ZReg}
 use Rattle.guest_types.specs.declared.predicate.PReg.{PReg}
@@ -20,9 +21,12 @@ use Rattle.machine_model.specs.Machine.{x_at, x_or_sp}
 use Rattle.machine_model.specs.VectorEffects.{do_vector}
 use Rattle.machine_model.specs.VectorEffects as effects
 use Rattle.a64_machine.specs.declared.core_state.Core.{Core}
-use Rattle.sve_machine.specs.VectorStates.{IsVectorState, vector_state_of, p_bits, p_of, z_of, put_load}
+use Rattle.sve_machine.specs.VectorStates.{IsVectorState, vector_state_of, z_bytes, p_bits, p_of, z_of, put_load}
 use Rattle.sve_code.specs.Table.{ld1, ldff1, ldnf1, st1}
-use Rattle.sve_machine.specs.Rows.{after_load}
+use Rattle.sve_code.specs.declared.GatherOp.{GatherOp}
+use Rattle.sve_code.specs.declared.GatherOp.TheVariants as gather_ops
+use Rattle.sve_code.specs.View.{load_gather_name}
+use Rattle.sve_machine.specs.Rows.{after_load, gather_dtype}
 use Rattle.sve_machine.proofs.LaneRows.{row_of}
 use Rattle.sve_machine.proofs.VectorStateLaws.{z_set, z_put}
 
@@ -71,6 +75,11 @@ load_shape mode dtype base index vl memory stops pg ffr left h p e =
     let form = load_form dtype in
     mode_shape mode vl form memory stops (active form.element pg) (lane_address base index (width_bytes form.memory)) ffr left h p e
 
+pub gather_shape : (dtype base vl : ℕ) (memory : Memory) (stops : StopList) (offsets pg ffr : List ℕ) (left : LoadLeft) → IsLength vl → IsPredicate vl ffr → gather_of dtype base vl memory stops offsets pg ffr ≡ Ok left → IsLeft vl left
+gather_shape dtype base vl memory stops offsets pg ffr left h p e =
+    let form = load_form dtype in
+    mode_shape Plain vl form memory stops (active form.element pg) (gather_address base offsets) ffr left h p e
+
 -- ---- the registers after a load
 
 pub load_put : (z : List ZReg) (p : List PReg) (ffr : PReg) (vl : ℕ) (stops : StopList) (ffr2 : PReg) (stops2 : StopList) (n : ℕ) (out : ZReg) → IsVectorState (vector_state_of z p ffr vl stops) → IsLeft vl (record { z = out.bytes; ffr = ffr2.bits; stops = stops2 }) → IsVectorState (vector_state_of (slice_set z n out) p ffr2 vl stops2)
@@ -84,6 +93,19 @@ load_done mode dtype base index memory z p ffr vl stops g n ffr2 stops2 out e =
     ap (λ m. put_load (load_of mode dtype base index vl memory stops m ffr.bits) n r) (get_or-map p_bits p g (record { bits = [] }))
     ∙ ap (λ o. put_load o n r) e
     ∙ ap Ok (sym (z_set z p ffr2 vl stops2 n out))
+
+pub gather_done : (dtype base : ℕ) (memory : Memory) (z : List ZReg) (p : List PReg) (ffr : PReg) (vl : ℕ) (stops : StopList) (m g n : ℕ) (out : ZReg) → gather_of dtype base vl memory stops (get_or z m (record { bytes = [] })).bytes (get_or p g (record { bits = [] })).bits ffr.bits ≡ Ok (record { z = out.bytes; ffr = ffr.bits; stops = stops }) → let r = vector_state_of z p ffr vl stops in put_load (gather_of dtype base r.vl memory r.stops (z_of r m) (p_of r g) r.ffr) n r ≡ Ok (vector_state_of (slice_set z n out) p ffr vl stops)
+gather_done dtype base memory z p ffr vl stops m g n out e =
+    let r = vector_state_of z p ffr vl stops in
+    ap₂ (λ o m. put_load (gather_of dtype base vl memory stops o m ffr.bits) n r) (get_or-map z_bytes z m (record { bytes = [] })) (get_or-map p_bits p g (record { bits = [] }))
+    ∙ ap (λ o. put_load o n r) e
+    ∙ ap Ok (sym (z_set z p ffr vl stops n out))
+
+pub gather_not_done : (dtype base : ℕ) (memory : Memory) (z : List ZReg) (p : List PReg) (ffr : PReg) (vl : ℕ) (stops : StopList) (m g n : ℕ) (fault : AccessFault) → gather_of dtype base vl memory stops (get_or z m (record { bytes = [] })).bytes (get_or p g (record { bits = [] })).bits ffr.bits ≡ Err fault → let r = vector_state_of z p ffr vl stops in put_load (gather_of dtype base r.vl memory r.stops (z_of r m) (p_of r g) r.ffr) n r ≡ Err fault
+gather_not_done dtype base memory z p ffr vl stops m g n fault e =
+    let r = vector_state_of z p ffr vl stops in
+    ap₂ (λ o m. put_load (gather_of dtype base vl memory stops o m ffr.bits) n r) (get_or-map z_bytes z m (record { bytes = [] })) (get_or-map p_bits p g (record { bits = [] }))
+    ∙ ap (λ o. put_load o n r) e
 
 -- ---- what the rows say
 
@@ -116,6 +138,25 @@ first_row zt rn pg rm dtype r core memory =
 
 pub non_row : (zt rn pg dtype : ℕ) (r : VectorState) (core : Core) (memory : Memory) → let s = state_of core memory r in do_vector (row_of ldnf1 (zt ∷ rn ∷ pg ∷ dtype ∷ [])) s ≡ after_load (put_load (load_of NonFault dtype (x_or_sp s rn) 0 r.vl memory r.stops (p_of r pg) r.ffr) zt r) core memory
 non_row zt rn pg dtype r core memory = refl
+
+-- a gather at its operands
+gathered_is : (zt rn pg zm dtype : ℕ) (r : VectorState) (core : Core) (memory : Memory) → let s = state_of core memory r in let form = load_form dtype in effects.after_load (plain_load form memory (active form.element (p_of r pg)) (gather_address (x_or_sp s rn) (z_of r zm)) (lanes r.vl form.element) r.ffr) zt s ≡ after_load (put_load (gather_of dtype (x_or_sp s rn) r.vl memory r.stops (z_of r zm) (p_of r pg) r.ffr) zt r) core memory
+gathered_is zt rn pg zm dtype r core memory =
+    let s = state_of core memory r in
+    let form = load_form dtype in
+    let on = active form.element (p_of r pg) in
+    let f = gather_address (x_or_sp s rn) (z_of r zm) in
+    let n = lanes r.vl form.element in
+    plain_is (fault_at form memory f (first_true (both on (lane_faults form memory f)) n 0)) (register (width_bytes form.element) (loaded_lane form memory on f) n) r zt core memory
+
+pub gather_row : (op : GatherOp) (zt rn pg zm : ℕ) (r : VectorState) (core : Core) (memory : Memory) → let s = state_of core memory r in do_vector (row_of (load_gather_name op) (zt ∷ rn ∷ pg ∷ zm ∷ [])) s ≡ after_load (put_load (gather_of (gather_dtype op) (x_or_sp s rn) r.vl memory r.stops (z_of r zm) (p_of r pg) r.ffr) zt r) core memory
+gather_row gather_ops.Ld1b zt rn pg zm r core memory = gathered_is zt rn pg zm 3 r core memory
+gather_row gather_ops.Ld1h zt rn pg zm r core memory = gathered_is zt rn pg zm 7 r core memory
+gather_row gather_ops.Ld1w zt rn pg zm r core memory = gathered_is zt rn pg zm 11 r core memory
+gather_row gather_ops.Ld1d zt rn pg zm r core memory = gathered_is zt rn pg zm 15 r core memory
+gather_row gather_ops.Ld1sb zt rn pg zm r core memory = gathered_is zt rn pg zm 12 r core memory
+gather_row gather_ops.Ld1sh zt rn pg zm r core memory = gathered_is zt rn pg zm 8 r core memory
+gather_row gather_ops.Ld1sw zt rn pg zm r core memory = gathered_is zt rn pg zm 4 r core memory
 
 -- ST1 at its operands
 pub store_row : (zt rn pg rm size msz : ℕ) (r : VectorState) (core : Core) (memory : Memory) → let s = state_of core memory r in do_vector (row_of st1 (zt ∷ rn ∷ pg ∷ rm ∷ size ∷ msz ∷ [])) s ≡ effects.after_store (store_of msz size (x_or_sp s rn) (x_at s rm) r.vl (p_of r pg) (z_of r zt) memory) s

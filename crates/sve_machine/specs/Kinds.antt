@@ -1,6 +1,6 @@
 -- Kinds of SVE instructions.
 use Rattle.sve_code.specs.declared.Sve.{Sve}
-use Rattle.sve_code.specs.declared.Sve.TheVariants.{Ptrue, Pfalse, Whilelo, Ptest, PredicateLogical, Break, Rdffr, RdffrPredicated, Setffr, Wrffr, ElementCount, Incp, Cntp, DupScalar, IndexScalarImmediate, Sel, AddSub, Bitwise, ShiftImmediate, BinaryPredicated, UnaryPredicated, ExtendByte, ExtendHalfword, ExtendWord, Reduction, CompareVectors, ContiguousLoad, FirstFaultLoad, NonFaultLoad, ContiguousStore}
+use Rattle.sve_code.specs.declared.Sve.TheVariants.{Ptrue, Pfalse, Whilelo, Ptest, PredicateLogical, Break, Rdffr, RdffrPredicated, Setffr, Wrffr, ElementCount, Incp, Cntp, DupScalar, IndexScalarImmediate, Sel, AddSub, Bitwise, ShiftImmediate, BinaryPredicated, UnaryPredicated, ExtendByte, ExtendHalfword, ExtendWord, Reduction, CompareVectors, ContiguousLoad, FirstFaultLoad, NonFaultLoad, GatherLoad, ContiguousStore}
 
 -- it computes a vector register
 abbrev pub IsOnLanes : Sve → Type 0
@@ -33,6 +33,7 @@ IsOnLanes (CompareVectors a b c d e f) = ⊥
 IsOnLanes (ContiguousLoad a b c d e) = ⊥
 IsOnLanes (FirstFaultLoad a b c d e) = ⊥
 IsOnLanes (NonFaultLoad a b c d) = ⊥
+IsOnLanes (GatherLoad a b c d e) = ⊥
 IsOnLanes (ContiguousStore a b c d e) = ⊥
 
 -- it computes the active elements of a vector register
@@ -66,6 +67,7 @@ IsOnActive (CompareVectors a b c d e f) = ⊥
 IsOnActive (ContiguousLoad a b c d e) = ⊥
 IsOnActive (FirstFaultLoad a b c d e) = ⊥
 IsOnActive (NonFaultLoad a b c d) = ⊥
+IsOnActive (GatherLoad a b c d e) = ⊥
 IsOnActive (ContiguousStore a b c d e) = ⊥
 
 -- it extends a part of each active element
@@ -99,6 +101,7 @@ IsExtension (CompareVectors a b c d e f) = ⊥
 IsExtension (ContiguousLoad a b c d e) = ⊥
 IsExtension (FirstFaultLoad a b c d e) = ⊥
 IsExtension (NonFaultLoad a b c d) = ⊥
+IsExtension (GatherLoad a b c d e) = ⊥
 IsExtension (ContiguousStore a b c d e) = ⊥
 
 -- it is no load and no store
@@ -132,4 +135,5 @@ IsOnRegisters (CompareVectors a b c d e f) = Unit {0}
 IsOnRegisters (ContiguousLoad a b c d e) = ⊥
 IsOnRegisters (FirstFaultLoad a b c d e) = ⊥
 IsOnRegisters (NonFaultLoad a b c d) = ⊥
+IsOnRegisters (GatherLoad a b c d e) = ⊥
 IsOnRegisters (ContiguousStore a b c d e) = ⊥

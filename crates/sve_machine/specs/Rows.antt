@@ -40,6 +40,8 @@ use Rattle.sve_code.specs.declared.ElementCountOp.{ElementCountOp}
 use Rattle.sve_code.specs.declared.ElementCountOp.TheVariants as element_count_ops
 use Rattle.sve_code.specs.declared.BreakOp.{BreakOp}
 use Rattle.sve_code.specs.declared.BreakOp.TheVariants as break_ops
+use Rattle.sve_code.specs.declared.GatherOp.{GatherOp}
+use Rattle.sve_code.specs.declared.GatherOp.TheVariants as gather_ops
 use Rattle.sve_code.specs.declared.Sve.{Sve}
 use Rattle.sve_code.specs.Numbers.{left_amount, right_amount}
 use Rattle.sve_code.specs.View.{instruction_view}
@@ -132,6 +134,16 @@ abbrev pub shift_count : ShiftImmediateOp → ℕ → ℕ
 shift_count shift_immediate_ops.Lsl value = left_amount value
 shift_count shift_immediate_ops.Lsr value = right_amount value
 shift_count shift_immediate_ops.Asr value = right_amount value
+
+-- the form in which a gather reads, by its number in the field dtype of other loads
+abbrev pub gather_dtype : GatherOp → ℕ
+gather_dtype gather_ops.Ld1b = 3
+gather_dtype gather_ops.Ld1h = 7
+gather_dtype gather_ops.Ld1w = 11
+gather_dtype gather_ops.Ld1d = 15
+gather_dtype gather_ops.Ld1sb = 12
+gather_dtype gather_ops.Ld1sh = 8
+gather_dtype gather_ops.Ld1sw = 4
 
 -- a load goes on with the registers that it leaves, or stops at its fault
 abbrev pub after_load : Result VectorState AccessFault → Core → Memory → Step

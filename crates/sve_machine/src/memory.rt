@@ -7,10 +7,13 @@ ghost use Rattle.sve_code.specs.declared.Sve.{Sve};
 ghost use Rattle.machine_model.specs.Answers.{IsAnswer};
 ghost use Rattle.machine_model.specs.Machine.{x_or_sp};
 ghost use Rattle.machine_model.specs.VectorEffects.{do_vector};
+ghost use Rattle.guest_types.specs.declared.length.Width.TheVariants.{D};
+ghost use Rattle.guest_types.specs.LaneMemory.{load_form};
 ghost use Rattle.lane_memory.specs.Loads.{load_of};
+ghost use Rattle.lane_memory.specs.Gathers.{gather_of};
 ghost use Rattle.a64_machine.specs.Cores.{state_of, said};
-ghost use Rattle.sve_machine.specs.VectorStates.{p_of, put_load};
-ghost use Rattle.sve_machine.specs.Rows.{after_load};
+ghost use Rattle.sve_machine.specs.VectorStates.{p_of, put_load, z_of};
+ghost use Rattle.sve_machine.specs.Rows.{after_load, gather_dtype};
 
 use crate::vectors::Vectors;
 use a64_machine::{Core, refused};
@@ -18,7 +21,7 @@ use guest_types::row::{LoadMode, LoadRow, StoreRow};
 use lane_memory::store::store;
 use machine_model::outcome::{Step, StopKind};
 use paged_memory::pages::Pages;
-use sve_code::{Dtype, GoverningReg, OffsetReg, Reg, StoreSizes, VectorReg};
+use sve_code::{Dtype, GatherOp, GoverningReg, OffsetReg, Reg, StoreSizes, VectorReg};
 
 // The form of a load.
 #[inline(always)]
@@ -173,6 +176,74 @@ pub fn non_fault_load(
         pg,
         answer,
     )
+}
+
+// The form in which a gather reads.
+#[inline(always)]
+fn gather_row(op: GatherOp) -> LoadRow
+    ensures dtype { result.dtype ≡ gather_dtype op }
+    ensures wide { (load_form result.dtype).element ≡ D }
+{
+    let dtype = match op {
+        GatherOp::Ld1b => 3,
+        GatherOp::Ld1h => 7,
+        GatherOp::Ld1w => 11,
+        GatherOp::Ld1d => 15,
+        GatherOp::Ld1sb => 12,
+        GatherOp::Ld1sh => 8,
+        GatherOp::Ld1sw => 4,
+    };
+    LoadRow { dtype }
+}
+
+// A gather from a base.
+#[inline(never)]
+fn gather(
+    core: &mut Core,
+    pages: &Pages,
+    vectors: &mut Vectors,
+    row: LoadRow,
+    zt: VectorReg,
+    base: u64,
+    zm: VectorReg,
+    pg: GoverningReg,
+    answer: &mut Step,
+) -> bool
+    requires wide { (load_form row.dtype).element ≡ D }
+    ensures { let r = vectors.old in
+        IsAnswer
+        (after_load (put_load (gather_of row.dtype base r.vl pages.now r.stops (z_of r zm.number)
+        (p_of r pg.number) r.ffr) zt.number r) core.old pages.now)
+        (said result answer.new) (state_of core.old pages.now r) (state_of core.new pages.now vectors.new) }
+{
+    match vectors.gather(pages, row, base, zm.number, zt.number, pg.number) {
+        Ok(()) => {
+            core.go_on();
+            true
+        }
+        Err(fault) => refused(core, StopKind::Read, fault, answer),
+    }
+}
+
+/// "LD1B (scalar plus vector)" and its like.
+pub fn gather_load(
+    core: &mut Core,
+    pages: &Pages,
+    vectors: &mut Vectors,
+    op: GatherOp,
+    zt: VectorReg,
+    rn: Reg,
+    pg: GoverningReg,
+    zm: VectorReg,
+    answer: &mut Step,
+) -> bool
+    ensures { let before = state_of core.old pages.now vectors.old in
+        IsAnswer (do_vector (instruction_view (Sve.GatherLoad op zt rn pg zm)) before) (said result answer.new) before
+        (state_of core.new pages.now vectors.new) }
+{
+    let base = core.register_or_sp(rn);
+    let row = gather_row(op);
+    gather(core, pages, vectors, row, zt, base, zm, pg, answer)
 }
 
 /// "ST1B (scalar plus scalar)" and its like. A stop leaves its lower active elements written.

@@ -12,7 +12,9 @@ ghost use Rattle.machine_model.specs.Answers.{IsAnswer};
 ghost use Rattle.sve_machine.specs.Kinds.{IsExtension, IsOnActive, IsOnLanes, IsOnRegisters};
 ghost use Rattle.sve_machine.specs.Rows.{RowLeaves};
 
-use crate::memory::{contiguous_load, contiguous_store, first_fault_load, non_fault_load};
+use crate::memory::{
+    contiguous_load, contiguous_store, first_fault_load, gather_load, non_fault_load,
+};
 use crate::vectors::Vectors;
 use crate::{lanes, predicates};
 use a64_machine::Core;
@@ -50,6 +52,9 @@ pub fn vector_goes(
         } => first_fault_load(core, pages, vectors, zt, rn, pg, rm, dtype, answer),
         Sve::NonFaultLoad { zt, rn, pg, dtype } => {
             non_fault_load(core, pages, vectors, zt, rn, pg, dtype, answer)
+        }
+        Sve::GatherLoad { op, zt, rn, pg, zm } => {
+            gather_load(core, pages, vectors, op, zt, rn, pg, zm, answer)
         }
         Sve::ContiguousStore {
             zt,

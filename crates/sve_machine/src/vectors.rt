@@ -12,6 +12,7 @@ use guest_types::predicate::PReg;
 use guest_types::register::ZReg;
 use guest_types::row::{LoadMode, LoadRow, StoreRow};
 use lane_arith::bank::{binary_in, merge_in, merge_one_in, select_in, shift_in};
+use lane_memory::gather::gather;
 use lane_memory::load::load_into;
 use lane_memory::suppress::Suppress;
 use lane_preds::test::is_all_true;
@@ -43,7 +44,10 @@ impl Vectors {
     ghost use Rattle.sve_machine.specs.VectorStates.{IsVectorState, zeros, z_of, p_of, put_z, put_p, put_ffr, put_lanes};
     ghost use Rattle.guest_types.specs.Length.{width_bits};
     ghost use Rattle.guest_types.specs.Lanes.{ShiftFits, source_bits, binary_at, merge_at, merge_one_at, shift_at, select_at};
+    ghost use Rattle.guest_types.specs.declared.length.Width.TheVariants.{D};
+    ghost use Rattle.guest_types.specs.LaneMemory.{load_form};
     ghost use Rattle.lane_memory.specs.Loads.{load_of};
+    ghost use Rattle.lane_memory.specs.Gathers.{gather_of};
     ghost use Rattle.sve_machine.specs.VectorStates.{put_load};
 
     /// Registers of zeros, and a stop list.
@@ -242,5 +246,38 @@ impl Vectors {
             &mut self.z[zt as usize],
         )?;
         Ok(())
+    }
+
+    /// Loads a vector register under a predicate register, from a base and the offsets in another vector register.
+    pub fn gather(
+        &mut self,
+        pages: &Pages,
+        row: LoadRow,
+        base: u64,
+        zm: u32,
+        zt: u32,
+        pg: u32,
+    ) -> Result<(), AccessFault>
+        requires wide { (load_form row.dtype).element ≡ D }
+        requires offsets { zm < 32 }
+        requires register { zt < 32 }
+        requires predicate { pg < 16 }
+        ensures done { OnOk result
+            (put_load (gather_of row.dtype base self.old.vl pages.now self.old.stops (z_of self.old zm)
+            (p_of self.old pg) self.old.ffr) zt self.old ≡ Ok self.new) }
+        ensures refused { IfErr result (λ fault.
+            put_load (gather_of row.dtype base self.old.vl pages.now self.old.stops (z_of self.old zm)
+            (p_of self.old pg) self.old.ffr) zt self.old ≡ Err fault) }
+        ensures unchanged { OnErr result (self.new ≡ self.old) }
+    {
+        let offsets = self.z[zm as usize];
+        let mask = self.p[pg as usize];
+        match gather(pages, row, base, &offsets, self.vl, &mask) {
+            Ok(z) => {
+                self.z[zt as usize] = z;
+                Ok(())
+            }
+            Err(fault) => Err(fault),
+        }
     }
 }
