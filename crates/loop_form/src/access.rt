@@ -48,8 +48,8 @@ pub fn offset(kernel: &Checked, index: &Expr) -> Option<i32>
     }
 }
 
-// The place of a parameter.
-fn place(params: &[Param], name: &str) -> Option<u32>
+/// The place of a parameter.
+pub fn place(params: &[Param], name: &str) -> Option<u32>
     requires { length params.now ≤ 1000 }
     ensures { result ≡ place_of name.now (parameters_of params.now) }
 {
