@@ -1,31 +1,126 @@
 //! Accesses of elements.
 
-ghost use Rattle.std.specs.Prelude.{◌≡◌, ◌/◌, pos};
+ghost use Rattle.std.specs.Prelude.{◌≡◌, ◌/◌, pos, is_none};
 ghost use Rattle.std.specs.List.{list_any};
 ghost use Rattle.guest_types.specs.Length.{width_bits};
-ghost use Rattle.kernel_tree.specs.Items.{loop_index};
+ghost use Rattle.loop_form.specs.Lanes.{lane_width_of};
+ghost use Rattle.loop_form.specs.Reaches.{reach_of};
 ghost use Rattle.loop_form.specs.View.{program, entry_of, entries_view};
-ghost use Rattle.dependence.specs.Classes.{is_computed, conflict, distance, is_near, is_carried, carried};
+ghost use Rattle.dependence.specs.Classes.{is_storing, stores_to, is_narrow, is_barred_read, is_barred, computed_index, conflict, distance, is_near, is_carried, carried};
 
+use crate::updates::has_break;
 use guest_types::length::Width;
 use kernel_tree::Checked;
-use loop_form::{Content, Entry, Stream, is_stream};
+use loop_form::{Content, Entry, Stream, entry_reach, is_stream, lane_width};
 
-fn is_computed_read(kernel: &Checked, entry: &Entry<'_>) -> bool
-    ensures { result ≡ is_computed (loop_index (program kernel.now)) (entry_of entry.now) }
+fn is_store_to(entry: &Entry<'_>, array: &str) -> bool
+    ensures { result ≡ stores_to array.now (entry_of entry.now) }
 {
     match entry.content {
-        Content::Read { index, .. } => !is_stream(kernel, index),
+        Content::Store { array: other, .. } => other == array,
         _ => false,
     }
 }
 
-/// Whether an element is read by a computed index.
-pub fn reads_computed(kernel: &Checked, entries: &[Entry<'_>]) -> bool
-    ensures { result ≡ list_any (is_computed (loop_index (program kernel.now))) (entries_view entries.now) }
+// Whether an item stores to an array.
+fn is_stored_to(entries: &[Entry<'_>], array: &str) -> bool
+    ensures { result ≡ list_any (stores_to array.now) (entries_view entries.now) }
 {
     for entry in entries {
-        if is_computed_read(kernel, entry) {
+        if is_store_to(entry, array) {
+            return true;
+        }
+    }
+    false
+}
+
+fn is_store(entry: &Entry<'_>) -> bool
+    ensures { result ≡ is_storing (entry_of entry.now) }
+{
+    matches!(entry.content, Content::Store { .. })
+}
+
+fn stores(entries: &[Entry<'_>]) -> bool
+    ensures { result ≡ list_any is_storing (entries_view entries.now) }
+{
+    for entry in entries {
+        if is_store(entry) {
+            return true;
+        }
+    }
+    false
+}
+
+fn is_narrow_lane(width: Width) -> bool
+    ensures { result ≡ is_narrow width }
+{
+    width.bits() < 64
+}
+
+// Whether the lanes are narrower than an address.
+#[tactic(auto, unfolding(loop_form::specs::View::program))]
+fn has_narrow_lanes(kernel: &Checked) -> bool
+    ensures { result ≡ is_narrow (lane_width_of (program kernel.now)) }
+{
+    is_narrow_lane(lane_width(kernel))
+}
+
+fn is_endless(kernel: &Checked, entry: &Entry<'_>) -> bool
+    ensures { result ≡ is_none (reach_of (program kernel.now) (entry_of entry.now)) }
+{
+    entry_reach(kernel, entry).is_none()
+}
+
+// What stands against a read of an array by a computed index.
+fn is_barred_from(
+    kernel: &Checked,
+    all: &[Entry<'_>],
+    following: &[Entry<'_>],
+    array: &str,
+    entry: &Entry<'_>,
+) -> bool
+    ensures { result ≡ is_barred_read (program kernel.now) (entries_view all.now) (entries_view following.now) array.now
+        (entry_of entry.now) }
+{
+    if has_narrow_lanes(kernel) {
+        return true;
+    }
+    if has_break(following) {
+        return true;
+    }
+    if is_stored_to(all, array) {
+        return true;
+    }
+    stores(all) && is_endless(kernel, entry)
+}
+
+fn is_barred_entry(
+    kernel: &Checked,
+    all: &[Entry<'_>],
+    following: &[Entry<'_>],
+    entry: &Entry<'_>,
+) -> bool
+    ensures { result ≡ is_barred (program kernel.now) (entries_view all.now) (entries_view following.now)
+        (entry_of entry.now) }
+{
+    match entry.content {
+        Content::Read { array, index } => {
+            !is_stream(kernel, index) && is_barred_from(kernel, all, following, array, entry)
+        }
+        _ => false,
+    }
+}
+
+/// Whether an element is read by a computed index where that is no gather: in lanes narrower than an address, before a
+/// `break`, from an array that the loop stores to, or from anywhere while it stores.
+#[tactic(auto, unfolding(crate::specs::Classes::computed_index))]
+pub fn reads_computed(kernel: &Checked, entries: &[Entry<'_>]) -> bool
+    ensures { let es = entries_view entries.now in result ≡ computed_index (program kernel.now) es es }
+{
+    let mut following = 0;
+    for entry in entries {
+        following += 1;
+        if is_barred_entry(kernel, entries, &entries[following..], entry) {
             return true;
         }
     }

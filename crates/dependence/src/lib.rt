@@ -10,4 +10,4 @@ pub mod used;
 
 pub use decide::class;
 pub use laws::{apart_is_tested, bounds_in_order};
-pub use used::Used;
+pub use used::{Extent, Used};

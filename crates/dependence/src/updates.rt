@@ -94,7 +94,8 @@ fn is_leaving(entry: &Entry<'_>) -> bool
     matches!(entry.content, Content::Plain(ItemKind::Break))
 }
 
-fn has_break(entries: &[Entry<'_>]) -> bool
+/// Whether an item leaves the loop.
+pub fn has_break(entries: &[Entry<'_>]) -> bool
     ensures { result ≡ list_any is_break (entries_view entries.now) }
 {
     for entry in entries {
