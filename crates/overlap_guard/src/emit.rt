@@ -3,16 +3,21 @@
 ghost use Rattle.std.specs.Prelude.{◌≡◌, ◌<◌, ◌+◌, List, ◌∷◌, ◌++◌, ◌||◌, OnOk};
 ghost use Rattle.std.specs.List.{list_any};
 ghost use Rattle.label_fix.specs.DraftRun as plain;
+ghost use Rattle.dependence.specs.declared.used.Extent.{Extent};
 ghost use Rattle.dependence.specs.Apart.{is_stored, used_of};
 ghost use Rattle.loop_form.specs.View.{program};
 ghost use Rattle.overlap_guard.specs.Guard as guard;
 ghost use Rattle.overlap_guard.specs.Guard.{AreFit};
 
-use crate::instructions::{begin, bound_at, compare, element_at, end, offset_at, top_of};
+use crate::instructions::{
+    begin, bound_at, compare, compare_ends, element_at, end, greater_end, offset_at, reach_at,
+    top_of,
+};
 use crate::laws::{fit_arrays, near_bound};
 use crate::used::{arrays, bound};
 use a64_code::{Cond, Reg};
-use dependence::Used;
+use dependence::{Extent, Used};
+use guest_types::length::Width;
 use kernel_tree::Checked;
 use label_fix::{BranchKind, Draft, Label};
 use std::alloc::AllocError;
@@ -26,6 +31,96 @@ fn register(place: u32) -> Reg
     Bits { number: place }
 }
 
+// The address of the greatest element in the iteration after the last.
+fn emit_bound(
+    draft: &mut Draft,
+    bound: Reg,
+    place: u32,
+    width: Width,
+    greatest: i32,
+) -> Result<(), AllocError>
+    requires { place < 32 }
+    ensures labels { OnOk result (draft.new.labels ≡ draft.old.labels) }
+    ensures code { OnOk result ((rest : List plain.Entry)
+        → draft.new.entries ++ rest ≡ draft.old.entries
+        ++ guard.extent_code bound.number place width (Extent.Streams greatest) rest) }
+{
+    draft.put(bound_at(bound, greatest))?;
+    draft.put(element_at(end(), register(place), width))?;
+    Ok(())
+}
+
+// The address at which a reach ends.
+fn emit_reach(
+    draft: &mut Draft,
+    d: Reg,
+    place: u32,
+    width: Width,
+    reach: u32,
+) -> Result<(), AllocError>
+    requires { place < 32 }
+    ensures labels { OnOk result (draft.new.labels ≡ draft.old.labels) }
+    ensures code { OnOk result ((rest : List plain.Entry)
+        → draft.new.entries ++ rest ≡ draft.old.entries ++ guard.reach_code d.number place width reach rest) }
+{
+    draft.put(reach_at(d, reach))?;
+    draft.put(element_at(d, register(place), width))?;
+    Ok(())
+}
+
+// The greater of the two.
+fn emit_both(
+    draft: &mut Draft,
+    bound: Reg,
+    place: u32,
+    width: Width,
+    greatest: i32,
+    reach: u32,
+) -> Result<(), AllocError>
+    requires { place < 32 }
+    ensures labels { OnOk result (draft.new.labels ≡ draft.old.labels) }
+    ensures code { OnOk result ((rest : List plain.Entry)
+        → draft.new.entries ++ rest ≡ draft.old.entries
+        ++ guard.extent_code bound.number place width (Extent.Both greatest reach) rest) }
+{
+    emit_bound(draft, bound, place, width, greatest)?;
+    emit_reach(draft, begin(), place, width, reach)?;
+    draft.put(compare_ends())?;
+    draft.put(greater_end())?;
+    Ok(())
+}
+
+// The end of a parameter's elements.
+fn emit_end(draft: &mut Draft, bound: Reg, u: Used) -> Result<(), AllocError>
+    requires { u.place < 32 }
+    ensures labels { OnOk result (draft.new.labels ≡ draft.old.labels) }
+    ensures code { OnOk result ((rest : List plain.Entry)
+        → draft.new.entries ++ rest ≡ draft.old.entries ++ guard.end_code bound.number u rest) }
+{
+    match u.extent {
+        Extent::Streams { greatest } => emit_bound(draft, bound, u.place, u.width, greatest),
+        Extent::Computed { reach } => emit_reach(draft, end(), u.place, u.width, reach),
+        Extent::Both { greatest, reach } => {
+            emit_both(draft, bound, u.place, u.width, greatest, reach)
+        }
+    }
+}
+
+// The test of an end with the beginning of a parameter's elements.
+fn emit_begin(draft: &mut Draft, ok: Label, v: Used) -> Result<(), AllocError>
+    requires second { v.place < 32 }
+    requires passed { ok < draft.old.labels }
+    ensures labels { OnOk result (draft.new.labels ≡ draft.old.labels) }
+    ensures code { OnOk result ((rest : List plain.Entry)
+        → draft.new.entries ++ rest ≡ draft.old.entries ++ guard.begin_code ok v rest) }
+{
+    draft.put(offset_at(v.least))?;
+    draft.put(element_at(begin(), register(v.place), v.width))?;
+    draft.put(compare())?;
+    draft.branch(BranchKind::If(Cond::Hs), ok)?;
+    Ok(())
+}
+
 fn emit_below(draft: &mut Draft, bound: Reg, ok: Label, u: Used, v: Used) -> Result<(), AllocError>
     requires first { u.place < 32 }
     requires second { v.place < 32 }
@@ -34,12 +129,22 @@ fn emit_below(draft: &mut Draft, bound: Reg, ok: Label, u: Used, v: Used) -> Res
     ensures code { OnOk result ((rest : List plain.Entry)
         → draft.new.entries ++ rest ≡ draft.old.entries ++ guard.below_code bound.number ok u v rest) }
 {
-    draft.put(bound_at(bound, u.greatest))?;
-    draft.put(element_at(end(), register(u.place), u.width))?;
-    draft.put(offset_at(v.least))?;
-    draft.put(element_at(begin(), register(v.place), v.width))?;
-    draft.put(compare())?;
-    draft.branch(BranchKind::If(Cond::Hs), ok)?;
+    emit_end(draft, bound, u)?;
+    emit_begin(draft, ok, v)?;
+    Ok(())
+}
+
+// The test of a parameter's elements, where there may be none.
+fn emit_empty(draft: &mut Draft, bound: Reg, ok: Label, u: Used) -> Result<(), AllocError>
+    requires register { u.place < 32 }
+    requires passed { ok < draft.old.labels }
+    ensures labels { OnOk result (draft.new.labels ≡ draft.old.labels) }
+    ensures code { OnOk result ((rest : List plain.Entry)
+        → draft.new.entries ++ rest ≡ draft.old.entries ++ guard.empty_code bound.number ok u rest) }
+{
+    if let Extent::Streams { .. } = u.extent {
+        emit_below(draft, bound, ok, u, u)?;
+    }
     Ok(())
 }
 
@@ -62,8 +167,8 @@ fn emit_tests(
 {
     emit_below(draft, bound, ok, u, v)?;
     emit_below(draft, bound, ok, v, u)?;
-    emit_below(draft, bound, ok, u, u)?;
-    emit_below(draft, bound, ok, v, v)?;
+    emit_empty(draft, bound, ok, u)?;
+    emit_empty(draft, bound, ok, v)?;
     draft.branch(BranchKind::Always, fail)?;
     draft.place(ok)?;
     Ok(())
