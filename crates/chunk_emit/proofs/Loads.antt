@@ -51,7 +51,7 @@ abbrev pub read_lane : Ty → Bool → ℕ → ℤ
 read_lane t true n = wrap t (pos n)
 read_lane t false n = pos 0
 
-read_does : (t : Ty) (q i : ℕ) (s : Lanes) (b : Bool) (o : Option ℕ) (n : ℕ)
+pub read_does : (t : Ty) (q i : ℕ) (s : Lanes) (b : Bool) (o : Option ℕ) (n : ℕ)
     → done (if b then load_effect (s.lane i) q (read_value t (elim o as (λ o. Result ℕ AccessFault) [ None ↦ Ok n | Some fault ↦ Err (record { address = fault; write = false }) ])) else Keeps (with_value (s.lane i) q (pos 0))) i s
     ≡ lane_out (b && is_some o) i (with_value (s.lane i) q (read_lane t b n)) s
 read_does t q i s true None n = refl

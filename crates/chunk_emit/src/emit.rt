@@ -15,10 +15,11 @@ ghost use Rattle.chunk_emit.specs.Writable.{IsPlace, IsWritable};
 ghost use Rattle.chunk_emit.specs.View.{AppendsPuts, layout_in, width_in};
 
 use crate::layout::LoopLayout;
-use crate::words::{base_register, index_register, index_word, load, store};
+use crate::words::{base_register, gather, index_register, index_shift, index_word, load, store};
+use guest_types::length::Width;
 use kernel_tree::{Ty, UpdateOp};
 use label_fix::{Draft, Word};
-use lane_emit::emit_item;
+use lane_emit::{emit_item, shift_left};
 use loop_form::{LoopItem, LoopOp, Source};
 use reductions::update_word;
 use std::alloc::{AllocError, Global};
@@ -87,6 +88,34 @@ fn emit_load(
     );
     emit_index(offset, draft)?;
     draft.put(word)?;
+    Ok(())
+}
+
+// A read at a computed index, in lanes of 64 bits.
+fn emit_gather(
+    layout: &LoopLayout<'_>,
+    item: u32,
+    mask: GoverningReg,
+    base: Source,
+    ty: Ty,
+    index: Source,
+    draft: &mut Draft,
+) -> Result<(), AllocError>
+    requires { layouts.base_of base < 32 }
+    ensures labels { OnOk result (draft.new.labels ≡ draft.old.labels) }
+    ensures code { let words = code.gather_code ty (layouts.z_of (layout_in layout.now) item) mask.number
+        (layouts.base_of base) ((layout_in layout.now).registers.source index) in
+        OnOk result (AppendsPuts (code.vectors words) draft.old draft.new) }
+{
+    let d = layout.registers.z(item);
+    let x = layout.registers.source(index);
+    let shift = index_shift(ty);
+    if shift == 0 {
+        draft.put(gather(ty, d, mask, base_register(base), x))?;
+    } else {
+        draft.put(Word::V(shift_left(Width::D, d, x, shift)))?;
+        draft.put(gather(ty, d, mask, base_register(base), d))?;
+    }
     Ok(())
 }
 
@@ -207,6 +236,12 @@ fn emit_op(
             offset,
             ..
         } => emit_load(layout, item, mask, base, ty, offset, draft)?,
+        LoopOp::Gather {
+            base,
+            ty: Some(ty),
+            index,
+            ..
+        } => emit_gather(layout, item, mask, base, ty, index, draft)?,
         LoopOp::Store {
             base,
             ty: Some(ty),

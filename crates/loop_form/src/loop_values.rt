@@ -1,18 +1,22 @@
 //! Lists what the items of expressions in a loop do.
 
 ghost use Rattle.std.specs.Prelude.{◌≡◌, ◌+◌, ◌≤◌, List, ℕ, ◌∷◌, ◌++◌, None, OnOk};
-ghost use Rattle.kernel_tree.specs.Plain.{Unary, Operation, Shift, Conversion, Choice, Both, Either, Not, name_of, term_of};
-ghost use Rattle.kernel_tree.specs.Items.{loop_index, stream_offset, term_size, index_items};
-ghost use Rattle.loop_form.specs.LoopItems.{Item, item, load_item, term_items};
+ghost use Rattle.kernel_tree.specs.Plain.{Element, Unary, Operation, Shift, Conversion, Choice, Both, Either, Not, name_of, term_of};
+ghost use Rattle.kernel_tree.specs.Items.{loop_index, term_size};
+ghost use Rattle.kernel_tree.specs.Typing.{index_type};
+ghost use Rattle.loop_form.specs.LoopItems.{Item, item, gather_item, term_items};
 ghost use Rattle.loop_form.specs.LoopView.{op_of, view, env_of, scope_of, AppendsValue, AppendsCondition};
-ghost use Rattle.loop_form.specs.Near.{IsNear, NearTerm};
+ghost use Rattle.loop_form.specs.Near.{NearTerm};
 ghost use Rattle.loop_form.specs.View.{program};
 
 use crate::access::offset;
 use crate::loop_item::{LoopItem, LoopOp};
 use crate::operands::{condition_item, source};
+use crate::reached::type_reach;
 use crate::size::expr_size;
-use crate::visible::{Visible, array_type_of, first_type, own_type, source_of};
+use crate::visible::{
+    Visible, array_type_of, first_type, index_source_of, index_type_of, own_type, source_of,
+};
 use kernel_tree::{BinaryOp, Checked, Expr, Name, Ty, UnaryOp};
 use std::alloc::AllocError;
 
@@ -70,7 +74,8 @@ pub fn list_value<'a>(
     Ok(())
 }
 
-// A read of an element by a stream index.
+// A read of an element.
+#[cycle(loop_values)]
 fn list_read<'a>(
     kernel: &Checked,
     names: &[Visible<'a>],
@@ -80,21 +85,58 @@ fn list_read<'a>(
     array: &'a Name,
     index: &'a Expr,
 ) -> Result<(), AllocError>
-    requires { IsNear (stream_offset (loop_index (program kernel.now)) (term_of index.now)) }
-    ensures { OnOk result ((taken : List (List ℕ)) (rest : List Item) → let i = loop_index
-        (program kernel.now) in view items.new.items ++ rest ≡ view items.old.items ++ load_item
-        (scope_of i names.now taken) mask (from + index_items i (term_of index.now))
-        (env_of names.now) (name_of array.now) (stream_offset i (term_of index.now)) rest) }
+    requires fits { from + term_size (loop_index (program kernel.now))
+        (Element (name_of array.now) (term_of index.now)) ≤ 1000 }
+    requires near { NearTerm (loop_index (program kernel.now))
+        (Element (name_of array.now) (term_of index.now)) }
+    ensures { OnOk result (AppendsValue (loop_index (program kernel.now)) names.now None mask from
+        (Element (name_of array.now) (term_of index.now)) items.old.items items.new.items) }
 {
-    if let Some(offset) = offset(kernel, index) {
-        let op = LoopOp::Load {
-            array: array.text(),
-            base: source_of(names, array.text()),
-            ty: array_type_of(names, array.text()),
-            offset,
-        };
-        append(items, from, mask, op)?;
+    match offset(kernel, index) {
+        Some(offset) => {
+            let op = LoopOp::Load {
+                array: array.text(),
+                base: source_of(names, array.text()),
+                ty: array_type_of(names, array.text()),
+                offset,
+            };
+            append(items, from, mask, op)?;
+        }
+        None => list_gather(kernel, names, items, mask, from, array, index)?,
     }
+    Ok(())
+}
+
+// A read at a computed index: what makes the index, and then the read.
+#[cycle(loop_values)]
+fn list_gather<'a>(
+    kernel: &Checked,
+    names: &[Visible<'a>],
+    items: &mut Vec<LoopItem<'a>>,
+    mask: Option<u32>,
+    from: u32,
+    array: &'a Name,
+    index: &'a Expr,
+) -> Result<(), AllocError>
+    requires fits { from + (term_size (loop_index (program kernel.now)) (term_of index.now) + 1) ≤ 1000 }
+    requires near { NearTerm (loop_index (program kernel.now)) (term_of index.now) }
+    ensures { OnOk result ((taken : List (List ℕ)) (rest : List Item) → let i = loop_index
+        (program kernel.now) in let scope = scope_of i names.now taken in
+        view items.new.items ++ rest ≡ view items.old.items ++ term_items
+        scope (index_type scope (term_of index.now)) mask from (env_of names.now) (term_of index.now)
+        (gather_item scope mask from (from + term_size i (term_of index.now))
+        (env_of names.now) (name_of array.now) (term_of index.now) ∷ rest)) }
+{
+    let want = index_type_of(names, index);
+    let op = LoopOp::Gather {
+        array: array.text(),
+        base: source_of(names, array.text()),
+        ty: array_type_of(names, array.text()),
+        reach: type_reach(index_source_of(names, index)),
+        index: source(kernel, names, want, from, index),
+    };
+    list_value(kernel, names, items, want, mask, from, index)?;
+    append(items, from + expr_size(kernel, index), mask, op)?;
     Ok(())
 }
 

@@ -31,8 +31,8 @@ fn is_unsigned(ty: Ty) -> bool
     matches!(ty, Ty::U8 | Ty::U16 | Ty::U32 | Ty::U64)
 }
 
-// Whether a cast leaves each value as it is.
-fn widens(from: Option<Ty>, to: Ty) -> bool
+/// Whether a cast leaves each value as it is.
+pub fn widens(from: Option<Ty>, to: Ty) -> bool
     ensures { result ≡ is_widened from to }
 {
     match from {
@@ -59,7 +59,8 @@ fn source(kernel: &Checked, last: u32, index: &Expr) -> Option<Ty>
     }
 }
 
-fn type_reach(ty: Option<Ty>) -> Option<u32>
+/// The reach of an index that comes from a type.
+pub fn type_reach(ty: Option<Ty>) -> Option<u32>
     ensures { result ≡ reach_of_type ty }
 {
     match ty {

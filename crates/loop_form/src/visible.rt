@@ -3,11 +3,12 @@
 ghost use Rattle.std.specs.Prelude.{◌≡◌, List, ℕ, Option, option_map, option_and_then};
 ghost use Rattle.std.specs.List.{find};
 ghost use Rattle.kernel_tree.specs.Plain.{term_of};
-ghost use Rattle.kernel_tree.specs.Typing.{has_name, binding_of, value_type, element_type, accumulator_type, first, own, side_type};
-ghost use Rattle.loop_form.specs.LoopItems.{source_at, array_type, accumulator_of};
+ghost use Rattle.kernel_tree.specs.Typing.{has_name, binding_of, value_type, element_type, accumulator_type, first, own, index_type, side_type};
+ghost use Rattle.loop_form.specs.LoopItems.{source_at, array_type, accumulator_of, index_source};
 ghost use Rattle.loop_form.specs.LoopView.{locals, env_of, scope_of};
 
 use crate::loop_item::Source;
+use crate::reached::widens;
 use kernel_tree::fault::Binding;
 use kernel_tree::{Expr, Ty};
 
@@ -133,5 +134,45 @@ pub fn own_type(names: &[Visible<'_>], expr: &Expr) -> Option<Ty>
         | Expr::And { .. }
         | Expr::Or { .. }
         | Expr::Not { .. } => None,
+    }
+}
+
+/// The type that is wanted of a computed index.
+pub fn index_type_of(names: &[Visible<'_>], expr: &Expr) -> Option<Ty>
+    ensures { (index : Option (List ℕ)) (taken : List (List ℕ)) → result ≡ index_type
+        (scope_of index names.now taken) (term_of expr.now) }
+{
+    first_type(own_type(names, expr), Some(Ty::U64))
+}
+
+/// The type that the value of a computed index comes from.
+pub fn index_source_of(names: &[Visible<'_>], expr: &Expr) -> Option<Ty>
+    ensures { (index : Option (List ℕ)) (taken : List (List ℕ)) → result ≡ index_source
+        (scope_of index names.now taken) (term_of expr.now) }
+{
+    match expr {
+        Expr::Cast { arg, ty } => {
+            if widens(own_type(names, arg), *ty) {
+                index_source_of(names, arg)
+            } else {
+                Some(*ty)
+            }
+        }
+        Expr::Var(name) => first_type(name_type(names, name.text()), Some(Ty::U64)),
+        Expr::Read { array, .. } => first_type(array_type_of(names, array.text()), Some(Ty::U64)),
+        Expr::Unary { arg, .. } | Expr::Shift { arg, .. } => index_type_of(names, arg),
+        Expr::Binary { left, right, .. } => first_type(
+            first_type(own_type(names, left), own_type(names, right)),
+            Some(Ty::U64),
+        ),
+        Expr::Select { yes, no, .. } => first_type(
+            first_type(own_type(names, yes), own_type(names, no)),
+            Some(Ty::U64),
+        ),
+        Expr::Lit(_)
+        | Expr::Compare { .. }
+        | Expr::And { .. }
+        | Expr::Or { .. }
+        | Expr::Not { .. } => Some(Ty::U64),
     }
 }

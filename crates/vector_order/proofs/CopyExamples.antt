@@ -57,4 +57,4 @@ apart_at p (suc zero) e le ne z v w = ne e
 apart_at p (suc (suc q)) e le ne z v w = omega arith
 
 copy-apart : StreamsApart copy args
-copy-apart = inr (inr (record { few = omega arith; based = λ p e. bases p (at_most_one p e); apart = λ p q s u ne z v w. apart_at p q (stored_one p s) (at_most_one q u) ne z v w }))
+copy-apart = inr (inr (record { few = omega arith; based = λ p e. bases p (at_most_one p e); apart = λ p q s u ne z v w. apart_at p q (stored_one p s) (at_most_one q u) ne z v w; read_based = λ r i. elim i [ ]; read_apart = λ p r s i ne z v w. elim i [ ] }))

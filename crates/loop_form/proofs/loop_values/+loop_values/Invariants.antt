@@ -12,6 +12,12 @@ decreases-list_value l = walk_of (term_of l.expr.now)
 abbrev pub decreases-list_one : goal.decreases-list_one
 decreases-list_one l = walk_of_one (term_of l.arg.now)
 
+abbrev pub decreases-list_read : goal.decreases-list_read
+decreases-list_read l = 3 * term_depth (term_of l.index.now) + 2
+
+abbrev pub decreases-list_gather : goal.decreases-list_gather
+decreases-list_gather l = walk_of_one (term_of l.index.now)
+
 abbrev pub decreases-list_unary : goal.decreases-list_unary
 decreases-list_unary l = 3 * term_depth (term_of l.arg.now) + 2
 
