@@ -46,6 +46,32 @@ unfolding greatest_of
 greatest-near c [] h k = h
 greatest-near c (s ∷ ss) h k = greatest-near (int_max c s.offset) ss (chosen-near (int_lt s.offset c) c s.offset h k.0) k.1
 
+-- ---- the least offset is not above the greatest
+
+lower-min : (b : Bool) (c d : ℤ) → int_lt d c ≡ b → cond b d c ≤ℤ c
+lower-min true c d e = grind (arith, ints)
+lower-min false c d e = omega (arith, ints)
+
+upper-max : (b : Bool) (c d : ℤ) → int_lt d c ≡ b → c ≤ℤ cond b c d
+upper-max true c d e = omega (arith, ints)
+upper-max false c d e = grind (arith, ints)
+
+in-order : (a b c : ℤ) → a ≤ℤ b → b ≤ℤ c → a ≤ℤ c
+in-order a b c h k = omega (arith, ints)
+
+least-low : (c : ℤ) (ss : List Stream) → least_of c ss ≤ℤ c
+unfolding least_of
+least-low c [] = omega (arith, ints)
+least-low c (s ∷ ss) = in-order (least_of (int_min c s.offset) ss) (int_min c s.offset) c (least-low (int_min c s.offset) ss) (lower-min (int_lt s.offset c) c s.offset refl)
+
+greatest-high : (c : ℤ) (ss : List Stream) → c ≤ℤ greatest_of c ss
+unfolding greatest_of
+greatest-high c [] = omega (arith, ints)
+greatest-high c (s ∷ ss) = in-order c (int_max c s.offset) (greatest_of (int_max c s.offset) ss) (upper-max (int_lt s.offset c) c s.offset refl) (greatest-high (int_max c s.offset) ss)
+
+least-first : (c : ℤ) (ss : List Stream) → least_of c ss ≤ℤ greatest_of c ss
+least-first c ss = in-order (least_of c ss) c (greatest_of c ss) (least-low c ss) (greatest-high c ss)
+
 -- ---- the parameters that the loop uses
 
 filtered-given : (p : Reach → Bool) (rs : List Reach) → AreReaches rs → AreReaches (filter p rs)
@@ -85,7 +111,7 @@ lower-none false c e = grind (arith, ints)
 reach-fit : (n : ℕ) (w : Width) (o : Option ℕ) (ss : List Stream) → n ≤ 7 → NearStreams ss → AllFit o → AreFit (with_reach n w o (used_by n w ss))
 reach-fit n w None [] h k g = tt
 reach-fit n w (Some r) [] h k g = ((h, omega arith, (g, omega (arith, ints))), tt)
-reach-fit n w None (s ∷ ss) h k g = ((h, least-near s.offset ss k.0 k.1, greatest-near s.offset ss k.0 k.1), tt)
+reach-fit n w None (s ∷ ss) h k g = ((h, least-near s.offset ss k.0 k.1, (greatest-near s.offset ss k.0 k.1, least-first s.offset ss)), tt)
 reach-fit n w (Some r) (s ∷ ss) h k g = ((h, lower-near (least_of s.offset ss) (least-near s.offset ss k.0 k.1), (greatest-near s.offset ss k.0 k.1, g, lower-none (int_lt (pos 0) (least_of s.offset ss)) (least_of s.offset ss) refl)), tt)
 
 at-fit : (ss : List Stream) (rs : List Reach) (n : ℕ) (h : Shape) → n ≤ 7 → NearStreams ss → AreReaches rs → AreFit (used_at ss rs n h)

@@ -1,21 +1,22 @@
 //! Emits the guard.
 
-ghost use Rattle.std.specs.Prelude.{◌≡◌, ◌<◌, ◌+◌, List, ◌∷◌, ◌++◌, ◌||◌, OnOk};
+ghost use Rattle.std.specs.Prelude.{◌≡◌, ◌<◌, ◌≤◌, ◌+◌, ◌*◌, pos, ◌*ℤ◌, unsigned_abs, List, ◌∷◌, ◌++◌, ◌||◌, OnOk};
 ghost use Rattle.std.specs.List.{list_any};
 ghost use Rattle.label_fix.specs.DraftRun as plain;
 ghost use Rattle.dependence.specs.declared.used.Extent.{Extent};
 ghost use Rattle.dependence.specs.Apart.{is_stored, used_of};
 ghost use Rattle.loop_form.specs.View.{program};
 ghost use Rattle.overlap_guard.specs.Guard as guard;
-ghost use Rattle.overlap_guard.specs.Guard.{AreFit};
+ghost use Rattle.overlap_guard.specs.Guard.{IsFit, AreFit};
+ghost use Rattle.word_rows.specs.Field.{flag_number};
+ghost use Rattle.a64_code.specs.View.{add_sub_imm_name};
+ghost use Rattle.guest_types.specs.Length.{width_bytes};
+ghost use Rattle.kernel_tree.specs.Limits.{most_offset};
 
-use crate::instructions::{
-    begin, bound_at, compare, compare_ends, element_at, end, greater_end, offset_at, reach_at,
-    top_of,
-};
+use crate::instructions::{bytes_at, compare, element_at, greater, part, step, tested, with_top};
 use crate::laws::{fit_arrays, near_bound};
 use crate::used::{arrays, bound};
-use a64_code::{Cond, Reg};
+use a64_code::{AddSubOp, Cond, Reg, zero};
 use dependence::{Extent, Used};
 use guest_types::length::Width;
 use kernel_tree::Checked;
@@ -31,44 +32,71 @@ fn register(place: u32) -> Reg
     Bits { number: place }
 }
 
-// The address of the greatest element in the iteration after the last.
-fn emit_bound(
-    draft: &mut Draft,
-    bound: Reg,
-    place: u32,
-    width: Width,
-    greatest: i32,
-) -> Result<(), AllocError>
-    requires { place < 32 }
+// X26 by an amount, where there is any.
+fn emit_step(draft: &mut Draft, op: AddSubOp, by: u32, sh: bool) -> Result<(), AllocError>
+    requires { by < 4096 }
     ensures labels { OnOk result (draft.new.labels ≡ draft.old.labels) }
     ensures code { OnOk result ((rest : List plain.Entry)
         → draft.new.entries ++ rest ≡ draft.old.entries
-        ++ guard.extent_code bound.number place width (Extent.Streams greatest) rest) }
+        ++ guard.step_code (add_sub_imm_name op) by (flag_number sh) rest) }
 {
-    draft.put(bound_at(bound, greatest))?;
-    draft.put(element_at(end(), register(place), width))?;
+    if by != 0 {
+        draft.put(step(op, tested(), tested(), by, sh))?;
+    }
     Ok(())
 }
 
-// The address at which a reach ends.
-fn emit_reach(
-    draft: &mut Draft,
-    d: Reg,
-    place: u32,
-    width: Width,
-    reach: u32,
-) -> Result<(), AllocError>
-    requires { place < 32 }
+fn emit_steps(draft: &mut Draft, op: AddSubOp, by: u32) -> Result<(), AllocError>
     ensures labels { OnOk result (draft.new.labels ≡ draft.old.labels) }
     ensures code { OnOk result ((rest : List plain.Entry)
-        → draft.new.entries ++ rest ≡ draft.old.entries ++ guard.reach_code d.number place width reach rest) }
+        → draft.new.entries ++ rest ≡ draft.old.entries ++ guard.steps_code (add_sub_imm_name op) by rest) }
 {
-    draft.put(reach_at(d, reach))?;
-    draft.put(element_at(d, register(place), width))?;
+    emit_step(draft, op, by % 4096, false)?;
+    emit_step(draft, op, by / 4096 % 4096, true)?;
     Ok(())
 }
 
-// The greater of the two.
+// X26 and a number.
+fn emit_shift(draft: &mut Draft, by: i32) -> Result<(), AllocError>
+    ensures labels { OnOk result (draft.new.labels ≡ draft.old.labels) }
+    ensures code { OnOk result ((rest : List plain.Entry)
+        → draft.new.entries ++ rest ≡ draft.old.entries ++ guard.shift_code by rest) }
+{
+    if by >= 0 {
+        emit_steps(draft, AddSubOp::Add, by.unsigned_abs())
+    } else {
+        emit_steps(draft, AddSubOp::Sub, by.unsigned_abs())
+    }
+}
+
+// The bytes of some elements.
+fn bytes_of(width: Width, count: i32) -> i32
+    requires { unsigned_abs count ≤ most_offset }
+    ensures small { unsigned_abs result ≤ 8192 }
+    ensures value { result ≡ pos (width_bytes width) *ℤ count }
+{
+    match width {
+        Width::B => count,
+        Width::H => 2 * count,
+        Width::S => 4 * count,
+        Width::D => 8 * count,
+    }
+}
+
+// The bytes of some elements from the first on.
+fn reach_bytes(width: Width, reach: u32) -> u32
+    requires { reach ≤ 65536 }
+    ensures { result ≡ width_bytes width * reach }
+{
+    match width {
+        Width::B => reach,
+        Width::H => 2 * reach,
+        Width::S => 4 * reach,
+        Width::D => 8 * reach,
+    }
+}
+
+// The greater of two ends.
 fn emit_both(
     draft: &mut Draft,
     bound: Reg,
@@ -77,73 +105,108 @@ fn emit_both(
     greatest: i32,
     reach: u32,
 ) -> Result<(), AllocError>
-    requires { place < 32 }
+    requires register { place < 32 }
+    requires near { unsigned_abs greatest ≤ most_offset }
+    requires far { reach ≤ 65536 }
     ensures labels { OnOk result (draft.new.labels ≡ draft.old.labels) }
     ensures code { OnOk result ((rest : List plain.Entry)
         → draft.new.entries ++ rest ≡ draft.old.entries
         ++ guard.extent_code bound.number place width (Extent.Both greatest reach) rest) }
 {
-    emit_bound(draft, bound, place, width, greatest)?;
-    emit_reach(draft, begin(), place, width, reach)?;
-    draft.put(compare_ends())?;
-    draft.put(greater_end())?;
+    draft.put(element_at(bound, register(place), width))?;
+    emit_shift(draft, bytes_of(width, greatest))?;
+    draft.put(bytes_at(part(), register(place), reach_bytes(width, reach)))?;
+    draft.put(compare(tested(), part()))?;
+    draft.put(greater())?;
     Ok(())
 }
 
-// The end of a parameter's elements.
+// The end of a parameter's elements, but for what is left over.
 fn emit_end(draft: &mut Draft, bound: Reg, u: Used) -> Result<(), AllocError>
-    requires { u.place < 32 }
+    requires { IsFit u }
     ensures labels { OnOk result (draft.new.labels ≡ draft.old.labels) }
     ensures code { OnOk result ((rest : List plain.Entry)
-        → draft.new.entries ++ rest ≡ draft.old.entries ++ guard.end_code bound.number u rest) }
+        → draft.new.entries ++ rest ≡ draft.old.entries
+        ++ guard.extent_code bound.number u.place u.width u.extent rest) }
 {
     match u.extent {
-        Extent::Streams { greatest } => emit_bound(draft, bound, u.place, u.width, greatest),
-        Extent::Computed { reach } => emit_reach(draft, end(), u.place, u.width, reach),
+        Extent::Streams { .. } => draft.put(element_at(bound, register(u.place), u.width)),
+        Extent::Computed { reach } => draft.put(bytes_at(
+            tested(),
+            register(u.place),
+            reach_bytes(u.width, reach),
+        )),
         Extent::Both { greatest, reach } => {
             emit_both(draft, bound, u.place, u.width, greatest, reach)
         }
     }
 }
 
-// The test of an end with the beginning of a parameter's elements.
-fn emit_begin(draft: &mut Draft, ok: Label, v: Used) -> Result<(), AllocError>
-    requires second { v.place < 32 }
-    requires passed { ok < draft.old.labels }
-    ensures labels { OnOk result (draft.new.labels ≡ draft.old.labels) }
-    ensures code { OnOk result ((rest : List plain.Entry)
-        → draft.new.entries ++ rest ≡ draft.old.entries ++ guard.begin_code ok v rest) }
+// What is left over.
+fn left_over(u: Used) -> i32
+    requires { IsFit u }
+    ensures small { unsigned_abs result ≤ 8192 }
+    ensures value { result ≡ guard.left_over u.width u.extent }
 {
-    draft.put(offset_at(v.least))?;
-    draft.put(element_at(begin(), register(v.place), v.width))?;
-    draft.put(compare())?;
-    draft.branch(BranchKind::If(Cond::Hs), ok)?;
-    Ok(())
+    match u.extent {
+        Extent::Streams { greatest } => bytes_of(u.width, greatest),
+        Extent::Computed { .. } | Extent::Both { .. } => 0,
+    }
 }
 
-fn emit_below(draft: &mut Draft, bound: Reg, ok: Label, u: Used, v: Used) -> Result<(), AllocError>
-    requires first { u.place < 32 }
-    requires second { v.place < 32 }
-    requires passed { ok < draft.old.labels }
+fn gap(u: Used, v: Used) -> i32
+    requires first { IsFit u }
+    requires second { IsFit v }
+    ensures { result ≡ guard.gap u v }
+{
+    left_over(u) - bytes_of(v.width, v.least)
+}
+
+// The test of an end with a beginning.
+fn emit_below(draft: &mut Draft, bound: Reg, u: Used, v: Used) -> Result<(), AllocError>
+    requires first { IsFit u }
+    requires second { IsFit v }
     ensures labels { OnOk result (draft.new.labels ≡ draft.old.labels) }
     ensures code { OnOk result ((rest : List plain.Entry)
-        → draft.new.entries ++ rest ≡ draft.old.entries ++ guard.below_code bound.number ok u v rest) }
+        → draft.new.entries ++ rest ≡ draft.old.entries ++ guard.below_code bound.number u v rest) }
 {
     emit_end(draft, bound, u)?;
-    emit_begin(draft, ok, v)?;
+    emit_shift(draft, gap(u, v))?;
+    draft.put(compare(register(v.place), tested()))?;
     Ok(())
 }
 
-// The test of a parameter's elements, where there may be none.
-fn emit_empty(draft: &mut Draft, bound: Reg, ok: Label, u: Used) -> Result<(), AllocError>
-    requires register { u.place < 32 }
+// Whether a parameter has one element for each iteration.
+fn is_point(u: Used) -> bool
+    ensures { result ≡ guard.is_point u.least u.extent }
+{
+    match u.extent {
+        Extent::Streams { greatest } => greatest <= u.least,
+        Extent::Computed { .. } | Extent::Both { .. } => false,
+    }
+}
+
+fn is_mixed(u: Used, v: Used) -> bool
+    ensures { result ≡ guard.is_mixed u v }
+{
+    if is_point(u) {
+        !is_point(v)
+    } else {
+        is_point(v)
+    }
+}
+
+// The test of the bound, where just one of them has.
+fn emit_none(draft: &mut Draft, bound: Reg, ok: Label, u: Used, v: Used) -> Result<(), AllocError>
+    requires register { bound.number < 32 }
     requires passed { ok < draft.old.labels }
     ensures labels { OnOk result (draft.new.labels ≡ draft.old.labels) }
     ensures code { OnOk result ((rest : List plain.Entry)
-        → draft.new.entries ++ rest ≡ draft.old.entries ++ guard.empty_code bound.number ok u rest) }
+        → draft.new.entries ++ rest ≡ draft.old.entries
+        ++ guard.none_if (guard.is_mixed u v) bound.number ok rest) }
 {
-    if let Extent::Streams { .. } = u.extent {
-        emit_below(draft, bound, ok, u, u)?;
+    if is_mixed(u, v) {
+        draft.branch(BranchKind::Zero(bound.number), ok)?;
     }
     Ok(())
 }
@@ -157,19 +220,20 @@ fn emit_tests(
     u: Used,
     v: Used,
 ) -> Result<(), AllocError>
-    requires first { u.place < 32 }
-    requires second { v.place < 32 }
+    requires register { bound.number < 32 }
+    requires first { IsFit u }
+    requires second { IsFit v }
     requires failed { fail < draft.old.labels }
     requires passed { ok < draft.old.labels }
     ensures labels { OnOk result (draft.new.labels ≡ draft.old.labels) }
     ensures code { OnOk result ((rest : List plain.Entry)
         → draft.new.entries ++ rest ≡ draft.old.entries ++ guard.pair_code bound.number fail ok u v rest) }
 {
-    emit_below(draft, bound, ok, u, v)?;
-    emit_below(draft, bound, ok, v, u)?;
-    emit_empty(draft, bound, ok, u)?;
-    emit_empty(draft, bound, ok, v)?;
-    draft.branch(BranchKind::Always, fail)?;
+    emit_below(draft, bound, u, v)?;
+    draft.branch(BranchKind::If(Cond::Hs), ok)?;
+    emit_none(draft, bound, ok, u, v)?;
+    emit_below(draft, bound, v, u)?;
+    draft.branch(BranchKind::If(Cond::Lo), fail)?;
     draft.place(ok)?;
     Ok(())
 }
@@ -182,8 +246,9 @@ fn emit_labelled(
     u: Used,
     v: Used,
 ) -> Result<(), AllocError>
-    requires first { u.place < 32 }
-    requires second { v.place < 32 }
+    requires register { bound.number < 32 }
+    requires first { IsFit u }
+    requires second { IsFit v }
     requires failed { fail < draft.old.labels }
     ensures labels { OnOk result (draft.new.labels ≡ draft.old.labels + 1) }
     ensures code { OnOk result ((rest : List plain.Entry)
@@ -197,8 +262,9 @@ fn emit_labelled(
 
 // The tests of two parameters, where the loop stores to one of them.
 fn emit_pair(draft: &mut Draft, bound: Reg, fail: Label, u: Used, v: Used) -> Result<(), AllocError>
-    requires first { u.place < 32 }
-    requires second { v.place < 32 }
+    requires register { bound.number < 32 }
+    requires first { IsFit u }
+    requires second { IsFit v }
     requires failed { fail < draft.old.labels }
     ensures labels { OnOk result (draft.new.labels ≡ guard.label_if (u.stored || v.stored) draft.old.labels) }
     ensures code { OnOk result ((rest : List plain.Entry)
@@ -218,7 +284,8 @@ fn emit_with(
     u: Used,
     others: &[Used],
 ) -> Result<(), AllocError>
-    requires first { u.place < 32 }
+    requires register { bound.number < 32 }
+    requires first { IsFit u }
     requires others { AreFit others.now }
     requires failed { fail < draft.old.labels }
     ensures failed { OnOk result (fail < draft.new.labels) }
@@ -233,6 +300,19 @@ fn emit_with(
     Ok(())
 }
 
+// The test of a base.
+fn emit_base(draft: &mut Draft, place: u32) -> Result<(), AllocError>
+    requires { place < 32 }
+    ensures labels { OnOk result (draft.new.labels ≡ draft.old.labels) }
+    ensures code { OnOk result ((rest : List plain.Entry)
+        → draft.new.entries ++ rest ≡ draft.old.entries ++ guard.base_code place rest) }
+{
+    draft.put(step(AddSubOp::Sub, part(), register(place), 16, true))?;
+    draft.put(with_top(tested(), part(), 48))?;
+    draft.put(with_top(tested(), register(place), 48))?;
+    Ok(())
+}
+
 fn emit_bases(draft: &mut Draft, fail: Label, used: &[Used]) -> Result<(), AllocError>
     requires fit { AreFit used.now }
     requires failed { fail < draft.old.labels }
@@ -241,26 +321,14 @@ fn emit_bases(draft: &mut Draft, fail: Label, used: &[Used]) -> Result<(), Alloc
         → draft.new.entries ++ rest ≡ draft.old.entries ++ guard.bases_code fail used.now rest) }
 {
     for u in used {
-        emit_base(draft, fail, u.place)?;
+        emit_base(draft, u.place)?;
     }
-    Ok(())
-}
-
-fn emit_base(draft: &mut Draft, fail: Label, place: u32) -> Result<(), AllocError>
-    requires register { place < 32 }
-    requires failed { fail < draft.old.labels }
-    ensures labels { OnOk result (draft.new.labels ≡ draft.old.labels) }
-    ensures code { OnOk result ((rest : List plain.Entry)
-        → draft.new.entries ++ rest ≡ draft.old.entries ++ guard.base_code fail place rest) }
-{
-    draft.put(top_of(register(place), 16))?;
-    draft.branch(BranchKind::Zero(26), fail)?;
-    draft.put(top_of(register(place), 48))?;
     draft.branch(BranchKind::NotZero(26), fail)?;
     Ok(())
 }
 
 fn emit_pairs(draft: &mut Draft, bound: Reg, fail: Label, used: &[Used]) -> Result<(), AllocError>
+    requires register { bound.number < 32 }
     requires fit { AreFit used.now }
     requires failed { fail < draft.old.labels }
     ensures labels { OnOk result (draft.new.labels ≡ guard.label_pairs draft.old.labels used.now) }
@@ -277,6 +345,7 @@ fn emit_pairs(draft: &mut Draft, bound: Reg, fail: Label, used: &[Used]) -> Resu
 }
 
 fn emit_spread(draft: &mut Draft, bound: Reg, fail: Label, used: &[Used]) -> Result<(), AllocError>
+    requires register { bound.number < 32 }
     requires fit { AreFit used.now }
     requires failed { fail < draft.old.labels }
     ensures labels { OnOk result (draft.new.labels ≡ guard.label_pairs draft.old.labels used.now) }
@@ -284,8 +353,7 @@ fn emit_spread(draft: &mut Draft, bound: Reg, fail: Label, used: &[Used]) -> Res
         → draft.new.entries ++ rest ≡ draft.old.entries
         ++ guard.spread_code bound.number fail draft.old.labels used.now rest) }
 {
-    draft.put(top_of(bound, 40))?;
-    draft.branch(BranchKind::NotZero(26), fail)?;
+    draft.put(with_top(zero(), bound, 40))?;
     emit_bases(draft, fail, used)?;
     emit_pairs(draft, bound, fail, used)?;
     Ok(())
@@ -316,6 +384,7 @@ pub fn emit_used(
     fail: Label,
     used: &[Used],
 ) -> Result<(), AllocError>
+    requires register { bound.number < 32 }
     requires fit { AreFit used.now }
     requires failed { fail < draft.old.labels }
     ensures labels { OnOk result (draft.new.labels
