@@ -1,5 +1,6 @@
 -- Loads and stores of each address form do what their operation does at the form's address.
-use Rattle.std.proofs.Common.{◌≡◌, ℕ, ◌*◌, ◌^◌, ◌%◌, [], ◌∷◌, refl, sym, subst, ap, ◌∙◌}
+use Rattle.std.proofs.Common.{◌≡◌, ℕ, ◌*◌, ◌^◌, ◌%◌, ◌<◌, [], ◌∷◌, refl, sym, subst, ap, ap₂, ◌∙◌, arith}
+use Rattle.std.proofs.lemmas.Bool.{ne_eqb, cond-false}
 use Rattle.a64_code.specs.declared.LoadStoreByteOp.{LoadStoreByteOp}
 use Rattle.a64_code.specs.declared.LoadStoreByteOp.TheVariants.{Ldrb, Ldrsb, Strb}
 use Rattle.a64_code.specs.declared.LoadStoreOp.{LoadStoreOp}
@@ -70,3 +71,24 @@ pub wide_register : (op : LoadStoreOp) (rt rn scaled rm address by : ℕ) (s : S
 wide_register op rt rn scaled rm address by s e u =
     wide_register_here op rt rn scaled rm s ∙ ap (λ k. access op s rt (sum (x_or_sp s rn) (x_at s rm * 2 ^ k % 2 ^ 64))) (sym u)
     ∙ ap (access op s rt) (sym e)
+
+-- ---- at a base that is X0 to X30, and an offset that is known beforehand
+general_base : (s : State) (n : ℕ) → n < 31 → x_or_sp s n ≡ x_at s n
+general_base s n lt = cond-false _ _ _ (ne_eqb n 31 (λ e. omega arith))
+
+offset_fits : (op : LoadStoreOp) (imm : ℕ) → imm < 2 ^ 12 → imm * 2 ^ logarithm op % 2 ^ 64 ≡ imm * 2 ^ logarithm op
+offset_fits Ldrh imm lt = omega arith
+offset_fits LdrW imm lt = omega arith
+offset_fits LdrX imm lt = omega arith
+offset_fits Ldrsh imm lt = omega arith
+offset_fits Ldrsw imm lt = omega arith
+offset_fits Strh imm lt = omega arith
+offset_fits StrW imm lt = omega arith
+offset_fits StrX imm lt = omega arith
+
+pub ready_wide_immediate : (op : LoadStoreOp) (rt rn imm base unit : ℕ) (s : State) → base < 31 → base ≡ rn → imm < 2 ^ 12 → unit ≡ logarithm op
+    → act (wide_imm_name op) (rt ∷ rn ∷ imm ∷ []) s ≡ access op s rt (sum (x_at s base) (imm * 2 ^ unit % 2 ^ 64))
+ready_wide_immediate op rt rn imm base unit s general b lt u =
+    let offset : imm * 2 ^ unit % 2 ^ 64 ≡ imm * 2 ^ unit = ap (λ k. imm * 2 ^ k % 2 ^ 64) u ∙ offset_fits op imm lt ∙ ap (λ k. imm * 2 ^ k) (sym u) in
+    wide_immediate op rt rn imm (sum (x_at s base) (imm * 2 ^ unit % 2 ^ 64)) unit s
+    (ap₂ sum (sym (general_base s base general) ∙ ap (x_or_sp s) b) offset) u

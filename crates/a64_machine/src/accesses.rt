@@ -107,6 +107,7 @@ fn store<M: GuestMemory>(
         (state_of core.new (M.memory memory.new) rest) }
     ensures kept { OnStop (said result answer.new) (core.new ≡ core.old) }
     ensures kept_memory { OnStop (said result answer.new) (M.memory memory.new ≡ M.memory memory.old) }
+    ensures past { M.past memory.new ≡ M.past memory.old }
 {
     let value = core.register(rt);
     match memory.store(address, size, value) {
@@ -133,6 +134,7 @@ pub fn byte_access<M: GuestMemory>(
         (state_of core.new (M.memory memory.new) rest) }
     ensures kept { OnStop (said result answer.new) (core.new ≡ core.old) }
     ensures kept_memory { OnStop (said result answer.new) (M.memory memory.new ≡ M.memory memory.old) }
+    ensures past { M.past memory.new ≡ M.past memory.old }
 {
     match op {
         LoadStoreByteOp::Ldrb => load(core, memory, rt, address, 1, Extension::Zero, answer),
@@ -156,6 +158,7 @@ pub fn access<M: GuestMemory>(
         (state_of core.new (M.memory memory.new) rest) }
     ensures kept { OnStop (said result answer.new) (core.new ≡ core.old) }
     ensures kept_memory { OnStop (said result answer.new) (M.memory memory.new ≡ M.memory memory.old) }
+    ensures past { M.past memory.new ≡ M.past memory.old }
 {
     match op {
         LoadStoreOp::Ldrh => load(core, memory, rt, address, 2, Extension::Zero, answer),

@@ -25,6 +25,3 @@ pub use one_step::{a64_goes, a64_step};
 pub use prepared_form::{General, Prepared};
 pub use prepared_step::prepared_goes;
 pub use preparing::prepare;
-
-#[cfg(test)]
-mod tests;

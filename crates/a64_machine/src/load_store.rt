@@ -90,6 +90,7 @@ pub fn byte_immediate<M: GuestMemory>(
         (said result answer.new) before (state_of core.new (M.memory memory.new) rest) }
     ensures kept { OnStop (said result answer.new) (core.new ≡ core.old) }
     ensures kept_memory { OnStop (said result answer.new) (M.memory memory.new ≡ M.memory memory.old) }
+    ensures past { M.past memory.new ≡ M.past memory.old }
 {
     let address = at_offset(core, rn, imm12, 0);
     byte_access(core, memory, op, rt, address, answer)
@@ -112,6 +113,7 @@ pub fn wide_immediate<M: GuestMemory>(
         (said result answer.new) before (state_of core.new (M.memory memory.new) rest) }
     ensures kept { OnStop (said result answer.new) (core.new ≡ core.old) }
     ensures kept_memory { OnStop (said result answer.new) (M.memory memory.new ≡ M.memory memory.old) }
+    ensures past { M.past memory.new ≡ M.past memory.old }
 {
     let address = at_offset(core, rn, imm12, logarithm(op));
     access(core, memory, op, rt, address, answer)
@@ -133,6 +135,7 @@ pub fn byte_register<M: GuestMemory>(
         (said result answer.new) before (state_of core.new (M.memory memory.new) rest) }
     ensures kept { OnStop (said result answer.new) (core.new ≡ core.old) }
     ensures kept_memory { OnStop (said result answer.new) (M.memory memory.new ≡ M.memory memory.old) }
+    ensures past { M.past memory.new ≡ M.past memory.old }
 {
     let address = at_register(core, rn, rm);
     byte_access(core, memory, op, rt, address, answer)
@@ -157,6 +160,7 @@ pub fn wide_register<M: GuestMemory>(
         (state_of core.new (M.memory memory.new) rest) }
     ensures kept { OnStop (said result answer.new) (core.new ≡ core.old) }
     ensures kept_memory { OnStop (said result answer.new) (M.memory memory.new ≡ M.memory memory.old) }
+    ensures past { M.past memory.new ≡ M.past memory.old }
 {
     let address = at_scaled(core, rn, rm, scale(op, scaled));
     access(core, memory, op, rt, address, answer)

@@ -28,11 +28,12 @@ use paged_memory::pages::Pages;
 #[inline(always)]
 pub fn a64_goes(core: &mut Core, pages: &mut Pages, word: A64, answer: &mut Step) -> bool
     ensures answer { (rest : VectorState) → HasVector word core.old rest
-        → let before = state_of core.old pages.old rest in
+        → let before = state_of core.old pages.old.memory rest in
         IsAnswer (does (Scalar (instruction_view word)) before) (said result answer.new) before
-        (state_of core.new pages.new rest) }
+        (state_of core.new pages.new.memory rest) }
     ensures kept { OnStop (said result answer.new) (core.new ≡ core.old) }
-    ensures kept_memory { OnStop (said result answer.new) (pages.new ≡ pages.old) }
+    ensures kept_memory { OnStop (said result answer.new) (pages.new.memory ≡ pages.old.memory) }
+    ensures past { pages.new.past ≡ pages.old.past }
 {
     match word {
         A64::LoadStoreImmediate { op, rt, rn, imm12 } => {
@@ -62,10 +63,12 @@ pub fn a64_goes(core: &mut Core, pages: &mut Pages, word: A64, answer: &mut Step
 /// One A64 instruction, by its answer.
 pub fn a64_step(core: &mut Core, pages: &mut Pages, word: A64) -> Step
     ensures answer { (rest : VectorState) → HasVector word core.old rest
-        → let before = state_of core.old pages.old rest in
-        IsAnswer (does (Scalar (instruction_view word)) before) result before (state_of core.new pages.new rest) }
+        → let before = state_of core.old pages.old.memory rest in
+        IsAnswer (does (Scalar (instruction_view word)) before) result before
+        (state_of core.new pages.new.memory rest) }
     ensures kept { OnStop result (core.new ≡ core.old) }
-    ensures kept_memory { OnStop result (pages.new ≡ pages.old) }
+    ensures kept_memory { OnStop result (pages.new.memory ≡ pages.old.memory) }
+    ensures past { pages.new.past ≡ pages.old.past }
 {
     let mut answer = Step::Went;
     if a64_goes(core, pages, word, &mut answer) {

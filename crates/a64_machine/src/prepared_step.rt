@@ -218,9 +218,10 @@ pub fn prepared_goes<const CALLER: usize>(
     prepared: &Prepared,
     answer: &mut Step,
 ) -> bool
-    ensures { (rest : VectorState) → let before = state_of core.old pages.old rest in
+    ensures answer { (rest : VectorState) → let before = state_of core.old pages.old.memory rest in
         IsAnswer (prepared_does prepared.now before) (said result answer.new) before
-        (state_of core.new pages.new rest) }
+        (state_of core.new pages.new.memory rest) }
+    ensures past { pages.new.past ≡ pages.old.past }
 {
     match *prepared {
         Prepared::ByteAtRegister { op, rt, rn, rm } => {

@@ -128,6 +128,3 @@ fn why_name(why: Why) -> &'static [u8]
         Why::Carried => b"carried",
     }
 }
-
-#[cfg(test)]
-mod tests;

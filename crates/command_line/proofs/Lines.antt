@@ -6,12 +6,12 @@ use Rattle.std.proofs.lemmas.Bool.{lt-ltb}
 use Rattle.std.proofs.lemmas.Option.{none-some}
 use Rattle.std.proofs.lemmas.List.{append-nil, append_assoc}
 use Rattle.number_text.specs.Numbers.{given, number_of}
-use Rattle.command_line.specs.Line.{Words, Options, Extent, Line, is_end, is_plain, is_filled, positional, positional_from, value_named, value_in, value_following, value_at, once, extent_of, with_vl, with_steps, with_map, with_dump, option_at, options_of, no_options, run_with, run_of, eval_with, eval_of, debug_with, debug_of}
+use Rattle.command_line.specs.Line.{Words, Options, Extent, Line, is_end, is_plain, is_filled, positional, positional_from, value_named, value_in, value_following, value_at, once, extent_of, period_of, with_vl, with_steps, with_map, with_dump, with_suppress, option_at, options_of, no_options, run_with, run_of, eval_with, eval_of, debug_with, debug_of}
 use Rattle.command_line.specs.Numbers.{parted}
 use Rattle.command_line.specs.Given.{Given, name_of, joined_of, name_before, allows, without, next, gives, given_from, given_of, nothing, with_value, with_word, spelt_value, options_in}
 use Rattle.command_line.specs.declared.place.Allowed.{Allowed}
 use Rattle.command_line.specs.declared.place.OptionName.{OptionName}
-use Rattle.command_line.specs.declared.place.OptionName.TheVariants.{Vl, Steps, Map, Dump}
+use Rattle.command_line.specs.declared.place.OptionName.TheVariants.{Vl, Steps, Map, Dump, Suppress}
 use Rattle.command_line.specs.declared.place.Place.{Place}
 use Rattle.command_line.specs.declared.place.Place.TheVariants as place
 use Rattle.clap.specs.Walk.{nothing_held}
@@ -26,12 +26,14 @@ with_name Vl o v = with_vl o v
 with_name Steps o v = with_steps o v
 with_name Map o v = with_map o v
 with_name Dump o v = with_dump o v
+with_name Suppress o v = with_suppress o v
 
 abbrev has : OptionName → Options → Bool
 has Vl o = is_some o.vl
 has Steps o = is_some o.steps
 has Map o = is_some o.map
 has Dump o = is_some o.dump
+has Suppress o = is_some o.suppress
 
 -- what was read before, or the value of this text
 abbrev keep : {A : Type 0} → (List ℕ → Option A) → Option A → Option (List ℕ) → Option (Option A)
@@ -43,7 +45,9 @@ reads : Options → Given → Option Options
 reads o g =
     option_and_then (λ vl.
     option_and_then (λ steps.
-    option_map (λ dump. record { vl = vl; steps = steps; map = option_or o.map g.map; dump = dump })
+    option_and_then (λ dump.
+    option_map (λ suppress. record { vl = vl; steps = steps; map = option_or o.map g.map; dump = dump; suppress = suppress })
+    (keep period_of o.suppress g.suppress))
     (keep extent_of o.dump g.dump))
     (keep number_of o.steps g.steps))
     (keep number_of o.vl g.vl)
@@ -60,9 +64,9 @@ or_none : {A : Type 0} (o : Option A) → option_or o None ≡ o
 or_none None = refl
 or_none (Some x) = refl
 
-reads_none : (o : Options) (g : Given) → g.vl ≡ None → g.steps ≡ None → g.map ≡ None → g.dump ≡ None → reads o g ≡ Some o
+reads_none : (o : Options) (g : Given) → g.vl ≡ None → g.steps ≡ None → g.map ≡ None → g.dump ≡ None → g.suppress ≡ None → reads o g ≡ Some o
 unfolding reads
-reads_none o g v s m d = rw (v, s, m, d, kept_none number_of o.vl, kept_none number_of o.steps, kept_none extent_of o.dump, or_none o.map) refl
+reads_none o g v s m d u = rw (v, s, m, d, u, kept_none number_of o.vl, kept_none number_of o.steps, kept_none extent_of o.dump, kept_none period_of o.suppress, or_none o.map) refl
 
 is_none : {A : Type 0} (o : Option A) → is_some o ≡ false → o ≡ None
 is_none None e = refl
@@ -70,19 +74,19 @@ is_none (Some x) e = absurd (true≢false e)
 
 -- one more option is read before those after it
 reads_more : (n : OptionName) (v : List ℕ) (o : Options) (g : Given) → has n o ≡ false → option_and_then (λ p. reads p g) (with_name n o v) ≡ reads o (with_value n v g)
-unfolding reads with_vl with_steps with_map with_dump
+unfolding reads with_vl with_steps with_map with_dump with_suppress
 reads_more Vl v o g e = rw (is_none o.vl e) (go (number_of v))
   where
     go : (x : Option ℕ) → option_and_then (λ p. reads p g) (option_map (λ k. record o { vl = Some k }) x)
-        ≡ option_and_then (λ vl. option_and_then (λ steps. option_map (λ dump. record { vl = vl; steps = steps; map = option_or o.map g.map; dump = dump })
-        (keep extent_of o.dump g.dump)) (keep number_of o.steps g.steps)) (option_map (λ k. Some k) x)
+        ≡ option_and_then (λ vl. option_and_then (λ steps. option_and_then (λ dump. option_map (λ suppress. record { vl = vl; steps = steps; map = option_or o.map g.map; dump = dump; suppress = suppress })
+        (keep period_of o.suppress g.suppress)) (keep extent_of o.dump g.dump)) (keep number_of o.steps g.steps)) (option_map (λ k. Some k) x)
     go None = refl
     go (Some k) = refl
 reads_more Steps v o g e = rw (is_none o.steps e) (go (number_of v) (keep number_of o.vl g.vl) refl)
   where
     go : (x : Option ℕ) (y : Option (Option ℕ)) → keep number_of o.vl g.vl ≡ y → option_and_then (λ p. reads p g) (option_map (λ k. record o { steps = Some k }) x)
-        ≡ option_and_then (λ vl. option_and_then (λ steps. option_map (λ dump. record { vl = vl; steps = steps; map = option_or o.map g.map; dump = dump })
-        (keep extent_of o.dump g.dump)) (option_map (λ k. Some k) x)) y
+        ≡ option_and_then (λ vl. option_and_then (λ steps. option_and_then (λ dump. option_map (λ suppress. record { vl = vl; steps = steps; map = option_or o.map g.map; dump = dump; suppress = suppress })
+        (keep period_of o.suppress g.suppress)) (keep extent_of o.dump g.dump)) (option_map (λ k. Some k) x)) y
     go None None k = refl
     go None (Some y) k = refl
     go (Some x) y k = rw k refl
@@ -90,12 +94,23 @@ reads_more Map v o g e = rw (is_none o.map e) refl
 reads_more Dump v o g e = rw (is_none o.dump e) (go (extent_of v) (keep number_of o.vl g.vl) (keep number_of o.steps g.steps) refl refl)
   where
     go : (x : Option Extent) (y z : Option (Option ℕ)) → keep number_of o.vl g.vl ≡ y → keep number_of o.steps g.steps ≡ z → option_and_then (λ p. reads p g) (option_map (λ k. record o { dump = Some k }) x)
-        ≡ option_and_then (λ vl. option_and_then (λ steps. option_map (λ dump. record { vl = vl; steps = steps; map = option_or o.map g.map; dump = dump })
-        (option_map (λ k. Some k) x)) z) y
+        ≡ option_and_then (λ vl. option_and_then (λ steps. option_and_then (λ dump. option_map (λ suppress. record { vl = vl; steps = steps; map = option_or o.map g.map; dump = dump; suppress = suppress })
+        (keep period_of o.suppress g.suppress)) (option_map (λ k. Some k) x)) z) y
     go None None z k l = refl
     go None (Some y) None k l = refl
     go None (Some y) (Some z) k l = refl
     go (Some x) y z k l = rw (k, l) refl
+reads_more Suppress v o g e = rw (is_none o.suppress e) (go (period_of v) (keep number_of o.vl g.vl) (keep number_of o.steps g.steps) (keep extent_of o.dump g.dump) refl refl refl)
+  where
+    go : (x : Option ℕ) (y z : Option (Option ℕ)) (w : Option (Option Extent)) → keep number_of o.vl g.vl ≡ y → keep number_of o.steps g.steps ≡ z → keep extent_of o.dump g.dump ≡ w
+        → option_and_then (λ p. reads p g) (option_map (λ k. record o { suppress = Some k }) x)
+        ≡ option_and_then (λ vl. option_and_then (λ steps. option_and_then (λ dump. option_map (λ suppress. record { vl = vl; steps = steps; map = option_or o.map g.map; dump = dump; suppress = suppress })
+        (option_map (λ k. Some k) x)) w) z) y
+    go None None z w k l m = refl
+    go None (Some y) None w k l m = refl
+    go None (Some y) (Some z) None k l m = refl
+    go None (Some y) (Some z) (Some w) k l m = refl
+    go (Some x) y z w k l m = rw (k, l, m) refl
 
 -- ---- the options that were given
 
@@ -104,6 +119,7 @@ same Vl Vl = true
 same Steps Steps = true
 same Map Map = true
 same Dump Dump = true
+same Suppress Suppress = true
 same _ _ = false
 
 has_vl : (m : OptionName) (o : Options) (k : ℕ) → has m (record o { vl = Some k }) ≡ (if same Vl m then true else has m o)
@@ -111,24 +127,35 @@ has_vl Vl o k = refl
 has_vl Steps o k = refl
 has_vl Map o k = refl
 has_vl Dump o k = refl
+has_vl Suppress o k = refl
 
 has_steps : (m : OptionName) (o : Options) (k : ℕ) → has m (record o { steps = Some k }) ≡ (if same Steps m then true else has m o)
 has_steps Vl o k = refl
 has_steps Steps o k = refl
 has_steps Map o k = refl
 has_steps Dump o k = refl
+has_steps Suppress o k = refl
 
 has_map : (m : OptionName) (o : Options) (k : List ℕ) → has m (record o { map = Some k }) ≡ (if same Map m then true else has m o)
 has_map Vl o k = refl
 has_map Steps o k = refl
 has_map Map o k = refl
 has_map Dump o k = refl
+has_map Suppress o k = refl
 
 has_dump : (m : OptionName) (o : Options) (k : Extent) → has m (record o { dump = Some k }) ≡ (if same Dump m then true else has m o)
 has_dump Vl o k = refl
 has_dump Steps o k = refl
 has_dump Map o k = refl
 has_dump Dump o k = refl
+has_dump Suppress o k = refl
+
+has_suppress : (m : OptionName) (o : Options) (k : ℕ) → has m (record o { suppress = Some k }) ≡ (if same Suppress m then true else has m o)
+has_suppress Vl o k = refl
+has_suppress Steps o k = refl
+has_suppress Map o k = refl
+has_suppress Dump o k = refl
+has_suppress Suppress o k = refl
 
 taken_has : {A : Type 0} (m n : OptionName) (o p : Options) (f : A → Options) (x : Option A) → ((k : A) → has m (f k) ≡ (if same n m then true else has m o)) → option_map f x ≡ Some p
     → has m p ≡ (if same n m then true else has m o)
@@ -137,49 +164,61 @@ taken_has m n o p f (Some k) h e = ap (has m) (sym (unwrapped p (f k) p e)) ∙ 
 
 -- the options after one more
 has_after : (n m : OptionName) (o p : Options) (v : List ℕ) → with_name n o v ≡ Some p → has m p ≡ (if same n m then true else has m o)
-unfolding with_vl with_steps with_map with_dump
+unfolding with_vl with_steps with_map with_dump with_suppress
 has_after Vl m o p v e = taken_has m Vl o p (λ k. record o { vl = Some k }) (once o.vl (number_of v)) (has_vl m o) e
 has_after Steps m o p v e = taken_has m Steps o p (λ k. record o { steps = Some k }) (once o.steps (number_of v)) (has_steps m o) e
 has_after Map m o p v e = taken_has m Map o p (λ k. record o { map = Some k }) (once o.map (Some v)) (has_map m o) e
 has_after Dump m o p v e = taken_has m Dump o p (λ k. record o { dump = Some k }) (once o.dump (extent_of v)) (has_dump m o) e
+has_after Suppress m o p v e = taken_has m Suppress o p (λ k. record o { suppress = Some k }) (once o.suppress (period_of v)) (has_suppress m o) e
 
 -- an option that was given before
 again : (n : OptionName) (o : Options) (v : List ℕ) → has n o ≡ true → with_name n o v ≡ None
-unfolding with_vl with_steps with_map with_dump
+unfolding with_vl with_steps with_map with_dump with_suppress
 again Vl o v h = rw h refl
 again Steps o v h = rw h refl
 again Map o v h = rw h refl
 again Dump o v h = rw h refl
+again Suppress o v h = rw h refl
 
 allows_after : (left : Allowed) (n m : OptionName) → allows (without left n) m ≡ (if same n m then false else allows left m)
 allows_after left Vl Vl = refl
 allows_after left Vl Steps = refl
 allows_after left Vl Map = refl
 allows_after left Vl Dump = refl
+allows_after left Vl Suppress = refl
 allows_after left Steps Vl = refl
 allows_after left Steps Steps = refl
 allows_after left Steps Map = refl
 allows_after left Steps Dump = refl
+allows_after left Steps Suppress = refl
 allows_after left Map Vl = refl
 allows_after left Map Steps = refl
 allows_after left Map Map = refl
 allows_after left Map Dump = refl
+allows_after left Map Suppress = refl
 allows_after left Dump Vl = refl
 allows_after left Dump Steps = refl
 allows_after left Dump Map = refl
 allows_after left Dump Dump = refl
+allows_after left Dump Suppress = refl
+allows_after left Suppress Vl = refl
+allows_after left Suppress Steps = refl
+allows_after left Suppress Map = refl
+allows_after left Suppress Dump = refl
+allows_after left Suppress Suppress = refl
 
 abbrev unit : Bool → ℕ
 unit b = if b then 1 else 0
 
 abbrev room : Allowed → ℕ
-room a = unit a.vl + (unit a.steps + (unit a.map + unit a.dump))
+room a = unit a.vl + (unit a.steps + (unit a.map + (unit a.dump + unit a.suppress)))
 
 room_after : (left : Allowed) (n : OptionName) → allows left n ≡ true → room left ≡ suc (room (without left n))
 room_after left Vl e = let q : unit left.vl ≡ 1 = ap unit e in omega arith
 room_after left Steps e = let q : unit left.steps ≡ 1 = ap unit e in omega arith
 room_after left Map e = let q : unit left.map ≡ 1 = ap unit e in omega arith
 room_after left Dump e = let q : unit left.dump ≡ 1 = ap unit e in omega arith
+room_after left Suppress e = let q : unit left.suppress ≡ 1 = ap unit e in omega arith
 
 -- ---- an option at the front
 
@@ -193,6 +232,7 @@ alone_at Vl o words = refl
 alone_at Steps o words = refl
 alone_at Map o words = refl
 alone_at Dump o words = refl
+alone_at Suppress o words = refl
 
 parted_is : (n : OptionName) (v : List ℕ) → parted 61 (word_of n ++ (61 ∷ v)) ≡ Some (word_of n, v)
 unfolding parted
@@ -200,6 +240,7 @@ parted_is Vl v = rw (lt-ltb 4 (length (word_of Vl ++ (61 ∷ v))) (omega arith))
 parted_is Steps v = rw (lt-ltb 7 (length (word_of Steps ++ (61 ∷ v))) (omega arith)) refl
 parted_is Map v = rw (lt-ltb 5 (length (word_of Map ++ (61 ∷ v))) (omega arith)) refl
 parted_is Dump v = rw (lt-ltb 6 (length (word_of Dump ++ (61 ∷ v))) (omega arith)) refl
+parted_is Suppress v = rw (lt-ltb 10 (length (word_of Suppress ++ (61 ∷ v))) (omega arith)) refl
 
 joined_at : (n : OptionName) (v : List ℕ) (o : Options) (words : Words) → is_filled v ≡ true → option_at o ((word_of n ++ (61 ∷ v)) ∷ words) ≡ taking n o (v, words)
 unfolding option_at value_at
@@ -207,25 +248,21 @@ joined_at Vl v o words f = rw (parted_is Vl v, f) refl
 joined_at Steps v o words f = rw (parted_is Steps v, f) refl
 joined_at Map v o words f = rw (parted_is Map v, f) refl
 joined_at Dump v o words f = rw (parted_is Dump v, f) refl
-
-not_named : (n : OptionName) (word : List ℕ) → name_of word ≡ None → bytes_eq word (word_of n) ≡ false
-not_named n word e = go (bytes_eq word (word_of n)) refl
-  where
-    named : (m : OptionName) → name_of (word_of m) ≡ Some m
-    named Vl = refl
-    named Steps = refl
-    named Map = refl
-    named Dump = refl
-
-    go : (b : Bool) → bytes_eq word (word_of n) ≡ b → b ≡ false
-    go true t = absurd (none-some n (sym e ∙ ap name_of (same_bytes word (word_of n) t) ∙ named n))
-    go false t = refl
+joined_at Suppress v o words f = rw (parted_is Suppress v, f) refl
 
 name_is_own : (m : OptionName) → name_of (word_of m) ≡ Some m
 name_is_own Vl = refl
 name_is_own Steps = refl
 name_is_own Map = refl
 name_is_own Dump = refl
+name_is_own Suppress = refl
+
+not_named : (n : OptionName) (word : List ℕ) → name_of word ≡ None → bytes_eq word (word_of n) ≡ false
+not_named n word e = go (bytes_eq word (word_of n)) refl
+  where
+    go : (b : Bool) → bytes_eq word (word_of n) ≡ b → b ≡ false
+    go true t = absurd (none-some n (sym e ∙ ap name_of (same_bytes word (word_of n) t) ∙ name_is_own n))
+    go false t = refl
 
 not_joined : (n : OptionName) (word : List ℕ) → joined_of word ≡ None → value_in (word_of n) word ≡ None
 unfolding joined_of
@@ -252,7 +289,7 @@ no_value_at n word words e j = rw (not_named n word e) (ap (option_map (λ value
 -- a word that names no option
 none_at : (word : List ℕ) (words : Words) (o : Options) → name_of word ≡ None → joined_of word ≡ None → option_at o (word ∷ words) ≡ Some (o, word ∷ words)
 unfolding option_at
-none_at word words o e j = rw (no_value_at Vl word words e j, no_value_at Steps word words e j, no_value_at Map word words e j, no_value_at Dump word words e j) refl
+none_at word words o e j = rw (no_value_at Vl word words e j, no_value_at Steps word words e j, no_value_at Map word words e j, no_value_at Dump word words e j, no_value_at Suppress word words e j) refl
 
 nothing_at : (o : Options) → option_at o [] ≡ Some (o, [])
 unfolding option_at value_at
@@ -268,6 +305,7 @@ not_plain Vl rest = refl
 not_plain Steps rest = refl
 not_plain Map rest = refl
 not_plain Dump rest = refl
+not_plain Suppress rest = refl
 
 pub plain_names : (word : List ℕ) → is_plain word ≡ true → (name_of word ≡ None) × (joined_of word ≡ None)
 plain_names word p = (by_name (name_of word) refl, by_joined (joined_of word) refl)
@@ -283,7 +321,7 @@ plain_names word p = (by_name (name_of word) refl, by_joined (joined_of word) re
 -- ---- positional words
 
 none_allowed : Allowed
-none_allowed = record { vl = false; steps = false; map = false; dump = false }
+none_allowed = record { vl = false; steps = false; map = false; dump = false; suppress = false }
 
 pub given_none : (words : Words) (g : Given) → given_from place.Positional words ≡ Some g → (n : OptionName) → text_given n g ≡ None
 given_none words g e = (positional_words none_allowed (codes "x") words [] nothing_held g e).none
@@ -429,7 +467,7 @@ module _ (F : Options → Words → Option Line) where
   line_words o words None e = ap (option_and_then (F o)) (positional_is words [] ∙ ap (option_map (adding [])) e)
   line_words o words (Some g) e =
       let no = given_none words g e in
-      ap (option_and_then (F o)) (positional_is words [] ∙ ap (option_map (adding [])) e) ∙ sym (ap (option_and_then (λ p. F p g.words)) (reads_none o g (no Vl) (no Steps) (no Map) (no Dump)))
+      ap (option_and_then (F o)) (positional_is words [] ∙ ap (option_map (adding [])) e) ∙ sym (ap (option_and_then (λ p. F p g.words)) (reads_none o g (no Vl) (no Steps) (no Map) (no Dump) (no Suppress)))
 
   -- what the command says to an option that it has not
   abbrev Closed : OptionName → Type 0
@@ -452,7 +490,8 @@ module _ (F : Options → Words → Option Line) where
   unfolding option_at
   option_keeps n o words p h e =
       keeps_at n Vl o p (value_at (codes "--vl") words) _ h (keeps_at n Steps o p (value_at (codes "--steps") words) _ h (keeps_at n Map o p (value_at (codes "--map") words) _ h
-      (keeps_at n Dump o p (value_at (codes "--dump") words) _ h (λ f. ap (λ (x : Options × Words). has n x.0) (sym (unwrapped p (o, words) p f)) ∙ h)))) e
+      (keeps_at n Dump o p (value_at (codes "--dump") words) _ h
+      (keeps_at n Suppress o p (value_at (codes "--suppress") words) _ h (λ f. ap (λ (x : Options × Words). has n x.0) (sym (unwrapped p (o, words) p f)) ∙ h))))) e
 
   closed_chain : (n : OptionName) → Closed n → (k : ℕ) (o : Options) (words : Words) → has n o ≡ true → chain k o words ≡ None
   unfolding chain
@@ -510,6 +549,7 @@ module _ (F : Options → Words → Option Line) where
               same_name Steps = refl
               same_name Map = refl
               same_name Dump = refl
+              same_name Suppress = refl
 
           go : (w : Option Options) → with_name n o v ≡ w → option_and_then (λ p. chain k p.0 p.1) (option_map {U = Options × Words} (λ q. (q, rest)) w) ≡ None
           go None w = refl
@@ -526,6 +566,7 @@ module _ (F : Options → Words → Option Line) where
           words_same Steps x y = refl
           words_same Map x y = refl
           words_same Dump x y = refl
+          words_same Suppress x y = refl
 
       chain_go : (k : ℕ) → Fits left o (suc k) → allows left n ≡ true → (w : Option Options) → with_name n o v ≡ w
           → option_and_then (λ p. chain k p.0 p.1) (option_map {U = Options × Words} (λ q. (q, rest)) w) ≡ option_and_then (λ p. line p (given_from (place.Options (without left n)) rest)) w
@@ -609,68 +650,74 @@ module _ (F : Options → Words → Option Line) where
 
   no_lines : Lines []
   unfolding positional_from
-  no_lines k left o f = chain_none k o [] (nothing_at o) ∙ sym (ap (line o) (no_words_left left) ∙ ap (option_and_then (λ p. F p [])) (reads_none o nothing refl refl refl refl))
+  no_lines k left o f = chain_none k o [] (nothing_at o) ∙ sym (ap (line o) (no_words_left left) ∙ ap (option_and_then (λ p. F p [])) (reads_none o nothing refl refl refl refl refl))
 
   all_lines : (words : Words) → Lines words × Tail words
   all_lines [] = (no_lines, tt)
   all_lines (word ∷ words) = let r = all_lines words in (first_lines word words r.0 r.1, r.0)
 
-  -- at most four options and positional words
-  four : (words : Words) → option_and_then (λ p. option_and_then (F p.0) (positional p.1)) (options_of words) ≡ chain 4 no_options words
+  -- at most five options and positional words
+  five : (words : Words) → option_and_then (λ p. option_and_then (F p.0) (positional p.1)) (options_of words) ≡ chain 5 no_options words
   unfolding options_of chain
-  four words = three_go (option_at no_options words)
+  five words = four_go (option_at no_options words)
     where
-      one_go : (x : Option (Options × Words)) → option_and_then (λ p. option_and_then (F p.0) (positional p.1)) (option_and_then (λ three. option_at three.0 three.1) x) ≡ option_and_then (λ p. chain 1 p.0 p.1) x
+      one_go : (x : Option (Options × Words)) → option_and_then (λ p. option_and_then (F p.0) (positional p.1)) (option_and_then (λ four. option_at four.0 four.1) x) ≡ option_and_then (λ p. chain 1 p.0 p.1) x
       one_go None = refl
       one_go (Some p) = refl
 
       two_go : (x : Option (Options × Words)) → option_and_then (λ p. option_and_then (F p.0) (positional p.1))
-          (option_and_then (λ two. option_and_then (λ three. option_at three.0 three.1) (option_at two.0 two.1)) x) ≡ option_and_then (λ p. chain 2 p.0 p.1) x
+          (option_and_then (λ three. option_and_then (λ four. option_at four.0 four.1) (option_at three.0 three.1)) x) ≡ option_and_then (λ p. chain 2 p.0 p.1) x
       two_go None = refl
       two_go (Some p) = one_go (option_at p.0 p.1)
 
       three_go : (x : Option (Options × Words)) → option_and_then (λ p. option_and_then (F p.0) (positional p.1))
-          (option_and_then (λ one. option_and_then (λ two. option_and_then (λ three. option_at three.0 three.1) (option_at two.0 two.1)) (option_at one.0 one.1)) x) ≡ option_and_then (λ p. chain 3 p.0 p.1) x
+          (option_and_then (λ two. option_and_then (λ three. option_and_then (λ four. option_at four.0 four.1) (option_at three.0 three.1)) (option_at two.0 two.1)) x) ≡ option_and_then (λ p. chain 3 p.0 p.1) x
       three_go None = refl
       three_go (Some p) = two_go (option_at p.0 p.1)
+
+      four_go : (x : Option (Options × Words)) → option_and_then (λ p. option_and_then (F p.0) (positional p.1))
+          (option_and_then (λ one. option_and_then (λ two. option_and_then (λ three. option_and_then (λ four. option_at four.0 four.1) (option_at three.0 three.1)) (option_at two.0 two.1)) (option_at one.0 one.1)) x) ≡ option_and_then (λ p. chain 4 p.0 p.1) x
+      four_go None = refl
+      four_go (Some p) = three_go (option_at p.0 p.1)
 
   lines : (a : Allowed) (words : Words) → ((n : OptionName) → allows a n ≡ false → Closed n)
       → option_and_then (λ p. option_and_then (F p.0) (positional p.1)) (options_of words) ≡ option_and_then (λ g. option_and_then (λ p. F p g.words) (options_in g)) (given_of a words)
   unfolding reads options_in
-  lines a words c = four words ∙ (all_lines words).0 4 a no_options fits
+  lines a words c = five words ∙ (all_lines words).0 5 a no_options fits
     where
-      room_go : (v s m d : Bool) → room (record { vl = v; steps = s; map = m; dump = d }) ≤ 4
-      room_go v s m d = most v s m d
+      room_go : (v s m d u : Bool) → room (record { vl = v; steps = s; map = m; dump = d; suppress = u }) ≤ 5
+      room_go v s m d u = most v s m d u
         where
           unit_most : (b : Bool) → unit b ≤ 1
           unit_most true = omega arith
           unit_most false = omega arith
 
-          most : (v s m d : Bool) → unit v + (unit s + (unit m + unit d)) ≤ 4
-          most v s m d = let x = unit_most v in let y = unit_most s in let z = unit_most m in let w = unit_most d in omega arith
+          most : (v s m d u : Bool) → unit v + (unit s + (unit m + (unit d + unit u))) ≤ 5
+          most v s m d u = let x = unit_most v in let y = unit_most s in let z = unit_most m in let w = unit_most d in let l = unit_most u in omega arith
 
       unset_go : (n : OptionName) → has n no_options ≡ false
       unset_go Vl = refl
       unset_go Steps = refl
       unset_go Map = refl
       unset_go Dump = refl
+      unset_go Suppress = refl
 
-      fits : Fits a no_options 4
-      fits = record { count = room_go a.vl a.steps a.map a.dump; unset = λ n e. unset_go n; closed = λ n e. inr (c n e) }
+      fits : Fits a no_options 5
+      fits = record { count = room_go a.vl a.steps a.map a.dump a.suppress; unset = λ n e. unset_go n; closed = λ n e. inr (c n e) }
 
 -- ---- each command
 
 abbrev run_allows : Allowed
-run_allows = record { vl = true; steps = true; map = true; dump = true }
+run_allows = record { vl = true; steps = true; map = true; dump = true; suppress = true }
 
 abbrev eval_allows : Allowed
-eval_allows = record { vl = false; steps = true; map = true; dump = true }
+eval_allows = record { vl = false; steps = true; map = true; dump = true; suppress = false }
 
 abbrev debug_allows : Allowed
-debug_allows = record { vl = true; steps = false; map = true; dump = false }
+debug_allows = record { vl = true; steps = false; map = true; dump = false; suppress = false }
 
 abbrev no_allows : Allowed
-no_allows = record { vl = false; steps = false; map = false; dump = false }
+no_allows = record { vl = false; steps = false; map = false; dump = false; suppress = false }
 
 -- the line of a command with options, by what its words give
 abbrev pub line_by : (Options → Words → Option Line) → Option Given → Option Line
@@ -685,6 +732,11 @@ run_is words = lines run_with run_allows words closed
     closed Steps e = absurd (true≢false e)
     closed Map e = absurd (true≢false e)
     closed Dump e = absurd (true≢false e)
+    closed Suppress e = absurd (true≢false e)
+
+no_choice : (b : Bool) → ◌≡◌ {A = Option Line} (if b then None else None) None
+no_choice true = refl
+no_choice false = refl
 
 pub eval_is : (words : Words) → eval_of words ≡ line_by eval_with (given_of eval_allows words)
 unfolding eval_of eval_with
@@ -695,20 +747,22 @@ eval_is words = lines eval_with eval_allows words closed
     closed Steps e = absurd (true≢false e)
     closed Map e = absurd (true≢false e)
     closed Dump e = absurd (true≢false e)
+    closed Suppress e = λ o ws h. rw h (no_choice (is_some o.vl))
 
 pub debug_is : (words : Words) → debug_of words ≡ line_by debug_with (given_of debug_allows words)
 unfolding debug_of debug_with
 debug_is words = lines debug_with debug_allows words closed
   where
-    no_choice : (b : Bool) → ◌≡◌ {A = Option Line} (if b then None else None) None
-    no_choice true = refl
-    no_choice false = refl
+    no_choices : (b c : Bool) → ◌≡◌ {A = Option Line} (if b then None else if c then None else None) None
+    no_choices true c = refl
+    no_choices false c = no_choice c
 
     closed : (n : OptionName) → allows debug_allows n ≡ false → (o : Options) (ws : Words) → has n o ≡ true → debug_with o ws ≡ None
     closed Vl e = absurd (true≢false e)
     closed Steps e = λ o ws h. rw h refl
     closed Map e = absurd (true≢false e)
     closed Dump e = λ o ws h. rw h (no_choice (is_some o.steps))
+    closed Suppress e = λ o ws h. rw h (no_choices (is_some o.steps) (is_some o.dump))
 
 -- the positional words of a command that has no options
 pub words_alone : (words : Words) → positional words ≡ option_map (λ (g : Given). g.words) (given_of no_allows words)
@@ -725,6 +779,7 @@ words_alone (word ∷ words) = by_sort (sorted word)
     no_allowed Steps = refl
     no_allowed Map = refl
     no_allowed Dump = refl
+    no_allowed Suppress = refl
 
     nothing_here : is_end word ≡ false → is_plain word ≡ false → given_from (place.Options no_allows) (word ∷ words) ≡ None
         → positional (word ∷ words) ≡ option_map (λ (g : Given). g.words) (given_of no_allows (word ∷ words))

@@ -19,7 +19,7 @@ use Rattle.command_line.specs.View.{texts}
 use Rattle.command_line.specs.Taken.{command_taking, given_view}
 use Rattle.command_line.specs.declared.place.Allowed.{Allowed}
 use Rattle.command_line.specs.declared.place.OptionName.{OptionName}
-use Rattle.command_line.specs.declared.place.OptionName.TheVariants.{Vl, Steps, Map, Dump}
+use Rattle.command_line.specs.declared.place.OptionName.TheVariants.{Vl, Steps, Map, Dump, Suppress}
 use Rattle.command_line.specs.declared.place.Place.{Place}
 use Rattle.command_line.proofs.Commands.{option_text, rules, app, built_is, simple, words_are, no_defaults, defaults_pass, valid}
 use Rattle.command_line.proofs.Splits.{text_given, option_found, words_found, both_true}
@@ -108,8 +108,9 @@ module _ (name : Text) (a : Allowed) (words : Words) (g : Given) (few : length w
       let steps = first_value-rows (found_of m) (codes "steps") ∙ ap (first_of (codes "steps")) e ∙ first_is Steps in
       let map = first_value-rows (found_of m) (codes "map") ∙ ap (first_of (codes "map")) e ∙ first_is Map in
       let dump = first_value-rows (found_of m) (codes "dump") ∙ ap (first_of (codes "dump")) e ∙ first_is Dump in
+      let suppress = first_value-rows (found_of m) (codes "suppress") ∙ ap (first_of (codes "suppress")) e ∙ first_is Suppress in
       let all = ap (λ o. unwrap_or o []) (raw_values-rows (found_of m) (codes "words") ∙ ap (all_of (codes "words")) e) ∙ all_is in
-      λ i. record { vl = vl i; steps = steps i; map = map i; dump = dump i; words = all i }
+      λ i. record { vl = vl i; steps = steps i; map = map i; dump = dump i; suppress = suppress i; words = all i }
 
   -- and the parse fails for want of memory alone
   pub takes_all : takes (command_taking name a) words ≡ true

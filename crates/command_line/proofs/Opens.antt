@@ -15,7 +15,7 @@ use Rattle.command_line.specs.Line.{Words, is_end, is_plain}
 use Rattle.command_line.specs.Given.{Given, name_of, joined_of, allows, without, value_after, options_after, next, gives, given_from, nothing, with_value, with_word, with_joined}
 use Rattle.command_line.specs.declared.place.Allowed.{Allowed}
 use Rattle.command_line.specs.declared.place.OptionName.{OptionName}
-use Rattle.command_line.specs.declared.place.OptionName.TheVariants.{Vl, Steps, Map, Dump}
+use Rattle.command_line.specs.declared.place.OptionName.TheVariants.{Vl, Steps, Map, Dump, Suppress}
 use Rattle.command_line.specs.declared.place.Place.{Place}
 use Rattle.command_line.specs.declared.place.Place.TheVariants as place
 use Rattle.command_line.proofs.Commands.{option_text, option_built, words_built, rules, shape, words_by_id}
@@ -31,18 +31,27 @@ free_after left Vl Vl e = absurd (true≢false (sym e))
 free_after left Vl Steps e = (e, refl)
 free_after left Vl Map e = (e, refl)
 free_after left Vl Dump e = (e, refl)
+free_after left Vl Suppress e = (e, refl)
 free_after left Steps Vl e = (e, refl)
 free_after left Steps Steps e = absurd (true≢false (sym e))
 free_after left Steps Map e = (e, refl)
 free_after left Steps Dump e = (e, refl)
+free_after left Steps Suppress e = (e, refl)
 free_after left Map Vl e = (e, refl)
 free_after left Map Steps e = (e, refl)
 free_after left Map Map e = absurd (true≢false (sym e))
 free_after left Map Dump e = (e, refl)
+free_after left Map Suppress e = (e, refl)
 free_after left Dump Vl e = (e, refl)
 free_after left Dump Steps e = (e, refl)
 free_after left Dump Map e = (e, refl)
 free_after left Dump Dump e = absurd (true≢false (sym e))
+free_after left Dump Suppress e = (e, refl)
+free_after left Suppress Vl e = (e, refl)
+free_after left Suppress Steps e = (e, refl)
+free_after left Suppress Map e = (e, refl)
+free_after left Suppress Dump e = (e, refl)
+free_after left Suppress Suppress e = absurd (true≢false (sym e))
 
 abbrev one : OptionName → Text → List Row
 one n v = row (option_text n) (v ∷ []) ∷ []
@@ -53,42 +62,55 @@ found_one Vl Vl v g = refl
 found_one Vl Steps v g = refl
 found_one Vl Map v g = refl
 found_one Vl Dump v g = refl
+found_one Vl Suppress v g = refl
 found_one Steps Vl v g = refl
 found_one Steps Steps v g = refl
 found_one Steps Map v g = refl
 found_one Steps Dump v g = refl
+found_one Steps Suppress v g = refl
 found_one Map Vl v g = refl
 found_one Map Steps v g = refl
 found_one Map Map v g = refl
 found_one Map Dump v g = refl
+found_one Map Suppress v g = refl
 found_one Dump Vl v g = refl
 found_one Dump Steps v g = refl
 found_one Dump Map v g = refl
 found_one Dump Dump v g = refl
+found_one Dump Suppress v g = refl
+found_one Suppress Vl v g = refl
+found_one Suppress Steps v g = refl
+found_one Suppress Map v g = refl
+found_one Suppress Dump v g = refl
+found_one Suppress Suppress v g = refl
 
 not_words : (n : OptionName) (v : Text) → found_in (codes "words") (one n v) ≡ None
 not_words Vl v = refl
 not_words Steps v = refl
 not_words Map v = refl
 not_words Dump v = refl
+not_words Suppress v = refl
 
 words_not : (n : OptionName) (x : Text) (xs : Words) → found_in (option_text n) (row (codes "words") (x ∷ xs) ∷ []) ≡ None
 words_not Vl x xs = refl
 words_not Steps x xs = refl
 words_not Map x xs = refl
 words_not Dump x xs = refl
+words_not Suppress x xs = refl
 
 same_words : (n : OptionName) (v : Text) (g : Given) → (with_value n v g).words ≡ g.words
 same_words Vl v g = refl
 same_words Steps v g = refl
 same_words Map v g = refl
 same_words Dump v g = refl
+same_words Suppress v g = refl
 
 not_pending : (n : OptionName) (v : Text) → is_pending words_built (Some (option_text n, v ∷ [])) ≡ false
 not_pending Vl v = refl
 not_pending Steps v = refl
 not_pending Map v = refl
 not_pending Dump v = refl
+not_pending Suppress v = refl
 
 -- ---- the walk where options may come
 
@@ -169,6 +191,7 @@ ends_words a name h w x words r p e few = record {
     value_is Steps = refl
     value_is Map = refl
     value_is Dump = refl
+    value_is Suppress = refl
 
     rows_are : (settled (rules a) (record h { pending = Some (codes "words", x ∷ r.words) })).rows ≡ h.rows ++ row (codes "words") (x ∷ r.words) ∷ []
     rows_are = rw (words_by_id a) (words_used x r.words h.rows e)

@@ -10,13 +10,14 @@ use Rattle.command_line.specs.Line.{is_end, is_plain, is_filled}
 use Rattle.command_line.specs.Numbers.{parted}
 use Rattle.command_line.specs.Given.{name_of, joined_of, name_before}
 use Rattle.command_line.specs.declared.place.OptionName.{OptionName}
-use Rattle.command_line.specs.declared.place.OptionName.TheVariants.{Vl, Steps, Map, Dump}
+use Rattle.command_line.specs.declared.place.OptionName.TheVariants.{Vl, Steps, Map, Dump, Suppress}
 
 abbrev pub word_of : OptionName → List ℕ
 word_of Vl = codes "--vl"
 word_of Steps = codes "--steps"
 word_of Map = codes "--map"
 word_of Dump = codes "--dump"
+word_of Suppress = codes "--suppress"
 
 pub data Sorted (word : List ℕ) : Type 0 where
   ends : is_end word ≡ true → Sorted word
@@ -57,19 +58,23 @@ pick false m n rest e = inr e
 pub name_is : (word : List ℕ) (n : OptionName) → name_of word ≡ Some n → word ≡ word_of n
 name_is word n e = by_vl (pick (bytes_eq word (codes "--vl")) Vl n _ e)
   where
-    by_dump : ((bytes_eq word (codes "--dump") ≡ true) × (Dump ≡ n)) ⊎ (None ≡ Some n) → word ≡ word_of n
+    by_suppress : ((bytes_eq word (codes "--suppress") ≡ true) × (Suppress ≡ n)) ⊎ (None ≡ Some n) → word ≡ word_of n
+    by_suppress (inl h) = same_bytes _ _ h.0 ∙ ap word_of h.1
+    by_suppress (inr h) = absurd (none-some n h)
+
+    by_dump : ((bytes_eq word (codes "--dump") ≡ true) × (Dump ≡ n)) ⊎ ((if bytes_eq word (codes "--suppress") then Some Suppress else None) ≡ Some n) → word ≡ word_of n
     by_dump (inl h) = same_bytes _ _ h.0 ∙ ap word_of h.1
-    by_dump (inr h) = absurd (none-some n h)
+    by_dump (inr h) = by_suppress (pick (bytes_eq word (codes "--suppress")) Suppress n None h)
 
-    by_map : ((bytes_eq word (codes "--map") ≡ true) × (Map ≡ n)) ⊎ ((if bytes_eq word (codes "--dump") then Some Dump else None) ≡ Some n) → word ≡ word_of n
+    by_map : ((bytes_eq word (codes "--map") ≡ true) × (Map ≡ n)) ⊎ ((if bytes_eq word (codes "--dump") then Some Dump else if bytes_eq word (codes "--suppress") then Some Suppress else None) ≡ Some n) → word ≡ word_of n
     by_map (inl h) = same_bytes _ _ h.0 ∙ ap word_of h.1
-    by_map (inr h) = by_dump (pick (bytes_eq word (codes "--dump")) Dump n None h)
+    by_map (inr h) = by_dump (pick (bytes_eq word (codes "--dump")) Dump n _ h)
 
-    by_steps : ((bytes_eq word (codes "--steps") ≡ true) × (Steps ≡ n)) ⊎ ((if bytes_eq word (codes "--map") then Some Map else if bytes_eq word (codes "--dump") then Some Dump else None) ≡ Some n) → word ≡ word_of n
+    by_steps : ((bytes_eq word (codes "--steps") ≡ true) × (Steps ≡ n)) ⊎ ((if bytes_eq word (codes "--map") then Some Map else if bytes_eq word (codes "--dump") then Some Dump else if bytes_eq word (codes "--suppress") then Some Suppress else None) ≡ Some n) → word ≡ word_of n
     by_steps (inl h) = same_bytes _ _ h.0 ∙ ap word_of h.1
     by_steps (inr h) = by_map (pick (bytes_eq word (codes "--map")) Map n _ h)
 
-    by_vl : ((bytes_eq word (codes "--vl") ≡ true) × (Vl ≡ n)) ⊎ ((if bytes_eq word (codes "--steps") then Some Steps else if bytes_eq word (codes "--map") then Some Map else if bytes_eq word (codes "--dump") then Some Dump else None) ≡ Some n) → word ≡ word_of n
+    by_vl : ((bytes_eq word (codes "--vl") ≡ true) × (Vl ≡ n)) ⊎ ((if bytes_eq word (codes "--steps") then Some Steps else if bytes_eq word (codes "--map") then Some Map else if bytes_eq word (codes "--dump") then Some Dump else if bytes_eq word (codes "--suppress") then Some Suppress else None) ≡ Some n) → word ≡ word_of n
     by_vl (inl h) = same_bytes _ _ h.0 ∙ ap word_of h.1
     by_vl (inr h) = by_steps (pick (bytes_eq word (codes "--steps")) Steps n _ h)
 

@@ -12,7 +12,7 @@ use Rattle.command_line.specs.Line.{Words, is_end, is_plain, is_filled}
 use Rattle.command_line.specs.Given.{Given, next, gives, given_from, nothing, with_word}
 use Rattle.command_line.specs.declared.place.Allowed.{Allowed}
 use Rattle.command_line.specs.declared.place.OptionName.{OptionName}
-use Rattle.command_line.specs.declared.place.OptionName.TheVariants.{Vl, Steps, Map, Dump}
+use Rattle.command_line.specs.declared.place.OptionName.TheVariants.{Vl, Steps, Map, Dump, Suppress}
 use Rattle.command_line.specs.declared.place.Place.{Place}
 use Rattle.command_line.specs.declared.place.Place.TheVariants as place
 use Rattle.command_line.proofs.Commands.{option_text, rules, shape}
@@ -26,6 +26,7 @@ text_given Vl g = g.vl
 text_given Steps g = g.steps
 text_given Map g = g.map
 text_given Dump g = g.dump
+text_given Suppress g = g.suppress
 
 abbrev pub option_found : OptionName → Option Text → Option Row
 option_found n o = option_map (λ v. row (option_text n) (v ∷ [])) o
@@ -90,12 +91,14 @@ no_value Vl = refl
 no_value Steps = refl
 no_value Map = refl
 no_value Dump = refl
+no_value Suppress = refl
 
 same_value : (n : OptionName) (word : Text) (g : Given) → text_given n (with_word word g) ≡ text_given n g
 same_value Vl word g = refl
 same_value Steps word g = refl
 same_value Map word g = refl
 same_value Dump word g = refl
+same_value Suppress word g = refl
 
 module _ (a : Allowed) (name : Text) where
   pushes_none : (w : Walk) (found : Words) (h : Held) (g : Given) → w.held ≡ record h { pending = Some (codes "words", found) } → nothing ≡ g → Pushes a name w [] found h g

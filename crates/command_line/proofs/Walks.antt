@@ -13,7 +13,7 @@ use Rattle.command_line.specs.Line.{is_plain}
 use Rattle.command_line.specs.Given.{allows}
 use Rattle.command_line.specs.declared.place.Allowed.{Allowed}
 use Rattle.command_line.specs.declared.place.OptionName.{OptionName}
-use Rattle.command_line.specs.declared.place.OptionName.TheVariants.{Vl, Steps, Map, Dump}
+use Rattle.command_line.specs.declared.place.OptionName.TheVariants.{Vl, Steps, Map, Dump, Suppress}
 use Rattle.command_line.proofs.Commands.{option_text, option_built, words_built, rules, shape, by_long, by_id, words_by_index}
 use Rattle.command_line.proofs.Sorts.{word_of}
 
@@ -91,6 +91,7 @@ module _ (a : Allowed) where
   alone_step Steps h e = rw (long_is Steps a e) refl
   alone_step Map h e = rw (long_is Map a e) refl
   alone_step Dump h e = rw (long_is Dump a e) refl
+  alone_step Suppress h e = rw (long_is Suppress a e) refl
 
   pub joined_step : (n : OptionName) (v : Text) (h : Held) → allows a n ≡ true
       → walked (rules a) [] (walk_from h) (word_of n ++ (61 ∷ v)) ≡ walk_from (reacted (rules a) (option_built n) (v ∷ []) h)
@@ -99,6 +100,7 @@ module _ (a : Allowed) where
   joined_step Steps v h e = rw (long_is Steps a e) refl
   joined_step Map v h e = rw (long_is Map a e) refl
   joined_step Dump v h e = rw (long_is Dump a e) refl
+  joined_step Suppress v h e = rw (long_is Suppress a e) refl
 
   pub value_step : (n : OptionName) (v : Text) (h : Held) → allows a n ≡ true → is_plain v ≡ true
       → walked (rules a) [] (waiting_for n h) v ≡ walk_from (record h { pending = Some (option_text n, v ∷ []) })
@@ -108,6 +110,7 @@ module _ (a : Allowed) where
   value_step Steps (b ∷ bs) h e p = rw (plain_met (rules a) (option (codes "steps")) 1 b bs (record h { pending = Some (codes "steps", []) }) (not_true _ p), id_is Steps a e) refl
   value_step Map (b ∷ bs) h e p = rw (plain_met (rules a) (option (codes "map")) 1 b bs (record h { pending = Some (codes "map", []) }) (not_true _ p), id_is Map a e) refl
   value_step Dump (b ∷ bs) h e p = rw (plain_met (rules a) (option (codes "dump")) 1 b bs (record h { pending = Some (codes "dump", []) }) (not_true _ p), id_is Dump a e) refl
+  value_step Suppress (b ∷ bs) h e p = rw (plain_met (rules a) (option (codes "suppress")) 1 b bs (record h { pending = Some (codes "suppress", []) }) (not_true _ p), id_is Suppress a e) refl
 
   -- ---- positional words
 
@@ -157,6 +160,7 @@ module _ (a : Allowed) where
   alone_turns name Steps h e p = rw (long_is Steps a e, p) refl
   alone_turns name Map h e p = rw (long_is Map a e, p) refl
   alone_turns name Dump h e p = rw (long_is Dump a e, p) refl
+  alone_turns name Suppress h e p = rw (long_is Suppress a e, p) refl
 
   -- a use of an option with one value
   pub use_passes-option : (n : OptionName) (v : Text) (rows : List Row) → found_in (option_text n) rows ≡ None → use_passes false (option_built n) (v ∷ []) rows ≡ true
@@ -168,6 +172,7 @@ module _ (a : Allowed) where
   joined_turns name Steps v h e p u = rw (long_is Steps a e, p, u) refl
   joined_turns name Map v h e p u = rw (long_is Map a e, p, u) refl
   joined_turns name Dump v h e p u = rw (long_is Dump a e, p, u) refl
+  joined_turns name Suppress v h e p u = rw (long_is Suppress a e, p, u) refl
 
   pub value_turns : (name : Text) (n : OptionName) (v : Text) (h : Held) → allows a n ≡ true → is_plain v ≡ true → turns name (waiting_for n h) v ≡ true
   value_turns name n [] h e p = absurd (true≢false (sym p))

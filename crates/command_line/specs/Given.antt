@@ -3,9 +3,9 @@ use Rattle.std.specs.Prelude.{ℕ, List, [], ◌∷◌, Option, Some, None, opti
 use Rattle.std.specs.Option.{option_map_or}
 use Rattle.number_text.specs.Numbers.{given, number_of}
 use Rattle.command_line.specs.Numbers.{parted}
-use Rattle.command_line.specs.Line.{Words, Options, is_end, is_filled, is_plain, extent_of}
+use Rattle.command_line.specs.Line.{Words, Options, is_end, is_filled, is_plain, extent_of, period_of}
 use Rattle.command_line.specs.declared.place.OptionName.{OptionName}
-use Rattle.command_line.specs.declared.place.OptionName.TheVariants.{Vl, Steps, Map, Dump}
+use Rattle.command_line.specs.declared.place.OptionName.TheVariants.{Vl, Steps, Map, Dump, Suppress}
 use Rattle.command_line.specs.declared.place.Allowed.{Allowed}
 use Rattle.command_line.specs.declared.place.Place.{Place}
 use Rattle.command_line.specs.declared.place.Place.TheVariants as place
@@ -18,7 +18,8 @@ name_of word =
     if bytes_eq word (codes "--vl") then Some Vl else
     if bytes_eq word (codes "--steps") then Some Steps else
     if bytes_eq word (codes "--map") then Some Map else
-    if bytes_eq word (codes "--dump") then Some Dump else None
+    if bytes_eq word (codes "--dump") then Some Dump else
+    if bytes_eq word (codes "--suppress") then Some Suppress else None
 
 -- the same of what stands before the equals sign of a word; what stands after it is not empty
 abbrev pub name_before : List ℕ × List ℕ → Option (OptionName × List ℕ)
@@ -33,12 +34,14 @@ allows a Vl = a.vl
 allows a Steps = a.steps
 allows a Map = a.map
 allows a Dump = a.dump
+allows a Suppress = a.suppress
 
 abbrev pub without : Allowed → OptionName → Allowed
 without a Vl = record a { vl = false }
 without a Steps = record a { steps = false }
 without a Map = record a { map = false }
 without a Dump = record a { dump = false }
+without a Suppress = record a { suppress = false }
 
 -- ---- where a word may stand
 
@@ -82,16 +85,18 @@ pub record Given : Type 0 where
   pub steps : Option (List ℕ)
   pub map : Option (List ℕ)
   pub dump : Option (List ℕ)
+  pub suppress : Option (List ℕ)
   pub words : Words
 
 abbrev pub nothing : Given
-nothing = record { vl = None; steps = None; map = None; dump = None; words = [] }
+nothing = record { vl = None; steps = None; map = None; dump = None; suppress = None; words = [] }
 
 abbrev pub with_value : OptionName → List ℕ → Given → Given
 with_value Vl v g = record g { vl = Some v }
 with_value Steps v g = record g { steps = Some v }
 with_value Map v g = record g { map = Some v }
 with_value Dump v g = record g { dump = Some v }
+with_value Suppress v g = record g { suppress = Some v }
 
 abbrev pub with_word : List ℕ → Given → Given
 with_word word g = record g { words = word ∷ g.words }
@@ -129,7 +134,9 @@ unfoldable pub options_in : Given → Option Options
 options_in g =
     option_and_then (λ vl.
     option_and_then (λ steps.
-    option_map (λ dump. record { vl = vl; steps = steps; map = g.map; dump = dump })
+    option_and_then (λ dump.
+    option_map (λ suppress. record { vl = vl; steps = steps; map = g.map; dump = dump; suppress = suppress })
+    (spelt_value period_of g.suppress))
     (spelt_value extent_of g.dump))
     (spelt_value number_of g.steps))
     (spelt_value number_of g.vl)

@@ -1,6 +1,6 @@
 -- The words of a command, as lists of bytes. The first word names the command. After it stand options, and then the
 -- positional words.
-use Rattle.std.specs.Prelude.{ℕ, ◌+◌, ◌%◌, ◌^◌, ◌&&◌, not, List, [], ◌∷◌, ◌++◌, length, Option, Some, None, option_map, option_and_then, is_some, Bool, true, false, nat_eq, nat_le, bytes_eq, codes, if◌then◌else◌}
+use Rattle.std.specs.Prelude.{ℕ, ◌+◌, ◌%◌, ◌^◌, ◌&&◌, not, List, [], ◌∷◌, ◌++◌, length, Option, Some, None, option_map, option_and_then, is_some, Bool, true, false, nat_eq, nat_le, nat_lt, bytes_eq, codes, if◌then◌else◌}
 use Rattle.number_text.specs.Numbers.{given, number_of}
 use Rattle.command_line.specs.Numbers.{parted, argument_of}
 
@@ -21,15 +21,17 @@ pub record Task : Type 0 where
   pub file : List ℕ
   pub args : List ℕ
 
--- a run and a debugging session have a vector length in bits too; neither the steps nor the dump of a task count in a session
+-- a run and a debugging session have a vector length in bits too; a run may have a number each of whose multiples counts a free
+-- element that is suppressed; neither the steps nor the dump of a task count in a session
 pub data Line : Type 0 where
   CompileLine : (from to : List ℕ) → Line
   CheckLine : (from : List ℕ) → Line
   EvalLine : Task → Line
   ListLine : (from : List ℕ) → Line
-  RunLine : (vl : ℕ) → Task → Line
+  RunLine : (vl : ℕ) → (suppress : Option ℕ) → Task → Line
   DebugLine : (vl : ℕ) → Task → Line
   SweepLine : (number : ℕ) → (to : List ℕ) → Line
+  AsmLine : (from to : List ℕ) → Line
 
 -- ---- positional words
 
@@ -70,6 +72,7 @@ pub record Options : Type 0 where
   pub steps : Option ℕ
   pub map : Option (List ℕ)
   pub dump : Option Extent
+  pub suppress : Option ℕ
 
 -- the value of an option of this name, by what stands before and after the equals sign of a word; it is not empty
 abbrev pub value_named : List ℕ → List ℕ × List ℕ → Option (List ℕ)
@@ -103,6 +106,13 @@ unfoldable pub extent_of : List ℕ → Option Extent
 extent_of word =
     option_and_then (λ p. option_and_then (λ address. option_and_then (extent address) (number_of p.1)) (number_of p.0)) (parted 58 word)
 
+-- a number of at least 1
+abbrev pub at_least_one : ℕ → Option ℕ
+at_least_one n = if nat_lt n 1 then None else Some n
+
+unfoldable pub period_of : List ℕ → Option ℕ
+period_of word = option_and_then at_least_one (number_of word)
+
 -- the options with one more, by its value
 unfoldable pub with_vl : Options → List ℕ → Option Options
 with_vl o value = option_map (λ n. record o { vl = Some n }) (once o.vl (number_of value))
@@ -116,6 +126,9 @@ with_map o value = option_map (λ name. record o { map = Some name }) (once o.ma
 unfoldable pub with_dump : Options → List ℕ → Option Options
 with_dump o value = option_map (λ e. record o { dump = Some e }) (once o.dump (extent_of value))
 
+unfoldable pub with_suppress : Options → List ℕ → Option Options
+with_suppress o value = option_map (λ n. record o { suppress = Some n }) (once o.suppress (period_of value))
+
 -- the options after one more that stands at the front, if one does
 unfoldable pub option_at : Options → Words → Option (Options × Words)
 option_at o words =
@@ -123,18 +136,21 @@ option_at o words =
     (given (value_at (codes "--steps") words) (λ p. option_map (λ n. (n, p.1)) (with_steps o p.0))
     (given (value_at (codes "--map") words) (λ p. option_map (λ n. (n, p.1)) (with_map o p.0))
     (given (value_at (codes "--dump") words) (λ p. option_map (λ n. (n, p.1)) (with_dump o p.0))
-    (Some (o, words)))))
+    (given (value_at (codes "--suppress") words) (λ p. option_map (λ n. (n, p.1)) (with_suppress o p.0))
+    (Some (o, words))))))
 
 abbrev pub no_options : Options
-no_options = record { vl = None; steps = None; map = None; dump = None }
+no_options = record { vl = None; steps = None; map = None; dump = None; suppress = None }
 
--- the options that stand at the front, and the words after them; there are four, and each stands at most once
+-- the options that stand at the front, and the words after them; there are five, and each stands at most once
 unfoldable pub options_of : Words → Option (Options × Words)
 options_of words =
     option_and_then (λ one.
     option_and_then (λ two.
     option_and_then (λ three.
-    option_at three.0 three.1)
+    option_and_then (λ four.
+    option_at four.0 four.1)
+    (option_at three.0 three.1))
     (option_at two.0 two.1))
     (option_at one.0 one.1))
     (option_at no_options words)
@@ -167,9 +183,9 @@ task_of o (file ∷ words) =
 -- `run` with these options and positional words: 128 bits where no option tells
 unfoldable pub run_with : Options → Words → Option Line
 run_with o words =
-    if is_length (or_default o.vl 128) then option_map (RunLine (or_default o.vl 128)) (task_of o words) else None
+    if is_length (or_default o.vl 128) then option_map (RunLine (or_default o.vl 128) o.suppress) (task_of o words) else None
 
--- `run [--vl N] [--steps N] [--map M] [--dump A:L] FILE [ARG]..`
+-- `run [--vl N] [--steps N] [--map M] [--dump A:L] [--suppress N] FILE [ARG]..`
 unfoldable pub run_of : Words → Option Line
 run_of words = option_and_then (λ p. option_and_then (run_with p.0) (positional p.1)) (options_of words)
 
@@ -191,17 +207,21 @@ file_of words = option_and_then one_file (positional words)
 
 -- `eval` with these options and positional words
 unfoldable pub eval_with : Options → Words → Option Line
-eval_with o words = if is_some o.vl then None else option_map EvalLine (task_of o words)
+eval_with o words =
+    if is_some o.vl then None
+    else if is_some o.suppress then None
+    else option_map EvalLine (task_of o words)
 
 -- `eval [--map M] [--steps N] [--dump A:L] IN [ARG]..`
 unfoldable pub eval_of : Words → Option Line
 eval_of words = option_and_then (λ p. option_and_then (eval_with p.0) (positional p.1)) (options_of words)
 
--- `debug` with these options and positional words: 128 bits where no option tells, and neither steps nor a dump
+-- `debug` with these options and positional words: 128 bits where no option tells, and neither steps nor a dump nor a stop list
 unfoldable pub debug_with : Options → Words → Option Line
 debug_with o words =
     if is_some o.steps then None
     else if is_some o.dump then None
+    else if is_some o.suppress then None
     else if is_length (or_default o.vl 128) then option_map (DebugLine (or_default o.vl 128)) (task_of o words)
     else None
 
@@ -217,6 +237,14 @@ number_and_file _ = None
 unfoldable pub sweep_of : Words → Option Line
 sweep_of words = option_and_then number_and_file (positional words)
 
+abbrev pub words_and_file : Words → Option Line
+words_and_file (from ∷ to ∷ []) = Some (AsmLine from to)
+words_and_file _ = None
+
+-- `asm IN OUT`
+unfoldable pub asm_of : Words → Option Line
+asm_of words = option_and_then words_and_file (positional words)
+
 -- the command of some words, where they are one
 unfoldable pub line_of : Words → Option Line
 line_of [] = None
@@ -227,4 +255,5 @@ line_of (name ∷ words) =
     if bytes_eq name (codes "list") then option_map ListLine (file_of words) else
     if bytes_eq name (codes "run") then run_of words else
     if bytes_eq name (codes "debug") then debug_of words else
-    if bytes_eq name (codes "sweep") then sweep_of words else None
+    if bytes_eq name (codes "sweep") then sweep_of words else
+    if bytes_eq name (codes "asm") then asm_of words else None

@@ -15,7 +15,7 @@ option_rule name = record (new_rule name) { long = Some name }
 abbrev pub words_rule : Rule
 words_rule = record (new_rule (codes "words")) { range = Some (record { start_inclusive = 0; end_inclusive = usize_max }) }
 
-abbrev pub with_option : Bool → Text → App → App
+unfoldable pub with_option : Bool → Text → App → App
 with_option is_allowed name a = if is_allowed then with_rule a (option_rule name) else a
 
 -- a command of this name, whose words have no program's name in front and which has no help
@@ -26,10 +26,11 @@ bare name = on_top (λ s. record s { no_binary_name = true; disable_help_flag = 
 abbrev pub command_taking : Text → Allowed → App
 command_taking name a =
     with_rule
+    (with_option a.suppress (codes "suppress")
     (with_option a.dump (codes "dump")
     (with_option a.map (codes "map")
     (with_option a.steps (codes "steps")
-    (with_option a.vl (codes "vl") (bare name)))))
+    (with_option a.vl (codes "vl") (bare name))))))
     words_rule
 
 -- the values that were found, by their options, and the positional words
@@ -39,5 +40,6 @@ given_view m = record {
   steps = first_value (found_of m) (codes "steps");
   map = first_value (found_of m) (codes "map");
   dump = first_value (found_of m) (codes "dump");
+  suppress = first_value (found_of m) (codes "suppress");
   words = unwrap_or (option_map raw_values (matched_of (found_of m) (codes "words"))) [];
 }

@@ -3,12 +3,12 @@ use Rattle.std.specs.Prelude.{ℕ, List, map, option_map, String, string_bytes, 
 use Rattle.std.specs.Borrow.{Bor}
 use Rattle.number_text.specs.View.{bytes_left}
 use Rattle.command_line.specs.declared.command.Command.{Command}
-use Rattle.command_line.specs.declared.command.Command.TheVariants.{Compile, Check, Eval, List as Listing, Run, Debug, Sweep}
+use Rattle.command_line.specs.declared.command.Command.TheVariants.{Compile, Check, Eval, List as Listing, Run, Debug, Sweep, Asm}
 use Rattle.command_line.specs.declared.command.Extent.{Extent as ExtentData}
 use Rattle.command_line.specs.declared.command.Task.{Task as TaskData}
 use Rattle.command_line.specs.declared.options.Settings.{Settings}
 use Rattle.command_line.specs.declared.place.OptionName.{OptionName}
-use Rattle.command_line.specs.Line.{Words, Line, Task, Extent, CompileLine, CheckLine, EvalLine, ListLine, RunLine, DebugLine, SweepLine, Options}
+use Rattle.command_line.specs.Line.{Words, Line, Task, Extent, CompileLine, CheckLine, EvalLine, ListLine, RunLine, DebugLine, SweepLine, AsmLine, Options}
 
 abbrev pub texts : {A : Type 0} → List (String A) → Words
 texts words = map string_bytes words
@@ -32,7 +32,7 @@ abbrev pub extent_view : ExtentData → Extent
 extent_view e = record { address = e.address; len = e.len }
 
 abbrev pub options_view : Settings → Options
-options_view s = record { vl = s.vl; steps = s.steps; map = option_map bytes_left s.map; dump = option_map extent_view s.dump }
+options_view s = record { vl = s.vl; steps = s.steps; map = option_map bytes_left s.map; dump = option_map extent_view s.dump; suppress = s.suppress }
 
 -- an option, and its value
 abbrev pub name_and_value : OptionName × Bor (List ℕ) → OptionName × List ℕ
@@ -53,6 +53,7 @@ command_view (Compile from to) = CompileLine (string_bytes from) (string_bytes t
 command_view (Check from) = CheckLine (string_bytes from)
 command_view (Eval task) = EvalLine (task_view task)
 command_view (Listing from) = ListLine (string_bytes from)
-command_view (Run vl task) = RunLine vl (task_view task)
+command_view (Run vl suppress task) = RunLine vl suppress (task_view task)
 command_view (Debug vl task) = DebugLine vl (task_view task)
 command_view (Sweep number to) = SweepLine number (string_bytes to)
+command_view (Asm from to) = AsmLine (string_bytes from) (string_bytes to)

@@ -25,6 +25,7 @@ fn name_of(word: &str) -> Option<OptionName>
         "--steps" => Some(OptionName::Steps),
         "--map" => Some(OptionName::Map),
         "--dump" => Some(OptionName::Dump),
+        "--suppress" => Some(OptionName::Suppress),
         _ => None,
     }
 }
@@ -51,6 +52,7 @@ impl Allowed {
             OptionName::Steps => self.steps,
             OptionName::Map => self.map,
             OptionName::Dump => self.dump,
+            OptionName::Suppress => self.suppress,
         }
     }
 
@@ -62,6 +64,7 @@ impl Allowed {
             OptionName::Steps => self.steps = false,
             OptionName::Map => self.map = false,
             OptionName::Dump => self.dump = false,
+            OptionName::Suppress => self.suppress = false,
         }
         self
     }

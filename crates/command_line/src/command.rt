@@ -8,19 +8,42 @@ use guest_types::length::Vl;
 #[derive(Drop)]
 pub enum Command {
     /// Compiles the kernel in the file `from` into the file `to`.
-    Compile { from: String, to: String },
+    Compile {
+        from: String,
+        to: String,
+    },
     /// Tells the size, the class and the needs of the kernel in the file `from`.
-    Check { from: String },
+    Check {
+        from: String,
+    },
     /// Evaluates a kernel; its steps are iterations.
     Eval(Task),
     /// Lists the instructions of the program in the file `from`.
-    List { from: String },
-    /// Runs a program at a vector length.
-    Run { vl: Vl, task: Task },
+    List {
+        from: String,
+    },
+    /// Runs a program at a vector length. Its first-fault and non-fault loads suppress each so many free elements, where a
+    /// number tells.
+    Run {
+        vl: Vl,
+        suppress: Option<u64>,
+        task: Task,
+    },
     /// Answers the lines of the input on a program at a vector length; neither the steps nor the dump of the task count.
-    Debug { vl: Vl, task: Task },
+    Debug {
+        vl: Vl,
+        task: Task,
+    },
     /// Compiles the kernel that the number generates into the file `to`, and runs it at every vector length.
-    Sweep { number: u64, to: String },
+    Sweep {
+        number: u64,
+        to: String,
+    },
+    /// Writes the program of the words whose texts stand in the file `from` into the file `to`.
+    Asm {
+        from: String,
+        to: String,
+    },
 }
 
 /// What is to be run.

@@ -3,7 +3,7 @@
 
 mod check;
 pub mod command;
-mod number;
+pub mod number;
 mod options;
 mod place;
 pub mod read;

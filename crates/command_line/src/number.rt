@@ -16,7 +16,7 @@ fn negative(n: u64) -> Option<u64>
     }
 }
 
-// The argument that a word spells.
+/// The argument that a word spells: a number, or a minus and decimal digits.
 #[tactic(auto, unfolding(crate::specs::Numbers::argument_of))]
 pub fn argument(word: &[u8]) -> Option<u64>
     ensures { result ≡ argument_of word.now }

@@ -1,7 +1,7 @@
 //! The options of a command.
 
-ghost use Rattle.std.specs.Prelude.{◌≡◌, IfOk, option_map};
-ghost use Rattle.command_line.specs.Line.{extent, extent_of};
+ghost use Rattle.std.specs.Prelude.{◌≡◌, ◌≤◌, IfOk, IfSome, option_map};
+ghost use Rattle.command_line.specs.Line.{extent, extent_of, period_of};
 ghost use Rattle.command_line.specs.Numbers.{parted};
 ghost use Rattle.command_line.specs.Given.{spelt_value, options_in};
 ghost use Rattle.command_line.specs.Taken.{given_view};
@@ -21,6 +21,7 @@ pub struct Settings<'a> {
     pub steps: Option<u64>,
     pub map: Option<&'a str>,
     pub dump: Option<Extent>,
+    pub suppress: Option<u64>,
 }
 
 // The parts of a word around its first colon.
@@ -65,6 +66,31 @@ fn number_in(value: Option<&str>) -> Option<Option<u64>>
     }
 }
 
+// A number of at least 1.
+#[tactic(auto, unfolding(crate::specs::Line::period_of))]
+fn period_of(word: &str) -> Option<u64>
+    ensures { result ≡ period_of word.now }
+{
+    let n = number(word.as_bytes())?;
+    if n < 1 {
+        return None;
+    }
+    Some(n)
+}
+
+// The number of at least 1 of an option, where it is left out or spells one.
+fn period_in(value: Option<&str>) -> Option<Option<u64>>
+    ensures { result ≡ spelt_value period_of (option_map bytes_left value.entry) }
+{
+    match value {
+        Some(text) => {
+            let period = period_of(text)?;
+            Some(Some(period))
+        }
+        None => Some(None),
+    }
+}
+
 // The bytes of memory of an option, where it is left out or spells some.
 fn extent_in(value: Option<&str>) -> Option<Option<Extent>>
     ensures { option_map (option_map extent_view) result ≡ spelt_value extent_of (option_map bytes_left value.entry) }
@@ -86,11 +112,13 @@ pub fn read_settings<'a>(found: &ArgMatches<'a>) -> Option<Settings<'a>>
     let vl = number_in(found.get_str("vl"))?;
     let steps = number_in(found.get_str("steps"))?;
     let dump = extent_in(found.get_str("dump"))?;
+    let suppress = period_in(found.get_str("suppress"))?;
     Some(Settings {
         vl,
         steps,
         map: found.get_str("map"),
         dump,
+        suppress,
     })
 }
 

@@ -7,6 +7,7 @@ pub enum OptionName {
     Steps,
     Map,
     Dump,
+    Suppress,
 }
 
 /// The options that may come.
@@ -16,6 +17,7 @@ pub struct Allowed {
     pub steps: bool,
     pub map: bool,
     pub dump: bool,
+    pub suppress: bool,
 }
 
 /// What may come next among the words of a command.

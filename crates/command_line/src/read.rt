@@ -1,7 +1,7 @@
 //! Reading the words of a command.
 
 ghost use Rattle.std.specs.Prelude.{◌≡◌, ◌≤◌, IfOk, IfSome, option_map, is_some, length, [], string_bytes};
-ghost use Rattle.command_line.specs.Line.{is_length, positional, arguments_from, arguments_of, task_of, run_with, run_of, debug_with, debug_of, compile_of, sweep_of, file_of, eval_with, eval_of, line_of, CheckLine, ListLine};
+ghost use Rattle.command_line.specs.Line.{is_length, positional, arguments_from, arguments_of, task_of, run_with, run_of, debug_with, debug_of, compile_of, sweep_of, asm_of, file_of, eval_with, eval_of, line_of, CheckLine, ListLine};
 ghost use Rattle.command_line.specs.View.{texts, all_left, all_in, options_view, task_view, command_view};
 ghost use Rattle.number_text.specs.View.{items_in, bytes_left};
 
@@ -19,6 +19,7 @@ const NO_OPTIONS: Allowed = Allowed {
     steps: false,
     map: false,
     dump: false,
+    suppress: false,
 };
 
 const EVAL_OPTIONS: Allowed = Allowed {
@@ -26,6 +27,7 @@ const EVAL_OPTIONS: Allowed = Allowed {
     steps: true,
     map: true,
     dump: true,
+    suppress: false,
 };
 
 const RUN_OPTIONS: Allowed = Allowed {
@@ -33,6 +35,7 @@ const RUN_OPTIONS: Allowed = Allowed {
     steps: true,
     map: true,
     dump: true,
+    suppress: true,
 };
 
 const DEBUG_OPTIONS: Allowed = Allowed {
@@ -40,6 +43,7 @@ const DEBUG_OPTIONS: Allowed = Allowed {
     steps: false,
     map: true,
     dump: false,
+    suppress: false,
 };
 
 // The positional words of a command that has no options.
@@ -143,7 +147,11 @@ fn run_with(
     let Some(task) = task(alloc, settings, words)? else {
         return Ok(None);
     };
-    Ok(Some(Command::Run { vl, task }))
+    Ok(Some(Command::Run {
+        vl,
+        suppress: settings.suppress,
+        task,
+    }))
 }
 
 // The command of the words after `run`.
@@ -171,7 +179,7 @@ fn debug_with(
     ensures { IfOk result (λ o. option_map command_view o
         ≡ debug_with (options_view settings.entry) (all_left words.now)) }
 {
-    if settings.steps.is_some() || settings.dump.is_some() {
+    if settings.steps.is_some() || settings.dump.is_some() || settings.suppress.is_some() {
         return Ok(None);
     }
     let Some(vl) = length_of(settings.vl.unwrap_or(128)) else {
@@ -235,6 +243,23 @@ fn compile(alloc: Global, words: &[String]) -> Result<Option<Command>, AllocErro
     }))
 }
 
+// The command of the words after `asm`.
+#[tactic(auto, unfolding(crate::specs::Line::asm_of))]
+fn asm(alloc: Global, words: &[String]) -> Result<Option<Command>, AllocError>
+    ensures { IfOk result (λ o. option_map command_view o ≡ asm_of (texts words.now)) }
+{
+    let Some(found) = words_alone(alloc, "asm", words)? else {
+        return Ok(None);
+    };
+    let [listing, to] = found.as_slice() else {
+        return Ok(None);
+    };
+    Ok(Some(Command::Asm {
+        from: String::from_str(alloc, listing)?,
+        to: String::from_str(alloc, to)?,
+    }))
+}
+
 // The one positional word, where there are no others.
 #[tactic(auto, unfolding(crate::specs::Line::file_of))]
 fn file(alloc: Global, name: &'static str, words: &[String]) -> Result<Option<String>, AllocError>
@@ -279,7 +304,7 @@ fn eval_with(
     ensures { IfOk result (λ o. option_map command_view o
         ≡ eval_with (options_view settings.entry) (all_left words.now)) }
 {
-    if settings.vl.is_some() {
+    if settings.vl.is_some() || settings.suppress.is_some() {
         return Ok(None);
     }
     match task(alloc, settings, words)? {
@@ -307,8 +332,8 @@ fn eval(alloc: Global, words: &[String]) -> Result<Option<Command>, AllocError>
 ///
 /// The first word names the command, options stand next and positional words last:
 /// `compile IN OUT`, `check IN`, `eval [--map M] [--steps N] [--dump A:L] IN [ARG]..`, `list FILE`,
-/// `run [--vl N] [--steps N] [--map M] [--dump A:L] FILE [ARG]..`, `debug [--vl N] [--map M] FILE [ARG]..` and
-/// `sweep NUMBER OUT`.
+/// `run [--vl N] [--steps N] [--map M] [--dump A:L] [--suppress N] FILE [ARG]..`,
+/// `debug [--vl N] [--map M] FILE [ARG]..`, `sweep NUMBER OUT` and `asm IN OUT`.
 #[tactic(auto, unfolding(crate::specs::Line::line_of))]
 pub fn read_line(alloc: Global, words: &[String]) -> Result<Option<Command>, AllocError>
     ensures { IfOk result (λ o. option_map command_view o ≡ line_of (texts words.now)) }
@@ -324,198 +349,7 @@ pub fn read_line(alloc: Global, words: &[String]) -> Result<Option<Command>, All
         "run" => run(alloc, rest),
         "debug" => debug(alloc, rest),
         "sweep" => sweep(alloc, rest),
+        "asm" => asm(alloc, rest),
         _ => Ok(None),
-    }
-}
-
-#[cfg(test)]
-mod tests {
-    use super::*;
-    use std::test::Fail;
-
-    fn read(alloc: Global, line: &str) -> Result<Option<Command>, AllocError> {
-        let mut words = Vec::new(alloc);
-        for word in line.split(' ') {
-            words.push(String::from_str(alloc, word)?)?;
-        }
-        read_line(alloc, &words)
-    }
-
-    #[test]
-    fn refused(rt: HostRuntime) -> Result<(), Fail> {
-        let lines = [
-            "",
-            "run",
-            "compile a",
-            "compile -a b",
-            "list",
-            "list a b",
-            "list --vl 128 f",
-            "run --vl 130 e1.elf",
-            "run --steps 1 --steps 1 e1.elf",
-            "run e1.elf -5",
-            "run e1.elf --vl 128",
-            "check a b",
-            "eval",
-            "eval --vl 128 k",
-            "run --map -m e1.elf",
-            "run --map= e1.elf",
-            "run --map m --map m e1.elf",
-            "run --dump 5 e1.elf",
-            "run --dump 5:0 e1.elf",
-            "run --dump 5:65537 e1.elf",
-            "run --dump 0xffffffffffffffff:2 e1.elf",
-            "run --dump 5:6:7 e1.elf",
-            "run e1.elf 1 2 3 4 5 6 7 8 9",
-            "debug",
-            "debug --steps 5 f",
-            "debug --dump 1:2 f",
-            "sweep 5",
-            "sweep x out",
-            "sweep 5 out more",
-            "sweep -5 out",
-        ];
-        for line in lines {
-            assert!(rt; read(rt.alloc(), line)?.is_none());
-        }
-        let none = Vec::new(rt.alloc());
-        assert!(rt; read_line(rt.alloc(), &none)?.is_none());
-        Ok(())
-    }
-
-    fn is_run(command: &Option<Command>, vl: u32, steps: u64, arg: u64) -> bool {
-        match command {
-            Some(Command::Run { vl: bits, task }) => {
-                bits.bits() == vl && task.steps == steps && task.args.as_slice() == [arg].as_slice()
-            }
-            _ => false,
-        }
-    }
-
-    #[test]
-    fn runs(rt: HostRuntime) -> Result<(), Fail> {
-        let rows = [
-            (
-                "run f.elf -- -2",
-                128,
-                100_000_000,
-                18_446_744_073_709_551_614,
-            ),
-            (
-                "run --vl=0x80 --steps 0 f 0xffffffffffffffff",
-                128,
-                0,
-                18_446_744_073_709_551_615,
-            ),
-        ];
-        for (line, vl, steps, arg) in rows {
-            let command = read(rt.alloc(), line)?;
-            assert!(rt; is_run(&command, vl, steps, arg));
-        }
-        Ok(())
-    }
-
-    #[test]
-    fn kernels(rt: HostRuntime) -> Result<(), Fail> {
-        let check = read(rt.alloc(), "check k")?;
-        let good = match &check {
-            Some(Command::Check { from }) => from.as_str() == "k",
-            _ => false,
-        };
-        assert!(rt; good);
-        let eval = read(rt.alloc(), "eval --steps=7 k -1")?;
-        assert!(rt; eval.is_none());
-        let eval = read(rt.alloc(), "eval --steps=7 k 5")?;
-        let good = match &eval {
-            Some(Command::Eval(task)) => {
-                task.steps == 7 && task.args.as_slice() == [5].as_slice()
-            }
-            _ => false,
-        };
-        assert!(rt; good);
-        Ok(())
-    }
-
-    fn has(command: &Option<Command>, map: &str, address: u64, len: u64) -> bool {
-        match command {
-            Some(Command::Run { vl: _, task }) => match (&task.map, &task.dump) {
-                (Some(name), Some(dump)) => {
-                    name.as_str() == map && dump.address == address && dump.len == len
-                }
-                _ => false,
-            },
-            _ => false,
-        }
-    }
-
-    #[test]
-    fn maps_and_dumps(rt: HostRuntime) -> Result<(), Fail> {
-        let rows = [
-            ("run --map m --dump 0x1000:16 f", "m", 4096, 16),
-            (
-                "run --dump=0xffffffffffff0000:65536 --vl 256 --map=--a=b f",
-                "--a=b",
-                18_446_744_073_709_486_080,
-                65_536,
-            ),
-        ];
-        for (line, map, address, len) in rows {
-            let command = read(rt.alloc(), line)?;
-            assert!(rt; has(&command, map, address, len));
-        }
-        Ok(())
-    }
-
-    #[test]
-    fn lists(rt: HostRuntime) -> Result<(), Fail> {
-        let command = read(rt.alloc(), "list -- --vl")?;
-        let good = match &command {
-            Some(Command::List { from }) => from.as_str() == "--vl",
-            _ => false,
-        };
-        assert!(rt; good);
-        Ok(())
-    }
-
-    #[test]
-    fn sessions(rt: HostRuntime) -> Result<(), Fail> {
-        let command = read(rt.alloc(), "debug --vl 256 --map m f 5")?;
-        let good = match &command {
-            Some(Command::Debug { vl, task }) => {
-                let mapped = match &task.map {
-                    Some(name) => name.as_str() == "m",
-                    None => false,
-                };
-                mapped
-                    && vl.bits() == 256
-                    && task.file.as_str() == "f"
-                    && task.args.as_slice() == [5].as_slice()
-            }
-            _ => false,
-        };
-        assert!(rt; good);
-        Ok(())
-    }
-
-    #[test]
-    fn sweeps(rt: HostRuntime) -> Result<(), Fail> {
-        let command = read(rt.alloc(), "sweep 0x10 -- -out")?;
-        let good = match &command {
-            Some(Command::Sweep { number, to }) => *number == 16 && to.as_str() == "-out",
-            _ => false,
-        };
-        assert!(rt; good);
-        Ok(())
-    }
-
-    #[test]
-    fn compiles(rt: HostRuntime) -> Result<(), Fail> {
-        let command = read(rt.alloc(), "compile -- -a b")?;
-        let good = match &command {
-            Some(Command::Compile { from, to }) => from.as_str() == "-a" && to.as_str() == "b",
-            _ => false,
-        };
-        assert!(rt; good);
-        Ok(())
     }
 }

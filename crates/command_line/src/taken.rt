@@ -13,6 +13,7 @@ use clap::{Arg, ArgMatches, Command, Error};
 use std::alloc::{AllocError, Global};
 
 // The command with one more option, where it is allowed.
+#[tactic(auto, unfolding(crate::specs::Taken::with_option))]
 fn with_option<'a>(
     alloc: Global,
     command: Command<'a>,
@@ -58,6 +59,7 @@ fn command_taking<'a>(
     let command = with_option(alloc, command, "steps", allowed.steps)?;
     let command = with_option(alloc, command, "map", allowed.map)?;
     let command = with_option(alloc, command, "dump", allowed.dump)?;
+    let command = with_option(alloc, command, "suppress", allowed.suppress)?;
     command.arg(positional_words(alloc))
 }
 

@@ -22,7 +22,7 @@ pub fn dump_text(
     len: u64,
 ) -> Result<Vec<u8>, AllocError>
     requires { address + len ≤ 2 ^ 64 }
-    ensures { IfOk result (λ text. text.items ≡ dump_text pages.now address len) }
+    ensures { IfOk result (λ text. text.items ≡ dump_text pages.now.memory address len) }
 {
     let mut text = Vec::new(alloc);
     for k in 0..len.div_ceil(LINE) {
@@ -35,7 +35,7 @@ pub fn dump_text(
 // The line of so many bytes from an address on.
 fn push_line(text: &mut Vec<u8>, pages: &Pages, address: u64, count: u64) -> Result<(), AllocError>
     requires { address + count ≤ 2 ^ 64 }
-    ensures { OnOk result (text.new.items ≡ text.old.items ++ dump_line pages.now address count) }
+    ensures { OnOk result (text.new.items ≡ text.old.items ++ dump_line pages.now.memory address count) }
 {
     push_address(text, address)?;
     text.extend_from_slice(b":")?;
@@ -48,7 +48,7 @@ fn push_line(text: &mut Vec<u8>, pages: &Pages, address: u64, count: u64) -> Res
 fn push_bytes(text: &mut Vec<u8>, pages: &Pages, address: u64, count: u64) -> Result<(), AllocError>
     requires { address + count ≤ 2 ^ 64 }
     ensures { OnOk result (text.new.items ≡ text.old.items
-        ++ flat_map (byte_text pages.now) (range_with_len address count)) }
+        ++ flat_map (byte_text pages.now.memory) (range_with_len address count)) }
 {
     for k in 0..count {
         push_shown(text, pages.byte(address + k))?;
@@ -104,6 +104,3 @@ pub fn address_digits(address: u64) -> [u8; 16]
     };
     digits
 }
-
-#[cfg(test)]
-mod tests;

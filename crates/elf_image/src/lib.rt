@@ -9,8 +9,6 @@ mod order;
 mod pages;
 mod program_header;
 mod segments;
-#[cfg(test)]
-mod tests;
 pub mod write;
 
 pub use load::load_elf;

@@ -35,24 +35,54 @@ const BASE: u64 = 0x400000;
 
 const ENTRY: u64 = 0x400078;
 
+// Puts what the file is into an empty one: its identification, type, machine, version and entry.
+fn put_kind(file: &mut Vec<u8>) -> Result<(), AllocError>
+    requires { file.old.items ≡ [] }
+    ensures { IfOk result (λ _. file.new.items ≡ take 32 (file_of [])) }
+{
+    file.extend_from_slice(&IDENT)?;
+    put_u16(file, ET_EXEC)?;
+    put_u16(file, EM_AARCH64)?;
+    put_u32(file, EV_CURRENT)?;
+    put_u64(file, ENTRY)?;
+    Ok(())
+}
+
+// Appends the rest of the file header: where the headers stand, and their sizes and numbers.
+fn put_layout(file: &mut Vec<u8>) -> Result<(), AllocError>
+    requires { file.old.items ≡ take 32 (file_of []) }
+    ensures { IfOk result (λ _. file.new.items ≡ take 64 (file_of [])) }
+{
+    put_u64(file, u64::from(HEADER_SIZE))?;
+    put_u64(file, 0)?;
+    put_u32(file, 0)?;
+    put_u16(file, HEADER_SIZE)?;
+    put_u16(file, PROGRAM_HEADER_SIZE)?;
+    put_u16(file, 1)?;
+    file.extend_from_slice(&[0; 6])?;
+    Ok(())
+}
+
 // The file header of a program with one segment, in a vector with this much room.
 fn file_header(alloc: Global, room: usize) -> Result<Vec<u8>, AllocError>
     ensures { IfOk result (λ file. file.items ≡ take 64 (file_of [])) }
 {
     let mut file = Vec::with_capacity(alloc, room)?;
-    file.extend_from_slice(&IDENT)?;
-    put_u16(&mut file, ET_EXEC)?;
-    put_u16(&mut file, EM_AARCH64)?;
-    put_u32(&mut file, EV_CURRENT)?;
-    put_u64(&mut file, ENTRY)?;
-    put_u64(&mut file, u64::from(HEADER_SIZE))?;
-    put_u64(&mut file, 0)?;
-    put_u32(&mut file, 0)?;
-    put_u16(&mut file, HEADER_SIZE)?;
-    put_u16(&mut file, PROGRAM_HEADER_SIZE)?;
-    put_u16(&mut file, 1)?;
-    file.extend_from_slice(&[0; 6])?;
+    put_kind(&mut file)?;
+    put_layout(&mut file)?;
     Ok(file)
+}
+
+// Appends the first half of the program header: what the segment is, and where it begins.
+fn put_place(file: &mut Vec<u8>) -> Result<(), AllocError>
+    requires { file.old.items ≡ take 64 (file_of []) }
+    ensures { IfOk result (λ _. file.new.items ≡ take 88 (file_of [])) }
+{
+    put_u32(file, PT_LOAD)?;
+    put_u32(file, READ_EXECUTE)?;
+    put_u64(file, 0)?;
+    put_u64(file, BASE)?;
+    Ok(())
 }
 
 // Appends the program header of a segment that is the whole file, of this size in bytes.
@@ -61,10 +91,7 @@ fn put_program_header(file: &mut Vec<u8>, size: u64) -> Result<(), AllocError>
     ensures { IfOk result (λ _. (words : List ℕ) → size ≡ 120 + 4 * length words
         → file.new.items ++ word_bytes words ≡ file_of words) }
 {
-    put_u32(file, PT_LOAD)?;
-    put_u32(file, READ_EXECUTE)?;
-    put_u64(file, 0)?;
-    put_u64(file, BASE)?;
+    put_place(file)?;
     put_u64(file, BASE)?;
     put_u64(file, size)?;
     put_u64(file, size)?;

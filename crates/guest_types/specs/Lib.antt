@@ -6,3 +6,4 @@ pub mod Elements
 pub mod Lanes
 pub mod LaneMemory
 pub mod EarlyLoads
+pub mod Kept

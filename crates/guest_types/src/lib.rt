@@ -12,5 +12,3 @@ pub mod operation;
 pub mod predicate;
 pub mod register;
 pub mod row;
-#[cfg(test)]
-mod tests;

@@ -12,5 +12,3 @@ pub mod source;
 pub mod std_files;
 pub mod std_sink;
 pub mod std_source;
-#[cfg(test)]
-mod tests;

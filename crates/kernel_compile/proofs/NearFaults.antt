@@ -71,7 +71,7 @@ same_address t base c i j = word-add (pos base +ℤ pos (byte_count t) *ℤ (pos
 -- Of a chunk of n lanes from iteration i on, the last one of whose bg iterations faults, L lanes at most: a byte that is not near
 -- the fault is no element that the lanes store.
 pub elsewhere : (k : Program) (args : List ℕ) (L bg i n z : ℕ) → n ≤ L → i + n ≤ slice_index args (bound_place k) → i < bg → bg ≤ i + n → (IsNearFault k args L bg z → ⊥) → Elsewhere k args i n z
-elsewhere k args L bg i n z few within from last_use far s t j u listed stored typed low high byte here =
+elsewhere k args L bg i n z few within from until far s t j u listed stored typed low high byte here =
     let d = declared k.params s.param t typed in
     let base : base_of k args s.param ≡ pos (slice_index args s.param) = base_given k.params args s.param t typed in
     far (record {
@@ -83,8 +83,8 @@ elsewhere k args L bg i n z few within from last_use far s t j u listed stored t
       type = t;
       typed = d.typed;
       i = j;
-      from = omega (arith, last_use, few, low);
-      last_use = omega (arith, from, few, high);
+      from = omega (arith, until, few, low);
+      until = omega (arith, from, few, high);
       within = omega (arith, high, within);
       j = u;
       byte = byte;

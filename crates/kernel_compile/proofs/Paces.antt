@@ -1,5 +1,5 @@
 -- A pace after a stretch, and how many words a pace allows in the bound of steps.
-use Rattle.std.proofs.Common.{◌≡◌, ℕ, ◌+◌, ◌-◌, ◌*◌, ◌<◌, ◌≤◌, List, ap, ◌∙◌, subst, arith, ⊎_elim}
+use Rattle.std.proofs.Common.{◌≡◌, ℕ, ◌+◌, ◌-◌, ◌*◌, ◌<◌, ◌≤◌, List, refl, ap, ◌∙◌, subst, arith, ⊎_elim}
 use Rattle.std.specs.Int.{div_ceil}
 use Rattle.std.proofs.lemmas.Bool.{cases_lt}
 use Rattle.std.proofs.lemmas.Grind.{div_ceil_times}
@@ -51,6 +51,14 @@ stop_paced {d = d} {c = c} {s = s} {kind = kind} {m = m} {scale = scale} {unit =
       ap (λ j. draft_run d j taken c s) e ∙ a.by (b.count + k) taken ∙ b.by k (taken + a.count) ∙ ap (λ n. Stop kind b.pc b.at m n) f;
   paced = paced_after b.count scale unit base some a b.paced;
 }
+
+pub end_count : {d : Laid} {c e : List Entry} {s t : State} {most : ℕ} {m : Memory} {result scale unit base : ℕ} (some : 1 ≤ scale) (a : Goes d c s e t most) (b : EndsPaced d e t m result scale unit base) → (end_paced some a b).count ≡ a.count + b.count
+unfolding end_paced
+end_count some a b = refl
+
+pub stop_count : {d : Laid} {c e : List Entry} {s t : State} {most : ℕ} {kind : StopKind} {m : Memory} {scale unit base : ℕ} (some : 1 ≤ scale) (a : Goes d c s e t most) (b : StopsPaced d e t kind m scale unit base) → (stop_paced some a b).count ≡ a.count + b.count
+unfolding stop_paced
+stop_count some a b = refl
 
 -- ---- the bound
 

@@ -20,10 +20,10 @@ use Rattle.label_fix.proofs.LabelsOnce.{Once, resolves_in}
 use Rattle.label_fix.proofs.PlacedRuns.{runs_as_draft, cuts_are_suppressed, words_length}
 use Rattle.scalar_emit.specs.Kernel.{register_in}
 use Rattle.scalar_emit.specs.Runs.{HasArguments}
-use Rattle.kernel_compile.specs.Faithful.{Follows, FreeFaithful}
+use Rattle.kernel_compile.specs.Faithful.{Follows, IsFaithful, IsAny, FreeFaithful, FreeEnds, end_steps}
 use Rattle.kernel_compile.proofs.FileStart.{image_memory, starts, start_memory, words_stand}
 use Rattle.kernel_compile.proofs.VectorPlaced.{whole_code}
-use Rattle.kernel_compile.proofs.VectorJoin.{scalar_part, guard_part, vector_part, IsJoined, code_follows}
+use Rattle.kernel_compile.proofs.VectorJoin.{scalar_part, guard_part, vector_part, IsJoined, Suffices, by_chunks, by_turns, code_follows}
 
 -- ---- the state at the start
 
@@ -57,8 +57,13 @@ pub record IsWhole (R : ℕ → ℕ) (k : Program) (a b : Assignment) (n1 n2 n3 
   pub vector : entries ≡ before_vector ++ vector_part R k a b n1 n3
   pub placed : Once entries
 
-pub vector_file : (k : Program) (a b c : Assignment) (labels n1 n2 n3 : ℕ) (entries : List Entry) (words : List ℕ) → IsJoined k a b c → IsWhole (register_in c) k a b n1 n2 n3 entries → AreFit labels entries → size entries ≤ 65536 → words ≡ words_of entries → All (λ w. w < 2 ^ 32) words → FreeFaithful k (file_of words)
-vector_file k a b c labels n1 n2 n3 entries words j w fits few is small =
+-- a bound that is met by enough steps, whatever is suppressed in them
+abbrev IsBound : Program → (Program → (args : List ℕ) (vl m q : ℕ) → ℕ) → Type 0
+IsBound k enough = (args : List ℕ) (vl m cut q steps : ℕ) → cut ≤ q → enough k args vl m q ≤ steps → Suffices k args vl m cut steps
+
+file_within : (enough : Program → (args : List ℕ) (vl m q : ℕ) → ℕ) (k : Program) (a b c : Assignment) (labels n1 n2 n3 : ℕ) (entries : List Entry) (words : List ℕ) → IsBound k enough → IsJoined k a b c → IsWhole (register_in c) k a b n1 n2 n3 entries → AreFit labels entries → size entries ≤ 65536
+    → words ≡ words_of entries → All (λ w. w < 2 ^ 32) words → IsFaithful enough IsAny k (file_of words)
+file_within enough k a b c labels n1 n2 n3 entries words suffices j w fits few is small =
     let many : length words ≤ 65536 = omega (arith, ap length is, words_length entries) in
     record {
       image = image_of_words words;
@@ -77,7 +82,7 @@ vector_file k a b c labels n1 n2 n3 entries words j w fits few is small =
           let following = resolves_in D _ w.before_guard w.guard w.placed in
           let as_given = start_length words args pages vl stops in
           let r = scalar_run k args m in
-          let f = code_follows k a b c j labels n1 n2 n3 D args m s0 (suppressed steps s0) steps
+          let f = code_follows k a b c j labels n1 n2 n3 D args m s0 steps
           (record {
             whole = resolves_in D code [] w.all w.placed;
             scalar = resolves_in D _ w.before_scalar w.scalar w.placed;
@@ -87,6 +92,18 @@ vector_file k a b c labels n1 n2 n3 entries words j w fits few is small =
             fit = fits;
             fits = subst (AreFit labels) w.all fits;
           })
-          given (start_state words args pages vl stops many start.few start.words start.memory start.apart start.length) cut (subst (λ n. free_bound k args n (begun r) (suppressed steps s0) ≤ steps) (sym as_given) le) in
+          given (start_state words args pages vl stops many start.few start.words start.memory start.apart start.length)
+          (subst (λ n. Suffices k args n (begun r) (cuts D steps code s0) steps) (sym as_given) (suffices args vl (begun r) (cuts D steps code s0) (suppressed steps s0) steps cut le)) in
           (run steps 0 s0, ap (λ l. elim l as (λ x. Option Outcome) [ Ok image ↦ Some (run steps 0 (free_start image args pages vl stops)) | Err fault ↦ None ]) (load-file_of words many), subst (λ o. Follows k args vl r o) (sym same) (subst (λ n. Follows k args n r (draft_run D steps 0 code s0)) as_given f));
     }
+
+-- both promises on a file
+pub record Promised (k : Program) (file : List ℕ) : Type 0 where
+  pub faithful : FreeFaithful k file
+  pub ends : FreeEnds k file
+
+pub vector_file : (k : Program) (a b c : Assignment) (labels n1 n2 n3 : ℕ) (entries : List Entry) (words : List ℕ) → IsJoined k a b c → IsWhole (register_in c) k a b n1 n2 n3 entries → AreFit labels entries → size entries ≤ 65536 → words ≡ words_of entries → All (λ w. w < 2 ^ 32) words → Promised k (file_of words)
+vector_file k a b c labels n1 n2 n3 entries words j w fits few is small = record {
+  faithful = file_within free_bound k a b c labels n1 n2 n3 entries words (λ args vl m cut q steps few le. by_chunks q few le) j w fits few is small;
+  ends = file_within end_steps k a b c labels n1 n2 n3 entries words (λ args vl m cut q steps few le. by_turns q le) j w fits few is small;
+}

@@ -31,7 +31,7 @@ use Rattle.dependence.proofs.Bounds.{tested}
 use Rattle.label_fix.specs.DraftRun.{Entry, Laid, Branch, Place, Always, following, address_of, draft_run}
 use Rattle.label_fix.specs.Cuts.{cuts}
 use Rattle.label_fix.specs.Finished.{AreFit}
-use Rattle.label_fix.specs.Stretches.{Goes, Resolves}
+use Rattle.label_fix.specs.Stretches.{Goes, Resolves, Paced}
 use Rattle.label_fix.proofs.StretchSteps.{chain, taken_goes}
 use Rattle.scalar_emit.specs.Kernel.{scalar_code, register_in}
 use Rattle.scalar_emit.specs.Runs.{Frame, HasArguments, AtIteration, BeginRuns, Comes, faults_so, ScalarRuns}
@@ -41,11 +41,11 @@ use Rattle.chunk_emit.specs.LoopFits.{AreDirect}
 use Rattle.chunk_emit.specs.Head.{Ground, IsGround, most_lanes, limit}
 use Rattle.vector_emit.specs.VectorCode.{vector_code}
 use Rattle.vector_emit.specs.VectorRuns as vectors
-use Rattle.vector_emit.specs.VectorRuns.{Near, VectorRuns, turn_steps, vector_base}
-use Rattle.kernel_compile.specs.Faithful.{Follows, IsNearFault}
+use Rattle.vector_emit.specs.VectorRuns.{Near, VectorRuns, turn_steps, vector_base, vector_most}
+use Rattle.kernel_compile.specs.Faithful.{Follows, IsNearFault, end_steps}
 use Rattle.kernel_compile.proofs.ScalarFaithful.{comes_after, comes_follow}
 use Rattle.kernel_compile.proofs.MapStays.{draft_map}
-use Rattle.kernel_compile.proofs.Paces.{end_paced, stop_paced, enough}
+use Rattle.kernel_compile.proofs.Paces.{end_paced, stop_paced, end_count, stop_count, enough}
 use Rattle.kernel_compile.proofs.NearFaults.{both_unmapped, elsewhere}
 use Rattle.kernel_compile.proofs.AtLoop.{bases_held, bounded}
 use Rattle.kernel_compile.proofs.AtVector.{homes_low, at_same, has_loop, ground_of, is_ground}
@@ -65,6 +65,14 @@ one_lane k args vl vector not =
     by false e = refl
     by true e = absurd (not ((tested k args).0 e))
 
+-- ---- how many steps suffice
+
+-- Of a run that begins m iterations: by the bound that counts chunks and free elements, of which `cut` are suppressed in these
+-- steps, or by the one that counts iterations alone.
+pub data Suffices (k : Program) (args : List ℕ) (vl m cut steps : ℕ) : Type 0 where
+  by_chunks : (q : ℕ) → cut ≤ q → free_bound k args vl m q ≤ steps → Suffices k args vl m cut steps
+  by_turns : (q : ℕ) → end_steps k args vl m q ≤ steps → Suffices k args vl m cut steps
+
 -- ---- outcomes
 
 -- a run that ends within the bound
@@ -80,7 +88,7 @@ module _ (g : Ground) (is : IsGround g) (memory left faulted : Memory) (bg : ℕ
   kept_near : (a : ℕ) → (IsNearFault g.kernel g.args (most_lanes g) bg a → ⊥) → byte_at left a ≡ byte_at faulted a
   kept_near a far =
       ⊎_elim
-      (λ (low : a < 2 ^ 64). near.kept a low (elsewhere g.kernel g.args (most_lanes g) bg near.i near.k a near.few (let w = near.within in omega (arith, w, bound)) near.from near.last_use far))
+      (λ (low : a < 2 ^ 64). near.kept a low (elsewhere g.kernel g.args (most_lanes g) bg near.i near.k a near.few (let w = near.within in omega (arith, w, bound)) near.from near.until far))
       (λ (past : 2 ^ 64 ≤ a). high a past)
       (cases_lt a (2 ^ 64))
 
@@ -92,27 +100,41 @@ fault_map {D = D} {o = o} {t = t} a (faults_so n kind e ok h) = ap (λ x. can_re
 few_steps : (k : Program) (args : List ℕ) (vl L m q steps : ℕ) → at_once k args vl ≡ L → free_bound k args vl m q ≤ steps → 1000 + 100 * size_of k + (32 + 8 * size_of k) * (div_ceil m L + 2 + 4 * q) ≤ steps
 few_steps k args vl L m q steps e le = subst (λ n. 1000 + 100 * size_of k + (32 + 8 * size_of k) * (div_ceil m n + 2 + 4 * q) ≤ steps) e le
 
+-- the words of scalar code, where iterations are run one by one
+one_by_one : (k : Program) (args : List ℕ) (vl m cut steps : ℕ) → at_once k args vl ≡ 1 → Suffices k args vl m cut steps → (32 + 8 * size_of k) * m + (628 + 16 * size_of k) ≤ steps
+one_by_one k args vl m cut steps alone (by_chunks q few le) =
+    let bound = few_steps k args vl 1 m q steps alone le in
+    let each : div_ceil m 1 ≡ m = omega arith in
+    let turns = ap (λ d. (32 + 8 * size_of k) * (d + 2 + 4 * q)) each in
+    omega (arith, bound, turns)
+one_by_one k args vl m cut steps alone (by_turns q le) = omega (arith, le)
+
 -- A run through the vector part: c is the whole code from the state s on, e the vector part and o the scalar part, both from t on.
-record Entered (g : Ground) (D : Laid) (c e o : List Entry) (s t : State) (vl q steps : ℕ) (m : Memory) : Type 0 where
+record Entered (g : Ground) (D : Laid) (c e o : List Entry) (s t : State) (vl : ℕ) (m : Memory) : Type 0 where
   is : IsGround g
   bound : limit g ≡ slice_index g.args (bound_place g.kernel)
   lanes : at_once g.kernel g.args vl ≡ most_lanes g
   some : 1 ≤ most_lanes g
   goes : Goes D c s e t (596 + 8 * size_of g.kernel)
-  cut : cuts D steps c s ≤ q
   good : IsMemory m
   from : s.memory ≡ m
   here : t.memory ≡ m
 
-follows_chunk : {g : Ground} {D : Laid} {c e o : List Entry} {s t : State} {vl q steps K F : ℕ} {m : Memory} {r : scalar.Run} → Entered g D c e o s t vl q steps m → vectors.Follows g D e t (most_lanes g) (2 * (most_lanes g * turn_steps g)) (vector_base g) r → Comes D o t K F 0 r
-    → free_bound g.kernel g.args vl (begun r) q ≤ steps → Follows g.kernel g.args vl r (draft_run D steps 0 c s)
-follows_chunk {g = g} {D = D} {c = c} {s = s} {vl = vl} {q = q} {steps = steps} x (vectors.ends_so {m = left} {r = result} {bg = bg} w) h le =
+-- so many steps are not fewer than the words of such a run
+in_steps : {g : Ground} {D : Laid} {c e o : List Entry} {s t : State} {vl : ℕ} {m : Memory} → Entered g D c e o s t vl m → (bg count steps : ℕ) → Suffices g.kernel g.args vl bg (cuts D steps c s) steps
+    → Paced D c s count (most_lanes g) (2 * (most_lanes g * turn_steps g)) (most_lanes g * (596 + 8 * size_of g.kernel) + vector_base g bg) → count ≤ 596 + 8 * size_of g.kernel + vector_most g bg → count ≤ steps
+in_steps {g = g} {D = D} {c = c} {s = s} {vl = vl} x bg count steps (by_chunks q cut le) paced few = enough D c s count (most_lanes g) (size_of g.kernel) bg q steps x.some (few_steps g.kernel g.args vl (most_lanes g) bg q steps x.lanes le) cut paced
+in_steps x bg count steps (by_turns q le) paced few = omega (arith, le, few)
+
+follows_chunk : {g : Ground} {D : Laid} {c e o : List Entry} {s t : State} {vl steps K F : ℕ} {m : Memory} {r : scalar.Run} → Entered g D c e o s t vl m → vectors.Follows g D e t (most_lanes g) (2 * (most_lanes g * turn_steps g)) (vector_base g) (vector_most g) r → Comes D o t K F 0 r
+    → Suffices g.kernel g.args vl (begun r) (cuts D steps c s) steps → Follows g.kernel g.args vl r (draft_run D steps 0 c s)
+follows_chunk {g = g} {D = D} {c = c} {s = s} {vl = vl} {steps = steps} x (vectors.ends_so {m = left} {r = result} {bg = bg} w most) h le =
     let all = end_paced x.some x.goes w in
-    let few = enough D c s all.count (most_lanes g) (size_of g.kernel) bg q steps x.some (few_steps g.kernel g.args vl (most_lanes g) bg q steps x.lanes le) x.cut all.paced in
+    let few = in_steps x bg all.count steps le all.paced (let n = end_count x.some x.goes w in let f = x.goes.within in omega (arith, n, f, most)) in
     ends_within D c s g.kernel g.args vl steps left result bg all.count few all.by
-follows_chunk {g = g} {D = D} {c = c} {s = s} {t = t} {vl = vl} {q = q} {steps = steps} {m = m} x (vectors.faults_so {m = faulted} {bg = bg} kind left access near w) h le =
+follows_chunk {g = g} {D = D} {c = c} {s = s} {t = t} {vl = vl} {steps = steps} {m = m} x (vectors.faults_so {m = faulted} {bg = bg} kind left access near w most) h le =
     let all = stop_paced x.some x.goes w in
-    let few = enough D c s all.count (most_lanes g) (size_of g.kernel) bg q steps x.some (few_steps g.kernel g.args vl (most_lanes g) bg q steps x.lanes le) x.cut all.paced in
+    let few = in_steps x bg all.count steps le all.paced (let n = stop_count x.some x.goes w in let f = x.goes.within in omega (arith, n, f, most)) in
     let f : all.count + (steps - all.count) ≡ steps = omega (arith, few) in
     let stops : draft_run D steps 0 c s ≡ Stop kind all.pc all.at left (0 + all.count) = ap (λ j. draft_run D j 0 c s) (sym f) ∙ all.by (steps - all.count) 0 in
     record {
@@ -205,9 +227,9 @@ module _ (k : Program) (a b c : Assignment) (j : IsJoined k a b c) where
       }
 
   -- to scalar code, where the arrays do not lie apart
-  off_follows : (labels n1 n2 n3 : ℕ) (D : Laid) (args : List ℕ) (m : Memory) (s : State) (q steps : ℕ) → IsLaid (register_in c) k a b labels n1 n2 n3 D → (h : AtGuard (register_in c) k a b n1 n2 n3 D args m s) → (Apart k args → ⊥)
-      → Passes D (guard_part (register_in c) k a b n1 n2 n3) h.end (following D n1) → free_bound k args s.vl (begun (scalar_run k args m)) q ≤ steps → Follows k args s.vl (scalar_run k args m) (draft_run D steps 0 (whole_code (register_in c) k a b n1 n2 n3) s)
-  off_follows labels n1 n2 n3 D args m s q steps is h not pass le =
+  off_follows : (labels n1 n2 n3 : ℕ) (D : Laid) (args : List ℕ) (m : Memory) (s : State) (cut steps : ℕ) → IsLaid (register_in c) k a b labels n1 n2 n3 D → (h : AtGuard (register_in c) k a b n1 n2 n3 D args m s) → (Apart k args → ⊥)
+      → Passes D (guard_part (register_in c) k a b n1 n2 n3) h.end (following D n1) → Suffices k args s.vl (begun (scalar_run k args m)) cut steps → Follows k args s.vl (scalar_run k args m) (draft_run D steps 0 (whole_code (register_in c) k a b n1 n2 n3) s)
+  off_follows labels n1 n2 n3 D args m s cut steps is h not pass le =
       let R = register_in c in
       let whole = whole_code R k a b n1 n2 n3 in
       let at = at_same R k 0 h.names m h.end pass.end (homes_low k c j.x j.few) pass.others pass.sized pass.memory h.at in
@@ -215,17 +237,13 @@ module _ (k : Program) (a b c : Assignment) (j : IsJoined k a b c) where
       let entered = j.runs.entered D n1 (Place 0 ∷ guard_part R k a b n1 n2 n3) 0 h.names m pass.end is.scalar (start_within k.turns h.names) at in
       let comes : Comes D whole s (32 + 8 * size_of k) (628 + 16 * size_of k) 0 (scalar_run k args m) =
       subst (λ r. Comes D whole s (32 + 8 * size_of k) (628 + 16 * size_of k) 0 r) (whole_run k args m h.names h.starts) (comes_after (omega arith) there entered) in
-      let n = begun (scalar_run k args m) in
-      let few = few_steps k args s.vl 1 n q steps (one_lane k args s.vl j.vector not) le in
-      let each : div_ceil n 1 ≡ n = omega arith in
-      let turns = ap (λ d. (32 + 8 * size_of k) * (d + 2 + 4 * q)) each in
-      comes_follow k args s.vl steps (omega (arith, few, turns)) comes
+      comes_follow k args s.vl steps (one_by_one k args s.vl (begun (scalar_run k args m)) cut steps (one_lane k args s.vl j.vector not) le) comes
 
   -- to the vector part, where they do
-  on_follows : (labels n1 n2 n3 : ℕ) (D : Laid) (args : List ℕ) (m : Memory) (s : State) (q steps : ℕ) → IsLaid (register_in c) k a b labels n1 n2 n3 D → HasArguments args m s → IsState s → cuts D steps (whole_code (register_in c) k a b n1 n2 n3) s ≤ q
+  on_follows : (labels n1 n2 n3 : ℕ) (D : Laid) (args : List ℕ) (m : Memory) (s : State) (steps : ℕ) → IsLaid (register_in c) k a b labels n1 n2 n3 D → HasArguments args m s → IsState s
       → (h : AtGuard (register_in c) k a b n1 n2 n3 D args m s) → Apart k args → Passes D (guard_part (register_in c) k a b n1 n2 n3) h.end (vector_part (register_in c) k a b n1 n3)
-      → free_bound k args s.vl (begun (scalar_run k args m)) q ≤ steps → Follows k args s.vl (scalar_run k args m) (draft_run D steps 0 (whole_code (register_in c) k a b n1 n2 n3) s)
-  on_follows labels n1 n2 n3 D args m s q steps is given state cut h apart pass le =
+      → Suffices k args s.vl (begun (scalar_run k args m)) (cuts D steps (whole_code (register_in c) k a b n1 n2 n3) s) steps → Follows k args s.vl (scalar_run k args m) (draft_run D steps 0 (whole_code (register_in c) k a b n1 n2 n3) s)
+  on_follows labels n1 n2 n3 D args m s steps is given state h apart pass le =
       let R = register_in c in
       let whole = whole_code R k a b n1 n2 n3 in
       let part = vector_part R k a b n1 n3 in
@@ -240,23 +258,22 @@ module _ (k : Program) (a b c : Assignment) (j : IsJoined k a b c) where
       let run = j.vectors g c D n1 n3 [] m pass.end ground j.x kept.0 refl at (λ r low. refl) is.vector reaches in
       let entered = reaches 0 h.names m pass.end (start_within k.turns h.names) at in
       let same = whole_run k args m h.names h.starts in
-      let x : Entered g D whole part (following D n1) s pass.end s.vl q steps m = record {
+      let x : Entered g D whole part (following D n1) s pass.end s.vl m = record {
         is = ground;
         bound = bound.limit;
         lanes = all_lanes k args s.vl j.vector apart ∙ ap (λ n. lanes n (lane_width_of k)) (sym (pass.vl ∙ h.vl));
         some = some_lanes pass.end.vl k kept.0.sized;
         goes = there;
-        cut = cut;
         good = given.good;
         from = given.memory;
         here = at.memory;
       } in
-      subst (λ r. Follows k args s.vl r (draft_run D steps 0 whole s)) same (follows_chunk x run entered (subst (λ r. free_bound k args s.vl (begun r) q ≤ steps) (sym same) le))
+      subst (λ r. Follows k args s.vl r (draft_run D steps 0 whole s)) same (follows_chunk x run entered (subst (λ r. Suffices k args s.vl (begun r) (cuts D steps whole s) steps) (sym same) le))
 
   -- the code from its first word on
-  pub code_follows : (labels n1 n2 n3 : ℕ) (D : Laid) (args : List ℕ) (m : Memory) (s : State) (q steps : ℕ) → IsLaid (register_in c) k a b labels n1 n2 n3 D → HasArguments args m s → IsState s → cuts D steps (whole_code (register_in c) k a b n1 n2 n3) s ≤ q
-      → free_bound k args s.vl (begun (scalar_run k args m)) q ≤ steps → Follows k args s.vl (scalar_run k args m) (draft_run D steps 0 (whole_code (register_in c) k a b n1 n2 n3) s)
-  code_follows labels n1 n2 n3 D args m s q steps is given state cut le =
+  pub code_follows : (labels n1 n2 n3 : ℕ) (D : Laid) (args : List ℕ) (m : Memory) (s : State) (steps : ℕ) → IsLaid (register_in c) k a b labels n1 n2 n3 D → HasArguments args m s → IsState s
+      → Suffices k args s.vl (begun (scalar_run k args m)) (cuts D steps (whole_code (register_in c) k a b n1 n2 n3) s) steps → Follows k args s.vl (scalar_run k args m) (draft_run D steps 0 (whole_code (register_in c) k a b n1 n2 n3) s)
+  code_follows labels n1 n2 n3 D args m s steps is given state le =
       let R = register_in c in
       let h = to_guard labels n1 n2 n3 D args m s is given in
       let loop = has_loop k j.vector in
@@ -265,5 +282,5 @@ module _ (k : Program) (a b c : Assignment) (j : IsJoined k a b c) where
     where
       by : (h : AtGuard (register_in c) k a b n1 n2 n3 D args m s) → Chooses D (guard_part (register_in c) k a b n1 n2 n3) h.end (vector_part (register_in c) k a b n1 n3) (following D n1) (Apart k args)
           → Follows k args s.vl (scalar_run k args m) (draft_run D steps 0 (whole_code (register_in c) k a b n1 n2 n3) s)
-      by h (on_where apart pass) = on_follows labels n1 n2 n3 D args m s q steps is given state cut h apart pass le
-      by h (off_where not pass) = off_follows labels n1 n2 n3 D args m s q steps is h not pass le
+      by h (on_where apart pass) = on_follows labels n1 n2 n3 D args m s steps is given state h apart pass le
+      by h (off_where not pass) = off_follows labels n1 n2 n3 D args m s (cuts D steps (whole_code (register_in c) k a b n1 n2 n3) s) steps is h not pass le

@@ -27,7 +27,7 @@ use Rattle.chunk_emit.specs.ChunkCode.{vectors, puts}
 use Rattle.chunk_emit.specs.KernelLayout.{update_of, layout_of_loop}
 use Rattle.first_fault.specs.Split.{is_quit}
 use Rattle.loop_edges.specs.EdgeCode.{type_of_var, hold_code, holds_code, start_code, fold_one, folds_code, fold_code}
-use Rattle.chunk_loop.specs.PassCode.{lanes_word, chunk_words, turn_words, plain_words}
+use Rattle.chunk_pass.specs.PassCode.{lanes_word, chunk_words, turn_words, plain_words}
 use Rattle.vector_emit.specs.VectorCode.{any_lane, passes_by, vector_code}
 use Rattle.overlap_guard.specs.Guard.{label_by, is_free, guard_code}
 use Rattle.overlap_guard.proofs.Placed.{guard_unplaced, guard_once, grows_pairs}

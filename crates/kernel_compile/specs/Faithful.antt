@@ -1,5 +1,5 @@
 -- What a compiled file owes its kernel.
-use Rattle.std.specs.Prelude.{◌≡◌, ℕ, ◌+◌, ◌<◌, ◌≤◌, ◌^◌, ℤ, pos, ◌+ℤ◌, ◌*ℤ◌, List, length, slice_get, slice_index, Some, Ok, All, Contains, true}
+use Rattle.std.specs.Prelude.{◌≡◌, ℕ, ◌+◌, ◌*◌, ◌<◌, ◌≤◌, ◌^◌, ℤ, pos, ◌+ℤ◌, ◌*ℤ◌, List, length, slice_get, slice_index, Some, Ok, All, Contains, true}
 use Rattle.guest_types.specs.EarlyLoads.{StopList, never}
 use Rattle.guest_types.specs.Length.{IsLength}
 use Rattle.guest_types.specs.Memory.{Memory, IsMemory, DoNotMeet, byte_at, merged}
@@ -16,7 +16,7 @@ use Rattle.kernel_meaning.specs.ScalarRun.{begun, scalar_run}
 use Rattle.loop_form.specs.declared.stream.Stream.{Stream}
 use Rattle.loop_form.specs.Streams.{streams_of}
 use Rattle.dependence.specs.Apart.{bound_place}
-use Rattle.dependence.specs.Bound.{at_once, bound, slow_bound, free_bound}
+use Rattle.dependence.specs.Bound.{at_once, steps_for, bound, slow_bound, free_bound}
 
 -- what a run may be started with: at most eight words, pages that do not meet the image's, and a vector length
 pub record IsStart (image : Image) (args : List ℕ) (pages : Memory) (vl : ℕ) : Type 0 where
@@ -43,7 +43,7 @@ pub record IsNearFault (k : Program) (args : List ℕ) (L m address : ℕ) : Typ
   pub typed : param.shape ≡ Array type
   pub i : ℕ
   pub from : m ≤ i + L
-  pub last_use : i + 1 < m + L
+  pub until : i + 1 < m + L
   pub within : i < slice_index args (bound_place k)
   pub j : ℕ
   pub byte : j < byte_count type
@@ -88,6 +88,10 @@ bound_steps k args vl m q = bound k args vl m
 abbrev pub slow_steps : Program → (args : List ℕ) (vl m q : ℕ) → ℕ
 slow_steps k args vl m q = slow_bound k m
 
+-- whatever free elements are suppressed: each iteration may take a chunk that no lane comes through, and a turn by itself
+abbrev pub end_steps : Program → (args : List ℕ) (vl m q : ℕ) → ℕ
+end_steps k args vl m q = steps_for k (2 * m + 2)
+
 -- the machine without a stop list, within the bound that counts chunks
 abbrev pub Faithful : Program → List ℕ → Type 0
 Faithful k file = IsFaithful bound_steps IsEmpty k file
@@ -96,9 +100,14 @@ Faithful k file = IsFaithful bound_steps IsEmpty k file
 abbrev pub SlowFaithful : Program → List ℕ → Type 0
 SlowFaithful k file = IsFaithful slow_steps IsEmpty k file
 
--- with every stop list
+-- With every stop list. The bound counts the free elements that the run itself suppresses in so many steps, so it says nothing
+-- of a run that suppresses them as fast as its steps pass: that each run ends, FreeEnds says.
 abbrev pub FreeFaithful : Program → List ℕ → Type 0
 FreeFaithful k file = IsFaithful free_bound IsAny k file
+
+-- with every stop list, within a bound that no stop list moves: each run ends
+abbrev pub FreeEnds : Program → List ℕ → Type 0
+FreeEnds k file = IsFaithful end_steps IsAny k file
 
 abbrev pub FreeSlowFaithful : Program → List ℕ → Type 0
 FreeSlowFaithful k file = IsFaithful slow_steps IsAny k file

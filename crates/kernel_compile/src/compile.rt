@@ -7,12 +7,12 @@ ghost use Rattle.machine_model.specs.Written.{file_of};
 ghost use Rattle.dependence.specs.Bound.{is_vector};
 ghost use Rattle.dependence.specs.Classes.{class_of};
 ghost use Rattle.dependence.specs.declared.reason.Class.TheVariants.{Vector};
-ghost use Rattle.kernel_compile.specs.Faithful.{FreeFaithful};
+ghost use Rattle.kernel_compile.specs.Faithful.{FreeFaithful, FreeEnds};
 ghost use Rattle.kernel_compile.specs.Refusals.{too_many, IsRefusal};
 
 use crate::emit::{emit_iterations, emit_lanes};
 use crate::fault::CompileFault;
-use crate::laws::scalar_files;
+use crate::laws::{faithful_files, scalar_files};
 use crate::registers::{check_needs, scalar_registers, vector_registers};
 use dependence::class;
 use dependence::reason::Class;
@@ -29,6 +29,7 @@ pub struct Code {
 /// iterations one by one.
 pub fn compile_kernel(alloc: Global, kernel: &Checked) -> Result<Code, CompileFault>
     ensures faithful { IfOk result (λ code. FreeFaithful (program kernel.now) (file_of code.words.items)) }
+    ensures ends { IfOk result (λ code. FreeEnds (program kernel.now) (file_of code.words.items)) }
     ensures short { IfOk result (λ code. length code.words.items ≤ 1000 + 60 * size_of (program kernel.now)) }
     ensures enough { OnOk result (too_many (program kernel.now) ≡ None) }
     ensures refusal { IfErr result (IsRefusal (program kernel.now)) }
@@ -42,6 +43,7 @@ pub fn compile_kernel(alloc: Global, kernel: &Checked) -> Result<Code, CompileFa
 fn words_of_class(alloc: Global, kernel: &Checked) -> Result<Vec<u32>, AllocError>
     requires { too_many (program kernel.now) ≡ None }
     ensures faithful { IfOk result (λ words. FreeFaithful (program kernel.now) (file_of words.items)) }
+    ensures ends { IfOk result (λ words. FreeEnds (program kernel.now) (file_of words.items)) }
     ensures short { IfOk result (λ words. length words.items ≤ 1000 + 60 * size_of (program kernel.now)) }
 {
     match class(kernel) {
@@ -54,8 +56,10 @@ fn scalar_words(alloc: Global, kernel: &Checked) -> Result<Vec<u32>, AllocError>
     requires enough { too_many (program kernel.now) ≡ None }
     requires class { is_vector (class_of (program kernel.now)) ≡ false }
     ensures faithful { IfOk result (λ words. FreeFaithful (program kernel.now) (file_of words.items)) }
+    ensures ends { IfOk result (λ words. FreeEnds (program kernel.now) (file_of words.items)) }
     ensures short { IfOk result (λ words. length words.items ≤ 1000 + 60 * size_of (program kernel.now)) }
 {
+    faithful_files();
     scalar_files();
     let regs = scalar_registers(alloc, kernel)?;
     let words = emit_iterations(alloc, kernel, &regs)?;
@@ -66,6 +70,7 @@ fn vector_words(alloc: Global, kernel: &Checked) -> Result<Vec<u32>, AllocError>
     requires enough { too_many (program kernel.now) ≡ None }
     requires class { class_of (program kernel.now) ≡ Vector }
     ensures faithful { IfOk result (λ words. FreeFaithful (program kernel.now) (file_of words.items)) }
+    ensures ends { IfOk result (λ words. FreeEnds (program kernel.now) (file_of words.items)) }
     ensures short { IfOk result (λ words. length words.items ≤ 1000 + 60 * size_of (program kernel.now)) }
 {
     let regs = vector_registers(alloc, kernel)?;

@@ -8,7 +8,7 @@ ghost use Rattle.loop_form.specs.View.{program};
 ghost use Rattle.machine_model.specs.Written.{file_of};
 ghost use Rattle.dependence.specs.Classes.{class_of};
 ghost use Rattle.dependence.specs.declared.reason.Class.TheVariants.{Vector};
-ghost use Rattle.kernel_compile.specs.Faithful.{FreeFaithful, FreeSlowFaithful};
+ghost use Rattle.kernel_compile.specs.Faithful.{FreeFaithful, FreeEnds, FreeSlowFaithful};
 
 use kernel_tree::Checked;
 use label_fix::{BranchKind, Draft};
@@ -52,6 +52,7 @@ pub fn emit_lanes(
     requires predicates { FitsKernel (program kernel.now) P regs.now.p }
     requires scalars { FitsKernel (program kernel.now) X regs.now.x }
     ensures faithful { IfOk result (λ words. FreeFaithful (program kernel.now) (file_of words.items)) }
+    ensures ends { IfOk result (λ words. FreeEnds (program kernel.now) (file_of words.items)) }
     ensures short { IfOk result (λ words. length words.items ≤ 1000 + 60 * size_of (program kernel.now)) }
 {
     few_items(kernel);

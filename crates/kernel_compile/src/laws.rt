@@ -8,7 +8,7 @@ ghost use Rattle.machine_model.specs.Run.{free_run, machine_run};
 ghost use Rattle.dependence.specs.Classes.{class_of};
 ghost use Rattle.dependence.specs.declared.reason.Class.TheVariants.{Scalar};
 ghost use Rattle.dependence.specs.declared.reason.Why.{Why};
-ghost use Rattle.kernel_compile.specs.Faithful.{Faithful, SlowFaithful, FreeFaithful, FreeSlowFaithful};
+ghost use Rattle.kernel_compile.specs.Faithful.{Faithful, SlowFaithful, FreeFaithful, FreeEnds, FreeSlowFaithful};
 
 /// The run with the empty stop list is the machine's run.
 pub fn runs_without_stops()
@@ -21,6 +21,7 @@ pub fn faithful_files()
     ensures free { (k : Program) (file : List ℕ) → FreeFaithful k file → Faithful k file }
     ensures slow { (k : Program) (file : List ℕ) → Faithful k file → SlowFaithful k file }
     ensures free_slow { (k : Program) (file : List ℕ) → FreeSlowFaithful k file → SlowFaithful k file }
+    ensures ends { (k : Program) (file : List ℕ) → FreeSlowFaithful k file → FreeEnds k file }
 {}
 
 /// Where the class is Scalar the two bounds are one.

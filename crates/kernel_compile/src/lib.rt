@@ -10,6 +10,3 @@ mod registers;
 pub use compile::{Code, compile_kernel};
 pub use fault::CompileFault;
 pub use laws::{faithful_files, runs_without_stops, scalar_files};
-
-#[cfg(test)]
-mod tests;

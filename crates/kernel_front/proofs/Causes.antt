@@ -1,7 +1,9 @@
 -- What a fault says of the verdict of a text.
 use Rattle.std.proofs.Common.{◌≡◌, refl, sym, subst, Option, Some, None, Result, Ok, Err, List, ℕ}
-use Rattle.std.specs.Prelude.{IfErr, IsErrAnd}
-use Rattle.kernel_tree.specs.Plain.{Program}
+use Rattle.std.specs.Prelude.{IfOk, IfErr, IsErrAnd}
+use Rattle.kernel_tree.specs.Plain.{Program, program_of}
+use Rattle.kernel_tree.specs.Checked.{kernel_of}
+use Rattle.kernel_tree.specs.declared.checked.Checked.{Checked}
 use Rattle.kernel_tree.specs.Typing.{Refusal, check_fault}
 use Rattle.kernel_tree.specs.declared.ast.Kernel.{Kernel}
 use Rattle.kernel_syntax.specs.declared.fault.ReadFault.{ReadFault}
@@ -12,7 +14,7 @@ use Rattle.kernel_types.specs.declared.fault.TypeFault.TheVariants as typing
 use Rattle.kernel_types.specs.Causes.{IsCause}
 use Rattle.kernel_front.specs.declared.fault.KernelFault.{KernelFault}
 use Rattle.kernel_front.specs.declared.fault.KernelFault.TheVariants as faults
-use Rattle.kernel_front.specs.Verdict.{Verdict, Limited, NoKernel, Refused, IsVerdict, Explains, IsBroken}
+use Rattle.kernel_front.specs.Verdict.{Verdict, Limited, NoKernel, Refused, Sound, IsVerdict, Explains, IsBroken}
 use Rattle.kernel_front.proofs.OneVerdict.{one_verdict}
 
 explained : (v : Verdict) (r : Refusal) (fault : TypeFault) → v ≡ Refused r → IsCause (Some r) fault → Explains v (faults.Broken fault)
@@ -49,6 +51,11 @@ by_fault text k v l read h None e fault q = nothing v fault q
 pub broken : (text : List ℕ) (k : Program) → limit_fault text ≡ None → IsReadFrom text k → (fault : KernelFault) → IsBroken (check_fault k) fault → (v : Verdict) → IsVerdict text v → Explains v fault
 broken text k l read (faults.Unread fault) q v h = absurd q
 broken text k l read (faults.Broken fault) q v h = by_fault text k v l read h (check_fault k) refl fault q
+
+-- a kernel that was read and breaks none
+pub sound : (text : List ℕ) (k : Kernel) (checked : Result Checked KernelFault) → limit_fault text ≡ None → IsReadFrom text (program_of k) → IfOk checked (λ c. check_fault (program_of k) ≡ None) → IfOk checked (λ c. kernel_of c ≡ k) → IfOk checked (λ c. IsVerdict text (Sound (program_of (kernel_of c))))
+sound text k (Ok c) l read fault same = rw same (l, read, fault)
+sound text k (Err f) l read fault same = tt
 
 -- what reading a text says where it fails
 pub record ReadSays (text : List ℕ) (read : Result Kernel ReadFault) : Type 0 where

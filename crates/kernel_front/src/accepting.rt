@@ -27,14 +27,12 @@ fn checked(alloc: Global, kernel: Kernel) -> Result<Checked, KernelFault>
 }
 
 /// The checked kernel that a text spells. A text is read first, and what was read is checked then.
-#[tactic(auto, using(crate::proofs::Causes::broken))]
 pub fn accept(alloc: Global, text: &[u8]) -> Result<Checked, KernelFault>
     ensures sound { IfOk result (λ c. IsVerdict text.now (Sound (program_of (kernel_of c)))) }
     ensures refused { IfErr result (λ fault. (v : Verdict) → IsVerdict text.now v → Explains v fault) }
 {
     let kernel = read_kernel(alloc, text)?;
-    let checked = checked(alloc, kernel)?;
-    Ok(checked)
+    checked(alloc, kernel)
 }
 
 /// A text has one verdict at most.

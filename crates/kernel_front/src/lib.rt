@@ -3,8 +3,6 @@
 
 mod accepting;
 mod fault;
-#[cfg(test)]
-mod tests;
 
 pub use accepting::{accept, one_verdict, some_verdict};
 pub use fault::KernelFault;

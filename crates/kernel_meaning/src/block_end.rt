@@ -1,7 +1,7 @@
 //! How statements end.
 
 /// How statements end.
-#[derive(Clone, Copy, PartialEq, Eq, Debug)]
+#[derive(Clone, Copy)]
 pub enum BlockEnd {
     /// The next one follows.
     Next,

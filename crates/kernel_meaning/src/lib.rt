@@ -29,6 +29,3 @@ pub use evaluator::scalar_run;
 pub use outcome::ScalarOutcome;
 pub use types::{binary_leaves, fits, greatest, is_signed, least, unary_leaves};
 pub use words::{word, wrapped};
-
-#[cfg(test)]
-mod tests;

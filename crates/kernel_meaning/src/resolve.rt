@@ -15,7 +15,7 @@ use crate::node::Node;
 use crate::offset::stream_offset;
 use crate::words::wrapped;
 use kernel_scope::{Scope, element_type, first, lookup, own_type};
-use kernel_tree::{BinaryOp, CompareOp, Expr, Name, Ty};
+use kernel_tree::{BinaryOp, CompareOp, Expr, Name, Ty, UnaryOp};
 use std::alloc::{AllocError, Global};
 
 /// The type of the elements of an array.
@@ -59,31 +59,19 @@ pub fn resolve(
         Expr::Lit(value) => Ok(Node::Constant(wrapped(want, *value))),
         Expr::Var(name) => Ok(Node::Slot(slot(scope, name))),
         Expr::Read { array, index } => resolve_read(alloc, scope, array, index),
-        Expr::Unary { op, arg } => {
-            let arg = resolve(alloc, scope, want, arg)?;
-            build::unary(alloc, *op, want, arg)
-        }
+        Expr::Unary { op, arg } => resolve_unary(alloc, scope, *op, want, arg),
         Expr::Binary { op, left, right } => resolve_binary(alloc, scope, *op, want, left, right),
         Expr::Shift {
             left_shift,
             arg,
             count,
-        } => {
-            let arg = resolve(alloc, scope, want, arg)?;
-            build::shift(alloc, *left_shift, *count, want, arg)
-        }
-        Expr::Cast { arg, ty } => {
-            let arg = resolve(alloc, scope, own_type(scope, arg), arg)?;
-            build::cast(alloc, *ty, arg)
-        }
+        } => resolve_shift(alloc, scope, *left_shift, *count, want, arg),
+        Expr::Cast { arg, ty } => resolve_cast(alloc, scope, *ty, arg),
         Expr::Select { cond, yes, no } => resolve_select(alloc, scope, want, cond, yes, no),
         Expr::Compare { op, left, right } => resolve_compared(alloc, scope, *op, left, right),
         Expr::And { left, right } => resolve_both(alloc, scope, left, right),
         Expr::Or { left, right } => resolve_either(alloc, scope, left, right),
-        Expr::Not { arg } => {
-            let arg = resolve(alloc, scope, None, arg)?;
-            build::negate(alloc, arg)
-        }
+        Expr::Not { arg } => resolve_negated(alloc, scope, arg),
     }
 }
 
@@ -104,6 +92,40 @@ pub fn resolve_number(alloc: Global, scope: &Scope, index: &Expr) -> Result<Node
     }
 }
 
+// An operand, in a box.
+#[cycle(nodes)]
+fn operand(
+    alloc: Global,
+    scope: &Scope,
+    want: Option<Ty>,
+    expr: &Expr,
+) -> Result<Box<Node>, AllocError>
+    ensures { IfOk result (λ b. tree_of b.value
+        ≡ resolving.resolved (scope_of scope.now) want (term_of expr.now)) }
+{
+    let node = resolve(alloc, scope, want, expr)?;
+    Ok(Box::new(alloc, node)?)
+}
+
+// Two operands of which the same type is wanted, each in a box.
+#[cycle(nodes)]
+fn operands(
+    alloc: Global,
+    scope: &Scope,
+    want: Option<Ty>,
+    left: &Expr,
+    right: &Expr,
+) -> Result<(Box<Node>, Box<Node>), AllocError>
+    ensures left { IfOk result (λ p. tree_of p.0.value
+        ≡ resolving.resolved (scope_of scope.now) want (term_of left.now)) }
+    ensures right { IfOk result (λ p. tree_of p.1.value
+        ≡ resolving.resolved (scope_of scope.now) want (term_of right.now)) }
+{
+    let left = operand(alloc, scope, want, left)?;
+    let right = operand(alloc, scope, want, right)?;
+    Ok((left, right))
+}
+
 #[cycle(nodes)]
 fn resolve_read(
     alloc: Global,
@@ -114,8 +136,66 @@ fn resolve_read(
     ensures { IfOk result (λ n. tree_of n ≡ resolving.element_tree (scope_of scope.now) (name_of array.now)
         (term_of index.now)) }
 {
-    let number = resolve_number(alloc, scope, index)?;
-    build::element(alloc, slot(scope, array), array_type(scope, array), number)
+    let number = Box::new(alloc, resolve_number(alloc, scope, index)?)?;
+    Ok(Node::Element {
+        base: slot(scope, array),
+        ty: array_type(scope, array),
+        number,
+    })
+}
+
+#[cycle(nodes)]
+fn resolve_unary(
+    alloc: Global,
+    scope: &Scope,
+    op: UnaryOp,
+    want: Option<Ty>,
+    arg: &Expr,
+) -> Result<Node, AllocError>
+    ensures { IfOk result (λ n. tree_of n ≡ trees.Unary op want
+        (resolving.resolved (scope_of scope.now) want (term_of arg.now))) }
+{
+    let arg = operand(alloc, scope, want, arg)?;
+    Ok(Node::Unary { op, ty: want, arg })
+}
+
+#[cycle(nodes)]
+fn resolve_shift(
+    alloc: Global,
+    scope: &Scope,
+    left_shift: bool,
+    count: i128,
+    want: Option<Ty>,
+    arg: &Expr,
+) -> Result<Node, AllocError>
+    ensures { IfOk result (λ n. tree_of n ≡ trees.Shift left_shift count want
+        (resolving.resolved (scope_of scope.now) want (term_of arg.now))) }
+{
+    let arg = operand(alloc, scope, want, arg)?;
+    Ok(Node::Shift {
+        left_shift,
+        count,
+        ty: want,
+        arg,
+    })
+}
+
+#[cycle(nodes)]
+fn resolve_cast(alloc: Global, scope: &Scope, ty: Ty, arg: &Expr) -> Result<Node, AllocError>
+    ensures { IfOk result (λ n. tree_of n ≡ trees.Cast ty (resolving.resolved (scope_of scope.now)
+        (typing.own (scope_of scope.now) (term_of arg.now)) (term_of arg.now))) }
+{
+    let arg = operand(alloc, scope, own_type(scope, arg), arg)?;
+    Ok(Node::Cast { ty, arg })
+}
+
+#[cycle(nodes)]
+fn resolve_negated(alloc: Global, scope: &Scope, arg: &Expr) -> Result<Node, AllocError>
+    ensures { IfOk result (λ n. tree_of n
+        ≡ trees.Not (resolving.resolved (scope_of scope.now) None (term_of arg.now))) }
+{
+    let arg = operand(alloc, scope, None, arg)?;
+    Ok(Node::Not { arg })
 }
 
 #[cycle(nodes)]
@@ -131,9 +211,13 @@ fn resolve_binary(
         (resolving.resolved (scope_of scope.now) want (term_of left.now))
         (resolving.resolved (scope_of scope.now) want (term_of right.now))) }
 {
-    let left = resolve(alloc, scope, want, left)?;
-    let right = resolve(alloc, scope, want, right)?;
-    build::binary(alloc, op, want, left, right)
+    let (left, right) = operands(alloc, scope, want, left, right)?;
+    Ok(Node::Binary {
+        op,
+        ty: want,
+        left,
+        right,
+    })
 }
 
 #[cycle(nodes)]
@@ -150,10 +234,9 @@ fn resolve_select(
         (resolving.resolved (scope_of scope.now) want (term_of yes.now))
         (resolving.resolved (scope_of scope.now) want (term_of no.now))) }
 {
-    let cond = resolve(alloc, scope, None, cond)?;
-    let yes = resolve(alloc, scope, want, yes)?;
-    let no = resolve(alloc, scope, want, no)?;
-    build::select(alloc, cond, yes, no)
+    let cond = operand(alloc, scope, None, cond)?;
+    let (yes, no) = operands(alloc, scope, want, yes, no)?;
+    Ok(Node::Select { cond, yes, no })
 }
 
 #[cycle(nodes)]
@@ -169,9 +252,8 @@ fn resolve_compared(
         (resolving.resolved (scope_of scope.now) want (term_of right.now))) }
 {
     let want = side_type(scope, left, right);
-    let left = resolve(alloc, scope, want, left)?;
-    let right = resolve(alloc, scope, want, right)?;
-    build::compare(alloc, op, left, right)
+    let (left, right) = operands(alloc, scope, want, left, right)?;
+    Ok(Node::Compare { op, left, right })
 }
 
 #[cycle(nodes)]
@@ -179,9 +261,8 @@ fn resolve_both(alloc: Global, scope: &Scope, left: &Expr, right: &Expr) -> Resu
     ensures { IfOk result (λ n. tree_of n ≡ trees.And (resolving.resolved (scope_of scope.now) None (term_of left.now))
         (resolving.resolved (scope_of scope.now) None (term_of right.now))) }
 {
-    let left = resolve(alloc, scope, None, left)?;
-    let right = resolve(alloc, scope, None, right)?;
-    build::both(alloc, left, right)
+    let (left, right) = operands(alloc, scope, None, left, right)?;
+    Ok(Node::And { left, right })
 }
 
 #[cycle(nodes)]
@@ -194,7 +275,6 @@ fn resolve_either(
     ensures { IfOk result (λ n. tree_of n ≡ trees.Or (resolving.resolved (scope_of scope.now) None (term_of left.now))
         (resolving.resolved (scope_of scope.now) None (term_of right.now))) }
 {
-    let left = resolve(alloc, scope, None, left)?;
-    let right = resolve(alloc, scope, None, right)?;
-    build::either(alloc, left, right)
+    let (left, right) = operands(alloc, scope, None, left, right)?;
+    Ok(Node::Or { left, right })
 }

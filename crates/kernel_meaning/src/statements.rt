@@ -122,34 +122,16 @@ fn resolve_stmt<'a>(
         ≡ typing.after_action (scope_of scope.old) (action_of stmt.now)) }
 {
     match parts(stmt) {
-        Part::Let { name, ty, value } => {
-            let step = resolve_let(alloc, scope, name, ty, value)?;
-            Ok(step)
-        }
+        Part::Let { name, ty, value } => resolve_let(alloc, scope, name, ty, value),
         Part::Store {
             array,
             index,
             value,
-        } => {
-            let step = resolve_store(alloc, scope, array, index, value)?;
-            Ok(step)
-        }
-        Part::Update { name, op, value } => {
-            let step = resolve_update(alloc, scope, name, op, value)?;
-            Ok(step)
-        }
-        Part::If { cond, block } => {
-            let step = resolve_if(alloc, scope, cond, block)?;
-            Ok(step)
-        }
-        Part::IfElse { cond, block, other } => {
-            let step = resolve_if_else(alloc, scope, cond, block, other)?;
-            Ok(step)
-        }
-        Part::Break { cond } => {
-            let step = resolve_break(alloc, scope, cond)?;
-            Ok(step)
-        }
+        } => resolve_store(alloc, scope, array, index, value),
+        Part::Update { name, op, value } => resolve_update(alloc, scope, name, op, value),
+        Part::If { cond, block } => resolve_if(alloc, scope, cond, block),
+        Part::IfElse { cond, block, other } => resolve_if_else(alloc, scope, cond, block, other),
+        Part::Break { cond } => resolve_break(alloc, scope, cond),
     }
 }
 

@@ -13,6 +13,3 @@ pub use own::{
     own_type, value_type,
 };
 pub use scope::{Local, Scope};
-
-#[cfg(test)]
-mod tests;

@@ -1,5 +1,5 @@
 -- A chain of operators of one level, as far as a loop has read it.
-use Rattle.std.proofs.Common.{◌≡◌, ℕ, zero, suc, ◌-◌, ◌<◌, Bool, List, length, Some, None, Result, Ok, refl, sym, ap, ◌∙◌, arith}
+use Rattle.std.proofs.Common.{◌≡◌, ℕ, zero, suc, ◌-◌, ◌<◌, Bool, List, length, Some, None, Result, Ok, Err, refl, sym, ap, subst, ◌∙◌, arith}
 use Rattle.std.specs.Prelude.{pos}
 use Rattle.kernel_tree.specs.declared.ops.Ty.{Ty}
 use Rattle.kernel_tree.specs.declared.ops.CompareOp.{CompareOp}
@@ -11,6 +11,7 @@ use Rattle.kernel_tree.specs.Plain.{Term, Comparison, Conversion, Shift}
 use Rattle.kernel_tree.specs.Grammar.{joined}
 use Rattle.kernel_syntax.specs.declared.fault.Stop.{Stop}
 use Rattle.kernel_syntax.specs.declared.fault.Stop.TheVariants as stop
+use Rattle.kernel_syntax.specs.Operands.{joined_by, compared_by, shifted_by, converted_by}
 use Rattle.kernel_syntax.specs.Reading.{◌>>=◌, Fails, given, Outcome, by_operator, operator_at, type_at, count_at, more, chain_at}
 
 pub chain-zero : (unary : List Word → Outcome) (level : ℕ) (words : List Word) → level ≡ 0 → chain_at unary level words ≡ unary words
@@ -25,6 +26,16 @@ chain-above unary (suc level) words h = let e : suc level - 1 ≡ level = omega 
 pub fails_on : {A B : Type 0} (e : Stop) (read : Result A ℕ) (f : A → Result B ℕ) (whole : Result B ℕ) → whole ≡ (read >>= f) → Fails e read → Fails e whole
 fails_on stop.Memory read f whole w h = tt
 fails_on (stop.Syntax left) read f whole w h = w ∙ ap (λ r. r >>= f) h
+
+-- what is read is made into an expression, with which the chain goes on
+ok_made : {A : Type 0} (read : Result A ℕ) (made : A → Term × List Word) (again : Term → List Word → Outcome) (new : Term) (next : List Word) → (read >>= (λ r. Ok (made r))) ≡ Ok (new, next) → (read >>= (λ r. again (made r).0 (made r).1)) ≡ again new next
+ok_made (Ok r) made again new next e = let same : made r ≡ (new, next) = cc in ap (λ (x : Term × List Word). again x.0 x.1) same
+ok_made (Err n) made again new next e = absurd cc
+
+fails_made : {A : Type 0} (f : Stop) (read : Result A ℕ) (made : A → Term × List Word) (again : Term → List Word → Outcome) → Fails f (read >>= (λ r. Ok (made r))) → Fails f (read >>= (λ r. again (made r).0 (made r).1))
+fails_made stop.Memory read made again h = tt
+fails_made (stop.Syntax left) (Ok r) made again h = absurd cc
+fails_made (stop.Syntax left) (Err n) made again h = h
 
 -- the chain from some words goes on as it does from what was read of it
 pub record Goes (unary : List Word → Outcome) (level : ℕ) (words : List Word) (left : Term) (rest : List Word) : Type 0 where
@@ -67,14 +78,31 @@ module _ (unary : List Word → Outcome) (level : ℕ) (words : List Word) (left
   pub ends_compared : (op : CompareOp) (after : List Word) (right : Term) (next : List Word) → Some (Compared op, after) ≡ operator_at level rest → chain_at unary (level - 1) after ≡ Ok (right, next) → chain_at unary level words ≡ Ok (Comparison op left right, next)
   ends_compared op after right next e r = step (Compared op) after e ∙ ap (λ x. x >>= (λ r. Ok (Comparison op left r.0, r.1))) r
 
-  pub fails_joined : (j : Joint) (after : List Word) (f : Stop) → Some (Joined j, after) ≡ operator_at level rest → Fails f (chain_at unary (level - 1) after) → Fails f (chain_at unary level words)
-  fails_joined j after f e h = fails_on f (chain_at unary (level - 1) after) (λ r. more (chain_at unary (level - 1)) level goes.room (joined j left r.0) r.1) (chain_at unary level words) (step (Joined j) after e) h
+  -- by what is read after an operator
+  pub takes_joined : (j : Joint) (after : List Word) (new : Term) (next : List Word) → Some (Joined j, after) ≡ operator_at level rest → joined_by (chain_at unary (level - 1)) j left after ≡ Ok (new, next) → length next < length rest → Goes unary level words new next
+  unfolding joined_by
+  takes_joined j after new next e r lt = go_on new next (step (Joined j) after e ∙ ok_made (chain_at unary (level - 1) after) (λ r. (joined j left r.0, r.1)) (more (chain_at unary (level - 1)) level goes.room) new next r) lt
 
-  pub fails_compared : (op : CompareOp) (after : List Word) (f : Stop) → Some (Compared op, after) ≡ operator_at level rest → Fails f (chain_at unary (level - 1) after) → Fails f (chain_at unary level words)
-  fails_compared op after f e h = fails_on f (chain_at unary (level - 1) after) (λ r. Ok (Comparison op left r.0, r.1)) (chain_at unary level words) (step (Compared op) after e) h
+  pub takes_shifted : (to_left : Bool) (after : List Word) (new : Term) (next : List Word) → Some (Shifted to_left, after) ≡ operator_at level rest → shifted_by to_left left after ≡ Ok (new, next) → length next < length rest → Goes unary level words new next
+  unfolding shifted_by
+  takes_shifted to_left after new next e r lt = go_on new next (step (Shifted to_left) after e ∙ ok_made (count_at after) (λ n. (Shift to_left left (pos n.0), n.1)) (more (chain_at unary (level - 1)) level goes.room) new next r) lt
 
-  pub fails_shifted : (to_left : Bool) (after : List Word) (f : Stop) → Some (Shifted to_left, after) ≡ operator_at level rest → Fails f (count_at after) → Fails f (chain_at unary level words)
-  fails_shifted to_left after f e h = fails_on f (count_at after) (λ n. more (chain_at unary (level - 1)) level goes.room (Shift to_left left (pos n.0)) n.1) (chain_at unary level words) (step (Shifted to_left) after e) h
+  pub takes_as : (after : List Word) (new : Term) (next : List Word) → Some (As, after) ≡ operator_at level rest → converted_by left after ≡ Ok (new, next) → length next < length rest → Goes unary level words new next
+  unfolding converted_by
+  takes_as after new next e r lt = go_on new next (step As after e ∙ ok_made (type_at after) (λ t. (Conversion left t.0, t.1)) (more (chain_at unary (level - 1)) level goes.room) new next r) lt
 
-  pub fails_as : (after : List Word) (f : Stop) → Some (As, after) ≡ operator_at level rest → Fails f (type_at after) → Fails f (chain_at unary level words)
-  fails_as after f e h = fails_on f (type_at after) (λ t. more (chain_at unary (level - 1)) level goes.room (Conversion left t.0) t.1) (chain_at unary level words) (step As after e) h
+  pub compared_is : (op : CompareOp) (after : List Word) → Some (Compared op, after) ≡ operator_at level rest → chain_at unary level words ≡ compared_by (chain_at unary (level - 1)) op left after
+  unfolding compared_by
+  compared_is op after e = step (Compared op) after e
+
+  pub refuses_joined : (j : Joint) (after : List Word) (f : Stop) → Some (Joined j, after) ≡ operator_at level rest → Fails f (joined_by (chain_at unary (level - 1)) j left after) → Fails f (chain_at unary level words)
+  unfolding joined_by
+  refuses_joined j after f e h = subst (Fails f) (sym (step (Joined j) after e)) (fails_made f (chain_at unary (level - 1) after) (λ r. (joined j left r.0, r.1)) (more (chain_at unary (level - 1)) level goes.room) h)
+
+  pub refuses_shifted : (to_left : Bool) (after : List Word) (f : Stop) → Some (Shifted to_left, after) ≡ operator_at level rest → Fails f (shifted_by to_left left after) → Fails f (chain_at unary level words)
+  unfolding shifted_by
+  refuses_shifted to_left after f e h = subst (Fails f) (sym (step (Shifted to_left) after e)) (fails_made f (count_at after) (λ n. (Shift to_left left (pos n.0), n.1)) (more (chain_at unary (level - 1)) level goes.room) h)
+
+  pub refuses_as : (after : List Word) (f : Stop) → Some (As, after) ≡ operator_at level rest → Fails f (converted_by left after) → Fails f (chain_at unary level words)
+  unfolding converted_by
+  refuses_as after f e h = subst (Fails f) (sym (step As after e)) (fails_made f (type_at after) (λ t. (Conversion left t.0, t.1)) (more (chain_at unary (level - 1)) level goes.room) h)

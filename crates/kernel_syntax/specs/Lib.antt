@@ -1,4 +1,5 @@
 pub mod Reading
+pub mod Operands
 pub mod Statements
 pub mod Headers
 pub mod Nesting

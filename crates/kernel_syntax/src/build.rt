@@ -1,7 +1,7 @@
-//! Nodes of the tree.
+//! Nodes of the tree, each in a box of its own: a box is given up by one call, and an expression by one for each kind.
 
-ghost use Rattle.std.specs.Prelude.{◌≡◌, IfOk, pos};
-ghost use Rattle.kernel_tree.specs.Plain.{term_of, name_of, Element, Unary, Operation, Shift, Conversion, Choice, Comparison, Both, Either, Not};
+ghost use Rattle.std.specs.Prelude.{◌≡◌, IfOk, pos, neg_ℤ};
+ghost use Rattle.kernel_tree.specs.Plain.{term_of, name_of, Literal, Variable, Element, Unary, Operation, Shift, Conversion, Choice, Comparison, Both, Either, Not};
 ghost use Rattle.kernel_tree.specs.Grammar.{joined, signed};
 ghost use Rattle.kernel_tree.specs.declared.ops.UnaryOp.TheVariants as unary;
 
@@ -10,36 +10,54 @@ use kernel_tree::token::Number;
 use kernel_tree::{BinaryOp, CompareOp, Expr, Name, Ty, UnaryOp};
 use std::alloc::{AllocError, Global};
 
-pub fn binary(alloc: Global, op: BinaryOp, left: Expr, right: Expr) -> Result<Expr, AllocError>
-    ensures { IfOk result (λ e. term_of e ≡ Operation op (term_of left) (term_of right)) }
+pub fn literal(alloc: Global, number: Number) -> Result<Box<Expr>, AllocError>
+    ensures { IfOk result (λ e. term_of e.value ≡ Literal (pos number.value)) }
 {
-    Ok(Expr::Binary {
-        op,
-        left: Box::new(alloc, left)?,
-        right: Box::new(alloc, right)?,
-    })
+    Ok(Box::new(alloc, Expr::Lit(number.value as i128))?)
 }
 
-fn both(alloc: Global, left: Expr, right: Expr) -> Result<Expr, AllocError>
-    ensures { IfOk result (λ e. term_of e ≡ Both (term_of left) (term_of right)) }
+pub fn negative(alloc: Global, number: Number) -> Result<Box<Expr>, AllocError>
+    ensures { IfOk result (λ e. term_of e.value ≡ Literal (neg_ℤ (pos number.value))) }
 {
-    Ok(Expr::And {
-        left: Box::new(alloc, left)?,
-        right: Box::new(alloc, right)?,
-    })
+    Ok(Box::new(alloc, Expr::Lit(-(number.value as i128)))?)
 }
 
-fn either(alloc: Global, left: Expr, right: Expr) -> Result<Expr, AllocError>
-    ensures { IfOk result (λ e. term_of e ≡ Either (term_of left) (term_of right)) }
+pub fn variable(alloc: Global, name: Name) -> Result<Box<Expr>, AllocError>
+    ensures { IfOk result (λ e. term_of e.value ≡ Variable (name_of name)) }
 {
-    Ok(Expr::Or {
-        left: Box::new(alloc, left)?,
-        right: Box::new(alloc, right)?,
-    })
+    Ok(Box::new(alloc, Expr::Var(name))?)
 }
 
-pub fn join(alloc: Global, joint: Joint, left: Expr, right: Expr) -> Result<Expr, AllocError>
-    ensures { IfOk result (λ e. term_of e ≡ joined joint (term_of left) (term_of right)) }
+pub fn binary(
+    alloc: Global,
+    op: BinaryOp,
+    left: Box<Expr>,
+    right: Box<Expr>,
+) -> Result<Box<Expr>, AllocError>
+    ensures { IfOk result (λ e. term_of e.value ≡ Operation op (term_of left.value) (term_of right.value)) }
+{
+    Ok(Box::new(alloc, Expr::Binary { op, left, right })?)
+}
+
+fn both(alloc: Global, left: Box<Expr>, right: Box<Expr>) -> Result<Box<Expr>, AllocError>
+    ensures { IfOk result (λ e. term_of e.value ≡ Both (term_of left.value) (term_of right.value)) }
+{
+    Ok(Box::new(alloc, Expr::And { left, right })?)
+}
+
+fn either(alloc: Global, left: Box<Expr>, right: Box<Expr>) -> Result<Box<Expr>, AllocError>
+    ensures { IfOk result (λ e. term_of e.value ≡ Either (term_of left.value) (term_of right.value)) }
+{
+    Ok(Box::new(alloc, Expr::Or { left, right })?)
+}
+
+pub fn join(
+    alloc: Global,
+    joint: Joint,
+    left: Box<Expr>,
+    right: Box<Expr>,
+) -> Result<Box<Expr>, AllocError>
+    ensures { IfOk result (λ e. term_of e.value ≡ joined joint (term_of left.value) (term_of right.value)) }
 {
     match joint {
         Joint::Dual(op) => binary(alloc, op, left, right),
@@ -48,63 +66,59 @@ pub fn join(alloc: Global, joint: Joint, left: Expr, right: Expr) -> Result<Expr
     }
 }
 
-pub fn compare(alloc: Global, op: CompareOp, left: Expr, right: Expr) -> Result<Expr, AllocError>
-    ensures { IfOk result (λ e. term_of e ≡ Comparison op (term_of left) (term_of right)) }
+pub fn compare(
+    alloc: Global,
+    op: CompareOp,
+    left: Box<Expr>,
+    right: Box<Expr>,
+) -> Result<Box<Expr>, AllocError>
+    ensures { IfOk result (λ e. term_of e.value ≡ Comparison op (term_of left.value) (term_of right.value)) }
 {
-    Ok(Expr::Compare {
-        op,
-        left: Box::new(alloc, left)?,
-        right: Box::new(alloc, right)?,
-    })
+    Ok(Box::new(alloc, Expr::Compare { op, left, right })?)
 }
 
-pub fn shift(alloc: Global, to_left: bool, arg: Expr, count: Number) -> Result<Expr, AllocError>
-    ensures { IfOk result (λ e. term_of e ≡ Shift to_left (term_of arg) (pos count.value)) }
+pub fn shift(
+    alloc: Global,
+    to_left: bool,
+    arg: Box<Expr>,
+    count: Number,
+) -> Result<Box<Expr>, AllocError>
+    ensures { IfOk result (λ e. term_of e.value ≡ Shift to_left (term_of arg.value) (pos count.value)) }
 {
-    Ok(Expr::Shift {
+    let shift = Expr::Shift {
         left_shift: to_left,
-        arg: Box::new(alloc, arg)?,
+        arg,
         count: count.value as i128,
-    })
+    };
+    Ok(Box::new(alloc, shift)?)
 }
 
-pub fn cast(alloc: Global, arg: Expr, ty: Ty) -> Result<Expr, AllocError>
-    ensures { IfOk result (λ e. term_of e ≡ Conversion (term_of arg) ty) }
+pub fn cast(alloc: Global, arg: Box<Expr>, ty: Ty) -> Result<Box<Expr>, AllocError>
+    ensures { IfOk result (λ e. term_of e.value ≡ Conversion (term_of arg.value) ty) }
 {
-    Ok(Expr::Cast {
-        arg: Box::new(alloc, arg)?,
-        ty,
-    })
+    Ok(Box::new(alloc, Expr::Cast { arg, ty })?)
 }
 
-pub fn element(alloc: Global, array: Name, index: Expr) -> Result<Expr, AllocError>
-    ensures { IfOk result (λ e. term_of e ≡ Element (name_of array) (term_of index)) }
+pub fn element(alloc: Global, array: Name, index: Box<Expr>) -> Result<Box<Expr>, AllocError>
+    ensures { IfOk result (λ e. term_of e.value ≡ Element (name_of array) (term_of index.value)) }
 {
-    Ok(Expr::Read {
-        array,
-        index: Box::new(alloc, index)?,
-    })
+    Ok(Box::new(alloc, Expr::Read { array, index })?)
 }
 
-pub fn unary(alloc: Global, op: UnaryOp, arg: Expr) -> Result<Expr, AllocError>
-    ensures { IfOk result (λ e. term_of e ≡ Unary op (term_of arg)) }
+pub fn unary(alloc: Global, op: UnaryOp, arg: Box<Expr>) -> Result<Box<Expr>, AllocError>
+    ensures { IfOk result (λ e. term_of e.value ≡ Unary op (term_of arg.value)) }
 {
-    Ok(Expr::Unary {
-        op,
-        arg: Box::new(alloc, arg)?,
-    })
+    Ok(Box::new(alloc, Expr::Unary { op, arg })?)
 }
 
-fn negate(alloc: Global, arg: Expr) -> Result<Expr, AllocError>
-    ensures { IfOk result (λ e. term_of e ≡ Not (term_of arg)) }
+fn negate(alloc: Global, arg: Box<Expr>) -> Result<Box<Expr>, AllocError>
+    ensures { IfOk result (λ e. term_of e.value ≡ Not (term_of arg.value)) }
 {
-    Ok(Expr::Not {
-        arg: Box::new(alloc, arg)?,
-    })
+    Ok(Box::new(alloc, Expr::Not { arg })?)
 }
 
-pub fn sign(alloc: Global, sign: Sign, arg: Expr) -> Result<Expr, AllocError>
-    ensures { IfOk result (λ e. term_of e ≡ signed sign (term_of arg)) }
+pub fn sign(alloc: Global, sign: Sign, arg: Box<Expr>) -> Result<Box<Expr>, AllocError>
+    ensures { IfOk result (λ e. term_of e.value ≡ signed sign (term_of arg.value)) }
 {
     match sign {
         Sign::Minus => unary(alloc, UnaryOp::Neg, arg),
@@ -113,12 +127,13 @@ pub fn sign(alloc: Global, sign: Sign, arg: Expr) -> Result<Expr, AllocError>
     }
 }
 
-pub fn select(alloc: Global, cond: Expr, yes: Expr, no: Expr) -> Result<Expr, AllocError>
-    ensures { IfOk result (λ e. term_of e ≡ Choice (term_of cond) (term_of yes) (term_of no)) }
+pub fn select(
+    alloc: Global,
+    cond: Box<Expr>,
+    yes: Box<Expr>,
+    no: Box<Expr>,
+) -> Result<Box<Expr>, AllocError>
+    ensures { IfOk result (λ e. term_of e.value ≡ Choice (term_of cond.value) (term_of yes.value) (term_of no.value)) }
 {
-    Ok(Expr::Select {
-        cond: Box::new(alloc, cond)?,
-        yes: Box::new(alloc, yes)?,
-        no: Box::new(alloc, no)?,
-    })
+    Ok(Box::new(alloc, Expr::Select { cond, yes, no })?)
 }

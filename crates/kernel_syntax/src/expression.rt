@@ -4,6 +4,7 @@ ghost use Rattle.std.specs.Prelude.{◌≡◌, ◌≤◌, ◌<◌, length, IfOk,
 ghost use Rattle.kernel_tree.specs.Plain.{term_of, name_of, words_of};
 ghost use Rattle.kernel_tree.specs.Grammar.{number_following, opening_of_mark};
 ghost use Rattle.kernel_syntax.specs.Reading.{Gives, chain_at, unary_at, term_before, name_by, pair_by, absolute_by, choice_by, signed_by, opened_by, unary_by, sign_front};
+ghost use Rattle.kernel_syntax.specs.Operands.{joined_by, compared_by, shifted_by, converted_by};
 ghost use Rattle.kernel_syntax.specs.Signs.{all_signed};
 
 use crate::fault::Stop;
@@ -11,13 +12,84 @@ use crate::front::{
     accept, copy_name, expect, expect_number, expect_type, front_mark, front_number, front_operator,
 };
 use crate::{build, class};
-use kernel_tree::mark::{Mark, Opening, Operator, Sign};
+use kernel_tree::mark::{Joint, Mark, Opening, Operator, Sign};
 use kernel_tree::token::{Number, Token};
-use kernel_tree::{BinaryOp, Expr, Name, UnaryOp};
+use kernel_tree::{BinaryOp, CompareOp, Expr, Name, UnaryOp};
 use std::alloc::{AllocError, Global};
 
 // The loosest level, that of any expression.
 const ANY: u8 = 10;
+
+// What stands after an operator that joins operands.
+#[cycle(expression)]
+#[tactic(auto, unfolding(crate::specs::Operands::joined_by))]
+fn joined<'a>(
+    alloc: Global,
+    joint: Joint,
+    left: Box<Expr>,
+    tokens: &'a [Token],
+    level: u8,
+    room: usize,
+) -> Result<(Box<Expr>, &'a [Token]), Stop>
+    requires { level ≤ 9 }
+    ensures value { Gives (λ x. (term_of x.0.value, words_of x.1.now)) result
+        (joined_by (chain_at (unary_at room) level) joint (term_of left.value) (words_of tokens.now)) }
+    ensures shorter { IfOk result (λ x. length x.1.now < length tokens.now) }
+{
+    let (right, rest) = chain(alloc, tokens, level, room)?;
+    Ok((build::join(alloc, joint, left, right)?, rest))
+}
+
+// What stands after a comparison.
+#[cycle(expression)]
+#[tactic(auto, unfolding(crate::specs::Operands::compared_by))]
+fn compared<'a>(
+    alloc: Global,
+    op: CompareOp,
+    left: Box<Expr>,
+    tokens: &'a [Token],
+    level: u8,
+    room: usize,
+) -> Result<(Box<Expr>, &'a [Token]), Stop>
+    requires { level ≤ 9 }
+    ensures value { Gives (λ x. (term_of x.0.value, words_of x.1.now)) result
+        (compared_by (chain_at (unary_at room) level) op (term_of left.value) (words_of tokens.now)) }
+    ensures shorter { IfOk result (λ x. length x.1.now < length tokens.now) }
+{
+    let (right, rest) = chain(alloc, tokens, level, room)?;
+    Ok((build::compare(alloc, op, left, right)?, rest))
+}
+
+// What stands after a shift.
+#[tactic(auto, unfolding(crate::specs::Operands::shifted_by))]
+fn shifted<'a>(
+    alloc: Global,
+    to_left: bool,
+    left: Box<Expr>,
+    tokens: &'a [Token],
+) -> Result<(Box<Expr>, &'a [Token]), Stop>
+    ensures value { Gives (λ x. (term_of x.0.value, words_of x.1.now)) result
+        (shifted_by to_left (term_of left.value) (words_of tokens.now)) }
+    ensures shorter { IfOk result (λ x. length x.1.now < length tokens.now) }
+{
+    let (count, rest) = expect_number(tokens)?;
+    Ok((build::shift(alloc, to_left, left, count)?, rest))
+}
+
+// What stands after the word that begins a conversion.
+#[tactic(auto, unfolding(crate::specs::Operands::converted_by))]
+fn converted<'a>(
+    alloc: Global,
+    left: Box<Expr>,
+    tokens: &'a [Token],
+) -> Result<(Box<Expr>, &'a [Token]), Stop>
+    ensures value { Gives (λ x. (term_of x.0.value, words_of x.1.now)) result
+        (converted_by (term_of left.value) (words_of tokens.now)) }
+    ensures shorter { IfOk result (λ x. length x.1.now < length tokens.now) }
+{
+    let (ty, rest) = expect_type(tokens)?;
+    Ok((build::cast(alloc, left, ty)?, rest))
+}
 
 // An expression of a level.
 #[cycle(expression)]
@@ -26,9 +98,9 @@ fn chain<'a>(
     tokens: &'a [Token],
     level: u8,
     room: usize,
-) -> Result<(Expr, &'a [Token]), Stop>
+) -> Result<(Box<Expr>, &'a [Token]), Stop>
     requires { level ≤ 10 }
-    ensures value { Gives (λ x. (term_of x.0, words_of x.1.now)) result
+    ensures value { Gives (λ x. (term_of x.0.value, words_of x.1.now)) result
         (chain_at (unary_at room) level (words_of tokens.now)) }
     ensures shorter { IfOk result (λ x. length x.1.now < length tokens.now) }
 {
@@ -41,22 +113,19 @@ fn chain<'a>(
     'more: while let Some((operator, after)) = front_operator(rest, level) {
         match operator {
             Operator::Joined(joint) => {
-                let (right, next) = chain(alloc, after, level - 1, room)?;
-                left = build::join(alloc, joint, left, right)?;
+                let (whole, next) = joined(alloc, joint, left, after, level - 1, room)?;
+                left = whole;
                 rest = next;
             }
-            Operator::Compared(op) => {
-                let (right, next) = chain(alloc, after, level - 1, room)?;
-                return Ok((build::compare(alloc, op, left, right)?, next));
-            }
+            Operator::Compared(op) => return compared(alloc, op, left, after, level - 1, room),
             Operator::Shifted(to_left) => {
-                let (count, next) = expect_number(after)?;
-                left = build::shift(alloc, to_left, left, count)?;
+                let (whole, next) = shifted(alloc, to_left, left, after)?;
+                left = whole;
                 rest = next;
             }
             Operator::As => {
-                let (ty, next) = expect_type(after)?;
-                left = build::cast(alloc, left, ty)?;
+                let (whole, next) = converted(alloc, left, after)?;
+                left = whole;
                 rest = next;
             }
         }
@@ -67,8 +136,12 @@ fn chain<'a>(
 // A unary expression. No more than room of them stand inside one another.
 #[cycle(expression)]
 #[tactic(auto, unfolding(crate::specs::Reading::unary_at))]
-fn unary<'a>(alloc: Global, tokens: &'a [Token], room: usize) -> Result<(Expr, &'a [Token]), Stop>
-    ensures value { Gives (λ x. (term_of x.0, words_of x.1.now)) result (unary_at room (words_of tokens.now)) }
+fn unary<'a>(
+    alloc: Global,
+    tokens: &'a [Token],
+    room: usize,
+) -> Result<(Box<Expr>, &'a [Token]), Stop>
+    ensures value { Gives (λ x. (term_of x.0.value, words_of x.1.now)) result (unary_at room (words_of tokens.now)) }
     ensures shorter { IfOk result (λ x. length x.1.now < length tokens.now) }
 {
     if room == 0 {
@@ -79,14 +152,18 @@ fn unary<'a>(alloc: Global, tokens: &'a [Token], room: usize) -> Result<(Expr, &
 
 // A unary expression by its first token.
 #[cycle(expression)]
-fn begun<'a>(alloc: Global, tokens: &'a [Token], room: usize) -> Result<(Expr, &'a [Token]), Stop>
-    ensures value { Gives (λ x. (term_of x.0, words_of x.1.now)) result
+fn begun<'a>(
+    alloc: Global,
+    tokens: &'a [Token],
+    room: usize,
+) -> Result<(Box<Expr>, &'a [Token]), Stop>
+    ensures value { Gives (λ x. (term_of x.0.value, words_of x.1.now)) result
         (unary_by (chain_at (unary_at room) 10) (unary_at room) (words_of tokens.now)) }
     ensures shorter { IfOk result (λ x. length x.1.now < length tokens.now) }
 {
     match tokens {
         [] => Err(Stop::Syntax { left: 0 }),
-        [Token::Number(n), rest @ ..] => Ok((Expr::Lit(n.value as i128), rest)),
+        [Token::Number(n), rest @ ..] => Ok((build::literal(alloc, *n)?, rest)),
         [Token::Name(name), rest @ ..] => named(alloc, name, rest, room),
         [Token::Mark(mark), rest @ ..] => opened(alloc, *mark, rest, room),
         [Token::Type(_), ..] => Err(Stop::Syntax { left: tokens.len() }),
@@ -102,8 +179,8 @@ fn opened<'a>(
     mark: Mark,
     tokens: &'a [Token],
     room: usize,
-) -> Result<(Expr, &'a [Token]), Stop>
-    ensures value { Gives (λ x. (term_of x.0, words_of x.1.now)) result
+) -> Result<(Box<Expr>, &'a [Token]), Stop>
+    ensures value { Gives (λ x. (term_of x.0.value, words_of x.1.now)) result
         (opened_by (chain_at (unary_at room) 10) (unary_at room) (opening_of_mark mark) (words_of tokens.now)) }
     ensures shorter { IfOk result (λ x. length x.1.now < length tokens.now) }
 {
@@ -127,8 +204,8 @@ pub fn term_then<'a>(
     tokens: &'a [Token],
     mark: Mark,
     room: usize,
-) -> Result<(Expr, &'a [Token]), Stop>
-    ensures value { Gives (λ x. (term_of x.0, words_of x.1.now)) result
+) -> Result<(Box<Expr>, &'a [Token]), Stop>
+    ensures value { Gives (λ x. (term_of x.0.value, words_of x.1.now)) result
         (term_before (chain_at (unary_at room) 10) mark (words_of tokens.now)) }
     ensures shorter { IfOk result (λ x. length x.1.now < length tokens.now) }
 {
@@ -144,8 +221,8 @@ fn named<'a>(
     name: &Name,
     tokens: &'a [Token],
     room: usize,
-) -> Result<(Expr, &'a [Token]), Stop>
-    ensures value { Gives (λ x. (term_of x.0, words_of x.1.now)) result
+) -> Result<(Box<Expr>, &'a [Token]), Stop>
+    ensures value { Gives (λ x. (term_of x.0.value, words_of x.1.now)) result
         (name_by (chain_at (unary_at room) 10) (name_of name.now) (words_of tokens.now)) }
     ensures shorter { IfOk result (λ x. length x.1.now ≤ length tokens.now) }
 {
@@ -155,7 +232,7 @@ fn named<'a>(
             let (index, rest) = term_then(alloc, from, Mark::CloseBracket, room)?;
             Ok((build::element(alloc, name, index)?, rest))
         }
-        None => Ok((Expr::Var(name), tokens)),
+        None => Ok((build::variable(alloc, name)?, tokens)),
     }
 }
 
@@ -167,8 +244,8 @@ fn pair<'a>(
     op: BinaryOp,
     tokens: &'a [Token],
     room: usize,
-) -> Result<(Expr, &'a [Token]), Stop>
-    ensures value { Gives (λ x. (term_of x.0, words_of x.1.now)) result
+) -> Result<(Box<Expr>, &'a [Token]), Stop>
+    ensures value { Gives (λ x. (term_of x.0.value, words_of x.1.now)) result
         (pair_by (chain_at (unary_at room) 10) op (words_of tokens.now)) }
     ensures shorter { IfOk result (λ x. length x.1.now < length tokens.now) }
 {
@@ -185,8 +262,8 @@ fn absolute<'a>(
     alloc: Global,
     tokens: &'a [Token],
     room: usize,
-) -> Result<(Expr, &'a [Token]), Stop>
-    ensures value { Gives (λ x. (term_of x.0, words_of x.1.now)) result
+) -> Result<(Box<Expr>, &'a [Token]), Stop>
+    ensures value { Gives (λ x. (term_of x.0.value, words_of x.1.now)) result
         (absolute_by (chain_at (unary_at room) 10) (words_of tokens.now)) }
     ensures shorter { IfOk result (λ x. length x.1.now < length tokens.now) }
 {
@@ -198,8 +275,12 @@ fn absolute<'a>(
 // The three arguments of a choice.
 #[cycle(expression)]
 #[tactic(auto, unfolding(crate::specs::Reading::choice_by))]
-fn choice<'a>(alloc: Global, tokens: &'a [Token], room: usize) -> Result<(Expr, &'a [Token]), Stop>
-    ensures value { Gives (λ x. (term_of x.0, words_of x.1.now)) result
+fn choice<'a>(
+    alloc: Global,
+    tokens: &'a [Token],
+    room: usize,
+) -> Result<(Box<Expr>, &'a [Token]), Stop>
+    ensures value { Gives (λ x. (term_of x.0.value, words_of x.1.now)) result
         (choice_by (chain_at (unary_at room) 10) (words_of tokens.now)) }
     ensures shorter { IfOk result (λ x. length x.1.now < length tokens.now) }
 {
@@ -243,8 +324,8 @@ fn front_sign(tokens: &[Token]) -> Option<(Sign, &[Token])>
 }
 
 // An expression after signs, of which the last one is the innermost.
-fn following_signs(alloc: Global, signs: Vec<Sign>, arg: Expr) -> Result<Expr, AllocError>
-    ensures { IfOk result (λ e. term_of e ≡ all_signed signs.items (term_of arg)) }
+fn following_signs(alloc: Global, signs: Vec<Sign>, arg: Box<Expr>) -> Result<Box<Expr>, AllocError>
+    ensures { IfOk result (λ e. term_of e.value ≡ all_signed signs.items (term_of arg.value)) }
 {
     let mut left = signs;
     let mut expr = arg;
@@ -262,13 +343,13 @@ fn operand<'a>(
     sign: Sign,
     tokens: &'a [Token],
     room: usize,
-) -> Result<(Expr, &'a [Token]), Stop>
-    ensures value { Gives (λ x. (term_of x.0, words_of x.1.now)) result
+) -> Result<(Box<Expr>, &'a [Token]), Stop>
+    ensures value { Gives (λ x. (term_of x.0.value, words_of x.1.now)) result
         (signed_by (unary_at room) sign (words_of tokens.now)) }
     ensures shorter { IfOk result (λ x. length x.1.now < length tokens.now) }
 {
     match signed_number(sign, tokens) {
-        Some((n, rest)) => Ok((Expr::Lit(-(n.value as i128)), rest)),
+        Some((n, rest)) => Ok((build::negative(alloc, n)?, rest)),
         None => {
             let (arg, rest) = unary(alloc, tokens, room)?;
             Ok((build::sign(alloc, sign, arg)?, rest))
@@ -283,8 +364,8 @@ fn signed<'a>(
     sign: Sign,
     tokens: &'a [Token],
     room: usize,
-) -> Result<(Expr, &'a [Token]), Stop>
-    ensures value { Gives (λ x. (term_of x.0, words_of x.1.now)) result
+) -> Result<(Box<Expr>, &'a [Token]), Stop>
+    ensures value { Gives (λ x. (term_of x.0.value, words_of x.1.now)) result
         (signed_by (unary_at room) sign (words_of tokens.now)) }
     ensures shorter { IfOk result (λ x. length x.1.now < length tokens.now) }
 {

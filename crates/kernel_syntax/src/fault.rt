@@ -35,7 +35,7 @@ impl From<AllocError> for ReadFault {
 }
 
 /// Why the reading of tokens stopped.
-#[derive(Clone, Copy, Debug, PartialEq, Eq)]
+#[derive(Clone, Copy)]
 pub enum Stop {
     Memory,
     /// So many tokens were left where no kernel goes on.

@@ -128,15 +128,12 @@ pub fn copy_name(alloc: Global, name: &Name) -> Result<Name, AllocError>
 
 // The name that must stand at the front.
 #[tactic(auto, unfolding(crate::specs::Reading::name_at))]
-pub fn expect_name<'a>(alloc: Global, tokens: &'a [Token]) -> Result<(Name, &'a [Token]), Stop>
-    ensures value { Gives (λ x. (name_of x.0, words_of x.1.now)) result (name_at (words_of tokens.now)) }
+pub fn expect_name<'a>(tokens: &'a [Token]) -> Result<(&'a Name, &'a [Token]), Stop>
+    ensures value { Gives (λ x. (name_of x.0.now, words_of x.1.now)) result (name_at (words_of tokens.now)) }
     ensures shorter { IfOk result (λ x. length x.1.now < length tokens.now) }
 {
     match front_name(tokens) {
-        Some((name, rest)) => {
-            let copy = copy_name(alloc, name)?;
-            Ok((copy, rest))
-        }
+        Some((name, rest)) => Ok((name, rest)),
         None => Err(Stop::Syntax { left: tokens.len() }),
     }
 }

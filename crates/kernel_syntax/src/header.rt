@@ -6,12 +6,12 @@ ghost use Rattle.kernel_syntax.specs.Reading.{Gives};
 ghost use Rattle.kernel_syntax.specs.Headers.{shape_at, param_at, some_at, params_at, var_at, vars_at, zero_at, turns_at, loop_at, tail_at, answer_by};
 
 use crate::fault::Stop;
-use crate::front::{accept, expect, expect_name, expect_type, front_number};
+use crate::front::{accept, copy_name, expect, expect_name, expect_type, front_number};
 use crate::statement::{block, term};
 use kernel_tree::mark::Mark;
 use kernel_tree::token::Token;
-use kernel_tree::{Answer, Loop, Param, Shape, Ty, Var};
-use std::alloc::Global;
+use kernel_tree::{Answer, Loop, Name, Param, Shape, Stmt, Ty, Var};
+use std::alloc::{AllocError, Global};
 
 // What stands after the colon of a parameter.
 #[tactic(auto, unfolding(crate::specs::Headers::shape_at))]
@@ -37,10 +37,16 @@ fn parameter<'a>(alloc: Global, tokens: &'a [Token]) -> Result<(Param, &'a [Toke
     ensures value { Gives (λ x. (parameter_of x.0, words_of x.1.now)) result (param_at (words_of tokens.now)) }
     ensures shorter { IfOk result (λ x. length x.1.now < length tokens.now) }
 {
-    let (name, following) = expect_name(alloc, tokens)?;
+    let (name, following) = expect_name(tokens)?;
     let from = expect(following, Mark::Colon)?;
     let (shape, rest) = read_shape(from)?;
-    Ok((Param { name, shape }, rest))
+    Ok((
+        Param {
+            name: copy_name(alloc, name)?,
+            shape,
+        },
+        rest,
+    ))
 }
 
 // One to eight parameters and the parenthesis after them.
@@ -86,11 +92,13 @@ fn accumulator<'a>(alloc: Global, tokens: &'a [Token]) -> Result<(Var, &'a [Toke
     ensures value { Gives (λ x. (accumulator_of x.0, words_of x.1.now)) result (var_at (words_of tokens.now)) }
     ensures shorter { IfOk result (λ x. length x.1.now < length tokens.now) }
 {
-    let (name, following) = expect_name(alloc, tokens)?;
+    let (name, following) = expect_name(tokens)?;
     let from = expect(following, Mark::Colon)?;
     let (ty, next) = expect_type(from)?;
     let value = expect(next, Mark::Equals)?;
+    let name = copy_name(alloc, name)?;
     let (init, rest) = term(alloc, value, Mark::Semicolon)?;
+    let init = Box::into_inner(init);
     Ok((Var { name, ty, init }, rest))
 }
 
@@ -127,20 +135,31 @@ fn expect_zero<'a>(tokens: &'a [Token]) -> Result<&'a [Token], Stop>
     }
 }
 
+// A loop over copies of these names.
+fn loop_of(alloc: Global, index: &Name, bound: &Name, body: Vec<Stmt>) -> Result<Loop, AllocError>
+    ensures index { IfOk result (λ turns. name_of turns.index ≡ name_of index.now) }
+    ensures bound { IfOk result (λ turns. name_of turns.bound ≡ name_of bound.now) }
+    ensures body { IfOk result (λ turns. turns.body ≡ body) }
+{
+    let index = copy_name(alloc, index)?;
+    let bound = copy_name(alloc, bound)?;
+    Ok(Loop { index, bound, body })
+}
+
 // What stands after the word that begins a loop.
 #[tactic(auto, unfolding(crate::specs::Headers::turns_at))]
 fn turns<'a>(alloc: Global, tokens: &'a [Token]) -> Result<(Loop, &'a [Token]), Stop>
     ensures value { Gives (λ x. (turns_of x.0, words_of x.1.now)) result (turns_at (words_of tokens.now)) }
     ensures shorter { IfOk result (λ x. length x.1.now < length tokens.now) }
 {
-    let (index, following) = expect_name(alloc, tokens)?;
+    let (index, following) = expect_name(tokens)?;
     let from = expect(following, Mark::In)?;
     let range = expect_zero(from)?;
     let end = expect(range, Mark::Range)?;
-    let (bound, next) = expect_name(alloc, end)?;
+    let (bound, next) = expect_name(end)?;
     let inside = expect(next, Mark::OpenBrace)?;
     let (body, rest) = block(alloc, inside, true, inside.len())?;
-    Ok((Loop { index, bound, body }, rest))
+    Ok((loop_of(alloc, index, bound, body)?, rest))
 }
 
 // The loop at the front, if there is one.
@@ -195,6 +214,7 @@ pub fn read_answer<'a>(
             let from = expect(tokens, Mark::Return)?;
             let (value, end) = term(alloc, from, Mark::Semicolon)?;
             let rest = expect(end, Mark::CloseBrace)?;
+            let value = Box::into_inner(value);
             Ok((Some(Answer { ty, value }), rest))
         }
     }

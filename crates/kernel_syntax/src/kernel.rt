@@ -7,7 +7,7 @@ ghost use Rattle.kernel_syntax.specs.Headers.{kernel_at};
 ghost use Rattle.kernel_syntax.specs.Refusals.{limit_fault, WordsGive, TextGives, IsReadFrom, HasNoTree, StopsAt};
 
 use crate::fault::{ReadFault, Stop};
-use crate::front::{expect, expect_name};
+use crate::front::{copy_name, expect, expect_name};
 use crate::header::{body, params, read_answer, tail, vars};
 use crate::nesting::too_deep;
 use kernel_tokens::{TokenFault, read_tokens};
@@ -26,12 +26,13 @@ fn all(alloc: Global, tokens: &[Token]) -> Result<Kernel, Stop>
     ensures { Gives program_of result (kernel_at (words_of tokens.now)) }
 {
     let from = expect(tokens, Mark::Kernel)?;
-    let (name, following) = expect_name(alloc, from)?;
+    let (name, following) = expect_name(from)?;
     let inside = expect(following, Mark::OpenParen)?;
     let (params, next) = params(alloc, inside)?;
     let (ty, from) = tail(next)?;
     let (vars, next) = vars(alloc, from)?;
     let (body, end) = body(alloc, next)?;
+    let name = copy_name(alloc, name)?;
     let (answer, rest) = read_answer(alloc, ty, end)?;
     match rest {
         [] => Ok(Kernel {

@@ -11,8 +11,6 @@ mod kernel;
 mod laws;
 mod nesting;
 mod statement;
-#[cfg(test)]
-mod tests;
 
 pub use fault::ReadFault;
 pub use kernel::read_kernel;

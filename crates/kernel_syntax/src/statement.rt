@@ -17,8 +17,12 @@ use std::alloc::Global;
 
 // An expression and a mark after it.
 #[tactic(auto, unfolding(crate::specs::Statements::term_at))]
-pub fn term<'a>(alloc: Global, tokens: &'a [Token], mark: Mark) -> Result<(Expr, &'a [Token]), Stop>
-    ensures value { Gives (λ x. (term_of x.0, words_of x.1.now)) result (term_at mark (words_of tokens.now)) }
+pub fn term<'a>(
+    alloc: Global,
+    tokens: &'a [Token],
+    mark: Mark,
+) -> Result<(Box<Expr>, &'a [Token]), Stop>
+    ensures value { Gives (λ x. (term_of x.0.value, words_of x.1.now)) result (term_at mark (words_of tokens.now)) }
     ensures shorter { IfOk result (λ x. length x.1.now < length tokens.now) }
 {
     term_then(alloc, tokens, mark, tokens.len())
@@ -45,10 +49,12 @@ fn definition<'a>(alloc: Global, tokens: &'a [Token]) -> Result<(Stmt, &'a [Toke
     ensures value { Gives (λ x. (action_of x.0, words_of x.1.now)) result (define_at (words_of tokens.now)) }
     ensures shorter { IfOk result (λ x. length x.1.now < length tokens.now) }
 {
-    let (name, following) = expect_name(alloc, tokens)?;
+    let (name, following) = expect_name(tokens)?;
     let (ty, next) = declared_type(following)?;
     let from = expect(next, Mark::Equals)?;
+    let name = copy_name(alloc, name)?;
     let (value, rest) = term(alloc, from, Mark::Semicolon)?;
+    let value = Box::into_inner(value);
     Ok((Stmt::Let { name, ty, value }, rest))
 }
 
@@ -66,8 +72,8 @@ fn store<'a>(alloc: Global, array: &Name, tokens: &'a [Token]) -> Result<(Stmt, 
     Ok((
         Stmt::Store {
             array,
-            index,
-            value,
+            index: Box::into_inner(index),
+            value: Box::into_inner(value),
         },
         rest,
     ))
@@ -87,6 +93,7 @@ fn update<'a>(
 {
     let name = copy_name(alloc, name)?;
     let (value, rest) = term(alloc, tokens, Mark::Semicolon)?;
+    let value = Box::into_inner(value);
     Ok((Stmt::Update { name, op, value }, rest))
 }
 
@@ -119,6 +126,7 @@ fn leaving<'a>(alloc: Global, tokens: &'a [Token], whole: bool) -> Result<(Stmt,
     }
     let from = expect(tokens, Mark::If)?;
     let (cond, rest) = term(alloc, from, Mark::Semicolon)?;
+    let cond = Box::into_inner(cond);
     Ok((Stmt::Break { cond }, rest))
 }
 
@@ -136,9 +144,12 @@ fn choice<'a>(alloc: Global, tokens: &'a [Token], room: usize) -> Result<(Stmt, 
         Some(rest) => {
             let from = expect(rest, Mark::OpenBrace)?;
             let (other, rest) = block(alloc, from, false, room)?;
-            Ok((make::choose_else(cond, then_part, other), rest))
+            Ok((
+                make::choose_else(Box::into_inner(cond), then_part, other),
+                rest,
+            ))
         }
-        None => Ok((make::choose(cond, then_part), following)),
+        None => Ok((make::choose(Box::into_inner(cond), then_part), following)),
     }
 }
 

@@ -30,16 +30,37 @@ is_in_line b = not (b == 10)
 
 -- ---- reserved words and names
 
+-- the unsigned types
+abbrev pub unsigned_type : List ℕ → Option Ty
+unsigned_type w =
+    if bytes_eq w (codes "u8") then Some ty.U8 else
+    if bytes_eq w (codes "u16") then Some ty.U16 else
+    if bytes_eq w (codes "u32") then Some ty.U32 else
+    if bytes_eq w (codes "u64") then Some ty.U64 else None
+
 abbrev pub reserved_type : List ℕ → Option Ty
 reserved_type w =
     if bytes_eq w (codes "i8") then Some ty.I8 else
     if bytes_eq w (codes "i16") then Some ty.I16 else
     if bytes_eq w (codes "i32") then Some ty.I32 else
-    if bytes_eq w (codes "i64") then Some ty.I64 else
-    if bytes_eq w (codes "u8") then Some ty.U8 else
-    if bytes_eq w (codes "u16") then Some ty.U16 else
-    if bytes_eq w (codes "u32") then Some ty.U32 else
-    if bytes_eq w (codes "u64") then Some ty.U64 else None
+    if bytes_eq w (codes "i64") then Some ty.I64 else unsigned_type w
+
+-- what stands within expressions
+abbrev pub operation_mark : List ℕ → Option Mark
+operation_mark w =
+    if bytes_eq w (codes "select") then Some mark.Select else
+    if bytes_eq w (codes "min") then Some mark.Min else
+    if bytes_eq w (codes "max") then Some mark.Max else
+    if bytes_eq w (codes "abs") then Some mark.Abs else
+    if bytes_eq w (codes "as") then Some mark.As else None
+
+-- where a kernel goes on, and what stands within expressions
+abbrev pub flow_mark : List ℕ → Option Mark
+flow_mark w =
+    if bytes_eq w (codes "if") then Some mark.If else
+    if bytes_eq w (codes "else") then Some mark.Else else
+    if bytes_eq w (codes "break") then Some mark.Break else
+    if bytes_eq w (codes "return") then Some mark.Return else operation_mark w
 
 abbrev pub reserved_mark : List ℕ → Option Mark
 reserved_mark w =
@@ -47,16 +68,7 @@ reserved_mark w =
     if bytes_eq w (codes "var") then Some mark.Var else
     if bytes_eq w (codes "for") then Some mark.For else
     if bytes_eq w (codes "in") then Some mark.In else
-    if bytes_eq w (codes "let") then Some mark.Let else
-    if bytes_eq w (codes "if") then Some mark.If else
-    if bytes_eq w (codes "else") then Some mark.Else else
-    if bytes_eq w (codes "break") then Some mark.Break else
-    if bytes_eq w (codes "return") then Some mark.Return else
-    if bytes_eq w (codes "select") then Some mark.Select else
-    if bytes_eq w (codes "min") then Some mark.Min else
-    if bytes_eq w (codes "max") then Some mark.Max else
-    if bytes_eq w (codes "abs") then Some mark.Abs else
-    if bytes_eq w (codes "as") then Some mark.As else None
+    if bytes_eq w (codes "let") then Some mark.Let else flow_mark w
 
 -- what a run of letters, digits and `_` spells
 abbrev pub by_reserved : Option Ty → Option Mark → List ℕ → Word

@@ -3,7 +3,7 @@
 use crate::ops::Ty;
 
 /// A rule of typing that fails.
-#[derive(Clone, Copy, PartialEq, Eq, Debug)]
+#[derive(Clone, Copy)]
 pub enum Fault {
     Unknown,
     Twice,
@@ -16,7 +16,7 @@ pub enum Fault {
 }
 
 /// A fault and the item of the listing that it stands at.
-#[derive(Clone, Copy, PartialEq, Eq, Debug)]
+#[derive(Clone, Copy)]
 pub struct Found {
     pub item: u32,
     pub fault: Fault,

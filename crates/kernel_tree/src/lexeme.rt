@@ -2,7 +2,7 @@
 
 ghost use Rattle.std.specs.Prelude.{◌≡◌};
 ghost use Rattle.std.specs.List.{list_all};
-ghost use Rattle.kernel_tree.specs.Tokens.{is_letter, is_name_byte, is_run, is_name, reserved_type, reserved_mark};
+ghost use Rattle.kernel_tree.specs.Tokens.{is_letter, is_name_byte, is_run, is_name, unsigned_type, reserved_type, operation_mark, flow_mark, reserved_mark};
 
 use crate::mark::Mark;
 use crate::ops::Ty;
@@ -22,6 +22,23 @@ pub fn continues_name(b: u8) -> bool
     is_letter_byte(b) || is_digit_byte(b)
 }
 
+// The type that a word names, where it is unsigned.
+fn unsigned_word(word: &[u8]) -> Option<Ty>
+    ensures { result ≡ unsigned_type word.now }
+{
+    if word == b"u8".as_slice() {
+        Some(Ty::U8)
+    } else if word == b"u16".as_slice() {
+        Some(Ty::U16)
+    } else if word == b"u32".as_slice() {
+        Some(Ty::U32)
+    } else if word == b"u64".as_slice() {
+        Some(Ty::U64)
+    } else {
+        None
+    }
+}
+
 /// The type that a reserved word names.
 pub fn type_word(word: &[u8]) -> Option<Ty>
     ensures { result ≡ reserved_type word.now }
@@ -34,16 +51,44 @@ pub fn type_word(word: &[u8]) -> Option<Ty>
         Some(Ty::I32)
     } else if word == b"i64".as_slice() {
         Some(Ty::I64)
-    } else if word == b"u8".as_slice() {
-        Some(Ty::U8)
-    } else if word == b"u16".as_slice() {
-        Some(Ty::U16)
-    } else if word == b"u32".as_slice() {
-        Some(Ty::U32)
-    } else if word == b"u64".as_slice() {
-        Some(Ty::U64)
+    } else {
+        unsigned_word(word)
+    }
+}
+
+// The mark of a word that stands within expressions.
+fn operation_word(word: &[u8]) -> Option<Mark>
+    ensures { result ≡ operation_mark word.now }
+{
+    if word == b"select".as_slice() {
+        Some(Mark::Select)
+    } else if word == b"min".as_slice() {
+        Some(Mark::Min)
+    } else if word == b"max".as_slice() {
+        Some(Mark::Max)
+    } else if word == b"abs".as_slice() {
+        Some(Mark::Abs)
+    } else if word == b"as".as_slice() {
+        Some(Mark::As)
     } else {
         None
+    }
+}
+
+// The mark of a word that says where a kernel goes on, or that stands within expressions.
+fn flow_word(word: &[u8]) -> Option<Mark>
+    ensures { result ≡ flow_mark word.now }
+{
+    if word == b"if".as_slice() {
+        Some(Mark::If)
+    } else if word == b"else".as_slice() {
+        Some(Mark::Else)
+    } else if word == b"break".as_slice() {
+        Some(Mark::Break)
+    } else if word == b"return".as_slice() {
+        Some(Mark::Return)
+    } else {
+        operation_word(word)
     }
 }
 
@@ -61,26 +106,8 @@ pub fn mark_word(word: &[u8]) -> Option<Mark>
         Some(Mark::In)
     } else if word == b"let".as_slice() {
         Some(Mark::Let)
-    } else if word == b"if".as_slice() {
-        Some(Mark::If)
-    } else if word == b"else".as_slice() {
-        Some(Mark::Else)
-    } else if word == b"break".as_slice() {
-        Some(Mark::Break)
-    } else if word == b"return".as_slice() {
-        Some(Mark::Return)
-    } else if word == b"select".as_slice() {
-        Some(Mark::Select)
-    } else if word == b"min".as_slice() {
-        Some(Mark::Min)
-    } else if word == b"max".as_slice() {
-        Some(Mark::Max)
-    } else if word == b"abs".as_slice() {
-        Some(Mark::Abs)
-    } else if word == b"as".as_slice() {
-        Some(Mark::As)
     } else {
-        None
+        flow_word(word)
     }
 }
 

@@ -24,6 +24,3 @@ pub use ops::{BinaryOp, CompareOp, Ty, UnaryOp, UpdateOp};
 pub use part::Part;
 pub use print::print_kernel;
 pub use take_apart::parts;
-
-#[cfg(test)]
-mod tests;

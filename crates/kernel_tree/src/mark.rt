@@ -3,7 +3,7 @@
 use crate::ops::{BinaryOp, CompareOp};
 
 /// A reserved word or a symbol other than a type, a comparison and an update.
-#[derive(Clone, Copy, PartialEq, Eq, Debug)]
+#[derive(Clone, Copy, PartialEq, Eq)]
 pub enum Mark {
     Kernel,
     Var,
@@ -70,7 +70,7 @@ pub enum Mark {
 }
 
 /// An operator that stands between two operands of the next tighter level, any number of times.
-#[derive(Clone, Copy, PartialEq, Eq, Debug)]
+#[derive(Clone, Copy)]
 pub enum Joint {
     Dual(BinaryOp),
     /// `&&`
@@ -80,7 +80,7 @@ pub enum Joint {
 }
 
 /// What stands after a first operand.
-#[derive(Clone, Copy, PartialEq, Eq, Debug)]
+#[derive(Clone, Copy)]
 pub enum Operator {
     Joined(Joint),
     Compared(CompareOp),
@@ -90,7 +90,7 @@ pub enum Operator {
 }
 
 /// What stands before an operand.
-#[derive(Clone, Copy, PartialEq, Eq, Debug)]
+#[derive(Clone, Copy)]
 pub enum Sign {
     /// `-`
     Minus,
@@ -101,7 +101,7 @@ pub enum Sign {
 }
 
 /// What a mark at the front of a unary expression opens.
-#[derive(Clone, Copy, PartialEq, Eq, Debug)]
+#[derive(Clone, Copy)]
 pub enum Opening {
     /// parentheses
     Group,
@@ -115,7 +115,7 @@ pub enum Opening {
 }
 
 /// What a mark at the front of a statement begins.
-#[derive(Clone, Copy, PartialEq, Eq, Debug)]
+#[derive(Clone, Copy)]
 pub enum Beginning {
     /// `let`
     Definition,

@@ -1,7 +1,7 @@
 //! Where an expression stands in a text.
 
 /// Where an expression stands.
-#[derive(Clone, Copy, PartialEq, Eq, Debug)]
+#[derive(Clone, Copy)]
 pub enum Place {
     /// By itself, as in brackets.
     Alone,

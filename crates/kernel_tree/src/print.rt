@@ -30,8 +30,7 @@ fn put_head(out: &mut String, kernel: &Kernel) -> Result<(), AllocError>
     put_params(out, &kernel.params)?;
     put_mark(out, Mark::CloseParen)?;
     put_arrow(out, &kernel.answer)?;
-    put_mark(out, Mark::OpenBrace)?;
-    Ok(())
+    put_mark(out, Mark::OpenBrace)
 }
 
 // What stands in the braces.
@@ -44,8 +43,7 @@ fn put_inside(out: &mut String, kernel: &Kernel) -> Result<(), AllocError>
     put_vars(out, &kernel.vars)?;
     put_loop(out, &kernel.body)?;
     put_answer(out, &kernel.answer)?;
-    put_mark(out, Mark::CloseBrace)?;
-    Ok(())
+    put_mark(out, Mark::CloseBrace)
 }
 
 /// The canonical text of a kernel: its tokens joined by single spaces, literals in decimal, and an operand in

@@ -7,7 +7,7 @@ use crate::name::Name;
 use crate::ops::{CompareOp, Ty, UpdateOp};
 
 /// A number as a text spells it, below 2^127.
-#[derive(Clone, Copy, Debug)]
+#[derive(Clone, Copy)]
 pub struct Number {
     pub value: u128,
     pub ghost in_range: { value < 2 ^ 127 },

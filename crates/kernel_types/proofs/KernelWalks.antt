@@ -1,13 +1,18 @@
 -- The walks over the parts of a kernel, put together.
-use Rattle.std.proofs.Common.{◌≡◌, ℕ, ◌+◌, ◌<◌, ◌^◌, List, ◌++◌, Option, false, length, refl, sym, ap, ap₂, ◌∙◌, arith}
+use Rattle.std.proofs.Common.{◌≡◌, ℕ, ◌+◌, ◌<◌, ◌^◌, List, [], ◌++◌, Bool, Option, Some, false, if◌then◌else◌, length, refl, sym, ap, ap₂, ◌∙◌, append_assoc, arith}
 use Rattle.std.proofs.lemmas.List.{length-map}
 use Rattle.kernel_tree.specs.declared.ast.Param.{Param}
 use Rattle.kernel_tree.specs.declared.fault.Found.{Found}
-use Rattle.kernel_tree.specs.Plain.{Parameter, Accumulator, Program, parameter_of, parameters_of}
+use Rattle.kernel_tree.specs.declared.fault.Binding.{Binding}
+use Rattle.kernel_tree.specs.declared.fault.Binding.TheVariants as binding
+use Rattle.kernel_tree.specs.declared.fault.Fault.TheVariants as fault
+use Rattle.kernel_tree.specs.Plain.{Parameter, Accumulator, Block, PlainLoop, Program, parameter_of, parameters_of}
 use Rattle.kernel_tree.specs.Items.{vars_size, turns_size, answer_size, loop_index, size_of}
-use Rattle.kernel_tree.specs.Typing.{Scope, empty, after_turns, param_scope, var_scope, params_faults, vars_faults, turns_faults, answer_faults, kernel_faults, sooner, least}
+use Rattle.kernel_tree.specs.Typing.{Scope, empty, after_turns, param_scope, var_scope, params_faults, vars_faults, turns_faults, answer_faults, kernel_faults, block_faults, bound_faults, found_at, twice, is_taken, lookup, declared, in_loop, sooner, least}
+use Rattle.kernel_scope.specs.Scopes.{in_body}
 use Rattle.kernel_tree.proofs.Scopes.{param_index, scope_index, last_index, scope_outside}
-use Rattle.kernel_types.proofs.LeastFault.{sooner-assoc, least-append}
+use Rattle.kernel_types.proofs.LeastFault.{sooner-assoc, least-append, both_rules}
+use Rattle.kernel_types.proofs.ListWalks.{two_parts}
 
 index : Scope → Option (List ℕ)
 index s = s.index
@@ -62,3 +67,23 @@ whole k s₀ s₁ s₂ s₃ n₁ n₂ n₃ ps vs o₁ o₂ o₃ o₄ a b c d e f
         ∙ sooner-assoc (least p) (least v) (least (t ++ r))
         ∙ ap (sooner (least p)) (sym (least-append v (t ++ r)))
         ∙ sym (least-append p (v ++ (t ++ r)))
+
+-- the faults at a loop, and then those of its body
+pub loop_found : (s t : Scope) (n m : ℕ) (o p q bound again both : Option Found) (x : Option Binding) (taken : Bool) (l : PlainLoop) (b : Block) →
+    x ≡ lookup s l.bound → bound ≡ least (bound_faults n x) →
+    taken ≡ is_taken s l.index → again ≡ least (if taken then found_at n fault.Twice else []) →
+    both ≡ sooner bound again → p ≡ sooner o both →
+    t ≡ declared s l.index binding.Index → m ≡ n + 1 → b ≡ l.body → q ≡ sooner p (least (block_faults (in_body t) m b)) →
+    q ≡ sooner o (least (turns_faults s n (Some l)))
+loop_found s t n m o p q bound again both x taken l b a c d e f g h i j k =
+    let bs = bound_faults n (lookup s l.bound) in
+    let ts = twice n s l.index in
+    let gs = block_faults (in_loop s l) (n + 1) l.body in
+    let bound_is : bound ≡ least bs = c ∙ ap (λ (y : Option Binding). least (bound_faults n y)) a in
+    let again_is : again ≡ least ts = e ∙ ap (λ (y : Bool). least (if y then found_at n fault.Twice else [])) d in
+    let first : p ≡ sooner o (least (bs ++ ts)) = g ∙ ap (sooner o) (f ∙ both_rules bound again bs ts bound_is again_is) in
+    let body : block_faults (in_body t) m b ≡ gs = rw (h, i, j) refl in
+    k
+    ∙ ap (λ (fs : List Found). sooner p (least fs)) body
+    ∙ two_parts o p (bs ++ ts) gs first
+    ∙ ap (λ (fs : List Found). sooner o (least fs)) (append_assoc bs ts gs)

@@ -38,3 +38,17 @@ part_and_item o p q n m fs gs at d e h f =
     ∙ ap₂ sooner (e ∙ ap (λ (xs : List Found). sooner o (least xs)) h) (ap (λ (k : ℕ). least (at k)) d)
     ∙ sooner-assoc o (least gs) (least (at m))
     ∙ ap (sooner o) (sym (least-append gs (at m)))
+
+-- the faults of a part, or of two or three, and then those at the item after it
+pub then_item : (o p q : Option Found) (fs gs : List Found) → p ≡ sooner o (least fs) → q ≡ least gs → sooner p q ≡ sooner o (least (fs ++ gs))
+then_item o p q fs gs e f = ap₂ sooner e f ∙ sooner-assoc o (least fs) (least gs) ∙ ap (sooner o) (sym (least-append fs gs))
+
+pub two_then_item : (o p q r : Option Found) (fs gs hs : List Found) → p ≡ sooner o (least fs) → q ≡ sooner p (least gs) → r ≡ least hs → sooner q r ≡ sooner o (least (fs ++ (gs ++ hs)))
+two_then_item o p q r fs gs hs e f g = then_item p q r gs hs f g ∙ then_item o p (least (gs ++ hs)) fs (gs ++ hs) e refl
+
+pub three_then_item : (o p q r s : Option Found) (fs gs hs is : List Found) → p ≡ sooner o (least fs) → q ≡ sooner p (least gs) → r ≡ sooner q (least hs) → s ≡ least is → sooner r s ≡ sooner o (least (fs ++ (gs ++ (hs ++ is))))
+three_then_item o p q r s fs gs hs is e f g h = two_then_item p q r s gs hs is f g h ∙ then_item o p (least (gs ++ (hs ++ is))) fs (gs ++ (hs ++ is)) e refl
+
+-- what is found at one item by two rules
+pub both_rules : (p q : Option Found) (fs gs : List Found) → p ≡ least fs → q ≡ least gs → sooner p q ≡ least (fs ++ gs)
+both_rules p q fs gs e f = ap₂ sooner e f ∙ sym (least-append fs gs)

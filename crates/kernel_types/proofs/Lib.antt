@@ -1,5 +1,6 @@
 pub mod LeastFault
 pub mod ListWalks
+pub mod ChoiceWalks
 pub mod KernelWalks
 pub mod Bounds
 pub mod FirstFault

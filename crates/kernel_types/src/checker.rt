@@ -2,7 +2,7 @@
 
 ghost use Rattle.std.specs.Prelude.{◌≡◌, None, Some, IfOk, IfErr};
 ghost use Rattle.kernel_tree.specs.Plain.{program_of};
-ghost use Rattle.kernel_tree.specs.Typing.{Fails, check_fault};
+ghost use Rattle.kernel_tree.specs.Typing.{Fails, check_fault, types_of};
 ghost use Rattle.kernel_tree.specs.Checked.{kernel_of};
 ghost use Rattle.kernel_types.specs.Short.{IsShort};
 ghost use Rattle.kernel_types.specs.Causes.{IsCause};
@@ -11,7 +11,7 @@ use crate::fault::TypeFault;
 use crate::kernels::walk_kernel;
 use crate::measure::{kernel_depth, kernel_size};
 use kernel_tree::fault::{Fault, Found};
-use kernel_tree::{Checked, Kernel};
+use kernel_tree::{Checked, Kernel, Ty};
 use std::alloc::Global;
 
 // The items and the depth that a kernel may have.
@@ -35,6 +35,28 @@ fn type_fault(found: Found) -> TypeFault
     }
 }
 
+// The wanted type of each item of a kernel, or why it is refused.
+fn item_types(alloc: Global, kernel: &Kernel) -> Result<Vec<Option<Ty>>, TypeFault>
+    requires short { IsShort (program_of kernel.now) }
+    ensures ok { IfOk result (λ types. check_fault (program_of kernel.now) ≡ None) }
+    ensures types { IfOk result (λ types. types.items ≡ types_of (program_of kernel.now)) }
+    ensures refused { IfErr result (λ fault. IsCause (check_fault (program_of kernel.now)) fault) }
+{
+    let size = kernel_size(kernel);
+    if size > MOST_ITEMS {
+        return Err(TypeFault::TooLarge { size });
+    }
+    let depth = kernel_depth(kernel);
+    if depth > MOST_DEPTH {
+        return Err(TypeFault::TooDeep { depth });
+    }
+    let notes = walk_kernel(alloc, kernel)?;
+    match notes.found {
+        Some(found) => Err(type_fault(found)),
+        None => Ok(notes.types),
+    }
+}
+
 /// Checks the types of a kernel, its size and its depth. It is refused for its size first, then for its depth, and
 /// then for the fault at the least item of its listing, and of those at one item for the first in the order of
 /// `TypeFault`.
@@ -45,17 +67,6 @@ pub fn check(alloc: Global, kernel: Kernel) -> Result<Checked, TypeFault>
     ensures kernel { IfOk result (λ c. kernel_of c ≡ kernel) }
     ensures refused { IfErr result (λ fault. IsCause (check_fault (program_of kernel)) fault) }
 {
-    let size = kernel_size(&kernel);
-    if size > MOST_ITEMS {
-        return Err(TypeFault::TooLarge { size });
-    }
-    let depth = kernel_depth(&kernel);
-    if depth > MOST_DEPTH {
-        return Err(TypeFault::TooDeep { depth });
-    }
-    let notes = walk_kernel(alloc, &kernel)?;
-    match notes.found {
-        Some(found) => Err(type_fault(found)),
-        None => Ok(Checked::new(kernel, notes.types)),
-    }
+    let types = item_types(alloc, &kernel)?;
+    Ok(Checked::new(kernel, types))
 }

@@ -5,44 +5,81 @@ ghost use Rattle.kernel_types.specs.declared.fault.TypeFault.TheVariants as faul
 
 use kernel_tree::Ty;
 use std::alloc::AllocError;
-use thiserror::Error;
+use std::error::Error;
+use std::fmt;
 
 /// Why a kernel is refused. Items count from 0, in the order of the kernel's listing.
-#[derive(Clone, Copy, Debug, PartialEq, Eq, Error)]
+#[derive(Clone, Copy, PartialEq, Eq)]
 pub enum TypeFault {
     /// A name is not visible here.
-    #[error("unknown name at item {item}")]
     Unknown { item: u32 },
     /// A name is declared again.
-    #[error("name declared twice at item {item}")]
     Twice { item: u32 },
     /// A name of the wrong kind, a condition in place of a value, or a value in place of a condition.
-    #[error("wrong kind at item {item}")]
     WrongKind { item: u32 },
     /// A value of another type than is wanted.
-    #[error("want {} found {} at item {item}", type_name(.want), type_name(.found))]
     Mismatch { item: u32, want: Ty, found: Ty },
     /// Nothing gives a type that is needed.
-    #[error("no type at item {item}")]
     Untyped { item: u32 },
     /// A literal is outside the range of its type.
-    #[error("literal out of range at item {item}")]
     LiteralRange { item: u32 },
     /// The count of a shift is not below the width of its type.
-    #[error("shift out of range at item {item}")]
     ShiftRange { item: u32 },
     /// The offset of a stream index is outside -1,024..=1,024.
-    #[error("offset out of range at item {item}")]
     OffsetRange { item: u32 },
     /// The kernel has more than 1,000 items.
-    #[error("too large {size}")]
     TooLarge { size: u32 },
     /// The kernel is deeper than 64.
-    #[error("too deep {depth}")]
     TooDeep { depth: u32 },
-    #[error("out of memory")]
     Memory,
 }
+
+// Writes what is wrong at an item.
+fn write_item<W: fmt::Write>(f: &mut fmt::Formatter<W>, text: &str, item: u32) -> fmt::Result {
+    write!(f, "{text} at item {item}")
+}
+
+// Writes a limit that is passed, and the number that is too great.
+fn write_excess<W: fmt::Write>(f: &mut fmt::Formatter<W>, text: &str, number: u32) -> fmt::Result {
+    write!(f, "{text} {number}")
+}
+
+fn write_mismatch<W: fmt::Write>(
+    f: &mut fmt::Formatter<W>,
+    item: u32,
+    want: Ty,
+    found: Ty,
+) -> fmt::Result {
+    let want = type_name(want);
+    let found = type_name(found);
+    write!(f, "want {want} found {found} at item {item}")
+}
+
+impl fmt::Display for TypeFault {
+    fn fmt<W: fmt::Write>(&self, f: &mut fmt::Formatter<W>) -> fmt::Result {
+        match *self {
+            TypeFault::Unknown { item } => write_item(f, "unknown name", item),
+            TypeFault::Twice { item } => write_item(f, "name declared twice", item),
+            TypeFault::WrongKind { item } => write_item(f, "wrong kind", item),
+            TypeFault::Mismatch { item, want, found } => write_mismatch(f, item, want, found),
+            TypeFault::Untyped { item } => write_item(f, "no type", item),
+            TypeFault::LiteralRange { item } => write_item(f, "literal out of range", item),
+            TypeFault::ShiftRange { item } => write_item(f, "shift out of range", item),
+            TypeFault::OffsetRange { item } => write_item(f, "offset out of range", item),
+            TypeFault::TooLarge { size } => write_excess(f, "too large", size),
+            TypeFault::TooDeep { depth } => write_excess(f, "too deep", depth),
+            TypeFault::Memory => f.write_str("out of memory"),
+        }
+    }
+}
+
+impl fmt::Debug for TypeFault {
+    fn fmt<W: fmt::Write>(&self, f: &mut fmt::Formatter<W>) -> fmt::Result {
+        fmt::Display::fmt(self, f)
+    }
+}
+
+impl Error for TypeFault {}
 
 impl From<AllocError> for TypeFault {
     ghost from_gives = { λ _ e. e ≡ faults.Memory };
@@ -53,8 +90,8 @@ impl From<AllocError> for TypeFault {
 }
 
 // The reserved word that a type is.
-fn type_name(ty: &Ty) -> &'static str {
-    match *ty {
+fn type_name(ty: Ty) -> &'static str {
+    match ty {
         Ty::I8 => "i8",
         Ty::I16 => "i16",
         Ty::I32 => "i32",

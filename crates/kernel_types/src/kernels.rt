@@ -34,8 +34,7 @@ fn walk_param<'a>(
 {
     let found = twice(notes.next, is_taken(scope, &param.name));
     end(notes, found, None)?;
-    declare(scope, &param.name, param.shape.binding())?;
-    Ok(())
+    declare(scope, &param.name, param.shape.binding())
 }
 
 fn walk_params<'a>(
@@ -74,8 +73,7 @@ fn walk_var<'a>(notes: &mut Notes, scope: &mut Scope<'a>, var: &'a Var) -> Resul
     walk_expr(notes, scope, Role::Value(Some(var.ty)), &var.init)?;
     let found = twice(notes.next, is_taken(scope, &var.name));
     end(notes, found, None)?;
-    declare(scope, &var.name, Binding::Accumulator(var.ty))?;
-    Ok(())
+    declare(scope, &var.name, Binding::Accumulator(var.ty))
 }
 
 fn walk_vars<'a>(
@@ -149,8 +147,7 @@ fn walk_loop<'a>(
     let found = sooner(bound, twice(item, is_taken(scope, &turns.index)));
     end(notes, found, None)?;
     declare(scope, &turns.index, Binding::Index)?;
-    walk_body(notes, scope, &turns.body)?;
-    Ok(())
+    walk_body(notes, scope, &turns.body)
 }
 
 fn walk_turns<'a>(
@@ -173,10 +170,7 @@ fn walk_turns<'a>(
 {
     match turns {
         None => Ok(()),
-        Some(turns) => {
-            walk_loop(notes, scope, turns)?;
-            Ok(())
-        }
+        Some(turns) => walk_loop(notes, scope, turns),
     }
 }
 
@@ -196,10 +190,29 @@ fn walk_answer(notes: &mut Notes, scope: &Scope, answer: &Option<Answer>) -> Res
         None => Ok(()),
         Some(answer) => {
             walk_expr(notes, scope, Role::Value(Some(answer.ty)), &answer.value)?;
-            end(notes, None, None)?;
-            Ok(())
+            end(notes, None, None)
         }
     }
+}
+
+// Goes over the parts of a kernel.
+fn walk_parts<'a>(
+    notes: &mut Notes,
+    scope: &mut Scope<'a>,
+    kernel: &'a Kernel,
+) -> Result<(), AllocError>
+    requires room { items.size_of (program_of kernel.now) < 2 ^ 32 }
+    requires scope { scope_of scope.old ≡ typing.empty (items.loop_index (program_of kernel.now)) }
+    requires next { notes.old.next ≡ 0 }
+    requires found { notes.old.found ≡ None }
+    requires types { notes.old.types.items ≡ [] }
+    ensures found { IfOk result (λ _. notes.new.found ≡ typing.least (typing.kernel_faults (program_of kernel.now))) }
+    ensures types { IfOk result (λ _. notes.new.types.items ≡ typing.types_of (program_of kernel.now)) }
+{
+    walk_params(notes, scope, &kernel.params)?;
+    walk_vars(notes, scope, &kernel.vars)?;
+    walk_turns(notes, scope, &kernel.body)?;
+    walk_answer(notes, scope, &kernel.answer)
 }
 
 /// The first fault of a kernel but for its size and depth, and the wanted type of each of its items.
@@ -214,9 +227,6 @@ pub fn walk_kernel(alloc: Global, kernel: &Kernel) -> Result<Notes, AllocError>
         found: None,
         types: Vec::new(alloc),
     };
-    walk_params(&mut notes, &mut scope, &kernel.params)?;
-    walk_vars(&mut notes, &mut scope, &kernel.vars)?;
-    walk_turns(&mut notes, &mut scope, &kernel.body)?;
-    walk_answer(&mut notes, &scope, &kernel.answer)?;
+    walk_parts(&mut notes, &mut scope, kernel)?;
     Ok(notes)
 }

@@ -10,8 +10,6 @@ mod notes;
 mod rules;
 mod statements;
 mod terms;
-#[cfg(test)]
-mod tests;
 
 pub use checker::check;
 pub use fault::TypeFault;

@@ -4,7 +4,7 @@ use kernel_tree::Ty;
 use kernel_tree::fault::Found;
 
 /// What a place wants.
-#[derive(Clone, Copy, PartialEq, Eq, Debug)]
+#[derive(Clone, Copy)]
 pub enum Role {
     /// A value, of this type where one is wanted.
     Value(Option<Ty>),

@@ -1,6 +1,6 @@
 //! The rules at one item. Each function gives the first fault of its rules there.
 
-ghost use Rattle.std.specs.Prelude.{◌≡◌, [], ℤ, pos, unsigned_abs, Option, if◌then◌else◌};
+ghost use Rattle.std.specs.Prelude.{◌≡◌, [], ℤ, pos, unsigned_abs, Option, option_and_then, if◌then◌else◌};
 ghost use Rattle.kernel_tree.specs.declared.fault.Fault.TheVariants as fault;
 ghost use Rattle.kernel_tree.specs.Wrap.{bits_of, is_signed};
 ghost use Rattle.kernel_tree.specs.Typing as typing;
@@ -299,6 +299,20 @@ pub fn update_fault(item: u32, binding: Option<Binding>) -> Option<Found>
         None => fault_at(item, Fault::Unknown),
         Some(binding) => kind(item, accumulator_type(binding)),
     }
+}
+
+/// The type that a store wants for its value.
+pub fn stored_type(target: Option<Binding>) -> Option<Ty>
+    ensures { result ≡ option_and_then typing.element_type target }
+{
+    target.and_then(element_type)
+}
+
+/// The type that an update wants for its value.
+pub fn updated_type(target: Option<Binding>) -> Option<Ty>
+    ensures { result ≡ option_and_then typing.accumulator_type target }
+{
+    target.and_then(accumulator_type)
 }
 
 /// The bound of a loop.

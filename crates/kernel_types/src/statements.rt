@@ -1,6 +1,6 @@
 //! Goes over statements, item by item.
 
-ghost use Rattle.std.specs.Prelude.{◌≡◌, ◌++◌, ◌+◌, ◌<◌, ◌^◌, IfOk};
+ghost use Rattle.std.specs.Prelude.{◌≡◌, ◌∷◌, ◌++◌, [], ◌+◌, ◌<◌, ◌^◌, None, IfOk};
 ghost use Rattle.kernel_tree.specs.declared.ops.UpdateOp.TheVariants as update;
 ghost use Rattle.kernel_tree.specs.Plain.{name_of, term_of, action_of, block_of, Define, Put, Update, Choose, Leave, Nothing, Else};
 ghost use Rattle.kernel_tree.specs.Items as items;
@@ -9,12 +9,11 @@ ghost use Rattle.kernel_scope.specs.Scopes.{scope_of};
 
 use crate::distance::stream_distance;
 use crate::notes::{Notes, Role};
-use crate::rules::{sooner, stream_fault, target_fault, twice, untyped, update_fault};
-use crate::terms::{end, walk_expr};
-use kernel_scope::{
-    Scope, accumulator_type, define, element_type, first, is_taken, leave, lookup, own_type,
-    visible_count,
+use crate::rules::{
+    sooner, stored_type, stream_fault, target_fault, twice, untyped, update_fault, updated_type,
 };
+use crate::terms::{end, walk_expr};
+use kernel_scope::{Scope, define, first, is_taken, leave, lookup, own_type, visible_count};
 use kernel_tree::{Expr, Name, Part, Stmt, Ty, parts};
 use std::alloc::AllocError;
 
@@ -46,8 +45,7 @@ fn walk_let<'a>(
     let item = notes.next;
     let found = sooner(twice(item, is_taken(scope, name)), untyped(item, wanted));
     end(notes, found, wanted)?;
-    define(scope, name, wanted)?;
-    Ok(())
+    define(scope, name, wanted)
 }
 
 #[tactic(auto, using(crate::proofs::LeastFault::sooner_rules))]
@@ -72,17 +70,11 @@ fn walk_store(
         (Put (name_of array.now) (term_of index.now) (term_of value.now))) }
 {
     let target = lookup(scope, array);
-    walk_expr(
-        notes,
-        scope,
-        Role::Value(target.and_then(element_type)),
-        value,
-    )?;
+    walk_expr(notes, scope, Role::Value(stored_type(target)), value)?;
     let item = notes.next;
     let distance = stream_distance(scope.index, index);
     let found = sooner(target_fault(item, target), stream_fault(item, distance));
-    end(notes, found, None)?;
-    Ok(())
+    end(notes, found, None)
 }
 
 #[tactic(auto, using(crate::proofs::LeastFault::sooner_rules))]
@@ -106,18 +98,13 @@ fn walk_update(
         (Update (name_of name.now) update.Add (term_of value.now))) }
 {
     let target = lookup(scope, name);
-    walk_expr(
-        notes,
-        scope,
-        Role::Value(target.and_then(accumulator_type)),
-        value,
-    )?;
-    end(notes, update_fault(notes.next, target), None)?;
-    Ok(())
+    walk_expr(notes, scope, Role::Value(updated_type(target)), value)?;
+    end(notes, update_fault(notes.next, target), None)
 }
 
+// Goes over a condition and the mark after it.
 #[tactic(auto, using(crate::proofs::LeastFault::sooner_rules))]
-fn walk_break(notes: &mut Notes, scope: &Scope, cond: &Expr) -> Result<(), AllocError>
+fn walk_marked(notes: &mut Notes, scope: &Scope, cond: &Expr) -> Result<(), AllocError>
     requires { notes.old.next + (items.action_size (scope_of scope.now).index (Leave (term_of cond.now))) < 2 ^ 32 }
     ensures next { IfOk result (λ _. notes.new.next
         ≡ notes.old.next + (items.action_size (scope_of scope.now).index (Leave (term_of cond.now)))) }
@@ -128,8 +115,7 @@ fn walk_break(notes: &mut Notes, scope: &Scope, cond: &Expr) -> Result<(), Alloc
         ≡ notes.old.types.items ++ typing.action_types (scope_of scope.now) (Leave (term_of cond.now))) }
 {
     walk_expr(notes, scope, Role::Condition, cond)?;
-    end(notes, None, None)?;
-    Ok(())
+    end(notes, None, None)
 }
 
 #[cycle(statements)]
@@ -147,34 +133,16 @@ fn walk_stmt<'a>(notes: &mut Notes, scope: &mut Scope<'a>, stmt: &'a Stmt) -> Re
         ≡ notes.old.types.items ++ typing.action_types (scope_of scope.old) (action_of stmt.now)) }
 {
     match parts(stmt) {
-        Part::Let { name, ty, value } => {
-            walk_let(notes, scope, name, ty, value)?;
-            Ok(())
-        }
+        Part::Let { name, ty, value } => walk_let(notes, scope, name, ty, value),
         Part::Store {
             array,
             index,
             value,
-        } => {
-            walk_store(notes, scope, array, index, value)?;
-            Ok(())
-        }
-        Part::Update { name, value, .. } => {
-            walk_update(notes, scope, name, value)?;
-            Ok(())
-        }
-        Part::If { cond, block } => {
-            walk_if(notes, scope, cond, block)?;
-            Ok(())
-        }
-        Part::IfElse { cond, block, other } => {
-            walk_if_else(notes, scope, cond, block, other)?;
-            Ok(())
-        }
-        Part::Break { cond } => {
-            walk_break(notes, scope, cond)?;
-            Ok(())
-        }
+        } => walk_store(notes, scope, array, index, value),
+        Part::Update { name, value, .. } => walk_update(notes, scope, name, value),
+        Part::If { cond, block } => walk_if(notes, scope, cond, block),
+        Part::IfElse { cond, block, other } => walk_if_else(notes, scope, cond, block, other),
+        Part::Break { cond } => walk_marked(notes, scope, cond),
     }
 }
 
@@ -202,11 +170,8 @@ fn walk_if<'a>(
         ≡ notes.old.types.items ++ typing.action_types (scope_of scope.old)
         (Choose (term_of cond.now) (block_of block.now) Nothing)) }
 {
-    walk_expr(notes, scope, Role::Condition, cond)?;
-    end(notes, None, None)?;
-    walk_inner(notes, scope, block)?;
-    end(notes, None, None)?;
-    Ok(())
+    walk_marked(notes, scope, cond)?;
+    walk_inner(notes, scope, block)
 }
 
 // An `if` with two blocks.
@@ -235,16 +200,12 @@ fn walk_if_else<'a>(
         ≡ notes.old.types.items ++ typing.action_types (scope_of scope.old)
         (Choose (term_of cond.now) (block_of block.now) (Else (block_of other.now)))) }
 {
-    walk_expr(notes, scope, Role::Condition, cond)?;
-    end(notes, None, None)?;
+    walk_marked(notes, scope, cond)?;
     walk_inner(notes, scope, block)?;
-    end(notes, None, None)?;
-    walk_inner(notes, scope, other)?;
-    end(notes, None, None)?;
-    Ok(())
+    walk_inner(notes, scope, other)
 }
 
-// A block, after which its names are visible no more.
+// A block, after which its names are visible no more, and the mark after it.
 #[cycle(statements)]
 #[tactic(auto, using(crate::proofs::LeastFault::sooner_rules))]
 fn walk_inner<'a>(
@@ -252,21 +213,21 @@ fn walk_inner<'a>(
     scope: &mut Scope<'a>,
     block: &'a [Stmt],
 ) -> Result<(), AllocError>
-    requires { notes.old.next + (items.block_size (scope_of scope.old).index (block_of block.now)) < 2 ^ 32 }
+    requires { notes.old.next + (items.block_size (scope_of scope.old).index (block_of block.now) + 1) < 2 ^ 32 }
     ensures scope { IfOk result (λ _. scope_of scope.new
         ≡ typing.left (scope_of scope.old) (typing.after_block (scope_of scope.old) (block_of block.now))) }
     ensures next { IfOk result (λ _. notes.new.next
-        ≡ notes.old.next + (items.block_size (scope_of scope.old).index (block_of block.now))) }
+        ≡ notes.old.next + (items.block_size (scope_of scope.old).index (block_of block.now) + 1)) }
     ensures found { IfOk result (λ _. notes.new.found
         ≡ typing.sooner notes.old.found (typing.least
         (typing.block_faults (scope_of scope.old) notes.old.next (block_of block.now)))) }
     ensures types { IfOk result (λ _. notes.new.types.items
-        ≡ notes.old.types.items ++ typing.block_types (scope_of scope.old) (block_of block.now)) }
+        ≡ notes.old.types.items ++ (typing.block_types (scope_of scope.old) (block_of block.now) ++ None ∷ [])) }
 {
     let count = visible_count(scope);
     walk_block(notes, scope, block)?;
     leave(scope, count);
-    Ok(())
+    end(notes, None, None)
 }
 
 /// Goes over statements, after which their names stay visible.

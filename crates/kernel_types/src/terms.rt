@@ -49,8 +49,7 @@ fn walk_literal(notes: &mut Notes, role: Role, value: i128) -> Result<(), AllocE
     let ty = wanted(role);
     let item = notes.next;
     let found = sooner(as_value(item, role), literal_fault(item, ty, value));
-    end(notes, found, ty)?;
-    Ok(())
+    end(notes, found, ty)
 }
 
 #[tactic(auto, using(crate::proofs::LeastFault::sooner_rules))]
@@ -71,8 +70,7 @@ fn walk_name(notes: &mut Notes, scope: &Scope, role: Role, name: &Name) -> Resul
         as_value(item, role),
         name_fault(item, ty, lookup(scope, name)),
     );
-    end(notes, found, ty)?;
-    Ok(())
+    end(notes, found, ty)
 }
 
 // Goes past a shift by a count.
@@ -90,8 +88,7 @@ fn end_shift(notes: &mut Notes, role: Role, count: i128) -> Result<(), AllocErro
     let ty = wanted(role);
     let item = notes.next;
     let found = sooner(as_value(item, role), shift_fault(item, ty, count));
-    end(notes, found, ty)?;
-    Ok(())
+    end(notes, found, ty)
 }
 
 /// Goes over an expression in a place of this role.
@@ -113,20 +110,19 @@ pub fn walk_expr(
         ≡ notes.old.types.items ++ typing.term_types (scope_of scope.now) (role_of role) (term_of expr.now)) }
 {
     match expr {
-        Expr::Lit(value) => walk_literal(notes, role, *value)?,
-        Expr::Var(name) => walk_name(notes, scope, role, name)?,
-        Expr::Read { array, index } => walk_read(notes, scope, role, array, index)?,
-        Expr::Unary { arg, .. } => walk_unary(notes, scope, role, arg)?,
-        Expr::Binary { left, right, .. } => walk_binary(notes, scope, role, left, right)?,
-        Expr::Shift { arg, count, .. } => walk_shift(notes, scope, role, arg, *count)?,
-        Expr::Cast { arg, ty } => walk_cast(notes, scope, role, arg, *ty)?,
-        Expr::Select { cond, yes, no } => walk_select(notes, scope, role, cond, yes, no)?,
-        Expr::Compare { left, right, .. } => walk_compare(notes, scope, role, left, right)?,
-        Expr::And { left, right } => walk_and(notes, scope, role, left, right)?,
-        Expr::Or { left, right } => walk_or(notes, scope, role, left, right)?,
-        Expr::Not { arg } => walk_not(notes, scope, role, arg)?,
+        Expr::Lit(value) => walk_literal(notes, role, *value),
+        Expr::Var(name) => walk_name(notes, scope, role, name),
+        Expr::Read { array, index } => walk_read(notes, scope, role, array, index),
+        Expr::Unary { arg, .. } => walk_unary(notes, scope, role, arg),
+        Expr::Binary { left, right, .. } => walk_binary(notes, scope, role, left, right),
+        Expr::Shift { arg, count, .. } => walk_shift(notes, scope, role, arg, *count),
+        Expr::Cast { arg, ty } => walk_cast(notes, scope, role, arg, *ty),
+        Expr::Select { cond, yes, no } => walk_select(notes, scope, role, cond, yes, no),
+        Expr::Compare { left, right, .. } => walk_compare(notes, scope, role, left, right),
+        Expr::And { left, right } => walk_and(notes, scope, role, left, right),
+        Expr::Or { left, right } => walk_or(notes, scope, role, left, right),
+        Expr::Not { arg } => walk_not(notes, scope, role, arg),
     }
-    Ok(())
 }
 
 // Goes over the items of an index, of which a stream index has none.
@@ -151,8 +147,7 @@ fn walk_index(notes: &mut Notes, scope: &Scope, index: &Expr) -> Result<(), Allo
         Some(_) => Ok(()),
         None => {
             let ty = first(own_type(scope, index), Some(Ty::U64));
-            walk_expr(notes, scope, Role::Value(ty), index)?;
-            Ok(())
+            walk_expr(notes, scope, Role::Value(ty), index)
         }
     }
 }
@@ -185,8 +180,7 @@ fn walk_read(
     let read = read_fault(item, scope.inside, ty, lookup(scope, array));
     let distance = stream_distance(scope.index, index);
     let at = index_fault(item, distance, own_type(scope, index));
-    end(notes, sooner(as_value(item, role), sooner(read, at)), ty)?;
-    Ok(())
+    end(notes, sooner(as_value(item, role), sooner(read, at)), ty)
 }
 
 #[cycle(terms)]
@@ -205,8 +199,7 @@ fn walk_unary(notes: &mut Notes, scope: &Scope, role: Role, arg: &Expr) -> Resul
 {
     let ty = wanted(role);
     walk_expr(notes, scope, Role::Value(ty), arg)?;
-    end(notes, as_value(notes.next, role), ty)?;
-    Ok(())
+    end(notes, as_value(notes.next, role), ty)
 }
 
 #[cycle(terms)]
@@ -234,8 +227,7 @@ fn walk_binary(
     let ty = wanted(role);
     walk_expr(notes, scope, Role::Value(ty), left)?;
     walk_expr(notes, scope, Role::Value(ty), right)?;
-    end(notes, as_value(notes.next, role), ty)?;
-    Ok(())
+    end(notes, as_value(notes.next, role), ty)
 }
 
 #[cycle(terms)]
@@ -259,8 +251,7 @@ fn walk_shift(
         (Shift true (term_of arg.now) count)) }
 {
     walk_expr(notes, scope, Role::Value(wanted(role)), arg)?;
-    end_shift(notes, role, count)?;
-    Ok(())
+    end_shift(notes, role, count)
 }
 
 #[cycle(terms)]
@@ -287,8 +278,7 @@ fn walk_cast(
     let want = wanted(role);
     let item = notes.next;
     let found = sooner(mismatch(item, want, ty), untyped(item, own));
-    end(notes, sooner(as_value(item, role), found), want)?;
-    Ok(())
+    end(notes, sooner(as_value(item, role), found), want)
 }
 
 #[cycle(terms)]
@@ -318,8 +308,7 @@ fn walk_select(
     walk_expr(notes, scope, Role::Value(ty), yes)?;
     walk_expr(notes, scope, Role::Value(ty), no)?;
     walk_expr(notes, scope, Role::Condition, cond)?;
-    end(notes, as_value(notes.next, role), ty)?;
-    Ok(())
+    end(notes, as_value(notes.next, role), ty)
 }
 
 #[cycle(terms)]
@@ -349,8 +338,7 @@ fn walk_compare(
     walk_expr(notes, scope, Role::Value(side), right)?;
     let item = notes.next;
     let found = sooner(as_condition(item, role), untyped(item, side));
-    end(notes, found, None)?;
-    Ok(())
+    end(notes, found, None)
 }
 
 #[cycle(terms)]
@@ -376,8 +364,7 @@ fn walk_and(
 {
     walk_expr(notes, scope, Role::Condition, left)?;
     walk_expr(notes, scope, Role::Condition, right)?;
-    end(notes, as_condition(notes.next, role), None)?;
-    Ok(())
+    end(notes, as_condition(notes.next, role), None)
 }
 
 #[cycle(terms)]
@@ -404,8 +391,7 @@ fn walk_or(
     walk_expr(notes, scope, Role::Condition, left)?;
     end(notes, None, None)?;
     walk_expr(notes, scope, Role::Condition, right)?;
-    end(notes, as_condition(notes.next, role), None)?;
-    Ok(())
+    end(notes, as_condition(notes.next, role), None)
 }
 
 #[cycle(terms)]
@@ -421,6 +407,5 @@ fn walk_not(notes: &mut Notes, scope: &Scope, role: Role, arg: &Expr) -> Result<
         ≡ notes.old.types.items ++ typing.term_types (scope_of scope.now) (role_of role) (Not (term_of arg.now))) }
 {
     walk_expr(notes, scope, Role::Condition, arg)?;
-    end(notes, as_condition(notes.next, role), None)?;
-    Ok(())
+    end(notes, as_condition(notes.next, role), None)
 }

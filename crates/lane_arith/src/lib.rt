@@ -8,6 +8,4 @@ pub mod fill;
 pub mod merge;
 pub mod reduce;
 pub mod shift;
-#[cfg(test)]
-mod tests;
 pub mod unary;

@@ -4,5 +4,3 @@
 
 pub mod block;
 pub mod mask;
-#[cfg(test)]
-mod tests;

@@ -3,3 +3,4 @@ pub mod Readings
 pub mod StopLists
 pub mod Writings
 pub mod Gathers
+pub mod Parts

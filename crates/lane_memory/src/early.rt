@@ -28,9 +28,9 @@ fn first_suppressed(
     requires inside { lanes ≤ all_lanes reading.element }
     requires from { from ≤ lanes }
     ensures first { let free = on_from reading pg.now.bits from in
-        result ≡ first_true (suppressed_at free (faults_of reading pages.now) (stop_at stops.old)) lanes 0 }
+        result ≡ first_true (suppressed_at free (faults_of reading pages.now.memory) (stop_at stops.old)) lanes 0 }
     ensures counted { let free = on_from reading pg.now.bits from in
-        stops.new ≡ later stops.old (looked_at free (faults_of reading pages.now) lanes result) }
+        stops.new ≡ later stops.old (looked_at free (faults_of reading pages.now.memory) lanes result) }
 {
     if stops.is_none() {
         return first_refused(pages, reading, pg, from, lanes);
@@ -62,10 +62,10 @@ pub fn load_early(
 )
     requires inside { lanes ≤ all_lanes reading.element }
     requires from { from ≤ lanes }
-    requires read { first_true (refused_of reading pages.now pg.now.bits) from 0 ≡ None }
+    requires read { first_true (refused_of reading pages.now.memory pg.now.bits) from 0 ≡ None }
     ensures { let on = on_of reading pg.now.bits in
         let free = on_from reading pg.now.bits from in
-        left_by_early (early_load (form_of reading) pages.now stops.old on free (place_of reading) lanes ffr.old.bits)
+        left_by_early (early_load (form_of reading) pages.now.memory stops.old on free (place_of reading) lanes ffr.old.bits)
         ≡ record { z = out.new.bytes; ffr = ffr.new.bits; stops = stops.new } }
 {
     let first = first_suppressed(pages, reading, pg, from, lanes, stops);

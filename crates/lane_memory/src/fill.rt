@@ -20,8 +20,8 @@ use paged_memory::pages::Pages;
 #[inline(never)]
 fn copy_one(pages: &Pages, reading: Reading, pg: &PReg, e: usize, out: &mut ZReg)
     requires inside { e < all_lanes reading.element }
-    requires read { refused_of reading pages.now pg.now.bits e ≡ false }
-    ensures { IsRead reading pages.now pg.now.bits e out.old.bytes out.new.bytes }
+    requires read { refused_of reading pages.now.memory pg.now.bits e ≡ false }
+    ensures { IsRead reading pages.now.memory pg.now.bits e out.old.bytes out.new.bytes }
 {
     pages.is_memory();
     is_whole(out);
@@ -38,8 +38,8 @@ fn copy_one(pages: &Pages, reading: Reading, pg: &PReg, e: usize, out: &mut ZReg
 fn copy_active(pages: &Pages, reading: Reading, pg: &PReg, from: usize, to: usize, out: &mut ZReg)
     requires order { from ≤ to }
     requires inside { to ≤ all_lanes reading.element }
-    requires read { first_true (refused_of reading pages.now pg.now.bits) to 0 ≡ None }
-    ensures { HoldsLanes reading pages.now pg.now.bits from to out.new.bytes }
+    requires read { first_true (refused_of reading pages.now.memory pg.now.bits) to 0 ≡ None }
+    ensures { HoldsLanes reading pages.now.memory pg.now.bits from to out.new.bytes }
 {
     pages.is_memory();
     let size = reading.memory.bytes();
@@ -63,8 +63,8 @@ fn copy_active(pages: &Pages, reading: Reading, pg: &PReg, from: usize, to: usiz
 pub fn fill_full(pages: &Pages, reading: Reading, pg: &PReg, lanes: usize, out: &mut ZReg) -> bool
     requires lanes { lanes ≤ all_lanes reading.element }
     requires full { (e : ℕ) → e < lanes → active reading.element pg.now.bits e ≡ true }
-    ensures filled { IsTrue result → out.new.bytes ≡ lanes_of reading pages.now pg.now.bits lanes }
-    ensures free { IsTrue result → first_true (refused_of reading pages.now pg.now.bits) lanes 0 ≡ None }
+    ensures filled { IsTrue result → out.new.bytes ≡ lanes_of reading pages.now.memory pg.now.bits lanes }
+    ensures free { IsTrue result → first_true (refused_of reading pages.now.memory pg.now.bits) lanes 0 ≡ None }
     ensures unchanged { result ≡ false → out.new ≡ out.old }
 {
     pages.is_memory();
@@ -82,8 +82,8 @@ pub fn fill_full(pages: &Pages, reading: Reading, pg: &PReg, lanes: usize, out: 
 #[inline(never)]
 fn fill_range(pages: &Pages, reading: Reading, pg: &PReg, lanes: usize, out: &mut ZReg) -> bool
     requires { lanes ≤ all_lanes reading.element }
-    ensures filled { IsTrue result → out.new.bytes ≡ lanes_of reading pages.now pg.now.bits lanes }
-    ensures free { IsTrue result → first_true (refused_of reading pages.now pg.now.bits) lanes 0 ≡ None }
+    ensures filled { IsTrue result → out.new.bytes ≡ lanes_of reading pages.now.memory pg.now.bits lanes }
+    ensures free { IsTrue result → first_true (refused_of reading pages.now.memory pg.now.bits) lanes 0 ≡ None }
     ensures unchanged { result ≡ false → out.new ≡ out.old }
 {
     pages.is_memory();
@@ -110,8 +110,8 @@ pub fn fill_at_once(
     out: &mut ZReg,
 ) -> bool
     requires { lanes ≤ all_lanes reading.element }
-    ensures filled { IsTrue result → out.new.bytes ≡ lanes_of reading pages.now pg.now.bits lanes }
-    ensures free { IsTrue result → first_true (refused_of reading pages.now pg.now.bits) lanes 0 ≡ None }
+    ensures filled { IsTrue result → out.new.bytes ≡ lanes_of reading pages.now.memory pg.now.bits lanes }
+    ensures free { IsTrue result → first_true (refused_of reading pages.now.memory pg.now.bits) lanes 0 ≡ None }
     ensures unchanged { result ≡ false → out.new ≡ out.old }
 {
     if is_full(pg, reading.element, lanes) {
@@ -124,8 +124,8 @@ pub fn fill_at_once(
 /// The first elements of a load, and zeros above them.
 pub fn fill(pages: &Pages, reading: Reading, pg: &PReg, lanes: usize, out: &mut ZReg)
     requires inside { lanes ≤ all_lanes reading.element }
-    requires read { first_true (refused_of reading pages.now pg.now.bits) lanes 0 ≡ None }
-    ensures { out.new.bytes ≡ lanes_of reading pages.now pg.now.bits lanes }
+    requires read { first_true (refused_of reading pages.now.memory pg.now.bits) lanes 0 ≡ None }
+    ensures { out.new.bytes ≡ lanes_of reading pages.now.memory pg.now.bits lanes }
 {
     let range = active_range(pg, reading.element, lanes);
     copy_active(pages, reading, pg, range.from, range.to, out);

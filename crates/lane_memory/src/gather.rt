@@ -32,10 +32,10 @@ fn place(reading: Reading, offsets: &ZReg, e: usize) -> u64
 fn read(pages: &Pages, reading: Reading, offsets: &ZReg, e: usize) -> Result<u64, AccessFault>
     requires { e < 32 }
     ensures done { (pg : List ℕ) → active D pg e ≡ true
-        → IfOk result (λ v. v ≡ gathered_of reading pages.now offsets.now.bytes pg e) }
-    ensures free { (pg : List ℕ) → OnOk result (gather_refused reading pages.now offsets.now.bytes pg e ≡ false) }
+        → IfOk result (λ v. v ≡ gathered_of reading pages.now.memory offsets.now.bytes pg e) }
+    ensures free { (pg : List ℕ) → OnOk result (gather_refused reading pages.now.memory offsets.now.bytes pg e ≡ false) }
     ensures fault { IfErr result (λ fault.
-        read_fault (lane_fault (form_of reading) pages.now (gather_place reading offsets.now.bytes) e) ≡ Some fault) }
+        read_fault (lane_fault (form_of reading) pages.now.memory (gather_place reading offsets.now.bytes) e) ≡ Some fault) }
 {
     pages.is_memory();
     let address = place(reading, offsets, e);
@@ -56,11 +56,11 @@ fn lane(
     e: usize,
 ) -> Result<u64, AccessFault>
     requires { e < 32 }
-    ensures done { IfOk result (λ v. v ≡ gathered_of reading pages.now offsets.now.bytes pg.now.bits e) }
-    ensures free { OnOk result (gather_refused reading pages.now offsets.now.bytes pg.now.bits e ≡ false) }
-    ensures refused { OnErr result (gather_refused reading pages.now offsets.now.bytes pg.now.bits e ≡ true) }
+    ensures done { IfOk result (λ v. v ≡ gathered_of reading pages.now.memory offsets.now.bytes pg.now.bits e) }
+    ensures free { OnOk result (gather_refused reading pages.now.memory offsets.now.bytes pg.now.bits e ≡ false) }
+    ensures refused { OnErr result (gather_refused reading pages.now.memory offsets.now.bytes pg.now.bits e ≡ true) }
     ensures fault { IfErr result (λ fault.
-        read_fault (lane_fault (form_of reading) pages.now (gather_place reading offsets.now.bytes) e) ≡ Some fault) }
+        read_fault (lane_fault (form_of reading) pages.now.memory (gather_place reading offsets.now.bytes) e) ≡ Some fault) }
 {
     if pg.is_active(Width::D, e) {
         return read(pages, reading, offsets, e);
@@ -78,12 +78,12 @@ fn gathered(
 ) -> Result<ZReg, AccessFault>
     requires { lanes ≤ 32 }
     ensures done { IfOk result (λ z. z.bytes
-        ≡ register (width_bytes D) (gathered_of reading pages.now offsets.now.bytes pg.now.bits) lanes) }
-    ensures free { let first = first_true (gather_refused reading pages.now offsets.now.bytes pg.now.bits) lanes 0 in
+        ≡ register (width_bytes D) (gathered_of reading pages.now.memory offsets.now.bytes pg.now.bits) lanes) }
+    ensures free { let first = first_true (gather_refused reading pages.now.memory offsets.now.bytes pg.now.bits) lanes 0 in
         OnOk result (first ≡ None) }
-    ensures fault { let first = first_true (gather_refused reading pages.now offsets.now.bytes pg.now.bits) lanes 0 in
+    ensures fault { let first = first_true (gather_refused reading pages.now.memory offsets.now.bytes pg.now.bits) lanes 0 in
         IfErr result (λ fault.
-        fault_at (form_of reading) pages.now (gather_place reading offsets.now.bytes) first ≡ Some fault) }
+        fault_at (form_of reading) pages.now.memory (gather_place reading offsets.now.bytes) first ≡ Some fault) }
 {
     let mut out = ZReg::zero();
     for e in 0..lanes {
@@ -110,10 +110,10 @@ pub fn gather(
 ) -> Result<ZReg, AccessFault>
     requires wide { (load_form row.dtype).element ≡ D }
     ensures done { (stops : StopList) → (ffr : List ℕ) → IfOk result (λ z.
-        gather_of row.dtype base vl pages.now stops offsets.now.bytes pg.now.bits ffr
+        gather_of row.dtype base vl pages.now.memory stops offsets.now.bytes pg.now.bits ffr
         ≡ Ok (record { z = z.bytes; ffr = ffr; stops = stops })) }
     ensures refused { (stops : StopList) → (ffr : List ℕ) → IfErr result (λ fault.
-        gather_of row.dtype base vl pages.now stops offsets.now.bytes pg.now.bits ffr ≡ Err fault) }
+        gather_of row.dtype base vl pages.now.memory stops offsets.now.bytes pg.now.bits ffr ≡ Err fault) }
 {
     let reading = Reading::new(row, base, 0);
     let lanes = vl.lanes(Width::D) as usize;

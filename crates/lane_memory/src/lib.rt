@@ -10,12 +10,11 @@ mod full;
 pub mod gather;
 mod keep;
 pub mod load;
+mod part;
 mod range;
 mod reading;
 mod refusal;
 pub mod store;
 pub mod suppress;
-#[cfg(test)]
-mod tests;
 mod write;
 mod writing;

@@ -25,8 +25,8 @@ use paged_memory::pages::Pages;
 /// The fault of the first of so many active elements that faults.
 fn refusal(pages: &Pages, reading: Reading, pg: &PReg, lanes: usize) -> Option<AccessFault>
     requires { lanes ≤ all_lanes reading.element }
-    ensures { let first = first_true (refused_of reading pages.now pg.now.bits) lanes 0 in
-        result ≡ fault_of (form_of reading) pages.now (place_of reading) first }
+    ensures { let first = first_true (refused_of reading pages.now.memory pg.now.bits) lanes 0 in
+        result ≡ fault_of (form_of reading) pages.now.memory (place_of reading) first }
 {
     let e = first_refused(pages, reading, pg, 0, lanes)?;
     fault_at(pages, reading, e)
@@ -42,10 +42,10 @@ fn load_plain(
 ) -> Result<(), AccessFault>
     requires { lanes ≤ all_lanes reading.element }
     ensures done { (ffr : List ℕ) → OnOk result (
-        plain_load (form_of reading) pages.now (on_of reading pg.now.bits) (place_of reading) lanes ffr
+        plain_load (form_of reading) pages.now.memory (on_of reading pg.now.bits) (place_of reading) lanes ffr
         ≡ Ok (record { z = out.new.bytes; ffr = ffr })) }
     ensures refused { (ffr : List ℕ) → IfErr result (λ fault.
-        plain_load (form_of reading) pages.now (on_of reading pg.now.bits) (place_of reading) lanes ffr ≡ Err fault) }
+        plain_load (form_of reading) pages.now.memory (on_of reading pg.now.bits) (place_of reading) lanes ffr ≡ Err fault) }
     ensures unchanged { OnErr result (out.new ≡ out.old) }
 {
     if fill_at_once(pages, reading, pg, lanes, out) {
@@ -61,9 +61,9 @@ fn load_plain(
 /// The first place from which the active elements of LDFF1 are free, or the fault of its first one.
 fn free_from(pages: &Pages, reading: Reading, pg: &PReg, lanes: usize) -> Result<usize, AccessFault>
     requires { lanes ≤ all_lanes reading.element }
-    ensures free { IfOk result (IsFreeFrom reading pages.now pg.now.bits lanes) }
+    ensures free { IfOk result (IsFreeFrom reading pages.now.memory pg.now.bits lanes) }
     ensures refused { let first = first_true (on_of reading pg.now.bits) lanes 0 in
-        IfErr result (λ fault. fault_of (form_of reading) pages.now (place_of reading) first ≡ Some fault) }
+        IfErr result (λ fault. fault_of (form_of reading) pages.now.memory (place_of reading) first ≡ Some fault) }
 {
     let Some(first) = first_active(reading, pg, lanes) else {
         return Ok(lanes);
@@ -87,10 +87,10 @@ fn load_first_fault(
     requires { lanes ≤ all_lanes reading.element }
     ensures done { let on = on_of reading pg.now.bits in
         OnOk result (
-        left_by_first (first_fault_early (form_of reading) pages.now stops.old on (place_of reading) lanes ffr.old.bits)
+        left_by_first (first_fault_early (form_of reading) pages.now.memory stops.old on (place_of reading) lanes ffr.old.bits)
         ≡ Ok (record { z = out.new.bytes; ffr = ffr.new.bits; stops = stops.new })) }
     ensures refused { let on = on_of reading pg.now.bits in
-        IfErr result (λ fault. first_fault_early (form_of reading) pages.now stops.old on
+        IfErr result (λ fault. first_fault_early (form_of reading) pages.now.memory stops.old on
         (place_of reading) lanes ffr.old.bits ≡ Err fault) }
     ensures unchanged { OnErr result ((out.new ≡ out.old) × (ffr.new ≡ ffr.old) × (stops.new ≡ stops.old)) }
 {
@@ -113,9 +113,9 @@ fn load_any(
     stops: &mut Suppress,
     out: &mut ZReg,
 ) -> Result<(), AccessFault>
-    ensures done { let left = load_of mode row.dtype base index vl pages.now stops.old pg.now.bits ffr.old.bits in
+    ensures done { let left = load_of mode row.dtype base index vl pages.now.memory stops.old pg.now.bits ffr.old.bits in
         OnOk result (left ≡ Ok (record { z = out.new.bytes; ffr = ffr.new.bits; stops = stops.new })) }
-    ensures refused { let left = load_of mode row.dtype base index vl pages.now stops.old pg.now.bits ffr.old.bits in
+    ensures refused { let left = load_of mode row.dtype base index vl pages.now.memory stops.old pg.now.bits ffr.old.bits in
         IfErr result (λ fault. left ≡ Err fault) }
     ensures unchanged { OnErr result ((out.new ≡ out.old) × (ffr.new ≡ ffr.old) × (stops.new ≡ stops.old)) }
 {
@@ -158,7 +158,7 @@ fn load_whole(
     out: &mut ZReg,
 ) -> bool
     ensures loaded { (stops : StopList) → (ffr : List ℕ) → IsTrue result
-        → load_of Plain row.dtype base index vl pages.now stops pg.now.bits ffr
+        → load_of Plain row.dtype base index vl pages.now.memory stops pg.now.bits ffr
         ≡ Ok (record { z = out.new.bytes; ffr = ffr; stops = stops }) }
     ensures unchanged { result ≡ false → out.new ≡ out.old }
 {
@@ -198,9 +198,9 @@ pub fn load_into(
     stops: &mut Suppress,
     out: &mut ZReg,
 ) -> Result<(), AccessFault>
-    ensures done { let left = load_of mode row.dtype base index vl pages.now stops.old pg.now.bits ffr.old.bits in
+    ensures done { let left = load_of mode row.dtype base index vl pages.now.memory stops.old pg.now.bits ffr.old.bits in
         OnOk result (left ≡ Ok (record { z = out.new.bytes; ffr = ffr.new.bits; stops = stops.new })) }
-    ensures refused { let left = load_of mode row.dtype base index vl pages.now stops.old pg.now.bits ffr.old.bits in
+    ensures refused { let left = load_of mode row.dtype base index vl pages.now.memory stops.old pg.now.bits ffr.old.bits in
         IfErr result (λ fault. left ≡ Err fault) }
     ensures unchanged { OnErr result ((out.new ≡ out.old) × (ffr.new ≡ ffr.old) × (stops.new ≡ stops.old)) }
 {
@@ -227,9 +227,9 @@ pub fn load(
     ffr: &mut PReg,
     stops: &mut Suppress,
 ) -> Result<ZReg, AccessFault>
-    ensures done { let left = load_of mode row.dtype base index vl pages.now stops.old pg.now.bits ffr.old.bits in
+    ensures done { let left = load_of mode row.dtype base index vl pages.now.memory stops.old pg.now.bits ffr.old.bits in
         IfOk result (λ z. left ≡ Ok (record { z = z.bytes; ffr = ffr.new.bits; stops = stops.new })) }
-    ensures refused { let left = load_of mode row.dtype base index vl pages.now stops.old pg.now.bits ffr.old.bits in
+    ensures refused { let left = load_of mode row.dtype base index vl pages.now.memory stops.old pg.now.bits ffr.old.bits in
         IfErr result (λ fault. left ≡ Err fault) }
     ensures unchanged { OnErr result ((ffr.new ≡ ffr.old) × (stops.new ≡ stops.old)) }
 {

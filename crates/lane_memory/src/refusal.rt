@@ -15,7 +15,7 @@ use paged_memory::pages::Pages;
 
 /// The fault of an element's access, where there is one.
 pub fn fault_at(pages: &Pages, reading: Reading, e: usize) -> Option<AccessFault>
-    ensures { result ≡ read_fault (lane_fault (form_of reading) pages.now (place_of reading) e) }
+    ensures { result ≡ read_fault (lane_fault (form_of reading) pages.now.memory (place_of reading) e) }
 {
     match pages.load(reading.place(e), reading.memory.bytes() as u32) {
         Ok(_value) => None,
@@ -25,7 +25,7 @@ pub fn fault_at(pages: &Pages, reading: Reading, e: usize) -> Option<AccessFault
 
 /// Whether an element's access faults.
 pub fn faults(pages: &Pages, reading: Reading, e: usize) -> bool
-    ensures { result ≡ faults_of reading pages.now e }
+    ensures { result ≡ faults_of reading pages.now.memory e }
 {
     fault_at(pages, reading, e).is_some()
 }
@@ -35,7 +35,7 @@ pub fn faults(pages: &Pages, reading: Reading, e: usize) -> bool
 #[inline(never)]
 fn is_refused(pages: &Pages, reading: Reading, pg: &PReg, e: usize) -> bool
     requires { e < all_lanes reading.element }
-    ensures { result ≡ refused_of reading pages.now pg.now.bits e }
+    ensures { result ≡ refused_of reading pages.now.memory pg.now.bits e }
 {
     pg.is_active(reading.element, e) && faults(pages, reading, e)
 }
@@ -64,7 +64,7 @@ pub fn first_refused(
     to: usize,
 ) -> Option<usize>
     requires { to ≤ all_lanes reading.element }
-    ensures { result ≡ first_true (refused_of reading pages.now pg.now.bits) (to - from) from }
+    ensures { result ≡ first_true (refused_of reading pages.now.memory pg.now.bits) (to - from) from }
 {
     let range = active_range(pg, reading.element, to);
     let size = reading.memory.bytes();

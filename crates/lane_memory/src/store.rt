@@ -8,9 +8,9 @@ ghost use Rattle.guest_types.specs.LaneMemory.{store_of, AllStored, StoreFault};
 ghost use Rattle.lane_memory.specs.Writings.{stored_of, target_of, IsSpanWritten};
 
 use crate::full::is_full;
+use crate::part::{Part, Whole};
 use crate::range::active_range;
 use crate::reading::count_in_page;
-use crate::write::{write_part, write_whole};
 use crate::writing::Writing;
 use guest_types::guest::GuestMemory;
 use guest_types::length::Vl;
@@ -31,10 +31,11 @@ fn store_one(
     e: usize,
 ) -> Result<(), AccessFault>
     requires { e < all_lanes writing.element }
-    ensures done { let left = stored_of writing pg.now.bits z.now.bytes 1 e pages.old in
-        OnOk result (left ≡ AllStored pages.new) }
-    ensures refused { let left = stored_of writing pg.now.bits z.now.bytes 1 e pages.old in
-        IfErr result (λ fault. left ≡ StoreFault fault pages.new) }
+    ensures done { let left = stored_of writing pg.now.bits z.now.bytes 1 e pages.old.memory in
+        OnOk result (left ≡ AllStored pages.new.memory) }
+    ensures refused { let left = stored_of writing pg.now.bits z.now.bytes 1 e pages.old.memory in
+        IfErr result (λ fault. left ≡ StoreFault fault pages.new.memory) }
+    ensures past { pages.new.past ≡ pages.old.past }
 {
     if pg.is_active(writing.element, e) {
         let value = z.element(writing.element, e);
@@ -55,12 +56,19 @@ fn store_part(
     place: usize,
 )
     requires inside { from + count ≤ all_lanes writing.element }
-    requires part { IsPlaceOf pages.old (target_of writing from) (width_bytes writing.memory * count) place }
-    ensures { IsSpanWritten writing pg.now.bits z.now.bytes from count pages.old pages.new }
+    requires part { IsPlaceOf pages.old.memory (target_of writing from) (width_bytes writing.memory * count) place }
+    ensures written { IsSpanWritten writing pg.now.bits z.now.bytes from count pages.old.memory pages.new.memory }
+    ensures past { pages.new.past ≡ pages.old.past }
 {
+    let part = Part {
+        writing,
+        pg,
+        z,
+        from,
+        count,
+    };
     let len = writing.memory.bytes() * count;
-    let part = pages.lend_mut(writing.target(from), len as u32, place);
-    write_part(writing, pg, z, from, count, part);
+    pages.write_span(writing.target(from), len as u32, place, &part);
 }
 
 /// Stores so many elements that are all active and stand in one page that may be written: one copy.
@@ -77,12 +85,19 @@ fn store_full(
     requires same { writing.memory ≡ writing.element }
     requires inside { from + count ≤ all_lanes writing.element }
     requires full { (e : ℕ) → e < from + count → active writing.element pg.now.bits e ≡ true }
-    requires part { IsPlaceOf pages.old (target_of writing from) (width_bytes writing.memory * count) place }
-    ensures { IsSpanWritten writing pg.now.bits z.now.bytes from count pages.old pages.new }
+    requires part { IsPlaceOf pages.old.memory (target_of writing from) (width_bytes writing.memory * count) place }
+    ensures written { IsSpanWritten writing pg.now.bits z.now.bytes from count pages.old.memory pages.new.memory }
+    ensures past { pages.new.past ≡ pages.old.past }
 {
+    let whole = Whole(Part {
+        writing,
+        pg,
+        z,
+        from,
+        count,
+    });
     let len = writing.memory.bytes() * count;
-    let part = pages.lend_mut(writing.target(from), len as u32, place);
-    write_whole(writing, pg, z, from, count, part);
+    pages.write_span(writing.target(from), len as u32, place, &whole);
 }
 
 /// Stores so many elements where they have the same width in memory, are all active and stand in one page that may be
@@ -90,9 +105,10 @@ fn store_full(
 #[inline(always)]
 fn store_at_once(pages: &mut Pages, writing: Writing, pg: &PReg, z: &ZReg, lanes: usize) -> bool
     requires { lanes ≤ all_lanes writing.element }
-    ensures done { let left = stored_of writing pg.now.bits z.now.bytes (lanes - 0) 0 pages.old in
-        IsTrue result → left ≡ AllStored pages.new }
-    ensures unchanged { result ≡ false → pages.new ≡ pages.old }
+    ensures done { let left = stored_of writing pg.now.bits z.now.bytes (lanes - 0) 0 pages.old.memory in
+        IsTrue result → left ≡ AllStored pages.new.memory }
+    ensures unchanged { result ≡ false → pages.new.memory ≡ pages.old.memory }
+    ensures past { pages.new.past ≡ pages.old.past }
 {
     pages.is_memory();
     if writing.memory != writing.element || !is_full(pg, writing.element, lanes) {
@@ -118,10 +134,11 @@ fn store_active(
 ) -> Result<(), AccessFault>
     requires order { from ≤ to }
     requires inside { to ≤ all_lanes writing.element }
-    ensures done { let left = stored_of writing pg.now.bits z.now.bytes (to - from) from pages.old in
-        OnOk result (left ≡ AllStored pages.new) }
-    ensures refused { let left = stored_of writing pg.now.bits z.now.bytes (to - from) from pages.old in
-        IfErr result (λ fault. left ≡ StoreFault fault pages.new) }
+    ensures done { let left = stored_of writing pg.now.bits z.now.bytes (to - from) from pages.old.memory in
+        OnOk result (left ≡ AllStored pages.new.memory) }
+    ensures refused { let left = stored_of writing pg.now.bits z.now.bytes (to - from) from pages.old.memory in
+        IfErr result (λ fault. left ≡ StoreFault fault pages.new.memory) }
+    ensures past { pages.new.past ≡ pages.old.past }
 {
     let size = writing.memory.bytes();
     let mut e = from;
@@ -157,10 +174,11 @@ pub fn store(
     pg: &PReg,
     z: &ZReg,
 ) -> Result<(), AccessFault>
-    ensures done { let left = store_of row.msz row.size base index vl pg.now.bits z.now.bytes pages.old in
-        OnOk result (left ≡ AllStored pages.new) }
-    ensures refused { let left = store_of row.msz row.size base index vl pg.now.bits z.now.bytes pages.old in
-        IfErr result (λ fault. left ≡ StoreFault fault pages.new) }
+    ensures done { let left = store_of row.msz row.size base index vl pg.now.bits z.now.bytes pages.old.memory in
+        OnOk result (left ≡ AllStored pages.new.memory) }
+    ensures refused { let left = store_of row.msz row.size base index vl pg.now.bits z.now.bytes pages.old.memory in
+        IfErr result (λ fault. left ≡ StoreFault fault pages.new.memory) }
+    ensures past { pages.new.past ≡ pages.old.past }
 {
     let writing = Writing::new(row, base, index);
     let lanes = vl.lanes(writing.element) as usize;

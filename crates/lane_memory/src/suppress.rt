@@ -53,6 +53,13 @@ impl Suppress {
         })
     }
 
+    /// The same list once more.
+    pub fn copy(&self) -> Suppress
+        ensures { result ≡ self.now }
+    {
+        Suppress { stops: self.stops }
+    }
+
     /// What callers may rest on: the list is counted from here. It does nothing.
     #[inline(always)]
     pub fn is_counted(&self)

@@ -6,5 +6,3 @@ pub mod compare;
 pub mod logic;
 pub mod make;
 pub mod test;
-#[cfg(test)]
-mod tests;

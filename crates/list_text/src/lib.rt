@@ -85,6 +85,3 @@ fn push_hex_digit<const N: usize>(into: &mut ArrayString<N>, digit: u32)
 {
     into.push(b"0123456789abcdef"[digit as usize] as char);
 }
-
-#[cfg(test)]
-mod tests;

@@ -1,5 +1,5 @@
 -- What the lists of a loop's items want: a statement has an item, and the names at the loop's head.
-use Rattle.std.proofs.Common.{◌≡◌, ℕ, suc, ◌+◌, ◌≤◌, List, [], ◌∷◌, ◌++◌, length, map, Option, refl, sym, ap, ap₂, ◌∙◌, subst, arith, true}
+use Rattle.std.proofs.Common.{◌≡◌, ℕ, suc, ◌+◌, ◌<◌, ◌≤◌, List, [], ◌∷◌, ◌++◌, length, map, drop, get_or, Option, refl, sym, ap, ap₂, ◌∙◌, subst, arith, true, add-one, drop-cons, append_assoc}
 use Rattle.kernel_tree.specs.Plain.{Action, Define, Put, Update, Choose, Leave, PlainLoop, Program}
 use Rattle.kernel_tree.specs.Items.{loop_index, action_size}
 use Rattle.kernel_tree.specs.Typing.{Local, local, var_scope, in_loop}
@@ -18,6 +18,14 @@ some_item i (Put a o e) = omega arith
 some_item i (Update x op e) = omega arith
 some_item i (Choose c b d) = omega arith
 some_item i (Leave c) = omega arith
+
+-- what is left of a list at a place
+pub next-entry : {A : Type 0} (xs : List A) (i : ℕ) (x : A) → i < length xs → x ≡ get_or xs i x → drop i xs ≡ x ∷ drop (i + 1) xs
+next-entry xs i x h g = drop-cons xs i x h ∙ ap₂ (λ y n. y ∷ drop n xs) (sym g) (sym (add-one i))
+
+-- one more value of a list that is made of another one by one
+pub one-more : {A B C : Type 0} (g : A → B) (f : B → C) (xs ys : List A) (x : A) (new old whole : List C) (y : C) → ys ≡ x ∷ xs → new ≡ old ++ y ∷ [] → y ≡ f (g x) → old ++ map f (map g ys) ≡ whole → new ++ map f (map g xs) ≡ whole
+one-more g f xs ys x new old whole y e n h w = ap (λ l. l ++ map f (map g xs)) (n ∙ ap (λ z. old ++ z ∷ []) h) ∙ append_assoc old (f (g x) ∷ []) (map f (map g xs)) ∙ sym (ap (λ l. old ++ map f (map g l)) e) ∙ w
 
 map-push : {A B : Type 0} (f : A → B) (xs : List A) (y : A) → map f (xs ++ y ∷ []) ≡ map f xs ++ f y ∷ []
 map-push f [] y = refl

@@ -50,7 +50,7 @@ abbrev pub inner_entries : Option ℤ → List Entry → List Entry
 inner_entries (Some c) es = []
 inner_entries None es = es
 
--- the items of an expression whose items begin at a number and whose value is used by the item `until`
+-- the items of an expression whose items begin at a number and whose value is used by the item `last_use`
 abbrev pub term_entries : Program → (from last_use : ℕ) → Term → List Entry
 term_entries k from last_use (Literal n) = entry k from (IsLiteral n) last_use ∷ []
 term_entries k from last_use (Variable x) = entry k from (IsName x) last_use ∷ []

@@ -113,3 +113,10 @@ pub fn loop_entries(kernel: &Checked) -> Entries<'_>
     list_turns(kernel, &mut entries, start, &tree.body);
     entries
 }
+
+/// How many items a kernel has.
+pub fn item_count(kernel: &Checked) -> u32
+    ensures { result ≡ size_of (program kernel.now) }
+{
+    entries(kernel).len() as u32
+}

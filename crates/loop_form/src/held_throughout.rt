@@ -1,11 +1,13 @@
 //! What is held in registers throughout.
 
-ghost use Rattle.std.specs.Prelude.{◌≡◌, [], ◌++◌, map, filter, IfOk, OnOk};
+ghost use Rattle.std.specs.Prelude.{◌≡◌, [], ◌∷◌, ◌++◌, if◌then◌else◌, map, filter, length, IfOk, OnOk};
 ghost use Rattle.std.specs.List.{list_any};
 ghost use Rattle.kernel_tree.specs.Plain.{parameters_of, parameter_of, accumulators_of, accumulator_of, program_of};
 ghost use Rattle.kernel_tree.specs.Checked.{kernel_of};
 ghost use Rattle.kernel_tree.specs.Items.{loop_index};
+ghost use Rattle.reg_assign.specs.declared.interval.RegClass.TheVariants.{Z};
 ghost use Rattle.loop_form.specs.HeldView.{view_of, view};
+ghost use Rattle.loop_form.specs.Entries.{loop_entries};
 ghost use Rattle.loop_form.specs.Listing.{names};
 ghost use Rattle.loop_form.specs.Needs.{is_scalar, is_named_scalar, scalars, same_type, is_literal, is_constant, new_constant, constants, index_held, updates, is_updated, accumulating_of, throughout};
 ghost use Rattle.loop_form.specs.View.{program, content_of, entry_of, entries_view};
@@ -13,6 +15,7 @@ ghost use Rattle.loop_form.specs.View.{program, content_of, entry_of, entries_vi
 use crate::entry::{Content, Entry};
 use crate::entry_list::loop_entries;
 use crate::item_list::is_name;
+use crate::laws::few_intervals;
 use kernel_tree::{Checked, Param, Shape, Ty, Var};
 use reg_assign::RegClass;
 use std::alloc::{AllocError, Global};
@@ -67,9 +70,8 @@ fn push_scalars<'a>(
         (parameters_of params.now)) }
 {
     for param in params {
-        if is_scalar_named(entries, param) {
-            held.push(Held::Scalar(param.name.text()))?;
-        }
+        let is_held = is_scalar_named(entries, param);
+        push_where(held, is_held, Held::Scalar(param.name.text()))?;
     }
     Ok(())
 }
@@ -113,6 +115,17 @@ fn occurs(before: &[Entry<'_>], ty: Option<Ty>, value: i128) -> bool
     false
 }
 
+// One more that is held, where it is.
+fn push_where<'a>(held: &mut Vec<Held<'a>>, is_held: bool, one: Held<'a>) -> Result<(), AllocError>
+    ensures { OnOk result (view held.new.items ≡ view held.old.items
+        ++ (if is_held then view_of one.entry ∷ [] else [])) }
+{
+    if is_held {
+        held.push(one)?;
+    }
+    Ok(())
+}
+
 // An item that is a literal, where none of the items before it is the same.
 fn push_new(
     held: &mut Vec<Held<'_>>,
@@ -122,10 +135,10 @@ fn push_new(
     ensures { OnOk result (view held.new.items ≡ view held.old.items ++ new_constant
         (entries_view before.now) entry.now.ty (content_of entry.now.content)) }
 {
-    if let Content::Literal(value) = entry.content {
-        if !occurs(before, entry.ty, value) {
-            held.push(Held::Constant(entry.ty, value))?;
-        }
+    if let Content::Literal(value) = entry.content
+        && !occurs(before, entry.ty, value)
+    {
+        held.push(Held::Constant(entry.ty, value))?;
     }
     Ok(())
 }
@@ -153,12 +166,10 @@ fn push_index(
     ensures { OnOk result (view held.new.items ≡ view held.old.items ++ index_held (entries_view entries.now)
         (loop_index (program kernel.now))) }
 {
-    if let Some(turns) = &kernel.kernel().body {
-        if is_named(entries, turns.index.text()) {
-            held.push(Held::Index)?;
-        }
+    match &kernel.kernel().body {
+        Some(turns) => push_where(held, is_named(entries, turns.index.text()), Held::Index),
+        None => Ok(()),
     }
-    Ok(())
 }
 
 /// Whether an item is an update of the accumulator.
@@ -193,9 +204,8 @@ fn push_updated<'a>(
         (filter (is_updated (entries_view entries.now)) (accumulators_of vars.now))) }
 {
     for var in vars {
-        if is_var_updated(entries, var) {
-            held.push(Held::Accumulating(var.name.text()))?;
-        }
+        let is_held = is_var_updated(entries, var);
+        push_where(held, is_held, Held::Accumulating(var.name.text()))?;
     }
     Ok(())
 }
@@ -211,6 +221,40 @@ fn push_vars<'a>(held: &mut Vec<Held<'a>>, vars: &'a [Var]) -> Result<(), AllocE
     Ok(())
 }
 
+// By the items of the loop, the scalar parameters that are named, each literal of a type, the loop variable where it is
+// named, and the accumulators that are updated.
+#[tactic(auto, unfolding(crate::specs::View::program))]
+fn push_of_loop<'a>(
+    kernel: &'a Checked,
+    held: &mut Vec<Held<'a>>,
+    entries: &[Entry<'_>],
+) -> Result<(), AllocError>
+    requires { entries_view entries.now ≡ loop_entries (program kernel.now) }
+    ensures { OnOk result (view held.new.items ≡ view held.old.items ++ throughout (program kernel.now) Z) }
+{
+    let tree = kernel.kernel();
+    push_scalars(held, entries, &tree.params)?;
+    push_constants(held, entries)?;
+    push_index(kernel, held, entries)?;
+    push_updated(held, entries, &tree.vars)
+}
+
+// What is held in the registers of a class.
+#[tactic(auto, unfolding(crate::specs::View::program))]
+fn push_of_class<'a>(
+    kernel: &'a Checked,
+    held: &mut Vec<Held<'a>>,
+    class: RegClass,
+) -> Result<(), AllocError>
+    ensures { OnOk result (view held.new.items ≡ view held.old.items ++ throughout (program kernel.now) class) }
+{
+    match class {
+        RegClass::Z => push_of_loop(kernel, held, &loop_entries(kernel)),
+        RegClass::P => Ok(()),
+        RegClass::X => push_vars(held, &kernel.kernel().vars),
+    }
+}
+
 /// What is held in the registers of a class throughout, in the order of its intervals, of which these are the first: in
 /// X registers all accumulators, and in Z registers, by the items of the loop alone, the scalar parameters that are
 /// named, each literal of a type, the loop variable where it is named, and the accumulators that are updated.
@@ -223,17 +267,15 @@ pub fn throughout(
     ensures { IfOk result (λ held. view held.items ≡ throughout (program_of (kernel_of kernel.now)) class) }
 {
     let mut held = Vec::new(alloc);
-    let tree = kernel.kernel();
-    match class {
-        RegClass::Z => {
-            let entries = loop_entries(kernel);
-            push_scalars(&mut held, &entries, &tree.params)?;
-            push_constants(&mut held, &entries)?;
-            push_index(kernel, &mut held, &entries)?;
-            push_updated(&mut held, &entries, &tree.vars)?;
-        }
-        RegClass::P => {}
-        RegClass::X => push_vars(&mut held, &tree.vars)?,
-    }
+    push_of_class(kernel, &mut held, class)?;
     Ok(held)
+}
+
+/// How much is held throughout in the registers of a class.
+pub fn held_count(alloc: Global, kernel: &Checked, class: RegClass) -> Result<u32, AllocError>
+    ensures { IfOk result (λ count. count ≡ length (throughout (program kernel.now) class)) }
+{
+    few_intervals(kernel, class);
+    let held = throughout(alloc, kernel, class)?;
+    Ok(held.len() as u32)
 }

@@ -9,6 +9,7 @@ pub mod held_throughout;
 pub mod item;
 mod item_list;
 pub mod laws;
+mod listed;
 pub mod loop_item;
 mod loop_list;
 mod loop_names;

@@ -3,7 +3,7 @@
 use kernel_tree::{BinaryOp, CompareOp, Ty, UnaryOp, UpdateOp};
 
 /// Where an operand is held.
-#[derive(Clone, Copy, PartialEq, Eq, Debug)]
+#[derive(Clone, Copy)]
 pub enum Source {
     /// In a literal of a type, as it is written.
     Constant(Option<Ty>, i128),

@@ -7,6 +7,7 @@ ghost use Rattle.loop_form.specs.LoopItems.{loop_items_of};
 ghost use Rattle.loop_form.specs.LoopView.{view};
 
 use crate::laws::{few_items, near_statements};
+use crate::listed::Listed;
 use crate::loop_item::LoopItem;
 use crate::loop_names::loop_names;
 use crate::loop_statements::list_block;
@@ -23,12 +24,25 @@ pub fn loop_items(alloc: Global, kernel: &Checked) -> Result<Vec<LoopItem<'_>>, 
 {
     few_items(kernel);
     near_statements(kernel);
-    let mut items = Vec::new(alloc);
+    let mut listed = Listed {
+        items: Vec::new(alloc),
+        short: false,
+    };
     let tree = kernel.kernel();
     if let Some(turns) = &tree.body {
         let start = tree.params.len() as u32 + vars_size_of(kernel, &tree.vars);
         let mut names = loop_names(alloc, kernel, turns)?;
-        list_block(kernel, &mut names, &mut items, None, start + 1, &turns.body)?;
+        list_block(
+            kernel,
+            &mut names,
+            &mut listed,
+            None,
+            start + 1,
+            &turns.body,
+        );
     }
-    Ok(items)
+    if listed.short {
+        return Err(AllocError);
+    }
+    Ok(listed.items)
 }

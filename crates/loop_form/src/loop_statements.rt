@@ -1,6 +1,6 @@
 //! Lists what the items of statements in a loop do.
 
-ghost use Rattle.std.specs.Prelude.{◌≡◌, ◌+◌, ◌≤◌, [], take, length, OnOk};
+ghost use Rattle.std.specs.Prelude.{◌≡◌, ◌+◌, ◌≤◌, [], take, length, false};
 ghost use Rattle.kernel_tree.specs.Plain.{Define, Put, Update, Leave, Choose, Nothing, Else, name_of, term_of, action_of, block_of};
 ghost use Rattle.kernel_tree.specs.Items.{loop_index, term_size, action_size, block_size};
 ghost use Rattle.loop_form.specs.LoopView.{AppendsAction, AppendsBlock, Declares};
@@ -8,63 +8,63 @@ ghost use Rattle.loop_form.specs.Near.{NearTerm, NearAction, NearBlock};
 ghost use Rattle.loop_form.specs.View.{program};
 
 use crate::access::offset;
-use crate::loop_item::{LoopItem, LoopOp, Source};
-use crate::loop_values::{append, list_condition, list_one, list_value};
-use crate::operands::{condition_item, source};
-use crate::size::{expr_size, statements_size, stmt_size};
+use crate::listed::Listed;
+use crate::loop_item::{LoopOp, Source};
+use crate::loop_values::{append, list_operand, list_truth};
+use crate::size::{count_items, expr_size, statements_size};
 use crate::visible::{
     Visible, accumulator_type_of, array_type_of, first_type, own_type, source_of,
 };
 use kernel_tree::fault::Binding;
 use kernel_tree::{Checked, Expr, Name, Part, Stmt, Ty, UpdateOp, parts};
-use std::alloc::AllocError;
 
 // A `let`, whose name plays no part in its items, so that none stands for any: its value, and the copy.
 fn list_let<'a>(
     kernel: &Checked,
     names: &[Visible<'a>],
-    items: &mut Vec<LoopItem<'a>>,
+    listed: &mut Listed<'a>,
     mask: Option<u32>,
     from: u32,
     ty: Option<Ty>,
     value: &'a Expr,
-) -> Result<(), AllocError>
+)
     requires fits { from + (term_size (loop_index (program kernel.now)) (term_of value.now) + 1) ≤ 1000 }
     requires near { NearTerm (loop_index (program kernel.now)) (term_of value.now) }
-    ensures { OnOk result (AppendsAction (loop_index (program kernel.now)) names.now mask from
-        (Define [] ty (term_of value.now)) items.old.items items.new.items) }
+    ensures kept { listed.new.short ≡ false → listed.old.short ≡ false }
+    ensures items { listed.new.short ≡ false → AppendsAction (loop_index (program kernel.now)) names.now
+        mask from (Define [] ty (term_of value.now)) listed.old.items.items listed.new.items.items }
 {
     let want = first_type(ty, own_type(names, value));
     let op = LoopOp::Copy {
         ty: want,
-        arg: source(kernel, names, want, from, value),
+        arg: list_operand(kernel, names, listed, want, mask, from, value),
     };
-    list_one(kernel, names, items, want, mask, from, value, op)?;
-    Ok(())
+    append(listed, from + expr_size(kernel, value), mask, op);
 }
 
 // A store: its value, and the store.
 fn list_store<'a>(
     kernel: &Checked,
     names: &[Visible<'a>],
-    items: &mut Vec<LoopItem<'a>>,
+    listed: &mut Listed<'a>,
     mask: Option<u32>,
     from: u32,
     array: &'a Name,
     index: &'a Expr,
     value: &'a Expr,
-) -> Result<(), AllocError>
+)
     requires fits { from + action_size (loop_index (program kernel.now))
         (Put (name_of array.now) (term_of index.now) (term_of value.now)) ≤ 1000 }
     requires near { NearAction (loop_index (program kernel.now))
         (Put (name_of array.now) (term_of index.now) (term_of value.now)) }
-    ensures { OnOk result (AppendsAction (loop_index (program kernel.now)) names.now mask from
-        (Put (name_of array.now) (term_of index.now) (term_of value.now)) items.old.items items.new.items) }
+    ensures kept { listed.new.short ≡ false → listed.old.short ≡ false }
+    ensures items { listed.new.short ≡ false → AppendsAction (loop_index (program kernel.now)) names.now
+        mask from (Put (name_of array.now) (term_of index.now) (term_of value.now))
+        listed.old.items.items listed.new.items.items }
 {
     let array = array.text();
     let want = array_type_of(names, array);
-    let stored = source(kernel, names, want, from, value);
-    list_value(kernel, names, items, want, mask, from, value)?;
+    let stored = list_operand(kernel, names, listed, want, mask, from, value);
     if let Some(offset) = offset(kernel, index) {
         let op = LoopOp::Store {
             array,
@@ -73,26 +73,26 @@ fn list_store<'a>(
             offset,
             value: stored,
         };
-        append(items, from + expr_size(kernel, value), mask, op)?;
+        append(listed, from + expr_size(kernel, value), mask, op);
     }
-    Ok(())
 }
 
 // An update: its value, and the update.
 fn list_update<'a>(
     kernel: &Checked,
     names: &[Visible<'a>],
-    items: &mut Vec<LoopItem<'a>>,
+    listed: &mut Listed<'a>,
     mask: Option<u32>,
     from: u32,
     name: &'a Name,
     op: UpdateOp,
     value: &'a Expr,
-) -> Result<(), AllocError>
+)
     requires fits { from + (term_size (loop_index (program kernel.now)) (term_of value.now) + 1) ≤ 1000 }
     requires near { NearTerm (loop_index (program kernel.now)) (term_of value.now) }
-    ensures { OnOk result (AppendsAction (loop_index (program kernel.now)) names.now mask from
-        (Update (name_of name.now) op (term_of value.now)) items.old.items items.new.items) }
+    ensures kept { listed.new.short ≡ false → listed.old.short ≡ false }
+    ensures items { listed.new.short ≡ false → AppendsAction (loop_index (program kernel.now)) names.now
+        mask from (Update (name_of name.now) op (term_of value.now)) listed.old.items.items listed.new.items.items }
 {
     let name = name.text();
     let want = accumulator_type_of(names, name);
@@ -100,30 +100,28 @@ fn list_update<'a>(
         name,
         op,
         ty: want,
-        value: source(kernel, names, want, from, value),
+        value: list_operand(kernel, names, listed, want, mask, from, value),
     };
-    list_one(kernel, names, items, want, mask, from, value, op)?;
-    Ok(())
+    append(listed, from + expr_size(kernel, value), mask, op);
 }
 
 // A `break`: its condition, and the break.
 fn list_break<'a>(
     kernel: &Checked,
     names: &[Visible<'a>],
-    items: &mut Vec<LoopItem<'a>>,
+    listed: &mut Listed<'a>,
     mask: Option<u32>,
     from: u32,
     cond: &'a Expr,
-) -> Result<(), AllocError>
+)
     requires fits { from + (term_size (loop_index (program kernel.now)) (term_of cond.now) + 1) ≤ 1000 }
     requires near { NearTerm (loop_index (program kernel.now)) (term_of cond.now) }
-    ensures { OnOk result (AppendsAction (loop_index (program kernel.now)) names.now mask from
-        (Leave (term_of cond.now)) items.old.items items.new.items) }
+    ensures kept { listed.new.short ≡ false → listed.old.short ≡ false }
+    ensures items { listed.new.short ≡ false → AppendsAction (loop_index (program kernel.now)) names.now
+        mask from (Leave (term_of cond.now)) listed.old.items.items listed.new.items.items }
 {
-    let op = LoopOp::Quit(condition_item(kernel, from, cond));
-    list_condition(kernel, names, items, mask, from, cond)?;
-    append(items, from + expr_size(kernel, cond), mask, op)?;
-    Ok(())
+    let op = LoopOp::Quit(list_truth(kernel, names, listed, mask, from, cond));
+    append(listed, from + expr_size(kernel, cond), mask, op);
 }
 
 // A statement; the names after it are not yet declared.
@@ -131,97 +129,95 @@ fn list_break<'a>(
 fn list_stmt<'a>(
     kernel: &Checked,
     names: &mut Vec<Visible<'a>>,
-    items: &mut Vec<LoopItem<'a>>,
+    listed: &mut Listed<'a>,
     mask: Option<u32>,
     from: u32,
     stmt: &'a Stmt,
-) -> Result<(), AllocError>
+)
     requires fits { from + action_size (loop_index (program kernel.now)) (action_of stmt.now) ≤ 1000 }
     requires near { NearAction (loop_index (program kernel.now)) (action_of stmt.now) }
-    ensures names { OnOk result (names.new.items ≡ names.old.items) }
-    ensures items { OnOk result (AppendsAction (loop_index (program kernel.now)) names.old.items mask from
-        (action_of stmt.now) items.old.items items.new.items) }
+    ensures names { names.new.items ≡ names.old.items }
+    ensures kept { listed.new.short ≡ false → listed.old.short ≡ false }
+    ensures items { listed.new.short ≡ false → AppendsAction (loop_index (program kernel.now)) names.old.items
+        mask from (action_of stmt.now) listed.old.items.items listed.new.items.items }
 {
     match parts(stmt) {
-        Part::Let { ty, value, .. } => list_let(kernel, names, items, mask, from, ty, value)?,
+        Part::Let { ty, value, .. } => list_let(kernel, names, listed, mask, from, ty, value),
         Part::Store {
             array,
             index,
             value,
-        } => list_store(kernel, names, items, mask, from, array, index, value)?,
+        } => list_store(kernel, names, listed, mask, from, array, index, value),
         Part::Update { name, op, value } => {
-            list_update(kernel, names, items, mask, from, name, op, value)?;
+            list_update(kernel, names, listed, mask, from, name, op, value)
         }
-        Part::If { cond, block } => list_if(kernel, names, items, mask, from, cond, block)?,
+        Part::If { cond, block } => list_if(kernel, names, listed, mask, from, cond, block),
         Part::IfElse { cond, block, other } => {
-            list_if_else(kernel, names, items, mask, from, cond, block, other)?;
+            list_if_else(kernel, names, listed, mask, from, cond, block, other)
         }
-        Part::Break { cond } => list_break(kernel, names, items, mask, from, cond)?,
+        Part::Break { cond } => list_break(kernel, names, listed, mask, from, cond),
     }
-    Ok(())
 }
 
 #[cycle(loop_statements)]
 fn list_if<'a>(
     kernel: &Checked,
     names: &mut Vec<Visible<'a>>,
-    items: &mut Vec<LoopItem<'a>>,
+    listed: &mut Listed<'a>,
     mask: Option<u32>,
     from: u32,
     cond: &'a Expr,
     block: &'a [Stmt],
-) -> Result<(), AllocError>
+)
     requires fits { from + action_size (loop_index (program kernel.now))
         (Choose (term_of cond.now) (block_of block.now) Nothing) ≤ 1000 }
     requires near { NearAction (loop_index (program kernel.now))
         (Choose (term_of cond.now) (block_of block.now) Nothing) }
-    ensures names { OnOk result (names.new.items ≡ names.old.items) }
-    ensures items { OnOk result (AppendsAction (loop_index (program kernel.now)) names.old.items mask from
-        (Choose (term_of cond.now)
-        (block_of block.now) Nothing) items.old.items items.new.items) }
+    ensures names { names.new.items ≡ names.old.items }
+    ensures kept { listed.new.short ≡ false → listed.old.short ≡ false }
+    ensures items { listed.new.short ≡ false → AppendsAction (loop_index (program kernel.now)) names.old.items
+        mask from (Choose (term_of cond.now)
+        (block_of block.now) Nothing) listed.old.items.items listed.new.items.items }
 {
-    let first = condition_item(kernel, from, cond);
     let inner = from + expr_size(kernel, cond) + 1;
-    list_condition(kernel, names, items, mask, from, cond)?;
-    list_inner(kernel, names, items, Some(first), inner, block)?;
-    Ok(())
+    let first = list_truth(kernel, names, listed, mask, from, cond);
+    list_inner(kernel, names, listed, Some(first), inner, block);
 }
 
 #[cycle(loop_statements)]
 fn list_if_else<'a>(
     kernel: &Checked,
     names: &mut Vec<Visible<'a>>,
-    items: &mut Vec<LoopItem<'a>>,
+    listed: &mut Listed<'a>,
     mask: Option<u32>,
     from: u32,
     cond: &'a Expr,
     block: &'a [Stmt],
     other: &'a [Stmt],
-) -> Result<(), AllocError>
+)
     requires fits { from + action_size (loop_index (program kernel.now))
         (Choose (term_of cond.now) (block_of block.now) (Else (block_of other.now))) ≤ 1000 }
     requires near { NearAction (loop_index (program kernel.now))
         (Choose (term_of cond.now) (block_of block.now) (Else (block_of other.now))) }
-    ensures names { OnOk result (names.new.items ≡ names.old.items) }
-    ensures items { OnOk result (AppendsAction (loop_index (program kernel.now)) names.old.items mask from
-        (Choose (term_of cond.now) (block_of block.now)
-        (Else (block_of other.now))) items.old.items items.new.items) }
+    ensures names { names.new.items ≡ names.old.items }
+    ensures kept { listed.new.short ≡ false → listed.old.short ≡ false }
+    ensures items { listed.new.short ≡ false → AppendsAction (loop_index (program kernel.now)) names.old.items
+        mask from (Choose (term_of cond.now) (block_of block.now)
+        (Else (block_of other.now))) listed.old.items.items listed.new.items.items }
 {
-    let first = condition_item(kernel, from, cond);
     let inner = from + expr_size(kernel, cond) + 1;
     let other_side = inner + statements_size(kernel, block);
-    list_condition(kernel, names, items, mask, from, cond)?;
-    list_inner(kernel, names, items, Some(first), inner, block)?;
-    append(items, other_side, mask, LoopOp::Invert(first))?;
+    let first = list_truth(kernel, names, listed, mask, from, cond);
+    list_inner(kernel, names, listed, Some(first), inner, block);
+    append(listed, other_side, mask, LoopOp::Invert(first));
     list_inner(
         kernel,
         names,
-        items,
+        listed,
         Some(other_side),
         other_side + 1,
         other,
-    )?;
-    Ok(())
+    );
 }
 
 // A block inside another, whose names end with it.
@@ -229,21 +225,21 @@ fn list_if_else<'a>(
 fn list_inner<'a>(
     kernel: &Checked,
     names: &mut Vec<Visible<'a>>,
-    items: &mut Vec<LoopItem<'a>>,
+    listed: &mut Listed<'a>,
     mask: Option<u32>,
     from: u32,
     block: &'a [Stmt],
-) -> Result<(), AllocError>
+)
     requires fits { from + block_size (loop_index (program kernel.now)) (block_of block.now) ≤ 1000 }
     requires near { NearBlock (loop_index (program kernel.now)) (block_of block.now) }
-    ensures names { OnOk result (names.new.items ≡ names.old.items) }
-    ensures items { OnOk result (AppendsBlock (loop_index (program kernel.now)) names.old.items mask from
-        (block_of block.now) items.old.items items.new.items) }
+    ensures names { names.new.items ≡ names.old.items }
+    ensures kept { listed.new.short ≡ false → listed.old.short ≡ false }
+    ensures items { listed.new.short ≡ false → AppendsBlock (loop_index (program kernel.now)) names.old.items
+        mask from (block_of block.now) listed.old.items.items listed.new.items.items }
 {
     let outer = names.len();
-    list_block(kernel, names, items, mask, from, block)?;
+    list_block(kernel, names, listed, mask, from, block);
     names.truncate(outer);
-    Ok(())
 }
 
 /// Lists the statements of a block, whose names come after those that are visible.
@@ -251,60 +247,51 @@ fn list_inner<'a>(
 pub fn list_block<'a>(
     kernel: &Checked,
     names: &mut Vec<Visible<'a>>,
-    items: &mut Vec<LoopItem<'a>>,
+    listed: &mut Listed<'a>,
     mask: Option<u32>,
     from: u32,
     block: &'a [Stmt],
-) -> Result<(), AllocError>
+)
     requires fits { from + block_size (loop_index (program kernel.now)) (block_of block.now) ≤ 1000 }
     requires near { NearBlock (loop_index (program kernel.now)) (block_of block.now) }
-    ensures names { OnOk result (take (length names.old.items) names.new.items ≡ names.old.items) }
-    ensures items { OnOk result (AppendsBlock (loop_index (program kernel.now)) names.old.items mask from
-        (block_of block.now) items.old.items items.new.items) }
+    ensures names { take (length names.old.items) names.new.items ≡ names.old.items }
+    ensures kept { listed.new.short ≡ false → listed.old.short ≡ false }
+    ensures items { listed.new.short ≡ false → AppendsBlock (loop_index (program kernel.now)) names.old.items
+        mask from (block_of block.now) listed.old.items.items listed.new.items.items }
 {
     let [stmt, rest @ ..] = block else {
-        return Ok(());
+        return;
     };
-    list_stmt(kernel, names, items, mask, from, stmt)?;
-    declare(kernel, names, from, stmt)?;
+    list_stmt(kernel, names, listed, mask, from, stmt);
+    declare(kernel, names, &mut listed.short, from, stmt);
     let next = from + count_items(kernel, stmt);
-    list_block(kernel, names, items, mask, next, rest)?;
-    Ok(())
-}
-
-// The items of a statement, of which there is one at least.
-fn count_items(kernel: &Checked, stmt: &Stmt) -> u32
-    requires { action_size (loop_index (program kernel.now)) (action_of stmt.now) ≤ 1000 }
-    ensures size { result ≡ action_size (loop_index (program kernel.now)) (action_of stmt.now) }
-    ensures some { 1 ≤ result }
-{
-    stmt_size(kernel, stmt)
+    list_block(kernel, names, listed, mask, next, rest);
 }
 
 // The name that a statement declares.
 fn declare<'a>(
     kernel: &Checked,
     names: &mut Vec<Visible<'a>>,
+    short: &mut bool,
     from: u32,
     stmt: &'a Stmt,
-) -> Result<(), AllocError>
+)
     requires { from + action_size (loop_index (program kernel.now)) (action_of stmt.now) ≤ 1000 }
-    ensures kept { OnOk result (take (length names.old.items) names.new.items ≡ names.old.items) }
-    ensures declares { OnOk result (Declares (loop_index (program kernel.now)) from
-        (action_of stmt.now) names.old.items names.new.items) }
+    ensures names { take (length names.old.items) names.new.items ≡ names.old.items }
+    ensures kept { short.new ≡ false → short.old ≡ false }
+    ensures declares { short.new ≡ false → Declares (loop_index (program kernel.now)) from
+        (action_of stmt.now) names.old.items names.new.items }
 {
-    match parts(stmt) {
-        Part::Let { name, ty, value } => {
-            if let Some(ty) = first_type(ty, own_type(names, value)) {
-                let item = from + expr_size(kernel, value);
-                names.push(Visible {
-                    name: name.text(),
-                    binding: Binding::Value(ty),
-                    source: Source::Made(item),
-                })?;
-            }
-            Ok(())
+    if let Part::Let { name, ty, value } = parts(stmt)
+        && let Some(ty) = first_type(ty, own_type(names, value))
+    {
+        let visible = Visible {
+            name: name.text(),
+            binding: Binding::Value(ty),
+            source: Source::Made(from + expr_size(kernel, value)),
+        };
+        if names.push(visible).is_err() {
+            *short = true;
         }
-        _ => Ok(()),
     }
 }

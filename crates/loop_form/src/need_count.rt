@@ -6,8 +6,8 @@ ghost use Rattle.kernel_tree.specs.Checked.{kernel_of};
 ghost use Rattle.loop_form.specs.Needs.{need, needs_of};
 ghost use Rattle.loop_form.specs.View.{program};
 
-use crate::entry_list::entries;
-use crate::laws::{few_items, ordered_intervals};
+use crate::entry_list::item_count;
+use crate::laws::ordered_intervals;
 use crate::need::Needs;
 use crate::values::intervals;
 use kernel_tree::Checked;
@@ -32,8 +32,7 @@ fn class_need(alloc: Global, kernel: &Checked, class: RegClass) -> Result<u32, A
 pub fn needs(alloc: Global, kernel: &Checked) -> Result<Needs, AllocError>
     ensures { IfOk result (λ needs. needs ≡ needs_of (program_of (kernel_of kernel.now))) }
 {
-    few_items(kernel);
-    let size = entries(kernel).len() as u32;
+    let size = item_count(kernel);
     let z = class_need(alloc, kernel, RegClass::Z)?;
     let p = class_need(alloc, kernel, RegClass::P)?;
     let x = class_need(alloc, kernel, RegClass::X)?;

@@ -1,14 +1,16 @@
 //! Which interval of a class an item has.
 
-ghost use Rattle.std.specs.Prelude.{◌≡◌, ◌+◌, ◌^◌, ◌<◌, length, IfOk};
+ghost use Rattle.std.specs.Prelude.{◌≡◌, ◌+◌, ◌^◌, ◌<◌, ◌++◌, length, IfOk, OnOk};
 ghost use Rattle.kernel_tree.specs.Plain.{program_of};
 ghost use Rattle.kernel_tree.specs.Checked.{kernel_of};
+ghost use Rattle.loop_form.specs.Entries.{entries_of};
+ghost use Rattle.loop_form.specs.Needs.{counted};
 ghost use Rattle.loop_form.specs.Places.{places_from, value_places};
-ghost use Rattle.loop_form.specs.View.{entries_view};
+ghost use Rattle.loop_form.specs.View.{program, entries_view};
 
 use crate::entry::Entry;
 use crate::entry_list::{entries, loop_entries};
-use crate::held_throughout::throughout;
+use crate::held_throughout::held_count;
 use crate::item_list::last_use_if_made;
 use crate::laws::few_intervals;
 use kernel_tree::Checked;
@@ -16,29 +18,47 @@ use reg_assign::RegClass;
 use std::alloc::{AllocError, Global};
 
 // The places of some items' intervals, the first of which has this place.
-fn places(
-    alloc: Global,
+fn push_places(
+    places: &mut Vec<Option<u32>>,
     class: RegClass,
     all: &[Entry<'_>],
     first: u32,
     some: &[Entry<'_>],
-) -> Result<Vec<Option<u32>>, AllocError>
+) -> Result<(), AllocError>
     requires { first + length some.now < 2 ^ 32 }
-    ensures { IfOk result (λ places. places.items
-        ≡ places_from class (entries_view all.now) first (entries_view some.now)) }
+    ensures { OnOk result (places.new.items ≡ places.old.items
+        ++ places_from class (entries_view all.now) first (entries_view some.now)) }
 {
-    let mut places = Vec::new(alloc);
     let mut next = first;
     for entry in some {
-        match last_use_if_made(class, all, entry) {
-            None => places.push(None)?,
-            Some(_) => {
-                places.push(Some(next))?;
-                next += 1;
-            }
+        if last_use_if_made(class, all, entry).is_some() {
+            places.push(Some(next))?;
+            next += 1;
+        } else {
+            places.push(None)?;
         }
     }
-    Ok(places)
+    Ok(())
+}
+
+// The places of the items that are counted for a class.
+fn push_counted(
+    places: &mut Vec<Option<u32>>,
+    kernel: &Checked,
+    class: RegClass,
+    first: u32,
+) -> Result<(), AllocError>
+    requires { first + length (counted (program kernel.now) class) < 2 ^ 32 }
+    ensures { OnOk result (places.new.items ≡ places.old.items
+        ++ places_from class (entries_of (program kernel.now)) first (counted (program kernel.now) class)) }
+{
+    let all = entries(kernel);
+    match class {
+        RegClass::X => push_places(places, class, &all, first, &all),
+        RegClass::Z | RegClass::P => {
+            push_places(places, class, &all, first, &loop_entries(kernel))
+        }
+    }
 }
 
 /// The place of the interval of each item among the kernel's intervals of a class, for the items that have one: for X
@@ -52,16 +72,8 @@ pub fn value_places(
     ensures { IfOk result (λ places. places.items ≡ value_places (program_of (kernel_of kernel.now)) class) }
 {
     few_intervals(kernel, class);
-    let first = throughout(alloc, kernel, class)?.len() as u32;
-    let all = entries(kernel);
-    match class {
-        RegClass::X => {
-            let places = places(alloc, class, &all, first, &all)?;
-            Ok(places)
-        }
-        RegClass::Z | RegClass::P => {
-            let places = places(alloc, class, &all, first, &loop_entries(kernel))?;
-            Ok(places)
-        }
-    }
+    let first = held_count(alloc, kernel, class)?;
+    let mut places = Vec::new(alloc);
+    push_counted(&mut places, kernel, class, first)?;
+    Ok(places)
 }

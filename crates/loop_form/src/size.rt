@@ -1,6 +1,6 @@
 //! How many items the parts of a kernel make.
 
-ghost use Rattle.std.specs.Prelude.{◌≡◌, ◌<◌, ◌^◌, is_some};
+ghost use Rattle.std.specs.Prelude.{◌≡◌, ◌<◌, ◌≤◌, ◌^◌, is_some};
 ghost use Rattle.kernel_tree.specs.Plain.{name_of, term_of, action_of, block_of, accumulators_of, turns_of};
 ghost use Rattle.kernel_tree.specs.Items.{is_index, is_index_term, stream_offset, loop_index, term_size, index_items, action_size, block_size, vars_size};
 ghost use Rattle.loop_form.specs.View.{program};
@@ -103,6 +103,15 @@ pub fn statements_size(kernel: &Checked, block: &[Stmt]) -> u32
         size += stmt_size(kernel, stmt);
     }
     size
+}
+
+/// The items of a statement, of which there is one at least.
+pub fn count_items(kernel: &Checked, stmt: &Stmt) -> u32
+    requires { action_size (loop_index (program kernel.now)) (action_of stmt.now) ≤ 1000 }
+    ensures size { result ≡ action_size (loop_index (program kernel.now)) (action_of stmt.now) }
+    ensures some { 1 ≤ result }
+{
+    stmt_size(kernel, stmt)
 }
 
 /// The items of the accumulators.

@@ -1,19 +1,16 @@
 //! The intervals in which the values of a kernel are needed.
 
-ghost use Rattle.std.specs.Prelude.{◌≡◌, ◌+◌, ◌≤◌, length, filter_map, IfOk};
+ghost use Rattle.std.specs.Prelude.{◌≡◌, ◌++◌, IfOk, OnOk};
 ghost use Rattle.std.proofs.Math.ListN.{replicate};
-ghost use Rattle.arrayvec.specs.ArrayVec.{array_vec_len};
 ghost use Rattle.kernel_tree.specs.Plain.{program_of};
 ghost use Rattle.kernel_tree.specs.Checked.{kernel_of};
-ghost use Rattle.loop_form.specs.Entries.{entries_of, loop_entries};
 ghost use Rattle.loop_form.specs.Needs.{span_of, spans_of, values, intervals};
 ghost use Rattle.loop_form.specs.View.{program, entry_of, entries_view};
 
 use crate::entry::Entry;
-use crate::entry_list::{entries, loop_entries};
-use crate::held_throughout::throughout;
+use crate::entry_list::{entries, item_count, loop_entries};
+use crate::held_throughout::held_count;
 use crate::item_list::last_use_if_made;
-use crate::laws::{few_intervals, few_items};
 use kernel_tree::Checked;
 use reg_assign::{Interval, RegClass};
 use std::alloc::{AllocError, Global};
@@ -29,41 +26,35 @@ fn span(class: RegClass, all: &[Entry<'_>], entry: &Entry<'_>) -> Option<Interva
 }
 
 // The values of a class that some items of a kernel make.
-fn spans(
-    alloc: Global,
+fn push_spans(
+    spans: &mut Vec<Interval>,
     class: RegClass,
     all: &[Entry<'_>],
     some: &[Entry<'_>],
-) -> Result<Vec<Interval>, AllocError>
-    ensures { IfOk result (λ spans. spans.items ≡ spans_of class (entries_view all.now) (entries_view some.now)) }
+) -> Result<(), AllocError>
+    ensures { OnOk result (spans.new.items ≡ spans.old.items
+        ++ spans_of class (entries_view all.now) (entries_view some.now)) }
 {
-    let mut spans = Vec::new(alloc);
     for entry in some {
         if let Some(span) = span(class, all, entry) {
             spans.push(span)?;
         }
     }
-    Ok(spans)
+    Ok(())
 }
 
 // The values of a class.
-fn class_values(
-    alloc: Global,
+fn push_values(
+    spans: &mut Vec<Interval>,
     kernel: &Checked,
     class: RegClass,
-) -> Result<Vec<Interval>, AllocError>
-    ensures { IfOk result (λ spans. spans.items ≡ values (program kernel.now) class) }
+) -> Result<(), AllocError>
+    ensures { OnOk result (spans.new.items ≡ spans.old.items ++ values (program kernel.now) class) }
 {
     let all = entries(kernel);
     match class {
-        RegClass::X => {
-            let spans = spans(alloc, class, &all, &all)?;
-            Ok(spans)
-        }
-        RegClass::Z | RegClass::P => {
-            let spans = spans(alloc, class, &all, &loop_entries(kernel))?;
-            Ok(spans)
-        }
+        RegClass::X => push_spans(spans, class, &all, &all),
+        RegClass::Z | RegClass::P => push_spans(spans, class, &all, &loop_entries(kernel)),
     }
 }
 
@@ -92,11 +83,8 @@ pub fn intervals(
 ) -> Result<Vec<Interval>, AllocError>
     ensures { IfOk result (λ v. v.items ≡ intervals (program_of (kernel_of kernel.now)) class) }
 {
-    few_items(kernel);
-    few_intervals(kernel, class);
-    let size = entries(kernel).len() as u32;
-    let held = throughout(alloc, kernel, class)?.len() as u32;
-    let mut intervals = whole_intervals(alloc, held, size)?;
-    intervals.append(&mut class_values(alloc, kernel, class)?)?;
+    let held = held_count(alloc, kernel, class)?;
+    let mut intervals = whole_intervals(alloc, held, item_count(kernel))?;
+    push_values(&mut intervals, kernel, class)?;
     Ok(intervals)
 }

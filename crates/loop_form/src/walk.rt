@@ -9,7 +9,7 @@ ghost use Rattle.loop_form.specs.View.{program, content_of, entries_view};
 
 use crate::entry::{Content, Entries, Entry};
 use crate::item::ItemKind;
-use crate::size::{expr_size, is_stream, statements_size, stmt_size};
+use crate::size::{count_items, expr_size, is_stream, statements_size};
 use kernel_tree::{Checked, Expr, Name, Part, Stmt, Ty, Var, parts};
 
 // The type of a value item.
@@ -389,12 +389,12 @@ pub fn list_block<'a>(kernel: &Checked, entries: &mut Entries<'a>, from: u32, bl
     ensures len { array_vec_len entries.new ≡ array_vec_len entries.old + block_size (loop_index (program kernel.now))
         (block_of block.now) }
 {
-    let mut next = from;
-    for stmt in block {
-        let size = stmt_size(kernel, stmt);
-        list_stmt(kernel, entries, next, stmt);
-        next += size;
-    }
+    let [stmt, rest @ ..] = block else {
+        return;
+    };
+    let next = from + count_items(kernel, stmt);
+    list_stmt(kernel, entries, from, stmt);
+    list_block(kernel, entries, next, rest);
 }
 
 /// Lists the accumulators with their initial values.
@@ -406,16 +406,11 @@ pub fn list_vars<'a>(kernel: &Checked, entries: &mut Entries<'a>, from: u32, var
     ensures len { array_vec_len entries.new ≡ array_vec_len entries.old + vars_size (loop_index (program kernel.now))
         (accumulators_of vars.now) }
 {
-    let mut next = from;
-    for var in vars {
-        let size = expr_size(kernel, &var.init) + 1;
-        list_ended(
-            kernel,
-            entries,
-            next,
-            &var.init,
-            Content::Plain(ItemKind::Var),
-        );
-        next += size;
-    }
+    let [var, rest @ ..] = vars else {
+        return;
+    };
+    let next = from + expr_size(kernel, &var.init) + 1;
+    let content = Content::Plain(ItemKind::Var);
+    list_ended(kernel, entries, from, &var.init, content);
+    list_vars(kernel, entries, next, rest);
 }

@@ -1,5 +1,5 @@
 -- What contracts see of a machine that is stepped, and what its steps leave.
-use Rattle.std.specs.Prelude.{◌≡◌, ℕ, zero, suc, ◌+◌, ◌<◌, Bool, true, false, Option, Some, None, [], ◌∷◌}
+use Rattle.std.specs.Prelude.{◌≡◌, ℕ, zero, suc, ◌+◌, ◌<◌, Bool, true, false, Option, Some, None, List, [], ◌∷◌}
 use Rattle.guest_types.specs.EarlyLoads.{StopList, Listed, Each}
 use Rattle.machine_model.specs.declared.outcome.Ending.{Ending}
 use Rattle.machine_model.specs.declared.outcome.Ending.TheVariants as endings
@@ -14,11 +14,23 @@ use Rattle.machine_model.specs.Answers.{IsAnswer}
 
 -- The state, the number of steps done, the end or the stop that was answered, where one was, and whether the machine is quiet:
 -- then its steps are those of the model.
+pub record Past : Type 0 where
+  pub state : State
+  pub steps : ℕ
+  pub over : Option Ending
+  pub quiet : Bool
+
+-- the same of a machine as it is now, and of what it was each time that it was kept, oldest first
 pub record View : Type 0 where
   pub state : State
   pub steps : ℕ
   pub over : Option Ending
   pub quiet : Bool
+  pub past : List Past
+
+-- a machine as it is now
+abbrev pub now : View → Past
+now v = record { state = v.state; steps = v.steps; over = v.over; quiet = v.quiet }
 
 -- a step that went leaves the machine running, and an end or a stop stays
 abbrev pub ending_by : StepAnswer → Option Ending

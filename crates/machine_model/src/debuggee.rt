@@ -26,7 +26,8 @@ pub trait Debuggee: Drop {
             IsAnswer (model_step (view_of self.old).state) result (view_of self.old).state (view_of self.new).state }
         ensures steps { (view_of self.old).over ≡ None → (view_of self.new).steps ≡ (view_of self.old).steps + 1 }
         ensures over { (view_of self.old).over ≡ None → (view_of self.new).over ≡ ending_by result }
-        ensures quiet { IsTrue (view_of self.old).quiet → IsTrue (view_of self.new).quiet };
+        ensures quiet { IsTrue (view_of self.old).quiet → IsTrue (view_of self.new).quiet }
+        ensures past { (view_of self.new).past ≡ (view_of self.old).past };
 
     /// One step of a machine that has not come to an end or a stop: `step` without the test whether it has.
     fn step_on(&mut self) -> Step
@@ -36,7 +37,8 @@ pub trait Debuggee: Drop {
             IsAnswer (model_step (view_of self.old).state) result (view_of self.old).state (view_of self.new).state }
         ensures steps { (view_of self.new).steps ≡ (view_of self.old).steps + 1 }
         ensures over { (view_of self.new).over ≡ ending_by result }
-        ensures quiet { IsTrue (view_of self.old).quiet → IsTrue (view_of self.new).quiet };
+        ensures quiet { IsTrue (view_of self.old).quiet → IsTrue (view_of self.new).quiet }
+        ensures past { (view_of self.new).past ≡ (view_of self.old).past };
 
     /// The place of the next instruction.
     fn pc(&self) -> u64

@@ -3,3 +3,4 @@ pub mod Places
 pub mod Zeros
 pub mod Puts
 pub mod ByteLaws
+pub mod MapsBeside

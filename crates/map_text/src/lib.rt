@@ -13,6 +13,3 @@ mod words;
 
 pub use fault::MapFault;
 pub use read::read_map;
-
-#[cfg(test)]
-mod tests;

@@ -132,6 +132,3 @@ pub fn number(word: &[u8]) -> Option<u64>
         None => decimal(word),
     }
 }
-
-#[cfg(test)]
-mod tests;

@@ -96,6 +96,3 @@ pub fn kind_name(kind: StopKind) -> &'static [u8]
         StopKind::Break => b"break",
     }
 }
-
-#[cfg(test)]
-mod tests;

@@ -1,9 +1,13 @@
 pub mod Bytes
 mod Examples
+pub mod EpochRows
 pub mod HeadPlaces
 pub mod LoanLaws
 pub mod Merging
 pub mod Places
+pub mod PageLaws
 pub mod Puts
 pub mod RunLaws
+pub mod UndoLaws
+pub mod Marks
 pub mod OnePage

@@ -30,7 +30,7 @@ with_run-memory_of heads bs m start w is long =
     ∙ ap (λ l. with_all (memory_of heads bs) (refilled l (put_at start w l))) (sym (all_bytes-memory_of heads bs long))
     ∙ ap (λ m. with_run m start w) is
 
-place_in-first : (heads : List Head) (bs : List ℕ) (n i : ℕ) → i < length heads → slice_index (head_numbers heads) i ≡ n → IsFirst heads n i → place_in (memory_of heads bs) n ≡ i
+pub place_in-first : (heads : List Head) (bs : List ℕ) (n i : ℕ) → i < length heads → slice_index (head_numbers heads) i ≡ n → IsFirst heads n i → place_in (memory_of heads bs) n ≡ i
 place_in-first [] bs n i l here first = absurd (omega arith)
 place_in-first (head ∷ heads) bs n zero l here first = cond-true _ _ _ (eq-eqb head.number n here)
 place_in-first (head ∷ heads) bs n (suc i) l here first =
@@ -82,7 +82,7 @@ put_at-drop n at w bs fits inside =
     )
 
 -- and after the first n, counted from there
-put_at-up : (n at : ℕ) (w bs : List ℕ) → n ≤ length bs → (take n bs ≡ take n (put_at (n + at) w bs)) × (put_at at w (drop n bs) ≡ drop n (put_at (n + at) w bs))
+pub put_at-up : (n at : ℕ) (w bs : List ℕ) → n ≤ length bs → (take n bs ≡ take n (put_at (n + at) w bs)) × (put_at at w (drop n bs) ≡ drop n (put_at (n + at) w bs))
 put_at-up n at w bs inside =
     let whole = take-append-drop n bs in
     let long = length-take-le n bs inside in

@@ -1,367 +1,280 @@
-//! The pages of a guest.
+//! The pages of a guest, and what they were.
 
-ghost use Rattle.std.specs.Prelude.{◌≡◌, ℕ, ◌+◌, ◌^◌, ◌<◌, ◌≤◌, length, Ok, Err, OnOk, OnErr, IfOk, IfErr, All};
-ghost use Rattle.guest_types.specs.Spans.{in_one_page, has_span, has_span_mut, span_of};
-ghost use Rattle.guest_types.specs.Memory.{IsMemory, byte_at, byte_or_zero, can_read, can_write, first_fault, loaded, stored, number_at, put_byte, put_number, fetched, merged, DoNotMeet};
+ghost use Rattle.std.specs.Prelude.{◌≡◌, ℕ, ◌+◌, ◌/◌, ◌%◌, ◌<◌, ◌≤◌, [], ◌∷◌, length, take, slice_index_or, OnOk, OnErr, IfOk, IfErr, IsTrue, Ok, Err, ◌⊎◌};
+ghost use Rattle.guest_types.specs.Spans.{has_span, has_span_mut, span_of};
+ghost use Rattle.guest_types.specs.Memory.{Memory, IsMemory, byte_at, byte_or_zero, fetched, merged, stored, DoNotMeet};
+ghost use Rattle.guest_types.specs.Kept.{kept_more};
+ghost use Rattle.paged_memory.specs.Epochs.{past_of, IsSaved};
+ghost use Rattle.paged_memory.specs.SpanWritten.{IsSpanWritten};
 
-use crate::head::Head;
-use crate::merge::lay_out;
-use crate::number;
-use crate::place::{Recent, place_of, read_place_of};
+use crate::log::Log;
+use crate::span_writer::SpanWriter;
+use crate::store::Store;
 use guest_types::guest::GuestMemory;
 use guest_types::image::{Image, PageMap};
 use guest_types::memory::AccessFault;
 use std::alloc::{AllocError, Global};
 use std::marker::Model;
 
-/// The pages of a guest, in the order of their numbers.
+/// What stands for the number of a page where none was opened: greater than each of them.
+const NONE: u64 = u64::MAX;
+
+/// The pages of a guest, in the order of their numbers, and what they were each time that they were kept.
 #[derive(Drop)]
 pub struct Pages {
-    heads: Vec<Head>,
-    bytes: Vec<u8>,
-    recent: Recent,
+    store: Store,
+    log: Log,
+    // The number of the page that was opened last. A page is opened before it is written.
+    opened: u64,
 }
 
 impl Model for Pages {
-    ghost use Rattle.guest_types.specs.Memory.{Memory};
-    ghost use Rattle.paged_memory.specs.Layout.{memory_of, IsLaidOut};
+    ghost use Rattle.paged_memory.specs.Past.{Paged};
+    ghost use Rattle.paged_memory.specs.Epochs.{past_of, IsKept};
 
-    ghost Value = { Memory };
+    ghost Value = { Paged };
 
-    ghost view = { λ pages. memory_of pages.heads.items pages.bytes.items };
+    ghost view = { λ pages. record { memory = pages.store; past = past_of pages.log.epochs pages.store } };
 
-    ghost invariant = { λ pages. IsLaidOut pages.heads.items pages.bytes.items };
+    ghost invariant = { λ pages. IsKept pages.store pages.log pages.opened };
+}
+
+/// Opens a page: saves it in the newest epoch, where that has not saved it.
+#[cold]
+#[inline(never)]
+fn open(store: &Store, log: &mut Log, number: u64)
+    requires { log.old.pages ≡ length store.now }
+    ensures pages { log.new.pages ≡ log.old.pages }
+    ensures saved { IsSaved log.new.epochs store.now number }
+    ensures kept { (other : ℕ) → IsSaved log.old.epochs store.now other → IsSaved log.new.epochs store.now other }
+    ensures past { past_of log.new.epochs store.now ≡ past_of log.old.epochs store.now }
+{
+    if let Some(place) = store.place(number) {
+        log.save(place, store.page(place));
+    }
+}
+
+/// Opens a page where it is not the one that was opened last.
+#[inline(always)]
+fn open_next(store: &Store, log: &mut Log, opened: &mut u64, number: u64)
+    requires pages { log.old.pages ≡ length store.now }
+    requires opened { number ≡ opened.old → IsSaved log.old.epochs store.now number }
+    ensures pages { log.new.pages ≡ log.old.pages }
+    ensures saved { IsSaved log.new.epochs store.now number }
+    ensures opened { opened.new ≡ number }
+    ensures past { past_of log.new.epochs store.now ≡ past_of log.old.epochs store.now }
+{
+    if *opened != number {
+        open(store, log, number);
+        *opened = number;
+    }
+}
+
+/// Whether so many bytes from an address on are all in the page that was opened last.
+#[inline(always)]
+fn is_open(opened: u64, address: u64, size: u32) -> bool
+    ensures opened { IsTrue result → opened ≡ address / 4096 }
+    ensures inside { IsTrue result → address % 4096 + size ≤ 4096 }
+{
+    address / 4096 == opened && address % 4096 + u64::from(size) <= 4096
+}
+
+/// Goes back to one of the memories that were kept, oldest first. Those after it are kept no longer.
+fn go_back(store: &mut Store, log: &mut Log, n: usize)
+    requires { n < length log.old.epochs }
+    ensures pages { log.new.pages ≡ log.old.pages }
+    ensures len { length store.new ≡ length store.old }
+    ensures memory { (d : Memory) → slice_index_or (past_of log.old.epochs store.old) n d ≡ store.new }
+    ensures past { past_of log.new.epochs store.new ≡ take (n + 1) (past_of log.old.epochs store.old) }
+{
+    while log.count() > n + 1 {
+        log.undo_newest(store);
+        log.drop_newest();
+    }
+    log.undo_newest(store);
 }
 
 impl Pages {
-    /// The pages of an image and of a map beside it. It takes all memory that later calls need.
+    /// The pages of an image and of a map beside it. It takes all memory that later calls need, but for `begin`.
     pub fn build(alloc: Global, image: &Image, map: &PageMap) -> Result<Pages, AllocError>
         requires apart { DoNotMeet image.now.pages.items map.now.pages.items }
         requires few { length image.now.pages.items + length map.now.pages.items ≤ 16384 }
-        ensures { IfOk result (λ pages. pages ≡ merged image.now.pages.items map.now.pages.items) }
+        ensures memory { IfOk result (λ pages. pages.memory ≡ merged image.now.pages.items map.now.pages.items) }
+        ensures past { IfOk result (λ pages. pages.past ≡ []) }
     {
-        let (heads, bytes) = lay_out(alloc, &image.pages, &map.pages)?;
+        let store = Store::build(alloc, image, map)?;
+        let log = Log::none(alloc, store.len());
         Ok(Pages {
-            heads,
-            bytes,
-            recent: Recent::new(),
+            store,
+            log,
+            opened: NONE,
         })
+    }
+
+    /// Takes the memory of a past of eight, and begins it: the memory as it is now is kept.
+    ///
+    /// # Errors
+    /// `AllocError` where there is not that much memory. The past is then what it was.
+    pub fn begin(&mut self, alloc: Global) -> Result<(), AllocError>
+        ensures memory { self.new.memory ≡ self.old.memory }
+        ensures begun { OnOk result (self.new.past ≡ self.old.memory ∷ []) }
+        ensures unchanged { OnErr result (self.new.past ≡ self.old.past) }
+    {
+        let log = Log::begun(alloc, self.store.len())?;
+        self.log = log;
+        self.opened = NONE;
+        Ok(())
+    }
+
+    /// How many memories are kept.
+    pub fn kept(&self) -> usize
+        ensures { result ≡ length self.now.past }
+    {
+        self.log.count()
+    }
+
+    /// Keeps the memory as it is now, in place of the oldest one where eight are kept. It takes no memory.
+    pub fn note(&mut self)
+        requires { 1 ≤ length self.old.past }
+        ensures memory { self.new.memory ≡ self.old.memory }
+        ensures past { self.new.past ≡ kept_more self.old.memory self.old.past }
+    {
+        self.log.note();
+        self.opened = NONE;
+    }
+
+    /// Goes back to one of the memories that were kept, oldest first. Those after it are kept no longer. It takes no
+    /// memory.
+    pub fn back(&mut self, n: usize)
+        requires { n < length self.old.past }
+        ensures memory { (d : Memory) → slice_index_or self.old.past n d ≡ self.new.memory }
+        ensures past { self.new.past ≡ take (n + 1) self.old.past }
+    {
+        go_back(&mut self.store, &mut self.log, n);
+        self.opened = NONE;
     }
 
     /// The word at an address, where that is a multiple of 4 in a page whose instructions may be
     /// fetched.
+    #[inline(always)]
     pub fn fetch(&self, address: u64) -> Option<u32>
-        ensures { result ≡ fetched self.now address }
+        ensures { result ≡ fetched self.now.memory address }
     {
-        if address % 4 != 0 {
-            return None;
-        }
-        let Some(place) = place_of(&self.heads, &self.recent.fetched, address / 4096) else {
-            return None;
-        };
-        if !self.heads[place].is_executable() {
-            return None;
-        }
-        Some(number::word(&self.bytes, 4096 * place + (address % 4096) as usize))
+        self.store.fetch(address)
     }
 
     /// The byte at an address, where a page is mapped.
+    #[inline(always)]
     pub fn byte(&self, address: u64) -> Option<u8>
-        ensures { result ≡ byte_at self.now address }
+        ensures { result ≡ byte_at self.now.memory address }
     {
-        let Some(place) = read_place_of(&self.heads, &self.recent, address / 4096) else {
-            return None;
-        };
-        Some(self.bytes[4096 * place + (address % 4096) as usize])
-    }
-
-    fn can_write(&self, address: u64) -> bool
-        ensures { result ≡ can_write self.now address }
-    {
-        match place_of(&self.heads, &self.recent.written, address / 4096) {
-            Some(place) => self.heads[place].is_writable(),
-            None => false,
-        }
-    }
-
-    // The first of so many bytes that is not readable.
-    fn read_fault(&self, address: u64, size: u32) -> Option<u64>
-        ensures { result ≡ first_fault (can_read self.now) address size }
-    {
-        if size == 0 {
-            return None;
-        }
-        if self.byte(address).is_none() {
-            return Some(address);
-        }
-        self.read_fault(address.wrapping_add(1), size - 1)
-    }
-
-    // The first of so many bytes that is not writable.
-    fn write_fault(&self, address: u64, size: u32) -> Option<u64>
-        ensures { result ≡ first_fault (can_write self.now) address size }
-    {
-        if size == 0 {
-            return None;
-        }
-        if !self.can_write(address) {
-            return Some(address);
-        }
-        self.write_fault(address.wrapping_add(1), size - 1)
+        self.store.byte(address)
     }
 
     /// The byte at an address, where an unmapped one counts as 0.
+    #[inline(always)]
     pub fn byte_or_zero(&self, address: u64) -> u8
-        ensures { result ≡ byte_or_zero self.now address }
+        ensures { result ≡ byte_or_zero self.now.memory address }
     {
-        match self.byte(address) {
-            Some(byte) => byte,
-            None => 0,
-        }
+        self.store.byte_or_zero(address)
     }
-
-    // The number of so many bytes, where an unmapped one counts as 0.
-    #[tactic(auto, using(crate::proofs::Bytes::more_bytes, crate::proofs::Bytes::eight_bytes))]
-    fn number(&self, address: u64, size: u32) -> u64
-        requires { size ≤ 8 }
-        ensures value { result ≡ number_at self.now address size }
-        ensures bound { result < 256 ^ size }
-    {
-        if size == 0 {
-            return 0;
-        }
-        let low = self.byte_or_zero(address);
-        u64::from(low) + 256 * self.number(address.wrapping_add(1), size - 1)
-    }
-
-    // A load that crosses a page or is refused.
-    #[cold]
-    #[inline(never)]
-    fn load_bytes(&self, address: u64, size: u32) -> Result<u64, AccessFault>
-        requires { size ≤ 8 }
-        ensures { result ≡ loaded self.now address size }
-    {
-        match self.read_fault(address, size) {
-            Some(fault) => Err(AccessFault::read(fault)),
-            None => Ok(self.number(address, size)),
-        }
-    }
-
-    // Writes one byte, where it is mapped.
-    fn put_byte(&mut self, address: u64, byte: u8)
-        ensures { self.new ≡ put_byte self.old address byte }
-    {
-        if let Some(place) = place_of(&self.heads, &self.recent.written, address / 4096) {
-            let at = 4096 * place + (address % 4096) as usize;
-            number::put_number(&mut self.bytes, at, 1, u64::from(byte));
-        }
-    }
-
-    // Writes the lowest bytes of a number, where they are mapped.
-    fn put_number(&mut self, address: u64, size: u32, value: u64)
-        ensures { self.new ≡ put_number self.old address size value }
-    {
-        if size == 0 {
-            return;
-        }
-        self.put_byte(address, (value & 0xff) as u8);
-        self.put_number(address.wrapping_add(1), size - 1, value / 256);
-    }
-
-    // A store that crosses a page or is refused.
-    #[cold]
-    #[inline(never)]
-    fn store_bytes(&mut self, address: u64, size: u32, value: u64) -> Result<(), AccessFault>
-        ensures done { OnOk result (stored self.old address size value ≡ Ok self.new) }
-        ensures refused { IfErr result (λ fault. stored self.old address size value ≡ Err fault) }
-        ensures unchanged { OnErr result (self.new ≡ self.old) }
-    {
-        match self.write_fault(address, size) {
-            Some(fault) => Err(AccessFault::write(fault)),
-            None => {
-                self.put_number(address, size, value);
-                Ok(())
-            }
-        }
-    }
-}
-
-// What callers may rest on of bytes. It does nothing.
-#[inline(always)]
-fn are_bytes(bytes: &[u8])
-    ensures { All (λ b. b < 256) bytes.now }
-{
-    let _ = bytes;
-}
-
-// Whether a range is not empty and does not go past the end of its page.
-#[inline(always)]
-fn in_one_page(address: u64, len: u32) -> bool
-    ensures { result ≡ in_one_page address len }
-{
-    (1 <= len) & (address % 4096 + u64::from(len) <= 4096)
 }
 
 impl Pages {
-    ghost use Rattle.std.specs.Prelude.{◌*◌, List, true, IsTrue, IsSome, IfSome, ◌↔◌};
-    ghost use Rattle.std.specs.Borrow.{Array, Lends, sem, u8};
-    ghost use Rattle.paged_memory.specs.contracts.pages.Pages.{the_row};
-    ghost use Rattle.paged_memory.specs.Loans.{run_of, with_run, after_loan, IsPlaceOf};
-
-    fn can_read(&self, address: u64) -> bool
-        ensures { result ≡ can_read self.now address }
-    {
-        match read_place_of(&self.heads, &self.recent, address / 4096) {
-            Some(_place) => true,
-            None => false,
-        }
-    }
+    ghost use Rattle.std.specs.Prelude.{IsSome, IfSome, ◌↔◌};
+    ghost use Rattle.paged_memory.specs.Loans.{IsPlaceOf};
 
     /// Whether a range is not empty and lies in one page.
     #[inline(always)]
     pub fn has_span(&self, address: u64, len: u32) -> bool
-        ensures { result ≡ has_span self.now address len }
+        ensures { result ≡ has_span self.now.memory address len }
     {
-        in_one_page(address, len) && self.can_read(address)
+        self.store.has_span(address, len)
     }
 
     /// Whether a range is not empty and lies in one page that may be written.
     #[inline(always)]
     pub fn has_span_mut(&self, address: u64, len: u32) -> bool
-        ensures { result ≡ has_span_mut self.now address len }
+        ensures { result ≡ has_span_mut self.now.memory address len }
     {
-        in_one_page(address, len) && self.can_write(address)
-    }
-
-    // The place of a span's first byte among the bytes of all pages.
-    #[inline(always)]
-    fn span_place(&self, address: u64, len: u32) -> Option<usize>
-        ensures some { IsSome result ↔ IsTrue (has_span self.now address len) }
-        ensures inside { IfSome result (λ place. place + len ≤ 4096 * length self.now) }
-        ensures part { IfSome result (λ place. run_of self.now place len ≡ span_of self.now address len) }
-    {
-        if !in_one_page(address, len) {
-            return None;
-        }
-        match read_place_of(&self.heads, &self.recent, address / 4096) {
-            Some(place) => Some(4096 * place + (address % 4096) as usize),
-            None => None,
-        }
+        self.store.has_span_mut(address, len)
     }
 
     /// The bytes of a range, where it is not empty and lies in one page. The page is looked up once.
     #[inline(always)]
     pub fn span(&self, address: u64, len: u32) -> Option<&[u8]>
-        ensures some { IsSome result ↔ IsTrue (has_span self.now address len) }
-        ensures value { IfSome result (λ part. part.now ≡ span_of self.now address len) }
+        ensures some { IsSome result ↔ IsTrue (has_span self.now.memory address len) }
+        ensures value { IfSome result (λ part. part.now ≡ span_of self.now.memory address len) }
         ensures len { IfSome result (λ part. length part.now ≡ len) }
     {
-        match self.span_place(address, len) {
-            Some(place) => Some(self.run(place, len as usize)),
-            None => None,
-        }
+        self.store.span(address, len)
     }
 
     /// What callers may rest on: the numbers of the pages ascend and are below 2^36, and each page
     /// has 4,096 bytes. It does nothing.
     #[inline(always)]
     pub fn is_memory(&self)
-        ensures { IsMemory self.now }
+        ensures { IsMemory self.now.memory }
     {
-        are_bytes(&self.bytes);
-    }
-
-    #[inline(always)]
-    fn run(&self, start: usize, len: usize) -> &[u8]
-        requires { start + len ≤ 4096 * length self.now }
-        ensures value { result.now ≡ run_of self.now start len }
-        ensures len { length result.now ≡ len }
-    {
-        &self.bytes[start..start + len]
+        self.store.is_memory();
     }
 
     /// The place, among the bytes of all pages, of a range that is not empty and lies in one page that may be written.
     #[inline(always)]
     pub fn place_mut(&self, address: u64, len: u32) -> Option<usize>
-        ensures some { IsSome result ↔ IsTrue (has_span_mut self.now address len) }
-        ensures value { IfSome result (IsPlaceOf self.now address len) }
+        ensures some { IsSome result ↔ IsTrue (has_span_mut self.now.memory address len) }
+        ensures value { IfSome result (IsPlaceOf self.now.memory address len) }
     {
-        if !in_one_page(address, len) {
-            return None;
-        }
-        match place_of(&self.heads, &self.recent.written, address / 4096) {
-            Some(place) => {
-                if self.heads[place].is_writable() {
-                    Some(4096 * place + (address % 4096) as usize)
-                } else {
-                    None
-                }
-            }
-            None => None,
-        }
+        self.store.place_mut(address, len)
     }
 
+    /// Lends the bytes of a range in one page that may be written, by its place, to one that writes them.
     #[inline(always)]
-    fn run_mut(&mut self, start: usize, len: usize) -> &mut [u8]
-        requires { start + len ≤ 4096 * length self.old }
-        ensures* writes_back { sem 𝓛 (Lends the_row (Array u8 0) self.entry result (with_run self.old start)) }
-        ensures value { result.now ≡ run_of self.old start len }
-        ensures len { length result.now ≡ len }
+    pub fn write_span<W: SpanWriter>(&mut self, address: u64, len: u32, place: usize, writer: &W)
+        requires place { IsPlaceOf self.old.memory address len place }
+        requires can { W.can writer.now len }
+        ensures written { IsSpanWritten (W.writes writer.now) address len self.old.memory self.new.memory }
+        ensures past { self.new.past ≡ self.old.past }
     {
-        self.bytes.slice_mut(start..start + len)
+        open_next(&self.store, &mut self.log, &mut self.opened, address / 4096);
+        let part = self.store.lend_mut(address, len, place);
+        writer.write(part);
     }
 
-    /// Lends the bytes of a range in one page that may be written, by its place.
-    #[inline(always)]
-    pub fn lend_mut(&mut self, address: u64, len: u32, place: usize) -> &mut [u8]
-        requires { IsPlaceOf self.old address len place }
-        ensures* writes_back { sem 𝓛 (Lends the_row (Array u8 0) self.entry result (after_loan self.old address len)) }
-        ensures value { result.now ≡ span_of self.old address len }
-        ensures len { length result.now ≡ len }
+    // A store to a page that was not opened last, or one that crosses a page.
+    #[cold]
+    #[inline(never)]
+    fn open_and_store(&mut self, address: u64, size: u32, value: u64) -> Result<(), AccessFault>
+        requires { (size ≡ 1) ⊎ (size ≡ 2) ⊎ (size ≡ 4) ⊎ (size ≡ 8) }
+        ensures done { OnOk result (stored self.old.memory address size value ≡ Ok self.new.memory) }
+        ensures refused { IfErr result (λ fault. stored self.old.memory address size value ≡ Err fault) }
+        ensures unchanged { OnErr result (self.new.memory ≡ self.old.memory) }
+        ensures past { self.new.past ≡ self.old.past }
     {
-        let _address = address;
-        self.run_mut(place, len as usize)
-    }
-
-    /// The bytes of a range in one page that may be written.
-    pub fn span_mut(&mut self, address: u64, len: u32) -> Option<&mut [u8]>
-        ensures some { IsSome result ↔ IsTrue (has_span_mut self.old address len) }
-        ensures value { IfSome result (λ r. r.now ≡ span_of self.old address len) }
-    {
-        match self.place_mut(address, len) {
-            Some(place) => Some(self.lend_mut(address, len, place)),
-            None => None,
-        }
+        let last = address.wrapping_add(u64::from(size) - 1) / 4096;
+        open(&self.store, &mut self.log, address / 4096);
+        open(&self.store, &mut self.log, last);
+        self.opened = last;
+        self.store.store(address, size, value)
     }
 }
 
 impl GuestMemory for Pages {
-    ghost memory = { λ memory. memory };
+    ghost memory = { λ pages. pages.memory };
+
+    ghost past = { λ pages. pages.past };
 
     #[inline(always)]
     fn load(&self, address: u64, size: u32) -> Result<u64, AccessFault> {
-        let offset = address % 4096;
-        if offset + u64::from(size) <= 4096 {
-            if let Some(place) = read_place_of(&self.heads, &self.recent, address / 4096) {
-                let at = 4096 * place + offset as usize;
-                return Ok(number::number(&self.bytes, at, size));
-            }
-        }
-        self.load_bytes(address, size)
+        self.store.load(address, size)
     }
 
     #[inline(always)]
     fn store(&mut self, address: u64, size: u32, value: u64) -> Result<(), AccessFault> {
-        let offset = address % 4096;
-        if offset + u64::from(size) <= 4096 {
-            if let Some(place) = place_of(&self.heads, &self.recent.written, address / 4096) {
-                if self.heads[place].is_writable() {
-                    let at = 4096 * place + offset as usize;
-                    number::put_number(&mut self.bytes, at, size, value);
-                    return Ok(());
-                }
-            }
+        if is_open(self.opened, address, size) {
+            self.store.store(address, size, value)
+        } else {
+            self.open_and_store(address, size, value)
         }
-        self.store_bytes(address, size, value)
     }
 }

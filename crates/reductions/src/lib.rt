@@ -39,6 +39,3 @@ pub fn update_is_taken()
 pub fn reduction_is_together()
     ensures { ReductionIsTogether }
 {}
-
-#[cfg(test)]
-mod tests;

@@ -15,8 +15,10 @@ use Rattle.reg_assign.specs.declared.interval.RegClass.{RegClass}
 use Rattle.reg_assign.specs.declared.interval.RegClass.TheVariants.{Z, P, X}
 use Rattle.map_text.specs.declared.fault.MapFault.{MapFault}
 use Rattle.map_text.specs.declared.fault.MapFault.TheVariants as maps
+use Rattle.sve_asm.specs.declared.fault.AsmFault.{AsmFault}
+use Rattle.sve_asm.specs.declared.fault.AsmFault.TheVariants as assembling
 use Rattle.refusals.specs.declared.refusal.Refusal.{Refusal}
-use Rattle.refusals.specs.declared.refusal.Refusal.TheVariants.{Usage, TooManyLive, Kernel, TooLong, Elf, Map, Memory, File, Output}
+use Rattle.refusals.specs.declared.refusal.Refusal.TheVariants.{Usage, TooManyLive, Kernel, TooLong, Elf, Map, Asm, Memory, File, Output}
 
 abbrev pub line : List ℕ → List ℕ
 line text = codes "svec: " ++ (text ++ line_feed)
@@ -81,6 +83,14 @@ line_of_map (maps.Unmapped place) = numbered (codes "svec: map: unmapped at line
 line_of_map maps.TooManyPages = line (codes "map: too many pages")
 line_of_map maps.Memory = line (codes "out of memory")
 
+-- why a text is none of words
+abbrev pub line_of_asm : AsmFault → List ℕ
+line_of_asm assembling.TooLong = line (codes "asm: too long")
+line_of_asm (assembling.BadLine place) = numbered (codes "svec: asm: bad line ") place
+line_of_asm (assembling.Differs place want found) = numbered (codes "svec: asm: word differs at line ") place
+line_of_asm assembling.TooManyWords = line (codes "asm: too many words")
+line_of_asm assembling.Memory = line (codes "out of memory")
+
 abbrev pub line_of_refusal : Refusal → List ℕ
 line_of_refusal Usage = line (codes "usage")
 line_of_refusal (TooManyLive class need) = line_of_need class need
@@ -88,6 +98,7 @@ line_of_refusal (Kernel fault) = line_of_kernel fault
 line_of_refusal TooLong = line (codes "file: too long")
 line_of_refusal (Elf fault) = line_of_fault fault
 line_of_refusal (Map fault) = line_of_map fault
+line_of_refusal (Asm fault) = line_of_asm fault
 line_of_refusal Memory = line (codes "out of memory")
 line_of_refusal File = line (codes "file failed")
 line_of_refusal Output = line (codes "output or input failed")

@@ -14,8 +14,10 @@ use Rattle.sve_debug.specs.declared.session.SessionFault.{SessionFault}
 use Rattle.sve_debug.specs.declared.session.SessionFault.TheVariants as sessions
 use Rattle.machine_model.specs.declared.elf_fault.ElfFault.{ElfFault}
 use Rattle.machine_model.specs.declared.elf_fault.ElfFault.TheVariants as elf
+use Rattle.sve_asm.specs.declared.fault.AsmFault.{AsmFault}
+use Rattle.sve_asm.specs.declared.fault.AsmFault.TheVariants as assembling
 use Rattle.refusals.specs.declared.refusal.Refusal.{Refusal}
-use Rattle.refusals.specs.declared.refusal.Refusal.TheVariants.{Usage, TooManyLive, Kernel, TooLong, Elf, Map, Memory, File, Output}
+use Rattle.refusals.specs.declared.refusal.Refusal.TheVariants.{Usage, TooManyLive, Kernel, TooLong, Elf, Map, Asm, Memory, File, Output}
 use Rattle.refusals.specs.declared.refusal.Done.{Done}
 use Rattle.refusals.specs.declared.refusal.Done.TheVariants as done
 
@@ -33,6 +35,7 @@ status_of_refusal (Kernel fault) = 3
 status_of_refusal TooLong = 4
 status_of_refusal (Elf fault) = 4
 status_of_refusal (Map fault) = 4
+status_of_refusal (Asm fault) = 4
 status_of_refusal Memory = 7
 status_of_refusal File = 8
 status_of_refusal Output = 9
@@ -55,6 +58,10 @@ of_elf fault = Elf fault
 abbrev pub of_map : MapFault → Refusal
 of_map maps.Memory = Memory
 of_map fault = Map fault
+
+abbrev pub of_asm : AsmFault → Refusal
+of_asm assembling.Memory = Memory
+of_asm fault = Asm fault
 
 abbrev pub of_session : SessionFault → Refusal
 of_session sessions.Memory = Memory

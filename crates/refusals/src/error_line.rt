@@ -3,7 +3,7 @@
 ghost use Rattle.std.specs.Prelude.{◌≡◌};
 ghost use Rattle.io_edges.specs.Sink.{PutsText};
 ghost use Rattle.machine_model.specs.OutcomeText.{line_feed};
-ghost use Rattle.refusals.specs.Lines.{numbered, mismatch, line_of_fault, line_of_reading, line_of_typing, line_of_kernel, line_of_need, line_of_map, line_of_refusal};
+ghost use Rattle.refusals.specs.Lines.{numbered, mismatch, line_of_fault, line_of_reading, line_of_typing, line_of_kernel, line_of_need, line_of_map, line_of_asm, line_of_refusal};
 ghost use Rattle.kernel_tree.specs.Printing.{type_text};
 
 use crate::refusal::Refusal;
@@ -16,6 +16,7 @@ use kernel_types::TypeFault;
 use machine_model::elf_fault::ElfFault;
 use map_text::MapFault;
 use reg_assign::RegClass;
+use sve_asm::AsmFault;
 
 // Puts a text.
 fn put<S: Sink>(sink: &mut S, text: &[u8]) -> Result<(), Failed>
@@ -187,6 +188,20 @@ fn put_map<S: Sink>(sink: &mut S, fault: MapFault) -> Result<(), Failed>
     }
 }
 
+// Puts why a text is none of words.
+fn put_asm<S: Sink>(sink: &mut S, fault: AsmFault) -> Result<(), Failed>
+    ensures { PutsText (S.taken sink.old) (S.taken sink.new) (S.faults sink.old) (S.faults sink.new)
+        (line_of_asm fault) result }
+{
+    match fault {
+        AsmFault::TooLong => put(sink, b"svec: asm: too long\n"),
+        AsmFault::BadLine { line } => put_item(sink, b"svec: asm: bad line ", line),
+        AsmFault::Differs { line, .. } => put_item(sink, b"svec: asm: word differs at line ", line),
+        AsmFault::TooManyWords => put(sink, b"svec: asm: too many words\n"),
+        AsmFault::Memory => put(sink, b"svec: out of memory\n"),
+    }
+}
+
 // Puts why a file is no program that can be loaded.
 fn put_fault<S: Sink>(sink: &mut S, fault: ElfFault) -> Result<(), Failed>
     ensures { PutsText (S.taken sink.old) (S.taken sink.new) (S.faults sink.old) (S.faults sink.new)
@@ -218,6 +233,7 @@ pub fn put_refusal<S: Sink>(sink: &mut S, refusal: Refusal) -> Result<(), Failed
         Refusal::TooLong => put(sink, b"svec: file: too long\n"),
         Refusal::Elf(fault) => put_fault(sink, fault),
         Refusal::Map(fault) => put_map(sink, fault),
+        Refusal::Asm(fault) => put_asm(sink, fault),
         Refusal::Memory => put(sink, b"svec: out of memory\n"),
         Refusal::File => put(sink, b"svec: file failed\n"),
         Refusal::Output => put(sink, b"svec: output or input failed\n"),

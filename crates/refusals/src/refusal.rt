@@ -1,7 +1,7 @@
 //! What a command comes to.
 
 ghost use Rattle.std.specs.Prelude.{◌≡◌};
-ghost use Rattle.refusals.specs.Statuses.{status_of_done, status_of_refusal, of_files, of_compile, of_kernel, of_elf, of_map, of_session};
+ghost use Rattle.refusals.specs.Statuses.{status_of_done, status_of_refusal, of_files, of_compile, of_kernel, of_elf, of_map, of_asm, of_session};
 
 use io_edges::files::FileError;
 use io_edges::sink::Failed;
@@ -13,6 +13,7 @@ use machine_model::elf_fault::ElfFault;
 use map_text::MapFault;
 use reg_assign::RegClass;
 use std::alloc::AllocError;
+use sve_asm::AsmFault;
 use sve_debug::session::SessionFault;
 use thiserror::Error;
 
@@ -56,6 +57,9 @@ pub enum Refusal {
     /// The file is no page map that may stand beside the program.
     #[error("map: {0}")]
     Map(MapFault),
+    /// The text is none of words.
+    #[error("asm: {0}")]
+    Asm(AsmFault),
     #[error("out of memory")]
     Memory,
     #[error("file failed")]
@@ -76,6 +80,7 @@ impl Refusal {
             Refusal::TooLong => 4,
             Refusal::Elf(_) => 4,
             Refusal::Map(_) => 4,
+            Refusal::Asm(_) => 4,
             Refusal::Memory => 7,
             Refusal::File => 8,
             Refusal::Output => 9,
@@ -133,6 +138,17 @@ impl From<MapFault> for Refusal {
         match fault {
             MapFault::Memory => Refusal::Memory,
             _ => Refusal::Map(fault),
+        }
+    }
+}
+
+impl From<AsmFault> for Refusal {
+    ghost from_gives = { λ fault refusal. refusal ≡ of_asm fault };
+
+    fn from(fault: AsmFault) -> Refusal {
+        match fault {
+            AsmFault::Memory => Refusal::Memory,
+            _ => Refusal::Asm(fault),
         }
     }
 }

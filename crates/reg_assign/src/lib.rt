@@ -13,6 +13,3 @@ pub use fault::AssignFault;
 pub use interval::{Interval, RegClass};
 pub use linear_scan::assign;
 pub use live::need;
-
-#[cfg(test)]
-mod tests;

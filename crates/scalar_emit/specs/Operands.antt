@@ -1,26 +1,41 @@
--- Terms with one operand, and statements with blocks.
+-- Kinds of statements, and the words of an operator with two operands.
+use Rattle.std.specs.Prelude.{ℕ, List, [], ◌∷◌}
+use Rattle.a64_code.specs.Table.{add, sub, subs, madd, land, orr, eor, csel}
+use Rattle.machine_model.specs.InstructionTable.{Listed}
+use Rattle.kernel_tree.specs.declared.ops.BinaryOp.{BinaryOp}
+use Rattle.kernel_tree.specs.declared.ops.BinaryOp.TheVariants as binary
+use Rattle.kernel_tree.specs.declared.ops.CompareOp.TheVariants as compare
+use Rattle.label_fix.specs.DraftRun.{Entry, word_of, ins}
+use Rattle.scalar_emit.specs.Words.{condition}
 use Rattle.std.specs.Prelude.{Bool, true, false}
-use Rattle.kernel_tree.specs.Plain.{Term, Literal, Variable, Element, Unary, Operation, Shift, Conversion, Choice, Comparison, Both, Either, Not, Action, Define, Put, Update, Choose, Leave}
+use Rattle.kernel_tree.specs.Plain.{Action, Define, Put, Update, Choose, Leave}
 
--- an operator on one value
-abbrev pub has_one_operand : Term → Bool
-has_one_operand (Unary op e) = true
-has_one_operand (Shift left e n) = true
-has_one_operand (Conversion e t) = true
-has_one_operand (Operation op x y) = false
-has_one_operand (Literal n) = false
-has_one_operand (Variable x) = false
-has_one_operand (Element a i) = false
-has_one_operand (Choice c x y) = false
-has_one_operand (Comparison op x y) = false
-has_one_operand (Both x y) = false
-has_one_operand (Either x y) = false
-has_one_operand (Not e) = false
+-- a statement with no block, which defines no name
+abbrev pub is_effect : Action → Bool
+is_effect (Put a i e) = true
+is_effect (Update x op e) = true
+is_effect (Leave c) = true
+is_effect (Define x t e) = false
+is_effect (Choose c b d) = false
 
--- a statement with blocks
-abbrev pub has_blocks : Action → Bool
-has_blocks (Choose c b d) = true
-has_blocks (Define x t e) = false
-has_blocks (Put a i e) = false
-has_blocks (Update x op e) = false
-has_blocks (Leave c) = false
+-- the comparison before the word of a minimum or a maximum
+abbrev pub test_code : BinaryOp → ℕ → ℕ → List Entry → List Entry
+test_code binary.Add a b rest = rest
+test_code binary.Sub a b rest = rest
+test_code binary.Mul a b rest = rest
+test_code binary.And a b rest = rest
+test_code binary.Or a b rest = rest
+test_code binary.Xor a b rest = rest
+test_code binary.Min a b rest = ins subs (31 ∷ a ∷ 0 ∷ b ∷ 0 ∷ []) ∷ rest
+test_code binary.Max a b rest = ins subs (31 ∷ a ∷ 0 ∷ b ∷ 0 ∷ []) ∷ rest
+
+-- the word that writes the result
+abbrev pub operation_word : BinaryOp → Bool → ℕ → ℕ → ℕ → Listed
+operation_word binary.Add signed d a b = word_of add (d ∷ a ∷ 0 ∷ b ∷ 0 ∷ [])
+operation_word binary.Sub signed d a b = word_of sub (d ∷ a ∷ 0 ∷ b ∷ 0 ∷ [])
+operation_word binary.Mul signed d a b = word_of madd (d ∷ a ∷ 31 ∷ b ∷ [])
+operation_word binary.And signed d a b = word_of land (d ∷ a ∷ 0 ∷ b ∷ 0 ∷ [])
+operation_word binary.Or signed d a b = word_of orr (d ∷ a ∷ 0 ∷ b ∷ 0 ∷ [])
+operation_word binary.Xor signed d a b = word_of eor (d ∷ a ∷ 0 ∷ b ∷ 0 ∷ [])
+operation_word binary.Min signed d a b = word_of csel (d ∷ b ∷ condition compare.Gt signed ∷ a ∷ [])
+operation_word binary.Max signed d a b = word_of csel (d ∷ a ∷ condition compare.Gt signed ∷ b ∷ [])

@@ -1,10 +1,11 @@
 //! Emits the code of a kernel: what stands before its loop, the loop, and the end.
 
-ghost use Rattle.std.specs.Prelude.{◌≡◌, ◌+◌, ◌*◌, ◌<◌, ◌≤◌, ◌^◌, None, Some, [], ◌∷◌, ◌++◌, OnOk, IfOk, length, option_map};
+ghost use Rattle.std.specs.Prelude.{◌≡◌, ◌+◌, ◌*◌, ◌<◌, ◌≤◌, ◌^◌, None, Some, List, [], ◌∷◌, ◌++◌, OnOk, IfOk, length, option_map};
+ghost use Rattle.a64_code.specs.Table as table;
 ghost use Rattle.kernel_tree.specs.Plain.{name_of, term_of, parameter_of, parameters_of, accumulator_of, accumulators_of, turns_of, returned_of, block_of, program_of};
 ghost use Rattle.kernel_tree.specs.Items as items;
 ghost use Rattle.kernel_tree.specs.Typing as typing;
-ghost use Rattle.kernel_tree.specs.Kinds.{IsValue, VarsKinds, BlockKinds, AnswerKinds};
+ghost use Rattle.kernel_tree.specs.Kinds.{IsValue, VarsKinds, BlockKinds, AnswerKinds, KernelKinds};
 ghost use Rattle.kernel_scope.specs.Scopes.{scope_of};
 ghost use Rattle.label_fix.specs.DraftRun as plain;
 ghost use Rattle.reg_assign.specs.declared.interval.RegClass.TheVariants.{X};
@@ -18,6 +19,7 @@ ghost use Rattle.scalar_emit.specs.Kernel.{register_in};
 ghost use Rattle.scalar_emit.specs.Drafts.{Appends, AppendsWords};
 ghost use Rattle.scalar_emit.specs.View.{homes_of};
 
+use crate::branches::branch_ahead;
 use crate::emit::emit_value;
 use crate::home::{Home, register_at};
 use crate::instructions::{add_sub, exit_call, index, next_iteration, small};
@@ -25,7 +27,7 @@ use crate::laws::each_has_a_register;
 use crate::operations::{emit_copy, emit_settle};
 use crate::places::{Places, counted_register, places_of};
 use crate::statements::emit_block;
-use a64_code::{AddSubOp, Cond, zero};
+use a64_code::{AddSubOp, Cond, Reg, zero};
 use kernel_scope::{Scope, declare, empty, loop_index};
 use kernel_tree::fault::Binding;
 use kernel_tree::laws::{few_params, right_kinds};
@@ -280,6 +282,58 @@ fn emit_vars<'a>(
     Ok(())
 }
 
+// The code before the loop, with no name declared yet.
+fn emit_first<'a>(
+    draft: &mut Draft,
+    places: &Places,
+    regs: &Assigned,
+    homes: &mut Vec<Home<'a>>,
+    scope: &mut Scope<'a>,
+    kernel: &'a Kernel,
+) -> Result<(), AllocError>
+    requires assigned { IsAssignment 15 regs.now }
+    requires vars { length (program_of kernel.now).vars ≤ length regs.now.registers }
+    requires params { length (program_of kernel.now).params ≤ 8 }
+    requires kinds { VarsKinds (program_of kernel.now).vars }
+    requires few { items.size_of (program_of kernel.now) ≤ 1000 }
+    requires places { places.now ≡ kernels.layout_of_kernel (register_in regs.now) (program_of kernel.now) }
+    requires scope { scope_of scope.old ≡ typing.empty (items.loop_index (program_of kernel.now)) }
+    requires homes { homes.old.items ≡ [] }
+    ensures labels { OnOk result (draft.new.labels ≡ draft.old.labels + kernels.begin_labels (program_of kernel.now)) }
+    ensures code { OnOk result (Appends draft.old draft.new
+        (kernels.begin_code (register_in regs.now) (program_of kernel.now) draft.old.labels)) }
+{
+    declare_params(scope, homes, &kernel.params)?;
+    emit_arguments(draft, &kernel.params)?;
+    let first = kernel.params.len();
+    emit_vars(draft, places, regs, homes, scope, &kernel.vars, first)?;
+    draft.put(small(9, 0))?;
+    Ok(())
+}
+
+// The same, where no name is held yet.
+fn emit_before(
+    alloc: Global,
+    draft: &mut Draft,
+    places: &Places,
+    regs: &Assigned,
+    kernel: &Kernel,
+) -> Result<(), AllocError>
+    requires assigned { IsAssignment 15 regs.now }
+    requires vars { length (program_of kernel.now).vars ≤ length regs.now.registers }
+    requires params { length (program_of kernel.now).params ≤ 8 }
+    requires kinds { VarsKinds (program_of kernel.now).vars }
+    requires few { items.size_of (program_of kernel.now) ≤ 1000 }
+    requires places { places.now ≡ kernels.layout_of_kernel (register_in regs.now) (program_of kernel.now) }
+    ensures labels { OnOk result (draft.new.labels ≡ draft.old.labels + kernels.begin_labels (program_of kernel.now)) }
+    ensures code { OnOk result (Appends draft.old draft.new
+        (kernels.begin_code (register_in regs.now) (program_of kernel.now) draft.old.labels)) }
+{
+    let mut scope = empty(alloc, loop_index(&kernel.body));
+    let mut homes = Vec::new(alloc);
+    emit_first(draft, places, regs, &mut homes, &mut scope, kernel)
+}
+
 /// The code before the loop. It wraps the scalar arguments to their types, evaluates the accumulators in their order into
 /// their registers and sets X9 to zero.
 #[tactic(auto, unfolding(loop_form::specs::View::program))]
@@ -301,15 +355,7 @@ pub fn emit_begin(
     each_has_a_register(kernel, regs);
     let places = places_of(alloc, kernel, regs)?;
     let tree = kernel.kernel();
-    let mut scope = empty(alloc, loop_index(&tree.body));
-    let mut homes = Vec::new(alloc);
-    declare_params(&mut scope, &mut homes, &tree.params)?;
-    emit_arguments(draft, &tree.params)?;
-    let first = tree.params.len();
-    emit_vars(
-        draft, &places, regs, &mut homes, &mut scope, &tree.vars, first,
-    )?;
-    draft.put(small(9, 0))?;
+    emit_before(alloc, draft, &places, regs, tree)?;
     Ok(())
 }
 
@@ -392,6 +438,45 @@ fn emit_body<'a>(
     Ok(())
 }
 
+// The head of a loop.
+fn emit_head(draft: &mut Draft) -> Result<Label, AllocError>
+    ensures head { IfOk result (λ l. l ≡ draft.old.labels) }
+    ensures labels { OnOk result (draft.new.labels ≡ draft.old.labels + 1) }
+    ensures code { OnOk result ((rest : List plain.Entry)
+        → draft.new.entries ++ rest ≡ draft.old.entries ++ plain.Place draft.old.labels ∷ rest) }
+{
+    let head = draft.label()?;
+    draft.place(head)?;
+    Ok(head)
+}
+
+// The test of a loop's variable against the register of its bound; answers the label after the loop.
+fn emit_bound(draft: &mut Draft, bound: Reg) -> Result<Label, AllocError>
+    ensures exit { IfOk result (λ l. l ≡ draft.old.labels) }
+    ensures labels { OnOk result (draft.new.labels ≡ draft.old.labels + 1) }
+    ensures code { OnOk result ((rest : List plain.Entry)
+        → draft.new.entries ++ rest ≡ draft.old.entries
+        ++ plain.ins table.subs (31 ∷ 9 ∷ 0 ∷ bound.number ∷ 0 ∷ [])
+        ∷ plain.Branch (plain.If 2) draft.old.labels ∷ rest) }
+{
+    draft.put(add_sub(AddSubOp::Subs, zero(), index(), bound))?;
+    let exit = branch_ahead(draft, BranchKind::If(Cond::Hs))?;
+    Ok(exit)
+}
+
+// The end of an iteration.
+fn emit_again(draft: &mut Draft, head: Label, exit: Label) -> Result<(), AllocError>
+    requires next { exit ≡ head + 1 }
+    requires given { exit < draft.old.labels }
+    ensures labels { OnOk result (draft.new.labels ≡ draft.old.labels) }
+    ensures code { OnOk result (Appends draft.old draft.new (loops.again_code head)) }
+{
+    draft.put(next_iteration())?;
+    draft.branch(BranchKind::Always, head)?;
+    draft.place(exit)?;
+    Ok(())
+}
+
 // The loop from its head to its end; answers the label of the head.
 fn emit_loop<'a>(
     draft: &mut Draft,
@@ -413,18 +498,45 @@ fn emit_loop<'a>(
         (loops.turn_code places.now (homes_of homes.old.items) (scope_of scope.old)
         (turns_of turns.now) item.old draft.old.labels)) }
 {
-    let head = draft.label()?;
-    let exit = draft.label()?;
-    draft.place(head)?;
-    let bound = register_at(homes, &turns.bound);
-    draft.put(add_sub(AddSubOp::Subs, zero(), index(), bound))?;
-    draft.branch(BranchKind::If(Cond::Hs), exit)?;
+    let head = emit_head(draft)?;
+    let exit = emit_bound(draft, register_at(homes, &turns.bound))?;
     declare_index(scope, homes, turns)?;
     *item += 1;
     emit_body(draft, places, homes, scope, exit, turns, item)?;
-    draft.put(next_iteration())?;
-    draft.branch(BranchKind::Always, head)?;
-    draft.place(exit)?;
+    emit_again(draft, head, exit)?;
+    Ok(head)
+}
+
+// The loop of a kernel, with no name declared yet.
+fn turns_named<'a>(
+    draft: &mut Draft,
+    places: &Places,
+    regs: &Assigned,
+    homes: &mut Vec<Home<'a>>,
+    scope: &mut Scope<'a>,
+    kernel: &'a Kernel,
+    turns: &'a Loop,
+    item: &mut usize,
+) -> Result<Label, AllocError>
+    requires assigned { IsAssignment 15 regs.now }
+    requires vars { length (program_of kernel.now).vars ≤ length regs.now.registers }
+    requires params { length (program_of kernel.now).params ≤ 8 }
+    requires turns { (program_of kernel.now).turns ≡ Some (turns_of turns.now) }
+    requires kinds { BlockKinds (block_of turns.now.body.items) }
+    requires fits { item.old + items.turns_size (Some (turns_of turns.now)) < 2 ^ 32 }
+    requires scope { scope_of scope.old ≡ typing.empty (items.loop_index (program_of kernel.now)) }
+    requires homes { homes.old.items ≡ [] }
+    ensures head { IfOk result (λ l. l ≡ draft.old.labels) }
+    ensures item { OnOk result (item.new ≡ item.old + items.turns_size (Some (turns_of turns.now))) }
+    ensures labels { OnOk result (draft.new.labels
+        ≡ draft.old.labels + 2 + block_labels (items.loop_index (program_of kernel.now))
+        (block_of turns.now.body.items)) }
+    ensures code { OnOk result (Appends draft.old draft.new
+        (loops.turn_code places.now (kernels.kernel_homes (register_in regs.now) (program_of kernel.now))
+        (typing.var_scope (program_of kernel.now)) (turns_of turns.now) item.old draft.old.labels)) }
+{
+    declare_names(scope, homes, regs, kernel)?;
+    let head = emit_loop(draft, places, homes, scope, turns, item)?;
     Ok(head)
 }
 
@@ -455,9 +567,43 @@ fn emit_turns(
 {
     let mut scope = empty(alloc, Some(turns.index.text()));
     let mut homes = Vec::new(alloc);
-    declare_names(&mut scope, &mut homes, regs, kernel)?;
-    let head = emit_loop(draft, places, &mut homes, &mut scope, turns, item)?;
-    Ok(head)
+    turns_named(
+        draft, places, regs, &mut homes, &mut scope, kernel, turns, item,
+    )
+}
+
+// The returned value of a kernel after its loop, with no name declared yet.
+fn following_named<'a>(
+    draft: &mut Draft,
+    places: &Places,
+    regs: &Assigned,
+    homes: &mut Vec<Home<'a>>,
+    scope: &mut Scope<'a>,
+    kernel: &'a Kernel,
+    turns: &'a Loop,
+    item: usize,
+) -> Result<(), AllocError>
+    requires assigned { IsAssignment 15 regs.now }
+    requires vars { length (program_of kernel.now).vars ≤ length regs.now.registers }
+    requires params { length (program_of kernel.now).params ≤ 8 }
+    requires turns { (program_of kernel.now).turns ≡ Some (turns_of turns.now) }
+    requires kind { AnswerKinds (program_of kernel.now).answer }
+    requires fits { item + items.answer_size (items.loop_index (program_of kernel.now))
+        (program_of kernel.now).answer < 2 ^ 32 }
+    requires scope { scope_of scope.old ≡ typing.empty (items.loop_index (program_of kernel.now)) }
+    requires homes { homes.old.items ≡ [] }
+    ensures labels { OnOk result (draft.new.labels
+        ≡ draft.old.labels + loops.answer_labels (items.loop_index (program_of kernel.now))
+        (program_of kernel.now).answer) }
+    ensures code { OnOk result (Appends draft.old draft.new
+        (loops.leave_code places.now (kernels.kernel_homes (register_in regs.now) (program_of kernel.now))
+        (typing.var_scope (program_of kernel.now)) (turns_of turns.now) item draft.old.labels
+        (program_of kernel.now).answer)) }
+{
+    declare_names(scope, homes, regs, kernel)?;
+    declare_index(scope, homes, turns)?;
+    emit_answer(draft, places, homes, scope, &kernel.answer, item)?;
+    Ok(())
 }
 
 // The returned value of a kernel after its loop.
@@ -487,10 +633,41 @@ fn emit_following(
 {
     let mut scope = empty(alloc, Some(turns.index.text()));
     let mut homes = Vec::new(alloc);
-    declare_names(&mut scope, &mut homes, regs, kernel)?;
-    declare_index(&mut scope, &mut homes, turns)?;
-    emit_answer(draft, places, &homes, &scope, &kernel.answer, item)?;
-    Ok(())
+    following_named(
+        draft, places, regs, &mut homes, &mut scope, kernel, turns, item,
+    )
+}
+
+// A kernel without a loop, with no name declared yet; answers the label before its returned value.
+fn straight_named<'a>(
+    draft: &mut Draft,
+    places: &Places,
+    regs: &Assigned,
+    homes: &mut Vec<Home<'a>>,
+    scope: &mut Scope<'a>,
+    kernel: &'a Kernel,
+    item: usize,
+) -> Result<Label, AllocError>
+    requires assigned { IsAssignment 15 regs.now }
+    requires vars { length (program_of kernel.now).vars ≤ length regs.now.registers }
+    requires params { length (program_of kernel.now).params ≤ 8 }
+    requires turns { (program_of kernel.now).turns ≡ None }
+    requires kind { AnswerKinds (program_of kernel.now).answer }
+    requires fits { item + items.answer_size (items.loop_index (program_of kernel.now))
+        (program_of kernel.now).answer < 2 ^ 32 }
+    requires scope { scope_of scope.old ≡ typing.empty (items.loop_index (program_of kernel.now)) }
+    requires homes { homes.old.items ≡ [] }
+    ensures head { IfOk result (λ l. l ≡ draft.old.labels) }
+    ensures labels { OnOk result (draft.new.labels ≡ draft.old.labels + kernels.scalar_labels (program_of kernel.now)) }
+    ensures code { OnOk result (Appends draft.old draft.new
+        (kernels.straight_code places.now (kernels.kernel_homes (register_in regs.now) (program_of kernel.now))
+        (typing.var_scope (program_of kernel.now)) draft.old.labels item (program_of kernel.now).answer)) }
+{
+    declare_names(scope, homes, regs, kernel)?;
+    let head = draft.label()?;
+    draft.place(head)?;
+    emit_answer(draft, places, homes, scope, &kernel.answer, item)?;
+    Ok(head)
 }
 
 // A kernel without a loop; answers the label before its returned value.
@@ -517,11 +694,42 @@ fn emit_straight(
 {
     let mut scope = empty(alloc, None);
     let mut homes = Vec::new(alloc);
-    declare_names(&mut scope, &mut homes, regs, kernel)?;
-    let head = draft.label()?;
-    draft.place(head)?;
-    emit_answer(draft, places, &homes, &scope, &kernel.answer, item)?;
-    Ok(head)
+    straight_named(draft, places, regs, &mut homes, &mut scope, kernel, item)
+}
+
+// The code of a kernel's loop and of what follows it; answers the label of its head, or before the returned value.
+fn emit_rest(
+    alloc: Global,
+    draft: &mut Draft,
+    places: &Places,
+    regs: &Assigned,
+    kernel: &Kernel,
+    item: usize,
+) -> Result<Label, AllocError>
+    requires assigned { IsAssignment 15 regs.now }
+    requires vars { length (program_of kernel.now).vars ≤ length regs.now.registers }
+    requires params { length (program_of kernel.now).params ≤ 8 }
+    requires kinds { KernelKinds (program_of kernel.now) }
+    requires few { items.size_of (program_of kernel.now) ≤ 1000 }
+    requires places { places.now ≡ kernels.layout_of_kernel (register_in regs.now) (program_of kernel.now) }
+    requires start { item ≡ items.loop_start (program_of kernel.now) }
+    ensures head { IfOk result (λ l. l ≡ draft.old.labels) }
+    ensures labels { OnOk result (draft.new.labels ≡ draft.old.labels + kernels.scalar_labels (program_of kernel.now)) }
+    ensures code { OnOk result (Appends draft.old draft.new
+        (kernels.scalar_code (register_in regs.now) (program_of kernel.now) draft.old.labels)) }
+{
+    match &kernel.body {
+        None => {
+            let head = emit_straight(alloc, draft, places, regs, kernel, item)?;
+            Ok(head)
+        }
+        Some(turns) => {
+            let mut next = item;
+            let head = emit_turns(alloc, draft, places, regs, kernel, turns, &mut next)?;
+            emit_following(alloc, draft, places, regs, kernel, turns, next)?;
+            Ok(head)
+        }
+    }
 }
 
 /// Where scalar code is entered.
@@ -553,16 +761,7 @@ pub fn emit_scalar(
     each_has_a_register(kernel, regs);
     let places = places_of(alloc, kernel, regs)?;
     let tree = kernel.kernel();
-    let mut item = tree.params.len() + vars_size_of(kernel, &tree.vars) as usize;
-    match &tree.body {
-        None => {
-            let at_iteration = emit_straight(alloc, draft, &places, regs, tree, item)?;
-            Ok(ScalarEntry { at_iteration })
-        }
-        Some(turns) => {
-            let at_iteration = emit_turns(alloc, draft, &places, regs, tree, turns, &mut item)?;
-            emit_following(alloc, draft, &places, regs, tree, turns, item)?;
-            Ok(ScalarEntry { at_iteration })
-        }
-    }
+    let item = tree.params.len() + vars_size_of(kernel, &tree.vars) as usize;
+    let at_iteration = emit_rest(alloc, draft, &places, regs, tree, item)?;
+    Ok(ScalarEntry { at_iteration })
 }

@@ -1,16 +1,18 @@
 //! Emits the code of constants, operators and loads, whose operands are in registers.
 
-ghost use Rattle.std.specs.Prelude.{◌≡◌, ◌<◌, List, ◌++◌, IfOk, OnOk, option_map};
+ghost use Rattle.std.specs.Prelude.{◌≡◌, ◌<◌, true, List, ◌∷◌, ◌++◌, IfOk, OnOk, option_map};
 ghost use Rattle.kernel_tree.specs.declared.ops.UnaryOp.TheVariants as unary;
 ghost use Rattle.label_fix.specs.Draft.{word_view};
 ghost use Rattle.label_fix.specs.DraftRun as plain;
 ghost use Rattle.scalar_emit.specs.Words as words;
 ghost use Rattle.scalar_emit.specs.Code as code;
 ghost use Rattle.scalar_emit.specs.Drafts.{Appends};
+ghost use Rattle.scalar_emit.specs.Operands as operands;
+ghost use Rattle.label_fix.specs.Finished.{is_plain};
 
 use crate::instructions::{
-    add_sub, condition, contrary, copy, extending, filler, has_ones, index, is_narrow, load,
-    logical, multiply, scratch, select, shift_count, shifted, truth, wide,
+    add_sub, contrary, copy, extending, filler, has_ones, index, is_narrow, load, logical,
+    operation_word, scratch, select, shift_count, shifted, truth, wide,
 };
 use a64_code::{AddSubOp, Cond, LogicalOp, MoveWideOp, Reg, SelectOp, zero};
 use kernel_meaning::{binary_leaves, fits, is_signed, unary_leaves};
@@ -111,6 +113,21 @@ fn emit_half(draft: &mut Draft, ones: bool, d: Reg, half: u32, place: u32) -> Re
     }
 }
 
+// The last two halves.
+fn emit_last_two(draft: &mut Draft, ones: bool, d: Reg, h2: u32, h3: u32) -> Result<(), AllocError>
+    requires h2 { h2 < 65536 }
+    requires h3 { h3 < 65536 }
+    ensures labels { OnOk result (draft.new.labels ≡ draft.old.labels) }
+    ensures code { OnOk result ((rest : List plain.Entry)
+        → draft.new.entries ++ rest ≡ draft.old.entries
+        ++ words.word_code (words.half_word d.number (words.filler ones) h2 2)
+        (words.word_code (words.half_word d.number (words.filler ones) h3 3) rest)) }
+{
+    emit_half(draft, ones, d, h2, 2)?;
+    emit_half(draft, ones, d, h3, 3)?;
+    Ok(())
+}
+
 // A constant by its halves.
 fn emit_halves(
     draft: &mut Draft,
@@ -132,13 +149,11 @@ fn emit_halves(
     if h0 != filler {
         emit_start(draft, ones, d, h0, 0)?;
         emit_half(draft, ones, d, h1, 1)?;
-        emit_half(draft, ones, d, h2, 2)?;
-        emit_half(draft, ones, d, h3, 3)?;
+        emit_last_two(draft, ones, d, h2, h3)?;
         Ok(())
     } else if h1 != filler {
         emit_start(draft, ones, d, h1, 1)?;
-        emit_half(draft, ones, d, h2, 2)?;
-        emit_half(draft, ones, d, h3, 3)?;
+        emit_last_two(draft, ones, d, h2, h3)?;
         Ok(())
     } else if h2 != filler {
         emit_start(draft, ones, d, h2, 2)?;
@@ -166,6 +181,17 @@ pub fn emit_const(draft: &mut Draft, d: Reg, value: u64) -> Result<(), AllocErro
     Ok(())
 }
 
+// The comparison that comes before the word of a minimum or a maximum.
+fn emit_ordering(draft: &mut Draft, op: BinaryOp, a: Reg, b: Reg) -> Result<(), AllocError>
+    ensures labels { OnOk result (draft.new.labels ≡ draft.old.labels) }
+    ensures code { OnOk result (Appends draft.old draft.new (operands.test_code op a.number b.number)) }
+{
+    if matches!(op, BinaryOp::Min | BinaryOp::Max) {
+        draft.put(add_sub(AddSubOp::Subs, zero(), a, b))?;
+    }
+    Ok(())
+}
+
 // The words of an operator with two operands, before its result is settled.
 fn emit_operation(
     draft: &mut Draft,
@@ -179,23 +205,8 @@ fn emit_operation(
     ensures code { OnOk result (Appends draft.old draft.new
         (words.operation_code op signed d.number a.number b.number)) }
 {
-    let greater = condition(CompareOp::Gt, signed);
-    match op {
-        BinaryOp::Add => draft.put(add_sub(AddSubOp::Add, d, a, b))?,
-        BinaryOp::Sub => draft.put(add_sub(AddSubOp::Sub, d, a, b))?,
-        BinaryOp::Mul => draft.put(multiply(d, a, b))?,
-        BinaryOp::And => draft.put(logical(LogicalOp::And, d, a, b))?,
-        BinaryOp::Or => draft.put(logical(LogicalOp::Orr, d, a, b))?,
-        BinaryOp::Xor => draft.put(logical(LogicalOp::Eor, d, a, b))?,
-        BinaryOp::Min => {
-            draft.put(add_sub(AddSubOp::Subs, zero(), a, b))?;
-            draft.put(select(SelectOp::Csel, d, b, greater, a))?;
-        }
-        BinaryOp::Max => {
-            draft.put(add_sub(AddSubOp::Subs, zero(), a, b))?;
-            draft.put(select(SelectOp::Csel, d, a, greater, b))?;
-        }
-    }
+    emit_ordering(draft, op, a, b)?;
+    draft.put(operation_word(op, signed, d, a, b))?;
     Ok(())
 }
 
@@ -216,6 +227,25 @@ pub fn emit_binary(
     Ok(())
 }
 
+// A word whose result is extended in place where it may have left the extended form.
+fn emit_settled(
+    draft: &mut Draft,
+    word: Word,
+    leaves: bool,
+    ty: Ty,
+    d: Reg,
+) -> Result<(), AllocError>
+    requires { is_plain (word_view word) ≡ true }
+    ensures labels { OnOk result (draft.new.labels ≡ draft.old.labels) }
+    ensures code { OnOk result ((rest : List plain.Entry)
+        → draft.new.entries ++ rest ≡ draft.old.entries
+        ++ plain.Put (word_view word) ∷ words.word_code (words.settle_word leaves ty d.number) rest) }
+{
+    draft.put(word)?;
+    emit_settle(draft, leaves, ty, d)?;
+    Ok(())
+}
+
 // The absolute value.
 fn emit_abs(draft: &mut Draft, ty: Ty, d: Reg, a: Reg) -> Result<(), AllocError>
     ensures labels { OnOk result (draft.new.labels ≡ draft.old.labels) }
@@ -223,8 +253,8 @@ fn emit_abs(draft: &mut Draft, ty: Ty, d: Reg, a: Reg) -> Result<(), AllocError>
 {
     if is_signed(ty) {
         draft.put(add_sub(AddSubOp::Subs, scratch(), zero(), a))?;
-        draft.put(select(SelectOp::Csel, d, scratch(), Cond::Ge, a))?;
-        emit_settle(draft, true, ty, d)?;
+        let word = select(SelectOp::Csel, d, scratch(), Cond::Ge, a);
+        emit_settled(draft, word, true, ty, d)?;
         Ok(())
     } else {
         emit_copy(draft, d, a)?;
@@ -239,19 +269,16 @@ fn emit_unary(draft: &mut Draft, op: UnaryOp, ty: Ty, d: Reg, a: Reg) -> Result<
 {
     match op {
         UnaryOp::Neg => {
-            draft.put(add_sub(AddSubOp::Sub, d, zero(), a))?;
-            emit_settle(draft, unary_leaves(op, ty), ty, d)?;
+            let word = add_sub(AddSubOp::Sub, d, zero(), a);
+            emit_settled(draft, word, unary_leaves(op, ty), ty, d)?;
             Ok(())
         }
         UnaryOp::Flip => {
-            draft.put(logical(LogicalOp::Orn, d, zero(), a))?;
-            emit_settle(draft, unary_leaves(op, ty), ty, d)?;
+            let word = logical(LogicalOp::Orn, d, zero(), a);
+            emit_settled(draft, word, unary_leaves(op, ty), ty, d)?;
             Ok(())
         }
-        UnaryOp::Abs => {
-            emit_abs(draft, ty, d, a)?;
-            Ok(())
-        }
+        UnaryOp::Abs => emit_abs(draft, ty, d, a),
     }
 }
 
@@ -322,10 +349,7 @@ pub fn want_binary(
 {
     match want {
         None => Ok(()),
-        Some(ty) => {
-            emit_binary(draft, op, ty, d, a, b)?;
-            Ok(())
-        }
+        Some(ty) => emit_binary(draft, op, ty, d, a, b),
     }
 }
 
@@ -344,10 +368,7 @@ pub fn want_unary(
 {
     match want {
         None => Ok(()),
-        Some(ty) => {
-            emit_unary(draft, op, ty, d, a)?;
-            Ok(())
-        }
+        Some(ty) => emit_unary(draft, op, ty, d, a),
     }
 }
 
@@ -389,10 +410,7 @@ pub fn want_cast(
 {
     match from {
         None => Ok(()),
-        Some(from) => {
-            emit_cast(draft, from, ty, d, a)?;
-            Ok(())
-        }
+        Some(from) => emit_cast(draft, from, ty, d, a),
     }
 }
 

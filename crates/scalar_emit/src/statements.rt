@@ -1,9 +1,9 @@
 //! Emits the code of statements.
 
-ghost use Rattle.std.specs.Prelude.{◌≡◌, ◌+◌, ◌<◌, ◌^◌, false, OnOk};
+ghost use Rattle.std.specs.Prelude.{◌≡◌, ◌+◌, ◌<◌, ◌^◌, true, OnOk};
 ghost use Rattle.kernel_tree.specs.Plain.{Define, Put, Update, Choose, Leave, Nothing, Else, name_of, term_of, action_of, block_of};
 ghost use Rattle.kernel_tree.specs.Parts.{part_action};
-ghost use Rattle.kernel_tree.specs.Items.{action_size, block_size, stream_offset};
+ghost use Rattle.kernel_tree.specs.Items.{action_size, block_size, otherwise_size, stream_offset};
 ghost use Rattle.kernel_tree.specs.Typing as typing;
 ghost use Rattle.kernel_tree.specs.Kinds.{IsValue, IsTruth, ActionKinds, BlockKinds};
 ghost use Rattle.kernel_scope.specs.Scopes.{scope_of};
@@ -11,11 +11,12 @@ ghost use Rattle.kernel_meaning.specs.Operators as operators;
 ghost use Rattle.label_fix.specs.DraftRun as plain;
 ghost use Rattle.scalar_emit.specs.Words as words;
 ghost use Rattle.scalar_emit.specs.Statements as statements;
-ghost use Rattle.scalar_emit.specs.Operands.{has_blocks};
+ghost use Rattle.scalar_emit.specs.Operands.{is_effect};
 ghost use Rattle.scalar_emit.specs.Drafts.{Appends};
 ghost use Rattle.scalar_emit.specs.View.{homes_of};
 
-use crate::emit::{emit_truth, emit_value};
+use crate::branches::{land, switch_over};
+use crate::emit::{emit_test, emit_truth, emit_value};
 use crate::home::{Home, register_at};
 use crate::instructions::{index_word, store};
 use crate::operations::{emit_copy, emit_offset, want_binary};
@@ -63,6 +64,32 @@ fn settle<'a>(
     }
 }
 
+// What a `let` defines, whose value stands in a register.
+fn emit_defined<'a>(
+    draft: &mut Draft,
+    places: &Places,
+    homes: &mut Vec<Home<'a>>,
+    scope: &mut Scope<'a>,
+    name: &'a Name,
+    ty: Option<Ty>,
+    from: Reg,
+    item: &mut usize,
+) -> Result<(), AllocError>
+    requires { item.old < 2 ^ 32 }
+    ensures scope { OnOk result (scope_of scope.new ≡ typing.defined (scope_of scope.old) (name_of name.now) ty) }
+    ensures homes { OnOk result (homes_of homes.new.items
+        ≡ statements.defined_homes places.now item.old (homes_of homes.old.items) (name_of name.now) ty) }
+    ensures item { OnOk result (item.new ≡ item.old + 1) }
+    ensures labels { OnOk result (draft.new.labels ≡ draft.old.labels) }
+    ensures code { OnOk result (Appends draft.old draft.new (statements.let_code places.now item.old from.number)) }
+{
+    emit_kept(draft, places, *item, from)?;
+    settle(homes, places, *item, name, ty)?;
+    define(scope, name, ty)?;
+    *item += 1;
+    Ok(())
+}
+
 fn emit_let<'a>(
     draft: &mut Draft,
     places: &Places,
@@ -92,10 +119,7 @@ fn emit_let<'a>(
 {
     let want = first(ty, own_type(scope, value));
     let from = emit_value(draft, places, homes, scope, want, value, item)?;
-    emit_kept(draft, places, *item, from)?;
-    settle(homes, places, *item, name, want)?;
-    define(scope, name, want)?;
-    *item += 1;
+    emit_defined(draft, places, homes, scope, name, want, from, item)?;
     Ok(())
 }
 
@@ -236,54 +260,38 @@ fn emit_break(
     Ok(())
 }
 
-// A statement with no blocks.
-fn emit_plain<'a>(
+// A statement with no block, which defines no name.
+fn emit_effect<'a>(
     draft: &mut Draft,
     places: &Places,
-    homes: &mut Vec<Home<'a>>,
-    scope: &mut Scope<'a>,
+    homes: &[Home],
+    scope: &Scope,
     exit: Label,
     part: Part<'a>,
     item: &mut usize,
 ) -> Result<(), AllocError>
-    requires no_blocks { has_blocks (part_action part) ≡ false }
+    requires effect { is_effect (part_action part) ≡ true }
     requires exit { exit < draft.old.labels }
     requires kinds { ActionKinds (part_action part) }
-    requires fits { item.old + action_size (scope_of scope.old).index (part_action part) < 2 ^ 32 }
-    ensures scope { OnOk result (scope_of scope.new
-        ≡ typing.after_action (scope_of scope.old) (part_action part.entry)) }
-    ensures homes { OnOk result (homes_of homes.new.items
-        ≡ statements.after_homes places.now (homes_of homes.old.items) (scope_of scope.old) item.old
-        (part_action part.entry)) }
-    ensures item { OnOk result (item.new ≡ item.old + action_size (scope_of scope.old).index (part_action part.entry)) }
+    requires fits { item.old + action_size (scope_of scope.now).index (part_action part) < 2 ^ 32 }
+    ensures item { OnOk result (item.new ≡ item.old + action_size (scope_of scope.now).index (part_action part.entry)) }
     ensures labels { OnOk result (draft.new.labels
-        ≡ draft.old.labels + statements.action_labels (scope_of scope.old).index (part_action part.entry)) }
+        ≡ draft.old.labels + statements.action_labels (scope_of scope.now).index (part_action part.entry)) }
     ensures code { OnOk result (Appends draft.old draft.new
-        (statements.action_code places.now (homes_of homes.old.items)
-        (scope_of scope.old) exit item.old draft.old.labels (part_action part.entry))) }
+        (statements.action_code places.now (homes_of homes.now)
+        (scope_of scope.now) exit item.old draft.old.labels (part_action part.entry))) }
 {
     match part {
-        Part::Let { name, ty, value } => {
-            emit_let(draft, places, homes, scope, name, ty, value, item)?;
-            Ok(())
-        }
         Part::Store {
             array,
             index,
             value,
-        } => {
-            emit_store(draft, places, homes, scope, array, index, value, item)?;
-            Ok(())
-        }
-        Part::Update { name, op, value } => {
-            emit_update(draft, places, homes, scope, name, op, value, item)?;
-            Ok(())
-        }
-        Part::Break { cond } => {
-            emit_break(draft, places, homes, scope, exit, cond, item)?;
-            Ok(())
-        }
-        Part::If { .. } | Part::IfElse { .. } => unreachable!(),
+        } => emit_store(draft, places, homes, scope, array, index, value, item),
+        Part::Update { name, op, value } => emit_update(
+            draft, places, homes, scope, name, op, value, item,
+        ),
+        Part::Break { cond } => emit_break(draft, places, homes, scope, exit, cond, item),
+        _ => unreachable!(),
     }
 }
 
@@ -312,16 +320,15 @@ fn emit_stmt<'a>(
         (scope_of scope.old) exit item.old draft.old.labels (action_of stmt.now))) }
 {
     match parts(stmt) {
-        Part::If { cond, block } => {
-            emit_if(draft, places, homes, scope, exit, cond, block, item)?;
-            Ok(())
-        }
-        Part::IfElse { cond, block, other } => {
-            emit_if_else(draft, places, homes, scope, exit, cond, block, other, item)?;
-            Ok(())
-        }
+        Part::If { cond, block } => emit_if(draft, places, homes, scope, exit, cond, block, item),
+        Part::IfElse { cond, block, other } => emit_if_else(
+            draft, places, homes, scope, exit, cond, block, other, item,
+        ),
+        Part::Let { name, ty, value } => emit_let(
+            draft, places, homes, scope, name, ty, value, item,
+        ),
         part => {
-            emit_plain(draft, places, homes, scope, exit, part, item)?;
+            emit_effect(draft, places, homes, scope, exit, part, item)?;
             Ok(())
         }
     }
@@ -355,13 +362,18 @@ fn emit_if<'a>(
         (statements.action_code places.now (homes_of homes.old.items)
         (scope_of scope.old) exit item.old draft.old.labels (Choose (term_of cond.now) (block_of block.now) Nothing))) }
 {
-    emit_truth(draft, places, homes, scope, cond, item)?;
-    let other = draft.label()?;
-    draft.branch(BranchKind::Zero(28), other)?;
+    let other = emit_test(
+        draft,
+        places,
+        homes,
+        scope,
+        BranchKind::Zero(28),
+        cond,
+        item,
+    )?;
     *item += 1;
     emit_inner(draft, places, homes, scope, exit, block, item)?;
-    draft.place(other)?;
-    *item += 1;
+    land(draft, other, item)?;
     Ok(())
 }
 
@@ -397,18 +409,51 @@ fn emit_if_else<'a>(
         (scope_of scope.old) exit item.old draft.old.labels
         (Choose (term_of cond.now) (block_of block.now) (Else (block_of second.now))))) }
 {
-    emit_truth(draft, places, homes, scope, cond, item)?;
-    let other = draft.label()?;
-    draft.branch(BranchKind::Zero(28), other)?;
+    let other = emit_test(
+        draft,
+        places,
+        homes,
+        scope,
+        BranchKind::Zero(28),
+        cond,
+        item,
+    )?;
     *item += 1;
     emit_inner(draft, places, homes, scope, exit, block, item)?;
-    let end = draft.label()?;
-    draft.branch(BranchKind::Always, end)?;
-    draft.place(other)?;
-    *item += 1;
+    emit_else(draft, places, homes, scope, exit, other, second, item)?;
+    Ok(())
+}
+
+// The second block of an `if`, after the label to which the first condition branches.
+#[cycle(statements)]
+fn emit_else<'a>(
+    draft: &mut Draft,
+    places: &Places,
+    homes: &mut Vec<Home<'a>>,
+    scope: &mut Scope<'a>,
+    exit: Label,
+    other: Label,
+    second: &'a [Stmt],
+    item: &mut usize,
+) -> Result<(), AllocError>
+    requires exit { exit < draft.old.labels }
+    requires other { other < draft.old.labels }
+    requires second { BlockKinds (block_of second.now) }
+    requires fits { item.old + otherwise_size (scope_of scope.old).index (Else (block_of second.now)) + 1 < 2 ^ 32 }
+    ensures scope { OnOk result (scope_of scope.new
+        ≡ typing.left (scope_of scope.old) (typing.after_block (scope_of scope.old) (block_of second.now))) }
+    ensures homes { OnOk result (homes_of homes.new.items ≡ homes_of homes.old.items) }
+    ensures item { OnOk result (item.new ≡ item.old + otherwise_size (scope_of scope.old).index
+        (Else (block_of second.now)) + 1) }
+    ensures labels { OnOk result (draft.new.labels
+        ≡ draft.old.labels + statements.otherwise_labels (scope_of scope.old).index (Else (block_of second.now))) }
+    ensures code { OnOk result (Appends draft.old draft.new
+        (statements.otherwise_code places.now (homes_of homes.old.items)
+        (scope_of scope.old) exit other item.old draft.old.labels (Else (block_of second.now)))) }
+{
+    let end = switch_over(draft, other, item)?;
     emit_inner(draft, places, homes, scope, exit, second, item)?;
-    draft.place(end)?;
-    *item += 1;
+    land(draft, end, item)?;
     Ok(())
 }
 

@@ -11,9 +11,6 @@ use itoa::Buffer;
 use kernel_meaning::ScalarOutcome;
 use std::alloc::{AllocError, Global};
 
-#[cfg(test)]
-mod tests;
-
 /// The text of an outcome: the result and the number of iterations begun, or the word `fault` and that number, a line each; or
 /// the line `spent`.
 pub fn scalar_text(alloc: Global, outcome: ScalarOutcome) -> Result<Vec<u8>, AllocError>

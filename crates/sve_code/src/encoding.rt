@@ -1,8 +1,9 @@
 //! From instructions to words.
-ghost use Rattle.std.specs.Prelude.{◌≡◌};
-ghost use Rattle.word_rows.specs.Row.{spells};
-ghost use Rattle.sve_code.specs.Table.{row};
-ghost use Rattle.sve_code.specs.View.{instruction_view};
+ghost use Rattle.std.specs.Prelude.{◌≡◌, [], ◌∷◌};
+ghost use Rattle.word_rows.specs.Field.{rd, rn};
+ghost use Rattle.word_rows.specs.Row.{free, spells};
+ghost use Rattle.sve_code.specs.Table.{row, where_listed, shift_from_8, only_from, pd, pn, pg4, pm, zd, zn, zm, size, imm3, tszl, tszh, zdn, zm_low, pg, zt};
+ghost use Rattle.sve_code.specs.View.{instruction_view, pred_logic_name, break_form_name, count_name, add_sub_name, logic_name, shift_imm_name, merging_name, unary_name, extend_byte_name, extend_half_name, extend_word_name, reduce_name, compare_name, load_gather_name};
 
 use crate::bases::{
     ANDV, ASR_IMM, BRKA, BRKB, CMPEQ, CMPGE, CMPGT, CMPHI, CMPHS, CMPNE, CNTB, CNTD, CNTH, CNTP,
@@ -31,36 +32,17 @@ pub fn encode(word: Sve) -> u32
             | rm.put(16)
             | shifted(size as u32, 22, 2),
         Sve::Ptest { pn, pg } => PTEST | pn.put(5) | pg.put(10),
-        Sve::PredicateLogical { op, pd, pn, pg, pm } => {
-            let base = match op {
-                PredicateLogicalOp::And => P_AND,
-                PredicateLogicalOp::Bic => P_BIC,
-                PredicateLogicalOp::Eor => P_EOR,
-                PredicateLogicalOp::Orr => P_ORR,
-                PredicateLogicalOp::Ands => P_ANDS,
-            };
-            base | pd.put(0) | pn.put(5) | pg.put(10) | pm.put(16)
-        }
-        Sve::Break { op, pd, pn, pg } => {
-            let base = match op {
-                BreakOp::Brka => BRKA,
-                BreakOp::Brkb => BRKB,
-            };
-            base | pd.put(0) | pn.put(5) | pg.put(10)
-        }
+        Sve::PredicateLogical { op, pd, pn, pg, pm } => op.base()
+            | pd.put(0)
+            | pn.put(5)
+            | pg.put(10)
+            | pm.put(16),
+        Sve::Break { op, pd, pn, pg } => op.base() | pd.put(0) | pn.put(5) | pg.put(10),
         Sve::Rdffr { pd } => RDFFR | pd.put(0),
         Sve::RdffrPredicated { pd, pg } => RDFFR_Z | pd.put(0) | pg.put(5),
         Sve::Setffr => SETFFR,
         Sve::Wrffr { pn } => WRFFR | pn.put(5),
-        Sve::ElementCount { op, rd } => {
-            let base = match op {
-                ElementCountOp::Cntb => CNTB,
-                ElementCountOp::Cnth => CNTH,
-                ElementCountOp::Cntw => CNTW,
-                ElementCountOp::Cntd => CNTD,
-            };
-            base | rd.put(0)
-        }
+        Sve::ElementCount { op, rd } => op.base() | rd.put(0),
         Sve::Incp { rd, pm, size } => INCP | rd.put(0) | pm.put(5) | shifted(size as u32, 22, 2),
         Sve::Cntp { rd, pn, pg, size } => CNTP
             | rd.put(0)
@@ -89,121 +71,50 @@ pub fn encode(word: Sve) -> u32
             zn,
             zm,
             size,
-        } => {
-            let base = match op {
-                AddSubOp::Add => Z_ADD,
-                AddSubOp::Sub => Z_SUB,
-            };
-            base | zd.put(0) | zn.put(5) | zm.put(16) | shifted(size as u32, 22, 2)
-        }
-        Sve::Bitwise { op, zd, zn, zm } => {
-            let base = match op {
-                BitwiseOp::And => Z_AND,
-                BitwiseOp::Orr => Z_ORR,
-                BitwiseOp::Eor => Z_EOR,
-                BitwiseOp::Bic => Z_BIC,
-            };
-            base | zd.put(0) | zn.put(5) | zm.put(16)
-        }
-        Sve::ShiftImmediate { op, zd, zn, amount } => {
-            let base = match op {
-                ShiftImmediateOp::Lsl => LSL_IMM,
-                ShiftImmediateOp::Lsr => LSR_IMM,
-                ShiftImmediateOp::Asr => ASR_IMM,
-            };
-            base | zd.put(0)
-                | zn.put(5)
-                | shifted(amount.value % 8, 16, 3)
-                | shifted(amount.value / 8 % 4, 19, 2)
-                | shifted(amount.value / 32, 22, 2)
-        }
+        } => op.base() | zd.put(0) | zn.put(5) | zm.put(16) | shifted(size as u32, 22, 2),
+        Sve::Bitwise { op, zd, zn, zm } => op.base() | zd.put(0) | zn.put(5) | zm.put(16),
+        Sve::ShiftImmediate { op, zd, zn, amount } => op.base()
+            | zd.put(0)
+            | zn.put(5)
+            | shifted(amount.value % 8, 16, 3)
+            | shifted(amount.value / 8 % 4, 19, 2)
+            | shifted(amount.value / 32, 22, 2),
         Sve::BinaryPredicated {
             op,
             zdn,
             zm,
             pg,
             size,
-        } => {
-            let base = match op {
-                BinaryPredicatedOp::Add => M_ADD,
-                BinaryPredicatedOp::Sub => M_SUB,
-                BinaryPredicatedOp::Smax => M_SMAX,
-                BinaryPredicatedOp::Umax => M_UMAX,
-                BinaryPredicatedOp::Smin => M_SMIN,
-                BinaryPredicatedOp::Umin => M_UMIN,
-                BinaryPredicatedOp::Mul => M_MUL,
-                BinaryPredicatedOp::Orr => M_ORR,
-                BinaryPredicatedOp::Eor => M_EOR,
-                BinaryPredicatedOp::And => M_AND,
-            };
-            base | zdn.put(0) | zm.put(5) | pg.put(10) | shifted(size as u32, 22, 2)
-        }
+        } => op.base() | zdn.put(0) | zm.put(5) | pg.put(10) | shifted(size as u32, 22, 2),
         Sve::UnaryPredicated {
             op,
             zd,
             zn,
             pg,
             size,
-        } => {
-            let base = match op {
-                UnaryPredicatedOp::Abs => M_ABS,
-                UnaryPredicatedOp::Neg => M_NEG,
-                UnaryPredicatedOp::Not => M_NOT,
-            };
-            base | zd.put(0) | zn.put(5) | pg.put(10) | shifted(size as u32, 22, 2)
-        }
+        } => op.base() | zd.put(0) | zn.put(5) | pg.put(10) | shifted(size as u32, 22, 2),
         Sve::ExtendByte {
             op,
             zd,
             zn,
             pg,
             size,
-        } => {
-            let base = match op {
-                ExtendOp::Signed => SXTB,
-                ExtendOp::Unsigned => UXTB,
-            };
-            base | zd.put(0) | zn.put(5) | pg.put(10) | shifted(size as u32, 22, 2)
-        }
+        } => op.byte_base() | zd.put(0) | zn.put(5) | pg.put(10) | shifted(size as u32, 22, 2),
         Sve::ExtendHalfword {
             op,
             zd,
             zn,
             pg,
             size,
-        } => {
-            let base = match op {
-                ExtendOp::Signed => SXTH,
-                ExtendOp::Unsigned => UXTH,
-            };
-            base | zd.put(0) | zn.put(5) | pg.put(10) | shifted(size as u32, 22, 2)
-        }
-        Sve::ExtendWord { op, zd, zn, pg } => {
-            let base = match op {
-                ExtendOp::Signed => SXTW,
-                ExtendOp::Unsigned => UXTW,
-            };
-            base | zd.put(0) | zn.put(5) | pg.put(10)
-        }
+        } => op.halfword_base() | zd.put(0) | zn.put(5) | pg.put(10) | shifted(size as u32, 22, 2),
+        Sve::ExtendWord { op, zd, zn, pg } => op.word_base() | zd.put(0) | zn.put(5) | pg.put(10),
         Sve::Reduction {
             op,
             zd,
             zn,
             pg,
             size,
-        } => {
-            let base = match op {
-                ReductionOp::Uaddv => UADDV,
-                ReductionOp::Smaxv => SMAXV,
-                ReductionOp::Umaxv => UMAXV,
-                ReductionOp::Sminv => SMINV,
-                ReductionOp::Uminv => UMINV,
-                ReductionOp::Orv => ORV,
-                ReductionOp::Eorv => EORV,
-                ReductionOp::Andv => ANDV,
-            };
-            base | zd.put(0) | zn.put(5) | pg.put(10) | shifted(size as u32, 22, 2)
-        }
+        } => op.base() | zd.put(0) | zn.put(5) | pg.put(10) | shifted(size as u32, 22, 2),
         Sve::CompareVectors {
             op,
             pd,
@@ -211,17 +122,12 @@ pub fn encode(word: Sve) -> u32
             pg,
             zm,
             size,
-        } => {
-            let base = match op {
-                VectorCompareOp::Hs => CMPHS,
-                VectorCompareOp::Hi => CMPHI,
-                VectorCompareOp::Ge => CMPGE,
-                VectorCompareOp::Gt => CMPGT,
-                VectorCompareOp::Eq => CMPEQ,
-                VectorCompareOp::Ne => CMPNE,
-            };
-            base | pd.put(0) | zn.put(5) | pg.put(10) | zm.put(16) | shifted(size as u32, 22, 2)
-        }
+        } => op.base()
+            | pd.put(0)
+            | zn.put(5)
+            | pg.put(10)
+            | zm.put(16)
+            | shifted(size as u32, 22, 2),
         Sve::ContiguousLoad {
             zt,
             rn,
@@ -246,18 +152,11 @@ pub fn encode(word: Sve) -> u32
             | rn.put(5)
             | pg.put(10)
             | shifted(dtype as u32, 21, 4),
-        Sve::GatherLoad { op, zt, rn, pg, zm } => {
-            let base = match op {
-                GatherOp::Ld1b => GLD1B,
-                GatherOp::Ld1h => GLD1H,
-                GatherOp::Ld1w => GLD1W,
-                GatherOp::Ld1d => GLD1D,
-                GatherOp::Ld1sb => GLD1SB,
-                GatherOp::Ld1sh => GLD1SH,
-                GatherOp::Ld1sw => GLD1SW,
-            };
-            base | zt.put(0) | rn.put(5) | pg.put(10) | zm.put(16)
-        }
+        Sve::GatherLoad { op, zt, rn, pg, zm } => op.base()
+            | zt.put(0)
+            | rn.put(5)
+            | pg.put(10)
+            | zm.put(16),
         Sve::ContiguousStore {
             zt,
             rn,
@@ -271,5 +170,189 @@ pub fn encode(word: Sve) -> u32
             | shifted(offset.number, 16, 5)
             | shifted(sizes.size as u32, 21, 2)
             | shifted(sizes.msz as u32, 23, 2),
+    }
+}
+
+// ---- the base words of the rows that share an encoding
+
+impl PredicateLogicalOp {
+    fn base(self) -> u32
+        ensures { row (pred_logic_name self) ≡ free result (pd ∷ pn ∷ pg4 ∷ pm ∷ []) }
+    {
+        match self {
+            PredicateLogicalOp::And => P_AND,
+            PredicateLogicalOp::Bic => P_BIC,
+            PredicateLogicalOp::Eor => P_EOR,
+            PredicateLogicalOp::Orr => P_ORR,
+            PredicateLogicalOp::Ands => P_ANDS,
+        }
+    }
+}
+
+impl BreakOp {
+    fn base(self) -> u32
+        ensures { row (break_form_name self) ≡ free result (pd ∷ pn ∷ pg4 ∷ []) }
+    {
+        match self {
+            BreakOp::Brka => BRKA,
+            BreakOp::Brkb => BRKB,
+        }
+    }
+}
+
+impl ElementCountOp {
+    fn base(self) -> u32
+        ensures { row (count_name self) ≡ free result (rd ∷ []) }
+    {
+        match self {
+            ElementCountOp::Cntb => CNTB,
+            ElementCountOp::Cnth => CNTH,
+            ElementCountOp::Cntw => CNTW,
+            ElementCountOp::Cntd => CNTD,
+        }
+    }
+}
+
+impl AddSubOp {
+    fn base(self) -> u32
+        ensures { row (add_sub_name self) ≡ free result (zd ∷ zn ∷ zm ∷ size ∷ []) }
+    {
+        match self {
+            AddSubOp::Add => Z_ADD,
+            AddSubOp::Sub => Z_SUB,
+        }
+    }
+}
+
+impl BitwiseOp {
+    fn base(self) -> u32
+        ensures { row (logic_name self) ≡ free result (zd ∷ zn ∷ zm ∷ []) }
+    {
+        match self {
+            BitwiseOp::And => Z_AND,
+            BitwiseOp::Orr => Z_ORR,
+            BitwiseOp::Eor => Z_EOR,
+            BitwiseOp::Bic => Z_BIC,
+        }
+    }
+}
+
+impl ShiftImmediateOp {
+    fn base(self) -> u32
+        ensures { row (shift_imm_name self) ≡ where_listed result (zd ∷ zn ∷ imm3 ∷ tszl ∷ tszh ∷ []) shift_from_8 }
+    {
+        match self {
+            ShiftImmediateOp::Lsl => LSL_IMM,
+            ShiftImmediateOp::Lsr => LSR_IMM,
+            ShiftImmediateOp::Asr => ASR_IMM,
+        }
+    }
+}
+
+impl BinaryPredicatedOp {
+    fn base(self) -> u32
+        ensures { row (merging_name self) ≡ free result (zdn ∷ zm_low ∷ pg ∷ size ∷ []) }
+    {
+        match self {
+            BinaryPredicatedOp::Add => M_ADD,
+            BinaryPredicatedOp::Sub => M_SUB,
+            BinaryPredicatedOp::Smax => M_SMAX,
+            BinaryPredicatedOp::Umax => M_UMAX,
+            BinaryPredicatedOp::Smin => M_SMIN,
+            BinaryPredicatedOp::Umin => M_UMIN,
+            BinaryPredicatedOp::Mul => M_MUL,
+            BinaryPredicatedOp::Orr => M_ORR,
+            BinaryPredicatedOp::Eor => M_EOR,
+            BinaryPredicatedOp::And => M_AND,
+        }
+    }
+}
+
+impl UnaryPredicatedOp {
+    fn base(self) -> u32
+        ensures { row (unary_name self) ≡ free result (zd ∷ zn ∷ pg ∷ size ∷ []) }
+    {
+        match self {
+            UnaryPredicatedOp::Abs => M_ABS,
+            UnaryPredicatedOp::Neg => M_NEG,
+            UnaryPredicatedOp::Not => M_NOT,
+        }
+    }
+}
+
+impl ExtendOp {
+    fn byte_base(self) -> u32
+        ensures { row (extend_byte_name self) ≡ where_listed result (zd ∷ zn ∷ pg ∷ size ∷ []) (only_from 3 1) }
+    {
+        match self {
+            ExtendOp::Signed => SXTB,
+            ExtendOp::Unsigned => UXTB,
+        }
+    }
+
+    fn halfword_base(self) -> u32
+        ensures { row (extend_half_name self) ≡ where_listed result (zd ∷ zn ∷ pg ∷ size ∷ []) (only_from 3 2) }
+    {
+        match self {
+            ExtendOp::Signed => SXTH,
+            ExtendOp::Unsigned => UXTH,
+        }
+    }
+
+    fn word_base(self) -> u32
+        ensures { row (extend_word_name self) ≡ free result (zd ∷ zn ∷ pg ∷ []) }
+    {
+        match self {
+            ExtendOp::Signed => SXTW,
+            ExtendOp::Unsigned => UXTW,
+        }
+    }
+}
+
+impl ReductionOp {
+    fn base(self) -> u32
+        ensures { row (reduce_name self) ≡ free result (zd ∷ zn ∷ pg ∷ size ∷ []) }
+    {
+        match self {
+            ReductionOp::Uaddv => UADDV,
+            ReductionOp::Smaxv => SMAXV,
+            ReductionOp::Umaxv => UMAXV,
+            ReductionOp::Sminv => SMINV,
+            ReductionOp::Uminv => UMINV,
+            ReductionOp::Orv => ORV,
+            ReductionOp::Eorv => EORV,
+            ReductionOp::Andv => ANDV,
+        }
+    }
+}
+
+impl VectorCompareOp {
+    fn base(self) -> u32
+        ensures { row (compare_name self) ≡ free result (pd ∷ zn ∷ pg ∷ zm ∷ size ∷ []) }
+    {
+        match self {
+            VectorCompareOp::Hs => CMPHS,
+            VectorCompareOp::Hi => CMPHI,
+            VectorCompareOp::Ge => CMPGE,
+            VectorCompareOp::Gt => CMPGT,
+            VectorCompareOp::Eq => CMPEQ,
+            VectorCompareOp::Ne => CMPNE,
+        }
+    }
+}
+
+impl GatherOp {
+    fn base(self) -> u32
+        ensures { row (load_gather_name self) ≡ free result (zt ∷ rn ∷ pg ∷ zm ∷ []) }
+    {
+        match self {
+            GatherOp::Ld1b => GLD1B,
+            GatherOp::Ld1h => GLD1H,
+            GatherOp::Ld1w => GLD1W,
+            GatherOp::Ld1d => GLD1D,
+            GatherOp::Ld1sb => GLD1SB,
+            GatherOp::Ld1sh => GLD1SH,
+            GatherOp::Ld1sw => GLD1SW,
+        }
     }
 }

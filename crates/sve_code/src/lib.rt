@@ -30,7 +30,7 @@ pub type PredicateReg = Bits<4>;
 pub type GoverningReg = Bits<3>;
 
 /// AND, BIC, EOR, ORR and ANDS on predicates, with zeroing ("AND (predicates)" and its like).
-#[derive(Clone, Copy, Debug, PartialEq, Eq)]
+#[derive(Clone, Copy)]
 pub enum PredicateLogicalOp {
     And,
     Bic,
@@ -40,14 +40,14 @@ pub enum PredicateLogicalOp {
 }
 
 /// BRKA and BRKB, with zeroing.
-#[derive(Clone, Copy, Debug, PartialEq, Eq)]
+#[derive(Clone, Copy)]
 pub enum BreakOp {
     Brka,
     Brkb,
 }
 
 /// CNTB, CNTH, CNTW and CNTD, with pattern ALL and a multiplier of 1.
-#[derive(Clone, Copy, Debug, PartialEq, Eq)]
+#[derive(Clone, Copy)]
 pub enum ElementCountOp {
     Cntb,
     Cnth,
@@ -56,14 +56,14 @@ pub enum ElementCountOp {
 }
 
 /// ADD and SUB of whole vectors ("ADD (vectors, unpredicated)" and its like).
-#[derive(Clone, Copy, Debug, PartialEq, Eq)]
+#[derive(Clone, Copy)]
 pub enum AddSubOp {
     Add,
     Sub,
 }
 
 /// AND, ORR, EOR and BIC of whole vectors ("AND (vectors, unpredicated)" and its like).
-#[derive(Clone, Copy, Debug, PartialEq, Eq)]
+#[derive(Clone, Copy)]
 pub enum BitwiseOp {
     And,
     Orr,
@@ -72,7 +72,7 @@ pub enum BitwiseOp {
 }
 
 /// LSL, LSR and ASR by a constant ("LSL (immediate, unpredicated)" and its like).
-#[derive(Clone, Copy, Debug, PartialEq, Eq)]
+#[derive(Clone, Copy)]
 pub enum ShiftImmediateOp {
     Lsl,
     Lsr,
@@ -81,7 +81,7 @@ pub enum ShiftImmediateOp {
 
 /// Operations on the active elements of two vectors, the first of which they change ("ADD (vectors,
 /// predicated)" and its like).
-#[derive(Clone, Copy, Debug, PartialEq, Eq)]
+#[derive(Clone, Copy)]
 pub enum BinaryPredicatedOp {
     Add,
     Sub,
@@ -96,7 +96,7 @@ pub enum BinaryPredicatedOp {
 }
 
 /// ABS, NEG and NOT of the active elements of a vector.
-#[derive(Clone, Copy, Debug, PartialEq, Eq)]
+#[derive(Clone, Copy)]
 pub enum UnaryPredicatedOp {
     Abs,
     Neg,
@@ -104,14 +104,14 @@ pub enum UnaryPredicatedOp {
 }
 
 /// Whether elements are sign-extended (SXTB, SXTH, SXTW) or zero-extended (UXTB, UXTH, UXTW).
-#[derive(Clone, Copy, Debug, PartialEq, Eq)]
+#[derive(Clone, Copy)]
 pub enum ExtendOp {
     Signed,
     Unsigned,
 }
 
 /// Reductions of the active elements to one scalar in a vector register.
-#[derive(Clone, Copy, Debug, PartialEq, Eq)]
+#[derive(Clone, Copy)]
 pub enum ReductionOp {
     Uaddv,
     Smaxv,
@@ -124,7 +124,7 @@ pub enum ReductionOp {
 }
 
 /// The conditions of "CMP<cc> (vectors)": HS and HI unsigned, GE and GT signed.
-#[derive(Clone, Copy, Debug, PartialEq, Eq)]
+#[derive(Clone, Copy)]
 pub enum VectorCompareOp {
     Hs,
     Hi,
@@ -136,7 +136,7 @@ pub enum VectorCompareOp {
 
 /// Loads of doublewords from a base and the offsets in a vector ("LD1B (scalar plus vector)" and its like): the element
 /// in memory, and whether its sign is extended.
-#[derive(Clone, Copy, Debug, PartialEq, Eq)]
+#[derive(Clone, Copy)]
 pub enum GatherOp {
     Ld1b,
     Ld1h,
@@ -148,7 +148,7 @@ pub enum GatherOp {
 }
 
 /// An SVE instruction. Each value has a word, and is the only one that has it.
-#[derive(Clone, Copy, Debug, PartialEq, Eq)]
+#[derive(Clone, Copy)]
 pub enum Sve {
     /// "PTRUE", with pattern ALL.
     Ptrue {
@@ -361,63 +361,4 @@ pub enum Sve {
         offset: OffsetReg,
         sizes: StoreSizes,
     },
-}
-
-#[cfg(test)]
-mod tests {
-    use super::*;
-
-    /// The words that GNU `as` makes of the text beside.
-    #[test]
-    fn writes_checked_predicate_words(rt: HostRuntime) {
-        // whilelo p0.b, x9, x1
-        let whilelo = Sve::Whilelo {
-            pd: Bits::new(0),
-            rn: Bits::new(9),
-            rm: Bits::new(1),
-            size: Size::B,
-        };
-        assert_eq!(rt; encode(whilelo), 0x2521_1d20);
-        // ptrue p1.b
-        let ptrue = Sve::Ptrue {
-            pd: Bits::new(1),
-            size: Size::B,
-        };
-        assert_eq!(rt; encode(ptrue), 0x2518_e3e1);
-    }
-
-    /// The words that GNU `as` makes of the text beside.
-    #[test]
-    fn writes_checked_shift_words(rt: HostRuntime) {
-        // lsl z0.s, z1.s, #3
-        let left = Sve::ShiftImmediate {
-            op: ShiftImmediateOp::Lsl,
-            zd: Bits::new(0),
-            zn: Bits::new(1),
-            amount: ShiftAmount::left(Size::S, 3),
-        };
-        assert_eq!(rt; encode(left), 0x0463_9c20);
-        // asr z4.h, z5.h, #16
-        let right = Sve::ShiftImmediate {
-            op: ShiftImmediateOp::Asr,
-            zd: Bits::new(4),
-            zn: Bits::new(5),
-            amount: ShiftAmount::right(Size::H, 16),
-        };
-        assert_eq!(rt; encode(right), 0x0430_90a4);
-    }
-
-    /// What the assembler's names `ld1sh {z0.s}` and `ld1d {z0.d}` say of the types 9 and 15.
-    #[test]
-    fn knows_what_is_loaded(rt: HostRuntime) {
-        let halfword = Dtype::at(0xa529_4000);
-        assert!(rt; halfword.memory() == Size::H && halfword.element() == Size::S);
-        assert!(rt; halfword.is_signed());
-        let doubleword = Dtype::at(0xa5e9_4000);
-        assert!(rt; doubleword.memory() == Size::D && doubleword.element() == Size::D);
-        assert!(rt; !doubleword.is_signed() && doubleword.memory().width() == 64);
-        let store = StoreSizes::of(Size::B, Size::S);
-        assert!(rt; store.is_some() && StoreSizes::of(Size::D, Size::S).is_none());
-        assert!(rt; OffsetReg::of(31).is_none() && OffsetReg::of(30).is_some());
-    }
 }

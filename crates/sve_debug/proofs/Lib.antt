@@ -1,4 +1,7 @@
 mod Words
 mod PutTexts
 pub mod Runs
+mod Kept
+mod Told
 mod Sessions
+mod Answered

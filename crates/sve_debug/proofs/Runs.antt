@@ -1,5 +1,5 @@
 -- Steps of a session, and what a debugger holds after them.
-use Rattle.std.proofs.Common.{◌≡◌, ℕ, zero, suc, ◌+◌, ◌-◌, ◌<◌, ◌≤◌, Bool, true, false, List, [], ◌∷◌, ◌++◌, drop, length, take, set, Option, Some, None, refl, sym, ap, ◌∙◌, subst, arith, add-one, append_assoc, append-nil, drop-drop, length-append, length-drop}
+use Rattle.std.proofs.Common.{◌≡◌, ℕ, zero, suc, ◌+◌, ◌-◌, ◌<◌, ◌≤◌, Bool, true, false, List, [], ◌∷◌, ◌++◌, drop, length, take, set, Option, Some, None, refl, sym, ap, ap₂, ◌∙◌, subst, arith, add-one, append_assoc, append-nil, drop-drop, length-append, length-drop}
 use Rattle.std.proofs.lemmas.Bool.{cond-true, cond-false}
 use Rattle.std.proofs.lemmas.List.{drop-append-le, take_more_set}
 use Rattle.std.specs.Prelude.{IsTrue, is_some, option_map}
@@ -12,23 +12,23 @@ use Rattle.machine_model.specs.Answers.{IsAnswer}
 use Rattle.machine_model.specs.Debugged.{View, ending_by}
 use Rattle.machine_model.specs.Machine.{State}
 use Rattle.machine_model.specs.OneStep.{step}
-use Rattle.sve_debug.specs.Held.{Held, held_by, Stands, came_out}
+use Rattle.sve_debug.specs.Held.{Held, held_by, Shows, came_out}
 use Rattle.sve_debug.specs.Reaches.{Reaches}
-use Rattle.sve_debug.specs.Replies.{Session, started, stepped, steps_to, is_break, left_by, over_by}
+use Rattle.sve_debug.specs.Replies.{Session, started, stepped, steps_to, session_at, is_break, left_by, over_by}
 
 -- ---- steps of a session
 
 -- no step after the end or a stop
-at_end : (stops : List ℕ) (n : ℕ) (d : Session) → is_some d.over ≡ true → steps_to stops n d ≡ d
+pub at_end : (stops : List ℕ) (n : ℕ) (d : Session) → is_some d.over ≡ true → steps_to stops n d ≡ d
 unfolding steps_to
 at_end stops zero d h = refl
 at_end stops (suc n) d h = cond-true (is_some d.over) _ _ h
 
-at_break : (stops : List ℕ) (n : ℕ) (d : Session) → is_some d.over ≡ false → is_break stops (stepped d).state.pc ≡ true → steps_to stops (suc n) d ≡ stepped d
+pub at_break : (stops : List ℕ) (n : ℕ) (d : Session) → is_some d.over ≡ false → is_break stops (stepped d).state.pc ≡ true → steps_to stops (suc n) d ≡ stepped d
 unfolding steps_to
 at_break stops n d h b = cond-false (is_some d.over) _ _ h ∙ cond-true (is_break stops (stepped d).state.pc) _ _ b
 
-at_step : (stops : List ℕ) (n : ℕ) (d : Session) → is_some d.over ≡ false → is_break stops (stepped d).state.pc ≡ false → steps_to stops (suc n) d ≡ steps_to stops n (stepped d)
+pub at_step : (stops : List ℕ) (n : ℕ) (d : Session) → is_some d.over ≡ false → is_break stops (stepped d).state.pc ≡ false → steps_to stops (suc n) d ≡ steps_to stops n (stepped d)
 unfolding steps_to
 at_step stops n d h b = cond-false (is_some d.over) _ _ h ∙ cond-false (is_break stops (stepped d).state.pc) _ _ b
 
@@ -77,22 +77,24 @@ came answers.Went s t n h = ap (λ m. over_by m n s) h
 came answers.Ended s t n h = ap (λ m. over_by m n s) h.0 ∙ ap (λ (u : State). Some (came_out u n endings.Ended)) (sym h.1)
 came (answers.Stopped stop) s t n h = ap (λ m. over_by m n s) h.0
 
-not_over : (v : View) (breaks last : List ℕ) (start : State) (d : Session) → v.over ≡ None → Stands (held_by v breaks last) start d → is_some d.over ≡ false
+not_over : (v : View) (breaks last : List ℕ) (start : State) (d : Session) → v.over ≡ None → Shows (held_by v breaks last) start d → is_some d.over ≡ false
 not_over v breaks last start d none h = ap is_some (h.over ∙ ap (option_map (came_out d.state d.steps)) none)
 
-is_over : (v : View) (breaks last : List ℕ) (start : State) (d : Session) → is_some v.over ≡ true → Stands (held_by v breaks last) start d → is_some d.over ≡ true
+pub is_over : (v : View) (breaks last : List ℕ) (start : State) (d : Session) → is_some v.over ≡ true → Shows (held_by v breaks last) start d → is_some d.over ≡ true
 is_over v breaks last start d some h = ap is_some h.over ∙ mapped v.over some
   where
     mapped : (o : Option Ending) → is_some o ≡ true → is_some (option_map (came_out d.state d.steps) o) ≡ true
     mapped None e = e
     mapped (Some ending) e = refl
 
-pub stood : (v w : View) (answer : StepAnswer) (breaks last : List ℕ) (start : State) (d : Session) → v.over ≡ None → IsAnswer (step v.state) answer v.state w.state → w.steps ≡ v.steps + 1 → w.over ≡ ending_by answer → IsTrue w.quiet → Stands (held_by v breaks last) start d → Stands (held_by w breaks (keep_last 64 (last ++ v.state.pc ∷ []))) start (stepped d)
+pub stood : (v w : View) (answer : StepAnswer) (breaks last : List ℕ) (start : State) (d : Session) → v.over ≡ None → IsAnswer (step v.state) answer v.state w.state → w.steps ≡ v.steps + 1 → w.over ≡ ending_by answer → IsTrue w.quiet → Shows (held_by v breaks last) start d → Shows (held_by w breaks (keep_last 64 (last ++ v.state.pc ∷ []))) start (stepped d)
 stood v w answer breaks last start d none is steps over quiet h =
     let none_yet = not_over v breaks last start d none h in
     let state : w.state ≡ left_by (step d.state) d.state = left answer v.state w.state is ∙ ap (λ (s : State). left_by (step s) s) h.state in
-    let count : d.steps + 1 ≡ suc d.steps = add-one d.steps in
     let since = h.since in
+    let before = session_at start d.steps in
+    let one : session_at start (d.steps + 1) ≡ stepped before =
+    ap (session_at start) (add-one d.steps) ∙ one_more d.steps (started start) (ap is_some since.over_is ∙ none_yet) in
     record {
       state = state;
       steps = steps ∙ ap (λ n. n + 1) h.steps;
@@ -107,51 +109,52 @@ stood v w answer breaks last start d none is steps over quiet h =
           ap (λ l. keep_last 64 (l ++ v.state.pc ∷ [])) h.last
           ∙ ap (λ (s : State). keep_last 64 (keep_last 64 d.places ++ s.pc ∷ [])) h.state
           ∙ keeps 64 d.places d.state.pc;
-      since =
-          ap (λ n. steps_to [] n (started start)) count
-          ∙ one_more d.steps (started start) (ap (λ (e : Session). is_some e.over) since ∙ none_yet)
-          ∙ ap stepped since;
+      since = record {
+        state_is = ap (λ (e : Session). e.state) one ∙ ap (λ (s : State). left_by (step s) s) since.state_is;
+        steps_is = ap (λ (e : Session). e.steps) one ∙ ap (λ n. n + 1) since.steps_is;
+        over_is = ap (λ (e : Session). e.over) one ∙ ap₂ (λ (s : State) n. over_by (step s) (n + 1) s) since.state_is since.steps_is;
+      };
     }
 
 -- ---- many steps
 
 -- a step from every session that is stood for
 abbrev Steps : (v w : View) (breaks last last' : List ℕ) (start : State) → Type 0
-Steps v w breaks last last' start = (e : Session) → Stands (held_by v breaks last) start e → Stands (held_by w breaks last') start (stepped e)
+Steps v w breaks last last' start = (e : Session) → Shows (held_by v breaks last) start e → Shows (held_by w breaks last') start (stepped e)
 
 -- what is held already is of the last places
-pub kept_by : (v : View) (breaks last more : List ℕ) (start : State) (d : Session) → more ≡ [] → Stands (held_by v breaks last) start d → Stands (held_by v breaks (keep_last 64 (last ++ more))) start d
+pub kept_by : (v : View) (breaks last more : List ℕ) (start : State) (d : Session) → more ≡ [] → Shows (held_by v breaks last) start d → Shows (held_by v breaks (keep_last 64 (last ++ more))) start d
 kept_by v breaks last more start d none h =
     let size = length-drop (length d.places - 64) d.places in
     let few : length (keep_last 64 d.places) - 64 ≡ 0 = omega (arith, size) in
     let all : last ++ more ≡ keep_last 64 d.places = ap (λ m. last ++ m) none ∙ append-nil last ∙ h.last in
-    subst (λ l. Stands (held_by v breaks l) start d) (sym (ap (keep_last 64) all ∙ ap (λ n. drop n (keep_last 64 d.places)) few ∙ sym h.last)) h
+    subst (λ l. Shows (held_by v breaks l) start d) (sym (ap (keep_last 64) all ∙ ap (λ n. drop n (keep_last 64 d.places)) few ∙ sym h.last)) h
 
 -- a step more, whose place is told following the others
-pub told : (v w : View) (breaks last recent : List ℕ) (start : State) (k pc : ℕ) → pc ≡ v.state.pc → k < length recent → ((last : List ℕ) (e : Session) → Stands (held_by v breaks last) start e → Stands (held_by w breaks (keep_last 64 (last ++ v.state.pc ∷ []))) start (stepped e)) → Steps v w breaks (keep_last 64 (last ++ take k recent)) (keep_last 64 (last ++ take (k + 1) (set recent k pc))) start
+pub told : (v w : View) (breaks last recent : List ℕ) (start : State) (k pc : ℕ) → pc ≡ v.state.pc → k < length recent → ((last : List ℕ) (e : Session) → Shows (held_by v breaks last) start e → Shows (held_by w breaks (keep_last 64 (last ++ v.state.pc ∷ []))) start (stepped e)) → Steps v w breaks (keep_last 64 (last ++ take k recent)) (keep_last 64 (last ++ take (k + 1) (set recent k pc))) start
 told v w breaks last recent start k pc is inside next e h =
     let places : keep_last 64 (keep_last 64 (last ++ take k recent) ++ v.state.pc ∷ []) ≡ keep_last 64 (last ++ take (k + 1) (set recent k pc)) =
     ap (λ p. keep_last 64 (keep_last 64 (last ++ take k recent) ++ p ∷ [])) (sym is)
     ∙ keeps 64 (last ++ take k recent) pc
     ∙ ap (keep_last 64) (append_assoc last (take k recent) (pc ∷ []) ∙ ap (λ m. last ++ m) (sym (take_more_set recent k pc inside))) in
-    subst (λ l. Stands (held_by w breaks l) start (stepped e)) places (next (keep_last 64 (last ++ take k recent)) e h)
+    subst (λ l. Shows (held_by w breaks l) start (stepped e)) places (next (keep_last 64 (last ++ take k recent)) e h)
 
-pub reaches_first : (held : Held) (start : State) (d : Session) (stops : List ℕ) (n left : ℕ) → left ≡ n → Stands held start d → Reaches held start d stops n left
+pub reaches_first : (held : Held) (start : State) (d : Session) (stops : List ℕ) (n left : ℕ) → left ≡ n → Shows held start d → Reaches held start d stops n left
 reaches_first held start d stops n left all h = record { session = d; stands = h; same = ap (λ k. steps_to stops k d) (sym all) }
 
-pub reaches_end : (held : Held) (start : State) (d : Session) (stops : List ℕ) (n left : ℕ) → left ≡ 0 → Reaches held start d stops n left → Stands held start (steps_to stops n d)
+pub reaches_end : (held : Held) (start : State) (d : Session) (stops : List ℕ) (n left : ℕ) → left ≡ 0 → Reaches held start d stops n left → Shows held start (steps_to stops n d)
 reaches_end held start d stops n left none r =
-    subst (Stands held start) (sym (r.same ∙ ap (λ k. steps_to stops k r.session) none ∙ no_steps stops r.session)) r.stands
+    subst (Shows held start) (sym (r.same ∙ ap (λ k. steps_to stops k r.session) none ∙ no_steps stops r.session)) r.stands
 
 -- some steps, and then others
-pub reaches_on : (held : Held) (start : State) (d : Session) (stops : List ℕ) (n left rest : ℕ) (before : Held) → Reaches before start d stops n left → ((e : Session) → Stands before start e → Reaches held start e stops left rest) → Reaches held start d stops n rest
+pub reaches_on : (held : Held) (start : State) (d : Session) (stops : List ℕ) (n left rest : ℕ) (before : Held) → Reaches before start d stops n left → ((e : Session) → Shows before start e → Reaches held start e stops left rest) → Reaches held start d stops n rest
 reaches_on held start d stops n left rest before r next =
     let after = next r.session r.stands in
     record { session = after.session; stands = after.stands; same = r.same ∙ after.same }
 
-pub stands_over : (v : View) (breaks last : List ℕ) (start : State) (d : Session) (stops : List ℕ) (n : ℕ) → is_some v.over ≡ true → Stands (held_by v breaks last) start d → Stands (held_by v breaks last) start (steps_to stops n d)
+pub stands_over : (v : View) (breaks last : List ℕ) (start : State) (d : Session) (stops : List ℕ) (n : ℕ) → is_some v.over ≡ true → Shows (held_by v breaks last) start d → Shows (held_by v breaks last) start (steps_to stops n d)
 stands_over v breaks last start d stops n over h =
-    subst (Stands (held_by v breaks last) start) (sym (at_end stops n d (is_over v breaks last start d over h))) h
+    subst (Shows (held_by v breaks last) start) (sym (at_end stops n d (is_over v breaks last start d over h))) h
 
 -- another step, and the machine goes on
 pub reaches_next : (v w : View) (breaks last last' : List ℕ) (start : State) (d : Session) (stops : List ℕ) (n k : ℕ) → k + 1 ≤ n → v.over ≡ None → is_break stops w.state.pc ≡ false → Steps v w breaks last last' start → Reaches (held_by v breaks last) start d stops n (n - k) → Reaches (held_by w breaks last') start d stops n (n - (k + 1))

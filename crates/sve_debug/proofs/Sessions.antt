@@ -10,7 +10,7 @@ use Rattle.text_parts.specs.Parts.{is_byte, lines_of}
 use Rattle.machine_model.specs.Machine.{State}
 use Rattle.io_edges.specs.Sink.{GainsPart}
 use Rattle.sve_debug.specs.declared.command.Command.{Command}
-use Rattle.sve_debug.specs.declared.command.Command.TheVariants.{Step, Go, Break, Show, Quit}
+use Rattle.sve_debug.specs.declared.command.Command.TheVariants.{Step, Go, Back, Break, Show, Quit}
 use Rattle.sve_debug.specs.declared.session.SessionFault.{SessionFault}
 use Rattle.sve_debug.specs.Held.{Held, Stands}
 use Rattle.sve_debug.specs.Lines.{command_of}
@@ -30,15 +30,16 @@ quit_text None d bad h = absurd cc
 quit_text (Some Quit) d bad h = refl
 quit_text (Some (Step n)) d bad h = absurd cc
 quit_text (Some (Go n)) d bad h = absurd cc
+quit_text (Some (Back n)) d bad h = absurd cc
 quit_text (Some (Break a)) d bad h = absurd cc
 quit_text (Some (Show p)) d bad h = absurd cc
 
 -- a line that ends the session has no text
-no_text : (line : List ℕ) (d : Session) → quits line ≡ true → line_text line d ≡ []
+pub no_text : (line : List ℕ) (d : Session) → quits line ≡ true → line_text line d ≡ []
 no_text [] d h = refl
 no_text (b ∷ bytes) d h = quit_text (command_of (b ∷ bytes)) d _ h
 
-replies_none : (d : Session) → replies d [] ≡ []
+pub replies_none : (d : Session) → replies d [] ≡ []
 unfolding replies
 replies_none d = refl
 
@@ -46,11 +47,11 @@ replies_quit : (line : List ℕ) (lines : List (List ℕ)) (d : Session) → qui
 unfolding replies
 replies_quit line lines d h = cond-true (quits line) _ _ h ∙ sym (no_text line d h)
 
-replies_more : (line : List ℕ) (lines : List (List ℕ)) (d : Session) → quits line ≡ false → replies d (line ∷ lines) ≡ line_text line d ++ replies (after_line line d) lines
+pub replies_more : (line : List ℕ) (lines : List (List ℕ)) (d : Session) → quits line ≡ false → replies d (line ∷ lines) ≡ line_text line d ++ replies (after_line line d) lines
 unfolding replies
 replies_more line lines d h = cond-false (quits line) _ _ h
 
-by_quit : (b : Bool) (line : List ℕ) (d : Session) → quits line ≡ b → replies d (line ∷ []) ≡ line_text line d
+pub by_quit : (b : Bool) (line : List ℕ) (d : Session) → quits line ≡ b → replies d (line ∷ []) ≡ line_text line d
 by_quit true line d h = replies_quit line [] d h
 by_quit false line d h = replies_more line [] d h ∙ ap (λ t. line_text line d ++ t) (replies_none (after_line line d)) ∙ append-nil (line_text line d)
 
@@ -112,7 +113,7 @@ tells_all (Some bytes) mid new text x whole value is put all =
     (same, (length whole, omega arith, same ∙ ap (λ t. Some (bytes ++ t)) (sym (take-length whole))))
 
 -- what was put of a text for which there was no fault
-all_put : {T : Type 0} (mid new : Option (List ℕ)) (x : List ℕ) (value : T) → Tells {T = T} mid new x (Ok value) → IfSome mid (λ bytes. new ≡ Some (bytes ++ x))
+pub all_put : {T : Type 0} (mid new : Option (List ℕ)) (x : List ℕ) (value : T) → Tells {T = T} mid new x (Ok value) → IfSome mid (λ bytes. new ≡ Some (bytes ++ x))
 all_put None new x value h = tt
 all_put (Some bytes) new x value h = h.0
 
@@ -124,7 +125,7 @@ nothing : (mid : Option (List ℕ)) → IfSome mid (λ bytes. GainsPart bytes mi
 nothing None = tt
 nothing (Some bytes) = (0, omega arith, ap Some (sym (append-nil bytes)))
 
-joined : (old mid new : Option (List ℕ)) (text x : List ℕ) → IfSome old (λ bytes. mid ≡ Some (bytes ++ text)) → IfSome mid (λ bytes. new ≡ Some (bytes ++ x)) → IfSome old (λ bytes. new ≡ Some (bytes ++ (text ++ x)))
+pub joined : (old mid new : Option (List ℕ)) (text x : List ℕ) → IfSome old (λ bytes. mid ≡ Some (bytes ++ text)) → IfSome mid (λ bytes. new ≡ Some (bytes ++ x)) → IfSome old (λ bytes. new ≡ Some (bytes ++ (text ++ x)))
 joined None mid new text x put all = tt
 joined (Some bytes) mid new text x put all =
     subst (λ m. IfSome m (λ b. new ≡ Some (b ++ x))) put all ∙ ap Some (append_assoc bytes text x)
@@ -171,7 +172,7 @@ none_left [] zero is = refl
 none_left [] (suc n) is = refl
 none_left (b ∷ left) n is = absurd cc
 
-goes : (on b : Bool) → on ≡ true → on ≡ not b → b ≡ false
+pub goes : (on b : Bool) → on ≡ true → on ≡ not b → b ≡ false
 goes on true is e = absurd cc
 goes on false is e = refl
 

@@ -4,7 +4,7 @@ use Rattle.std.specs.Prelude.{ℕ, ◌+◌, ◌^◌, ◌&&◌, Bool, List, [], �
 use Rattle.number_text.specs.Numbers.{number_of}
 use Rattle.text_parts.specs.Parts.{words_of}
 use Rattle.sve_debug.specs.declared.command.Command.{Command}
-use Rattle.sve_debug.specs.declared.command.Command.TheVariants.{Step, Go, Break, Show, Quit}
+use Rattle.sve_debug.specs.declared.command.Command.TheVariants.{Step, Go, Back, Break, Show, Quit}
 use Rattle.sve_debug.specs.declared.command.Part.TheVariants.{General, Vector, Predicate, Memory, Place, Stack, Flags, FirstFault, Past}
 
 -- ---- words
@@ -43,6 +43,7 @@ abbrev pub with_number : (name number : List ℕ) → Option Command
 with_number name number =
     if bytes_eq name (codes "step") then option_map Step (number_in 1 1000000 number)
     else if bytes_eq name (codes "go") then option_map Go (number_in 1 100000000 number)
+    else if bytes_eq name (codes "back") then option_map Back (number_in 1 100000000 number)
     else if bytes_eq name (codes "break") then option_map Break (number_of number)
     else if bytes_eq name (codes "x") then option_map general (number_in 0 30 number)
     else if bytes_eq name (codes "z") then option_map vector (number_in 0 31 number)

@@ -1,6 +1,6 @@
 -- What a debugging session answers: a fold over its lines, over the machine after so many steps from the start.
-use Rattle.std.specs.Prelude.{ℕ, zero, suc, ◌+◌, ◌-◌, ◌/◌, ◌||◌, Bool, true, false, List, [], ◌∷◌, ◌++◌, length, drop, take, Option, Some, None, is_some, nat_eq, nat_lt, codes, decimal, cond, if◌then◌else◌}
-use Rattle.std.specs.List.{flat_map, list_any, range_with_len}
+use Rattle.std.specs.Prelude.{ℕ, zero, suc, ◌+◌, ◌-◌, ◌/◌, ◌||◌, Bool, true, false, List, [], ◌∷◌, ◌++◌, length, drop, take, Option, Some, None, is_some, nat_eq, nat_lt, nat_le, codes, decimal, cond, if◌then◌else◌}
+use Rattle.std.specs.List.{flat_map, list_any, prefix_len, range_with_len}
 use Rattle.guest_types.specs.Elements.{Flags, bit}
 use Rattle.machine_model.specs.Machine.{State, Step as OneStep, Went, Ended, Stopped, x_at, z_at, p_at}
 use Rattle.machine_model.specs.OneStep.{step}
@@ -9,23 +9,27 @@ use Rattle.machine_model.specs.OutcomeText.{line_feed, outcome_text}
 use Rattle.number_text.specs.Hexadecimal.{hex_digits, hex_text}
 use Rattle.machine_model.specs.DumpText.{dump_text}
 use Rattle.sve_debug.specs.declared.command.Command.{Command}
-use Rattle.sve_debug.specs.declared.command.Command.TheVariants.{Step, Go, Break, Show, Quit}
+use Rattle.sve_debug.specs.declared.command.Command.TheVariants.{Step, Go, Back, Break, Show, Quit}
 use Rattle.sve_debug.specs.declared.command.Part.{Part}
 use Rattle.sve_debug.specs.declared.command.Part.TheVariants as parts
 use Rattle.sve_debug.specs.Lines.{command_of}
+use Rattle.debug_history.specs.Kept.{counted, first_of, last_of as last_count}
 
--- The state of a session: the machine after the steps that were done, how it ended or stopped, where it did, the place of each
--- step in order, and the breakpoints in the order in which they were set.
+-- The state of a session: the machine from which it started, the machine after the steps that were done, how it ended or
+-- stopped, where it did, the place of each step in order, after a way back only of those from the count on to which it led, the
+-- breakpoints in the order in which they were set, and the counts of steps that are kept.
 pub record Session : Type 0 where
+  pub start : State
   pub state : State
   pub steps : ℕ
   pub over : Option Outcome
   pub places : List ℕ
   pub breaks : List ℕ
+  pub counts : List ℕ
 
 -- before the first line
 abbrev pub started : State → Session
-started s = record { state = s; steps = 0; over = None; places = []; breaks = [] }
+started s = record { start = s; state = s; steps = 0; over = None; places = []; breaks = []; counts = 0 ∷ [] }
 
 -- ---- steps
 
@@ -60,6 +64,53 @@ steps_to breaks (suc n) d =
     if is_some d.over then d
     else if is_break breaks (stepped d).state.pc then stepped d
     else steps_to breaks n (stepped d)
+
+-- after so many steps of a session that has no breakpoint, from its first one on
+abbrev pub session_at : State → ℕ → Session
+session_at s n = steps_to [] n (started s)
+
+-- ---- the counts that are kept
+
+abbrev pub with_counts : List ℕ → Session → Session
+with_counts counts d = record d { counts = counts }
+
+-- the counts after so many steps more
+unfoldable pub counted_over : (steps n : ℕ) → List ℕ → List ℕ
+counted_over steps zero counts = counts
+counted_over steps (suc n) counts = counted_over (steps + 1) n (counted (steps + 1) counts)
+
+-- a session after steps, with its counts
+abbrev pub counted_since : Session → Session → Session
+counted_since d e = with_counts (counted_over d.steps (e.steps - d.steps) d.counts) e
+
+-- at most n steps, as `steps_to`
+abbrev pub counted_steps : List ℕ → ℕ → Session → Session
+counted_steps breaks n d = counted_since d (steps_to breaks n d)
+
+-- ---- steps back
+
+-- So many steps back lead before the first step, or before the first count that is kept.
+abbrev pub is_too_far : (n steps : ℕ) → (counts : List ℕ) → Bool
+is_too_far n steps counts = nat_lt steps n || nat_lt (steps - n) (first_of counts)
+
+-- the counts up to one
+abbrev pub counts_to : (target : ℕ) → List ℕ → List ℕ
+counts_to target counts = take (prefix_len (λ k. nat_le k target) counts) counts
+
+-- the session at the target, whose places are told from a count on, where these are the counts and the breakpoints
+abbrev pub back_at : State → (count target : ℕ) → (counts breaks : List ℕ) → Session
+back_at s count target counts breaks =
+    record (session_at s target) { places = drop count (session_at s target).places; breaks = breaks; counts = counts }
+
+-- Back to the machine after the target number of steps. The counts above it are kept no longer, and the places are told from
+-- the last of the others on.
+abbrev pub gone_back : (target : ℕ) → Session → Session
+gone_back target d =
+    let counts = counts_to target d.counts in
+    back_at d.start (last_count counts) target counts d.breaks
+
+abbrev pub after_back : ℕ → Session → Session
+after_back n d = if is_too_far n d.steps d.counts then d else gone_back (d.steps - n) d
 
 -- ---- texts
 
@@ -132,8 +183,9 @@ part_text parts.Past s last = flat_map place_text last
 
 -- the session after a command
 abbrev pub after_command : Command → Session → Session
-after_command (Step n) d = steps_to [] n d
-after_command (Go n) d = steps_to d.breaks n d
+after_command (Step n) d = counted_steps [] n d
+after_command (Go n) d = counted_steps d.breaks n d
+after_command (Back n) d = after_back n d
 after_command (Break a) d = record d { breaks = with_break a d.breaks }
 after_command (Show _) d = d
 after_command Quit d = d
@@ -142,6 +194,7 @@ after_command Quit d = d
 abbrev pub command_text : Command → (before after : Session) → List ℕ
 command_text (Step n) d e = stand_text e.state e.steps e.over
 command_text (Go n) d e = stand_text e.state e.steps e.over
+command_text (Back n) d e = if is_too_far n d.steps d.counts then line (codes "too far") else stand_text e.state e.steps e.over
 command_text (Break a) d e = break_text a d.breaks
 command_text (Show part) d e = part_text part d.state (last_of most_places d.places)
 command_text Quit d e = []

@@ -1,5 +1,5 @@
 -- Sessions over an input.
-use Rattle.std.specs.Prelude.{◌≡◌, ℕ, Bool, false, List, [], ◌∷◌, ◌++◌, take, Option, Some, IfSome, OnOk, Result, nat_eq, if◌then◌else◌}
+use Rattle.std.specs.Prelude.{◌≡◌, ℕ, Bool, false, List, [], ◌∷◌, ◌++◌, take, Option, Some, IfSome, OnOk, Result, All, nat_eq, if◌then◌else◌}
 use Rattle.io_edges.specs.Sink.{GainsPart}
 use Rattle.sve_debug.specs.declared.session.SessionFault.{SessionFault}
 use Rattle.text_parts.specs.Parts.{lines_of}
@@ -33,3 +33,27 @@ turn_text line byte d = if is_end byte then line_text line d else []
 
 abbrev pub ends : List ℕ → ℕ → Bool
 ends line byte = if is_end byte then quits line else false
+
+-- ---- answers as they come
+
+-- the bytes of some lines, each with the line feed that ends it
+abbrev pub ended_lines : List (List ℕ) → List ℕ
+ended_lines [] = []
+ended_lines (line ∷ lines) = line ++ 10 ∷ ended_lines lines
+
+abbrev pub HasNoEnd : List ℕ → Type 0
+HasNoEnd line = All (λ (b : ℕ). is_end b ≡ false) line
+
+-- Of these bytes some lines were taken and a part of one more, and those are left; the output has gained the replies to the lines.
+pub record IsAnswered (d : Session) (bytes left old new : List ℕ) : Type 0 where
+  pub lines : List (List ℕ)
+  pub each : All HasNoEnd lines
+  pub part : List ℕ
+  pub no_end : HasNoEnd part
+  pub taken : bytes ≡ ended_lines lines ++ (part ++ left)
+  pub answers : new ≡ old ++ replies d lines
+
+-- the same of an output and an input where they are told
+abbrev pub AsItCame : Session → (bytes : List ℕ) → (left old new : Option (List ℕ)) → Type 0
+AsItCame d bytes left old new =
+    IfSome left (λ rest. IfSome old (λ before. (text : List ℕ) × (new ≡ Some text) × IsAnswered d bytes rest before text))

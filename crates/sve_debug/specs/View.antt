@@ -1,7 +1,7 @@
 -- What the reader of lines gives.
-use Rattle.std.specs.Prelude.{◌+◌, ◌^◌, ◌≤◌, []}
+use Rattle.std.specs.Prelude.{◌+◌, ◌^◌, ◌≤◌}
 use Rattle.sve_debug.specs.declared.command.Command.{Command}
-use Rattle.sve_debug.specs.declared.command.Command.TheVariants.{Step, Go, Break, Show, Quit}
+use Rattle.sve_debug.specs.declared.command.Command.TheVariants.{Step, Go, Back, Break, Show, Quit}
 use Rattle.sve_debug.specs.declared.command.Part.{Part}
 use Rattle.sve_debug.specs.declared.command.Part.TheVariants.{General, Vector, Predicate, Memory}
 
@@ -17,6 +17,7 @@ IsPart _ = Unit {0}
 abbrev pub IsWithin : Command → Type 0
 IsWithin (Step n) = n ≤ 100000000
 IsWithin (Go n) = n ≤ 100000000
+IsWithin (Back n) = 1 ≤ n
 IsWithin (Break a) = Unit {0}
 IsWithin (Show part) = IsPart part
 IsWithin Quit = Unit {0}

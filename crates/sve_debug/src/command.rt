@@ -30,6 +30,8 @@ pub enum Command {
     Step(u64),
     /// Up to so many steps, and none after one that comes to a breakpoint.
     Go(u64),
+    /// So many steps back.
+    Back(u64),
     /// A breakpoint at an address.
     Break(u64),
     /// To be shown a part of the machine.

@@ -4,17 +4,20 @@ ghost use Rattle.std.specs.Prelude.{◌≡◌, [], ◌-◌, ◌+◌, ◌^◌, �
 ghost use Rattle.io_edges.specs.Sink.{PutsText, HasCause};
 ghost use Rattle.machine_model.specs.Machine.{State};
 ghost use Rattle.sve_debug.specs.Held.{Stands, held_stand, answer_text, with_breaks};
-ghost use Rattle.sve_debug.specs.Replies.{Session, started, steps_to, is_break, with_break, break_text, part_text, after_command, command_text, after_line, line_text, quits};
+ghost use Rattle.sve_debug.specs.Replies.{Session, started, counted_steps, is_too_far, after_back, is_break, with_break, break_text, part_text, after_command, command_text, after_line, line_text, quits};
 ghost use Rattle.sve_debug.specs.View.{IsPart, IsWithin};
+ghost use Rattle.debug_history.specs.Kept.{counts_of};
 
 use crate::command::{Command, Part};
+use crate::kept_run::run_kept;
 use crate::line::command_of;
 use crate::put::{put_dump, put_end, put_line, put_named, put_place, put_places, put_stop};
 use crate::run::{Places, run};
 use crate::show::{put_first_fault, put_flags, put_general, put_predicate, put_vector};
 use arrayvec::ArrayVec;
+use debug_history::history;
+use debug_history::keepable::Keepable;
 use io_edges::sink::{Failed, Sink};
-use machine_model::debuggee::Debuggee;
 use machine_model::outcome::Ending;
 use std::alloc::{AllocError, Global};
 use std::marker::Model;
@@ -22,25 +25,27 @@ use std::marker::Model;
 /// A machine that is run step by step by the lines of a session, and looked at between them. From `new` on it takes no
 /// memory.
 #[derive(Drop)]
-pub struct Debugger<D: Debuggee> {
+pub struct Debugger<D: Keepable> {
     machine: D,
     places: Places,
     breaks: ArrayVec<u64, 16>,
     over: Option<Ending>,
 }
 
-impl<D: Debuggee> Model for Debugger<D> {
-    ghost use Rattle.std.specs.Prelude.{◌≡◌};
-    ghost use Rattle.sve_debug.specs.Held.{Held, held_by};
+impl<D: Keepable> Model for Debugger<D> {
+    ghost use Rattle.std.specs.Prelude.{◌≡◌, ◌≤◌, All, IsTrue, length};
+    ghost use Rattle.sve_debug.specs.Held.{Held, IsTwin, held_by};
 
     ghost Value = { Held };
 
     ghost view = { λ d. held_by (D.view_of d.machine) d.breaks.items d.places.items };
 
-    ghost invariant = { λ d. (d.over ≡ (D.view_of d.machine).over) × (d.places.capacity ≡ 64) };
+    ghost invariant = { λ d. (d.over ≡ (D.view_of d.machine).over) × (d.places.capacity ≡ 64)
+        × IsTrue (D.view_of d.machine).quiet × (1 ≤ length (D.view_of d.machine).past)
+        × All (IsTwin (D.view_of d.machine)) (D.view_of d.machine).past };
 }
 
-impl<D: Debuggee> Debugger<D> {
+impl<D: Keepable> Debugger<D> {
     /// A session that begins with this machine, which has done no step. A refusal drops the machine.
     pub fn new(alloc: Global, machine: D) -> Result<Debugger<D>, AllocError>
         requires steps { (D.view_of machine).steps ≡ 0 }
@@ -49,6 +54,8 @@ impl<D: Debuggee> Debugger<D> {
         ensures { let start = (D.view_of machine).state in IfOk result (λ d. Stands d start (started start)) }
     {
         let places = Places::with_capacity(alloc, 64)?;
+        let mut machine = machine;
+        machine.begin(alloc)?;
         Ok(Debugger {
             machine,
             places,
@@ -61,21 +68,43 @@ impl<D: Debuggee> Debugger<D> {
     fn take_steps(&mut self, most: u64)
         requires { self.old.machine.steps + most < 2 ^ 64 }
         ensures session { (start : State) (d : Session) → Stands self.old start d →
-            Stands self.new start (steps_to [] most d) }
+            Stands self.new start (counted_steps [] most d) }
         ensures steps { self.new.machine.steps ≤ self.old.machine.steps + most }
     {
-        self.over = run(&mut self.machine, &mut self.places, self.over, &[], most);
+        self.over = run_kept(&mut self.machine, &mut self.places, self.over, &[], most);
     }
 
     // Up to so many steps, and none after one that comes to a breakpoint.
     fn go(&mut self, most: u64)
         requires { self.old.machine.steps + most < 2 ^ 64 }
         ensures session { (start : State) (d : Session) → Stands self.old start d →
-            Stands self.new start (steps_to d.breaks most d) }
+            Stands self.new start (counted_steps d.breaks most d) }
         ensures steps { self.new.machine.steps ≤ self.old.machine.steps + most }
     {
         let stops = self.breaks.as_slice();
-        self.over = run(&mut self.machine, &mut self.places, self.over, stops, most);
+        self.over = run_kept(&mut self.machine, &mut self.places, self.over, stops, most);
+    }
+
+    // So many steps back, and answers whether they were done.
+    fn back(&mut self, count: u64) -> bool
+        requires { 1 ≤ count }
+        ensures gone { result ≡ not (is_too_far count self.old.machine.steps (counts_of self.old.machine.past)) }
+        ensures session { (start : State) (d : Session) → Stands self.old start d →
+            Stands self.new start (after_back count d) }
+        ensures steps { self.new.machine.steps ≤ self.old.machine.steps }
+    {
+        let steps = self.machine.steps_done();
+        if steps < count {
+            return false;
+        }
+        let target = steps - count;
+        if !history::back(&mut self.machine, target) {
+            return false;
+        }
+        self.places.clear();
+        let left = target - self.machine.steps_done();
+        self.over = run(&mut self.machine, &mut self.places, None, &[], left);
+        true
     }
 
     // Holds a breakpoint, and answers whether it does.
@@ -139,6 +168,22 @@ impl<D: Debuggee> Debugger<D> {
         }
     }
 
+    // Goes so many steps back, and puts where the machine stands then, or that this is too far.
+    fn put_back<S: Sink>(&mut self, count: u64, out: &mut S) -> Result<(), Failed>
+        requires { 1 ≤ count }
+        ensures session { (start : State) (d : Session) → Stands self.old start d →
+            Stands self.new start (after_back count d) }
+        ensures steps { self.new.machine.steps ≤ self.old.machine.steps }
+        ensures text { let text = answer_text (Command.Back count) self.old self.new in
+            PutsText (S.taken out.old) (S.taken out.new) (S.faults out.old) (S.faults out.new) text result }
+    {
+        if self.back(count) {
+            self.put_stand(out)
+        } else {
+            put_line(out, b"too far", b"", b"", b"")
+        }
+    }
+
     // Does what a command asks for, and puts what it answers.
     fn answer<S: Sink>(&mut self, command: Command, out: &mut S) -> Result<(), Failed>
         requires few { self.old.machine.steps ≤ 2 ^ 64 - 100000001 }
@@ -158,6 +203,7 @@ impl<D: Debuggee> Debugger<D> {
                 self.go(most);
                 self.put_stand(out)
             }
+            Command::Back(count) => self.put_back(count, out),
             Command::Break(address) => self.put_break(address, out),
             Command::Show(part) => self.put_part(part, out),
             Command::Quit => Ok(()),

@@ -4,10 +4,9 @@
 pub mod command;
 pub mod debugger;
 mod digits;
+mod kept_run;
 mod line;
 mod put;
 mod run;
 pub mod session;
 mod show;
-#[cfg(test)]
-mod tests;

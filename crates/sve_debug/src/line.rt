@@ -11,6 +11,7 @@ use text_parts::cut;
 // The number that a word spells, from one number to another.
 fn number_in(least: u64, most: u64, word: &[u8]) -> Option<u64>
     ensures value { result ≡ number_in least most word.now }
+    ensures least { IfSome result (λ n. least ≤ n) }
     ensures most { IfSome result (λ n. n ≤ most) }
 {
     let n = number(word)?;
@@ -59,6 +60,10 @@ fn with_number(name: &[u8], word: &[u8]) -> Option<Command>
     if name == b"go".as_slice() {
         let count = number_in(1, 100_000_000, word)?;
         return Some(Command::Go(count));
+    }
+    if name == b"back".as_slice() {
+        let count = number_in(1, 100_000_000, word)?;
+        return Some(Command::Back(count));
     }
     if name == b"break".as_slice() {
         let address = number(word)?;

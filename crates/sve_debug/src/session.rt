@@ -1,16 +1,16 @@
 //! A session: the lines of an input, answered as they come.
 
-ghost use Rattle.std.specs.Prelude.{◌≡◌, ◌≢◌, ◌+◌, ◌*◌, ◌-◌, ◌^◌, ◌≤◌, ◌++◌, ◌∷◌, [], List, ℕ, drop, slice_get, not, Some, Err, IfOk, IfErr, IfSome, OnOk, IsErrOf};
+ghost use Rattle.std.specs.Prelude.{◌≡◌, ◌≢◌, ◌+◌, ◌*◌, ◌-◌, ◌^◌, ◌≤◌, ◌++◌, ◌∷◌, [], List, ℕ, drop, slice_get, not, Some, Err, IfOk, IfErr, IfSome, OnOk, OnErr, IsErrOf};
 ghost use Rattle.io_edges.specs.Files.{Rose};
 ghost use Rattle.machine_model.specs.Machine.{State};
 ghost use Rattle.sve_debug.specs.Held.{Stands};
 ghost use Rattle.sve_debug.specs.Replies.{Session, after_line, line_text, quits};
-ghost use Rattle.sve_debug.specs.Sessions.{Tells, session_text, turned, turn_text, pending, ends};
+ghost use Rattle.sve_debug.specs.Sessions.{Tells, session_text, turned, turn_text, pending, ends, AsItCame};
 
 use crate::debugger::Debugger;
+use debug_history::keepable::Keepable;
 use io_edges::sink::{Failed, Sink};
 use io_edges::source::Source;
-use machine_model::debuggee::Debuggee;
 use std::alloc::Global;
 
 /// What a session fails by.
@@ -31,6 +31,7 @@ const LIMIT: u64 = 1_048_576;
 fn next<I: Source>(input: &mut I) -> Result<Option<u8>, SessionFault>
     ensures byte { IfSome (I.left input.old) (λ bytes. IfOk result (λ byte. byte ≡ slice_get bytes 0)) }
     ensures left { IfSome (I.left input.old) (λ bytes. OnOk result (I.left input.new ≡ Some (drop 1 bytes))) }
+    ensures unread { IfSome (I.left input.old) (λ bytes. OnErr result (I.left input.new ≡ Some bytes)) }
     ensures later { I.faults input.old ≤ I.faults input.new }
     ensures input { IsErrOf result SessionFault.Input → Rose (I.faults input.old) (I.faults input.new) }
     ensures output { result ≢ Err SessionFault.Output }
@@ -44,7 +45,7 @@ fn next<I: Source>(input: &mut I) -> Result<Option<u8>, SessionFault>
 }
 
 // Answers a line.
-fn tell<D: Debuggee, S: Sink>(
+fn tell<D: Keepable, S: Sink>(
     debugger: &mut Debugger<D>,
     line: &[u8],
     out: &mut S,
@@ -77,7 +78,7 @@ fn push(line: &mut Vec<u8>, byte: u8) -> Result<(), SessionFault>
 }
 
 // Takes a byte, which belongs to the line that is pending or ends it, and says whether the session goes on.
-fn turn<D: Debuggee, S: Sink>(
+fn turn<D: Keepable, S: Sink>(
     debugger: &mut Debugger<D>,
     line: &mut Vec<u8>,
     byte: u8,
@@ -105,7 +106,7 @@ fn turn<D: Debuggee, S: Sink>(
 }
 
 // Answers the last line.
-fn finish<D: Debuggee, S: Sink>(
+fn finish<D: Keepable, S: Sink>(
     debugger: &mut Debugger<D>,
     line: &[u8],
     out: &mut S,
@@ -123,7 +124,7 @@ fn finish<D: Debuggee, S: Sink>(
 }
 
 // Answers the lines of an input, the first of which begins with no bytes.
-fn answer_lines<D: Debuggee, I: Source, S: Sink>(
+fn answer_lines<D: Keepable, I: Source, S: Sink>(
     debugger: &mut Debugger<D>,
     line: &mut Vec<u8>,
     input: &mut I,
@@ -133,6 +134,8 @@ fn answer_lines<D: Debuggee, I: Source, S: Sink>(
     requires empty { line.old.items ≡ [] }
     ensures told { (start : State) (d : Session) → Stands debugger.old start d →
         IfSome (I.left input.old) (λ bytes. Tells (S.taken out.old) (S.taken out.new) (session_text d bytes) result) }
+    ensures as_it_comes { (start : State) (d : Session) → Stands debugger.old start d → IsErrOf result SessionFault.Input →
+        IfSome (I.left input.old) (λ bytes. AsItCame d bytes (I.left input.new) (S.taken out.old) (S.taken out.new)) }
     ensures output { IsErrOf result SessionFault.Output → Rose (S.faults out.old) (S.faults out.new) }
     ensures input { IsErrOf result SessionFault.Input → Rose (I.faults input.old) (I.faults input.new) }
 {
@@ -150,7 +153,7 @@ fn answer_lines<D: Debuggee, I: Source, S: Sink>(
 
 /// Answers the lines of an input, each as it comes, up to one that ends the session, to the end of the input, or to the
 /// last of the bytes that are taken at most. What is left of a line then is a line too.
-pub fn session<D: Debuggee, I: Source, S: Sink>(
+pub fn session<D: Keepable, I: Source, S: Sink>(
     alloc: Global,
     debugger: &mut Debugger<D>,
     input: &mut I,
@@ -159,6 +162,8 @@ pub fn session<D: Debuggee, I: Source, S: Sink>(
     requires { debugger.old.machine.steps ≡ 0 }
     ensures told { (start : State) (d : Session) → Stands debugger.old start d →
         IfSome (I.left input.old) (λ bytes. Tells (S.taken out.old) (S.taken out.new) (session_text d bytes) result) }
+    ensures as_it_comes { (start : State) (d : Session) → Stands debugger.old start d → IsErrOf result SessionFault.Input →
+        IfSome (I.left input.old) (λ bytes. AsItCame d bytes (I.left input.new) (S.taken out.old) (S.taken out.new)) }
     ensures output { IsErrOf result SessionFault.Output → Rose (S.faults out.old) (S.faults out.new) }
     ensures input { IsErrOf result SessionFault.Input → Rose (I.faults input.old) (I.faults input.new) }
 {

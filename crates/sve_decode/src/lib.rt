@@ -107,6 +107,3 @@ fn compare_of(word: u32) -> Option<Sve>
         size: Size::at(word, 22),
     })
 }
-
-#[cfg(test)]
-mod tests;

@@ -6,9 +6,7 @@ ghost use Rattle.sve_code.specs.Table.{row, load, load_first_fault, load_no_faul
 ghost use Rattle.sve_code.specs.View.{instruction_view};
 ghost use Rattle.sve_decode.specs.Groups.{loads};
 
-use sve_code::bases::{
-    GLD1B, GLD1D, GLD1H, GLD1SB, GLD1SH, GLD1SW, GLD1W, LD1, LDFF1, LDNF1, ST1,
-};
+use sve_code::bases::{GLD1B, GLD1D, GLD1H, GLD1SB, GLD1SH, GLD1SW, GLD1W, LD1, LDFF1, LDNF1, ST1};
 use sve_code::{Dtype, GatherOp, OffsetReg, Size, StoreSizes, Sve};
 use word_rows::{Bits, field};
 

@@ -8,3 +8,4 @@ pub mod LaneRows
 pub mod Loads
 pub mod PredicateRows
 pub mod RowAnswers
+pub mod PastLaws

@@ -4,3 +4,4 @@ pub mod VectorStates
 pub mod View
 pub mod Rows
 pub mod Kinds
+pub mod Pasts

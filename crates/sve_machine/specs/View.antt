@@ -1,5 +1,5 @@
 -- What contracts see of a machine.
-use Rattle.std.specs.Prelude.{◌≡◌, ℕ, ◌+◌, ◌<◌, Option, Some}
+use Rattle.std.specs.Prelude.{◌≡◌, ℕ, ◌+◌, ◌<◌, List, Option, Some}
 use Rattle.guest_types.specs.Memory.{Memory}
 use Rattle.machine_model.specs.declared.outcome.Ending.{Ending}
 use Rattle.machine_model.specs.declared.outcome.Step.{Step as StepAnswer}
@@ -10,13 +10,14 @@ use Rattle.machine_model.specs.Machine.{State}
 use Rattle.machine_model.specs.OneStep.{step}
 use Rattle.machine_model.specs.Run.{after_steps}
 use Rattle.machine_model.specs.Answers.{IsAnswer}
-use Rattle.machine_model.specs.Debugged.{View, is_never}
+use Rattle.machine_model.specs.Debugged.{Past, View, is_never}
 use Rattle.a64_machine.specs.Cores.{VectorState, state_of}
 use Rattle.a64_machine.specs.declared.core_state.Core.{Core}
 
 -- what is seen of the parts of a machine
-abbrev pub view_of : Core → Memory → VectorState → (steps : ℕ) → Option Ending → View
-view_of core memory rest steps over = record { state = state_of core memory rest; steps = steps; over = over; quiet = is_never rest.stops }
+abbrev pub view_of : Core → Memory → VectorState → (steps : ℕ) → Option Ending → (past : List Past) → View
+view_of core memory rest steps over past =
+    record { state = state_of core memory rest; steps = steps; over = over; quiet = is_never rest.stops; past = past }
 
 -- the part of a state that A64 instructions leave alone
 abbrev pub vector_part : State → VectorState

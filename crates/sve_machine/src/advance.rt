@@ -26,9 +26,10 @@ fn execute_other(
     answer: &mut Step,
 ) -> bool
     requires { IsOther kept.now }
-    ensures { let before = state_of core.old pages.old vectors.old in
+    ensures answer { let before = state_of core.old pages.old.memory vectors.old in
         IsAnswer (kept_does kept.now before) (said result answer.new) before
-        (state_of core.new pages.new vectors.new) }
+        (state_of core.new pages.new.memory vectors.new) }
+    ensures past { pages.new.past ≡ pages.old.past }
 {
     match *kept {
         Kept::Vector(word) => vector_goes(core, pages, vectors, word, answer),
@@ -47,9 +48,10 @@ fn execute<const CALLER: usize>(
     kept: &Kept,
     answer: &mut Step,
 ) -> bool
-    ensures { let before = state_of core.old pages.old vectors.old in
+    ensures answer { let before = state_of core.old pages.old.memory vectors.old in
         IsAnswer (kept_does kept.now before) (said result answer.new) before
-        (state_of core.new pages.new vectors.new) }
+        (state_of core.new pages.new.memory vectors.new) }
+    ensures past { pages.new.past ≡ pages.old.past }
 {
     match kept {
         Kept::Ready(prepared) => prepared_goes::<CALLER>(core, pages, prepared, answer),
@@ -67,10 +69,11 @@ pub fn advance<const CALLER: usize>(
     kept: &mut [Entry; 1024],
     answer: &mut Step,
 ) -> bool
-    requires kept { All (Keeps pages.old) kept.old }
-    ensures answer { let before = state_of core.old pages.old vectors.old in
-        IsAnswer (step before) (said result answer.new) before (state_of core.new pages.new vectors.new) }
-    ensures kept { All (Keeps pages.new) kept.new }
+    requires kept { All (Keeps pages.old.memory) kept.old }
+    ensures answer { let before = state_of core.old pages.old.memory vectors.old in
+        IsAnswer (step before) (said result answer.new) before (state_of core.new pages.new.memory vectors.new) }
+    ensures kept { All (Keeps pages.new.memory) kept.new }
+    ensures past { pages.new.past ≡ pages.old.past }
 {
     let pc = core.pc;
     if !look_up(pages, kept, pc, answer) {
@@ -94,11 +97,12 @@ pub fn go(
     kept: &mut [Entry; 1024],
     steps: u64,
 ) -> (Step, u64)
-    requires kept { All (Keeps pages.old) kept.old }
-    ensures leaves { Leaves result.0 steps result.1 (state_of core.old pages.old vectors.old)
-        (state_of core.new pages.new vectors.new) }
+    requires kept { All (Keeps pages.old.memory) kept.old }
+    ensures leaves { Leaves result.0 steps result.1 (state_of core.old pages.old.memory vectors.old)
+        (state_of core.new pages.new.memory vectors.new) }
     ensures few { result.1 ≤ steps }
-    ensures kept { All (Keeps pages.new) kept.new }
+    ensures kept { All (Keeps pages.new.memory) kept.new }
+    ensures past { pages.new.past ≡ pages.old.past }
 {
     let mut answer = Step::Went;
     for done in 0..steps {

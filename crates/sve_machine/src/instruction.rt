@@ -4,7 +4,7 @@ use a64_code::A64;
 use sve_code::Sve;
 
 /// An instruction of either table.
-#[derive(Clone, Copy, Debug, PartialEq, Eq)]
+#[derive(Clone, Copy)]
 pub enum Instruction {
     Scalar(A64),
     Vector(Sve),

@@ -4,7 +4,9 @@
 mod advance;
 mod debugged;
 mod decoding;
+mod history;
 mod instruction;
+mod keeping;
 mod kept;
 mod lanes;
 mod look_up;
@@ -14,10 +16,8 @@ mod operations;
 mod predicates;
 mod ready;
 mod scalars;
+mod snapshot;
 mod vector_step;
 mod vectors;
 
 pub use machine::Machine;
-
-#[cfg(test)]
-mod tests;

@@ -38,10 +38,10 @@ pub fn stop(kind: StopKind, pc: u64, at: u64, answer: &mut Step) -> bool
 #[cold]
 #[inline(never)]
 fn fill(pages: &Pages, kept: &mut [Entry; 1024], pc: u64, answer: &mut Step) -> bool
-    requires kept { All (Keeps pages.now) kept.old }
-    ensures kept { All (Keeps pages.now) kept.new }
-    ensures found { (d : Entry) → IsTrue result → Holds pages.now pc (slice_index_or kept.new (pc / 4 % 1024) d) }
-    ensures stopped { (s : State) → result ≡ false → s.memory ≡ pages.now → s.pc ≡ pc
+    requires kept { All (Keeps pages.now.memory) kept.old }
+    ensures kept { All (Keeps pages.now.memory) kept.new }
+    ensures found { (d : Entry) → IsTrue result → Holds pages.now.memory pc (slice_index_or kept.new (pc / 4 % 1024) d) }
+    ensures stopped { (s : State) → result ≡ false → s.memory ≡ pages.now.memory → s.pc ≡ pc
         → IsAnswer (step s) answer.new s s }
 {
     let Some(word) = pages.fetch(pc) else {
@@ -63,10 +63,10 @@ fn fill(pages: &Pages, kept: &mut [Entry; 1024], pc: u64, answer: &mut Step) -> 
 /// the answer there.
 #[inline(always)]
 pub fn look_up(pages: &Pages, kept: &mut [Entry; 1024], pc: u64, answer: &mut Step) -> bool
-    requires kept { All (Keeps pages.now) kept.old }
-    ensures kept { All (Keeps pages.now) kept.new }
-    ensures found { (d : Entry) → IsTrue result → Holds pages.now pc (slice_index_or kept.new (pc / 4 % 1024) d) }
-    ensures stopped { (s : State) → result ≡ false → s.memory ≡ pages.now → s.pc ≡ pc
+    requires kept { All (Keeps pages.now.memory) kept.old }
+    ensures kept { All (Keeps pages.now.memory) kept.new }
+    ensures found { (d : Entry) → IsTrue result → Holds pages.now.memory pc (slice_index_or kept.new (pc / 4 % 1024) d) }
+    ensures stopped { (s : State) → result ≡ false → s.memory ≡ pages.now.memory → s.pc ≡ pc
         → IsAnswer (step s) answer.new s s }
 {
     if kept[(pc / 4 % 1024) as usize].place == pc {

@@ -1,19 +1,22 @@
 //! The machine.
 
-ghost use Rattle.std.specs.Prelude.{◌≡◌, ◌+◌, ◌-◌, ◌^◌, ◌<◌, ◌≤◌, None, IfSome, IsTrue, true, length};
+ghost use Rattle.std.specs.Prelude.{◌≡◌, ◌+◌, ◌-◌, ◌^◌, ◌<◌, ◌≤◌, None, IfSome, IsTrue, OnOk, OnErr, true, [], ◌∷◌, length, take, slice_index_or};
 
 use crate::advance::{OUTSIDE, advance, go};
+use crate::history::History;
 use crate::kept::Entry;
 use crate::look_up::no_words;
+use crate::snapshot::Snapshot;
 use crate::vectors::Vectors;
 use a64_machine::Core;
 use guest_types::length::Vl;
 use lane_memory::suppress::Suppress;
 use machine_model::outcome::{Ending, Outcome, Step};
 use paged_memory::pages::Pages;
+use std::alloc::{AllocError, Global};
 use std::marker::Model;
 
-/// A machine with its memory. From `new` on it takes no memory from the system.
+/// A machine with its memory. From `new` on it takes no memory from the system, but for `begin`.
 #[derive(Drop)]
 pub struct Machine {
     core: Core,
@@ -22,21 +25,23 @@ pub struct Machine {
     kept: [Entry; 1024],
     steps: u64,
     over: Option<Ending>,
+    // What it was beside the past of the pages, where a past was begun.
+    history: Option<History>,
     // Where a step leaves its answer; one made anew would be filled at each step.
     answer: Step,
 }
 
 impl Model for Machine {
-    ghost use Rattle.std.specs.Prelude.{All};
     ghost use Rattle.machine_model.specs.Debugged.{View};
-    ghost use Rattle.sve_machine.specs.Keeping.{Keeps};
+    ghost use Rattle.sve_machine.specs.Pasts.{past_by, rests_of, IsWhole};
     ghost use Rattle.sve_machine.specs.View.{view_of};
 
     ghost Value = { View };
 
-    ghost view = { λ m. view_of m.core m.pages m.vectors m.steps m.over };
+    ghost view = { λ m. view_of m.core m.pages.memory m.vectors m.steps m.over
+        (past_by m.pages.past (rests_of m.history)) };
 
-    ghost invariant = { λ m. All (Keeps m.pages) m.kept };
+    ghost invariant = { λ m. IsWhole m.pages.memory m.pages.past m.kept m.history };
 }
 
 impl Machine {
@@ -44,7 +49,9 @@ impl Machine {
     ghost use Rattle.machine_model.specs.Run.{run, start_of};
     ghost use Rattle.machine_model.specs.OneStep.{step};
     ghost use Rattle.machine_model.specs.Answers.{IsAnswer, outcome_of};
-    ghost use Rattle.machine_model.specs.Debugged.{RunLeaves, is_never, answer_by, ending_by, outcome_by};
+    ghost use Rattle.guest_types.specs.Kept.{kept_more};
+    ghost use Rattle.sve_machine.specs.Pasts.{past_at};
+    ghost use Rattle.machine_model.specs.Debugged.{Past, now, RunLeaves, is_never, answer_by, ending_by, outcome_by};
     ghost use Rattle.a64_machine.specs.Cores.{state_of};
     ghost use Rattle.sve_machine.specs.View.{Leaves, vector_part};
 
@@ -52,10 +59,11 @@ impl Machine {
     /// are zero.
     pub fn new(pages: Pages, entry: u64, args: &[u64], vl: Vl) -> Machine
         requires { length args.now ≤ 8 }
-        ensures state { result.state ≡ start_of pages entry args.now vl never }
+        ensures state { result.state ≡ start_of pages.memory entry args.now vl never }
         ensures steps { result.steps ≡ 0 }
         ensures over { result.over ≡ None }
         ensures quiet { result.quiet ≡ true }
+        ensures past { result.past ≡ [] }
     {
         let machine = Machine::suppressing(pages, entry, args, vl, Suppress::none());
         machine
@@ -65,10 +73,11 @@ impl Machine {
     #[tactic(auto, unfolding(machine_model::specs::Run::start_of), using(crate::proofs::StartRegisters::copied))]
     pub fn suppressing(pages: Pages, entry: u64, args: &[u64], vl: Vl, stops: Suppress) -> Machine
         requires { length args.now ≤ 8 }
-        ensures state { result.state ≡ start_of pages entry args.now vl stops }
+        ensures state { result.state ≡ start_of pages.memory entry args.now vl stops }
         ensures steps { result.steps ≡ 0 }
         ensures over { result.over ≡ None }
         ensures quiet { result.quiet ≡ is_never stops }
+        ensures past { result.past ≡ [] }
     {
         let mut x = [0; 31];
         x[..args.len()].copy_from_slice(args);
@@ -86,6 +95,7 @@ impl Machine {
             kept: no_words(),
             steps: 0,
             over: None,
+            history: None,
             answer: Step::Went,
         }
     }
@@ -98,6 +108,7 @@ impl Machine {
         ensures counted { self.old.steps ≤ self.new.steps }
         ensures over { self.new.over ≡ ending_by result }
         ensures quiet { IsTrue self.old.quiet → IsTrue self.new.quiet }
+        ensures past { self.new.past ≡ self.old.past }
     {
         let (answer, done) = go(
             &mut self.core,
@@ -121,6 +132,7 @@ impl Machine {
         ensures steps { self.old.over ≡ None → self.new.steps ≡ self.old.steps + 1 }
         ensures over { self.old.over ≡ None → self.new.over ≡ ending_by result }
         ensures quiet { IsTrue self.old.quiet → IsTrue self.new.quiet }
+        ensures past { self.new.past ≡ self.old.past }
     {
         if let Some(ending) = self.over {
             return answer_by(ending);
@@ -138,6 +150,7 @@ impl Machine {
         ensures steps { self.new.steps ≡ self.old.steps + 1 }
         ensures over { self.new.over ≡ ending_by result }
         ensures quiet { IsTrue self.old.quiet → IsTrue self.new.quiet }
+        ensures past { self.new.past ≡ self.old.past }
     {
         let went = advance::<OUTSIDE>(
             &mut self.core,
@@ -164,12 +177,92 @@ impl Machine {
         ensures again { IfSome self.old.over (λ ending. result ≡ outcome_by ending steps self.old.state) }
         ensures unchanged { IfSome self.old.over (λ ending. self.new ≡ self.old) }
         ensures quiet { IsTrue self.old.quiet → IsTrue self.new.quiet }
+        ensures past { self.new.past ≡ self.old.past }
     {
         if let Some(ending) = self.over {
             return outcome_by(ending, steps, self.core.x[0]);
         }
         let answer = self.advance(steps);
         outcome_at(answer, self.core.x[0])
+    }
+
+    // All but the memory.
+    fn snapshot(&self) -> Snapshot
+        ensures { past_at self.now.state.memory result ≡ now self.now }
+    {
+        Snapshot {
+            core: self.core,
+            vectors: self.vectors.copy(),
+            steps: self.steps,
+            over: self.over,
+        }
+    }
+
+    /// Takes the memory of a past of eight, and begins it: the machine is kept as it is now.
+    ///
+    /// # Errors
+    /// `AllocError` where there is not that much memory. The machine is then as it was.
+    pub fn begin(&mut self, alloc: Global) -> Result<(), AllocError>
+        ensures now { now self.new ≡ now self.old }
+        ensures begun { OnOk result (self.new.past ≡ now self.old ∷ []) }
+        ensures unchanged { OnErr result (self.new.past ≡ self.old.past) }
+    {
+        let history = History::begun(alloc, self.snapshot())?;
+        self.pages.begin(alloc)?;
+        self.history = Some(history);
+        Ok(())
+    }
+
+    /// Keeps the machine as it is now, in place of the oldest one where eight are kept. It takes no memory.
+    pub fn keep(&mut self)
+        requires { 1 ≤ length self.old.past }
+        ensures now { now self.new ≡ now self.old }
+        ensures past { self.new.past ≡ kept_more (now self.old) self.old.past }
+    {
+        let snapshot = self.snapshot();
+        if let Some(history) = &mut self.history {
+            history.keep(snapshot);
+            self.pages.note();
+        }
+    }
+
+    /// Goes back to one of those that were kept, oldest first. Those after it are kept no longer. It takes no memory.
+    pub fn go_back(&mut self, n: usize)
+        requires { n < length self.old.past }
+        ensures now { (d : Past) → slice_index_or self.old.past n d ≡ now self.new }
+        ensures past { self.new.past ≡ take (n + 1) self.old.past }
+    {
+        if let Some(history) = &mut self.history {
+            let rest = history.at(n);
+            self.core = rest.core;
+            self.vectors = rest.vectors.copy();
+            self.steps = rest.steps;
+            self.over = rest.over;
+            history.cut(n);
+            self.pages.back(n);
+            self.kept = no_words();
+        }
+    }
+
+    /// How many are kept.
+    pub fn kept(&self) -> usize
+        ensures { result ≡ length self.now.past }
+    {
+        match &self.history {
+            Some(history) => history.len(),
+            None => 0,
+        }
+    }
+
+    /// How many steps one of those that are kept had done, oldest first.
+    pub fn kept_steps(&self, n: usize) -> u64
+        requires { n < length self.now.past }
+        ensures { (d : Past) → (slice_index_or self.now.past n d).steps ≡ result }
+    {
+        match &self.history {
+            Some(history) => history.at(n).steps,
+            None => 0,
+        }
     }
 
     /// How many steps were done; one that ended or stopped is counted.
@@ -195,7 +288,7 @@ impl Machine {
 
     /// The memory.
     pub fn pages(&self) -> &Pages
-        ensures { result.now ≡ self.now.state.memory }
+        ensures { result.now.memory ≡ self.now.state.memory }
     {
         &self.pages
     }

@@ -69,9 +69,9 @@ fn load(
 ) -> bool
     ensures { let r = vectors.old in
         IsAnswer
-        (after_load (put_load (load_of mode (dtype_number dtype) base index r.vl pages.now r.stops
-        (p_of r pg.number) r.ffr) zt.number r) core.old pages.now)
-        (said result answer.new) (state_of core.old pages.now r) (state_of core.new pages.now vectors.new) }
+        (after_load (put_load (load_of mode (dtype_number dtype) base index r.vl pages.now.memory r.stops
+        (p_of r pg.number) r.ffr) zt.number r) core.old pages.now.memory)
+        (said result answer.new) (state_of core.old pages.now.memory r) (state_of core.new pages.now.memory vectors.new) }
 {
     let row = load_row(dtype);
     match vectors.load(pages, mode, row, base, index, zt.number, pg.number) {
@@ -95,9 +95,9 @@ pub fn contiguous_load(
     dtype: Dtype,
     answer: &mut Step,
 ) -> bool
-    ensures { let before = state_of core.old pages.now vectors.old in
+    ensures { let before = state_of core.old pages.now.memory vectors.old in
         IsAnswer (do_vector (instruction_view (Sve.ContiguousLoad zt rn pg offset dtype)) before)
-        (said result answer.new) before (state_of core.new pages.now vectors.new) }
+        (said result answer.new) before (state_of core.new pages.now.memory vectors.new) }
 {
     let base = core.register_or_sp(rn);
     let index = offset_of(core, offset);
@@ -127,10 +127,10 @@ pub fn first_fault_load(
     dtype: Dtype,
     answer: &mut Step,
 ) -> bool
-    ensures { let before = state_of core.old pages.now vectors.old in
+    ensures { let before = state_of core.old pages.now.memory vectors.old in
         IsAnswer (do_vector (instruction_view (Sve.FirstFaultLoad zt rn pg rm dtype)) before)
         (said result answer.new) before
-        (state_of core.new pages.now vectors.new) }
+        (state_of core.new pages.now.memory vectors.new) }
 {
     let base = core.register_or_sp(rn);
     let index = core.register(rm);
@@ -159,9 +159,9 @@ pub fn non_fault_load(
     dtype: Dtype,
     answer: &mut Step,
 ) -> bool
-    ensures { let before = state_of core.old pages.now vectors.old in
+    ensures { let before = state_of core.old pages.now.memory vectors.old in
         IsAnswer (do_vector (instruction_view (Sve.NonFaultLoad zt rn pg dtype)) before) (said result answer.new) before
-        (state_of core.new pages.now vectors.new) }
+        (state_of core.new pages.now.memory vectors.new) }
 {
     let base = core.register_or_sp(rn);
     load(
@@ -212,9 +212,9 @@ fn gather(
     requires wide { (load_form row.dtype).element ≡ D }
     ensures { let r = vectors.old in
         IsAnswer
-        (after_load (put_load (gather_of row.dtype base r.vl pages.now r.stops (z_of r zm.number)
-        (p_of r pg.number) r.ffr) zt.number r) core.old pages.now)
-        (said result answer.new) (state_of core.old pages.now r) (state_of core.new pages.now vectors.new) }
+        (after_load (put_load (gather_of row.dtype base r.vl pages.now.memory r.stops (z_of r zm.number)
+        (p_of r pg.number) r.ffr) zt.number r) core.old pages.now.memory)
+        (said result answer.new) (state_of core.old pages.now.memory r) (state_of core.new pages.now.memory vectors.new) }
 {
     match vectors.gather(pages, row, base, zm.number, zt.number, pg.number) {
         Ok(()) => {
@@ -237,9 +237,9 @@ pub fn gather_load(
     zm: VectorReg,
     answer: &mut Step,
 ) -> bool
-    ensures { let before = state_of core.old pages.now vectors.old in
+    ensures { let before = state_of core.old pages.now.memory vectors.old in
         IsAnswer (do_vector (instruction_view (Sve.GatherLoad op zt rn pg zm)) before) (said result answer.new) before
-        (state_of core.new pages.now vectors.new) }
+        (state_of core.new pages.now.memory vectors.new) }
 {
     let base = core.register_or_sp(rn);
     let row = gather_row(op);
@@ -259,9 +259,10 @@ pub fn contiguous_store(
     sizes: StoreSizes,
     answer: &mut Step,
 ) -> bool
-    ensures { let before = state_of core.old pages.old vectors.now in
+    ensures answer { let before = state_of core.old pages.old.memory vectors.now in
         IsAnswer (do_vector (instruction_view (Sve.ContiguousStore zt rn pg offset sizes)) before)
-        (said result answer.new) before (state_of core.new pages.new vectors.now) }
+        (said result answer.new) before (state_of core.new pages.new.memory vectors.now) }
+    ensures past { pages.new.past ≡ pages.old.past }
 {
     let base = core.register_or_sp(rn);
     let index = offset_of(core, offset);

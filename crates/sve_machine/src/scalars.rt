@@ -34,9 +34,10 @@ pub fn scalar_goes(
     word: A64,
     answer: &mut Step,
 ) -> bool
-    ensures { let before = state_of core.old pages.old vectors.now in
+    ensures answer { let before = state_of core.old pages.old.memory vectors.now in
         IsAnswer (does (Scalar (instruction_view word)) before) (said result answer.new) before
-        (state_of core.new pages.new vectors.now) }
+        (state_of core.new pages.new.memory vectors.now) }
+    ensures past { pages.new.past ≡ pages.old.past }
 {
     hand_doubleword(core, vectors, word);
     a64_goes(core, pages, word, answer)

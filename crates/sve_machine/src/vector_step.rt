@@ -31,9 +31,10 @@ pub fn vector_goes(
     word: Sve,
     answer: &mut Step,
 ) -> bool
-    ensures { let before = state_of core.old pages.old vectors.old in
+    ensures answer { let before = state_of core.old pages.old.memory vectors.old in
         IsAnswer (does (Vector (instruction_view word)) before) (said result answer.new) before
-        (state_of core.new pages.new vectors.new) }
+        (state_of core.new pages.new.memory vectors.new) }
+    ensures past { pages.new.past ≡ pages.old.past }
 {
     match word {
         Sve::ContiguousLoad {

@@ -64,6 +64,19 @@ impl Vectors {
         }
     }
 
+    /// The same registers once more.
+    pub fn copy(&self) -> Vectors
+        ensures { result ≡ self.now }
+    {
+        Vectors {
+            z: self.z,
+            p: self.p,
+            ffr: self.ffr,
+            vl: self.vl,
+            stops: self.stops.copy(),
+        }
+    }
+
     /// The vector length.
     #[inline(always)]
     pub fn vl(&self) -> Vl
@@ -225,10 +238,10 @@ impl Vectors {
         requires register { zt < 32 }
         requires predicate { pg < 16 }
         ensures done { OnOk result
-            (put_load (load_of mode row.dtype base index self.old.vl pages.now self.old.stops
+            (put_load (load_of mode row.dtype base index self.old.vl pages.now.memory self.old.stops
             (p_of self.old pg) self.old.ffr) zt self.old ≡ Ok self.new) }
         ensures refused { IfErr result (λ fault.
-            put_load (load_of mode row.dtype base index self.old.vl pages.now self.old.stops
+            put_load (load_of mode row.dtype base index self.old.vl pages.now.memory self.old.stops
             (p_of self.old pg) self.old.ffr) zt self.old ≡ Err fault) }
         ensures unchanged { OnErr result (self.new ≡ self.old) }
     {
@@ -263,10 +276,10 @@ impl Vectors {
         requires register { zt < 32 }
         requires predicate { pg < 16 }
         ensures done { OnOk result
-            (put_load (gather_of row.dtype base self.old.vl pages.now self.old.stops (z_of self.old zm)
+            (put_load (gather_of row.dtype base self.old.vl pages.now.memory self.old.stops (z_of self.old zm)
             (p_of self.old pg) self.old.ffr) zt self.old ≡ Ok self.new) }
         ensures refused { IfErr result (λ fault.
-            put_load (gather_of row.dtype base self.old.vl pages.now self.old.stops (z_of self.old zm)
+            put_load (gather_of row.dtype base self.old.vl pages.now.memory self.old.stops (z_of self.old zm)
             (p_of self.old pg) self.old.ffr) zt self.old ≡ Err fault) }
         ensures unchanged { OnErr result (self.new ≡ self.old) }
     {

@@ -2,8 +2,8 @@
 use mathlib.Core.Logic.{⊎_elim}
 use Rattle.std.proofs.Common.{◌≡◌, ◌≢◌, ◌⊎◌, ℕ, zero, suc, List, [], ◌++◌, take, Option, Some, None, Ok, Err, inl, inr, refl, sym, ap, ◌∙◌, subst}
 use Rattle.std.specs.Prelude.{IfSome, IsTrue}
-use Rattle.command_line.specs.Line.{Line, CompileLine, CheckLine, EvalLine, ListLine, RunLine, DebugLine, SweepLine}
-use Rattle.refusals.specs.declared.refusal.Refusal.TheVariants.{Usage, TooManyLive, Kernel, TooLong, Elf, Map, Memory, File, Output}
+use Rattle.command_line.specs.Line.{Line, CompileLine, CheckLine, EvalLine, ListLine, RunLine, DebugLine, SweepLine, AsmLine}
+use Rattle.refusals.specs.declared.refusal.Refusal.TheVariants.{Usage, TooManyLive, Kernel, TooLong, Elf, Map, Asm, Memory, File, Output}
 use Rattle.refusals.specs.declared.refusal.Done.{Done}
 use Rattle.refusals.specs.declared.refusal.Done.TheVariants as done
 use Rattle.sve_top.specs.Answer.{Held, Expected, Answer, answer_of, expected_text, status_of}
@@ -24,6 +24,7 @@ not_eight (Err (Kernel fault)) ne e = absurd cc
 not_eight (Err TooLong) ne e = absurd cc
 not_eight (Err (Elf fault)) ne e = absurd cc
 not_eight (Err (Map fault)) ne e = absurd cc
+not_eight (Err (Asm fault)) ne e = absurd cc
 not_eight (Err Memory) ne e = absurd cc
 not_eight (Err File) ne e = ne refl
 not_eight (Err Output) ne e = absurd cc
@@ -61,6 +62,7 @@ sweep_ends rose (Err (Kernel fault)) of file cause none = absurd of
 sweep_ends rose (Err TooLong) of file cause none = absurd of
 sweep_ends rose (Err (Elf fault)) of file cause none = absurd of
 sweep_ends rose (Err (Map fault)) of file cause none = absurd of
+sweep_ends rose (Err (Asm fault)) of file cause none = absurd of
 
 of_work : (held : Held) (input : List ℕ) (line : Option Line) (before after : Outside) (s : ℕ) → s ≢ 8 → (StreamsRose line before after → ⊥) → SomeExpected (Expects held input line) (λ work. Does line work before after s) → SomeExpected (Expects held input line) (λ work. ComesTo work before.printed after.printed s)
 of_work held input line before after s file stream w = (w.0, w.1, comes_to line w.0 before after s file stream w.2)
@@ -72,8 +74,9 @@ completes_held h input (Some (CompileLine from to)) before after s result is of 
 completes_held h input (Some (CheckLine from)) before after s result is of file cause none does = of_work h input (Some (CheckLine from)) before after s (λ e. not_eight result file (sym is ∙ e)) none (does tt)
 completes_held h input (Some (EvalLine task)) before after s result is of file cause none does = of_work h input (Some (EvalLine task)) before after s (λ e. not_eight result file (sym is ∙ e)) none (does tt)
 completes_held h input (Some (ListLine from)) before after s result is of file cause none does = of_work h input (Some (ListLine from)) before after s (λ e. not_eight result file (sym is ∙ e)) none (does tt)
-completes_held h input (Some (RunLine vl task)) before after s result is of file cause none does = of_work h input (Some (RunLine vl task)) before after s (λ e. not_eight result file (sym is ∙ e)) none (does tt)
+completes_held h input (Some (RunLine vl suppress task)) before after s result is of file cause none does = of_work h input (Some (RunLine vl suppress task)) before after s (λ e. not_eight result file (sym is ∙ e)) none (does tt)
 completes_held h input (Some (DebugLine vl task)) before after s result is of file cause none does = of_work h input (Some (DebugLine vl task)) before after s (λ e. not_eight result file (sym is ∙ e)) none (does tt)
+completes_held h input (Some (AsmLine from to)) before after s result is of file cause none does = of_work h input (Some (AsmLine from to)) before after s (λ e. not_eight result file (sym is ∙ e)) none (does tt)
 completes_held h input (Some (SweepLine number to)) before after s result is of file cause none does =
     subst (λ n. (n ≡ 0) ⊎ (n ≡ 7)) (sym is) (sweep_ends (StreamsRose (Some (SweepLine number to)) before after) result of file cause none)
 

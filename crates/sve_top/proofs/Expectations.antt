@@ -19,7 +19,7 @@ use Rattle.kernel_front.specs.declared.fault.KernelFault.{KernelFault}
 use Rattle.kernel_front.specs.declared.fault.KernelFault.TheVariants as kernels
 use Rattle.kernel_front.specs.Verdict.{Verdict, Limited, NoKernel, Refused, Sound, IsVerdict}
 use Rattle.refusals.specs.declared.refusal.Refusal.{Refusal}
-use Rattle.refusals.specs.declared.refusal.Refusal.TheVariants.{Usage, TooManyLive, Kernel, TooLong, Elf, Map, Memory, File, Output}
+use Rattle.refusals.specs.declared.refusal.Refusal.TheVariants.{Usage, TooManyLive, Kernel, TooLong, Elf, Map, Asm, Memory, File, Output}
 use Rattle.sve_top.specs.Answer.{Held, Expected, Answer, answer_of, expected_text, IsFileAnswer, IsAnswer}
 use Rattle.refusals.specs.Statuses.{of_kernel, of_compile, of_elf}
 use Rattle.sve_top.specs.Outputs.{Prints}
@@ -64,6 +64,7 @@ refused_one x y z wanted next bytes refusal result e is h = λ work w. by refusa
     by TooLong is h work n w = absurd h
     by (Elf fault) is h work n w = absurd h
     by (Map fault) is h work n w = absurd h
+    by (Asm fault) is h work n w = absurd h
     by File is h work n w = absurd h
     by Output is h work n w = absurd h
 
@@ -139,6 +140,7 @@ compile_refusal text k refusal (Err r) v is h = subst (RefusesText (CompileExpec
     by TooLong h = absurd h
     by (Elf fault) h = absurd h
     by (Map fault) h = absurd h
+    by (Asm fault) h = absurd h
     by File h = absurd h
     by Output h = absurd h
 
@@ -220,6 +222,7 @@ eval_refusal sound text k refusal (Err r) v is h of = subst (RefusesEval (ByVerd
     by (TooManyLive class need) h of = absurd h
     by (Kernel fault) h of = absurd h
     by TooLong h of = absurd h
+    by (Asm fault) h of = absurd h
     by File h of = absurd h
     by Output h of = absurd h
 
@@ -247,6 +250,7 @@ refused_two x z a b text map next refusal result e f is h = λ work w. by refusa
     by (TooManyLive class need) is h work w = absurd h
     by Usage is h work w = absurd h
     by TooLong is h work w = absurd h
+    by (Asm fault) is h work w = absurd h
     by (Elf fault) is h work w = absurd h
     by File is h work w = absurd h
     by Output is h work w = absurd h

@@ -9,3 +9,5 @@ pub mod OneExpectedLaws
 pub mod Completions
 pub mod Sessions
 pub mod Sweeps
+pub mod CompiledRuns
+pub mod Assemblies

@@ -4,6 +4,7 @@ use Rattle.std.specs.Prelude.{nat_lt, nat_eq, sum_by, filter, ◌*◌, ◌&&◌,
 use Rattle.std.proofs.lemmas.Bool.{ltb-false}
 use Rattle.std.proofs.lemmas.List.Sums.{sum_by-cons}
 use Rattle.guest_types.specs.Memory.{Memory, IsMemory, DoNotMeet, merged}
+use Rattle.guest_types.specs.EarlyLoads.{StopList, never}
 use Rattle.guest_types.proofs.Merges.{empty_memory, merged-nil_right}
 use Rattle.machine_model.specs.declared.elf_fault.ElfFault.{ElfFault}
 use Rattle.machine_model.specs.declared.elf_fault.ElfFault.TheVariants.{Short, NotElf, NotAarch64, NotStatic, BadSegment, SegmentsClash, TooManyPages, Memory as NoMemory}
@@ -13,7 +14,7 @@ use Rattle.machine_model.specs.Answers.{outcome_of}
 use Rattle.machine_model.specs.Debugged.{View}
 use Rattle.machine_model.specs.Machine.{State}
 use Rattle.machine_model.specs.OutcomeText.{outcome_text}
-use Rattle.machine_model.specs.Run.{Outcome, run, start, memory_left}
+use Rattle.machine_model.specs.Run.{Outcome, run, start, free_start, memory_left}
 use Rattle.outcome_text.specs.View.{text_of as text_of_outcome}
 use Rattle.elf_image.specs.Loaded.{Refuses}
 use Rattle.map_text.specs.declared.fault.MapFault.{MapFault}
@@ -216,11 +217,16 @@ not_mapped bytes map image fault (Err refusal) e is h =
 
 -- ---- runs
 
--- no machine could be made for a run
-pub run_not_begun : {T : Type 0} (vl : ℕ) (task : Task) (bytes map : List ℕ) (refusal : Refusal) (result : Result T Refusal) → IsErrAnd result (λ r. r ≡ refusal) → ((next : Image → Memory → Expected) → RefusesProgram (with_program bytes map next) refusal) → IfErr result (λ r. RefusesProgram (run_program vl task bytes map) r)
+-- the run of a program that is loaded beside the pages of a map
+pub run_is : (vl : ℕ) (stops : StopList) (task : Task) (bytes map : List ℕ) (image : Image) (pages : Memory) → load bytes ≡ Ok image → pages_of_map map image.pages ≡ Ok pages → run_program vl stops task bytes map ≡ ran vl stops task image pages
 unfolding run_program
-run_not_begun vl task bytes map refusal (Ok value) is h = tt
-run_not_begun vl task bytes map refusal (Err r) is h = subst (RefusesProgram (with_program bytes map (ran vl task))) (sym is) (h (ran vl task))
+run_is vl stops task bytes map image pages e h = with_beside bytes map (ran vl stops task) image (Ok pages) e h
+
+-- no machine could be made for a run
+pub run_not_begun : {T : Type 0} (vl : ℕ) (stops : StopList) (task : Task) (bytes map : List ℕ) (refusal : Refusal) (result : Result T Refusal) → IsErrAnd result (λ r. r ≡ refusal) → ((next : Image → Memory → Expected) → RefusesProgram (with_program bytes map next) refusal) → IfErr result (λ r. RefusesProgram (run_program vl stops task bytes map) r)
+unfolding run_program
+run_not_begun vl stops task bytes map refusal (Ok value) is h = tt
+run_not_begun vl stops task bytes map refusal (Err r) is h = subst (RefusesProgram (with_program bytes map (ran vl stops task))) (sym is) (h (ran vl stops task))
 
 same_done : (o : OutcomeAnswer) (memory : Memory) (pc steps : ℕ) → done_by (outcome_of o memory pc steps) ≡ done_of o
 same_done (outcomes.End result) memory pc steps = refl
@@ -237,18 +243,18 @@ same_memory (outcomes.End result) memory pc steps = refl
 same_memory (outcomes.Stop stop) memory pc steps = refl
 same_memory outcomes.Spent memory pc steps = refl
 
-begun : (vl : ℕ) (task : Task) (image : Image) (pages : Memory) (s : State) (taken : ℕ) (o : Outcome) → s ≡ start image task.args pages vl → taken ≡ 0 → run task.steps taken s ≡ o → run task.steps 0 (start image task.args pages vl) ≡ o
-begun vl task image pages s taken o state none is =
+begun : (vl : ℕ) (stops : StopList) (task : Task) (image : Image) (pages : Memory) (s : State) (taken : ℕ) (o : Outcome) → s ≡ free_start image task.args pages vl stops → taken ≡ 0 → run task.steps taken s ≡ o → run task.steps 0 (free_start image task.args pages vl stops) ≡ o
+begun vl stops task image pages s taken o state none is =
     ap (λ t. run task.steps 0 t) (sym state) ∙ ap (λ n. run task.steps n s) (sym none) ∙ is
 
 -- what a machine that ran from the start comes to
-pub run_reported : (vl : ℕ) (task : Task) (bytes map : List ℕ) (image : Image) (pages : Memory) (s : State) (taken : ℕ) (o : OutcomeAnswer) (memory : Memory) (pc steps : ℕ) (how : Done) (text : List ℕ) → load bytes ≡ Ok image → pages_of_map map image.pages ≡ Ok pages → s ≡ start image task.args pages vl → taken ≡ 0 → run task.steps taken s ≡ outcome_of o memory pc steps → how ≡ done_of o → text ≡ text_of_outcome o pc steps ++ dump_of task.dump memory → run_program vl task bytes map ≡ Ok (record { how = how; text = text })
+pub run_reported : (vl : ℕ) (stops : StopList) (task : Task) (bytes map : List ℕ) (image : Image) (pages : Memory) (s : State) (taken : ℕ) (o : OutcomeAnswer) (memory : Memory) (pc steps : ℕ) (how : Done) (text : List ℕ) → load bytes ≡ Ok image → pages_of_map map image.pages ≡ Ok pages → s ≡ free_start image task.args pages vl stops → taken ≡ 0 → run task.steps taken s ≡ outcome_of o memory pc steps → how ≡ done_of o → text ≡ text_of_outcome o pc steps ++ dump_of task.dump memory → run_program vl stops task bytes map ≡ Ok (record { how = how; text = text })
 unfolding run_program
-run_reported vl task bytes map image pages s taken o memory pc steps how text e mapping state none is done shown =
+run_reported vl stops task bytes map image pages s taken o memory pc steps how text e mapping state none is done shown =
     let whole : text ≡ outcome_text (outcome_of o memory pc steps) ++ dump_of task.dump (memory_left (outcome_of o memory pc steps)) = shown ∙ ap (λ t. t ++ dump_of task.dump memory) (sym (same_text o memory pc steps)) ∙ ap (λ m. outcome_text (outcome_of o memory pc steps) ++ dump_of task.dump m) (sym (same_memory o memory pc steps)) in
     let way : how ≡ done_by (outcome_of o memory pc steps) = done ∙ sym (same_done o memory pc steps) in
-    with_beside bytes map (ran vl task) image (Ok pages) e mapping
-    ∙ ap (success_of task.dump) (begun vl task image pages s taken (outcome_of o memory pc steps) state none is)
+    with_beside bytes map (ran vl stops task) image (Ok pages) e mapping
+    ∙ ap (success_of task.dump) (begun vl stops task image pages s taken (outcome_of o memory pc steps) state none is)
     ∙ ap (λ h. Ok (record { how = h; text = outcome_text (outcome_of o memory pc steps) ++ dump_of task.dump (memory_left (outcome_of o memory pc steps)) })) (sym way)
     ∙ ap (λ t. Ok (record { how = how; text = t })) (sym whole)
 
@@ -261,9 +267,14 @@ session_not_begun vl task bytes map refusal (Ok value) is h = tt
 session_not_begun vl task bytes map refusal (Err r) is h =
     λ input. subst (RefusesProgram (with_program bytes map (debugged vl task input))) (sym is) (h (debugged vl task input))
 
+-- with the empty stop list a run starts as without one
+same_start : (vl : ℕ) (task : Task) (image : Image) (pages : Memory) → free_start image task.args pages vl never ≡ start image task.args pages vl
+unfolding free_start start
+same_start vl task image pages = refl
+
 -- what a session from the start of a machine answers is what is wanted
-pub session_begun : (vl : ℕ) (task : Task) (bytes map : List ℕ) (machine : View) → BeginsProgram vl task bytes map machine → (input : List ℕ) → debug_program vl task bytes map input ≡ ended (session_text (started machine.state) input)
+pub session_begun : (vl : ℕ) (task : Task) (bytes map : List ℕ) (machine : View) → BeginsProgram vl never task bytes map machine → (input : List ℕ) → debug_program vl task bytes map input ≡ ended (session_text (started machine.state) input)
 unfolding debug_program
 session_begun vl task bytes map machine r input =
     with_beside bytes map (debugged vl task input) r.image (Ok r.pages) r.loads r.maps
-    ∙ ap (λ s. ended (session_text (started s) input)) (sym r.state)
+    ∙ ap (λ s. ended (session_text (started s) input)) (sym (r.state ∙ same_start vl task r.image r.pages))

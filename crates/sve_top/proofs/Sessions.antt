@@ -2,17 +2,18 @@
 use mathlib.Core.Logic.{⊎_elim}
 use Rattle.std.proofs.Common.{◌≡◌, ◌≢◌, ◌⊎◌, ℕ, ◌≤◌, List, Option, Some, None, Result, Ok, Err, inl, inr, refl, sym, ap, ◌∙◌, subst}
 use Rattle.std.specs.Prelude.{IfSome, IsErrAnd}
+use Rattle.guest_types.specs.EarlyLoads.{StopList}
 use Rattle.io_edges.specs.Files.{Rose}
 use Rattle.command_line.specs.Line.{Task}
 use Rattle.sve_debug.specs.declared.session.SessionFault.{SessionFault}
 use Rattle.sve_debug.specs.declared.session.SessionFault.TheVariants as sessions
 use Rattle.sve_debug.specs.Sessions.{Tells}
 use Rattle.refusals.specs.declared.refusal.Refusal.{Refusal}
-use Rattle.refusals.specs.declared.refusal.Refusal.TheVariants.{Usage, TooManyLive, Kernel, TooLong, Elf, Map, Memory, File, Output}
+use Rattle.refusals.specs.declared.refusal.Refusal.TheVariants.{Usage, TooManyLive, Kernel, TooLong, Elf, Map, Asm, Memory, File, Output}
 use Rattle.refusals.specs.declared.refusal.Done.TheVariants as done
 use Rattle.sve_top.specs.Answer.{Held, Expected, Answer, answer_of, expected_text, IsFileAnswer, IsAnswer}
 use Rattle.refusals.specs.Statuses.{of_session}
-use Rattle.sve_top.specs.Commands.{and_then, file_of, map_of, debug_program, expected_of_debug, RefusesProgram, IsOfDebug}
+use Rattle.sve_top.specs.Commands.{and_then, file_of, map_of, debug_program, expected_of_debug, expected_of_run, RefusesProgram, IsOfDebug}
 use Rattle.sve_top.specs.Outputs.{Prints}
 use Rattle.sve_top.proofs.Expectations.{read_is, is_err}
 use Rattle.sve_top.proofs.Prints.{prints_nothing}
@@ -80,6 +81,7 @@ refused_answer x y rose wanted Memory result is h = inl (inr (inl is))
 refused_answer x y rose wanted (Elf fault) result is h = inl (inl (is ∙ sym (ap answer_of h)))
 refused_answer x y rose wanted (Map fault) result is h = inl (inl (is ∙ sym (ap answer_of h)))
 refused_answer x y rose wanted Usage result is h = absurd h
+refused_answer x y rose wanted (Asm fault) result is h = absurd h
 refused_answer x y rose wanted (TooManyLive class need) result is h = absurd h
 refused_answer x y rose wanted (Kernel fault) result is h = absurd h
 refused_answer x y rose wanted TooLong result is h = absurd h
@@ -96,6 +98,7 @@ refusal_of wanted Memory h = tt
 refusal_of wanted (Elf fault) h = tt
 refusal_of wanted (Map fault) h = tt
 refusal_of wanted Usage h = absurd h
+refusal_of wanted (Asm fault) h = absurd h
 refusal_of wanted (TooManyLive class need) h = absurd h
 refusal_of wanted (Kernel fault) h = absurd h
 refusal_of wanted TooLong h = absurd h
@@ -107,6 +110,7 @@ no_failed_file wanted Memory h e = absurd cc
 no_failed_file wanted (Elf fault) h e = absurd cc
 no_failed_file wanted (Map fault) h e = absurd cc
 no_failed_file wanted Usage h e = absurd h
+no_failed_file wanted (Asm fault) h e = absurd h
 no_failed_file wanted (TooManyLive class need) h e = absurd h
 no_failed_file wanted (Kernel fault) h e = absurd h
 no_failed_file wanted TooLong h e = absurd h
@@ -118,6 +122,7 @@ no_failed_output wanted Memory h e = absurd cc
 no_failed_output wanted (Elf fault) h e = absurd cc
 no_failed_output wanted (Map fault) h e = absurd cc
 no_failed_output wanted Usage h e = absurd h
+no_failed_output wanted (Asm fault) h e = absurd h
 no_failed_output wanted (TooManyLive class need) h e = absurd h
 no_failed_output wanted (Kernel fault) h e = absurd h
 no_failed_output wanted TooLong h e = absurd h
@@ -155,6 +160,11 @@ pub untold_session : (left : Option (List ℕ)) (held : Option Held) (vl : ℕ) 
 untold_session left held vl task printed refusal result is =
     whatever left held (λ input h. Prints printed printed (expected_text (expected_of_debug h input vl task)) result)
     (λ input h. subst (Prints printed printed (expected_text (expected_of_debug h input vl task))) (sym (is_err refusal result is)) (prints_nothing printed (expected_text (expected_of_debug h input vl task)) refusal))
+
+-- nothing was put on the output of a run that was refused
+pub untold_run : (held : Option Held) (vl : ℕ) (stops : StopList) (task : Task) (printed : Option (List ℕ)) (refusal : Refusal) (result : Answer) → IsErrAnd result (λ r. r ≡ refusal) → IfSome held (λ h. Prints printed printed (expected_text (expected_of_run h vl stops task)) result)
+untold_run None vl stops task printed refusal result is = tt
+untold_run (Some h) vl stops task printed refusal result is = subst (Prints printed printed (expected_text (expected_of_run h vl stops task))) (sym (is_err refusal result is)) (prints_nothing printed (expected_text (expected_of_run h vl stops task)) refusal)
 
 all_told : (old new : Option (List ℕ)) (text : List ℕ) (told : Result (Unit {0}) SessionFault) → told ≡ Ok tt → Tells old new text told → Prints old new text (Ok done.Ended)
 all_told None new text (Ok all) is h = tt

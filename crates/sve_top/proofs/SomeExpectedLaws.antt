@@ -1,7 +1,7 @@
 -- Some work is wanted of each command, and one alone.
 use Rattle.std.proofs.Common.{◌≡◌, ℕ, Bool, true, false, cond, List, length, Option, Some, None, Result, Ok, Err, refl, sym, ap, ◌∙◌, subst}
 use Rattle.std.specs.Prelude.{nat_lt, option_map}
-use Rattle.command_line.specs.Line.{Line, CompileLine, CheckLine, EvalLine, ListLine, RunLine, DebugLine, SweepLine}
+use Rattle.command_line.specs.Line.{Line, CompileLine, CheckLine, EvalLine, ListLine, RunLine, DebugLine, SweepLine, AsmLine}
 use Rattle.kernel_tree.specs.Word.{Word}
 use Rattle.kernel_tree.specs.Plain.{Program}
 use Rattle.kernel_tree.specs.Tokens.{tokens_of}
@@ -24,7 +24,7 @@ use Rattle.refusals.specs.declared.refusal.Refusal.{Refusal}
 use Rattle.refusals.specs.declared.refusal.Refusal.TheVariants.{Usage, Kernel}
 use Rattle.sve_top.specs.Answer.{Held, Expected}
 use Rattle.sve_top.specs.Kernels.{IsOfText, IsRefusedFor, IsExpectedOf, ByVerdict}
-use Rattle.sve_top.specs.Commands.{AfterRead, Expects, IsSettled, CompileExpects, CheckExpects, EvalExpects, file_of, map_of, compiled, checked, eval_kernel, expected_of_list, expected_of_run, expected_of_debug}
+use Rattle.sve_top.specs.Commands.{AfterRead, Expects, IsSettled, CompileExpects, CheckExpects, EvalExpects, file_of, map_of, compiled, checked, expected_of_asm, eval_kernel, expected_of_list, expected_of_run, expected_of_debug, stops_of}
 
 -- ---- a fault that explains a verdict
 
@@ -129,9 +129,10 @@ some_expected held input (Some (EvalLine task)) s =
     after (file_of held task.file) (λ text. AfterRead (map_of held task.map) (EvalExpects task text))
     (λ text. after (map_of held task.map) (EvalExpects task text) (λ map. by_verdict (eval_kernel task map) text))
 some_expected held input (Some (ListLine from)) s = (expected_of_list held from, refl)
-some_expected held input (Some (RunLine vl task)) s = (expected_of_run held vl task, refl)
+some_expected held input (Some (RunLine vl suppress task)) s = (expected_of_run held vl (stops_of suppress) task, refl)
 some_expected held input (Some (DebugLine vl task)) s = (expected_of_debug held input vl task, refl)
 some_expected held input (Some (SweepLine number to)) s = absurd s
+some_expected held input (Some (AsmLine from to)) s = (expected_of_asm held from, refl)
 
 -- ---- one work alone
 
@@ -231,6 +232,7 @@ one_expected held input (Some (EvalLine task)) a b s p q =
     one_after (file_of held task.file) (λ text. AfterRead (map_of held task.map) (EvalExpects task text)) a b
     (λ text. one_after (map_of held task.map) (EvalExpects task text) a b (λ map. one_by_verdict (eval_kernel task map) text a b)) p q
 one_expected held input (Some (ListLine from)) a b s p q = p ∙ sym q
-one_expected held input (Some (RunLine vl task)) a b s p q = p ∙ sym q
+one_expected held input (Some (RunLine vl suppress task)) a b s p q = p ∙ sym q
 one_expected held input (Some (DebugLine vl task)) a b s p q = p ∙ sym q
 one_expected held input (Some (SweepLine number to)) a b s p q = absurd s
+one_expected held input (Some (AsmLine from to)) a b s p q = p ∙ sym q

@@ -5,7 +5,7 @@ use Rattle.std.specs.Prelude.{IsTrue, OnOk}
 use Rattle.io_edges.specs.declared.sink.Failed.{Failed}
 use Rattle.io_edges.specs.Sink.{PutsText}
 use Rattle.refusals.specs.declared.refusal.Refusal.{Refusal}
-use Rattle.refusals.specs.declared.refusal.Refusal.TheVariants.{Usage, TooManyLive, Kernel, TooLong, Elf, Map, Memory, File, Output}
+use Rattle.refusals.specs.declared.refusal.Refusal.TheVariants.{Usage, TooManyLive, Kernel, TooLong, Elf, Map, Asm, Memory, File, Output}
 use Rattle.refusals.specs.declared.refusal.Done.{Done}
 use Rattle.refusals.specs.declared.refusal.Done.TheVariants as done
 use Rattle.refusals.specs.Lines.{line_of_refusal}
@@ -28,6 +28,7 @@ not_done (Kernel fault) h = absurd cc
 not_done TooLong h = absurd cc
 not_done (Elf fault) h = absurd cc
 not_done (Map fault) h = absurd cc
+not_done (Asm fault) h = absurd cc
 not_done Memory h = absurd cc
 not_done File h = absurd cc
 not_done Output h = absurd cc
@@ -61,6 +62,7 @@ own_line (Kernel fault) = refl
 own_line TooLong = refl
 own_line (Elf fault) = refl
 own_line (Map fault) = refl
+own_line (Asm fault) = refl
 own_line Memory = refl
 own_line File = refl
 own_line Output = refl

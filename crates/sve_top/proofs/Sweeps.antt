@@ -6,7 +6,7 @@ use Rattle.io_edges.specs.Files.{Writes, content}
 use Rattle.io_edges.specs.Sink.{GainsPart}
 use Rattle.io_edges.specs.declared.files.FileError.{FileError}
 use Rattle.io_edges.specs.declared.files.FileError.TheVariants as files
-use Rattle.command_line.specs.Line.{Line, CompileLine, CheckLine, EvalLine, ListLine, RunLine, DebugLine, SweepLine}
+use Rattle.command_line.specs.Line.{Line, CompileLine, CheckLine, EvalLine, ListLine, RunLine, DebugLine, SweepLine, AsmLine}
 use Rattle.sweep_run.specs.SweepText.{IsSweepFile, sweep_text}
 use Rattle.refusals.specs.declared.refusal.Refusal.{Refusal}
 use Rattle.refusals.specs.declared.refusal.Refusal.TheVariants.{Memory, Output}
@@ -52,8 +52,9 @@ nothing_swept (Some (CompileLine from to)) held printed result is = tt
 nothing_swept (Some (CheckLine from)) held printed result is = tt
 nothing_swept (Some (EvalLine task)) held printed result is = tt
 nothing_swept (Some (ListLine from)) held printed result is = tt
-nothing_swept (Some (RunLine vl task)) held printed result is = tt
+nothing_swept (Some (RunLine vl suppress task)) held printed result is = tt
 nothing_swept (Some (DebugLine vl task)) held printed result is = tt
+nothing_swept (Some (AsmLine from to)) held printed result is = tt
 nothing_swept (Some (SweepLine number to)) held printed result is = memory_swept number to held printed result is
 
 pub write_swept : (number : ℕ) (to : List ℕ) (held : Option Held) (printed : Option (List ℕ)) (error : FileError) (result : Answer) → error ≢ files.TooLong → IsErrAnd result (λ r. r ≡ of_files error) → Swept (Some (SweepLine number to)) held printed printed (status_of result)
@@ -74,7 +75,7 @@ stands_at (Some old) (Some new) to bytes file result w ok same = written_at w ok
 pub sweep_compiled : (number : ℕ) (to file : List ℕ) (old new : Option Held) → IsSweepFile number file → IfSome new (λ h. content h to ≡ Some file) → IfSome old (λ o. IfSome new (λ n. Compiled o n (SweepLine number to)))
 sweep_compiled number to file None new is stands = tt
 sweep_compiled number to file (Some o) None is stands = tt
-sweep_compiled number to file (Some o) (Some n) is stands = (file, stands, is.faithful)
+sweep_compiled number to file (Some o) (Some n) is stands = (file, stands, is.faithful, is.ends, record { words = is.words; few = is.few; file_is = is.file_is })
 
 -- the lines were put, or a part of them
 pub lines_swept : (number : ℕ) (to file : List ℕ) (held : Option Held) (old new : Option (List ℕ)) → IsSweepFile number file → IfSome held (λ h. content h to ≡ Some file) → IfSome old (λ bytes. new ≡ Some (bytes ++ sweep_text number file)) → IfSome old (λ bytes. GainsPart bytes new (sweep_text number file)) → Swept (Some (SweepLine number to)) held old new 0

@@ -1,15 +1,16 @@
 -- What each command comes to, and what it leaves.
-use Rattle.std.specs.Prelude.{◌≡◌, ◌≢◌, ℕ, ◌⊎◌, List, [], ◌++◌, length, Option, Some, None, IfSome, IsSome, IfOk, Vec, Result, Ok, Err, nat_lt, nat_le, if◌then◌else◌}
+use Rattle.std.specs.Prelude.{◌≡◌, ◌≢◌, ℕ, ◌+◌, ◌*◌, ◌≤◌, ◌⊎◌, List, [], ◌++◌, length, Option, Some, None, IfSome, IsSome, IfOk, Vec, Result, Ok, Err, nat_lt, nat_le, if◌then◌else◌}
 use Rattle.io_edges.specs.Files.{Rose, content}
 use Rattle.io_edges.specs.declared.files.TheConstants.{MAX_FILE}
 use Rattle.guest_types.specs.Memory.{Memory}
+use Rattle.guest_types.specs.EarlyLoads.{StopList, Each, never}
 use Rattle.machine_model.specs.declared.elf_fault.ElfFault.{ElfFault}
 use Rattle.machine_model.specs.declared.outcome.Outcome.{Outcome as OutcomeAnswer}
 use Rattle.machine_model.specs.declared.outcome.Outcome.TheVariants as outcomes
 use Rattle.machine_model.specs.DumpText.{dump_text}
 use Rattle.machine_model.specs.Load.{Image, load}
 use Rattle.machine_model.specs.OutcomeText.{outcome_text}
-use Rattle.machine_model.specs.Run.{Outcome, End, Stop, Spent, start, image_run, memory_left}
+use Rattle.machine_model.specs.Run.{Outcome, End, Stop, Spent, start, free_start, run, memory_left}
 use Rattle.kernel_meaning.specs.ScalarRun.{Run, scalar_run, first_leave}
 use Rattle.kernel_meaning.specs.ScalarRun as meaning
 use Rattle.kernel_meaning.specs.declared.outcome.ScalarOutcome.{ScalarOutcome}
@@ -17,19 +18,23 @@ use Rattle.kernel_meaning.specs.declared.outcome.ScalarOutcome.TheVariants as sc
 use Rattle.scalar_text.specs.ScalarText.{scalar_text}
 use Rattle.map_text.specs.declared.fault.MapFault.{MapFault}
 use Rattle.map_text.specs.Mapping.{map_of as pages_of}
+use Rattle.machine_model.specs.Written.{file_of as file_of_words}
+use Rattle.sve_asm.specs.declared.fault.AsmFault.{AsmFault}
+use Rattle.sve_asm.specs.Lines.{words_of}
 use Rattle.kernel_tree.specs.Plain.{Program}
+use Rattle.kernel_tree.specs.Items.{size_of}
 use Rattle.kernel_front.specs.Verdict.{Sound, IsVerdict}
 use Rattle.reg_assign.specs.declared.interval.RegClass.{RegClass}
 use Rattle.loop_form.specs.Needs.{needs_of}
-use Rattle.kernel_compile.specs.Faithful.{FreeFaithful}
+use Rattle.kernel_compile.specs.Faithful.{FreeFaithful, FreeEnds}
 use Rattle.kernel_compile.specs.Refusals.{too_many, need_in}
 use Rattle.check_text.specs.CheckText.{check_text}
-use Rattle.command_line.specs.Line.{Line, Task, Extent, CompileLine, CheckLine, EvalLine, ListLine, RunLine, DebugLine, SweepLine}
+use Rattle.command_line.specs.Line.{Line, Task, Extent, CompileLine, CheckLine, EvalLine, ListLine, RunLine, DebugLine, SweepLine, AsmLine}
 use Rattle.sweep_kernel.specs.Tree.{kernel_of}
 use Rattle.sve_debug.specs.Replies.{started}
 use Rattle.sve_debug.specs.Sessions.{session_text}
 use Rattle.refusals.specs.declared.refusal.Refusal.{Refusal}
-use Rattle.refusals.specs.declared.refusal.Refusal.TheVariants.{Usage, TooManyLive, Kernel, TooLong, Elf, Map, Memory as NoMemory, File, Output}
+use Rattle.refusals.specs.declared.refusal.Refusal.TheVariants.{Usage, TooManyLive, Kernel, TooLong, Elf, Map, Asm, Memory as NoMemory, File, Output}
 use Rattle.refusals.specs.declared.refusal.Done.{Done}
 use Rattle.refusals.specs.declared.refusal.Done.TheVariants as done
 use Rattle.sve_top.specs.declared.run_report.RunReport.{RunReport}
@@ -140,18 +145,23 @@ dump_of (Some e) memory = dump_text memory e.address e.len
 abbrev pub success_of : Option Extent → Outcome → Expected
 success_of dump outcome = Ok (record { how = done_by outcome; text = outcome_text outcome ++ dump_of dump (memory_left outcome) })
 
--- the machine's run of a program with some pages
-abbrev pub ran : ℕ → Task → Image → Memory → Expected
-ran vl task image pages = success_of task.dump (image_run image task.args pages vl task.steps)
+-- the stop list of a run: one free element of each so many, or none; a line gives no number less than 1
+abbrev pub stops_of : Option ℕ → StopList
+stops_of None = never
+stops_of (Some every) = if nat_lt every 1 then never else Each every 0
 
-unfoldable pub run_program : ℕ → Task → List ℕ → List ℕ → Expected
-run_program vl task bytes map = with_program bytes map (ran vl task)
+-- the machine's run of a program with some pages and a stop list
+abbrev pub ran : ℕ → StopList → Task → Image → Memory → Expected
+ran vl stops task image pages = success_of task.dump (run task.steps 0 (free_start image task.args pages vl stops))
 
-abbrev pub expected_of_run : Held → ℕ → Task → Expected
-expected_of_run held vl task =
+unfoldable pub run_program : ℕ → StopList → Task → List ℕ → List ℕ → Expected
+run_program vl stops task bytes map = with_program bytes map (ran vl stops task)
+
+abbrev pub expected_of_run : Held → ℕ → StopList → Task → Expected
+expected_of_run held vl stops task =
     and_then (file_of held task.file) (λ bytes.
     and_then (map_of held task.map) (λ map.
-    run_program vl task bytes map))
+    run_program vl stops task bytes map))
 
 -- ---- debug
 
@@ -201,6 +211,19 @@ eval_kernel task map k = and_then (mapped (pages_of map [])) (eval_over task k)
 abbrev pub EvalExpects : Task → List ℕ → List ℕ → Expected → Type 0
 EvalExpects task text map work = ByVerdict (eval_kernel task map) text work
 
+-- ---- asm
+
+-- by the words of a text
+abbrev pub assembled_by : Result (List ℕ) AsmFault → Expected
+assembled_by (Ok words) = ended []
+assembled_by (Err fault) = Err (Asm fault)
+
+unfoldable pub assemble_text : List ℕ → Expected
+assemble_text text = assembled_by (words_of text)
+
+abbrev pub expected_of_asm : Held → List ℕ → Expected
+expected_of_asm held from = and_then (file_of held from) assemble_text
+
 -- ---- all commands
 
 -- what is wanted once something was read
@@ -217,9 +240,10 @@ Expects held input (Some (CheckLine from)) work = AfterRead (file_of held from) 
 Expects held input (Some (EvalLine task)) work =
     AfterRead (file_of held task.file) (λ text. AfterRead (map_of held task.map) (EvalExpects task text)) work
 Expects held input (Some (ListLine from)) work = work ≡ expected_of_list held from
-Expects held input (Some (RunLine vl task)) work = work ≡ expected_of_run held vl task
+Expects held input (Some (RunLine vl suppress task)) work = work ≡ expected_of_run held vl (stops_of suppress) task
 Expects held input (Some (DebugLine vl task)) work = work ≡ expected_of_debug held input vl task
 Expects held input (Some (SweepLine number to)) work = ⊥
+Expects held input (Some (AsmLine from to)) work = work ≡ expected_of_asm held from
 
 -- what is wanted is settled by the files and the input
 abbrev pub IsSettled : Option Line → Type 0
@@ -252,6 +276,7 @@ IsOfCompile (Err Usage) = ⊥
 IsOfCompile (Err (Elf fault)) = ⊥
 IsOfCompile (Err (Map fault)) = ⊥
 IsOfCompile (Err Output) = ⊥
+IsOfCompile (Err (Asm fault)) = ⊥
 IsOfCompile (Err refusal) = Unit {0}
 
 abbrev pub IsOfCheck : Answer → Type 0
@@ -260,12 +285,14 @@ IsOfCheck (Err Usage) = ⊥
 IsOfCheck (Err (TooManyLive class need)) = ⊥
 IsOfCheck (Err (Elf fault)) = ⊥
 IsOfCheck (Err (Map fault)) = ⊥
+IsOfCheck (Err (Asm fault)) = ⊥
 IsOfCheck (Err refusal) = Unit {0}
 
 abbrev pub IsOfEval : Answer → Type 0
 IsOfEval (Err Usage) = ⊥
 IsOfEval (Err (TooManyLive class need)) = ⊥
 IsOfEval (Err (Elf fault)) = ⊥
+IsOfEval (Err (Asm fault)) = ⊥
 IsOfEval answer = Unit {0}
 
 abbrev pub IsOfList : Answer → Type 0
@@ -274,12 +301,14 @@ IsOfList (Err Usage) = ⊥
 IsOfList (Err (TooManyLive class need)) = ⊥
 IsOfList (Err (Kernel fault)) = ⊥
 IsOfList (Err (Map fault)) = ⊥
+IsOfList (Err (Asm fault)) = ⊥
 IsOfList (Err refusal) = Unit {0}
 
 abbrev pub IsOfRun : Answer → Type 0
 IsOfRun (Err Usage) = ⊥
 IsOfRun (Err (TooManyLive class need)) = ⊥
 IsOfRun (Err (Kernel fault)) = ⊥
+IsOfRun (Err (Asm fault)) = ⊥
 IsOfRun answer = Unit {0}
 
 abbrev pub IsOfDebug : Answer → Type 0
@@ -287,6 +316,7 @@ IsOfDebug (Ok how) = how ≡ done.Ended
 IsOfDebug (Err Usage) = ⊥
 IsOfDebug (Err (TooManyLive class need)) = ⊥
 IsOfDebug (Err (Kernel fault)) = ⊥
+IsOfDebug (Err (Asm fault)) = ⊥
 IsOfDebug (Err refusal) = Unit {0}
 
 abbrev pub IsOfSweep : Answer → Type 0
@@ -296,6 +326,16 @@ IsOfSweep (Err File) = Unit {0}
 IsOfSweep (Err Output) = Unit {0}
 IsOfSweep (Err refusal) = ⊥
 
+abbrev pub IsOfAsm : Answer → Type 0
+IsOfAsm (Ok how) = how ≡ done.Ended
+IsOfAsm (Err Usage) = ⊥
+IsOfAsm (Err (TooManyLive class need)) = ⊥
+IsOfAsm (Err (Kernel fault)) = ⊥
+IsOfAsm (Err (Elf fault)) = ⊥
+IsOfAsm (Err (Map fault)) = ⊥
+IsOfAsm (Err Output) = ⊥
+IsOfAsm (Err refusal) = Unit {0}
+
 -- the answers of a command
 abbrev pub IsOf : Option Line → Answer → Type 0
 IsOf None answer = (answer ≡ Err Usage) ⊎ (answer ≡ Err NoMemory)
@@ -303,9 +343,10 @@ IsOf (Some (CompileLine from to)) answer = IsOfCompile answer
 IsOf (Some (CheckLine from)) answer = IsOfCheck answer
 IsOf (Some (EvalLine task)) answer = IsOfEval answer
 IsOf (Some (ListLine from)) answer = IsOfList answer
-IsOf (Some (RunLine vl task)) answer = IsOfRun answer
+IsOf (Some (RunLine vl suppress task)) answer = IsOfRun answer
 IsOf (Some (DebugLine vl task)) answer = IsOfDebug answer
 IsOf (Some (SweepLine number to)) answer = IsOfSweep answer
+IsOf (Some (AsmLine from to)) answer = IsOfAsm answer
 
 -- the statuses of a command
 abbrev pub IsListed : Option Line → ℕ → Type 0
@@ -315,10 +356,11 @@ IsListed (Some (CheckLine from)) status = (status ≡ 0) ⊎ ((status ≡ 3) ⊎
 IsListed (Some (EvalLine task)) status =
     (status ≡ 0) ⊎ ((status ≡ 3) ⊎ ((status ≡ 4) ⊎ ((status ≡ 5) ⊎ ((status ≡ 6) ⊎ ((status ≡ 7) ⊎ ((status ≡ 8) ⊎ (status ≡ 9)))))))
 IsListed (Some (ListLine from)) status = (status ≡ 0) ⊎ ((status ≡ 4) ⊎ ((status ≡ 7) ⊎ ((status ≡ 8) ⊎ (status ≡ 9))))
-IsListed (Some (RunLine vl task)) status =
+IsListed (Some (RunLine vl suppress task)) status =
     (status ≡ 0) ⊎ ((status ≡ 4) ⊎ ((status ≡ 5) ⊎ ((status ≡ 6) ⊎ ((status ≡ 7) ⊎ ((status ≡ 8) ⊎ (status ≡ 9))))))
 IsListed (Some (DebugLine vl task)) status = (status ≡ 0) ⊎ ((status ≡ 4) ⊎ ((status ≡ 7) ⊎ ((status ≡ 8) ⊎ (status ≡ 9))))
 IsListed (Some (SweepLine number to)) status = (status ≡ 0) ⊎ ((status ≡ 7) ⊎ ((status ≡ 8) ⊎ (status ≡ 9)))
+IsListed (Some (AsmLine from to)) status = (status ≡ 0) ⊎ ((status ≡ 4) ⊎ ((status ≡ 7) ⊎ (status ≡ 8)))
 
 -- the streams that a command uses: the count of the output rose, or for `debug` that of the output or of the input
 abbrev pub StreamRose : Option Line → (out_before out_now in_before in_now : ℕ) → Type 0
@@ -338,12 +380,14 @@ IsUnread line = Unit {0}
 abbrev pub OnlyReads : Option Line → Type 0
 OnlyReads (Some (CompileLine from to)) = ⊥
 OnlyReads (Some (SweepLine number to)) = ⊥
+OnlyReads (Some (AsmLine from to)) = ⊥
 OnlyReads line = Unit {0}
 
 -- words that put nothing on the output
 abbrev pub IsSilent : Option Line → Type 0
 IsSilent None = Unit {0}
 IsSilent (Some (CompileLine from to)) = Unit {0}
+IsSilent (Some (AsmLine from to)) = Unit {0}
 IsSilent line = ⊥
 
 -- a refusal of a program or its map is the wanted one, or want of memory
@@ -366,6 +410,12 @@ RefusesCompile k NoMemory = Unit {0}
 RefusesCompile k (TooManyLive class need) = compiled k ≡ Err (TooManyLive class need)
 RefusesCompile k refusal = ⊥
 
+-- a refusal of a text of words is the wanted one, or want of memory
+abbrev pub RefusesAsm : Expected → Refusal → Type 0
+RefusesAsm wanted NoMemory = Unit {0}
+RefusesAsm wanted (Asm fault) = wanted ≡ Err (Asm fault)
+RefusesAsm wanted refusal = ⊥
+
 -- The same of `eval`, whose map may be refused too.
 abbrev pub RefusesEval : (Expected → Type 0) → Refusal → Type 0
 RefusesEval W (Map fault) = W (Err (Map fault))
@@ -384,24 +434,42 @@ done_of outcomes.Spent = done.Spent
 
 -- ---- what is left of the files
 
--- The text is that of a sound kernel, and the file is faithful to it within the bound that counts chunks, whatever stop list a
--- machine has.
+-- The file has one segment, from 0x400000 on, of its headers and of at most so many words.
+pub record HasWords (most : ℕ) (file : List ℕ) : Type 0 where
+  pub words : List ℕ
+  pub few : length words ≤ most
+  pub file_is : file ≡ file_of_words words
+
+-- The text is that of a sound kernel, and the file is faithful to it, whatever stop list a machine has: within the bound that counts
+-- chunks and the free elements that are suppressed, and within the one that counts iterations alone.
 pub record CompilesTo (text file : List ℕ) : Type 0 where
   pub kernel : Program
   pub sound : IsVerdict text (Sound kernel)
   pub faithful : FreeFaithful kernel file
+  pub ends : FreeEnds kernel file
+  pub code : HasWords (1000 + 60 * size_of kernel) file
+  pub small : size_of kernel ≤ 1000
 
--- at status 0 the one file is faithful to the kernel that the other held, and for `sweep` to that of the number
+-- the file of the words of a text
+pub record AssemblesTo (text file : List ℕ) : Type 0 where
+  pub words : List ℕ
+  pub spelled : words_of text ≡ Ok words
+  pub is_file : file ≡ file_of_words words
+
+-- at status 0 the one file is faithful to the kernel that the other held, and for `sweep` to that of the number; for `asm` it is that of the words
 abbrev pub Compiled : Held → Held → Line → Type 0
 Compiled old new (CompileLine from to) =
     IfSome (content old from) (λ text. (file : List ℕ) × (content new to ≡ Some file) × CompilesTo text file)
-Compiled old new (SweepLine number to) = (file : List ℕ) × (content new to ≡ Some file) × FreeFaithful (kernel_of number) file
+Compiled old new (SweepLine number to) = (file : List ℕ) × (content new to ≡ Some file) × FreeFaithful (kernel_of number) file × FreeEnds (kernel_of number) file × HasWords 65536 file
+Compiled old new (AsmLine from to) =
+    IfSome (content old from) (λ text. (file : List ℕ) × (content new to ≡ Some file) × AssemblesTo text file)
 Compiled old new line = Unit {0}
 
--- every name but that of the file which `compile` or `sweep` writes has what it had
+-- every name but that of the file which `compile`, `sweep` or `asm` writes has what it had
 abbrev pub OthersKept : Held → Held → Option Line → Type 0
 OthersKept old new (Some (CompileLine from to)) = (name : List ℕ) → name ≢ to → content new name ≡ content old name
 OthersKept old new (Some (SweepLine number to)) = (name : List ℕ) → name ≢ to → content new name ≡ content old name
+OthersKept old new (Some (AsmLine from to)) = (name : List ℕ) → name ≢ to → content new name ≡ content old name
 OthersKept old new line = (name : List ℕ) → content new name ≡ content old name
 
 -- a file that is named is held
@@ -415,6 +483,7 @@ IsHeld held (CompileLine from to) = IsSome (content held from)
 IsHeld held (CheckLine from) = IsSome (content held from)
 IsHeld held (EvalLine task) = IsSome (content held task.file) × IfOk (file_of held task.file) (λ text. IsMapHeld held task.map)
 IsHeld held (ListLine from) = IsSome (content held from)
-IsHeld held (RunLine vl task) = IsSome (content held task.file) × IfOk (file_of held task.file) (λ bytes. IsMapHeld held task.map)
+IsHeld held (RunLine vl suppress task) = IsSome (content held task.file) × IfOk (file_of held task.file) (λ bytes. IsMapHeld held task.map)
 IsHeld held (DebugLine vl task) = IsSome (content held task.file) × IfOk (file_of held task.file) (λ bytes. IsMapHeld held task.map)
 IsHeld held (SweepLine number to) = Unit {0}
+IsHeld held (AsmLine from to) = IsSome (content held from)

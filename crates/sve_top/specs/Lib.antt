@@ -8,3 +8,4 @@ pub mod Outputs
 pub mod Does
 pub mod Complete
 pub mod Swept
+pub mod CompiledRuns

@@ -1,10 +1,11 @@
 -- Machines and debuggers that are about to begin.
-use Rattle.std.specs.Prelude.{◌≡◌, ℕ, List, None, Ok, IsTrue}
+use Rattle.std.specs.Prelude.{◌≡◌, ℕ, List, None, Ok}
 use Rattle.guest_types.specs.Memory.{Memory}
-use Rattle.machine_model.specs.Debugged.{View}
+use Rattle.guest_types.specs.EarlyLoads.{StopList}
+use Rattle.machine_model.specs.Debugged.{View, is_never}
 use Rattle.machine_model.specs.Load.{Image, load}
 use Rattle.machine_model.specs.Machine.{State}
-use Rattle.machine_model.specs.Run.{start}
+use Rattle.machine_model.specs.Run.{free_start}
 use Rattle.map_text.specs.Mapping.{map_of as pages_of}
 use Rattle.command_line.specs.Line.{Task}
 use Rattle.sve_debug.specs.Held.{Held as Debugging, Stands}
@@ -12,16 +13,16 @@ use Rattle.sve_debug.specs.Replies.{started}
 use Rattle.sve_debug.specs.Sessions.{session_text}
 use Rattle.sve_top.specs.Commands.{debug_program, ended}
 
--- The machine stands at the start of the program in a file, beside the pages of a map, and has done no step.
-pub record BeginsProgram (vl : ℕ) (task : Task) (bytes map : List ℕ) (machine : View) : Type 0 where
+-- The machine stands at the start of the program in a file, beside the pages of a map, with a stop list, and has done no step.
+pub record BeginsProgram (vl : ℕ) (stops : StopList) (task : Task) (bytes map : List ℕ) (machine : View) : Type 0 where
   pub image : Image
   pub pages : Memory
   pub loads : load bytes ≡ Ok image
   pub maps : pages_of map image.pages ≡ Ok pages
-  pub state : machine.state ≡ start image task.args pages vl
+  pub state : machine.state ≡ free_start image task.args pages vl stops
   pub steps : machine.steps ≡ 0
   pub over : machine.over ≡ None
-  pub quiet : IsTrue machine.quiet
+  pub quiet : machine.quiet ≡ is_never stops
 
 -- The debugger stands for a session that has begun, and what that answers to an input is what is wanted.
 pub record BeginsSession (vl : ℕ) (task : Task) (bytes map : List ℕ) (debugger : Debugging) : Type 0 where

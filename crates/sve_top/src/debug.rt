@@ -16,6 +16,7 @@ use guest_types::length::Vl;
 use io_edges::files::Files;
 use io_edges::sink::Sink;
 use io_edges::source::Source;
+use lane_memory::suppress::Suppress;
 use refusals::refusal::{Done, Refusal};
 use std::alloc::Global;
 use sve_debug::debugger::Debugger;
@@ -34,7 +35,7 @@ fn debugger_of(
     ensures refusal { IfErr result (λ refusal. (input : List ℕ) →
         RefusesProgram (debug_program vl (task_view task.now) bytes.now map.now input) refusal) }
 {
-    let machine = load_machine(alloc, vl, task, bytes, map)?;
+    let machine = load_machine(alloc, vl, Suppress::none(), task, bytes, map)?;
     let debugger = Debugger::new(alloc, machine)?;
     Ok(debugger)
 }

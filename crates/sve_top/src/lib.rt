@@ -1,6 +1,7 @@
 //! The commands of svec.
 #![tactic(auto)]
 
+mod asm;
 mod check;
 mod compile;
 mod debug;
@@ -12,6 +13,4 @@ mod program;
 mod run;
 mod run_report;
 mod sweep;
-#[cfg(test)]
-mod tests;
 pub mod top;

@@ -29,7 +29,7 @@ struct Words {
 #[tactic(auto, using(crate::proofs::Programs::alone, crate::proofs::Programs::few_alone, crate::proofs::Programs::none_in_order))]
 fn words_of(alloc: Global, bytes: &[u8]) -> Result<Words, Refusal>
     ensures work { IfOk result (λ words. list_program bytes.now
-        ≡ ended (lines_from words.pages words.from words.count)) }
+        ≡ ended (lines_from words.pages.memory words.from words.count)) }
     ensures below { IfOk result (λ words. words.from + 4 * words.count < 2 ^ 64) }
     ensures refusal { IfErr result (λ refusal. RefusesProgram (list_program bytes.now) refusal) }
     ensures of_list { IfErr result (λ refusal. IsOfList (Err refusal)) }

@@ -18,7 +18,7 @@ type Lines = ArrayString<6144>;
 
 // The little-endian word at an address, in which an unmapped byte counts as 0.
 fn word_at(pages: &Pages, address: u64) -> u32
-    ensures { result ≡ number_at pages.now address 4 }
+    ensures { result ≡ number_at pages.now.memory address 4 }
 {
     let second = address.wrapping_add(1);
     let third = second.wrapping_add(1);
@@ -35,7 +35,7 @@ fn word_at(pages: &Pages, address: u64) -> u32
 fn write_lines(pages: &Pages, from: u64, count: u64, into: &mut Lines)
     requires few { count ≤ 64 }
     requires below { from + 4 * count < 2 ^ 64 }
-    ensures { into.new.bytes ≡ lines_from pages.now from count }
+    ensures { into.new.bytes ≡ lines_from pages.now.memory from count }
 {
     let mut line = ListLine::new();
     into.clear();
@@ -50,7 +50,7 @@ fn write_lines(pages: &Pages, from: u64, count: u64, into: &mut Lines)
 pub fn put_lines<S: Sink>(sink: &mut S, pages: &Pages, from: u64, count: u64) -> Result<(), Failed>
     requires { from + 4 * count < 2 ^ 64 }
     ensures { PutsText (S.taken sink.old) (S.taken sink.new) (S.faults sink.old) (S.faults sink.new)
-        (lines_from pages.now from count) result }
+        (lines_from pages.now.memory from count) result }
 {
     let mut text = Lines::new();
     let mut done = 0;

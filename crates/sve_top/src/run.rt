@@ -5,7 +5,7 @@ ghost use Rattle.io_edges.specs.Files.{Rose};
 ghost use Rattle.command_line.specs.Line.{RunLine};
 ghost use Rattle.command_line.specs.View.{task_view};
 ghost use Rattle.sve_top.specs.Answer.{answer_of, expected_text, IsAnswer, IsQuiet};
-ghost use Rattle.sve_top.specs.Commands.{expected_of_run, run_program, done_of, run_report, RefusesProgram, IsOfRun, IsHeld};
+ghost use Rattle.sve_top.specs.Commands.{expected_of_run, run_program, stops_of, done_of, run_report, RefusesProgram, IsOfRun, IsHeld};
 ghost use Rattle.sve_top.specs.Outputs.{Prints};
 
 use crate::files::{read_file, read_map_file};
@@ -15,6 +15,7 @@ use command_line::command::Task;
 use guest_types::length::Vl;
 use io_edges::files::Files;
 use io_edges::sink::{Sink, put_all};
+use lane_memory::suppress::Suppress;
 use machine_model::debuggee::Debuggee;
 use machine_model::outcome::Outcome;
 use outcome_text::outcome_text;
@@ -31,19 +32,35 @@ fn done_of(outcome: &Outcome) -> Done
     }
 }
 
+// The stop list of a run.
+fn stop_list(suppress: Option<u64>) -> Suppress
+    ensures { result ≡ stops_of suppress }
+{
+    let Some(every) = suppress else {
+        return Suppress::none();
+    };
+    match Suppress::each(every) {
+        Some(stops) => stops,
+        None => Suppress::none(),
+    }
+}
+
 // Runs the program of a file beside the pages of a map.
 fn run_program(
     alloc: Global,
     vl: Vl,
+    suppress: Option<u64>,
     task: &Task,
     bytes: &[u8],
     map: &[u8],
 ) -> Result<RunReport, Refusal>
-    ensures work { IfOk result (λ p. run_program vl (task_view task.now) bytes.now map.now ≡ run_report p) }
+    ensures work { IfOk result (λ p.
+        run_program vl (stops_of suppress) (task_view task.now) bytes.now map.now ≡ run_report p) }
     ensures refusal { IfErr result (λ refusal. RefusesProgram
-        (run_program vl (task_view task.now) bytes.now map.now) refusal) }
+        (run_program vl (stops_of suppress) (task_view task.now) bytes.now map.now) refusal) }
 {
-    let mut machine = load_machine(alloc, vl, task, bytes, map)?;
+    let stops = stop_list(suppress);
+    let mut machine = load_machine(alloc, vl, stops, task, bytes, map)?;
     let outcome = machine.run(task.steps);
     let mut text = outcome_text(alloc, &outcome, machine.pc(), machine.steps_done())?;
     push_dump(&mut text, alloc, machine.pages(), task.dump)?;
@@ -57,28 +74,29 @@ fn run_program(
 pub fn run<F: Files, S: Sink>(
     alloc: Global,
     vl: Vl,
+    suppress: Option<u64>,
     task: &Task,
     files: &mut F,
     out: &mut S,
 ) -> Result<Done, Refusal>
     ensures answer { IfSome (F.held files.old)
         (λ held. IsAnswer (F.faults files.old) (F.faults files.new) (Rose (S.faults out.old) (S.faults out.new))
-        (answer_of (expected_of_run held vl (task_view task.now))) result) }
+        (answer_of (expected_of_run held vl (stops_of suppress) (task_view task.now))) result) }
     ensures held { F.held files.new ≡ F.held files.old }
     ensures printed { IfSome (F.held files.old)
         (λ held. Prints (S.taken out.old) (S.taken out.new)
-        (expected_text (expected_of_run held vl (task_view task.now))) result) }
+        (expected_text (expected_of_run held vl (stops_of suppress) (task_view task.now))) result) }
     ensures quiet { IsQuiet result → out.new ≡ out.old }
     ensures failed { result ≡ Err Refusal.File → Rose (F.faults files.old) (F.faults files.new) }
     ensures output { result ≡ Err Refusal.Output → Rose (S.faults out.old) (S.faults out.new) }
     ensures steady { IsTrue (F.steady files.old)
-        → IfSome (F.held files.old) (λ held. IsHeld held (RunLine vl (task_view task.now))
+        → IfSome (F.held files.old) (λ held. IsHeld held (RunLine vl suppress (task_view task.now))
         → result ≢ Err Refusal.File) }
     ensures of_run { IsOfRun result }
 {
     let bytes = read_file(alloc, task.file.as_str(), files)?;
     let map = read_map_file(alloc, &task.map, files)?;
-    let run_report = run_program(alloc, vl, task, &bytes, &map)?;
+    let run_report = run_program(alloc, vl, suppress, task, &bytes, &map)?;
     put_all(out, &run_report.text)?;
     Ok(run_report.done)
 }

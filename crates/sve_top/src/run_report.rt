@@ -24,7 +24,7 @@ pub fn push_dump(
     pages: &Pages,
     dump: Option<Extent>,
 ) -> Result<(), AllocError>
-    ensures { OnOk result (text.new.items ≡ text.old.items ++ dump_of (option_map extent_view dump) pages.now) }
+    ensures { OnOk result (text.new.items ≡ text.old.items ++ dump_of (option_map extent_view dump) pages.now.memory) }
 {
     match dump {
         Some(bytes) => {

@@ -10,10 +10,12 @@ ghost use Rattle.refusals.specs.Statuses.{status_of_refusal};
 ghost use Rattle.sve_top.specs.Commands.{Expects, WhereTold, SomeExpected, IsSettled, IsInput, IsOf, IsListed, IsSilent, IsUnread, IsHeld, OnlyReads, StreamRose, NoneRose, Compiled, OthersKept};
 ghost use Rattle.sve_top.specs.Does.{Does, outside};
 ghost use Rattle.sve_top.specs.Complete.{Completes};
+ghost use Rattle.sve_top.specs.CompiledRuns.{FaithfulRuns, CompiledRuns};
 ghost use Rattle.sve_top.specs.Swept.{Swept};
 ghost use Rattle.sve_top.specs.Outputs.{Prints, Gains, error_line_by};
 ghost use Rattle.refusals.specs.Lines.{line_of_refusal};
 
+use crate::asm::asm;
 use crate::check::check;
 use crate::compile::compile;
 use crate::debug::debug;
@@ -178,9 +180,10 @@ fn do_command<F: Files, I: Source, S: Sink>(
         Command::Check { from } => check(alloc, from.as_str(), files, out),
         Command::Eval(task) => eval(alloc, task, files, out),
         Command::List { from } => list(alloc, from.as_str(), files, out),
-        Command::Run { vl, task } => run(alloc, *vl, task, files, out),
+        Command::Run { vl, suppress, task } => run(alloc, *vl, *suppress, task, files, out),
         Command::Debug { vl, task } => debug(alloc, *vl, task, files, input, out),
         Command::Sweep { number, to } => sweep(alloc, *number, to.as_str(), files, out),
+        Command::Asm { from, to } => asm(alloc, from.as_str(), to.as_str(), files),
     }
 }
 
@@ -194,4 +197,10 @@ pub fn some_expected()
 pub fn one_expected()
     ensures { (held : Held) (bytes : List ℕ) (line : Option Line) (v w : Expected) → IsSettled line
         → Expects held bytes line v → Expects held bytes line w → v ≡ w }
+{}
+
+/// What is wanted of `run` for a file that `compile` wrote is what the kernel's scalar loop comes to.
+pub fn compiled_runs()
+    ensures faithful { FaithfulRuns }
+    ensures compiled { CompiledRuns }
 {}

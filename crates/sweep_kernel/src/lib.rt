@@ -6,6 +6,4 @@ pub mod input;
 pub mod laws;
 pub mod line;
 pub mod pages;
-#[cfg(test)]
-mod tests;
 mod text;

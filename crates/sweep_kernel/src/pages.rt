@@ -122,7 +122,7 @@ pub fn pages(alloc: Global, seed: u64) -> Result<PageMap, AllocError>
 
 /// The sum of the bytes of the third array.
 pub fn byte_sum(pages: &Pages) -> u64
-    ensures { result ≡ sum_of pages.now }
+    ensures { result ≡ sum_of pages.now.memory }
 {
     let mut sum = 0;
     for i in 0..409_600u64 {

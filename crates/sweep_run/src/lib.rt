@@ -4,8 +4,6 @@
 mod file;
 pub mod laws;
 mod lines;
-#[cfg(test)]
-mod tests;
 
 pub use file::sweep_file;
 pub use lines::sweep_text;

@@ -4,6 +4,3 @@
 mod first_part;
 
 pub use first_part::cut;
-
-#[cfg(test)]
-mod tests;

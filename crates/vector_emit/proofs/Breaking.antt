@@ -21,11 +21,11 @@ use Rattle.chunk_emit.specs.ChunkCode.{puts}
 use Rattle.chunk_emit.specs.Head.{Ground, IsGround, AtHead, IndexHeld, layout, width, most_lanes, limit}
 use Rattle.first_fault.specs.Split.{is_quit}
 use Rattle.first_fault.proofs.Stretches.{stop_following}
-use Rattle.chunk_loop.specs.Halts.{Breaks}
-use Rattle.chunk_loop.specs.Chunks.{items_of}
-use Rattle.chunk_loop.specs.PassCode.{chunk_words, turn_words}
-use Rattle.chunk_loop.specs.Passes.{lanes_at, LeftOut, breaks, faults, suppressed, Passes, comes, stops}
-use Rattle.chunk_loop.proofs.PassLaws.{chunk_law, turn_law}
+use Rattle.chunk_pass.specs.Halts.{Breaks}
+use Rattle.chunk_pass.specs.Chunks.{items_of}
+use Rattle.chunk_pass.specs.PassCode.{chunk_words, turn_words}
+use Rattle.chunk_pass.specs.Passes.{lanes_at, LeftOut, breaks, faults, suppressed, Passes, comes, stops}
+use Rattle.chunk_pass.proofs.PassLaws.{chunk_law, turn_law}
 use Rattle.vector_emit.specs.VectorCode.{any_lane, breaking_code}
 use Rattle.vector_emit.specs.VectorRuns.{turn_steps}
 use Rattle.vector_emit.proofs.Iterations.{none_gone}
@@ -80,7 +80,7 @@ module _ (g : Ground) (ground : IsGround g) (quits : list_any is_quit (items_of 
         by_reason : LeftOut (iterate (var_scope g.kernel) g.turns (i + k) now names) cut → Pays (loop_of g d rest) (has_lanes g ground) k whole (Stuck (loop_of g d rest) (has_lanes g ground) (i + k) now names) 1
         by_reason (breaks h) = pays_last some (inr (inl h))
         by_reason (faults h) = pays_last some (inr (inr h))
-        by_reason (suppressed lt) = pays_cut (omega (arith, lt, more))
+        by_reason (suppressed lt) = pays_cut some (omega (arith, lt, more))
 
     -- ---- after a chunk of which no lane came through
 

@@ -29,7 +29,7 @@ use Rattle.chunk_emit.specs.ChunkCode.{vectors, puts}
 use Rattle.reductions.specs.Joins.{identity}
 use Rattle.chunk_emit.specs.KernelLayout.{layout_of_loop, update_of}
 use Rattle.first_fault.specs.Split.{is_quit}
-use Rattle.chunk_loop.specs.PassCode.{lanes_word, chunk_words, turn_words, plain_words}
+use Rattle.chunk_pass.specs.PassCode.{lanes_word, chunk_words, turn_words, plain_words}
 use Rattle.loop_edges.specs.EdgeCode.{type_of_var, number_code, hold_code, holds_code, start_code, join_code, fold_one, folds_code, fold_code}
 use Rattle.loop_edges.proofs.StartCounts.{few_held}
 use Rattle.vector_emit.specs.VectorCode.{any_lane, passes_by, passes_code, vector_code}

@@ -42,7 +42,7 @@ loop_of g d rest = record {
 
 -- a stop within k lanes from iteration i on
 pub stop_of : (g : Ground) (i k j : ℕ) (left faulted : Memory) (kind : StopKind) → k ≤ most_lanes g → i + k ≤ limit g → i ≤ j → j < i + k → IsAccess kind → ((z : ℕ) → z < 2 ^ 64 → Elsewhere g.kernel g.args i k z → byte_at left z ≡ byte_at faulted z) → StopOf g kind j left faulted
-stop_of g i k j left faulted kind few within lo hi access kept = record { access = access; near = record { i = i; k = k; few = few; within = within; from = omega (arith, lo); last_use = omega (arith, hi); kept = kept } }
+stop_of g i k j left faulted kind few within lo hi access kept = record { access = access; near = record { i = i; k = k; few = few; within = within; from = omega (arith, lo); until = omega (arith, hi); kept = kept } }
 
 pub has_lanes : (g : Ground) → IsGround g → 0 < most_lanes g
 has_lanes g ground = some_lanes g.vl (width g) ground.sized

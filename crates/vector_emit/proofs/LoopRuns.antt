@@ -27,16 +27,16 @@ use Rattle.scalar_emit.specs.Runs.{AtIteration, AreHeld, Comes, ends_so}
 use Rattle.scalar_emit.proofs.KernelRuns.{fits}
 use Rattle.chunk_emit.specs.Head.{Ground, IsGround, AtHead, most_lanes, limit}
 use Rattle.first_fault.specs.Split.{is_quit}
-use Rattle.chunk_loop.specs.Chunks.{items_of}
+use Rattle.chunk_pass.specs.Chunks.{items_of}
 use Rattle.loop_edges.specs.EdgeCode.{fold_code}
 use Rattle.loop_edges.proofs.StartRuns.{start_runs}
 use Rattle.loop_edges.proofs.StartCounts.{few_held}
 use Rattle.loop_edges.proofs.FoldEnds.{folds_at}
 use Rattle.vector_emit.specs.VectorCode.{passes_by, passes_code, vector_code}
-use Rattle.vector_emit.specs.VectorRuns.{Follows, turn_steps, vector_base, ReachesScalar, VectorRuns}
+use Rattle.vector_emit.specs.VectorRuns.{Follows, turn_steps, vector_base, vector_most, ReachesScalar, VectorRuns}
 use Rattle.vector_emit.specs.VectorRuns as follows
 use Rattle.vector_emit.proofs.Iterations.{late_ends}
-use Rattle.vector_emit.proofs.Paces.{Spends, in_all, none_spent, cuts_more}
+use Rattle.vector_emit.proofs.Paces.{Spends, in_all, none_spent, cuts_more, turns_in_all}
 use Rattle.vector_emit.proofs.PassLoop.{Passing, leaves, stops, Late, split}
 use Rattle.vector_emit.proofs.KernelPassLoop.{HeadOf, loop_of, has_lanes}
 use Rattle.vector_emit.proofs.Labels.{following_start}
@@ -127,7 +127,7 @@ module _ (g : Ground) (c : Assignment) (d : Laid) (scalar n : ℕ) (rest : List 
   code = vector_code R g.kernel g.vectors g.predicates scalar n rest
 
   abbrev Done : Run → Type 0
-  Done r = Follows g d code s (most_lanes g) (2 * (most_lanes g * turn_steps g)) (vector_base g) r
+  Done r = Follows g d code s (most_lanes g) (2 * (most_lanes g * turn_steps g)) (vector_base g) (vector_most g) r
 
   loop_is : (i : ℕ) (m : Memory) (names : Names) → run_from g.kernel i m names ≡ turns_from (var_scope g.kernel) (Some g.turns) g.kernel.answer i m names
   loop_is i m names = ap (λ l. turns_from (var_scope g.kernel) l g.kernel.answer i m names) ground.loops
@@ -175,7 +175,7 @@ module _ (g : Ground) (c : Assignment) (d : Laid) (scalar n : ℕ) (rest : List 
         }
 
     finish : Passing (loop_of g d leave) head start 0 g.names m → Done (run_from g.kernel 0 m g.names)
-    finish (leaves k j now names end count place le goes late h by pace) =
+    finish (leaves k j now names end count place le goes late h by pace few2) =
         let b = following_passes j now names end h le late in
         let on : run_from g.kernel 0 m g.names ≡ run_from g.kernel j now names
         = loop_is 0 m g.names ∙ turns_on (var_scope g.kernel) g.turns g.kernel.answer (limit g) k 0 m g.names now names refl (bound_is j names now end h) (omega (arith, place, le)) goes
@@ -188,8 +188,9 @@ module _ (g : Ground) (c : Assignment) (d : Laid) (scalar n : ℕ) (rest : List 
               let f : taken + before.count + count + b.ends.count ≡ taken + (before.count + (count + b.ends.count)) = omega arith in
               ap (λ n. draft_run d n taken code s) e ∙ before.by (count + (b.ends.count + n)) taken ∙ by (b.ends.count + n) (taken + before.count) ∙ b.ends.by n (taken + before.count + count) ∙ ap (End b.memory b.result) f;
           paced = λ n below. whole_following (most_lanes g) (turn_steps g) (size_of g.kernel) (has_lanes g ground) before few b.begun j count b.ends.count b.late b.ends.within pace n (omega (arith, below));
-        }))
-    finish (stops k j left faulted kind count pc place within lo hi fails ends by pace) =
+        })
+        (turns_in_all (turn_steps g) (size_of g.kernel) j b.begun before.count count b.ends.count b.late (let f = before.within in omega (arith, f, few)) b.ends.within few2))
+    finish (stops k j left faulted kind count pc place within lo hi fails ends by pace few2) =
         subst Done (sym (loop_is 0 m g.names ∙ turns_fail (var_scope g.kernel) g.turns g.kernel.answer (limit g) k 0 m g.names faulted j refl within fails))
         (follows.faults_so kind left ends.access ends.near (record {
           count = before.count + count;
@@ -200,7 +201,8 @@ module _ (g : Ground) (c : Assignment) (d : Laid) (scalar n : ℕ) (rest : List 
               let f : taken + before.count + count ≡ taken + (before.count + count) = omega arith in
               ap (λ n. draft_run d n taken code s) e ∙ before.by (count + n) taken ∙ by n (taken + before.count) ∙ ap (Stop kind pc place left) f;
           paced = λ n below. whole (most_lanes g) (turn_steps g) (size_of g.kernel) (has_lanes g ground) before few (j + 1) j count (omega arith) pace n (omega (arith, below));
-        }))
+        })
+        (let le = turns_in_all (turn_steps g) (size_of g.kernel) j (j + 1) before.count count 0 (omega arith) (let f = before.within in omega (arith, f, few)) (omega arith) few2 in omega (arith, le)))
 
 pub vector_runs : VectorRuns
 vector_runs g c d scalar n rest m s ground fit is vl at x res reaches =

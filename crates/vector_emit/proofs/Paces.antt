@@ -1,4 +1,5 @@
--- How many words a loop of passes takes: passes are counted against iterations, and against free elements that were suppressed.
+-- How many words a loop of passes takes: passes are counted against iterations, and against free elements that were suppressed;
+-- and, whatever was suppressed, against iterations alone.
 use Rattle.std.proofs.Common.{◌≡◌, ℕ, zero, suc, ◌+◌, ◌*◌, ◌<◌, ◌≤◌, Bool, true, false, List, [], ◌∷◌, sym, subst, arith, ⊎_elim}
 use Rattle.std.specs.Prelude.{if◌then◌else◌}
 use Rattle.std.proofs.lemmas.Bool.{cases_lt}
@@ -82,6 +83,26 @@ spends_on {lanes = L} {unit = unit} {i = i} {j = j} {r = r} {a = a} {q = q} {t =
     let up : L * (r + q) ≤ L * t = mul-le-mul_left L le in
     let n1 = s.within in
     record { passes = a + s.passes; within = omega (arith, within, n1); few = omega (arith, more, up) }
+
+-- ---- passes against iterations alone
+
+-- n words from iteration i on are at most those of two passes for each iteration up to j, and of two more
+abbrev pub InTurns : (unit i j n : ℕ) → Type 0
+InTurns unit i j n = n + unit * (2 * i) ≤ unit * (2 * j + 2)
+
+pub last_turns : (unit i j n : ℕ) → i ≤ j → n ≤ unit * 2 → InTurns unit i j n
+last_turns unit i j n le few = let up : unit * i ≤ unit * j = mul-le-mul_left unit le in omega (arith, up, few)
+
+-- at most two passes that take some iterations on, and more after them
+pub turns_on : (unit i j k a count n : ℕ) → a ≤ 2 → 0 < k → count ≤ unit * a → InTurns unit (i + k) j n → InTurns unit i j (count + n)
+turns_on unit i j k a count n small ahead within more =
+    let two : unit * a ≤ unit * 2 = mul-le-mul_left unit small in
+    let some : unit * 1 ≤ unit * k = mul-le-mul_left unit ahead in
+    omega (arith, two, some, within, more)
+
+-- a words before the passes, n of the passes and k after them
+pub turns_in_all : (U size j bg a n k : ℕ) → j ≤ bg → a ≤ 3 + 5 * size → k ≤ 6 * size + 1 + 2 * U → InTurns U 0 j n → a + (n + k) ≤ 4 + 11 * size + U * (2 * bg + 4)
+turns_in_all U size j bg a n k le before following few = let up : U * j ≤ U * bg = mul-le-mul_left U le in omega (arith, up, before, following, few)
 
 -- ---- the whole
 

@@ -17,9 +17,9 @@ use Rattle.kernel_meaning.specs.Eval.{Names}
 use Rattle.kernel_meaning.specs.Iterate.{iterate}
 use Rattle.kernel_meaning.specs.ScalarRun.{iterations}
 use Rattle.kernel_meaning.proofs.RunsFrom.{iterations_on, nothing}
-use Rattle.chunk_loop.specs.Halts.{Breaks}
+use Rattle.chunk_pass.specs.Halts.{Breaks}
 use Rattle.vector_emit.proofs.Iterations.{Halts, none_gone, fails_here}
-use Rattle.vector_emit.proofs.Paces.{Spends, in_two, Paid, by_lanes, by_cut, by_last, by_one, spends_on}
+use Rattle.vector_emit.proofs.Paces.{Spends, in_two, Paid, by_lanes, by_cut, by_last, by_one, spends_on, InTurns, last_turns, turns_on}
 
 -- A loop of the language as passes do it: its bound, the lanes of a chunk, the words of a pass at most, and the entries after
 -- the passes. `Head` holds of a state before a pass, `Ends` of a stop: the iteration that faults, and the memory that was left
@@ -43,9 +43,10 @@ Late w j m ns = (j ≡ w.limit) ⊎ Breaks (iterate w.scope w.turns j m ns)
 -- an iteration faults.
 pub data Passing (w : Rounds) (c : List Entry) (s : State) (i : ℕ) (cur : Names) (m : Memory) : Type 0 where
   leaves : (k j : ℕ) (now : Memory) (names : Names) (end : State) (count : ℕ) → j ≡ i + k → j ≤ w.limit → iterations w.scope w.turns k i m cur ≡ Going now names → Late w j now names → w.Head j names now end
-      → ((k taken : ℕ) → draft_run w.draft (count + k) taken c s ≡ draft_run w.draft k (taken + count) w.rest end) → ((n : ℕ) → n ≤ count → Spends w.lanes w.unit i j n (cuts w.draft n c s)) → Passing w c s i cur m
+      → ((k taken : ℕ) → draft_run w.draft (count + k) taken c s ≡ draft_run w.draft k (taken + count) w.rest end) → ((n : ℕ) → n ≤ count → Spends w.lanes w.unit i j n (cuts w.draft n c s)) → InTurns w.unit i j count → Passing w c s i cur m
   stops : (k j : ℕ) (left faulted : Memory) (kind : StopKind) (count pc at : ℕ) → i + k ≤ w.limit → i ≤ j → j < i + k → iterations w.scope w.turns k i m cur ≡ Failed faulted j → w.Ends kind j left faulted
-      → ((k taken : ℕ) → draft_run w.draft (count + k) taken c s ≡ Stop kind pc at left (taken + count)) → ((n : ℕ) → n ≤ count → Spends w.lanes w.unit i j n (cuts w.draft n c s)) → Passing w c s i cur m
+      → ((k taken : ℕ) → draft_run w.draft (count + k) taken c s ≡ Stop kind pc at left (taken + count)) → ((n : ℕ) → n ≤ count → Spends w.lanes w.unit i j n (cuts w.draft n c s)) → InTurns w.unit i j count
+      → Passing w c s i cur m
 
 pub split : (P : ℕ → Type 0) (a b : ℕ) → ((n : ℕ) → n ≤ a → P n) → ((n : ℕ) → n ≤ b → P (a + n)) → (n : ℕ) → n ≤ a + b → P n
 split P a b inner outer n le = ⊎_elim (λ lt. inner n (omega (arith, lt))) (λ ge. (let e : a + (n - a) ≡ n = omega (arith, ge) in subst P e (outer (n - a) (omega (arith, le, ge))))) (cases_lt n a)
@@ -55,18 +56,27 @@ module _ (w : Rounds) (some : 0 < w.lanes) where
   pub leaves_here : {c : List Entry} {s t : State} {i : ℕ} {cur : Names} {m : Memory} {most : ℕ} → (leads : Leads w.draft c s w.rest t most) → most ≤ w.unit * 2 → i ≤ w.limit → Late w i m cur → w.Head i cur m t → Passing w c s i cur m
   leaves_here {c = c} {s = s} {t = t} {i = i} {cur = cur} {m = m} leads few le late head =
       leaves 0 i m cur t leads.count (omega arith) le (nothing w.scope w.turns i m cur) late head leads.by (λ n below. in_two w.lanes w.unit i i n (cuts w.draft n c s) some (omega arith) (let f = leads.within in omega (arith, below, few, f)))
+      (last_turns w.unit i i leads.count (omega arith) (let f = leads.within in omega (arith, few, f)))
 
   pub stops_here : {c : List Entry} {s : State} {i : ℕ} {cur : Names} {m left : Memory} {kind : StopKind} {most : ℕ} (k j : ℕ) (faulted : Memory) → (stop : Stops w.draft c s kind left most) → most ≤ w.unit * 2 → i + k ≤ w.limit → i ≤ j → j < i + k
       → iterations w.scope w.turns k i m cur ≡ Failed faulted j → w.Ends kind j left faulted → Passing w c s i cur m
   stops_here {c = c} {s = s} {i = i} {left = left} {kind = kind} k j faulted stop few le lo hi fails ends =
       stops k j left faulted kind stop.count stop.pc stop.at le lo hi fails ends stop.by (λ n below. in_two w.lanes w.unit i j n (cuts w.draft n c s) some lo (let f = stop.within in omega (arith, below, few, f)))
+      (last_turns w.unit i j stop.count lo (let f = stop.within in omega (arith, few, f)))
 
-  -- what pays for passes, before it is known where the loop ends
+  -- What pays for passes, before it is known where the loop ends. They take some iterations on, whatever pays: so passes come to
+  -- an end.
   pub data Pays (k r : ℕ) (stuck : Type 0) : ℕ → Type 0 where
     pays_lanes : w.lanes ≤ k → Pays k r stuck 1
-    pays_cut : 0 < r → Pays k r stuck 1
+    pays_cut : 0 < k → 0 < r → Pays k r stuck 1
     pays_last : 0 < k → stuck → Pays k r stuck 1
     pays_one : 0 < r → k ≡ 1 → Pays k r stuck 2
+
+  advances : {k r a : ℕ} {stuck : Type 0} → Pays k r stuck a → 0 < k
+  advances (pays_lanes le) = omega (arith, some, le)
+  advances (pays_cut ahead cut) = ahead
+  advances (pays_last ahead h) = ahead
+  advances (pays_one cut e) = omega (arith, e)
 
   -- no iteration goes on from here
   abbrev pub Stuck : ℕ → Memory → Names → Type 0
@@ -74,7 +84,7 @@ module _ (w : Rounds) (some : 0 < w.lanes) where
 
   paid : {k r a i j : ℕ} {stuck : Type 0} → Pays k r stuck a → (stuck → j ≡ i + k) → Paid w.lanes k i j r a
   paid (pays_lanes le) at = by_lanes le
-  paid (pays_cut cut) at = by_cut cut
+  paid (pays_cut ahead cut) at = by_cut cut
   paid (pays_last lt h) at = by_last lt (at h)
   paid (pays_one cut e) at = by_one cut e
 
@@ -90,7 +100,7 @@ module _ (w : Rounds) (some : 0 < w.lanes) where
   module _ {c e : List Entry} {s t : State} {i : ℕ} {cur names : Names} {m now : Memory} {most : ℕ} (a k : ℕ) (leads : Leads w.draft c s e t most) (few : most ≤ w.unit * a) (small : a ≤ 2) (goes : iterations w.scope w.turns k i m cur ≡ Going now names) (pay : Pays k leads.cut (Stuck (i + k) now names) a) where
     -- passes lead on to the head, and the loop goes on from there
     pub passes_on : Passing w e t (i + k) names now → Passing w c s i cur m
-    passes_on (leaves k2 j now2 names2 end count at le goes2 late head by pace) =
+    passes_on (leaves k2 j now2 names2 end count at le goes2 late head by pace few2) =
         let stuck : Stuck (i + k) now names → j ≡ i + k = ⊎_elim (λ end. omega (arith, end, at, le)) (λ h. (let z = none_gone w.scope w.turns k2 (i + k) now names now2 names2 h goes2 in omega (arith, z, at))) in
         leaves (k + k2) j now2 names2 end (leads.count + count) (omega (arith, at)) le (iterations_on w.scope w.turns k k2 i m cur now names goes ∙ goes2) late head
         (λ n taken.
@@ -98,7 +108,8 @@ module _ (w : Rounds) (some : 0 < w.lanes) where
         let f : taken + leads.count + count ≡ taken + (leads.count + count) = omega arith in
         ap (λ n. draft_run w.draft n taken c s) e ∙ leads.by (count + n) taken ∙ by n (taken + leads.count) ∙ ap (λ taken. draft_run w.draft n taken w.rest end) f)
         (split (λ n. Spends w.lanes w.unit i j n (cuts w.draft n c s)) leads.count count (λ n below. inner leads few small j n (omega (arith, at)) below) (λ n below. outer leads few pay j n stuck (pace n below)))
-    passes_on (stops k2 j left faulted kind count pc at le lo hi fails ends by pace) =
+        (turns_on w.unit i j k a leads.count count small (advances pay) (let f = leads.within in omega (arith, few, f)) few2)
+    passes_on (stops k2 j left faulted kind count pc at le lo hi fails ends by pace few2) =
         let stuck : Stuck (i + k) now names → j ≡ i + k = ⊎_elim (λ end. absurd (omega (arith, end, le, lo, hi))) (λ h. fails_here w.scope w.turns k2 (i + k) now names faulted j h fails) in
         stops (k + k2) j left faulted kind (leads.count + count) pc at (omega (arith, le)) (omega (arith, lo)) (omega (arith, hi)) (iterations_on w.scope w.turns k k2 i m cur now names goes ∙ fails) ends
         (λ n taken.
@@ -106,3 +117,4 @@ module _ (w : Rounds) (some : 0 < w.lanes) where
         let f : taken + leads.count + count ≡ taken + (leads.count + count) = omega arith in
         ap (λ n. draft_run w.draft n taken c s) e ∙ leads.by (count + n) taken ∙ by n (taken + leads.count) ∙ ap (Stop kind pc at left) f)
         (split (λ n. Spends w.lanes w.unit i j n (cuts w.draft n c s)) leads.count count (λ n below. inner leads few small j n (omega (arith, lo)) below) (λ n below. outer leads few pay j n stuck (pace n below)))
+        (turns_on w.unit i j k a leads.count count small (advances pay) (let f = leads.within in omega (arith, few, f)) few2)

@@ -17,8 +17,8 @@ use Rattle.first_fault.specs.Split.{is_quit, region_of, rest_of}
 use Rattle.first_fault.specs.SplitBreaks.{split_breaks}
 use Rattle.first_fault.proofs.Counts.{always_few}
 use Rattle.first_fault.proofs.SplitCode.{steps_few}
-use Rattle.chunk_loop.specs.Chunks.{items_of}
-use Rattle.chunk_loop.specs.PassCode.{first_lane_words, index_words, advance_word, chunk_words, turn_words, plain_words}
+use Rattle.chunk_pass.specs.Chunks.{items_of}
+use Rattle.chunk_pass.specs.PassCode.{first_lane_words, index_words, advance_word, chunk_words, turn_words, plain_words}
 use Rattle.vector_emit.specs.VectorRuns.{turn_steps}
 use Rattle.vector_emit.proofs.Sizes.{few_items}
 

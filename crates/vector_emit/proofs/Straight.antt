@@ -15,10 +15,10 @@ use Rattle.chunk_emit.specs.ChunkCode.{puts}
 use Rattle.chunk_emit.specs.Head.{Ground, IsGround, AtHead, layout, width, limit}
 use Rattle.first_fault.specs.Split.{is_quit}
 use Rattle.first_fault.proofs.Stretches.{rest_at}
-use Rattle.chunk_loop.specs.Chunks.{items_of}
-use Rattle.chunk_loop.specs.PassCode.{lanes_word, plain_words}
-use Rattle.chunk_loop.specs.Passes.{lanes_at, Passes, comes, stops}
-use Rattle.chunk_loop.proofs.PassLaws.{plain_law}
+use Rattle.chunk_pass.specs.Chunks.{items_of}
+use Rattle.chunk_pass.specs.PassCode.{lanes_word, plain_words}
+use Rattle.chunk_pass.specs.Passes.{lanes_at, Passes, comes, stops}
+use Rattle.chunk_pass.proofs.PassLaws.{plain_law}
 use Rattle.vector_emit.specs.VectorCode.{straight_code}
 use Rattle.vector_emit.specs.VectorRuns.{turn_steps}
 use Rattle.vector_emit.proofs.PassLoop.{Passing, pays_lanes, pays_last, leaves_here, stops_here, passes_on}

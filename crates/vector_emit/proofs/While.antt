@@ -16,8 +16,8 @@ use Rattle.lane_emit.proofs.Stretches.{width-size}
 use Rattle.chunk_emit.specs.Chunk.{IsTop}
 use Rattle.chunk_emit.specs.Head.{Ground, IsGround, AtHead, width, most_lanes, limit}
 use Rattle.first_fault.proofs.PrefixBits.{top_made}
-use Rattle.chunk_loop.specs.PassCode.{lanes_word}
-use Rattle.chunk_loop.specs.Passes.{lanes_at}
+use Rattle.chunk_pass.specs.PassCode.{lanes_word}
+use Rattle.chunk_pass.specs.Passes.{lanes_at}
 use Rattle.vector_emit.proofs.Flags.{some_lanes, while_none, while_some, while_first}
 use Rattle.vector_emit.proofs.Tests.{head_kept, Branched, branch_taken, branch_passed, bound_at}
 

@@ -6,7 +6,7 @@ use Rattle.label_fix.specs.DraftRun.{If, Entry, Put, Branch, Place, ins}
 use Rattle.loop_form.specs.LoopItems.{Item}
 use Rattle.chunk_emit.specs.Registers.{Layout}
 use Rattle.chunk_emit.specs.ChunkCode.{puts}
-use Rattle.chunk_loop.specs.PassCode.{lanes_word, chunk_words, turn_words, plain_words}
+use Rattle.chunk_pass.specs.PassCode.{lanes_word, chunk_words, turn_words, plain_words}
 use Rattle.vector_emit.specs.VectorCode.{any_lane}
 
 -- a chunk of a loop with a break

@@ -15,7 +15,7 @@ use Rattle.lane_emit.specs.Stretch.{word}
 use Rattle.chunk_emit.specs.ChunkCode.{puts}
 use Rattle.chunk_emit.specs.KernelLayout.{layout_of_loop}
 use Rattle.first_fault.specs.Split.{is_quit}
-use Rattle.chunk_loop.specs.PassCode.{lanes_word, chunk_words, turn_words, plain_words}
+use Rattle.chunk_pass.specs.PassCode.{lanes_word, chunk_words, turn_words, plain_words}
 use Rattle.loop_edges.specs.EdgeCode.{start_code, fold_code}
 
 -- PTEST P0, P0: Z is clear where a lane came through

@@ -1,4 +1,5 @@
--- What the vector code of a kernel's loop does: what the scalar loop does, within a pace that counts chunks.
+-- What the vector code of a kernel's loop does: what the scalar loop does, within a pace that counts chunks, and within a number
+-- of words that counts iterations.
 use Rattle.std.specs.Prelude.{◌≡◌, ℕ, ◌+◌, ◌*◌, ◌<◌, ◌≤◌, ◌^◌, List, slice_index}
 use Rattle.guest_types.specs.Memory.{Memory, byte_at}
 use Rattle.kernel_tree.specs.Items.{size_of}
@@ -27,14 +28,16 @@ pub record Near (g : Ground) (bg : ℕ) (left faulted : Memory) : Type 0 where
   pub few : k ≤ most_lanes g
   pub within : i + k ≤ limit g
   pub from : i < bg
-  pub last_use : bg ≤ i + k
+  pub until : bg ≤ i + k
   pub kept : (z : ℕ) → z < 2 ^ 64 → Elsewhere g.kernel g.args i k z → byte_at left z ≡ byte_at faulted z
 
 -- Where the scalar loop ends, the code does with its memory and result; where it faults, the code stops at a read or a write.
--- Each is within a pace, whose base counts the iterations that were begun.
-pub data Follows (g : Ground) (d : Laid) (c : List Entry) (s : State) (scale unit : ℕ) (base : ℕ → ℕ) : Run → Type 0 where
-  ends_so : {m : Memory} {r bg : ℕ} → EndsPaced d c s m r scale unit (base bg) → Follows g d c s scale unit base (End m r bg)
-  faults_so : {m : Memory} {bg : ℕ} (kind : StopKind) (left : Memory) → IsAccess kind → Near g bg left m → StopsPaced d c s kind left scale unit (base bg) → Follows g d c s scale unit base (Fault m bg)
+-- Each is within a pace, whose base counts the iterations that were begun, and within `most` words, whatever free elements are
+-- suppressed.
+pub data Follows (g : Ground) (d : Laid) (c : List Entry) (s : State) (scale unit : ℕ) (base most : ℕ → ℕ) : Run → Type 0 where
+  ends_so : {m : Memory} {r bg : ℕ} → (end : EndsPaced d c s m r scale unit (base bg)) → end.count ≤ most bg → Follows g d c s scale unit base most (End m r bg)
+  faults_so : {m : Memory} {bg : ℕ} (kind : StopKind) (left : Memory) → IsAccess kind → Near g bg left m → (stop : StopsPaced d c s kind left scale unit (base bg)) → stop.count ≤ most bg
+      → Follows g d c s scale unit base most (Fault m bg)
 
 -- the steps of one pass, of one iteration of scalar code, and of its end
 abbrev pub turn_steps : Ground → ℕ
@@ -43,6 +46,11 @@ turn_steps g = 32 + 8 * size_of g.kernel
 -- L times the steps of the passes over so many iterations, L the lanes of a chunk, and of what stands before and after them
 abbrev pub vector_base : Ground → ℕ → ℕ
 vector_base g bg = most_lanes g * (100 + 24 * size_of g.kernel) + turn_steps g * (bg + 5 * most_lanes g)
+
+-- the words of the passes where each iteration takes a chunk that no lane comes through and a pass by itself, and of what stands
+-- before and after them
+abbrev pub vector_most : Ground → ℕ → ℕ
+vector_most g bg = 4 + 11 * size_of g.kernel + turn_steps g * (2 * bg + 4)
 
 -- scalar code stands after the label: entered before an iteration, it does what the scalar loop does from there on
 abbrev pub ReachesScalar : Ground → Assignment → Laid → (scalar : ℕ) → Type 0
@@ -55,4 +63,4 @@ abbrev pub VectorRuns : Type 0
 VectorRuns =
     (g : Ground) (c : Assignment) (d : Laid) (scalar n : ℕ) (rest : List Entry) (m : Memory) (s : State) → IsGround g → FitsKernel g.kernel X c → IsState s → s.vl ≡ g.vl → AtIteration (register_in c) g.kernel 0 g.names m s
     → ((r : ℕ) → r ≤ 25 → x_at s r ≡ slice_index g.x r) → Resolves d (vector_code (register_in c) g.kernel g.vectors g.predicates scalar n rest) → ReachesScalar g c d scalar
-    → Follows g d (vector_code (register_in c) g.kernel g.vectors g.predicates scalar n rest) s (most_lanes g) (2 * (most_lanes g * turn_steps g)) (vector_base g) (run_from g.kernel 0 m g.names)
+    → Follows g d (vector_code (register_in c) g.kernel g.vectors g.predicates scalar n rest) s (most_lanes g) (2 * (most_lanes g * turn_steps g)) (vector_base g) (vector_most g) (run_from g.kernel 0 m g.names)

@@ -16,6 +16,3 @@ pub use vector::emit_vector;
 pub fn vector_runs()
     ensures { VectorRuns }
 {}
-
-#[cfg(test)]
-mod listings;

@@ -24,7 +24,7 @@ ghost use Rattle.vector_emit.specs.VectorCode as code;
 use crate::bound::bound;
 use a64_code::{A64, AddSubOp, AddSubShift, Cond, Reg};
 use chunk_emit::{LoopLayout, loop_layout};
-use chunk_loop::{emit_chunk, emit_plain, emit_turn, lanes};
+use chunk_pass::{emit_chunk, emit_plain, emit_turn, lanes};
 use first_fault::{has_break, writable_items};
 use kernel_tree::Checked;
 use label_fix::{BranchKind, Draft, Label, Word};

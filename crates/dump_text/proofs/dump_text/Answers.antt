@@ -5,7 +5,7 @@ use Rattle.dump_text.proofs.dump_text.Goals as goal
 
 pub loop-k-preserved : goal.loop-k-preserved
 loop-k-preserved c =
-    let pages = c.args.pages.now in
+    let pages = c.args.pages.now.memory in
     let k = c.loop-k.k in
     let from : 0 + k ≡ k = omega arith in
     c.in_ok-push_line.ensures

@@ -8,5 +8,5 @@ loop-k-preserved c =
     let address = c.args.address + c.loop-k.k in
     c.in_ok-push_shown.ensures
     ∙ ap (λ byte. c.loop-k.text.items ++ shown byte) c.byte.ensures
-    ∙ ap (λ before. before ++ byte_text c.args.pages.now address) c.loop-k.invariant
-    ∙ pieces_more (byte_text c.args.pages.now) c.args.text.now.items c.args.address c.loop-k.k address refl
+    ∙ ap (λ before. before ++ byte_text c.args.pages.now.memory address) c.loop-k.invariant
+    ∙ pieces_more (byte_text c.args.pages.now.memory) c.args.text.now.items c.args.address c.loop-k.k address refl

@@ -63,8 +63,17 @@ fn end_shift(
 {
     put_mark(out, shift_mark(left_shift))?;
     put_count(out, count)?;
-    close(out, place)?;
-    Ok(())
+    close(out, place)
+}
+
+// The word of a call and the parenthesis after it.
+fn begin_call(out: &mut String, mark: Mark) -> Result<(), AllocError>
+    ensures { IfOk result (λ _. (rest : List Word)
+        → string_bytes out.new ++ spaced rest
+        ≡ string_bytes out.old ++ spaced (IsMark mark ∷ IsMark Mark.OpenParen ∷ rest)) }
+{
+    put_mark(out, mark)?;
+    put_mark(out, Mark::OpenParen)
 }
 
 // An expression in a place.
@@ -75,24 +84,34 @@ pub fn print_expr(out: &mut String, expr: &Expr, place: Place) -> Result<(), All
         ≡ string_bytes out.old ++ spaced (print_term (term_of expr.now) place rest)) }
 {
     match expr {
-        Expr::Lit(value) => print_value(out, *value, place)?,
-        Expr::Var(name) => put_name(out, name)?,
-        Expr::Read { array, index } => print_read(out, array, index)?,
-        Expr::Unary { op, arg } => print_unary(out, *op, arg, place)?,
-        Expr::Binary { op, left, right } => print_binary(out, *op, left, right, place)?,
+        Expr::Lit(value) => print_value(out, *value, place),
+        Expr::Var(name) => put_name(out, name),
+        Expr::Read { array, index } => print_read(out, array, index),
+        Expr::Unary { op, arg } => print_unary(out, *op, arg, place),
+        Expr::Binary { op, left, right } => print_binary(out, *op, left, right, place),
         Expr::Shift {
             left_shift,
             arg,
             count,
-        } => print_shift(out, *left_shift, arg, *count, place)?,
-        Expr::Cast { arg, ty } => print_cast(out, arg, *ty, place)?,
-        Expr::Select { cond, yes, no } => print_select(out, cond, yes, no)?,
-        Expr::Compare { op, left, right } => print_compared(out, left, *op, right, place)?,
-        Expr::And { left, right } => print_between(out, left, Mark::AndAnd, right, place)?,
-        Expr::Or { left, right } => print_between(out, left, Mark::OrOr, right, place)?,
-        Expr::Not { arg } => print_not(out, arg, place)?,
+        } => print_shift(out, *left_shift, arg, *count, place),
+        Expr::Cast { arg, ty } => print_cast(out, arg, *ty, place),
+        Expr::Select { cond, yes, no } => print_select(out, cond, yes, no),
+        Expr::Compare { op, left, right } => print_compared(out, left, *op, right, place),
+        Expr::And { left, right } => print_between(out, left, Mark::AndAnd, right, place),
+        Expr::Or { left, right } => print_between(out, left, Mark::OrOr, right, place),
+        Expr::Not { arg } => print_signed(out, Mark::Bang, arg, Place::Operand, place),
     }
-    Ok(())
+}
+
+// An expression that stands alone, and the mark after it.
+#[cycle(terms)]
+fn print_argument(out: &mut String, arg: &Expr, mark: Mark) -> Result<(), AllocError>
+    ensures { IfOk result (λ _. (rest : List Word)
+        → string_bytes out.new ++ spaced rest
+        ≡ string_bytes out.old ++ spaced (print_term (term_of arg.now) Place.Alone (IsMark mark ∷ rest))) }
+{
+    print_expr(out, arg, Place::Alone)?;
+    put_mark(out, mark)
 }
 
 #[cycle(terms)]
@@ -104,9 +123,38 @@ fn print_read(out: &mut String, array: &Name, index: &Expr) -> Result<(), AllocE
 {
     put_name(out, array)?;
     put_mark(out, Mark::OpenBracket)?;
-    print_expr(out, index, Place::Alone)?;
-    put_mark(out, Mark::CloseBracket)?;
-    Ok(())
+    print_argument(out, index, Mark::CloseBracket)
+}
+
+// A sign and its operand.
+#[cycle(terms)]
+fn print_signed(
+    out: &mut String,
+    sign: Mark,
+    arg: &Expr,
+    inside: Place,
+    place: Place,
+) -> Result<(), AllocError>
+    ensures { IfOk result (λ _. (rest : List Word)
+        → string_bytes out.new ++ spaced rest
+        ≡ string_bytes out.old ++ spaced (opened place
+        (IsMark sign ∷ print_term (term_of arg.now) inside (closed place rest)))) }
+{
+    open(out, place)?;
+    put_mark(out, sign)?;
+    print_expr(out, arg, inside)?;
+    close(out, place)
+}
+
+#[cycle(terms)]
+fn print_absolute(out: &mut String, arg: &Expr) -> Result<(), AllocError>
+    ensures { IfOk result (λ _. (rest : List Word)
+        → string_bytes out.new ++ spaced rest
+        ≡ string_bytes out.old ++ spaced (IsMark Mark.Abs ∷ IsMark Mark.OpenParen
+        ∷ print_term (term_of arg.now) Place.Alone (IsMark Mark.CloseParen ∷ rest))) }
+{
+    begin_call(out, Mark::Abs)?;
+    print_argument(out, arg, Mark::CloseParen)
 }
 
 #[cycle(terms)]
@@ -116,26 +164,10 @@ fn print_unary(out: &mut String, op: UnaryOp, arg: &Expr, place: Place) -> Resul
         ≡ string_bytes out.old ++ spaced (print_unary op (print_term (term_of arg.now)) place rest)) }
 {
     match op {
-        UnaryOp::Neg => {
-            open(out, place)?;
-            put_mark(out, Mark::Minus)?;
-            print_expr(out, arg, Place::Negated)?;
-            close(out, place)?;
-        }
-        UnaryOp::Flip => {
-            open(out, place)?;
-            put_mark(out, Mark::Tilde)?;
-            print_expr(out, arg, Place::Operand)?;
-            close(out, place)?;
-        }
-        UnaryOp::Abs => {
-            put_mark(out, Mark::Abs)?;
-            put_mark(out, Mark::OpenParen)?;
-            print_expr(out, arg, Place::Alone)?;
-            put_mark(out, Mark::CloseParen)?;
-        }
+        UnaryOp::Neg => print_signed(out, Mark::Minus, arg, Place::Negated, place),
+        UnaryOp::Flip => print_signed(out, Mark::Tilde, arg, Place::Operand, place),
+        UnaryOp::Abs => print_absolute(out, arg),
     }
-    Ok(())
 }
 
 #[cycle(terms)]
@@ -152,10 +184,9 @@ fn print_binary(
         (print_term (term_of right.now)) place rest)) }
 {
     match symbol(op) {
-        Some(mark) => print_between(out, left, mark, right, place)?,
-        None => print_call(out, caller(op), left, right)?,
+        Some(mark) => print_between(out, left, mark, right, place),
+        None => print_call(out, caller(op), left, right),
     }
-    Ok(())
 }
 
 #[cycle(terms)]
@@ -175,8 +206,7 @@ fn print_between(
     print_expr(out, left, Place::Operand)?;
     put_mark(out, mark)?;
     print_expr(out, right, Place::Operand)?;
-    close(out, place)?;
-    Ok(())
+    close(out, place)
 }
 
 #[cycle(terms)]
@@ -196,8 +226,7 @@ fn print_compared(
     print_expr(out, left, Place::Operand)?;
     put_compare(out, op)?;
     print_expr(out, right, Place::Operand)?;
-    close(out, place)?;
-    Ok(())
+    close(out, place)
 }
 
 #[cycle(terms)]
@@ -207,13 +236,9 @@ fn print_call(out: &mut String, mark: Mark, left: &Expr, right: &Expr) -> Result
         ≡ string_bytes out.old ++ spaced (print_call mark (print_term (term_of left.now))
         (print_term (term_of right.now)) rest)) }
 {
-    put_mark(out, mark)?;
-    put_mark(out, Mark::OpenParen)?;
-    print_expr(out, left, Place::Alone)?;
-    put_mark(out, Mark::Comma)?;
-    print_expr(out, right, Place::Alone)?;
-    put_mark(out, Mark::CloseParen)?;
-    Ok(())
+    begin_call(out, mark)?;
+    print_argument(out, left, Mark::Comma)?;
+    print_argument(out, right, Mark::CloseParen)
 }
 
 #[cycle(terms)]
@@ -232,8 +257,7 @@ fn print_shift(
 {
     open(out, place)?;
     print_expr(out, arg, Place::Operand)?;
-    end_shift(out, left_shift, count, place)?;
-    Ok(())
+    end_shift(out, left_shift, count, place)
 }
 
 #[cycle(terms)]
@@ -247,8 +271,7 @@ fn print_cast(out: &mut String, arg: &Expr, ty: Ty, place: Place) -> Result<(), 
     print_expr(out, arg, Place::Operand)?;
     put_mark(out, Mark::As)?;
     put_type(out, ty)?;
-    close(out, place)?;
-    Ok(())
+    close(out, place)
 }
 
 #[cycle(terms)]
@@ -260,27 +283,8 @@ fn print_select(out: &mut String, cond: &Expr, yes: &Expr, no: &Expr) -> Result<
         (IsMark Mark.Comma ∷ print_term (term_of yes.now) Place.Alone
         (IsMark Mark.Comma ∷ print_term (term_of no.now) Place.Alone (IsMark Mark.CloseParen ∷ rest))))) }
 {
-    put_mark(out, Mark::Select)?;
-    put_mark(out, Mark::OpenParen)?;
-    print_expr(out, cond, Place::Alone)?;
-    put_mark(out, Mark::Comma)?;
-    print_expr(out, yes, Place::Alone)?;
-    put_mark(out, Mark::Comma)?;
-    print_expr(out, no, Place::Alone)?;
-    put_mark(out, Mark::CloseParen)?;
-    Ok(())
-}
-
-#[cycle(terms)]
-fn print_not(out: &mut String, arg: &Expr, place: Place) -> Result<(), AllocError>
-    ensures { IfOk result (λ _. (rest : List Word)
-        → string_bytes out.new ++ spaced rest
-        ≡ string_bytes out.old ++ spaced (opened place
-        (IsMark Mark.Bang ∷ print_term (term_of arg.now) Place.Operand (closed place rest)))) }
-{
-    open(out, place)?;
-    put_mark(out, Mark::Bang)?;
-    print_expr(out, arg, Place::Operand)?;
-    close(out, place)?;
-    Ok(())
+    begin_call(out, Mark::Select)?;
+    print_argument(out, cond, Mark::Comma)?;
+    print_argument(out, yes, Mark::Comma)?;
+    print_argument(out, no, Mark::CloseParen)
 }

@@ -16,15 +16,11 @@ fn put_shape(out: &mut String, shape: Shape) -> Result<(), AllocError>
         → string_bytes out.new ++ spaced rest ≡ string_bytes out.old ++ spaced (print_shape shape rest)) }
 {
     match shape {
-        Shape::Scalar(ty) => {
-            put_type(out, ty)?;
-            Ok(())
-        }
+        Shape::Scalar(ty) => put_type(out, ty),
         Shape::Array(ty) => {
             put_mark(out, Mark::OpenBracket)?;
             put_type(out, ty)?;
-            put_mark(out, Mark::CloseBracket)?;
-            Ok(())
+            put_mark(out, Mark::CloseBracket)
         }
     }
 }
@@ -36,8 +32,7 @@ fn put_param(out: &mut String, param: &Param) -> Result<(), AllocError>
 {
     put_name(out, &param.name)?;
     put_mark(out, Mark::Colon)?;
-    put_shape(out, param.shape)?;
-    Ok(())
+    put_shape(out, param.shape)
 }
 
 // Parameters after a first one.
@@ -62,8 +57,7 @@ pub fn put_params(out: &mut String, params: &[Param]) -> Result<(), AllocError>
         None => Ok(()),
         Some((first, others)) => {
             put_param(out, first)?;
-            put_others(out, others)?;
-            Ok(())
+            put_others(out, others)
         }
     }
 }
@@ -78,8 +72,7 @@ fn put_var(out: &mut String, var: &Var) -> Result<(), AllocError>
     put_mark(out, Mark::Colon)?;
     put_type(out, var.ty)?;
     put_mark(out, Mark::Equals)?;
-    print_before(out, &var.init, Mark::Semicolon)?;
-    Ok(())
+    print_before(out, &var.init, Mark::Semicolon)
 }
 
 pub fn put_vars(out: &mut String, vars: &[Var]) -> Result<(), AllocError>
@@ -106,8 +99,7 @@ fn put_range(out: &mut String, turns: &Loop) -> Result<(), AllocError>
     put_number(out, 0)?;
     put_mark(out, Mark::Range)?;
     put_name(out, &turns.bound)?;
-    put_mark(out, Mark::OpenBrace)?;
-    Ok(())
+    put_mark(out, Mark::OpenBrace)
 }
 
 pub fn put_loop(out: &mut String, turns: &Option<Loop>) -> Result<(), AllocError>
@@ -119,8 +111,7 @@ pub fn put_loop(out: &mut String, turns: &Option<Loop>) -> Result<(), AllocError
         None => Ok(()),
         Some(turns) => {
             put_range(out, turns)?;
-            print_statements(out, &turns.body)?;
-            Ok(())
+            print_statements(out, &turns.body)
         }
     }
 }
@@ -135,8 +126,7 @@ pub fn put_arrow(out: &mut String, answer: &Option<Answer>) -> Result<(), AllocE
         None => Ok(()),
         Some(answer) => {
             put_mark(out, Mark::Arrow)?;
-            put_type(out, answer.ty)?;
-            Ok(())
+            put_type(out, answer.ty)
         }
     }
 }
@@ -150,8 +140,7 @@ pub fn put_answer(out: &mut String, answer: &Option<Answer>) -> Result<(), Alloc
         None => Ok(()),
         Some(answer) => {
             put_mark(out, Mark::Return)?;
-            print_before(out, &answer.value, Mark::Semicolon)?;
-            Ok(())
+            print_before(out, &answer.value, Mark::Semicolon)
         }
     }
 }

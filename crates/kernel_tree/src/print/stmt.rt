@@ -19,11 +19,13 @@ fn put_shown_type(out: &mut String, ty: Option<Ty>) -> Result<(), AllocError>
     ensures { IfOk result (λ _. (rest : List Word)
         → string_bytes out.new ++ spaced rest ≡ string_bytes out.old ++ spaced (print_type ty rest)) }
 {
-    if let Some(ty) = ty {
-        put_mark(out, Mark::Colon)?;
-        put_type(out, ty)?;
+    match ty {
+        None => Ok(()),
+        Some(ty) => {
+            put_mark(out, Mark::Colon)?;
+            put_type(out, ty)
+        }
     }
-    Ok(())
 }
 
 // An expression and a mark after it.
@@ -33,8 +35,7 @@ pub fn print_before(out: &mut String, expr: &Expr, mark: Mark) -> Result<(), All
         ≡ string_bytes out.old ++ spaced (print_term (term_of expr.now) Place.Alone (IsMark mark ∷ rest))) }
 {
     print_expr(out, expr, Place::Alone)?;
-    put_mark(out, mark)?;
-    Ok(())
+    put_mark(out, mark)
 }
 
 fn print_let(out: &mut String, name: &Name, ty: Option<Ty>, value: &Expr) -> Result<(), AllocError>
@@ -48,8 +49,7 @@ fn print_let(out: &mut String, name: &Name, ty: Option<Ty>, value: &Expr) -> Res
     put_name(out, name)?;
     put_shown_type(out, ty)?;
     put_mark(out, Mark::Equals)?;
-    print_before(out, value, Mark::Semicolon)?;
-    Ok(())
+    print_before(out, value, Mark::Semicolon)
 }
 
 fn print_store(out: &mut String, array: &Name, index: &Expr, value: &Expr) -> Result<(), AllocError>
@@ -64,8 +64,7 @@ fn print_store(out: &mut String, array: &Name, index: &Expr, value: &Expr) -> Re
     put_mark(out, Mark::OpenBracket)?;
     print_before(out, index, Mark::CloseBracket)?;
     put_mark(out, Mark::Equals)?;
-    print_before(out, value, Mark::Semicolon)?;
-    Ok(())
+    print_before(out, value, Mark::Semicolon)
 }
 
 fn print_update(out: &mut String, name: &Name, op: UpdateOp, value: &Expr) -> Result<(), AllocError>
@@ -76,8 +75,7 @@ fn print_update(out: &mut String, name: &Name, op: UpdateOp, value: &Expr) -> Re
 {
     put_name(out, name)?;
     put_update(out, op)?;
-    print_before(out, value, Mark::Semicolon)?;
-    Ok(())
+    print_before(out, value, Mark::Semicolon)
 }
 
 fn print_break(out: &mut String, cond: &Expr) -> Result<(), AllocError>
@@ -88,8 +86,7 @@ fn print_break(out: &mut String, cond: &Expr) -> Result<(), AllocError>
 {
     put_mark(out, Mark::Break)?;
     put_mark(out, Mark::If)?;
-    print_before(out, cond, Mark::Semicolon)?;
-    Ok(())
+    print_before(out, cond, Mark::Semicolon)
 }
 
 #[cycle(statements)]
@@ -99,22 +96,13 @@ fn print_stmt(out: &mut String, stmt: &Stmt) -> Result<(), AllocError>
         ≡ string_bytes out.old ++ spaced (print_action (action_of stmt.now) rest)) }
 {
     match stmt {
-        Stmt::Let { name, ty, value } => {
-            print_let(out, name, *ty, value)?;
-            Ok(())
-        }
+        Stmt::Let { name, ty, value } => print_let(out, name, *ty, value),
         Stmt::Store {
             array,
             index,
             value,
-        } => {
-            print_store(out, array, index, value)?;
-            Ok(())
-        }
-        Stmt::Update { name, op, value } => {
-            print_update(out, name, *op, value)?;
-            Ok(())
-        }
+        } => print_store(out, array, index, value),
+        Stmt::Update { name, op, value } => print_update(out, name, *op, value),
         Stmt::If {
             cond,
             then_part,
@@ -123,16 +111,10 @@ fn print_stmt(out: &mut String, stmt: &Stmt) -> Result<(), AllocError>
             print_then(out, cond, then_part)?;
             match else_part {
                 None => Ok(()),
-                Some(other) => {
-                    print_else(out, other)?;
-                    Ok(())
-                }
+                Some(other) => print_else(out, other),
             }
         }
-        Stmt::Break { cond } => {
-            print_break(out, cond)?;
-            Ok(())
-        }
+        Stmt::Break { cond } => print_break(out, cond),
     }
 }
 
@@ -145,8 +127,7 @@ fn print_then(out: &mut String, cond: &Expr, block: &[Stmt]) -> Result<(), Alloc
 {
     put_mark(out, Mark::If)?;
     print_before(out, cond, Mark::OpenBrace)?;
-    print_statements(out, block)?;
-    Ok(())
+    print_statements(out, block)
 }
 
 #[cycle(statements)]
@@ -158,8 +139,7 @@ fn print_else(out: &mut String, block: &[Stmt]) -> Result<(), AllocError>
 {
     put_mark(out, Mark::Else)?;
     put_mark(out, Mark::OpenBrace)?;
-    print_statements(out, block)?;
-    Ok(())
+    print_statements(out, block)
 }
 
 // Statements and the brace after them.
@@ -172,6 +152,5 @@ pub fn print_statements(out: &mut String, block: &[Stmt]) -> Result<(), AllocErr
     for stmt in block {
         print_stmt(out, stmt)?;
     }
-    put_mark(out, Mark::CloseBrace)?;
-    Ok(())
+    put_mark(out, Mark::CloseBrace)
 }

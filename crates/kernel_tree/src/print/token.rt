@@ -18,8 +18,7 @@ pub fn put(out: &mut String, token: &str) -> Result<(), AllocError>
         → string_bytes out.new ++ rest ≡ string_bytes out.old ++ (32 ∷ (token.now ++ rest))) }
 {
     out.push_str(" ")?;
-    out.push_str(token)?;
-    Ok(())
+    out.push_str(token)
 }
 
 #[tactic(auto, unfolding(crate::specs::Printing::spaced))]
@@ -27,8 +26,7 @@ pub fn put_name(out: &mut String, name: &Name) -> Result<(), AllocError>
     ensures { IfOk result (λ _. (rest : List Word)
         → string_bytes out.new ++ spaced rest ≡ string_bytes out.old ++ spaced (IsName (name_of name.now) ∷ rest)) }
 {
-    put(out, name.text())?;
-    Ok(())
+    put(out, name.text())
 }
 
 #[tactic(auto, unfolding(crate::specs::Printing::spaced))]
@@ -37,8 +35,7 @@ pub fn put_number(out: &mut String, n: u128) -> Result<(), AllocError>
         → string_bytes out.new ++ spaced rest ≡ string_bytes out.old ++ spaced (IsNumber n ∷ rest)) }
 {
     let mut buffer = Buffer::new();
-    put(out, buffer.format(n))?;
-    Ok(())
+    put(out, buffer.format(n))
 }
 
 pub fn type_str(ty: Ty) -> &'static str
@@ -61,8 +58,7 @@ pub fn put_type(out: &mut String, ty: Ty) -> Result<(), AllocError>
     ensures { IfOk result (λ _. (rest : List Word)
         → string_bytes out.new ++ spaced rest ≡ string_bytes out.old ++ spaced (IsType ty ∷ rest)) }
 {
-    put(out, type_str(ty))?;
-    Ok(())
+    put(out, type_str(ty))
 }
 
 pub fn reserved_str(mark: Mark) -> &'static str
@@ -124,8 +120,7 @@ pub fn put_mark(out: &mut String, mark: Mark) -> Result<(), AllocError>
     ensures { IfOk result (λ _. (rest : List Word)
         → string_bytes out.new ++ spaced rest ≡ string_bytes out.old ++ spaced (IsMark mark ∷ rest)) }
 {
-    put(out, mark_str(mark))?;
-    Ok(())
+    put(out, mark_str(mark))
 }
 
 pub fn compare_str(op: CompareOp) -> &'static str
@@ -159,8 +154,7 @@ pub fn put_update(out: &mut String, op: UpdateOp) -> Result<(), AllocError>
     ensures { IfOk result (λ _. (rest : List Word)
         → string_bytes out.new ++ spaced rest ≡ string_bytes out.old ++ spaced (IsUpdate op ∷ rest)) }
 {
-    put(out, update_str(op))?;
-    Ok(())
+    put(out, update_str(op))
 }
 
 // Parentheses round an operator or a negative literal that is an operand.
@@ -171,10 +165,7 @@ pub fn open(out: &mut String, place: Place) -> Result<(), AllocError>
 {
     match place {
         Place::Alone => Ok(()),
-        Place::Operand | Place::Negated => {
-            put_mark(out, Mark::OpenParen)?;
-            Ok(())
-        }
+        Place::Operand | Place::Negated => put_mark(out, Mark::OpenParen),
     }
 }
 
@@ -185,10 +176,7 @@ pub fn close(out: &mut String, place: Place) -> Result<(), AllocError>
 {
     match place {
         Place::Alone => Ok(()),
-        Place::Operand | Place::Negated => {
-            put_mark(out, Mark::CloseParen)?;
-            Ok(())
-        }
+        Place::Operand | Place::Negated => put_mark(out, Mark::CloseParen),
     }
 }
 
@@ -200,15 +188,11 @@ pub fn put_positive(out: &mut String, n: u128, place: Place) -> Result<(), Alloc
         ≡ string_bytes out.old ++ spaced (number_opened place (IsNumber n ∷ number_closed place rest))) }
 {
     match place {
-        Place::Alone | Place::Operand => {
-            put_number(out, n)?;
-            Ok(())
-        }
+        Place::Alone | Place::Operand => put_number(out, n),
         Place::Negated => {
             put_mark(out, Mark::OpenParen)?;
             put_number(out, n)?;
-            put_mark(out, Mark::CloseParen)?;
-            Ok(())
+            put_mark(out, Mark::CloseParen)
         }
     }
 }
@@ -221,8 +205,7 @@ pub fn put_negative(out: &mut String, n: u128, place: Place) -> Result<(), Alloc
     open(out, place)?;
     put_mark(out, Mark::Minus)?;
     put_number(out, n)?;
-    close(out, place)?;
-    Ok(())
+    close(out, place)
 }
 
 pub fn print_value(out: &mut String, value: i128, place: Place) -> Result<(), AllocError>
@@ -230,11 +213,9 @@ pub fn print_value(out: &mut String, value: i128, place: Place) -> Result<(), Al
         → string_bytes out.new ++ spaced rest ≡ string_bytes out.old ++ spaced (print_literal value place rest)) }
 {
     if value < 0 {
-        put_negative(out, value.unsigned_abs(), place)?;
-        Ok(())
+        put_negative(out, value.unsigned_abs(), place)
     } else {
-        put_positive(out, value.unsigned_abs(), place)?;
-        Ok(())
+        put_positive(out, value.unsigned_abs(), place)
     }
 }
 
@@ -246,8 +227,7 @@ pub fn put_count(out: &mut String, count: i128) -> Result<(), AllocError>
     if count < 0 {
         put_mark(out, Mark::Minus)?;
     }
-    put_number(out, count.unsigned_abs())?;
-    Ok(())
+    put_number(out, count.unsigned_abs())
 }
 
 #[tactic(auto, unfolding(crate::specs::Printing::spaced))]
@@ -255,6 +235,5 @@ pub fn put_compare(out: &mut String, op: CompareOp) -> Result<(), AllocError>
     ensures { IfOk result (λ _. (rest : List Word)
         → string_bytes out.new ++ spaced rest ≡ string_bytes out.old ++ spaced (IsCompare op ∷ rest)) }
 {
-    put(out, compare_str(op))?;
-    Ok(())
+    put(out, compare_str(op))
 }

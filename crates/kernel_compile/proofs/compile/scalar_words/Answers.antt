@@ -16,3 +16,6 @@ pub returns-clause-faithful : goal.returns-clause-faithful
 returns-clause-faithful c =
     let why = why_scalar (class_of (program c.args.kernel.now)) c.requires.class in
     c.scalar_files.ensures (program c.args.kernel.now) (file_of c.in_ok-words.words.items) why.0 why.1 c.in_ok-words.ensures.faithful
+
+pub returns-clause-ends : goal.returns-clause-ends
+returns-clause-ends c = c.faithful_files.ensures.ends (program c.args.kernel.now) (file_of c.in_ok-words.words.items) c.in_ok-words.ensures.faithful

@@ -4,7 +4,7 @@ use Rattle.std.proofs.lemmas.List.{length-map}
 use Rattle.kernel_tree.specs.Plain.{term_of, words_of, word_of}
 use Rattle.kernel_tree.specs.declared.mark.Operator.TheVariants.{Joined, Compared, Shifted, As}
 use Rattle.kernel_syntax.specs.Reading.{operator_at, chain_at, unary_at, signed_by}
-use Rattle.kernel_syntax.proofs.Chain.{chain-zero, chain-above, fails_on, begins, ends, goes_joined, goes_shifted, goes_as, ends_compared, fails_joined, fails_compared, fails_shifted, fails_as}
+use Rattle.kernel_syntax.proofs.Chain.{chain-zero, chain-above, fails_on, begins, ends, takes_joined, takes_shifted, takes_as, compared_is, refuses_joined, refuses_shifted, refuses_as}
 use Rattle.kernel_syntax.proofs.Rooms.{unary-some}
 use Rattle.kernel_syntax.proofs.SignRows.{wraps_none, wraps_more, wraps_fails, wraps_stops, wraps_all}
 use Rattle.kernel_syntax.proofs.expression.+expression.Goals as goal
@@ -20,55 +20,49 @@ chain-returns-in_err-first-clause-value t c =
 pub chain-more-init : goal.chain-more-init
 chain-more-init t c = (c.in_ok-first.ensures.shorter, begins (unary_at c.args.room) c.args.level (words_of c.args.tokens.now) _ _ (omega arith) c.in_ok-first.ensures.value)
 
-pub chain-returns-in_err-right-in-Joined-clause-value : goal.chain-returns-in_err-right-in-Joined-clause-value
-chain-returns-in_err-right-in-Joined-clause-value t c =
+pub chain-returns-in_err-whole-in-Joined-clause-value : goal.chain-returns-in_err-whole-in-Joined-clause-value
+chain-returns-in_err-whole-in-Joined-clause-value t c =
     let found : Some (Joined c.in-Joined.joint, words_of c.in-Some.after.now) ≡ operator_at c.args.level (words_of c.more.rest.now) = rw c.in-Joined.is at c.in-Some.ensures.value in
-    let p = err_from_is_err_and c.from_residual-in_err-right-in-Joined.result c.from_residual-in_err-right-in-Joined.ensures.1 in
-    rw (p.1, p.2) (fails_joined (unary_at c.args.room) c.args.level (words_of c.args.tokens.now) (term_of c.more.left) (words_of c.more.rest.now) c.more.invariant.1 c.in-Joined.joint (words_of c.in-Some.after.now) _ found c.in_err-right-in-Joined.ensures.value)
+    let p = err_from_is_err_and c.from_residual-in_err-whole-in-Joined.result c.from_residual-in_err-whole-in-Joined.ensures.1 in
+    rw (p.1, p.2) (refuses_joined (unary_at c.args.room) c.args.level (words_of c.args.tokens.now) (term_of c.more.left.value) (words_of c.more.rest.now) c.more.invariant.1 c.in-Joined.joint (words_of c.in-Some.after.now) _ found c.in_err-whole-in-Joined.ensures.value)
 
 pub chain-more-preserved-in-Joined : goal.chain-more-preserved-in-Joined
 chain-more-preserved-in-Joined t c =
     let found : Some (Joined c.in-Joined.joint, words_of c.in-Some.after.now) ≡ operator_at c.args.level (words_of c.more.rest.now) = rw c.in-Joined.is at c.in-Some.ensures.value in
-    let short : length (words_of c.in_ok-right-in-Joined.next.now) < length (words_of c.more.rest.now) = omega (arith, c.in_ok-right-in-Joined.ensures.shorter, c.in-Some.ensures.shorter, length-map c.in_ok-right-in-Joined.next.now word_of, length-map c.more.rest.now word_of) in
-    (omega (arith, c.in_ok-right-in-Joined.ensures.shorter, c.in-Some.ensures.shorter), rw c.in_ok-left-in-Joined.ensures (goes_joined (unary_at c.args.room) c.args.level (words_of c.args.tokens.now) (term_of c.more.left) (words_of c.more.rest.now) c.more.invariant.1 c.in-Joined.joint (words_of c.in-Some.after.now) _ _ found c.in_ok-right-in-Joined.ensures.value short))
-
-pub chain-returns-in_err-right-in-Compared-clause-value : goal.chain-returns-in_err-right-in-Compared-clause-value
-chain-returns-in_err-right-in-Compared-clause-value t c =
-    let found : Some (Compared c.in-Compared.op, words_of c.in-Some.after.now) ≡ operator_at c.args.level (words_of c.more.rest.now) = rw c.in-Compared.is at c.in-Some.ensures.value in
-    let p = err_from_is_err_and c.from_residual-in_err-right-in-Compared.result c.from_residual-in_err-right-in-Compared.ensures.1 in
-    rw (p.1, p.2) (fails_compared (unary_at c.args.room) c.args.level (words_of c.args.tokens.now) (term_of c.more.left) (words_of c.more.rest.now) c.more.invariant.1 c.in-Compared.op (words_of c.in-Some.after.now) _ found c.in_err-right-in-Compared.ensures.value)
+    let short : length (words_of c.in_ok-whole-in-Joined.next.now) < length (words_of c.more.rest.now) = omega (arith, c.in_ok-whole-in-Joined.ensures.shorter, c.in-Some.ensures.shorter, length-map c.in_ok-whole-in-Joined.next.now word_of, length-map c.more.rest.now word_of) in
+    (omega (arith, c.in_ok-whole-in-Joined.ensures.shorter, c.in-Some.ensures.shorter), (takes_joined (unary_at c.args.room) c.args.level (words_of c.args.tokens.now) (term_of c.more.left.value) (words_of c.more.rest.now) c.more.invariant.1 c.in-Joined.joint (words_of c.in-Some.after.now) _ _ found c.in_ok-whole-in-Joined.ensures.value short))
 
 pub chain-returns-in-Compared-clause-value : goal.chain-returns-in-Compared-clause-value
 chain-returns-in-Compared-clause-value t c =
     let found : Some (Compared c.in-Compared.op, words_of c.in-Some.after.now) ≡ operator_at c.args.level (words_of c.more.rest.now) = rw c.in-Compared.is at c.in-Some.ensures.value in
-    rw c.in_ok-compare-in-Compared.ensures (ends_compared (unary_at c.args.room) c.args.level (words_of c.args.tokens.now) (term_of c.more.left) (words_of c.more.rest.now) c.more.invariant.1 c.in-Compared.op (words_of c.in-Some.after.now) _ _ found c.in_ok-right-in-Compared.ensures.value)
+    rw (compared_is (unary_at c.args.room) c.args.level (words_of c.args.tokens.now) (term_of c.more.left.value) (words_of c.more.rest.now) c.more.invariant.1 c.in-Compared.op (words_of c.in-Some.after.now) found) c.compared.ensures.value
 
-pub chain-returns-in_err-count-in-Shifted-clause-value : goal.chain-returns-in_err-count-in-Shifted-clause-value
-chain-returns-in_err-count-in-Shifted-clause-value t c =
+pub chain-returns-in_err-whole-in-Shifted-clause-value : goal.chain-returns-in_err-whole-in-Shifted-clause-value
+chain-returns-in_err-whole-in-Shifted-clause-value t c =
     let found : Some (Shifted c.in-Shifted.to_left, words_of c.in-Some.after.now) ≡ operator_at c.args.level (words_of c.more.rest.now) = rw c.in-Shifted.is at c.in-Some.ensures.value in
-    let p = err_from_is_err_and c.from_residual-in_err-count-in-Shifted.result c.from_residual-in_err-count-in-Shifted.ensures.1 in
-    rw (p.1, p.2) (fails_shifted (unary_at c.args.room) c.args.level (words_of c.args.tokens.now) (term_of c.more.left) (words_of c.more.rest.now) c.more.invariant.1 c.in-Shifted.to_left (words_of c.in-Some.after.now) _ found c.in_err-count-in-Shifted.ensures.value)
+    let p = err_from_is_err_and c.from_residual-in_err-whole-in-Shifted.result c.from_residual-in_err-whole-in-Shifted.ensures.1 in
+    rw (p.1, p.2) (refuses_shifted (unary_at c.args.room) c.args.level (words_of c.args.tokens.now) (term_of c.more.left.value) (words_of c.more.rest.now) c.more.invariant.1 c.in-Shifted.to_left (words_of c.in-Some.after.now) _ found c.in_err-whole-in-Shifted.ensures.value)
 
 pub chain-more-preserved-in-Shifted : goal.chain-more-preserved-in-Shifted
 chain-more-preserved-in-Shifted t c =
     let found : Some (Shifted c.in-Shifted.to_left, words_of c.in-Some.after.now) ≡ operator_at c.args.level (words_of c.more.rest.now) = rw c.in-Shifted.is at c.in-Some.ensures.value in
-    let short : length (words_of c.in_ok-count-in-Shifted.next.now) < length (words_of c.more.rest.now) = omega (arith, c.in_ok-count-in-Shifted.ensures.shorter, c.in-Some.ensures.shorter, length-map c.in_ok-count-in-Shifted.next.now word_of, length-map c.more.rest.now word_of) in
-    (omega (arith, c.in_ok-count-in-Shifted.ensures.shorter, c.in-Some.ensures.shorter), rw c.in_ok-left-in-Shifted.ensures (goes_shifted (unary_at c.args.room) c.args.level (words_of c.args.tokens.now) (term_of c.more.left) (words_of c.more.rest.now) c.more.invariant.1 c.in-Shifted.to_left (words_of c.in-Some.after.now) _ _ found c.in_ok-count-in-Shifted.ensures.value short))
+    let short : length (words_of c.in_ok-whole-in-Shifted.next.now) < length (words_of c.more.rest.now) = omega (arith, c.in_ok-whole-in-Shifted.ensures.shorter, c.in-Some.ensures.shorter, length-map c.in_ok-whole-in-Shifted.next.now word_of, length-map c.more.rest.now word_of) in
+    (omega (arith, c.in_ok-whole-in-Shifted.ensures.shorter, c.in-Some.ensures.shorter), (takes_shifted (unary_at c.args.room) c.args.level (words_of c.args.tokens.now) (term_of c.more.left.value) (words_of c.more.rest.now) c.more.invariant.1 c.in-Shifted.to_left (words_of c.in-Some.after.now) _ _ found c.in_ok-whole-in-Shifted.ensures.value short))
 
-pub chain-returns-in_err-ty-in-As-clause-value : goal.chain-returns-in_err-ty-in-As-clause-value
-chain-returns-in_err-ty-in-As-clause-value t c =
+pub chain-returns-in_err-whole-in-As-clause-value : goal.chain-returns-in_err-whole-in-As-clause-value
+chain-returns-in_err-whole-in-As-clause-value t c =
     let found : Some (As, words_of c.in-Some.after.now) ≡ operator_at c.args.level (words_of c.more.rest.now) = rw c.in-As.is at c.in-Some.ensures.value in
-    let p = err_from_is_err_and c.from_residual-in_err-ty-in-As.result c.from_residual-in_err-ty-in-As.ensures.1 in
-    rw (p.1, p.2) (fails_as (unary_at c.args.room) c.args.level (words_of c.args.tokens.now) (term_of c.more.left) (words_of c.more.rest.now) c.more.invariant.1 (words_of c.in-Some.after.now) _ found c.in_err-ty-in-As.ensures.value)
+    let p = err_from_is_err_and c.from_residual-in_err-whole-in-As.result c.from_residual-in_err-whole-in-As.ensures.1 in
+    rw (p.1, p.2) (refuses_as (unary_at c.args.room) c.args.level (words_of c.args.tokens.now) (term_of c.more.left.value) (words_of c.more.rest.now) c.more.invariant.1 (words_of c.in-Some.after.now) _ found c.in_err-whole-in-As.ensures.value)
 
 pub chain-more-preserved : goal.chain-more-preserved
 chain-more-preserved t c =
     let found : Some (As, words_of c.in-Some.after.now) ≡ operator_at c.args.level (words_of c.more.rest.now) = rw c.in-As.is at c.in-Some.ensures.value in
-    let short : length (words_of c.in_ok-ty-in-As.next.now) < length (words_of c.more.rest.now) = omega (arith, c.in_ok-ty-in-As.ensures.shorter, c.in-Some.ensures.shorter, length-map c.in_ok-ty-in-As.next.now word_of, length-map c.more.rest.now word_of) in
-    (omega (arith, c.in_ok-ty-in-As.ensures.shorter, c.in-Some.ensures.shorter), rw c.in_ok-left-in-As.ensures (goes_as (unary_at c.args.room) c.args.level (words_of c.args.tokens.now) (term_of c.more.left) (words_of c.more.rest.now) c.more.invariant.1 (words_of c.in-Some.after.now) _ _ found c.in_ok-ty-in-As.ensures.value short))
+    let short : length (words_of c.in_ok-whole-in-As.next.now) < length (words_of c.more.rest.now) = omega (arith, c.in_ok-whole-in-As.ensures.shorter, c.in-Some.ensures.shorter, length-map c.in_ok-whole-in-As.next.now word_of, length-map c.more.rest.now word_of) in
+    (omega (arith, c.in_ok-whole-in-As.ensures.shorter, c.in-Some.ensures.shorter), (takes_as (unary_at c.args.room) c.args.level (words_of c.args.tokens.now) (term_of c.more.left.value) (words_of c.more.rest.now) c.more.invariant.1 (words_of c.in-Some.after.now) _ _ found c.in_ok-whole-in-As.ensures.value short))
 
 pub chain-returns-clause-value : goal.chain-returns-clause-value
-chain-returns-clause-value t c = ends (unary_at c.args.room) c.args.level (words_of c.args.tokens.now) (term_of c.more.left) (words_of c.more.rest.now) c.more.invariant.1 c.in_default.ensures.value
+chain-returns-clause-value t c = ends (unary_at c.args.room) c.args.level (words_of c.args.tokens.now) (term_of c.more.left.value) (words_of c.more.rest.now) c.more.invariant.1 c.in_default.ensures.value
 
 pub unary-returns-clause-value : goal.unary-returns-clause-value
 unary-returns-clause-value t c = rw (unary-some c.args.room (words_of c.args.tokens.now) (omega arith)) c.begun.ensures.value

@@ -6,37 +6,43 @@ use Rattle.kernel_syntax.proofs.SignRows.{Wraps}
 use Rattle.kernel_syntax.proofs.expression.+expression.Given as goal
 
 abbrev pub decreases-chain : goal.decreases-chain
-decreases-chain l = 16 * l.room + (1 + l.level)
+decreases-chain l = 32 * l.room + (1 + 2 * l.level)
+
+abbrev pub decreases-joined : goal.decreases-joined
+decreases-joined l = 32 * l.room + (2 + 2 * l.level)
+
+abbrev pub decreases-compared : goal.decreases-compared
+decreases-compared l = 32 * l.room + (2 + 2 * l.level)
 
 abbrev pub decreases-unary : goal.decreases-unary
-decreases-unary l = 16 * l.room
+decreases-unary l = 32 * l.room
 
 abbrev pub decreases-opened : goal.decreases-opened
-decreases-opened l = 16 * l.room + 14
+decreases-opened l = 32 * l.room + 24
 
 abbrev pub decreases-begun : goal.decreases-begun
-decreases-begun l = 16 * l.room + 15
+decreases-begun l = 32 * l.room + 25
 
 abbrev pub decreases-term_then : goal.decreases-term_then
-decreases-term_then l = 16 * l.room + 12
+decreases-term_then l = 32 * l.room + 22
 
 abbrev pub decreases-named : goal.decreases-named
-decreases-named l = 16 * l.room + 13
+decreases-named l = 32 * l.room + 23
 
 abbrev pub decreases-pair : goal.decreases-pair
-decreases-pair l = 16 * l.room + 13
+decreases-pair l = 32 * l.room + 23
 
 abbrev pub decreases-absolute : goal.decreases-absolute
-decreases-absolute l = 16 * l.room + 13
+decreases-absolute l = 32 * l.room + 23
 
 abbrev pub decreases-choice : goal.decreases-choice
-decreases-choice l = 16 * l.room + 13
+decreases-choice l = 32 * l.room + 23
 
 abbrev pub decreases-signed : goal.decreases-signed
-decreases-signed l = 16 * l.room + 13
+decreases-signed l = 32 * l.room + 23
 
 abbrev pub decreases-operand : goal.decreases-operand
-decreases-operand l = 16 * l.room + 1
+decreases-operand l = 32 * l.room + 1
 
 abbrev pub invariant-signed-more : goal.invariant-signed-more
 invariant-signed-more l = record {
@@ -49,7 +55,7 @@ abbrev pub decreases-signed-more : goal.decreases-signed-more
 decreases-signed-more l = length l.rest
 
 abbrev pub invariant-chain-more : goal.invariant-chain-more
-invariant-chain-more l = (length l.rest < length l.tokens) × Goes (unary_at l.room) l.level (words_of l.tokens) (term_of l.left) (words_of l.rest)
+invariant-chain-more l = (length l.rest < length l.tokens) × Goes (unary_at l.room) l.level (words_of l.tokens) (term_of l.left.value) (words_of l.rest)
 
 abbrev pub decreases-chain-more : goal.decreases-chain-more
 decreases-chain-more l = length l.rest

@@ -4,7 +4,7 @@ use Rattle.kernel_syntax.specs.Signs.{all_signed}
 use Rattle.kernel_syntax.proofs.expression.following_signs.Given as goal
 
 abbrev pub invariant-more : goal.invariant-more
-invariant-more l = all_signed l.left.items (term_of l.expr) ≡ all_signed l.fn.signs.items (term_of l.fn.arg)
+invariant-more l = all_signed l.left.items (term_of l.expr.value) ≡ all_signed l.fn.signs.items (term_of l.fn.arg.value)
 
 abbrev pub decreases-more : goal.decreases-more
 decreases-more l = vec_len l.left

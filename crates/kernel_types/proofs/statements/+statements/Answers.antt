@@ -1,10 +1,11 @@
 use Rattle.std.proofs.Common.{◌+◌, ap, ◌∙◌, arith, drop}
-use Rattle.kernel_tree.specs.Plain.{action_of, block_of}
-use Rattle.kernel_tree.specs.Items as items
+use Rattle.std.proofs.lemmas.Result.{IfOk-weaker}
+use Rattle.kernel_tree.specs.Plain.{term_of, action_of, block_of}
 use Rattle.kernel_tree.specs.Limits.{block_depth}
 use Rattle.kernel_scope.specs.Scopes.{scope_of, kept}
 use Rattle.kernel_scope.proofs.Growth.{kept-block}
 use Rattle.kernel_types.proofs.ListWalks.{next_statement, goes_on}
+use Rattle.kernel_types.proofs.ChoiceWalks.{one_found, one_types, two_scope, two_next, two_found, two_types}
 use Rattle.kernel_types.proofs.statements.+statements.Goals as goal
 
 pub walk_block-loop-stmt-preserved : goal.walk_block-loop-stmt-preserved
@@ -25,4 +26,22 @@ pub walk_inner-returns-clause-scope : goal.walk_inner-returns-clause-scope
 walk_inner-returns-clause-scope t c =
     let scope = scope_of c.args.scope.now in
     let block = block_of c.args.block.now in
-    c.leave.ensures ∙ ap (kept c.visible_count-count.result) c.in_ok-walk_block.ensures.scope ∙ kept-block scope c.visible_count-count.result block c.visible_count-count.ensures
+    IfOk-weaker c.end.result _ _ (λ _ _. c.leave.ensures ∙ ap (kept c.visible_count-count.result) c.in_ok-walk_block.ensures.scope ∙ kept-block scope c.visible_count-count.result block c.visible_count-count.ensures) c.end.ensures.next
+
+pub walk_if-returns-clause-found : goal.walk_if-returns-clause-found
+walk_if-returns-clause-found t c = IfOk-weaker c.walk_inner.result _ _ (λ _ h. one_found (scope_of c.args.scope.now) c.args.notes.now.next c.walk_marked.new.notes.next c.args.notes.now.found c.walk_marked.new.notes.found c.walk_inner.new.notes.found (term_of c.args.cond.now) (block_of c.args.block.now) c.in_ok-walk_marked.ensures.next c.in_ok-walk_marked.ensures.found h) c.walk_inner.ensures.found
+
+pub walk_if-returns-clause-types : goal.walk_if-returns-clause-types
+walk_if-returns-clause-types t c = IfOk-weaker c.walk_inner.result _ _ (λ _ h. one_types (scope_of c.args.scope.now) c.args.notes.now.types.items c.walk_marked.new.notes.types.items c.walk_inner.new.notes.types.items (term_of c.args.cond.now) (block_of c.args.block.now) c.in_ok-walk_marked.ensures.types h) c.walk_inner.ensures.types
+
+pub walk_if_else-returns-clause-scope : goal.walk_if_else-returns-clause-scope
+walk_if_else-returns-clause-scope t c = IfOk-weaker c.walk_inner-2.result _ _ (λ _ h. two_scope (scope_of c.args.scope.now) (scope_of c.walk_inner.new.scope) (scope_of c.walk_inner-2.new.scope) (term_of c.args.cond.now) (block_of c.args.block.now) (block_of c.args.other.now) c.in_ok-walk_inner.ensures.scope h) c.walk_inner-2.ensures.scope
+
+pub walk_if_else-returns-clause-next : goal.walk_if_else-returns-clause-next
+walk_if_else-returns-clause-next t c = IfOk-weaker c.walk_inner-2.result _ _ (λ _ h. two_next (scope_of c.args.scope.now) (scope_of c.walk_inner.new.scope) c.args.notes.now.next c.walk_marked.new.notes.next c.walk_inner.new.notes.next c.walk_inner-2.new.notes.next (term_of c.args.cond.now) (block_of c.args.block.now) (block_of c.args.other.now) c.in_ok-walk_inner.ensures.scope c.in_ok-walk_marked.ensures.next c.in_ok-walk_inner.ensures.next h) c.walk_inner-2.ensures.next
+
+pub walk_if_else-returns-clause-found : goal.walk_if_else-returns-clause-found
+walk_if_else-returns-clause-found t c = IfOk-weaker c.walk_inner-2.result _ _ (λ _ h. two_found (scope_of c.args.scope.now) (scope_of c.walk_inner.new.scope) c.args.notes.now.next c.walk_marked.new.notes.next c.walk_inner.new.notes.next c.args.notes.now.found c.walk_marked.new.notes.found c.walk_inner.new.notes.found c.walk_inner-2.new.notes.found (term_of c.args.cond.now) (block_of c.args.block.now) (block_of c.args.other.now) c.in_ok-walk_inner.ensures.scope c.in_ok-walk_marked.ensures.next c.in_ok-walk_inner.ensures.next c.in_ok-walk_marked.ensures.found c.in_ok-walk_inner.ensures.found h) c.walk_inner-2.ensures.found
+
+pub walk_if_else-returns-clause-types : goal.walk_if_else-returns-clause-types
+walk_if_else-returns-clause-types t c = IfOk-weaker c.walk_inner-2.result _ _ (λ _ h. two_types (scope_of c.args.scope.now) (scope_of c.walk_inner.new.scope) c.args.notes.now.types.items c.walk_marked.new.notes.types.items c.walk_inner.new.notes.types.items c.walk_inner-2.new.notes.types.items (term_of c.args.cond.now) (block_of c.args.block.now) (block_of c.args.other.now) c.in_ok-walk_inner.ensures.scope c.in_ok-walk_marked.ensures.types c.in_ok-walk_inner.ensures.types h) c.walk_inner-2.ensures.types

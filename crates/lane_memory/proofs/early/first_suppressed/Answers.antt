@@ -6,14 +6,14 @@ use Rattle.lane_memory.proofs.early.first_suppressed.Goals.{then-is_active+else-
 
 pub returns-then-is_none-clause-first : goal.returns-then-is_none-clause-first
 returns-then-is_none-clause-first c =
-    c.first_refused.ensures ∙ first-never c.args.reading c.args.pages.now c.args.stops.now c.args.pg.now.bits c.args.from c.args.lanes (c.is_none.ensures.0 c.if-is_none.true) c.requires.from
+    c.first_refused.ensures ∙ first-never c.args.reading c.args.pages.now.memory c.args.stops.now c.args.pg.now.bits c.args.from c.args.lanes (c.is_none.ensures.0 c.if-is_none.true) c.requires.from
 
 pub loop-e-init : goal.loop-e-init
 loop-e-init c =
     let r = c.args.reading in
     let pg = c.args.pg.now.bits in
     let from = c.args.from in
-    going-begins c.args.stops.now (on_from r pg from) (faults_of r c.args.pages.now) c.args.lanes from c.is_counted.ensures c.requires.from (on_from-below r pg from)
+    going-begins c.args.stops.now (on_from r pg from) (faults_of r c.args.pages.now.memory) c.args.lanes from c.is_counted.ensures c.requires.from (on_from-below r pg from)
 
 pub returns-then-faults : goal.returns-then-faults
 returns-then-faults c =
@@ -21,7 +21,7 @@ returns-then-faults c =
     let pg = c.args.pg.now.bits in
     let from = c.args.from in
     let e = c.loop-e.e in
-    let is = going-faults c.args.stops.now (on_from r pg from) (faults_of r c.args.pages.now) c.args.lanes e c.loop-e.stops c.loop-e.invariant c.loop-e-test.true (on_from-above r pg from e c.loop-e.auto.e ∙ sym c.if-is_active.ensures) (sym c.if-faults.ensures) in
+    let is = going-faults c.args.stops.now (on_from r pg from) (faults_of r c.args.pages.now.memory) c.args.lanes e c.loop-e.stops c.loop-e.invariant c.loop-e-test.true (on_from-above r pg from e c.loop-e.auto.e ∙ sym c.if-is_active.ensures) (sym c.if-faults.ensures) in
     record { first = is.first; counted = is.stops }
 
 pub returns-then-next : goal.returns-then-next
@@ -30,7 +30,7 @@ returns-then-next c =
     let pg = c.args.pg.now.bits in
     let from = c.args.from in
     let e = c.loop-e.e in
-    let is = going-stops c.args.stops.now (on_from r pg from) (faults_of r c.args.pages.now) c.args.lanes e c.loop-e.stops c.next.new.self c.loop-e.invariant c.loop-e-test.true (on_from-above r pg from e c.loop-e.auto.e ∙ sym c.if-is_active.ensures) (sym c.if-faults.ensures) (sym c.if-next.ensures.value) c.next.ensures.counted in
+    let is = going-stops c.args.stops.now (on_from r pg from) (faults_of r c.args.pages.now.memory) c.args.lanes e c.loop-e.stops c.next.new.self c.loop-e.invariant c.loop-e-test.true (on_from-above r pg from e c.loop-e.auto.e ∙ sym c.if-is_active.ensures) (sym c.if-faults.ensures) (sym c.if-next.ensures.value) c.next.ensures.counted in
     record { first = is.first; counted = is.stops }
 
 pub loop-e-preserved : goal.loop-e-preserved
@@ -41,7 +41,7 @@ loop-e-preserved c =
     let e = c.loop-e.e in
     let s0 = c.args.stops.now in
     let free = on_from r pg from in
-    let faults = faults_of r c.args.pages.now in
+    let faults = faults_of r c.args.pages.now.memory in
     elim c.if-is_active.branch [
       | then-is_active+else-faults+else-next w ↦
           subst (Going s0 free faults c.args.lanes (e + 1)) (sym w.stops-is)
@@ -55,5 +55,5 @@ pub returns : goal.returns
 returns c =
     let r = c.args.reading in
     let pg = c.args.pg.now.bits in
-    let is = going-ends c.args.stops.now (on_from r pg c.args.from) (faults_of r c.args.pages.now) c.args.lanes c.loop-e.e c.loop-e.stops c.loop-e.invariant (c.loop-e.auto.e-end c.requires.from) c.loop-e-test.false in
+    let is = going-ends c.args.stops.now (on_from r pg c.args.from) (faults_of r c.args.pages.now.memory) c.args.lanes c.loop-e.e c.loop-e.stops c.loop-e.invariant (c.loop-e.auto.e-end c.requires.from) c.loop-e-test.false in
     record { first = is.first; counted = is.stops }

@@ -9,13 +9,13 @@ use Rattle.lane_memory.proofs.early.load_early.Goals as goal
 
 pub clear_from-requires : goal.clear_from-requires
 clear_from-requires c e is =
-    let f = first_true-some (suppressed_at (on_from c.args.reading c.args.pg.now.bits c.args.from) (faults_of c.args.reading c.args.pages.now) (stop_at c.args.stops.now)) c.args.lanes 0 e (sym c.first_suppressed-first.ensures.first ∙ is) in
+    let f = first_true-some (suppressed_at (on_from c.args.reading c.args.pg.now.bits c.args.from) (faults_of c.args.reading c.args.pages.now.memory) (stop_at c.args.stops.now)) c.args.lanes 0 e (sym c.first_suppressed-first.ensures.first ∙ is) in
     omega (arith, f.below, c.requires.inside)
 
 pub fill-requires-clause-inside : goal.fill-requires-clause-inside
 fill-requires-clause-inside c =
     let r = c.args.reading in
-    let m = c.args.pages.now in
+    let m = c.args.pages.now.memory in
     let pg = c.args.pg.now.bits in
     let limit = first_true (is_clear r.element c.clear_from.new.ffr.bits) c.args.lanes 0 in
     let parts : Parts r m c.args.stops.now pg c.args.from c.args.lanes c.args.ffr.now.bits c.first_suppressed-first.result limit c.clear_from.new.ffr.bits =
@@ -26,7 +26,7 @@ fill-requires-clause-inside c =
 pub fill-requires-clause-read : goal.fill-requires-clause-read
 fill-requires-clause-read c =
     let r = c.args.reading in
-    let m = c.args.pages.now in
+    let m = c.args.pages.now.memory in
     let pg = c.args.pg.now.bits in
     let limit = first_true (is_clear r.element c.clear_from.new.ffr.bits) c.args.lanes 0 in
     let parts : Parts r m c.args.stops.now pg c.args.from c.args.lanes c.args.ffr.now.bits c.first_suppressed-first.result limit c.clear_from.new.ffr.bits =
@@ -37,7 +37,7 @@ fill-requires-clause-read c =
 pub returns : goal.returns
 returns c =
     let r = c.args.reading in
-    let m = c.args.pages.now in
+    let m = c.args.pages.now.memory in
     let pg = c.args.pg.now.bits in
     let limit = first_true (is_clear r.element c.clear_from.new.ffr.bits) c.args.lanes 0 in
     let parts : Parts r m c.args.stops.now pg c.args.from c.args.lanes c.args.ffr.now.bits c.first_suppressed-first.result limit c.clear_from.new.ffr.bits =

@@ -9,10 +9,10 @@ use Rattle.lane_memory.proofs.fill.copy_one.Goals as goal
 pub extend-requires : goal.extend-requires
 extend-requires c =
     let w = c.args.reading.memory in
-    let read = ap (loaded c.args.pages.now c.place.result) (sym c.bytes-size.ensures) ∙ sym c.in-Ok.ensures.value in
-    subst (λ n. c.in-Ok.value < n) (sym (modulus-is w)) (loaded-below c.args.pages.now c.place.result (width_bytes w) c.in-Ok.value c.is_memory.ensures read)
+    let read = ap (loaded c.args.pages.now.memory c.place.result) (sym c.bytes-size.ensures) ∙ sym c.in-Ok.ensures.value in
+    subst (λ n. c.in-Ok.value < n) (sym (modulus-is w)) (loaded-below c.args.pages.now.memory c.place.result (width_bytes w) c.in-Ok.value c.is_memory.ensures read)
 
 pub returns-in-Ok : goal.returns-in-Ok
 returns-in-Ok c =
     let old = c.args.out.now.bytes in
-    read-one c.args.reading c.args.pages.now c.args.pg.now.bits c.args.e c.place.result c.bytes-size.result c.in-Ok.value c.extend.result old c.put.new.self.bytes c.is_whole.ensures c.requires.inside c.place.ensures c.bytes-size.ensures c.in-Ok.ensures.value c.extend.ensures c.put.ensures
+    read-one c.args.reading c.args.pages.now.memory c.args.pg.now.bits c.args.e c.place.result c.bytes-size.result c.in-Ok.value c.extend.result old c.put.new.self.bytes c.is_whole.ensures c.requires.inside c.place.ensures c.bytes-size.ensures c.in-Ok.ensures.value c.extend.ensures c.put.ensures

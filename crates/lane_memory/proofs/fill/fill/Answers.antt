@@ -6,7 +6,7 @@ use Rattle.lane_memory.proofs.fill.fill.Goals as goal
 
 pub copy_active-requires-clause-read : goal.copy_active-requires-clause-read
 copy_active-requires-clause-read c =
-    let refused = refused_of c.args.reading c.args.pages.now c.args.pg.now.bits in
+    let refused = refused_of c.args.reading c.args.pages.now.memory c.args.pg.now.bits in
     let to = c.active_range-range.result.to in
     first_true-absent refused to 0 (λ j _ l. first_true-none refused c.args.lanes 0 c.requires.read j (omega arith) (omega (arith, l, c.active_range-range.ensures.inside)))
 
@@ -14,4 +14,4 @@ pub returns : goal.returns
 returns c =
     let range = c.active_range-range.result in
     c.keep_active.ensures
-    ∙ filled c.args.reading c.args.pages.now c.args.pg.now.bits c.copy_active.new.out.bytes c.args.lanes range.from range.to c.active_range-range.ensures c.copy_active.ensures
+    ∙ filled c.args.reading c.args.pages.now.memory c.args.pg.now.bits c.copy_active.new.out.bytes c.args.lanes range.from range.to c.active_range-range.ensures c.copy_active.ensures

@@ -7,7 +7,7 @@ use Rattle.lane_memory.proofs.fill.fill_full.Goals as goal
 pub returns-clause-filled : goal.returns-clause-filled
 returns-clause-filled c went =
     let r = c.args.reading in
-    let m = c.args.pages.now in
+    let m = c.args.pages.now.memory in
     let pg = c.args.pg.now.bits in
     let n = c.args.lanes in
     let old = c.args.out.now.bytes in
@@ -22,7 +22,7 @@ returns-clause-filled c went =
 pub returns-clause-free : goal.returns-clause-free
 returns-clause-free c went =
     let r = c.args.reading in
-    let m = c.args.pages.now in
+    let m = c.args.pages.now.memory in
     let pg = c.args.pg.now.bits in
     let n = c.args.lanes in
     first_true-absent (refused_of r m pg) n 0 (λ j _ l. part-free r m pg 0 n c.place-address.result (c.bytes.result * n) j c.place-address.ensures (ap (λ k. k * n) c.bytes.ensures) (c.in-Some.ensures.some.0 refl) (omega arith) l)

@@ -8,7 +8,7 @@ use Rattle.lane_memory.proofs.fill.fill_range.Goals as goal
 pub returns-clause-filled : goal.returns-clause-filled
 returns-clause-filled c went =
     let r = c.args.reading in
-    let m = c.args.pages.now in
+    let m = c.args.pages.now.memory in
     let pg = c.args.pg.now.bits in
     let range = c.active_range-range.result in
     let n = range.to - range.from in
@@ -23,7 +23,7 @@ returns-clause-filled c went =
 pub returns-clause-free : goal.returns-clause-free
 returns-clause-free c went =
     let r = c.args.reading in
-    let m = c.args.pages.now in
+    let m = c.args.pages.now.memory in
     let pg = c.args.pg.now.bits in
     let range = c.active_range-range.result in
     let n = range.to - range.from in

@@ -12,7 +12,7 @@ use Rattle.lane_memory.proofs.gather.gather.Goals as goal
 pub returns-clause-done : goal.returns-clause-done
 returns-clause-done c stops ffr =
     let r = c.new-reading.result in
-    let m = c.args.pages.now in
+    let m = c.args.pages.now.memory in
     let offsets = c.args.offsets.now.bytes in
     let pg = c.args.pg.now.bits in
     let n = c.lanes-lanes.result in
@@ -26,7 +26,7 @@ returns-clause-done c stops ffr =
 pub returns-clause-refused : goal.returns-clause-refused
 returns-clause-refused c stops ffr =
     let r = c.new-reading.result in
-    let m = c.args.pages.now in
+    let m = c.args.pages.now.memory in
     let offsets = c.args.offsets.now.bytes in
     let pg = c.args.pg.now.bits in
     let n = c.lanes-lanes.result in

@@ -11,7 +11,7 @@ use Rattle.lane_memory.proofs.load.load_any.Goals as goal
 pub returns-in-Plain-clause-done : goal.returns-in-Plain-clause-done
 returns-in-Plain-clause-done c =
     let r = c.new-reading.result in
-    let m = c.args.pages.now in
+    let m = c.args.pages.now.memory in
     let stops = c.args.stops.now in
     let pg = c.args.pg.now.bits in
     let ffr = c.args.ffr.now.bits in
@@ -25,7 +25,7 @@ returns-in-Plain-clause-done c =
 pub returns-in-Plain-clause-refused : goal.returns-in-Plain-clause-refused
 returns-in-Plain-clause-refused c =
     let r = c.new-reading.result in
-    let m = c.args.pages.now in
+    let m = c.args.pages.now.memory in
     let stops = c.args.stops.now in
     let pg = c.args.pg.now.bits in
     let ffr = c.args.ffr.now.bits in
@@ -41,7 +41,7 @@ returns-in-Plain-clause-refused c =
 pub returns-in-FirstFault-clause-done : goal.returns-in-FirstFault-clause-done
 returns-in-FirstFault-clause-done c =
     let r = c.new-reading.result in
-    let m = c.args.pages.now in
+    let m = c.args.pages.now.memory in
     let stops = c.args.stops.now in
     let pg = c.args.pg.now.bits in
     let ffr = c.args.ffr.now.bits in
@@ -55,7 +55,7 @@ returns-in-FirstFault-clause-done c =
 pub returns-in-FirstFault-clause-refused : goal.returns-in-FirstFault-clause-refused
 returns-in-FirstFault-clause-refused c =
     let r = c.new-reading.result in
-    let m = c.args.pages.now in
+    let m = c.args.pages.now.memory in
     let stops = c.args.stops.now in
     let pg = c.args.pg.now.bits in
     let ffr = c.args.ffr.now.bits in
@@ -71,7 +71,7 @@ returns-in-FirstFault-clause-refused c =
 pub returns-in-NonFault-clause-done : goal.returns-in-NonFault-clause-done
 returns-in-NonFault-clause-done c =
     let r = c.new-reading.result in
-    let m = c.args.pages.now in
+    let m = c.args.pages.now.memory in
     let stops = c.args.stops.now in
     let pg = c.args.pg.now.bits in
     let ffr = c.args.ffr.now.bits in

@@ -4,4 +4,4 @@ use Rattle.lane_memory.proofs.load.load_plain.Goals as goal
 
 pub fill-requires-clause-read : goal.fill-requires-clause-read
 fill-requires-clause-read c =
-    none-refused c.args.reading c.args.pages.now c.args.pg.now.bits c.args.lanes (sym c.refusal.ensures ∙ c.in_default.is)
+    none-refused c.args.reading c.args.pages.now.memory c.args.pg.now.bits c.args.lanes (sym c.refusal.ensures ∙ c.in_default.is)

@@ -11,7 +11,7 @@ pub returns-clause-loaded : goal.returns-clause-loaded
 returns-clause-loaded c stops ffr went =
     let w = c.in-Some.width in
     let r : Reading = record { base = c.args.base; index = c.args.index; memory = w; element = w; signed = false } in
-    let m = c.args.pages.now in
+    let m = c.args.pages.now.memory in
     let pg = c.args.pg.now.bits in
     let n = c.lanes-lanes.result in
     let done : plain_load (form_of r) m (on_of r pg) (place_of r) n ffr ≡ Ok (record { z = c.fill_full-filled.new.out.bytes; ffr = ffr }) =

@@ -9,7 +9,13 @@ abbrev pub decreases-emit_value : goal.decreases-emit_value
 decreases-emit_value l = 4 * term_depth (term_of l.expr.now) + 1
 
 abbrev pub decreases-emit_one : goal.decreases-emit_one
-decreases-emit_one l = 4 * term_depth (term_of l.expr.now)
+decreases-emit_one l = 4 * term_depth (term_of l.arg.now) + 2
+
+abbrev pub decreases-emit_moved : goal.decreases-emit_moved
+decreases-emit_moved l = 4 * term_depth (term_of l.arg.now) + 2
+
+abbrev pub decreases-emit_converted : goal.decreases-emit_converted
+decreases-emit_converted l = 4 * term_depth (term_of l.arg.now) + 2
 
 abbrev pub decreases-emit_two : goal.decreases-emit_two
 decreases-emit_two l = 4 * max (term_depth (term_of l.left.now)) (term_depth (term_of l.right.now)) + 2
@@ -22,6 +28,15 @@ decreases-emit_select l = 4 * max (term_depth (term_of l.cond.now)) (max (term_d
 
 abbrev pub decreases-emit_truth : goal.decreases-emit_truth
 decreases-emit_truth l = 4 * term_depth (term_of l.expr.now)
+
+abbrev pub decreases-emit_comparison : goal.decreases-emit_comparison
+decreases-emit_comparison l = 4 * max (term_depth (term_of l.left.now)) (term_depth (term_of l.right.now)) + 2
+
+abbrev pub decreases-emit_contrary : goal.decreases-emit_contrary
+decreases-emit_contrary l = 4 * term_depth (term_of l.arg.now) + 2
+
+abbrev pub decreases-emit_test : goal.decreases-emit_test
+decreases-emit_test l = 4 * term_depth (term_of l.cond.now) + 1
 
 abbrev pub decreases-emit_both : goal.decreases-emit_both
 decreases-emit_both l = 4 * max (term_depth (term_of l.left.now)) (term_depth (term_of l.right.now)) + 2

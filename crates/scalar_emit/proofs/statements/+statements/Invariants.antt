@@ -26,16 +26,19 @@ invariant-emit_block-loop-stmt l = record {
 
 -- a block stands above its statements, and an `if` above its blocks
 abbrev pub decreases-emit_stmt : goal.decreases-emit_stmt
-decreases-emit_stmt l = 4 * action_depth (action_of l.stmt.now)
+decreases-emit_stmt l = 5 * action_depth (action_of l.stmt.now)
 
 abbrev pub decreases-emit_if : goal.decreases-emit_if
-decreases-emit_if l = 4 * block_depth (block_of l.block.now) + 3
+decreases-emit_if l = 5 * block_depth (block_of l.block.now) + 3
 
 abbrev pub decreases-emit_if_else : goal.decreases-emit_if_else
-decreases-emit_if_else l = 4 * max (block_depth (block_of l.block.now)) (block_depth (block_of l.second.now)) + 3
+decreases-emit_if_else l = 5 * max (block_depth (block_of l.block.now)) (block_depth (block_of l.second.now)) + 4
+
+abbrev pub decreases-emit_else : goal.decreases-emit_else
+decreases-emit_else l = 5 * block_depth (block_of l.second.now) + 3
 
 abbrev pub decreases-emit_inner : goal.decreases-emit_inner
-decreases-emit_inner l = 4 * block_depth (block_of l.block.now) + 2
+decreases-emit_inner l = 5 * block_depth (block_of l.block.now) + 2
 
 abbrev pub decreases-emit_block : goal.decreases-emit_block
-decreases-emit_block l = 4 * block_depth (block_of l.block.now) + 1
+decreases-emit_block l = 5 * block_depth (block_of l.block.now) + 1

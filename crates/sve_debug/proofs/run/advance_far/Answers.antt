@@ -20,6 +20,8 @@ pub loop-done-init : goal.loop-done-init
 loop-done-init g c = record {
   running = c.requires.running;
   none = c.requires.none;
+  quiet = λ q. q;
+  past = refl;
   steps = omega arith;
   session = λ breaks last start d h. reaches_first _ start d c.args.stops.now c.args.left _ (omega arith) (kept_by _ breaks last _ start d refl h);
 }
@@ -30,7 +32,7 @@ returns-then-not-advance-clause-session g c breaks last start d h =
     let v = view c.loop-done.machine in
     let w = view c.advance.new.machine in
     let held = c.loop-done.invariant in
-    let inside : c.loop-done.done + 1 ≤ c.args.left = omega (arith, c.min-most.ensures, c.loop-done-test.true) in
+    let inside : c.loop-done.done + 1 ≤ c.args.left = omega (arith, c.min-near.ensures, c.min-most.ensures, c.loop-done-test.true) in
     let over : is_some w.over ≡ true = ap is_some (sym c.advance.ensures.over) ∙ is_end c.advance.new.over (sym c.advance.ensures.goes_on ∙ c.if-not-advance.true) in
     let room : c.loop-done.done < length c.loop-done.recent = search rules in
     reaches_last v w breaks _ _ start d c.args.stops.now c.args.left c.loop-done.done inside held.running over
@@ -43,7 +45,7 @@ returns-then-is_stop-clause-session g c breaks last start d h =
     let v = view c.loop-done.machine in
     let w = view c.advance.new.machine in
     let held = c.loop-done.invariant in
-    let inside : c.loop-done.done + 1 ≤ c.args.left = omega (arith, c.min-most.ensures, c.loop-done-test.true) in
+    let inside : c.loop-done.done + 1 ≤ c.args.left = omega (arith, c.min-near.ensures, c.min-most.ensures, c.loop-done-test.true) in
     let here = at_place c.args.stops.now c.pc-in-loop-done.result w.state.pc c.is_stop.result true c.pc-in-loop-done.ensures c.is_stop.ensures c.if-is_stop.true in
     let room : c.loop-done.done < length c.loop-done.recent = search rules in
     reaches_break v w breaks _ _ start d c.args.stops.now c.args.left c.loop-done.done inside held.running here
@@ -56,7 +58,7 @@ loop-done-preserved g c =
     let v = view c.loop-done.machine in
     let w = view c.advance.new.machine in
     let held = c.loop-done.invariant in
-    let inside : c.loop-done.done + 1 ≤ c.args.left = omega (arith, c.min-most.ensures, c.loop-done-test.true) in
+    let inside : c.loop-done.done + 1 ≤ c.args.left = omega (arith, c.min-near.ensures, c.min-most.ensures, c.loop-done-test.true) in
     let here = at_place c.args.stops.now c.pc-in-loop-done.result w.state.pc c.is_stop.result false c.pc-in-loop-done.ensures c.is_stop.ensures c.if-is_stop.false in
     let room : c.loop-done.done < length c.loop-done.recent = search rules in
     let before = held.steps in
@@ -65,6 +67,8 @@ loop-done-preserved g c =
     record {
       running = sym c.advance.ensures.over ∙ none;
       none = none;
+      quiet = λ q. c.advance.ensures.quiet (held.quiet q);
+      past = c.advance.ensures.past ∙ held.past;
       steps = omega (arith, before, one);
       session = λ breaks last start d h.
           reaches_next v w breaks _ _ start d c.args.stops.now c.args.left c.loop-done.done inside held.running here

@@ -1,4 +1,4 @@
-use Rattle.std.proofs.Common.{◌≡◌, ◌+◌, ◌++◌, Option, None, Some, true, false, take, refl, sym, ap, ◌∙◌, subst, arith}
+use Rattle.std.proofs.Common.{◌≡◌, ◌++◌, Option, None, Some, true, false, take, refl, sym, ap, ◌∙◌, subst, arith}
 use Rattle.std.specs.Prelude.{is_some}
 use Rattle.circular_buffer.specs.Buffer.{keep_last}
 use Rattle.machine_model.specs.declared.outcome.Ending.{Ending}
@@ -21,6 +21,8 @@ loop-left-init g c = record {
   over = c.requires.over;
   running = λ some. none_of c.args.over (sym c.is_some.ensures ∙ c.if-is_some.false);
   room = c.requires.room;
+  quiet = λ q. q;
+  past = refl;
   steps = omega arith;
   session = λ breaks start d h. reaches_first _ start d c.args.stops.now c.args.most c.args.most refl h;
 }
@@ -39,6 +41,8 @@ loop-left-preserved g c =
       over = far.over;
       running = far.running;
       room = ap (λ b. b.capacity) c.extend_from_slice.ensures ∙ held.room;
+      quiet = λ q. far.quiet (held.quiet q);
+      past = far.past ∙ held.past;
       steps = omega (arith, before, more);
       session = λ breaks start d h.
           subst (λ last. Reaches (held_by (view c.advance_far-done.new.machine) breaks last) start d c.args.stops.now c.args.most c.advance_far-done.result.1) kept

@@ -1,8 +1,9 @@
-use Rattle.std.proofs.Common.{◌≡◌, ℕ, ◌+◌, ◌-◌, ◌≤◌, List, Some, None, Ok, take, subst, arith}
+use Rattle.std.proofs.Common.{◌≡◌, ℕ, ◌+◌, ◌-◌, ◌≤◌, List, Some, None, Ok, take, sym, subst, arith}
 use Rattle.std.specs.Prelude.{IfSome, slice_get}
 use Rattle.sve_debug.specs.Replies.{Session, line_text}
-use Rattle.sve_debug.specs.Sessions.{Tells, most_input, session_text}
-use Rattle.sve_debug.proofs.Sessions.{under_next, under_quit, under_cut, under_unread, under_end, under_limit, pends, if_some, limit}
+use Rattle.sve_debug.specs.Sessions.{Tells, AsItCame, most_input, session_text}
+use Rattle.sve_debug.proofs.Answered.{so_far_first, so_far_next, so_far_failed}
+use Rattle.sve_debug.proofs.Sessions.{IsPending, under_first, under_next, under_quit, under_cut, under_unread, under_end, under_limit, pends, if_some, limit}
 use Rattle.sve_debug.proofs.session.answer_lines.Goals as goal
 
 pub returns-in_err-byte-clause-told : goal.returns-in_err-byte-clause-told
@@ -50,6 +51,22 @@ returns-then-not-on-clause-told g c start d h =
     (record { stands = c.turn.ensures.session start; told = c.in_ok-on.ensures.told start })
     (c.loop-taken.invariant.session start d h bytes is))
 
+pub loop-taken-init : goal.loop-taken-init
+loop-taken-init g c =
+    let held = c.args.debugger.now in
+    let line = c.args.line.now.items in
+    let left = g.I.Source.left c.args.input.now in
+    let old = g.S.Sink.taken c.args.out.now in
+    let none = c.requires.steps in
+    record {
+      pending = subst (λ (l : List ℕ). IsPending l) (sym c.requires.empty) (λ k d lt. absurd (omega (arith, lt)));
+      steps = omega (arith, none);
+      later = omega arith;
+      input_later = omega arith;
+      session = λ start d h bytes is. under_first held start d line bytes most_input left old c.requires.empty h is;
+      answered = λ start d h bytes is. so_far_first held start d line bytes left old c.requires.empty h is;
+    }
+
 pub loop-taken-preserved : goal.loop-taken-preserved
 loop-taken-preserved g c =
     let taken = g.S.Sink.taken in
@@ -73,6 +90,10 @@ loop-taken-preserved g c =
           under_next c.loop-taken.debugger c.turn.new.debugger start d (take most_input bytes) c.loop-taken.line.items c.turn.new.line.items most_input c.loop-taken.taken c.in-Some.byte c.in_ok-on.on input (g.I.Source.left c.next.new.input) (taken c.args.out.now) (taken c.loop-taken.out) (taken c.turn.new.out) inside c.loop-taken.invariant.pending next c.in_ok-byte.ensures.left c.in_ok-on.ensures.line c.if-not-on.false c.in_ok-on.ensures.goes_on
           (record { stands = c.turn.ensures.session start; told = c.in_ok-on.ensures.told start })
           (c.loop-taken.invariant.session start d h bytes is);
+      answered = λ start d h bytes is.
+          so_far_next c.loop-taken.debugger c.turn.new.debugger start d bytes c.loop-taken.line.items c.turn.new.line.items c.in-Some.byte c.in_ok-on.on input (g.I.Source.left c.next.new.input) (taken c.args.out.now) (taken c.loop-taken.out) (taken c.turn.new.out) c.loop-taken.invariant.pending next c.in_ok-byte.ensures.left c.in_ok-on.ensures.line c.if-not-on.false c.in_ok-on.ensures.goes_on
+          (record { stands = c.turn.ensures.session start; told = c.in_ok-on.ensures.told start })
+          (c.loop-taken.invariant.answered start d h bytes is);
     }
 
 pub returns-clause-told : goal.returns-clause-told
@@ -85,3 +106,11 @@ returns-clause-told g c start d h =
     (λ bytes is. under_limit c.loop-taken.debugger start d (take most_input bytes) c.loop-taken.line.items most_input c.loop-taken.taken (g.I.Source.left c.loop-taken.input) (taken c.args.out.now) (taken c.loop-taken.out) (taken c.finish-2.new.out) c.finish-2.result all c.loop-taken.invariant.pending
     (λ (e : Session) hold. subst (λ (l : List ℕ). Tells (taken c.loop-taken.out) (taken c.finish-2.new.out) (line_text l e) c.finish-2.result) line (c.finish-2.ensures.told start e hold))
     (c.loop-taken.invariant.session start d h bytes is))
+
+pub returns-in_err-byte-clause-as_it_comes : goal.returns-in_err-byte-clause-as_it_comes
+returns-in_err-byte-clause-as_it_comes g c start d h err =
+    let taken = g.S.Sink.taken in
+    let input' = g.I.Source.left c.next.new.input in
+    if_some (g.I.Source.left c.args.input.now) (λ (bytes : List ℕ). AsItCame d bytes input' (taken c.args.out.now) (taken c.loop-taken.out))
+    (λ bytes is. so_far_failed c.loop-taken.debugger start d bytes c.loop-taken.line.items (g.I.Source.left c.loop-taken.input) input' (taken c.args.out.now) (taken c.loop-taken.out) c.loop-taken.invariant.pending c.in_err-byte.ensures.unread
+    (c.loop-taken.invariant.answered start d h bytes is))

@@ -6,6 +6,7 @@ use Rattle.sve_machine.proofs.advance.go.Given as goal
 
 abbrev pub invariant-loop-done : goal.invariant-loop-done
 invariant-loop-done l = record {
-  kept : All (Keeps l.pages) l.kept;
-  state : after_steps l.done (state_of l.fn.core l.fn.pages l.fn.vectors) ≡ Some (state_of l.core l.pages l.vectors);
+  kept : All (Keeps l.pages.memory) l.kept;
+  state : after_steps l.done (state_of l.fn.core l.fn.pages.memory l.fn.vectors) ≡ Some (state_of l.core l.pages.memory l.vectors);
+  past : l.pages.past ≡ l.fn.pages.past;
 }

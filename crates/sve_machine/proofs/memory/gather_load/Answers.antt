@@ -11,7 +11,7 @@ pub returns : goal.returns
 returns c =
     let r = c.args.vectors.now in
     let core = c.args.core.now in
-    let memory = c.args.pages.now in
+    let memory = c.args.pages.now.memory in
     let e =
     gather_row c.args.op c.args.zt.number c.args.rn.number c.args.pg.number c.args.zm.number r core memory
     ∙ ap₂ (λ d b. after_load (put_load (gather_of d b r.vl memory r.stops (z_of r c.args.zm.number) (p_of r c.args.pg.number) r.ffr) c.args.zt.number r) core memory) (sym c.gather_row-row.ensures.dtype) (sym c.register_or_sp-base.ensures)

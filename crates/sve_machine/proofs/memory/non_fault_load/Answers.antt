@@ -13,7 +13,7 @@ pub returns : goal.returns
 returns c =
     let r = c.args.vectors.now in
     let core = c.args.core.now in
-    let memory = c.args.pages.now in
+    let memory = c.args.pages.now.memory in
     let e =
     non_row c.args.zt.number c.args.rn.number c.args.pg.number (dtype_number c.args.dtype) r core memory
     ∙ ap (λ b. after_load (put_load (load_of NonFault (dtype_number c.args.dtype) b 0 r.vl memory r.stops (p_of r c.args.pg.number) r.ffr) c.args.zt.number r) core memory) (sym c.register_or_sp-base.ensures)

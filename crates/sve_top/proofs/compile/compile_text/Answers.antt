@@ -16,6 +16,9 @@ returns-clause-file c = record {
   kernel = program_of (kernel_of c.in_ok-kernel.kernel);
   sound = c.in_ok-kernel.ensures.sound;
   faithful = c.in_ok-file.ensures.faithful;
+  ends = c.in_ok-file.ensures.ends;
+  code = c.in_ok-file.ensures.code;
+  small = c.executable.ensures.small;
 }
 
 pub returns-clause-wanted : goal.returns-clause-wanted

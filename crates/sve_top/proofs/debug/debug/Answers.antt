@@ -79,7 +79,7 @@ returns-in_err-debugger-clause-of_debug g c =
     c.from_residual-in_err-debugger.ensures.1 (c.in_err-debugger.ensures.refusal [])
 
 pub session-requires : goal.session-requires
-session-requires g c = c.in_ok-debugger.ensures.begins.stands.steps
+session-requires g c = c.in_ok-debugger.ensures.begins.stands.shows.steps
 
 pub returns-in_err-session-clause-answer : goal.returns-in_err-session-clause-answer
 returns-in_err-session-clause-answer g c =

@@ -1,4 +1,6 @@
+use Rattle.std.proofs.Common.{subst}
 use Rattle.command_line.specs.View.{task_view}
+use Rattle.sve_top.specs.Ready.{BeginsProgram}
 use Rattle.sve_top.proofs.Programs.{session_not_begun, session_begun}
 use Rattle.sve_top.proofs.debug.debugger_of.Goals as goal
 
@@ -7,8 +9,10 @@ returns-in_err-machine-clause-refusal c =
     session_not_begun c.args.vl (task_view c.args.task.now) c.args.bytes.now c.args.map.now c.in_err-machine.field-0.0 c.from_residual.result c.from_residual.ensures.1 c.in_err-machine.ensures.refusal
 
 pub returns-clause-begins : goal.returns-clause-begins
-returns-clause-begins c = record {
-  begin = c.in_ok-machine.machine.state;
-  stands = c.in_ok-debugger.ensures;
-  wanted = session_begun c.args.vl (task_view c.args.task.now) c.args.bytes.now c.args.map.now c.in_ok-machine.machine c.in_ok-machine.ensures.ready;
-}
+returns-clause-begins c =
+    let ready = subst (λ stops. BeginsProgram c.args.vl stops (task_view c.args.task.now) c.args.bytes.now c.args.map.now c.in_ok-machine.machine) c.none.ensures c.in_ok-machine.ensures.ready in
+    record {
+      begin = c.in_ok-machine.machine.state;
+      stands = c.in_ok-debugger.ensures;
+      wanted = session_begun c.args.vl (task_view c.args.task.now) c.args.bytes.now c.args.map.now c.in_ok-machine.machine ready;
+    }

@@ -21,9 +21,9 @@ returns-clause-work c =
     let dump = option_map extent_view c.args.task.now.dump in
     let k = program_of (kernel_of c.args.kernel.now) in
     eval_reported (task_view c.args.task.now) c.args.map.now k c.empty-image.result.pages.items c.in_ok-map.map.pages.items
-    c.in_ok-pages.pages c.scalar_run.new.memory c.in_ok-outcome.outcome c.scalar_done.result c.push_dump.new.text.items
+    c.in_ok-pages.pages.memory c.scalar_run.new.memory.memory c.in_ok-outcome.outcome c.scalar_done.result c.push_dump.new.text.items
     c.empty-image.ensures.pages c.in_ok-map.ensures.map
-    (c.in_ok-pages.ensures ∙ ap (λ m. merged m c.in_ok-map.map.pages.items) c.empty-image.ensures.pages ∙ merged-nil_left c.in_ok-map.map.pages.items)
-    (subst (λ a. IsOutcome c.in_ok-outcome.outcome c.args.task.now.steps (scalar_run k a c.in_ok-pages.pages) c.scalar_run.new.memory (first_leave k a c.args.task.now.steps c.in_ok-pages.pages)) c.deref.ensures.value c.in_ok-outcome.ensures.outcome)
+    (c.in_ok-pages.ensures.memory ∙ ap (λ m. merged m c.in_ok-map.map.pages.items) c.empty-image.ensures.pages ∙ merged-nil_left c.in_ok-map.map.pages.items)
+    (subst (λ a. IsOutcome c.in_ok-outcome.outcome c.args.task.now.steps (scalar_run k a c.in_ok-pages.pages.memory) c.scalar_run.new.memory.memory (first_leave k a c.args.task.now.steps c.in_ok-pages.pages.memory)) c.deref.ensures.value c.in_ok-outcome.ensures.outcome)
     c.scalar_done.ensures
-    (c.in_ok-push_dump.ensures ∙ ap (λ t. t ++ dump_of dump c.scalar_run.new.memory) c.in_ok-text.ensures)
+    (c.in_ok-push_dump.ensures ∙ ap (λ t. t ++ dump_of dump c.scalar_run.new.memory.memory) c.in_ok-text.ensures)

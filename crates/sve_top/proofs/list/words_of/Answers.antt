@@ -16,5 +16,5 @@ build-requires-clause-few c =
 pub returns-clause-work : goal.returns-clause-work
 returns-clause-work c =
     let image = plain c.in_ok-image.image in
-    list_loaded c.args.bytes.now image c.in_ok-pages.pages image.code_from (c.saturating_sub.result / 4)
-    c.in_ok-image.ensures.image (c.in_ok-pages.ensures ∙ ap (merged image.pages) c.new.ensures.items) refl (ap (λ n. n / 4) c.saturating_sub.ensures)
+    list_loaded c.args.bytes.now image c.in_ok-pages.pages.memory image.code_from (c.saturating_sub.result / 4)
+    c.in_ok-image.ensures.image (c.in_ok-pages.ensures.memory ∙ ap (merged image.pages) c.new.ensures.items) refl (ap (λ n. n / 4) c.saturating_sub.ensures)

@@ -6,7 +6,7 @@ use Rattle.sve_top.proofs.listing.put_lines.Goals as goal
 pub loop-done-init : goal.loop-done-init
 loop-done-init g c = record {
   within = omega arith;
-  puts = puts_none c.args.pages.now c.args.from (g.S.Sink.taken c.args.sink.now) (g.S.Sink.faults c.args.sink.now);
+  puts = puts_none c.args.pages.now.memory c.args.from (g.S.Sink.taken c.args.sink.now) (g.S.Sink.faults c.args.sink.now);
 }
 
 pub loop-done-preserved : goal.loop-done-preserved
@@ -17,7 +17,7 @@ loop-done-preserved g c =
     record {
       within = omega (arith, block, left);
       puts =
-          puts_more c.args.pages.now c.args.from c.loop-done.done c.min-block.result
+          puts_more c.args.pages.now.memory c.args.from c.loop-done.done c.min-block.result
           (g.S.Sink.taken c.args.sink.now) (g.S.Sink.taken c.loop-done.sink) (g.S.Sink.taken c.put_all.new.sink)
           (g.S.Sink.faults c.args.sink.now) (g.S.Sink.faults c.loop-done.sink) (g.S.Sink.faults c.put_all.new.sink)
           c.as_bytes.result.now _
@@ -33,10 +33,10 @@ returns-in_err-put_all g c =
     let block = c.min-block.ensures in
     let left = c.loop-done-test.true in
     let most : c.loop-done.done + c.min-block.result ≤ c.args.count = omega (arith, block, left) in
-    puts_short c.args.pages.now c.args.from (c.loop-done.done + c.min-block.result) c.args.count
+    puts_short c.args.pages.now.memory c.args.from (c.loop-done.done + c.min-block.result) c.args.count
     (g.S.Sink.taken c.args.sink.now) (g.S.Sink.taken c.put_all.new.sink) (g.S.Sink.faults c.args.sink.now) (g.S.Sink.faults c.put_all.new.sink)
     c.put_all.result c.from_residual.result c.in_err-put_all.field-0.0 c.in_err-put_all.was c.from_residual.ensures.0 most
-    (puts_more c.args.pages.now c.args.from c.loop-done.done c.min-block.result
+    (puts_more c.args.pages.now.memory c.args.from c.loop-done.done c.min-block.result
     (g.S.Sink.taken c.args.sink.now) (g.S.Sink.taken c.loop-done.sink) (g.S.Sink.taken c.put_all.new.sink)
     (g.S.Sink.faults c.args.sink.now) (g.S.Sink.faults c.loop-done.sink) (g.S.Sink.faults c.put_all.new.sink)
     c.as_bytes.result.now c.put_all.result

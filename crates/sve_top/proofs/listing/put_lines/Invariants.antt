@@ -6,7 +6,7 @@ use Rattle.sve_top.proofs.listing.put_lines.Given as goal
 abbrev pub invariant-loop-done : goal.invariant-loop-done
 invariant-loop-done g l = record {
   within : l.done ≤ l.count;
-  puts : PutsText {T = Unit {0}} (g.S.Sink.taken l.initial.sink) (g.S.Sink.taken l.sink) (g.S.Sink.faults l.initial.sink) (g.S.Sink.faults l.sink) (lines_from l.pages l.from l.done) (Ok tt);
+  puts : PutsText {T = Unit {0}} (g.S.Sink.taken l.initial.sink) (g.S.Sink.taken l.sink) (g.S.Sink.faults l.initial.sink) (g.S.Sink.faults l.sink) (lines_from l.pages.memory l.from l.done) (Ok tt);
 }
 
 abbrev pub decreases-loop-done : goal.decreases-loop-done

@@ -7,11 +7,11 @@ use Rattle.sve_top.proofs.listing.write_lines.Goals as goal
 pub loop-i-init : goal.loop-i-init
 loop-i-init c =
     let empty = c.clear.ensures in
-    record { text = empty ∙ sym (none c.args.pages.now c.args.from); room = omega (arith, ap length empty) }
+    record { text = empty ∙ sym (none c.args.pages.now.memory c.args.from); room = omega (arith, ap length empty) }
 
 pub loop-i-preserved : goal.loop-i-preserved
 loop-i-preserved c =
-    let pages = c.args.pages.now in
+    let pages = c.args.pages.now.memory in
     let i = c.loop-i.i in
     let address = c.args.from + 4 * i in
     let len = c.push_str.ensures.len in

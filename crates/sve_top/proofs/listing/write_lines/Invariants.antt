@@ -4,6 +4,6 @@ use Rattle.sve_top.proofs.listing.write_lines.Given as goal
 
 abbrev pub invariant-loop-i : goal.invariant-loop-i
 invariant-loop-i l = record {
-  text : l.into.bytes ≡ lines_from l.pages l.from l.i;
+  text : l.into.bytes ≡ lines_from l.pages.memory l.from l.i;
   room : length l.into.bytes ≤ 96 * l.i;
 }

@@ -1,13 +1,14 @@
-use Rattle.std.proofs.Common.{[], ◌⊎◌, Some, ap, sym, ◌∙◌, subst}
+use Rattle.std.proofs.Common.{◌≡◌, [], ◌⊎◌, Some, ap, sym, ◌∙◌, subst}
 use Rattle.io_edges.specs.Files.{Rose}
 use Rattle.std.specs.Prelude.{IfSome, OnOk, string_bytes}
-use Rattle.command_line.specs.Line.{CompileLine, CheckLine, EvalLine, ListLine, RunLine, DebugLine, SweepLine}
+use Rattle.command_line.specs.Line.{CompileLine, CheckLine, EvalLine, ListLine, RunLine, DebugLine, SweepLine, AsmLine}
 use Rattle.command_line.specs.View.{command_view, task_view}
 use Rattle.sve_top.specs.Answer.{answer_of, expected_text, status_of, IsAnswer, Unwritten}
-use Rattle.sve_top.specs.Commands.{Compiled, Expects, StreamRose, expected_of_list, expected_of_run, expected_of_debug}
+use Rattle.sve_top.specs.Commands.{Compiled, Expects, StreamRose, expected_of_list, expected_of_run, expected_of_debug, expected_of_asm, stops_of}
 use Rattle.sve_top.specs.Outputs.{Prints}
 use Rattle.sve_top.specs.Swept.{Swept}
 use Rattle.sve_top.proofs.Expectations.{by_line, of_told, of_one, of_every_line, with_output, prints_silent}
+use Rattle.sve_top.proofs.Assemblies.{asm_prints}
 use Rattle.sve_top.proofs.top.do_command.Goals as goal
 
 pub returns-in-Compile-clause-answer : goal.returns-in-Compile-clause-answer
@@ -87,17 +88,17 @@ returns-in-List-clause-unwritten g c =
 
 pub returns-in-Run-clause-answer : goal.returns-in-Run-clause-answer
 returns-in-Run-clause-answer g c =
-    by_line (g.F.Files.held c.args.files.now) (g.I.Source.left c.args.input.now) (Some (command_view c.args.command.now)) (Some (RunLine c.in-Run.vl (task_view c.in-Run.task)))
+    by_line (g.F.Files.held c.args.files.now) (g.I.Source.left c.args.input.now) (Some (command_view c.args.command.now)) (Some (RunLine c.in-Run.vl c.in-Run.suppress (task_view c.in-Run.task)))
     (λ line work. IsAnswer (g.F.Files.faults c.args.files.now) (g.F.Files.faults c.run.new.files) (StreamRose line (g.S.Sink.faults c.args.out.now) (g.S.Sink.faults c.run.new.out) (g.I.Source.faults c.args.input.now) (g.I.Source.faults c.args.input.now)) (answer_of work) c.run.result)
     (ap (λ l. Some l) (ap command_view c.in-Run.is))
-    (λ input taken. of_one (g.F.Files.held c.args.files.now) (λ h. expected_of_run h c.in-Run.vl (task_view c.in-Run.task)) _ c.run.ensures.answer)
+    (λ input taken. of_one (g.F.Files.held c.args.files.now) (λ h. expected_of_run h c.in-Run.vl (stops_of c.in-Run.suppress) (task_view c.in-Run.task)) _ c.run.ensures.answer)
 
 pub returns-in-Run-clause-printed : goal.returns-in-Run-clause-printed
 returns-in-Run-clause-printed g c =
-    by_line (g.F.Files.held c.args.files.now) (g.I.Source.left c.args.input.now) (Some (command_view c.args.command.now)) (Some (RunLine c.in-Run.vl (task_view c.in-Run.task)))
+    by_line (g.F.Files.held c.args.files.now) (g.I.Source.left c.args.input.now) (Some (command_view c.args.command.now)) (Some (RunLine c.in-Run.vl c.in-Run.suppress (task_view c.in-Run.task)))
     (λ line work. Prints (g.S.Sink.taken c.args.out.now) (g.S.Sink.taken c.run.new.out) (expected_text work) c.run.result)
     (ap (λ l. Some l) (ap command_view c.in-Run.is))
-    (λ input taken. of_one (g.F.Files.held c.args.files.now) (λ h. expected_of_run h c.in-Run.vl (task_view c.in-Run.task)) _ c.run.ensures.printed)
+    (λ input taken. of_one (g.F.Files.held c.args.files.now) (λ h. expected_of_run h c.in-Run.vl (stops_of c.in-Run.suppress) (task_view c.in-Run.task)) _ c.run.ensures.printed)
 
 pub returns-in-Run-clause-unwritten : goal.returns-in-Run-clause-unwritten
 returns-in-Run-clause-unwritten g c =
@@ -138,3 +139,25 @@ returns-in-Sweep-clause-swept g c =
     subst (λ line. Swept (Some line) (g.F.Files.held c.sweep.new.files) (g.S.Sink.taken c.args.out.now) (g.S.Sink.taken c.sweep.new.out) (status_of c.sweep.result))
     (sym (ap command_view c.in-Sweep.is ∙ ap (SweepLine c.in-Sweep.number) (sym c.as_str-in-Sweep.ensures.value)))
     c.sweep.ensures.swept
+
+pub returns-in-Asm-clause-answer : goal.returns-in-Asm-clause-answer
+returns-in-Asm-clause-answer g c =
+    by_line (g.F.Files.held c.args.files.now) (g.I.Source.left c.args.input.now) (Some (command_view c.args.command.now)) (Some (AsmLine c.as_str-in-Asm.result.now c.as_str-in-Asm-2.result.now))
+    (λ line work. IsAnswer (g.F.Files.faults c.args.files.now) (g.F.Files.faults c.asm.new.files) (StreamRose line (g.S.Sink.faults c.args.out.now) (g.S.Sink.faults c.args.out.now) (g.I.Source.faults c.args.input.now) (g.I.Source.faults c.args.input.now)) (answer_of work) c.asm.result)
+    (ap (λ l. Some l) (ap command_view c.in-Asm.is ∙ ap (λ a. AsmLine a (string_bytes c.in-Asm.to)) (sym c.as_str-in-Asm.ensures.value) ∙ ap (λ b. AsmLine c.as_str-in-Asm.result.now b) (sym c.as_str-in-Asm-2.ensures.value)))
+    (λ input taken. with_output _ _ _ (g.F.Files.held c.args.files.now) (λ h work. work ≡ expected_of_asm h c.as_str-in-Asm.result.now) c.asm.result
+    (of_one (g.F.Files.held c.args.files.now) (λ h. expected_of_asm h c.as_str-in-Asm.result.now) _ c.asm.ensures.answer))
+
+pub returns-in-Asm-clause-printed : goal.returns-in-Asm-clause-printed
+returns-in-Asm-clause-printed g c =
+    by_line (g.F.Files.held c.args.files.now) (g.I.Source.left c.args.input.now) (Some (command_view c.args.command.now)) (Some (AsmLine (string_bytes c.in-Asm.from) (string_bytes c.in-Asm.to)))
+    (λ line work. Prints (g.S.Sink.taken c.args.out.now) (g.S.Sink.taken c.args.out.now) (expected_text work) c.asm.result)
+    (ap (λ l. Some l) (ap command_view c.in-Asm.is))
+    (λ input taken. asm_prints (g.F.Files.held c.args.files.now) (string_bytes c.in-Asm.from) (string_bytes c.in-Asm.to) (g.S.Sink.taken c.args.out.now) c.asm.result)
+
+pub returns-in-Asm-clause-unwritten : goal.returns-in-Asm-clause-unwritten
+returns-in-Asm-clause-unwritten g c =
+    by_line (g.F.Files.held c.args.files.now) (g.I.Source.left c.args.input.now) (Some (command_view c.args.command.now)) (Some (AsmLine c.as_str-in-Asm.result.now c.as_str-in-Asm-2.result.now))
+    (λ line work. Unwritten work (g.F.Files.held c.args.files.now) (g.F.Files.held c.asm.new.files))
+    (ap (λ l. Some l) (ap command_view c.in-Asm.is ∙ ap (λ a. AsmLine a (string_bytes c.in-Asm.to)) (sym c.as_str-in-Asm.ensures.value) ∙ ap (λ b. AsmLine c.as_str-in-Asm.result.now b) (sym c.as_str-in-Asm-2.ensures.value)))
+    (λ input taken. of_one (g.F.Files.held c.args.files.now) (λ h. expected_of_asm h c.as_str-in-Asm.result.now) _ c.asm.ensures.unwritten)

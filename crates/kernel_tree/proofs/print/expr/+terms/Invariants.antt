@@ -1,40 +1,45 @@
 use Rattle.std.proofs.Common.{◌+◌, ◌*◌}
 use Rattle.std.specs.Prelude.{max}
 use Rattle.kernel_tree.specs.Plain.{term_of}
-use Rattle.kernel_tree.specs.Walks.{walk_of, walk_of_one, walk_of_two, walk_of_three}
 use Rattle.kernel_tree.specs.Limits.{term_depth}
 use Rattle.kernel_tree.proofs.print.expr.+terms.Given as goal
 
--- an expression stands above what prints it by its kind, and that above its operands
+-- an expression stands above what prints it by its kind, and that above its operands and the mark after each
 abbrev pub decreases-print_expr : goal.decreases-print_expr
-decreases-print_expr l = walk_of (term_of l.expr.now)
+decreases-print_expr l = 4 * term_depth (term_of l.expr.now)
+
+abbrev pub decreases-print_argument : goal.decreases-print_argument
+decreases-print_argument l = 4 * term_depth (term_of l.arg.now) + 1
 
 abbrev pub decreases-print_read : goal.decreases-print_read
-decreases-print_read l = walk_of_one (term_of l.index.now)
+decreases-print_read l = 4 * term_depth (term_of l.index.now) + 2
+
+abbrev pub decreases-print_signed : goal.decreases-print_signed
+decreases-print_signed l = 4 * term_depth (term_of l.arg.now) + 2
+
+abbrev pub decreases-print_absolute : goal.decreases-print_absolute
+decreases-print_absolute l = 4 * term_depth (term_of l.arg.now) + 2
 
 abbrev pub decreases-print_unary : goal.decreases-print_unary
-decreases-print_unary l = walk_of_one (term_of l.arg.now)
+decreases-print_unary l = 4 * term_depth (term_of l.arg.now) + 3
 
 abbrev pub decreases-print_binary : goal.decreases-print_binary
-decreases-print_binary l = 3 * max (term_depth (term_of l.left.now)) (term_depth (term_of l.right.now)) + 2
+decreases-print_binary l = 4 * max (term_depth (term_of l.left.now)) (term_depth (term_of l.right.now)) + 3
 
 abbrev pub decreases-print_between : goal.decreases-print_between
-decreases-print_between l = walk_of_two (term_of l.left.now) (term_of l.right.now)
+decreases-print_between l = 4 * max (term_depth (term_of l.left.now)) (term_depth (term_of l.right.now)) + 2
 
 abbrev pub decreases-print_compared : goal.decreases-print_compared
-decreases-print_compared l = walk_of_two (term_of l.left.now) (term_of l.right.now)
+decreases-print_compared l = 4 * max (term_depth (term_of l.left.now)) (term_depth (term_of l.right.now)) + 2
 
 abbrev pub decreases-print_call : goal.decreases-print_call
-decreases-print_call l = walk_of_two (term_of l.left.now) (term_of l.right.now)
+decreases-print_call l = 4 * max (term_depth (term_of l.left.now)) (term_depth (term_of l.right.now)) + 2
 
 abbrev pub decreases-print_shift : goal.decreases-print_shift
-decreases-print_shift l = walk_of_one (term_of l.arg.now)
+decreases-print_shift l = 4 * term_depth (term_of l.arg.now) + 2
 
 abbrev pub decreases-print_cast : goal.decreases-print_cast
-decreases-print_cast l = walk_of_one (term_of l.arg.now)
+decreases-print_cast l = 4 * term_depth (term_of l.arg.now) + 2
 
 abbrev pub decreases-print_select : goal.decreases-print_select
-decreases-print_select l = walk_of_three (term_of l.cond.now) (term_of l.yes.now) (term_of l.no.now)
-
-abbrev pub decreases-print_not : goal.decreases-print_not
-decreases-print_not l = walk_of_one (term_of l.arg.now)
+decreases-print_select l = 4 * max (term_depth (term_of l.cond.now)) (max (term_depth (term_of l.yes.now)) (term_depth (term_of l.no.now))) + 2

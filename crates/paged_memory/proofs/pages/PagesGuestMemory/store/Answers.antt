@@ -1,39 +1,23 @@
-use Rattle.std.proofs.Common.{◌+◌, ◌*◌, ◌/◌, ◌%◌, ◌≤◌, sym, ap, ◌∙◌, arith}
-use Rattle.std.proofs.lemmas.List.{with_items_is}
-use Rattle.guest_types.specs.Memory.{is_writable}
-use Rattle.paged_memory.specs.Numbers.{with_number}
-use Rattle.paged_memory.proofs.HeadPlaces.{rising, stands, head-read, laid-written, store-found}
+use Rattle.std.proofs.Common.{ap, ◌∙◌, subst, arith}
+use Rattle.paged_memory.specs.Epochs.{IsSaved}
+use Rattle.paged_memory.proofs.UndoLaws.{kept-numbers, numbers-stored, past_of-stored, saved-within}
 use Rattle.paged_memory.proofs.pages.PagesGuestMemory.store.Goals as goal
-
-pub place_of-requires : goal.place_of-requires
-place_of-requires c = rising c.self.inside.heads.items c.deref.result.now c.self.inside.bytes.items c.deref.ensures.value c.self.invariant
 
 pub invariant_of-self : goal.invariant_of-self
 invariant_of-self c =
-    let heads = c.self.inside.heads.items in
-    let bs = c.self.inside.bytes.items in
-    let m = c.args.self.now in
-    let a = c.args.address in
-    let i = c.in-Some.place in
-    let here = stands heads c.deref.result.now (a / 4096) i c.deref.ensures.value c.in-Some.ensures.found in
-    let at = 4096 * i + a % 4096 in
-    let items = with_items_is c.self.inside.bytes c.put_number.new.bytes (c.put_number.auto.bytes ∙ c.deref_mut.ensures.len) in
-    let new = items ∙ c.put_number.ensures ∙ ap (λ l. with_number l at c.args.size c.args.value) c.deref_mut.ensures.value in
-    let fits : a % 4096 + c.args.size ≤ 4096 = omega (arith, c.from.ensures, c.if-offset-from-le4096.true) in
-    laid-written heads bs _ a c.args.size c.args.value i c.self.invariant here (omega arith) fits new
+    let m = c.self.inside.store in
+    kept-numbers m _ c.self.inside.log c.self.inside.opened
+    (numbers-stored m c.store.new.self c.args.address c.args.size c.args.value c.store.result c.store.ensures.done c.store.ensures.unchanged)
+    c.self.invariant
 
-pub returns-then-is_writable-clause-done : goal.returns-then-is_writable-clause-done
-returns-then-is_writable-clause-done c =
-    let heads = c.self.inside.heads.items in
-    let bs = c.self.inside.bytes.items in
-    let m = c.args.self.now in
+pub returns-then-is_open-clause-past : goal.returns-then-is_open-clause-past
+returns-then-is_open-clause-past c =
+    let m = c.self.inside.store in
     let a = c.args.address in
-    let i = c.in-Some.place in
-    let here = stands heads c.deref.result.now (a / 4096) i c.deref.ensures.value c.in-Some.ensures.found in
-    let at = 4096 * i + a % 4096 in
-    let items = with_items_is c.self.inside.bytes c.put_number.new.bytes (c.put_number.auto.bytes ∙ c.deref_mut.ensures.len) in
-    let new = items ∙ c.put_number.ensures ∙ ap (λ l. with_number l at c.args.size c.args.value) c.deref_mut.ensures.value in
-    let fits : a % 4096 + c.args.size ≤ 4096 = omega (arith, c.from.ensures, c.if-offset-from-le4096.true) in
-    let perm = head-read heads i c.index.result.now here.below c.index.ensures in
-    let writable = sym (ap is_writable perm) ∙ sym c.is_writable.ensures ∙ c.if-is_writable.true in
-    store-found heads bs _ m a c.args.size c.args.value i c.self.view_is c.self.invariant here writable (omega arith) fits new
+    let es = c.self.inside.log.epochs in
+    let hit = c.is_open.ensures.opened c.if-is_open.true in
+    let fits = c.is_open.ensures.inside c.if-is_open.true in
+    let saved = subst (IsSaved es m) hit (c.self.invariant.saved (omega (arith, hit))) in
+    past_of-stored es m c.store.new.self a c.args.size c.args.value c.store.result c.store.ensures.done c.store.ensures.unchanged (omega arith)
+    (saved-within es m a c.args.size (omega arith) fits saved)
+    ∙ ap (λ p. p.past) c.self.view_is

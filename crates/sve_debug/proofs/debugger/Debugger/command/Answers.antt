@@ -4,6 +4,8 @@ use Rattle.std.proofs.lemmas.Bool.{eqb-true}
 use Rattle.sve_debug.specs.Held.{Stands}
 use Rattle.sve_debug.specs.Lines.{command_of}
 use Rattle.sve_debug.specs.Replies.{Session, after_command, after_line, is_quit, quits}
+use Rattle.io_edges.proofs.Puts.{put_as}
+use Rattle.sve_debug.proofs.Told.{told_is, line_is, puts_on, puts_failed}
 use Rattle.sve_debug.proofs.debugger.Debugger.command.Goals as goal
 
 no_command : command_of [] ≡ None
@@ -26,3 +28,23 @@ returns-then-is_empty-clause-session g c start d h =
 
 pub returns-then-is_empty-clause-goes_on : goal.returns-then-is_empty-clause-goes_on
 returns-then-is_empty-clause-goes_on g c = on c.args.line.now (sym c.is_empty.ensures ∙ c.if-is_empty.true)
+
+pub returns-in_err-answer-clause-told : goal.returns-in_err-answer-clause-told
+returns-in_err-answer-clause-told g c start d h =
+    let taken = g.S.Sink.taken in
+    let faults = g.S.Sink.faults in
+    let command = c.in-Some.command in
+    let text = told_is command c.args.self.now c.answer.new.self start d h (c.answer.ensures.session start d h) in
+    let whole = line_is c.args.line.now command d (sym c.is_empty.ensures ∙ c.if-is_empty.false) (sym c.command_of.ensures.value ∙ c.in-Some.is) in
+    put_as _ _ _ _ _ _ _ (text ∙ whole)
+    (puts_failed (taken c.args.out.now) (taken c.answer.new.out) (faults c.args.out.now) (faults c.answer.new.out) _ c.answer.result c.in_err-answer.field-0.0 c.from_residual-in_err-answer.result c.in_err-answer.was c.from_residual-in_err-answer.ensures.0 c.answer.ensures.text)
+
+pub returns-clause-told : goal.returns-clause-told
+returns-clause-told g c start d h =
+    let taken = g.S.Sink.taken in
+    let faults = g.S.Sink.faults in
+    let command = c.in-Some.command in
+    let text = told_is command c.args.self.now c.answer.new.self start d h (c.answer.ensures.session start d h) in
+    let whole = line_is c.args.line.now command d (sym c.is_empty.ensures ∙ c.if-is_empty.false) (sym c.command_of.ensures.value ∙ c.in-Some.is) in
+    put_as _ _ _ _ _ _ _ (text ∙ whole)
+    (puts_on (taken c.args.out.now) (taken c.answer.new.out) (faults c.args.out.now) (faults c.answer.new.out) _ c.answer.result c.in_ok-answer.field-0 c.ne.result c.in_ok-answer.was c.answer.ensures.text)

@@ -8,5 +8,5 @@ pub returns-clause-quiet : goal.returns-clause-quiet
 returns-clause-quiet c quiet =
     let own = c.self.inside in
     let left = c.go-answer.new in
-    quiet_left c.go-answer.result.0 c.args.steps c.go-answer.result.1 (state_of own.core own.pages own.vectors) (state_of left.core left.pages left.vectors)
+    quiet_left c.go-answer.result.0 c.args.steps c.go-answer.result.1 (state_of own.core own.pages.memory own.vectors) (state_of left.core left.pages.memory left.vectors)
     c.go-answer.ensures.leaves (ap (λ (v : View). v.quiet) c.self.view_is ∙ quiet)

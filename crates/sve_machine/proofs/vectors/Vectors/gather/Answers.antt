@@ -10,19 +10,19 @@ pub invariant_of-self : goal.invariant_of-self
 invariant_of-self c =
     let own = c.self.inside in
     load_put own.z own.p own.ffr own.vl own.stops own.ffr own.stops c.args.zt c.in-Ok.z c.self.invariant
-    (gather_shape c.args.row.dtype c.args.base own.vl c.args.pages.now own.stops (get_or own.z c.args.zm (record { bytes = [] })).bytes (get_or own.p c.args.pg (record { bits = [] })).bits own.ffr.bits _
+    (gather_shape c.args.row.dtype c.args.base own.vl c.args.pages.now.memory own.stops (get_or own.z c.args.zm (record { bytes = [] })).bytes (get_or own.p c.args.pg (record { bits = [] })).bits own.ffr.bits _
     c.self.invariant.sized c.self.invariant.ffr_is (c.in-Ok.ensures.done own.stops own.ffr.bits))
 
 pub returns-in-Ok-clause-done : goal.returns-in-Ok-clause-done
 returns-in-Ok-clause-done c =
     let own = c.self.inside in
-    subst (λ (r : VectorState). put_load (gather_of c.args.row.dtype c.args.base r.vl c.args.pages.now r.stops (z_of r c.args.zm) (p_of r c.args.pg) r.ffr) c.args.zt r ≡ Ok (vector_state_of (slice_set own.z c.args.zt c.in-Ok.z) own.p own.ffr own.vl own.stops))
+    subst (λ (r : VectorState). put_load (gather_of c.args.row.dtype c.args.base r.vl c.args.pages.now.memory r.stops (z_of r c.args.zm) (p_of r c.args.pg) r.ffr) c.args.zt r ≡ Ok (vector_state_of (slice_set own.z c.args.zt c.in-Ok.z) own.p own.ffr own.vl own.stops))
     c.self.view_is
-    (gather_done c.args.row.dtype c.args.base c.args.pages.now own.z own.p own.ffr own.vl own.stops c.args.zm c.args.pg c.args.zt c.in-Ok.z (c.in-Ok.ensures.done own.stops own.ffr.bits))
+    (gather_done c.args.row.dtype c.args.base c.args.pages.now.memory own.z own.p own.ffr own.vl own.stops c.args.zm c.args.pg c.args.zt c.in-Ok.z (c.in-Ok.ensures.done own.stops own.ffr.bits))
 
 pub returns-in-Err-clause-refused : goal.returns-in-Err-clause-refused
 returns-in-Err-clause-refused c =
     let own = c.self.inside in
-    subst (λ (r : VectorState). put_load (gather_of c.args.row.dtype c.args.base r.vl c.args.pages.now r.stops (z_of r c.args.zm) (p_of r c.args.pg) r.ffr) c.args.zt r ≡ Err c.in-Err.fault)
+    subst (λ (r : VectorState). put_load (gather_of c.args.row.dtype c.args.base r.vl c.args.pages.now.memory r.stops (z_of r c.args.zm) (p_of r c.args.pg) r.ffr) c.args.zt r ≡ Err c.in-Err.fault)
     c.self.view_is
-    (gather_not_done c.args.row.dtype c.args.base c.args.pages.now own.z own.p own.ffr own.vl own.stops c.args.zm c.args.pg c.args.zt c.in-Err.fault (c.in-Err.ensures.refused own.stops own.ffr.bits))
+    (gather_not_done c.args.row.dtype c.args.base c.args.pages.now.memory own.z own.p own.ffr own.vl own.stops c.args.zm c.args.pg c.args.zt c.in-Err.fault (c.in-Err.ensures.refused own.stops own.ffr.bits))

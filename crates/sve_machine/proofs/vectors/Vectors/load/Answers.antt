@@ -11,13 +11,13 @@ invariant_of-self-2 c =
     let own = c.self.inside in
     let after = c.load_into.new in
     load_put own.z own.p own.ffr own.vl own.stops after.ffr after.stops c.args.zt after.out c.self.invariant
-    (load_shape c.args.mode c.args.row.dtype c.args.base c.args.index own.vl c.args.pages.now own.stops (get_or own.p c.args.pg (record { bits = [] })).bits own.ffr.bits _
+    (load_shape c.args.mode c.args.row.dtype c.args.base c.args.index own.vl c.args.pages.now.memory own.stops (get_or own.p c.args.pg (record { bits = [] })).bits own.ffr.bits _
     c.self.invariant.sized c.self.invariant.ffr_is c.in_ok-load_into.ensures.done)
 
 pub returns-clause-done : goal.returns-clause-done
 returns-clause-done c =
     let own = c.self.inside in
     let after = c.load_into.new in
-    subst (λ (r : VectorState). put_load (load_of c.args.mode c.args.row.dtype c.args.base c.args.index r.vl c.args.pages.now r.stops (p_of r c.args.pg) r.ffr) c.args.zt r ≡ Ok (vector_state_of (slice_set own.z c.args.zt after.out) own.p after.ffr own.vl after.stops))
+    subst (λ (r : VectorState). put_load (load_of c.args.mode c.args.row.dtype c.args.base c.args.index r.vl c.args.pages.now.memory r.stops (p_of r c.args.pg) r.ffr) c.args.zt r ≡ Ok (vector_state_of (slice_set own.z c.args.zt after.out) own.p after.ffr own.vl after.stops))
     c.self.view_is
-    (load_done c.args.mode c.args.row.dtype c.args.base c.args.index c.args.pages.now own.z own.p own.ffr own.vl own.stops c.args.pg c.args.zt after.ffr after.stops after.out c.in_ok-load_into.ensures.done)
+    (load_done c.args.mode c.args.row.dtype c.args.base c.args.index c.args.pages.now.memory own.z own.p own.ffr own.vl own.stops c.args.pg c.args.zt after.ffr after.stops after.out c.in_ok-load_into.ensures.done)

@@ -1,0 +1,4 @@
+pub mod Blanks
+pub mod Rules
+pub mod View
+pub mod Reading

@@ -1,5 +1,0 @@
-use Rattle.chunk_loop.proofs.PassLaws as laws
-use Rattle.chunk_loop.proofs.chunk_passes.Goals as goal
-
-pub returns : goal.returns
-returns c = laws.chunk_law

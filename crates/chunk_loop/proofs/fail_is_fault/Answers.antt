@@ -1,5 +1,0 @@
-use Rattle.chunk_loop.proofs.ChunkFails as laws
-use Rattle.chunk_loop.proofs.fail_is_fault.Goals as goal
-
-pub returns : goal.returns
-returns c = laws.fail_is_fault

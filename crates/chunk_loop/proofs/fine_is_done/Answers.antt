@@ -1,5 +1,0 @@
-use Rattle.chunk_loop.proofs.ChunkDone as laws
-use Rattle.chunk_loop.proofs.fine_is_done.Goals as goal
-
-pub returns : goal.returns
-returns c = laws.fine_is_done

@@ -1,5 +1,0 @@
-use Rattle.chunk_loop.proofs.ChunkNext as laws
-use Rattle.chunk_loop.proofs.next_halts.Goals as goal
-
-pub returns : goal.returns
-returns c = laws.next_halts

@@ -1,0 +1,93 @@
+//! The code of a pass of the loop.
+
+ghost use Rattle.std.specs.Prelude.{◌≡◌, List, [], ◌∷◌, ◌++◌, OnOk, if◌then◌else◌};
+ghost use Rattle.label_fix.specs.DraftRun.{Entry};
+ghost use Rattle.loop_form.specs.LoopView.{view};
+ghost use Rattle.chunk_emit.specs.Writable.{AreWritable};
+ghost use Rattle.chunk_emit.specs.View.{AppendsPuts, layout_in, width_in};
+ghost use Rattle.first_fault.specs.Split.{region_of, rest_of};
+ghost use Rattle.chunk_pass.specs.PassCode as pass;
+
+use crate::words::{advance, first_lane, index, lanes, one};
+use a64_code::Reg;
+use chunk_emit::{LoopLayout, emit_items};
+use first_fault::{emit_exits, emit_single, region, rest, split_breaks};
+use label_fix::{Draft, Word};
+use loop_form::{LoopItem, Source};
+use std::alloc::{AllocError, Global};
+
+// The loop variable, where it has a register.
+fn emit_turns(layout: &LoopLayout<'_>, draft: &mut Draft) -> Result<(), AllocError>
+    ensures labels { OnOk result (draft.new.labels ≡ draft.old.labels) }
+    ensures code { OnOk result (AppendsPuts (pass.index_words (layout_in layout.now)) draft.old draft.new) }
+{
+    if layout.registers.is_index_held() {
+        let d = layout.registers.source(Source::LoopIndex);
+        draft.put(Word::V(index(d)))?;
+    }
+    Ok(())
+}
+
+/// A chunk of a loop with a break: the lanes below the bound, in a general register.
+pub fn emit_chunk(
+    alloc: Global,
+    layout: &LoopLayout<'_>,
+    bound: Reg,
+    items: &[LoopItem<'_>],
+    draft: &mut Draft,
+) -> Result<(), AllocError>
+    requires region { AreWritable (width_in layout.now) (region_of (view items.now)) }
+    requires rest { AreWritable (width_in layout.now) (rest_of (view items.now)) }
+    ensures labels { OnOk result (draft.new.labels ≡ draft.old.labels) }
+    ensures code { let words = pass.chunk_words (width_in layout.now) (layout_in layout.now) bound.number
+        (view items.now) in
+        OnOk result (AppendsPuts words draft.old draft.new) }
+{
+    draft.put(lanes(layout.width(), bound))?;
+    emit_turns(layout, draft)?;
+    let steps = split_breaks(alloc, layout, region(items))?;
+    emit_exits(alloc, layout, &steps, draft)?;
+    emit_items(alloc, layout, rest(items), draft)?;
+    draft.put(advance(layout.width()))?;
+    Ok(())
+}
+
+/// One iteration of such a loop, where no lane came through a chunk.
+pub fn emit_turn(
+    alloc: Global,
+    layout: &LoopLayout<'_>,
+    items: &[LoopItem<'_>],
+    draft: &mut Draft,
+) -> Result<(), AllocError>
+    requires region { AreWritable (width_in layout.now) (region_of (view items.now)) }
+    requires rest { AreWritable (width_in layout.now) (rest_of (view items.now)) }
+    ensures labels { OnOk result (draft.new.labels ≡ draft.old.labels) }
+    ensures code { let words = pass.turn_words (width_in layout.now) (layout_in layout.now) (view items.now) in
+        OnOk result (AppendsPuts words draft.old draft.new) }
+{
+    draft.put(one())?;
+    draft.put(first_lane(layout.width()))?;
+    let steps = split_breaks(alloc, layout, region(items))?;
+    emit_single(alloc, layout, &steps, draft)?;
+    emit_items(alloc, layout, rest(items), draft)?;
+    draft.put(advance(layout.width()))?;
+    Ok(())
+}
+
+/// A chunk of a loop without a break, whose lanes are in P0.
+pub fn emit_plain(
+    alloc: Global,
+    layout: &LoopLayout<'_>,
+    items: &[LoopItem<'_>],
+    draft: &mut Draft,
+) -> Result<(), AllocError>
+    requires { AreWritable (width_in layout.now) (view items.now) }
+    ensures labels { OnOk result (draft.new.labels ≡ draft.old.labels) }
+    ensures code { let words = pass.plain_words (width_in layout.now) (layout_in layout.now) (view items.now) in
+        OnOk result (AppendsPuts words draft.old draft.new) }
+{
+    emit_turns(layout, draft)?;
+    emit_items(alloc, layout, items, draft)?;
+    draft.put(advance(layout.width()))?;
+    Ok(())
+}

@@ -1,0 +1,42 @@
+//! Machines that know what they were.
+
+ghost use Rattle.std.specs.Prelude.{◌≡◌, ◌+◌, ◌<◌, ◌≤◌, [], ◌∷◌, take, length, slice_index_or, OnOk, OnErr};
+ghost use Rattle.machine_model.specs.Debugged.{Past, now};
+ghost use Rattle.guest_types.specs.Kept.{kept_more};
+
+use machine_model::debuggee::Debuggee;
+use std::alloc::{AllocError, Global};
+
+/// A machine that can be kept as it is, eight times at most, and can go back to what it was then.
+pub trait Keepable: Debuggee {
+    /// Takes the memory of a past of eight, and begins it: the machine is kept as it is now.
+    ///
+    /// # Errors
+    /// `AllocError` where there is not that much memory. The machine is then as it was.
+    fn begin(&mut self, alloc: Global) -> Result<(), AllocError>
+        ensures now { now (Self.view_of self.new) ≡ now (Self.view_of self.old) }
+        ensures begun { OnOk result ((Self.view_of self.new).past ≡ now (Self.view_of self.old) ∷ []) }
+        ensures unchanged { OnErr result ((Self.view_of self.new).past ≡ (Self.view_of self.old).past) };
+
+    /// Keeps the machine as it is now, in place of the oldest one where eight are kept. It takes no memory.
+    fn keep(&mut self)
+        requires { 1 ≤ length (Self.view_of self.old).past }
+        ensures now { now (Self.view_of self.new) ≡ now (Self.view_of self.old) }
+        ensures past { (Self.view_of self.new).past
+            ≡ kept_more (now (Self.view_of self.old)) (Self.view_of self.old).past };
+
+    /// Goes back to one of those that were kept, oldest first. Those after it are kept no longer. It takes no memory.
+    fn go_back(&mut self, n: usize)
+        requires { n < length (Self.view_of self.old).past }
+        ensures now { (d : Past) → slice_index_or (Self.view_of self.old).past n d ≡ now (Self.view_of self.new) }
+        ensures past { (Self.view_of self.new).past ≡ take (n + 1) (Self.view_of self.old).past };
+
+    /// How many are kept.
+    fn kept(&self) -> usize
+        ensures { result ≡ length (Self.view_of self.now).past };
+
+    /// How many steps one of those that are kept had done, oldest first.
+    fn kept_steps(&self, n: usize) -> u64
+        requires { n < length (Self.view_of self.now).past }
+        ensures { (d : Past) → (slice_index_or (Self.view_of self.now).past n d).steps ≡ result };
+}

@@ -1,0 +1,53 @@
+-- The walks over the condition and the blocks of an `if`, put together.
+use Rattle.std.proofs.Common.{◌≡◌, ℕ, ◌+◌, List, [], ◌∷◌, ◌++◌, Option, None, sym, ap, ap₂, ◌∙◌, append_assoc, arith}
+use Rattle.std.proofs.lemmas.List.{append-nil}
+use Rattle.kernel_tree.specs.declared.ops.Ty.{Ty}
+use Rattle.kernel_tree.specs.declared.fault.Found.{Found}
+use Rattle.kernel_tree.specs.Plain.{Term, Block, Choose, Nothing, Else}
+use Rattle.kernel_tree.specs.Items.{term_size, action_size, block_size}
+use Rattle.kernel_tree.specs.Typing.{Scope, Condition, left, after_action, after_block, faults, action_faults, block_faults, term_types, action_types, block_types, sooner, least}
+use Rattle.kernel_types.proofs.ListWalks.{two_parts}
+
+-- ---- with one block
+
+pub one_found : (s : Scope) (n m : ℕ) (o p q : Option Found) (c : Term) (b : Block) → m ≡ n + (term_size s.index c + 1) → p ≡ sooner o (least (faults s n Condition c)) → q ≡ sooner p (least (block_faults s m b)) → q ≡ sooner o (least (action_faults s n (Choose c b Nothing)))
+one_found s n m o p q c b d e f =
+    let at : m ≡ n + term_size s.index c + 1 = omega arith in
+    let fs = faults s n Condition c in
+    let gs = block_faults s (n + term_size s.index c + 1) b in
+    f
+    ∙ ap (λ (k : ℕ). sooner p (least (block_faults s k b))) at
+    ∙ two_parts o p fs gs e
+    ∙ ap (λ (hs : List Found). sooner o (least (fs ++ hs))) (sym (append-nil gs))
+
+pub one_types : (s : Scope) (ts us vs : List (Option Ty)) (c : Term) (b : Block) → us ≡ ts ++ (term_types s Condition c ++ None ∷ []) → vs ≡ us ++ (block_types s b ++ None ∷ []) → vs ≡ ts ++ action_types s (Choose c b Nothing)
+one_types s ts us vs c b e f = rw (f, e) (simp append_assoc)
+
+-- ---- with two blocks
+
+pub two_scope : (s t u : Scope) (c : Term) (b d : Block) → t ≡ left s (after_block s b) → u ≡ left t (after_block t d) → u ≡ after_action s (Choose c b (Else d))
+two_scope s t u c b d e f = f ∙ ap (λ (x : Scope). left x (after_block x d)) e
+
+pub same_index : (s t i : Scope) → t ≡ left s i → t.index ≡ s.index
+same_index s t i e = ap (λ (x : Scope). x.index) e
+
+pub two_next : (s t : Scope) (n m l k : ℕ) (c : Term) (b d : Block) → t ≡ left s (after_block s b) → m ≡ n + (term_size s.index c + 1) → l ≡ m + (block_size s.index b + 1) → k ≡ l + (block_size t.index d + 1) → k ≡ n + action_size s.index (Choose c b (Else d))
+two_next s t n m l k c b d g e f h =
+    let i : block_size t.index d ≡ block_size s.index d = ap (λ (x : Scope). block_size x.index d) g in
+    omega arith
+
+pub two_found : (s t : Scope) (n m l : ℕ) (o p q r : Option Found) (c : Term) (b d : Block) → t ≡ left s (after_block s b) → m ≡ n + (term_size s.index c + 1) → l ≡ m + (block_size s.index b + 1) → p ≡ sooner o (least (faults s n Condition c)) → q ≡ sooner p (least (block_faults s m b)) → r ≡ sooner q (least (block_faults t l d)) → r ≡ sooner o (least (action_faults s n (Choose c b (Else d))))
+two_found s t n m l o p q r c b d g i j e f h =
+    let at : m ≡ n + term_size s.index c + 1 = omega arith in
+    let past : l ≡ n + term_size s.index c + 1 + block_size s.index b + 1 = omega arith in
+    let fs = faults s n Condition c in
+    let gs = block_faults s (n + term_size s.index c + 1) b in
+    let hs = block_faults (left s (after_block s b)) (n + term_size s.index c + 1 + block_size s.index b + 1) d in
+    let first = f ∙ ap (λ (k : ℕ). sooner p (least (block_faults s k b))) at in
+    h
+    ∙ ap₂ (λ (x : Scope) (k : ℕ). sooner q (least (block_faults x k d))) g past
+    ∙ two_parts p q gs hs first
+    ∙ two_parts o p fs (gs ++ hs) e
+
+pub two_types : (s t : Scope) (ts us vs ws : List (Option Ty)) (c : Term) (b d : Block) → t ≡ left s (after_block s b) → us ≡ ts ++ (term_types s Condition c ++ None ∷ []) → vs ≡ us ++ (block_types s b ++ None ∷ []) → ws ≡ vs ++ (block_types t d ++ None ∷ []) → ws ≡ ts ++ action_types s (Choose c b (Else d))
+two_types s t ts us vs ws c b d g e f h = rw (h, f, e, g) (simp append_assoc)

@@ -1,7 +1,0 @@
-use Rattle.std.proofs.Common.{arith}
-use Rattle.paged_memory.proofs.RunLaws.{runs-apart}
-use Rattle.lane_memory.proofs.tests.built.Goals as goal
-
-pub build-requires-clause-apart : goal.build-requires-clause-apart
-build-requires-clause-apart c =
-    runs-apart 0 2 2 1 c.in_ok-run.field-0.items c.in_ok-run-2.field-0.items c.in_ok-run.ensures c.in_ok-run-2.ensures (omega arith)

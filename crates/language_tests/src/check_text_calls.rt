@@ -1,0 +1,134 @@
+//! A worked kernel through this crate and the forms of loops below it, which have no reader of kernels.
+
+use check_text::check_text;
+use dependence::class;
+use dependence::reason::{Class, Why};
+use guest_types::length::Width;
+use kernel_front::accept;
+use kernel_tree::{BinaryOp, Ty};
+use loop_form::need::Needs;
+use loop_form::{
+    Item, ItemKind, LoopOp, Source, Stream, intervals, lane_width, listing, loop_items, needs,
+    streams,
+};
+use reg_assign::{Interval, RegClass};
+use std::test::Fail;
+
+const AXPY: &str =
+    "kernel axpy(y: [i32], x: [i32], k: i32, n: u64) { for i in 0..n { y[i] = y[i] + k * x[i]; } }";
+
+const SPREAD: &str = "kernel spread(a: [u8], n: u64) { for i in 0..n { a[i + 1] = a[i]; } }";
+
+fn item(kind: ItemKind, ty: Option<Ty>, last_use: Option<u32>) -> Item {
+    Item {
+        kind,
+        ty,
+        x_last_use: last_use,
+        z_last_use: last_use,
+        p_last_use: None,
+    }
+}
+
+// y[i] is item 5, k item 6, x[i] item 7, the product item 8, the sum item 9, and the store item 10.
+#[test]
+fn items_and_values(rt: HostRuntime) -> Result<(), Fail> {
+    let kernel = accept(rt.alloc(), AXPY.as_bytes())?;
+    let items = listing(rt.alloc(), &kernel)?;
+    let int = Some(Ty::I32);
+    assert_eq!(rt; items.len(), 11);
+    assert_eq!(rt; items[4], item(ItemKind::For, None, None));
+    assert_eq!(rt; items[5], item(ItemKind::Read, int, Some(9)));
+    assert_eq!(rt; items[6], item(ItemKind::Name, int, None));
+    assert_eq!(rt; items[7], item(ItemKind::Read, int, Some(8)));
+    assert_eq!(rt; items[8], item(ItemKind::Binary, int, Some(9)));
+    assert_eq!(rt; items[9], item(ItemKind::Binary, int, Some(10)));
+    assert_eq!(rt; items[10], item(ItemKind::Store, None, None));
+    Ok(())
+}
+
+fn stream(param: u32, store: bool, item: u32) -> Stream {
+    Stream {
+        param,
+        offset: 0,
+        store,
+        item,
+    }
+}
+
+#[test]
+fn accesses_in_their_order(rt: HostRuntime) -> Result<(), Fail> {
+    let kernel = accept(rt.alloc(), AXPY.as_bytes())?;
+    let streams = streams(rt.alloc(), &kernel)?;
+    assert_eq!(rt; streams.len(), 3);
+    assert_eq!(rt; streams[0], stream(0, false, 5));
+    assert_eq!(rt; streams[1], stream(1, false, 7));
+    assert_eq!(rt; streams[2], stream(0, true, 10));
+    Ok(())
+}
+
+fn interval(from: u32, last_use: u32) -> Interval {
+    Interval { from, last_use }
+}
+
+// k is held throughout, and each value until the item that uses it.
+#[test]
+fn intervals_of_values(rt: HostRuntime) -> Result<(), Fail> {
+    let kernel = accept(rt.alloc(), AXPY.as_bytes())?;
+    let intervals_z = intervals(rt.alloc(), &kernel, RegClass::Z)?;
+    assert_eq!(rt; intervals_z.len(), 5);
+    assert_eq!(rt; intervals_z[0], interval(0, 11));
+    assert_eq!(rt; intervals_z[1], interval(5, 9));
+    assert_eq!(rt; intervals_z[2], interval(7, 8));
+    assert_eq!(rt; intervals_z[3], interval(8, 9));
+    assert_eq!(rt; intervals_z[4], interval(9, 10));
+    assert_eq!(rt; intervals(rt.alloc(), &kernel, RegClass::P)?.len(), 0);
+    assert_eq!(rt; intervals(rt.alloc(), &kernel, RegClass::X)?.len(), 4);
+    Ok(())
+}
+
+#[test]
+fn items_of_the_loop(rt: HostRuntime) -> Result<(), Fail> {
+    let kernel = accept(rt.alloc(), AXPY.as_bytes())?;
+    let items = loop_items(rt.alloc(), &kernel)?;
+    assert_eq!(rt; items.len(), 5);
+    assert_eq!(rt; items[0].item, 5);
+    assert_eq!(rt; items[4].item, 10);
+    let product = matches!(
+        items[2].op,
+        LoopOp::Combine {
+            op: BinaryOp::Mul,
+            ty: Some(Ty::I32),
+            left: Source::Outer(2),
+            right: Source::Made(7),
+        }
+    );
+    assert!(rt; product);
+    Ok(())
+}
+
+#[test]
+fn needs_and_classes(rt: HostRuntime) -> Result<(), Fail> {
+    let axpy = accept(rt.alloc(), AXPY.as_bytes())?;
+    let needed = Needs {
+        size: 11,
+        z: 3,
+        p: 0,
+        x: 2,
+    };
+    assert_eq!(rt; needs(rt.alloc(), &axpy)?, needed);
+    assert_eq!(rt; lane_width(&axpy), Width::S);
+    assert_eq!(rt; class(&axpy), Class::Vector);
+    let spread = accept(rt.alloc(), SPREAD.as_bytes())?;
+    assert_eq!(rt; class(&spread), Class::Scalar { why: Why::Carried });
+    Ok(())
+}
+
+#[test]
+fn text_of_a_kernel(rt: HostRuntime) -> Result<(), Fail> {
+    let kernel = accept(rt.alloc(), SPREAD.as_bytes())?;
+    let text = check_text(rt.alloc(), &kernel)?;
+    let lines =
+        b"kernel spread ( a : [ u8 ] , n : u64 ) { for i in 0 .. n { a [ i + 1 ] = a [ i ] ; } }\nsize 5\nclass scalar carried\nneed x 1\n";
+    assert_eq!(rt; text.as_slice(), lines.as_slice());
+    Ok(())
+}

@@ -1,4 +1,0 @@
-use Rattle.paged_memory.proofs.pages.Pages.+write_fault.Given as goal
-
-abbrev pub decreases-write_fault : goal.decreases-write_fault
-decreases-write_fault l = l.size

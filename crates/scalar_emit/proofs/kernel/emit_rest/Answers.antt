@@ -1,0 +1,29 @@
+use Rattle.std.proofs.Common.{◌≡◌, ◌+◌, ◌++◌, List, Option, sym, ap, ap₂, ◌∙◌}
+use Rattle.std.specs.Prelude.{option_map}
+use Rattle.kernel_tree.specs.declared.ast.Loop.{Loop}
+use Rattle.kernel_tree.specs.Plain.{turns_of, program_of}
+use Rattle.kernel_tree.specs.Items.{turns_size, loop_end}
+use Rattle.label_fix.specs.DraftRun.{Entry}
+use Rattle.scalar_emit.specs.Kernel.{register_in}
+use Rattle.scalar_emit.proofs.Emission.{scalar_is, straight_is}
+use Rattle.scalar_emit.proofs.kernel.emit_rest.Goals as goal
+
+pub returns-in_ok-emit_following-in-Some-clause-code : goal.returns-in_ok-emit_following-in-Some-clause-code
+returns-in_ok-emit_following-in-Some-clause-code c rest =
+    let k = program_of c.args.kernel.now in
+    let R = register_in c.args.regs.now in
+    let turns = ap (λ (o : Option Loop). option_map turns_of o) c.in-Some.is in
+    let end : c.emit_turns.new.item ≡ loop_end k = c.in_ok-head-in-Some.ensures.item ∙ ap₂ (λ m n. m + n) c.requires.start (ap turns_size (sym turns)) in
+    c.in_ok-emit_following-in-Some.ensures.code rest
+    ∙ c.in_ok-head-in-Some.ensures.code _
+    ∙ ap (λ (es : List Entry). c.args.draft.now.entries ++ es)
+    (scalar_is R k c.args.places.now (turns_of c.in-Some.turns) c.args.item c.args.draft.now.labels c.emit_turns.new.item c.emit_turns.new.draft.labels rest c.requires.places turns c.requires.start end c.in_ok-head-in-Some.ensures.labels)
+
+pub returns-in_ok-head-in-None-clause-code : goal.returns-in_ok-head-in-None-clause-code
+returns-in_ok-head-in-None-clause-code c rest =
+    let k = program_of c.args.kernel.now in
+    let R = register_in c.args.regs.now in
+    let turns = ap (λ (o : Option Loop). option_map turns_of o) c.in-None.is in
+    c.in_ok-head-in-None.ensures.code rest
+    ∙ ap (λ (es : List Entry). c.args.draft.now.entries ++ es)
+    (straight_is R k c.args.places.now c.args.item c.args.draft.now.labels rest c.requires.places turns c.requires.start)

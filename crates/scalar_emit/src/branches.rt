@@ -1,0 +1,52 @@
+//! Branches to labels that are placed further on.
+
+ghost use Rattle.std.specs.Prelude.{◌≡◌, ◌+◌, ◌<◌, ◌^◌, true, List, ◌∷◌, ◌++◌, IfOk, OnOk};
+ghost use Rattle.label_fix.specs.Draft.{kind_view};
+ghost use Rattle.label_fix.specs.DraftRun as plain;
+ghost use Rattle.label_fix.specs.Finished.{has_register};
+
+use label_fix::{BranchKind, Draft, Label};
+use std::alloc::AllocError;
+
+/// A branch to a new label.
+pub fn branch_ahead(draft: &mut Draft, kind: BranchKind) -> Result<Label, AllocError>
+    requires { has_register (kind_view kind) ≡ true }
+    ensures label { IfOk result (λ l. l ≡ draft.old.labels) }
+    ensures labels { OnOk result (draft.new.labels ≡ draft.old.labels + 1) }
+    ensures code { OnOk result ((rest : List plain.Entry)
+        → draft.new.entries ++ rest ≡ draft.old.entries ++ plain.Branch (kind_view kind) draft.old.labels ∷ rest) }
+{
+    let ahead = draft.label()?;
+    draft.branch(kind, ahead)?;
+    Ok(ahead)
+}
+
+/// The place of a label, which is an item.
+pub fn land(draft: &mut Draft, label: Label, item: &mut usize) -> Result<(), AllocError>
+    requires given { label < draft.old.labels }
+    requires room { item.old < 2 ^ 32 }
+    ensures item { OnOk result (item.new ≡ item.old + 1) }
+    ensures labels { OnOk result (draft.new.labels ≡ draft.old.labels) }
+    ensures code { OnOk result ((rest : List plain.Entry)
+        → draft.new.entries ++ rest ≡ draft.old.entries ++ plain.Place label ∷ rest) }
+{
+    draft.place(label)?;
+    *item += 1;
+    Ok(())
+}
+
+/// A branch over what follows to a new label, and the place of a label to which what went before branches, which is an item.
+pub fn switch_over(draft: &mut Draft, label: Label, item: &mut usize) -> Result<Label, AllocError>
+    requires given { label < draft.old.labels }
+    requires room { item.old < 2 ^ 32 }
+    ensures label { IfOk result (λ l. l ≡ draft.old.labels) }
+    ensures item { OnOk result (item.new ≡ item.old + 1) }
+    ensures labels { OnOk result (draft.new.labels ≡ draft.old.labels + 1) }
+    ensures code { OnOk result ((rest : List plain.Entry)
+        → draft.new.entries ++ rest ≡ draft.old.entries
+        ++ plain.Branch plain.Always draft.old.labels ∷ plain.Place label ∷ rest) }
+{
+    let end = branch_ahead(draft, BranchKind::Always)?;
+    land(draft, label, item)?;
+    Ok(end)
+}

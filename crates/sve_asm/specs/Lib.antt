@@ -1,0 +1,3 @@
+pub mod WordOf
+pub mod Lines
+pub mod View

@@ -1,0 +1,25 @@
+use Rattle.std.proofs.Common.{◌≡◌, ℕ, ◌+◌, ◌<◌, ◌≤◌, List, None, length}
+use Rattle.std.specs.Prelude.{IsTrue}
+use Rattle.std.specs.List.{All}
+use Rattle.machine_model.specs.Machine.{State}
+use Rattle.sve_debug.specs.Held.{Stands, IsTwin, held_by}
+use Rattle.sve_debug.specs.Reaches.{ReachesCounted}
+use Rattle.sve_debug.specs.Replies.{Session}
+use Rattle.sve_debug.proofs.kept_run.run_kept.Given as goal
+
+abbrev pub invariant-loop-left : goal.invariant-loop-left
+invariant-loop-left g l = record {
+  over : l.over ≡ (g.D.Debuggee.view_of l.machine).over;
+  running : 0 < l.left → l.over ≡ None;
+  room : l.places.capacity ≡ 64;
+  quiet : IsTrue (g.D.Debuggee.view_of l.machine).quiet;
+  some : 1 ≤ length (g.D.Debuggee.view_of l.machine).past;
+  twins : All (IsTwin (g.D.Debuggee.view_of l.machine)) (g.D.Debuggee.view_of l.machine).past;
+  steps : (g.D.Debuggee.view_of l.machine).steps + l.left ≤ (g.D.Debuggee.view_of l.initial.machine).steps + l.most;
+  session :
+      (breaks : List ℕ) (start : State) (d : Session) → Stands (held_by (g.D.Debuggee.view_of l.initial.machine) breaks l.initial.places.items) start d
+      → ReachesCounted (held_by (g.D.Debuggee.view_of l.machine) breaks l.places.items) start d l.stops l.most l.left;
+}
+
+abbrev pub decreases-loop-left : goal.decreases-loop-left
+decreases-loop-left g l = l.left

@@ -1,0 +1,70 @@
+-- Memories and rests beside each other.
+use Rattle.std.proofs.Common.{◌≡◌, ℕ, zero, suc, ◌+◌, ◌-◌, ◌<◌, List, [], ◌∷◌, ◌++◌, length, take, drop, get_or, Option, Some, None, refl, sym, ap, ap₂, ◌∙◌, subst, arith, length-append}
+use Rattle.std.proofs.lemmas.List.{length-drop}
+use Rattle.guest_types.specs.Memory.{Memory}
+use Rattle.machine_model.specs.Debugged.{Past}
+use Rattle.guest_types.specs.Kept.{kept_more}
+use Rattle.sve_machine.specs.declared.snapshot.Snapshot.{Snapshot}
+use Rattle.sve_machine.specs.Pasts.{past_at, past_by, rests_of, AreBeside}
+
+pub past_by-none : (ms : List Memory) → past_by ms [] ≡ []
+past_by-none [] = refl
+past_by-none (m ∷ ms) = refl
+
+pub length-past_by : (ms : List Memory) (rs : List Snapshot) → length ms ≡ length rs → length (past_by ms rs) ≡ length rs
+length-past_by [] [] same = refl
+length-past_by [] (r ∷ rs) same = absurd (omega (arith, same))
+length-past_by (m ∷ ms) [] same = absurd (omega (arith, same))
+length-past_by (m ∷ ms) (r ∷ rs) same = ap suc (length-past_by ms rs (omega (arith, same)))
+
+past_by-push : (ms : List Memory) (rs : List Snapshot) (m : Memory) (r : Snapshot) → length ms ≡ length rs → past_by (ms ++ m ∷ []) (rs ++ r ∷ []) ≡ past_by ms rs ++ past_at m r ∷ []
+past_by-push [] [] m r same = refl
+past_by-push [] (r2 ∷ rs) m r same = absurd (omega (arith, same))
+past_by-push (m2 ∷ ms) [] m r same = absurd (omega (arith, same))
+past_by-push (m2 ∷ ms) (r2 ∷ rs) m r same = ap (λ (l : List Past). past_at m2 r2 ∷ l) (past_by-push ms rs m r (omega (arith, same)))
+
+past_by-drop : (k : ℕ) (ms : List Memory) (rs : List Snapshot) → past_by (drop k ms) (drop k rs) ≡ drop k (past_by ms rs)
+past_by-drop zero ms rs = refl
+past_by-drop (suc k) [] rs = refl
+past_by-drop (suc k) (m ∷ ms) [] = past_by-none (drop k ms)
+past_by-drop (suc k) (m ∷ ms) (r ∷ rs) = past_by-drop k ms rs
+
+pub past_by-take : (k : ℕ) (ms : List Memory) (rs : List Snapshot) → past_by (take k ms) (take k rs) ≡ take k (past_by ms rs)
+past_by-take zero ms rs = refl
+past_by-take (suc k) [] rs = refl
+past_by-take (suc k) (m ∷ ms) [] = refl
+past_by-take (suc k) (m ∷ ms) (r ∷ rs) = ap (λ (l : List Past). past_at m r ∷ l) (past_by-take k ms rs)
+
+-- one more
+pub past_by-more : (ms : List Memory) (rs : List Snapshot) (m : Memory) (r : Snapshot) → length ms ≡ length rs → past_by (kept_more m ms) (kept_more r rs) ≡ kept_more (past_at m r) (past_by ms rs)
+past_by-more ms rs m r same =
+    let count = length-past_by ms rs same in
+    ap (λ k. past_by (drop k (ms ++ m ∷ [])) (kept_more r rs)) (let e : length ms + 1 - 8 ≡ length rs + 1 - 8 = omega (arith, same) in e)
+    ∙ past_by-drop (length rs + 1 - 8) (ms ++ m ∷ []) (rs ++ r ∷ [])
+    ∙ ap (drop (length rs + 1 - 8)) (past_by-push ms rs m r same)
+    ∙ ap (λ k. drop k (past_by ms rs ++ past_at m r ∷ [])) (let e : length rs + 1 - 8 ≡ length (past_by ms rs) + 1 - 8 = omega (arith, count) in e)
+
+pub length-more : (ms : List Memory) (rs : List Snapshot) (m : Memory) (r : Snapshot) → length ms ≡ length rs → length (kept_more m ms) ≡ length (kept_more r rs)
+length-more ms rs m r same =
+    let left = length-append ms (m ∷ []) in
+    let right = length-append rs (r ∷ []) in
+    length-drop (length ms + 1 - 8) (ms ++ m ∷ [])
+    ∙ (let e : length (ms ++ m ∷ []) - (length ms + 1 - 8) ≡ length (rs ++ r ∷ []) - (length rs + 1 - 8) = omega (arith, left, right, same) in e)
+    ∙ sym (length-drop (length rs + 1 - 8) (rs ++ r ∷ []))
+
+pub past_by-at : (ms : List Memory) (rs : List Snapshot) (n : ℕ) (m : Memory) (r : Snapshot) (d : Past) → n < length (past_by ms rs) → ((e : Memory) → get_or ms n e ≡ m) → ((e : Snapshot) → get_or rs n e ≡ r) → get_or (past_by ms rs) n d ≡ past_at m r
+past_by-at [] rs n m r d l memory rest = absurd (omega (arith, l))
+past_by-at (m2 ∷ ms) [] n m r d l memory rest = absurd (omega (arith, l))
+past_by-at (m2 ∷ ms) (r2 ∷ rs) zero m r d l memory rest = ap₂ past_at (memory m2) (rest r2)
+past_by-at (m2 ∷ ms) (r2 ∷ rs) (suc n) m r d l memory rest = past_by-at ms rs n m r d (omega (arith, l)) memory rest
+
+-- ---- what a machine is seen to have been
+
+pub seen-past : (ms : List Memory) (h : Option (List Snapshot)) (rs : List Snapshot) (past : List Past) → past_by ms (rests_of h) ≡ past → h ≡ Some rs → past_by ms rs ≡ past
+seen-past ms h rs past is some = ap (λ h. past_by ms (rests_of h)) (sym some) ∙ is
+
+pub never-kept : (ms : List Memory) (h : Option (List Snapshot)) (past : List Past) → past_by ms (rests_of h) ≡ past → h ≡ None → length past ≡ 0
+never-kept ms h past is none = sym (ap (length {A = _}) (ap (λ h. past_by ms (rests_of h)) (sym none) ∙ is)) ∙ ap (length {A = _}) (past_by-none ms)
+
+pub beside : (ms : List Memory) (h : Option (List Snapshot)) (rs : List Snapshot) → h ≡ Some rs → AreBeside ms h → length ms ≡ length rs
+beside ms h rs some are = subst (AreBeside ms) some are

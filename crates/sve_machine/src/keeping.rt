@@ -1,0 +1,30 @@
+//! The machine as it is kept, and as it goes back.
+
+use crate::machine::Machine;
+use debug_history::keepable::Keepable;
+use std::alloc::{AllocError, Global};
+
+impl Keepable for Machine {
+    fn begin(&mut self, alloc: Global) -> Result<(), AllocError> {
+        self.begin(alloc)?;
+        Ok(())
+    }
+
+    fn keep(&mut self) {
+        self.keep();
+    }
+
+    fn go_back(&mut self, n: usize) {
+        self.go_back(n);
+    }
+
+    fn kept(&self) -> usize {
+        let count = self.kept();
+        count
+    }
+
+    fn kept_steps(&self, n: usize) -> u64 {
+        let steps = self.kept_steps(n);
+        steps
+    }
+}
