@@ -56,7 +56,7 @@ module _ (x : List ℕ) where
 
   op_nothing : (op : Op) (names : Names) (q i : ℕ) (on : Bool) (m : Memory) (l : Lane) → adds x op ≡ false → GaveNothing l → NothingIn (op_effect op names q i on m l)
   op_nothing (Load a base t c) names q i on m l e h = load_nothing l q on _ h
-  op_nothing (Gather a base t r y) names q i on m l e h = load_nothing l q on _ h
+  op_nothing (Gather a base t r u y) names q i on m l e h = load_nothing l q on _ h
   op_nothing (Apply op t y) names q i on m l e h = h
   op_nothing (Combine op t y z) names q i on m l e h = h
   op_nothing (Move left n t y) names q i on m l e h = h

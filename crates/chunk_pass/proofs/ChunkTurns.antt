@@ -76,7 +76,7 @@ Unbroken (Ended ByBreak m) = ⊥
 
 no_break : (op : Op) (m : Memory) → quits op ≡ false → Unbroken (Ended (cause_of op) m)
 no_break (Load a base t c) m e = tt
-no_break (Gather a base t r x) m e = tt
+no_break (Gather a base t r u x) m e = tt
 no_break (Apply op t x) m e = tt
 no_break (Combine op t x y) m e = tt
 no_break (Move left n t x) m e = tt
@@ -110,7 +110,7 @@ fate_unbroken names (it ∷ items) j m l e =
 
 halted_not_on : (op : Op) (next : Lane → Way) (new : Lane) → way_on (halted op) next ≡ On new → ⊥
 halted_not_on (Load a base t c) next new e = cc
-halted_not_on (Gather a base t r x) next new e = cc
+halted_not_on (Gather a base t r u x) next new e = cc
 halted_not_on (Apply op t x) next new e = cc
 halted_not_on (Combine op t x y) next new e = cc
 halted_not_on (Move left n t x) next new e = cc

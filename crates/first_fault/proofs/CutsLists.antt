@@ -122,7 +122,7 @@ module _ {l : Layout} (fit : Assigned l) {f : Setting} {a : State} {p0 : ℕ} {t
   op_steps mode mask fm h (Load array LoopIndex (Some ty) c) k = absurd k.0
   op_steps mode mask fm h (Load array (Made q) (Some ty) c) k = absurd k.0
   op_steps mode mask fm h (Load array base None c) k = absurd k
-  op_steps mode mask fm h (Gather array base t reach x) k = absurd k
+  op_steps mode mask fm h (Gather array base t reach u x) k = absurd k
   op_steps mode mask fm h (Apply op (Some ty) x) k =
       value_steps fit h0 d rest h mask fm (Apply op (Some ty) x) (λ j b. unary_value op (Some ty) (source_value f.names j b x)) ty refl refl k.1 (λ u i. operand_right fit h0 i ty x k.0) (λ j mem b. refl) refl
   op_steps mode mask fm h (Apply op None x) k = absurd k

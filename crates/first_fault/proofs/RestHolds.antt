@@ -33,7 +33,7 @@ use Rattle.first_fault.proofs.PureSteps.{and_true}
 
 halted_left : (op : Op) (f : Lane → Way) → lane_left (way_on (halted op) f) ≡ None
 halted_left (Load a b t c) f = refl
-halted_left (Gather a b t r x) f = refl
+halted_left (Gather a b t r u x) f = refl
 halted_left (Apply op t x) f = refl
 halted_left (Combine op t x y) f = refl
 halted_left (Move left n t x) f = refl
@@ -77,7 +77,7 @@ quit_shares l false = refl
 
 op_shares : (lay : Layout) (f : Setting) (names : Names) (q j : ℕ) (mask : Option ℕ) (m : Memory) (l : Lane) (op : Op) → FitsStep lay f q mask op → Shares l.shares (op_effect op names q j (on_mask mask l) m l)
 op_shares lay f names q j mask m l (Load a b t c) k = load_shares l q (on_mask mask l) _ _ refl
-op_shares lay f names q j mask m l (Gather a b t r x) k = absurd k
+op_shares lay f names q j mask m l (Gather a b t r u x) k = absurd k
 op_shares lay f names q j mask m l (Apply op t x) k = refl
 op_shares lay f names q j mask m l (Combine op t x y) k = refl
 op_shares lay f names q j mask m l (Move left n t x) k = refl

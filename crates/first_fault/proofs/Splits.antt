@@ -243,7 +243,7 @@ item_break (it ∷ items) = by it.op (item_break items)
   where
     by : (op : Op) → list_any is_quit items ≡ some_break (marks items) → (quits op || list_any is_quit items) ≡ some_break (put_mark (writes op) (quits op) (marks items))
     by (Load a base t c) h = h
-    by (Gather a base t r x) h = h
+    by (Gather a base t r u x) h = h
     by (Apply op t x) h = h
     by (Combine op t x y) h = h
     by (Move left n t x) h = h
@@ -275,7 +275,7 @@ only_one : (op : Op) → writes op ≡ true → quits op ≡ false
 only_one (Store a base t c v) e = refl
 only_one (Add x op t v) e = refl
 only_one (Load a base t c) e = refl
-only_one (Gather a base t r x) e = refl
+only_one (Gather a base t r u x) e = refl
 only_one (Apply op t x) e = refl
 only_one (Combine op t x y) e = refl
 only_one (Move left n t x) e = refl
@@ -329,7 +329,7 @@ quit_quiet false l = tt
 
 pub op_quiet : (names : Names) (q i : ℕ) (b : Bool) (m : Memory) (l : Lane) (op : Op) → writes op ≡ false → IsQuiet (op_effect op names q i b m l)
 op_quiet names q i b m l (Load a base t c) e = load_quiet l q b _ _
-op_quiet names q i b m l (Gather a base t r x) e = absurd cc
+op_quiet names q i b m l (Gather a base t r u x) e = absurd cc
 op_quiet names q i b m l (Apply op t x) e = tt
 op_quiet names q i b m l (Combine op t x y) e = tt
 op_quiet names q i b m l (Move left n t x) e = tt

@@ -25,7 +25,7 @@ fate_after Fell m f = Ended ByFault m
 
 halted_ends : (op : Op) (g : Lane → Way) (m : Memory) (f : Lane → Fate) → Ended (cause_of op) m ≡ fate_after (way_on (halted op) g) m f
 halted_ends (Load a b t c) g m f = refl
-halted_ends (Gather a b t r x) g m f = refl
+halted_ends (Gather a b t r u x) g m f = refl
 halted_ends (Apply op t x) g m f = refl
 halted_ends (Combine op t x y) g m f = refl
 halted_ends (Move left n t x) g m f = refl

@@ -17,7 +17,7 @@ abbrev pub is_quit : Item → Bool
 is_quit it = quits it.op
 
 abbrev pub writes : Op → Bool
-writes (Gather a base t r x) = true
+writes (Gather a base t r u x) = true
 writes (Store a base t c v) = true
 writes (Add x op t v) = true
 writes _ = false

@@ -145,7 +145,7 @@ Makes true c r s q m mask op = MakesP (op_code c.w r q m op) s (r.p q) c.w (with
 -- the type of what an operation makes, where it makes a value
 abbrev pub made_type : Op → Option Ty
 made_type (Load a base t k) = t
-made_type (Gather a base t r x) = t
+made_type (Gather a base t r u x) = t
 made_type (Apply op t x) = t
 made_type (Combine op t x y) = t
 made_type (Move left k t x) = t
