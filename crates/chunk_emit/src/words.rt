@@ -19,7 +19,9 @@ use kernel_tree::Ty;
 use label_fix::Word;
 use lane_emit::{extend_byte, extend_halfword, size};
 use loop_form::Source;
-use sve_code::{Dtype, ExtendOp, GatherOp, GoverningReg, OffsetReg, Size, StoreSizes, Sve, VectorReg};
+use sve_code::{
+    Dtype, ExtendOp, GatherOp, GoverningReg, OffsetReg, Size, StoreSizes, Sve, VectorReg,
+};
 use word_rows::Bits;
 
 // ---- general registers
