@@ -16,8 +16,8 @@ use Rattle.loop_form.specs.declared.loop_item.Source.TheVariants.{Constant, Oute
 -- what an item does, with the types of its operands; an array has a name and the place where its address is held
 pub data Op : Type 0 where
   Load : (a : List ℕ) (base : Source) (t : Option Ty) (c : ℤ) → Op
-  -- a read at the index that an operand is, with the reach of the index where it has one
-  Gather : (a : List ℕ) (base : Source) (t : Option Ty) (reach : Option ℕ) (x : Source) → Op
+  -- a read at the index that an operand of type u is, with the reach of the index where it has one
+  Gather : (a : List ℕ) (base : Source) (t : Option Ty) (reach : Option ℕ) (u : Option Ty) (x : Source) → Op
   Apply : UnaryOp → Option Ty → Source → Op
   Combine : BinaryOp → Option Ty → (x y : Source) → Op
   Move : (left : Bool) (n : ℤ) → Option Ty → Source → Op
@@ -110,7 +110,7 @@ index_source scope e = index_type scope e
 
 -- a read at a computed index
 abbrev pub gather_item : Scope → Option ℕ → (from q : ℕ) → List Bound → List ℕ → Term → Item
-gather_item scope mask from q env a i = item q mask (Gather a (source_at env a) (array_type scope a) (reach_of_type (index_source scope i)) (home scope.index (index_type scope i) from env i))
+gather_item scope mask from q env a i = item q mask (Gather a (source_at env a) (array_type scope a) (reach_of_type (index_source scope i)) (index_type scope i) (home scope.index (index_type scope i) from env i))
 
 -- a read: where the index is a stream index its item alone, and else the items of the index and of the read
 abbrev pub load_item : Scope → Option ℕ → ℕ → List Bound → List ℕ → Option ℤ → (gathered rest : List Item) → List Item

@@ -12,7 +12,7 @@ use Rattle.loop_form.specs.LoopItems.{Op, Load, Gather, Apply, Combine, Move, Ca
 
 abbrev pub op_of : LoopOp → Op
 op_of (op.Load a base t c) = Load a.now base t c
-op_of (op.Gather a base t r x) = Gather a.now base t r x
+op_of (op.Gather a base t r u x) = Gather a.now base t r u x
 op_of (op.Apply o t x) = Apply o t x
 op_of (op.Combine o t x y) = Combine o t x y
 op_of (op.Move left n t x) = Move left n t x

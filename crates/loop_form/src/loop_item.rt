@@ -32,6 +32,7 @@ pub enum LoopOp<'a> {
         base: Source,
         ty: Option<Ty>,
         reach: Option<u32>,
+        index_ty: Option<Ty>,
         index: Source,
     },
     Apply {

@@ -134,6 +134,7 @@ fn list_gather<'a>(
         base: source_of(names, array),
         ty: array_type_of(names, array),
         reach: type_reach(index_source_of(names, index)),
+        index_ty: want,
         index: source(kernel, names, want, from, index),
     };
     list_value(kernel, names, listed, want, mask, from, index);
