@@ -1,6 +1,6 @@
 -- How far a computed index reaches. An index whose value comes from an unsigned type of 8 or 16 bits, and was made no
 -- narrower since, is a number below 256 or below 65,536.
-use Rattle.std.specs.Prelude.{ℕ, ◌-◌, List, Option, Some, None, is_some, option_and_then, Bool, true, false, not, ◌&&◌, nat_eq, nat_le, if◌then◌else◌, filter_map}
+use Rattle.std.specs.Prelude.{ℕ, ◌-◌, List, Option, Some, None, is_some, option_and_then, Bool, false, not, ◌&&◌, nat_eq, nat_le, if◌then◌else◌, filter_map}
 use Rattle.std.specs.List.{find}
 use Rattle.kernel_tree.specs.declared.ops.Ty.{Ty}
 use Rattle.kernel_tree.specs.Wrap.{bits_of, is_signed}

@@ -1,4 +1,4 @@
-use Rattle.std.proofs.Common.{◌≡◌, ℕ, length, map, ap, arith}
+use Rattle.std.proofs.Common.{◌≡◌, length, map, ap, arith}
 use Rattle.std.proofs.lemmas.List.{length-map}
 use Rattle.loop_form.specs.HeldView.{view_of}
 use Rattle.loop_form.specs.Needs.{throughout}

@@ -1,4 +1,4 @@
-use Rattle.std.proofs.Common.{◌≡◌, List, ◌++◌, sym, ap, ap₂, ◌∙◌}
+use Rattle.std.proofs.Common.{List, ◌++◌, sym, ap, ap₂, ◌∙◌}
 use Rattle.std.proofs.Math.ListN.{replicate}
 use Rattle.reg_assign.specs.declared.interval.Interval.{Interval}
 use Rattle.loop_form.specs.Needs.{throughout, values}
