@@ -1,5 +1,5 @@
 -- A read at a computed index in a loop that stores: kernel f(t: [u64], x: [u8], y: [u64], n: u64) { for i in 0..n { y[i] = t[x[i]]; } }
-use Rattle.std.proofs.Common.{◌≡◌, ◌≢◌, ℕ, zero, suc, ◌≤◌, pos, List, [], ◌∷◌, None, Some, refl, sym, ap₂, ◌∙◌, subst, inl, inr, true, false, arith}
+use Rattle.std.proofs.Common.{◌≡◌, ◌≢◌, ℕ, zero, suc, pos, List, [], ◌∷◌, None, Some, refl, sym, ap₂, ◌∙◌, subst, inl, inr, true, false, arith}
 use Rattle.std.proofs.lemmas.Bool.Decides.{nat_tests}
 use Rattle.std.specs.Prelude.{ℤ, ◌≤ℤ◌, ◌<ℤ◌, ◌⊎◌, nat_eq, ◌||◌, ◌&&◌}
 use Rattle.std.specs.List.{list_any}
