@@ -1,6 +1,6 @@
 //! The code of each operation in the lanes.
 
-ghost use Rattle.std.specs.Prelude.{◌≡◌, ◌<◌, [], ◌∷◌, ◌++◌, OnOk};
+ghost use Rattle.std.specs.Prelude.{◌≡◌, ◌<◌, [], ◌∷◌, ◌++◌, false, OnOk};
 ghost use Rattle.guest_types.specs.Length.{width_bits};
 ghost use Rattle.kernel_tree.specs.declared.ops.UnaryOp.TheVariants as operator;
 ghost use Rattle.kernel_tree.specs.Wrap as wraps;
