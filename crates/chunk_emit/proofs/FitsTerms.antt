@@ -1,5 +1,5 @@
 -- The items of the expressions of a checked kernel's loop fit its layout.
-use Rattle.std.proofs.Common.{◌≡◌, ℕ, ◌+◌, ◌<◌, ◌≤◌, ℤ, pos, negsuc, Bool, true, List, ◌∷◌, length, Option, Some, None, refl, sym, ap, ◌∙◌, subst, arith}
+use Rattle.std.proofs.Common.{◌≡◌, ℕ, ◌+◌, ◌<◌, ◌≤◌, ℤ, pos, negsuc, Bool, true, List, ◌∷◌, length, Option, Some, None, refl, sym, ◌∙◌, subst, arith}
 use Rattle.std.specs.Prelude.{◌^◌, option_and_then}
 use Rattle.std.proofs.Math.Nat.{mod-le}
 use Rattle.std.proofs.lemmas.Bool.{ltb-true}
@@ -10,7 +10,7 @@ use Rattle.kernel_tree.specs.declared.fault.Binding.{Binding}
 use Rattle.kernel_tree.specs.declared.fault.Binding.TheVariants as binding
 use Rattle.kernel_tree.specs.Plain.{Term, Literal, Variable, Element, Unary, Operation, Shift, Conversion, Choice, Comparison, Both, Either, Not, Program}
 use Rattle.kernel_tree.specs.Wrap.{bits_of}
-use Rattle.kernel_tree.specs.Items.{stream_offset, index_size, index_items, term_size, loop_index}
+use Rattle.kernel_tree.specs.Items.{stream_offset, index_size, term_size, loop_index}
 use Rattle.kernel_tree.specs.Typing.{Scope, Local, own, element_type, index_type, side_type, is_below}
 use Rattle.kernel_meaning.specs.Operators.{shift_count}
 use Rattle.reg_assign.specs.declared.interval.RegClass.TheVariants.{Z, P}

@@ -1,13 +1,12 @@
 -- The code of a read at a computed index does what the read does over the lanes of the chunk.
-use Rattle.std.proofs.Common.{◌≡◌, ℕ, zero, suc, ◌+◌, ◌%◌, ◌^◌, ◌<◌, ◌≤◌, ℤ, pos, negsuc, ◌+ℤ◌, ◌*ℤ◌, Bool, true, false, ◌&&◌, cond, List, [], ◌∷◌, length, Option, Some, None, Result, Ok, Err, refl, sym, ap, ap₂, ◌∙◌, subst, arith, inl, get_or-set_same}
+use Rattle.std.proofs.Common.{◌≡◌, ℕ, zero, suc, ◌+◌, ◌%◌, ◌^◌, ◌<◌, ◌≤◌, ℤ, pos, negsuc, ◌*ℤ◌, Bool, true, false, ◌&&◌, cond, List, [], ◌∷◌, length, Option, Some, None, refl, sym, ap, ap₂, ◌∙◌, subst, arith, inl, get_or-set_same}
 use Rattle.std.specs.Prelude.{is_some, nat_eq, slice_index, slice_index_or, if◌then◌else◌}
 use Rattle.std.proofs.lemmas.Bool.{ne_eqb, and_parts}
 use Rattle.std.proofs.Math.IntN.{*ℤ_comm}
 use Rattle.std.proofs.lemmas.Int.{ints}
-use Rattle.guest_types.specs.declared.length.Width.{Width}
 use Rattle.guest_types.specs.declared.length.Width.TheVariants.{D}
 use Rattle.guest_types.specs.declared.operation.ShiftOp.TheVariants as shifts
-use Rattle.guest_types.specs.Length.{width_bits, width_bytes, modulus, lanes}
+use Rattle.guest_types.specs.Length.{width_bytes, modulus, lanes}
 use Rattle.guest_types.specs.Memory.{can_read, first_fault, number_at}
 use Rattle.guest_types.specs.Elements.{at, active, register, first_true, both}
 use Rattle.guest_types.specs.Lanes.{shift_at, shifted}
@@ -24,14 +23,13 @@ use Rattle.kernel_meaning.proofs.TypeRanges.{wrap-of, of-fits}
 use Rattle.machine_model.specs.declared.outcome.StopKind.TheVariants.{Read}
 use Rattle.sve_code.specs.Table.{lsl_imm, uxtb, uxth}
 use Rattle.machine_model.specs.Arithmetic.{sum}
-use Rattle.machine_model.specs.InstructionTable.{Vector}
 use Rattle.machine_model.specs.Machine.{State, Step, x_at, x_or_sp, z_at, with_z, p_at, next}
 use Rattle.machine_model.specs.States.{IsState}
 use Rattle.machine_model.specs.VectorEffects.{do_vector, after_load}
 use Rattle.machine_model.proofs.StateSteps.{load_put}
 use Rattle.label_fix.specs.DraftRun.{Entry, Laid}
-use Rattle.label_fix.specs.Stretches.{Goes, Stops}
-use Rattle.label_fix.proofs.StretchSteps.{stay, put_goes, put_stops}
+use Rattle.label_fix.specs.Stretches.{Stops}
+use Rattle.label_fix.proofs.StretchSteps.{put_goes, put_stops}
 use Rattle.chunk_order.specs.Orders.{Lane, Lanes, Act, Out, column}
 use Rattle.loop_form.specs.declared.loop_item.Source.{Source}
 use Rattle.loop_form.specs.declared.loop_item.Source.TheVariants.{Outer}
