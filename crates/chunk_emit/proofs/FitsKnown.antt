@@ -21,7 +21,7 @@ use Rattle.dependence.specs.Classes.{is_read, computed_content, computed_index, 
 use Rattle.dependence.specs.declared.reason.Class.TheVariants.{Vector}
 use Rattle.dependence.proofs.ClassLaws.{class_facts, gather_facts}
 use Rattle.guest_types.specs.declared.length.Width.TheVariants.{D}
-use Rattle.chunk_order.proofs.Accesses.{or_false}
+use Rattle.vector_order.proofs.OneAccess.{or_false}
 use Rattle.chunk_emit.specs.KernelLayout.{update_of}
 use Rattle.chunk_emit.proofs.FitsEntries.{Gives, AllGive, loop_gives, any_here}
 use Rattle.chunk_emit.proofs.FitsUpdates.{one_operator, any_none}

@@ -30,12 +30,12 @@ use Rattle.machine_model.proofs.StateSteps.{load_put}
 use Rattle.label_fix.specs.DraftRun.{Entry, Laid}
 use Rattle.label_fix.specs.Stretches.{Stops}
 use Rattle.label_fix.proofs.StretchSteps.{put_goes, put_stops}
-use Rattle.chunk_order.specs.Orders.{Lane, Lanes, Act, Out, column}
+use Rattle.vector_order.specs.Orders.{Lane, Lanes, Act, Out, column}
 use Rattle.loop_form.specs.declared.loop_item.Source.{Source}
 use Rattle.loop_form.specs.declared.loop_item.Source.TheVariants.{Outer}
 use Rattle.loop_form.specs.LoopItems.{Gather}
 use Rattle.loop_form.specs.Reaches.{reach_of_type}
-use Rattle.chunk_order.specs.Items.{nth_value, source_value, with_value, on_mask, index_value}
+use Rattle.vector_order.specs.Operands.{nth_value, source_value, with_value, on_mask, index_value}
 use Rattle.vector_order.specs.Items.{item_act}
 use Rattle.lane_emit.specs.Right.{IsOf, ZRight, fits}
 use Rattle.lane_emit.specs.Stretch.{Word, do_all, OnlyZ, Ready, MakesZ}

@@ -11,11 +11,11 @@ use Rattle.machine_model.specs.InstructionTable.{Listed}
 use Rattle.machine_model.specs.Machine.{State}
 use Rattle.label_fix.specs.DraftRun.{Entry, Put, Laid}
 use Rattle.label_fix.proofs.StretchSteps.{stay, chain, stop_after, stop_more}
-use Rattle.chunk_order.specs.Orders.{Lanes, Out, Fine, Fail, go_on, column, by_item}
+use Rattle.vector_order.specs.Orders.{Lanes, Out, Fine, Fail, go_on, column, by_item}
 use Rattle.loop_form.specs.declared.loop_item.Source.{Source}
 use Rattle.loop_form.specs.declared.loop_item.Source.TheVariants.{Constant, Outer, LoopIndex, Made}
 use Rattle.loop_form.specs.LoopItems.{Op, Load, Gather, Apply, Combine, Move, Cast, Copy, Pick, Store, Add, Test, Invert, Same, Any, Quit}
-use Rattle.chunk_order.specs.Items.{source_value, on_mask}
+use Rattle.vector_order.specs.Operands.{source_value, on_mask}
 use Rattle.vector_order.specs.Items.{item_act, acts_of}
 use Rattle.lane_emit.specs.ItemCode.{mask_register}
 use Rattle.chunk_emit.specs.Registers.{Layout}

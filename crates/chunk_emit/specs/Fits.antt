@@ -9,7 +9,7 @@ use Rattle.kernel_meaning.specs.Operators.{word, shift_count}
 use Rattle.loop_form.specs.declared.loop_item.Source.{Source}
 use Rattle.loop_form.specs.declared.loop_item.Source.TheVariants.{Constant, Outer, LoopIndex, Made}
 use Rattle.loop_form.specs.Reaches.{reach_of_type}
-use Rattle.chunk_order.specs.Items.{nth_value}
+use Rattle.vector_order.specs.Operands.{nth_value}
 use Rattle.loop_form.specs.LoopItems.{Op, Load, Gather, Apply, Combine, Move, Cast, Copy, Pick, Store, Add, Test, Invert, Same, Any, Item}
 use Rattle.chunk_emit.specs.Registers.{Layout, z_of, p_of, IsValueUsed, IsTruthUsed}
 use Rattle.chunk_emit.specs.ChunkCode.{past_cast}

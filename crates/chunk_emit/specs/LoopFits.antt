@@ -9,7 +9,7 @@ use Rattle.loop_form.specs.Lanes.{lane_width_of}
 use Rattle.loop_form.specs.LoopItems.{Op, Load, Gather, Apply, Combine, Move, Cast, Copy, Pick, Store, Add, Test, Invert, Same, Any, Quit, Item}
 use Rattle.loop_form.specs.Registers.{FitsKernel}
 use Rattle.loop_form.specs.Streams.{type_of_place}
-use Rattle.chunk_order.specs.Items.{nth_value}
+use Rattle.vector_order.specs.Operands.{nth_value}
 use Rattle.chunk_emit.specs.Registers.{Layout}
 use Rattle.chunk_emit.specs.Chunk.{Setting}
 use Rattle.chunk_emit.specs.Fits.{Assigned, FitsTruth, FitsMask, FitsOp, FitsCast, MakesNothing, NoneBetween}

@@ -11,9 +11,9 @@ use Rattle.kernel_meaning.specs.Eval.{Names}
 use Rattle.kernel_meaning.specs.Iterate.{iterate}
 use Rattle.kernel_meaning.specs.ScalarRun.{iterations}
 use Rattle.loop_form.specs.LoopItems.{Op, Load, Gather, Apply, Combine, Move, Cast, Copy, Pick, Store, Add, Test, Invert, Same, Any, Quit, Item}
-use Rattle.chunk_order.specs.Orders.{Lane, Effect, Halts, Keeps, Writes, Act}
-use Rattle.chunk_order.specs.Regions.{AllQuiet}
-use Rattle.chunk_order.proofs.Accesses.{or_false}
+use Rattle.vector_order.specs.Orders.{Lane, Effect, Halts, Keeps, Writes, Act}
+use Rattle.vector_order.specs.Regions.{AllQuiet}
+use Rattle.vector_order.proofs.OneAccess.{or_false}
 use Rattle.vector_order.specs.Items.{item_act, acts_of}
 use Rattle.vector_order.specs.Fates.{ByBreak, ByFault, cause_of, Fate, Through, Ended, wrote_on, effect_on, fate, SameEnd}
 use Rattle.first_fault.specs.Region as region

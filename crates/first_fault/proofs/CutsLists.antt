@@ -13,10 +13,10 @@ use Rattle.kernel_meaning.specs.Eval.{choose_value}
 use Rattle.machine_model.specs.Machine.{State, x_at, p_at}
 use Rattle.label_fix.specs.DraftRun.{Entry, Laid}
 use Rattle.label_fix.proofs.StretchSteps.{stop_more}
-use Rattle.chunk_order.specs.Orders.{Lane, Lanes}
+use Rattle.vector_order.specs.Orders.{Lane, Lanes}
 use Rattle.loop_form.specs.declared.loop_item.Source.TheVariants.{Constant, Outer, LoopIndex, Made}
 use Rattle.loop_form.specs.LoopItems.{Op, Load, Gather, Apply, Combine, Move, Cast, Copy, Pick, Store, Add, Test, Invert, Same, Any, Quit, Item, item}
-use Rattle.chunk_order.specs.Items.{nth_value, source_value, on_mask}
+use Rattle.vector_order.specs.Operands.{nth_value, source_value, on_mask}
 use Rattle.lane_emit.specs.Right.{PRight, within}
 use Rattle.lane_emit.specs.ItemCode.{mask_of, mask_register}
 use Rattle.chunk_emit.specs.Registers.{Layout, IsValueUsed}

@@ -1,9 +1,9 @@
 -- The items of the region done over lanes that all come through.
 use Rattle.std.proofs.Common.{◌≡◌, ℕ, ◌+◌, ◌<◌, Bool, true, false, List, [], ◌∷◌, Option, None, refl, sym, ap, ap₂, ◌∙◌, subst, arith}
 use Rattle.kernel_meaning.specs.Eval.{Names}
-use Rattle.chunk_order.specs.Orders.{Lane, Lanes, Effect, Halts, Keeps, Writes, Out, Fine, done, go_on, column, by_item}
+use Rattle.vector_order.specs.Orders.{Lane, Lanes, Effect, Halts, Keeps, Writes, Out, Fine, done, go_on, column, by_item}
 use Rattle.loop_form.specs.LoopItems.{Op, Load, Gather, Apply, Combine, Move, Cast, Copy, Pick, Store, Add, Test, Invert, Same, Any, Quit, Item}
-use Rattle.chunk_order.specs.Items.{on_mask}
+use Rattle.vector_order.specs.Operands.{on_mask}
 use Rattle.vector_order.specs.Items.{item_act, acts_of}
 use Rattle.chunk_emit.specs.Registers.{Layout}
 use Rattle.chunk_emit.specs.Chunk.{Setting}

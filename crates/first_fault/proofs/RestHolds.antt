@@ -6,14 +6,14 @@ use Rattle.guest_types.specs.Memory.{Memory}
 use Rattle.guest_types.specs.Elements.{at, active}
 use Rattle.kernel_meaning.specs.Eval.{Names}
 use Rattle.machine_model.specs.Machine.{State, z_at}
-use Rattle.chunk_order.specs.Orders.{Share, Lane, Lanes, Effect, Halts, Keeps, Writes}
-use Rattle.chunk_order.specs.Regions.{run_lane}
+use Rattle.vector_order.specs.Orders.{Share, Lane, Lanes, Effect, Halts, Keeps, Writes}
+use Rattle.vector_order.specs.Regions.{run_lane}
 use Rattle.loop_form.specs.declared.loop_item.Source.TheVariants.{Made}
 use Rattle.lane_emit.specs.Right.{IsOf}
 use Rattle.guest_types.specs.Length.{width_bits}
 use Rattle.kernel_tree.specs.Wrap.{residue}
 use Rattle.loop_form.specs.LoopItems.{Op, Load, Gather, Apply, Combine, Move, Cast, Copy, Pick, Store, Add, Test, Invert, Same, Any, Quit, Item}
-use Rattle.chunk_order.specs.Items.{on_mask, load_effect}
+use Rattle.vector_order.specs.Operands.{on_mask, load_effect}
 use Rattle.vector_order.specs.Items.{op_effect, item_act, acts_of}
 use Rattle.reductions.specs.Folds.{after_all, AreOf, given_to, ShareAlike}
 use Rattle.reductions.specs.AccumulatorLanes as accumulators
@@ -53,7 +53,7 @@ way_is_run names [] j m l = refl
 way_is_run names (it ∷ items) j m l = by (item_act names it j m l) (way_is_run names items j m)
   where
     by : (e : Effect) → ((k : Lane) → lane_left (region_way names items j m k) ≡ run_lane (acts_of names items) j m k)
-        → lane_left (way_on (way_of (halted it.op) e) (region_way names items j m)) ≡ Rattle.chunk_order.specs.Regions.lane_on e (run_lane (acts_of names items) j m)
+        → lane_left (way_on (way_of (halted it.op) e) (region_way names items j m)) ≡ Rattle.vector_order.specs.Regions.lane_on e (run_lane (acts_of names items) j m)
     by Halts ih = halted_left it.op (region_way names items j m)
     by (Keeps k) ih = ih k
     by (Writes a k v) ih = refl

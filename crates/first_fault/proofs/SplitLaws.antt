@@ -10,7 +10,7 @@ use Rattle.kernel_tree.specs.Wrap.{residue}
 use Rattle.kernel_meaning.specs.Eval.{Names}
 use Rattle.machine_model.specs.Machine.{State}
 use Rattle.label_fix.specs.DraftRun.{Entry, Laid}
-use Rattle.chunk_order.specs.Orders.{Lane, Lanes}
+use Rattle.vector_order.specs.Orders.{Lane, Lanes}
 use Rattle.loop_form.specs.declared.loop_item.Source.TheVariants.{Made}
 use Rattle.loop_form.specs.LoopItems.{Op, Load, Gather, Apply, Combine, Move, Cast, Copy, Pick, Store, Add, Test, Invert, Same, Any, Quit, Item}
 use Rattle.lane_emit.specs.Right.{IsOf}

@@ -7,11 +7,11 @@ use Rattle.guest_types.specs.Memory.{Memory}
 use Rattle.kernel_tree.specs.Wrap.{wrap}
 use Rattle.kernel_meaning.specs.Operators.{unary_value, binary_value, shift_value, compare_on}
 use Rattle.kernel_meaning.specs.Eval.{Names, read_element, choose_value}
-use Rattle.chunk_order.specs.Orders.{Lane, Effect, Halts, Keeps, Writes}
+use Rattle.vector_order.specs.Orders.{Lane, Effect, Halts, Keeps, Writes}
 use Rattle.loop_form.specs.declared.loop_item.Source.{Source}
 use Rattle.loop_form.specs.declared.loop_item.Source.TheVariants.{Constant, Outer, LoopIndex, Made}
 use Rattle.loop_form.specs.LoopItems.{Op, Load, Gather, Apply, Combine, Move, Cast, Copy, Pick, Store, Add, Test, Invert, Same, Any, Quit, Item, item}
-use Rattle.chunk_order.specs.Items.{source_value, index_value, with_value, on_mask, load_effect}
+use Rattle.vector_order.specs.Operands.{source_value, index_value, with_value, on_mask, load_effect}
 use Rattle.vector_order.specs.Items.{with_truth, op_effect}
 use Rattle.vector_order.proofs.Terms.{truth_same, truth_other}
 use Rattle.chunk_emit.specs.Registers.{Layout}

@@ -15,9 +15,9 @@ use Rattle.loop_form.specs.declared.loop_item.Source.{Source}
 use Rattle.loop_form.specs.LoopItems.{Bound, array_type, Op, Load, Gather, gather_item, Apply, Combine, Move, Cast, Copy, Pick, Store, Add, Test, Invert, Same, Any, Quit, Item, truth_home, load_item, term_items, cond_items, store_item, accumulator_of, after_env, action_items, block_items, otherwise_items, loop_env, loop_items}
 use Rattle.dependence.specs.Classes.{write_content, break_content, computed_content, is_barred, computed_index, is_break, before_break}
 use Rattle.dependence.proofs.ClassLaws.{class_facts, gather_facts}
-use Rattle.chunk_order.specs.Orders.{Lane, Effect, Halts, Keeps, Writes}
-use Rattle.chunk_order.specs.Regions.{AllQuiet}
-use Rattle.chunk_order.specs.Items.{on_mask, load_effect}
+use Rattle.vector_order.specs.Orders.{Lane, Effect, Halts, Keeps, Writes}
+use Rattle.vector_order.specs.Regions.{AllQuiet}
+use Rattle.vector_order.specs.Operands.{on_mask, load_effect}
 use Rattle.vector_order.specs.Items.{op_effect, acts_of}
 use Rattle.first_fault.specs.Split.{quits, is_quit, writes, is_write, region_of, rest_of, RegionSplits}
 use Rattle.loop_form.specs.declared.item.ItemKind.TheVariants as kind

@@ -6,8 +6,8 @@ use Rattle.kernel_meaning.specs.Ends.{BlockEnd}
 use Rattle.kernel_meaning.specs.Eval.{Names}
 use Rattle.kernel_meaning.specs.Iterate.{iterate}
 use Rattle.kernel_tree.specs.Typing.{var_scope}
-use Rattle.chunk_order.specs.Orders.{Lane, Effect, Halts, Keeps, Writes}
-use Rattle.chunk_order.specs.Regions.{AllQuiet}
+use Rattle.vector_order.specs.Orders.{Lane, Effect, Halts, Keeps, Writes}
+use Rattle.vector_order.specs.Regions.{AllQuiet}
 use Rattle.loop_form.specs.LoopItems.{Op, Load, Gather, Apply, Combine, Move, Cast, Copy, Pick, Store, Add, Test, Invert, Same, Any, Quit, Item, loop_items}
 use Rattle.vector_order.specs.Items.{item_act, acts_of}
 use Rattle.vector_order.specs.Fates.{ByBreak, ByFault, cause_of, Fate, Ended, effect_on, fate, SameEnd}

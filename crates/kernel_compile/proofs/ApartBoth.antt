@@ -24,8 +24,8 @@ use Rattle.dependence.specs.declared.used.Extent.{Extent}
 use Rattle.dependence.specs.declared.used.Extent.TheVariants as extent
 use Rattle.dependence.specs.declared.used.Used.{Used}
 use Rattle.dependence.specs.Apart.{is_stored, used_by, is_reach_of, most_reach, greatest_reach, with_reach, used_at, used_from, used_of, highest, bound_place, base_in, begin_in, end_in, IsBased, AreBased, PairApart, IsApartFrom, AreApart, is_store}
-use Rattle.chunk_order.specs.Items.{nth_value}
-use Rattle.chunk_order.specs.Apart.{is_store_of, one_array, size_of_type, place_size, base_of, begin_of, end_of, Within, IsBase, Among, Reached, OneUsed, Separate, StreamsApartBy, StreamsApart}
+use Rattle.vector_order.specs.Operands.{nth_value}
+use Rattle.vector_order.specs.Apart.{is_store_of, one_array, size_of_type, place_size, base_of, begin_of, end_of, Within, IsBase, Among, Reached, OneUsed, Separate, StreamsApartBy, StreamsApart}
 use Rattle.kernel_compile.proofs.ArrayStreams.{IsTyped, IsReadTyped}
 use Rattle.kernel_tree.specs.declared.ops.Ty.TheVariants as ty
 use Rattle.kernel_tree.specs.declared.ast.Shape.TheVariants as shape

@@ -13,7 +13,7 @@ use Rattle.loop_form.specs.Reaches.{reaches_of}
 use Rattle.loop_form.specs.Streams.{streams_of, is_of}
 use Rattle.dependence.specs.Classes.{before_break, computed_index, carried, class_of}
 use Rattle.dependence.specs.declared.reason.Class.TheVariants.{Vector}
-use Rattle.chunk_order.specs.Apart.{is_store_of, base_of, Within, Among, Reached, IsBase, StreamsApart}
+use Rattle.vector_order.specs.Apart.{is_store_of, base_of, Within, Among, Reached, IsBase, StreamsApart}
 use Rattle.kernel_tree.specs.declared.ops.Ty.TheVariants as ty
 use Rattle.kernel_tree.specs.declared.ast.Shape.TheVariants as shape
 

@@ -20,7 +20,7 @@ use Rattle.kernel_meaning.proofs.NameRanges.{found_type}
 use Rattle.kernel_meaning.proofs.TypeRanges.{in_bits, residue-below}
 use Rattle.kernel_meaning.proofs.ValueRanges.{IsTyped}
 use Rattle.loop_form.specs.Reaches.{is_widened, reach_of_type}
-use Rattle.chunk_order.specs.Items.{index_value}
+use Rattle.vector_order.specs.Operands.{index_value}
 use Rattle.loop_form.specs.LoopItems.{index_source}
 use Rattle.vector_order.specs.Order.{is_accumulator, Steady}
 use Rattle.vector_order.proofs.ReadyTerms.{Ready, Sourced, IsWanted}

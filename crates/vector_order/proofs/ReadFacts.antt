@@ -20,9 +20,9 @@ use Rattle.loop_form.specs.declared.reach.Reach.{Reach}
 use Rattle.loop_form.specs.Reaches.{source_type, reach_of_type, reach_of, content_reach, reached, reach_at, reach_in}
 use Rattle.dependence.specs.Classes.{is_storing, store_content, stores_to, content_stores_to, computed_index, class_of}
 use Rattle.dependence.specs.declared.reason.Class.TheVariants.{Vector}
-use Rattle.chunk_order.specs.Apart.{Among}
+use Rattle.vector_order.specs.Apart.{Among}
 use Rattle.dependence.proofs.ClassLaws.{class_facts, GatherFacts, gather_facts}
-use Rattle.chunk_order.proofs.Clears.{Calm, ReadCalm}
+use Rattle.vector_order.proofs.ElementClears.{Calm, ReadCalm}
 use Rattle.vector_order.proofs.ReadyTerms.{Computed}
 use Rattle.vector_order.proofs.Calms.{CalmBlock}
 use Rattle.vector_order.proofs.CalmKernels.{From, drop_append, drop_twice, many, CalmContent, CalmEntries, calm_block}

@@ -3,11 +3,11 @@ use Rattle.std.proofs.Common.{◌≡◌, ◌≢◌, ℕ, ◌<◌, ◌≤◌, Boo
 use Rattle.std.proofs.lemmas.Bool.Decides.{nat_tests}
 use Rattle.std.specs.Prelude.{nat_eq, if◌then◌else◌, ℤ, bytes_eq}
 use Rattle.kernel_meaning.specs.Eval.{Names}
-use Rattle.chunk_order.specs.Orders.{Lane}
+use Rattle.vector_order.specs.Orders.{Lane}
 use Rattle.loop_form.specs.declared.loop_item.Source.{Source}
 use Rattle.loop_form.specs.declared.loop_item.Source.TheVariants.{Constant, Outer, LoopIndex, Made}
 use Rattle.loop_form.specs.LoopItems.{Bound, source_at}
-use Rattle.chunk_order.specs.Items.{source_value, with_value}
+use Rattle.vector_order.specs.Operands.{source_value, with_value}
 
 pub value_same : (l : Lane) (q : ℕ) (v : ℤ) → (with_value l q v).value q ≡ v
 value_same l q v = let t : nat_eq q q ≡ true = grind (arith, nat_tests) in ap (λ b. if b then v else l.value q) t

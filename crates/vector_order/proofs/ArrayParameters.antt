@@ -9,8 +9,8 @@ use Rattle.kernel_meaning.specs.Eval.{Names}
 use Rattle.kernel_meaning.specs.ScalarRun.{argument_names, started}
 use Rattle.loop_form.specs.Streams.{type_of_place}
 use Rattle.loop_form.specs.declared.loop_item.Source.TheVariants as sources
-use Rattle.chunk_order.specs.Items.{nth_value}
-use Rattle.chunk_order.specs.Apart.{base_of}
+use Rattle.vector_order.specs.Operands.{nth_value}
+use Rattle.vector_order.specs.Apart.{base_of}
 use Rattle.kernel_tree.proofs.Names.{bytes_same, NoName, index_alone}
 use Rattle.kernel_meaning.proofs.Started.{started_names}
 use Rattle.loop_form.specs.LoopItems.{bound, source_at, outer_env, loop_env}

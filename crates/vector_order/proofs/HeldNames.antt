@@ -5,7 +5,7 @@ use Rattle.kernel_tree.specs.declared.ops.Ty.{Ty}
 use Rattle.kernel_tree.specs.Typing.{Local}
 use Rattle.loop_form.specs.declared.loop_item.Source.TheVariants.{Made}
 use Rattle.loop_form.specs.LoopItems.{Bound, bound, source_at, with_bound, outer_env}
-use Rattle.chunk_order.proofs.LaneValues.{EnvBelow}
+use Rattle.vector_order.proofs.LaneValues.{EnvBelow}
 pub use Rattle.kernel_tree.proofs.Faultless.{nil-left, nil-right}
 use Rattle.loop_form.specs.declared.loop_item.Source.TheVariants as sources
 
