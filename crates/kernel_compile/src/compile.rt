@@ -14,9 +14,9 @@ use crate::emit::{emit_iterations, emit_lanes};
 use crate::fault::CompileFault;
 use crate::laws::{faithful_files, scalar_files};
 use crate::registers::{check_needs, scalar_registers, vector_registers};
-use dependence::class;
 use dependence::reason::Class;
 use kernel_tree::Checked;
+use loop_class::class;
 use std::alloc::{AllocError, Global};
 
 /// The words of a compiled kernel, in their order from the first to be executed.

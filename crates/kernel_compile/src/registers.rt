@@ -9,12 +9,13 @@ ghost use Rattle.kernel_compile.specs.Refusals as refusals;
 ghost use Rattle.kernel_compile.specs.Refusals.{exceeded, too_many, IsRefusal, IsRefusalIn};
 
 use crate::fault::CompileFault;
-use dependence::class;
 use dependence::reason::Class;
 use kernel_tree::Checked;
+use loop_class::class;
+use loop_form::counted_registers;
 use loop_form::laws::ordered_intervals;
 use loop_form::need::Needs;
-use loop_form::{counted_registers, intervals, needs};
+use loop_lists::{intervals, needs};
 use reg_assign::{Assigned, RegClass, VectorRegs, assign};
 use std::alloc::{AllocError, Global};
 

@@ -1,16 +1,15 @@
 //! A worked kernel through this crate and the forms of loops below it, which have no reader of kernels.
 
 use check_text::check_text;
-use dependence::class;
 use dependence::reason::{Class, Why};
 use guest_types::length::Width;
 use kernel_front::accept;
 use kernel_tree::{BinaryOp, Ty};
+use loop_class::class;
 use loop_form::need::Needs;
-use loop_form::{
-    Item, ItemKind, LoopOp, Source, Stream, index_reach, intervals, lane_width, listing,
-    loop_items, needs, streams,
-};
+use loop_form::{Item, ItemKind, LoopOp, Source, Stream};
+use loop_items::loop_items;
+use loop_lists::{index_reach, intervals, lane_width, listing, needs, streams};
 use reg_assign::{Interval, RegClass};
 use std::test::Fail;
 
