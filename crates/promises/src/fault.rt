@@ -1,7 +1,7 @@
 //! Why a kernel is not compiled.
 
 ghost use Rattle.std.specs.Prelude.{◌≡◌};
-ghost use Rattle.kernel_compile.specs.declared.fault.CompileFault.TheVariants as faults;
+ghost use Rattle.promises.specs.declared.fault.CompileFault.TheVariants as faults;
 
 use reg_assign::{AssignFault, RegClass};
 use std::alloc::AllocError;

@@ -13,7 +13,7 @@ use Rattle.dependence.specs.Classes.{class_of}
 use Rattle.dependence.specs.Bound.{is_apart, is_vector, at_once, steps_for, free_bound, slow_bound}
 use Rattle.dependence.proofs.Bounds as bounds
 use Rattle.machine_model.specs.Run.{free_start, suppressed}
-use Rattle.kernel_compile.specs.Faithful.{FreeFaithful, FreeSlowFaithful}
+use Rattle.promises.specs.Faithful.{FreeFaithful, FreeSlowFaithful}
 
 one_at_once : (k : Program) (args : List ℕ) (vl : ℕ) (why : Why) → class_of k ≡ Scalar why → at_once k args vl ≡ 1
 one_at_once k args vl why e = ap (λ c. if is_vector c && is_apart k args then lanes vl (lane_width_of k) else 1) e

@@ -10,8 +10,8 @@ use Rattle.loop_form.specs.Registers.{counted_registers}
 use Rattle.dependence.specs.declared.reason.Class.{Class}
 use Rattle.dependence.specs.declared.reason.Class.TheVariants.{Vector, Scalar}
 use Rattle.dependence.specs.Classes.{class_of}
-use Rattle.kernel_compile.specs.declared.fault.CompileFault.{CompileFault}
-use Rattle.kernel_compile.specs.declared.fault.CompileFault.TheVariants.{TooManyLive, Memory}
+use Rattle.promises.specs.declared.fault.CompileFault.{CompileFault}
+use Rattle.promises.specs.declared.fault.CompileFault.TheVariants.{TooManyLive, Memory}
 
 -- the classes of registers whose need is tried, in order: those of vectors for class Vector alone
 abbrev pub tried : Class → List RegClass

@@ -10,7 +10,7 @@ use Rattle.kernel_meaning.specs.ScalarRun.{begun, scalar_run}
 use Rattle.kernel_tree.specs.Items.{size_of}
 use Rattle.dependence.specs.Bound.{free_bound}
 use Rattle.dependence.proofs.Bounds as bounds
-use Rattle.kernel_compile.specs.Faithful.{Faithful, SlowFaithful, FreeFaithful, FreeEnds, FreeSlowFaithful}
+use Rattle.promises.specs.Faithful.{Faithful, SlowFaithful, FreeFaithful, FreeEnds, FreeSlowFaithful}
 
 pub without_stops : (file args : List ℕ) (pages : Memory) (vl steps : ℕ) → free_run file args pages vl never steps ≡ machine_run file args pages vl steps
 unfolding start free_start

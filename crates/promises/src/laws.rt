@@ -8,7 +8,7 @@ ghost use Rattle.machine_model.specs.Run.{free_run, machine_run};
 ghost use Rattle.dependence.specs.Classes.{class_of};
 ghost use Rattle.dependence.specs.declared.reason.Class.TheVariants.{Scalar};
 ghost use Rattle.dependence.specs.declared.reason.Why.{Why};
-ghost use Rattle.kernel_compile.specs.Faithful.{Faithful, SlowFaithful, FreeFaithful, FreeEnds, FreeSlowFaithful};
+ghost use Rattle.promises.specs.Faithful.{Faithful, SlowFaithful, FreeFaithful, FreeEnds, FreeSlowFaithful};
 
 /// The run with the empty stop list is the machine's run.
 pub fn runs_without_stops()
