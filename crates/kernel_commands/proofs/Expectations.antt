@@ -2,9 +2,9 @@
 use Rattle.std.proofs.Common.{◌≡◌, ℕ, List, [], Option, Some, None, Result, Ok, Err, inl, inr, refl, sym, ap, ◌∙◌, subst}
 use Rattle.std.specs.Prelude.{IfSome, IfErr, IsErrAnd}
 use Rattle.reg_assign.specs.declared.interval.RegClass.{RegClass}
-use Rattle.kernel_compile.specs.declared.fault.CompileFault.{CompileFault}
-use Rattle.kernel_compile.specs.declared.fault.CompileFault.TheVariants as compiling
-use Rattle.kernel_compile.specs.Refusals.{too_many, IsRefusal}
+use Rattle.promises.specs.declared.fault.CompileFault.{CompileFault}
+use Rattle.promises.specs.declared.fault.CompileFault.TheVariants as compiling
+use Rattle.promises.specs.Refusals.{too_many, IsRefusal}
 use Rattle.command_line.specs.Line.{Task}
 use Rattle.kernel_tree.specs.Plain.{Program}
 use Rattle.kernel_front.specs.Verdict.{Verdict, Limited, NoKernel, Refused, Sound, IsVerdict}

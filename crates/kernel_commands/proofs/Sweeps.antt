@@ -62,7 +62,7 @@ stands_at (Some old) (Some new) to bytes file result w ok same = written_at w ok
 pub sweep_compiled : (number : ℕ) (to file : List ℕ) (old new : Option Held) → IsSweepFile number file → IfSome new (λ h. content h to ≡ Some file) → IfSome old (λ o. IfSome new (λ n. IsSwept number n to))
 sweep_compiled number to file None new is stands = tt
 sweep_compiled number to file (Some o) None is stands = tt
-sweep_compiled number to file (Some o) (Some n) is stands = (file, stands, is.faithful, is.ends, record { words = is.words; few = is.few; file_is = is.file_is })
+sweep_compiled number to file (Some o) (Some n) is stands = (file, stands, is)
 
 -- the lines were put, or a part of them
 pub lines_swept : (number : ℕ) (to file : List ℕ) (held : Option Held) (old new : Option (List ℕ)) → IsSweepFile number file → IfSome held (λ h. content h to ≡ Some file) → IfSome old (λ bytes. new ≡ Some (bytes ++ sweep_text number file)) → IfSome old (λ bytes. GainsPart bytes new (sweep_text number file)) → SweptBy number to held old new 0

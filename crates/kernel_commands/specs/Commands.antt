@@ -14,13 +14,13 @@ use Rattle.kernel_tree.specs.Items.{size_of}
 use Rattle.kernel_front.specs.Verdict.{Sound, IsVerdict}
 use Rattle.reg_assign.specs.declared.interval.RegClass.{RegClass}
 use Rattle.loop_form.specs.Needs.{needs_of}
-use Rattle.kernel_compile.specs.declared.fault.CompileFault.{CompileFault}
-use Rattle.kernel_compile.specs.declared.fault.CompileFault.TheVariants as compiling
-use Rattle.kernel_compile.specs.Faithful.{FreeFaithful, FreeEnds}
-use Rattle.kernel_compile.specs.Refusals.{too_many, need_in}
+use Rattle.promises.specs.declared.fault.CompileFault.{CompileFault}
+use Rattle.promises.specs.declared.fault.CompileFault.TheVariants as compiling
+use Rattle.promises.specs.Faithful.{FreeFaithful, FreeEnds}
+use Rattle.promises.specs.Refusals.{too_many, need_in}
 use Rattle.check_text.specs.CheckText.{check_text}
 use Rattle.command_line.specs.Line.{Task, Extent}
-use Rattle.sweep_kernel.specs.Tree.{kernel_of}
+use Rattle.sweep_run.specs.SweepText.{IsSweepFile}
 use Rattle.refusals.specs.declared.refusal.Refusal.{Refusal}
 use Rattle.refusals.specs.declared.refusal.Refusal.TheVariants.{Usage, TooManyLive, Kernel, Elf, Map, Asm, Pipe, Memory as NoMemory, File, Output}
 use Rattle.refusals.specs.declared.refusal.Done.{Done}
@@ -125,9 +125,9 @@ ExpectsEval held task work = AfterRead (task_files held task) (λ files. EvalExp
 
 -- ---- sweep
 
--- the name has a file that is faithful to the kernel of the number
+-- the name has a file of the kernel of the number, which is faithful to it, and has at most 65,536 words
 abbrev pub IsSwept : (number : ℕ) (new : Held) (to : List ℕ) → Type 0
-IsSwept number new to = (file : List ℕ) × (content new to ≡ Some file) × FreeFaithful (kernel_of number) file × FreeEnds (kernel_of number) file × HasWords 65536 file
+IsSwept number new to = (file : List ℕ) × (content new to ≡ Some file) × IsSweepFile number file
 
 -- ---- refusals
 
