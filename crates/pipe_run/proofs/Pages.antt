@@ -1,12 +1,13 @@
--- The bytes of a page, taken one by one.
+-- The bytes of pages, as a memory has them.
 use Rattle.std.proofs.Common.{◌≡◌, ℕ, zero, suc, ◌+◌, ◌*◌, ◌/◌, ◌%◌, ◌<◌, List, [], ◌∷◌, ◌++◌, length, map, take, drop, set, get_or, Option, Some, None, refl, sym, ap, ap₂, subst, ◌∙◌, arith, add-one, Bool, true, false, eqb}
 use Rattle.std.specs.List.{AllByRecursion}
 use Rattle.std.proofs.lemmas.Option.{same_Some}
 use Rattle.std.proofs.lemmas.List.Elements.{recursion_from_All}
-use Rattle.std.specs.Prelude.{option_map, slice_index}
+use Rattle.std.specs.Prelude.{is_some, nat_le, ◌&&◌, IsTrue}
 use Rattle.std.proofs.lemmas.List.{take-append-drop, append-nil}
 use Rattle.guest_types.specs.declared.memory.Perm.{Perm}
-use Rattle.guest_types.specs.Memory.{Page, Memory, IsPage, IsMemory, page_at, byte_at, merged}
+use Rattle.guest_types.specs.Memory.{Page, Memory, IsPage, IsMemory, page_at, merged}
+use Rattle.guest_types.specs.Spans.{bytes_or_none, has_span, span_of}
 use Rattle.pipe_run.specs.PipeRun.{bytes_or, page_left}
 use Rattle.machine_model.specs.declared.outcome.Outcome.{Outcome as Answer}
 use Rattle.machine_model.specs.declared.outcome.Outcome.TheVariants as answers
@@ -15,13 +16,6 @@ use Rattle.guest_types.specs.EarlyLoads.{never}
 use Rattle.machine_model.specs.Load.{Image}
 use Rattle.machine_model.specs.Machine.{State}
 use Rattle.machine_model.specs.Run.{Outcome, memory_left, run, start, start_of, image_run}
-use Rattle.pipe_run.specs.View.{byte_taken}
-
-pub byte_here : (memory : Memory) (n at : ℕ) → at < 4096 → byte_at memory (4096 * n + at) ≡ option_map (λ page. slice_index page.bytes at) (page_at memory n)
-byte_here memory n at h =
-    let d : (4096 * n + at) / 4096 ≡ n = omega arith in
-    let r : (4096 * n + at) % 4096 ≡ at = omega arith in
-    ap₂ (λ (p q : ℕ). option_map (λ page. slice_index page.bytes q) (page_at memory p)) d r
 
 put : (t old : List ℕ) (at : ℕ) → length t ≡ length old → at < length t → set (take at t ++ drop at old) at (get_or t at 0) ≡ take (suc at) t ++ drop (suc at) old
 put [] old at e h = absurd (omega arith)
@@ -29,14 +23,9 @@ put (x ∷ t) [] at e h = absurd (omega arith)
 put (x ∷ t) (y ∷ old) zero e h = refl
 put (x ∷ t) (y ∷ old) (suc at) e h = ap (λ l. x ∷ l) (put t old at (omega arith) (omega arith))
 
--- so many bytes of a page were taken
-abbrev pub Taken : (found : Option Page) (page : Page) (at : ℕ) → List ℕ → Type 0
-Taken found page at bytes = bytes ≡ take at (bytes_or page found) ++ drop at page.bytes
-
-pub taken-next : (found : Option Page) (page : Page) (at : ℕ) (bytes : List ℕ) → length (bytes_or page found) ≡ length page.bytes → at < length page.bytes
-    → Taken found page at bytes → Taken found page (at + 1) (byte_taken found at bytes)
-taken-next None page at bytes e h t = rw add-one (t ∙ take-append-drop at page.bytes ∙ sym (take-append-drop (suc at) page.bytes))
-taken-next (Some q) page at bytes e h t = rw add-one (ap (λ b. set b at (get_or q.bytes at 0)) t ∙ put q.bytes page.bytes at e (omega arith))
+-- so many bytes were copied over others
+pub copied-next : (bytes old : List ℕ) (at : ℕ) (now : List ℕ) → length bytes ≡ length old → at < length bytes → now ≡ take at bytes ++ drop at old → set now at (get_or bytes at 0) ≡ take (at + 1) bytes ++ drop (at + 1) old
+copied-next bytes old at now e h t = rw add-one (ap (λ b. set b at (get_or bytes at 0)) t ∙ put bytes old at e h)
 
 take_all : (l : List ℕ) → take (length l) l ≡ l
 take_all [] = refl
@@ -46,11 +35,9 @@ drop_all : (l : List ℕ) → drop (length l) l ≡ []
 drop_all [] = refl
 drop_all (x ∷ l) = drop_all l
 
-pub taken-all : (found : Option Page) (page : Page) (n : ℕ) (bytes : List ℕ) → length (bytes_or page found) ≡ n → length page.bytes ≡ n
-    → Taken found page n bytes → bytes ≡ bytes_or page found
-taken-all found page n bytes e h t =
-    t ∙ ap₂ (λ (a b : List ℕ). a ++ b) (ap (λ k. take k (bytes_or page found)) (sym e) ∙ take_all (bytes_or page found)) (ap (λ k. drop k page.bytes) (sym h) ∙ drop_all page.bytes)
-    ∙ append-nil (bytes_or page found)
+pub copied-all : (bytes old : List ℕ) (n : ℕ) (now : List ℕ) → length bytes ≡ n → length old ≡ n → now ≡ take n bytes ++ drop n old → now ≡ bytes
+copied-all bytes old n now e h t =
+    t ∙ ap₂ (λ (a b : List ℕ). a ++ b) (ap (λ k. take k bytes) (sym e) ∙ take_all bytes) (ap (λ k. drop k old) (sym h) ∙ drop_all old) ∙ append-nil bytes
 
 -- ---- a page of a memory
 found_step : (first : Page) (memory : Memory) (n : ℕ) (page : Page) (x : Bool) → eqb first.page n ≡ x → page_at (first ∷ memory) n ≡ Some page → IsPage first
@@ -62,12 +49,27 @@ pub found-page : (memory : Memory) (n : ℕ) → AllByRecursion IsPage memory �
 found-page [] n h page e = cc
 found-page (first ∷ memory) n h page e = found_step first memory n page (eqb first.page n) refl e h.0 (found-page memory n h.1 page)
 
-whole_or : (page : Page) (o : Option Page) → ((q : Page) → o ≡ Some q → IsPage q) → length page.bytes ≡ 4096 → length (bytes_or page o) ≡ 4096
-whole_or page None f h = h
-whole_or page (Some q) f h = (f q refl).whole
+-- ---- the bytes of a page that a memory lends
 
-pub whole : (memory : Memory) (page : Page) (n : ℕ) → IsMemory memory → length page.bytes ≡ 4096 → length (bytes_or page (page_at memory n)) ≡ 4096
-whole memory page n is h = whole_or page (page_at memory n) (found-page memory n (recursion_from_All IsPage memory is.pages)) h
+span_is : (memory : Memory) (n : ℕ) → span_of memory (4096 * n) 4096 ≡ take 4096 (bytes_or_none (page_at memory n))
+span_is memory n =
+    let page : 4096 * n / 4096 ≡ n = omega arith in
+    let at : 4096 * n % 4096 ≡ 0 = omega arith in
+    ap₂ (λ (r q : ℕ). take 4096 (drop r (bytes_or_none (page_at memory q)))) at page
+
+has_is : (memory : Memory) (n : ℕ) → has_span memory (4096 * n) 4096 ≡ is_some (page_at memory n)
+has_is memory n =
+    let page : 4096 * n / 4096 ≡ n = omega arith in
+    let at : 4096 * n % 4096 ≡ 0 = omega arith in
+    ap₂ (λ (r q : ℕ). (nat_le 1 4096 && nat_le (r + 4096) 4096) && is_some (page_at memory q)) at page
+
+-- a page that is lent is the one that the memory has
+pub lent : (memory : Memory) (page : Page) → IsMemory memory → IsTrue (has_span memory (4096 * page.page) 4096) → span_of memory (4096 * page.page) 4096 ≡ bytes_or page (page_at memory page.page)
+lent memory page is h = span_is memory page.page ∙ by (page_at memory page.page) (found-page memory page.page (recursion_from_All IsPage memory is.pages)) (sym (has_is memory page.page) ∙ h)
+  where
+    by : (o : Option Page) → ((q : Page) → o ≡ Some q → IsPage q) → is_some o ≡ true → take 4096 (bytes_or_none o) ≡ bytes_or page o
+    by None f e = absurd cc
+    by (Some q) f e = ap (λ k. take k q.bytes) (sym (f q refl).whole) ∙ take_all q.bytes
 
 page_of : ℕ → Perm → List ℕ → Page
 page_of n perm bytes = record { page = n; perm = perm; bytes = bytes }

@@ -133,7 +133,7 @@ session_not_begun vl task bytes map refusal (Err r) is h =
     λ input. subst (RefusesProgram (with_program bytes map (debugged vl task input))) (sym is) (h (debugged vl task input))
 
 -- with the empty stop list a run starts as without one
-same_start : (vl : ℕ) (task : Task) (image : Image) (pages : Memory) → free_start image task.args pages vl never ≡ start image task.args pages vl
+pub same_start : (vl : ℕ) (task : Task) (image : Image) (pages : Memory) → free_start image task.args pages vl never ≡ start image task.args pages vl
 unfolding free_start start
 same_start vl task image pages = refl
 

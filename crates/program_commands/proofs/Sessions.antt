@@ -1,23 +1,29 @@
 -- What a debugging session comes to, by the files that were read, the program that was loaded, and what was answered.
 use mathlib.Core.Logic.{⊎_elim}
 use Rattle.std.proofs.Common.{◌≡◌, ◌≢◌, ◌⊎◌, ℕ, ◌≤◌, List, Option, Some, None, Result, Ok, Err, inl, inr, refl, sym, ap, ◌∙◌, subst}
-use Rattle.std.specs.Prelude.{IfSome, IsErrAnd}
+use Rattle.std.specs.Prelude.{IfSome, IfOk, IsErrAnd}
 use Rattle.guest_types.specs.EarlyLoads.{StopList}
+use Rattle.guest_types.specs.Memory.{Memory as Pages}
+use Rattle.machine_model.specs.Load.{Image, load}
+use Rattle.machine_model.specs.Run.{start}
+use Rattle.map_text.specs.Mapping.{map_of as pages_of_map}
+use Rattle.sve_debug.specs.Replies.{started}
 use Rattle.io_edges.specs.Files.{Rose}
 use Rattle.command_line.specs.Line.{Task}
 use Rattle.sve_debug.specs.declared.session.SessionFault.{SessionFault}
 use Rattle.sve_debug.specs.declared.session.SessionFault.TheVariants as sessions
-use Rattle.sve_debug.specs.Sessions.{Tells}
+use Rattle.sve_debug.specs.Sessions.{Tells, AsItCame}
 use Rattle.refusals.specs.declared.refusal.Refusal.{Refusal}
 use Rattle.refusals.specs.declared.refusal.Refusal.TheVariants.{Usage, TooManyLive, Kernel, TooLong, Elf, Map, Asm, Pipe, Memory, File, Output}
 use Rattle.refusals.specs.declared.refusal.Done.TheVariants as done
 use Rattle.command_answers.specs.Answer.{Held, Expected, Answer, answer_of, expected_text, IsFileAnswer, IsAnswer}
 use Rattle.refusals.specs.Statuses.{of_session}
-use Rattle.command_answers.specs.Reads.{and_then}
+use Rattle.command_answers.specs.Reads.{and_then, task_files, IsOfRead}
 use Rattle.program_commands.specs.Commands.{debug_program, expected_of_debug, expected_of_run, IsOfDebug}
 use Rattle.command_answers.specs.Works.{RefusesProgram}
 use Rattle.command_answers.specs.Outputs.{Prints}
-use Rattle.command_answers.proofs.Reading.{of_what_follows, is_err, not_read}
+use Rattle.program_commands.specs.Ready.{AnswersAsItCame, DebugsAsItCame}
+use Rattle.command_answers.proofs.Reading.{read_is, of_what_follows, is_err, not_read}
 use Rattle.command_answers.proofs.Prints.{prints_nothing}
 
 -- what holds of all inputs and files
@@ -117,6 +123,28 @@ pub failed_session : (x y a b i j : ℕ) (wanted : Answer) (fault : SessionFault
 failed_session x y a b i j wanted sessions.Memory result is input output = inl (inr (inl (is_err Memory result is)))
 failed_session x y a b i j wanted sessions.Input result is input output = inr (is_err Output result is, inr (input refl))
 failed_session x y a b i j wanted sessions.Output result is input output = inr (is_err Output result is, inl (output refl))
+
+-- Where no output failed, the input did, and the lines that were ended are answered.
+pub came_session : (x y a b : ℕ) (left rest : Option (List ℕ)) (held : Option Held) (vl : ℕ) (task : Task) (read : List ℕ × List ℕ) (found : Result (List ℕ × List ℕ) Refusal) (old new : Option (List ℕ)) (image : Image) (pages : Pages) (fault : SessionFault) (result : Answer) → found ≡ Ok read → IfSome held (λ h. IsFileAnswer x y (task_files h task) found)
+    → load read.0 ≡ Ok image → pages_of_map read.1 image.pages ≡ Ok pages → IsErrAnd result (λ r. r ≡ of_session fault) → (fault ≡ sessions.Output → Rose a b) → (fault ≡ sessions.Input → IfSome left (λ bytes. AsItCame (started (start image task.args pages vl)) bytes rest old new))
+    → result ≡ Err Output → (Rose a b → ⊥) → IfSome left (λ bytes. IfSome held (λ h. DebugsAsItCame h vl task bytes rest old new))
+came_session x y a b None rest held vl task read found old new image pages fault result is answer loads maps err output input failed none = tt
+came_session x y a b (Some bytes) rest None vl task read found old new image pages fault result is answer loads maps err output input failed none = tt
+came_session x y a b (Some bytes) rest (Some h) vl task read found old new image pages fault result is answer loads maps err output input failed none =
+    subst (λ r. IfOk r (λ files. AnswersAsItCame vl task files.0 files.1 bytes rest old new)) (read_is x y (task_files h task) read (subst (IsFileAnswer x y (task_files h task)) is answer))
+    (record { image = image; pages = pages; loads = loads; maps = maps; came = by fault (sym (is_err (of_session fault) result err) ∙ failed) output input })
+  where
+    by : (fault : SessionFault) → ◌≡◌ {A = Answer} (Err (of_session fault)) (Err Output) → (fault ≡ sessions.Output → Rose a b) → (fault ≡ sessions.Input → AsItCame (started (start image task.args pages vl)) bytes rest old new) → AsItCame (started (start image task.args pages vl)) bytes rest old new
+    by sessions.Memory e output input = absurd cc
+    by sessions.Input e output input = input refl
+    by sessions.Output e output input = absurd (none (output refl))
+
+-- a refusal of a read is no failure of an output
+pub read_not_output : {T : Type 0} (found : Result T Refusal) (refusal : Refusal) (result : Answer) → found ≡ Err refusal → IsErrAnd result (λ r. r ≡ refusal) → IsOfRead found → result ≢ Err Output
+read_not_output {T = T} found refusal result is err of e = subst (λ r. IsOfRead {T = T} r) (is ∙ ap (λ r. Err r) (same refusal Output (sym (is_err refusal result err) ∙ e))) of
+  where
+    same : (a b : Refusal) → ◌≡◌ {A = Answer} (Err a) (Err b) → a ≡ b
+    same a b e = cc
 
 -- what is answered whatever the input
 pub answered_session : (left : Option (List ℕ)) (P : List ℕ → Type 0) → ((input : List ℕ) → P input) → IfSome left P

@@ -1,17 +1,19 @@
 -- Machines and debuggers that are about to begin.
-use Rattle.std.specs.Prelude.{◌≡◌, ℕ, List, None, Ok}
+use Rattle.std.specs.Prelude.{◌≡◌, ℕ, List, Option, None, IfOk, Ok}
 use Rattle.guest_types.specs.Memory.{Memory}
 use Rattle.guest_types.specs.EarlyLoads.{StopList}
 use Rattle.machine_model.specs.Debugged.{View, is_never}
 use Rattle.machine_model.specs.Load.{Image, load}
 use Rattle.machine_model.specs.Machine.{State}
-use Rattle.machine_model.specs.Run.{free_start}
+use Rattle.machine_model.specs.Run.{start, free_start}
 use Rattle.map_text.specs.Mapping.{map_of as pages_of}
 use Rattle.command_line.specs.Line.{Task}
 use Rattle.sve_debug.specs.Held.{Held as Debugging, Stands}
 use Rattle.sve_debug.specs.Replies.{started}
-use Rattle.sve_debug.specs.Sessions.{session_text}
+use Rattle.sve_debug.specs.Sessions.{session_text, AsItCame}
 use Rattle.program_commands.specs.Commands.{debug_program}
+use Rattle.command_answers.specs.Answer.{Held}
+use Rattle.command_answers.specs.Reads.{task_files}
 use Rattle.command_answers.specs.Works.{ended}
 
 -- The machine stands at the start of the program in a file, beside the pages of a map, with a stop list, and has done no step.
@@ -28,5 +30,23 @@ pub record BeginsProgram (vl : ℕ) (stops : StopList) (task : Task) (bytes map 
 -- The debugger stands for a session that has begun, and what that answers to an input is what is wanted.
 pub record BeginsSession (vl : ℕ) (task : Task) (bytes map : List ℕ) (debugger : Debugging) : Type 0 where
   pub begin : State
+  pub image : Image
+  pub pages : Memory
+  pub loads : load bytes ≡ Ok image
+  pub maps : pages_of map image.pages ≡ Ok pages
+  pub at_start : begin ≡ start image task.args pages vl
   pub stands : Stands debugger begin (started begin)
   pub wanted : (input : List ℕ) → debug_program vl task bytes map input ≡ ended (session_text (started begin) input)
+
+-- The program of some bytes was loaded beside the pages of a map, and a session on it from its start has answered each line that was
+-- ended: the output has gained the replies to these lines, and of the input nothing else was taken but a part of one more.
+pub record AnswersAsItCame (vl : ℕ) (task : Task) (bytes map input : List ℕ) (left old new : Option (List ℕ)) : Type 0 where
+  pub image : Image
+  pub pages : Memory
+  pub loads : load bytes ≡ Ok image
+  pub maps : pages_of map image.pages ≡ Ok pages
+  pub came : AsItCame (started (start image task.args pages vl)) input left old new
+
+-- the same of the files of a task
+abbrev pub DebugsAsItCame : Held → ℕ → Task → (input : List ℕ) → (left old new : Option (List ℕ)) → Type 0
+DebugsAsItCame held vl task input left old new = IfOk (task_files held task) (λ files. AnswersAsItCame vl task files.0 files.1 input left old new)

@@ -8,7 +8,7 @@ ghost use Rattle.program_commands.specs.Commands.{expected_of_debug, debug_progr
 ghost use Rattle.command_answers.specs.Reads.{IsTaskHeld};
 ghost use Rattle.command_answers.specs.Works.{RefusesProgram};
 ghost use Rattle.command_answers.specs.Outputs.{Prints};
-ghost use Rattle.program_commands.specs.Ready.{BeginsSession};
+ghost use Rattle.program_commands.specs.Ready.{BeginsSession, DebugsAsItCame};
 
 use crate::program::load_machine;
 use command_answers::files::read_task;
@@ -62,6 +62,9 @@ pub fn debug<F: Files, I: Source, S: Sink>(
     ensures failed { result ≡ Err Refusal.File → Rose (F.faults files.old) (F.faults files.new) }
     ensures output { result ≡ Err Refusal.Output
         → Rose (S.faults out.old) (S.faults out.new) ⊎ Rose (I.faults input.old) (I.faults input.new) }
+    ensures as_it_comes { result ≡ Err Refusal.Output → (Rose (S.faults out.old) (S.faults out.new) → ⊥)
+        → IfSome (I.left input.old) (λ bytes. IfSome (F.held files.old)
+        (λ held. DebugsAsItCame held vl (task_view task.now) bytes (I.left input.new) (S.taken out.old) (S.taken out.new))) }
     ensures steady { IsTrue (F.steady files.old)
         → IfSome (F.held files.old) (λ held. IsTaskHeld held (task_view task.now)
         → result ≢ Err Refusal.File) }

@@ -6,6 +6,7 @@ use Rattle.refusals.specs.declared.refusal.Refusal.TheVariants.{Usage, Memory}
 use Rattle.command_answers.specs.Answer.{Held, Expected, Answer, status_of}
 use Rattle.command_answers.specs.Reads.{IsTaskHeld, ChangesOnly}
 use Rattle.command_answers.specs.Works.{WhereExpected}
+use Rattle.program_commands.specs.Ready.{DebugsAsItCame}
 use Rattle.program_commands.specs.Commands.{expected_of_list, stops_of, expected_of_run, expected_of_debug, expected_of_asm, IsAssembled, IsOfList, IsOfRun, IsOfDebug, IsOfAsm}
 use Rattle.pipe_command.specs.Pipes.{expected_of_pipe, IsOfPipe, IsPipeHeld}
 use Rattle.kernel_commands.specs.Commands.{ExpectsCompile, ExpectsCheck, ExpectsEval, IsCompiled, IsSwept, IsOfCompile, IsOfCheck, IsOfEval, IsOfSweep}
@@ -108,6 +109,12 @@ OthersKept old new line = (name : List ℕ) → content new name ≡ content old
 abbrev pub Swept : Option Line → Option Held → (old new : Option (List ℕ)) → (status : ℕ) → Type 0
 Swept (Some (SweepLine number to)) held old new status = SweptBy number to held old new status
 Swept line held old new status = Unit {0}
+
+-- Where `debug` failed and no output did, the input failed, and the lines that were ended are answered.
+abbrev pub AsItComes : Option Line → Option Held → (input left old new : Option (List ℕ)) → (before now : ℕ) → (has_failed : Type 0) → Type 0
+AsItComes (Some (DebugLine vl task)) held input left old new before now has_failed =
+    has_failed → (Rose before now → ⊥) → IfSome input (λ bytes. IfSome held (λ h. DebugsAsItCame h vl task bytes left old new))
+AsItComes line held input left old new before now has_failed = Unit {0}
 
 -- the files that are read are held: the map only where the file before it can be read; for `pipe` also those that the script names
 abbrev pub IsHeld : Held → Line → Type 0

@@ -7,7 +7,7 @@ ghost use Rattle.command_line.specs.View.{command_view};
 ghost use Rattle.sve_top.specs.Asked.{asked};
 ghost use Rattle.command_answers.specs.Answer.{Held, Expected, answer_of, expected_text, status_of, IsAnswer, IsKept, IsQuiet, Unwritten};
 ghost use Rattle.refusals.specs.Statuses.{status_of_refusal};
-ghost use Rattle.sve_top.specs.Commands.{Expects, WhereTold, IsSettled, IsInput, IsOf, IsListed, IsSilent, IsUnread, IsHeld, OnlyReads, StreamRose, NoneRose, Compiled, OthersKept, Swept};
+ghost use Rattle.sve_top.specs.Commands.{Expects, WhereTold, IsSettled, IsInput, IsOf, IsListed, IsSilent, IsUnread, IsHeld, OnlyReads, StreamRose, NoneRose, Compiled, OthersKept, Swept, AsItComes};
 ghost use Rattle.command_answers.specs.Works.{SomeExpected};
 ghost use Rattle.sve_top.specs.Does.{Does, outside};
 ghost use Rattle.sve_top.specs.Complete.{Completes};
@@ -81,6 +81,8 @@ pub fn top<F: Files, I: Source, S: Sink, E: Sink>(
     ensures steady { IsTrue (F.steady files.old)
         → IfSome (asked words.now) (λ line. IfSome (F.held files.old)
         (λ held. IsHeld held line → result ≢ 8)) }
+    ensures as_it_comes { AsItComes (asked words.now) (F.held files.old) (I.left input.old) (I.left input.new)
+        (S.taken out.old) (S.taken out.new) (S.faults out.old) (S.faults out.new) (result ≡ 9) }
     ensures quiet { (result ≡ 2) ⊎ (result ≡ 3) ⊎ (result ≡ 4) ⊎ (result ≡ 8) → out.new ≡ out.old }
     ensures silent { IsSilent (asked words.now) → out.new ≡ out.old }
     ensures untold { (result ≡ 0) ⊎ (result ≡ 5) ⊎ (result ≡ 6) → err.new ≡ err.old }
@@ -127,6 +129,8 @@ fn do_words<F: Files, I: Source, S: Sink>(
     ensures steady { IsTrue (F.steady files.old)
         → IfSome (asked words.now) (λ line. IfSome (F.held files.old)
         (λ held. IsHeld held line → result ≢ Err Refusal.File)) }
+    ensures as_it_comes { AsItComes (asked words.now) (F.held files.old) (I.left input.old) (I.left input.new)
+        (S.taken out.old) (S.taken out.new) (S.faults out.old) (S.faults out.new) (result ≡ Err Refusal.Output) }
     ensures printed { WhereTold (F.held files.old) (I.left input.old) (asked words.now)
         (λ work. Prints (S.taken out.old) (S.taken out.new) (expected_text work) result) }
     ensures quiet { IsQuiet result → out.new ≡ out.old }
@@ -168,6 +172,8 @@ fn do_command<F: Files, I: Source, S: Sink>(
         (S.faults out.old) (S.faults out.new) (I.faults input.old) (I.faults input.new) }
     ensures steady { IsTrue (F.steady files.old)
         → IfSome (F.held files.old) (λ held. IsHeld held (command_view command.now) → result ≢ Err Refusal.File) }
+    ensures as_it_comes { AsItComes (Some (command_view command.now)) (F.held files.old) (I.left input.old) (I.left input.new)
+        (S.taken out.old) (S.taken out.new) (S.faults out.old) (S.faults out.new) (result ≡ Err Refusal.Output) }
     ensures printed { WhereTold (F.held files.old) (I.left input.old) (Some (command_view command.now))
         (λ work. Prints (S.taken out.old) (S.taken out.new) (expected_text work) result) }
     ensures quiet { IsQuiet result → out.new ≡ out.old }

@@ -3,7 +3,7 @@ use Rattle.std.specs.Prelude.{IfSome}
 use Rattle.io_edges.specs.Files.{Rose}
 use Rattle.command_line.specs.View.{task_view}
 use Rattle.sve_debug.specs.Replies.{started}
-use Rattle.sve_debug.specs.Sessions.{session_text}
+use Rattle.sve_debug.specs.Sessions.{session_text, AsItCame}
 use Rattle.refusals.specs.declared.refusal.Done.TheVariants as done
 use Rattle.refusals.specs.Statuses.{of_session}
 use Rattle.command_answers.specs.Answer.{answer_of, expected_text, IsAnswer}
@@ -11,7 +11,7 @@ use Rattle.command_answers.specs.Outputs.{Prints}
 use Rattle.command_answers.specs.Reads.{task_files, files_in, IsTaskHeld}
 use Rattle.command_answers.proofs.Reading.{is_err}
 use Rattle.program_commands.specs.Commands.{debug_program}
-use Rattle.program_commands.proofs.Sessions.{not_begun, debugged_is, refused_program, program_of_debug, program_not_file, program_not_output, steady_anyway, failed_session, answered_session, untold_session, told_session, cut_session}
+use Rattle.program_commands.proofs.Sessions.{not_begun, debugged_is, refused_program, program_of_debug, program_not_file, program_not_output, steady_anyway, failed_session, answered_session, untold_session, told_session, cut_session, came_session, read_not_output}
 use Rattle.program_commands.proofs.debug.debug.Goals as goal
 
 pub returns-in_err-read-clause-answer : goal.returns-in_err-read-clause-answer
@@ -119,3 +119,25 @@ returns-clause-printed g c =
     (ap files_in c.in_ok-read.was ∙ ap₂ (λ file map. Ok (file, map)) (sym c.deref.ensures.value) (sym c.deref-2.ensures.value)) c.read_task.ensures.answer
     (told_session (g.I.Source.left c.args.input.now) (g.S.Sink.taken c.args.out.now) (g.S.Sink.taken c.session.new.out) (debug_program c.args.vl task c.deref.result.now c.deref-2.result.now) (session_text (started begins.begin))
     c.session.result c.in_ok-session.was (λ input. ap expected_text (begins.wanted input)) (c.session.ensures.told begins.begin (started begins.begin) begins.stands))
+
+pub returns-in_err-read-clause-as_it_comes : goal.returns-in_err-read-clause-as_it_comes
+returns-in_err-read-clause-as_it_comes g c = λ e.
+    absurd (read_not_output c.read_task.result c.in_err-read.field-0.0 c.from_residual.result c.in_err-read.was c.from_residual.ensures.1 c.read_task.ensures.of_read e)
+
+pub returns-in_err-debugger-clause-as_it_comes : goal.returns-in_err-debugger-clause-as_it_comes
+returns-in_err-debugger-clause-as_it_comes g c = λ e. absurd (
+    program_not_output (debug_program c.args.vl (task_view c.args.task.now) c.deref.result.now c.deref-2.result.now []) c.in_err-debugger.field-0.0 c.from_residual-in_err-debugger.result
+    c.from_residual-in_err-debugger.ensures.1 (c.in_err-debugger.ensures.refusal []) e)
+
+pub returns-in_err-session-clause-as_it_comes : goal.returns-in_err-session-clause-as_it_comes
+returns-in_err-session-clause-as_it_comes g c =
+    let task = task_view c.args.task.now in
+    let read : List ℕ × List ℕ = (c.deref.result.now, c.deref-2.result.now) in
+    let begins = c.in_ok-debugger.ensures.begins in
+    came_session (g.F.Files.faults c.args.files.now) (g.F.Files.faults c.read_task.new.files) (g.S.Sink.faults c.args.out.now) (g.S.Sink.faults c.session.new.out) (g.I.Source.left c.args.input.now) (g.I.Source.left c.session.new.input)
+    (g.F.Files.held c.args.files.now) c.args.vl task read (files_in c.read_task.result) (g.S.Sink.taken c.args.out.now) (g.S.Sink.taken c.session.new.out) begins.image begins.pages c.in_err-session.field-0.0 c.from_residual-in_err-session.result
+    (ap files_in c.in_ok-read.was ∙ ap₂ (λ file map. Ok (file, map)) (sym c.deref.ensures.value) (sym c.deref-2.ensures.value)) c.read_task.ensures.answer
+    begins.loads begins.maps c.from_residual-in_err-session.ensures.1
+    (λ e. c.session.ensures.output (c.in_err-session.was ∙ ap (λ f. Err f) e))
+    (λ e. subst (λ s. IfSome (g.I.Source.left c.args.input.now) (λ bytes. AsItCame (started s) bytes (g.I.Source.left c.session.new.input) (g.S.Sink.taken c.args.out.now) (g.S.Sink.taken c.session.new.out))) begins.at_start
+    (c.session.ensures.as_it_comes begins.begin (started begins.begin) begins.stands (c.in_err-session.was ∙ ap (λ f. Err f) e)))

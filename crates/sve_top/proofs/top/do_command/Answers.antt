@@ -1,10 +1,11 @@
-use Rattle.std.proofs.Common.{◌≡◌, [], ◌⊎◌, Some, ap, sym, ◌∙◌, subst}
+use Rattle.std.proofs.Common.{◌≡◌, [], ◌⊎◌, Some, Err, ap, sym, ◌∙◌, subst}
 use Rattle.io_edges.specs.Files.{Rose}
 use Rattle.std.specs.Prelude.{IfSome, OnOk, string_bytes}
 use Rattle.command_line.specs.Line.{CompileLine, CheckLine, EvalLine, ListLine, RunLine, DebugLine, SweepLine, AsmLine, PipeLine}
 use Rattle.command_line.specs.View.{command_view, task_view}
+use Rattle.refusals.specs.declared.refusal.Refusal.TheVariants.{Output}
 use Rattle.command_answers.specs.Answer.{answer_of, expected_text, status_of, IsAnswer, Unwritten}
-use Rattle.sve_top.specs.Commands.{Compiled, StreamRose, Swept}
+use Rattle.sve_top.specs.Commands.{Compiled, StreamRose, Swept, AsItComes}
 use Rattle.program_commands.specs.Commands.{expected_of_list, expected_of_run, expected_of_debug, expected_of_asm, stops_of}
 use Rattle.command_answers.specs.Outputs.{Prints}
 use Rattle.sve_top.proofs.Lines.{by_line, of_told, of_every_line}
@@ -183,3 +184,8 @@ returns-in-Pipe-clause-printed g c =
 pub returns-in-Pipe-clause-unwritten : goal.returns-in-Pipe-clause-unwritten
 returns-in-Pipe-clause-unwritten g c =
     of_every_line (g.F.Files.held c.args.files.now) (g.I.Source.left c.args.input.now) (Some (command_view c.args.command.now)) (λ work. Unwritten work (g.F.Files.held c.args.files.now) (g.F.Files.held c.pipe.new.files)) (λ work r. c.pipe.ensures.held)
+
+pub returns-in-Debug-clause-as_it_comes : goal.returns-in-Debug-clause-as_it_comes
+returns-in-Debug-clause-as_it_comes g c =
+    subst (λ l. AsItComes l (g.F.Files.held c.args.files.now) (g.I.Source.left c.args.input.now) (g.I.Source.left c.debug.new.input) (g.S.Sink.taken c.args.out.now) (g.S.Sink.taken c.debug.new.out) (g.S.Sink.faults c.args.out.now) (g.S.Sink.faults c.debug.new.out) (c.debug.result ≡ Err Output))
+    (sym (ap (λ l. Some l) (ap command_view c.in-Debug.is))) c.debug.ensures.as_it_comes

@@ -7,6 +7,7 @@ use Rattle.sve_top.specs.Does.{outside}
 use Rattle.command_answers.specs.Outputs.{error_line}
 use Rattle.sve_top.proofs.OneExpectedLaws.{does_of}
 use Rattle.sve_top.proofs.Completions.{completes}
+use Rattle.sve_top.proofs.Lines.{by_status}
 use Rattle.command_answers.proofs.Statuses.{line_done, line_refused}
 use Rattle.sve_top.proofs.top.top.Goals as goal
 
@@ -60,3 +61,13 @@ pub returns-in-Err-clause-swept : goal.returns-in-Err-clause-swept
 returns-in-Err-clause-swept g c =
     subst (Swept (line_of (texts c.args.words.now)) (g.F.Files.held c.do_words.new.files) (g.S.Sink.taken c.args.out.now) (g.S.Sink.taken c.do_words.new.out))
     (sym (c.status-in-Err.ensures ∙ sym (ap status_of c.in-Err.is))) c.do_words.ensures.swept
+
+pub returns-in-Ok-clause-as_it_comes : goal.returns-in-Ok-clause-as_it_comes
+returns-in-Ok-clause-as_it_comes g c =
+    by_status (line_of (texts c.args.words.now)) (g.F.Files.held c.args.files.now) (g.I.Source.left c.args.input.now) (g.I.Source.left c.do_words.new.input) (g.S.Sink.taken c.args.out.now) (g.S.Sink.taken c.do_words.new.out) (g.S.Sink.faults c.args.out.now) (g.S.Sink.faults c.do_words.new.out)
+    c.status.result c.do_words.result (c.status.ensures ∙ sym (ap status_of c.in-Ok.is)) c.do_words.ensures.as_it_comes
+
+pub returns-in-Err-clause-as_it_comes : goal.returns-in-Err-clause-as_it_comes
+returns-in-Err-clause-as_it_comes g c =
+    by_status (line_of (texts c.args.words.now)) (g.F.Files.held c.args.files.now) (g.I.Source.left c.args.input.now) (g.I.Source.left c.do_words.new.input) (g.S.Sink.taken c.args.out.now) (g.S.Sink.taken c.do_words.new.out) (g.S.Sink.faults c.args.out.now) (g.S.Sink.faults c.do_words.new.out)
+    c.status-in-Err.result c.do_words.result (c.status-in-Err.ensures ∙ sym (ap status_of c.in-Err.is)) c.do_words.ensures.as_it_comes
