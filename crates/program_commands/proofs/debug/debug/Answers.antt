@@ -1,4 +1,4 @@
-use Rattle.std.proofs.Common.{◌⊎◌, ℕ, List, [], Ok, Err, inl, ap, ap₂, sym, ◌∙◌}
+use Rattle.std.proofs.Common.{◌⊎◌, ℕ, List, [], Ok, Err, inl, ap, ap₂, sym, ◌∙◌, subst}
 use Rattle.std.specs.Prelude.{IfSome}
 use Rattle.io_edges.specs.Files.{Rose}
 use Rattle.command_line.specs.View.{task_view}
