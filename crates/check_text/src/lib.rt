@@ -10,7 +10,8 @@ ghost use Rattle.check_text.specs.CheckText.{check_text, line, why_text, kind_te
 use dependence::reason::{Class, Why};
 use guest_types::length::Width;
 use itoa::Buffer;
-use kernel_tree::{Checked, Kernel, print_kernel};
+use kernel_print::print_kernel;
+use kernel_tree::{Checked, Kernel};
 use loop_class::class;
 use loop_form::need::Needs;
 use loop_lists::{lane_width, needs};

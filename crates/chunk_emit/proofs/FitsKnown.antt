@@ -21,9 +21,8 @@ use Rattle.dependence.specs.Classes.{is_read, computed_content, computed_index, 
 use Rattle.dependence.specs.declared.reason.Class.TheVariants.{Vector}
 use Rattle.dependence.proofs.ClassLaws.{class_facts, gather_facts}
 use Rattle.guest_types.specs.declared.length.Width.TheVariants.{D}
-use Rattle.chunk_order.proofs.Accesses.{or_false}
+use Rattle.vector_order.proofs.OneAccess.{or_false}
 use Rattle.chunk_emit.specs.KernelLayout.{update_of}
-use Rattle.chunk_emit.specs.LoopFits.{IsDirectRead, AreDirect}
 use Rattle.chunk_emit.proofs.FitsEntries.{Gives, AllGive, loop_gives, any_here}
 use Rattle.chunk_emit.proofs.FitsUpdates.{one_operator, any_none}
 
@@ -34,7 +33,6 @@ pub record Known (k : Program) (e : Entry) : Type 0 where
   pub used : IsUseCounted (entries_of k) e
   pub near : HasNear (loop_index k) e.content
   pub wide_read : computed_content (loop_index k) e.content ≡ true → lane_width_of k ≡ D
-  pub direct : IsDirectRead e.content
   pub unread : (x : List ℕ) (t : Ty) → var_type x k.vars ≡ Some t → names x e ≡ false
   pub operator : (x : List ℕ) (op : UpdateOp) → e.content ≡ IsUpdate x op → update_of k x ≡ op
 
@@ -82,20 +80,19 @@ module _ (k : Program) (vector : class_of k ≡ Vector) where
   operator_here xs e ys split x op is =
       one_operator k x op xs e ys vector split is (ap (list_any (updates x)) (sym split) ∙ any_here (updates x) xs e ys (ap (is_update x) is ∙ bytes_same x))
 
-  rest_known : (xs es : List Entry) → xs ++ es ≡ loop_entries k → AllGive k es → AreWide k (lane_width_of k) es → AreUsesCounted (entries_of k) es → AreNear (loop_index k) es → AreDirect es → AllKnown k es
-  rest_known xs [] split g w u n d = tt
-  rest_known xs (e ∷ es) split g w u n d = (
+  rest_known : (xs es : List Entry) → xs ++ es ≡ loop_entries k → AllGive k es → AreWide k (lane_width_of k) es → AreUsesCounted (entries_of k) es → AreNear (loop_index k) es → AllKnown k es
+  rest_known xs [] split g w u n = tt
+  rest_known xs (e ∷ es) split g w u n = (
     record {
       gives = g.0;
       wide = w.0;
       used = u.0;
       near = n.0;
       wide_read = wide_here xs e es split;
-      direct = d.0;
       unread = unread_here xs e es split;
       operator = operator_here xs e es split;
     },
-    rest_known (xs ++ e ∷ []) es (append_assoc xs (e ∷ []) es ∙ split) g.1 w.1 u.1 n.1 d.1,
+    rest_known (xs ++ e ∷ []) es (append_assoc xs (e ∷ []) es ∙ split) g.1 w.1 u.1 n.1,
   )
 
 loop_counted : (k : Program) → AreUsesCounted (entries_of k) (loop_entries k)
@@ -104,8 +101,8 @@ loop_counted k =
     counted_left all (loop_entries k) (answer_entries k (loop_end k) k.answer)
     (counted_right all (vars_entries k (length k.params) k.vars) _ (counted_right all (params_entries k 0 k.params) _ (all_counted all)))
 
-pub loop_known : (k : Program) → check_fault k ≡ None → class_of k ≡ Vector → AreDirect (loop_entries k) → AllKnown k (loop_entries k)
-loop_known k checked vector direct = rest_known k vector [] (loop_entries k) refl (loop_gives k) (loop_wide k) (loop_counted k) (loop-near k checked) direct
+pub loop_known : (k : Program) → check_fault k ≡ None → class_of k ≡ Vector → AllKnown k (loop_entries k)
+loop_known k checked vector = rest_known k vector [] (loop_entries k) refl (loop_gives k) (loop_wide k) (loop_counted k) (loop-near k checked)
 
 -- ---- parts of the listing with the types that their places want
 

@@ -7,14 +7,14 @@ use Rattle.kernel_tree.proofs.Scopes.{var_visible, scope_index}
 use Rattle.kernel_tree.proofs.Faultless.{body_faultless}
 use Rattle.reg_assign.specs.Registers.{Assignment}
 use Rattle.loop_form.specs.declared.loop_item.Source.TheVariants.{LoopIndex}
-use Rattle.loop_form.specs.Entries.{block_entries, turns_entries, loop_entries}
+use Rattle.loop_form.specs.Entries.{block_entries, turns_entries}
 use Rattle.loop_form.specs.LoopItems.{bound, Item, outer_env, loop_env, block_items, loop_items, turns_items, loop_items_of}
 use Rattle.loop_form.proofs.ItemTypes.{loop_types}
 use Rattle.dependence.specs.Classes.{class_of}
 use Rattle.dependence.specs.declared.reason.Class.TheVariants.{Vector}
 use Rattle.chunk_emit.specs.Chunk.{Setting}
 use Rattle.chunk_emit.specs.KernelLayout.{type_in, layout_of_loop}
-use Rattle.chunk_emit.specs.LoopFits.{AreDirect, FitsSetting, FitsSteps}
+use Rattle.chunk_emit.specs.LoopFits.{FitsSetting, FitsSteps}
 use Rattle.chunk_emit.proofs.FitsNumbers.{Ascends, loop_ascends, type_at_item}
 use Rattle.chunk_emit.proofs.FitsKnown.{Part, part_following, loop_known}
 use Rattle.chunk_emit.proofs.FitsNames.{head_locals, head_env, head_names}
@@ -46,21 +46,21 @@ scope_is k l =
 env_is : (k : Program) (l : PlainLoop) → loop_env (var_scope k) l.index ≡ head_env 0 k.params k.vars l.index
 env_is k l = ap (λ vs. outer_env 0 vs ++ bound l.index LoopIndex ∷ []) (var_visible k)
 
-body_known : (k : Program) (l : PlainLoop) → check_fault k ≡ None → k.turns ≡ Some l → class_of k ≡ Vector → AreDirect (loop_entries k) → Part k (block_entries k (loop_start k + 1) l.body) (block_types (in_loop (var_scope k) l) l.body)
-body_known k l checked turns vector direct =
-    let all : Part k (turns_entries k (loop_start k) k.turns) (turns_types (var_scope k) k.turns) = record { known = loop_known k checked vector direct; types = loop_types k } in
+body_known : (k : Program) (l : PlainLoop) → check_fault k ≡ None → k.turns ≡ Some l → class_of k ≡ Vector → Part k (block_entries k (loop_start k + 1) l.body) (block_types (in_loop (var_scope k) l) l.body)
+body_known k l checked turns vector =
+    let all : Part k (turns_entries k (loop_start k) k.turns) (turns_types (var_scope k) k.turns) = record { known = loop_known k checked vector; types = loop_types k } in
     part_following k _ _ None _ (subst (λ o. Part k (turns_entries k (loop_start k) o) (turns_types (var_scope k) o)) turns all)
 
 -- ---- the loop
 
-pub loop_steps : (k : Program) (l : PlainLoop) (zs ps : Assignment) (f : Setting) → check_fault k ≡ None → k.turns ≡ Some l → class_of k ≡ Vector → AreDirect (loop_entries k) → length k.params ≤ 8 → FitsSetting k f → FitsSteps (layout_of_loop k zs ps) f (loop_start k + 1) (loop_items k l)
-loop_steps k l zs ps f checked turns vector direct few setting =
+pub loop_steps : (k : Program) (l : PlainLoop) (zs ps : Assignment) (f : Setting) → check_fault k ≡ None → k.turns ≡ Some l → class_of k ≡ Vector → length k.params ≤ 8 → FitsSetting k f → FitsSteps (layout_of_loop k zs ps) f (loop_start k + 1) (loop_items k l)
+loop_steps k l zs ps f checked turns vector few setting =
     let L = layout_of_loop k zs ps in
     let b = loop_start k + 1 in
     let S = body_scope k l in
     let env = head_env 0 k.params k.vars l.index in
     let none : block_faults S (loop_start k + 1) l.body ≡ [] = subst (λ s. block_faults s (loop_start k + 1) l.body ≡ []) (scope_is k l) (body_faultless k l checked turns) in
-    let part : Part k (block_entries k b l.body) (block_types S l.body) = subst (λ s. Part k (block_entries k b l.body) (block_types s l.body)) (scope_is k l) (body_known k l checked turns vector direct) in
+    let part : Part k (block_entries k b l.body) (block_types S l.body) = subst (λ s. Part k (block_entries k b l.body) (block_types s l.body)) (scope_is k l) (body_known k l checked turns vector) in
     let types : AllTyped k (block_items S None b env l.body []) = subst (λ e. AllTyped k (block_items S None b e l.body [])) (env_is k l) (subst (λ s. AllTyped k (block_items s None b (loop_env (var_scope k) l.index) l.body [])) (scope_is k l) (items_typed k l turns)) in
     let steps = block_steps k zs ps f setting few l.body (head_locals k.params k.vars l.index) (insert_name (var_scope k).taken l.index) true env None b (loop_start k + 1) [] (head_names k l b turns) none part types (λ r lo hi. tt) tt in
     subst (λ s. FitsSteps L f b (block_items s None b (loop_env (var_scope k) l.index) l.body [])) (sym (scope_is k l)) (subst (λ e. FitsSteps L f b (block_items S None b e l.body [])) (sym (env_is k l)) steps)

@@ -22,7 +22,7 @@ second_part l f p (x ∷ xs) ys h = second_part l f (x.item + 1) xs ys h.5
 step_fits : (l : Layout) (f : Setting) (p : ℕ) (op : Op) → IsNoBreak op → FitsStep l f p op → FitsOp l f p op
 step_fits l f p (Quit c) n h = elim n [ ]
 step_fits l f p (Load a base t c) n h = h
-step_fits l f p (Gather a base t r x) n h = h
+step_fits l f p (Gather a base t r u x) n h = h
 step_fits l f p (Apply op t x) n h = h
 step_fits l f p (Combine op t x y) n h = h
 step_fits l f p (Move left k t x) n h = h

@@ -57,7 +57,7 @@ stores _ = false
 past_none : (q : ℕ) (op next : Op) → stores next ≡ false → past_cast q op next ≡ None
 past_none q (Cast s t x) (Store a base ty c v) e = absurd cc
 past_none q (Cast s t x) (Load a base ty c) e = refl
-past_none q (Cast s t x) (Gather a base ty r y) e = refl
+past_none q (Cast s t x) (Gather a base ty r u y) e = refl
 past_none q (Cast s t x) (Apply op ty y) e = refl
 past_none q (Cast s t x) (Combine op ty y z) e = refl
 past_none q (Cast s t x) (Move left n ty y) e = refl
@@ -71,7 +71,7 @@ past_none q (Cast s t x) (Same c) e = refl
 past_none q (Cast s t x) (Any c d) e = refl
 past_none q (Cast s t x) (Quit c) e = refl
 past_none q (Load a base ty c) next e = refl
-past_none q (Gather a base ty r y) next e = refl
+past_none q (Gather a base ty r u y) next e = refl
 past_none q (Apply op ty y) next e = refl
 past_none q (Combine op ty y z) next e = refl
 past_none q (Move left n ty y) next e = refl

@@ -1,5 +1,5 @@
 -- The items of the expressions of a checked kernel's loop fit its layout.
-use Rattle.std.proofs.Common.{◌≡◌, ℕ, ◌+◌, ◌<◌, ◌≤◌, ℤ, pos, negsuc, Bool, true, List, ◌∷◌, length, Option, Some, None, inr, refl, sym, ap, ◌∙◌, subst, arith}
+use Rattle.std.proofs.Common.{◌≡◌, ℕ, ◌+◌, ◌<◌, ◌≤◌, ℤ, pos, negsuc, Bool, true, List, ◌∷◌, length, Option, Some, None, refl, sym, ◌∙◌, subst, arith}
 use Rattle.std.specs.Prelude.{◌^◌, option_and_then}
 use Rattle.std.proofs.Math.Nat.{mod-le}
 use Rattle.std.proofs.lemmas.Bool.{ltb-true}
@@ -10,7 +10,7 @@ use Rattle.kernel_tree.specs.declared.fault.Binding.{Binding}
 use Rattle.kernel_tree.specs.declared.fault.Binding.TheVariants as binding
 use Rattle.kernel_tree.specs.Plain.{Term, Literal, Variable, Element, Unary, Operation, Shift, Conversion, Choice, Comparison, Both, Either, Not, Program}
 use Rattle.kernel_tree.specs.Wrap.{bits_of}
-use Rattle.kernel_tree.specs.Items.{stream_offset, index_size, index_items, term_size, loop_index}
+use Rattle.kernel_tree.specs.Items.{stream_offset, index_size, term_size, loop_index}
 use Rattle.kernel_tree.specs.Typing.{Scope, Local, own, element_type, index_type, side_type, is_below}
 use Rattle.kernel_meaning.specs.Operators.{shift_count}
 use Rattle.reg_assign.specs.declared.interval.RegClass.TheVariants.{Z, P}
@@ -84,18 +84,17 @@ module _ (k : Program) (zs ps : Assignment) (f : Setting) (setting : FitsSetting
         subst (λ z. FitsSteps L f q (item q mask (Load a (source_at env a) z c) ∷ rest)) (sym (same ∙ e)) here
 
     -- a read at a computed index, whose index fits
-    gather_step : (a : List ℕ) (j : Term) (T U : Ty) (mask : Option ℕ) (b q p u : ℕ) (rest : List Item) → At k q (IsRead a j) u (Some T) → array_type S a ≡ Some T → index_type S j ≡ Some U → lane_width_of k ≡ D → index_source S j ≡ index_type S j → q < u → p ≡ q + 1
+    gather_step : (a : List ℕ) (j : Term) (T U : Ty) (mask : Option ℕ) (b q p u : ℕ) (rest : List Item) → At k q (IsRead a j) u (Some T) → array_type S a ≡ Some T → index_type S j ≡ Some U → lane_width_of k ≡ D → q < u → p ≡ q + 1
         → FitsOperand (layout_of_loop k zs ps) f.w q U (home i (Some U) b env j) → type_in (loop_items_of k) q ≡ array_type S a → FitsMask (layout_of_loop k zs ps) q mask → FitsSteps (layout_of_loop k zs ps) f p rest → FitsSteps (layout_of_loop k zs ps) f q (gather_item S mask b q env a j ∷ rest)
-    gather_step a j T U mask b q p u rest at array index lane source lt number fits typed masked following =
+    gather_step a j T U mask b q p u rest at array index lane lt number fits typed masked following =
         let L = layout_of_loop k zs ps in
         let last_use : item_last_use k Z q ≡ u = at.known.gives.value_last_use in
         let wide : f.w ≡ D = setting.width ∙ lane in
-        let few : bits_of U ≤ 64 = subst (λ w. bits_of U ≤ width_bits w) wide fits.1 in
-        let reach : reach_of_type (index_source S j) ≡ reach_of_type (Some U) = ap reach_of_type (source ∙ index) in
-        let here = plain_step L f q p mask (Gather a (source_at env a) (Some T) (reach_of_type (index_source S j)) (home i (Some U) b env j)) rest number masked
-        (array_fits a T array, wide, (U, fits.0, few, inr reach), omega (arith, last_use, lt), value_makes q T at.known.gives.truth_last_use (typed ∙ array)) (λ r next. refl) following in
-        subst (λ z. FitsSteps L f q (item q mask (Gather a (source_at env a) z (reach_of_type (index_source S j)) (home i (index_type S j) b env j)) ∷ rest)) (sym array)
-        (subst (λ z. FitsSteps L f q (item q mask (Gather a (source_at env a) (Some T) (reach_of_type (index_source S j)) (home i z b env j)) ∷ rest)) (sym index) here)
+        let reach : Option ℕ = reach_of_type (index_source S j) in
+        let here = plain_step L f q p mask (Gather a (source_at env a) (Some T) reach (Some U) (home i (Some U) b env j)) rest number masked
+        (array_fits a T array, wide, (index_source S j, refl), fits, omega (arith, last_use, lt), value_makes q T at.known.gives.truth_last_use (typed ∙ array)) (λ r next. refl) following in
+        subst (λ z. FitsSteps L f q (item q mask (Gather a (source_at env a) z reach (index_type S j) (home i (index_type S j) b env j)) ∷ rest)) (sym array)
+        (subst (λ z. FitsSteps L f q (item q mask (Gather a (source_at env a) (Some T) reach z (home i z b env j)) ∷ rest)) (sym index) here)
 
     -- what fits before the items of an operand
     abbrev Before : (x : Term) (U : Ty) (mask : Option ℕ) (b : ℕ) → Type 0
@@ -138,7 +137,7 @@ module _ (k : Program) (zs ps : Assignment) (f : Setting) (setting : FitsSetting
         (first later typed2 (plain_casts L b later (value_plain y S (Some U) mask b1 env last refl), there))
 
     element_steps : (a : List ℕ) (j : Term) (T : Ty) (mask : Option ℕ) (b u p : ℕ) (rest : List Item) (o : Option ℤ)
-        → IndexBy o ((U : Ty) × (index_type S j ≡ Some U) × KnownValue k S U b (b + index_size o (term_size i j)) j × (lane_width_of k ≡ D) × (index_source S j ≡ index_type S j))
+        → IndexBy o ((U : Ty) × (index_type S j ≡ Some U) × KnownValue k S U b (b + index_size o (term_size i j)) j × (lane_width_of k ≡ D))
         → At k (b + index_size o (term_size i j)) (IsRead a j) u (Some T) → array_type S a ≡ Some T → b + index_size o (term_size i j) < u → p ≡ b + index_size o (term_size i j) + 1
         → AllTyped k (load_item S mask (b + index_size o (term_size i j)) env a o (term_items S (index_type S j) mask b env j (gather_item S mask b (b + index_size o (term_size i j)) env a j ∷ rest)) rest)
         → IsMasked (layout_of_loop k zs ps) b p mask → FitsSteps (layout_of_loop k zs ps) f p rest
@@ -154,7 +153,7 @@ module _ (k : Program) (zs ps : Assignment) (f : Setting) (setting : FitsSetting
         let typed2 : AllTyped k (term_items S (Some known.0) mask b env j last) = subst (λ w. AllTyped k (term_items S w mask b env j last)) known.1 typed in
         let fits = operand j known.0 mask b q last known.2 (omega (arith, from)) (omega arith) typed2 in
         let mine : type_in (loop_items_of k) q ≡ array_type S a = (value_following k j S (Some known.0) mask b env last typed2).0 in
-        let here = gather_step a j T known.0 mask b q p u rest at array known.1 known.3 known.4 (omega (arith, lt)) (omega (arith, number)) fits mine (masked q (omega arith) (omega (arith, number))) following in
+        let here = gather_step a j T known.0 mask b q p u rest at array known.1 known.3 (omega (arith, lt)) (omega (arith, number)) fits mine (masked q (omega arith) (omega (arith, number))) following in
         subst (λ w. FitsSteps (layout_of_loop k zs ps) f b (term_items S w mask b env j last)) (sym known.1)
         (more known.0 last known.2 typed2 (λ r lo hi. masked r lo (omega (arith, number, hi))) (refl, here))
 

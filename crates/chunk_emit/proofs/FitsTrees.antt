@@ -12,10 +12,8 @@ use Rattle.loop_form.specs.Entries.{IsLiteral, IsName, IsRead, IsPlain, inner_en
 use Rattle.chunk_emit.specs.Fits.{IsNear}
 use Rattle.loop_form.proofs.ItemTypes.{inner, term_matches}
 use Rattle.loop_form.specs.Lanes.{lane_width_of}
-use Rattle.loop_form.specs.LoopItems.{index_source}
 use Rattle.guest_types.specs.declared.length.Width.TheVariants.{D}
 use Rattle.kernel_tree.specs.declared.ops.Ty.TheVariants.{U64}
-use Rattle.chunk_emit.specs.LoopFits.{IsDirect}
 use Rattle.chunk_emit.proofs.FitsKnown.{Part, part_left, part_right, part_following, At, at_head}
 use Rattle.loop_form.specs.Near as near
 use Rattle.loop_form.specs.declared.item.ItemKind.TheVariants as kind
@@ -52,21 +50,6 @@ first_of : (o : Option Ty) → (T : Ty) × (first o (Some U64) ≡ Some T)
 first_of None = (U64, refl)
 first_of (Some t) = (t, refl)
 
--- an index that is no cast comes from its own type
-direct_source : (s : Scope) (j : Term) → IsDirect j → index_source s j ≡ index_type s j
-direct_source s (Conversion e t) d = absurd d
-direct_source s (Literal n) d = refl
-direct_source s (Variable x) d = refl
-direct_source s (Element a e) d = refl
-direct_source s (Unary op e) d = refl
-direct_source s (Operation op x y) d = refl
-direct_source s (Shift left e n) d = refl
-direct_source s (Choice c x y) d = refl
-direct_source s (Comparison op x y) d = refl
-direct_source s (Both x y) d = refl
-direct_source s (Either x y) d = refl
-direct_source s (Not e) d = refl
-
 -- ---- expressions
 
 abbrev mutual
@@ -75,7 +58,7 @@ abbrev mutual
   KnownValue k s T b user (Literal n) = At k b (IsLiteral n) user (Some T)
   KnownValue k s T b user (Variable x) = At k b (IsName x) user (Some T) × (option_and_then value_type (lookup s x) ≡ Some T)
   KnownValue k s T b user (Element a j) = At k (b + index_items (loop_index k) j) (IsRead a j) user (Some T) × (option_and_then element_type (lookup s a) ≡ Some T)
-      × IndexBy (stream_offset (loop_index k) j) ((U : Ty) × (index_type s j ≡ Some U) × KnownValue k s U b (b + index_items (loop_index k) j) j × (lane_width_of k ≡ D) × (index_source s j ≡ index_type s j))
+      × IndexBy (stream_offset (loop_index k) j) ((U : Ty) × (index_type s j ≡ Some U) × KnownValue k s U b (b + index_items (loop_index k) j) j × (lane_width_of k ≡ D))
   KnownValue k s T b user (Unary op e) = KnownValue k s T b (b + term_size (loop_index k) e) e × At k (b + term_size (loop_index k) e) (IsPlain kind.Unary) user (Some T)
   KnownValue k s T b user (Operation op x y) =
       KnownValue k s T b (b + term_size (loop_index k) x + term_size (loop_index k) y) x
@@ -149,7 +132,6 @@ module _ (k : Program) (v : List Local) (tk : List (List ℕ)) (ins : Bool) wher
                 U.1,
                 value_known j U.0 f b q (subst (λ w. faults S f (Value w) j ≡ []) U.1 fine) (subst (λ w. Part k es (term_types S (Value w) j)) U.1 inner_known),
                 at.known.wide_read (ap is_none none),
-                direct_source S j at.known.direct,
               )),
         )
     value_known (Unary op x) T f b user e p =

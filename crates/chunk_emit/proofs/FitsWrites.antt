@@ -46,7 +46,7 @@ cond_made false o op e = absurd cc
 past_made : (q : ℕ) (before : Op) (a : List ℕ) (base : Source) (t : Option Ty) (c : ℤ) (v : Source) (op : Op) → past_cast q before (Store a base t c v) ≡ Some op → v ≡ Made q
 past_made q (Cast s u x) a base t c v op e = made_same q v (cond_made (is_made q v) (Store a base t c x) op e)
 past_made q (Load b2 base2 ty d) a base t c v op e = absurd cc
-past_made q (Gather b2 base2 ty d y) a base t c v op e = absurd cc
+past_made q (Gather b2 base2 ty d u y) a base t c v op e = absurd cc
 past_made q (Apply o ty y) a base t c v op e = absurd cc
 past_made q (Combine o ty y z) a base t c v op e = absurd cc
 past_made q (Move left n ty y) a base t c v op e = absurd cc

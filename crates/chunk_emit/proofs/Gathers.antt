@@ -1,13 +1,12 @@
 -- The code of a read at a computed index does what the read does over the lanes of the chunk.
-use Rattle.std.proofs.Common.{◌≡◌, ℕ, zero, suc, ◌+◌, ◌%◌, ◌^◌, ◌<◌, ◌≤◌, ◌⊎◌, ℤ, pos, ◌+ℤ◌, ◌*ℤ◌, Bool, true, false, ◌&&◌, cond, List, [], ◌∷◌, length, Option, Some, None, Result, Ok, Err, refl, sym, ap, ap₂, ◌∙◌, subst, arith, inl, inr, get_or-set_same}
-use Rattle.std.specs.Prelude.{is_some, slice_index, slice_index_or, if◌then◌else◌}
+use Rattle.std.proofs.Common.{◌≡◌, ℕ, zero, suc, ◌+◌, ◌%◌, ◌^◌, ◌<◌, ◌≤◌, ℤ, pos, negsuc, ◌*ℤ◌, Bool, true, false, ◌&&◌, cond, List, [], ◌∷◌, length, Option, Some, None, refl, sym, ap, ap₂, ◌∙◌, subst, arith, inl, get_or-set_same}
+use Rattle.std.specs.Prelude.{is_some, nat_eq, slice_index, slice_index_or, if◌then◌else◌}
 use Rattle.std.proofs.lemmas.Bool.{ne_eqb, and_parts}
 use Rattle.std.proofs.Math.IntN.{*ℤ_comm}
 use Rattle.std.proofs.lemmas.Int.{ints}
-use Rattle.guest_types.specs.declared.length.Width.{Width}
 use Rattle.guest_types.specs.declared.length.Width.TheVariants.{D}
 use Rattle.guest_types.specs.declared.operation.ShiftOp.TheVariants as shifts
-use Rattle.guest_types.specs.Length.{width_bits, width_bytes, modulus, lanes}
+use Rattle.guest_types.specs.Length.{width_bytes, modulus, lanes}
 use Rattle.guest_types.specs.Memory.{can_read, first_fault, number_at}
 use Rattle.guest_types.specs.Elements.{at, active, register, first_true, both}
 use Rattle.guest_types.specs.Lanes.{shift_at, shifted}
@@ -20,36 +19,37 @@ use Rattle.kernel_tree.specs.Wrap.{wrap, bits_of}
 use Rattle.kernel_meaning.specs.Operators.{word}
 use Rattle.kernel_meaning.specs.Eval.{address, byte_count}
 use Rattle.kernel_meaning.proofs.Residues.{word-add}
+use Rattle.kernel_meaning.proofs.TypeRanges.{wrap-of, of-fits}
 use Rattle.machine_model.specs.declared.outcome.StopKind.TheVariants.{Read}
-use Rattle.sve_code.specs.Table.{lsl_imm}
+use Rattle.sve_code.specs.Table.{lsl_imm, uxtb, uxth}
 use Rattle.machine_model.specs.Arithmetic.{sum}
-use Rattle.machine_model.specs.InstructionTable.{Vector}
 use Rattle.machine_model.specs.Machine.{State, Step, x_at, x_or_sp, z_at, with_z, p_at, next}
 use Rattle.machine_model.specs.States.{IsState}
 use Rattle.machine_model.specs.VectorEffects.{do_vector, after_load}
 use Rattle.machine_model.proofs.StateSteps.{load_put}
 use Rattle.label_fix.specs.DraftRun.{Entry, Laid}
-use Rattle.label_fix.specs.Stretches.{Goes, Stops}
-use Rattle.label_fix.proofs.StretchSteps.{stay, put_goes, put_stops}
-use Rattle.chunk_order.specs.Orders.{Lane, Lanes, Act, Out, column}
+use Rattle.label_fix.specs.Stretches.{Stops}
+use Rattle.label_fix.proofs.StretchSteps.{put_goes, put_stops}
+use Rattle.vector_order.specs.Orders.{Lane, Lanes, Act, Out, column}
 use Rattle.loop_form.specs.declared.loop_item.Source.{Source}
 use Rattle.loop_form.specs.declared.loop_item.Source.TheVariants.{Outer}
 use Rattle.loop_form.specs.LoopItems.{Gather}
 use Rattle.loop_form.specs.Reaches.{reach_of_type}
-use Rattle.chunk_order.specs.Items.{nth_value, source_value, with_value, on_mask, index_value}
+use Rattle.vector_order.specs.Operands.{nth_value, source_value, with_value, on_mask, index_value}
 use Rattle.vector_order.specs.Items.{item_act}
-use Rattle.vector_order.proofs.NamesTyped.{InReach, narrow_of, index_kept}
-use Rattle.lane_emit.specs.Right.{ZRight}
+use Rattle.lane_emit.specs.Right.{IsOf, ZRight, fits}
 use Rattle.lane_emit.specs.Stretch.{Word, do_all, OnlyZ, Ready, MakesZ}
-use Rattle.lane_emit.specs.LaneCode.{shift_word}
+use Rattle.lane_emit.specs.Stretch as stretch
+use Rattle.lane_emit.specs.LaneCode.{size_of, shift_word}
 use Rattle.lane_emit.specs.ItemCode.{mask_register, operand, OperandRight}
 use Rattle.lane_emit.proofs.Residues.{held, lsl-held}
 use Rattle.lane_emit.proofs.Shifts.{lsl_does}
-use Rattle.lane_emit.proofs.Stretches.{only_same, only_then, only_wrote, lanes_z, done_z}
+use Rattle.lane_emit.proofs.CopyCode.{extend_z}
+use Rattle.lane_emit.proofs.Stretches.{ready_then, only_same, only_then, only_wrote, lanes_z, done_z}
 use Rattle.chunk_emit.specs.Registers.{Layout, z_of, IsValueUsed}
-use Rattle.chunk_emit.specs.ChunkCode.{dtype_of, memory_size, gather_word, gather_by, op_words, vectors, puts}
+use Rattle.chunk_emit.specs.ChunkCode.{dtype_of, memory_size, gather_word, gather_by, reach_type, cut_reach, cut_word, gather_code, op_words, vectors, puts}
 use Rattle.chunk_emit.specs.Chunk.{Setting, chunk_of, count_of, Holds}
-use Rattle.chunk_emit.specs.Fits.{Assigned, FitsMask, FitsIndex, MakesValue}
+use Rattle.chunk_emit.specs.Fits.{Assigned, IsReach, FitsOperand, FitsMask, MakesValue}
 use Rattle.chunk_emit.specs.ItemsRun.{Does, does_fine, does_fail}
 use Rattle.chunk_emit.proofs.DraftVectors.{do_goes}
 use Rattle.chunk_emit.proofs.ItemLanes.{first_short, first_holds, lane_out, Own, OwnColumn, own_fine, own_fail, own_column}
@@ -105,6 +105,59 @@ few_shift ty.U32 = omega arith
 few_shift ty.I64 = omega arith
 few_shift ty.U64 = omega arith
 
+-- ---- the reach of an index
+
+-- an index with a reach is taken modulo it, as a value of the type that has the reach
+wraps_byte : (z : ℤ) → index_value (Some 256) z ≡ wrap ty.U8 z
+wraps_byte (pos z) = refl
+wraps_byte (negsuc z) = refl
+
+wraps_half : (z : ℤ) → index_value (Some 65536) z ≡ wrap ty.U16 z
+wraps_half (pos z) = refl
+wraps_half (negsuc z) = refl
+
+reach_wraps : (n : ℕ) → IsReach (Some n) → (z : ℤ) → index_value (Some n) z ≡ wrap (reach_type n) z
+reach_wraps n h z = by h.0 h.1
+  where
+    by : (o : Option Ty) → Some n ≡ reach_of_type o → index_value (Some n) z ≡ wrap (reach_type n) z
+    by None e = absurd cc
+    by (Some ty.U8) e = let same : 256 ≡ n = cc in subst (λ k. index_value (Some k) z ≡ wrap (reach_type k) z) same (wraps_byte z)
+    by (Some ty.U16) e = let same : 65536 ≡ n = cc in subst (λ k. index_value (Some k) z ≡ wrap (reach_type k) z) same (wraps_half z)
+    by (Some ty.I8) e = absurd cc
+    by (Some ty.I16) e = absurd cc
+    by (Some ty.I32) e = absurd cc
+    by (Some ty.U32) e = absurd cc
+    by (Some ty.I64) e = absurd cc
+    by (Some ty.U64) e = absurd cc
+
+-- an index that is not cut is below its reach
+uncut : (r : Option ℕ) (U : Ty) → IsReach r → cut_reach r U ≡ None → (z : ℤ) → IsOf U z → index_value r z ≡ z
+uncut None U h e z of = refl
+uncut (Some n) U h e z of = reach_wraps n h z ∙ wrap-of (reach_type n) z (of-fits U (reach_type n) z (fitting (fits U (reach_type n)) e) of)
+  where
+    fitting : (b : Bool) → (if b then None else Some n) ≡ None → b ≡ true
+    fitting true e = refl
+    fitting false e = absurd cc
+
+-- one that is cut is cut to its reach
+cut_same : (r : Option ℕ) (U : Ty) (n : ℕ) → cut_reach r U ≡ Some n → r ≡ Some n
+cut_same None U n e = absurd cc
+cut_same (Some k) U n e = by (fits U (reach_type k)) e
+  where
+    by : (b : Bool) → (if b then None else Some k) ≡ Some n → Some k ≡ Some n
+    by true e = absurd cc
+    by false e = e
+
+-- the word that cuts it
+cut_z : {s : State} (n d a : ℕ) {k : ℕ} (u : ℕ → ℤ) → Ready D k s → d < 32 → a < 32 → ZRight D k (z_at s a) u → MakesZ (cut_word n d a ∷ []) s d D k (λ e. wrap (reach_type n) (u e))
+cut_z {s = s} n d a {k = k} u r ld la right = by (nat_eq n 256)
+  where
+    by : (b : Bool) → MakesZ (stretch.word (if b then uxtb else uxth) (d ∷ a ∷ 1 ∷ size_of D ∷ []) ∷ []) s d D k (λ e. wrap (if b then ty.U8 else ty.U16) (u e))
+    by true = extend_z ty.U8 d a D u r ld la right (omega arith)
+    by false = extend_z ty.U16 d a D u r ld la right (omega arith)
+
+-- ---- offsets
+
 times_one : (v : ℤ) → v *ℤ pos 1 ≡ v
 times_one v = omega (arith, ints)
 
@@ -112,12 +165,12 @@ times_one v = omega (arith, ints)
 offset_is : (t : Ty) (v : ℤ) → v *ℤ pos (2 ^ memory_size t) ≡ pos (byte_count t) *ℤ v
 offset_is t v = ap (λ n. v *ℤ pos n) (byte_shift t) ∙ *ℤ_comm v (pos (byte_count t))
 
-module _ (l : Layout) (fit : Assigned l) (f : Setting) (d : Laid) (rest : List Entry) (p : ℕ) (t : Lanes) (mask : Option ℕ) (fm : FitsMask l p mask) (a : List ℕ) (x : ℕ) (ty : Ty) (reach : Option ℕ) (y : Source) (low : x < 8) (based : slice_index f.x x ≡ word (nth_value f.names x)) (wide : f.w ≡ D) (makes : MakesValue l p ty) (used : IsValueUsed l p) where
+module _ (l : Layout) (fit : Assigned l) (f : Setting) (d : Laid) (rest : List Entry) (p : ℕ) (t : Lanes) (mask : Option ℕ) (fm : FitsMask l p mask) (a : List ℕ) (x : ℕ) (ty : Ty) (reach : Option ℕ) (U : Ty) (y : Source) (low : x < 8) (based : slice_index f.x x ≡ word (nth_value f.names x)) (wide : f.w ≡ D) (makes : MakesValue l p ty) (used : IsValueUsed l p) where
   abbrev m : ℕ
   m = mask_register l.registers mask
 
   abbrev act : Act
-  act = item_act f.names (record { item = p; mask = mask; op = Gather a (Outer x) (Some ty) reach y })
+  act = item_act f.names (record { item = p; mask = mask; op = Gather a (Outer x) (Some ty) reach (Some U) y })
 
   abbrev form : LoadForm
   form = load_form (dtype_of ty D)
@@ -150,8 +203,12 @@ module _ (l : Layout) (fit : Assigned l) (f : Setting) (d : Laid) (rest : List E
   abbrev index : ℕ → ℤ
   index e = operand (chunk_of f t) y e
 
+  -- the element that a lane reads
+  abbrev element : ℕ → ℤ
+  element e = index_value reach (index e)
+
   -- from state u, after the word that makes the offsets in register o
-  module _ (s : State) (h : Holds l f p t s) (kept : (e : ℕ) → e < f.n → index_value reach (index e) ≡ index e) (u : State) (u_is : IsState u) (only : OnlyZ (z_of l p) s u) (o : ℕ) (offsets : ZRight D f.n (z_at u o) (λ e. pos (byte_count ty) *ℤ index e)) where
+  module _ (s : State) (h : Holds l f p t s) (u : State) (u_is : IsState u) (only : OnlyZ (z_of l p) s u) (o : ℕ) (offsets : ZRight D f.n (z_at u o) (λ e. pos (byte_count ty) *ℤ element e)) where
     is : IsForm ty D
     is = is_form ty D (most_bits ty)
 
@@ -194,8 +251,7 @@ module _ (l : Layout) (fit : Assigned l) (f : Setting) (d : Laid) (rest : List E
     spot_is : (e : ℕ) → e < f.n → spot e ≡ place (f.i + e) (t.lane (f.i + e))
     spot_is e lt =
         ap₂ sum base_is (offsets e lt)
-        ∙ sym (word-add (nth_value f.names x) (pos (byte_count ty) *ℤ index e))
-        ∙ ap (λ z. address ty (nth_value f.names x) z) (sym (kept e lt))
+        ∙ sym (word-add (nth_value f.names x) (pos (byte_count ty) *ℤ element e))
 
     fault_is : (e : ℕ) → e < f.n → lane_fault form u.memory spot e ≡ fault (f.i + e) (t.lane (f.i + e))
     fault_is e lt = ap (λ mem. first_fault (can_read mem) (spot e) (width_bytes form.memory)) memory_is ∙ ap₂ (first_fault (can_read t.memory)) (spot_is e lt) is.memory
@@ -247,28 +303,33 @@ module _ (l : Layout) (fit : Assigned l) (f : Setting) (d : Laid) (rest : List E
     pub gather_from : Does l f d (puts (vectors (gather_word ty (z_of l p) m x o ∷ [])) rest) u rest (p + 1) 1 (column act f.n f.i t)
     gather_from = ends (first_true test f.n 0) short cols
 
-  pub gather_runs : FitsIndex l p reach y → {s : State} → Holds l f p t s → Does l f d (puts (op_words f.w l p m (Gather a (Outer x) (Some ty) reach y)) rest) s rest (p + 1) (length (op_words f.w l p m (Gather a (Outer x) (Some ty) reach y))) (column act f.n f.i t)
-  gather_runs k {s = s} h = by (memory_size ty) refl
-    where
-      right : OperandRight (chunk_of f t) l.registers s k.0 y
-      right = operand_right h fit k.0 y (k.1, subst (λ w. bits_of k.0 ≤ width_bits w) (sym wide) k.2)
+  -- the shift and the read, from a state in which a register has the elements
+  by_shift : {s : State} → Holds l f p t s → (v : State) → IsState v → OnlyZ (z_of l p) s v → (o : ℕ) → ZRight D f.n (z_at v o) element → (k : ℕ) → memory_size ty ≡ k
+      → Does l f d (puts (vectors (gather_by k ty (z_of l p) m x o)) rest) v rest (p + 1) (length (vectors (gather_by k ty (z_of l p) m x o))) (column act f.n f.i t)
+  by_shift {s = s} h v v_is only o right zero e =
+      gather_from s h v v_is only o (λ j lt. right j lt ∙ ap (held D) (sym (times_one (element j)) ∙ ap (λ n. element j *ℤ pos (2 ^ n)) (sym e) ∙ offset_is ty (element j)))
+  by_shift {s = s} h v v_is only o right (suc n) e =
+      let first : MakesZ (shift_word lsl_imm (z_of l p) o (64 + suc n) ∷ []) v (z_of l p) D f.n (λ j. element j *ℤ pos (2 ^ suc n)) = lanes_z {i = shift_word lsl_imm (z_of l p) o (64 + suc n)} {rest = []} D (shift_at shifts.Lsl D (z_at v o) (suc n)) (λ j. element j *ℤ pos (2 ^ suc n)) (ready_then (subst (λ w. Ready w f.n s) wide (ready h)) v_is only) (fit.z_small p) (lsl_does v (z_of l p) o D (suc n) (subst (λ c. c < 64) e (few_shift ty)))
+      (λ j lt. ap (λ b. shifted shifts.Lsl (modulus D) b (suc n)) (right j lt) ∙ lsl-held D (element j) (suc n)) (λ w w_is w_only w_right. done_z w_is w_right) in
+      does_after 2 refl (do_goes (shift_word lsl_imm (z_of l p) o (64 + suc n) ∷ []) v first.end first.runs)
+      (gather_from s h first.end first.is (only_then only first.only) (z_of l p) (λ j lt. first.right j lt ∙ ap (held D) (ap (λ n. element j *ℤ pos (2 ^ n)) (sym e) ∙ offset_is ty (element j))))
 
-      kept : (e : ℕ) → e < f.n → index_value reach (index e) ≡ index e
-      kept e lt = index_kept reach (index e) (in_reach k.3)
-        where
-          in_reach : (reach ≡ None) ⊎ (reach ≡ reach_of_type (Some k.0)) → InReach reach (index e)
-          in_reach (inl none) = subst (λ r. InReach r (index e)) (sym none) tt
-          in_reach (inr some) = subst (λ r. InReach r (index e)) (sym some) (narrow_of k.0 (index e) (right.typed e lt))
+  pub gather_runs : IsReach reach → FitsOperand l f.w p U y → {s : State} → Holds l f p t s
+      → Does l f d (puts (op_words f.w l p m (Gather a (Outer x) (Some ty) reach (Some U) y)) rest) s rest (p + 1) (length (op_words f.w l p m (Gather a (Outer x) (Some ty) reach (Some U) y))) (column act f.n f.i t)
+  gather_runs reached k {s = s} h = by (cut_reach reach U) refl
+    where
+      right : OperandRight (chunk_of f t) l.registers s U y
+      right = operand_right h fit U y k
 
       whole : ZRight D f.n (z_at s (l.registers.source y)) index
       whole = subst (λ w. ZRight w f.n (z_at s (l.registers.source y)) index) wide right.right
 
-      by : (k : ℕ) → memory_size ty ≡ k → Does l f d (puts (vectors (gather_by k ty (z_of l p) m x (l.registers.source y))) rest) s rest (p + 1) (length (vectors (gather_by k ty (z_of l p) m x (l.registers.source y)))) (column act f.n f.i t)
-      by zero e =
-          gather_from s h kept s h.is (only_same (z_of l p) s) (l.registers.source y)
-          (λ j lt. whole j lt ∙ ap (held D) (sym (times_one (index j)) ∙ ap (λ n. index j *ℤ pos (2 ^ n)) (sym e) ∙ offset_is ty (index j)))
-      by (suc n) e =
-          let first : MakesZ (shift_word lsl_imm (z_of l p) (l.registers.source y) (64 + suc n) ∷ []) s (z_of l p) D f.n (λ j. index j *ℤ pos (2 ^ suc n)) = lanes_z {i = shift_word lsl_imm (z_of l p) (l.registers.source y) (64 + suc n)} {rest = []} D (shift_at shifts.Lsl D (z_at s (l.registers.source y)) (suc n)) (λ j. index j *ℤ pos (2 ^ suc n)) (subst (λ w. Ready w f.n s) wide (ready h)) (fit.z_small p) (lsl_does s (z_of l p) (l.registers.source y) D (suc n) (subst (λ c. c < 64) e (few_shift ty)))
-          (λ j lt. ap (λ b. shifted shifts.Lsl (modulus D) b (suc n)) (whole j lt) ∙ lsl-held D (index j) (suc n)) (λ v v_is v_only v_right. done_z v_is v_right) in
-          does_after 2 refl (do_goes (shift_word lsl_imm (z_of l p) (l.registers.source y) (64 + suc n) ∷ []) s first.end first.runs)
-          (gather_from s h kept first.end first.is first.only (z_of l p) (λ j lt. first.right j lt ∙ ap (held D) (ap (λ n. index j *ℤ pos (2 ^ n)) (sym e) ∙ offset_is ty (index j))))
+      by : (o : Option ℕ) → cut_reach reach U ≡ o → Does l f d (puts (vectors (gather_code ty o (z_of l p) m x (l.registers.source y))) rest) s rest (p + 1) (length (vectors (gather_code ty o (z_of l p) m x (l.registers.source y)))) (column act f.n f.i t)
+      by None e =
+          by_shift h s h.is (only_same (z_of l p) s) (l.registers.source y) (λ j lt. whole j lt ∙ ap (held D) (sym (uncut reach U reached e (index j) (right.typed j lt)))) (memory_size ty) refl
+      by (Some n) e =
+          let mine : reach ≡ Some n = cut_same reach U n e in
+          let near : IsReach (Some n) = subst IsReach mine reached in
+          let first : MakesZ (cut_word n (z_of l p) (l.registers.source y) ∷ []) s (z_of l p) D f.n (λ j. wrap (reach_type n) (index j)) = cut_z n (z_of l p) (l.registers.source y) index (subst (λ w. Ready w f.n s) wide (ready h)) (fit.z_small p) right.number whole in
+          does_after (suc (length (vectors (gather_by (memory_size ty) ty (z_of l p) m x (z_of l p))))) (omega arith) (do_goes (cut_word n (z_of l p) (l.registers.source y) ∷ []) s first.end first.runs)
+          (by_shift h first.end first.is first.only (z_of l p) (λ j lt. first.right j lt ∙ ap (held D) (sym (reach_wraps n near (index j)) ∙ ap (λ r. index_value r (index j)) (sym mine))) (memory_size ty) refl)

@@ -25,9 +25,9 @@ use Rattle.machine_model.proofs.StateSteps.{load_put}
 use Rattle.label_fix.specs.DraftRun.{Entry, Laid}
 use Rattle.label_fix.specs.Stretches.{Goes, Stops}
 use Rattle.label_fix.proofs.StretchSteps.{put_goes, put_stops, chain, stop_after}
-use Rattle.chunk_order.specs.Orders.{Lane, Lanes, Keeps, Act, Out, done, column}
+use Rattle.vector_order.specs.Orders.{Lane, Lanes, Keeps, Act, Out, done, column}
 use Rattle.loop_form.specs.declared.loop_item.Source.TheVariants.{Outer}
-use Rattle.chunk_order.specs.Items.{nth_value, with_value, on_mask, load_effect}
+use Rattle.vector_order.specs.Operands.{nth_value, with_value, on_mask, load_effect}
 use Rattle.loop_form.specs.LoopItems.{Load}
 use Rattle.vector_order.specs.Items.{item_act}
 use Rattle.lane_emit.specs.Right.{IsOf}

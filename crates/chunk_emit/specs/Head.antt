@@ -16,15 +16,14 @@ use Rattle.reg_assign.specs.declared.interval.RegClass.TheVariants.{Z, P}
 use Rattle.reg_assign.specs.Registers.{Assignment}
 use Rattle.loop_form.specs.declared.loop_item.Source.{Source}
 use Rattle.loop_form.specs.declared.loop_item.Source.TheVariants.{LoopIndex}
-use Rattle.loop_form.specs.Entries.{loop_entries}
 use Rattle.loop_form.specs.Lanes.{lane_width_of}
 use Rattle.loop_form.specs.Registers.{FitsKernel}
 use Rattle.dependence.specs.Apart.{bound_place}
 use Rattle.dependence.specs.Classes.{class_of}
 use Rattle.dependence.specs.declared.reason.Class.TheVariants.{Vector}
-use Rattle.chunk_order.specs.Apart.{StreamsApart}
-use Rattle.chunk_order.specs.Items.{nth_value, source_value}
-use Rattle.chunk_order.specs.Orders.{Lane}
+use Rattle.vector_order.specs.Apart.{StreamsApart}
+use Rattle.vector_order.specs.Operands.{nth_value, source_value}
+use Rattle.vector_order.specs.Orders.{Lane}
 use Rattle.vector_order.specs.Order.{Steady}
 use Rattle.lane_emit.specs.Right.{IsOf, ZRight, PRight}
 use Rattle.reductions.specs.Joins.{joined}
@@ -32,7 +31,6 @@ use Rattle.reductions.specs.Folds.{together}
 use Rattle.reductions.specs.AccumulatorLanes.{LanesHold}
 use Rattle.chunk_emit.specs.Registers.{Layout}
 use Rattle.chunk_emit.specs.KernelLayout.{layout_of_loop}
-use Rattle.chunk_emit.specs.LoopFits.{AreDirect}
 
 -- What a loop runs over, and what stays while it does: the kernel and its loop, the registers of its vector and predicate
 -- intervals, the arguments and the memory at the start of the run, the names as the loop begins, the vector length, and what
@@ -69,7 +67,6 @@ pub record IsGround (g : Ground) : Type 0 where
   pub sound : check_fault g.kernel ≡ None
   pub loops : g.kernel.turns ≡ Some g.turns
   pub vector : class_of g.kernel ≡ Vector
-  pub direct : AreDirect (loop_entries g.kernel)
   pub apart : StreamsApart g.kernel g.args
   pub begins : started g.kernel g.args g.start ≡ Some g.names
   pub z_fits : FitsKernel g.kernel Z g.vectors

@@ -1,16 +1,15 @@
 -- What the registers of a kernel's intervals give to the code of its loop.
 use Rattle.std.specs.Prelude.{◌≡◌, ℕ, ◌+◌, ◌≤◌, List, [], ◌∷◌, Some, slice_index}
 use Rattle.kernel_tree.specs.declared.ops.Ty.{Ty}
-use Rattle.kernel_tree.specs.Plain.{Term, Conversion, Program}
+use Rattle.kernel_tree.specs.Plain.{Program}
 use Rattle.kernel_meaning.specs.Operators.{word}
 use Rattle.reg_assign.specs.declared.interval.RegClass.TheVariants.{Z, P}
 use Rattle.reg_assign.specs.Registers.{Assignment}
-use Rattle.loop_form.specs.Entries.{Content, IsRead, Entry}
 use Rattle.loop_form.specs.Lanes.{lane_width_of}
 use Rattle.loop_form.specs.LoopItems.{Op, Load, Gather, Apply, Combine, Move, Cast, Copy, Pick, Store, Add, Test, Invert, Same, Any, Quit, Item}
 use Rattle.loop_form.specs.Registers.{FitsKernel}
 use Rattle.loop_form.specs.Streams.{type_of_place}
-use Rattle.chunk_order.specs.Items.{nth_value}
+use Rattle.vector_order.specs.Operands.{nth_value}
 use Rattle.chunk_emit.specs.Registers.{Layout}
 use Rattle.chunk_emit.specs.Chunk.{Setting}
 use Rattle.chunk_emit.specs.Fits.{Assigned, FitsTruth, FitsMask, FitsOp, FitsCast, MakesNothing, NoneBetween}
@@ -23,19 +22,6 @@ LayoutAssigned = (k : Program) (a b : Assignment) → FitsKernel k Z a → FitsK
 
 -- ---- the items of a loop with breaks
 
--- an index that is no cast
-abbrev pub IsDirect : Term → Type 0
-IsDirect (Conversion e t) = ⊥
-IsDirect e = Unit {0}
-
-abbrev pub IsDirectRead : Content → Type 0
-IsDirectRead (IsRead a j) = IsDirect j
-IsDirectRead _ = Unit {0}
-
-abbrev pub AreDirect : List Entry → Type 0
-AreDirect [] = Unit {0}
-AreDirect (e ∷ es) = IsDirectRead e.content × AreDirect es
-
 -- a setting of a kernel's loop: the width of its lanes, and the addresses of its arrays in the registers of their parameters
 pub record FitsSetting (k : Program) (f : Setting) : Type 0 where
   pub width : f.w ≡ lane_width_of k
@@ -45,7 +31,7 @@ pub record FitsSetting (k : Program) (f : Setting) : Type 0 where
 abbrev pub FitsStep : Layout → Setting → ℕ → Op → Type 0
 FitsStep l f p (Quit c) = FitsTruth l p c × MakesNothing l p
 FitsStep l f p (Load a base t c) = FitsOp l f p (Load a base t c)
-FitsStep l f p (Gather a base t r x) = FitsOp l f p (Gather a base t r x)
+FitsStep l f p (Gather a base t r u x) = FitsOp l f p (Gather a base t r u x)
 FitsStep l f p (Apply op t x) = FitsOp l f p (Apply op t x)
 FitsStep l f p (Combine op t x y) = FitsOp l f p (Combine op t x y)
 FitsStep l f p (Move left n t x) = FitsOp l f p (Move left n t x)

@@ -14,7 +14,7 @@ IsPlace base c = (base_of base < 32) × (unsigned_abs c < 4096)
 -- a stored type is no wider than the lanes
 abbrev pub IsWritable : Width → Op → Type 0
 IsWritable w (Load a base (Some t) c) = IsPlace base c
-IsWritable w (Gather a base (Some t) reach x) = base_of base < 32
+IsWritable w (Gather a base (Some t) reach (Some u) x) = base_of base < 32
 IsWritable w (Store a base (Some t) c v) = IsPlace base c × (memory_size t ≤ size_of w)
 IsWritable w _ = Unit {0}
 

@@ -14,11 +14,14 @@ ghost use Rattle.chunk_emit.specs.ChunkCode as code;
 
 use a64_code::{A64, AddSubOp, Reg};
 use guest_types::length::Width;
+use kernel_meaning::fits;
 use kernel_tree::Ty;
 use label_fix::Word;
-use lane_emit::size;
+use lane_emit::{extend_byte, extend_halfword, size};
 use loop_form::Source;
-use sve_code::{Dtype, GatherOp, GoverningReg, OffsetReg, Size, StoreSizes, Sve, VectorReg};
+use sve_code::{
+    Dtype, ExtendOp, GatherOp, GoverningReg, OffsetReg, Size, StoreSizes, Sve, VectorReg,
+};
 use word_rows::Bits;
 
 // ---- general registers
@@ -223,6 +226,26 @@ fn gather_op(ty: Ty) -> GatherOp
         Ty::I32 => GatherOp::Ld1sw,
         Ty::U32 => GatherOp::Ld1w,
         Ty::I64 | Ty::U64 => GatherOp::Ld1d,
+    }
+}
+
+/// The reach to which an index of a type is cut first, where the type has values past it.
+pub fn cut_reach(reach: Option<u32>, ty: Ty) -> Option<u32>
+    ensures { result ≡ code.cut_reach reach ty }
+{
+    let reach = reach?;
+    let narrow = if reach == 256 { Ty::U8 } else { Ty::U16 };
+    if fits(ty, narrow) { None } else { Some(reach) }
+}
+
+/// An index modulo its reach, which is 256 or 65,536.
+pub fn cut(reach: u32, d: VectorReg, index: VectorReg) -> Word
+    ensures { word_view result ≡ Vector (code.cut_word reach d.number index.number) }
+{
+    if reach == 256 {
+        Word::V(extend_byte(ExtendOp::Unsigned, Width::D, d, index))
+    } else {
+        Word::V(extend_halfword(ExtendOp::Unsigned, Width::D, d, index))
     }
 }
 

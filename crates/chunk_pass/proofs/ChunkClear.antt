@@ -25,9 +25,9 @@ use Rattle.loop_form.proofs.ArrayNames.{head_fits}
 use Rattle.dependence.specs.declared.reason.Class.TheVariants.{Vector}
 use Rattle.dependence.specs.Classes.{carried, class_of}
 use Rattle.dependence.proofs.ClassLaws.{class_facts}
-use Rattle.chunk_order.specs.Orders.{ClearWithin}
-use Rattle.chunk_order.specs.Apart.{StreamsApartBy, StreamsApart}
-use Rattle.chunk_order.proofs.ArrayParameters.{started_bases}
+use Rattle.vector_order.specs.Orders.{ClearWithin}
+use Rattle.vector_order.specs.Apart.{StreamsApartBy, StreamsApart}
+use Rattle.vector_order.proofs.ArrayParameters.{started_bases}
 use Rattle.vector_order.specs.Items.{acts_of}
 use Rattle.vector_order.specs.Order.{is_accumulator}
 use Rattle.vector_order.proofs.Accesses.{item_stream, block_streams}
@@ -39,7 +39,7 @@ use Rattle.vector_order.proofs.VectorKernels.{AllOk, all_ok, ready_block}
 use Rattle.vector_order.proofs.Sites.{block_sited}
 use Rattle.vector_order.proofs.Calms.{AllCalm, block_calm}
 use Rattle.vector_order.proofs.ReadFacts.{calm_body}
-use Rattle.chunk_order.proofs.Clears.{Calm}
+use Rattle.vector_order.proofs.ElementClears.{Calm}
 use Rattle.vector_order.proofs.Touches.{AllSited}
 use Rattle.vector_order.proofs.NamesHeld.{append_nothing}
 

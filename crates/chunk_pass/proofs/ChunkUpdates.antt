@@ -11,7 +11,7 @@ use Rattle.loop_form.specs.declared.loop_item.Source.{Source}
 use Rattle.loop_form.specs.Entries.{Entry, IsPlain, entry, term_entries, action_entries, block_entries, otherwise_entries, turns_entries, loop_entries}
 use Rattle.loop_form.specs.LoopItems.{Bound, array_type, Op, Add, Item, truth_home, load_item, gather_item, term_items, cond_items, store_item, accumulator_of, after_env, action_items, block_items, otherwise_items, loop_env, loop_items}
 use Rattle.loop_form.specs.Needs.{updates}
-use Rattle.chunk_order.proofs.Accesses.{or_false}
+use Rattle.vector_order.proofs.OneAccess.{or_false}
 
 abbrev pub adds : List ℕ → Op → Bool
 adds x (Add y op t v) = bytes_eq y x

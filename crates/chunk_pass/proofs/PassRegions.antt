@@ -15,7 +15,7 @@ use Rattle.machine_model.specs.Machine.{State}
 use Rattle.label_fix.specs.DraftRun.{Entry, Laid}
 use Rattle.label_fix.specs.Stretches.{Leads}
 use Rattle.loop_form.specs.LoopItems.{Item}
-use Rattle.chunk_order.specs.Orders.{Lane, Lanes, Out, Fine, Fail, go_on, column, by_item}
+use Rattle.vector_order.specs.Orders.{Lane, Lanes, Out, Fine, Fail, go_on, column, by_item}
 use Rattle.vector_order.specs.Items.{item_act, acts_of}
 use Rattle.chunk_emit.specs.ChunkCode.{items_words}
 use Rattle.chunk_emit.specs.Chunk.{Setting, Holds}
@@ -93,7 +93,7 @@ module _
   begun = setting g i n sum s.x s.stops
 
   pub fits_at : (k : ℕ) (stop : StopList) → LoopFits g.kernel g.turns g.vectors g.predicates (setting g i k sum s.x stop)
-  fits_at k stop = fits g.kernel g.turns g.vectors g.predicates (setting g i k sum s.x stop) ground.sound ground.loops ground.vector ground.direct ground.few (as_spelled g.kernel g.turns ground.spelled ground.loops).outer ground.z_fits ground.p_fits (fits_setting g k stop ground h)
+  fits_at k stop = fits g.kernel g.turns g.vectors g.predicates (setting g i k sum s.x stop) ground.sound ground.loops ground.vector ground.few (as_spelled g.kernel g.turns ground.spelled ground.loops).outer ground.z_fits ground.p_fits (fits_setting g k stop ground h)
 
   module _ (why : BlockEnd Names → ℕ → Type 0) (mode : Mode) (reasons : Reasons g i n cur m why mode) (most : ℕ) {code inner : List Entry} {from : State} {a b : ℕ} (before : Leads d code from inner s a)
       (le : a + b + (length (items_words (width g) (layout g) (rest_of (items_of g))) + 1) ≤ most) (holds : Holds (layout g) begun (loop_start g.kernel + 1) (blank_lanes m) s) where

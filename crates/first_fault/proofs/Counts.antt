@@ -52,7 +52,7 @@ used_few mode l mask false code h = four mode 0 (omega arith)
 step_few : (mode : Mode) (w : Width) (l : Layout) (q : ℕ) (mask : Option ℕ) (op : Op) → length (step_words mode w l q mask op) ≤ most mode
 step_few mode w l q mask (Load a base (Some t) c) = by_mode mode _ (narrow_few l mask _ (1 + most_load mode) (index_few c _ (most_load mode) (load_few mode w l q mask t (base_of base) (index_of c))))
 step_few mode w l q mask (Load a base None c) = used_few mode l mask (is_used l (Load a base None c) q) _ (few_words w l (item q mask (Load a base None c) ∷ []))
-step_few mode w l q mask (Gather a base t reach x) = none_few mode l mask (is_used l (Gather a base t reach x) q)
+step_few mode w l q mask (Gather a base t reach u x) = none_few mode l mask (is_used l (Gather a base t reach u x) q)
   where
     none_few : (mode : Mode) (l : Layout) (mask : Option ℕ) (b : Bool) → length (if b then narrow_words l mask [] else []) ≤ most mode
     none_few mode l mask true = four mode _ (narrow_few l mask [] 3 (omega arith))

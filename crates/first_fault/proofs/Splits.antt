@@ -15,9 +15,9 @@ use Rattle.loop_form.specs.declared.loop_item.Source.{Source}
 use Rattle.loop_form.specs.LoopItems.{Bound, array_type, Op, Load, Gather, gather_item, Apply, Combine, Move, Cast, Copy, Pick, Store, Add, Test, Invert, Same, Any, Quit, Item, truth_home, load_item, term_items, cond_items, store_item, accumulator_of, after_env, action_items, block_items, otherwise_items, loop_env, loop_items}
 use Rattle.dependence.specs.Classes.{write_content, break_content, computed_content, is_barred, computed_index, is_break, before_break}
 use Rattle.dependence.proofs.ClassLaws.{class_facts, gather_facts}
-use Rattle.chunk_order.specs.Orders.{Lane, Effect, Halts, Keeps, Writes}
-use Rattle.chunk_order.specs.Regions.{AllQuiet}
-use Rattle.chunk_order.specs.Items.{on_mask, load_effect}
+use Rattle.vector_order.specs.Orders.{Lane, Effect, Halts, Keeps, Writes}
+use Rattle.vector_order.specs.Regions.{AllQuiet}
+use Rattle.vector_order.specs.Operands.{on_mask, load_effect}
 use Rattle.vector_order.specs.Items.{op_effect, acts_of}
 use Rattle.first_fault.specs.Split.{quits, is_quit, writes, is_write, region_of, rest_of, RegionSplits}
 use Rattle.loop_form.specs.declared.item.ItemKind.TheVariants as kind
@@ -243,7 +243,7 @@ item_break (it ∷ items) = by it.op (item_break items)
   where
     by : (op : Op) → list_any is_quit items ≡ some_break (marks items) → (quits op || list_any is_quit items) ≡ some_break (put_mark (writes op) (quits op) (marks items))
     by (Load a base t c) h = h
-    by (Gather a base t r x) h = h
+    by (Gather a base t r u x) h = h
     by (Apply op t x) h = h
     by (Combine op t x y) h = h
     by (Move left n t x) h = h
@@ -275,7 +275,7 @@ only_one : (op : Op) → writes op ≡ true → quits op ≡ false
 only_one (Store a base t c v) e = refl
 only_one (Add x op t v) e = refl
 only_one (Load a base t c) e = refl
-only_one (Gather a base t r x) e = refl
+only_one (Gather a base t r u x) e = refl
 only_one (Apply op t x) e = refl
 only_one (Combine op t x y) e = refl
 only_one (Move left n t x) e = refl
@@ -329,7 +329,7 @@ quit_quiet false l = tt
 
 pub op_quiet : (names : Names) (q i : ℕ) (b : Bool) (m : Memory) (l : Lane) (op : Op) → writes op ≡ false → IsQuiet (op_effect op names q i b m l)
 op_quiet names q i b m l (Load a base t c) e = load_quiet l q b _ _
-op_quiet names q i b m l (Gather a base t r x) e = absurd cc
+op_quiet names q i b m l (Gather a base t r u x) e = absurd cc
 op_quiet names q i b m l (Apply op t x) e = tt
 op_quiet names q i b m l (Combine op t x y) e = tt
 op_quiet names q i b m l (Move left n t x) e = tt

@@ -13,7 +13,6 @@ use Rattle.reg_assign.specs.declared.interval.RegClass.TheVariants.{Z, P}
 use Rattle.reg_assign.specs.Registers.{Assignment}
 use Rattle.loop_form.specs.declared.loop_item.Source.{Source}
 use Rattle.loop_form.specs.declared.loop_item.Source.TheVariants.{Constant, Outer, LoopIndex, Made}
-use Rattle.loop_form.specs.Entries.{loop_entries}
 use Rattle.loop_form.specs.Lanes.{lane_width_of}
 use Rattle.loop_form.specs.LoopItems.{Op, Load, Gather, Apply, Combine, Move, Cast, Copy, Pick, Store, Add, Test, Invert, Same, Any, Quit, Item, loop_items, turns_items, loop_items_of}
 use Rattle.loop_form.specs.Registers.{FitsKernel}
@@ -25,7 +24,7 @@ use Rattle.chunk_emit.specs.ChunkCode.{memory_size}
 use Rattle.chunk_emit.specs.Chunk.{Setting}
 use Rattle.chunk_emit.specs.Fits.{FitsBase, FitsOp, FitsItems, IsNear}
 use Rattle.chunk_emit.specs.KernelLayout.{layout_of_loop}
-use Rattle.chunk_emit.specs.LoopFits.{AreDirect, FitsSetting}
+use Rattle.chunk_emit.specs.LoopFits.{FitsSetting}
 use Rattle.chunk_emit.specs.Writable.{IsPlace, IsWritable, AreWritable}
 use Rattle.first_fault.specs.Fits.{FitsStep, FitsRegion}
 use Rattle.first_fault.specs.KernelFits.{LoopFits, AsSpelled}
@@ -78,8 +77,9 @@ fits_general f (Made q) h = elim h [ ]
 op_writable : (l : Layout) (f : Setting) (p : ℕ) (op : Op) → FitsOp l f p op → IsWritable f.w op
 op_writable l f p (Load a base (Some t) c) h = fits_place f base c h.0 h.1
 op_writable l f p (Load a base None c) h = tt
-op_writable l f p (Gather a base (Some t) reach x) h = fits_general f base h.0
-op_writable l f p (Gather a base None reach x) h = tt
+op_writable l f p (Gather a base (Some t) reach (Some u) x) h = fits_general f base h.0
+op_writable l f p (Gather a base (Some t) reach None x) h = tt
+op_writable l f p (Gather a base None reach u x) h = tt
 op_writable l f p (Store a base (Some t) c v) h = (fits_place f base c h.0 h.1, narrow t f.w h.2.1)
 op_writable l f p (Store a base None c v) h = tt
 op_writable l f p (Apply op t x) h = tt
@@ -98,7 +98,7 @@ op_writable l f p (Quit c) h = tt
 step_writable : (l : Layout) (f : Setting) (p : ℕ) (mask : Option ℕ) (op : Op) → FitsStep l f p mask op → IsWritable f.w op
 step_writable l f p mask (Load a base (Some t) c) h = fits_place f base c h.0 h.1
 step_writable l f p mask (Load a base None c) h = tt
-step_writable l f p mask (Gather a base t reach x) h = elim h [ ]
+step_writable l f p mask (Gather a base t reach u x) h = elim h [ ]
 step_writable l f p mask (Store a base t c v) h = elim h [ ]
 step_writable l f p mask (Apply op t x) h = tt
 step_writable l f p mask (Combine op t x y) h = tt
@@ -134,15 +134,15 @@ pub record LoopWritable (k : Program) : Type 0 where
   pub region : AreWritable (lane_width_of k) (region_of (loop_items_of k))
   pub rest : AreWritable (lane_width_of k) (rest_of (loop_items_of k))
 
-pub loop_writable : (k : Program) (a b : Assignment) → check_fault k ≡ None → class_of k ≡ Vector → AreDirect (loop_entries k) → ((l : PlainLoop) → k.turns ≡ Some l → AsSpelled k l) → FitsKernel k Z a → FitsKernel k P b → LoopWritable k
-loop_writable k a b sound vector direct spelled fit_z fit_p = by k.turns refl
+pub loop_writable : (k : Program) (a b : Assignment) → check_fault k ≡ None → class_of k ≡ Vector → ((l : PlainLoop) → k.turns ≡ Some l → AsSpelled k l) → FitsKernel k Z a → FitsKernel k P b → LoopWritable k
+loop_writable k a b sound vector spelled fit_z fit_p = by k.turns refl
   where
     by : (o : Option PlainLoop) → k.turns ≡ o → LoopWritable k
     by None e = record { region = rw e tt; rest = rw e tt }
     by (Some l) e =
         let f : Setting = plain_setting k in
         let s : AsSpelled k l = spelled l e in
-        let fits : LoopFits k l a b f = kernel_fits k l a b f sound e vector direct s.few s.outer fit_z fit_p (plain_fits k) in
+        let fits : LoopFits k l a b f = kernel_fits k l a b f sound e vector s.few s.outer fit_z fit_p (plain_fits k) in
         let items : loop_items_of k ≡ loop_items k l = ap (turns_items k) e in
         record {
           region = subst (λ its. AreWritable (lane_width_of k) (region_of its)) (sym items) (region_writable (layout_of_loop k a b) f _ (region_of (loop_items k l)) fits.region);

@@ -8,7 +8,7 @@ use Rattle.chunk_emit.specs.Fits.{FitsOp, FitsMask, FitsTruth, MakesNothing, Non
 -- nothing is stored or updated, and a break stands at the top level
 abbrev pub FitsStep : Layout → Setting → ℕ → Option ℕ → Op → Type 0
 FitsStep l f p mask (Quit c) = (mask ≡ None) × FitsTruth l p c × MakesNothing l p
-FitsStep l f p mask (Gather a base t r x) = ⊥
+FitsStep l f p mask (Gather a base t r u x) = ⊥
 FitsStep l f p mask (Store a base t c v) = ⊥
 FitsStep l f p mask (Add x op t v) = ⊥
 FitsStep l f p mask op = FitsOp l f p op

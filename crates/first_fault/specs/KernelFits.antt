@@ -7,7 +7,6 @@ use Rattle.kernel_tree.specs.Typing.{check_fault}
 use Rattle.kernel_tree.specs.Items.{loop_start}
 use Rattle.reg_assign.specs.declared.interval.RegClass.TheVariants.{Z, P}
 use Rattle.reg_assign.specs.Registers.{Assignment}
-use Rattle.loop_form.specs.Entries.{loop_entries}
 use Rattle.loop_form.specs.LoopItems.{Item, loop_items}
 use Rattle.loop_form.specs.Registers.{FitsKernel}
 use Rattle.dependence.specs.Classes.{class_of}
@@ -15,7 +14,7 @@ use Rattle.dependence.specs.declared.reason.Class.TheVariants.{Vector}
 use Rattle.chunk_emit.specs.Chunk.{Setting}
 use Rattle.chunk_emit.specs.Fits.{FitsItems, following_items}
 use Rattle.chunk_emit.specs.KernelLayout.{layout_of_loop}
-use Rattle.chunk_emit.specs.LoopFits.{AreDirect, FitsSetting}
+use Rattle.chunk_emit.specs.LoopFits.{FitsSetting}
 use Rattle.first_fault.specs.Fits.{FitsRegion}
 use Rattle.first_fault.specs.Rest.{NoTruthLive}
 use Rattle.first_fault.specs.Split.{quits, region_of, rest_of}
@@ -37,7 +36,7 @@ is_inner_break it = quits it.op && is_some it.mask
 -- of kernels with at most eight parameters whose breaks stand in the loop's own block, as the grammar has it
 abbrev pub KernelFits : Type 0
 KernelFits =
-    (k : Program) (l : PlainLoop) (a b : Assignment) (f : Setting) → check_fault k ≡ None → k.turns ≡ Some l → class_of k ≡ Vector → AreDirect (loop_entries k) → length k.params ≤ 8 → list_any is_inner_break (loop_items k l) ≡ false → FitsKernel k Z a → FitsKernel k P b → FitsSetting k f → LoopFits k l a b f
+    (k : Program) (l : PlainLoop) (a b : Assignment) (f : Setting) → check_fault k ≡ None → k.turns ≡ Some l → class_of k ≡ Vector → length k.params ≤ 8 → list_any is_inner_break (loop_items k l) ≡ false → FitsKernel k Z a → FitsKernel k P b → FitsSetting k f → LoopFits k l a b f
 
 -- what the grammar says of a kernel
 pub record AsSpelled (k : Program) (l : PlainLoop) : Type 0 where

@@ -1,6 +1,6 @@
 -- Arrays that lie apart by the parameters that a loop uses lie apart by its accesses.
 use Rattle.std.proofs.Common.{◌≡◌, ◌≢◌, ℕ, zero, suc, ◌+◌, ◌≤◌, Bool, true, false, cond, List, [], ◌∷◌, ◌++◌, length, map, Option, Some, None, refl, sym, ap, ap₂, ◌∙◌, subst, arith, inl, inr, ⊎_elim}
-use Rattle.std.specs.Prelude.{ℤ, pos, ◌+ℤ◌, ◌*ℤ◌, ◌≤ℤ◌, ◌<ℤ◌, ◌⊎◌, ◌&&◌, ◌||◌, slice_index, drop, filter, max, nat_eq, if◌then◌else◌}
+use Rattle.std.specs.Prelude.{ℤ, pos, ◌+ℤ◌, ◌*ℤ◌, ◌≤ℤ◌, ◌<ℤ◌, ◌⊎◌, ◌&&◌, ◌||◌, slice_index, drop, filter, max, if◌then◌else◌}
 use Rattle.std.specs.List.{fold, list_any, list_all}
 use Rattle.std.specs.Int.{int_min, int_max}
 use Rattle.std.proofs.lemmas.Bool.{eqb-true, eq-eqb}
@@ -20,12 +20,11 @@ use Rattle.loop_form.specs.Reaches.{reaches_of}
 use Rattle.loop_form.specs.Lanes.{width_of}
 use Rattle.loop_form.specs.Streams.{streams_of, is_of, offsets_of, least_offset, greatest_offset, type_of_place, In}
 use Rattle.loop_form.proofs.StreamLaws.{in_any}
-use Rattle.dependence.specs.declared.used.Extent.{Extent}
 use Rattle.dependence.specs.declared.used.Extent.TheVariants as extent
 use Rattle.dependence.specs.declared.used.Used.{Used}
 use Rattle.dependence.specs.Apart.{is_stored, used_by, is_reach_of, most_reach, greatest_reach, with_reach, used_at, used_from, used_of, highest, bound_place, base_in, begin_in, end_in, IsBased, AreBased, PairApart, IsApartFrom, AreApart, is_store}
-use Rattle.chunk_order.specs.Items.{nth_value}
-use Rattle.chunk_order.specs.Apart.{is_store_of, one_array, size_of_type, place_size, base_of, begin_of, end_of, Within, IsBase, Among, Reached, OneUsed, Separate, StreamsApartBy, StreamsApart}
+use Rattle.vector_order.specs.Operands.{nth_value}
+use Rattle.vector_order.specs.Apart.{is_store_of, one_array, size_of_type, place_size, base_of, begin_of, end_of, Within, IsBase, Among, Reached, OneUsed, Separate, StreamsApartBy, StreamsApart}
 use Rattle.kernel_compile.proofs.ArrayStreams.{IsTyped, IsReadTyped}
 use Rattle.kernel_tree.specs.declared.ops.Ty.TheVariants as ty
 use Rattle.kernel_tree.specs.declared.ast.Shape.TheVariants as shape

@@ -13,7 +13,7 @@ use Rattle.kernel_tree.proofs.Scopes.{index_after, scope_index}
 use Rattle.loop_form.specs.declared.stream.Stream.{Stream}
 use Rattle.loop_form.specs.declared.reach.Reach.{Reach}
 use Rattle.loop_form.specs.Reaches.{read_reach, reached, reach_in, reach_at, reaches_of}
-use Rattle.chunk_order.specs.Apart.{Among}
+use Rattle.vector_order.specs.Apart.{Among}
 use Rattle.loop_form.specs.Entries.{Content, IsLiteral, IsName, IsRead, IsLet, IsStore, IsUpdate, IsPlain, Entry, inner_entries, term_entries, action_entries, block_entries, otherwise_entries, turns_entries, loop_entries}
 use Rattle.loop_form.specs.Streams.{place_of, access, access_of, stream_of, streams_of, type_of_place, In}
 use Rattle.loop_form.proofs.ArrayNames.{head_fits}

@@ -25,8 +25,8 @@ use Rattle.loop_form.specs.Lanes.{width_of}
 use Rattle.loop_form.specs.Streams.{place_from, streams_of, is_of, type_of_place}
 use Rattle.dependence.specs.declared.used.Used.{Used}
 use Rattle.dependence.specs.Apart.{is_reach_of, greatest_reach, with_reach, used_by, used_at, used_from, used_of, bound_in, bound_place}
-use Rattle.chunk_order.specs.Items.{nth_value}
-use Rattle.chunk_order.proofs.ArrayParameters.{started_bases}
+use Rattle.vector_order.specs.Operands.{nth_value}
+use Rattle.vector_order.proofs.ArrayParameters.{started_bases}
 use Rattle.overlap_guard.specs.Meets.{BasesHeld}
 use Rattle.scalar_emit.specs.Layout.{Homes}
 use Rattle.scalar_emit.specs.Kernel.{param_homes, var_homes, kernel_homes}

@@ -24,7 +24,6 @@ use Rattle.scalar_emit.specs.Kernel.{param_homes, var_homes, kernel_homes, regis
 use Rattle.scalar_emit.specs.Runs.{AreHeld, AtIteration}
 use Rattle.scalar_emit.proofs.AssignedOf.{counted-high}
 use Rattle.chunk_emit.specs.Head.{Ground, IsGround}
-use Rattle.chunk_emit.specs.LoopFits.{AreDirect}
 use Rattle.kernel_compile.proofs.ArrayStreams.{streams_typed, reaches_typed}
 use Rattle.kernel_compile.proofs.ApartBoth.{apart_both}
 use Rattle.kernel_compile.proofs.AtLoop.{params_held, bounded}
@@ -92,16 +91,15 @@ has_loop k e = by k.turns refl e
 abbrev pub ground_of : (k : Program) (l : PlainLoop) (a b : Assignment) (args : List ℕ) (m : Memory) (names : Names) (s : State) → Ground
 ground_of k l a b args m names s = record { kernel = k; turns = l; vectors = a; predicates = b; args = args; start = m; names = names; vl = s.vl; x = s.x }
 
-pub is_ground : (R : ℕ → ℕ) (k : Program) (l : PlainLoop) (a b : Assignment) (args : List ℕ) (m : Memory) (names : Names) (s : State) → ∥ IsTree k ∥₁ → check_fault k ≡ None → class_of k ≡ Vector → AreDirect (loop_entries k) → length k.params ≤ 8 → bound_place k ≤ 7 → FitsKernel k Z a → FitsKernel k P b → k.turns ≡ Some l
+pub is_ground : (R : ℕ → ℕ) (k : Program) (l : PlainLoop) (a b : Assignment) (args : List ℕ) (m : Memory) (names : Names) (s : State) → ∥ IsTree k ∥₁ → check_fault k ≡ None → class_of k ≡ Vector → length k.params ≤ 8 → bound_place k ≤ 7 → FitsKernel k Z a → FitsKernel k P b → k.turns ≡ Some l
     → All (λ arg. arg < 2 ^ 64) args → started k args m ≡ Some names → AtIteration R k 0 names m s → IsLength s.vl → by_use.Apart k args → IsGround (ground_of k l a b args m names s)
-is_ground R k l a b args m names s spelled sound vector direct few near z p loops small start at sized apart =
+is_ground R k l a b args m names s spelled sound vector few near z p loops small start at sized apart =
     let bound = bounded R k l args m names s sound loops small start at.held in
     record {
       spelled = spelled;
       sound = sound;
       loops = loops;
       vector = vector;
-      direct = direct;
       apart = apart_both k args l (streams_typed k sound) (reaches_typed k sound) loops bound.first apart;
       begins = start;
       z_fits = z;

@@ -20,7 +20,6 @@ use Rattle.kernel_meaning.specs.ScalarRun.{begun, started, scalar_run}
 use Rattle.kernel_meaning.proofs.RunsFrom.{start_within, whole_run}
 use Rattle.reg_assign.specs.declared.interval.RegClass.TheVariants.{X, Z, P}
 use Rattle.reg_assign.specs.Registers.{Assignment}
-use Rattle.loop_form.specs.Entries.{loop_entries}
 use Rattle.loop_form.specs.Lanes.{lane_width_of}
 use Rattle.loop_form.specs.Registers.{FitsKernel}
 use Rattle.dependence.specs.Apart.{Apart, bound_place}
@@ -37,12 +36,11 @@ use Rattle.scalar_emit.specs.Kernel.{scalar_code, register_in}
 use Rattle.scalar_emit.specs.Runs.{Frame, HasArguments, AtIteration, BeginRuns, Comes, faults_so, ScalarRuns}
 use Rattle.overlap_guard.specs.Guard.{guard_code}
 use Rattle.overlap_guard.specs.Meets.{Passes, Chooses, on_where, off_where, MeetsApart}
-use Rattle.chunk_emit.specs.LoopFits.{AreDirect}
 use Rattle.chunk_emit.specs.Head.{Ground, IsGround, most_lanes, limit}
 use Rattle.vector_emit.specs.VectorCode.{vector_code}
 use Rattle.vector_emit.specs.VectorRuns as vectors
 use Rattle.vector_emit.specs.VectorRuns.{Near, VectorRuns, turn_steps, vector_base, vector_most}
-use Rattle.kernel_compile.specs.Faithful.{Follows, IsNearFault, end_steps}
+use Rattle.promises.specs.Faithful.{Follows, IsNearFault, end_steps}
 use Rattle.kernel_compile.proofs.ScalarFaithful.{comes_after, comes_follow}
 use Rattle.kernel_compile.proofs.MapStays.{draft_map}
 use Rattle.kernel_compile.proofs.Paces.{end_paced, stop_paced, end_count, stop_count, enough}
@@ -197,7 +195,6 @@ pub record IsJoined (k : Program) (a b c : Assignment) : Type 0 where
   pub spelled : ∥ IsTree k ∥₁
   pub sound : check_fault k ≡ None
   pub vector : class_of k ≡ Vector
-  pub direct : AreDirect (loop_entries k)
   pub few : length k.params ≤ 8
   pub near : bound_place k ≤ 7
   pub z : FitsKernel k Z a
@@ -251,7 +248,7 @@ module _ (k : Program) (a b c : Assignment) (j : IsJoined k a b c) where
       let at = at_same R k 0 h.names m h.end pass.end (homes_low k c j.x j.few) pass.others pass.sized pass.memory h.at in
       let there : Goes D whole s part pass.end (596 + 8 * size_of k) = chain (596 + 8 * size_of k) (omega arith) h.goes pass.goes in
       let kept = there.keeps labels is.fit is.fits state in
-      let ground = is_ground R k loop.0 a b args m h.names pass.end j.spelled j.sound j.vector j.direct j.few j.near j.z j.p loop.1 given.words h.starts at kept.0.sized apart in
+      let ground = is_ground R k loop.0 a b args m h.names pass.end j.spelled j.sound j.vector j.few j.near j.z j.p loop.1 given.words h.starts at kept.0.sized apart in
       let g = ground_of k loop.0 a b args m h.names pass.end in
       let bound = bounded R k loop.0 args m h.names pass.end j.sound loop.1 given.words h.starts at.held in
       let reaches = λ (i : ℕ) (names : Names) (memory : Memory) (t : State). j.runs.entered D n1 (Place 0 ∷ guard_part R k a b n1 n2 n3) i names memory t is.scalar in

@@ -12,7 +12,7 @@ use Rattle.kernel_tree.specs.Grammar.{Spells, SpellsBlock, SpellsParam, scalar, 
 use Rattle.kernel_syntax.specs.Reading.{◌>>=◌, given, following, past, name_at, type_at}
 use Rattle.kernel_syntax.specs.Statements.{term_at, block_at}
 use Rattle.kernel_syntax.specs.Headers.{Read, shape_at, param_at, some_at, params_at, var_at, vars_by, vars_at, zero_at, turns_at, loop_at, tail_at, answer_by, alone, kernel_at}
-use Rattle.kernel_syntax.proofs.Sound.{bind_ok, ok_is, not_err, cond_is, after-is, following-is, name-is, type-is, number-is, until_spells}
+use Rattle.kernel_syntax.proofs.Sound.{bind_ok, bind_then, ok_is, not_err, cond_is, after-is, following-is, name-is, type-is, number-is, until_spells}
 use Rattle.kernel_syntax.proofs.ActionSound.{term_spells, block_spells}
 
 -- what stands after the colon of a parameter
@@ -100,14 +100,13 @@ pub record SpellsVar (words : List Word) (v : Accumulator) (rest : List Word) : 
 pub var_spells : (words : List Word) (y : Accumulator × List Word) → var_at words ≡ Ok y → SpellsVar words y.0 y.1
 unfolding var_at
 var_spells words y q =
-    let x = bind_ok (name_at words) (λ x. past mark.Colon x.1 >>= (λ from. type_at from >>= (λ t. past mark.Equals t.1 >>= (λ next. term_at mark.Semicolon next >>= (λ e. Ok (record { name = x.0; type = t.0; init = e.0 }, e.1)))))) y q in
-    let from = bind_ok (past mark.Colon x.0.1) (λ from. type_at from >>= (λ t. past mark.Equals t.1 >>= (λ next. term_at mark.Semicolon next >>= (λ e. Ok (record { name = x.0.0; type = t.0; init = e.0 }, e.1))))) y x.2 in
-    let t = bind_ok (type_at from.0) (λ t. past mark.Equals t.1 >>= (λ next. term_at mark.Semicolon next >>= (λ e. Ok (record { name = x.0.0; type = t.0; init = e.0 }, e.1)))) y from.2 in
-    let next = bind_ok (past mark.Equals t.0.1) (λ next. term_at mark.Semicolon next >>= (λ e. Ok (record { name = x.0.0; type = t.0.0; init = e.0 }, e.1))) y t.2 in
-    let e = bind_ok (term_at mark.Semicolon next.0) (λ e. Ok (record { name = x.0.0; type = t.0.0; init = e.0 }, e.1)) y next.2 in
-    let w : words ≡ IsName x.0.0 ∷ IsMark mark.Colon ∷ IsType t.0.0 ∷ IsMark mark.Equals ∷ next.0 = name-is words x.0 x.1 ∙ ap (λ (z : List Word). IsName x.0.0 ∷ z) (after-is mark.Colon x.0.1 from.0 from.1 ∙ ap (λ (z : List Word). IsMark mark.Colon ∷ z) (type-is from.0 t.0 t.1 ∙ ap (λ (z : List Word). IsType t.0.0 ∷ z) (after-is mark.Equals t.0.1 next.0 next.1))) in
-    let v : Accumulator × List Word = (record { name = x.0.0; type = t.0.0; init = e.0.0 }, e.0.1) in
-    subst (λ (z : Accumulator × List Word). SpellsVar words z.0 z.1) (ok_is v y e.2) (record { from = next.0; front = w; value = term_spells mark.Semicolon next.0 e.0 e.1 })
+    bind_then (name_at words) _ y q (λ x x_is q.
+    bind_then (past mark.Colon x.1) _ y q (λ from from_is q.
+    bind_then (type_at from) _ y q (λ t t_is q.
+    bind_then (past mark.Equals t.1) _ y q (λ next next_is q.
+    bind_then (term_at mark.Semicolon next) _ y q (λ e e_is q.
+    let w : words ≡ IsName x.0 ∷ IsMark mark.Colon ∷ IsType t.0 ∷ IsMark mark.Equals ∷ next = name-is words x x_is ∙ ap (λ (z : List Word). IsName x.0 ∷ z) (after-is mark.Colon x.1 from from_is ∙ ap (λ (z : List Word). IsMark mark.Colon ∷ z) (type-is from t t_is ∙ ap (λ (z : List Word). IsType t.0 ∷ z) (after-is mark.Equals t.1 next next_is))) in
+    subst (λ (z : Accumulator × List Word). SpellsVar words z.0 z.1) (ok_is (record { name = x.0; type = t.0; init = e.0 }, e.1) y q) (record { from = next; front = w; value = term_spells mark.Semicolon next e e_is }))))))
 
 by_vars : (k : ℕ) → ((next : List Word) (z : List Accumulator × List Word) → vars_by k next ≡ Ok z → SpellsVars next z.0 z.1) → (words : List Word) (y : List Accumulator × List Word) (o : Option (List Word)) → following mark.Var words ≡ o → given {B = Read (List Accumulator)} o (λ rest. var_at rest >>= (λ v. vars_by k v.1 >>= (λ vs. Ok (v.0 ∷ vs.0, vs.1)))) (Ok ([], words)) ≡ Ok y → SpellsVars words y.0 y.1
 by_vars k again words y None p q = subst (λ (x : List Accumulator × List Word). SpellsVars words x.0 x.1) (ok_is ([], words) y q) no_var
@@ -148,16 +147,15 @@ record SpellsTurns (words : List Word) (l : PlainLoop) (rest : List Word) : Type
 turns_spells : (words : List Word) (y : PlainLoop × List Word) → turns_at words ≡ Ok y → SpellsTurns words y.0 y.1
 unfolding turns_at
 turns_spells words y q =
-    let i = bind_ok (name_at words) (λ i. past mark.In i.1 >>= (λ from. zero_at from >>= (λ range. past mark.Range range >>= (λ end. name_at end >>= (λ n. past mark.OpenBrace n.1 >>= (λ inside. block_at true (length inside) inside >>= (λ b. Ok (record { index = i.0; bound = n.0; body = b.0 }, b.1)))))))) y q in
-    let from = bind_ok (past mark.In i.0.1) (λ from. zero_at from >>= (λ range. past mark.Range range >>= (λ end. name_at end >>= (λ n. past mark.OpenBrace n.1 >>= (λ inside. block_at true (length inside) inside >>= (λ b. Ok (record { index = i.0.0; bound = n.0; body = b.0 }, b.1))))))) y i.2 in
-    let range = bind_ok (zero_at from.0) (λ range. past mark.Range range >>= (λ end. name_at end >>= (λ n. past mark.OpenBrace n.1 >>= (λ inside. block_at true (length inside) inside >>= (λ b. Ok (record { index = i.0.0; bound = n.0; body = b.0 }, b.1)))))) y from.2 in
-    let end = bind_ok (past mark.Range range.0) (λ end. name_at end >>= (λ n. past mark.OpenBrace n.1 >>= (λ inside. block_at true (length inside) inside >>= (λ b. Ok (record { index = i.0.0; bound = n.0; body = b.0 }, b.1))))) y range.2 in
-    let n = bind_ok (name_at end.0) (λ n. past mark.OpenBrace n.1 >>= (λ inside. block_at true (length inside) inside >>= (λ b. Ok (record { index = i.0.0; bound = n.0; body = b.0 }, b.1)))) y end.2 in
-    let inside = bind_ok (past mark.OpenBrace n.0.1) (λ inside. block_at true (length inside) inside >>= (λ b. Ok (record { index = i.0.0; bound = n.0.0; body = b.0 }, b.1))) y n.2 in
-    let b = bind_ok (block_at true (length inside.0) inside.0) (λ b. Ok (record { index = i.0.0; bound = n.0.0; body = b.0 }, b.1)) y inside.2 in
-    let w : words ≡ IsName i.0.0 ∷ IsMark mark.In ∷ IsNumber 0 ∷ IsMark mark.Range ∷ IsName n.0.0 ∷ IsMark mark.OpenBrace ∷ inside.0 = name-is words i.0 i.1 ∙ ap (λ (z : List Word). IsName i.0.0 ∷ z) (after-is mark.In i.0.1 from.0 from.1 ∙ ap (λ (z : List Word). IsMark mark.In ∷ z) (zero-is from.0 range.0 range.1 ∙ ap (λ (z : List Word). IsNumber 0 ∷ z) (after-is mark.Range range.0 end.0 end.1 ∙ ap (λ (z : List Word). IsMark mark.Range ∷ z) (name-is end.0 n.0 n.1 ∙ ap (λ (z : List Word). IsName n.0.0 ∷ z) (after-is mark.OpenBrace n.0.1 inside.0 inside.1))))) in
-    let l : PlainLoop × List Word = (record { index = i.0.0; bound = n.0.0; body = b.0.0 }, b.0.1) in
-    subst (λ (z : PlainLoop × List Word). SpellsTurns words z.0 z.1) (ok_is l y b.2) (record { from = inside.0; front = w; inside = block_spells (length inside.0) true inside.0 b.0 b.1 })
+    bind_then (name_at words) _ y q (λ i i_is q.
+    bind_then (past mark.In i.1) _ y q (λ from from_is q.
+    bind_then (zero_at from) _ y q (λ range range_is q.
+    bind_then (past mark.Range range) _ y q (λ end end_is q.
+    bind_then (name_at end) _ y q (λ n n_is q.
+    bind_then (past mark.OpenBrace n.1) _ y q (λ inside inside_is q.
+    bind_then (block_at true (length inside) inside) _ y q (λ b b_is q.
+    let w : words ≡ IsName i.0 ∷ IsMark mark.In ∷ IsNumber 0 ∷ IsMark mark.Range ∷ IsName n.0 ∷ IsMark mark.OpenBrace ∷ inside = name-is words i i_is ∙ ap (λ (z : List Word). IsName i.0 ∷ z) (after-is mark.In i.1 from from_is ∙ ap (λ (z : List Word). IsMark mark.In ∷ z) (zero-is from range range_is ∙ ap (λ (z : List Word). IsNumber 0 ∷ z) (after-is mark.Range range end end_is ∙ ap (λ (z : List Word). IsMark mark.Range ∷ z) (name-is end n n_is ∙ ap (λ (z : List Word). IsName n.0 ∷ z) (after-is mark.OpenBrace n.1 inside inside_is))))) in
+    subst (λ (z : PlainLoop × List Word). SpellsTurns words z.0 z.1) (ok_is (record { index = i.0; bound = n.0; body = b.0 }, b.1) y q) (record { from = inside; front = w; inside = block_spells (length inside) true inside b b_is }))))))))
 
 by_loop : (words : List Word) (y : Option PlainLoop × List Word) (o : Option (List Word)) → following mark.For words ≡ o → given {B = Read (Option PlainLoop)} o (λ rest. turns_at rest >>= (λ l. Ok (Some l.0, l.1))) (Ok (None, words)) ≡ Ok y → SpellsLoop words y.0 y.1
 by_loop words y None p q = subst (λ (x : Option PlainLoop × List Word). SpellsLoop words x.0 x.1) (ok_is (None, words) y q) no_loop
@@ -219,16 +217,16 @@ alone_is x (w ∷ rest) y q = absurd (not_err (suc (length rest)) y q)
 pub kernel_spells : (words : List Word) (k : Program) → kernel_at words ≡ Ok k → Tree words k
 unfolding kernel_at
 kernel_spells words k q =
-    let from = bind_ok (past mark.Kernel words) (λ from. name_at from >>= (λ x. past mark.OpenParen x.1 >>= (λ inside. params_at inside >>= (λ ps. tail_at ps.1 >>= (λ t. vars_at t.1 >>= (λ vs. loop_at vs.1 >>= (λ l. answer_by t.0 l.1 >>= (λ a. alone (record { name = x.0; params = ps.0; vars = vs.0; turns = l.0; answer = a.0 }) a.1)))))))) k q in
-    let x = bind_ok (name_at from.0) (λ x. past mark.OpenParen x.1 >>= (λ inside. params_at inside >>= (λ ps. tail_at ps.1 >>= (λ t. vars_at t.1 >>= (λ vs. loop_at vs.1 >>= (λ l. answer_by t.0 l.1 >>= (λ a. alone (record { name = x.0; params = ps.0; vars = vs.0; turns = l.0; answer = a.0 }) a.1))))))) k from.2 in
-    let inside = bind_ok (past mark.OpenParen x.0.1) (λ inside. params_at inside >>= (λ ps. tail_at ps.1 >>= (λ t. vars_at t.1 >>= (λ vs. loop_at vs.1 >>= (λ l. answer_by t.0 l.1 >>= (λ a. alone (record { name = x.0.0; params = ps.0; vars = vs.0; turns = l.0; answer = a.0 }) a.1)))))) k x.2 in
-    let ps = bind_ok (params_at inside.0) (λ ps. tail_at ps.1 >>= (λ t. vars_at t.1 >>= (λ vs. loop_at vs.1 >>= (λ l. answer_by t.0 l.1 >>= (λ a. alone (record { name = x.0.0; params = ps.0; vars = vs.0; turns = l.0; answer = a.0 }) a.1))))) k inside.2 in
-    let t = bind_ok (tail_at ps.0.1) (λ t. vars_at t.1 >>= (λ vs. loop_at vs.1 >>= (λ l. answer_by t.0 l.1 >>= (λ a. alone (record { name = x.0.0; params = ps.0.0; vars = vs.0; turns = l.0; answer = a.0 }) a.1)))) k ps.2 in
-    let vs = bind_ok (vars_at t.0.1) (λ vs. loop_at vs.1 >>= (λ l. answer_by t.0.0 l.1 >>= (λ a. alone (record { name = x.0.0; params = ps.0.0; vars = vs.0; turns = l.0; answer = a.0 }) a.1))) k t.2 in
-    let l = bind_ok (loop_at vs.0.1) (λ l. answer_by t.0.0 l.1 >>= (λ a. alone (record { name = x.0.0; params = ps.0.0; vars = vs.0.0; turns = l.0; answer = a.0 }) a.1)) k vs.2 in
-    let a = bind_ok (answer_by t.0.0 l.0.1) (λ a. alone (record { name = x.0.0; params = ps.0.0; vars = vs.0.0; turns = l.0.0; answer = a.0 }) a.1) k l.2 in
-    let g : Program = record { name = x.0.0; params = ps.0.0; vars = vs.0.0; turns = l.0.0; answer = a.0.0 } in
-    let e = alone_is g a.0.1 k a.2 in
-    let w : words ≡ IsMark mark.Kernel ∷ IsName x.0.0 ∷ IsMark mark.OpenParen ∷ inside.0 = after-is mark.Kernel words from.0 from.1 ∙ ap (λ (z : List Word). IsMark mark.Kernel ∷ z) (name-is from.0 x.0 x.1 ∙ ap (λ (z : List Word). IsName x.0.0 ∷ z) (after-is mark.OpenParen x.0.1 inside.0 inside.1)) in
-    let end : SpellsAnswer t.0.0 l.0.1 a.0.0 [] = subst (λ (z : List Word). SpellsAnswer t.0.0 l.0.1 a.0.0 z) e.1 (answer_spells t.0.0 l.0.1 a.0 a.1) in
-    subst (λ (z : Program). Tree words z) e.0 (subst (λ (z : List Word). Tree z g) (sym w) (kernel_of_parts x.0.0 ps.0.0 t.0.0 vs.0.0 l.0.0 a.0.0 inside.0 ps.0.1 t.0.1 vs.0.1 l.0.1 (params_spells inside.0 ps.0 ps.1) (tail_spells ps.0.1 t.0 t.1) (vars_spells t.0.1 vs.0 vs.1) (loop_spells vs.0.1 l.0 l.1) end))
+    bind_then (past mark.Kernel words) _ k q (λ from from_is q.
+    bind_then (name_at from) _ k q (λ x x_is q.
+    bind_then (past mark.OpenParen x.1) _ k q (λ inside inside_is q.
+    bind_then (params_at inside) _ k q (λ ps ps_is q.
+    bind_then (tail_at ps.1) _ k q (λ t t_is q.
+    bind_then (vars_at t.1) _ k q (λ vs vs_is q.
+    bind_then (loop_at vs.1) _ k q (λ l l_is q.
+    bind_then (answer_by t.0 l.1) _ k q (λ a a_is q.
+    let g : Program = record { name = x.0; params = ps.0; vars = vs.0; turns = l.0; answer = a.0 } in
+    let e = alone_is g a.1 k q in
+    let w : words ≡ IsMark mark.Kernel ∷ IsName x.0 ∷ IsMark mark.OpenParen ∷ inside = after-is mark.Kernel words from from_is ∙ ap (λ (z : List Word). IsMark mark.Kernel ∷ z) (name-is from x x_is ∙ ap (λ (z : List Word). IsName x.0 ∷ z) (after-is mark.OpenParen x.1 inside inside_is)) in
+    let end : SpellsAnswer t.0 l.1 a.0 [] = subst (λ (z : List Word). SpellsAnswer t.0 l.1 a.0 z) e.1 (answer_spells t.0 l.1 a a_is) in
+    subst (λ (z : Program). Tree words z) e.0 (subst (λ (z : List Word). Tree z g) (sym w) (kernel_of_parts x.0 ps.0 t.0 vs.0 l.0 a.0 inside ps.1 t.1 vs.1 l.1 (params_spells inside ps ps_is) (tail_spells ps.1 t t_is) (vars_spells t.1 vs vs_is) (loop_spells vs.1 l l_is) end))))))))))

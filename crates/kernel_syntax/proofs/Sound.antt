@@ -27,6 +27,11 @@ pub bind_ok : {A B : Type 0} (r : Result A ℕ) (f : A → Result B ℕ) (y : B)
 bind_ok (Ok x) f y e = (x, refl, e)
 bind_ok (Err d) f y e = absurd cc
 
+-- what follows from it
+pub bind_then : {A B C : Type 0} (r : Result A ℕ) (f : A → Result B ℕ) (y : B) → (r >>= f) ≡ Ok y → ((x : A) → r ≡ Ok x → f x ≡ Ok y → C) → C
+bind_then (Ok x) f y e k = k x refl e
+bind_then (Err d) f y e k = absurd cc
+
 -- what may be there was there, if the other choice would not give this
 pub given_is : {A B : Type 0} (o : Option A) (f : A → B) (b y : B) → (b ≡ y → ⊥) → given o f b ≡ y → (x : A) × (o ≡ Some x) × (f x ≡ y)
 given_is None f b y n e = absurd (n e)

@@ -2,10 +2,7 @@ pub mod StatementLists
 pub mod Marks
 pub mod TokenList
 pub mod Well
-pub mod Printed
 pub mod Lexed
-pub mod PrintedTokens
-pub mod PrintedKernel
 mod Examples
 mod WrapExamples
 pub mod OneTerm

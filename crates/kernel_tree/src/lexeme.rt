@@ -1,6 +1,6 @@
 //! Bytes of names, and reserved words.
 
-ghost use Rattle.std.specs.Prelude.{◌≡◌};
+ghost use Rattle.std.specs.Prelude.{◌≡◌, bytes_eq};
 ghost use Rattle.std.specs.List.{list_all};
 ghost use Rattle.kernel_tree.specs.Tokens.{is_letter, is_name_byte, is_run, is_name, unsigned_type, reserved_type, operation_mark, flow_mark, reserved_mark};
 
@@ -22,17 +22,24 @@ pub fn continues_name(b: u8) -> bool
     is_letter_byte(b) || is_digit_byte(b)
 }
 
+// Whether a word is this text.
+fn is(word: &[u8], text: &str) -> bool
+    ensures { result ≡ bytes_eq word.now text.now }
+{
+    word == text.as_bytes()
+}
+
 // The type that a word names, where it is unsigned.
 fn unsigned_word(word: &[u8]) -> Option<Ty>
     ensures { result ≡ unsigned_type word.now }
 {
-    if word == b"u8".as_slice() {
+    if is(word, "u8") {
         Some(Ty::U8)
-    } else if word == b"u16".as_slice() {
+    } else if is(word, "u16") {
         Some(Ty::U16)
-    } else if word == b"u32".as_slice() {
+    } else if is(word, "u32") {
         Some(Ty::U32)
-    } else if word == b"u64".as_slice() {
+    } else if is(word, "u64") {
         Some(Ty::U64)
     } else {
         None
@@ -43,13 +50,13 @@ fn unsigned_word(word: &[u8]) -> Option<Ty>
 pub fn type_word(word: &[u8]) -> Option<Ty>
     ensures { result ≡ reserved_type word.now }
 {
-    if word == b"i8".as_slice() {
+    if is(word, "i8") {
         Some(Ty::I8)
-    } else if word == b"i16".as_slice() {
+    } else if is(word, "i16") {
         Some(Ty::I16)
-    } else if word == b"i32".as_slice() {
+    } else if is(word, "i32") {
         Some(Ty::I32)
-    } else if word == b"i64".as_slice() {
+    } else if is(word, "i64") {
         Some(Ty::I64)
     } else {
         unsigned_word(word)
@@ -60,15 +67,15 @@ pub fn type_word(word: &[u8]) -> Option<Ty>
 fn operation_word(word: &[u8]) -> Option<Mark>
     ensures { result ≡ operation_mark word.now }
 {
-    if word == b"select".as_slice() {
+    if is(word, "select") {
         Some(Mark::Select)
-    } else if word == b"min".as_slice() {
+    } else if is(word, "min") {
         Some(Mark::Min)
-    } else if word == b"max".as_slice() {
+    } else if is(word, "max") {
         Some(Mark::Max)
-    } else if word == b"abs".as_slice() {
+    } else if is(word, "abs") {
         Some(Mark::Abs)
-    } else if word == b"as".as_slice() {
+    } else if is(word, "as") {
         Some(Mark::As)
     } else {
         None
@@ -79,13 +86,13 @@ fn operation_word(word: &[u8]) -> Option<Mark>
 fn flow_word(word: &[u8]) -> Option<Mark>
     ensures { result ≡ flow_mark word.now }
 {
-    if word == b"if".as_slice() {
+    if is(word, "if") {
         Some(Mark::If)
-    } else if word == b"else".as_slice() {
+    } else if is(word, "else") {
         Some(Mark::Else)
-    } else if word == b"break".as_slice() {
+    } else if is(word, "break") {
         Some(Mark::Break)
-    } else if word == b"return".as_slice() {
+    } else if is(word, "return") {
         Some(Mark::Return)
     } else {
         operation_word(word)
@@ -96,15 +103,15 @@ fn flow_word(word: &[u8]) -> Option<Mark>
 pub fn mark_word(word: &[u8]) -> Option<Mark>
     ensures { result ≡ reserved_mark word.now }
 {
-    if word == b"kernel".as_slice() {
+    if is(word, "kernel") {
         Some(Mark::Kernel)
-    } else if word == b"var".as_slice() {
+    } else if is(word, "var") {
         Some(Mark::Var)
-    } else if word == b"for".as_slice() {
+    } else if is(word, "for") {
         Some(Mark::For)
-    } else if word == b"in".as_slice() {
+    } else if is(word, "in") {
         Some(Mark::In)
-    } else if word == b"let".as_slice() {
+    } else if is(word, "let") {
         Some(Mark::Let)
     } else {
         flow_word(word)

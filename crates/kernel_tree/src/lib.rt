@@ -1,5 +1,5 @@
-//! The syntax tree of the kernel language: its types, its tokens, its grammar, its typing and its
-//! canonical text.
+//! The syntax tree of the kernel language: its types, its tokens, its grammar, its typing, and
+//! what its canonical text is.
 #![tactic(auto)]
 
 pub mod ast;
@@ -12,8 +12,7 @@ pub mod mark;
 pub mod name;
 pub mod ops;
 mod part;
-mod place;
-mod print;
+pub mod place;
 mod take_apart;
 pub mod token;
 
@@ -22,5 +21,4 @@ pub use checked::Checked;
 pub use name::Name;
 pub use ops::{BinaryOp, CompareOp, Ty, UnaryOp, UpdateOp};
 pub use part::Part;
-pub use print::print_kernel;
 pub use take_apart::parts;

@@ -215,6 +215,26 @@ fn walk_parts<'a>(
     walk_answer(notes, scope, &kernel.answer)
 }
 
+// Goes over a kernel, outside whose loop nothing is declared yet.
+fn notes_in<'a>(
+    alloc: Global,
+    scope: &mut Scope<'a>,
+    kernel: &'a Kernel,
+) -> Result<Notes, AllocError>
+    requires room { items.size_of (program_of kernel.now) < 2 ^ 32 }
+    requires scope { scope_of scope.old ≡ typing.empty (items.loop_index (program_of kernel.now)) }
+    ensures found { IfOk result (λ notes. notes.found ≡ typing.least (typing.kernel_faults (program_of kernel.now))) }
+    ensures types { IfOk result (λ notes. notes.types.items ≡ typing.types_of (program_of kernel.now)) }
+{
+    let mut notes = Notes {
+        next: 0,
+        found: None,
+        types: Vec::new(alloc),
+    };
+    walk_parts(&mut notes, scope, kernel)?;
+    Ok(notes)
+}
+
 /// The first fault of a kernel but for its size and depth, and the wanted type of each of its items.
 pub fn walk_kernel(alloc: Global, kernel: &Kernel) -> Result<Notes, AllocError>
     requires { items.size_of (program_of kernel.now) < 2 ^ 32 }
@@ -222,11 +242,5 @@ pub fn walk_kernel(alloc: Global, kernel: &Kernel) -> Result<Notes, AllocError>
     ensures types { IfOk result (λ notes. notes.types.items ≡ typing.types_of (program_of kernel.now)) }
 {
     let mut scope = empty(alloc, loop_index(&kernel.body));
-    let mut notes = Notes {
-        next: 0,
-        found: None,
-        types: Vec::new(alloc),
-    };
-    walk_parts(&mut notes, &mut scope, kernel)?;
-    Ok(notes)
+    notes_in(alloc, &mut scope, kernel)
 }

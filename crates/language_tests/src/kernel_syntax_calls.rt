@@ -1,7 +1,7 @@
 //! Expressions that are read, which no command prints, and the deepest tree.
 
+use kernel_print::print_kernel;
 use kernel_syntax::{ReadFault, read_kernel};
-use kernel_tree::print_kernel;
 use std::alloc::Global;
 use std::test::Fail;
 

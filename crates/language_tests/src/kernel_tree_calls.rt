@@ -1,7 +1,7 @@
+use kernel_print::print_kernel;
 use kernel_tree::ast::{Expr, Kernel, Loop, Param, Shape, Stmt};
 use kernel_tree::name::Name;
 use kernel_tree::ops::{BinaryOp, CompareOp, Ty, UnaryOp};
-use kernel_tree::print_kernel;
 use std::alloc::Global;
 use std::test::Fail;
 

@@ -1,5 +1,5 @@
 -- What class Vector says of a read at a computed index, where the read stands in the tree.
-use Rattle.std.proofs.Common.{◌≡◌, ◌≢◌, ℕ, zero, suc, ◌+◌, ◌-◌, ◌<◌, ◌≤◌, Bool, true, false, cond, List, [], ◌∷◌, ◌++◌, length, drop, Option, Some, None, ◌⊎◌, inl, inr, refl, sym, ap, ap₂, ◌∙◌, subst, arith}
+use Rattle.std.proofs.Common.{◌≡◌, ℕ, zero, suc, ◌+◌, ◌-◌, Bool, true, false, cond, List, [], ◌∷◌, ◌++◌, length, drop, Option, Some, None, refl, sym, ap, ap₂, ◌∙◌, subst, arith}
 use Rattle.std.proofs.lemmas.List.{append_assoc, length-append}
 use Rattle.std.specs.Prelude.{ℤ, option_and_then, slice_get, if◌then◌else◌}
 use Rattle.kernel_tree.specs.declared.ops.Ty.{Ty}
@@ -10,10 +10,10 @@ use Rattle.kernel_tree.specs.Kinds.{IsValue, IsTruth, ActionKinds, BlockKinds, O
 use Rattle.kernel_tree.specs.Typing.{Scope, Role, wanted, Value, Condition, own, first, index_type, side_type, element_type, accumulator_type, lookup, after_action, after_block, left, inner_types, term_types, action_types, block_types, otherwise_types, types_of}
 use Rattle.kernel_tree.specs.Checked as checked
 use Rattle.kernel_tree.proofs.Scopes.{index_after}
-use Rattle.loop_form.specs.Entries.{Content, IsLiteral, IsName, IsRead, IsLet, IsStore, IsUpdate, IsPlain, Entry, entry, item_type, inner_entries, term_entries, action_entries, block_entries, otherwise_entries}
+use Rattle.loop_form.specs.Entries.{Content, IsRead, Entry, entry, item_type, inner_entries, term_entries, action_entries, block_entries, otherwise_entries}
 use Rattle.loop_form.specs.Reaches.{is_widened, source_type, reach_of_type}
 use Rattle.loop_form.specs.LoopItems.{index_source}
-use Rattle.vector_order.proofs.ReadyTerms.{Computed, computed_map}
+use Rattle.vector_order.proofs.ReadyTerms.{Computed}
 use Rattle.vector_order.proofs.Calms.{Calmly, CalmAction, CalmBlock, CalmOtherwise}
 
 -- ---- the types of items from a number on

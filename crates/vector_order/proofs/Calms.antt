@@ -11,7 +11,7 @@ use Rattle.loop_form.specs.LoopItems.{Bound, array_type, Op, Gather, Item, index
 use Rattle.vector_order.proofs.ReadyTerms.{Computed, computed_map}
 
 abbrev pub CalmOp : (List ℕ → Option ℕ → Type 0) → Op → Type 0
-CalmOp C (Gather a base t r x) = C a r
+CalmOp C (Gather a base t r u x) = C a r
 CalmOp C _ = Unit {0}
 
 abbrev pub AllCalm : (List ℕ → Option ℕ → Type 0) → List Item → Type 0

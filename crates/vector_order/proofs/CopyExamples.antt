@@ -6,7 +6,7 @@ use Rattle.std.specs.List.{list_any}
 use Rattle.std.proofs.lemmas.Int.{ints}
 use Rattle.kernel_tree.specs.Plain.{Variable, Element, Put, Done, Then, Program}
 use Rattle.loop_form.specs.Streams.{streams_of, is_of}
-use Rattle.chunk_order.specs.Apart.{is_store_of, base_of, Within, IsBase, StreamsApart}
+use Rattle.vector_order.specs.Apart.{is_store_of, base_of, Within, IsBase, StreamsApart}
 use Rattle.kernel_tree.specs.declared.ops.Ty.TheVariants as ty
 use Rattle.kernel_tree.specs.declared.ast.Shape.TheVariants as shape
 

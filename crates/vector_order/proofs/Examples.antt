@@ -14,7 +14,7 @@ use Rattle.loop_form.specs.Entries.{item_type}
 use Rattle.loop_form.specs.Lanes.{widest}
 use Rattle.dependence.specs.declared.reason.Class.TheVariants.{Vector}
 use Rattle.dependence.specs.Classes.{before_break, computed_index, carried, class_of}
-use Rattle.chunk_order.specs.Apart.{StreamsApart}
+use Rattle.vector_order.specs.Apart.{StreamsApart}
 use Rattle.vector_order.specs.Order.{Steady, SameChunk}
 use Rattle.vector_order.proofs.OrderLaw.{vector_order}
 

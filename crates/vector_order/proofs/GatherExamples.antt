@@ -1,5 +1,5 @@
 -- A read at a computed index in a loop that stores: kernel f(t: [u64], x: [u8], y: [u64], n: u64) { for i in 0..n { y[i] = t[x[i]]; } }
-use Rattle.std.proofs.Common.{◌≡◌, ◌≢◌, ℕ, zero, suc, ◌≤◌, pos, List, [], ◌∷◌, None, Some, refl, sym, ap₂, ◌∙◌, subst, inl, inr, true, false, arith}
+use Rattle.std.proofs.Common.{◌≡◌, ◌≢◌, ℕ, zero, suc, pos, List, [], ◌∷◌, None, Some, refl, sym, ap₂, ◌∙◌, subst, inl, inr, true, false, arith}
 use Rattle.std.proofs.lemmas.Bool.Decides.{nat_tests}
 use Rattle.std.specs.Prelude.{ℤ, ◌≤ℤ◌, ◌<ℤ◌, ◌⊎◌, nat_eq, ◌||◌, ◌&&◌}
 use Rattle.std.specs.List.{list_any}
@@ -13,7 +13,7 @@ use Rattle.loop_form.specs.Reaches.{reaches_of}
 use Rattle.loop_form.specs.Streams.{streams_of, is_of}
 use Rattle.dependence.specs.Classes.{before_break, computed_index, carried, class_of}
 use Rattle.dependence.specs.declared.reason.Class.TheVariants.{Vector}
-use Rattle.chunk_order.specs.Apart.{is_store_of, base_of, Within, Among, Reached, IsBase, StreamsApart}
+use Rattle.vector_order.specs.Apart.{is_store_of, base_of, Within, Among, Reached, IsBase, StreamsApart}
 use Rattle.kernel_tree.specs.declared.ops.Ty.TheVariants as ty
 use Rattle.kernel_tree.specs.declared.ast.Shape.TheVariants as shape
 

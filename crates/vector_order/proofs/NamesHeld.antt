@@ -7,12 +7,12 @@ use Rattle.kernel_meaning.specs.Operators.{binary_value}
 use Rattle.kernel_meaning.specs.Eval.{Named, Names, is_named, value_of, value_at, iteration}
 use Rattle.kernel_meaning.specs.Iterate.{named, assigned}
 use Rattle.kernel_meaning.proofs.NameLists.{assigned-names, assigned-length, assigned-front, value_at-front}
-use Rattle.chunk_order.specs.Orders.{Share, Lane}
+use Rattle.vector_order.specs.Orders.{Share, Lane}
 use Rattle.loop_form.specs.LoopItems.{Bound, source_at}
-use Rattle.chunk_order.specs.Items.{source_value}
-use Rattle.chunk_order.proofs.HeldNames.{source_at-append}
+use Rattle.vector_order.specs.Operands.{source_value}
+use Rattle.vector_order.proofs.HeldNames.{source_at-append}
 use Rattle.kernel_tree.proofs.Names.{bytes_told}
-use Rattle.chunk_order.proofs.LaneValues.{EnvBelow, source_agree}
+use Rattle.vector_order.proofs.LaneValues.{EnvBelow, source_agree}
 use Rattle.vector_order.specs.Shares.{apply_shares}
 use Rattle.kernel_tree.specs.Typing.{Local}
 use Rattle.vector_order.proofs.NamesTyped.{Typed, typed_assigned}

@@ -1,10 +1,9 @@
 -- The values of names that have a reach by their types, and those of computed indexes.
-use Rattle.std.proofs.Common.{◌≡◌, ℕ, ◌+◌, ◌%◌, ◌^◌, ◌<◌, ◌≤◌, Bool, true, false, cond, List, [], ◌∷◌, ◌++◌, Option, Some, None, Result, Ok, Err, refl, sym, ap, ◌∙◌, subst, arith}
+use Rattle.std.proofs.Common.{◌≡◌, ℕ, ◌^◌, ◌<◌, ◌≤◌, Bool, true, false, cond, List, [], ◌∷◌, ◌++◌, Option, Some, None, Result, Ok, Err, refl, sym, ap, ◌∙◌, subst, arith}
 use Rattle.std.proofs.lemmas.Bool.{and_parts, leb-true}
 use Rattle.std.proofs.Math.Nat.{mod-eq_of_lt}
 use Rattle.std.proofs.Math.Pow.{pow_mono}
-use Rattle.std.specs.Prelude.{ℤ, pos, negsuc, not, ◌&&◌, nat_le, bytes_eq, option_map, option_and_then}
-use Rattle.std.specs.List.{find}
+use Rattle.std.specs.Prelude.{ℤ, pos, negsuc, not, nat_le, bytes_eq, option_map, option_and_then}
 use Rattle.guest_types.specs.declared.memory.AccessFault.{AccessFault}
 use Rattle.guest_types.specs.Memory.{Memory, loaded}
 use Rattle.kernel_tree.specs.declared.ops.Ty.{Ty}
@@ -21,7 +20,7 @@ use Rattle.kernel_meaning.proofs.NameRanges.{found_type}
 use Rattle.kernel_meaning.proofs.TypeRanges.{in_bits, residue-below}
 use Rattle.kernel_meaning.proofs.ValueRanges.{IsTyped}
 use Rattle.loop_form.specs.Reaches.{is_widened, reach_of_type}
-use Rattle.chunk_order.specs.Items.{index_value}
+use Rattle.vector_order.specs.Operands.{index_value}
 use Rattle.loop_form.specs.LoopItems.{index_source}
 use Rattle.vector_order.specs.Order.{is_accumulator, Steady}
 use Rattle.vector_order.proofs.ReadyTerms.{Ready, Sourced, IsWanted}

@@ -1,5 +1,5 @@
 -- What class Vector says of the reads at computed indexes.
-use Rattle.std.proofs.Common.{◌≡◌, ◌≢◌, ℕ, zero, suc, ◌+◌, ◌-◌, ◌<◌, ◌≤◌, Bool, true, false, cond, List, [], ◌∷◌, ◌++◌, length, drop, Option, Some, None, ◌⊎◌, inl, inr, refl, sym, ap, ap₂, ◌∙◌, subst, arith}
+use Rattle.std.proofs.Common.{◌≡◌, ◌≢◌, ℕ, suc, ◌+◌, ◌-◌, ◌<◌, ◌≤◌, Bool, true, false, cond, List, [], ◌∷◌, ◌++◌, length, drop, Option, Some, None, ◌⊎◌, inl, inr, refl, sym, ap, ap₂, ◌∙◌, subst, arith}
 use Rattle.std.proofs.lemmas.List.{append_assoc}
 use Rattle.std.specs.Prelude.{ℤ, is_none, bytes_eq, filter_map, ◌||◌}
 use Rattle.std.specs.List.{list_any, cons_option}
@@ -7,23 +7,22 @@ use Rattle.kernel_tree.specs.declared.ops.Ty.{Ty}
 use Rattle.kernel_tree.specs.declared.ops.Ty.TheVariants as ty
 use Rattle.kernel_tree.specs.Plain.{Term, Parameter, Accumulator, PlainLoop, Program}
 use Rattle.kernel_tree.specs.Items.{stream_offset, loop_index, loop_start, term_size, vars_size}
-use Rattle.kernel_tree.specs.Kinds.{BlockKinds}
 use Rattle.kernel_tree.specs.Typing.{Scope, Value, declared, check_fault, in_loop, param_scope, var_scope, after_turns, block_types, term_types, params_types, vars_types, turns_types, answer_types, types_of}
 use Rattle.kernel_tree.specs.declared.fault.Binding.TheVariants as binding
 use Rattle.kernel_tree.proofs.Names.{bytes_same, bytes_told}
 use Rattle.kernel_tree.proofs.Scopes.{param_index, scope_index}
 use Rattle.kernel_tree.proofs.RightKinds.{body-kinds}
 use Rattle.loop_form.specs.declared.stream.Stream.{Stream}
-use Rattle.loop_form.specs.Entries.{Content, IsLiteral, IsName, IsRead, IsLet, IsStore, IsUpdate, IsPlain, Entry, item_type, turns_entries, loop_entries}
+use Rattle.loop_form.specs.Entries.{Content, IsLiteral, IsName, IsRead, IsLet, IsStore, IsUpdate, IsPlain, Entry, turns_entries, loop_entries}
 use Rattle.loop_form.specs.Streams.{place_from, place_of, access, access_of, stream_of, streams_of, In}
 use Rattle.dependence.specs.Apart.{is_store}
 use Rattle.loop_form.specs.declared.reach.Reach.{Reach}
-use Rattle.loop_form.specs.Reaches.{source_type, reach_of_type, reach_of, content_reach, reached, reach_at, reach_in, reaches_of}
+use Rattle.loop_form.specs.Reaches.{source_type, reach_of_type, reach_of, content_reach, reached, reach_at, reach_in}
 use Rattle.dependence.specs.Classes.{is_storing, store_content, stores_to, content_stores_to, computed_index, class_of}
 use Rattle.dependence.specs.declared.reason.Class.TheVariants.{Vector}
-use Rattle.chunk_order.specs.Apart.{Among}
+use Rattle.vector_order.specs.Apart.{Among}
 use Rattle.dependence.proofs.ClassLaws.{class_facts, GatherFacts, gather_facts}
-use Rattle.chunk_order.proofs.Clears.{Calm, ReadCalm}
+use Rattle.vector_order.proofs.ElementClears.{Calm, ReadCalm}
 use Rattle.vector_order.proofs.ReadyTerms.{Computed}
 use Rattle.vector_order.proofs.Calms.{CalmBlock}
 use Rattle.vector_order.proofs.CalmKernels.{From, drop_append, drop_twice, many, CalmContent, CalmEntries, calm_block}

@@ -5,7 +5,7 @@ use Rattle.std.specs.Prelude.{ℤ}
 use Rattle.kernel_tree.specs.declared.ops.Ty.{Ty}
 use Rattle.kernel_tree.specs.Plain.{Term, Literal, Variable, Element, Unary, Operation, Shift, Conversion, Choice, Comparison, Both, Either, Not}
 use Rattle.kernel_tree.specs.Items.{stream_offset}
-use Rattle.kernel_tree.specs.Typing.{Scope, own, index_type}
+use Rattle.kernel_tree.specs.Typing.{Scope, index_type}
 use Rattle.kernel_meaning.proofs.ValueRanges.{IsTyped}
 
 -- only where an index is computed

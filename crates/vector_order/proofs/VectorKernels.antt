@@ -16,8 +16,8 @@ use Rattle.dependence.specs.Classes.{is_read, accumulator_read}
 use Rattle.kernel_tree.specs.declared.ops.Ty.TheVariants as ty
 use Rattle.loop_form.specs.Listing.{is_named, names}
 use Rattle.loop_form.specs.LoopItems.{array_type, accumulator_of}
-use Rattle.chunk_order.specs.Items.{HasOffset}
-use Rattle.chunk_order.proofs.Accesses.{or_false}
+use Rattle.vector_order.specs.Operands.{HasOffset}
+use Rattle.vector_order.proofs.OneAccess.{or_false}
 use Rattle.vector_order.specs.Order.{is_var, is_accumulator}
 use Rattle.kernel_meaning.proofs.ValueRanges.{typed}
 use Rattle.vector_order.proofs.ReadyTerms.{Computed, IsCond, WellFormed, IsWanted, Sourced, Ready}
