@@ -7,14 +7,14 @@ ghost use Rattle.kernel_tree.specs.Checked.{kernel_of};
 ghost use Rattle.kernel_tree.specs.Printing.{canonical_text};
 ghost use Rattle.check_text.specs.CheckText.{check_text, line, why_text, kind_text, class_text, need_text, size_text};
 
-use dependence::class;
 use dependence::reason::{Class, Why};
 use guest_types::length::Width;
 use itoa::Buffer;
 use kernel_print::print_kernel;
 use kernel_tree::{Checked, Kernel};
+use loop_class::class;
 use loop_form::need::Needs;
-use loop_form::{lane_width, needs};
+use loop_lists::{lane_width, needs};
 use std::alloc::{AllocError, Global};
 
 /// The text of a checked kernel: its canonical text, its size in items, its class, and the registers that it needs, also

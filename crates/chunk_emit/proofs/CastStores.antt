@@ -14,11 +14,11 @@ use Rattle.kernel_meaning.specs.Eval.{byte_count}
 use Rattle.machine_model.specs.InstructionTable.{Listed}
 use Rattle.machine_model.specs.Machine.{State}
 use Rattle.label_fix.specs.DraftRun.{Entry, Laid}
-use Rattle.chunk_order.specs.Orders.{Lane, Lanes, Act, Out, go_on, column}
+use Rattle.vector_order.specs.Orders.{Lane, Lanes, Act, Out, go_on, column}
 use Rattle.loop_form.specs.declared.loop_item.Source.{Source}
 use Rattle.loop_form.specs.declared.loop_item.Source.TheVariants.{Outer, Made}
-use Rattle.chunk_order.specs.Items.{nth_value, source_value, with_value}
-use Rattle.chunk_order.proofs.LaneValues.{value_same, value_other}
+use Rattle.vector_order.specs.Operands.{nth_value, source_value, with_value}
+use Rattle.vector_order.proofs.LaneValues.{value_same, value_other}
 use Rattle.loop_form.specs.LoopItems.{Cast, Store}
 use Rattle.vector_order.specs.Items.{item_act}
 use Rattle.lane_emit.specs.ItemCode.{operand, mask_register}

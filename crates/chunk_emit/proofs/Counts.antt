@@ -14,13 +14,13 @@ use Rattle.kernel_tree.specs.declared.ops.CompareOp.TheVariants as compare
 use Rattle.kernel_tree.specs.Wrap.{is_signed}
 use Rattle.sve_code.specs.Table.{Name, m_abs, m_mul}
 use Rattle.machine_model.specs.InstructionTable.{Listed}
-use Rattle.loop_form.specs.LoopItems.{Op, Load, Apply, Combine, Move, Cast, Copy, Pick, Store, Add, Test, Invert, Same, Any, Quit, Item}
+use Rattle.loop_form.specs.LoopItems.{Op, Load, Gather, Apply, Combine, Move, Cast, Copy, Pick, Store, Add, Test, Invert, Same, Any, Quit, Item}
 use Rattle.lane_emit.specs.Right.{fits}
 use Rattle.lane_emit.specs.Stretch.{Word, word}
 use Rattle.lane_emit.specs.LaneCode.{size_of, least_name, greatest_name, unary_leaves, binary_leaves, z_copy, extension, z_extend, z_settle, unary_code, merged, binary_code, shift_by, cast_code, test_code}
 use Rattle.lane_emit.specs.ItemCode.{Registers, op_code, mask_register}
-use Rattle.chunk_emit.specs.Registers.{Layout}
-use Rattle.chunk_emit.specs.ChunkCode.{with_index, vectors, op_words, item_words, past_cast, either_words, items_words}
+use Rattle.chunk_emit.specs.Registers.{Layout, z_of, base_of}
+use Rattle.chunk_emit.specs.ChunkCode.{with_index, memory_size, gather_by, cut_reach, gather_code, vectors, op_words, item_words, past_cast, either_words, items_words}
 use Rattle.chunk_emit.specs.ItemsRun.{FewWords}
 
 either_few : {A : Type 0} (b : Bool) (xs ys : List A) (n : ℕ) → length xs ≤ n → length ys ≤ n → length (if b then xs else ys) ≤ n
@@ -104,6 +104,7 @@ op_few w r q m (Move left k None x) = omega arith
 op_few w r q m (Cast None to x) = omega arith
 op_few w r q m (Test op None x y) = omega arith
 op_few w r q m (Load a base t c) = omega arith
+op_few w r q m (Gather a base t c u x) = omega arith
 op_few w r q m (Store a base t c v) = omega arith
 op_few w r q m (Add x op t v) = omega arith
 op_few w r q m (Quit c) = omega arith
@@ -123,9 +124,20 @@ used_few : (w : Width) (l : Layout) (q m : ℕ) (op : Op) (b : Bool) → length 
 used_few w l q m op true = subst (λ n. n ≤ 3) (sym (vectors-length (op_code w l.registers q m op))) (op_few w l.registers q m op)
 used_few w l q m op false = omega arith
 
+gather_by_few : (k : ℕ) (t : Ty) (d m base index : ℕ) → length (vectors (gather_by k t d m base index)) ≤ 2
+gather_by_few zero t d m base index = omega arith
+gather_by_few (suc k) t d m base index = omega arith
+
+gather_few : (cut : Option ℕ) (t : Ty) (d m base index : ℕ) → length (vectors (gather_code t cut d m base index)) ≤ 3
+gather_few None t d m base index = let few = gather_by_few (memory_size t) t d m base index in omega (arith, few)
+gather_few (Some n) t d m base index = let few = gather_by_few (memory_size t) t d m base d in omega (arith, few)
+
 words_few : (w : Width) (l : Layout) (q m : ℕ) (op : Op) → length (op_words w l q m op) ≤ 3
 words_few w l q m (Load a base (Some t) c) = index_few c _
 words_few w l q m (Load a base None c) = used_few w l q m (Load a base None c) _
+words_few w l q m (Gather a base (Some t) c (Some u) x) = gather_few (cut_reach c u) t (z_of l q) m (base_of base) (l.registers.source x)
+words_few w l q m (Gather a base (Some t) c None x) = used_few w l q m (Gather a base (Some t) c None x) _
+words_few w l q m (Gather a base None c u x) = used_few w l q m (Gather a base None c u x) _
 words_few w l q m (Apply op t x) = used_few w l q m (Apply op t x) _
 words_few w l q m (Combine op t x y) = used_few w l q m (Combine op t x y) _
 words_few w l q m (Move left k t x) = used_few w l q m (Move left k t x) _

@@ -1,5 +1,5 @@
 -- What is known of each item of a loop of class Vector: its last use, its width, and what the class rules out.
-use Rattle.std.proofs.Common.{◌≡◌, ℕ, Bool, true, false, cond, List, [], ◌∷◌, ◌++◌, length, map, Option, Some, None, refl, sym, ap, ◌∙◌, append_assoc}
+use Rattle.std.proofs.Common.{◌≡◌, ℕ, Bool, true, false, cond, List, [], ◌∷◌, ◌++◌, length, map, Option, Some, None, refl, sym, ap, ◌∙◌, subst, append_assoc}
 use Rattle.std.specs.Prelude.{bytes_eq}
 use Rattle.std.specs.List.{list_any}
 use Rattle.kernel_tree.specs.declared.ops.Ty.{Ty}
@@ -8,7 +8,7 @@ use Rattle.kernel_tree.specs.Plain.{Accumulator, Program}
 use Rattle.kernel_tree.specs.Items.{loop_index, loop_end}
 use Rattle.kernel_tree.specs.Typing.{check_fault}
 use Rattle.kernel_tree.proofs.Names.{bytes_told, bytes_same}
-use Rattle.loop_form.specs.Entries.{Content, IsUpdate, Entry, entry, item_type, params_entries, vars_entries, answer_entries, loop_entries, entries_of}
+use Rattle.loop_form.specs.Entries.{Content, IsLiteral, IsName, IsRead, IsLet, IsStore, IsPlain, IsUpdate, Entry, entry, item_type, params_entries, vars_entries, answer_entries, loop_entries, entries_of}
 use Rattle.loop_form.specs.Lanes.{var_type, lane_width_of}
 use Rattle.loop_form.specs.Listing.{names}
 use Rattle.loop_form.specs.Needs.{is_update, updates}
@@ -17,10 +17,11 @@ use Rattle.loop_form.proofs.Near.{loop-near}
 use Rattle.loop_form.proofs.ItemTypes.{type_of, Matches, first_types, later_types}
 use Rattle.loop_form.proofs.ItemWidths.{IsWide, AreWide, loop_wide}
 use Rattle.loop_form.proofs.NameUses.{IsUseCounted, AreUsesCounted, counted_left, counted_right, all_counted}
-use Rattle.dependence.specs.Classes.{is_read, computed_content, is_computed, class_of}
+use Rattle.dependence.specs.Classes.{is_read, computed_content, computed_index, class_of}
 use Rattle.dependence.specs.declared.reason.Class.TheVariants.{Vector}
-use Rattle.dependence.proofs.ClassLaws.{class_facts}
-use Rattle.chunk_order.proofs.Accesses.{or_false}
+use Rattle.dependence.proofs.ClassLaws.{class_facts, gather_facts}
+use Rattle.guest_types.specs.declared.length.Width.TheVariants.{D}
+use Rattle.vector_order.proofs.OneAccess.{or_false}
 use Rattle.chunk_emit.specs.KernelLayout.{update_of}
 use Rattle.chunk_emit.proofs.FitsEntries.{Gives, AllGive, loop_gives, any_here}
 use Rattle.chunk_emit.proofs.FitsUpdates.{one_operator, any_none}
@@ -31,7 +32,7 @@ pub record Known (k : Program) (e : Entry) : Type 0 where
   pub wide : IsWide k (lane_width_of k) e
   pub used : IsUseCounted (entries_of k) e
   pub near : HasNear (loop_index k) e.content
-  pub streamed : computed_content (loop_index k) e.content ≡ false
+  pub wide_read : computed_content (loop_index k) e.content ≡ true → lane_width_of k ≡ D
   pub unread : (x : List ℕ) (t : Ty) → var_type x k.vars ≡ Some t → names x e ≡ false
   pub operator : (x : List ℕ) (op : UpdateOp) → e.content ≡ IsUpdate x op → update_of k x ≡ op
 
@@ -63,8 +64,17 @@ module _ (k : Program) (vector : class_of k ≡ Vector) where
   unread_here : (xs : List Entry) (e : Entry) (ys : List Entry) → xs ++ e ∷ ys ≡ loop_entries k → (x : List ℕ) (t : Ty) → var_type x k.vars ≡ Some t → names x e ≡ false
   unread_here xs e ys split x t f = any_none (names x) xs e ys (ap (list_any (names x)) split ∙ unread_in (loop_entries k) k.vars x t (class_facts k vector).unread f)
 
-  streamed_here : (xs : List Entry) (e : Entry) (ys : List Entry) → xs ++ e ∷ ys ≡ loop_entries k → is_computed (loop_index k) e ≡ false
-  streamed_here xs e ys split = any_none (is_computed (loop_index k)) xs e ys (ap (list_any (is_computed (loop_index k))) split ∙ (class_facts k vector).streamed)
+  wide_here : (xs : List Entry) (e : Entry) (ys : List Entry) → xs ++ e ∷ ys ≡ loop_entries k → computed_content (loop_index k) e.content ≡ true → lane_width_of k ≡ D
+  wide_here xs e ys split h = by e.content refl h
+    where
+      by : (c : Content) → e.content ≡ c → computed_content (loop_index k) e.content ≡ true → lane_width_of k ≡ D
+      by (IsRead a j) is f = (gather_facts k (loop_entries k) xs ys e a j is (sym (ap (computed_content (loop_index k)) is) ∙ f) (subst (λ es. computed_index k (loop_entries k) es ≡ false) (sym split) (class_facts k vector).gathered)).wide
+      by (IsLiteral n) is f = let no : false ≡ true = sym (ap (computed_content (loop_index k)) is) ∙ f in absurd cc
+      by (IsName x) is f = let no : false ≡ true = sym (ap (computed_content (loop_index k)) is) ∙ f in absurd cc
+      by (IsLet x) is f = let no : false ≡ true = sym (ap (computed_content (loop_index k)) is) ∙ f in absurd cc
+      by (IsStore a j) is f = let no : false ≡ true = sym (ap (computed_content (loop_index k)) is) ∙ f in absurd cc
+      by (IsUpdate x op) is f = let no : false ≡ true = sym (ap (computed_content (loop_index k)) is) ∙ f in absurd cc
+      by (IsPlain p) is f = let no : false ≡ true = sym (ap (computed_content (loop_index k)) is) ∙ f in absurd cc
 
   operator_here : (xs : List Entry) (e : Entry) (ys : List Entry) → xs ++ e ∷ ys ≡ loop_entries k → (x : List ℕ) (op : UpdateOp) → e.content ≡ IsUpdate x op → update_of k x ≡ op
   operator_here xs e ys split x op is =
@@ -78,7 +88,7 @@ module _ (k : Program) (vector : class_of k ≡ Vector) where
       wide = w.0;
       used = u.0;
       near = n.0;
-      streamed = streamed_here xs e es split;
+      wide_read = wide_here xs e es split;
       unread = unread_here xs e es split;
       operator = operator_here xs e es split;
     },

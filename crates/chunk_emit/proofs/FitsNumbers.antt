@@ -4,8 +4,8 @@ use Rattle.std.specs.Prelude.{nat_eq}
 use Rattle.std.proofs.lemmas.Bool.{eqb-true, eq-eqb}
 use Rattle.kernel_tree.specs.declared.ops.Ty.{Ty}
 use Rattle.kernel_tree.specs.Plain.{Term, Literal, Variable, Element, Unary, Operation, Shift, Conversion, Choice, Comparison, Both, Either, Not, Action, Define, Put, Update, Choose, Leave, Block, Done, Then, Otherwise, Nothing, Else, PlainLoop, Program}
-use Rattle.kernel_tree.specs.Items.{stream_offset, index_items, term_size, action_size, block_size, otherwise_size, loop_start}
-use Rattle.kernel_tree.specs.Typing.{Scope, own, first, side_type, after_action, after_block, left, in_loop, var_scope}
+use Rattle.kernel_tree.specs.Items.{stream_offset, index_size, index_items, term_size, action_size, block_size, otherwise_size, loop_start}
+use Rattle.kernel_tree.specs.Typing.{Scope, own, first, index_type, side_type, after_action, after_block, left, in_loop, var_scope}
 use Rattle.kernel_tree.proofs.Scopes.{index_after}
 use Rattle.loop_form.specs.declared.loop_item.Source.{Source}
 use Rattle.loop_form.specs.LoopItems.{Bound, Item, array_type, accumulator_of, truth_home, load_item, store_item, term_items, cond_items, after_env, action_items, block_items, otherwise_items, loop_env, loop_items}
@@ -24,9 +24,9 @@ sooner p q (it ∷ items) le h = let a = h.0 in (omega (arith, a, le), h.1)
 step : (p q n : ℕ) (rest : List Item) → p ≤ q → q + 1 ≤ n → Ascends n rest → (p ≤ q) × Ascends (q + 1) rest
 step p q n rest le lt h = (le, sooner (q + 1) n rest lt h)
 
-load_ascends : (scope : Scope) (mask : Option ℕ) (p q n : ℕ) (env : List Bound) (a : List ℕ) (o : Option ℤ) (rest : List Item) → p ≤ q → q + 1 ≤ n → Ascends n rest → Ascends p (load_item scope mask q env a o rest)
-load_ascends scope mask p q n env a None rest le lt h = sooner p n rest (omega (arith, le, lt)) h
-load_ascends scope mask p q n env a (Some c) rest le lt h = step p q n rest le lt h
+load_ascends : (scope : Scope) (mask : Option ℕ) (p q n : ℕ) (env : List Bound) (a : List ℕ) (o : Option ℤ) (gathered rest : List Item) → p ≤ q → q + 1 ≤ n → (o ≡ None → Ascends p gathered) → Ascends n rest → Ascends p (load_item scope mask q env a o gathered rest)
+load_ascends scope mask p q n env a None gathered rest le lt g h = g refl
+load_ascends scope mask p q n env a (Some c) gathered rest le lt g h = step p q n rest le lt h
 
 store_ascends : (scope : Scope) (mask : Option ℕ) (p q n : ℕ) (env : List Bound) (a : List ℕ) (o : Option ℤ) (v : Source) (rest : List Item) → p ≤ q → q + 1 ≤ n → Ascends n rest → Ascends p (store_item scope mask q env a o v rest)
 store_ascends scope mask p q n env a None v rest le lt h = sooner p n rest (omega (arith, le, lt)) h
@@ -40,7 +40,9 @@ term_ascends : (t : Term) → TermAscends t
 term_ascends (Literal n) = record { as_value = λ s want mask b env rest h. sooner b _ rest (omega arith) h; as_cond = λ s mask b env rest h. sooner b _ rest (omega arith) h }
 term_ascends (Variable x) = record { as_value = λ s want mask b env rest h. sooner b _ rest (omega arith) h; as_cond = λ s mask b env rest h. sooner b _ rest (omega arith) h }
 term_ascends (Element a j) = record {
-  as_value = λ s want mask b env rest h. load_ascends s mask b (b + index_items s.index j) _ env a (stream_offset s.index j) rest (omega arith) (omega arith) h;
+  as_value = λ s want mask b env rest h. load_ascends s mask b (b + index_items s.index j) _ env a (stream_offset s.index j) _ rest (omega arith) (omega arith)
+      (λ none. let same : index_items s.index j ≡ term_size s.index j = ap (λ o. index_size o (term_size s.index j)) none in
+      (term_ascends j).as_value s (index_type s j) mask b env _ (step (b + term_size s.index j) (b + index_items s.index j) (b + (index_items s.index j + 1)) rest (omega (arith, same)) (omega arith) h)) h;
   as_cond = λ s mask b env rest h. sooner b _ rest (omega arith) h;
 }
 term_ascends (Unary op e) = record {

@@ -1,6 +1,6 @@
 -- What fits a list of items fits each part of it.
 use Rattle.std.proofs.Common.{ℕ, ◌+◌, List, [], ◌∷◌, ◌++◌}
-use Rattle.loop_form.specs.LoopItems.{Op, Load, Apply, Combine, Move, Cast, Copy, Pick, Store, Add, Test, Invert, Same, Any, Quit, Item}
+use Rattle.loop_form.specs.LoopItems.{Op, Load, Gather, Apply, Combine, Move, Cast, Copy, Pick, Store, Add, Test, Invert, Same, Any, Quit, Item}
 use Rattle.chunk_emit.specs.Registers.{Layout}
 use Rattle.chunk_emit.specs.Chunk.{Setting}
 use Rattle.chunk_emit.specs.Fits.{FitsOp, FitsCast, FitsItems, following_items}
@@ -22,6 +22,7 @@ second_part l f p (x ∷ xs) ys h = second_part l f (x.item + 1) xs ys h.5
 step_fits : (l : Layout) (f : Setting) (p : ℕ) (op : Op) → IsNoBreak op → FitsStep l f p op → FitsOp l f p op
 step_fits l f p (Quit c) n h = elim n [ ]
 step_fits l f p (Load a base t c) n h = h
+step_fits l f p (Gather a base t r u x) n h = h
 step_fits l f p (Apply op t x) n h = h
 step_fits l f p (Combine op t x y) n h = h
 step_fits l f p (Move left k t x) n h = h

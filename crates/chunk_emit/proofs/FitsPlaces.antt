@@ -4,8 +4,8 @@ use Rattle.std.proofs.lemmas.Bool.{cases_lt}
 use Rattle.kernel_tree.specs.declared.ops.Ty.{Ty}
 use Rattle.kernel_tree.specs.Plain.{Term, Literal, Variable, Element, Unary, Operation, Shift, Conversion, Choice, Comparison, Both, Either, Not}
 use Rattle.kernel_tree.specs.Items.{stream_offset}
-use Rattle.kernel_tree.specs.Typing.{Scope, own, side_type}
-use Rattle.loop_form.specs.LoopItems.{Op, Load, Apply, Combine, Move, Cast, Copy, Pick, Store, Add, Test, Invert, Same, Any, Quit, Item, item, Bound, truth_home, load_item, term_items, cond_items}
+use Rattle.kernel_tree.specs.Typing.{Scope, own, index_type, side_type}
+use Rattle.loop_form.specs.LoopItems.{Op, Load, Gather, Apply, Combine, Move, Cast, Copy, Pick, Store, Add, Test, Invert, Same, Any, Quit, Item, item, Bound, truth_home, load_item, term_items, cond_items}
 use Rattle.chunk_emit.specs.Registers.{Layout}
 use Rattle.chunk_emit.specs.ChunkCode.{past_cast}
 use Rattle.chunk_emit.specs.Chunk.{Setting}
@@ -57,6 +57,7 @@ stores _ = false
 past_none : (q : ℕ) (op next : Op) → stores next ≡ false → past_cast q op next ≡ None
 past_none q (Cast s t x) (Store a base ty c v) e = absurd cc
 past_none q (Cast s t x) (Load a base ty c) e = refl
+past_none q (Cast s t x) (Gather a base ty r u y) e = refl
 past_none q (Cast s t x) (Apply op ty y) e = refl
 past_none q (Cast s t x) (Combine op ty y z) e = refl
 past_none q (Cast s t x) (Move left n ty y) e = refl
@@ -70,6 +71,7 @@ past_none q (Cast s t x) (Same c) e = refl
 past_none q (Cast s t x) (Any c d) e = refl
 past_none q (Cast s t x) (Quit c) e = refl
 past_none q (Load a base ty c) next e = refl
+past_none q (Gather a base ty r u y) next e = refl
 past_none q (Apply op ty y) next e = refl
 past_none q (Combine op ty y z) next e = refl
 past_none q (Move left n ty y) next e = refl
@@ -92,9 +94,9 @@ pub plain_casts : (l : Layout) (b : ℕ) (rest : List Item) → NoStore rest →
 plain_casts l b [] n = λ it from. tt
 plain_casts l b (next ∷ rest) n = λ it from op e. let none = past_none it.item it.op next.op n in absurd cc
 
-load_plain : (s : Scope) (mask : Option ℕ) (q : ℕ) (env : List Bound) (a : List ℕ) (o : Option ℤ) (rest : List Item) → NoStore rest → NoStore (load_item s mask q env a o rest)
-load_plain s mask q env a None rest h = h
-load_plain s mask q env a (Some c) rest h = refl
+load_plain : (s : Scope) (mask : Option ℕ) (q : ℕ) (env : List Bound) (a : List ℕ) (o : Option ℤ) (gathered rest : List Item) → NoStore gathered → NoStore (load_item s mask q env a o gathered rest)
+load_plain s mask q env a None gathered rest h = h
+load_plain s mask q env a (Some c) gathered rest h = refl
 
 record TermPlain (t : Term) : Type 0 where
   as_value : (s : Scope) (want : Option Ty) (mask : Option ℕ) (b : ℕ) (env : List Bound) (rest : List Item) → NoStore rest → NoStore (term_items s want mask b env t rest)
@@ -103,7 +105,7 @@ record TermPlain (t : Term) : Type 0 where
 term_plain : (t : Term) → TermPlain t
 term_plain (Literal n) = record { as_value = λ s want mask b env rest h. h; as_cond = λ s mask b env rest h. h }
 term_plain (Variable x) = record { as_value = λ s want mask b env rest h. h; as_cond = λ s mask b env rest h. h }
-term_plain (Element a j) = record { as_value = λ s want mask b env rest h. load_plain s mask _ env a (stream_offset s.index j) rest h; as_cond = λ s mask b env rest h. h }
+term_plain (Element a j) = record { as_value = λ s want mask b env rest h. load_plain s mask _ env a (stream_offset s.index j) _ rest ((term_plain j).as_value s (index_type s j) mask b env _ refl); as_cond = λ s mask b env rest h. h }
 term_plain (Unary op e) = record { as_value = λ s want mask b env rest h. (term_plain e).as_value s want mask b env _ refl; as_cond = λ s mask b env rest h. h }
 term_plain (Operation op x y) = record { as_value = λ s want mask b env rest h. (term_plain x).as_value s want mask b env _ ((term_plain y).as_value s want mask _ env _ refl); as_cond = λ s mask b env rest h. h }
 term_plain (Shift to_left e n) = record { as_value = λ s want mask b env rest h. (term_plain e).as_value s want mask b env _ refl; as_cond = λ s mask b env rest h. h }

@@ -7,15 +7,15 @@ use Rattle.kernel_tree.specs.declared.ops.Ty.TheVariants.{U64}
 use Rattle.kernel_tree.specs.declared.fault.Binding.{Binding}
 use Rattle.kernel_tree.specs.Plain.{Term, Literal, Variable, Element, Unary, Operation, Shift, Conversion, Choice, Comparison, Both, Either, Not, Program}
 use Rattle.kernel_tree.specs.Wrap.{bits_of}
-use Rattle.kernel_tree.specs.Items.{stream_offset, term_size, loop_index}
-use Rattle.kernel_tree.specs.Typing.{Scope, Local, own, value_type, side_type}
+use Rattle.kernel_tree.specs.Items.{stream_offset, term_size, index_items, loop_index}
+use Rattle.kernel_tree.specs.Typing.{Scope, Local, own, value_type, index_type, side_type}
 use Rattle.kernel_tree.proofs.Names.{bytes_same}
 use Rattle.reg_assign.specs.declared.interval.RegClass.TheVariants.{Z, P}
 use Rattle.reg_assign.specs.Registers.{Assignment}
 use Rattle.loop_form.specs.declared.loop_item.Source.{Source}
 use Rattle.loop_form.specs.declared.loop_item.Source.TheVariants.{Constant, Made}
 use Rattle.loop_form.specs.Entries.{Content, IsLiteral, IsName, IsRead}
-use Rattle.loop_form.specs.LoopItems.{Bound, Item, source_at, array_type, home, truth_home, load_item, term_items, cond_items, loop_items_of}
+use Rattle.loop_form.specs.LoopItems.{Bound, Item, source_at, array_type, home, truth_home, gather_item, load_item, term_items, cond_items, loop_items_of}
 use Rattle.lane_emit.specs.ItemCode.{made_type}
 use Rattle.chunk_emit.specs.Chunk.{Setting}
 use Rattle.chunk_emit.specs.Fits.{FitsSource, FitsOperand, FitsTruth}
@@ -36,9 +36,9 @@ abbrev pub AllTyped : Program → List Item → Type 0
 AllTyped k [] = Unit {0}
 AllTyped k (it ∷ items) = IsTyped k it × AllTyped k items
 
-load_typed : (k : Program) (s : Scope) (mask : Option ℕ) (q : ℕ) (env : List Bound) (a : List ℕ) (o : Option ℤ) (rest : List Item) → AllTyped k (load_item s mask q env a o rest) → AllTyped k rest
-load_typed k s mask q env a None rest h = h
-load_typed k s mask q env a (Some c) rest h = h.1
+load_typed : (k : Program) (s : Scope) (mask : Option ℕ) (q : ℕ) (env : List Bound) (a : List ℕ) (o : Option ℤ) (gathered rest : List Item) → (AllTyped k gathered → AllTyped k rest) → AllTyped k (load_item s mask q env a o gathered rest) → AllTyped k rest
+load_typed k s mask q env a None gathered rest f h = f h
+load_typed k s mask q env a (Some c) gathered rest f h = h.1
 
 record TermTyped (k : Program) (t : Term) : Type 0 where
   as_value : (s : Scope) (want : Option Ty) (mask : Option ℕ) (b : ℕ) (env : List Bound) (rest : List Item) → AllTyped k (term_items s want mask b env t rest) → AllTyped k rest
@@ -47,7 +47,7 @@ record TermTyped (k : Program) (t : Term) : Type 0 where
 term_typed : (k : Program) (t : Term) → TermTyped k t
 term_typed k (Literal n) = record { as_value = λ s want mask b env rest h. h; as_cond = λ s mask b env rest h. h }
 term_typed k (Variable x) = record { as_value = λ s want mask b env rest h. h; as_cond = λ s mask b env rest h. h }
-term_typed k (Element a j) = record { as_value = λ s want mask b env rest h. load_typed k s mask _ env a (stream_offset s.index j) rest h; as_cond = λ s mask b env rest h. h }
+term_typed k (Element a j) = record { as_value = λ s want mask b env rest h. load_typed k s mask (b + index_items s.index j) env a (stream_offset s.index j) (term_items s (index_type s j) mask b env j (gather_item s mask b (b + index_items s.index j) env a j ∷ rest)) rest (λ g. ((term_typed k j).as_value s (index_type s j) mask b env (gather_item s mask b (b + index_items s.index j) env a j ∷ rest) g).1) h; as_cond = λ s mask b env rest h. h }
 term_typed k (Unary op e) = record { as_value = λ s want mask b env rest h. ((term_typed k e).as_value s want mask b env _ h).1; as_cond = λ s mask b env rest h. h }
 term_typed k (Operation op x y) = record { as_value = λ s want mask b env rest h. ((term_typed k y).as_value s want mask _ env _ ((term_typed k x).as_value s want mask b env _ h)).1; as_cond = λ s mask b env rest h. h }
 term_typed k (Shift to_left e n) = record { as_value = λ s want mask b env rest h. ((term_typed k e).as_value s want mask b env _ h).1; as_cond = λ s mask b env rest h. h }
@@ -118,16 +118,21 @@ module _ (k : Program) (zs ps : Assignment) (f : Setting) (setting : FitsSetting
     name_fits x T b u le at None e g = absurd cc
     name_fits x T b u le at (Some bd) e g = home_fits x T b u bd (source_at env x) le at g (names.home x bd e)
 
-    read_fits : (a : List ℕ) (j : Term) (T : Ty) (mask : Option ℕ) (q u : ℕ) (rest : List Item) (o : Option ℤ) (c : ℤ) → At k q (IsRead a j) u (Some T) → array_type S a ≡ Some T → o ≡ Some c → q < u → AllTyped k (load_item S mask q env a o rest) → FitsOperand (layout_of_loop k zs ps) f.w u T (Made q)
-    read_fits a j T mask q u rest o c at e g lt typed =
-        let here : AllTyped k (load_item S mask q env a (Some c) rest) = subst (λ z. AllTyped k (load_item S mask q env a z rest)) g typed in
-        made_fits q u T lt at.known.gives.value_last_use (here.0 ∙ e) (at_width q _ u T at)
+    read_type : (a : List ℕ) (mask : Option ℕ) (q : ℕ) (gathered rest : List Item) (o : Option ℤ) → (AllTyped k gathered → type_in (loop_items_of k) q ≡ array_type S a) → AllTyped k (load_item S mask q env a o gathered rest) → type_in (loop_items_of k) q ≡ array_type S a
+    read_type a mask q gathered rest None f h = f h
+    read_type a mask q gathered rest (Some c) f h = h.0
+
+    read_fits : (a : List ℕ) (j : Term) (T : Ty) (mask : Option ℕ) (b u : ℕ) (rest : List Item) → At k (b + index_items i j) (IsRead a j) u (Some T) → array_type S a ≡ Some T → b + index_items i j < u → AllTyped k (term_items S (Some T) mask b env (Element a j) rest) → FitsOperand (layout_of_loop k zs ps) f.w u T (Made (b + index_items i j))
+    read_fits a j T mask b u rest at e lt typed =
+        let q : ℕ = b + index_items i j in
+        let gathered : List Item = term_items S (index_type S j) mask b env j (gather_item S mask b q env a j ∷ rest) in
+        made_fits q u T lt at.known.gives.value_last_use (read_type a mask q gathered rest (stream_offset i j) (λ g. (value_following k j S (index_type S j) mask b env (gather_item S mask b q env a j ∷ rest) g).0) typed ∙ e) (at_width q _ u T at)
 
     -- the value of an expression is in a register until its user
     pub operand_fits : (t : Term) (T : Ty) (mask : Option ℕ) (b u : ℕ) (rest : List Item) → KnownValue k S T b u t → b0 ≤ u → b + term_size i t ≤ u → AllTyped k (term_items S (Some T) mask b env t rest) → FitsOperand (layout_of_loop k zs ps) f.w u T (home i (Some T) b env t)
     operand_fits (Literal n) T mask b u rest h from le typed = literal_fits b u T n h
     operand_fits (Variable x) T mask b u rest h from le typed = (name_fits x T b u from h.0 (binding_at v x) refl h.1, at_width b _ u T h.0)
-    operand_fits (Element a j) T mask b u rest h from le typed = read_fits a j T mask _ u rest (stream_offset i j) h.2.offset h.0 h.1 h.2.is (omega (arith, le)) typed
+    operand_fits (Element a j) T mask b u rest h from le typed = read_fits a j T mask b u rest h.0 h.1 (omega (arith, le)) typed
     operand_fits (Unary op x) T mask b u rest h from le typed = made_fits _ u T (omega (arith, le)) h.1.known.gives.value_last_use (value_following k x S (Some T) mask b env _ typed).0 (at_width _ _ u T h.1)
     operand_fits (Operation op x y) T mask b u rest h from le typed =
         made_fits _ u T (omega (arith, le)) h.2.known.gives.value_last_use (value_following k y S (Some T) mask _ env _ (value_following k x S (Some T) mask b env _ typed)).0 (at_width _ _ u T h.2)

@@ -1,5 +1,5 @@
 -- The items of the expressions of a checked kernel's loop fit its layout.
-use Rattle.std.proofs.Common.{◌≡◌, ℕ, ◌+◌, ◌<◌, ◌≤◌, ℤ, pos, negsuc, Bool, true, List, ◌∷◌, length, Option, Some, None, refl, sym, ap, ◌∙◌, subst, arith}
+use Rattle.std.proofs.Common.{◌≡◌, ℕ, ◌+◌, ◌<◌, ◌≤◌, ℤ, pos, negsuc, Bool, true, List, ◌∷◌, length, Option, Some, None, refl, sym, ◌∙◌, subst, arith}
 use Rattle.std.specs.Prelude.{◌^◌, option_and_then}
 use Rattle.std.proofs.Math.Nat.{mod-le}
 use Rattle.std.proofs.lemmas.Bool.{ltb-true}
@@ -10,25 +10,28 @@ use Rattle.kernel_tree.specs.declared.fault.Binding.{Binding}
 use Rattle.kernel_tree.specs.declared.fault.Binding.TheVariants as binding
 use Rattle.kernel_tree.specs.Plain.{Term, Literal, Variable, Element, Unary, Operation, Shift, Conversion, Choice, Comparison, Both, Either, Not, Program}
 use Rattle.kernel_tree.specs.Wrap.{bits_of}
-use Rattle.kernel_tree.specs.Items.{stream_offset, index_size, index_items, term_size, loop_index}
-use Rattle.kernel_tree.specs.Typing.{Scope, Local, own, element_type, side_type, is_below}
+use Rattle.kernel_tree.specs.Items.{stream_offset, index_size, term_size, loop_index}
+use Rattle.kernel_tree.specs.Typing.{Scope, Local, own, element_type, index_type, side_type, is_below}
 use Rattle.kernel_meaning.specs.Operators.{shift_count}
 use Rattle.reg_assign.specs.declared.interval.RegClass.TheVariants.{Z, P}
 use Rattle.reg_assign.specs.Registers.{Assignment}
 use Rattle.loop_form.specs.declared.loop_item.Source.{Source}
 use Rattle.loop_form.specs.declared.item.ItemKind.TheVariants as kind
 use Rattle.loop_form.specs.Entries.{IsRead, IsPlain}
-use Rattle.loop_form.specs.LoopItems.{Load, Apply, Combine, Move, Cast, Pick, Test, Invert, Same, Any, Item, item, Bound, source_at, array_type, home, truth_home, load_item, term_items, cond_items, loop_items_of}
+use Rattle.loop_form.specs.LoopItems.{Load, Gather, Apply, Combine, Move, Cast, Pick, Test, Invert, Same, Any, Item, item, Bound, source_at, array_type, home, truth_home, index_source, gather_item, load_item, term_items, cond_items, loop_items_of}
 use Rattle.chunk_emit.specs.Chunk.{Setting}
-use Rattle.chunk_emit.specs.Fits.{FitsOperand, FitsBase, MakesValue, MakesTruth, MakesNothing}
+use Rattle.loop_form.specs.Lanes.{lane_width_of}
+use Rattle.loop_form.specs.Reaches.{reach_of_type}
+use Rattle.guest_types.specs.declared.length.Width.TheVariants.{D}
+use Rattle.chunk_emit.specs.Fits.{IsNear, FitsMask, FitsOperand, FitsBase, MakesValue, MakesTruth, MakesNothing}
 use Rattle.chunk_emit.specs.KernelLayout.{item_last_use, type_in, layout_of_loop}
 use Rattle.chunk_emit.specs.LoopFits.{FitsSetting, FitsSteps}
 use Rattle.chunk_emit.proofs.FitsBases.{base_fits}
 use Rattle.chunk_emit.proofs.FitsKnown.{At}
 use Rattle.chunk_emit.proofs.FitsNames.{binding_at, HomeIs, Names}
-use Rattle.chunk_emit.proofs.FitsTrees.{IsStream, KnownValue, KnownTruth}
+use Rattle.chunk_emit.proofs.FitsTrees.{IndexBy, KnownValue, KnownTruth}
 use Rattle.chunk_emit.proofs.FitsSources.{AllTyped, value_following, truth_following, made_is, at_width, operand_fits, truth_is, truth_lasts}
-use Rattle.chunk_emit.proofs.FitsPlaces.{moved, skip, step, plain_step, IsMasked, CastsEnd, plain_casts, value_plain, truth_plain}
+use Rattle.chunk_emit.proofs.FitsPlaces.{NoStore, moved, skip, step, plain_step, IsMasked, CastsEnd, plain_casts, value_plain, truth_plain}
 
 -- a count of a shift that the type allows
 count_below : (n : ℤ) (m : ℕ) → is_below n m ≡ true → shift_count n < m
@@ -70,17 +73,28 @@ module _ (k : Program) (zs ps : Assignment) (f : Setting) (setting : FitsSetting
     pub operand : (t : Term) (T : Ty) (mask : Option ℕ) (b u : ℕ) (rest : List Item) → KnownValue k S T b u t → b0 ≤ u → b + term_size i t ≤ u → AllTyped k (term_items S (Some T) mask b env t rest) → FitsOperand (layout_of_loop k zs ps) f.w u T (home i (Some T) b env t)
     operand t T mask b u rest h from le typed = operand_fits k zs ps f setting v tk ins b0 env names t T mask b u rest h from le typed
 
-    load_steps : (a : List ℕ) (j : Term) (T : Ty) (mask : Option ℕ) (q p u : ℕ) (rest : List Item) (o : Option ℤ) (stream : IsStream i j) (t : Option Ty) → At k q (IsRead a j) u (Some T) → array_type S a ≡ t → t ≡ Some T → o ≡ Some stream.offset → q < u → p ≡ q + 1
-        → AllTyped k (load_item S mask q env a o rest) → IsMasked (layout_of_loop k zs ps) q p mask → FitsSteps (layout_of_loop k zs ps) f p rest → FitsSteps (layout_of_loop k zs ps) f q (load_item S mask q env a o rest)
-    load_steps a j T mask q p u rest o stream t at same e g lt number typed masked following =
+    load_steps : (a : List ℕ) (j : Term) (T : Ty) (mask : Option ℕ) (q p u : ℕ) (gathered rest : List Item) (c : ℤ) (t : Option Ty) → At k q (IsRead a j) u (Some T) → array_type S a ≡ t → t ≡ Some T → IsNear c → q < u → p ≡ q + 1
+        → AllTyped k (load_item S mask q env a (Some c) gathered rest) → IsMasked (layout_of_loop k zs ps) q p mask → FitsSteps (layout_of_loop k zs ps) f p rest → FitsSteps (layout_of_loop k zs ps) f q (load_item S mask q env a (Some c) gathered rest)
+    load_steps a j T mask q p u gathered rest c t at same e near lt number typed masked following =
         let L = layout_of_loop k zs ps in
-        let typed2 : AllTyped k (load_item S mask q env a (Some stream.offset) rest) = subst (λ z. AllTyped k (load_item S mask q env a z rest)) g typed in
         let last_use : item_last_use k Z q ≡ u = at.known.gives.value_last_use in
         let here =
-        plain_step L f q p mask (Load a (source_at env a) (Some T) stream.offset) rest number (masked q (omega arith) (omega (arith, number)))
-        (array_fits a T (same ∙ e), stream.near, at_width k zs ps f setting q (IsRead a j) u T at, omega (arith, last_use, lt), value_makes q T at.known.gives.truth_last_use (typed2.0 ∙ same ∙ e)) (λ r next. refl) following in
-        let there : FitsSteps L f q (load_item S mask q env a (Some stream.offset) rest) = subst (λ z. FitsSteps L f q (item q mask (Load a (source_at env a) z stream.offset) ∷ rest)) (sym (same ∙ e)) here in
-        subst (λ z. FitsSteps L f q (load_item S mask q env a z rest)) (sym g) there
+        plain_step L f q p mask (Load a (source_at env a) (Some T) c) rest number (masked q (omega arith) (omega (arith, number)))
+        (array_fits a T (same ∙ e), near, at_width k zs ps f setting q (IsRead a j) u T at, omega (arith, last_use, lt), value_makes q T at.known.gives.truth_last_use (typed.0 ∙ same ∙ e)) (λ r next. refl) following in
+        subst (λ z. FitsSteps L f q (item q mask (Load a (source_at env a) z c) ∷ rest)) (sym (same ∙ e)) here
+
+    -- a read at a computed index, whose index fits
+    gather_step : (a : List ℕ) (j : Term) (T U : Ty) (mask : Option ℕ) (b q p u : ℕ) (rest : List Item) → At k q (IsRead a j) u (Some T) → array_type S a ≡ Some T → index_type S j ≡ Some U → lane_width_of k ≡ D → q < u → p ≡ q + 1
+        → FitsOperand (layout_of_loop k zs ps) f.w q U (home i (Some U) b env j) → type_in (loop_items_of k) q ≡ array_type S a → FitsMask (layout_of_loop k zs ps) q mask → FitsSteps (layout_of_loop k zs ps) f p rest → FitsSteps (layout_of_loop k zs ps) f q (gather_item S mask b q env a j ∷ rest)
+    gather_step a j T U mask b q p u rest at array index lane lt number fits typed masked following =
+        let L = layout_of_loop k zs ps in
+        let last_use : item_last_use k Z q ≡ u = at.known.gives.value_last_use in
+        let wide : f.w ≡ D = setting.width ∙ lane in
+        let reach : Option ℕ = reach_of_type (index_source S j) in
+        let here = plain_step L f q p mask (Gather a (source_at env a) (Some T) reach (Some U) (home i (Some U) b env j)) rest number masked
+        (array_fits a T array, wide, (index_source S j, refl), fits, omega (arith, last_use, lt), value_makes q T at.known.gives.truth_last_use (typed ∙ array)) (λ r next. refl) following in
+        subst (λ z. FitsSteps L f q (item q mask (Gather a (source_at env a) z reach (index_type S j) (home i (index_type S j) b env j)) ∷ rest)) (sym array)
+        (subst (λ z. FitsSteps L f q (item q mask (Gather a (source_at env a) (Some T) reach z (home i z b env j)) ∷ rest)) (sym index) here)
 
     -- what fits before the items of an operand
     abbrev Before : (x : Term) (U : Ty) (mask : Option ℕ) (b : ℕ) → Type 0
@@ -122,16 +136,35 @@ module _ (k : Program) (zs ps : Assignment) (f : Setting) (setting : FitsSetting
         subst (λ z. FitsSteps L f b (term_items S z mask b env x (term_items S z mask b1 env y (item q mask (Test op z (home i z b env x) (home i z b1 env y)) ∷ rest)))) (sym e)
         (first later typed2 (plain_casts L b later (value_plain y S (Some U) mask b1 env last refl), there))
 
+    element_steps : (a : List ℕ) (j : Term) (T : Ty) (mask : Option ℕ) (b u p : ℕ) (rest : List Item) (o : Option ℤ)
+        → IndexBy o ((U : Ty) × (index_type S j ≡ Some U) × KnownValue k S U b (b + index_size o (term_size i j)) j × (lane_width_of k ≡ D))
+        → At k (b + index_size o (term_size i j)) (IsRead a j) u (Some T) → array_type S a ≡ Some T → b + index_size o (term_size i j) < u → p ≡ b + index_size o (term_size i j) + 1
+        → AllTyped k (load_item S mask (b + index_size o (term_size i j)) env a o (term_items S (index_type S j) mask b env j (gather_item S mask b (b + index_size o (term_size i j)) env a j ∷ rest)) rest)
+        → IsMasked (layout_of_loop k zs ps) b p mask → FitsSteps (layout_of_loop k zs ps) f p rest
+        → ((U : Ty) (last : List Item) → KnownValue k S U b (b + term_size i j) j → AllTyped k (term_items S (Some U) mask b env j last) → IsMasked (layout_of_loop k zs ps) b (b + term_size i j) mask → NoStore last × FitsSteps (layout_of_loop k zs ps) f (b + term_size i j) last → FitsSteps (layout_of_loop k zs ps) f b (term_items S (Some U) mask b env j last))
+        → b0 ≤ b
+        → FitsSteps (layout_of_loop k zs ps) f b (load_item S mask (b + index_size o (term_size i j)) env a o (term_items S (index_type S j) mask b env j (gather_item S mask b (b + index_size o (term_size i j)) env a j ∷ rest)) rest)
+    element_steps a j T mask b u p rest (Some c) near at array lt number typed masked following more from =
+        moved (layout_of_loop k zs ps) f (b + 0) b (load_item S mask (b + 0) env a (Some c) (term_items S (index_type S j) mask b env j (gather_item S mask b (b + 0) env a j ∷ rest)) rest) (omega arith)
+        (load_steps a j T mask (b + 0) p u (term_items S (index_type S j) mask b env j (gather_item S mask b (b + 0) env a j ∷ rest)) rest c (array_type S a) at refl array near (omega (arith, lt)) (omega (arith, number)) typed (λ r lo hi. masked r (omega (arith, lo)) (omega (arith, hi))) following)
+    element_steps a j T mask b u p rest None known at array lt number typed masked following more from =
+        let q : ℕ = b + term_size i j in
+        let last : List Item = gather_item S mask b q env a j ∷ rest in
+        let typed2 : AllTyped k (term_items S (Some known.0) mask b env j last) = subst (λ w. AllTyped k (term_items S w mask b env j last)) known.1 typed in
+        let fits = operand j known.0 mask b q last known.2 (omega (arith, from)) (omega arith) typed2 in
+        let mine : type_in (loop_items_of k) q ≡ array_type S a = (value_following k j S (Some known.0) mask b env last typed2).0 in
+        let here = gather_step a j T known.0 mask b q p u rest at array known.1 known.3 (omega (arith, lt)) (omega (arith, number)) fits mine (masked q (omega arith) (omega (arith, number))) following in
+        subst (λ w. FitsSteps (layout_of_loop k zs ps) f b (term_items S w mask b env j last)) (sym known.1)
+        (more known.0 last known.2 typed2 (λ r lo hi. masked r lo (omega (arith, number, hi))) (refl, here))
+
     mutual
       pub value_steps : (t : Term) (T : Ty) (mask : Option ℕ) (b u : ℕ) (rest : List Item) → KnownValue k S T b u t → b0 ≤ b → b + term_size i t ≤ u → AllTyped k (term_items S (Some T) mask b env t rest) → IsMasked (layout_of_loop k zs ps) b (b + term_size i t) mask → CastsEnd (layout_of_loop k zs ps) b rest
           → FitsSteps (layout_of_loop k zs ps) f (b + term_size i t) rest → FitsSteps (layout_of_loop k zs ps) f b (term_items S (Some T) mask b env t rest)
       value_steps (Literal n) T mask b u rest h from le typed masked casts following = skip (layout_of_loop k zs ps) f b rest (nothing_made b h.known.gives.value_last_use h.known.gives.truth_last_use) following
       value_steps (Variable x) T mask b u rest h from le typed masked casts following = skip (layout_of_loop k zs ps) f b rest (nothing_made b h.0.known.gives.value_last_use h.0.known.gives.truth_last_use) following
       value_steps (Element a j) T mask b u rest h from le typed masked casts following =
-          let q = b + index_items i j in
-          let none : index_items i j ≡ 0 = ap (λ o. index_size o (term_size i j)) h.2.is in
-          moved (layout_of_loop k zs ps) f q b (load_item S mask q env a (stream_offset i j) rest) (omega (arith, none))
-          (load_steps a j T mask q (b + term_size i (Element a j)) u rest (stream_offset i j) h.2 (array_type S a) h.0 refl h.1 h.2.is (omega (arith, le)) (omega arith) typed (λ r lo hi. masked r (omega (arith, lo)) (omega (arith, hi))) following)
+          element_steps a j T mask b u (b + term_size i (Element a j)) rest (stream_offset i j) h.2 h.0 h.1 (omega (arith, le)) (omega arith) typed masked following
+          (λ U last known typed2 masked2 fits. value_steps j U mask b (b + term_size i j) last known from (omega arith) typed2 masked2 (plain_casts (layout_of_loop k zs ps) b last fits.0) fits.1) from
       value_steps (Unary op x) T mask b u rest h from le typed masked casts following =
           let L = layout_of_loop k zs ps in
           let q = b + term_size i x in

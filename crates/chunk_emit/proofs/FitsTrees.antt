@@ -5,12 +5,15 @@ use Rattle.kernel_tree.specs.declared.ops.Ty.{Ty}
 use Rattle.kernel_tree.specs.Plain.{Term, Literal, Variable, Element, Unary, Operation, Shift, Conversion, Choice, Comparison, Both, Either, Not, Program}
 use Rattle.kernel_tree.specs.Wrap.{bits_of}
 use Rattle.kernel_tree.specs.Items.{term_size, index_items, stream_offset, loop_index}
-use Rattle.kernel_tree.specs.Typing.{Scope, Local, Value, Condition, lookup, own, element_type, value_type, index_type, side_type, faults, as_value, as_condition, mismatch, read_faults, inner_faults, is_below, shift_faults, inner_types, term_types}
+use Rattle.kernel_tree.specs.Typing.{Scope, Local, Value, Condition, lookup, own, first, element_type, value_type, index_type, side_type, faults, as_value, as_condition, mismatch, read_faults, inner_faults, is_below, shift_faults, inner_types, term_types}
 use Rattle.kernel_tree.proofs.Faultless.{nil-left, nil-right, never}
 use Rattle.kernel_tree.proofs.NoFault.{is_empty, no_mismatch, no_name, no_read, untyped_some}
 use Rattle.loop_form.specs.Entries.{IsLiteral, IsName, IsRead, IsPlain, inner_entries, term_entries}
 use Rattle.chunk_emit.specs.Fits.{IsNear}
 use Rattle.loop_form.proofs.ItemTypes.{inner, term_matches}
+use Rattle.loop_form.specs.Lanes.{lane_width_of}
+use Rattle.guest_types.specs.declared.length.Width.TheVariants.{D}
+use Rattle.kernel_tree.specs.declared.ops.Ty.TheVariants.{U64}
 use Rattle.chunk_emit.proofs.FitsKnown.{Part, part_left, part_right, part_following, At, at_head}
 use Rattle.loop_form.specs.Near as near
 use Rattle.loop_form.specs.declared.item.ItemKind.TheVariants as kind
@@ -34,6 +37,19 @@ is_stream i j streamed is_near = by (stream_offset i j) refl streamed is_near
     by None e s n = absurd cc
     by (Some c) e s n = record { offset = c; is = e; near = n }
 
+-- a stream index has a near offset, and of a computed one more is known
+abbrev pub IndexBy : Option ℤ → Type 0 → Type 0
+IndexBy (Some c) N = IsNear c
+IndexBy None N = N
+
+index_by : {N : Type 0} (o : Option ℤ) → near.IsNear o → (o ≡ None → N) → IndexBy o N
+index_by None n f = f refl
+index_by (Some c) n f = n
+
+first_of : (o : Option Ty) → (T : Ty) × (first o (Some U64) ≡ Some T)
+first_of None = (U64, refl)
+first_of (Some t) = (t, refl)
+
 -- ---- expressions
 
 abbrev mutual
@@ -41,7 +57,8 @@ abbrev mutual
   pub KnownValue : Program → Scope → Ty → (b user : ℕ) → Term → Type 0
   KnownValue k s T b user (Literal n) = At k b (IsLiteral n) user (Some T)
   KnownValue k s T b user (Variable x) = At k b (IsName x) user (Some T) × (option_and_then value_type (lookup s x) ≡ Some T)
-  KnownValue k s T b user (Element a j) = At k (b + index_items (loop_index k) j) (IsRead a j) user (Some T) × (option_and_then element_type (lookup s a) ≡ Some T) × IsStream (loop_index k) j
+  KnownValue k s T b user (Element a j) = At k (b + index_items (loop_index k) j) (IsRead a j) user (Some T) × (option_and_then element_type (lookup s a) ≡ Some T)
+      × IndexBy (stream_offset (loop_index k) j) ((U : Ty) × (index_type s j ≡ Some U) × KnownValue k s U b (b + index_items (loop_index k) j) j × (lane_width_of k ≡ D))
   KnownValue k s T b user (Unary op e) = KnownValue k s T b (b + term_size (loop_index k) e) e × At k (b + term_size (loop_index k) e) (IsPlain kind.Unary) user (Some T)
   KnownValue k s T b user (Operation op x y) =
       KnownValue k s T b (b + term_size (loop_index k) x + term_size (loop_index k) y) x
@@ -104,8 +121,19 @@ module _ (k : Program) (v : List Local) (tk : List (List ℕ)) (ins : Bool) wher
         let e2 = nil-right (as_value item (Value (Some T))) _ (nil-right (inner_faults o fs) _ e) in
         let es = term_entries k b q j in
         let ts = term_types S (Value (index_type S j)) j in
-        let at = at_head k q _ user [] (Some T) [] (part_right k (inner_entries o es) _ (inner_types o ts) _ (inner k o es ts (term_matches k j S _ b q refl)) p) in
-        (at, no_read item ins T (lookup S a) (nil-left (read_faults item ins (Some T) (lookup S a)) _ e2), is_stream i j at.known.streamed at.known.near)
+        let at = at_head k q _ user [] (Some T) [] (part_right k (inner_entries o es) _ (inner_types o ts) _ (inner k o es ts (term_matches k j S _ b q refl)) p) in (
+          at,
+          no_read item ins T (lookup S a) (nil-left (read_faults item ins (Some T) (lookup S a)) _ e2),
+          index_by o at.known.near (λ none.
+              let U = first_of (own S j) in
+              let inner_known : Part k es ts = subst (λ (o : Option ℤ). Part k (inner_entries o es) (inner_types o ts)) none (part_left k (inner_entries o es) _ (inner_types o ts) _ (inner k o es ts (term_matches k j S _ b q refl)) p) in
+              let fine : fs ≡ [] = subst (λ (o : Option ℤ). inner_faults o fs ≡ []) none (nil-left (inner_faults o fs) _ e) in (
+                U.0,
+                U.1,
+                value_known j U.0 f b q (subst (λ w. faults S f (Value w) j ≡ []) U.1 fine) (subst (λ w. Part k es (term_types S (Value w) j)) U.1 inner_known),
+                at.known.wide_read (ap is_none none),
+              )),
+        )
     value_known (Unary op x) T f b user e p =
         let q = b + term_size i x in
         let m = term_matches k x S (Value (Some T)) b q refl in

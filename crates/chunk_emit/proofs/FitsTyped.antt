@@ -10,8 +10,8 @@ use Rattle.kernel_meaning.specs.Eval.{Names}
 use Rattle.kernel_meaning.specs.ScalarRun.{argument_names, argument, started}
 use Rattle.kernel_meaning.proofs.Started.{started_names}
 use Rattle.loop_form.specs.declared.loop_item.Source.TheVariants.{LoopIndex}
-use Rattle.chunk_order.specs.Orders.{Lane}
-use Rattle.chunk_order.specs.Items.{nth_value, source_value}
+use Rattle.vector_order.specs.Orders.{Lane}
+use Rattle.vector_order.specs.Operands.{nth_value, source_value}
 use Rattle.lane_emit.specs.Right.{IsOf}
 use Rattle.lane_emit.proofs.Ranges.{is_of, wrap-is_of}
 

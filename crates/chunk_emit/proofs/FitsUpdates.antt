@@ -10,7 +10,7 @@ use Rattle.loop_form.specs.Needs.{is_update, updates}
 use Rattle.dependence.specs.Classes.{number_of_update, other_update, updates_otherwise, mixed_content, is_mixed, class_of}
 use Rattle.dependence.specs.declared.reason.Class.TheVariants.{Vector}
 use Rattle.dependence.proofs.ClassLaws.{class_facts}
-use Rattle.chunk_order.proofs.Accesses.{or_false}
+use Rattle.vector_order.proofs.OneAccess.{or_false}
 use Rattle.chunk_emit.specs.KernelLayout.{operator_in, operator_of, update_of}
 use Rattle.kernel_tree.specs.declared.ops.UpdateOp.TheVariants as update
 

@@ -16,7 +16,7 @@ use Rattle.loop_form.specs.declared.loop_item.Source.{Source}
 use Rattle.loop_form.specs.declared.loop_item.Source.TheVariants.{Constant, Outer, LoopIndex, Made}
 use Rattle.loop_form.specs.Entries.{IsName, IsStore, IsUpdate}
 use Rattle.loop_form.specs.Lanes.{var_type}
-use Rattle.loop_form.specs.LoopItems.{Op, Load, Apply, Combine, Move, Cast, Copy, Pick, Store, Add, Test, Invert, Same, Any, Quit, Item, item, Bound, source_at, array_type, accumulator_of, home, store_item}
+use Rattle.loop_form.specs.LoopItems.{Op, Load, Gather, Apply, Combine, Move, Cast, Copy, Pick, Store, Add, Test, Invert, Same, Any, Quit, Item, item, Bound, source_at, array_type, accumulator_of, home, store_item}
 use Rattle.chunk_emit.specs.Registers.{Layout}
 use Rattle.chunk_emit.specs.ChunkCode.{past_cast, is_made}
 use Rattle.chunk_emit.specs.Chunk.{Setting}
@@ -46,6 +46,7 @@ cond_made false o op e = absurd cc
 past_made : (q : ℕ) (before : Op) (a : List ℕ) (base : Source) (t : Option Ty) (c : ℤ) (v : Source) (op : Op) → past_cast q before (Store a base t c v) ≡ Some op → v ≡ Made q
 past_made q (Cast s u x) a base t c v op e = made_same q v (cond_made (is_made q v) (Store a base t c x) op e)
 past_made q (Load b2 base2 ty d) a base t c v op e = absurd cc
+past_made q (Gather b2 base2 ty d u y) a base t c v op e = absurd cc
 past_made q (Apply o ty y) a base t c v op e = absurd cc
 past_made q (Combine o ty y z) a base t c v op e = absurd cc
 past_made q (Move left n ty y) a base t c v op e = absurd cc

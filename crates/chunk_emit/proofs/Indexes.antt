@@ -13,7 +13,7 @@ use Rattle.machine_model.proofs.StateSteps.{x_put}
 use Rattle.label_fix.specs.DraftRun.{Entry, Laid}
 use Rattle.label_fix.specs.Stretches.{Goes}
 use Rattle.label_fix.proofs.StretchSteps.{stay, put_goes}
-use Rattle.chunk_order.specs.Orders.{Lanes}
+use Rattle.vector_order.specs.Orders.{Lanes}
 use Rattle.chunk_emit.specs.Registers.{Layout}
 use Rattle.chunk_emit.specs.ChunkCode.{with_index, index_of, puts}
 use Rattle.chunk_emit.specs.Chunk.{Setting, Holds}

@@ -7,7 +7,7 @@ use Rattle.guest_types.specs.declared.memory.AccessFault.{AccessFault}
 use Rattle.guest_types.specs.Memory.{Memory, stored}
 use Rattle.guest_types.specs.Elements.{first_true}
 use Rattle.guest_types.specs.LaneMemory.{StoredLanes, AllStored, StoreFault, store_on, store_lanes}
-use Rattle.chunk_order.specs.Orders.{Lane, Lanes, Keeps, Writes, Act, Out, Fine, Fail, with_lane, wrote, done, act_does, go_on, column}
+use Rattle.vector_order.specs.Orders.{Lane, Lanes, Keeps, Writes, Act, Out, Fine, Fail, with_lane, wrote, done, act_does, go_on, column}
 
 pub lane_other : (ls : ℕ → Lane) (i j : ℕ) (l : Lane) → i ≢ j → with_lane ls i l j ≡ ls j
 lane_other ls i j l ne = ap (λ b. if b then l else ls j) (ne_eqb i j ne)

@@ -11,11 +11,11 @@ use Rattle.machine_model.specs.InstructionTable.{Listed}
 use Rattle.machine_model.specs.Machine.{State}
 use Rattle.label_fix.specs.DraftRun.{Entry, Put, Laid}
 use Rattle.label_fix.proofs.StretchSteps.{stay, chain, stop_after, stop_more}
-use Rattle.chunk_order.specs.Orders.{Lanes, Out, Fine, Fail, go_on, column, by_item}
+use Rattle.vector_order.specs.Orders.{Lanes, Out, Fine, Fail, go_on, column, by_item}
 use Rattle.loop_form.specs.declared.loop_item.Source.{Source}
 use Rattle.loop_form.specs.declared.loop_item.Source.TheVariants.{Constant, Outer, LoopIndex, Made}
-use Rattle.loop_form.specs.LoopItems.{Op, Load, Apply, Combine, Move, Cast, Copy, Pick, Store, Add, Test, Invert, Same, Any, Quit}
-use Rattle.chunk_order.specs.Items.{source_value, on_mask}
+use Rattle.loop_form.specs.LoopItems.{Op, Load, Gather, Apply, Combine, Move, Cast, Copy, Pick, Store, Add, Test, Invert, Same, Any, Quit}
+use Rattle.vector_order.specs.Operands.{source_value, on_mask}
 use Rattle.vector_order.specs.Items.{item_act, acts_of}
 use Rattle.lane_emit.specs.ItemCode.{mask_register}
 use Rattle.chunk_emit.specs.Registers.{Layout}
@@ -26,6 +26,7 @@ use Rattle.chunk_emit.specs.ItemsRun.{Does, does_fine, does_fail, ItemsRun}
 use Rattle.chunk_emit.proofs.ChunkStates.{holds_later, operand_right, truth_right}
 use Rattle.chunk_emit.proofs.PureItems.{value_runs, truth_runs}
 use Rattle.chunk_emit.proofs.Loads.{load_runs}
+use Rattle.chunk_emit.proofs.Gathers.{gather_runs}
 use Rattle.chunk_emit.proofs.StoreRuns.{store_runs}
 use Rattle.chunk_emit.proofs.Updates.{update_runs}
 use Rattle.chunk_emit.proofs.CastStores.{pair_runs}
@@ -43,6 +44,12 @@ module _ (l : Layout) (fit : Assigned l) (f : Setting) (d : Laid) (rest : List E
   op_runs (Load a LoopIndex (Some ty) c) k = absurd k.0
   op_runs (Load a (Made q) (Some ty) c) k = absurd k.0
   op_runs (Load a base None c) k = absurd k
+  op_runs (Gather a (Outer x) (Some ty) r (Some u) y) k = gather_runs l fit f d rest p t mask fm a x ty r u y k.0.0 k.0.1 k.1 k.5 k.4 k.2 k.3 h
+  op_runs (Gather a (Constant v z) (Some ty) r (Some u) y) k = absurd k.0
+  op_runs (Gather a LoopIndex (Some ty) r (Some u) y) k = absurd k.0
+  op_runs (Gather a (Made q) (Some ty) r (Some u) y) k = absurd k.0
+  op_runs (Gather a base (Some ty) r None y) k = absurd k
+  op_runs (Gather a base None r u y) k = absurd k
   op_runs (Apply op (Some ty) x) k =
       value_runs l fit f d rest h mask fm (Apply op (Some ty) x) (λ j a. unary_value op (Some ty) (source_value f.names j a x)) ty refl refl k.1 (operand_right h fit ty x k.0) (λ j mem a. refl) refl
   op_runs (Apply op None x) k = absurd k
@@ -126,6 +133,7 @@ taken q (Cast s t x) (Store a base ty c (Constant u z)) joined h = absurd cc
 taken q (Cast s t x) (Store a base ty c (Outer p)) joined h = absurd cc
 taken q (Cast s t x) (Store a base ty c LoopIndex) joined h = absurd cc
 taken q (Cast s t x) (Load a base ty c) joined h = absurd cc
+taken q (Cast s t x) (Gather a base ty r u y) joined h = absurd cc
 taken q (Cast s t x) (Apply op ty y) joined h = absurd cc
 taken q (Cast s t x) (Combine op ty y z) joined h = absurd cc
 taken q (Cast s t x) (Move left n ty y) joined h = absurd cc
@@ -139,6 +147,7 @@ taken q (Cast s t x) (Same c) joined h = absurd cc
 taken q (Cast s t x) (Any c d) joined h = absurd cc
 taken q (Cast s t x) (Quit c) joined h = absurd cc
 taken q (Load a base ty c) next joined h = absurd cc
+taken q (Gather a base ty r u y) next joined h = absurd cc
 taken q (Apply op ty y) next joined h = absurd cc
 taken q (Combine op ty y z) next joined h = absurd cc
 taken q (Move left n ty y) next joined h = absurd cc

@@ -6,6 +6,7 @@ pub mod PureItems
 pub mod Indexes
 pub mod LoadForms
 pub mod Loads
+pub mod Gathers
 pub mod StoredBits
 pub mod StoreRuns
 pub mod Updates

@@ -25,9 +25,9 @@ use Rattle.machine_model.proofs.StateSteps.{load_put}
 use Rattle.label_fix.specs.DraftRun.{Entry, Laid}
 use Rattle.label_fix.specs.Stretches.{Goes, Stops}
 use Rattle.label_fix.proofs.StretchSteps.{put_goes, put_stops, chain, stop_after}
-use Rattle.chunk_order.specs.Orders.{Lane, Lanes, Keeps, Act, Out, done, column}
+use Rattle.vector_order.specs.Orders.{Lane, Lanes, Keeps, Act, Out, done, column}
 use Rattle.loop_form.specs.declared.loop_item.Source.TheVariants.{Outer}
-use Rattle.chunk_order.specs.Items.{nth_value, with_value, on_mask, load_effect}
+use Rattle.vector_order.specs.Operands.{nth_value, with_value, on_mask, load_effect}
 use Rattle.loop_form.specs.LoopItems.{Load}
 use Rattle.vector_order.specs.Items.{item_act}
 use Rattle.lane_emit.specs.Right.{IsOf}
@@ -51,7 +51,7 @@ abbrev pub read_lane : Ty → Bool → ℕ → ℤ
 read_lane t true n = wrap t (pos n)
 read_lane t false n = pos 0
 
-read_does : (t : Ty) (q i : ℕ) (s : Lanes) (b : Bool) (o : Option ℕ) (n : ℕ)
+pub read_does : (t : Ty) (q i : ℕ) (s : Lanes) (b : Bool) (o : Option ℕ) (n : ℕ)
     → done (if b then load_effect (s.lane i) q (read_value t (elim o as (λ o. Result ℕ AccessFault) [ None ↦ Ok n | Some fault ↦ Err (record { address = fault; write = false }) ])) else Keeps (with_value (s.lane i) q (pos 0))) i s
     ≡ lane_out (b && is_some o) i (with_value (s.lane i) q (read_lane t b n)) s
 read_does t q i s true None n = refl

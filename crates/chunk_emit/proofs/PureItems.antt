@@ -14,10 +14,10 @@ use Rattle.machine_model.specs.States.{IsState}
 use Rattle.label_fix.specs.DraftRun.{Entry, Laid}
 use Rattle.label_fix.specs.Stretches.{Goes}
 use Rattle.label_fix.proofs.StretchSteps.{stay}
-use Rattle.chunk_order.specs.Orders.{Lane, Lanes, Keeps, Act, Out, done, column}
+use Rattle.vector_order.specs.Orders.{Lane, Lanes, Keeps, Act, Out, done, column}
 use Rattle.loop_form.specs.declared.loop_item.Source.TheVariants.{Made}
-use Rattle.chunk_order.specs.Items.{with_value, on_mask}
-use Rattle.chunk_order.proofs.LaneValues.{value_same, value_other}
+use Rattle.vector_order.specs.Operands.{with_value, on_mask}
+use Rattle.vector_order.proofs.LaneValues.{value_same, value_other}
 use Rattle.loop_form.specs.LoopItems.{Op}
 use Rattle.vector_order.specs.Items.{op_effect, item_act, with_truth}
 use Rattle.vector_order.proofs.Terms.{truth_same, truth_other}

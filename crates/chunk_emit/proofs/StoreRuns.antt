@@ -19,10 +19,10 @@ use Rattle.machine_model.specs.VectorEffects.{do_vector, after_store}
 use Rattle.machine_model.proofs.StateSteps.{stored_memory, store_put}
 use Rattle.label_fix.specs.DraftRun.{Entry, Laid}
 use Rattle.label_fix.proofs.StretchSteps.{put_goes, put_stops}
-use Rattle.chunk_order.specs.Orders.{Lane, Lanes, Keeps, Writes, Act, Out, column}
+use Rattle.vector_order.specs.Orders.{Lane, Lanes, Keeps, Writes, Act, Out, column}
 use Rattle.loop_form.specs.declared.loop_item.Source.{Source}
 use Rattle.loop_form.specs.declared.loop_item.Source.TheVariants.{Outer}
-use Rattle.chunk_order.specs.Items.{nth_value, on_mask}
+use Rattle.vector_order.specs.Operands.{nth_value, on_mask}
 use Rattle.loop_form.specs.LoopItems.{Op, Store}
 use Rattle.vector_order.specs.Items.{item_act}
 use Rattle.lane_emit.specs.Right.{ZRight}

@@ -13,8 +13,8 @@ use Rattle.machine_model.specs.Machine.{State, z_at}
 use Rattle.label_fix.specs.DraftRun.{Entry, Laid}
 use Rattle.loop_form.specs.declared.loop_item.Source.{Source}
 use Rattle.loop_form.specs.LoopItems.{Op, Add}
-use Rattle.chunk_order.specs.Orders.{Share, Lane, Lanes, Act, Out, column}
-use Rattle.chunk_order.specs.Items.{source_value, on_mask}
+use Rattle.vector_order.specs.Orders.{Share, Lane, Lanes, Act, Out, column}
+use Rattle.vector_order.specs.Operands.{source_value, on_mask}
 use Rattle.vector_order.specs.Items.{item_act, with_share, share}
 use Rattle.lane_emit.specs.Right.{IsOf, within}
 use Rattle.lane_emit.specs.ItemCode.{operand, mask_of, mask_register}

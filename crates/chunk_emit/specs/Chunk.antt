@@ -8,10 +8,10 @@ use Rattle.guest_types.specs.EarlyLoads.{StopList}
 use Rattle.kernel_meaning.specs.Eval.{Names}
 use Rattle.machine_model.specs.Machine.{State, x_at, z_at, p_at}
 use Rattle.machine_model.specs.States.{IsState}
-use Rattle.chunk_order.specs.Orders.{Lane, Lanes}
+use Rattle.vector_order.specs.Orders.{Lane, Lanes}
 use Rattle.loop_form.specs.declared.loop_item.Source.{Source}
 use Rattle.loop_form.specs.declared.loop_item.Source.TheVariants.{Made}
-use Rattle.chunk_order.specs.Items.{source_value}
+use Rattle.vector_order.specs.Operands.{source_value}
 use Rattle.lane_emit.specs.Right.{IsOf, ZRight, PRight, within}
 use Rattle.lane_emit.specs.ItemCode.{Chunk, AllOf, operand, truth_of}
 use Rattle.reductions.specs.Folds.{after_all, AreOf, given_to, ShareAlike}

@@ -1,19 +1,20 @@
 -- The code of items over the lanes of a chunk. P0 is true in the lanes of the chunk, X9 is the iteration of the first one, and
 -- X26 is free.
-use Rattle.std.specs.Prelude.{ℕ, zero, suc, ℤ, pos, negsuc, Bool, false, List, [], ◌∷◌, ◌++◌, Option, Some, None, nat_eq, if◌then◌else◌}
+use Rattle.std.specs.Prelude.{ℕ, zero, suc, ◌+◌, ℤ, pos, negsuc, Bool, false, List, [], ◌∷◌, ◌++◌, Option, Some, None, nat_eq, if◌then◌else◌}
 use Rattle.guest_types.specs.declared.length.Width.{Width}
 use Rattle.guest_types.specs.declared.length.Width.TheVariants.{B, H, S, D}
 use Rattle.kernel_tree.specs.declared.ops.Ty.{Ty}
 use Rattle.kernel_tree.specs.declared.ops.Ty.TheVariants as ty
 use Rattle.a64_code.specs.Table as a64
-use Rattle.sve_code.specs.Table.{ld1, st1}
+use Rattle.sve_code.specs.Table.{Name, ld1, gld1b, gld1h, gld1w, gld1d, gld1sb, gld1sh, gld1sw, st1, lsl_imm, uxtb, uxth}
 use Rattle.machine_model.specs.InstructionTable.{Listed, Scalar, Vector}
+use Rattle.kernel_meaning.specs.TypeValues.{fits}
 use Rattle.label_fix.specs.DraftRun.{Entry, Put}
 use Rattle.loop_form.specs.declared.loop_item.Source.{Source}
 use Rattle.loop_form.specs.declared.loop_item.Source.TheVariants.{Constant, Outer, LoopIndex, Made}
-use Rattle.loop_form.specs.LoopItems.{Op, Load, Cast, Store, Add, Item}
+use Rattle.loop_form.specs.LoopItems.{Op, Load, Gather, Cast, Store, Add, Item}
 use Rattle.lane_emit.specs.Stretch.{Word, word}
-use Rattle.lane_emit.specs.LaneCode.{size_of}
+use Rattle.lane_emit.specs.LaneCode.{size_of, shift_word}
 use Rattle.lane_emit.specs.ItemCode.{mask_register, op_code}
 use Rattle.reductions.specs.AccumulatorLanes.{update_code}
 use Rattle.chunk_emit.specs.Registers.{Layout, z_of, base_of, is_used}
@@ -77,6 +78,44 @@ load_word w t d m base index = word ld1 (d ∷ base ∷ m ∷ index ∷ dtype_of
 abbrev pub store_word : Width → Ty → (v m base index : ℕ) → Word
 store_word w t v m base index = word st1 (v ∷ base ∷ m ∷ index ∷ size_of w ∷ memory_size t ∷ [])
 
+-- ---- reads at computed indexes, in lanes of 64 bits
+
+abbrev pub gather_name : Ty → Name
+gather_name ty.I8 = gld1sb
+gather_name ty.U8 = gld1b
+gather_name ty.I16 = gld1sh
+gather_name ty.U16 = gld1h
+gather_name ty.I32 = gld1sw
+gather_name ty.U32 = gld1w
+gather_name ty.I64 = gld1d
+gather_name ty.U64 = gld1d
+
+-- LD1 d, m/Z, [base, offsets]
+abbrev pub gather_word : Ty → (d m base offsets : ℕ) → Word
+gather_word t d m base offsets = word (gather_name t) (d ∷ base ∷ m ∷ offsets ∷ [])
+
+-- The offsets are the indexes shifted by the size of an element, which are made where the elements then go.
+abbrev pub gather_by : (shift : ℕ) → Ty → (d m base index : ℕ) → List Word
+gather_by zero t d m base index = gather_word t d m base index ∷ []
+gather_by (suc k) t d m base index = shift_word lsl_imm d index (64 + suc k) ∷ gather_word t d m base d ∷ []
+
+-- the type that has a reach, which is 256 or 65,536
+abbrev pub reach_type : ℕ → Ty
+reach_type n = if nat_eq n 256 then ty.U8 else ty.U16
+
+-- The reach to which an index of a type is cut first: its own, where the type has values past it. Such an index is a cast.
+abbrev pub cut_reach : (reach : Option ℕ) → Ty → Option ℕ
+cut_reach None u = None
+cut_reach (Some n) u = if fits u (reach_type n) then None else Some n
+
+-- d = a modulo a reach: UXTB or UXTH d, P1/M, a
+abbrev pub cut_word : (reach d a : ℕ) → Word
+cut_word n d a = word (if nat_eq n 256 then uxtb else uxth) (d ∷ a ∷ 1 ∷ size_of D ∷ [])
+
+abbrev pub gather_code : Ty → (cut : Option ℕ) → (d m base index : ℕ) → List Word
+gather_code t None d m base index = gather_by (memory_size t) t d m base index
+gather_code t (Some n) d m base index = cut_word n d index ∷ gather_by (memory_size t) t d m base d
+
 -- ---- items
 
 abbrev pub vectors : List Word → List Listed
@@ -86,6 +125,7 @@ vectors (v ∷ vs) = Vector v ∷ vectors vs
 -- an item under the mask in predicate register m; one whose value is not used has no code
 abbrev pub op_words : Width → Layout → (q m : ℕ) → Op → List Listed
 op_words w l q m (Load a base (Some t) c) = with_index c (Vector (load_word w t (z_of l q) m (base_of base) (index_of c)) ∷ [])
+op_words w l q m (Gather a base (Some t) r (Some u) x) = vectors (gather_code t (cut_reach r u) (z_of l q) m (base_of base) (l.registers.source x))
 op_words w l q m (Store a base (Some t) c v) = with_index c (Vector (store_word w t (l.registers.source v) m (base_of base) (index_of c)) ∷ [])
 op_words w l q m (Add x op (Some t) v) = vectors (update_code w op t (l.sum x) m (l.registers.source v))
 op_words w l q m op = if is_used l op q then vectors (op_code w l.registers q m op) else []

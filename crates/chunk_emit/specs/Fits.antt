@@ -1,14 +1,16 @@
 -- When a layout fits the items of a loop: what the listing and the registers of live intervals give.
 use Rattle.std.specs.Prelude.{◌≡◌, ◌≢◌, ℕ, ◌+◌, ◌<◌, ◌≤◌, ℤ, true, false, List, [], ◌∷◌, Option, Some, None, slice_index, bytes_eq, unsigned_abs}
 use Rattle.guest_types.specs.declared.length.Width.{Width}
+use Rattle.guest_types.specs.declared.length.Width.TheVariants.{D}
 use Rattle.guest_types.specs.Length.{width_bits}
 use Rattle.kernel_tree.specs.declared.ops.Ty.{Ty}
 use Rattle.kernel_tree.specs.Wrap.{bits_of}
 use Rattle.kernel_meaning.specs.Operators.{word, shift_count}
 use Rattle.loop_form.specs.declared.loop_item.Source.{Source}
 use Rattle.loop_form.specs.declared.loop_item.Source.TheVariants.{Constant, Outer, LoopIndex, Made}
-use Rattle.chunk_order.specs.Items.{nth_value}
-use Rattle.loop_form.specs.LoopItems.{Op, Load, Apply, Combine, Move, Cast, Copy, Pick, Store, Add, Test, Invert, Same, Any, Item}
+use Rattle.loop_form.specs.Reaches.{reach_of_type}
+use Rattle.vector_order.specs.Operands.{nth_value}
+use Rattle.loop_form.specs.LoopItems.{Op, Load, Gather, Apply, Combine, Move, Cast, Copy, Pick, Store, Add, Test, Invert, Same, Any, Item}
 use Rattle.chunk_emit.specs.Registers.{Layout, z_of, p_of, IsValueUsed, IsTruthUsed}
 use Rattle.chunk_emit.specs.ChunkCode.{past_cast}
 use Rattle.chunk_emit.specs.Chunk.{Setting}
@@ -58,6 +60,10 @@ FitsBase f (Constant t z) = ⊥
 FitsBase f LoopIndex = ⊥
 FitsBase f (Made q) = ⊥
 
+-- a reach that a type has, or none
+abbrev pub IsReach : Option ℕ → Type 0
+IsReach r = (o : Option Ty) × (r ≡ reach_of_type o)
+
 -- an offset that one word adds
 abbrev pub IsNear : ℤ → Type 0
 IsNear c = unsigned_abs c ≤ 1024
@@ -74,6 +80,7 @@ MakesNothing l p = (l.z_last_use p ≤ p) × (l.p_last_use p ≤ p)
 
 abbrev pub FitsOp : Layout → Setting → ℕ → Op → Type 0
 FitsOp l f p (Load a base (Some t) c) = FitsBase f base × IsNear c × (bits_of t ≤ width_bits f.w) × IsValueUsed l p × MakesValue l p t
+FitsOp l f p (Gather a base (Some t) r (Some u) x) = FitsBase f base × (f.w ≡ D) × IsReach r × FitsOperand l f.w p u x × IsValueUsed l p × MakesValue l p t
 FitsOp l f p (Apply op (Some t) x) = FitsOperand l f.w p t x × MakesValue l p t
 FitsOp l f p (Combine op (Some t) x y) = FitsOperand l f.w p t x × FitsOperand l f.w p t y × MakesValue l p t
 FitsOp l f p (Move left k (Some t) x) = FitsOperand l f.w p t x × (shift_count k < width_bits f.w) × MakesValue l p t

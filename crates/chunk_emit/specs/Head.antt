@@ -21,9 +21,9 @@ use Rattle.loop_form.specs.Registers.{FitsKernel}
 use Rattle.dependence.specs.Apart.{bound_place}
 use Rattle.dependence.specs.Classes.{class_of}
 use Rattle.dependence.specs.declared.reason.Class.TheVariants.{Vector}
-use Rattle.chunk_order.specs.Apart.{StreamsApart}
-use Rattle.chunk_order.specs.Items.{nth_value, source_value}
-use Rattle.chunk_order.specs.Orders.{Lane}
+use Rattle.vector_order.specs.Apart.{StreamsApart}
+use Rattle.vector_order.specs.Operands.{nth_value, source_value}
+use Rattle.vector_order.specs.Orders.{Lane}
 use Rattle.vector_order.specs.Order.{Steady}
 use Rattle.lane_emit.specs.Right.{IsOf, ZRight, PRight}
 use Rattle.reductions.specs.Joins.{joined}

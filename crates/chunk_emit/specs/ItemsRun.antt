@@ -7,7 +7,7 @@ use Rattle.machine_model.specs.Machine.{State}
 use Rattle.machine_model.specs.Run.{IsAccess}
 use Rattle.label_fix.specs.DraftRun.{Entry, Laid}
 use Rattle.label_fix.specs.Stretches.{Goes, Stops}
-use Rattle.chunk_order.specs.Orders.{Lanes, Out, Fine, Fail, by_item}
+use Rattle.vector_order.specs.Orders.{Lanes, Out, Fine, Fail, by_item}
 use Rattle.loop_form.specs.LoopItems.{Item}
 use Rattle.vector_order.specs.Items.{acts_of}
 use Rattle.chunk_emit.specs.Registers.{Layout}

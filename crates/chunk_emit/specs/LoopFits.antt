@@ -6,10 +6,10 @@ use Rattle.kernel_meaning.specs.Operators.{word}
 use Rattle.reg_assign.specs.declared.interval.RegClass.TheVariants.{Z, P}
 use Rattle.reg_assign.specs.Registers.{Assignment}
 use Rattle.loop_form.specs.Lanes.{lane_width_of}
-use Rattle.loop_form.specs.LoopItems.{Op, Load, Apply, Combine, Move, Cast, Copy, Pick, Store, Add, Test, Invert, Same, Any, Quit, Item}
+use Rattle.loop_form.specs.LoopItems.{Op, Load, Gather, Apply, Combine, Move, Cast, Copy, Pick, Store, Add, Test, Invert, Same, Any, Quit, Item}
 use Rattle.loop_form.specs.Registers.{FitsKernel}
 use Rattle.loop_form.specs.Streams.{type_of_place}
-use Rattle.chunk_order.specs.Items.{nth_value}
+use Rattle.vector_order.specs.Operands.{nth_value}
 use Rattle.chunk_emit.specs.Registers.{Layout}
 use Rattle.chunk_emit.specs.Chunk.{Setting}
 use Rattle.chunk_emit.specs.Fits.{Assigned, FitsTruth, FitsMask, FitsOp, FitsCast, MakesNothing, NoneBetween}
@@ -31,6 +31,7 @@ pub record FitsSetting (k : Program) (f : Setting) : Type 0 where
 abbrev pub FitsStep : Layout → Setting → ℕ → Op → Type 0
 FitsStep l f p (Quit c) = FitsTruth l p c × MakesNothing l p
 FitsStep l f p (Load a base t c) = FitsOp l f p (Load a base t c)
+FitsStep l f p (Gather a base t r u x) = FitsOp l f p (Gather a base t r u x)
 FitsStep l f p (Apply op t x) = FitsOp l f p (Apply op t x)
 FitsStep l f p (Combine op t x y) = FitsOp l f p (Combine op t x y)
 FitsStep l f p (Move left n t x) = FitsOp l f p (Move left n t x)

@@ -15,14 +15,18 @@ ghost use Rattle.chunk_emit.specs.Writable.{IsPlace, IsWritable};
 ghost use Rattle.chunk_emit.specs.View.{AppendsPuts, layout_in, width_in};
 
 use crate::layout::LoopLayout;
-use crate::words::{base_register, index_register, index_word, load, store};
+use crate::words::{
+    base_register, cut, cut_reach, gather, index_register, index_shift, index_word, load, store,
+};
+use a64_code::Reg;
+use guest_types::length::Width;
 use kernel_tree::{Ty, UpdateOp};
 use label_fix::{Draft, Word};
-use lane_emit::emit_item;
+use lane_emit::{emit_item, shift_left};
 use loop_form::{LoopItem, LoopOp, Source};
 use reductions::update_word;
 use std::alloc::{AllocError, Global};
-use sve_code::{GoverningReg, Sve};
+use sve_code::{GoverningReg, Sve, VectorReg};
 use word_rows::Bits;
 
 /// Vector instructions.
@@ -87,6 +91,58 @@ fn emit_load(
     );
     emit_index(offset, draft)?;
     draft.put(word)?;
+    Ok(())
+}
+
+// A read of the elements that a register has the indexes of, in lanes of 64 bits.
+fn emit_elements(
+    ty: Ty,
+    d: VectorReg,
+    mask: GoverningReg,
+    base: Reg,
+    index: VectorReg,
+    draft: &mut Draft,
+) -> Result<(), AllocError>
+    ensures labels { OnOk result (draft.new.labels ≡ draft.old.labels) }
+    ensures code { let words = code.gather_by (code.memory_size ty) ty d.number mask.number base.number index.number in
+        OnOk result (AppendsPuts (code.vectors words) draft.old draft.new) }
+{
+    let shift = index_shift(ty);
+    if shift == 0 {
+        draft.put(gather(ty, d, mask, base, index))?;
+    } else {
+        draft.put(Word::V(shift_left(Width::D, d, index, shift)))?;
+        draft.put(gather(ty, d, mask, base, d))?;
+    }
+    Ok(())
+}
+
+// A read at a computed index, which is cut to a reach first where there is one to cut to.
+fn emit_gather(
+    layout: &LoopLayout<'_>,
+    item: u32,
+    mask: GoverningReg,
+    base: Source,
+    ty: Ty,
+    reach: Option<u32>,
+    index: Source,
+    draft: &mut Draft,
+) -> Result<(), AllocError>
+    requires { layouts.base_of base < 32 }
+    ensures labels { OnOk result (draft.new.labels ≡ draft.old.labels) }
+    ensures code { let words = code.gather_code ty reach (layouts.z_of (layout_in layout.now) item) mask.number
+        (layouts.base_of base) ((layout_in layout.now).registers.source index) in
+        OnOk result (AppendsPuts (code.vectors words) draft.old draft.new) }
+{
+    let d = layout.registers.z(item);
+    let x = layout.registers.source(index);
+    match reach {
+        None => emit_elements(ty, d, mask, base_register(base), x, draft)?,
+        Some(reach) => {
+            draft.put(cut(reach, d, x))?;
+            emit_elements(ty, d, mask, base_register(base), d, draft)?;
+        }
+    }
     Ok(())
 }
 
@@ -207,6 +263,17 @@ fn emit_op(
             offset,
             ..
         } => emit_load(layout, item, mask, base, ty, offset, draft)?,
+        LoopOp::Gather {
+            base,
+            ty: Some(ty),
+            reach,
+            index_ty: Some(index_ty),
+            index,
+            ..
+        } => {
+            let reach = cut_reach(reach, index_ty);
+            emit_gather(layout, item, mask, base, ty, reach, index, draft)?
+        }
         LoopOp::Store {
             base,
             ty: Some(ty),

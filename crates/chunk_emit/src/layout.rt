@@ -12,7 +12,8 @@ ghost use Rattle.chunk_emit.specs.LastUses.{z_last, p_last};
 use guest_types::length::Width;
 use kernel_tree::Checked;
 use lane_emit::{LaneRegisters, lane_registers};
-use loop_form::{Item, lane_width, listing};
+use loop_form::Item;
+use loop_lists::{lane_width, listing};
 use reg_assign::VectorRegs;
 use std::alloc::{AllocError, Global};
 

@@ -3,6 +3,7 @@
 ghost use Rattle.std.specs.Prelude.{◌≡◌, ◌≢◌, ◌<◌, ◌≤◌, List, [], ◌∷◌, true, pos, unsigned_abs};
 ghost use Rattle.a64_code.specs.Table as a64;
 ghost use Rattle.sve_code.specs.Numbers.{size_number, dtype_number};
+ghost use Rattle.sve_code.specs.View.{load_gather_name};
 ghost use Rattle.machine_model.specs.InstructionTable.{Listed, Scalar, Vector};
 ghost use Rattle.kernel_tree.specs.declared.ops.Ty.TheVariants as ty;
 ghost use Rattle.label_fix.specs.Draft.{word_view};
@@ -13,11 +14,14 @@ ghost use Rattle.chunk_emit.specs.ChunkCode as code;
 
 use a64_code::{A64, AddSubOp, Reg};
 use guest_types::length::Width;
+use kernel_meaning::fits;
 use kernel_tree::Ty;
 use label_fix::Word;
-use lane_emit::size;
+use lane_emit::{extend_byte, extend_halfword, size};
 use loop_form::Source;
-use sve_code::{Dtype, GoverningReg, OffsetReg, Size, StoreSizes, Sve, VectorReg};
+use sve_code::{
+    Dtype, ExtendOp, GatherOp, GoverningReg, OffsetReg, Size, StoreSizes, Sve, VectorReg,
+};
 use word_rows::Bits;
 
 // ---- general registers
@@ -194,6 +198,67 @@ pub fn load(
         pg: m,
         offset: index,
         dtype: load_type(ty, width),
+    })
+}
+
+// ---- reads at computed indexes
+
+/// By how many bits the index of an element is shifted: its size.
+pub fn index_shift(ty: Ty) -> u32
+    ensures { result ≡ code.memory_size ty }
+{
+    match ty {
+        Ty::I8 | Ty::U8 => 0,
+        Ty::I16 | Ty::U16 => 1,
+        Ty::I32 | Ty::U32 => 2,
+        Ty::I64 | Ty::U64 => 3,
+    }
+}
+
+fn gather_op(ty: Ty) -> GatherOp
+    ensures { load_gather_name result ≡ code.gather_name ty }
+{
+    match ty {
+        Ty::I8 => GatherOp::Ld1sb,
+        Ty::U8 => GatherOp::Ld1b,
+        Ty::I16 => GatherOp::Ld1sh,
+        Ty::U16 => GatherOp::Ld1h,
+        Ty::I32 => GatherOp::Ld1sw,
+        Ty::U32 => GatherOp::Ld1w,
+        Ty::I64 | Ty::U64 => GatherOp::Ld1d,
+    }
+}
+
+/// The reach to which an index of a type is cut first, where the type has values past it.
+pub fn cut_reach(reach: Option<u32>, ty: Ty) -> Option<u32>
+    ensures { result ≡ code.cut_reach reach ty }
+{
+    let reach = reach?;
+    let narrow = if reach == 256 { Ty::U8 } else { Ty::U16 };
+    if fits(ty, narrow) { None } else { Some(reach) }
+}
+
+/// An index modulo its reach, which is 256 or 65,536.
+pub fn cut(reach: u32, d: VectorReg, index: VectorReg) -> Word
+    ensures { word_view result ≡ Vector (code.cut_word reach d.number index.number) }
+{
+    if reach == 256 {
+        Word::V(extend_byte(ExtendOp::Unsigned, Width::D, d, index))
+    } else {
+        Word::V(extend_halfword(ExtendOp::Unsigned, Width::D, d, index))
+    }
+}
+
+/// A read at the offsets in a register.
+pub fn gather(ty: Ty, d: VectorReg, m: GoverningReg, base: Reg, offsets: VectorReg) -> Word
+    ensures { word_view result ≡ Vector (code.gather_word ty d.number m.number base.number offsets.number) }
+{
+    Word::V(Sve::GatherLoad {
+        op: gather_op(ty),
+        zt: d,
+        rn: base,
+        pg: m,
+        zm: offsets,
     })
 }
 

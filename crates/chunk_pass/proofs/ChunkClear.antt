@@ -25,9 +25,9 @@ use Rattle.loop_form.proofs.ArrayNames.{head_fits}
 use Rattle.dependence.specs.declared.reason.Class.TheVariants.{Vector}
 use Rattle.dependence.specs.Classes.{carried, class_of}
 use Rattle.dependence.proofs.ClassLaws.{class_facts}
-use Rattle.chunk_order.specs.Orders.{ClearWithin}
-use Rattle.chunk_order.specs.Apart.{StreamsApartBy, StreamsApart}
-use Rattle.chunk_order.proofs.ArrayParameters.{started_bases}
+use Rattle.vector_order.specs.Orders.{ClearWithin}
+use Rattle.vector_order.specs.Apart.{StreamsApartBy, StreamsApart}
+use Rattle.vector_order.proofs.ArrayParameters.{started_bases}
 use Rattle.vector_order.specs.Items.{acts_of}
 use Rattle.vector_order.specs.Order.{is_accumulator}
 use Rattle.vector_order.proofs.Accesses.{item_stream, block_streams}
@@ -37,6 +37,9 @@ use Rattle.vector_order.proofs.LoopHead.{head_ok}
 use Rattle.vector_order.proofs.Pairs.{Uncarried, uncarried, AllIn, all_in}
 use Rattle.vector_order.proofs.VectorKernels.{AllOk, all_ok, ready_block}
 use Rattle.vector_order.proofs.Sites.{block_sited}
+use Rattle.vector_order.proofs.Calms.{AllCalm, block_calm}
+use Rattle.vector_order.proofs.ReadFacts.{calm_body}
+use Rattle.vector_order.proofs.ElementClears.{Calm}
 use Rattle.vector_order.proofs.Touches.{AllSited}
 use Rattle.vector_order.proofs.NamesHeld.{append_nothing}
 
@@ -45,7 +48,7 @@ body_ready : (k : Program) (l : PlainLoop) (names : Names) → check_fault k ≡
 body_ready k l names checked loop vector =
     let scope : Scope = var_scope k in
     let class = class_facts k vector in
-    let listing : AllOk k (turns_entries k (loop_start k) (Some l)) = subst (λ o. AllOk k (turns_entries k (loop_start k) o)) loop (all_ok k (loop_entries k) class.unread class.streamed) in
+    let listing : AllOk k (turns_entries k (loop_start k) (Some l)) = subst (λ o. AllOk k (turns_entries k (loop_start k) o)) loop (all_ok k (loop_entries k) class.unread) in
     ready_block k names 0 l.body (in_loop scope l) (loop_start k + 1) (loop_start k + 1) (body_faultless k l checked loop) listing.1 (head_ok k l checked)
 
 pub clear_of_chunk : (k : Program) (l : PlainLoop) (args : List ℕ) (start : Memory) (names : Names) (i n : ℕ) → check_fault k ≡ None → k.turns ≡ Some l → class_of k ≡ Vector → StreamsApart k args → started k args start ≡ Some names → n ≤ 2048 / width_bits (lane_width_of k) → i + n ≤ bound_of l names
@@ -58,6 +61,7 @@ clear_of_chunk k l args start names i n checked loop vector apart began few with
     let ready = body_ready k l names checked loop vector in
     let items : List Item = loop_items k l in
     let sited : AllSited k.params items = block_sited k.params l.body (in_loop scope l) None from (loop_env scope l.index) [] (head_fits k l) tt in
+    let calm : AllCalm (Calm k) items = block_calm (Calm k) l.body (in_loop scope l) None from (loop_env scope l.index) [] (calm_body k vector l checked loop) tt in
     let listed : filter_map (item_stream k) items ≡ streams_of k =
     block_streams k is_acc names 0 l.body (in_loop scope l) None from from (loop_env scope l.index) [] (scope_index k) refl (body-kinds k l checked loop) ready
     ∙ append_nothing (filter_map (stream_of k) (block_entries k from l.body))
@@ -68,4 +72,4 @@ clear_of_chunk k l args start names i n checked loop vector apart began few with
     let bases = started_bases k args start names began in
     let same_bound = started_bound k l args start names U64 began (bound_scalar k l checked loop) in
     let far = subst (λ o. StreamsApartBy k args o) loop apart in
-    clear_within k args names (bound_of l (argument_names k.params args)) (lane_width_of k) near bases far items n i sited inside loose few (subst (λ b. i + n ≤ b) same_bound within)
+    clear_within k args names (bound_of l (argument_names k.params args)) (lane_width_of k) near bases far items n i sited calm inside loose few (subst (λ b. i + n ≤ b) same_bound within)

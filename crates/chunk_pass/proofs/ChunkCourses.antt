@@ -8,9 +8,9 @@ use Rattle.guest_types.proofs.AtWidths.{lanes-bound}
 use Rattle.kernel_meaning.specs.Ends.{Going}
 use Rattle.kernel_meaning.specs.Eval.{Names}
 use Rattle.loop_form.specs.Lanes.{lane_width_of}
-use Rattle.chunk_order.specs.Orders.{Lane, Lanes, Out, Fine, Fail, by_item, by_iteration, Alike, ClearWithin}
-use Rattle.chunk_order.proofs.Interchange.{interchange}
-use Rattle.chunk_order.proofs.Regions.{same_in_turn}
+use Rattle.vector_order.specs.Orders.{Lane, Lanes, Out, Fine, Fail, by_item, by_iteration, Alike, ClearWithin}
+use Rattle.vector_order.proofs.Interchange.{interchange}
+use Rattle.vector_order.proofs.Regions.{same_in_turn}
 use Rattle.vector_order.specs.Items.{acts_of}
 use Rattle.vector_order.specs.Order.{Steady, EndsAlike, SameChunk}
 use Rattle.vector_order.proofs.OrderLaw.{vector_order}

@@ -7,7 +7,7 @@ use Rattle.kernel_meaning.specs.Ends.{LoopState, Going, Left, Failed}
 use Rattle.kernel_meaning.specs.Eval.{Names, value_at, is_named}
 use Rattle.kernel_meaning.specs.ScalarRun.{iterations}
 use Rattle.kernel_meaning.proofs.Started.{started_names}
-use Rattle.chunk_order.specs.Orders.{Lanes, Fine, by_item}
+use Rattle.vector_order.specs.Orders.{Lanes, Fine, by_item}
 use Rattle.vector_order.specs.Items.{acts_of}
 use Rattle.vector_order.specs.Shares.{apply_lanes}
 use Rattle.vector_order.specs.Order.{is_accumulator, Steady, EndsAlike, SameChunk}

@@ -7,7 +7,7 @@ use Rattle.kernel_meaning.specs.Eval.{Names}
 use Rattle.kernel_meaning.specs.Iterate.{iterate}
 use Rattle.kernel_meaning.specs.ScalarRun as run
 use Rattle.kernel_meaning.specs.ScalarRun.{iterations}
-use Rattle.chunk_order.specs.Orders.{Lanes, Fail, by_item, memory_of}
+use Rattle.vector_order.specs.Orders.{Lanes, Fail, by_item, memory_of}
 use Rattle.vector_order.specs.Items.{acts_of}
 use Rattle.vector_order.specs.Fates.{fate, SameEnd}
 use Rattle.vector_order.specs.Order.{Steady, EndsAlike, Fresh, SameChunk}

@@ -2,7 +2,7 @@
 use Rattle.std.proofs.Common.{◌+◌, ◌∙◌, subst}
 use Rattle.kernel_tree.specs.Typing.{var_scope}
 use Rattle.kernel_meaning.specs.Iterate.{iterate}
-use Rattle.chunk_order.specs.Orders.{by_item}
+use Rattle.vector_order.specs.Orders.{by_item}
 use Rattle.vector_order.specs.Items.{acts_of}
 use Rattle.vector_order.specs.Order.{EndsAlike}
 use Rattle.first_fault.specs.Region.{region_way}

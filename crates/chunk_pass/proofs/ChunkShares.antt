@@ -12,11 +12,11 @@ use Rattle.kernel_tree.proofs.Names.{bytes_told}
 use Rattle.kernel_meaning.specs.Operators.{binary_value}
 use Rattle.kernel_meaning.specs.Eval.{Named, Names, value_of, is_named, value_at}
 use Rattle.kernel_meaning.specs.Iterate.{named, assigned}
-use Rattle.loop_form.specs.LoopItems.{Op, Load, Apply, Combine, Move, Cast, Copy, Pick, Store, Add, Test, Invert, Same, Any, Quit, Item}
-use Rattle.chunk_order.specs.Orders.{Share, Lane, Lanes, Effect, Halts, Keeps, Writes, Act, Out, Fine, Fail, with_lane, wrote, done, act_does, go_on, column, by_item}
-use Rattle.chunk_order.specs.Items.{on_mask, with_value, load_effect, store_effect}
-use Rattle.chunk_order.proofs.Accesses.{or_false}
-use Rattle.chunk_order.proofs.Interchange.{lane_same, lane_other}
+use Rattle.loop_form.specs.LoopItems.{Op, Load, Gather, Apply, Combine, Move, Cast, Copy, Pick, Store, Add, Test, Invert, Same, Any, Quit, Item}
+use Rattle.vector_order.specs.Orders.{Share, Lane, Lanes, Effect, Halts, Keeps, Writes, Act, Out, Fine, Fail, with_lane, wrote, done, act_does, go_on, column, by_item}
+use Rattle.vector_order.specs.Operands.{on_mask, with_value, load_effect, store_effect}
+use Rattle.vector_order.proofs.OneAccess.{or_false}
+use Rattle.vector_order.proofs.Interchange.{lane_same, lane_other}
 use Rattle.vector_order.specs.Items.{op_effect, item_act, acts_of, with_share}
 use Rattle.vector_order.specs.Shares.{apply_shares, apply_lanes}
 use Rattle.vector_order.specs.Order.{is_accumulator, Steady}
@@ -56,6 +56,7 @@ module _ (x : List ℕ) where
 
   op_nothing : (op : Op) (names : Names) (q i : ℕ) (on : Bool) (m : Memory) (l : Lane) → adds x op ≡ false → GaveNothing l → NothingIn (op_effect op names q i on m l)
   op_nothing (Load a base t c) names q i on m l e h = load_nothing l q on _ h
+  op_nothing (Gather a base t r u y) names q i on m l e h = load_nothing l q on _ h
   op_nothing (Apply op t y) names q i on m l e h = h
   op_nothing (Combine op t y z) names q i on m l e h = h
   op_nothing (Move left n t y) names q i on m l e h = h

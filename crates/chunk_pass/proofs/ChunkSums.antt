@@ -6,7 +6,7 @@ use Rattle.std.proofs.lemmas.Bool.{cases_lt, lt-ltb, le-ltb}
 use Rattle.kernel_tree.specs.declared.ops.Ty.{Ty}
 use Rattle.kernel_tree.specs.declared.ops.UpdateOp.{UpdateOp}
 use Rattle.kernel_meaning.specs.Eval.{Names, is_named, value_at}
-use Rattle.chunk_order.specs.Orders.{Lane}
+use Rattle.vector_order.specs.Orders.{Lane}
 use Rattle.vector_order.specs.Shares.{apply_lanes}
 use Rattle.lane_emit.specs.Right.{IsOf}
 use Rattle.reductions.specs.Joins.{joined, identity, Joins}

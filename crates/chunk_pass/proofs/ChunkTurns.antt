@@ -10,10 +10,10 @@ use Rattle.kernel_meaning.specs.Ends.{BlockEnd, Next, Broke, Faulted, Going, Lef
 use Rattle.kernel_meaning.specs.Eval.{Names}
 use Rattle.kernel_meaning.specs.Iterate.{iterate}
 use Rattle.kernel_meaning.specs.ScalarRun.{iterations}
-use Rattle.loop_form.specs.LoopItems.{Op, Load, Apply, Combine, Move, Cast, Copy, Pick, Store, Add, Test, Invert, Same, Any, Quit, Item}
-use Rattle.chunk_order.specs.Orders.{Lane, Effect, Halts, Keeps, Writes, Act}
-use Rattle.chunk_order.specs.Regions.{AllQuiet}
-use Rattle.chunk_order.proofs.Accesses.{or_false}
+use Rattle.loop_form.specs.LoopItems.{Op, Load, Gather, Apply, Combine, Move, Cast, Copy, Pick, Store, Add, Test, Invert, Same, Any, Quit, Item}
+use Rattle.vector_order.specs.Orders.{Lane, Effect, Halts, Keeps, Writes, Act}
+use Rattle.vector_order.specs.Regions.{AllQuiet}
+use Rattle.vector_order.proofs.OneAccess.{or_false}
 use Rattle.vector_order.specs.Items.{item_act, acts_of}
 use Rattle.vector_order.specs.Fates.{ByBreak, ByFault, cause_of, Fate, Through, Ended, wrote_on, effect_on, fate, SameEnd}
 use Rattle.first_fault.specs.Region as region
@@ -76,6 +76,7 @@ Unbroken (Ended ByBreak m) = ⊥
 
 no_break : (op : Op) (m : Memory) → quits op ≡ false → Unbroken (Ended (cause_of op) m)
 no_break (Load a base t c) m e = tt
+no_break (Gather a base t r u x) m e = tt
 no_break (Apply op t x) m e = tt
 no_break (Combine op t x y) m e = tt
 no_break (Move left n t x) m e = tt
@@ -109,6 +110,7 @@ fate_unbroken names (it ∷ items) j m l e =
 
 halted_not_on : (op : Op) (next : Lane → Way) (new : Lane) → way_on (halted op) next ≡ On new → ⊥
 halted_not_on (Load a base t c) next new e = cc
+halted_not_on (Gather a base t r u x) next new e = cc
 halted_not_on (Apply op t x) next new e = cc
 halted_not_on (Combine op t x y) next new e = cc
 halted_not_on (Move left n t x) next new e = cc

@@ -4,14 +4,14 @@ use Rattle.std.specs.Prelude.{bytes_eq}
 use Rattle.std.specs.List.{list_any}
 use Rattle.std.proofs.lemmas.List.Folds.{list_any-append}
 use Rattle.kernel_tree.specs.Plain.{Term, Literal, Variable, Element, Unary, Operation, Shift, Conversion, Choice, Comparison, Both, Either, Not, Action, Define, Put, Update, Choose, Leave, Block, Done, Then, Otherwise, Nothing, Else, PlainLoop, Program}
-use Rattle.kernel_tree.specs.Items.{stream_offset, loop_index, term_size, action_size, block_size, otherwise_size, loop_start}
-use Rattle.kernel_tree.specs.Typing.{Scope, own, first, side_type, after_action, after_block, left, in_loop, var_scope}
+use Rattle.kernel_tree.specs.Items.{stream_offset, loop_index, index_items, term_size, action_size, block_size, otherwise_size, loop_start}
+use Rattle.kernel_tree.specs.Typing.{Scope, own, first, index_type, side_type, after_action, after_block, left, in_loop, var_scope}
 use Rattle.loop_form.specs.declared.item.ItemKind.TheVariants as kind
 use Rattle.loop_form.specs.declared.loop_item.Source.{Source}
 use Rattle.loop_form.specs.Entries.{Entry, IsPlain, entry, term_entries, action_entries, block_entries, otherwise_entries, turns_entries, loop_entries}
-use Rattle.loop_form.specs.LoopItems.{Bound, array_type, Op, Add, Item, truth_home, load_item, term_items, cond_items, store_item, accumulator_of, after_env, action_items, block_items, otherwise_items, loop_env, loop_items}
+use Rattle.loop_form.specs.LoopItems.{Bound, array_type, Op, Add, Item, truth_home, load_item, gather_item, term_items, cond_items, store_item, accumulator_of, after_env, action_items, block_items, otherwise_items, loop_env, loop_items}
 use Rattle.loop_form.specs.Needs.{updates}
-use Rattle.chunk_order.proofs.Accesses.{or_false}
+use Rattle.vector_order.proofs.OneAccess.{or_false}
 
 abbrev pub adds : List ℕ → Op → Bool
 adds x (Add y op t v) = bytes_eq y x
@@ -22,9 +22,9 @@ abbrev pub is_add : List ℕ → Item → Bool
 is_add x it = adds x it.op
 
 module _ (x : List ℕ) where
-  load_adds : (scope : Scope) (mask : Option ℕ) (q : ℕ) (env : List Bound) (a : List ℕ) (o : Option ℤ) (rest : List Item) → list_any (is_add x) (load_item scope mask q env a o rest) ≡ list_any (is_add x) rest
-  load_adds scope mask q env a None rest = refl
-  load_adds scope mask q env a (Some c) rest = refl
+  load_adds : (scope : Scope) (mask : Option ℕ) (q : ℕ) (env : List Bound) (a : List ℕ) (o : Option ℤ) (gathered rest : List Item) → list_any (is_add x) gathered ≡ list_any (is_add x) rest → list_any (is_add x) (load_item scope mask q env a o gathered rest) ≡ list_any (is_add x) rest
+  load_adds scope mask q env a None gathered rest h = h
+  load_adds scope mask q env a (Some c) gathered rest h = refl
 
   store_adds : (scope : Scope) (mask : Option ℕ) (q : ℕ) (env : List Bound) (a : List ℕ) (o : Option ℤ) (v : Source) (rest : List Item) → list_any (is_add x) (store_item scope mask q env a o v rest) ≡ list_any (is_add x) rest
   store_adds scope mask q env a None v rest = refl
@@ -38,7 +38,7 @@ module _ (x : List ℕ) where
   term_adds : (t : Term) → TermAdds t
   term_adds (Literal n) = record { as_value = λ scope want mask from env rest. refl; as_cond = λ scope mask from env rest. refl }
   term_adds (Variable y) = record { as_value = λ scope want mask from env rest. refl; as_cond = λ scope mask from env rest. refl }
-  term_adds (Element a i) = record { as_value = λ scope want mask from env rest. load_adds scope mask _ env a (stream_offset scope.index i) rest; as_cond = λ scope mask from env rest. refl }
+  term_adds (Element a i) = record { as_value = λ scope want mask from env rest. load_adds scope mask (from + index_items scope.index i) env a (stream_offset scope.index i) (term_items scope (index_type scope i) mask from env i (gather_item scope mask from (from + index_items scope.index i) env a i ∷ rest)) rest ((term_adds i).as_value scope (index_type scope i) mask from env _); as_cond = λ scope mask from env rest. refl }
   term_adds (Unary op e) = record { as_value = λ scope want mask from env rest. (term_adds e).as_value scope want mask from env _; as_cond = λ scope mask from env rest. refl }
   term_adds (Operation op a b) = record { as_value = λ scope want mask from env rest. (term_adds a).as_value scope want mask from env _ ∙ (term_adds b).as_value scope want mask _ env _; as_cond = λ scope mask from env rest. refl }
   term_adds (Shift toward e n) = record { as_value = λ scope want mask from env rest. (term_adds e).as_value scope want mask from env _; as_cond = λ scope mask from env rest. refl }

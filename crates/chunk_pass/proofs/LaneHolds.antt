@@ -16,8 +16,8 @@ use Rattle.reg_assign.specs.declared.interval.RegClass.TheVariants.{Z, P}
 use Rattle.loop_form.specs.declared.loop_item.Source.{Source}
 use Rattle.loop_form.specs.declared.loop_item.Source.TheVariants.{Constant, Outer, LoopIndex, Made}
 use Rattle.loop_form.specs.Entries.{entries_of, turns_entries, loop_entries}
-use Rattle.chunk_order.specs.Orders.{Lane, Lanes}
-use Rattle.chunk_order.specs.Items.{source_value}
+use Rattle.vector_order.specs.Orders.{Lane, Lanes}
+use Rattle.vector_order.specs.Operands.{source_value}
 use Rattle.lane_emit.specs.Right.{IsOf, within}
 use Rattle.reductions.specs.Folds.{after_all, given_to}
 use Rattle.chunk_emit.specs.KernelLayout.{last_in, item_last_use}

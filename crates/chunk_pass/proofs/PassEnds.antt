@@ -10,7 +10,7 @@ use Rattle.machine_model.specs.Machine.{State, x_at, p_at}
 use Rattle.machine_model.proofs.StateSteps.{x_put, wrapped}
 use Rattle.loop_form.specs.declared.loop_item.Source.{Source}
 use Rattle.loop_form.specs.declared.loop_item.Source.TheVariants.{LoopIndex}
-use Rattle.chunk_order.specs.Orders.{Lanes}
+use Rattle.vector_order.specs.Orders.{Lanes}
 use Rattle.chunk_emit.specs.Chunk.{IsTop, sum_at, Holds}
 use Rattle.chunk_emit.specs.Head.{Ground, IsGround, Between, HeldAll, AtHead, IndexHeld, layout, width, limit}
 use Rattle.chunk_pass.specs.Chunks.{GivenRight}

@@ -15,7 +15,7 @@ use Rattle.machine_model.specs.Machine.{State}
 use Rattle.label_fix.specs.DraftRun.{Entry, Laid}
 use Rattle.label_fix.specs.Stretches.{Leads}
 use Rattle.loop_form.specs.LoopItems.{Item}
-use Rattle.chunk_order.specs.Orders.{Lane, Lanes, Out, Fine, Fail, go_on, column, by_item}
+use Rattle.vector_order.specs.Orders.{Lane, Lanes, Out, Fine, Fail, go_on, column, by_item}
 use Rattle.vector_order.specs.Items.{item_act, acts_of}
 use Rattle.chunk_emit.specs.ChunkCode.{items_words}
 use Rattle.chunk_emit.specs.Chunk.{Setting, Holds}

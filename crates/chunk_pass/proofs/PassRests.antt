@@ -12,7 +12,7 @@ use Rattle.machine_model.specs.Machine.{State, p_at}
 use Rattle.label_fix.specs.DraftRun.{Entry, Put, Laid}
 use Rattle.label_fix.specs.Stretches.{Leads}
 use Rattle.loop_form.specs.LoopItems.{Item}
-use Rattle.chunk_order.specs.Orders.{Lanes, Out, Fine, by_item}
+use Rattle.vector_order.specs.Orders.{Lanes, Out, Fine, by_item}
 use Rattle.vector_order.specs.Items.{acts_of}
 use Rattle.chunk_emit.specs.ChunkCode.{items_words, puts}
 use Rattle.chunk_emit.specs.Chunk.{sum_at, Holds}

@@ -7,8 +7,8 @@ use Rattle.kernel_meaning.specs.Eval.{Names}
 use Rattle.kernel_meaning.specs.Iterate.{iterate}
 use Rattle.kernel_meaning.specs.ScalarRun.{iterations}
 use Rattle.loop_form.specs.LoopItems.{Item, loop_items}
-use Rattle.chunk_order.specs.Order.{Elsewhere}
-use Rattle.chunk_order.specs.Orders.{Lane, Lanes, Fine, Fail, by_item}
+use Rattle.vector_order.specs.Elsewhere.{Elsewhere}
+use Rattle.vector_order.specs.Orders.{Lane, Lanes, Fine, Fail, by_item}
 use Rattle.vector_order.specs.Items.{acts_of}
 use Rattle.vector_order.specs.Order.{Fresh}
 use Rattle.reductions.specs.Folds.{AreOf, given_to, ShareAlike}

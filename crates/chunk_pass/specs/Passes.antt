@@ -13,7 +13,7 @@ use Rattle.machine_model.specs.Run.{IsAccess}
 use Rattle.label_fix.specs.DraftRun.{Entry, Laid}
 use Rattle.label_fix.specs.Stretches.{Leads, Stops}
 use Rattle.dependence.specs.Apart.{bound_place}
-use Rattle.chunk_order.specs.Order.{Elsewhere}
+use Rattle.vector_order.specs.Elsewhere.{Elsewhere}
 use Rattle.chunk_emit.specs.ChunkCode.{puts}
 use Rattle.chunk_emit.specs.Chunk.{IsTop}
 use Rattle.chunk_emit.specs.Head.{Ground, IsGround, AtHead, IndexHeld, layout, width, most_lanes, limit}

@@ -1,7 +1,8 @@
 //! Worked kernels.
 
-use kernel_compile::{CompileFault, compile_kernel};
+use kernel_compile::compile_kernel;
 use kernel_front::accept;
+use promises::CompileFault;
 use reg_assign::RegClass;
 use std::test::Fail;
 

@@ -8,8 +8,9 @@ ghost use Rattle.loop_form.specs.View.{program};
 use kernel_front::accept;
 use kernel_tree::Checked;
 use label_fix::Draft;
+use loop_form::counted_registers;
 use loop_form::laws::{few_items, ordered_intervals};
-use loop_form::{counted_registers, intervals};
+use loop_lists::intervals;
 use reg_assign::{Assigned, RegClass, assign};
 use scalar_emit::{emit_begin, emit_scalar};
 use std::alloc::Global;
@@ -44,9 +45,10 @@ fn counts(rt: HostRuntime) -> Result<(), Fail> {
             == [
                 0xd280_0009,
                 0xeb00_013f,
-                0x5400_0062,
+                0x5400_0082,
                 0x9100_0529,
-                0x17ff_fffd,
+                0xeb00_013f,
+                0x54ff_ffc3,
                 0xaa09_03e0,
                 0xd280_0ba8,
                 0xd400_0001,

@@ -6,13 +6,14 @@ ghost use Rattle.reg_assign.specs.declared.interval.RegClass.TheVariants as clas
 ghost use Rattle.loop_form.specs.Registers.{FitsKernel};
 ghost use Rattle.loop_form.specs.View.{program};
 
-use dependence::class;
 use dependence::reason::Class;
 use kernel_front::accept;
 use kernel_tree::Checked;
 use label_fix::Draft;
+use loop_class::class;
+use loop_form::counted_registers;
 use loop_form::laws::{few_items, ordered_intervals};
-use loop_form::{counted_registers, intervals};
+use loop_lists::intervals;
 use reg_assign::{Assigned, RegClass, VectorRegs, assign};
 use std::alloc::Global;
 use std::test::Fail;

@@ -3,9 +3,9 @@ use Rattle.std.proofs.Common.{◌≡◌, pos, [], ◌∷◌, Some, None, map, re
 use Rattle.kernel_tree.specs.Plain.{Literal, Variable, Element, Operation, Comparison, Put, Update, Choose, Leave, Done, Then, Nothing, Program}
 use Rattle.loop_form.specs.Entries.{item_type}
 use Rattle.loop_form.specs.Lanes.{widest}
-use Rattle.loop_form.proofs.Kernels.{a, c, f, i, n, s, t, y, values, axpy, spread, running, bright}
+use Rattle.loop_form.proofs.Kernels.{a, c, f, i, n, s, t, y, values, axpy, spread, running, bright, look, far, pick, casts}
 use Rattle.dependence.specs.declared.reason.Class.TheVariants.{Vector, Scalar}
-use Rattle.dependence.specs.Classes.{before_break, carried, class_of}
+use Rattle.dependence.specs.Classes.{before_break, computed_index, carried, class_of}
 use Rattle.kernel_tree.specs.declared.ops.Ty.TheVariants as ty
 use Rattle.kernel_tree.specs.declared.ops.BinaryOp.TheVariants as binary
 use Rattle.kernel_tree.specs.declared.ops.CompareOp.TheVariants as compare
@@ -84,7 +84,7 @@ ahead = record {
 }
 
 worked-classes :
-    map class_of (values ∷ axpy ∷ spread ∷ farther ∷ running ∷ bright ∷ mixed ∷ both ∷ counting ∷ scattered ∷ following ∷ ahead ∷ [])
-    ≡ Scalar why.NoLoop ∷ Vector ∷ Scalar why.Carried ∷ Vector ∷ Scalar why.AccumulatorRead ∷ Vector ∷ Scalar why.MixedUpdate ∷ Scalar why.AccumulatorRead ∷ Scalar why.BeforeBreak ∷ Scalar why.ComputedIndex ∷ Scalar why.Carried ∷ Vector ∷ []
-unfolding item_type widest before_break carried
+    map class_of (values ∷ axpy ∷ spread ∷ farther ∷ running ∷ bright ∷ mixed ∷ both ∷ counting ∷ scattered ∷ following ∷ ahead ∷ look ∷ far ∷ pick ∷ casts ∷ [])
+    ≡ Scalar why.NoLoop ∷ Vector ∷ Scalar why.Carried ∷ Vector ∷ Scalar why.AccumulatorRead ∷ Vector ∷ Scalar why.MixedUpdate ∷ Scalar why.AccumulatorRead ∷ Scalar why.BeforeBreak ∷ Scalar why.ComputedIndex ∷ Scalar why.Carried ∷ Vector ∷ Vector ∷ Scalar why.ComputedIndex ∷ Vector ∷ Scalar why.ComputedIndex ∷ []
+unfolding item_type widest before_break computed_index carried
 worked-classes = refl

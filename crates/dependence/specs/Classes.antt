@@ -1,5 +1,5 @@
 -- Whether the iterations of a loop may be done many at once, statement by statement, and why not.
-use Rattle.std.specs.Prelude.{ℕ, ℤ, ◌/◌, List, [], ◌∷◌, Option, Some, None, is_none, Bool, true, false, not, ◌&&◌, ◌||◌, ◌-ℤ◌, pos, int_lt, nat_eq, bytes_eq, if◌then◌else◌}
+use Rattle.std.specs.Prelude.{ℕ, ℤ, ◌/◌, List, [], ◌∷◌, Option, Some, None, is_none, Bool, true, false, not, ◌&&◌, ◌||◌, ◌-ℤ◌, pos, int_lt, nat_eq, nat_lt, bytes_eq, if◌then◌else◌}
 use Rattle.std.specs.List.{list_any}
 use Rattle.guest_types.specs.declared.length.Width.{Width}
 use Rattle.guest_types.specs.Length.{width_bits}
@@ -12,6 +12,7 @@ use Rattle.loop_form.specs.declared.stream.Stream.{Stream}
 use Rattle.loop_form.specs.Entries.{Content, IsRead, IsStore, IsUpdate, IsPlain, Entry, loop_entries}
 use Rattle.loop_form.specs.Listing.{names}
 use Rattle.loop_form.specs.Streams.{streams_of}
+use Rattle.loop_form.specs.Reaches.{reach_of}
 use Rattle.loop_form.specs.Lanes.{lane_width_of}
 use Rattle.dependence.specs.declared.reason.Class.{Class}
 use Rattle.dependence.specs.declared.reason.Class.TheVariants.{Vector, Scalar}
@@ -88,6 +89,44 @@ computed_content i _ = false
 abbrev pub is_computed : Option (List ℕ) → Entry → Bool
 is_computed i e = computed_content i e.content
 
+abbrev pub store_content : Content → Bool
+store_content (IsStore a i) = true
+store_content _ = false
+
+abbrev pub is_storing : Entry → Bool
+is_storing e = store_content e.content
+
+abbrev pub content_stores_to : List ℕ → Content → Bool
+content_stores_to a (IsStore b i) = bytes_eq b a
+content_stores_to a _ = false
+
+-- a store to the array of a name
+abbrev pub stores_to : List ℕ → Entry → Bool
+stores_to a e = content_stores_to a e.content
+
+-- lanes that do not hold an address
+abbrev pub is_narrow : Width → Bool
+is_narrow w = nat_lt (width_bits w) 64
+
+-- What stands against reading an element of an array by a computed index: the lanes are narrower than 64 bits, a `break`
+-- follows, the loop stores to that array, or it stores and the index has no reach. All items of the loop are `all`, and
+-- those after the read `following`.
+abbrev pub is_barred_read : Program → (all following : List Entry) → (array : List ℕ) → Entry → Bool
+is_barred_read k all following a e =
+    is_narrow (lane_width_of k) || (list_any is_break following || (list_any (stores_to a) all || (list_any is_storing all && is_none (reach_of k e))))
+
+abbrev pub barred_content : Program → (all following : List Entry) → Entry → Content → Bool
+barred_content k all following e (IsRead a i) = is_none (stream_offset (loop_index k) i) && is_barred_read k all following a e
+barred_content k all following e _ = false
+
+abbrev pub is_barred : Program → (all following : List Entry) → Entry → Bool
+is_barred k all following e = barred_content k all following e e.content
+
+-- some read by a computed index has such a thing against it
+unfoldable pub computed_index : Program → (all : List Entry) → List Entry → Bool
+computed_index k all [] = false
+computed_index k all (e ∷ es) = is_barred k all es e || computed_index k all es
+
 -- ---- a value that is carried from one iteration to another
 
 -- two accesses of one parameter, at least one of them a store
@@ -120,7 +159,7 @@ reason k es =
     if accumulator_read es k.vars then Some why.AccumulatorRead else
     if mixed_update es then Some why.MixedUpdate else
     if before_break es then Some why.BeforeBreak else
-    if list_any (is_computed (loop_index k)) es then Some why.ComputedIndex else
+    if computed_index k es es then Some why.ComputedIndex else
     if carried (lane_width_of k) (streams_of k) then Some why.Carried else
     None
 

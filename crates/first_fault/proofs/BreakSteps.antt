@@ -12,7 +12,7 @@ use Rattle.guest_types.proofs.Widths.{some-bytes}
 use Rattle.machine_model.specs.Machine.{State, p_at, with_p, next}
 use Rattle.machine_model.proofs.StateSteps.{truths_put}
 use Rattle.label_fix.specs.DraftRun.{Entry, Laid}
-use Rattle.chunk_order.specs.Orders.{Lane, Lanes, Halts, Keeps}
+use Rattle.vector_order.specs.Orders.{Lane, Lanes, Halts, Keeps}
 use Rattle.loop_form.specs.LoopItems.{Quit, item}
 use Rattle.chunk_emit.specs.Registers.{Layout, p_of}
 use Rattle.chunk_emit.specs.ChunkCode.{puts}

@@ -5,7 +5,7 @@ use Rattle.std.proofs.lemmas.List.{length-append}
 use Rattle.guest_types.specs.declared.length.Width.{Width}
 use Rattle.kernel_tree.specs.declared.ops.Ty.{Ty}
 use Rattle.machine_model.specs.InstructionTable.{Listed}
-use Rattle.loop_form.specs.LoopItems.{Op, Load, Apply, Combine, Move, Cast, Copy, Pick, Store, Add, Test, Invert, Same, Any, Quit, Item, item}
+use Rattle.loop_form.specs.LoopItems.{Op, Load, Gather, Apply, Combine, Move, Cast, Copy, Pick, Store, Add, Test, Invert, Same, Any, Quit, Item, item}
 use Rattle.chunk_emit.specs.Registers.{Layout, base_of, is_used}
 use Rattle.chunk_emit.specs.ChunkCode.{with_index, index_of}
 use Rattle.chunk_emit.proofs.Counts.{few_words}
@@ -52,6 +52,11 @@ used_few mode l mask false code h = four mode 0 (omega arith)
 step_few : (mode : Mode) (w : Width) (l : Layout) (q : ℕ) (mask : Option ℕ) (op : Op) → length (step_words mode w l q mask op) ≤ most mode
 step_few mode w l q mask (Load a base (Some t) c) = by_mode mode _ (narrow_few l mask _ (1 + most_load mode) (index_few c _ (most_load mode) (load_few mode w l q mask t (base_of base) (index_of c))))
 step_few mode w l q mask (Load a base None c) = used_few mode l mask (is_used l (Load a base None c) q) _ (few_words w l (item q mask (Load a base None c) ∷ []))
+step_few mode w l q mask (Gather a base t reach u x) = none_few mode l mask (is_used l (Gather a base t reach u x) q)
+  where
+    none_few : (mode : Mode) (l : Layout) (mask : Option ℕ) (b : Bool) → length (if b then narrow_words l mask [] else []) ≤ most mode
+    none_few mode l mask true = four mode _ (narrow_few l mask [] 3 (omega arith))
+    none_few mode l mask false = four mode 0 (omega arith)
 step_few mode w l q mask (Apply op t x) = used_few mode l mask (is_used l (Apply op t x) q) _ (few_words w l (item q mask (Apply op t x) ∷ []))
 step_few mode w l q mask (Combine op t x y) = used_few mode l mask (is_used l (Combine op t x y) q) _ (few_words w l (item q mask (Combine op t x y) ∷ []))
 step_few mode w l q mask (Move left k t x) = used_few mode l mask (is_used l (Move left k t x) q) _ (few_words w l (item q mask (Move left k t x) ∷ []))

@@ -13,10 +13,10 @@ use Rattle.kernel_meaning.specs.Eval.{choose_value}
 use Rattle.machine_model.specs.Machine.{State, x_at, p_at}
 use Rattle.label_fix.specs.DraftRun.{Entry, Laid}
 use Rattle.label_fix.proofs.StretchSteps.{stop_more}
-use Rattle.chunk_order.specs.Orders.{Lane, Lanes}
+use Rattle.vector_order.specs.Orders.{Lane, Lanes}
 use Rattle.loop_form.specs.declared.loop_item.Source.TheVariants.{Constant, Outer, LoopIndex, Made}
-use Rattle.loop_form.specs.LoopItems.{Op, Load, Apply, Combine, Move, Cast, Copy, Pick, Store, Add, Test, Invert, Same, Any, Quit, Item, item}
-use Rattle.chunk_order.specs.Items.{nth_value, source_value, on_mask}
+use Rattle.loop_form.specs.LoopItems.{Op, Load, Gather, Apply, Combine, Move, Cast, Copy, Pick, Store, Add, Test, Invert, Same, Any, Quit, Item, item}
+use Rattle.vector_order.specs.Operands.{nth_value, source_value, on_mask}
 use Rattle.lane_emit.specs.Right.{PRight, within}
 use Rattle.lane_emit.specs.ItemCode.{mask_of, mask_register}
 use Rattle.chunk_emit.specs.Registers.{Layout, IsValueUsed}
@@ -122,6 +122,7 @@ module _ {l : Layout} (fit : Assigned l) {f : Setting} {a : State} {p0 : ℕ} {t
   op_steps mode mask fm h (Load array LoopIndex (Some ty) c) k = absurd k.0
   op_steps mode mask fm h (Load array (Made q) (Some ty) c) k = absurd k.0
   op_steps mode mask fm h (Load array base None c) k = absurd k
+  op_steps mode mask fm h (Gather array base t reach u x) k = absurd k
   op_steps mode mask fm h (Apply op (Some ty) x) k =
       value_steps fit h0 d rest h mask fm (Apply op (Some ty) x) (λ j b. unary_value op (Some ty) (source_value f.names j b x)) ty refl refl k.1 (λ u i. operand_right fit h0 i ty x k.0) (λ j mem b. refl) refl
   op_steps mode mask fm h (Apply op None x) k = absurd k

@@ -23,8 +23,8 @@ use Rattle.machine_model.specs.declared.outcome.StopKind.TheVariants.{Read}
 use Rattle.label_fix.specs.DraftRun.{Entry, Laid}
 use Rattle.label_fix.specs.Stretches.{Stops}
 use Rattle.label_fix.proofs.StretchSteps.{put_stops, stop_more}
-use Rattle.chunk_order.specs.Orders.{Lane, Lanes}
-use Rattle.chunk_order.specs.Items.{nth_value}
+use Rattle.vector_order.specs.Orders.{Lane, Lanes}
+use Rattle.vector_order.specs.Operands.{nth_value}
 use Rattle.lane_emit.specs.Right.{PRight, within}
 use Rattle.lane_emit.specs.Stretch.{Word}
 use Rattle.lane_emit.specs.ItemCode.{mask_of, mask_register}

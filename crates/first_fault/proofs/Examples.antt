@@ -12,7 +12,7 @@ use Rattle.kernel_meaning.specs.Iterate.{named}
 use Rattle.a64_code.specs.Table as a64
 use Rattle.sve_code.specs.Table.{p_and, brkb, rdffr_z, setffr, cmpeq, ld1, ldff1, ldnf1}
 use Rattle.machine_model.specs.InstructionTable.{Scalar, Vector}
-use Rattle.chunk_order.specs.Orders.{Lane}
+use Rattle.vector_order.specs.Orders.{Lane}
 use Rattle.loop_form.specs.declared.loop_item.Source.{Source}
 use Rattle.loop_form.specs.declared.loop_item.Source.TheVariants.{Constant, Outer, LoopIndex, Made}
 use Rattle.loop_form.specs.LoopItems.{Item, item, Load, Store, Test, Invert, Any, Quit}

@@ -17,7 +17,7 @@ use Rattle.sve_code.specs.Table.{Name, lsl_imm, lsr_imm, asr_imm, m_smax, m_umax
 use Rattle.machine_model.specs.Machine.{State}
 use Rattle.machine_model.specs.OneStep.{cuts_in}
 use Rattle.machine_model.specs.InstructionTable.{Vector}
-use Rattle.loop_form.specs.LoopItems.{Op, Load, Apply, Combine, Move, Cast, Copy, Pick, Store, Add, Test, Invert, Same, Any, Quit}
+use Rattle.loop_form.specs.LoopItems.{Op, Load, Gather, Apply, Combine, Move, Cast, Copy, Pick, Store, Add, Test, Invert, Same, Any, Quit}
 use Rattle.lane_emit.specs.Right.{fits}
 use Rattle.lane_emit.specs.Stretch.{Word, word}
 use Rattle.lane_emit.specs.ItemCode.{Registers, op_code}
@@ -102,6 +102,7 @@ op_plain w r q m (Move left k None x) = plain_none
 op_plain w r q m (Cast None to x) = plain_none
 op_plain w r q m (Test op None x y) = plain_none
 op_plain w r q m (Load a base t c) = plain_none
+op_plain w r q m (Gather a base t c u x) = plain_none
 op_plain w r q m (Store a base t c v) = plain_none
 op_plain w r q m (Add x op t v) = plain_none
 op_plain w r q m (Quit c) = plain_none

@@ -13,7 +13,7 @@ use Rattle.kernel_tree.specs.Wrap.{residue}
 use Rattle.kernel_meaning.specs.Operators.{wrapped}
 use Rattle.machine_model.specs.Machine.{State, z_at, p_at}
 use Rattle.machine_model.specs.States.{IsState}
-use Rattle.chunk_order.specs.Orders.{Lane, Lanes}
+use Rattle.vector_order.specs.Orders.{Lane, Lanes}
 use Rattle.loop_form.specs.declared.loop_item.Source.{Source}
 use Rattle.loop_form.specs.declared.loop_item.Source.TheVariants.{Constant, Outer, LoopIndex, Made}
 use Rattle.lane_emit.proofs.Ranges.{wrap-is_of}

@@ -15,10 +15,10 @@ use Rattle.machine_model.specs.InstructionTable.{Listed}
 use Rattle.machine_model.specs.Machine.{State, p_at, with_p, next}
 use Rattle.machine_model.proofs.StateSteps.{truths_put}
 use Rattle.label_fix.specs.DraftRun.{Entry, Laid}
-use Rattle.chunk_order.specs.Orders.{Lane, Lanes, Keeps}
+use Rattle.vector_order.specs.Orders.{Lane, Lanes, Keeps}
 use Rattle.loop_form.specs.declared.loop_item.Source.TheVariants.{Made}
 use Rattle.loop_form.specs.LoopItems.{Op, item}
-use Rattle.chunk_order.specs.Items.{with_value, on_mask}
+use Rattle.vector_order.specs.Operands.{with_value, on_mask}
 use Rattle.vector_order.specs.Items.{with_truth, op_effect}
 use Rattle.lane_emit.specs.Right.{IsOf, PRight, within}
 use Rattle.lane_emit.specs.Stretch.{OnlyZ, OnlyP}
@@ -28,7 +28,7 @@ use Rattle.chunk_emit.specs.Registers.{Layout, z_of, p_of, IsValueUsed, IsTruthU
 use Rattle.chunk_emit.specs.ChunkCode.{vectors, puts}
 use Rattle.chunk_emit.specs.Chunk.{Setting, count_of, Holds}
 use Rattle.chunk_emit.specs.Fits.{Assigned, FitsMask, MakesValue, MakesTruth}
-use Rattle.chunk_order.proofs.LaneValues.{value_same, value_other}
+use Rattle.vector_order.proofs.LaneValues.{value_same, value_other}
 use Rattle.vector_order.proofs.Terms.{truth_same, truth_other}
 use Rattle.first_fault.specs.Region.{Way, halted, way_of, item_way}
 use Rattle.first_fault.specs.RegionCode.{Mode, narrow_words, step_words}

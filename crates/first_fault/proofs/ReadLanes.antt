@@ -20,10 +20,10 @@ use Rattle.machine_model.specs.InstructionTable.{Listed}
 use Rattle.machine_model.specs.Machine.{State, x_at, p_at}
 use Rattle.machine_model.proofs.StateSteps.{x_put}
 use Rattle.label_fix.specs.DraftRun.{Entry, Laid}
-use Rattle.chunk_order.specs.Orders.{Lane, Lanes, Halts, Keeps}
+use Rattle.vector_order.specs.Orders.{Lane, Lanes, Halts, Keeps}
 use Rattle.loop_form.specs.declared.loop_item.Source.TheVariants.{Outer}
 use Rattle.loop_form.specs.LoopItems.{Load, item}
-use Rattle.chunk_order.specs.Items.{nth_value, with_value, on_mask, load_effect}
+use Rattle.vector_order.specs.Operands.{nth_value, with_value, on_mask, load_effect}
 use Rattle.lane_emit.specs.Right.{IsOf, PRight, within}
 use Rattle.lane_emit.specs.ItemCode.{mask_of, mask_register}
 use Rattle.lane_emit.proofs.Residues.{held}

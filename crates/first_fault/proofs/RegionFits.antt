@@ -2,7 +2,7 @@
 use Rattle.std.proofs.Common.{◌≡◌, ℕ, ◌+◌, Bool, true, false, List, [], ◌∷◌, ◌++◌, Option, Some, None, refl, sym, ap, ◌∙◌, subst}
 use Rattle.std.specs.Prelude.{is_some, ◌||◌, ◌&&◌}
 use Rattle.std.specs.List.{list_any}
-use Rattle.loop_form.specs.LoopItems.{Op, Load, Apply, Combine, Move, Cast, Copy, Pick, Store, Add, Test, Invert, Same, Any, Quit, Item}
+use Rattle.loop_form.specs.LoopItems.{Op, Load, Gather, Apply, Combine, Move, Cast, Copy, Pick, Store, Add, Test, Invert, Same, Any, Quit, Item}
 use Rattle.chunk_emit.specs.Registers.{Layout}
 use Rattle.chunk_emit.specs.Chunk.{Setting}
 use Rattle.chunk_emit.specs.Fits.{FitsItems, following_items}
@@ -34,6 +34,7 @@ unmasked (Some q) e = absurd cc
 region_step : (l : Layout) (f : Setting) (p : ℕ) (mask : Option ℕ) (op : Op) → writes op ≡ false → quits op && is_some mask ≡ false → whole.FitsStep l f p op → FitsStep l f p mask op
 region_step l f p mask (Quit c) w e h = (unmasked mask e, h.0, h.1)
 region_step l f p mask (Load a base t c) w e h = h
+region_step l f p mask (Gather a base t r u x) w e h = absurd cc
 region_step l f p mask (Apply op t x) w e h = h
 region_step l f p mask (Combine op t x y) w e h = h
 region_step l f p mask (Move left k t x) w e h = h
@@ -59,6 +60,7 @@ region_fits l f p (it ∷ items) w e h =
 no_break : (op : Op) → quits op ≡ false → IsNoBreak op
 no_break (Quit c) e = absurd cc
 no_break (Load a base t c) e = tt
+no_break (Gather a base t r u x) e = tt
 no_break (Apply op t x) e = tt
 no_break (Combine op t x y) e = tt
 no_break (Move left k t x) e = tt

@@ -1,9 +1,9 @@
 -- The items of the region done over lanes that all come through.
 use Rattle.std.proofs.Common.{◌≡◌, ℕ, ◌+◌, ◌<◌, Bool, true, false, List, [], ◌∷◌, Option, None, refl, sym, ap, ap₂, ◌∙◌, subst, arith}
 use Rattle.kernel_meaning.specs.Eval.{Names}
-use Rattle.chunk_order.specs.Orders.{Lane, Lanes, Effect, Halts, Keeps, Writes, Out, Fine, done, go_on, column, by_item}
-use Rattle.loop_form.specs.LoopItems.{Op, Load, Apply, Combine, Move, Cast, Copy, Pick, Store, Add, Test, Invert, Same, Any, Quit, Item}
-use Rattle.chunk_order.specs.Items.{on_mask}
+use Rattle.vector_order.specs.Orders.{Lane, Lanes, Effect, Halts, Keeps, Writes, Out, Fine, done, go_on, column, by_item}
+use Rattle.loop_form.specs.LoopItems.{Op, Load, Gather, Apply, Combine, Move, Cast, Copy, Pick, Store, Add, Test, Invert, Same, Any, Quit, Item}
+use Rattle.vector_order.specs.Operands.{on_mask}
 use Rattle.vector_order.specs.Items.{item_act, acts_of}
 use Rattle.chunk_emit.specs.Registers.{Layout}
 use Rattle.chunk_emit.specs.Chunk.{Setting}
@@ -15,6 +15,7 @@ use Rattle.first_fault.proofs.Splits.{IsQuiet, op_quiet}
 
 fits_quiet : (l : Layout) (f : Setting) (q : ℕ) (mask : Option ℕ) (op : Op) → FitsStep l f q mask op → writes op ≡ false
 fits_quiet l f q mask (Load a base t c) k = refl
+fits_quiet l f q mask (Gather a base t r u x) k = absurd k
 fits_quiet l f q mask (Apply op t x) k = refl
 fits_quiet l f q mask (Combine op t x y) k = refl
 fits_quiet l f q mask (Move left n t x) k = refl
@@ -52,6 +53,7 @@ record Goes (e : Effect) (l : Lane) (next : Lane → Way) (new : Lane) : Type 0 
 
 halted_goes : (op : Op) (next : Lane → Way) (new : Lane) → way_on (halted op) next ≡ On new → ⊥
 halted_goes (Load a b t c) next new h = cc
+halted_goes (Gather a b t r u x) next new h = cc
 halted_goes (Apply op t x) next new h = cc
 halted_goes (Combine op t x y) next new h = cc
 halted_goes (Move left n t x) next new h = cc

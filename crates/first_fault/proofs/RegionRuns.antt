@@ -7,7 +7,7 @@ use Rattle.guest_types.specs.Lanes.{all_at}
 use Rattle.guest_types.proofs.AtWidths.{width_bytes-lanes}
 use Rattle.machine_model.specs.Machine.{State, p_at, with_ffr, next}
 use Rattle.machine_model.proofs.StateSteps.{truths_made, ffr_put}
-use Rattle.chunk_order.specs.Orders.{Lanes}
+use Rattle.vector_order.specs.Orders.{Lanes}
 use Rattle.lane_emit.specs.Right.{PRight}
 use Rattle.lane_emit.specs.ItemCode.{truth_of}
 use Rattle.chunk_emit.specs.Registers.{Layout, p_of}

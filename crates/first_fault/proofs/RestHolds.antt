@@ -6,14 +6,14 @@ use Rattle.guest_types.specs.Memory.{Memory}
 use Rattle.guest_types.specs.Elements.{at, active}
 use Rattle.kernel_meaning.specs.Eval.{Names}
 use Rattle.machine_model.specs.Machine.{State, z_at}
-use Rattle.chunk_order.specs.Orders.{Share, Lane, Lanes, Effect, Halts, Keeps, Writes}
-use Rattle.chunk_order.specs.Regions.{run_lane}
+use Rattle.vector_order.specs.Orders.{Share, Lane, Lanes, Effect, Halts, Keeps, Writes}
+use Rattle.vector_order.specs.Regions.{run_lane}
 use Rattle.loop_form.specs.declared.loop_item.Source.TheVariants.{Made}
 use Rattle.lane_emit.specs.Right.{IsOf}
 use Rattle.guest_types.specs.Length.{width_bits}
 use Rattle.kernel_tree.specs.Wrap.{residue}
-use Rattle.loop_form.specs.LoopItems.{Op, Load, Apply, Combine, Move, Cast, Copy, Pick, Store, Add, Test, Invert, Same, Any, Quit, Item}
-use Rattle.chunk_order.specs.Items.{on_mask, load_effect}
+use Rattle.loop_form.specs.LoopItems.{Op, Load, Gather, Apply, Combine, Move, Cast, Copy, Pick, Store, Add, Test, Invert, Same, Any, Quit, Item}
+use Rattle.vector_order.specs.Operands.{on_mask, load_effect}
 use Rattle.vector_order.specs.Items.{op_effect, item_act, acts_of}
 use Rattle.reductions.specs.Folds.{after_all, AreOf, given_to, ShareAlike}
 use Rattle.reductions.specs.AccumulatorLanes as accumulators
@@ -33,6 +33,7 @@ use Rattle.first_fault.proofs.PureSteps.{and_true}
 
 halted_left : (op : Op) (f : Lane → Way) → lane_left (way_on (halted op) f) ≡ None
 halted_left (Load a b t c) f = refl
+halted_left (Gather a b t r u x) f = refl
 halted_left (Apply op t x) f = refl
 halted_left (Combine op t x y) f = refl
 halted_left (Move left n t x) f = refl
@@ -52,7 +53,7 @@ way_is_run names [] j m l = refl
 way_is_run names (it ∷ items) j m l = by (item_act names it j m l) (way_is_run names items j m)
   where
     by : (e : Effect) → ((k : Lane) → lane_left (region_way names items j m k) ≡ run_lane (acts_of names items) j m k)
-        → lane_left (way_on (way_of (halted it.op) e) (region_way names items j m)) ≡ Rattle.chunk_order.specs.Regions.lane_on e (run_lane (acts_of names items) j m)
+        → lane_left (way_on (way_of (halted it.op) e) (region_way names items j m)) ≡ Rattle.vector_order.specs.Regions.lane_on e (run_lane (acts_of names items) j m)
     by Halts ih = halted_left it.op (region_way names items j m)
     by (Keeps k) ih = ih k
     by (Writes a k v) ih = refl
@@ -76,6 +77,7 @@ quit_shares l false = refl
 
 op_shares : (lay : Layout) (f : Setting) (names : Names) (q j : ℕ) (mask : Option ℕ) (m : Memory) (l : Lane) (op : Op) → FitsStep lay f q mask op → Shares l.shares (op_effect op names q j (on_mask mask l) m l)
 op_shares lay f names q j mask m l (Load a b t c) k = load_shares l q (on_mask mask l) _ _ refl
+op_shares lay f names q j mask m l (Gather a b t r u x) k = absurd k
 op_shares lay f names q j mask m l (Apply op t x) k = refl
 op_shares lay f names q j mask m l (Combine op t x y) k = refl
 op_shares lay f names q j mask m l (Move left n t x) k = refl

@@ -17,9 +17,9 @@ use Rattle.machine_model.proofs.StateSteps.{load_put}
 use Rattle.label_fix.specs.DraftRun.{Entry, Laid}
 use Rattle.label_fix.specs.Stretches.{Stops}
 use Rattle.label_fix.proofs.StretchSteps.{put_stops}
-use Rattle.chunk_order.specs.Orders.{Lane, Lanes}
-use Rattle.chunk_order.proofs.LaneValues.{value_same, value_other}
-use Rattle.chunk_order.specs.Items.{nth_value}
+use Rattle.vector_order.specs.Orders.{Lane, Lanes}
+use Rattle.vector_order.proofs.LaneValues.{value_same, value_other}
+use Rattle.vector_order.specs.Operands.{nth_value}
 use Rattle.lane_emit.specs.Right.{IsOf, PRight, within}
 use Rattle.lane_emit.specs.ItemCode.{mask_of, mask_register}
 use Rattle.lane_emit.proofs.Residues.{held}

@@ -4,7 +4,7 @@ use Rattle.std.specs.Prelude.{slice_get, slice_index_or, option_map}
 use Rattle.guest_types.specs.declared.length.Width.{Width}
 use Rattle.loop_form.specs.declared.loop_item.LoopItem.{LoopItem}
 use Rattle.loop_form.specs.LoopView.{view_of, view}
-use Rattle.loop_form.specs.LoopItems.{Item, item}
+use Rattle.loop_form.specs.LoopItems.{Item}
 use Rattle.chunk_emit.specs.Registers.{Layout}
 use Rattle.chunk_emit.specs.Writable.{IsWritable, AreWritable}
 use Rattle.chunk_emit.proofs.StepCode.{no_item, at_place}

@@ -7,7 +7,7 @@ use Rattle.std.proofs.lemmas.Bool.Decides.{eqb_tells}
 use Rattle.kernel_tree.specs.declared.ops.Ty.{Ty}
 use Rattle.loop_form.specs.declared.loop_item.Source.{Source}
 use Rattle.loop_form.specs.declared.loop_item.Source.TheVariants.{Constant, Outer, LoopIndex, Made}
-use Rattle.loop_form.specs.LoopItems.{Op, Load, Apply, Combine, Move, Cast, Copy, Pick, Store, Add, Test, Invert, Same, Any, Quit, Item, item}
+use Rattle.loop_form.specs.LoopItems.{Op, Load, Gather, Apply, Combine, Move, Cast, Copy, Pick, Store, Add, Test, Invert, Same, Any, Quit, Item, item}
 use Rattle.chunk_emit.specs.Registers.{Layout}
 use Rattle.chunk_emit.specs.Chunk.{Setting}
 use Rattle.chunk_emit.specs.Fits.{Assigned, FitsSource, FitsTruth, FitsMask, MakesNothing, NoneBetween, following_items}
@@ -75,6 +75,7 @@ or_right false b e = e
 step_fits : (l : Layout) (f : Setting) (out : ℕ → Bool) (p : ℕ) (mask after : Option ℕ) (op : Op) → (mask ≡ None → after ≡ None) → Takes l out p op → FitsStep l f p mask op → FitsStep (without l out) f p after op
 step_fits l f out p mask after (Load a base (Some t) c) free takes k = (k.0, k.1, k.2, k.3, (let less = without_less l out p in let old = k.4.0 in omega (arith, old, less), k.4.1))
 step_fits l f out p mask after (Load a base None c) free takes k = absurd k
+step_fits l f out p mask after (Gather a base t reach u x) free takes k = absurd k
 step_fits l f out p mask after (Apply op (Some t) x) free takes k = ((source_fits l out p t x k.0.0, k.0.1), (let less = without_less l out p in let old = k.1.0 in omega (arith, old, less), k.1.1))
 step_fits l f out p mask after (Apply op None x) free takes k = absurd k
 step_fits l f out p mask after (Combine op (Some t) x y) free takes k = ((source_fits l out p t x k.0.0, k.0.1), (source_fits l out p t y k.1.0, k.1.1), (let less = without_less l out p in let old = k.2.0 in omega (arith, old, less), k.2.1))

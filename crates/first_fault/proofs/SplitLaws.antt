@@ -10,9 +10,9 @@ use Rattle.kernel_tree.specs.Wrap.{residue}
 use Rattle.kernel_meaning.specs.Eval.{Names}
 use Rattle.machine_model.specs.Machine.{State}
 use Rattle.label_fix.specs.DraftRun.{Entry, Laid}
-use Rattle.chunk_order.specs.Orders.{Lane, Lanes}
+use Rattle.vector_order.specs.Orders.{Lane, Lanes}
 use Rattle.loop_form.specs.declared.loop_item.Source.TheVariants.{Made}
-use Rattle.loop_form.specs.LoopItems.{Op, Load, Apply, Combine, Move, Cast, Copy, Pick, Store, Add, Test, Invert, Same, Any, Quit, Item}
+use Rattle.loop_form.specs.LoopItems.{Op, Load, Gather, Apply, Combine, Move, Cast, Copy, Pick, Store, Add, Test, Invert, Same, Any, Quit, Item}
 use Rattle.lane_emit.specs.Right.{IsOf}
 use Rattle.lane_emit.specs.ItemCode.{mask_register, op_code}
 use Rattle.chunk_emit.specs.Registers.{Layout}
@@ -49,6 +49,7 @@ step_same mode w l out q None (Store a base t c v) nay = refl
 step_same mode w l out q None (Add x op t v) nay = refl
 step_same mode w l out q None (Quit c) nay = refl
 step_same mode w l out q None (Load a base None c) nay = refl
+step_same mode w l out q None (Gather a base t reach u x) nay = refl
 step_same mode w l out q None (Test op t x y) nay = ap (λ n. if nat_lt q n then narrow_words l None (vectors (op_code w l.registers q (mask_register l.registers None) (Test op t x y))) else []) (without_same l out q (nay refl))
 step_same mode w l out q None (Invert c) nay = ap (λ n. if nat_lt q n then narrow_words l None (vectors (op_code w l.registers q (mask_register l.registers None) (Invert c))) else []) (without_same l out q (nay refl))
 step_same mode w l out q None (Same c) nay = ap (λ n. if nat_lt q n then narrow_words l None (vectors (op_code w l.registers q (mask_register l.registers None) (Same c))) else []) (without_same l out q (nay refl))
@@ -63,6 +64,7 @@ step_same mode w l out q (Some m) (Store a base t c v) nay = refl
 step_same mode w l out q (Some m) (Add x op t v) nay = refl
 step_same mode w l out q (Some m) (Quit c) nay = refl
 step_same mode w l out q (Some m) (Load a base None c) nay = refl
+step_same mode w l out q (Some m) (Gather a base t reach u x) nay = refl
 step_same mode w l out q (Some m) (Test op t x y) nay = ap (λ n. if nat_lt q n then narrow_words l (Some m) (vectors (op_code w l.registers q (mask_register l.registers (Some m)) (Test op t x y))) else []) (without_same l out q (nay refl))
 step_same mode w l out q (Some m) (Invert c) nay = ap (λ n. if nat_lt q n then narrow_words l (Some m) (vectors (op_code w l.registers q (mask_register l.registers (Some m)) (Invert c))) else []) (without_same l out q (nay refl))
 step_same mode w l out q (Some m) (Same c) nay = ap (λ n. if nat_lt q n then narrow_words l (Some m) (vectors (op_code w l.registers q (mask_register l.registers (Some m)) (Same c))) else []) (without_same l out q (nay refl))

@@ -7,11 +7,11 @@ use Rattle.guest_types.specs.Memory.{Memory}
 use Rattle.kernel_tree.specs.Wrap.{wrap}
 use Rattle.kernel_meaning.specs.Operators.{unary_value, binary_value, shift_value, compare_on}
 use Rattle.kernel_meaning.specs.Eval.{Names, read_element, choose_value}
-use Rattle.chunk_order.specs.Orders.{Lane, Effect, Halts, Keeps, Writes}
+use Rattle.vector_order.specs.Orders.{Lane, Effect, Halts, Keeps, Writes}
 use Rattle.loop_form.specs.declared.loop_item.Source.{Source}
 use Rattle.loop_form.specs.declared.loop_item.Source.TheVariants.{Constant, Outer, LoopIndex, Made}
-use Rattle.loop_form.specs.LoopItems.{Op, Load, Apply, Combine, Move, Cast, Copy, Pick, Store, Add, Test, Invert, Same, Any, Quit, Item, item}
-use Rattle.chunk_order.specs.Items.{source_value, with_value, on_mask, load_effect}
+use Rattle.loop_form.specs.LoopItems.{Op, Load, Gather, Apply, Combine, Move, Cast, Copy, Pick, Store, Add, Test, Invert, Same, Any, Quit, Item, item}
+use Rattle.vector_order.specs.Operands.{source_value, index_value, with_value, on_mask, load_effect}
 use Rattle.vector_order.specs.Items.{with_truth, op_effect}
 use Rattle.vector_order.proofs.Terms.{truth_same, truth_other}
 use Rattle.chunk_emit.specs.Registers.{Layout}
@@ -97,6 +97,7 @@ op_alike l f names q j mask true m a b (Load array base (Some t) c) k h =
     by None = tt
     by (Some v) = alike_value v v k.4.0 refl h
 op_alike l f names q j mask on m a b (Load array base None c) k h = absurd k
+op_alike l f names q j mask on m a b (Gather array base t reach u x) k h = absurd k
 op_alike l f names q j mask on m a b (Apply op (Some t) x) k h = alike_value _ _ k.1.0 (ap (unary_value op (Some t)) (source_alike names j x h)) h
 op_alike l f names q j mask on m a b (Apply op None x) k h = absurd k
 op_alike l f names q j mask on m a b (Combine op (Some t) x y) k h = alike_value _ _ k.2.0 (ap₂ (binary_value op (Some t)) (source_alike names j x h) (source_alike names j y h)) h
@@ -133,6 +134,7 @@ AlikeWay _ _ = ⊥
 same_halt : (op : Op) (g h : Lane → Way) → AlikeWay (way_on (halted op) g) (way_on (halted op) h)
 same_halt (Quit c) g h = tt
 same_halt (Load a base t c) g h = tt
+same_halt (Gather a base t reach u x) g h = tt
 same_halt (Apply op t x) g h = tt
 same_halt (Combine op t x y) g h = tt
 same_halt (Move left n t x) g h = tt
@@ -175,6 +177,7 @@ idle_truth {q = q} {a = a} = record { left = with_truth a q false; is = refl; ot
 idle : (l : Layout) (f : Setting) (names : Names) (q j : ℕ) (mask : Option ℕ) (m : Memory) (a : Lane) (op : Op) → FitsStep l f q mask op → Idle l q a (op_effect op names q j false m a)
 idle l f names q j mask m a (Load array base (Some t) c) k = idle_value _ k.4.0
 idle l f names q j mask m a (Load array base None c) k = absurd k
+idle l f names q j mask m a (Gather array base t reach u x) k = absurd k
 idle l f names q j mask m a (Apply op (Some t) x) k = idle_value _ k.1.0
 idle l f names q j mask m a (Apply op None x) k = absurd k
 idle l f names q j mask m a (Combine op (Some t) x y) k = idle_value _ k.2.0
@@ -297,6 +300,12 @@ StaysAt r a (Writes x y z) = Unit {0}
 op_stays : (names : Names) (q j : ℕ) (on : Bool) (m : Memory) (a : Lane) (r : ℕ) → q ≢ r → (op : Op) → StaysAt r a (op_effect op names q j on m a)
 op_stays names q j false m a r ne (Load array base t c) = refl
 op_stays names q j true m a r ne (Load array base t c) = by (read_element t m (source_value names j a base) (pos j +ℤ c))
+  where
+    by : (o : Option ℤ) → StaysAt r a (load_effect a q o)
+    by None = tt
+    by (Some v) = refl
+op_stays names q j false m a r ne (Gather array base t reach u x) = refl
+op_stays names q j true m a r ne (Gather array base t reach u x) = by (read_element t m (source_value names j a base) (index_value reach (source_value names j a x)))
   where
     by : (o : Option ℤ) → StaysAt r a (load_effect a q o)
     by None = tt

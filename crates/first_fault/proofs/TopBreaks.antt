@@ -4,10 +4,10 @@ use Rattle.std.specs.Prelude.{is_some, ◌||◌, ◌&&◌, if◌then◌else◌}
 use Rattle.std.specs.List.{list_any}
 use Rattle.kernel_tree.specs.declared.ops.Ty.{Ty}
 use Rattle.kernel_tree.specs.Plain.{Term, Literal, Variable, Element, Unary, Operation, Shift, Conversion, Choice, Comparison, Both, Either, Not, Action, Define, Put, Update, Choose, Leave, Block, Done, Then, Otherwise, Nothing, Else}
-use Rattle.kernel_tree.specs.Items.{stream_offset, term_size, action_size, block_size}
-use Rattle.kernel_tree.specs.Typing.{Scope, own, first, side_type, after_action, after_block, left}
+use Rattle.kernel_tree.specs.Items.{stream_offset, index_items, term_size, action_size, block_size}
+use Rattle.kernel_tree.specs.Typing.{Scope, own, first, index_type, side_type, after_action, after_block, left}
 use Rattle.loop_form.specs.declared.loop_item.Source.{Source}
-use Rattle.loop_form.specs.LoopItems.{Bound, array_type, accumulator_of, Quit, Item, item, truth_home, load_item, term_items, cond_items, store_item, after_env, action_items, block_items, otherwise_items}
+use Rattle.loop_form.specs.LoopItems.{Bound, array_type, accumulator_of, Quit, Item, item, truth_home, load_item, gather_item, term_items, cond_items, store_item, after_env, action_items, block_items, otherwise_items}
 use Rattle.chunk_emit.specs.Fits.{following_items}
 use Rattle.first_fault.specs.Split.{quits, is_quit, region_of}
 use Rattle.first_fault.specs.KernelFits.{is_inner_break}
@@ -62,9 +62,9 @@ outer_of (it ∷ items) = by (quits it.op) refl (outer_of items)
 
 -- ---- expressions have no breaks
 
-load_breaks : (s : Scope) (mask : Option ℕ) (q : ℕ) (env : List Bound) (a : List ℕ) (o : Option ℤ) (rest : List Item) → breaks_of (load_item s mask q env a o rest) ≡ breaks_of rest
-load_breaks s mask q env a None rest = refl
-load_breaks s mask q env a (Some c) rest = refl
+load_breaks : (s : Scope) (mask : Option ℕ) (q : ℕ) (env : List Bound) (a : List ℕ) (o : Option ℤ) (gathered rest : List Item) → breaks_of gathered ≡ breaks_of rest → breaks_of (load_item s mask q env a o gathered rest) ≡ breaks_of rest
+load_breaks s mask q env a None gathered rest h = h
+load_breaks s mask q env a (Some c) gathered rest h = refl
 
 pub store_breaks : (s : Scope) (mask : Option ℕ) (q : ℕ) (env : List Bound) (a : List ℕ) (o : Option ℤ) (v : Source) (rest : List Item) → breaks_of (store_item s mask q env a o v rest) ≡ breaks_of rest
 store_breaks s mask q env a None v rest = refl
@@ -77,7 +77,7 @@ pub record TermBreaks (t : Term) : Type 0 where
 pub term_breaks : (t : Term) → TermBreaks t
 term_breaks (Literal n) = record { as_value = λ s want mask b env rest. refl; as_cond = λ s mask b env rest. refl }
 term_breaks (Variable x) = record { as_value = λ s want mask b env rest. refl; as_cond = λ s mask b env rest. refl }
-term_breaks (Element a j) = record { as_value = λ s want mask b env rest. load_breaks s mask _ env a (stream_offset s.index j) rest; as_cond = λ s mask b env rest. refl }
+term_breaks (Element a j) = record { as_value = λ s want mask b env rest. load_breaks s mask _ env a (stream_offset s.index j) (term_items s (index_type s j) mask b env j (gather_item s mask b (b + index_items s.index j) env a j ∷ rest)) rest ((term_breaks j).as_value s (index_type s j) mask b env _); as_cond = λ s mask b env rest. refl }
 term_breaks (Unary op e) = record { as_value = λ s want mask b env rest. (term_breaks e).as_value s want mask b env _; as_cond = λ s mask b env rest. refl }
 term_breaks (Operation op x y) = record { as_value = λ s want mask b env rest. (term_breaks x).as_value s want mask b env _ ∙ (term_breaks y).as_value s want mask _ env _; as_cond = λ s mask b env rest. refl }
 term_breaks (Shift to_left e n) = record { as_value = λ s want mask b env rest. (term_breaks e).as_value s want mask b env _; as_cond = λ s mask b env rest. refl }

@@ -6,9 +6,9 @@ use Rattle.kernel_meaning.specs.Ends.{BlockEnd}
 use Rattle.kernel_meaning.specs.Eval.{Names}
 use Rattle.kernel_meaning.specs.Iterate.{iterate}
 use Rattle.kernel_tree.specs.Typing.{var_scope}
-use Rattle.chunk_order.specs.Orders.{Lane, Effect, Halts, Keeps, Writes}
-use Rattle.chunk_order.specs.Regions.{AllQuiet}
-use Rattle.loop_form.specs.LoopItems.{Op, Load, Apply, Combine, Move, Cast, Copy, Pick, Store, Add, Test, Invert, Same, Any, Quit, Item, loop_items}
+use Rattle.vector_order.specs.Orders.{Lane, Effect, Halts, Keeps, Writes}
+use Rattle.vector_order.specs.Regions.{AllQuiet}
+use Rattle.loop_form.specs.LoopItems.{Op, Load, Gather, Apply, Combine, Move, Cast, Copy, Pick, Store, Add, Test, Invert, Same, Any, Quit, Item, loop_items}
 use Rattle.vector_order.specs.Items.{item_act, acts_of}
 use Rattle.vector_order.specs.Fates.{ByBreak, ByFault, cause_of, Fate, Ended, effect_on, fate, SameEnd}
 use Rattle.vector_order.proofs.OrderLaw.{turn_is_fate}
@@ -25,6 +25,7 @@ fate_after Fell m f = Ended ByFault m
 
 halted_ends : (op : Op) (g : Lane → Way) (m : Memory) (f : Lane → Fate) → Ended (cause_of op) m ≡ fate_after (way_on (halted op) g) m f
 halted_ends (Load a b t c) g m f = refl
+halted_ends (Gather a b t r u x) g m f = refl
 halted_ends (Apply op t x) g m f = refl
 halted_ends (Combine op t x y) g m f = refl
 halted_ends (Move left n t x) g m f = refl

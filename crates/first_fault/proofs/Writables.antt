@@ -1,5 +1,5 @@
 -- The items of a checked kernel's loop of class Vector can be written.
-use Rattle.std.proofs.Common.{◌≡◌, ℕ, ◌+◌, ◌≤◌, ℤ, pos, List, [], ◌∷◌, Option, Some, None, refl, sym, ap, subst, arith}
+use Rattle.std.proofs.Common.{◌≡◌, ℕ, ◌+◌, ◌<◌, ◌≤◌, ℤ, pos, List, [], ◌∷◌, Option, Some, None, refl, sym, ap, subst, arith}
 use Rattle.guest_types.specs.EarlyLoads.{never}
 use Rattle.guest_types.specs.declared.length.Width.{Width}
 use Rattle.guest_types.specs.declared.length.Width.TheVariants.{B, H, S, D}
@@ -14,12 +14,12 @@ use Rattle.reg_assign.specs.Registers.{Assignment}
 use Rattle.loop_form.specs.declared.loop_item.Source.{Source}
 use Rattle.loop_form.specs.declared.loop_item.Source.TheVariants.{Constant, Outer, LoopIndex, Made}
 use Rattle.loop_form.specs.Lanes.{lane_width_of}
-use Rattle.loop_form.specs.LoopItems.{Op, Load, Apply, Combine, Move, Cast, Copy, Pick, Store, Add, Test, Invert, Same, Any, Quit, Item, loop_items, turns_items, loop_items_of}
+use Rattle.loop_form.specs.LoopItems.{Op, Load, Gather, Apply, Combine, Move, Cast, Copy, Pick, Store, Add, Test, Invert, Same, Any, Quit, Item, loop_items, turns_items, loop_items_of}
 use Rattle.loop_form.specs.Registers.{FitsKernel}
 use Rattle.dependence.specs.Classes.{class_of}
 use Rattle.dependence.specs.declared.reason.Class.TheVariants.{Vector}
 use Rattle.lane_emit.specs.LaneCode.{size_of}
-use Rattle.chunk_emit.specs.Registers.{Layout}
+use Rattle.chunk_emit.specs.Registers.{Layout, base_of}
 use Rattle.chunk_emit.specs.ChunkCode.{memory_size}
 use Rattle.chunk_emit.specs.Chunk.{Setting}
 use Rattle.chunk_emit.specs.Fits.{FitsBase, FitsOp, FitsItems, IsNear}
@@ -68,9 +68,18 @@ narrow ty.U64 H h = absurd (omega (arith, h))
 narrow ty.U64 S h = absurd (omega (arith, h))
 narrow ty.U64 D h = omega arith
 
+fits_general : (f : Setting) (base : Source) → FitsBase f base → base_of base < 32
+fits_general f (Outer p) h = let small = h.0 in omega (arith, small)
+fits_general f (Constant t z) h = elim h [ ]
+fits_general f LoopIndex h = elim h [ ]
+fits_general f (Made q) h = elim h [ ]
+
 op_writable : (l : Layout) (f : Setting) (p : ℕ) (op : Op) → FitsOp l f p op → IsWritable f.w op
 op_writable l f p (Load a base (Some t) c) h = fits_place f base c h.0 h.1
 op_writable l f p (Load a base None c) h = tt
+op_writable l f p (Gather a base (Some t) reach (Some u) x) h = fits_general f base h.0
+op_writable l f p (Gather a base (Some t) reach None x) h = tt
+op_writable l f p (Gather a base None reach u x) h = tt
 op_writable l f p (Store a base (Some t) c v) h = (fits_place f base c h.0 h.1, narrow t f.w h.2.1)
 op_writable l f p (Store a base None c v) h = tt
 op_writable l f p (Apply op t x) h = tt
@@ -89,6 +98,7 @@ op_writable l f p (Quit c) h = tt
 step_writable : (l : Layout) (f : Setting) (p : ℕ) (mask : Option ℕ) (op : Op) → FitsStep l f p mask op → IsWritable f.w op
 step_writable l f p mask (Load a base (Some t) c) h = fits_place f base c h.0 h.1
 step_writable l f p mask (Load a base None c) h = tt
+step_writable l f p mask (Gather a base t reach u x) h = elim h [ ]
 step_writable l f p mask (Store a base t c v) h = elim h [ ]
 step_writable l f p mask (Apply op t x) h = tt
 step_writable l f p mask (Combine op t x y) h = tt

@@ -11,7 +11,7 @@ use Rattle.kernel_meaning.specs.ScalarRun.{started}
 use Rattle.loop_form.specs.LoopItems.{loop_items}
 use Rattle.dependence.specs.Classes.{class_of}
 use Rattle.dependence.specs.declared.reason.Class.TheVariants.{Vector}
-use Rattle.chunk_order.specs.Orders.{Lane}
+use Rattle.vector_order.specs.Orders.{Lane}
 use Rattle.vector_order.specs.Order.{Steady}
 use Rattle.first_fault.specs.Region.{Way, On, Broke, Fell, region_way}
 use Rattle.first_fault.specs.Split.{region_of}

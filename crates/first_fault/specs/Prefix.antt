@@ -4,7 +4,7 @@ use Rattle.guest_types.specs.Memory.{Memory}
 use Rattle.guest_types.specs.Elements.{active}
 use Rattle.machine_model.specs.Machine.{State, x_at, z_at, p_at}
 use Rattle.machine_model.specs.States.{IsState}
-use Rattle.chunk_order.specs.Orders.{Lane, Lanes}
+use Rattle.vector_order.specs.Orders.{Lane, Lanes}
 use Rattle.loop_form.specs.declared.loop_item.Source.{Source}
 use Rattle.lane_emit.specs.Right.{PRight}
 use Rattle.lane_emit.specs.ItemCode.{truth_of}

@@ -2,7 +2,7 @@
 use Rattle.std.specs.Prelude.{ℕ, List, [], ◌∷◌, Option, Some, None}
 use Rattle.guest_types.specs.Memory.{Memory}
 use Rattle.kernel_meaning.specs.Eval.{Names}
-use Rattle.chunk_order.specs.Orders.{Lane, Effect, Halts, Keeps, Writes}
+use Rattle.vector_order.specs.Orders.{Lane, Effect, Halts, Keeps, Writes}
 use Rattle.loop_form.specs.LoopItems.{Op, Quit, Item}
 use Rattle.vector_order.specs.Items.{item_act}
 

@@ -5,8 +5,8 @@ use Rattle.guest_types.specs.EarlyLoads.{StopList}
 use Rattle.guest_types.specs.Memory.{Memory}
 use Rattle.kernel_meaning.specs.Eval.{Names}
 use Rattle.machine_model.specs.Machine.{State}
-use Rattle.chunk_order.specs.Orders.{Lane, Lanes, Fine, by_item}
-use Rattle.chunk_order.specs.Regions.{run_lane}
+use Rattle.vector_order.specs.Orders.{Lane, Lanes, Fine, by_item}
+use Rattle.vector_order.specs.Regions.{run_lane}
 use Rattle.loop_form.specs.LoopItems.{Item}
 use Rattle.vector_order.specs.Items.{acts_of}
 use Rattle.chunk_emit.specs.Registers.{Layout}

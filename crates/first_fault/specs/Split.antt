@@ -5,8 +5,8 @@ use Rattle.kernel_tree.specs.Plain.{PlainLoop, Program}
 use Rattle.kernel_meaning.specs.Eval.{Names}
 use Rattle.dependence.specs.Classes.{class_of}
 use Rattle.dependence.specs.declared.reason.Class.TheVariants.{Vector}
-use Rattle.chunk_order.specs.Regions.{AllQuiet}
-use Rattle.loop_form.specs.LoopItems.{Op, Store, Add, Quit, Item, loop_items}
+use Rattle.vector_order.specs.Regions.{AllQuiet}
+use Rattle.loop_form.specs.LoopItems.{Op, Gather, Store, Add, Quit, Item, loop_items}
 use Rattle.vector_order.specs.Items.{acts_of}
 
 abbrev pub quits : Op → Bool
@@ -17,11 +17,12 @@ abbrev pub is_quit : Item → Bool
 is_quit it = quits it.op
 
 abbrev pub writes : Op → Bool
+writes (Gather a base t r u x) = true
 writes (Store a base t c v) = true
 writes (Add x op t v) = true
 writes _ = false
 
--- a store or an update
+-- a store, an update, or a read at a computed index
 abbrev pub is_write : Item → Bool
 is_write it = writes it.op
 

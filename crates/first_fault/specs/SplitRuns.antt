@@ -2,7 +2,7 @@
 use Rattle.std.specs.Prelude.{ℕ, ◌≤◌, List, length}
 use Rattle.machine_model.specs.Machine.{State}
 use Rattle.label_fix.specs.DraftRun.{Entry, Laid}
-use Rattle.chunk_order.specs.Orders.{Lanes}
+use Rattle.vector_order.specs.Orders.{Lanes}
 use Rattle.loop_form.specs.LoopItems.{Item}
 use Rattle.chunk_emit.specs.Registers.{Layout}
 use Rattle.chunk_emit.specs.ChunkCode.{puts}

@@ -11,6 +11,9 @@ use Rattle.kernel_tree.proofs.Faultless.{nil-left, nil-right, loop_faultless}
 use Rattle.kernel_tree.proofs.NoFault.{read_some, target_some}
 use Rattle.kernel_tree.proofs.Scopes.{index_after, scope_index}
 use Rattle.loop_form.specs.declared.stream.Stream.{Stream}
+use Rattle.loop_form.specs.declared.reach.Reach.{Reach}
+use Rattle.loop_form.specs.Reaches.{read_reach, reached, reach_in, reach_at, reaches_of}
+use Rattle.vector_order.specs.Apart.{Among}
 use Rattle.loop_form.specs.Entries.{Content, IsLiteral, IsName, IsRead, IsLet, IsStore, IsUpdate, IsPlain, Entry, inner_entries, term_entries, action_entries, block_entries, otherwise_entries, turns_entries, loop_entries}
 use Rattle.loop_form.specs.Streams.{place_of, access, access_of, stream_of, streams_of, type_of_place, In}
 use Rattle.loop_form.proofs.ArrayNames.{head_fits}
@@ -144,3 +147,33 @@ entries_typed k (e ∷ es) s h i = by_content e.content h.0 (entries_typed k es 
 
 pub streams_typed : (k : Program) → check_fault k ≡ None → (s : Stream) → In s (streams_of k) → IsTyped k.params s
 streams_typed k e s i = entries_typed k (loop_entries k) s (loop_arrays k e) i
+
+-- ---- the reads at computed indexes that have a reach
+
+-- the read is of an array parameter
+abbrev pub IsReadTyped : List Parameter → Reach → Type 0
+IsReadTyped ps r = (t : Ty) × (type_of_place ps r.param ≡ Some t)
+
+reached_typed : (ps : List Parameter) (o m : Option ℕ) (rest : List Reach) (r : Reach) (p : ℕ) (t : Ty) → o ≡ Some p → type_of_place ps p ≡ Some t → (Among r rest → IsReadTyped ps r) → Among r (cons_option (reached o m) rest) → IsReadTyped ps r
+reached_typed ps None m rest r p t e h more i = absurd cc
+reached_typed ps (Some n) None rest r p t e h more i = more i
+reached_typed ps (Some n) (Some g) rest r p t e h more (inl same) =
+    let place : n ≡ p = cc in
+    (t, ap (λ (x : Reach). type_of_place ps x.param) (sym same) ∙ ap (type_of_place ps) place ∙ h)
+reached_typed ps (Some n) (Some g) rest r p t e h more (inr i) = more i
+
+reads_typed : (k : Program) (es : List Entry) (r : Reach) → AreArrays k.params es → Among r (filter_map (reach_at k) es) → IsReadTyped k.params r
+reads_typed k [] r h i = elim i [ ]
+reads_typed k (e ∷ es) r h i = by_content e.content h.0 (reads_typed k es r h.1) i
+  where
+    by_content : (c : Content) → HasArray k.params c → (Among r (filter_map (reach_at k) es) → IsReadTyped k.params r) → Among r (cons_option (reach_in k c e.item) (filter_map (reach_at k) es)) → IsReadTyped k.params r
+    by_content (IsLiteral n) a ih i = ih i
+    by_content (IsName x) a ih i = ih i
+    by_content (IsRead x j) a ih i = reached_typed k.params (place_of x k.params) (read_reach k j e.item) _ r a.place a.type a.found a.typed ih i
+    by_content (IsLet x) a ih i = ih i
+    by_content (IsStore x j) a ih i = ih i
+    by_content (IsUpdate x op) a ih i = ih i
+    by_content (IsPlain p) a ih i = ih i
+
+pub reaches_typed : (k : Program) → check_fault k ≡ None → (r : Reach) → Among r (reaches_of k) → IsReadTyped k.params r
+reaches_typed k e r i = reads_typed k (loop_entries k) r (loop_arrays k e) i

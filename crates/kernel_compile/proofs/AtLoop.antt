@@ -1,5 +1,5 @@
 -- What the registers of parameters hold as a loop begins: the arguments of its arrays and of its bound as they are.
-use Rattle.std.proofs.Common.{◌≡◌, ℕ, zero, suc, ◌+◌, ◌%◌, ◌^◌, ◌<◌, Bool, true, false, cond, List, [], ◌∷◌, ◌++◌, length, Some, None, refl, sym, ap, ◌∙◌, subst, arith}
+use Rattle.std.proofs.Common.{◌≡◌, ℕ, zero, suc, ◌+◌, ◌%◌, ◌^◌, ◌<◌, Bool, true, false, cond, List, [], ◌∷◌, ◌++◌, length, Option, Some, None, refl, sym, ap, ◌∙◌, subst, arith}
 use Rattle.std.specs.Prelude.{All, pos, bytes_eq, option_map, option_and_then, unwrap_or, slice_index, drop, filter, if◌then◌else◌}
 use Rattle.std.specs.List.{find}
 use Rattle.std.proofs.Math.Nat.{mod-eq_of_lt}
@@ -19,12 +19,14 @@ use Rattle.kernel_meaning.specs.Iterate.{named}
 use Rattle.kernel_meaning.specs.ScalarRun.{argument_names, argument, started, bound_of}
 use Rattle.kernel_meaning.proofs.Started.{started_names, started_bound}
 use Rattle.loop_form.specs.declared.stream.Stream.{Stream}
+use Rattle.loop_form.specs.declared.reach.Reach.{Reach}
+use Rattle.loop_form.specs.Reaches.{reaches_of}
 use Rattle.loop_form.specs.Lanes.{width_of}
 use Rattle.loop_form.specs.Streams.{place_from, streams_of, is_of, type_of_place}
 use Rattle.dependence.specs.declared.used.Used.{Used}
-use Rattle.dependence.specs.Apart.{used_by, used_at, used_from, used_of, bound_in, bound_place}
-use Rattle.chunk_order.specs.Items.{nth_value}
-use Rattle.chunk_order.proofs.ArrayParameters.{started_bases}
+use Rattle.dependence.specs.Apart.{is_reach_of, greatest_reach, with_reach, used_by, used_at, used_from, used_of, bound_in, bound_place}
+use Rattle.vector_order.specs.Operands.{nth_value}
+use Rattle.vector_order.proofs.ArrayParameters.{started_bases}
 use Rattle.overlap_guard.specs.Meets.{BasesHeld}
 use Rattle.scalar_emit.specs.Layout.{Homes}
 use Rattle.scalar_emit.specs.Kernel.{param_homes, var_homes, kernel_homes}
@@ -70,24 +72,26 @@ bases-append : (args : List ℕ) (us vs : List Used) (s : State) → BasesHeld a
 bases-append args [] vs s h k = k
 bases-append args (u ∷ us) vs s h k = (h.0, bases-append args us vs s h.1 k)
 
-bases_at : (args : List ℕ) (ss : List Stream) (n : ℕ) (h : Shape) (s : State) → ((t : Ty) → element_type (binding_of_shape h) ≡ Some t → x_at s n ≡ slice_index args n) → BasesHeld args (used_at ss n h) s
-bases_at args ss n (shape.Scalar t) s held = tt
-bases_at args ss n (shape.Array t) s held = by (filter (is_of n) ss)
+bases_at : (args : List ℕ) (ss : List Stream) (rs : List Reach) (n : ℕ) (h : Shape) (s : State) → ((t : Ty) → element_type (binding_of_shape h) ≡ Some t → x_at s n ≡ slice_index args n) → BasesHeld args (used_at ss rs n h) s
+bases_at args ss rs n (shape.Scalar t) s held = tt
+bases_at args ss rs n (shape.Array t) s held = by (filter (is_of n) ss) (greatest_reach (filter (is_reach_of n) rs))
   where
-    by : (fs : List Stream) → BasesHeld args (used_by n (width_of t) fs) s
-    by [] = tt
-    by (f ∷ fs) = (held t refl, tt)
+    by : (fs : List Stream) (o : Option ℕ) → BasesHeld args (with_reach n (width_of t) o (used_by n (width_of t) fs)) s
+    by [] None = tt
+    by [] (Some r) = (held t refl, tt)
+    by (f ∷ fs) None = (held t refl, tt)
+    by (f ∷ fs) (Some r) = (held t refl, tt)
 
-bases_from : (args : List ℕ) (ss : List Stream) (n : ℕ) (ps : List Parameter) (s : State) → ((j p : ℕ) (t : Ty) → p ≡ n + j → type_of_place ps j ≡ Some t → x_at s p ≡ slice_index args p) → BasesHeld args (used_from ss n ps) s
+bases_from : (args : List ℕ) (ss : List Stream) (rs : List Reach) (n : ℕ) (ps : List Parameter) (s : State) → ((j p : ℕ) (t : Ty) → p ≡ n + j → type_of_place ps j ≡ Some t → x_at s p ≡ slice_index args p) → BasesHeld args (used_from ss rs n ps) s
 unfolding used_from
-bases_from args ss n [] s held = tt
-bases_from args ss n (q ∷ ps) s held =
-    bases-append args (used_at ss n q.shape) (used_from ss (n + 1) ps) s (bases_at args ss n q.shape s (λ t e. held 0 n t (omega arith) e))
-    (bases_from args ss (n + 1) ps s (λ j p t at e. held (suc j) p t (omega (arith, at)) e))
+bases_from args ss rs n [] s held = tt
+bases_from args ss rs n (q ∷ ps) s held =
+    bases-append args (used_at ss rs n q.shape) (used_from ss rs (n + 1) ps) s (bases_at args ss rs n q.shape s (λ t e. held 0 n t (omega arith) e))
+    (bases_from args ss rs (n + 1) ps s (λ j p t at e. held (suc j) p t (omega (arith, at)) e))
 
 pub bases_held : (R : ℕ → ℕ) (k : Program) (args : List ℕ) (m : Memory) (names : Names) (s : State) → All (λ arg. arg < 2 ^ 64) args → started k args m ≡ Some names → AreHeld (kernel_homes R k) names s → BasesHeld args (used_of k) s
 bases_held R k args m names s small start h =
-    bases_from args (streams_of k) 0 k.params s (λ j p t at e. let same : p ≡ j = omega (arith, at) in array_held R k args m names s small start h p t (subst (λ q. type_of_place k.params q ≡ Some t) (sym same) e))
+    bases_from args (streams_of k) (reaches_of k) 0 k.params s (λ j p t at e. let same : p ≡ j = omega (arith, at) in array_held R k args m names s small start h p t (subst (λ q. type_of_place k.params q ≡ Some t) (sym same) e))
 
 -- ---- the bound
 

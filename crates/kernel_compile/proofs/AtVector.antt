@@ -24,7 +24,7 @@ use Rattle.scalar_emit.specs.Kernel.{param_homes, var_homes, kernel_homes, regis
 use Rattle.scalar_emit.specs.Runs.{AreHeld, AtIteration}
 use Rattle.scalar_emit.proofs.AssignedOf.{counted-high}
 use Rattle.chunk_emit.specs.Head.{Ground, IsGround}
-use Rattle.kernel_compile.proofs.ArrayStreams.{streams_typed}
+use Rattle.kernel_compile.proofs.ArrayStreams.{streams_typed, reaches_typed}
 use Rattle.kernel_compile.proofs.ApartBoth.{apart_both}
 use Rattle.kernel_compile.proofs.AtLoop.{params_held, bounded}
 
@@ -100,7 +100,7 @@ is_ground R k l a b args m names s spelled sound vector few near z p loops small
       sound = sound;
       loops = loops;
       vector = vector;
-      apart = apart_both k args l (streams_typed k sound) loops bound.first apart;
+      apart = apart_both k args l (streams_typed k sound) (reaches_typed k sound) loops bound.first apart;
       begins = start;
       z_fits = z;
       p_fits = p;

@@ -1,7 +1,5 @@
-pub mod Promises
 pub mod FileStart
 pub mod ScalarFaithful
-pub mod ScalarFiles
 pub mod ArrayStreams
 pub mod ApartBoth
 pub mod AtLoop

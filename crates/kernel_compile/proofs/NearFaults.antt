@@ -12,9 +12,9 @@ use Rattle.kernel_meaning.proofs.Residues.{word-add}
 use Rattle.loop_form.specs.declared.stream.Stream.{Stream}
 use Rattle.loop_form.specs.Streams.{streams_of, elements_of, type_of_place, In}
 use Rattle.dependence.specs.Apart.{bound_place}
-use Rattle.chunk_order.specs.Apart.{base_of}
-use Rattle.chunk_order.specs.Order.{Elsewhere}
-use Rattle.kernel_compile.specs.Faithful.{byte_address, IsNearFault}
+use Rattle.vector_order.specs.Apart.{base_of}
+use Rattle.vector_order.specs.Elsewhere.{Elsewhere}
+use Rattle.promises.specs.Faithful.{byte_address, IsNearFault}
 use Rattle.kernel_compile.proofs.ApartBoth.{base_given}
 use Rattle.kernel_tree.specs.declared.ast.Shape.TheVariants as shape
 

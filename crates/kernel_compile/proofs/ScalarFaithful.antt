@@ -20,7 +20,7 @@ use Rattle.label_fix.proofs.PlacedRuns.{runs_as_draft, words_length}
 use Rattle.scalar_emit.specs.Kernel.{begin_code, scalar_code, begin_labels}
 use Rattle.scalar_emit.specs.Runs.{HasArguments, BeginRuns, Comes, ends_so, faults_so, ScalarRuns}
 use Rattle.scalar_emit.proofs.Placed.{whole_once}
-use Rattle.kernel_compile.specs.Faithful.{Follows, FreeSlowFaithful}
+use Rattle.promises.specs.Faithful.{Follows, FreeSlowFaithful}
 use Rattle.kernel_compile.proofs.FileStart.{starts, start_memory, words_stand}
 
 -- ---- runs that end

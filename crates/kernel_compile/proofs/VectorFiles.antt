@@ -20,7 +20,7 @@ use Rattle.label_fix.proofs.LabelsOnce.{Once, resolves_in}
 use Rattle.label_fix.proofs.PlacedRuns.{runs_as_draft, cuts_are_suppressed, words_length}
 use Rattle.scalar_emit.specs.Kernel.{register_in}
 use Rattle.scalar_emit.specs.Runs.{HasArguments}
-use Rattle.kernel_compile.specs.Faithful.{Follows, IsFaithful, IsAny, FreeFaithful, FreeEnds, end_steps}
+use Rattle.promises.specs.Faithful.{Follows, IsFaithful, IsAny, FreeFaithful, FreeEnds, end_steps}
 use Rattle.kernel_compile.proofs.FileStart.{image_memory, starts, start_memory, words_stand}
 use Rattle.kernel_compile.proofs.VectorPlaced.{whole_code}
 use Rattle.kernel_compile.proofs.VectorJoin.{scalar_part, guard_part, vector_part, IsJoined, Suffices, by_chunks, by_turns, code_follows}

@@ -40,7 +40,7 @@ use Rattle.chunk_emit.specs.Head.{Ground, IsGround, most_lanes, limit}
 use Rattle.vector_emit.specs.VectorCode.{vector_code}
 use Rattle.vector_emit.specs.VectorRuns as vectors
 use Rattle.vector_emit.specs.VectorRuns.{Near, VectorRuns, turn_steps, vector_base, vector_most}
-use Rattle.kernel_compile.specs.Faithful.{Follows, IsNearFault, end_steps}
+use Rattle.promises.specs.Faithful.{Follows, IsNearFault, end_steps}
 use Rattle.kernel_compile.proofs.ScalarFaithful.{comes_after, comes_follow}
 use Rattle.kernel_compile.proofs.MapStays.{draft_map}
 use Rattle.kernel_compile.proofs.Paces.{end_paced, stop_paced, end_count, stop_count, enough}

@@ -7,16 +7,15 @@ ghost use Rattle.machine_model.specs.Written.{file_of};
 ghost use Rattle.dependence.specs.Bound.{is_vector};
 ghost use Rattle.dependence.specs.Classes.{class_of};
 ghost use Rattle.dependence.specs.declared.reason.Class.TheVariants.{Vector};
-ghost use Rattle.kernel_compile.specs.Faithful.{FreeFaithful, FreeEnds};
-ghost use Rattle.kernel_compile.specs.Refusals.{too_many, IsRefusal};
+ghost use Rattle.promises.specs.Faithful.{FreeFaithful, FreeEnds};
+ghost use Rattle.promises.specs.Refusals.{too_many, IsRefusal};
 
 use crate::emit::{emit_iterations, emit_lanes};
-use crate::fault::CompileFault;
-use crate::laws::{faithful_files, scalar_files};
 use crate::registers::{check_needs, scalar_registers, vector_registers};
-use dependence::class;
 use dependence::reason::Class;
 use kernel_tree::Checked;
+use loop_class::class;
+use promises::{CompileFault, faithful_files, scalar_files};
 use std::alloc::{AllocError, Global};
 
 /// The words of a compiled kernel, in their order from the first to be executed.

@@ -8,7 +8,7 @@ ghost use Rattle.loop_form.specs.View.{program};
 ghost use Rattle.machine_model.specs.Written.{file_of};
 ghost use Rattle.dependence.specs.Classes.{class_of};
 ghost use Rattle.dependence.specs.declared.reason.Class.TheVariants.{Vector};
-ghost use Rattle.kernel_compile.specs.Faithful.{FreeFaithful, FreeEnds, FreeSlowFaithful};
+ghost use Rattle.promises.specs.Faithful.{FreeFaithful, FreeEnds, FreeSlowFaithful};
 
 use kernel_tree::Checked;
 use label_fix::{BranchKind, Draft};

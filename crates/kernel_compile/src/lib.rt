@@ -3,10 +3,6 @@
 
 mod compile;
 mod emit;
-mod fault;
-mod laws;
 mod registers;
 
 pub use compile::{Code, compile_kernel};
-pub use fault::CompileFault;
-pub use laws::{faithful_files, runs_without_stops, scalar_files};

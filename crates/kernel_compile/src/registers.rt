@@ -5,16 +5,17 @@ ghost use Rattle.loop_form.specs.Needs.{needs_of};
 ghost use Rattle.loop_form.specs.Registers.{FitsKernel};
 ghost use Rattle.reg_assign.specs.declared.interval.RegClass.TheVariants.{X, Z, P};
 ghost use Rattle.loop_form.specs.View.{program};
-ghost use Rattle.kernel_compile.specs.Refusals as refusals;
-ghost use Rattle.kernel_compile.specs.Refusals.{exceeded, too_many, IsRefusal, IsRefusalIn};
+ghost use Rattle.promises.specs.Refusals as refusals;
+ghost use Rattle.promises.specs.Refusals.{exceeded, too_many, IsRefusal, IsRefusalIn};
 
-use crate::fault::CompileFault;
-use dependence::class;
 use dependence::reason::Class;
 use kernel_tree::Checked;
+use loop_class::class;
+use loop_form::counted_registers;
 use loop_form::laws::ordered_intervals;
 use loop_form::need::Needs;
-use loop_form::{counted_registers, intervals, needs};
+use loop_lists::{intervals, needs};
+use promises::CompileFault;
 use reg_assign::{Assigned, RegClass, VectorRegs, assign};
 use std::alloc::{AllocError, Global};
 

@@ -3,17 +3,9 @@ mod WalkExamples
 mod CornerExamples
 pub mod Examples
 pub mod Residues
-pub mod StepLists
-pub mod ListWalks
-pub mod HeldSlots
-pub mod ResolvedValues
-pub mod ResolvedStatements
 pub mod NameLists
 pub mod Started
-pub mod ResolvedRuns
 pub mod RunsFrom
-pub mod LimitedRuns
-pub mod IterationWalks
 pub mod TypeRanges
 pub mod ExtendedForm
 pub mod Extends

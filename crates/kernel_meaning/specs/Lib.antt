@@ -7,7 +7,3 @@ pub mod ScalarRun
 pub mod Ranges
 pub mod Reaches
 pub mod Answers
-pub mod Trees
-pub mod Slots
-pub mod Resolve
-pub mod Plans

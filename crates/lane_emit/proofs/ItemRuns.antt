@@ -8,7 +8,7 @@ use Rattle.kernel_tree.specs.Wrap.{wrap}
 use Rattle.kernel_meaning.specs.Operators.{unary_on, binary_on, shift_on, shift_count, compare_on}
 use Rattle.kernel_meaning.specs.Eval.{choose_value}
 use Rattle.machine_model.specs.Machine.{State}
-use Rattle.loop_form.specs.LoopItems.{Op, Load, Apply, Combine, Move, Cast, Copy, Pick, Store, Add, Test, Invert, Same, Any, Quit}
+use Rattle.loop_form.specs.LoopItems.{Op, Load, Gather, Apply, Combine, Move, Cast, Copy, Pick, Store, Add, Test, Invert, Same, Any, Quit}
 use Rattle.lane_emit.specs.Right.{IsOf}
 use Rattle.lane_emit.specs.Stretch.{Word, Ready, MakesP}
 use Rattle.lane_emit.specs.ItemCode.{Registers, Chunk, lane_at, operand, truth_of, mask_of, new_value, AllTyped, MaskRight, OperandsRight, Makes, makes_truth, made_type, ItemRuns, LanesRight}
@@ -106,6 +106,7 @@ module _ (c : Chunk) (r : Registers) (s : State) (q m : ℕ) (mask : Option ℕ)
       truth_made (Any a b) refl refl
       (renamed_p (λ e. ap (λ b. nat_lt e c.n && b) (sym (chosen_truth q (on e && (truth_of c a e || truth_of c b e)) ((lane_at c e).truth q)))) (any_p c.w ready.is (r.p q) m lp on masked (r.p a) (r.p b) (truth_of c a) (truth_of c b) h.0 h.1))
   lanes_right (Load a base t k) h = absurd h
+  lanes_right (Gather a base t k u x) h = absurd h
   lanes_right (Store a base t k v) h = absurd h
   lanes_right (Add x op t v) h = absurd h
   lanes_right (Quit b) h = absurd h

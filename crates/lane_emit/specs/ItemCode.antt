@@ -7,10 +7,10 @@ use Rattle.kernel_tree.specs.Wrap.{bits_of}
 use Rattle.kernel_meaning.specs.Operators.{shift_count}
 use Rattle.kernel_meaning.specs.Eval.{Names}
 use Rattle.machine_model.specs.Machine.{State, z_at, p_at}
-use Rattle.chunk_order.specs.Orders.{Lane, Lanes, Effect, Halts, Keeps, Writes}
+use Rattle.vector_order.specs.Orders.{Lane, Lanes, Effect, Halts, Keeps, Writes}
 use Rattle.loop_form.specs.declared.loop_item.Source.{Source}
-use Rattle.loop_form.specs.LoopItems.{Op, Load, Apply, Combine, Move, Cast, Copy, Pick, Test, Invert, Same, Any}
-use Rattle.chunk_order.specs.Items.{source_value, on_mask}
+use Rattle.loop_form.specs.LoopItems.{Op, Load, Gather, Apply, Combine, Move, Cast, Copy, Pick, Test, Invert, Same, Any}
+use Rattle.vector_order.specs.Operands.{source_value, on_mask}
 use Rattle.vector_order.specs.Items.{op_effect}
 use Rattle.lane_emit.specs.Right.{IsOf, ZRight, PRight, within}
 use Rattle.lane_emit.specs.Stretch.{Word, Ready, MakesZ, MakesP}
@@ -145,6 +145,7 @@ Makes true c r s q m mask op = MakesP (op_code c.w r q m op) s (r.p q) c.w (with
 -- the type of what an operation makes, where it makes a value
 abbrev pub made_type : Op → Option Ty
 made_type (Load a base t k) = t
+made_type (Gather a base t r u x) = t
 made_type (Apply op t x) = t
 made_type (Combine op t x y) = t
 made_type (Move left k t x) = t

@@ -1,6 +1,6 @@
 //! The code of each operation in the lanes.
 
-ghost use Rattle.std.specs.Prelude.{◌≡◌, ◌<◌, [], ◌∷◌, ◌++◌, OnOk};
+ghost use Rattle.std.specs.Prelude.{◌≡◌, ◌<◌, [], ◌∷◌, ◌++◌, false, OnOk};
 ghost use Rattle.guest_types.specs.Length.{width_bits};
 ghost use Rattle.kernel_tree.specs.declared.ops.UnaryOp.TheVariants as operator;
 ghost use Rattle.kernel_tree.specs.Wrap as wraps;
@@ -280,6 +280,28 @@ fn lane_count(width: Width, count: u32) -> u32
     count.min(most)
 }
 
+// A shift to the right, by less bits than a lane has.
+fn shifted_right(
+    words: &mut Vec<Sve>,
+    width: Width,
+    count: u32,
+    ty: Ty,
+    d: VectorReg,
+    a: VectorReg,
+) -> Result<(), AllocError>
+    requires { count < width_bits width }
+    ensures { OnOk result (Adds (code.shift_by width false count ty d.number a.number)
+        words.old.items words.new.items) }
+{
+    if count == 0 {
+        z_copy(words, d, a)?;
+        Ok(())
+    } else {
+        words.push(shift_right(is_signed(ty), width, d, a, count))?;
+        Ok(())
+    }
+}
+
 /// A shift by a constant.
 pub fn shift(
     words: &mut Vec<Sve>,
@@ -297,11 +319,8 @@ pub fn shift(
     if left {
         settled(words, shift_left(width, d, a, by), true, width, ty, d)?;
         Ok(())
-    } else if by == 0 {
-        z_copy(words, d, a)?;
-        Ok(())
     } else {
-        words.push(shift_right(is_signed(ty), width, d, a, by))?;
+        shifted_right(words, width, by, ty, d, a)?;
         Ok(())
     }
 }

@@ -16,7 +16,8 @@ ghost use Rattle.lane_emit.specs.LoopRegisters.{IsWithin, flat, register_of, pla
 use crate::held_place::place_among;
 use kernel_tree::Checked;
 use loop_form::laws::{few_items, placed_values};
-use loop_form::{Held, Source, throughout, value_places, vars_size_of};
+use loop_form::{Held, Source, vars_size_of};
+use loop_lists::{throughout, value_places};
 use reg_assign::{Assigned, RegClass, VectorRegs};
 use std::alloc::{AllocError, Global};
 use sve_code::{GoverningReg, VectorReg};

@@ -1,16 +1,15 @@
 //! A worked kernel through this crate and the forms of loops below it, which have no reader of kernels.
 
 use check_text::check_text;
-use dependence::class;
 use dependence::reason::{Class, Why};
 use guest_types::length::Width;
 use kernel_front::accept;
 use kernel_tree::{BinaryOp, Ty};
+use loop_class::class;
 use loop_form::need::Needs;
-use loop_form::{
-    Item, ItemKind, LoopOp, Source, Stream, intervals, lane_width, listing, loop_items, needs,
-    streams,
-};
+use loop_form::{Item, ItemKind, LoopOp, Source, Stream};
+use loop_items::loop_items;
+use loop_lists::{index_reach, intervals, lane_width, listing, needs, streams};
 use reg_assign::{Interval, RegClass};
 use std::test::Fail;
 
@@ -18,6 +17,9 @@ const AXPY: &str =
     "kernel axpy(y: [i32], x: [i32], k: i32, n: u64) { for i in 0..n { y[i] = y[i] + k * x[i]; } }";
 
 const SPREAD: &str = "kernel spread(a: [u8], n: u64) { for i in 0..n { a[i + 1] = a[i]; } }";
+
+const LOOKED_UP: &str =
+    "kernel f(t: [u8], x: [u16], a: [u64], n: u64) { for i in 0..n { a[i] = (t[x[i]] + t[a[i]] + t[i]) as u64; } }";
 
 fn item(kind: ItemKind, ty: Option<Ty>, last_use: Option<u32>) -> Item {
     Item {
@@ -63,6 +65,17 @@ fn accesses_in_their_order(rt: HostRuntime) -> Result<(), Fail> {
     assert_eq!(rt; streams[0], stream(0, false, 5));
     assert_eq!(rt; streams[1], stream(1, false, 7));
     assert_eq!(rt; streams[2], stream(0, true, 10));
+    Ok(())
+}
+
+// t[x[i]] is item 6, with x[i] before it, t[a[i]] item 8, and t[i] item 10.
+#[test]
+fn reaches_of_indexes(rt: HostRuntime) -> Result<(), Fail> {
+    let kernel = accept(rt.alloc(), LOOKED_UP.as_bytes())?;
+    assert_eq!(rt; index_reach(&kernel, 5), None);
+    assert_eq!(rt; index_reach(&kernel, 6), Some(65_536));
+    assert_eq!(rt; index_reach(&kernel, 8), None);
+    assert_eq!(rt; index_reach(&kernel, 10), None);
     Ok(())
 }
 

@@ -4,9 +4,9 @@
 #[cfg(test)]
 mod check_text_calls;
 #[cfg(test)]
-mod kernel_front_calls;
+mod kernel_eval_calls;
 #[cfg(test)]
-mod kernel_meaning_calls;
+mod kernel_front_calls;
 #[cfg(test)]
 mod kernel_scope_calls;
 #[cfg(test)]

@@ -29,7 +29,7 @@ use Rattle.loop_form.specs.Needs.{Throughout, scalar_of, throughout}
 use Rattle.loop_form.specs.Streams.{place_of}
 use Rattle.loop_form.proofs.IntervalRegisters.{Chosen, chosen_of}
 use Rattle.loop_form.proofs.PlaceLaws.{throughout-place}
-use Rattle.chunk_order.specs.Items.{nth_value}
+use Rattle.vector_order.specs.Operands.{nth_value}
 use Rattle.vector_order.specs.Order.{Steady}
 use Rattle.lane_emit.specs.Right.{IsOf, ZRight, PRight}
 use Rattle.lane_emit.proofs.Ranges.{is_of, wrap-is_of}

@@ -19,7 +19,7 @@ use Rattle.label_fix.proofs.StretchSteps.{Goes, stay, chain, go_more}
 use Rattle.loop_form.specs.Needs as needs
 use Rattle.loop_form.specs.Needs.{Throughout}
 use Rattle.loop_form.specs.Streams.{place_of}
-use Rattle.chunk_order.specs.Items.{nth_value}
+use Rattle.vector_order.specs.Operands.{nth_value}
 use Rattle.scalar_emit.specs.Words.{const_code}
 use Rattle.scalar_emit.specs.Runs.{Frame}
 use Rattle.scalar_emit.proofs.Constants.{const_fills}

@@ -11,8 +11,7 @@ ghost use Rattle.loop_form.specs.View.{content_of, entries_view};
 ghost use Rattle.chunk_emit.specs.KernelLayout.{operator_in, operator_of};
 
 use kernel_tree::{Ty, UpdateOp, Var};
-use loop_form::held_throughout::is_update_of;
-use loop_form::{Content, Entry};
+use loop_form::{Content, Entry, is_update_of};
 use reg_assign::Assigned;
 use sve_code::VectorReg;
 use word_rows::Bits;

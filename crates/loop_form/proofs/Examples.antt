@@ -8,12 +8,13 @@ use Rattle.loop_form.specs.Listing.{last_use_from, listing_of}
 use Rattle.loop_form.specs.declared.loop_item.Source.TheVariants.{Constant, Outer, Made}
 use Rattle.loop_form.specs.LoopItems.{item, Load, Combine, Cast, Copy, Store, Add, Test, Invert, Any, loop_items_of}
 use Rattle.loop_form.specs.Streams.{streams_of}
+use Rattle.loop_form.specs.Reaches.{index_reach, reaches_of}
 use Rattle.reg_assign.specs.declared.interval.Interval.{Interval}
 use Rattle.reg_assign.specs.declared.interval.RegClass.TheVariants.{Z, P, X}
 use Rattle.loop_form.specs.Needs.{constants, most_live, needs_of, throughout, intervals}
 use Rattle.loop_form.specs.Places.{value_places}
 use Rattle.loop_form.specs.Lanes.{widest, lane_width_of}
-use Rattle.loop_form.proofs.Kernels.{a, i, n, p, s, y, axpy, spread, running, bright, ways, choice, lasts, pairs, values}
+use Rattle.loop_form.proofs.Kernels.{a, i, n, p, s, y, axpy, spread, running, bright, ways, choice, lasts, pairs, values, look, far, pick, casts}
 use Rattle.kernel_tree.specs.declared.ops.Ty.TheVariants as ty
 use Rattle.kernel_tree.specs.declared.ops.BinaryOp.TheVariants as binary
 use Rattle.kernel_tree.specs.declared.ops.CompareOp.TheVariants as compare
@@ -216,3 +217,23 @@ many = record {
 many-needs : needs_of many ≡ record { size = 164; z = 40; p = 0; x = 40 }
 unfolding item_type last_use_from constants most_live
 many-needs = refl
+
+-- ---- how far computed indexes reach
+
+-- by items from 0 on: only the read of t has a reach
+look-reaches : map (index_reach look) (4 ∷ 5 ∷ 6 ∷ 7 ∷ 8 ∷ 9 ∷ []) ≡ None ∷ None ∷ Some 256 ∷ None ∷ None ∷ None ∷ []
+unfolding item_type
+look-reaches = refl
+
+far-reaches : reaches_of far ≡ []
+unfolding item_type
+far-reaches = refl
+
+pick-reaches : reaches_of pick ≡ []
+unfolding item_type
+pick-reaches = refl
+
+-- what was cut to a byte comes from it, and a word reaches no end; a stream index is no computed one
+casts-reaches : reaches_of casts ≡ record { param = 0; reach = 65536 } ∷ record { param = 0; reach = 256 } ∷ []
+unfolding item_type
+casts-reaches = refl

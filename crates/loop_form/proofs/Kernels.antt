@@ -141,3 +141,55 @@ values = record {
   turns = None;
   answer = Some (record { type = ty.I64; value = (Operation binary.Add (Variable t) (Conversion (Variable s) ty.I64)) });
 }
+
+-- kernel look(t: [u8], x: [u8], y: [u64], n: u64) { for i in 0..n { y[i] = t[x[i]] as u64; } }
+abbrev pub look : Program
+look = record {
+  name = f;
+  params = record { name = t; shape = shape.Array ty.U8 } ∷ record { name = x; shape = shape.Array ty.U8 } ∷ record { name = y; shape = shape.Array ty.U64 } ∷ record { name = n; shape = shape.Scalar ty.U64 } ∷ [];
+  vars = [];
+  turns = Some (record { index = i; bound = n; body = (Then (Put y (Variable i) (Conversion (Element t (Element x (Variable i))) ty.U64)) Done) });
+  answer = None;
+}
+
+-- kernel far(t: [u8], x: [u64], y: [u64], n: u64) { for i in 0..n { y[i] = t[x[i]] as u64; } }
+abbrev pub far : Program
+far = record {
+  name = f;
+  params = record { name = t; shape = shape.Array ty.U8 } ∷ record { name = x; shape = shape.Array ty.U64 } ∷ record { name = y; shape = shape.Array ty.U64 } ∷ record { name = n; shape = shape.Scalar ty.U64 } ∷ [];
+  vars = [];
+  turns = Some (record { index = i; bound = n; body = (Then (Put y (Variable i) (Conversion (Element t (Element x (Variable i))) ty.U64)) Done) });
+  answer = None;
+}
+
+-- kernel pick(t: [i32], x: [u64], n: u64) -> i64 { var s: i64 = 0; for i in 0..n { s += t[x[i]] as i64; } return s; }
+abbrev pub pick : Program
+pick = record {
+  name = f;
+  params = record { name = t; shape = shape.Array ty.I32 } ∷ record { name = x; shape = shape.Array ty.U64 } ∷ record { name = n; shape = shape.Scalar ty.U64 } ∷ [];
+  vars = record { name = s; type = ty.I64; init = (Literal (pos 0)) } ∷ [];
+  turns = Some (record { index = i; bound = n; body = (Then (Update s update.Add (Conversion (Element t (Element x (Variable i))) ty.I64)) Done) });
+  answer = Some (record { type = ty.I64; value = (Variable s) });
+}
+
+-- kernel casts(t: [u64], x: [u16], a: [u32], y: [u64], n: u64) {
+--     for i in 0..n { y[i] = t[x[i] as u32 as u64] + t[a[i] as u8 as u64] + t[a[i] as u64] + t[i + 1]; }
+-- }
+abbrev pub casts : Program
+casts = record {
+  name = f;
+  params = record { name = t; shape = shape.Array ty.U64 } ∷ record { name = x; shape = shape.Array ty.U16 } ∷ record { name = a; shape = shape.Array ty.U32 } ∷ record { name = y; shape = shape.Array ty.U64 } ∷ record { name = n; shape = shape.Scalar ty.U64 } ∷ [];
+  vars = [];
+  turns = Some (record { index = i; bound = n; body = (Then (Put y (Variable i) (Operation binary.Add (Operation binary.Add (Operation binary.Add (Element t (Conversion (Conversion (Element x (Variable i)) ty.U32) ty.U64)) (Element t (Conversion (Conversion (Element a (Variable i)) ty.U8) ty.U64))) (Element t (Conversion (Element a (Variable i)) ty.U64))) (Element t (Operation binary.Add (Variable i) (Literal (pos 1)))))) Done) });
+  answer = None;
+}
+
+-- kernel near(t: [u64], x: [u8], y: [u64], n: u64) { for i in 0..n { y[i] = t[x[i] as u64] + t[i + 1]; } }
+abbrev pub near : Program
+near = record {
+  name = f;
+  params = record { name = t; shape = shape.Array ty.U64 } ∷ record { name = x; shape = shape.Array ty.U8 } ∷ record { name = y; shape = shape.Array ty.U64 } ∷ record { name = n; shape = shape.Scalar ty.U64 } ∷ [];
+  vars = [];
+  turns = Some (record { index = i; bound = n; body = (Then (Put y (Variable i) (Operation binary.Add (Element t (Conversion (Element x (Variable i)) ty.U64)) (Element t (Operation binary.Add (Variable i) (Literal (pos 1)))))) Done) });
+  answer = None;
+}

@@ -9,6 +9,7 @@ pub mod PlaceLaws
 pub mod ItemTypes
 pub mod ItemWidths
 pub mod StreamLaws
+pub mod ReachLaws
 pub mod ArrayNames
 pub mod Kernels
 mod Examples

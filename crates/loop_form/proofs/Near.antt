@@ -13,7 +13,7 @@ use Rattle.kernel_tree.proofs.Faultless.{nil-left, nil-right, loop_faultless}
 use Rattle.kernel_tree.proofs.NoFault.{is_empty}
 use Rattle.kernel_tree.proofs.Scopes.{index_after, scope_index}
 use Rattle.loop_form.specs.Entries.{Entry, inner_entries, term_entries, action_entries, block_entries, otherwise_entries, turns_entries, loop_entries}
-use Rattle.loop_form.specs.Near.{IsNear, AreNear, NearTerm, NearAction, NearBlock, NearOtherwise, NearTurns}
+use Rattle.loop_form.specs.Near.{IsNear, AreNear, NearInner, NearTerm, NearAction, NearBlock, NearOtherwise, NearTurns}
 
 near-append : (i : Option (List ℕ)) (xs ys : List Entry) → AreNear i xs → AreNear i ys → AreNear i (xs ++ ys)
 near-append i [] ys p q = q
@@ -104,10 +104,16 @@ near-marked i xs e ys zs ws h = (near-left i xs (e ∷ (ys ++ (zs ++ ws))) h, ne
 near-mark : (i : Option (List ℕ)) (xs : List Entry) (e : Entry) (ys zs : List Entry) → AreNear i (xs ++ e ∷ (ys ++ zs)) → AreNear i xs × AreNear i ys
 near-mark i xs e ys zs h = (near-left i xs (e ∷ (ys ++ zs)) h, near-left i ys zs (near-right i xs (e ∷ (ys ++ zs)) h).1)
 
+near-inner : {N : Type 0} (i : Option (List ℕ)) (o : Option ℤ) (es : List Entry) → (AreNear i es → N) → AreNear i (inner_entries o es) → NearInner o N
+near-inner i None es f h = f h
+near-inner i (Some c) es f h = tt
+
 term-tree : (k : Program) (t : Term) (f u : ℕ) → AreNear (loop_index k) (term_entries k f u t) → NearTerm (loop_index k) t
 term-tree k (Literal n) f u h = tt
 term-tree k (Variable x) f u h = tt
-term-tree k (Element a e) f u h = (near-right (loop_index k) (inner_entries (stream_offset (loop_index k) e) (term_entries k f (f + index_items (loop_index k) e) e)) _ h).0
+term-tree k (Element a e) f u h =
+    let inner : List Entry = inner_entries (stream_offset (loop_index k) e) (term_entries k f (f + index_items (loop_index k) e) e) in
+    ((near-right (loop_index k) inner _ h).0, near-inner (loop_index k) (stream_offset (loop_index k) e) (term_entries k f (f + index_items (loop_index k) e) e) (λ near. term-tree k e f (f + index_items (loop_index k) e) near) (near-left (loop_index k) inner _ h))
 term-tree k (Unary op e) f u h = term-tree k e f _ (near-left (loop_index k) _ _ h)
 term-tree k (Operation op a b) f u h = let p = near-two (loop_index k) _ _ _ h in (term-tree k a f _ p.0, term-tree k b _ _ p.1)
 term-tree k (Shift l e n) f u h = term-tree k e f _ (near-left (loop_index k) _ _ h)

@@ -2,6 +2,7 @@ pub mod Entries
 pub mod View
 pub mod Listing
 pub mod Streams
+pub mod Reaches
 pub mod Needs
 pub mod Lanes
 pub mod Near

@@ -1,5 +1,5 @@
 -- What the items of a loop do, with their operands and masks. The items have the numbers of the listing. A literal, a name,
--- `then` and `end` do nothing, so they are no items here; nor are a read at a computed index and what makes that index.
+-- `then` and `end` do nothing, so they are no items here.
 use Rattle.std.specs.Prelude.{ℕ, suc, ◌+◌, ℤ, pos, List, [], ◌∷◌, ◌++◌, Option, Some, None, option_and_then, Bool, bytes_eq, if◌then◌else◌}
 use Rattle.kernel_tree.specs.declared.ops.Ty.{Ty}
 use Rattle.kernel_tree.specs.declared.ops.UnaryOp.{UnaryOp}
@@ -8,13 +8,16 @@ use Rattle.kernel_tree.specs.declared.ops.CompareOp.{CompareOp}
 use Rattle.kernel_tree.specs.declared.ops.UpdateOp.{UpdateOp}
 use Rattle.kernel_tree.specs.Plain.{Term, Literal, Variable, Element, Unary, Operation, Shift, Conversion, Choice, Comparison, Both, Either, Not, Action, Define, Put, Update, Choose, Leave, Block, Done, Then, Otherwise, Nothing, Else, PlainLoop, Program}
 use Rattle.kernel_tree.specs.Items.{stream_offset, term_size, index_items, action_size, block_size, loop_start}
-use Rattle.kernel_tree.specs.Typing.{Scope, Local, lookup, own, first, element_type, accumulator_type, side_type, after_action, after_block, left, in_loop, var_scope}
+use Rattle.kernel_tree.specs.Typing.{Scope, Local, lookup, own, index_type, first, element_type, accumulator_type, side_type, after_action, after_block, left, in_loop, var_scope}
 use Rattle.loop_form.specs.declared.loop_item.Source.{Source}
+use Rattle.loop_form.specs.Reaches.{is_widened, reach_of_type}
 use Rattle.loop_form.specs.declared.loop_item.Source.TheVariants.{Constant, Outer, LoopIndex, Made}
 
 -- what an item does, with the types of its operands; an array has a name and the place where its address is held
 pub data Op : Type 0 where
   Load : (a : List ℕ) (base : Source) (t : Option Ty) (c : ℤ) → Op
+  -- a read at the index that an operand of type u is, with the reach of the index where it has one
+  Gather : (a : List ℕ) (base : Source) (t : Option Ty) (reach : Option ℕ) (u : Option Ty) (x : Source) → Op
   Apply : UnaryOp → Option Ty → Source → Op
   Combine : BinaryOp → Option Ty → (x y : Source) → Op
   Move : (left : Bool) (n : ℤ) → Option Ty → Source → Op
@@ -98,18 +101,30 @@ truth_home index from (Either a b) = from + term_size index a + 1 + term_size in
 truth_home index from (Not e) = from + term_size index e
 truth_home index from _ = from
 
+-- the type that the value of a computed index comes from: through casts that leave each value as it is
+abbrev pub index_source : Scope → Term → Option Ty
+index_source scope (Conversion e t) = if is_widened (own scope e) t then index_source scope e else Some t
+index_source scope e = index_type scope e
+
 -- ---- items
 
-abbrev pub load_item : Scope → Option ℕ → ℕ → List Bound → List ℕ → Option ℤ → List Item → List Item
-load_item scope mask q env a None rest = rest
-load_item scope mask q env a (Some c) rest = item q mask (Load a (source_at env a) (array_type scope a) c) ∷ rest
+-- a read at a computed index
+abbrev pub gather_item : Scope → Option ℕ → (from q : ℕ) → List Bound → List ℕ → Term → Item
+gather_item scope mask from q env a i = item q mask (Gather a (source_at env a) (array_type scope a) (reach_of_type (index_source scope i)) (index_type scope i) (home scope.index (index_type scope i) from env i))
+
+-- a read: where the index is a stream index its item alone, and else the items of the index and of the read
+abbrev pub load_item : Scope → Option ℕ → ℕ → List Bound → List ℕ → Option ℤ → (gathered rest : List Item) → List Item
+load_item scope mask q env a None gathered rest = gathered
+load_item scope mask q env a (Some c) gathered rest = item q mask (Load a (source_at env a) (array_type scope a) c) ∷ rest
 
 -- the items of a value, or of a condition, under a mask, and those after
 abbrev mutual
   pub term_items : Scope → Option Ty → Option ℕ → ℕ → List Bound → Term → List Item → List Item
   term_items scope want mask from env (Literal n) rest = rest
   term_items scope want mask from env (Variable x) rest = rest
-  term_items scope want mask from env (Element a i) rest = load_item scope mask (from + index_items scope.index i) env a (stream_offset scope.index i) rest
+  term_items scope want mask from env (Element a i) rest =
+      let q = from + index_items scope.index i in
+      load_item scope mask q env a (stream_offset scope.index i) (term_items scope (index_type scope i) mask from env i (gather_item scope mask from q env a i ∷ rest)) rest
   term_items scope want mask from env (Unary op e) rest = term_items scope want mask from env e (item (from + term_size scope.index e) mask (Apply op want (home scope.index want from env e)) ∷ rest)
   term_items scope want mask from env (Operation op a b) rest =
       let next = from + term_size scope.index a in

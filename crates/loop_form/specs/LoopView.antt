@@ -8,10 +8,11 @@ use Rattle.loop_form.specs.declared.loop_item.LoopOp.{LoopOp}
 use Rattle.loop_form.specs.declared.loop_item.LoopOp.TheVariants as op
 use Rattle.loop_form.specs.declared.loop_item.LoopItem.{LoopItem}
 use Rattle.loop_form.specs.declared.visible.Visible.{Visible}
-use Rattle.loop_form.specs.LoopItems.{Op, Load, Apply, Combine, Move, Cast, Copy, Pick, Store, Add, Test, Invert, Same, Any, Quit, Item, Bound, bound, outer_env, loop_env, term_items, cond_items, action_items, block_items, after_env}
+use Rattle.loop_form.specs.LoopItems.{Op, Load, Gather, Apply, Combine, Move, Cast, Copy, Pick, Store, Add, Test, Invert, Same, Any, Quit, Item, Bound, bound, outer_env, loop_env, term_items, cond_items, action_items, block_items, after_env}
 
 abbrev pub op_of : LoopOp → Op
 op_of (op.Load a base t c) = Load a.now base t c
+op_of (op.Gather a base t r u x) = Gather a.now base t r u x
 op_of (op.Apply o t x) = Apply o t x
 op_of (op.Combine o t x y) = Combine o t x y
 op_of (op.Move left n t x) = Move left n t x

@@ -22,11 +22,16 @@ AreNear i (e ∷ es) = HasNear i e.content × AreNear i es
 
 -- ---- the same, of the tree
 
--- all stream indexes of an expression; what makes a computed index is left out
+-- only where an index is computed
+abbrev pub NearInner : Option ℤ → Type 0 → Type 0
+NearInner None near = near
+NearInner (Some c) near = Unit {0}
+
+-- all stream indexes of an expression, also those of what makes a computed index
 abbrev pub NearTerm : Option (List ℕ) → Term → Type 0
 NearTerm i (Literal n) = Unit {0}
 NearTerm i (Variable x) = Unit {0}
-NearTerm i (Element a e) = IsNear (stream_offset i e)
+NearTerm i (Element a e) = IsNear (stream_offset i e) × NearInner (stream_offset i e) (NearTerm i e)
 NearTerm i (Unary op e) = NearTerm i e
 NearTerm i (Operation op a b) = NearTerm i a × NearTerm i b
 NearTerm i (Shift left e n) = NearTerm i e

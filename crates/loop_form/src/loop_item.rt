@@ -26,6 +26,15 @@ pub enum LoopOp<'a> {
         ty: Option<Ty>,
         offset: i32,
     },
+    /// Reads the element at an index, which is below the reach where it has one.
+    Gather {
+        array: &'a str,
+        base: Source,
+        ty: Option<Ty>,
+        reach: Option<u32>,
+        index_ty: Option<Ty>,
+        index: Source,
+    },
     Apply {
         op: UnaryOp,
         ty: Option<Ty>,

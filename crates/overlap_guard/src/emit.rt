@@ -1,8 +1,9 @@
 //! Emits the guard.
 
-ghost use Rattle.std.specs.Prelude.{◌≡◌, ◌<◌, ◌≤◌, ◌+◌, pos, ◌*ℤ◌, unsigned_abs, List, ◌∷◌, ◌++◌, ◌||◌, OnOk};
+ghost use Rattle.std.specs.Prelude.{◌≡◌, ◌<◌, ◌≤◌, ◌+◌, ◌*◌, pos, ◌*ℤ◌, unsigned_abs, List, ◌∷◌, ◌++◌, ◌||◌, OnOk};
 ghost use Rattle.std.specs.List.{list_any};
 ghost use Rattle.label_fix.specs.DraftRun as plain;
+ghost use Rattle.dependence.specs.declared.used.Extent.{Extent};
 ghost use Rattle.dependence.specs.Apart.{is_stored, used_of};
 ghost use Rattle.loop_form.specs.View.{program};
 ghost use Rattle.overlap_guard.specs.Guard as guard;
@@ -12,11 +13,11 @@ ghost use Rattle.a64_code.specs.View.{add_sub_imm_name};
 ghost use Rattle.guest_types.specs.Length.{width_bytes};
 ghost use Rattle.kernel_tree.specs.Limits.{most_offset};
 
-use crate::instructions::{compare, element_at, part, step, tested, with_top};
+use crate::instructions::{bytes_at, compare, element_at, greater, part, step, tested, with_top};
 use crate::laws::{fit_arrays, near_bound};
 use crate::used::{arrays, bound};
 use a64_code::{AddSubOp, Cond, Reg, zero};
-use dependence::Used;
+use dependence::{Extent, Used};
 use guest_types::length::Width;
 use kernel_tree::Checked;
 use label_fix::{BranchKind, Draft, Label};
@@ -82,12 +83,83 @@ fn bytes_of(width: Width, count: i32) -> i32
     }
 }
 
+// The bytes of some elements from the first on.
+fn reach_bytes(width: Width, reach: u32) -> u32
+    requires { reach ≤ 65536 }
+    ensures { result ≡ width_bytes width * reach }
+{
+    match width {
+        Width::B => reach,
+        Width::H => 2 * reach,
+        Width::S => 4 * reach,
+        Width::D => 8 * reach,
+    }
+}
+
+// The greater of two ends.
+fn emit_both(
+    draft: &mut Draft,
+    bound: Reg,
+    place: u32,
+    width: Width,
+    greatest: i32,
+    reach: u32,
+) -> Result<(), AllocError>
+    requires register { place < 32 }
+    requires near { unsigned_abs greatest ≤ most_offset }
+    requires far { reach ≤ 65536 }
+    ensures labels { OnOk result (draft.new.labels ≡ draft.old.labels) }
+    ensures code { OnOk result ((rest : List plain.Entry)
+        → draft.new.entries ++ rest ≡ draft.old.entries
+        ++ guard.extent_code bound.number place width (Extent.Both greatest reach) rest) }
+{
+    draft.put(element_at(bound, register(place), width))?;
+    emit_shift(draft, bytes_of(width, greatest))?;
+    draft.put(bytes_at(part(), register(place), reach_bytes(width, reach)))?;
+    draft.put(compare(tested(), part()))?;
+    draft.put(greater())?;
+    Ok(())
+}
+
+// The end of a parameter's elements, but for what is left over.
+fn emit_end(draft: &mut Draft, bound: Reg, u: Used) -> Result<(), AllocError>
+    requires { IsFit u }
+    ensures labels { OnOk result (draft.new.labels ≡ draft.old.labels) }
+    ensures code { OnOk result ((rest : List plain.Entry)
+        → draft.new.entries ++ rest ≡ draft.old.entries
+        ++ guard.extent_code bound.number u.place u.width u.extent rest) }
+{
+    match u.extent {
+        Extent::Streams { .. } => draft.put(element_at(bound, register(u.place), u.width)),
+        Extent::Computed { reach } => draft.put(bytes_at(
+            tested(),
+            register(u.place),
+            reach_bytes(u.width, reach),
+        )),
+        Extent::Both { greatest, reach } => {
+            emit_both(draft, bound, u.place, u.width, greatest, reach)
+        }
+    }
+}
+
+// What is left over.
+fn left_over(u: Used) -> i32
+    requires { IsFit u }
+    ensures small { unsigned_abs result ≤ 8192 }
+    ensures value { result ≡ guard.left_over u.width u.extent }
+{
+    match u.extent {
+        Extent::Streams { greatest } => bytes_of(u.width, greatest),
+        Extent::Computed { .. } | Extent::Both { .. } => 0,
+    }
+}
+
 fn gap(u: Used, v: Used) -> i32
     requires first { IsFit u }
     requires second { IsFit v }
     ensures { result ≡ guard.gap u v }
 {
-    bytes_of(u.width, u.greatest) - bytes_of(v.width, v.least)
+    left_over(u) - bytes_of(v.width, v.least)
 }
 
 // The test of an end with a beginning.
@@ -98,7 +170,7 @@ fn emit_below(draft: &mut Draft, bound: Reg, u: Used, v: Used) -> Result<(), All
     ensures code { OnOk result ((rest : List plain.Entry)
         → draft.new.entries ++ rest ≡ draft.old.entries ++ guard.below_code bound.number u v rest) }
 {
-    draft.put(element_at(bound, register(u.place), u.width))?;
+    emit_end(draft, bound, u)?;
     emit_shift(draft, gap(u, v))?;
     draft.put(compare(register(v.place), tested()))?;
     Ok(())
@@ -106,9 +178,12 @@ fn emit_below(draft: &mut Draft, bound: Reg, u: Used, v: Used) -> Result<(), All
 
 // Whether a parameter has one element for each iteration.
 fn is_point(u: Used) -> bool
-    ensures { result ≡ guard.is_point u }
+    ensures { result ≡ guard.is_point u.least u.extent }
 {
-    u.greatest <= u.least
+    match u.extent {
+        Extent::Streams { greatest } => greatest <= u.least,
+        Extent::Computed { .. } | Extent::Both { .. } => false,
+    }
 }
 
 fn is_mixed(u: Used, v: Used) -> bool

@@ -5,11 +5,11 @@ use Rattle.std.proofs.lemmas.Bool.{and_parts}
 use Rattle.std.proofs.lemmas.List.{get_or-append_right, length-replicate}
 use Rattle.kernel_tree.specs.declared.ops.Ty.{Ty}
 use Rattle.kernel_tree.specs.Plain.{Term, Literal, Variable, Element, Unary, Operation, Shift, Conversion, Choice, Comparison, Both, Either, Not, Action, Define, Put, Update, Choose, Leave, Block, Done, Then, Otherwise, Nothing, Else, PlainLoop, Program}
-use Rattle.kernel_tree.specs.Items.{index_of, stream_offset, term_size, index_size, action_size, block_size, otherwise_size, loop_start}
-use Rattle.kernel_tree.specs.Typing.{Scope, own, first, side_type, after_action, after_block, left, in_loop, var_scope}
+use Rattle.kernel_tree.specs.Items.{index_of, stream_offset, term_size, index_size, index_items, action_size, block_size, otherwise_size, loop_start}
+use Rattle.kernel_tree.specs.Typing.{Scope, own, index_type, first, side_type, after_action, after_block, left, in_loop, var_scope}
 use Rattle.kernel_tree.proofs.Scopes.{index_after, scope_index}
 use Rattle.kernel_tree.specs.Kinds.{IsValue, IsTruth, ActionKinds, BlockKinds, OtherwiseKinds}
-use Rattle.loop_form.specs.LoopItems.{Item, Bound, array_type, accumulator_of, truth_home, load_item, store_item, term_items, cond_items, after_env, action_items, block_items, otherwise_items, loop_env, loop_items}
+use Rattle.loop_form.specs.LoopItems.{Item, Bound, array_type, accumulator_of, truth_home, gather_item, load_item, store_item, term_items, cond_items, after_env, action_items, block_items, otherwise_items, loop_env, loop_items}
 use Rattle.predicate_plan.specs.declared.part.MaskPart.{MaskPart}
 use Rattle.predicate_plan.specs.Masks.{meets, and_part, inner_masks, term_masks, action_masks, block_masks, otherwise_masks, mask_at, loop_masks, masks_of}
 use Rattle.predicate_plan.specs.Owners.{is_on, AreSettled, AreOwned}
@@ -63,10 +63,13 @@ module _ (masks : ℕ → List MaskPart) (truth : ℕ → Bool) where
   else_mask : (ms : List MaskPart) (mask : Option ℕ) (m q c : ℕ) → is_on truth mask ≡ meets truth ms → q ≡ c → truth m ≡ (is_on truth mask && not (truth q)) → is_on truth (Some m) ≡ meets truth (and_part ms c false)
   else_mask ms mask m q c h e is = is ∙ ap₂ (λ a n. a && not (truth n)) h e ∙ sym (meets-more truth ms c false)
 
-  load_owned : (scope : Scope) (mask : Option ℕ) (from : ℕ) (env : List Bound) (a : List ℕ) (i : Term) (o : Option ℤ) (ms : List MaskPart) (rest : List Item) → is_on truth mask ≡ meets truth ms → Agree masks from (inner_masks o (term_masks scope.index from ms i) ++ ms ∷ [])
-      → AreSettled truth (load_item scope mask (from + index_size o (term_size scope.index i)) env a o rest) → (AreSettled truth rest → Owned rest) → Owned (load_item scope mask (from + index_size o (term_size scope.index i)) env a o rest)
-  load_owned scope mask from env a i None ms rest h g st k = k st
-  load_owned scope mask from env a i (Some c) ms rest h g st k = (h ∙ ap (meets truth) (sym (ap masks (let e : from + 0 ≡ from = omega arith in e) ∙ g.0)), k st.1)
+  -- a read: by its item alone, or by the items of its index too
+  load_owned : (scope : Scope) (mask : Option ℕ) (from : ℕ) (env : List Bound) (a : List ℕ) (i : Term) (o : Option ℤ) (gathered : List Item) (ms : List MaskPart) (rest : List Item) → stream_offset scope.index i ≡ o → is_on truth mask ≡ meets truth ms
+      → Agree masks from (inner_masks o (term_masks scope.index from ms i) ++ ms ∷ [])
+      → (index_items scope.index i ≡ term_size scope.index i → Agree masks from (term_masks scope.index from ms i ++ ms ∷ []) → AreSettled truth gathered → Owned gathered)
+      → AreSettled truth (load_item scope mask (from + index_size o (term_size scope.index i)) env a o gathered rest) → (AreSettled truth rest → Owned rest) → Owned (load_item scope mask (from + index_size o (term_size scope.index i)) env a o gathered rest)
+  load_owned scope mask from env a i None gathered ms rest e h g inner st k = inner (ap (λ o. index_size o (term_size scope.index i)) e) g st
+  load_owned scope mask from env a i (Some c) gathered ms rest e h g inner st k = (h ∙ ap (meets truth) (sym (ap masks (let e : from + 0 ≡ from = omega arith in e) ∙ g.0)), k st.1)
 
   record Owns (t : Term) : Type 0 where
     value : IsValue t → (scope : Scope) (want : Option Ty) (mask : Option ℕ) (from : ℕ) (env : List Bound) (ms : List MaskPart) (rest : List Item) → is_on truth mask ≡ meets truth ms → Agree masks from (term_masks scope.index from ms t)
@@ -84,7 +87,15 @@ module _ (masks : ℕ → List MaskPart) (truth : ℕ → Bool) where
   owns : (t : Term) → Owns t
   owns (Literal n) = record { value = λ f scope want mask from env ms rest h g st k. k st; cond = λ f. absurd f }
   owns (Variable x) = record { value = λ f scope want mask from env ms rest h g st k. k st; cond = λ f. absurd f }
-  owns (Element a i) = record { value = λ f scope want mask from env ms rest h g st k. load_owned scope mask from env a i (stream_offset scope.index i) ms rest h g st k; cond = λ f. absurd f }
+  owns (Element a i) = record {
+    value = λ f scope want mask from env ms rest h g st k.
+        let read = gather_item scope mask from (from + index_items scope.index i) env a i in
+        load_owned scope mask from env a i (stream_offset scope.index i) (term_items scope (index_type scope i) mask from env i (read ∷ rest)) ms rest refl h g
+        (λ e g2 s. let parts = one_operand scope.index from ms i g2 in
+        (owns i).value f scope (index_type scope i) mask from env ms _ h parts.0 s (λ s2. (item_met mask ms _ _ h parts.1 (ap (λ n. from + n) (sym e)), k s2.1)))
+        st k;
+    cond = λ f. absurd f;
+  }
   owns (Unary op e) = record {
     value = λ f scope want mask from env ms rest h g st k.
         let parts = one_operand scope.index from ms e g in

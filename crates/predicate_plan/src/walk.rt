@@ -10,8 +10,9 @@ ghost use Rattle.predicate_plan.specs.Masks.{MeetsMasks, part, term_masks, actio
 use crate::mask::Plan;
 use crate::part::MaskPart;
 use kernel_tree::{Checked, Expr, Loop, Part, Stmt, parts};
+use loop_form::is_stream;
 use loop_form::laws::{few_items, numbered_items};
-use loop_form::{is_stream, loop_entries};
+use loop_lists::loop_entries;
 use std::alloc::{AllocError, Global};
 
 // A mask with one more condition.

@@ -8,7 +8,7 @@ use Rattle.kernel_tree.specs.declared.ops.UpdateOp.{UpdateOp}
 use Rattle.kernel_meaning.specs.Operators.{binary_value}
 use Rattle.kernel_meaning.specs.Eval.{Named, Names, is_named, value_of, value_at}
 use Rattle.kernel_meaning.specs.Iterate.{named, assigned}
-use Rattle.chunk_order.specs.Orders.{Share, Lane}
+use Rattle.vector_order.specs.Orders.{Share, Lane}
 use Rattle.vector_order.specs.Shares.{apply_shares, apply_lanes}
 use Rattle.reductions.specs.Joins.{joined}
 use Rattle.reductions.specs.Folds.{after_all, after_lanes, given_to, ShareAlike, AccumulatorIsFold}

@@ -5,12 +5,12 @@ ghost use Rattle.refusals.specs.Statuses.{status_of_done, status_of_refusal, of_
 
 use io_edges::files::FileError;
 use io_edges::sink::Failed;
-use kernel_compile::CompileFault;
 use kernel_front::KernelFault;
 use kernel_syntax::ReadFault;
 use kernel_types::TypeFault;
 use machine_model::elf_fault::ElfFault;
 use map_text::MapFault;
+use promises::CompileFault;
 use reg_assign::RegClass;
 use std::alloc::AllocError;
 use sve_asm::AsmFault;

@@ -1,6 +1,6 @@
 -- How many words the code of a kernel has: at most four for each item, and a few more.
 use Rattle.std.proofs.Common.{◌≡◌, ℕ, suc, ◌+◌, ◌%◌, ◌/◌, ◌*◌, ◌≤◌, Bool, true, false, List, [], ◌∷◌, ◌++◌, length, Option, Some, None, refl, ap, ◌∙◌, arith}
-use Rattle.std.specs.Prelude.{ℤ, nat_eq, nat_lt, option_map, option_and_then, if◌then◌else◌}
+use Rattle.std.specs.Prelude.{ℤ, nat_eq, nat_lt, not, option_map, option_and_then, if◌then◌else◌}
 use Rattle.kernel_tree.specs.declared.ops.Ty.{Ty}
 use Rattle.kernel_tree.specs.declared.ops.UnaryOp.{UnaryOp}
 use Rattle.kernel_tree.specs.declared.ops.UnaryOp.TheVariants as unary
@@ -16,11 +16,11 @@ use Rattle.kernel_tree.proofs.Scopes.{index_after, param_index, scope_index}
 use Rattle.kernel_meaning.specs.Operators.{word, wrapped, operator_of}
 use Rattle.kernel_meaning.specs.TypeValues.{unary_leaves, binary_leaves, shift_leaves}
 use Rattle.machine_model.specs.InstructionTable.{Listed}
-use Rattle.label_fix.specs.DraftRun.{Entry}
+use Rattle.label_fix.specs.DraftRun.{Entry, Place}
 use Rattle.label_fix.specs.Finished.{size}
 use Rattle.scalar_emit.specs.Layout.{Layout, Homes, reg_of, last_use_at, home}
-use Rattle.scalar_emit.specs.Words.{copy_word, filler, start_code, has_ones, half_word, filled_code, halves_code, const_code, cast_word, settle_word, index_word, word_code, load_code, store_code, operation_code, binary_code, unary_code, abs_code, shift_code}
-use Rattle.scalar_emit.specs.Code.{labels, at_type, number_code, value_code, truth}
+use Rattle.scalar_emit.specs.Words.{copy_word, filler, start_code, has_ones, half_word, filled_code, halves_code, const_code, cast_word, settle_word, index_word, word_code, load_code, store_code, operation_code, binary_code, operator_code, unary_code, abs_code, shift_code, condition, zero_test, tested_code, pick_code, placed_code}
+use Rattle.scalar_emit.specs.Code.{at_type, number_code, signed_side, compared_number, added_number, right_code, flag_condition, choice_code, value_code, flags_code, jump_code}
 use Rattle.scalar_emit.specs.Statements.{after_homes, block_labels, put_code, action_code, block_code, otherwise_code}
 use Rattle.scalar_emit.specs.Loop.{answer_code, with_index, loop_code}
 use Rattle.scalar_emit.specs.Kernel.{counted_x, argument_code, arguments_code, after_var, var_home, vars_code, zero_index, layout_of_kernel, param_homes, kernel_homes, begin_code, turns_code, scalar_code}
@@ -49,9 +49,32 @@ operation_words binary.Max signed d a c rest k h = omega (arith, h)
 pub operator_words : (op : BinaryOp) (t : Ty) (d a c : ℕ) (rest : List Entry) (k : ℕ) → size rest ≤ k → size (binary_code op t d a c rest) ≤ 3 + k
 operator_words op t d a c rest k h = within (omega arith) (operation_words op (is_signed t) d a c _ (1 + k) (one_word (settle_word (binary_leaves op) t d) rest k h))
 
-binary_words : (want : Option Ty) (op : BinaryOp) (d a c : ℕ) (rest : List Entry) (k : ℕ) → size rest ≤ k → size (at_type want (λ t. binary_code op t d a c rest) rest) ≤ 3 + k
-binary_words None op d a c rest k h = omega (arith, h)
-binary_words (Some t) op d a c rest k h = operator_words op t d a c rest k h
+-- of which a number that its word holds may be the right side
+operator_code_words : (number : Option ℕ) (want : Option Ty) (op : BinaryOp) (d a c : ℕ) (rest : List Entry) (k : ℕ) → size rest ≤ k → size (at_type want (λ t. operator_code number op t d a c rest) rest) ≤ 3 + k
+operator_code_words number None op d a c rest k h = omega (arith, h)
+operator_code_words (Some v) (Some t) op d a c rest k h = let w = one_word (settle_word (binary_leaves op) t d) rest k h in omega (arith, w)
+operator_code_words None (Some t) op d a c rest k h = operator_words op t d a c rest k h
+
+right_words : (number : Option ℕ) (m : ℕ) (inner : List Entry → List Entry) (rest : List Entry) (k : ℕ) → size rest ≤ k → (size rest ≤ k → size (inner rest) ≤ m + k) → size (right_code number inner rest) ≤ m + k
+right_words (Some v) m inner rest k h f = omega (arith, h)
+right_words None m inner rest k h f = f h
+
+tested_words : (o : Option Bool) (sense : Bool) (number : Option ℕ) (a c c2 to : ℕ) (rest : List Entry) (k : ℕ) → size rest ≤ k → size (tested_code o sense number a c c2 to rest) ≤ 2 + k
+tested_words (Some is) sense number a c c2 to rest k h = omega (arith, h)
+tested_words None sense number a c c2 to rest k h = omega (arith, h)
+
+placed_words : (wanted : Bool) (n : ℕ) (rest : List Entry) (k : ℕ) → size rest ≤ k → size (placed_code wanted n rest) ≤ k
+placed_words true n rest k h = h
+placed_words false n rest k h = h
+
+pick_words : (d p q n : ℕ) (rest : List Entry) (k : ℕ) → size rest ≤ k → size (pick_code d p q n rest) ≤ 3 + k
+pick_words d p q n rest k h =
+    let w = one_word (copy_word d q) (Place (n + 1) ∷ rest) k h in
+    within (omega arith) (one_word (copy_word d p) _ (2 + k) (omega (arith, w)))
+
+choice_words : (o : Option ℕ) (m : ℕ) (flags jump : List Entry → List Entry) (d p q n : ℕ) (rest : List Entry) (k : ℕ) → size rest ≤ k → ((rest : List Entry) (k : ℕ) → size rest ≤ k → size (flags rest) ≤ m + k) → ((rest : List Entry) (k : ℕ) → size rest ≤ k → size (jump rest) ≤ m + k) → size (choice_code o flags jump d p q n rest) ≤ m + 3 + k
+choice_words (Some c) m flags jump d p q n rest k h f g = within (omega arith) (f _ (1 + k) (omega (arith, h)))
+choice_words None m flags jump d p q n rest k h f g = within (omega arith) (g _ (3 + k) (pick_words d p q n rest k h))
 
 abs_words : (b : Bool) (t : Ty) (d a : ℕ) (rest : List Entry) (k : ℕ) → size rest ≤ k → size (abs_code b t d a rest) ≤ 3 + k
 abs_words true t d a rest k h = let w = one_word (settle_word true t d) rest k h in omega (arith, w)
@@ -130,28 +153,48 @@ module _ (L : Layout) (hs : Homes) where
     value_words (Element a j) s want b n rest k h =
         within (omega arith) (number_words (stream_offset s.index j) (term_size s.index j) _ _ _ (load_words (option_and_then element_type (lookup s a)) _ _ _ rest k h) (λ g. value_words j s (index_type s j) b n _ _ g))
     value_words (Unary op x) s want b n rest k h = within (omega arith) (value_words x s want b n _ _ (unary_words want op _ _ rest k h))
-    value_words (Operation op x y) s want b n rest k h = within (omega arith) (value_words x s want b n _ _ (value_words y s want _ _ _ _ (binary_words want op _ _ _ rest k h)))
+    value_words (Operation op x y) s want b n rest k h =
+        let number = added_number op want y in
+        within (omega arith) (value_words x s want b n _ _ (right_words number (4 * term_size s.index y) _ _ _ (operator_code_words number want op _ _ _ rest k h) (λ g. value_words y s want _ _ _ _ g)))
     value_words (Shift left x z) s want b n rest k h = within (omega arith) (value_words x s want b n _ _ (shift_words want left z _ _ rest k h))
     value_words (Conversion x t) s want b n rest k h = within (omega arith) (value_words x s (own s x) b n _ _ (cast_words (own s x) t _ _ rest k h))
-    value_words (Choice c x y) s want b n rest k h = within (omega arith) (value_words x s want b n _ _ (value_words y s want _ _ _ _ (truth_words c s _ _ _ _ (one_more (one_more h)))))
+    value_words (Choice c x y) s want b n rest k h =
+        within (omega arith) (value_words x s want b n _ _ (value_words y s want _ _ _ _ (choice_words (flag_condition s c) (4 * term_size s.index c) _ _ _ _ _ _ rest k h (λ r j g. flags_words c s _ _ r j g) (λ r j g. jump_words c s false _ _ _ r j g))))
     value_words (Comparison op x y) s want b n rest k h = omega (arith, h)
     value_words (Both x y) s want b n rest k h = omega (arith, h)
     value_words (Either x y) s want b n rest k h = omega (arith, h)
     value_words (Not x) s want b n rest k h = omega (arith, h)
 
-    truth_words : (e : Term) (s : Scope) (b n : ℕ) (rest : List Entry) (k : ℕ) → size rest ≤ k → size (truth L hs s b n e rest) ≤ 4 * term_size s.index e + k
-    truth_words (Comparison op x y) s b n rest k h = within (omega arith) (value_words x s (side_type s x y) b n _ _ (value_words y s (side_type s x y) _ _ _ _ (one_more (one_more h))))
-    truth_words (Both x y) s b n rest k h = within (omega arith) (truth_words x s b n _ _ (one_more (truth_words y s _ _ _ k h)))
-    truth_words (Either x y) s b n rest k h = within (omega arith) (truth_words x s b n _ _ (one_more (truth_words y s _ _ _ k h)))
-    truth_words (Not x) s b n rest k h = within (omega arith) (truth_words x s b n _ _ (one_more (one_more h)))
-    truth_words (Literal z) s b n rest k h = omega (arith, h)
-    truth_words (Variable x) s b n rest k h = omega (arith, h)
-    truth_words (Element a j) s b n rest k h = omega (arith, h)
-    truth_words (Unary op x) s b n rest k h = omega (arith, h)
-    truth_words (Operation op x y) s b n rest k h = omega (arith, h)
-    truth_words (Shift left x z) s b n rest k h = omega (arith, h)
-    truth_words (Conversion x t) s b n rest k h = omega (arith, h)
-    truth_words (Choice c x y) s b n rest k h = omega (arith, h)
+    flags_words : (e : Term) (s : Scope) (b n : ℕ) (rest : List Entry) (k : ℕ) → size rest ≤ k → size (flags_code L hs s b n e rest) ≤ 4 * term_size s.index e + k
+    flags_words (Comparison op x y) s b n rest k h =
+        within (omega arith) (value_words x s (side_type s x y) b n _ _ (right_words (compared_number (side_type s x y) y) (4 * term_size s.index y) _ _ (1 + k) (omega (arith, h)) (λ g. value_words y s (side_type s x y) _ _ _ _ g)))
+    flags_words (Literal z) s b n rest k h = omega (arith, h)
+    flags_words (Variable x) s b n rest k h = omega (arith, h)
+    flags_words (Element a i) s b n rest k h = omega (arith, h)
+    flags_words (Unary op e) s b n rest k h = omega (arith, h)
+    flags_words (Operation op x y) s b n rest k h = omega (arith, h)
+    flags_words (Shift left e z) s b n rest k h = omega (arith, h)
+    flags_words (Conversion e t) s b n rest k h = omega (arith, h)
+    flags_words (Choice c x y) s b n rest k h = omega (arith, h)
+    flags_words (Both x y) s b n rest k h = omega (arith, h)
+    flags_words (Either x y) s b n rest k h = omega (arith, h)
+    flags_words (Not e) s b n rest k h = omega (arith, h)
+
+    jump_words : (e : Term) (s : Scope) (sense : Bool) (to b n : ℕ) (rest : List Entry) (k : ℕ) → size rest ≤ k → size (jump_code L hs s sense to b n e rest) ≤ 4 * term_size s.index e + k
+    jump_words (Comparison op x y) s sense to b n rest k h =
+        let number = compared_number (side_type s x y) y in
+        within (omega arith) (value_words x s (side_type s x y) b n _ _ (right_words number (4 * term_size s.index y) _ _ _ (tested_words (zero_test op number) sense number _ _ (condition op (signed_side (side_type s x y))) to rest k h) (λ g. value_words y s (side_type s x y) _ _ _ _ g)))
+    jump_words (Both x y) s sense to b n rest k h = within (omega arith) (jump_words x s false _ b _ _ _ (jump_words y s sense to _ _ _ _ (placed_words sense n rest k h)))
+    jump_words (Either x y) s sense to b n rest k h = within (omega arith) (jump_words x s true _ b _ _ _ (jump_words y s sense to _ _ _ _ (placed_words (not sense) n rest k h)))
+    jump_words (Not x) s sense to b n rest k h = within (omega arith) (jump_words x s (not sense) to b n rest k h)
+    jump_words (Literal z) s sense to b n rest k h = omega (arith, h)
+    jump_words (Variable x) s sense to b n rest k h = omega (arith, h)
+    jump_words (Element a i) s sense to b n rest k h = omega (arith, h)
+    jump_words (Unary op e) s sense to b n rest k h = omega (arith, h)
+    jump_words (Operation op x y) s sense to b n rest k h = omega (arith, h)
+    jump_words (Shift left e z) s sense to b n rest k h = omega (arith, h)
+    jump_words (Conversion e t) s sense to b n rest k h = omega (arith, h)
+    jump_words (Choice c x y) s sense to b n rest k h = omega (arith, h)
 
 -- ---- statements
 
@@ -166,10 +209,12 @@ module _ (L : Layout) where
         within (omega arith) (value_words L hs e s (first t (own s e)) b n _ _ (let_words (nat_lt q (last_use_at L q)) _ _ rest k h))
     action_words (PutTo a i e) hs s exit b n rest k h = within (omega arith) (value_words L hs e s _ b n _ _ (put_words (stream_offset s.index i) _ _ _ rest k h))
     action_words (Update x op e) hs s exit b n rest k h =
-        within (omega arith) (value_words L hs e s _ b n _ _ (binary_words (option_and_then accumulator_type (lookup s x)) (operator_of op) _ _ _ rest k h))
+        let want = option_and_then accumulator_type (lookup s x) in
+        let number = added_number (operator_of op) want e in
+        within (omega arith) (right_words number (4 * term_size s.index e) _ _ _ (operator_code_words number want (operator_of op) _ _ _ rest k h) (λ g. value_words L hs e s want b n _ _ g))
     action_words (Choose c blk d) hs s exit b n rest k h =
-        within (omega arith) (truth_words L hs c s b n _ _ (one_more (block_words blk hs s exit _ _ _ _ (otherwise_words d hs (left s (after_block s blk)) exit (n + labels s.index c) _ _ rest k h))))
-    action_words (Leave c) hs s exit b n rest k h = within (omega arith) (truth_words L hs c s b n _ _ (one_more h))
+        within (omega arith) (jump_words L hs c s false _ b _ _ _ (block_words blk hs s exit _ _ _ _ (otherwise_words d hs (left s (after_block s blk)) exit n _ _ rest k h)))
+    action_words (Leave c) hs s exit b n rest k h = within (omega arith) (jump_words L hs c s true exit b n _ _ h)
 
     block_words : (blk : Block) (hs : Homes) (s : Scope) (exit b n : ℕ) (rest : List Entry) (k : ℕ) → size rest ≤ k → size (block_code L hs s exit b n blk rest) ≤ 4 * block_size s.index blk + k
     block_words Done hs s exit b n rest k h = omega (arith, h)
@@ -187,9 +232,9 @@ module _ (L : Layout) where
   answer_words hs s b n None rest k h = omega (arith, h)
   answer_words hs s b n (Some a) rest k h = within (omega arith) (value_words L hs a.value s (Some a.type) b n _ _ (one_word (copy_word 0 (home L hs s.index b a.value)) _ _ (one_more (one_more h))))
 
-  loop_words : (hs : Homes) (s : Scope) (t : PlainLoop) (b n b2 : ℕ) (o : Option Returned) (rest : List Entry) (k : ℕ) → size rest ≤ k → size (loop_code L hs s t b n b2 o rest) ≤ 4 * (1 + block_size s.index t.body) + 4 * answer_size s.index o + 3 + k
+  loop_words : (hs : Homes) (s : Scope) (t : PlainLoop) (b n b2 : ℕ) (o : Option Returned) (rest : List Entry) (k : ℕ) → size rest ≤ k → size (loop_code L hs s t b n b2 o rest) ≤ 4 * (1 + block_size s.index t.body) + 4 * answer_size s.index o + 4 + k
   loop_words hs s t b n b2 o rest k h =
-      within (omega arith) (one_more (one_more (block_words t.body (with_index hs t) (in_loop s t) (n + 1) (b + 1) (n + 2) _ _ (one_more (one_more (answer_words (with_index hs t) (after_turns s (Some t)) b2 (n + 2 + block_labels s.index t.body) o rest k h))))))
+      within (omega arith) (one_more (one_more (block_words t.body (with_index hs t) (in_loop s t) (n + 1) (b + 1) (n + 3) _ _ (one_more (one_more (one_more (answer_words (with_index hs t) (after_turns s (Some t)) b2 (n + 3 + block_labels s.index t.body) o rest k h)))))))
 
   -- ---- before the loop
 
@@ -200,7 +245,7 @@ module _ (L : Layout) where
 
 -- ---- kernels
 
-turns_words : (L : Layout) (hs : Homes) (s : Scope) (i : Option (List ℕ)) (t : Option PlainLoop) (b n b2 : ℕ) (o : Option Returned) (rest : List Entry) (k : ℕ) → s.index ≡ i → i ≡ option_map index_of t → size rest ≤ k → size (turns_code L hs s t b n b2 o rest) ≤ 4 * turns_size t + 4 * answer_size i o + 3 + k
+turns_words : (L : Layout) (hs : Homes) (s : Scope) (i : Option (List ℕ)) (t : Option PlainLoop) (b n b2 : ℕ) (o : Option Returned) (rest : List Entry) (k : ℕ) → s.index ≡ i → i ≡ option_map index_of t → size rest ≤ k → size (turns_code L hs s t b n b2 o rest) ≤ 4 * turns_size t + 4 * answer_size i o + 4 + k
 turns_words L hs s i None b n b2 o rest k e f h = let q = ap (λ i. answer_size i o) e in within (omega (arith, q)) (answer_words L hs s b2 (n + 1) o rest k h)
 turns_words L hs s i (Some t) b n b2 o rest k e f h =
     let q = ap (λ i. answer_size i o) e in

@@ -41,9 +41,9 @@ begin_is R k L hs s first n m ps vs rest d e f g h i j = rw (d, e, f, g, h, i, j
 
 -- ---- the loop and what follows it
 
-pub scalar_is : (R : ℕ → ℕ) (k : Program) (L : Layout) (l : PlainLoop) (b n b2 n2 : ℕ) (rest : List Entry) → L ≡ layout_of_kernel R k → k.turns ≡ Some l → b ≡ loop_start k → b2 ≡ loop_end k → n2 ≡ n + 2 + block_labels (loop_index k) l.body → turn_code L (kernel_homes R k) (var_scope k) l b n (leave_code L (kernel_homes R k) (var_scope k) l b2 n2 k.answer rest) ≡ scalar_code R k n rest
+pub scalar_is : (R : ℕ → ℕ) (k : Program) (L : Layout) (l : PlainLoop) (b n b2 n2 : ℕ) (rest : List Entry) → L ≡ layout_of_kernel R k → k.turns ≡ Some l → b ≡ loop_start k → b2 ≡ loop_end k → n2 ≡ n + 3 + block_labels (loop_index k) l.body → turn_code L (kernel_homes R k) (var_scope k) l b n (leave_code L (kernel_homes R k) (var_scope k) l b2 n2 k.answer rest) ≡ scalar_code R k n rest
 scalar_is R k L l b n b2 n2 rest d e f g h =
-    let i : n2 ≡ n + 2 + block_labels (var_scope k).index l.body = h ∙ ap (λ j. n + 2 + block_labels j l.body) (sym (scope_index k)) in
+    let i : n2 ≡ n + 3 + block_labels (var_scope k).index l.body = h ∙ ap (λ j. n + 3 + block_labels j l.body) (sym (scope_index k)) in
     rw (d, f, g, i) (ap (λ t. turns_code (layout_of_kernel R k) (kernel_homes R k) (var_scope k) t (loop_start k) n (loop_end k) k.answer rest) (sym e))
 
 pub straight_is : (R : ℕ → ℕ) (k : Program) (L : Layout) (b n : ℕ) (rest : List Entry) → L ≡ layout_of_kernel R k → k.turns ≡ None → b ≡ loop_start k → straight_code L (kernel_homes R k) (var_scope k) n b k.answer rest ≡ scalar_code R k n rest

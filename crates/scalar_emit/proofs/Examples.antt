@@ -6,10 +6,10 @@ use Rattle.kernel_tree.specs.declared.ops.BinaryOp.TheVariants as binary
 use Rattle.kernel_tree.specs.declared.ops.CompareOp.TheVariants as compare
 use Rattle.kernel_tree.specs.declared.ast.Shape.TheVariants as shape
 use Rattle.kernel_tree.specs.Plain.{Literal, Variable, Element, Operation, Comparison, Define, Put, Choose, Leave, Block, Done, Then, Else, Program}
-use Rattle.a64_code.specs.Table.{add_imm, sub_imm, subs, movz, csinc, ldrsb_register, strb_register, svc}
+use Rattle.a64_code.specs.Table.{add_imm, sub_imm, subs, subs_imm, movz, ldrsb_register, strb_register, svc}
 use Rattle.loop_form.specs.Entries.{item_type}
 use Rattle.loop_form.specs.Listing.{last_use_from}
-use Rattle.label_fix.specs.DraftRun.{Branch, Place, Always, If, Zero, NotZero, ins}
+use Rattle.label_fix.specs.DraftRun.{Branch, Place, Always, If, Zero, ins}
 use Rattle.scalar_emit.specs.Kernel.{begin_code, begin_labels, scalar_code, scalar_labels}
 
 abbrev a : List ℕ
@@ -56,27 +56,24 @@ worked-loops : scalar_code registers worked 0 [] ≡
     Place 0
     ∷ ins subs (31 ∷ 9 ∷ 0 ∷ 1 ∷ 0 ∷ [])
     ∷ Branch (If 2) 1
+    ∷ Place 2
     ∷ ins ldrsb_register (10 ∷ 0 ∷ 9 ∷ [])
-    ∷ ins movz (11 ∷ 0 ∷ 0 ∷ [])
-    ∷ ins subs (31 ∷ 10 ∷ 0 ∷ 11 ∷ 0 ∷ [])
-    ∷ ins csinc (28 ∷ 31 ∷ 1 ∷ 31 ∷ [])
-    ∷ Branch (NotZero 28) 1
+    ∷ Branch (Zero 10) 1
     ∷ ins ldrsb_register (10 ∷ 0 ∷ 9 ∷ [])
-    ∷ ins movz (11 ∷ 1 ∷ 0 ∷ [])
-    ∷ ins subs (31 ∷ 10 ∷ 0 ∷ 11 ∷ 0 ∷ [])
-    ∷ ins csinc (28 ∷ 31 ∷ 10 ∷ 31 ∷ [])
-    ∷ Branch (Zero 28) 2
+    ∷ ins subs_imm (31 ∷ 10 ∷ 1 ∷ 0 ∷ [])
+    ∷ Branch (If 10) 3
     ∷ ins add_imm (26 ∷ 9 ∷ 1 ∷ 0 ∷ [])
     ∷ ins ldrsb_register (10 ∷ 0 ∷ 26 ∷ [])
     ∷ ins strb_register (10 ∷ 0 ∷ 9 ∷ [])
-    ∷ Branch Always 3
-    ∷ Place 2
+    ∷ Branch Always 4
+    ∷ Place 3
     ∷ ins sub_imm (26 ∷ 9 ∷ 1 ∷ 0 ∷ [])
     ∷ ins ldrsb_register (10 ∷ 0 ∷ 26 ∷ [])
     ∷ ins strb_register (10 ∷ 0 ∷ 9 ∷ [])
-    ∷ Place 3
+    ∷ Place 4
     ∷ ins add_imm (9 ∷ 9 ∷ 1 ∷ 0 ∷ [])
-    ∷ Branch Always 0
+    ∷ ins subs (31 ∷ 9 ∷ 0 ∷ 1 ∷ 0 ∷ [])
+    ∷ Branch (If 3) 2
     ∷ Place 1
     ∷ ins movz (0 ∷ 0 ∷ 0 ∷ [])
     ∷ ins movz (8 ∷ 93 ∷ 0 ∷ [])
@@ -85,5 +82,5 @@ worked-loops : scalar_code registers worked 0 [] ≡
 unfolding item_type last_use_from
 worked-loops = refl
 
-worked-labels : (begin_labels worked ≡ 0) × (scalar_labels worked ≡ 4)
+worked-labels : (begin_labels worked ≡ 0) × (scalar_labels worked ≡ 5)
 worked-labels = (refl, refl)

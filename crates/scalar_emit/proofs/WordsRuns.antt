@@ -228,7 +228,7 @@ load_does ty.U32 d p r s = refl
 load_does ty.I64 d p r s = refl
 load_does ty.U64 d p r s = refl
 
-not_sp : (s : State) (p : ℕ) → p ≤ 25 → x_or_sp s p ≡ x_at s p
+pub not_sp : (s : State) (p : ℕ) → p ≤ 25 → x_or_sp s p ≡ x_at s p
 not_sp s p le = cond-false _ _ _ (ne_eqb p 31 (λ e. absurd (omega arith)))
 
 -- a load of an element

@@ -438,6 +438,14 @@ fn emit_body<'a>(
     Ok(())
 }
 
+// The labels of a loop: at its head, after it, and before its statements.
+#[derive(Clone, Copy)]
+struct LoopLabels {
+    head: Label,
+    exit: Label,
+    top: Label,
+}
+
 // The head of a loop.
 fn emit_head(draft: &mut Draft) -> Result<Label, AllocError>
     ensures head { IfOk result (λ l. l ≡ draft.old.labels) }
@@ -450,29 +458,47 @@ fn emit_head(draft: &mut Draft) -> Result<Label, AllocError>
     Ok(head)
 }
 
-// The test of a loop's variable against the register of its bound; answers the label after the loop.
-fn emit_bound(draft: &mut Draft, bound: Reg) -> Result<Label, AllocError>
-    ensures exit { IfOk result (λ l. l ≡ draft.old.labels) }
-    ensures labels { OnOk result (draft.new.labels ≡ draft.old.labels + 1) }
-    ensures code { OnOk result ((rest : List plain.Entry)
-        → draft.new.entries ++ rest ≡ draft.old.entries
-        ++ plain.ins table.subs (31 ∷ 9 ∷ 0 ∷ bound.number ∷ 0 ∷ [])
-        ∷ plain.Branch (plain.If 2) draft.old.labels ∷ rest) }
+// The comparison of a loop's variable with the register of its bound.
+fn emit_bound(draft: &mut Draft, bound: Reg) -> Result<(), AllocError>
+    ensures labels { OnOk result (draft.new.labels ≡ draft.old.labels) }
+    ensures code { OnOk result (Appends draft.old draft.new (loops.bound_code bound.number)) }
 {
     draft.put(add_sub(AddSubOp::Subs, zero(), index(), bound))?;
-    let exit = branch_ahead(draft, BranchKind::If(Cond::Hs))?;
-    Ok(exit)
+    Ok(())
 }
 
-// The end of an iteration.
-fn emit_again(draft: &mut Draft, head: Label, exit: Label) -> Result<(), AllocError>
-    requires next { exit ≡ head + 1 }
-    requires given { exit < draft.old.labels }
+// The head of a loop, and its first test.
+fn emit_entry(draft: &mut Draft, bound: Reg) -> Result<LoopLabels, AllocError>
+    ensures head { IfOk result (λ l. l.head ≡ draft.old.labels) }
+    ensures exit { IfOk result (λ l. l.exit ≡ draft.old.labels + 1) }
+    ensures top { IfOk result (λ l. l.top ≡ draft.old.labels + 2) }
+    ensures labels { OnOk result (draft.new.labels ≡ draft.old.labels + 3) }
+    ensures code { OnOk result (Appends draft.old draft.new (loops.entry_code bound.number draft.old.labels)) }
+{
+    let head = emit_head(draft)?;
+    emit_bound(draft, bound)?;
+    let exit = branch_ahead(draft, BranchKind::If(Cond::Hs))?;
+    let top = emit_head(draft)?;
+    Ok(LoopLabels { head, exit, top })
+}
+
+// The end of an iteration, and of the loop.
+fn emit_again(
+    draft: &mut Draft,
+    bound: Reg,
+    head: Label,
+    exit: Label,
+    top: Label,
+) -> Result<(), AllocError>
+    requires exit { exit ≡ head + 1 }
+    requires top { top ≡ head + 2 }
+    requires given { top < draft.old.labels }
     ensures labels { OnOk result (draft.new.labels ≡ draft.old.labels) }
-    ensures code { OnOk result (Appends draft.old draft.new (loops.again_code head)) }
+    ensures code { OnOk result (Appends draft.old draft.new (loops.again_code bound.number head)) }
 {
     draft.put(next_iteration())?;
-    draft.branch(BranchKind::Always, head)?;
+    emit_bound(draft, bound)?;
+    draft.branch(BranchKind::If(Cond::Lo), top)?;
     draft.place(exit)?;
     Ok(())
 }
@@ -493,17 +519,17 @@ fn emit_loop<'a>(
     ensures item { OnOk result (item.new ≡ item.old +
         (1 + items.block_size (scope_of scope.old).index (block_of turns.now.body.items))) }
     ensures labels { OnOk result (draft.new.labels
-        ≡ draft.old.labels + 2 + block_labels (scope_of scope.old).index (block_of turns.now.body.items)) }
+        ≡ draft.old.labels + 3 + block_labels (scope_of scope.old).index (block_of turns.now.body.items)) }
     ensures code { OnOk result (Appends draft.old draft.new
         (loops.turn_code places.now (homes_of homes.old.items) (scope_of scope.old)
         (turns_of turns.now) item.old draft.old.labels)) }
 {
-    let head = emit_head(draft)?;
-    let exit = emit_bound(draft, register_at(homes, &turns.bound))?;
+    let bound = register_at(homes, &turns.bound);
+    let LoopLabels { head, exit, top } = emit_entry(draft, bound)?;
     declare_index(scope, homes, turns)?;
     *item += 1;
     emit_body(draft, places, homes, scope, exit, turns, item)?;
-    emit_again(draft, head, exit)?;
+    emit_again(draft, bound, head, exit, top)?;
     Ok(head)
 }
 
@@ -529,7 +555,7 @@ fn turns_named<'a>(
     ensures head { IfOk result (λ l. l ≡ draft.old.labels) }
     ensures item { OnOk result (item.new ≡ item.old + items.turns_size (Some (turns_of turns.now))) }
     ensures labels { OnOk result (draft.new.labels
-        ≡ draft.old.labels + 2 + block_labels (items.loop_index (program_of kernel.now))
+        ≡ draft.old.labels + 3 + block_labels (items.loop_index (program_of kernel.now))
         (block_of turns.now.body.items)) }
     ensures code { OnOk result (Appends draft.old draft.new
         (loops.turn_code places.now (kernels.kernel_homes (register_in regs.now) (program_of kernel.now))
@@ -559,7 +585,7 @@ fn emit_turns(
     ensures head { IfOk result (λ l. l ≡ draft.old.labels) }
     ensures item { OnOk result (item.new ≡ item.old + items.turns_size (Some (turns_of turns.now))) }
     ensures labels { OnOk result (draft.new.labels
-        ≡ draft.old.labels + 2 + block_labels (items.loop_index (program_of kernel.now))
+        ≡ draft.old.labels + 3 + block_labels (items.loop_index (program_of kernel.now))
         (block_of turns.now.body.items)) }
     ensures code { OnOk result (Appends draft.old draft.new
         (loops.turn_code places.now (kernels.kernel_homes (register_in regs.now) (program_of kernel.now))

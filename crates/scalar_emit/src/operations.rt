@@ -1,23 +1,25 @@
 //! Emits the code of constants, operators and loads, whose operands are in registers.
 
-ghost use Rattle.std.specs.Prelude.{◌≡◌, ◌<◌, true, List, ◌∷◌, ◌++◌, IfOk, OnOk, option_map};
+ghost use Rattle.std.specs.Prelude.{◌≡◌, ◌<◌, ◌+◌, true, List, [], ◌∷◌, ◌++◌, IfOk, OnOk, option_map};
+ghost use Rattle.a64_code.specs.Table as table;
 ghost use Rattle.kernel_tree.specs.declared.ops.UnaryOp.TheVariants as unary;
-ghost use Rattle.label_fix.specs.Draft.{word_view};
+ghost use Rattle.label_fix.specs.Draft.{word_view, kind_view};
 ghost use Rattle.label_fix.specs.DraftRun as plain;
 ghost use Rattle.scalar_emit.specs.Words as words;
 ghost use Rattle.scalar_emit.specs.Code as code;
 ghost use Rattle.scalar_emit.specs.Drafts.{Appends};
 ghost use Rattle.scalar_emit.specs.Operands as operands;
-ghost use Rattle.label_fix.specs.Finished.{is_plain};
+ghost use Rattle.label_fix.specs.Finished.{is_plain, has_register};
 
 use crate::instructions::{
-    add_sub, contrary, copy, extending, filler, has_ones, index, is_narrow, load, logical,
-    operation_word, scratch, select, shift_count, shifted, truth, wide,
+    add_sub, compare_word, condition, copy, extending, filler, has_ones, index, is_narrow, load,
+    logical, operation_word, scratch, select, shift_count, shifted, sum_word, turned, wide,
+    zero_test,
 };
 use a64_code::{AddSubOp, Cond, LogicalOp, MoveWideOp, Reg, SelectOp, zero};
 use kernel_meaning::{binary_leaves, fits, is_signed, unary_leaves};
 use kernel_tree::{BinaryOp, CompareOp, Ty, UnaryOp};
-use label_fix::{Draft, Word};
+use label_fix::{BranchKind, Draft, Label, Word};
 use std::alloc::AllocError;
 
 /// A register into another one, where they differ.
@@ -309,34 +311,59 @@ fn signed_side(want: Option<Ty>) -> bool
     }
 }
 
-/// The code of a comparison.
-pub fn emit_compare(
+/// A branch to a label where the truth of a comparison is `sense`.
+pub fn emit_branch(
     draft: &mut Draft,
     op: CompareOp,
+    sense: bool,
     want: Option<Ty>,
+    number: Option<u64>,
     a: Reg,
     b: Reg,
+    to: Label,
 ) -> Result<(), AllocError>
+    requires { to < draft.old.labels }
     ensures labels { OnOk result (draft.new.labels ≡ draft.old.labels) }
     ensures code { OnOk result (Appends draft.old draft.new
-        (words.truth_code a.number b.number (words.condition op (code.signed_side want)))) }
+        (words.branch_code op sense (code.signed_side want) number a.number b.number to)) }
 {
     let signed = signed_side(want);
-    draft.put(add_sub(AddSubOp::Subs, zero(), a, b))?;
-    draft.put(select(
-        SelectOp::Csinc,
-        truth(),
-        zero(),
-        contrary(op, signed),
-        zero(),
-    ))?;
-    Ok(())
+    match zero_test(op, number) {
+        Some(zero) => {
+            draft.branch(zero_branch(same_sense(sense, zero), a), to)?;
+            Ok(())
+        }
+        None => {
+            draft.put(compare_word(number, a, b))?;
+            draft.branch(BranchKind::If(turned(sense, op, signed)), to)?;
+            Ok(())
+        }
+    }
 }
 
-/// The same where a type is wanted.
-pub fn want_binary(
+// Whether a truth is `sense`.
+fn same_sense(sense: bool, truth: bool) -> bool
+    ensures { result ≡ words.same_sense sense truth }
+{
+    if sense { truth } else { !truth }
+}
+
+// A branch where a register is zero, or where it is not.
+fn zero_branch(zero: bool, r: Reg) -> BranchKind
+    ensures register { has_register (kind_view result) ≡ true }
+    ensures kind { kind_view result ≡ words.zero_kind zero r.number }
+{
+    if zero {
+        BranchKind::Zero(r.number)
+    } else {
+        BranchKind::NotZero(r.number)
+    }
+}
+
+/// A choice by the flags of a comparison.
+pub fn emit_chosen(
     draft: &mut Draft,
-    op: BinaryOp,
+    op: CompareOp,
     want: Option<Ty>,
     d: Reg,
     a: Reg,
@@ -345,11 +372,88 @@ pub fn want_binary(
     ensures labels { OnOk result (draft.new.labels ≡ draft.old.labels) }
     ensures code { OnOk result ((rest : List plain.Entry)
         → draft.new.entries ++ rest ≡ draft.old.entries
-        ++ code.at_type want (λ t. words.binary_code op t d.number a.number b.number rest) rest) }
+        ++ plain.ins table.csel (d.number ∷ a.number ∷ words.condition op (code.signed_side want) ∷ b.number ∷ []) ∷ rest) }
+{
+    draft.put(select(SelectOp::Csel, d, a, condition(op, signed_side(want)), b))?;
+    Ok(())
+}
+
+/// The first of two values into a register where the code before goes on, and the second where it goes to a label.
+pub fn emit_pick(
+    draft: &mut Draft,
+    d: Reg,
+    a: Reg,
+    b: Reg,
+    other: Label,
+    end: Label,
+) -> Result<(), AllocError>
+    requires next { end ≡ other + 1 }
+    requires given { end < draft.old.labels }
+    ensures labels { OnOk result (draft.new.labels ≡ draft.old.labels) }
+    ensures code { OnOk result (Appends draft.old draft.new (words.pick_code d.number a.number b.number other)) }
+{
+    emit_copy(draft, d, a)?;
+    draft.branch(BranchKind::Always, end)?;
+    draft.place(other)?;
+    emit_copy(draft, d, b)?;
+    draft.place(end)?;
+    Ok(())
+}
+
+/// The place of a label, where it is wanted.
+pub fn emit_placed(draft: &mut Draft, wanted: bool, label: Label) -> Result<(), AllocError>
+    requires { label < draft.old.labels }
+    ensures labels { OnOk result (draft.new.labels ≡ draft.old.labels) }
+    ensures code { OnOk result (Appends draft.old draft.new (words.placed_code wanted label)) }
+{
+    if wanted {
+        draft.place(label)?;
+    }
+    Ok(())
+}
+
+// The code of an operator, of which a number that its word holds may be the right side.
+fn emit_operator(
+    draft: &mut Draft,
+    op: BinaryOp,
+    number: Option<u64>,
+    ty: Ty,
+    d: Reg,
+    a: Reg,
+    b: Reg,
+) -> Result<(), AllocError>
+    ensures labels { OnOk result (draft.new.labels ≡ draft.old.labels) }
+    ensures code { OnOk result (Appends draft.old draft.new
+        (words.operator_code number op ty d.number a.number b.number)) }
+{
+    match number {
+        None => emit_binary(draft, op, ty, d, a, b),
+        Some(number) => {
+            let word = sum_word(op, number, d, a);
+            emit_settled(draft, word, binary_leaves(op), ty, d)?;
+            Ok(())
+        }
+    }
+}
+
+/// The same where a type is wanted.
+pub fn want_operator(
+    draft: &mut Draft,
+    op: BinaryOp,
+    number: Option<u64>,
+    want: Option<Ty>,
+    d: Reg,
+    a: Reg,
+    b: Reg,
+) -> Result<(), AllocError>
+    ensures labels { OnOk result (draft.new.labels ≡ draft.old.labels) }
+    ensures code { OnOk result ((rest : List plain.Entry)
+        → draft.new.entries ++ rest ≡ draft.old.entries
+        ++ code.at_type want (λ t. words.operator_code number op t d.number a.number b.number rest) rest) }
 {
     match want {
         None => Ok(()),
-        Some(ty) => emit_binary(draft, op, ty, d, a, b),
+        Some(ty) => emit_operator(draft, op, number, ty, d, a, b),
     }
 }
 
@@ -448,23 +552,4 @@ pub fn emit_load(
             Ok(())
         }
     }
-}
-
-/// One of two values, by the last truth.
-pub fn emit_choice(draft: &mut Draft, d: Reg, a: Reg, b: Reg) -> Result<(), AllocError>
-    ensures labels { OnOk result (draft.new.labels ≡ draft.old.labels) }
-    ensures code { OnOk result (Appends draft.old draft.new (words.select_code d.number a.number b.number)) }
-{
-    draft.put(add_sub(AddSubOp::Subs, zero(), truth(), zero()))?;
-    draft.put(select(SelectOp::Csel, d, a, Cond::Ne, b))?;
-    Ok(())
-}
-
-/// The contrary of the last truth.
-pub fn emit_not(draft: &mut Draft) -> Result<(), AllocError>
-    ensures labels { OnOk result (draft.new.labels ≡ draft.old.labels) }
-    ensures code { OnOk result (Appends draft.old draft.new (words.truth_code 28 31 0)) }
-{
-    emit_compare(draft, CompareOp::Eq, None, truth(), zero())?;
-    Ok(())
 }

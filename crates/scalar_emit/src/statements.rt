@@ -16,17 +16,17 @@ ghost use Rattle.scalar_emit.specs.Drafts.{Appends};
 ghost use Rattle.scalar_emit.specs.View.{homes_of};
 
 use crate::branches::{land, switch_over};
-use crate::emit::{emit_test, emit_truth, emit_value};
+use crate::emit::{emit_jump, emit_right, emit_value};
 use crate::home::{Home, register_at};
-use crate::instructions::{index_word, store};
-use crate::operations::{emit_copy, emit_offset, want_binary};
+use crate::instructions::{added_number, index_word, store};
+use crate::operations::{emit_copy, emit_offset, want_operator};
 use crate::places::Places;
 use a64_code::Reg;
 use kernel_scope::{
     Scope, accumulator_type, define, element_type, first, leave, lookup, own_type, visible_count,
 };
 use kernel_tree::{BinaryOp, Expr, Name, Part, Stmt, Ty, UpdateOp, parts};
-use label_fix::{BranchKind, Draft, Label};
+use label_fix::{Draft, Label};
 use std::alloc::AllocError;
 
 // The value of a `let` into its register, where something reads it.
@@ -227,9 +227,11 @@ fn emit_update(
         (Update (name_of name.now) op (term_of value.now)))) }
 {
     let want = lookup(scope, name).and_then(accumulator_type);
-    let from = emit_value(draft, places, homes, scope, want, value, item)?;
+    let op = update_operator(op);
+    let number = added_number(op, want, value);
+    let from = emit_right(draft, places, homes, scope, want, number, value, item)?;
     let held = register_at(homes, name);
-    want_binary(draft, update_operator(op), want, held, held, from)?;
+    want_operator(draft, op, number, want, held, held, from)?;
     *item += 1;
     Ok(())
 }
@@ -254,8 +256,7 @@ fn emit_break(
         (statements.action_code places.now (homes_of homes.now) (scope_of scope.now) exit item.old draft.old.labels
         (Leave (term_of cond.now)))) }
 {
-    emit_truth(draft, places, homes, scope, cond, item)?;
-    draft.branch(BranchKind::NotZero(28), exit)?;
+    emit_jump(draft, places, homes, scope, true, exit, cond, item)?;
     *item += 1;
     Ok(())
 }
@@ -362,15 +363,8 @@ fn emit_if<'a>(
         (statements.action_code places.now (homes_of homes.old.items)
         (scope_of scope.old) exit item.old draft.old.labels (Choose (term_of cond.now) (block_of block.now) Nothing))) }
 {
-    let other = emit_test(
-        draft,
-        places,
-        homes,
-        scope,
-        BranchKind::Zero(28),
-        cond,
-        item,
-    )?;
+    let other = draft.label()?;
+    emit_jump(draft, places, homes, scope, false, other, cond, item)?;
     *item += 1;
     emit_inner(draft, places, homes, scope, exit, block, item)?;
     land(draft, other, item)?;
@@ -409,15 +403,8 @@ fn emit_if_else<'a>(
         (scope_of scope.old) exit item.old draft.old.labels
         (Choose (term_of cond.now) (block_of block.now) (Else (block_of second.now))))) }
 {
-    let other = emit_test(
-        draft,
-        places,
-        homes,
-        scope,
-        BranchKind::Zero(28),
-        cond,
-        item,
-    )?;
+    let other = draft.label()?;
+    emit_jump(draft, places, homes, scope, false, other, cond, item)?;
     *item += 1;
     emit_inner(draft, places, homes, scope, exit, block, item)?;
     emit_else(draft, places, homes, scope, exit, other, second, item)?;

@@ -17,8 +17,8 @@ use Rattle.kernel_meaning.specs.ScalarRun.{begun, scalar_run}
 use Rattle.kernel_front.specs.Verdict.{Sound}
 use Rattle.kernel_front.proofs.OneVerdict.{one_verdict}
 use Rattle.dependence.specs.Bound.{free_bound}
-use Rattle.kernel_compile.specs.Faithful.{IsStart, Follows, IsFaithful, IsEmpty, IsAny, FreeFaithful, FreeEnds, bound_steps, end_steps}
-use Rattle.kernel_compile.proofs.Promises as promises
+use Rattle.promises.specs.Faithful.{IsStart, Follows, IsFaithful, IsEmpty, IsAny, FreeFaithful, FreeEnds, bound_steps, end_steps}
+use Rattle.promises.proofs.Promises as promises
 use Rattle.command_line.specs.Line.{Task, CompileLine}
 use Rattle.refusals.specs.declared.refusal.Refusal.TheVariants.{TooLong}
 use Rattle.sve_top.specs.Answer.{Held, Expected}

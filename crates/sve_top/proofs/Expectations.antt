@@ -6,9 +6,9 @@ use Rattle.io_edges.specs.Files.{content, Writes}
 use Rattle.io_edges.specs.declared.files.FileError.{FileError}
 use Rattle.io_edges.specs.declared.files.TheConstants.{MAX_FILE}
 use Rattle.reg_assign.specs.declared.interval.RegClass.{RegClass}
-use Rattle.kernel_compile.specs.declared.fault.CompileFault.{CompileFault}
-use Rattle.kernel_compile.specs.declared.fault.CompileFault.TheVariants as compiling
-use Rattle.kernel_compile.specs.Refusals.{too_many, IsRefusal}
+use Rattle.promises.specs.declared.fault.CompileFault.{CompileFault}
+use Rattle.promises.specs.declared.fault.CompileFault.TheVariants as compiling
+use Rattle.promises.specs.Refusals.{too_many, IsRefusal}
 use Rattle.command_line.specs.Line.{Line, CompileLine}
 use Rattle.machine_model.specs.declared.elf_fault.ElfFault.{ElfFault}
 use Rattle.machine_model.specs.declared.elf_fault.ElfFault.TheVariants as elf

@@ -26,8 +26,8 @@ use Rattle.kernel_tree.specs.Items.{size_of}
 use Rattle.kernel_front.specs.Verdict.{Sound, IsVerdict}
 use Rattle.reg_assign.specs.declared.interval.RegClass.{RegClass}
 use Rattle.loop_form.specs.Needs.{needs_of}
-use Rattle.kernel_compile.specs.Faithful.{FreeFaithful, FreeEnds}
-use Rattle.kernel_compile.specs.Refusals.{too_many, need_in}
+use Rattle.promises.specs.Faithful.{FreeFaithful, FreeEnds}
+use Rattle.promises.specs.Refusals.{too_many, need_in}
 use Rattle.check_text.specs.CheckText.{check_text}
 use Rattle.command_line.specs.Line.{Line, Task, Extent, CompileLine, CheckLine, EvalLine, ListLine, RunLine, DebugLine, SweepLine, AsmLine}
 use Rattle.sweep_kernel.specs.Tree.{kernel_of}

@@ -12,7 +12,7 @@ use Rattle.kernel_meaning.specs.ScalarRun as scalar
 use Rattle.kernel_meaning.specs.ScalarRun.{begun, scalar_run}
 use Rattle.kernel_front.specs.Verdict.{Sound, IsVerdict}
 use Rattle.dependence.specs.Bound.{free_bound}
-use Rattle.kernel_compile.specs.Faithful.{Stops, IsFaithful, IsEmpty, IsAny, bound_steps, end_steps}
+use Rattle.promises.specs.Faithful.{Stops, IsFaithful, IsEmpty, IsAny, bound_steps, end_steps}
 use Rattle.command_line.specs.Line.{Words, Task, CompileLine, RunLine, line_of}
 use Rattle.refusals.specs.declared.refusal.Done.TheVariants as done
 use Rattle.sve_top.specs.Answer.{Held, Expected}

@@ -6,7 +6,7 @@ ghost use Rattle.command_line.specs.Line.{CompileLine};
 ghost use Rattle.kernel_tree.specs.Plain.{program_of};
 ghost use Rattle.kernel_tree.specs.Checked.{kernel_of};
 ghost use Rattle.kernel_tree.specs.Items.{size_of};
-ghost use Rattle.kernel_compile.specs.Faithful.{FreeFaithful, FreeEnds};
+ghost use Rattle.promises.specs.Faithful.{FreeFaithful, FreeEnds};
 ghost use Rattle.sve_top.specs.Answer.{answer_of, IsFileAnswer, IsKept, Unwritten};
 ghost use Rattle.sve_top.specs.Commands.{Expects, WhereExpected, CompileExpects, CompilesTo, HasWords, RefusesText, compiled, ended, IsOfCompile, Compiled, OthersKept, RefusesCompile};
 

@@ -8,7 +8,7 @@ use Rattle.loop_form.specs.Lanes.{widest}
 use Rattle.loop_form.specs.Needs.{constants, most_live, needs_of}
 use Rattle.dependence.specs.declared.reason.Class.TheVariants.{Vector}
 use Rattle.dependence.specs.Classes.{before_break, carried, class_of}
-use Rattle.kernel_compile.specs.Refusals.{too_many}
+use Rattle.promises.specs.Refusals.{too_many}
 use Rattle.sweep_kernel.specs.Tree.{kernel_with}
 
 -- no rule fails: the literals are in range, and the offset is near

@@ -17,8 +17,8 @@ use Rattle.kernel_tree.specs.Items.{size_of}
 use Rattle.kernel_meaning.specs.ScalarRun as scalar
 use Rattle.kernel_meaning.specs.ScalarRun.{begun, scalar_run}
 use Rattle.dependence.specs.Bound.{slow_bound}
-use Rattle.kernel_compile.specs.Faithful.{IsStart, Follows, SlowFaithful}
-use Rattle.kernel_compile.proofs.Promises.{without_stops}
+use Rattle.promises.specs.Faithful.{IsStart, Follows, SlowFaithful}
+use Rattle.promises.proofs.Promises.{without_stops}
 use Rattle.sweep_kernel.specs.Numbers.{next, state_at, random, initial_of, offset_of, level_of, factor_of, count_of, arguments_of}
 use Rattle.sweep_kernel.specs.Tree.{kernel_with, kernel_of}
 use Rattle.sweep_kernel.specs.Pages.{pages_of}

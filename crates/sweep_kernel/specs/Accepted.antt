@@ -1,7 +1,7 @@
 -- A sweep's kernel is compiled whatever its seed.
 use Rattle.std.specs.Prelude.{◌≡◌, ℕ, None}
 use Rattle.kernel_front.specs.Verdict.{Sound, IsVerdict}
-use Rattle.kernel_compile.specs.Refusals.{too_many}
+use Rattle.promises.specs.Refusals.{too_many}
 use Rattle.sweep_kernel.specs.KernelText.{kernel_text}
 use Rattle.sweep_kernel.specs.Tree.{kernel_of}
 

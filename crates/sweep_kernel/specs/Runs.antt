@@ -6,7 +6,7 @@ use Rattle.machine_model.specs.Run.{End, machine_run}
 use Rattle.machine_model.specs.Written.{file_of, image_of_words}
 use Rattle.kernel_meaning.specs.ScalarRun as scalar
 use Rattle.kernel_meaning.specs.ScalarRun.{scalar_run}
-use Rattle.kernel_compile.specs.Faithful.{SlowFaithful}
+use Rattle.promises.specs.Faithful.{SlowFaithful}
 use Rattle.sweep_kernel.specs.Numbers.{count_of, arguments_of}
 use Rattle.sweep_kernel.specs.Tree.{kernel_of}
 use Rattle.sweep_kernel.specs.Pages.{pages_of}

@@ -10,9 +10,9 @@ use Rattle.kernel_front.specs.declared.fault.KernelFault.TheVariants.{Unread, Br
 use Rattle.kernel_front.specs.Verdict.{Verdict, Sound, IsVerdict, Explains}
 use Rattle.kernel_front.proofs.OneVerdict.{one_verdict}
 use Rattle.reg_assign.specs.declared.interval.RegClass.{RegClass}
-use Rattle.kernel_compile.specs.declared.fault.CompileFault.{CompileFault}
-use Rattle.kernel_compile.specs.declared.fault.CompileFault.TheVariants.{TooManyLive}
-use Rattle.kernel_compile.specs.Refusals.{too_many, IsRefusal}
+use Rattle.promises.specs.declared.fault.CompileFault.{CompileFault}
+use Rattle.promises.specs.declared.fault.CompileFault.TheVariants.{TooManyLive}
+use Rattle.promises.specs.Refusals.{too_many, IsRefusal}
 use Rattle.machine_model.specs.declared.elf_fault.ElfFault.{ElfFault}
 use Rattle.machine_model.specs.declared.elf_fault.ElfFault.TheVariants as loading
 use Rattle.machine_model.specs.Load.{Image, load}

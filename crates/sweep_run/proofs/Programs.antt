@@ -4,7 +4,7 @@ use Rattle.guest_types.specs.Memory.{DoNotMeet}
 use Rattle.machine_model.specs.Load.{Image, Segment, load, pages_from, pages_of as segment_pages}
 use Rattle.machine_model.specs.Written.{file_of, whole, image_of_words}
 use Rattle.kernel_tree.specs.Plain.{Program}
-use Rattle.kernel_compile.specs.Faithful.{Faithful, SlowFaithful, FreeFaithful}
+use Rattle.promises.specs.Faithful.{Faithful, SlowFaithful, FreeFaithful}
 use Rattle.sweep_kernel.specs.Tree.{kernel_of}
 use Rattle.sweep_kernel.specs.Pages.{pages_of}
 use Rattle.sweep_kernel.specs.Runs.{FaithfulEnds}

@@ -4,7 +4,7 @@ use Rattle.std.specs.List.{range_with_len}
 use Rattle.machine_model.specs.Machine.{State}
 use Rattle.machine_model.specs.Run.{Outcome, End, Stop, Spent, run, machine_run}
 use Rattle.machine_model.specs.Written.{file_of}
-use Rattle.kernel_compile.specs.Faithful.{FreeFaithful, FreeEnds}
+use Rattle.promises.specs.Faithful.{FreeFaithful, FreeEnds}
 use Rattle.sweep_kernel.specs.Numbers.{arguments_of}
 use Rattle.sweep_kernel.specs.Tree.{kernel_of}
 use Rattle.sweep_kernel.specs.Pages.{pages_of, sum_of}

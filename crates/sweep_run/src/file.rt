@@ -3,18 +3,19 @@
 ghost use Rattle.std.specs.Prelude.{◌≡◌, IfOk};
 ghost use Rattle.loop_form.specs.View.{program};
 ghost use Rattle.kernel_front.specs.Verdict.{Verdict, IsVerdict, Explains};
-ghost use Rattle.kernel_compile.specs.Refusals.{IsRefusal};
+ghost use Rattle.promises.specs.Refusals.{IsRefusal};
 ghost use Rattle.sweep_kernel.specs.KernelText.{kernel_text};
 ghost use Rattle.sweep_kernel.specs.Tree.{kernel_of};
 ghost use Rattle.sweep_run.specs.SweepText.{IsSweepFile};
 
 use elf_image::write_elf;
-use kernel_compile::{CompileFault, compile_kernel};
+use kernel_compile::compile_kernel;
 use kernel_front::{KernelFault, accept};
 use kernel_syntax::ReadFault;
 use kernel_tree::Checked;
 use kernel_types::TypeFault;
 use loop_form::laws::few_items;
+use promises::CompileFault;
 use std::alloc::{AllocError, Global};
 use sweep_kernel::input::kernel_text;
 use sweep_kernel::laws::accepts_sweep;

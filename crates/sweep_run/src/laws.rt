@@ -2,7 +2,7 @@
 
 ghost use Rattle.sweep_run.specs.Lines.{SweepRunsEnd, SweepLines};
 
-use kernel_compile::faithful_files;
+use promises::faithful_files;
 use sweep_kernel::laws::{faithful_ends, kernel_ends};
 
 /// The runs of a sweep's file end, and the file's pages are not those of the number.

@@ -10,7 +10,7 @@ use Rattle.label_fix.specs.DraftRun.{Entry, Laid}
 use Rattle.label_fix.specs.Stretches.{Leads}
 use Rattle.label_fix.proofs.StretchSteps.{Goes, leads_of}
 use Rattle.machine_model.specs.Run.{IsAccess}
-use Rattle.chunk_order.specs.Order.{Elsewhere}
+use Rattle.vector_order.specs.Elsewhere.{Elsewhere}
 use Rattle.chunk_emit.specs.Head.{Ground, IsGround, AtHead, width, most_lanes, limit}
 use Rattle.first_fault.proofs.Stretches.{follow, follow-cut}
 use Rattle.vector_emit.specs.VectorRuns.{Near, turn_steps}

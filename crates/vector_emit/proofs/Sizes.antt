@@ -1,17 +1,17 @@
 -- A loop has no more items than its kernel.
-use Rattle.std.proofs.Common.{◌≡◌, ℕ, suc, ◌+◌, ◌≤◌, ℤ, List, [], length, Option, Some, None, ap, ◌∙◌, arith}
+use Rattle.std.proofs.Common.{◌≡◌, ℕ, suc, ◌+◌, ◌≤◌, ℤ, List, [], ◌∷◌, length, Option, Some, None, ap, ◌∙◌, arith}
 use Rattle.std.specs.Prelude.{option_map}
 use Rattle.kernel_tree.specs.declared.ops.Ty.{Ty}
 use Rattle.kernel_tree.specs.Plain.{Term, Literal, Variable, Element, Unary, Operation, Shift, Conversion, Choice, Comparison, Both, Either, Not, Action, Define, Put, Update, Choose, Leave, Block, Done, Then, Otherwise, Nothing, Else, PlainLoop, Program}
-use Rattle.kernel_tree.specs.Items.{stream_offset, index_items, term_size, action_size, block_size, otherwise_size, index_of, turns_size, size_of, loop_start}
-use Rattle.kernel_tree.specs.Typing.{Scope, own, first, side_type, after_action, after_block, left, in_loop, var_scope}
+use Rattle.kernel_tree.specs.Items.{stream_offset, index_size, index_items, term_size, action_size, block_size, otherwise_size, index_of, turns_size, size_of, loop_start}
+use Rattle.kernel_tree.specs.Typing.{Scope, own, first, index_type, side_type, after_action, after_block, left, in_loop, var_scope}
 use Rattle.kernel_tree.proofs.Scopes.{index_after, scope_index}
 use Rattle.loop_form.specs.declared.loop_item.Source.{Source}
-use Rattle.loop_form.specs.LoopItems.{Bound, Item, array_type, accumulator_of, truth_home, load_item, store_item, term_items, cond_items, after_env, action_items, block_items, otherwise_items, loop_env, loop_items}
+use Rattle.loop_form.specs.LoopItems.{Bound, Item, array_type, accumulator_of, truth_home, load_item, gather_item, store_item, term_items, cond_items, after_env, action_items, block_items, otherwise_items, loop_env, loop_items}
 
-load_few : (scope : Scope) (mask : Option ℕ) (q : ℕ) (env : List Bound) (a : List ℕ) (o : Option ℤ) (rest : List Item) → length (load_item scope mask q env a o rest) ≤ 1 + length rest
-load_few scope mask q env a None rest = omega arith
-load_few scope mask q env a (Some c) rest = omega arith
+load_few : (scope : Scope) (mask : Option ℕ) (q : ℕ) (env : List Bound) (a : List ℕ) (o : Option ℤ) (gathered rest : List Item) (n : ℕ) → length gathered ≤ n + suc (length rest) → length (load_item scope mask q env a o gathered rest) ≤ index_size o n + 1 + length rest
+load_few scope mask q env a None gathered rest n h = omega (arith, h)
+load_few scope mask q env a (Some c) gathered rest n h = omega arith
 
 store_few : (scope : Scope) (mask : Option ℕ) (q : ℕ) (env : List Bound) (a : List ℕ) (o : Option ℤ) (v : Source) (rest : List Item) → length (store_item scope mask q env a o v rest) ≤ 1 + length rest
 store_few scope mask q env a None v rest = omega arith
@@ -37,7 +37,7 @@ term_few : (t : Term) → TermFew t
 term_few (Literal n) = record { as_value = λ s want mask b env rest. omega arith; as_cond = λ s mask b env rest. omega arith }
 term_few (Variable x) = record { as_value = λ s want mask b env rest. omega arith; as_cond = λ s mask b env rest. omega arith }
 term_few (Element a j) = record {
-  as_value = λ s want mask b env rest. let h = load_few s mask (b + index_items s.index j) env a (stream_offset s.index j) rest in omega (arith, h);
+  as_value = λ s want mask b env rest. load_few s mask (b + index_items s.index j) env a (stream_offset s.index j) (term_items s (index_type s j) mask b env j (gather_item s mask b (b + index_items s.index j) env a j ∷ rest)) rest (term_size s.index j) ((term_few j).as_value s (index_type s j) mask b env _);
   as_cond = λ s mask b env rest. omega arith;
 }
 term_few (Unary op e) = record {

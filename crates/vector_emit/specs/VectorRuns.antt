@@ -14,7 +14,7 @@ use Rattle.label_fix.specs.Stretches.{Resolves, StopsPaced, EndsPaced}
 use Rattle.reg_assign.specs.declared.interval.RegClass.TheVariants.{X}
 use Rattle.reg_assign.specs.Registers.{Assignment}
 use Rattle.loop_form.specs.Registers.{FitsKernel}
-use Rattle.chunk_order.specs.Order.{Elsewhere}
+use Rattle.vector_order.specs.Elsewhere.{Elsewhere}
 use Rattle.scalar_emit.specs.Kernel.{register_in}
 use Rattle.scalar_emit.specs.Runs.{AtIteration, Comes}
 use Rattle.chunk_emit.specs.Head.{Ground, IsGround, most_lanes, limit}

@@ -6,7 +6,7 @@ use Rattle.std.specs.List.{list_any}
 use Rattle.std.proofs.lemmas.Int.{ints}
 use Rattle.kernel_tree.specs.Plain.{Variable, Element, Put, Done, Then, Program}
 use Rattle.loop_form.specs.Streams.{streams_of, is_of}
-use Rattle.chunk_order.specs.Apart.{is_store_of, base_of, Within, IsBase, StreamsApart}
+use Rattle.vector_order.specs.Apart.{is_store_of, base_of, Within, IsBase, StreamsApart}
 use Rattle.kernel_tree.specs.declared.ops.Ty.TheVariants as ty
 use Rattle.kernel_tree.specs.declared.ast.Shape.TheVariants as shape
 
@@ -57,4 +57,4 @@ apart_at p (suc zero) e le ne z v w = ne e
 apart_at p (suc (suc q)) e le ne z v w = omega arith
 
 copy-apart : StreamsApart copy args
-copy-apart = inr (inr (record { few = omega arith; based = λ p e. bases p (at_most_one p e); apart = λ p q s u ne z v w. apart_at p q (stored_one p s) (at_most_one q u) ne z v w }))
+copy-apart = inr (inr (record { few = omega arith; based = λ p e. bases p (at_most_one p e); apart = λ p q s u ne z v w. apart_at p q (stored_one p s) (at_most_one q u) ne z v w; read_based = λ r i. elim i [ ]; read_apart = λ p r s i ne z v w. elim i [ ] }))

@@ -13,8 +13,8 @@ use Rattle.kernel_meaning.specs.ScalarRun.{started}
 use Rattle.loop_form.specs.Entries.{item_type}
 use Rattle.loop_form.specs.Lanes.{widest}
 use Rattle.dependence.specs.declared.reason.Class.TheVariants.{Vector}
-use Rattle.dependence.specs.Classes.{before_break, carried, class_of}
-use Rattle.chunk_order.specs.Apart.{StreamsApart}
+use Rattle.dependence.specs.Classes.{before_break, computed_index, carried, class_of}
+use Rattle.vector_order.specs.Apart.{StreamsApart}
 use Rattle.vector_order.specs.Order.{Steady, SameChunk}
 use Rattle.vector_order.proofs.OrderLaw.{vector_order}
 
@@ -53,11 +53,11 @@ checked : check_fault kernel ≡ None
 checked = refl
 
 vector : class_of kernel ≡ Vector
-unfolding item_type widest before_break carried
+unfolding item_type widest before_break computed_index carried
 vector = refl
 
 apart : StreamsApart kernel (65536 ∷ 300 ∷ [])
-apart = inr (inl refl)
+apart = inr (inl (record { streams = refl; reads = λ s r i j. elim j [ ] }))
 
 abbrev names : Names
 names = named a (pos 65536) ∷ named n (pos 300) ∷ named c (pos 0) ∷ []

@@ -1,5 +1,5 @@
 -- What is known at the head of a checked kernel's loop.
-use Rattle.std.proofs.Common.{◌≡◌, ℕ, ◌+◌, Bool, true, false, cond, List, [], ◌∷◌, ◌++◌, Some, None, refl, sym, ap, ap₂, ◌∙◌, subst}
+use Rattle.std.proofs.Common.{◌≡◌, ℕ, Bool, true, false, cond, List, [], ◌∷◌, ◌++◌, Some, None, refl, sym, ap, ap₂, ◌∙◌, subst}
 use Rattle.std.specs.Prelude.{bytes_eq, find, option_map, option_and_then, ◌||◌}
 use Rattle.std.specs.List.{list_any}
 use Rattle.kernel_tree.specs.declared.ops.Ty.{Ty}

@@ -7,13 +7,15 @@ use Rattle.kernel_meaning.specs.Operators.{binary_value}
 use Rattle.kernel_meaning.specs.Eval.{Named, Names, is_named, value_of, value_at, iteration}
 use Rattle.kernel_meaning.specs.Iterate.{named, assigned}
 use Rattle.kernel_meaning.proofs.NameLists.{assigned-names, assigned-length, assigned-front, value_at-front}
-use Rattle.chunk_order.specs.Orders.{Share, Lane}
+use Rattle.vector_order.specs.Orders.{Share, Lane}
 use Rattle.loop_form.specs.LoopItems.{Bound, source_at}
-use Rattle.chunk_order.specs.Items.{source_value}
-use Rattle.chunk_order.proofs.HeldNames.{source_at-append}
+use Rattle.vector_order.specs.Operands.{source_value}
+use Rattle.vector_order.proofs.HeldNames.{source_at-append}
 use Rattle.kernel_tree.proofs.Names.{bytes_told}
-use Rattle.chunk_order.proofs.LaneValues.{EnvBelow, source_agree}
+use Rattle.vector_order.proofs.LaneValues.{EnvBelow, source_agree}
 use Rattle.vector_order.specs.Shares.{apply_shares}
+use Rattle.kernel_tree.specs.Typing.{Local}
+use Rattle.vector_order.proofs.NamesTyped.{Typed, typed_assigned}
 use Rattle.vector_order.proofs.Terms.{Kept, Held}
 use Rattle.loop_form.specs.declared.loop_item.Source.TheVariants as sources
 
@@ -69,6 +71,10 @@ module _ (is_acc : List ℕ → Bool) where
 
   pub cut_apply : (shares : List Share) (ns more : Names) → take (length ns) (apply_shares shares ns ++ more) ≡ apply_shares shares ns
   cut_apply shares ns more = ap (λ n. take n (apply_shares shares ns ++ more)) (sym (apply-length shares ns)) ∙ take-append_seam (apply_shares shares ns) more
+
+  pub typed_apply : (shares : List Share) (ls : List Local) (ns : Names) → AllAcc shares → Typed is_acc ls ns → Typed is_acc ls (apply_shares shares ns)
+  typed_apply [] ls ns a h = h
+  typed_apply (s ∷ shares) ls ns a h = typed_apply shares ls (assigned s.name (binary_value s.op s.type (value_at ns s.name) s.value) ns) a.1 (typed_assigned is_acc ls ns s.name (binary_value s.op s.type (value_at ns s.name) s.value) a.0 h)
 
   module _ (names : Names) (i : ℕ) where
     -- the names, and where each value is held, but those of accumulators

@@ -1,25 +1,26 @@
--- A checked kernel of class Vector: values and conditions stand where they are wanted, reads are by stream indexes, and no
--- accumulator is read.
+-- A checked kernel of class Vector: values and conditions stand where they are wanted, and no accumulator is read.
 use Rattle.std.proofs.Common.{◌≡◌, ℕ, ◌+◌, Bool, true, false, cond, List, [], ◌∷◌, ◌++◌, Option, Some, None, refl, sym, ap, ap₂, ◌∙◌, subst}
 use Rattle.std.specs.Prelude.{ℤ, bytes_eq, find, option_map, option_and_then, is_none, ◌||◌}
 use Rattle.std.specs.List.{list_any}
 use Rattle.kernel_tree.specs.declared.ops.Ty.{Ty}
 use Rattle.kernel_tree.specs.Plain.{Term, Literal, Variable, Element, Unary, Operation, Shift, Conversion, Choice, Comparison, Both, Either, Not, Action, Define, Put, Update, Choose, Leave, Block, Done, Then, Otherwise, Nothing, Else, Accumulator, Program}
 use Rattle.kernel_tree.specs.Items.{stream_offset, loop_index, index_items, term_size, action_size, block_size}
-use Rattle.kernel_tree.specs.Typing.{Scope, Local, local, Role, wanted, Value, Condition, has_name, binding_of, lookup, own, first, accumulator_type, index_type, side_type, as_value, read_faults, inner_faults, index_faults, target_faults, faults, action_faults, block_faults, otherwise_faults, defined, after_action, after_block, after_otherwise, left}
+use Rattle.kernel_tree.specs.Typing.{Scope, Local, local, Role, wanted, Value, Condition, has_name, binding_of, lookup, own, first, accumulator_type, index_type, side_type, as_value, read_faults, inner_faults, index_faults, mismatch, untyped, target_faults, faults, action_faults, block_faults, otherwise_faults, defined, after_action, after_block, after_otherwise, left}
 use Rattle.kernel_tree.proofs.Faultless.{nil-left, nil-right}
 use Rattle.kernel_tree.proofs.NoFault.{read_some, target_some, update_some, stream_some}
 use Rattle.kernel_tree.proofs.Names.{array_of, array_before, bytes_swap}
 use Rattle.kernel_tree.proofs.RightKinds.{value-kinds, truth-kinds}
 use Rattle.kernel_meaning.specs.Eval.{Names}
 use Rattle.loop_form.specs.Entries.{Content, IsLiteral, IsName, IsRead, IsLet, IsStore, IsUpdate, IsPlain, Entry, inner_entries, term_entries, action_entries, block_entries, otherwise_entries}
-use Rattle.dependence.specs.Classes.{is_read, accumulator_read, computed_content, is_computed}
+use Rattle.dependence.specs.Classes.{is_read, accumulator_read}
+use Rattle.kernel_tree.specs.declared.ops.Ty.TheVariants as ty
 use Rattle.loop_form.specs.Listing.{is_named, names}
 use Rattle.loop_form.specs.LoopItems.{array_type, accumulator_of}
-use Rattle.chunk_order.specs.Items.{HasOffset}
-use Rattle.chunk_order.proofs.Accesses.{or_false}
+use Rattle.vector_order.specs.Operands.{HasOffset}
+use Rattle.vector_order.proofs.OneAccess.{or_false}
 use Rattle.vector_order.specs.Order.{is_var, is_accumulator}
-use Rattle.vector_order.proofs.Terms.{IsCond, Ready, WellFormed}
+use Rattle.kernel_meaning.proofs.ValueRanges.{typed}
+use Rattle.vector_order.proofs.ReadyTerms.{Computed, IsCond, WellFormed, IsWanted, Sourced, Ready}
 use Rattle.vector_order.proofs.TermForms.{value_formed, cond_formed}
 use Rattle.vector_order.proofs.Blocks.{ReadyAction, ReadyBlock, ReadyOtherwise}
 use Rattle.kernel_tree.specs.declared.fault.Binding.TheVariants as binding
@@ -28,7 +29,6 @@ use Rattle.kernel_tree.specs.declared.fault.Binding.TheVariants as binding
 
 abbrev pub OkContent : Program → Content → Type 0
 OkContent k (IsName x) = is_accumulator k x ≡ false
-OkContent k (IsRead a i) = HasOffset (stream_offset (loop_index k) i)
 OkContent k _ = Unit {0}
 
 abbrev pub AllOk : Program → List Entry → Type 0
@@ -62,20 +62,18 @@ has_offset : (o : Option ℤ) → is_none o ≡ false → HasOffset o
 has_offset None e = absurd cc
 has_offset (Some c) e = tt
 
-pub all_ok : (k : Program) (es : List Entry) → accumulator_read es k.vars ≡ false → list_any (is_computed (loop_index k)) es ≡ false → AllOk k es
-all_ok k [] r c = tt
-all_ok k (e ∷ es) r c =
-    let parts = or_false (is_computed (loop_index k) e) (list_any (is_computed (loop_index k)) es) c in
-    (by_content e.content refl parts.0, all_ok k es (read_rest k.vars e es r) parts.1)
+pub all_ok : (k : Program) (es : List Entry) → accumulator_read es k.vars ≡ false → AllOk k es
+all_ok k [] r = tt
+all_ok k (e ∷ es) r = (by_content e.content refl, all_ok k es (read_rest k.vars e es r))
   where
-    by_content : (t : Content) → e.content ≡ t → computed_content (loop_index k) t ≡ false → OkContent k t
-    by_content (IsLiteral n) at h = tt
-    by_content (IsName x) at h = read_name k.vars x e es at r
-    by_content (IsRead a i) at h = has_offset (stream_offset (loop_index k) i) h
-    by_content (IsLet x) at h = tt
-    by_content (IsStore a i) at h = tt
-    by_content (IsUpdate x op) at h = tt
-    by_content (IsPlain p) at h = tt
+    by_content : (t : Content) → e.content ≡ t → OkContent k t
+    by_content (IsLiteral n) at = tt
+    by_content (IsName x) at = read_name k.vars x e es at r
+    by_content (IsRead a i) at = tt
+    by_content (IsLet x) at = tt
+    by_content (IsStore a i) at = tt
+    by_content (IsUpdate x op) at = tt
+    by_content (IsPlain p) at = tt
 
 -- ---- the scope
 
@@ -115,8 +113,35 @@ after_ok k (Leave c) scope ok = ok
 
 -- ---- expressions
 
+is_wanted : (t : Term) (scope : Scope) (f : ℕ) (want : Option Ty) → faults scope f (Value want) t ≡ [] → IsWanted scope want t
+is_wanted t scope f want h T e = typed t scope f T (subst (λ w. faults scope f (Value w) t ≡ []) e h)
+
+-- the operand of a cast has a type of its own
+untyped_own : (item : ℕ) (o : Option Ty) → untyped item o ≡ [] → o ≡ first o (Some ty.U64)
+untyped_own item None e = absurd cc
+untyped_own item (Some t) e = refl
+
+sourced : (t : Term) (scope : Scope) (f : ℕ) (want : Option Ty) → want ≡ index_type scope t → faults scope f (Value want) t ≡ [] → Sourced scope t
+sourced (Conversion e t) scope f want w h =
+    let item : ℕ = f + term_size scope.index e in
+    let rest = nil-right (faults scope f (Value (own scope e)) e) _ h in
+    let role = nil-right (as_value item (Value want)) _ rest in
+    let plain = nil-right (mismatch item want t) _ role in
+    sourced e scope f (own scope e) (untyped_own item (own scope e) plain) (nil-left (faults scope f (Value (own scope e)) e) _ h)
+sourced (Literal n) scope f want w h = is_wanted (Literal n) scope f (index_type scope (Literal n)) (subst (λ w. faults scope f (Value w) (Literal n) ≡ []) w h)
+sourced (Variable x) scope f want w h = is_wanted (Variable x) scope f (index_type scope (Variable x)) (subst (λ w. faults scope f (Value w) (Variable x) ≡ []) w h)
+sourced (Element a i) scope f want w h = is_wanted (Element a i) scope f (index_type scope (Element a i)) (subst (λ w. faults scope f (Value w) (Element a i) ≡ []) w h)
+sourced (Unary op e) scope f want w h = is_wanted (Unary op e) scope f (index_type scope (Unary op e)) (subst (λ w. faults scope f (Value w) (Unary op e) ≡ []) w h)
+sourced (Operation op x y) scope f want w h = is_wanted (Operation op x y) scope f (index_type scope (Operation op x y)) (subst (λ w. faults scope f (Value w) (Operation op x y) ≡ []) w h)
+sourced (Shift l e n) scope f want w h = is_wanted (Shift l e n) scope f (index_type scope (Shift l e n)) (subst (λ w. faults scope f (Value w) (Shift l e n) ≡ []) w h)
+sourced (Choice c x y) scope f want w h = is_wanted (Choice c x y) scope f (index_type scope (Choice c x y)) (subst (λ w. faults scope f (Value w) (Choice c x y) ≡ []) w h)
+sourced (Comparison op x y) scope f want w h = is_wanted (Comparison op x y) scope f (index_type scope (Comparison op x y)) (subst (λ w. faults scope f (Value w) (Comparison op x y) ≡ []) w h)
+sourced (Both x y) scope f want w h = is_wanted (Both x y) scope f (index_type scope (Both x y)) (subst (λ w. faults scope f (Value w) (Both x y) ≡ []) w h)
+sourced (Either x y) scope f want w h = is_wanted (Either x y) scope f (index_type scope (Either x y)) (subst (λ w. faults scope f (Value w) (Either x y) ≡ []) w h)
+sourced (Not e) scope f want w h = is_wanted (Not e) scope f (index_type scope (Not e)) (subst (λ w. faults scope f (Value w) (Not e) ≡ []) w h)
+
 module _ (k : Program) where
-  ready_term : (t : Term) (scope : Scope) (f g last_use : ℕ) (role : Role) → faults scope f role t ≡ [] → AllOk k (term_entries k g last_use t) → ScopeOk k scope → Ready (is_accumulator k) scope.index t
+  ready_term : (t : Term) (scope : Scope) (f g last_use : ℕ) (role : Role) → faults scope f role t ≡ [] → AllOk k (term_entries k g last_use t) → ScopeOk k scope → Ready (is_accumulator k) scope t
   ready_term (Literal n) scope f g last_use role h a ok = tt
   ready_term (Variable x) scope f g last_use role h a ok = a.0
   ready_term (Element b i) scope f g last_use role h a ok =
@@ -124,8 +149,15 @@ module _ (k : Program) where
       let outer : as_value item role ++ (read_faults item scope.inside (wanted role) (lookup scope b) ++ index_faults item (stream_offset scope.index i) (own scope i)) ≡ [] = nil-right (inner_faults (stream_offset scope.index i) (faults scope f (Value (index_type scope i)) i)) _ h in
       let read = nil-left (read_faults item scope.inside (wanted role) (lookup scope b)) _ (nil-right (as_value item role) _ outer) in
       let typed = read_some item scope.inside (wanted role) (lookup scope b) read in
-      let offset : HasOffset (stream_offset (loop_index k) i) = (ok_right k (inner_entries (stream_offset (loop_index k) i) (term_entries k g (g + index_items (loop_index k) i) i)) _ a).0 in
-      (subst (λ (j : Option (List ℕ)). HasOffset (stream_offset j i)) (sym ok.index) offset, ok.arrays b typed.0 typed.1)
+      (by_offset (stream_offset scope.index i) refl (λ none a. ready_term i scope f g (g + index_items (loop_index k) i) (Value (index_type scope i)) none a ok) (nil-left (inner_faults (stream_offset scope.index i) (faults scope f (Value (index_type scope i)) i)) _ h), ok.arrays b typed.0 typed.1)
+    where
+      by_offset : (o : Option ℤ) → stream_offset scope.index i ≡ o → (faults scope f (Value (index_type scope i)) i ≡ [] → AllOk k (term_entries k g (g + index_items (loop_index k) i) i) → Ready (is_accumulator k) scope i) → inner_faults o (faults scope f (Value (index_type scope i)) i) ≡ [] → Computed o (WellFormed i × Ready (is_accumulator k) scope i × Sourced scope i)
+      by_offset (Some c) e ih none = tt
+      by_offset None e ih none = (
+        value_formed i (value-kinds i scope f (index_type scope i) none),
+        ih none (subst (λ (o : Option ℤ). AllOk k (inner_entries o (term_entries k g (g + index_items (loop_index k) i) i))) (sym (ap (λ (j : Option (List ℕ)). stream_offset j i) ok.index) ∙ e) (ok_left k (inner_entries (stream_offset (loop_index k) i) (term_entries k g (g + index_items (loop_index k) i) i)) _ a)),
+        sourced i scope f (index_type scope i) refl none,
+      )
   ready_term (Unary op e) scope f g last_use role h a ok = ready_term e scope f g _ (Value (wanted role)) (nil-left (faults scope f (Value (wanted role)) e) _ h) (ok_left k (term_entries k g _ e) _ a) ok
   ready_term (Operation op x y) scope f g last_use role h a ok =
       let want : Role = Value (wanted role) in
@@ -169,16 +201,19 @@ module _ (k : Program) where
       )
   ready_term (Not e) scope f g last_use role h a ok = ready_term e scope f g _ Condition (nil-left (faults scope f Condition e) _ h) (ok_left k (term_entries k g _ e) _ a) ok
 
-  ready_value : (t : Term) (scope : Scope) (f g last_use : ℕ) (want : Option Ty) → faults scope f (Value want) t ≡ [] → AllOk k (term_entries k g last_use t) → ScopeOk k scope → WellFormed t × Ready (is_accumulator k) scope.index t
+  ready_value : (t : Term) (scope : Scope) (f g last_use : ℕ) (want : Option Ty) → faults scope f (Value want) t ≡ [] → AllOk k (term_entries k g last_use t) → ScopeOk k scope → WellFormed t × Ready (is_accumulator k) scope t
   ready_value t scope f g last_use want h a ok = (value_formed t (value-kinds t scope f want h), ready_term t scope f g last_use (Value want) h a ok)
 
-  ready_truth : (t : Term) (scope : Scope) (f g last_use : ℕ) → faults scope f Condition t ≡ [] → AllOk k (term_entries k g last_use t) → ScopeOk k scope → IsCond t × (WellFormed t × Ready (is_accumulator k) scope.index t)
+  ready_truth : (t : Term) (scope : Scope) (f g last_use : ℕ) → faults scope f Condition t ≡ [] → AllOk k (term_entries k g last_use t) → ScopeOk k scope → IsCond t × (WellFormed t × Ready (is_accumulator k) scope t)
   ready_truth t scope f g last_use h a ok = let formed = cond_formed t (truth-kinds t scope f h) in (formed.1, (formed.0, ready_term t scope f g last_use Condition h a ok))
 
   module _ (ns : Names) (i : ℕ) where
     mutual
       ready_action : (s : Action) (scope : Scope) (f g : ℕ) → action_faults scope f s ≡ [] → AllOk k (action_entries k g s) → ScopeOk k scope → ReadyAction ns i (is_accumulator k) scope s
-      ready_action (Define x t e) scope f g h a ok = ready_value e scope f g (g + term_size (loop_index k) e) (first t (own scope e)) (nil-left (faults scope f (Value (first t (own scope e))) e) _ h) (ok_left k (term_entries k g (g + term_size (loop_index k) e) e) _ a) ok
+      ready_action (Define x t e) scope f g h a ok =
+          let none = nil-left (faults scope f (Value (first t (own scope e))) e) _ h in
+          let value = ready_value e scope f g (g + term_size (loop_index k) e) (first t (own scope e)) none (ok_left k (term_entries k g (g + term_size (loop_index k) e) e) _ a) ok in
+          (value.0, value.1, is_wanted e scope f (first t (own scope e)) none)
       ready_action (Put b j e) scope f g h a ok =
           let item : ℕ = f + term_size scope.index e in
           let value = ready_value e scope f g (g + term_size (loop_index k) e) (array_type scope b) (nil-left (faults scope f (Value (array_type scope b)) e) _ h) (ok_left k (term_entries k g (g + term_size (loop_index k) e) e) _ a) ok in

@@ -11,7 +11,7 @@ use Rattle.kernel_meaning.specs.ScalarRun.{started}
 use Rattle.loop_form.specs.LoopItems.{Op, Quit, Item, loop_items}
 use Rattle.dependence.specs.Classes.{class_of}
 use Rattle.dependence.specs.declared.reason.Class.TheVariants.{Vector}
-use Rattle.chunk_order.specs.Orders.{Lane, Effect, Halts, Keeps, Writes}
+use Rattle.vector_order.specs.Orders.{Lane, Effect, Halts, Keeps, Writes}
 use Rattle.vector_order.specs.Items.{item_act}
 use Rattle.vector_order.specs.Order.{Steady}
 

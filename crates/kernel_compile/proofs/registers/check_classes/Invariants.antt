@@ -1,5 +1,5 @@
 use Rattle.std.proofs.Common.{◌≡◌, drop}
-use Rattle.kernel_compile.specs.Refusals.{exceeded}
+use Rattle.promises.specs.Refusals.{exceeded}
 use Rattle.kernel_compile.proofs.registers.check_classes.Given as goal
 
 abbrev pub invariant-loop-class : goal.invariant-loop-class

@@ -3,7 +3,7 @@ use Rattle.kernel_tree.specs.Plain.{program_of}
 use Rattle.kernel_tree.specs.Checked.{kernel_of}
 use Rattle.loop_form.specs.View.{program}
 use Rattle.machine_model.specs.Written.{file_of}
-use Rattle.kernel_compile.specs.Faithful.{FreeFaithful, FreeEnds}
+use Rattle.promises.specs.Faithful.{FreeFaithful, FreeEnds}
 use Rattle.sve_top.specs.Commands.{compiled_by}
 use Rattle.sve_top.proofs.Expectations.{refuses_compile}
 use Rattle.sve_top.proofs.compile.executable.Goals as goal

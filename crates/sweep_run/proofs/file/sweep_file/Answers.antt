@@ -1,8 +1,8 @@
 use Rattle.std.proofs.Common.{sym, ap, ◌∙◌, subst, arith}
 use Rattle.loop_form.specs.View.{program}
 use Rattle.machine_model.specs.Written.{file_of}
-use Rattle.kernel_compile.specs.Faithful.{FreeFaithful, FreeEnds}
-use Rattle.kernel_compile.specs.Refusals.{IsRefusal}
+use Rattle.promises.specs.Faithful.{FreeFaithful, FreeEnds}
+use Rattle.promises.specs.Refusals.{IsRefusal}
 use Rattle.sweep_run.proofs.file.sweep_file.Goals as goal
 
 pub compiling_failed-requires : goal.compiling_failed-requires

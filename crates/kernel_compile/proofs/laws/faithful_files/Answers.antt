@@ -1,5 +1,0 @@
-use Rattle.kernel_compile.proofs.Promises as promises
-use Rattle.kernel_compile.proofs.laws.faithful_files.Goals as goal
-
-pub returns : goal.returns
-returns c = record { free = promises.free; slow = promises.slow; free_slow = promises.free_slow; ends = promises.free_ends }

@@ -1,0 +1,8 @@
+pub mod StepLists
+pub mod ListWalks
+pub mod HeldSlots
+pub mod ResolvedValues
+pub mod ResolvedStatements
+pub mod ResolvedRuns
+pub mod LimitedRuns
+pub mod IterationWalks

@@ -1,0 +1,173 @@
+-- Resolved statements do what their statements do.
+use Rattle.std.proofs.Common.{◌≡◌, ℕ, ◌+◌, ◌≤◌, List, [], ◌∷◌, Bool, true, false, Option, Some, None, Result, Ok, Err, length, take, refl, sym, subst, ◌∙◌, arith}
+use Rattle.std.specs.Prelude.{ℤ, option_and_then, slice_set}
+use Rattle.std.proofs.lemmas.List.{length-set, set_past, length-append}
+use Rattle.kernel_tree.specs.declared.ops.Ty.{Ty}
+use Rattle.kernel_tree.specs.declared.ops.UpdateOp.{UpdateOp}
+use Rattle.kernel_tree.specs.declared.fault.Binding.TheVariants as binding
+use Rattle.kernel_tree.specs.Items.{stream_offset}
+use Rattle.kernel_tree.specs.Plain.{Action, Define, Put, Update, Choose, Leave, Block, Done, Then, Otherwise, Nothing, Else}
+use Rattle.kernel_tree.specs.Typing.{Scope, local, first, own, lookup, element_type, accumulator_type, index_type, left, defined, after_action, after_block}
+use Rattle.guest_types.specs.declared.memory.AccessFault.{AccessFault}
+use Rattle.guest_types.specs.Memory.{Memory, stored}
+use Rattle.kernel_meaning.specs.Ends.{BlockEnd, Next, Broke, Faulted}
+use Rattle.kernel_meaning.specs.Operators.{word, binary_value, operator_of}
+use Rattle.kernel_meaning.specs.Eval.{Names, value_at, address, byte_count, iteration, element_number, on_both, value, holds}
+use Rattle.kernel_meaning.specs.Iterate.{with_name, assigned, cut, define, update, write, put, choose, leave, then_do, act, do_block, do_otherwise}
+use Rattle.kernel_eval.specs.Slots.{Slots, slot_at, tree_value, set_slot, write as write_slots, store, branch, quit, then_go, do_task, do_tasks}
+use Rattle.kernel_eval.specs.Resolve.{most_slots, slot_of, let_slot, number_tree, resolved, resolved_action, resolved_block, resolved_otherwise}
+use Rattle.kernel_eval.proofs.HeldSlots.{Held, value-held, assigned-held, named-held, cut-held, held-length}
+use Rattle.kernel_eval.proofs.ResolvedValues.{Alike, Neither, Words, same, number-alike, address-word}
+use Rattle.kernel_meaning.proofs.Extends.{Extends, extends_none, extends_on, visible_after, visible_block}
+
+-- two turns that leave the same memory, and in the slots what the names have: those of the scope after the statements, or
+-- of a wider one than theirs where a `break` ended the loop
+pub data Matches (s t : Scope) : BlockEnd Names → BlockEnd Slots → Type 0 where
+  Nexts : (m : Memory) (ns : Names) (vs : Slots) → Held t.visible ns vs → length vs ≡ most_slots → Matches s t (Next m ns) (Next m vs)
+  Breaks : (m : Memory) (ns : Names) (vs : Slots) (u : Scope) → Extends s.visible u.visible → Held u.visible ns vs → length vs ≡ most_slots → Matches s t (Broke m ns) (Broke m vs)
+  Faults : (m : Memory) → Matches s t (Faulted m) (Faulted m)
+
+-- the same after a block
+pub data Closed (s : Scope) : BlockEnd Names → BlockEnd Slots → Type 0 where
+  NextsIn : (m : Memory) (ns : Names) (vs : Slots) → Held s.visible ns vs → length vs ≡ most_slots → Closed s (Next m ns) (Next m vs)
+  BreaksIn : (m : Memory) (ns : Names) (vs : Slots) → Held s.visible ns vs → length vs ≡ most_slots → Closed s (Broke m ns) (Broke m vs)
+  FaultsIn : (m : Memory) → Closed s (Faulted m) (Faulted m)
+
+-- ---- statements, by what their expressions give
+
+define-same : (s : Scope) (x : List ℕ) (want : Option Ty) (m : Memory) (ns : Names) (vs : Slots) (o : Option ℤ) → Held s.visible ns vs → length vs ≡ most_slots → length s.visible + 1 ≤ most_slots → Matches s (defined s x want) (define x want m ns o) (set_slot (let_slot s want) m vs o)
+define-same s x None m ns vs None h l room = Faults m
+define-same s x (Some t) m ns vs None h l room = Faults m
+define-same s x None m ns vs (Some v) h l room =
+    Nexts m ns (slice_set vs most_slots v) (subst (λ ws. Held s.visible ns ws) (sym (set_past vs most_slots v (omega arith))) h) (length-set vs most_slots v ∙ l)
+define-same s x (Some t) m ns vs (Some v) h l room =
+    Nexts m (with_name x ns v) (slice_set vs (length s.visible) v) (named-held s.visible ns vs x (binding.Value t) v h (omega arith)) (length-set vs (length s.visible) v ∙ l)
+
+update-same : (s : Scope) (x : List ℕ) (op : UpdateOp) (want : Option Ty) (m : Memory) (ns : Names) (vs : Slots) (o : Option ℤ) → Held s.visible ns vs → length vs ≡ most_slots → Matches s s (update x op want m ns o) (set_slot (slot_of s x) m vs (on_both (binary_value (operator_of op) want) (Some (slot_at vs (slot_of s x))) o))
+update-same s x op want m ns vs None h l = Faults m
+update-same s x op want m ns vs (Some v) h l =
+    subst (λ w. Matches s s (update x op want m ns (Some v)) (Next m (slice_set vs (slot_of s x) (binary_value (operator_of op) want w v)))) (sym (value-held s.visible ns vs x h (omega arith)))
+    (Nexts m (assigned x (binary_value (operator_of op) want (value_at ns x) v) ns) (slice_set vs (slot_of s x) (binary_value (operator_of op) want (value_at ns x) v)) (assigned-held s.visible ns vs x (binary_value (operator_of op) want (value_at ns x) v) h) (length-set vs (slot_of s x) (binary_value (operator_of op) want (value_at ns x) v) ∙ l))
+
+write-same : (s : Scope) (m : Memory) (ns : Names) (vs : Slots) (r : Result Memory AccessFault) → Held s.visible ns vs → length vs ≡ most_slots → Matches s s (write m ns r) (write_slots m vs r)
+write-same s m ns vs (Ok after) h l = Nexts after ns vs h l
+write-same s m ns vs (Err f) h l = Faults m
+
+put-alike : (s : Scope) (t : Option Ty) (base : ℤ) (m : Memory) (ns : Names) (vs : Slots) (v x y : Option ℤ) → Alike y x → Held s.visible ns vs → length vs ≡ most_slots → Matches s s (put t base m ns v x) (store t base m vs v y)
+put-alike s t base m ns vs None x y a h l = Faults m
+put-alike s t base m ns vs (Some v) _ _ Neither h l = Faults m
+put-alike s None base m ns vs (Some v) _ _ (Words y x e) h l = Faults m
+put-alike s (Some t) base m ns vs (Some v) _ _ (Words y x e) h l =
+    subst (λ a. Matches s s (write m ns (stored m (address t base x) (byte_count t) (word v))) (write_slots m vs (stored m a (byte_count t) (word v)))) (sym (address-word t base y x e))
+    (write-same s m ns vs (stored m (address t base x) (byte_count t) (word v)) h l)
+
+leave-same : (s : Scope) (m : Memory) (ns : Names) (vs : Slots) (o : Option Bool) → Held s.visible ns vs → length vs ≡ most_slots → Matches s s (leave m ns o) (quit m vs o)
+leave-same s m ns vs None h l = Faults m
+leave-same s m ns vs (Some true) h l = Breaks m ns vs s (extends_none s.visible) h l
+leave-same s m ns vs (Some false) h l = Nexts m ns vs h l
+
+narrow : (s u : Scope) (n : ℕ) (ns : Names) (vs : Slots) → Extends s.visible u.visible → n ≡ length s.visible → Held u.visible ns vs → Held s.visible (take n ns) vs
+narrow s u n ns vs g e h = subst (λ k. Held s.visible (take k ns) vs) (sym e) (cut-held s.visible g.more ns vs (subst (λ ls. Held ls ns vs) g.is h))
+
+pub cut-same : (s t : Scope) (n : ℕ) (turn : BlockEnd Names) (stand : BlockEnd Slots) → Matches s t turn stand → Extends s.visible t.visible → n ≡ length s.visible → Closed s (cut n turn) stand
+cut-same s t n _ _ (Nexts m ns vs h l) g e = NextsIn m (take n ns) vs (narrow s t n ns vs g e h) l
+cut-same s t n _ _ (Breaks m ns vs u w h l) g e = BreaksIn m (take n ns) vs (narrow s u n ns vs w e h) l
+cut-same s t n _ _ (Faults m) g e = FaultsIn m
+
+reopen : (s t : Scope) (turn : BlockEnd Names) (stand : BlockEnd Slots) → t.visible ≡ s.visible → Closed s turn stand → Matches s t turn stand
+reopen s t _ _ e (NextsIn m ns vs h l) = Nexts m ns vs (subst (λ ls. Held ls ns vs) (sym e) h) l
+reopen s t _ _ e (BreaksIn m ns vs h l) = Breaks m ns vs s (extends_none s.visible) h l
+reopen s t _ _ e (FaultsIn m) = Faults m
+
+branch-same : (s t : Scope) (m : Memory) (o : Option Bool) (one other : BlockEnd Names) (a b : BlockEnd Slots) → Matches s t one a → Matches s t other b → Matches s t (choose m o one other) (branch m o a b)
+branch-same s t m None one other a b p q = Faults m
+branch-same s t m (Some true) one other a b p q = p
+branch-same s t m (Some false) one other a b p q = q
+
+pub widen : (r s t : Scope) (turn : BlockEnd Names) (stand : BlockEnd Slots) → Extends r.visible s.visible → Matches s t turn stand → Matches r t turn stand
+widen r s t _ _ g (Nexts m ns vs h l) = Nexts m ns vs h l
+widen r s t _ _ g (Breaks m ns vs u w h l) = Breaks m ns vs u (extends_on g w) h l
+widen r s t _ _ g (Faults m) = Faults m
+
+then-same : (r s t : Scope) (turn : BlockEnd Names) (stand : BlockEnd Slots) (rest : Memory → Names → BlockEnd Names) (others : Memory → Slots → BlockEnd Slots) → Matches r s turn stand → Extends r.visible s.visible → ((m : Memory) (ns : Names) (vs : Slots) → Held s.visible ns vs → length vs ≡ most_slots → Matches s t (rest m ns) (others m vs)) → Matches r t (then_do turn rest) (then_go stand others)
+then-same r s t _ _ rest others (Nexts m ns vs h l) g next = widen r s t (rest m ns) (others m vs) g (next m ns vs h l)
+then-same r s t _ _ rest others (Breaks m ns vs u w h l) g next = Breaks m ns vs u w h l
+then-same r s t _ _ rest others (Faults m) g next = Faults m
+
+-- ---- how many names statements define
+
+abbrev mutual
+  pub action_lets : Action → ℕ
+  action_lets (Define x t e) = 1
+  action_lets (Put a i e) = 0
+  action_lets (Update x op e) = 0
+  action_lets (Choose c b d) = block_lets b + otherwise_lets d
+  action_lets (Leave c) = 0
+
+  pub block_lets : Block → ℕ
+  block_lets Done = 0
+  block_lets (Then a b) = action_lets a + block_lets b
+
+  pub otherwise_lets : Otherwise → ℕ
+  otherwise_lets Nothing = 0
+  otherwise_lets (Else b) = block_lets b
+
+defined_room : (s : Scope) (x : List ℕ) (want : Option Ty) → length (defined s x want).visible ≤ length s.visible + 1
+defined_room s x None = omega arith
+defined_room s x (Some t) = omega (arith, length-append s.visible (local x (binding.Value t) ∷ []))
+
+action_room : (s : Scope) (a : Action) → length (after_action s a).visible ≤ length s.visible + action_lets a
+action_room s (Define x t e) = defined_room s x (first t (own s e))
+action_room s (Put a i e) = omega arith
+action_room s (Update x op e) = omega arith
+action_room s (Choose c b d) = omega arith
+action_room s (Leave c) = omega arith
+
+-- ---- statements
+
+mutual
+  act-same : (a : Action) (s : Scope) (m : Memory) (ns : Names) (vs : Slots) → Held s.visible ns vs → length vs ≡ most_slots → length s.visible + action_lets a ≤ most_slots → Matches s (after_action s a) (act s a m ns) (do_task (resolved_action s a) m vs)
+  act-same (Define x t e) s m ns vs h l room =
+      let want = first t (own s e) in
+      let v = (same s e m ns vs h (omega arith)).value_is want in
+      subst (λ o. Matches s (defined s x want) (define x want m ns (value s want e m ns)) (set_slot (let_slot s want) m vs o)) (sym v) (define-same s x want m ns vs (value s want e m ns) h l room)
+  act-same (Put a i e) s m ns vs h l room =
+      let type = option_and_then element_type (lookup s a) in
+      let le : length vs ≤ most_slots = omega arith in
+      let v = (same s e m ns vs h le).value_is type in
+      let inner = (same s i m ns vs h le).value_is (index_type s i) in
+      let number = number-alike s (stream_offset s.index i) (resolved s (index_type s i) i) (value s (index_type s i) i m ns) m ns vs h le inner in
+      let x = element_number (stream_offset s.index i) (iteration s.index ns) (value s (index_type s i) i m ns) in
+      let y = tree_value (number_tree s (stream_offset s.index i) (resolved s (index_type s i) i)) m vs in
+      subst (λ o. Matches s s (put type (value_at ns a) m ns (value s type e m ns) x) (store type (slot_at vs (slot_of s a)) m vs o y)) (sym v)
+      (subst (λ base. Matches s s (put type (value_at ns a) m ns (value s type e m ns) x) (store type base m vs (value s type e m ns) y)) (sym (value-held s.visible ns vs a h le))
+      (put-alike s type (value_at ns a) m ns vs (value s type e m ns) x y number h l))
+  act-same (Update x op e) s m ns vs h l room =
+      let want = option_and_then accumulator_type (lookup s x) in
+      let v = (same s e m ns vs h (omega arith)).value_is want in
+      subst (λ o. Matches s s (update x op want m ns (value s want e m ns)) (set_slot (slot_of s x) m vs (on_both (binary_value (operator_of op) want) (Some (slot_at vs (slot_of s x))) o))) (sym v) (update-same s x op want m ns vs (value s want e m ns) h l)
+  act-same (Choose c b d) s m ns vs h l room =
+      let t = left s (after_block s b) in
+      let u = after_action s (Choose c b d) in
+      let truth = (same s c m ns vs h (omega arith)).holds_is None in
+      let n = held-length s.visible ns vs h in
+      let one = cut-same s (after_block s b) (length ns) (do_block s b m ns) (do_tasks (resolved_block s b) m vs) (block-same b s m ns vs h l (omega arith)) (visible_block s b) n in
+      let other = otherwise-same d t (length ns) m ns vs h l (omega arith) n in
+      subst (λ o. Matches s u (choose m (holds s c m ns) (cut (length ns) (do_block s b m ns)) (cut (length ns) (do_otherwise t d m ns))) (branch m o (do_tasks (resolved_block s b) m vs) (do_tasks (resolved_otherwise t d) m vs))) (sym truth)
+      (branch-same s u m (holds s c m ns) (cut (length ns) (do_block s b m ns)) (cut (length ns) (do_otherwise t d m ns)) (do_tasks (resolved_block s b) m vs) (do_tasks (resolved_otherwise t d) m vs)
+      (reopen s u (cut (length ns) (do_block s b m ns)) (do_tasks (resolved_block s b) m vs) refl one)
+      (widen s t u (cut (length ns) (do_otherwise t d m ns)) (do_tasks (resolved_otherwise t d) m vs) (extends_none s.visible) (reopen t u (cut (length ns) (do_otherwise t d m ns)) (do_tasks (resolved_otherwise t d) m vs) refl other)))
+  act-same (Leave c) s m ns vs h l room =
+      let truth = (same s c m ns vs h (omega arith)).holds_is None in
+      subst (λ o. Matches s s (leave m ns (holds s c m ns)) (quit m vs o)) (sym truth) (leave-same s m ns vs (holds s c m ns) h l)
+
+  pub block-same : (b : Block) (s : Scope) (m : Memory) (ns : Names) (vs : Slots) → Held s.visible ns vs → length vs ≡ most_slots → length s.visible + block_lets b ≤ most_slots → Matches s (after_block s b) (do_block s b m ns) (do_tasks (resolved_block s b) m vs)
+  block-same Done s m ns vs h l room = Nexts m ns vs h l
+  block-same (Then a b) s m ns vs h l room =
+      let r = action_room s a in
+      then-same s (after_action s a) (after_block (after_action s a) b) (act s a m ns) (do_task (resolved_action s a) m vs) (do_block (after_action s a) b) (do_tasks (resolved_block (after_action s a) b))
+      (act-same a s m ns vs h l (omega arith)) (visible_after s a) (λ m' ns' vs' h' l'. block-same b (after_action s a) m' ns' vs' h' l' (omega arith))
+
+  otherwise-same : (d : Otherwise) (s : Scope) (n : ℕ) (m : Memory) (ns : Names) (vs : Slots) → Held s.visible ns vs → length vs ≡ most_slots → length s.visible + otherwise_lets d ≤ most_slots → n ≡ length s.visible → Closed s (cut n (do_otherwise s d m ns)) (do_tasks (resolved_otherwise s d) m vs)
+  otherwise-same Nothing s n m ns vs h l room e = cut-same s s n (Next m ns) (Next m vs) (Nexts m ns vs h l) (extends_none s.visible) e
+  otherwise-same (Else b) s n m ns vs h l room e = cut-same s (after_block s b) n (do_block s b m ns) (do_tasks (resolved_block s b) m vs) (block-same b s m ns vs h l room) (visible_block s b) e

@@ -1,0 +1,28 @@
+-- A row of steps as a list.
+use Rattle.std.proofs.Common.{◌≡◌, true, false, Some, Vec, Global, refl, sym, ap, ap₂, ◌∙◌}
+use Rattle.kernel_eval.specs.declared.node.Node.{Node}
+use Rattle.kernel_eval.specs.declared.step.Step.{Step, Row_of-Step, end_of-Step, more_of-Step, items-the_row-Step, items_hidden-the_row-Step-0}
+use Rattle.kernel_eval.specs.declared.step.Step.TheBlock.{hidden-the_row-Step-0}
+use Rattle.kernel_eval.specs.declared.step.Step.TheVariants as step
+use Rattle.guest_types.specs.Memory.{Memory}
+use Rattle.kernel_eval.specs.Trees.{Tree, Task, Tasks, Then, If, tree_of, task_of, row_of, tasks_of}
+use Rattle.kernel_eval.specs.Slots.{Slots, tree_holds, branch, do_task, do_tasks}
+
+rows : (m : _) (k : Row_of-Step m) → row_of k ≡ tasks_of (items-the_row-Step m k)
+rows m end_of-Step = refl
+rows m (more_of-Step s rest) = ap (λ (b : Tasks). Then (task_of s) b) (rows _ rest)
+
+-- the steps of a vector inside a step are those of the vector
+held_rows : (v : Vec Step Global) → row_of (hidden-the_row-Step-0 v) ≡ tasks_of v.items
+held_rows v = rows _ (hidden-the_row-Step-0 v) ∙ ap tasks_of (items_hidden-the_row-Step-0 v)
+
+pub if-is : (c : Node) (v w : Vec Step Global) → task_of (step.If c v w) ≡ If (tree_of c) (tasks_of v.items) (tasks_of w.items)
+if-is c v w = ap₂ (λ (a b : Tasks). If (tree_of c) a b) (held_rows v) (held_rows w)
+
+pub branch-true : (t : Task) (c : Tree) (a b : Tasks) (memory : Memory) (slots : Slots) → t ≡ If c a b → tree_holds c memory slots ≡ Some true → do_tasks a memory slots ≡ do_task t memory slots
+branch-true t c a b memory slots z h =
+    sym (ap (λ t. do_task t memory slots) z ∙ ap (λ o. branch memory o (do_tasks a memory slots) (do_tasks b memory slots)) h)
+
+pub branch-false : (t : Task) (c : Tree) (a b : Tasks) (memory : Memory) (slots : Slots) → t ≡ If c a b → tree_holds c memory slots ≡ Some false → do_tasks b memory slots ≡ do_task t memory slots
+branch-false t c a b memory slots z h =
+    sym (ap (λ t. do_task t memory slots) z ∙ ap (λ o. branch memory o (do_tasks a memory slots) (do_tasks b memory slots)) h)

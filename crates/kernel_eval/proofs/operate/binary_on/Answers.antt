@@ -1,0 +1,17 @@
+use Rattle.std.proofs.Common.{ap, ap₂, sym, ◌∙◌, pos}
+use Rattle.std.specs.Prelude.{bit_or}
+use Rattle.std.specs.Int.{w128}
+use Rattle.std.proofs.lemmas.Int.{to_z-of_z}
+use Rattle.guest_types.specs.declared.length.Width.TheVariants.{D}
+use Rattle.guest_types.proofs.Shifts.{or-below}
+use Rattle.kernel_meaning.specs.Operators.{word, binary_on}
+use Rattle.kernel_meaning.proofs.Residues.{word-small}
+use Rattle.kernel_eval.proofs.operate.binary_on.Goals as goal
+
+pub returns-in-Or : goal.returns-in-Or
+returns-in-Or c =
+    let a = c.word-in-Or in
+    let b = c.word-in-Or-2 in
+    ap word (word-small (bit_or a.result b.result) (or-below D a.result b.result a.type_inv b.type_inv))
+    ∙ ap₂ (λ m n. word (pos (bit_or m n))) (a.ensures ∙ ap word (to_z-of_z w128 c.args.left c.ranges.left)) (b.ensures ∙ ap word (to_z-of_z w128 c.args.right c.ranges.right))
+    ∙ sym (ap (λ o. word (binary_on o c.args.left c.args.right)) c.in-Or.is)

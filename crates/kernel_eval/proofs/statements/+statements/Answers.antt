@@ -1,0 +1,35 @@
+use Rattle.std.proofs.Common.{◌+◌, List, sym, ap, ◌∙◌, arith, drop}
+use Rattle.std.proofs.Math.ListN.{drop_of_length-le}
+use Rattle.kernel_tree.specs.declared.ast.Stmt.{Stmt}
+use Rattle.kernel_tree.specs.Plain.{action_of, block_of}
+use Rattle.kernel_tree.specs.Limits.{block_depth}
+use Rattle.kernel_scope.specs.Scopes.{scope_of, kept}
+use Rattle.kernel_eval.specs.Trees.{tasks_of, followed}
+use Rattle.kernel_eval.specs.Resolve as resolving
+use Rattle.kernel_scope.proofs.Growth.{kept-block}
+use Rattle.kernel_eval.proofs.ListWalks.{next_statement, goes_on, followed-done}
+use Rattle.kernel_eval.proofs.statements.+statements.Goals as goal
+
+pub resolve_block-loop-stmt-preserved : goal.resolve_block-loop-stmt-preserved
+resolve_block-loop-stmt-preserved t c =
+    let l = c.loop-stmt in
+    let made = c.in_ok-step.ensures in
+    let e = next_statement c.args.block.now l.stmt-index c.stmt-item.result c.loop-stmt-test.true c.stmt-item.is in
+    let step = goes_on (scope_of l.scope) (scope_of c.resolve_stmt.new.scope) l.steps.items c.push.new.self.items c.in_ok-step.step (action_of c.stmt-item.result) (block_of (drop (l.stmt-index + 1) c.args.block.now)) (block_of (drop l.stmt-index c.args.block.now)) e made.scope c.in_ok-push.ensures.items made.step in
+    record {
+      depth = omega (arith, ap block_depth e, l.invariant.depth);
+      scope = step.scope ∙ l.invariant.scope;
+      steps = step.steps ∙ l.invariant.steps;
+    }
+
+pub resolve_inner-returns-clause-scope : goal.resolve_inner-returns-clause-scope
+resolve_inner-returns-clause-scope t c =
+    let scope = scope_of c.args.scope.now in
+    let block = block_of c.args.block.now in
+    c.leave.ensures ∙ ap (kept c.visible_count-count.result) c.in_ok-steps.ensures.scope ∙ kept-block scope c.visible_count-count.result block c.visible_count-count.ensures
+
+pub resolve_block-returns-clause-steps : goal.resolve_block-returns-clause-steps
+resolve_block-returns-clause-steps t c =
+    let l = c.loop-stmt in
+    let e = drop_of_length-le c.args.block.now c.loop-stmt-test.false in
+    sym (followed-done (tasks_of l.steps.items)) ∙ ap (λ (xs : List Stmt). followed (tasks_of l.steps.items) (resolving.resolved_block (scope_of l.scope) (block_of xs))) (sym e) ∙ l.invariant.steps

@@ -1,0 +1,4 @@
+pub mod Trees
+pub mod Slots
+pub mod Resolve
+pub mod Plans

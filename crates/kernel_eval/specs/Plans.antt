@@ -1,0 +1,122 @@
+-- A resolved kernel as plain data, and what it does with a memory and the values of its slots.
+use Rattle.std.specs.Prelude.{ℕ, zero, suc, ◌+◌, ◌-◌, pos, List, [], ◌∷◌, ◌++◌, map, length, replicate, Option, Some, None, option_map, nat_lt, min, slice_set, if◌then◌else◌, true}
+use Rattle.kernel_tree.specs.declared.fault.Binding.TheVariants as binding
+use Rattle.kernel_tree.specs.Plain.{Accumulator, PlainLoop, Returned, Program}
+use Rattle.kernel_tree.specs.Typing.{Scope, declared, in_loop, after_turns, param_scope, var_scope}
+use Rattle.guest_types.specs.Memory.{Memory}
+use Rattle.kernel_meaning.specs.Ends.{BlockEnd, Next, Broke, Faulted, LoopState, Going, Left, Failed, go_on}
+use Rattle.kernel_meaning.specs.Operators.{word}
+use Rattle.kernel_meaning.specs.Eval.{Names, value_of}
+use Rattle.kernel_meaning.specs.ScalarRun.{Run, End, Fault, ended}
+use Rattle.kernel_eval.specs.Trees.{Tree, Set, Tasks, Done, Then, tree_of, tasks_of}
+use Rattle.kernel_eval.specs.Slots.{Slots, slot_at, tree_value, do_tasks}
+use Rattle.kernel_eval.specs.Resolve.{most_slots, slot_of, resolved, resolved_block}
+use Rattle.kernel_eval.specs.declared.plan.ResolvedLoop.{ResolvedLoop}
+use Rattle.kernel_eval.specs.declared.plan.Plan.{Plan}
+use Rattle.kernel_meaning.specs.declared.outcome.ScalarOutcome.{ScalarOutcome}
+use Rattle.kernel_meaning.specs.declared.outcome.ScalarOutcome.TheVariants as outcome
+use Rattle.kernel_eval.specs.declared.loop_state.LoopState.{LoopState as CodeState}
+use Rattle.kernel_eval.specs.declared.loop_state.LoopState.TheVariants as code
+
+-- a loop: the slots of its bound and of its variable
+pub record LoopPlan : Type 0 where
+  pub bound : ℕ
+  pub index : ℕ
+  pub body : Tasks
+
+pub record Planned : Type 0 where
+  pub start : Tasks
+  pub turns : Option LoopPlan
+  pub answer : Option Tree
+
+abbrev pub loop_plan_of : ResolvedLoop → LoopPlan
+loop_plan_of c = record { bound = c.bound; index = c.index; body = tasks_of c.body.items }
+
+abbrev pub planned_of : Plan → Planned
+planned_of p = record { start = tasks_of p.start.items; turns = option_map loop_plan_of p.turns; answer = option_map tree_of p.answer }
+
+-- ---- kernels
+
+abbrev pub resolved_vars : Scope → List Accumulator → Tasks
+resolved_vars scope [] = Done
+resolved_vars scope (v ∷ vs) = Then (Set (length scope.visible) (resolved scope (Some v.type) v.init)) (resolved_vars (declared scope v.name (binding.Accumulator v.type)) vs)
+
+-- the body of a loop whose variable is declared
+abbrev pub resolved_body : Scope → PlainLoop → Tasks
+resolved_body scope l = resolved_block (record scope { inside = true }) l.body
+
+abbrev pub resolved_loop : Scope → PlainLoop → LoopPlan
+resolved_loop scope l = record { bound = slot_of scope l.bound; index = length scope.visible; body = resolved_block (in_loop scope l) l.body }
+
+abbrev pub resolved_turns : Scope → Option PlainLoop → Option LoopPlan
+resolved_turns scope None = None
+resolved_turns scope (Some l) = Some (resolved_loop scope l)
+
+abbrev pub resolved_answer : Scope → Option Returned → Option Tree
+resolved_answer scope None = None
+resolved_answer scope (Some a) = Some (resolved scope (Some a.type) a.value)
+
+abbrev pub planned : Program → Planned
+planned k = record {
+  start = resolved_vars (param_scope k) k.vars;
+  turns = resolved_turns (var_scope k) k.turns;
+  answer = resolved_answer (after_turns (var_scope k) k.turns) k.answer;
+}
+
+-- ---- runs
+
+-- the slots at the start: the values of names, and zeros
+abbrev pub filled : Names → Slots
+filled names = map value_of names ++ replicate (most_slots - length names) (pos 0)
+
+abbrev pub loop_state_of : CodeState → Memory → Slots → LoopState Slots
+loop_state_of code.Going memory slots = Going memory slots
+loop_state_of (code.Left at) memory slots = Left memory slots at.number
+loop_state_of (code.Failed at) memory slots = Failed memory at.number
+
+-- iteration i
+abbrev pub turn : LoopPlan → ℕ → Memory → Slots → BlockEnd Slots
+turn l i memory slots = do_tasks l.body memory (slice_set slots l.index (pos i))
+
+-- so many iterations, from iteration i on
+unfoldable pub slot_iterations : LoopPlan → ℕ → ℕ → Memory → Slots → LoopState Slots
+slot_iterations l zero i memory slots = Going memory slots
+slot_iterations l (suc count) i memory slots = go_on (turn l i memory slots) i (slot_iterations l count (i + 1))
+
+abbrev pub slot_answer : Option Tree → Memory → Slots → Option ℕ
+slot_answer None memory slots = Some 0
+slot_answer (Some t) memory slots = option_map word (tree_value t memory slots)
+
+abbrev pub slot_closed : Option Tree → ℕ → Memory → Slots → (done begun : ℕ) → Run
+slot_closed answer index memory slots done n = ended memory n (slot_answer answer memory (slice_set slots index (pos done)))
+
+-- a run, or the memory of one that is cut short
+pub data Limited : Type 0 where
+  Ended : Run → Limited
+  Cut : Memory → Limited
+
+abbrev pub limited_of : ScalarOutcome → Memory → Limited
+limited_of (outcome.End result n) memory = Ended (End memory result n)
+limited_of (outcome.Fault n) memory = Ended (Fault memory n)
+limited_of outcome.Spent memory = Cut memory
+
+-- the end of a loop of n iterations, of which at most `limit` are done
+abbrev pub slot_finish : Option Tree → ℕ → (n limit : ℕ) → LoopState Slots → Limited
+slot_finish answer index n limit (Going memory slots) = if nat_lt limit n then Cut memory else Ended (slot_closed answer index memory slots n n)
+slot_finish answer index n limit (Left memory slots i) = Ended (slot_closed answer index memory slots i (i + 1))
+slot_finish answer index n limit (Failed memory i) = Ended (Fault memory (i + 1))
+
+abbrev pub slot_loop : Option Tree → LoopPlan → ℕ → ℕ → Memory → Slots → Limited
+slot_loop answer l limit n memory slots = slot_finish answer l.index n limit (slot_iterations l (min n limit) 0 memory slots)
+
+abbrev pub slot_turns : Option Tree → Option LoopPlan → ℕ → Memory → Slots → Limited
+slot_turns answer None limit memory slots = Ended (ended memory 0 (slot_answer answer memory slots))
+slot_turns answer (Some l) limit memory slots = slot_loop answer l limit (word (slot_at slots l.bound)) memory slots
+
+abbrev pub slot_begun : Planned → ℕ → BlockEnd Slots → Limited
+slot_begun p limit (Next memory slots) = slot_turns p.answer p.turns limit memory slots
+slot_begun p limit (Broke memory slots) = Ended (Fault memory 0)
+slot_begun p limit (Faulted memory) = Ended (Fault memory 0)
+
+abbrev pub slot_run : Planned → ℕ → Memory → Slots → Limited
+slot_run p limit memory slots = slot_begun p limit (do_tasks p.start memory slots)

@@ -1,0 +1,79 @@
+-- The resolved form of a kernel. A name's slot is its place among the visible names.
+use Rattle.std.specs.Prelude.{ℕ, suc, ℤ, List, [], ◌∷◌, length, Option, Some, None, option_and_then, if◌then◌else◌}
+use Rattle.kernel_tree.specs.declared.ops.Ty.{Ty}
+use Rattle.kernel_tree.specs.declared.ops.Ty.TheVariants as ty
+use Rattle.kernel_tree.specs.declared.ops.BinaryOp.TheVariants as binary
+use Rattle.kernel_tree.specs.Plain as plain
+use Rattle.kernel_tree.specs.Wrap.{wrap}
+use Rattle.kernel_tree.specs.Items.{stream_offset}
+use Rattle.kernel_tree.specs.Typing.{Scope, Local, has_name, lookup, own, first, element_type, accumulator_type, index_type, side_type, after_action, after_block, left}
+use Rattle.kernel_meaning.specs.Operators.{wrapped, operator_of}
+use Rattle.kernel_eval.specs.Trees.{Tree, Constant, Slot, Element, Unary, Binary, Shift, Cast, Select, Compare, And, Or, Not, Task, Set, Store, If, Break, Tasks, Done, Then}
+
+-- more slots than a checked kernel has names
+abbrev pub most_slots : ℕ
+most_slots = 1000
+
+-- the place of a name among others, and past the last slot for a name that is none of them
+abbrev pub place : List Local → List ℕ → ℕ
+place [] x = most_slots
+place (l ∷ ls) x = if has_name x l then 0 else suc (place ls x)
+
+abbrev pub slot_of : Scope → List ℕ → ℕ
+slot_of scope x = place scope.visible x
+
+abbrev pub index_slot : List Local → Option (List ℕ) → ℕ
+index_slot visible None = most_slots
+index_slot visible (Some i) = place visible i
+
+-- the number of an element at an offset from the loop variable, modulo 2^64
+abbrev pub stream_tree : Scope → ℤ → Tree
+stream_tree scope c = Binary binary.Add (Some ty.U64) (Slot (index_slot scope.visible scope.index)) (Constant c)
+
+-- the number of an element
+abbrev pub number_tree : Scope → Option ℤ → Tree → Tree
+number_tree scope (Some c) computed = stream_tree scope (wrap ty.U64 c)
+number_tree scope None computed = computed
+
+abbrev pub resolved : Scope → Option Ty → plain.Term → Tree
+resolved scope want (plain.Literal n) = Constant (wrapped want n)
+resolved scope want (plain.Variable x) = Slot (slot_of scope x)
+resolved scope want (plain.Element a i) = Element (slot_of scope a) (option_and_then element_type (lookup scope a)) (number_tree scope (stream_offset scope.index i) (resolved scope (index_type scope i) i))
+resolved scope want (plain.Unary op e) = Unary op want (resolved scope want e)
+resolved scope want (plain.Operation op a b) = Binary op want (resolved scope want a) (resolved scope want b)
+resolved scope want (plain.Shift left e n) = Shift left n want (resolved scope want e)
+resolved scope want (plain.Conversion e t) = Cast t (resolved scope (own scope e) e)
+resolved scope want (plain.Choice c a b) = Select (resolved scope None c) (resolved scope want a) (resolved scope want b)
+resolved scope want (plain.Comparison op a b) = Compare op (resolved scope (side_type scope a b) a) (resolved scope (side_type scope a b) b)
+resolved scope want (plain.Both a b) = And (resolved scope None a) (resolved scope None b)
+resolved scope want (plain.Either a b) = Or (resolved scope None a) (resolved scope None b)
+resolved scope want (plain.Not e) = Not (resolved scope None e)
+
+-- a `let` without a type, which no checked kernel has, sets no slot
+abbrev pub let_slot : Scope → Option Ty → ℕ
+let_slot scope None = most_slots
+let_slot scope (Some t) = length scope.visible
+
+-- an element of an array
+abbrev pub element_tree : Scope → List ℕ → plain.Term → Tree
+element_tree scope a i = Element (slot_of scope a) (option_and_then element_type (lookup scope a)) (number_tree scope (stream_offset scope.index i) (resolved scope (index_type scope i) i))
+
+abbrev mutual
+  pub resolved_action : Scope → plain.Action → Task
+  resolved_action scope (plain.Define x t e) = let want = first t (own scope e) in Set (let_slot scope want) (resolved scope want e)
+  resolved_action scope (plain.Put a i e) =
+      let type = option_and_then element_type (lookup scope a) in
+      Store (slot_of scope a) type (number_tree scope (stream_offset scope.index i) (resolved scope (index_type scope i) i)) (resolved scope type e)
+  resolved_action scope (plain.Update x op e) =
+      let want = option_and_then accumulator_type (lookup scope x) in
+      Set (slot_of scope x) (Binary (operator_of op) want (Slot (slot_of scope x)) (resolved scope want e))
+  resolved_action scope (plain.Choose c b d) = If (resolved scope None c) (resolved_block scope b) (resolved_otherwise (left scope (after_block scope b)) d)
+  resolved_action scope (plain.Leave c) = Break (resolved scope None c)
+
+  pub resolved_block : Scope → plain.Block → Tasks
+  resolved_block scope plain.Done = Done
+  resolved_block scope (plain.Then s b) = Then (resolved_action scope s) (resolved_block (after_action scope s) b)
+
+  pub resolved_otherwise : Scope → plain.Otherwise → Tasks
+  resolved_otherwise scope plain.Nothing = Done
+  resolved_otherwise scope (plain.Else b) = resolved_block scope b

@@ -1,0 +1,90 @@
+//! Elements of arrays.
+
+ghost use Rattle.std.specs.Prelude.{◌≡◌, ◌⊎◌, option_and_then};
+ghost use Rattle.kernel_meaning.specs.Eval as eval;
+ghost use Rattle.kernel_eval.specs.Slots.{Slots, block_end_of, store};
+
+use crate::block_end::BlockEnd;
+use guest_types::guest::GuestMemory;
+use kernel_meaning::{word, wrap};
+use kernel_tree::Ty;
+
+/// The bytes of an element.
+fn byte_count(ty: Ty) -> u32
+    ensures value { result ≡ eval.byte_count ty }
+    ensures size { (result ≡ 1) ⊎ (result ≡ 2) ⊎ (result ≡ 4) ⊎ (result ≡ 8) }
+{
+    match ty {
+        Ty::I8 | Ty::U8 => 1,
+        Ty::I16 | Ty::U16 => 2,
+        Ty::I32 | Ty::U32 => 4,
+        Ty::I64 | Ty::U64 => 8,
+    }
+}
+
+/// The address of an element, by the address of its array and its number.
+fn address(ty: Ty, base: i128, number: i128) -> u64
+    ensures { result ≡ eval.address ty base number }
+{
+    word(base).wrapping_add(u64::from(byte_count(ty)).wrapping_mul(word(number)))
+}
+
+// An element of an array.
+fn read_at<M: GuestMemory>(memory: &M, ty: Ty, base: i128, number: i128) -> Option<i128>
+    ensures { result ≡ eval.read_element (Some ty) (M.memory memory.now) base number }
+{
+    match memory.load(address(ty, base, number), byte_count(ty)) {
+        Ok(value) => Some(wrap(ty, value as i128)),
+        Err(_) => None,
+    }
+}
+
+/// An element of an array, unless its number faults or the read does.
+pub fn read<M: GuestMemory>(
+    memory: &M,
+    ty: Option<Ty>,
+    base: i128,
+    number: Option<i128>,
+) -> Option<i128>
+    ensures { result ≡ option_and_then (eval.read_element ty (M.memory memory.now) base) number }
+{
+    match (number, ty) {
+        (None, _) => None,
+        (Some(_), None) => Some(0),
+        (Some(number), Some(ty)) => read_at(memory, ty, base, number),
+    }
+}
+
+// Replaces an element of an array.
+fn write_at<M: GuestMemory>(
+    memory: &mut M,
+    ty: Ty,
+    base: i128,
+    number: i128,
+    value: i128,
+) -> BlockEnd
+    ensures { (slots : Slots) → block_end_of result (M.memory memory.new) slots
+        ≡ store (Some ty) base (M.memory memory.old) slots (Some value) (Some number) }
+{
+    match memory.store(address(ty, base, number), byte_count(ty), word(value)) {
+        Ok(()) => BlockEnd::Next,
+        Err(_) => BlockEnd::Faulted,
+    }
+}
+
+/// Replaces an element of an array, unless its number or its new value faults or the write does.
+pub fn write<M: GuestMemory>(
+    memory: &mut M,
+    ty: Option<Ty>,
+    base: i128,
+    number: Option<i128>,
+    value: Option<i128>,
+) -> BlockEnd
+    ensures { (slots : Slots) → block_end_of result (M.memory memory.new) slots
+        ≡ store ty base (M.memory memory.old) slots value number }
+{
+    match (ty, value, number) {
+        (Some(ty), Some(value), Some(number)) => write_at(memory, ty, base, number, value),
+        _ => BlockEnd::Faulted,
+    }
+}

@@ -1,0 +1,152 @@
+//! The operators.
+
+ghost use Rattle.std.specs.Prelude.{◌≡◌, ◌<◌, option_map};
+ghost use Rattle.kernel_tree.specs.Wrap as wraps;
+ghost use Rattle.kernel_meaning.specs.Operators as operators;
+ghost use Rattle.kernel_meaning.specs.Eval as eval;
+ghost use Rattle.kernel_meaning.specs.Operators.{word};
+
+use kernel_meaning::{word, wrap, wrapped};
+use kernel_tree::{BinaryOp, CompareOp, Ty, UnaryOp};
+
+// The result of an operator modulo 2^64.
+fn unary_on(op: UnaryOp, value: i128) -> i128
+    ensures { word result ≡ word (operators.unary_on op value) }
+{
+    match op {
+        UnaryOp::Neg => value.wrapping_neg(),
+        UnaryOp::Flip => !value,
+        UnaryOp::Abs => value.wrapping_abs(),
+    }
+}
+
+#[tactic(auto, using(kernel_meaning::proofs::Residues::word_rules))]
+fn binary_on(op: BinaryOp, left: i128, right: i128) -> i128
+    ensures { word result ≡ word (operators.binary_on op left right) }
+{
+    match op {
+        BinaryOp::Add => left.wrapping_add(right),
+        BinaryOp::Sub => left.wrapping_sub(right),
+        BinaryOp::Mul => left.wrapping_mul(right),
+        BinaryOp::And => (word(left) & word(right)) as i128,
+        BinaryOp::Or => (word(left) | word(right)) as i128,
+        BinaryOp::Xor => (word(left) ^ word(right)) as i128,
+        BinaryOp::Min => left.min(right),
+        BinaryOp::Max => left.max(right),
+    }
+}
+
+#[tactic(auto, using(kernel_meaning::proofs::Residues::word_rules))]
+fn shift_on(left_shift: bool, count: u32, value: i128) -> i128
+    requires { count < 64 }
+    ensures { word result ≡ word (operators.shift_on left_shift count value) }
+{
+    if left_shift {
+        (word(value) << count) as i128
+    } else {
+        value >> count
+    }
+}
+
+fn compare_on(op: CompareOp, left: i128, right: i128) -> bool
+    ensures { result ≡ operators.compare_on op left right }
+{
+    match op {
+        CompareOp::Eq => left <= right && right <= left,
+        CompareOp::Ne => !(left <= right && right <= left),
+        CompareOp::Lt => left < right,
+        CompareOp::Le => left <= right,
+        CompareOp::Gt => right < left,
+        CompareOp::Ge => right <= left,
+    }
+}
+
+#[tactic(auto, using(kernel_meaning::proofs::Residues::word_rules))]
+fn unary_at(op: UnaryOp, ty: Option<Ty>, value: i128) -> i128
+    ensures { result ≡ operators.unary_value op ty value }
+{
+    wrapped(ty, unary_on(op, value))
+}
+
+#[tactic(auto, using(kernel_meaning::proofs::Residues::word_rules))]
+fn binary_at(op: BinaryOp, ty: Option<Ty>, left: i128, right: i128) -> i128
+    ensures { result ≡ operators.binary_value op ty left right }
+{
+    wrapped(ty, binary_on(op, left, right))
+}
+
+// The count of a shift, which is below 64.
+fn shift_count(count: i128) -> u32
+    ensures value { result ≡ operators.shift_count count }
+    ensures below { result < 64 }
+{
+    (word(count) % 64) as u32
+}
+
+#[tactic(auto, using(kernel_meaning::proofs::Residues::word_rules))]
+fn shift_at(left_shift: bool, count: i128, ty: Option<Ty>, value: i128) -> i128
+    ensures { result ≡ operators.shift_value left_shift count ty value }
+{
+    wrapped(ty, shift_on(left_shift, shift_count(count), value))
+}
+
+/// What a unary operator gives at a type, unless its operand faults.
+pub fn unary(op: UnaryOp, ty: Option<Ty>, value: Option<i128>) -> Option<i128>
+    ensures { result ≡ option_map (operators.unary_value op ty) value }
+{
+    match value {
+        None => None,
+        Some(value) => Some(unary_at(op, ty, value)),
+    }
+}
+
+/// What a binary operator gives at a type, unless an operand faults.
+pub fn binary(op: BinaryOp, ty: Option<Ty>, left: Option<i128>, right: Option<i128>) -> Option<i128>
+    ensures { result ≡ eval.on_both (operators.binary_value op ty) left right }
+{
+    match (left, right) {
+        (Some(left), Some(right)) => Some(binary_at(op, ty, left, right)),
+        _ => None,
+    }
+}
+
+/// What a shift gives at a type, unless its operand faults.
+pub fn shift(left_shift: bool, count: i128, ty: Option<Ty>, value: Option<i128>) -> Option<i128>
+    ensures { result ≡ option_map (operators.shift_value left_shift count ty) value }
+{
+    match value {
+        None => None,
+        Some(value) => Some(shift_at(left_shift, count, ty, value)),
+    }
+}
+
+/// The value of a type that is congruent to a value, unless that faults.
+#[inline(always)]
+pub fn cast(ty: Ty, value: Option<i128>) -> Option<i128>
+    ensures { result ≡ option_map (wraps.wrap ty) value }
+{
+    match value {
+        None => None,
+        Some(value) => Some(wrap(ty, value)),
+    }
+}
+
+/// Whether a comparison holds, unless a side faults.
+pub fn compare(op: CompareOp, left: Option<i128>, right: Option<i128>) -> Option<bool>
+    ensures { result ≡ eval.on_both (operators.compare_on op) left right }
+{
+    match (left, right) {
+        (Some(left), Some(right)) => Some(compare_on(op, left, right)),
+        _ => None,
+    }
+}
+
+/// One of two values, unless one of them or the condition faults.
+pub fn select(cond: Option<bool>, yes: Option<i128>, no: Option<i128>) -> Option<i128>
+    ensures { result ≡ eval.chosen yes no cond }
+{
+    match (cond, yes, no) {
+        (Some(cond), Some(yes), Some(no)) => Some(if cond { yes } else { no }),
+        _ => None,
+    }
+}

@@ -1,0 +1,280 @@
+//! Resolves expressions.
+
+ghost use Rattle.std.specs.Prelude.{◌≡◌, IfOk, None, option_map, option_and_then};
+ghost use Rattle.kernel_tree.specs.Plain.{name_of, term_of};
+ghost use Rattle.kernel_tree.specs.Items as items;
+ghost use Rattle.kernel_tree.specs.Typing as typing;
+ghost use Rattle.kernel_eval.specs.Trees as trees;
+ghost use Rattle.kernel_eval.specs.Trees.{tree_of};
+ghost use Rattle.kernel_eval.specs.Resolve as resolving;
+ghost use Rattle.kernel_scope.specs.Scopes.{scope_of};
+
+use crate::build;
+use crate::names::{index_slot, slot};
+use crate::node::Node;
+use crate::offset::stream_offset;
+use kernel_meaning::wrapped;
+use kernel_scope::{Scope, element_type, first, lookup, own_type};
+use kernel_tree::{BinaryOp, CompareOp, Expr, Name, Ty, UnaryOp};
+use std::alloc::{AllocError, Global};
+
+/// The type of the elements of an array.
+pub fn array_type(scope: &Scope, array: &Name) -> Option<Ty>
+    ensures { result ≡ option_and_then typing.element_type (typing.lookup (scope_of scope.now) (name_of array.now)) }
+{
+    lookup(scope, array).and_then(element_type)
+}
+
+/// The type that both sides of a comparison have.
+fn side_type(scope: &Scope, left: &Expr, right: &Expr) -> Option<Ty>
+    ensures { result ≡ typing.side_type (scope_of scope.now) (term_of left.now) (term_of right.now) }
+{
+    first(own_type(scope, left), own_type(scope, right))
+}
+
+// The number of an element at an offset from the loop variable.
+fn stream_number(alloc: Global, scope: &Scope, offset: i128) -> Result<Node, AllocError>
+    ensures { IfOk result (λ n. tree_of n ≡ resolving.stream_tree (scope_of scope.now) offset) }
+{
+    build::binary(
+        alloc,
+        BinaryOp::Add,
+        Some(Ty::U64),
+        Node::Slot(index_slot(scope)),
+        Node::Constant(offset),
+    )
+}
+
+/// An expression of which a type is wanted, or a condition.
+#[cycle(nodes)]
+pub fn resolve(
+    alloc: Global,
+    scope: &Scope,
+    want: Option<Ty>,
+    expr: &Expr,
+) -> Result<Node, AllocError>
+    ensures { IfOk result (λ n. tree_of n ≡ resolving.resolved (scope_of scope.now) want (term_of expr.now)) }
+{
+    match expr {
+        Expr::Lit(value) => Ok(Node::Constant(wrapped(want, *value))),
+        Expr::Var(name) => Ok(Node::Slot(slot(scope, name))),
+        Expr::Read { array, index } => resolve_read(alloc, scope, array, index),
+        Expr::Unary { op, arg } => resolve_unary(alloc, scope, *op, want, arg),
+        Expr::Binary { op, left, right } => resolve_binary(alloc, scope, *op, want, left, right),
+        Expr::Shift {
+            left_shift,
+            arg,
+            count,
+        } => resolve_shift(alloc, scope, *left_shift, *count, want, arg),
+        Expr::Cast { arg, ty } => resolve_cast(alloc, scope, *ty, arg),
+        Expr::Select { cond, yes, no } => resolve_select(alloc, scope, want, cond, yes, no),
+        Expr::Compare { op, left, right } => resolve_compared(alloc, scope, *op, left, right),
+        Expr::And { left, right } => resolve_both(alloc, scope, left, right),
+        Expr::Or { left, right } => resolve_either(alloc, scope, left, right),
+        Expr::Not { arg } => resolve_negated(alloc, scope, arg),
+    }
+}
+
+/// The number of an element, by its index.
+#[cycle(nodes)]
+pub fn resolve_number(alloc: Global, scope: &Scope, index: &Expr) -> Result<Node, AllocError>
+    ensures { IfOk result (λ n. tree_of n ≡ resolving.number_tree (scope_of scope.now)
+        (items.stream_offset (scope_of scope.now).index (term_of index.now))
+        (resolving.resolved (scope_of scope.now) (typing.index_type (scope_of scope.now) (term_of index.now))
+        (term_of index.now))) }
+{
+    match stream_offset(scope.index, index) {
+        Some(offset) => stream_number(alloc, scope, offset),
+        None => {
+            let want = first(own_type(scope, index), Some(Ty::U64));
+            resolve(alloc, scope, want, index)
+        }
+    }
+}
+
+// An operand, in a box.
+#[cycle(nodes)]
+fn operand(
+    alloc: Global,
+    scope: &Scope,
+    want: Option<Ty>,
+    expr: &Expr,
+) -> Result<Box<Node>, AllocError>
+    ensures { IfOk result (λ b. tree_of b.value
+        ≡ resolving.resolved (scope_of scope.now) want (term_of expr.now)) }
+{
+    let node = resolve(alloc, scope, want, expr)?;
+    Ok(Box::new(alloc, node)?)
+}
+
+// Two operands of which the same type is wanted, each in a box.
+#[cycle(nodes)]
+fn operands(
+    alloc: Global,
+    scope: &Scope,
+    want: Option<Ty>,
+    left: &Expr,
+    right: &Expr,
+) -> Result<(Box<Node>, Box<Node>), AllocError>
+    ensures left { IfOk result (λ p. tree_of p.0.value
+        ≡ resolving.resolved (scope_of scope.now) want (term_of left.now)) }
+    ensures right { IfOk result (λ p. tree_of p.1.value
+        ≡ resolving.resolved (scope_of scope.now) want (term_of right.now)) }
+{
+    let left = operand(alloc, scope, want, left)?;
+    let right = operand(alloc, scope, want, right)?;
+    Ok((left, right))
+}
+
+#[cycle(nodes)]
+fn resolve_read(
+    alloc: Global,
+    scope: &Scope,
+    array: &Name,
+    index: &Expr,
+) -> Result<Node, AllocError>
+    ensures { IfOk result (λ n. tree_of n ≡ resolving.element_tree (scope_of scope.now) (name_of array.now)
+        (term_of index.now)) }
+{
+    let number = Box::new(alloc, resolve_number(alloc, scope, index)?)?;
+    Ok(Node::Element {
+        base: slot(scope, array),
+        ty: array_type(scope, array),
+        number,
+    })
+}
+
+#[cycle(nodes)]
+fn resolve_unary(
+    alloc: Global,
+    scope: &Scope,
+    op: UnaryOp,
+    want: Option<Ty>,
+    arg: &Expr,
+) -> Result<Node, AllocError>
+    ensures { IfOk result (λ n. tree_of n ≡ trees.Unary op want
+        (resolving.resolved (scope_of scope.now) want (term_of arg.now))) }
+{
+    let arg = operand(alloc, scope, want, arg)?;
+    Ok(Node::Unary { op, ty: want, arg })
+}
+
+#[cycle(nodes)]
+fn resolve_shift(
+    alloc: Global,
+    scope: &Scope,
+    left_shift: bool,
+    count: i128,
+    want: Option<Ty>,
+    arg: &Expr,
+) -> Result<Node, AllocError>
+    ensures { IfOk result (λ n. tree_of n ≡ trees.Shift left_shift count want
+        (resolving.resolved (scope_of scope.now) want (term_of arg.now))) }
+{
+    let arg = operand(alloc, scope, want, arg)?;
+    Ok(Node::Shift {
+        left_shift,
+        count,
+        ty: want,
+        arg,
+    })
+}
+
+#[cycle(nodes)]
+fn resolve_cast(alloc: Global, scope: &Scope, ty: Ty, arg: &Expr) -> Result<Node, AllocError>
+    ensures { IfOk result (λ n. tree_of n ≡ trees.Cast ty (resolving.resolved (scope_of scope.now)
+        (typing.own (scope_of scope.now) (term_of arg.now)) (term_of arg.now))) }
+{
+    let arg = operand(alloc, scope, own_type(scope, arg), arg)?;
+    Ok(Node::Cast { ty, arg })
+}
+
+#[cycle(nodes)]
+fn resolve_negated(alloc: Global, scope: &Scope, arg: &Expr) -> Result<Node, AllocError>
+    ensures { IfOk result (λ n. tree_of n
+        ≡ trees.Not (resolving.resolved (scope_of scope.now) None (term_of arg.now))) }
+{
+    let arg = operand(alloc, scope, None, arg)?;
+    Ok(Node::Not { arg })
+}
+
+#[cycle(nodes)]
+fn resolve_binary(
+    alloc: Global,
+    scope: &Scope,
+    op: BinaryOp,
+    want: Option<Ty>,
+    left: &Expr,
+    right: &Expr,
+) -> Result<Node, AllocError>
+    ensures { IfOk result (λ n. tree_of n ≡ trees.Binary op want
+        (resolving.resolved (scope_of scope.now) want (term_of left.now))
+        (resolving.resolved (scope_of scope.now) want (term_of right.now))) }
+{
+    let (left, right) = operands(alloc, scope, want, left, right)?;
+    Ok(Node::Binary {
+        op,
+        ty: want,
+        left,
+        right,
+    })
+}
+
+#[cycle(nodes)]
+fn resolve_select(
+    alloc: Global,
+    scope: &Scope,
+    want: Option<Ty>,
+    cond: &Expr,
+    yes: &Expr,
+    no: &Expr,
+) -> Result<Node, AllocError>
+    ensures { IfOk result (λ n. tree_of n ≡ trees.Select
+        (resolving.resolved (scope_of scope.now) None (term_of cond.now))
+        (resolving.resolved (scope_of scope.now) want (term_of yes.now))
+        (resolving.resolved (scope_of scope.now) want (term_of no.now))) }
+{
+    let cond = operand(alloc, scope, None, cond)?;
+    let (yes, no) = operands(alloc, scope, want, yes, no)?;
+    Ok(Node::Select { cond, yes, no })
+}
+
+#[cycle(nodes)]
+fn resolve_compared(
+    alloc: Global,
+    scope: &Scope,
+    op: CompareOp,
+    left: &Expr,
+    right: &Expr,
+) -> Result<Node, AllocError>
+    ensures { let want = typing.side_type (scope_of scope.now) (term_of left.now) (term_of right.now) in
+        IfOk result (λ n. tree_of n ≡ trees.Compare op (resolving.resolved (scope_of scope.now) want (term_of left.now))
+        (resolving.resolved (scope_of scope.now) want (term_of right.now))) }
+{
+    let want = side_type(scope, left, right);
+    let (left, right) = operands(alloc, scope, want, left, right)?;
+    Ok(Node::Compare { op, left, right })
+}
+
+#[cycle(nodes)]
+fn resolve_both(alloc: Global, scope: &Scope, left: &Expr, right: &Expr) -> Result<Node, AllocError>
+    ensures { IfOk result (λ n. tree_of n ≡ trees.And (resolving.resolved (scope_of scope.now) None (term_of left.now))
+        (resolving.resolved (scope_of scope.now) None (term_of right.now))) }
+{
+    let (left, right) = operands(alloc, scope, None, left, right)?;
+    Ok(Node::And { left, right })
+}
+
+#[cycle(nodes)]
+fn resolve_either(
+    alloc: Global,
+    scope: &Scope,
+    left: &Expr,
+    right: &Expr,
+) -> Result<Node, AllocError>
+    ensures { IfOk result (λ n. tree_of n ≡ trees.Or (resolving.resolved (scope_of scope.now) None (term_of left.now))
+        (resolving.resolved (scope_of scope.now) None (term_of right.now))) }
+{
+    let (left, right) = operands(alloc, scope, None, left, right)?;
+    Ok(Node::Or { left, right })
+}

@@ -1,0 +1,295 @@
+//! Lists what the items of statements in a loop do.
+
+ghost use Rattle.std.specs.Prelude.{◌≡◌, ◌+◌, ◌≤◌, [], take, length, false};
+ghost use Rattle.kernel_tree.specs.Plain.{Define, Put, Update, Leave, Choose, Nothing, Else, name_of, term_of, action_of, block_of};
+ghost use Rattle.kernel_tree.specs.Items.{loop_index, term_size, action_size, block_size};
+ghost use Rattle.loop_form.specs.LoopView.{AppendsAction, AppendsBlock, Declares};
+ghost use Rattle.loop_form.specs.Near.{NearTerm, NearAction, NearBlock};
+ghost use Rattle.loop_form.specs.View.{program};
+
+use crate::listed::Listed;
+use crate::loop_values::{append, list_operand, list_truth};
+use crate::visible::{accumulator_type_of, array_type_of, first_type, own_type, source_of};
+use kernel_tree::fault::Binding;
+use kernel_tree::{Checked, Expr, Name, Part, Stmt, Ty, UpdateOp, parts};
+use loop_form::size::{count_items, expr_size, statements_size};
+use loop_form::visible::Visible;
+use loop_form::{LoopOp, Source, offset};
+
+// A `let`, whose name plays no part in its items, so that none stands for any: its value, and the copy.
+fn list_let<'a>(
+    kernel: &Checked,
+    names: &[Visible<'a>],
+    listed: &mut Listed<'a>,
+    mask: Option<u32>,
+    from: u32,
+    ty: Option<Ty>,
+    value: &'a Expr,
+)
+    requires fits { from + (term_size (loop_index (program kernel.now)) (term_of value.now) + 1) ≤ 1000 }
+    requires near { NearTerm (loop_index (program kernel.now)) (term_of value.now) }
+    ensures kept { listed.new.short ≡ false → listed.old.short ≡ false }
+    ensures items { listed.new.short ≡ false → AppendsAction (loop_index (program kernel.now)) names.now
+        mask from (Define [] ty (term_of value.now)) listed.old.items.items listed.new.items.items }
+{
+    let want = first_type(ty, own_type(names, value));
+    let op = LoopOp::Copy {
+        ty: want,
+        arg: list_operand(kernel, names, listed, want, mask, from, value),
+    };
+    append(listed, from + expr_size(kernel, value), mask, op);
+}
+
+// A store: its value, and the store.
+fn list_store<'a>(
+    kernel: &Checked,
+    names: &[Visible<'a>],
+    listed: &mut Listed<'a>,
+    mask: Option<u32>,
+    from: u32,
+    array: &'a Name,
+    index: &'a Expr,
+    value: &'a Expr,
+)
+    requires fits { from + action_size (loop_index (program kernel.now))
+        (Put (name_of array.now) (term_of index.now) (term_of value.now)) ≤ 1000 }
+    requires near { NearAction (loop_index (program kernel.now))
+        (Put (name_of array.now) (term_of index.now) (term_of value.now)) }
+    ensures kept { listed.new.short ≡ false → listed.old.short ≡ false }
+    ensures items { listed.new.short ≡ false → AppendsAction (loop_index (program kernel.now)) names.now
+        mask from (Put (name_of array.now) (term_of index.now) (term_of value.now))
+        listed.old.items.items listed.new.items.items }
+{
+    let array = array.text();
+    let want = array_type_of(names, array);
+    let stored = list_operand(kernel, names, listed, want, mask, from, value);
+    if let Some(offset) = offset(kernel, index) {
+        let op = LoopOp::Store {
+            array,
+            base: source_of(names, array),
+            ty: want,
+            offset,
+            value: stored,
+        };
+        append(listed, from + expr_size(kernel, value), mask, op);
+    }
+}
+
+// An update: its value, and the update.
+fn list_update<'a>(
+    kernel: &Checked,
+    names: &[Visible<'a>],
+    listed: &mut Listed<'a>,
+    mask: Option<u32>,
+    from: u32,
+    name: &'a Name,
+    op: UpdateOp,
+    value: &'a Expr,
+)
+    requires fits { from + (term_size (loop_index (program kernel.now)) (term_of value.now) + 1) ≤ 1000 }
+    requires near { NearTerm (loop_index (program kernel.now)) (term_of value.now) }
+    ensures kept { listed.new.short ≡ false → listed.old.short ≡ false }
+    ensures items { listed.new.short ≡ false → AppendsAction (loop_index (program kernel.now)) names.now
+        mask from (Update (name_of name.now) op (term_of value.now)) listed.old.items.items listed.new.items.items }
+{
+    let name = name.text();
+    let want = accumulator_type_of(names, name);
+    let op = LoopOp::Add {
+        name,
+        op,
+        ty: want,
+        value: list_operand(kernel, names, listed, want, mask, from, value),
+    };
+    append(listed, from + expr_size(kernel, value), mask, op);
+}
+
+// A `break`: its condition, and the break.
+fn list_break<'a>(
+    kernel: &Checked,
+    names: &[Visible<'a>],
+    listed: &mut Listed<'a>,
+    mask: Option<u32>,
+    from: u32,
+    cond: &'a Expr,
+)
+    requires fits { from + (term_size (loop_index (program kernel.now)) (term_of cond.now) + 1) ≤ 1000 }
+    requires near { NearTerm (loop_index (program kernel.now)) (term_of cond.now) }
+    ensures kept { listed.new.short ≡ false → listed.old.short ≡ false }
+    ensures items { listed.new.short ≡ false → AppendsAction (loop_index (program kernel.now)) names.now
+        mask from (Leave (term_of cond.now)) listed.old.items.items listed.new.items.items }
+{
+    let op = LoopOp::Quit(list_truth(kernel, names, listed, mask, from, cond));
+    append(listed, from + expr_size(kernel, cond), mask, op);
+}
+
+// A statement; the names after it are not yet declared.
+#[cycle(loop_statements)]
+fn list_stmt<'a>(
+    kernel: &Checked,
+    names: &mut Vec<Visible<'a>>,
+    listed: &mut Listed<'a>,
+    mask: Option<u32>,
+    from: u32,
+    stmt: &'a Stmt,
+)
+    requires fits { from + action_size (loop_index (program kernel.now)) (action_of stmt.now) ≤ 1000 }
+    requires near { NearAction (loop_index (program kernel.now)) (action_of stmt.now) }
+    ensures names { names.new.items ≡ names.old.items }
+    ensures kept { listed.new.short ≡ false → listed.old.short ≡ false }
+    ensures items { listed.new.short ≡ false → AppendsAction (loop_index (program kernel.now)) names.old.items
+        mask from (action_of stmt.now) listed.old.items.items listed.new.items.items }
+{
+    match parts(stmt) {
+        Part::Let { ty, value, .. } => list_let(kernel, names, listed, mask, from, ty, value),
+        Part::Store {
+            array,
+            index,
+            value,
+        } => list_store(kernel, names, listed, mask, from, array, index, value),
+        Part::Update { name, op, value } => {
+            list_update(kernel, names, listed, mask, from, name, op, value)
+        }
+        Part::If { cond, block } => list_if(kernel, names, listed, mask, from, cond, block),
+        Part::IfElse { cond, block, other } => {
+            list_if_else(kernel, names, listed, mask, from, cond, block, other)
+        }
+        Part::Break { cond } => list_break(kernel, names, listed, mask, from, cond),
+    }
+}
+
+#[cycle(loop_statements)]
+fn list_if<'a>(
+    kernel: &Checked,
+    names: &mut Vec<Visible<'a>>,
+    listed: &mut Listed<'a>,
+    mask: Option<u32>,
+    from: u32,
+    cond: &'a Expr,
+    block: &'a [Stmt],
+)
+    requires fits { from + action_size (loop_index (program kernel.now))
+        (Choose (term_of cond.now) (block_of block.now) Nothing) ≤ 1000 }
+    requires near { NearAction (loop_index (program kernel.now))
+        (Choose (term_of cond.now) (block_of block.now) Nothing) }
+    ensures names { names.new.items ≡ names.old.items }
+    ensures kept { listed.new.short ≡ false → listed.old.short ≡ false }
+    ensures items { listed.new.short ≡ false → AppendsAction (loop_index (program kernel.now)) names.old.items
+        mask from (Choose (term_of cond.now)
+        (block_of block.now) Nothing) listed.old.items.items listed.new.items.items }
+{
+    let inner = from + expr_size(kernel, cond) + 1;
+    let first = list_truth(kernel, names, listed, mask, from, cond);
+    list_inner(kernel, names, listed, Some(first), inner, block);
+}
+
+#[cycle(loop_statements)]
+fn list_if_else<'a>(
+    kernel: &Checked,
+    names: &mut Vec<Visible<'a>>,
+    listed: &mut Listed<'a>,
+    mask: Option<u32>,
+    from: u32,
+    cond: &'a Expr,
+    block: &'a [Stmt],
+    other: &'a [Stmt],
+)
+    requires fits { from + action_size (loop_index (program kernel.now))
+        (Choose (term_of cond.now) (block_of block.now) (Else (block_of other.now))) ≤ 1000 }
+    requires near { NearAction (loop_index (program kernel.now))
+        (Choose (term_of cond.now) (block_of block.now) (Else (block_of other.now))) }
+    ensures names { names.new.items ≡ names.old.items }
+    ensures kept { listed.new.short ≡ false → listed.old.short ≡ false }
+    ensures items { listed.new.short ≡ false → AppendsAction (loop_index (program kernel.now)) names.old.items
+        mask from (Choose (term_of cond.now) (block_of block.now)
+        (Else (block_of other.now))) listed.old.items.items listed.new.items.items }
+{
+    let inner = from + expr_size(kernel, cond) + 1;
+    let other_side = inner + statements_size(kernel, block);
+    let first = list_truth(kernel, names, listed, mask, from, cond);
+    list_inner(kernel, names, listed, Some(first), inner, block);
+    append(listed, other_side, mask, LoopOp::Invert(first));
+    list_inner(
+        kernel,
+        names,
+        listed,
+        Some(other_side),
+        other_side + 1,
+        other,
+    );
+}
+
+// A block inside another, whose names end with it.
+#[cycle(loop_statements)]
+fn list_inner<'a>(
+    kernel: &Checked,
+    names: &mut Vec<Visible<'a>>,
+    listed: &mut Listed<'a>,
+    mask: Option<u32>,
+    from: u32,
+    block: &'a [Stmt],
+)
+    requires fits { from + block_size (loop_index (program kernel.now)) (block_of block.now) ≤ 1000 }
+    requires near { NearBlock (loop_index (program kernel.now)) (block_of block.now) }
+    ensures names { names.new.items ≡ names.old.items }
+    ensures kept { listed.new.short ≡ false → listed.old.short ≡ false }
+    ensures items { listed.new.short ≡ false → AppendsBlock (loop_index (program kernel.now)) names.old.items
+        mask from (block_of block.now) listed.old.items.items listed.new.items.items }
+{
+    let outer = names.len();
+    list_block(kernel, names, listed, mask, from, block);
+    names.truncate(outer);
+}
+
+/// Lists the statements of a block, whose names come after those that are visible.
+#[cycle(loop_statements)]
+pub fn list_block<'a>(
+    kernel: &Checked,
+    names: &mut Vec<Visible<'a>>,
+    listed: &mut Listed<'a>,
+    mask: Option<u32>,
+    from: u32,
+    block: &'a [Stmt],
+)
+    requires fits { from + block_size (loop_index (program kernel.now)) (block_of block.now) ≤ 1000 }
+    requires near { NearBlock (loop_index (program kernel.now)) (block_of block.now) }
+    ensures names { take (length names.old.items) names.new.items ≡ names.old.items }
+    ensures kept { listed.new.short ≡ false → listed.old.short ≡ false }
+    ensures items { listed.new.short ≡ false → AppendsBlock (loop_index (program kernel.now)) names.old.items
+        mask from (block_of block.now) listed.old.items.items listed.new.items.items }
+{
+    let [stmt, rest @ ..] = block else {
+        return;
+    };
+    list_stmt(kernel, names, listed, mask, from, stmt);
+    declare(kernel, names, &mut listed.short, from, stmt);
+    let next = from + count_items(kernel, stmt);
+    list_block(kernel, names, listed, mask, next, rest);
+}
+
+// The name that a statement declares.
+fn declare<'a>(
+    kernel: &Checked,
+    names: &mut Vec<Visible<'a>>,
+    short: &mut bool,
+    from: u32,
+    stmt: &'a Stmt,
+)
+    requires { from + action_size (loop_index (program kernel.now)) (action_of stmt.now) ≤ 1000 }
+    ensures names { take (length names.old.items) names.new.items ≡ names.old.items }
+    ensures kept { short.new ≡ false → short.old ≡ false }
+    ensures declares { short.new ≡ false → Declares (loop_index (program kernel.now)) from
+        (action_of stmt.now) names.old.items names.new.items }
+{
+    if let Part::Let { name, ty, value } = parts(stmt)
+        && let Some(ty) = first_type(ty, own_type(names, value))
+    {
+        let visible = Visible {
+            name: name.text(),
+            binding: Binding::Value(ty),
+            source: Source::Made(from + expr_size(kernel, value)),
+        };
+        if names.push(visible).is_err() {
+            *short = true;
+        }
+    }
+}

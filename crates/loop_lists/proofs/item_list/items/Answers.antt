@@ -1,0 +1,12 @@
+use Rattle.std.proofs.Common.{◌+◌, map, drop}
+use Rattle.loop_form.specs.Listing.{item_of}
+use Rattle.loop_form.specs.View.{entry_of, entries_view}
+use Rattle.loop_form.proofs.LoopLists.{next-entry, one-more}
+use Rattle.loop_lists.proofs.item_list.items.Goals as goal
+
+pub loop-entry-preserved : goal.loop-entry-preserved
+loop-entry-preserved c =
+    let l = c.loop-entry in
+    let all = c.args.all.now in
+    let e = next-entry all l.entry-index c.entry-item.result c.loop-entry-test.true c.entry-item.is in
+    one-more entry_of (item_of (entries_view all)) (drop (l.entry-index + 1) all) (drop l.entry-index all) c.entry-item.result c.push.new.self.items l.items.items (map (item_of (entries_view all)) (entries_view all)) c.item.result e c.in_ok-push.ensures.items c.item.ensures l.invariant

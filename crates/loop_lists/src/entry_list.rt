@@ -1,0 +1,122 @@
+//! The items of a kernel, with what stands in them.
+
+ghost use Rattle.std.specs.Prelude.{◌≡◌, ◌+◌, ◌≤◌, ◌++◌, length, option_map};
+ghost use Rattle.arrayvec.specs.ArrayVec.{array_vec_len};
+ghost use Rattle.kernel_tree.specs.Plain.{parameters_of, turns_of, returned_of};
+ghost use Rattle.kernel_tree.specs.Items.{loop_index, size_of, turns_size, answer_size, index_of};
+ghost use Rattle.loop_form.specs.Entries.{params_entries, turns_entries, answer_entries, entries_of, loop_entries};
+ghost use Rattle.loop_form.specs.Near.{AreNear};
+ghost use Rattle.loop_form.specs.View.{program, entries_view};
+
+use crate::walk::{list_block, list_ended, list_vars, put};
+use kernel_tree::{Answer, Checked, Loop, Param};
+use loop_form::entry::Entries;
+use loop_form::laws::{few_items, near_offsets};
+use loop_form::size::statements_size;
+use loop_form::{Content, ItemKind, vars_size_of};
+
+// The items of a loop.
+fn turns_size_of(kernel: &Checked, turns: &Option<Loop>) -> u32
+    requires fits { turns_size (option_map turns_of turns.now) ≤ 1000 }
+    requires index { loop_index (program kernel.now) ≡ option_map index_of (option_map turns_of turns.now) }
+    ensures { result ≡ turns_size (option_map turns_of turns.now) }
+{
+    match turns {
+        None => 0,
+        Some(turns) => 1 + statements_size(kernel, &turns.body),
+    }
+}
+
+fn list_params(kernel: &Checked, entries: &mut Entries<'_>, params: &[Param])
+    requires { array_vec_len entries.old + length params.now ≤ 1000 }
+    ensures items { entries_view entries.new.items ≡ entries_view entries.old.items
+        ++ params_entries (program kernel.now) 0 (parameters_of params.now) }
+    ensures len { array_vec_len entries.new ≡ array_vec_len entries.old + length params.now }
+{
+    let mut item = 0;
+    for _param in params {
+        put(kernel, entries, item, Content::Plain(ItemKind::Param), item);
+        item += 1;
+    }
+}
+
+fn list_turns<'a>(kernel: &Checked, entries: &mut Entries<'a>, from: u32, turns: &'a Option<Loop>)
+    requires following { array_vec_len entries.old ≤ from }
+    requires fits { from + turns_size (option_map turns_of turns.now) ≤ 1000 }
+    requires index { loop_index (program kernel.now) ≡ option_map index_of (option_map turns_of turns.now) }
+    ensures items { entries_view entries.new.items ≡ entries_view entries.old.items
+        ++ turns_entries (program kernel.now) from (option_map turns_of turns.now) }
+    ensures len { array_vec_len entries.new ≡ array_vec_len entries.old + turns_size (option_map turns_of turns.now) }
+{
+    if let Some(turns) = turns {
+        put(kernel, entries, from, Content::Plain(ItemKind::For), from);
+        list_block(kernel, entries, from + 1, &turns.body);
+    }
+}
+
+fn list_answer<'a>(
+    kernel: &Checked,
+    entries: &mut Entries<'a>,
+    from: u32,
+    answer: &'a Option<Answer>,
+)
+    requires following { array_vec_len entries.old ≤ from }
+    requires fits { from + answer_size (loop_index (program kernel.now)) (option_map returned_of answer.now) ≤ 1000 }
+    ensures items { entries_view entries.new.items ≡ entries_view entries.old.items
+        ++ answer_entries (program kernel.now) from (option_map returned_of answer.now) }
+    ensures len { array_vec_len entries.new ≡ array_vec_len entries.old + answer_size (loop_index (program kernel.now))
+        (option_map returned_of answer.now) }
+{
+    if let Some(answer) = answer {
+        list_ended(
+            kernel,
+            entries,
+            from,
+            &answer.value,
+            Content::Plain(ItemKind::Return),
+        );
+    }
+}
+
+/// The items of a kernel, in their order.
+#[tactic(auto, unfolding(loop_form::specs::View::program))]
+pub fn entries(kernel: &Checked) -> Entries<'_>
+    ensures items { entries_view result.items ≡ entries_of (program kernel.now) }
+    ensures len { array_vec_len result ≡ size_of (program kernel.now) }
+    ensures small { array_vec_len result ≤ 1000 }
+{
+    few_items(kernel);
+    let tree = kernel.kernel();
+    let vars = tree.params.len() as u32;
+    let start = vars + vars_size_of(kernel, &tree.vars);
+    let end = start + turns_size_of(kernel, &tree.body);
+    let mut entries = Entries::new();
+    list_params(kernel, &mut entries, &tree.params);
+    list_vars(kernel, &mut entries, vars, &tree.vars);
+    list_turns(kernel, &mut entries, start, &tree.body);
+    list_answer(kernel, &mut entries, end, &tree.answer);
+    entries
+}
+
+/// The items of the loop, in their order.
+#[tactic(auto, unfolding(loop_form::specs::View::program))]
+pub fn loop_entries(kernel: &Checked) -> Entries<'_>
+    ensures items { entries_view result.items ≡ loop_entries (program kernel.now) }
+    ensures near { AreNear (loop_index (program kernel.now)) (entries_view result.items) }
+    ensures small { array_vec_len result ≤ 1000 }
+{
+    few_items(kernel);
+    near_offsets(kernel);
+    let tree = kernel.kernel();
+    let start = tree.params.len() as u32 + vars_size_of(kernel, &tree.vars);
+    let mut entries = Entries::new();
+    list_turns(kernel, &mut entries, start, &tree.body);
+    entries
+}
+
+/// How many items a kernel has.
+pub fn item_count(kernel: &Checked) -> u32
+    ensures { result ≡ size_of (program kernel.now) }
+{
+    entries(kernel).len() as u32
+}

@@ -1,0 +1,23 @@
+//! The listing of a kernel, what is counted over it, and the accesses of its loop.
+#![tactic(auto)]
+
+mod access;
+mod entry_list;
+mod held_throughout;
+mod item_list;
+mod need_count;
+mod places;
+mod reached;
+mod values;
+mod walk;
+mod widest_type;
+
+pub use access::{accesses, streams};
+pub use entry_list::{entries, loop_entries};
+pub use held_throughout::{is_named, throughout};
+pub use item_list::listing;
+pub use need_count::needs;
+pub use places::value_places;
+pub use reached::{entry_reach, index_reach, reaches};
+pub use values::intervals;
+pub use widest_type::{lane_width, type_width};
