@@ -12,6 +12,7 @@ use Rattle.machine_model.specs.Answers.{IsAnswer}
 use Rattle.machine_model.specs.Debugged.{View, ending_by}
 use Rattle.machine_model.specs.Machine.{State}
 use Rattle.machine_model.specs.OneStep.{step}
+use Rattle.debug_history.specs.Answered.{answer_of}
 use Rattle.sve_debug.specs.Held.{Held, held_by, Shows, came_out}
 use Rattle.sve_debug.specs.Reaches.{Reaches}
 use Rattle.sve_debug.specs.Replies.{Session, started, stepped, steps_to, session_at, is_break, left_by, over_by}
@@ -87,7 +88,7 @@ is_over v breaks last start d some h = ap is_some h.over ∙ mapped v.over some
     mapped None e = e
     mapped (Some ending) e = refl
 
-pub stood : (v w : View) (answer : StepAnswer) (breaks last : List ℕ) (start : State) (d : Session) → v.over ≡ None → IsAnswer (step v.state) answer v.state w.state → w.steps ≡ v.steps + 1 → w.over ≡ ending_by answer → IsTrue w.quiet → Shows (held_by v breaks last) start d → Shows (held_by w breaks (keep_last 64 (last ++ v.state.pc ∷ []))) start (stepped d)
+stood : (v w : View) (answer : StepAnswer) (breaks last : List ℕ) (start : State) (d : Session) → v.over ≡ None → IsAnswer (step v.state) answer v.state w.state → w.steps ≡ v.steps + 1 → w.over ≡ ending_by answer → IsTrue w.quiet → Shows (held_by v breaks last) start d → Shows (held_by w breaks (keep_last 64 (last ++ v.state.pc ∷ []))) start (stepped d)
 stood v w answer breaks last start d none is steps over quiet h =
     let none_yet = not_over v breaks last start d none h in
     let state : w.state ≡ left_by (step d.state) d.state = left answer v.state w.state is ∙ ap (λ (s : State). left_by (step s) s) h.state in
@@ -115,6 +116,16 @@ stood v w answer breaks last start d none is steps over quiet h =
         over_is = ap (λ (e : Session). e.over) one ∙ ap₂ (λ (s : State) n. over_by (step s) (n + 1) s) since.state_is since.steps_is;
       };
     }
+
+-- the end that a step comes to is the one that it answered
+ended_by : (o : Option Ending) → o ≡ ending_by (answer_of o)
+ended_by None = refl
+ended_by (Some endings.Ended) = refl
+ended_by (Some (endings.Stopped stop)) = refl
+
+pub stood_on : (v w : View) (breaks : List ℕ) (start : State) → v.over ≡ None → (IsTrue v.quiet → IsAnswer (step v.state) (answer_of w.over) v.state w.state) → w.steps ≡ v.steps + 1 → (IsTrue v.quiet → IsTrue w.quiet) → (last : List ℕ) (d : Session) → Shows (held_by v breaks last) start d → Shows (held_by w breaks (keep_last 64 (last ++ v.state.pc ∷ []))) start (stepped d)
+stood_on v w breaks start none is steps quiet last d h =
+    stood v w (answer_of w.over) breaks last start d none (is h.quiet) steps (ended_by w.over) (quiet h.quiet) h
 
 -- ---- many steps
 

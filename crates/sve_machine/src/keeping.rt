@@ -2,9 +2,21 @@
 
 use crate::machine::Machine;
 use debug_history::keepable::Keepable;
+use machine_model::outcome::Ending;
 use std::alloc::{AllocError, Global};
 
 impl Keepable for Machine {
+    #[inline(always)]
+    fn goes_on(&mut self) -> bool {
+        let on = self.goes_on();
+        on
+    }
+
+    fn over(&self) -> Option<Ending> {
+        let over = self.over();
+        over
+    }
+
     fn begin(&mut self, alloc: Global) -> Result<(), AllocError> {
         self.begin(alloc)?;
         Ok(())

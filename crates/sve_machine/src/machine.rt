@@ -1,6 +1,6 @@
 //! The machine.
 
-ghost use Rattle.std.specs.Prelude.{◌≡◌, ◌+◌, ◌-◌, ◌^◌, ◌<◌, ◌≤◌, None, IfSome, IsTrue, OnOk, OnErr, true, [], ◌∷◌, length, take, slice_index_or};
+ghost use Rattle.std.specs.Prelude.{◌≡◌, ◌+◌, ◌-◌, ◌^◌, ◌<◌, ◌≤◌, None, IfSome, IsTrue, is_none, OnOk, OnErr, true, [], ◌∷◌, length, take, slice_index_or};
 
 use crate::advance::{OUTSIDE, advance, go};
 use crate::history::History;
@@ -140,8 +140,7 @@ impl Machine {
         self.step_on()
     }
 
-    /// One step of a machine that has not come to an end or a stop. It has no loop of its own and no test that a loop
-    /// of steps can do without, so that a caller's loop is as fast as `run`.
+    /// One step of a machine that has not come to an end or a stop.
     #[inline(always)]
     pub fn step_on(&mut self) -> Step
         requires running { self.old.over ≡ None }
@@ -149,6 +148,22 @@ impl Machine {
         ensures answer { IsAnswer (step self.old.state) result self.old.state self.new.state }
         ensures steps { self.new.steps ≡ self.old.steps + 1 }
         ensures over { self.new.over ≡ ending_by result }
+        ensures quiet { IsTrue self.old.quiet → IsTrue self.new.quiet }
+        ensures past { self.new.past ≡ self.old.past }
+    {
+        let _ = self.goes_on();
+        answer_of(self.over)
+    }
+
+    /// The same, and only whether it goes on: how the machine came to its end is in `over`. It has no loop of its own and no
+    /// test that a loop of steps can do without, so that a caller's loop is as fast as `run`.
+    #[inline(always)]
+    pub fn goes_on(&mut self) -> bool
+        requires running { self.old.over ≡ None }
+        requires few { self.old.steps < 2 ^ 64 - 1 }
+        ensures answer { IsAnswer (step self.old.state) (answer_of self.new.over) self.old.state self.new.state }
+        ensures steps { self.new.steps ≡ self.old.steps + 1 }
+        ensures goes_on { result ≡ is_none self.new.over }
         ensures quiet { IsTrue self.old.quiet → IsTrue self.new.quiet }
         ensures past { self.new.past ≡ self.old.past }
     {
@@ -161,11 +176,16 @@ impl Machine {
         );
         self.steps += 1;
         if went {
-            return Step::Went;
+            return true;
         }
-        let last = self.answer;
-        self.over = ending_by(last);
-        last
+        come_to_end(&self.answer, &mut self.over)
+    }
+
+    /// How the machine came to an end or a stop, where it did.
+    pub fn over(&self) -> Option<Ending>
+        ensures { result ≡ self.now.over }
+    {
+        self.over
     }
 
     /// Runs for at most so many steps. `Spent` comes exactly where all of them went without an end or a stop.
@@ -294,6 +314,17 @@ impl Machine {
     }
 }
 
+// What an answer leaves of a machine that was running, and whether it runs on.
+#[cold]
+#[inline(never)]
+fn come_to_end(answer: &Step, over: &mut Option<Ending>) -> bool
+    ensures over { over.new ≡ ending_by answer.now }
+    ensures goes_on { result ≡ is_none over.new }
+{
+    *over = ending_by(*answer);
+    over.is_none()
+}
+
 // A step that went leaves the machine running.
 fn ending_by(answer: Step) -> Option<Ending>
     ensures { result ≡ ending_by answer }
@@ -329,6 +360,16 @@ fn outcome_by(ending: Ending, steps: u64, x0: u64) -> Outcome
     }
 }
 
+// What a step answered after which the machine is over so.
+fn answer_of(over: Option<Ending>) -> Step
+    ensures { result ≡ answer_of over }
+{
+    match over {
+        None => Step::Went,
+        Some(ending) => answer_by(ending),
+    }
+}
+
 // What is answered after an end or a stop.
 fn answer_by(ending: Ending) -> Step
     ensures { result ≡ answer_by ending }
@@ -341,4 +382,5 @@ fn answer_by(ending: Ending) -> Step
 
 ghost use Rattle.machine_model.specs.Machine.{State, x_at};
 ghost use Rattle.machine_model.specs.Debugged.{ending_by, answer_by, outcome_by};
+ghost use Rattle.debug_history.specs.Answered.{answer_of};
 ghost use Rattle.sve_machine.specs.View.{outcome_at};

@@ -10,7 +10,6 @@ use Rattle.sve_debug.proofs.run.advance_far.Given as goal
 abbrev pub invariant-loop-done : goal.invariant-loop-done
 invariant-loop-done g l = record {
   running : (g.D.Debuggee.view_of l.machine).over ≡ None;
-  none : l.over ≡ None;
   quiet : IsTrue (g.D.Debuggee.view_of l.initial.machine).quiet → IsTrue (g.D.Debuggee.view_of l.machine).quiet;
   past : (g.D.Debuggee.view_of l.machine).past ≡ (g.D.Debuggee.view_of l.initial.machine).past;
   steps : (g.D.Debuggee.view_of l.machine).steps ≡ (g.D.Debuggee.view_of l.initial.machine).steps + l.done;

@@ -13,7 +13,6 @@ invariant_of-result g c =
     let same = c.in_ok-begin.ensures.now in
     let alone = c.in_ok-begin.ensures.begun in
     let size = ap length alone in (
-      sym (ap (λ (p : Past). p.over) same ∙ c.requires.over),
       ap (λ b. b.capacity) c.in_ok-places.ensures,
       subst (λ (p : Past). IsTrue p.quiet) (sym same) c.requires.quiet,
       omega (arith, size),
