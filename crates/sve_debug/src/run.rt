@@ -57,14 +57,16 @@ pub fn advance_far<D: Keepable, const STOPS: bool>(
     let near = left.min(limit);
     let most = near.min(256) as usize;
     for done in 0..most {
-        recent[done] = machine.pc();
-        if !machine.goes_on() {
+        if !machine.goes_on(&mut recent[done]) {
+            machine.count(done as u64 + 1);
             return (done + 1, 0);
         }
         if is_stop::<STOPS>(stops, machine.pc()) {
+            machine.count(done as u64 + 1);
             return (done + 1, 0);
         }
     }
+    machine.count(most as u64);
     (most, left - most as u64)
 }
 

@@ -7,9 +7,13 @@ use std::alloc::{AllocError, Global};
 
 impl Keepable for Machine {
     #[inline(always)]
-    fn goes_on(&mut self) -> bool {
-        let on = self.goes_on();
+    fn goes_on(&mut self, place: &mut u64) -> bool {
+        let on = self.goes_on(place);
         on
+    }
+
+    fn count(&mut self, steps: u64) {
+        self.count(steps);
     }
 
     fn over(&self) -> Option<Ending> {

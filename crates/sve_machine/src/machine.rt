@@ -19,10 +19,11 @@ use std::marker::Model;
 /// A machine with its memory. From `new` on it takes no memory from the system, but for `begin`.
 #[derive(Drop)]
 pub struct Machine {
+    // The first, so that an entry is reached from the machine's own address.
+    kept: [Entry; 1024],
     core: Core,
     pages: Pages,
     vectors: Vectors,
-    kept: [Entry; 1024],
     steps: u64,
     over: Option<Ending>,
     // What it was beside the past of the pages, where a past was begun.
@@ -89,10 +90,10 @@ impl Machine {
             vzero: 0,
         };
         Machine {
+            kept: no_words(),
             core,
             pages,
             vectors: Vectors::new(vl, stops),
-            kept: no_words(),
             steps: 0,
             over: None,
             history: None,
@@ -151,18 +152,21 @@ impl Machine {
         ensures quiet { IsTrue self.old.quiet → IsTrue self.new.quiet }
         ensures past { self.new.past ≡ self.old.past }
     {
-        let _ = self.goes_on();
+        let mut place = 0;
+        let _ = self.goes_on(&mut place);
+        self.steps += 1;
         answer_of(self.over)
     }
 
-    /// The same, and only whether it goes on: how the machine came to its end is in `over`. It has no loop of its own and no
-    /// test that a loop of steps can do without, so that a caller's loop is as fast as `run`.
+    /// The same, and only whether it goes on, with the place of the instruction: how the machine came to its end is in `over`,
+    /// and the step is counted by `count`. It has no loop of its own and no test that a loop of steps can do without, so that
+    /// a caller's loop is as fast as `run`.
     #[inline(always)]
-    pub fn goes_on(&mut self) -> bool
+    pub fn goes_on(&mut self, place: &mut u64) -> bool
         requires running { self.old.over ≡ None }
-        requires few { self.old.steps < 2 ^ 64 - 1 }
         ensures answer { IsAnswer (step self.old.state) (answer_of self.new.over) self.old.state self.new.state }
-        ensures steps { self.new.steps ≡ self.old.steps + 1 }
+        ensures steps { self.new.steps ≡ self.old.steps }
+        ensures place { place.new ≡ self.old.state.pc }
         ensures goes_on { result ≡ is_none self.new.over }
         ensures quiet { IsTrue self.old.quiet → IsTrue self.new.quiet }
         ensures past { self.new.past ≡ self.old.past }
@@ -172,13 +176,25 @@ impl Machine {
             &mut self.pages,
             &mut self.vectors,
             &mut self.kept,
+            place,
             &mut self.answer,
         );
-        self.steps += 1;
         if went {
             return true;
         }
         come_to_end(&self.answer, &mut self.over)
+    }
+
+    /// Counts steps that were done.
+    pub fn count(&mut self, steps: u64)
+        requires { self.old.steps + steps < 2 ^ 64 }
+        ensures state { self.new.state ≡ self.old.state }
+        ensures steps { self.new.steps ≡ self.old.steps + steps }
+        ensures over { self.new.over ≡ self.old.over }
+        ensures quiet { self.new.quiet ≡ self.old.quiet }
+        ensures past { self.new.past ≡ self.old.past }
+    {
+        self.steps += steps;
     }
 
     /// How the machine came to an end or a stop, where it did.
