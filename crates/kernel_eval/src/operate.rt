@@ -7,7 +7,7 @@ ghost use Rattle.kernel_meaning.specs.Eval as eval;
 ghost use Rattle.kernel_meaning.specs.Operators.{word};
 ghost use Rattle.kernel_eval.specs.Slots as slots_of;
 
-use kernel_meaning::{word, wrap};
+use kernel_meaning::{word, wrap, wrapped};
 use kernel_tree::{BinaryOp, CompareOp, Ty, UnaryOp};
 
 // The result of an operator modulo 2^64.
@@ -66,23 +66,12 @@ fn compare_on(op: CompareOp, left: i128, right: i128) -> bool
     }
 }
 
-// The value of a wanted type, in place: `wrapped` is a call, which a walk makes for each operator.
-#[inline(always)]
-fn at_type(ty: Option<Ty>, value: i128) -> i128
-    ensures { result ≡ operators.wrapped ty value }
-{
-    match ty {
-        None => 0,
-        Some(ty) => wrap(ty, value),
-    }
-}
-
 #[inline(always)]
 #[tactic(auto, using(kernel_meaning::proofs::Residues::word_rules))]
 fn unary_at(op: UnaryOp, ty: Option<Ty>, value: i128) -> i128
     ensures { result ≡ operators.unary_value op ty value }
 {
-    at_type(ty, unary_on(op, value))
+    wrapped(ty, unary_on(op, value))
 }
 
 #[inline(always)]
@@ -90,7 +79,7 @@ fn unary_at(op: UnaryOp, ty: Option<Ty>, value: i128) -> i128
 fn binary_at(op: BinaryOp, ty: Option<Ty>, left: i128, right: i128) -> i128
     ensures { result ≡ operators.binary_value op ty left right }
 {
-    at_type(ty, binary_on(op, left, right))
+    wrapped(ty, binary_on(op, left, right))
 }
 
 // The count of a shift, which is below 64.
@@ -107,7 +96,7 @@ fn shift_count(count: i128) -> u32
 fn shift_at(left_shift: bool, count: i128, ty: Option<Ty>, value: i128) -> i128
     ensures { result ≡ operators.shift_value left_shift count ty value }
 {
-    at_type(ty, shift_on(left_shift, shift_count(count), value))
+    wrapped(ty, shift_on(left_shift, shift_count(count), value))
 }
 
 /// The number of the element at an offset from the loop variable, modulo 2^64.

@@ -7,6 +7,6 @@ use Rattle.kernel_eval.proofs.operate.unary_at.Goals as goal
 
 pub returns : goal.returns
 returns c =
-    let f : FitsSigned w128 c.at_type.result = search rules in
+    let f : FitsSigned w128 c.wrapped.result = search rules in
     let g : FitsSigned w128 c.unary_on.result = search rules in
-    at-type c.args.ty c.at_type.result c.unary_on.result (unary_on c.args.op c.args.value) f g c.at_type.ensures (c.unary_on.ensures ∙ ap (λ z. word (unary_on c.args.op z)) (to_z-of_z w128 c.args.value c.ranges.value))
+    at-type c.args.ty c.wrapped.result c.unary_on.result (unary_on c.args.op c.args.value) f g c.wrapped.ensures (c.unary_on.ensures ∙ ap (λ z. word (unary_on c.args.op z)) (to_z-of_z w128 c.args.value c.ranges.value))
