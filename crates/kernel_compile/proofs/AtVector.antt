@@ -23,7 +23,7 @@ use Rattle.scalar_emit.specs.Layout.{Homes}
 use Rattle.scalar_emit.specs.Kernel.{param_homes, var_homes, kernel_homes, register_in}
 use Rattle.scalar_emit.specs.Runs.{AreHeld, AtIteration}
 use Rattle.scalar_emit.proofs.AssignedOf.{counted-high}
-use Rattle.chunk_emit.specs.Head.{Ground, IsGround}
+use Rattle.vector_emit.proofs.FromBelow.{Ground, IsGround}
 use Rattle.kernel_compile.proofs.ArrayStreams.{streams_typed, reaches_typed}
 use Rattle.kernel_compile.proofs.ApartBoth.{apart_both}
 use Rattle.kernel_compile.proofs.AtLoop.{params_held, bounded}

@@ -36,7 +36,7 @@ use Rattle.scalar_emit.specs.Kernel.{scalar_code, register_in}
 use Rattle.scalar_emit.specs.Runs.{Frame, HasArguments, AtIteration, BeginRuns, Comes, faults_so, ScalarRuns}
 use Rattle.overlap_guard.specs.Guard.{guard_code}
 use Rattle.overlap_guard.specs.Meets.{Passes, Chooses, on_where, off_where, MeetsApart}
-use Rattle.chunk_emit.specs.Head.{Ground, IsGround, most_lanes, limit}
+use Rattle.vector_emit.proofs.FromBelow.{Ground, IsGround, most_lanes, limit}
 use Rattle.vector_emit.specs.VectorCode.{vector_code}
 use Rattle.vector_emit.specs.VectorRuns as vectors
 use Rattle.vector_emit.specs.VectorRuns.{Near, VectorRuns, turn_steps, vector_base, vector_most}

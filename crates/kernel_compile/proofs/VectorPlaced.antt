@@ -20,14 +20,7 @@ use Rattle.scalar_emit.specs.Words.{settle_word}
 use Rattle.scalar_emit.specs.Layout.{register_at}
 use Rattle.scalar_emit.specs.Kernel.{kernel_homes, begin_code, begin_labels, scalar_code, scalar_labels}
 use Rattle.scalar_emit.proofs.Placed.{word_put, const_put, binary_put, begin_once, scalar_unplaced, scalar_once, unplaced_put, once_put}
-use Rattle.lane_emit.specs.LaneCode.{dup_code}
-use Rattle.reductions.specs.Joins.{identity}
-use Rattle.reductions.specs.AccumulatorLanes.{reduce_code}
-use Rattle.chunk_emit.specs.ChunkCode.{vectors, puts}
-use Rattle.chunk_emit.specs.KernelLayout.{update_of, layout_of_loop}
-use Rattle.first_fault.specs.Split.{is_quit}
-use Rattle.loop_edges.specs.EdgeCode.{type_of_var, hold_code, holds_code, start_code, fold_one, folds_code, fold_code}
-use Rattle.chunk_pass.specs.PassCode.{lanes_word, chunk_words, turn_words, plain_words}
+use Rattle.vector_emit.proofs.FromBelow.{dup_code, identity, reduce_code, vectors, puts, update_of, layout_of_loop, is_quit, type_of_var, hold_code, holds_code, start_code, fold_one, folds_code, fold_code, lanes_word, chunk_words, turn_words, plain_words}
 use Rattle.vector_emit.specs.VectorCode.{any_lane, passes_by, vector_code}
 use Rattle.overlap_guard.specs.Guard.{label_by, is_free, guard_code}
 use Rattle.overlap_guard.proofs.Placed.{guard_unplaced, guard_once, grows_pairs}

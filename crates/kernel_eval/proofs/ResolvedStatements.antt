@@ -1,23 +1,26 @@
 -- Resolved statements do what their statements do.
 use Rattle.std.proofs.Common.{◌≡◌, ℕ, ◌+◌, ◌≤◌, List, [], ◌∷◌, Bool, true, false, Option, Some, None, Result, Ok, Err, length, take, refl, sym, subst, ◌∙◌, arith}
-use Rattle.std.specs.Prelude.{ℤ, option_and_then, slice_set}
+use Rattle.std.specs.Prelude.{ℤ, ◌+ℤ◌, option_and_then, slice_set}
 use Rattle.std.proofs.lemmas.List.{length-set, set_past, length-append}
 use Rattle.kernel_tree.specs.declared.ops.Ty.{Ty}
+use Rattle.kernel_tree.specs.declared.ops.Ty.TheVariants as ty
+use Rattle.kernel_tree.specs.Wrap.{wrap}
 use Rattle.kernel_tree.specs.declared.ops.UpdateOp.{UpdateOp}
 use Rattle.kernel_tree.specs.declared.fault.Binding.TheVariants as binding
 use Rattle.kernel_tree.specs.Items.{stream_offset}
 use Rattle.kernel_tree.specs.Plain.{Action, Define, Put, Update, Choose, Leave, Block, Done, Then, Otherwise, Nothing, Else}
-use Rattle.kernel_tree.specs.Typing.{Scope, local, first, own, lookup, element_type, accumulator_type, index_type, left, defined, after_action, after_block}
+use Rattle.kernel_tree.specs.Typing.{Scope, local, first, own, lookup, accumulator_type, index_type, left, defined, after_action, after_block}
 use Rattle.guest_types.specs.declared.memory.AccessFault.{AccessFault}
 use Rattle.guest_types.specs.Memory.{Memory, stored}
 use Rattle.kernel_meaning.specs.Ends.{BlockEnd, Next, Broke, Faulted}
 use Rattle.kernel_meaning.specs.Operators.{word, binary_value, operator_of}
 use Rattle.kernel_meaning.specs.Eval.{Names, value_at, address, byte_count, iteration, element_number, on_both, value, holds}
 use Rattle.kernel_meaning.specs.Iterate.{with_name, assigned, cut, define, update, write, put, choose, leave, then_do, act, do_block, do_otherwise}
-use Rattle.kernel_eval.specs.Slots.{Slots, slot_at, tree_value, set_slot, write as write_slots, store, branch, quit, then_go, do_task, do_tasks}
-use Rattle.kernel_eval.specs.Resolve.{most_slots, slot_of, let_slot, number_tree, resolved, resolved_action, resolved_block, resolved_otherwise}
+use Rattle.kernel_eval.specs.Slots.{Slots, slot_at, stream_number, tree_value, set_slot, write as write_slots, store, branch, quit, then_go, do_task, do_tasks}
+use Rattle.kernel_eval.specs.Trees.{Tree}
+use Rattle.kernel_eval.specs.Resolve.{most_slots, slot_of, index_slot, array_type, let_slot, store_task, resolved, resolved_action, resolved_block, resolved_otherwise}
 use Rattle.kernel_eval.proofs.HeldSlots.{Held, value-held, assigned-held, named-held, cut-held, held-length}
-use Rattle.kernel_eval.proofs.ResolvedValues.{Alike, Neither, Words, same, number-alike, address-word}
+use Rattle.kernel_eval.proofs.ResolvedValues.{same, stream-alike, address-word}
 use Rattle.kernel_meaning.proofs.Extends.{Extends, extends_none, extends_on, visible_after, visible_block}
 
 -- two turns that leave the same memory, and in the slots what the names have: those of the scope after the statements, or
@@ -53,13 +56,35 @@ write-same : (s : Scope) (m : Memory) (ns : Names) (vs : Slots) (r : Result Memo
 write-same s m ns vs (Ok after) h l = Nexts after ns vs h l
 write-same s m ns vs (Err f) h l = Faults m
 
-put-alike : (s : Scope) (t : Option Ty) (base : ℤ) (m : Memory) (ns : Names) (vs : Slots) (v x y : Option ℤ) → Alike y x → Held s.visible ns vs → length vs ≡ most_slots → Matches s s (put t base m ns v x) (store t base m vs v y)
-put-alike s t base m ns vs None x y a h l = Faults m
-put-alike s t base m ns vs (Some v) _ _ Neither h l = Faults m
-put-alike s None base m ns vs (Some v) _ _ (Words y x e) h l = Faults m
-put-alike s (Some t) base m ns vs (Some v) _ _ (Words y x e) h l =
+put-words : (s : Scope) (t : Option Ty) (base : ℤ) (m : Memory) (ns : Names) (vs : Slots) (v : Option ℤ) (x y : ℤ) → word y ≡ word x → Held s.visible ns vs → length vs ≡ most_slots → Matches s s (put t base m ns v (Some x)) (store t base m vs v (Some y))
+put-words s t base m ns vs None x y e h l = Faults m
+put-words s None base m ns vs (Some v) x y e h l = Faults m
+put-words s (Some t) base m ns vs (Some v) x y e h l =
     subst (λ a. Matches s s (write m ns (stored m (address t base x) (byte_count t) (word v))) (write_slots m vs (stored m a (byte_count t) (word v)))) (sym (address-word t base y x e))
     (write-same s m ns vs (stored m (address t base x) (byte_count t) (word v)) h l)
+
+put-none : (s : Scope) (t : Option Ty) (base : ℤ) (m : Memory) (ns : Names) (vs : Slots) (v : Option ℤ) → Matches s s (put t base m ns v None) (store t base m vs v None)
+put-none s t base m ns vs None = Faults m
+put-none s t base m ns vs (Some v) = Faults m
+
+put-same : (s : Scope) (t : Option Ty) (base : ℤ) (m : Memory) (ns : Names) (vs : Slots) (v x : Option ℤ) → Held s.visible ns vs → length vs ≡ most_slots → Matches s s (put t base m ns v x) (store t base m vs v x)
+put-same s t base m ns vs v None h l = put-none s t base m ns vs v
+put-same s t base m ns vs v (Some x) h l = put-words s t base m ns vs v x x refl h l
+
+-- a store, by the offset of its index or its computed number
+store-same : (s : Scope) (a : List ℕ) (c : Option ℤ) (i e : Tree) (m : Memory) (ns : Names) (vs : Slots) (x v : Option ℤ) → Held s.visible ns vs → length vs ≡ most_slots → tree_value i m vs ≡ x → tree_value e m vs ≡ v → Matches s s (put (array_type s a) (value_at ns a) m ns v (element_number c (iteration s.index ns) x)) (do_task (store_task s a c i e) m vs)
+store-same s a None i e m ns vs x v h l is of =
+    let put-is = put (array_type s a) (value_at ns a) m ns v x in
+    subst (λ base. Matches s s put-is (store (array_type s a) base m vs (tree_value e m vs) (tree_value i m vs))) (sym (value-held s.visible ns vs a h (omega arith)))
+    (subst (λ o. Matches s s put-is (store (array_type s a) (value_at ns a) m vs o (tree_value i m vs))) (sym of)
+    (subst (λ o. Matches s s put-is (store (array_type s a) (value_at ns a) m vs v o)) (sym is) (put-same s (array_type s a) (value_at ns a) m ns vs v x h l)))
+store-same s a (Some c) i e m ns vs x v h l is of =
+    let le : length vs ≤ most_slots = omega arith in
+    let number = stream_number (slot_at vs (index_slot s.visible s.index)) (wrap ty.U64 c) in
+    let put-is = put (array_type s a) (value_at ns a) m ns v (Some (iteration s.index ns +ℤ c)) in
+    subst (λ base. Matches s s put-is (store (array_type s a) base m vs (tree_value e m vs) (Some number))) (sym (value-held s.visible ns vs a h le))
+    (subst (λ o. Matches s s put-is (store (array_type s a) (value_at ns a) m vs o (Some number))) (sym of)
+    (put-words s (array_type s a) (value_at ns a) m ns vs v (iteration s.index ns +ℤ c) number (stream-alike s c ns vs h le) h l))
 
 leave-same : (s : Scope) (m : Memory) (ns : Names) (vs : Slots) (o : Option Bool) → Held s.visible ns vs → length vs ≡ most_slots → Matches s s (leave m ns o) (quit m vs o)
 leave-same s m ns vs None h l = Faults m
@@ -132,16 +157,10 @@ mutual
       let v = (same s e m ns vs h (omega arith)).value_is want in
       subst (λ o. Matches s (defined s x want) (define x want m ns (value s want e m ns)) (set_slot (let_slot s want) m vs o)) (sym v) (define-same s x want m ns vs (value s want e m ns) h l room)
   act-same (Put a i e) s m ns vs h l room =
-      let type = option_and_then element_type (lookup s a) in
       let le : length vs ≤ most_slots = omega arith in
-      let v = (same s e m ns vs h le).value_is type in
-      let inner = (same s i m ns vs h le).value_is (index_type s i) in
-      let number = number-alike s (stream_offset s.index i) (resolved s (index_type s i) i) (value s (index_type s i) i m ns) m ns vs h le inner in
-      let x = element_number (stream_offset s.index i) (iteration s.index ns) (value s (index_type s i) i m ns) in
-      let y = tree_value (number_tree s (stream_offset s.index i) (resolved s (index_type s i) i)) m vs in
-      subst (λ o. Matches s s (put type (value_at ns a) m ns (value s type e m ns) x) (store type (slot_at vs (slot_of s a)) m vs o y)) (sym v)
-      (subst (λ base. Matches s s (put type (value_at ns a) m ns (value s type e m ns) x) (store type base m vs (value s type e m ns) y)) (sym (value-held s.visible ns vs a h le))
-      (put-alike s type (value_at ns a) m ns vs (value s type e m ns) x y number h l))
+      let v = (same s e m ns vs h le).value_is (array_type s a) in
+      let x = (same s i m ns vs h le).value_is (index_type s i) in
+      store-same s a (stream_offset s.index i) (resolved s (index_type s i) i) (resolved s (array_type s a) e) m ns vs (value s (index_type s i) i m ns) (value s (array_type s a) e m ns) h l x v
   act-same (Update x op e) s m ns vs h l room =
       let want = option_and_then accumulator_type (lookup s x) in
       let v = (same s e m ns vs h (omega arith)).value_is want in

@@ -1,19 +1,19 @@
 -- A resolved expression has the value of its expression.
-use Rattle.std.proofs.Common.{◌≡◌, ℕ, ◌+◌, ◌*◌, ◌%◌, ◌^◌, ◌≤◌, List, Option, Some, None, length, refl, sym, ap, ap₂, subst, ◌∙◌, arith}
-use Rattle.std.specs.Prelude.{ℤ, pos, ◌+ℤ◌, ◌*ℤ◌, option_map, option_and_then, not}
+use Rattle.std.proofs.Common.{◌≡◌, ℕ, ◌+◌, ◌*◌, ◌%◌, ◌^◌, ◌≤◌, List, Option, Some, None, length, refl, sym, ap, ap₂, ◌∙◌, arith}
+use Rattle.std.specs.Prelude.{ℤ, pos, ◌+ℤ◌, ◌*ℤ◌, option_map, option_and_then, not, false}
 use Rattle.std.proofs.lemmas.List.{get_or_past}
 use Rattle.kernel_tree.specs.declared.ops.Ty.{Ty}
 use Rattle.kernel_tree.specs.declared.ops.Ty.TheVariants as ty
 use Rattle.kernel_tree.specs.Wrap.{wrap}
 use Rattle.kernel_tree.specs.Items.{stream_offset}
 use Rattle.kernel_tree.specs.Plain as plain
-use Rattle.kernel_tree.specs.Typing.{Scope, Local, own, lookup, element_type, index_type, side_type}
+use Rattle.kernel_tree.specs.Typing.{Scope, Local, own, index_type, side_type}
 use Rattle.guest_types.specs.Memory.{Memory, loaded}
 use Rattle.kernel_meaning.specs.Operators.{word, unary_value, binary_value, shift_value, compare_on}
 use Rattle.kernel_meaning.specs.Eval.{Names, value_at, address, byte_count, read_value, read_element, iteration, element_number, on_both, chosen, and_then, or_else, value, holds}
 use Rattle.kernel_eval.specs.Trees.{Tree}
-use Rattle.kernel_eval.specs.Slots.{Slots, slot_at, tree_value, tree_holds}
-use Rattle.kernel_eval.specs.Resolve.{most_slots, index_slot, number_tree, resolved}
+use Rattle.kernel_eval.specs.Slots.{Slots, slot_at, stream_number, tree_value, tree_holds}
+use Rattle.kernel_eval.specs.Resolve.{most_slots, array_type, index_slot, read_tree, resolved}
 use Rattle.kernel_meaning.proofs.Residues.{word-below, word-mul, word-add}
 use Rattle.kernel_eval.proofs.HeldSlots.{Held, value-held}
 
@@ -50,11 +50,23 @@ index-held : (ls : List Local) (index : Option (List ℕ)) (ns : Names) (vs : Sl
 index-held ls None ns vs h le = get_or_past vs most_slots (pos 0) le
 index-held ls (Some i) ns vs h le = value-held ls ns vs i h le
 
-pub number-alike : (s : Scope) (c : Option ℤ) (t : Tree) (o : Option ℤ) (memory : Memory) (ns : Names) (vs : Slots) → Held s.visible ns vs → length vs ≤ most_slots → tree_value t memory vs ≡ o → Alike (tree_value (number_tree s c t) memory vs) (element_number c (iteration s.index ns) o)
-number-alike s None t o memory ns vs h le e = subst (λ p. Alike (tree_value t memory vs) p) e (alike_same (tree_value t memory vs))
-number-alike s (Some c) t o memory ns vs h le e =
-    let at = index-held s.visible s.index ns vs h le in
-    Words (wrap ty.U64 (slot_at vs (index_slot s.visible s.index) +ℤ wrap ty.U64 c)) (iteration s.index ns +ℤ c) (stream-word (slot_at vs (index_slot s.visible s.index)) c ∙ ap (λ i. word (i +ℤ c)) at)
+-- the number of a stream's element is that of the kernel, modulo 2^64
+pub stream-alike : (s : Scope) (c : ℤ) (ns : Names) (vs : Slots) → Held s.visible ns vs → length vs ≤ most_slots → word (stream_number (slot_at vs (index_slot s.visible s.index)) (wrap ty.U64 c)) ≡ word (iteration s.index ns +ℤ c)
+stream-alike s c ns vs h le = stream-word (slot_at vs (index_slot s.visible s.index)) c ∙ ap (λ i. word (i +ℤ c)) (index-held s.visible s.index ns vs h le)
+
+-- an element is that of the kernel
+read-same : (s : Scope) (a : List ℕ) (c : Option ℤ) (t : Tree) (o : Option ℤ) (memory : Memory) (ns : Names) (vs : Slots) → Held s.visible ns vs → length vs ≤ most_slots → tree_value t memory vs ≡ o → tree_value (read_tree s a c t) memory vs ≡ option_and_then (read_element (array_type s a) memory (value_at ns a)) (element_number c (iteration s.index ns) o)
+read-same s a None t o memory ns vs h le e =
+    ap₂ (λ base p. option_and_then (read_element (array_type s a) memory base) p) (value-held s.visible ns vs a h le) e
+read-same s a (Some c) t o memory ns vs h le e =
+    let number = stream_number (slot_at vs (index_slot s.visible s.index)) (wrap ty.U64 c) in
+    ap (λ base. read_element (array_type s a) memory base number) (value-held s.visible ns vs a h le)
+    ∙ read-alike (array_type s a) memory (value_at ns a) (Some number) (Some (iteration s.index ns +ℤ c)) (Words number (iteration s.index ns +ℤ c) (stream-alike s c ns vs h le))
+
+-- an element is no condition
+read-holds : (s : Scope) (a : List ℕ) (c : Option ℤ) (t : Tree) (memory : Memory) (vs : Slots) → tree_holds (read_tree s a c t) memory vs ≡ Some false
+read-holds s a None t memory vs = refl
+read-holds s a (Some c) t memory vs = refl
 
 -- ---- expressions
 
@@ -66,11 +78,9 @@ pub same : (s : Scope) (e : plain.Term) (memory : Memory) (ns : Names) (vs : Slo
 same s (plain.Literal n) memory ns vs h le = record { value_is = λ want. refl; holds_is = λ want. refl }
 same s (plain.Variable x) memory ns vs h le = record { value_is = λ want. ap Some (value-held s.visible ns vs x h le); holds_is = λ want. refl }
 same s (plain.Element a i) memory ns vs h le =
-    let type = option_and_then element_type (lookup s a) in
     let inner = (same s i memory ns vs h le).value_is (index_type s i) in
-    let number = number-alike s (stream_offset s.index i) (resolved s (index_type s i) i) (value s (index_type s i) i memory ns) memory ns vs h le inner in
-    let read = ap (λ base. option_and_then (read_element type memory base) (tree_value (number_tree s (stream_offset s.index i) (resolved s (index_type s i) i)) memory vs)) (value-held s.visible ns vs a h le) ∙ read-alike type memory (value_at ns a) _ _ number in
-    record { value_is = λ want. read; holds_is = λ want. refl }
+    let read = read-same s a (stream_offset s.index i) (resolved s (index_type s i) i) (value s (index_type s i) i memory ns) memory ns vs h le inner in
+    record { value_is = λ want. read; holds_is = λ want. read-holds s a (stream_offset s.index i) (resolved s (index_type s i) i) memory vs }
 same s (plain.Unary op e) memory ns vs h le =
     let r = same s e memory ns vs h le in
     record { value_is = λ want. ap (option_map (unary_value op want)) (r.value_is want); holds_is = λ want. refl }

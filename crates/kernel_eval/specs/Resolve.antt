@@ -2,13 +2,12 @@
 use Rattle.std.specs.Prelude.{ℕ, suc, ℤ, List, [], ◌∷◌, length, Option, Some, None, option_and_then, if◌then◌else◌}
 use Rattle.kernel_tree.specs.declared.ops.Ty.{Ty}
 use Rattle.kernel_tree.specs.declared.ops.Ty.TheVariants as ty
-use Rattle.kernel_tree.specs.declared.ops.BinaryOp.TheVariants as binary
 use Rattle.kernel_tree.specs.Plain as plain
 use Rattle.kernel_tree.specs.Wrap.{wrap}
 use Rattle.kernel_tree.specs.Items.{stream_offset}
 use Rattle.kernel_tree.specs.Typing.{Scope, Local, has_name, lookup, own, first, element_type, accumulator_type, index_type, side_type, after_action, after_block, left}
 use Rattle.kernel_meaning.specs.Operators.{wrapped, operator_of}
-use Rattle.kernel_eval.specs.Trees.{Tree, Constant, Slot, Element, Unary, Binary, Shift, Cast, Select, Compare, And, Or, Not, Task, Set, Store, If, Break, Tasks, Done, Then}
+use Rattle.kernel_eval.specs.Trees.{Tree, Constant, Slot, Stream, Element, Unary, Binary, Shift, Cast, Select, Compare, And, Or, Not, Task, Set, Put, Store, If, Break, Tasks, Done, Then}
 
 -- more slots than a checked kernel has names
 abbrev pub most_slots : ℕ
@@ -26,19 +25,28 @@ abbrev pub index_slot : List Local → Option (List ℕ) → ℕ
 index_slot visible None = most_slots
 index_slot visible (Some i) = place visible i
 
--- the number of an element at an offset from the loop variable, modulo 2^64
-abbrev pub stream_tree : Scope → ℤ → Tree
-stream_tree scope c = Binary binary.Add (Some ty.U64) (Slot (index_slot scope.visible scope.index)) (Constant c)
+-- the type of the elements of an array
+abbrev pub array_type : Scope → List ℕ → Option Ty
+array_type scope a = option_and_then element_type (lookup scope a)
 
--- the number of an element
-abbrev pub number_tree : Scope → Option ℤ → Tree → Tree
-number_tree scope (Some c) computed = stream_tree scope (wrap ty.U64 c)
-number_tree scope None computed = computed
+-- an element at an offset from the loop variable
+abbrev pub stream_tree : Scope → List ℕ → ℤ → Tree
+stream_tree scope a c = Stream (slot_of scope a) (array_type scope a) (index_slot scope.visible scope.index) c
+
+-- an element, by the offset of its index or its computed number
+abbrev pub read_tree : Scope → List ℕ → Option ℤ → Tree → Tree
+read_tree scope a (Some c) computed = stream_tree scope a (wrap ty.U64 c)
+read_tree scope a None computed = Element (slot_of scope a) (array_type scope a) computed
+
+-- a store to it
+abbrev pub store_task : Scope → List ℕ → Option ℤ → Tree → Tree → Task
+store_task scope a (Some c) computed e = Put (slot_of scope a) (array_type scope a) (index_slot scope.visible scope.index) (wrap ty.U64 c) e
+store_task scope a None computed e = Store (slot_of scope a) (array_type scope a) computed e
 
 abbrev pub resolved : Scope → Option Ty → plain.Term → Tree
 resolved scope want (plain.Literal n) = Constant (wrapped want n)
 resolved scope want (plain.Variable x) = Slot (slot_of scope x)
-resolved scope want (plain.Element a i) = Element (slot_of scope a) (option_and_then element_type (lookup scope a)) (number_tree scope (stream_offset scope.index i) (resolved scope (index_type scope i) i))
+resolved scope want (plain.Element a i) = read_tree scope a (stream_offset scope.index i) (resolved scope (index_type scope i) i)
 resolved scope want (plain.Unary op e) = Unary op want (resolved scope want e)
 resolved scope want (plain.Operation op a b) = Binary op want (resolved scope want a) (resolved scope want b)
 resolved scope want (plain.Shift left e n) = Shift left n want (resolved scope want e)
@@ -54,16 +62,18 @@ abbrev pub let_slot : Scope → Option Ty → ℕ
 let_slot scope None = most_slots
 let_slot scope (Some t) = length scope.visible
 
+-- the number of an element by an index that is computed
+abbrev pub number_tree : Scope → plain.Term → Tree
+number_tree scope i = resolved scope (index_type scope i) i
+
 -- an element of an array
 abbrev pub element_tree : Scope → List ℕ → plain.Term → Tree
-element_tree scope a i = Element (slot_of scope a) (option_and_then element_type (lookup scope a)) (number_tree scope (stream_offset scope.index i) (resolved scope (index_type scope i) i))
+element_tree scope a i = read_tree scope a (stream_offset scope.index i) (number_tree scope i)
 
 abbrev mutual
   pub resolved_action : Scope → plain.Action → Task
   resolved_action scope (plain.Define x t e) = let want = first t (own scope e) in Set (let_slot scope want) (resolved scope want e)
-  resolved_action scope (plain.Put a i e) =
-      let type = option_and_then element_type (lookup scope a) in
-      Store (slot_of scope a) type (number_tree scope (stream_offset scope.index i) (resolved scope (index_type scope i) i)) (resolved scope type e)
+  resolved_action scope (plain.Put a i e) = store_task scope a (stream_offset scope.index i) (number_tree scope i) (resolved scope (array_type scope a) e)
   resolved_action scope (plain.Update x op e) =
       let want = option_and_then accumulator_type (lookup scope x) in
       Set (slot_of scope x) (Binary (operator_of op) want (Slot (slot_of scope x)) (resolved scope want e))

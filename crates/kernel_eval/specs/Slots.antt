@@ -1,13 +1,14 @@
 -- What a resolved kernel does with a memory and the values of its slots.
-use Rattle.std.specs.Prelude.{ℕ, ℤ, pos, List, Option, Some, None, option_map, option_and_then, Result, Ok, Err, Bool, true, false, not, slice_index_or, slice_set}
+use Rattle.std.specs.Prelude.{ℕ, ℤ, pos, ◌+ℤ◌, List, Option, Some, None, option_map, option_and_then, Result, Ok, Err, Bool, true, false, not, slice_index_or, slice_set}
 use Rattle.kernel_tree.specs.declared.ops.Ty.{Ty}
+use Rattle.kernel_tree.specs.declared.ops.Ty.TheVariants as ty
 use Rattle.guest_types.specs.declared.memory.AccessFault.{AccessFault}
 use Rattle.guest_types.specs.Memory.{Memory, stored}
 use Rattle.kernel_tree.specs.Wrap.{wrap}
 use Rattle.kernel_meaning.specs.Ends.{BlockEnd, Next, Broke, Faulted}
 use Rattle.kernel_meaning.specs.Operators.{word, unary_value, binary_value, shift_value, compare_on}
 use Rattle.kernel_meaning.specs.Eval.{read_element, on_both, chosen, and_then, or_else, address, byte_count}
-use Rattle.kernel_eval.specs.Trees.{Tree, Constant, Slot, Element, Unary, Binary, Shift, Cast, Select, Compare, And, Or, Not, Task, Set, Store, If, Break, Tasks, Done, Then}
+use Rattle.kernel_eval.specs.Trees.{Tree, Constant, Slot, Stream, Element, Unary, Binary, Shift, Cast, Select, Compare, And, Or, Not, Task, Set, Put, Store, If, Break, Tasks, Done, Then}
 use Rattle.kernel_eval.specs.declared.block_end.BlockEnd.{BlockEnd as CodeEnd}
 use Rattle.kernel_eval.specs.declared.block_end.BlockEnd.TheVariants as code
 
@@ -18,10 +19,15 @@ Slots = List ℤ
 abbrev pub slot_at : Slots → ℕ → ℤ
 slot_at slots n = slice_index_or slots n (pos 0)
 
+-- the number of the element at an offset from the loop variable, modulo 2^64
+abbrev pub stream_number : ℤ → ℤ → ℤ
+stream_number i c = wrap ty.U64 (i +ℤ c)
+
 abbrev mutual
   pub tree_value : Tree → Memory → Slots → Option ℤ
   tree_value (Constant z) memory slots = Some z
   tree_value (Slot n) memory slots = Some (slot_at slots n)
+  tree_value (Stream base t n c) memory slots = read_element t memory (slot_at slots base) (stream_number (slot_at slots n) c)
   tree_value (Element base t e) memory slots = option_and_then (read_element t memory (slot_at slots base)) (tree_value e memory slots)
   tree_value (Unary op t e) memory slots = option_map (unary_value op t) (tree_value e memory slots)
   tree_value (Binary op t a b) memory slots = on_both (binary_value op t) (tree_value a memory slots) (tree_value b memory slots)
@@ -40,6 +46,7 @@ abbrev mutual
   tree_holds (Not e) memory slots = option_map not (tree_holds e memory slots)
   tree_holds (Constant z) memory slots = Some false
   tree_holds (Slot n) memory slots = Some false
+  tree_holds (Stream base t n c) memory slots = Some false
   tree_holds (Element base t e) memory slots = Some false
   tree_holds (Unary op t e) memory slots = Some false
   tree_holds (Binary op t a b) memory slots = Some false
@@ -85,6 +92,7 @@ then_go (Faulted memory) rest = Faulted memory
 abbrev mutual
   pub do_task : Task → Memory → Slots → BlockEnd Slots
   do_task (Set n e) memory slots = set_slot n memory slots (tree_value e memory slots)
+  do_task (Put base t n c e) memory slots = store t (slot_at slots base) memory slots (tree_value e memory slots) (Some (stream_number (slot_at slots n) c))
   do_task (Store base t i e) memory slots = store t (slot_at slots base) memory slots (tree_value e memory slots) (tree_value i memory slots)
   do_task (If c one other) memory slots = branch memory (tree_holds c memory slots) (do_tasks one memory slots) (do_tasks other memory slots)
   do_task (Break c) memory slots = quit memory slots (tree_holds c memory slots)

@@ -12,6 +12,8 @@ use Rattle.kernel_eval.specs.declared.step.Step.TheVariants as step
 pub data Tree : Type 0 where
   Constant : ℤ → Tree
   Slot : ℕ → Tree
+  -- the slot of an array's address, the type of its elements, the slot of the loop variable, and the offset from it
+  Stream : ℕ → Option Ty → ℕ → ℤ → Tree
   -- the slot of an array's address, the type of its elements, and the number of the element
   Element : ℕ → Option Ty → Tree → Tree
   Unary : UnaryOp → Option Ty → Tree → Tree
@@ -27,6 +29,8 @@ pub data Tree : Type 0 where
 mutual
   pub data Task : Type 0 where
     Set : ℕ → Tree → Task
+    -- the slot of an array's address, the type of its elements, the slot of the loop variable, the offset from it, and the new value
+    Put : ℕ → Option Ty → ℕ → ℤ → Tree → Task
     -- the slot of an array's address, the type of its elements, the number of the element, and its new value
     Store : ℕ → Option Ty → Tree → Tree → Task
     If : Tree → Tasks → Tasks → Task
@@ -39,6 +43,7 @@ mutual
 abbrev pub tree_of : Node → Tree
 tree_of (node.Constant z) = Constant z
 tree_of (node.Slot n) = Slot n
+tree_of (node.Stream base t n c) = Stream base t n c
 tree_of (node.Element' base t p e) = Element base t (tree_of e)
 tree_of (node.Unary' op t p e) = Unary op t (tree_of e)
 tree_of (node.Binary' op t p a q b) = Binary op t (tree_of a) (tree_of b)
@@ -53,6 +58,7 @@ tree_of (node.Not' p e) = Not (tree_of e)
 abbrev mutual
   pub task_of : Step → Task
   task_of (step.Set n e) = Set n (tree_of e)
+  task_of (step.Put base t n c e) = Put base t n c (tree_of e)
   task_of (step.Store base t i e) = Store base t (tree_of i) (tree_of e)
   task_of (step.If' c shape one form other) = If (tree_of c) (row_of one) (row_of other)
   task_of (step.Break c) = Break (tree_of c)
@@ -74,6 +80,7 @@ followed (Then t rest) ts = Then t (followed rest ts)
 abbrev mutual
   pub task_depth : Task → ℕ
   task_depth (Set n e) = 1
+  task_depth (Put base t n c e) = 1
   task_depth (Store base t i e) = 1
   task_depth (If c one other) = max (tasks_depth one) (tasks_depth other) + 1
   task_depth (Break c) = 1

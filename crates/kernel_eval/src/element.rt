@@ -10,6 +10,7 @@ use kernel_meaning::{word, wrap};
 use kernel_tree::Ty;
 
 /// The bytes of an element.
+#[inline(always)]
 fn byte_count(ty: Ty) -> u32
     ensures value { result ≡ eval.byte_count ty }
     ensures size { (result ≡ 1) ⊎ (result ≡ 2) ⊎ (result ≡ 4) ⊎ (result ≡ 8) }
@@ -23,6 +24,7 @@ fn byte_count(ty: Ty) -> u32
 }
 
 /// The address of an element, by the address of its array and its number.
+#[inline(always)]
 fn address(ty: Ty, base: i128, number: i128) -> u64
     ensures { result ≡ eval.address ty base number }
 {
@@ -30,6 +32,7 @@ fn address(ty: Ty, base: i128, number: i128) -> u64
 }
 
 // An element of an array.
+#[inline(always)]
 fn read_at<M: GuestMemory>(memory: &M, ty: Ty, base: i128, number: i128) -> Option<i128>
     ensures { result ≡ eval.read_element (Some ty) (M.memory memory.now) base number }
 {
@@ -40,6 +43,7 @@ fn read_at<M: GuestMemory>(memory: &M, ty: Ty, base: i128, number: i128) -> Opti
 }
 
 /// An element of an array, unless its number faults or the read does.
+#[inline(always)]
 pub fn read<M: GuestMemory>(
     memory: &M,
     ty: Option<Ty>,
@@ -56,6 +60,7 @@ pub fn read<M: GuestMemory>(
 }
 
 // Replaces an element of an array.
+#[inline(always)]
 fn write_at<M: GuestMemory>(
     memory: &mut M,
     ty: Ty,
@@ -73,6 +78,7 @@ fn write_at<M: GuestMemory>(
 }
 
 /// Replaces an element of an array, unless its number or its new value faults or the write does.
+#[inline(always)]
 pub fn write<M: GuestMemory>(
     memory: &mut M,
     ty: Option<Ty>,

@@ -7,7 +7,14 @@ use kernel_tree::{BinaryOp, CompareOp, Ty, UnaryOp};
 pub enum Node {
     Constant(i128),
     Slot(usize),
-    /// An element of the array whose address is in a slot.
+    /// The element, at an offset from the loop variable, of the array whose address is in a slot.
+    Stream {
+        base: usize,
+        ty: Option<Ty>,
+        index: usize,
+        offset: i128,
+    },
+    /// The element with a computed number of such an array.
     Element {
         base: usize,
         ty: Option<Ty>,

@@ -5,11 +5,13 @@ ghost use Rattle.kernel_tree.specs.Wrap as wraps;
 ghost use Rattle.kernel_meaning.specs.Operators as operators;
 ghost use Rattle.kernel_meaning.specs.Eval as eval;
 ghost use Rattle.kernel_meaning.specs.Operators.{word};
+ghost use Rattle.kernel_eval.specs.Slots as slots_of;
 
 use kernel_meaning::{word, wrap, wrapped};
 use kernel_tree::{BinaryOp, CompareOp, Ty, UnaryOp};
 
 // The result of an operator modulo 2^64.
+#[inline(always)]
 fn unary_on(op: UnaryOp, value: i128) -> i128
     ensures { word result ≡ word (operators.unary_on op value) }
 {
@@ -20,6 +22,7 @@ fn unary_on(op: UnaryOp, value: i128) -> i128
     }
 }
 
+#[inline(always)]
 #[tactic(auto, using(kernel_meaning::proofs::Residues::word_rules))]
 fn binary_on(op: BinaryOp, left: i128, right: i128) -> i128
     ensures { word result ≡ word (operators.binary_on op left right) }
@@ -36,6 +39,7 @@ fn binary_on(op: BinaryOp, left: i128, right: i128) -> i128
     }
 }
 
+#[inline(always)]
 #[tactic(auto, using(kernel_meaning::proofs::Residues::word_rules))]
 fn shift_on(left_shift: bool, count: u32, value: i128) -> i128
     requires { count < 64 }
@@ -48,6 +52,7 @@ fn shift_on(left_shift: bool, count: u32, value: i128) -> i128
     }
 }
 
+#[inline(always)]
 fn compare_on(op: CompareOp, left: i128, right: i128) -> bool
     ensures { result ≡ operators.compare_on op left right }
 {
@@ -61,6 +66,7 @@ fn compare_on(op: CompareOp, left: i128, right: i128) -> bool
     }
 }
 
+#[inline(always)]
 #[tactic(auto, using(kernel_meaning::proofs::Residues::word_rules))]
 fn unary_at(op: UnaryOp, ty: Option<Ty>, value: i128) -> i128
     ensures { result ≡ operators.unary_value op ty value }
@@ -68,6 +74,7 @@ fn unary_at(op: UnaryOp, ty: Option<Ty>, value: i128) -> i128
     wrapped(ty, unary_on(op, value))
 }
 
+#[inline(always)]
 #[tactic(auto, using(kernel_meaning::proofs::Residues::word_rules))]
 fn binary_at(op: BinaryOp, ty: Option<Ty>, left: i128, right: i128) -> i128
     ensures { result ≡ operators.binary_value op ty left right }
@@ -76,6 +83,7 @@ fn binary_at(op: BinaryOp, ty: Option<Ty>, left: i128, right: i128) -> i128
 }
 
 // The count of a shift, which is below 64.
+#[inline(always)]
 fn shift_count(count: i128) -> u32
     ensures value { result ≡ operators.shift_count count }
     ensures below { result < 64 }
@@ -83,6 +91,7 @@ fn shift_count(count: i128) -> u32
     (word(count) % 64) as u32
 }
 
+#[inline(always)]
 #[tactic(auto, using(kernel_meaning::proofs::Residues::word_rules))]
 fn shift_at(left_shift: bool, count: i128, ty: Option<Ty>, value: i128) -> i128
     ensures { result ≡ operators.shift_value left_shift count ty value }
@@ -90,7 +99,16 @@ fn shift_at(left_shift: bool, count: i128, ty: Option<Ty>, value: i128) -> i128
     wrapped(ty, shift_on(left_shift, shift_count(count), value))
 }
 
+/// The number of the element at an offset from the loop variable, modulo 2^64.
+#[inline(always)]
+pub fn stream_number(index: i128, offset: i128) -> i128
+    ensures { result ≡ slots_of.stream_number index offset }
+{
+    binary_at(BinaryOp::Add, Some(Ty::U64), index, offset)
+}
+
 /// What a unary operator gives at a type, unless its operand faults.
+#[inline(always)]
 pub fn unary(op: UnaryOp, ty: Option<Ty>, value: Option<i128>) -> Option<i128>
     ensures { result ≡ option_map (operators.unary_value op ty) value }
 {
@@ -101,6 +119,7 @@ pub fn unary(op: UnaryOp, ty: Option<Ty>, value: Option<i128>) -> Option<i128>
 }
 
 /// What a binary operator gives at a type, unless an operand faults.
+#[inline(always)]
 pub fn binary(op: BinaryOp, ty: Option<Ty>, left: Option<i128>, right: Option<i128>) -> Option<i128>
     ensures { result ≡ eval.on_both (operators.binary_value op ty) left right }
 {
@@ -111,6 +130,7 @@ pub fn binary(op: BinaryOp, ty: Option<Ty>, left: Option<i128>, right: Option<i1
 }
 
 /// What a shift gives at a type, unless its operand faults.
+#[inline(always)]
 pub fn shift(left_shift: bool, count: i128, ty: Option<Ty>, value: Option<i128>) -> Option<i128>
     ensures { result ≡ option_map (operators.shift_value left_shift count ty) value }
 {
@@ -132,6 +152,7 @@ pub fn cast(ty: Ty, value: Option<i128>) -> Option<i128>
 }
 
 /// Whether a comparison holds, unless a side faults.
+#[inline(always)]
 pub fn compare(op: CompareOp, left: Option<i128>, right: Option<i128>) -> Option<bool>
     ensures { result ≡ eval.on_both (operators.compare_on op) left right }
 {
@@ -142,6 +163,7 @@ pub fn compare(op: CompareOp, left: Option<i128>, right: Option<i128>) -> Option
 }
 
 /// One of two values, unless one of them or the condition faults.
+#[inline(always)]
 pub fn select(cond: Option<bool>, yes: Option<i128>, no: Option<i128>) -> Option<i128>
     ensures { result ≡ eval.chosen yes no cond }
 {

@@ -8,7 +8,7 @@ ghost use Rattle.guest_types.specs.Memory.{Memory};
 
 use crate::block_end::BlockEnd;
 use crate::element::write;
-use crate::node::Node;
+use crate::operate::stream_number;
 use crate::step::Step;
 use crate::value::{holds, slot_at, value};
 use guest_types::guest::GuestMemory;
@@ -47,6 +47,17 @@ fn perform_step<M: GuestMemory>(step: &Step, memory: &mut M, slots: &mut [i128])
         Step::Set { slot, value: node } => {
             let found = value(node, &*memory, &*slots);
             set_slot(slots, *slot, found)
+        }
+        Step::Put {
+            base,
+            ty,
+            index,
+            offset,
+            value: node,
+        } => {
+            let found = value(node, &*memory, &*slots);
+            let at = stream_number(slot_at(slots, *index), *offset);
+            write(memory, *ty, slot_at(slots, *base), Some(at), found)
         }
         Step::Store {
             base,

@@ -1,15 +1,13 @@
 //! Resolves expressions.
 
-ghost use Rattle.std.specs.Prelude.{◌≡◌, IfOk, None, option_map, option_and_then};
+ghost use Rattle.std.specs.Prelude.{◌≡◌, IfOk, None};
 ghost use Rattle.kernel_tree.specs.Plain.{name_of, term_of};
-ghost use Rattle.kernel_tree.specs.Items as items;
 ghost use Rattle.kernel_tree.specs.Typing as typing;
 ghost use Rattle.kernel_eval.specs.Trees as trees;
 ghost use Rattle.kernel_eval.specs.Trees.{tree_of};
 ghost use Rattle.kernel_eval.specs.Resolve as resolving;
 ghost use Rattle.kernel_scope.specs.Scopes.{scope_of};
 
-use crate::build;
 use crate::names::{index_slot, slot};
 use crate::node::Node;
 use crate::offset::stream_offset;
@@ -20,7 +18,7 @@ use std::alloc::{AllocError, Global};
 
 /// The type of the elements of an array.
 pub fn array_type(scope: &Scope, array: &Name) -> Option<Ty>
-    ensures { result ≡ option_and_then typing.element_type (typing.lookup (scope_of scope.now) (name_of array.now)) }
+    ensures { result ≡ resolving.array_type (scope_of scope.now) (name_of array.now) }
 {
     lookup(scope, array).and_then(element_type)
 }
@@ -32,17 +30,16 @@ fn side_type(scope: &Scope, left: &Expr, right: &Expr) -> Option<Ty>
     first(own_type(scope, left), own_type(scope, right))
 }
 
-// The number of an element at an offset from the loop variable.
-fn stream_number(alloc: Global, scope: &Scope, offset: i128) -> Result<Node, AllocError>
-    ensures { IfOk result (λ n. tree_of n ≡ resolving.stream_tree (scope_of scope.now) offset) }
+// An element at an offset from the loop variable.
+fn stream(scope: &Scope, array: &Name, offset: i128) -> Node
+    ensures { tree_of result ≡ resolving.stream_tree (scope_of scope.now) (name_of array.now) offset }
 {
-    build::binary(
-        alloc,
-        BinaryOp::Add,
-        Some(Ty::U64),
-        Node::Slot(index_slot(scope)),
-        Node::Constant(offset),
-    )
+    Node::Stream {
+        base: slot(scope, array),
+        ty: array_type(scope, array),
+        index: index_slot(scope),
+        offset,
+    }
 }
 
 /// An expression of which a type is wanted, or a condition.
@@ -75,21 +72,13 @@ pub fn resolve(
     }
 }
 
-/// The number of an element, by its index.
+/// The number of an element, by an index that is computed.
 #[cycle(nodes)]
 pub fn resolve_number(alloc: Global, scope: &Scope, index: &Expr) -> Result<Node, AllocError>
-    ensures { IfOk result (λ n. tree_of n ≡ resolving.number_tree (scope_of scope.now)
-        (items.stream_offset (scope_of scope.now).index (term_of index.now))
-        (resolving.resolved (scope_of scope.now) (typing.index_type (scope_of scope.now) (term_of index.now))
-        (term_of index.now))) }
+    ensures { IfOk result (λ n. tree_of n ≡ resolving.number_tree (scope_of scope.now) (term_of index.now)) }
 {
-    match stream_offset(scope.index, index) {
-        Some(offset) => stream_number(alloc, scope, offset),
-        None => {
-            let want = first(own_type(scope, index), Some(Ty::U64));
-            resolve(alloc, scope, want, index)
-        }
-    }
+    let want = first(own_type(scope, index), Some(Ty::U64));
+    resolve(alloc, scope, want, index)
 }
 
 // An operand, in a box.
@@ -135,6 +124,23 @@ fn resolve_read(
 ) -> Result<Node, AllocError>
     ensures { IfOk result (λ n. tree_of n ≡ resolving.element_tree (scope_of scope.now) (name_of array.now)
         (term_of index.now)) }
+{
+    match stream_offset(scope.index, index) {
+        Some(offset) => Ok(stream(scope, array, offset)),
+        None => resolve_element(alloc, scope, array, index),
+    }
+}
+
+#[cycle(nodes)]
+fn resolve_element(
+    alloc: Global,
+    scope: &Scope,
+    array: &Name,
+    index: &Expr,
+) -> Result<Node, AllocError>
+    ensures { IfOk result (λ n. tree_of n ≡ trees.Element (resolving.slot_of (scope_of scope.now) (name_of array.now))
+        (resolving.array_type (scope_of scope.now) (name_of array.now))
+        (resolving.number_tree (scope_of scope.now) (term_of index.now))) }
 {
     let number = Box::new(alloc, resolve_number(alloc, scope, index)?)?;
     Ok(Node::Element {

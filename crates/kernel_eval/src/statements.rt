@@ -5,14 +5,16 @@ ghost use Rattle.kernel_tree.specs.Plain as plain;
 ghost use Rattle.kernel_tree.specs.Plain.{name_of, term_of, action_of, block_of};
 ghost use Rattle.kernel_tree.specs.Typing as typing;
 ghost use Rattle.kernel_meaning.specs.Operators as operators;
+ghost use Rattle.kernel_eval.specs.Trees as trees;
 ghost use Rattle.kernel_eval.specs.Trees.{task_of, tasks_of};
 ghost use Rattle.kernel_eval.specs.Resolve as resolving;
 ghost use Rattle.kernel_scope.specs.Scopes.{scope_of};
 
 use crate::build::binary;
-use crate::make::branch;
-use crate::names::{MOST_SLOTS, slot};
+use crate::make::{branch, put, store};
+use crate::names::{MOST_SLOTS, index_slot, slot};
 use crate::node::Node;
+use crate::offset::stream_offset;
 use crate::resolve::{array_type, resolve, resolve_number};
 use crate::step::Step;
 use kernel_scope::{
@@ -50,6 +52,47 @@ fn resolve_let<'a>(
     Ok(Step::Set { slot, value })
 }
 
+// A store at a computed number.
+fn resolve_computed(
+    alloc: Global,
+    scope: &Scope,
+    array: &Name,
+    index: &Expr,
+    value: &Expr,
+) -> Result<Step, AllocError>
+    ensures { IfOk result (λ s. task_of s ≡ trees.Store (resolving.slot_of (scope_of scope.now) (name_of array.now))
+        (resolving.array_type (scope_of scope.now) (name_of array.now))
+        (resolving.number_tree (scope_of scope.now) (term_of index.now))
+        (resolving.resolved (scope_of scope.now) (resolving.array_type (scope_of scope.now) (name_of array.now))
+        (term_of value.now))) }
+{
+    let ty = array_type(scope, array);
+    let base = slot(scope, array);
+    let number = resolve_number(alloc, scope, index)?;
+    let value = resolve(alloc, scope, ty, value)?;
+    Ok(store(base, ty, number, value))
+}
+
+// A store at an offset from the loop variable.
+fn resolve_put(
+    alloc: Global,
+    scope: &Scope,
+    array: &Name,
+    offset: i128,
+    value: &Expr,
+) -> Result<Step, AllocError>
+    ensures { IfOk result (λ s. task_of s ≡ trees.Put (resolving.slot_of (scope_of scope.now) (name_of array.now))
+        (resolving.array_type (scope_of scope.now) (name_of array.now))
+        (resolving.index_slot (scope_of scope.now).visible (scope_of scope.now).index) offset
+        (resolving.resolved (scope_of scope.now) (resolving.array_type (scope_of scope.now) (name_of array.now))
+        (term_of value.now))) }
+{
+    let ty = array_type(scope, array);
+    let base = slot(scope, array);
+    let value = resolve(alloc, scope, ty, value)?;
+    Ok(put(base, ty, index_slot(scope), offset, value))
+}
+
 fn resolve_store(
     alloc: Global,
     scope: &Scope,
@@ -60,16 +103,10 @@ fn resolve_store(
     ensures { IfOk result (λ s. task_of s ≡ resolving.resolved_action (scope_of scope.now)
         (plain.Put (name_of array.now) (term_of index.now) (term_of value.now))) }
 {
-    let ty = array_type(scope, array);
-    let base = slot(scope, array);
-    let number = resolve_number(alloc, scope, index)?;
-    let value = resolve(alloc, scope, ty, value)?;
-    Ok(Step::Store {
-        base,
-        ty,
-        number,
-        value,
-    })
+    match stream_offset(scope.index, index) {
+        Some(offset) => resolve_put(alloc, scope, array, offset, value),
+        None => resolve_computed(alloc, scope, array, index, value),
+    }
 }
 
 // The operator that an update applies.

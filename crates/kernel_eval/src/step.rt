@@ -11,7 +11,15 @@ pub enum Step {
         slot: usize,
         value: Node,
     },
-    /// An element of the array whose address is in a slot takes a value.
+    /// The element, at an offset from the loop variable, of the array whose address is in a slot takes a value.
+    Put {
+        base: usize,
+        ty: Option<Ty>,
+        index: usize,
+        offset: i128,
+        value: Node,
+    },
+    /// The element with a computed number of such an array does.
     Store {
         base: usize,
         ty: Option<Ty>,

@@ -6,10 +6,11 @@ ghost use Rattle.kernel_eval.specs.Slots as meaning;
 
 use crate::element::read;
 use crate::node::Node;
-use crate::operate::{binary, cast, compare, select, shift, unary};
+use crate::operate::{binary, cast, compare, select, shift, stream_number, unary};
 use guest_types::guest::GuestMemory;
 
 /// The value of a slot, and 0 past the last one.
+#[inline(always)]
 pub fn slot_at(slots: &[i128], slot: usize) -> i128
     ensures { result ≡ meaning.slot_at slots.now slot }
 {
@@ -24,6 +25,15 @@ pub fn value<M: GuestMemory>(node: &Node, memory: &M, slots: &[i128]) -> Option<
     match node {
         Node::Constant(value) => Some(*value),
         Node::Slot(slot) => Some(slot_at(slots, *slot)),
+        Node::Stream {
+            base,
+            ty,
+            index,
+            offset,
+        } => {
+            let number = stream_number(slot_at(slots, *index), *offset);
+            read(memory, *ty, slot_at(slots, *base), Some(number))
+        }
         Node::Element { base, ty, number } => {
             read(
                 memory,

@@ -4,3 +4,4 @@ pub mod ChoiceWalks
 pub mod KernelWalks
 pub mod Bounds
 pub mod FirstFault
+mod TypeLists

@@ -12,7 +12,7 @@ use Rattle.debug_history.proofs.Counts.{counts_noted, counts_up_to, noted_all, n
 use Rattle.sve_debug.specs.Held.{Held, Shows, Stands, IsKept, IsTwin, held_by, came_out}
 use Rattle.sve_debug.specs.Reaches.{Reaches, ReachesCounted}
 use Rattle.sve_debug.specs.Replies.{Session, started, stepped, steps_to, session_at, is_break, with_counts, counted_over, counted_since, counted_steps, counts_to, back_at, gone_back, after_back, is_too_far}
-use Rattle.sve_debug.proofs.Runs.{at_end, at_break, at_step, no_steps}
+use Rattle.sve_debug.proofs.Runs.{at_end, at_break, at_step, no_steps, shows_now}
 
 -- ---- what steps leave alone
 
@@ -119,18 +119,6 @@ shows_counts shown start d counts h = record {
   steps = h.steps;
   over = h.over;
   quiet = h.quiet;
-  breaks = h.breaks;
-  last = h.last;
-  since = h.since;
-}
-
--- what is looked at is the machine as it is now
-pub shows_now : (v w : View) (breaks last : List ℕ) (start : State) (d : Session) → now w ≡ now v → Shows (held_by v breaks last) start d → Shows (held_by w breaks last) start d
-shows_now v w breaks last start d same h = record {
-  state = ap (λ (p : Past). p.state) same ∙ h.state;
-  steps = ap (λ (p : Past). p.steps) same ∙ h.steps;
-  over = h.over ∙ ap (λ (p : Past). option_map (came_out d.state d.steps) p.over) (sym same);
-  quiet = subst (λ (p : Past). IsTrue p.quiet) (sym same) h.quiet;
   breaks = h.breaks;
   last = h.last;
   since = h.since;

@@ -9,9 +9,10 @@ use Rattle.machine_model.specs.declared.outcome.Ending.TheVariants as endings
 use Rattle.machine_model.specs.declared.outcome.Step.{Step as StepAnswer}
 use Rattle.machine_model.specs.declared.outcome.Step.TheVariants as answers
 use Rattle.machine_model.specs.Answers.{IsAnswer}
-use Rattle.machine_model.specs.Debugged.{View, ending_by}
+use Rattle.machine_model.specs.Debugged.{View, Past, now, ending_by}
 use Rattle.machine_model.specs.Machine.{State}
 use Rattle.machine_model.specs.OneStep.{step}
+use Rattle.debug_history.specs.Answered.{answer_of}
 use Rattle.sve_debug.specs.Held.{Held, held_by, Shows, came_out}
 use Rattle.sve_debug.specs.Reaches.{Reaches}
 use Rattle.sve_debug.specs.Replies.{Session, started, stepped, steps_to, session_at, is_break, left_by, over_by}
@@ -87,7 +88,7 @@ is_over v breaks last start d some h = ap is_some h.over ∙ mapped v.over some
     mapped None e = e
     mapped (Some ending) e = refl
 
-pub stood : (v w : View) (answer : StepAnswer) (breaks last : List ℕ) (start : State) (d : Session) → v.over ≡ None → IsAnswer (step v.state) answer v.state w.state → w.steps ≡ v.steps + 1 → w.over ≡ ending_by answer → IsTrue w.quiet → Shows (held_by v breaks last) start d → Shows (held_by w breaks (keep_last 64 (last ++ v.state.pc ∷ []))) start (stepped d)
+stood : (v w : View) (answer : StepAnswer) (breaks last : List ℕ) (start : State) (d : Session) → v.over ≡ None → IsAnswer (step v.state) answer v.state w.state → w.steps ≡ v.steps + 1 → w.over ≡ ending_by answer → IsTrue w.quiet → Shows (held_by v breaks last) start d → Shows (held_by w breaks (keep_last 64 (last ++ v.state.pc ∷ []))) start (stepped d)
 stood v w answer breaks last start d none is steps over quiet h =
     let none_yet = not_over v breaks last start d none h in
     let state : w.state ≡ left_by (step d.state) d.state = left answer v.state w.state is ∙ ap (λ (s : State). left_by (step s) s) h.state in
@@ -116,6 +117,41 @@ stood v w answer breaks last start d none is steps over quiet h =
       };
     }
 
+-- what is looked at is the machine as it is now
+pub shows_now : (v w : View) (breaks last : List ℕ) (start : State) (d : Session) → now w ≡ now v → Shows (held_by v breaks last) start d → Shows (held_by w breaks last) start d
+shows_now v w breaks last start d same h = record {
+  state = ap (λ (p : Past). p.state) same ∙ h.state;
+  steps = ap (λ (p : Past). p.steps) same ∙ h.steps;
+  over = h.over ∙ ap (λ (p : Past). option_map (came_out d.state d.steps) p.over) (sym same);
+  quiet = subst (λ (p : Past). IsTrue p.quiet) (sym same) h.quiet;
+  breaks = h.breaks;
+  last = h.last;
+  since = h.since;
+}
+
+-- ---- steps that are counted later
+
+-- a machine of which so many steps are counted
+abbrev pub counted_by : ℕ → View → View
+counted_by k v = record v { steps = v.steps + k }
+
+pub counted_is : (k : ℕ) (w x : View) → x.state ≡ w.state → x.steps ≡ w.steps + k → x.over ≡ w.over → x.quiet ≡ w.quiet → now x ≡ now (counted_by k w)
+counted_is k w x state steps over quiet = cc
+
+pub shows_counted : (v : View) (breaks last : List ℕ) (start : State) (d : Session) → Shows (held_by v breaks last) start d → Shows (held_by (counted_by 0 v) breaks last) start d
+shows_counted v breaks last start d h = shows_now v (counted_by 0 v) breaks last start d (ap (λ n. record (now v) { steps = n }) (let e : v.steps + 0 ≡ v.steps = omega arith in e)) h
+
+-- the end that a step comes to is the one that it answered
+ended_by : (o : Option Ending) → o ≡ ending_by (answer_of o)
+ended_by None = refl
+ended_by (Some endings.Ended) = refl
+ended_by (Some (endings.Stopped stop)) = refl
+
+-- a step that is counted after others
+pub stood_on : (v w : View) (k : ℕ) (breaks : List ℕ) (start : State) → v.over ≡ None → (IsTrue v.quiet → IsAnswer (step v.state) (answer_of w.over) v.state w.state) → w.steps ≡ v.steps → (IsTrue v.quiet → IsTrue w.quiet) → (last : List ℕ) (d : Session) → Shows (held_by (counted_by k v) breaks last) start d → Shows (held_by (counted_by (k + 1) w) breaks (keep_last 64 (last ++ v.state.pc ∷ []))) start (stepped d)
+stood_on v w k breaks start none is steps quiet last d h =
+    stood (counted_by k v) (counted_by (k + 1) w) (answer_of w.over) breaks last start d none (is h.quiet) (omega (arith, steps)) (ended_by w.over) (quiet h.quiet) h
+
 -- ---- many steps
 
 -- a step from every session that is stood for
@@ -138,6 +174,10 @@ told v w breaks last recent start k pc is inside next e h =
     ∙ keeps 64 (last ++ take k recent) pc
     ∙ ap (keep_last 64) (append_assoc last (take k recent) (pc ∷ []) ∙ ap (λ m. last ++ m) (sym (take_more_set recent k pc inside))) in
     subst (λ l. Shows (held_by w breaks l) start (stepped e)) places (next (keep_last 64 (last ++ take k recent)) e h)
+
+-- where the machine has counted its steps
+pub reaches_now : (v w : View) (breaks last : List ℕ) (start : State) (d : Session) (stops : List ℕ) (n left : ℕ) → now w ≡ now v → Reaches (held_by v breaks last) start d stops n left → Reaches (held_by w breaks last) start d stops n left
+reaches_now v w breaks last start d stops n left same r = record { session = r.session; stands = shows_now v w breaks last start r.session same r.stands; same = r.same }
 
 pub reaches_first : (held : Held) (start : State) (d : Session) (stops : List ℕ) (n left : ℕ) → left ≡ n → Shows held start d → Reaches held start d stops n left
 reaches_first held start d stops n left all h = record { session = d; stands = h; same = ap (λ k. steps_to stops k d) (sym all) }

@@ -29,7 +29,6 @@ pub struct Debugger<D: Keepable> {
     machine: D,
     places: Places,
     breaks: ArrayVec<u64, 16>,
-    over: Option<Ending>,
 }
 
 impl<D: Keepable> Model for Debugger<D> {
@@ -40,7 +39,7 @@ impl<D: Keepable> Model for Debugger<D> {
 
     ghost view = { λ d. held_by (D.view_of d.machine) d.breaks.items d.places.items };
 
-    ghost invariant = { λ d. (d.over ≡ (D.view_of d.machine).over) × (d.places.capacity ≡ 64)
+    ghost invariant = { λ d. (d.places.capacity ≡ 64)
         × IsTrue (D.view_of d.machine).quiet × (1 ≤ length (D.view_of d.machine).past)
         × All (IsTwin (D.view_of d.machine)) (D.view_of d.machine).past };
 }
@@ -60,7 +59,6 @@ impl<D: Keepable> Debugger<D> {
             machine,
             places,
             breaks: ArrayVec::new(),
-            over: None,
         })
     }
 
@@ -71,7 +69,7 @@ impl<D: Keepable> Debugger<D> {
             Stands self.new start (counted_steps [] most d) }
         ensures steps { self.new.machine.steps ≤ self.old.machine.steps + most }
     {
-        self.over = run_kept(&mut self.machine, &mut self.places, self.over, &[], most);
+        run_kept::<D, false>(&mut self.machine, &mut self.places, &[], most);
     }
 
     // Up to so many steps, and none after one that comes to a breakpoint.
@@ -82,7 +80,10 @@ impl<D: Keepable> Debugger<D> {
         ensures steps { self.new.machine.steps ≤ self.old.machine.steps + most }
     {
         let stops = self.breaks.as_slice();
-        self.over = run_kept(&mut self.machine, &mut self.places, self.over, stops, most);
+        if stops.is_empty() {
+            return run_kept::<D, false>(&mut self.machine, &mut self.places, stops, most);
+        }
+        run_kept::<D, true>(&mut self.machine, &mut self.places, stops, most);
     }
 
     // So many steps back, and answers whether they were done.
@@ -103,7 +104,7 @@ impl<D: Keepable> Debugger<D> {
         }
         self.places.clear();
         let left = target - self.machine.steps_done();
-        self.over = run(&mut self.machine, &mut self.places, None, &[], left);
+        run(&mut self.machine, &mut self.places, left);
         true
     }
 
@@ -128,7 +129,7 @@ impl<D: Keepable> Debugger<D> {
             PutsText (S.taken out.old) (S.taken out.new) (S.faults out.old) (S.faults out.new) text result }
     {
         let steps = self.machine.steps_done();
-        match self.over {
+        match self.machine.over() {
             None => put_place(out, self.machine.pc(), steps),
             Some(Ending::Ended) => put_end(out, self.machine.x(0), steps),
             Some(Ending::Stopped(stop)) => put_stop(out, stop, steps),

@@ -1,6 +1,6 @@
 //! Steps of a machine that is kept at some counts.
 
-ghost use Rattle.std.specs.Prelude.{◌≡◌, ℕ, ◌+◌, ◌^◌, ◌<◌, ◌≤◌, All, List, IsTrue, length};
+ghost use Rattle.std.specs.Prelude.{◌≡◌, [], ℕ, ◌+◌, ◌^◌, ◌<◌, ◌≤◌, All, List, IsTrue, false, length};
 ghost use Rattle.machine_model.specs.Machine.{State};
 ghost use Rattle.sve_debug.specs.Held.{Stands, IsTwin, held_by};
 ghost use Rattle.sve_debug.specs.Replies.{Session, counted_steps};
@@ -8,18 +8,17 @@ ghost use Rattle.sve_debug.specs.Replies.{Session, counted_steps};
 use crate::run::{Places, advance_far};
 use debug_history::history::note;
 use debug_history::keepable::Keepable;
-use machine_model::outcome::Ending;
 
-/// The same steps as `run`, and the machine is noted where it may be kept. No steps lead past such a count before it is.
-pub fn run_kept<D: Keepable>(
+/// Up to so many steps, none after the end or a stop, and none after a step that comes to one of these places, of which there
+/// are none without `STOPS`. The machine is noted where it may be kept. No steps lead past such a count before it is.
+pub fn run_kept<D: Keepable, const STOPS: bool>(
     machine: &mut D,
     places: &mut Places,
-    over: Option<Ending>,
     stops: &[u64],
     most: u64,
-) -> Option<Ending>
-    requires over { over ≡ (D.view_of machine.old).over }
+)
     requires few { (D.view_of machine.old).steps + most < 2 ^ 64 }
+    requires stops { STOPS ≡ false → stops.now ≡ [] }
     requires room { places.old.capacity ≡ 64 }
     requires quiet { IsTrue (D.view_of machine.old).quiet }
     requires some { 1 ≤ length (D.view_of machine.old).past }
@@ -28,25 +27,22 @@ pub fn run_kept<D: Keepable>(
         → Stands (held_by (D.view_of machine.old) breaks places.old.items) start d
         → Stands (held_by (D.view_of machine.new) breaks places.new.items) start
         (counted_steps stops.now most d) }
-    ensures over { result ≡ (D.view_of machine.new).over }
     ensures steps { (D.view_of machine.new).steps ≤ (D.view_of machine.old).steps + most }
     ensures room { places.new.capacity ≡ 64 }
     ensures quiet { IsTrue (D.view_of machine.new).quiet }
     ensures some { 1 ≤ length (D.view_of machine.new).past }
     ensures twins { All (IsTwin (D.view_of machine.new)) (D.view_of machine.new).past }
 {
-    if over.is_some() {
-        return over;
+    if machine.over().is_some() {
+        return;
     }
-    let mut over = over;
     let mut recent = [0; 256];
     let mut left = most;
     while left > 0 {
         let gap = 10_000 - machine.steps_done() % 10_000;
-        let (done, rest) = advance_far(machine, &mut recent, &mut over, stops, left, gap);
+        let (done, rest) = advance_far::<D, STOPS>(machine, &mut recent, stops, left, gap);
         places.extend_from_slice(&recent[..done]);
         note(machine);
         left = rest;
     }
-    over
 }

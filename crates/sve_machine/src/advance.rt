@@ -59,7 +59,7 @@ fn execute<const CALLER: usize>(
     }
 }
 
-/// One step: whether it goes on, or else its answer. An answer of many bytes that is handed back would be copied
+/// One step: whether it goes on, or else its answer, with the place of its instruction. An answer of many bytes that is handed back would be copied
 /// at each step. `CALLER` tells its callers apart (`prepared_goes`).
 #[inline(always)]
 pub fn advance<const CALLER: usize>(
@@ -67,15 +67,18 @@ pub fn advance<const CALLER: usize>(
     pages: &mut Pages,
     vectors: &mut Vectors,
     kept: &mut [Entry; 1024],
+    place: &mut u64,
     answer: &mut Step,
 ) -> bool
     requires kept { All (Keeps pages.old.memory) kept.old }
     ensures answer { let before = state_of core.old pages.old.memory vectors.old in
         IsAnswer (step before) (said result answer.new) before (state_of core.new pages.new.memory vectors.new) }
     ensures kept { All (Keeps pages.new.memory) kept.new }
+    ensures place { place.new ≡ core.old.pc }
     ensures past { pages.new.past ≡ pages.old.past }
 {
     let pc = core.pc;
+    *place = pc;
     if !look_up(pages, kept, pc, answer) {
         return false;
     }
@@ -105,8 +108,9 @@ pub fn go(
     ensures past { pages.new.past ≡ pages.old.past }
 {
     let mut answer = Step::Went;
+    let mut place = 0;
     for done in 0..steps {
-        if advance::<WITHIN>(core, pages, vectors, kept, &mut answer) {
+        if advance::<WITHIN>(core, pages, vectors, kept, &mut place, &mut answer) {
             continue;
         }
         match answer {

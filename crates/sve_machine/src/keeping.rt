@@ -2,9 +2,25 @@
 
 use crate::machine::Machine;
 use debug_history::keepable::Keepable;
+use machine_model::outcome::Ending;
 use std::alloc::{AllocError, Global};
 
 impl Keepable for Machine {
+    #[inline(always)]
+    fn goes_on(&mut self, place: &mut u64) -> bool {
+        let on = self.goes_on(place);
+        on
+    }
+
+    fn count(&mut self, steps: u64) {
+        self.count(steps);
+    }
+
+    fn over(&self) -> Option<Ending> {
+        let over = self.over();
+        over
+    }
+
     fn begin(&mut self, alloc: Global) -> Result<(), AllocError> {
         self.begin(alloc)?;
         Ok(())

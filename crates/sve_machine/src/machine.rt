@@ -1,6 +1,6 @@
 //! The machine.
 
-ghost use Rattle.std.specs.Prelude.{◌≡◌, ◌+◌, ◌-◌, ◌^◌, ◌<◌, ◌≤◌, None, IfSome, IsTrue, OnOk, OnErr, true, [], ◌∷◌, length, take, slice_index_or};
+ghost use Rattle.std.specs.Prelude.{◌≡◌, ◌+◌, ◌-◌, ◌^◌, ◌<◌, ◌≤◌, None, IfSome, IsTrue, is_none, OnOk, OnErr, true, [], ◌∷◌, length, take, slice_index_or};
 
 use crate::advance::{OUTSIDE, advance, go};
 use crate::history::History;
@@ -19,10 +19,11 @@ use std::marker::Model;
 /// A machine with its memory. From `new` on it takes no memory from the system, but for `begin`.
 #[derive(Drop)]
 pub struct Machine {
+    // The first, so that an entry is reached from the machine's own address.
+    kept: [Entry; 1024],
     core: Core,
     pages: Pages,
     vectors: Vectors,
-    kept: [Entry; 1024],
     steps: u64,
     over: Option<Ending>,
     // What it was beside the past of the pages, where a past was begun.
@@ -89,10 +90,10 @@ impl Machine {
             vzero: 0,
         };
         Machine {
+            kept: no_words(),
             core,
             pages,
             vectors: Vectors::new(vl, stops),
-            kept: no_words(),
             steps: 0,
             over: None,
             history: None,
@@ -140,8 +141,7 @@ impl Machine {
         self.step_on()
     }
 
-    /// One step of a machine that has not come to an end or a stop. It has no loop of its own and no test that a loop
-    /// of steps can do without, so that a caller's loop is as fast as `run`.
+    /// One step of a machine that has not come to an end or a stop.
     #[inline(always)]
     pub fn step_on(&mut self) -> Step
         requires running { self.old.over ≡ None }
@@ -152,20 +152,56 @@ impl Machine {
         ensures quiet { IsTrue self.old.quiet → IsTrue self.new.quiet }
         ensures past { self.new.past ≡ self.old.past }
     {
+        let mut place = 0;
+        let _ = self.goes_on(&mut place);
+        self.steps += 1;
+        answer_of(self.over)
+    }
+
+    /// The same, and only whether it goes on, with the place of the instruction: how the machine came to its end is in `over`,
+    /// and the step is counted by `count`. It has no loop of its own and no test that a loop of steps can do without, so that
+    /// a caller's loop is as fast as `run`.
+    #[inline(always)]
+    pub fn goes_on(&mut self, place: &mut u64) -> bool
+        requires running { self.old.over ≡ None }
+        ensures answer { IsAnswer (step self.old.state) (answer_of self.new.over) self.old.state self.new.state }
+        ensures steps { self.new.steps ≡ self.old.steps }
+        ensures place { place.new ≡ self.old.state.pc }
+        ensures goes_on { result ≡ is_none self.new.over }
+        ensures quiet { IsTrue self.old.quiet → IsTrue self.new.quiet }
+        ensures past { self.new.past ≡ self.old.past }
+    {
         let went = advance::<OUTSIDE>(
             &mut self.core,
             &mut self.pages,
             &mut self.vectors,
             &mut self.kept,
+            place,
             &mut self.answer,
         );
-        self.steps += 1;
         if went {
-            return Step::Went;
+            return true;
         }
-        let last = self.answer;
-        self.over = ending_by(last);
-        last
+        come_to_end(&self.answer, &mut self.over)
+    }
+
+    /// Counts steps that were done.
+    pub fn count(&mut self, steps: u64)
+        requires { self.old.steps + steps < 2 ^ 64 }
+        ensures state { self.new.state ≡ self.old.state }
+        ensures steps { self.new.steps ≡ self.old.steps + steps }
+        ensures over { self.new.over ≡ self.old.over }
+        ensures quiet { self.new.quiet ≡ self.old.quiet }
+        ensures past { self.new.past ≡ self.old.past }
+    {
+        self.steps += steps;
+    }
+
+    /// How the machine came to an end or a stop, where it did.
+    pub fn over(&self) -> Option<Ending>
+        ensures { result ≡ self.now.over }
+    {
+        self.over
     }
 
     /// Runs for at most so many steps. `Spent` comes exactly where all of them went without an end or a stop.
@@ -294,6 +330,17 @@ impl Machine {
     }
 }
 
+// What an answer leaves of a machine that was running, and whether it runs on.
+#[cold]
+#[inline(never)]
+fn come_to_end(answer: &Step, over: &mut Option<Ending>) -> bool
+    ensures over { over.new ≡ ending_by answer.now }
+    ensures goes_on { result ≡ is_none over.new }
+{
+    *over = ending_by(*answer);
+    over.is_none()
+}
+
 // A step that went leaves the machine running.
 fn ending_by(answer: Step) -> Option<Ending>
     ensures { result ≡ ending_by answer }
@@ -329,6 +376,16 @@ fn outcome_by(ending: Ending, steps: u64, x0: u64) -> Outcome
     }
 }
 
+// What a step answered after which the machine is over so.
+fn answer_of(over: Option<Ending>) -> Step
+    ensures { result ≡ answer_of over }
+{
+    match over {
+        None => Step::Went,
+        Some(ending) => answer_by(ending),
+    }
+}
+
 // What is answered after an end or a stop.
 fn answer_by(ending: Ending) -> Step
     ensures { result ≡ answer_by ending }
@@ -341,4 +398,5 @@ fn answer_by(ending: Ending) -> Step
 
 ghost use Rattle.machine_model.specs.Machine.{State, x_at};
 ghost use Rattle.machine_model.specs.Debugged.{ending_by, answer_by, outcome_by};
+ghost use Rattle.debug_history.specs.Answered.{answer_of};
 ghost use Rattle.sve_machine.specs.View.{outcome_at};

@@ -7,7 +7,7 @@ use Rattle.loop_form.specs.Listing.{last_use_from}
 use Rattle.loop_form.specs.Lanes.{widest}
 use Rattle.loop_form.specs.Needs.{constants, most_live, needs_of}
 use Rattle.dependence.specs.declared.reason.Class.TheVariants.{Vector}
-use Rattle.dependence.specs.Classes.{before_break, carried, class_of}
+use Rattle.dependence.specs.Classes.{before_break, carried, computed_index, class_of}
 use Rattle.promises.specs.Refusals.{too_many}
 use Rattle.sweep_kernel.specs.Tree.{kernel_with}
 
@@ -21,7 +21,7 @@ unfolding item_type last_use_from constants most_live kernel_with
 needs_with initial offset level = refl
 
 class_with : (initial offset level : ℕ) → class_of (kernel_with initial offset level) ≡ Vector
-unfolding item_type widest before_break carried kernel_with
+unfolding item_type widest before_break carried computed_index kernel_with
 class_with initial offset level = refl
 
 pub enough_with : (initial offset level : ℕ) → too_many (kernel_with initial offset level) ≡ None

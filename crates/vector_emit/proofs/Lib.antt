@@ -16,3 +16,4 @@ pub mod ReturnedReads
 pub mod LoopRuns
 pub mod CodeSizes
 mod Unbroken
+pub mod FromBelow

@@ -21,6 +21,9 @@ decreases-operands l = 4 * max (term_depth (term_of l.left.now)) (term_depth (te
 abbrev pub decreases-resolve_read : goal.decreases-resolve_read
 decreases-resolve_read l = 4 * term_depth (term_of l.index.now) + 3
 
+abbrev pub decreases-resolve_element : goal.decreases-resolve_element
+decreases-resolve_element l = 4 * term_depth (term_of l.index.now) + 2
+
 abbrev pub decreases-resolve_binary : goal.decreases-resolve_binary
 decreases-resolve_binary l = 4 * max (term_depth (term_of l.left.now)) (term_depth (term_of l.right.now)) + 3
 

@@ -1,11 +1,12 @@
 use Rattle.std.proofs.Common.{◌+◌, ap, ◌∙◌, arith, drop}
-use Rattle.std.proofs.lemmas.Result.{IfOk-weaker}
+use Rattle.std.proofs.lemmas.Result.{IfOk-weaker, IfOk-equal}
 use Rattle.kernel_tree.specs.Plain.{term_of, action_of, block_of}
 use Rattle.kernel_tree.specs.Limits.{block_depth}
 use Rattle.kernel_scope.specs.Scopes.{scope_of, kept}
 use Rattle.kernel_scope.proofs.Growth.{kept-block}
 use Rattle.kernel_types.proofs.ListWalks.{next_statement, goes_on}
 use Rattle.kernel_types.proofs.ChoiceWalks.{one_found, one_types, two_scope, two_next, two_found, two_types}
+use Rattle.kernel_types.proofs.TypeLists.{one_part}
 use Rattle.kernel_types.proofs.statements.+statements.Goals as goal
 
 pub walk_block-loop-stmt-preserved : goal.walk_block-loop-stmt-preserved
@@ -45,3 +46,6 @@ walk_if_else-returns-clause-found t c = IfOk-weaker c.walk_inner-2.result _ _ (�
 
 pub walk_if_else-returns-clause-types : goal.walk_if_else-returns-clause-types
 walk_if_else-returns-clause-types t c = IfOk-weaker c.walk_inner-2.result _ _ (λ _ h. two_types (scope_of c.args.scope.now) (scope_of c.walk_inner.new.scope) c.args.notes.now.types.items c.walk_marked.new.notes.types.items c.walk_inner.new.notes.types.items c.walk_inner-2.new.notes.types.items (term_of c.args.cond.now) (block_of c.args.block.now) (block_of c.args.other.now) c.in_ok-walk_inner.ensures.scope c.in_ok-walk_marked.ensures.types c.in_ok-walk_inner.ensures.types h) c.walk_inner-2.ensures.types
+
+pub walk_inner-returns-clause-types : goal.walk_inner-returns-clause-types
+walk_inner-returns-clause-types t c = IfOk-equal c.end.result _ _ _ c.end.ensures.types (one_part _ _ _ _ c.in_ok-walk_block.ensures.types)

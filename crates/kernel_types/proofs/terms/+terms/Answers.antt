@@ -10,6 +10,7 @@ use Rattle.kernel_tree.specs.Typing as typing
 use Rattle.kernel_scope.specs.Scopes.{scope_of}
 use Rattle.kernel_types.specs.Parts.{role_of}
 use Rattle.kernel_types.proofs.LeastFault.{part_and_item, sooner-none, then_item, two_then_item, three_then_item, both_rules}
+use Rattle.kernel_types.proofs.TypeLists.{one_part, two_parts, three_parts}
 use Rattle.kernel_types.proofs.terms.+terms.Goals as goal
 
 pub walk_read-returns-clause-found : goal.walk_read-returns-clause-found
@@ -123,3 +124,33 @@ walk_not-returns-clause-found t c =
     let inner = typing.faults (scope_of c.args.scope.now) c.args.notes.now.next typing.Condition (term_of c.args.arg.now) in
     let all = then_item c.args.notes.now.found c.walk_expr.new.notes.found c.as_condition.result inner (typing.as_condition c.walk_expr.new.notes.next (role_of c.args.role)) c.in_ok-walk_expr.ensures.found c.as_condition.ensures in
     IfOk-equal c.end.result _ _ _ c.end.ensures.found (rw c.in_ok-walk_expr.ensures.next at all)
+
+pub walk_read-returns-clause-types : goal.walk_read-returns-clause-types
+walk_read-returns-clause-types t c = IfOk-equal c.end.result _ _ _ (rw c.wanted-ty.ensures at c.end.ensures.types) (one_part _ _ _ _ c.in_ok-walk_index.ensures.types)
+
+pub walk_unary-returns-clause-types : goal.walk_unary-returns-clause-types
+walk_unary-returns-clause-types t c = IfOk-equal c.end.result _ _ _ (rw c.wanted-ty.ensures at c.end.ensures.types) (one_part _ _ _ _ (rw c.wanted-ty.ensures at c.in_ok-walk_expr.ensures.types))
+
+pub walk_binary-returns-clause-types : goal.walk_binary-returns-clause-types
+walk_binary-returns-clause-types t c = IfOk-equal c.end.result _ _ _ (rw c.wanted-ty.ensures at c.end.ensures.types) (two_parts _ _ _ _ _ _ (rw c.wanted-ty.ensures at c.in_ok-walk_expr.ensures.types) (rw c.wanted-ty.ensures at c.in_ok-walk_expr-2.ensures.types))
+
+pub walk_shift-returns-clause-types : goal.walk_shift-returns-clause-types
+walk_shift-returns-clause-types t c = IfOk-equal c.end_shift.result _ _ _ c.end_shift.ensures.types (one_part _ _ _ _ (rw c.wanted.ensures at c.in_ok-walk_expr.ensures.types))
+
+pub walk_cast-returns-clause-types : goal.walk_cast-returns-clause-types
+walk_cast-returns-clause-types t c = IfOk-equal c.end.result _ _ _ (rw c.wanted-want.ensures at c.end.ensures.types) (one_part _ _ _ _ (rw c.own_type-own.ensures at c.in_ok-walk_expr.ensures.types))
+
+pub walk_select-returns-clause-types : goal.walk_select-returns-clause-types
+walk_select-returns-clause-types t c = IfOk-equal c.end.result _ _ _ (rw c.wanted-ty.ensures at c.end.ensures.types) (three_parts _ _ _ _ _ _ _ _ (rw c.wanted-ty.ensures at c.in_ok-walk_expr.ensures.types) (rw c.wanted-ty.ensures at c.in_ok-walk_expr-2.ensures.types) c.in_ok-walk_expr-3.ensures.types)
+
+pub walk_compare-returns-clause-types : goal.walk_compare-returns-clause-types
+walk_compare-returns-clause-types t c = IfOk-equal c.end.result _ _ _ c.end.ensures.types (two_parts _ _ _ _ _ _ (rw (c.first-side.ensures, c.own_type.ensures, c.own_type-2.ensures) at c.in_ok-walk_expr.ensures.types) (rw (c.first-side.ensures, c.own_type.ensures, c.own_type-2.ensures) at c.in_ok-walk_expr-2.ensures.types))
+
+pub walk_and-returns-clause-types : goal.walk_and-returns-clause-types
+walk_and-returns-clause-types t c = IfOk-equal c.end.result _ _ _ c.end.ensures.types (two_parts _ _ _ _ _ _ c.in_ok-walk_expr.ensures.types c.in_ok-walk_expr-2.ensures.types)
+
+pub walk_or-returns-clause-types : goal.walk_or-returns-clause-types
+walk_or-returns-clause-types t c = IfOk-equal c.end-2.result _ _ _ c.end-2.ensures.types (three_parts _ _ _ _ _ _ _ _ c.in_ok-walk_expr.ensures.types c.in_ok-end.ensures.types c.in_ok-walk_expr-2.ensures.types)
+
+pub walk_not-returns-clause-types : goal.walk_not-returns-clause-types
+walk_not-returns-clause-types t c = IfOk-equal c.end.result _ _ _ c.end.ensures.types (one_part _ _ _ _ c.in_ok-walk_expr.ensures.types)

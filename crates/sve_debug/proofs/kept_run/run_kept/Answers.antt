@@ -15,13 +15,12 @@ none_of (Some ending) h = absurd cc
 
 pub returns-then-is_some-clause-session : goal.returns-then-is_some-clause-session
 returns-then-is_some-clause-session g c breaks start d h =
-    let over : is_some (g.D.Debuggee.view_of c.args.machine.now).over ≡ true = ap is_some (sym c.requires.over) ∙ sym c.is_some.ensures ∙ c.if-is_some.true in
+    let over : is_some (g.D.Debuggee.view_of c.args.machine.now).over ≡ true = ap is_some (sym c.over.ensures) ∙ sym c.is_some.ensures ∙ c.if-is_some.true in
     counted_over_end _ start d c.args.stops.now c.args.most (is_over (g.D.Debuggee.view_of c.args.machine.now) breaks c.args.places.now.items start d over h.shows) h
 
 pub loop-left-init : goal.loop-left-init
 loop-left-init g c = record {
-  over = c.requires.over;
-  running = λ some. none_of c.args.over (sym c.is_some.ensures ∙ c.if-is_some.false);
+  running = λ some. none_of (g.D.Debuggee.view_of c.args.machine.now).over (ap is_some (sym c.over.ensures) ∙ sym c.is_some.ensures ∙ c.if-is_some.false);
   room = c.requires.room;
   quiet = c.requires.quiet;
   some = c.requires.some;
@@ -49,14 +48,13 @@ loop-left-preserved g c =
     let same = c.note.ensures.now in
     let noted = c.note.ensures.past in
     let steps = ap (λ (p : Past). p.steps) same in
-    let running : v.over ≡ None = sym held.over ∙ held.running (omega (arith, c.loop-left-test.true)) in
+    let running : v.over ≡ None = held.running (omega (arith, c.loop-left-test.true)) in
     let kept : keep_last 64 (c.loop-left.places.items ++ take c.advance_far-done.result.0 c.advance_far-done.new.recent) ≡ c.extend_from_slice.new.self.items =
     ap (λ n. keep_last n (c.loop-left.places.items ++ take c.advance_far-done.result.0 c.advance_far-done.new.recent)) (sym held.room)
     ∙ ap (λ b. b.items) (sym c.extend_from_slice.ensures) in
     let near : c.advance_far-done.result.0 ≤ 10000 - v.steps % 10000 = subst (λ k. c.advance_far-done.result.0 ≤ 10000 - k % 10000) c.steps_done.ensures far.near in
     record {
-      over = far.over ∙ ap (λ (p : Past). p.over) (sym same);
-      running = far.running;
+      running = λ more. ap (λ (p : Past). p.over) same ∙ far.running more;
       room = ap (λ b. b.capacity) c.extend_from_slice.ensures ∙ held.room;
       quiet = subst (λ (p : Past). IsTrue p.quiet) (sym same) (far.quiet held.quiet);
       some = some_noted v w x far.past noted held.some;

@@ -9,8 +9,7 @@ use Rattle.sve_debug.proofs.kept_run.run_kept.Given as goal
 
 abbrev pub invariant-loop-left : goal.invariant-loop-left
 invariant-loop-left g l = record {
-  over : l.over ≡ (g.D.Debuggee.view_of l.machine).over;
-  running : 0 < l.left → l.over ≡ None;
+  running : 0 < l.left → (g.D.Debuggee.view_of l.machine).over ≡ None;
   room : l.places.capacity ≡ 64;
   quiet : IsTrue (g.D.Debuggee.view_of l.machine).quiet;
   some : 1 ≤ length (g.D.Debuggee.view_of l.machine).past;

@@ -1,8 +1,11 @@
-use Rattle.std.proofs.Common.{rules, ◌≡◌, ℕ, ◌+◌, ◌<◌, ◌≤◌, List, Option, None, Some, length, Bool, true, false, refl, sym, ap, ◌∙◌, arith}
+use Rattle.std.proofs.Common.{rules, ◌≡◌, ℕ, ◌+◌, ◌-◌, ◌<◌, ◌≤◌, ◌++◌, List, Option, None, Some, length, take, Bool, true, false, refl, sym, ap, ◌∙◌, subst, arith}
 use Rattle.std.specs.Prelude.{is_some, is_none}
 use Rattle.machine_model.specs.declared.outcome.Ending.{Ending}
+use Rattle.circular_buffer.specs.Buffer.{keep_last}
+use Rattle.sve_debug.specs.Held.{held_by}
+use Rattle.sve_debug.specs.Reaches.{Reaches}
 use Rattle.sve_debug.specs.Replies.{is_break}
-use Rattle.sve_debug.proofs.Runs.{kept_by, told, reaches_first, reaches_next, reaches_break, reaches_last}
+use Rattle.sve_debug.proofs.Runs.{counted_by, counted_is, shows_counted, kept_by, stood_on, told, reaches_now, reaches_first, reaches_next, reaches_break, reaches_last}
 use Rattle.sve_debug.proofs.run.advance_far.Goals as goal
 
 is_end : (o : Option Ending) → is_none o ≡ false → is_some o ≡ true
@@ -19,59 +22,80 @@ at_place stops pc place b wanted same is h = ap (is_break stops) (sym same) ∙ 
 pub loop-done-init : goal.loop-done-init
 loop-done-init g c = record {
   running = c.requires.running;
-  none = c.requires.none;
   quiet = λ q. q;
   past = refl;
-  steps = omega arith;
-  session = λ breaks last start d h. reaches_first _ start d c.args.stops.now c.args.left _ (omega arith) (kept_by _ breaks last _ start d refl h);
+  steps = refl;
+  session = λ breaks last start d h.
+      let v = g.D.Debuggee.view_of c.args.machine.now in
+      reaches_first _ start d c.args.stops.now c.args.left _ (omega arith) (kept_by (counted_by 0 v) breaks last _ start d refl (shows_counted v breaks last start d h));
 }
 
-pub returns-then-not-advance-clause-session : goal.returns-then-not-advance-clause-session
-returns-then-not-advance-clause-session g c breaks last start d h =
+pub returns-then-not-goes_on-clause-session : goal.returns-then-not-goes_on-clause-session
+returns-then-not-goes_on-clause-session g c breaks last start d h =
     let view = g.D.Debuggee.view_of in
+    let k = c.loop-done.done in
     let v = view c.loop-done.machine in
-    let w = view c.advance.new.machine in
+    let w = view c.goes_on.new.self in
+    let one = c.goes_on.ensures in
     let held = c.loop-done.invariant in
-    let inside : c.loop-done.done + 1 ≤ c.args.left = omega (arith, c.min-near.ensures, c.min-most.ensures, c.loop-done-test.true) in
-    let over : is_some w.over ≡ true = ap is_some (sym c.advance.ensures.over) ∙ is_end c.advance.new.over (sym c.advance.ensures.goes_on ∙ c.if-not-advance.true) in
-    let room : c.loop-done.done < length c.loop-done.recent = search rules in
-    reaches_last v w breaks _ _ start d c.args.stops.now c.args.left c.loop-done.done inside held.running over
-    (told v w breaks last c.loop-done.recent start c.loop-done.done c.pc.result c.pc.ensures room (λ last e. c.advance.ensures.session breaks last start e))
-    (held.session breaks last start d h)
+    let inside : k + 1 ≤ c.args.left = omega (arith, c.min-near.ensures, c.min-most.ensures, c.loop-done-test.true) in
+    let over : is_some w.over ≡ true = is_end w.over (sym one.goes_on ∙ c.if-not-goes_on.true) in
+    let room : k < length c.loop-done.recent = search rules in
+    let all = c.count.ensures in
+    reaches_now (counted_by (k + 1) w) (view c.count.new.self) breaks _ start d c.args.stops.now c.args.left 0 (counted_is (k + 1) w (view c.count.new.self) all.state all.steps all.over all.quiet)
+    (reaches_last (counted_by k v) (counted_by (k + 1) w) breaks _ _ start d c.args.stops.now c.args.left k inside held.running over
+    (told (counted_by k v) (counted_by (k + 1) w) breaks last c.loop-done.recent start k c.goes_on.new.place one.place room (stood_on v w k breaks start held.running one.answer one.steps one.quiet))
+    (held.session breaks last start d h))
 
 pub returns-then-is_stop-clause-session : goal.returns-then-is_stop-clause-session
 returns-then-is_stop-clause-session g c breaks last start d h =
     let view = g.D.Debuggee.view_of in
+    let k = c.loop-done.done in
     let v = view c.loop-done.machine in
-    let w = view c.advance.new.machine in
+    let w = view c.goes_on.new.self in
+    let one = c.goes_on.ensures in
     let held = c.loop-done.invariant in
-    let inside : c.loop-done.done + 1 ≤ c.args.left = omega (arith, c.min-near.ensures, c.min-most.ensures, c.loop-done-test.true) in
-    let here = at_place c.args.stops.now c.pc-in-loop-done.result w.state.pc c.is_stop.result true c.pc-in-loop-done.ensures c.is_stop.ensures c.if-is_stop.true in
-    let room : c.loop-done.done < length c.loop-done.recent = search rules in
-    reaches_break v w breaks _ _ start d c.args.stops.now c.args.left c.loop-done.done inside held.running here
-    (told v w breaks last c.loop-done.recent start c.loop-done.done c.pc.result c.pc.ensures room (λ last e. c.advance.ensures.session breaks last start e))
-    (held.session breaks last start d h)
+    let inside : k + 1 ≤ c.args.left = omega (arith, c.min-near.ensures, c.min-most.ensures, c.loop-done-test.true) in
+    let here = at_place c.args.stops.now c.pc.result w.state.pc c.is_stop.result true c.pc.ensures c.is_stop.ensures c.if-is_stop.true in
+    let room : k < length c.loop-done.recent = search rules in
+    let all = c.count-then-is_stop.ensures in
+    reaches_now (counted_by (k + 1) w) (view c.count-then-is_stop.new.self) breaks _ start d c.args.stops.now c.args.left 0 (counted_is (k + 1) w (view c.count-then-is_stop.new.self) all.state all.steps all.over all.quiet)
+    (reaches_break (counted_by k v) (counted_by (k + 1) w) breaks _ _ start d c.args.stops.now c.args.left k inside held.running here
+    (told (counted_by k v) (counted_by (k + 1) w) breaks last c.loop-done.recent start k c.goes_on.new.place one.place room (stood_on v w k breaks start held.running one.answer one.steps one.quiet))
+    (held.session breaks last start d h))
 
 pub loop-done-preserved : goal.loop-done-preserved
 loop-done-preserved g c =
     let view = g.D.Debuggee.view_of in
+    let k = c.loop-done.done in
     let v = view c.loop-done.machine in
-    let w = view c.advance.new.machine in
+    let w = view c.goes_on.new.self in
+    let one = c.goes_on.ensures in
     let held = c.loop-done.invariant in
-    let inside : c.loop-done.done + 1 ≤ c.args.left = omega (arith, c.min-near.ensures, c.min-most.ensures, c.loop-done-test.true) in
-    let here = at_place c.args.stops.now c.pc-in-loop-done.result w.state.pc c.is_stop.result false c.pc-in-loop-done.ensures c.is_stop.ensures c.if-is_stop.false in
-    let room : c.loop-done.done < length c.loop-done.recent = search rules in
-    let before = held.steps in
-    let one = c.advance.ensures.steps in
-    let none = is_on c.advance.new.over (sym c.advance.ensures.goes_on ∙ c.if-not-advance.false) in
+    let inside : k + 1 ≤ c.args.left = omega (arith, c.min-near.ensures, c.min-most.ensures, c.loop-done-test.true) in
+    let here = at_place c.args.stops.now c.pc.result w.state.pc c.is_stop.result false c.pc.ensures c.is_stop.ensures c.if-is_stop.false in
+    let room : k < length c.loop-done.recent = search rules in
+    let none = is_on w.over (sym one.goes_on ∙ c.if-not-goes_on.false) in
     record {
-      running = sym c.advance.ensures.over ∙ none;
-      none = none;
-      quiet = λ q. c.advance.ensures.quiet (held.quiet q);
-      past = c.advance.ensures.past ∙ held.past;
-      steps = omega (arith, before, one);
+      running = none;
+      quiet = λ q. one.quiet (held.quiet q);
+      past = one.past ∙ held.past;
+      steps = one.steps ∙ held.steps;
       session = λ breaks last start d h.
-          reaches_next v w breaks _ _ start d c.args.stops.now c.args.left c.loop-done.done inside held.running here
-          (told v w breaks last c.loop-done.recent start c.loop-done.done c.pc.result c.pc.ensures room (λ last e. c.advance.ensures.session breaks last start e))
+          reaches_next (counted_by k v) (counted_by (k + 1) w) breaks _ _ start d c.args.stops.now c.args.left k inside held.running here
+          (told (counted_by k v) (counted_by (k + 1) w) breaks last c.loop-done.recent start k c.goes_on.new.place one.place room (stood_on v w k breaks start held.running one.answer one.steps one.quiet))
           (held.session breaks last start d h);
     }
+
+pub returns-clause-session : goal.returns-clause-session
+returns-clause-session g c breaks last start d h =
+    let view = g.D.Debuggee.view_of in
+    let k = c.loop-done.done in
+    let n = c.min-most.result in
+    let v = view c.loop-done.machine in
+    let x = view c.count-2.new.self in
+    let all = c.count-2.ensures in
+    let at : k ≡ n = omega arith in
+    subst (λ m. Reaches (held_by x breaks (keep_last 64 (last ++ take m c.loop-done.recent))) start d c.args.stops.now c.args.left (c.args.left - m)) at
+    (reaches_now (counted_by k v) x breaks (keep_last 64 (last ++ take k c.loop-done.recent)) start d c.args.stops.now c.args.left (c.args.left - k) (counted_is k v x all.state (all.steps ∙ ap (λ m. v.steps + m) (sym at)) all.over all.quiet)
+    (c.loop-done.invariant.session breaks last start d h))

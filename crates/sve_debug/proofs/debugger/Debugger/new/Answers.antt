@@ -3,7 +3,8 @@ use Rattle.std.specs.Prelude.{IsTrue}
 use Rattle.debug_history.specs.Kept.{counts_of}
 use Rattle.machine_model.specs.Debugged.{Past}
 use Rattle.sve_debug.specs.Replies.{started}
-use Rattle.sve_debug.proofs.Kept.{begun, shows_now, twins_alone, kept_alone}
+use Rattle.sve_debug.proofs.Kept.{begun, twins_alone, kept_alone}
+use Rattle.sve_debug.proofs.Runs.{shows_now}
 use Rattle.sve_debug.proofs.debugger.Debugger.new.Goals as goal
 
 pub invariant_of-result : goal.invariant_of-result
@@ -13,7 +14,6 @@ invariant_of-result g c =
     let same = c.in_ok-begin.ensures.now in
     let alone = c.in_ok-begin.ensures.begun in
     let size = ap length alone in (
-      sym (ap (λ (p : Past). p.over) same ∙ c.requires.over),
       ap (λ b. b.capacity) c.in_ok-places.ensures,
       subst (λ (p : Past). IsTrue p.quiet) (sym same) c.requires.quiet,
       omega (arith, size),

@@ -2,7 +2,7 @@ use Rattle.std.proofs.Common.{ap, ◌∙◌}
 use Rattle.machine_model.specs.Debugged.{View}
 use Rattle.a64_machine.specs.Cores.{state_of, said}
 use Rattle.sve_machine.proofs.RunSteps.{one_quiet}
-use Rattle.sve_machine.proofs.machine.Machine.step_on.Goals as goal
+use Rattle.sve_machine.proofs.machine.Machine.goes_on.Goals as goal
 
 pub returns-then-went-clause-quiet : goal.returns-then-went-clause-quiet
 returns-then-went-clause-quiet c quiet =
