@@ -9,7 +9,6 @@ use Rattle.kernel_tree.specs.Items.{size_of, loop_index}
 use Rattle.reg_assign.specs.declared.interval.Interval.{Interval}
 use Rattle.reg_assign.specs.declared.interval.RegClass.TheVariants.{X}
 use Rattle.reg_assign.specs.Registers.{Assignment}
-use Rattle.reg_assign.proofs.Overlaps.{live}
 use Rattle.loop_form.specs.Entries.{Entry, entries_of}
 use Rattle.loop_form.specs.Listing.{last_use_in}
 use Rattle.loop_form.specs.Needs.{throughout, accumulating_of, span, spans_of, intervals}

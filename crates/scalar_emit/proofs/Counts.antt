@@ -16,11 +16,11 @@ use Rattle.kernel_tree.proofs.Scopes.{index_after, param_index, scope_index}
 use Rattle.kernel_meaning.specs.Operators.{word, wrapped, operator_of}
 use Rattle.kernel_meaning.specs.TypeValues.{unary_leaves, binary_leaves, shift_leaves}
 use Rattle.machine_model.specs.InstructionTable.{Listed}
-use Rattle.label_fix.specs.DraftRun.{Entry}
+use Rattle.label_fix.specs.DraftRun.{Entry, Place}
 use Rattle.label_fix.specs.Finished.{size}
 use Rattle.scalar_emit.specs.Layout.{Layout, Homes, reg_of, last_use_at, home}
-use Rattle.scalar_emit.specs.Words.{copy_word, filler, start_code, has_ones, half_word, filled_code, halves_code, const_code, cast_word, settle_word, index_word, word_code, load_code, store_code, operation_code, binary_code, operator_code, sum_word, unary_code, abs_code, shift_code, condition, compare_word, zero_test, tested_code, pick_code, placed_code}
-use Rattle.scalar_emit.specs.Code.{labels, at_type, number_code, signed_side, compared_number, added_number, right_code, flag_condition, choice_code, value_code, flags_code, jump_code}
+use Rattle.scalar_emit.specs.Words.{copy_word, filler, start_code, has_ones, half_word, filled_code, halves_code, const_code, cast_word, settle_word, index_word, word_code, load_code, store_code, operation_code, binary_code, operator_code, unary_code, abs_code, shift_code, condition, zero_test, tested_code, pick_code, placed_code}
+use Rattle.scalar_emit.specs.Code.{at_type, number_code, signed_side, compared_number, added_number, right_code, flag_condition, choice_code, value_code, flags_code, jump_code}
 use Rattle.scalar_emit.specs.Statements.{after_homes, block_labels, put_code, action_code, block_code, otherwise_code}
 use Rattle.scalar_emit.specs.Loop.{answer_code, with_index, loop_code}
 use Rattle.scalar_emit.specs.Kernel.{counted_x, argument_code, arguments_code, after_var, var_home, vars_code, zero_index, layout_of_kernel, param_homes, kernel_homes, begin_code, turns_code, scalar_code}
@@ -69,7 +69,7 @@ placed_words false n rest k h = h
 
 pick_words : (d p q n : ℕ) (rest : List Entry) (k : ℕ) → size rest ≤ k → size (pick_code d p q n rest) ≤ 3 + k
 pick_words d p q n rest k h =
-    let w = one_word (copy_word d q) rest k h in
+    let w = one_word (copy_word d q) (Place (n + 1) ∷ rest) k h in
     within (omega arith) (one_word (copy_word d p) _ (2 + k) (omega (arith, w)))
 
 choice_words : (o : Option ℕ) (m : ℕ) (flags jump : List Entry → List Entry) (d p q n : ℕ) (rest : List Entry) (k : ℕ) → size rest ≤ k → ((rest : List Entry) (k : ℕ) → size rest ≤ k → size (flags rest) ≤ m + k) → ((rest : List Entry) (k : ℕ) → size rest ≤ k → size (jump rest) ≤ m + k) → size (choice_code o flags jump d p q n rest) ≤ m + 3 + k

@@ -1,7 +1,7 @@
 -- Right sides that a word holds as a number.
-use Rattle.std.proofs.Common.{◌≡◌, ℕ, ◌<◌, ◌≤◌, Bool, true, false, ◌||◌, ◌⊎◌, Option, Some, None, inl, inr, refl, sym, ap, ◌∙◌, subst, arith, ⊎_elim}
+use Rattle.std.proofs.Common.{◌≡◌, ℕ, ◌<◌, Bool, true, false, ◌||◌, ◌⊎◌, Option, Some, None, inl, inr, refl, sym, ap, arith}
 use Rattle.std.specs.Prelude.{ℤ, List, nat_lt, option_and_then, if◌then◌else◌}
-use Rattle.std.proofs.lemmas.Bool.{ltb-true, ltb-false}
+use Rattle.std.proofs.lemmas.Bool.{ltb-true}
 use Rattle.kernel_tree.specs.declared.ops.Ty.{Ty}
 use Rattle.kernel_tree.specs.declared.ops.BinaryOp.{BinaryOp}
 use Rattle.kernel_tree.specs.declared.ops.BinaryOp.TheVariants as binary
@@ -14,7 +14,7 @@ use Rattle.kernel_meaning.specs.Eval.{Names, value}
 use Rattle.scalar_emit.specs.declared.extent.Extent.{Extent}
 use Rattle.scalar_emit.proofs.Loose.{loose}
 use Rattle.scalar_emit.specs.Layout.{Layout, Homes, reg_of, home}
-use Rattle.scalar_emit.specs.Words.{immediate, addend, held_addend}
+use Rattle.scalar_emit.specs.Words.{immediate, held_addend}
 use Rattle.scalar_emit.specs.Code.{labels, IsLiteral, compared_number, added_number}
 
 -- ---- literals
