@@ -218,7 +218,7 @@ low_agrees Low16 t z v h e = e
 low_agrees Low32 t z v h e = e
 low_agrees Whole t z v h e = absurd cc
 
-same : (w : Extent) (z v : ℤ) → z ≡ v → Agrees w z v
+pub same : (w : Extent) (z v : ℤ) → z ≡ v → Agrees w z v
 same Low8 z v e = ap (λ n. word n % 2 ^ 8) e
 same Low16 z v e = ap (λ n. word n % 2 ^ 16) e
 same Low32 z v e = ap (λ n. word n % 2 ^ 32) e
@@ -356,9 +356,9 @@ module _ (s : Scope) (m : Memory) (names : Names) (ranged : AreRanged s.visible 
   of_type (Some T) e u t is = value_range e s T m names u t ranged is
 
   pub agrees : (e : Term) (w : Extent) (want : Option Ty) → AreCast s e → Agreed w (loose s w want e m names) (value s want e m names)
-  agrees (Literal n) w want c = all-same w _ _ refl
-  agrees (Variable x) w want c = all-same w _ _ refl
-  agrees (Element a i) w want c = all-same w _ _ refl
+  agrees (Literal n) w want c = all-same w (value s want (Literal n) m names) (value s want (Literal n) m names) refl
+  agrees (Variable x) w want c = all-same w (value s want (Variable x) m names) (value s want (Variable x) m names) refl
+  agrees (Element a i) w want c = all-same w (value s want (Element a i) m names) (value s want (Element a i) m names) refl
   agrees (Unary op e) w want c = map_agreed w (unary_extent op w want) _ _ _ _ (λ x u is p. unary_agrees op w want x u p) (agrees e (unary_extent op w want) want c)
   agrees (Operation op x y) w want c = both_agreed w (binary_extent op w want) _ _ _ _ _ _ (binary_agrees op w want) (agrees x (binary_extent op w want) want c.0) (agrees y (binary_extent op w want) want c.1)
   agrees (Shift left e n) w want c = map_agreed w (shift_extent left w want) _ _ _ _ (λ x u is p. shift_agrees left n w want x u p) (agrees e (shift_extent left w want) want c)
@@ -366,10 +366,10 @@ module _ (s : Scope) (m : Memory) (names : Names) (ranged : AreRanged s.visible 
       let k = converted_extent w (own s e) t in
       map_agreed w k _ _ _ _ (λ x u is p. cast_agrees w (own s e) t x u (of_type (own s e) e u c.0 is) p) (agrees e k (own s e) c.1)
   agrees (Choice c x y) w want h = chosen_agreed w _ _ _ _ (holds s c m names) (agrees x w want h.0) (agrees y w want h.1)
-  agrees (Comparison op x y) w want c = all-same w _ _ refl
-  agrees (Both x y) w want c = all-same w _ _ refl
-  agrees (Either x y) w want c = all-same w _ _ refl
-  agrees (Not e) w want c = all-same w _ _ refl
+  agrees (Comparison op x y) w want c = all-same w (value s want (Comparison op x y) m names) (value s want (Comparison op x y) m names) refl
+  agrees (Both x y) w want c = all-same w (value s want (Both x y) m names) (value s want (Both x y) m names) refl
+  agrees (Either x y) w want c = all-same w (value s want (Either x y) m names) (value s want (Either x y) m names) refl
+  agrees (Not e) w want c = all-same w (value s want (Not e) m names) (value s want (Not e) m names) refl
 
   -- where the whole value is asked for
   pub whole_is : (e : Term) (want : Option Ty) → AreCast s e → loose s Whole want e m names ≡ value s want e m names
@@ -380,3 +380,6 @@ pub agrees_at : (w : Extent) (o q : Option ℤ) (z : ℤ) → Agreed w o q → o
 agrees_at w None q z p e = absurd cc
 agrees_at w (Some x) None z p e = absurd p
 agrees_at w (Some x) (Some v) z p e = let f : x ≡ z = cc in (v, (refl, subst (λ k. Agrees w k v) f p))
+
+pub whole_same : (w : Extent) (z v : ℤ) → w ≡ Whole → Agrees w z v → z ≡ v
+whole_same w z v e p = subst (λ k. Agrees k z v) e p
