@@ -44,9 +44,10 @@ fn counts(rt: HostRuntime) -> Result<(), Fail> {
             == [
                 0xd280_0009,
                 0xeb00_013f,
-                0x5400_0062,
+                0x5400_0082,
                 0x9100_0529,
-                0x17ff_fffd,
+                0xeb00_013f,
+                0x54ff_ffc3,
                 0xaa09_03e0,
                 0xd280_0ba8,
                 0xd400_0001,
