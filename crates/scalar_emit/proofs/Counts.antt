@@ -14,7 +14,7 @@ use Rattle.kernel_tree.specs.Wrap.{is_signed}
 use Rattle.kernel_tree.specs.Typing.{Scope, lookup, own, first, element_type, accumulator_type, index_type, side_type, after_action, after_block, left, in_loop, after_turns, param_scope, var_scope}
 use Rattle.kernel_tree.proofs.Scopes.{index_after, param_index, scope_index}
 use Rattle.kernel_meaning.specs.Operators.{word, wrapped, operator_of}
-use Rattle.kernel_meaning.specs.TypeValues.{unary_leaves, binary_leaves, shift_leaves}
+use Rattle.kernel_meaning.specs.TypeValues.{binary_leaves}
 use Rattle.machine_model.specs.InstructionTable.{Listed}
 use Rattle.scalar_emit.specs.declared.extent.Extent.{Extent}
 use Rattle.scalar_emit.specs.Extents.{Whole, within_type, within as within_at, binary_joins, unary_joins, binary_extent, unary_extent, shift_extent, converted_extent, leaves_at, settles}

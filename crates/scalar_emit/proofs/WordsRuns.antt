@@ -22,12 +22,11 @@ use Rattle.kernel_tree.specs.Wrap.{wrap, residue}
 use Rattle.kernel_meaning.specs.Operators.{word}
 use Rattle.kernel_meaning.specs.Eval.{byte_count, address, read_value}
 use Rattle.kernel_meaning.proofs.Residues.{word-below, word-mul}
-use Rattle.kernel_meaning.specs.TypeValues.{IsOf, fits}
 use Rattle.label_fix.specs.DraftRun.{Entry, Put, Laid, effect, word_of}
 use Rattle.label_fix.proofs.StretchSteps.{Goes, Stops, stay, put_goes, put_stops, chain, go_more}
 use Rattle.scalar_emit.specs.Layout.{Layout, reg_of, IsMade}
 use Rattle.scalar_emit.specs.Fits.{IsSmall}
-use Rattle.scalar_emit.specs.Words.{extension, extending, copy, copy_word, is_narrow, extend_word, cast_word, settle_word, index_word, index_register, word_code, load}
+use Rattle.scalar_emit.specs.Words.{extension, extending, copy, copy_word, is_narrow, extend_word, settle_word, index_word, index_register, word_code, load}
 use Rattle.scalar_emit.proofs.Words.{extended, extended-wrap, residue-64, signed_64, load_extended, load_extended-wrap, word-sum}
 use Rattle.scalar_emit.proofs.LayoutStates.{wrote, wrote_same, wrote_sized, wrote_shaped, Assigned, Kept, kept_none, kept_scratch, kept_item, Changes, changes_on, changes_own, kept_changes}
 

@@ -1,6 +1,6 @@
 -- How much of a value is asked for. A place asks for the low bits of a value or for the value itself; what is computed for it
 -- agrees with the value in these, and is not extended where the bits above do not matter.
-use Rattle.std.specs.Prelude.{ℕ, Bool, true, false, ◌&&◌, not, Option, Some, None, nat_le, if◌then◌else◌}
+use Rattle.std.specs.Prelude.{Bool, true, false, Option, Some, None, nat_le}
 use Rattle.kernel_tree.specs.declared.ops.Ty.{Ty}
 use Rattle.kernel_tree.specs.declared.ops.Ty.TheVariants as ty
 use Rattle.kernel_tree.specs.declared.ops.UnaryOp.{UnaryOp}

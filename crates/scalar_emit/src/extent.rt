@@ -74,13 +74,7 @@ pub fn unary_joins(op: UnaryOp) -> bool
 }
 
 // What an operator asks of its operands.
-fn operand_extent(
-    low: bool,
-    joins: bool,
-    leaves: bool,
-    extent: Extent,
-    want: Option<Ty>,
-) -> Extent
+fn operand_extent(low: bool, joins: bool, leaves: bool, extent: Extent, want: Option<Ty>) -> Extent
     ensures { result ≡ extents.operand_extent low joins leaves extent want }
 {
     if !joins {

@@ -23,10 +23,10 @@ use crate::instructions::{added_number, index_word, store};
 use crate::operations::{emit_copy, emit_offset, want_operator};
 use crate::places::Places;
 use a64_code::Reg;
+use kernel_meaning::binary_leaves;
 use kernel_scope::{
     Scope, accumulator_type, define, element_type, first, leave, lookup, own_type, visible_count,
 };
-use kernel_meaning::binary_leaves;
 use kernel_tree::{BinaryOp, Expr, Name, Part, Stmt, Ty, UpdateOp, parts};
 use label_fix::{Draft, Label};
 use std::alloc::AllocError;
@@ -233,7 +233,9 @@ fn emit_update(
     let op = update_operator(op);
     let number = added_number(op, want, value);
     let extent = binary_extent(op, Extent::Whole, want);
-    let from = emit_right(draft, places, homes, scope, extent, want, number, value, item)?;
+    let from = emit_right(
+        draft, places, homes, scope, extent, want, number, value, item,
+    )?;
     let held = register_at(homes, name);
     want_operator(draft, op, number, binary_leaves(op), want, held, held, from)?;
     *item += 1;
