@@ -14,13 +14,15 @@ use Rattle.kernel_tree.specs.Wrap.{is_signed}
 use Rattle.kernel_tree.specs.Typing.{Scope, lookup, own, first, element_type, accumulator_type, index_type, side_type, after_action, after_block, left, in_loop, after_turns, param_scope, var_scope}
 use Rattle.kernel_tree.proofs.Scopes.{index_after, param_index, scope_index}
 use Rattle.kernel_meaning.specs.Operators.{word, wrapped, operator_of}
-use Rattle.kernel_meaning.specs.TypeValues.{unary_leaves, binary_leaves, shift_leaves}
+use Rattle.kernel_meaning.specs.TypeValues.{binary_leaves}
 use Rattle.machine_model.specs.InstructionTable.{Listed}
+use Rattle.scalar_emit.specs.declared.extent.Extent.{Extent}
+use Rattle.scalar_emit.specs.Extents.{Whole, within_type, within as within_at, binary_joins, unary_joins, binary_extent, unary_extent, shift_extent, converted_extent, leaves_at, settles}
 use Rattle.label_fix.specs.DraftRun.{Entry, Place}
 use Rattle.label_fix.specs.Finished.{size}
 use Rattle.scalar_emit.specs.Layout.{Layout, Homes, reg_of, last_use_at, home}
-use Rattle.scalar_emit.specs.Words.{copy_word, filler, start_code, has_ones, half_word, filled_code, halves_code, const_code, cast_word, settle_word, index_word, word_code, load_code, store_code, operation_code, binary_code, operator_code, unary_code, abs_code, shift_code, condition, zero_test, tested_code, pick_code, placed_code}
-use Rattle.scalar_emit.specs.Code.{at_type, number_code, signed_side, compared_number, added_number, right_code, flag_condition, choice_code, value_code, flags_code, jump_code}
+use Rattle.scalar_emit.specs.Words.{copy_word, filler, start_code, has_ones, half_word, filled_code, halves_code, const_code, convert_word, settle_word, index_word, word_code, load_code, store_code, operation_code, binary_code, operator_code, unary_code, abs_code, shift_code, condition, zero_test, tested_code, pick_code, placed_code}
+use Rattle.scalar_emit.specs.Code.{at_type, number_code, signed_side, compared_number, added_number, right_code, flag_condition, choice_code, loose_code, flags_code, jump_code}
 use Rattle.scalar_emit.specs.Statements.{after_homes, block_labels, put_code, action_code, block_code, otherwise_code}
 use Rattle.scalar_emit.specs.Loop.{answer_code, with_index, loop_code}
 use Rattle.scalar_emit.specs.Kernel.{counted_x, argument_code, arguments_code, after_var, var_home, vars_code, zero_index, layout_of_kernel, param_homes, kernel_homes, begin_code, turns_code, scalar_code}
@@ -50,10 +52,10 @@ pub operator_words : (op : BinaryOp) (t : Ty) (d a c : ℕ) (rest : List Entry) 
 operator_words op t d a c rest k h = within (omega arith) (operation_words op (is_signed t) d a c _ (1 + k) (one_word (settle_word (binary_leaves op) t d) rest k h))
 
 -- of which a number that its word holds may be the right side
-operator_code_words : (number : Option ℕ) (want : Option Ty) (op : BinaryOp) (d a c : ℕ) (rest : List Entry) (k : ℕ) → size rest ≤ k → size (at_type want (λ t. operator_code number op t d a c rest) rest) ≤ 3 + k
-operator_code_words number None op d a c rest k h = omega (arith, h)
-operator_code_words (Some v) (Some t) op d a c rest k h = let w = one_word (settle_word (binary_leaves op) t d) rest k h in omega (arith, w)
-operator_code_words None (Some t) op d a c rest k h = operator_words op t d a c rest k h
+operator_code_words : (number : Option ℕ) (leaves : Bool) (want : Option Ty) (op : BinaryOp) (d a c : ℕ) (rest : List Entry) (k : ℕ) → size rest ≤ k → size (at_type want (λ t. operator_code number leaves op t d a c rest) rest) ≤ 3 + k
+operator_code_words number leaves None op d a c rest k h = omega (arith, h)
+operator_code_words (Some v) leaves (Some t) op d a c rest k h = let w = one_word (settle_word leaves t d) rest k h in omega (arith, w)
+operator_code_words None leaves (Some t) op d a c rest k h = within (omega arith) (operation_words op (is_signed t) d a c _ (1 + k) (one_word (settle_word leaves t d) rest k h))
 
 right_words : (number : Option ℕ) (m : ℕ) (inner : List Entry → List Entry) (rest : List Entry) (k : ℕ) → size rest ≤ k → (size rest ≤ k → size (inner rest) ≤ m + k) → size (right_code number inner rest) ≤ m + k
 right_words (Some v) m inner rest k h f = omega (arith, h)
@@ -80,19 +82,19 @@ abs_words : (b : Bool) (t : Ty) (d a : ℕ) (rest : List Entry) (k : ℕ) → si
 abs_words true t d a rest k h = let w = one_word (settle_word true t d) rest k h in omega (arith, w)
 abs_words false t d a rest k h = let w = one_word (copy_word d a) rest k h in omega (arith, w)
 
-cast_words : (from : Option Ty) (t : Ty) (d a : ℕ) (rest : List Entry) (k : ℕ) → size rest ≤ k → size (at_type from (λ u. word_code (cast_word u t d a) rest) rest) ≤ 1 + k
-cast_words None t d a rest k h = omega (arith, h)
-cast_words (Some u) t d a rest k h = one_word (cast_word u t d a) rest k h
+cast_words : (low : Bool) (from : Option Ty) (t : Ty) (d a : ℕ) (rest : List Entry) (k : ℕ) → size rest ≤ k → size (at_type from (λ u. word_code (convert_word low u t d a) rest) rest) ≤ 1 + k
+cast_words low None t d a rest k h = omega (arith, h)
+cast_words low (Some u) t d a rest k h = one_word (convert_word low u t d a) rest k h
 
-unary_words : (want : Option Ty) (op : UnaryOp) (d a : ℕ) (rest : List Entry) (k : ℕ) → size rest ≤ k → size (at_type want (λ t. unary_code op t d a rest) rest) ≤ 3 + k
-unary_words None op d a rest k h = omega (arith, h)
-unary_words (Some t) unary.Neg d a rest k h = let w = one_word (settle_word (unary_leaves unary.Neg t) t d) rest k h in omega (arith, w)
-unary_words (Some t) unary.Flip d a rest k h = let w = one_word (settle_word (unary_leaves unary.Flip t) t d) rest k h in omega (arith, w)
-unary_words (Some t) unary.Abs d a rest k h = abs_words (is_signed t) t d a rest k h
+unary_words : (leaves : Bool) (want : Option Ty) (op : UnaryOp) (d a : ℕ) (rest : List Entry) (k : ℕ) → size rest ≤ k → size (at_type want (λ t. unary_code leaves op t d a rest) rest) ≤ 3 + k
+unary_words leaves None op d a rest k h = omega (arith, h)
+unary_words leaves (Some t) unary.Neg d a rest k h = let w = one_word (settle_word leaves t d) rest k h in omega (arith, w)
+unary_words leaves (Some t) unary.Flip d a rest k h = let w = one_word (settle_word leaves t d) rest k h in omega (arith, w)
+unary_words leaves (Some t) unary.Abs d a rest k h = abs_words (is_signed t) t d a rest k h
 
-shift_words : (want : Option Ty) (left : Bool) (n : ℤ) (d a : ℕ) (rest : List Entry) (k : ℕ) → size rest ≤ k → size (at_type want (λ t. shift_code left n t d a rest) rest) ≤ 2 + k
-shift_words None left n d a rest k h = omega (arith, h)
-shift_words (Some t) left n d a rest k h = let w = one_word (settle_word (shift_leaves left) t d) rest k h in omega (arith, w)
+shift_words : (leaves : Bool) (want : Option Ty) (left : Bool) (n : ℤ) (d a : ℕ) (rest : List Entry) (k : ℕ) → size rest ≤ k → size (at_type want (λ t. shift_code leaves left n t d a rest) rest) ≤ 2 + k
+shift_words leaves None left n d a rest k h = omega (arith, h)
+shift_words leaves (Some t) left n d a rest k h = let w = one_word (settle_word leaves t d) rest k h in omega (arith, w)
 
 start_words : (o : Bool) (d h p : ℕ) (rest : List Entry) (k : ℕ) → size rest ≤ k → size (start_code o d h p rest) ≤ 1 + k
 start_words true d h p rest k e = omega (arith, e)
@@ -147,27 +149,27 @@ one_more h = omega (arith, h)
 
 module _ (L : Layout) (hs : Homes) where
   mutual
-    value_words : (e : Term) (s : Scope) (want : Option Ty) (b n : ℕ) (rest : List Entry) (k : ℕ) → size rest ≤ k → size (value_code L hs s want b n e rest) ≤ 4 * term_size s.index e + k
-    value_words (Literal z) s want b n rest k h = within (omega arith) (const_words (reg_of L b) (word (wrapped want z)) rest k h)
-    value_words (Variable x) s want b n rest k h = omega (arith, h)
-    value_words (Element a j) s want b n rest k h =
-        within (omega arith) (number_words (stream_offset s.index j) (term_size s.index j) _ _ _ (load_words (option_and_then element_type (lookup s a)) _ _ _ rest k h) (λ g. value_words j s (index_type s j) b n _ _ g))
-    value_words (Unary op x) s want b n rest k h = within (omega arith) (value_words x s want b n _ _ (unary_words want op _ _ rest k h))
-    value_words (Operation op x y) s want b n rest k h =
+    loose_words : (e : Term) (s : Scope) (w : Extent) (want : Option Ty) (b n : ℕ) (rest : List Entry) (k : ℕ) → size rest ≤ k → size (loose_code L hs s w want b n e rest) ≤ 4 * term_size s.index e + k
+    loose_words (Literal z) s w want b n rest k h = within (omega arith) (const_words (reg_of L b) (word (wrapped want z)) rest k h)
+    loose_words (Variable x) s w want b n rest k h = omega (arith, h)
+    loose_words (Element a j) s w want b n rest k h =
+        within (omega arith) (number_words (stream_offset s.index j) (term_size s.index j) _ _ _ (load_words (option_and_then element_type (lookup s a)) _ _ _ rest k h) (λ g. loose_words j s Whole (index_type s j) b n _ _ g))
+    loose_words (Unary op x) s w want b n rest k h = within (omega arith) (loose_words x s (unary_extent op w want) want b n _ _ (unary_words (settles (within_at w want) (unary_joins op) (leaves_at op want)) want op _ _ rest k h))
+    loose_words (Operation op x y) s w want b n rest k h =
         let number = added_number op want y in
-        within (omega arith) (value_words x s want b n _ _ (right_words number (4 * term_size s.index y) _ _ _ (operator_code_words number want op _ _ _ rest k h) (λ g. value_words y s want _ _ _ _ g)))
-    value_words (Shift left x z) s want b n rest k h = within (omega arith) (value_words x s want b n _ _ (shift_words want left z _ _ rest k h))
-    value_words (Conversion x t) s want b n rest k h = within (omega arith) (value_words x s (own s x) b n _ _ (cast_words (own s x) t _ _ rest k h))
-    value_words (Choice c x y) s want b n rest k h =
-        within (omega arith) (value_words x s want b n _ _ (value_words y s want _ _ _ _ (choice_words (flag_condition s c) (4 * term_size s.index c) _ _ _ _ _ _ rest k h (λ r j g. flags_words c s _ _ r j g) (λ r j g. jump_words c s false _ _ _ r j g))))
-    value_words (Comparison op x y) s want b n rest k h = omega (arith, h)
-    value_words (Both x y) s want b n rest k h = omega (arith, h)
-    value_words (Either x y) s want b n rest k h = omega (arith, h)
-    value_words (Not x) s want b n rest k h = omega (arith, h)
+        within (omega arith) (loose_words x s (binary_extent op w want) want b n _ _ (right_words number (4 * term_size s.index y) _ _ _ (operator_code_words number (settles (within_at w want) (binary_joins op) (binary_leaves op)) want op _ _ _ rest k h) (λ g. loose_words y s (binary_extent op w want) want _ _ _ _ g)))
+    loose_words (Shift left x z) s w want b n rest k h = within (omega arith) (loose_words x s (shift_extent left w want) want b n _ _ (shift_words (settles (within_at w want) left left) want left z _ _ rest k h))
+    loose_words (Conversion x t) s w want b n rest k h = within (omega arith) (loose_words x s (converted_extent w (own s x) t) (own s x) b n _ _ (cast_words (within_type w t) (own s x) t _ _ rest k h))
+    loose_words (Choice c x y) s w want b n rest k h =
+        within (omega arith) (loose_words x s w want b n _ _ (loose_words y s w want _ _ _ _ (choice_words (flag_condition s c) (4 * term_size s.index c) _ _ _ _ _ _ rest k h (λ r j g. flags_words c s _ _ r j g) (λ r j g. jump_words c s false _ _ _ r j g))))
+    loose_words (Comparison op x y) s w want b n rest k h = omega (arith, h)
+    loose_words (Both x y) s w want b n rest k h = omega (arith, h)
+    loose_words (Either x y) s w want b n rest k h = omega (arith, h)
+    loose_words (Not x) s w want b n rest k h = omega (arith, h)
 
     flags_words : (e : Term) (s : Scope) (b n : ℕ) (rest : List Entry) (k : ℕ) → size rest ≤ k → size (flags_code L hs s b n e rest) ≤ 4 * term_size s.index e + k
     flags_words (Comparison op x y) s b n rest k h =
-        within (omega arith) (value_words x s (side_type s x y) b n _ _ (right_words (compared_number (side_type s x y) y) (4 * term_size s.index y) _ _ (1 + k) (omega (arith, h)) (λ g. value_words y s (side_type s x y) _ _ _ _ g)))
+        within (omega arith) (loose_words x s Whole (side_type s x y) b n _ _ (right_words (compared_number (side_type s x y) y) (4 * term_size s.index y) _ _ (1 + k) (omega (arith, h)) (λ g. loose_words y s Whole (side_type s x y) _ _ _ _ g)))
     flags_words (Literal z) s b n rest k h = omega (arith, h)
     flags_words (Variable x) s b n rest k h = omega (arith, h)
     flags_words (Element a i) s b n rest k h = omega (arith, h)
@@ -183,7 +185,7 @@ module _ (L : Layout) (hs : Homes) where
     jump_words : (e : Term) (s : Scope) (sense : Bool) (to b n : ℕ) (rest : List Entry) (k : ℕ) → size rest ≤ k → size (jump_code L hs s sense to b n e rest) ≤ 4 * term_size s.index e + k
     jump_words (Comparison op x y) s sense to b n rest k h =
         let number = compared_number (side_type s x y) y in
-        within (omega arith) (value_words x s (side_type s x y) b n _ _ (right_words number (4 * term_size s.index y) _ _ _ (tested_words (zero_test op number) sense number _ _ (condition op (signed_side (side_type s x y))) to rest k h) (λ g. value_words y s (side_type s x y) _ _ _ _ g)))
+        within (omega arith) (loose_words x s Whole (side_type s x y) b n _ _ (right_words number (4 * term_size s.index y) _ _ _ (tested_words (zero_test op number) sense number _ _ (condition op (signed_side (side_type s x y))) to rest k h) (λ g. loose_words y s Whole (side_type s x y) _ _ _ _ g)))
     jump_words (Both x y) s sense to b n rest k h = within (omega arith) (jump_words x s false _ b _ _ _ (jump_words y s sense to _ _ _ _ (placed_words sense n rest k h)))
     jump_words (Either x y) s sense to b n rest k h = within (omega arith) (jump_words x s true _ b _ _ _ (jump_words y s sense to _ _ _ _ (placed_words (not sense) n rest k h)))
     jump_words (Not x) s sense to b n rest k h = within (omega arith) (jump_words x s (not sense) to b n rest k h)
@@ -206,12 +208,12 @@ module _ (L : Layout) where
     action_words : (a : Action) (hs : Homes) (s : Scope) (exit b n : ℕ) (rest : List Entry) (k : ℕ) → size rest ≤ k → size (action_code L hs s exit b n a rest) ≤ 4 * action_size s.index a + k
     action_words (Define x t e) hs s exit b n rest k h =
         let q = b + term_size s.index e in
-        within (omega arith) (value_words L hs e s (first t (own s e)) b n _ _ (let_words (nat_lt q (last_use_at L q)) _ _ rest k h))
-    action_words (PutTo a i e) hs s exit b n rest k h = within (omega arith) (value_words L hs e s _ b n _ _ (put_words (stream_offset s.index i) _ _ _ rest k h))
+        within (omega arith) (loose_words L hs e s Whole (first t (own s e)) b n _ _ (let_words (nat_lt q (last_use_at L q)) _ _ rest k h))
+    action_words (PutTo a i e) hs s exit b n rest k h = within (omega arith) (loose_words L hs e s _ _ b n _ _ (put_words (stream_offset s.index i) _ _ _ rest k h))
     action_words (Update x op e) hs s exit b n rest k h =
         let want = option_and_then accumulator_type (lookup s x) in
         let number = added_number (operator_of op) want e in
-        within (omega arith) (right_words number (4 * term_size s.index e) _ _ _ (operator_code_words number want (operator_of op) _ _ _ rest k h) (λ g. value_words L hs e s want b n _ _ g))
+        within (omega arith) (right_words number (4 * term_size s.index e) _ _ _ (operator_code_words number (binary_leaves (operator_of op)) want (operator_of op) _ _ _ rest k h) (λ g. loose_words L hs e s _ want b n _ _ g))
     action_words (Choose c blk d) hs s exit b n rest k h =
         within (omega arith) (jump_words L hs c s false _ b _ _ _ (block_words blk hs s exit _ _ _ _ (otherwise_words d hs (left s (after_block s blk)) exit n _ _ rest k h)))
     action_words (Leave c) hs s exit b n rest k h = within (omega arith) (jump_words L hs c s true exit b n _ _ h)
@@ -230,7 +232,7 @@ module _ (L : Layout) where
 
   answer_words : (hs : Homes) (s : Scope) (b n : ℕ) (o : Option Returned) (rest : List Entry) (k : ℕ) → size rest ≤ k → size (answer_code L hs s b n o rest) ≤ 4 * answer_size s.index o + 3 + k
   answer_words hs s b n None rest k h = omega (arith, h)
-  answer_words hs s b n (Some a) rest k h = within (omega arith) (value_words L hs a.value s (Some a.type) b n _ _ (one_word (copy_word 0 (home L hs s.index b a.value)) _ _ (one_more (one_more h))))
+  answer_words hs s b n (Some a) rest k h = within (omega arith) (loose_words L hs a.value s Whole (Some a.type) b n _ _ (one_word (copy_word 0 (home L hs s.index b a.value)) _ _ (one_more (one_more h))))
 
   loop_words : (hs : Homes) (s : Scope) (t : PlainLoop) (b n b2 : ℕ) (o : Option Returned) (rest : List Entry) (k : ℕ) → size rest ≤ k → size (loop_code L hs s t b n b2 o rest) ≤ 4 * (1 + block_size s.index t.body) + 4 * answer_size s.index o + 4 + k
   loop_words hs s t b n b2 o rest k h =
@@ -241,7 +243,7 @@ module _ (L : Layout) where
   vars_words : (R : ℕ → ℕ) (hs : Homes) (s : Scope) (j b n : ℕ) (vs : List Accumulator) (rest : List Entry) (k : ℕ) → size rest ≤ k → size (vars_code L R hs s j b n vs rest) ≤ 4 * vars_size s.index vs + k
   vars_words R hs s j b n [] rest k h = omega (arith, h)
   vars_words R hs s j b n (v ∷ vs) rest k h =
-      within (omega arith) (value_words L hs v.init s (Some v.type) b n _ _ (one_word (copy_word (counted_x (R j)) (home L hs s.index b v.init)) _ _ (vars_words R (hs ++ var_home R j v ∷ []) (after_var s v) (j + 1) _ _ vs rest k h)))
+      within (omega arith) (loose_words L hs v.init s Whole (Some v.type) b n _ _ (one_word (copy_word (counted_x (R j)) (home L hs s.index b v.init)) _ _ (vars_words R (hs ++ var_home R j v ∷ []) (after_var s v) (j + 1) _ _ vs rest k h)))
 
 -- ---- kernels
 

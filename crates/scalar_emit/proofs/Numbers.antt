@@ -11,6 +11,8 @@ use Rattle.kernel_meaning.specs.Operators.{word, wrapped}
 use Rattle.guest_types.specs.Memory.{Memory}
 use Rattle.kernel_tree.specs.Typing.{Scope}
 use Rattle.kernel_meaning.specs.Eval.{Names, value}
+use Rattle.scalar_emit.specs.declared.extent.Extent.{Extent}
+use Rattle.scalar_emit.proofs.Loose.{loose}
 use Rattle.scalar_emit.specs.Layout.{Layout, Homes, reg_of, home}
 use Rattle.scalar_emit.specs.Words.{immediate, held_addend}
 use Rattle.scalar_emit.specs.Code.{labels, IsLiteral, compared_number, added_number}
@@ -130,10 +132,10 @@ compared_small want e v h =
     let q = found immediate want e (literal_value e) v refl h in
     (immediate_is (word (wrapped want q.0)) v (nat_lt (word (wrapped want q.0)) 4096) refl q.1.1).1
 
-pub added_right : (op : BinaryOp) (s : Scope) (want : Option Ty) (e : Term) (m : Memory) (names : Names) (v : ℕ) → added_number op want e ≡ Some v → IsRight s want e m names v
-added_right op s want e m names v h =
+pub added_right : (op : BinaryOp) (s : Scope) (w : Extent) (want : Option Ty) (e : Term) (m : Memory) (names : Names) (v : ℕ) → added_number op want e ≡ Some v → (y : ℤ) × ((loose s w want e m names ≡ Some y) × (v ≡ word y))
+added_right op s w want e m names v h =
     let q = found (held_addend op) want e (literal_value e) v refl h in
-    right_is s want e m names q.0 v q.1.0 (held_is op (word (wrapped want q.0)) v q.1.1).0
+    (wrapped want q.0, (ap (λ e. loose s w want e m names) q.1.0, (held_is op (word (wrapped want q.0)) v q.1.1).0))
 
 pub added_sum : (op : BinaryOp) (want : Option Ty) (e : Term) (v : ℕ) → added_number op want e ≡ Some v → IsSum op v
 added_sum op want e v h =

@@ -22,13 +22,11 @@ use Rattle.kernel_tree.specs.Wrap.{wrap, residue}
 use Rattle.kernel_meaning.specs.Operators.{word}
 use Rattle.kernel_meaning.specs.Eval.{byte_count, address, read_value}
 use Rattle.kernel_meaning.proofs.Residues.{word-below, word-mul}
-use Rattle.kernel_meaning.specs.TypeValues.{IsOf, fits}
-use Rattle.kernel_meaning.proofs.ExtendedForm.{cast-kept}
 use Rattle.label_fix.specs.DraftRun.{Entry, Put, Laid, effect, word_of}
 use Rattle.label_fix.proofs.StretchSteps.{Goes, Stops, stay, put_goes, put_stops, chain, go_more}
 use Rattle.scalar_emit.specs.Layout.{Layout, reg_of, IsMade}
 use Rattle.scalar_emit.specs.Fits.{IsSmall}
-use Rattle.scalar_emit.specs.Words.{extension, extending, copy, copy_word, is_narrow, extend_word, cast_word, settle_word, index_word, index_register, word_code, load}
+use Rattle.scalar_emit.specs.Words.{extension, extending, copy, copy_word, is_narrow, extend_word, settle_word, index_word, index_register, word_code, load}
 use Rattle.scalar_emit.proofs.Words.{extended, extended-wrap, residue-64, signed_64, load_extended, load_extended-wrap, word-sum}
 use Rattle.scalar_emit.proofs.LayoutStates.{wrote, wrote_same, wrote_sized, wrote_shaped, Assigned, Kept, kept_none, kept_scratch, kept_item, Changes, changes_on, changes_own, kept_changes}
 
@@ -119,7 +117,7 @@ module _ (D : Laid) (L : Layout) (fit : Assigned L) where
   pub copied_sets : {rest : List Entry} {s : State} (d a : ℕ) (x : ℤ) → length s.x ≡ 31 → d < 31 → x_at s a ≡ word x → Sets D (word_code (copy_word d a) rest) s rest d x 1
   copied_sets d a x sized hi is = copy_word_sets D L fit d a x sized hi is (nat_eq d a) refl
 
-  extend_sets : {rest : List Entry} {s : State} (t : Ty) (d a : ℕ) (x : ℤ) → length s.x ≡ 31 → d < 31 → x_at s a ≡ word x → Sets D (word_code (extend_word t d a) rest) s rest d (wrap t x) 1
+  pub extend_sets : {rest : List Entry} {s : State} (t : Ty) (d a : ℕ) (x : ℤ) → length s.x ≡ 31 → d < 31 → x_at s a ≡ word x → Sets D (word_code (extend_word t d a) rest) s rest d (wrap t x) 1
   extend_sets {rest = rest} {s = s} t d a x sized hi is = by (is_narrow t) refl
     where
       by : (b : Bool) → is_narrow t ≡ b → Sets D (word_code (if b then Some (extending t d a) else copy_word d a) rest) s rest d (wrap t x) 1
@@ -129,13 +127,6 @@ module _ (D : Laid) (L : Layout) (fit : Assigned L) where
           let low = word-below (wrap t x) in
           record { end = wrote s d v; goes = extension_is t d a s D rest; changes = changes_own s d v; value = wrote_same s d v (omega (arith, sized, hi)) ∙ w; shaped = λ h. wrote_shaped s d v (omega (arith, w, low)) h }
       by false e = copied_sets d a (wrap t x) sized hi (is ∙ sym (wide_wrap t x e))
-
-  pub cast_sets : {rest : List Entry} {s : State} (from t : Ty) (d a : ℕ) (x : ℤ) → length s.x ≡ 31 → d < 31 → IsOf from x → x_at s a ≡ word x → Sets D (word_code (cast_word from t d a) rest) s rest d (wrap t x) 1
-  cast_sets {rest = rest} {s = s} from t d a x sized hi of is = by (fits from t) refl
-    where
-      by : (b : Bool) → fits from t ≡ b → Sets D (word_code (if b then copy_word d a else extend_word t d a) rest) s rest d (wrap t x) 1
-      by true e = copied_sets d a (wrap t x) sized hi (is ∙ sym (ap word (cast-kept from t x e of)))
-      by false e = extend_sets t d a x sized hi is
 
   -- the extension of a register in place
   pub extended_sets : {rest : List Entry} {s : State} (t : Ty) (d : ℕ) (x : ℤ) → length s.x ≡ 31 → d < 31 → x_at s d ≡ word x → Sets D (word_code (settle_word true t d) rest) s rest d (wrap t x) 1

@@ -1,4 +1,5 @@
 pub mod Layout
+pub mod Extents
 pub mod Words
 pub mod Code
 pub mod Fits

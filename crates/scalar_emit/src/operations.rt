@@ -2,7 +2,7 @@
 
 ghost use Rattle.std.specs.Prelude.{◌≡◌, ◌<◌, ◌+◌, true, List, [], ◌∷◌, ◌++◌, IfOk, OnOk, option_map};
 ghost use Rattle.a64_code.specs.Table as table;
-ghost use Rattle.kernel_tree.specs.declared.ops.UnaryOp.TheVariants as unary;
+ghost use Rattle.kernel_tree.specs.Wrap as wrap;
 ghost use Rattle.label_fix.specs.Draft.{word_view, kind_view};
 ghost use Rattle.label_fix.specs.DraftRun as plain;
 ghost use Rattle.scalar_emit.specs.Words as words;
@@ -17,7 +17,7 @@ use crate::instructions::{
     zero_test,
 };
 use a64_code::{AddSubOp, Cond, LogicalOp, MoveWideOp, Reg, SelectOp, zero};
-use kernel_meaning::{binary_leaves, fits, is_signed, unary_leaves};
+use kernel_meaning::{binary_leaves, fits, is_signed};
 use kernel_tree::{BinaryOp, CompareOp, Ty, UnaryOp};
 use label_fix::{BranchKind, Draft, Label, Word};
 use std::alloc::AllocError;
@@ -251,7 +251,7 @@ fn emit_settled(
 // The absolute value.
 fn emit_abs(draft: &mut Draft, ty: Ty, d: Reg, a: Reg) -> Result<(), AllocError>
     ensures labels { OnOk result (draft.new.labels ≡ draft.old.labels) }
-    ensures code { OnOk result (Appends draft.old draft.new (words.unary_code unary.Abs ty d.number a.number)) }
+    ensures code { OnOk result (Appends draft.old draft.new (words.abs_code (wrap.is_signed ty) ty d.number a.number)) }
 {
     if is_signed(ty) {
         draft.put(add_sub(AddSubOp::Subs, scratch(), zero(), a))?;
@@ -265,19 +265,26 @@ fn emit_abs(draft: &mut Draft, ty: Ty, d: Reg, a: Reg) -> Result<(), AllocError>
 }
 
 // The code of an operator with one operand.
-fn emit_unary(draft: &mut Draft, op: UnaryOp, ty: Ty, d: Reg, a: Reg) -> Result<(), AllocError>
+fn emit_unary(
+    draft: &mut Draft,
+    op: UnaryOp,
+    leaves: bool,
+    ty: Ty,
+    d: Reg,
+    a: Reg,
+) -> Result<(), AllocError>
     ensures labels { OnOk result (draft.new.labels ≡ draft.old.labels) }
-    ensures code { OnOk result (Appends draft.old draft.new (words.unary_code op ty d.number a.number)) }
+    ensures code { OnOk result (Appends draft.old draft.new (words.unary_code leaves op ty d.number a.number)) }
 {
     match op {
         UnaryOp::Neg => {
             let word = add_sub(AddSubOp::Sub, d, zero(), a);
-            emit_settled(draft, word, unary_leaves(op, ty), ty, d)?;
+            emit_settled(draft, word, leaves, ty, d)?;
             Ok(())
         }
         UnaryOp::Flip => {
             let word = logical(LogicalOp::Orn, d, zero(), a);
-            emit_settled(draft, word, unary_leaves(op, ty), ty, d)?;
+            emit_settled(draft, word, leaves, ty, d)?;
             Ok(())
         }
         UnaryOp::Abs => emit_abs(draft, ty, d, a),
@@ -287,6 +294,7 @@ fn emit_unary(draft: &mut Draft, op: UnaryOp, ty: Ty, d: Reg, a: Reg) -> Result<
 // The code of a shift by a constant.
 fn emit_shift(
     draft: &mut Draft,
+    leaves: bool,
     left: bool,
     count: i128,
     ty: Ty,
@@ -294,10 +302,10 @@ fn emit_shift(
     a: Reg,
 ) -> Result<(), AllocError>
     ensures labels { OnOk result (draft.new.labels ≡ draft.old.labels) }
-    ensures code { OnOk result (Appends draft.old draft.new (words.shift_code left count ty d.number a.number)) }
+    ensures code { OnOk result (Appends draft.old draft.new (words.shift_code leaves left count ty d.number a.number)) }
 {
     draft.put(shifted(left, is_signed(ty), shift_count(count), d, a))?;
-    emit_settle(draft, left, ty, d)?;
+    emit_settle(draft, leaves, ty, d)?;
     Ok(())
 }
 
@@ -417,6 +425,7 @@ fn emit_operator(
     draft: &mut Draft,
     op: BinaryOp,
     number: Option<u64>,
+    leaves: bool,
     ty: Ty,
     d: Reg,
     a: Reg,
@@ -424,13 +433,17 @@ fn emit_operator(
 ) -> Result<(), AllocError>
     ensures labels { OnOk result (draft.new.labels ≡ draft.old.labels) }
     ensures code { OnOk result (Appends draft.old draft.new
-        (words.operator_code number op ty d.number a.number b.number)) }
+        (words.operator_code number leaves op ty d.number a.number b.number)) }
 {
     match number {
-        None => emit_binary(draft, op, ty, d, a, b),
+        None => {
+            emit_operation(draft, op, is_signed(ty), d, a, b)?;
+            emit_settle(draft, leaves, ty, d)?;
+            Ok(())
+        }
         Some(number) => {
             let word = sum_word(op, number, d, a);
-            emit_settled(draft, word, binary_leaves(op), ty, d)?;
+            emit_settled(draft, word, leaves, ty, d)?;
             Ok(())
         }
     }
@@ -441,6 +454,7 @@ pub fn want_operator(
     draft: &mut Draft,
     op: BinaryOp,
     number: Option<u64>,
+    leaves: bool,
     want: Option<Ty>,
     d: Reg,
     a: Reg,
@@ -449,11 +463,11 @@ pub fn want_operator(
     ensures labels { OnOk result (draft.new.labels ≡ draft.old.labels) }
     ensures code { OnOk result ((rest : List plain.Entry)
         → draft.new.entries ++ rest ≡ draft.old.entries
-        ++ code.at_type want (λ t. words.operator_code number op t d.number a.number b.number rest) rest) }
+        ++ code.at_type want (λ t. words.operator_code number leaves op t d.number a.number b.number rest) rest) }
 {
     match want {
         None => Ok(()),
-        Some(ty) => emit_operator(draft, op, number, ty, d, a, b),
+        Some(ty) => emit_operator(draft, op, number, leaves, ty, d, a, b),
     }
 }
 
@@ -461,6 +475,7 @@ pub fn want_operator(
 pub fn want_unary(
     draft: &mut Draft,
     op: UnaryOp,
+    leaves: bool,
     want: Option<Ty>,
     d: Reg,
     a: Reg,
@@ -468,17 +483,18 @@ pub fn want_unary(
     ensures labels { OnOk result (draft.new.labels ≡ draft.old.labels) }
     ensures code { OnOk result ((rest : List plain.Entry)
         → draft.new.entries ++ rest ≡ draft.old.entries
-        ++ code.at_type want (λ t. words.unary_code op t d.number a.number rest) rest) }
+        ++ code.at_type want (λ t. words.unary_code leaves op t d.number a.number rest) rest) }
 {
     match want {
         None => Ok(()),
-        Some(ty) => emit_unary(draft, op, ty, d, a),
+        Some(ty) => emit_unary(draft, op, leaves, ty, d, a),
     }
 }
 
 /// The same where a type is wanted.
 pub fn want_shift(
     draft: &mut Draft,
+    leaves: bool,
     left: bool,
     count: i128,
     want: Option<Ty>,
@@ -488,20 +504,43 @@ pub fn want_shift(
     ensures labels { OnOk result (draft.new.labels ≡ draft.old.labels) }
     ensures code { OnOk result ((rest : List plain.Entry)
         → draft.new.entries ++ rest ≡ draft.old.entries
-        ++ code.at_type want (λ t. words.shift_code left count t d.number a.number rest) rest) }
+        ++ code.at_type want (λ t. words.shift_code leaves left count t d.number a.number rest) rest) }
 {
     match want {
         None => Ok(()),
         Some(ty) => {
-            emit_shift(draft, left, count, ty, d, a)?;
+            emit_shift(draft, leaves, left, count, ty, d, a)?;
             Ok(())
         }
+    }
+}
+
+// The same, of which no more than the low bits of the type may be asked for.
+fn emit_convert(
+    draft: &mut Draft,
+    low: bool,
+    from: Ty,
+    ty: Ty,
+    d: Reg,
+    a: Reg,
+) -> Result<(), AllocError>
+    ensures labels { OnOk result (draft.new.labels ≡ draft.old.labels) }
+    ensures code { OnOk result (Appends draft.old draft.new
+        (words.word_code (words.convert_word low from ty d.number a.number))) }
+{
+    if low {
+        emit_copy(draft, d, a)?;
+        Ok(())
+    } else {
+        emit_cast(draft, from, ty, d, a)?;
+        Ok(())
     }
 }
 
 /// A cast, where its operand has a type.
 pub fn want_cast(
     draft: &mut Draft,
+    low: bool,
     from: Option<Ty>,
     ty: Ty,
     d: Reg,
@@ -510,11 +549,11 @@ pub fn want_cast(
     ensures labels { OnOk result (draft.new.labels ≡ draft.old.labels) }
     ensures code { OnOk result ((rest : List plain.Entry)
         → draft.new.entries ++ rest ≡ draft.old.entries
-        ++ code.at_type from (λ s. words.word_code (words.cast_word s ty d.number a.number) rest) rest) }
+        ++ code.at_type from (λ s. words.word_code (words.convert_word low s ty d.number a.number) rest) rest) }
 {
     match from {
         None => Ok(()),
-        Some(from) => emit_cast(draft, from, ty, d, a),
+        Some(from) => emit_convert(draft, low, from, ty, d, a),
     }
 }
 

@@ -16,12 +16,14 @@ ghost use Rattle.scalar_emit.specs.Drafts.{Appends};
 ghost use Rattle.scalar_emit.specs.View.{homes_of};
 
 use crate::branches::{land, switch_over};
-use crate::emit::{emit_jump, emit_right, emit_value};
+use crate::emit::{emit_jump, emit_loose, emit_right, emit_value};
+use crate::extent::{Extent, binary_extent, extent_at};
 use crate::home::{Home, register_at};
 use crate::instructions::{added_number, index_word, store};
 use crate::operations::{emit_copy, emit_offset, want_operator};
 use crate::places::Places;
 use a64_code::Reg;
+use kernel_meaning::binary_leaves;
 use kernel_scope::{
     Scope, accumulator_type, define, element_type, first, leave, lookup, own_type, visible_count,
 };
@@ -184,7 +186,8 @@ fn emit_store(
         (Put (name_of array.now) (term_of index.now) (term_of value.now)))) }
 {
     let ty = lookup(scope, array).and_then(element_type);
-    let from = emit_value(draft, places, homes, scope, ty, value, item)?;
+    let extent = extent_at(ty);
+    let from = emit_loose(draft, places, homes, scope, extent, ty, value, item)?;
     emit_put(draft, scope, index, ty, from, register_at(homes, array))?;
     *item += 1;
     Ok(())
@@ -229,9 +232,12 @@ fn emit_update(
     let want = lookup(scope, name).and_then(accumulator_type);
     let op = update_operator(op);
     let number = added_number(op, want, value);
-    let from = emit_right(draft, places, homes, scope, want, number, value, item)?;
+    let extent = binary_extent(op, Extent::Whole, want);
+    let from = emit_right(
+        draft, places, homes, scope, extent, want, number, value, item,
+    )?;
     let held = register_at(homes, name);
-    want_operator(draft, op, number, want, held, held, from)?;
+    want_operator(draft, op, number, binary_leaves(op), want, held, held, from)?;
     *item += 1;
     Ok(())
 }

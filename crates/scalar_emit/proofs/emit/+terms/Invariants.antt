@@ -5,8 +5,8 @@ use Rattle.kernel_tree.specs.Limits.{term_depth}
 use Rattle.scalar_emit.proofs.emit.+terms.Given as goal
 
 -- an expression stands above what emits it by its kind, and that above its operands
-abbrev pub decreases-emit_value : goal.decreases-emit_value
-decreases-emit_value l = 4 * term_depth (term_of l.expr.now) + 1
+abbrev pub decreases-emit_loose : goal.decreases-emit_loose
+decreases-emit_loose l = 4 * term_depth (term_of l.expr.now) + 1
 
 abbrev pub decreases-emit_one : goal.decreases-emit_one
 decreases-emit_one l = 4 * term_depth (term_of l.arg.now) + 2
