@@ -15,10 +15,10 @@ use command_answers::files::read_file;
 use elf_image::write_elf;
 use io_edges::files::Files;
 use kernel_compile::compile_kernel;
-use promises::CompileFault;
 use kernel_front::accept;
 use kernel_tree::Checked;
 use loop_form::laws::few_items;
+use promises::CompileFault;
 use refusals::refusal::{Done, Refusal};
 use std::alloc::Global;
 
