@@ -2,6 +2,8 @@
 #![tactic(auto)]
 
 #[cfg(test)]
+mod debugger_calls;
+#[cfg(test)]
 mod elf_image_calls;
 #[cfg(test)]
 mod lane_arith_calls;
