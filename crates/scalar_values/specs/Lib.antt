@@ -3,3 +3,4 @@ pub mod ItemWords
 pub mod Extents
 pub mod Code
 pub mod Fits
+pub mod Sides
