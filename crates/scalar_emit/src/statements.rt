@@ -3,25 +3,18 @@
 ghost use Rattle.std.specs.Prelude.{◌≡◌, ◌+◌, ◌<◌, ◌^◌, true, OnOk};
 ghost use Rattle.kernel_tree.specs.Plain.{Define, Put, Update, Choose, Leave, Nothing, Else, name_of, term_of, action_of, block_of};
 ghost use Rattle.kernel_tree.specs.Parts.{part_action};
-ghost use Rattle.kernel_tree.specs.Items.{action_size, block_size, otherwise_size, stream_offset};
-ghost use Rattle.kernel_tree.specs.Typing as typing;
+ghost use Rattle.kernel_tree.specs.Items.{term_size, action_size, block_size, otherwise_size, stream_offset};
 ghost use Rattle.kernel_tree.specs.Kinds.{IsValue, IsTruth, ActionKinds, BlockKinds};
 ghost use Rattle.kernel_scope.specs.Scopes.{scope_of};
-ghost use Rattle.kernel_meaning.specs.Operators as operators;
-ghost use Rattle.label_fix.specs.DraftRun as plain;
-ghost use Rattle.scalar_emit.specs.Words as words;
+ghost use Rattle.scalar_emit.specs.Statements.{is_effect};
+ghost use Rattle.scalar_words.specs.Drafts.{Appends};
+ghost use Rattle.scalar_words.specs.View.{homes_of};
+ghost use Rattle.kernel_tree.specs.Typing as typing;
+ghost use Rattle.scalar_values.specs.Code as code;
+ghost use Rattle.scalar_values.specs.ItemWords as words;
 ghost use Rattle.scalar_emit.specs.Statements as statements;
-ghost use Rattle.scalar_emit.specs.Operands.{is_effect};
-ghost use Rattle.scalar_emit.specs.Drafts.{Appends};
-ghost use Rattle.scalar_emit.specs.View.{homes_of};
 
 use crate::branches::{land, switch_over};
-use crate::emit::{emit_jump, emit_loose, emit_right, emit_value};
-use crate::extent::{Extent, binary_extent, extent_at};
-use crate::home::{Home, register_at};
-use crate::instructions::{added_number, index_word, store};
-use crate::operations::{emit_copy, emit_offset, want_operator};
-use crate::places::Places;
 use a64_code::Reg;
 use kernel_meaning::binary_leaves;
 use kernel_scope::{
@@ -29,6 +22,13 @@ use kernel_scope::{
 };
 use kernel_tree::{BinaryOp, Expr, Name, Part, Stmt, Ty, UpdateOp, parts};
 use label_fix::{Draft, Label};
+use scalar_values::emit::{emit_jump, emit_loose, emit_side, emit_value};
+use scalar_values::extent::{Extent, binary_extent, extent_at};
+use scalar_values::instructions::{index_word, store};
+use scalar_values::operations::{emit_offset, want_operator};
+use scalar_words::operations::{emit_copy, update_operator};
+use scalar_words::places::Places;
+use scalar_words::{Home, register_at};
 use std::alloc::AllocError;
 
 // The value of a `let` into its register, where something reads it.
@@ -193,20 +193,6 @@ fn emit_store(
     Ok(())
 }
 
-/// The operator that an update applies.
-pub fn update_operator(op: UpdateOp) -> BinaryOp
-    ensures { result ≡ operators.operator_of op }
-{
-    match op {
-        UpdateOp::Add => BinaryOp::Add,
-        UpdateOp::And => BinaryOp::And,
-        UpdateOp::Or => BinaryOp::Or,
-        UpdateOp::Xor => BinaryOp::Xor,
-        UpdateOp::Min => BinaryOp::Min,
-        UpdateOp::Max => BinaryOp::Max,
-    }
-}
-
 fn emit_update(
     draft: &mut Draft,
     places: &Places,
@@ -231,13 +217,35 @@ fn emit_update(
 {
     let want = lookup(scope, name).and_then(accumulator_type);
     let op = update_operator(op);
-    let number = added_number(op, want, value);
+    emit_joined(draft, places, homes, scope, name, op, want, value, item)?;
+    Ok(())
+}
+
+// An operator of an accumulator and a value.
+fn emit_joined(
+    draft: &mut Draft,
+    places: &Places,
+    homes: &[Home],
+    scope: &Scope,
+    name: &Name,
+    op: BinaryOp,
+    want: Option<Ty>,
+    value: &Expr,
+    item: &mut usize,
+) -> Result<(), AllocError>
+    requires kind { IsValue (term_of value.now) }
+    requires fits { item.old + (term_size (scope_of scope.now).index (term_of value.now) + 1) < 2 ^ 32 }
+    ensures item { OnOk result (item.new ≡ item.old + (term_size (scope_of scope.now).index (term_of value.now) + 1)) }
+    ensures labels { OnOk result (draft.new.labels
+        ≡ draft.old.labels + code.labels (scope_of scope.now).index (term_of value.now)) }
+    ensures code { OnOk result (Appends draft.old draft.new
+        (statements.update_code places.now (homes_of homes.now) (scope_of scope.now) item.old draft.old.labels
+        (name_of name.now) op want (term_of value.now))) }
+{
     let extent = binary_extent(op, Extent::Whole, want);
-    let from = emit_right(
-        draft, places, homes, scope, extent, want, number, value, item,
-    )?;
+    let side = emit_side(draft, places, homes, scope, op, extent, want, value, item)?;
     let held = register_at(homes, name);
-    want_operator(draft, op, number, binary_leaves(op), want, held, held, from)?;
+    want_operator(draft, op, side, binary_leaves(op), want, held, held)?;
     *item += 1;
     Ok(())
 }

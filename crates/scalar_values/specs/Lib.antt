@@ -1,0 +1,6 @@
+pub mod ValueRegisters
+pub mod ItemWords
+pub mod Extents
+pub mod Code
+pub mod Fits
+pub mod Sides
