@@ -124,17 +124,16 @@ impl Pages {
         }
     }
 
-    /// Puts the pages of an image beside those that stand here, where no past has begun. No page that stands here is moved.
+    /// Puts the pages of an image beside those that stand here, of which none is moved. The past is dropped.
     ///
     /// # Errors
-    /// `AllocError` where there is not that much memory. The memory is then what it was.
+    /// `AllocError` where there is not that much memory. The pages and their past are then what they were.
     pub fn map_image(&mut self, alloc: Global, image: &Image) -> Result<(), AllocError>
         requires apart { DoNotMeet image.now.pages.items self.old.memory }
         requires few { length image.now.pages.items + length self.old.memory ≤ 16384 }
-        requires no_past { self.old.past ≡ [] }
         ensures memory { OnOk result (self.new.memory ≡ merged image.now.pages.items self.old.memory) }
-        ensures unchanged { OnErr result (self.new.memory ≡ self.old.memory) }
-        ensures past { self.new.past ≡ [] }
+        ensures past { OnOk result (self.new.past ≡ []) }
+        ensures unchanged { OnErr result (self.new ≡ self.old) }
     {
         self.store.map_pages(alloc, &image.pages)?;
         self.log.drop_all(self.store.len());
@@ -142,10 +141,8 @@ impl Pages {
         Ok(())
     }
 
-    /// Drops the pages that have the numbers of an image's, where no past has begun: those that were put beside others come
-    /// away from them. It takes no memory, and moves no page.
+    /// Drops the pages that have the numbers of an image's, and the past. It takes no memory, and moves no page.
     pub fn unmap_image(&mut self, image: &Image)
-        requires { self.old.past ≡ [] }
         ensures memory { self.new.memory ≡ without image.now.pages.items self.old.memory }
         ensures past { self.new.past ≡ [] }
     {
