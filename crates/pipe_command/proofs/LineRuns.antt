@@ -111,21 +111,6 @@ pub all_fit : (memory pages : Memory) (lines : List Line) → AllByRecursion (Is
 all_fit memory pages [] h = tt
 all_fit memory pages (line ∷ lines) h = (fits_left line.image.pages memory pages h.0, all_fit memory pages lines h.1)
 
--- ---- no line changes how many pages the map has
-
-count_and : (outcome : Outcome) (pages : Memory) (go : Memory → Runs) → ((left : Memory) → length (go left).pages ≡ length left) → length (and_then outcome pages go).pages ≡ length pages
-count_and (End memory result steps) pages go h = h pages
-count_and (Stop kind pc at memory steps) pages go h = refl
-count_and (Spent pc memory steps) pages go h = refl
-
-pub count_left : (lines : List Line) (pages : Memory) (vl steps : ℕ) → length (runs_of lines pages vl steps).pages ≡ length pages
-unfolding runs_of
-count_left [] pages vl steps = refl
-count_left (line ∷ lines) pages vl steps =
-    let outcome = line_run line pages vl steps in
-    count_and outcome (map_left (memory_left outcome) pages) (λ left. runs_of lines left vl steps) (λ left. count_left lines left vl steps)
-    ∙ length-left (memory_left outcome) pages
-
 -- ---- the text of a run
 
 pub put_together : (text front digits feed shown : List ℕ) → (((text ++ front) ++ digits) ++ feed) ++ shown ≡ text ++ (front ++ (digits ++ (feed ++ shown)))
