@@ -1,6 +1,6 @@
 -- The definitions at values worked out by hand.
 use Rattle.std.proofs.Common.{◌≡◌, ℕ, List, [], ◌∷◌, ◌++◌, replicate, refl}
-use Rattle.guest_types.specs.declared.memory.Perm.TheVariants.{Read, ReadWrite}
+use Rattle.guest_types.specs.declared.memory.Perm.TheVariants.{ReadWrite}
 use Rattle.guest_types.specs.Memory.{Page, Memory}
 use Rattle.paged_memory.specs.declared.head.Head.{Head}
 use Rattle.paged_memory.specs.Layout.{memory_of, heads_from, joined, without}

@@ -1,13 +1,13 @@
 -- Pages that come beside others, and pages that go.
-use Rattle.std.proofs.Common.{◌≡◌, ℕ, suc, ◌+◌, ◌*◌, ◌^◌, ◌<◌, ◌≤◌, inl, inr, Bool, true, false, cond, List, [], ◌∷◌, ◌++◌, length, take, drop, get_or, Option, Some, None, refl, sym, ap, ap₂, ◌∙◌, subst, arith, length-append}
-use Rattle.std.specs.Prelude.{is_none, is_some, filter, AllPairs}
+use Rattle.std.proofs.Common.{◌≡◌, ℕ, suc, ◌+◌, ◌*◌, ◌^◌, ◌<◌, ◌≤◌, inl, inr, Bool, true, false, cond, List, [], ◌∷◌, ◌++◌, length, take, get_or, refl, sym, ap, ap₂, ◌∙◌, subst, arith, length-append}
+use Rattle.std.specs.Prelude.{is_none, filter, AllPairs}
 use Rattle.std.specs.List.{All}
 use Rattle.std.specs.List.Sorted.{IsStrictlyIncreasing}
 use Rattle.std.proofs.lemmas.Grind.{take_at_read}
-use Rattle.std.proofs.lemmas.List.{append_assoc, append-nil, length-map, length-take, length-take-le}
+use Rattle.std.proofs.lemmas.List.{append_assoc, append-nil, length-take, length-take-le}
 use Rattle.std.proofs.lemmas.List.Elements.{All-cons, All-head, All-tail, All-nil, All-weaker, All-filter}
 use Rattle.std.proofs.lemmas.List.Kept.{AllPairs-cons, AllPairs-filter, IsStrictlyIncreasing-filter}
-use Rattle.guest_types.specs.Memory.{Page, Memory, IsPage, IsMemory, DoNotMeet, page_at, merged, page_numbers}
+use Rattle.guest_types.specs.Memory.{Page, Memory, IsPage, IsMemory, DoNotMeet, page_at, merged}
 use Rattle.guest_types.proofs.Merges.{IsMemory-merged}
 use Rattle.paged_memory.specs.declared.head.Head.{Head}
 use Rattle.paged_memory.specs.Layout.{page_in, memory_of, head_numbers, IsWithin, AreApart, IsLaidOut, all_bytes, heads_from, joined, without}

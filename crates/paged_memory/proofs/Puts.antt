@@ -1,14 +1,14 @@
 -- Writes within one page of a memory, among the bytes of all pages.
-use Rattle.std.proofs.Common.{◌≡◌, ℕ, ◌+◌, ◌*◌, ◌/◌, ◌%◌, ◌^◌, ◌<◌, ◌≤◌, true, List, ◌++◌, length, take, drop, Ok, refl, sym, ap, ap₂, ◌∙◌, subst, arith}
+use Rattle.std.proofs.Common.{◌≡◌, ℕ, ◌+◌, ◌/◌, ◌%◌, ◌^◌, ◌<◌, ◌≤◌, true, List, ◌++◌, length, take, drop, Ok, refl, sym, ap, ap₂, ◌∙◌, arith}
 use Rattle.std.proofs.lemmas.List.{drop-drop}
 use Rattle.guest_types.specs.Elements.{bytes_of}
-use Rattle.guest_types.specs.Memory.{Memory, put_number, is_writable, stored}
+use Rattle.guest_types.specs.Memory.{put_number, is_writable, stored}
 use Rattle.guest_types.specs.Spans.{with_span}
 use Rattle.guest_types.proofs.Numbers.{length-bytes_of}
 use Rattle.guest_types.proofs.Stores.{stored-done}
 use Rattle.paged_memory.specs.declared.head.Head.{Head}
 use Rattle.paged_memory.specs.Layout.{memory_of, IsLaidOut, StandsAt}
-use Rattle.paged_memory.specs.Loans.{place_in, IsPlaceOf}
+use Rattle.paged_memory.specs.Loans.{place_in}
 use Rattle.paged_memory.specs.Numbers.{with_number}
 use Rattle.paged_memory.specs.Epochs.{bytes_at, with_page}
 use Rattle.paged_memory.proofs.Bytes.{length-with_number}

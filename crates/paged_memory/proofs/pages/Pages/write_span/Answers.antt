@@ -1,4 +1,4 @@
-use Rattle.std.proofs.Common.{◌≡◌, ◌/◌, ap, ◌∙◌}
+use Rattle.std.proofs.Common.{◌/◌, ap, ◌∙◌}
 use Rattle.guest_types.specs.Memory.{page_numbers}
 use Rattle.paged_memory.specs.Epochs.{past_of}
 use Rattle.paged_memory.proofs.PageLaws.{numbers-with_span}

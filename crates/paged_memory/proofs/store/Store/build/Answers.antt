@@ -1,4 +1,4 @@
-use Rattle.std.proofs.Common.{◌≡◌, ◌≤◌, ◌+◌, List, length, sym, ap, ap₂, ◌∙◌, subst, arith}
+use Rattle.std.proofs.Common.{◌≡◌, List, length, sym, ap, ap₂, ◌∙◌, subst, arith}
 use Rattle.guest_types.specs.Memory.{Memory, DoNotMeet, merged}
 use Rattle.guest_types.proofs.Merges.{merged-nil_right}
 use Rattle.paged_memory.specs.declared.head.Head.{Head}

@@ -1,6 +1,6 @@
-use Rattle.std.proofs.Common.{◌≡◌, ◌+◌, ◌≤◌, ◌++◌, length, sym, ap, ap₂, ◌∙◌, subst, arith, rules, vec_len}
+use Rattle.std.proofs.Common.{◌≡◌, length, sym, ap, ap₂, ◌∙◌, subst, arith, rules}
 use Rattle.guest_types.specs.Memory.{IsMemory, DoNotMeet, merged}
-use Rattle.paged_memory.specs.Layout.{memory_of, IsLaidOut, all_bytes, heads_from, joined}
+use Rattle.paged_memory.specs.Layout.{memory_of, IsLaidOut, heads_from, joined}
 use Rattle.paged_memory.proofs.HeadPlaces.{length-pages}
 use Rattle.paged_memory.proofs.Mapped.{memory-mapped, laid-mapped, length-heads_from}
 use Rattle.paged_memory.proofs.store.Store.map_pages.Goals as goal

@@ -1,7 +1,6 @@
-use Rattle.std.proofs.Common.{◌≡◌, ◌+◌, ◌≤◌, length, not, sym, ap, ◌∙◌, subst, arith, rules}
-use Rattle.std.specs.Prelude.{is_none, All, filter}
+use Rattle.std.proofs.Common.{◌≡◌, ◌+◌, ◌≤◌, length, sym, ap, ◌∙◌, subst, rules}
+use Rattle.std.specs.Prelude.{All, filter}
 use Rattle.std.proofs.lemmas.Fn.{filter_same}
-use Rattle.guest_types.specs.Memory.{page_at}
 use Rattle.paged_memory.specs.declared.head.Head.{Head}
 use Rattle.paged_memory.specs.Layout.{memory_of, IsLaidOut}
 use Rattle.paged_memory.proofs.Mapped.{kept_by, unmapped, laid-unmapped, kept-within}
