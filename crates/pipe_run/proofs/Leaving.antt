@@ -1,5 +1,5 @@
 -- The pages of a map, when those of an image that came beside them have gone again.
-use Rattle.std.proofs.Common.{◌≡◌, ℕ, zero, suc, ◌/◌, ◌%◌, ◌<◌, List, [], ◌∷◌, map, length, get_or, filter, Bool, true, false, cond, Option, Some, None, refl, sym, ap, ◌∙◌, subst}
+use Rattle.std.proofs.Common.{◌≡◌, ℕ, zero, suc, ◌/◌, ◌%◌, List, [], ◌∷◌, get_or, filter, Bool, true, false, cond, Some, refl, sym, ap, ◌∙◌, subst}
 use Rattle.std.specs.Prelude.{is_none, nat_eq, nat_lt}
 use Rattle.std.specs.List.{All}
 use Rattle.std.proofs.lemmas.List.Elements.{All-head, All-tail, All-filter}
@@ -9,12 +9,11 @@ use Rattle.guest_types.specs.AfterStores.{AfterStores, Unchanged, Stored}
 use Rattle.guest_types.proofs.AfterStores.{IsMemory-after}
 use Rattle.guest_types.proofs.Merges.{IsMemory-merged, DoNotMeet-sym, page_at-place}
 use Rattle.guest_types.proofs.Stores.{stored-Ok}
-use Rattle.guest_types.specs.EarlyLoads.{never}
 use Rattle.machine_model.specs.Load.{Image}
-use Rattle.machine_model.specs.Run.{memory_left, run, start, start_of, image_run}
+use Rattle.machine_model.specs.Run.{memory_left, start, start_of, image_run}
 use Rattle.machine_model.proofs.MemoryStays.{run_stores}
 use Rattle.paged_memory.specs.Layout.{without}
-use Rattle.pipe_run.specs.PipeRun.{Fits, bytes_or, page_left, map_left}
+use Rattle.pipe_run.specs.PipeRun.{bytes_or, page_left, map_left}
 
 -- ---- memories whose pages differ in their bytes alone
 
