@@ -1,4 +1,4 @@
-use Rattle.std.proofs.Common.{◌≡◌, ◌+◌, refl, ap, sym, ◌∙◌, subst, drop, arith}
+use Rattle.std.proofs.Common.{◌+◌, refl, ap, sym, ◌∙◌, subst, drop, arith}
 use Rattle.std.specs.List.{AllByRecursion}
 use Rattle.machine_model.specs.Run.{memory_left}
 use Rattle.pipe_command.specs.Pipes.{line_run}
