@@ -2,8 +2,9 @@ pub mod Bytes
 mod Examples
 pub mod EpochRows
 pub mod HeadPlaces
-pub mod LoanLaws
+pub mod Mapped
 pub mod Merging
+pub mod Parts
 pub mod Places
 pub mod PageLaws
 pub mod Puts

@@ -1,72 +1,66 @@
 -- Writes within one page of a memory, among the bytes of all pages.
-use Rattle.std.proofs.Common.{◌≡◌, ℕ, zero, suc, ◌+◌, ◌*◌, ◌/◌, ◌%◌, ◌^◌, ◌<◌, ◌≤◌, true, List, [], ◌∷◌, length, take, drop, Ok, refl, sym, ap, ap₂, ◌∙◌, arith}
-use Rattle.std.specs.Prelude.{slice_index, slice_set}
-use Rattle.std.proofs.Math.Nat.{mul-suc}
-use Rattle.std.proofs.Math.Seq.{take-set-lt}
-use Rattle.std.proofs.lemmas.Bool.{cond-true, cond-false, eq-eqb, ne_eqb}
-use Rattle.std.proofs.lemmas.List.{length-set, take-set-le, drop-set-lt, drop-set-add}
-use Rattle.guest_types.specs.Memory.{put_byte, put_number, next_address, is_writable, stored}
+use Rattle.std.proofs.Common.{◌≡◌, ℕ, ◌+◌, ◌/◌, ◌%◌, ◌^◌, ◌<◌, ◌≤◌, true, List, ◌++◌, length, take, drop, Ok, refl, sym, ap, ap₂, ◌∙◌, arith}
+use Rattle.std.proofs.lemmas.List.{drop-drop}
+use Rattle.guest_types.specs.Elements.{bytes_of}
+use Rattle.guest_types.specs.Memory.{put_number, is_writable, stored}
+use Rattle.guest_types.specs.Spans.{with_span}
+use Rattle.guest_types.proofs.Numbers.{length-bytes_of}
 use Rattle.guest_types.proofs.Stores.{stored-done}
 use Rattle.paged_memory.specs.declared.head.Head.{Head}
-use Rattle.paged_memory.specs.Layout.{memory_of, head_numbers, IsLaidOut, StandsAt}
+use Rattle.paged_memory.specs.Layout.{memory_of, IsLaidOut, StandsAt}
+use Rattle.paged_memory.specs.Loans.{place_in}
 use Rattle.paged_memory.specs.Numbers.{with_number}
-use Rattle.paged_memory.proofs.Bytes.{with_number-zero, with_number-suc, length-with_number}
-use Rattle.paged_memory.proofs.Places.{IsFirst, first-stands, page_of, page_at-stands}
+use Rattle.paged_memory.specs.Epochs.{bytes_at, with_page}
+use Rattle.paged_memory.proofs.Bytes.{length-with_number}
+use Rattle.paged_memory.proofs.Parts.{put_at, length-put_at}
+use Rattle.paged_memory.proofs.Places.{page_of, start_at, page_at-stands, within, length-page_of, length-memory_of}
+use Rattle.paged_memory.proofs.PageLaws.{with_page-stands, bytes_at-memory_of, place_in-stands, with_span-place, put_number-place, laid-same}
 use Rattle.paged_memory.proofs.OnePage.{writable-within}
 
-put_byte-first : (heads : List Head) (bs : List ℕ) (a b i : ℕ) → i < length heads → slice_index (head_numbers heads) i ≡ a / 4096 → IsFirst heads (a / 4096) i → put_byte (memory_of heads bs) a b ≡ memory_of heads (slice_set bs (4096 * i + a % 4096) b)
-put_byte-first [] bs a b i l here first = absurd (omega arith)
-put_byte-first (head ∷ heads) bs a b zero l here first =
-    let o = a % 4096 in
-    cond-true _ _ _ (eq-eqb head.number (a / 4096) here)
-    ∙ ap₂ (λ page rest. record { page = head.number; perm = head.perm; bytes = page } ∷ memory_of heads rest)
-    (sym (take-set-lt 4096 bs o b (omega arith)))
-    (sym (drop-set-lt 4096 bs o b (omega arith)))
-    ∙ ap (λ n. memory_of (head ∷ heads) (slice_set bs n b)) (let e : o ≡ 4096 * 0 + o = omega arith in e)
-put_byte-first (head ∷ heads) bs a b (suc i) l here first =
-    let o = a % 4096 in
-    let at = 4096 * i + o in
-    let e : 4096 + at ≡ 4096 * suc i + o = omega (arith, mul-suc 4096 i) in
-    cond-false _ _ _ (ne_eqb head.number (a / 4096) (first 0 (omega arith)))
-    ∙ ap (λ m. record { page = head.number; perm = head.perm; bytes = take 4096 bs } ∷ m) (put_byte-first heads (drop 4096 bs) a b i (omega arith) here (λ k l. first (suc k) (omega arith)))
-    ∙ ap₂ (λ page rest. record { page = head.number; perm = head.perm; bytes = page } ∷ memory_of heads rest)
-    (sym (take-set-le 4096 bs (4096 + at) b (omega arith)))
-    (sym (drop-set-add 4096 bs at b))
-    ∙ ap (λ n. memory_of (head ∷ heads) (slice_set bs n b)) e
+-- a number written is its bytes put there
+number-put : (bs : List ℕ) (at s v : ℕ) → with_number bs at s v ≡ put_at at (bytes_of s v) bs
+unfolding with_number
+number-put bs at s v =
+    ap (λ rest. take at bs ++ (bytes_of s v ++ rest)) (sym (ap (λ n. drop n (drop at bs)) (length-bytes_of s v) ∙ drop-drop s at bs))
 
-put_number-first : (heads : List Head) (bs : List ℕ) (a s v n i : ℕ) → IsFirst heads n i → StandsAt heads n i → a < 2 ^ 64 → a / 4096 ≡ n → a % 4096 + s ≤ 4096 → length bs ≡ 4096 * length heads → put_number (memory_of heads bs) a s v ≡ memory_of heads (with_number bs (4096 * i + a % 4096) s v)
-put_number-first heads bs a zero v n i first stands low here fits long =
-    ap (memory_of heads) (sym (with_number-zero bs (4096 * i + a % 4096) v))
-put_number-first heads bs a (suc zero) v n i first stands low here fits long =
-    let at = 4096 * i + a % 4096 in
-    put_byte-first heads bs a (v % 256) i stands.below (stands.here ∙ sym here) (λ k l e. first k l (e ∙ here))
-    ∙ ap (memory_of heads) (sym (with_number-zero (slice_set bs at (v % 256)) (at + 1) (v / 256)))
-    ∙ ap (memory_of heads) (sym (with_number-suc bs at 0 v (omega (arith, stands.below))))
-put_number-first heads bs a (suc (suc s)) v n i first stands low here fits long =
-    let at = 4096 * i + a % 4096 in
-    let b = v % 256 in
-    let same : next_address a / 4096 ≡ n = omega arith in
-    let up : 4096 * i + next_address a % 4096 ≡ at + 1 = omega arith in
-    ap (λ m. put_number m (next_address a) (suc s) (v / 256)) (put_byte-first heads bs a b i stands.below (stands.here ∙ sym here) (λ k l e. first k l (e ∙ here)))
-    ∙ put_number-first heads (slice_set bs at b) (next_address a) (suc s) (v / 256) n i first stands (omega arith) same (omega arith) (length-set bs at b ∙ long)
-    ∙ ap (λ n. memory_of heads (with_number (slice_set bs at b) n (suc s) (v / 256))) up
-    ∙ ap (memory_of heads) (sym (with_number-suc bs at (suc s) v (omega (arith, stands.below))))
+-- the page at a place in the memory
+stands-bytes : (heads : List Head) (bs : List ℕ) (a i : ℕ) → IsLaidOut heads bs → StandsAt heads (a / 4096) i → (i ≡ place_in (memory_of heads bs) (a / 4096)) × (place_in (memory_of heads bs) (a / 4096) < length (memory_of heads bs)) × (bytes_at (memory_of heads bs) (place_in (memory_of heads bs) (a / 4096)) ≡ (page_of heads bs i).bytes)
+stands-bytes heads bs a i laid here =
+    let m = memory_of heads bs in
+    let place = place_in-stands heads bs m (a / 4096) i refl laid here in
+    (place, omega (arith, place, here.below, length-memory_of heads bs), sym (ap (bytes_at m) place) ∙ bytes_at-memory_of heads bs i here.below)
 
 -- a number written within the page at a place
-pub put_number-stands : (heads : List Head) (bs : List ℕ) (a s v i : ℕ) → IsLaidOut heads bs → StandsAt heads (a / 4096) i → a < 2 ^ 64 → a % 4096 + s ≤ 4096 → put_number (memory_of heads bs) a s v ≡ memory_of heads (with_number bs (4096 * i + a % 4096) s v)
+pub put_number-stands : (heads : List Head) (bs : List ℕ) (a s v i : ℕ) → IsLaidOut heads bs → StandsAt heads (a / 4096) i → a < 2 ^ 64 → a % 4096 + s ≤ 4096 → put_number (memory_of heads bs) a s v ≡ memory_of heads (with_number bs (start_at heads i + a % 4096) s v)
 put_number-stands heads bs a s v i laid stands low fits =
-    put_number-first heads bs a s v (a / 4096) i (first-stands heads bs (a / 4096) i laid stands) stands low refl fits laid.whole
+    let m = memory_of heads bs in
+    let o = a % 4096 in
+    let is = stands-bytes heads bs a i laid stands in
+    put_number-place m a s v is.1 (ap length is.2 ∙ length-page_of heads bs i laid stands.below) low fits
+    ∙ ap₂ (λ p bytes. with_page p (with_number bytes o s v) m) (sym is.0) is.2
+    ∙ ap (λ bytes. with_page i bytes m) (number-put (page_of heads bs i).bytes o s v)
+    ∙ sym (with_page-stands heads bs i o (bytes_of s v) laid stands.below (omega (arith, fits, length-bytes_of s v)))
+    ∙ ap (memory_of heads) (sym (number-put bs (start_at heads i + o) s v))
 
-pub laid-with_number : (heads : List Head) (bs : List ℕ) (a s v i : ℕ) → IsLaidOut heads bs → StandsAt heads (a / 4096) i → a < 2 ^ 64 → a % 4096 + s ≤ 4096 → IsLaidOut heads (with_number bs (4096 * i + a % 4096) s v)
-laid-with_number heads bs a s v i laid stands low fits = record {
-  ascending = laid.ascending;
-  below = laid.below;
-  whole = length-with_number bs (4096 * i + a % 4096) s v (omega (arith, stands.below, laid.whole)) ∙ laid.whole;
-  few = laid.few;
-}
+pub laid-with_number : (heads : List Head) (bs : List ℕ) (a s v i : ℕ) → IsLaidOut heads bs → StandsAt heads (a / 4096) i → a % 4096 + s ≤ 4096 → IsLaidOut heads (with_number bs (start_at heads i + a % 4096) s v)
+laid-with_number heads bs a s v i laid stands fits =
+    laid-same heads bs (with_number bs (start_at heads i + a % 4096) s v) laid (length-with_number bs (start_at heads i + a % 4096) s v (omega (arith, fits, (within heads bs i laid stands.below))))
 
 -- a store within a page that may be written
-pub stored-stands : (heads : List Head) (bs : List ℕ) (a s v i : ℕ) → IsLaidOut heads bs → StandsAt heads (a / 4096) i → is_writable (page_of heads bs i).perm ≡ true → a < 2 ^ 64 → a % 4096 + s ≤ 4096 → stored (memory_of heads bs) a s v ≡ Ok (memory_of heads (with_number bs (4096 * i + a % 4096) s v))
+pub stored-stands : (heads : List Head) (bs : List ℕ) (a s v i : ℕ) → IsLaidOut heads bs → StandsAt heads (a / 4096) i → is_writable (page_of heads bs i).perm ≡ true → a < 2 ^ 64 → a % 4096 + s ≤ 4096 → stored (memory_of heads bs) a s v ≡ Ok (memory_of heads (with_number bs (start_at heads i + a % 4096) s v))
 stored-stands heads bs a s v i laid stands writable low fits =
     stored-done (memory_of heads bs) a s v (writable-within (memory_of heads bs) a s (page_of heads bs i) low (page_at-stands heads bs (a / 4096) i laid stands) writable fits)
     ∙ ap Ok (put_number-stands heads bs a s v i laid stands low fits)
+
+-- bytes written within the page at a place
+pub with_span-stands : (heads : List Head) (bs : List ℕ) (a i : ℕ) (w : List ℕ) → IsLaidOut heads bs → StandsAt heads (a / 4096) i → a % 4096 + length w ≤ 4096 → with_span (memory_of heads bs) a w ≡ memory_of heads (put_at (start_at heads i + a % 4096) w bs)
+with_span-stands heads bs a i w laid stands fits =
+    let m = memory_of heads bs in
+    let is = stands-bytes heads bs a i laid stands in
+    with_span-place m a w is.1
+    ∙ ap₂ (λ p bytes. with_page p (put_at (a % 4096) w bytes) m) (sym is.0) is.2
+    ∙ sym (with_page-stands heads bs i (a % 4096) w laid stands.below fits)
+
+pub laid-put_at : (heads : List Head) (bs : List ℕ) (i o : ℕ) (w : List ℕ) → IsLaidOut heads bs → i < length heads → o + length w ≤ 4096 → IsLaidOut heads (put_at (start_at heads i + o) w bs)
+laid-put_at heads bs i o w laid l fits =
+    laid-same heads bs (put_at (start_at heads i + o) w bs) laid (length-put_at (start_at heads i + o) w bs (omega (arith, fits, (within heads bs i laid l))))

@@ -2,13 +2,13 @@
 use Rattle.std.proofs.Common.{◌≡◌, ◌≢◌, ℕ, zero, suc, ◌+◌, ◌-◌, ◌*◌, ◌/◌, ◌%◌, ◌^◌, ◌<◌, ◌≤◌, ◌⊎◌, inl, inr, Bool, true, false, List, [], ◌∷◌, ◌++◌, length, take, drop, get_or, refl, sym, ap, ap₂, ◌∙◌, subst, arith, length-append}
 use Rattle.std.specs.Prelude.{nat_eq, ◌||◌, Result, Ok, Err, OnOk, OnErr}
 use Rattle.std.proofs.Math.Nat.{mul-suc, mul-zero}
-use Rattle.std.proofs.lemmas.Bool.{eq-eqb, eqb-true, cases_lt, cond-true}
+use Rattle.std.proofs.lemmas.Bool.{eq-eqb, eqb-true, cases_lt}
 use Rattle.std.proofs.lemmas.List.{take_all, length-drop, nil_from_length, take-append-le, drop-append-le, drop-drop, get_or-take}
 use Rattle.guest_types.specs.declared.memory.AccessFault.{AccessFault}
 use Rattle.guest_types.specs.Memory.{Memory, page_numbers, put_byte, put_number, next_address, stored}
 use Rattle.guest_types.specs.Spans.{with_span}
 use Rattle.guest_types.proofs.Stores.{stored-Ok}
-use Rattle.paged_memory.specs.Loans.{place_in, after_loan}
+use Rattle.paged_memory.specs.Loans.{place_in}
 use Rattle.guest_types.specs.Kept.{kept_more}
 use Rattle.paged_memory.specs.Epochs.{Saved, with_page, put_back, undone, has_place, past_of, undone_first, cleared_first, IsSavedAt, IsSaved, Epochs, IsKept}
 use Rattle.paged_memory.proofs.PageLaws.{with_page-twice, with_page-swap, with_page-none, numbers-with_page, place_in-numbers, length-numbers, put_byte-page, with_span-page, numbers-put_byte, numbers-put_number}
@@ -200,9 +200,6 @@ numbers-stored m new a s v (Err f) done unchanged = ap page_numbers unchanged
 pub past_of-stored : {T : Type 0} (es : List Saved) (m new : Memory) (a s v : ℕ) (r : Result T AccessFault) → OnOk r (stored m a s v ≡ Ok new) → OnErr r (new ≡ m) → a < 2 ^ 64 → AreSaved es m a s → past_of es new ≡ past_of es m
 past_of-stored es m new a s v (Ok t) done unchanged low saved = ap (past_of es) (stored-Ok m new a s v done).1 ∙ past_of-put_number es m a s v low saved
 past_of-stored es m new a s v (Err f) done unchanged low saved = ap (past_of es) unchanged
-
-pub loan-span : (m : Memory) (a len : ℕ) (w : List ℕ) → length w ≡ len → after_loan m a len w ≡ with_span m a w
-loan-span m a len w same = cond-true _ _ _ (eq-eqb (length w) len same)
 
 -- ---- the way back
 

@@ -5,11 +5,12 @@ ghost use Rattle.guest_types.specs.Memory.{is_writable, is_executable};
 
 use guest_types::memory::Perm;
 
-/// What a page is found by, and what it may be used for.
+/// What a page is found by, what it may be used for, and the place from which on its bytes stand.
 #[derive(Clone, Copy)]
 pub struct Head {
     pub number: u64,
     pub perm: Perm,
+    pub start: usize,
 }
 
 impl Head {

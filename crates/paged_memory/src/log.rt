@@ -76,6 +76,16 @@ impl Log {
         })
     }
 
+    /// Drops all epochs, for a memory of so many pages.
+    pub fn drop_all(&mut self, pages: usize)
+        requires { pages ≤ 16384 }
+        ensures { self.new ≡ record { pages = pages; epochs = [] } }
+    {
+        self.pages = pages;
+        self.epochs.clear();
+        self.count = 0;
+    }
+
     /// How many epochs have begun.
     pub fn count(&self) -> usize
         ensures value { result ≡ length self.now.epochs }

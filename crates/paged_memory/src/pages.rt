@@ -5,6 +5,7 @@ ghost use Rattle.guest_types.specs.Spans.{has_span, has_span_mut, span_of};
 ghost use Rattle.guest_types.specs.Memory.{Memory, IsMemory, byte_at, byte_or_zero, fetched, merged, stored, DoNotMeet};
 ghost use Rattle.guest_types.specs.Kept.{kept_more};
 ghost use Rattle.paged_memory.specs.Epochs.{past_of, IsSaved};
+ghost use Rattle.paged_memory.specs.Layout.{without};
 ghost use Rattle.paged_memory.specs.SpanWritten.{IsSpanWritten};
 
 use crate::log::Log;
@@ -109,6 +110,45 @@ impl Pages {
             log,
             opened: NONE,
         })
+    }
+
+    /// No page, and no past. It takes no memory.
+    pub fn empty(alloc: Global) -> Pages
+        ensures memory { result.memory ≡ [] }
+        ensures past { result.past ≡ [] }
+    {
+        Pages {
+            store: Store::empty(alloc),
+            log: Log::none(alloc, 0),
+            opened: NONE,
+        }
+    }
+
+    /// Puts the pages of an image beside those that stand here, of which none is moved. The past is dropped.
+    ///
+    /// # Errors
+    /// `AllocError` where there is not that much memory. The pages and their past are then what they were.
+    pub fn map_image(&mut self, alloc: Global, image: &Image) -> Result<(), AllocError>
+        requires apart { DoNotMeet image.now.pages.items self.old.memory }
+        requires few { length image.now.pages.items + length self.old.memory ≤ 16384 }
+        ensures memory { OnOk result (self.new.memory ≡ merged image.now.pages.items self.old.memory) }
+        ensures past { OnOk result (self.new.past ≡ []) }
+        ensures unchanged { OnErr result (self.new ≡ self.old) }
+    {
+        self.store.map_pages(alloc, &image.pages)?;
+        self.log.drop_all(self.store.len());
+        self.opened = NONE;
+        Ok(())
+    }
+
+    /// Drops the pages that have the numbers of an image's, and the past. It takes no memory, and moves no page.
+    pub fn unmap_image(&mut self, image: &Image)
+        ensures memory { self.new.memory ≡ without image.now.pages.items self.old.memory }
+        ensures past { self.new.past ≡ [] }
+    {
+        self.store.unmap_pages(&image.pages);
+        self.log.drop_all(self.store.len());
+        self.opened = NONE;
     }
 
     /// Takes the memory of a past of eight, and begins it: the memory as it is now is kept.
@@ -219,7 +259,7 @@ impl Pages {
         self.store.is_memory();
     }
 
-    /// The place, among the bytes of all pages, of a range that is not empty and lies in one page that may be written.
+    /// The place of the page of a range that is not empty and lies in one page that may be written.
     #[inline(always)]
     pub fn place_mut(&self, address: u64, len: u32) -> Option<usize>
         ensures some { IsSome result ↔ IsTrue (has_span_mut self.now.memory address len) }
@@ -228,7 +268,7 @@ impl Pages {
         self.store.place_mut(address, len)
     }
 
-    /// Lends the bytes of a range in one page that may be written, by its place, to one that writes them.
+    /// Lends the bytes of a range in one page, by the place of that, to one that writes them.
     #[inline(always)]
     pub fn write_span<W: SpanWriter>(&mut self, address: u64, len: u32, place: usize, writer: &W)
         requires place { IsPlaceOf self.old.memory address len place }
@@ -237,8 +277,7 @@ impl Pages {
         ensures past { self.new.past ≡ self.old.past }
     {
         open_next(&self.store, &mut self.log, &mut self.opened, address / 4096);
-        let part = self.store.lend_mut(address, len, place);
-        writer.write(part);
+        self.store.write_span(address, len, place, writer);
     }
 
     // A store to a page that was not opened last, or one that crosses a page.

@@ -3,14 +3,17 @@
 ghost use Rattle.std.specs.Prelude.{◌≡◌, ℕ, ◌+◌, ◌^◌, ◌<◌, ◌≤◌, [], length, Ok, Err, OnOk, OnErr, IfOk, IfErr, All};
 ghost use Rattle.guest_types.specs.Spans.{in_one_page, has_span, has_span_mut, span_of};
 ghost use Rattle.guest_types.specs.Memory.{IsMemory, byte_at, byte_or_zero, can_read, can_write, first_fault, loaded, stored, number_at, put_byte, put_number, fetched, merged, DoNotMeet};
+ghost use Rattle.paged_memory.specs.Layout.{without};
+ghost use Rattle.paged_memory.specs.SpanWritten.{IsSpanWritten};
 
 use crate::head::Head;
-use crate::merge::lay_out;
+use crate::merge::{append, end_of, has_page, heads_of, join};
 use crate::number;
 use crate::place::{Recent, place_of, read_place_of};
+use crate::span_writer::SpanWriter;
 use guest_types::guest::GuestMemory;
 use guest_types::image::{Image, PageMap};
-use guest_types::memory::AccessFault;
+use guest_types::memory::{AccessFault, PageSpec};
 use std::alloc::{AllocError, Global};
 use std::marker::Model;
 
@@ -34,18 +37,58 @@ impl Model for Store {
 }
 
 impl Store {
+    /// No page. It takes no memory.
+    pub fn empty(alloc: Global) -> Store
+        ensures { result ≡ [] }
+    {
+        Store {
+            heads: Vec::new(alloc),
+            bytes: Vec::new(alloc),
+            recent: Recent::new(),
+        }
+    }
+
     /// The pages of an image and of a map beside it. It takes all memory that later calls need.
     pub fn build(alloc: Global, image: &Image, map: &PageMap) -> Result<Store, AllocError>
         requires apart { DoNotMeet image.now.pages.items map.now.pages.items }
         requires few { length image.now.pages.items + length map.now.pages.items ≤ 16384 }
         ensures { IfOk result (λ pages. pages ≡ merged image.now.pages.items map.now.pages.items) }
     {
-        let (heads, bytes) = lay_out(alloc, &image.pages, &map.pages)?;
-        Ok(Store {
-            heads,
-            bytes,
+        let count = image.pages.len() + map.pages.len();
+        let mut store = Store {
+            heads: Vec::new(alloc),
+            bytes: Vec::with_capacity(alloc, 4096 * count)?,
             recent: Recent::new(),
-        })
+        };
+        store.map_pages(alloc, &map.pages)?;
+        store.map_pages(alloc, &image.pages)?;
+        Ok(store)
+    }
+
+    /// Puts pages beside those that stand here. Their bytes come after those of all others.
+    pub fn map_pages(&mut self, alloc: Global, pages: &[PageSpec]) -> Result<(), AllocError>
+        requires pages { IsMemory pages.now }
+        requires apart { DoNotMeet pages.now self.old }
+        requires few { length pages.now + length self.old ≤ 16384 }
+        ensures memory { OnOk result (self.new ≡ merged pages.now self.old) }
+        ensures unchanged { OnErr result (self.new ≡ self.old) }
+    {
+        self.is_memory();
+        let more = heads_of(alloc, pages, self.bytes.len())?;
+        let heads = join(alloc, &more, &self.heads)?;
+        append(&mut self.bytes, pages)?;
+        self.heads = heads;
+        Ok(())
+    }
+
+    /// Drops the pages that have the numbers of some. The bytes behind all those of the others are cut off.
+    pub fn unmap_pages(&mut self, pages: &[PageSpec])
+        requires { IsMemory pages.now }
+        ensures { self.new ≡ without pages.now self.old }
+    {
+        self.heads.retain(|head| !has_page(pages, head.number));
+        let end = end_of(&self.heads);
+        self.bytes.truncate(end);
     }
 
     /// The word at an address, where that is a multiple of 4 in a page whose instructions may be
@@ -62,7 +105,8 @@ impl Store {
         if !self.heads[place].is_executable() {
             return None;
         }
-        Some(number::word(&self.bytes, 4096 * place + (address % 4096) as usize))
+        let at = self.heads[place].start + (address % 4096) as usize;
+        Some(number::word(&self.bytes, at))
     }
 
     /// The byte at an address, where a page is mapped.
@@ -72,7 +116,8 @@ impl Store {
         let Some(place) = read_place_of(&self.heads, &self.recent, address / 4096) else {
             return None;
         };
-        Some(self.bytes[4096 * place + (address % 4096) as usize])
+        let at = self.heads[place].start + (address % 4096) as usize;
+        Some(self.bytes[at])
     }
 
     fn can_write(&self, address: u64) -> bool
@@ -152,7 +197,7 @@ impl Store {
         ensures { self.new ≡ put_byte self.old address byte }
     {
         if let Some(place) = place_of(&self.heads, &self.recent.written, address / 4096) {
-            let at = 4096 * place + (address % 4096) as usize;
+            let at = self.heads[place].start + (address % 4096) as usize;
             number::put_number(&mut self.bytes, at, 1, u64::from(byte));
         }
     }
@@ -203,10 +248,8 @@ fn in_one_page(address: u64, len: u32) -> bool
 }
 
 impl Store {
-    ghost use Rattle.std.specs.Prelude.{◌*◌, List, true, IsTrue, IsSome, IfSome, ◌↔◌};
-    ghost use Rattle.std.specs.Borrow.{Array, Lends, sem, u8};
-    ghost use Rattle.paged_memory.specs.contracts.store.Store.{the_row};
-    ghost use Rattle.paged_memory.specs.Loans.{run_of, with_run, after_loan, IsPlaceOf};
+    ghost use Rattle.std.specs.Prelude.{IsTrue, IsSome, IfSome, ◌↔◌};
+    ghost use Rattle.paged_memory.specs.Loans.{IsPlaceOf};
 
     fn can_read(&self, address: u64) -> bool
         ensures { result ≡ can_read self.now address }
@@ -233,20 +276,30 @@ impl Store {
         in_one_page(address, len) && self.can_write(address)
     }
 
-    // The place of a span's first byte among the bytes of all pages.
+    // The place of the page of a range that is not empty and lies in one page.
     #[inline(always)]
     fn span_place(&self, address: u64, len: u32) -> Option<usize>
         ensures some { IsSome result ↔ IsTrue (has_span self.now address len) }
-        ensures inside { IfSome result (λ place. place + len ≤ 4096 * length self.now) }
-        ensures part { IfSome result (λ place. run_of self.now place len ≡ span_of self.now address len) }
+        ensures value { IfSome result (IsPlaceOf self.now address len) }
     {
         if !in_one_page(address, len) {
             return None;
         }
         match read_place_of(&self.heads, &self.recent, address / 4096) {
-            Some(place) => Some(4096 * place + (address % 4096) as usize),
+            Some(place) => Some(place),
             None => None,
         }
+    }
+
+    // The bytes of a range in one page, by the place of that.
+    #[inline(always)]
+    fn part(&self, address: u64, len: u32, place: usize) -> &[u8]
+        requires { IsPlaceOf self.now address len place }
+        ensures value { result.now ≡ span_of self.now address len }
+        ensures len { length result.now ≡ len }
+    {
+        let at = self.heads[place].start + (address % 4096) as usize;
+        &self.bytes[at..at + len as usize]
     }
 
     /// The bytes of a range, where it is not empty and lies in one page. The page is looked up once.
@@ -257,7 +310,7 @@ impl Store {
         ensures len { IfSome result (λ part. length part.now ≡ len) }
     {
         match self.span_place(address, len) {
-            Some(place) => Some(self.run(place, len as usize)),
+            Some(place) => Some(self.part(address, len, place)),
             None => None,
         }
     }
@@ -271,16 +324,7 @@ impl Store {
         are_bytes(&self.bytes);
     }
 
-    #[inline(always)]
-    fn run(&self, start: usize, len: usize) -> &[u8]
-        requires { start + len ≤ 4096 * length self.now }
-        ensures value { result.now ≡ run_of self.now start len }
-        ensures len { length result.now ≡ len }
-    {
-        &self.bytes[start..start + len]
-    }
-
-    /// The place, among the bytes of all pages, of a range that is not empty and lies in one page that may be written.
+    /// The place of the page of a range that is not empty and lies in one page that may be written.
     #[inline(always)]
     pub fn place_mut(&self, address: u64, len: u32) -> Option<usize>
         ensures some { IsSome result ↔ IsTrue (has_span_mut self.now address len) }
@@ -292,7 +336,7 @@ impl Store {
         match place_of(&self.heads, &self.recent.written, address / 4096) {
             Some(place) => {
                 if self.heads[place].is_writable() {
-                    Some(4096 * place + (address % 4096) as usize)
+                    Some(place)
                 } else {
                     None
                 }
@@ -301,31 +345,20 @@ impl Store {
         }
     }
 
+    /// Lends the bytes of a range in one page, by the place of that, to one that writes them.
     #[inline(always)]
-    fn run_mut(&mut self, start: usize, len: usize) -> &mut [u8]
-        requires { start + len ≤ 4096 * length self.old }
-        ensures* writes_back { sem 𝓛 (Lends the_row (Array u8 0) self.entry result (with_run self.old start)) }
-        ensures value { result.now ≡ run_of self.old start len }
-        ensures len { length result.now ≡ len }
+    pub fn write_span<W: SpanWriter>(&mut self, address: u64, len: u32, place: usize, writer: &W)
+        requires place { IsPlaceOf self.old address len place }
+        requires can { W.can writer.now len }
+        ensures { IsSpanWritten (W.writes writer.now) address len self.old self.new }
     {
-        self.bytes.slice_mut(start..start + len)
-    }
-
-    /// Lends the bytes of a range in one page that may be written, by its place.
-    #[inline(always)]
-    pub fn lend_mut(&mut self, address: u64, len: u32, place: usize) -> &mut [u8]
-        requires { IsPlaceOf self.old address len place }
-        ensures* writes_back { sem 𝓛 (Lends the_row (Array u8 0) self.entry result (after_loan self.old address len)) }
-        ensures value { result.now ≡ span_of self.old address len }
-        ensures len { length result.now ≡ len }
-    {
-        let _address = address;
-        self.run_mut(place, len as usize)
+        let at = self.heads[place].start + (address % 4096) as usize;
+        writer.write(&mut self.bytes[at..at + len as usize]);
     }
 }
 
 impl Store {
-    ghost use Rattle.std.specs.Prelude.{◌*◌, IfSome, IfNone};
+    ghost use Rattle.std.specs.Prelude.{IfSome, IfNone};
     ghost use Rattle.paged_memory.specs.Loans.{place_in};
     ghost use Rattle.paged_memory.specs.Epochs.{bytes_at, with_page};
 
@@ -355,7 +388,8 @@ impl Store {
         ensures value { result.now ≡ bytes_at self.now place }
         ensures whole { length result.now ≡ 4096 }
     {
-        &self.bytes[4096 * place..4096 * place + 4096]
+        let at = self.heads[place].start;
+        &self.bytes[at..at + 4096]
     }
 
     /// Puts other bytes into the page at a place, where there is one.
@@ -364,7 +398,7 @@ impl Store {
         ensures { self.new ≡ with_page place page.now self.old }
     {
         if place < self.heads.len() {
-            let at = 4096 * place;
+            let at = self.heads[place].start;
             self.bytes[at..at + 4096].copy_from_slice(page);
         }
     }
@@ -380,7 +414,7 @@ impl GuestMemory for Store {
         let offset = address % 4096;
         if offset + u64::from(size) <= 4096 {
             if let Some(place) = read_place_of(&self.heads, &self.recent, address / 4096) {
-                let at = 4096 * place + offset as usize;
+                let at = self.heads[place].start + offset as usize;
                 return Ok(number::number(&self.bytes, at, size));
             }
         }
@@ -393,7 +427,7 @@ impl GuestMemory for Store {
         if offset + u64::from(size) <= 4096 {
             if let Some(place) = place_of(&self.heads, &self.recent.written, address / 4096) {
                 if self.heads[place].is_writable() {
-                    let at = 4096 * place + offset as usize;
+                    let at = self.heads[place].start + offset as usize;
                     number::put_number(&mut self.bytes, at, size, value);
                     return Ok(());
                 }

@@ -1,7 +1,7 @@
 -- Runs of lines, one after another.
-use Rattle.std.proofs.Common.{◌≡◌, ◌≢◌, ℕ, suc, ◌+◌, ◌≤◌, List, [], ◌∷◌, ◌++◌, length, map, refl, sym, ap, ap₂, ◌∙◌, subst, append_assoc, append-nil, arith}
+use Rattle.std.proofs.Common.{◌≡◌, ◌≢◌, ℕ, suc, ◌+◌, List, [], ◌∷◌, ◌++◌, length, refl, sym, ap, ap₂, ◌∙◌, subst, append_assoc, append-nil, arith}
 use Rattle.std.specs.List.{AllByRecursion}
-use Rattle.guest_types.specs.Memory.{Memory, page_numbers}
+use Rattle.guest_types.specs.Memory.{Memory}
 use Rattle.machine_model.specs.Run.{Outcome, End, Stop, Spent, memory_left}
 use Rattle.refusals.specs.declared.refusal.Done.{Done}
 use Rattle.refusals.specs.declared.refusal.Done.TheVariants as done
@@ -110,21 +110,6 @@ fits_left image memory pages h =
 pub all_fit : (memory pages : Memory) (lines : List Line) → AllByRecursion (IsFitting pages) lines → AllByRecursion (IsFitting (map_left memory pages)) lines
 all_fit memory pages [] h = tt
 all_fit memory pages (line ∷ lines) h = (fits_left line.image.pages memory pages h.0, all_fit memory pages lines h.1)
-
--- ---- no line changes how many pages the map has
-
-count_and : (outcome : Outcome) (pages : Memory) (go : Memory → Runs) → ((left : Memory) → length (go left).pages ≡ length left) → length (and_then outcome pages go).pages ≡ length pages
-count_and (End memory result steps) pages go h = h pages
-count_and (Stop kind pc at memory steps) pages go h = refl
-count_and (Spent pc memory steps) pages go h = refl
-
-pub count_left : (lines : List Line) (pages : Memory) (vl steps : ℕ) → length (runs_of lines pages vl steps).pages ≡ length pages
-unfolding runs_of
-count_left [] pages vl steps = refl
-count_left (line ∷ lines) pages vl steps =
-    let outcome = line_run line pages vl steps in
-    count_and outcome (map_left (memory_left outcome) pages) (λ left. runs_of lines left vl steps) (λ left. count_left lines left vl steps)
-    ∙ length-left (memory_left outcome) pages
 
 -- ---- the text of a run
 

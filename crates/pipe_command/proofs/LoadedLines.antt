@@ -3,7 +3,7 @@ use Rattle.std.proofs.Common.{◌≡◌, ℕ, zero, suc, ◌+◌, ◌<◌, ◌�
 use Rattle.std.specs.Prelude.{IfSome, IsSome}
 use Rattle.std.specs.List.{AllByRecursion}
 use Rattle.std.proofs.lemmas.List.{drop_more}
-use Rattle.io_edges.specs.Files.{Rose, content}
+use Rattle.io_edges.specs.Files.{content}
 use Rattle.io_edges.proofs.Puts.{later_rose}
 use Rattle.guest_types.specs.Memory.{Memory as Pages}
 use Rattle.machine_model.specs.Load.{Image}

@@ -1,5 +1,5 @@
 -- What `pipe` comes to: the runs of the lines of a script, each over the pages of one map as those before left them.
-use Rattle.std.specs.Prelude.{◌≡◌, ℕ, ◌+◌, List, [], ◌∷◌, ◌++◌, Option, Some, None, IsSome, IfOk, Result, Ok, Err, codes, decimal}
+use Rattle.std.specs.Prelude.{ℕ, ◌+◌, List, [], ◌∷◌, ◌++◌, Option, Some, None, IsSome, IfOk, Result, Ok, Err, codes, decimal}
 use Rattle.std.specs.List.{AllByRecursion}
 use Rattle.io_edges.specs.Files.{content}
 use Rattle.guest_types.specs.Memory.{Memory}

@@ -1,5 +1,5 @@
 -- What contracts see of the lines of a script.
-use Rattle.std.specs.Prelude.{◌≡◌, ◌⊎◌, ℕ, List, map, Vec, Result, Ok, Err}
+use Rattle.std.specs.Prelude.{◌≡◌, ◌⊎◌, List, map, Vec, Result, Ok, Err}
 use Rattle.guest_types.specs.Memory.{Memory as Pages}
 use Rattle.guest_types.specs.declared.image.Image.{Image as ImageData}
 use Rattle.machine_model.specs.Load.{Image}

@@ -39,8 +39,8 @@ fn pipe_files<F: Files>(
         → result ≢ Err Refusal.File) }
     ensures of_files { IfErr result IsOfFiles }
 {
-    let mut loaded = load_script(alloc, script, map, files)?;
-    let report = run_script(alloc, vl, task, &mut loaded)?;
+    let loaded = load_script(alloc, script, map, files)?;
+    let report = run_script(alloc, vl, task, &loaded)?;
     Ok(report)
 }
 

@@ -1,19 +1,19 @@
 //! The runs of the lines of a script.
 
-ghost use Rattle.std.specs.Prelude.{◌≡◌, ◌≢◌, ◌≤◌, ◌++◌, true, false, IfOk, OnOk, length, option_map};
+ghost use Rattle.std.specs.Prelude.{◌≡◌, ◌≢◌, ◌≤◌, ◌++◌, true, false, IfOk, OnOk, length};
 ghost use Rattle.std.specs.List.{AllByRecursion};
 ghost use Rattle.machine_model.specs.Run.{Outcome, memory_left};
-ghost use Rattle.command_line.specs.View.{extent_view, task_view};
+ghost use Rattle.command_line.specs.View.{task_view};
 ghost use Rattle.pipe_run.specs.PipeRun.{Fits, map_left, runs_of};
 ghost use Rattle.pipe_run.specs.View.{IsOutcomeOf};
-ghost use Rattle.command_answers.specs.Works.{done_by, dump_of, run_report};
+ghost use Rattle.command_answers.specs.Works.{done_by, run_report};
 ghost use Rattle.pipe_command.specs.Pipes.{line_run, run_text, runs_text, last_done, piped};
 ghost use Rattle.pipe_command.specs.View.{line_view, lines_view, IsFitting};
 
 use crate::loaded::{LoadedLine, LoadedScript};
 use command_answers::run_report::{RunReport, done_of, push_dump};
-use command_line::command::{Extent, Task};
-use guest_types::image::{Image, PageMap};
+use command_line::command::Task;
+use guest_types::image::Image;
 use guest_types::length::Vl;
 use itoa::Buffer;
 use outcome_text::outcome_text;
@@ -48,17 +48,17 @@ fn run_one(
     steps: u64,
     number: u64,
     line: &LoadedLine,
-    map: &mut PageMap,
+    pages: &mut Pages,
     text: &mut Vec<u8>,
 ) -> Result<Done, AllocError>
-    requires { Fits line.now.image.pages.items map.old.pages.items }
-    ensures done { IfOk result (λ done. done ≡ done_by (line_run (line_view line.now) map.old.pages.items vl steps)) }
+    requires { Fits line.now.image.pages.items pages.old.memory }
+    ensures done { IfOk result (λ done. done ≡ done_by (line_run (line_view line.now) pages.old.memory vl steps)) }
     ensures text { OnOk result (text.new.items ≡ text.old.items
-        ++ run_text number (line_run (line_view line.now) map.old.pages.items vl steps)) }
-    ensures left { OnOk result (map.new.pages.items
-        ≡ map_left (memory_left (line_run (line_view line.now) map.old.pages.items vl steps)) map.old.pages.items) }
+        ++ run_text number (line_run (line_view line.now) pages.old.memory vl steps)) }
+    ensures left { OnOk result (pages.new.memory
+        ≡ map_left (memory_left (line_run (line_view line.now) pages.old.memory vl steps)) pages.old.memory) }
 {
-    let ran = run_line(alloc, &line.image, map, &line.args, vl, steps)?;
+    let ran = run_line(alloc, &line.image, pages, &line.args, vl, steps)?;
     push_run(text, alloc, number, &ran)?;
     Ok(done_of(&ran.outcome))
 }
@@ -80,20 +80,20 @@ fn run_lines(
     vl: Vl,
     steps: u64,
     lines: &[LoadedLine],
-    map: &mut PageMap,
+    pages: &mut Pages,
 ) -> Result<RunReport, AllocError>
-    requires { AllByRecursion (IsFitting map.old.pages.items) (lines_view lines.now) }
+    requires { AllByRecursion (IsFitting pages.old.memory) (lines_view lines.now) }
     ensures done { IfOk result (λ report.
-        report.done ≡ last_done (runs_of (lines_view lines.now) map.old.pages.items vl steps).outcomes) }
+        report.done ≡ last_done (runs_of (lines_view lines.now) pages.old.memory vl steps).outcomes) }
     ensures text { IfOk result (λ report.
-        report.text.items ≡ runs_text 1 (runs_of (lines_view lines.now) map.old.pages.items vl steps).outcomes) }
-    ensures left { OnOk result (map.new.pages.items
-        ≡ (runs_of (lines_view lines.now) map.old.pages.items vl steps).pages) }
+        report.text.items ≡ runs_text 1 (runs_of (lines_view lines.now) pages.old.memory vl steps).outcomes) }
+    ensures left { OnOk result (pages.new.memory
+        ≡ (runs_of (lines_view lines.now) pages.old.memory vl steps).pages) }
 {
     let mut text = Vec::new(alloc);
     for (index, line) in lines.iter().enumerate() {
         let number = index as u64 + 1;
-        let done = run_one(alloc, vl, steps, number, line, map, &mut text)?;
+        let done = run_one(alloc, vl, steps, number, line, pages, &mut text)?;
         if is_last(done) {
             return Ok(RunReport { done, text });
         }
@@ -104,37 +104,22 @@ fn run_lines(
     })
 }
 
-// Adds the bytes of a map that are asked for to a text.
-fn push_map_dump(
-    text: &mut Vec<u8>,
-    alloc: Global,
-    map: &PageMap,
-    dump: Option<Extent>,
-) -> Result<(), AllocError>
-    requires { length map.now.pages.items ≤ 16384 }
-    ensures { OnOk result (text.new.items ≡ text.old.items ++ dump_of (option_map extent_view dump) map.now.pages.items) }
-{
-    if dump.is_none() {
-        return Ok(());
-    }
-    let none = Image::empty(alloc);
-    let pages = Pages::build(alloc, &none, map)?;
-    push_dump(text, alloc, &pages, dump)
-}
-
-/// Runs the lines of a script over the pages of its map, and tells how they came out, with the dump that is asked for.
+/// Runs the lines of a script over the pages of its map, which are laid out once, and tells how they came out, with the dump
+/// that is asked for.
 pub fn run_script(
     alloc: Global,
     vl: Vl,
     task: &Task,
-    script: &mut LoadedScript,
+    script: &LoadedScript,
 ) -> Result<RunReport, AllocError>
-    requires few { length script.old.map.pages.items ≤ 16384 }
-    requires fits { AllByRecursion (IsFitting script.old.map.pages.items) (lines_view script.old.lines.items) }
+    requires few { length script.now.map.pages.items ≤ 16384 }
+    requires fits { AllByRecursion (IsFitting script.now.map.pages.items) (lines_view script.now.lines.items) }
     ensures { IfOk result (λ report. run_report report ≡ piped (task_view task.now).dump
-        (runs_of (lines_view script.old.lines.items) script.old.map.pages.items vl task.now.steps)) }
+        (runs_of (lines_view script.now.lines.items) script.now.map.pages.items vl task.now.steps)) }
 {
-    let mut report = run_lines(alloc, vl, task.steps, &script.lines, &mut script.map)?;
-    push_map_dump(&mut report.text, alloc, &script.map, task.dump)?;
+    let none = Image::empty(alloc);
+    let mut pages = Pages::build(alloc, &none, &script.map)?;
+    let mut report = run_lines(alloc, vl, task.steps, &script.lines, &mut pages)?;
+    push_dump(&mut report.text, alloc, &pages, task.dump)?;
     Ok(report)
 }

@@ -1,11 +1,23 @@
 -- The pages of a map as a run leaves them are pages of a memory with the same numbers.
 use Rattle.std.proofs.Common.{◌≡◌, ℕ, [], ◌∷◌, Bool, true, false, Option, Some, None, refl, sym, ap, subst, eqb}
+use Rattle.std.proofs.lemmas.Option.{same_Some}
 use Rattle.guest_types.specs.Memory.{Page, Memory, IsPage, IsMemory, DoNotMeet, page_at, page_numbers}
 use Rattle.std.specs.List.Sorted.{IsStrictlyIncreasing}
 use Rattle.std.specs.List.{AllByRecursion}
 use Rattle.std.proofs.lemmas.List.Elements.{recursion_from_All, All-from_recursion}
 use Rattle.pipe_run.specs.PipeRun.{bytes_or, map_left}
-use Rattle.pipe_run.proofs.Pages.{found-page}
+
+-- ---- a page of a memory
+found_step : (first : Page) (memory : Memory) (n : ℕ) (page : Page) (x : Bool) → eqb first.page n ≡ x → page_at (first ∷ memory) n ≡ Some page → IsPage first
+    → (page_at memory n ≡ Some page → IsPage page) → IsPage page
+found_step first memory n page true w e is ih = let k : Some first ≡ Some page = rw w at e in subst IsPage (same_Some first page k) is
+found_step first memory n page false w e is ih = ih (rw w at e)
+
+pub found-page : (memory : Memory) (n : ℕ) → AllByRecursion IsPage memory → (page : Page) → page_at memory n ≡ Some page → IsPage page
+found-page [] n h page e = cc
+found-page (first ∷ memory) n h page e = found_step first memory n page (eqb first.page n) refl e h.0 (found-page memory n h.1 page)
+
+-- ---- the pages of a map
 
 pub numbers-left : (memory pages : Memory) → page_numbers (map_left memory pages) ≡ page_numbers pages
 numbers-left memory [] = refl

@@ -328,6 +328,13 @@ impl Machine {
     {
         &self.pages
     }
+
+    /// The memory of a machine that is done with.
+    pub fn into_pages(self) -> Pages
+        ensures { result.memory ≡ self.state.memory }
+    {
+        self.pages
+    }
 }
 
 // What an answer leaves of a machine that was running, and whether it runs on.

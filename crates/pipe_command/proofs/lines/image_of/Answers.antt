@@ -1,11 +1,10 @@
-use Rattle.std.proofs.Common.{◌≡◌, Ok, refl, ap, sym, ◌∙◌, subst, arith}
+use Rattle.std.proofs.Common.{ap, subst}
 use Rattle.std.specs.Prelude.{IfSome, string_bytes}
 use Rattle.command_answers.specs.Answer.{IsFileAnswer}
 use Rattle.command_answers.specs.Reads.{file_of, bytes_in}
-use Rattle.command_answers.proofs.Reading.{in_turn, stops_there, is_err}
+use Rattle.command_answers.proofs.Reading.{stops_there, is_err}
 use Rattle.pipe_command.specs.Pipes.{image_in}
 use Rattle.pipe_command.specs.View.{plain_in}
-use Rattle.pipe_command.proofs.Causes.{refused_answer, whatever_held}
 use Rattle.pipe_command.proofs.lines.image_of.Goals as goal
 
 pub returns-in_err-bytes-clause-answer : goal.returns-in_err-bytes-clause-answer

@@ -1,4 +1,4 @@
-use Rattle.std.proofs.Common.{◌≡◌, ◌≢◌, ◌+◌, Ok, Err, refl, ap, sym, ◌∙◌, subst, drop, arith}
+use Rattle.std.proofs.Common.{◌≢◌, ◌+◌, Ok, Err, refl, ap, ◌∙◌, subst, drop, arith}
 use Rattle.std.specs.Prelude.{IfSome, IsSome}
 use Rattle.io_edges.specs.Files.{content}
 use Rattle.pipe_script.specs.View.{entry_view, entries_view}

@@ -6,6 +6,6 @@ use Rattle.pipe_command.proofs.runs.run_lines.Given as goal
 
 abbrev pub invariant-loop-index : goal.invariant-loop-index
 invariant-loop-index l = record {
-  so : SoFar l.text.items (l.index + 1) (lines_view (drop l.index l.lines)) l.map.pages.items (lines_view l.lines) l.initial.map.pages.items l.vl l.steps;
-  fits : AllByRecursion (IsFitting l.map.pages.items) (lines_view (drop l.index l.lines));
+  so : SoFar l.text.items (l.index + 1) (lines_view (drop l.index l.lines)) l.pages.memory (lines_view l.lines) l.initial.pages.memory l.vl l.steps;
+  fits : AllByRecursion (IsFitting l.pages.memory) (lines_view (drop l.index l.lines));
 }

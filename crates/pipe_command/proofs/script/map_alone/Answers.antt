@@ -1,4 +1,4 @@
-use Rattle.std.proofs.Common.{◌≡◌, [], Ok, ap, ◌∙◌, sym, subst}
+use Rattle.std.proofs.Common.{ap, ◌∙◌, sym}
 use Rattle.map_text.specs.Mapping.{map_of}
 use Rattle.refusals.specs.Statuses.{of_map}
 use Rattle.command_answers.specs.Works.{mapped}

@@ -1,11 +1,24 @@
-use Rattle.std.proofs.Common.{◌∙◌, ap₂}
-use Rattle.guest_types.specs.Memory.{merged}
-use Rattle.paged_memory.proofs.Merging.{laid-merged}
+use Rattle.std.proofs.Common.{◌≡◌, List, length, sym, ap, ap₂, ◌∙◌, subst, arith}
+use Rattle.guest_types.specs.Memory.{Memory, DoNotMeet, merged}
+use Rattle.guest_types.proofs.Merges.{merged-nil_right}
+use Rattle.paged_memory.specs.declared.head.Head.{Head}
+use Rattle.paged_memory.specs.Layout.{memory_of}
 use Rattle.paged_memory.proofs.store.Store.build.Goals as goal
 
-pub invariant_of-result : goal.invariant_of-result
-invariant_of-result c =
-    let image = c.args.image.now in
-    let map = c.args.map.now in
-    let pages = c.in_ok-heads.ensures.pages ∙ ap₂ merged c.deref.ensures.value c.deref-2.ensures.value in
-    laid-merged image.pages.items map.pages.items c.in_ok-heads.heads.items c.in_ok-heads.bytes.items image.in_order map.in_order c.requires.apart c.requires.few pages c.in_ok-heads.ensures.whole
+pub map_pages-requires-2-clause-apart : goal.map_pages-requires-2-clause-apart
+map_pages-requires-2-clause-apart c =
+    let map = c.args.map.now.pages.items in
+    let now : c.map_pages.new.self ≡ map = c.in_ok-map_pages.ensures.memory ∙ ap (λ (l : List Head). merged c.deref.result.now (memory_of l c.in_ok-with_capacity.field-0.items)) c.new.ensures.items ∙ merged-nil_right c.deref.result.now ∙ c.deref.ensures.value in
+    subst (λ (m : Memory). DoNotMeet m c.map_pages.new.self) (sym c.deref-2.ensures.value) (subst (DoNotMeet c.args.image.now.pages.items) (sym now) c.requires.apart)
+
+pub map_pages-requires-2-clause-few : goal.map_pages-requires-2-clause-few
+map_pages-requires-2-clause-few c =
+    let map = c.args.map.now.pages.items in
+    let now : c.map_pages.new.self ≡ map = c.in_ok-map_pages.ensures.memory ∙ ap (λ (l : List Head). merged c.deref.result.now (memory_of l c.in_ok-with_capacity.field-0.items)) c.new.ensures.items ∙ merged-nil_right c.deref.result.now ∙ c.deref.ensures.value in
+    omega (arith, ap length now, ap length c.deref-2.ensures.value, c.requires.few)
+
+pub returns : goal.returns
+returns c =
+    let map = c.args.map.now.pages.items in
+    let now : c.map_pages.new.self ≡ map = c.in_ok-map_pages.ensures.memory ∙ ap (λ (l : List Head). merged c.deref.result.now (memory_of l c.in_ok-with_capacity.field-0.items)) c.new.ensures.items ∙ merged-nil_right c.deref.result.now ∙ c.deref.ensures.value in
+    c.in_ok-map_pages-2.ensures.memory ∙ ap₂ merged c.deref-2.ensures.value now

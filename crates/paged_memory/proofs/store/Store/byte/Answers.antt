@@ -1,5 +1,5 @@
-use Rattle.std.proofs.Common.{◌/◌}
-use Rattle.paged_memory.proofs.HeadPlaces.{rising, stands, absent, byte-none, byte-found}
+use Rattle.std.proofs.Common.{◌+◌, ◌/◌, ◌%◌, get_or, ap, ◌∙◌}
+use Rattle.paged_memory.proofs.HeadPlaces.{rising, stands, start-read, absent, byte-none, byte-found}
 use Rattle.paged_memory.proofs.store.Store.byte.Goals as goal
 
 pub read_place_of-requires : goal.read_place_of-requires
@@ -20,4 +20,6 @@ returns c =
     let m = c.args.self.now in
     let a = c.args.address in
     let here = stands heads c.deref.result.now (a / 4096) c.in-Some.place c.deref.ensures.value c.in-Some.ensures.found in
-    byte-found heads bs m a c.in-Some.place c.index.result.now c.self.view_is c.self.invariant here c.index.ensures
+    let start = start-read heads c.in-Some.place c.index.result.now here.below c.index.ensures in
+    let byte = c.index-2.result.now in
+    byte-found heads bs m a c.in-Some.place byte c.self.view_is c.self.invariant here (c.index-2.ensures ∙ ap (λ n. get_or bs (n + a % 4096) byte) start)

@@ -1,8 +1,8 @@
-use Rattle.std.proofs.Common.{◌+◌, ◌*◌, ◌/◌, ◌%◌, sym, ap, ◌∙◌, arith}
+use Rattle.std.proofs.Common.{◌+◌, ◌/◌, ◌%◌, sym, ap, ap₂, ◌∙◌, arith}
 use Rattle.guest_types.specs.Memory.{is_executable}
 use Rattle.paged_memory.specs.Numbers.{number_in}
 use Rattle.paged_memory.proofs.Places.{page_of}
-use Rattle.paged_memory.proofs.HeadPlaces.{rising, stands, found, absent, head-read, fetch-none, fetch-unaligned, fetch-refused, fetch-found}
+use Rattle.paged_memory.proofs.HeadPlaces.{rising, stands, found, absent, head-read, start-read, fetch-none, fetch-unaligned, fetch-refused, fetch-found}
 use Rattle.paged_memory.proofs.store.Store.fetch.Goals as goal
 
 pub returns-then-address-ne0 : goal.returns-then-address-ne0
@@ -41,5 +41,6 @@ returns c =
     let here = stands heads c.deref.result.now (a / 4096) i c.deref.ensures.value c.in-Some.ensures.found in
     let perm = head-read heads i c.index.result.now here.below c.index.ensures in
     let runs = sym (ap is_executable perm) ∙ sym c.is_executable.ensures ∙ c.if-not-is_executable.false in
-    let word = c.word.ensures ∙ ap (λ l. number_in l (4096 * i + a % 4096) 4) c.deref-2.ensures.value in
+    let start = start-read heads i c.index-2.result.now here.below c.index-2.ensures in
+    let word = c.word.ensures ∙ ap₂ (λ l n. number_in l (n + a % 4096) 4) c.deref-2.ensures.value start in
     fetch-found heads bs m a i c.word.result c.self.view_is c.self.invariant here (omega arith) c.if-address-ne0.false runs word

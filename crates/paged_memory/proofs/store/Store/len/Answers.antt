@@ -1,5 +1,5 @@
 use Rattle.std.proofs.Common.{◌≡◌, length, rules, sym, ◌∙◌, vec_len}
-use Rattle.paged_memory.proofs.LoanLaws.{length-pages}
+use Rattle.paged_memory.proofs.HeadPlaces.{length-pages}
 use Rattle.paged_memory.proofs.store.Store.len.Goals as goal
 
 pub returns-clause-value : goal.returns-clause-value

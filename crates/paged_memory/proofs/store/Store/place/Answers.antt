@@ -1,6 +1,5 @@
 use Rattle.std.proofs.Common.{arith}
-use Rattle.paged_memory.proofs.HeadPlaces.{rising, stands}
-use Rattle.paged_memory.proofs.LoanLaws.{length-pages}
+use Rattle.paged_memory.proofs.HeadPlaces.{rising, stands, length-pages}
 use Rattle.paged_memory.proofs.PageLaws.{place_in-stands, place_in-none}
 use Rattle.paged_memory.proofs.store.Store.place.Goals as goal
 

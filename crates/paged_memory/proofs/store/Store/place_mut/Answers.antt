@@ -5,8 +5,7 @@ use Rattle.guest_types.specs.Memory.{can_write, is_writable}
 use Rattle.guest_types.specs.Spans.{in_one_page}
 use Rattle.guest_types.proofs.SpanLaws.{in_one_page-fits}
 use Rattle.paged_memory.proofs.Places.{page_of}
-use Rattle.paged_memory.proofs.HeadPlaces.{rising, stands, found, absent, head-read, write-none, write-found}
-use Rattle.paged_memory.proofs.LoanLaws.{place-of}
+use Rattle.paged_memory.proofs.HeadPlaces.{rising, stands, found, absent, head-read, write-none, write-found, place-of}
 use Rattle.paged_memory.proofs.store.Store.place_mut.Goals as goal
 
 pub place_of-requires : goal.place_of-requires

@@ -1,11 +1,12 @@
-use Rattle.std.proofs.Common.{◌≡◌, ◌+◌, ◌-◌, ◌*◌, ◌<◌, ◌++◌, length, take, drop, rules, sym, ap, ap₂, ◌∙◌, arith, vec_len}
+use Rattle.std.proofs.Common.{◌≡◌, ◌+◌, ◌-◌, ◌<◌, ◌≤◌, length, rules, sym, ap, ◌∙◌, arith, vec_len}
 use Rattle.std.proofs.lemmas.List.{with_items_is}
 use borrow.Rule.Slice.PartMut.{put_mid}
 use Rattle.paged_memory.specs.Layout.{memory_of}
-use Rattle.paged_memory.specs.Loans.{put_at}
 use Rattle.paged_memory.specs.Epochs.{with_page}
-use Rattle.paged_memory.proofs.LoanLaws.{length-pages, length-put_at}
-use Rattle.paged_memory.proofs.PageLaws.{with_page-memory_of, with_page-none}
+use Rattle.paged_memory.proofs.HeadPlaces.{length-pages, start-read, put-mid}
+use Rattle.paged_memory.proofs.Parts.{put_at, length-put_at}
+use Rattle.paged_memory.proofs.Places.{within}
+use Rattle.paged_memory.proofs.PageLaws.{with_page-whole, with_page-none}
 use Rattle.paged_memory.proofs.store.Store.put_page.Goals as goal
 
 pub returns-then-place-len : goal.returns-then-place-len
@@ -14,15 +15,18 @@ returns-then-place-len c =
     let bs = c.self.inside.bytes.items in
     let p = c.args.place in
     let page = c.args.page.now in
+    let at = c.index.result.now.start in
     let count : vec_len c.self.inside.heads ≡ length heads = search rules in
     let below : p < length heads = omega (arith, c.if-place-len.true, c.len.ensures, count) in
-    let size : 4096 * p + 4096 - 4096 * p ≡ length page = omega (arith, c.requires) in
-    let put : put_mid (4096 * p) (4096 * p + 4096 - 4096 * p) c.deref_mut.result.now c.copy_from_slice.new.self ≡ put_at (4096 * p) page bs =
-    ap₂ (λ n l. take (4096 * p) l ++ (c.copy_from_slice.new.self ++ drop n (drop (4096 * p) l))) size c.deref_mut.ensures.value
-    ∙ ap (λ l. take (4096 * p) bs ++ (l ++ drop (length page) (drop (4096 * p) bs))) c.copy_from_slice.ensures.after in
-    let long = length-put_at (4096 * p) page bs (omega (arith, c.self.invariant.whole, c.requires, below)) in
-    ap (memory_of heads) (with_items_is c.self.inside.bytes _ (ap length put ∙ long ∙ sym c.self.inside.bytes.ok.0) ∙ put)
-    ∙ with_page-memory_of heads bs p page c.self.invariant.whole below c.requires
+    let start = start-read heads p c.index.result.now below c.index.ensures in
+    let inside : at + 4096 ≤ length bs = omega (arith, start, within heads bs p c.self.invariant below) in
+    let size : at + 4096 - at ≡ length c.copy_from_slice.new.self = omega (arith, c.requires, ap length c.copy_from_slice.ensures.after) in
+    let put : put_mid at (at + 4096 - at) c.deref_mut.result.now c.copy_from_slice.new.self ≡ put_at at page bs =
+    put-mid bs c.deref_mut.result.now c.copy_from_slice.new.self at (at + 4096 - at) c.deref_mut.ensures.value size
+    ∙ ap (λ l. put_at at l bs) c.copy_from_slice.ensures.after in
+    let long = length-put_at at page bs (omega (arith, inside, c.requires)) in
+    ap (memory_of heads) (with_items_is c.self.inside.bytes _ (ap length put ∙ long ∙ sym c.self.inside.bytes.ok.0) ∙ put ∙ ap (λ n. put_at n page bs) start)
+    ∙ with_page-whole heads bs p page c.self.invariant below c.requires
     ∙ ap (with_page p page) c.self.view_is
 
 pub returns-else-place-len : goal.returns-else-place-len

@@ -4,8 +4,7 @@ use Rattle.std.proofs.lemmas.Bool.{and_parts}
 use Rattle.guest_types.specs.Memory.{can_read}
 use Rattle.guest_types.specs.Spans.{in_one_page}
 use Rattle.guest_types.proofs.SpanLaws.{in_one_page-fits}
-use Rattle.paged_memory.proofs.HeadPlaces.{rising, stands, found, absent}
-use Rattle.paged_memory.proofs.LoanLaws.{place-of}
+use Rattle.paged_memory.proofs.HeadPlaces.{rising, stands, found, absent, place-of}
 use Rattle.paged_memory.proofs.store.Store.span_place.Goals as goal
 
 pub read_place_of-requires : goal.read_place_of-requires
@@ -20,19 +19,12 @@ returns-in-Some-clause-some c =
     let mapped : can_read m a ≡ true = ap is_some (found heads c.self.inside.bytes.items m (a / 4096) c.in-Some.place c.self.view_is c.self.invariant here) in
     (λ e. ap₂ (λ x y. x && y) (sym c.in_one_page.ensures ∙ c.if-not-in_one_page.false) mapped, λ e. refl)
 
-pub returns-in-Some-clause-inside : goal.returns-in-Some-clause-inside
-returns-in-Some-clause-inside c =
+pub returns-in-Some-clause-value : goal.returns-in-Some-clause-value
+returns-in-Some-clause-value c =
     let heads = c.self.inside.heads.items in
     let a = c.args.address in
     let here = stands heads c.deref.result.now (a / 4096) c.in-Some.place c.deref.ensures.value c.in-Some.ensures.found in
-    (place-of heads c.self.inside.bytes.items c.args.self.now a c.args.len c.in-Some.place c.self.view_is c.self.invariant here (in_one_page-fits a c.args.len (sym c.in_one_page.ensures ∙ c.if-not-in_one_page.false)).1).inside
-
-pub returns-in-Some-clause-part : goal.returns-in-Some-clause-part
-returns-in-Some-clause-part c =
-    let heads = c.self.inside.heads.items in
-    let a = c.args.address in
-    let here = stands heads c.deref.result.now (a / 4096) c.in-Some.place c.deref.ensures.value c.in-Some.ensures.found in
-    (place-of heads c.self.inside.bytes.items c.args.self.now a c.args.len c.in-Some.place c.self.view_is c.self.invariant here (in_one_page-fits a c.args.len (sym c.in_one_page.ensures ∙ c.if-not-in_one_page.false)).1).part
+    place-of heads c.self.inside.bytes.items c.args.self.now a c.args.len c.in-Some.place c.self.view_is c.self.invariant here (in_one_page-fits a c.args.len (sym c.in_one_page.ensures ∙ c.if-not-in_one_page.false)).1
 
 pub returns-in-None-clause-some : goal.returns-in-None-clause-some
 returns-in-None-clause-some c =
