@@ -66,7 +66,7 @@ pub fn refused(core: &Core, kind: StopKind, fault: AccessFault, answer: &mut Ste
 
 /// A load of `size` bytes to a register.
 #[inline(always)]
-fn load<M: GuestMemory>(
+pub fn load<M: GuestMemory>(
     core: &mut Core,
     memory: &M,
     rt: Reg,
@@ -93,7 +93,7 @@ fn load<M: GuestMemory>(
 
 /// A store of the low `size` bytes of a register.
 #[inline(always)]
-fn store<M: GuestMemory>(
+pub fn store<M: GuestMemory>(
     core: &mut Core,
     memory: &mut M,
     rt: Reg,

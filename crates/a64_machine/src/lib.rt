@@ -3,6 +3,7 @@
 
 mod accesses;
 mod arithmetic;
+mod at_once;
 mod bit_fields;
 mod conditions;
 mod control;
@@ -10,6 +11,7 @@ mod core_state;
 mod data;
 mod laws;
 mod load_store;
+mod low_bytes;
 mod one_step;
 mod prepared_form;
 mod prepared_step;

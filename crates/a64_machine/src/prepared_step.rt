@@ -7,7 +7,7 @@ ghost use Rattle.machine_model.specs.Answers.{IsAnswer};
 ghost use Rattle.a64_machine.specs.Cores.{VectorState, state_of, said};
 ghost use Rattle.a64_machine.specs.Prepared.{prepared_does, logical, field, IsOnGeneral};
 
-use crate::accesses::{access, byte_access};
+use crate::at_once::{byte_at_once, wide_at_once};
 use crate::bit_fields::{signed_field, unsigned_field};
 use crate::conditions::{flag_bits, is_in};
 use crate::core_state::Core;
@@ -209,10 +209,10 @@ fn on_general(core: &mut Core, prepared: &Prepared)
     }
 }
 
-/// One prepared instruction: whether it goes on. Where it does not, its answer is left in `answer`. `CALLER` tells apart
-/// the loops that take steps: each has a copy of its own, since the optimiser calls a function of two callers.
+/// One prepared instruction: whether it goes on. Where it does not, its answer is left in `answer`. `L` names the loop that
+/// takes the step: each has a copy of its own, since a function of this size is put into its caller only where it has one.
 #[inline(always)]
-pub fn prepared_goes<const CALLER: usize>(
+pub fn prepared_goes<L>(
     core: &mut Core,
     pages: &mut Pages,
     prepared: &Prepared,
@@ -226,19 +226,19 @@ pub fn prepared_goes<const CALLER: usize>(
     match *prepared {
         Prepared::ByteAtRegister { op, rt, rn, rm } => {
             let address = core.general(rn).wrapping_add(core.general(rm));
-            byte_access(core, pages, op, rt, address, answer)
+            byte_at_once(core, pages, op, rt, address, answer)
         }
         Prepared::ByteAtNumber { op, rt, rn, number } => {
             let address = core.general(rn).wrapping_add(number);
-            byte_access(core, pages, op, rt, address, answer)
+            byte_at_once(core, pages, op, rt, address, answer)
         }
         Prepared::WideAtRegister { op, rt, rn, rm, by } => {
             let address = core.general(rn).wrapping_add(core.general(rm) << by.number);
-            access(core, pages, op, rt, address, answer)
+            wide_at_once(core, pages, op, rt, address, answer)
         }
         Prepared::WideAtNumber { op, rt, rn, number } => {
             let address = core.general(rn).wrapping_add(number);
-            access(core, pages, op, rt, address, answer)
+            wide_at_once(core, pages, op, rt, address, answer)
         }
         _ => {
             on_general(core, prepared);

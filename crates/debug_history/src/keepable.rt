@@ -15,8 +15,9 @@ use std::alloc::{AllocError, Global};
 pub trait Keepable: Debuggee {
     /// One step of a machine that has not come to an end or a stop: whether it goes on, with the place of its instruction.
     /// How it came to its end is in `over`: an answer of many bytes that is handed back would be filled at each step. The
-    /// step is not counted; many are at once, by `count`.
-    fn goes_on(&mut self, place: &mut u64) -> bool
+    /// step is not counted; many are at once, by `count`. `L` names the loop that takes the step: each loop has a copy of a
+    /// step for itself.
+    fn goes_on<L>(&mut self, place: &mut u64) -> bool
         requires { (Self.view_of self.old).over ≡ None }
         ensures answer { IsTrue (Self.view_of self.old).quiet →
             IsAnswer (model_step (Self.view_of self.old).state) (answer_of (Self.view_of self.new).over)

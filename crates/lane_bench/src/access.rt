@@ -1,5 +1,9 @@
 //! Loads and stores of lanes in one page, by the kernel and by a plain loop.
 
+ghost use Rattle.std.specs.Prelude.{◌≡◌};
+ghost use Rattle.guest_types.specs.declared.length.Width.TheVariants.{D};
+ghost use Rattle.guest_types.specs.LaneMemory.{load_form};
+
 use crate::operands::Operands;
 use crate::plain::elements;
 use crate::work::Access;
@@ -9,6 +13,7 @@ use guest_types::length::Width;
 use guest_types::memory::{AccessFault, Perm};
 use guest_types::predicate::PReg;
 use guest_types::row::{LoadMode, LoadRow, StoreRow};
+use lane_memory::gather::gather;
 use lane_memory::load::load_into;
 use lane_memory::store::store;
 use lane_memory::suppress::Suppress;
@@ -71,6 +76,27 @@ fn load_by_kernel(pages: &Pages, mode: LoadMode, s: &mut Operands) -> Result<(),
     )
 }
 
+// Doublewords, or bytes and their like extended to doublewords.
+fn gather_row(width: Width) -> LoadRow
+    ensures { (load_form result.dtype).element ≡ D }
+{
+    LoadRow {
+        dtype: match width {
+            Width::B => 3,
+            Width::H => 7,
+            Width::S => 11,
+            Width::D => 15,
+        },
+    }
+}
+
+fn gather_by_kernel(pages: &Pages, s: &mut Operands) -> Result<(), AccessFault> {
+    let row = gather_row(s.width);
+    let base = BASE + (s.total & 1);
+    s.out = gather(pages, row, base, &s.offsets, s.vl, &s.mask)?;
+    Ok(())
+}
+
 /// One access by its kernel.
 #[inline(never)]
 pub fn by_kernel(access: Access, pages: &mut Pages, s: &mut Operands) -> Result<(), AccessFault> {
@@ -78,6 +104,7 @@ pub fn by_kernel(access: Access, pages: &mut Pages, s: &mut Operands) -> Result<
         Access::Load => load_by_kernel(pages, LoadMode::Plain, s),
         Access::FirstFaultLoad => load_by_kernel(pages, LoadMode::FirstFault, s),
         Access::NonFaultLoad => load_by_kernel(pages, LoadMode::NonFault, s),
+        Access::Gather => gather_by_kernel(pages, s),
         Access::Store => {
             store(
                 pages,
@@ -135,6 +162,22 @@ fn load_each_early(pages: &Pages, s: &mut Operands) {
     }
 }
 
+// Each active element by a load of its own.
+fn gather_each(pages: &Pages, s: &mut Operands) -> Result<(), AccessFault> {
+    let base = BASE + (s.total & 1);
+    let size = s.width.bytes() as u32;
+    for e in 0..elements(Width::D, s.vl) {
+        let value = if s.mask.is_active(Width::D, e) {
+            let offset = s.offsets.element(Width::D, e);
+            pages.load(base.wrapping_add(offset), size)?
+        } else {
+            0
+        };
+        s.out.put(Width::D, e, value);
+    }
+    Ok(())
+}
+
 fn store_each(pages: &mut Pages, s: &Operands) -> Result<(), AccessFault> {
     for e in 0..elements(s.width, s.vl) {
         if s.mask.is_active(s.width, e) {
@@ -157,6 +200,7 @@ pub fn by_loop(access: Access, pages: &mut Pages, s: &mut Operands) -> Result<()
             load_each_early(pages, s);
             Ok(())
         }
+        Access::Gather => gather_each(pages, s),
         Access::Store => store_each(pages, s),
     }
 }

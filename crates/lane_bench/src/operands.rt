@@ -1,5 +1,6 @@
 //! What a kernel is timed on.
 
+use crate::plain::elements;
 use guest_types::length::{Vl, Width};
 use guest_types::predicate::PReg;
 use guest_types::register::ZReg;
@@ -15,6 +16,7 @@ pub struct Operands {
     pub truths: PReg,
     pub left: ZReg,
     pub right: ZReg,
+    pub offsets: ZReg,
     pub out: ZReg,
     pub total: u64,
 }
@@ -45,6 +47,15 @@ fn filled(from: u8, by: u8, vl: Vl) -> ZReg {
     z
 }
 
+// Offsets in no order, the bytes of a doubleword or more apart, all below 2,048.
+fn scattered(vl: Vl) -> ZReg {
+    let mut z = ZReg::zero();
+    for e in 0..elements(Width::D, vl) {
+        z.put(Width::D, e, (e as u64 * 37 % 128) * 16);
+    }
+    z
+}
+
 impl Operands {
     /// Bytes of all kinds, and a mask of which every element or two of three are true.
     pub fn new(width: Width, vl: Vl, is_ragged: bool) -> Operands {
@@ -57,6 +68,7 @@ impl Operands {
             truths: all_true(Width::B, vl),
             left: filled(3, 7, vl),
             right: filled(250, 11, vl),
+            offsets: scattered(vl),
             out: ZReg::zero(),
             total: 1,
         }

@@ -29,6 +29,7 @@ pub enum Access {
     Load,
     FirstFaultLoad,
     NonFaultLoad,
+    Gather,
     Store,
 }
 
@@ -79,10 +80,11 @@ pub const WORKS: [Work; 42] = [
 ];
 
 /// Each access.
-pub const ACCESSES: [Access; 4] = [
+pub const ACCESSES: [Access; 5] = [
     Access::Load,
     Access::FirstFaultLoad,
     Access::NonFaultLoad,
+    Access::Gather,
     Access::Store,
 ];
 
@@ -133,6 +135,7 @@ impl Access {
             Access::Load => "load ld1",
             Access::FirstFaultLoad => "load ldff1",
             Access::NonFaultLoad => "load ldnf1",
+            Access::Gather => "gather ld1",
             Access::Store => "store st1",
         }
     }

@@ -88,9 +88,9 @@ impl Debuggee for Counted {
 }
 
 impl Keepable for Counted {
-    fn goes_on(&mut self, place: &mut u64) -> bool {
+    fn goes_on<L>(&mut self, place: &mut u64) -> bool {
         self.tally();
-        self.machine.goes_on(place)
+        self.machine.goes_on::<L>(place)
     }
 
     fn count(&mut self, steps: u64) {

@@ -72,7 +72,8 @@ fn search_again(heads: &[Head], recent: &Cell<usize>, number: u64) -> Option<usi
     Some(place)
 }
 
-/// The place of the page with a number, where the last look-up may have ended.
+/// The place of the page with a number, where the last look-up may have ended. What a search answers is made anew: handed on as it
+/// came, it would be joined with the other answers as a pair, and each of them tested once more.
 #[inline(always)]
 pub fn place_of(heads: &[Head], recent: &Cell<usize>, number: u64) -> Option<usize>
     requires { IsStrictlyIncreasing (head_numbers heads.now) }
@@ -83,7 +84,10 @@ pub fn place_of(heads: &[Head], recent: &Cell<usize>, number: u64) -> Option<usi
     if stands_at(heads, number, place) {
         return Some(place);
     }
-    search_again(heads, recent, number)
+    match search_again(heads, recent, number) {
+        Some(place) => Some(place),
+        None => None,
+    }
 }
 
 /// The place of the page with a number, which is remembered beside the last one before it.
@@ -100,7 +104,7 @@ fn search_read_again(heads: &[Head], recent: &Recent, number: u64) -> Option<usi
 }
 
 /// The place of the page with a number to be read, where one of the last two searches for a read
-/// may have ended.
+/// may have ended. What a search answers is made anew, as in `place_of`.
 #[inline(always)]
 pub fn read_place_of(heads: &[Head], recent: &Recent, number: u64) -> Option<usize>
     requires { IsStrictlyIncreasing (head_numbers heads.now) }
@@ -115,5 +119,8 @@ pub fn read_place_of(heads: &[Head], recent: &Recent, number: u64) -> Option<usi
     if stands_at(heads, number, before) {
         return Some(before);
     }
-    search_read_again(heads, recent, number)
+    match search_read_again(heads, recent, number) {
+        Some(place) => Some(place),
+        None => None,
+    }
 }

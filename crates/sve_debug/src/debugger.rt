@@ -12,7 +12,7 @@ use crate::command::{Command, Part};
 use crate::kept_run::run_kept;
 use crate::line::command_of;
 use crate::put::{put_dump, put_end, put_line, put_named, put_place, put_places, put_stop};
-use crate::run::{Places, run};
+use crate::run::{Free, Places, Stopping, run};
 use crate::show::{put_first_fault, put_flags, put_general, put_predicate, put_vector};
 use arrayvec::ArrayVec;
 use debug_history::history;
@@ -69,7 +69,7 @@ impl<D: Keepable> Debugger<D> {
             Stands self.new start (counted_steps [] most d) }
         ensures steps { self.new.machine.steps ≤ self.old.machine.steps + most }
     {
-        run_kept::<D, false>(&mut self.machine, &mut self.places, &[], most);
+        run_kept::<D, Free, false>(&mut self.machine, &mut self.places, &[], most);
     }
 
     // Up to so many steps, and none after one that comes to a breakpoint.
@@ -81,9 +81,9 @@ impl<D: Keepable> Debugger<D> {
     {
         let stops = self.breaks.as_slice();
         if stops.is_empty() {
-            return run_kept::<D, false>(&mut self.machine, &mut self.places, stops, most);
+            return run_kept::<D, Free, false>(&mut self.machine, &mut self.places, stops, most);
         }
-        run_kept::<D, true>(&mut self.machine, &mut self.places, stops, most);
+        run_kept::<D, Stopping, true>(&mut self.machine, &mut self.places, stops, most);
     }
 
     // So many steps back, and answers whether they were done.

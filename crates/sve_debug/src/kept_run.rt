@@ -10,8 +10,8 @@ use debug_history::history::note;
 use debug_history::keepable::Keepable;
 
 /// Up to so many steps, none after the end or a stop, and none after a step that comes to one of these places, of which there
-/// are none without `STOPS`. The machine is noted where it may be kept. No steps lead past such a count before it is.
-pub fn run_kept<D: Keepable, const STOPS: bool>(
+/// are none without `STOPS`, by the loop `L`. The machine is noted where it may be kept. No steps lead past such a count before it is.
+pub fn run_kept<D: Keepable, L, const STOPS: bool>(
     machine: &mut D,
     places: &mut Places,
     stops: &[u64],
@@ -40,7 +40,7 @@ pub fn run_kept<D: Keepable, const STOPS: bool>(
     let mut left = most;
     while left > 0 {
         let gap = 10_000 - machine.steps_done() % 10_000;
-        let (done, rest) = advance_far::<D, STOPS>(machine, &mut recent, stops, left, gap);
+        let (done, rest) = advance_far::<D, L, STOPS>(machine, &mut recent, stops, left, gap);
         places.extend_from_slice(&recent[..done]);
         note(machine);
         left = rest;

@@ -10,6 +10,12 @@ ghost use Rattle.sve_debug.specs.Replies.{Session, is_break, stepped, steps_to};
 use circular_buffer::HeapCircularBuffer;
 use debug_history::keepable::Keepable;
 
+/// The loop of steps without breakpoints.
+pub struct Free;
+
+/// The loop of steps up to a breakpoint.
+pub struct Stopping;
+
 /// The places of the last steps.
 pub type Places = HeapCircularBuffer<u64>;
 
@@ -25,10 +31,10 @@ fn is_stop<const STOPS: bool>(stops: &[u64], pc: u64) -> bool
     stops.contains(&pc)
 }
 
-// Up to 256 of so many steps, and no more than to a limit, and their places: how many were done, and how many are left
+// Up to 256 of so many steps by the loop `L`, and no more than to a limit, and their places: how many were done, and how many are left
 // to do, which is none after the end or a stop and after a step that comes to one of these places. The places go to the
 // ring only after them, since a push at each step would take as long as the step.
-pub fn advance_far<D: Keepable, const STOPS: bool>(
+pub fn advance_far<D: Keepable, L, const STOPS: bool>(
     machine: &mut D,
     recent: &mut [u64; 256],
     stops: &[u64],
@@ -57,7 +63,7 @@ pub fn advance_far<D: Keepable, const STOPS: bool>(
     let near = left.min(limit);
     let most = near.min(256) as usize;
     for done in 0..most {
-        if !machine.goes_on(&mut recent[done]) {
+        if !machine.goes_on::<L>(&mut recent[done]) {
             machine.count(done as u64 + 1);
             return (done + 1, 0);
         }
@@ -88,7 +94,7 @@ pub fn run<D: Keepable>(machine: &mut D, places: &mut Places, most: u64)
     let mut recent = [0; 256];
     let mut left = most;
     while left > 0 {
-        let (done, rest) = advance_far::<D, false>(machine, &mut recent, &[], left, 256);
+        let (done, rest) = advance_far::<D, Free, false>(machine, &mut recent, &[], left, 256);
         places.extend_from_slice(&recent[..done]);
         left = rest;
     }

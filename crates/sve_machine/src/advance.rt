@@ -41,7 +41,7 @@ fn execute_other(
 
 // What is done by what is kept: whether the step goes on, or else its answer.
 #[inline(always)]
-fn execute<const CALLER: usize>(
+fn execute<L>(
     core: &mut Core,
     pages: &mut Pages,
     vectors: &mut Vectors,
@@ -54,15 +54,15 @@ fn execute<const CALLER: usize>(
     ensures past { pages.new.past ≡ pages.old.past }
 {
     match kept {
-        Kept::Ready(prepared) => prepared_goes::<CALLER>(core, pages, prepared, answer),
+        Kept::Ready(prepared) => prepared_goes::<L>(core, pages, prepared, answer),
         _ => execute_other(core, pages, vectors, kept, answer),
     }
 }
 
 /// One step: whether it goes on, or else its answer, with the place of its instruction. An answer of many bytes that is handed back would be copied
-/// at each step. `CALLER` tells its callers apart (`prepared_goes`).
+/// at each step. `L` names the loop that takes the step (`prepared_goes`).
 #[inline(always)]
-pub fn advance<const CALLER: usize>(
+pub fn advance<L>(
     core: &mut Core,
     pages: &mut Pages,
     vectors: &mut Vectors,
@@ -83,13 +83,14 @@ pub fn advance<const CALLER: usize>(
         return false;
     }
     let entry = &kept[(pc / 4 % 1024) as usize];
-    execute::<CALLER>(core, pages, vectors, &entry.kept, answer)
+    execute::<L>(core, pages, vectors, &entry.kept, answer)
 }
 
-/// The loop of `go`, as a caller of steps.
-const WITHIN: usize = 0;
-/// A loop outside, which takes steps one by one.
-pub const OUTSIDE: usize = 1;
+/// The loop of `go`.
+struct Within;
+
+/// A step that no loop takes.
+pub struct ByItself;
 
 /// At most so many steps: the last answer, and how many were done.
 #[inline(never)]
@@ -110,7 +111,7 @@ pub fn go(
     let mut answer = Step::Went;
     let mut place = 0;
     for done in 0..steps {
-        if advance::<WITHIN>(core, pages, vectors, kept, &mut place, &mut answer) {
+        if advance::<Within>(core, pages, vectors, kept, &mut place, &mut answer) {
             continue;
         }
         match answer {

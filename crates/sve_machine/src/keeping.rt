@@ -7,8 +7,8 @@ use std::alloc::{AllocError, Global};
 
 impl Keepable for Machine {
     #[inline(always)]
-    fn goes_on(&mut self, place: &mut u64) -> bool {
-        let on = self.goes_on(place);
+    fn goes_on<L>(&mut self, place: &mut u64) -> bool {
+        let on = self.goes_on::<L>(place);
         on
     }
 

@@ -2,7 +2,7 @@
 
 ghost use Rattle.std.specs.Prelude.{◌≡◌, ◌+◌, ◌-◌, ◌^◌, ◌<◌, ◌≤◌, None, IfSome, IsTrue, is_none, OnOk, OnErr, true, [], ◌∷◌, length, take, slice_index_or};
 
-use crate::advance::{OUTSIDE, advance, go};
+use crate::advance::{ByItself, advance, go};
 use crate::history::History;
 use crate::kept::Entry;
 use crate::look_up::no_words;
@@ -153,16 +153,16 @@ impl Machine {
         ensures past { self.new.past ≡ self.old.past }
     {
         let mut place = 0;
-        let _ = self.goes_on(&mut place);
+        let _ = self.goes_on::<ByItself>(&mut place);
         self.steps += 1;
         answer_of(self.over)
     }
 
     /// The same, and only whether it goes on, with the place of the instruction: how the machine came to its end is in `over`,
     /// and the step is counted by `count`. It has no loop of its own and no test that a loop of steps can do without, so that
-    /// a caller's loop is as fast as `run`.
+    /// a caller's loop is as fast as `run`. `L` names that loop (`prepared_goes`).
     #[inline(always)]
-    pub fn goes_on(&mut self, place: &mut u64) -> bool
+    pub fn goes_on<L>(&mut self, place: &mut u64) -> bool
         requires running { self.old.over ≡ None }
         ensures answer { IsAnswer (step self.old.state) (answer_of self.new.over) self.old.state self.new.state }
         ensures steps { self.new.steps ≡ self.old.steps }
@@ -171,7 +171,7 @@ impl Machine {
         ensures quiet { IsTrue self.old.quiet → IsTrue self.new.quiet }
         ensures past { self.new.past ≡ self.old.past }
     {
-        let went = advance::<OUTSIDE>(
+        let went = advance::<L>(
             &mut self.core,
             &mut self.pages,
             &mut self.vectors,
