@@ -1,6 +1,8 @@
 //! Pages that are laid out by hand, and what they answer.
 
-ghost use Rattle.std.specs.Prelude.{◌≡◌, ◌+◌, ◌≤◌, ◌<◌, ◌^◌, length};
+ghost use Rattle.std.specs.Prelude.{◌≡◌, ℕ, ◌+◌, ◌≤◌, ◌<◌, ◌^◌, List, length, IfOk};
+ghost use Rattle.guest_types.specs.Memory.{DoNotMeet};
+ghost use Rattle.paged_memory.specs.Runs.{IsRun};
 
 use guest_types::guest::GuestMemory;
 use guest_types::image::{Image, PageMap};
@@ -30,6 +32,61 @@ fn built(alloc: Global, from: u64, count: u64, perm: Perm) -> Result<Pages, Allo
         pages: run(alloc, from, count, perm, &NOP)?,
     };
     Pages::build(alloc, &image, &map)
+}
+
+// An image of pages one after another, each of which begins with NOP.
+fn image(alloc: Global, from: u64, count: u64, perm: Perm) -> Result<Image, AllocError>
+    requires { from + count ≤ 2 ^ 36 }
+    ensures { IfOk result (λ image. (front : List ℕ) × IsRun from count perm front image.pages.items) }
+{
+    Ok(Image {
+        entry: 0,
+        code_from: 0,
+        code_end: 0,
+        pages: run(alloc, from, count, perm, &NOP)?,
+    })
+}
+
+// The pages of an image, beside which those of a lower one came then.
+fn both(alloc: Global, high: &Image, low: &Image) -> Result<Pages, AllocError>
+    requires apart { DoNotMeet low.now.pages.items high.now.pages.items }
+    requires few { length low.now.pages.items + length high.now.pages.items ≤ 16384 }
+{
+    let mut pages = Pages::empty(alloc);
+    pages.map_image(alloc, high)?;
+    pages.map_image(alloc, low)?;
+    Ok(pages)
+}
+
+// Two pages to write from 0x1000 on, and two of code below them.
+fn two_images(alloc: Global) -> Result<(Image, Image, Pages), AllocError> {
+    let high = image(alloc, 0x1000, 2, Perm::ReadWrite)?;
+    let low = image(alloc, 0x400, 2, Perm::ReadExec)?;
+    let pages = both(alloc, &high, &low)?;
+    Ok((high, low, pages))
+}
+
+#[test]
+fn pages_go(rt: HostRuntime) -> Result<(), Fail> {
+    let (_high, low, mut pages) = two_images(rt.alloc())?;
+    assert!(rt; pages.store(0x100_0ffc, 8, 0x1122_3344_5566_7788) == Ok(()));
+    assert!(rt; pages.fetch(0x40_1000) == Some(0xd503_201f));
+    pages.unmap_image(&low);
+    assert!(rt; pages.byte(0x40_0000).is_none() && pages.byte(0x40_1000).is_none());
+    assert!(rt; pages.load(0x100_0ffc, 8) == Ok(0x1122_3344_5566_7788));
+    assert!(rt; pages.load(0x100_0000, 4) == Ok(0xd503_201f));
+    Ok(())
+}
+
+#[test]
+fn pages_below_stay(rt: HostRuntime) -> Result<(), Fail> {
+    let (high, _low, mut pages) = two_images(rt.alloc())?;
+    pages.unmap_image(&high);
+    assert!(rt; pages.byte(0x100_0000).is_none() && pages.byte(0x100_1000).is_none());
+    assert!(rt;
+        pages.fetch(0x40_0000) == Some(0xd503_201f) && pages.fetch(0x40_1000) == Some(0xd503_201f)
+    );
+    Ok(())
 }
 
 #[test]
