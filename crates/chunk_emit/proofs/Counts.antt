@@ -1,5 +1,5 @@
 -- How many words items have.
-use Rattle.std.proofs.Common.{◌≡◌, ℕ, suc, ◌+◌, ◌*◌, ◌≤◌, ℤ, pos, negsuc, zero, Bool, true, false, List, [], ◌∷◌, ◌++◌, length, Option, Some, None, refl, sym, ap, subst, arith}
+use Rattle.std.proofs.Common.{◌≡◌, ℕ, suc, ◌+◌, ◌≤◌, ℤ, pos, negsuc, zero, Bool, true, false, List, [], ◌∷◌, ◌++◌, length, Option, Some, None, refl, sym, ap, subst, arith}
 use Rattle.std.specs.Prelude.{if◌then◌else◌, nat_eq}
 use Rattle.std.proofs.lemmas.List.{length-append}
 use Rattle.guest_types.specs.declared.length.Width.{Width}
@@ -15,12 +15,13 @@ use Rattle.kernel_tree.specs.Wrap.{is_signed}
 use Rattle.sve_code.specs.Table.{Name, m_abs, m_mul}
 use Rattle.machine_model.specs.InstructionTable.{Listed}
 use Rattle.loop_form.specs.LoopItems.{Op, Load, Gather, Apply, Combine, Move, Cast, Copy, Pick, Store, Add, Test, Invert, Same, Any, Quit, Item}
+use Rattle.close_bound.specs.CloseBound.{offset_steps, lane_steps, items_steps}
 use Rattle.lane_emit.specs.Right.{fits}
 use Rattle.lane_emit.specs.Stretch.{Word, word}
 use Rattle.lane_emit.specs.LaneCode.{size_of, least_name, greatest_name, unary_leaves, binary_leaves, z_copy, extension, z_extend, z_settle, unary_code, merged, binary_code, shift_by, cast_code, test_code}
 use Rattle.lane_emit.specs.ItemCode.{Registers, op_code, mask_register}
 use Rattle.chunk_emit.specs.Registers.{Layout, z_of, base_of}
-use Rattle.chunk_emit.specs.ChunkCode.{with_index, memory_size, gather_by, cut_reach, gather_code, vectors, op_words, item_words, past_cast, either_words, items_words}
+use Rattle.chunk_emit.specs.ChunkCode.{with_index, memory_size, gather_by, cut_reach, gather_code, vectors, op_words, item_words, is_made, past_cast, either_words, items_words}
 use Rattle.chunk_emit.specs.ItemsRun.{FewWords}
 
 either_few : {A : Type 0} (b : Bool) (xs ys : List A) (n : ℕ) → length xs ≤ n → length ys ≤ n → length (if b then xs else ys) ≤ n
@@ -47,15 +48,15 @@ settle_few : (b : Bool) (w : Width) (t : Ty) (d : ℕ) → length (z_settle b w 
 settle_few true w t d = extend_few w t d d
 settle_few false w t d = omega arith
 
-at_most : (n : ℕ) (xs : List Word) → length xs ≤ n → n ≤ 3 → length xs ≤ 3
-at_most n xs h k = omega (arith, h, k)
+at_most : (n k : ℕ) (xs : List Word) → length xs ≤ n → n ≤ k → length xs ≤ k
+at_most n k xs h le = omega (arith, h, le)
 
-unary_few : (w : Width) (op : UnaryOp) (t : Ty) (d a : ℕ) → length (unary_code w op t d a) ≤ 3
+unary_few : (w : Width) (op : UnaryOp) (t : Ty) (d a : ℕ) → length (unary_code w op t d a) ≤ 2
 unary_few w unary.Neg t d a = let h = settle_few (unary_leaves unary.Neg t) w t d in omega (arith, h)
 unary_few w unary.Flip t d a = let h = settle_few (unary_leaves unary.Flip t) w t d in omega (arith, h)
 unary_few w unary.Abs t d a =
     let h = settle_few (unary_leaves unary.Abs t) w t d in
-    either_few (is_signed t) (word m_abs (d ∷ a ∷ 1 ∷ size_of w ∷ []) ∷ z_settle (unary_leaves unary.Abs t) w t d) (z_copy d a []) 3 (omega (arith, h)) (at_most 1 (z_copy d a []) (copy_few d a 0 [] (omega arith)) (omega arith))
+    either_few (is_signed t) (word m_abs (d ∷ a ∷ 1 ∷ size_of w ∷ []) ∷ z_settle (unary_leaves unary.Abs t) w t d) (z_copy d a []) 2 (omega (arith, h)) (at_most 1 2 (z_copy d a []) (copy_few d a 0 [] (omega arith)) (omega arith))
 
 merged_few : (w : Width) (name : Name) (d a b : ℕ) (rest : List Word) → length rest ≤ 1 → length (merged w name d a b rest) ≤ 3
 merged_few w name d a b rest h =
@@ -72,14 +73,14 @@ binary_few w binary.Xor t d a b = let h = settle_few (binary_leaves binary.Xor) 
 binary_few w binary.Min t d a b = merged_few w (least_name t) d a b (z_settle (binary_leaves binary.Min) w t d) (settle_few (binary_leaves binary.Min) w t d)
 binary_few w binary.Max t d a b = merged_few w (greatest_name t) d a b (z_settle (binary_leaves binary.Max) w t d) (settle_few (binary_leaves binary.Max) w t d)
 
-shift_few : (w : Width) (left : Bool) (c : ℕ) (t : Ty) (d a : ℕ) → length (shift_by w left c t d a) ≤ 3
+shift_few : (w : Width) (left : Bool) (c : ℕ) (t : Ty) (d a : ℕ) → length (shift_by w left c t d a) ≤ 2
 shift_few w true c t d a = let h = settle_few true w t d in omega (arith, h)
-shift_few w false c t d a = either_few (nat_eq c 0) (z_copy d a []) _ 3 (at_most 1 (z_copy d a []) (copy_few d a 0 [] (omega arith)) (omega arith)) (omega arith)
+shift_few w false c t d a = either_few (nat_eq c 0) (z_copy d a []) _ 2 (at_most 1 2 (z_copy d a []) (copy_few d a 0 [] (omega arith)) (omega arith)) (omega arith)
 
-cast_few : (w : Width) (s t : Ty) (d a : ℕ) → length (cast_code w s t d a) ≤ 3
-cast_few w s t d a = either_few (fits s t) (z_copy d a []) (z_extend w t d a) 3 (at_most 1 (z_copy d a []) (copy_few d a 0 [] (omega arith)) (omega arith)) (at_most 1 (z_extend w t d a) (extend_few w t d a) (omega arith))
+cast_few : (w : Width) (s t : Ty) (d a : ℕ) → length (cast_code w s t d a) ≤ 1
+cast_few w s t d a = either_few (fits s t) (z_copy d a []) (z_extend w t d a) 1 (copy_few d a 0 [] (omega arith)) (extend_few w t d a)
 
-test_few : (w : Width) (op : CompareOp) (t : Ty) (d m a b : ℕ) → length (test_code w op t d m a b) ≤ 3
+test_few : (w : Width) (op : CompareOp) (t : Ty) (d m a b : ℕ) → length (test_code w op t d m a b) ≤ 1
 test_few w compare.Eq t d m a b = omega arith
 test_few w compare.Ne t d m a b = omega arith
 test_few w compare.Lt t d m a b = omega arith
@@ -87,12 +88,13 @@ test_few w compare.Le t d m a b = omega arith
 test_few w compare.Gt t d m a b = omega arith
 test_few w compare.Ge t d m a b = omega arith
 
-op_few : (w : Width) (r : Registers) (q m : ℕ) (op : Op) → length (op_code w r q m op) ≤ 3
+-- the code of an operation that is none of a read, a store, an update and a break
+op_few : (w : Width) (r : Registers) (q m : ℕ) (op : Op) → length (op_code w r q m op) ≤ lane_steps op
 op_few w r q m (Apply op (Some t) x) = unary_few w op t (r.z q) (r.source x)
 op_few w r q m (Combine op (Some t) x y) = binary_few w op t (r.z q) (r.source x) (r.source y)
 op_few w r q m (Move left k (Some t) x) = shift_few w left _ t (r.z q) (r.source x)
 op_few w r q m (Cast (Some t) to x) = cast_few w t to (r.z q) (r.source x)
-op_few w r q m (Copy t x) = at_most 1 (z_copy (r.z q) (r.source x) []) (copy_few (r.z q) (r.source x) 0 [] (omega arith)) (omega arith)
+op_few w r q m (Copy t x) = copy_few (r.z q) (r.source x) 0 [] (omega arith)
 op_few w r q m (Pick t c x y) = omega arith
 op_few w r q m (Test op (Some t) x y) = test_few w op t (r.p q) m (r.source x) (r.source y)
 op_few w r q m (Invert c) = omega arith
@@ -111,7 +113,7 @@ op_few w r q m (Quit c) = omega arith
 
 -- ---- items
 
-index_few : (c : ℤ) (v : Listed) → length (with_index c (v ∷ [])) ≤ 3
+index_few : (c : ℤ) (v : Listed) → length (with_index c (v ∷ [])) ≤ 1 + offset_steps c
 index_few (pos zero) v = omega arith
 index_few (pos (suc k)) v = omega arith
 index_few (negsuc k) v = omega arith
@@ -120,8 +122,8 @@ vectors-length : (vs : List Word) → length (vectors vs) ≡ length vs
 vectors-length [] = refl
 vectors-length (v ∷ vs) = ap suc (vectors-length vs)
 
-used_few : (w : Width) (l : Layout) (q m : ℕ) (op : Op) (b : Bool) → length (if b then vectors (op_code w l.registers q m op) else []) ≤ 3
-used_few w l q m op true = subst (λ n. n ≤ 3) (sym (vectors-length (op_code w l.registers q m op))) (op_few w l.registers q m op)
+pub used_few : (w : Width) (l : Layout) (q m : ℕ) (op : Op) (b : Bool) → length (if b then vectors (op_code w l.registers q m op) else []) ≤ lane_steps op
+used_few w l q m op true = subst (λ n. n ≤ lane_steps op) (sym (vectors-length (op_code w l.registers q m op))) (op_few w l.registers q m op)
 used_few w l q m op false = omega arith
 
 gather_by_few : (k : ℕ) (t : Ty) (d m base index : ℕ) → length (vectors (gather_by k t d m base index)) ≤ 2
@@ -132,7 +134,7 @@ gather_few : (cut : Option ℕ) (t : Ty) (d m base index : ℕ) → length (vect
 gather_few None t d m base index = let few = gather_by_few (memory_size t) t d m base index in omega (arith, few)
 gather_few (Some n) t d m base index = let few = gather_by_few (memory_size t) t d m base d in omega (arith, few)
 
-words_few : (w : Width) (l : Layout) (q m : ℕ) (op : Op) → length (op_words w l q m op) ≤ 3
+words_few : (w : Width) (l : Layout) (q m : ℕ) (op : Op) → length (op_words w l q m op) ≤ lane_steps op
 words_few w l q m (Load a base (Some t) c) = index_few c _
 words_few w l q m (Load a base None c) = used_few w l q m (Load a base None c) _
 words_few w l q m (Gather a base (Some t) c (Some u) x) = gather_few (cut_reach c u) t (z_of l q) m (base_of base) (l.registers.source x)
@@ -154,21 +156,31 @@ words_few w l q m (Same c) = used_few w l q m (Same c) _
 words_few w l q m (Any c d) = used_few w l q m (Any c d) _
 words_few w l q m (Quit c) = used_few w l q m (Quit c) _
 
-joined_few : (w : Width) (l : Layout) (next : Item) (o : Option Op) (both following : List Listed) (n : ℕ) → length both ≤ 6 + n → length following ≤ n → length (either_words w l next o both following) ≤ 6 + n
-joined_few w l next None both following n h k = h
-joined_few w l next (Some op) both following n h k =
+-- a store has as many words, whatever it takes from a cast
+abbrev steps_if : Option Op → ℕ
+steps_if None = 0
+steps_if (Some op) = lane_steps op
+
+past_few : (q : ℕ) (op next : Op) → steps_if (past_cast q op next) ≤ lane_steps next
+past_few q (Cast s t x) (Store a base ty c v) = by (is_made q v)
+  where
+    by : (b : Bool) → steps_if (if b then Some (Store a base ty c x) else None) ≤ 1 + offset_steps c
+    by true = omega arith
+    by false = omega arith
+past_few q _ _ = omega arith
+
+joined_few : (w : Width) (l : Layout) (next : Item) (o : Option Op) (both following : List Listed) (here n : ℕ) → steps_if o ≤ lane_steps next.op → length both ≤ here + (lane_steps next.op + n) → length following ≤ n → length (either_words w l next o both following) ≤ here + (lane_steps next.op + n)
+joined_few w l next None both following here n le h k = h
+joined_few w l next (Some op) both following here n le h k =
     let few = words_few w l next.item (mask_register l.registers next.mask) op in
-    subst (λ c. c ≤ 6 + n) (sym (length-append (item_words w l (record next { op = op })) following)) (omega (arith, k, few))
+    subst (λ c. c ≤ here + (lane_steps next.op + n)) (sym (length-append (item_words w l (record next { op = op })) following)) (omega (arith, k, few, le))
 
 pub few_words : FewWords
 few_words w l [] = omega arith
-few_words w l (it ∷ []) = words_few w l it.item (mask_register l.registers it.mask) it.op
+few_words w l (it ∷ []) = let here = words_few w l it.item (mask_register l.registers it.mask) it.op in omega (arith, here)
 few_words w l (it ∷ next ∷ items) =
     let here = words_few w l it.item (mask_register l.registers it.mask) it.op in
     let following = few_words w l (next ∷ items) in
-    let last = few_words w l items in
-    let n = 3 * length items in
-    let both : length (item_words w l it ++ items_words w l (next ∷ items)) ≤ 6 + 3 * length items =
-    subst (λ c. c ≤ 6 + 3 * length items) (sym (length-append (item_words w l it) (items_words w l (next ∷ items)))) (omega (arith, here, following)) in
-    let all = joined_few w l next (past_cast it.item it.op next.op) (item_words w l it ++ items_words w l (next ∷ items)) (items_words w l items) (3 * length items) both last in
-    omega (arith, all)
+    let both : length (item_words w l it ++ items_words w l (next ∷ items)) ≤ lane_steps it.op + (lane_steps next.op + items_steps false items) =
+    subst (λ c. c ≤ lane_steps it.op + (lane_steps next.op + items_steps false items)) (sym (length-append (item_words w l it) (items_words w l (next ∷ items)))) (omega (arith, here, following)) in
+    joined_few w l next (past_cast it.item it.op next.op) (item_words w l it ++ items_words w l (next ∷ items)) (items_words w l items) (lane_steps it.op) (items_steps false items) (past_few it.item it.op next.op) both (few_words w l items)

@@ -1,5 +1,5 @@
 -- The law that the code of items does what the items do over the lanes of a chunk.
-use Rattle.std.specs.Prelude.{ℕ, ◌*◌, ◌≤◌, List, length}
+use Rattle.std.specs.Prelude.{ℕ, ◌≤◌, false, List, length}
 use Rattle.guest_types.specs.declared.length.Width.{Width}
 use Rattle.guest_types.specs.Memory.{Memory}
 use Rattle.machine_model.specs.declared.outcome.StopKind.{StopKind}
@@ -10,6 +10,7 @@ use Rattle.label_fix.specs.Stretches.{Goes, Stops}
 use Rattle.vector_order.specs.Orders.{Lanes, Out, Fine, Fail, by_item}
 use Rattle.loop_form.specs.LoopItems.{Item}
 use Rattle.vector_order.specs.Items.{acts_of}
+use Rattle.close_bound.specs.CloseBound.{items_steps}
 use Rattle.chunk_emit.specs.Registers.{Layout}
 use Rattle.chunk_emit.specs.ChunkCode.{items_words, puts}
 use Rattle.chunk_emit.specs.Chunk.{Setting, Holds}
@@ -28,6 +29,6 @@ ItemsRun =
     (l : Layout) (f : Setting) (d : Laid) (rest : List Entry) (items : List Item) (p : ℕ) (t : Lanes) (s : State) → Assigned l → FitsItems l f p items → Holds l f p t s
     → Does l f d (puts (items_words f.w l items) rest) s rest (following_items p items) (length (items_words f.w l items)) (by_item (acts_of f.names items) f.n f.i t)
 
--- No item has more than three words.
+-- Items have no more words than they may take steps.
 abbrev pub FewWords : Type 0
-FewWords = (w : Width) (l : Layout) (items : List Item) → length (items_words w l items) ≤ 3 * length items
+FewWords = (w : Width) (l : Layout) (items : List Item) → length (items_words w l items) ≤ items_steps false items

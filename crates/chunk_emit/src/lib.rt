@@ -21,7 +21,7 @@ pub fn items_run()
     ensures { ItemsRun }
 {}
 
-/// The code of a loop's items has at most three words an item.
+/// The code of a loop's items has at most as many words as the bound counts steps of these items.
 pub fn few_words()
     ensures { FewWords }
 {}

@@ -1,26 +1,47 @@
 -- The steps of a break region as the code makes them.
-use Rattle.std.proofs.Common.{◌≡◌, ℕ, zero, suc, ◌+◌, ◌<◌, ◌≤◌, not, ◌&&◌, List, [], ◌∷◌, length, Option, Some, None, drop, refl, sym, ap, ◌∙◌, arith}
-use Rattle.std.specs.Prelude.{slice_get, slice_index_or, option_map}
+use Rattle.std.proofs.Common.{◌≡◌, ℕ, zero, suc, ◌+◌, ◌<◌, ◌≤◌, Bool, true, false, not, ◌&&◌, List, [], ◌∷◌, length, Option, Some, None, drop, refl, sym, ap, ◌∙◌, arith}
+use Rattle.std.specs.Prelude.{nat_eq, slice_get, slice_index_or, option_map, if◌then◌else◌}
 use Rattle.guest_types.specs.declared.length.Width.{Width}
 use Rattle.loop_form.specs.declared.loop_item.LoopItem.{LoopItem}
 use Rattle.loop_form.specs.LoopView.{view_of, view}
-use Rattle.loop_form.specs.LoopItems.{Item}
+use Rattle.loop_form.specs.LoopItems.{Op, Item}
+use Rattle.close_bound.specs.CloseBound.{early_steps, item_steps, items_steps}
+use Rattle.close_bound.proofs.CloseBounds.{lane_some}
 use Rattle.chunk_emit.specs.Registers.{Layout}
 use Rattle.chunk_emit.specs.Writable.{IsWritable, AreWritable}
 use Rattle.chunk_emit.proofs.StepCode.{no_item, at_place}
-use Rattle.first_fault.specs.SplitBreaks.{takes_truth, next_item, ends_second, in_second, is_split, opens, Spot, Alone, Second, Closed, after_opening, after_second, next_spot, opening, second_step, step_at, with_step, steps_from, split_breaks}
+use Rattle.first_fault.specs.SplitBreaks.{takes_truth, next_item, ends_second, in_second, is_split, opens, Spot, Alone, Second, Closed, after_opening, after_second, opening, second_step, steps_from, split_breaks}
 
--- ---- how many
+-- ---- how many steps
 
-from_few : (l : Layout) (spot : Spot) (items : List Item) → length (steps_from l spot items) ≤ length items
+early_some : (mask : Option ℕ) (op : Op) → 2 ≤ early_steps mask op
+early_some None op = let k = lane_some op in omega (arith, k)
+early_some (Some q) op = let k = lane_some op in omega (arith, k)
+
+opening_few : (it : Item) (o : Option ℕ) → item_steps true (opening it o) ≤ item_steps true it
+opening_few it None = omega arith
+opening_few it (Some c) = early_some it.mask it.op
+
+-- without its mark an item has fewer
+unmasked_few : (b : Bool) (q : ℕ) (op : Op) → early_steps (if b then None else Some q) op ≤ early_steps (Some q) op
+unmasked_few true q op = omega arith
+unmasked_few false q op = omega arith
+
+second_few : (m : ℕ) (it : Item) (o : Option ℕ) → item_steps true (second_step m it o) ≤ early_steps o it.op
+second_few m it None = early_some None it.op
+second_few m it (Some q) = unmasked_few (nat_eq q m) q it.op
+
+from_few : (l : Layout) (spot : Spot) (items : List Item) → items_steps true (steps_from l spot items) ≤ items_steps true items
 from_few l spot [] = omega arith
-from_few l spot (it ∷ items) = by (step_at l spot it items) (from_few l (next_spot l spot it items) items)
-  where
-    by : (o : Option Item) → length (steps_from l (next_spot l spot it items) items) ≤ length items → length (with_step o (steps_from l (next_spot l spot it items) items)) ≤ length (it ∷ items)
-    by None h = omega (arith, h)
-    by (Some made) h = omega (arith, h)
+from_few l Alone (it ∷ items) =
+    let o = opens l it.item it.mask it.op items in
+    let here = opening_few it o in
+    let more = from_few l (after_opening it.item o) items in
+    omega (arith, here, more)
+from_few l (Second m) (it ∷ items) = let here = second_few m it it.mask in let more = from_few l (after_second m it.mask) items in omega (arith, here, more)
+from_few l Closed (it ∷ items) = let more = from_few l Alone items in omega (arith, more)
 
-pub steps_few : (l : Layout) (items : List Item) → length (split_breaks l items) ≤ length items
+pub steps_few : (l : Layout) (items : List Item) → items_steps true (split_breaks l items) ≤ items_steps true items
 steps_few l items = from_few l Alone items
 
 -- ---- they can be written

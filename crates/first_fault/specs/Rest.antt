@@ -1,5 +1,5 @@
 -- From the break region to the rest of the body.
-use Rattle.std.specs.Prelude.{◌≡◌, ℕ, ◌+◌, ◌*◌, ◌<◌, ◌≤◌, List, [], length}
+use Rattle.std.specs.Prelude.{◌≡◌, ℕ, ◌+◌, ◌<◌, ◌≤◌, true, List, [], length}
 use Rattle.guest_types.specs.declared.length.Width.{Width}
 use Rattle.guest_types.specs.EarlyLoads.{StopList}
 use Rattle.guest_types.specs.Memory.{Memory}
@@ -8,6 +8,7 @@ use Rattle.machine_model.specs.Machine.{State}
 use Rattle.vector_order.specs.Orders.{Lane, Lanes, Fine, by_item}
 use Rattle.vector_order.specs.Regions.{run_lane}
 use Rattle.loop_form.specs.LoopItems.{Item}
+use Rattle.close_bound.specs.CloseBound.{items_steps}
 use Rattle.vector_order.specs.Items.{acts_of}
 use Rattle.chunk_emit.specs.Registers.{Layout}
 use Rattle.chunk_emit.specs.Chunk.{Setting, Holds}
@@ -43,10 +44,10 @@ RestHolds =
     (mode : Mode) (l : Layout) (f : Setting) (items : List Item) (p k q : ℕ) (t : Lanes) (s end : State) (new : ℕ → Lane) → Assigned l → FitsRegion l f p items → Holds l f p t s → ((e : ℕ) → e < f.n → (t.lane (f.i + e)).shares ≡ [])
     → ((e : ℕ) → e < k → region_way f.names items (f.i + e) t.memory (t.lane (f.i + e)) ≡ On (new (f.i + e))) → Inside mode l f s k q new end → NoTruthLive l q → RestStarts l f items t k q end
 
--- The region over a chunk has one word and at most five an item, that over one lane at most four an item.
+-- The region has no more words than its items may take steps, and one over a chunk.
 pub record FewWords (w : Width) (l : Layout) (items : List Item) : Type 0 where
-  pub exits : length (exits_words w l items) ≤ 1 + 5 * length items
-  pub single : length (single_words w l items) ≤ 4 * length items
+  pub exits : length (exits_words w l items) ≤ 1 + items_steps true items
+  pub single : length (single_words w l items) ≤ items_steps true items
 
 abbrev pub AlwaysFew : Type 0
 AlwaysFew = (w : Width) (l : Layout) (items : List Item) → FewWords w l items

@@ -4,17 +4,11 @@ use Rattle.std.specs.List.{list_any}
 use Rattle.kernel_tree.specs.Plain.{PlainLoop, Program}
 use Rattle.kernel_meaning.specs.Eval.{Names}
 use Rattle.dependence.specs.Classes.{class_of}
+pub use Rattle.close_bound.specs.CloseBound.{quits, is_quit}
 use Rattle.dependence.specs.declared.reason.Class.TheVariants.{Vector}
 use Rattle.vector_order.specs.Regions.{AllQuiet}
-use Rattle.loop_form.specs.LoopItems.{Op, Gather, Store, Add, Quit, Item, loop_items}
+use Rattle.loop_form.specs.LoopItems.{Op, Gather, Store, Add, Item, loop_items}
 use Rattle.vector_order.specs.Items.{acts_of}
-
-abbrev pub quits : Op → Bool
-quits (Quit c) = true
-quits _ = false
-
-abbrev pub is_quit : Item → Bool
-is_quit it = quits it.op
 
 abbrev pub writes : Op → Bool
 writes (Gather a base t r u x) = true

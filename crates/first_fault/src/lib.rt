@@ -56,7 +56,7 @@ pub fn rest_holds()
     ensures { RestHolds }
 {}
 
-/// The region has at most one word and five an item over a chunk, and four an item over one lane.
+/// The region has at most as many words as the bound counts steps of its items, and over a chunk one more.
 pub fn always_few()
     ensures { AlwaysFew }
 {}

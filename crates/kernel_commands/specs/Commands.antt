@@ -16,7 +16,7 @@ use Rattle.reg_assign.specs.declared.interval.RegClass.{RegClass}
 use Rattle.loop_form.specs.Needs.{needs_of}
 use Rattle.promises.specs.declared.fault.CompileFault.{CompileFault}
 use Rattle.promises.specs.declared.fault.CompileFault.TheVariants as compiling
-use Rattle.promises.specs.Faithful.{FreeFaithful, FreeEnds}
+use Rattle.promises.specs.Faithful.{FreeFaithful, FreeEnds, CloseFaithful}
 use Rattle.promises.specs.Refusals.{too_many, need_in}
 use Rattle.check_text.specs.CheckText.{check_text}
 use Rattle.command_line.specs.Line.{Task, Extent}
@@ -60,11 +60,12 @@ pub record HasWords (most : ℕ) (file : List ℕ) : Type 0 where
   pub file_is : file ≡ file_of_words words
 
 -- The text is that of a sound kernel, and the file is faithful to it, whatever stop list a machine has: within the bound that counts
--- chunks and the free elements that are suppressed, and within the one that counts iterations alone.
+-- chunks and the free elements that are suppressed, within the close one, and within the one that counts iterations alone.
 pub record CompilesTo (text file : List ℕ) : Type 0 where
   pub kernel : Program
   pub sound : IsVerdict text (Sound kernel)
   pub faithful : FreeFaithful kernel file
+  pub close : CloseFaithful kernel file
   pub ends : FreeEnds kernel file
   pub code : HasWords (1000 + 60 * size_of kernel) file
   pub small : size_of kernel ≤ 1000

@@ -5,7 +5,7 @@ ghost use Rattle.io_edges.specs.Files.{Rose, content};
 ghost use Rattle.kernel_tree.specs.Plain.{program_of};
 ghost use Rattle.kernel_tree.specs.Checked.{kernel_of};
 ghost use Rattle.kernel_tree.specs.Items.{size_of};
-ghost use Rattle.promises.specs.Faithful.{FreeFaithful, FreeEnds};
+ghost use Rattle.promises.specs.Faithful.{FreeFaithful, FreeEnds, CloseFaithful};
 ghost use Rattle.command_answers.specs.Answer.{answer_of, IsFileAnswer, IsKept, Unwritten};
 ghost use Rattle.kernel_commands.specs.Commands.{of_compile, compiled, CompileExpects, ExpectsCompile, CompilesTo, HasWords, IsCompiled, RefusesText, RefusesCompile, IsOfCompile};
 ghost use Rattle.command_answers.specs.Reads.{ChangesOnly};
@@ -35,6 +35,7 @@ fn of_compile(fault: CompileFault) -> Refusal
 // The executable of a kernel.
 fn executable(alloc: Global, kernel: &Checked) -> Result<Vec<u8>, Refusal>
     ensures faithful { IfOk result (λ file. FreeFaithful (program_of (kernel_of kernel.now)) file.items) }
+    ensures close { IfOk result (λ file. CloseFaithful (program_of (kernel_of kernel.now)) file.items) }
     ensures ends { IfOk result (λ file. FreeEnds (program_of (kernel_of kernel.now)) file.items) }
     ensures code { IfOk result (λ file.
         HasWords (1000 + 60 * size_of (program_of (kernel_of kernel.now))) file.items) }

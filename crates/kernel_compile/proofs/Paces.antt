@@ -1,8 +1,6 @@
 -- A pace after a stretch, and how many words a pace allows in the bound of steps.
 use Rattle.std.proofs.Common.{◌≡◌, ℕ, ◌+◌, ◌-◌, ◌*◌, ◌<◌, ◌≤◌, List, refl, ap, ◌∙◌, subst, arith, ⊎_elim}
-use Rattle.std.specs.Int.{div_ceil}
 use Rattle.std.proofs.lemmas.Bool.{cases_lt}
-use Rattle.std.proofs.lemmas.Grind.{div_ceil_times}
 use Rattle.std.proofs.Math.Nat.{mul-le-mul_left}
 use Rattle.guest_types.specs.Memory.{Memory}
 use Rattle.machine_model.specs.declared.outcome.StopKind.{StopKind}
@@ -62,23 +60,7 @@ stop_count some a b = refl
 
 -- ---- the bound
 
--- L lanes at once, and a kernel of n items: no pace of a chunk's passes lasts as long as the bound.
-pub too_long : (L n m q cut steps : ℕ) → 1 ≤ L → 1000 + 100 * n + (32 + 8 * n) * (div_ceil m L + 2 + 4 * q) ≤ steps → cut ≤ q
-    → L * steps < L * (596 + 8 * n) + (L * (100 + 24 * n) + (32 + 8 * n) * (m + 5 * L)) + 2 * (L * (32 + 8 * n)) * cut → ⊥
-too_long L n m q cut steps some le few lt =
-    let turns = div_ceil m L in
-    let all : m ≤ turns * L = (div_ceil_times m L some).0 in
-    let a = mul-le-mul_left L le in
-    let b = mul-le-mul_left (32 + 8 * n) all in
-    let c = mul-le-mul_left (2 * (L * (32 + 8 * n))) few in
-    long turns a b c lt
-  where
-    long : (turns : ℕ) → L * (1000 + 100 * n + (32 + 8 * n) * (turns + 2 + 4 * q)) ≤ L * steps → (32 + 8 * n) * m ≤ (32 + 8 * n) * (turns * L) → 2 * (L * (32 + 8 * n)) * cut ≤ 2 * (L * (32 + 8 * n)) * q
-        → L * steps < L * (596 + 8 * n) + (L * (100 + 24 * n) + (32 + 8 * n) * (m + 5 * L)) + 2 * (L * (32 + 8 * n)) * cut → ⊥
-    long turns a b c lt = absurd (omega (arith, a, b, c, lt))
-
--- so a run within the pace has come to its end
-pub enough : (d : Laid) (c : List Entry) (s : State) (count L n m q steps : ℕ) → 1 ≤ L → 1000 + 100 * n + (32 + 8 * n) * (div_ceil m L + 2 + 4 * q) ≤ steps → cuts d steps c s ≤ q
-    → Paced d c s count L (2 * (L * (32 + 8 * n))) (L * (596 + 8 * n) + (L * (100 + 24 * n) + (32 + 8 * n) * (m + 5 * L))) → count ≤ steps
-enough d c s count L n m q steps some le few paced =
-    ⊎_elim (λ (short : steps < count). absurd (too_long L n m q (cuts d steps c s) steps some le few (paced steps short))) (λ (long : count ≤ steps). long) (cases_lt steps count)
+-- a run within a pace that gives no more words has come to its end
+pub enough : (d : Laid) (c : List Entry) (s : State) (count unit base steps : ℕ) → base + unit * cuts d steps c s ≤ steps → Paced d c s count 1 unit base → count ≤ steps
+enough d c s count unit base steps few paced =
+    ⊎_elim (λ (short : steps < count). (let lt = paced steps short in absurd (omega (arith, lt, few)))) (λ (long : count ≤ steps). long) (cases_lt steps count)

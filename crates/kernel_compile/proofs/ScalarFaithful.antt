@@ -7,10 +7,10 @@ use Rattle.machine_model.specs.Run.{Outcome, run, free_start}
 use Rattle.machine_model.specs.Written.{file_of, code_base, image_of_words}
 use Rattle.machine_model.proofs.WrittenLoads.{load-file_of}
 use Rattle.kernel_tree.specs.Plain.{Program}
-use Rattle.kernel_tree.specs.Items.{size_of}
 use Rattle.kernel_meaning.specs.ScalarRun as scalar
 use Rattle.kernel_meaning.specs.ScalarRun.{begun, scalar_run}
 use Rattle.kernel_meaning.proofs.RunsFrom.{start_within, whole_run}
+use Rattle.close_bound.specs.CloseBound.{iteration_steps, outside_steps}
 use Rattle.label_fix.specs.DraftRun.{Entry, Laid, draft_run}
 use Rattle.label_fix.specs.Finished.{AreFit, StandAt, size, words_of}
 use Rattle.label_fix.specs.Stretches.{Goes, Resolves}
@@ -21,7 +21,7 @@ use Rattle.scalar_emit.specs.Kernel.{begin_code, scalar_code, begin_labels}
 use Rattle.scalar_emit.specs.Runs.{HasArguments, BeginRuns, ScalarRuns}
 use Rattle.scalar_words.specs.Iterations.{Comes, ends_so, faults_so}
 use Rattle.scalar_emit.proofs.Placed.{whole_once}
-use Rattle.promises.specs.Faithful.{Follows, FreeSlowFaithful}
+use Rattle.promises.specs.Faithful.{Follows, CloseSlowFaithful}
 use Rattle.kernel_compile.proofs.FileStart.{starts, start_memory, words_stand}
 
 -- ---- runs that end
@@ -58,15 +58,15 @@ comes_follow {D = D} {c = c} {s = s} {K = K} {F = F} k args vl steps le (faults_
 
 module _ (R : ℕ → ℕ) (k : Program) (begins : BeginRuns R k) (runs : ScalarRuns R k) where
   code_comes : (D : Laid) (n : ℕ) (args : List ℕ) (m : Memory) (s : State) → HasArguments args m s → Resolves D (begin_code R k 0 (scalar_code R k n [])) → Resolves D (scalar_code R k n [])
-      → Comes D (begin_code R k 0 (scalar_code R k n [])) s (32 + 8 * size_of k) (72 + 16 * size_of k) 0 (scalar_run k args m)
+      → Comes D (begin_code R k 0 (scalar_code R k n [])) s (iteration_steps k) (outside_steps k) 0 (scalar_run k args m)
   code_comes D n args m s given all res =
       let b = begins D 0 (scalar_code R k n []) args m s given all in
       let c = runs.reached D n [] 0 b.names m b.end res (start_within k.turns b.names) b.at in
-      subst (λ r. Comes D (begin_code R k 0 (scalar_code R k n [])) s (32 + 8 * size_of k) (72 + 16 * size_of k) 0 r) (whole_run k args m b.names b.starts) (comes_after (omega arith) b.goes c)
+      subst (λ r. Comes D (begin_code R k 0 (scalar_code R k n [])) s (iteration_steps k) (outside_steps k) 0 r) (whole_run k args m b.names b.starts) (comes_after (omega arith) b.goes c)
 
   -- Entries that are the code of a kernel, after a front, come to a file that does what the kernel says.
   pub compiled : (labels n : ℕ) (entries front : List Entry) (words : List ℕ) → entries ≡ front ++ scalar_code R k n [] → entries ≡ begin_code R k 0 (scalar_code R k n []) → Once entries → AreFit labels entries → size entries ≤ 65536 → words ≡ words_of entries → All (λ w. w < 2 ^ 32) words
-      → FreeSlowFaithful k (file_of words)
+      → CloseSlowFaithful k (file_of words)
   compiled labels n entries front words following begun_by placed fits few is small =
       let many : length words ≤ 65536 = omega (arith, ap length is, words_length entries) in
       record {
@@ -83,7 +83,7 @@ module _ (R : ℕ → ℕ) (k : Program) (begins : BeginRuns R k) (runs : Scalar
             let given : HasArguments args m s0 = record { few = start.few; words = start.words; sized = st.sized; held = st.given; memory = st.memory; good = start_memory words pages many start.memory start.apart } in
             let c = code_comes D n args m s0 given (resolves_in D code [] begun_by placed) (resolves_in D (scalar_code R k n []) front following placed) in
             let b = begun (scalar_run k args m) in
-            let enough : (32 + 8 * size_of k) * b + (72 + 16 * size_of k) ≤ steps = omega (arith, le) in
+            let enough : iteration_steps k * b + outside_steps k ≤ steps = omega (arith, le) in
             let f = comes_follow k args vl steps enough c in
             (run steps 0 s0, ap (λ l. elim l as (λ x. Option Outcome) [ Ok image ↦ Some (run steps 0 (free_start image args pages vl stops)) | Err fault ↦ None ]) (load-file_of words many), subst (λ o. Follows k args vl (scalar_run k args m) o) (sym same) f);
       }

@@ -12,7 +12,7 @@ use Rattle.machine_model.proofs.StateSteps.{free_start_is}
 use Rattle.kernel_tree.specs.Plain.{Program}
 use Rattle.kernel_meaning.specs.ScalarRun.{begun, scalar_run}
 use Rattle.reg_assign.specs.Registers.{Assignment}
-use Rattle.dependence.specs.Bound.{free_bound}
+use Rattle.close_bound.specs.CloseBound.{close_bound}
 use Rattle.label_fix.specs.DraftRun.{Entry, Laid, Place, draft_run}
 use Rattle.label_fix.specs.Cuts.{cuts}
 use Rattle.label_fix.specs.Finished.{AreFit, StandAt, size, words_of}
@@ -20,10 +20,10 @@ use Rattle.label_fix.proofs.LabelsOnce.{Once, resolves_in}
 use Rattle.label_fix.proofs.PlacedRuns.{runs_as_draft, cuts_are_suppressed, words_length}
 use Rattle.scalar_words.specs.KernelRegisters.{register_in}
 use Rattle.scalar_emit.specs.Runs.{HasArguments}
-use Rattle.promises.specs.Faithful.{Follows, IsFaithful, IsAny, FreeFaithful, FreeEnds, end_steps}
+use Rattle.promises.specs.Faithful.{Follows, IsFaithful, IsAny, FreeEnds, CloseFaithful, end_steps}
 use Rattle.kernel_compile.proofs.FileStart.{image_memory, starts, start_memory, words_stand}
 use Rattle.kernel_compile.proofs.VectorPlaced.{whole_code}
-use Rattle.kernel_compile.proofs.VectorJoin.{scalar_part, guard_part, vector_part, IsJoined, Suffices, by_chunks, by_turns, code_follows}
+use Rattle.kernel_compile.proofs.VectorJoin.{scalar_part, guard_part, vector_part, IsJoined, Suffices, by_close, by_turns, code_follows}
 
 -- ---- the state at the start
 
@@ -99,11 +99,11 @@ file_within enough k a b c labels n1 n2 n3 entries words suffices j w fits few i
 
 -- both promises on a file
 pub record Promised (k : Program) (file : List ℕ) : Type 0 where
-  pub faithful : FreeFaithful k file
+  pub close : CloseFaithful k file
   pub ends : FreeEnds k file
 
 pub vector_file : (k : Program) (a b c : Assignment) (labels n1 n2 n3 : ℕ) (entries : List Entry) (words : List ℕ) → IsJoined k a b c → IsWhole (register_in c) k a b n1 n2 n3 entries → AreFit labels entries → size entries ≤ 65536 → words ≡ words_of entries → All (λ w. w < 2 ^ 32) words → Promised k (file_of words)
 vector_file k a b c labels n1 n2 n3 entries words j w fits few is small = record {
-  faithful = file_within free_bound k a b c labels n1 n2 n3 entries words (λ args vl m cut q steps few le. by_chunks q few le) j w fits few is small;
+  close = file_within close_bound k a b c labels n1 n2 n3 entries words (λ args vl m cut q steps few le. by_close q few le) j w fits few is small;
   ends = file_within end_steps k a b c labels n1 n2 n3 entries words (λ args vl m cut q steps few le. by_turns q le) j w fits few is small;
 }

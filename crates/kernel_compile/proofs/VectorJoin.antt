@@ -3,15 +3,14 @@ use Rattle.std.proofs.Common.{◌≡◌, ℕ, ◌+◌, ◌-◌, ◌*◌, ◌<◌
 use Rattle.std.specs.Prelude.{◌&&◌, slice_index, if◌then◌else◌}
 use Rattle.std.specs.Int.{div_ceil}
 use Rattle.std.proofs.lemmas.Bool.{cases_lt}
-use Rattle.guest_types.specs.declared.length.Width.{Width}
-use Rattle.guest_types.specs.declared.length.Width.TheVariants as width
-use Rattle.guest_types.specs.Length.{IsLength, lanes}
+use Rattle.std.proofs.Math.Nat.{mul-le-mul_left, mul-le-mul_right}
+use Rattle.guest_types.specs.Length.{lanes}
 use Rattle.guest_types.specs.Memory.{Memory, IsMemory, byte_at, can_read}
 use Rattle.machine_model.specs.Machine.{State, jump}
 use Rattle.machine_model.specs.Run.{End, Stop, memory_left}
 use Rattle.machine_model.specs.States.{IsState}
 use Rattle.kernel_tree.specs.Plain.{Program}
-use Rattle.kernel_tree.specs.Items.{size_of}
+use Rattle.kernel_tree.specs.Items.{size_of, vars_size, loop_index}
 use Rattle.kernel_tree.specs.Grammar.{IsTree}
 use Rattle.kernel_tree.specs.Typing.{check_fault}
 use Rattle.kernel_meaning.specs.Eval.{Names}
@@ -22,8 +21,10 @@ use Rattle.reg_assign.specs.declared.interval.RegClass.TheVariants.{X, Z, P}
 use Rattle.reg_assign.specs.Registers.{Assignment}
 use Rattle.loop_form.specs.Lanes.{lane_width_of}
 use Rattle.loop_form.specs.Registers.{FitsKernel}
-use Rattle.dependence.specs.Apart.{Apart, bound_place}
-use Rattle.dependence.specs.Bound.{is_apart, is_vector, at_once, free_bound}
+use Rattle.dependence.specs.Apart.{Apart, used_of, bound_place}
+use Rattle.dependence.specs.Bound.{is_apart, is_vector, runs_in_chunks, at_once}
+use Rattle.close_bound.specs.CloseBound.{has_break, pass_steps, passes, spare, iteration_steps, last_steps, guard_steps, ending_steps, outside_steps, loop_steps, close_bound}
+use Rattle.close_bound.proofs.CloseBounds.{pass_few, last_few, outside_few}
 use Rattle.dependence.specs.Classes.{class_of}
 use Rattle.dependence.specs.declared.reason.Class.TheVariants.{Vector}
 use Rattle.dependence.proofs.Bounds.{tested}
@@ -41,7 +42,7 @@ use Rattle.overlap_guard.specs.Meets.{Passes, Chooses, on_where, off_where, Meet
 use Rattle.vector_emit.proofs.FromBelow.{Ground, IsGround, most_lanes, limit}
 use Rattle.vector_emit.specs.VectorCode.{vector_code}
 use Rattle.vector_emit.specs.VectorRuns as vectors
-use Rattle.vector_emit.specs.VectorRuns.{Near, VectorRuns, turn_steps, vector_base, vector_most}
+use Rattle.vector_emit.specs.VectorRuns.{Near, VectorRuns, edge_steps, vector_base, vector_unit, vector_most}
 use Rattle.promises.specs.Faithful.{Follows, IsNearFault, end_steps}
 use Rattle.kernel_compile.proofs.ScalarFaithful.{comes_after, comes_follow}
 use Rattle.kernel_compile.proofs.MapStays.{draft_map}
@@ -53,13 +54,11 @@ use Rattle.kernel_compile.proofs.VectorPlaced.{whole_code}
 
 -- ---- how many iterations are run at once
 
-all_lanes : (k : Program) (args : List ℕ) (vl : ℕ) → class_of k ≡ Vector → Apart k args → at_once k args vl ≡ lanes vl (lane_width_of k)
-all_lanes k args vl vector apart =
-    ap (λ c. if is_vector c && is_apart k args then lanes vl (lane_width_of k) else 1) vector ∙ ap (λ b. if b then lanes vl (lane_width_of k) else 1) ((tested k args).1 apart)
+in_chunks : (k : Program) (args : List ℕ) → class_of k ≡ Vector → Apart k args → runs_in_chunks k args ≡ true
+in_chunks k args vector apart = ap (λ c. is_vector c && is_apart k args) vector ∙ (tested k args).1 apart
 
-one_lane : (k : Program) (args : List ℕ) (vl : ℕ) → class_of k ≡ Vector → (Apart k args → ⊥) → at_once k args vl ≡ 1
-one_lane k args vl vector not =
-    ap (λ c. if is_vector c && is_apart k args then lanes vl (lane_width_of k) else 1) vector ∙ ap (λ b. if b then lanes vl (lane_width_of k) else 1) (by (is_apart k args) refl)
+one_by_one : (k : Program) (args : List ℕ) → class_of k ≡ Vector → (Apart k args → ⊥) → runs_in_chunks k args ≡ false
+one_by_one k args vector not = ap (λ c. is_vector c && is_apart k args) vector ∙ by (is_apart k args) refl
   where
     by : (b : Bool) → is_apart k args ≡ b → b ≡ false
     by false e = refl
@@ -67,11 +66,15 @@ one_lane k args vl vector not =
 
 -- ---- how many steps suffice
 
--- Of a run that begins m iterations: by the bound that counts chunks and free elements, of which `cut` are suppressed in these
--- steps, or by the one that counts iterations alone.
+-- Of a run that begins m iterations: by the close bound and free elements, of which `cut` are suppressed in these steps, or by
+-- the bound that counts iterations alone.
 pub data Suffices (k : Program) (args : List ℕ) (vl m cut steps : ℕ) : Type 0 where
-  by_chunks : (q : ℕ) → cut ≤ q → free_bound k args vl m q ≤ steps → Suffices k args vl m cut steps
+  by_close : (q : ℕ) → cut ≤ q → close_bound k args vl m q ≤ steps → Suffices k args vl m cut steps
   by_turns : (q : ℕ) → end_steps k args vl m q ≤ steps → Suffices k args vl m cut steps
+
+-- the words up to the loop
+abbrev reach_steps : Program → ℕ
+reach_steps k = 2 + length k.params + 4 * vars_size (loop_index k) k.vars + guard_steps (used_of k)
 
 -- ---- outcomes
 
@@ -96,45 +99,63 @@ module _ (g : Ground) (is : IsGround g) (memory left faulted : Memory) (bg : ℕ
 fault_map : {D : Laid} {o : List Entry} {t : State} {K F i bg : ℕ} {m : Memory} (a : ℕ) → Comes D o t K F i (scalar.Fault m bg) → can_read m a ≡ can_read t.memory a
 fault_map {D = D} {o = o} {t = t} a (faults_so n kind e ok h) = ap (λ x. can_read (memory_left x) a) (sym (h.by 0 0)) ∙ draft_map D (h.count + 0) 0 o t a
 
--- in the bound, with the lanes of a chunk for what is run at once
-few_steps : (k : Program) (args : List ℕ) (vl L m q steps : ℕ) → at_once k args vl ≡ L → free_bound k args vl m q ≤ steps → 1000 + 100 * size_of k + (32 + 8 * size_of k) * (div_ceil m L + 2 + 4 * q) ≤ steps
-few_steps k args vl L m q steps e le = subst (λ n. 1000 + 100 * size_of k + (32 + 8 * size_of k) * (div_ceil m n + 2 + 4 * q) ≤ steps) e le
+-- the bound, by whether the iterations are run in chunks
+close_as : (k : Program) (args : List ℕ) (vl m q steps : ℕ) (b : Bool) → runs_in_chunks k args ≡ b → close_bound k args vl m q ≤ steps → outside_steps k + loop_steps b k (lanes vl (lane_width_of k)) m q ≤ steps
+close_as k args vl m q steps b e le = subst (λ c. outside_steps k + loop_steps c k (lanes vl (lane_width_of k)) m q ≤ steps) e le
 
 -- the words of scalar code, where iterations are run one by one
-one_by_one : (k : Program) (args : List ℕ) (vl m cut steps : ℕ) → at_once k args vl ≡ 1 → Suffices k args vl m cut steps → (32 + 8 * size_of k) * m + (628 + 16 * size_of k) ≤ steps
-one_by_one k args vl m cut steps alone (by_chunks q few le) =
-    let bound = few_steps k args vl 1 m q steps alone le in
-    let each : div_ceil m 1 ≡ m = omega arith in
-    let turns = ap (λ d. (32 + 8 * size_of k) * (d + 2 + 4 * q)) each in
-    omega (arith, bound, turns)
-one_by_one k args vl m cut steps alone (by_turns q le) = omega (arith, le)
+scalar_suffices : (k : Program) (args : List ℕ) (vl m cut steps : ℕ) → length k.params ≤ 8 → runs_in_chunks k args ≡ false → Suffices k args vl m cut steps → iteration_steps k * m + (reach_steps k + ending_steps k) ≤ steps
+scalar_suffices k args vl m cut steps params alone (by_close q few le) = let h = close_as k args vl m q steps false alone le in omega (arith, h)
+scalar_suffices k args vl m cut steps params alone (by_turns q le) =
+    let out = outside_few k params in
+    let each : iteration_steps k * m ≤ (32 + 8 * size_of k) * 2 * m = mul-le-mul_right m (let f : iteration_steps k ≤ (32 + 8 * size_of k) * 2 = omega arith in f) in
+    omega (arith, out, each, le)
 
 -- A run through the vector part: c is the whole code from the state s on, e the vector part and o the scalar part, both from t on.
 record Entered (g : Ground) (D : Laid) (c e o : List Entry) (s t : State) (vl : ℕ) (m : Memory) : Type 0 where
   is : IsGround g
   bound : limit g ≡ slice_index g.args (bound_place g.kernel)
-  lanes : at_once g.kernel g.args vl ≡ most_lanes g
-  some : 1 ≤ most_lanes g
-  goes : Goes D c s e t (596 + 8 * size_of g.kernel)
+  params : length g.kernel.params ≤ 8
+  chunks : runs_in_chunks g.kernel g.args ≡ true
+  lanes : lanes vl (lane_width_of g.kernel) ≡ most_lanes g
+  goes : Goes D c s e t (reach_steps g.kernel)
   good : IsMemory m
   from : s.memory ≡ m
   here : t.memory ≡ m
 
+-- so many are run at once
+at_lanes : {g : Ground} {D : Laid} {c e o : List Entry} {s t : State} {vl : ℕ} {m : Memory} → Entered g D c e o s t vl m → at_once g.kernel g.args vl ≡ most_lanes g
+at_lanes {g = g} {vl = vl} x = ap (λ b. if b then lanes vl (lane_width_of g.kernel) else 1) x.chunks ∙ x.lanes
+
+-- the words of the passes, with those of some free elements
+in_bound : (U D e r q base rest out last steps : ℕ) → r ≤ q → base + 1 + rest ≤ out + last → out + (U * (D + e * (1 + q)) + last) ≤ steps → base + (1 + rest + U * (D + e * (1 + 0))) + U * e * r ≤ steps
+in_bound U D e r q base rest out last steps few within le = let up : U * e * r ≤ U * e * q = mul-le-mul_left (U * e) few in omega (arith, up, within, le)
+
 -- so many steps are not fewer than the words of such a run
 in_steps : {g : Ground} {D : Laid} {c e o : List Entry} {s t : State} {vl : ℕ} {m : Memory} → Entered g D c e o s t vl m → (bg count steps : ℕ) → Suffices g.kernel g.args vl bg (cuts D steps c s) steps
-    → Paced D c s count (most_lanes g) (2 * (most_lanes g * turn_steps g)) (most_lanes g * (596 + 8 * size_of g.kernel) + vector_base g bg) → count ≤ 596 + 8 * size_of g.kernel + vector_most g bg → count ≤ steps
-in_steps {g = g} {D = D} {c = c} {s = s} {vl = vl} x bg count steps (by_chunks q cut le) paced few = enough D c s count (most_lanes g) (size_of g.kernel) bg q steps x.some (few_steps g.kernel g.args vl (most_lanes g) bg q steps x.lanes le) cut paced
-in_steps x bg count steps (by_turns q le) paced few = omega (arith, le, few)
+    → Paced D c s count 1 (vector_unit g) (1 * reach_steps g.kernel + vector_base g bg) → count ≤ reach_steps g.kernel + vector_most g bg → count ≤ steps
+in_steps {g = g} {D = D} {c = c} {s = s} {vl = vl} x bg count steps (by_close q cut le) paced few =
+    let k = g.kernel in
+    let whole = close_as k g.args vl bg q steps true x.chunks le in
+    let here : outside_steps k + (pass_steps k * passes k (most_lanes g) bg q + last_steps (has_break k) k) ≤ steps = subst (λ n. outside_steps k + (pass_steps k * passes k n bg q + last_steps (has_break k) k) ≤ steps) x.lanes whole in
+    enough D c s count (vector_unit g) (1 * reach_steps k + vector_base g bg) steps
+    (in_bound (pass_steps k) (div_ceil bg (most_lanes g)) (spare (has_break k)) (cuts D steps c s) q (1 * reach_steps k) (edge_steps k) (outside_steps k) (last_steps (has_break k) k) steps cut (omega arith) here) paced
+in_steps {g = g} x bg count steps (by_turns q le) paced few =
+    let k = g.kernel in
+    let out = outside_few k x.params in
+    let last = last_few (has_break k) k in
+    let each : pass_steps k * (2 * bg + 2) ≤ (32 + 8 * size_of k) * (2 * bg + 2) = mul-le-mul_right (2 * bg + 2) (pass_few k) in
+    omega (arith, le, few, out, last, each)
 
-follows_chunk : {g : Ground} {D : Laid} {c e o : List Entry} {s t : State} {vl steps K F : ℕ} {m : Memory} {r : scalar.Run} → Entered g D c e o s t vl m → vectors.Follows g D e t (most_lanes g) (2 * (most_lanes g * turn_steps g)) (vector_base g) (vector_most g) r → Comes D o t K F 0 r
+follows_chunk : {g : Ground} {D : Laid} {c e o : List Entry} {s t : State} {vl steps K F : ℕ} {m : Memory} {r : scalar.Run} → Entered g D c e o s t vl m → vectors.Follows g D e t (vector_unit g) (vector_base g) (vector_most g) r → Comes D o t K F 0 r
     → Suffices g.kernel g.args vl (begun r) (cuts D steps c s) steps → Follows g.kernel g.args vl r (draft_run D steps 0 c s)
 follows_chunk {g = g} {D = D} {c = c} {s = s} {vl = vl} {steps = steps} x (vectors.ends_so {m = left} {r = result} {bg = bg} w most) h le =
-    let all = end_paced x.some x.goes w in
-    let few = in_steps x bg all.count steps le all.paced (let n = end_count x.some x.goes w in let f = x.goes.within in omega (arith, n, f, most)) in
+    let all = end_paced (omega arith) x.goes w in
+    let few = in_steps x bg all.count steps le all.paced (let n = end_count (omega arith) x.goes w in let f = x.goes.within in omega (arith, n, f, most)) in
     ends_within D c s g.kernel g.args vl steps left result bg all.count few all.by
 follows_chunk {g = g} {D = D} {c = c} {s = s} {t = t} {vl = vl} {steps = steps} {m = m} x (vectors.faults_so {m = faulted} {bg = bg} kind left access near w most) h le =
-    let all = stop_paced x.some x.goes w in
-    let few = in_steps x bg all.count steps le all.paced (let n = stop_count x.some x.goes w in let f = x.goes.within in omega (arith, n, f, most)) in
+    let all = stop_paced (omega arith) x.goes w in
+    let few = in_steps x bg all.count steps le all.paced (let n = stop_count (omega arith) x.goes w in let f = x.goes.within in omega (arith, n, f, most)) in
     let f : all.count + (steps - all.count) ≡ steps = omega (arith, few) in
     let stops : draft_run D steps 0 c s ≡ Stop kind all.pc all.at left (0 + all.count) = ap (λ j. draft_run D j 0 c s) (sym f) ∙ all.by (steps - all.count) 0 in
     record {
@@ -148,20 +169,10 @@ follows_chunk {g = g} {D = D} {c = c} {s = s} {t = t} {vl = vl} {steps = steps} 
       kept = λ address far.
           kept_near g x.is m left faulted bg x.bound near
           (λ a high. both_unmapped m left faulted a x.good high (ap (λ o. can_read (memory_left o) a) (sym stops) ∙ draft_map D steps 0 c s a ∙ ap (λ y. can_read y a) x.from) (fault_map a h ∙ ap (λ y. can_read y a) x.here))
-          address (λ n. far (subst (λ L. IsNearFault g.kernel g.args L bg address) (sym x.lanes) n));
+          address (λ n. far (subst (λ L. IsNearFault g.kernel g.args L bg address) (sym (at_lanes x)) n));
     }
 
 -- ---- the code
-
--- a vector has some lanes of any width
-some_lanes : (vl : ℕ) (k : Program) → IsLength vl → 1 ≤ lanes vl (lane_width_of k)
-some_lanes vl k h = by (lane_width_of k)
-  where
-    by : (w : Width) → 1 ≤ lanes vl w
-    by width.B = (let g = h.1 in omega (arith, g))
-    by width.H = (let g = h.1 in omega (arith, g))
-    by width.S = (let g = h.1 in omega (arith, g))
-    by width.D = (let g = h.1 in omega (arith, g))
 
 -- the parts of the code, each with what stands after it
 abbrev pub vector_part : (ℕ → ℕ) → Program → (a b : Assignment) → (n1 n3 : ℕ) → List Entry
@@ -188,7 +199,7 @@ record AtGuard (R : ℕ → ℕ) (k : Program) (a b : Assignment) (n1 n2 n3 : �
   names : Names
   starts : started k args m ≡ Some names
   end : State
-  goes : Goes D (whole_code R k a b n1 n2 n3) s (guard_part R k a b n1 n2 n3) end (41 + 8 * size_of k)
+  goes : Goes D (whole_code R k a b n1 n2 n3) s (guard_part R k a b n1 n2 n3) end (2 + length k.params + 4 * vars_size (loop_index k) k.vars)
   at : AtIteration R k 0 names m end
   vl : end.vl ≡ s.vl
 
@@ -215,32 +226,32 @@ module _ (k : Program) (a b c : Assignment) (j : IsJoined k a b c) where
       let begin = j.begins D 1 (Branch Always 0 ∷ scalar_part R k a b n1 n2 n3) args m s given is.whole in
       let t : State = jump begin.end (address_of D 0) in
       let taken : Goes D (Branch Always 0 ∷ scalar_part R k a b n1 n2 n3) begin.end (following D 0) t 1 = taken_goes refl in
-      let there : Goes D whole s (following D 0) t (41 + 8 * size_of k) = chain (41 + 8 * size_of k) (omega arith) begin.goes taken in
+      let there : Goes D whole s (following D 0) t (2 + length k.params + 4 * vars_size (loop_index k) k.vars) = chain (2 + length k.params + 4 * vars_size (loop_index k) k.vars) (omega arith) begin.goes taken in
       record {
         names = begin.names;
         starts = begin.starts;
         end = t;
-        goes = subst (λ es. Goes D whole s es t (41 + 8 * size_of k)) is.place there;
+        goes = subst (λ es. Goes D whole s es t (2 + length k.params + 4 * vars_size (loop_index k) k.vars)) is.place there;
         at = at_same R k 0 begin.names m begin.end t (homes_low k c j.x j.few) (λ r le. refl) refl refl begin.at;
         vl = ap (λ (f : Frame). f.vl) begin.frame;
       }
 
   -- to scalar code, where the arrays do not lie apart
   off_follows : (labels n1 n2 n3 : ℕ) (D : Laid) (args : List ℕ) (m : Memory) (s : State) (cut steps : ℕ) → IsLaid (register_in c) k a b labels n1 n2 n3 D → (h : AtGuard (register_in c) k a b n1 n2 n3 D args m s) → (Apart k args → ⊥)
-      → Passes D (guard_part (register_in c) k a b n1 n2 n3) h.end (following D n1) → Suffices k args s.vl (begun (scalar_run k args m)) cut steps → Follows k args s.vl (scalar_run k args m) (draft_run D steps 0 (whole_code (register_in c) k a b n1 n2 n3) s)
+      → Passes D (guard_part (register_in c) k a b n1 n2 n3) h.end (following D n1) (guard_steps (used_of k)) → Suffices k args s.vl (begun (scalar_run k args m)) cut steps → Follows k args s.vl (scalar_run k args m) (draft_run D steps 0 (whole_code (register_in c) k a b n1 n2 n3) s)
   off_follows labels n1 n2 n3 D args m s cut steps is h not pass le =
       let R = register_in c in
       let whole = whole_code R k a b n1 n2 n3 in
       let at = at_same R k 0 h.names m h.end pass.end (homes_low k c j.x j.few) pass.others pass.sized pass.memory h.at in
-      let there : Goes D whole s (following D n1) pass.end (596 + 8 * size_of k) = chain (596 + 8 * size_of k) (omega arith) h.goes pass.goes in
+      let there : Goes D whole s (following D n1) pass.end (reach_steps k) = chain (reach_steps k) (omega arith) h.goes pass.goes in
       let entered = j.runs.entered D n1 (Place 0 ∷ guard_part R k a b n1 n2 n3) 0 h.names m pass.end is.scalar (start_within k.turns h.names) at in
-      let comes : Comes D whole s (32 + 8 * size_of k) (628 + 16 * size_of k) 0 (scalar_run k args m) =
-      subst (λ r. Comes D whole s (32 + 8 * size_of k) (628 + 16 * size_of k) 0 r) (whole_run k args m h.names h.starts) (comes_after (omega arith) there entered) in
-      comes_follow k args s.vl steps (one_by_one k args s.vl (begun (scalar_run k args m)) cut steps (one_lane k args s.vl j.vector not) le) comes
+      let comes : Comes D whole s (iteration_steps k) (reach_steps k + ending_steps k) 0 (scalar_run k args m) =
+      subst (λ r. Comes D whole s (iteration_steps k) (reach_steps k + ending_steps k) 0 r) (whole_run k args m h.names h.starts) (comes_after (omega arith) there entered) in
+      comes_follow k args s.vl steps (scalar_suffices k args s.vl (begun (scalar_run k args m)) cut steps j.few (one_by_one k args j.vector not) le) comes
 
   -- to the vector part, where they do
   on_follows : (labels n1 n2 n3 : ℕ) (D : Laid) (args : List ℕ) (m : Memory) (s : State) (steps : ℕ) → IsLaid (register_in c) k a b labels n1 n2 n3 D → HasArguments args m s → IsState s
-      → (h : AtGuard (register_in c) k a b n1 n2 n3 D args m s) → Apart k args → Passes D (guard_part (register_in c) k a b n1 n2 n3) h.end (vector_part (register_in c) k a b n1 n3)
+      → (h : AtGuard (register_in c) k a b n1 n2 n3 D args m s) → Apart k args → Passes D (guard_part (register_in c) k a b n1 n2 n3) h.end (vector_part (register_in c) k a b n1 n3) (guard_steps (used_of k))
       → Suffices k args s.vl (begun (scalar_run k args m)) (cuts D steps (whole_code (register_in c) k a b n1 n2 n3) s) steps → Follows k args s.vl (scalar_run k args m) (draft_run D steps 0 (whole_code (register_in c) k a b n1 n2 n3) s)
   on_follows labels n1 n2 n3 D args m s steps is given state h apart pass le =
       let R = register_in c in
@@ -248,7 +259,7 @@ module _ (k : Program) (a b c : Assignment) (j : IsJoined k a b c) where
       let part = vector_part R k a b n1 n3 in
       let loop = has_loop k j.vector in
       let at = at_same R k 0 h.names m h.end pass.end (homes_low k c j.x j.few) pass.others pass.sized pass.memory h.at in
-      let there : Goes D whole s part pass.end (596 + 8 * size_of k) = chain (596 + 8 * size_of k) (omega arith) h.goes pass.goes in
+      let there : Goes D whole s part pass.end (reach_steps k) = chain (reach_steps k) (omega arith) h.goes pass.goes in
       let kept = there.keeps labels is.fit is.fits state in
       let ground = is_ground R k loop.0 a b args m h.names pass.end j.spelled j.sound j.vector j.few j.near j.z j.p loop.1 given.words h.starts at kept.0.sized apart in
       let g = ground_of k loop.0 a b args m h.names pass.end in
@@ -260,8 +271,9 @@ module _ (k : Program) (a b c : Assignment) (j : IsJoined k a b c) where
       let x : Entered g D whole part (following D n1) s pass.end s.vl m = record {
         is = ground;
         bound = bound.limit;
-        lanes = all_lanes k args s.vl j.vector apart ∙ ap (λ n. lanes n (lane_width_of k)) (sym (pass.vl ∙ h.vl));
-        some = some_lanes pass.end.vl k kept.0.sized;
+        params = j.few;
+        chunks = in_chunks k args j.vector apart;
+        lanes = ap (λ n. lanes n (lane_width_of k)) (sym (pass.vl ∙ h.vl));
         goes = there;
         good = given.good;
         from = given.memory;
@@ -279,7 +291,7 @@ module _ (k : Program) (a b c : Assignment) (j : IsJoined k a b c) where
       let bound = bounded R k loop.0 args m h.names h.end j.sound loop.1 given.words h.starts h.at.held in
       by h (j.meets D args n1 n2 (vector_part R k a b n1 n3) h.end h.at.sized bound.held (bases_held R k args m h.names h.end given.words h.starts h.at.held) is.guard)
     where
-      by : (h : AtGuard (register_in c) k a b n1 n2 n3 D args m s) → Chooses D (guard_part (register_in c) k a b n1 n2 n3) h.end (vector_part (register_in c) k a b n1 n3) (following D n1) (Apart k args)
+      by : (h : AtGuard (register_in c) k a b n1 n2 n3 D args m s) → Chooses D (guard_part (register_in c) k a b n1 n2 n3) h.end (vector_part (register_in c) k a b n1 n3) (following D n1) (Apart k args) (guard_steps (used_of k))
           → Follows k args s.vl (scalar_run k args m) (draft_run D steps 0 (whole_code (register_in c) k a b n1 n2 n3) s)
       by h (on_where apart pass) = on_follows labels n1 n2 n3 D args m s steps is given state h apart pass le
       by h (off_where not pass) = off_follows labels n1 n2 n3 D args m s (cuts D steps (whole_code (register_in c) k a b n1 n2 n3) s) steps is h not pass le

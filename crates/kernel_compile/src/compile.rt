@@ -7,13 +7,14 @@ ghost use Rattle.machine_model.specs.Written.{file_of};
 ghost use Rattle.dependence.specs.Bound.{is_vector};
 ghost use Rattle.dependence.specs.Classes.{class_of};
 ghost use Rattle.dependence.specs.declared.reason.Class.TheVariants.{Vector};
-ghost use Rattle.promises.specs.Faithful.{FreeFaithful, FreeEnds};
+ghost use Rattle.promises.specs.Faithful.{FreeFaithful, FreeEnds, CloseFaithful};
 ghost use Rattle.promises.specs.Refusals.{too_many, IsRefusal};
 
 use crate::emit::{emit_iterations, emit_lanes};
 use crate::registers::{check_needs, scalar_registers, vector_registers};
 use dependence::reason::Class;
 use kernel_tree::Checked;
+use kernel_tree::laws::few_params;
 use loop_class::class;
 use promises::{CompileFault, faithful_files, scalar_files};
 use std::alloc::{AllocError, Global};
@@ -28,11 +29,14 @@ pub struct Code {
 /// iterations one by one.
 pub fn compile_kernel(alloc: Global, kernel: &Checked) -> Result<Code, CompileFault>
     ensures faithful { IfOk result (λ code. FreeFaithful (program kernel.now) (file_of code.words.items)) }
+    ensures close { IfOk result (λ code. CloseFaithful (program kernel.now) (file_of code.words.items)) }
     ensures ends { IfOk result (λ code. FreeEnds (program kernel.now) (file_of code.words.items)) }
     ensures short { IfOk result (λ code. length code.words.items ≤ 1000 + 60 * size_of (program kernel.now)) }
     ensures enough { OnOk result (too_many (program kernel.now) ≡ None) }
     ensures refusal { IfErr result (IsRefusal (program kernel.now)) }
 {
+    few_params(kernel);
+    faithful_files();
     check_needs(alloc, kernel)?;
     let words = words_of_class(alloc, kernel)?;
     Ok(Code { words })
@@ -41,7 +45,7 @@ pub fn compile_kernel(alloc: Global, kernel: &Checked) -> Result<Code, CompileFa
 #[tactic(auto, unfolding(loop_form::specs::View::program))]
 fn words_of_class(alloc: Global, kernel: &Checked) -> Result<Vec<u32>, AllocError>
     requires { too_many (program kernel.now) ≡ None }
-    ensures faithful { IfOk result (λ words. FreeFaithful (program kernel.now) (file_of words.items)) }
+    ensures close { IfOk result (λ words. CloseFaithful (program kernel.now) (file_of words.items)) }
     ensures ends { IfOk result (λ words. FreeEnds (program kernel.now) (file_of words.items)) }
     ensures short { IfOk result (λ words. length words.items ≤ 1000 + 60 * size_of (program kernel.now)) }
 {
@@ -54,10 +58,11 @@ fn words_of_class(alloc: Global, kernel: &Checked) -> Result<Vec<u32>, AllocErro
 fn scalar_words(alloc: Global, kernel: &Checked) -> Result<Vec<u32>, AllocError>
     requires enough { too_many (program kernel.now) ≡ None }
     requires class { is_vector (class_of (program kernel.now)) ≡ false }
-    ensures faithful { IfOk result (λ words. FreeFaithful (program kernel.now) (file_of words.items)) }
+    ensures close { IfOk result (λ words. CloseFaithful (program kernel.now) (file_of words.items)) }
     ensures ends { IfOk result (λ words. FreeEnds (program kernel.now) (file_of words.items)) }
     ensures short { IfOk result (λ words. length words.items ≤ 1000 + 60 * size_of (program kernel.now)) }
 {
+    few_params(kernel);
     faithful_files();
     scalar_files();
     let regs = scalar_registers(alloc, kernel)?;
@@ -68,7 +73,7 @@ fn scalar_words(alloc: Global, kernel: &Checked) -> Result<Vec<u32>, AllocError>
 fn vector_words(alloc: Global, kernel: &Checked) -> Result<Vec<u32>, AllocError>
     requires enough { too_many (program kernel.now) ≡ None }
     requires class { class_of (program kernel.now) ≡ Vector }
-    ensures faithful { IfOk result (λ words. FreeFaithful (program kernel.now) (file_of words.items)) }
+    ensures close { IfOk result (λ words. CloseFaithful (program kernel.now) (file_of words.items)) }
     ensures ends { IfOk result (λ words. FreeEnds (program kernel.now) (file_of words.items)) }
     ensures short { IfOk result (λ words. length words.items ≤ 1000 + 60 * size_of (program kernel.now)) }
 {

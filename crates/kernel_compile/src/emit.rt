@@ -8,7 +8,7 @@ ghost use Rattle.loop_form.specs.View.{program};
 ghost use Rattle.machine_model.specs.Written.{file_of};
 ghost use Rattle.dependence.specs.Classes.{class_of};
 ghost use Rattle.dependence.specs.declared.reason.Class.TheVariants.{Vector};
-ghost use Rattle.promises.specs.Faithful.{FreeFaithful, FreeEnds, FreeSlowFaithful};
+ghost use Rattle.promises.specs.Faithful.{FreeEnds, CloseFaithful, CloseSlowFaithful};
 
 use kernel_tree::Checked;
 use label_fix::{BranchKind, Draft};
@@ -27,7 +27,7 @@ pub fn emit_iterations(
     regs: &Assigned,
 ) -> Result<Vec<u32>, AllocError>
     requires fits { FitsKernel (program kernel.now) X regs.now }
-    ensures faithful { IfOk result (λ words. FreeSlowFaithful (program kernel.now) (file_of words.items)) }
+    ensures faithful { IfOk result (λ words. CloseSlowFaithful (program kernel.now) (file_of words.items)) }
     ensures short { IfOk result (λ words. length words.items ≤ 1000 + 60 * size_of (program kernel.now)) }
 {
     few_items(kernel);
@@ -53,7 +53,7 @@ pub fn emit_lanes(
     requires vectors { FitsKernel (program kernel.now) Z regs.now.z }
     requires predicates { FitsKernel (program kernel.now) P regs.now.p }
     requires scalars { FitsKernel (program kernel.now) X regs.now.x }
-    ensures faithful { IfOk result (λ words. FreeFaithful (program kernel.now) (file_of words.items)) }
+    ensures close { IfOk result (λ words. CloseFaithful (program kernel.now) (file_of words.items)) }
     ensures ends { IfOk result (λ words. FreeEnds (program kernel.now) (file_of words.items)) }
     ensures short { IfOk result (λ words. length words.items ≤ 1000 + 60 * size_of (program kernel.now)) }
 {

@@ -1,5 +1,5 @@
 -- What the code after the loop does, accumulator after accumulator.
-use Rattle.std.proofs.Common.{◌≡◌, ◌≢◌, ℕ, suc, ◌+◌, ◌*◌, ◌<◌, ◌≤◌, ℤ, Bool, true, false, List, [], ◌∷◌, length, Some, refl, sym, ap, ◌∙◌, subst, arith, ⊎_elim}
+use Rattle.std.proofs.Common.{◌≡◌, ◌≢◌, ℕ, suc, ◌+◌, ◌<◌, ◌≤◌, ℤ, Bool, true, false, List, [], ◌∷◌, length, Some, refl, sym, ap, ◌∙◌, subst, arith, ⊎_elim}
 use Rattle.std.specs.Prelude.{is_some, slice_get, slice_index, slice_index_or}
 use Rattle.std.proofs.lemmas.Bool.{cases_eq}
 use Rattle.std.proofs.lemmas.Option.{slice_get_within}
@@ -29,6 +29,7 @@ use Rattle.scalar_words.specs.Layout.{register_at}
 use Rattle.scalar_words.specs.KernelRegisters.{kernel_homes, register_in}
 use Rattle.chunk_emit.specs.KernelLayout.{sum_place, update_of}
 use Rattle.chunk_emit.specs.Head.{Ground, IsGround, Between, layout, width, most_lanes}
+use Rattle.close_bound.specs.CloseBound.{joined_steps, joined_all}
 use Rattle.loop_edges.specs.EdgeCode.{type_of_var, join_code, fold_one, folds_code}
 use Rattle.loop_edges.proofs.FoldPlaces.{first_place, name_at, place_names, sum_is, sum_wide}
 use Rattle.loop_edges.proofs.FoldHomes.{is_found, Settled, settled, low_at, registers_apart, accumulator_found}
@@ -152,15 +153,15 @@ module _ (g : Ground) (ok : IsGround g) (c : Assignment) (fit : FitsKernel g.ker
       other : (x : List ℕ) (m : ℕ) → sum_place k x ≡ Some m → m ≢ j
       other x m f q = sum_only x (sym e ∙ ap (slice_get (throughout k Z)) (sym q) ∙ name_at k x m f)
 
-  fold_one_runs : (u : Throughout) (j : ℕ) (t : State) (rest : List Entry) → slice_get (throughout k Z) j ≡ Some u → Folding g c cur sum s j t → Folded g c cur sum s D (fold_one (register_in c) k (slice_index g.vectors.registers j) u rest) t rest (suc j) 6
+  fold_one_runs : (u : Throughout) (j : ℕ) (t : State) (rest : List Entry) → slice_get (throughout k Z) j ≡ Some u → Folding g c cur sum s j t → Folded g c cur sum s D (fold_one (register_in c) k (slice_index g.vectors.registers j) u rest) t rest (suc j) (joined_steps u)
   fold_one_runs (Accumulating y) j t rest e h = join_one y j t rest e h
-  fold_one_runs (Scalar x) j t rest e h = record { end = t; goes = stay 6; folding = skip_one (Scalar x) j t e refl h }
-  fold_one_runs (Constant v n) j t rest e h = record { end = t; goes = stay 6; folding = skip_one (Constant v n) j t e refl h }
-  fold_one_runs Index j t rest e h = record { end = t; goes = stay 6; folding = skip_one Index j t e refl h }
+  fold_one_runs (Scalar x) j t rest e h = record { end = t; goes = stay 0; folding = skip_one (Scalar x) j t e refl h }
+  fold_one_runs (Constant v n) j t rest e h = record { end = t; goes = stay 0; folding = skip_one (Constant v n) j t e refl h }
+  fold_one_runs Index j t rest e h = record { end = t; goes = stay 0; folding = skip_one Index j t e refl h }
 
   -- the accumulators from place j on
   folds_run : (us : List Throughout) (j : ℕ) (t : State) (rest : List Entry) → ((m : ℕ) → slice_get (throughout k Z) (j + m) ≡ slice_get us m) → Folding g c cur sum s j t
-      → Folded g c cur sum s D (folds_code (register_in c) k g.vectors j us rest) t rest (j + length us) (6 * length us)
+      → Folded g c cur sum s D (folds_code (register_in c) k g.vectors j us rest) t rest (j + length us) (joined_all us)
   folds_run [] j t rest at h = let e : j ≡ j + 0 = omega arith in record { end = t; goes = stay 0; folding = subst (λ m. Folding g c cur sum s m t) e h }
   folds_run (u ∷ us) j t rest at h =
       let here : j ≡ j + 0 = omega arith in
@@ -169,12 +170,12 @@ module _ (g : Ground) (ok : IsGround g) (c : Assignment) (fit : FitsKernel g.ker
       let e : suc j + length us ≡ j + suc (length us) = omega arith in
       record {
         end = r.end;
-        goes = chain (6 * suc (length us)) (omega arith) a.goes r.goes;
+        goes = chain (joined_all (u ∷ us)) (omega arith) a.goes r.goes;
         folding = subst (λ m. Folding g c cur sum s m r.end) e r.folding;
       }
 
   -- all of them
-  pub all_folded : (t : State) (rest : List Entry) → Folding g c cur sum s 0 t → Folded g c cur sum s D (folds_code (register_in c) k g.vectors 0 (throughout k Z) rest) t rest (length (throughout k Z)) (6 * length (throughout k Z))
+  pub all_folded : (t : State) (rest : List Entry) → Folding g c cur sum s 0 t → Folded g c cur sum s D (folds_code (register_in c) k g.vectors 0 (throughout k Z) rest) t rest (length (throughout k Z)) (joined_all (throughout k Z))
   all_folded t rest h =
       let r = folds_run (throughout k Z) 0 t rest (λ m. let e : 0 + m ≡ m = omega arith in ap (slice_get (throughout k Z)) e) h in
       let e : 0 + length (throughout k Z) ≡ length (throughout k Z) = omega arith in

@@ -42,6 +42,7 @@ use Rattle.chunk_emit.specs.KernelLayout.{register_of, place_in, place_of_one, h
 use Rattle.chunk_emit.proofs.FitsTyped.{parameter_typed}
 use Rattle.loop_edges.specs.EdgeCode.{holds_code}
 use Rattle.loop_edges.specs.Edges.{nothing_taken, StartRuns}
+use Rattle.close_bound.specs.CloseBound.{laid_all}
 use Rattle.loop_edges.proofs.StartCounts.{few_held}
 use Rattle.loop_edges.proofs.StartHeld.{comes, value_stands, param_place, sum_typed}
 use Rattle.loop_edges.proofs.StartSteps.{Stays, RightIn, Lays, hold}
@@ -108,10 +109,10 @@ module _ (g : Ground) (m : Memory) (h : IsGround g) where
       (λ other. subst (RightIn g u) (sym (l.others (slice_index registers i) (registers_apart i j u t other.1 f e))) (before i u (omega (arith, lt, other.1)) f))
       (eqb_tells i j)
 
-  lay_all : (ts : List Throughout) (j : ℕ) (d : Laid) (rest : List Entry) (s : State) → ((i : ℕ) → slice_get all (j + i) ≡ slice_get ts i) → Stays g m s → AreLaid j s → AllLaid d (holds_code g.kernel g.vectors j ts rest) s rest (j + length ts) (5 * length ts)
+  lay_all : (ts : List Throughout) (j : ℕ) (d : Laid) (rest : List Entry) (s : State) → ((i : ℕ) → slice_get all (j + i) ≡ slice_get ts i) → Stays g m s → AreLaid j s → AllLaid d (holds_code g.kernel g.vectors j ts rest) s rest (j + length ts) (laid_all ts)
   lay_all [] j d rest s here k before = record {
     end = s;
-    goes = stay (5 * 0);
+    goes = stay 0;
     stays = k;
     laid = λ i t lt e. before i t (omega (arith, lt)) e;
   }
@@ -122,7 +123,7 @@ module _ (g : Ground) (m : Memory) (h : IsGround g) where
       let r = lay_all ts (suc j) d rest l.end (λ i. let q : suc j + i ≡ j + suc i = omega arith in ap (slice_get all) q ∙ here (suc i)) l.stays (laid_next d j t _ s _ at l before) in
       record {
         end = r.end;
-        goes = chain {t = l.end} {u = r.end} (5 * length (t ∷ ts)) (omega arith) l.goes r.goes;
+        goes = chain {t = l.end} {u = r.end} (laid_all (t ∷ ts)) (omega arith) l.goes r.goes;
         stays = r.stays;
         laid = λ i u lt e. r.laid i u (omega (arith, lt)) e;
       }
@@ -227,6 +228,6 @@ start_runs g m d rest s h is vl memory index x =
     let r = lay_all g m h (throughout g.kernel Z) 0 d rest t (λ i. let e : 0 + i ≡ i = omega arith in ap (slice_get (throughout g.kernel Z)) e) k (λ i u lt e. absurd (omega (arith, lt))) in
     record {
       end = r.end;
-      goes = chain (1 + 5 * length (throughout g.kernel Z)) (omega arith) (put_goes refl) r.goes;
+      goes = chain (1 + laid_all (throughout g.kernel Z)) (omega arith) (put_goes refl) r.goes;
       head = at_head g m h r.end r.stays (λ i u lt e. r.laid i u (omega (arith, lt)) e);
     }

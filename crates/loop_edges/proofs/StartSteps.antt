@@ -15,11 +15,12 @@ use Rattle.kernel_tree.specs.Wrap.{bits_of}
 use Rattle.kernel_meaning.specs.Operators.{word, wrapped}
 use Rattle.kernel_meaning.proofs.Residues.{word-below}
 use Rattle.label_fix.specs.DraftRun.{Entry, Laid}
-use Rattle.label_fix.proofs.StretchSteps.{Goes, stay, chain, go_more}
+use Rattle.label_fix.proofs.StretchSteps.{Goes, stay, chain}
 use Rattle.loop_form.specs.Needs as needs
 use Rattle.loop_form.specs.Needs.{Throughout}
 use Rattle.loop_form.specs.Streams.{place_of}
 use Rattle.vector_order.specs.Operands.{nth_value}
+use Rattle.close_bound.specs.CloseBound.{laid_steps}
 use Rattle.scalar_words.specs.Words.{const_code}
 use Rattle.scalar_words.specs.Iterations.{Frame}
 use Rattle.scalar_words.proofs.Constants.{const_fills}
@@ -88,7 +89,7 @@ RightIn g (needs.Accumulating x) z =
 -- code that lays a value into a vector register, and changes no other one
 pub record Lays (g : Ground) (m : Memory) (d : Laid) (t : Throughout) (z : ℕ) (c : List Entry) (s : State) (rest : List Entry) : Type 0 where
   pub end : State
-  pub goes : Goes d c s rest end 5
+  pub goes : Goes d c s rest end (laid_steps t)
   pub stays : Stays g m end
   pub others : (r : ℕ) → r ≢ z → z_at end r ≡ z_at s r
   pub right : RightIn g t (z_at end z)
@@ -126,7 +127,7 @@ module _ (g : Ground) (m : Memory) (h : IsGround g) (d : Laid) (rest : List Entr
       let v = dup_z (width g) z r (nth_value g.names r) k.is small (omega (arith, same, within, few)) held in
       record {
         end = v.end;
-        goes = go_more 5 (omega arith) (do_goes (dup_code (width g) z r) s v.end v.runs);
+        goes = do_goes (dup_code (width g) z r) s v.end v.runs;
         stays = stays_only k v.is v.only;
         others = v.only.z;
         right = subst (λ l. ZRight (width g) (lanes l (width g)) (z_at v.end z) (λ e. nth_value g.names r)) k.vl v.right;
@@ -167,5 +168,5 @@ module _ (g : Ground) (m : Memory) (h : IsGround g) (d : Laid) (rest : List Entr
   pub hold : (t : Throughout) (s : State) → Comes g.kernel t → Stays g m s → Lays g m d t z (hold_code g.kernel z t rest) s rest
   hold (needs.Scalar x) s c k = hold_scalar x s c k
   hold (needs.Constant t n) s c k = hold_constant t n s k
-  hold needs.Index s c k = record { end = s; goes = stay 5; stays = k; others = λ r ne. refl; right = tt }
+  hold needs.Index s c k = record { end = s; goes = stay 0; stays = k; others = λ r ne. refl; right = tt }
   hold (needs.Accumulating x) s c k = hold_sum x s c k

@@ -1,5 +1,5 @@
 -- What the code before and after the loop of chunks does.
-use Rattle.std.specs.Prelude.{◌≡◌, ℕ, ◌+◌, ◌*◌, ◌≤◌, ℤ, List, length, slice_index}
+use Rattle.std.specs.Prelude.{◌≡◌, ℕ, ◌+◌, ◌≤◌, ℤ, List, length, slice_index}
 use Rattle.guest_types.specs.Memory.{Memory}
 use Rattle.kernel_tree.specs.Plain.{Program}
 use Rattle.kernel_tree.specs.Items.{size_of}
@@ -14,6 +14,7 @@ use Rattle.reg_assign.specs.declared.interval.RegClass.TheVariants.{X, Z}
 use Rattle.reg_assign.specs.Registers.{Assignment}
 use Rattle.loop_form.specs.Needs.{throughout}
 use Rattle.loop_form.specs.Registers.{FitsKernel}
+use Rattle.close_bound.specs.CloseBound.{laid_all, joined_all}
 use Rattle.scalar_words.specs.KernelRegisters.{kernel_homes, register_in}
 use Rattle.scalar_words.specs.Iterations.{AreHeld, AtIteration}
 use Rattle.reductions.specs.Joins.{identity}
@@ -34,7 +35,7 @@ pub record Starts (g : Ground) (m : Memory) (d : Laid) (code : List Entry) (s : 
 abbrev pub StartRuns : Type 0
 StartRuns =
     (g : Ground) (m : Memory) (d : Laid) (rest : List Entry) (s : State) → IsGround g → IsState s → s.vl ≡ g.vl → s.memory ≡ m → x_at s 9 ≡ 0 → ((r : ℕ) → r ≤ 25 → x_at s r ≡ slice_index g.x r)
-    → Starts g m d (start_code g.kernel g.vectors rest) s rest (1 + 5 * length (throughout g.kernel Z))
+    → Starts g m d (start_code g.kernel g.vectors rest) s rest (1 + laid_all (throughout g.kernel Z))
 
 -- At most so many words lead to a state before iteration i, from which scalar code goes on.
 pub record Folds (R : ℕ → ℕ) (g : Ground) (i : ℕ) (cur : Names) (m : Memory) (d : Laid) (code : List Entry) (s : State) (rest : List Entry) (most : ℕ) : Type 0 where
@@ -47,7 +48,7 @@ abbrev pub FoldRuns : Type 0
 FoldRuns =
     (g : Ground) (c : Assignment) (i : ℕ) (cur : Names) (m : Memory) (sum : List ℕ → ℕ → ℤ) (d : Laid) (rest : List Entry) (s : State) → IsGround g → FitsKernel g.kernel X c → AreRanged (var_scope g.kernel).visible g.names
     → AreHeld (kernel_homes (register_in c) g.kernel) g.names s → AtHead g i cur m sum s
-    → Folds (register_in c) g i cur m d (fold_code (register_in c) g.kernel g.vectors rest) s rest (6 * length (throughout g.kernel Z))
+    → Folds (register_in c) g i cur m d (fold_code (register_in c) g.kernel g.vectors rest) s rest (joined_all (throughout g.kernel Z))
 
 -- A kernel holds no more values throughout than it has items.
 abbrev pub FewHeld : Type 0

@@ -11,14 +11,15 @@ pub use fold::emit_fold;
 pub use start::{emit_start, register_of};
 
 /// The code before the loop leads to the state before the first pass: the values from before the loop are in all elements of
-/// their registers, and the lanes of accumulators hold what changes nothing. It takes at most five words a value, and one.
+/// their registers, and the lanes of accumulators hold what changes nothing. It takes at most as many words as the
+/// bound counts steps of laying them, and one.
 pub fn start_runs()
     ensures { StartRuns }
 {}
 
 /// The code after the loop joins the elements of each accumulator that the loop updates with its general register: it
-/// leads to the state before an iteration of the scalar loop, with the names as the passes left them. It takes at most
-/// six words a value.
+/// leads to the state before an iteration of the scalar loop, with the names as the passes left them. It takes at most as
+/// many words as the bound counts steps of joining them.
 pub fn fold_runs()
     ensures { FoldRuns }
 {}

@@ -1,5 +1,5 @@
 -- What a guard finds in a checked kernel: near offsets.
-use Rattle.std.proofs.Common.{◌≡◌, ℕ, ◌+◌, ◌≤◌, ℤ, pos, Bool, true, false, cond, List, [], ◌∷◌, ◌++◌, length, Option, Some, None, refl, arith, inl, inr, length-append}
+use Rattle.std.proofs.Common.{◌≡◌, ℕ, ◌+◌, ◌≤◌, ℤ, pos, Bool, true, false, cond, List, [], ◌∷◌, ◌++◌, length, Option, Some, None, refl, arith, inl, inr}
 use Rattle.std.proofs.lemmas.Int.{ints}
 use Rattle.std.specs.Prelude.{unsigned_abs, filter, int_lt, max, ◌≤ℤ◌}
 use Rattle.std.specs.Int.{int_min, int_max}
@@ -129,23 +129,3 @@ from-fit ss rs n (p ∷ ps) h k g = fit-append (used_at ss rs n p.shape) (used_f
 
 pub used-fit : (k : Program) → length k.params ≤ 8 → AreNear (loop_index k) (loop_entries k) → AreFit (used_of k)
 used-fit k h near = from-fit (streams_of k) (reaches_of k) 0 k.params (omega (arith, h)) (streams-near k (loop_entries k) near) (reaches-given k (loop_entries k))
-
--- ---- at most as many as parameters, and one less where some parameter is no array
-
-one-reached : (n : ℕ) (w : Width) (o : Option ℕ) (us : List Used) → length us ≤ 1 → length (with_reach n w o us) ≤ 1
-one-reached n w None us h = h
-one-reached n w (Some r) [] h = omega arith
-one-reached n w (Some r) (u ∷ us) h = h
-
-pub at-few : (ss : List Stream) (rs : List Reach) (n : ℕ) (h : Shape) → length (used_at ss rs n h) ≤ 1
-at-few ss rs n (shape.Scalar t) = omega arith
-at-few ss rs n (shape.Array t) = one-reached n (width_of t) (greatest_reach (filter (is_reach_of n) rs)) (used_by n (width_of t) (filter (is_of n) ss)) (by (filter (is_of n) ss))
-  where
-    by : (ss : List Stream) → length (used_by n (width_of t) ss) ≤ 1
-    by [] = omega arith
-    by (s ∷ ss) = omega arith
-
-pub from-few : (ss : List Stream) (rs : List Reach) (n : ℕ) (ps : List Parameter) → length (used_from ss rs n ps) ≤ length ps
-unfolding used_from
-from-few ss rs n [] = omega arith
-from-few ss rs n (p ∷ ps) = omega (arith, length-append (used_at ss rs n p.shape) (used_from ss rs (n + 1) ps), at-few ss rs n p.shape, from-few ss rs (n + 1) ps)

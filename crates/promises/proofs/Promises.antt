@@ -1,16 +1,18 @@
 -- How the promises on files stand to one another.
-use Rattle.std.proofs.Common.{◌≡◌, ℕ, ◌+◌, ◌*◌, ◌≤◌, List, refl, ap, ◌∙◌, arith}
+use Rattle.std.proofs.Common.{◌≡◌, ℕ, ◌+◌, ◌*◌, ◌≤◌, List, length, refl, ap, ◌∙◌, arith}
 use Rattle.std.proofs.Math.Nat.{mul-le-mul_left}
-use Rattle.guest_types.specs.EarlyLoads.{never}
+use Rattle.guest_types.specs.EarlyLoads.{StopList, never}
 use Rattle.guest_types.specs.Memory.{Memory, merged}
-use Rattle.machine_model.specs.Run.{start, start_of, free_start, free_run, machine_run}
+use Rattle.machine_model.specs.Run.{start, start_of, free_start, free_run, machine_run, suppressed}
 use Rattle.machine_model.proofs.Suppressed.{none_suppressed}
 use Rattle.kernel_tree.specs.Plain.{Program}
 use Rattle.kernel_meaning.specs.ScalarRun.{begun, scalar_run}
 use Rattle.kernel_tree.specs.Items.{size_of}
 use Rattle.dependence.specs.Bound.{free_bound}
+use Rattle.close_bound.specs.CloseBound.{close_bound}
 use Rattle.dependence.proofs.Bounds as bounds
-use Rattle.promises.specs.Faithful.{Faithful, SlowFaithful, FreeFaithful, FreeEnds, FreeSlowFaithful}
+use Rattle.close_bound.proofs.CloseBounds as closes
+use Rattle.promises.specs.Faithful.{IsFaithful, IsAny, Faithful, SlowFaithful, FreeFaithful, FreeEnds, CloseFaithful, FreeSlowFaithful}
 
 pub without_stops : (file args : List ℕ) (pages : Memory) (vl steps : ℕ) → free_run file args pages vl never steps ≡ machine_run file args pages vl steps
 unfolding start free_start
@@ -49,3 +51,16 @@ slow k file f = record {
       let b = bounds.slow k args vl (begun (scalar_run k args (merged f.image.pages pages))) begins.length in
       f.runs args pages vl stops steps begins empty (omega (arith, b, le));
 }
+
+-- what holds within a bound holds within a higher one
+pub looser : (few many : Program → (args : List ℕ) (vl m q : ℕ) → ℕ) (IsAllowed : StopList → Type 0) (k : Program) (file : List ℕ) → ((args : List ℕ) (vl m q : ℕ) → few k args vl m q ≤ many k args vl m q) → IsFaithful few IsAllowed k file → IsFaithful many IsAllowed k file
+looser few many IsAllowed k file lower f = record {
+  image = f.image;
+  loaded = f.loaded;
+  runs = λ args pages vl stops steps begins any le.
+      let h = lower args vl (begun (scalar_run k args (merged f.image.pages pages))) (suppressed steps (free_start f.image args pages vl stops)) in
+      f.runs args pages vl stops steps begins any (omega (arith, h, le));
+}
+
+pub close : (k : Program) (file : List ℕ) → length k.params ≤ 8 → CloseFaithful k file → FreeFaithful k file
+close k file few f = looser close_bound free_bound IsAny k file (λ args vl m q. closes.close k args vl m q few) f

@@ -17,6 +17,7 @@ use Rattle.loop_form.specs.declared.stream.Stream.{Stream}
 use Rattle.loop_form.specs.Streams.{streams_of}
 use Rattle.dependence.specs.Apart.{bound_place}
 use Rattle.dependence.specs.Bound.{at_once, steps_for, bound, slow_bound, free_bound}
+use Rattle.close_bound.specs.CloseBound.{outside_steps, iteration_steps, close_bound}
 
 -- what a run may be started with: at most eight words, pages that do not meet the image's, and a vector length
 pub record IsStart (image : Image) (args : List ℕ) (pages : Memory) (vl : ℕ) : Type 0 where
@@ -92,6 +93,10 @@ slow_steps k args vl m q = slow_bound k m
 abbrev pub end_steps : Program → (args : List ℕ) (vl m q : ℕ) → ℕ
 end_steps k args vl m q = steps_for k (2 * m + 2)
 
+-- iterations one by one, by the steps of the kernel's items
+abbrev pub close_slow_steps : Program → (args : List ℕ) (vl m q : ℕ) → ℕ
+close_slow_steps k args vl m q = outside_steps k + iteration_steps k * m
+
 -- the machine without a stop list, within the bound that counts chunks
 abbrev pub Faithful : Program → List ℕ → Type 0
 Faithful k file = IsFaithful bound_steps IsEmpty k file
@@ -109,5 +114,12 @@ FreeFaithful k file = IsFaithful free_bound IsAny k file
 abbrev pub FreeEnds : Program → List ℕ → Type 0
 FreeEnds k file = IsFaithful end_steps IsAny k file
 
+-- with every stop list, within the bound that counts the steps of the kernel's items, passes and iterations
+abbrev pub CloseFaithful : Program → List ℕ → Type 0
+CloseFaithful k file = IsFaithful close_bound IsAny k file
+
 abbrev pub FreeSlowFaithful : Program → List ℕ → Type 0
 FreeSlowFaithful k file = IsFaithful slow_steps IsAny k file
+
+abbrev pub CloseSlowFaithful : Program → List ℕ → Type 0
+CloseSlowFaithful k file = IsFaithful close_slow_steps IsAny k file

@@ -10,7 +10,7 @@ use Rattle.machine_model.specs.Machine.{State, x_at}
 use Rattle.a64_code.specs.Table.{movz}
 use Rattle.kernel_tree.specs.declared.ast.Shape.{Shape}
 use Rattle.kernel_tree.specs.Plain.{Parameter, Accumulator, Program}
-use Rattle.kernel_tree.specs.Items.{term_size, vars_size, loop_index, size_of, loop_start}
+use Rattle.kernel_tree.specs.Items.{term_size, vars_size, loop_index, loop_start}
 use Rattle.kernel_tree.specs.Typing.{Scope, Local, local, empty, after_vars, param_scope, var_scope, check_fault}
 use Rattle.kernel_tree.proofs.Scopes.{param_index}
 use Rattle.kernel_meaning.specs.Operators.{word}
@@ -30,7 +30,7 @@ use Rattle.scalar_emit.specs.Kernel.{argument_code, arguments_code, vars_code, z
 use Rattle.scalar_words.proofs.Words.{extended, extended-wrap}
 use Rattle.scalar_emit.specs.KernelFits.{AreSafeVars, KernelFits}
 use Rattle.scalar_words.specs.Iterations.{AreHeld}
-use Rattle.scalar_emit.specs.Runs.{Begins, BeginRuns}
+use Rattle.scalar_emit.specs.Runs.{Begins, begin_steps, BeginRuns}
 use Rattle.scalar_words.proofs.AssignedOf.{counted-low}
 use Rattle.scalar_words.proofs.LayoutStates.{Assigned, Changes, AreSafe, Held, Fixed, At, frame_of, wrote, wrote_same, wrote_other, wrote_sized, kept_none, at_kept, safe_later}
 use Rattle.scalar_values.proofs.Loads.{Gives, a_value}
@@ -329,6 +329,6 @@ begin_runs R k checked few fits D n rest args m st has res =
     let high = high_vars L R 0 0 k.vars (safe_right L 0 (param_homes 0 k.params) (var_homes R 0 k.vars) (fits.safe 0)) in
     let v = vars_runs D L fits.assigned R k.vars (param_scope k) 0 (length k.params) n (zero_index rest) fits.vars_safe high fits.vars at (arguments_back D 0 k.params following res) in
     let i = ap (λ i. vars_size i k.vars) (param_index k) in
-    let steps : length k.params + (4 * vars_size (param_scope k).index k.vars + 1) ≤ 40 + 8 * size_of k = omega (arith, i) in
+    let steps : length k.params + (4 * vars_size (param_scope k).index k.vars + 1) ≤ begin_steps k = omega (arith, i) in
     let known = all_start k args m checked in
-    begun known.0 fits.steady refl known.1 (starts_after (40 + 8 * size_of k) steps a.goes a.frame (starts_at (loop_start k) (ap (λ n. length k.params + n) i) (starts_zero a.end.x v)))
+    begun known.0 fits.steady refl known.1 (starts_after (begin_steps k) steps a.goes a.frame (starts_at (loop_start k) (ap (λ n. length k.params + n) i) (starts_zero a.end.x v)))

@@ -5,7 +5,7 @@ use Rattle.std.proofs.Math.Nat.{mul-le-mul_right}
 use Rattle.guest_types.specs.Memory.{Memory}
 use Rattle.machine_model.specs.Machine.{State}
 use Rattle.kernel_tree.specs.Plain.{PlainLoop, Returned, Program}
-use Rattle.kernel_tree.specs.Items.{block_size, turns_size, answer_size, index_of, size_of, loop_start, loop_end}
+use Rattle.kernel_tree.specs.Items.{block_size, turns_size, answer_size, index_of, loop_start, loop_end}
 use Rattle.kernel_tree.specs.Typing.{Scope, var_scope, check_fault}
 use Rattle.kernel_tree.proofs.Scopes.{scope_index}
 use Rattle.reg_assign.specs.declared.interval.RegClass.TheVariants.{X}
@@ -23,7 +23,7 @@ use Rattle.scalar_emit.specs.Kernel.{turns_code, scalar_code}
 use Rattle.scalar_emit.specs.KernelFits.{KernelFits}
 use Rattle.scalar_words.specs.Safe.{AreSteady}
 use Rattle.scalar_words.specs.Iterations.{AreHeld, AtIteration, Comes, ends_so, faults_so}
-use Rattle.scalar_emit.specs.Runs.{ScalarRuns}
+use Rattle.scalar_emit.specs.Runs.{end_steps, ScalarRuns}
 use Rattle.scalar_words.proofs.LayoutStates.{Assigned, AreSafe, Held, At, name_held}
 use Rattle.scalar_emit.proofs.LoopRuns.{fixed_at, answer_runs, loop_runs}
 use Rattle.scalar_words.proofs.ChosenOf.{chosen_all}
@@ -102,14 +102,14 @@ head_first D L hs s None b n b2 answer rest st res = subst (λ es. Goes D (Place
 
 module _ (R : ℕ → ℕ) (k : Program) (fit : KernelFits R k) where
   comes : (D : Laid) (n : ℕ) (rest : List Entry) (i : ℕ) (names : Names) (m : Memory) (s : State) → Resolves D (scalar_code R k n rest) → IsWithin k.turns i names → AtIteration R k i names m s
-      → Comes D (following D n) s (32 + 8 * size_of k) (32 + 8 * size_of k) i (run_from k i m names)
+      → Comes D (following D n) s (4 * turns_size k.turns) (end_steps k) i (run_from k i m names)
   comes D n rest i names m s res le at =
       let L = layout_of_kernel R k in
       let hs = kernel_homes R k in
       let j = scope_index k in
       let a = ap (λ j. answer_size j k.answer) j in
       let t = turn_size (var_scope k).index k.turns j in
-      comes_within (32 + 8 * size_of k) (32 + 8 * size_of k) (omega (arith, t)) (omega (arith, a))
+      comes_within (4 * turns_size k.turns) (end_steps k) (omega (arith, t)) (omega (arith, a))
       (turns_run D L fit.assigned hs (var_scope k) fit.steady fit.safe k.turns (loop_start k) n (loop_end k) k.answer rest s.x i names m s (fits_turns L hs (var_scope k) (loop_start k) (loop_end k) k.answer k.turns fit.looped fit.straight) res le (λ p. at_head R k i names m s p at))
 
   pub scalar_runs : ScalarRuns R k

@@ -3,7 +3,7 @@ use Rattle.std.specs.Prelude.{◌≡◌, ℕ, ◌+◌, ◌*◌, ◌<◌, ◌≤�
 use Rattle.guest_types.specs.Memory.{Memory, IsMemory}
 use Rattle.machine_model.specs.Machine.{State, x_at}
 use Rattle.kernel_tree.specs.Plain.{Program}
-use Rattle.kernel_tree.specs.Items.{size_of}
+use Rattle.kernel_tree.specs.Items.{vars_size, turns_size, answer_size, loop_index}
 use Rattle.kernel_meaning.specs.Eval.{Names}
 use Rattle.kernel_meaning.specs.ScalarRun.{started, run_from, IsWithin}
 use Rattle.label_fix.specs.DraftRun.{Entry, Laid, following}
@@ -32,12 +32,23 @@ pub record Begins (R : ℕ → ℕ) (k : Program) (D : Laid) (c : List Entry) (s
   pub at : AtIteration R k 0 names m end
   pub frame : frame_of end ≡ frame_of s
 
+-- a word for each parameter, four for each item of the accumulators, and one
+abbrev pub begin_steps : Program → ℕ
+begin_steps k = 1 + length k.params + 4 * vars_size (loop_index k) k.vars
+
 abbrev pub BeginRuns : (ℕ → ℕ) → Program → Type 0
-BeginRuns R k = (D : Laid) (n : ℕ) (rest : List Entry) (args : List ℕ) (m : Memory) (s : State) → HasArguments args m s → Resolves D (begin_code R k n rest) → Begins R k D (begin_code R k n rest) s rest args m (40 + 8 * size_of k)
+BeginRuns R k = (D : Laid) (n : ℕ) (rest : List Entry) (args : List ℕ) (m : Memory) (s : State) → HasArguments args m s → Resolves D (begin_code R k n rest) → Begins R k D (begin_code R k n rest) s rest args m (begin_steps k)
+
+-- four words for each item of an iteration, of which `for` is one; and for each of the returned value, with five
+abbrev pub turn_steps : Program → ℕ
+turn_steps k = 4 * turns_size k.turns
+
+abbrev pub end_steps : Program → ℕ
+end_steps k = 5 + 4 * answer_size (loop_index k) k.answer
 
 -- Code that is entered before an iteration, at its first entry or after its label, does what the scalar loop does from there on.
 pub record ScalarRuns (R : ℕ → ℕ) (k : Program) : Type 0 where
   pub reached : (D : Laid) (n : ℕ) (rest : List Entry) (i : ℕ) (names : Names) (m : Memory) (s : State) → Resolves D (scalar_code R k n rest) → IsWithin k.turns i names → AtIteration R k i names m s
-      → Comes D (scalar_code R k n rest) s (32 + 8 * size_of k) (32 + 8 * size_of k) i (run_from k i m names)
+      → Comes D (scalar_code R k n rest) s (turn_steps k) (end_steps k) i (run_from k i m names)
   pub entered : (D : Laid) (n : ℕ) (rest : List Entry) (i : ℕ) (names : Names) (m : Memory) (s : State) → Resolves D (scalar_code R k n rest) → IsWithin k.turns i names → AtIteration R k i names m s
-      → Comes D (following D n) s (32 + 8 * size_of k) (32 + 8 * size_of k) i (run_from k i m names)
+      → Comes D (following D n) s (turn_steps k) (end_steps k) i (run_from k i m names)

@@ -17,7 +17,8 @@ use Rattle.kernel_meaning.specs.ScalarRun.{begun, scalar_run}
 use Rattle.kernel_front.specs.Verdict.{Sound}
 use Rattle.kernel_front.proofs.OneVerdict.{one_verdict}
 use Rattle.dependence.specs.Bound.{free_bound}
-use Rattle.promises.specs.Faithful.{IsStart, Follows, IsFaithful, IsEmpty, IsAny, FreeFaithful, FreeEnds, bound_steps, end_steps}
+use Rattle.close_bound.specs.CloseBound.{close_bound}
+use Rattle.promises.specs.Faithful.{IsStart, Follows, IsFaithful, IsEmpty, IsAny, FreeFaithful, FreeEnds, CloseFaithful, bound_steps, end_steps}
 use Rattle.promises.proofs.Promises as promises
 use Rattle.command_line.specs.Line.{Task, CompileLine}
 use Rattle.refusals.specs.declared.refusal.Refusal.{Refusal}
@@ -92,6 +93,7 @@ pub faithful_runs : FaithfulRuns
 faithful_runs = record {
   plain = faithful_within bound_steps IsEmpty;
   free = faithful_within free_bound IsAny;
+  close = faithful_within close_bound IsAny;
   ends = faithful_within end_steps IsAny;
 }
 
@@ -108,15 +110,16 @@ read_whole text file held name c stands =
     ap bytes_of stands ∙ cond-false (nat_lt MAX_FILE (length file)) (Err TooLong) (Ok file) (le-ltb MAX_FILE (length file) (omega (arith, size, c.code.few, c.small)))
 
 -- a promise that each compiled file keeps is one on the kernel of the text
-compiled_within : (within : Steps) (IsAllowed : StopList → Type 0) → ((k : Program) (file : List ℕ) → FreeFaithful k file → FreeEnds k file → IsFaithful within IsAllowed k file) → CompiledWithin within IsAllowed
+compiled_within : (within : Steps) (IsAllowed : StopList → Type 0) → ((k : Program) (file : List ℕ) → FreeFaithful k file → CloseFaithful k file → FreeEnds k file → IsFaithful within IsAllowed k file) → CompiledWithin within IsAllowed
 compiled_within within IsAllowed promise old new held input from to text k vl suppress task file image pages work e sound compiled h allowed stands x wanted =
     let c = compiled_from old new from to text file e h compiled in
     let same = same_kernel c.kernel k (one_verdict text (Sound c.kernel) (Sound k) c.sound sound) in
-    faithful_within within IsAllowed k held input vl suppress task file image pages work (subst (λ k. IsFaithful within IsAllowed k file) same (promise c.kernel file c.faithful c.ends)) allowed (read_whole text file held task.file c stands) x wanted
+    faithful_within within IsAllowed k held input vl suppress task file image pages work (subst (λ k. IsFaithful within IsAllowed k file) same (promise c.kernel file c.faithful c.close c.ends)) allowed (read_whole text file held task.file c stands) x wanted
 
 pub compiled_runs : CompiledRuns
 compiled_runs = record {
-  plain = compiled_within bound_steps IsEmpty (λ k file faithful ends. promises.free k file faithful);
-  free = compiled_within free_bound IsAny (λ k file faithful ends. faithful);
-  ends = compiled_within end_steps IsAny (λ k file faithful ends. ends);
+  plain = compiled_within bound_steps IsEmpty (λ k file faithful close ends. promises.free k file faithful);
+  free = compiled_within free_bound IsAny (λ k file faithful close ends. faithful);
+  close = compiled_within close_bound IsAny (λ k file faithful close ends. close);
+  ends = compiled_within end_steps IsAny (λ k file faithful close ends. ends);
 }

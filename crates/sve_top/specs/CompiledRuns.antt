@@ -12,6 +12,7 @@ use Rattle.kernel_meaning.specs.ScalarRun as scalar
 use Rattle.kernel_meaning.specs.ScalarRun.{begun, scalar_run}
 use Rattle.kernel_front.specs.Verdict.{Sound, IsVerdict}
 use Rattle.dependence.specs.Bound.{free_bound}
+use Rattle.close_bound.specs.CloseBound.{close_bound}
 use Rattle.promises.specs.Faithful.{Stops, IsFaithful, IsEmpty, IsAny, bound_steps, end_steps}
 use Rattle.command_line.specs.Line.{Words, Task, CompileLine, RunLine, line_of}
 use Rattle.refusals.specs.declared.refusal.Done.TheVariants as done
@@ -60,10 +61,11 @@ CompiledWithin within IsAllowed =
     → IsRun within k held vl suppress task file image pages → Expects held input (Some (RunLine vl suppress task)) work → Answers k vl task (scalar_run k task.args (merged image.pages pages)) work
 
 -- without a stop list, within the bound that counts chunks; and with every one, within the bound that counts the free elements that are
--- suppressed too, and within the one that counts iterations alone
+-- suppressed too, within the close one, and within the one that counts iterations alone
 pub record OfEach (Within : Steps → (StopList → Type 0) → Type 0) : Type 0 where
   pub plain : Within bound_steps IsEmpty
   pub free : Within free_bound IsAny
+  pub close : Within close_bound IsAny
   pub ends : Within end_steps IsAny
 
 abbrev pub FaithfulRuns : Type 0

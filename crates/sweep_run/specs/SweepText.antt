@@ -4,7 +4,7 @@ use Rattle.std.specs.List.{range_with_len}
 use Rattle.machine_model.specs.Machine.{State}
 use Rattle.machine_model.specs.Run.{Outcome, End, Stop, Spent, run, machine_run}
 use Rattle.machine_model.specs.Written.{file_of}
-use Rattle.promises.specs.Faithful.{FreeFaithful, FreeEnds}
+use Rattle.promises.specs.Faithful.{FreeFaithful, FreeEnds, CloseFaithful}
 use Rattle.sweep_kernel.specs.Numbers.{arguments_of}
 use Rattle.sweep_kernel.specs.Tree.{kernel_of}
 use Rattle.sweep_kernel.specs.Pages.{pages_of, sum_of}
@@ -17,6 +17,7 @@ pub record IsSweepFile (number : ℕ) (file : List ℕ) : Type 0 where
   pub few : length words ≤ 65536
   pub file_is : file ≡ file_of words
   pub faithful : FreeFaithful (kernel_of number) file
+  pub close : CloseFaithful (kernel_of number) file
   pub ends : FreeEnds (kernel_of number) file
 
 -- the line of a run at a length, where it ends

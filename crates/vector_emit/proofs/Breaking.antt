@@ -1,6 +1,6 @@
 -- The passes of a loop with a break: a chunk, and where no lane came through it and the bound is not reached, one iteration by
 -- itself.
-use Rattle.std.proofs.Common.{◌≡◌, ℕ, zero, suc, ◌+◌, ◌*◌, ◌<◌, ◌≤◌, inl, inr, true, List, [], ◌∷◌, length, sym, subst, arith, ⊎_elim}
+use Rattle.std.proofs.Common.{◌≡◌, ℕ, zero, suc, ◌+◌, ◌*◌, ◌<◌, ◌≤◌, inl, inr, true, List, [], ◌∷◌, length, refl, sym, subst, arith, ⊎_elim}
 use Rattle.std.specs.Prelude.{ℤ}
 use Rattle.std.specs.List.{list_any}
 use Rattle.std.proofs.lemmas.Bool.{cases_lt, cases_eq}
@@ -17,6 +17,7 @@ use Rattle.label_fix.specs.DraftRun.{If, Entry, Put, Branch, Place, Laid, follow
 use Rattle.label_fix.specs.Stretches.{Resolves}
 use Rattle.label_fix.proofs.StretchSteps.{Goes, chain, pass}
 use Rattle.dependence.specs.Apart.{bound_place}
+use Rattle.close_bound.specs.CloseBound.{pass_steps}
 use Rattle.chunk_emit.specs.ChunkCode.{puts}
 use Rattle.chunk_emit.specs.Head.{Ground, IsGround, AtHead, IndexHeld, layout, width, most_lanes, limit}
 use Rattle.first_fault.specs.Split.{is_quit}
@@ -27,7 +28,6 @@ use Rattle.chunk_pass.specs.PassCode.{chunk_words, turn_words}
 use Rattle.chunk_pass.specs.Passes.{lanes_at, LeftOut, breaks, faults, suppressed, Passes, comes, stops}
 use Rattle.chunk_pass.proofs.PassLaws.{chunk_law, turn_law}
 use Rattle.vector_emit.specs.VectorCode.{any_lane, breaking_code}
-use Rattle.vector_emit.specs.VectorRuns.{turn_steps}
 use Rattle.vector_emit.proofs.Iterations.{none_gone}
 use Rattle.vector_emit.proofs.PassLoop.{Passing, Pays, pays_lanes, pays_cut, pays_last, pays_one, Stuck, leaves_here, stops_here, passes_on}
 use Rattle.vector_emit.proofs.KernelPassLoop.{HeadOf, loop_of, stop_of, has_lanes, head_at, same_place, Longer, following_leads, following_goes}
@@ -62,11 +62,11 @@ module _ (g : Ground) (ground : IsGround g) (quits : list_any is_quit (items_of 
 
   module _ (back : following d n ≡ head) (out : following d (suc n) ≡ rest) where
     abbrev Runs : ℕ → Names → Memory → State → Type 0
-    Runs i cur m s = Passing (loop_of g d rest) head s i cur m
+    Runs i cur m s = Passing (loop_of g true d rest) head s i cur m
 
     -- where some lanes came through a chunk
     chunk_pays : (i k cut whole : ℕ) (now : Memory) (names : Names) → 0 < k → k ≤ lanes_at g i → i ≤ limit g → cut ≤ whole → (k < lanes_at g i → LeftOut (iterate (var_scope g.kernel) g.turns (i + k) now names) cut)
-        → Pays (loop_of g d rest) (has_lanes g ground) k whole (Stuck (loop_of g d rest) (has_lanes g ground) (i + k) now names) 1
+        → Pays (loop_of g true d rest) (has_lanes g ground) k whole (Stuck (loop_of g true d rest) (has_lanes g ground) (i + k) now names) 1
     chunk_pays i k cut whole now names some le within more why =
         ⊎_elim
         (λ short. by_reason (why short))
@@ -77,19 +77,19 @@ module _ (g : Ground) (ground : IsGround g) (quits : list_any is_quit (items_of 
         (cases_lt k (most_lanes g)))
         (cases_lt k (lanes_at g i))
       where
-        by_reason : LeftOut (iterate (var_scope g.kernel) g.turns (i + k) now names) cut → Pays (loop_of g d rest) (has_lanes g ground) k whole (Stuck (loop_of g d rest) (has_lanes g ground) (i + k) now names) 1
-        by_reason (breaks h) = pays_last some (inr (inl h))
-        by_reason (faults h) = pays_last some (inr (inr h))
-        by_reason (suppressed lt) = pays_cut some (omega (arith, lt, more))
+        by_reason : LeftOut (iterate (var_scope g.kernel) g.turns (i + k) now names) cut → Pays (loop_of g true d rest) (has_lanes g ground) k whole (Stuck (loop_of g true d rest) (has_lanes g ground) (i + k) now names) 1
+        by_reason (breaks h) = pays_last some (inr (refl, inl h))
+        by_reason (faults h) = pays_last some (inr (refl, inr h))
+        by_reason (suppressed lt) = pays_cut refl some (omega (arith, lt, more))
 
     -- ---- after a chunk of which no lane came through
 
     module _ (i : ℕ) (cur : Names) (m : Memory) (s : State) (ih : (sum : List ℕ → ℕ → ℤ) (names : Names) (now : Memory) (t : State) → AtHead g (i + 1) names now sum t → Runs (i + 1) names now t) where
       by_turn : {cut : ℕ} {t : State} → i < limit g → Longer d head s alone t (chunk_most + 4) cut → LeftOut (iterate (var_scope g.kernel) g.turns i m cur) cut → Passes (λ turn cut. Breaks turn) g 1 i cur m d alone t after_turn turn_most → Runs i cur m s
       by_turn {cut = cut} lt lead reason (stops k j left faulted kind le fails lo hi access kept stop) =
-          let c = chunk_fits g ground in
-          let t = turn_fits g ground in
-          stops_here (loop_of g d rest) (has_lanes g ground) k j faulted (stop_following (chunk_most + 4 + turn_most) (omega arith) lead.leads stop) (omega (arith, c, t)) (omega (arith, lt, le)) lo hi fails
+          let c = chunk_fits g ground quits in
+          let t = turn_fits g ground quits in
+          stops_here (loop_of g true d rest) (has_lanes g ground) 2 k j faulted (stop_following (chunk_most + 4 + turn_most) (omega arith) lead.leads stop) (omega (arith, c, t)) (omega arith) (omega arith) (omega (arith, lt, le)) lo hi fails
           (stop_of g i k j left faulted kind (let l = has_lanes g ground in omega (arith, le, l)) (omega (arith, lt, le)) lo hi access kept)
       by_turn {cut = cut} lt lead reason (comes k now names sum end le goes turn why h top turned) =
           ⊎_elim (λ none. broke (lanes_none d end k n tail h top none) none) (λ some. goes_on (lanes_back d end k n tail h top (omega (arith, some))) (omega (arith, some, le))) (cases_eq k 0)
@@ -97,15 +97,15 @@ module _ (g : Ground) (ground : IsGround g) (quits : list_any is_quit (items_of 
           both : Longer d head s after_turn end (chunk_most + 4 + turn_most) cut
           both = following_leads (chunk_most + 4 + turn_most) (omega arith) lead turn
 
-          fits : chunk_most + 4 + (turn_most + 4) ≤ turn_steps g * 2
-          fits = let c = chunk_fits g ground in let t = turn_fits g ground in omega (arith, c, t)
+          fits : chunk_most + 4 + (turn_most + 2) ≤ pass_steps g.kernel * 2
+          fits = let c = chunk_fits g ground quits in let t = turn_fits g ground quits in omega (arith, c, t)
 
           broke : Tests g (i + k) names now sum d after_turn end tail 2 → k ≡ 0 → Runs i cur m s
           broke x none =
               let same = none_done (var_scope g.kernel) g.turns i m cur now names (subst (λ k. iterations (var_scope g.kernel) g.turns k i m cur ≡ Going now names) none goes) in
               let place : i + k ≡ i = omega (arith, none) in
               let all = following_goes (chunk_most + 4 + turn_most + 2) (omega arith) both (chain 2 (omega arith) x.goes pass) in
-              leaves_here (loop_of g d rest) (has_lanes g ground) all.leads (omega (arith, fits)) (omega (arith, lt)) (inr (same_place (λ i m ns. Breaks (iterate (var_scope g.kernel) g.turns i m ns)) place same.0 same.1 (why (omega (arith, none)))))
+              leaves_here (loop_of g true d rest) (has_lanes g ground) 2 all.leads (omega (arith, fits)) (omega arith) (omega arith) (omega (arith, lt)) (inr (refl, same_place (λ i m ns. Breaks (iterate (var_scope g.kernel) g.turns i m ns)) place same.0 same.1 (why (omega (arith, none)))))
               (same_place (λ i m ns. HeadOf g i ns m x.end) place same.0 same.1 (record { sum = sum; head = x.head }))
 
           cut_some : LeftOut (iterate (var_scope g.kernel) g.turns i m cur) cut → k ≡ 1 → 0 < both.leads.cut
@@ -117,7 +117,7 @@ module _ (g : Ground) (ground : IsGround g) (quits : list_any is_quit (items_of 
           goes_on x one =
               let all = following_goes (chunk_most + 4 + turn_most + 2) (omega arith) (record { leads = both.leads; more = cut_some reason one }) (subst (λ es. Goes d after_turn end es x.end 2) back x.goes) in
               let place : i + k ≡ i + 1 = omega (arith, one) in
-              passes_on (loop_of g d rest) (has_lanes g ground) 2 k all.leads (omega (arith, fits)) (omega arith) goes (pays_one all.more one)
+              passes_on (loop_of g true d rest) (has_lanes g ground) 2 k all.leads (omega (arith, fits)) goes (pays_one refl all.more one)
               (subst (λ j. Runs j names now x.end) (sym place) (ih sum names now x.end (head_at place x.head)))
 
       after_dry : {cut : ℕ} {sum : List ℕ → ℕ → ℤ} {t : State} → Longer d head s dry t (chunk_most + 2) cut → AtHead g i cur m sum t → IndexHeld g i t → (i < limit g → LeftOut (iterate (var_scope g.kernel) g.turns i m cur) cut) → Runs i cur m s
@@ -127,9 +127,9 @@ module _ (g : Ground) (ground : IsGround g) (quits : list_any is_quit (items_of 
           reached le =
               let x = bound_reached d t (suc n) alone ground h le in
               let all = following_goes (chunk_most + 4) (omega arith) lead (subst (λ es. Goes d dry t es x.end 2) out x.goes) in
-              let c = chunk_fits g ground in
+              let c = chunk_fits g ground quits in
               let within = h.between.within in
-              leaves_here (loop_of g d rest) (has_lanes g ground) all.leads (omega (arith, c)) within (inl (omega (arith, le, within))) (record { sum = sum; head = x.head })
+              leaves_here (loop_of g true d rest) (has_lanes g ground) 2 all.leads (omega (arith, c)) (omega arith) (omega arith) within (inl (omega (arith, le, within))) (record { sum = sum; head = x.head })
 
           ahead : i < limit g → Runs i cur m s
           ahead lt =
@@ -143,21 +143,21 @@ module _ (g : Ground) (ground : IsGround g) (quits : list_any is_quit (items_of 
 
     by_chunk : (fuel i : ℕ) (cur : Names) (m : Memory) (s : State) → limit g < i + suc fuel → i ≤ limit g → Later fuel → Passes LeftOut g (lanes_at g i) i cur m d head s after_chunk chunk_most → Runs i cur m s
     by_chunk fuel i cur m s less within ih (stops k j left faulted kind le fails lo hi access kept stop) =
-        let c = chunk_fits g ground in
-        stops_here (loop_of g d rest) (has_lanes g ground) k j faulted stop (omega (arith, c)) (omega (arith, within, le)) lo hi fails (stop_of g i k j left faulted kind (omega (arith, le)) (omega (arith, within, le)) lo hi access kept)
+        let c = chunk_fits g ground quits in
+        stops_here (loop_of g true d rest) (has_lanes g ground) 1 k j faulted stop (omega (arith, c)) (omega arith) (omega arith) (omega (arith, within, le)) lo hi fails (stop_of g i k j left faulted kind (omega (arith, le)) (omega (arith, within, le)) lo hi access kept)
     by_chunk fuel i cur m s less within ih (comes k now names sum end le goes lead why h top turned) =
         ⊎_elim (λ none. dried (lanes_none d end k n dry h top none) none) (λ some. goes_on (lanes_back d end k n dry h top (omega (arith, some))) (omega (arith, some))) (cases_eq k 0)
       where
         first : Longer d head s after_chunk end chunk_most lead.cut
         first = record { leads = lead; more = omega arith }
 
-        fits : chunk_most + 4 ≤ turn_steps g
-        fits = chunk_fits g ground
+        fits : chunk_most + 3 ≤ pass_steps g.kernel
+        fits = chunk_fits g ground quits
 
         goes_on : Tests g (i + k) names now sum d after_chunk end (following d n) 2 → 0 < k → Runs i cur m s
         goes_on x some =
             let all = following_goes (chunk_most + 2) (omega arith) first (subst (λ es. Goes d after_chunk end es x.end 2) back x.goes) in
-            passes_on (loop_of g d rest) (has_lanes g ground) 1 k all.leads (omega (arith, fits)) (omega arith) goes (chunk_pays i k lead.cut all.leads.cut now names some le within all.more why)
+            passes_on (loop_of g true d rest) (has_lanes g ground) 1 k all.leads (omega (arith, fits)) goes (chunk_pays i k lead.cut all.leads.cut now names some le within all.more why)
             (ih (i + k) names now sum x.end (omega (arith, less, some)) x.head)
 
         dried : Tests g (i + k) names now sum d after_chunk end dry 2 → k ≡ 0 → Runs i cur m s
@@ -172,7 +172,7 @@ module _ (g : Ground) (ground : IsGround g) (quits : list_any is_quit (items_of 
     follows zero i cur m sum s less h = let within = h.between.within in absurd (omega (arith, less, within))
     follows (suc fuel) i cur m sum s less h = by_chunk fuel i cur m s less h.between.within (follows fuel) (chunk_law g d after_chunk i cur m sum s ground quits h)
 
-  pub breaking_runs : {sum : List ℕ → ℕ → ℤ} {cur : Names} {m : Memory} {s : State} → Resolves d (breaking_code g.kernel g.vectors g.predicates (items_of g) n rest) → AtHead g 0 cur m sum s → Passing (loop_of g d rest) head s 0 cur m
+  pub breaking_runs : {sum : List ℕ → ℕ → ℤ} {cur : Names} {m : Memory} {s : State} → Resolves d (breaking_code g.kernel g.vectors g.predicates (items_of g) n rest) → AtHead g 0 cur m sum s → Passing (loop_of g true d rest) head s 0 cur m
   breaking_runs {sum = sum} {cur = cur} {m = m} {s = s} res h =
       let again = following_puts d (chunk_words (width g) (layout g) (bound_place g.kernel) (items_of g)) after_chunk res.1 in
       let done = following_puts d (turn_words (width g) (layout g) (items_of g)) after_turn again in

@@ -1,5 +1,5 @@
 -- How many words the vector code has.
-use Rattle.std.proofs.Common.{◌≡◌, ℕ, suc, ◌+◌, ◌*◌, ◌≤◌, Bool, true, false, List, [], ◌∷◌, ◌++◌, length, ap, Option, Some, None, refl, arith}
+use Rattle.std.proofs.Common.{◌≡◌, ℕ, suc, ◌+◌, ◌*◌, ◌≤◌, Bool, true, false, List, [], ◌∷◌, ◌++◌, length, ap, arith}
 use Rattle.std.specs.Prelude.{slice_index}
 use Rattle.std.specs.List.{list_any}
 use Rattle.guest_types.specs.declared.length.Width.{Width}
@@ -7,7 +7,7 @@ use Rattle.a64_code.specs.Table.{subs}
 use Rattle.machine_model.specs.InstructionTable.{Listed}
 use Rattle.kernel_tree.specs.declared.ops.Ty.{Ty}
 use Rattle.kernel_tree.specs.declared.ops.UpdateOp.{UpdateOp}
-use Rattle.kernel_tree.specs.Plain.{PlainLoop, Program}
+use Rattle.kernel_tree.specs.Plain.{Program}
 use Rattle.kernel_tree.specs.Items.{size_of}
 use Rattle.kernel_meaning.specs.Operators as meaning
 use Rattle.kernel_meaning.specs.Operators.{wrapped, operator_of}
@@ -17,9 +17,11 @@ use Rattle.label_fix.proofs.PlacedRuns.{size-append}
 use Rattle.reg_assign.specs.declared.interval.RegClass.TheVariants.{Z}
 use Rattle.reg_assign.specs.Registers.{Assignment}
 use Rattle.loop_form.specs.Lanes.{lane_width_of}
-use Rattle.loop_form.specs.LoopItems.{Item, turns_items, loop_items_of}
+use Rattle.loop_form.specs.LoopItems.{Item, loop_items_of}
 use Rattle.loop_form.specs.Needs.{Throughout, Scalar, Constant, Index, Accumulating, throughout}
 use Rattle.dependence.specs.Apart.{bound_place}
+use Rattle.close_bound.proofs.CloseBounds.{lanes_few, items_few}
+use Rattle.close_bound.proofs.LoopSizes.{all_items}
 use Rattle.scalar_words.specs.Layout.{register_at}
 use Rattle.scalar_words.specs.KernelRegisters.{kernel_homes}
 use Rattle.scalar_words.specs.Words.{settle_word, binary_code}
@@ -33,7 +35,6 @@ use Rattle.chunk_pass.specs.PassCode.{lanes_word, chunk_words, turn_words, plain
 use Rattle.loop_edges.specs.EdgeCode.{type_of_var, number_code, hold_code, holds_code, start_code, join_code, fold_one, folds_code, fold_code}
 use Rattle.loop_edges.proofs.StartCounts.{few_held}
 use Rattle.vector_emit.specs.VectorCode.{any_lane, passes_by, passes_code, vector_code}
-use Rattle.vector_emit.proofs.Sizes.{few_items}
 use Rattle.vector_emit.proofs.PassSizes.{chunk_few, turn_few, plain_few}
 
 size-puts : (is : List Listed) (rest : List Entry) → size (puts is rest) ≡ length is + size rest
@@ -78,7 +79,7 @@ folds_few R k a j (t ∷ ts) rest = let here = fold_few R k (slice_index a.regis
 
 -- ---- the passes
 
-passes_few : (c : Bool) (k : Program) (a b : Assignment) (items : List Item) (n : ℕ) (rest : List Entry) → size (passes_by c k a b items n rest) ≤ 13 + 9 * length items + size rest
+passes_few : (c : Bool) (k : Program) (a b : Assignment) (items : List Item) (n : ℕ) (rest : List Entry) → size (passes_by c k a b items n rest) ≤ 13 + 12 * length items + size rest
 passes_few true k a b items n rest =
     let w = lane_width_of k in
     let l = layout_of_loop k a b in
@@ -88,20 +89,15 @@ passes_few true k a b items n rest =
     let middle : List Entry = Put any_lane ∷ Branch (If 1) n ∷ ins subs (31 ∷ 9 ∷ 0 ∷ bound_place k ∷ 0 ∷ []) ∷ Branch (If 2) (suc n) ∷ puts (turn_words w l items) last in
     let p = size-puts (chunk_words w l (bound_place k) items) middle in
     let q = size-puts (turn_words w l items) last in
-    omega (arith, x, y, p, q)
+    let six = items_few true items in
+    omega (arith, x, y, p, q, six)
 passes_few false k a b items n rest =
     let w = lane_width_of k in
     let l = layout_of_loop k a b in
     let x = plain_few w l items in
     let p = size-puts (plain_words w l items) (Put (lanes_word w (bound_place k)) ∷ Branch (If 1) n ∷ Place (suc n) ∷ rest) in
-    omega (arith, x, p)
-
-all_items : (k : Program) → length (loop_items_of k) ≤ size_of k
-all_items k = by_turns k.turns refl
-  where
-    by_turns : (o : Option PlainLoop) → k.turns ≡ o → length (turns_items k o) ≤ size_of k
-    by_turns None e = omega arith
-    by_turns (Some l) e = few_items k l e
+    let three = lanes_few items in
+    omega (arith, x, p, three)
 
 -- ---- the whole
 

@@ -58,23 +58,32 @@ Answers s l answer = (m : Memory) (ns : Names) → IsThere (returned (after_turn
 closed_ends : (s : Scope) (l : PlainLoop) (answer : Option Returned) (m : Memory) (ns : Names) (done n most : ℕ) → Answers s l answer → n ≤ most → EndsBy (closed s l answer m ns done n) most
 closed_ends s l answer m ns done n most there le = let h = there m (with_name l.index ns (pos done)) in record { memory = m; result = h.0; count = n; is = ap (ended m n) h.1; few = le }
 
--- no iteration is left, or the next one breaks
-pub late_ends : (s : Scope) (l : PlainLoop) (answer : Option Returned) (b j : ℕ) (m : Memory) (ns : Names) → Answers s l answer → bound_of l ns ≡ b → j ≤ b → (j ≡ b) ⊎ Breaks (iterate s l j m ns) → EndsBy (turns_from s (Some l) answer j m ns) (j + 1)
+-- no iteration is left
+pub bound_ends : (s : Scope) (l : PlainLoop) (answer : Option Returned) (b j : ℕ) (m : Memory) (ns : Names) → Answers s l answer → bound_of l ns ≡ b → j ≡ b → EndsBy (turns_from s (Some l) answer j m ns) j
 unfolding iterations
-late_ends s l answer b j m ns there e le late =
-    subst (λ r. EndsBy r (j + 1)) (sym (ap (λ n. finish s l answer n (iterations s l (n - j) j m ns)) e)) (⊎_elim at_bound (λ breaks. ⊎_elim (λ lt. breaking lt breaks) (λ ge. at_bound (omega (arith, le, ge))) (cases_lt j b)) late)
-  where
-    at_bound : j ≡ b → EndsBy (finish s l answer b (iterations s l (b - j) j m ns)) (j + 1)
-    at_bound e2 =
-        let none : b - j ≡ 0 = omega (arith, e2) in
-        subst (λ n. EndsBy (finish s l answer b (iterations s l n j m ns)) (j + 1)) (sym none) (closed_ends s l answer m ns b b (j + 1) there (omega (arith, e2)))
+bound_ends s l answer b j m ns there e last =
+    let none : b - j ≡ 0 = omega (arith, last) in
+    subst (λ r. EndsBy r j) (sym (ap (λ n. finish s l answer n (iterations s l (n - j) j m ns)) e))
+    (subst (λ n. EndsBy (finish s l answer b (iterations s l n j m ns)) j) (sym none) (closed_ends s l answer m ns b b j there (omega (arith, last))))
 
+abbrev pub more_ends : {run : Run} (most : ℕ) {few : ℕ} → few ≤ most → EndsBy run few → EndsBy run most
+more_ends most le e = record { memory = e.memory; result = e.result; count = e.count; is = e.is; few = let f = e.few in omega (arith, f, le) }
+
+-- or the next one breaks
+pub break_ends : (s : Scope) (l : PlainLoop) (answer : Option Returned) (b j : ℕ) (m : Memory) (ns : Names) → Answers s l answer → bound_of l ns ≡ b → j ≤ b → Breaks (iterate s l j m ns) → EndsBy (turns_from s (Some l) answer j m ns) (j + 1)
+unfolding iterations
+break_ends s l answer b j m ns there e le breaks =
+    ⊎_elim
+    (λ lt. subst (λ r. EndsBy r (j + 1)) (sym (ap (λ n. finish s l answer n (iterations s l (n - j) j m ns)) e)) (breaking lt))
+    (λ ge. more_ends (j + 1) (omega arith) (bound_ends s l answer b j m ns there e (omega (arith, le, ge))))
+    (cases_lt j b)
+  where
     by_turn : (t : BlockEnd Names) (rest : Memory → Names → LoopState Names) → Breaks t → EndsBy (finish s l answer b (go_on t j rest)) (j + 1)
     by_turn (Next m2 ns2) rest h = absurd h
     by_turn (Broke m2 ns2) rest h = closed_ends s l answer m2 ns2 j (j + 1) (j + 1) there (omega arith)
     by_turn (Faulted m2) rest h = absurd h
 
-    breaking : j < b → Breaks (iterate s l j m ns) → EndsBy (finish s l answer b (iterations s l (b - j) j m ns)) (j + 1)
-    breaking lt h =
+    breaking : j < b → EndsBy (finish s l answer b (iterations s l (b - j) j m ns)) (j + 1)
+    breaking lt =
         let more : b - j ≡ suc (b - j - 1) = omega (arith, lt) in
-        subst (λ n. EndsBy (finish s l answer b (iterations s l n j m ns)) (j + 1)) (sym more) (by_turn (iterate s l j m ns) (iterations s l (b - j - 1) (j + 1)) h)
+        subst (λ n. EndsBy (finish s l answer b (iterations s l n j m ns)) (j + 1)) (sym more) (by_turn (iterate s l j m ns) (iterations s l (b - j - 1) (j + 1)) breaks)

@@ -1,5 +1,5 @@
 -- The loop of passes of a kernel, and what follows from a pass that stops.
-use Rattle.std.proofs.Common.{◌≡◌, ℕ, ◌+◌, ◌<◌, ◌≤◌, List, subst, arith}
+use Rattle.std.proofs.Common.{◌≡◌, ℕ, ◌+◌, ◌<◌, ◌≤◌, Bool, List, subst, arith}
 use Rattle.std.specs.Prelude.{ℤ, ◌^◌}
 use Rattle.guest_types.specs.Memory.{Memory, byte_at}
 use Rattle.machine_model.specs.declared.outcome.StopKind.{StopKind}
@@ -11,9 +11,10 @@ use Rattle.label_fix.specs.Stretches.{Leads}
 use Rattle.label_fix.proofs.StretchSteps.{Goes, leads_of}
 use Rattle.machine_model.specs.Run.{IsAccess}
 use Rattle.vector_order.specs.Elsewhere.{Elsewhere}
+use Rattle.close_bound.specs.CloseBound.{pass_steps}
 use Rattle.chunk_emit.specs.Head.{Ground, IsGround, AtHead, width, most_lanes, limit}
 use Rattle.first_fault.proofs.Stretches.{follow, follow-cut}
-use Rattle.vector_emit.specs.VectorRuns.{Near, turn_steps}
+use Rattle.vector_emit.specs.VectorRuns.{Near}
 use Rattle.vector_emit.proofs.Flags.{some_lanes}
 use Rattle.vector_emit.proofs.PassLoop.{Rounds}
 
@@ -27,13 +28,14 @@ pub record StopOf (g : Ground) (kind : StopKind) (j : ℕ) (left faulted : Memor
   pub access : IsAccess kind
   pub near : Near g (j + 1) left faulted
 
-abbrev pub loop_of : Ground → Laid → List Entry → Rounds
-loop_of g d rest = record {
+abbrev pub loop_of : Ground → (breaks : Bool) → Laid → List Entry → Rounds
+loop_of g b d rest = record {
   scope = var_scope g.kernel;
   turns = g.turns;
+  breaks = b;
   limit = limit g;
   lanes = most_lanes g;
-  unit = turn_steps g;
+  unit = pass_steps g.kernel;
   draft = d;
   rest = rest;
   Head = HeadOf g;

@@ -1,4 +1,3 @@
-pub mod Sizes
 pub mod PassSizes
 pub mod Iterations
 pub mod Paces

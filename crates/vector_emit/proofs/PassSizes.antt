@@ -1,11 +1,12 @@
 -- The words of a pass are few.
-use Rattle.std.proofs.Common.{◌≡◌, ℕ, ◌+◌, ◌*◌, ◌≤◌, Bool, true, false, List, [], ◌∷◌, ◌++◌, length, refl, arith}
+use Rattle.std.proofs.Common.{◌≡◌, ℕ, ◌+◌, ◌≤◌, Bool, true, false, List, [], ◌∷◌, ◌++◌, length, Option, Some, None, refl, ap, ◌∙◌, arith}
 use Rattle.std.specs.Prelude.{if◌then◌else◌}
 use Rattle.std.specs.List.{list_any}
 use Rattle.std.proofs.lemmas.List.{length-append}
 use Rattle.guest_types.specs.declared.length.Width.{Width}
 use Rattle.loop_form.specs.declared.loop_item.Source.TheVariants.{LoopIndex}
-use Rattle.loop_form.specs.LoopItems.{Item}
+use Rattle.loop_form.specs.LoopItems.{Item, turns_items}
+use Rattle.close_bound.specs.CloseBound.{has_break, lane_steps, early_steps, items_steps, around_steps, pass_steps}
 use Rattle.lane_emit.specs.LaneCode.{index_code}
 use Rattle.chunk_emit.specs.Registers.{Layout}
 use Rattle.chunk_emit.specs.ChunkCode.{vectors, items_words}
@@ -19,14 +20,21 @@ use Rattle.first_fault.proofs.Counts.{always_few}
 use Rattle.first_fault.proofs.SplitCode.{steps_few}
 use Rattle.chunk_pass.specs.Chunks.{items_of}
 use Rattle.chunk_pass.specs.PassCode.{first_lane_words, index_words, advance_word, chunk_words, turn_words, plain_words}
-use Rattle.vector_emit.specs.VectorRuns.{turn_steps}
-use Rattle.vector_emit.proofs.Sizes.{few_items}
 
-parts : (items : List Item) → length (region_of items) + length (rest_of items) ≡ length items
+-- items take no fewer steps in a loop with a break
+more_early : (items : List Item) → items_steps false items ≤ items_steps true items
+more_early [] = omega arith
+more_early (it ∷ items) = let here = at it.mask in let more = more_early items in omega (arith, here, more)
+  where
+    at : (mask : Option ℕ) → lane_steps it.op ≤ early_steps mask it.op
+    at None = omega arith
+    at (Some q) = omega arith
+
+parts : (items : List Item) → items_steps true (region_of items) + items_steps true (rest_of items) ≡ items_steps true items
 parts [] = refl
 parts (it ∷ items) = by_quit (list_any is_quit (it ∷ items)) (parts items)
   where
-    by_quit : (b : Bool) → length (region_of items) + length (rest_of items) ≡ length items → length (if b then it ∷ region_of items else []) + length (if b then rest_of items else it ∷ items) ≡ length (it ∷ items)
+    by_quit : (b : Bool) → items_steps true (region_of items) + items_steps true (rest_of items) ≡ items_steps true items → items_steps true (if b then it ∷ region_of items else []) + items_steps true (if b then rest_of items else it ∷ items) ≡ items_steps true (it ∷ items)
     by_quit true h = omega (arith, h)
     by_quit false h = omega arith
 
@@ -38,10 +46,10 @@ index_few l = by_held (l.held LoopIndex)
     by_held false = omega arith
 
 -- the last word, after the items
-items_end : (w : Width) (l : Layout) (items : List Item) → length (items_words w l items ++ advance_word w ∷ []) ≤ 3 * length items + 1
+items_end : (w : Width) (l : Layout) (items : List Item) → length (items_words w l items ++ advance_word w ∷ []) ≤ items_steps false items + 1
 items_end w l items = let a = length-append (items_words w l items) (advance_word w ∷ []) in let few = few_words w l items in omega (arith, a, few)
 
-pub chunk_few : (w : Width) (l : Layout) (n : ℕ) (items : List Item) → length (chunk_words w l n items) ≤ 4 + 5 * length items
+pub chunk_few : (w : Width) (l : Layout) (n : ℕ) (items : List Item) → length (chunk_words w l n items) ≤ 4 + items_steps true items
 chunk_few w l n items =
     let tail = items_words w l (rest_of items) ++ advance_word w ∷ [] in
     let a = length-append (index_words l) (exits_words w l (split_breaks l (region_of items)) ++ tail) in
@@ -50,10 +58,11 @@ chunk_few w l n items =
     let y = (always_few w l (split_breaks l (region_of items))).exits in
     let fewer = steps_few l (region_of items) in
     let z = items_end w l (rest_of items) in
+    let early = more_early (rest_of items) in
     let all = parts items in
-    omega (arith, a, b, x, y, fewer, z, all)
+    omega (arith, a, b, x, y, fewer, z, early, all)
 
-pub turn_few : (w : Width) (l : Layout) (items : List Item) → length (turn_words w l items) ≤ 3 + 4 * length items
+pub turn_few : (w : Width) (l : Layout) (items : List Item) → length (turn_words w l items) ≤ 3 + items_steps true items
 turn_few w l items =
     let tail = items_words w l (rest_of items) ++ advance_word w ∷ [] in
     let a = length-append (first_lane_words w) (single_words w l (split_breaks l (region_of items)) ++ tail) in
@@ -61,22 +70,32 @@ turn_few w l items =
     let y = (always_few w l (split_breaks l (region_of items))).single in
     let fewer = steps_few l (region_of items) in
     let z = items_end w l (rest_of items) in
+    let early = more_early (rest_of items) in
     let all = parts items in
-    omega (arith, a, b, y, fewer, z, all)
+    omega (arith, a, b, y, fewer, z, early, all)
 
-pub plain_few : (w : Width) (l : Layout) (items : List Item) → length (plain_words w l items) ≤ 2 + 3 * length items
+pub plain_few : (w : Width) (l : Layout) (items : List Item) → length (plain_words w l items) ≤ 2 + items_steps false items
 plain_few w l items =
     let a = length-append (index_words l) (items_words w l items ++ advance_word w ∷ []) in
     let x = index_few l in
     let z = items_end w l items in
     omega (arith, a, x, z)
 
--- a pass with the tests after it
-pub chunk_fits : (g : Ground) → IsGround g → length (chunk_words (width g) (layout g) (bound_place g.kernel) (items_of g)) + 4 ≤ turn_steps g
-chunk_fits g ground = let few = chunk_few (width g) (layout g) (bound_place g.kernel) (items_of g) in let items = few_items g.kernel g.turns ground.loops in omega (arith, few, items)
+-- ---- a pass with the tests after it
 
-pub turn_fits : (g : Ground) → IsGround g → length (turn_words (width g) (layout g) (items_of g)) + 4 ≤ turn_steps g
-turn_fits g ground = let few = turn_few (width g) (layout g) (items_of g) in let items = few_items g.kernel g.turns ground.loops in omega (arith, few, items)
+pub break_is : (g : Ground) → IsGround g → has_break g.kernel ≡ list_any is_quit (items_of g)
+break_is g ground = ap (λ o. list_any is_quit (turns_items g.kernel o)) ground.loops
 
-pub plain_fits : (g : Ground) → IsGround g → length (plain_words (width g) (layout g) (items_of g)) + 4 ≤ turn_steps g
-plain_fits g ground = let few = plain_few (width g) (layout g) (items_of g) in let items = few_items g.kernel g.turns ground.loops in omega (arith, few, items)
+pass_is : (g : Ground) (b : Bool) → IsGround g → list_any is_quit (items_of g) ≡ b → pass_steps g.kernel ≡ items_steps b (items_of g) + around_steps b
+pass_is g b ground e =
+    ap (λ o. items_steps (list_any is_quit (turns_items g.kernel o)) (turns_items g.kernel o) + around_steps (list_any is_quit (turns_items g.kernel o))) ground.loops
+    ∙ ap (λ b. items_steps b (items_of g) + around_steps b) e
+
+pub chunk_fits : (g : Ground) → IsGround g → list_any is_quit (items_of g) ≡ true → length (chunk_words (width g) (layout g) (bound_place g.kernel) (items_of g)) + 3 ≤ pass_steps g.kernel
+chunk_fits g ground quits = let few = chunk_few (width g) (layout g) (bound_place g.kernel) (items_of g) in let is = pass_is g true ground quits in omega (arith, few, is)
+
+pub turn_fits : (g : Ground) → IsGround g → list_any is_quit (items_of g) ≡ true → length (turn_words (width g) (layout g) (items_of g)) + 4 ≤ pass_steps g.kernel
+turn_fits g ground quits = let few = turn_few (width g) (layout g) (items_of g) in let is = pass_is g true ground quits in omega (arith, few, is)
+
+pub plain_fits : (g : Ground) → IsGround g → list_any is_quit (items_of g) ≡ false → length (plain_words (width g) (layout g) (items_of g)) + 2 ≤ pass_steps g.kernel
+plain_fits g ground quits = let few = plain_few (width g) (layout g) (items_of g) in let is = pass_is g false ground quits in omega (arith, few, is)

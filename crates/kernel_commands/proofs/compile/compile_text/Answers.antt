@@ -16,6 +16,7 @@ returns-clause-file c = record {
   kernel = program_of (kernel_of c.in_ok-kernel.kernel);
   sound = c.in_ok-kernel.ensures.sound;
   faithful = c.in_ok-file.ensures.faithful;
+  close = c.in_ok-file.ensures.close;
   ends = c.in_ok-file.ensures.ends;
   code = c.in_ok-file.ensures.code;
   small = c.executable.ensures.small;

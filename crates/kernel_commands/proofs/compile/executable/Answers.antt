@@ -3,7 +3,7 @@ use Rattle.kernel_tree.specs.Plain.{program_of}
 use Rattle.kernel_tree.specs.Checked.{kernel_of}
 use Rattle.loop_form.specs.View.{program}
 use Rattle.machine_model.specs.Written.{file_of}
-use Rattle.promises.specs.Faithful.{FreeFaithful, FreeEnds}
+use Rattle.promises.specs.Faithful.{FreeFaithful, FreeEnds, CloseFaithful}
 use Rattle.kernel_commands.specs.Commands.{compiled_by, RefusesCompile}
 use Rattle.kernel_commands.proofs.Expectations.{refuses_compile}
 use Rattle.kernel_commands.proofs.compile.executable.Goals as goal
@@ -18,6 +18,11 @@ pub returns-clause-faithful : goal.returns-clause-faithful
 unfolding program
 returns-clause-faithful c =
     subst (FreeFaithful (program_of (kernel_of c.args.kernel.now))) (sym (c.in_ok-file.ensures.file ∙ ap file_of c.deref.ensures.value)) c.in-Ok.ensures.faithful
+
+pub returns-clause-close : goal.returns-clause-close
+unfolding program
+returns-clause-close c =
+    subst (CloseFaithful (program_of (kernel_of c.args.kernel.now))) (sym (c.in_ok-file.ensures.file ∙ ap file_of c.deref.ensures.value)) c.in-Ok.ensures.close
 
 pub returns-clause-ends : goal.returns-clause-ends
 unfolding program

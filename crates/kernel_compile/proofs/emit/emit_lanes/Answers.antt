@@ -91,8 +91,8 @@ returns-clause-short c =
     let n = ap length c.in_ok-words.ensures.words in
     omega (arith, few, n, words_length c.emit_vector.new.draft.entries)
 
-pub returns-clause-faithful : goal.returns-clause-faithful
-returns-clause-faithful c =
+pub returns-clause-close : goal.returns-clause-close
+returns-clause-close c =
     let k = program c.args.kernel.now in
     let R = register_in c.args.regs.now.x in
     let d : Emitted R k c.args.regs.now.z c.args.regs.now.p c.in_ok-vector.vector c.in_ok-scalar.field-0.at_iteration c.new-draft.result.labels c.label.new.self.labels c.emit_begin.new.draft.labels c.branch-draft.new.self.labels c.emit_scalar.new.draft.labels c.place.new.self.labels c.guard.new.draft.labels
@@ -133,7 +133,7 @@ returns-clause-faithful c =
       meets = c.meets_apart.ensures;
       vectors = c.vector_runs.ensures;
     } in
-    (vector_file k c.args.regs.now.z c.args.regs.now.p c.args.regs.now.x c.emit_vector.new.draft.labels _ _ _ c.emit_vector.new.draft.entries c.in_ok-words.words.items joined (is_whole d) c.in_ok-words.ensures.fit (omega (arith, few, c.few_items.ensures.size)) c.in_ok-words.ensures.words small).faithful
+    (vector_file k c.args.regs.now.z c.args.regs.now.p c.args.regs.now.x c.emit_vector.new.draft.labels _ _ _ c.emit_vector.new.draft.entries c.in_ok-words.words.items joined (is_whole d) c.in_ok-words.ensures.fit (omega (arith, few, c.few_items.ensures.size)) c.in_ok-words.ensures.words small).close
 
 pub returns-clause-ends : goal.returns-clause-ends
 returns-clause-ends c =

@@ -1,7 +1,7 @@
 use Rattle.std.proofs.Common.{sym, ap, ◌∙◌, subst, arith}
 use Rattle.loop_form.specs.View.{program}
 use Rattle.machine_model.specs.Written.{file_of}
-use Rattle.promises.specs.Faithful.{FreeFaithful, FreeEnds}
+use Rattle.promises.specs.Faithful.{FreeFaithful, FreeEnds, CloseFaithful}
 use Rattle.promises.specs.Refusals.{IsRefusal}
 use Rattle.sweep_run.proofs.file.sweep_file.Goals as goal
 
@@ -17,6 +17,8 @@ returns c =
       file_is = is;
       faithful = subst (λ k. FreeFaithful k c.in_ok-file.file.items) c.in_ok-kernel.ensures
           (subst (FreeFaithful (program c.in_ok-kernel.kernel)) (sym is) c.in-Ok.ensures.faithful);
+      close = subst (λ k. CloseFaithful k c.in_ok-file.file.items) c.in_ok-kernel.ensures
+          (subst (CloseFaithful (program c.in_ok-kernel.kernel)) (sym is) c.in-Ok.ensures.close);
       ends = subst (λ k. FreeEnds k c.in_ok-file.file.items) c.in_ok-kernel.ensures
           (subst (FreeEnds (program c.in_ok-kernel.kernel)) (sym is) c.in-Ok.ensures.ends);
     }

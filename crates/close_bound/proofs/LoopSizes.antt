@@ -1,5 +1,5 @@
 -- A loop has no more items than its kernel.
-use Rattle.std.proofs.Common.{◌≡◌, ℕ, suc, ◌+◌, ◌≤◌, ℤ, List, [], ◌∷◌, length, Option, Some, None, ap, ◌∙◌, arith}
+use Rattle.std.proofs.Common.{◌≡◌, ℕ, suc, ◌+◌, ◌≤◌, ℤ, List, [], ◌∷◌, length, Option, Some, None, refl, ap, ◌∙◌, arith}
 use Rattle.std.specs.Prelude.{option_map}
 use Rattle.kernel_tree.specs.declared.ops.Ty.{Ty}
 use Rattle.kernel_tree.specs.Plain.{Term, Literal, Variable, Element, Unary, Operation, Shift, Conversion, Choice, Comparison, Both, Either, Not, Action, Define, Put, Update, Choose, Leave, Block, Done, Then, Otherwise, Nothing, Else, PlainLoop, Program}
@@ -7,7 +7,7 @@ use Rattle.kernel_tree.specs.Items.{stream_offset, index_size, index_items, term
 use Rattle.kernel_tree.specs.Typing.{Scope, own, first, index_type, side_type, after_action, after_block, left, in_loop, var_scope}
 use Rattle.kernel_tree.proofs.Scopes.{index_after, scope_index}
 use Rattle.loop_form.specs.declared.loop_item.Source.{Source}
-use Rattle.loop_form.specs.LoopItems.{Bound, Item, array_type, accumulator_of, truth_home, load_item, gather_item, store_item, term_items, cond_items, after_env, action_items, block_items, otherwise_items, loop_env, loop_items}
+use Rattle.loop_form.specs.LoopItems.{Bound, Item, array_type, accumulator_of, truth_home, load_item, gather_item, store_item, term_items, cond_items, after_env, action_items, block_items, otherwise_items, loop_env, loop_items, turns_items, loop_items_of}
 
 load_few : (scope : Scope) (mask : Option ℕ) (q : ℕ) (env : List Bound) (a : List ℕ) (o : Option ℤ) (gathered rest : List Item) (n : ℕ) → length gathered ≤ n + suc (length rest) → length (load_item scope mask q env a o gathered rest) ≤ index_size o n + 1 + length rest
 load_few scope mask q env a None gathered rest n h = omega (arith, h)
@@ -122,3 +122,10 @@ few_items k l is =
     let size : block_size (var_scope k).index l.body ≡ block_size (Some l.index) l.body = ap (λ i. block_size i l.body) index in
     let whole : turns_size k.turns ≡ 1 + block_size (Some l.index) l.body = ap turns_size is in
     omega (arith, h, size, whole)
+
+pub all_items : (k : Program) → length (loop_items_of k) ≤ size_of k
+all_items k = by_turns k.turns refl
+  where
+    by_turns : (o : Option PlainLoop) → k.turns ≡ o → length (turns_items k o) ≤ size_of k
+    by_turns None e = omega arith
+    by_turns (Some l) e = few_items k l e

@@ -1,0 +1,4 @@
+pub mod LoopSizes
+pub mod HeldCounts
+pub mod CloseBounds
+mod CloseExamples
