@@ -1,8 +1,11 @@
 //! Whether a kernel's values find registers, and which ones.
 
-ghost use Rattle.std.specs.Prelude.{◌≡◌, None, IfErr, IfOk, OnOk};
-ghost use Rattle.loop_form.specs.Needs.{needs_of};
+ghost use Rattle.std.specs.Prelude.{◌≡◌, ◌≤◌, None, IfErr, IfOk, OnOk};
+ghost use Rattle.dependence.specs.Classes.{class_of};
+ghost use Rattle.dependence.specs.declared.reason.Class.TheVariants.{Vector};
+ghost use Rattle.loop_form.specs.Needs.{need};
 ghost use Rattle.loop_form.specs.Registers.{FitsKernel};
+ghost use Rattle.loop_form.specs.Registers as registers;
 ghost use Rattle.reg_assign.specs.declared.interval.RegClass.TheVariants.{X, Z, P};
 ghost use Rattle.loop_form.specs.View.{program};
 ghost use Rattle.promises.specs.Refusals as refusals;
@@ -16,7 +19,7 @@ use loop_form::laws::ordered_intervals;
 use loop_form::need::Needs;
 use loop_lists::{intervals, needs};
 use promises::CompileFault;
-use reg_assign::{Assigned, RegClass, VectorRegs, assign};
+use reg_assign::{AssignFault, Assigned, RegClass, VectorRegs, assign};
 use std::alloc::{AllocError, Global};
 
 fn need_in(needs: Needs, class: RegClass) -> u32
@@ -67,21 +70,23 @@ pub fn check_needs(alloc: Global, kernel: &Checked) -> Result<(), CompileFault>
     Ok(())
 }
 
-// The registers of the intervals of a class.
+// The registers of the intervals of a class, of which no more are needed than there are: want of memory is the one refusal.
 #[tactic(auto, unfolding(loop_form::specs::View::program))]
 fn class_registers(alloc: Global, kernel: &Checked, class: RegClass) -> Result<Assigned, AllocError>
+    requires { need (program kernel.now) class ≤ registers.counted_registers class }
     ensures { IfOk result (FitsKernel (program kernel.now) class) }
 {
     ordered_intervals(kernel, class);
     let intervals = intervals(alloc, kernel, class)?;
-    // No more registers are needed than there are: want of memory is all that is left.
     match assign(alloc, &intervals, class, counted_registers(class)) {
         Ok(assigned) => Ok(assigned),
-        Err(_) => Err(AllocError),
+        Err(AssignFault::Memory) => Err(AllocError),
+        Err(AssignFault::TooMany { .. }) => unreachable!(),
     }
 }
 
 /// The registers of the intervals of class X.
+#[tactic(auto, using(crate::proofs::Enough::enough_for_scalars))]
 pub fn scalar_registers(alloc: Global, kernel: &Checked) -> Result<Assigned, AllocError>
     requires { too_many (program kernel.now) ≡ None }
     ensures { IfOk result (FitsKernel (program kernel.now) X) }
@@ -91,8 +96,10 @@ pub fn scalar_registers(alloc: Global, kernel: &Checked) -> Result<Assigned, All
 }
 
 /// The registers of the intervals of all three classes.
+#[tactic(auto, using(crate::proofs::Enough::enough_for_vectors))]
 pub fn vector_registers(alloc: Global, kernel: &Checked) -> Result<VectorRegs, AllocError>
-    requires { too_many (program kernel.now) ≡ None }
+    requires enough { too_many (program kernel.now) ≡ None }
+    requires class { class_of (program kernel.now) ≡ Vector }
     ensures vectors { IfOk result (λ regs. FitsKernel (program kernel.now) Z regs.z) }
     ensures predicates { IfOk result (λ regs. FitsKernel (program kernel.now) P regs.p) }
     ensures scalars { IfOk result (λ regs. FitsKernel (program kernel.now) X regs.x) }

@@ -4,3 +4,4 @@ pub mod Zeros
 pub mod Puts
 pub mod ByteLaws
 pub mod MapsBeside
+pub mod MapsAlone

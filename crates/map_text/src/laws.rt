@@ -1,9 +1,9 @@
-//! Laws of the definitions: what the lines of a map leave in memory, byte by byte.
+//! Laws of the definitions: what the lines of a map leave in memory, byte by byte, and that a map gives the same pages alone.
 
-ghost use Rattle.std.specs.Prelude.{◌≡◌, ℕ, ◌+◌, ◌*◌, ◌^◌, ◌<◌, ◌≤◌, ◌⊎◌, ◌↔◌, true, List, length, slice_index, Some, IsSome, All};
+ghost use Rattle.std.specs.Prelude.{◌≡◌, ℕ, ◌+◌, ◌*◌, ◌^◌, ◌<◌, ◌≤◌, ◌⊎◌, ◌↔◌, true, List, [], length, slice_index, Some, IsSome, Ok, All};
 ghost use Rattle.guest_types.specs.declared.memory.Perm.{Perm};
 ghost use Rattle.guest_types.specs.Memory.{Memory, IsMemory, DoNotMeet, byte_at, can_read, merged};
-ghost use Rattle.map_text.specs.Mapping.{put_bytes, zero_pages};
+ghost use Rattle.map_text.specs.Mapping.{put_bytes, zero_pages, map_of};
 
 /// Bytes are put exactly where each of their addresses is mapped; each then stands at its own, and no other byte changes.
 pub fn bytes_are_put()
@@ -29,4 +29,9 @@ pub fn pages_are_zeros()
         → DoNotMeet pages (zero_pages perm first count)
         → (other < 4096 * first) ⊎ (4096 * (first + count) ≤ other)
         → byte_at (merged pages (zero_pages perm first count)) other ≡ byte_at pages other }
+{}
+
+/// A map that may be read beside an image gives the same pages where it is read alone.
+pub fn map_read_alone()
+    ensures { (text : List ℕ) (image pages : Memory) → map_of text image ≡ Ok pages → map_of text [] ≡ Ok pages }
 {}

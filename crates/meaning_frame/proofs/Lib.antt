@@ -1,0 +1,3 @@
+mod MorePages
+mod MoreValues
+pub mod MoreRuns
