@@ -1,0 +1,2 @@
+mod CompiledRuns
+mod EvaluatedRuns

@@ -1,0 +1,2 @@
+pub mod CompiledRuns
+pub mod EvaluatedRuns
