@@ -62,6 +62,13 @@ square = refl
 square_signed : binary_stays scope (Some ty.I16) binary.Mul (Conversion byte ty.I16) (Conversion byte ty.I16) ≡ false
 square_signed = refl
 
+-- (a[x] as i32 & 15) * 3, and the common bits of x and a[x] as i32
+masked : bounds_of scope (Some ty.I32) (Operation binary.Mul (Operation binary.And (Conversion byte ty.I32) (Literal (pos 15))) (Literal (pos 3))) ≡ between (pos 0) (pos 45)
+masked = refl
+
+bits : bounds_of scope (Some ty.I32) (Operation binary.And (Variable (codes "x")) (Conversion byte ty.I32)) ≡ between (pos 0) (pos 255)
+bits = refl
+
 -- the products of the ends
 products : product (between (negsuc 2) (pos 5)) (between (negsuc 6) (pos 2)) ≡ between (negsuc 34) (pos 21)
 products = refl

@@ -1,9 +1,9 @@
 -- Values lie within their bounds, and what lies in a type is not wrapped.
 use Rattle.std.proofs.Common.{◌≡◌, ◌∙◌, ℕ, ◌+◌, ◌^◌, ◌/◌, ◌≤◌, Bool, true, false, List, [], ◌++◌, Option, Some, None, refl, sym, ap, subst, arith}
-use Rattle.std.specs.Prelude.{ℤ, pos, negsuc, ◌≤ℤ◌, option_map, option_and_then, is_some}
+use Rattle.std.specs.Prelude.{ℤ, pos, negsuc, ◌≤ℤ◌, bit_and, int_le, option_map, option_and_then, is_some}
 use Rattle.std.specs.Int.{int_shr}
 use Rattle.std.proofs.lemmas.Int.{ints, clamps}
-use Rattle.std.proofs.lemmas.Nat.{pow_pos}
+use Rattle.std.proofs.lemmas.Nat.{pow_pos, and_le_l, and_le_r}
 use Rattle.std.proofs.Math.Nat.{le-div_iff_mul-le, div-mul-le_self}
 use Rattle.guest_types.specs.Memory.{Memory}
 use Rattle.kernel_tree.specs.declared.ops.Ty.{Ty}
@@ -18,14 +18,14 @@ use Rattle.kernel_tree.specs.Wrap.{wrap}
 use Rattle.kernel_tree.specs.Typing.{Scope, Value, Condition, lookup, value_type, element_type, side_type, own, faults, mismatch, untyped}
 use Rattle.kernel_tree.proofs.Faultless.{nil-left, nil-right, never}
 use Rattle.kernel_tree.proofs.NoFault.{untyped_some}
-use Rattle.kernel_meaning.specs.Operators.{unary_on, binary_on, shift_on, shift_count}
+use Rattle.kernel_meaning.specs.Operators.{word, unary_on, binary_on, shift_on, shift_count}
 use Rattle.kernel_meaning.specs.TypeValues.{IsOf}
 use Rattle.kernel_meaning.specs.Eval.{Names, on_both, chosen, value, holds}
 use Rattle.kernel_meaning.specs.Ranges.{AreRanged}
 use Rattle.kernel_meaning.proofs.TypeRanges.{wrap-of, wrap-is_of}
-use Rattle.kernel_meaning.proofs.ValueRanges.{typed, value_range}
+use Rattle.kernel_meaning.proofs.ValueRanges.{IsTyped, typed, value_range}
 use Rattle.value_bounds.specs.declared.bounds.Bounds.{Bounds}
-use Rattle.value_bounds.specs.ValueBounds.{between, IsWithin, is_value, lying_in, in_type, kept, unary_bounds, binary_bounds, shift_bounds, joined, bounds_of}
+use Rattle.value_bounds.specs.ValueBounds.{between, IsWithin, is_value, lying_in, in_type, kept, unary_bounds, common, binary_bounds, shift_bounds, joined, bounds_of}
 use Rattle.value_bounds.proofs.Cuts.{value_of}
 use Rattle.value_bounds.proofs.Corners.{rises, product_within}
 
@@ -42,13 +42,33 @@ unary_known unary.Flip b x h = tt
 unary_known unary.Abs b (pos n) h = let l = h.0 in let k = h.1 in (omega (arith, ints), omega (arith, ints, clamps))
 unary_known unary.Abs b (negsuc n) h = let l = h.0 in let k = h.1 in (omega (arith, ints), omega (arith, ints, clamps))
 
+-- the common bits of words, of which one is that of a number
+common_left : (n : ℕ) (y : ℤ) → bit_and (word (pos n)) (word y) ≤ n
+common_left n y = let le = and_le_l (word (pos n)) (word y) in omega (arith, le)
+
+common_right : (x : ℤ) (n : ℕ) → bit_and (word x) (word (pos n)) ≤ n
+common_right x n = let le = and_le_r (word x) (word (pos n)) in omega (arith, le)
+
+common_known : (p q : Bool) (a b : Bounds) (x y : ℤ) → int_le (pos 0) a.low ≡ p → int_le (pos 0) b.low ≡ q → IsWithin a x → IsWithin b y → Known (common p q a b) (pos (bit_and (word x) (word y)))
+common_known true true a b (pos m) (pos n) e f h k =
+    let l = common_left m (pos n) in
+    let r = common_right (pos m) n in
+    let u = h.1 in let v = k.1 in (omega (arith, ints), omega (arith, ints, clamps))
+common_known true true a b (negsuc m) y e f h k = let u = h.0 in absurd (omega (arith, ints))
+common_known true true a b (pos m) (negsuc n) e f h k = let u = k.0 in absurd (omega (arith, ints))
+common_known true false a b (pos m) y e f h k = let l = common_left m y in let u = h.1 in (omega (arith, ints), omega (arith, ints))
+common_known true false a b (negsuc m) y e f h k = let u = h.0 in absurd (omega (arith, ints))
+common_known false true a b x (pos n) e f h k = let r = common_right x n in let v = k.1 in (omega (arith, ints), omega (arith, ints))
+common_known false true a b x (negsuc n) e f h k = let u = k.0 in absurd (omega (arith, ints))
+common_known false false a b x y e f h k = tt
+
 pub binary_known : (op : BinaryOp) (a b : Bounds) (x y : ℤ) → IsWithin a x → IsWithin b y → Known (binary_bounds op a b) (binary_on op x y)
 binary_known binary.Add a b x y h k = let l = h.0 in let m = h.1 in let u = k.0 in let v = k.1 in (omega (arith, ints), omega (arith, ints))
 binary_known binary.Sub a b x y h k = let l = h.0 in let m = h.1 in let u = k.0 in let v = k.1 in (omega (arith, ints), omega (arith, ints))
 binary_known binary.Mul a b x y h k = product_within a b x y h k
 binary_known binary.Min a b x y h k = let l = h.0 in let m = h.1 in let u = k.0 in let v = k.1 in (omega (arith, ints, clamps), omega (arith, ints, clamps))
 binary_known binary.Max a b x y h k = let l = h.0 in let m = h.1 in let u = k.0 in let v = k.1 in (omega (arith, ints, clamps), omega (arith, ints, clamps))
-binary_known binary.And a b x y h k = tt
+binary_known binary.And a b x y h k = common_known (int_le (pos 0) a.low) (int_le (pos 0) b.low) a b x y refl refl h k
 binary_known binary.Or a b x y h k = tt
 binary_known binary.Xor a b x y h k = tt
 
@@ -119,6 +139,20 @@ AreTyped s want (Comparison op x y) = ⊥
 AreTyped s want (Both x y) = ⊥
 AreTyped s want (Either x y) = ⊥
 AreTyped s want (Not e) = ⊥
+
+pub is_typed : (e : Term) (s : Scope) (t : Ty) → AreTyped s (Some t) e → IsTyped s t e
+is_typed (Literal n) s t h = tt
+is_typed (Variable x) s t h = h
+is_typed (Element a i) s t h = h
+is_typed (Unary op e) s t h = tt
+is_typed (Operation op x y) s t h = tt
+is_typed (Shift left e n) s t h = tt
+is_typed (Conversion e u) s t h = let same = h.0 in cc
+is_typed (Choice c x y) s t h = (is_typed x s t h.0, is_typed y s t h.1)
+is_typed (Comparison op x y) s t h = absurd h
+is_typed (Both x y) s t h = absurd h
+is_typed (Either x y) s t h = absurd h
+is_typed (Not e) s t h = absurd h
 
 -- so they have where no rule fails
 pub are_typed : (e : Term) (s : Scope) (from : ℕ) (want : Option Ty) → IsSome want → faults s from (Value want) e ≡ [] → AreTyped s want e

@@ -54,13 +54,20 @@ corners p q r s = between (int_min (int_min p q) (int_min r s)) (int_max (int_ma
 abbrev pub product : Bounds → Bounds → Bounds
 product a b = corners (a.low *ℤ b.low) (a.low *ℤ b.high) (a.high *ℤ b.low) (a.high *ℤ b.high)
 
+-- the common bits of two numbers, by which of them are not negative
+abbrev pub common : (left right : Bool) → Bounds → Bounds → Option Bounds
+common true true a b = Some (between (pos 0) (int_min a.high b.high))
+common true false a b = Some (between (pos 0) a.high)
+common false true a b = Some (between (pos 0) b.high)
+common false false a b = None
+
 abbrev pub binary_bounds : BinaryOp → Bounds → Bounds → Option Bounds
 binary_bounds binary.Add a b = Some (between (a.low +ℤ b.low) (a.high +ℤ b.high))
 binary_bounds binary.Sub a b = Some (between (a.low -ℤ b.high) (a.high -ℤ b.low))
 binary_bounds binary.Mul a b = Some (product a b)
 binary_bounds binary.Min a b = Some (between (int_min a.low b.low) (int_min a.high b.high))
 binary_bounds binary.Max a b = Some (between (int_max a.low b.low) (int_max a.high b.high))
-binary_bounds binary.And a b = None
+binary_bounds binary.And a b = common (int_le (pos 0) a.low) (int_le (pos 0) b.low) a b
 binary_bounds binary.Or a b = None
 binary_bounds binary.Xor a b = None
 

@@ -141,6 +141,18 @@ fn greater(want: Option<Ty>, left: Bounds, right: Bounds) -> Option<Bounds>
     )
 }
 
+fn common(want: Option<Ty>, left: Bounds, right: Bounds) -> Option<Bounds>
+    ensures { result ≡ values.in_type want (values.binary_bounds binary.And left right) }
+{
+    let high = match (left.low >= 0, right.low >= 0) {
+        (true, true) => left.high.min(right.high),
+        (true, false) => left.high,
+        (false, true) => right.high,
+        (false, false) => return None,
+    };
+    in_type(want, Bounds { low: 0, high })
+}
+
 /// The bounds of an operator's integer, where they lie in the type.
 pub fn unary_in(want: Option<Ty>, op: UnaryOp, arg: Bounds) -> Option<Bounds>
     ensures { result ≡ values.in_type want (values.unary_bounds op arg) }
@@ -162,7 +174,8 @@ pub fn binary_in(want: Option<Ty>, op: BinaryOp, left: Bounds, right: Bounds) ->
         BinaryOp::Mul => product(want, left, right),
         BinaryOp::Min => lesser(want, left, right),
         BinaryOp::Max => greater(want, left, right),
-        BinaryOp::And | BinaryOp::Or | BinaryOp::Xor => None,
+        BinaryOp::And => common(want, left, right),
+        BinaryOp::Or | BinaryOp::Xor => None,
     }
 }
 
