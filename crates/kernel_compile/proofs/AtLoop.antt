@@ -28,9 +28,9 @@ use Rattle.dependence.specs.Apart.{is_reach_of, greatest_reach, with_reach, used
 use Rattle.vector_order.specs.Operands.{nth_value}
 use Rattle.vector_order.proofs.ArrayParameters.{started_bases}
 use Rattle.overlap_guard.specs.Meets.{BasesHeld}
-use Rattle.scalar_emit.specs.Layout.{Homes}
-use Rattle.scalar_emit.specs.Kernel.{param_homes, var_homes, kernel_homes}
-use Rattle.scalar_emit.specs.Runs.{AreHeld}
+use Rattle.scalar_words.specs.Layout.{Homes}
+use Rattle.scalar_words.specs.KernelRegisters.{param_homes, var_homes, kernel_homes}
+use Rattle.scalar_words.specs.Iterations.{AreHeld}
 use Rattle.kernel_compile.proofs.ApartBoth.{base_given, dropped}
 use Rattle.kernel_tree.specs.declared.ops.Ty.TheVariants as ty
 use Rattle.kernel_tree.specs.declared.ast.Shape.TheVariants as shape

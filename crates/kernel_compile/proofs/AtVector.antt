@@ -19,10 +19,10 @@ use Rattle.dependence.specs.Apart.{bound_place}
 use Rattle.dependence.specs.Classes.{class_of, class_by, reason}
 use Rattle.dependence.specs.declared.reason.Class.TheVariants.{Vector, Scalar}
 use Rattle.dependence.specs.declared.reason.Why.TheVariants as why
-use Rattle.scalar_emit.specs.Layout.{Homes}
-use Rattle.scalar_emit.specs.Kernel.{param_homes, var_homes, kernel_homes, register_in}
-use Rattle.scalar_emit.specs.Runs.{AreHeld, AtIteration}
-use Rattle.scalar_emit.proofs.AssignedOf.{counted-high}
+use Rattle.scalar_words.specs.Layout.{Homes}
+use Rattle.scalar_words.specs.KernelRegisters.{param_homes, var_homes, kernel_homes, register_in}
+use Rattle.scalar_words.specs.Iterations.{AreHeld, AtIteration}
+use Rattle.scalar_words.proofs.AssignedOf.{counted-high}
 use Rattle.vector_emit.proofs.FromBelow.{Ground, IsGround}
 use Rattle.kernel_compile.proofs.ArrayStreams.{streams_typed, reaches_typed}
 use Rattle.kernel_compile.proofs.ApartBoth.{apart_both}

@@ -13,6 +13,7 @@ ghost use Rattle.promises.specs.Faithful.{FreeFaithful, FreeEnds, FreeSlowFaithf
 use kernel_tree::Checked;
 use label_fix::{BranchKind, Draft};
 use loop_form::laws::few_items;
+use loop_lists::listing;
 use overlap_guard::{guard, meets_apart};
 use reg_assign::{Assigned, VectorRegs};
 use scalar_emit::{begin_runs, emit_begin, emit_scalar, scalar_runs};
@@ -32,9 +33,10 @@ pub fn emit_iterations(
     few_items(kernel);
     begin_runs(kernel, regs);
     scalar_runs(kernel, regs);
+    let items = listing(alloc, kernel)?;
     let mut draft = Draft::new(alloc);
-    emit_begin(alloc, kernel, regs, &mut draft)?;
-    emit_scalar(alloc, kernel, regs, &mut draft)?;
+    emit_begin(alloc, kernel, &items, regs, &mut draft)?;
+    emit_scalar(alloc, kernel, &items, regs, &mut draft)?;
     let words = draft.finish()?;
     have_32_bits(&words);
     Ok(words)
@@ -60,11 +62,12 @@ pub fn emit_lanes(
     scalar_runs(kernel, &regs.x);
     meets_apart(kernel);
     vector_runs();
+    let items = listing(alloc, kernel)?;
     let mut draft = Draft::new(alloc);
     let vector = draft.label()?;
-    emit_begin(alloc, kernel, &regs.x, &mut draft)?;
+    emit_begin(alloc, kernel, &items, &regs.x, &mut draft)?;
     draft.branch(BranchKind::Always, vector)?;
-    let scalar = emit_scalar(alloc, kernel, &regs.x, &mut draft)?.at_iteration;
+    let scalar = emit_scalar(alloc, kernel, &items, &regs.x, &mut draft)?.at_iteration;
     draft.place(vector)?;
     guard(kernel, scalar, &mut draft)?;
     emit_vector(alloc, kernel, regs, scalar, &mut draft)?;

@@ -20,9 +20,9 @@ use Rattle.reg_assign.specs.Registers.{Assignment}
 use Rattle.loop_form.specs.Needs.{throughout}
 use Rattle.loop_form.specs.Registers.{FitsKernel}
 use Rattle.vector_order.specs.Order.{is_var, Steady}
-use Rattle.scalar_emit.specs.Layout.{Homes}
-use Rattle.scalar_emit.specs.Kernel.{kernel_homes, register_in}
-use Rattle.scalar_emit.specs.Runs.{AreHeld}
+use Rattle.scalar_words.specs.Layout.{Homes}
+use Rattle.scalar_words.specs.KernelRegisters.{kernel_homes, register_in}
+use Rattle.scalar_words.specs.Iterations.{AreHeld}
 use Rattle.reductions.specs.AccumulatorLanes.{LanesHold}
 use Rattle.chunk_emit.specs.KernelLayout.{register_of, sum_place, update_of}
 use Rattle.chunk_emit.specs.Head.{Ground, IsGround, Between, width, most_lanes}

@@ -10,7 +10,7 @@ use Rattle.loop_form.specs.Entries.{item_type}
 use Rattle.loop_form.specs.Lanes.{widest}
 use Rattle.loop_form.specs.Needs.{constants}
 use Rattle.loop_form.proofs.Kernels.{a, b, f, i, n, s, t}
-use Rattle.scalar_emit.specs.Kernel.{register_in}
+use Rattle.scalar_words.specs.KernelRegisters.{register_in}
 use Rattle.lane_emit.specs.Stretch.{word}
 use Rattle.loop_edges.specs.EdgeCode.{fold_code}
 use Rattle.kernel_tree.specs.declared.ops.Ty.TheVariants as ty

@@ -14,11 +14,11 @@ use Rattle.reg_assign.specs.declared.interval.RegClass.TheVariants.{X}
 use Rattle.reg_assign.specs.Registers.{Assignment}
 use Rattle.loop_form.specs.Registers.{FitsKernel}
 use Rattle.vector_order.specs.Order.{is_var, Steady}
-use Rattle.scalar_emit.specs.Layout.{Home, Homes, is_home, register_of, register_at}
-use Rattle.scalar_emit.specs.Kernel.{counted_x, param_homes, var_homes, kernel_homes, register_in}
-use Rattle.scalar_emit.specs.Runs.{AreHeld}
-use Rattle.scalar_emit.proofs.AssignedOf.{counted-low, counted-high, counted-apart}
-use Rattle.scalar_emit.proofs.ChosenOf.{AccumulatorsChosen, accumulators_of, chosen_all}
+use Rattle.scalar_words.specs.Layout.{Home, Homes, is_home, register_of, register_at}
+use Rattle.scalar_words.specs.KernelRegisters.{counted_x, param_homes, var_homes, kernel_homes, register_in}
+use Rattle.scalar_words.specs.Iterations.{AreHeld}
+use Rattle.scalar_words.proofs.AssignedOf.{counted-low, counted-high, counted-apart}
+use Rattle.scalar_words.proofs.ChosenOf.{AccumulatorsChosen, accumulators_of, chosen_all}
 use Rattle.loop_edges.proofs.FoldNames.{Unlike, Distinct, local_name, visible_distinct}
 
 -- ---- registers that differ

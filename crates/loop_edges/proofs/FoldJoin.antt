@@ -26,14 +26,14 @@ use Rattle.reductions.specs.AccumulatorLanes.{LanesHold, reduce_code}
 use Rattle.reductions.proofs.JoinLaws.{own, wrap_by_held}
 use Rattle.reductions.proofs.Orders.{together_of}
 use Rattle.reductions.proofs.Reduce.{reduction_together}
-use Rattle.scalar_emit.specs.Layout.{Layout}
-use Rattle.scalar_emit.specs.Words as scalar
-use Rattle.scalar_emit.specs.Words.{word_code, settle_word}
-use Rattle.scalar_emit.specs.Safe.{Assigned}
-use Rattle.scalar_emit.specs.Runs.{Frame}
-use Rattle.scalar_emit.proofs.LayoutStates.{wrote, wrote_same, wrote_other}
-use Rattle.scalar_emit.proofs.WordsRuns.{extended_sets}
-use Rattle.scalar_emit.proofs.Operators.{binary_sets}
+use Rattle.scalar_words.specs.Layout.{Layout}
+use Rattle.scalar_words.specs.Words as scalar
+use Rattle.scalar_words.specs.Words.{word_code, settle_word}
+use Rattle.scalar_words.specs.Safe.{Assigned}
+use Rattle.scalar_words.specs.Iterations.{Frame}
+use Rattle.scalar_words.proofs.LayoutStates.{wrote, wrote_same, wrote_other}
+use Rattle.scalar_words.proofs.WordsRuns.{extended_sets}
+use Rattle.scalar_words.proofs.Binary.{binary_sets}
 use Rattle.chunk_emit.proofs.DraftVectors.{do_goes}
 use Rattle.loop_form.specs.Lanes.{width_of}
 use Rattle.loop_edges.specs.EdgeCode.{join_code}

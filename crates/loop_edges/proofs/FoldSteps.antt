@@ -25,8 +25,8 @@ use Rattle.lane_emit.specs.Stretch.{Ready}
 use Rattle.reductions.specs.Joins.{joined}
 use Rattle.reductions.specs.Folds.{together}
 use Rattle.reductions.specs.AccumulatorLanes.{LanesHold}
-use Rattle.scalar_emit.specs.Layout.{register_at}
-use Rattle.scalar_emit.specs.Kernel.{kernel_homes, register_in}
+use Rattle.scalar_words.specs.Layout.{register_at}
+use Rattle.scalar_words.specs.KernelRegisters.{kernel_homes, register_in}
 use Rattle.chunk_emit.specs.KernelLayout.{sum_place, update_of}
 use Rattle.chunk_emit.specs.Head.{Ground, IsGround, Between, layout, width, most_lanes}
 use Rattle.loop_edges.specs.EdgeCode.{type_of_var, join_code, fold_one, folds_code}

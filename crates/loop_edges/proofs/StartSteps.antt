@@ -20,9 +20,9 @@ use Rattle.loop_form.specs.Needs as needs
 use Rattle.loop_form.specs.Needs.{Throughout}
 use Rattle.loop_form.specs.Streams.{place_of}
 use Rattle.vector_order.specs.Operands.{nth_value}
-use Rattle.scalar_emit.specs.Words.{const_code}
-use Rattle.scalar_emit.specs.Runs.{Frame}
-use Rattle.scalar_emit.proofs.Constants.{const_fills}
+use Rattle.scalar_words.specs.Words.{const_code}
+use Rattle.scalar_words.specs.Iterations.{Frame}
+use Rattle.scalar_words.proofs.Constants.{const_fills}
 use Rattle.lane_emit.specs.Right.{ZRight, PRight}
 use Rattle.lane_emit.specs.Stretch.{OnlyZ}
 use Rattle.lane_emit.specs.LaneCode.{dup_code}

@@ -18,10 +18,10 @@ use Rattle.reg_assign.specs.Registers.{Assignment}
 use Rattle.loop_form.specs.Lanes.{lane_width_of, var_type}
 use Rattle.loop_form.specs.Needs.{Throughout, Scalar, Constant, Index, Accumulating, throughout}
 use Rattle.loop_form.specs.Streams.{place_of}
-use Rattle.scalar_emit.specs.Layout.{register_at}
-use Rattle.scalar_emit.specs.Kernel.{kernel_homes}
-use Rattle.scalar_emit.specs.Words as scalar
-use Rattle.scalar_emit.specs.Words.{const_code, word_code, settle_word}
+use Rattle.scalar_words.specs.Layout.{register_at}
+use Rattle.scalar_words.specs.KernelRegisters.{kernel_homes}
+use Rattle.scalar_words.specs.Words as scalar
+use Rattle.scalar_words.specs.Words.{const_code, word_code, settle_word}
 use Rattle.lane_emit.specs.Stretch.{word}
 use Rattle.lane_emit.specs.LaneCode.{dup_code}
 use Rattle.reductions.specs.Joins.{identity}

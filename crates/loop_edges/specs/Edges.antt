@@ -14,8 +14,8 @@ use Rattle.reg_assign.specs.declared.interval.RegClass.TheVariants.{X, Z}
 use Rattle.reg_assign.specs.Registers.{Assignment}
 use Rattle.loop_form.specs.Needs.{throughout}
 use Rattle.loop_form.specs.Registers.{FitsKernel}
-use Rattle.scalar_emit.specs.Kernel.{kernel_homes, register_in}
-use Rattle.scalar_emit.specs.Runs.{AreHeld, AtIteration}
+use Rattle.scalar_words.specs.KernelRegisters.{kernel_homes, register_in}
+use Rattle.scalar_words.specs.Iterations.{AreHeld, AtIteration}
 use Rattle.reductions.specs.Joins.{identity}
 use Rattle.chunk_emit.specs.Head.{Ground, IsGround, AtHead, layout}
 use Rattle.loop_edges.specs.EdgeCode.{start_code, fold_code}

@@ -16,7 +16,7 @@ ghost use Rattle.label_fix.specs.Draft.{word_view};
 ghost use Rattle.lane_emit.specs.Stretch.{word};
 ghost use Rattle.lane_emit.specs.LaneCode.{size_of};
 ghost use Rattle.reductions.specs.Joins as joins;
-ghost use Rattle.scalar_emit.specs.Drafts.{Appends};
+ghost use Rattle.scalar_words.specs.Drafts.{Appends};
 ghost use Rattle.loop_edges.specs.EdgeCode as code;
 
 use crate::accumulators::{counted_vector, first_operator, type_of};
@@ -31,7 +31,7 @@ use loop_form::{Entry, Held};
 use loop_lists::{intervals, lane_width, loop_entries, throughout};
 use reductions::start_word;
 use reg_assign::{Assigned, RegClass, VectorRegs};
-use scalar_emit::emit_const;
+use scalar_words::emit_const;
 use std::alloc::{AllocError, Global};
 use sve_code::{Size, Sve, VectorReg};
 use word_rows::Bits;

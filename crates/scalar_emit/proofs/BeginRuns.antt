@@ -19,22 +19,26 @@ use Rattle.kernel_meaning.specs.Iterate.{with_name}
 use Rattle.kernel_meaning.specs.ScalarRun.{argument, argument_names, initial, started}
 use Rattle.label_fix.specs.DraftRun.{Entry, Laid, word_of}
 use Rattle.label_fix.proofs.StretchSteps.{Goes, Resolves, stay, chain, put_goes, go_more}
-use Rattle.scalar_emit.specs.Layout.{Layout, Homes, Lasts, home}
-use Rattle.scalar_emit.specs.Words.{copy_word, word_code, settle_word, is_narrow, extending}
-use Rattle.scalar_emit.specs.Code.{labels}
-use Rattle.scalar_emit.specs.Statements.{Others}
-use Rattle.scalar_emit.specs.Kernel.{counted_x, layout_of_kernel, param_homes, after_var, var_home, var_homes, kernel_homes, argument_code, arguments_code, vars_code, zero_index, FitsVars}
-use Rattle.scalar_emit.proofs.Words.{extended, extended-wrap}
+use Rattle.scalar_words.specs.Layout.{Layout, Homes, Lasts}
+use Rattle.scalar_values.specs.ValueRegisters.{home}
+use Rattle.scalar_words.specs.Words.{copy_word, word_code, settle_word, is_narrow, extending}
+use Rattle.scalar_values.specs.Code.{labels}
+use Rattle.scalar_words.specs.Safe.{Others, AreSteady}
+use Rattle.scalar_words.specs.KernelRegisters.{counted_x, layout_of_kernel, param_homes, var_home, var_homes, kernel_homes}
+use Rattle.kernel_scope.specs.Scopes.{after_var}
+use Rattle.scalar_emit.specs.Kernel.{argument_code, arguments_code, vars_code, zero_index, FitsVars}
+use Rattle.scalar_words.proofs.Words.{extended, extended-wrap}
 use Rattle.scalar_emit.specs.KernelFits.{AreSafeVars, KernelFits}
-use Rattle.scalar_emit.specs.Safe.{AreSteady}
-use Rattle.scalar_emit.specs.Runs.{AreHeld, Begins, BeginRuns}
-use Rattle.scalar_emit.proofs.AssignedOf.{counted-low}
-use Rattle.scalar_emit.proofs.LayoutStates.{Assigned, Changes, AreSafe, Held, Fixed, At, frame_of, wrote, wrote_same, wrote_other, wrote_sized, kept_none, at_kept, safe_later}
-use Rattle.scalar_emit.proofs.WordsRuns.{Gives, a_value, extension_is, wide_wrap, copied_sets}
+use Rattle.scalar_words.specs.Iterations.{AreHeld}
+use Rattle.scalar_emit.specs.Runs.{Begins, BeginRuns}
+use Rattle.scalar_words.proofs.AssignedOf.{counted-low}
+use Rattle.scalar_words.proofs.LayoutStates.{Assigned, Changes, AreSafe, Held, Fixed, At, frame_of, wrote, wrote_same, wrote_other, wrote_sized, kept_none, at_kept, safe_later}
+use Rattle.scalar_values.proofs.Loads.{Gives, a_value}
+use Rattle.scalar_words.proofs.WordsRuns.{extension_is, wide_wrap, copied_sets}
 use Rattle.kernel_meaning.specs.TypeValues.{IsOf}
-use Rattle.scalar_emit.proofs.Ranges.{value-range}
-use Rattle.scalar_emit.proofs.Constants.{word_back}
-use Rattle.scalar_emit.proofs.ValueRuns.{value_runs, value_back}
+use Rattle.scalar_values.proofs.Ranges.{value-range}
+use Rattle.scalar_words.proofs.Constants.{word_back}
+use Rattle.scalar_values.proofs.ValueRuns.{value_runs, value_back}
 use Rattle.kernel_meaning.proofs.NameRanges.{ranged_more}
 use Rattle.kernel_meaning.proofs.StartRanges.{given_ranged}
 use Rattle.scalar_emit.proofs.StmtRuns.{held_more, held_others}

@@ -1,21 +1,17 @@
 -- What emission keeps of names.
 use Rattle.std.proofs.Common.{◌≡◌, ℕ, zero, suc, ◌+◌, List, [], ◌∷◌, ◌++◌, length, take, Some, None, refl, sym, ap, ◌∙◌, arith}
-use Rattle.std.specs.Prelude.{ℤ, Option, option_map}
-use Rattle.kernel_tree.specs.declared.ops.Ty.{Ty}
-use Rattle.scalar_emit.specs.Extents.{Whole}
-use Rattle.scalar_emit.specs.Words.{index_word}
-use Rattle.scalar_emit.specs.Code.{number_code, loose_code, index_code}
-use Rattle.kernel_tree.specs.Plain.{Term, Block, Parameter, Accumulator, PlainLoop, Program}
-use Rattle.kernel_tree.specs.Items.{stream_offset, turns_size, loop_index, loop_start, loop_end}
-use Rattle.kernel_tree.specs.Typing.{Scope, index_type, first, param_scope, var_scope}
+use Rattle.kernel_tree.specs.Plain.{Block, Parameter, Accumulator, PlainLoop, Program}
+use Rattle.kernel_tree.specs.Items.{turns_size, loop_index, loop_start, loop_end}
+use Rattle.kernel_tree.specs.Typing.{Scope, first, param_scope, var_scope}
 use Rattle.kernel_tree.proofs.Scopes.{scope_index}
 use Rattle.label_fix.specs.DraftRun.{Entry}
-use Rattle.scalar_emit.specs.declared.home.Home.{Home as Kept}
-use Rattle.scalar_emit.specs.Layout.{Layout, Homes}
+use Rattle.scalar_words.specs.declared.home.Home.{Home as Kept}
+use Rattle.scalar_words.specs.Layout.{Layout, Homes}
 use Rattle.scalar_emit.specs.Statements.{block_homes, block_labels}
 use Rattle.scalar_emit.specs.Loop.{turn_code, leave_code}
-use Rattle.scalar_emit.specs.Kernel.{layout_of_kernel, param_homes, arguments_code, kernel_homes, vars_code, zero_index, begin_code, straight_code, turns_code, scalar_code}
-use Rattle.scalar_emit.specs.View.{home_of, homes_of}
+use Rattle.scalar_words.specs.KernelRegisters.{layout_of_kernel, param_homes, kernel_homes}
+use Rattle.scalar_emit.specs.Kernel.{arguments_code, vars_code, zero_index, begin_code, straight_code, turns_code, scalar_code}
+use Rattle.scalar_words.specs.View.{home_of, homes_of}
 use Rattle.scalar_emit.proofs.StmtRuns.{homes_block}
 
 -- ---- after a block
@@ -56,13 +52,3 @@ straight_is R k L b n rest d e f =
     let z = ap turns_size e in
     let g : b ≡ loop_end k = omega (arith, f, z) in
     rw (d, g) (ap (λ t. turns_code (layout_of_kernel R k) (kernel_homes R k) (var_scope k) t (loop_start k) n (loop_end k) k.answer rest) (sym e))
-
--- ---- indexes
-
-index_by : (L : Layout) (hs : Homes) (s : Scope) (b n : ℕ) (e : Term) (rest : List Entry) (o : Option ℤ) → option_map index_word o ≡ None → loose_code L hs s Whole (index_type s e) b n e rest ≡ number_code o (loose_code L hs s Whole (index_type s e) b n e) rest
-index_by L hs s b n e rest None h = refl
-index_by L hs s b n e rest (Some c) h = absurd cc
-
--- the code of an index that is computed
-pub index_is : (L : Layout) (hs : Homes) (s : Scope) (b n : ℕ) (e : Term) (want : Option Ty) (rest : List Entry) → option_map index_word (stream_offset s.index e) ≡ None → want ≡ index_type s e → loose_code L hs s Whole want b n e rest ≡ index_code L hs s b n e rest
-index_is L hs s b n e want rest h q = ap (λ w. loose_code L hs s Whole w b n e rest) q ∙ index_by L hs s b n e rest (stream_offset s.index e) h

@@ -1,16 +1,16 @@
 -- The code of a worked kernel.
 use Rattle.std.proofs.Common.{◌≡◌, ℕ, List, [], ◌∷◌, Some, None, refl}
 use Rattle.std.specs.Prelude.{pos, slice_index}
-use Rattle.kernel_tree.specs.declared.ops.Ty.TheVariants as ty
-use Rattle.kernel_tree.specs.declared.ops.BinaryOp.TheVariants as binary
-use Rattle.kernel_tree.specs.declared.ops.CompareOp.TheVariants as compare
-use Rattle.kernel_tree.specs.declared.ast.Shape.TheVariants as shape
 use Rattle.kernel_tree.specs.Plain.{Literal, Variable, Element, Operation, Comparison, Define, Put, Choose, Leave, Block, Done, Then, Else, Program}
 use Rattle.a64_code.specs.Table.{add_imm, sub_imm, subs, subs_imm, movz, ldrsb_register, strb_register, svc}
 use Rattle.loop_form.specs.Entries.{item_type}
 use Rattle.loop_form.specs.Listing.{last_use_from}
 use Rattle.label_fix.specs.DraftRun.{Branch, Place, Always, If, Zero, ins}
 use Rattle.scalar_emit.specs.Kernel.{begin_code, begin_labels, scalar_code, scalar_labels}
+use Rattle.kernel_tree.specs.declared.ops.Ty.TheVariants as ty
+use Rattle.kernel_tree.specs.declared.ops.BinaryOp.TheVariants as binary
+use Rattle.kernel_tree.specs.declared.ops.CompareOp.TheVariants as compare
+use Rattle.kernel_tree.specs.declared.ast.Shape.TheVariants as shape
 
 abbrev a : List ℕ
 a = 97 ∷ []

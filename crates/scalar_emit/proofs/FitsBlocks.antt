@@ -16,12 +16,12 @@ use Rattle.loop_form.specs.Listing.{last_use_from}
 use Rattle.loop_form.proofs.Numbers.{term-listed, action-listed, block-listed}
 use Rattle.loop_form.proofs.NameUses.{AreUsesCounted, counted_left, counted_right}
 use Rattle.loop_form.proofs.ItemTypes.{drop_next}
-use Rattle.scalar_emit.specs.Layout.{Layout, Home, Homes, is_home, register_of, last_use_at, register_at, LastsAt, NameLasts}
-use Rattle.scalar_emit.specs.Fits.{Fits, FitsTruth, IndexAt, IsSome}
+use Rattle.scalar_words.specs.Layout.{Layout, Home, Homes, is_home, register_of, last_use_at, register_at, LastsAt, NameLasts}
+use Rattle.scalar_values.specs.Fits.{Fits, FitsTruth, IndexAt, IsSome}
 use Rattle.scalar_emit.specs.Statements.{let_home, defined_homes, after_homes, FitsPut, FitsAction, FitsBlock, FitsOtherwise}
-use Rattle.scalar_emit.proofs.AssignedOf.{counted-low}
-use Rattle.scalar_emit.proofs.FitsOf.{some_of, no_untyped, no_offset, Sits, drop_head, AreUsed, untils, untils_on, value_fits, truth_fits}
-use Rattle.scalar_emit.proofs.FitsNames.{Spread, LetHome, AreHomes, homes_later, homes_on, IsAt, is_at, name_lasts, array_lasts, is_var, only_of}
+use Rattle.scalar_words.proofs.AssignedOf.{counted-low}
+use Rattle.scalar_values.proofs.FitsOf.{some_of, no_untyped, no_offset, Sits, drop_head, AreUsed, untils, untils_on, value_fits, truth_fits}
+use Rattle.scalar_words.proofs.NameHomes.{Spread, LetHome, AreHomes, homes_later, homes_on, IsAt, is_at, name_lasts, array_lasts, is_var, only_of}
 use Rattle.kernel_tree.specs.declared.fault.Binding.TheVariants as binding
 
 used_on : (hs : Homes) (i : Option (List ℕ)) (xs ys : List Entry) → AreUsed hs i xs → AreUsed hs i ys → AreUsed hs i (xs ++ ys)

@@ -1,18 +1,18 @@
 -- The definitions of what fits, at worked kernels.
 use Rattle.std.proofs.Common.{◌≡◌, ◌≢◌, ℕ, zero, suc, ◌<◌, pos, List, [], ◌∷◌, Some, None, refl, arith}
 use Rattle.std.specs.Prelude.{slice_index}
-use Rattle.kernel_tree.specs.declared.ops.Ty.TheVariants as ty
-use Rattle.kernel_tree.specs.declared.ops.UpdateOp.TheVariants as update
-use Rattle.kernel_tree.specs.declared.ast.Shape.TheVariants as shape
 use Rattle.kernel_tree.specs.Plain.{Literal, Variable, Element, Conversion, Define, Update, Done, Then, PlainLoop, Program}
 use Rattle.reg_assign.specs.declared.interval.RegClass.TheVariants.{X}
 use Rattle.reg_assign.specs.declared.interval.Interval.{Interval}
 use Rattle.loop_form.specs.Entries.{item_type}
 use Rattle.loop_form.specs.Listing.{last_use_from}
 use Rattle.loop_form.specs.Needs.{intervals}
-use Rattle.scalar_emit.specs.Kernel.{layout_of_kernel, kernel_homes}
-use Rattle.scalar_emit.specs.KernelFits.{IsInterval, IsNeeded, AreChosen, IsBound, KernelFits}
+use Rattle.scalar_words.specs.KernelRegisters.{layout_of_kernel, kernel_homes, IsInterval, IsNeeded, AreChosen, IsBound}
+use Rattle.scalar_emit.specs.KernelFits.{KernelFits}
 use Rattle.scalar_emit.proofs.FitsKernel.{kernel_fits}
+use Rattle.kernel_tree.specs.declared.ops.Ty.TheVariants as ty
+use Rattle.kernel_tree.specs.declared.ops.UpdateOp.TheVariants as update
+use Rattle.kernel_tree.specs.declared.ast.Shape.TheVariants as shape
 
 abbrev a : List ℕ
 a = 97 ∷ []

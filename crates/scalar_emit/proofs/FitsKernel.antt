@@ -1,55 +1,31 @@
 -- Registers fit a checked kernel.
-use Rattle.std.proofs.Common.{◌≡◌, ℕ, suc, ◌+◌, ◌<◌, ◌≤◌, Bool, true, false, cond, List, [], ◌∷◌, ◌++◌, length, drop, map, Option, Some, None, refl, sym, ap, ◌∙◌, subst, arith}
-use Rattle.std.specs.Prelude.{slice_get, option_map, unwrap_or}
+use Rattle.std.proofs.Common.{◌≡◌, ℕ, ◌+◌, ◌<◌, ◌≤◌, true, false, cond, List, [], ◌∷◌, ◌++◌, length, drop, map, Option, Some, None, refl, sym, ap, ◌∙◌, subst, arith}
+use Rattle.std.specs.Prelude.{option_map, unwrap_or}
 use Rattle.std.specs.List.{find}
 use Rattle.std.proofs.lemmas.Option.{slice_get_within}
 use Rattle.kernel_tree.specs.declared.ops.Ty.TheVariants.{U64}
-use Rattle.kernel_tree.specs.declared.ast.Shape.{Shape}
 use Rattle.kernel_tree.specs.Plain.{Parameter, Accumulator, PlainLoop, Returned, Program}
 use Rattle.kernel_tree.specs.Items.{term_size, vars_size, turns_size, index_of, loop_index, loop_start, loop_end}
-use Rattle.kernel_tree.specs.Typing.{Scope, Local, local, Value, lookup, insert_name, binding_of_shape, after_turns, faults, twice, vars_faults, bound_faults, turns_faults, answer_faults, param_scope, var_scope, check_fault}
+use Rattle.kernel_tree.specs.Typing.{Local, local, Value, lookup, insert_name, after_turns, faults, twice, vars_faults, bound_faults, turns_faults, answer_faults, param_scope, var_scope, check_fault}
 use Rattle.kernel_tree.specs.Scopes.{locals_of, accs_of}
 use Rattle.kernel_tree.proofs.Faultless.{nil-left, nil-right, vars_faultless, turns_faultless, answer_faultless}
-use Rattle.kernel_tree.proofs.Scopes.{param_visible, var_visible, param_index, scope_index, param_outside, scope_outside}
 use Rattle.kernel_tree.proofs.NoFault.{bound_known}
 use Rattle.kernel_tree.proofs.Names.{bytes_same, NoName, index_alone}
 use Rattle.loop_form.specs.Entries.{Entry, term_entries, params_entries, vars_entries, turns_entries, answer_entries, loop_entries, entries_of}
 use Rattle.loop_form.proofs.Numbers.{params-listed, vars-listed, term-listed, loop-listed}
 use Rattle.loop_form.proofs.NameUses.{AreUsesCounted, counted_left, counted_right, all_counted}
-use Rattle.scalar_emit.specs.Layout.{Layout, Home, Homes, is_home, register_of, LastsAt}
-use Rattle.scalar_emit.specs.Fits.{IndexAt}
-use Rattle.scalar_emit.specs.Statements.{Others}
+use Rattle.scalar_words.specs.Layout.{Layout, Home, Homes, is_home, register_of, LastsAt}
+use Rattle.scalar_values.specs.Fits.{IndexAt}
 use Rattle.scalar_emit.specs.Loop.{index_home, with_index, FitsAnswer, FitsLoop}
-use Rattle.scalar_emit.specs.Kernel.{counted_x, x_last_use, layout_of_kernel, param_homes, var_home, var_homes, kernel_homes, FitsVars}
-use Rattle.scalar_emit.specs.Safe.{AreSteady}
-use Rattle.scalar_emit.specs.KernelFits.{AreChosen, AreSafeVars, IsBound, KernelFits}
-use Rattle.scalar_emit.proofs.AssignedOf.{counted-low}
-use Rattle.scalar_emit.proofs.SpreadOf.{spread_of}
-use Rattle.scalar_emit.proofs.FitsOf.{Sits, untils}
-use Rattle.scalar_emit.proofs.FitsNames.{IsParam, Spread, next_number, numbers, HomeIs, AreHomes, homes_later, homes_on, is_at, register_is, others_new, are_safe}
+use Rattle.scalar_words.specs.KernelRegisters.{counted_x, x_last_use, layout_of_kernel, param_homes, var_home, var_homes, kernel_homes, AreChosen}
+use Rattle.scalar_emit.specs.Kernel.{FitsVars}
+use Rattle.scalar_emit.specs.KernelFits.{AreSafeVars, KernelFits}
+use Rattle.scalar_words.proofs.SpreadOf.{spread_of}
+use Rattle.scalar_values.proofs.FitsOf.{Sits, untils}
+use Rattle.scalar_words.proofs.NameHomes.{Spread, numbers, AreHomes, homes_later, homes_on, is_at, register_is, others_new, are_safe}
 use Rattle.scalar_emit.proofs.FitsBlocks.{sits_first, sits_second, sits_next, IsIndexed, value_stands, block_fits}
-use Rattle.kernel_tree.specs.declared.ast.Shape.TheVariants as shape
+use Rattle.scalar_words.proofs.KernelNames.{names_fit, scope_at, param_scope_is, var_scope_is, others-append, params_nine, vars_nine, numbers_on, numbers_params, first_are, kernel_are}
 use Rattle.kernel_tree.specs.declared.fault.Binding.TheVariants as binding
-use Rattle.kernel_tree.specs.declared.ast.Shape.TheVariants as shape
-use Rattle.kernel_tree.specs.declared.fault.Binding.TheVariants as binding
-
--- ---- scopes
-
-scope_is : (s : Scope) (v : List Local) (i : Option (List ℕ)) (b : Bool) → s.visible ≡ v → s.index ≡ i → s.inside ≡ b → s ≡ record { visible = v; taken = s.taken; index = i; inside = b }
-scope_is s v i b e f g =
-    ap (λ (x : List Local). record { visible = x; taken = s.taken; index = s.index; inside = s.inside }) e
-    ∙ ap (λ (x : Option (List ℕ)). record { visible = v; taken = s.taken; index = x; inside = s.inside }) f
-    ∙ ap (λ (x : Bool). record { visible = v; taken = s.taken; index = i; inside = x }) g
-
-abbrev scope_at : Program → List Local → List (List ℕ) → Bool → Scope
-scope_at k v tk ins = record { visible = v; taken = tk; index = loop_index k; inside = ins }
-
-param_scope_is : (k : Program) → param_scope k ≡ scope_at k (locals_of k.params) (param_scope k).taken false
-param_scope_is k = scope_is (param_scope k) (locals_of k.params) (loop_index k) false (param_visible k) (param_index k) (param_outside k)
-
-var_scope_is : (k : Program) → var_scope k ≡ scope_at k (locals_of k.params ++ accs_of k.vars) (var_scope k).taken false
-var_scope_is k =
-    scope_is (var_scope k) (locals_of k.params ++ accs_of k.vars) (loop_index k) false (var_visible k) (scope_index k) (scope_outside k)
 
 -- ---- the loop variable's name is no other's
 
@@ -83,46 +59,6 @@ index_at x hs p h =
     let e = index_found x hs h in
     (ap (λ o. unwrap_or (option_map register_of o) 31) e, subst (λ o. LastsAt o p) (sym e) tt)
 
--- ---- homes that are held throughout
-
-steady-append : (hs gs : Homes) → AreSteady hs → AreSteady gs → AreSteady (hs ++ gs)
-steady-append [] gs h k = k
-steady-append (x ∷ hs) gs h k = (h.0, steady-append hs gs h.1 k)
-
-params_steady : (n : ℕ) (ps : List Parameter) → AreSteady (param_homes n ps)
-params_steady n [] = tt
-params_steady n (p ∷ ps) = (refl, params_steady (n + 1) ps)
-
-vars_steady : (R : ℕ → ℕ) (j : ℕ) (vs : List Accumulator) → AreSteady (var_homes R j vs)
-vars_steady R j [] = tt
-vars_steady R j (v ∷ vs) = (refl, vars_steady R (j + 1) vs)
-
-others-append : (hs gs : Homes) (r p : ℕ) → Others hs r p → Others gs r p → Others (hs ++ gs) r p
-others-append [] gs r p h k = k
-others-append (x ∷ hs) gs r p h k = (h.0, others-append hs gs r p h.1 k)
-
-params_nine : (n p : ℕ) (ps : List Parameter) → n + length ps ≤ 8 → Others (param_homes n ps) 9 p
-params_nine n p [] h = tt
-params_nine n p (q ∷ ps) h = ((λ l e. absurd (omega (arith, h, e))), params_nine (n + 1) p ps (omega (arith, h)))
-
-vars_nine : (R : ℕ → ℕ) (j p : ℕ) (vs : List Accumulator) → Others (var_homes R j vs) 9 p
-vars_nine R j p [] = tt
-vars_nine R j p (v ∷ vs) = ((λ l e. absurd (let c = counted-low (R j) in omega (arith, c, e))), vars_nine R (j + 1) p vs)
-
--- ---- numbers of accumulators
-
-numbers_on : (j : ℕ) (xs ys : List Local) → numbers j (xs ++ ys) ≡ numbers (numbers j xs) ys
-numbers_on j [] ys = refl
-numbers_on j (x ∷ xs) ys = numbers_on (next_number j x.binding) xs ys
-
-next_shape : (j : ℕ) (s : Shape) → next_number j (binding_of_shape s) ≡ j
-next_shape j (shape.Scalar t) = refl
-next_shape j (shape.Array t) = refl
-
-numbers_params : (j : ℕ) (ps : List Parameter) → numbers j (locals_of ps) ≡ j
-numbers_params j [] = refl
-numbers_params j (p ∷ ps) = ap (λ n. numbers n (locals_of ps)) (next_shape j p.shape) ∙ numbers_params j ps
-
 map_untils : (entries es : List Entry) → map (x_last_use entries) es ≡ untils entries es []
 map_untils entries [] = refl
 map_untils entries (e ∷ es) = ap (λ l. x_last_use entries e ∷ l) (map_untils entries es)
@@ -132,34 +68,6 @@ drop_none [] = refl
 drop_none (x ∷ xs) = refl
 
 module _ (R : ℕ → ℕ) (k : Program) (L : Layout) (all : List Entry) where
-  param_is : (b j n : ℕ) (x : List ℕ) (s : Shape) → IsParam k n x s → HomeIs k R L all b j (binding_of_shape s) (record { name = x; register = n; last_use = None })
-  param_is b j n x (shape.Scalar t) e = (refl, e)
-  param_is b j n x (shape.Array t) e = (refl, e)
-
-  params_are : (b j n : ℕ) (ps : List Parameter) → ((m : ℕ) → slice_get k.params (n + m) ≡ slice_get ps m) → AreHomes k R L all b j (locals_of ps) (param_homes n ps)
-  params_are b j n [] f = tt
-  params_are b j n (p ∷ ps) f =
-      let z : n ≡ n + 0 = omega arith in (
-        refl,
-        param_is b j n p.name p.shape (ap (slice_get k.params) z ∙ f 0),
-        subst (λ q. AreHomes k R L all b q (locals_of ps) (param_homes (n + 1) ps)) (sym (next_shape j p.shape))
-            (params_are b j (n + 1) ps (λ m. let y : n + 1 + m ≡ n + suc m = omega arith in ap (slice_get k.params) y ∙ f (suc m))),
-      )
-
-  vars_are : (b j : ℕ) (vs : List Accumulator) → j + length vs ≤ length k.vars → AreHomes k R L all b j (accs_of vs) (var_homes R j vs)
-  vars_are b j [] le = tt
-  vars_are b j (v ∷ vs) le =
-      let y : suc j ≡ j + 1 = omega arith in
-      (refl, (refl, refl, omega (arith, le)), subst (λ q. AreHomes k R L all b (suc j) (accs_of vs) (var_homes R q vs)) y (vars_are b (suc j) vs (omega (arith, le))))
-
-  first_are : (b : ℕ) → AreHomes k R L all b 0 (locals_of k.params) (param_homes 0 k.params)
-  first_are b = params_are b 0 0 k.params (λ m. let z : 0 + m ≡ m = omega arith in ap (slice_get k.params) z)
-
-  pub kernel_are : (b : ℕ) → AreHomes k R L all b 0 (locals_of k.params ++ accs_of k.vars) (kernel_homes R k)
-  kernel_are b =
-      homes_on k R L all b 0 (locals_of k.params) (accs_of k.vars) (param_homes 0 k.params) (var_homes R 0 k.vars) (first_are b)
-      (subst (λ n. AreHomes k R L all b n (accs_of k.vars) (var_homes R 0 k.vars)) (sym (numbers_params 0 k.params)) (vars_are b 0 k.vars (omega arith)))
-
   -- one accumulator more
   one_more : (b j : ℕ) (v : List Local) (hs : Homes) (a : Accumulator) → AreHomes k R L all b 0 v hs → numbers 0 v ≡ j → j < length k.vars → AreHomes k R L all b 0 (v ++ local a.name (binding.Accumulator a.type) ∷ []) (hs ++ var_home R j a ∷ [])
   one_more b j v hs a are n lt =
@@ -208,29 +116,27 @@ module _ (R : ℕ → ℕ) (k : Program) (L : Layout) (all : List Entry) where
 
     loop_fits : (l : PlainLoop) (tk : List (List ℕ)) (b b2 : ℕ) (rest : List ℕ) → loop_index k ≡ Some l.index → NoHome l.index (kernel_homes R k) → b ≤ b2 → turns_faults (scope_at k (locals_of k.params ++ accs_of k.vars) tk false) b (Some l) ≡ [] → answer_faults (after_turns (scope_at k (locals_of k.params ++ accs_of k.vars) tk false) (Some l)) b2 k.answer ≡ []
         → Sits L.untils b (untils all (turns_entries k b (Some l)) rest) → AreUsesCounted all (turns_entries k b (Some l)) → Sits L.untils b2 (untils all (answer_entries k b2 k.answer) []) → AreUsesCounted all (answer_entries k b2 k.answer)
-        → FitsLoop L (kernel_homes R k) (scope_at k (locals_of k.params ++ accs_of k.vars) tk false) l b b2 k.answer × IsBound R k l
+        → FitsLoop L (kernel_homes R k) (scope_at k (locals_of k.params ++ accs_of k.vars) tk false) l b b2 k.answer
     loop_fits l tk b b2 rest ix alone le f fa h c ha ca =
         let v = locals_of k.params ++ accs_of k.vars in
         let hs = kernel_homes R k in
         let S = scope_at k v tk false in
         let known = bound_known b (lookup S l.bound) (nil-left (bound_faults b (lookup S l.bound)) _ f) in
         let body = nil-right (twice b S l.index) _ (nil-right (bound_faults b (lookup S l.bound)) _ f) in
-        let at = is_at k R L all b 0 v hs l.bound (binding.Scalar U64) (kernel_are b) known in
+        let at = is_at k R L all b 0 v hs l.bound (binding.Scalar U64) (kernel_are R k L all b) known in
         let reg = register_is k R L all b hs l.bound (binding.Scalar U64) at in
         let param = at.what.1 in
         let low = slice_get_within k.params at.home.register _ param in
         let index : (p : ℕ) → IndexAt (with_index hs l) (loop_index k) p = λ p. subst (λ o. IndexAt (with_index hs l) o p) (sym ix) (index_at l.index hs p alone) in
-        let are : (p : ℕ) → AreHomes k R L all p 0 (v ++ local l.index binding.Index ∷ []) (with_index hs l) = λ p. homes_on k R L all p 0 v (local l.index binding.Index ∷ []) hs (index_home l.index ∷ []) (kernel_are p) (refl, (refl, refl), tt) in (
-          record {
-            bound = subst (λ o. LastsAt o b) (sym at.is) (steady_at at.home b at.what.0);
-            bound_low = omega (arith, reg, low, few);
-            body = block_fits k R L all few spread l.body (v ++ local l.index binding.Index ∷ []) (insert_name tk l.index) true (with_index hs l) (b + 1) rest (are (b + 1)) (λ e p. index p) refl body (sits_next L.untils b _ _ h) c.1;
-            nine = others-append (param_homes 0 k.params) (var_homes R 0 k.vars) 9 b (params_nine 0 b k.params (omega (arith, few))) (vars_nine R 0 b k.vars);
-            answered = answer_fits k.answer (v ++ local l.index binding.Index ∷ []) (insert_name tk l.index) (with_index hs l) b2 (are b2) fa ha ca;
-            following = le;
-          },
-          ap (slice_get k.params) reg ∙ param ∙ ap (λ x. Some (record { name = x; shape = shape.Scalar U64 })) at.named,
-        )
+        let are : (p : ℕ) → AreHomes k R L all p 0 (v ++ local l.index binding.Index ∷ []) (with_index hs l) = λ p. homes_on k R L all p 0 v (local l.index binding.Index ∷ []) hs (index_home l.index ∷ []) (kernel_are R k L all p) (refl, (refl, refl), tt) in
+        record {
+          bound = subst (λ o. LastsAt o b) (sym at.is) (steady_at at.home b at.what.0);
+          bound_low = omega (arith, reg, low, few);
+          body = block_fits k R L all few spread l.body (v ++ local l.index binding.Index ∷ []) (insert_name tk l.index) true (with_index hs l) (b + 1) rest (are (b + 1)) (λ e p. index p) refl body (sits_next L.untils b _ _ h) c.1;
+          nine = others-append (param_homes 0 k.params) (var_homes R 0 k.vars) 9 b (params_nine 0 b k.params (omega (arith, few))) (vars_nine R 0 b k.vars);
+          answered = answer_fits k.answer (v ++ local l.index binding.Index ∷ []) (insert_name tk l.index) (with_index hs l) b2 (are b2) fa ha ca;
+          following = le;
+        }
       where
         steady_at : (h : Home) (p : ℕ) → h.last_use ≡ None → LastsAt (Some h) p
         steady_at h p u = subst (λ o. LastsAt (Some (record { name = h.name; register = h.register; last_use = o })) p) (sym u) tt
@@ -289,7 +195,7 @@ module _ (R : ℕ → ℕ) (k : Program) (checked : check_fault k ≡ None) (few
       subst (λ s. AreSafeVars L R (param_homes 0 k.params) s 0 (length k.params) k.vars) (sym (param_scope_is k))
       (vars_safe R k L all few spread k.vars (locals_of k.params) (param_scope k).taken (param_homes 0 k.params) 0 (length k.params) (first_are R k L all (length k.params)) (numbers_params 0 k.params) (omega arith))
 
-  turns_fit : (l : PlainLoop) → k.turns ≡ Some l → FitsLoop L (kernel_homes R k) (var_scope k) l (loop_start k) (loop_end k) k.answer × IsBound R k l
+  turns_fit : (l : PlainLoop) → k.turns ≡ Some l → FitsLoop L (kernel_homes R k) (var_scope k) l (loop_start k) (loop_end k) k.answer
   turns_fit l e =
       let s = var_scope_is k in
       let ix : loop_index k ≡ Some l.index = ap (option_map index_of) e in
@@ -297,7 +203,7 @@ module _ (R : ℕ → ℕ) (k : Program) (checked : check_fault k ≡ None) (few
       let a0 : answer_faults (after_turns (var_scope k) (Some l)) (loop_end k) k.answer ≡ [] = subst (λ o. answer_faults (after_turns (var_scope k) o) (loop_end k) k.answer ≡ []) e (answer_faultless k checked) in
       let h : Sits us (loop_start k) (untils all (turns_entries k (loop_start k) (Some l)) (untils all xs [])) = subst (λ o. Sits us (loop_start k) (untils all (turns_entries k (loop_start k) o) (untils all xs []))) e (sits_first all us ls xs (loop_start k) [] at_loop) in
       let u : AreUsesCounted all (turns_entries k (loop_start k) (Some l)) = subst (λ o. AreUsesCounted all (turns_entries k (loop_start k) o)) e (counted_left all ls xs counted_loop) in
-      subst (λ s. FitsLoop L (kernel_homes R k) s l (loop_start k) (loop_end k) k.answer × IsBound R k l) (sym s)
+      subst (λ s. FitsLoop L (kernel_homes R k) s l (loop_start k) (loop_end k) k.answer) (sym s)
       (loop_fits R k L all few spread l (var_scope k).taken (loop_start k) (loop_end k) _ ix (index_homeless R k l checked e) (omega arith) (subst (λ s. turns_faults s (loop_start k) (Some l) ≡ []) s f0) (subst (λ s. answer_faults (after_turns s (Some l)) (loop_end k) k.answer ≡ []) s a0) h u at_answer (counted_right all ls xs counted_loop))
 
   straight_fit : k.turns ≡ None → FitsAnswer L (kernel_homes R k) (var_scope k) (loop_end k) k.answer
@@ -313,9 +219,9 @@ kernel_fits R k checked few c = record {
   assigned = (spread_of R k c).fit;
   vars = vars_fits R k checked few c;
   vars_safe = vars_are_safe R k checked few c;
-  steady = steady-append (param_homes 0 k.params) (var_homes R 0 k.vars) (params_steady 0 k.params) (vars_steady R 0 k.vars);
-  safe = λ b. are_safe k R (layout_of_kernel R k) (entries_of k) few (spread_of R k c) b 0 b (locals_of k.params ++ accs_of k.vars) (kernel_homes R k) (kernel_are R k (layout_of_kernel R k) (entries_of k) b) (omega arith);
-  looped = λ l e. (turns_fit R k checked few c l e).0;
-  bound = λ l e. (turns_fit R k checked few c l e).1;
+  steady = (names_fit R k checked few c).steady;
+  safe = (names_fit R k checked few c).safe;
+  looped = turns_fit R k checked few c;
+  bound = (names_fit R k checked few c).bound;
   straight = straight_fit R k checked few c;
 }

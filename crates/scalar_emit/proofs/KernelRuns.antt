@@ -16,15 +16,17 @@ use Rattle.kernel_meaning.specs.ScalarRun.{Run, bound_of, iterations, finish, re
 use Rattle.kernel_meaning.proofs.Residues.{word-below}
 use Rattle.label_fix.specs.DraftRun.{Entry, Place, Laid, following}
 use Rattle.label_fix.proofs.StretchSteps.{Goes, Resolves, stay, end_after, stop_after, stop_more, pass}
-use Rattle.scalar_emit.specs.Layout.{Layout, Homes, register_at}
+use Rattle.scalar_words.specs.Layout.{Layout, Homes, register_at}
 use Rattle.scalar_emit.specs.Loop.{answer_code, test_code, loop_code, FitsAnswer, FitsLoop}
-use Rattle.scalar_emit.specs.Kernel.{layout_of_kernel, kernel_homes, turns_code, scalar_code, register_in}
+use Rattle.scalar_words.specs.KernelRegisters.{layout_of_kernel, kernel_homes, register_in}
+use Rattle.scalar_emit.specs.Kernel.{turns_code, scalar_code}
 use Rattle.scalar_emit.specs.KernelFits.{KernelFits}
-use Rattle.scalar_emit.specs.Safe.{AreSteady}
-use Rattle.scalar_emit.specs.Runs.{AreHeld, AtIteration, Comes, ends_so, faults_so, ScalarRuns}
-use Rattle.scalar_emit.proofs.LayoutStates.{Assigned, AreSafe, Held, At, name_held}
+use Rattle.scalar_words.specs.Safe.{AreSteady}
+use Rattle.scalar_words.specs.Iterations.{AreHeld, AtIteration, Comes, ends_so, faults_so}
+use Rattle.scalar_emit.specs.Runs.{ScalarRuns}
+use Rattle.scalar_words.proofs.LayoutStates.{Assigned, AreSafe, Held, At, name_held}
 use Rattle.scalar_emit.proofs.LoopRuns.{fixed_at, answer_runs, loop_runs}
-use Rattle.scalar_emit.proofs.ChosenOf.{chosen_all}
+use Rattle.scalar_words.proofs.ChosenOf.{chosen_all}
 use Rattle.scalar_emit.proofs.FitsKernel.{kernel_fits}
 
 -- ---- counts

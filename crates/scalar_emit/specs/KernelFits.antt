@@ -1,34 +1,14 @@
--- When registers fit a whole kernel: what register assignment says of its intervals, and what code generation has of it.
-use Rattle.std.specs.Prelude.{◌≡◌, ◌≢◌, ℕ, ◌+◌, ◌<◌, ◌≤◌, List, [], ◌∷◌, ◌++◌, length, Some, None, slice_get}
-use Rattle.kernel_tree.specs.declared.ops.Ty.TheVariants.{U64}
-use Rattle.kernel_tree.specs.declared.ast.Shape.TheVariants.{Scalar}
-use Rattle.kernel_tree.specs.declared.fault.Binding.TheVariants as binding
+-- When registers fit a whole kernel.
+use Rattle.std.specs.Prelude.{◌≡◌, ℕ, ◌+◌, List, [], ◌∷◌, ◌++◌, length, Some, None}
 use Rattle.kernel_tree.specs.Plain.{Accumulator, PlainLoop, Program}
 use Rattle.kernel_tree.specs.Items.{term_size, loop_start, loop_end}
 use Rattle.kernel_tree.specs.Typing.{Scope, declared, param_scope, var_scope}
-use Rattle.reg_assign.specs.declared.interval.RegClass.TheVariants.{X}
-use Rattle.reg_assign.specs.declared.interval.Interval.{Interval}
-use Rattle.loop_form.specs.Needs.{intervals}
-use Rattle.scalar_emit.specs.Layout.{Layout, Homes, register_at}
-use Rattle.scalar_emit.specs.Statements.{Others}
+use Rattle.scalar_words.specs.Layout.{Layout, Homes}
+use Rattle.scalar_words.specs.Safe.{Others, Assigned, AreSafe, AreSteady}
 use Rattle.scalar_emit.specs.Loop.{FitsAnswer, FitsLoop}
-use Rattle.scalar_emit.specs.Kernel.{counted_x, layout_of_kernel, param_homes, var_home, kernel_homes, FitsVars}
-use Rattle.scalar_emit.specs.Safe.{Assigned, AreSafe, AreSteady}
-
--- ---- what register assignment gives
-
--- interval m of the values in X registers
-abbrev pub IsInterval : Program → ℕ → Interval → Type 0
-IsInterval k m s = slice_get (intervals k X) m ≡ Some s
-
--- an interval's value is needed at item p
-abbrev pub IsNeeded : ℕ → Interval → Type 0
-IsNeeded p s = (s.from ≤ p) × (p < s.last_use)
-
--- Each interval has one of 15 registers, and two intervals whose values are needed at one item have different ones.
-pub record AreChosen (R : ℕ → ℕ) (k : Program) : Type 0 where
-  pub below : (m : ℕ) (s : Interval) → IsInterval k m s → R m < 15
-  pub apart : (m n p : ℕ) (s t : Interval) → m ≢ n → IsInterval k m s → IsInterval k n t → IsNeeded p s → IsNeeded p t → R m ≢ R n
+use Rattle.scalar_words.specs.KernelRegisters.{counted_x, layout_of_kernel, param_homes, var_home, kernel_homes, IsBound}
+use Rattle.scalar_emit.specs.Kernel.{FitsVars}
+use Rattle.kernel_tree.specs.declared.fault.Binding.TheVariants as binding
 
 -- ---- accumulators
 
@@ -50,10 +30,6 @@ VarsAreSafe R k = AreSafeVars (layout_of_kernel R k) R (param_homes 0 k.params) 
 
 abbrev pub LoopFits : (ℕ → ℕ) → Program → PlainLoop → Type 0
 LoopFits R k l = FitsLoop (layout_of_kernel R k) (kernel_homes R k) (var_scope k) l (loop_start k) (loop_end k) k.answer
-
--- the register of the loop's bound is that of the parameter with its name, which is of type u64
-abbrev pub IsBound : (ℕ → ℕ) → Program → PlainLoop → Type 0
-IsBound R k l = slice_get k.params (register_at (kernel_homes R k) l.bound) ≡ Some (record { name = l.bound; shape = Scalar U64 })
 
 -- the returned expression of a kernel without a loop
 abbrev pub AnswerFits : (ℕ → ℕ) → Program → Type 0

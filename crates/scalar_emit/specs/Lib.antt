@@ -1,14 +1,5 @@
-pub mod Layout
-pub mod Extents
-pub mod Words
-pub mod Code
-pub mod Fits
 pub mod Statements
 pub mod Loop
-pub mod View
-pub mod Operands
 pub mod Kernel
-pub mod Safe
 pub mod KernelFits
 pub mod Runs
-pub mod Drafts

@@ -2,8 +2,8 @@
 
 ghost use Rattle.std.specs.Prelude.{◌≡◌, ◌+◌, ◌<◌, ◌^◌, true, List, ◌∷◌, ◌++◌, IfOk, OnOk};
 ghost use Rattle.label_fix.specs.Draft.{kind_view};
-ghost use Rattle.label_fix.specs.DraftRun as plain;
 ghost use Rattle.label_fix.specs.Finished.{has_register};
+ghost use Rattle.label_fix.specs.DraftRun as plain;
 
 use label_fix::{BranchKind, Draft, Label};
 use std::alloc::AllocError;

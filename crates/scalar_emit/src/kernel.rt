@@ -1,31 +1,26 @@
 //! Emits the code of a kernel: what stands before its loop, the loop, and the end.
 
 ghost use Rattle.std.specs.Prelude.{◌≡◌, ◌+◌, ◌*◌, ◌<◌, ◌≤◌, ◌^◌, None, Some, List, [], ◌∷◌, ◌++◌, OnOk, IfOk, length, option_map};
-ghost use Rattle.a64_code.specs.Table as table;
-ghost use Rattle.kernel_tree.specs.Plain.{name_of, term_of, parameter_of, parameters_of, accumulator_of, accumulators_of, turns_of, returned_of, block_of, program_of};
-ghost use Rattle.kernel_tree.specs.Items as items;
-ghost use Rattle.kernel_tree.specs.Typing as typing;
+ghost use Rattle.kernel_tree.specs.Plain.{term_of, parameters_of, accumulator_of, accumulators_of, turns_of, returned_of, block_of, program_of};
 ghost use Rattle.kernel_tree.specs.Kinds.{IsValue, VarsKinds, BlockKinds, AnswerKinds, KernelKinds};
-ghost use Rattle.kernel_scope.specs.Scopes.{scope_of};
-ghost use Rattle.label_fix.specs.DraftRun as plain;
+ghost use Rattle.kernel_scope.specs.Scopes.{scope_of, after_var};
 ghost use Rattle.reg_assign.specs.declared.interval.RegClass.TheVariants.{X};
 ghost use Rattle.reg_assign.specs.Registers.{IsAssignment};
 ghost use Rattle.loop_form.specs.Registers.{FitsKernel};
+ghost use Rattle.loop_form.specs.Listing.{listing_of};
 ghost use Rattle.loop_form.specs.View.{program};
 ghost use Rattle.scalar_emit.specs.Statements.{block_labels, block_code};
+ghost use Rattle.scalar_words.specs.KernelRegisters.{register_in};
+ghost use Rattle.scalar_words.specs.Drafts.{Appends, AppendsWords};
+ghost use Rattle.scalar_words.specs.View.{homes_of};
+ghost use Rattle.kernel_tree.specs.Items as items;
+ghost use Rattle.kernel_tree.specs.Typing as typing;
+ghost use Rattle.label_fix.specs.DraftRun as plain;
 ghost use Rattle.scalar_emit.specs.Loop as loops;
 ghost use Rattle.scalar_emit.specs.Kernel as kernels;
-ghost use Rattle.scalar_emit.specs.Kernel.{register_in};
-ghost use Rattle.scalar_emit.specs.Drafts.{Appends, AppendsWords};
-ghost use Rattle.scalar_emit.specs.View.{homes_of};
+ghost use Rattle.scalar_words.specs.KernelRegisters as registers;
 
 use crate::branches::branch_ahead;
-use crate::emit::emit_value;
-use crate::home::{Home, register_at};
-use crate::instructions::{add_sub, exit_call, index, next_iteration, small};
-use crate::laws::each_has_a_register;
-use crate::operations::{emit_copy, emit_settle};
-use crate::places::{Places, counted_register, places_of};
 use crate::statements::emit_block;
 use a64_code::{AddSubOp, Cond, Reg, zero};
 use kernel_scope::{Scope, declare, empty, loop_index};
@@ -34,141 +29,18 @@ use kernel_tree::laws::{few_params, right_kinds};
 use kernel_tree::{Answer, Checked, Kernel, Loop, Param, Shape, Var};
 use label_fix::{BranchKind, Draft, Label};
 use loop_form::laws::few_items;
-use loop_form::vars_size_of;
+use loop_form::{Item, vars_size_of};
 use reg_assign::Assigned;
+use scalar_values::emit::emit_value;
+use scalar_values::instructions::{exit_call, index, next_iteration, small};
+use scalar_words::instructions::add_sub;
+use scalar_words::laws::each_has_a_register;
+use scalar_words::names::{declare_names, declare_params, declare_var};
+use scalar_words::operations::{emit_copy, emit_settle};
+use scalar_words::places::{Places, counted_register, places_of};
+use scalar_words::{Home, register_at};
 use std::alloc::{AllocError, Global};
 use word_rows::Bits;
-
-// ---- names
-
-fn declare_param<'a>(
-    scope: &mut Scope<'a>,
-    homes: &mut Vec<Home<'a>>,
-    place: u32,
-    param: &'a Param,
-) -> Result<(), AllocError>
-    requires { place < 8 }
-    ensures scope { OnOk result (scope_of scope.new
-        ≡ typing.declared (scope_of scope.old) (name_of param.now.name) (typing.binding_of_shape param.now.shape)) }
-    ensures homes { OnOk result (homes_of homes.new.items
-        ≡ homes_of homes.old.items ++ kernels.param_home place (parameter_of param.now) ∷ []) }
-{
-    homes.push(Home {
-        name: param.name.text(),
-        register: Bits { number: place },
-        last_use: None,
-    })?;
-    declare(scope, &param.name, param.shape.binding())?;
-    Ok(())
-}
-
-// The parameters, the first of which stands in X0.
-fn declare_params<'a>(
-    scope: &mut Scope<'a>,
-    homes: &mut Vec<Home<'a>>,
-    params: &'a [Param],
-) -> Result<(), AllocError>
-    requires { length params.now ≤ 8 }
-    ensures scope { OnOk result (scope_of scope.new
-        ≡ typing.after_params (scope_of scope.old) (parameters_of params.now)) }
-    ensures index { OnOk result ((scope_of scope.new).index ≡ (scope_of scope.old).index) }
-    ensures homes { OnOk result (homes_of homes.new.items
-        ≡ homes_of homes.old.items ++ kernels.param_homes 0 (parameters_of params.now)) }
-{
-    let mut place = 0;
-    for param in params {
-        declare_param(scope, homes, place, param)?;
-        place += 1;
-    }
-    Ok(())
-}
-
-fn declare_var<'a>(
-    scope: &mut Scope<'a>,
-    homes: &mut Vec<Home<'a>>,
-    regs: &Assigned,
-    place: usize,
-    var: &'a Var,
-) -> Result<(), AllocError>
-    requires assigned { IsAssignment 15 regs.now }
-    requires within { place < length regs.now.registers }
-    ensures scope { OnOk result (scope_of scope.new ≡ kernels.after_var (scope_of scope.old) (accumulator_of var.now)) }
-    ensures homes { OnOk result (homes_of homes.new.items
-        ≡ homes_of homes.old.items ++ kernels.var_home (register_in regs.now) place (accumulator_of var.now) ∷ []) }
-{
-    homes.push(Home {
-        name: var.name.text(),
-        register: counted_register(regs, place),
-        last_use: None,
-    })?;
-    declare(scope, &var.name, Binding::Accumulator(var.ty))?;
-    Ok(())
-}
-
-// The accumulators, which have the first intervals.
-fn declare_vars<'a>(
-    scope: &mut Scope<'a>,
-    homes: &mut Vec<Home<'a>>,
-    regs: &Assigned,
-    vars: &'a [Var],
-) -> Result<(), AllocError>
-    requires assigned { IsAssignment 15 regs.now }
-    requires within { length vars.now ≤ length regs.now.registers }
-    ensures scope { OnOk result (scope_of scope.new
-        ≡ typing.after_vars (scope_of scope.old) (accumulators_of vars.now)) }
-    ensures index { OnOk result ((scope_of scope.new).index ≡ (scope_of scope.old).index) }
-    ensures homes { OnOk result (homes_of homes.new.items
-        ≡ homes_of homes.old.items ++ kernels.var_homes (register_in regs.now) 0 (accumulators_of vars.now)) }
-{
-    let mut place = 0;
-    for var in vars {
-        declare_var(scope, homes, regs, place, var)?;
-        place += 1;
-    }
-    Ok(())
-}
-
-// The names of a kernel before its loop.
-fn declare_names<'a>(
-    scope: &mut Scope<'a>,
-    homes: &mut Vec<Home<'a>>,
-    regs: &Assigned,
-    kernel: &'a Kernel,
-) -> Result<(), AllocError>
-    requires assigned { IsAssignment 15 regs.now }
-    requires vars { length (program_of kernel.now).vars ≤ length regs.now.registers }
-    requires params { length (program_of kernel.now).params ≤ 8 }
-    requires scope { scope_of scope.old ≡ typing.empty (items.loop_index (program_of kernel.now)) }
-    requires homes { homes.old.items ≡ [] }
-    ensures scope { OnOk result (scope_of scope.new ≡ typing.var_scope (program_of kernel.now)) }
-    ensures index { OnOk result ((scope_of scope.new).index ≡ items.loop_index (program_of kernel.now)) }
-    ensures homes { OnOk result (homes_of homes.new.items
-        ≡ kernels.kernel_homes (register_in regs.now) (program_of kernel.now)) }
-{
-    declare_params(scope, homes, &kernel.params)?;
-    declare_vars(scope, homes, regs, &kernel.vars)?;
-    Ok(())
-}
-
-/// The names at the loop of a kernel, each with the register that holds its value throughout.
-#[tactic(auto, unfolding(loop_form::specs::View::program))]
-pub fn kernel_homes<'a>(
-    alloc: Global,
-    kernel: &'a Checked,
-    regs: &Assigned,
-) -> Result<Vec<Home<'a>>, AllocError>
-    requires fits { FitsKernel (program kernel.now) X regs.now }
-    ensures { IfOk result (λ h. homes_of h.items
-        ≡ kernels.kernel_homes (register_in regs.now) (program kernel.now)) }
-{
-    few_params(kernel);
-    each_has_a_register(kernel, regs);
-    let tree = kernel.kernel();
-    let mut scope = empty(alloc, loop_index(&tree.body));
-    let mut homes = Vec::new(alloc);
-    declare_names(&mut scope, &mut homes, regs, tree)?;
-    Ok(homes)
-}
 
 // The loop variable.
 fn declare_index<'a>(
@@ -235,9 +107,9 @@ fn emit_var<'a>(
     requires within { place < length regs.now.registers }
     requires kind { IsValue (term_of var.now.init) }
     requires fits { item.old + (items.term_size (scope_of scope.old).index (term_of var.now.init) + 1) < 2 ^ 32 }
-    ensures scope { OnOk result (scope_of scope.new ≡ kernels.after_var (scope_of scope.old) (accumulator_of var.now)) }
+    ensures scope { OnOk result (scope_of scope.new ≡ after_var (scope_of scope.old) (accumulator_of var.now)) }
     ensures homes { OnOk result (homes_of homes.new.items
-        ≡ homes_of homes.old.items ++ kernels.var_home (register_in regs.now) place (accumulator_of var.now) ∷ []) }
+        ≡ homes_of homes.old.items ++ registers.var_home (register_in regs.now) place (accumulator_of var.now) ∷ []) }
     ensures item { OnOk result (item.new ≡ item.old + items.term_size (scope_of scope.old).index
         (term_of var.now.init) + 1) }
     ensures labels { OnOk result (draft.new.labels
@@ -296,7 +168,7 @@ fn emit_first<'a>(
     requires params { length (program_of kernel.now).params ≤ 8 }
     requires kinds { VarsKinds (program_of kernel.now).vars }
     requires few { items.size_of (program_of kernel.now) ≤ 1000 }
-    requires places { places.now ≡ kernels.layout_of_kernel (register_in regs.now) (program_of kernel.now) }
+    requires places { places.now ≡ registers.layout_of_kernel (register_in regs.now) (program_of kernel.now) }
     requires scope { scope_of scope.old ≡ typing.empty (items.loop_index (program_of kernel.now)) }
     requires homes { homes.old.items ≡ [] }
     ensures labels { OnOk result (draft.new.labels ≡ draft.old.labels + kernels.begin_labels (program_of kernel.now)) }
@@ -324,7 +196,7 @@ fn emit_before(
     requires params { length (program_of kernel.now).params ≤ 8 }
     requires kinds { VarsKinds (program_of kernel.now).vars }
     requires few { items.size_of (program_of kernel.now) ≤ 1000 }
-    requires places { places.now ≡ kernels.layout_of_kernel (register_in regs.now) (program_of kernel.now) }
+    requires places { places.now ≡ registers.layout_of_kernel (register_in regs.now) (program_of kernel.now) }
     ensures labels { OnOk result (draft.new.labels ≡ draft.old.labels + kernels.begin_labels (program_of kernel.now)) }
     ensures code { OnOk result (Appends draft.old draft.new
         (kernels.begin_code (register_in regs.now) (program_of kernel.now) draft.old.labels)) }
@@ -340,10 +212,12 @@ fn emit_before(
 pub fn emit_begin(
     alloc: Global,
     kernel: &Checked,
+    listing: &[Item],
     regs: &Assigned,
     draft: &mut Draft,
 ) -> Result<(), AllocError>
     requires fits { FitsKernel (program kernel.now) X regs.now }
+    requires listed { listing.now ≡ listing_of (program kernel.now) }
     ensures words { OnOk result (AppendsWords draft.old draft.new (40 + 8 * items.size_of (program kernel.now))) }
     ensures labels { OnOk result (draft.new.labels ≡ draft.old.labels + kernels.begin_labels (program kernel.now)) }
     ensures code { OnOk result (Appends draft.old draft.new
@@ -353,7 +227,7 @@ pub fn emit_begin(
     few_params(kernel);
     right_kinds(kernel);
     each_has_a_register(kernel, regs);
-    let places = places_of(alloc, kernel, regs)?;
+    let places = places_of(alloc, kernel, listing, regs)?;
     let tree = kernel.kernel();
     emit_before(alloc, draft, &places, regs, tree)?;
     Ok(())
@@ -558,7 +432,7 @@ fn turns_named<'a>(
         ≡ draft.old.labels + 3 + block_labels (items.loop_index (program_of kernel.now))
         (block_of turns.now.body.items)) }
     ensures code { OnOk result (Appends draft.old draft.new
-        (loops.turn_code places.now (kernels.kernel_homes (register_in regs.now) (program_of kernel.now))
+        (loops.turn_code places.now (registers.kernel_homes (register_in regs.now) (program_of kernel.now))
         (typing.var_scope (program_of kernel.now)) (turns_of turns.now) item.old draft.old.labels)) }
 {
     declare_names(scope, homes, regs, kernel)?;
@@ -588,7 +462,7 @@ fn emit_turns(
         ≡ draft.old.labels + 3 + block_labels (items.loop_index (program_of kernel.now))
         (block_of turns.now.body.items)) }
     ensures code { OnOk result (Appends draft.old draft.new
-        (loops.turn_code places.now (kernels.kernel_homes (register_in regs.now) (program_of kernel.now))
+        (loops.turn_code places.now (registers.kernel_homes (register_in regs.now) (program_of kernel.now))
         (typing.var_scope (program_of kernel.now)) (turns_of turns.now) item.old draft.old.labels)) }
 {
     let mut scope = empty(alloc, Some(turns.index.text()));
@@ -622,7 +496,7 @@ fn following_named<'a>(
         ≡ draft.old.labels + loops.answer_labels (items.loop_index (program_of kernel.now))
         (program_of kernel.now).answer) }
     ensures code { OnOk result (Appends draft.old draft.new
-        (loops.leave_code places.now (kernels.kernel_homes (register_in regs.now) (program_of kernel.now))
+        (loops.leave_code places.now (registers.kernel_homes (register_in regs.now) (program_of kernel.now))
         (typing.var_scope (program_of kernel.now)) (turns_of turns.now) item draft.old.labels
         (program_of kernel.now).answer)) }
 {
@@ -653,7 +527,7 @@ fn emit_following(
         ≡ draft.old.labels + loops.answer_labels (items.loop_index (program_of kernel.now))
         (program_of kernel.now).answer) }
     ensures code { OnOk result (Appends draft.old draft.new
-        (loops.leave_code places.now (kernels.kernel_homes (register_in regs.now) (program_of kernel.now))
+        (loops.leave_code places.now (registers.kernel_homes (register_in regs.now) (program_of kernel.now))
         (typing.var_scope (program_of kernel.now)) (turns_of turns.now) item draft.old.labels
         (program_of kernel.now).answer)) }
 {
@@ -686,7 +560,7 @@ fn straight_named<'a>(
     ensures head { IfOk result (λ l. l ≡ draft.old.labels) }
     ensures labels { OnOk result (draft.new.labels ≡ draft.old.labels + kernels.scalar_labels (program_of kernel.now)) }
     ensures code { OnOk result (Appends draft.old draft.new
-        (kernels.straight_code places.now (kernels.kernel_homes (register_in regs.now) (program_of kernel.now))
+        (kernels.straight_code places.now (registers.kernel_homes (register_in regs.now) (program_of kernel.now))
         (typing.var_scope (program_of kernel.now)) draft.old.labels item (program_of kernel.now).answer)) }
 {
     declare_names(scope, homes, regs, kernel)?;
@@ -715,7 +589,7 @@ fn emit_straight(
     ensures head { IfOk result (λ l. l ≡ draft.old.labels) }
     ensures labels { OnOk result (draft.new.labels ≡ draft.old.labels + kernels.scalar_labels (program_of kernel.now)) }
     ensures code { OnOk result (Appends draft.old draft.new
-        (kernels.straight_code places.now (kernels.kernel_homes (register_in regs.now) (program_of kernel.now))
+        (kernels.straight_code places.now (registers.kernel_homes (register_in regs.now) (program_of kernel.now))
         (typing.var_scope (program_of kernel.now)) draft.old.labels item (program_of kernel.now).answer)) }
 {
     let mut scope = empty(alloc, None);
@@ -737,7 +611,7 @@ fn emit_rest(
     requires params { length (program_of kernel.now).params ≤ 8 }
     requires kinds { KernelKinds (program_of kernel.now) }
     requires few { items.size_of (program_of kernel.now) ≤ 1000 }
-    requires places { places.now ≡ kernels.layout_of_kernel (register_in regs.now) (program_of kernel.now) }
+    requires places { places.now ≡ registers.layout_of_kernel (register_in regs.now) (program_of kernel.now) }
     requires start { item ≡ items.loop_start (program_of kernel.now) }
     ensures head { IfOk result (λ l. l ≡ draft.old.labels) }
     ensures labels { OnOk result (draft.new.labels ≡ draft.old.labels + kernels.scalar_labels (program_of kernel.now)) }
@@ -771,10 +645,12 @@ pub struct ScalarEntry {
 pub fn emit_scalar(
     alloc: Global,
     kernel: &Checked,
+    listing: &[Item],
     regs: &Assigned,
     draft: &mut Draft,
 ) -> Result<ScalarEntry, AllocError>
     requires fits { FitsKernel (program kernel.now) X regs.now }
+    requires listed { listing.now ≡ listing_of (program kernel.now) }
     ensures words { OnOk result (AppendsWords draft.old draft.new (64 + 16 * items.size_of (program kernel.now))) }
     ensures entry { IfOk result (λ e. e.at_iteration ≡ draft.old.labels) }
     ensures labels { OnOk result (draft.new.labels ≡ draft.old.labels + kernels.scalar_labels (program kernel.now)) }
@@ -785,7 +661,7 @@ pub fn emit_scalar(
     few_params(kernel);
     right_kinds(kernel);
     each_has_a_register(kernel, regs);
-    let places = places_of(alloc, kernel, regs)?;
+    let places = places_of(alloc, kernel, listing, regs)?;
     let tree = kernel.kernel();
     let item = tree.params.len() + vars_size_of(kernel, &tree.vars) as usize;
     let at_iteration = emit_rest(alloc, draft, &places, regs, tree, item)?;

@@ -1,23 +1,14 @@
 //! What scalar code needs of a checked kernel, and what it does.
 
-ghost use Rattle.std.specs.Prelude.{◌≡◌, ◌+◌, ◌≤◌, length};
+ghost use Rattle.std.specs.Prelude.{◌≡◌, ◌+◌, ◌≤◌};
 ghost use Rattle.reg_assign.specs.declared.interval.RegClass.TheVariants.{X};
-ghost use Rattle.loop_form.specs.Listing.{listing_of};
 ghost use Rattle.loop_form.specs.Registers.{FitsKernel};
 ghost use Rattle.loop_form.specs.View.{program};
-ghost use Rattle.scalar_emit.specs.Kernel.{register_in, count_values};
+ghost use Rattle.scalar_words.specs.KernelRegisters.{register_in};
 ghost use Rattle.scalar_emit.specs.Runs.{BeginRuns, ScalarRuns};
 
 use kernel_tree::Checked;
 use reg_assign::Assigned;
-
-/// Each accumulator and each item with a value has a register.
-pub fn each_has_a_register(kernel: &Checked, regs: &Assigned)
-    requires fits { FitsKernel (program kernel.now) X regs.now }
-    ensures count { let k = program kernel.now in length k.vars + count_values (listing_of k)
-        ≡ length regs.now.registers }
-    ensures vars { length (program kernel.now).vars ≤ length regs.now.registers }
-{}
 
 /// The code before the loop leaves the wrapped scalar arguments, the array arguments as they were, the accumulators as the
 /// scalar loop starts with them, and zero in X9.

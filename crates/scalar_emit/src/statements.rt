@@ -4,31 +4,30 @@ ghost use Rattle.std.specs.Prelude.{◌≡◌, ◌+◌, ◌<◌, ◌^◌, true, 
 ghost use Rattle.kernel_tree.specs.Plain.{Define, Put, Update, Choose, Leave, Nothing, Else, name_of, term_of, action_of, block_of};
 ghost use Rattle.kernel_tree.specs.Parts.{part_action};
 ghost use Rattle.kernel_tree.specs.Items.{action_size, block_size, otherwise_size, stream_offset};
-ghost use Rattle.kernel_tree.specs.Typing as typing;
 ghost use Rattle.kernel_tree.specs.Kinds.{IsValue, IsTruth, ActionKinds, BlockKinds};
 ghost use Rattle.kernel_scope.specs.Scopes.{scope_of};
-ghost use Rattle.kernel_meaning.specs.Operators as operators;
-ghost use Rattle.label_fix.specs.DraftRun as plain;
-ghost use Rattle.scalar_emit.specs.Words as words;
+ghost use Rattle.scalar_emit.specs.Statements.{is_effect};
+ghost use Rattle.scalar_words.specs.Drafts.{Appends};
+ghost use Rattle.scalar_words.specs.View.{homes_of};
+ghost use Rattle.kernel_tree.specs.Typing as typing;
+ghost use Rattle.scalar_values.specs.ItemWords as words;
 ghost use Rattle.scalar_emit.specs.Statements as statements;
-ghost use Rattle.scalar_emit.specs.Operands.{is_effect};
-ghost use Rattle.scalar_emit.specs.Drafts.{Appends};
-ghost use Rattle.scalar_emit.specs.View.{homes_of};
 
 use crate::branches::{land, switch_over};
-use crate::emit::{emit_jump, emit_loose, emit_right, emit_value};
-use crate::extent::{Extent, binary_extent, extent_at};
-use crate::home::{Home, register_at};
-use crate::instructions::{added_number, index_word, store};
-use crate::operations::{emit_copy, emit_offset, want_operator};
-use crate::places::Places;
 use a64_code::Reg;
 use kernel_meaning::binary_leaves;
 use kernel_scope::{
     Scope, accumulator_type, define, element_type, first, leave, lookup, own_type, visible_count,
 };
-use kernel_tree::{BinaryOp, Expr, Name, Part, Stmt, Ty, UpdateOp, parts};
+use kernel_tree::{Expr, Name, Part, Stmt, Ty, UpdateOp, parts};
 use label_fix::{Draft, Label};
+use scalar_values::emit::{emit_jump, emit_loose, emit_right, emit_value};
+use scalar_values::extent::{Extent, binary_extent, extent_at};
+use scalar_values::instructions::{added_number, index_word, store};
+use scalar_values::operations::{emit_offset, want_operator};
+use scalar_words::operations::{emit_copy, update_operator};
+use scalar_words::places::Places;
+use scalar_words::{Home, register_at};
 use std::alloc::AllocError;
 
 // The value of a `let` into its register, where something reads it.
@@ -191,20 +190,6 @@ fn emit_store(
     emit_put(draft, scope, index, ty, from, register_at(homes, array))?;
     *item += 1;
     Ok(())
-}
-
-/// The operator that an update applies.
-pub fn update_operator(op: UpdateOp) -> BinaryOp
-    ensures { result ≡ operators.operator_of op }
-{
-    match op {
-        UpdateOp::Add => BinaryOp::Add,
-        UpdateOp::And => BinaryOp::And,
-        UpdateOp::Or => BinaryOp::Or,
-        UpdateOp::Xor => BinaryOp::Xor,
-        UpdateOp::Min => BinaryOp::Min,
-        UpdateOp::Max => BinaryOp::Max,
-    }
 }
 
 fn emit_update(

@@ -20,10 +20,10 @@ use Rattle.loop_form.specs.Lanes.{lane_width_of}
 use Rattle.loop_form.specs.LoopItems.{Item, turns_items, loop_items_of}
 use Rattle.loop_form.specs.Needs.{Throughout, Scalar, Constant, Index, Accumulating, throughout}
 use Rattle.dependence.specs.Apart.{bound_place}
-use Rattle.scalar_emit.specs.Layout.{register_at}
-use Rattle.scalar_emit.specs.Kernel.{kernel_homes}
-use Rattle.scalar_emit.specs.Words.{settle_word, binary_code}
-use Rattle.scalar_emit.proofs.Counts.{one_word, operator_words, const_words}
+use Rattle.scalar_words.specs.Layout.{register_at}
+use Rattle.scalar_words.specs.KernelRegisters.{kernel_homes}
+use Rattle.scalar_words.specs.Words.{settle_word, binary_code}
+use Rattle.scalar_words.proofs.WordCounts.{one_word, operator_words, const_words}
 use Rattle.lane_emit.specs.LaneCode.{dup_code}
 use Rattle.chunk_emit.specs.ChunkCode.{vectors, puts}
 use Rattle.reductions.specs.Joins.{identity}

@@ -9,7 +9,7 @@ use Rattle.kernel_meaning.specs.Ends.{BlockEnd, Next, Broke, Faulted, LoopState,
 use Rattle.kernel_meaning.specs.Eval.{Names}
 use Rattle.kernel_meaning.specs.Iterate.{with_name, iterate}
 use Rattle.kernel_meaning.specs.ScalarRun.{iterations, bound_of, Run, End, returned, ended, closed, finish, turns_from}
-use Rattle.scalar_emit.proofs.Initial.{IsThere}
+use Rattle.scalar_words.proofs.Present.{IsThere}
 use Rattle.chunk_pass.specs.Halts.{Breaks, Faults}
 
 -- ---- an iteration that does not go on

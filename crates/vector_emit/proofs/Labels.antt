@@ -11,7 +11,7 @@ use Rattle.std.specs.Prelude.{slice_index}
 use Rattle.chunk_emit.specs.ChunkCode.{vectors, puts}
 use Rattle.loop_form.specs.Lanes.{lane_width_of}
 use Rattle.lane_emit.specs.LaneCode.{dup_code}
-use Rattle.scalar_emit.proofs.Constants.{const_back}
+use Rattle.scalar_words.proofs.Constants.{const_back}
 use Rattle.kernel_meaning.specs.Operators as meaning
 use Rattle.kernel_meaning.specs.Operators.{wrapped}
 use Rattle.reductions.specs.Joins.{identity}

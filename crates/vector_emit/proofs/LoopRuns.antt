@@ -22,9 +22,10 @@ use Rattle.reg_assign.specs.Registers.{Assignment}
 use Rattle.loop_form.specs.LoopItems.{turns_items}
 use Rattle.loop_form.specs.Needs.{throughout}
 use Rattle.loop_form.specs.Registers.{FitsKernel}
-use Rattle.scalar_emit.specs.Kernel.{layout_of_kernel, kernel_homes, register_in}
-use Rattle.scalar_emit.specs.Runs.{AtIteration, AreHeld, Comes, ends_so}
-use Rattle.scalar_emit.proofs.KernelRuns.{fits}
+use Rattle.scalar_words.specs.KernelRegisters.{layout_of_kernel, kernel_homes, register_in}
+use Rattle.scalar_words.specs.Iterations.{AtIteration, AreHeld, Comes, ends_so}
+use Rattle.scalar_words.proofs.ChosenOf.{chosen_all}
+use Rattle.scalar_words.proofs.KernelNames.{names_fit}
 use Rattle.chunk_emit.specs.Head.{Ground, IsGround, AtHead, most_lanes, limit}
 use Rattle.first_fault.specs.Split.{is_quit}
 use Rattle.chunk_pass.specs.Chunks.{items_of}
@@ -133,14 +134,13 @@ module _ (g : Ground) (c : Assignment) (d : Laid) (scalar n : ℕ) (rest : List 
   loop_is i m names = ap (λ l. turns_from (var_scope g.kernel) l g.kernel.answer i m names) ground.loops
 
   bound_is : (i : ℕ) (names : Names) (now : Memory) (t : State) → HeadOf g i names now t → bound_of g.turns names ≡ limit g
-  bound_is i names now t h = let k = fits g.kernel c ground.sound ground.few fit in bound_steady g.kernel g.turns _ g.names names ground.sound (k.bound g.turns ground.loops) h.head.between.steady
+  bound_is i names now t h = let k = names_fit R g.kernel ground.sound ground.few (chosen_all g.kernel c fit) in bound_steady g.kernel g.turns _ g.names names ground.sound (k.bound g.turns ground.loops) h.head.between.steady
 
   -- the names as the loop began are in their registers still
   names_held : (i : ℕ) (names : Names) (now : Memory) (t : State) → HeadOf g i names now t → AreHeld (kernel_homes R g.kernel) g.names t
   names_held i names now t h =
-      let k = fits g.kernel c ground.sound ground.few fit in
-      let l = k.looped g.turns ground.loops in
-      held_still (layout_of_kernel R g.kernel) (loop_start g.kernel) (kernel_homes R g.kernel) g.names s t k.steady (k.safe (loop_start g.kernel)) l.nine (λ r le ne. h.head.x r le ne ∙ sym (x r le)) at.held
+      let k = names_fit R g.kernel ground.sound ground.few (chosen_all g.kernel c fit) in
+      held_still (layout_of_kernel R g.kernel) (loop_start g.kernel) (kernel_homes R g.kernel) g.names s t k.steady (k.safe (loop_start g.kernel)) (k.nine (loop_start g.kernel)) (λ r le ne. h.head.x r le ne ∙ sym (x r le)) at.held
 
   module _ {head : List Entry} {start : State} {most : ℕ} (before : Goes d code s head start most) (few : most ≤ 3 + 5 * size_of g.kernel) where
     -- after the passes: the fold, and scalar code from iteration j on

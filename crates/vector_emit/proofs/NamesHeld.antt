@@ -2,10 +2,10 @@
 use Rattle.std.proofs.Common.{◌≡◌, ◌≢◌, ℕ, ◌≤◌, [], ◌∷◌, sym, ◌∙◌, subst}
 use Rattle.machine_model.specs.Machine.{State, x_at}
 use Rattle.kernel_meaning.specs.Eval.{Names}
-use Rattle.scalar_emit.specs.Layout.{Layout, Homes, Lasts}
-use Rattle.scalar_emit.specs.Statements.{Others}
-use Rattle.scalar_emit.specs.Safe.{AreSafe, AreSteady}
-use Rattle.scalar_emit.specs.Runs.{AreHeld}
+use Rattle.scalar_words.specs.Layout.{Layout, Homes, Lasts}
+use Rattle.scalar_words.specs.Safe.{Others}
+use Rattle.scalar_words.specs.Safe.{AreSafe, AreSteady}
+use Rattle.scalar_words.specs.Iterations.{AreHeld}
 
 -- where the registers up to 25 but for X9 are the same
 pub held_still : (L : Layout) (p : ℕ) (hs : Homes) (ns : Names) (s t : State) → AreSteady hs → AreSafe L p hs → Others hs 9 p → ((r : ℕ) → r ≤ 25 → r ≢ 9 → x_at t r ≡ x_at s r) → AreHeld hs ns s → AreHeld hs ns t

@@ -10,7 +10,7 @@ use Rattle.kernel_tree.proofs.Scopes.{scope_outside}
 use Rattle.kernel_meaning.specs.Operators.{word}
 use Rattle.kernel_meaning.specs.Eval.{Names}
 use Rattle.kernel_meaning.specs.ScalarRun.{returned}
-use Rattle.scalar_emit.proofs.Initial.{IsThere, value_there}
+use Rattle.scalar_words.proofs.Present.{IsThere, value_there}
 use Rattle.vector_emit.proofs.Iterations.{Answers}
 
 returned_there : (s : Scope) (from : ℕ) (answer : Option Returned) (m : Memory) (ns : Names) → s.inside ≡ false → answer_faults s from answer ≡ [] → IsThere (returned s answer m ns)

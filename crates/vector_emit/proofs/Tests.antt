@@ -22,7 +22,7 @@ use Rattle.label_fix.proofs.StretchSteps.{Goes, chain, put_goes, taken_goes, pas
 use Rattle.loop_form.specs.declared.loop_item.Source.{Source}
 use Rattle.loop_form.specs.declared.loop_item.Source.TheVariants.{LoopIndex}
 use Rattle.dependence.specs.Apart.{bound_place}
-use Rattle.scalar_emit.proofs.Truths.{tested, tested_goes, tested_flags, tested_other}
+use Rattle.scalar_words.proofs.Truths.{tested, tested_goes, tested_flags, tested_other}
 use Rattle.lane_emit.specs.Right.{PRight}
 use Rattle.reductions.specs.AccumulatorLanes.{LanesHold}
 use Rattle.chunk_emit.specs.Chunk.{IsTop}

@@ -15,8 +15,8 @@ use Rattle.reg_assign.specs.declared.interval.RegClass.TheVariants.{X}
 use Rattle.reg_assign.specs.Registers.{Assignment}
 use Rattle.loop_form.specs.Registers.{FitsKernel}
 use Rattle.vector_order.specs.Elsewhere.{Elsewhere}
-use Rattle.scalar_emit.specs.Kernel.{register_in}
-use Rattle.scalar_emit.specs.Runs.{AtIteration, Comes}
+use Rattle.scalar_words.specs.KernelRegisters.{register_in}
+use Rattle.scalar_words.specs.Iterations.{AtIteration, Comes}
 use Rattle.chunk_emit.specs.Head.{Ground, IsGround, most_lanes, limit}
 use Rattle.vector_emit.specs.VectorCode.{vector_code}
 

@@ -12,7 +12,7 @@ ghost use Rattle.loop_form.specs.View.{program};
 ghost use Rattle.dependence.specs.Apart.{bound_place};
 ghost use Rattle.dependence.specs.Classes.{class_of};
 ghost use Rattle.dependence.specs.declared.reason.Class.TheVariants.{Vector};
-ghost use Rattle.scalar_emit.specs.Drafts.{Appends};
+ghost use Rattle.scalar_words.specs.Drafts.{Appends};
 ghost use Rattle.label_fix.specs.DraftRun.{ins};
 ghost use Rattle.lane_emit.specs.RegistersView.{kernel_in, vectors_in, predicates_in};
 ghost use Rattle.chunk_emit.specs.Writable.{AreWritable};

@@ -1,10 +1,19 @@
-use Rattle.std.proofs.Common.{◌<◌, ◌^◌, All, length, ap, subst, arith}
+use Rattle.std.proofs.Common.{◌∙◌, ◌<◌, ◌^◌, All, length, ap, subst, arith}
 use Rattle.loop_form.specs.View.{program}
 use Rattle.label_fix.specs.Finished.{size}
 use Rattle.label_fix.proofs.PlacedRuns.{words_length}
-use Rattle.scalar_emit.specs.Kernel.{register_in}
+use Rattle.scalar_words.specs.KernelRegisters.{register_in}
 use Rattle.kernel_compile.proofs.ScalarFaithful.{emitted, compiled}
 use Rattle.kernel_compile.proofs.emit.emit_iterations.Goals as goal
+
+-- the listing that is handed on
+pub emit_begin-requires-clause-listed : goal.emit_begin-requires-clause-listed
+unfolding program
+emit_begin-requires-clause-listed c = c.deref.ensures.value ∙ c.in_ok-items.ensures
+
+pub emit_scalar-requires-clause-listed : goal.emit_scalar-requires-clause-listed
+unfolding program
+emit_scalar-requires-clause-listed c = c.deref-2.ensures.value ∙ c.in_ok-items.ensures
 
 pub finish-requires : goal.finish-requires
 finish-requires c =
@@ -23,6 +32,6 @@ returns-clause-faithful c =
     let R = register_in c.args.regs.now in
     let e = emitted R k _ _ _ _ _ c.new-draft.ensures.entries c.new-draft.ensures.labels c.in_ok-emit_begin.ensures.labels c.in_ok-emit_begin.ensures.code c.in_ok-emit_scalar.ensures.code in
     let none = ap size c.new-draft.ensures.entries in
-    let small : All (λ w. w < 2 ^ 32) c.in_ok-words.words.items = subst (λ ws. All (λ w. w < 2 ^ 32) ws) c.deref.ensures.value c.have_32_bits.ensures in
+    let small : All (λ w. w < 2 ^ 32) c.in_ok-words.words.items = subst (λ ws. All (λ w. w < 2 ^ 32) ws) c.deref-3.ensures.value c.have_32_bits.ensures in
     compiled R k c.begin_runs.ensures c.scalar_runs.ensures c.emit_scalar.new.draft.labels _ c.emit_scalar.new.draft.entries _ c.in_ok-words.words.items e.following e.begun_by e.placed c.in_ok-words.ensures.fit
     (omega (arith, none, c.in_ok-emit_begin.ensures.words, c.in_ok-emit_scalar.ensures.words, c.few_items.ensures.size)) c.in_ok-words.ensures.words small

@@ -1,4 +1,4 @@
-use Rattle.std.proofs.Common.{◌≡◌, None, ◌<◌, ◌^◌, All, length, ap, subst, arith}
+use Rattle.std.proofs.Common.{◌∙◌, ◌≡◌, None, ◌<◌, ◌^◌, All, length, ap, subst, arith}
 use Rattle.kernel_tree.specs.declared.checked.Checked.{Checked}
 use Rattle.kernel_tree.specs.Grammar.{IsTree}
 use Rattle.kernel_tree.specs.Typing.{check_fault}
@@ -6,7 +6,7 @@ use Rattle.kernel_tree.proofs.Spelled.{few_params}
 use Rattle.loop_form.specs.View.{program}
 use Rattle.label_fix.proofs.PlacedRuns.{words_length}
 use Rattle.overlap_guard.proofs.Bound.{few-arrays}
-use Rattle.scalar_emit.specs.Kernel.{register_in}
+use Rattle.scalar_words.specs.KernelRegisters.{register_in}
 use Rattle.kernel_compile.proofs.VectorJoin.{IsJoined}
 use Rattle.kernel_compile.proofs.VectorFiles.{vector_file}
 use Rattle.kernel_compile.proofs.VectorEmitted.{Emitted, is_whole, label_given, few_words}
@@ -19,6 +19,15 @@ sound kernel = kernel.typed
 spelled : (kernel : Checked) → ∥ IsTree (program kernel) ∥₁
 unfolding program
 spelled kernel = kernel.tree
+
+-- the listing that is handed on
+pub emit_begin-requires-clause-listed : goal.emit_begin-requires-clause-listed
+unfolding program
+emit_begin-requires-clause-listed c = c.deref.ensures.value ∙ c.in_ok-items.ensures
+
+pub emit_scalar-requires-clause-listed : goal.emit_scalar-requires-clause-listed
+unfolding program
+emit_scalar-requires-clause-listed c = c.deref-2.ensures.value ∙ c.in_ok-items.ensures
 
 pub emit_vector-requires-clause-given : goal.emit_vector-requires-clause-given
 emit_vector-requires-clause-given c = label_given (program c.args.kernel.now) _ _ _ _ _ c.in_ok-scalar.ensures.entry c.in_ok-scalar.ensures.labels c.in_ok-place.ensures.labels c.in_ok-guard.ensures.labels
@@ -109,7 +118,7 @@ returns-clause-faithful c =
     } in
     let arrays = few-arrays k (sound c.args.kernel.now) (few_params k (spelled c.args.kernel.now)) in
     let few = few_words d arrays.few c.in_ok-emit_begin.ensures.words c.in_ok-scalar.ensures.words in
-    let small : All (λ w. w < 2 ^ 32) c.in_ok-words.words.items = subst (λ ws. All (λ w. w < 2 ^ 32) ws) c.deref.ensures.value c.have_32_bits.ensures in
+    let small : All (λ w. w < 2 ^ 32) c.in_ok-words.words.items = subst (λ ws. All (λ w. w < 2 ^ 32) ws) c.deref-3.ensures.value c.have_32_bits.ensures in
     let joined : IsJoined k c.args.regs.now.z c.args.regs.now.p c.args.regs.now.x = record {
       spelled = spelled c.args.kernel.now;
       sound = sound c.args.kernel.now;
@@ -153,7 +162,7 @@ returns-clause-ends c =
     } in
     let arrays = few-arrays k (sound c.args.kernel.now) (few_params k (spelled c.args.kernel.now)) in
     let few = few_words d arrays.few c.in_ok-emit_begin.ensures.words c.in_ok-scalar.ensures.words in
-    let small : All (λ w. w < 2 ^ 32) c.in_ok-words.words.items = subst (λ ws. All (λ w. w < 2 ^ 32) ws) c.deref.ensures.value c.have_32_bits.ensures in
+    let small : All (λ w. w < 2 ^ 32) c.in_ok-words.words.items = subst (λ ws. All (λ w. w < 2 ^ 32) ws) c.deref-3.ensures.value c.have_32_bits.ensures in
     let joined : IsJoined k c.args.regs.now.z c.args.regs.now.p c.args.regs.now.x = record {
       spelled = spelled c.args.kernel.now;
       sound = sound c.args.kernel.now;

@@ -7,7 +7,7 @@ use Rattle.reg_assign.specs.Registers.{Assignment}
 use Rattle.loop_form.specs.declared.held_throughout.Held.{Held}
 use Rattle.loop_form.specs.HeldView.{view_of, view}
 use Rattle.loop_form.specs.View.{program}
-use Rattle.scalar_emit.specs.Kernel.{register_in}
+use Rattle.scalar_words.specs.KernelRegisters.{register_in}
 use Rattle.loop_edges.specs.EdgeCode.{fold_one, folds_code}
 use Rattle.loop_edges.proofs.fold.emit_values.Goals as goal
 

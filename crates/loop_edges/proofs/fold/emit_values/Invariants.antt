@@ -2,7 +2,7 @@ use Rattle.std.proofs.Common.{◌≡◌, List, ◌++◌, drop}
 use Rattle.label_fix.specs.DraftRun.{Entry}
 use Rattle.loop_form.specs.HeldView.{view}
 use Rattle.loop_form.specs.View.{program}
-use Rattle.scalar_emit.specs.Kernel.{register_in}
+use Rattle.scalar_words.specs.KernelRegisters.{register_in}
 use Rattle.loop_edges.specs.EdgeCode.{folds_code}
 use Rattle.loop_edges.proofs.fold.emit_values.Given as goal
 

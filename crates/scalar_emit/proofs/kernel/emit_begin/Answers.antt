@@ -3,7 +3,8 @@ use Rattle.kernel_tree.specs.declared.ast.Kernel.{Kernel}
 use Rattle.kernel_tree.specs.Plain.{program_of}
 use Rattle.kernel_tree.specs.Items.{size_of}
 use Rattle.loop_form.specs.View.{program}
-use Rattle.scalar_emit.specs.Kernel.{register_in, begin_code}
+use Rattle.scalar_words.specs.KernelRegisters.{register_in}
+use Rattle.scalar_emit.specs.Kernel.{begin_code}
 use Rattle.scalar_emit.proofs.Counts.{begin_words, words_added}
 use Rattle.scalar_emit.proofs.kernel.emit_begin.Goals as goal
 

@@ -5,10 +5,11 @@ use Rattle.kernel_tree.specs.Items.{loop_index}
 use Rattle.kernel_tree.specs.Typing.{Scope, empty, after_params}
 use Rattle.kernel_scope.specs.Scopes.{scope_of}
 use Rattle.label_fix.specs.DraftRun.{Entry, Put}
-use Rattle.scalar_emit.specs.Kernel.{register_in, param_homes, zero_index}
-use Rattle.scalar_emit.specs.View.{homes_of}
+use Rattle.scalar_words.specs.KernelRegisters.{register_in, param_homes}
+use Rattle.scalar_emit.specs.Kernel.{zero_index}
+use Rattle.scalar_words.specs.View.{homes_of}
 use Rattle.scalar_emit.proofs.Emission.{begin_is}
-use Rattle.scalar_emit.proofs.Layouts.{count_params}
+use Rattle.scalar_words.proofs.Layouts.{count_params}
 use Rattle.scalar_emit.proofs.kernel.emit_first.Goals as goal
 
 pub returns-clause-code : goal.returns-clause-code

@@ -4,7 +4,7 @@ use Rattle.kernel_tree.specs.declared.ast.Loop.{Loop}
 use Rattle.kernel_tree.specs.Plain.{turns_of, program_of}
 use Rattle.kernel_tree.specs.Items.{turns_size, loop_end}
 use Rattle.label_fix.specs.DraftRun.{Entry}
-use Rattle.scalar_emit.specs.Kernel.{register_in}
+use Rattle.scalar_words.specs.KernelRegisters.{register_in}
 use Rattle.scalar_emit.proofs.Emission.{scalar_is, straight_is}
 use Rattle.scalar_emit.proofs.kernel.emit_rest.Goals as goal
 

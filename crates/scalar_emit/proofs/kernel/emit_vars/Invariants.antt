@@ -3,9 +3,10 @@ use Rattle.kernel_tree.specs.Plain.{accumulators_of}
 use Rattle.kernel_tree.specs.Items.{vars_size}
 use Rattle.kernel_tree.specs.Kinds.{VarsKinds}
 use Rattle.kernel_scope.specs.Scopes.{scope_of}
+use Rattle.scalar_words.specs.View.{homes_of}
 use Rattle.label_fix.specs.DraftRun as plain
 use Rattle.scalar_emit.specs.Kernel as kernels
-use Rattle.scalar_emit.specs.View.{homes_of}
+use Rattle.scalar_words.specs.KernelRegisters as registers
 use Rattle.scalar_emit.proofs.kernel.emit_vars.Given as goal
 
 -- what is left of the accumulators leads from here to where they all lead
@@ -15,5 +16,5 @@ invariant-loop-var l = record {
   kinds : VarsKinds (accumulators_of (drop l.var-index l.vars));
   item : l.next + vars_size (scope_of l.scope).index (accumulators_of (drop l.var-index l.vars)) ≡ l.fn.item + vars_size (scope_of l.fn.scope).index (accumulators_of l.vars);
   labels : l.draft.labels + kernels.vars_labels (scope_of l.scope).index (accumulators_of (drop l.var-index l.vars)) ≡ l.fn.draft.labels + kernels.vars_labels (scope_of l.fn.scope).index (accumulators_of l.vars);
-  code : (rest : List plain.Entry) → l.draft.entries ++ kernels.vars_code l.places (kernels.register_in l.regs) (homes_of l.homes.items) (scope_of l.scope) l.place l.next l.draft.labels (accumulators_of (drop l.var-index l.vars)) rest ≡ l.fn.draft.entries ++ kernels.vars_code l.places (kernels.register_in l.regs) (homes_of l.fn.homes.items) (scope_of l.fn.scope) 0 l.fn.item l.fn.draft.labels (accumulators_of l.vars) rest;
+  code : (rest : List plain.Entry) → l.draft.entries ++ kernels.vars_code l.places (registers.register_in l.regs) (homes_of l.homes.items) (scope_of l.scope) l.place l.next l.draft.labels (accumulators_of (drop l.var-index l.vars)) rest ≡ l.fn.draft.entries ++ kernels.vars_code l.places (registers.register_in l.regs) (homes_of l.fn.homes.items) (scope_of l.fn.scope) 0 l.fn.item l.fn.draft.labels (accumulators_of l.vars) rest;
 }

@@ -2,8 +2,8 @@ use Rattle.kernel_tree.specs.Plain.{program_of}
 use Rattle.kernel_tree.specs.Checked.{kernel_of}
 use Rattle.kernel_tree.proofs.Spelled.{few_params}
 use Rattle.loop_form.specs.View.{program}
-use Rattle.scalar_emit.proofs.BeginRuns as theorem
 use Rattle.scalar_emit.proofs.KernelRuns.{fits}
+use Rattle.scalar_emit.proofs.BeginRuns as theorem
 use Rattle.scalar_emit.proofs.laws.begin_runs.Goals as goal
 
 pub returns : goal.returns

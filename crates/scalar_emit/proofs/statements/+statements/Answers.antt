@@ -2,7 +2,7 @@ use Rattle.std.proofs.Common.{ap, ◌∙◌}
 use Rattle.kernel_tree.specs.Plain.{block_of}
 use Rattle.kernel_scope.specs.Scopes.{scope_of, kept}
 use Rattle.kernel_scope.proofs.Growth.{kept-block}
-use Rattle.scalar_emit.specs.View.{homes_of}
+use Rattle.scalar_words.specs.View.{homes_of}
 use Rattle.scalar_emit.proofs.Emission.{homes_back}
 use Rattle.scalar_emit.proofs.statements.+statements.Goals as goal
 

@@ -5,7 +5,7 @@ use Rattle.kernel_tree.specs.Items.{block_size}
 use Rattle.kernel_tree.specs.Limits.{action_depth, block_depth}
 use Rattle.kernel_tree.specs.Kinds.{BlockKinds}
 use Rattle.kernel_scope.specs.Scopes.{scope_of}
-use Rattle.scalar_emit.specs.View.{homes_of}
+use Rattle.scalar_words.specs.View.{homes_of}
 use Rattle.kernel_tree.specs.Typing as typing
 use Rattle.label_fix.specs.DraftRun as plain
 use Rattle.scalar_emit.specs.Statements as statements

@@ -1,6 +1,6 @@
 use Rattle.std.proofs.Common.{[], ◌∙◌}
 use Rattle.loop_form.specs.View.{program}
-use Rattle.scalar_emit.specs.Kernel.{register_in}
+use Rattle.scalar_words.specs.KernelRegisters.{register_in}
 use Rattle.vector_emit.proofs.CodeSizes.{appended_few}
 use Rattle.vector_emit.proofs.vector.emit_vector.Goals as goal
 

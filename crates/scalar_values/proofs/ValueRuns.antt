@@ -1,0 +1,623 @@
+-- What the code of expressions does.
+use Rattle.std.proofs.Common.{◌≡◌, ◌≢◌, ℕ, ◌+◌, ◌*◌, ◌<◌, ◌≤◌, Bool, true, false, List, [], ◌∷◌, length, Option, Some, None, refl, sym, ap, ap₂, ◌∙◌, subst, arith}
+use Rattle.std.specs.Prelude.{ℤ, ◌+ℤ◌, option_map, option_and_then, not, if◌then◌else◌}
+use Rattle.std.specs.List.{find}
+use Rattle.guest_types.specs.Memory.{Memory}
+use Rattle.machine_model.specs.Machine.{State, x_at, jump}
+use Rattle.machine_model.specs.declared.outcome.StopKind.TheVariants.{Read}
+use Rattle.machine_model.specs.Arithmetic.{holds as flags_hold}
+use Rattle.kernel_tree.specs.declared.ops.CompareOp.{CompareOp}
+use Rattle.kernel_tree.specs.declared.ops.Ty.{Ty}
+use Rattle.kernel_tree.specs.declared.ops.BinaryOp.{BinaryOp}
+use Rattle.kernel_tree.specs.declared.ops.UnaryOp.{UnaryOp}
+use Rattle.kernel_tree.specs.Plain.{Term, Literal, Variable, Element, Unary, Operation, Shift, Conversion, Choice, Comparison, Both, Either, Not}
+use Rattle.kernel_tree.specs.Items.{term_size, index_size, stream_offset}
+use Rattle.kernel_tree.specs.Wrap.{wrap, is_signed}
+use Rattle.kernel_tree.specs.Typing.{Scope, Local, lookup, own, first, element_type, index_type, side_type}
+use Rattle.kernel_meaning.specs.Operators.{word, wrapped, compare_on}
+use Rattle.kernel_meaning.specs.TypeValues.{IsOf, binary_leaves}
+use Rattle.kernel_meaning.specs.Eval.{Names, value_at, iteration, element_number, read_element, on_both, chosen, choose_value, value, holds}
+use Rattle.a64_code.specs.Table.{csel}
+use Rattle.label_fix.specs.DraftRun.{Entry, Put, Branch, Place, Always, Laid, following, address_of, word_of, ins}
+use Rattle.label_fix.proofs.StretchSteps.{Goes, Stops, Resolves, stay, chain, put_goes, stop_after, stop_more, taken_goes, pass}
+use Rattle.scalar_values.proofs.Comparisons.{IsSide, compare_goes}
+use Rattle.scalar_values.proofs.Numbers.{compared_right, compared_small, added_right, added_sum}
+pub use Rattle.scalar_values.proofs.Jumps.{kept_jump, led, Turned, Turns, no_turn, turns, branch_goes, both_turn, over_turn, turns_more, not_turns}
+use Rattle.scalar_words.proofs.Compare.{compared}
+use Rattle.scalar_words.specs.Layout.{Layout, Home, Homes, is_home, reg_of, IsMade, register_at, LastsAt, NameLasts}
+use Rattle.scalar_values.specs.ValueRegisters.{home}
+use Rattle.scalar_values.specs.ItemWords.{load_code, operator_code, unary_code, abs_code, shift_code, index_word, index_register, convert_word, compare_word, zero_test, tested_code, pick_code, placed_code}
+use Rattle.scalar_words.specs.Words.{operation_code, word_code, copy_word, settle_word, condition, at_type}
+use Rattle.scalar_values.specs.Code.{labels, number_code, number_register, signed_side, compared_number, added_number, right_code, flag_condition, choice_code, loose_code, value_code, flags_code, jump_code}
+use Rattle.scalar_values.specs.Fits.{Fits, FitsTruth, FitsIndex, IndexAt, IsSome}
+use Rattle.scalar_words.proofs.LayoutStates.{AreRanged, Assigned, Kept, AreSafe, Held, Fixed, At, wrote, wrote_same, kept_none, kept_item, kept_changes, kept_on, kept_both, at_kept, lasts_less, safe_later, name_held, name_found}
+use Rattle.scalar_words.proofs.WordsRuns.{Gets, gets, more, copied_sets}
+use Rattle.scalar_values.proofs.Loads.{Gives, no_value, a_value, load_runs, index_runs}
+use Rattle.scalar_words.proofs.Constants.{word_back, const_back, const_runs}
+use Rattle.scalar_values.proofs.Operators.{operator_runs, unary_runs, shift_runs, cast_runs}
+use Rattle.scalar_words.proofs.Words.{InRange, in_range}
+use Rattle.scalar_values.specs.declared.extent.Extent.{Extent}
+use Rattle.scalar_values.specs.Extents.{Whole, within_type, within, unary_joins, binary_extent, unary_extent, leaves_at, shift_extent, fits_at, converted_extent, settles}
+use Rattle.scalar_words.specs.Operands.{binary_joins}
+use Rattle.scalar_values.proofs.Loose.{loose_binary, loose_unary, loose_shift, loose_cast, loose, whole_is}
+use Rattle.scalar_values.proofs.Ranges.{value-range, fits_cast}
+use Rattle.kernel_tree.specs.declared.ops.Ty.TheVariants as ty
+use Rattle.kernel_tree.specs.declared.ops.BinaryOp.TheVariants as binary
+use Rattle.kernel_tree.specs.declared.ops.UnaryOp.TheVariants as unary
+
+name_less_in : (h : Option Home) (p q : ℕ) → q ≤ p → LastsAt h p → LastsAt h q
+name_less_in None p q le h = h
+name_less_in (Some h) p q le k = lasts_less h.last_use p q le k
+
+pub name_less : (hs : Homes) (x : List ℕ) (p q : ℕ) → q ≤ p → NameLasts hs x p → NameLasts hs x q
+name_less hs x p q le h = name_less_in (find (is_home x) hs) p q le h
+
+-- what the code of an expression does where a type is wanted of it
+abbrev pub Runs : Laid → Layout → Term → Homes → Scope → Names → Memory → State → (b user n : ℕ) → List Entry → Option Ty → Type 0
+Runs D L e hs s names m st b user n rest want =
+    Fits L hs s want b user e → Resolves D (value_code L hs s want b n e rest) → Gives D L (value_code L hs s want b n e rest) st rest b (b + term_size s.index e) (home L hs s.index b e) m (4 * term_size s.index e) (value s want e m names)
+
+-- the same where so much is asked for
+abbrev pub LooseRuns : Laid → Layout → Term → Homes → Scope → Names → Memory → State → Extent → (b user n : ℕ) → List Entry → Option Ty → Type 0
+LooseRuns D L e hs s names m st w b user n rest want =
+    Fits L hs s want b user e → Resolves D (loose_code L hs s w want b n e rest) → Gives D L (loose_code L hs s w want b n e rest) st rest b (b + term_size s.index e) (home L hs s.index b e) m (4 * term_size s.index e) (loose s w want e m names)
+
+-- where the whole value is asked for, it is the value
+exact : {D : Laid} {L : Layout} {st : State} {rest : List Entry} (hs : Homes) (b user n : ℕ) (e : Term) (s : Scope) (names : Names) (m : Memory) (want : Option Ty) → AreRanged s.visible names → LooseRuns D L e hs s names m st Whole b user n rest want → Runs D L e hs s names m st b user n rest want
+exact {D = D} {L = L} {st = st} {rest = rest} hs b user n e s names m want ranged k fits res =
+    subst (λ o. Gives D L (value_code L hs s want b n e rest) st rest b (b + term_size s.index e) (home L hs s.index b e) m (4 * term_size s.index e) o) (whole_is s m names ranged e want (fits_cast e L hs s want b user fits)) (k fits res)
+
+-- an operand of which the whole value is asked for is of its type
+loose_range : (w : Extent) (L : Layout) (hs : Homes) (s : Scope) (names : Names) (m : Memory) (e : Term) (T : Ty) (b user : ℕ) (v : ℤ) → Fits L hs s (Some T) b user e → AreRanged s.visible names → loose s w (Some T) e m names ≡ Some v → w ≡ Whole → IsOf T v
+loose_range w L hs s names m e T b user v fits ranged is whole =
+    value-range L hs s names m e T b user v fits ranged (sym (whole_is s m names ranged e (Some T) (fits_cast e L hs s (Some T) b user fits)) ∙ subst (λ w. loose s w (Some T) e m names ≡ Some v) whole is)
+
+first_some : (o : Option Ty) (t : Ty) → IsSome (first o (Some t))
+first_some None t = tt
+first_some (Some u) t = tt
+
+index_some : (s : Scope) (i : Term) → IsSome (index_type s i)
+index_some s i = first_some (own s i) ty.U64
+
+-- the loop variable
+pub index_is : (hs : Homes) (i : Option (List ℕ)) (names : Names) (p b : ℕ) (st : State) → b ≤ p → IndexAt hs i p → length st.x ≡ 31 → Held hs names b st → x_at st 9 ≡ word (iteration i names)
+index_is hs None names p b st le h sized held = absurd h
+index_is hs (Some x) names p b st le h sized held = ap (x_at st) (sym h.0) ∙ name_held hs names x b st sized held (name_less hs x p b le h.1)
+
+give_more : (D : Laid) (L : Layout) {c rest : List Entry} {s : State} {b e r m1 : ℕ} {m : Memory} {o : Option ℤ} (most : ℕ) → m1 ≤ most → Gives D L c s rest b e r m m1 o → Gives D L c s rest b e r m most o
+give_more D L most le (no_value k) = no_value (stop_more most le k)
+give_more D L most le (a_value k) = a_value (more D L most le k)
+
+chosen_none : (o : Option ℤ) (c : Option Bool) → chosen None o c ≡ None
+chosen_none o None = refl
+chosen_none o (Some v) = refl
+
+chosen_second : (x : ℤ) (c : Option Bool) → chosen (Some x) None c ≡ None
+chosen_second x None = refl
+chosen_second x (Some v) = refl
+
+-- a right side, or a fault of a read
+pub data Sided (D : Laid) (L : Layout) (c : List Entry) (s : State) (rest : List Entry) (b e : ℕ) (number : Option ℕ) (r : ℕ) (m : Memory) (most : ℕ) : Option ℤ → Type 0 where
+  no_side : Stops D c s Read m most → Sided D L c s rest b e number r m most None
+  a_side : {y : ℤ} (end : State) → Goes D c s rest end most → Kept L s end b e → IsSide number r end y → Sided D L c s rest b e number r m most (Some y)
+
+-- a value in a register and a right side, or a fault of a read
+data Pairs (D : Laid) (L : Layout) (c : List Entry) (s : State) (rest : List Entry) (b e hx : ℕ) (number : Option ℕ) (hy : ℕ) (m : Memory) (most : ℕ) : Option ℤ → Option ℤ → Type 0 where
+  no_left : {o : Option ℤ} → Stops D c s Read m most → Pairs D L c s rest b e hx number hy m most None o
+  no_right : {x : ℤ} → Stops D c s Read m most → Pairs D L c s rest b e hx number hy m most (Some x) None
+  pair : {x y : ℤ} (end : State) → Goes D c s rest end most → Kept L s end b e → x_at end hx ≡ word x → IsSide number hy end y → Pairs D L c s rest b e hx number hy m most (Some x) (Some y)
+
+-- the flags of a comparison, or a fault of a read
+data Flagged (D : Laid) (L : Layout) (c : List Entry) (s : State) (rest : List Entry) (b e k : ℕ) (m : Memory) (most : ℕ) : Option Bool → Type 0 where
+  no_flags : Stops D c s Read m most → Flagged D L c s rest b e k m most None
+  a_flag : {v : Bool} (end : State) → Goes D c s rest end most → Kept L s end b e → flags_hold k end.flags ≡ v → Flagged D L c s rest b e k m most (Some v)
+
+which : (v : Bool) (x y : ℤ) → (if v then word x else word y) ≡ word (choose_value v x y)
+which true x y = refl
+which false x y = refl
+
+module _ (D : Laid) (L : Layout) (fit : Assigned L) where
+  -- a right side, by whether a word holds it
+  pub right_runs : (inner : List Entry → List Entry) {t : State} {rest : List Entry} {b e r : ℕ} {m : Memory} {most : ℕ} (o : Option ℤ) (number : Option ℕ) → ((v : ℕ) → number ≡ Some v → (y : ℤ) × ((o ≡ Some y) × (v ≡ word y))) → Resolves D (right_code number inner rest)
+      → (Resolves D (inner rest) → Gives D L (inner rest) t rest b e r m most o) → Sided D L (right_code number inner rest) t rest b e number r m most o
+  right_runs inner {t = t} {rest = rest} {b = b} {e = e} {r = r} {m = m} {most = most} o None is res run = sided (run res)
+    where
+      sided : {o : Option ℤ} → Gives D L (inner rest) t rest b e r m most o → Sided D L (inner rest) t rest b e None r m most o
+      sided (no_value g) = no_side g
+      sided (a_value g) = a_side g.end g.goes g.kept g.value
+  right_runs inner {t = t} {rest = rest} {b = b} {e = e} {r = r} {m = m} {most = most} o (Some v) is res run =
+      let q = is v refl in
+      subst (λ o. Sided D L rest t rest b e (Some v) r m most o) (sym q.1.0) (a_side t (stay most) (kept_none L t b e) q.1.1)
+
+  -- what two operands give
+  pair_runs : {c c2 d : List Entry} {s : State} {m : Memory} {b b1 e hx hy m1 m2 : ℕ} {number : Option ℕ} {o1 o2 : Option ℤ} (most : ℕ) → m1 + m2 ≤ most → b ≤ b1 → b1 ≤ e → hx ≤ 25 → ((p : ℕ) → b1 ≤ p → p < e → IsMade L p → reg_of L p ≢ hx)
+      → Gives D L c s c2 b b1 hx m m1 o1 → ((t : State) → Kept L s t b b1 → Sided D L c2 t d b1 e number hy m m2 o2) → Pairs D L c s d b e hx number hy m most o1 o2
+  pair_runs most le l1 l2 hi apart (no_value g) right = no_left (stop_more most (omega arith) g)
+  pair_runs {c = c} {c2 = c2} {d = d} {s = s} {m = m} {b = b} {b1 = b1} {e = e} {hx = hx} {hy = hy} {m2 = m2} {number = number} most le l1 l2 hi apart (a_value {v = x} g) right = second (right g.end g.kept)
+    where
+      second : {o : Option ℤ} → Sided D L c2 g.end d b1 e number hy m m2 o → Pairs D L c s d b e hx number hy m most (Some x) o
+      second (no_side k) = no_right (stop_after most le g.goes k)
+      second (a_side end goes kept side) = pair end (chain most le g.goes goes) (kept_on L b e (omega arith) (omega arith) (omega arith) (omega arith) g.kept kept) (kept.others hx hi apart ∙ g.value) side
+
+  -- an operation on them
+  op_runs : {c d rest : List Entry} {s : State} {m : Memory} {b e1 e2 hx hy r m1 : ℕ} {number : Option ℕ} {o1 o2 : Option ℤ} (f : ℤ → ℤ → ℤ) (most : ℕ) → m1 + 4 ≤ most → b ≤ e1 → e1 ≤ e2 → Pairs D L c s d b e1 hx number hy m m1 o1 o2
+      → ((t : State) (x y : ℤ) → o1 ≡ Some x → o2 ≡ Some y → Kept L s t b e1 → x_at t hx ≡ word x → IsSide number hy t y → Gets D L d t rest e1 e2 r (f x y) 4) → Gives D L c s rest b e2 r m most (on_both f o1 o2)
+  op_runs f most le l1 l2 (no_left g) op = no_value (stop_more most (omega arith) g)
+  op_runs f most le l1 l2 (no_right g) op = no_value (stop_more most (omega arith) g)
+  op_runs {b = b} {e2 = e2} f most le l1 l2 (pair {x = x} {y = y} end goes kept left side) op =
+      let last = op end x y refl refl kept left side in
+      a_value (record {
+        end = last.end;
+        goes = chain most le goes last.goes;
+        kept = kept_on L b e2 (omega arith) (omega arith) (omega arith) (omega arith) kept last.kept;
+        value = last.value;
+      })
+
+  -- a comparison of them, and a branch
+  op_turns : {c d rest : List Entry} {s : State} {m : Memory} {to b e1 e2 hx hy m1 : ℕ} {number : Option ℕ} {sense : Bool} {o1 o2 : Option ℤ} (f : ℤ → ℤ → Bool) (most : ℕ) → m1 + 4 ≤ most → b ≤ e1 → e1 ≤ e2 → Pairs D L c s d b e1 hx number hy m m1 o1 o2
+      → ((t : State) (x y : ℤ) → o1 ≡ Some x → o2 ≡ Some y → x_at t hx ≡ word x → IsSide number hy t y → Turned D L d t (led D to rest sense (f x y)) e1 e2 2) → Turns D L c s to rest b e2 m most sense (on_both f o1 o2)
+  op_turns f most le l1 l2 (no_left g) op = no_turn (stop_more most (omega arith) g)
+  op_turns f most le l1 l2 (no_right g) op = no_turn (stop_more most (omega arith) g)
+  op_turns {b = b} {e2 = e2} f most le l1 l2 (pair {x = x} {y = y} end goes kept left side) op =
+      let last = op end x y refl refl left side in
+      turns (record { end = last.end; goes = chain most (omega arith) goes last.goes; kept = kept_on L b e2 (omega arith) (omega arith) (omega arith) (omega arith) kept last.kept })
+
+  -- a comparison of them
+  op_flags : {c rest : List Entry} {s : State} {m : Memory} {b e1 e2 hx hy m1 : ℕ} {number : Option ℕ} {o1 o2 : Option ℤ} (op : CompareOp) (sg : Bool) (most : ℕ) → m1 + 1 ≤ most → b ≤ e1 → e1 ≤ e2 → hx ≤ 25 → ((v : ℕ) → number ≡ Some v → v < 4096) → Pairs D L c s (Put (compare_word number hx hy) ∷ rest) b e1 hx number hy m m1 o1 o2
+      → ((x y : ℤ) → o1 ≡ Some x → o2 ≡ Some y → InRange sg x × InRange sg y) → Flagged D L c s rest b e2 (condition op sg) m most (on_both (compare_on op) o1 o2)
+  op_flags op sg most le l1 l2 hi few (no_left g) range = no_flags (stop_more most (omega arith) g)
+  op_flags op sg most le l1 l2 hi few (no_right g) range = no_flags (stop_more most (omega arith) g)
+  op_flags {rest = rest} {b = b} {e2 = e2} {hx = hx} {hy = hy} {number = number} op sg most le l1 l2 hi few (pair {x = x} {y = y} end goes kept left side) range =
+      let r = range x y refl refl in
+      let last = compare_goes D number rest end hx hy x y few hi left side in
+      a_flag last.end (chain most le goes last.goes) (kept_on L b e2 (omega arith) (omega arith) (omega arith) (omega arith) kept (last.kept L b e2)) (ap (flags_hold (condition op sg)) last.flags ∙ compared op sg x y r.0 r.1)
+
+  -- a choice by the flags
+  flag_picks : {c rest : List Entry} {s : State} {m : Memory} {b p e hx hy k m1 : ℕ} {o : Option Bool} (x y : ℤ) (most : ℕ) → m1 + 1 ≤ most → b ≤ p → p < e → IsMade L p → length s.x ≡ 31 → hx ≤ 25 → hy ≤ 25 → ((q : ℕ) → b ≤ q → q < p → IsMade L q → reg_of L q ≢ hx) → ((q : ℕ) → b ≤ q → q < p → IsMade L q → reg_of L q ≢ hy) → x_at s hx ≡ word x → x_at s hy ≡ word y
+      → Flagged D L c s (ins csel (reg_of L p ∷ hx ∷ k ∷ hy ∷ []) ∷ rest) b p k m m1 o → Gives D L c s rest b e (reg_of L p) m most (chosen (Some x) (Some y) o)
+  flag_picks x y most le l1 l2 made sized ix iy ax ay ex ey (no_flags g) = no_value (stop_more most (omega arith) g)
+  flag_picks {rest = rest} {b = b} {p = p} {e = e} {hx = hx} {hy = hy} {k = k} x y most le l1 l2 made sized ix iy ax ay ex ey (a_flag {v = v} end goes kept told) =
+      let d = reg_of L p in
+      let n = if flags_hold k end.flags then x_at end hx else x_at end hy in
+      let hi = fit.high p made in
+      let size = kept.sized ∙ sized in
+      a_value (record {
+        end = wrote end d n;
+        goes = chain most le goes (put_goes {i = word_of csel (d ∷ hx ∷ k ∷ hy ∷ [])} refl);
+        kept = kept_on L b e (omega arith) (omega arith) (omega arith) (omega arith) kept (kept_item L end p n b e l1 l2 made);
+        value = wrote_same end d n (omega (arith, size, hi)) ∙ ap (λ q. if q then x_at end hx else x_at end hy) told ∙ ap₂ (λ m k. if v then m else k) (kept.others hx ix ax ∙ ex) (kept.others hy iy ay ∙ ey) ∙ which v x y;
+      })
+
+  -- a choice by a jump
+  jump_picks : {c rest : List Entry} {s : State} {m : Memory} {b p e hx hy n m1 : ℕ} {o : Option Bool} (x y : ℤ) (most : ℕ) → m1 + 2 ≤ most → b ≤ p → p < e → IsMade L p → length s.x ≡ 31 → hx ≤ 25 → hy ≤ 25 → ((q : ℕ) → b ≤ q → q < p → IsMade L q → reg_of L q ≢ hx) → ((q : ℕ) → b ≤ q → q < p → IsMade L q → reg_of L q ≢ hy) → x_at s hx ≡ word x → x_at s hy ≡ word y
+      → following D n ≡ word_code (copy_word (reg_of L p) hy) (Place (n + 1) ∷ rest) → following D (n + 1) ≡ rest
+      → Turns D L c s n (pick_code (reg_of L p) hx hy n rest) b p m m1 false o → Gives D L c s rest b e (reg_of L p) m most (chosen (Some x) (Some y) o)
+  jump_picks x y most le l1 l2 made sized ix iy ax ay ex ey at1 at2 (no_turn g) = no_value (stop_more most (omega arith) g)
+  jump_picks {rest = rest} {b = b} {p = p} {e = e} {hx = hx} {hy = hy} {n = n} {m1 = m1} x y most le l1 l2 made sized ix iy ax ay ex ey at1 at2 (turns {v = true} g) =
+      let k = copied_sets D L fit {rest = Branch Always (n + 1) ∷ (Place n ∷ word_code (copy_word (reg_of L p) hy) (Place (n + 1) ∷ rest))} {s = g.end} (reg_of L p) hx x (g.kept.sized ∙ sized) (let hi = fit.high p made in omega (arith, hi)) (g.kept.others hx ix ax ∙ ex) in
+      let back = subst (λ es. Goes D (Branch Always (n + 1) ∷ (Place n ∷ word_code (copy_word (reg_of L p) hy) (Place (n + 1) ∷ rest))) k.end es (jump k.end (address_of D (n + 1))) 1) at2 (taken_goes refl) in
+      a_value (record {
+        end = jump k.end (address_of D (n + 1));
+        goes = chain most le g.goes (chain 2 (omega arith) k.goes back);
+        kept = kept_on L b e (omega arith) (omega arith) (omega arith) (omega arith) g.kept (kept_both L b e (kept_changes L p b e l1 l2 made k.changes) (kept_jump L k.end (address_of D (n + 1)) b e));
+        value = k.value;
+      })
+  jump_picks {c = c} {rest = rest} {s = s} {b = b} {p = p} {e = e} {hx = hx} {hy = hy} {n = n} {m1 = m1} x y most le l1 l2 made sized ix iy ax ay ex ey at1 at2 (turns {v = false} g) =
+      let k = copied_sets D L fit {rest = Place (n + 1) ∷ rest} {s = g.end} (reg_of L p) hy y (g.kept.sized ∙ sized) (let hi = fit.high p made in omega (arith, hi)) (g.kept.others hy iy ay ∙ ey) in
+      a_value (record {
+        end = k.end;
+        goes = chain most (omega arith) (subst (λ es. Goes D c s es g.end m1) at1 g.goes) (chain {n = 0} 1 (omega arith) k.goes pass);
+        kept = kept_on L b e (omega arith) (omega arith) (omega arith) (omega arith) g.kept (kept_changes L p b e l1 l2 made k.changes);
+        value = k.value;
+      })
+
+  -- two values, and a choice
+  choose_runs : {c c2 c3 rest : List Entry} {s : State} {m : Memory} {b b1 b2 e hx hy r m1 m2 m3 : ℕ} {o1 o2 : Option ℤ} (o3 : Option Bool) (most : ℕ) → m1 + m2 + m3 ≤ most → b ≤ b1 → b1 ≤ b2 → b2 ≤ e → hx ≤ 25 → ((p : ℕ) → b1 ≤ p → p < b2 → IsMade L p → reg_of L p ≢ hx)
+      → Gives D L c s c2 b b1 hx m m1 o1 → ((t : State) → Kept L s t b b1 → Gives D L c2 t c3 b1 b2 hy m m2 o2)
+      → ((t : State) (x y : ℤ) → Kept L s t b b2 → x_at t hx ≡ word x → x_at t hy ≡ word y → Gives D L c3 t rest b2 e r m m3 (chosen (Some x) (Some y) o3)) → Gives D L c s rest b e r m most (chosen o1 o2 o3)
+  choose_runs {c = c} {rest = rest} {s = s} {m = m} {b = b} {e = e} {r = r} {o2 = o2} o3 most le l1 l2 l3 ix ax (no_value g) right pick =
+      subst (λ o. Gives D L c s rest b e r m most o) (sym (chosen_none o2 o3)) (no_value (stop_more most (omega arith) g))
+  choose_runs {c = c} {c2 = c2} {c3 = c3} {rest = rest} {s = s} {m = m} {b = b} {b1 = b1} {b2 = b2} {e = e} {hx = hx} {hy = hy} {r = r} {m1 = m1} {m2 = m2} {m3 = m3} o3 most le l1 l2 l3 ix ax (a_value {v = x} g) right pick = second (right g.end g.kept)
+    where
+      third : {o : Option ℤ} (t : State) → Goes D c s c3 t (m1 + m2) → Kept L s t b b2 → Gives D L c3 t rest b2 e r m m3 o → Gives D L c s rest b e r m most o
+      third t goes kept (no_value k) = no_value (stop_after most le goes k)
+      third t goes kept (a_value k) = a_value (record {
+        end = k.end;
+        goes = chain most le goes k.goes;
+        kept = kept_on L b e (omega arith) (omega arith) (omega arith) (omega arith) kept k.kept;
+        value = k.value;
+      })
+
+      second : {o : Option ℤ} → Gives D L c2 g.end c3 b1 b2 hy m m2 o → Gives D L c s rest b e r m most (chosen (Some x) o o3)
+      second (no_value k) = subst (λ o. Gives D L c s rest b e r m most o) (sym (chosen_second x o3)) (no_value (stop_after most (omega arith) g.goes k))
+      second (a_value {v = y} k) =
+          let kept = kept_on L b b2 (omega arith) (omega arith) (omega arith) (omega arith) g.kept k.kept in
+          third k.end (chain (m1 + m2) (omega arith) g.goes k.goes) kept (pick k.end x y kept (k.kept.others hx ix ax ∙ g.value) k.value)
+
+  -- what an operand gives, and then an operation
+  map_runs : {c d rest : List Entry} {s : State} {m : Memory} {b e1 e2 h r m1 : ℕ} {o : Option ℤ} (f : ℤ → ℤ) (most : ℕ) → m1 + 4 ≤ most → b ≤ e1 → e1 ≤ e2 → Gives D L c s d b e1 h m m1 o → ((t : State) (x : ℤ) → o ≡ Some x → Kept L s t b e1 → x_at t h ≡ word x → Gets D L d t rest e1 e2 r (f x) 4) → Gives D L c s rest b e2 r m most (option_map f o)
+  map_runs f most le l1 l2 (no_value g) op = no_value (stop_more most (omega arith) g)
+  map_runs {b = b} {e2 = e2} f most le l1 l2 (a_value {v = x} g) op =
+      let last = op g.end x refl g.kept g.value in
+      a_value (record {
+        end = last.end;
+        goes = chain most le g.goes last.goes;
+        kept = kept_on L b e2 (omega arith) (omega arith) (omega arith) (omega arith) g.kept last.kept;
+        value = last.value;
+      })
+
+  -- the register of a value: in range, and kept until the item that uses it
+  pub home_high : (e : Term) (hs : Homes) (s : Scope) (want : Option Ty) (b user : ℕ) → b + term_size s.index e ≤ user → Fits L hs s want b user e → AreSafe L b hs → home L hs s.index b e ≤ 25
+  home_high (Literal n) hs s want b user le h safe = fit.high b (omega (arith, h))
+  home_high (Variable x) hs s want b user le h safe = (name_found L hs x b user (omega arith) safe h.0).high
+  home_high (Element a e) hs s want b user le h safe = fit.high _ (omega (arith, h.3))
+  home_high (Unary op e) hs s want b user le h safe = fit.high _ (omega (arith, h.2))
+  home_high (Operation op x y) hs s want b user le h safe = fit.high _ (omega (arith, h.3))
+  home_high (Shift left e n) hs s want b user le h safe = fit.high _ (omega (arith, h.2))
+  home_high (Conversion e t) hs s want b user le h safe = fit.high _ (omega (arith, h.3))
+  home_high (Choice c x y) hs s want b user le h safe = fit.high _ (omega (arith, h.3))
+  home_high (Comparison op x y) hs s want b user le h safe = absurd h
+  home_high (Both x y) hs s want b user le h safe = absurd h
+  home_high (Either x y) hs s want b user le h safe = absurd h
+  home_high (Not e) hs s want b user le h safe = absurd h
+
+  pub home_apart : (e : Term) (hs : Homes) (s : Scope) (want : Option Ty) (b user : ℕ) → b + term_size s.index e ≤ user → Fits L hs s want b user e → AreSafe L b hs → (p : ℕ) → b + term_size s.index e ≤ p → p < user → IsMade L p → reg_of L p ≢ home L hs s.index b e
+  home_apart (Literal n) hs s want b user le h safe p lo up made = fit.apart p b (omega arith) (omega (arith, h)) made
+  home_apart (Variable x) hs s want b user le h safe p lo up made = (name_found L hs x b user (omega arith) safe h.0).apart p (omega arith) up made
+  home_apart (Element a e) hs s want b user le h safe p lo up made = fit.apart p _ (omega arith) (omega (arith, h.3)) made
+  home_apart (Unary op e) hs s want b user le h safe p lo up made = fit.apart p _ (omega arith) (omega (arith, h.2)) made
+  home_apart (Operation op x y) hs s want b user le h safe p lo up made = fit.apart p _ (omega arith) (omega (arith, h.3)) made
+  home_apart (Shift left e n) hs s want b user le h safe p lo up made = fit.apart p _ (omega arith) (omega (arith, h.2)) made
+  home_apart (Conversion e t) hs s want b user le h safe p lo up made = fit.apart p _ (omega arith) (omega (arith, h.3)) made
+  home_apart (Choice c x y) hs s want b user le h safe p lo up made = fit.apart p _ (omega arith) (omega (arith, h.3)) made
+  home_apart (Comparison op x y) hs s want b user le h safe p lo up made = absurd h
+  home_apart (Both x y) hs s want b user le h safe p lo up made = absurd h
+  home_apart (Either x y) hs s want b user le h safe p lo up made = absurd h
+  home_apart (Not e) hs s want b user le h safe p lo up made = absurd h
+
+  -- labels after a stretch of code
+  number_back : (o : Option ℤ) (inner : List Entry → List Entry) (rest : List Entry) → (Resolves D (inner rest) → Resolves D rest) → Resolves D (number_code o inner rest) → Resolves D rest
+  number_back (Some c) inner rest f h = word_back D (index_word c) rest h
+  number_back None inner rest f h = f h
+
+  load_back : (o : Option Ty) (d p r : ℕ) (rest : List Entry) → Resolves D (load_code o d p r rest) → Resolves D rest
+  load_back None d p r rest h = h
+  load_back (Some t) d p r rest h = h
+
+  operation_back : (op : BinaryOp) (signed : Bool) (d a c : ℕ) (rest : List Entry) → Resolves D (operation_code op signed d a c rest) → Resolves D rest
+  operation_back binary.Add signed d a c rest h = h
+  operation_back binary.Sub signed d a c rest h = h
+  operation_back binary.Mul signed d a c rest h = h
+  operation_back binary.And signed d a c rest h = h
+  operation_back binary.Or signed d a c rest h = h
+  operation_back binary.Xor signed d a c rest h = h
+  operation_back binary.Min signed d a c rest h = h
+  operation_back binary.Max signed d a c rest h = h
+
+  pub operator_back : (number : Option ℕ) (leaves : Bool) (want : Option Ty) (op : BinaryOp) (d a c : ℕ) (rest : List Entry) → Resolves D (at_type want (λ t. operator_code number leaves op t d a c rest) rest) → Resolves D rest
+  operator_back number leaves None op d a c rest h = h
+  operator_back (Some v) leaves (Some t) op d a c rest h = word_back D (settle_word leaves t d) rest h
+  operator_back None leaves (Some t) op d a c rest h = word_back D (settle_word leaves t d) rest (operation_back op (is_signed t) d a c _ h)
+
+  pub right_back : (number : Option ℕ) (inner : List Entry → List Entry) (rest : List Entry) → (Resolves D (inner rest) → Resolves D rest) → Resolves D (right_code number inner rest) → Resolves D rest
+  right_back (Some v) inner rest f h = h
+  right_back None inner rest f h = f h
+
+  tested_back : (o : Option Bool) (sense : Bool) (number : Option ℕ) (a c k to : ℕ) (rest : List Entry) → Resolves D (tested_code o sense number a c k to rest) → Resolves D rest
+  tested_back (Some is) sense number a c k to rest h = h
+  tested_back None sense number a c k to rest h = h
+
+  placed_back : (wanted : Bool) (n : ℕ) (rest : List Entry) → Resolves D (placed_code wanted n rest) → Resolves D rest
+  placed_back true n rest h = h.1
+  placed_back false n rest h = h
+
+  pick_back : (d p q n : ℕ) (rest : List Entry) → Resolves D (pick_code d p q n rest) → (following D n ≡ word_code (copy_word d q) (Place (n + 1) ∷ rest)) × ((following D (n + 1) ≡ rest) × Resolves D rest)
+  pick_back d p q n rest h =
+      let k = word_back D (copy_word d p) _ h in
+      (k.0, word_back D (copy_word d q) _ k.1)
+
+  choice_back : (o : Option ℕ) (flags jump : List Entry → List Entry) (d p q n : ℕ) (rest : List Entry) → ((rest : List Entry) → Resolves D (flags rest) → Resolves D rest) → ((rest : List Entry) → Resolves D (jump rest) → Resolves D rest) → Resolves D (choice_code o flags jump d p q n rest) → Resolves D rest
+  choice_back (Some k) flags jump d p q n rest f g h = f _ h
+  choice_back None flags jump d p q n rest f g h = (pick_back d p q n rest (g _ h)).1.1
+
+  abs_back : (b : Bool) (t : Ty) (d a : ℕ) (rest : List Entry) → Resolves D (abs_code b t d a rest) → Resolves D rest
+  abs_back true t d a rest h = word_back D (settle_word true t d) rest h
+  abs_back false t d a rest h = word_back D (copy_word d a) rest h
+
+  cast_back : (low : Bool) (from : Option Ty) (t : Ty) (d a : ℕ) (rest : List Entry) → Resolves D (at_type from (λ u. word_code (convert_word low u t d a) rest) rest) → Resolves D rest
+  cast_back low None t d a rest h = h
+  cast_back low (Some u) t d a rest h = word_back D (convert_word low u t d a) rest h
+
+  unary_back : (leaves : Bool) (want : Option Ty) (op : UnaryOp) (d a : ℕ) (rest : List Entry) → Resolves D (at_type want (λ t. unary_code leaves op t d a rest) rest) → Resolves D rest
+  unary_back leaves None op d a rest h = h
+  unary_back leaves (Some t) unary.Neg d a rest h = word_back D (settle_word leaves t d) rest h
+  unary_back leaves (Some t) unary.Flip d a rest h = word_back D (settle_word leaves t d) rest h
+  unary_back leaves (Some t) unary.Abs d a rest h = abs_back (is_signed t) t d a rest h
+
+  shift_back : (leaves : Bool) (want : Option Ty) (left : Bool) (n : ℤ) (d a : ℕ) (rest : List Entry) → Resolves D (at_type want (λ t. shift_code leaves left n t d a rest) rest) → Resolves D rest
+  shift_back leaves None left n d a rest h = h
+  shift_back leaves (Some t) left n d a rest h = word_back D (settle_word leaves t d) rest h
+
+  -- what an operand has as its type
+  pub some_type : (o : Option Ty) → IsSome o → (T : Ty) × (o ≡ Some T)
+  some_type None h = absurd h
+  some_type (Some T) h = (T, refl)
+
+  -- the rest of a read after its index
+  read_runs : {w : Fixed} {c rest : List Entry} {st t : State} {m : Memory} {hs : Homes} {ls : List Local} {names : Names} {b most : ℕ} (T : Ty) (ot : Option Ty) (a : List ℕ) (p r : ℕ) (x : ℤ) → ot ≡ Some T → NameLasts hs a p → b ≤ p → AreSafe L b hs → IsMade L p → At w hs ls names m b st → Goes D c st (load_code ot (reg_of L p) (register_at hs a) r rest) t most → Kept L st t b p → x_at t r ≡ word x → Gives D L c st rest b (p + 1) (reg_of L p) m (most + 1) (read_element ot m (value_at names a) x)
+  read_runs {c = c} {rest = rest} {st = st} {t = t} {m = m} {hs = hs} {names = names} {b = b} {most = most} T ot a p r x e lasts le safe made at g kept is =
+      let d = reg_of L p in
+      let q = register_at hs a in
+      let there = at_kept L fit b p le safe at kept in
+      let found = name_found L hs a b p le safe lasts in
+      let load = load_runs D L fit {rest = rest} T (value_at names a) x q r p b (p + 1) there.sized le (omega arith) made there.good there.memory found.high (name_held hs names a p t there.sized there.held lasts) is in
+      subst (λ o. Gives D L c st rest b (p + 1) d m (most + 1) (read_element o m (value_at names a) x)) (sym e)
+      (on (subst (λ o. Goes D c st (load_code o d q r rest) t most) e g) load)
+    where
+      on : {o : Option ℤ} {e2 : List Entry} → Goes D c st e2 t most → Gives D L e2 t rest b (p + 1) (reg_of L p) m 1 o → Gives D L c st rest b (p + 1) (reg_of L p) m (most + 1) o
+      on g (no_value k) = no_value (stop_after (most + 1) (omega arith) g k)
+      on g (a_value k) = a_value (record { end = k.end; goes = chain (most + 1) (omega arith) g k.goes; kept = kept_on L b (p + 1) (omega arith) (omega arith) (omega arith) (omega arith) kept k.kept; value = k.value })
+
+  mutual
+    pub loose_back : (e : Term) (hs : Homes) (s : Scope) (w : Extent) (want : Option Ty) (b n : ℕ) (rest : List Entry) → Resolves D (loose_code L hs s w want b n e rest) → Resolves D rest
+    loose_back (Literal z) hs s w want b n rest h = const_back D (reg_of L b) (word (wrapped want z)) rest h
+    loose_back (Variable x) hs s w want b n rest h = h
+    loose_back (Element a i) hs s w want b n rest h = load_back _ _ _ _ rest (number_back (stream_offset s.index i) _ _ (loose_back i hs s Whole (index_type s i) b n _) h)
+    loose_back (Unary op e) hs s w want b n rest h = unary_back (settles (within w want) (unary_joins op) (leaves_at op want)) want op _ _ rest (loose_back e hs s (unary_extent op w want) want b n _ h)
+    loose_back (Operation op x y) hs s w want b n rest h = operator_back (added_number op want y) (settles (within w want) (binary_joins op) (binary_leaves op)) want op _ _ _ rest (right_back (added_number op want y) _ _ (loose_back y hs s (binary_extent op w want) want _ _ _) (loose_back x hs s (binary_extent op w want) want b n _ h))
+    loose_back (Shift left e z) hs s w want b n rest h = shift_back (settles (within w want) left left) want left z _ _ rest (loose_back e hs s (shift_extent left w want) want b n _ h)
+    loose_back (Conversion e t) hs s w want b n rest h = cast_back (within_type w t) (own s e) t _ _ rest (loose_back e hs s (converted_extent w (own s e) t) (own s e) b n _ h)
+    loose_back (Choice c x y) hs s w want b n rest h = choice_back (flag_condition s c) _ _ _ _ _ _ rest (λ r. flags_back c hs s _ _ r) (λ r. jump_back c hs s false _ _ _ r) (loose_back y hs s w want _ _ _ (loose_back x hs s w want b n _ h))
+    loose_back (Comparison op x y) hs s w want b n rest h = h
+    loose_back (Both x y) hs s w want b n rest h = h
+    loose_back (Either x y) hs s w want b n rest h = h
+    loose_back (Not e) hs s w want b n rest h = h
+
+    flags_back : (e : Term) (hs : Homes) (s : Scope) (b n : ℕ) (rest : List Entry) → Resolves D (flags_code L hs s b n e rest) → Resolves D rest
+    flags_back (Comparison op x y) hs s b n rest h = right_back (compared_number (side_type s x y) y) _ (Put (compare_word (compared_number (side_type s x y) y) (home L hs s.index b x) (home L hs s.index (b + term_size s.index x) y)) ∷ rest) (loose_back y hs s Whole (side_type s x y) _ _ _) (loose_back x hs s Whole (side_type s x y) b n _ h)
+    flags_back (Literal z) hs s b n rest h = h
+    flags_back (Variable x) hs s b n rest h = h
+    flags_back (Element a i) hs s b n rest h = h
+    flags_back (Unary op e) hs s b n rest h = h
+    flags_back (Operation op x y) hs s b n rest h = h
+    flags_back (Shift left e z) hs s b n rest h = h
+    flags_back (Conversion e t) hs s b n rest h = h
+    flags_back (Choice c x y) hs s b n rest h = h
+    flags_back (Both x y) hs s b n rest h = h
+    flags_back (Either x y) hs s b n rest h = h
+    flags_back (Not e) hs s b n rest h = h
+
+    pub jump_back : (e : Term) (hs : Homes) (s : Scope) (sense : Bool) (to b n : ℕ) (rest : List Entry) → Resolves D (jump_code L hs s sense to b n e rest) → Resolves D rest
+    jump_back (Comparison op x y) hs s sense to b n rest h =
+        tested_back (zero_test op (compared_number (side_type s x y) y)) sense (compared_number (side_type s x y) y) _ _ (condition op (signed_side (side_type s x y))) to rest
+        (right_back (compared_number (side_type s x y) y) _ _ (loose_back y hs s Whole (side_type s x y) _ _ _) (loose_back x hs s Whole (side_type s x y) b n _ h))
+    jump_back (Both x y) hs s sense to b n rest h = placed_back sense n rest (jump_back y hs s sense to _ _ _ (jump_back x hs s false _ b _ _ h))
+    jump_back (Either x y) hs s sense to b n rest h = placed_back (not sense) n rest (jump_back y hs s sense to _ _ _ (jump_back x hs s true _ b _ _ h))
+    jump_back (Not e) hs s sense to b n rest h = jump_back e hs s (not sense) to b n rest h
+    jump_back (Literal z) hs s sense to b n rest h = h
+    jump_back (Variable x) hs s sense to b n rest h = h
+    jump_back (Element a i) hs s sense to b n rest h = h
+    jump_back (Unary op e) hs s sense to b n rest h = h
+    jump_back (Operation op x y) hs s sense to b n rest h = h
+    jump_back (Shift left e z) hs s sense to b n rest h = h
+    jump_back (Conversion e t) hs s sense to b n rest h = h
+    jump_back (Choice c x y) hs s sense to b n rest h = h
+
+  pub value_back : (e : Term) (hs : Homes) (s : Scope) (want : Option Ty) (b n : ℕ) (rest : List Entry) → Resolves D (value_code L hs s want b n e rest) → Resolves D rest
+  value_back e hs s want b n rest h = loose_back e hs s Whole want b n rest h
+
+  -- an index, and a read of the element
+  element_runs : {w : Fixed} {hs : Homes} (s : Scope) {names : Names} {m : Memory} {st : State} (a : List ℕ) (i : Term) (T : Ty) (b n : ℕ) (rest : List Entry) (o : Option ℤ) → stream_offset s.index i ≡ o → option_and_then element_type (lookup s a) ≡ Some T → FitsIndex o (IndexAt hs s.index (b + index_size o (term_size s.index i))) (Fits L hs s (index_type s i) b (b + index_size o (term_size s.index i)) i) → NameLasts hs a (b + index_size o (term_size s.index i)) → IsMade L (b + index_size o (term_size s.index i)) → AreSafe L b hs → At w hs s.visible names m b st
+      → Resolves D (number_code o (value_code L hs s (index_type s i) b n i) (load_code (option_and_then element_type (lookup s a)) (reg_of L (b + index_size o (term_size s.index i))) (register_at hs a) (number_register o (home L hs s.index b i)) rest))
+      → ((rest : List Entry) → Runs D L i hs s names m st b (b + term_size s.index i) n rest (index_type s i))
+      → Gives D L (number_code o (value_code L hs s (index_type s i) b n i) (load_code (option_and_then element_type (lookup s a)) (reg_of L (b + index_size o (term_size s.index i))) (register_at hs a) (number_register o (home L hs s.index b i)) rest)) st rest b (b + (index_size o (term_size s.index i) + 1)) (reg_of L (b + index_size o (term_size s.index i))) m (4 * (index_size o (term_size s.index i) + 1))
+      (option_and_then (read_element (option_and_then element_type (lookup s a)) m (value_at names a)) (element_number o (iteration s.index names) (value s (index_type s i) i m names)))
+  element_runs {hs = hs} s {names = names} {m = m} {st = st} a i T b n rest (Some c) is type fits lasts made safe at res inner =
+      let r = index_register (index_word c) in
+      let last = load_code (option_and_then element_type (lookup s a)) (reg_of L (b + 0)) (register_at hs a) r rest in
+      let g = index_runs D L fit {rest = last} (iteration s.index names) c b (b + 0) at.sized (index_is hs s.index names (b + 0) b st (omega arith) fits.1 at.sized at.held) fits.0 in
+      let e : b + 0 + 1 ≡ b + (0 + 1) = omega arith in
+      subst (λ q. Gives D L (word_code (index_word c) last) st rest b q (reg_of L (b + 0)) m 4 (read_element (option_and_then element_type (lookup s a)) m (value_at names a) (iteration s.index names +ℤ c))) e
+      (give_more D L 4 (omega arith) (read_runs T (option_and_then element_type (lookup s a)) a (b + 0) r (iteration s.index names +ℤ c) type lasts (omega arith) safe made at g.goes g.kept g.value))
+  element_runs {hs = hs} s {names = names} {m = m} {st = st} a i T b n rest None is type fits lasts made safe at res inner =
+      computed (value s (index_type s i) i m names) (inner last fits res)
+    where
+      last : List Entry
+      last = load_code (option_and_then element_type (lookup s a)) (reg_of L (b + term_size s.index i)) (register_at hs a) (home L hs s.index b i) rest
+
+      computed : (o : Option ℤ) → Gives D L (value_code L hs s (index_type s i) b n i last) st last b (b + term_size s.index i) (home L hs s.index b i) m (4 * term_size s.index i) o
+          → Gives D L (value_code L hs s (index_type s i) b n i last) st rest b (b + (term_size s.index i + 1)) (reg_of L (b + term_size s.index i)) m (4 * (term_size s.index i + 1)) (option_and_then (read_element (option_and_then element_type (lookup s a)) m (value_at names a)) o)
+      computed None (no_value k) = no_value (stop_more _ (omega arith) k)
+      computed (Some x) (a_value k) =
+          let p = b + term_size s.index i in
+          let e : p + 1 ≡ b + (term_size s.index i + 1) = omega arith in
+          subst (λ q. Gives D L (value_code L hs s (index_type s i) b n i last) st rest b q (reg_of L p) m (4 * (term_size s.index i + 1)) (read_element (option_and_then element_type (lookup s a)) m (value_at names a) x)) e
+          (give_more D L (4 * (term_size s.index i + 1)) (omega arith) (read_runs T (option_and_then element_type (lookup s a)) a p (home L hs s.index b i) x type lasts (omega arith) safe made at k.goes k.kept k.value))
+
+  -- the sides of a comparison are in range
+  sides_range : (x y : Term) (hs : Homes) (s : Scope) (names : Names) (m : Memory) (b : ℕ) (u v : ℤ) → AreRanged s.visible names
+      → IsSome (side_type s x y) × Fits L hs s (side_type s x y) b (b + term_size s.index x + term_size s.index y) x × Fits L hs s (side_type s x y) (b + term_size s.index x) (b + term_size s.index x + term_size s.index y) y
+      → value s (side_type s x y) x m names ≡ Some u → value s (side_type s x y) y m names ≡ Some v → InRange (signed_side (side_type s x y)) u × InRange (signed_side (side_type s x y)) v
+  sides_range x y hs s names m b u v ranged h is js =
+      let q = some_type (side_type s x y) h.0 in
+      let b1 = b + term_size s.index x in let c = b1 + term_size s.index y in
+      let sg : signed_side (side_type s x y) ≡ is_signed q.0 = ap signed_side q.1 in
+      let fx : Fits L hs s (Some q.0) b c x = subst (λ w. Fits L hs s w b c x) q.1 h.1 in
+      let fy : Fits L hs s (Some q.0) b1 c y = subst (λ w. Fits L hs s w b1 c y) q.1 h.2 in (
+        subst (λ g. InRange g u) (sym sg) (in_range q.0 u (value-range L hs s names m x q.0 b c u fx ranged (sym (ap (λ w. value s w x m names) q.1) ∙ is))),
+        subst (λ g. InRange g v) (sym sg) (in_range q.0 v (value-range L hs s names m y q.0 b1 c v fy ranged (sym (ap (λ w. value s w y m names) q.1) ∙ js))),
+      )
+
+  -- the two sides of a comparison
+  sides_run : (x y : Term) (hs : Homes) (s : Scope) (names : Names) {m : Memory} {st : State} (b n : ℕ) (rest : List Entry) → AreSafe L b hs
+      → IsSome (side_type s x y) × Fits L hs s (side_type s x y) b (b + term_size s.index x + term_size s.index y) x × Fits L hs s (side_type s x y) (b + term_size s.index x) (b + term_size s.index x + term_size s.index y) y
+      → ((T : Ty) (rest : List Entry) → Runs D L x hs s names m st b (b + term_size s.index x + term_size s.index y) n rest (Some T))
+      → ((T : Ty) (t : State) → Kept L st t b (b + term_size s.index x) → Runs D L y hs s names m t (b + term_size s.index x) (b + term_size s.index x + term_size s.index y) (n + labels s.index x) rest (Some T))
+      → Resolves D (value_code L hs s (side_type s x y) b n x (right_code (compared_number (side_type s x y) y) (value_code L hs s (side_type s x y) (b + term_size s.index x) (n + labels s.index x) y) rest))
+      → Pairs D L (value_code L hs s (side_type s x y) b n x (right_code (compared_number (side_type s x y) y) (value_code L hs s (side_type s x y) (b + term_size s.index x) (n + labels s.index x) y) rest)) st rest b (b + term_size s.index x + term_size s.index y)
+      (home L hs s.index b x) (compared_number (side_type s x y) y) (home L hs s.index (b + term_size s.index x) y) m (4 * term_size s.index x + 4 * term_size s.index y) (value s (side_type s x y) x m names) (value s (side_type s x y) y m names)
+  sides_run x y hs s names {m = m} {st = st} b n rest safe h left right res =
+      let q = some_type (side_type s x y) h.0 in
+      let want = side_type s x y in
+      let b1 = b + term_size s.index x in let c = b1 + term_size s.index y in
+      let number = compared_number want y in
+      let codey = right_code number (value_code L hs s want b1 (n + labels s.index x) y) rest in
+      let runx : Runs D L x hs s names m st b c n codey want = subst (λ w. Runs D L x hs s names m st b c n codey w) (sym q.1) (left q.0 codey) in
+      pair_runs (4 * term_size s.index x + 4 * term_size s.index y) (omega arith) (omega arith) (omega arith)
+      (home_high x hs s want b c (omega arith) h.1 safe) (λ p lo up made. home_apart x hs s want b c (omega arith) h.1 safe p lo up made)
+      (runx h.1 res)
+      (λ t k. right_runs _ (value s want y m names) number (compared_right s want y m names) (value_back x hs s want b n _ res)
+      (λ r. subst (λ w. Runs D L y hs s names m t b1 c (n + labels s.index x) rest w) (sym q.1) (right q.0 t k) h.2 r))
+
+  -- one of two registers, by a condition
+  pick_runs : (c : Term) (hs : Homes) (s : Scope) (names : Names) {m : Memory} {st : State} (x y : ℤ) (n b e hx hy : ℕ) (rest : List Entry) (o : Option ℕ) → b + term_size s.index c < e → length st.x ≡ 31 → IsMade L (b + term_size s.index c) → hx ≤ 25 → hy ≤ 25
+      → ((q : ℕ) → b ≤ q → q < b + term_size s.index c → IsMade L q → reg_of L q ≢ hx) → ((q : ℕ) → b ≤ q → q < b + term_size s.index c → IsMade L q → reg_of L q ≢ hy) → x_at st hx ≡ word x → x_at st hy ≡ word y
+      → ((k : ℕ) (rest : List Entry) → o ≡ Some k → Resolves D (flags_code L hs s b (n + 2) c rest) → Flagged D L (flags_code L hs s b (n + 2) c rest) st rest b (b + term_size s.index c) k m (4 * term_size s.index c) (holds s c m names))
+      → ((rest : List Entry) → Resolves D (jump_code L hs s false n b (n + 2) c rest) → Turns D L (jump_code L hs s false n b (n + 2) c rest) st n rest b (b + term_size s.index c) m (4 * term_size s.index c) false (holds s c m names))
+      → Resolves D (choice_code o (flags_code L hs s b (n + 2) c) (jump_code L hs s false n b (n + 2) c) (reg_of L (b + term_size s.index c)) hx hy n rest)
+      → Gives D L (choice_code o (flags_code L hs s b (n + 2) c) (jump_code L hs s false n b (n + 2) c) (reg_of L (b + term_size s.index c)) hx hy n rest) st rest b e (reg_of L (b + term_size s.index c)) m (4 * (term_size s.index c + 1)) (chosen (Some x) (Some y) (holds s c m names))
+  pick_runs c hs s names x y n b e hx hy rest (Some k) lt sized made ix iy ax ay ex ey flags turn res =
+      flag_picks x y (4 * (term_size s.index c + 1)) (omega arith) (omega arith) lt made sized ix iy ax ay ex ey (flags k _ refl res)
+  pick_runs c hs s names x y n b e hx hy rest None lt sized made ix iy ax ay ex ey flags turn res =
+      let r = pick_back (reg_of L (b + term_size s.index c)) hx hy n rest (jump_back c hs s false n b (n + 2) _ res) in
+      jump_picks x y (4 * (term_size s.index c + 1)) (omega arith) (omega arith) lt made sized ix iy ax ay ex ey r.0 r.1.0 (turn _ res)
+
+  -- what the code of an expression does
+  mutual
+    pub loose_runs : (e : Term) {W : Fixed} {hs : Homes} (s : Scope) {names : Names} {m : Memory} {st : State} (w : Extent) (T : Ty) (b user n : ℕ) (rest : List Entry) → b + term_size s.index e ≤ user → AreSafe L b hs → At W hs s.visible names m b st → LooseRuns D L e hs s names m st w b user n rest (Some T)
+    loose_runs (Literal z) s w T b user n rest le safe at h res =
+        a_value (const_runs D L fit b (word (wrap T z)) (wrap T z) b (b + 1) at.sized (omega arith) (omega arith) (omega (arith, h)) refl)
+    loose_runs (Variable x) {hs = hs} s {names = names} {st = st} w T b user n rest le safe at h res =
+        a_value (record { end = st; goes = stay 4; kept = kept_none L st b (b + 1); value = name_held hs names x b st at.sized at.held (name_less hs x user b (omega arith) h.0) })
+    loose_runs (Element a i) {hs = hs} s {names = names} {m = m} {st = st} w T b user n rest le safe at h res =
+        let q = some_type (index_type s i) (index_some s i) in
+        element_runs s a i T b n rest (stream_offset s.index i) refl h.0 h.1 h.2 (omega (arith, h.3)) safe at res
+        (λ rest2. subst (λ w. Runs D L i hs s names m st b (b + term_size s.index i) n rest2 w) (sym q.1) (exact hs b (b + term_size s.index i) n i s names m (Some q.0) at.ranged (loose_runs i s Whole q.0 b (b + term_size s.index i) n rest2 (omega arith) safe at)))
+    loose_runs (Unary op e) {hs = hs} s {names = names} {m = m} w T b user n rest le safe at h res =
+        let k1 = unary_extent op w (Some T) in
+        map_runs (loose_unary op w (Some T)) (4 * (term_size s.index e + 1)) (omega arith) (omega arith) (omega arith)
+        (loose_runs e s k1 T b _ n _ (omega arith) safe at h.1 res)
+        (λ t x is k ex. gets D L (b + term_size s.index e) _ _ (omega arith) (omega arith) (omega (arith, h.2)) (unary_runs D L fit op w T x _ _ (k.sized ∙ at.sized) (home_high e hs s (Some T) b (b + term_size s.index e) (omega arith) h.1 safe) (fit.high _ (omega (arith, h.2))) (loose_range k1 L hs s names m e T b _ x h.1 at.ranged is) ex))
+    loose_runs (Operation op x y) {hs = hs} s {names = names} {m = m} w T b user n rest le safe at h res =
+        let b1 = b + term_size s.index x in let c = b1 + term_size s.index y in
+        let number = added_number op (Some T) y in
+        let k1 = binary_extent op w (Some T) in
+        let hx = home_high x hs s (Some T) b c (omega arith) h.1 safe in
+        op_runs (loose_binary op w (Some T)) (4 * (term_size s.index x + term_size s.index y + 1)) (omega arith) (omega arith) (omega arith)
+        (pair_runs (4 * term_size s.index x + 4 * term_size s.index y) (omega arith) (omega arith) (omega arith) hx (λ p lo up made. home_apart x hs s (Some T) b c (omega arith) h.1 safe p lo up made)
+        (loose_runs x s k1 T b c n _ (omega arith) safe at h.1 res)
+        (λ t k. right_runs _ (loose s k1 (Some T) y m names) number (added_right op s k1 (Some T) y m names) (loose_back x hs s k1 (Some T) b n _ res) (λ r. loose_runs y s k1 T b1 c _ _ (omega arith) (safe_later L hs b b1 (omega arith) safe) (at_kept L fit b b1 (omega arith) safe at k) h.2 r)))
+        (λ t u v is js k ex ey. gets D L c c (b + (term_size s.index x + term_size s.index y + 1)) (omega arith) (omega arith) (omega (arith, h.3)) (operator_runs D L fit number op w T u v _ _ _ (k.sized ∙ at.sized) hx (fit.high _ (omega (arith, h.3))) (λ e. (loose_range k1 L hs s names m x T b c u h.1 at.ranged is e, loose_range k1 L hs s names m y T b1 c v h.2 at.ranged js e)) (added_sum op (Some T) y) ex ey))
+    loose_runs (Shift left e z) {hs = hs} s {names = names} {m = m} w T b user n rest le safe at h res =
+        let k1 = shift_extent left w (Some T) in
+        map_runs (loose_shift left z w (Some T)) (4 * (term_size s.index e + 1)) (omega arith) (omega arith) (omega arith)
+        (loose_runs e s k1 T b _ n _ (omega arith) safe at h.1 res)
+        (λ t x is k ex. gets D L (b + term_size s.index e) _ _ (omega arith) (omega arith) (omega (arith, h.2)) (shift_runs D L fit left z w T x _ _ (k.sized ∙ at.sized) (fit.high _ (omega (arith, h.2))) (loose_range k1 L hs s names m e T b _ x h.1 at.ranged is) ex))
+    loose_runs (Conversion e t) {hs = hs} s {names = names} {m = m} {st = st} w T b user n rest le safe at h res =
+        let q = some_type (own s e) h.1 in
+        let c = b + term_size s.index e in
+        let k1 = converted_extent w (own s e) t in
+        let low = within_type w t in
+        let code = at_type (own s e) (λ u. word_code (convert_word low u t (reg_of L c) (home L hs s.index b e)) rest) rest in
+        let inner : LooseRuns D L e hs s names m st k1 b c n code (own s e) = subst (λ o. LooseRuns D L e hs s names m st k1 b c n code o) (sym q.1) (loose_runs e s k1 q.0 b c n code (omega arith) safe at) in
+        map_runs (loose_cast low (fits_at (own s e) t) t) (4 * (term_size s.index e + 1)) (omega arith) (omega arith) (omega arith) (inner h.2 res)
+        (λ u x is k ex.
+        subst (λ o. Gets D L (at_type o (λ v. word_code (convert_word low v t (reg_of L c) (home L hs s.index b e)) rest) rest) u rest c (b + (term_size s.index e + 1)) (reg_of L c) (loose_cast low (fits_at o t) t x) 4) (sym q.1)
+        (cast_runs D L fit low q.0 t x (home L hs s.index b e) c c (b + (term_size s.index e + 1)) (k.sized ∙ at.sized) (omega arith) (omega arith) (omega (arith, h.3)) ex))
+    loose_runs (Choice c x y) {hs = hs} s {names = names} {m = m} {st = st} w T b user n rest le safe at h res =
+        let i = s.index in
+        let b1 = b + term_size i x in let b2 = b1 + term_size i y in let p = b2 + term_size i c in
+        let ry = loose_back x hs s w (Some T) b n _ res in
+        let rc = loose_back y hs s w (Some T) b1 _ _ ry in
+        let hx = home_high x hs s (Some T) b p (omega arith) h.0 safe in
+        let safe1 = safe_later L hs b b1 (omega arith) safe in
+        let hy = home_high y hs s (Some T) b1 p (omega arith) h.1 safe1 in
+        choose_runs (holds s c m names) (4 * (term_size i x + term_size i y + term_size i c + 1)) (omega arith) (omega arith) (omega arith) (omega arith) hx
+        (λ q lo up made. home_apart x hs s (Some T) b p (omega arith) h.0 safe q (omega arith) (omega arith) made)
+        (loose_runs x s w T b p n _ (omega arith) safe at h.0 res)
+        (λ t k. loose_runs y s w T b1 p _ _ (omega arith) safe1 (at_kept L fit b b1 (omega arith) safe at k) h.1 ry)
+        (λ t u v k eu ev. pick_runs c hs s names u v (n + labels i x + labels i y) b2 (b + (term_size i x + term_size i y + term_size i c + 1)) (home L hs i b x) (home L hs i b1 y) rest (flag_condition s c) (omega arith) (k.sized ∙ at.sized) (omega (arith, h.3)) hx hy
+        (λ q lo up made. home_apart x hs s (Some T) b p (omega arith) h.0 safe q (omega arith) up made)
+        (λ q lo up made. home_apart y hs s (Some T) b1 p (omega arith) h.1 safe1 q (omega arith) up made) eu ev
+        (λ j r is res. flags_run c s b2 _ j r is (safe_later L hs b b2 (omega arith) safe) (at_kept L fit b b2 (omega arith) safe at k) h.2 res)
+        (λ r res. jump_runs c s false _ b2 _ r (safe_later L hs b b2 (omega arith) safe) (at_kept L fit b b2 (omega arith) safe at k) h.2 res) rc)
+    loose_runs (Comparison op x y) s w T b user n rest le safe at h res = absurd h
+    loose_runs (Both x y) s w T b user n rest le safe at h res = absurd h
+    loose_runs (Either x y) s w T b user n rest le safe at h res = absurd h
+    loose_runs (Not e) s w T b user n rest le safe at h res = absurd h
+
+    -- a comparison, whose truth is in the flags
+    flags_run : (e : Term) {w : Fixed} {hs : Homes} (s : Scope) {names : Names} {m : Memory} {st : State} (b n k : ℕ) (rest : List Entry) → flag_condition s e ≡ Some k → AreSafe L b hs → At w hs s.visible names m b st → FitsTruth L hs s b e → Resolves D (flags_code L hs s b n e rest)
+        → Flagged D L (flags_code L hs s b n e rest) st rest b (b + term_size s.index e) k m (4 * term_size s.index e) (holds s e m names)
+    flags_run (Comparison op x y) {hs = hs} s {names = names} {m = m} {st = st} b n k rest is safe at h res =
+        let want = side_type s x y in
+        let b1 = b + term_size s.index x in let c = b1 + term_size s.index y in
+        let number = compared_number want y in
+        let same : condition op (signed_side want) ≡ k = cc in
+        subst (λ k. Flagged D L (flags_code L hs s b n (Comparison op x y) rest) st rest b (b + (term_size s.index x + term_size s.index y + 1)) k m (4 * (term_size s.index x + term_size s.index y + 1)) (holds s (Comparison op x y) m names)) same
+        (op_flags op (signed_side want) (4 * (term_size s.index x + term_size s.index y + 1)) (omega arith) (omega arith) (omega arith) (home_high x hs s want b c (omega arith) h.1 safe) (compared_small want y)
+        (sides_run x y hs s names b n _ safe h (λ T r. exact hs b c n x s names m (Some T) at.ranged (loose_runs x s Whole T b c n r (omega arith) safe at)) (λ T t k. exact hs b1 c (n + labels s.index x) y s names m (Some T) at.ranged (loose_runs y s Whole T b1 c _ _ (omega arith) (safe_later L hs b b1 (omega arith) safe) (at_kept L fit b b1 (omega arith) safe at k))) res) (λ u v is js. sides_range x y hs s names m b u v at.ranged h is js))
+    flags_run (Literal z) s b n k rest is safe at h res = absurd cc
+    flags_run (Variable x) s b n k rest is safe at h res = absurd cc
+    flags_run (Element a i) s b n k rest is safe at h res = absurd cc
+    flags_run (Unary op e) s b n k rest is safe at h res = absurd cc
+    flags_run (Operation op x y) s b n k rest is safe at h res = absurd cc
+    flags_run (Shift left e z) s b n k rest is safe at h res = absurd cc
+    flags_run (Conversion e t) s b n k rest is safe at h res = absurd cc
+    flags_run (Choice c x y) s b n k rest is safe at h res = absurd cc
+    flags_run (Both x y) s b n k rest is safe at h res = absurd cc
+    flags_run (Either x y) s b n k rest is safe at h res = absurd cc
+    flags_run (Not e) s b n k rest is safe at h res = absurd cc
+
+    -- what the code of a condition does
+    pub jump_runs : (e : Term) {w : Fixed} {hs : Homes} (s : Scope) {names : Names} {m : Memory} {st : State} (sense : Bool) (to b n : ℕ) (rest : List Entry) → AreSafe L b hs → At w hs s.visible names m b st → FitsTruth L hs s b e → Resolves D (jump_code L hs s sense to b n e rest)
+        → Turns D L (jump_code L hs s sense to b n e rest) st to rest b (b + term_size s.index e) m (4 * term_size s.index e) sense (holds s e m names)
+    jump_runs (Comparison op x y) {hs = hs} s {names = names} {m = m} {st = st} sense to b n rest safe at h res =
+        let want = side_type s x y in
+        let b1 = b + term_size s.index x in let c = b1 + term_size s.index y in
+        let hx = home_high x hs s want b c (omega arith) h.1 safe in
+        op_turns (compare_on op) (4 * (term_size s.index x + term_size s.index y + 1)) (omega arith) (omega arith) (omega arith)
+        (sides_run x y hs s names b n _ safe h (λ T r. exact hs b c n x s names m (Some T) at.ranged (loose_runs x s Whole T b c n r (omega arith) safe at)) (λ T t k. exact hs b1 c (n + labels s.index x) y s names m (Some T) at.ranged (loose_runs y s Whole T b1 c _ _ (omega arith) (safe_later L hs b b1 (omega arith) safe) (at_kept L fit b b1 (omega arith) safe at k))) res)
+        (λ t u v is js ex ey. let r = sides_range x y hs s names m b u v at.ranged h is js in branch_goes D L fit to rest op (compared_number want y) sense (signed_side want) u v (home L hs s.index b x) (home L hs s.index b1 y) c (b + (term_size s.index x + term_size s.index y + 1)) (compared_small want y) hx r.0 r.1 ex ey)
+    jump_runs (Both x y) {hs = hs} s true to b n rest safe at h res =
+        let b1 = b + term_size s.index x in
+        let r1 = jump_back x hs s false n b (n + 1) _ res in
+        let r2 = jump_back y hs s true to b1 _ _ r1 in
+        over_turn D L fit false (4 * (term_size s.index x + term_size s.index y + 1)) (omega arith) (omega arith) (omega arith) (omega arith) r2.0
+        (jump_runs x s false n b (n + 1) _ safe at h.0 res)
+        (λ t k. jump_runs y s true to b1 _ _ (safe_later L hs b b1 (omega arith) safe) (at_kept L fit b b1 (omega arith) safe at k) h.1 r1)
+    jump_runs (Both x y) {hs = hs} s false to b n rest safe at h res =
+        let b1 = b + term_size s.index x in
+        let r1 = jump_back x hs s false to b (n + 1) _ res in
+        both_turn D L fit false (4 * (term_size s.index x + term_size s.index y + 1)) (omega arith) (omega arith) (omega arith) (omega arith)
+        (jump_runs x s false to b (n + 1) _ safe at h.0 res)
+        (λ t k. jump_runs y s false to b1 _ _ (safe_later L hs b b1 (omega arith) safe) (at_kept L fit b b1 (omega arith) safe at k) h.1 r1)
+    jump_runs (Either x y) {hs = hs} s true to b n rest safe at h res =
+        let b1 = b + term_size s.index x in
+        let b2 = b1 + 1 in
+        let r1 = jump_back x hs s true to b (n + 1) _ res in
+        both_turn D L fit true (4 * (term_size s.index x + 1 + term_size s.index y + 1)) (omega arith) (omega arith) (omega arith) (omega arith)
+        (turns_more D L fit b2 (4 * term_size s.index x) (omega arith) (omega arith) (jump_runs x s true to b (n + 1) _ safe at h.0 res))
+        (λ t k. jump_runs y s true to b2 _ _ (safe_later L hs b b2 (omega arith) safe) (at_kept L fit b b2 (omega arith) safe at k) h.1 r1)
+    jump_runs (Either x y) {hs = hs} s false to b n rest safe at h res =
+        let b1 = b + term_size s.index x in
+        let b2 = b1 + 1 in
+        let r1 = jump_back x hs s true n b (n + 1) _ res in
+        let r2 = jump_back y hs s false to b2 _ _ r1 in
+        over_turn D L fit true (4 * (term_size s.index x + 1 + term_size s.index y + 1)) (omega arith) (omega arith) (omega arith) (omega arith) r2.0
+        (turns_more D L fit b2 (4 * term_size s.index x) (omega arith) (omega arith) (jump_runs x s true n b (n + 1) _ safe at h.0 res))
+        (λ t k. jump_runs y s false to b2 _ _ (safe_later L hs b b2 (omega arith) safe) (at_kept L fit b b2 (omega arith) safe at k) h.1 r1)
+    jump_runs (Not e) s sense to b n rest safe at h res =
+        turns_more D L fit _ (4 * (term_size s.index e + 1)) (omega arith) (omega arith) (not_turns D L fit sense (jump_runs e s (not sense) to b n rest safe at h res))
+    jump_runs (Literal z) s sense to b n rest safe at h res = absurd h
+    jump_runs (Variable x) s sense to b n rest safe at h res = absurd h
+    jump_runs (Element a i) s sense to b n rest safe at h res = absurd h
+    jump_runs (Unary op e) s sense to b n rest safe at h res = absurd h
+    jump_runs (Operation op x y) s sense to b n rest safe at h res = absurd h
+    jump_runs (Shift left e z) s sense to b n rest safe at h res = absurd h
+    jump_runs (Conversion e t) s sense to b n rest safe at h res = absurd h
+    jump_runs (Choice c x y) s sense to b n rest safe at h res = absurd h
+
+  -- a value itself
+  pub value_runs : (e : Term) {w : Fixed} {hs : Homes} (s : Scope) {names : Names} {m : Memory} {st : State} (T : Ty) (b user n : ℕ) (rest : List Entry) → b + term_size s.index e ≤ user → AreSafe L b hs → At w hs s.visible names m b st → Runs D L e hs s names m st b user n rest (Some T)
+  value_runs e {hs = hs} s {names = names} {m = m} T b user n rest le safe at = exact hs b user n e s names m (Some T) at.ranged (loose_runs e s Whole T b user n rest le safe at)

@@ -1,0 +1,54 @@
+use Rattle.std.proofs.Common.{◌+◌, ◌*◌}
+use Rattle.std.specs.Prelude.{max}
+use Rattle.kernel_tree.specs.Plain.{term_of}
+use Rattle.kernel_tree.specs.Limits.{term_depth}
+use Rattle.scalar_values.proofs.emit.+terms.Given as goal
+
+-- an expression stands above what emits it by its kind, and that above its operands
+abbrev pub decreases-emit_loose : goal.decreases-emit_loose
+decreases-emit_loose l = 4 * term_depth (term_of l.expr.now) + 1
+
+abbrev pub decreases-emit_one : goal.decreases-emit_one
+decreases-emit_one l = 4 * term_depth (term_of l.arg.now) + 2
+
+abbrev pub decreases-emit_moved : goal.decreases-emit_moved
+decreases-emit_moved l = 4 * term_depth (term_of l.arg.now) + 2
+
+abbrev pub decreases-emit_converted : goal.decreases-emit_converted
+decreases-emit_converted l = 4 * term_depth (term_of l.arg.now) + 2
+
+abbrev pub decreases-emit_two : goal.decreases-emit_two
+decreases-emit_two l = 4 * max (term_depth (term_of l.left.now)) (term_depth (term_of l.right.now)) + 3
+
+abbrev pub decreases-emit_read : goal.decreases-emit_read
+decreases-emit_read l = 4 * term_depth (term_of l.index.now) + 3
+
+abbrev pub decreases-emit_right : goal.decreases-emit_right
+decreases-emit_right l = 4 * term_depth (term_of l.expr.now) + 2
+
+abbrev pub decreases-emit_select : goal.decreases-emit_select
+decreases-emit_select l = 4 * max (term_depth (term_of l.cond.now)) (max (term_depth (term_of l.yes.now)) (term_depth (term_of l.no.now))) + 3
+
+abbrev pub decreases-emit_one_of : goal.decreases-emit_one_of
+decreases-emit_one_of l = 4 * term_depth (term_of l.cond.now) + 2
+
+abbrev pub decreases-emit_flags : goal.decreases-emit_flags
+decreases-emit_flags l = 4 * max (term_depth (term_of l.left.now)) (term_depth (term_of l.right.now)) + 3
+
+abbrev pub decreases-emit_jump : goal.decreases-emit_jump
+decreases-emit_jump l = 4 * term_depth (term_of l.expr.now)
+
+abbrev pub decreases-emit_comparison : goal.decreases-emit_comparison
+decreases-emit_comparison l = 4 * max (term_depth (term_of l.left.now)) (term_depth (term_of l.right.now)) + 3
+
+abbrev pub decreases-emit_contrary : goal.decreases-emit_contrary
+decreases-emit_contrary l = 4 * term_depth (term_of l.arg.now) + 2
+
+abbrev pub decreases-emit_both : goal.decreases-emit_both
+decreases-emit_both l = 4 * max (term_depth (term_of l.left.now)) (term_depth (term_of l.right.now)) + 2
+
+abbrev pub decreases-emit_either : goal.decreases-emit_either
+decreases-emit_either l = 4 * max (term_depth (term_of l.left.now)) (term_depth (term_of l.right.now)) + 2
+
+abbrev pub decreases-emit_number : goal.decreases-emit_number
+decreases-emit_number l = 4 * term_depth (term_of l.number.now) + 2

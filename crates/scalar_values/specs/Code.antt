@@ -1,0 +1,154 @@
+-- The code of expressions, before the entries that follow it. b is the first item, n the next label.
+use Rattle.std.specs.Prelude.{ℕ, ◌+◌, ℤ, Bool, true, false, not, List, [], ◌∷◌, Option, Some, None, option_and_then, if◌then◌else◌}
+use Rattle.kernel_tree.specs.declared.ops.Ty.{Ty}
+use Rattle.kernel_tree.specs.declared.ops.BinaryOp.{BinaryOp}
+use Rattle.a64_code.specs.Table.{csel}
+use Rattle.kernel_tree.specs.Plain.{Term, Literal, Variable, Element, Unary, Operation, Shift, Conversion, Choice, Comparison, Both, Either, Not}
+use Rattle.kernel_tree.specs.Items.{literal_value, term_size, index_items, stream_offset}
+use Rattle.kernel_tree.specs.Wrap.{is_signed}
+use Rattle.kernel_tree.specs.Typing.{Scope, lookup, own, element_type, index_type, side_type}
+use Rattle.kernel_meaning.specs.Operators.{word, wrapped}
+use Rattle.label_fix.specs.DraftRun.{Entry, Put, ins}
+use Rattle.scalar_words.specs.Layout.{Layout, Homes, reg_of, register_at}
+use Rattle.scalar_values.specs.ValueRegisters.{home}
+use Rattle.kernel_meaning.specs.TypeValues.{binary_leaves}
+use Rattle.scalar_values.specs.declared.extent.Extent.{Extent}
+use Rattle.scalar_values.specs.Extents.{Whole, within_type, within, unary_joins, binary_extent, unary_extent, shift_extent, converted_extent, leaves_at, settles}
+use Rattle.scalar_words.specs.Operands.{binary_joins}
+use Rattle.scalar_words.specs.Words.{const_code, word_code, condition, at_type}
+use Rattle.scalar_values.specs.ItemWords.{convert_word, index_word, index_register, load_code, unary_code, shift_code, immediate, held_addend, operator_code, compare_word, branch_code, pick_code, placed_code}
+
+-- the labels that code uses up
+abbrev pub inner_labels : Option ℤ → ℕ → ℕ
+inner_labels (Some c) n = 0
+inner_labels None n = n
+
+abbrev pub labels : Option (List ℕ) → Term → ℕ
+labels i (Literal n) = 0
+labels i (Variable x) = 0
+labels i (Element a e) = inner_labels (stream_offset i e) (labels i e)
+labels i (Unary op e) = labels i e
+labels i (Operation op a b) = labels i a + labels i b
+labels i (Shift left e n) = labels i e
+labels i (Conversion e t) = labels i e
+labels i (Choice c a b) = labels i a + labels i b + (2 + labels i c)
+labels i (Comparison op a b) = labels i a + labels i b
+labels i (Both a b) = 1 + labels i a + labels i b
+labels i (Either a b) = 1 + labels i a + labels i b
+labels i (Not e) = labels i e
+
+-- the code of an index, which is an offset from the loop variable or a computed number, and the register that holds it
+abbrev pub number_code : Option ℤ → (List Entry → List Entry) → List Entry → List Entry
+number_code (Some c) inner rest = word_code (index_word c) rest
+number_code None inner rest = inner rest
+
+abbrev pub number_register : Option ℤ → ℕ → ℕ
+number_register (Some c) a = index_register (index_word c)
+number_register None a = a
+
+abbrev pub signed_side : Option Ty → Bool
+signed_side None = false
+signed_side (Some t) = is_signed t
+
+-- ---- right sides that a word holds as a number
+
+-- of a comparison
+abbrev pub compared_number : Option Ty → Term → Option ℕ
+compared_number want e = option_and_then (λ z. immediate (word (wrapped want z))) (literal_value e)
+
+-- of an operator
+abbrev pub added_number : BinaryOp → Option Ty → Term → Option ℕ
+added_number op want e = option_and_then (λ z. held_addend op (word (wrapped want z))) (literal_value e)
+
+-- a number stands for a literal
+abbrev pub IsLiteral : Option ℤ → Type 0
+IsLiteral None = ⊥
+IsLiteral (Some z) = Unit {0}
+
+abbrev pub IsHeld : Option ℕ → Term → Type 0
+IsHeld None e = Unit {0}
+IsHeld (Some v) e = IsLiteral (literal_value e)
+
+-- no code for a right side that a word holds
+abbrev pub right_code : Option ℕ → (List Entry → List Entry) → List Entry → List Entry
+right_code (Some v) inner rest = rest
+right_code None inner rest = inner rest
+
+-- ---- conditions
+
+-- the condition of the flags with which a comparison holds; None for any other term
+abbrev pub flag_condition : Scope → Term → Option ℕ
+flag_condition s (Comparison op x y) = Some (condition op (signed_side (side_type s x y)))
+flag_condition s _ = None
+
+-- p or q into d: by the flags after a comparison, and else by a jump to label n
+abbrev pub choice_code : Option ℕ → (flags jump : List Entry → List Entry) → (d p q n : ℕ) → List Entry → List Entry
+choice_code (Some k) flags jump d p q n rest = flags (ins csel (d ∷ p ∷ k ∷ q ∷ []) ∷ rest)
+choice_code None flags jump d p q n rest = jump (pick_code d p q n rest)
+
+abbrev mutual
+  -- a value into its register, of which so much is asked for
+  pub loose_code : Layout → Homes → Scope → Extent → Option Ty → (b n : ℕ) → Term → List Entry → List Entry
+  loose_code L homes scope w want b n (Literal z) rest = const_code (reg_of L b) (word (wrapped want z)) rest
+  loose_code L homes scope w want b n (Variable x) rest = rest
+  loose_code L homes scope w want b n (Element a e) rest =
+      number_code (stream_offset scope.index e) (loose_code L homes scope Whole (index_type scope e) b n e)
+      (load_code (option_and_then element_type (lookup scope a)) (reg_of L (b + index_items scope.index e)) (register_at homes a) (number_register (stream_offset scope.index e) (home L homes scope.index b e)) rest)
+  loose_code L homes scope w want b n (Unary op e) rest =
+      loose_code L homes scope (unary_extent op w want) want b n e (at_type want (λ t. unary_code (settles (within w want) (unary_joins op) (leaves_at op want)) op t (reg_of L (b + term_size scope.index e)) (home L homes scope.index b e) rest) rest)
+  loose_code L homes scope w want b n (Operation op x y) rest =
+      loose_code L homes scope (binary_extent op w want) want b n x (right_code (added_number op want y) (loose_code L homes scope (binary_extent op w want) want (b + term_size scope.index x) (n + labels scope.index x) y)
+      (at_type want (λ t. operator_code (added_number op want y) (settles (within w want) (binary_joins op) (binary_leaves op)) op t (reg_of L (b + term_size scope.index x + term_size scope.index y)) (home L homes scope.index b x) (home L homes scope.index (b + term_size scope.index x) y) rest) rest))
+  loose_code L homes scope w want b n (Shift left e k) rest =
+      loose_code L homes scope (shift_extent left w want) want b n e (at_type want (λ t. shift_code (settles (within w want) left left) left k t (reg_of L (b + term_size scope.index e)) (home L homes scope.index b e) rest) rest)
+  loose_code L homes scope w want b n (Conversion e t) rest =
+      loose_code L homes scope (converted_extent w (own scope e) t) (own scope e) b n e (at_type (own scope e) (λ s. word_code (convert_word (within_type w t) s t (reg_of L (b + term_size scope.index e)) (home L homes scope.index b e)) rest) rest)
+  loose_code L homes scope w want b n (Choice c x y) rest =
+      loose_code L homes scope w want b n x (loose_code L homes scope w want (b + term_size scope.index x) (n + labels scope.index x) y
+      (choice_code (flag_condition scope c)
+      (flags_code L homes scope (b + term_size scope.index x + term_size scope.index y) (n + labels scope.index x + labels scope.index y + 2) c)
+      (jump_code L homes scope false (n + labels scope.index x + labels scope.index y) (b + term_size scope.index x + term_size scope.index y) (n + labels scope.index x + labels scope.index y + 2) c)
+      (reg_of L (b + term_size scope.index x + term_size scope.index y + term_size scope.index c)) (home L homes scope.index b x) (home L homes scope.index (b + term_size scope.index x) y)
+      (n + labels scope.index x + labels scope.index y) rest))
+  loose_code L homes scope w want b n (Comparison op x y) rest = rest
+  loose_code L homes scope w want b n (Both x y) rest = rest
+  loose_code L homes scope w want b n (Either x y) rest = rest
+  loose_code L homes scope w want b n (Not e) rest = rest
+
+  -- a comparison, whose truth is in the flags
+  pub flags_code : Layout → Homes → Scope → (b n : ℕ) → Term → List Entry → List Entry
+  flags_code L homes scope b n (Comparison op x y) rest =
+      loose_code L homes scope Whole (side_type scope x y) b n x (right_code (compared_number (side_type scope x y) y) (loose_code L homes scope Whole (side_type scope x y) (b + term_size scope.index x) (n + labels scope.index x) y)
+      (Put (compare_word (compared_number (side_type scope x y) y) (home L homes scope.index b x) (home L homes scope.index (b + term_size scope.index x) y)) ∷ rest))
+  flags_code L homes scope b n _ rest = rest
+
+  -- to the label `to` where the truth of a condition is `sense`, and else on
+  pub jump_code : Layout → Homes → Scope → (sense : Bool) → (to b n : ℕ) → Term → List Entry → List Entry
+  jump_code L homes scope sense to b n (Comparison op x y) rest =
+      loose_code L homes scope Whole (side_type scope x y) b n x (right_code (compared_number (side_type scope x y) y) (loose_code L homes scope Whole (side_type scope x y) (b + term_size scope.index x) (n + labels scope.index x) y)
+      (branch_code op sense (signed_side (side_type scope x y)) (compared_number (side_type scope x y) y) (home L homes scope.index b x) (home L homes scope.index (b + term_size scope.index x) y) to rest))
+  jump_code L homes scope sense to b n (Both x y) rest =
+      jump_code L homes scope false (if sense then n else to) b (n + 1) x (jump_code L homes scope sense to (b + term_size scope.index x) (n + 1 + labels scope.index x) y (placed_code sense n rest))
+  jump_code L homes scope sense to b n (Either x y) rest =
+      jump_code L homes scope true (if sense then to else n) b (n + 1) x (jump_code L homes scope sense to (b + term_size scope.index x + 1) (n + 1 + labels scope.index x) y (placed_code (not sense) n rest))
+  jump_code L homes scope sense to b n (Not e) rest = jump_code L homes scope (not sense) to b n e rest
+  jump_code L homes scope sense to b n _ rest = rest
+
+-- a value itself into its register
+abbrev pub value_code : Layout → Homes → Scope → Option Ty → (b n : ℕ) → Term → List Entry → List Entry
+value_code L homes scope want b n e rest = loose_code L homes scope Whole want b n e rest
+
+-- one of two registers, by a condition whose items begin at b
+abbrev pub one_of_code : Layout → Homes → Scope → (b n : ℕ) → Term → (p q : ℕ) → List Entry → List Entry
+one_of_code L homes scope b n c p q rest =
+    choice_code (flag_condition scope c) (flags_code L homes scope b (n + 2) c) (jump_code L homes scope false n b (n + 2) c) (reg_of L (b + term_size scope.index c)) p q n rest
+
+-- an index, as a part of a read
+abbrev pub index_labels : Option (List ℕ) → Term → ℕ
+index_labels i e = inner_labels (stream_offset i e) (labels i e)
+
+abbrev pub index_code : Layout → Homes → Scope → (b n : ℕ) → Term → List Entry → List Entry
+index_code L homes scope b n e rest = number_code (stream_offset scope.index e) (loose_code L homes scope Whole (index_type scope e) b n e) rest
+
+abbrev pub index_home : Layout → Homes → Scope → (b : ℕ) → Term → ℕ
+index_home L homes scope b e = number_register (stream_offset scope.index e) (home L homes scope.index b e)

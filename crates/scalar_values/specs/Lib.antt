@@ -1,0 +1,5 @@
+pub mod ValueRegisters
+pub mod ItemWords
+pub mod Extents
+pub mod Code
+pub mod Fits

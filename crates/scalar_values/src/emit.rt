@@ -1,0 +1,690 @@
+//! Emits the code of expressions.
+
+ghost use Rattle.std.specs.Prelude.{◌≡◌, ◌+◌, ◌<◌, ◌^◌, true, ◌∷◌, ◌++◌, None, IfOk, OnOk};
+ghost use Rattle.kernel_tree.specs.Plain.{Unary, Element, Operation, Shift, Conversion, Choice, Comparison, Both, Either, Not, name_of, term_of};
+ghost use Rattle.kernel_tree.specs.Items.{term_size, index_items};
+ghost use Rattle.kernel_tree.specs.Kinds.{IsValue, IsTruth};
+ghost use Rattle.kernel_scope.specs.Scopes.{scope_of};
+ghost use Rattle.scalar_words.specs.Drafts.{Appends};
+ghost use Rattle.scalar_words.specs.View.{homes_of};
+ghost use Rattle.kernel_tree.specs.Typing as typing;
+ghost use Rattle.scalar_values.specs.ValueRegisters as placed;
+ghost use Rattle.scalar_words.specs.Layout as layout;
+ghost use Rattle.scalar_values.specs.Code as code;
+ghost use Rattle.kernel_meaning.specs.Operators as operators;
+ghost use Rattle.scalar_words.specs.Words as words;
+
+use crate::extent::{
+    Extent, binary_extent, binary_joins, converted_extent, leaves_at, settles, shift_extent,
+    unary_extent, unary_joins, within, within_type,
+};
+use crate::instructions::{added_number, compare_word, compared_number, index_word};
+use crate::operations::{
+    emit_branch, emit_chosen, emit_load, emit_offset, emit_pick, emit_placed, want_cast,
+    want_operator, want_shift, want_unary,
+};
+use a64_code::Reg;
+use kernel_meaning::{binary_leaves, word, wrapped};
+use kernel_scope::{Scope, element_type, first, lookup, own_type};
+use kernel_tree::{BinaryOp, CompareOp, Expr, Name, Ty, UnaryOp};
+use label_fix::{Draft, Label};
+use scalar_words::operations::emit_const;
+use scalar_words::places::Places;
+use scalar_words::{Home, register_at};
+use std::alloc::AllocError;
+
+// The register of an item's value, after which the next item stands.
+fn take(places: &Places, item: &mut usize) -> Reg
+    requires { item.old < 2 ^ 32 }
+    ensures register { result.number ≡ layout.reg_of places.now item.old }
+    ensures item { item.new ≡ item.old + 1 }
+{
+    let r = places.reg(*item);
+    *item += 1;
+    r
+}
+
+// The register in which a name is held, after which the next item stands.
+fn take_held(homes: &[Home], name: &Name, item: &mut usize) -> Reg
+    requires { item.old < 2 ^ 32 }
+    ensures register { result.number ≡ layout.register_at (homes_of homes.now) (name_of name.now) }
+    ensures item { item.new ≡ item.old + 1 }
+{
+    *item += 1;
+    register_at(homes, name)
+}
+
+// A literal, wrapped to the type that is wanted, into the register of its item.
+fn emit_literal(
+    draft: &mut Draft,
+    places: &Places,
+    want: Option<Ty>,
+    value: i128,
+    item: &mut usize,
+) -> Result<Reg, AllocError>
+    requires { item.old < 2 ^ 32 }
+    ensures register { IfOk result (λ r. r.number ≡ layout.reg_of places.now item.old) }
+    ensures item { OnOk result (item.new ≡ item.old + 1) }
+    ensures labels { OnOk result (draft.new.labels ≡ draft.old.labels) }
+    ensures code { OnOk result (Appends draft.old draft.new
+        (words.const_code (layout.reg_of places.now item.old) (operators.word (operators.wrapped want value)))) }
+{
+    let r = take(places, item);
+    emit_const(draft, r, word(wrapped(want, value)))?;
+    Ok(r)
+}
+
+/// The code of an expression of which a type is wanted, and the register of its value.
+pub fn emit_value(
+    draft: &mut Draft,
+    places: &Places,
+    homes: &[Home],
+    scope: &Scope,
+    want: Option<Ty>,
+    expr: &Expr,
+    item: &mut usize,
+) -> Result<Reg, AllocError>
+    requires kind { IsValue (term_of expr.now) }
+    requires fits { item.old + term_size (scope_of scope.now).index (term_of expr.now) < 2 ^ 32 }
+    ensures register { IfOk result (λ r. r.number
+        ≡ placed.home places.now (homes_of homes.now) (scope_of scope.now).index item.old (term_of expr.now)) }
+    ensures item { OnOk result (item.new ≡ item.old + term_size (scope_of scope.now).index (term_of expr.now)) }
+    ensures labels { OnOk result (draft.new.labels
+        ≡ draft.old.labels + code.labels (scope_of scope.now).index (term_of expr.now)) }
+    ensures code { OnOk result (Appends draft.old draft.new
+        (code.value_code places.now (homes_of homes.now) (scope_of scope.now) want item.old draft.old.labels
+        (term_of expr.now))) }
+{
+    emit_loose(draft, places, homes, scope, Extent::Whole, want, expr, item)
+}
+
+/// The code of an expression of which a type is wanted and so much is asked for, and the register of its value.
+#[cycle(terms)]
+pub fn emit_loose(
+    draft: &mut Draft,
+    places: &Places,
+    homes: &[Home],
+    scope: &Scope,
+    extent: Extent,
+    want: Option<Ty>,
+    expr: &Expr,
+    item: &mut usize,
+) -> Result<Reg, AllocError>
+    requires kind { IsValue (term_of expr.now) }
+    requires fits { item.old + term_size (scope_of scope.now).index (term_of expr.now) < 2 ^ 32 }
+    ensures register { IfOk result (λ r. r.number
+        ≡ placed.home places.now (homes_of homes.now) (scope_of scope.now).index item.old (term_of expr.now)) }
+    ensures item { OnOk result (item.new ≡ item.old + term_size (scope_of scope.now).index (term_of expr.now)) }
+    ensures labels { OnOk result (draft.new.labels
+        ≡ draft.old.labels + code.labels (scope_of scope.now).index (term_of expr.now)) }
+    ensures code { OnOk result (Appends draft.old draft.new
+        (code.loose_code places.now (homes_of homes.now) (scope_of scope.now) extent want item.old draft.old.labels
+        (term_of expr.now))) }
+{
+    match expr {
+        Expr::Lit(value) => emit_literal(draft, places, want, *value, item),
+        Expr::Var(name) => Ok(take_held(homes, name, item)),
+        Expr::Unary { op, arg } => emit_one(
+            draft, places, homes, scope, extent, want, *op, arg, item,
+        ),
+        Expr::Shift {
+            left_shift,
+            arg,
+            count,
+        } => emit_moved(
+            draft,
+            places,
+            homes,
+            scope,
+            extent,
+            want,
+            *left_shift,
+            arg,
+            *count,
+            item,
+        ),
+        Expr::Cast { arg, ty } => emit_converted(
+            draft, places, homes, scope, extent, arg, *ty, item,
+        ),
+        Expr::Binary { op, left, right } => emit_two(
+            draft, places, homes, scope, extent, want, *op, left, right, item,
+        ),
+        Expr::Read { array, index } => emit_read(
+            draft, places, homes, scope, extent, array, index, item,
+        ),
+        Expr::Select { cond, yes, no } => emit_select(
+            draft, places, homes, scope, extent, want, cond, yes, no, item,
+        ),
+        _ => unreachable!(),
+    }
+}
+
+// An operator on one value.
+#[cycle(terms)]
+fn emit_one(
+    draft: &mut Draft,
+    places: &Places,
+    homes: &[Home],
+    scope: &Scope,
+    extent: Extent,
+    want: Option<Ty>,
+    op: UnaryOp,
+    arg: &Expr,
+    item: &mut usize,
+) -> Result<Reg, AllocError>
+    requires kind { IsValue (term_of arg.now) }
+    requires fits { item.old + term_size (scope_of scope.now).index (Unary op (term_of arg.now)) < 2 ^ 32 }
+    ensures register { IfOk result (λ r. r.number
+        ≡ placed.home places.now (homes_of homes.now) (scope_of scope.now).index item.old (Unary op (term_of arg.now))) }
+    ensures item { OnOk result (item.new ≡ item.old + term_size (scope_of scope.now).index (Unary op (term_of arg.now))) }
+    ensures labels { OnOk result (draft.new.labels
+        ≡ draft.old.labels + code.labels (scope_of scope.now).index (Unary op (term_of arg.now))) }
+    ensures code { OnOk result (Appends draft.old draft.new
+        (code.loose_code places.now (homes_of homes.now) (scope_of scope.now) extent want item.old draft.old.labels
+        (Unary op (term_of arg.now)))) }
+{
+    let asked = unary_extent(op, extent, want);
+    let a = emit_loose(draft, places, homes, scope, asked, want, arg, item)?;
+    let r = take(places, item);
+    let leaves = settles(within(extent, want), unary_joins(op), leaves_at(op, want));
+    want_unary(draft, op, leaves, want, r, a)?;
+    Ok(r)
+}
+
+// A shift by a constant.
+#[cycle(terms)]
+fn emit_moved(
+    draft: &mut Draft,
+    places: &Places,
+    homes: &[Home],
+    scope: &Scope,
+    extent: Extent,
+    want: Option<Ty>,
+    left_shift: bool,
+    arg: &Expr,
+    count: i128,
+    item: &mut usize,
+) -> Result<Reg, AllocError>
+    requires kind { IsValue (term_of arg.now) }
+    requires fits { item.old + term_size (scope_of scope.now).index (Shift left_shift (term_of arg.now) count) < 2 ^ 32 }
+    ensures register { IfOk result (λ r. r.number
+        ≡ placed.home places.now (homes_of homes.now) (scope_of scope.now).index item.old (Shift left_shift (term_of arg.now) count)) }
+    ensures item { OnOk result (item.new ≡ item.old + term_size (scope_of scope.now).index (Shift left_shift (term_of arg.now) count)) }
+    ensures labels { OnOk result (draft.new.labels
+        ≡ draft.old.labels + code.labels (scope_of scope.now).index (Shift left_shift (term_of arg.now) count)) }
+    ensures code { OnOk result (Appends draft.old draft.new
+        (code.loose_code places.now (homes_of homes.now) (scope_of scope.now) extent want item.old draft.old.labels
+        (Shift left_shift (term_of arg.now) count))) }
+{
+    let asked = shift_extent(left_shift, extent, want);
+    let a = emit_loose(draft, places, homes, scope, asked, want, arg, item)?;
+    let r = take(places, item);
+    let leaves = settles(within(extent, want), left_shift, left_shift);
+    want_shift(draft, leaves, left_shift, count, want, r, a)?;
+    Ok(r)
+}
+
+// A cast, whose operand is of its own type.
+#[cycle(terms)]
+fn emit_converted(
+    draft: &mut Draft,
+    places: &Places,
+    homes: &[Home],
+    scope: &Scope,
+    extent: Extent,
+    arg: &Expr,
+    ty: Ty,
+    item: &mut usize,
+) -> Result<Reg, AllocError>
+    requires kind { IsValue (term_of arg.now) }
+    requires fits { item.old + term_size (scope_of scope.now).index (Conversion (term_of arg.now) ty) < 2 ^ 32 }
+    ensures register { IfOk result (λ r. r.number
+        ≡ placed.home places.now (homes_of homes.now) (scope_of scope.now).index item.old (Conversion (term_of arg.now) ty)) }
+    ensures item { OnOk result (item.new ≡ item.old + term_size (scope_of scope.now).index (Conversion (term_of arg.now) ty)) }
+    ensures labels { OnOk result (draft.new.labels
+        ≡ draft.old.labels + code.labels (scope_of scope.now).index (Conversion (term_of arg.now) ty)) }
+    ensures code { OnOk result (Appends draft.old draft.new
+        (code.loose_code places.now (homes_of homes.now) (scope_of scope.now) extent None item.old draft.old.labels
+        (Conversion (term_of arg.now) ty))) }
+{
+    let from = own_type(scope, arg);
+    let asked = converted_extent(extent, from, ty);
+    let a = emit_loose(draft, places, homes, scope, asked, from, arg, item)?;
+    let r = take(places, item);
+    want_cast(draft, within_type(extent, ty), from, ty, r, a)?;
+    Ok(r)
+}
+
+// An operator on two values.
+#[cycle(terms)]
+fn emit_two(
+    draft: &mut Draft,
+    places: &Places,
+    homes: &[Home],
+    scope: &Scope,
+    extent: Extent,
+    want: Option<Ty>,
+    op: BinaryOp,
+    left: &Expr,
+    right: &Expr,
+    item: &mut usize,
+) -> Result<Reg, AllocError>
+    requires left { IsValue (term_of left.now) }
+    requires right { IsValue (term_of right.now) }
+    requires fits { item.old + term_size (scope_of scope.now).index (Operation op (term_of left.now)
+        (term_of right.now)) < 2 ^ 32 }
+    ensures register { IfOk result (λ r. r.number
+        ≡ placed.home places.now (homes_of homes.now) (scope_of scope.now).index item.old (Operation op
+        (term_of left.now) (term_of right.now))) }
+    ensures item { OnOk result (item.new ≡ item.old + term_size (scope_of scope.now).index (Operation op
+        (term_of left.now) (term_of right.now))) }
+    ensures labels { OnOk result (draft.new.labels
+        ≡ draft.old.labels + code.labels (scope_of scope.now).index (Operation op (term_of left.now)
+        (term_of right.now))) }
+    ensures code { OnOk result (Appends draft.old draft.new
+        (code.loose_code places.now (homes_of homes.now) (scope_of scope.now) extent want item.old draft.old.labels
+        (Operation op (term_of left.now) (term_of right.now)))) }
+{
+    let number = added_number(op, want, right);
+    let asked = binary_extent(op, extent, want);
+    let a = emit_loose(draft, places, homes, scope, asked, want, left, item)?;
+    let b = emit_right(
+        draft, places, homes, scope, asked, want, number, right, item,
+    )?;
+    let r = take(places, item);
+    let leaves = settles(within(extent, want), binary_joins(op), binary_leaves(op));
+    want_operator(draft, op, number, leaves, want, r, a, b)?;
+    Ok(r)
+}
+
+/// The right side of an operator or a comparison, which takes no code where its word holds it as a number; answers the
+/// register of its value.
+#[cycle(terms)]
+pub fn emit_right(
+    draft: &mut Draft,
+    places: &Places,
+    homes: &[Home],
+    scope: &Scope,
+    extent: Extent,
+    want: Option<Ty>,
+    number: Option<u64>,
+    expr: &Expr,
+    item: &mut usize,
+) -> Result<Reg, AllocError>
+    requires kind { IsValue (term_of expr.now) }
+    requires held { code.IsHeld number (term_of expr.now) }
+    requires fits { item.old + term_size (scope_of scope.now).index (term_of expr.now) < 2 ^ 32 }
+    ensures register { IfOk result (λ r. r.number
+        ≡ placed.home places.now (homes_of homes.now) (scope_of scope.now).index item.old (term_of expr.now)) }
+    ensures item { OnOk result (item.new ≡ item.old + term_size (scope_of scope.now).index (term_of expr.now)) }
+    ensures labels { OnOk result (draft.new.labels
+        ≡ draft.old.labels + code.labels (scope_of scope.now).index (term_of expr.now)) }
+    ensures code { OnOk result (Appends draft.old draft.new
+        (code.right_code number (code.loose_code places.now (homes_of homes.now) (scope_of scope.now) extent want item.old
+        draft.old.labels (term_of expr.now)))) }
+{
+    match number {
+        Some(_) => Ok(take(places, item)),
+        None => emit_loose(draft, places, homes, scope, extent, want, expr, item),
+    }
+}
+
+// An element, by its index.
+#[cycle(terms)]
+fn emit_read(
+    draft: &mut Draft,
+    places: &Places,
+    homes: &[Home],
+    scope: &Scope,
+    extent: Extent,
+    array: &Name,
+    index: &Expr,
+    item: &mut usize,
+) -> Result<Reg, AllocError>
+    requires kind { IsValue (term_of index.now) }
+    requires fits { item.old + term_size (scope_of scope.now).index (Element (name_of array.now)
+        (term_of index.now)) < 2 ^ 32 }
+    ensures register { IfOk result (λ r. r.number
+        ≡ placed.home places.now (homes_of homes.now) (scope_of scope.now).index item.old (Element
+        (name_of array.now) (term_of index.now))) }
+    ensures item { OnOk result (item.new ≡ item.old + term_size (scope_of scope.now).index (Element
+        (name_of array.now) (term_of index.now))) }
+    ensures labels { OnOk result (draft.new.labels
+        ≡ draft.old.labels + code.labels (scope_of scope.now).index (Element (name_of array.now) (term_of index.now))) }
+    ensures code { OnOk result (Appends draft.old draft.new
+        (code.loose_code places.now (homes_of homes.now) (scope_of scope.now) extent None item.old draft.old.labels
+        (Element (name_of array.now) (term_of index.now)))) }
+{
+    let x = emit_number(draft, places, homes, scope, index, item)?;
+    let r = take(places, item);
+    let ty = lookup(scope, array).and_then(element_type);
+    emit_load(draft, ty, r, register_at(homes, array), x)?;
+    Ok(r)
+}
+
+// One of two values, by a condition, which is evaluated after both.
+#[cycle(terms)]
+fn emit_select(
+    draft: &mut Draft,
+    places: &Places,
+    homes: &[Home],
+    scope: &Scope,
+    extent: Extent,
+    want: Option<Ty>,
+    cond: &Expr,
+    yes: &Expr,
+    no: &Expr,
+    item: &mut usize,
+) -> Result<Reg, AllocError>
+    requires cond { IsTruth (term_of cond.now) }
+    requires yes { IsValue (term_of yes.now) }
+    requires no { IsValue (term_of no.now) }
+    requires fits { item.old + term_size (scope_of scope.now).index (Choice (term_of cond.now) (term_of yes.now)
+        (term_of no.now)) < 2 ^ 32 }
+    ensures register { IfOk result (λ r. r.number
+        ≡ placed.home places.now (homes_of homes.now) (scope_of scope.now).index item.old (Choice (term_of cond.now)
+        (term_of yes.now) (term_of no.now))) }
+    ensures item { OnOk result (item.new ≡ item.old + term_size (scope_of scope.now).index (Choice
+        (term_of cond.now) (term_of yes.now) (term_of no.now))) }
+    ensures labels { OnOk result (draft.new.labels
+        ≡ draft.old.labels + code.labels (scope_of scope.now).index (Choice (term_of cond.now) (term_of yes.now)
+        (term_of no.now))) }
+    ensures code { OnOk result (Appends draft.old draft.new
+        (code.loose_code places.now (homes_of homes.now) (scope_of scope.now) extent want item.old draft.old.labels
+        (Choice (term_of cond.now) (term_of yes.now) (term_of no.now)))) }
+{
+    let a = emit_loose(draft, places, homes, scope, extent, want, yes, item)?;
+    let b = emit_loose(draft, places, homes, scope, extent, want, no, item)?;
+    emit_one_of(draft, places, homes, scope, cond, a, b, item)
+}
+
+// One of two registers, by a condition.
+#[cycle(terms)]
+fn emit_one_of(
+    draft: &mut Draft,
+    places: &Places,
+    homes: &[Home],
+    scope: &Scope,
+    cond: &Expr,
+    a: Reg,
+    b: Reg,
+    item: &mut usize,
+) -> Result<Reg, AllocError>
+    requires kind { IsTruth (term_of cond.now) }
+    requires fits { item.old + (term_size (scope_of scope.now).index (term_of cond.now) + 1) < 2 ^ 32 }
+    ensures register { IfOk result (λ r. r.number
+        ≡ layout.reg_of places.now (item.old + term_size (scope_of scope.now).index (term_of cond.now))) }
+    ensures item { OnOk result (item.new
+        ≡ item.old + term_size (scope_of scope.now).index (term_of cond.now) + 1) }
+    ensures labels { OnOk result (draft.new.labels
+        ≡ draft.old.labels + (2 + code.labels (scope_of scope.now).index (term_of cond.now))) }
+    ensures code { OnOk result (Appends draft.old draft.new
+        (code.one_of_code places.now (homes_of homes.now) (scope_of scope.now) item.old draft.old.labels
+        (term_of cond.now) a.number b.number)) }
+{
+    let other = draft.label()?;
+    let end = draft.label()?;
+    match cond {
+        Expr::Compare { op, left, right } => {
+            emit_flags(draft, places, homes, scope, *op, left, right, item)?;
+            let r = take(places, item);
+            emit_chosen(draft, *op, side_type(scope, left, right), r, a, b)?;
+            Ok(r)
+        }
+        _ => {
+            emit_jump(draft, places, homes, scope, false, other, cond, item)?;
+            let r = take(places, item);
+            emit_pick(draft, r, a, b, other, end)?;
+            Ok(r)
+        }
+    }
+}
+
+// The type of the sides of a comparison.
+fn side_type(scope: &Scope, left: &Expr, right: &Expr) -> Option<Ty>
+    ensures { result ≡ typing.side_type (scope_of scope.now) (term_of left.now) (term_of right.now) }
+{
+    first(own_type(scope, left), own_type(scope, right))
+}
+
+// A comparison of two values, whose truth is in the flags.
+#[cycle(terms)]
+fn emit_flags(
+    draft: &mut Draft,
+    places: &Places,
+    homes: &[Home],
+    scope: &Scope,
+    op: CompareOp,
+    left: &Expr,
+    right: &Expr,
+    item: &mut usize,
+) -> Result<(), AllocError>
+    requires left { IsValue (term_of left.now) }
+    requires right { IsValue (term_of right.now) }
+    requires fits { item.old + term_size (scope_of scope.now).index (Comparison op (term_of left.now)
+        (term_of right.now)) < 2 ^ 32 }
+    ensures item { OnOk result (item.new ≡ item.old + term_size (scope_of scope.now).index (Comparison op
+        (term_of left.now) (term_of right.now))) }
+    ensures labels { OnOk result (draft.new.labels
+        ≡ draft.old.labels + code.labels (scope_of scope.now).index (Comparison op (term_of left.now) (term_of right.now))) }
+    ensures code { OnOk result (Appends draft.old draft.new
+        (code.flags_code places.now (homes_of homes.now) (scope_of scope.now) item.old draft.old.labels
+        (Comparison op (term_of left.now) (term_of right.now)))) }
+{
+    let want = side_type(scope, left, right);
+    let number = compared_number(want, right);
+    let whole = Extent::Whole;
+    let a = emit_loose(draft, places, homes, scope, whole, want, left, item)?;
+    let b = emit_right(
+        draft, places, homes, scope, whole, want, number, right, item,
+    )?;
+    draft.put(compare_word(number, a, b))?;
+    *item += 1;
+    Ok(())
+}
+
+/// The code of a condition, which goes to a label where its truth is `sense`, and else on.
+#[cycle(terms)]
+pub fn emit_jump(
+    draft: &mut Draft,
+    places: &Places,
+    homes: &[Home],
+    scope: &Scope,
+    sense: bool,
+    to: Label,
+    expr: &Expr,
+    item: &mut usize,
+) -> Result<(), AllocError>
+    requires given { to < draft.old.labels }
+    requires kind { IsTruth (term_of expr.now) }
+    requires fits { item.old + term_size (scope_of scope.now).index (term_of expr.now) < 2 ^ 32 }
+    ensures item { OnOk result (item.new ≡ item.old + term_size (scope_of scope.now).index
+        (term_of expr.now)) }
+    ensures labels { OnOk result (draft.new.labels
+        ≡ draft.old.labels + code.labels (scope_of scope.now).index (term_of expr.now)) }
+    ensures code { OnOk result (Appends draft.old draft.new
+        (code.jump_code places.now (homes_of homes.now) (scope_of scope.now) sense to item.old draft.old.labels
+        (term_of expr.now))) }
+{
+    match expr {
+        Expr::Compare { op, left, right } => emit_comparison(
+            draft, places, homes, scope, sense, to, *op, left, right, item,
+        ),
+        Expr::And { left, right } => emit_both(
+            draft, places, homes, scope, sense, to, left, right, item,
+        ),
+        Expr::Or { left, right } => emit_either(
+            draft, places, homes, scope, sense, to, left, right, item,
+        ),
+        Expr::Not { arg } => emit_contrary(draft, places, homes, scope, sense, to, arg, item),
+        _ => unreachable!(),
+    }
+}
+
+// A comparison of two values.
+#[cycle(terms)]
+fn emit_comparison(
+    draft: &mut Draft,
+    places: &Places,
+    homes: &[Home],
+    scope: &Scope,
+    sense: bool,
+    to: Label,
+    op: CompareOp,
+    left: &Expr,
+    right: &Expr,
+    item: &mut usize,
+) -> Result<(), AllocError>
+    requires given { to < draft.old.labels }
+    requires left { IsValue (term_of left.now) }
+    requires right { IsValue (term_of right.now) }
+    requires fits { item.old + term_size (scope_of scope.now).index (Comparison op (term_of left.now) (term_of right.now)) < 2 ^ 32 }
+    ensures item { OnOk result (item.new ≡ item.old + term_size (scope_of scope.now).index
+        (Comparison op (term_of left.now) (term_of right.now))) }
+    ensures labels { OnOk result (draft.new.labels
+        ≡ draft.old.labels + code.labels (scope_of scope.now).index (Comparison op (term_of left.now) (term_of right.now))) }
+    ensures code { OnOk result (Appends draft.old draft.new
+        (code.jump_code places.now (homes_of homes.now) (scope_of scope.now) sense to item.old draft.old.labels
+        (Comparison op (term_of left.now) (term_of right.now)))) }
+{
+    let want = side_type(scope, left, right);
+    let number = compared_number(want, right);
+    let whole = Extent::Whole;
+    let a = emit_loose(draft, places, homes, scope, whole, want, left, item)?;
+    let b = emit_right(
+        draft, places, homes, scope, whole, want, number, right, item,
+    )?;
+    emit_branch(draft, op, sense, want, number, a, b, to)?;
+    *item += 1;
+    Ok(())
+}
+
+// The contrary of a condition.
+#[cycle(terms)]
+fn emit_contrary(
+    draft: &mut Draft,
+    places: &Places,
+    homes: &[Home],
+    scope: &Scope,
+    sense: bool,
+    to: Label,
+    arg: &Expr,
+    item: &mut usize,
+) -> Result<(), AllocError>
+    requires given { to < draft.old.labels }
+    requires kind { IsTruth (term_of arg.now) }
+    requires fits { item.old + term_size (scope_of scope.now).index (Not (term_of arg.now)) < 2 ^ 32 }
+    ensures item { OnOk result (item.new ≡ item.old + term_size (scope_of scope.now).index
+        (Not (term_of arg.now))) }
+    ensures labels { OnOk result (draft.new.labels
+        ≡ draft.old.labels + code.labels (scope_of scope.now).index (Not (term_of arg.now))) }
+    ensures code { OnOk result (Appends draft.old draft.new
+        (code.jump_code places.now (homes_of homes.now) (scope_of scope.now) sense to item.old draft.old.labels
+        (Not (term_of arg.now)))) }
+{
+    emit_jump(draft, places, homes, scope, !sense, to, arg, item)?;
+    *item += 1;
+    Ok(())
+}
+
+// Two conditions, the second of which is passed over where the first does not hold.
+#[cycle(terms)]
+fn emit_both(
+    draft: &mut Draft,
+    places: &Places,
+    homes: &[Home],
+    scope: &Scope,
+    sense: bool,
+    to: Label,
+    left: &Expr,
+    right: &Expr,
+    item: &mut usize,
+) -> Result<(), AllocError>
+    requires given { to < draft.old.labels }
+    requires left { IsTruth (term_of left.now) }
+    requires right { IsTruth (term_of right.now) }
+    requires fits { item.old + term_size (scope_of scope.now).index (Both (term_of left.now) (term_of right.now)) < 2 ^ 32 }
+    ensures item { OnOk result (item.new ≡ item.old + term_size (scope_of scope.now).index
+        (Both (term_of left.now) (term_of right.now))) }
+    ensures labels { OnOk result (draft.new.labels
+        ≡ draft.old.labels + code.labels (scope_of scope.now).index (Both (term_of left.now) (term_of right.now))) }
+    ensures code { OnOk result (Appends draft.old draft.new
+        (code.jump_code places.now (homes_of homes.now) (scope_of scope.now) sense to item.old draft.old.labels
+        (Both (term_of left.now) (term_of right.now)))) }
+{
+    let over = draft.label()?;
+    let first = if sense { over } else { to };
+    emit_jump(draft, places, homes, scope, false, first, left, item)?;
+    emit_jump(draft, places, homes, scope, sense, to, right, item)?;
+    emit_placed(draft, sense, over)?;
+    *item += 1;
+    Ok(())
+}
+
+// Two conditions, the second of which is passed over where the first holds.
+#[cycle(terms)]
+fn emit_either(
+    draft: &mut Draft,
+    places: &Places,
+    homes: &[Home],
+    scope: &Scope,
+    sense: bool,
+    to: Label,
+    left: &Expr,
+    right: &Expr,
+    item: &mut usize,
+) -> Result<(), AllocError>
+    requires given { to < draft.old.labels }
+    requires left { IsTruth (term_of left.now) }
+    requires right { IsTruth (term_of right.now) }
+    requires fits { item.old + term_size (scope_of scope.now).index (Either (term_of left.now) (term_of right.now)) < 2 ^ 32 }
+    ensures item { OnOk result (item.new ≡ item.old + term_size (scope_of scope.now).index
+        (Either (term_of left.now) (term_of right.now))) }
+    ensures labels { OnOk result (draft.new.labels
+        ≡ draft.old.labels + code.labels (scope_of scope.now).index (Either (term_of left.now) (term_of right.now))) }
+    ensures code { OnOk result (Appends draft.old draft.new
+        (code.jump_code places.now (homes_of homes.now) (scope_of scope.now) sense to item.old draft.old.labels
+        (Either (term_of left.now) (term_of right.now)))) }
+{
+    let over = draft.label()?;
+    let first = if sense { to } else { over };
+    emit_jump(draft, places, homes, scope, true, first, left, item)?;
+    *item += 1;
+    emit_jump(draft, places, homes, scope, sense, to, right, item)?;
+    emit_placed(draft, !sense, over)?;
+    *item += 1;
+    Ok(())
+}
+
+// The code of an index, and the register that holds it.
+#[cycle(terms)]
+#[tactic(auto, using(crate::proofs::IndexCode::index_is))]
+fn emit_number(
+    draft: &mut Draft,
+    places: &Places,
+    homes: &[Home],
+    scope: &Scope,
+    number: &Expr,
+    item: &mut usize,
+) -> Result<Reg, AllocError>
+    requires kind { IsValue (term_of number.now) }
+    requires fits { item.old + index_items (scope_of scope.now).index (term_of number.now) < 2 ^ 32 }
+    ensures register { IfOk result (λ r. r.number
+        ≡ code.index_home places.now (homes_of homes.now) (scope_of scope.now) item.old (term_of number.now)) }
+    ensures item { OnOk result (item.new ≡ item.old + index_items (scope_of scope.now).index (term_of number.now)) }
+    ensures labels { OnOk result (draft.new.labels
+        ≡ draft.old.labels + code.index_labels (scope_of scope.now).index (term_of number.now)) }
+    ensures code { OnOk result (Appends draft.old draft.new
+        (code.index_code places.now (homes_of homes.now) (scope_of scope.now) item.old draft.old.labels
+        (term_of number.now))) }
+{
+    match index_word(scope, number) {
+        Some(moved) => emit_offset(draft, moved),
+        None => {
+            let want = first(own_type(scope, number), Some(Ty::U64));
+            let whole = Extent::Whole;
+            let r = emit_loose(draft, places, homes, scope, whole, want, number, item)?;
+            Ok(r)
+        }
+    }
+}

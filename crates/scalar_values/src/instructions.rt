@@ -1,0 +1,379 @@
+//! The instructions of one item.
+
+ghost use Rattle.std.specs.Prelude.{◌≡◌, ◌<◌, ◌≤◌, true, neg_ℤ, option_map, option_and_then, ◌∷◌, []};
+ghost use Rattle.kernel_tree.specs.Plain.{term_of};
+ghost use Rattle.kernel_scope.specs.Scopes.{scope_of};
+ghost use Rattle.label_fix.specs.Draft.{word_view};
+ghost use Rattle.label_fix.specs.Finished.{is_plain};
+ghost use Rattle.kernel_tree.specs.Items as items;
+ghost use Rattle.a64_code.specs.Table as table;
+ghost use Rattle.kernel_meaning.specs.Operators as operators;
+ghost use Rattle.scalar_values.specs.ItemWords as words;
+ghost use Rattle.scalar_words.specs.Words as common;
+ghost use Rattle.scalar_values.specs.Code as code;
+ghost use Rattle.label_fix.specs.DraftRun as plain;
+ghost use Rattle.a64_code.specs.View as seen;
+
+use a64_code::{
+    A64, AddSubOp, Cond, ExceptionOp, LoadStoreByteOp, LoadStoreOp, LogicalOp, MoveWideOp, Reg,
+    Shift, zero,
+};
+use kernel_meaning::{word, wrapped};
+use kernel_scope::{Scope, is_index, is_index_term, literal_value};
+use kernel_tree::{BinaryOp, CompareOp, Expr, Ty};
+use label_fix::Word;
+use scalar_words::instructions::{add_sub, condition, wide};
+use word_rows::Bits;
+
+/// The register that belongs to the stretch at hand.
+pub fn scratch() -> Reg
+    ensures { result.number ≡ 26 }
+{
+    Bits { number: 26 }
+}
+
+/// ADD, SUB or SUBS with a number below 4,096.
+pub fn add_sub_number(op: AddSubOp, d: Reg, a: Reg, number: u32) -> Word
+    requires { number < 4096 }
+    ensures { word_view result ≡ plain.word_of (seen.add_sub_imm_name op) (d.number ∷ a.number ∷ number ∷ 0 ∷ []) }
+{
+    Word::A(A64::AddSubImmediate {
+        op,
+        rd: d,
+        rn: a,
+        imm12: Bits { number },
+        sh: false,
+    })
+}
+
+// The word that adds an offset to the loop variable.
+fn index_at(offset: i128) -> Option<Word>
+    ensures plain { words.IsPlainIf (option_map word_view result) }
+    ensures word { option_map word_view result ≡ words.index_word offset }
+{
+    if offset == 0 {
+        None
+    } else if offset > 0 {
+        Some(index_up((offset.unsigned_abs() % 4096) as u32))
+    } else {
+        Some(index_down((offset.unsigned_abs() % 4096) as u32))
+    }
+}
+
+// The word that takes an offset from the loop variable.
+fn index_back(offset: i128) -> Option<Word>
+    ensures plain { words.IsPlainIf (option_map word_view result) }
+    ensures word { option_map word_view result ≡ words.index_word (neg_ℤ offset) }
+{
+    if offset == 0 {
+        None
+    } else if offset > 0 {
+        Some(index_down((offset.unsigned_abs() % 4096) as u32))
+    } else {
+        Some(index_up((offset.unsigned_abs() % 4096) as u32))
+    }
+}
+
+fn index_up(by: u32) -> Word
+    requires { by < 4096 }
+    ensures { word_view result ≡ plain.word_of table.add_imm (26 ∷ 9 ∷ by ∷ 0 ∷ []) }
+{
+    Word::A(A64::AddSubImmediate {
+        op: AddSubOp::Add,
+        rd: scratch(),
+        rn: Bits { number: 9 },
+        imm12: Bits { number: by },
+        sh: false,
+    })
+}
+
+fn index_down(by: u32) -> Word
+    requires { by < 4096 }
+    ensures { word_view result ≡ plain.word_of table.sub_imm (26 ∷ 9 ∷ by ∷ 0 ∷ []) }
+{
+    Word::A(A64::AddSubImmediate {
+        op: AddSubOp::Sub,
+        rd: scratch(),
+        rn: Bits { number: 9 },
+        imm12: Bits { number: by },
+        sh: false,
+    })
+}
+
+/// The contrary of the condition that holds of two operands.
+pub fn contrary(op: CompareOp, signed: bool) -> Cond
+    ensures { seen.cond_number result ≡ common.contrary (common.condition op signed) }
+{
+    match op {
+        CompareOp::Eq => Cond::Ne,
+        CompareOp::Ne => Cond::Eq,
+        CompareOp::Lt => { if signed { Cond::Ge } else { Cond::Hs } }
+        CompareOp::Le => { if signed { Cond::Gt } else { Cond::Hi } }
+        CompareOp::Gt => { if signed { Cond::Le } else { Cond::Ls } }
+        CompareOp::Ge => { if signed { Cond::Lt } else { Cond::Lo } }
+    }
+}
+
+/// The condition with which a branch is taken where the truth of a comparison is `sense`.
+pub fn turned(sense: bool, op: CompareOp, signed: bool) -> Cond
+    ensures { seen.cond_number result ≡ words.turned sense (common.condition op signed) }
+{
+    if sense {
+        condition(op, signed)
+    } else {
+        contrary(op, signed)
+    }
+}
+
+// A number below 4,096.
+fn immediate(number: u64) -> Option<u64>
+    ensures { result ≡ words.immediate number }
+{
+    if number < 4096 { Some(number) } else { None }
+}
+
+// The number that the word of an operator holds as its right side.
+fn held_addend(op: BinaryOp, number: u64) -> Option<u64>
+    ensures { result ≡ words.held_addend op number }
+{
+    let small = number < 4096 || number > 0xffff_ffff_ffff_f000;
+    match op {
+        BinaryOp::Add | BinaryOp::Sub => if small { Some(number) } else { None },
+        _ => None,
+    }
+}
+
+/// The number that a comparison holds as its right side.
+pub fn compared_number(want: Option<Ty>, expr: &Expr) -> Option<u64>
+    ensures number { result ≡ code.compared_number want (term_of expr.now) }
+    ensures held { code.IsHeld result (term_of expr.now) }
+{
+    let value = literal_value(expr)?;
+    immediate(word(wrapped(want, value)))
+}
+
+/// The number that the word of an operator holds as its right side.
+pub fn added_number(op: BinaryOp, want: Option<Ty>, expr: &Expr) -> Option<u64>
+    ensures number { result ≡ code.added_number op want (term_of expr.now) }
+    ensures held { code.IsHeld result (term_of expr.now) }
+{
+    let value = literal_value(expr)?;
+    held_addend(op, word(wrapped(want, value)))
+}
+
+fn add_word(number: u64, d: Reg, a: Reg) -> Word
+    ensures plain { is_plain (word_view result) ≡ true }
+    ensures word { word_view result ≡ words.add_word number d.number a.number }
+{
+    if number < 4096 {
+        add_sub_number(AddSubOp::Add, d, a, (number % 4096) as u32)
+    } else {
+        add_sub_number(AddSubOp::Sub, d, a, ((4096 - number % 4096) % 4096) as u32)
+    }
+}
+
+fn sub_word(number: u64, d: Reg, a: Reg) -> Word
+    ensures plain { is_plain (word_view result) ≡ true }
+    ensures word { word_view result ≡ words.sub_word number d.number a.number }
+{
+    if number < 4096 {
+        add_sub_number(AddSubOp::Sub, d, a, (number % 4096) as u32)
+    } else {
+        add_sub_number(AddSubOp::Add, d, a, ((4096 - number % 4096) % 4096) as u32)
+    }
+}
+
+/// A register and a number more, or less.
+pub fn sum_word(op: BinaryOp, number: u64, d: Reg, a: Reg) -> Word
+    ensures plain { is_plain (word_view result) ≡ true }
+    ensures word { word_view result ≡ words.sum_word op number d.number a.number }
+{
+    match op {
+        BinaryOp::Sub => sub_word(number, d, a),
+        _ => add_word(number, d, a),
+    }
+}
+
+/// A register compared with a number that the word holds, or else with a second one.
+pub fn compare_word(number: Option<u64>, a: Reg, b: Reg) -> Word
+    ensures plain { is_plain (word_view result) ≡ true }
+    ensures word { word_view result ≡ words.compare_word number a.number b.number }
+{
+    match number {
+        Some(number) => add_sub_number(AddSubOp::Subs, zero(), a, (number % 4096) as u32),
+        None => add_sub(AddSubOp::Subs, zero(), a, b),
+    }
+}
+
+/// Whether a comparison asks for zero (`Some(true)`), or for anything else (`Some(false)`).
+pub fn zero_test(op: CompareOp, number: Option<u64>) -> Option<bool>
+    ensures { result ≡ words.zero_test op number }
+{
+    if number? != 0 {
+        return None;
+    }
+    match op {
+        CompareOp::Eq => Some(true),
+        CompareOp::Ne => Some(false),
+        _ => None,
+    }
+}
+
+/// The count of a shift.
+pub fn shift_count(count: i128) -> Bits<6>
+    ensures { result.number ≡ operators.shift_count count }
+{
+    Bits {
+        number: (count.cast_unsigned() % 64) as u32,
+    }
+}
+
+/// A register shifted by a constant.
+pub fn shifted(left: bool, signed: bool, count: Bits<6>, d: Reg, a: Reg) -> Word
+    ensures { word_view result ≡ plain.word_of table.orr
+        (d.number ∷ 31 ∷ count.number ∷ a.number ∷ words.shift_kind left signed ∷ []) }
+{
+    let shift = if left {
+        Shift::Lsl
+    } else if signed {
+        Shift::Asr
+    } else {
+        Shift::Lsr
+    };
+    Word::A(A64::LogicalShifted {
+        op: LogicalOp::Orr,
+        rd: d,
+        rn: zero(),
+        imm6: count,
+        rm: a,
+        shift,
+    })
+}
+
+/// The load of an element.
+pub fn load(ty: Ty, d: Reg, p: Reg, r: Reg) -> Word
+    ensures { word_view result ≡ words.load ty d.number p.number r.number }
+{
+    match ty {
+        Ty::I8 => load_byte(LoadStoreByteOp::Ldrsb, d, p, r),
+        Ty::U8 => load_byte(LoadStoreByteOp::Ldrb, d, p, r),
+        Ty::I16 => load_wide(LoadStoreOp::Ldrsh, d, p, r),
+        Ty::U16 => load_wide(LoadStoreOp::Ldrh, d, p, r),
+        Ty::I32 => load_wide(LoadStoreOp::Ldrsw, d, p, r),
+        Ty::U32 => load_wide(LoadStoreOp::LdrW, d, p, r),
+        Ty::I64 | Ty::U64 => load_wide(LoadStoreOp::LdrX, d, p, r),
+    }
+}
+
+fn load_byte(op: LoadStoreByteOp, d: Reg, p: Reg, r: Reg) -> Word
+    ensures { word_view result ≡ plain.word_of (seen.byte_register_name op) (d.number ∷ p.number ∷ r.number ∷ []) }
+{
+    Word::A(A64::LoadStoreByteRegister {
+        op,
+        rt: d,
+        rn: p,
+        rm: r,
+    })
+}
+
+fn load_wide(op: LoadStoreOp, d: Reg, p: Reg, r: Reg) -> Word
+    ensures { word_view result ≡ plain.word_of (seen.wide_register_name op) (d.number ∷ p.number ∷ 1 ∷ r.number ∷ []) }
+{
+    Word::A(A64::LoadStoreRegister {
+        op,
+        rt: d,
+        rn: p,
+        scaled: true,
+        rm: r,
+    })
+}
+
+// The loop variable moved by a literal.
+fn moved_word(op: BinaryOp, by: Option<i128>) -> Option<Option<Word>>
+    ensures plain { words.ArePlain (option_map (option_map word_view) result) }
+    ensures word { option_map (option_map word_view) result ≡ option_map words.index_word
+        (option_and_then (items.moved_by op) by) }
+{
+    let by = by?;
+    match op {
+        BinaryOp::Add => Some(index_at(by)),
+        BinaryOp::Sub => Some(index_back(by)),
+        _ => None,
+    }
+}
+
+/// The word that makes a stream index from the loop variable, if it takes one; None for any other index.
+pub fn index_word(scope: &Scope, expr: &Expr) -> Option<Option<Word>>
+    ensures plain { words.ArePlain (option_map (option_map word_view) result) }
+    ensures word { option_map (option_map word_view) result ≡ option_map words.index_word
+        (items.stream_offset (scope_of scope.now).index (term_of expr.now)) }
+{
+    match expr {
+        Expr::Var(name) => {
+            if is_index(scope.index, name) {
+                Some(index_at(0))
+            } else {
+                None
+            }
+        }
+        Expr::Binary { op, left, right } => {
+            if is_index_term(scope.index, left) {
+                moved_word(*op, literal_value(right))
+            } else {
+                None
+            }
+        }
+        _ => None,
+    }
+}
+
+/// The store of an element.
+pub fn store(ty: Ty, d: Reg, p: Reg, r: Reg) -> Word
+    ensures { word_view result ≡ words.store ty d.number p.number r.number }
+{
+    match ty {
+        Ty::I8 | Ty::U8 => load_byte(LoadStoreByteOp::Strb, d, p, r),
+        Ty::I16 | Ty::U16 => load_wide(LoadStoreOp::Strh, d, p, r),
+        Ty::I32 | Ty::U32 => load_wide(LoadStoreOp::StrW, d, p, r),
+        Ty::I64 | Ty::U64 => load_wide(LoadStoreOp::StrX, d, p, r),
+    }
+}
+
+/// The register of the loop variable.
+pub fn index() -> Reg
+    ensures { result.number ≡ 9 }
+{
+    Bits { number: 9 }
+}
+
+/// The loop variable of the next iteration.
+pub fn next_iteration() -> Word
+    ensures { word_view result ≡ plain.word_of table.add_imm (9 ∷ 9 ∷ 1 ∷ 0 ∷ []) }
+{
+    Word::A(A64::AddSubImmediate {
+        op: AddSubOp::Add,
+        rd: index(),
+        rn: index(),
+        imm12: Bits { number: 1 },
+        sh: false,
+    })
+}
+
+/// A small number into a register.
+pub fn small(d: u32, value: u32) -> Word
+    requires register { d < 32 }
+    requires value { value < 65536 }
+    ensures { word_view result ≡ plain.word_of table.movz (d ∷ value ∷ 0 ∷ []) }
+{
+    wide(MoveWideOp::Movz, Bits { number: d }, value, 0)
+}
+
+/// The call of the system, which ends a run.
+pub fn exit_call() -> Word
+    ensures { word_view result ≡ plain.word_of table.svc (0 ∷ []) }
+{
+    Word::A(A64::Exception {
+        op: ExceptionOp::Svc,
+        imm16: Bits { number: 0 },
+    })
+}

@@ -1,0 +1,10 @@
+//! The code of expressions and conditions.
+#![tactic(auto)]
+
+pub mod emit;
+pub mod extent;
+pub mod instructions;
+pub mod operations;
+
+pub use emit::{emit_jump, emit_loose, emit_right, emit_value};
+pub use extent::Extent;

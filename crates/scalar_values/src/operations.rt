@@ -1,0 +1,417 @@
+//! Emits the code of operators, loads and branches, whose operands are in registers.
+
+ghost use Rattle.std.specs.Prelude.{◌≡◌, ◌<◌, ◌+◌, true, List, [], ◌∷◌, ◌++◌, IfOk, OnOk, option_map};
+ghost use Rattle.label_fix.specs.Draft.{word_view, kind_view};
+ghost use Rattle.scalar_words.specs.Drafts.{Appends};
+ghost use Rattle.label_fix.specs.Finished.{is_plain, has_register};
+ghost use Rattle.a64_code.specs.Table as table;
+ghost use Rattle.kernel_tree.specs.Wrap as wrap;
+ghost use Rattle.label_fix.specs.DraftRun as plain;
+ghost use Rattle.scalar_values.specs.ItemWords as words;
+ghost use Rattle.scalar_words.specs.Words as common;
+ghost use Rattle.scalar_values.specs.Code as code;
+
+use crate::instructions::{
+    compare_word, index, load, scratch, shift_count, shifted, sum_word, turned, zero_test,
+};
+use a64_code::{AddSubOp, Cond, LogicalOp, Reg, SelectOp, zero};
+use kernel_meaning::{fits, is_signed};
+use kernel_tree::{BinaryOp, CompareOp, Ty, UnaryOp};
+use label_fix::{BranchKind, Draft, Label, Word};
+use scalar_words::instructions::{add_sub, condition, extending, is_narrow, logical, select};
+use scalar_words::operations::{emit_copy, emit_operation, emit_settle};
+use std::alloc::AllocError;
+
+// A register extended by a type into another one.
+fn emit_extend(draft: &mut Draft, ty: Ty, d: Reg, a: Reg) -> Result<(), AllocError>
+    ensures labels { OnOk result (draft.new.labels ≡ draft.old.labels) }
+    ensures code { OnOk result (Appends draft.old draft.new
+        (common.word_code (common.extend_word ty d.number a.number))) }
+{
+    if is_narrow(ty) {
+        draft.put(extending(ty, d, a))?;
+        Ok(())
+    } else {
+        emit_copy(draft, d, a)?;
+        Ok(())
+    }
+}
+
+// A value of one type as one of another.
+fn emit_cast(draft: &mut Draft, from: Ty, ty: Ty, d: Reg, a: Reg) -> Result<(), AllocError>
+    ensures labels { OnOk result (draft.new.labels ≡ draft.old.labels) }
+    ensures code { OnOk result (Appends draft.old draft.new
+        (common.word_code (words.cast_word from ty d.number a.number))) }
+{
+    if fits(from, ty) {
+        emit_copy(draft, d, a)?;
+        Ok(())
+    } else {
+        emit_extend(draft, ty, d, a)?;
+        Ok(())
+    }
+}
+
+// A word whose result is extended in place where it may have left the extended form.
+fn emit_settled(
+    draft: &mut Draft,
+    word: Word,
+    leaves: bool,
+    ty: Ty,
+    d: Reg,
+) -> Result<(), AllocError>
+    requires { is_plain (word_view word) ≡ true }
+    ensures labels { OnOk result (draft.new.labels ≡ draft.old.labels) }
+    ensures code { OnOk result ((rest : List plain.Entry)
+        → draft.new.entries ++ rest ≡ draft.old.entries
+        ++ plain.Put (word_view word) ∷ common.word_code (common.settle_word leaves ty d.number) rest) }
+{
+    draft.put(word)?;
+    emit_settle(draft, leaves, ty, d)?;
+    Ok(())
+}
+
+// The absolute value.
+fn emit_abs(draft: &mut Draft, ty: Ty, d: Reg, a: Reg) -> Result<(), AllocError>
+    ensures labels { OnOk result (draft.new.labels ≡ draft.old.labels) }
+    ensures code { OnOk result (Appends draft.old draft.new (words.abs_code (wrap.is_signed ty) ty d.number a.number)) }
+{
+    if is_signed(ty) {
+        draft.put(add_sub(AddSubOp::Subs, scratch(), zero(), a))?;
+        let word = select(SelectOp::Csel, d, scratch(), Cond::Ge, a);
+        emit_settled(draft, word, true, ty, d)?;
+        Ok(())
+    } else {
+        emit_copy(draft, d, a)?;
+        Ok(())
+    }
+}
+
+// The code of an operator with one operand.
+fn emit_unary(
+    draft: &mut Draft,
+    op: UnaryOp,
+    leaves: bool,
+    ty: Ty,
+    d: Reg,
+    a: Reg,
+) -> Result<(), AllocError>
+    ensures labels { OnOk result (draft.new.labels ≡ draft.old.labels) }
+    ensures code { OnOk result (Appends draft.old draft.new (words.unary_code leaves op ty d.number a.number)) }
+{
+    match op {
+        UnaryOp::Neg => {
+            let word = add_sub(AddSubOp::Sub, d, zero(), a);
+            emit_settled(draft, word, leaves, ty, d)?;
+            Ok(())
+        }
+        UnaryOp::Flip => {
+            let word = logical(LogicalOp::Orn, d, zero(), a);
+            emit_settled(draft, word, leaves, ty, d)?;
+            Ok(())
+        }
+        UnaryOp::Abs => emit_abs(draft, ty, d, a),
+    }
+}
+
+// The code of a shift by a constant.
+fn emit_shift(
+    draft: &mut Draft,
+    leaves: bool,
+    left: bool,
+    count: i128,
+    ty: Ty,
+    d: Reg,
+    a: Reg,
+) -> Result<(), AllocError>
+    ensures labels { OnOk result (draft.new.labels ≡ draft.old.labels) }
+    ensures code { OnOk result (Appends draft.old draft.new (words.shift_code leaves left count ty d.number a.number)) }
+{
+    draft.put(shifted(left, is_signed(ty), shift_count(count), d, a))?;
+    emit_settle(draft, leaves, ty, d)?;
+    Ok(())
+}
+
+// Whether the sides of a comparison are of a signed type.
+fn signed_side(want: Option<Ty>) -> bool
+    ensures { result ≡ code.signed_side want }
+{
+    match want {
+        None => false,
+        Some(ty) => is_signed(ty),
+    }
+}
+
+/// A branch to a label where the truth of a comparison is `sense`.
+pub fn emit_branch(
+    draft: &mut Draft,
+    op: CompareOp,
+    sense: bool,
+    want: Option<Ty>,
+    number: Option<u64>,
+    a: Reg,
+    b: Reg,
+    to: Label,
+) -> Result<(), AllocError>
+    requires { to < draft.old.labels }
+    ensures labels { OnOk result (draft.new.labels ≡ draft.old.labels) }
+    ensures code { OnOk result (Appends draft.old draft.new
+        (words.branch_code op sense (code.signed_side want) number a.number b.number to)) }
+{
+    let signed = signed_side(want);
+    match zero_test(op, number) {
+        Some(zero) => {
+            draft.branch(zero_branch(same_sense(sense, zero), a), to)?;
+            Ok(())
+        }
+        None => {
+            draft.put(compare_word(number, a, b))?;
+            draft.branch(BranchKind::If(turned(sense, op, signed)), to)?;
+            Ok(())
+        }
+    }
+}
+
+// Whether a truth is `sense`.
+fn same_sense(sense: bool, truth: bool) -> bool
+    ensures { result ≡ words.same_sense sense truth }
+{
+    if sense { truth } else { !truth }
+}
+
+// A branch where a register is zero, or where it is not.
+fn zero_branch(zero: bool, r: Reg) -> BranchKind
+    ensures register { has_register (kind_view result) ≡ true }
+    ensures kind { kind_view result ≡ words.zero_kind zero r.number }
+{
+    if zero {
+        BranchKind::Zero(r.number)
+    } else {
+        BranchKind::NotZero(r.number)
+    }
+}
+
+/// A choice by the flags of a comparison.
+pub fn emit_chosen(
+    draft: &mut Draft,
+    op: CompareOp,
+    want: Option<Ty>,
+    d: Reg,
+    a: Reg,
+    b: Reg,
+) -> Result<(), AllocError>
+    ensures labels { OnOk result (draft.new.labels ≡ draft.old.labels) }
+    ensures code { OnOk result ((rest : List plain.Entry)
+        → draft.new.entries ++ rest ≡ draft.old.entries
+        ++ plain.ins table.csel (d.number ∷ a.number ∷ common.condition op (code.signed_side want) ∷ b.number ∷ []) ∷ rest) }
+{
+    draft.put(select(SelectOp::Csel, d, a, condition(op, signed_side(want)), b))?;
+    Ok(())
+}
+
+/// The first of two values into a register where the code before goes on, and the second where it goes to a label.
+pub fn emit_pick(
+    draft: &mut Draft,
+    d: Reg,
+    a: Reg,
+    b: Reg,
+    other: Label,
+    end: Label,
+) -> Result<(), AllocError>
+    requires next { end ≡ other + 1 }
+    requires given { end < draft.old.labels }
+    ensures labels { OnOk result (draft.new.labels ≡ draft.old.labels) }
+    ensures code { OnOk result (Appends draft.old draft.new (words.pick_code d.number a.number b.number other)) }
+{
+    emit_copy(draft, d, a)?;
+    draft.branch(BranchKind::Always, end)?;
+    draft.place(other)?;
+    emit_copy(draft, d, b)?;
+    draft.place(end)?;
+    Ok(())
+}
+
+/// The place of a label, where it is wanted.
+pub fn emit_placed(draft: &mut Draft, wanted: bool, label: Label) -> Result<(), AllocError>
+    requires { label < draft.old.labels }
+    ensures labels { OnOk result (draft.new.labels ≡ draft.old.labels) }
+    ensures code { OnOk result (Appends draft.old draft.new (words.placed_code wanted label)) }
+{
+    if wanted {
+        draft.place(label)?;
+    }
+    Ok(())
+}
+
+// The code of an operator, of which a number that its word holds may be the right side.
+fn emit_operator(
+    draft: &mut Draft,
+    op: BinaryOp,
+    number: Option<u64>,
+    leaves: bool,
+    ty: Ty,
+    d: Reg,
+    a: Reg,
+    b: Reg,
+) -> Result<(), AllocError>
+    ensures labels { OnOk result (draft.new.labels ≡ draft.old.labels) }
+    ensures code { OnOk result (Appends draft.old draft.new
+        (words.operator_code number leaves op ty d.number a.number b.number)) }
+{
+    match number {
+        None => {
+            emit_operation(draft, op, is_signed(ty), d, a, b)?;
+            emit_settle(draft, leaves, ty, d)?;
+            Ok(())
+        }
+        Some(number) => {
+            let word = sum_word(op, number, d, a);
+            emit_settled(draft, word, leaves, ty, d)?;
+            Ok(())
+        }
+    }
+}
+
+/// The same where a type is wanted.
+pub fn want_operator(
+    draft: &mut Draft,
+    op: BinaryOp,
+    number: Option<u64>,
+    leaves: bool,
+    want: Option<Ty>,
+    d: Reg,
+    a: Reg,
+    b: Reg,
+) -> Result<(), AllocError>
+    ensures labels { OnOk result (draft.new.labels ≡ draft.old.labels) }
+    ensures code { OnOk result ((rest : List plain.Entry)
+        → draft.new.entries ++ rest ≡ draft.old.entries
+        ++ common.at_type want (λ t. words.operator_code number leaves op t d.number a.number b.number rest) rest) }
+{
+    match want {
+        None => Ok(()),
+        Some(ty) => emit_operator(draft, op, number, leaves, ty, d, a, b),
+    }
+}
+
+/// The same where a type is wanted.
+pub fn want_unary(
+    draft: &mut Draft,
+    op: UnaryOp,
+    leaves: bool,
+    want: Option<Ty>,
+    d: Reg,
+    a: Reg,
+) -> Result<(), AllocError>
+    ensures labels { OnOk result (draft.new.labels ≡ draft.old.labels) }
+    ensures code { OnOk result ((rest : List plain.Entry)
+        → draft.new.entries ++ rest ≡ draft.old.entries
+        ++ common.at_type want (λ t. words.unary_code leaves op t d.number a.number rest) rest) }
+{
+    match want {
+        None => Ok(()),
+        Some(ty) => emit_unary(draft, op, leaves, ty, d, a),
+    }
+}
+
+/// The same where a type is wanted.
+pub fn want_shift(
+    draft: &mut Draft,
+    leaves: bool,
+    left: bool,
+    count: i128,
+    want: Option<Ty>,
+    d: Reg,
+    a: Reg,
+) -> Result<(), AllocError>
+    ensures labels { OnOk result (draft.new.labels ≡ draft.old.labels) }
+    ensures code { OnOk result ((rest : List plain.Entry)
+        → draft.new.entries ++ rest ≡ draft.old.entries
+        ++ common.at_type want (λ t. words.shift_code leaves left count t d.number a.number rest) rest) }
+{
+    match want {
+        None => Ok(()),
+        Some(ty) => {
+            emit_shift(draft, leaves, left, count, ty, d, a)?;
+            Ok(())
+        }
+    }
+}
+
+// The same, of which no more than the low bits of the type may be asked for.
+fn emit_convert(
+    draft: &mut Draft,
+    low: bool,
+    from: Ty,
+    ty: Ty,
+    d: Reg,
+    a: Reg,
+) -> Result<(), AllocError>
+    ensures labels { OnOk result (draft.new.labels ≡ draft.old.labels) }
+    ensures code { OnOk result (Appends draft.old draft.new
+        (common.word_code (words.convert_word low from ty d.number a.number))) }
+{
+    if low {
+        emit_copy(draft, d, a)?;
+        Ok(())
+    } else {
+        emit_cast(draft, from, ty, d, a)?;
+        Ok(())
+    }
+}
+
+/// A cast, where its operand has a type.
+pub fn want_cast(
+    draft: &mut Draft,
+    low: bool,
+    from: Option<Ty>,
+    ty: Ty,
+    d: Reg,
+    a: Reg,
+) -> Result<(), AllocError>
+    ensures labels { OnOk result (draft.new.labels ≡ draft.old.labels) }
+    ensures code { OnOk result ((rest : List plain.Entry)
+        → draft.new.entries ++ rest ≡ draft.old.entries
+        ++ common.at_type from (λ s. common.word_code (words.convert_word low s ty d.number a.number) rest) rest) }
+{
+    match from {
+        None => Ok(()),
+        Some(from) => emit_convert(draft, low, from, ty, d, a),
+    }
+}
+
+/// The word of a stream index, if it takes one, and the register that holds the index.
+pub fn emit_offset(draft: &mut Draft, moved: Option<Word>) -> Result<Reg, AllocError>
+    requires plain { words.IsPlainIf (option_map word_view moved) }
+    ensures register { IfOk result (λ r. r.number ≡ words.index_register (option_map word_view moved)) }
+    ensures labels { OnOk result (draft.new.labels ≡ draft.old.labels) }
+    ensures code { OnOk result (Appends draft.old draft.new (common.word_code (option_map word_view moved))) }
+{
+    match moved {
+        None => Ok(index()),
+        Some(moved) => {
+            draft.put(moved)?;
+            Ok(scratch())
+        }
+    }
+}
+
+/// A load, where the elements have a type.
+pub fn emit_load(
+    draft: &mut Draft,
+    ty: Option<Ty>,
+    d: Reg,
+    p: Reg,
+    r: Reg,
+) -> Result<(), AllocError>
+    ensures labels { OnOk result (draft.new.labels ≡ draft.old.labels) }
+    ensures code { OnOk result (Appends draft.old draft.new (words.load_code ty d.number p.number r.number)) }
+{
+    match ty {
+        None => Ok(()),
+        Some(ty) => {
+            draft.put(load(ty, d, p, r))?;
+            Ok(())
+        }
+    }
+}

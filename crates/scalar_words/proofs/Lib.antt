@@ -1,0 +1,17 @@
+pub mod RegisterAmong
+pub mod Words
+pub mod LayoutStates
+pub mod WordsRuns
+pub mod Constants
+pub mod Compare
+pub mod Truths
+pub mod AssignedOf
+pub mod ChosenOf
+pub mod Layouts
+pub mod Present
+pub mod SpreadOf
+pub mod NameHomes
+pub mod KernelNames
+pub mod Binary
+pub mod WordCounts
+pub mod Pieces

@@ -1,0 +1,32 @@
+-- What contracts see of the layout and of the homes.
+use Rattle.std.specs.Prelude.{ℕ, List, map, Option, Some, None, option_map, Bool, bytes_eq}
+use Rattle.std.specs.List.{find}
+use Rattle.word_rows.specs.declared.Bits.{Bits}
+use Rattle.kernel_scope.specs.Scopes.{lent_text}
+use Rattle.scalar_words.specs.declared.home.Home.{Home}
+use Rattle.scalar_words.specs.Layout as plain
+
+abbrev pub register_number : Bits 5 → ℕ
+register_number r = r.number
+
+abbrev pub layout_of : List (Bits 5) → List ℕ → plain.Layout
+layout_of regs untils = record { regs = map register_number regs; untils = untils }
+
+abbrev pub home_of : Home → plain.Home
+home_of h = record { name = lent_text h.name; register = h.register.number; last_use = h.last_use }
+
+abbrev pub homes_of : List Home → plain.Homes
+homes_of hs = map home_of hs
+
+abbrev pub named : List ℕ → Home → Bool
+named x h = bytes_eq (lent_text h.name) x
+
+abbrev pub register_in : Home → Bits 5
+register_in h = h.register
+
+abbrev pub register_among : List Home → List ℕ → Option (Bits 5)
+register_among hs x = option_map register_in (find (named x) hs)
+
+abbrev pub number_or_31 : Option (Bits 5) → ℕ
+number_or_31 None = 31
+number_or_31 (Some r) = r.number

@@ -1,0 +1,14 @@
+//! The registers of a kernel's values and names, and the words of constants and of operators with two operands.
+#![tactic(auto)]
+
+mod home;
+pub mod instructions;
+pub mod laws;
+pub mod names;
+pub mod operations;
+pub mod places;
+
+pub use home::{Home, register_at, register_named};
+pub use names::kernel_homes;
+pub use operations::{emit_binary, emit_const, emit_settle, update_operator};
+pub use places::Places;

@@ -1,0 +1,208 @@
+//! Emits the code of constants and of operators with two operands, which are in registers.
+
+ghost use Rattle.std.specs.Prelude.{◌≡◌, ◌<◌, ◌+◌, List, [], ◌∷◌, ◌++◌, OnOk, ◌^◌};
+ghost use Rattle.scalar_words.specs.Drafts.{Appends};
+ghost use Rattle.label_fix.specs.DraftRun as plain;
+ghost use Rattle.scalar_words.specs.Words as words;
+ghost use Rattle.scalar_words.specs.Operands as operands;
+ghost use Rattle.kernel_meaning.specs.Operators as operators;
+
+use crate::instructions::{
+    add_sub, copy, extending, filler, has_ones, is_narrow, operation_word, wide,
+};
+use a64_code::{AddSubOp, MoveWideOp, Reg, zero};
+use kernel_meaning::{binary_leaves, is_signed};
+use kernel_tree::{BinaryOp, Ty, UpdateOp};
+use label_fix::Draft;
+use std::alloc::AllocError;
+
+/// A register into another one, where they differ.
+pub fn emit_copy(draft: &mut Draft, d: Reg, a: Reg) -> Result<(), AllocError>
+    ensures labels { OnOk result (draft.new.labels ≡ draft.old.labels) }
+    ensures code { OnOk result (Appends draft.old draft.new (words.word_code (words.copy_word d.number a.number))) }
+{
+    if d.number == a.number {
+        Ok(())
+    } else {
+        draft.put(copy(d, a))?;
+        Ok(())
+    }
+}
+
+/// What an operation gave in a register, extended in place where it may have left the extended form.
+pub fn emit_settle(draft: &mut Draft, leaves: bool, ty: Ty, d: Reg) -> Result<(), AllocError>
+    ensures labels { OnOk result (draft.new.labels ≡ draft.old.labels) }
+    ensures code { OnOk result (Appends draft.old draft.new
+        (words.word_code (words.settle_word leaves ty d.number))) }
+{
+    if leaves && is_narrow(ty) {
+        draft.put(extending(ty, d, d))?;
+    }
+    Ok(())
+}
+
+// The first half of a constant.
+fn emit_start(
+    draft: &mut Draft,
+    ones: bool,
+    d: Reg,
+    half: u32,
+    place: u32,
+) -> Result<(), AllocError>
+    requires half { half < 65536 }
+    requires place { place < 4 }
+    ensures labels { OnOk result (draft.new.labels ≡ draft.old.labels) }
+    ensures code { OnOk result (Appends draft.old draft.new (words.start_code ones d.number half place)) }
+{
+    if ones {
+        draft.put(wide(MoveWideOp::Movn, d, 65535 - half, place))?;
+        Ok(())
+    } else {
+        draft.put(wide(MoveWideOp::Movz, d, half, place))?;
+        Ok(())
+    }
+}
+
+// A further half.
+fn emit_half(draft: &mut Draft, ones: bool, d: Reg, half: u32, place: u32) -> Result<(), AllocError>
+    requires half { half < 65536 }
+    requires place { place < 4 }
+    ensures labels { OnOk result (draft.new.labels ≡ draft.old.labels) }
+    ensures code { OnOk result (Appends draft.old draft.new
+        (words.word_code (words.half_word d.number (words.filler ones) half place))) }
+{
+    if half == filler(ones) {
+        Ok(())
+    } else {
+        draft.put(wide(MoveWideOp::Movk, d, half, place))?;
+        Ok(())
+    }
+}
+
+// The last two halves.
+fn emit_last_two(draft: &mut Draft, ones: bool, d: Reg, h2: u32, h3: u32) -> Result<(), AllocError>
+    requires h2 { h2 < 65536 }
+    requires h3 { h3 < 65536 }
+    ensures labels { OnOk result (draft.new.labels ≡ draft.old.labels) }
+    ensures code { OnOk result ((rest : List plain.Entry)
+        → draft.new.entries ++ rest ≡ draft.old.entries
+        ++ words.word_code (words.half_word d.number (words.filler ones) h2 2)
+        (words.word_code (words.half_word d.number (words.filler ones) h3 3) rest)) }
+{
+    emit_half(draft, ones, d, h2, 2)?;
+    emit_half(draft, ones, d, h3, 3)?;
+    Ok(())
+}
+
+// A constant by its halves.
+fn emit_halves(
+    draft: &mut Draft,
+    ones: bool,
+    d: Reg,
+    h0: u32,
+    h1: u32,
+    h2: u32,
+    h3: u32,
+) -> Result<(), AllocError>
+    requires h0 { h0 < 65536 }
+    requires h1 { h1 < 65536 }
+    requires h2 { h2 < 65536 }
+    requires h3 { h3 < 65536 }
+    ensures labels { OnOk result (draft.new.labels ≡ draft.old.labels) }
+    ensures code { OnOk result (Appends draft.old draft.new (words.halves_code ones d.number h0 h1 h2 h3)) }
+{
+    let filler = filler(ones);
+    if h0 != filler {
+        emit_start(draft, ones, d, h0, 0)?;
+        emit_half(draft, ones, d, h1, 1)?;
+        emit_last_two(draft, ones, d, h2, h3)?;
+        Ok(())
+    } else if h1 != filler {
+        emit_start(draft, ones, d, h1, 1)?;
+        emit_last_two(draft, ones, d, h2, h3)?;
+        Ok(())
+    } else if h2 != filler {
+        emit_start(draft, ones, d, h2, 2)?;
+        emit_half(draft, ones, d, h3, 3)?;
+        Ok(())
+    } else if h3 != filler {
+        emit_start(draft, ones, d, h3, 3)?;
+        Ok(())
+    } else {
+        emit_start(draft, ones, d, h0, 0)?;
+        Ok(())
+    }
+}
+
+/// A constant into a register, by the fewest words.
+pub fn emit_const(draft: &mut Draft, d: Reg, value: u64) -> Result<(), AllocError>
+    ensures labels { OnOk result (draft.new.labels ≡ draft.old.labels) }
+    ensures code { OnOk result (Appends draft.old draft.new (words.const_code d.number value)) }
+{
+    let h0 = (value % 65536) as u32;
+    let h1 = (value / 65536 % 65536) as u32;
+    let h2 = (value / 4294967296 % 65536) as u32;
+    let h3 = (value / 281474976710656 % 65536) as u32;
+    emit_halves(draft, has_ones(h0, h1, h2, h3), d, h0, h1, h2, h3)?;
+    Ok(())
+}
+
+// The comparison that comes before the word of a minimum or a maximum.
+fn emit_ordering(draft: &mut Draft, op: BinaryOp, a: Reg, b: Reg) -> Result<(), AllocError>
+    ensures labels { OnOk result (draft.new.labels ≡ draft.old.labels) }
+    ensures code { OnOk result (Appends draft.old draft.new (operands.test_code op a.number b.number)) }
+{
+    if matches!(op, BinaryOp::Min | BinaryOp::Max) {
+        draft.put(add_sub(AddSubOp::Subs, zero(), a, b))?;
+    }
+    Ok(())
+}
+
+/// The words of an operator with two operands, before its result is settled.
+pub fn emit_operation(
+    draft: &mut Draft,
+    op: BinaryOp,
+    signed: bool,
+    d: Reg,
+    a: Reg,
+    b: Reg,
+) -> Result<(), AllocError>
+    ensures labels { OnOk result (draft.new.labels ≡ draft.old.labels) }
+    ensures code { OnOk result (Appends draft.old draft.new
+        (words.operation_code op signed d.number a.number b.number)) }
+{
+    emit_ordering(draft, op, a, b)?;
+    draft.put(operation_word(op, signed, d, a, b))?;
+    Ok(())
+}
+
+/// The code of an operator with two operands.
+pub fn emit_binary(
+    draft: &mut Draft,
+    op: BinaryOp,
+    ty: Ty,
+    d: Reg,
+    a: Reg,
+    b: Reg,
+) -> Result<(), AllocError>
+    ensures labels { OnOk result (draft.new.labels ≡ draft.old.labels) }
+    ensures code { OnOk result (Appends draft.old draft.new (words.binary_code op ty d.number a.number b.number)) }
+{
+    emit_operation(draft, op, is_signed(ty), d, a, b)?;
+    emit_settle(draft, binary_leaves(op), ty, d)?;
+    Ok(())
+}
+
+/// The operator that an update applies.
+pub fn update_operator(op: UpdateOp) -> BinaryOp
+    ensures { result ≡ operators.operator_of op }
+{
+    match op {
+        UpdateOp::Add => BinaryOp::Add,
+        UpdateOp::And => BinaryOp::And,
+        UpdateOp::Or => BinaryOp::Or,
+        UpdateOp::Xor => BinaryOp::Xor,
+        UpdateOp::Min => BinaryOp::Min,
+        UpdateOp::Max => BinaryOp::Max,
+    }
+}

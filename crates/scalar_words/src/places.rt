@@ -1,0 +1,150 @@
+//! Where the values of items are kept.
+
+ghost use Rattle.std.specs.Prelude.{◌≡◌, ℕ, ◌+◌, ◌<◌, ◌≤◌, ◌^◌, List, [], ◌∷◌, ◌++◌, IfOk, OnOk, length, map, unwrap_or};
+ghost use Rattle.loop_form.specs.Listing.{listing_of};
+ghost use Rattle.loop_form.specs.View.{program};
+ghost use Rattle.reg_assign.specs.declared.interval.RegClass.TheVariants.{X};
+ghost use Rattle.reg_assign.specs.Registers.{IsAssignment};
+ghost use Rattle.loop_form.specs.Registers.{FitsKernel};
+ghost use Rattle.scalar_words.specs.Layout.{reg_of, last_use_at};
+ghost use Rattle.scalar_words.specs.KernelRegisters.{counted_x, register_in, one_reg, one_value, count_values, item_regs, item_last_use, layout_of_kernel};
+
+use crate::laws::each_has_a_register;
+use a64_code::Reg;
+use kernel_tree::Checked;
+use loop_form::Item;
+use loop_form::laws::few_items;
+use reg_assign::Assigned;
+use std::alloc::{AllocError, Global};
+use std::marker::Model;
+use word_rows::Bits;
+
+/// The register and the last use of each item.
+#[derive(Drop)]
+pub struct Places {
+    regs: Vec<Reg>,
+    untils: Vec<usize>,
+}
+
+impl Model for Places {
+    ghost use Rattle.scalar_words.specs.Layout.{Layout};
+    ghost use Rattle.scalar_words.specs.View.{layout_of};
+
+    ghost Value = { Layout };
+
+    ghost view = { λ p. layout_of p.regs.items p.untils.items };
+}
+
+impl Places {
+    /// The register of an item.
+    pub fn reg(&self, item: usize) -> Reg
+        ensures { result.number ≡ reg_of self.now item }
+    {
+        match self.regs.get(item) {
+            Some(r) => *r,
+            None => Bits { number: 0 },
+        }
+    }
+
+    /// The last use of an item.
+    pub fn last_use(&self, item: usize) -> usize
+        ensures { result ≡ last_use_at self.now item }
+    {
+        match self.untils.get(item) {
+            Some(r) => *r,
+            None => 0,
+        }
+    }
+}
+
+/// The register of an interval, by the numbers of the registers of all of them: X10 to X17 and X19 to X25 are counted.
+pub fn counted_register(regs: &Assigned, interval: usize) -> Reg
+    requires assigned { IsAssignment 15 regs.now }
+    requires within { interval < length regs.now.registers }
+    ensures { result.number ≡ counted_x (register_in regs.now interval) }
+{
+    let number = regs.register(interval);
+    if number < 8 {
+        Bits {
+            number: 10 + number,
+        }
+    } else {
+        Bits {
+            number: 11 + number,
+        }
+    }
+}
+
+// One more item, whose value has the next interval if it makes one.
+fn add_item(
+    places: &mut Places,
+    regs: &Assigned,
+    interval: &mut usize,
+    last_use: Option<u32>,
+) -> Result<(), AllocError>
+    requires assigned { IsAssignment 15 regs.now }
+    requires within { interval.old + one_value last_use ≤ length regs.now.registers }
+    requires room { interval.old + 1 < 2 ^ 64 }
+    ensures regs { OnOk result ((more : ℕ → List ℕ)
+        → places.new.regs ++ more interval.new
+        ≡ places.old.regs ++ one_reg (register_in regs.now) interval.old last_use more) }
+    ensures untils { OnOk result (places.new.untils ≡ places.old.untils ++ unwrap_or last_use 0 ∷ []) }
+    ensures next { OnOk result (interval.new ≡ interval.old + one_value last_use) }
+{
+    match last_use {
+        None => {
+            places.regs.push(Bits { number: 0 })?;
+            places.untils.push(0)?;
+            Ok(())
+        }
+        Some(last_use) => {
+            places.regs.push(counted_register(regs, *interval))?;
+            places.untils.push(last_use as usize)?;
+            *interval += 1;
+            Ok(())
+        }
+    }
+}
+
+// Items the first interval of which has this number.
+fn place_items(
+    alloc: Global,
+    regs: &Assigned,
+    first: usize,
+    items: &[Item],
+) -> Result<Places, AllocError>
+    requires assigned { IsAssignment 15 regs.now }
+    requires within { first + count_values items.now ≤ length regs.now.registers }
+    requires room { first ≤ 1000 }
+    ensures regs { IfOk result (λ p. p.regs ≡ item_regs (register_in regs.now) first items.now) }
+    ensures untils { IfOk result (λ p. p.untils ≡ map item_last_use items.now) }
+{
+    let mut places = Places {
+        regs: Vec::new(alloc),
+        untils: Vec::new(alloc),
+    };
+    let mut interval = first;
+    for item in items {
+        add_item(&mut places, regs, &mut interval, item.x_last_use)?;
+    }
+    Ok(places)
+}
+
+/// The registers and last uses of a kernel's items, by its listing and the registers of its intervals of class X.
+#[tactic(auto, unfolding(loop_form::specs::View::program))]
+pub fn places_of(
+    alloc: Global,
+    kernel: &Checked,
+    items: &[Item],
+    regs: &Assigned,
+) -> Result<Places, AllocError>
+    requires fits { FitsKernel (program kernel.now) X regs.now }
+    requires listed { items.now ≡ listing_of (program kernel.now) }
+    ensures { IfOk result (λ p. p ≡ layout_of_kernel (register_in regs.now) (program kernel.now)) }
+{
+    few_items(kernel);
+    each_has_a_register(kernel, regs);
+    let vars = kernel.kernel().vars.len();
+    let places = place_items(alloc, regs, vars, items)?;
+    Ok(places)
+}
