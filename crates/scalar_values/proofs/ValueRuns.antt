@@ -34,13 +34,15 @@ use Rattle.scalar_words.proofs.LayoutStates.{AreRanged, Assigned, Kept, AreSafe,
 use Rattle.scalar_words.proofs.WordsRuns.{Gets, gets, more, copied_sets}
 use Rattle.scalar_values.proofs.Loads.{Gives, no_value, a_value, load_runs, index_runs}
 use Rattle.scalar_words.proofs.Constants.{word_back, const_back, const_runs}
-use Rattle.scalar_values.proofs.Operators.{operator_runs, unary_runs, shift_runs, cast_runs}
+use Rattle.scalar_values.proofs.Operators.{operation_runs, unary_runs, shift_runs, cast_runs}
+use Rattle.scalar_values.proofs.Staying.{and_true, unary_keeps, binary_keeps, shift_keeps}
 use Rattle.scalar_words.proofs.Words.{InRange, in_range}
 use Rattle.scalar_values.specs.declared.extent.Extent.{Extent}
-use Rattle.scalar_values.specs.Extents.{Whole, within_type, within, unary_joins, binary_extent, unary_extent, leaves_at, shift_extent, fits_at, converted_extent, settles}
+use Rattle.scalar_values.specs.Extents.{Whole, within_type, within, unary_joins, fits_at, converted_extent, settles}
+use Rattle.scalar_values.specs.Leaving.{unary_may_leave, binary_may_leave, shift_may_leave, unary_asks, binary_asks, shift_asks, unary_settles, binary_settles, shift_settles}
 use Rattle.scalar_words.specs.Operands.{binary_joins}
 use Rattle.scalar_values.proofs.Loose.{loose_binary, loose_unary, loose_shift, loose_cast, loose, whole_is}
-use Rattle.scalar_values.proofs.Ranges.{value-range, fits_cast}
+use Rattle.scalar_values.proofs.Ranges.{value-range, fits_types}
 use Rattle.kernel_tree.specs.declared.ops.Ty.TheVariants as ty
 use Rattle.kernel_tree.specs.declared.ops.BinaryOp.TheVariants as binary
 use Rattle.kernel_tree.specs.declared.ops.UnaryOp.TheVariants as unary
@@ -65,12 +67,15 @@ LooseRuns D L e hs s names m st w b user n rest want =
 -- where the whole value is asked for, it is the value
 exact : {D : Laid} {L : Layout} {st : State} {rest : List Entry} (hs : Homes) (b user n : ℕ) (e : Term) (s : Scope) (names : Names) (m : Memory) (want : Option Ty) → AreRanged s.visible names → LooseRuns D L e hs s names m st Whole b user n rest want → Runs D L e hs s names m st b user n rest want
 exact {D = D} {L = L} {st = st} {rest = rest} hs b user n e s names m want ranged k fits res =
-    subst (λ o. Gives D L (value_code L hs s want b n e rest) st rest b (b + term_size s.index e) (home L hs s.index b e) m (4 * term_size s.index e) o) (whole_is s m names ranged e want (fits_cast e L hs s want b user fits)) (k fits res)
+    subst (λ o. Gives D L (value_code L hs s want b n e rest) st rest b (b + term_size s.index e) (home L hs s.index b e) m (4 * term_size s.index e) o) (whole_is s m names ranged e want (fits_types e L hs s want b user fits)) (k fits res)
 
--- an operand of which the whole value is asked for is of its type
+-- an operand of which the whole value is asked for is the value, and of its type
+loose_value : (w : Extent) (L : Layout) (hs : Homes) (s : Scope) (names : Names) (m : Memory) (e : Term) (T : Ty) (b user : ℕ) (v : ℤ) → Fits L hs s (Some T) b user e → AreRanged s.visible names → loose s w (Some T) e m names ≡ Some v → w ≡ Whole → value s (Some T) e m names ≡ Some v
+loose_value w L hs s names m e T b user v fits ranged is whole =
+    sym (whole_is s m names ranged e (Some T) (fits_types e L hs s (Some T) b user fits)) ∙ subst (λ w. loose s w (Some T) e m names ≡ Some v) whole is
+
 loose_range : (w : Extent) (L : Layout) (hs : Homes) (s : Scope) (names : Names) (m : Memory) (e : Term) (T : Ty) (b user : ℕ) (v : ℤ) → Fits L hs s (Some T) b user e → AreRanged s.visible names → loose s w (Some T) e m names ≡ Some v → w ≡ Whole → IsOf T v
-loose_range w L hs s names m e T b user v fits ranged is whole =
-    value-range L hs s names m e T b user v fits ranged (sym (whole_is s m names ranged e (Some T) (fits_cast e L hs s (Some T) b user fits)) ∙ subst (λ w. loose s w (Some T) e m names ≡ Some v) whole is)
+loose_range w L hs s names m e T b user v fits ranged is whole = value-range L hs s names m e T b user v fits ranged (loose_value w L hs s names m e T b user v fits ranged is whole)
 
 first_some : (o : Option Ty) (t : Ty) → IsSome (first o (Some t))
 first_some None t = tt
@@ -320,9 +325,9 @@ module _ (D : Laid) (L : Layout) (fit : Assigned L) where
   choice_back (Some k) flags jump d p q n rest f g h = f _ h
   choice_back None flags jump d p q n rest f g h = (pick_back d p q n rest (g _ h)).1.1
 
-  abs_back : (b : Bool) (t : Ty) (d a : ℕ) (rest : List Entry) → Resolves D (abs_code b t d a rest) → Resolves D rest
-  abs_back true t d a rest h = word_back D (settle_word true t d) rest h
-  abs_back false t d a rest h = word_back D (copy_word d a) rest h
+  abs_back : (leaves b : Bool) (t : Ty) (d a : ℕ) (rest : List Entry) → Resolves D (abs_code leaves b t d a rest) → Resolves D rest
+  abs_back leaves true t d a rest h = word_back D (settle_word leaves t d) rest h
+  abs_back leaves false t d a rest h = word_back D (copy_word d a) rest h
 
   cast_back : (low : Bool) (from : Option Ty) (t : Ty) (d a : ℕ) (rest : List Entry) → Resolves D (at_type from (λ u. word_code (convert_word low u t d a) rest) rest) → Resolves D rest
   cast_back low None t d a rest h = h
@@ -332,7 +337,7 @@ module _ (D : Laid) (L : Layout) (fit : Assigned L) where
   unary_back leaves None op d a rest h = h
   unary_back leaves (Some t) unary.Neg d a rest h = word_back D (settle_word leaves t d) rest h
   unary_back leaves (Some t) unary.Flip d a rest h = word_back D (settle_word leaves t d) rest h
-  unary_back leaves (Some t) unary.Abs d a rest h = abs_back (is_signed t) t d a rest h
+  unary_back leaves (Some t) unary.Abs d a rest h = abs_back leaves (is_signed t) t d a rest h
 
   shift_back : (leaves : Bool) (want : Option Ty) (left : Bool) (n : ℤ) (d a : ℕ) (rest : List Entry) → Resolves D (at_type want (λ t. shift_code leaves left n t d a rest) rest) → Resolves D rest
   shift_back leaves None left n d a rest h = h
@@ -363,9 +368,9 @@ module _ (D : Laid) (L : Layout) (fit : Assigned L) where
     loose_back (Literal z) hs s w want b n rest h = const_back D (reg_of L b) (word (wrapped want z)) rest h
     loose_back (Variable x) hs s w want b n rest h = h
     loose_back (Element a i) hs s w want b n rest h = load_back _ _ _ _ rest (number_back (stream_offset s.index i) _ _ (loose_back i hs s Whole (index_type s i) b n _) h)
-    loose_back (Unary op e) hs s w want b n rest h = unary_back (settles (within w want) (unary_joins op) (leaves_at op want)) want op _ _ rest (loose_back e hs s (unary_extent op w want) want b n _ h)
-    loose_back (Operation op x y) hs s w want b n rest h = operator_back (added_number op want y) (settles (within w want) (binary_joins op) (binary_leaves op)) want op _ _ _ rest (right_back (added_number op want y) _ _ (loose_back y hs s (binary_extent op w want) want _ _ _) (loose_back x hs s (binary_extent op w want) want b n _ h))
-    loose_back (Shift left e z) hs s w want b n rest h = shift_back (settles (within w want) left left) want left z _ _ rest (loose_back e hs s (shift_extent left w want) want b n _ h)
+    loose_back (Unary op e) hs s w want b n rest h = unary_back (unary_settles s want op e w) want op _ _ rest (loose_back e hs s (unary_asks s want op e w) want b n _ h)
+    loose_back (Operation op x y) hs s w want b n rest h = operator_back (added_number op want y) (binary_settles s want op x y w) want op _ _ _ rest (right_back (added_number op want y) _ _ (loose_back y hs s (binary_asks s want op x y w) want _ _ _) (loose_back x hs s (binary_asks s want op x y w) want b n _ h))
+    loose_back (Shift left e z) hs s w want b n rest h = shift_back (shift_settles s want left e z w) want left z _ _ rest (loose_back e hs s (shift_asks s want left e z w) want b n _ h)
     loose_back (Conversion e t) hs s w want b n rest h = cast_back (within_type w t) (own s e) t _ _ rest (loose_back e hs s (converted_extent w (own s e) t) (own s e) b n _ h)
     loose_back (Choice c x y) hs s w want b n rest h = choice_back (flag_condition s c) _ _ _ _ _ _ rest (λ r. flags_back c hs s _ _ r) (λ r. jump_back c hs s false _ _ _ r) (loose_back y hs s w want _ _ _ (loose_back x hs s w want b n _ h))
     loose_back (Comparison op x y) hs s w want b n rest h = h
@@ -494,25 +499,29 @@ module _ (D : Laid) (L : Layout) (fit : Assigned L) where
         element_runs s a i T b n rest (stream_offset s.index i) refl h.0 h.1 h.2 (omega (arith, h.3)) safe at res
         (λ rest2. subst (λ w. Runs D L i hs s names m st b (b + term_size s.index i) n rest2 w) (sym q.1) (exact hs b (b + term_size s.index i) n i s names m (Some q.0) at.ranged (loose_runs i s Whole q.0 b (b + term_size s.index i) n rest2 (omega arith) safe at)))
     loose_runs (Unary op e) {hs = hs} s {names = names} {m = m} w T b user n rest le safe at h res =
-        let k1 = unary_extent op w (Some T) in
+        let k1 = unary_asks s (Some T) op e w in
         map_runs (loose_unary op w (Some T)) (4 * (term_size s.index e + 1)) (omega arith) (omega arith) (omega arith)
         (loose_runs e s k1 T b _ n _ (omega arith) safe at h.1 res)
-        (λ t x is k ex. gets D L (b + term_size s.index e) _ _ (omega arith) (omega arith) (omega (arith, h.2)) (unary_runs D L fit op w T x _ _ (k.sized ∙ at.sized) (home_high e hs s (Some T) b (b + term_size s.index e) (omega arith) h.1 safe) (fit.high _ (omega (arith, h.2))) (loose_range k1 L hs s names m e T b _ x h.1 at.ranged is) ex))
+        (λ t x is k ex. gets D L (b + term_size s.index e) _ _ (omega arith) (omega arith) (omega (arith, h.2)) (unary_runs D L fit op (unary_may_leave s (Some T) op e) w T x _ _ (k.sized ∙ at.sized) (home_high e hs s (Some T) b (b + term_size s.index e) (omega arith) h.1 safe) (fit.high _ (omega (arith, h.2))) (loose_range k1 L hs s names m e T b _ x h.1 at.ranged is)
+        (λ whole stays. unary_keeps s m names at.ranged T op e x (fits_types e L hs s (Some T) b _ h.1) (loose_value k1 L hs s names m e T b _ x h.1 at.ranged is whole) (loose_range k1 L hs s names m e T b _ x h.1 at.ranged is whole) stays) ex))
     loose_runs (Operation op x y) {hs = hs} s {names = names} {m = m} w T b user n rest le safe at h res =
         let b1 = b + term_size s.index x in let c = b1 + term_size s.index y in
         let number = added_number op (Some T) y in
-        let k1 = binary_extent op w (Some T) in
+        let k1 = binary_asks s (Some T) op x y w in
         let hx = home_high x hs s (Some T) b c (omega arith) h.1 safe in
         op_runs (loose_binary op w (Some T)) (4 * (term_size s.index x + term_size s.index y + 1)) (omega arith) (omega arith) (omega arith)
         (pair_runs (4 * term_size s.index x + 4 * term_size s.index y) (omega arith) (omega arith) (omega arith) hx (λ p lo up made. home_apart x hs s (Some T) b c (omega arith) h.1 safe p lo up made)
         (loose_runs x s k1 T b c n _ (omega arith) safe at h.1 res)
         (λ t k. right_runs _ (loose s k1 (Some T) y m names) number (added_right op s k1 (Some T) y m names) (loose_back x hs s k1 (Some T) b n _ res) (λ r. loose_runs y s k1 T b1 c _ _ (omega arith) (safe_later L hs b b1 (omega arith) safe) (at_kept L fit b b1 (omega arith) safe at k) h.2 r)))
-        (λ t u v is js k ex ey. gets D L c c (b + (term_size s.index x + term_size s.index y + 1)) (omega arith) (omega arith) (omega (arith, h.3)) (operator_runs D L fit number op w T u v _ _ _ (k.sized ∙ at.sized) hx (fit.high _ (omega (arith, h.3))) (λ e. (loose_range k1 L hs s names m x T b c u h.1 at.ranged is e, loose_range k1 L hs s names m y T b1 c v h.2 at.ranged js e)) (added_sum op (Some T) y) ex ey))
+        (λ t u v is js k ex ey. gets D L c c (b + (term_size s.index x + term_size s.index y + 1)) (omega arith) (omega arith) (omega (arith, h.3)) (operation_runs D L fit number op (binary_may_leave s (Some T) op x y) w T u v _ _ _ (k.sized ∙ at.sized) hx (fit.high _ (omega (arith, h.3))) (λ e. and_true (binary_leaves op) _ e) (λ e. (loose_range k1 L hs s names m x T b c u h.1 at.ranged is e, loose_range k1 L hs s names m y T b1 c v h.2 at.ranged js e))
+        (λ e stays. binary_keeps s m names at.ranged T op x y u v (fits_types x L hs s (Some T) b c h.1) (fits_types y L hs s (Some T) b1 c h.2) (loose_value k1 L hs s names m x T b c u h.1 at.ranged is e) (loose_value k1 L hs s names m y T b1 c v h.2 at.ranged js e)
+        (loose_range k1 L hs s names m x T b c u h.1 at.ranged is e) (loose_range k1 L hs s names m y T b1 c v h.2 at.ranged js e) stays) (added_sum op (Some T) y) ex ey))
     loose_runs (Shift left e z) {hs = hs} s {names = names} {m = m} w T b user n rest le safe at h res =
-        let k1 = shift_extent left w (Some T) in
+        let k1 = shift_asks s (Some T) left e z w in
         map_runs (loose_shift left z w (Some T)) (4 * (term_size s.index e + 1)) (omega arith) (omega arith) (omega arith)
         (loose_runs e s k1 T b _ n _ (omega arith) safe at h.1 res)
-        (λ t x is k ex. gets D L (b + term_size s.index e) _ _ (omega arith) (omega arith) (omega (arith, h.2)) (shift_runs D L fit left z w T x _ _ (k.sized ∙ at.sized) (fit.high _ (omega (arith, h.2))) (loose_range k1 L hs s names m e T b _ x h.1 at.ranged is) ex))
+        (λ t x is k ex. gets D L (b + term_size s.index e) _ _ (omega arith) (omega arith) (omega (arith, h.2)) (shift_runs D L fit left (shift_may_leave s (Some T) left e z) z w T x _ _ (k.sized ∙ at.sized) (fit.high _ (omega (arith, h.2))) (λ q. and_true left _ q) (loose_range k1 L hs s names m e T b _ x h.1 at.ranged is)
+        (λ whole stays. shift_keeps s m names at.ranged T left e z x (fits_types e L hs s (Some T) b _ h.1) (loose_value k1 L hs s names m e T b _ x h.1 at.ranged is whole) (loose_range k1 L hs s names m e T b _ x h.1 at.ranged is whole) stays) ex))
     loose_runs (Conversion e t) {hs = hs} s {names = names} {m = m} {st = st} w T b user n rest le safe at h res =
         let q = some_type (own s e) h.1 in
         let c = b + term_size s.index e in

@@ -1,5 +1,6 @@
 pub mod ValueRegisters
 pub mod ItemWords
 pub mod Extents
+pub mod Leaving
 pub mod Code
 pub mod Fits

@@ -4,6 +4,7 @@
 pub mod emit;
 pub mod extent;
 pub mod instructions;
+mod leaving;
 pub mod operations;
 
 pub use emit::{emit_jump, emit_loose, emit_right, emit_value};
