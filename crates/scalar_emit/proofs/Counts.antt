@@ -9,6 +9,7 @@ use Rattle.kernel_tree.specs.Typing.{Scope, lookup, own, first, accumulator_type
 use Rattle.kernel_tree.proofs.Scopes.{index_after, param_index, scope_index}
 use Rattle.kernel_meaning.specs.Operators.{operator_of}
 use Rattle.kernel_meaning.specs.TypeValues.{binary_leaves}
+use Rattle.scalar_values.specs.Extents.{binary_extent}
 use Rattle.scalar_values.specs.declared.extent.Extent.TheVariants.{Whole}
 use Rattle.label_fix.specs.DraftRun.{Entry}
 use Rattle.label_fix.specs.Finished.{size}
@@ -16,7 +17,7 @@ use Rattle.scalar_words.specs.Layout.{Layout, Homes, last_use_at}
 use Rattle.scalar_values.specs.ValueRegisters.{home}
 use Rattle.scalar_words.specs.Words.{copy_word, settle_word, word_code}
 use Rattle.scalar_values.specs.ItemWords.{index_word, store_code}
-use Rattle.scalar_values.specs.Code.{added_number}
+use Rattle.scalar_values.specs.Code.{added_number, is_fused, right_side}
 use Rattle.scalar_emit.specs.Statements.{after_homes, block_labels, put_code, action_code, block_code, otherwise_code}
 use Rattle.scalar_emit.specs.Loop.{answer_code, with_index, loop_code}
 use Rattle.scalar_words.specs.KernelRegisters.{counted_x, var_home, layout_of_kernel, param_homes, kernel_homes}
@@ -24,7 +25,7 @@ use Rattle.scalar_emit.specs.Kernel.{argument_code, arguments_code, vars_code, z
 use Rattle.kernel_scope.specs.Scopes.{after_var}
 use Rattle.label_fix.proofs.PlacedRuns.{size-append as size_append}
 use Rattle.scalar_words.proofs.WordCounts.{within, one_word}
-use Rattle.scalar_values.proofs.ValueCounts.{operator_code_words, right_words, loose_words, jump_words}
+use Rattle.scalar_values.proofs.ValueCounts.{operator_code_words, loose_words, jump_words, side_words, parts_words}
 use Rattle.kernel_tree.specs.declared.ast.Shape.TheVariants as shape
 
 store_words : (o : Option Ty) (d p r : ℕ) (rest : List Entry) (k : ℕ) → size rest ≤ k → size (store_code o d p r rest) ≤ 1 + k
@@ -64,8 +65,9 @@ module _ (L : Layout) where
     action_words (PutTo a i e) hs s exit b n rest k h = within (omega arith) (loose_words L hs e s _ _ b n _ _ (put_words (stream_offset s.index i) _ _ _ rest k h))
     action_words (Update x op e) hs s exit b n rest k h =
         let want = option_and_then accumulator_type (lookup s x) in
-        let number = added_number (operator_of op) want e in
-        within (omega arith) (right_words number (4 * term_size s.index e) _ _ _ (operator_code_words number (binary_leaves (operator_of op)) want (operator_of op) _ _ _ rest k h) (λ g. loose_words L hs e s _ want b n _ _ g))
+        let o = operator_of op in
+        let j = binary_extent o Whole want in
+        within (omega arith) (side_words (added_number o want e) (is_fused o j want e) (4 * term_size s.index e) _ _ _ _ (operator_code_words (right_side L hs s.index o j want b e) (binary_leaves o) want o _ _ rest k h) (λ g. loose_words L hs e s j want b n _ _ g) (λ g. parts_words L hs e s j want b n _ _ g))
     action_words (Choose c blk d) hs s exit b n rest k h =
         within (omega arith) (jump_words L hs c s false _ b _ _ _ (block_words blk hs s exit _ _ _ _ (otherwise_words d hs (left s (after_block s blk)) exit n _ _ rest k h)))
     action_words (Leave c) hs s exit b n rest k h = within (omega arith) (jump_words L hs c s true exit b n _ _ h)

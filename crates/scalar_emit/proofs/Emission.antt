@@ -1,13 +1,22 @@
 -- What emission keeps of names.
-use Rattle.std.proofs.Common.{◌≡◌, ℕ, zero, suc, ◌+◌, List, [], ◌∷◌, ◌++◌, length, take, Some, None, refl, sym, ap, ◌∙◌, arith}
-use Rattle.kernel_tree.specs.Plain.{Block, Parameter, Accumulator, PlainLoop, Program}
+use Rattle.std.proofs.Common.{◌≡◌, Bool, ℕ, zero, suc, ◌+◌, List, [], ◌∷◌, ◌++◌, length, take, Option, Some, None, refl, sym, ap, ◌∙◌, arith}
+use Rattle.kernel_tree.specs.Plain.{Term, Block, Parameter, Accumulator, PlainLoop, Program}
 use Rattle.kernel_tree.specs.Items.{turns_size, loop_index, loop_start, loop_end}
 use Rattle.kernel_tree.specs.Typing.{Scope, first, param_scope, var_scope}
 use Rattle.kernel_tree.proofs.Scopes.{scope_index}
+use Rattle.kernel_tree.specs.declared.ops.Ty.{Ty}
+use Rattle.kernel_tree.specs.declared.ops.BinaryOp.{BinaryOp}
+use Rattle.kernel_meaning.specs.TypeValues.{binary_leaves}
+use Rattle.scalar_words.specs.Words.{at_type}
+use Rattle.scalar_values.specs.declared.extent.Extent.{Extent}
+use Rattle.scalar_values.specs.declared.extent.Extent.TheVariants.{Whole}
+use Rattle.scalar_values.specs.Extents.{binary_extent}
+use Rattle.scalar_values.specs.ItemWords.{Side, operator_code}
+use Rattle.scalar_values.specs.Code.{added_number, is_fused, right_side, side_code, parts_code, loose_code}
 use Rattle.label_fix.specs.DraftRun.{Entry}
 use Rattle.scalar_words.specs.declared.home.Home.{Home as Kept}
-use Rattle.scalar_words.specs.Layout.{Layout, Homes}
-use Rattle.scalar_emit.specs.Statements.{block_homes, block_labels}
+use Rattle.scalar_words.specs.Layout.{Layout, Homes, register_at}
+use Rattle.scalar_emit.specs.Statements.{block_homes, block_labels, update_code}
 use Rattle.scalar_emit.specs.Loop.{turn_code, leave_code}
 use Rattle.scalar_words.specs.KernelRegisters.{layout_of_kernel, param_homes, kernel_homes}
 use Rattle.scalar_emit.specs.Kernel.{arguments_code, vars_code, zero_index, begin_code, straight_code, turns_code, scalar_code}
@@ -52,3 +61,9 @@ straight_is R k L b n rest d e f =
     let z = ap turns_size e in
     let g : b ≡ loop_end k = omega (arith, f, z) in
     rw (d, g) (ap (λ t. turns_code (layout_of_kernel R k) (kernel_homes R k) (var_scope k) t (loop_start k) n (loop_end k) k.answer rest) (sym e))
+
+-- ---- updates
+
+pub update_is : (L : Layout) (hs : Homes) (s : Scope) (b n : ℕ) (x : List ℕ) (op : BinaryOp) (want : Option Ty) (asked : Extent) (e : Term) (side : Side) (leaves : Bool) (d : ℕ) (rest : List Entry) → asked ≡ binary_extent op Whole want → side ≡ right_side L hs s.index op asked want b e → leaves ≡ binary_leaves op → d ≡ register_at hs x
+    → side_code (added_number op want e) (is_fused op asked want e) (loose_code L hs s asked want b n e) (parts_code L hs s asked want b n e) (at_type want (λ t. operator_code side leaves op t d d rest) rest) ≡ update_code L hs s b n x op want e rest
+update_is L hs s b n x op want asked e side leaves d rest e1 e2 e3 e4 = rw (e2, e3, e4, e1) refl

@@ -3,13 +3,14 @@
 ghost use Rattle.std.specs.Prelude.{◌≡◌, ◌+◌, ◌<◌, ◌^◌, true, OnOk};
 ghost use Rattle.kernel_tree.specs.Plain.{Define, Put, Update, Choose, Leave, Nothing, Else, name_of, term_of, action_of, block_of};
 ghost use Rattle.kernel_tree.specs.Parts.{part_action};
-ghost use Rattle.kernel_tree.specs.Items.{action_size, block_size, otherwise_size, stream_offset};
+ghost use Rattle.kernel_tree.specs.Items.{term_size, action_size, block_size, otherwise_size, stream_offset};
 ghost use Rattle.kernel_tree.specs.Kinds.{IsValue, IsTruth, ActionKinds, BlockKinds};
 ghost use Rattle.kernel_scope.specs.Scopes.{scope_of};
 ghost use Rattle.scalar_emit.specs.Statements.{is_effect};
 ghost use Rattle.scalar_words.specs.Drafts.{Appends};
 ghost use Rattle.scalar_words.specs.View.{homes_of};
 ghost use Rattle.kernel_tree.specs.Typing as typing;
+ghost use Rattle.scalar_values.specs.Code as code;
 ghost use Rattle.scalar_values.specs.ItemWords as words;
 ghost use Rattle.scalar_emit.specs.Statements as statements;
 
@@ -19,11 +20,11 @@ use kernel_meaning::binary_leaves;
 use kernel_scope::{
     Scope, accumulator_type, define, element_type, first, leave, lookup, own_type, visible_count,
 };
-use kernel_tree::{Expr, Name, Part, Stmt, Ty, UpdateOp, parts};
+use kernel_tree::{BinaryOp, Expr, Name, Part, Stmt, Ty, UpdateOp, parts};
 use label_fix::{Draft, Label};
-use scalar_values::emit::{emit_jump, emit_loose, emit_right, emit_value};
+use scalar_values::emit::{emit_jump, emit_loose, emit_side, emit_value};
 use scalar_values::extent::{Extent, binary_extent, extent_at};
-use scalar_values::instructions::{added_number, index_word, store};
+use scalar_values::instructions::{index_word, store};
 use scalar_values::operations::{emit_offset, want_operator};
 use scalar_words::operations::{emit_copy, update_operator};
 use scalar_words::places::Places;
@@ -216,13 +217,35 @@ fn emit_update(
 {
     let want = lookup(scope, name).and_then(accumulator_type);
     let op = update_operator(op);
-    let number = added_number(op, want, value);
+    emit_joined(draft, places, homes, scope, name, op, want, value, item)?;
+    Ok(())
+}
+
+// An operator of an accumulator and a value.
+fn emit_joined(
+    draft: &mut Draft,
+    places: &Places,
+    homes: &[Home],
+    scope: &Scope,
+    name: &Name,
+    op: BinaryOp,
+    want: Option<Ty>,
+    value: &Expr,
+    item: &mut usize,
+) -> Result<(), AllocError>
+    requires kind { IsValue (term_of value.now) }
+    requires fits { item.old + (term_size (scope_of scope.now).index (term_of value.now) + 1) < 2 ^ 32 }
+    ensures item { OnOk result (item.new ≡ item.old + (term_size (scope_of scope.now).index (term_of value.now) + 1)) }
+    ensures labels { OnOk result (draft.new.labels
+        ≡ draft.old.labels + code.labels (scope_of scope.now).index (term_of value.now)) }
+    ensures code { OnOk result (Appends draft.old draft.new
+        (statements.update_code places.now (homes_of homes.now) (scope_of scope.now) item.old draft.old.labels
+        (name_of name.now) op want (term_of value.now))) }
+{
     let extent = binary_extent(op, Extent::Whole, want);
-    let from = emit_right(
-        draft, places, homes, scope, extent, want, number, value, item,
-    )?;
+    let side = emit_side(draft, places, homes, scope, op, extent, want, value, item)?;
     let held = register_at(homes, name);
-    want_operator(draft, op, number, binary_leaves(op), want, held, held, from)?;
+    want_operator(draft, op, side, binary_leaves(op), want, held, held)?;
     *item += 1;
     Ok(())
 }

@@ -11,3 +11,5 @@ pub mod FitsOf
 pub mod ValueCounts
 pub mod ValuesPlaced
 pub mod IndexCode
+mod Examples
+pub mod OperatorCode

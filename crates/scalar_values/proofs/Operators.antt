@@ -1,7 +1,8 @@
 -- The code of operators.
-use Rattle.std.proofs.Common.{◌≡◌, ℕ, zero, suc, ◌+◌, ◌-◌, ◌*◌, ◌/◌, ◌%◌, ◌^◌, ◌<◌, ◌≤◌, Bool, true, false, List, [], ◌∷◌, length, Option, Some, None, ⊎_elim, refl, sym, ap, ap₂, ◌∙◌, subst, arith, ltb, length-set, get_or-set_same, get_or-set_other}
-use Rattle.std.specs.Prelude.{ℤ, pos, negsuc, ◌+ℤ◌, ◌-ℤ◌, neg_ℤ, bit_or, int_le, unsigned_abs, nat_lt, nat_eq, if◌then◌else◌}
+use Rattle.std.proofs.Common.{◌≡◌, ℕ, zero, suc, ◌+◌, ◌-◌, ◌*◌, ◌/◌, ◌%◌, ◌^◌, ◌<◌, ◌≤◌, Bool, true, false, List, [], ◌∷◌, length, Some, ⊎_elim, refl, sym, ap, ap₂, ◌∙◌, subst, arith, ltb, length-set, get_or-set_same, get_or-set_other}
+use Rattle.std.specs.Prelude.{ℤ, pos, negsuc, ◌+ℤ◌, ◌-ℤ◌, neg_ℤ, bit_and, bit_or, bit_xor, int_le, unsigned_abs, nat_lt, nat_eq, if◌then◌else◌}
 use Rattle.std.proofs.lemmas.List.{get_or_past}
+use Rattle.std.proofs.lemmas.Nat.{or_lt, xor_lt, and_le_l}
 use Rattle.std.proofs.Math.Nat.{mod-eq_of_lt, div-le_self}
 use Rattle.machine_model.specs.Machine.{State, Went, x_at, x_or_sp, with_x, with_x_or_sp, next}
 use Rattle.machine_model.proofs.StateSteps.{moved, x_kept, flags_kept}
@@ -18,14 +19,14 @@ use Rattle.std.specs.Int.{w64, cast_signed, cast_unsigned, int_shr}
 use Rattle.std.specs.Int.Bits.{or_zero_l}
 use Rattle.std.proofs.lemmas.Bool.{lt-ltb, le-ltb, leb-true, cond-false, ne_eqb, ltb-true as nat_lt-true, ltb-false as nat_lt-false}
 use Rattle.a64_code.specs.Table.{subs, csel, orr, add_imm, sub_imm}
-use Rattle.scalar_values.proofs.Comparisons.{IsSide}
+use Rattle.scalar_values.specs.Code.{takes_product, takes_shift}
 use Rattle.scalar_values.proofs.Numbers.{IsAddend, IsSum}
 use Rattle.scalar_words.proofs.Compare.{compared}
 use Rattle.label_fix.specs.DraftRun.{Entry, Put, Laid, ins, effect, word_of}
 use Rattle.label_fix.proofs.StretchSteps.{put_goes, chain}
 use Rattle.scalar_words.specs.Layout.{Layout, reg_of, IsMade}
 use Rattle.scalar_words.specs.Words.{binary_code, operation_code, word_code, copy_word, extend_word, settle_word}
-use Rattle.scalar_values.specs.ItemWords.{operator_code, add_word, sub_word, sum_word, unary_code, abs_code, shift_code, shift_kind, convert_word}
+use Rattle.scalar_values.specs.ItemWords.{Side, Number, Register, Product, Moved, product_word, shift_word, operator_code, add_word, sub_word, sum_word, unary_code, abs_code, shift_code, shift_kind, convert_word}
 use Rattle.scalar_values.specs.declared.extent.Extent.{Extent}
 use Rattle.scalar_values.specs.Extents.{Whole, within_type, unary_joins, operand_extent, asked_extent, binary_extent, settles}
 use Rattle.scalar_words.specs.Operands.{binary_joins}
@@ -60,7 +61,7 @@ shr-range : (k : ℕ) (m : ℤ) → InRange true m → InRange true (int_shr m k
 shr-range k (pos n) h = let le = div-le_self n (2 ^ k) in omega (arith, h, le)
 shr-range k (negsuc n) h = let le = div-le_self n (2 ^ k) in omega (arith, h, le)
 
-shifted-word : (left sg : Bool) (k : ℕ) (x : ℤ) → InRange sg x → shifted_word (shift_kind left sg) (word x) k ≡ word (shift_on left k x)
+pub shifted-word : (left sg : Bool) (k : ℕ) (x : ℤ) → InRange sg x → shifted_word (shift_kind left sg) (word x) k ≡ word (shift_on left k x)
 shifted-word true sg k x h = word-shl x k
 shifted-word false true k x h = ap (λ z. cast_unsigned w64 (int_shr z k)) (signed-word x h) ∙ unsigned-word (int_shr x k) (shr-range k x h)
 shifted-word false false k (pos n) h =
@@ -89,6 +90,20 @@ same-abs (negsuc n) h = absurd h
 
 into : (s : State) (d v : ℕ) → d ≤ 25 → Went (next (with_x_or_sp s d v)) ≡ Went (wrote s d v)
 into s d v hi = ap (λ t. Went (next t)) (cond-false (nat_eq d 31) (record s { sp = v }) (with_x s d v) (ne_eqb d 31 (λ e. absurd (omega arith))))
+
+-- what a word takes as its right side has the word of an integer
+abbrev pub IsOperand : Side → State → ℤ → Type 0
+IsOperand (Number v) s y = v ≡ word y
+IsOperand (Register r) s y = x_at s r ≡ word y
+IsOperand (Product p q) s y = x_at s p * x_at s q % 2 ^ 64 ≡ word y
+IsOperand (Moved kind n r) s y = shifted_word kind (x_at s r) n ≡ word y
+
+-- an operator whose word takes such a right side
+abbrev pub IsTaken : BinaryOp → Side → Type 0
+IsTaken op (Number v) = IsSum op v
+IsTaken op (Register r) = Unit {0}
+IsTaken op (Product p q) = takes_product op ≡ true
+IsTaken op (Moved kind n r) = takes_shift op ≡ true
 
 only_joins : (op : BinaryOp) → binary_joins op ≡ false → binary_leaves op ≡ true → ⊥
 only_joins binary.Add j b = absurd cc
@@ -176,52 +191,83 @@ module _ (D : Laid) (L : Layout) (fit : Assigned L) where
   sum_sets v binary.Min leaves t x y a d adds sized la hi kept ex ey = absurd adds
   sum_sets v binary.Max leaves t x y a d adds sized la hi kept ex ey = absurd adds
 
-  -- an operator that joins low bits, of which a number that its word holds may be the right side
-  joined_runs : {rest : List Entry} {s : State} (number : Option ℕ) (op : BinaryOp) (leaves : Bool) (t u : Ty) (x y : ℤ) (a c d : ℕ) → binary_joins op ≡ true → length s.x ≡ 31 → a ≤ 25 → d ≤ 25 → ((v : ℕ) → number ≡ Some v → IsSum op v) → (leaves ≡ false → word (wrap u (binary_on op x y)) ≡ word (binary_on op x y)) → settle_word leaves u d ≡ settle_word leaves t d → x_at s a ≡ word x → IsSide number c s y
-      → Sets D (operator_code number leaves op t d a c rest) s rest d (wrap u (binary_on op x y)) 4
-  joined_runs {rest = rest} {s = s} None op leaves t u x y a c d j sized la hi adds kept same ex ey =
+  -- a product that the word of an operator takes, and a register that it shifts
+  product_sets : {rest : List Entry} {s : State} (op : BinaryOp) (leaves : Bool) (t : Ty) (x y : ℤ) (a p q d : ℕ) → takes_product op ≡ true → length s.x ≡ 31 → d ≤ 25 → (leaves ≡ false → word (wrap t (binary_on op x y)) ≡ word (binary_on op x y)) → x_at s a ≡ word x → x_at s p * x_at s q % 2 ^ 64 ≡ word y
+      → Sets D (Put (product_word op d a p q) ∷ word_code (settle_word leaves t d) rest) s rest d (wrap t (binary_on op x y)) 2
+  product_sets {s = s} binary.Add leaves t x y a p q d takes sized hi kept ex ey = settle_sets D L fit leaves t d (sum (x_at s a) (x_at s p * x_at s q % 2 ^ 64)) (x +ℤ y) sized hi refl (ap₂ sum ex ey ∙ sym (word-add x y)) kept
+  product_sets {s = s} binary.Sub leaves t x y a p q d takes sized hi kept ex ey = settle_sets D L fit leaves t d (difference (x_at s a) (x_at s p * x_at s q % 2 ^ 64)) (x -ℤ y) sized hi refl (ap₂ difference ex ey ∙ sym (word-difference x y)) kept
+  product_sets binary.Mul leaves t x y a p q d takes sized hi kept ex ey = absurd cc
+  product_sets binary.And leaves t x y a p q d takes sized hi kept ex ey = absurd cc
+  product_sets binary.Or leaves t x y a p q d takes sized hi kept ex ey = absurd cc
+  product_sets binary.Xor leaves t x y a p q d takes sized hi kept ex ey = absurd cc
+  product_sets binary.Min leaves t x y a p q d takes sized hi kept ex ey = absurd cc
+  product_sets binary.Max leaves t x y a p q d takes sized hi kept ex ey = absurd cc
+
+  moved_sets : {rest : List Entry} {s : State} (op : BinaryOp) (leaves : Bool) (t : Ty) (x y : ℤ) (a kind n r d : ℕ) → takes_shift op ≡ true → length s.x ≡ 31 → d ≤ 25 → (leaves ≡ false → word (wrap t (binary_on op x y)) ≡ word (binary_on op x y)) → x_at s a ≡ word x → shifted_word kind (x_at s r) n ≡ word y
+      → Sets D (Put (shift_word op d a kind n r) ∷ word_code (settle_word leaves t d) rest) s rest d (wrap t (binary_on op x y)) 2
+  moved_sets {s = s} binary.Add leaves t x y a kind n r d takes sized hi kept ex ey = settle_sets D L fit leaves t d (sum (x_at s a) (shifted_word kind (x_at s r) n)) (x +ℤ y) sized hi refl (ap₂ sum ex ey ∙ sym (word-add x y)) kept
+  moved_sets {s = s} binary.Sub leaves t x y a kind n r d takes sized hi kept ex ey = settle_sets D L fit leaves t d (difference (x_at s a) (shifted_word kind (x_at s r) n)) (x -ℤ y) sized hi refl (ap₂ difference ex ey ∙ sym (word-difference x y)) kept
+  moved_sets {s = s} binary.And leaves t x y a kind n r d takes sized hi kept ex ey = settle_sets D L fit leaves t d (bit_and (x_at s a) (shifted_word kind (x_at s r) n)) (pos (bit_and (word x) (word y))) sized hi refl (ap₂ bit_and ex ey ∙ sym (mod-eq_of_lt (let h = and_le_l (word x) (word y) in omega (arith, h, word-below x)))) kept
+  moved_sets {s = s} binary.Or leaves t x y a kind n r d takes sized hi kept ex ey = settle_sets D L fit leaves t d (bit_or (x_at s a) (shifted_word kind (x_at s r) n)) (pos (bit_or (word x) (word y))) sized hi refl (ap₂ bit_or ex ey ∙ sym (mod-eq_of_lt (or_lt 64 (word x) (word y) (word-below x) (word-below y)))) kept
+  moved_sets {s = s} binary.Xor leaves t x y a kind n r d takes sized hi kept ex ey = settle_sets D L fit leaves t d (bit_xor (x_at s a) (shifted_word kind (x_at s r) n)) (pos (bit_xor (word x) (word y))) sized hi refl (ap₂ bit_xor ex ey ∙ sym (mod-eq_of_lt (xor_lt 64 (word x) (word y) (word-below x) (word-below y)))) kept
+  moved_sets binary.Mul leaves t x y a kind n r d takes sized hi kept ex ey = absurd cc
+  moved_sets binary.Min leaves t x y a kind n r d takes sized hi kept ex ey = absurd cc
+  moved_sets binary.Max leaves t x y a kind n r d takes sized hi kept ex ey = absurd cc
+
+  -- an operator that joins low bits, by what its word takes as its right side
+  joined_runs : {rest : List Entry} {s : State} (side : Side) (op : BinaryOp) (leaves : Bool) (t u : Ty) (x y : ℤ) (a d : ℕ) → binary_joins op ≡ true → length s.x ≡ 31 → a ≤ 25 → d ≤ 25 → IsTaken op side → (leaves ≡ false → word (wrap u (binary_on op x y)) ≡ word (binary_on op x y)) → settle_word leaves u d ≡ settle_word leaves t d → x_at s a ≡ word x → IsOperand side s y
+      → Sets D (operator_code side leaves op t d a rest) s rest d (wrap u (binary_on op x y)) 4
+  joined_runs {rest = rest} {s = s} (Register c) op leaves t u x y a d j sized la hi takes kept same ex ey =
       subst (λ w. Sets D (operation_code op (is_signed t) d a c (word_code w rest)) s rest d (wrap u (binary_on op x y)) 4) same (set_more 4 (omega arith) (joined_sets D L fit op leaves (is_signed t) u x y a c d j sized hi kept ex ey))
-  joined_runs {rest = rest} {s = s} (Some v) op leaves t u x y a c d j sized la hi adds kept same ex ey =
-      subst (λ w. Sets D (Put (sum_word op v d a) ∷ word_code w rest) s rest d (wrap u (binary_on op x y)) 4) same (set_more 4 (omega arith) (sum_sets v op leaves u x y a d (adds v refl) sized la hi kept ex ey))
+  joined_runs {rest = rest} {s = s} (Number v) op leaves t u x y a d j sized la hi takes kept same ex ey =
+      subst (λ w. Sets D (Put (sum_word op v d a) ∷ word_code w rest) s rest d (wrap u (binary_on op x y)) 4) same (set_more 4 (omega arith) (sum_sets v op leaves u x y a d takes sized la hi kept ex ey))
+  joined_runs {rest = rest} {s = s} (Product p q) op leaves t u x y a d j sized la hi takes kept same ex ey =
+      subst (λ w. Sets D (Put (product_word op d a p q) ∷ word_code w rest) s rest d (wrap u (binary_on op x y)) 4) same (set_more 4 (omega arith) (product_sets op leaves u x y a p q d takes sized hi kept ex ey))
+  joined_runs {rest = rest} {s = s} (Moved kind n r) op leaves t u x y a d j sized la hi takes kept same ex ey =
+      subst (λ w. Sets D (Put (shift_word op d a kind n r) ∷ word_code w rest) s rest d (wrap u (binary_on op x y)) 4) same (set_more 4 (omega arith) (moved_sets op leaves u x y a kind n r d takes sized hi kept ex ey))
 
   -- one that does not, at values of its type
-  chosen_runs : {rest : List Entry} {s : State} (number : Option ℕ) (op : BinaryOp) (t : Ty) (x y : ℤ) (a c d : ℕ) → binary_leaves op ≡ false → length s.x ≡ 31 → d ≤ 25 → ((v : ℕ) → number ≡ Some v → IsSum op v) → IsOf t x → IsOf t y → x_at s a ≡ word x → IsSide number c s y
-      → Sets D (operator_code number (binary_leaves op) op t d a c rest) s rest d (wrap t (binary_on op x y)) 4
-  chosen_runs None op t x y a c d un sized hi adds rx ry ex ey = binary_runs op t x y a c d sized hi rx ry ex ey
-  chosen_runs (Some v) binary.Add t x y a c d un sized hi adds rx ry ex ey = absurd cc
-  chosen_runs (Some v) binary.Sub t x y a c d un sized hi adds rx ry ex ey = absurd cc
-  chosen_runs (Some v) binary.Mul t x y a c d un sized hi adds rx ry ex ey = absurd (adds v refl)
-  chosen_runs (Some v) binary.And t x y a c d un sized hi adds rx ry ex ey = absurd (adds v refl)
-  chosen_runs (Some v) binary.Or t x y a c d un sized hi adds rx ry ex ey = absurd (adds v refl)
-  chosen_runs (Some v) binary.Xor t x y a c d un sized hi adds rx ry ex ey = absurd (adds v refl)
-  chosen_runs (Some v) binary.Min t x y a c d un sized hi adds rx ry ex ey = absurd (adds v refl)
-  chosen_runs (Some v) binary.Max t x y a c d un sized hi adds rx ry ex ey = absurd (adds v refl)
+  chosen_runs : {rest : List Entry} {s : State} (side : Side) (op : BinaryOp) (t : Ty) (x y : ℤ) (a d : ℕ) → binary_leaves op ≡ false → length s.x ≡ 31 → a ≤ 25 → d ≤ 25 → IsTaken op side → IsOf t x → IsOf t y → x_at s a ≡ word x → IsOperand side s y
+      → Sets D (operator_code side (binary_leaves op) op t d a rest) s rest d (wrap t (binary_on op x y)) 4
+  chosen_runs (Register c) op t x y a d un sized la hi takes rx ry ex ey = binary_runs op t x y a c d sized hi rx ry ex ey
+  chosen_runs side binary.Add t x y a d un sized la hi takes rx ry ex ey = absurd cc
+  chosen_runs side binary.Sub t x y a d un sized la hi takes rx ry ex ey = absurd cc
+  chosen_runs side binary.Mul t x y a d un sized la hi takes rx ry ex ey = absurd cc
+  chosen_runs side binary.And t x y a d un sized la hi takes rx ry ex ey = joined_runs side binary.And false t t x y a d refl sized la hi takes (binary-kept binary.And t x y rx ry) refl ex ey
+  chosen_runs side binary.Or t x y a d un sized la hi takes rx ry ex ey = joined_runs side binary.Or false t t x y a d refl sized la hi takes (binary-kept binary.Or t x y rx ry) refl ex ey
+  chosen_runs side binary.Xor t x y a d un sized la hi takes rx ry ex ey = joined_runs side binary.Xor false t t x y a d refl sized la hi takes (binary-kept binary.Xor t x y rx ry) refl ex ey
+  chosen_runs (Number v) binary.Min t x y a d un sized la hi takes rx ry ex ey = absurd takes
+  chosen_runs (Number v) binary.Max t x y a d un sized la hi takes rx ry ex ey = absurd takes
+  chosen_runs (Product p q) binary.Min t x y a d un sized la hi takes rx ry ex ey = absurd cc
+  chosen_runs (Product p q) binary.Max t x y a d un sized la hi takes rx ry ex ey = absurd cc
+  chosen_runs (Moved kind n r) binary.Min t x y a d un sized la hi takes rx ry ex ey = absurd cc
+  chosen_runs (Moved kind n r) binary.Max t x y a d un sized la hi takes rx ry ex ey = absurd cc
 
   -- the value of a result, in other words
   pub set_as : {c rest : List Entry} {s : State} {d most : ℕ} {v z : ℤ} → word v ≡ word z → Sets D c s rest d v most → Sets D c s rest d z most
   set_as e g = record { end = g.end; goes = g.goes; changes = g.changes; value = g.value ∙ e; shaped = g.shaped }
 
   -- an operator of which so much is asked for, and whose result is known to stay in the extended form or not
-  pub operation_runs : {rest : List Entry} {s : State} (number : Option ℕ) (op : BinaryOp) (leaves : Bool) (w : Extent) (t : Ty) (x y : ℤ) (a c d : ℕ) → length s.x ≡ 31 → a ≤ 25 → d ≤ 25 → (leaves ≡ true → binary_leaves op ≡ true)
+  pub operation_runs : {rest : List Entry} {s : State} (side : Side) (op : BinaryOp) (leaves : Bool) (w : Extent) (t : Ty) (x y : ℤ) (a d : ℕ) → length s.x ≡ 31 → a ≤ 25 → d ≤ 25 → (leaves ≡ true → binary_leaves op ≡ true)
       → (asked_extent (binary_joins op) leaves w (Some t) ≡ Whole → IsOf t x × IsOf t y) → (asked_extent (binary_joins op) leaves w (Some t) ≡ Whole → leaves ≡ false → word (wrap t (binary_on op x y)) ≡ word (binary_on op x y))
-      → ((v : ℕ) → number ≡ Some v → IsSum op v) → x_at s a ≡ word x → IsSide number c s y
-      → Sets D (operator_code number (settles (within_type w t) (binary_joins op) leaves) op t d a c rest) s rest d (loose_binary op w (Some t) x y) 4
-  operation_runs {rest = rest} {s = s} number op leaves w t x y a c d sized la hi only range kept adds ex ey = by (within_type w t) (binary_joins op) leaves refl refl only range kept
+      → IsTaken op side → x_at s a ≡ word x → IsOperand side s y
+      → Sets D (operator_code side (settles (within_type w t) (binary_joins op) leaves) op t d a rest) s rest d (loose_binary op w (Some t) x y) 4
+  operation_runs {rest = rest} {s = s} side op leaves w t x y a d sized la hi only range kept takes ex ey = by (within_type w t) (binary_joins op) leaves refl refl only range kept
     where
       by : (l j b : Bool) → within_type w t ≡ l → binary_joins op ≡ j → (b ≡ true → binary_leaves op ≡ true) → (operand_extent l j b w (Some t) ≡ Whole → IsOf t x × IsOf t y) → (operand_extent l j b w (Some t) ≡ Whole → b ≡ false → word (wrap t (binary_on op x y)) ≡ word (binary_on op x y))
-          → Sets D (operator_code number (settles l j b) op t d a c rest) s rest d (settled l j (Some t) (binary_on op x y)) 4
-      by true true b el ej f r k = set_as (wide_wrap ty.U64 (binary_on op x y) refl) (joined_runs number op false t ty.U64 x y a c d ej sized la hi adds (λ e. wide_wrap ty.U64 (binary_on op x y) refl) refl ex ey)
-      by false true true el ej f r k = joined_runs number op true t t x y a c d ej sized la hi adds (λ e. absurd cc) refl ex ey
-      by false true false el ej f r k = joined_runs number op false t t x y a c d ej sized la hi adds (k refl) refl ex ey
+          → Sets D (operator_code side (settles l j b) op t d a rest) s rest d (settled l j (Some t) (binary_on op x y)) 4
+      by true true b el ej f r k = set_as (wide_wrap ty.U64 (binary_on op x y) refl) (joined_runs side op false t ty.U64 x y a d ej sized la hi takes (λ e. wide_wrap ty.U64 (binary_on op x y) refl) refl ex ey)
+      by false true true el ej f r k = joined_runs side op true t t x y a d ej sized la hi takes (λ e. absurd cc) refl ex ey
+      by false true false el ej f r k = joined_runs side op false t t x y a d ej sized la hi takes (k refl) refl ex ey
       by true false true el ej f r k = absurd (only_joins op ej (f refl))
       by false false true el ej f r k = absurd (only_joins op ej (f refl))
-      by true false false el ej f r k = let in_type = r refl in let un = unjoined op ej in subst (λ b. Sets D (operator_code number b op t d a c rest) s rest d (wrap t (binary_on op x y)) 4) un (chosen_runs number op t x y a c d un sized hi adds in_type.0 in_type.1 ex ey)
-      by false false false el ej f r k = let in_type = r refl in let un = unjoined op ej in subst (λ b. Sets D (operator_code number b op t d a c rest) s rest d (wrap t (binary_on op x y)) 4) un (chosen_runs number op t x y a c d un sized hi adds in_type.0 in_type.1 ex ey)
+      by true false false el ej f r k = let in_type = r refl in let un = unjoined op ej in subst (λ b. Sets D (operator_code side b op t d a rest) s rest d (wrap t (binary_on op x y)) 4) un (chosen_runs side op t x y a d un sized la hi takes in_type.0 in_type.1 ex ey)
+      by false false false el ej f r k = let in_type = r refl in let un = unjoined op ej in subst (λ b. Sets D (operator_code side b op t d a rest) s rest d (wrap t (binary_on op x y)) 4) un (chosen_runs side op t x y a d un sized la hi takes in_type.0 in_type.1 ex ey)
 
   -- one of whose operands nothing is known but their type
-  pub operator_runs : {rest : List Entry} {s : State} (number : Option ℕ) (op : BinaryOp) (w : Extent) (t : Ty) (x y : ℤ) (a c d : ℕ) → length s.x ≡ 31 → a ≤ 25 → d ≤ 25 → (binary_extent op w (Some t) ≡ Whole → IsOf t x × IsOf t y) → ((v : ℕ) → number ≡ Some v → IsSum op v) → x_at s a ≡ word x → IsSide number c s y
-      → Sets D (operator_code number (settles (within_type w t) (binary_joins op) (binary_leaves op)) op t d a c rest) s rest d (loose_binary op w (Some t) x y) 4
-  operator_runs number op w t x y a c d sized la hi range adds ex ey = operation_runs number op (binary_leaves op) w t x y a c d sized la hi (λ e. e) range (λ e out. let k = range e in binary-kept op t x y k.0 k.1 out) adds ex ey
+  pub operator_runs : {rest : List Entry} {s : State} (side : Side) (op : BinaryOp) (w : Extent) (t : Ty) (x y : ℤ) (a d : ℕ) → length s.x ≡ 31 → a ≤ 25 → d ≤ 25 → (binary_extent op w (Some t) ≡ Whole → IsOf t x × IsOf t y) → IsTaken op side → x_at s a ≡ word x → IsOperand side s y
+      → Sets D (operator_code side (settles (within_type w t) (binary_joins op) (binary_leaves op)) op t d a rest) s rest d (loose_binary op w (Some t) x y) 4
+  operator_runs side op w t x y a d sized la hi range takes ex ey = operation_runs side op (binary_leaves op) w t x y a d sized la hi (λ e. e) range (λ e out. let k = range e in binary-kept op t x y k.0 k.1 out) takes ex ey
 
   -- the negative, and the complement, of any integer
   neg_sets : {rest : List Entry} {s : State} (leaves : Bool) (t : Ty) (x : ℤ) (a d : ℕ) → length s.x ≡ 31 → d ≤ 25 → (leaves ≡ false → word (wrap t (neg_ℤ x)) ≡ word (neg_ℤ x)) → x_at s a ≡ word x → Sets D (unary_code leaves unary.Neg t d a rest) s rest d (wrap t (neg_ℤ x)) 2

@@ -18,18 +18,25 @@ use Rattle.label_fix.specs.DraftRun.{Entry, Place}
 use Rattle.label_fix.specs.Finished.{size}
 use Rattle.scalar_words.specs.Layout.{Layout, Homes, reg_of}
 use Rattle.scalar_words.specs.Words.{copy_word, settle_word, word_code, condition, at_type}
-use Rattle.scalar_values.specs.ItemWords.{convert_word, index_word, load_code, operator_code, unary_code, abs_code, shift_code, zero_test, tested_code, pick_code, placed_code}
-use Rattle.scalar_values.specs.Code.{number_code, signed_side, compared_number, added_number, right_code, flag_condition, choice_code, loose_code, flags_code, jump_code}
+use Rattle.scalar_values.specs.ItemWords.{Side, Number, Register, Product, Moved, convert_word, index_word, load_code, operator_code, unary_code, abs_code, shift_code, zero_test, tested_code, pick_code, placed_code}
+use Rattle.scalar_values.specs.Code.{number_code, signed_side, compared_number, added_number, is_fused, right_side, side_code, parts_code, right_code, flag_condition, choice_code, loose_code, flags_code, jump_code}
 use Rattle.scalar_words.proofs.WordCounts.{within, one_word, operation_words, const_words}
 use Rattle.kernel_tree.specs.declared.ops.UnaryOp.TheVariants as unary
 
--- of which a number that its word holds may be the right side
-pub operator_code_words : (number : Option ℕ) (leaves : Bool) (want : Option Ty) (op : BinaryOp) (d a c : ℕ) (rest : List Entry) (k : ℕ) → size rest ≤ k → size (at_type want (λ t. operator_code number leaves op t d a c rest) rest) ≤ 3 + k
-operator_code_words number leaves None op d a c rest k h = omega (arith, h)
-operator_code_words (Some v) leaves (Some t) op d a c rest k h = let w = one_word (settle_word leaves t d) rest k h in omega (arith, w)
-operator_code_words None leaves (Some t) op d a c rest k h = within (omega arith) (operation_words op (is_signed t) d a c _ (1 + k) (one_word (settle_word leaves t d) rest k h))
+-- by what its word takes as its right side
+pub operator_code_words : (side : Side) (leaves : Bool) (want : Option Ty) (op : BinaryOp) (d a : ℕ) (rest : List Entry) (k : ℕ) → size rest ≤ k → size (at_type want (λ t. operator_code side leaves op t d a rest) rest) ≤ 3 + k
+operator_code_words side leaves None op d a rest k h = omega (arith, h)
+operator_code_words (Number v) leaves (Some t) op d a rest k h = let w = one_word (settle_word leaves t d) rest k h in omega (arith, w)
+operator_code_words (Register c) leaves (Some t) op d a rest k h = within (omega arith) (operation_words op (is_signed t) d a c _ (1 + k) (one_word (settle_word leaves t d) rest k h))
+operator_code_words (Product p q) leaves (Some t) op d a rest k h = let w = one_word (settle_word leaves t d) rest k h in omega (arith, w)
+operator_code_words (Moved kind n r) leaves (Some t) op d a rest k h = let w = one_word (settle_word leaves t d) rest k h in omega (arith, w)
 
-pub right_words : (number : Option ℕ) (m : ℕ) (inner : List Entry → List Entry) (rest : List Entry) (k : ℕ) → size rest ≤ k → (size rest ≤ k → size (inner rest) ≤ m + k) → size (right_code number inner rest) ≤ m + k
+pub side_words : (number : Option ℕ) (fused : Bool) (m : ℕ) (whole parts : List Entry → List Entry) (rest : List Entry) (k : ℕ) → size rest ≤ k → (size rest ≤ k → size (whole rest) ≤ m + k) → (size rest ≤ k → size (parts rest) ≤ m + k) → size (side_code number fused whole parts rest) ≤ m + k
+side_words (Some v) fused m whole parts rest k h f g = omega (arith, h)
+side_words None true m whole parts rest k h f g = g h
+side_words None false m whole parts rest k h f g = f h
+
+right_words : (number : Option ℕ) (m : ℕ) (inner : List Entry → List Entry) (rest : List Entry) (k : ℕ) → size rest ≤ k → (size rest ≤ k → size (inner rest) ≤ m + k) → size (right_code number inner rest) ≤ m + k
 right_words (Some v) m inner rest k h f = omega (arith, h)
 right_words None m inner rest k h f = f h
 
@@ -87,8 +94,9 @@ module _ (L : Layout) (hs : Homes) where
         within (omega arith) (number_words (stream_offset s.index j) (term_size s.index j) _ _ _ (load_words (option_and_then element_type (lookup s a)) _ _ _ rest k h) (λ g. loose_words j s Whole (index_type s j) b n _ _ g))
     loose_words (Unary op x) s w want b n rest k h = within (omega arith) (loose_words x s (unary_asks s want op x w) want b n _ _ (unary_words (unary_settles s want op x w) want op _ _ rest k h))
     loose_words (Operation op x y) s w want b n rest k h =
-        let number = added_number op want y in
-        within (omega arith) (loose_words x s (binary_asks s want op x y w) want b n _ _ (right_words number (4 * term_size s.index y) _ _ _ (operator_code_words number (binary_settles s want op x y w) want op _ _ _ rest k h) (λ g. loose_words y s (binary_asks s want op x y w) want _ _ _ _ g)))
+        let j = binary_asks s want op x y w in
+        let side = right_side L hs s.index op j want (b + term_size s.index x) y in
+        within (omega arith) (loose_words x s j want b n _ _ (side_words (added_number op want y) (is_fused op j want y) (4 * term_size s.index y) _ _ _ _ (operator_code_words side (binary_settles s want op x y w) want op _ _ rest k h) (λ g. loose_words y s j want _ _ _ _ g) (λ g. parts_words y s j want _ _ _ _ g)))
     loose_words (Shift left x z) s w want b n rest k h = within (omega arith) (loose_words x s (shift_asks s want left x z w) want b n _ _ (shift_words (shift_settles s want left x z w) want left z _ _ rest k h))
     loose_words (Conversion x t) s w want b n rest k h = within (omega arith) (loose_words x s (converted_extent w (own s x) t) (own s x) b n _ _ (cast_words (within_type w t) (own s x) t _ _ rest k h))
     loose_words (Choice c x y) s w want b n rest k h =
@@ -97,6 +105,20 @@ module _ (L : Layout) (hs : Homes) where
     loose_words (Both x y) s w want b n rest k h = omega (arith, h)
     loose_words (Either x y) s w want b n rest k h = omega (arith, h)
     loose_words (Not x) s w want b n rest k h = omega (arith, h)
+
+    pub parts_words : (e : Term) (s : Scope) (w : Extent) (want : Option Ty) (b n : ℕ) (rest : List Entry) (k : ℕ) → size rest ≤ k → size (parts_code L hs s w want b n e rest) ≤ 4 * term_size s.index e + k
+    parts_words (Operation op x y) s w want b n rest k h = within (omega arith) (loose_words x s (binary_asks s want op x y w) want b n _ _ (loose_words y s (binary_asks s want op x y w) want _ _ _ _ h))
+    parts_words (Shift left x z) s w want b n rest k h = within (omega arith) (loose_words x s (shift_asks s want left x z w) want b n _ _ h)
+    parts_words (Literal z) s w want b n rest k h = omega (arith, h)
+    parts_words (Variable x) s w want b n rest k h = omega (arith, h)
+    parts_words (Element a i) s w want b n rest k h = omega (arith, h)
+    parts_words (Unary op e) s w want b n rest k h = omega (arith, h)
+    parts_words (Conversion e t) s w want b n rest k h = omega (arith, h)
+    parts_words (Choice c x y) s w want b n rest k h = omega (arith, h)
+    parts_words (Comparison op x y) s w want b n rest k h = omega (arith, h)
+    parts_words (Both x y) s w want b n rest k h = omega (arith, h)
+    parts_words (Either x y) s w want b n rest k h = omega (arith, h)
+    parts_words (Not e) s w want b n rest k h = omega (arith, h)
 
     flags_words : (e : Term) (s : Scope) (b n : ℕ) (rest : List Entry) (k : ℕ) → size rest ≤ k → size (flags_code L hs s b n e rest) ≤ 4 * term_size s.index e + k
     flags_words (Comparison op x y) s b n rest k h =

@@ -1,11 +1,11 @@
 -- What the code of expressions does.
-use Rattle.std.proofs.Common.{◌≡◌, ◌≢◌, ℕ, ◌+◌, ◌*◌, ◌<◌, ◌≤◌, Bool, true, false, List, [], ◌∷◌, length, Option, Some, None, refl, sym, ap, ap₂, ◌∙◌, subst, arith}
-use Rattle.std.specs.Prelude.{ℤ, ◌+ℤ◌, option_map, option_and_then, not, if◌then◌else◌}
+use Rattle.std.proofs.Common.{◌≡◌, ◌≢◌, ℕ, ◌+◌, ◌*◌, ◌%◌, ◌^◌, ◌<◌, ◌≤◌, ◌&&◌, ◌||◌, Bool, true, false, List, [], ◌∷◌, length, Option, Some, None, refl, sym, ap, ap₂, ◌∙◌, subst, arith}
+use Rattle.std.specs.Prelude.{ℤ, ◌+ℤ◌, ◌*ℤ◌, option_map, option_and_then, not, if◌then◌else◌}
 use Rattle.std.specs.List.{find}
 use Rattle.guest_types.specs.Memory.{Memory}
 use Rattle.machine_model.specs.Machine.{State, x_at, jump}
 use Rattle.machine_model.specs.declared.outcome.StopKind.TheVariants.{Read}
-use Rattle.machine_model.specs.Arithmetic.{holds as flags_hold}
+use Rattle.machine_model.specs.Arithmetic.{shifted_word, holds as flags_hold}
 use Rattle.kernel_tree.specs.declared.ops.CompareOp.{CompareOp}
 use Rattle.kernel_tree.specs.declared.ops.Ty.{Ty}
 use Rattle.kernel_tree.specs.declared.ops.BinaryOp.{BinaryOp}
@@ -14,34 +14,36 @@ use Rattle.kernel_tree.specs.Plain.{Term, Literal, Variable, Element, Unary, Ope
 use Rattle.kernel_tree.specs.Items.{term_size, index_size, stream_offset}
 use Rattle.kernel_tree.specs.Wrap.{wrap, is_signed}
 use Rattle.kernel_tree.specs.Typing.{Scope, Local, lookup, own, first, element_type, index_type, side_type}
-use Rattle.kernel_meaning.specs.Operators.{word, wrapped, compare_on}
+use Rattle.kernel_meaning.specs.Operators.{word, wrapped, compare_on, shift_on, shift_count}
 use Rattle.kernel_meaning.specs.TypeValues.{IsOf, binary_leaves}
+use Rattle.kernel_meaning.proofs.Residues.{word-mul, word-shl}
+use Rattle.kernel_meaning.proofs.ExtendedForm.{shift-kept}
 use Rattle.kernel_meaning.specs.Eval.{Names, value_at, iteration, element_number, read_element, on_both, chosen, choose_value, value, holds}
 use Rattle.a64_code.specs.Table.{csel}
 use Rattle.label_fix.specs.DraftRun.{Entry, Put, Branch, Place, Always, Laid, following, address_of, word_of, ins}
-use Rattle.label_fix.proofs.StretchSteps.{Goes, Stops, Resolves, stay, chain, put_goes, stop_after, stop_more, taken_goes, pass}
+use Rattle.label_fix.proofs.StretchSteps.{Goes, Stops, Resolves, stay, chain, go_more, put_goes, stop_after, stop_more, taken_goes, pass}
 use Rattle.scalar_values.proofs.Comparisons.{IsSide, compare_goes}
-use Rattle.scalar_values.proofs.Numbers.{compared_right, compared_small, added_right, added_sum}
+use Rattle.scalar_values.proofs.Numbers.{IsSum, compared_right, compared_small, added_right, added_sum}
 pub use Rattle.scalar_values.proofs.Jumps.{kept_jump, led, Turned, Turns, no_turn, turns, branch_goes, both_turn, over_turn, turns_more, not_turns}
 use Rattle.scalar_words.proofs.Compare.{compared}
 use Rattle.scalar_words.specs.Layout.{Layout, Home, Homes, is_home, reg_of, IsMade, register_at, LastsAt, NameLasts}
 use Rattle.scalar_values.specs.ValueRegisters.{home}
-use Rattle.scalar_values.specs.ItemWords.{load_code, operator_code, unary_code, abs_code, shift_code, index_word, index_register, convert_word, compare_word, zero_test, tested_code, pick_code, placed_code}
-use Rattle.scalar_words.specs.Words.{operation_code, word_code, copy_word, settle_word, condition, at_type}
-use Rattle.scalar_values.specs.Code.{labels, number_code, number_register, signed_side, compared_number, added_number, right_code, flag_condition, choice_code, loose_code, value_code, flags_code, jump_code}
+use Rattle.scalar_values.specs.ItemWords.{Side, Number, Register, Product, Moved, shift_kind, load_code, operator_code, unary_code, abs_code, shift_code, index_word, index_register, convert_word, compare_word, zero_test, tested_code, pick_code, placed_code}
+use Rattle.scalar_words.specs.Words.{operation_code, word_code, copy_word, settle_word, is_narrow, condition, at_type}
+use Rattle.scalar_values.specs.Code.{labels, number_code, number_register, signed_side, compared_number, added_number, takes_product, takes_shift, is_product, stays, shift_stays, is_fused, part_side, side_by, right_side, side_code, parts_code, right_code, flag_condition, choice_code, loose_code, value_code, flags_code, jump_code}
 use Rattle.scalar_values.specs.Fits.{Fits, FitsTruth, FitsIndex, IndexAt, IsSome}
-use Rattle.scalar_words.proofs.LayoutStates.{AreRanged, Assigned, Kept, AreSafe, Held, Fixed, At, wrote, wrote_same, kept_none, kept_item, kept_changes, kept_on, kept_both, at_kept, lasts_less, safe_later, name_held, name_found}
-use Rattle.scalar_words.proofs.WordsRuns.{Gets, gets, more, copied_sets}
+use Rattle.scalar_words.proofs.LayoutStates.{AreRanged, Assigned, Kept, AreSafe, Held, Fixed, At, wrote, wrote_same, kept_none, kept_more, kept_item, kept_changes, kept_on, kept_both, at_kept, lasts_less, safe_later, name_held, name_found}
+use Rattle.scalar_words.proofs.WordsRuns.{Gets, gets, more, wide_wrap, copied_sets}
 use Rattle.scalar_values.proofs.Loads.{Gives, no_value, a_value, load_runs, index_runs}
 use Rattle.scalar_words.proofs.Constants.{word_back, const_back, const_runs}
-use Rattle.scalar_values.proofs.Operators.{operation_runs, unary_runs, shift_runs, cast_runs}
+use Rattle.scalar_values.proofs.Operators.{IsOperand, IsTaken, shifted-word, operation_runs, unary_runs, shift_runs, cast_runs}
 use Rattle.scalar_values.proofs.Staying.{and_true, unary_keeps, binary_keeps, shift_keeps}
 use Rattle.scalar_words.proofs.Words.{InRange, in_range}
 use Rattle.scalar_values.specs.declared.extent.Extent.{Extent}
-use Rattle.scalar_values.specs.Extents.{Whole, within_type, within, unary_joins, fits_at, converted_extent, settles}
+use Rattle.scalar_values.specs.Extents.{Whole, extent_of, operand_extent, within_type, within, unary_joins, asked_extent, binary_extent, fits_at, converted_extent, settles}
 use Rattle.scalar_values.specs.Leaving.{unary_may_leave, binary_may_leave, shift_may_leave, unary_asks, binary_asks, shift_asks, unary_settles, binary_settles, shift_settles}
 use Rattle.scalar_words.specs.Operands.{binary_joins}
-use Rattle.scalar_values.proofs.Loose.{loose_binary, loose_unary, loose_shift, loose_cast, loose, whole_is}
+use Rattle.scalar_values.proofs.Loose.{settled, loose_binary, loose_unary, loose_shift, loose_cast, loose, whole_is}
 use Rattle.scalar_values.proofs.Ranges.{value-range, fits_types}
 use Rattle.kernel_tree.specs.declared.ops.Ty.TheVariants as ty
 use Rattle.kernel_tree.specs.declared.ops.BinaryOp.TheVariants as binary
@@ -102,20 +104,84 @@ chosen_second x None = refl
 chosen_second x (Some v) = refl
 
 -- a right side, or a fault of a read
-pub data Sided (D : Laid) (L : Layout) (c : List Entry) (s : State) (rest : List Entry) (b e : ℕ) (number : Option ℕ) (r : ℕ) (m : Memory) (most : ℕ) : Option ℤ → Type 0 where
-  no_side : Stops D c s Read m most → Sided D L c s rest b e number r m most None
-  a_side : {y : ℤ} (end : State) → Goes D c s rest end most → Kept L s end b e → IsSide number r end y → Sided D L c s rest b e number r m most (Some y)
+pub data Sided (D : Laid) (L : Layout) (c : List Entry) (s : State) (rest : List Entry) (b e : ℕ) (Q : State → ℤ → Type 0) (m : Memory) (most : ℕ) : Option ℤ → Type 0 where
+  no_side : Stops D c s Read m most → Sided D L c s rest b e Q m most None
+  a_side : {y : ℤ} (end : State) → Goes D c s rest end most → Kept L s end b e → Q end y → Sided D L c s rest b e Q m most (Some y)
 
 -- a value in a register and a right side, or a fault of a read
-data Pairs (D : Laid) (L : Layout) (c : List Entry) (s : State) (rest : List Entry) (b e hx : ℕ) (number : Option ℕ) (hy : ℕ) (m : Memory) (most : ℕ) : Option ℤ → Option ℤ → Type 0 where
-  no_left : {o : Option ℤ} → Stops D c s Read m most → Pairs D L c s rest b e hx number hy m most None o
-  no_right : {x : ℤ} → Stops D c s Read m most → Pairs D L c s rest b e hx number hy m most (Some x) None
-  pair : {x y : ℤ} (end : State) → Goes D c s rest end most → Kept L s end b e → x_at end hx ≡ word x → IsSide number hy end y → Pairs D L c s rest b e hx number hy m most (Some x) (Some y)
+data Pairs (D : Laid) (L : Layout) (c : List Entry) (s : State) (rest : List Entry) (b e hx : ℕ) (Q : State → ℤ → Type 0) (m : Memory) (most : ℕ) : Option ℤ → Option ℤ → Type 0 where
+  no_left : {o : Option ℤ} → Stops D c s Read m most → Pairs D L c s rest b e hx Q m most None o
+  no_right : {x : ℤ} → Stops D c s Read m most → Pairs D L c s rest b e hx Q m most (Some x) None
+  pair : {x y : ℤ} (end : State) → Goes D c s rest end most → Kept L s end b e → x_at end hx ≡ word x → Q end y → Pairs D L c s rest b e hx Q m most (Some x) (Some y)
 
 -- the flags of a comparison, or a fault of a read
 data Flagged (D : Laid) (L : Layout) (c : List Entry) (s : State) (rest : List Entry) (b e k : ℕ) (m : Memory) (most : ℕ) : Option Bool → Type 0 where
   no_flags : Stops D c s Read m most → Flagged D L c s rest b e k m most None
   a_flag : {v : Bool} (end : State) → Goes D c s rest end most → Kept L s end b e → flags_hold k end.flags ≡ v → Flagged D L c s rest b e k m most (Some v)
+
+-- ---- products and shifts in the word of an operator
+
+both_left : (a b : Bool) → (a && b) ≡ true → a ≡ true
+both_left true b h = refl
+both_left false b h = absurd cc
+
+both_right : (a b : Bool) → (a && b) ≡ true → b ≡ true
+both_right true b h = h
+both_right false b h = absurd cc
+
+never : (a : Bool) → (a && false) ≡ true → ⊥
+never true h = absurd cc
+never false h = absurd cc
+
+-- the word of a result that is not extended
+settled_by : (l : Bool) (T : Ty) (z : ℤ) → (l || not (is_narrow T)) ≡ true → word (settled l true (Some T) z) ≡ word z
+settled_by true T z h = refl
+settled_by false T z h = wide_wrap T z (wide (is_narrow T) h)
+  where
+    wide : (b : Bool) → not b ≡ true → b ≡ false
+    wide true h = absurd cc
+    wide false h = refl
+
+settled_same : (w : Extent) (T : Ty) (z : ℤ) → stays w (Some T) ≡ true → word (settled (within_type w T) true (Some T) z) ≡ word z
+settled_same w T z h = settled_by (within_type w T) T z h
+
+right_extent : (l : Bool) (w : Extent) (T : Ty) → operand_extent l false false w (Some T) ≡ Whole
+right_extent true w T = refl
+right_extent false w T = refl
+
+right_settled : (l : Bool) (T : Ty) (z : ℤ) → settled l false (Some T) z ≡ wrap T z
+right_settled true T z = refl
+right_settled false T z = refl
+
+moved_same : (left leaves : Bool) (z : ℤ) (w : Extent) (T : Ty) (x : ℤ) → (leaves ≡ true → left ≡ true) → shift_stays left w (Some T) ≡ true → (asked_extent left leaves w (Some T) ≡ Whole → IsOf T x) → shifted_word (shift_kind left (is_signed T)) (word x) (shift_count z) ≡ word (loose_shift left z w (Some T) x)
+moved_same true leaves z w T x only still range = word-shl x (shift_count z) ∙ sym (settled_same w T (shift_on true (shift_count z) x) still)
+moved_same false true z w T x only still range = absurd (let e = only refl in cc)
+moved_same false false z w T x only still range =
+    let rx = range (right_extent (within_type w T) w T) in
+    shifted-word false (is_signed T) (shift_count z) x (in_range T x rx) ∙ sym (shift-kept false (shift_count z) T x rx refl) ∙ sym (ap word (right_settled (within_type w T) T (shift_on false (shift_count z) x)))
+
+-- an operator's word takes its right side
+taken_by : (op : BinaryOp) (number : Option ℕ) (fused : Bool) (r : ℕ) (part : Side) → ((v : ℕ) → number ≡ Some v → IsSum op v) → (fused ≡ true → IsTaken op part) → IsTaken op (side_by number fused r part)
+taken_by op (Some v) fused r part sums takes = sums v refl
+taken_by op None true r part sums takes = takes refl
+taken_by op None false r part sums takes = tt
+
+part_taken : (op : BinaryOp) (L : Layout) (hs : Homes) (i : Option (List ℕ)) (w : Extent) (T : Ty) (b : ℕ) (e : Term) → is_fused op w (Some T) e ≡ true → IsTaken op (part_side L hs i (Some T) b e)
+part_taken op L hs i w T b (Operation o x y) f = both_left (takes_product op) (is_product o && stays w (Some T)) f
+part_taken op L hs i w T b (Shift left e z) f = both_left (takes_shift op) (shift_stays left w (Some T)) f
+part_taken op L hs i w T b (Literal z) f = absurd cc
+part_taken op L hs i w T b (Variable x) f = absurd cc
+part_taken op L hs i w T b (Element a e) f = absurd cc
+part_taken op L hs i w T b (Unary o e) f = absurd cc
+part_taken op L hs i w T b (Conversion e t) f = absurd cc
+part_taken op L hs i w T b (Choice c x y) f = absurd cc
+part_taken op L hs i w T b (Comparison o x y) f = absurd cc
+part_taken op L hs i w T b (Both x y) f = absurd cc
+part_taken op L hs i w T b (Either x y) f = absurd cc
+part_taken op L hs i w T b (Not e) f = absurd cc
+
+pub right_taken : (op : BinaryOp) (L : Layout) (hs : Homes) (i : Option (List ℕ)) (w : Extent) (T : Ty) (b : ℕ) (e : Term) → IsTaken op (right_side L hs i op w (Some T) b e)
+right_taken op L hs i w T b e = taken_by op (added_number op (Some T) e) (is_fused op w (Some T) e) _ _ (added_sum op (Some T) e) (part_taken op L hs i w T b e)
 
 which : (v : Bool) (x y : ℤ) → (if v then word x else word y) ≡ word (choose_value v x y)
 which true x y = refl
@@ -124,29 +190,29 @@ which false x y = refl
 module _ (D : Laid) (L : Layout) (fit : Assigned L) where
   -- a right side, by whether a word holds it
   pub right_runs : (inner : List Entry → List Entry) {t : State} {rest : List Entry} {b e r : ℕ} {m : Memory} {most : ℕ} (o : Option ℤ) (number : Option ℕ) → ((v : ℕ) → number ≡ Some v → (y : ℤ) × ((o ≡ Some y) × (v ≡ word y))) → Resolves D (right_code number inner rest)
-      → (Resolves D (inner rest) → Gives D L (inner rest) t rest b e r m most o) → Sided D L (right_code number inner rest) t rest b e number r m most o
+      → (Resolves D (inner rest) → Gives D L (inner rest) t rest b e r m most o) → Sided D L (right_code number inner rest) t rest b e (IsSide number r) m most o
   right_runs inner {t = t} {rest = rest} {b = b} {e = e} {r = r} {m = m} {most = most} o None is res run = sided (run res)
     where
-      sided : {o : Option ℤ} → Gives D L (inner rest) t rest b e r m most o → Sided D L (inner rest) t rest b e None r m most o
+      sided : {o : Option ℤ} → Gives D L (inner rest) t rest b e r m most o → Sided D L (inner rest) t rest b e (IsSide None r) m most o
       sided (no_value g) = no_side g
       sided (a_value g) = a_side g.end g.goes g.kept g.value
   right_runs inner {t = t} {rest = rest} {b = b} {e = e} {r = r} {m = m} {most = most} o (Some v) is res run =
       let q = is v refl in
-      subst (λ o. Sided D L rest t rest b e (Some v) r m most o) (sym q.1.0) (a_side t (stay most) (kept_none L t b e) q.1.1)
+      subst (λ o. Sided D L rest t rest b e (IsSide (Some v) r) m most o) (sym q.1.0) (a_side t (stay most) (kept_none L t b e) q.1.1)
 
   -- what two operands give
-  pair_runs : {c c2 d : List Entry} {s : State} {m : Memory} {b b1 e hx hy m1 m2 : ℕ} {number : Option ℕ} {o1 o2 : Option ℤ} (most : ℕ) → m1 + m2 ≤ most → b ≤ b1 → b1 ≤ e → hx ≤ 25 → ((p : ℕ) → b1 ≤ p → p < e → IsMade L p → reg_of L p ≢ hx)
-      → Gives D L c s c2 b b1 hx m m1 o1 → ((t : State) → Kept L s t b b1 → Sided D L c2 t d b1 e number hy m m2 o2) → Pairs D L c s d b e hx number hy m most o1 o2
+  pair_runs : {c c2 d : List Entry} {s : State} {m : Memory} {b b1 e hx m1 m2 : ℕ} {Q : State → ℤ → Type 0} {o1 o2 : Option ℤ} (most : ℕ) → m1 + m2 ≤ most → b ≤ b1 → b1 ≤ e → hx ≤ 25 → ((p : ℕ) → b1 ≤ p → p < e → IsMade L p → reg_of L p ≢ hx)
+      → Gives D L c s c2 b b1 hx m m1 o1 → ((t : State) → Kept L s t b b1 → Sided D L c2 t d b1 e Q m m2 o2) → Pairs D L c s d b e hx Q m most o1 o2
   pair_runs most le l1 l2 hi apart (no_value g) right = no_left (stop_more most (omega arith) g)
-  pair_runs {c = c} {c2 = c2} {d = d} {s = s} {m = m} {b = b} {b1 = b1} {e = e} {hx = hx} {hy = hy} {m2 = m2} {number = number} most le l1 l2 hi apart (a_value {v = x} g) right = second (right g.end g.kept)
+  pair_runs {c = c} {c2 = c2} {d = d} {s = s} {m = m} {b = b} {b1 = b1} {e = e} {hx = hx} {m2 = m2} {Q = Q} most le l1 l2 hi apart (a_value {v = x} g) right = second (right g.end g.kept)
     where
-      second : {o : Option ℤ} → Sided D L c2 g.end d b1 e number hy m m2 o → Pairs D L c s d b e hx number hy m most (Some x) o
+      second : {o : Option ℤ} → Sided D L c2 g.end d b1 e Q m m2 o → Pairs D L c s d b e hx Q m most (Some x) o
       second (no_side k) = no_right (stop_after most le g.goes k)
       second (a_side end goes kept side) = pair end (chain most le g.goes goes) (kept_on L b e (omega arith) (omega arith) (omega arith) (omega arith) g.kept kept) (kept.others hx hi apart ∙ g.value) side
 
   -- an operation on them
-  op_runs : {c d rest : List Entry} {s : State} {m : Memory} {b e1 e2 hx hy r m1 : ℕ} {number : Option ℕ} {o1 o2 : Option ℤ} (f : ℤ → ℤ → ℤ) (most : ℕ) → m1 + 4 ≤ most → b ≤ e1 → e1 ≤ e2 → Pairs D L c s d b e1 hx number hy m m1 o1 o2
-      → ((t : State) (x y : ℤ) → o1 ≡ Some x → o2 ≡ Some y → Kept L s t b e1 → x_at t hx ≡ word x → IsSide number hy t y → Gets D L d t rest e1 e2 r (f x y) 4) → Gives D L c s rest b e2 r m most (on_both f o1 o2)
+  op_runs : {c d rest : List Entry} {s : State} {m : Memory} {b e1 e2 hx r m1 : ℕ} {Q : State → ℤ → Type 0} {o1 o2 : Option ℤ} (f : ℤ → ℤ → ℤ) (most : ℕ) → m1 + 4 ≤ most → b ≤ e1 → e1 ≤ e2 → Pairs D L c s d b e1 hx Q m m1 o1 o2
+      → ((t : State) (x y : ℤ) → o1 ≡ Some x → o2 ≡ Some y → Kept L s t b e1 → x_at t hx ≡ word x → Q t y → Gets D L d t rest e1 e2 r (f x y) 4) → Gives D L c s rest b e2 r m most (on_both f o1 o2)
   op_runs f most le l1 l2 (no_left g) op = no_value (stop_more most (omega arith) g)
   op_runs f most le l1 l2 (no_right g) op = no_value (stop_more most (omega arith) g)
   op_runs {b = b} {e2 = e2} f most le l1 l2 (pair {x = x} {y = y} end goes kept left side) op =
@@ -158,9 +224,38 @@ module _ (D : Laid) (L : Layout) (fit : Assigned L) where
         value = last.value;
       })
 
+  -- a value in a register as a right side
+  plain_sided : {c rest : List Entry} {s : State} {b e r : ℕ} {m : Memory} {most : ℕ} {o : Option ℤ} → Gives D L c s rest b e r m most o → Sided D L c s rest b e (IsOperand (Register r)) m most o
+  plain_sided (no_value g) = no_side g
+  plain_sided (a_value g) = a_side g.end g.goes g.kept g.value
+
+  -- two values as a product, which is not extended
+  product_sided : {c rest : List Entry} {s : State} {b e hp hq : ℕ} {m : Memory} {m1 : ℕ} {o1 o2 : Option ℤ} (w : Extent) (T : Ty) (e2 most : ℕ) → e ≤ e2 → m1 ≤ most → stays w (Some T) ≡ true → Pairs D L c s rest b e hp (IsOperand (Register hq)) m m1 o1 o2 → Sided D L c s rest b e2 (IsOperand (Product hp hq)) m most (on_both (loose_binary binary.Mul w (Some T)) o1 o2)
+  product_sided w T e2 most le l1 still (no_left g) = no_side (stop_more most l1 g)
+  product_sided w T e2 most le l1 still (no_right g) = no_side (stop_more most l1 g)
+  product_sided w T e2 most le l1 still (pair {x = u} {y = v} end goes kept left right) =
+      a_side end (go_more most l1 goes) (kept_more L e2 le kept) (ap₂ (λ p q. p * q % 2 ^ 64) left right ∙ sym (word-mul u v) ∙ sym (settled_same w T (u *ℤ v) still))
+
+  -- a value as one that the word shifts
+  moved_sided : {c rest : List Entry} {s : State} {b e r : ℕ} {m : Memory} {m1 : ℕ} {o : Option ℤ} (left leaves : Bool) (z : ℤ) (w : Extent) (T : Ty) (e2 most : ℕ) → e ≤ e2 → m1 ≤ most → (leaves ≡ true → left ≡ true) → shift_stays left w (Some T) ≡ true → ((x : ℤ) → o ≡ Some x → asked_extent left leaves w (Some T) ≡ Whole → IsOf T x) → Gives D L c s rest b e r m m1 o
+      → Sided D L c s rest b e2 (IsOperand (Moved (shift_kind left (is_signed T)) (shift_count z) r)) m most (option_map (loose_shift left z w (Some T)) o)
+  moved_sided left leaves z w T e2 most le l1 only still range (no_value g) = no_side (stop_more most l1 g)
+  moved_sided left leaves z w T e2 most le l1 only still range (a_value {v = x} g) =
+      a_side g.end (go_more most l1 g.goes) (kept_more L e2 le g.kept) (ap (λ k. shifted_word (shift_kind left (is_signed T)) k (shift_count z)) g.value ∙ moved_same left leaves z w T x only still (range x refl))
+
+  -- a right side, by what the word takes of it
+  sided_by : (whole parts : List Entry → List Entry) {t : State} {rest : List Entry} {b e : ℕ} {m : Memory} {most : ℕ} (o : Option ℤ) (number : Option ℕ) (fused : Bool) (r : ℕ) (part : Side) → ((v : ℕ) → number ≡ Some v → (y : ℤ) × ((o ≡ Some y) × (v ≡ word y))) → Resolves D (side_code number fused whole parts rest)
+      → (Resolves D (whole rest) → Gives D L (whole rest) t rest b e r m most o) → (fused ≡ true → Resolves D (parts rest) → Sided D L (parts rest) t rest b e (IsOperand part) m most o)
+      → Sided D L (side_code number fused whole parts rest) t rest b e (IsOperand (side_by number fused r part)) m most o
+  sided_by whole parts o None false r part is res run fuse = plain_sided (run res)
+  sided_by whole parts o None true r part is res run fuse = fuse refl res
+  sided_by whole parts {t = t} {rest = rest} {b = b} {e = e} {m = m} {most = most} o (Some v) fused r part is res run fuse =
+      let q = is v refl in
+      subst (λ o. Sided D L rest t rest b e (IsOperand (Number v)) m most o) (sym q.1.0) (a_side t (stay most) (kept_none L t b e) q.1.1)
+
   -- a comparison of them, and a branch
-  op_turns : {c d rest : List Entry} {s : State} {m : Memory} {to b e1 e2 hx hy m1 : ℕ} {number : Option ℕ} {sense : Bool} {o1 o2 : Option ℤ} (f : ℤ → ℤ → Bool) (most : ℕ) → m1 + 4 ≤ most → b ≤ e1 → e1 ≤ e2 → Pairs D L c s d b e1 hx number hy m m1 o1 o2
-      → ((t : State) (x y : ℤ) → o1 ≡ Some x → o2 ≡ Some y → x_at t hx ≡ word x → IsSide number hy t y → Turned D L d t (led D to rest sense (f x y)) e1 e2 2) → Turns D L c s to rest b e2 m most sense (on_both f o1 o2)
+  op_turns : {c d rest : List Entry} {s : State} {m : Memory} {to b e1 e2 hx m1 : ℕ} {Q : State → ℤ → Type 0} {sense : Bool} {o1 o2 : Option ℤ} (f : ℤ → ℤ → Bool) (most : ℕ) → m1 + 4 ≤ most → b ≤ e1 → e1 ≤ e2 → Pairs D L c s d b e1 hx Q m m1 o1 o2
+      → ((t : State) (x y : ℤ) → o1 ≡ Some x → o2 ≡ Some y → x_at t hx ≡ word x → Q t y → Turned D L d t (led D to rest sense (f x y)) e1 e2 2) → Turns D L c s to rest b e2 m most sense (on_both f o1 o2)
   op_turns f most le l1 l2 (no_left g) op = no_turn (stop_more most (omega arith) g)
   op_turns f most le l1 l2 (no_right g) op = no_turn (stop_more most (omega arith) g)
   op_turns {b = b} {e2 = e2} f most le l1 l2 (pair {x = x} {y = y} end goes kept left side) op =
@@ -168,11 +263,11 @@ module _ (D : Laid) (L : Layout) (fit : Assigned L) where
       turns (record { end = last.end; goes = chain most (omega arith) goes last.goes; kept = kept_on L b e2 (omega arith) (omega arith) (omega arith) (omega arith) kept last.kept })
 
   -- a comparison of them
-  op_flags : {c rest : List Entry} {s : State} {m : Memory} {b e1 e2 hx hy m1 : ℕ} {number : Option ℕ} {o1 o2 : Option ℤ} (op : CompareOp) (sg : Bool) (most : ℕ) → m1 + 1 ≤ most → b ≤ e1 → e1 ≤ e2 → hx ≤ 25 → ((v : ℕ) → number ≡ Some v → v < 4096) → Pairs D L c s (Put (compare_word number hx hy) ∷ rest) b e1 hx number hy m m1 o1 o2
+  op_flags : {c rest : List Entry} {s : State} {m : Memory} {b e1 e2 hx m1 : ℕ} {o1 o2 : Option ℤ} (number : Option ℕ) (hy : ℕ) (op : CompareOp) (sg : Bool) (most : ℕ) → m1 + 1 ≤ most → b ≤ e1 → e1 ≤ e2 → hx ≤ 25 → ((v : ℕ) → number ≡ Some v → v < 4096) → Pairs D L c s (Put (compare_word number hx hy) ∷ rest) b e1 hx (IsSide number hy) m m1 o1 o2
       → ((x y : ℤ) → o1 ≡ Some x → o2 ≡ Some y → InRange sg x × InRange sg y) → Flagged D L c s rest b e2 (condition op sg) m most (on_both (compare_on op) o1 o2)
-  op_flags op sg most le l1 l2 hi few (no_left g) range = no_flags (stop_more most (omega arith) g)
-  op_flags op sg most le l1 l2 hi few (no_right g) range = no_flags (stop_more most (omega arith) g)
-  op_flags {rest = rest} {b = b} {e2 = e2} {hx = hx} {hy = hy} {number = number} op sg most le l1 l2 hi few (pair {x = x} {y = y} end goes kept left side) range =
+  op_flags number hy op sg most le l1 l2 hi few (no_left g) range = no_flags (stop_more most (omega arith) g)
+  op_flags number hy op sg most le l1 l2 hi few (no_right g) range = no_flags (stop_more most (omega arith) g)
+  op_flags {rest = rest} {b = b} {e2 = e2} {hx = hx} number hy op sg most le l1 l2 hi few (pair {x = x} {y = y} end goes kept left side) range =
       let r = range x y refl refl in
       let last = compare_goes D number rest end hx hy x y few hi left side in
       a_flag last.end (chain most le goes last.goes) (kept_on L b e2 (omega arith) (omega arith) (omega arith) (omega arith) kept (last.kept L b e2)) (ap (flags_hold (condition op sg)) last.flags ∙ compared op sg x y r.0 r.1)
@@ -299,10 +394,17 @@ module _ (D : Laid) (L : Layout) (fit : Assigned L) where
   operation_back binary.Min signed d a c rest h = h
   operation_back binary.Max signed d a c rest h = h
 
-  pub operator_back : (number : Option ℕ) (leaves : Bool) (want : Option Ty) (op : BinaryOp) (d a c : ℕ) (rest : List Entry) → Resolves D (at_type want (λ t. operator_code number leaves op t d a c rest) rest) → Resolves D rest
-  operator_back number leaves None op d a c rest h = h
-  operator_back (Some v) leaves (Some t) op d a c rest h = word_back D (settle_word leaves t d) rest h
-  operator_back None leaves (Some t) op d a c rest h = word_back D (settle_word leaves t d) rest (operation_back op (is_signed t) d a c _ h)
+  pub operator_back : (side : Side) (leaves : Bool) (want : Option Ty) (op : BinaryOp) (d a : ℕ) (rest : List Entry) → Resolves D (at_type want (λ t. operator_code side leaves op t d a rest) rest) → Resolves D rest
+  operator_back side leaves None op d a rest h = h
+  operator_back (Number v) leaves (Some t) op d a rest h = word_back D (settle_word leaves t d) rest h
+  operator_back (Register c) leaves (Some t) op d a rest h = word_back D (settle_word leaves t d) rest (operation_back op (is_signed t) d a c _ h)
+  operator_back (Product p q) leaves (Some t) op d a rest h = word_back D (settle_word leaves t d) rest h
+  operator_back (Moved kind n r) leaves (Some t) op d a rest h = word_back D (settle_word leaves t d) rest h
+
+  pub side_back : (number : Option ℕ) (fused : Bool) (whole parts : List Entry → List Entry) (rest : List Entry) → (Resolves D (whole rest) → Resolves D rest) → (Resolves D (parts rest) → Resolves D rest) → Resolves D (side_code number fused whole parts rest) → Resolves D rest
+  side_back (Some v) fused whole parts rest f g h = h
+  side_back None true whole parts rest f g h = g h
+  side_back None false whole parts rest f g h = f h
 
   pub right_back : (number : Option ℕ) (inner : List Entry → List Entry) (rest : List Entry) → (Resolves D (inner rest) → Resolves D rest) → Resolves D (right_code number inner rest) → Resolves D rest
   right_back (Some v) inner rest f h = h
@@ -369,7 +471,10 @@ module _ (D : Laid) (L : Layout) (fit : Assigned L) where
     loose_back (Variable x) hs s w want b n rest h = h
     loose_back (Element a i) hs s w want b n rest h = load_back _ _ _ _ rest (number_back (stream_offset s.index i) _ _ (loose_back i hs s Whole (index_type s i) b n _) h)
     loose_back (Unary op e) hs s w want b n rest h = unary_back (unary_settles s want op e w) want op _ _ rest (loose_back e hs s (unary_asks s want op e w) want b n _ h)
-    loose_back (Operation op x y) hs s w want b n rest h = operator_back (added_number op want y) (binary_settles s want op x y w) want op _ _ _ rest (right_back (added_number op want y) _ _ (loose_back y hs s (binary_asks s want op x y w) want _ _ _) (loose_back x hs s (binary_asks s want op x y w) want b n _ h))
+    loose_back (Operation op x y) hs s w want b n rest h =
+        let k = binary_asks s want op x y w in
+        operator_back (right_side L hs s.index op k want (b + term_size s.index x) y) (binary_settles s want op x y w) want op _ _ rest
+        (side_back (added_number op want y) (is_fused op k want y) _ _ _ (loose_back y hs s k want _ _ _) (parts_back y hs s k want _ _ _) (loose_back x hs s k want b n _ h))
     loose_back (Shift left e z) hs s w want b n rest h = shift_back (shift_settles s want left e z w) want left z _ _ rest (loose_back e hs s (shift_asks s want left e z w) want b n _ h)
     loose_back (Conversion e t) hs s w want b n rest h = cast_back (within_type w t) (own s e) t _ _ rest (loose_back e hs s (converted_extent w (own s e) t) (own s e) b n _ h)
     loose_back (Choice c x y) hs s w want b n rest h = choice_back (flag_condition s c) _ _ _ _ _ _ rest (λ r. flags_back c hs s _ _ r) (λ r. jump_back c hs s false _ _ _ r) (loose_back y hs s w want _ _ _ (loose_back x hs s w want b n _ h))
@@ -377,6 +482,20 @@ module _ (D : Laid) (L : Layout) (fit : Assigned L) where
     loose_back (Both x y) hs s w want b n rest h = h
     loose_back (Either x y) hs s w want b n rest h = h
     loose_back (Not e) hs s w want b n rest h = h
+
+    pub parts_back : (e : Term) (hs : Homes) (s : Scope) (w : Extent) (want : Option Ty) (b n : ℕ) (rest : List Entry) → Resolves D (parts_code L hs s w want b n e rest) → Resolves D rest
+    parts_back (Operation op x y) hs s w want b n rest h = loose_back y hs s (binary_asks s want op x y w) want _ _ rest (loose_back x hs s (binary_asks s want op x y w) want b n _ h)
+    parts_back (Shift left e z) hs s w want b n rest h = loose_back e hs s (shift_asks s want left e z w) want b n rest h
+    parts_back (Literal z) hs s w want b n rest h = h
+    parts_back (Variable x) hs s w want b n rest h = h
+    parts_back (Element a i) hs s w want b n rest h = h
+    parts_back (Unary op e) hs s w want b n rest h = h
+    parts_back (Conversion e t) hs s w want b n rest h = h
+    parts_back (Choice c x y) hs s w want b n rest h = h
+    parts_back (Comparison op x y) hs s w want b n rest h = h
+    parts_back (Both x y) hs s w want b n rest h = h
+    parts_back (Either x y) hs s w want b n rest h = h
+    parts_back (Not e) hs s w want b n rest h = h
 
     flags_back : (e : Term) (hs : Homes) (s : Scope) (b n : ℕ) (rest : List Entry) → Resolves D (flags_code L hs s b n e rest) → Resolves D rest
     flags_back (Comparison op x y) hs s b n rest h = right_back (compared_number (side_type s x y) y) _ (Put (compare_word (compared_number (side_type s x y) y) (home L hs s.index b x) (home L hs s.index (b + term_size s.index x) y)) ∷ rest) (loose_back y hs s Whole (side_type s x y) _ _ _) (loose_back x hs s Whole (side_type s x y) b n _ h)
@@ -460,7 +579,7 @@ module _ (D : Laid) (L : Layout) (fit : Assigned L) where
       → ((T : Ty) (t : State) → Kept L st t b (b + term_size s.index x) → Runs D L y hs s names m t (b + term_size s.index x) (b + term_size s.index x + term_size s.index y) (n + labels s.index x) rest (Some T))
       → Resolves D (value_code L hs s (side_type s x y) b n x (right_code (compared_number (side_type s x y) y) (value_code L hs s (side_type s x y) (b + term_size s.index x) (n + labels s.index x) y) rest))
       → Pairs D L (value_code L hs s (side_type s x y) b n x (right_code (compared_number (side_type s x y) y) (value_code L hs s (side_type s x y) (b + term_size s.index x) (n + labels s.index x) y) rest)) st rest b (b + term_size s.index x + term_size s.index y)
-      (home L hs s.index b x) (compared_number (side_type s x y) y) (home L hs s.index (b + term_size s.index x) y) m (4 * term_size s.index x + 4 * term_size s.index y) (value s (side_type s x y) x m names) (value s (side_type s x y) y m names)
+      (home L hs s.index b x) (IsSide (compared_number (side_type s x y) y) (home L hs s.index (b + term_size s.index x) y)) m (4 * term_size s.index x + 4 * term_size s.index y) (value s (side_type s x y) x m names) (value s (side_type s x y) y m names)
   sides_run x y hs s names {m = m} {st = st} b n rest safe h left right res =
       let q = some_type (side_type s x y) h.0 in
       let want = side_type s x y in
@@ -506,16 +625,17 @@ module _ (D : Laid) (L : Layout) (fit : Assigned L) where
         (λ whole stays. unary_keeps s m names at.ranged T op e x (fits_types e L hs s (Some T) b _ h.1) (loose_value k1 L hs s names m e T b _ x h.1 at.ranged is whole) (loose_range k1 L hs s names m e T b _ x h.1 at.ranged is whole) stays) ex))
     loose_runs (Operation op x y) {hs = hs} s {names = names} {m = m} w T b user n rest le safe at h res =
         let b1 = b + term_size s.index x in let c = b1 + term_size s.index y in
-        let number = added_number op (Some T) y in
         let k1 = binary_asks s (Some T) op x y w in
         let hx = home_high x hs s (Some T) b c (omega arith) h.1 safe in
         op_runs (loose_binary op w (Some T)) (4 * (term_size s.index x + term_size s.index y + 1)) (omega arith) (omega arith) (omega arith)
         (pair_runs (4 * term_size s.index x + 4 * term_size s.index y) (omega arith) (omega arith) (omega arith) hx (λ p lo up made. home_apart x hs s (Some T) b c (omega arith) h.1 safe p lo up made)
         (loose_runs x s k1 T b c n _ (omega arith) safe at h.1 res)
-        (λ t k. right_runs _ (loose s k1 (Some T) y m names) number (added_right op s k1 (Some T) y m names) (loose_back x hs s k1 (Some T) b n _ res) (λ r. loose_runs y s k1 T b1 c _ _ (omega arith) (safe_later L hs b b1 (omega arith) safe) (at_kept L fit b b1 (omega arith) safe at k) h.2 r)))
-        (λ t u v is js k ex ey. gets D L c c (b + (term_size s.index x + term_size s.index y + 1)) (omega arith) (omega arith) (omega (arith, h.3)) (operation_runs D L fit number op (binary_may_leave s (Some T) op x y) w T u v _ _ _ (k.sized ∙ at.sized) hx (fit.high _ (omega (arith, h.3))) (λ e. and_true (binary_leaves op) _ e) (λ e. (loose_range k1 L hs s names m x T b c u h.1 at.ranged is e, loose_range k1 L hs s names m y T b1 c v h.2 at.ranged js e))
+        (λ t k. sided_by _ _ (loose s k1 (Some T) y m names) (added_number op (Some T) y) (is_fused op k1 (Some T) y) (home L hs s.index b1 y) (part_side L hs s.index (Some T) b1 y) (added_right op s k1 (Some T) y m names) (loose_back x hs s k1 (Some T) b n _ res)
+        (λ r. loose_runs y s k1 T b1 c _ _ (omega arith) (safe_later L hs b b1 (omega arith) safe) (at_kept L fit b b1 (omega arith) safe at k) h.2 r)
+        (λ f r. parts_runs y s op k1 T b1 c _ _ (omega arith) f (safe_later L hs b b1 (omega arith) safe) (at_kept L fit b b1 (omega arith) safe at k) h.2 r)))
+        (λ t u v is js k ex ey. gets D L c c (b + (term_size s.index x + term_size s.index y + 1)) (omega arith) (omega arith) (omega (arith, h.3)) (operation_runs D L fit (right_side L hs s.index op k1 (Some T) b1 y) op (binary_may_leave s (Some T) op x y) w T u v _ _ (k.sized ∙ at.sized) hx (fit.high _ (omega (arith, h.3))) (λ e. and_true (binary_leaves op) _ e) (λ e. (loose_range k1 L hs s names m x T b c u h.1 at.ranged is e, loose_range k1 L hs s names m y T b1 c v h.2 at.ranged js e))
         (λ e stays. binary_keeps s m names at.ranged T op x y u v (fits_types x L hs s (Some T) b c h.1) (fits_types y L hs s (Some T) b1 c h.2) (loose_value k1 L hs s names m x T b c u h.1 at.ranged is e) (loose_value k1 L hs s names m y T b1 c v h.2 at.ranged js e)
-        (loose_range k1 L hs s names m x T b c u h.1 at.ranged is e) (loose_range k1 L hs s names m y T b1 c v h.2 at.ranged js e) stays) (added_sum op (Some T) y) ex ey))
+        (loose_range k1 L hs s names m x T b c u h.1 at.ranged is e) (loose_range k1 L hs s names m y T b1 c v h.2 at.ranged js e) stays) (right_taken op L hs s.index k1 T b1 y) ex ey))
     loose_runs (Shift left e z) {hs = hs} s {names = names} {m = m} w T b user n rest le safe at h res =
         let k1 = shift_asks s (Some T) left e z w in
         map_runs (loose_shift left z w (Some T)) (4 * (term_size s.index e + 1)) (omega arith) (omega arith) (omega arith)
@@ -555,6 +675,40 @@ module _ (D : Laid) (L : Layout) (fit : Assigned L) where
     loose_runs (Either x y) s w T b user n rest le safe at h res = absurd h
     loose_runs (Not e) s w T b user n rest le safe at h res = absurd h
 
+    -- the parts of a right side that stands in the operator's word
+    pub parts_runs : (e : Term) {W : Fixed} {hs : Homes} (s : Scope) {names : Names} {m : Memory} {st : State} (op : BinaryOp) (w : Extent) (T : Ty) (b user n : ℕ) (rest : List Entry) → b + term_size s.index e ≤ user → is_fused op w (Some T) e ≡ true → AreSafe L b hs → At W hs s.visible names m b st → Fits L hs s (Some T) b user e
+        → Resolves D (parts_code L hs s w (Some T) b n e rest)
+        → Sided D L (parts_code L hs s w (Some T) b n e rest) st rest b (b + term_size s.index e) (IsOperand (part_side L hs s.index (Some T) b e)) m (4 * term_size s.index e) (loose s w (Some T) e m names)
+    parts_runs (Operation binary.Mul x y) {hs = hs} s {names = names} {m = m} op w T b user n rest le f safe at h res =
+        let b1 = b + term_size s.index x in let c = b1 + term_size s.index y in
+        let k = binary_asks s (Some T) binary.Mul x y w in
+        product_sided w T (b + (term_size s.index x + term_size s.index y + 1)) (4 * (term_size s.index x + term_size s.index y + 1)) (omega arith) (omega arith) (both_right (takes_product op) (stays w (Some T)) f)
+        (pair_runs (4 * term_size s.index x + 4 * term_size s.index y) (omega arith) (omega arith) (omega arith) (home_high x hs s (Some T) b c (omega arith) h.1 safe) (λ p lo up made. home_apart x hs s (Some T) b c (omega arith) h.1 safe p lo up made)
+        (loose_runs x s k T b c n _ (omega arith) safe at h.1 res)
+        (λ t kept. plain_sided (loose_runs y s k T b1 c _ _ (omega arith) (safe_later L hs b b1 (omega arith) safe) (at_kept L fit b b1 (omega arith) safe at kept) h.2 (loose_back x hs s k (Some T) b n _ res))))
+    parts_runs (Shift left e z) {hs = hs} s {names = names} {m = m} op w T b user n rest le f safe at h res =
+        let k = shift_asks s (Some T) left e z w in
+        moved_sided left (shift_may_leave s (Some T) left e z) z w T (b + (term_size s.index e + 1)) (4 * (term_size s.index e + 1)) (omega arith) (omega arith) (λ q. and_true left _ q) (both_right (takes_shift op) (shift_stays left w (Some T)) f)
+        (λ x is whole. loose_range k L hs s names m e T b _ x h.1 at.ranged is whole)
+        (loose_runs e s k T b _ n _ (omega arith) safe at h.1 res)
+    parts_runs (Operation binary.Add x y) s op w T b user n rest le f safe at h res = absurd (never (takes_product op) f)
+    parts_runs (Operation binary.Sub x y) s op w T b user n rest le f safe at h res = absurd (never (takes_product op) f)
+    parts_runs (Operation binary.And x y) s op w T b user n rest le f safe at h res = absurd (never (takes_product op) f)
+    parts_runs (Operation binary.Or x y) s op w T b user n rest le f safe at h res = absurd (never (takes_product op) f)
+    parts_runs (Operation binary.Xor x y) s op w T b user n rest le f safe at h res = absurd (never (takes_product op) f)
+    parts_runs (Operation binary.Min x y) s op w T b user n rest le f safe at h res = absurd (never (takes_product op) f)
+    parts_runs (Operation binary.Max x y) s op w T b user n rest le f safe at h res = absurd (never (takes_product op) f)
+    parts_runs (Literal z) s op w T b user n rest le f safe at h res = absurd cc
+    parts_runs (Variable x) s op w T b user n rest le f safe at h res = absurd cc
+    parts_runs (Element a i) s op w T b user n rest le f safe at h res = absurd cc
+    parts_runs (Unary o e) s op w T b user n rest le f safe at h res = absurd cc
+    parts_runs (Conversion e t) s op w T b user n rest le f safe at h res = absurd cc
+    parts_runs (Choice c x y) s op w T b user n rest le f safe at h res = absurd cc
+    parts_runs (Comparison o x y) s op w T b user n rest le f safe at h res = absurd cc
+    parts_runs (Both x y) s op w T b user n rest le f safe at h res = absurd cc
+    parts_runs (Either x y) s op w T b user n rest le f safe at h res = absurd cc
+    parts_runs (Not e) s op w T b user n rest le f safe at h res = absurd cc
+
     -- a comparison, whose truth is in the flags
     flags_run : (e : Term) {w : Fixed} {hs : Homes} (s : Scope) {names : Names} {m : Memory} {st : State} (b n k : ℕ) (rest : List Entry) → flag_condition s e ≡ Some k → AreSafe L b hs → At w hs s.visible names m b st → FitsTruth L hs s b e → Resolves D (flags_code L hs s b n e rest)
         → Flagged D L (flags_code L hs s b n e rest) st rest b (b + term_size s.index e) k m (4 * term_size s.index e) (holds s e m names)
@@ -564,7 +718,7 @@ module _ (D : Laid) (L : Layout) (fit : Assigned L) where
         let number = compared_number want y in
         let same : condition op (signed_side want) ≡ k = cc in
         subst (λ k. Flagged D L (flags_code L hs s b n (Comparison op x y) rest) st rest b (b + (term_size s.index x + term_size s.index y + 1)) k m (4 * (term_size s.index x + term_size s.index y + 1)) (holds s (Comparison op x y) m names)) same
-        (op_flags op (signed_side want) (4 * (term_size s.index x + term_size s.index y + 1)) (omega arith) (omega arith) (omega arith) (home_high x hs s want b c (omega arith) h.1 safe) (compared_small want y)
+        (op_flags number (home L hs s.index b1 y) op (signed_side want) (4 * (term_size s.index x + term_size s.index y + 1)) (omega arith) (omega arith) (omega arith) (home_high x hs s want b c (omega arith) h.1 safe) (compared_small want y)
         (sides_run x y hs s names b n _ safe h (λ T r. exact hs b c n x s names m (Some T) at.ranged (loose_runs x s Whole T b c n r (omega arith) safe at)) (λ T t k. exact hs b1 c (n + labels s.index x) y s names m (Some T) at.ranged (loose_runs y s Whole T b1 c _ _ (omega arith) (safe_later L hs b b1 (omega arith) safe) (at_kept L fit b b1 (omega arith) safe at k))) res) (λ u v is js. sides_range x y hs s names m b u v at.ranged h is js))
     flags_run (Literal z) s b n k rest is safe at h res = absurd cc
     flags_run (Variable x) s b n k rest is safe at h res = absurd cc
@@ -626,6 +780,14 @@ module _ (D : Laid) (L : Layout) (fit : Assigned L) where
     jump_runs (Shift left e z) s sense to b n rest safe at h res = absurd h
     jump_runs (Conversion e t) s sense to b n rest safe at h res = absurd h
     jump_runs (Choice c x y) s sense to b n rest safe at h res = absurd h
+
+  -- the right side of an operator
+  pub side_runs : (e : Term) {W : Fixed} {hs : Homes} (s : Scope) {names : Names} {m : Memory} {st : State} (op : BinaryOp) (w : Extent) (T : Ty) (b user n : ℕ) (rest : List Entry) → b + term_size s.index e ≤ user → AreSafe L b hs → At W hs s.visible names m b st → Fits L hs s (Some T) b user e
+      → Resolves D (side_code (added_number op (Some T) e) (is_fused op w (Some T) e) (loose_code L hs s w (Some T) b n e) (parts_code L hs s w (Some T) b n e) rest)
+      → Sided D L (side_code (added_number op (Some T) e) (is_fused op w (Some T) e) (loose_code L hs s w (Some T) b n e) (parts_code L hs s w (Some T) b n e) rest) st rest b (b + term_size s.index e) (IsOperand (right_side L hs s.index op w (Some T) b e)) m (4 * term_size s.index e) (loose s w (Some T) e m names)
+  side_runs e {hs = hs} s {names = names} {m = m} op w T b user n rest le safe at h res =
+      sided_by _ _ (loose s w (Some T) e m names) (added_number op (Some T) e) (is_fused op w (Some T) e) (home L hs s.index b e) (part_side L hs s.index (Some T) b e) (added_right op s w (Some T) e m names) res
+      (λ r. loose_runs e s w T b user n rest le safe at h r) (λ f r. parts_runs e s op w T b user n rest le f safe at h r)
 
   -- a value itself
   pub value_runs : (e : Term) {w : Fixed} {hs : Homes} (s : Scope) {names : Names} {m : Memory} {st : State} (T : Ty) (b user n : ℕ) (rest : List Entry) → b + term_size s.index e ≤ user → AreSafe L b hs → At w hs s.visible names m b st → Runs D L e hs s names m st b user n rest (Some T)

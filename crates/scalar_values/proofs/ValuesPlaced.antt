@@ -20,8 +20,8 @@ use Rattle.label_fix.proofs.LabelsOnce.{Unplaced, Once}
 use Rattle.scalar_words.specs.Layout.{Layout, Homes, reg_of}
 use Rattle.scalar_values.specs.ValueRegisters.{home}
 use Rattle.scalar_words.specs.Words.{condition, copy_word, settle_word, word_code, at_type}
-use Rattle.scalar_values.specs.ItemWords.{zero_test, tested_code, pick_code, placed_code, operator_code, convert_word, index_word, load_code, unary_code, abs_code, shift_code}
-use Rattle.scalar_values.specs.Code.{inner_labels, labels, number_code, signed_side, compared_number, added_number, right_code, flag_condition, choice_code, loose_code, flags_code, jump_code}
+use Rattle.scalar_values.specs.ItemWords.{Side, Number, Register, Product, Moved, zero_test, tested_code, pick_code, placed_code, operator_code, convert_word, index_word, load_code, unary_code, abs_code, shift_code}
+use Rattle.scalar_values.specs.Code.{inner_labels, labels, number_code, signed_side, compared_number, added_number, is_fused, right_side, side_code, parts_code, right_code, flag_condition, choice_code, loose_code, flags_code, jump_code}
 use Rattle.scalar_words.proofs.Pieces.{word_put, operation_put, const_put, unplaced_put, once_put}
 use Rattle.kernel_tree.specs.declared.ops.UnaryOp.TheVariants as unary
 
@@ -30,10 +30,12 @@ abbrev pub Fresh : ℕ → ℕ → List Entry → Type 0
 Fresh lo hi es = (l : ℕ) → lo ≤ l → l < hi → Unplaced l es
 
 module _ (P : List Entry → Type 0) (put : (i : Listed) (rest : List Entry) → P rest → P (Put i ∷ rest)) where
-  pub operator_put : (number : Option ℕ) (leaves : Bool) (want : Option Ty) (op : BinaryOp) (d a c : ℕ) (rest : List Entry) → P rest → P (at_type want (λ t. operator_code number leaves op t d a c rest) rest)
-  operator_put number leaves None op d a c rest h = h
-  operator_put (Some v) leaves (Some t) op d a c rest h = put _ _ (word_put P put (settle_word leaves t d) rest h)
-  operator_put None leaves (Some t) op d a c rest h = operation_put P put op (is_signed t) d a c _ (word_put P put (settle_word leaves t d) rest h)
+  pub operator_put : (side : Side) (leaves : Bool) (want : Option Ty) (op : BinaryOp) (d a : ℕ) (rest : List Entry) → P rest → P (at_type want (λ t. operator_code side leaves op t d a rest) rest)
+  operator_put side leaves None op d a rest h = h
+  operator_put (Number v) leaves (Some t) op d a rest h = put _ _ (word_put P put (settle_word leaves t d) rest h)
+  operator_put (Register c) leaves (Some t) op d a rest h = operation_put P put op (is_signed t) d a c _ (word_put P put (settle_word leaves t d) rest h)
+  operator_put (Product p q) leaves (Some t) op d a rest h = put _ _ (word_put P put (settle_word leaves t d) rest h)
+  operator_put (Moved kind n r) leaves (Some t) op d a rest h = put _ _ (word_put P put (settle_word leaves t d) rest h)
 
   abs_put : (leaves b : Bool) (t : Ty) (d a : ℕ) (rest : List Entry) → P rest → P (abs_code leaves b t d a rest)
   abs_put leaves true t d a rest h = put _ _ (put _ _ (word_put P put (settle_word leaves t d) rest h))
@@ -62,7 +64,12 @@ number_unplaced l (Some c) n m inner rest h f u = word_put (Unplaced l) (unplace
 number_unplaced l None n m inner rest h f u = f h rest u
 
 -- pieces of choices and conditions
-pub right_unplaced : (l : ℕ) (number : Option ℕ) (inner : List Entry → List Entry) (rest : List Entry) → Unplaced l (inner rest) → Unplaced l rest → Unplaced l (right_code number inner rest)
+pub side_unplaced : (l : ℕ) (number : Option ℕ) (fused : Bool) (whole parts : List Entry → List Entry) (rest : List Entry) → Unplaced l (whole rest) → Unplaced l (parts rest) → Unplaced l rest → Unplaced l (side_code number fused whole parts rest)
+side_unplaced l (Some v) fused whole parts rest f g u = u
+side_unplaced l None true whole parts rest f g u = g
+side_unplaced l None false whole parts rest f g u = f
+
+right_unplaced : (l : ℕ) (number : Option ℕ) (inner : List Entry → List Entry) (rest : List Entry) → Unplaced l (inner rest) → Unplaced l rest → Unplaced l (right_code number inner rest)
 right_unplaced l (Some v) inner rest f u = u
 right_unplaced l None inner rest f u = f
 
@@ -89,9 +96,9 @@ module _ (L : Layout) (hs : Homes) where
     loose_unplaced (Element a j) s w want l b n rest h u = number_unplaced l (stream_offset s.index j) n (labels s.index j) _ _ h (λ k r v. loose_unplaced j s Whole (index_type s j) l b n r k v) (load_put (Unplaced l) (unplaced_put l) _ _ _ _ rest u)
     loose_unplaced (Unary op x) s w want l b n rest h u = loose_unplaced x s (unary_asks s want op x w) want l b n _ h (unary_put (Unplaced l) (unplaced_put l) (unary_settles s want op x w) want op _ _ rest u)
     loose_unplaced (Operation op x y) s w want l b n rest h u =
-        let number = added_number op want y in
-        let v = operator_put (Unplaced l) (unplaced_put l) number (binary_settles s want op x y w) want op _ _ _ rest u in
-        loose_unplaced x s (binary_asks s want op x y w) want l b n _ (λ k. omega arith) (right_unplaced l number _ _ (loose_unplaced y s (binary_asks s want op x y w) want l _ _ _ (λ k. omega arith) v) v)
+        let k1 = binary_asks s want op x y w in
+        let v = operator_put (Unplaced l) (unplaced_put l) (right_side L hs s.index op k1 want (b + term_size s.index x) y) (binary_settles s want op x y w) want op _ _ rest u in
+        loose_unplaced x s k1 want l b n _ (λ k. omega arith) (side_unplaced l (added_number op want y) (is_fused op k1 want y) _ _ _ (loose_unplaced y s k1 want l _ _ _ (λ k. omega arith) v) (parts_unplaced y s k1 want l _ _ _ (λ k. omega arith) v) v)
     loose_unplaced (Shift left x z) s w want l b n rest h u = loose_unplaced x s (shift_asks s want left x z w) want l b n _ h (shift_put (Unplaced l) (unplaced_put l) (shift_settles s want left x z w) want left z _ _ rest u)
     loose_unplaced (Conversion x t) s w want l b n rest h u = loose_unplaced x s (converted_extent w (own s x) t) (own s x) l b n _ h (cast_put (Unplaced l) (unplaced_put l) (within_type w t) (own s x) t _ _ rest u)
     loose_unplaced (Choice c x y) s w want l b n rest h u =
@@ -101,6 +108,20 @@ module _ (L : Layout) (hs : Homes) where
     loose_unplaced (Both x y) s w want l b n rest h u = u
     loose_unplaced (Either x y) s w want l b n rest h u = u
     loose_unplaced (Not x) s w want l b n rest h u = u
+
+    pub parts_unplaced : (e : Term) (s : Scope) (w : Extent) (want : Option Ty) (l b n : ℕ) (rest : List Entry) → (n ≤ l → n + labels s.index e ≤ l) → Unplaced l rest → Unplaced l (parts_code L hs s w want b n e rest)
+    parts_unplaced (Operation op x y) s w want l b n rest h u = loose_unplaced x s (binary_asks s want op x y w) want l b n _ (λ k. omega arith) (loose_unplaced y s (binary_asks s want op x y w) want l _ _ rest (λ k. omega arith) u)
+    parts_unplaced (Shift left x z) s w want l b n rest h u = loose_unplaced x s (shift_asks s want left x z w) want l b n rest h u
+    parts_unplaced (Literal z) s w want l b n rest h u = u
+    parts_unplaced (Variable x) s w want l b n rest h u = u
+    parts_unplaced (Element a i) s w want l b n rest h u = u
+    parts_unplaced (Unary op e) s w want l b n rest h u = u
+    parts_unplaced (Conversion e t) s w want l b n rest h u = u
+    parts_unplaced (Choice c x y) s w want l b n rest h u = u
+    parts_unplaced (Comparison op x y) s w want l b n rest h u = u
+    parts_unplaced (Both x y) s w want l b n rest h u = u
+    parts_unplaced (Either x y) s w want l b n rest h u = u
+    parts_unplaced (Not e) s w want l b n rest h u = u
 
     flags_unplaced : (e : Term) (s : Scope) (l b n : ℕ) (rest : List Entry) → (n ≤ l → n + labels s.index e ≤ l) → Unplaced l rest → Unplaced l (flags_code L hs s b n e rest)
     flags_unplaced (Comparison op x y) s l b n rest h u =
@@ -143,7 +164,12 @@ number_once : (o : Option ℤ) (n m : ℕ) (inner : List Entry → List Entry) (
 number_once (Some c) n m inner rest f k h = word_put Once once_put (index_word c) rest h
 number_once None n m inner rest f k h = k f
 
-pub right_once : (number : Option ℕ) (inner : List Entry → List Entry) (rest : List Entry) → Once (inner rest) → Once rest → Once (right_code number inner rest)
+pub side_once : (number : Option ℕ) (fused : Bool) (whole parts : List Entry → List Entry) (rest : List Entry) → Once (whole rest) → Once (parts rest) → Once rest → Once (side_code number fused whole parts rest)
+side_once (Some v) fused whole parts rest f g h = h
+side_once None true whole parts rest f g h = g
+side_once None false whole parts rest f g h = f
+
+right_once : (number : Option ℕ) (inner : List Entry → List Entry) (rest : List Entry) → Once (inner rest) → Once rest → Once (right_code number inner rest)
 right_once (Some v) inner rest f h = h
 right_once None inner rest f h = f
 
@@ -178,9 +204,12 @@ module _ (L : Layout) (hs : Homes) where
         let number = added_number op want y in
         let ends = binary_settles s want op x y w in
         let k1 = binary_asks s want op x y w in
-        let once = operator_put Once once_put number ends want op _ _ _ rest h in
-        loose_once x s k1 want b n _ (λ l lo hi. let v = operator_put (Unplaced l) (unplaced_put l) number ends want op _ _ _ rest (f l lo (omega arith)) in right_unplaced l number _ _ (loose_unplaced L hs y s k1 want l _ _ _ (λ k. omega arith) v) v)
-        (right_once number _ _ (loose_once y s k1 want _ _ _ (λ l lo hi. operator_put (Unplaced l) (unplaced_put l) number ends want op _ _ _ rest (f l (omega arith) (omega arith))) once) once)
+        let fused = is_fused op k1 want y in
+        let side = right_side L hs s.index op k1 want (b + term_size s.index x) y in
+        let once = operator_put Once once_put side ends want op _ _ rest h in
+        loose_once x s k1 want b n _ (λ l lo hi. let v = operator_put (Unplaced l) (unplaced_put l) side ends want op _ _ rest (f l lo (omega arith)) in side_unplaced l number fused _ _ _ (loose_unplaced L hs y s k1 want l _ _ _ (λ k. omega arith) v) (parts_unplaced L hs y s k1 want l _ _ _ (λ k. omega arith) v) v)
+        (side_once number fused _ _ _ (loose_once y s k1 want _ _ _ (λ l lo hi. operator_put (Unplaced l) (unplaced_put l) side ends want op _ _ rest (f l (omega arith) (omega arith))) once)
+        (parts_once y s k1 want _ _ _ (λ l lo hi. operator_put (Unplaced l) (unplaced_put l) side ends want op _ _ rest (f l (omega arith) (omega arith))) once) once)
     loose_once (Shift left x z) s w want b n rest f h = loose_once x s (shift_asks s want left x z w) want b n _ (λ l lo hi. shift_put (Unplaced l) (unplaced_put l) (shift_settles s want left x z w) want left z _ _ rest (f l lo hi)) (shift_put Once once_put (shift_settles s want left x z w) want left z _ _ rest h)
     loose_once (Conversion x t) s w want b n rest f h = loose_once x s (converted_extent w (own s x) t) (own s x) b n _ (λ l lo hi. cast_put (Unplaced l) (unplaced_put l) (within_type w t) (own s x) t _ _ rest (f l lo hi)) (cast_put Once once_put (within_type w t) (own s x) t _ _ rest h)
     loose_once (Choice c x y) s w want b n rest f h =
@@ -192,6 +221,22 @@ module _ (L : Layout) (hs : Homes) where
     loose_once (Both x y) s w want b n rest f h = h
     loose_once (Either x y) s w want b n rest f h = h
     loose_once (Not x) s w want b n rest f h = h
+
+    pub parts_once : (e : Term) (s : Scope) (w : Extent) (want : Option Ty) (b n : ℕ) (rest : List Entry) → Fresh n (n + labels s.index e) rest → Once rest → Once (parts_code L hs s w want b n e rest)
+    parts_once (Operation op x y) s w want b n rest f h =
+        let k1 = binary_asks s want op x y w in
+        loose_once x s k1 want b n _ (λ l lo hi. loose_unplaced L hs y s k1 want l _ _ rest (λ k. omega arith) (f l lo (omega arith))) (loose_once y s k1 want _ _ rest (λ l lo hi. f l (omega arith) (omega arith)) h)
+    parts_once (Shift left x z) s w want b n rest f h = loose_once x s (shift_asks s want left x z w) want b n rest f h
+    parts_once (Literal z) s w want b n rest f h = h
+    parts_once (Variable x) s w want b n rest f h = h
+    parts_once (Element a i) s w want b n rest f h = h
+    parts_once (Unary op e) s w want b n rest f h = h
+    parts_once (Conversion e t) s w want b n rest f h = h
+    parts_once (Choice c x y) s w want b n rest f h = h
+    parts_once (Comparison op x y) s w want b n rest f h = h
+    parts_once (Both x y) s w want b n rest f h = h
+    parts_once (Either x y) s w want b n rest f h = h
+    parts_once (Not e) s w want b n rest f h = h
 
     flags_once : (e : Term) (s : Scope) (b n : ℕ) (rest : List Entry) → Fresh n (n + labels s.index e) rest → Once rest → Once (flags_code L hs s b n e rest)
     flags_once (Comparison op x y) s b n rest f h =

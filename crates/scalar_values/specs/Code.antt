@@ -1,21 +1,22 @@
 -- The code of expressions, before the entries that follow it. b is the first item, n the next label.
-use Rattle.std.specs.Prelude.{ℕ, ◌+◌, ℤ, Bool, true, false, not, List, [], ◌∷◌, Option, Some, None, option_and_then, if◌then◌else◌}
+use Rattle.std.specs.Prelude.{ℕ, ◌+◌, ℤ, Bool, true, false, not, ◌&&◌, ◌||◌, List, [], ◌∷◌, Option, Some, None, option_and_then, if◌then◌else◌}
 use Rattle.kernel_tree.specs.declared.ops.Ty.{Ty}
 use Rattle.kernel_tree.specs.declared.ops.BinaryOp.{BinaryOp}
+use Rattle.kernel_tree.specs.declared.ops.BinaryOp.TheVariants as binary
 use Rattle.a64_code.specs.Table.{csel}
 use Rattle.kernel_tree.specs.Plain.{Term, Literal, Variable, Element, Unary, Operation, Shift, Conversion, Choice, Comparison, Both, Either, Not}
 use Rattle.kernel_tree.specs.Items.{literal_value, term_size, index_items, stream_offset}
 use Rattle.kernel_tree.specs.Wrap.{is_signed}
 use Rattle.kernel_tree.specs.Typing.{Scope, lookup, own, element_type, index_type, side_type}
-use Rattle.kernel_meaning.specs.Operators.{word, wrapped}
+use Rattle.kernel_meaning.specs.Operators.{word, wrapped, shift_count}
 use Rattle.label_fix.specs.DraftRun.{Entry, Put, ins}
 use Rattle.scalar_words.specs.Layout.{Layout, Homes, reg_of, register_at}
 use Rattle.scalar_values.specs.ValueRegisters.{home}
 use Rattle.scalar_values.specs.declared.extent.Extent.{Extent}
 use Rattle.scalar_values.specs.Extents.{Whole, within_type, converted_extent}
 use Rattle.scalar_values.specs.Leaving.{unary_asks, binary_asks, shift_asks, unary_settles, binary_settles, shift_settles}
-use Rattle.scalar_words.specs.Words.{const_code, word_code, condition, at_type}
-use Rattle.scalar_values.specs.ItemWords.{convert_word, index_word, index_register, load_code, unary_code, shift_code, immediate, held_addend, operator_code, compare_word, branch_code, pick_code, placed_code}
+use Rattle.scalar_words.specs.Words.{const_code, word_code, condition, is_narrow, at_type}
+use Rattle.scalar_values.specs.ItemWords.{Side, Number, Register, Product, Moved, shift_kind, convert_word, index_word, index_register, load_code, unary_code, shift_code, immediate, held_addend, operator_code, compare_word, branch_code, pick_code, placed_code}
 
 -- the labels that code uses up
 abbrev pub inner_labels : Option ℤ → ℕ → ℕ
@@ -68,6 +69,67 @@ abbrev pub IsHeld : Option ℕ → Term → Type 0
 IsHeld None e = Unit {0}
 IsHeld (Some v) e = IsLiteral (literal_value e)
 
+-- ---- products and shifts that stand in the word of an operator
+
+abbrev pub takes_product : BinaryOp → Bool
+takes_product binary.Add = true
+takes_product binary.Sub = true
+takes_product _ = false
+
+abbrev pub takes_shift : BinaryOp → Bool
+takes_shift binary.Add = true
+takes_shift binary.Sub = true
+takes_shift binary.And = true
+takes_shift binary.Or = true
+takes_shift binary.Xor = true
+takes_shift _ = false
+
+abbrev pub is_product : BinaryOp → Bool
+is_product binary.Mul = true
+is_product _ = false
+
+-- a result of which so much is asked for, and which its operator may leave in another form than the extended one, is not extended
+abbrev pub stays : Extent → Option Ty → Bool
+stays w None = false
+stays w (Some t) = within_type w t || not (is_narrow t)
+
+abbrev pub shift_stays : Bool → Extent → Option Ty → Bool
+shift_stays true w want = stays w want
+shift_stays false w want = true
+
+-- the right side of an operator, of which so much is asked for, stands in its word
+abbrev pub is_fused : BinaryOp → Extent → Option Ty → Term → Bool
+is_fused op w want (Operation o p q) = takes_product op && (is_product o && stays w want)
+is_fused op w want (Shift left e z) = takes_shift op && shift_stays left w want
+is_fused op w want _ = false
+
+abbrev pub HasParts : Bool → Term → Type 0
+HasParts true (Operation o p q) = Unit {0}
+HasParts true (Shift left e z) = Unit {0}
+HasParts true _ = ⊥
+HasParts false e = Unit {0}
+
+-- and what the word takes of it
+abbrev pub part_side : Layout → Homes → Option (List ℕ) → Option Ty → (b : ℕ) → Term → Side
+part_side L homes i want b (Operation o p q) = Product (home L homes i b p) (home L homes i (b + term_size i p) q)
+part_side L homes i want b (Shift left e z) = Moved (shift_kind left (signed_side want)) (shift_count z) (home L homes i b e)
+part_side L homes i want b _ = Register 31
+
+abbrev pub side_by : Option ℕ → (fused : Bool) → (r : ℕ) → Side → Side
+side_by (Some v) fused r part = Number v
+side_by None true r part = part
+side_by None false r part = Register r
+
+abbrev pub right_side : Layout → Homes → Option (List ℕ) → BinaryOp → Extent → Option Ty → (b : ℕ) → Term → Side
+right_side L homes i op w want b y = side_by (added_number op want y) (is_fused op w want y) (home L homes i b y) (part_side L homes i want b y)
+
+-- the code of a right side: none where the word holds it as a number, that of its parts where it stands in the word, and else
+-- its own
+abbrev pub side_code : Option ℕ → (fused : Bool) → (whole parts : List Entry → List Entry) → List Entry → List Entry
+side_code (Some v) fused whole parts rest = rest
+side_code None true whole parts rest = parts rest
+side_code None false whole parts rest = whole rest
+
 -- no code for a right side that a word holds
 abbrev pub right_code : Option ℕ → (List Entry → List Entry) → List Entry → List Entry
 right_code (Some v) inner rest = rest
@@ -96,8 +158,10 @@ abbrev mutual
   loose_code L homes scope w want b n (Unary op e) rest =
       loose_code L homes scope (unary_asks scope want op e w) want b n e (at_type want (λ t. unary_code (unary_settles scope want op e w) op t (reg_of L (b + term_size scope.index e)) (home L homes scope.index b e) rest) rest)
   loose_code L homes scope w want b n (Operation op x y) rest =
-      loose_code L homes scope (binary_asks scope want op x y w) want b n x (right_code (added_number op want y) (loose_code L homes scope (binary_asks scope want op x y w) want (b + term_size scope.index x) (n + labels scope.index x) y)
-      (at_type want (λ t. operator_code (added_number op want y) (binary_settles scope want op x y w) op t (reg_of L (b + term_size scope.index x + term_size scope.index y)) (home L homes scope.index b x) (home L homes scope.index (b + term_size scope.index x) y) rest) rest))
+      loose_code L homes scope (binary_asks scope want op x y w) want b n x (side_code (added_number op want y) (is_fused op (binary_asks scope want op x y w) want y)
+      (loose_code L homes scope (binary_asks scope want op x y w) want (b + term_size scope.index x) (n + labels scope.index x) y)
+      (parts_code L homes scope (binary_asks scope want op x y w) want (b + term_size scope.index x) (n + labels scope.index x) y)
+      (at_type want (λ t. operator_code (right_side L homes scope.index op (binary_asks scope want op x y w) want (b + term_size scope.index x) y) (binary_settles scope want op x y w) op t (reg_of L (b + term_size scope.index x + term_size scope.index y)) (home L homes scope.index b x) rest) rest))
   loose_code L homes scope w want b n (Shift left e k) rest =
       loose_code L homes scope (shift_asks scope want left e k w) want b n e (at_type want (λ t. shift_code (shift_settles scope want left e k w) left k t (reg_of L (b + term_size scope.index e)) (home L homes scope.index b e) rest) rest)
   loose_code L homes scope w want b n (Conversion e t) rest =
@@ -113,6 +177,13 @@ abbrev mutual
   loose_code L homes scope w want b n (Both x y) rest = rest
   loose_code L homes scope w want b n (Either x y) rest = rest
   loose_code L homes scope w want b n (Not e) rest = rest
+
+  -- the operands of a value of which so much is asked for, where it stands in the word of its user
+  pub parts_code : Layout → Homes → Scope → Extent → Option Ty → (b n : ℕ) → Term → List Entry → List Entry
+  parts_code L homes scope w want b n (Operation op p q) rest =
+      loose_code L homes scope (binary_asks scope want op p q w) want b n p (loose_code L homes scope (binary_asks scope want op p q w) want (b + term_size scope.index p) (n + labels scope.index p) q rest)
+  parts_code L homes scope w want b n (Shift left e z) rest = loose_code L homes scope (shift_asks scope want left e z w) want b n e rest
+  parts_code L homes scope w want b n _ rest = rest
 
   -- a comparison, whose truth is in the flags
   pub flags_code : Layout → Homes → Scope → (b n : ℕ) → Term → List Entry → List Entry

@@ -1,7 +1,7 @@
 -- The short stretches of code of one item. X26 belongs to the stretch at hand. A word that writes an item's register is the
 -- last that reads an operand, so that both may be one register.
 use Rattle.std.specs.Prelude.{◌≡◌, ℕ, zero, suc, ◌+◌, ◌-◌, ◌%◌, ℤ, pos, negsuc, Bool, true, false, ◌||◌, List, [], ◌∷◌, Option, Some, None, nat_lt, not, if◌then◌else◌}
-use Rattle.a64_code.specs.Table.{add_imm, sub_imm, subs_imm, sub, subs, orr, orn, csel, ldrb_register, ldrsb_register, strb_register, ldrh_register, ldr_w_register, ldr_x_register, ldrsh_register, ldrsw_register, strh_register, str_w_register, str_x_register}
+use Rattle.a64_code.specs.Table.{add_imm, sub_imm, subs_imm, add, sub, subs, land, orr, eor, orn, madd, msub, csel, ldrb_register, ldrsb_register, strb_register, ldrh_register, ldr_w_register, ldr_x_register, ldrsh_register, ldrsw_register, strh_register, str_w_register, str_x_register}
 use Rattle.machine_model.specs.InstructionTable.{Listed}
 use Rattle.kernel_tree.specs.declared.ops.Ty.{Ty}
 use Rattle.kernel_tree.specs.declared.ops.UnaryOp.{UnaryOp}
@@ -123,10 +123,34 @@ abbrev pub sum_word : BinaryOp → ℕ → (d a : ℕ) → Listed
 sum_word binary.Sub v d a = sub_word v d a
 sum_word _ v d a = add_word v d a
 
--- an operator whose right side is a number that its word holds, or else stands in c
-abbrev pub operator_code : Option ℕ → (leaves : Bool) → BinaryOp → Ty → (d a c : ℕ) → List Entry → List Entry
-operator_code (Some v) leaves op t d a c rest = Put (sum_word op v d a) ∷ word_code (settle_word leaves t d) rest
-operator_code None leaves op t d a c rest = operation_code op (is_signed t) d a c (word_code (settle_word leaves t d) rest)
+-- ---- right sides of operators
+
+-- what a word takes as its right side: a number that it holds, a register, the product of two, or a register shifted
+pub data Side : Type 0 where
+  Number : ℕ → Side
+  Register : ℕ → Side
+  Product : (p q : ℕ) → Side
+  Moved : (kind n r : ℕ) → Side
+
+-- d = a and a product more, or less
+abbrev pub product_word : BinaryOp → (d a p q : ℕ) → Listed
+product_word binary.Sub d a p q = word_of msub (d ∷ p ∷ a ∷ q ∷ [])
+product_word _ d a p q = word_of madd (d ∷ p ∷ a ∷ q ∷ [])
+
+-- an operator whose right side is a register shifted by n
+abbrev pub shift_word : BinaryOp → (d a kind n r : ℕ) → Listed
+shift_word binary.Sub d a kind n r = word_of sub (d ∷ a ∷ n ∷ r ∷ kind ∷ [])
+shift_word binary.And d a kind n r = word_of land (d ∷ a ∷ n ∷ r ∷ kind ∷ [])
+shift_word binary.Or d a kind n r = word_of orr (d ∷ a ∷ n ∷ r ∷ kind ∷ [])
+shift_word binary.Xor d a kind n r = word_of eor (d ∷ a ∷ n ∷ r ∷ kind ∷ [])
+shift_word _ d a kind n r = word_of add (d ∷ a ∷ n ∷ r ∷ kind ∷ [])
+
+-- an operator of a and its right side
+abbrev pub operator_code : Side → (leaves : Bool) → BinaryOp → Ty → (d a : ℕ) → List Entry → List Entry
+operator_code (Number v) leaves op t d a rest = Put (sum_word op v d a) ∷ word_code (settle_word leaves t d) rest
+operator_code (Register c) leaves op t d a rest = operation_code op (is_signed t) d a c (word_code (settle_word leaves t d) rest)
+operator_code (Product p q) leaves op t d a rest = Put (product_word op d a p q) ∷ word_code (settle_word leaves t d) rest
+operator_code (Moved kind n r) leaves op t d a rest = Put (shift_word op d a kind n r) ∷ word_code (settle_word leaves t d) rest
 
 -- ---- comparisons
 

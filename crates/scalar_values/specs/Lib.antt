@@ -4,3 +4,4 @@ pub mod Extents
 pub mod Leaving
 pub mod Code
 pub mod Fits
+pub mod Sides

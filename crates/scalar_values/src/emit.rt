@@ -11,18 +11,21 @@ ghost use Rattle.kernel_tree.specs.Typing as typing;
 ghost use Rattle.scalar_values.specs.ValueRegisters as placed;
 ghost use Rattle.scalar_words.specs.Layout as layout;
 ghost use Rattle.scalar_values.specs.Code as code;
+ghost use Rattle.scalar_values.specs.Sides.{side_view};
 ghost use Rattle.kernel_meaning.specs.Operators as operators;
 ghost use Rattle.scalar_words.specs.Words as words;
 
 use crate::extent::{
     Extent, asked_extent, binary_joins, converted_extent, settles, unary_joins, within, within_type,
 };
-use crate::instructions::{added_number, compare_word, compared_number, index_word};
+use crate::fusion::is_fused;
+use crate::instructions::{added_number, compare_word, compared_number, index_word, shift_count};
 use crate::leaving::{binary_may_leave, shift_may_leave, unary_may_leave};
 use crate::operations::{
-    emit_branch, emit_chosen, emit_load, emit_offset, emit_pick, emit_placed, want_cast,
-    want_operator, want_shift, want_unary,
+    emit_branch, emit_chosen, emit_load, emit_offset, emit_pick, emit_placed, signed_side,
+    want_cast, want_operator, want_shift, want_unary,
 };
+use crate::side::Side;
 use a64_code::Reg;
 use kernel_meaning::{word, wrapped};
 use kernel_scope::{Scope, element_type, first, lookup, own_type};
@@ -287,23 +290,118 @@ fn emit_two(
         (code.loose_code places.now (homes_of homes.now) (scope_of scope.now) extent want item.old draft.old.labels
         (Operation op (term_of left.now) (term_of right.now)))) }
 {
-    let number = added_number(op, want, right);
     let may_leave = binary_may_leave(scope, want, op, left, right);
     let asked = asked_extent(binary_joins(op), may_leave, extent, want);
     let a = emit_loose(draft, places, homes, scope, asked, want, left, item)?;
-    let b = emit_right(
-        draft, places, homes, scope, asked, want, number, right, item,
-    )?;
+    let side = emit_side(draft, places, homes, scope, op, asked, want, right, item)?;
     let r = take(places, item);
     let leaves = settles(within(extent, want), binary_joins(op), may_leave);
-    want_operator(draft, op, number, leaves, want, r, a, b)?;
+    want_operator(draft, op, side, leaves, want, r, a)?;
     Ok(r)
 }
 
-/// The right side of an operator or a comparison, which takes no code where its word holds it as a number; answers the
-/// register of its value.
+/// The right side of an operator, of which so much is asked for; answers what the operator's word takes of it.
 #[cycle(terms)]
-pub fn emit_right(
+pub fn emit_side(
+    draft: &mut Draft,
+    places: &Places,
+    homes: &[Home],
+    scope: &Scope,
+    op: BinaryOp,
+    extent: Extent,
+    want: Option<Ty>,
+    expr: &Expr,
+    item: &mut usize,
+) -> Result<Side, AllocError>
+    requires kind { IsValue (term_of expr.now) }
+    requires fits { item.old + term_size (scope_of scope.now).index (term_of expr.now) < 2 ^ 32 }
+    ensures side { IfOk result (λ s. side_view s ≡ code.right_side places.now (homes_of homes.now)
+        (scope_of scope.now).index op extent want item.old (term_of expr.now)) }
+    ensures item { OnOk result (item.new ≡ item.old + term_size (scope_of scope.now).index (term_of expr.now)) }
+    ensures labels { OnOk result (draft.new.labels
+        ≡ draft.old.labels + code.labels (scope_of scope.now).index (term_of expr.now)) }
+    ensures code { OnOk result (Appends draft.old draft.new
+        (code.side_code (code.added_number op want (term_of expr.now)) (code.is_fused op extent want (term_of expr.now))
+        (code.loose_code places.now (homes_of homes.now) (scope_of scope.now) extent want item.old draft.old.labels
+        (term_of expr.now))
+        (code.parts_code places.now (homes_of homes.now) (scope_of scope.now) extent want item.old draft.old.labels
+        (term_of expr.now)))) }
+{
+    let fused = is_fused(op, extent, want, expr);
+    match added_number(op, want, expr) {
+        Some(number) => {
+            *item += 1;
+            Ok(Side::Number(number))
+        }
+        None => {
+            if fused {
+                let side = emit_parts(draft, places, homes, scope, extent, want, expr, item)?;
+                Ok(side)
+            } else {
+                let r = emit_loose(draft, places, homes, scope, extent, want, expr, item)?;
+                Ok(Side::Register(r))
+            }
+        }
+    }
+}
+
+// The operands of a value that stands in the word of its user.
+#[cycle(terms)]
+fn emit_parts(
+    draft: &mut Draft,
+    places: &Places,
+    homes: &[Home],
+    scope: &Scope,
+    extent: Extent,
+    want: Option<Ty>,
+    expr: &Expr,
+    item: &mut usize,
+) -> Result<Side, AllocError>
+    requires kind { IsValue (term_of expr.now) }
+    requires parts { code.HasParts true (term_of expr.now) }
+    requires fits { item.old + term_size (scope_of scope.now).index (term_of expr.now) < 2 ^ 32 }
+    ensures side { IfOk result (λ s. side_view s ≡ code.part_side places.now (homes_of homes.now)
+        (scope_of scope.now).index want item.old (term_of expr.now)) }
+    ensures item { OnOk result (item.new ≡ item.old + term_size (scope_of scope.now).index (term_of expr.now)) }
+    ensures labels { OnOk result (draft.new.labels
+        ≡ draft.old.labels + code.labels (scope_of scope.now).index (term_of expr.now)) }
+    ensures code { OnOk result (Appends draft.old draft.new
+        (code.parts_code places.now (homes_of homes.now) (scope_of scope.now) extent want item.old draft.old.labels
+        (term_of expr.now))) }
+{
+    match expr {
+        Expr::Binary { op, left, right } => {
+            let may_leave = binary_may_leave(scope, want, *op, left, right);
+            let asked = asked_extent(binary_joins(*op), may_leave, extent, want);
+            let p = emit_loose(draft, places, homes, scope, asked, want, left, item)?;
+            let q = emit_loose(draft, places, homes, scope, asked, want, right, item)?;
+            *item += 1;
+            Ok(Side::Product(p, q))
+        }
+        Expr::Shift {
+            left_shift,
+            arg,
+            count,
+        } => {
+            let may_leave = shift_may_leave(scope, want, *left_shift, arg, *count);
+            let asked = asked_extent(*left_shift, may_leave, extent, want);
+            let register = emit_loose(draft, places, homes, scope, asked, want, arg, item)?;
+            *item += 1;
+            Ok(Side::Moved {
+                left: *left_shift,
+                signed: signed_side(want),
+                count: shift_count(*count),
+                register,
+            })
+        }
+        _ => unreachable!(),
+    }
+}
+
+// The right side of a comparison, which takes no code where its word holds it as a number; answers the register of its
+// value.
+#[cycle(terms)]
+fn emit_right(
     draft: &mut Draft,
     places: &Places,
     homes: &[Home],

@@ -15,8 +15,8 @@ ghost use Rattle.label_fix.specs.DraftRun as plain;
 ghost use Rattle.a64_code.specs.View as seen;
 
 use a64_code::{
-    A64, AddSubOp, Cond, ExceptionOp, LoadStoreByteOp, LoadStoreOp, LogicalOp, MoveWideOp, Reg,
-    Shift, zero,
+    A64, AddSubOp, AddSubShift, Cond, ExceptionOp, LoadStoreByteOp, LoadStoreOp, LogicalOp,
+    MoveWideOp, MultiplyOp, Reg, Shift, zero,
 };
 use kernel_meaning::{word, wrapped};
 use kernel_scope::{Scope, is_index, is_index_term, literal_value};
@@ -194,6 +194,52 @@ pub fn sum_word(op: BinaryOp, number: u64, d: Reg, a: Reg) -> Word
     }
 }
 
+/// A register and a product more, or less.
+pub fn product_word(op: BinaryOp, d: Reg, a: Reg, p: Reg, q: Reg) -> Word
+    ensures plain { is_plain (word_view result) ≡ true }
+    ensures word { word_view result ≡ words.product_word op d.number a.number p.number q.number }
+{
+    match op {
+        BinaryOp::Sub => multiply_add(MultiplyOp::Msub, d, p, a, q),
+        _ => multiply_add(MultiplyOp::Madd, d, p, a, q),
+    }
+}
+
+fn multiply_add(op: MultiplyOp, d: Reg, p: Reg, a: Reg, q: Reg) -> Word
+    ensures { word_view result ≡ plain.word_of (seen.multiply_add_name op) (d.number ∷ p.number ∷ a.number ∷ q.number ∷ []) }
+{
+    Word::A(A64::MultiplyAdd {
+        op,
+        rd: d,
+        rn: p,
+        ra: a,
+        rm: q,
+    })
+}
+
+/// An operator whose right side is a register shifted.
+pub fn shift_word(
+    op: BinaryOp,
+    d: Reg,
+    a: Reg,
+    left: bool,
+    signed: bool,
+    count: Bits<6>,
+    r: Reg,
+) -> Word
+    ensures plain { is_plain (word_view result) ≡ true }
+    ensures word { word_view result ≡ words.shift_word op d.number a.number (words.shift_kind left signed) count.number r.number }
+{
+    let shift = shift_of(left, signed);
+    match op {
+        BinaryOp::Sub => sum_moved(AddSubOp::Sub, d, a, left, signed, count, r),
+        BinaryOp::And => logical_moved(LogicalOp::And, d, a, shift, count, r),
+        BinaryOp::Or => logical_moved(LogicalOp::Orr, d, a, shift, count, r),
+        BinaryOp::Xor => logical_moved(LogicalOp::Eor, d, a, shift, count, r),
+        _ => sum_moved(AddSubOp::Add, d, a, left, signed, count, r),
+    }
+}
+
 /// A register compared with a number that the word holds, or else with a second one.
 pub fn compare_word(number: Option<u64>, a: Reg, b: Reg) -> Word
     ensures plain { is_plain (word_view result) ≡ true }
@@ -228,26 +274,66 @@ pub fn shift_count(count: i128) -> Bits<6>
     }
 }
 
-/// A register shifted by a constant.
-pub fn shifted(left: bool, signed: bool, count: Bits<6>, d: Reg, a: Reg) -> Word
-    ensures { word_view result ≡ plain.word_of table.orr
-        (d.number ∷ 31 ∷ count.number ∷ a.number ∷ words.shift_kind left signed ∷ []) }
+// The kind of a shift.
+fn shift_of(left: bool, signed: bool) -> Shift
+    ensures { seen.shift_number result ≡ words.shift_kind left signed }
 {
-    let shift = if left {
+    if left {
         Shift::Lsl
     } else if signed {
         Shift::Asr
     } else {
         Shift::Lsr
-    };
-    Word::A(A64::LogicalShifted {
-        op: LogicalOp::Orr,
+    }
+}
+
+// The kind of a shift in a sum.
+fn sum_shift(left: bool, signed: bool) -> AddSubShift
+    ensures { seen.add_sub_shift_number result ≡ words.shift_kind left signed }
+{
+    if left {
+        AddSubShift::Lsl
+    } else if signed {
+        AddSubShift::Asr
+    } else {
+        AddSubShift::Lsr
+    }
+}
+
+fn sum_moved(op: AddSubOp, d: Reg, a: Reg, left: bool, signed: bool, count: Bits<6>, r: Reg) -> Word
+    ensures { word_view result ≡ plain.word_of (seen.add_sub_shifted_name op)
+        (d.number ∷ a.number ∷ count.number ∷ r.number ∷ words.shift_kind left signed ∷ []) }
+{
+    Word::A(A64::AddSubShifted {
+        op,
         rd: d,
-        rn: zero(),
+        rn: a,
         imm6: count,
-        rm: a,
+        rm: r,
+        shift: sum_shift(left, signed),
+    })
+}
+
+fn logical_moved(op: LogicalOp, d: Reg, a: Reg, shift: Shift, count: Bits<6>, r: Reg) -> Word
+    ensures { word_view result ≡ plain.word_of (seen.logical_name op)
+        (d.number ∷ a.number ∷ count.number ∷ r.number ∷ seen.shift_number shift ∷ []) }
+{
+    Word::A(A64::LogicalShifted {
+        op,
+        rd: d,
+        rn: a,
+        imm6: count,
+        rm: r,
         shift,
     })
+}
+
+/// A register shifted by a constant.
+pub fn shifted(left: bool, signed: bool, count: Bits<6>, d: Reg, a: Reg) -> Word
+    ensures { word_view result ≡ plain.word_of table.orr
+        (d.number ∷ 31 ∷ count.number ∷ a.number ∷ words.shift_kind left signed ∷ []) }
+{
+    logical_moved(LogicalOp::Orr, d, zero(), shift_of(left, signed), count, a)
 }
 
 /// The load of an element.

@@ -3,9 +3,12 @@
 
 pub mod emit;
 pub mod extent;
+mod fusion;
 pub mod instructions;
 mod leaving;
 pub mod operations;
+mod side;
 
-pub use emit::{emit_jump, emit_loose, emit_right, emit_value};
+pub use emit::{emit_jump, emit_loose, emit_side, emit_value};
 pub use extent::Extent;
+pub use side::Side;

@@ -10,10 +10,13 @@ ghost use Rattle.label_fix.specs.DraftRun as plain;
 ghost use Rattle.scalar_values.specs.ItemWords as words;
 ghost use Rattle.scalar_words.specs.Words as common;
 ghost use Rattle.scalar_values.specs.Code as code;
+ghost use Rattle.scalar_values.specs.Sides.{side_view};
 
 use crate::instructions::{
-    compare_word, index, load, scratch, shift_count, shifted, sum_word, turned, zero_test,
+    compare_word, index, load, product_word, scratch, shift_count, shift_word, shifted, sum_word,
+    turned, zero_test,
 };
+use crate::side::Side;
 use a64_code::{AddSubOp, Cond, LogicalOp, Reg, SelectOp, zero};
 use kernel_meaning::{fits, is_signed};
 use kernel_tree::{BinaryOp, CompareOp, Ty, UnaryOp};
@@ -132,8 +135,8 @@ fn emit_shift(
     Ok(())
 }
 
-// Whether the sides of a comparison are of a signed type.
-fn signed_side(want: Option<Ty>) -> bool
+/// Whether a type, if there is one, is signed.
+pub fn signed_side(want: Option<Ty>) -> bool
     ensures { result ≡ code.signed_side want }
 {
     match want {
@@ -243,29 +246,43 @@ pub fn emit_placed(draft: &mut Draft, wanted: bool, label: Label) -> Result<(), 
     Ok(())
 }
 
-// The code of an operator, of which a number that its word holds may be the right side.
+// The code of an operator, by what its word takes as its right side.
 fn emit_operator(
     draft: &mut Draft,
     op: BinaryOp,
-    number: Option<u64>,
+    side: Side,
     leaves: bool,
     ty: Ty,
     d: Reg,
     a: Reg,
-    b: Reg,
 ) -> Result<(), AllocError>
     ensures labels { OnOk result (draft.new.labels ≡ draft.old.labels) }
     ensures code { OnOk result (Appends draft.old draft.new
-        (words.operator_code number leaves op ty d.number a.number b.number)) }
+        (words.operator_code (side_view side) leaves op ty d.number a.number)) }
 {
-    match number {
-        None => {
-            emit_operation(draft, op, is_signed(ty), d, a, b)?;
+    match side {
+        Side::Register(c) => {
+            emit_operation(draft, op, is_signed(ty), d, a, c)?;
             emit_settle(draft, leaves, ty, d)?;
             Ok(())
         }
-        Some(number) => {
+        Side::Number(number) => {
             let word = sum_word(op, number, d, a);
+            emit_settled(draft, word, leaves, ty, d)?;
+            Ok(())
+        }
+        Side::Product(p, q) => {
+            let word = product_word(op, d, a, p, q);
+            emit_settled(draft, word, leaves, ty, d)?;
+            Ok(())
+        }
+        Side::Moved {
+            left,
+            signed,
+            count,
+            register,
+        } => {
+            let word = shift_word(op, d, a, left, signed, count, register);
             emit_settled(draft, word, leaves, ty, d)?;
             Ok(())
         }
@@ -276,21 +293,20 @@ fn emit_operator(
 pub fn want_operator(
     draft: &mut Draft,
     op: BinaryOp,
-    number: Option<u64>,
+    side: Side,
     leaves: bool,
     want: Option<Ty>,
     d: Reg,
     a: Reg,
-    b: Reg,
 ) -> Result<(), AllocError>
     ensures labels { OnOk result (draft.new.labels ≡ draft.old.labels) }
     ensures code { OnOk result ((rest : List plain.Entry)
         → draft.new.entries ++ rest ≡ draft.old.entries
-        ++ common.at_type want (λ t. words.operator_code number leaves op t d.number a.number b.number rest) rest) }
+        ++ common.at_type want (λ t. words.operator_code (side_view side) leaves op t d.number a.number rest) rest) }
 {
     match want {
         None => Ok(()),
-        Some(ty) => emit_operator(draft, op, number, leaves, ty, d, a, b),
+        Some(ty) => emit_operator(draft, op, side, leaves, ty, d, a),
     }
 }
 

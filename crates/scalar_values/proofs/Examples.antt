@@ -1,0 +1,63 @@
+-- The code of worked expressions: products and shifts in the words of the operators that use them.
+use Rattle.std.proofs.Common.{◌≡◌, ℕ, true, false, List, [], ◌∷◌, Some, None, refl}
+use Rattle.std.specs.Prelude.{pos}
+use Rattle.a64_code.specs.Table.{madd, msub, orr, eor, sub, sbfm, ubfm, ldrsw_register}
+use Rattle.kernel_tree.specs.declared.ops.Ty.TheVariants as ty
+use Rattle.kernel_tree.specs.declared.ops.BinaryOp.TheVariants as binary
+use Rattle.kernel_tree.specs.declared.fault.Binding.TheVariants as binding
+use Rattle.kernel_tree.specs.Plain.{Term, Variable, Element, Operation, Shift}
+use Rattle.kernel_tree.specs.Typing.{Scope, local}
+use Rattle.label_fix.specs.DraftRun.{ins}
+use Rattle.scalar_words.specs.Layout.{Layout, Homes}
+use Rattle.scalar_values.specs.Extents.{Low32, Whole}
+use Rattle.scalar_values.specs.Code.{loose_code}
+
+abbrev a : List ℕ
+a = 97 ∷ []
+
+abbrev h : List ℕ
+h = 104 ∷ []
+
+abbrev i : List ℕ
+i = 105 ∷ []
+
+abbrev k : List ℕ
+k = 107 ∷ []
+
+-- an array of i32 in X0, k in X2, h in X15, the loop variable in X9
+abbrev scope : Scope
+scope = record {
+  visible = local a (binding.Array ty.I32) ∷ local k (binding.Scalar ty.I32) ∷ local h (binding.Scalar ty.U64) ∷ local i binding.Index ∷ [];
+  taken = [];
+  index = Some i;
+  inside = true;
+}
+
+abbrev homes : Homes
+homes =
+    record { name = a; register = 0; last_use = None } ∷ record { name = k; register = 2; last_use = None } ∷ record { name = h; register = 15; last_use = None }
+    ∷ record { name = i; register = 9; last_use = None } ∷ []
+
+abbrev layout : Layout
+layout = record { regs = 10 ∷ 0 ∷ 11 ∷ 11 ∷ 10 ∷ []; untils = 4 ∷ 0 ∷ 3 ∷ 4 ∷ 5 ∷ [] }
+
+-- a[i] + k * a[i] and a[i] - k * a[i]: 0 the read, 1 the name k, 2 the read, 3 the product, 4 the sum
+abbrev product : Term
+product = Operation binary.Mul (Variable k) (Element a (Variable i))
+
+sum-low : loose_code layout homes scope Low32 (Some ty.I32) 0 0 (Operation binary.Add (Element a (Variable i)) product) [] ≡ ins ldrsw_register (10 ∷ 0 ∷ 1 ∷ 9 ∷ []) ∷ ins ldrsw_register (11 ∷ 0 ∷ 1 ∷ 9 ∷ []) ∷ ins madd (10 ∷ 2 ∷ 10 ∷ 11 ∷ []) ∷ []
+sum-low = refl
+
+difference-whole : loose_code layout homes scope Whole (Some ty.I32) 0 0 (Operation binary.Sub (Element a (Variable i)) product) [] ≡ ins ldrsw_register (10 ∷ 0 ∷ 1 ∷ 9 ∷ []) ∷ ins ldrsw_register (11 ∷ 0 ∷ 1 ∷ 9 ∷ []) ∷ ins msub (10 ∷ 2 ∷ 10 ∷ 11 ∷ []) ∷ ins sbfm (10 ∷ 10 ∷ 31 ∷ 0 ∷ []) ∷ []
+difference-whole = refl
+
+-- h ^ h << 13 and h - (h >> 7) at 64 bits: 0 and 1 the name h, 2 the shift, 3 the operator
+left-wide : loose_code layout homes scope Whole (Some ty.U64) 0 0 (Operation binary.Xor (Variable h) (Shift true (Variable h) (pos 13))) [] ≡ ins eor (11 ∷ 15 ∷ 13 ∷ 15 ∷ 0 ∷ []) ∷ []
+left-wide = refl
+
+right-wide : loose_code layout homes scope Whole (Some ty.U64) 0 0 (Operation binary.Sub (Variable h) (Shift false (Variable h) (pos 7))) [] ≡ ins sub (11 ∷ 15 ∷ 7 ∷ 15 ∷ 1 ∷ []) ∷ []
+right-wide = refl
+
+-- a shift to the left that & | ^ would have extended is not in their word
+left-narrow : loose_code layout homes scope Whole (Some ty.U8) 0 0 (Operation binary.Xor (Variable h) (Shift true (Variable h) (pos 3))) [] ≡ ins orr (11 ∷ 31 ∷ 3 ∷ 15 ∷ 0 ∷ []) ∷ ins ubfm (11 ∷ 11 ∷ 7 ∷ 0 ∷ []) ∷ ins eor (11 ∷ 15 ∷ 0 ∷ 11 ∷ 0 ∷ []) ∷ []
+left-narrow = refl
