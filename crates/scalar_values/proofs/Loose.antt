@@ -18,8 +18,10 @@ use Rattle.kernel_meaning.specs.Eval.{Names, on_both, chosen, choose_value, valu
 use Rattle.kernel_meaning.proofs.Residues.{word-add, word-mul, word-below, residue-8, residue-16, residue-32}
 use Rattle.kernel_meaning.proofs.TypeRanges.{wrap-of, of-fits}
 use Rattle.kernel_meaning.proofs.ValueRanges.{IsTyped, value_range}
+use Rattle.value_bounds.proofs.InBounds.{AreTyped, is_typed}
 use Rattle.scalar_values.specs.declared.extent.Extent.{Extent}
-use Rattle.scalar_values.specs.Extents.{Low8, Low16, Low32, Whole, extent_of, within_type, within, unary_joins, operand_extent, binary_extent, unary_extent, leaves_at, shift_extent, fits_at, cast_extent, converted_extent}
+use Rattle.scalar_values.specs.Extents.{Low8, Low16, Low32, Whole, extent_of, within_type, within, unary_joins, operand_extent, asked_extent, binary_extent, fits_at, cast_extent, converted_extent}
+use Rattle.scalar_values.specs.Leaving.{unary_may_leave, binary_may_leave, shift_may_leave, unary_asks, binary_asks, shift_asks}
 use Rattle.scalar_words.specs.Operands.{binary_joins}
 use Rattle.kernel_tree.specs.declared.ops.Ty.TheVariants as ty
 use Rattle.kernel_tree.specs.declared.ops.UnaryOp.TheVariants as unary
@@ -253,11 +255,14 @@ two f true true join w (Some t) false e x y u v p q = same w _ _ (wrap-alike t (
 two f true false join w want false e x y u v p q = same w _ _ (ap₂ (λ a b. wrapped want (f a b)) p q)
 two f false leaves join w want false e x y u v p q = same w _ _ (ap₂ (λ a b. wrapped want (f a b)) p q)
 
-pub binary_agrees : (op : BinaryOp) (w : Extent) (want : Option Ty) (x y u v : ℤ) → Agrees (binary_extent op w want) x u → Agrees (binary_extent op w want) y v → Agrees w (loose_binary op w want x y) (binary_value op want u v)
-binary_agrees op w want x y u v p q = two (binary_on op) (binary_joins op) (binary_leaves op) (λ j e a b c d. binary-alike op e a b c d j) w want (within w want) refl x y u v p q
+pub operation_agrees : (op : BinaryOp) (leaves : Bool) (w : Extent) (want : Option Ty) (x y u v : ℤ) → Agrees (asked_extent (binary_joins op) leaves w want) x u → Agrees (asked_extent (binary_joins op) leaves w want) y v → Agrees w (loose_binary op w want x y) (binary_value op want u v)
+operation_agrees op leaves w want x y u v p q = two (binary_on op) (binary_joins op) leaves (λ j e a b c d. binary-alike op e a b c d j) w want (within w want) refl x y u v p q
 
-pub unary_agrees : (op : UnaryOp) (w : Extent) (want : Option Ty) (x u : ℤ) → Agrees (unary_extent op w want) x u → Agrees w (loose_unary op w want x) (unary_value op want u)
-unary_agrees op w want x u p = one (unary_on op) (unary_joins op) (leaves_at op want) (λ j e a c. unary-alike op e a c j) w want (within w want) refl x u p
+pub binary_agrees : (op : BinaryOp) (w : Extent) (want : Option Ty) (x y u v : ℤ) → Agrees (binary_extent op w want) x u → Agrees (binary_extent op w want) y v → Agrees w (loose_binary op w want x y) (binary_value op want u v)
+binary_agrees op w want x y u v p q = operation_agrees op (binary_leaves op) w want x y u v p q
+
+pub unary_agrees : (op : UnaryOp) (leaves : Bool) (w : Extent) (want : Option Ty) (x u : ℤ) → Agrees (asked_extent (unary_joins op) leaves w want) x u → Agrees w (loose_unary op w want x) (unary_value op want u)
+unary_agrees op leaves w want x u p = one (unary_on op) (unary_joins op) leaves (λ j e a c. unary-alike op e a c j) w want (within w want) refl x u p
 
 abbrev pub RangeAt : Option Ty → ℤ → Type 0
 RangeAt None v = Unit {0}
@@ -267,8 +272,8 @@ shift_joins : (left : Bool) (k : ℕ) → left ≡ true → (e : Extent) (x u : 
 shift_joins true k j e x u p = mul-alike e x (pos (2 ^ k)) u (pos (2 ^ k)) p refl
 shift_joins false k j e x u p = absurd cc
 
-pub shift_agrees : (left : Bool) (n : ℤ) (w : Extent) (want : Option Ty) (x u : ℤ) → Agrees (shift_extent left w want) x u → Agrees w (loose_shift left n w want x) (shift_value left n want u)
-shift_agrees left n w want x u p = one (shift_on left (shift_count n)) left left (λ j e a c h. shift_joins left (shift_count n) j e a c h) w want (within w want) refl x u p
+pub shift_agrees : (left leaves : Bool) (n : ℤ) (w : Extent) (want : Option Ty) (x u : ℤ) → Agrees (asked_extent left leaves w want) x u → Agrees w (loose_shift left n w want x) (shift_value left n want u)
+shift_agrees left leaves n w want x u p = one (shift_on left (shift_count n)) left leaves (λ j e a c h. shift_joins left (shift_count n) j e a c h) w want (within w want) refl x u p
 
 -- a cast from a type whose values the other has, or has not
 cast_by : (l f : Bool) (w : Extent) (from : Option Ty) (t : Ty) (x u : ℤ) → within_type w t ≡ l → fits_at from t ≡ f → RangeAt from u → Agrees (cast_extent l f w t) x u → Agrees w (loose_cast l f t x) (wrap t u)
@@ -319,9 +324,9 @@ same-all (Some x) (Some v) p = ap Some p
 
 -- what the code of an expression computes, where so much is asked for
 abbrev pub loose : Scope → Extent → Option Ty → Term → Memory → Names → Option ℤ
-loose s w want (Unary op e) m names = option_map (loose_unary op w want) (loose s (unary_extent op w want) want e m names)
-loose s w want (Operation op x y) m names = on_both (loose_binary op w want) (loose s (binary_extent op w want) want x m names) (loose s (binary_extent op w want) want y m names)
-loose s w want (Shift left e n) m names = option_map (loose_shift left n w want) (loose s (shift_extent left w want) want e m names)
+loose s w want (Unary op e) m names = option_map (loose_unary op w want) (loose s (unary_asks s want op e w) want e m names)
+loose s w want (Operation op x y) m names = on_both (loose_binary op w want) (loose s (binary_asks s want op x y w) want x m names) (loose s (binary_asks s want op x y w) want y m names)
+loose s w want (Shift left e n) m names = option_map (loose_shift left n w want) (loose s (shift_asks s want left e n w) want e m names)
 loose s w want (Conversion e t) m names = option_map (loose_cast (within_type w t) (fits_at (own s e) t) t) (loose s (converted_extent w (own s e) t) (own s e) e m names)
 loose s w want (Choice c x y) m names = chosen (loose s w want x m names) (loose s w want y m names) (holds s c m names)
 loose s w want (Literal z) m names = value s want (Literal z) m names
@@ -332,40 +337,21 @@ loose s w want (Both x y) m names = value s want (Both x y) m names
 loose s w want (Either x y) m names = value s want (Either x y) m names
 loose s w want (Not e) m names = value s want (Not e) m names
 
-abbrev pub TypedAt : Option Ty → Scope → Term → Type 0
-TypedAt None s e = Unit {0}
-TypedAt (Some t) s e = IsTyped s t e
-
--- the operands of casts are of their types
-abbrev pub AreCast : Scope → Term → Type 0
-AreCast s (Unary op e) = AreCast s e
-AreCast s (Operation op x y) = AreCast s x × AreCast s y
-AreCast s (Shift left e n) = AreCast s e
-AreCast s (Conversion e t) = TypedAt (own s e) s e × AreCast s e
-AreCast s (Choice c x y) = AreCast s x × AreCast s y
-AreCast s (Literal z) = Unit {0}
-AreCast s (Variable x) = Unit {0}
-AreCast s (Element a i) = Unit {0}
-AreCast s (Comparison op x y) = Unit {0}
-AreCast s (Both x y) = Unit {0}
-AreCast s (Either x y) = Unit {0}
-AreCast s (Not e) = Unit {0}
-
 module _ (s : Scope) (m : Memory) (names : Names) (ranged : AreRanged s.visible names) where
-  of_type : (want : Option Ty) (e : Term) (u : ℤ) → TypedAt want s e → value s want e m names ≡ Some u → RangeAt want u
+  of_type : (want : Option Ty) (e : Term) (u : ℤ) → AreTyped s want e → value s want e m names ≡ Some u → RangeAt want u
   of_type None e u t is = tt
-  of_type (Some T) e u t is = value_range e s T m names u t ranged is
+  of_type (Some T) e u t is = value_range e s T m names u (is_typed e s T t) ranged is
 
-  pub agrees : (e : Term) (w : Extent) (want : Option Ty) → AreCast s e → Agreed w (loose s w want e m names) (value s want e m names)
+  pub agrees : (e : Term) (w : Extent) (want : Option Ty) → AreTyped s want e → Agreed w (loose s w want e m names) (value s want e m names)
   agrees (Literal n) w want c = all-same w (value s want (Literal n) m names) (value s want (Literal n) m names) refl
   agrees (Variable x) w want c = all-same w (value s want (Variable x) m names) (value s want (Variable x) m names) refl
   agrees (Element a i) w want c = all-same w (value s want (Element a i) m names) (value s want (Element a i) m names) refl
-  agrees (Unary op e) w want c = map_agreed w (unary_extent op w want) _ _ _ _ (λ x u is p. unary_agrees op w want x u p) (agrees e (unary_extent op w want) want c)
-  agrees (Operation op x y) w want c = both_agreed w (binary_extent op w want) _ _ _ _ _ _ (binary_agrees op w want) (agrees x (binary_extent op w want) want c.0) (agrees y (binary_extent op w want) want c.1)
-  agrees (Shift left e n) w want c = map_agreed w (shift_extent left w want) _ _ _ _ (λ x u is p. shift_agrees left n w want x u p) (agrees e (shift_extent left w want) want c)
+  agrees (Unary op e) w want c = map_agreed w (unary_asks s want op e w) _ _ _ _ (λ x u is p. unary_agrees op (unary_may_leave s want op e) w want x u p) (agrees e (unary_asks s want op e w) want c)
+  agrees (Operation op x y) w want c = both_agreed w (binary_asks s want op x y w) _ _ _ _ _ _ (operation_agrees op (binary_may_leave s want op x y) w want) (agrees x (binary_asks s want op x y w) want c.0) (agrees y (binary_asks s want op x y w) want c.1)
+  agrees (Shift left e n) w want c = map_agreed w (shift_asks s want left e n w) _ _ _ _ (λ x u is p. shift_agrees left (shift_may_leave s want left e n) n w want x u p) (agrees e (shift_asks s want left e n w) want c)
   agrees (Conversion e t) w want c =
       let k = converted_extent w (own s e) t in
-      map_agreed w k _ _ _ _ (λ x u is p. cast_agrees w (own s e) t x u (of_type (own s e) e u c.0 is) p) (agrees e k (own s e) c.1)
+      map_agreed w k _ _ _ _ (λ x u is p. cast_agrees w (own s e) t x u (of_type (own s e) e u c.2 is) p) (agrees e k (own s e) c.2)
   agrees (Choice c x y) w want h = chosen_agreed w _ _ _ _ (holds s c m names) (agrees x w want h.0) (agrees y w want h.1)
   agrees (Comparison op x y) w want c = all-same w (value s want (Comparison op x y) m names) (value s want (Comparison op x y) m names) refl
   agrees (Both x y) w want c = all-same w (value s want (Both x y) m names) (value s want (Both x y) m names) refl
@@ -373,7 +359,7 @@ module _ (s : Scope) (m : Memory) (names : Names) (ranged : AreRanged s.visible 
   agrees (Not e) w want c = all-same w (value s want (Not e) m names) (value s want (Not e) m names) refl
 
   -- where the whole value is asked for
-  pub whole_is : (e : Term) (want : Option Ty) → AreCast s e → loose s Whole want e m names ≡ value s want e m names
+  pub whole_is : (e : Term) (want : Option Ty) → AreTyped s want e → loose s Whole want e m names ≡ value s want e m names
   whole_is e want c = same-all _ _ (agrees e Whole want c)
 
 -- what is asked for agrees, where both are there

@@ -11,7 +11,7 @@ use Rattle.kernel_tree.specs.declared.ops.Ty.{Ty}
 use Rattle.kernel_tree.specs.declared.ops.UnaryOp.{UnaryOp}
 use Rattle.kernel_tree.specs.declared.ops.BinaryOp.{BinaryOp}
 use Rattle.kernel_tree.specs.Wrap.{wrap, is_signed}
-use Rattle.kernel_meaning.specs.Operators.{word, binary_on, shift_on, shift_count}
+use Rattle.kernel_meaning.specs.Operators.{word, unary_on, binary_on, shift_on, shift_count}
 use Rattle.kernel_meaning.specs.TypeValues.{IsOf, fits, unary_leaves, binary_leaves}
 use Rattle.kernel_meaning.proofs.Residues.{word-below, word-add, word-shl}
 use Rattle.kernel_meaning.proofs.ExtendedForm.{unary-kept, binary-kept, shift-kept}
@@ -28,7 +28,7 @@ use Rattle.scalar_words.specs.Layout.{Layout, reg_of, IsMade}
 use Rattle.scalar_words.specs.Words.{binary_code, operation_code, word_code, copy_word, extend_word, settle_word}
 use Rattle.scalar_values.specs.ItemWords.{Side, Number, Register, Product, Moved, product_word, shift_word, operator_code, add_word, sub_word, sum_word, unary_code, abs_code, shift_code, shift_kind, convert_word}
 use Rattle.scalar_values.specs.declared.extent.Extent.{Extent}
-use Rattle.scalar_values.specs.Extents.{Whole, within_type, unary_joins, operand_extent, binary_extent, unary_extent, shift_extent, settles}
+use Rattle.scalar_values.specs.Extents.{Whole, within_type, unary_joins, operand_extent, asked_extent, binary_extent, settles}
 use Rattle.scalar_words.specs.Operands.{binary_joins}
 use Rattle.scalar_values.proofs.Loose.{settled, loose_binary, loose_unary, loose_shift, loose_cast}
 use Rattle.scalar_words.proofs.Words.{InRange, in_range}
@@ -115,12 +115,22 @@ only_joins binary.Xor j b = absurd cc
 only_joins binary.Min j b = absurd cc
 only_joins binary.Max j b = absurd cc
 
+unjoined : (op : BinaryOp) → binary_joins op ≡ false → binary_leaves op ≡ false
+unjoined binary.Add j = absurd cc
+unjoined binary.Sub j = absurd cc
+unjoined binary.Mul j = absurd cc
+unjoined binary.And j = absurd cc
+unjoined binary.Or j = absurd cc
+unjoined binary.Xor j = absurd cc
+unjoined binary.Min j = refl
+unjoined binary.Max j = refl
+
 module _ (D : Laid) (L : Layout) (fit : Assigned L) where
   -- the absolute value
-  abs_sets : {rest : List Entry} {s : State} (sg : Bool) (t : Ty) (x : ℤ) (a d : ℕ) → length s.x ≡ 31 → a ≤ 25 → d ≤ 25 → InRange sg x → (sg ≡ false → word (wrap t (pos (unsigned_abs x))) ≡ word (pos (unsigned_abs x))) → x_at s a ≡ word x → Sets D (abs_code sg t d a rest) s rest d (wrap t (pos (unsigned_abs x))) 4
-  abs_sets {rest = rest} {s = s} false t x a d sized la hi rx kept ex =
+  abs_sets : {rest : List Entry} {s : State} (leaves sg : Bool) (t : Ty) (x : ℤ) (a d : ℕ) → length s.x ≡ 31 → a ≤ 25 → d ≤ 25 → InRange sg x → (sg ≡ false → word (wrap t (pos (unsigned_abs x))) ≡ word (pos (unsigned_abs x))) → (leaves ≡ false → word (wrap t (pos (unsigned_abs x))) ≡ word (pos (unsigned_abs x))) → x_at s a ≡ word x → Sets D (abs_code leaves sg t d a rest) s rest d (wrap t (pos (unsigned_abs x))) 4
+  abs_sets {rest = rest} {s = s} leaves false t x a d sized la hi rx kept stays ex =
       set_more 4 (omega arith) (copied_sets D L fit d a (wrap t (pos (unsigned_abs x))) sized (omega (arith, hi)) (ex ∙ same-abs x rx ∙ sym (kept refl)))
-  abs_sets {rest = rest} {s = s} true t x a d sized la hi rx kept ex =
+  abs_sets {rest = rest} {s = s} leaves true t x a d sized la hi rx kept stays ex =
       let z : x_at s 31 ≡ 0 = get_or_past s.x 31 0 (omega (arith, sized)) in
       let v = difference (x_at s 31) (shifted_word 0 (x_at s a) 0) in
       let t1 = next (record (with_x s 26 v) { flags = flags_of (x_at s 31) (shifted_word 0 (x_at s a) 0) }) in
@@ -131,7 +141,7 @@ module _ (D : Laid) (L : Layout) (fit : Assigned L) where
       let h : holds 10 t1.flags ≡ int_le x (pos 0) = ap (holds 10) fl ∙ compared compare.Ge true (pos 0) x (omega arith) rx in
       let e26 : x_at t1 26 ≡ difference 0 (word x) = get_or-set_same s.x 26 v 0 (omega (arith, sized)) ∙ ap₂ (λ m n. difference m (shifted_word 0 n 0)) z ex ∙ ap (λ n. difference 0 n) low in
       let is : n ≡ word (pos (unsigned_abs x)) = ap (λ b. if b then x_at t1 26 else x_at t1 a) h ∙ ap₂ (λ m k. if int_le x (pos 0) then m else k) e26 (get_or-set_other s.x 26 a v 0 (λ e. absurd (omega arith)) ∙ ex) ∙ abs_at (int_le x (pos 0)) x refl in
-      let w = settle_sets D L fit {i = word_of csel (d ∷ 26 ∷ 10 ∷ a ∷ [])} {rest = rest} {s = t1} true t d n (pos (unsigned_abs x)) size hi refl is (λ e. absurd cc) in
+      let w = settle_sets D L fit {i = word_of csel (d ∷ 26 ∷ 10 ∷ a ∷ [])} {rest = rest} {s = t1} leaves t d n (pos (unsigned_abs x)) size hi refl is stays in
       record {
         end = w.end;
         goes = chain 4 (omega arith) (put_goes {i = word_of subs (26 ∷ 31 ∷ 0 ∷ a ∷ 0 ∷ [])} {t = t1} refl) w.goes;
@@ -237,19 +247,27 @@ module _ (D : Laid) (L : Layout) (fit : Assigned L) where
   pub set_as : {c rest : List Entry} {s : State} {d most : ℕ} {v z : ℤ} → word v ≡ word z → Sets D c s rest d v most → Sets D c s rest d z most
   set_as e g = record { end = g.end; goes = g.goes; changes = g.changes; value = g.value ∙ e; shaped = g.shaped }
 
-  -- an operator of which so much is asked for
+  -- an operator of which so much is asked for, and whose result is known to stay in the extended form or not
+  pub operation_runs : {rest : List Entry} {s : State} (side : Side) (op : BinaryOp) (leaves : Bool) (w : Extent) (t : Ty) (x y : ℤ) (a d : ℕ) → length s.x ≡ 31 → a ≤ 25 → d ≤ 25 → (leaves ≡ true → binary_leaves op ≡ true)
+      → (asked_extent (binary_joins op) leaves w (Some t) ≡ Whole → IsOf t x × IsOf t y) → (asked_extent (binary_joins op) leaves w (Some t) ≡ Whole → leaves ≡ false → word (wrap t (binary_on op x y)) ≡ word (binary_on op x y))
+      → IsTaken op side → x_at s a ≡ word x → IsOperand side s y
+      → Sets D (operator_code side (settles (within_type w t) (binary_joins op) leaves) op t d a rest) s rest d (loose_binary op w (Some t) x y) 4
+  operation_runs {rest = rest} {s = s} side op leaves w t x y a d sized la hi only range kept takes ex ey = by (within_type w t) (binary_joins op) leaves refl refl only range kept
+    where
+      by : (l j b : Bool) → within_type w t ≡ l → binary_joins op ≡ j → (b ≡ true → binary_leaves op ≡ true) → (operand_extent l j b w (Some t) ≡ Whole → IsOf t x × IsOf t y) → (operand_extent l j b w (Some t) ≡ Whole → b ≡ false → word (wrap t (binary_on op x y)) ≡ word (binary_on op x y))
+          → Sets D (operator_code side (settles l j b) op t d a rest) s rest d (settled l j (Some t) (binary_on op x y)) 4
+      by true true b el ej f r k = set_as (wide_wrap ty.U64 (binary_on op x y) refl) (joined_runs side op false t ty.U64 x y a d ej sized la hi takes (λ e. wide_wrap ty.U64 (binary_on op x y) refl) refl ex ey)
+      by false true true el ej f r k = joined_runs side op true t t x y a d ej sized la hi takes (λ e. absurd cc) refl ex ey
+      by false true false el ej f r k = joined_runs side op false t t x y a d ej sized la hi takes (k refl) refl ex ey
+      by true false true el ej f r k = absurd (only_joins op ej (f refl))
+      by false false true el ej f r k = absurd (only_joins op ej (f refl))
+      by true false false el ej f r k = let in_type = r refl in let un = unjoined op ej in subst (λ b. Sets D (operator_code side b op t d a rest) s rest d (wrap t (binary_on op x y)) 4) un (chosen_runs side op t x y a d un sized la hi takes in_type.0 in_type.1 ex ey)
+      by false false false el ej f r k = let in_type = r refl in let un = unjoined op ej in subst (λ b. Sets D (operator_code side b op t d a rest) s rest d (wrap t (binary_on op x y)) 4) un (chosen_runs side op t x y a d un sized la hi takes in_type.0 in_type.1 ex ey)
+
+  -- one of whose operands nothing is known but their type
   pub operator_runs : {rest : List Entry} {s : State} (side : Side) (op : BinaryOp) (w : Extent) (t : Ty) (x y : ℤ) (a d : ℕ) → length s.x ≡ 31 → a ≤ 25 → d ≤ 25 → (binary_extent op w (Some t) ≡ Whole → IsOf t x × IsOf t y) → IsTaken op side → x_at s a ≡ word x → IsOperand side s y
       → Sets D (operator_code side (settles (within_type w t) (binary_joins op) (binary_leaves op)) op t d a rest) s rest d (loose_binary op w (Some t) x y) 4
-  operator_runs {rest = rest} {s = s} side op w t x y a d sized la hi range takes ex ey = by (within_type w t) (binary_joins op) (binary_leaves op) refl refl refl range
-    where
-      by : (l j b : Bool) → within_type w t ≡ l → binary_joins op ≡ j → binary_leaves op ≡ b → (operand_extent l j b w (Some t) ≡ Whole → IsOf t x × IsOf t y) → Sets D (operator_code side (settles l j b) op t d a rest) s rest d (settled l j (Some t) (binary_on op x y)) 4
-      by true true b el ej eb r = set_as (wide_wrap ty.U64 (binary_on op x y) refl) (joined_runs side op false t ty.U64 x y a d ej sized la hi takes (λ e. wide_wrap ty.U64 (binary_on op x y) refl) refl ex ey)
-      by false true true el ej eb r = joined_runs side op true t t x y a d ej sized la hi takes (λ e. absurd cc) refl ex ey
-      by false true false el ej eb r = let k = r refl in subst (λ b. Sets D (operator_code side b op t d a rest) s rest d (wrap t (binary_on op x y)) 4) eb (chosen_runs side op t x y a d eb sized la hi takes k.0 k.1 ex ey)
-      by true false true el ej eb r = absurd (only_joins op ej eb)
-      by false false true el ej eb r = absurd (only_joins op ej eb)
-      by true false false el ej eb r = let k = r refl in subst (λ b. Sets D (operator_code side b op t d a rest) s rest d (wrap t (binary_on op x y)) 4) eb (chosen_runs side op t x y a d eb sized la hi takes k.0 k.1 ex ey)
-      by false false false el ej eb r = let k = r refl in subst (λ b. Sets D (operator_code side b op t d a rest) s rest d (wrap t (binary_on op x y)) 4) eb (chosen_runs side op t x y a d eb sized la hi takes k.0 k.1 ex ey)
+  operator_runs side op w t x y a d sized la hi range takes ex ey = operation_runs side op (binary_leaves op) w t x y a d sized la hi (λ e. e) range (λ e out. let k = range e in binary-kept op t x y k.0 k.1 out) takes ex ey
 
   -- the negative, and the complement, of any integer
   neg_sets : {rest : List Entry} {s : State} (leaves : Bool) (t : Ty) (x : ℤ) (a d : ℕ) → length s.x ≡ 31 → d ≤ 25 → (leaves ≡ false → word (wrap t (neg_ℤ x)) ≡ word (neg_ℤ x)) → x_at s a ≡ word x → Sets D (unary_code leaves unary.Neg t d a rest) s rest d (wrap t (neg_ℤ x)) 2
@@ -265,24 +283,25 @@ module _ (D : Laid) (L : Layout) (fit : Assigned L) where
       (ap₂ (λ m n. bit_or m (inverted (shifted_word 0 n 0))) z ex ∙ ap (λ n. bit_or 0 (inverted n)) (plain (word x) (word-below x)) ∙ or_zero_l (inverted (word x)) ∙ sym (word-flipped x)) kept
 
   -- code that extends nothing is that of a type with 64 bits
-  pub unary_runs : {rest : List Entry} {s : State} (op : UnaryOp) (w : Extent) (t : Ty) (x : ℤ) (a d : ℕ) → length s.x ≡ 31 → a ≤ 25 → d ≤ 25 → (unary_extent op w (Some t) ≡ Whole → IsOf t x) → x_at s a ≡ word x
-      → Sets D (unary_code (settles (within_type w t) (unary_joins op) (unary_leaves op t)) op t d a rest) s rest d (loose_unary op w (Some t) x) 4
-  unary_runs {rest = rest} {s = s} unary.Neg w t x a d sized la hi range ex = by (within_type w t)
+  pub unary_runs : {rest : List Entry} {s : State} (op : UnaryOp) (leaves : Bool) (w : Extent) (t : Ty) (x : ℤ) (a d : ℕ) → length s.x ≡ 31 → a ≤ 25 → d ≤ 25
+      → (asked_extent (unary_joins op) leaves w (Some t) ≡ Whole → IsOf t x) → (asked_extent (unary_joins op) leaves w (Some t) ≡ Whole → leaves ≡ false → word (wrap t (unary_on op x)) ≡ word (unary_on op x)) → x_at s a ≡ word x
+      → Sets D (unary_code (settles (within_type w t) (unary_joins op) leaves) op t d a rest) s rest d (loose_unary op w (Some t) x) 4
+  unary_runs {rest = rest} {s = s} unary.Neg leaves w t x a d sized la hi range kept ex = by (within_type w t) kept
     where
-      by : (l : Bool) → Sets D (unary_code (settles l true true) unary.Neg t d a rest) s rest d (settled l true (Some t) (neg_ℤ x)) 4
-      by true = set_more 4 (omega arith) (set_as (wide_wrap ty.U64 (neg_ℤ x) refl) (neg_sets false ty.U64 x a d sized hi (λ e. wide_wrap ty.U64 (neg_ℤ x) refl) ex))
-      by false = set_more 4 (omega arith) (neg_sets true t x a d sized hi (λ e. absurd cc) ex)
-  unary_runs {rest = rest} {s = s} unary.Flip w t x a d sized la hi range ex = by (within_type w t) (unary_leaves unary.Flip t) refl refl range
+      by : (l : Bool) → (operand_extent l true leaves w (Some t) ≡ Whole → leaves ≡ false → word (wrap t (neg_ℤ x)) ≡ word (neg_ℤ x)) → Sets D (unary_code (settles l true leaves) unary.Neg t d a rest) s rest d (settled l true (Some t) (neg_ℤ x)) 4
+      by true k = set_more 4 (omega arith) (set_as (wide_wrap ty.U64 (neg_ℤ x) refl) (neg_sets false ty.U64 x a d sized hi (λ e. wide_wrap ty.U64 (neg_ℤ x) refl) ex))
+      by false k = set_more 4 (omega arith) (neg_sets leaves t x a d sized hi (λ e. k (ap (λ b. operand_extent false true b w (Some t)) e) e) ex)
+  unary_runs {rest = rest} {s = s} unary.Flip leaves w t x a d sized la hi range kept ex = by (within_type w t) kept
     where
-      by : (l b : Bool) → within_type w t ≡ l → unary_leaves unary.Flip t ≡ b → (operand_extent l true b w (Some t) ≡ Whole → IsOf t x) → Sets D (unary_code (settles l true b) unary.Flip t d a rest) s rest d (settled l true (Some t) (neg_ℤ x -ℤ pos 1)) 4
-      by true b el eb r = set_more 4 (omega arith) (set_as (wide_wrap ty.U64 (neg_ℤ x -ℤ pos 1) refl) (flip_sets false ty.U64 x a d sized hi (λ e. wide_wrap ty.U64 (neg_ℤ x -ℤ pos 1) refl) ex))
-      by false true el eb r = set_more 4 (omega arith) (flip_sets true t x a d sized hi (λ e. absurd cc) ex)
-      by false false el eb r = set_more 4 (omega arith) (flip_sets false t x a d sized hi (λ e. unary-kept unary.Flip t x (r refl) eb) ex)
-  unary_runs {rest = rest} {s = s} unary.Abs w t x a d sized la hi range ex = by (within_type w t) range
+      by : (l : Bool) → (operand_extent l true leaves w (Some t) ≡ Whole → leaves ≡ false → word (wrap t (neg_ℤ x -ℤ pos 1)) ≡ word (neg_ℤ x -ℤ pos 1)) → Sets D (unary_code (settles l true leaves) unary.Flip t d a rest) s rest d (settled l true (Some t) (neg_ℤ x -ℤ pos 1)) 4
+      by true k = set_more 4 (omega arith) (set_as (wide_wrap ty.U64 (neg_ℤ x -ℤ pos 1) refl) (flip_sets false ty.U64 x a d sized hi (λ e. wide_wrap ty.U64 (neg_ℤ x -ℤ pos 1) refl) ex))
+      by false k = set_more 4 (omega arith) (flip_sets leaves t x a d sized hi (λ e. k (ap (λ b. operand_extent false true b w (Some t)) e) e) ex)
+  unary_runs {rest = rest} {s = s} unary.Abs leaves w t x a d sized la hi range kept ex = by (within_type w t) range kept
     where
-      by : (l : Bool) → (operand_extent l false (unary_leaves unary.Abs t) w (Some t) ≡ Whole → IsOf t x) → Sets D (unary_code (settles l false (unary_leaves unary.Abs t)) unary.Abs t d a rest) s rest d (settled l false (Some t) (pos (unsigned_abs x))) 4
-      by true r = let rx = r refl in abs_sets {rest = rest} (is_signed t) t x a d sized la hi (in_range t x rx) (unary-kept unary.Abs t x rx) ex
-      by false r = let rx = r refl in abs_sets {rest = rest} (is_signed t) t x a d sized la hi (in_range t x rx) (unary-kept unary.Abs t x rx) ex
+      by : (l : Bool) → (operand_extent l false leaves w (Some t) ≡ Whole → IsOf t x) → (operand_extent l false leaves w (Some t) ≡ Whole → leaves ≡ false → word (wrap t (pos (unsigned_abs x))) ≡ word (pos (unsigned_abs x)))
+          → Sets D (unary_code (settles l false leaves) unary.Abs t d a rest) s rest d (settled l false (Some t) (pos (unsigned_abs x))) 4
+      by true r k = let rx = r refl in abs_sets {rest = rest} leaves (is_signed t) t x a d sized la hi (in_range t x rx) (unary-kept unary.Abs t x rx) (k refl) ex
+      by false r k = let rx = r refl in abs_sets {rest = rest} leaves (is_signed t) t x a d sized la hi (in_range t x rx) (unary-kept unary.Abs t x rx) (k refl) ex
 
   -- a shift to the left of any integer, and one to the right of a value
   left_sets : {rest : List Entry} {s : State} (leaves : Bool) (n : ℤ) (t u : Ty) (x : ℤ) (a d : ℕ) → length s.x ≡ 31 → d ≤ 25 → (leaves ≡ false → word (wrap u (shift_on true (shift_count n) x)) ≡ word (shift_on true (shift_count n) x)) → settle_word leaves u d ≡ settle_word leaves t d → x_at s a ≡ word x
@@ -302,14 +321,16 @@ module _ (D : Laid) (L : Layout) (fit : Assigned L) where
       settle_sets D L fit false t d (bit_or (x_at s 31) (shifted_word kind (x_at s a) k)) (shift_on false k x) sized hi refl
       (ap₂ (λ m n. bit_or m (shifted_word kind n k)) z ex ∙ or_zero_l (shifted_word kind (word x) k) ∙ shifted-word false (is_signed t) k x (in_range t x rx)) (shift-kept false k t x rx)
 
-  pub shift_runs : {rest : List Entry} {s : State} (left : Bool) (n : ℤ) (w : Extent) (t : Ty) (x : ℤ) (a d : ℕ) → length s.x ≡ 31 → d ≤ 25 → (shift_extent left w (Some t) ≡ Whole → IsOf t x) → x_at s a ≡ word x
-      → Sets D (shift_code (settles (within_type w t) left left) left n t d a rest) s rest d (loose_shift left n w (Some t) x) 4
-  shift_runs {rest = rest} {s = s} true n w t x a d sized hi range ex = by (within_type w t)
+  pub shift_runs : {rest : List Entry} {s : State} (left leaves : Bool) (n : ℤ) (w : Extent) (t : Ty) (x : ℤ) (a d : ℕ) → length s.x ≡ 31 → d ≤ 25 → (leaves ≡ true → left ≡ true)
+      → (asked_extent left leaves w (Some t) ≡ Whole → IsOf t x) → (asked_extent left leaves w (Some t) ≡ Whole → leaves ≡ false → word (wrap t (shift_on left (shift_count n) x)) ≡ word (shift_on left (shift_count n) x)) → x_at s a ≡ word x
+      → Sets D (shift_code (settles (within_type w t) left leaves) left n t d a rest) s rest d (loose_shift left n w (Some t) x) 4
+  shift_runs {rest = rest} {s = s} true leaves n w t x a d sized hi only range kept ex = by (within_type w t) kept
     where
-      by : (l : Bool) → Sets D (shift_code (settles l true true) true n t d a rest) s rest d (settled l true (Some t) (shift_on true (shift_count n) x)) 4
-      by true = set_more 4 (omega arith) (set_as (wide_wrap ty.U64 (shift_on true (shift_count n) x) refl) (left_sets false n t ty.U64 x a d sized hi (λ e. wide_wrap ty.U64 (shift_on true (shift_count n) x) refl) refl ex))
-      by false = set_more 4 (omega arith) (left_sets true n t t x a d sized hi (λ e. absurd cc) refl ex)
-  shift_runs {rest = rest} {s = s} false n w t x a d sized hi range ex = by (within_type w t) range
+      by : (l : Bool) → (operand_extent l true leaves w (Some t) ≡ Whole → leaves ≡ false → word (wrap t (shift_on true (shift_count n) x)) ≡ word (shift_on true (shift_count n) x)) → Sets D (shift_code (settles l true leaves) true n t d a rest) s rest d (settled l true (Some t) (shift_on true (shift_count n) x)) 4
+      by true k = set_more 4 (omega arith) (set_as (wide_wrap ty.U64 (shift_on true (shift_count n) x) refl) (left_sets false n t ty.U64 x a d sized hi (λ e. wide_wrap ty.U64 (shift_on true (shift_count n) x) refl) refl ex))
+      by false k = set_more 4 (omega arith) (left_sets leaves n t t x a d sized hi (λ e. k (ap (λ b. operand_extent false true b w (Some t)) e) e) refl ex)
+  shift_runs false true n w t x a d sized hi only range kept ex = absurd (let e = only refl in cc)
+  shift_runs {rest = rest} {s = s} false false n w t x a d sized hi only range kept ex = by (within_type w t) range
     where
       by : (l : Bool) → (operand_extent l false false w (Some t) ≡ Whole → IsOf t x) → Sets D (shift_code (settles l false false) false n t d a rest) s rest d (settled l false (Some t) (shift_on false (shift_count n) x)) 4
       by true r = set_more 4 (omega arith) (right_sets n t x a d sized hi (r refl) ex)

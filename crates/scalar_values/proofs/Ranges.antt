@@ -10,8 +10,9 @@ use Rattle.kernel_meaning.specs.Eval.{Names, value}
 use Rattle.kernel_meaning.specs.Ranges.{AreRanged}
 use Rattle.kernel_meaning.proofs.ValueRanges.{IsTyped, value_range}
 use Rattle.scalar_words.specs.Layout.{Layout, Homes}
-use Rattle.scalar_values.specs.Fits.{Fits}
-use Rattle.scalar_values.proofs.Loose.{TypedAt, AreCast}
+use Rattle.scalar_values.specs.Fits.{IsSome, Fits}
+use Rattle.value_bounds.proofs.InBounds.{AreTyped}
+use Rattle.value_bounds.proofs.InBounds as typed
 
 fits_typed : (e : Term) (L : Layout) (hs : Homes) (s : Scope) (T : Ty) (b user : ℕ) → Fits L hs s (Some T) b user e → IsTyped s T e
 fits_typed (Literal n) L hs s T b user fits = tt
@@ -30,21 +31,21 @@ fits_typed (Not x) L hs s T b user fits = absurd fits
 pub value-range : (L : Layout) (hs : Homes) (s : Scope) (names : Names) (m : Memory) (e : Term) (T : Ty) (b user : ℕ) (v : ℤ) → Fits L hs s (Some T) b user e → AreRanged s.visible names → value s (Some T) e m names ≡ Some v → IsOf T v
 value-range L hs s names m e T b user v fits r is = value_range e s T m names v (fits_typed e L hs s T b user fits) r is
 
-typed_at : (o : Option Ty) (e : Term) (L : Layout) (hs : Homes) (s : Scope) (b user : ℕ) → Fits L hs s o b user e → TypedAt o s e
-typed_at None e L hs s b user fits = tt
-typed_at (Some T) e L hs s b user fits = fits_typed e L hs s T b user fits
+same_some : (o : Option Ty) → IsSome o → typed.IsSome o
+same_some None h = absurd h
+same_some (Some t) h = tt
 
--- registers fit casts of operands of their types alone
-pub fits_cast : (e : Term) (L : Layout) (hs : Homes) (s : Scope) (want : Option Ty) (b user : ℕ) → Fits L hs s want b user e → AreCast s e
-fits_cast (Literal n) L hs s want b user fits = tt
-fits_cast (Variable x) L hs s want b user fits = tt
-fits_cast (Element a i) L hs s want b user fits = tt
-fits_cast (Unary op x) L hs s want b user fits = fits_cast x L hs s want _ _ fits.1
-fits_cast (Operation op x y) L hs s want b user fits = (fits_cast x L hs s want _ _ fits.1, fits_cast y L hs s want _ _ fits.2)
-fits_cast (Shift left x n) L hs s want b user fits = fits_cast x L hs s want _ _ fits.1
-fits_cast (Conversion x t) L hs s want b user fits = (typed_at (own s x) x L hs s _ _ fits.2, fits_cast x L hs s (own s x) _ _ fits.2)
-fits_cast (Choice c x y) L hs s want b user fits = (fits_cast x L hs s want _ _ fits.0, fits_cast y L hs s want _ _ fits.1)
-fits_cast (Comparison op x y) L hs s want b user fits = absurd fits
-fits_cast (Both x y) L hs s want b user fits = absurd fits
-fits_cast (Either x y) L hs s want b user fits = absurd fits
-fits_cast (Not x) L hs s want b user fits = absurd fits
+-- registers fit an expression whose names, elements and casts have the types that their places want
+pub fits_types : (e : Term) (L : Layout) (hs : Homes) (s : Scope) (want : Option Ty) (b user : ℕ) → Fits L hs s want b user e → AreTyped s want e
+fits_types (Literal n) L hs s want b user fits = tt
+fits_types (Variable x) L hs s want b user fits = fits.1
+fits_types (Element a i) L hs s want b user fits = fits.0
+fits_types (Unary op x) L hs s want b user fits = fits_types x L hs s want _ _ fits.1
+fits_types (Operation op x y) L hs s want b user fits = (fits_types x L hs s want _ _ fits.1, fits_types y L hs s want _ _ fits.2)
+fits_types (Shift left x n) L hs s want b user fits = fits_types x L hs s want _ _ fits.1
+fits_types (Conversion x t) L hs s want b user fits = (fits.0, same_some (own s x) fits.1, fits_types x L hs s (own s x) _ _ fits.2)
+fits_types (Choice c x y) L hs s want b user fits = (fits_types x L hs s want _ _ fits.0, fits_types y L hs s want _ _ fits.1)
+fits_types (Comparison op x y) L hs s want b user fits = absurd fits
+fits_types (Both x y) L hs s want b user fits = absurd fits
+fits_types (Either x y) L hs s want b user fits = absurd fits
+fits_types (Not x) L hs s want b user fits = absurd fits

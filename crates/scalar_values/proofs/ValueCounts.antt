@@ -11,7 +11,8 @@ use Rattle.kernel_tree.specs.Typing.{Scope, lookup, own, element_type, index_typ
 use Rattle.kernel_meaning.specs.Operators.{word, wrapped}
 use Rattle.kernel_meaning.specs.TypeValues.{binary_leaves}
 use Rattle.scalar_values.specs.declared.extent.Extent.{Extent}
-use Rattle.scalar_values.specs.Extents.{Whole, within_type, within as within_at, unary_joins, binary_extent, unary_extent, shift_extent, converted_extent, leaves_at, settles}
+use Rattle.scalar_values.specs.Extents.{Whole, within_type, within as within_at, unary_joins, converted_extent, settles}
+use Rattle.scalar_values.specs.Leaving.{unary_asks, binary_asks, shift_asks, unary_settles, binary_settles, shift_settles}
 use Rattle.scalar_words.specs.Operands.{binary_joins}
 use Rattle.label_fix.specs.DraftRun.{Entry, Place}
 use Rattle.label_fix.specs.Finished.{size}
@@ -56,9 +57,9 @@ choice_words : (o : Option ℕ) (m : ℕ) (flags jump : List Entry → List Entr
 choice_words (Some c) m flags jump d p q n rest k h f g = within (omega arith) (f _ (1 + k) (omega (arith, h)))
 choice_words None m flags jump d p q n rest k h f g = within (omega arith) (g _ (3 + k) (pick_words d p q n rest k h))
 
-abs_words : (b : Bool) (t : Ty) (d a : ℕ) (rest : List Entry) (k : ℕ) → size rest ≤ k → size (abs_code b t d a rest) ≤ 3 + k
-abs_words true t d a rest k h = let w = one_word (settle_word true t d) rest k h in omega (arith, w)
-abs_words false t d a rest k h = let w = one_word (copy_word d a) rest k h in omega (arith, w)
+abs_words : (leaves b : Bool) (t : Ty) (d a : ℕ) (rest : List Entry) (k : ℕ) → size rest ≤ k → size (abs_code leaves b t d a rest) ≤ 3 + k
+abs_words leaves true t d a rest k h = let w = one_word (settle_word leaves t d) rest k h in omega (arith, w)
+abs_words leaves false t d a rest k h = let w = one_word (copy_word d a) rest k h in omega (arith, w)
 
 cast_words : (low : Bool) (from : Option Ty) (t : Ty) (d a : ℕ) (rest : List Entry) (k : ℕ) → size rest ≤ k → size (at_type from (λ u. word_code (convert_word low u t d a) rest) rest) ≤ 1 + k
 cast_words low None t d a rest k h = omega (arith, h)
@@ -68,7 +69,7 @@ unary_words : (leaves : Bool) (want : Option Ty) (op : UnaryOp) (d a : ℕ) (res
 unary_words leaves None op d a rest k h = omega (arith, h)
 unary_words leaves (Some t) unary.Neg d a rest k h = let w = one_word (settle_word leaves t d) rest k h in omega (arith, w)
 unary_words leaves (Some t) unary.Flip d a rest k h = let w = one_word (settle_word leaves t d) rest k h in omega (arith, w)
-unary_words leaves (Some t) unary.Abs d a rest k h = abs_words (is_signed t) t d a rest k h
+unary_words leaves (Some t) unary.Abs d a rest k h = abs_words leaves (is_signed t) t d a rest k h
 
 shift_words : (leaves : Bool) (want : Option Ty) (left : Bool) (n : ℤ) (d a : ℕ) (rest : List Entry) (k : ℕ) → size rest ≤ k → size (at_type want (λ t. shift_code leaves left n t d a rest) rest) ≤ 2 + k
 shift_words leaves None left n d a rest k h = omega (arith, h)
@@ -91,12 +92,12 @@ module _ (L : Layout) (hs : Homes) where
     loose_words (Variable x) s w want b n rest k h = omega (arith, h)
     loose_words (Element a j) s w want b n rest k h =
         within (omega arith) (number_words (stream_offset s.index j) (term_size s.index j) _ _ _ (load_words (option_and_then element_type (lookup s a)) _ _ _ rest k h) (λ g. loose_words j s Whole (index_type s j) b n _ _ g))
-    loose_words (Unary op x) s w want b n rest k h = within (omega arith) (loose_words x s (unary_extent op w want) want b n _ _ (unary_words (settles (within_at w want) (unary_joins op) (leaves_at op want)) want op _ _ rest k h))
+    loose_words (Unary op x) s w want b n rest k h = within (omega arith) (loose_words x s (unary_asks s want op x w) want b n _ _ (unary_words (unary_settles s want op x w) want op _ _ rest k h))
     loose_words (Operation op x y) s w want b n rest k h =
-        let j = binary_extent op w want in
+        let j = binary_asks s want op x y w in
         let side = right_side L hs s.index op j want (b + term_size s.index x) y in
-        within (omega arith) (loose_words x s j want b n _ _ (side_words (added_number op want y) (is_fused op j want y) (4 * term_size s.index y) _ _ _ _ (operator_code_words side (settles (within_at w want) (binary_joins op) (binary_leaves op)) want op _ _ rest k h) (λ g. loose_words y s j want _ _ _ _ g) (λ g. parts_words y s j want _ _ _ _ g)))
-    loose_words (Shift left x z) s w want b n rest k h = within (omega arith) (loose_words x s (shift_extent left w want) want b n _ _ (shift_words (settles (within_at w want) left left) want left z _ _ rest k h))
+        within (omega arith) (loose_words x s j want b n _ _ (side_words (added_number op want y) (is_fused op j want y) (4 * term_size s.index y) _ _ _ _ (operator_code_words side (binary_settles s want op x y w) want op _ _ rest k h) (λ g. loose_words y s j want _ _ _ _ g) (λ g. parts_words y s j want _ _ _ _ g)))
+    loose_words (Shift left x z) s w want b n rest k h = within (omega arith) (loose_words x s (shift_asks s want left x z w) want b n _ _ (shift_words (shift_settles s want left x z w) want left z _ _ rest k h))
     loose_words (Conversion x t) s w want b n rest k h = within (omega arith) (loose_words x s (converted_extent w (own s x) t) (own s x) b n _ _ (cast_words (within_type w t) (own s x) t _ _ rest k h))
     loose_words (Choice c x y) s w want b n rest k h =
         within (omega arith) (loose_words x s w want b n _ _ (loose_words y s w want _ _ _ _ (choice_words (flag_condition s c) (4 * term_size s.index c) _ _ _ _ _ _ rest k h (λ r j g. flags_words c s _ _ r j g) (λ r j g. jump_words c s false _ _ _ r j g))))
@@ -106,8 +107,8 @@ module _ (L : Layout) (hs : Homes) where
     loose_words (Not x) s w want b n rest k h = omega (arith, h)
 
     pub parts_words : (e : Term) (s : Scope) (w : Extent) (want : Option Ty) (b n : ℕ) (rest : List Entry) (k : ℕ) → size rest ≤ k → size (parts_code L hs s w want b n e rest) ≤ 4 * term_size s.index e + k
-    parts_words (Operation op x y) s w want b n rest k h = within (omega arith) (loose_words x s (binary_extent op w want) want b n _ _ (loose_words y s (binary_extent op w want) want _ _ _ _ h))
-    parts_words (Shift left x z) s w want b n rest k h = within (omega arith) (loose_words x s (shift_extent left w want) want b n _ _ h)
+    parts_words (Operation op x y) s w want b n rest k h = within (omega arith) (loose_words x s (binary_asks s want op x y w) want b n _ _ (loose_words y s (binary_asks s want op x y w) want _ _ _ _ h))
+    parts_words (Shift left x z) s w want b n rest k h = within (omega arith) (loose_words x s (shift_asks s want left x z w) want b n _ _ h)
     parts_words (Literal z) s w want b n rest k h = omega (arith, h)
     parts_words (Variable x) s w want b n rest k h = omega (arith, h)
     parts_words (Element a i) s w want b n rest k h = omega (arith, h)

@@ -36,13 +36,15 @@ use Rattle.scalar_words.proofs.LayoutStates.{AreRanged, Assigned, Kept, AreSafe,
 use Rattle.scalar_words.proofs.WordsRuns.{Gets, gets, more, wide_wrap, copied_sets}
 use Rattle.scalar_values.proofs.Loads.{Gives, no_value, a_value, load_runs, index_runs}
 use Rattle.scalar_words.proofs.Constants.{word_back, const_back, const_runs}
-use Rattle.scalar_values.proofs.Operators.{IsOperand, IsTaken, shifted-word, operator_runs, unary_runs, shift_runs, cast_runs}
+use Rattle.scalar_values.proofs.Operators.{IsOperand, IsTaken, shifted-word, operation_runs, unary_runs, shift_runs, cast_runs}
+use Rattle.scalar_values.proofs.Staying.{and_true, unary_keeps, binary_keeps, shift_keeps}
 use Rattle.scalar_words.proofs.Words.{InRange, in_range}
 use Rattle.scalar_values.specs.declared.extent.Extent.{Extent}
-use Rattle.scalar_values.specs.Extents.{Whole, extent_of, operand_extent, within_type, within, unary_joins, binary_extent, unary_extent, leaves_at, shift_extent, fits_at, converted_extent, settles}
+use Rattle.scalar_values.specs.Extents.{Whole, extent_of, operand_extent, within_type, within, unary_joins, asked_extent, binary_extent, fits_at, converted_extent, settles}
+use Rattle.scalar_values.specs.Leaving.{unary_may_leave, binary_may_leave, shift_may_leave, unary_asks, binary_asks, shift_asks, unary_settles, binary_settles, shift_settles}
 use Rattle.scalar_words.specs.Operands.{binary_joins}
 use Rattle.scalar_values.proofs.Loose.{settled, loose_binary, loose_unary, loose_shift, loose_cast, loose, whole_is}
-use Rattle.scalar_values.proofs.Ranges.{value-range, fits_cast}
+use Rattle.scalar_values.proofs.Ranges.{value-range, fits_types}
 use Rattle.kernel_tree.specs.declared.ops.Ty.TheVariants as ty
 use Rattle.kernel_tree.specs.declared.ops.BinaryOp.TheVariants as binary
 use Rattle.kernel_tree.specs.declared.ops.UnaryOp.TheVariants as unary
@@ -67,12 +69,15 @@ LooseRuns D L e hs s names m st w b user n rest want =
 -- where the whole value is asked for, it is the value
 exact : {D : Laid} {L : Layout} {st : State} {rest : List Entry} (hs : Homes) (b user n : ℕ) (e : Term) (s : Scope) (names : Names) (m : Memory) (want : Option Ty) → AreRanged s.visible names → LooseRuns D L e hs s names m st Whole b user n rest want → Runs D L e hs s names m st b user n rest want
 exact {D = D} {L = L} {st = st} {rest = rest} hs b user n e s names m want ranged k fits res =
-    subst (λ o. Gives D L (value_code L hs s want b n e rest) st rest b (b + term_size s.index e) (home L hs s.index b e) m (4 * term_size s.index e) o) (whole_is s m names ranged e want (fits_cast e L hs s want b user fits)) (k fits res)
+    subst (λ o. Gives D L (value_code L hs s want b n e rest) st rest b (b + term_size s.index e) (home L hs s.index b e) m (4 * term_size s.index e) o) (whole_is s m names ranged e want (fits_types e L hs s want b user fits)) (k fits res)
 
--- an operand of which the whole value is asked for is of its type
+-- an operand of which the whole value is asked for is the value, and of its type
+loose_value : (w : Extent) (L : Layout) (hs : Homes) (s : Scope) (names : Names) (m : Memory) (e : Term) (T : Ty) (b user : ℕ) (v : ℤ) → Fits L hs s (Some T) b user e → AreRanged s.visible names → loose s w (Some T) e m names ≡ Some v → w ≡ Whole → value s (Some T) e m names ≡ Some v
+loose_value w L hs s names m e T b user v fits ranged is whole =
+    sym (whole_is s m names ranged e (Some T) (fits_types e L hs s (Some T) b user fits)) ∙ subst (λ w. loose s w (Some T) e m names ≡ Some v) whole is
+
 loose_range : (w : Extent) (L : Layout) (hs : Homes) (s : Scope) (names : Names) (m : Memory) (e : Term) (T : Ty) (b user : ℕ) (v : ℤ) → Fits L hs s (Some T) b user e → AreRanged s.visible names → loose s w (Some T) e m names ≡ Some v → w ≡ Whole → IsOf T v
-loose_range w L hs s names m e T b user v fits ranged is whole =
-    value-range L hs s names m e T b user v fits ranged (sym (whole_is s m names ranged e (Some T) (fits_cast e L hs s (Some T) b user fits)) ∙ subst (λ w. loose s w (Some T) e m names ≡ Some v) whole is)
+loose_range w L hs s names m e T b user v fits ranged is whole = value-range L hs s names m e T b user v fits ranged (loose_value w L hs s names m e T b user v fits ranged is whole)
 
 first_some : (o : Option Ty) (t : Ty) → IsSome (first o (Some t))
 first_some None t = tt
@@ -128,31 +133,6 @@ never : (a : Bool) → (a && false) ≡ true → ⊥
 never true h = absurd cc
 never false h = absurd cc
 
--- what an operator with a product asks of it is such that the product is not extended
-type_stays : (T : Ty) → stays (extent_of T) (Some T) ≡ true
-type_stays ty.I8 = refl
-type_stays ty.U8 = refl
-type_stays ty.I16 = refl
-type_stays ty.U16 = refl
-type_stays ty.I32 = refl
-type_stays ty.U32 = refl
-type_stays ty.I64 = refl
-type_stays ty.U64 = refl
-
-low_stays : (l : Bool) (w : Extent) (T : Ty) → within_type w T ≡ l → stays (operand_extent l true true w (Some T)) (Some T) ≡ true
-low_stays true w T e = ap (λ l. l || not (is_narrow T)) e
-low_stays false w T e = type_stays T
-
-pub asked_stays : (op : BinaryOp) → takes_product op ≡ true → (w : Extent) (T : Ty) → stays (binary_extent op w (Some T)) (Some T) ≡ true
-asked_stays binary.Add takes w T = low_stays (within_type w T) w T refl
-asked_stays binary.Sub takes w T = low_stays (within_type w T) w T refl
-asked_stays binary.Mul takes w T = absurd cc
-asked_stays binary.And takes w T = absurd cc
-asked_stays binary.Or takes w T = absurd cc
-asked_stays binary.Xor takes w T = absurd cc
-asked_stays binary.Min takes w T = absurd cc
-asked_stays binary.Max takes w T = absurd cc
-
 -- the word of a result that is not extended
 settled_by : (l : Bool) (T : Ty) (z : ℤ) → (l || not (is_narrow T)) ≡ true → word (settled l true (Some T) z) ≡ word z
 settled_by true T z h = refl
@@ -173,9 +153,10 @@ right_settled : (l : Bool) (T : Ty) (z : ℤ) → settled l false (Some T) z ≡
 right_settled true T z = refl
 right_settled false T z = refl
 
-moved_same : (left : Bool) (z : ℤ) (w : Extent) (T : Ty) (x : ℤ) → shift_stays left w (Some T) ≡ true → (shift_extent left w (Some T) ≡ Whole → IsOf T x) → shifted_word (shift_kind left (is_signed T)) (word x) (shift_count z) ≡ word (loose_shift left z w (Some T) x)
-moved_same true z w T x still range = word-shl x (shift_count z) ∙ sym (settled_same w T (shift_on true (shift_count z) x) still)
-moved_same false z w T x still range =
+moved_same : (left leaves : Bool) (z : ℤ) (w : Extent) (T : Ty) (x : ℤ) → (leaves ≡ true → left ≡ true) → shift_stays left w (Some T) ≡ true → (asked_extent left leaves w (Some T) ≡ Whole → IsOf T x) → shifted_word (shift_kind left (is_signed T)) (word x) (shift_count z) ≡ word (loose_shift left z w (Some T) x)
+moved_same true leaves z w T x only still range = word-shl x (shift_count z) ∙ sym (settled_same w T (shift_on true (shift_count z) x) still)
+moved_same false true z w T x only still range = absurd (let e = only refl in cc)
+moved_same false false z w T x only still range =
     let rx = range (right_extent (within_type w T) w T) in
     shifted-word false (is_signed T) (shift_count z) x (in_range T x rx) ∙ sym (shift-kept false (shift_count z) T x rx refl) ∙ sym (ap word (right_settled (within_type w T) T (shift_on false (shift_count z) x)))
 
@@ -186,7 +167,7 @@ taken_by op None true r part sums takes = takes refl
 taken_by op None false r part sums takes = tt
 
 part_taken : (op : BinaryOp) (L : Layout) (hs : Homes) (i : Option (List ℕ)) (w : Extent) (T : Ty) (b : ℕ) (e : Term) → is_fused op w (Some T) e ≡ true → IsTaken op (part_side L hs i (Some T) b e)
-part_taken op L hs i w T b (Operation o x y) f = both_left (takes_product op) (is_product o) f
+part_taken op L hs i w T b (Operation o x y) f = both_left (takes_product op) (is_product o && stays w (Some T)) f
 part_taken op L hs i w T b (Shift left e z) f = both_left (takes_shift op) (shift_stays left w (Some T)) f
 part_taken op L hs i w T b (Literal z) f = absurd cc
 part_taken op L hs i w T b (Variable x) f = absurd cc
@@ -256,11 +237,11 @@ module _ (D : Laid) (L : Layout) (fit : Assigned L) where
       a_side end (go_more most l1 goes) (kept_more L e2 le kept) (ap₂ (λ p q. p * q % 2 ^ 64) left right ∙ sym (word-mul u v) ∙ sym (settled_same w T (u *ℤ v) still))
 
   -- a value as one that the word shifts
-  moved_sided : {c rest : List Entry} {s : State} {b e r : ℕ} {m : Memory} {m1 : ℕ} {o : Option ℤ} (left : Bool) (z : ℤ) (w : Extent) (T : Ty) (e2 most : ℕ) → e ≤ e2 → m1 ≤ most → shift_stays left w (Some T) ≡ true → ((x : ℤ) → o ≡ Some x → shift_extent left w (Some T) ≡ Whole → IsOf T x) → Gives D L c s rest b e r m m1 o
+  moved_sided : {c rest : List Entry} {s : State} {b e r : ℕ} {m : Memory} {m1 : ℕ} {o : Option ℤ} (left leaves : Bool) (z : ℤ) (w : Extent) (T : Ty) (e2 most : ℕ) → e ≤ e2 → m1 ≤ most → (leaves ≡ true → left ≡ true) → shift_stays left w (Some T) ≡ true → ((x : ℤ) → o ≡ Some x → asked_extent left leaves w (Some T) ≡ Whole → IsOf T x) → Gives D L c s rest b e r m m1 o
       → Sided D L c s rest b e2 (IsOperand (Moved (shift_kind left (is_signed T)) (shift_count z) r)) m most (option_map (loose_shift left z w (Some T)) o)
-  moved_sided left z w T e2 most le l1 still range (no_value g) = no_side (stop_more most l1 g)
-  moved_sided left z w T e2 most le l1 still range (a_value {v = x} g) =
-      a_side g.end (go_more most l1 g.goes) (kept_more L e2 le g.kept) (ap (λ k. shifted_word (shift_kind left (is_signed T)) k (shift_count z)) g.value ∙ moved_same left z w T x still (range x refl))
+  moved_sided left leaves z w T e2 most le l1 only still range (no_value g) = no_side (stop_more most l1 g)
+  moved_sided left leaves z w T e2 most le l1 only still range (a_value {v = x} g) =
+      a_side g.end (go_more most l1 g.goes) (kept_more L e2 le g.kept) (ap (λ k. shifted_word (shift_kind left (is_signed T)) k (shift_count z)) g.value ∙ moved_same left leaves z w T x only still (range x refl))
 
   -- a right side, by what the word takes of it
   sided_by : (whole parts : List Entry → List Entry) {t : State} {rest : List Entry} {b e : ℕ} {m : Memory} {most : ℕ} (o : Option ℤ) (number : Option ℕ) (fused : Bool) (r : ℕ) (part : Side) → ((v : ℕ) → number ≡ Some v → (y : ℤ) × ((o ≡ Some y) × (v ≡ word y))) → Resolves D (side_code number fused whole parts rest)
@@ -446,9 +427,9 @@ module _ (D : Laid) (L : Layout) (fit : Assigned L) where
   choice_back (Some k) flags jump d p q n rest f g h = f _ h
   choice_back None flags jump d p q n rest f g h = (pick_back d p q n rest (g _ h)).1.1
 
-  abs_back : (b : Bool) (t : Ty) (d a : ℕ) (rest : List Entry) → Resolves D (abs_code b t d a rest) → Resolves D rest
-  abs_back true t d a rest h = word_back D (settle_word true t d) rest h
-  abs_back false t d a rest h = word_back D (copy_word d a) rest h
+  abs_back : (leaves b : Bool) (t : Ty) (d a : ℕ) (rest : List Entry) → Resolves D (abs_code leaves b t d a rest) → Resolves D rest
+  abs_back leaves true t d a rest h = word_back D (settle_word leaves t d) rest h
+  abs_back leaves false t d a rest h = word_back D (copy_word d a) rest h
 
   cast_back : (low : Bool) (from : Option Ty) (t : Ty) (d a : ℕ) (rest : List Entry) → Resolves D (at_type from (λ u. word_code (convert_word low u t d a) rest) rest) → Resolves D rest
   cast_back low None t d a rest h = h
@@ -458,7 +439,7 @@ module _ (D : Laid) (L : Layout) (fit : Assigned L) where
   unary_back leaves None op d a rest h = h
   unary_back leaves (Some t) unary.Neg d a rest h = word_back D (settle_word leaves t d) rest h
   unary_back leaves (Some t) unary.Flip d a rest h = word_back D (settle_word leaves t d) rest h
-  unary_back leaves (Some t) unary.Abs d a rest h = abs_back (is_signed t) t d a rest h
+  unary_back leaves (Some t) unary.Abs d a rest h = abs_back leaves (is_signed t) t d a rest h
 
   shift_back : (leaves : Bool) (want : Option Ty) (left : Bool) (n : ℤ) (d a : ℕ) (rest : List Entry) → Resolves D (at_type want (λ t. shift_code leaves left n t d a rest) rest) → Resolves D rest
   shift_back leaves None left n d a rest h = h
@@ -489,12 +470,12 @@ module _ (D : Laid) (L : Layout) (fit : Assigned L) where
     loose_back (Literal z) hs s w want b n rest h = const_back D (reg_of L b) (word (wrapped want z)) rest h
     loose_back (Variable x) hs s w want b n rest h = h
     loose_back (Element a i) hs s w want b n rest h = load_back _ _ _ _ rest (number_back (stream_offset s.index i) _ _ (loose_back i hs s Whole (index_type s i) b n _) h)
-    loose_back (Unary op e) hs s w want b n rest h = unary_back (settles (within w want) (unary_joins op) (leaves_at op want)) want op _ _ rest (loose_back e hs s (unary_extent op w want) want b n _ h)
+    loose_back (Unary op e) hs s w want b n rest h = unary_back (unary_settles s want op e w) want op _ _ rest (loose_back e hs s (unary_asks s want op e w) want b n _ h)
     loose_back (Operation op x y) hs s w want b n rest h =
-        let k = binary_extent op w want in
-        operator_back (right_side L hs s.index op k want (b + term_size s.index x) y) (settles (within w want) (binary_joins op) (binary_leaves op)) want op _ _ rest
+        let k = binary_asks s want op x y w in
+        operator_back (right_side L hs s.index op k want (b + term_size s.index x) y) (binary_settles s want op x y w) want op _ _ rest
         (side_back (added_number op want y) (is_fused op k want y) _ _ _ (loose_back y hs s k want _ _ _) (parts_back y hs s k want _ _ _) (loose_back x hs s k want b n _ h))
-    loose_back (Shift left e z) hs s w want b n rest h = shift_back (settles (within w want) left left) want left z _ _ rest (loose_back e hs s (shift_extent left w want) want b n _ h)
+    loose_back (Shift left e z) hs s w want b n rest h = shift_back (shift_settles s want left e z w) want left z _ _ rest (loose_back e hs s (shift_asks s want left e z w) want b n _ h)
     loose_back (Conversion e t) hs s w want b n rest h = cast_back (within_type w t) (own s e) t _ _ rest (loose_back e hs s (converted_extent w (own s e) t) (own s e) b n _ h)
     loose_back (Choice c x y) hs s w want b n rest h = choice_back (flag_condition s c) _ _ _ _ _ _ rest (λ r. flags_back c hs s _ _ r) (λ r. jump_back c hs s false _ _ _ r) (loose_back y hs s w want _ _ _ (loose_back x hs s w want b n _ h))
     loose_back (Comparison op x y) hs s w want b n rest h = h
@@ -503,8 +484,8 @@ module _ (D : Laid) (L : Layout) (fit : Assigned L) where
     loose_back (Not e) hs s w want b n rest h = h
 
     pub parts_back : (e : Term) (hs : Homes) (s : Scope) (w : Extent) (want : Option Ty) (b n : ℕ) (rest : List Entry) → Resolves D (parts_code L hs s w want b n e rest) → Resolves D rest
-    parts_back (Operation op x y) hs s w want b n rest h = loose_back y hs s (binary_extent op w want) want _ _ rest (loose_back x hs s (binary_extent op w want) want b n _ h)
-    parts_back (Shift left e z) hs s w want b n rest h = loose_back e hs s (shift_extent left w want) want b n rest h
+    parts_back (Operation op x y) hs s w want b n rest h = loose_back y hs s (binary_asks s want op x y w) want _ _ rest (loose_back x hs s (binary_asks s want op x y w) want b n _ h)
+    parts_back (Shift left e z) hs s w want b n rest h = loose_back e hs s (shift_asks s want left e z w) want b n rest h
     parts_back (Literal z) hs s w want b n rest h = h
     parts_back (Variable x) hs s w want b n rest h = h
     parts_back (Element a i) hs s w want b n rest h = h
@@ -637,26 +618,30 @@ module _ (D : Laid) (L : Layout) (fit : Assigned L) where
         element_runs s a i T b n rest (stream_offset s.index i) refl h.0 h.1 h.2 (omega (arith, h.3)) safe at res
         (λ rest2. subst (λ w. Runs D L i hs s names m st b (b + term_size s.index i) n rest2 w) (sym q.1) (exact hs b (b + term_size s.index i) n i s names m (Some q.0) at.ranged (loose_runs i s Whole q.0 b (b + term_size s.index i) n rest2 (omega arith) safe at)))
     loose_runs (Unary op e) {hs = hs} s {names = names} {m = m} w T b user n rest le safe at h res =
-        let k1 = unary_extent op w (Some T) in
+        let k1 = unary_asks s (Some T) op e w in
         map_runs (loose_unary op w (Some T)) (4 * (term_size s.index e + 1)) (omega arith) (omega arith) (omega arith)
         (loose_runs e s k1 T b _ n _ (omega arith) safe at h.1 res)
-        (λ t x is k ex. gets D L (b + term_size s.index e) _ _ (omega arith) (omega arith) (omega (arith, h.2)) (unary_runs D L fit op w T x _ _ (k.sized ∙ at.sized) (home_high e hs s (Some T) b (b + term_size s.index e) (omega arith) h.1 safe) (fit.high _ (omega (arith, h.2))) (loose_range k1 L hs s names m e T b _ x h.1 at.ranged is) ex))
+        (λ t x is k ex. gets D L (b + term_size s.index e) _ _ (omega arith) (omega arith) (omega (arith, h.2)) (unary_runs D L fit op (unary_may_leave s (Some T) op e) w T x _ _ (k.sized ∙ at.sized) (home_high e hs s (Some T) b (b + term_size s.index e) (omega arith) h.1 safe) (fit.high _ (omega (arith, h.2))) (loose_range k1 L hs s names m e T b _ x h.1 at.ranged is)
+        (λ whole stays. unary_keeps s m names at.ranged T op e x (fits_types e L hs s (Some T) b _ h.1) (loose_value k1 L hs s names m e T b _ x h.1 at.ranged is whole) (loose_range k1 L hs s names m e T b _ x h.1 at.ranged is whole) stays) ex))
     loose_runs (Operation op x y) {hs = hs} s {names = names} {m = m} w T b user n rest le safe at h res =
         let b1 = b + term_size s.index x in let c = b1 + term_size s.index y in
-        let k1 = binary_extent op w (Some T) in
+        let k1 = binary_asks s (Some T) op x y w in
         let hx = home_high x hs s (Some T) b c (omega arith) h.1 safe in
         op_runs (loose_binary op w (Some T)) (4 * (term_size s.index x + term_size s.index y + 1)) (omega arith) (omega arith) (omega arith)
         (pair_runs (4 * term_size s.index x + 4 * term_size s.index y) (omega arith) (omega arith) (omega arith) hx (λ p lo up made. home_apart x hs s (Some T) b c (omega arith) h.1 safe p lo up made)
         (loose_runs x s k1 T b c n _ (omega arith) safe at h.1 res)
         (λ t k. sided_by _ _ (loose s k1 (Some T) y m names) (added_number op (Some T) y) (is_fused op k1 (Some T) y) (home L hs s.index b1 y) (part_side L hs s.index (Some T) b1 y) (added_right op s k1 (Some T) y m names) (loose_back x hs s k1 (Some T) b n _ res)
         (λ r. loose_runs y s k1 T b1 c _ _ (omega arith) (safe_later L hs b b1 (omega arith) safe) (at_kept L fit b b1 (omega arith) safe at k) h.2 r)
-        (λ f r. parts_runs y s op k1 T b1 c _ _ (omega arith) (λ takes. asked_stays op takes w T) f (safe_later L hs b b1 (omega arith) safe) (at_kept L fit b b1 (omega arith) safe at k) h.2 r)))
-        (λ t u v is js k ex ey. gets D L c c (b + (term_size s.index x + term_size s.index y + 1)) (omega arith) (omega arith) (omega (arith, h.3)) (operator_runs D L fit (right_side L hs s.index op k1 (Some T) b1 y) op w T u v _ _ (k.sized ∙ at.sized) hx (fit.high _ (omega (arith, h.3))) (λ e. (loose_range k1 L hs s names m x T b c u h.1 at.ranged is e, loose_range k1 L hs s names m y T b1 c v h.2 at.ranged js e)) (right_taken op L hs s.index k1 T b1 y) ex ey))
+        (λ f r. parts_runs y s op k1 T b1 c _ _ (omega arith) f (safe_later L hs b b1 (omega arith) safe) (at_kept L fit b b1 (omega arith) safe at k) h.2 r)))
+        (λ t u v is js k ex ey. gets D L c c (b + (term_size s.index x + term_size s.index y + 1)) (omega arith) (omega arith) (omega (arith, h.3)) (operation_runs D L fit (right_side L hs s.index op k1 (Some T) b1 y) op (binary_may_leave s (Some T) op x y) w T u v _ _ (k.sized ∙ at.sized) hx (fit.high _ (omega (arith, h.3))) (λ e. and_true (binary_leaves op) _ e) (λ e. (loose_range k1 L hs s names m x T b c u h.1 at.ranged is e, loose_range k1 L hs s names m y T b1 c v h.2 at.ranged js e))
+        (λ e stays. binary_keeps s m names at.ranged T op x y u v (fits_types x L hs s (Some T) b c h.1) (fits_types y L hs s (Some T) b1 c h.2) (loose_value k1 L hs s names m x T b c u h.1 at.ranged is e) (loose_value k1 L hs s names m y T b1 c v h.2 at.ranged js e)
+        (loose_range k1 L hs s names m x T b c u h.1 at.ranged is e) (loose_range k1 L hs s names m y T b1 c v h.2 at.ranged js e) stays) (right_taken op L hs s.index k1 T b1 y) ex ey))
     loose_runs (Shift left e z) {hs = hs} s {names = names} {m = m} w T b user n rest le safe at h res =
-        let k1 = shift_extent left w (Some T) in
+        let k1 = shift_asks s (Some T) left e z w in
         map_runs (loose_shift left z w (Some T)) (4 * (term_size s.index e + 1)) (omega arith) (omega arith) (omega arith)
         (loose_runs e s k1 T b _ n _ (omega arith) safe at h.1 res)
-        (λ t x is k ex. gets D L (b + term_size s.index e) _ _ (omega arith) (omega arith) (omega (arith, h.2)) (shift_runs D L fit left z w T x _ _ (k.sized ∙ at.sized) (fit.high _ (omega (arith, h.2))) (loose_range k1 L hs s names m e T b _ x h.1 at.ranged is) ex))
+        (λ t x is k ex. gets D L (b + term_size s.index e) _ _ (omega arith) (omega arith) (omega (arith, h.2)) (shift_runs D L fit left (shift_may_leave s (Some T) left e z) z w T x _ _ (k.sized ∙ at.sized) (fit.high _ (omega (arith, h.2))) (λ q. and_true left _ q) (loose_range k1 L hs s names m e T b _ x h.1 at.ranged is)
+        (λ whole stays. shift_keeps s m names at.ranged T left e z x (fits_types e L hs s (Some T) b _ h.1) (loose_value k1 L hs s names m e T b _ x h.1 at.ranged is whole) (loose_range k1 L hs s names m e T b _ x h.1 at.ranged is whole) stays) ex))
     loose_runs (Conversion e t) {hs = hs} s {names = names} {m = m} {st = st} w T b user n rest le safe at h res =
         let q = some_type (own s e) h.1 in
         let c = b + term_size s.index e in
@@ -691,38 +676,38 @@ module _ (D : Laid) (L : Layout) (fit : Assigned L) where
     loose_runs (Not e) s w T b user n rest le safe at h res = absurd h
 
     -- the parts of a right side that stands in the operator's word
-    pub parts_runs : (e : Term) {W : Fixed} {hs : Homes} (s : Scope) {names : Names} {m : Memory} {st : State} (op : BinaryOp) (w : Extent) (T : Ty) (b user n : ℕ) (rest : List Entry) → b + term_size s.index e ≤ user → (takes_product op ≡ true → stays w (Some T) ≡ true) → is_fused op w (Some T) e ≡ true → AreSafe L b hs → At W hs s.visible names m b st → Fits L hs s (Some T) b user e
+    pub parts_runs : (e : Term) {W : Fixed} {hs : Homes} (s : Scope) {names : Names} {m : Memory} {st : State} (op : BinaryOp) (w : Extent) (T : Ty) (b user n : ℕ) (rest : List Entry) → b + term_size s.index e ≤ user → is_fused op w (Some T) e ≡ true → AreSafe L b hs → At W hs s.visible names m b st → Fits L hs s (Some T) b user e
         → Resolves D (parts_code L hs s w (Some T) b n e rest)
         → Sided D L (parts_code L hs s w (Some T) b n e rest) st rest b (b + term_size s.index e) (IsOperand (part_side L hs s.index (Some T) b e)) m (4 * term_size s.index e) (loose s w (Some T) e m names)
-    parts_runs (Operation binary.Mul x y) {hs = hs} s {names = names} {m = m} op w T b user n rest le asked f safe at h res =
+    parts_runs (Operation binary.Mul x y) {hs = hs} s {names = names} {m = m} op w T b user n rest le f safe at h res =
         let b1 = b + term_size s.index x in let c = b1 + term_size s.index y in
-        let k = binary_extent binary.Mul w (Some T) in
-        product_sided w T (b + (term_size s.index x + term_size s.index y + 1)) (4 * (term_size s.index x + term_size s.index y + 1)) (omega arith) (omega arith) (asked (both_left (takes_product op) true f))
+        let k = binary_asks s (Some T) binary.Mul x y w in
+        product_sided w T (b + (term_size s.index x + term_size s.index y + 1)) (4 * (term_size s.index x + term_size s.index y + 1)) (omega arith) (omega arith) (both_right (takes_product op) (stays w (Some T)) f)
         (pair_runs (4 * term_size s.index x + 4 * term_size s.index y) (omega arith) (omega arith) (omega arith) (home_high x hs s (Some T) b c (omega arith) h.1 safe) (λ p lo up made. home_apart x hs s (Some T) b c (omega arith) h.1 safe p lo up made)
         (loose_runs x s k T b c n _ (omega arith) safe at h.1 res)
         (λ t kept. plain_sided (loose_runs y s k T b1 c _ _ (omega arith) (safe_later L hs b b1 (omega arith) safe) (at_kept L fit b b1 (omega arith) safe at kept) h.2 (loose_back x hs s k (Some T) b n _ res))))
-    parts_runs (Shift left e z) {hs = hs} s {names = names} {m = m} op w T b user n rest le asked f safe at h res =
-        let k = shift_extent left w (Some T) in
-        moved_sided left z w T (b + (term_size s.index e + 1)) (4 * (term_size s.index e + 1)) (omega arith) (omega arith) (both_right (takes_shift op) (shift_stays left w (Some T)) f)
+    parts_runs (Shift left e z) {hs = hs} s {names = names} {m = m} op w T b user n rest le f safe at h res =
+        let k = shift_asks s (Some T) left e z w in
+        moved_sided left (shift_may_leave s (Some T) left e z) z w T (b + (term_size s.index e + 1)) (4 * (term_size s.index e + 1)) (omega arith) (omega arith) (λ q. and_true left _ q) (both_right (takes_shift op) (shift_stays left w (Some T)) f)
         (λ x is whole. loose_range k L hs s names m e T b _ x h.1 at.ranged is whole)
         (loose_runs e s k T b _ n _ (omega arith) safe at h.1 res)
-    parts_runs (Operation binary.Add x y) s op w T b user n rest le asked f safe at h res = absurd (never (takes_product op) f)
-    parts_runs (Operation binary.Sub x y) s op w T b user n rest le asked f safe at h res = absurd (never (takes_product op) f)
-    parts_runs (Operation binary.And x y) s op w T b user n rest le asked f safe at h res = absurd (never (takes_product op) f)
-    parts_runs (Operation binary.Or x y) s op w T b user n rest le asked f safe at h res = absurd (never (takes_product op) f)
-    parts_runs (Operation binary.Xor x y) s op w T b user n rest le asked f safe at h res = absurd (never (takes_product op) f)
-    parts_runs (Operation binary.Min x y) s op w T b user n rest le asked f safe at h res = absurd (never (takes_product op) f)
-    parts_runs (Operation binary.Max x y) s op w T b user n rest le asked f safe at h res = absurd (never (takes_product op) f)
-    parts_runs (Literal z) s op w T b user n rest le asked f safe at h res = absurd cc
-    parts_runs (Variable x) s op w T b user n rest le asked f safe at h res = absurd cc
-    parts_runs (Element a i) s op w T b user n rest le asked f safe at h res = absurd cc
-    parts_runs (Unary o e) s op w T b user n rest le asked f safe at h res = absurd cc
-    parts_runs (Conversion e t) s op w T b user n rest le asked f safe at h res = absurd cc
-    parts_runs (Choice c x y) s op w T b user n rest le asked f safe at h res = absurd cc
-    parts_runs (Comparison o x y) s op w T b user n rest le asked f safe at h res = absurd cc
-    parts_runs (Both x y) s op w T b user n rest le asked f safe at h res = absurd cc
-    parts_runs (Either x y) s op w T b user n rest le asked f safe at h res = absurd cc
-    parts_runs (Not e) s op w T b user n rest le asked f safe at h res = absurd cc
+    parts_runs (Operation binary.Add x y) s op w T b user n rest le f safe at h res = absurd (never (takes_product op) f)
+    parts_runs (Operation binary.Sub x y) s op w T b user n rest le f safe at h res = absurd (never (takes_product op) f)
+    parts_runs (Operation binary.And x y) s op w T b user n rest le f safe at h res = absurd (never (takes_product op) f)
+    parts_runs (Operation binary.Or x y) s op w T b user n rest le f safe at h res = absurd (never (takes_product op) f)
+    parts_runs (Operation binary.Xor x y) s op w T b user n rest le f safe at h res = absurd (never (takes_product op) f)
+    parts_runs (Operation binary.Min x y) s op w T b user n rest le f safe at h res = absurd (never (takes_product op) f)
+    parts_runs (Operation binary.Max x y) s op w T b user n rest le f safe at h res = absurd (never (takes_product op) f)
+    parts_runs (Literal z) s op w T b user n rest le f safe at h res = absurd cc
+    parts_runs (Variable x) s op w T b user n rest le f safe at h res = absurd cc
+    parts_runs (Element a i) s op w T b user n rest le f safe at h res = absurd cc
+    parts_runs (Unary o e) s op w T b user n rest le f safe at h res = absurd cc
+    parts_runs (Conversion e t) s op w T b user n rest le f safe at h res = absurd cc
+    parts_runs (Choice c x y) s op w T b user n rest le f safe at h res = absurd cc
+    parts_runs (Comparison o x y) s op w T b user n rest le f safe at h res = absurd cc
+    parts_runs (Both x y) s op w T b user n rest le f safe at h res = absurd cc
+    parts_runs (Either x y) s op w T b user n rest le f safe at h res = absurd cc
+    parts_runs (Not e) s op w T b user n rest le f safe at h res = absurd cc
 
     -- a comparison, whose truth is in the flags
     flags_run : (e : Term) {w : Fixed} {hs : Homes} (s : Scope) {names : Names} {m : Memory} {st : State} (b n k : ℕ) (rest : List Entry) → flag_condition s e ≡ Some k → AreSafe L b hs → At w hs s.visible names m b st → FitsTruth L hs s b e → Resolves D (flags_code L hs s b n e rest)
@@ -797,12 +782,12 @@ module _ (D : Laid) (L : Layout) (fit : Assigned L) where
     jump_runs (Choice c x y) s sense to b n rest safe at h res = absurd h
 
   -- the right side of an operator
-  pub side_runs : (e : Term) {W : Fixed} {hs : Homes} (s : Scope) {names : Names} {m : Memory} {st : State} (op : BinaryOp) (w : Extent) (T : Ty) (b user n : ℕ) (rest : List Entry) → b + term_size s.index e ≤ user → (takes_product op ≡ true → stays w (Some T) ≡ true) → AreSafe L b hs → At W hs s.visible names m b st → Fits L hs s (Some T) b user e
+  pub side_runs : (e : Term) {W : Fixed} {hs : Homes} (s : Scope) {names : Names} {m : Memory} {st : State} (op : BinaryOp) (w : Extent) (T : Ty) (b user n : ℕ) (rest : List Entry) → b + term_size s.index e ≤ user → AreSafe L b hs → At W hs s.visible names m b st → Fits L hs s (Some T) b user e
       → Resolves D (side_code (added_number op (Some T) e) (is_fused op w (Some T) e) (loose_code L hs s w (Some T) b n e) (parts_code L hs s w (Some T) b n e) rest)
       → Sided D L (side_code (added_number op (Some T) e) (is_fused op w (Some T) e) (loose_code L hs s w (Some T) b n e) (parts_code L hs s w (Some T) b n e) rest) st rest b (b + term_size s.index e) (IsOperand (right_side L hs s.index op w (Some T) b e)) m (4 * term_size s.index e) (loose s w (Some T) e m names)
-  side_runs e {hs = hs} s {names = names} {m = m} op w T b user n rest le asked safe at h res =
+  side_runs e {hs = hs} s {names = names} {m = m} op w T b user n rest le safe at h res =
       sided_by _ _ (loose s w (Some T) e m names) (added_number op (Some T) e) (is_fused op w (Some T) e) (home L hs s.index b e) (part_side L hs s.index (Some T) b e) (added_right op s w (Some T) e m names) res
-      (λ r. loose_runs e s w T b user n rest le safe at h r) (λ f r. parts_runs e s op w T b user n rest le asked f safe at h r)
+      (λ r. loose_runs e s w T b user n rest le safe at h r) (λ f r. parts_runs e s op w T b user n rest le f safe at h r)
 
   -- a value itself
   pub value_runs : (e : Term) {w : Fixed} {hs : Homes} (s : Scope) {names : Names} {m : Memory} {st : State} (T : Ty) (b user n : ℕ) (rest : List Entry) → b + term_size s.index e ≤ user → AreSafe L b hs → At w hs s.visible names m b st → Runs D L e hs s names m st b user n rest (Some T)

@@ -12,7 +12,8 @@ use Rattle.kernel_meaning.specs.Operators.{word, wrapped}
 use Rattle.kernel_meaning.specs.TypeValues.{binary_leaves}
 use Rattle.machine_model.specs.InstructionTable.{Listed}
 use Rattle.scalar_values.specs.declared.extent.Extent.{Extent}
-use Rattle.scalar_values.specs.Extents.{Whole, within_type, within, unary_joins, binary_extent, unary_extent, shift_extent, converted_extent, leaves_at, settles}
+use Rattle.scalar_values.specs.Extents.{Whole, within_type, within, unary_joins, converted_extent, settles}
+use Rattle.scalar_values.specs.Leaving.{unary_asks, binary_asks, shift_asks, unary_settles, binary_settles, shift_settles}
 use Rattle.scalar_words.specs.Operands.{binary_joins}
 use Rattle.label_fix.specs.DraftRun.{Entry, Put, Place}
 use Rattle.label_fix.proofs.LabelsOnce.{Unplaced, Once}
@@ -36,9 +37,9 @@ module _ (P : List Entry → Type 0) (put : (i : Listed) (rest : List Entry) →
   operator_put (Product p q) leaves (Some t) op d a rest h = put _ _ (word_put P put (settle_word leaves t d) rest h)
   operator_put (Moved kind n r) leaves (Some t) op d a rest h = put _ _ (word_put P put (settle_word leaves t d) rest h)
 
-  abs_put : (b : Bool) (t : Ty) (d a : ℕ) (rest : List Entry) → P rest → P (abs_code b t d a rest)
-  abs_put true t d a rest h = put _ _ (put _ _ (word_put P put (settle_word true t d) rest h))
-  abs_put false t d a rest h = word_put P put (copy_word d a) rest h
+  abs_put : (leaves b : Bool) (t : Ty) (d a : ℕ) (rest : List Entry) → P rest → P (abs_code leaves b t d a rest)
+  abs_put leaves true t d a rest h = put _ _ (put _ _ (word_put P put (settle_word leaves t d) rest h))
+  abs_put leaves false t d a rest h = word_put P put (copy_word d a) rest h
 
   cast_put : (low : Bool) (from : Option Ty) (t : Ty) (d a : ℕ) (rest : List Entry) → P rest → P (at_type from (λ u. word_code (convert_word low u t d a) rest) rest)
   cast_put low None t d a rest h = h
@@ -48,7 +49,7 @@ module _ (P : List Entry → Type 0) (put : (i : Listed) (rest : List Entry) →
   unary_put leaves None op d a rest h = h
   unary_put leaves (Some t) unary.Neg d a rest h = put _ _ (word_put P put (settle_word leaves t d) rest h)
   unary_put leaves (Some t) unary.Flip d a rest h = put _ _ (word_put P put (settle_word leaves t d) rest h)
-  unary_put leaves (Some t) unary.Abs d a rest h = abs_put (is_signed t) t d a rest h
+  unary_put leaves (Some t) unary.Abs d a rest h = abs_put leaves (is_signed t) t d a rest h
 
   shift_put : (leaves : Bool) (want : Option Ty) (left : Bool) (n : ℤ) (d a : ℕ) (rest : List Entry) → P rest → P (at_type want (λ t. shift_code leaves left n t d a rest) rest)
   shift_put leaves None left n d a rest h = h
@@ -93,12 +94,12 @@ module _ (L : Layout) (hs : Homes) where
     loose_unplaced (Literal z) s w want l b n rest h u = const_put (Unplaced l) (unplaced_put l) (reg_of L b) (word (wrapped want z)) rest u
     loose_unplaced (Variable x) s w want l b n rest h u = u
     loose_unplaced (Element a j) s w want l b n rest h u = number_unplaced l (stream_offset s.index j) n (labels s.index j) _ _ h (λ k r v. loose_unplaced j s Whole (index_type s j) l b n r k v) (load_put (Unplaced l) (unplaced_put l) _ _ _ _ rest u)
-    loose_unplaced (Unary op x) s w want l b n rest h u = loose_unplaced x s (unary_extent op w want) want l b n _ h (unary_put (Unplaced l) (unplaced_put l) (settles (within w want) (unary_joins op) (leaves_at op want)) want op _ _ rest u)
+    loose_unplaced (Unary op x) s w want l b n rest h u = loose_unplaced x s (unary_asks s want op x w) want l b n _ h (unary_put (Unplaced l) (unplaced_put l) (unary_settles s want op x w) want op _ _ rest u)
     loose_unplaced (Operation op x y) s w want l b n rest h u =
-        let k1 = binary_extent op w want in
-        let v = operator_put (Unplaced l) (unplaced_put l) (right_side L hs s.index op k1 want (b + term_size s.index x) y) (settles (within w want) (binary_joins op) (binary_leaves op)) want op _ _ rest u in
+        let k1 = binary_asks s want op x y w in
+        let v = operator_put (Unplaced l) (unplaced_put l) (right_side L hs s.index op k1 want (b + term_size s.index x) y) (binary_settles s want op x y w) want op _ _ rest u in
         loose_unplaced x s k1 want l b n _ (λ k. omega arith) (side_unplaced l (added_number op want y) (is_fused op k1 want y) _ _ _ (loose_unplaced y s k1 want l _ _ _ (λ k. omega arith) v) (parts_unplaced y s k1 want l _ _ _ (λ k. omega arith) v) v)
-    loose_unplaced (Shift left x z) s w want l b n rest h u = loose_unplaced x s (shift_extent left w want) want l b n _ h (shift_put (Unplaced l) (unplaced_put l) (settles (within w want) left left) want left z _ _ rest u)
+    loose_unplaced (Shift left x z) s w want l b n rest h u = loose_unplaced x s (shift_asks s want left x z w) want l b n _ h (shift_put (Unplaced l) (unplaced_put l) (shift_settles s want left x z w) want left z _ _ rest u)
     loose_unplaced (Conversion x t) s w want l b n rest h u = loose_unplaced x s (converted_extent w (own s x) t) (own s x) l b n _ h (cast_put (Unplaced l) (unplaced_put l) (within_type w t) (own s x) t _ _ rest u)
     loose_unplaced (Choice c x y) s w want l b n rest h u =
         loose_unplaced x s w want l b n _ (λ k. omega arith) (loose_unplaced y s w want l _ _ _ (λ k. omega arith)
@@ -109,8 +110,8 @@ module _ (L : Layout) (hs : Homes) where
     loose_unplaced (Not x) s w want l b n rest h u = u
 
     pub parts_unplaced : (e : Term) (s : Scope) (w : Extent) (want : Option Ty) (l b n : ℕ) (rest : List Entry) → (n ≤ l → n + labels s.index e ≤ l) → Unplaced l rest → Unplaced l (parts_code L hs s w want b n e rest)
-    parts_unplaced (Operation op x y) s w want l b n rest h u = loose_unplaced x s (binary_extent op w want) want l b n _ (λ k. omega arith) (loose_unplaced y s (binary_extent op w want) want l _ _ rest (λ k. omega arith) u)
-    parts_unplaced (Shift left x z) s w want l b n rest h u = loose_unplaced x s (shift_extent left w want) want l b n rest h u
+    parts_unplaced (Operation op x y) s w want l b n rest h u = loose_unplaced x s (binary_asks s want op x y w) want l b n _ (λ k. omega arith) (loose_unplaced y s (binary_asks s want op x y w) want l _ _ rest (λ k. omega arith) u)
+    parts_unplaced (Shift left x z) s w want l b n rest h u = loose_unplaced x s (shift_asks s want left x z w) want l b n rest h u
     parts_unplaced (Literal z) s w want l b n rest h u = u
     parts_unplaced (Variable x) s w want l b n rest h u = u
     parts_unplaced (Element a i) s w want l b n rest h u = u
@@ -198,18 +199,18 @@ module _ (L : Layout) (hs : Homes) where
     loose_once (Element a j) s w want b n rest f h =
         let loaded = load_put Once once_put _ _ _ _ rest h in
         number_once (stream_offset s.index j) n (labels s.index j) _ _ (λ l lo hi. load_put (Unplaced l) (unplaced_put l) _ _ _ _ rest (f l lo hi)) (λ g. loose_once j s Whole (index_type s j) b n _ g loaded) loaded
-    loose_once (Unary op x) s w want b n rest f h = loose_once x s (unary_extent op w want) want b n _ (λ l lo hi. unary_put (Unplaced l) (unplaced_put l) (settles (within w want) (unary_joins op) (leaves_at op want)) want op _ _ rest (f l lo hi)) (unary_put Once once_put (settles (within w want) (unary_joins op) (leaves_at op want)) want op _ _ rest h)
+    loose_once (Unary op x) s w want b n rest f h = loose_once x s (unary_asks s want op x w) want b n _ (λ l lo hi. unary_put (Unplaced l) (unplaced_put l) (unary_settles s want op x w) want op _ _ rest (f l lo hi)) (unary_put Once once_put (unary_settles s want op x w) want op _ _ rest h)
     loose_once (Operation op x y) s w want b n rest f h =
         let number = added_number op want y in
-        let ends = settles (within w want) (binary_joins op) (binary_leaves op) in
-        let k1 = binary_extent op w want in
+        let ends = binary_settles s want op x y w in
+        let k1 = binary_asks s want op x y w in
         let fused = is_fused op k1 want y in
         let side = right_side L hs s.index op k1 want (b + term_size s.index x) y in
         let once = operator_put Once once_put side ends want op _ _ rest h in
         loose_once x s k1 want b n _ (λ l lo hi. let v = operator_put (Unplaced l) (unplaced_put l) side ends want op _ _ rest (f l lo (omega arith)) in side_unplaced l number fused _ _ _ (loose_unplaced L hs y s k1 want l _ _ _ (λ k. omega arith) v) (parts_unplaced L hs y s k1 want l _ _ _ (λ k. omega arith) v) v)
         (side_once number fused _ _ _ (loose_once y s k1 want _ _ _ (λ l lo hi. operator_put (Unplaced l) (unplaced_put l) side ends want op _ _ rest (f l (omega arith) (omega arith))) once)
         (parts_once y s k1 want _ _ _ (λ l lo hi. operator_put (Unplaced l) (unplaced_put l) side ends want op _ _ rest (f l (omega arith) (omega arith))) once) once)
-    loose_once (Shift left x z) s w want b n rest f h = loose_once x s (shift_extent left w want) want b n _ (λ l lo hi. shift_put (Unplaced l) (unplaced_put l) (settles (within w want) left left) want left z _ _ rest (f l lo hi)) (shift_put Once once_put (settles (within w want) left left) want left z _ _ rest h)
+    loose_once (Shift left x z) s w want b n rest f h = loose_once x s (shift_asks s want left x z w) want b n _ (λ l lo hi. shift_put (Unplaced l) (unplaced_put l) (shift_settles s want left x z w) want left z _ _ rest (f l lo hi)) (shift_put Once once_put (shift_settles s want left x z w) want left z _ _ rest h)
     loose_once (Conversion x t) s w want b n rest f h = loose_once x s (converted_extent w (own s x) t) (own s x) b n _ (λ l lo hi. cast_put (Unplaced l) (unplaced_put l) (within_type w t) (own s x) t _ _ rest (f l lo hi)) (cast_put Once once_put (within_type w t) (own s x) t _ _ rest h)
     loose_once (Choice c x y) s w want b n rest f h =
         let n3 = n + labels s.index x + labels s.index y in
@@ -223,9 +224,9 @@ module _ (L : Layout) (hs : Homes) where
 
     pub parts_once : (e : Term) (s : Scope) (w : Extent) (want : Option Ty) (b n : ℕ) (rest : List Entry) → Fresh n (n + labels s.index e) rest → Once rest → Once (parts_code L hs s w want b n e rest)
     parts_once (Operation op x y) s w want b n rest f h =
-        let k1 = binary_extent op w want in
+        let k1 = binary_asks s want op x y w in
         loose_once x s k1 want b n _ (λ l lo hi. loose_unplaced L hs y s k1 want l _ _ rest (λ k. omega arith) (f l lo (omega arith))) (loose_once y s k1 want _ _ rest (λ l lo hi. f l (omega arith) (omega arith)) h)
-    parts_once (Shift left x z) s w want b n rest f h = loose_once x s (shift_extent left w want) want b n rest f h
+    parts_once (Shift left x z) s w want b n rest f h = loose_once x s (shift_asks s want left x z w) want b n rest f h
     parts_once (Literal z) s w want b n rest f h = h
     parts_once (Variable x) s w want b n rest f h = h
     parts_once (Element a i) s w want b n rest f h = h

@@ -12,10 +12,9 @@ use Rattle.kernel_meaning.specs.Operators.{word, wrapped, shift_count}
 use Rattle.label_fix.specs.DraftRun.{Entry, Put, ins}
 use Rattle.scalar_words.specs.Layout.{Layout, Homes, reg_of, register_at}
 use Rattle.scalar_values.specs.ValueRegisters.{home}
-use Rattle.kernel_meaning.specs.TypeValues.{binary_leaves}
 use Rattle.scalar_values.specs.declared.extent.Extent.{Extent}
-use Rattle.scalar_values.specs.Extents.{Whole, within_type, within, unary_joins, binary_extent, unary_extent, shift_extent, converted_extent, leaves_at, settles}
-use Rattle.scalar_words.specs.Operands.{binary_joins}
+use Rattle.scalar_values.specs.Extents.{Whole, within_type, converted_extent}
+use Rattle.scalar_values.specs.Leaving.{unary_asks, binary_asks, shift_asks, unary_settles, binary_settles, shift_settles}
 use Rattle.scalar_words.specs.Words.{const_code, word_code, condition, is_narrow, at_type}
 use Rattle.scalar_values.specs.ItemWords.{Side, Number, Register, Product, Moved, shift_kind, convert_word, index_word, index_register, load_code, unary_code, shift_code, immediate, held_addend, operator_code, compare_word, branch_code, pick_code, placed_code}
 
@@ -100,7 +99,7 @@ shift_stays false w want = true
 
 -- the right side of an operator, of which so much is asked for, stands in its word
 abbrev pub is_fused : BinaryOp → Extent → Option Ty → Term → Bool
-is_fused op w want (Operation o p q) = takes_product op && is_product o
+is_fused op w want (Operation o p q) = takes_product op && (is_product o && stays w want)
 is_fused op w want (Shift left e z) = takes_shift op && shift_stays left w want
 is_fused op w want _ = false
 
@@ -157,14 +156,14 @@ abbrev mutual
       number_code (stream_offset scope.index e) (loose_code L homes scope Whole (index_type scope e) b n e)
       (load_code (option_and_then element_type (lookup scope a)) (reg_of L (b + index_items scope.index e)) (register_at homes a) (number_register (stream_offset scope.index e) (home L homes scope.index b e)) rest)
   loose_code L homes scope w want b n (Unary op e) rest =
-      loose_code L homes scope (unary_extent op w want) want b n e (at_type want (λ t. unary_code (settles (within w want) (unary_joins op) (leaves_at op want)) op t (reg_of L (b + term_size scope.index e)) (home L homes scope.index b e) rest) rest)
+      loose_code L homes scope (unary_asks scope want op e w) want b n e (at_type want (λ t. unary_code (unary_settles scope want op e w) op t (reg_of L (b + term_size scope.index e)) (home L homes scope.index b e) rest) rest)
   loose_code L homes scope w want b n (Operation op x y) rest =
-      loose_code L homes scope (binary_extent op w want) want b n x (side_code (added_number op want y) (is_fused op (binary_extent op w want) want y)
-      (loose_code L homes scope (binary_extent op w want) want (b + term_size scope.index x) (n + labels scope.index x) y)
-      (parts_code L homes scope (binary_extent op w want) want (b + term_size scope.index x) (n + labels scope.index x) y)
-      (at_type want (λ t. operator_code (right_side L homes scope.index op (binary_extent op w want) want (b + term_size scope.index x) y) (settles (within w want) (binary_joins op) (binary_leaves op)) op t (reg_of L (b + term_size scope.index x + term_size scope.index y)) (home L homes scope.index b x) rest) rest))
+      loose_code L homes scope (binary_asks scope want op x y w) want b n x (side_code (added_number op want y) (is_fused op (binary_asks scope want op x y w) want y)
+      (loose_code L homes scope (binary_asks scope want op x y w) want (b + term_size scope.index x) (n + labels scope.index x) y)
+      (parts_code L homes scope (binary_asks scope want op x y w) want (b + term_size scope.index x) (n + labels scope.index x) y)
+      (at_type want (λ t. operator_code (right_side L homes scope.index op (binary_asks scope want op x y w) want (b + term_size scope.index x) y) (binary_settles scope want op x y w) op t (reg_of L (b + term_size scope.index x + term_size scope.index y)) (home L homes scope.index b x) rest) rest))
   loose_code L homes scope w want b n (Shift left e k) rest =
-      loose_code L homes scope (shift_extent left w want) want b n e (at_type want (λ t. shift_code (settles (within w want) left left) left k t (reg_of L (b + term_size scope.index e)) (home L homes scope.index b e) rest) rest)
+      loose_code L homes scope (shift_asks scope want left e k w) want b n e (at_type want (λ t. shift_code (shift_settles scope want left e k w) left k t (reg_of L (b + term_size scope.index e)) (home L homes scope.index b e) rest) rest)
   loose_code L homes scope w want b n (Conversion e t) rest =
       loose_code L homes scope (converted_extent w (own scope e) t) (own scope e) b n e (at_type (own scope e) (λ s. word_code (convert_word (within_type w t) s t (reg_of L (b + term_size scope.index e)) (home L homes scope.index b e)) rest) rest)
   loose_code L homes scope w want b n (Choice c x y) rest =
@@ -182,8 +181,8 @@ abbrev mutual
   -- the operands of a value of which so much is asked for, where it stands in the word of its user
   pub parts_code : Layout → Homes → Scope → Extent → Option Ty → (b n : ℕ) → Term → List Entry → List Entry
   parts_code L homes scope w want b n (Operation op p q) rest =
-      loose_code L homes scope (binary_extent op w want) want b n p (loose_code L homes scope (binary_extent op w want) want (b + term_size scope.index p) (n + labels scope.index p) q rest)
-  parts_code L homes scope w want b n (Shift left e z) rest = loose_code L homes scope (shift_extent left w want) want b n e rest
+      loose_code L homes scope (binary_asks scope want op p q w) want b n p (loose_code L homes scope (binary_asks scope want op p q w) want (b + term_size scope.index p) (n + labels scope.index p) q rest)
+  parts_code L homes scope w want b n (Shift left e z) rest = loose_code L homes scope (shift_asks scope want left e z w) want b n e rest
   parts_code L homes scope w want b n _ rest = rest
 
   -- a comparison, whose truth is in the flags

@@ -5,7 +5,7 @@ use Rattle.kernel_tree.specs.declared.ops.Ty.{Ty}
 use Rattle.kernel_tree.specs.declared.ops.UnaryOp.{UnaryOp}
 use Rattle.kernel_tree.specs.declared.ops.BinaryOp.{BinaryOp}
 use Rattle.kernel_tree.specs.Wrap.{bits_of}
-use Rattle.kernel_meaning.specs.TypeValues.{fits, unary_leaves, binary_leaves}
+use Rattle.kernel_meaning.specs.TypeValues.{fits, binary_leaves}
 use Rattle.scalar_values.specs.declared.extent.Extent.{Extent}
 pub use Rattle.scalar_values.specs.declared.extent.Extent.TheVariants.{Low8, Low16, Low32, Whole}
 use Rattle.scalar_words.specs.Operands.{binary_joins}
@@ -52,18 +52,12 @@ operand_extent false true true w want = extent_at want
 operand_extent false true false w want = Whole
 operand_extent false false leaves w want = Whole
 
+abbrev pub asked_extent : (joins leaves : Bool) → Extent → Option Ty → Extent
+asked_extent joins leaves w want = operand_extent (within w want) joins leaves w want
+
+-- the same of an operator of whose operands nothing is known but their type
 abbrev pub binary_extent : BinaryOp → Extent → Option Ty → Extent
-binary_extent op w want = operand_extent (within w want) (binary_joins op) (binary_leaves op) w want
-
-abbrev pub leaves_at : UnaryOp → Option Ty → Bool
-leaves_at op None = false
-leaves_at op (Some t) = unary_leaves op t
-
-abbrev pub unary_extent : UnaryOp → Extent → Option Ty → Extent
-unary_extent op w want = operand_extent (within w want) (unary_joins op) (leaves_at op want) w want
-
-abbrev pub shift_extent : Bool → Extent → Option Ty → Extent
-shift_extent left w want = operand_extent (within w want) left left w want
+binary_extent op w want = asked_extent (binary_joins op) (binary_leaves op) w want
 
 -- a cast: no more is asked of it than its type has, or its type has each value of the operand's
 abbrev pub fits_at : Option Ty → Ty → Bool

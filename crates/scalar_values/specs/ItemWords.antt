@@ -79,14 +79,14 @@ store_code None d p r rest = rest
 store_code (Some t) d p r rest = Put (store t d p r) ∷ rest
 
 -- the absolute value, by whether the type is signed
-abbrev pub abs_code : Bool → Ty → ℕ → ℕ → List Entry → List Entry
-abs_code true t d a rest = ins subs (26 ∷ 31 ∷ 0 ∷ a ∷ 0 ∷ []) ∷ ins csel (d ∷ 26 ∷ 10 ∷ a ∷ []) ∷ word_code (settle_word true t d) rest
-abs_code false t d a rest = word_code (copy_word d a) rest
+abbrev pub abs_code : (leaves signed : Bool) → Ty → ℕ → ℕ → List Entry → List Entry
+abs_code leaves true t d a rest = ins subs (26 ∷ 31 ∷ 0 ∷ a ∷ 0 ∷ []) ∷ ins csel (d ∷ 26 ∷ 10 ∷ a ∷ []) ∷ word_code (settle_word leaves t d) rest
+abs_code leaves false t d a rest = word_code (copy_word d a) rest
 
 abbrev pub unary_code : (leaves : Bool) → UnaryOp → Ty → ℕ → ℕ → List Entry → List Entry
 unary_code leaves unary.Neg t d a rest = ins sub (d ∷ 31 ∷ 0 ∷ a ∷ 0 ∷ []) ∷ word_code (settle_word leaves t d) rest
 unary_code leaves unary.Flip t d a rest = ins orn (d ∷ 31 ∷ 0 ∷ a ∷ 0 ∷ []) ∷ word_code (settle_word leaves t d) rest
-unary_code leaves unary.Abs t d a rest = abs_code (is_signed t) t d a rest
+unary_code leaves unary.Abs t d a rest = abs_code leaves (is_signed t) t d a rest
 
 abbrev pub shift_kind : Bool → Bool → ℕ
 shift_kind true signed = 0

@@ -16,18 +16,18 @@ ghost use Rattle.kernel_meaning.specs.Operators as operators;
 ghost use Rattle.scalar_words.specs.Words as words;
 
 use crate::extent::{
-    Extent, binary_extent, binary_joins, converted_extent, leaves_at, settles, shift_extent,
-    unary_extent, unary_joins, within, within_type,
+    Extent, asked_extent, binary_joins, converted_extent, settles, unary_joins, within, within_type,
 };
 use crate::fusion::is_fused;
 use crate::instructions::{added_number, compare_word, compared_number, index_word, shift_count};
+use crate::leaving::{binary_may_leave, shift_may_leave, unary_may_leave};
 use crate::operations::{
     emit_branch, emit_chosen, emit_load, emit_offset, emit_pick, emit_placed, signed_side,
     want_cast, want_operator, want_shift, want_unary,
 };
 use crate::side::Side;
 use a64_code::Reg;
-use kernel_meaning::{binary_leaves, word, wrapped};
+use kernel_meaning::{word, wrapped};
 use kernel_scope::{Scope, element_type, first, lookup, own_type};
 use kernel_tree::{BinaryOp, CompareOp, Expr, Name, Ty, UnaryOp};
 use label_fix::{Draft, Label};
@@ -186,10 +186,11 @@ fn emit_one(
         (code.loose_code places.now (homes_of homes.now) (scope_of scope.now) extent want item.old draft.old.labels
         (Unary op (term_of arg.now)))) }
 {
-    let asked = unary_extent(op, extent, want);
+    let may_leave = unary_may_leave(scope, want, op, arg);
+    let asked = asked_extent(unary_joins(op), may_leave, extent, want);
     let a = emit_loose(draft, places, homes, scope, asked, want, arg, item)?;
     let r = take(places, item);
-    let leaves = settles(within(extent, want), unary_joins(op), leaves_at(op, want));
+    let leaves = settles(within(extent, want), unary_joins(op), may_leave);
     want_unary(draft, op, leaves, want, r, a)?;
     Ok(r)
 }
@@ -219,10 +220,11 @@ fn emit_moved(
         (code.loose_code places.now (homes_of homes.now) (scope_of scope.now) extent want item.old draft.old.labels
         (Shift left_shift (term_of arg.now) count))) }
 {
-    let asked = shift_extent(left_shift, extent, want);
+    let may_leave = shift_may_leave(scope, want, left_shift, arg, count);
+    let asked = asked_extent(left_shift, may_leave, extent, want);
     let a = emit_loose(draft, places, homes, scope, asked, want, arg, item)?;
     let r = take(places, item);
-    let leaves = settles(within(extent, want), left_shift, left_shift);
+    let leaves = settles(within(extent, want), left_shift, may_leave);
     want_shift(draft, leaves, left_shift, count, want, r, a)?;
     Ok(r)
 }
@@ -288,11 +290,12 @@ fn emit_two(
         (code.loose_code places.now (homes_of homes.now) (scope_of scope.now) extent want item.old draft.old.labels
         (Operation op (term_of left.now) (term_of right.now)))) }
 {
-    let asked = binary_extent(op, extent, want);
+    let may_leave = binary_may_leave(scope, want, op, left, right);
+    let asked = asked_extent(binary_joins(op), may_leave, extent, want);
     let a = emit_loose(draft, places, homes, scope, asked, want, left, item)?;
     let side = emit_side(draft, places, homes, scope, op, asked, want, right, item)?;
     let r = take(places, item);
-    let leaves = settles(within(extent, want), binary_joins(op), binary_leaves(op));
+    let leaves = settles(within(extent, want), binary_joins(op), may_leave);
     want_operator(draft, op, side, leaves, want, r, a)?;
     Ok(r)
 }
@@ -368,7 +371,8 @@ fn emit_parts(
 {
     match expr {
         Expr::Binary { op, left, right } => {
-            let asked = binary_extent(*op, extent, want);
+            let may_leave = binary_may_leave(scope, want, *op, left, right);
+            let asked = asked_extent(binary_joins(*op), may_leave, extent, want);
             let p = emit_loose(draft, places, homes, scope, asked, want, left, item)?;
             let q = emit_loose(draft, places, homes, scope, asked, want, right, item)?;
             *item += 1;
@@ -379,7 +383,8 @@ fn emit_parts(
             arg,
             count,
         } => {
-            let asked = shift_extent(*left_shift, extent, want);
+            let may_leave = shift_may_leave(scope, want, *left_shift, arg, *count);
+            let asked = asked_extent(*left_shift, may_leave, extent, want);
             let register = emit_loose(draft, places, homes, scope, asked, want, arg, item)?;
             *item += 1;
             Ok(Side::Moved {

@@ -4,7 +4,7 @@ ghost use Rattle.std.specs.Prelude.{◌≡◌};
 ghost use Rattle.scalar_values.specs.Extents as extents;
 ghost use Rattle.scalar_words.specs.Operands as operands;
 
-use kernel_meaning::{binary_leaves, fits, unary_leaves};
+use kernel_meaning::{binary_leaves, fits};
 use kernel_tree::{BinaryOp, Ty, UnaryOp};
 
 /// The low bits of a value, or the value itself.
@@ -89,47 +89,18 @@ fn operand_extent(low: bool, joins: bool, leaves: bool, extent: Extent, want: Op
     }
 }
 
-/// What an operator asks of its operands.
+/// What an operator asks of its operands, by whether it joins low bits and whether its result may have to be extended.
+pub fn asked_extent(joins: bool, leaves: bool, extent: Extent, want: Option<Ty>) -> Extent
+    ensures { result ≡ extents.asked_extent joins leaves extent want }
+{
+    operand_extent(within(extent, want), joins, leaves, extent, want)
+}
+
+/// The same of an operator of whose operands nothing is known but their type.
 pub fn binary_extent(op: BinaryOp, extent: Extent, want: Option<Ty>) -> Extent
     ensures { result ≡ extents.binary_extent op extent want }
 {
-    operand_extent(
-        within(extent, want),
-        binary_joins(op),
-        binary_leaves(op),
-        extent,
-        want,
-    )
-}
-
-/// Whether an operator may leave the extended form at a type.
-pub fn leaves_at(op: UnaryOp, want: Option<Ty>) -> bool
-    ensures { result ≡ extents.leaves_at op want }
-{
-    match want {
-        None => false,
-        Some(ty) => unary_leaves(op, ty),
-    }
-}
-
-/// What an operator asks of its operand.
-pub fn unary_extent(op: UnaryOp, extent: Extent, want: Option<Ty>) -> Extent
-    ensures { result ≡ extents.unary_extent op extent want }
-{
-    operand_extent(
-        within(extent, want),
-        unary_joins(op),
-        leaves_at(op, want),
-        extent,
-        want,
-    )
-}
-
-/// What a shift asks of its operand.
-pub fn shift_extent(left: bool, extent: Extent, want: Option<Ty>) -> Extent
-    ensures { result ≡ extents.shift_extent left extent want }
-{
-    operand_extent(within(extent, want), left, left, extent, want)
+    asked_extent(binary_joins(op), binary_leaves(op), extent, want)
 }
 
 // Whether a type has each value of another one.

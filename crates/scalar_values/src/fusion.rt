@@ -54,7 +54,9 @@ pub fn is_fused(op: BinaryOp, extent: Extent, want: Option<Ty>, expr: &Expr) -> 
     ensures parts { code.HasParts result (term_of expr.now) }
 {
     match expr {
-        Expr::Binary { op: inner, .. } => takes_product(op) & is_product(*inner),
+        Expr::Binary { op: inner, .. } => {
+            takes_product(op) & (is_product(*inner) & stays(extent, want))
+        }
         Expr::Shift { left_shift, .. } => takes_shift(op) & shift_stays(*left_shift, extent, want),
         _ => false,
     }

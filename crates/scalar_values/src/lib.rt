@@ -5,6 +5,7 @@ pub mod emit;
 pub mod extent;
 mod fusion;
 pub mod instructions;
+mod leaving;
 pub mod operations;
 mod side;
 

@@ -75,14 +75,14 @@ fn emit_settled(
 }
 
 // The absolute value.
-fn emit_abs(draft: &mut Draft, ty: Ty, d: Reg, a: Reg) -> Result<(), AllocError>
+fn emit_abs(draft: &mut Draft, leaves: bool, ty: Ty, d: Reg, a: Reg) -> Result<(), AllocError>
     ensures labels { OnOk result (draft.new.labels ≡ draft.old.labels) }
-    ensures code { OnOk result (Appends draft.old draft.new (words.abs_code (wrap.is_signed ty) ty d.number a.number)) }
+    ensures code { OnOk result (Appends draft.old draft.new (words.abs_code leaves (wrap.is_signed ty) ty d.number a.number)) }
 {
     if is_signed(ty) {
         draft.put(add_sub(AddSubOp::Subs, scratch(), zero(), a))?;
         let word = select(SelectOp::Csel, d, scratch(), Cond::Ge, a);
-        emit_settled(draft, word, true, ty, d)?;
+        emit_settled(draft, word, leaves, ty, d)?;
         Ok(())
     } else {
         emit_copy(draft, d, a)?;
@@ -113,7 +113,7 @@ fn emit_unary(
             emit_settled(draft, word, leaves, ty, d)?;
             Ok(())
         }
-        UnaryOp::Abs => emit_abs(draft, ty, d, a),
+        UnaryOp::Abs => emit_abs(draft, leaves, ty, d, a),
     }
 }
 

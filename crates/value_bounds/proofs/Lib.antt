@@ -1,0 +1,4 @@
+mod Examples
+pub mod Cuts
+pub mod Corners
+pub mod InBounds
