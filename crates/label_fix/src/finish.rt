@@ -30,22 +30,21 @@ pub fn count_words(entries: &[Entry]) -> u32
 }
 
 /// How many words stand before each label, by its number; before a label without a place, all of them.
-pub fn label_places(alloc: Global, labels: u32, entries: &[Entry]) -> Result<Vec<u32>, AllocError>
+pub fn label_places(mut places: Vec<u32>, entries: &[Entry]) -> Vec<u32>
     requires few { size (map entry_view entries.now) ≤ 65536 }
-    requires fit { AreFit labels (map entry_view entries.now) }
-    ensures { IfOk result (λ places. places.items
-        ≡ placed_from (replicate labels (size (map entry_view entries.now))) 0 (map entry_view entries.now)) }
+    requires fit { AreFit (length places.items) (map entry_view entries.now) }
+    ensures { result.items
+        ≡ placed_from (replicate (length places.items) (size (map entry_view entries.now))) 0 (map entry_view entries.now) }
 {
-    let end = count_words(entries);
-    let mut places = vec![in alloc; end; labels as usize]?;
+    places.fill(count_words(entries));
     let mut words = 0;
     for entry in entries {
         match entry {
-            Entry::Place(label) => note(&mut places, label.number() as usize, words),
+            Entry::Place(label) => note(&mut places, label.number(), words),
             _ => words += 1,
         }
     }
-    Ok(places)
+    places
 }
 
 // A place of a label.
@@ -78,7 +77,7 @@ pub fn placed_words(
                 count += 1;
             }
             Entry::Branch(kind, to) => {
-                words.push(encode_branch(*kind, count, places[to.number() as usize]))?;
+                words.push(encode_branch(*kind, count, places[to.number()]))?;
                 count += 1;
             }
             Entry::Place(_) => {}

@@ -8,7 +8,7 @@ use std::marker::Model;
 /// [`Draft::label`](crate::Draft::label) gives them.
 #[derive(Clone, Copy)]
 pub struct Label {
-    number: u32,
+    number: usize,
 }
 
 impl Model for Label {
@@ -21,14 +21,14 @@ impl Model for Label {
 
 impl Label {
     // The label of a number.
-    pub(crate) fn of(number: u32) -> Self
+    pub(crate) fn of(number: usize) -> Self
         ensures { result ≡ number }
     {
         Label { number }
     }
 
     // The number.
-    pub(crate) fn number(self) -> u32
+    pub(crate) fn number(self) -> usize
         ensures { result ≡ self }
     {
         self.number

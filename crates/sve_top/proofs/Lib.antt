@@ -2,4 +2,3 @@ pub mod Lines
 pub mod SomeExpectedLaws
 pub mod OneExpectedLaws
 pub mod Completions
-pub mod CompiledRuns

@@ -2,4 +2,3 @@ pub mod Asked
 pub mod Commands
 pub mod Does
 pub mod Complete
-pub mod CompiledRuns

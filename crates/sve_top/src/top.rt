@@ -11,7 +11,6 @@ ghost use Rattle.sve_top.specs.Commands.{Expects, WhereTold, IsSettled, IsInput,
 ghost use Rattle.command_answers.specs.Works.{SomeExpected};
 ghost use Rattle.sve_top.specs.Does.{Does, outside};
 ghost use Rattle.sve_top.specs.Complete.{Completes};
-ghost use Rattle.sve_top.specs.CompiledRuns.{FaithfulRuns, CompiledRuns};
 ghost use Rattle.command_answers.specs.Outputs.{Prints, Gains, error_line_by};
 ghost use Rattle.refusals.specs.Lines.{line_of_refusal};
 
@@ -205,10 +204,4 @@ pub fn some_expected()
 pub fn one_expected()
     ensures { (held : Held) (bytes : List ℕ) (line : Option Line) (v w : Expected) → IsSettled line
         → Expects held bytes line v → Expects held bytes line w → v ≡ w }
-{}
-
-/// What is wanted of `run` for a file that `compile` wrote is what the kernel's scalar loop comes to.
-pub fn compiled_runs()
-    ensures faithful { FaithfulRuns }
-    ensures compiled { CompiledRuns }
 {}

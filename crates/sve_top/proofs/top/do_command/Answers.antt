@@ -1,4 +1,4 @@
-use Rattle.std.proofs.Common.{◌≡◌, [], ◌⊎◌, Some, Err, ap, sym, ◌∙◌, subst}
+use Rattle.std.proofs.Common.{◌≡◌, ◌⊎◌, Some, Err, ap, sym, ◌∙◌, subst}
 use Rattle.io_edges.specs.Files.{Rose}
 use Rattle.std.specs.Prelude.{IfSome, OnOk, string_bytes}
 use Rattle.command_line.specs.Line.{CompileLine, CheckLine, EvalLine, ListLine, RunLine, DebugLine, SweepLine, AsmLine, PipeLine}
