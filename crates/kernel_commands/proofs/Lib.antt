@@ -1,4 +1,3 @@
 pub mod Expectations
 pub mod Verdicts
 pub mod Evaluations
-pub mod Sweeps

@@ -1,4 +1,4 @@
--- What the commands on kernels come to: `compile`, `check`, `eval` and `sweep`.
+-- What the commands on kernels come to: `compile`, `check` and `eval`.
 use Rattle.std.specs.Prelude.{◌≡◌, ℕ, ◌+◌, ◌*◌, ◌≤◌, List, [], ◌++◌, length, Option, Some, None, IfSome, Ok, Err, nat_le, if◌then◌else◌}
 use Rattle.io_edges.specs.Files.{content}
 use Rattle.guest_types.specs.Memory.{Memory}
@@ -20,7 +20,6 @@ use Rattle.promises.specs.Faithful.{FreeFaithful, FreeEnds}
 use Rattle.promises.specs.Refusals.{too_many, need_in}
 use Rattle.check_text.specs.CheckText.{check_text}
 use Rattle.command_line.specs.Line.{Task, Extent}
-use Rattle.sweep_run.specs.SweepText.{IsSweepFile}
 use Rattle.refusals.specs.declared.refusal.Refusal.{Refusal}
 use Rattle.refusals.specs.declared.refusal.Refusal.TheVariants.{Usage, TooManyLive, Kernel, Elf, Map, Asm, Pipe, Memory as NoMemory, File, Output}
 use Rattle.refusals.specs.declared.refusal.Done.{Done}
@@ -123,12 +122,6 @@ EvalExpects task text map work = ByVerdict (eval_kernel task map) text work
 abbrev pub ExpectsEval : Held → Task → Expected → Type 0
 ExpectsEval held task work = AfterRead (task_files held task) (λ files. EvalExpects task files.0 files.1) work
 
--- ---- sweep
-
--- the name has a file of the kernel of the number, which is faithful to it, and has at most 65,536 words
-abbrev pub IsSwept : (number : ℕ) (new : Held) (to : List ℕ) → Type 0
-IsSwept number new to = (file : List ℕ) × (content new to ≡ Some file) × IsSweepFile number file
-
 -- ---- refusals
 
 -- a refusal of a kernel's text is wanted wherever something is, or it is want of memory
@@ -180,10 +173,3 @@ IsOfEval (Err (Elf fault)) = ⊥
 IsOfEval (Err (Asm fault)) = ⊥
 IsOfEval (Err (Pipe fault)) = ⊥
 IsOfEval answer = Unit {0}
-
-abbrev pub IsOfSweep : Answer → Type 0
-IsOfSweep (Ok how) = how ≡ done.Ended
-IsOfSweep (Err NoMemory) = Unit {0}
-IsOfSweep (Err File) = Unit {0}
-IsOfSweep (Err Output) = Unit {0}
-IsOfSweep (Err refusal) = ⊥

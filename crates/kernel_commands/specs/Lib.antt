@@ -1,3 +1,2 @@
 pub mod Kernels
 pub mod Commands
-pub mod Swept

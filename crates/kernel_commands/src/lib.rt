@@ -1,7 +1,6 @@
-//! The commands on kernels: `compile`, `check`, `eval` and `sweep`.
+//! The commands on kernels: `compile`, `check` and `eval`.
 #![tactic(auto)]
 
 pub mod check;
 pub mod compile;
 pub mod eval;
-pub mod sweep;

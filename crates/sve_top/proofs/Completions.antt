@@ -10,7 +10,7 @@ use Rattle.command_answers.specs.Answer.{Held, Expected, Answer, answer_of, expe
 use Rattle.refusals.specs.Statuses.{status_of_done}
 use Rattle.sve_top.specs.Commands.{Expects, IsSettled, IsInput, IsOf, IsHeld}
 use Rattle.command_answers.specs.Works.{SomeExpected}
-use Rattle.kernel_commands.specs.Commands.{IsOfSweep}
+use Rattle.sweep_command.specs.Swept.{IsOfSweep}
 use Rattle.sve_top.specs.Does.{Outside, StreamsRose, Does}
 use Rattle.command_answers.specs.Outputs.{PrintsBy, is_done}
 use Rattle.sve_top.specs.Complete.{ComesTo, Completes}

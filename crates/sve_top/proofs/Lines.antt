@@ -5,7 +5,7 @@ use Rattle.command_line.specs.Line.{Line, CompileLine, CheckLine, EvalLine, List
 use Rattle.refusals.specs.declared.refusal.Refusal.TheVariants.{Usage, TooManyLive, Kernel, TooLong, Elf, Map, Asm, Pipe, Memory, File, Output}
 use Rattle.refusals.specs.declared.refusal.Done.TheVariants as done
 use Rattle.command_answers.specs.Answer.{Held, Expected, Answer, status_of}
-use Rattle.kernel_commands.proofs.Sweeps.{memory_swept}
+use Rattle.sweep_command.proofs.Sweeps.{memory_swept}
 use Rattle.sve_top.specs.Commands.{WhereTold, Swept, AsItComes}
 
 -- what is told of a line is told of the same line by another name

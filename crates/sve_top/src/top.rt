@@ -22,7 +22,6 @@ use io_edges::source::Source;
 use kernel_commands::check::check;
 use kernel_commands::compile::compile;
 use kernel_commands::eval::eval;
-use kernel_commands::sweep::sweep;
 use pipe_command::pipe::pipe;
 use program_commands::asm::asm;
 use program_commands::debug::debug;
@@ -31,6 +30,7 @@ use program_commands::run::run;
 use refusals::put_refusal;
 use refusals::refusal::{Done, Refusal};
 use std::alloc::Global;
+use sweep_command::sweep::sweep;
 
 /// Does the command that the words spell, and answers its status. The words are those after the program's name.
 ///

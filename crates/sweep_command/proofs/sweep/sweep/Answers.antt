@@ -2,8 +2,8 @@ use Rattle.std.proofs.Common.{◌≡◌, ◌++◌, Some, Err, ap, sym, ◌∙◌
 use Rattle.std.specs.Prelude.{IfSome}
 use Rattle.io_edges.specs.Sink.{GainsPart}
 use Rattle.sweep_run.specs.SweepText.{IsSweepFile, sweep_text}
-use Rattle.kernel_commands.proofs.Sweeps.{memory_swept, write_swept, stands_at, sweep_compiled, lines_swept, part_swept}
-use Rattle.kernel_commands.proofs.sweep.sweep.Goals as goal
+use Rattle.sweep_command.proofs.Sweeps.{memory_swept, write_swept, stands_at, sweep_compiled, lines_swept, part_swept}
+use Rattle.sweep_command.proofs.sweep.sweep.Goals as goal
 
 pub returns-in_err-file-clause-swept : goal.returns-in_err-file-clause-swept
 returns-in_err-file-clause-swept g c =

@@ -12,8 +12,7 @@ use Rattle.refusals.specs.declared.refusal.Refusal.TheVariants.{Memory, Output}
 use Rattle.refusals.specs.declared.refusal.Done.TheVariants as done
 use Rattle.command_answers.specs.Answer.{Held, Answer, status_of}
 use Rattle.refusals.specs.Statuses.{of_files}
-use Rattle.kernel_commands.specs.Commands.{IsSwept}
-use Rattle.kernel_commands.specs.Swept.{SweptBy}
+use Rattle.sweep_command.specs.Swept.{IsSwept, SweptBy}
 use Rattle.command_answers.proofs.Reading.{is_err, written_at}
 use Rattle.command_answers.proofs.Prints.{prints_part, prints_all}
 use Rattle.command_answers.proofs.Statuses.{prints_by}

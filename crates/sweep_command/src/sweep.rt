@@ -3,9 +3,8 @@
 ghost use Rattle.std.specs.Prelude.{◌≡◌, ◌≢◌, Some, Err, IfSome, IsTrue, OnOk};
 ghost use Rattle.io_edges.specs.Files.{Rose};
 ghost use Rattle.command_answers.specs.Answer.{IsKept, IsQuiet, status_of};
-ghost use Rattle.kernel_commands.specs.Commands.{IsSwept, IsOfSweep};
 ghost use Rattle.command_answers.specs.Reads.{ChangesOnly};
-ghost use Rattle.kernel_commands.specs.Swept.{SweptBy};
+ghost use Rattle.sweep_command.specs.Swept.{IsSwept, SweptBy, IsOfSweep};
 
 use io_edges::files::Files;
 use io_edges::sink::{Sink, put_all};

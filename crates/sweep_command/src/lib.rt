@@ -1,0 +1,4 @@
+//! The command `sweep`.
+#![tactic(auto)]
+
+pub mod sweep;
