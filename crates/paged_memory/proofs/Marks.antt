@@ -1,8 +1,9 @@
 -- Marks of pages.
-use Rattle.std.proofs.Common.{◌≡◌, ℕ, zero, suc, ◌+◌, ◌*◌, ◌<◌, ◌≤◌, ◌⊎◌, inl, inr, Bool, true, false, List, [], ◌∷◌, ◌++◌, length, set, get_or, replicate, refl, sym, ap, ◌∙◌, arith, length-set, length-append}
-use Rattle.std.proofs.lemmas.Bool.{cases_eq}
+use Rattle.std.proofs.Common.{◌≡◌, ℕ, zero, suc, ◌+◌, ◌*◌, ◌<◌, ◌≤◌, ◌⊎◌, inl, inr, Bool, true, false, List, [], ◌∷◌, ◌++◌, length, set, get_or, replicate, refl, sym, ap, ap₂, ◌∙◌, arith, length-set, length-append}
+use Rattle.std.specs.Prelude.{◌||◌}
+use Rattle.std.proofs.lemmas.Bool.{cases_eq, ne_eqb}
 use Rattle.std.proofs.lemmas.List.{get_or-set_other, length-replicate}
-use Rattle.paged_memory.specs.Epochs.{marked, has_place, IsEpoch}
+use Rattle.paged_memory.specs.Epochs.{Saved, marked, unmarked, has_place, IsEpoch}
 use Rattle.paged_memory.proofs.UndoLaws.{has_place-push, has_place-more}
 
 pub marked-none : (n : ℕ) → marked (replicate n false) ≡ 0
@@ -29,10 +30,50 @@ marked-room (false ∷ marks) zero l not = omega (arith, marked-most marks)
 marked-room (true ∷ marks) (suc p) l not = omega (arith, marked-room marks p (omega arith) not)
 marked-room (false ∷ marks) (suc p) l not = omega (arith, marked-room marks p (omega arith) not)
 
-unmarked : (n p : ℕ) → get_or (replicate n false) p false ≡ false
-unmarked zero p = refl
-unmarked (suc n) zero = refl
-unmarked (suc n) (suc p) = unmarked n p
+never_marked : (n p : ℕ) → get_or (replicate n false) p false ≡ false
+never_marked zero p = refl
+never_marked (suc n) zero = refl
+never_marked (suc n) (suc p) = never_marked n p
+
+-- ---- marks that are taken away
+
+pub length-unmarked : (places : List ℕ) (marks : List Bool) → length (unmarked places marks) ≡ length marks
+length-unmarked [] marks = refl
+length-unmarked (p ∷ places) marks = length-unmarked places (set marks p false) ∙ length-set marks p false
+
+set_there : (marks : List Bool) (p : ℕ) → get_or (set marks p false) p false ≡ false
+set_there [] p = refl
+set_there (m ∷ marks) zero = refl
+set_there (m ∷ marks) (suc p) = set_there marks p
+
+-- where each mark is at one of the places, none is left
+none_left : (places : List ℕ) (marks : List Bool) (q : ℕ) → (get_or marks q false ≡ true → has_place q places ≡ true) → get_or (unmarked places marks) q false ≡ false
+none_left [] marks q h = go (get_or marks q false) h
+  where
+    go : (b : Bool) → (b ≡ true → false ≡ true) → b ≡ false
+    go true h = sym (h refl)
+    go false h = refl
+none_left (p ∷ places) marks q h = none_left places (set marks p false) q (λ stands. go (cases_eq q p) stands)
+  where
+    go : (q ≡ p) ⊎ (q ≡ p → ⊥) → get_or (set marks p false) q false ≡ true → has_place q places ≡ true
+    go (inl same) stands = let not : get_or (set marks p false) q false ≡ false = ap (λ j. get_or (set marks p false) j false) same ∙ set_there marks p in let never = sym not ∙ stands in absurd cc
+    go (inr other) stands =
+        let here = h (sym (get_or-set_other marks p q false false other) ∙ stands) in
+        sym (ap (λ b. b || has_place q places) (ne_eqb p q (λ e. other (sym e)))) ∙ here
+
+all_false : (marks : List Bool) → ((q : ℕ) → get_or marks q false ≡ false) → marks ≡ replicate (length marks) false
+all_false [] h = refl
+all_false (m ∷ marks) h = ap₂ (λ b bs. b ∷ bs) (h zero) (all_false marks (λ q. h (suc q)))
+
+pub unmarked-all : (places : List ℕ) (marks : List Bool) → ((q : ℕ) → get_or marks q false ≡ true → has_place q places ≡ true) → unmarked places marks ≡ replicate (length marks) false
+unmarked-all places marks saved = all_false (unmarked places marks) (λ q. none_left places marks q (saved q)) ∙ ap (λ n. replicate n false) (length-unmarked places marks)
+
+-- none is saved
+pub none_saved : (pages n : ℕ) (places images : List ℕ) → pages ≡ n → places ≡ [] → images ≡ [] → ◌≡◌ {A = Saved} (record { pages = pages; places = places; images = images }) (record { pages = n; places = []; images = [] })
+none_saved pages n places images p e i =
+    ap (λ k. record { pages = k; places = places; images = images }) p
+    ∙ ap (λ k. record { pages = n; places = k; images = images }) e
+    ∙ ap (λ k. record { pages = n; places = []; images = k }) i
 
 -- ---- epochs as they stand
 
@@ -45,7 +86,7 @@ epoch-empty marks places images room wide n none no_place no_image few fits fits
       few = omega (arith, long);
       whole = omega (arith, no_places, no_images);
       counted = ap marked none ∙ marked-none n ∙ sym no_places;
-      saved = λ p h. let not = sym (ap (λ l. get_or l p false) none) ∙ h in let never = unmarked n p in absurd cc;
+      saved = λ p h. let not = sym (ap (λ l. get_or l p false) none) ∙ h in let never = never_marked n p in absurd cc;
       fits = omega (arith, long);
       fits_images = omega (arith, long);
     }

@@ -1,5 +1,5 @@
 -- What pages were before they were written: epochs lead from one time that a memory was kept to the next.
-use Rattle.std.specs.Prelude.{◌≡◌, ℕ, zero, suc, ◌*◌, ◌≤◌, ◌<◌, Bool, true, false, ◌||◌, List, [], ◌∷◌, ◌++◌, take, drop, length, nat_eq, slice_index_or, All, ⊤}
+use Rattle.std.specs.Prelude.{◌≡◌, ℕ, zero, suc, ◌*◌, ◌≤◌, ◌<◌, Bool, true, false, ◌||◌, List, [], ◌∷◌, ◌++◌, take, drop, length, nat_eq, slice_index_or, slice_set, All, ⊤}
 use Rattle.guest_types.specs.Memory.{Memory}
 use Rattle.paged_memory.specs.Loans.{place_in}
 
@@ -75,6 +75,11 @@ abbrev pub marked : List Bool → ℕ
 marked [] = 0
 marked (true ∷ marks) = suc (marked marks)
 marked (false ∷ marks) = marked marks
+
+-- marks without those of the pages at some places
+abbrev pub unmarked : (places : List ℕ) → List Bool → List Bool
+unmarked [] marks = marks
+unmarked (place ∷ places) marks = unmarked places (slice_set marks place false)
 
 -- Marks of the pages that are saved, with room for all.
 pub record IsEpoch (marks : List Bool) (places images : List ℕ) (room wide : ℕ) : Type 0 where

@@ -2,7 +2,7 @@
 
 ghost use Rattle.std.specs.Prelude.{◌≡◌, ℕ, ◌*◌, ◌<◌, ◌≤◌, [], true, length, IfOk};
 ghost use Rattle.guest_types.specs.Memory.{Memory};
-ghost use Rattle.paged_memory.specs.Epochs.{bytes_at, undone, put_back, cleared, has_place};
+ghost use Rattle.paged_memory.specs.Epochs.{bytes_at, undone, put_back, cleared, has_place, unmarked};
 
 use crate::store::Store;
 use std::alloc::{AllocError, Global};
@@ -17,6 +17,17 @@ fn put_back(store: &mut Store, places: &[usize], images: &[u8])
     while k > 0 {
         k -= 1;
         store.put_page(places[k], &images[4096 * k..4096 * k + 4096]);
+    }
+}
+
+/// Takes away the marks of the pages at some places.
+fn unmark(marks: &mut Vec<bool>, places: &[usize])
+    ensures { marks.new.items ≡ unmarked places.now marks.old.items }
+{
+    for place in places {
+        if *place < marks.len() {
+            marks[*place] = false;
+        }
     }
 }
 
@@ -86,11 +97,12 @@ impl Epoch {
         put_back(store, &self.places, &self.images);
     }
 
-    /// Saves nothing any more. The memory that it took stays.
+    /// Saves nothing any more. The memory that it took stays. Only the marks of pages that are saved are touched, so that this
+    /// costs nothing where few were written.
     pub fn clear(&mut self)
         ensures { self.new ≡ cleared self.old }
     {
-        self.marks.fill(false);
+        unmark(&mut self.marks, &self.places);
         self.places.clear();
         self.images.clear();
     }
