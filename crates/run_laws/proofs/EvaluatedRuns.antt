@@ -24,8 +24,6 @@ use Rattle.meaning_frame.proofs.MoreRuns.{run-merged}
 use Rattle.scalar_text.specs.ScalarText.{scalar_text}
 use Rattle.kernel_front.specs.Verdict.{Sound}
 use Rattle.kernel_front.proofs.OneVerdict.{one_verdict}
-use Rattle.guest_types.specs.Length.{lanes}
-use Rattle.loop_form.specs.Lanes.{lane_width_of}
 use Rattle.dependence.specs.Bound.{free_bound, at_once, runs_in_chunks}
 use Rattle.close_bound.specs.CloseBound.{close_bound, loop_steps, pass_steps, passes, last_steps, has_break, spare, outside_steps}
 use Rattle.promises.specs.Faithful.{IsStart, Follows, IsFaithful, IsEmpty, IsAny, FreeFaithful, FreeEnds, CloseFaithful, bound_steps, end_steps}
@@ -131,7 +129,7 @@ outside_and a b c le = omega (arith, le)
 
 close_rises : IsRising close_bound
 unfolding IsRising
-close_rises k args vl m q r le = outside_and (outside_steps k) _ _ (more_loop (runs_in_chunks k args) k (lanes vl (lane_width_of k)) m q r le)
+close_rises k args vl m q r le = outside_and (outside_steps k) _ _ (more_loop (runs_in_chunks k args) k _ m q r le)
 
 -- a run that is over stays so at more steps, and took no more than it was given
 settle : (needed steps : ℕ) (s : State) (memory : Memory) (result taken : ℕ) → needed ≤ steps → run needed 0 s ≡ End memory result taken → (run steps 0 s ≡ End memory result taken) × (taken ≤ needed)
