@@ -8,14 +8,14 @@ use Rattle.kernel_tree.specs.declared.fault.Binding.{Binding}
 use Rattle.kernel_tree.specs.Plain.{Term, Literal, Variable, Element, Unary, Operation, Shift, Conversion, Choice, Comparison, Both, Either, Not, Program}
 use Rattle.kernel_tree.specs.Wrap.{bits_of}
 use Rattle.kernel_tree.specs.Items.{stream_offset, term_size, index_items, loop_index}
-use Rattle.kernel_tree.specs.Typing.{Scope, Local, own, value_type, index_type, side_type}
+use Rattle.kernel_tree.specs.Typing.{Scope, Local, own, value_type, index_type, side_type, array_type}
 use Rattle.kernel_tree.proofs.Names.{bytes_same}
 use Rattle.reg_assign.specs.declared.interval.RegClass.TheVariants.{Z, P}
 use Rattle.reg_assign.specs.Registers.{Assignment}
 use Rattle.loop_form.specs.declared.loop_item.Source.{Source}
 use Rattle.loop_form.specs.declared.loop_item.Source.TheVariants.{Constant, Made}
 use Rattle.loop_form.specs.Entries.{Content, IsLiteral, IsName, IsRead}
-use Rattle.loop_form.specs.LoopItems.{Bound, Item, source_at, array_type, home, truth_home, gather_item, load_item, term_items, cond_items, loop_items_of}
+use Rattle.loop_form.specs.LoopItems.{Bound, Item, source_at, home, truth_home, gather_item, load_item, term_items, cond_items, loop_items_of}
 use Rattle.lane_emit.specs.ItemCode.{made_type}
 use Rattle.chunk_emit.specs.Chunk.{Setting}
 use Rattle.chunk_emit.specs.Fits.{FitsSource, FitsOperand, FitsTruth}

@@ -4,7 +4,7 @@ use Rattle.kernel_tree.specs.declared.ops.Ty.{Ty}
 use Rattle.kernel_tree.specs.declared.ops.UpdateOp.{UpdateOp}
 use Rattle.kernel_tree.specs.Plain.{Term, Action, Define, Put, Update, Choose, Leave, Block, Done, Then, Otherwise, Nothing, Else, Program}
 use Rattle.kernel_tree.specs.Items.{stream_offset, term_size, action_size, block_size, otherwise_size, loop_index}
-use Rattle.kernel_tree.specs.Typing.{Scope, Local, local, Value, Condition, lookup, own, first, insert_name, defined, left, after_action, after_block, after_otherwise, faults, target_faults, twice, action_faults, block_faults, otherwise_faults, term_types, action_types, block_types, otherwise_types}
+use Rattle.kernel_tree.specs.Typing.{Scope, Local, local, Value, Condition, lookup, own, first, insert_name, defined, left, after_action, after_block, after_otherwise, faults, target_faults, twice, action_faults, block_faults, otherwise_faults, term_types, action_types, block_types, otherwise_types, array_type}
 use Rattle.kernel_tree.proofs.Faultless.{nil-left, nil-right}
 use Rattle.kernel_tree.proofs.NoFault.{untyped_some, target_some, update_some, stream_some}
 use Rattle.reg_assign.specs.declared.interval.RegClass.TheVariants.{P}
@@ -12,7 +12,7 @@ use Rattle.reg_assign.specs.Registers.{Assignment}
 use Rattle.loop_form.specs.declared.loop_item.Source.{Source}
 use Rattle.loop_form.specs.declared.loop_item.Source.TheVariants.{Made}
 use Rattle.loop_form.specs.Entries.{IsLet, IsStore, IsUpdate, IsPlain, term_entries, action_entries, block_entries, otherwise_entries}
-use Rattle.loop_form.specs.LoopItems.{Copy, Add, Invert, Quit, Item, item, Bound, bound, with_bound, array_type, accumulator_of, home, truth_home, term_items, store_item, after_env, action_items, block_items, otherwise_items}
+use Rattle.loop_form.specs.LoopItems.{Copy, Add, Invert, Quit, Item, item, Bound, bound, with_bound, accumulator_of, home, truth_home, term_items, store_item, after_env, action_items, block_items, otherwise_items}
 use Rattle.loop_form.proofs.ItemTypes.{term_matches, action_matches, block_matches, otherwise_matches}
 use Rattle.chunk_emit.specs.Chunk.{Setting}
 use Rattle.chunk_emit.specs.Fits.{FitsTruth}

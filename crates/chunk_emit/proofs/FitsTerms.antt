@@ -11,14 +11,14 @@ use Rattle.kernel_tree.specs.declared.fault.Binding.TheVariants as binding
 use Rattle.kernel_tree.specs.Plain.{Term, Literal, Variable, Element, Unary, Operation, Shift, Conversion, Choice, Comparison, Both, Either, Not, Program}
 use Rattle.kernel_tree.specs.Wrap.{bits_of}
 use Rattle.kernel_tree.specs.Items.{stream_offset, index_size, term_size, loop_index}
-use Rattle.kernel_tree.specs.Typing.{Scope, Local, own, element_type, index_type, side_type, is_below}
+use Rattle.kernel_tree.specs.Typing.{Scope, Local, own, element_type, index_type, side_type, is_below, array_type}
 use Rattle.kernel_meaning.specs.Operators.{shift_count}
 use Rattle.reg_assign.specs.declared.interval.RegClass.TheVariants.{Z, P}
 use Rattle.reg_assign.specs.Registers.{Assignment}
 use Rattle.loop_form.specs.declared.loop_item.Source.{Source}
 use Rattle.loop_form.specs.declared.item.ItemKind.TheVariants as kind
 use Rattle.loop_form.specs.Entries.{IsRead, IsPlain}
-use Rattle.loop_form.specs.LoopItems.{Load, Gather, Apply, Combine, Move, Cast, Pick, Test, Invert, Same, Any, Item, item, Bound, source_at, array_type, home, truth_home, index_source, gather_item, load_item, term_items, cond_items, loop_items_of}
+use Rattle.loop_form.specs.LoopItems.{Load, Gather, Apply, Combine, Move, Cast, Pick, Test, Invert, Same, Any, Item, item, Bound, source_at, home, truth_home, index_source, gather_item, load_item, term_items, cond_items, loop_items_of}
 use Rattle.chunk_emit.specs.Chunk.{Setting}
 use Rattle.loop_form.specs.Lanes.{lane_width_of}
 use Rattle.loop_form.specs.Reaches.{reach_of_type}

@@ -8,7 +8,7 @@ use Rattle.kernel_tree.specs.declared.ops.UpdateOp.{UpdateOp}
 use Rattle.kernel_tree.specs.declared.fault.Binding.{Binding}
 use Rattle.kernel_tree.specs.Plain.{Term, Literal, Variable, Element, Unary, Operation, Shift, Conversion, Choice, Comparison, Both, Either, Not, Program}
 use Rattle.kernel_tree.specs.Items.{stream_offset, loop_index}
-use Rattle.kernel_tree.specs.Typing.{Scope, Local, value_type, accumulator_type}
+use Rattle.kernel_tree.specs.Typing.{Scope, Local, value_type, accumulator_type, array_type}
 use Rattle.kernel_tree.proofs.Names.{bytes_same}
 use Rattle.reg_assign.specs.declared.interval.RegClass.TheVariants.{Z}
 use Rattle.reg_assign.specs.Registers.{Assignment}
@@ -16,7 +16,7 @@ use Rattle.loop_form.specs.declared.loop_item.Source.{Source}
 use Rattle.loop_form.specs.declared.loop_item.Source.TheVariants.{Constant, Outer, LoopIndex, Made}
 use Rattle.loop_form.specs.Entries.{IsName, IsStore, IsUpdate}
 use Rattle.loop_form.specs.Lanes.{var_type}
-use Rattle.loop_form.specs.LoopItems.{Op, Load, Gather, Apply, Combine, Move, Cast, Copy, Pick, Store, Add, Test, Invert, Same, Any, Quit, Item, item, Bound, source_at, array_type, accumulator_of, home, store_item}
+use Rattle.loop_form.specs.LoopItems.{Op, Load, Gather, Apply, Combine, Move, Cast, Copy, Pick, Store, Add, Test, Invert, Same, Any, Quit, Item, item, Bound, source_at, accumulator_of, home, store_item}
 use Rattle.chunk_emit.specs.Registers.{Layout}
 use Rattle.chunk_emit.specs.ChunkCode.{past_cast, is_made}
 use Rattle.chunk_emit.specs.Chunk.{Setting}

@@ -5,11 +5,11 @@ use Rattle.std.specs.List.{list_any}
 use Rattle.std.proofs.lemmas.List.Folds.{list_any-append}
 use Rattle.kernel_tree.specs.Plain.{Term, Literal, Variable, Element, Unary, Operation, Shift, Conversion, Choice, Comparison, Both, Either, Not, Action, Define, Put, Update, Choose, Leave, Block, Done, Then, Otherwise, Nothing, Else, PlainLoop, Program}
 use Rattle.kernel_tree.specs.Items.{stream_offset, loop_index, index_items, term_size, action_size, block_size, otherwise_size, loop_start}
-use Rattle.kernel_tree.specs.Typing.{Scope, own, first, index_type, side_type, after_action, after_block, left, in_loop, var_scope}
+use Rattle.kernel_tree.specs.Typing.{Scope, own, first, index_type, side_type, after_action, after_block, left, in_loop, var_scope, array_type}
 use Rattle.loop_form.specs.declared.item.ItemKind.TheVariants as kind
 use Rattle.loop_form.specs.declared.loop_item.Source.{Source}
 use Rattle.loop_form.specs.Entries.{Entry, IsPlain, entry, term_entries, action_entries, block_entries, otherwise_entries, turns_entries, loop_entries}
-use Rattle.loop_form.specs.LoopItems.{Bound, array_type, Op, Add, Item, truth_home, load_item, gather_item, term_items, cond_items, store_item, accumulator_of, after_env, action_items, block_items, otherwise_items, loop_env, loop_items}
+use Rattle.loop_form.specs.LoopItems.{Bound, Op, Add, Item, truth_home, load_item, gather_item, term_items, cond_items, store_item, accumulator_of, after_env, action_items, block_items, otherwise_items, loop_env, loop_items}
 use Rattle.loop_form.specs.Needs.{updates}
 use Rattle.vector_order.proofs.OneAccess.{or_false}
 

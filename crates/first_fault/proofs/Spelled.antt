@@ -4,10 +4,10 @@ use Rattle.std.specs.List.{list_any}
 use Rattle.std.proofs.lemmas.Bool.{and_parts}
 use Rattle.kernel_tree.specs.Plain.{Action, Define, Put, Update, Choose, Leave, Block, Done, Then, Otherwise, Nothing, Else, PlainLoop, Program}
 use Rattle.kernel_tree.specs.Items.{stream_offset, term_size, action_size, block_size, loop_start}
-use Rattle.kernel_tree.specs.Typing.{Scope, own, first, after_action, after_block, left, in_loop, var_scope}
+use Rattle.kernel_tree.specs.Typing.{Scope, own, first, after_action, after_block, left, in_loop, var_scope, array_type}
 use Rattle.kernel_tree.specs.Loops.{is_whole, is_whole_block, is_whole_otherwise, is_outer, has_outer_breaks}
 use Rattle.kernel_tree.proofs.Spelled.{few_params, outer_breaks}
-use Rattle.loop_form.specs.LoopItems.{Bound, array_type, accumulator_of, Quit, Item, item, truth_home, after_env, action_items, block_items, otherwise_items, loop_env, loop_items}
+use Rattle.loop_form.specs.LoopItems.{Bound, accumulator_of, Quit, Item, item, truth_home, after_env, action_items, block_items, otherwise_items, loop_env, loop_items}
 use Rattle.first_fault.specs.KernelFits.{is_inner_break, TreeIsSpelled}
 use Rattle.first_fault.proofs.TopBreaks.{breaks_of, outer_of, store_breaks, term_breaks}
 

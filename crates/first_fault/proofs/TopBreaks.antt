@@ -5,9 +5,9 @@ use Rattle.std.specs.List.{list_any}
 use Rattle.kernel_tree.specs.declared.ops.Ty.{Ty}
 use Rattle.kernel_tree.specs.Plain.{Term, Literal, Variable, Element, Unary, Operation, Shift, Conversion, Choice, Comparison, Both, Either, Not, Action, Define, Put, Update, Choose, Leave, Block, Done, Then, Otherwise, Nothing, Else}
 use Rattle.kernel_tree.specs.Items.{stream_offset, index_items, term_size, action_size, block_size}
-use Rattle.kernel_tree.specs.Typing.{Scope, own, first, index_type, side_type, after_action, after_block, left}
+use Rattle.kernel_tree.specs.Typing.{Scope, own, first, index_type, side_type, after_action, after_block, left, array_type}
 use Rattle.loop_form.specs.declared.loop_item.Source.{Source}
-use Rattle.loop_form.specs.LoopItems.{Bound, array_type, accumulator_of, Quit, Item, item, truth_home, load_item, gather_item, term_items, cond_items, store_item, after_env, action_items, block_items, otherwise_items}
+use Rattle.loop_form.specs.LoopItems.{Bound, accumulator_of, Quit, Item, item, truth_home, load_item, gather_item, term_items, cond_items, store_item, after_env, action_items, block_items, otherwise_items}
 use Rattle.chunk_emit.specs.Fits.{following_items}
 use Rattle.first_fault.specs.Split.{quits, is_quit, region_of}
 use Rattle.first_fault.specs.KernelFits.{is_inner_break}

@@ -1,6 +1,5 @@
-//! The commands on kernels: `compile`, `check` and `eval`.
+//! The commands on kernels that need no compiler: `check` and `eval`.
 #![tactic(auto)]
 
 pub mod check;
-pub mod compile;
 pub mod eval;

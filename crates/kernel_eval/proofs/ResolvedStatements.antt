@@ -9,7 +9,7 @@ use Rattle.kernel_tree.specs.declared.ops.UpdateOp.{UpdateOp}
 use Rattle.kernel_tree.specs.declared.fault.Binding.TheVariants as binding
 use Rattle.kernel_tree.specs.Items.{stream_offset}
 use Rattle.kernel_tree.specs.Plain.{Action, Define, Put, Update, Choose, Leave, Block, Done, Then, Otherwise, Nothing, Else}
-use Rattle.kernel_tree.specs.Typing.{Scope, local, first, own, lookup, accumulator_type, index_type, left, defined, after_action, after_block}
+use Rattle.kernel_tree.specs.Typing.{Scope, local, first, own, lookup, accumulator_type, index_type, left, defined, after_action, after_block, array_type}
 use Rattle.guest_types.specs.declared.memory.AccessFault.{AccessFault}
 use Rattle.guest_types.specs.Memory.{Memory, stored}
 use Rattle.kernel_meaning.specs.Ends.{BlockEnd, Next, Broke, Faulted}
@@ -18,7 +18,7 @@ use Rattle.kernel_meaning.specs.Eval.{Names, value_at, address, byte_count, iter
 use Rattle.kernel_meaning.specs.Iterate.{with_name, assigned, cut, define, update, write, put, choose, leave, then_do, act, do_block, do_otherwise}
 use Rattle.kernel_eval.specs.Slots.{Slots, slot_at, stream_number, tree_value, set_slot, write as write_slots, store, branch, quit, then_go, do_task, do_tasks}
 use Rattle.kernel_eval.specs.Trees.{Tree}
-use Rattle.kernel_eval.specs.Resolve.{most_slots, slot_of, index_slot, array_type, let_slot, store_task, resolved, resolved_action, resolved_block, resolved_otherwise}
+use Rattle.kernel_eval.specs.Resolve.{most_slots, slot_of, index_slot, let_slot, store_task, resolved, resolved_action, resolved_block, resolved_otherwise}
 use Rattle.kernel_eval.proofs.HeldSlots.{Held, value-held, assigned-held, named-held, cut-held, held-length}
 use Rattle.kernel_eval.proofs.ResolvedValues.{same, stream-alike, address-word}
 use Rattle.kernel_meaning.proofs.Extends.{Extends, extends_none, extends_on, visible_after, visible_block}

@@ -7,13 +7,13 @@ use Rattle.kernel_tree.specs.declared.ops.Ty.TheVariants as ty
 use Rattle.kernel_tree.specs.Wrap.{wrap}
 use Rattle.kernel_tree.specs.Items.{stream_offset}
 use Rattle.kernel_tree.specs.Plain as plain
-use Rattle.kernel_tree.specs.Typing.{Scope, Local, own, index_type, side_type}
+use Rattle.kernel_tree.specs.Typing.{Scope, Local, own, index_type, side_type, array_type}
 use Rattle.guest_types.specs.Memory.{Memory, loaded}
 use Rattle.kernel_meaning.specs.Operators.{word, unary_value, binary_value, shift_value, compare_on}
 use Rattle.kernel_meaning.specs.Eval.{Names, value_at, address, byte_count, read_value, read_element, iteration, element_number, on_both, chosen, and_then, or_else, value, holds}
 use Rattle.kernel_eval.specs.Trees.{Tree}
 use Rattle.kernel_eval.specs.Slots.{Slots, slot_at, stream_number, tree_value, tree_holds}
-use Rattle.kernel_eval.specs.Resolve.{most_slots, array_type, index_slot, read_tree, resolved}
+use Rattle.kernel_eval.specs.Resolve.{most_slots, index_slot, read_tree, resolved}
 use Rattle.kernel_meaning.proofs.Residues.{word-below, word-mul, word-add}
 use Rattle.kernel_eval.proofs.HeldSlots.{Held, value-held}
 

@@ -5,7 +5,7 @@ use Rattle.kernel_tree.specs.declared.ops.Ty.TheVariants as ty
 use Rattle.kernel_tree.specs.Plain as plain
 use Rattle.kernel_tree.specs.Wrap.{wrap}
 use Rattle.kernel_tree.specs.Items.{stream_offset}
-use Rattle.kernel_tree.specs.Typing.{Scope, Local, has_name, lookup, own, first, element_type, accumulator_type, index_type, side_type, after_action, after_block, left}
+use Rattle.kernel_tree.specs.Typing.{Scope, Local, has_name, lookup, own, first, accumulator_type, index_type, side_type, after_action, after_block, left, array_type}
 use Rattle.kernel_meaning.specs.Operators.{wrapped, operator_of}
 use Rattle.kernel_eval.specs.Trees.{Tree, Constant, Slot, Stream, Element, Unary, Binary, Shift, Cast, Select, Compare, And, Or, Not, Task, Set, Put, Store, If, Break, Tasks, Done, Then}
 
@@ -24,10 +24,6 @@ slot_of scope x = place scope.visible x
 abbrev pub index_slot : List Local → Option (List ℕ) → ℕ
 index_slot visible None = most_slots
 index_slot visible (Some i) = place visible i
-
--- the type of the elements of an array
-abbrev pub array_type : Scope → List ℕ → Option Ty
-array_type scope a = option_and_then element_type (lookup scope a)
 
 -- an element at an offset from the loop variable
 abbrev pub stream_tree : Scope → List ℕ → ℤ → Tree

@@ -7,7 +7,7 @@ ghost use Rattle.kernel_meaning.specs.Eval as eval;
 ghost use Rattle.kernel_meaning.specs.Operators.{word};
 ghost use Rattle.kernel_eval.specs.Slots as slots_of;
 
-use kernel_meaning::{word, wrap, wrapped};
+use kernel_meaning::{shift_count, word, wrap, wrapped};
 use kernel_tree::{BinaryOp, CompareOp, Ty, UnaryOp};
 
 // The result of an operator modulo 2^64.
@@ -80,15 +80,6 @@ fn binary_at(op: BinaryOp, ty: Option<Ty>, left: i128, right: i128) -> i128
     ensures { result ≡ operators.binary_value op ty left right }
 {
     wrapped(ty, binary_on(op, left, right))
-}
-
-// The count of a shift, which is below 64.
-#[inline(always)]
-fn shift_count(count: i128) -> u32
-    ensures value { result ≡ operators.shift_count count }
-    ensures below { result < 64 }
-{
-    (word(count) % 64) as u32
 }
 
 #[inline(always)]

@@ -12,23 +12,9 @@ use crate::names::{index_slot, slot};
 use crate::node::Node;
 use crate::offset::stream_offset;
 use kernel_meaning::wrapped;
-use kernel_scope::{Scope, element_type, first, lookup, own_type};
+use kernel_scope::{Scope, array_type, first, own_type, side_type};
 use kernel_tree::{BinaryOp, CompareOp, Expr, Name, Ty, UnaryOp};
 use std::alloc::{AllocError, Global};
-
-/// The type of the elements of an array.
-pub fn array_type(scope: &Scope, array: &Name) -> Option<Ty>
-    ensures { result ≡ resolving.array_type (scope_of scope.now) (name_of array.now) }
-{
-    lookup(scope, array).and_then(element_type)
-}
-
-/// The type that both sides of a comparison have.
-fn side_type(scope: &Scope, left: &Expr, right: &Expr) -> Option<Ty>
-    ensures { result ≡ typing.side_type (scope_of scope.now) (term_of left.now) (term_of right.now) }
-{
-    first(own_type(scope, left), own_type(scope, right))
-}
 
 // An element at an offset from the loop variable.
 fn stream(scope: &Scope, array: &Name, offset: i128) -> Node
@@ -139,7 +125,7 @@ fn resolve_element(
     index: &Expr,
 ) -> Result<Node, AllocError>
     ensures { IfOk result (λ n. tree_of n ≡ trees.Element (resolving.slot_of (scope_of scope.now) (name_of array.now))
-        (resolving.array_type (scope_of scope.now) (name_of array.now))
+        (typing.array_type (scope_of scope.now) (name_of array.now))
         (resolving.number_tree (scope_of scope.now) (term_of index.now))) }
 {
     let number = Box::new(alloc, resolve_number(alloc, scope, index)?)?;

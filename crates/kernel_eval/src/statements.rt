@@ -15,10 +15,10 @@ use crate::make::{branch, put, store};
 use crate::names::{MOST_SLOTS, index_slot, slot};
 use crate::node::Node;
 use crate::offset::stream_offset;
-use crate::resolve::{array_type, resolve, resolve_number};
+use crate::resolve::{resolve, resolve_number};
 use crate::step::Step;
 use kernel_scope::{
-    Scope, accumulator_type, define, first, leave, lookup, own_type, visible_count,
+    Scope, accumulator_type, array_type, define, first, leave, lookup, own_type, visible_count,
 };
 use kernel_tree::{BinaryOp, Expr, Name, Part, Stmt, Ty, UpdateOp, parts};
 use std::alloc::{AllocError, Global};
@@ -61,9 +61,9 @@ fn resolve_computed(
     value: &Expr,
 ) -> Result<Step, AllocError>
     ensures { IfOk result (λ s. task_of s ≡ trees.Store (resolving.slot_of (scope_of scope.now) (name_of array.now))
-        (resolving.array_type (scope_of scope.now) (name_of array.now))
+        (typing.array_type (scope_of scope.now) (name_of array.now))
         (resolving.number_tree (scope_of scope.now) (term_of index.now))
-        (resolving.resolved (scope_of scope.now) (resolving.array_type (scope_of scope.now) (name_of array.now))
+        (resolving.resolved (scope_of scope.now) (typing.array_type (scope_of scope.now) (name_of array.now))
         (term_of value.now))) }
 {
     let ty = array_type(scope, array);
@@ -82,9 +82,9 @@ fn resolve_put(
     value: &Expr,
 ) -> Result<Step, AllocError>
     ensures { IfOk result (λ s. task_of s ≡ trees.Put (resolving.slot_of (scope_of scope.now) (name_of array.now))
-        (resolving.array_type (scope_of scope.now) (name_of array.now))
+        (typing.array_type (scope_of scope.now) (name_of array.now))
         (resolving.index_slot (scope_of scope.now).visible (scope_of scope.now).index) offset
-        (resolving.resolved (scope_of scope.now) (resolving.array_type (scope_of scope.now) (name_of array.now))
+        (resolving.resolved (scope_of scope.now) (typing.array_type (scope_of scope.now) (name_of array.now))
         (term_of value.now))) }
 {
     let ty = array_type(scope, array);

@@ -8,4 +8,4 @@ mod words;
 
 pub use outcome::ScalarOutcome;
 pub use types::{binary_leaves, fits, greatest, is_signed, least, unary_leaves};
-pub use words::{word, wrap, wrapped};
+pub use words::{shift_count, word, wrap, wrapped};

@@ -9,7 +9,7 @@ pub use names::{
     close, declare, declared_count, define, empty, is_taken, leave, lookup, reserve, visible_count,
 };
 pub use own::{
-    accumulator_type, element_type, first, is_index, is_index_term, literal_value, loop_index,
-    own_type, value_type,
+    accumulator_type, array_type, element_type, first, is_index, is_index_term, literal_value,
+    loop_index, own_type, side_type, value_type,
 };
 pub use scope::{Local, Scope};

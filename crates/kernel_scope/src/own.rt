@@ -108,3 +108,17 @@ pub fn literal_value(expr: &Expr) -> Option<i128>
         _ => None,
     }
 }
+
+/// The type of an array's elements.
+pub fn array_type(scope: &Scope, array: &Name) -> Option<Ty>
+    ensures { result ≡ typing.array_type (scope_of scope.now) (name_of array.now) }
+{
+    lookup(scope, array).and_then(element_type)
+}
+
+/// The type that both sides of a comparison have.
+pub fn side_type(scope: &Scope, left: &Expr, right: &Expr) -> Option<Ty>
+    ensures { result ≡ typing.side_type (scope_of scope.now) (term_of left.now) (term_of right.now) }
+{
+    first(own_type(scope, left), own_type(scope, right))
+}

@@ -110,6 +110,10 @@ wanted Condition = None
 abbrev pub index_type : Scope → Term → Option Ty
 index_type scope i = first (own scope i) (Some ty.U64)
 
+-- the type of the elements of an array
+abbrev pub array_type : Scope → List ℕ → Option Ty
+array_type scope a = option_and_then element_type (lookup scope a)
+
 -- the wanted type of both sides of a comparison
 abbrev pub side_type : Scope → Term → Term → Option Ty
 side_type scope a b = first (own scope a) (own scope b)

@@ -10,11 +10,11 @@ ghost use Rattle.lane_emit.specs.Stretch as stretch;
 ghost use Rattle.lane_emit.specs.View.{Adds, Appends};
 
 use crate::words::{
-    add_sub, bits_of, bitwise, extend_byte, extend_halfword, extend_word, merging, shift_count,
-    shift_left, shift_right, unary,
+    add_sub, bits_of, bitwise, extend_byte, extend_halfword, extend_word, merging, shift_left,
+    shift_right, unary,
 };
 use guest_types::length::Width;
-use kernel_meaning::{binary_leaves, fits, is_signed, unary_leaves};
+use kernel_meaning::{binary_leaves, fits, is_signed, shift_count, unary_leaves};
 use kernel_tree::{BinaryOp, Ty, UnaryOp};
 use std::alloc::AllocError;
 use sve_code::{

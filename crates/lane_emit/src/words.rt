@@ -3,7 +3,6 @@
 ghost use Rattle.std.specs.Prelude.{◌≡◌, ◌+◌, ◌-◌, ◌*◌, ◌<◌, ◌≤◌, [], ◌∷◌};
 ghost use Rattle.guest_types.specs.Length.{width_bits};
 ghost use Rattle.kernel_tree.specs.Wrap as wraps;
-ghost use Rattle.kernel_meaning.specs.Operators as operators;
 ghost use Rattle.sve_code.specs.View.{instruction_view};
 ghost use Rattle.sve_code.specs.View as sve;
 ghost use Rattle.sve_code.specs.Numbers.{size_number, size_from_h_number, size_from_s_number};
@@ -33,14 +32,6 @@ pub fn bits_of(ty: Ty) -> u32
         Ty::I32 | Ty::U32 => 32,
         Ty::I64 | Ty::U64 => 64,
     }
-}
-
-/// The count of a shift.
-pub fn shift_count(count: i128) -> u32
-    ensures value { result ≡ operators.shift_count count }
-    ensures small { result < 64 }
-{
-    (count.cast_unsigned() % 64) as u32
 }
 
 // ---- sizes

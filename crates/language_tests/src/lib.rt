@@ -12,6 +12,8 @@ mod kernel_scope_calls;
 #[cfg(test)]
 mod kernel_syntax_calls;
 #[cfg(test)]
+mod kernel_tokens_calls;
+#[cfg(test)]
 mod kernel_tree_calls;
 #[cfg(test)]
 mod kernel_types_calls;

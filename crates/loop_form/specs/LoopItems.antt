@@ -8,7 +8,7 @@ use Rattle.kernel_tree.specs.declared.ops.CompareOp.{CompareOp}
 use Rattle.kernel_tree.specs.declared.ops.UpdateOp.{UpdateOp}
 use Rattle.kernel_tree.specs.Plain.{Term, Literal, Variable, Element, Unary, Operation, Shift, Conversion, Choice, Comparison, Both, Either, Not, Action, Define, Put, Update, Choose, Leave, Block, Done, Then, Otherwise, Nothing, Else, PlainLoop, Program}
 use Rattle.kernel_tree.specs.Items.{stream_offset, term_size, index_items, action_size, block_size, loop_start}
-use Rattle.kernel_tree.specs.Typing.{Scope, Local, lookup, own, index_type, first, element_type, accumulator_type, side_type, after_action, after_block, left, in_loop, var_scope}
+use Rattle.kernel_tree.specs.Typing.{Scope, Local, lookup, own, index_type, first, accumulator_type, side_type, after_action, after_block, left, in_loop, var_scope, array_type}
 use Rattle.loop_form.specs.declared.loop_item.Source.{Source}
 use Rattle.loop_form.specs.Reaches.{is_widened, reach_of_type}
 use Rattle.loop_form.specs.declared.loop_item.Source.TheVariants.{Constant, Outer, LoopIndex, Made}
@@ -72,9 +72,6 @@ outer_env p (x ∷ xs) = bound x.name (Outer p) ∷ outer_env (suc p) xs
 -- the names at the head of a loop's body
 abbrev pub loop_env : Scope → List ℕ → List Bound
 loop_env scope index = outer_env 0 scope.visible ++ bound index LoopIndex ∷ []
-
-abbrev pub array_type : Scope → List ℕ → Option Ty
-array_type scope a = option_and_then element_type (lookup scope a)
 
 abbrev pub accumulator_of : Scope → List ℕ → Option Ty
 accumulator_of scope x = option_and_then accumulator_type (lookup scope x)

@@ -3,8 +3,8 @@
 ghost use Rattle.std.specs.Prelude.{◌≡◌, List, ℕ, Option, option_map, option_and_then};
 ghost use Rattle.std.specs.List.{find};
 ghost use Rattle.kernel_tree.specs.Plain.{term_of};
-ghost use Rattle.kernel_tree.specs.Typing.{has_name, binding_of, value_type, element_type, accumulator_type, first, own, index_type, side_type};
-ghost use Rattle.loop_form.specs.LoopItems.{source_at, array_type, accumulator_of, index_source};
+ghost use Rattle.kernel_tree.specs.Typing.{has_name, binding_of, value_type, element_type, accumulator_type, first, own, index_type, side_type, array_type};
+ghost use Rattle.loop_form.specs.LoopItems.{source_at, accumulator_of, index_source};
 ghost use Rattle.loop_form.specs.LoopView.{locals, env_of, scope_of};
 
 use kernel_tree::fault::Binding;

@@ -47,8 +47,3 @@ pub record IsAround (number : ℕ) (numbers : List ℕ) (low high : ℕ) : Type 
 -- the place of a number among pages
 abbrev pub IsPlaceOf : (number : ℕ) → Memory → ℕ → Type 0
 IsPlaceOf number pages place = IsAround number (page_numbers pages) place place
-
--- more than the bytes after a part, or 0 where nothing stands after it
-abbrev pub left_size : Option (Bor (List ℕ)) → ℕ
-left_size None = 0
-left_size (Some rest) = length rest.now + 1

@@ -25,8 +25,3 @@ Refuses entries (BadLine line) = entries ≡ Err (BadLine line)
 Refuses entries (Clash line) = ⊥
 Refuses entries (TooManyPages line) = ⊥
 Refuses entries Memory = Unit {0}
-
--- more than the bytes after a part, or 0 where nothing stands after it
-abbrev pub left_size : Option (Bor (List ℕ)) → ℕ
-left_size None = 0
-left_size (Some rest) = length rest.now + 1

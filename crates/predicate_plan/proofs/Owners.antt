@@ -6,10 +6,10 @@ use Rattle.std.proofs.lemmas.List.{get_or-append_right, length-replicate}
 use Rattle.kernel_tree.specs.declared.ops.Ty.{Ty}
 use Rattle.kernel_tree.specs.Plain.{Term, Literal, Variable, Element, Unary, Operation, Shift, Conversion, Choice, Comparison, Both, Either, Not, Action, Define, Put, Update, Choose, Leave, Block, Done, Then, Otherwise, Nothing, Else, PlainLoop, Program}
 use Rattle.kernel_tree.specs.Items.{index_of, stream_offset, term_size, index_size, index_items, action_size, block_size, otherwise_size, loop_start}
-use Rattle.kernel_tree.specs.Typing.{Scope, own, index_type, first, side_type, after_action, after_block, left, in_loop, var_scope}
+use Rattle.kernel_tree.specs.Typing.{Scope, own, index_type, first, side_type, after_action, after_block, left, in_loop, var_scope, array_type}
 use Rattle.kernel_tree.proofs.Scopes.{index_after, scope_index}
 use Rattle.kernel_tree.specs.Kinds.{IsValue, IsTruth, ActionKinds, BlockKinds, OtherwiseKinds}
-use Rattle.loop_form.specs.LoopItems.{Item, Bound, array_type, accumulator_of, truth_home, gather_item, load_item, store_item, term_items, cond_items, after_env, action_items, block_items, otherwise_items, loop_env, loop_items}
+use Rattle.loop_form.specs.LoopItems.{Item, Bound, accumulator_of, truth_home, gather_item, load_item, store_item, term_items, cond_items, after_env, action_items, block_items, otherwise_items, loop_env, loop_items}
 use Rattle.predicate_plan.specs.declared.part.MaskPart.{MaskPart}
 use Rattle.predicate_plan.specs.Masks.{meets, and_part, inner_masks, term_masks, action_masks, block_masks, otherwise_masks, mask_at, loop_masks, masks_of}
 use Rattle.predicate_plan.specs.Owners.{is_on, AreSettled, AreOwned}

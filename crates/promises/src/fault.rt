@@ -3,7 +3,7 @@
 ghost use Rattle.std.specs.Prelude.{◌≡◌};
 ghost use Rattle.promises.specs.declared.fault.CompileFault.TheVariants as faults;
 
-use reg_assign::{AssignFault, RegClass};
+use reg_assign::{RegClass, too_many};
 use std::alloc::AllocError;
 use thiserror::Error;
 
@@ -22,13 +22,5 @@ impl From<AllocError> for CompileFault {
 
     fn from(_e: AllocError) -> CompileFault {
         CompileFault::Memory
-    }
-}
-
-// The same fault of register assignment, which has the text.
-fn too_many(class: &RegClass, need: &u32) -> AssignFault {
-    AssignFault::TooMany {
-        class: *class,
-        need: *need,
     }
 }

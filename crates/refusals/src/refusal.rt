@@ -11,7 +11,7 @@ use kernel_types::TypeFault;
 use machine_model::elf_fault::ElfFault;
 use map_text::MapFault;
 use pipe_script::PipeFault;
-use reg_assign::{AssignFault, RegClass};
+use reg_assign::{RegClass, too_many};
 use std::alloc::AllocError;
 use sve_asm::AsmFault;
 use sve_debug::session::SessionFault;
@@ -101,14 +101,6 @@ impl From<FileError> for Refusal {
             FileError::TooLong => Refusal::TooLong,
             FileError::Memory => Refusal::Memory,
         }
-    }
-}
-
-// The fault of register assignment, which has the text.
-fn too_many(class: &RegClass, need: &u32) -> AssignFault {
-    AssignFault::TooMany {
-        class: *class,
-        need: *need,
     }
 }
 

@@ -41,3 +41,13 @@ fn class_name(class: &RegClass) -> &'static str {
         RegClass::X => "x",
     }
 }
+
+/// The fault that so many registers of a class are needed, for the errors of other crates that have its text.
+pub fn too_many(class: &RegClass, need: &u32) -> AssignFault
+    ensures { result ≡ faults.TooMany class.now need.now }
+{
+    AssignFault::TooMany {
+        class: *class,
+        need: *need,
+    }
+}

@@ -9,7 +9,7 @@ mod linear_scan;
 mod live;
 
 pub use assigned::{Assigned, VectorRegs};
-pub use fault::AssignFault;
+pub use fault::{AssignFault, too_many};
 pub use interval::{Interval, RegClass};
 pub use linear_scan::assign;
 pub use live::need;

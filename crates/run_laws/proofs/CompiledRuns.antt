@@ -27,7 +27,7 @@ use Rattle.command_answers.specs.Answer.{Held, Expected}
 use Rattle.command_answers.specs.Reads.{and_then, file_of, bytes_of, map_of}
 use Rattle.command_answers.specs.Works.{success_of, done_by, dump_of}
 use Rattle.program_commands.specs.Commands.{stops_of, run_program, expected_of_run}
-use Rattle.kernel_commands.specs.Commands.{CompilesTo, IsCompiled}
+use Rattle.compile_command.specs.Compiles.{CompilesTo, IsCompiled}
 use Rattle.run_laws.specs.CompiledRuns.{Answers, Steps, enough_for, IsRun, FaithfulWithin, CompiledWithin, FaithfulRuns, CompiledRuns}
 use Rattle.command_answers.proofs.Loading.{few_pages}
 use Rattle.program_commands.proofs.Programs.{run_is}

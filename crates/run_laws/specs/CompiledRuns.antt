@@ -20,7 +20,7 @@ use Rattle.command_answers.specs.Answer.{Held, Expected}
 use Rattle.command_answers.specs.Reads.{file_of, map_of}
 use Rattle.command_answers.specs.Works.{dump_of}
 use Rattle.program_commands.specs.Commands.{stops_of, expected_of_run}
-use Rattle.kernel_commands.specs.Commands.{IsCompiled}
+use Rattle.compile_command.specs.Compiles.{IsCompiled}
 
 -- Where the scalar loop ends, the text is its result and the steps, and then the dump of its memory. Where it faults, the program
 -- stopped at a read or a write, and each byte of the memory that is dumped is that of the scalar loop, but for those near the fault.

@@ -18,7 +18,8 @@ use Rattle.command_answers.specs.Answer.{Held, Expected}
 use Rattle.command_answers.specs.Reads.{file_of, map_of}
 use Rattle.command_answers.specs.Works.{dump_of}
 use Rattle.program_commands.specs.Commands.{stops_of, expected_of_run}
-use Rattle.kernel_commands.specs.Commands.{ExpectsEval, IsCompiled}
+use Rattle.kernel_commands.specs.Commands.{ExpectsEval}
+use Rattle.compile_command.specs.Compiles.{IsCompiled}
 use Rattle.run_laws.specs.CompiledRuns.{Steps, enough_for, IsRun, OfEach}
 
 -- the command is done, and what it ran came to an end

@@ -28,7 +28,7 @@ use crate::operations::{
 use crate::side::Side;
 use a64_code::Reg;
 use kernel_meaning::{word, wrapped};
-use kernel_scope::{Scope, element_type, first, lookup, own_type};
+use kernel_scope::{Scope, element_type, first, lookup, own_type, side_type};
 use kernel_tree::{BinaryOp, CompareOp, Expr, Name, Ty, UnaryOp};
 use label_fix::{Draft, Label};
 use scalar_words::operations::emit_const;
@@ -539,13 +539,6 @@ fn emit_one_of(
             Ok(r)
         }
     }
-}
-
-// The type of the sides of a comparison.
-fn side_type(scope: &Scope, left: &Expr, right: &Expr) -> Option<Ty>
-    ensures { result ≡ typing.side_type (scope_of scope.now) (term_of left.now) (term_of right.now) }
-{
-    first(own_type(scope, left), own_type(scope, right))
 }
 
 // A comparison of two values, whose truth is in the flags.

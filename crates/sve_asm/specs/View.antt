@@ -19,8 +19,3 @@ Refuses words (BadLine line) = words ≡ Err (BadLine line)
 Refuses words (Differs line want found) = words ≡ Err (Differs line want found)
 Refuses words TooManyWords = words ≡ Err TooManyWords
 Refuses words Memory = Unit {0}
-
--- more than the bytes after a part, or 0 where nothing stands after it
-abbrev pub left_size : Option (Bor (List ℕ)) → ℕ
-left_size None = 0
-left_size (Some rest) = length rest.now + 1

@@ -6,7 +6,8 @@ use Rattle.command_answers.specs.Answer.{Held, Expected}
 use Rattle.command_answers.specs.Reads.{file_of, task_files}
 use Rattle.program_commands.specs.Commands.{expected_of_list, expected_of_run, expected_of_debug, expected_of_asm, stops_of}
 use Rattle.pipe_command.specs.Pipes.{expected_of_pipe}
-use Rattle.kernel_commands.specs.Commands.{compiled, CompileExpects, checked, CheckExpects, eval_kernel, EvalExpects}
+use Rattle.kernel_commands.specs.Commands.{checked, CheckExpects, eval_kernel, EvalExpects}
+use Rattle.compile_command.specs.Compiles.{compiled, CompileExpects}
 use Rattle.kernel_commands.proofs.Verdicts.{by_verdict, after, one_by_verdict, one_after}
 use Rattle.sve_top.specs.Commands.{Expects, IsSettled}
 

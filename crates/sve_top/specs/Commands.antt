@@ -9,7 +9,8 @@ use Rattle.command_answers.specs.Works.{WhereExpected}
 use Rattle.program_commands.specs.Ready.{DebugsAsItCame}
 use Rattle.program_commands.specs.Commands.{expected_of_list, stops_of, expected_of_run, expected_of_debug, expected_of_asm, IsAssembled, IsOfList, IsOfRun, IsOfDebug, IsOfAsm}
 use Rattle.pipe_command.specs.Pipes.{expected_of_pipe, IsOfPipe, IsPipeHeld}
-use Rattle.kernel_commands.specs.Commands.{ExpectsCompile, ExpectsCheck, ExpectsEval, IsCompiled, IsOfCompile, IsOfCheck, IsOfEval}
+use Rattle.kernel_commands.specs.Commands.{ExpectsCheck, ExpectsEval, IsOfCheck, IsOfEval}
+use Rattle.compile_command.specs.Compiles.{ExpectsCompile, IsCompiled, IsOfCompile}
 use Rattle.sweep_command.specs.Swept.{IsSwept, SweptBy, IsOfSweep}
 
 -- ---- what is wanted

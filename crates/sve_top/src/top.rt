@@ -16,11 +16,11 @@ ghost use Rattle.refusals.specs.Lines.{line_of_refusal};
 
 use command_line::command::Command;
 use command_line::read::read_line;
+use compile_command::compile::compile;
 use io_edges::files::Files;
 use io_edges::sink::Sink;
 use io_edges::source::Source;
 use kernel_commands::check::check;
-use kernel_commands::compile::compile;
 use kernel_commands::eval::eval;
 use pipe_command::pipe::pipe;
 use program_commands::asm::asm;

@@ -1,5 +1,5 @@
 -- The parts of a text of bytes between those like a mark. After the last mark stands one part more, which may be empty.
-use Rattle.std.specs.Prelude.{ℕ, Bool, List, [], Option, Some, None, nat_eq}
+use Rattle.std.specs.Prelude.{ℕ, ◌+◌, Bool, List, [], length, Option, Some, None, nat_eq}
 use Rattle.std.specs.Borrow.{Bor}
 use Rattle.std.specs.List.{slice_split}
 
@@ -21,3 +21,8 @@ words_of line = parts_at 32 line
 abbrev pub parts_after : (mark : ℕ) → Option (Bor (List ℕ)) → List (List ℕ)
 parts_after mark None = []
 parts_after mark (Some rest) = parts_at mark rest.now
+
+-- more than the bytes after a part, or 0 where nothing stands after it
+abbrev pub left_size : Option (Bor (List ℕ)) → ℕ
+left_size None = 0
+left_size (Some rest) = length rest.now + 1

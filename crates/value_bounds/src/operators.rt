@@ -8,7 +8,7 @@ ghost use Rattle.kernel_meaning.specs.Operators as operators;
 ghost use Rattle.value_bounds.specs.ValueBounds as values;
 
 use crate::bounds::Bounds;
-use kernel_meaning::{greatest, least, word};
+use kernel_meaning::{greatest, least, shift_count};
 use kernel_tree::{BinaryOp, Ty, UnaryOp};
 
 /// The least and the greatest value of a type.
@@ -177,14 +177,6 @@ pub fn binary_in(want: Option<Ty>, op: BinaryOp, left: Bounds, right: Bounds) ->
         BinaryOp::And => common(want, left, right),
         BinaryOp::Or | BinaryOp::Xor => None,
     }
-}
-
-// The count of a shift, which is below 64.
-fn shift_count(count: i128) -> u32
-    ensures value { result ≡ operators.shift_count count }
-    ensures below { result < 64 }
-{
-    (word(count) % 64) as u32
 }
 
 // 2 to the count of a shift.

@@ -4,10 +4,10 @@ use Rattle.std.specs.Prelude.{ℤ}
 use Rattle.kernel_tree.specs.declared.ops.Ty.{Ty}
 use Rattle.kernel_tree.specs.Plain.{Term, Literal, Variable, Element, Unary, Operation, Shift, Conversion, Choice, Comparison, Both, Either, Not, Action, Define, Put, Update, Choose, Leave, Block, Done, Then, Otherwise, Nothing, Else}
 use Rattle.kernel_tree.specs.Items.{stream_offset, term_size}
-use Rattle.kernel_tree.specs.Typing.{Scope, own, first, index_type, side_type, after_action, after_block, left}
+use Rattle.kernel_tree.specs.Typing.{Scope, own, first, index_type, side_type, after_action, after_block, left, array_type}
 use Rattle.loop_form.specs.declared.loop_item.Source.{Source}
 use Rattle.loop_form.specs.Reaches.{reach_of_type}
-use Rattle.loop_form.specs.LoopItems.{Bound, array_type, Op, Gather, Item, index_source, truth_home, load_item, store_item, term_items, cond_items, accumulator_of, after_env, action_items, block_items, otherwise_items}
+use Rattle.loop_form.specs.LoopItems.{Bound, Op, Gather, Item, index_source, truth_home, load_item, store_item, term_items, cond_items, accumulator_of, after_env, action_items, block_items, otherwise_items}
 use Rattle.vector_order.proofs.ReadyTerms.{Computed, computed_map}
 
 abbrev pub CalmOp : (List ℕ → Option ℕ → Type 0) → Op → Type 0

@@ -5,7 +5,7 @@ use Rattle.std.specs.List.{list_any}
 use Rattle.kernel_tree.specs.declared.ops.Ty.{Ty}
 use Rattle.kernel_tree.specs.Plain.{Term, Literal, Variable, Element, Unary, Operation, Shift, Conversion, Choice, Comparison, Both, Either, Not, Action, Define, Put, Update, Choose, Leave, Block, Done, Then, Otherwise, Nothing, Else, Accumulator, Program}
 use Rattle.kernel_tree.specs.Items.{stream_offset, loop_index, index_items, term_size, action_size, block_size}
-use Rattle.kernel_tree.specs.Typing.{Scope, Local, local, Role, wanted, Value, Condition, has_name, binding_of, lookup, own, first, accumulator_type, index_type, side_type, as_value, read_faults, inner_faults, index_faults, mismatch, untyped, target_faults, faults, action_faults, block_faults, otherwise_faults, defined, after_action, after_block, after_otherwise, left}
+use Rattle.kernel_tree.specs.Typing.{Scope, Local, local, Role, wanted, Value, Condition, has_name, binding_of, lookup, own, first, accumulator_type, index_type, side_type, as_value, read_faults, inner_faults, index_faults, mismatch, untyped, target_faults, faults, action_faults, block_faults, otherwise_faults, defined, after_action, after_block, after_otherwise, left, array_type}
 use Rattle.kernel_tree.proofs.Faultless.{nil-left, nil-right}
 use Rattle.kernel_tree.proofs.NoFault.{read_some, target_some, update_some, stream_some}
 use Rattle.kernel_tree.proofs.Names.{array_of, array_before, bytes_swap}
@@ -15,7 +15,7 @@ use Rattle.loop_form.specs.Entries.{Content, IsLiteral, IsName, IsRead, IsLet, I
 use Rattle.dependence.specs.Classes.{is_read, accumulator_read}
 use Rattle.kernel_tree.specs.declared.ops.Ty.TheVariants as ty
 use Rattle.loop_form.specs.Listing.{is_named, names}
-use Rattle.loop_form.specs.LoopItems.{array_type, accumulator_of}
+use Rattle.loop_form.specs.LoopItems.{accumulator_of}
 use Rattle.vector_order.specs.Operands.{HasOffset}
 use Rattle.vector_order.proofs.OneAccess.{or_false}
 use Rattle.vector_order.specs.Order.{is_var, is_accumulator}

@@ -1,7 +1,7 @@
 use Rattle.std.proofs.Common.{◌≡◌, ◌+◌, ◌≤◌, length}
 use Rattle.map_text.specs.Mapping.{after_lines, map_of}
-use Rattle.text_parts.specs.Parts.{parts_after}
-use Rattle.map_text.specs.View.{IsBeside, left_size}
+use Rattle.text_parts.specs.Parts.{parts_after, left_size}
+use Rattle.map_text.specs.View.{IsBeside}
 use Rattle.map_text.proofs.read.read_lines.Given as goal
 
 abbrev pub invariant-loop-rest : goal.invariant-loop-rest

@@ -1,7 +1,7 @@
 use Rattle.std.proofs.Common.{◌≡◌, ◌+◌, ◌≤◌, [], length}
 use Rattle.pipe_script.specs.Script.{after_lines}
-use Rattle.pipe_script.specs.View.{entries_view, left_size}
-use Rattle.text_parts.specs.Parts.{lines_of, parts_after}
+use Rattle.pipe_script.specs.View.{entries_view}
+use Rattle.text_parts.specs.Parts.{lines_of, parts_after, left_size}
 use Rattle.pipe_script.proofs.script.read_lines.Given as goal
 
 abbrev pub invariant-loop-rest : goal.invariant-loop-rest

@@ -1,7 +1,6 @@
 use Rattle.std.proofs.Common.{◌≡◌, ◌≤◌, length}
 use Rattle.command_line.specs.Line.{arguments_of}
-use Rattle.pipe_script.specs.View.{left_size}
-use Rattle.text_parts.specs.Parts.{parts_after}
+use Rattle.text_parts.specs.Parts.{parts_after, left_size}
 use Rattle.pipe_script.proofs.Arguments.{arguments_left}
 use Rattle.pipe_script.proofs.script_line.arguments.Given as goal
 

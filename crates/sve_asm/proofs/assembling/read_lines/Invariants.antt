@@ -1,7 +1,6 @@
 use Rattle.std.proofs.Common.{◌≡◌, ◌+◌, ◌≤◌, [], length}
 use Rattle.sve_asm.specs.Lines.{after_lines}
-use Rattle.text_parts.specs.Parts.{lines_of, parts_after}
-use Rattle.sve_asm.specs.View.{left_size}
+use Rattle.text_parts.specs.Parts.{lines_of, parts_after, left_size}
 use Rattle.sve_asm.proofs.assembling.read_lines.Given as goal
 
 abbrev pub invariant-loop-rest : goal.invariant-loop-rest

@@ -9,8 +9,8 @@ use Rattle.sve_top.specs.Commands.{Compiled, StreamRose, Swept, AsItComes}
 use Rattle.program_commands.specs.Commands.{expected_of_list, expected_of_run, expected_of_debug, expected_of_asm, stops_of}
 use Rattle.command_answers.specs.Outputs.{Prints}
 use Rattle.sve_top.proofs.Lines.{by_line, of_told, of_every_line}
-use Rattle.kernel_commands.proofs.Expectations.{prints_silent}
-use Rattle.kernel_commands.specs.Commands.{ExpectsCompile}
+use Rattle.compile_command.proofs.Expectations.{prints_silent}
+use Rattle.compile_command.specs.Compiles.{ExpectsCompile}
 use Rattle.pipe_command.specs.Pipes.{expected_of_pipe}
 use Rattle.command_answers.proofs.Reading.{of_one, with_output}
 use Rattle.program_commands.proofs.Assemblies.{asm_prints}

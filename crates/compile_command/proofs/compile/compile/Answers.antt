@@ -3,9 +3,9 @@ use Rattle.command_answers.specs.Answer.{Unwritten}
 use Rattle.command_answers.specs.Reads.{file_of, bytes_in}
 use Rattle.command_answers.specs.Works.{ended}
 use Rattle.command_answers.proofs.Reading.{of_read, written_file}
-use Rattle.kernel_commands.specs.Commands.{CompileExpects, CompilesTo}
+use Rattle.compile_command.specs.Compiles.{CompileExpects, CompilesTo}
 use Rattle.kernel_commands.proofs.Expectations.{text_refused}
-use Rattle.kernel_commands.proofs.compile.compile.Goals as goal
+use Rattle.compile_command.proofs.compile.compile.Goals as goal
 
 pub returns-in_err-file-clause-answer : goal.returns-in_err-file-clause-answer
 returns-in_err-file-clause-answer g c =

@@ -7,7 +7,8 @@ ghost use Rattle.kernel_tree.specs.Checked.{kernel_of};
 ghost use Rattle.kernel_tree.specs.Items.{size_of};
 ghost use Rattle.promises.specs.Faithful.{FreeFaithful, FreeEnds, CloseFaithful};
 ghost use Rattle.command_answers.specs.Answer.{answer_of, IsFileAnswer, IsKept, Unwritten};
-ghost use Rattle.kernel_commands.specs.Commands.{of_compile, compiled, CompileExpects, ExpectsCompile, CompilesTo, HasWords, IsCompiled, RefusesText, RefusesCompile, IsOfCompile};
+ghost use Rattle.kernel_commands.specs.Commands.{RefusesText};
+ghost use Rattle.compile_command.specs.Compiles.{of_compile, compiled, CompileExpects, ExpectsCompile, CompilesTo, HasWords, IsCompiled, RefusesCompile, IsOfCompile};
 ghost use Rattle.command_answers.specs.Reads.{ChangesOnly};
 ghost use Rattle.command_answers.specs.Works.{WhereExpected, ended};
 

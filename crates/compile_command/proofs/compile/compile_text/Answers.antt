@@ -2,9 +2,10 @@ use Rattle.std.proofs.Common.{subst}
 use Rattle.kernel_tree.specs.Plain.{program_of}
 use Rattle.kernel_tree.specs.Checked.{kernel_of}
 use Rattle.kernel_commands.specs.Kernels.{ByVerdict}
-use Rattle.kernel_commands.specs.Commands.{compiled}
-use Rattle.kernel_commands.proofs.Expectations.{sound_text, compile_refusal}
-use Rattle.kernel_commands.proofs.compile.compile_text.Goals as goal
+use Rattle.compile_command.specs.Compiles.{compiled}
+use Rattle.kernel_commands.proofs.Expectations.{sound_text}
+use Rattle.compile_command.proofs.Expectations.{compile_refusal}
+use Rattle.compile_command.proofs.compile.compile_text.Goals as goal
 
 pub returns-in_err-file-clause-refusal : goal.returns-in_err-file-clause-refusal
 returns-in_err-file-clause-refusal c =

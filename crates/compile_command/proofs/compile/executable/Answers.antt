@@ -4,9 +4,9 @@ use Rattle.kernel_tree.specs.Checked.{kernel_of}
 use Rattle.loop_form.specs.View.{program}
 use Rattle.machine_model.specs.Written.{file_of}
 use Rattle.promises.specs.Faithful.{FreeFaithful, FreeEnds, CloseFaithful}
-use Rattle.kernel_commands.specs.Commands.{compiled_by, RefusesCompile}
-use Rattle.kernel_commands.proofs.Expectations.{refuses_compile}
-use Rattle.kernel_commands.proofs.compile.executable.Goals as goal
+use Rattle.compile_command.specs.Compiles.{compiled_by, RefusesCompile}
+use Rattle.compile_command.proofs.Expectations.{refuses_compile}
+use Rattle.compile_command.proofs.compile.executable.Goals as goal
 
 pub returns-in-Err-clause-refusal : goal.returns-in-Err-clause-refusal
 unfolding program

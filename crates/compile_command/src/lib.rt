@@ -1,0 +1,4 @@
+//! The command `compile`.
+#![tactic(auto)]
+
+pub mod compile;
