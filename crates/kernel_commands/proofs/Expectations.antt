@@ -1,16 +1,16 @@
 -- What is wanted of a command that reads the text of a kernel.
-use Rattle.std.proofs.Common.{◌≡◌, ℕ, List, [], Option, Some, None, Result, Ok, Err, inl, inr, refl, sym, ap, ◌∙◌, subst}
+use Rattle.std.proofs.Common.{◌≡◌, ℕ, List, Option, Some, None, Result, Ok, Err, inl, inr, refl, sym, subst}
 use Rattle.std.specs.Prelude.{IfSome, IfErr, IsErrAnd}
 use Rattle.command_line.specs.Line.{Task}
 use Rattle.kernel_tree.specs.Plain.{Program}
-use Rattle.kernel_front.specs.Verdict.{Verdict, Limited, NoKernel, Refused, Sound, IsVerdict}
+use Rattle.kernel_front.specs.Verdict.{Sound, IsVerdict}
 use Rattle.refusals.specs.declared.refusal.Refusal.{Refusal}
 use Rattle.refusals.specs.declared.refusal.Refusal.TheVariants.{Usage, TooManyLive, Kernel, TooLong, Elf, Map, Asm, Pipe, Memory, File, Output}
-use Rattle.command_answers.specs.Answer.{Held, Expected, Answer, answer_of, expected_text, IsFileAnswer}
+use Rattle.command_answers.specs.Answer.{Held, Expected, Answer, answer_of, IsFileAnswer}
 use Rattle.command_answers.specs.Reads.{file_of, task_files, AfterRead}
 use Rattle.command_answers.specs.Works.{WhereExpected, RefusesProgram}
 use Rattle.command_answers.proofs.Reading.{read_is, is_err}
-use Rattle.kernel_commands.specs.Kernels.{IsExpectedOf, ByVerdict}
+use Rattle.kernel_commands.specs.Kernels.{ByVerdict}
 use Rattle.kernel_commands.specs.Commands.{of_compile, compiled, compiled_by, CompileExpects, ExpectsCompile, RefusesText, RefusesCompile, RefusesEval, IsOfEval}
 
 -- ---- verdicts
