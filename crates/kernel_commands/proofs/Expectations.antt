@@ -11,7 +11,7 @@ use Rattle.command_answers.specs.Reads.{file_of, task_files, AfterRead}
 use Rattle.command_answers.specs.Works.{WhereExpected, RefusesProgram}
 use Rattle.command_answers.proofs.Reading.{read_is, is_err}
 use Rattle.kernel_commands.specs.Kernels.{ByVerdict}
-use Rattle.kernel_commands.specs.Commands.{of_compile, compiled, compiled_by, CompileExpects, ExpectsCompile, RefusesText, RefusesCompile, RefusesEval, IsOfEval}
+use Rattle.kernel_commands.specs.Commands.{RefusesText, RefusesEval, IsOfEval}
 
 -- ---- verdicts
 
