@@ -9,14 +9,20 @@ use Rattle.kernel_tree.specs.Typing.{Scope, after_action, in_loop, var_scope}
 use Rattle.kernel_tree.proofs.Scopes.{index_after, scope_index}
 use Rattle.reg_assign.specs.declared.interval.RegClass.TheVariants.{P}
 use Rattle.reg_assign.specs.Registers.{Assignment}
-use Rattle.loop_form.specs.Entries.{Content, IsLiteral, IsName, IsRead, IsLet, IsStore, IsUpdate, IsPlain, Entry, kind_of, inner_entries, term_entries, action_entries, block_entries, otherwise_entries, turns_entries, loop_entries, entries_of}
+use Rattle.loop_form.specs.Entries.{Content, IsLiteral, IsName, IsRead, IsLet, IsStore, IsUpdate, IsPlain, Entry, entry, kind_of, inner_entries, term_entries, action_entries, block_entries, otherwise_entries, turns_entries, loop_entries, entries_of}
 use Rattle.loop_form.specs.Listing.{has_p, held, last_of}
 use Rattle.loop_form.specs.LoopItems.{Bound, Item, after_env, block_items, loop_env, loop_items}
 use Rattle.loop_form.specs.Numbers.{Numbered}
-use Rattle.loop_form.proofs.Numbers.{action-listed}
+use Rattle.loop_form.proofs.Numbers.{term-listed, action-listed}
 use Rattle.chunk_emit.specs.KernelLayout.{last_in, item_last_use, layout_of_loop}
 use Rattle.chunk_emit.proofs.FitsEntries.{AllGive, give_left, give_right, loop_gives}
 use Rattle.chunk_emit.proofs.FitsIntervals.{of_p, first_nothing}
+use Rattle.chunk_emit.proofs.FitsSources.{truth_less}
+use Rattle.chunk_emit.specs.Chunk.{Setting}
+use Rattle.first_fault.specs.Fits.{FitsRegion}
+use Rattle.first_fault.specs.Split.{region_of}
+use Rattle.first_fault.proofs.RegionFits.{last_nothing}
+use Rattle.loop_form.specs.declared.item.ItemKind.TheVariants as kind
 use Rattle.first_fault.specs.KernelFits.{following_region, is_inner_break}
 use Rattle.first_fault.specs.Rest.{NoTruthLive}
 use Rattle.first_fault.proofs.TopBreaks.{breaks_of, following_break, region_end, outer_of, TopAction, goes, ends, top_action, last_quit, IsLast}
@@ -147,7 +153,7 @@ module _ (k : Program) where
       (cases_lt r (mark + 1)))
       (cases_lt r mark))
       (cases_lt r b)
-  leave_closed c b g before there r lt = there r (omega (arith, lt))
+  leave_closed c b g before there r lt = let h = there r (omega (arith, lt)) in omega (arith, h)
 
   break_closed : (a : Action) (b q : ℕ) → IsLast i b a q → AllGive k (action_entries k b a) → Ended b → Ended (b + action_size i a) → Closed (q + 1)
   break_closed (Leave c) b q is g before there = subst (λ n. Closed (n + 1)) (sym is) (leave_closed c b g before there)
@@ -199,6 +205,6 @@ module _ (k : Program) where
       (λ (early : r + 1 < following_region k l). let h = closed_region l turns outer r early in omega (arith, h, less))
       (λ (last : following_region k l ≤ r + 1).
       let number : r + 1 ≡ following_region k l = omega (arith, lt, last) in
-      let nothing = last_nothing (layout_of_loop k zs ps) f (loop_start k + 1) (loop_items k l) fits (λ s e. let none = start_ended s (omega (arith, e)) in let small = truth_less k s in omega (arith, none, small, e)) r number in
+      let nothing = last_nothing (layout_of_loop k zs ps) f (loop_start k + 1) (loop_items k l) fits (λ unbroken s e. let none = start_ended s (omega (arith, e)) in let small = truth_less k s in omega (arith, none, small, e)) r number in
       omega (arith, nothing, lt))
       (cases_lt (r + 1) (following_region k l))
