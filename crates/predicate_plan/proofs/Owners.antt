@@ -184,7 +184,7 @@ module _ (masks : ℕ → List MaskPart) (truth : ℕ → Bool) where
   past_mask ms mask c h past = by (is_on truth mask) h past ∙ sym (meets-more truth ms c false)
     where
       by : (b : Bool) → b ≡ meets truth ms → (b ≡ true → truth c ≡ false) → b ≡ (meets truth ms && not (truth c))
-      by true e f = ap₂ (λ a t. a && not t) e (f refl)
+      by true e f = ap₂ (λ a t. a && not t) e (sym (f refl))
       by false e f = ap (λ a. a && not (truth c)) e
 
   quit_owned : (c : Term) → IsTruth c → (scope : Scope) (mask : Option ℕ) (from : ℕ) (env : List Bound) (ms : List MaskPart) (rest : List Item) → is_on truth mask ≡ meets truth ms → Agree masks from (term_masks scope.index from ms c) → masks (from + term_size scope.index c) ≡ ms
