@@ -27,8 +27,7 @@ use Rattle.kernel_tree.specs.declared.fault.Binding.TheVariants as binding
 typed_from : (k : Program) (p : ℕ) (xs items : List Item) → xs ++ items ≡ loop_items_of k → Ascends p (xs ++ items) → AllTyped k items
 typed_from k p xs [] split h = tt
 typed_from k p xs (it ∷ items) split h =
-    let next = append_assoc xs (it ∷ []) items in
-    (
+    let next = append_assoc xs (it ∷ []) items in (
       record {
         type = ap (λ all. type_in all it.item) (sym split) ∙ type_at_item p xs it items h;
         truth = ap (λ all. tests_in all it.item) (sym split) ∙ test_at_item p xs it items h;

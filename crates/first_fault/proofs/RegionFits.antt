@@ -115,5 +115,5 @@ last_nothing l f p (it ∷ items) h start r e = by (list_any is_quit (it ∷ ite
     by true any h e more =
         more h.4
         (λ none r same.
-            let number : it.item ≡ r = omega (arith, same) in
-            subst (λ n. l.p_last_use n ≤ n) number (quit_nothing l f it.item it.mask it.op (only_first (quits it.op) (list_any is_quit items) any none) h.3).1) e
+        let number : it.item ≡ r = omega (arith, same) in
+        subst (λ n. l.p_last_use n ≤ n) number (quit_nothing l f it.item it.mask it.op (only_first (quits it.op) (list_any is_quit items) any none) h.3).1) e
