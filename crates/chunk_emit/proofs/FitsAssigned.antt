@@ -19,6 +19,7 @@ use Rattle.loop_form.proofs.IntervalRegisters.{Chosen, chosen_of}
 use Rattle.loop_form.proofs.PlaceLaws.{throughout-place}
 use Rattle.chunk_emit.specs.KernelLayout.{register_of, item_place, item_last_use, throughout_of, is_same, next_place, place_in, place_of_one, held_place, sum_place, source_register, layout_of_loop}
 use Rattle.chunk_emit.specs.Fits.{Assigned}
+use Rattle.chunk_emit.proofs.FitsSources.{truth_less}
 use Rattle.chunk_emit.proofs.FitsIntervals.{of_z, of_p, is_placed, placed_interval}
 use Rattle.loop_form.specs.Needs as needs
 
@@ -227,7 +228,7 @@ module _ (k : Program) (a b : Assignment) (f : FitsKernel k Z a) (g : FitsKernel
     held_small = λ x e. let h = held_for x e in let l = held_small _ _ h.held in let same = source_held x e in omega (arith, l, same);
     sum_small = λ x e. held_small _ _ (sum_at x e);
     z_apart = items_apart;
-    p_apart = conditions_apart;
+    p_apart = λ p q lt live used. let early = truth_less k q in let late = truth_less k p in conditions_apart p q lt (omega (arith, live, early)) (omega (arith, used, late));
     held_apart = λ x q e used same. let h = held_for x e in item_apart _ _ q h.held used (same ∙ source_held x e);
     sum_apart = λ x q e used. item_apart _ _ q (sum_at x e) used;
     sum_made = λ x p q e lt live same. item_apart _ _ q (sum_at x e) (omega (arith, lt, live)) (sym same);

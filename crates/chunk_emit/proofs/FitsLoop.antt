@@ -13,9 +13,9 @@ use Rattle.loop_form.proofs.ItemTypes.{loop_types}
 use Rattle.dependence.specs.Classes.{class_of}
 use Rattle.dependence.specs.declared.reason.Class.TheVariants.{Vector}
 use Rattle.chunk_emit.specs.Chunk.{Setting}
-use Rattle.chunk_emit.specs.KernelLayout.{type_in, layout_of_loop}
+use Rattle.chunk_emit.specs.KernelLayout.{type_in, tests_in, layout_of_loop}
 use Rattle.chunk_emit.specs.LoopFits.{FitsSetting, FitsSteps}
-use Rattle.chunk_emit.proofs.FitsNumbers.{Ascends, loop_ascends, type_at_item}
+use Rattle.chunk_emit.proofs.FitsNumbers.{Ascends, loop_ascends, type_at_item, test_at_item, untested_after}
 use Rattle.chunk_emit.proofs.FitsKnown.{Part, part_following, loop_known}
 use Rattle.chunk_emit.proofs.FitsNames.{head_locals, head_env, head_names}
 use Rattle.chunk_emit.proofs.FitsSources.{AllTyped}
@@ -27,8 +27,14 @@ use Rattle.kernel_tree.specs.declared.fault.Binding.TheVariants as binding
 typed_from : (k : Program) (p : ℕ) (xs items : List Item) → xs ++ items ≡ loop_items_of k → Ascends p (xs ++ items) → AllTyped k items
 typed_from k p xs [] split h = tt
 typed_from k p xs (it ∷ items) split h =
-    let next = append_assoc xs (it ∷ []) items in
-    (ap (λ all. type_in all it.item) (sym split) ∙ type_at_item p xs it items h, typed_from k p (xs ++ it ∷ []) items (next ∙ split) (subst (Ascends p) (sym next) h))
+    let next = append_assoc xs (it ∷ []) items in (
+      record {
+        type = ap (λ all. type_in all it.item) (sym split) ∙ type_at_item p xs it items h;
+        truth = ap (λ all. tests_in all it.item) (sym split) ∙ test_at_item p xs it items h;
+        gap = λ r lt to. ap (λ all. tests_in all r) (sym split) ∙ untested_after p r xs it items h lt to;
+      },
+      typed_from k p (xs ++ it ∷ []) items (next ∙ split) (subst (Ascends p) (sym next) h),
+    )
 
 items_typed : (k : Program) (l : PlainLoop) → k.turns ≡ Some l → AllTyped k (loop_items k l)
 items_typed k l turns = typed_from k (loop_start k + 1) [] (loop_items k l) (ap (turns_items k) (sym turns)) (loop_ascends k l)

@@ -1,16 +1,17 @@
 -- The items of a loop have ascending numbers, and so each number has one item.
-use Rattle.std.proofs.Common.{◌≡◌, ℕ, ◌+◌, ◌≤◌, ℤ, Bool, true, false, cond, List, [], ◌∷◌, ◌++◌, Option, Some, None, refl, sym, ap, arith}
+use Rattle.std.proofs.Common.{◌≡◌, ◌≢◌, ℕ, ◌+◌, ◌<◌, ◌≤◌, ℤ, Bool, true, false, cond, List, [], ◌∷◌, ◌++◌, Option, Some, None, refl, sym, ap, ◌∙◌, arith}
 use Rattle.std.specs.Prelude.{nat_eq}
 use Rattle.std.proofs.lemmas.Bool.{eqb-true, eq-eqb}
+use Rattle.std.proofs.lemmas.Bool.Decides.{nat_tests}
 use Rattle.kernel_tree.specs.declared.ops.Ty.{Ty}
 use Rattle.kernel_tree.specs.Plain.{Term, Literal, Variable, Element, Unary, Operation, Shift, Conversion, Choice, Comparison, Both, Either, Not, Action, Define, Put, Update, Choose, Leave, Block, Done, Then, Otherwise, Nothing, Else, PlainLoop, Program}
 use Rattle.kernel_tree.specs.Items.{stream_offset, index_size, index_items, term_size, action_size, block_size, otherwise_size, loop_start}
 use Rattle.kernel_tree.specs.Typing.{Scope, own, first, index_type, side_type, after_action, after_block, left, in_loop, var_scope, array_type}
 use Rattle.kernel_tree.proofs.Scopes.{index_after}
 use Rattle.loop_form.specs.declared.loop_item.Source.{Source}
-use Rattle.loop_form.specs.LoopItems.{Bound, Item, accumulator_of, truth_home, load_item, store_item, term_items, cond_items, after_env, action_items, block_items, otherwise_items, loop_env, loop_items}
-use Rattle.lane_emit.specs.ItemCode.{made_type}
-use Rattle.chunk_emit.specs.KernelLayout.{type_in}
+use Rattle.loop_form.specs.LoopItems.{Bound, Item, accumulator_of, truth_home, load_item, store_item, term_items, cond_items, after_env, quit_items, leave_items, action_items, block_items, otherwise_items, loop_env, loop_items}
+use Rattle.lane_emit.specs.ItemCode.{made_type, makes_truth}
+use Rattle.chunk_emit.specs.KernelLayout.{type_in, tests_in}
 
 -- items with ascending numbers from p on
 abbrev pub Ascends : ℕ → List Item → Type 0
@@ -87,6 +88,15 @@ term_ascends (Not e) = record {
 
 -- ---- statements
 
+quit_ascends : (c : Term) (s : Scope) (mask : Option ℕ) (b : ℕ) (env : List Bound) (rest : List Item) → Ascends (b + (term_size s.index c + 1)) rest → Ascends b (quit_items s mask b env c rest)
+quit_ascends c s mask b env rest h = (term_ascends c).as_cond s mask b env _ (step _ _ (b + (term_size s.index c + 1)) rest (omega arith) (omega arith) h)
+
+leave_ascends : (c : Term) (s : Scope) (mask : Option ℕ) (b : ℕ) (env : List Bound) (rest : List Item) → Ascends (b + (term_size s.index c + 1)) rest → Ascends b (leave_items s mask b env c rest)
+leave_ascends (Either x y) s mask b env rest h =
+    let next = b + term_size s.index x + 1 in
+    leave_ascends x s mask b env _ (sooner (b + (term_size s.index x + 1)) next _ (omega arith) (quit_ascends y s mask next env rest (sooner (next + (term_size s.index y + 1)) (b + (term_size s.index (Either x y) + 1)) rest (omega arith) h)))
+leave_ascends c s mask b env rest h = quit_ascends c s mask b env rest h
+
 mutual
   action_ascends : (a : Action) (s : Scope) (mask : Option ℕ) (b : ℕ) (env : List Bound) (rest : List Item) → Ascends (b + action_size s.index a) rest → Ascends b (action_items s mask b env a rest)
   action_ascends (Define x t e) s mask b env rest h = (term_ascends e).as_value s (first t (own s e)) mask b env _ (step _ _ (b + (term_size s.index e + 1)) rest (omega arith) (omega arith) h)
@@ -97,7 +107,7 @@ mutual
       let second = inner + block_size s.index t in
       (term_ascends c).as_cond s mask b env _ (sooner (b + term_size s.index c) inner _ (omega arith)
       (block_ascends t s (Some (truth_home s.index b c)) inner env _ (otherwise_ascends d (left s (after_block s t)) mask second (truth_home s.index b c) env rest (sooner (second + otherwise_size s.index d) (b + action_size s.index (Choose c t d)) rest (omega arith) h))))
-  action_ascends (Leave c) s mask b env rest h = (term_ascends c).as_cond s mask b env _ (step _ _ (b + (term_size s.index c + 1)) rest (omega arith) (omega arith) h)
+  action_ascends (Leave c) s mask b env rest h = leave_ascends c s mask b env rest h
 
   pub block_ascends : (t : Block) (s : Scope) (mask : Option ℕ) (b : ℕ) (env : List Bound) (rest : List Item) → Ascends (b + block_size s.index t) rest → Ascends b (block_items s mask b env t rest)
   block_ascends Done s mask b env rest h = sooner b _ rest (omega arith) h
@@ -127,3 +137,40 @@ type_at_item p (x ∷ xs) it ys h = by (nat_eq x.item it.item) refl (type_at_ite
     by : (b : Bool) → nat_eq x.item it.item ≡ b → type_in (xs ++ it ∷ ys) it.item ≡ made_type it.op → cond b (made_type x.op) (type_in (xs ++ it ∷ ys) it.item) ≡ made_type it.op
     by true e h2 = let same = eqb-true x.item it.item e in let l = later (x.item + 1) xs h.1 in absurd (omega (arith, same, l))
     by false e h2 = h2
+
+differ : (m n : ℕ) → m ≢ n → nat_eq m n ≡ false
+differ m n ne = grind (arith, nat_tests)
+
+later : (p : ℕ) (xs : List Item) (it : Item) (ys : List Item) → Ascends p (xs ++ it ∷ ys) → p ≤ it.item
+later p [] it ys h = h.0
+later p (x ∷ xs) it ys h = let a = h.0 in let r = later (x.item + 1) xs it ys h.1 in omega (arith, a, r)
+
+pub test_at_item : (p : ℕ) (xs : List Item) (it : Item) (ys : List Item) → Ascends p (xs ++ it ∷ ys) → tests_in (xs ++ it ∷ ys) it.item ≡ makes_truth it.op
+test_at_item p [] it ys h = ap (λ b. cond b (makes_truth it.op) (tests_in ys it.item)) (eq-eqb it.item it.item refl)
+test_at_item p (x ∷ xs) it ys h =
+    let l = later (x.item + 1) xs it ys h.1 in
+    ap (λ b. cond b (makes_truth x.op) (tests_in (xs ++ it ∷ ys) it.item)) (differ x.item it.item (λ e. absurd (omega (arith, l, e)))) ∙ test_at_item (x.item + 1) xs it ys h.1
+
+-- ---- no item of a number
+
+-- before the first of some items
+abbrev pub IsBefore : ℕ → List Item → Type 0
+IsBefore r [] = Unit {0}
+IsBefore r (it ∷ items) = r < it.item
+
+untested : (p r : ℕ) (ys : List Item) → Ascends p ys → r < p → tests_in ys r ≡ false
+untested p r [] h lt = refl
+untested p r (y ∷ ys) h lt =
+    let a = h.0 in
+    ap (λ b. cond b (makes_truth y.op) (tests_in ys r)) (differ y.item r (λ e. absurd (omega (arith, a, lt, e)))) ∙ untested (y.item + 1) r ys h.1 (omega (arith, a, lt))
+
+-- between an item and the next one
+pub untested_after : (p r : ℕ) (xs : List Item) (it : Item) (ys : List Item) → Ascends p (xs ++ it ∷ ys) → it.item < r → IsBefore r ys → tests_in (xs ++ it ∷ ys) r ≡ false
+untested_after p r [] it ys h lt to = ap (λ b. cond b (makes_truth it.op) (tests_in ys r)) (differ it.item r (λ e. absurd (omega (arith, lt, e)))) ∙ by ys h.1 to
+  where
+    by : (ys : List Item) → Ascends (it.item + 1) ys → IsBefore r ys → tests_in ys r ≡ false
+    by [] h to = refl
+    by (y ∷ ys) h to = untested y.item r (y ∷ ys) (omega arith, h.1) to
+untested_after p r (x ∷ xs) it ys h lt to =
+    let l = later (x.item + 1) xs it ys h.1 in
+    ap (λ b. cond b (makes_truth x.op) (tests_in (xs ++ it ∷ ys) r)) (differ x.item r (λ e. absurd (omega (arith, l, lt, e)))) ∙ untested_after (x.item + 1) r xs it ys h.1 lt to

@@ -1,6 +1,6 @@
 -- Each operand of a checked kernel's loop is in a register and of its type, and each condition is needed until it is used.
-use Rattle.std.proofs.Common.{◌≡◌, ℕ, ◌+◌, ◌<◌, ◌≤◌, ℤ, Bool, true, List, [], ◌∷◌, Option, Some, None, refl, sym, ap, ◌∙◌, subst, arith}
-use Rattle.std.specs.Prelude.{is_some, option_and_then, unwrap_or}
+use Rattle.std.proofs.Common.{◌≡◌, ℕ, ◌+◌, ◌<◌, ◌≤◌, ℤ, Bool, true, false, List, [], ◌∷◌, Option, Some, None, refl, sym, ap, ◌∙◌, subst, arith}
+use Rattle.std.specs.Prelude.{is_some, option_and_then, unwrap_or, if◌then◌else◌}
 use Rattle.guest_types.specs.Length.{width_bits}
 use Rattle.kernel_tree.specs.declared.ops.Ty.{Ty}
 use Rattle.kernel_tree.specs.declared.ops.Ty.TheVariants.{U64}
@@ -16,25 +16,28 @@ use Rattle.loop_form.specs.declared.loop_item.Source.{Source}
 use Rattle.loop_form.specs.declared.loop_item.Source.TheVariants.{Constant, Made}
 use Rattle.loop_form.specs.Entries.{Content, IsLiteral, IsName, IsRead}
 use Rattle.loop_form.specs.LoopItems.{Bound, Item, source_at, home, truth_home, gather_item, load_item, term_items, cond_items, loop_items_of}
-use Rattle.lane_emit.specs.ItemCode.{made_type}
+use Rattle.lane_emit.specs.ItemCode.{made_type, makes_truth}
 use Rattle.chunk_emit.specs.Chunk.{Setting}
 use Rattle.chunk_emit.specs.Fits.{FitsSource, FitsOperand, FitsTruth}
-use Rattle.chunk_emit.specs.KernelLayout.{held_place, scalar_type, source_type, item_last_use, type_in, layout_of_loop}
+use Rattle.chunk_emit.specs.KernelLayout.{held_place, scalar_type, source_type, item_last_use, type_in, tests_in, truth_last_use, layout_of_loop}
 use Rattle.chunk_emit.specs.LoopFits.{FitsSetting}
 use Rattle.chunk_emit.proofs.FitsKnown.{At}
 use Rattle.chunk_emit.proofs.FitsNames.{binding_at, HomeIs, Names}
+use Rattle.chunk_emit.proofs.FitsNumbers.{IsBefore}
 use Rattle.chunk_emit.proofs.FitsTrees.{KnownValue, KnownTruth}
 use Rattle.kernel_tree.specs.declared.fault.Binding.TheVariants as binding
 
 -- ---- the types of items
 
--- the type of what an item makes is that of its number
-abbrev pub IsTyped : Program → Item → Type 0
-IsTyped k it = type_in (loop_items_of k) it.item ≡ made_type it.op
+-- what an item makes, and its type, are those of its number, and no item stands between it and those after it
+pub record IsTyped (k : Program) (it : Item) (rest : List Item) : Type 0 where
+  pub type : type_in (loop_items_of k) it.item ≡ made_type it.op
+  pub truth : tests_in (loop_items_of k) it.item ≡ makes_truth it.op
+  pub gap : (r : ℕ) → it.item < r → IsBefore r rest → tests_in (loop_items_of k) r ≡ false
 
 abbrev pub AllTyped : Program → List Item → Type 0
 AllTyped k [] = Unit {0}
-AllTyped k (it ∷ items) = IsTyped k it × AllTyped k items
+AllTyped k (it ∷ items) = IsTyped k it items × AllTyped k items
 
 load_typed : (k : Program) (s : Scope) (mask : Option ℕ) (q : ℕ) (env : List Bound) (a : List ℕ) (o : Option ℤ) (gathered rest : List Item) → (AllTyped k gathered → AllTyped k rest) → AllTyped k (load_item s mask q env a o gathered rest) → AllTyped k rest
 load_typed k s mask q env a None gathered rest f h = f h
@@ -120,27 +123,27 @@ module _ (k : Program) (zs ps : Assignment) (f : Setting) (setting : FitsSetting
 
     read_type : (a : List ℕ) (mask : Option ℕ) (q : ℕ) (gathered rest : List Item) (o : Option ℤ) → (AllTyped k gathered → type_in (loop_items_of k) q ≡ array_type S a) → AllTyped k (load_item S mask q env a o gathered rest) → type_in (loop_items_of k) q ≡ array_type S a
     read_type a mask q gathered rest None f h = f h
-    read_type a mask q gathered rest (Some c) f h = h.0
+    read_type a mask q gathered rest (Some c) f h = h.0.type
 
     read_fits : (a : List ℕ) (j : Term) (T : Ty) (mask : Option ℕ) (b u : ℕ) (rest : List Item) → At k (b + index_items i j) (IsRead a j) u (Some T) → array_type S a ≡ Some T → b + index_items i j < u → AllTyped k (term_items S (Some T) mask b env (Element a j) rest) → FitsOperand (layout_of_loop k zs ps) f.w u T (Made (b + index_items i j))
     read_fits a j T mask b u rest at e lt typed =
         let q : ℕ = b + index_items i j in
         let gathered : List Item = term_items S (index_type S j) mask b env j (gather_item S mask b q env a j ∷ rest) in
-        made_fits q u T lt at.known.gives.value_last_use (read_type a mask q gathered rest (stream_offset i j) (λ g. (value_following k j S (index_type S j) mask b env (gather_item S mask b q env a j ∷ rest) g).0) typed ∙ e) (at_width q _ u T at)
+        made_fits q u T lt at.known.gives.value_last_use (read_type a mask q gathered rest (stream_offset i j) (λ g. (value_following k j S (index_type S j) mask b env (gather_item S mask b q env a j ∷ rest) g).0.type) typed ∙ e) (at_width q _ u T at)
 
     -- the value of an expression is in a register until its user
     pub operand_fits : (t : Term) (T : Ty) (mask : Option ℕ) (b u : ℕ) (rest : List Item) → KnownValue k S T b u t → b0 ≤ u → b + term_size i t ≤ u → AllTyped k (term_items S (Some T) mask b env t rest) → FitsOperand (layout_of_loop k zs ps) f.w u T (home i (Some T) b env t)
     operand_fits (Literal n) T mask b u rest h from le typed = literal_fits b u T n h
     operand_fits (Variable x) T mask b u rest h from le typed = (name_fits x T b u from h.0 (binding_at v x) refl h.1, at_width b _ u T h.0)
     operand_fits (Element a j) T mask b u rest h from le typed = read_fits a j T mask b u rest h.0 h.1 (omega (arith, le)) typed
-    operand_fits (Unary op x) T mask b u rest h from le typed = made_fits _ u T (omega (arith, le)) h.1.known.gives.value_last_use (value_following k x S (Some T) mask b env _ typed).0 (at_width _ _ u T h.1)
+    operand_fits (Unary op x) T mask b u rest h from le typed = made_fits _ u T (omega (arith, le)) h.1.known.gives.value_last_use (value_following k x S (Some T) mask b env _ typed).0.type (at_width _ _ u T h.1)
     operand_fits (Operation op x y) T mask b u rest h from le typed =
-        made_fits _ u T (omega (arith, le)) h.2.known.gives.value_last_use (value_following k y S (Some T) mask _ env _ (value_following k x S (Some T) mask b env _ typed)).0 (at_width _ _ u T h.2)
-    operand_fits (Shift to_left x n) T mask b u rest h from le typed = made_fits _ u T (omega (arith, le)) h.1.known.gives.value_last_use (value_following k x S (Some T) mask b env _ typed).0 (at_width _ _ u T h.1)
+        made_fits _ u T (omega (arith, le)) h.2.known.gives.value_last_use (value_following k y S (Some T) mask _ env _ (value_following k x S (Some T) mask b env _ typed)).0.type (at_width _ _ u T h.2)
+    operand_fits (Shift to_left x n) T mask b u rest h from le typed = made_fits _ u T (omega (arith, le)) h.1.known.gives.value_last_use (value_following k x S (Some T) mask b env _ typed).0.type (at_width _ _ u T h.1)
     operand_fits (Conversion x t) T mask b u rest h from le typed =
-        made_fits _ u T (omega (arith, le)) h.3.known.gives.value_last_use ((value_following k x S (own S x) mask b env _ typed).0 ∙ ap Some (sym h.4)) (at_width _ _ u T h.3)
+        made_fits _ u T (omega (arith, le)) h.3.known.gives.value_last_use ((value_following k x S (own S x) mask b env _ typed).0.type ∙ ap Some (sym h.4)) (at_width _ _ u T h.3)
     operand_fits (Choice c x y) T mask b u rest h from le typed =
-        made_fits _ u T (omega (arith, le)) h.3.known.gives.value_last_use (truth_following k c S mask _ env _ (value_following k y S (Some T) mask _ env _ (value_following k x S (Some T) mask b env _ typed))).0 (at_width _ _ u T h.3)
+        made_fits _ u T (omega (arith, le)) h.3.known.gives.value_last_use (truth_following k c S mask _ env _ (value_following k y S (Some T) mask _ env _ (value_following k x S (Some T) mask b env _ typed))).0.type (at_width _ _ u T h.3)
     operand_fits (Comparison op x y) T mask b u rest h from le typed = absurd h
     operand_fits (Both x y) T mask b u rest h from le typed = absurd h
     operand_fits (Either x y) T mask b u rest h from le typed = absurd h
@@ -148,24 +151,64 @@ module _ (k : Program) (zs ps : Assignment) (f : Setting) (setting : FitsSetting
 
 -- ---- conditions
 
+-- a condition is needed no longer than the listing has it, and as long where an item makes it
+pub truth_less : (k : Program) (q : ℕ) → truth_last_use k q ≤ item_last_use k P q
+truth_less k q = by (tests_in (loop_items_of k) q)
+  where
+    by : (b : Bool) → (if b then item_last_use k P q else 0) ≤ item_last_use k P q
+    by true = omega arith
+    by false = omega arith
+
+pub truth_same : (k : Program) (q : ℕ) → tests_in (loop_items_of k) q ≡ true → truth_last_use k q ≡ item_last_use k P q
+truth_same k q e = ap (λ b. if b then item_last_use k P q else 0) e
+
+pub truth_none : (k : Program) (q : ℕ) → tests_in (loop_items_of k) q ≡ false → truth_last_use k q ≡ 0
+truth_none k q e = ap (λ b. if b then item_last_use k P q else 0) e
+
 -- the item of a condition stands among its items, and is used last by `user`
 pub record TruthIs (k : Program) (b user : ℕ) (t : Term) : Type 0 where
   pub before : truth_home (loop_index k) b t < b + term_size (loop_index k) t
-  pub last_use : item_last_use k P (truth_home (loop_index k) b t) ≡ user
+  pub last_use : truth_last_use k (truth_home (loop_index k) b t) ≡ user
 
-pub truth_is : (k : Program) (s : Scope) (t : Term) (b user : ℕ) → KnownTruth k s b user t → TruthIs k b user t
-truth_is k s (Comparison op x y) b user h = record { before = omega arith; last_use = h.4.known.gives.truth_last_use }
-truth_is k s (Both x y) b user h = record { before = omega arith; last_use = h.2.known.gives.truth_last_use }
-truth_is k s (Either x y) b user h = record { before = omega arith; last_use = h.3.known.gives.truth_last_use }
-truth_is k s (Not x) b user h = record { before = omega arith; last_use = h.1.known.gives.truth_last_use }
-truth_is k s (Literal n) b user h = absurd h
-truth_is k s (Variable x) b user h = absurd h
-truth_is k s (Element a j) b user h = absurd h
-truth_is k s (Unary op x) b user h = absurd h
-truth_is k s (Operation op x y) b user h = absurd h
-truth_is k s (Shift to_left x n) b user h = absurd h
-truth_is k s (Conversion x t) b user h = absurd h
-truth_is k s (Choice c x y) b user h = absurd h
+-- its item, before those after it
+record Tested (k : Program) (b : ℕ) (t : Term) (rest : List Item) : Type 0 where
+  made : tests_in (loop_items_of k) (truth_home (loop_index k) b t) ≡ true
+  gap : (r : ℕ) → truth_home (loop_index k) b t < r → IsBefore r rest → tests_in (loop_items_of k) r ≡ false
+
+module _ (k : Program) (v : List Local) (tk : List (List ℕ)) (ins : Bool) where
+  abbrev C : Scope
+  C = record { visible = v; taken = tk; index = loop_index k; inside = ins }
+
+  tested : (t : Term) (mask : Option ℕ) (b user : ℕ) (env : List Bound) (rest : List Item) → KnownTruth k C b user t → AllTyped k (cond_items C mask b env t rest) → Tested k b t rest
+  tested (Comparison op x y) mask b user env rest h typed = let here = (value_following k y C (side_type C x y) mask _ env _ (value_following k x C (side_type C x y) mask b env _ typed)).0 in record { made = here.truth; gap = here.gap }
+  tested (Both x y) mask b user env rest h typed = let here = (truth_following k y C (Some (truth_home (loop_index k) b x)) _ env _ (truth_following k x C mask b env _ typed)).0 in record { made = here.truth; gap = here.gap }
+  tested (Either x y) mask b user env rest h typed = let here = (truth_following k y C (Some (b + term_size (loop_index k) x)) _ env _ (truth_following k x C mask b env _ typed).1).0 in record { made = here.truth; gap = here.gap }
+  tested (Not x) mask b user env rest h typed = let here = (truth_following k x C mask b env _ typed).0 in record { made = here.truth; gap = here.gap }
+  tested (Literal n) mask b user env rest h typed = absurd h
+  tested (Variable x) mask b user env rest h typed = absurd h
+  tested (Element a j) mask b user env rest h typed = absurd h
+  tested (Unary op x) mask b user env rest h typed = absurd h
+  tested (Operation op x y) mask b user env rest h typed = absurd h
+  tested (Shift to_left x n) mask b user env rest h typed = absurd h
+  tested (Conversion x t) mask b user env rest h typed = absurd h
+  tested (Choice c x y) mask b user env rest h typed = absurd h
+
+  used_by : (t : Term) (b user : ℕ) → KnownTruth k C b user t → (truth_home (loop_index k) b t < b + term_size (loop_index k) t) × (item_last_use k P (truth_home (loop_index k) b t) ≡ user)
+  used_by (Comparison op x y) b user h = (omega arith, h.4.known.gives.truth_last_use)
+  used_by (Both x y) b user h = (omega arith, h.2.known.gives.truth_last_use)
+  used_by (Either x y) b user h = (omega arith, h.3.known.gives.truth_last_use)
+  used_by (Not x) b user h = (omega arith, h.1.known.gives.truth_last_use)
+  used_by (Literal n) b user h = absurd h
+  used_by (Variable x) b user h = absurd h
+  used_by (Element a j) b user h = absurd h
+  used_by (Unary op x) b user h = absurd h
+  used_by (Operation op x y) b user h = absurd h
+  used_by (Shift to_left x n) b user h = absurd h
+  used_by (Conversion x t) b user h = absurd h
+  used_by (Choice c x y) b user h = absurd h
+
+  pub truth_is : (t : Term) (mask : Option ℕ) (b user : ℕ) (env : List Bound) (rest : List Item) → KnownTruth k C b user t → AllTyped k (cond_items C mask b env t rest) → TruthIs k b user t
+  truth_is t mask b user env rest h typed = let used = used_by t b user h in record { before = used.0; last_use = truth_same k _ (tested t mask b user env rest h typed).made ∙ used.1 }
 
 pub truth_lasts : (k : Program) (zs ps : Assignment) (t : Term) (b user r : ℕ) → TruthIs k b user t → b + term_size (loop_index k) t ≤ r → r ≤ user → FitsTruth (layout_of_loop k zs ps) r (truth_home (loop_index k) b t)
 truth_lasts k zs ps t b user r h from to = let lt = h.before in let last_use = h.last_use in (omega (arith, lt, from), omega (arith, last_use, to))

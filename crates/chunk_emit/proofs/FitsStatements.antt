@@ -1,27 +1,29 @@
 -- The items of the statements of a checked kernel's loop fit its layout.
-use Rattle.std.proofs.Common.{◌≡◌, ℕ, ◌+◌, ◌≤◌, ℤ, Bool, List, [], ◌∷◌, ◌++◌, length, Option, Some, None, refl, sym, ap, ◌∙◌, subst, arith}
+use Rattle.std.proofs.Common.{◌≡◌, ℕ, ◌+◌, ◌<◌, ◌≤◌, ℤ, Bool, List, [], ◌∷◌, ◌++◌, length, Option, Some, None, refl, sym, ap, ◌∙◌, subst, arith}
 use Rattle.kernel_tree.specs.declared.ops.Ty.{Ty}
 use Rattle.kernel_tree.specs.declared.ops.UpdateOp.{UpdateOp}
-use Rattle.kernel_tree.specs.Plain.{Term, Action, Define, Put, Update, Choose, Leave, Block, Done, Then, Otherwise, Nothing, Else, Program}
+use Rattle.kernel_tree.specs.Plain.{Term, Either, Action, Define, Put, Update, Choose, Leave, Block, Done, Then, Otherwise, Nothing, Else, Program}
 use Rattle.kernel_tree.specs.Items.{stream_offset, term_size, action_size, block_size, otherwise_size, loop_index}
 use Rattle.kernel_tree.specs.Typing.{Scope, Local, local, Value, Condition, lookup, own, first, insert_name, defined, left, after_action, after_block, after_otherwise, faults, target_faults, twice, action_faults, block_faults, otherwise_faults, term_types, action_types, block_types, otherwise_types, array_type}
 use Rattle.kernel_tree.proofs.Faultless.{nil-left, nil-right}
 use Rattle.kernel_tree.proofs.NoFault.{untyped_some, target_some, update_some, stream_some}
-use Rattle.reg_assign.specs.declared.interval.RegClass.TheVariants.{P}
+use Rattle.reg_assign.specs.declared.interval.RegClass.TheVariants.{Z}
 use Rattle.reg_assign.specs.Registers.{Assignment}
 use Rattle.loop_form.specs.declared.loop_item.Source.{Source}
 use Rattle.loop_form.specs.declared.loop_item.Source.TheVariants.{Made}
 use Rattle.loop_form.specs.Entries.{IsLet, IsStore, IsUpdate, IsPlain, term_entries, action_entries, block_entries, otherwise_entries}
-use Rattle.loop_form.specs.LoopItems.{Copy, Add, Invert, Quit, Item, item, Bound, bound, with_bound, accumulator_of, home, truth_home, term_items, store_item, after_env, action_items, block_items, otherwise_items}
+use Rattle.loop_form.specs.LoopItems.{Copy, Add, Invert, Quit, Item, item, Bound, bound, with_bound, accumulator_of, home, truth_home, term_items, store_item, after_env, quit_items, leave_items, action_items, block_items, otherwise_items}
 use Rattle.loop_form.proofs.ItemTypes.{term_matches, action_matches, block_matches, otherwise_matches}
 use Rattle.chunk_emit.specs.Chunk.{Setting}
+use Rattle.chunk_emit.specs.Registers.{Layout}
 use Rattle.chunk_emit.specs.Fits.{FitsTruth}
-use Rattle.chunk_emit.specs.KernelLayout.{item_last_use, layout_of_loop}
+use Rattle.chunk_emit.specs.KernelLayout.{item_last_use, truth_last_use, layout_of_loop}
 use Rattle.chunk_emit.specs.LoopFits.{FitsSetting, FitsSteps}
 use Rattle.chunk_emit.proofs.FitsKnown.{Part, part_left, part_right, part_following, At, at_head}
+use Rattle.chunk_emit.proofs.FitsNumbers.{IsBefore}
 use Rattle.chunk_emit.proofs.FitsNames.{LetHome, Names, names_later, names_more}
-use Rattle.chunk_emit.proofs.FitsTrees.{IsStream, is_stream, value_known, truth_known}
-use Rattle.chunk_emit.proofs.FitsSources.{AllTyped, value_following, truth_following, made_is, truth_is, truth_lasts}
+use Rattle.chunk_emit.proofs.FitsTrees.{KnownTruth, IsStream, is_stream, value_known, truth_known}
+use Rattle.chunk_emit.proofs.FitsSources.{AllTyped, value_following, truth_following, made_is, truth_same, truth_none, truth_is, truth_lasts}
 use Rattle.chunk_emit.proofs.FitsPlaces.{moved, skip, plain_step, IsMasked, plain_casts}
 use Rattle.chunk_emit.proofs.FitsTerms.{value_makes, truth_makes, nothing_made, operand, value_steps, truth_steps}
 use Rattle.chunk_emit.proofs.FitsWrites.{store_ends, store_steps, update_steps}
@@ -34,6 +36,13 @@ store_following : (k : Program) (s : Scope) (mask : Option ℕ) (q : ℕ) (env :
 store_following k s mask q env a None v rest h = h
 store_following k s mask q env a (Some c) v rest h = h.1
 
+quit_following : (k : Program) (c : Term) (s : Scope) (mask : Option ℕ) (b : ℕ) (env : List Bound) (rest : List Item) → AllTyped k (quit_items s mask b env c rest) → AllTyped k rest
+quit_following k c s mask b env rest h = (truth_following k c s mask b env _ h).1
+
+leave_following : (k : Program) (c : Term) (s : Scope) (mask : Option ℕ) (b : ℕ) (env : List Bound) (rest : List Item) → AllTyped k (leave_items s mask b env c rest) → AllTyped k rest
+leave_following k (Either x y) s mask b env rest h = quit_following k y s mask (b + term_size s.index x + 1) env rest (leave_following k x s mask b env _ h)
+leave_following k c s mask b env rest h = quit_following k c s mask b env rest h
+
 mutual
   action_following : (k : Program) (a : Action) (s : Scope) (mask : Option ℕ) (b : ℕ) (env : List Bound) (rest : List Item) → AllTyped k (action_items s mask b env a rest) → AllTyped k rest
   action_following k (Define x t e) s mask b env rest h = (value_following k e s (first t (own s e)) mask b env _ h).1
@@ -43,7 +52,7 @@ mutual
       let inner = b + term_size s.index c + 1 in
       otherwise_following k d (left s (after_block s t)) mask (inner + block_size s.index t) (truth_home s.index b c) env rest
       (block_following k t s (Some (truth_home s.index b c)) inner env _ (truth_following k c s mask b env _ h))
-  action_following k (Leave c) s mask b env rest h = (truth_following k c s mask b env _ h).1
+  action_following k (Leave c) s mask b env rest h = leave_following k c s mask b env rest h
 
   block_following : (k : Program) (t : Block) (s : Scope) (mask : Option ℕ) (b : ℕ) (env : List Bound) (rest : List Item) → AllTyped k (block_items s mask b env t rest) → AllTyped k rest
   block_following k Done s mask b env rest h = h
@@ -85,7 +94,7 @@ module _ (k : Program) (zs ps : Assignment) (f : Setting) (setting : FitsSetting
       let T = w.0 in
       let at = at_head k q (IsLet x) q [] want [] (part_right k (term_entries k b q e) _ (term_types S (Value want) e) _ (term_matches k e S (Value want) b q refl) part) in
       let ti = value_following k e S want mask b env (item q mask (Copy want (home i want b env e)) ∷ rest) types in
-      let new : LetHome k (b + action_size i (Define x t e)) x T (Made q) = record { item = q; is = refl; before = omega arith; type = made_is k q T (ti.0 ∙ w.1); from = q; last_use = at.known.gives.value_last_use } in
+      let new : LetHome k (b + action_size i (Define x t e)) x T (Made q) = record { item = q; is = refl; before = omega arith; type = made_is k q T (ti.0.type ∙ w.1); from = q; last_use = at.known.gives.value_last_use } in
       record {
         visible = v ++ local x (binding.Value T) ∷ [];
         taken = insert_name tk x;
@@ -120,7 +129,7 @@ module _ (k : Program) (zs ps : Assignment) (f : Setting) (setting : FitsSetting
         let ti = value_following k e S (Some T) mask b env last types in
         let here =
         plain_step L f q p mask act rest number (masked q (omega arith) (omega (arith, number)))
-        (operand k zs ps f setting few v tk ins b env names e T mask b q last known (omega arith) (omega arith) types, value_makes k zs ps f setting few q T at.known.gives.truth_last_use ti.0) (λ r next. refl) following in
+        (operand k zs ps f setting few v tk ins b env names e T mask b q last known (omega arith) (omega arith) types, value_makes k zs ps f setting few q T at.known.gives.truth_last_use ti.0.type) (λ r next. refl) following in
         value_steps k zs ps f setting few v tk ins b env names e T mask b q last known (omega arith) (omega arith) types (λ r lo hi. masked r lo (omega (arith, hi, number))) (plain_casts L b last refl) here
 
     put_steps : (a : List ℕ) (j e : Term) (mask : Option ℕ) (g p : ℕ) (rest : List Item) (o : Option Ty) (T : Ty) → array_type S a ≡ o → o ≡ Some T → IsStream i j → faults S g (Value o) e ≡ [] → Part k (term_entries k b (b + term_size i e) e) (term_types S (Value o) e)
@@ -150,17 +159,38 @@ module _ (k : Program) (zs ps : Assignment) (f : Setting) (setting : FitsSetting
         let here = update_steps k zs ps f setting few v tk ins b env names x op T mask q p (home i (Some T) b env e) rest at is value (masked q (omega arith) (omega (arith, number))) number following in
         value_steps k zs ps f setting few v tk ins b env names e T mask b q last known (omega arith) (omega arith) types (λ r lo hi. masked r lo (omega (arith, hi, number))) (plain_casts L b last refl) here
 
-    leave_steps : (c : Term) (mask : Option ℕ) (g p : ℕ) (rest : List Item) → faults S g Condition c ≡ [] → Part k (action_entries k b (Leave c)) (action_types S (Leave c)) → p ≡ b + term_size i c + 1 → AllTyped k (action_items S mask b env (Leave c) rest) → IsMasked (layout_of_loop k zs ps) b p mask
-        → FitsSteps (layout_of_loop k zs ps) f p rest → FitsSteps (layout_of_loop k zs ps) f b (action_items S mask b env (Leave c) rest)
-    leave_steps c mask g p rest none part number types masked following =
+    -- a break on one condition, whose items begin at b1 and which item u uses in the listing
+    quit_steps : (c : Term) (mask : Option ℕ) (b1 u p : ℕ) (rest : List Item) → KnownTruth k S b1 u c → b ≤ b1 → item_last_use k Z (b1 + term_size i c) ≡ 0 → b1 + term_size i c ≤ u → p ≡ b1 + term_size i c + 1 → AllTyped k (quit_items S mask b1 env c rest) → IsMasked (layout_of_loop k zs ps) b1 p mask
+        → FitsSteps (layout_of_loop k zs ps) f p rest → FitsSteps (layout_of_loop k zs ps) f b1 (quit_items S mask b1 env c rest)
+    quit_steps c mask b1 u p rest known from value le number types masked following =
         let L = layout_of_loop k zs ps in
-        let q = b + term_size i c in
-        let m = term_matches k c S Condition b q refl in
-        let known = truth_known k v tk ins c g b q none (part_left k (term_entries k b q c) _ _ _ m part) in
-        let at = at_head k q (IsPlain kind.Break) q [] None [] (part_right k (term_entries k b q c) _ _ _ m part) in
-        let used = truth_lasts k zs ps c b q q (truth_is k S c b q known) (omega arith) (omega arith) in
-        let here = plain_step L f q p mask (Quit (truth_home i b c)) rest number (masked q (omega arith) (omega (arith, number))) (used, nothing_made k zs ps f setting few q at.known.gives.value_last_use at.known.gives.truth_last_use) (λ r next. refl) following in
-        truth_steps k zs ps f setting few v tk ins b env names c mask b q (item q mask (Quit (truth_home i b c)) ∷ rest) known (omega arith) types (λ r lo hi. masked r lo (omega (arith, hi, number))) here
+        let q = b1 + term_size i c in
+        let last = item q mask (Quit (truth_home i b1 c)) ∷ rest in
+        let truth : truth_last_use k q ≡ 0 = truth_none k q (truth_following k c S mask b1 env last types).0.truth in
+        let used = truth_lasts k zs ps c b1 u q (truth_is k v tk ins c mask b1 u env last known types) (omega arith) le in
+        let here = plain_step L f q p mask (Quit (truth_home i b1 c)) rest number (masked q (omega arith) (omega (arith, number))) (used, (omega (arith, value), omega (arith, truth))) (λ r next. refl) following in
+        truth_steps k zs ps f setting few v tk ins b env names c mask b1 u last known from types (λ r lo hi. masked r lo (omega (arith, hi, number))) here
+
+    -- a number before that of the first item makes no condition where none stands there
+    starts : (l : Layout) (p r : ℕ) (items : List Item) → r < p → FitsSteps l f p items → IsBefore r items
+    starts l p r [] lt h = tt
+    starts l p r (it ∷ items) lt h = let a = h.0 in omega (arith, a, lt)
+
+    leave_steps : (c : Term) (mask : Option ℕ) (b1 u p : ℕ) (rest : List Item) → KnownTruth k S b1 u c → b ≤ b1 → item_last_use k Z (b1 + term_size i c) ≡ 0 → b1 + term_size i c ≤ u → p ≡ b1 + term_size i c + 1 → AllTyped k (leave_items S mask b1 env c rest) → IsMasked (layout_of_loop k zs ps) b1 p mask
+        → FitsSteps (layout_of_loop k zs ps) f p rest → FitsSteps (layout_of_loop k zs ps) f b1 (leave_items S mask b1 env c rest)
+    leave_steps (Either x y) mask b1 u p rest known from value le number types masked following =
+        let L = layout_of_loop k zs ps in
+        let mark = b1 + term_size i x in let q = mark + 1 + term_size i y in
+        let second = quit_items S mask (mark + 1) env y rest in
+        let typed : AllTyped k second = leave_following k x S mask b1 env second types in
+        let quit = (truth_following k y S mask (mark + 1) env (item q mask (Quit (truth_home i (mark + 1) y)) ∷ rest) typed).0 in
+        let same : b1 + term_size i (Either x y) ≡ q + 1 = omega arith in
+        let past : item_last_use k Z (q + 1) ≡ 0 = ap (item_last_use k Z) (sym same) ∙ value in
+        let truth : truth_last_use k (q + 1) ≡ 0 = truth_none k (q + 1) (quit.gap (q + 1) (omega arith) (starts L p (q + 1) rest (omega (arith, number)) following)) in
+        let later : FitsSteps L f (q + 1) rest = skip L f (q + 1) rest (omega (arith, past), omega (arith, truth)) (moved L f p (q + 1 + 1) rest (omega (arith, number)) following) in
+        let steps = quit_steps y mask (mark + 1) q (q + 1) rest known.2 (omega (arith, from)) known.3.known.gives.value_last_use (omega arith) refl typed (λ r lo hi. masked r (omega (arith, lo)) (omega (arith, hi, number))) later in
+        leave_steps x mask b1 q (mark + 1) second known.0 from known.1.known.gives.value_last_use (omega arith) refl types (λ r lo hi. masked r lo (omega (arith, hi, number))) steps
+    leave_steps c mask b1 u p rest known from value le number types masked following = quit_steps c mask b1 u p rest known from value le number types masked following
 
   -- ---- statements and blocks
 
@@ -213,9 +243,9 @@ module _ (k : Program) (zs ps : Assignment) (f : Setting) (setting : FitsSetting
         let at_end = at_head k end (IsPlain kind.End) end [] None [] (part_right k (otherwise_entries k second end d) _ _ _ md part4) in
         let none2 = nil-right (faults S g Condition c) _ none in
         let known = truth_known k v tk ins c g b second (nil-left (faults S g Condition c) _ none) (part_left k (term_entries k b second c) _ _ _ m part) in
-        let is = truth_is k S c b second known in
         let last = otherwise_items S2 mask second picked env d rest in
         let middle = block_items S (Some picked) inner env t last in
+        let is = truth_is k v tk ins c mask b second env middle known types in
         let types2 = truth_following k c S mask b env middle types in
         let types3 = block_following k t S (Some picked) inner env last types2 in
         let following2 = skip L f end rest (nothing_made k zs ps f setting few end at_end.known.gives.value_last_use at_end.known.gives.truth_last_use) (moved L f (b + action_size i (Choose c t d)) (end + 1) rest (omega arith) following) in
@@ -226,7 +256,12 @@ module _ (k : Program) (zs ps : Assignment) (f : Setting) (setting : FitsSetting
         block_steps t v tk ins env (Some picked) inner (g + term_size i c + 1) last (names_later k b inner v env (omega arith) names) (nil-left (block_faults S (g + term_size i c + 1) t) _ none2) (part_left k (block_entries k inner t) _ _ _ mt part3) types2
         (λ r lo hi. truth_lasts k zs ps c b second r is (omega (arith, lo)) (omega (arith, hi))) steps3 in
         truth_steps k zs ps f setting few v tk ins b env names c mask b second middle known (omega arith) types (λ r lo hi. masked r lo (omega (arith, hi))) (skip L f then middle (nothing_made k zs ps f setting few then at_then.known.gives.value_last_use at_then.known.gives.truth_last_use) steps2)
-    action_steps (Leave c) v tk ins env mask b g rest names none part types masked following = leave_steps v tk ins b env names c mask g (b + action_size i (Leave c)) rest none part (omega arith) types masked following
+    action_steps (Leave c) v tk ins env mask b g rest names none part types masked following =
+        let q = b + term_size i c in
+        let m = term_matches k c (scope v tk ins) Condition b q refl in
+        let known = truth_known k v tk ins c g b q none (part_left k (term_entries k b q c) _ _ _ m part) in
+        let at = at_head k q (IsPlain kind.Break) q [] None [] (part_right k (term_entries k b q c) _ _ _ m part) in
+        leave_steps v tk ins b env names c mask b q (b + action_size i (Leave c)) rest known (omega arith) at.known.gives.value_last_use (omega arith) (omega arith) types masked following
 
     pub block_steps : (t : Block) (v : List Local) (tk : List (List ℕ)) (ins : Bool) (env : List Bound) (mask : Option ℕ) (b g : ℕ) (rest : List Item) → Names k b v env → block_faults (scope v tk ins) g t ≡ [] → Part k (block_entries k b t) (block_types (scope v tk ins) t) → AllTyped k (block_items (scope v tk ins) mask b env t rest)
         → IsMasked (layout_of_loop k zs ps) b (b + block_size i t) mask → FitsSteps (layout_of_loop k zs ps) f (b + block_size i t) rest → FitsSteps (layout_of_loop k zs ps) f b (block_items (scope v tk ins) mask b env t rest)
@@ -258,7 +293,7 @@ module _ (k : Program) (zs ps : Assignment) (f : Setting) (setting : FitsSetting
         let L = layout_of_loop k zs ps in
         let S = scope v tk ins in
         let at = at_head k b (IsPlain kind.Else) end _ None _ part in
-        let last_use : item_last_use k P b ≡ end = at.known.gives.truth_last_use in
+        let last_use : truth_last_use k b ≡ end = truth_same k b types.0.truth ∙ at.known.gives.truth_last_use in
         let later = block_items S (Some b) (b + 1) env t rest in
         let steps_t =
         block_steps t v tk ins env (Some b) (b + 1) (g + 1) rest (names_later k b (b + 1) v env (omega arith) names) none (part_following k _ _ None _ part) types.1 (λ r lo hi. (omega (arith, lo), omega (arith, hi, last_use, number)))

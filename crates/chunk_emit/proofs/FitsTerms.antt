@@ -24,13 +24,13 @@ use Rattle.loop_form.specs.Lanes.{lane_width_of}
 use Rattle.loop_form.specs.Reaches.{reach_of_type}
 use Rattle.guest_types.specs.declared.length.Width.TheVariants.{D}
 use Rattle.chunk_emit.specs.Fits.{IsNear, FitsMask, FitsOperand, FitsBase, MakesValue, MakesTruth, MakesNothing}
-use Rattle.chunk_emit.specs.KernelLayout.{item_last_use, type_in, layout_of_loop}
+use Rattle.chunk_emit.specs.KernelLayout.{item_last_use, truth_last_use, type_in, layout_of_loop}
 use Rattle.chunk_emit.specs.LoopFits.{FitsSetting, FitsSteps}
 use Rattle.chunk_emit.proofs.FitsBases.{base_fits}
 use Rattle.chunk_emit.proofs.FitsKnown.{At}
 use Rattle.chunk_emit.proofs.FitsNames.{binding_at, HomeIs, Names}
 use Rattle.chunk_emit.proofs.FitsTrees.{IndexBy, KnownValue, KnownTruth}
-use Rattle.chunk_emit.proofs.FitsSources.{AllTyped, value_following, truth_following, made_is, at_width, operand_fits, truth_is, truth_lasts}
+use Rattle.chunk_emit.proofs.FitsSources.{AllTyped, value_following, truth_following, made_is, at_width, operand_fits, truth_less, truth_same, truth_is, truth_lasts}
 use Rattle.chunk_emit.proofs.FitsPlaces.{NoStore, moved, skip, step, plain_step, IsMasked, CastsEnd, plain_casts, value_plain, truth_plain}
 
 -- a count of a shift that the type allows
@@ -43,13 +43,13 @@ module _ (k : Program) (zs ps : Assignment) (f : Setting) (setting : FitsSetting
   i = loop_index k
 
   pub value_makes : (q : ℕ) (T : Ty) → item_last_use k P q ≡ 0 → type_in (loop_items_of k) q ≡ Some T → MakesValue (layout_of_loop k zs ps) q T
-  value_makes q T last_use type = (omega (arith, last_use), made_is k q T type)
+  value_makes q T last_use type = (let less = truth_less k q in omega (arith, last_use, less), made_is k q T type)
 
   pub truth_makes : (q : ℕ) → item_last_use k Z q ≡ 0 → MakesTruth (layout_of_loop k zs ps) q
   truth_makes q last_use = omega (arith, last_use)
 
   pub nothing_made : (q : ℕ) → item_last_use k Z q ≡ 0 → item_last_use k P q ≡ 0 → MakesNothing (layout_of_loop k zs ps) q
-  nothing_made q z p = (omega (arith, z), omega (arith, p))
+  nothing_made q z p = (omega (arith, z), let less = truth_less k q in omega (arith, p, less))
 
   module _ (v : List Local) (tk : List (List ℕ)) (ins : Bool) (b0 : ℕ) (env : List Bound) (names : Names k b0 v env) where
     abbrev S : Scope
@@ -80,7 +80,7 @@ module _ (k : Program) (zs ps : Assignment) (f : Setting) (setting : FitsSetting
         let last_use : item_last_use k Z q ≡ u = at.known.gives.value_last_use in
         let here =
         plain_step L f q p mask (Load a (source_at env a) (Some T) c) rest number (masked q (omega arith) (omega (arith, number)))
-        (array_fits a T (same ∙ e), near, at_width k zs ps f setting q (IsRead a j) u T at, omega (arith, last_use, lt), value_makes q T at.known.gives.truth_last_use (typed.0 ∙ same ∙ e)) (λ r next. refl) following in
+        (array_fits a T (same ∙ e), near, at_width k zs ps f setting q (IsRead a j) u T at, omega (arith, last_use, lt), value_makes q T at.known.gives.truth_last_use (typed.0.type ∙ same ∙ e)) (λ r next. refl) following in
         subst (λ z. FitsSteps L f q (item q mask (Load a (source_at env a) z c) ∷ rest)) (sym (same ∙ e)) here
 
     -- a read at a computed index, whose index fits
@@ -113,7 +113,7 @@ module _ (k : Program) (zs ps : Assignment) (f : Setting) (setting : FitsSetting
         let ti = value_following k x S (Some U) mask b env last typed2 in
         let wide = subst (λ z. bits_of z ≤ width_bits f.w) same (at_width k zs ps f setting q (IsPlain kind.Cast) u T at) in
         let here =
-        step L f q p mask act rest number (masked q (omega arith) (omega (arith, number))) (operand x U mask b q last h from (omega arith) typed2, wide, value_makes q t at.known.gives.truth_last_use ti.0) (casts (item q mask act) (omega arith)) following in
+        step L f q p mask act rest number (masked q (omega arith) (omega (arith, number))) (operand x U mask b q last h from (omega arith) typed2, wide, value_makes q t at.known.gives.truth_last_use ti.0.type) (casts (item q mask act) (omega arith)) following in
         subst (λ z. FitsSteps L f b (term_items S z mask b env x (item q mask (Cast z t (home i z b env x)) ∷ rest))) (sym e) (before last typed2 (plain_casts L b last refl, here))
 
     test_steps : (op : CompareOp) (x y : Term) (mask : Option ℕ) (b u p : ℕ) (rest : List Item) (o : Option Ty) (U : Ty) → o ≡ Some U → KnownValue k S U b (b + term_size i x + term_size i y) x → KnownValue k S U (b + term_size i x) (b + term_size i x + term_size i y) y
@@ -152,7 +152,7 @@ module _ (k : Program) (zs ps : Assignment) (f : Setting) (setting : FitsSetting
         let last : List Item = gather_item S mask b q env a j ∷ rest in
         let typed2 : AllTyped k (term_items S (Some known.0) mask b env j last) = subst (λ w. AllTyped k (term_items S w mask b env j last)) known.1 typed in
         let fits = operand j known.0 mask b q last known.2 (omega (arith, from)) (omega arith) typed2 in
-        let mine : type_in (loop_items_of k) q ≡ array_type S a = (value_following k j S (Some known.0) mask b env last typed2).0 in
+        let mine : type_in (loop_items_of k) q ≡ array_type S a = (value_following k j S (Some known.0) mask b env last typed2).0.type in
         let here = gather_step a j T known.0 mask b q p u rest at array known.1 known.3 (omega (arith, lt)) (omega (arith, number)) fits mine (masked q (omega arith) (omega (arith, number))) following in
         subst (λ w. FitsSteps (layout_of_loop k zs ps) f b (term_items S w mask b env j last)) (sym known.1)
         (more known.0 last known.2 typed2 (λ r lo hi. masked r lo (omega (arith, number, hi))) (refl, here))
@@ -171,7 +171,7 @@ module _ (k : Program) (zs ps : Assignment) (f : Setting) (setting : FitsSetting
           let act = Apply op (Some T) (home i (Some T) b env x) in
           let last = item q mask act ∷ rest in
           let ti = value_following k x S (Some T) mask b env last typed in
-          let here = plain_step L f q (b + term_size i (Unary op x)) mask act rest (omega arith) (masked q (omega arith) (omega arith)) (operand x T mask b q last h.0 (omega (arith, from)) (omega arith) typed, value_makes q T h.1.known.gives.truth_last_use ti.0) (λ r next. refl) following in
+          let here = plain_step L f q (b + term_size i (Unary op x)) mask act rest (omega arith) (masked q (omega arith) (omega arith)) (operand x T mask b q last h.0 (omega (arith, from)) (omega arith) typed, value_makes q T h.1.known.gives.truth_last_use ti.0.type) (λ r next. refl) following in
           value_steps x T mask b q last h.0 from (omega arith) typed (λ r lo hi. masked r lo (omega (arith, hi))) (plain_casts L b last refl) here
       value_steps (Operation op x y) T mask b u rest h from le typed masked casts following =
           let L = layout_of_loop k zs ps in
@@ -183,7 +183,7 @@ module _ (k : Program) (zs ps : Assignment) (f : Setting) (setting : FitsSetting
           let ti = value_following k y S (Some T) mask b1 env last ty in
           let ox = operand x T mask b q later h.0 (omega (arith, from)) (omega arith) typed in
           let oy = operand y T mask b1 q last h.1 (omega (arith, from)) (omega arith) ty in
-          let here = plain_step L f q (b + term_size i (Operation op x y)) mask act rest (omega arith) (masked q (omega arith) (omega arith)) (ox, oy, value_makes q T h.2.known.gives.truth_last_use ti.0) (λ r next. refl) following in
+          let here = plain_step L f q (b + term_size i (Operation op x y)) mask act rest (omega arith) (masked q (omega arith) (omega arith)) (ox, oy, value_makes q T h.2.known.gives.truth_last_use ti.0.type) (λ r next. refl) following in
           let second = value_steps y T mask b1 q last h.1 (omega (arith, from)) (omega arith) ty (λ r lo hi. masked r (omega (arith, lo)) (omega (arith, hi))) (plain_casts L b1 last refl) here in
           value_steps x T mask b q later h.0 from (omega arith) typed (λ r lo hi. masked r lo (omega (arith, hi))) (plain_casts L b later (value_plain y S (Some T) mask b1 env last refl)) second
       value_steps (Shift to_left x n) T mask b u rest h from le typed masked casts following =
@@ -196,7 +196,7 @@ module _ (k : Program) (zs ps : Assignment) (f : Setting) (setting : FitsSetting
           let count = count_below n (bits_of T) h.2 in
           let here =
           plain_step L f q (b + term_size i (Shift to_left x n)) mask act rest (omega arith) (masked q (omega arith) (omega arith))
-          (operand x T mask b q last h.0 (omega (arith, from)) (omega arith) typed, omega (arith, wide, count), value_makes q T h.1.known.gives.truth_last_use ti.0) (λ r next. refl) following in
+          (operand x T mask b q last h.0 (omega (arith, from)) (omega arith) typed, omega (arith, wide, count), value_makes q T h.1.known.gives.truth_last_use ti.0.type) (λ r next. refl) following in
           value_steps x T mask b q last h.0 from (omega arith) typed (λ r lo hi. masked r lo (omega (arith, hi))) (plain_casts L b last refl) here
       value_steps (Conversion x t) T mask b u rest h from le typed masked casts following =
           cast_steps x t T mask b u (b + term_size i (Conversion x t)) rest (own S x) h.0 h.1 h.2 h.3 h.4 (omega (arith, from)) (omega arith) typed masked casts following (λ last ty here. value_steps x h.0 mask b (b + term_size i x) last h.2 from (omega arith) ty (λ r lo hi. masked r lo (omega (arith, hi))) here.0 here.1)
@@ -212,8 +212,8 @@ module _ (k : Program) (zs ps : Assignment) (f : Setting) (setting : FitsSetting
           let ti = truth_following k c S mask b2 env last tc in
           let ox = operand x T mask b q later h.0 (omega (arith, from)) (omega arith) typed in
           let oy = operand y T mask b1 q chosen h.1 (omega (arith, from)) (omega arith) ty in
-          let oc = truth_lasts k zs ps c b2 q q (truth_is k S c b2 q h.2) (omega arith) (omega arith) in
-          let here = plain_step L f q (b + term_size i (Choice c x y)) mask act rest (omega arith) (masked q (omega arith) (omega arith)) (oc, ox, oy, value_makes q T h.3.known.gives.truth_last_use ti.0) (λ r next. refl) following in
+          let oc = truth_lasts k zs ps c b2 q q (truth_is k v tk ins c mask b2 q env last h.2 tc) (omega arith) (omega arith) in
+          let here = plain_step L f q (b + term_size i (Choice c x y)) mask act rest (omega arith) (masked q (omega arith) (omega arith)) (oc, ox, oy, value_makes q T h.3.known.gives.truth_last_use ti.0.type) (λ r next. refl) following in
           let third = truth_steps c mask b2 q last h.2 (omega (arith, from)) tc (λ r lo hi. masked r (omega (arith, lo)) (omega (arith, hi))) here in
           let second = value_steps y T mask b1 q chosen h.1 (omega (arith, from)) (omega arith) ty (λ r lo hi. masked r (omega (arith, lo)) (omega (arith, hi))) (plain_casts L b1 chosen (truth_plain c S mask b2 env last refl)) third in
           value_steps x T mask b q later h.0 from (omega arith) typed (λ r lo hi. masked r lo (omega (arith, hi))) (plain_casts L b later (value_plain y S (Some T) mask b1 env chosen (truth_plain c S mask b2 env last refl))) second
@@ -235,8 +235,8 @@ module _ (k : Program) (zs ps : Assignment) (f : Setting) (setting : FitsSetting
           let last = item q mask act ∷ rest in
           let later = cond_items S (Some (truth_home i b x)) b1 env y last in
           let ty = truth_following k x S mask b env later typed in
-          let tx = truth_is k S x b q h.0 in
-          let oy = truth_lasts k zs ps y b1 q q (truth_is k S y b1 q h.1) (omega arith) (omega arith) in
+          let tx = truth_is k v tk ins x mask b q env later h.0 typed in
+          let oy = truth_lasts k zs ps y b1 q q (truth_is k v tk ins y (Some (truth_home i b x)) b1 q env last h.1 ty) (omega arith) (omega arith) in
           let here = plain_step L f q (b + term_size i (Both x y)) mask act rest (omega arith) (masked q (omega arith) (omega arith)) (oy, truth_makes q h.2.known.gives.value_last_use) (λ r next. refl) following in
           let second = truth_steps y (Some (truth_home i b x)) b1 q last h.1 (omega (arith, from)) ty (λ r lo hi. truth_lasts k zs ps x b q r tx lo (omega (arith, hi))) here in
           truth_steps x mask b q later h.0 from typed (λ r lo hi. masked r lo (omega (arith, hi))) second
@@ -247,11 +247,11 @@ module _ (k : Program) (zs ps : Assignment) (f : Setting) (setting : FitsSetting
           let last = item q mask act ∷ rest in
           let later = cond_items S (Some mark) (mark + 1) env y last in
           let tm = truth_following k x S mask b env (item mark mask (Invert (truth_home i b x)) ∷ later) typed in
-          let tx = truth_is k S x b q h.0 in
+          let tx = truth_is k v tk ins x mask b q env (item mark mask (Invert (truth_home i b x)) ∷ later) h.0 typed in
           let ox = truth_lasts k zs ps x b q q tx (omega arith) (omega arith) in
           let om = truth_lasts k zs ps x b q mark tx (omega arith) (omega arith) in
-          let oy = truth_lasts k zs ps y (mark + 1) q q (truth_is k S y (mark + 1) q h.2) (omega arith) (omega arith) in
-          let last_use : item_last_use k P mark ≡ q = h.1.known.gives.truth_last_use in
+          let oy = truth_lasts k zs ps y (mark + 1) q q (truth_is k v tk ins y (Some mark) (mark + 1) q env last h.2 tm.1) (omega arith) (omega arith) in
+          let last_use : truth_last_use k mark ≡ q = truth_same k mark tm.0.truth ∙ h.1.known.gives.truth_last_use in
           let here = plain_step L f q (b + term_size i (Either x y)) mask act rest (omega arith) (masked q (omega arith) (omega arith)) (ox, oy, truth_makes q h.3.known.gives.value_last_use) (λ r next. refl) following in
           let second = truth_steps y (Some mark) (mark + 1) q last h.2 (omega (arith, from)) tm.1 (λ r lo hi. (omega (arith, lo), omega (arith, hi, last_use))) here in
           let marked = plain_step L f mark (mark + 1) mask (Invert (truth_home i b x)) later refl (masked mark (omega arith) (omega arith)) (om, truth_makes mark h.1.known.gives.value_last_use) (λ r next. refl) second in
@@ -260,7 +260,7 @@ module _ (k : Program) (zs ps : Assignment) (f : Setting) (setting : FitsSetting
           let L = layout_of_loop k zs ps in
           let q = b + term_size i x in
           let act = Invert (truth_home i b x) in
-          let ox = truth_lasts k zs ps x b q q (truth_is k S x b q h.0) (omega arith) (omega arith) in
+          let ox = truth_lasts k zs ps x b q q (truth_is k v tk ins x mask b q env (item q mask act ∷ rest) h.0 typed) (omega arith) (omega arith) in
           let here = plain_step L f q (b + term_size i (Not x)) mask act rest (omega arith) (masked q (omega arith) (omega arith)) (ox, truth_makes q h.1.known.gives.value_last_use) (λ r next. refl) following in
           truth_steps x mask b q (item q mask act ∷ rest) h.0 from typed (λ r lo hi. masked r lo (omega (arith, hi))) here
       truth_steps (Literal n) mask b u rest h from typed masked following = absurd h

@@ -1,5 +1,5 @@
 -- Where the values of a kernel's loop are kept, by the registers of their intervals: Z0 to Z29, and P2 to P7.
-use Rattle.std.specs.Prelude.{ℕ, ◌-◌, List, [], ◌∷◌, map, Option, Some, None, is_some, unwrap_or, nat_eq, slice_get, slice_index, if◌then◌else◌}
+use Rattle.std.specs.Prelude.{ℕ, ◌-◌, Bool, false, List, [], ◌∷◌, map, Option, Some, None, is_some, unwrap_or, nat_eq, slice_get, slice_index, if◌then◌else◌}
 use Rattle.std.specs.List.{find}
 use Rattle.kernel_tree.specs.declared.ops.Ty.{Ty}
 use Rattle.kernel_tree.specs.declared.ops.Ty.TheVariants.{U64}
@@ -19,7 +19,7 @@ use Rattle.loop_form.specs.Lanes.{var_type}
 use Rattle.loop_form.specs.Listing.{last_use_in}
 use Rattle.loop_form.specs.LoopItems.{Item, loop_items_of}
 use Rattle.loop_form.specs.Needs.{updates}
-use Rattle.lane_emit.specs.ItemCode.{made_type}
+use Rattle.lane_emit.specs.ItemCode.{made_type, makes_truth}
 pub use Rattle.lane_emit.specs.LoopRegisters.{register_of, flat, item_place, throughout_of, is_same, next_place, place_in, place_of_one, held_place, sum_place, source_register, predicate_register}
 use Rattle.chunk_emit.specs.Registers.{Layout}
 
@@ -36,6 +36,16 @@ item_last_use k class q = slice_index (map (last_in class (entries_of k)) (loop_
 abbrev pub type_in : List Item → ℕ → Option Ty
 type_in [] q = None
 type_in (it ∷ items) q = if nat_eq it.item q then made_type it.op else type_in items q
+
+-- whether the item with a number makes a condition
+abbrev pub tests_in : List Item → ℕ → Bool
+tests_in [] q = false
+tests_in (it ∷ items) q = if nat_eq it.item q then makes_truth it.op else tests_in items q
+
+-- The item that uses the condition of an item last, or 0 where it makes none: so it is of the mark and of the `||` of a break, in
+-- whose places there are breaks.
+abbrev pub truth_last_use : Program → ℕ → ℕ
+truth_last_use k q = if tests_in (loop_items_of k) q then item_last_use k P q else 0
 
 -- ---- values from before the loop
 
@@ -76,7 +86,7 @@ layout_of_loop k a b = record {
   registers = record { source = source_register k a; z = λ q. source_register k a (Made q); p = predicate_register k b };
   type = source_type k;
   z_last_use = item_last_use k Z;
-  p_last_use = item_last_use k P;
+  p_last_use = truth_last_use k;
   held = λ x. is_some (held_place k x);
   updated = λ x. is_some (sum_place k x);
   update = update_of k;

@@ -198,8 +198,8 @@ fn emit_update(
     Ok(())
 }
 
-// Whether an operation makes a condition.
-fn makes_truth(op: &LoopOp<'_>) -> bool
+/// Whether an operation makes a condition.
+pub fn makes_truth(op: &LoopOp<'_>) -> bool
     ensures { result ≡ lane.makes_truth (op_of op.now) }
 {
     matches!(

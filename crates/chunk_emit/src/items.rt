@@ -63,8 +63,8 @@ fn choose<'a>(item: LoopItem<'a>, next: Option<LoopItem<'a>>) -> (LoopItem<'a>, 
     }
 }
 
-/// The item at a place.
-pub fn item_at<'a>(items: &[LoopItem<'a>], place: usize) -> Option<LoopItem<'a>>
+// The item at a place.
+fn item_at<'a>(items: &[LoopItem<'a>], place: usize) -> Option<LoopItem<'a>>
     ensures { result ≡ slice_get items.now place }
 {
     items.get(place).copied()

@@ -4,15 +4,19 @@ ghost use Rattle.std.specs.Prelude.{◌≡◌, ◌+◌, ◌-◌, ◌≤◌, map,
 ghost use Rattle.reg_assign.specs.declared.interval.RegClass.TheVariants as class;
 ghost use Rattle.loop_form.specs.Entries.{entries_of, loop_entries};
 ghost use Rattle.loop_form.specs.Lanes.{lane_width_of};
+ghost use Rattle.loop_form.specs.LoopItems.{loop_items_of};
+ghost use Rattle.loop_form.specs.LoopView as loops;
 ghost use Rattle.loop_form.specs.Registers.{FitsKernel};
 ghost use Rattle.loop_form.specs.View.{program};
-ghost use Rattle.chunk_emit.specs.KernelLayout.{last_in};
+ghost use Rattle.chunk_emit.specs.KernelLayout.{last_in, tests_in};
 ghost use Rattle.chunk_emit.specs.LastUses.{z_last, p_last};
 
+use crate::emit::makes_truth;
 use guest_types::length::Width;
 use kernel_tree::Checked;
 use lane_emit::{LaneRegisters, lane_registers};
-use loop_form::Item;
+use loop_form::{Item, LoopItem};
+use loop_items::loop_items;
 use loop_lists::{lane_width, listing};
 use reg_assign::VectorRegs;
 use std::alloc::{AllocError, Global};
@@ -22,9 +26,11 @@ use std::alloc::{AllocError, Global};
 pub struct LoopLayout<'a> {
     pub registers: LaneRegisters<'a>,
     width: Width,
+    items: Vec<LoopItem<'a>>,
     values: Vec<u32>,
     truths: Vec<u32>,
     pub ghost sized: { width ≡ lane_width_of (program registers.kernel.now) },
+    pub ghost made: { loops.view items.items ≡ loop_items_of (program registers.kernel.now) },
     pub ghost valued: { let k = program registers.kernel.now in
         values.items ≡ map (last_in class.Z (entries_of k)) (loop_entries k) },
     pub ghost tested: { let k = program registers.kernel.now in
@@ -37,6 +43,18 @@ fn last_use(untils: &[u32], first: u32, item: u32) -> u32
 {
     let number = item.saturating_sub(first) as usize;
     untils.get(number).copied().unwrap_or(0)
+}
+
+// Whether the item with a number makes a condition.
+fn tests(items: &[LoopItem<'_>], number: u32) -> bool
+    ensures { result ≡ tests_in (loops.view items.now) number }
+{
+    for item in items {
+        if item.item == number {
+            return makes_truth(&item.op);
+        }
+    }
+    false
 }
 
 impl LoopLayout<'_> {
@@ -60,14 +78,8 @@ impl LoopLayout<'_> {
     pub fn is_truth_used(&self, item: u32) -> bool
         ensures { result ≡ nat_lt item ((layout_in self.now).p_last_use item) }
     {
-        item < last_use(&self.truths, self.registers.first(), item)
-    }
-
-    /// The item that uses an item's condition last, or 0 where it makes none.
-    pub fn truth_last_use(&self, item: u32) -> u32
-        ensures { result ≡ (layout_in self.now).p_last_use item }
-    {
-        last_use(&self.truths, self.registers.first(), item)
+        let last = last_use(&self.truths, self.registers.first(), item);
+        tests(&self.items, item) && item < last
     }
 }
 
@@ -119,10 +131,12 @@ pub fn loop_layout<'a>(
     let items = part(&listed, registers.first() as usize, registers.count());
     let values = value_uses(alloc, items)?;
     let truths = truth_uses(alloc, items)?;
+    let made = loop_items(alloc, kernel)?;
     let width = lane_width(kernel);
     Ok(LoopLayout {
         registers,
         width,
+        items: made,
         values,
         truths,
     })

@@ -10,7 +10,7 @@ ghost use Rattle.chunk_emit.specs.ItemsRun.{ItemsRun, FewWords};
 ghost use Rattle.chunk_emit.specs.LoopFits.{LayoutAssigned};
 
 pub use emit::{emit_index, emit_one, is_used, mask_of, put_all};
-pub use items::{emit_items, item_at};
+pub use items::emit_items;
 pub use layout::{LoopLayout, loop_layout};
 pub use words::{base_register, index_register, load, load_type};
 

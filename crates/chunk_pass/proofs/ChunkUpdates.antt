@@ -9,7 +9,7 @@ use Rattle.kernel_tree.specs.Typing.{Scope, own, first, index_type, side_type, a
 use Rattle.loop_form.specs.declared.item.ItemKind.TheVariants as kind
 use Rattle.loop_form.specs.declared.loop_item.Source.{Source}
 use Rattle.loop_form.specs.Entries.{Entry, IsPlain, entry, term_entries, action_entries, block_entries, otherwise_entries, turns_entries, loop_entries}
-use Rattle.loop_form.specs.LoopItems.{Bound, Op, Add, Item, truth_home, load_item, gather_item, term_items, cond_items, store_item, accumulator_of, after_env, action_items, block_items, otherwise_items, loop_env, loop_items}
+use Rattle.loop_form.specs.LoopItems.{Bound, Op, Add, Item, truth_home, load_item, gather_item, term_items, cond_items, store_item, accumulator_of, after_env, quit_items, leave_items, action_items, block_items, otherwise_items, loop_env, loop_items}
 use Rattle.loop_form.specs.Needs.{updates}
 use Rattle.vector_order.proofs.OneAccess.{or_false}
 
@@ -57,6 +57,13 @@ module _ (x : List ℕ) where
   before : (es fs : List Entry) → list_any (updates x) (es ++ fs) ≡ false → list_any (updates x) es ≡ false
   before es fs h = (or_false (list_any (updates x) es) (list_any (updates x) fs) (sym (list_any-append (updates x) es fs) ∙ h)).0
 
+  quit_adds : (c : Term) (scope : Scope) (mask : Option ℕ) (from : ℕ) (env : List Bound) (rest : List Item) → list_any (is_add x) (quit_items scope mask from env c rest) ≡ list_any (is_add x) rest
+  quit_adds c scope mask from env rest = (term_adds c).as_cond scope mask from env _
+
+  leave_adds : (c : Term) (scope : Scope) (mask : Option ℕ) (from : ℕ) (env : List Bound) (rest : List Item) → list_any (is_add x) (leave_items scope mask from env c rest) ≡ list_any (is_add x) rest
+  leave_adds (Either a b) scope mask from env rest = leave_adds a scope mask from env _ ∙ quit_adds b scope mask (from + term_size scope.index a + 1) env rest
+  leave_adds c scope mask from env rest = quit_adds c scope mask from env rest
+
   module _ (k : Program) where
     mutual
       action_adds : (s : Action) (scope : Scope) (mask : Option ℕ) (from g : ℕ) (env : List Bound) (rest : List Item) → list_any (updates x) (action_entries k g s) ≡ false → list_any (is_add x) rest ≡ false → list_any (is_add x) (action_items scope mask from env s rest) ≡ false
@@ -74,7 +81,7 @@ module _ (x : List ℕ) where
           let others = before (otherwise_entries k next end d) _ (following (block_entries k (first + 1) b) last inner) in
           (term_adds c).as_cond scope mask from env _
           ∙ block_adds b scope (Some (truth_home scope.index from c)) _ (first + 1) env _ (before (block_entries k (first + 1) b) last inner) (otherwise_adds d (left scope (after_block scope b)) mask _ (truth_home scope.index from c) next end env rest others r)
-      action_adds (Leave c) scope mask from g env rest h r = (term_adds c).as_cond scope mask from env _ ∙ r
+      action_adds (Leave c) scope mask from g env rest h r = leave_adds c scope mask from env rest ∙ r
 
       block_adds : (b : Block) (scope : Scope) (mask : Option ℕ) (from g : ℕ) (env : List Bound) (rest : List Item) → list_any (updates x) (block_entries k g b) ≡ false → list_any (is_add x) rest ≡ false → list_any (is_add x) (block_items scope mask from env b rest) ≡ false
       block_adds Done scope mask from g env rest h r = r

@@ -24,6 +24,7 @@ use Rattle.chunk_emit.specs.KernelLayout.{last_in, item_last_use}
 use Rattle.chunk_emit.specs.LoopFits.{FitsSetting}
 use Rattle.chunk_emit.specs.Chunk.{Setting, HeldRight, IsTop, sum_at, SumRight, Holds}
 use Rattle.chunk_emit.specs.Head.{Ground, IsGround, AtHead, IndexHeld, layout, width, most_lanes, limit}
+use Rattle.chunk_emit.proofs.FitsSources.{truth_less}
 use Rattle.chunk_emit.proofs.FitsTyped.{turn_typed}
 use Rattle.first_fault.proofs.PrefixBits.{top_active}
 use Rattle.chunk_pass.specs.Chunks.{IsSetting, IsChunk}
@@ -167,6 +168,6 @@ module _ (g : Ground) {i : ℕ} {cur : Names} {m : Memory} {sum : List ℕ → �
     all = h.all;
     held = held_right;
     values = λ q lt le. absurd (omega (arith, le, no_value_before g.kernel q lt));
-    truths = λ q lt le. absurd (omega (arith, le, no_truth_before g.kernel q lt));
+    truths = λ q lt le. let less = truth_less g.kernel q in absurd (omega (arith, le, less, no_truth_before g.kernel q lt));
     sums = sum_right;
   }

@@ -18,8 +18,7 @@ use Rattle.first_fault.specs.Region.{region_way}
 use Rattle.first_fault.specs.RegionCode.{Early, Single, exits_words, single_words}
 use Rattle.first_fault.specs.KernelFits.{KernelFits}
 use Rattle.first_fault.specs.Split.{is_quit, region_of, rest_of}
-use Rattle.first_fault.specs.SplitBreaks.{split_breaks}
-use Rattle.first_fault.proofs.SplitLaws.{split_exits_run, split_single_runs}
+use Rattle.first_fault.proofs.RegionRuns.{exits_run, single_runs}
 use Rattle.chunk_pass.specs.PassCode.{lanes_word, first_lane_words, index_words, advance_word, chunk_words, turn_words, plain_words}
 use Rattle.chunk_pass.specs.Chunks.{items_of, FineIsDone, FailIsFault, NextHalts}
 use Rattle.chunk_pass.specs.Passes.{LeftOut, Passes, lanes_at, ChunkPasses, TurnPasses, PlainPasses}
@@ -72,7 +71,7 @@ module _ (fine : FineIsDone) (fails : FailIsFault) (halts : NextHalts) (fits : K
   chunk_passes g d rest i cur m sum s ground quits h =
       let n = lanes_at g i in
       let items = items_of g in
-      let region = exits_words (width g) (layout g) (split_breaks (layout g) (region_of items)) in
+      let region = exits_words (width g) (layout g) (region_of items) in
       let tail = rest_words g (rest_of items) rest in
       let few : n ≤ most_lanes g = omega arith in
       let within : i + n ≤ limit g = omega (arith, h.between.within) in
@@ -84,12 +83,12 @@ module _ (fine : FineIsDone) (fails : FailIsFault) (halts : NextHalts) (fits : K
       let pieces = ap (λ c. Put (lanes_word (width g) (bound_place g.kernel)) ∷ c) (three_pieces g rest (index_words (layout g)) region (rest_of items)) in
       subst (λ c. Passes LeftOut g n i cur m d c s rest most) (sym pieces)
       (region_pass fine fails fits g ground begun.head (assigned_in g ground) d rest n few within LeftOut Early (chunk_reasons halts g i n cur m sum ground h.between few within) most begun.leads (omega (arith, count)) holds
-      (split_exits_run (layout g) (setting g i n sum begun.end.x begun.end.stops) d tail (region_of items) (loop_start g.kernel + 1) (blank_lanes m) begun.end (assigned_in g ground) fit.region holds fit.dead))
+      (exits_run (layout g) (setting g i n sum begun.end.x begun.end.stops) d tail (region_of items) (loop_start g.kernel + 1) (blank_lanes m) begun.end (assigned_in g ground) fit.region holds))
 
   pub turn_passes : TurnPasses
   turn_passes g d rest i cur m sum s ground quits h turned lt =
       let items = items_of g in
-      let region = single_words (width g) (layout g) (split_breaks (layout g) (region_of items)) in
+      let region = single_words (width g) (layout g) (region_of items) in
       let tail = rest_words g (rest_of items) rest in
       let few : 1 ≤ most_lanes g = some_lanes g.vl (width g) ground.sized in
       let within : i + 1 ≤ limit g = omega (arith, lt) in
@@ -100,7 +99,7 @@ module _ (fine : FineIsDone) (fails : FailIsFault) (halts : NextHalts) (fits : K
       let count = three_count g (first_lane_words (width g)) region (rest_of items) in
       subst (λ c. Passes (λ turn cut. Breaks turn) g 1 i cur m d c s rest most) (sym (three_pieces g rest (first_lane_words (width g)) region (rest_of items)))
       (region_pass fine fails fits g ground begun.head (assigned_in g ground) d rest 1 few within (λ turn cut. Breaks turn) Single (turn_reasons g i cur m ground h.between) most begun.leads (omega (arith, count)) holds
-      (split_single_runs (layout g) (setting g i 1 sum begun.end.x begun.end.stops) d tail (region_of items) (loop_start g.kernel + 1) (blank_lanes m) begun.end (assigned_in g ground) fit.region holds (omega arith) fit.dead))
+      (single_runs (layout g) (setting g i 1 sum begun.end.x begun.end.stops) d tail (region_of items) (loop_start g.kernel + 1) (blank_lanes m) begun.end (assigned_in g ground) fit.region holds (omega arith)))
 
   pub plain_passes : PlainPasses
   plain_passes g d rest i cur m sum s ground quits h lt top =

@@ -13,7 +13,6 @@ use Rattle.chunk_emit.specs.Registers.{Layout}
 use Rattle.chunk_emit.specs.ChunkCode.{vectors, items_words}
 use Rattle.first_fault.specs.RegionCode.{exits_words, single_words}
 use Rattle.first_fault.specs.Split.{region_of, rest_of}
-use Rattle.first_fault.specs.SplitBreaks.{split_breaks}
 
 -- WHILELO P0, X9, Xn: the lanes of the chunk are those whose iterations are below the bound
 abbrev pub lanes_word : Width → ℕ → Listed
@@ -33,11 +32,11 @@ advance_word w = Vector (word incp (9 ∷ 0 ∷ size_of w ∷ []))
 
 -- a chunk of a loop with a break
 abbrev pub chunk_words : Width → Layout → (bound : ℕ) → List Item → List Listed
-chunk_words w l n items = lanes_word w n ∷ (index_words l ++ (exits_words w l (split_breaks l (region_of items)) ++ (items_words w l (rest_of items) ++ advance_word w ∷ [])))
+chunk_words w l n items = lanes_word w n ∷ (index_words l ++ (exits_words w l (region_of items) ++ (items_words w l (rest_of items) ++ advance_word w ∷ [])))
 
 -- one iteration of such a loop, where no lane came through the chunk at X9
 abbrev pub turn_words : Width → Layout → List Item → List Listed
-turn_words w l items = first_lane_words w ++ (single_words w l (split_breaks l (region_of items)) ++ (items_words w l (rest_of items) ++ advance_word w ∷ []))
+turn_words w l items = first_lane_words w ++ (single_words w l (region_of items) ++ (items_words w l (rest_of items) ++ advance_word w ∷ []))
 
 -- a chunk of a loop without a break, whose lanes are in P0
 abbrev pub plain_words : Width → Layout → List Item → List Listed

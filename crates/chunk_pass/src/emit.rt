@@ -11,7 +11,7 @@ ghost use Rattle.chunk_pass.specs.PassCode as pass;
 use crate::words::{advance, first_lane, index, lanes, one};
 use a64_code::Reg;
 use chunk_emit::{LoopLayout, emit_items};
-use first_fault::{emit_exits, emit_single, region, rest, split_breaks};
+use first_fault::{emit_exits, emit_single, region, rest};
 use label_fix::{Draft, Word};
 use loop_form::{LoopItem, Source};
 use std::alloc::{AllocError, Global};
@@ -45,8 +45,7 @@ pub fn emit_chunk(
 {
     draft.put(lanes(layout.width(), bound))?;
     emit_turns(layout, draft)?;
-    let steps = split_breaks(alloc, layout, region(items))?;
-    emit_exits(alloc, layout, &steps, draft)?;
+    emit_exits(alloc, layout, region(items), draft)?;
     emit_items(alloc, layout, rest(items), draft)?;
     draft.put(advance(layout.width()))?;
     Ok(())
@@ -67,8 +66,7 @@ pub fn emit_turn(
 {
     draft.put(one())?;
     draft.put(first_lane(layout.width()))?;
-    let steps = split_breaks(alloc, layout, region(items))?;
-    emit_single(alloc, layout, &steps, draft)?;
+    emit_single(alloc, layout, region(items), draft)?;
     emit_items(alloc, layout, rest(items), draft)?;
     draft.put(advance(layout.width()))?;
     Ok(())

@@ -7,7 +7,7 @@ use Rattle.kernel_tree.specs.Items.{stream_offset, index_size, index_items, term
 use Rattle.kernel_tree.specs.Typing.{Scope, own, first, index_type, side_type, after_action, after_block, left, in_loop, var_scope, array_type}
 use Rattle.kernel_tree.proofs.Scopes.{index_after, scope_index}
 use Rattle.loop_form.specs.declared.loop_item.Source.{Source}
-use Rattle.loop_form.specs.LoopItems.{Bound, Item, accumulator_of, truth_home, load_item, gather_item, store_item, term_items, cond_items, after_env, action_items, block_items, otherwise_items, loop_env, loop_items, turns_items, loop_items_of}
+use Rattle.loop_form.specs.LoopItems.{Bound, Item, accumulator_of, truth_home, load_item, gather_item, store_item, term_items, cond_items, quit_items, leave_items, after_env, action_items, block_items, otherwise_items, loop_env, loop_items, turns_items, loop_items_of}
 
 load_few : (scope : Scope) (mask : Option ℕ) (q : ℕ) (env : List Bound) (a : List ℕ) (o : Option ℤ) (gathered rest : List Item) (n : ℕ) → length gathered ≤ n + suc (length rest) → length (load_item scope mask q env a o gathered rest) ≤ index_size o n + 1 + length rest
 load_few scope mask q env a None gathered rest n h = omega (arith, h)
@@ -82,6 +82,16 @@ term_few (Not e) = record {
 
 -- ---- statements
 
+quit_few : (c : Term) (s : Scope) (mask : Option ℕ) (b : ℕ) (env : List Bound) (rest : List Item) → length (quit_items s mask b env c rest) ≤ term_size s.index c + 1 + length rest
+quit_few c s mask b env rest = following_one _ _ _ ((term_few c).as_cond s mask b env _)
+
+leave_few : (c : Term) (s : Scope) (mask : Option ℕ) (b : ℕ) (env : List Bound) (rest : List Item) → length (leave_items s mask b env c rest) ≤ term_size s.index c + 1 + length rest
+leave_few (Either x y) s mask b env rest = two_breaks _ _ _ _ _ (leave_few x s mask b env _) (quit_few y s mask (b + term_size s.index x + 1) env rest)
+  where
+    two_breaks : (n p q r k : ℕ) → n ≤ p + 1 + q → q ≤ r + 1 + k → n ≤ p + 1 + r + 1 + 1 + k
+    two_breaks n p q r k h j = omega (arith, h, j)
+leave_few c s mask b env rest = quit_few c s mask b env rest
+
 mutual
   action_few : (a : Action) (s : Scope) (mask : Option ℕ) (b : ℕ) (env : List Bound) (rest : List Item) → length (action_items s mask b env a rest) ≤ action_size s.index a + length rest
   action_few (Define x t e) s mask b env rest = following_one _ _ _ ((term_few e).as_value s (first t (own s e)) mask b env _)
@@ -95,7 +105,7 @@ mutual
     where
       chosen : (n p q r u v k : ℕ) → n ≤ p + q → q ≤ r + u → u ≤ v + k → n ≤ p + 1 + r + v + 1 + k
       chosen n p q r u v k h j l = omega (arith, h, j, l)
-  action_few (Leave c) s mask b env rest = following_one _ _ _ ((term_few c).as_cond s mask b env _)
+  action_few (Leave c) s mask b env rest = leave_few c s mask b env rest
 
   block_few : (t : Block) (s : Scope) (mask : Option ℕ) (b : ℕ) (env : List Bound) (rest : List Item) → length (block_items s mask b env t rest) ≤ block_size s.index t + length rest
   block_few Done s mask b env rest = omega arith

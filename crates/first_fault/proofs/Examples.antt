@@ -1,6 +1,7 @@
 -- Worked rows: `break if a[i] == 0;` in lanes of bytes, for a of u8 in X0, and reads under a mask in lanes of 16 bits; a layout that
--- meets what the laws want; and `break if a[i] == 0 || b[i] == 0;` as two breaks.
-use Rattle.std.proofs.Common.{◌≡◌, ℕ, zero, suc, ◌+◌, ◌<◌, pos, Bool, true, false, List, [], ◌∷◌, ◌++◌, Some, None, refl, subst, arith}
+-- meets what the laws want; and
+-- `break if a[i] == 0 || b[i] == 0;` as two breaks.
+use Rattle.std.proofs.Common.{◌≡◌, ℕ, zero, suc, ◌+◌, ◌<◌, pos, Bool, true, false, List, [], ◌∷◌, ◌++◌, length, Some, None, refl, subst, arith}
 use Rattle.std.specs.Prelude.{slice_index, nat_eq, if◌then◌else◌}
 use Rattle.guest_types.specs.declared.length.Width.TheVariants.{B, H}
 use Rattle.guest_types.specs.EarlyLoads.{never}
@@ -15,7 +16,7 @@ use Rattle.machine_model.specs.InstructionTable.{Scalar, Vector}
 use Rattle.vector_order.specs.Orders.{Lane}
 use Rattle.loop_form.specs.declared.loop_item.Source.{Source}
 use Rattle.loop_form.specs.declared.loop_item.Source.TheVariants.{Constant, Outer, LoopIndex, Made}
-use Rattle.loop_form.specs.LoopItems.{Item, item, Load, Store, Test, Invert, Any, Quit}
+use Rattle.loop_form.specs.LoopItems.{Item, item, Load, Store, Test, Quit, loop_items_of}
 use Rattle.lane_emit.specs.Stretch.{word}
 use Rattle.chunk_emit.specs.Registers.{Layout}
 use Rattle.chunk_emit.specs.Chunk.{Setting}
@@ -24,7 +25,7 @@ use Rattle.first_fault.specs.Region.{On, Broke, Fell, region_way}
 use Rattle.first_fault.specs.RegionCode.{Early, Single, region_words, exits_words, single_words}
 use Rattle.first_fault.specs.Fits.{FitsRegion}
 use Rattle.first_fault.specs.Split.{region_of, rest_of}
-use Rattle.first_fault.specs.SplitBreaks.{split_breaks}
+use Rattle.loop_form.proofs.Kernels.{either, three}
 
 abbrev nought : Source
 nought = Constant (Some ty.U8) (pos 0)
@@ -184,41 +185,42 @@ none_at r q le lt = absurd (omega (arith, le, lt))
 fits : FitsRegion layout setting 3 items
 fits = (omega arith, none_at 3, tt, ((omega arith, refl), omega arith, omega arith, omega arith, (omega arith, refl)), (omega arith, none_four, tt, ((((omega arith, omega arith), refl), omega arith), ((refl, refl), omega arith), omega arith), (omega arith, none_at 6, tt, (refl, (omega arith, omega arith), (omega arith, omega arith)), tt)))
 
--- ---- two breaks
+-- ---- two breaks, of `break if a[i] == 0 || b[i] == 0;`, and three
 
+-- item q reads the array of parameter x, and item p compares what it read
 abbrev read_of : ℕ → ℕ → Item
 read_of q x = item q None (Load ((97 + x) ∷ []) (Outer x) (Some ty.U8) (pos 0))
 
 abbrev is_zero : ℕ → ℕ → Item
-is_zero q x = item q None (Test compare.Eq (Some ty.U8) (Made x) nought)
+is_zero q p = item q None (Test compare.Eq (Some ty.U8) (Made p) nought)
 
--- an item in the second side
-abbrev marked : Item → Item
-marked it = record it { mask = Some 7 }
+two_items : loop_items_of either ≡ read_of 4 0 ∷ is_zero 6 4 ∷ item 7 None (Quit 6) ∷ read_of 8 1 ∷ is_zero 10 8 ∷ item 11 None (Quit 10) ∷ []
+two_items = refl
 
-abbrev either_items : List Item
-either_items = read_of 4 0 ∷ is_zero 6 4 ∷ item 7 None (Invert 6) ∷ marked (read_of 8 1) ∷ marked (is_zero 10 8) ∷ item 11 None (Any 6 10) ∷ item 12 None (Quit 11) ∷ []
+three_items : loop_items_of three ≡ read_of 5 0 ∷ is_zero 7 5 ∷ item 8 None (Quit 7) ∷ read_of 9 1 ∷ is_zero 11 9 ∷ item 12 None (Quit 11) ∷ read_of 14 2 ∷ is_zero 16 14 ∷ item 17 None (Quit 16) ∷ []
+three_items = refl
 
--- the value of item 4 is needed until item 6, that of item 8 until item 10; the conditions but the last until item 11
+-- what a value of an item in a place of the listing is needed until
+abbrev until : List ℕ → ℕ → ℕ
+until [] r = 0
+until (q ∷ []) r = 0
+until (q ∷ p ∷ more) r = if nat_eq q r then p else until more r
+
 abbrev either_layout : Layout
-either_layout = record layout {
-  registers = record { source = register; z = λ q. 1; p = λ q. if nat_eq q 10 then 4 else 2 };
-  z_last_use = slice_index (0 ∷ 0 ∷ 0 ∷ 0 ∷ 6 ∷ 0 ∷ 0 ∷ 0 ∷ 10 ∷ []);
-  p_last_use = slice_index (0 ∷ 0 ∷ 0 ∷ 0 ∷ 0 ∷ 0 ∷ 11 ∷ 11 ∷ 0 ∷ 0 ∷ 11 ∷ 12 ∷ []);
-}
-
-two_breaks : split_breaks either_layout either_items ≡ read_of 4 0 ∷ is_zero 6 4 ∷ item 7 None (Quit 6) ∷ read_of 8 1 ∷ is_zero 10 8 ∷ item 11 None (Quit 10) ∷ []
-two_breaks = refl
+either_layout = record layout { z_last_use = until (4 ∷ 6 ∷ 8 ∷ 10 ∷ []); p_last_use = until (6 ∷ 11 ∷ 10 ∷ 11 ∷ []) }
 
 -- setffr; ldff1b {z1.b}, p0/z, [x0, x9]; rdffr p0.b, p0/z; cmpeq p2.b, p0/z, z1.b, z0.b; brkb p0.b, p0/z, p2.b
--- ldff1b {z1.b}, p0/z, [x1, x9]; rdffr p0.b, p0/z; cmpeq p4.b, p0/z, z1.b, z0.b; brkb p0.b, p0/z, p4.b
-either_exits : exits_words B either_layout (split_breaks either_layout either_items)
+-- ldff1b {z1.b}, p0/z, [x1, x9]; rdffr p0.b, p0/z; cmpeq p2.b, p0/z, z1.b, z0.b; brkb p0.b, p0/z, p2.b
+either_exits : exits_words B either_layout (region_of (loop_items_of either))
     ≡ Vector (word setffr [])
     ∷ Vector (word ldff1 (1 ∷ 0 ∷ 0 ∷ 9 ∷ 0 ∷ [])) ∷ Vector (word rdffr_z (0 ∷ 0 ∷ [])) ∷ Vector (word cmpeq (2 ∷ 1 ∷ 0 ∷ 0 ∷ 0 ∷ [])) ∷ Vector (word brkb (0 ∷ 2 ∷ 0 ∷ []))
-    ∷ Vector (word ldff1 (1 ∷ 1 ∷ 0 ∷ 9 ∷ 0 ∷ [])) ∷ Vector (word rdffr_z (0 ∷ 0 ∷ [])) ∷ Vector (word cmpeq (4 ∷ 1 ∷ 0 ∷ 0 ∷ 0 ∷ [])) ∷ Vector (word brkb (0 ∷ 4 ∷ 0 ∷ []))
+    ∷ Vector (word ldff1 (1 ∷ 1 ∷ 0 ∷ 9 ∷ 0 ∷ [])) ∷ Vector (word rdffr_z (0 ∷ 0 ∷ [])) ∷ Vector (word cmpeq (2 ∷ 1 ∷ 0 ∷ 0 ∷ 0 ∷ [])) ∷ Vector (word brkb (0 ∷ 2 ∷ 0 ∷ []))
     ∷ []
 either_exits = refl
 
--- a `||` whose mark something else uses stays as it is
-kept : split_breaks (record either_layout { p_last_use = λ q. 20 }) either_items ≡ either_items
-kept = refl
+abbrev three_layout : Layout
+three_layout = record layout { z_last_use = until (5 ∷ 7 ∷ 9 ∷ 11 ∷ 14 ∷ 16 ∷ []); p_last_use = until (7 ∷ 12 ∷ 11 ∷ 12 ∷ 16 ∷ 17 ∷ []) }
+
+-- thirteen words for three arrays: four for each, and `setffr`
+three_exits : length (exits_words B three_layout (region_of (loop_items_of three))) ≡ 13
+three_exits = refl

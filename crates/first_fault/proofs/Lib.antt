@@ -21,9 +21,5 @@ pub mod LoopFits
 pub mod Spelled
 pub mod Sizes
 pub mod Writables
-pub mod SplitCode
-mod SplitWays
-mod SplitFits
-pub mod SplitLaws
 mod RegionPuts
 mod Examples

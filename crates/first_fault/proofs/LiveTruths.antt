@@ -9,17 +9,23 @@ use Rattle.kernel_tree.specs.Typing.{Scope, after_action, in_loop, var_scope}
 use Rattle.kernel_tree.proofs.Scopes.{index_after, scope_index}
 use Rattle.reg_assign.specs.declared.interval.RegClass.TheVariants.{P}
 use Rattle.reg_assign.specs.Registers.{Assignment}
-use Rattle.loop_form.specs.Entries.{Content, IsLiteral, IsName, IsRead, IsLet, IsStore, IsUpdate, IsPlain, Entry, kind_of, inner_entries, term_entries, action_entries, block_entries, otherwise_entries, turns_entries, loop_entries, entries_of}
+use Rattle.loop_form.specs.Entries.{Content, IsLiteral, IsName, IsRead, IsLet, IsStore, IsUpdate, IsPlain, Entry, entry, kind_of, inner_entries, term_entries, action_entries, block_entries, otherwise_entries, turns_entries, loop_entries, entries_of}
 use Rattle.loop_form.specs.Listing.{has_p, held, last_of}
 use Rattle.loop_form.specs.LoopItems.{Bound, Item, after_env, block_items, loop_env, loop_items}
 use Rattle.loop_form.specs.Numbers.{Numbered}
-use Rattle.loop_form.proofs.Numbers.{action-listed}
+use Rattle.loop_form.proofs.Numbers.{term-listed, action-listed}
 use Rattle.chunk_emit.specs.KernelLayout.{last_in, item_last_use, layout_of_loop}
 use Rattle.chunk_emit.proofs.FitsEntries.{AllGive, give_left, give_right, loop_gives}
 use Rattle.chunk_emit.proofs.FitsIntervals.{of_p, first_nothing}
+use Rattle.chunk_emit.proofs.FitsSources.{truth_less}
+use Rattle.chunk_emit.specs.Chunk.{Setting}
+use Rattle.first_fault.specs.Fits.{FitsRegion}
+use Rattle.first_fault.specs.Split.{region_of}
+use Rattle.first_fault.proofs.RegionFits.{last_nothing}
+use Rattle.loop_form.specs.declared.item.ItemKind.TheVariants as kind
 use Rattle.first_fault.specs.KernelFits.{following_region, is_inner_break}
 use Rattle.first_fault.specs.Rest.{NoTruthLive}
-use Rattle.first_fault.proofs.TopBreaks.{breaks_of, following_break, region_end, outer_of, TopAction, goes, ends, top_action}
+use Rattle.first_fault.proofs.TopBreaks.{breaks_of, following_break, region_end, outer_of, TopAction, goes, ends, top_action, last_quit, IsLast}
 
 -- ---- the users of items within a statement stand within it
 
@@ -120,7 +126,43 @@ module _ (k : Program) where
       (λ (from : b ≤ r). ended_in b (b + action_size i a) (action_entries k b a) listed.numbered (action_below a b (b + action_size i a) (omega arith)) g r from (omega (arith, count, lt)))
       (cases_lt r b)
 
-  block_ended : (t : Block) (s : Scope) (b p : ℕ) (env : List Bound) → s.index ≡ i → AllGive k (block_entries k b t) → Ended p → Ended b → list_any is_inner_break (breaks_of (block_items s None b env t [])) ≡ false → Ended (following_break p (breaks_of (block_items s None b env t [])))
+  -- the same of all items before the last one
+  abbrev Closed : ℕ → Type 0
+  Closed q = (r : ℕ) → r + 1 < q → item_last_use k P r < q
+
+  -- after the last break of a condition: what the listing's `||` uses
+  leave_closed : (c : Term) (b : ℕ) → AllGive k (action_entries k b (Leave c)) → Ended b → Ended (b + action_size i (Leave c)) → Closed (last_quit i b c + 1)
+  leave_closed (Either x y) b g before there r lt =
+      let mark = b + term_size i x in
+      let q = mark + 1 + term_size i y in
+      let first = term-listed k b q x (omega arith) in
+      let second = term-listed k (mark + 1) q y (omega arith) in
+      let n1 = first.count in
+      let n2 = second.count in
+      let g1 = give_left k (term_entries k b (b + term_size i (Either x y)) (Either x y)) _ g in
+      let g2 = give_right k (term_entries k b q x) _ g1 in
+      ⊎_elim
+      (λ (low : r < b). let h = before r low in omega (arith, h))
+      (λ (from : b ≤ r).
+      ⊎_elim
+      (λ (lo : r < mark). ended_in b (q + 1) (term_entries k b q x) first.numbered (term_below x b q (q + 1) (omega arith) (omega arith)) (give_left k (term_entries k b q x) _ g1) r from (omega (arith, n1, lo)))
+      (λ (hi : mark ≤ r).
+      ⊎_elim
+      (λ (same : r < mark + 1). ended_in mark (q + 1) (entry k mark (IsPlain kind.Mark) q ∷ []) (refl, tt) (omega arith, tt) (g2.0, tt) r hi (omega (arith, same)))
+      (λ (up : mark + 1 ≤ r). ended_in (mark + 1) (q + 1) (term_entries k (mark + 1) q y) second.numbered (term_below y (mark + 1) q (q + 1) (omega arith) (omega arith)) (give_left k (term_entries k (mark + 1) q y) _ g2.1) r up (omega (arith, n2, lt)))
+      (cases_lt r (mark + 1)))
+      (cases_lt r mark))
+      (cases_lt r b)
+  leave_closed c b g before there r lt = let h = there r (omega (arith, lt)) in omega (arith, h)
+
+  break_closed : (a : Action) (b q : ℕ) → IsLast i b a q → AllGive k (action_entries k b a) → Ended b → Ended (b + action_size i a) → Closed (q + 1)
+  break_closed (Leave c) b q is g before there = subst (λ n. Closed (n + 1)) (sym is) (leave_closed c b g before there)
+  break_closed (Define x t e) b q is g before there = absurd is
+  break_closed (Put a j e) b q is g before there = absurd is
+  break_closed (Update x op e) b q is g before there = absurd is
+  break_closed (Choose c t d) b q is g before there = absurd is
+
+  block_ended : (t : Block) (s : Scope) (b p : ℕ) (env : List Bound) → s.index ≡ i → AllGive k (block_entries k b t) → Closed p → Ended b → list_any is_inner_break (breaks_of (block_items s None b env t [])) ≡ false → Closed (following_break p (breaks_of (block_items s None b env t [])))
   block_ended Done s b p env e g last here none = last
   block_ended (Then a t) s b p env e g last here none =
       let next = b + action_size s.index a in
@@ -131,10 +173,12 @@ module _ (k : Program) where
       by (top_action a s b env later none) there (λ q. block_ended t (after_action s a) next q (after_env s b env a) (index_after s a ∙ e) gives)
     where
       by : TopAction s b env a (block_items (after_action s a) None (b + action_size s.index a) (after_env s b env a) t []) → Ended (b + action_size s.index a)
-          → ((q : ℕ) → Ended q → Ended (b + action_size s.index a) → list_any is_inner_break (breaks_of (block_items (after_action s a) None (b + action_size s.index a) (after_env s b env a) t [])) ≡ false → Ended (following_break q (breaks_of (block_items (after_action s a) None (b + action_size s.index a) (after_env s b env a) t []))))
-          → Ended (following_break p (breaks_of (block_items s None b env (Then a t) [])))
-      by (goes f) there more = subst (λ items. Ended (following_break p items)) (sym f) (more p last there (sym (ap (list_any is_inner_break) f) ∙ none))
-      by (ends q c number f) there more = subst (λ items. Ended (following_break p items)) (sym f) (more (q + 1) (subst Ended (sym number) there) there (sym (ap (list_any is_inner_break) f) ∙ none))
+          → ((q : ℕ) → Closed q → Ended (b + action_size s.index a) → list_any is_inner_break (breaks_of (block_items (after_action s a) None (b + action_size s.index a) (after_env s b env a) t [])) ≡ false → Closed (following_break q (breaks_of (block_items (after_action s a) None (b + action_size s.index a) (after_env s b env a) t []))))
+          → Closed (following_break p (breaks_of (block_items s None b env (Then a t) [])))
+      by (goes f) there more = subst (λ items. Closed (following_break p items)) (sym f) (more p last there (sym (ap (list_any is_inner_break) f) ∙ none))
+      by (ends q is f outer) there more =
+          let closed : Closed (q + 1) = break_closed a b q (subst (λ j. IsLast j b a q) e is) (give_left k (action_entries k b a) _ g) here (subst Ended (ap (λ j. b + action_size j a) e) there) in
+          subst Closed (sym (f p)) (more (q + 1) closed there (outer none))
 
   start_ended : Ended (loop_start k + 1)
   start_ended r lt =
@@ -142,9 +186,25 @@ module _ (k : Program) where
       let none : item_last_use k P r ≡ 0 = ap (slice_index (map (last_in P (entries_of k)) (loop_entries k))) first ∙ first_nothing k P of_p in
       omega (arith, none)
 
-  pub no_truth_live : (l : PlainLoop) (zs ps : Assignment) → k.turns ≡ Some l → list_any is_inner_break (loop_items k l) ≡ false → NoTruthLive (layout_of_loop k zs ps) (following_region k l)
-  no_truth_live l zs ps turns outer =
+  start_closed : Closed (loop_start k + 1)
+  start_closed r lt = start_ended r (omega (arith, lt))
+
+  -- up to the last break, but for an item of its number
+  pub closed_region : (l : PlainLoop) → k.turns ≡ Some l → list_any is_inner_break (loop_items k l) ≡ false → (r : ℕ) → r + 1 < following_region k l → item_last_use k P r < following_region k l
+  closed_region l turns outer =
       let b = loop_start k + 1 in
       let gives : AllGive k (turns_entries k (loop_start k) (Some l)) = subst (λ o. AllGive k (turns_entries k (loop_start k) o)) turns (loop_gives k) in
-      let done = block_ended l.body (in_loop (var_scope k) l) b b (loop_env (var_scope k) l.index) (scope_index k) gives.1 start_ended start_ended (sym (outer_of (loop_items k l)) ∙ outer) in
-      subst Ended (sym (region_end b (loop_items k l))) done
+      let done = block_ended l.body (in_loop (var_scope k) l) b b (loop_env (var_scope k) l.index) (scope_index k) gives.1 start_closed start_ended (sym (outer_of (loop_items k l)) ∙ outer) in
+      subst Closed (sym (region_end b (loop_items k l))) done
+
+  -- which makes nothing, as it is a break
+  pub no_truth_live : (l : PlainLoop) (zs ps : Assignment) (f : Setting) → k.turns ≡ Some l → list_any is_inner_break (loop_items k l) ≡ false → FitsRegion (layout_of_loop k zs ps) f (loop_start k + 1) (region_of (loop_items k l)) → NoTruthLive (layout_of_loop k zs ps) (following_region k l)
+  no_truth_live l zs ps f turns outer fits r lt =
+      let less = truth_less k r in
+      ⊎_elim
+      (λ (early : r + 1 < following_region k l). let h = closed_region l turns outer r early in omega (arith, h, less))
+      (λ (last : following_region k l ≤ r + 1).
+      let number : r + 1 ≡ following_region k l = omega (arith, lt, last) in
+      let nothing = last_nothing (layout_of_loop k zs ps) f (loop_start k + 1) (loop_items k l) fits (λ unbroken s e. let none = start_ended s (omega (arith, e)) in let small = truth_less k s in omega (arith, none, small, e)) r number in
+      omega (arith, nothing, lt))
+      (cases_lt (r + 1) (following_region k l))

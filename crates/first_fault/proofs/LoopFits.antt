@@ -14,4 +14,4 @@ kernel_fits k l a b f checked turns vector few outer z_fits p_fits setting =
     let steps = loop_steps k l a b f checked turns vector few setting in
     let split = region_splits k l turns vector in
     let both = both_fit (layout_of_loop k a b) f (loop_start k + 1) (loop_items k l) split.whole split.unwritten split.unbroken outer steps in
-    record { region = both.region; rest = both.rest; dead = no_truth_live k l a b turns outer }
+    record { region = both.region; rest = both.rest; dead = no_truth_live k l a b f turns outer both.region }

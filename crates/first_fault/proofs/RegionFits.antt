@@ -1,11 +1,11 @@
 -- What fits a loop fits its break region and the rest of its items.
-use Rattle.std.proofs.Common.{◌≡◌, ℕ, ◌+◌, Bool, true, false, List, [], ◌∷◌, ◌++◌, Option, Some, None, refl, sym, ap, ◌∙◌, subst}
-use Rattle.std.specs.Prelude.{is_some, ◌||◌, ◌&&◌}
+use Rattle.std.proofs.Common.{◌≡◌, ℕ, ◌+◌, ◌≤◌, Bool, true, false, List, [], ◌∷◌, ◌++◌, Option, Some, None, refl, sym, ap, ◌∙◌, subst, arith}
+use Rattle.std.specs.Prelude.{is_some, ◌||◌, ◌&&◌, if◌then◌else◌}
 use Rattle.std.specs.List.{list_any}
 use Rattle.loop_form.specs.LoopItems.{Op, Load, Gather, Apply, Combine, Move, Cast, Copy, Pick, Store, Add, Test, Invert, Same, Any, Quit, Item}
 use Rattle.chunk_emit.specs.Registers.{Layout}
 use Rattle.chunk_emit.specs.Chunk.{Setting}
-use Rattle.chunk_emit.specs.Fits.{FitsItems, following_items}
+use Rattle.chunk_emit.specs.Fits.{MakesNothing, FitsItems, following_items}
 use Rattle.chunk_emit.specs.LoopFits as whole
 use Rattle.chunk_emit.specs.LoopFits.{FitsSteps, IsNoBreak, AreNoBreaks}
 use Rattle.chunk_emit.proofs.FitsParts.{first_part, second_part, items_fit}
@@ -93,3 +93,27 @@ both_fit l f p items split unwritten unbroken outer h =
       region = region_fits l f p (region_of items) unwritten outer2 (first_part l f p (region_of items) (rest_of items) parts);
       rest = items_fit l f (following_items p (region_of items)) (rest_of items) (no_breaks (rest_of items) unbroken) (second_part l f p (region_of items) (rest_of items) parts);
     }
+
+-- ---- the item before the rest
+
+quit_nothing : (l : Layout) (f : Setting) (q : ℕ) (mask : Option ℕ) (op : Op) → quits op ≡ true → FitsStep l f q mask op → MakesNothing l q
+quit_nothing l f q mask (Quit c) e h = h.2
+quit_nothing l f q mask op e h = absurd cc
+
+only_first : (a b : Bool) → a || b ≡ true → b ≡ false → a ≡ true
+only_first true b e f = refl
+only_first false b e f = absurd cc
+
+-- it is a break, which makes no condition
+pub last_nothing : (l : Layout) (f : Setting) (p : ℕ) (items : List Item) → FitsRegion l f p (region_of items) → (list_any is_quit items ≡ false → (r : ℕ) → r + 1 ≡ p → l.p_last_use r ≤ r) → (r : ℕ) → r + 1 ≡ following_items p (region_of items) → l.p_last_use r ≤ r
+last_nothing l f p [] h start r e = start refl r e
+last_nothing l f p (it ∷ items) h start r e = by (list_any is_quit (it ∷ items)) refl h e (λ g here same. last_nothing l f (it.item + 1) items g here r same)
+  where
+    by : (b : Bool) → list_any is_quit (it ∷ items) ≡ b → FitsRegion l f p (if b then it ∷ region_of items else []) → r + 1 ≡ following_items p (if b then it ∷ region_of items else [])
+        → (FitsRegion l f (it.item + 1) (region_of items) → (list_any is_quit items ≡ false → (r : ℕ) → r + 1 ≡ it.item + 1 → l.p_last_use r ≤ r) → r + 1 ≡ following_items (it.item + 1) (region_of items) → l.p_last_use r ≤ r) → l.p_last_use r ≤ r
+    by false any h e more = start any r e
+    by true any h e more =
+        more h.4
+        (λ none r same.
+        let number : it.item ≡ r = omega (arith, same) in
+        subst (λ n. l.p_last_use n ≤ n) number (quit_nothing l f it.item it.mask it.op (only_first (quits it.op) (list_any is_quit items) any none) h.3).1) e

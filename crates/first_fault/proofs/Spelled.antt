@@ -2,12 +2,12 @@
 use Rattle.std.proofs.Common.{◌≡◌, ℕ, ◌+◌, Bool, true, false, List, [], ◌∷◌, Option, Some, None, refl, ap, ◌∙◌}
 use Rattle.std.specs.List.{list_any}
 use Rattle.std.proofs.lemmas.Bool.{and_parts}
-use Rattle.kernel_tree.specs.Plain.{Action, Define, Put, Update, Choose, Leave, Block, Done, Then, Otherwise, Nothing, Else, PlainLoop, Program}
+use Rattle.kernel_tree.specs.Plain.{Term, Either, Action, Define, Put, Update, Choose, Leave, Block, Done, Then, Otherwise, Nothing, Else, PlainLoop, Program}
 use Rattle.kernel_tree.specs.Items.{stream_offset, term_size, action_size, block_size, loop_start}
 use Rattle.kernel_tree.specs.Typing.{Scope, own, first, after_action, after_block, left, in_loop, var_scope, array_type}
 use Rattle.kernel_tree.specs.Loops.{is_whole, is_whole_block, is_whole_otherwise, is_outer, has_outer_breaks}
 use Rattle.kernel_tree.proofs.Spelled.{few_params, outer_breaks}
-use Rattle.loop_form.specs.LoopItems.{Bound, accumulator_of, Quit, Item, item, truth_home, after_env, action_items, block_items, otherwise_items, loop_env, loop_items}
+use Rattle.loop_form.specs.LoopItems.{Bound, accumulator_of, Quit, Item, item, truth_home, after_env, quit_items, leave_items, action_items, block_items, otherwise_items, loop_env, loop_items}
 use Rattle.first_fault.specs.KernelFits.{is_inner_break, TreeIsSpelled}
 use Rattle.first_fault.proofs.TopBreaks.{breaks_of, outer_of, store_breaks, term_breaks}
 
@@ -39,6 +39,14 @@ mutual
 some_inner : List Item → Bool
 some_inner items = list_any is_inner_break items
 
+outer_quit : (c : Term) (s : Scope) (b : ℕ) (env : List Bound) (rest : List Item) → some_inner (breaks_of (quit_items s None b env c rest)) ≡ some_inner (breaks_of rest)
+unfolding some_inner
+outer_quit c s b env rest = ap some_inner ((term_breaks c).as_cond s None b env (item (b + term_size s.index c) None (Quit (truth_home s.index b c)) ∷ rest))
+
+outer_leave : (c : Term) (s : Scope) (b : ℕ) (env : List Bound) (rest : List Item) → some_inner (breaks_of (leave_items s None b env c rest)) ≡ some_inner (breaks_of rest)
+outer_leave (Either x y) s b env rest = outer_leave x s b env _ ∙ outer_quit y s (b + term_size s.index x + 1) env rest
+outer_leave c s b env rest = outer_quit c s b env rest
+
 outer_action : (a : Action) (s : Scope) (b : ℕ) (env : List Bound) (rest : List Item) → is_outer a ≡ true → some_inner (breaks_of (action_items s None b env a rest)) ≡ some_inner (breaks_of rest)
 unfolding some_inner
 outer_action (Define x t e) s b env rest w = ap some_inner ((term_breaks e).as_value s (first t (own s e)) None b env _)
@@ -49,7 +57,7 @@ outer_action (Choose c t d) s b env rest w =
     ap some_inner (
     (term_breaks c).as_cond s None b env _ ∙ free_block t s (Some (truth_home s.index b c)) (b + term_size s.index c + 1) env _ parts.0
     ∙ free_otherwise d (left s (after_block s t)) None (b + term_size s.index c + 1 + block_size s.index t) (truth_home s.index b c) env rest parts.1)
-outer_action (Leave c) s b env rest w = ap some_inner ((term_breaks c).as_cond s None b env (item (b + term_size s.index c) None (Quit (truth_home s.index b c)) ∷ rest))
+outer_action (Leave c) s b env rest w = outer_leave c s b env rest
 
 outer_block : (t : Block) (s : Scope) (b : ℕ) (env : List Bound) → has_outer_breaks t ≡ true → some_inner (breaks_of (block_items s None b env t [])) ≡ false
 unfolding some_inner

@@ -12,7 +12,7 @@ use Rattle.guest_types.specs.Memory.{Memory}
 use Rattle.kernel_meaning.specs.Eval.{Names}
 use Rattle.loop_form.specs.Entries.{Content, IsLiteral, IsName, IsRead, IsLet, IsStore, IsUpdate, IsPlain, Entry, entry, inner_entries, term_entries, action_entries, block_entries, otherwise_entries, loop_entries, turns_entries}
 use Rattle.loop_form.specs.declared.loop_item.Source.{Source}
-use Rattle.loop_form.specs.LoopItems.{Bound, Op, Load, Gather, gather_item, Apply, Combine, Move, Cast, Copy, Pick, Store, Add, Test, Invert, Same, Any, Quit, Item, truth_home, load_item, term_items, cond_items, store_item, accumulator_of, after_env, action_items, block_items, otherwise_items, loop_env, loop_items}
+use Rattle.loop_form.specs.LoopItems.{Bound, Op, Load, Gather, gather_item, Apply, Combine, Move, Cast, Copy, Pick, Store, Add, Test, Invert, Same, Any, Quit, Item, truth_home, load_item, term_items, cond_items, store_item, accumulator_of, after_env, quit_items, leave_items, action_items, block_items, otherwise_items, loop_env, loop_items}
 use Rattle.dependence.specs.Classes.{write_content, break_content, computed_content, is_barred, computed_index, is_break, before_break}
 use Rattle.dependence.proofs.ClassLaws.{class_facts, gather_facts}
 use Rattle.vector_order.specs.Orders.{Lane, Effect, Halts, Keeps, Writes}
@@ -117,18 +117,22 @@ data Sub : List Bool → List Bool → Type 0 where
   sub_none : Sub [] []
   sub_keep : (b : Bool) {xs ys : List Bool} → Sub xs ys → Sub (b ∷ xs) (b ∷ ys)
   sub_skip : (b : Bool) {xs ys : List Bool} → Sub xs ys → Sub xs (b ∷ ys)
+  -- a break more, before one of the other list
+  sub_break_more : {xs ys : List Bool} → some_break ys ≡ true → Sub xs ys → Sub (true ∷ xs) ys
 
 sub_break : {xs ys : List Bool} → Sub xs ys → some_break ys ≡ false → some_break xs ≡ false
 sub_break sub_none h = refl
 sub_break (sub_keep true s) h = absurd cc
 sub_break (sub_keep false s) h = sub_break s h
 sub_break (sub_skip b {ys = ys} s) h = sub_break s (or_left b (some_break ys) h).1
+sub_break (sub_break_more some s) h = absurd cc
 
 sub_bad : {xs ys : List Bool} → Sub xs ys → is_bad ys ≡ false → is_bad xs ≡ false
 sub_bad sub_none h = refl
 sub_bad (sub_keep true s) h = sub_bad s h
 sub_bad (sub_keep false {xs = xs} {ys = ys} s) h = let p = or_left (some_break ys) (is_bad ys) h in ap₂ (λ x y. x || y) (sub_break s p.0) (sub_bad s p.1)
 sub_bad (sub_skip b {ys = ys} s) h = sub_bad s (or_left (not b && some_break ys) (is_bad ys) h).1
+sub_bad (sub_break_more some s) h = sub_bad s h
 
 skip_all : (bs : List Bool) {xs ms : List Bool} → Sub xs ms → Sub xs (bs ++ ms)
 skip_all [] h = h
@@ -208,6 +212,26 @@ store_sub : (scope : Scope) (mask : Option ℕ) (q : ℕ) (env : List Bound) (a 
 store_sub scope mask q env a None v rest ms s = sub_skip false s
 store_sub scope mask q env a (Some c) v rest ms s = sub_keep false s
 
+-- the breaks of a condition stand before the one break of its listing
+quit_sub : (k : Program) (c : Term) (scope : Scope) (mask : Option ℕ) (from g u : ℕ) (env : List Bound) (rest : List Item) (ms : List Bool) → scope.index ≡ loop_index k → some_break ms ≡ true → Sub (marks rest) ms → Sub (marks (quit_items scope mask from env c rest)) (entry_marks k (term_entries k g u c) ++ ms)
+quit_sub k c scope mask from g u env rest ms q some h = (term_sub k c).as_cond scope mask from g u env _ ms q (sub_break_more some h)
+
+break_later : (xs ys : List Bool) → some_break ys ≡ true → some_break (xs ++ ys) ≡ true
+break_later [] ys e = e
+break_later (true ∷ xs) ys e = refl
+break_later (false ∷ xs) ys e = break_later xs ys e
+
+leave_sub : (k : Program) (c : Term) (scope : Scope) (mask : Option ℕ) (from g u : ℕ) (env : List Bound) (rest : List Item) (ms : List Bool) → scope.index ≡ loop_index k → some_break ms ≡ true → Sub (marks rest) ms → Sub (marks (leave_items scope mask from env c rest)) (entry_marks k (term_entries k g u c) ++ ms)
+leave_sub k (Either x y) scope mask from g u env rest ms q some h =
+    let mark = g + term_size (loop_index k) x in
+    let item' = mark + 1 + term_size (loop_index k) y in
+    let last : List Entry = entry k item' (IsPlain kind.Or) u ∷ [] in
+    let later : List Entry = entry k mark (IsPlain kind.Mark) item' ∷ (term_entries k (mark + 1) item' y ++ last) in
+    joined k (term_entries k g item' x) later _
+    (leave_sub k x scope mask from g item' env _ (entry_marks k later ++ ms) q (break_later (entry_marks k later) ms some)
+    (joined k (term_entries k (mark + 1) item' y) last _ (quit_sub k y scope mask _ (mark + 1) item' env rest ms q some h)))
+leave_sub k c scope mask from g u env rest ms q some h = quit_sub k c scope mask from g u env rest ms q some h
+
 mutual
   action_sub : (k : Program) (s : Action) (scope : Scope) (mask : Option ℕ) (from g : ℕ) (env : List Bound) (rest : List Item) (ms : List Bool) → scope.index ≡ loop_index k → Sub (marks rest) ms → Sub (marks (action_items scope mask from env s rest)) (entry_marks k (action_entries k g s) ++ ms)
   action_sub k (Define x t e) scope mask from g env rest ms q h = joined k (term_entries k g _ e) _ _ ((term_sub k e).as_value scope (first t (own scope e)) mask from g _ env _ ms q h)
@@ -223,7 +247,7 @@ mutual
       (joined k (block_entries k (first + 1) b) last _
       (block_sub k b scope (Some (truth_home scope.index from c)) _ (first + 1) env _ (entry_marks k last ++ ms) q
       (joined k (otherwise_entries k following end d) (entry k end (IsPlain kind.End) end ∷ []) _ (otherwise_sub k d (left scope (after_block scope b)) mask _ (truth_home scope.index from c) following end env rest ms q h)))))
-  action_sub k (Leave c) scope mask from g env rest ms q h = joined k (term_entries k g _ c) _ _ ((term_sub k c).as_cond scope mask from g _ env _ (true ∷ ms) q (sub_keep true h))
+  action_sub k (Leave c) scope mask from g env rest ms q h = joined k (term_entries k g _ c) _ _ (leave_sub k c scope mask from g _ env rest (true ∷ ms) q refl (sub_skip true h))
 
   block_sub : (k : Program) (b : Block) (scope : Scope) (mask : Option ℕ) (from g : ℕ) (env : List Bound) (rest : List Item) (ms : List Bool) → scope.index ≡ loop_index k → Sub (marks rest) ms → Sub (marks (block_items scope mask from env b rest)) (entry_marks k (block_entries k g b) ++ ms)
   block_sub k Done scope mask from g env rest ms q h = h

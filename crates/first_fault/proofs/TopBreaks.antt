@@ -1,5 +1,5 @@
 -- Breaks stand in the loop's own block: the items of a list that break, and the number after the last of them.
-use Rattle.std.proofs.Common.{◌≡◌, ℕ, ◌+◌, ℤ, Bool, true, false, cond, List, [], ◌∷◌, Option, Some, None, refl, sym, ap, ◌∙◌, arith}
+use Rattle.std.proofs.Common.{◌≡◌, ℕ, ◌+◌, ℤ, Bool, true, false, cond, List, [], ◌∷◌, Option, Some, None, refl, sym, ap, ◌∙◌, subst}
 use Rattle.std.specs.Prelude.{is_some, ◌||◌, ◌&&◌, if◌then◌else◌}
 use Rattle.std.specs.List.{list_any}
 use Rattle.kernel_tree.specs.declared.ops.Ty.{Ty}
@@ -7,7 +7,7 @@ use Rattle.kernel_tree.specs.Plain.{Term, Literal, Variable, Element, Unary, Ope
 use Rattle.kernel_tree.specs.Items.{stream_offset, index_items, term_size, action_size, block_size}
 use Rattle.kernel_tree.specs.Typing.{Scope, own, first, index_type, side_type, after_action, after_block, left, array_type}
 use Rattle.loop_form.specs.declared.loop_item.Source.{Source}
-use Rattle.loop_form.specs.LoopItems.{Bound, accumulator_of, Quit, Item, item, truth_home, load_item, gather_item, term_items, cond_items, store_item, after_env, action_items, block_items, otherwise_items}
+use Rattle.loop_form.specs.LoopItems.{Bound, accumulator_of, Quit, Item, item, truth_home, load_item, gather_item, term_items, cond_items, store_item, after_env, quit_items, leave_items, action_items, block_items, otherwise_items}
 use Rattle.chunk_emit.specs.Fits.{following_items}
 use Rattle.first_fault.specs.Split.{quits, is_quit, region_of}
 use Rattle.first_fault.specs.KernelFits.{is_inner_break}
@@ -125,6 +125,13 @@ choose_adds c t d s mask b env rest first second none =
     let middle : List Item = block_items s (Some home) inner env t last in
     same_adds (cond_items s mask b env c middle) middle rest ((term_breaks c).as_cond s mask b env middle) (then_adds middle last rest first second) none
 
+quit_breaks : (c : Term) (s : Scope) (mask : Option ℕ) (b : ℕ) (env : List Bound) (rest : List Item) → breaks_of (quit_items s mask b env c rest) ≡ item (b + term_size s.index c) mask (Quit (truth_home s.index b c)) ∷ breaks_of rest
+quit_breaks c s mask b env rest = (term_breaks c).as_cond s mask b env (item (b + term_size s.index c) mask (Quit (truth_home s.index b c)) ∷ rest)
+
+masked_leave : (c : Term) (s : Scope) (m b : ℕ) (env : List Bound) (rest : List Item) → list_any is_inner_break (breaks_of (leave_items s (Some m) b env c rest)) ≡ true
+masked_leave (Either x y) s m b env rest = masked_leave x s m b env _
+masked_leave c s m b env rest = ap (list_any is_inner_break) (quit_breaks c s (Some m) b env rest)
+
 mutual
   masked_action : (a : Action) (s : Scope) (m b : ℕ) (env : List Bound) (rest : List Item) → Adds (action_items s (Some m) b env a rest) rest
   masked_action (Define x t e) s m b env rest none = (term_breaks e).as_value s (first t (own s e)) (Some m) b env _
@@ -133,10 +140,7 @@ mutual
   masked_action (Choose c t d) s m b env rest none =
       choose_adds c t d s (Some m) b env rest (masked_block t s (truth_home s.index b c) (b + term_size s.index c + 1) env _)
       (any_otherwise d (left s (after_block s t)) (Some m) (b + term_size s.index c + 1 + block_size s.index t) (truth_home s.index b c) env rest) none
-  masked_action (Leave c) s m b env rest none =
-      let e = (term_breaks c).as_cond s (Some m) b env (item (b + term_size s.index c) (Some m) (Quit (truth_home s.index b c)) ∷ rest) in
-      let one : true ≡ false = sym (ap (list_any is_inner_break) e) ∙ none in
-      absurd cc
+  masked_action (Leave c) s m b env rest none = let one : true ≡ false = sym (masked_leave c s m b env rest) ∙ none in absurd cc
 
   masked_block : (t : Block) (s : Scope) (m b : ℕ) (env : List Bound) (rest : List Item) → Adds (block_items s (Some m) b env t rest) rest
   masked_block Done s m b env rest none = refl
@@ -151,10 +155,40 @@ mutual
 
 -- ---- statements of the loop's own block
 
--- a statement that breaks, whose last item does, or one that does not
+-- the number of the last break of a statement
+abbrev pub last_quit : Option (List ℕ) → ℕ → Term → ℕ
+last_quit i from (Either a b) = from + term_size i a + 1 + term_size i b
+last_quit i from c = from + term_size i c
+
+abbrev pub IsLast : Option (List ℕ) → ℕ → Action → ℕ → Type 0
+IsLast i b (Leave c) q = q ≡ last_quit i b c
+IsLast i b _ q = ⊥
+
+-- breaks after which others follow: where the last of them stands
+record Breaks (all rest : List Item) (q : ℕ) : Type 0 where
+  following : (p : ℕ) → following_break p all ≡ following_break (q + 1) rest
+  outer : list_any is_inner_break all ≡ false → list_any is_inner_break rest ≡ false
+
+one_breaks : (q c : ℕ) (rest : List Item) → Breaks (item q None (Quit c) ∷ rest) rest q
+one_breaks q c rest = record { following = λ p. refl; outer = λ e. e }
+
+then_breaks : (all mid rest : List Item) (q n : ℕ) → Breaks all mid q → Breaks mid rest n → Breaks all rest n
+then_breaks all mid rest q n h g = record { following = λ p. h.following p ∙ g.following (q + 1); outer = λ e. g.outer (h.outer e) }
+
+leave_breaks : (c : Term) (s : Scope) (b : ℕ) (env : List Bound) (rest : List Item) → Breaks (breaks_of (leave_items s None b env c rest)) (breaks_of rest) (last_quit s.index b c)
+leave_breaks (Either x y) s b env rest =
+    let next = b + term_size s.index x + 1 in
+    let mid = breaks_of (quit_items s None next env y rest) in
+    then_breaks (breaks_of (leave_items s None b env x (quit_items s None next env y rest))) mid (breaks_of rest) (last_quit s.index b x) (next + term_size s.index y)
+    (leave_breaks x s b env (quit_items s None next env y rest))
+    (subst (λ all. Breaks all (breaks_of rest) (next + term_size s.index y)) (sym (quit_breaks y s None next env rest)) (one_breaks (next + term_size s.index y) (truth_home s.index next y) (breaks_of rest)))
+leave_breaks c s b env rest = subst (λ all. Breaks all (breaks_of rest) (b + term_size s.index c)) (sym (quit_breaks c s None b env rest)) (one_breaks (b + term_size s.index c) (truth_home s.index b c) (breaks_of rest))
+
+-- a statement that breaks, or one that does not
 pub data TopAction (s : Scope) (b : ℕ) (env : List Bound) (a : Action) (rest : List Item) : Type 0 where
   goes : breaks_of (action_items s None b env a rest) ≡ breaks_of rest → TopAction s b env a rest
-  ends : (q c : ℕ) → q + 1 ≡ b + action_size s.index a → breaks_of (action_items s None b env a rest) ≡ item q None (Quit c) ∷ breaks_of rest → TopAction s b env a rest
+  ends : (q : ℕ) → IsLast s.index b a q → ((p : ℕ) → following_break p (breaks_of (action_items s None b env a rest)) ≡ following_break (q + 1) (breaks_of rest))
+      → (list_any is_inner_break (breaks_of (action_items s None b env a rest)) ≡ false → list_any is_inner_break (breaks_of rest) ≡ false) → TopAction s b env a rest
 
 pub top_action : (a : Action) (s : Scope) (b : ℕ) (env : List Bound) (rest : List Item) → list_any is_inner_break (breaks_of (action_items s None b env a rest)) ≡ false → TopAction s b env a rest
 top_action (Define x t e) s b env rest none = goes ((term_breaks e).as_value s (first t (own s e)) None b env _)
@@ -164,4 +198,4 @@ top_action (Choose c t d) s b env rest none =
     goes
     (choose_adds c t d s None b env rest (masked_block t s (truth_home s.index b c) (b + term_size s.index c + 1) env _)
     (any_otherwise d (left s (after_block s t)) None (b + term_size s.index c + 1 + block_size s.index t) (truth_home s.index b c) env rest) none)
-top_action (Leave c) s b env rest none = ends (b + term_size s.index c) (truth_home s.index b c) (omega arith) ((term_breaks c).as_cond s None b env (item (b + term_size s.index c) None (Quit (truth_home s.index b c)) ∷ rest))
+top_action (Leave c) s b env rest none = let h = leave_breaks c s b env rest in ends (last_quit s.index b c) refl h.following h.outer

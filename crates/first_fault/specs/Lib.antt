@@ -8,5 +8,3 @@ pub mod Split
 pub mod IterationWays
 pub mod KernelFits
 pub mod View
-pub mod SplitBreaks
-pub mod SplitRuns

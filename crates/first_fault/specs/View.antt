@@ -8,11 +8,8 @@ use Rattle.loop_form.specs.LoopItems.{Item}
 use Rattle.chunk_emit.specs.ChunkCode.{puts}
 use Rattle.first_fault.specs.declared.mode.Mode.{Mode}
 use Rattle.first_fault.specs.declared.mode.Mode.TheVariants as mode
-use Rattle.first_fault.specs.declared.or_breaks.Spot.{Spot}
-use Rattle.first_fault.specs.declared.or_breaks.Spot.TheVariants as spot
 use Rattle.first_fault.specs.RegionCode as plain
 use Rattle.first_fault.specs.Split.{is_quit}
-use Rattle.first_fault.specs.SplitBreaks as split
 
 abbrev pub mode_of : Mode → plain.Mode
 mode_of mode.Early = plain.Early
@@ -30,9 +27,3 @@ region_size (it ∷ items) = if list_any is_quit (it ∷ items) then suc (region
 -- the same of items from a place on, where the ones before it come to a size
 abbrev pub size_from : (size place : ℕ) → List Item → ℕ
 size_from size place items = if list_any is_quit items then place + region_size items else size
-
--- where a walk over the items stands
-abbrev pub spot_of : Spot → split.Spot
-spot_of spot.Alone = split.Alone
-spot_of (spot.Second m) = split.Second m
-spot_of spot.Closed = split.Closed

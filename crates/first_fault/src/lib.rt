@@ -5,7 +5,6 @@
 mod emit;
 mod laws;
 pub mod mode;
-mod or_breaks;
 mod split;
 mod words;
 
@@ -13,12 +12,10 @@ ghost use Rattle.first_fault.specs.KernelFits.{KernelFits, TreeIsSpelled};
 ghost use Rattle.first_fault.specs.RegionRuns.{ExitsRun, SingleRuns};
 ghost use Rattle.first_fault.specs.Rest.{AlwaysFew, RestHolds, WayIsRun};
 ghost use Rattle.first_fault.specs.Split.{RegionSplits};
-ghost use Rattle.first_fault.specs.SplitRuns.{SplitExitsRun, SplitSingleRuns};
 ghost use Rattle.first_fault.specs.IterationWays.{WayIsTurn};
 
 pub use emit::{emit_exits, emit_single};
 pub use laws::writable_items;
-pub use or_breaks::split_breaks;
 pub use split::{has_break, region, rest};
 
 /// The code of the region over a chunk, with every stop list: a prefix of the lanes comes through, with their values in the
@@ -33,17 +30,6 @@ pub fn exits_run()
 /// where the lane faults. No stop list has a say.
 pub fn single_runs()
     ensures { SingleRuns }
-{}
-
-/// With `break if a || b` as two breaks the code of the region over a chunk does the same: it cuts the lanes as the items of
-/// the region do, and leaves their values.
-pub fn split_exits_run()
-    ensures { SplitExitsRun }
-{}
-
-/// So does the code over one lane.
-pub fn split_single_runs()
-    ensures { SplitSingleRuns }
 {}
 
 /// How an iteration fares in the region is what its items do in its lane.

@@ -6,7 +6,7 @@ use Rattle.kernel_tree.specs.Plain.{Term, Literal, Variable, Element, Operation,
 use Rattle.loop_form.specs.Entries.{item_type}
 use Rattle.loop_form.specs.Listing.{last_use_from, listing_of}
 use Rattle.loop_form.specs.declared.loop_item.Source.TheVariants.{Constant, Outer, Made}
-use Rattle.loop_form.specs.LoopItems.{item, Load, Combine, Cast, Copy, Store, Add, Test, Invert, Any, loop_items_of}
+use Rattle.loop_form.specs.LoopItems.{item, Load, Combine, Cast, Copy, Store, Add, Test, Invert, Any, Quit, loop_items_of}
 use Rattle.loop_form.specs.Streams.{streams_of}
 use Rattle.loop_form.specs.Reaches.{index_reach, reaches_of}
 use Rattle.reg_assign.specs.declared.interval.Interval.{Interval}
@@ -14,7 +14,7 @@ use Rattle.reg_assign.specs.declared.interval.RegClass.TheVariants.{Z, P, X}
 use Rattle.loop_form.specs.Needs.{constants, most_live, needs_of, throughout, intervals}
 use Rattle.loop_form.specs.Places.{value_places}
 use Rattle.loop_form.specs.Lanes.{widest, lane_width_of}
-use Rattle.loop_form.proofs.Kernels.{a, i, n, p, s, y, axpy, spread, running, bright, ways, choice, lasts, pairs, values, look, far, pick, casts}
+use Rattle.loop_form.proofs.Kernels.{a, b, c, i, n, p, s, y, axpy, spread, running, bright, ways, choice, lasts, pairs, values, look, far, pick, casts, either, three}
 use Rattle.kernel_tree.specs.declared.ops.Ty.TheVariants as ty
 use Rattle.kernel_tree.specs.declared.ops.BinaryOp.TheVariants as binary
 use Rattle.kernel_tree.specs.declared.ops.CompareOp.TheVariants as compare
@@ -162,6 +162,36 @@ ways-items : loop_items_of ways ≡
     ∷ item 25 (Some 22) (Store y (Outer 1) (Some ty.U8) (pos 0) (Constant (Some ty.U8) (pos 1)))
     ∷ []
 ways-items = refl
+
+-- `break if a[i] == 0 || b[i] == 0`: two breaks, in the places of the mark and of the `||`
+either-items : loop_items_of either ≡
+    item 4 None (Load a (Outer 0) (Some ty.U8) (pos 0))
+    ∷ item 6 None (Test compare.Eq (Some ty.U8) (Made 4) (Constant (Some ty.U8) (pos 0)))
+    ∷ item 7 None (Quit 6)
+    ∷ item 8 None (Load b (Outer 1) (Some ty.U8) (pos 0))
+    ∷ item 10 None (Test compare.Eq (Some ty.U8) (Made 8) (Constant (Some ty.U8) (pos 0)))
+    ∷ item 11 None (Quit 10)
+    ∷ []
+either-items = refl
+
+-- with a third array, three: the second mark, of number 13, has no item
+three-items : loop_items_of three ≡
+    item 5 None (Load a (Outer 0) (Some ty.U8) (pos 0))
+    ∷ item 7 None (Test compare.Eq (Some ty.U8) (Made 5) (Constant (Some ty.U8) (pos 0)))
+    ∷ item 8 None (Quit 7)
+    ∷ item 9 None (Load b (Outer 1) (Some ty.U8) (pos 0))
+    ∷ item 11 None (Test compare.Eq (Some ty.U8) (Made 9) (Constant (Some ty.U8) (pos 0)))
+    ∷ item 12 None (Quit 11)
+    ∷ item 14 None (Load c (Outer 2) (Some ty.U8) (pos 0))
+    ∷ item 16 None (Test compare.Eq (Some ty.U8) (Made 14) (Constant (Some ty.U8) (pos 0)))
+    ∷ item 17 None (Quit 16)
+    ∷ []
+three-items = refl
+
+-- what they need is counted by the listing, which keeps the mark and the `||`
+break-needs : map needs_of (either ∷ three ∷ []) ≡ record { size = 13; z = 2; p = 3; x = 2 } ∷ record { size = 19; z = 2; p = 3; x = 2 } ∷ []
+unfolding item_type last_use_from constants most_live
+break-needs = refl
 
 -- an update, by the accumulator's name and the element's type
 running-items : loop_items_of running ≡

@@ -1,6 +1,6 @@
 -- Worked kernels, as data.
 use Rattle.std.specs.Prelude.{ℕ, pos, List, [], ◌∷◌, Some, None}
-use Rattle.kernel_tree.specs.Plain.{Literal, Variable, Element, Operation, Conversion, Comparison, Either, Not, Define, Put, Update, Choose, Done, Then, Nothing, Else, Program}
+use Rattle.kernel_tree.specs.Plain.{Literal, Variable, Element, Operation, Conversion, Comparison, Either, Not, Define, Put, Update, Choose, Leave, Done, Then, Nothing, Else, Program}
 use Rattle.kernel_tree.specs.declared.ops.Ty.TheVariants as ty
 use Rattle.kernel_tree.specs.declared.ops.BinaryOp.TheVariants as binary
 use Rattle.kernel_tree.specs.declared.ops.CompareOp.TheVariants as compare
@@ -191,5 +191,25 @@ near = record {
   params = record { name = t; shape = shape.Array ty.U64 } ∷ record { name = x; shape = shape.Array ty.U8 } ∷ record { name = y; shape = shape.Array ty.U64 } ∷ record { name = n; shape = shape.Scalar ty.U64 } ∷ [];
   vars = [];
   turns = Some (record { index = i; bound = n; body = (Then (Put y (Variable i) (Operation binary.Add (Element t (Conversion (Element x (Variable i)) ty.U64)) (Element t (Operation binary.Add (Variable i) (Literal (pos 1)))))) Done) });
+  answer = None;
+}
+
+-- kernel either(a: [u8], b: [u8], n: u64) { for i in 0..n { break if a[i] == 0 || b[i] == 0; } }
+abbrev pub either : Program
+either = record {
+  name = f;
+  params = record { name = a; shape = shape.Array ty.U8 } ∷ record { name = b; shape = shape.Array ty.U8 } ∷ record { name = n; shape = shape.Scalar ty.U64 } ∷ [];
+  vars = [];
+  turns = Some (record { index = i; bound = n; body = (Then (Leave (Either (Comparison compare.Eq (Element a (Variable i)) (Literal (pos 0))) (Comparison compare.Eq (Element b (Variable i)) (Literal (pos 0))))) Done) });
+  answer = None;
+}
+
+-- kernel three(a: [u8], b: [u8], c: [u8], n: u64) { for i in 0..n { break if a[i] == 0 || b[i] == 0 || c[i] == 0; } }
+abbrev pub three : Program
+three = record {
+  name = f;
+  params = record { name = a; shape = shape.Array ty.U8 } ∷ record { name = b; shape = shape.Array ty.U8 } ∷ record { name = c; shape = shape.Array ty.U8 } ∷ record { name = n; shape = shape.Scalar ty.U64 } ∷ [];
+  vars = [];
+  turns = Some (record { index = i; bound = n; body = (Then (Leave (Either (Either (Comparison compare.Eq (Element a (Variable i)) (Literal (pos 0))) (Comparison compare.Eq (Element b (Variable i)) (Literal (pos 0)))) (Comparison compare.Eq (Element c (Variable i)) (Literal (pos 0))))) Done) });
   answer = None;
 }

@@ -168,6 +168,16 @@ abbrev pub after_env : Scope → ℕ → List Bound → Action → List Bound
 after_env scope from env (Define x t e) = with_bound env x (first t (own scope e)) (from + term_size scope.index e)
 after_env scope from env _ = env
 
+-- a break on one condition
+abbrev pub quit_items : Scope → Option ℕ → ℕ → List Bound → Term → List Item → List Item
+quit_items scope mask from env c rest = cond_items scope mask from env c (item (from + term_size scope.index c) mask (Quit (truth_home scope.index from c)) ∷ rest)
+
+-- A break on `a || b` is one on a and then one on b, in the places of the mark and of the `||`, so that b is done under no mask of
+-- its own; `a || b || c`, which is `(a || b) || c`, is three.
+abbrev pub leave_items : Scope → Option ℕ → ℕ → List Bound → Term → List Item → List Item
+leave_items scope mask from env (Either a b) rest = leave_items scope mask from env a (quit_items scope mask (from + term_size scope.index a + 1) env b rest)
+leave_items scope mask from env c rest = quit_items scope mask from env c rest
+
 abbrev mutual
   pub action_items : Scope → Option ℕ → ℕ → List Bound → Action → List Item → List Item
   action_items scope mask from env (Define x t e) rest = let want = first t (own scope e) in term_items scope want mask from env e (item (from + term_size scope.index e) mask (Copy want (home scope.index want from env e)) ∷ rest)
@@ -177,7 +187,7 @@ abbrev mutual
       let first = truth_home scope.index from c in
       let inner = from + term_size scope.index c + 1 in
       cond_items scope mask from env c (block_items scope (Some first) inner env b (otherwise_items (left scope (after_block scope b)) mask (inner + block_size scope.index b) first env d rest))
-  action_items scope mask from env (Leave c) rest = cond_items scope mask from env c (item (from + term_size scope.index c) mask (Quit (truth_home scope.index from c)) ∷ rest)
+  action_items scope mask from env (Leave c) rest = leave_items scope mask from env c rest
 
   pub block_items : Scope → Option ℕ → ℕ → List Bound → Block → List Item → List Item
   block_items scope mask from env Done rest = rest

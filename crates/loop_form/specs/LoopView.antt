@@ -8,7 +8,7 @@ use Rattle.loop_form.specs.declared.loop_item.LoopOp.{LoopOp}
 use Rattle.loop_form.specs.declared.loop_item.LoopOp.TheVariants as op
 use Rattle.loop_form.specs.declared.loop_item.LoopItem.{LoopItem}
 use Rattle.loop_form.specs.declared.visible.Visible.{Visible}
-use Rattle.loop_form.specs.LoopItems.{Op, Load, Gather, Apply, Combine, Move, Cast, Copy, Pick, Store, Add, Test, Invert, Same, Any, Quit, Item, Bound, bound, outer_env, loop_env, term_items, cond_items, action_items, block_items, after_env}
+use Rattle.loop_form.specs.LoopItems.{Op, Load, Gather, Apply, Combine, Move, Cast, Copy, Pick, Store, Add, Test, Invert, Same, Any, Quit, Item, Bound, bound, outer_env, loop_env, term_items, cond_items, quit_items, action_items, block_items, after_env}
 
 abbrev pub op_of : LoopOp → Op
 op_of (op.Load a base t c) = Load a.now base t c
@@ -60,6 +60,10 @@ AppendsValue index names want mask from t old new =
 abbrev pub AppendsCondition : Option (List ℕ) → List Visible → Option ℕ → ℕ → Term → (old new : List LoopItem) → Type 0
 AppendsCondition index names mask from t old new =
     (taken : List (List ℕ)) (rest : List Item) → view new ++ rest ≡ view old ++ cond_items (scope_of index names taken) mask from (env_of names) t rest
+
+abbrev pub AppendsQuit : Option (List ℕ) → List Visible → Option ℕ → ℕ → Term → (old new : List LoopItem) → Type 0
+AppendsQuit index names mask from c old new =
+    (taken : List (List ℕ)) (rest : List Item) → view new ++ rest ≡ view old ++ quit_items (scope_of index names taken) mask from (env_of names) c rest
 
 abbrev pub AppendsAction : Option (List ℕ) → List Visible → Option ℕ → ℕ → Action → (old new : List LoopItem) → Type 0
 AppendsAction index names mask from a old new =

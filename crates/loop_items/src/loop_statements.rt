@@ -3,7 +3,7 @@
 ghost use Rattle.std.specs.Prelude.{◌≡◌, ◌+◌, ◌≤◌, [], take, length, false};
 ghost use Rattle.kernel_tree.specs.Plain.{Define, Put, Update, Leave, Choose, Nothing, Else, name_of, term_of, action_of, block_of};
 ghost use Rattle.kernel_tree.specs.Items.{loop_index, term_size, action_size, block_size};
-ghost use Rattle.loop_form.specs.LoopView.{AppendsAction, AppendsBlock, Declares};
+ghost use Rattle.loop_form.specs.LoopView.{AppendsQuit, AppendsAction, AppendsBlock, Declares};
 ghost use Rattle.loop_form.specs.Near.{NearTerm, NearAction, NearBlock};
 ghost use Rattle.loop_form.specs.View.{program};
 
@@ -103,7 +103,26 @@ fn list_update<'a>(
     append(listed, from + expr_size(kernel, value), mask, op);
 }
 
-// A `break`: its condition, and the break.
+// A break on one condition: the condition, and the break.
+fn list_quit<'a>(
+    kernel: &Checked,
+    names: &[Visible<'a>],
+    listed: &mut Listed<'a>,
+    mask: Option<u32>,
+    from: u32,
+    cond: &'a Expr,
+)
+    requires fits { from + (term_size (loop_index (program kernel.now)) (term_of cond.now) + 1) ≤ 1000 }
+    requires near { NearTerm (loop_index (program kernel.now)) (term_of cond.now) }
+    ensures kept { listed.new.short ≡ false → listed.old.short ≡ false }
+    ensures items { listed.new.short ≡ false → AppendsQuit (loop_index (program kernel.now)) names.now
+        mask from (term_of cond.now) listed.old.items.items listed.new.items.items }
+{
+    let op = LoopOp::Quit(list_truth(kernel, names, listed, mask, from, cond));
+    append(listed, from + expr_size(kernel, cond), mask, op);
+}
+
+// A `break`: one on the left side of a `||` and then one on the right side, or one on its condition.
 fn list_break<'a>(
     kernel: &Checked,
     names: &[Visible<'a>],
@@ -118,8 +137,14 @@ fn list_break<'a>(
     ensures items { listed.new.short ≡ false → AppendsAction (loop_index (program kernel.now)) names.now
         mask from (Leave (term_of cond.now)) listed.old.items.items listed.new.items.items }
 {
-    let op = LoopOp::Quit(list_truth(kernel, names, listed, mask, from, cond));
-    append(listed, from + expr_size(kernel, cond), mask, op);
+    match cond {
+        Expr::Or { left, right } => {
+            let next = from + expr_size(kernel, left) + 1;
+            list_break(kernel, names, listed, mask, from, left);
+            list_quit(kernel, names, listed, mask, next, right);
+        }
+        _ => list_quit(kernel, names, listed, mask, from, cond),
+    }
 }
 
 // A statement; the names after it are not yet declared.

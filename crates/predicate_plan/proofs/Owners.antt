@@ -1,4 +1,4 @@
--- In a lane that has done the items of a loop the owner of each mask is true exactly where all parts of the mask are met.
+-- In a lane that has come through the items of a loop the owner of each mask is true exactly where all parts of the mask are met.
 use Rattle.std.proofs.Common.{◌≡◌, ℕ, ◌+◌, ◌-◌, ℤ, List, [], ◌∷◌, ◌++◌, length, replicate, Option, Some, None, Bool, true, false, not, ◌&&◌, append_assoc, length-append, option_map, refl, sym, ap, ap₂, ◌∙◌, subst, arith}
 use Rattle.std.specs.Prelude.{slice_index_or}
 use Rattle.std.proofs.lemmas.Bool.{and_parts}
@@ -9,7 +9,7 @@ use Rattle.kernel_tree.specs.Items.{index_of, stream_offset, term_size, index_si
 use Rattle.kernel_tree.specs.Typing.{Scope, own, index_type, first, side_type, after_action, after_block, left, in_loop, var_scope, array_type}
 use Rattle.kernel_tree.proofs.Scopes.{index_after, scope_index}
 use Rattle.kernel_tree.specs.Kinds.{IsValue, IsTruth, ActionKinds, BlockKinds, OtherwiseKinds}
-use Rattle.loop_form.specs.LoopItems.{Item, Bound, accumulator_of, truth_home, gather_item, load_item, store_item, term_items, cond_items, after_env, action_items, block_items, otherwise_items, loop_env, loop_items}
+use Rattle.loop_form.specs.LoopItems.{Item, Bound, accumulator_of, truth_home, gather_item, load_item, store_item, term_items, cond_items, after_env, quit_items, leave_items, action_items, block_items, otherwise_items, loop_env, loop_items}
 use Rattle.predicate_plan.specs.declared.part.MaskPart.{MaskPart}
 use Rattle.predicate_plan.specs.Masks.{meets, and_part, inner_masks, term_masks, action_masks, block_masks, otherwise_masks, mask_at, loop_masks, masks_of}
 use Rattle.predicate_plan.specs.Owners.{is_on, AreSettled, AreOwned}
@@ -179,6 +179,36 @@ module _ (masks : ℕ → List MaskPart) (truth : ℕ → Bool) where
   store_owned scope mask q env a None v ms rest h st k = k st
   store_owned scope mask q env a (Some c) v ms rest h st k = (h, k st.1)
 
+  -- past a break that was not taken
+  past_mask : (ms : List MaskPart) (mask : Option ℕ) (c : ℕ) → is_on truth mask ≡ meets truth ms → (is_on truth mask ≡ true → truth c ≡ false) → is_on truth mask ≡ meets truth (and_part ms c false)
+  past_mask ms mask c h past = by (is_on truth mask) h past ∙ sym (meets-more truth ms c false)
+    where
+      by : (b : Bool) → b ≡ meets truth ms → (b ≡ true → truth c ≡ false) → b ≡ (meets truth ms && not (truth c))
+      by true e f = ap₂ (λ a t. a && not t) e (sym (f refl))
+      by false e f = ap (λ a. a && not (truth c)) e
+
+  quit_owned : (c : Term) → IsTruth c → (scope : Scope) (mask : Option ℕ) (from : ℕ) (env : List Bound) (ms : List MaskPart) (rest : List Item) → is_on truth mask ≡ meets truth ms → Agree masks from (term_masks scope.index from ms c) → masks (from + term_size scope.index c) ≡ ms
+      → AreSettled truth (quit_items scope mask from env c rest) → (AreSettled truth rest → (is_on truth mask ≡ true → truth (from + term_size scope.index c - 1) ≡ false) → Owned rest) → Owned (quit_items scope mask from env c rest)
+  quit_owned c f scope mask from env ms rest h g last st k =
+      (owns c).cond f scope mask from env ms _ h g st (λ s _. (h ∙ ap (meets truth) (sym last), k s.1 (λ on. ap truth (sym (home-is scope.index from c f)) ∙ s.0.1 on)))
+
+  -- the last condition of a break is the one before it, or the break in the place of a `||`, which makes no truth
+  leave_owned : (c : Term) → IsTruth c → (scope : Scope) (mask : Option ℕ) (from : ℕ) (env : List Bound) (ms : List MaskPart) (rest : List Item) → is_on truth mask ≡ meets truth ms → Agree masks from (term_masks scope.index from ms c) → Agree masks (from + term_size scope.index c) (ms ∷ [])
+      → AreSettled truth (leave_items scope mask from env c rest) → (AreSettled truth rest → (is_on truth mask ≡ true → truth (from + term_size scope.index c - 1) ≡ false) → Owned rest) → Owned (leave_items scope mask from env c rest)
+  leave_owned (Either a b) f scope mask from env ms rest h g last st k =
+      let mark = from + term_size scope.index a in
+      let inner = and_part ms (mark - 1) false in
+      let front = agree_append masks from (term_size scope.index a) (term_masks scope.index from ms a) _ (term_count scope.index a from ms) g in
+      let parts = agree_append masks (mark + 1) (term_size scope.index b) (term_masks scope.index (mark + 1) inner b) (ms ∷ []) (term_count scope.index b (mark + 1) inner) front.1.1 in
+      leave_owned a f.0 scope mask from env ms _ h front.0 (front.1.0, tt) st (λ s past.
+      two_owned b f.1 scope mask (mark + 1) env inner ms rest (past_mask ms mask (mark - 1) h past) h parts.0 parts.1.0 s (λ s2 none. k s2 (λ on. ap truth (let e : from + term_size scope.index (Either a b) - 1 ≡ mark + 1 + term_size scope.index b = omega arith in e) ∙ none)))
+    where
+      -- b, and the break on it, whose mask is the outer one
+      two_owned : (c : Term) → IsTruth c → (scope : Scope) (mask : Option ℕ) (from : ℕ) (env : List Bound) (inner ms : List MaskPart) (rest : List Item) → is_on truth mask ≡ meets truth inner → is_on truth mask ≡ meets truth ms → Agree masks from (term_masks scope.index from inner c) → masks (from + term_size scope.index c) ≡ ms
+          → AreSettled truth (quit_items scope mask from env c rest) → (AreSettled truth rest → truth (from + term_size scope.index c) ≡ false → Owned rest) → Owned (quit_items scope mask from env c rest)
+      two_owned c f scope mask from env inner ms rest h e g last st k = (owns c).cond f scope mask from env inner _ h g st (λ s _. (e ∙ ap (meets truth) (sym last), k s.1 s.0.0))
+  leave_owned c f scope mask from env ms rest h g last st k = quit_owned c f scope mask from env ms rest h g last.0 st k
+
   mutual
     action_owned : (s : Action) → ActionKinds s → (scope : Scope) (mask : Option ℕ) (from : ℕ) (env : List Bound) (ms : List MaskPart) (rest : List Item) → is_on truth mask ≡ meets truth ms → Agree masks from (action_masks scope.index from ms s)
         → AreSettled truth (action_items scope mask from env s rest) → (AreSettled truth rest → Owned rest) → Owned (action_items scope mask from env s rest)
@@ -207,7 +237,7 @@ module _ (masks : ℕ → List MaskPart) (truth : ℕ → Bool) where
         otherwise_owned d f.2 (left scope (after_block scope b)) mask (next + 1 + block_size index b) q (next - 1) env ms rest h is last.0 s2 k))
     action_owned (Leave c) f scope mask from env ms rest h g st k =
         let parts = one_operand scope.index from ms c g in
-        (owns c).cond f scope mask from env ms _ h parts.0 st (λ s _. (item_met mask ms _ _ h parts.1 refl, k s.1))
+        leave_owned c f scope mask from env ms rest h parts.0 parts.1 st (λ s _. k s)
 
     block_owned : (b : Block) → BlockKinds b → (scope : Scope) (mask : Option ℕ) (from : ℕ) (env : List Bound) (ms : List MaskPart) (rest : List Item) → is_on truth mask ≡ meets truth ms → Agree masks from (block_masks scope.index from ms b)
         → AreSettled truth (block_items scope mask from env b rest) → (AreSettled truth rest → Owned rest) → Owned (block_items scope mask from env b rest)

@@ -15,9 +15,7 @@ use Rattle.chunk_emit.proofs.Counts.{few_words}
 use Rattle.dependence.specs.Apart.{bound_place}
 use Rattle.first_fault.specs.RegionCode.{exits_words, single_words}
 use Rattle.first_fault.specs.Split.{is_quit, region_of, rest_of}
-use Rattle.first_fault.specs.SplitBreaks.{split_breaks}
 use Rattle.first_fault.proofs.Counts.{always_few}
-use Rattle.first_fault.proofs.SplitCode.{steps_few}
 use Rattle.chunk_pass.specs.Chunks.{items_of}
 use Rattle.chunk_pass.specs.PassCode.{first_lane_words, index_words, advance_word, chunk_words, turn_words, plain_words}
 
@@ -52,27 +50,25 @@ items_end w l items = let a = length-append (items_words w l items) (advance_wor
 pub chunk_few : (w : Width) (l : Layout) (n : ℕ) (items : List Item) → length (chunk_words w l n items) ≤ 4 + items_steps true items
 chunk_few w l n items =
     let tail = items_words w l (rest_of items) ++ advance_word w ∷ [] in
-    let a = length-append (index_words l) (exits_words w l (split_breaks l (region_of items)) ++ tail) in
-    let b = length-append (exits_words w l (split_breaks l (region_of items))) tail in
+    let a = length-append (index_words l) (exits_words w l (region_of items) ++ tail) in
+    let b = length-append (exits_words w l (region_of items)) tail in
     let x = index_few l in
-    let y = (always_few w l (split_breaks l (region_of items))).exits in
-    let fewer = steps_few l (region_of items) in
+    let y = (always_few w l (region_of items)).exits in
     let z = items_end w l (rest_of items) in
     let early = more_early (rest_of items) in
     let all = parts items in
-    omega (arith, a, b, x, y, fewer, z, early, all)
+    omega (arith, a, b, x, y, z, early, all)
 
 pub turn_few : (w : Width) (l : Layout) (items : List Item) → length (turn_words w l items) ≤ 3 + items_steps true items
 turn_few w l items =
     let tail = items_words w l (rest_of items) ++ advance_word w ∷ [] in
-    let a = length-append (first_lane_words w) (single_words w l (split_breaks l (region_of items)) ++ tail) in
-    let b = length-append (single_words w l (split_breaks l (region_of items))) tail in
-    let y = (always_few w l (split_breaks l (region_of items))).single in
-    let fewer = steps_few l (region_of items) in
+    let a = length-append (first_lane_words w) (single_words w l (region_of items) ++ tail) in
+    let b = length-append (single_words w l (region_of items)) tail in
+    let y = (always_few w l (region_of items)).single in
     let z = items_end w l (rest_of items) in
     let early = more_early (rest_of items) in
     let all = parts items in
-    omega (arith, a, b, y, fewer, z, early, all)
+    omega (arith, a, b, y, z, early, all)
 
 pub plain_few : (w : Width) (l : Layout) (items : List Item) → length (plain_words w l items) ≤ 2 + items_steps false items
 plain_few w l items =

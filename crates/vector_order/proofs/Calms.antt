@@ -7,7 +7,7 @@ use Rattle.kernel_tree.specs.Items.{stream_offset, term_size}
 use Rattle.kernel_tree.specs.Typing.{Scope, own, first, index_type, side_type, after_action, after_block, left, array_type}
 use Rattle.loop_form.specs.declared.loop_item.Source.{Source}
 use Rattle.loop_form.specs.Reaches.{reach_of_type}
-use Rattle.loop_form.specs.LoopItems.{Bound, Op, Gather, Item, index_source, truth_home, load_item, store_item, term_items, cond_items, accumulator_of, after_env, action_items, block_items, otherwise_items}
+use Rattle.loop_form.specs.LoopItems.{Bound, Op, Gather, Item, index_source, truth_home, load_item, store_item, term_items, cond_items, accumulator_of, after_env, quit_items, leave_items, action_items, block_items, otherwise_items}
 use Rattle.vector_order.proofs.ReadyTerms.{Computed, computed_map}
 
 abbrev pub CalmOp : (List ℕ → Option ℕ → Type 0) → Op → Type 0
@@ -86,6 +86,13 @@ module _ (C : List ℕ → Option ℕ → Type 0) where
   term_calm (Either x y) = record { as_value = λ scope want mask from env rest h r. r; as_cond = λ scope mask from env rest h r. (term_calm x).as_cond scope mask from env _ h.0 (tt, (term_calm y).as_cond scope (Some (from + term_size scope.index x)) _ env _ h.1 (tt, r)) }
   term_calm (Not e) = record { as_value = λ scope want mask from env rest h r. r; as_cond = λ scope mask from env rest h r. (term_calm e).as_cond scope mask from env _ h (tt, r) }
 
+  quit_calm : (c : Term) (scope : Scope) (mask : Option ℕ) (from : ℕ) (env : List Bound) (rest : List Item) → Calmly C scope c → AllCalm C rest → AllCalm C (quit_items scope mask from env c rest)
+  quit_calm c scope mask from env rest h r = (term_calm c).as_cond scope mask from env _ h (tt, r)
+
+  leave_calm : (c : Term) (scope : Scope) (mask : Option ℕ) (from : ℕ) (env : List Bound) (rest : List Item) → Calmly C scope c → AllCalm C rest → AllCalm C (leave_items scope mask from env c rest)
+  leave_calm (Either a b) scope mask from env rest h r = leave_calm a scope mask from env _ h.0 (quit_calm b scope mask (from + term_size scope.index a + 1) env rest h.1 r)
+  leave_calm c scope mask from env rest h r = quit_calm c scope mask from env rest h r
+
   mutual
     action_calm : (s : Action) (scope : Scope) (mask : Option ℕ) (from : ℕ) (env : List Bound) (rest : List Item) → CalmAction C scope s → AllCalm C rest → AllCalm C (action_items scope mask from env s rest)
     action_calm (Define x t e) scope mask from env rest h r = (term_calm e).as_value scope (first t (own scope e)) mask from env _ h (tt, r)
@@ -93,7 +100,7 @@ module _ (C : List ℕ → Option ℕ → Type 0) where
     action_calm (Update x op e) scope mask from env rest h r = (term_calm e).as_value scope (accumulator_of scope x) mask from env _ h (tt, r)
     action_calm (Choose c b d) scope mask from env rest h r =
         (term_calm c).as_cond scope mask from env _ h.0 (block_calm b scope (Some (truth_home scope.index from c)) _ env _ h.1 (otherwise_calm d (left scope (after_block scope b)) mask _ (truth_home scope.index from c) env rest h.2 r))
-    action_calm (Leave c) scope mask from env rest h r = (term_calm c).as_cond scope mask from env _ h (tt, r)
+    action_calm (Leave c) scope mask from env rest h r = leave_calm c scope mask from env rest h r
 
     pub block_calm : (b : Block) (scope : Scope) (mask : Option ℕ) (from : ℕ) (env : List Bound) (rest : List Item) → CalmBlock C scope b → AllCalm C rest → AllCalm C (block_items scope mask from env b rest)
     block_calm Done scope mask from env rest h r = r

@@ -3,6 +3,7 @@ use Rattle.kernel_tree.specs.Plain.{Program}
 use Rattle.kernel_tree.specs.Items.{loop_start}
 use Rattle.loop_form.specs.Entries.{loop_entries}
 use Rattle.loop_form.specs.Lanes.{lane_width_of}
+use Rattle.loop_form.specs.LoopItems.{loop_items_of}
 use Rattle.loop_form.specs.Listing.{listing_of}
 use Rattle.loop_form.specs.View.{program}
 use Rattle.chunk_emit.specs.LastUses.{z_last, p_last}
@@ -30,6 +31,7 @@ invariant_of-result c =
     let part : c.part-items.result.now ≡ take (length (loop_entries k)) (drop (loop_start k) (listing_of k)) = c.part-items.ensures ∙ ap (λ n. take c.count.result (drop n c.deref.result.now)) c.first.ensures ∙ ap (λ n. take n (drop (loop_start k) c.deref.result.now)) c.count.ensures ∙ ap (λ l. take (length (loop_entries k)) (drop (loop_start k) l)) listed in
     record {
       sized = c.lane_width-width.ensures ∙ ap lane_width_of same;
+      made = c.in_ok-made.ensures ∙ ap loop_items_of same;
       valued = c.in_ok-values.ensures ∙ ap (map z_last) part ∙ value_uses k;
       tested = c.in_ok-truths.ensures ∙ ap (map p_last) part ∙ truth_uses k;
     }

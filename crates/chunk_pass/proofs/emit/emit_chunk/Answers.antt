@@ -9,9 +9,7 @@ use Rattle.chunk_emit.specs.View.{layout_in, width_in}
 use Rattle.chunk_emit.specs.Writable.{AreWritable}
 use Rattle.first_fault.specs.RegionCode.{exits_words}
 use Rattle.first_fault.specs.Split.{region_of, rest_of}
-use Rattle.first_fault.specs.SplitBreaks.{split_breaks}
 use Rattle.chunk_pass.specs.PassCode.{lanes_word, index_words, advance_word}
-use Rattle.first_fault.proofs.SplitCode.{steps_writable}
 use Rattle.chunk_pass.proofs.PassPuts.{chunk_puts}
 use Rattle.chunk_pass.proofs.emit.emit_chunk.Goals as goal
 
@@ -20,7 +18,7 @@ emit_exits-requires c =
     let w : Width = width_in c.args.layout.now in
     let l : Layout = layout_in c.args.layout.now in
     let items : List Item = view c.args.items.now in
-    subst (AreWritable w) (sym (ap view c.deref.ensures.value ∙ c.in_ok-steps.ensures ∙ ap (split_breaks l) c.region.ensures)) (steps_writable w l (region_of items) c.requires.region)
+    subst (AreWritable w) (sym c.region.ensures) c.requires.region
 
 pub returns-clause-code : goal.returns-clause-code
 returns-clause-code c rest =
@@ -29,14 +27,14 @@ returns-clause-code c rest =
     let items : List Item = view c.args.items.now in
     let last : List Entry = Put (advance_word w) ∷ rest in
     let following : List Entry = puts (items_words w l (rest_of items)) last in
-    let read : List Entry = puts (exits_words w l (split_breaks l (region_of items))) following in
+    let read : List Entry = puts (exits_words w l (region_of items)) following in
     let turned : List Entry = puts (index_words l) read in
     c.in_ok-put-2.ensures.code rest
     ∙ ap (λ x. c.emit_items.new.draft.entries ++ Put x ∷ rest) (c.advance.ensures ∙ ap advance_word c.width-2.ensures)
     ∙ c.in_ok-emit_items.ensures.code last
     ∙ ap (λ its. c.emit_exits.new.draft.entries ++ puts (items_words w l its) last) c.rest.ensures
     ∙ c.in_ok-emit_exits.ensures.code following
-    ∙ ap (λ its. c.emit_turns.new.draft.entries ++ puts (exits_words w l its) following) (ap view c.deref.ensures.value ∙ c.in_ok-steps.ensures ∙ ap (split_breaks l) c.region.ensures)
+    ∙ ap (λ its. c.emit_turns.new.draft.entries ++ puts (exits_words w l its) following) c.region.ensures
     ∙ c.in_ok-emit_turns.ensures.code read
     ∙ c.in_ok-put.ensures.code turned
     ∙ ap (λ x. c.args.draft.now.entries ++ Put x ∷ turned) (c.lanes.ensures ∙ ap (λ v. lanes_word v c.args.bound.number) c.width.ensures)

@@ -13,9 +13,7 @@ use Rattle.lane_emit.specs.Stretch.{word}
 use Rattle.lane_emit.specs.LaneCode.{size_of}
 use Rattle.first_fault.specs.RegionCode.{single_words}
 use Rattle.first_fault.specs.Split.{region_of, rest_of}
-use Rattle.first_fault.specs.SplitBreaks.{split_breaks}
 use Rattle.chunk_pass.specs.PassCode.{advance_word}
-use Rattle.first_fault.proofs.SplitCode.{steps_writable}
 use Rattle.chunk_pass.proofs.PassPuts.{turn_puts}
 use Rattle.chunk_pass.proofs.emit.emit_turn.Goals as goal
 
@@ -24,7 +22,7 @@ emit_single-requires c =
     let w : Width = width_in c.args.layout.now in
     let l : Layout = layout_in c.args.layout.now in
     let items : List Item = view c.args.items.now in
-    subst (AreWritable w) (sym (ap view c.deref.ensures.value ∙ c.in_ok-steps.ensures ∙ ap (split_breaks l) c.region.ensures)) (steps_writable w l (region_of items) c.requires.region)
+    subst (AreWritable w) (sym c.region.ensures) c.requires.region
 
 pub returns-clause-code : goal.returns-clause-code
 returns-clause-code c rest =
@@ -33,13 +31,13 @@ returns-clause-code c rest =
     let items : List Item = view c.args.items.now in
     let last : List Entry = Put (advance_word w) ∷ rest in
     let following : List Entry = puts (items_words w l (rest_of items)) last in
-    let read : List Entry = puts (single_words w l (split_breaks l (region_of items))) following in
+    let read : List Entry = puts (single_words w l (region_of items)) following in
     c.in_ok-put-3.ensures.code rest
     ∙ ap (λ x. c.emit_items.new.draft.entries ++ Put x ∷ rest) (c.advance.ensures ∙ ap advance_word c.width-2.ensures)
     ∙ c.in_ok-emit_items.ensures.code last
     ∙ ap (λ its. c.emit_single.new.draft.entries ++ puts (items_words w l its) last) c.rest.ensures
     ∙ c.in_ok-emit_single.ensures.code following
-    ∙ ap (λ its. c.put-2.new.self.entries ++ puts (single_words w l its) following) (ap view c.deref.ensures.value ∙ c.in_ok-steps.ensures ∙ ap (split_breaks l) c.region.ensures)
+    ∙ ap (λ its. c.put-2.new.self.entries ++ puts (single_words w l its) following) c.region.ensures
     ∙ c.in_ok-put-2.ensures.code read
     ∙ ap (λ x. c.put.new.self.entries ++ Put x ∷ read) (c.first_lane.ensures ∙ ap (λ v. Vector (word whilelo (0 ∷ 31 ∷ 26 ∷ size_of v ∷ []))) c.width.ensures)
     ∙ c.in_ok-put.ensures.code (Put (Vector (word whilelo (0 ∷ 31 ∷ 26 ∷ size_of w ∷ []))) ∷ read)

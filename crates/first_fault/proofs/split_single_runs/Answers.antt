@@ -1,5 +1,0 @@
-use Rattle.first_fault.proofs.SplitLaws as laws
-use Rattle.first_fault.proofs.split_single_runs.Goals as goal
-
-pub returns : goal.returns
-returns c = laws.split_single_runs
