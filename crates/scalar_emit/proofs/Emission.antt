@@ -17,6 +17,7 @@ use Rattle.label_fix.specs.DraftRun.{Entry}
 use Rattle.scalar_words.specs.declared.home.Home.{Home as Kept}
 use Rattle.scalar_words.specs.Layout.{Layout, Homes, register_at}
 use Rattle.scalar_emit.specs.Statements.{block_homes, block_labels, update_code}
+use Rattle.scalar_emit.specs.LoopNumbers.{loop_layout}
 use Rattle.scalar_emit.specs.Loop.{turn_code, leave_code}
 use Rattle.scalar_words.specs.KernelRegisters.{layout_of_kernel, param_homes, kernel_homes}
 use Rattle.scalar_emit.specs.Kernel.{arguments_code, vars_code, zero_index, begin_code, straight_code, turns_code, scalar_code}
@@ -51,16 +52,16 @@ begin_is R k L hs s first n m ps vs rest d e f g h i j = rw (d, e, f, g, h, i, j
 
 -- ---- the loop and what follows it
 
-pub scalar_is : (R : ℕ → ℕ) (k : Program) (L : Layout) (l : PlainLoop) (b n b2 n2 : ℕ) (rest : List Entry) → L ≡ layout_of_kernel R k → k.turns ≡ Some l → b ≡ loop_start k → b2 ≡ loop_end k → n2 ≡ n + 3 + block_labels (loop_index k) l.body → turn_code L (kernel_homes R k) (var_scope k) l b n (leave_code L (kernel_homes R k) (var_scope k) l b2 n2 k.answer rest) ≡ scalar_code R k n rest
-scalar_is R k L l b n b2 n2 rest d e f g h =
+pub scalar_is : (R : ℕ → ℕ) (k : Program) (N L : Layout) (l : PlainLoop) (b n b2 n2 : ℕ) (rest : List Entry) → N ≡ loop_layout R k → L ≡ layout_of_kernel R k → k.turns ≡ Some l → b ≡ loop_start k → b2 ≡ loop_end k → n2 ≡ n + 3 + block_labels (loop_index k) l.body → turn_code N (kernel_homes R k) (var_scope k) l b n (leave_code L (kernel_homes R k) (var_scope k) l b2 n2 k.answer rest) ≡ scalar_code R k n rest
+scalar_is R k N L l b n b2 n2 rest c d e f g h =
     let i : n2 ≡ n + 3 + block_labels (var_scope k).index l.body = h ∙ ap (λ j. n + 3 + block_labels j l.body) (sym (scope_index k)) in
-    rw (d, f, g, i) (ap (λ t. turns_code (layout_of_kernel R k) (kernel_homes R k) (var_scope k) t (loop_start k) n (loop_end k) k.answer rest) (sym e))
+    rw (c, d, f, g, i) (ap (λ t. turns_code (loop_layout R k) (kernel_homes R k) (var_scope k) t (loop_start k) n (loop_end k) k.answer rest) (sym e))
 
 pub straight_is : (R : ℕ → ℕ) (k : Program) (L : Layout) (b n : ℕ) (rest : List Entry) → L ≡ layout_of_kernel R k → k.turns ≡ None → b ≡ loop_start k → straight_code L (kernel_homes R k) (var_scope k) n b k.answer rest ≡ scalar_code R k n rest
 straight_is R k L b n rest d e f =
     let z = ap turns_size e in
     let g : b ≡ loop_end k = omega (arith, f, z) in
-    rw (d, g) (ap (λ t. turns_code (layout_of_kernel R k) (kernel_homes R k) (var_scope k) t (loop_start k) n (loop_end k) k.answer rest) (sym e))
+    rw (d, g) (ap (λ t. turns_code (loop_layout R k) (kernel_homes R k) (var_scope k) t (loop_start k) n (loop_end k) k.answer rest) (sym e))
 
 -- ---- updates
 
