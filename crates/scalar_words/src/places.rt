@@ -66,9 +66,16 @@ impl Places {
         constant_in(&self.constants, number)
     }
 
+    /// The numbers that are held.
+    pub fn constants(&self) -> &[Constant]
+        ensures { constants_of result.now ≡ self.now.constants }
+    {
+        &self.constants
+    }
+
     /// These numbers are held, and no others.
     pub fn hold(&mut self, constants: Vec<Constant>)
-        ensures { self.new ≡ with_constants self.old (constants_of constants.entry.items) }
+        ensures { self.new ≡ with_constants self.old (constants_of constants.items) }
     {
         self.constants = constants;
     }

@@ -17,7 +17,7 @@ returns-in_ok-emit_following-in-Some-clause-code c rest =
     c.in_ok-emit_following-in-Some.ensures.code rest
     ∙ c.in_ok-head-in-Some.ensures.code _
     ∙ ap (λ (es : List Entry). c.args.draft.now.entries ++ es)
-    (scalar_is R k c.args.places.now (turns_of c.in-Some.turns) c.args.item c.args.draft.now.labels c.emit_turns.new.item c.emit_turns.new.draft.labels rest c.requires.places turns c.requires.start end c.in_ok-head-in-Some.ensures.labels)
+    (scalar_is R k (held.0) (held.1) (turns_of c.in-Some.turns) c.args.item c.args.draft.now.labels c.emit_turns.new.item c.emit_turns.new.draft.labels rest c.requires.places turns c.requires.start end c.in_ok-head-in-Some.ensures.labels)
 
 pub returns-in_ok-head-in-None-clause-code : goal.returns-in_ok-head-in-None-clause-code
 returns-in_ok-head-in-None-clause-code c rest =
