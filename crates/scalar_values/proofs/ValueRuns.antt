@@ -93,7 +93,7 @@ pub index_is : (hs : Homes) (i : Option (List ℕ)) (names : Names) (p b : ℕ) 
 index_is hs None names p b st le h sized held = absurd h
 index_is hs (Some x) names p b st le h sized held = ap (x_at st) (sym h.0) ∙ name_held hs names x b st sized held (name_less hs x p b le h.1)
 
-give_more : (D : Laid) (L : Layout) {c rest : List Entry} {s : State} {b e r m1 : ℕ} {m : Memory} {o : Option ℤ} (most : ℕ) → m1 ≤ most → Gives D L c s rest b e r m m1 o → Gives D L c s rest b e r m most o
+pub give_more : (D : Laid) (L : Layout) {c rest : List Entry} {s : State} {b e r m1 : ℕ} {m : Memory} {o : Option ℤ} (most : ℕ) → m1 ≤ most → Gives D L c s rest b e r m m1 o → Gives D L c s rest b e r m most o
 give_more D L most le (no_value k) = no_value (stop_more most le k)
 give_more D L most le (a_value k) = a_value (more D L most le k)
 

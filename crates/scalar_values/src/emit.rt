@@ -93,7 +93,13 @@ fn take_number(places: &Places, value: i128, item: &mut usize) -> Reg
 }
 
 // The same of an expression that is a literal.
-fn take_literal(places: &Places, homes: &[Home], scope: &Scope, expr: &Expr, item: &mut usize) -> Reg
+fn take_literal(
+    places: &Places,
+    homes: &[Home],
+    scope: &Scope,
+    expr: &Expr,
+    item: &mut usize,
+) -> Reg
     requires literal { code.IsLiteral (literal_value (term_of expr.now)) }
     requires fits { item.old < 2 ^ 32 }
     ensures register { result.number

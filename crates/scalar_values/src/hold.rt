@@ -40,11 +40,7 @@ fn add_number(constants: &mut Vec<Constant>, number: i128) -> Result<(), AllocEr
 }
 
 // One more number, where no register holds it.
-fn hold_number(
-    constants: &mut Vec<Constant>,
-    params: usize,
-    number: i128,
-) -> Result<(), AllocError>
+fn hold_number(constants: &mut Vec<Constant>, params: usize, number: i128) -> Result<(), AllocError>
     requires { params ≤ 8 }
     ensures { OnOk result (constants_of constants.new.items
         ≡ numbers.hold_number params number (constants_of constants.old.items)) }
