@@ -39,7 +39,7 @@ homes =
     ∷ record { name = i; register = 9; last_use = None } ∷ []
 
 abbrev layout : Layout
-layout = record { regs = 10 ∷ 0 ∷ 11 ∷ 11 ∷ 10 ∷ []; untils = 4 ∷ 0 ∷ 3 ∷ 4 ∷ 5 ∷ [] }
+layout = record { regs = 10 ∷ 0 ∷ 11 ∷ 11 ∷ 10 ∷ []; untils = 4 ∷ 0 ∷ 3 ∷ 4 ∷ 5 ∷ []; constants = [] }
 
 -- a[i] + k * a[i] and a[i] - k * a[i]: 0 the read, 1 the name k, 2 the read, 3 the product, 4 the sum
 abbrev product : Term

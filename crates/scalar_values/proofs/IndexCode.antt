@@ -1,5 +1,6 @@
 -- The code of an index that is computed.
 use Rattle.std.proofs.Common.{◌≡◌, ℕ, List, Some, None, refl, ap, ◌∙◌}
+use Rattle.machine_model.specs.InstructionTable.{Listed}
 use Rattle.std.specs.Prelude.{ℤ, Option, option_map}
 use Rattle.kernel_tree.specs.declared.ops.Ty.{Ty}
 use Rattle.scalar_values.specs.Extents.{Whole}
@@ -9,7 +10,8 @@ use Rattle.kernel_tree.specs.Plain.{Term}
 use Rattle.kernel_tree.specs.Items.{stream_offset}
 use Rattle.kernel_tree.specs.Typing.{Scope, index_type}
 use Rattle.label_fix.specs.DraftRun.{Entry}
-use Rattle.scalar_words.specs.Layout.{Layout, Homes}
+use Rattle.scalar_words.specs.Layout.{Constant, Layout, Homes}
+use Rattle.scalar_values.specs.HeldNumbers.{hold_index}
 
 -- ---- indexes
 
@@ -20,3 +22,13 @@ index_by L hs s b n e rest (Some c) h = absurd cc
 -- the code of an index that is computed
 pub index_is : (L : Layout) (hs : Homes) (s : Scope) (b n : ℕ) (e : Term) (want : Option Ty) (rest : List Entry) → option_map index_word (stream_offset s.index e) ≡ None → want ≡ index_type s e → loose_code L hs s Whole want b n e rest ≡ index_code L hs s b n e rest
 index_is L hs s b n e want rest h q = ap (λ w. loose_code L hs s Whole w b n e rest) q ∙ index_by L hs s b n e rest (stream_offset s.index e) h
+
+-- ---- numbers of indexes
+
+pub held_stream : (o : Option ℤ) (w : Option Listed) (more : List Constant → List Constant) (cs : List Constant) → option_map index_word o ≡ Some w → cs ≡ hold_index o more cs
+held_stream None w more cs h = absurd cc
+held_stream (Some c) w more cs h = refl
+
+pub held_computed : (o : Option ℤ) (more : List Constant → List Constant) (cs : List Constant) → option_map index_word o ≡ None → more cs ≡ hold_index o more cs
+held_computed None more cs h = refl
+held_computed (Some c) more cs h = absurd cc

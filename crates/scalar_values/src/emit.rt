@@ -2,7 +2,7 @@
 
 ghost use Rattle.std.specs.Prelude.{◌≡◌, ◌+◌, ◌<◌, ◌^◌, true, ◌∷◌, ◌++◌, None, IfOk, OnOk};
 ghost use Rattle.kernel_tree.specs.Plain.{Unary, Element, Operation, Shift, Conversion, Choice, Comparison, Both, Either, Not, name_of, term_of};
-ghost use Rattle.kernel_tree.specs.Items.{term_size, index_items};
+ghost use Rattle.kernel_tree.specs.Items.{literal_value, term_size, index_items};
 ghost use Rattle.kernel_tree.specs.Kinds.{IsValue, IsTruth};
 ghost use Rattle.kernel_scope.specs.Scopes.{scope_of};
 ghost use Rattle.scalar_words.specs.Drafts.{Appends};
@@ -12,8 +12,6 @@ ghost use Rattle.scalar_values.specs.ValueRegisters as placed;
 ghost use Rattle.scalar_words.specs.Layout as layout;
 ghost use Rattle.scalar_values.specs.Code as code;
 ghost use Rattle.scalar_values.specs.Sides.{side_view};
-ghost use Rattle.kernel_meaning.specs.Operators as operators;
-ghost use Rattle.scalar_words.specs.Words as words;
 
 use crate::extent::{
     Extent, asked_extent, binary_joins, converted_extent, settles, unary_joins, within, within_type,
@@ -57,7 +55,7 @@ fn take_held(homes: &[Home], name: &Name, item: &mut usize) -> Reg
     register_at(homes, name)
 }
 
-// A literal, wrapped to the type that is wanted, into the register of its item.
+// A literal, wrapped to the type that is wanted, into the register of its item, where no register holds it.
 fn emit_literal(
     draft: &mut Draft,
     places: &Places,
@@ -66,15 +64,52 @@ fn emit_literal(
     item: &mut usize,
 ) -> Result<Reg, AllocError>
     requires { item.old < 2 ^ 32 }
-    ensures register { IfOk result (λ r. r.number ≡ layout.reg_of places.now item.old) }
+    ensures register { IfOk result (λ r. r.number ≡ placed.literal_home places.now item.old value) }
     ensures item { OnOk result (item.new ≡ item.old + 1) }
     ensures labels { OnOk result (draft.new.labels ≡ draft.old.labels) }
-    ensures code { OnOk result (Appends draft.old draft.new
-        (words.const_code (layout.reg_of places.now item.old) (operators.word (operators.wrapped want value)))) }
+    ensures code { OnOk result (Appends draft.old draft.new (code.literal_code places.now want item.old value)) }
 {
-    let r = take(places, item);
-    emit_const(draft, r, word(wrapped(want, value)))?;
-    Ok(r)
+    let own = take(places, item);
+    match places.constant(value) {
+        Some(held) => Ok(held),
+        None => {
+            emit_const(draft, own, word(wrapped(want, value)))?;
+            Ok(own)
+        }
+    }
+}
+
+// The register in which a literal stands, after which the next item stands.
+fn take_number(places: &Places, value: i128, item: &mut usize) -> Reg
+    requires { item.old < 2 ^ 32 }
+    ensures register { result.number ≡ placed.literal_home places.now item.old value }
+    ensures item { item.new ≡ item.old + 1 }
+{
+    let own = take(places, item);
+    match places.constant(value) {
+        Some(held) => held,
+        None => own,
+    }
+}
+
+// The same of an expression that is a literal.
+fn take_literal(
+    places: &Places,
+    homes: &[Home],
+    scope: &Scope,
+    expr: &Expr,
+    item: &mut usize,
+) -> Reg
+    requires literal { code.IsLiteral (literal_value (term_of expr.now)) }
+    requires fits { item.old < 2 ^ 32 }
+    ensures register { result.number
+        ≡ placed.home places.now (homes_of homes.now) (scope_of scope.now).index item.old (term_of expr.now) }
+    ensures item { item.new ≡ item.old + 1 }
+{
+    match expr {
+        Expr::Lit(value) => take_number(places, *value, item),
+        _ => unreachable!(),
+    }
 }
 
 /// The code of an expression of which a type is wanted, and the register of its value.
@@ -425,7 +460,7 @@ fn emit_right(
         draft.old.labels (term_of expr.now)))) }
 {
     match number {
-        Some(_) => Ok(take(places, item)),
+        Some(_) => Ok(take_literal(places, homes, scope, expr, item)),
         None => emit_loose(draft, places, homes, scope, extent, want, expr, item),
     }
 }
