@@ -283,14 +283,10 @@ impl Vectors {
             (p_of self.old pg) self.old.ffr) zt self.old ≡ Err fault) }
         ensures unchanged { OnErr result (self.new ≡ self.old) }
     {
-        let offsets = self.z[zm as usize];
-        let mask = self.p[pg as usize];
-        match gather(pages, row, base, &offsets, self.vl, &mask) {
-            Ok(z) => {
-                self.z[zt as usize] = z;
-                Ok(())
-            }
-            Err(fault) => Err(fault),
-        }
+        let mut out = ZReg::zero();
+        let (offsets, mask) = (&self.z[zm as usize], &self.p[pg as usize]);
+        gather(pages, row, base, offsets, self.vl, mask, &mut out)?;
+        self.z[zt as usize] = out;
+        Ok(())
     }
 }
