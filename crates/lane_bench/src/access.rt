@@ -93,8 +93,7 @@ fn gather_row(width: Width) -> LoadRow
 fn gather_by_kernel(pages: &Pages, s: &mut Operands) -> Result<(), AccessFault> {
     let row = gather_row(s.width);
     let base = BASE + (s.total & 1);
-    s.out = gather(pages, row, base, &s.offsets, s.vl, &s.mask)?;
-    Ok(())
+    gather(pages, row, base, &s.offsets, s.vl, &s.mask, &mut s.out)
 }
 
 /// One access by its kernel.

@@ -1,6 +1,6 @@
 -- The elements of a gather, one by one, and the whole.
 use Rattle.std.proofs.Common.{◌≡◌, ℕ, Bool, true, false, ◌&&◌, List, Option, Some, None, Result, Ok, Err, refl, sym, ap, ap₂, ◌∙◌}
-use Rattle.std.specs.Prelude.{is_some, IfOk, OnOk}
+use Rattle.std.specs.Prelude.{is_some, OnOk}
 use Rattle.std.proofs.lemmas.Bool.{cond-true, cond-false, and_left}
 use Rattle.guest_types.specs.declared.length.Width.{Width}
 use Rattle.guest_types.specs.declared.length.Width.TheVariants.{D}
@@ -88,7 +88,7 @@ module _ (r : Reading) (memory : Memory) (stops : StopList) (offsets pg ffr : Li
   gather-refused fault h =
       same ∙ ap (λ o. left_by_plain stops (or_fault o (record { z = register (width_bytes D) (gathered_of r memory offsets pg) n; ffr = ffr }))) h
 
--- two facts of a value
-pub ok_both : {A B : Type 0} (r : Result A B) (P R : A → Type 0) (Q : Type 0) → ((x : A) → P x → Q → R x) → IfOk r P → OnOk r Q → IfOk r R
-ok_both (Ok x) P R Q f p q = f x p q
-ok_both (Err e) P R Q f p q = tt
+-- two facts where there is no fault
+pub ok_both : {A B : Type 0} (r : Result A B) (P Q R : Type 0) → (P → Q → R) → OnOk r P → OnOk r Q → OnOk r R
+ok_both (Ok x) P Q R f p q = f p q
+ok_both (Err e) P Q R f p q = tt

@@ -27,10 +27,17 @@ fn place(reading: Reading, offsets: &ZReg, e: usize) -> u64
     reading.base.wrapping_add(offsets.element(Width::D, e))
 }
 
-// One element that is active.
+// One element that is active, of so many bytes in memory. It is inlined where these are known.
 #[inline(always)]
-fn read(pages: &Pages, reading: Reading, offsets: &ZReg, e: usize) -> Result<u64, AccessFault>
-    requires { e < 32 }
+fn read(
+    pages: &Pages,
+    reading: Reading,
+    size: u32,
+    offsets: &ZReg,
+    e: usize,
+) -> Result<u64, AccessFault>
+    requires size { size ≡ width_bytes reading.memory }
+    requires inside { e < 32 }
     ensures done { (pg : List ℕ) → active D pg e ≡ true
         → IfOk result (λ v. v ≡ gathered_of reading pages.now.memory offsets.now.bytes pg e) }
     ensures free { (pg : List ℕ) → OnOk result (gather_refused reading pages.now.memory offsets.now.bytes pg e ≡ false) }
@@ -39,7 +46,6 @@ fn read(pages: &Pages, reading: Reading, offsets: &ZReg, e: usize) -> Result<u64
 {
     pages.is_memory();
     let address = place(reading, offsets, e);
-    let size = reading.memory.bytes() as u32;
     match pages.load(address, size) {
         Ok(value) => Ok(reading.extend(value)),
         Err(fault) => Err(fault),
@@ -51,11 +57,13 @@ fn read(pages: &Pages, reading: Reading, offsets: &ZReg, e: usize) -> Result<u64
 fn lane(
     pages: &Pages,
     reading: Reading,
+    size: u32,
     offsets: &ZReg,
     pg: &PReg,
     e: usize,
 ) -> Result<u64, AccessFault>
-    requires { e < 32 }
+    requires size { size ≡ width_bytes reading.memory }
+    requires inside { e < 32 }
     ensures done { IfOk result (λ v. v ≡ gathered_of reading pages.now.memory offsets.now.bytes pg.now.bits e) }
     ensures free { OnOk result (gather_refused reading pages.now.memory offsets.now.bytes pg.now.bits e ≡ false) }
     ensures refused { OnErr result (gather_refused reading pages.now.memory offsets.now.bytes pg.now.bits e ≡ true) }
@@ -63,21 +71,25 @@ fn lane(
         read_fault (lane_fault (form_of reading) pages.now.memory (gather_place reading offsets.now.bytes) e) ≡ Some fault) }
 {
     if pg.is_active(Width::D, e) {
-        return read(pages, reading, offsets, e);
+        return read(pages, reading, size, offsets, e);
     }
     Ok(0)
 }
 
-// The first elements of a gather, and zeros above them.
+// The first elements of a gather, of so many bytes in memory, and zeros above them.
+#[inline(always)]
 fn gathered(
     pages: &Pages,
     reading: Reading,
+    size: u32,
     offsets: &ZReg,
     pg: &PReg,
     lanes: usize,
-) -> Result<ZReg, AccessFault>
-    requires { lanes ≤ 32 }
-    ensures done { IfOk result (λ z. z.bytes
+    out: &mut ZReg,
+) -> Result<(), AccessFault>
+    requires size { size ≡ width_bytes reading.memory }
+    requires inside { lanes ≤ 32 }
+    ensures done { OnOk result (out.new.bytes
         ≡ register (width_bytes D) (gathered_of reading pages.now.memory offsets.now.bytes pg.now.bits) lanes) }
     ensures free { let first = first_true (gather_refused reading pages.now.memory offsets.now.bytes pg.now.bits) lanes 0 in
         OnOk result (first ≡ None) }
@@ -85,21 +97,65 @@ fn gathered(
         IfErr result (λ fault.
         fault_at (form_of reading) pages.now.memory (gather_place reading offsets.now.bytes) first ≡ Some fault) }
 {
-    let mut out = ZReg::zero();
+    *out = ZReg::zero();
     for e in 0..lanes {
-        match lane(pages, reading, offsets, pg, e) {
+        match lane(pages, reading, size, offsets, pg, e) {
             Ok(value) => out.put(Width::D, e, value),
             Err(fault) => return Err(fault),
         }
     }
-    Ok(out)
+    Ok(())
+}
+
+// The bytes of an element in memory are chosen before the loop over elements.
+#[inline(always)]
+fn gathered_by_size(
+    pages: &Pages,
+    reading: Reading,
+    offsets: &ZReg,
+    pg: &PReg,
+    lanes: usize,
+    out: &mut ZReg,
+) -> Result<(), AccessFault>
+    requires { lanes ≤ 32 }
+    ensures done { OnOk result (out.new.bytes
+        ≡ register (width_bytes D) (gathered_of reading pages.now.memory offsets.now.bytes pg.now.bits) lanes) }
+    ensures free { let first = first_true (gather_refused reading pages.now.memory offsets.now.bytes pg.now.bits) lanes 0 in
+        OnOk result (first ≡ None) }
+    ensures fault { let first = first_true (gather_refused reading pages.now.memory offsets.now.bytes pg.now.bits) lanes 0 in
+        IfErr result (λ fault.
+        fault_at (form_of reading) pages.now.memory (gather_place reading offsets.now.bytes) first ≡ Some fault) }
+{
+    match reading.memory {
+        Width::B => gathered(pages, reading, 1, offsets, pg, lanes, out),
+        Width::H => gathered(pages, reading, 2, offsets, pg, lanes, out),
+        Width::S => gathered(pages, reading, 4, offsets, pg, lanes, out),
+        Width::D => gathered(pages, reading, 8, offsets, pg, lanes, out),
+    }
+}
+
+// The load of a row whose elements have 64 bits, from a base.
+#[inline(always)]
+fn reading_of(row: LoadRow, base: u64) -> Reading
+    requires wide { (load_form row.dtype).element ≡ D }
+    ensures form { form_of result ≡ load_form row.dtype }
+    ensures base { result.base ≡ base }
+{
+    Reading {
+        base,
+        index: 0,
+        memory: row.memory(),
+        element: Width::D,
+        signed: row.is_signed(),
+    }
 }
 
 /// Loads the active elements of a register, each from `base` and the element of `offsets` in its place, modulo 2^64.
-/// Elements past the vector length, and those that are not active, are 0.
+/// Elements past the vector length, and those that are not active, become 0.
 ///
 /// # Errors
-/// The fault of the first active element that faults.
+/// The fault of the first active element that faults. Nothing is said of `out` then.
+#[inline(always)]
 pub fn gather(
     pages: &Pages,
     row: LoadRow,
@@ -107,15 +163,16 @@ pub fn gather(
     offsets: &ZReg,
     vl: Vl,
     pg: &PReg,
-) -> Result<ZReg, AccessFault>
+    out: &mut ZReg,
+) -> Result<(), AccessFault>
     requires wide { (load_form row.dtype).element ≡ D }
-    ensures done { (stops : StopList) → (ffr : List ℕ) → IfOk result (λ z.
+    ensures done { (stops : StopList) → (ffr : List ℕ) → OnOk result (
         gather_of row.dtype base vl pages.now.memory stops offsets.now.bytes pg.now.bits ffr
-        ≡ Ok (record { z = z.bytes; ffr = ffr; stops = stops })) }
+        ≡ Ok (record { z = out.new.bytes; ffr = ffr; stops = stops })) }
     ensures refused { (stops : StopList) → (ffr : List ℕ) → IfErr result (λ fault.
         gather_of row.dtype base vl pages.now.memory stops offsets.now.bytes pg.now.bits ffr ≡ Err fault) }
 {
-    let reading = Reading::new(row, base, 0);
+    let reading = reading_of(row, base);
     let lanes = vl.lanes(Width::D) as usize;
-    gathered(pages, reading, offsets, pg, lanes)
+    gathered_by_size(pages, reading, offsets, pg, lanes, out)
 }

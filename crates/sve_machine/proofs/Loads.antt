@@ -1,5 +1,5 @@
 -- What a load leaves, of the right shape, and what the rows of loads and stores say of it.
-use Rattle.std.proofs.Common.{[], ◌∷◌, get_or, ◌≡◌, ℕ, Bool, List, Option, Some, None, Result, Ok, refl, Err, sym, ap, ap₂, ◌∙◌, subst}
+use Rattle.std.proofs.Common.{[], ◌∷◌, get_or, ◌≡◌, ℕ, Bool, List, Option, Some, None, Result, Ok, refl, sym, ap, ◌∙◌, subst}
 use Rattle.std.specs.Prelude.{slice_set}
 use Rattle.guest_types.specs.declared.memory.AccessFault.{AccessFault}
 use Rattle.guest_types.specs.declared.row.LoadMode.{LoadMode}
@@ -21,7 +21,7 @@ use Rattle.machine_model.specs.Machine.{x_at, x_or_sp}
 use Rattle.machine_model.specs.VectorEffects.{do_vector}
 use Rattle.machine_model.specs.VectorEffects as effects
 use Rattle.a64_machine.specs.declared.core_state.Core.{Core}
-use Rattle.sve_machine.specs.VectorStates.{IsVectorState, vector_state_of, z_bytes, p_bits, p_of, z_of, put_load}
+use Rattle.sve_machine.specs.VectorStates.{IsVectorState, vector_state_of, p_bits, p_of, z_of, put_load}
 use Rattle.sve_code.specs.Table.{ld1, ldff1, ldnf1, st1}
 use Rattle.sve_code.specs.declared.GatherOp.{GatherOp}
 use Rattle.sve_code.specs.declared.GatherOp.TheVariants as gather_ops
@@ -93,19 +93,6 @@ load_done mode dtype base index memory z p ffr vl stops g n ffr2 stops2 out e =
     ap (λ m. put_load (load_of mode dtype base index vl memory stops m ffr.bits) n r) (get_or-map p_bits p g (record { bits = [] }))
     ∙ ap (λ o. put_load o n r) e
     ∙ ap Ok (sym (z_set z p ffr2 vl stops2 n out))
-
-pub gather_done : (dtype base : ℕ) (memory : Memory) (z : List ZReg) (p : List PReg) (ffr : PReg) (vl : ℕ) (stops : StopList) (m g n : ℕ) (out : ZReg) → gather_of dtype base vl memory stops (get_or z m (record { bytes = [] })).bytes (get_or p g (record { bits = [] })).bits ffr.bits ≡ Ok (record { z = out.bytes; ffr = ffr.bits; stops = stops }) → let r = vector_state_of z p ffr vl stops in put_load (gather_of dtype base r.vl memory r.stops (z_of r m) (p_of r g) r.ffr) n r ≡ Ok (vector_state_of (slice_set z n out) p ffr vl stops)
-gather_done dtype base memory z p ffr vl stops m g n out e =
-    let r = vector_state_of z p ffr vl stops in
-    ap₂ (λ o m. put_load (gather_of dtype base vl memory stops o m ffr.bits) n r) (get_or-map z_bytes z m (record { bytes = [] })) (get_or-map p_bits p g (record { bits = [] }))
-    ∙ ap (λ o. put_load o n r) e
-    ∙ ap Ok (sym (z_set z p ffr vl stops n out))
-
-pub gather_not_done : (dtype base : ℕ) (memory : Memory) (z : List ZReg) (p : List PReg) (ffr : PReg) (vl : ℕ) (stops : StopList) (m g n : ℕ) (fault : AccessFault) → gather_of dtype base vl memory stops (get_or z m (record { bytes = [] })).bytes (get_or p g (record { bits = [] })).bits ffr.bits ≡ Err fault → let r = vector_state_of z p ffr vl stops in put_load (gather_of dtype base r.vl memory r.stops (z_of r m) (p_of r g) r.ffr) n r ≡ Err fault
-gather_not_done dtype base memory z p ffr vl stops m g n fault e =
-    let r = vector_state_of z p ffr vl stops in
-    ap₂ (λ o m. put_load (gather_of dtype base vl memory stops o m ffr.bits) n r) (get_or-map z_bytes z m (record { bytes = [] })) (get_or-map p_bits p g (record { bits = [] }))
-    ∙ ap (λ o. put_load o n r) e
 
 -- ---- what the rows say
 

@@ -261,6 +261,34 @@ impl Vectors {
         Ok(())
     }
 
+    // What a gather reads, before a register holds it.
+    #[inline(always)]
+    fn gathered(
+        &self,
+        pages: &Pages,
+        row: LoadRow,
+        base: u64,
+        zm: u32,
+        pg: u32,
+        out: &mut ZReg,
+    ) -> Result<(), AccessFault>
+        requires wide { (load_form row.dtype).element ≡ D }
+        requires offsets { zm < 32 }
+        requires predicate { pg < 16 }
+        ensures done { OnOk result
+            (gather_of row.dtype base self.now.vl pages.now.memory self.now.stops (z_of self.now zm) (p_of self.now pg) self.now.ffr
+            ≡ Ok (record { z = out.new.bytes; ffr = self.now.ffr; stops = self.now.stops })) }
+        ensures refused { IfErr result (λ fault.
+            gather_of row.dtype base self.now.vl pages.now.memory self.now.stops (z_of self.now zm) (p_of self.now pg) self.now.ffr
+            ≡ Err fault) }
+        ensures shape { OnOk result (IsVector self.now.vl out.new.bytes) }
+    {
+        let _ffr = self.ffr();
+        let offsets = self.z(zm);
+        let mask = self.p(pg);
+        gather(pages, row, base, offsets, self.vl(), mask, out)
+    }
+
     /// Loads a vector register under a predicate register, from a base and the offsets in another vector register.
     pub fn gather(
         &mut self,
@@ -283,14 +311,9 @@ impl Vectors {
             (p_of self.old pg) self.old.ffr) zt self.old ≡ Err fault) }
         ensures unchanged { OnErr result (self.new ≡ self.old) }
     {
-        let offsets = self.z[zm as usize];
-        let mask = self.p[pg as usize];
-        match gather(pages, row, base, &offsets, self.vl, &mask) {
-            Ok(z) => {
-                self.z[zt as usize] = z;
-                Ok(())
-            }
-            Err(fault) => Err(fault),
-        }
+        let mut out = ZReg::zero();
+        self.gathered(pages, row, base, zm, pg, &mut out)?;
+        self.set_z(zt, &out);
+        Ok(())
     }
 }
