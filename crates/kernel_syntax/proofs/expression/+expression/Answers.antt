@@ -1,9 +1,10 @@
-use Rattle.std.proofs.Common.{◌≡◌, ◌-◌, ◌<◌, length, Err, Some, ◌∙◌, ap, arith}
+use Rattle.std.proofs.Common.{◌≡◌, ◌-◌, ◌<◌, length, Err, Some, refl, ◌∙◌, ap, arith}
 use Rattle.std.proofs.lemmas.Result.{err_from_is_err_and}
 use Rattle.std.proofs.lemmas.List.{length-map}
 use Rattle.kernel_tree.specs.Plain.{term_of, words_of, word_of}
 use Rattle.kernel_tree.specs.declared.mark.Operator.TheVariants.{Joined, Compared, Shifted, As}
-use Rattle.kernel_syntax.specs.Reading.{operator_at, chain_at, unary_at, signed_by}
+use Rattle.kernel_syntax.specs.Reading.{operator_at, chain_at, unary_at, signed_by, choice_by, pair_by, absolute_by, term_before}
+use Rattle.kernel_syntax.specs.Operands.{joined_by, compared_by}
 use Rattle.kernel_syntax.proofs.Chain.{chain-zero, chain-above, fails_on, begins, ends, takes_joined, takes_shifted, takes_as, compared_is, refuses_joined, refuses_shifted, refuses_as}
 use Rattle.kernel_syntax.proofs.Rooms.{unary-some}
 use Rattle.kernel_syntax.proofs.SignRows.{wraps_none, wraps_more, wraps_fails, wraps_stops, wraps_all}
@@ -87,3 +88,81 @@ signed-returns-in_err-arg-clause-value t c =
 
 pub signed-returns-clause-value : goal.signed-returns-clause-value
 signed-returns-clause-value t c = rw c.in_ok-following_signs.ensures (wraps_all _ c.more.signs.items _ _ _ c.more.invariant.wraps c.in_ok-arg.ensures.value)
+
+pub choice-returns-in_err-from-clause-value : goal.choice-returns-in_err-from-clause-value
+unfolding choice_by
+choice-returns-in_err-from-clause-value t c =
+    let p = err_from_is_err_and c.from_residual.result c.from_residual.ensures.1 in
+    rw (p.1, p.2) (fails_on _ _ _ _ refl c.in_err-from.ensures.value)
+
+pub choice-returns-in_err-cond-clause-value : goal.choice-returns-in_err-cond-clause-value
+unfolding choice_by
+choice-returns-in_err-cond-clause-value t c =
+    let p = err_from_is_err_and c.from_residual-in_err-cond.result c.from_residual-in_err-cond.ensures.1 in
+    rw (p.1, p.2, c.in_ok-from.ensures.value) (fails_on _ _ _ _ refl c.in_err-cond.ensures.value)
+
+pub choice-returns-in_err-yes-clause-value : goal.choice-returns-in_err-yes-clause-value
+unfolding choice_by
+choice-returns-in_err-yes-clause-value t c =
+    let p = err_from_is_err_and c.from_residual-in_err-yes.result c.from_residual-in_err-yes.ensures.1 in
+    rw (p.1, p.2, c.in_ok-from.ensures.value, c.in_ok-cond.ensures.value) (fails_on _ _ _ _ refl c.in_err-yes.ensures.value)
+
+pub choice-returns-in_err-no-clause-value : goal.choice-returns-in_err-no-clause-value
+unfolding choice_by
+choice-returns-in_err-no-clause-value t c =
+    let p = err_from_is_err_and c.from_residual-in_err-no.result c.from_residual-in_err-no.ensures.1 in
+    rw (p.1, p.2, c.in_ok-from.ensures.value, c.in_ok-cond.ensures.value, c.in_ok-yes.ensures.value) (fails_on _ _ _ _ refl c.in_err-no.ensures.value)
+
+pub pair-returns-in_err-from-clause-value : goal.pair-returns-in_err-from-clause-value
+unfolding pair_by
+pair-returns-in_err-from-clause-value t c =
+    let p = err_from_is_err_and c.from_residual.result c.from_residual.ensures.1 in
+    rw (p.1, p.2) (fails_on _ _ _ _ refl c.in_err-from.ensures.value)
+
+pub pair-returns-in_err-left-clause-value : goal.pair-returns-in_err-left-clause-value
+unfolding pair_by
+pair-returns-in_err-left-clause-value t c =
+    let p = err_from_is_err_and c.from_residual-in_err-left.result c.from_residual-in_err-left.ensures.1 in
+    rw (p.1, p.2, c.in_ok-from.ensures.value) (fails_on _ _ _ _ refl c.in_err-left.ensures.value)
+
+pub pair-returns-in_err-right-clause-value : goal.pair-returns-in_err-right-clause-value
+unfolding pair_by
+pair-returns-in_err-right-clause-value t c =
+    let p = err_from_is_err_and c.from_residual-in_err-right.result c.from_residual-in_err-right.ensures.1 in
+    rw (p.1, p.2, c.in_ok-from.ensures.value, c.in_ok-left.ensures.value) (fails_on _ _ _ _ refl c.in_err-right.ensures.value)
+
+pub absolute-returns-in_err-from-clause-value : goal.absolute-returns-in_err-from-clause-value
+unfolding absolute_by
+absolute-returns-in_err-from-clause-value t c =
+    let p = err_from_is_err_and c.from_residual.result c.from_residual.ensures.1 in
+    rw (p.1, p.2) (fails_on _ _ _ _ refl c.in_err-from.ensures.value)
+
+pub absolute-returns-in_err-arg-clause-value : goal.absolute-returns-in_err-arg-clause-value
+unfolding absolute_by
+absolute-returns-in_err-arg-clause-value t c =
+    let p = err_from_is_err_and c.from_residual-in_err-arg.result c.from_residual-in_err-arg.ensures.1 in
+    rw (p.1, p.2, c.in_ok-from.ensures.value) (fails_on _ _ _ _ refl c.in_err-arg.ensures.value)
+
+pub term_then-returns-in_err-e-clause-value : goal.term_then-returns-in_err-e-clause-value
+unfolding term_before
+term_then-returns-in_err-e-clause-value t c =
+    let p = err_from_is_err_and c.from_residual.result c.from_residual.ensures.1 in
+    rw (p.1, p.2) (fails_on _ _ _ _ refl c.in_err-e.ensures.value)
+
+pub term_then-returns-in_err-expect-clause-value : goal.term_then-returns-in_err-expect-clause-value
+unfolding term_before
+term_then-returns-in_err-expect-clause-value t c =
+    let p = err_from_is_err_and c.from_residual-in_err-expect.result c.from_residual-in_err-expect.ensures.1 in
+    rw (p.1, p.2, c.in_ok-e.ensures.value) (fails_on _ _ _ _ refl c.in_err-expect.ensures.value)
+
+pub joined-returns-in_err-right-clause-value : goal.joined-returns-in_err-right-clause-value
+unfolding joined_by
+joined-returns-in_err-right-clause-value t c =
+    let p = err_from_is_err_and c.from_residual.result c.from_residual.ensures.1 in
+    rw (p.1, p.2) (fails_on _ _ _ _ refl c.in_err-right.ensures.value)
+
+pub compared-returns-in_err-right-clause-value : goal.compared-returns-in_err-right-clause-value
+unfolding compared_by
+compared-returns-in_err-right-clause-value t c =
+    let p = err_from_is_err_and c.from_residual.result c.from_residual.ensures.1 in
+    rw (p.1, p.2) (fails_on _ _ _ _ refl c.in_err-right.ensures.value)

@@ -1,10 +1,11 @@
-use Rattle.std.proofs.Common.{◌-◌, ◌<◌, List, [], length, false, sym, arith, subst}
+use Rattle.std.proofs.Common.{◌-◌, ◌<◌, List, [], length, false, refl, sym, arith, subst}
 use Rattle.std.proofs.lemmas.Result.{err_from_is_err_and}
 use Rattle.std.proofs.lemmas.List.{length-map}
 use Rattle.kernel_tree.specs.declared.ast.Stmt.{Stmt}
 use Rattle.kernel_tree.specs.Plain.{words_of, word_of}
-use Rattle.kernel_syntax.specs.Statements.{Statements, statement_by, block_at}
+use Rattle.kernel_syntax.specs.Statements.{Statements, statement_by, block_at, choose_by}
 use Rattle.kernel_syntax.proofs.Blocks.{Follows, starts, closes, fails_inside, takes, block-none, block-some}
+use Rattle.kernel_syntax.proofs.Chain.{fails_on}
 use Rattle.kernel_syntax.proofs.statement.+block.Goals as goal
 
 pub block-returns-then-room-eq0-clause-value : goal.block-returns-then-room-eq0-clause-value
@@ -32,3 +33,27 @@ block-more-preserved t c =
       omega (arith, c.in_ok-stmt-in-None.ensures.shorter),
       rw c.in_ok-push-in-None.ensures.items (takes (statement_by c.args.whole (block_at false (c.args.room - 1))) (block_at c.args.whole c.args.room (words_of c.args.tokens.now)) c.more.stmts.items (words_of c.more.rest.now) c.more.invariant.1 c.in_ok-stmt-in-None.stmt (words_of next) c.in-None.ensures.value c.in_ok-stmt-in-None.ensures.value short),
     )
+
+pub choice-returns-in_err-cond-clause-value : goal.choice-returns-in_err-cond-clause-value
+unfolding choose_by
+choice-returns-in_err-cond-clause-value t c =
+    let p = err_from_is_err_and c.from_residual.result c.from_residual.ensures.1 in
+    rw (p.1, p.2) (fails_on _ _ _ _ refl c.in_err-cond.ensures.value)
+
+pub choice-returns-in_err-then_part-clause-value : goal.choice-returns-in_err-then_part-clause-value
+unfolding choose_by
+choice-returns-in_err-then_part-clause-value t c =
+    let p = err_from_is_err_and c.from_residual-in_err-then_part.result c.from_residual-in_err-then_part.ensures.1 in
+    rw (p.1, p.2, c.in_ok-cond.ensures.value) (fails_on _ _ _ _ refl c.in_err-then_part.ensures.value)
+
+pub choice-returns-in_err-from-in-Some-clause-value : goal.choice-returns-in_err-from-in-Some-clause-value
+unfolding choose_by
+choice-returns-in_err-from-in-Some-clause-value t c =
+    let p = err_from_is_err_and c.from_residual-in_err-from-in-Some.result c.from_residual-in_err-from-in-Some.ensures.1 in
+    rw (p.1, p.2, c.in_ok-cond.ensures.value, c.in_ok-then_part.ensures.value, ← c.in-Some.ensures.value) (fails_on _ _ _ _ refl c.in_err-from-in-Some.ensures.value)
+
+pub choice-returns-in_err-other-in-Some-clause-value : goal.choice-returns-in_err-other-in-Some-clause-value
+unfolding choose_by
+choice-returns-in_err-other-in-Some-clause-value t c =
+    let p = err_from_is_err_and c.from_residual-in_err-other-in-Some.result c.from_residual-in_err-other-in-Some.ensures.1 in
+    rw (p.1, p.2, c.in_ok-cond.ensures.value, c.in_ok-then_part.ensures.value, ← c.in-Some.ensures.value, c.in_ok-from-in-Some.ensures.value) (fails_on _ _ _ _ refl c.in_err-other-in-Some.ensures.value)
