@@ -22,10 +22,10 @@ use kernel_scope::{
 };
 use kernel_tree::{BinaryOp, Expr, Name, Part, Stmt, Ty, UpdateOp, parts};
 use label_fix::{Draft, Label};
-use scalar_values::emit::{emit_jump, emit_loose, emit_side, emit_value};
 use scalar_values::extent::{Extent, binary_extent, extent_at};
 use scalar_values::instructions::{index_word, store};
 use scalar_values::operations::{emit_offset, want_operator};
+use scalar_values::{emit_jump, emit_loose, emit_side, emit_value};
 use scalar_words::operations::{emit_copy, update_operator};
 use scalar_words::places::Places;
 use scalar_words::{Home, register_at};

@@ -1,7 +1,7 @@
 -- The code of worked expressions: products and shifts in the words of the operators that use them.
 use Rattle.std.proofs.Common.{◌≡◌, ℕ, true, false, List, [], ◌∷◌, Some, None, refl}
 use Rattle.std.specs.Prelude.{pos}
-use Rattle.a64_code.specs.Table.{madd, msub, orr, eor, sub, sbfm, ubfm, ldrsw_register}
+use Rattle.a64_code.specs.Table.{madd, msub, orr, eor, add, sub, sbfm, ubfm, ldrsw_register}
 use Rattle.kernel_tree.specs.declared.ops.Ty.TheVariants as ty
 use Rattle.kernel_tree.specs.declared.ops.BinaryOp.TheVariants as binary
 use Rattle.kernel_tree.specs.declared.fault.Binding.TheVariants as binding
@@ -10,7 +10,7 @@ use Rattle.kernel_tree.specs.Typing.{Scope, local}
 use Rattle.label_fix.specs.DraftRun.{ins}
 use Rattle.scalar_words.specs.Layout.{Layout, Homes}
 use Rattle.scalar_values.specs.Extents.{Low32, Whole}
-use Rattle.scalar_values.specs.Code.{loose_code}
+use Rattle.scalar_values.specs.Code.{is_led, loose_code}
 
 abbrev a : List ℕ
 a = 97 ∷ []
@@ -46,18 +46,70 @@ abbrev product : Term
 product = Operation binary.Mul (Variable k) (Element a (Variable i))
 
 sum-low : loose_code layout homes scope Low32 (Some ty.I32) 0 0 (Operation binary.Add (Element a (Variable i)) product) [] ≡ ins ldrsw_register (10 ∷ 0 ∷ 1 ∷ 9 ∷ []) ∷ ins ldrsw_register (11 ∷ 0 ∷ 1 ∷ 9 ∷ []) ∷ ins madd (10 ∷ 2 ∷ 10 ∷ 11 ∷ []) ∷ []
+unfolding is_led
 sum-low = refl
 
 difference-whole : loose_code layout homes scope Whole (Some ty.I32) 0 0 (Operation binary.Sub (Element a (Variable i)) product) [] ≡ ins ldrsw_register (10 ∷ 0 ∷ 1 ∷ 9 ∷ []) ∷ ins ldrsw_register (11 ∷ 0 ∷ 1 ∷ 9 ∷ []) ∷ ins msub (10 ∷ 2 ∷ 10 ∷ 11 ∷ []) ∷ ins sbfm (10 ∷ 10 ∷ 31 ∷ 0 ∷ []) ∷ []
+unfolding is_led
 difference-whole = refl
 
 -- h ^ h << 13 and h - (h >> 7) at 64 bits: 0 and 1 the name h, 2 the shift, 3 the operator
 left-wide : loose_code layout homes scope Whole (Some ty.U64) 0 0 (Operation binary.Xor (Variable h) (Shift true (Variable h) (pos 13))) [] ≡ ins eor (11 ∷ 15 ∷ 13 ∷ 15 ∷ 0 ∷ []) ∷ []
+unfolding is_led
 left-wide = refl
 
 right-wide : loose_code layout homes scope Whole (Some ty.U64) 0 0 (Operation binary.Sub (Variable h) (Shift false (Variable h) (pos 7))) [] ≡ ins sub (11 ∷ 15 ∷ 7 ∷ 15 ∷ 1 ∷ []) ∷ []
+unfolding is_led
 right-wide = refl
 
 -- a shift to the left that & | ^ would have extended is not in their word
 left-narrow : loose_code layout homes scope Whole (Some ty.U8) 0 0 (Operation binary.Xor (Variable h) (Shift true (Variable h) (pos 3))) [] ≡ ins orr (11 ∷ 31 ∷ 3 ∷ 15 ∷ 0 ∷ []) ∷ ins ubfm (11 ∷ 11 ∷ 7 ∷ 0 ∷ []) ∷ ins eor (11 ∷ 15 ∷ 0 ∷ 11 ∷ 0 ∷ []) ∷ []
+unfolding is_led
 left-narrow = refl
+
+-- products and shifts on the left
+
+-- a[i] * k + a[i]: 0 the read, 1 the name k, 2 the product, 3 the read, 4 the sum
+abbrev kept_layout : Layout
+kept_layout = record { regs = 10 ∷ 0 ∷ 10 ∷ 11 ∷ 10 ∷ []; untils = 2 ∷ 0 ∷ 4 ∷ 4 ∷ 5 ∷ [] }
+
+product-first : loose_code kept_layout homes scope Low32 (Some ty.I32) 0 0 (Operation binary.Add (Operation binary.Mul (Element a (Variable i)) (Variable k)) (Element a (Variable i))) [] ≡ ins ldrsw_register (10 ∷ 0 ∷ 1 ∷ 9 ∷ []) ∷ ins ldrsw_register (11 ∷ 0 ∷ 1 ∷ 9 ∷ []) ∷ ins madd (10 ∷ 10 ∷ 11 ∷ 2 ∷ []) ∷ []
+unfolding is_led
+product-first = refl
+
+-- a[i] * a[i] + k and a[i] * a[i] + a[i]: 0 and 1 the reads, 2 the product, 3 the name or the read, 4 the sum. The read is made in the
+-- register of a factor.
+abbrev square : Term
+square = Operation binary.Mul (Element a (Variable i)) (Element a (Variable i))
+
+abbrev lost_layout : Layout
+lost_layout = record { regs = 10 ∷ 11 ∷ 10 ∷ 11 ∷ 10 ∷ []; untils = 2 ∷ 2 ∷ 4 ∷ 4 ∷ 5 ∷ [] }
+
+abbrev named_layout : Layout
+named_layout = record { regs = 10 ∷ 11 ∷ 10 ∷ 0 ∷ 10 ∷ []; untils = 2 ∷ 2 ∷ 4 ∷ 0 ∷ 5 ∷ [] }
+
+product-and-name : loose_code named_layout homes scope Low32 (Some ty.I32) 0 0 (Operation binary.Add square (Variable k)) [] ≡ ins ldrsw_register (10 ∷ 0 ∷ 1 ∷ 9 ∷ []) ∷ ins ldrsw_register (11 ∷ 0 ∷ 1 ∷ 9 ∷ []) ∷ ins madd (10 ∷ 10 ∷ 2 ∷ 11 ∷ []) ∷ []
+unfolding is_led
+product-and-name = refl
+
+factor-overwritten : loose_code lost_layout homes scope Low32 (Some ty.I32) 0 0 (Operation binary.Add square (Element a (Variable i))) [] ≡
+    ins ldrsw_register (10 ∷ 0 ∷ 1 ∷ 9 ∷ [])
+    ∷ ins ldrsw_register (11 ∷ 0 ∷ 1 ∷ 9 ∷ [])
+    ∷ ins madd (10 ∷ 10 ∷ 31 ∷ 11 ∷ [])
+    ∷ ins ldrsw_register (11 ∷ 0 ∷ 1 ∷ 9 ∷ [])
+    ∷ ins add (10 ∷ 10 ∷ 0 ∷ 11 ∷ 0 ∷ [])
+    ∷ []
+unfolding is_led
+factor-overwritten = refl
+
+-- (h << 13) ^ h and (h >> 7) - h at 64 bits: 0 the name h, 1 the shift, 2 the name h, 3 the operator; the sides of - stay in their places
+abbrev shift_layout : Layout
+shift_layout = record { regs = 0 ∷ 11 ∷ 0 ∷ 11 ∷ []; untils = 0 ∷ 3 ∷ 0 ∷ 4 ∷ [] }
+
+shift-first : loose_code shift_layout homes scope Whole (Some ty.U64) 0 0 (Operation binary.Xor (Shift true (Variable h) (pos 13)) (Variable h)) [] ≡ ins eor (11 ∷ 15 ∷ 13 ∷ 15 ∷ 0 ∷ []) ∷ []
+unfolding is_led
+shift-first = refl
+
+shift-less : loose_code shift_layout homes scope Whole (Some ty.U64) 0 0 (Operation binary.Sub (Shift false (Variable h) (pos 7)) (Variable h)) [] ≡ ins orr (11 ∷ 31 ∷ 7 ∷ 15 ∷ 1 ∷ []) ∷ ins sub (11 ∷ 11 ∷ 0 ∷ 15 ∷ 0 ∷ []) ∷ []
+unfolding is_led
+shift-less = refl

@@ -1,5 +1,5 @@
 -- The code of expressions, before the entries that follow it. b is the first item, n the next label.
-use Rattle.std.specs.Prelude.{ℕ, ◌+◌, ℤ, Bool, true, false, not, ◌&&◌, ◌||◌, List, [], ◌∷◌, Option, Some, None, option_and_then, if◌then◌else◌}
+use Rattle.std.specs.Prelude.{ℕ, zero, suc, ◌+◌, ℤ, Bool, true, false, not, ◌&&◌, ◌||◌, List, [], ◌∷◌, Option, Some, None, is_none, option_and_then, nat_eq, nat_lt, if◌then◌else◌}
 use Rattle.kernel_tree.specs.declared.ops.Ty.{Ty}
 use Rattle.kernel_tree.specs.declared.ops.BinaryOp.{BinaryOp}
 use Rattle.kernel_tree.specs.declared.ops.BinaryOp.TheVariants as binary
@@ -10,7 +10,7 @@ use Rattle.kernel_tree.specs.Wrap.{is_signed}
 use Rattle.kernel_tree.specs.Typing.{Scope, lookup, own, element_type, index_type, side_type}
 use Rattle.kernel_meaning.specs.Operators.{word, wrapped, shift_count}
 use Rattle.label_fix.specs.DraftRun.{Entry, Put, ins}
-use Rattle.scalar_words.specs.Layout.{Layout, Homes, reg_of, register_at}
+use Rattle.scalar_words.specs.Layout.{Layout, Homes, reg_of, last_use_at, register_at}
 use Rattle.scalar_values.specs.ValueRegisters.{home}
 use Rattle.scalar_values.specs.declared.extent.Extent.{Extent}
 use Rattle.scalar_values.specs.Extents.{Whole, within_type, converted_extent}
@@ -103,6 +103,10 @@ is_fused op w want (Operation o p q) = takes_product op && (is_product o && stay
 is_fused op w want (Shift left e z) = takes_shift op && shift_stays left w want
 is_fused op w want _ = false
 
+abbrev pub IsShift : Term → Type 0
+IsShift (Shift left e z) = Unit {0}
+IsShift _ = ⊥
+
 abbrev pub HasParts : Bool → Term → Type 0
 HasParts true (Operation o p q) = Unit {0}
 HasParts true (Shift left e z) = Unit {0}
@@ -129,6 +133,40 @@ abbrev pub side_code : Option ℕ → (fused : Bool) → (whole parts : List Ent
 side_code (Some v) fused whole parts rest = rest
 side_code None true whole parts rest = parts rest
 side_code None false whole parts rest = whole rest
+
+-- ---- left sides that stand in the word of an operator
+
+-- the sides may change places
+abbrev pub is_commutative : BinaryOp → Bool
+is_commutative binary.Sub = false
+is_commutative _ = true
+
+-- nothing of a right side stands in the word
+abbrev pub stands_alone : BinaryOp → Extent → Option Ty → Term → Bool
+stands_alone op w want y = is_none (added_number op want y) && not (is_fused op w want y)
+
+-- no item of n from b on is made in register r
+abbrev pub is_spared : Layout → (b n r : ℕ) → Bool
+is_spared L b zero r = true
+is_spared L b (suc n) r = not (nat_lt b (last_use_at L b) && nat_eq (reg_of L b) r) && is_spared L (b + 1) n r
+
+-- nor in one that a word takes
+abbrev pub side_lasts : Layout → (b n : ℕ) → Side → Bool
+side_lasts L b n (Number v) = true
+side_lasts L b n (Register r) = is_spared L b n r
+side_lasts L b n (Product p q) = is_spared L b n p && is_spared L b n q
+side_lasts L b n (Moved kind k r) = is_spared L b n r
+
+-- the left side stands in the word: the right side does not, and its code leaves alone what the word takes
+unfoldable pub is_led : Layout → Homes → Option (List ℕ) → BinaryOp → Extent → Option Ty → (b : ℕ) → Term → Term → Bool
+is_led L homes i op w want b x y = (is_commutative op && is_fused op w want x) && (stands_alone op w want y && side_lasts L (b + term_size i x) (term_size i y) (part_side L homes i want b x))
+
+-- what the word takes of one side, and the register of the other
+abbrev pub taken_side : Layout → Homes → Option (List ℕ) → BinaryOp → Extent → Option Ty → (b : ℕ) → Term → Term → Side
+taken_side L homes i op w want b x y = if is_led L homes i op w want b x y then part_side L homes i want b x else right_side L homes i op w want (b + term_size i x) y
+
+abbrev pub other_home : Layout → Homes → Option (List ℕ) → BinaryOp → Extent → Option Ty → (b : ℕ) → Term → Term → ℕ
+other_home L homes i op w want b x y = if is_led L homes i op w want b x y then home L homes i (b + term_size i x) y else home L homes i b x
 
 -- no code for a right side that a word holds
 abbrev pub right_code : Option ℕ → (List Entry → List Entry) → List Entry → List Entry
@@ -158,10 +196,13 @@ abbrev mutual
   loose_code L homes scope w want b n (Unary op e) rest =
       loose_code L homes scope (unary_asks scope want op e w) want b n e (at_type want (λ t. unary_code (unary_settles scope want op e w) op t (reg_of L (b + term_size scope.index e)) (home L homes scope.index b e) rest) rest)
   loose_code L homes scope w want b n (Operation op x y) rest =
-      loose_code L homes scope (binary_asks scope want op x y w) want b n x (side_code (added_number op want y) (is_fused op (binary_asks scope want op x y w) want y)
+      side_code None (is_led L homes scope.index op (binary_asks scope want op x y w) want b x y)
+      (loose_code L homes scope (binary_asks scope want op x y w) want b n x)
+      (parts_code L homes scope (binary_asks scope want op x y w) want b n x)
+      (side_code (added_number op want y) (is_fused op (binary_asks scope want op x y w) want y)
       (loose_code L homes scope (binary_asks scope want op x y w) want (b + term_size scope.index x) (n + labels scope.index x) y)
       (parts_code L homes scope (binary_asks scope want op x y w) want (b + term_size scope.index x) (n + labels scope.index x) y)
-      (at_type want (λ t. operator_code (right_side L homes scope.index op (binary_asks scope want op x y w) want (b + term_size scope.index x) y) (binary_settles scope want op x y w) op t (reg_of L (b + term_size scope.index x + term_size scope.index y)) (home L homes scope.index b x) rest) rest))
+      (at_type want (λ t. operator_code (taken_side L homes scope.index op (binary_asks scope want op x y w) want b x y) (binary_settles scope want op x y w) op t (reg_of L (b + term_size scope.index x + term_size scope.index y)) (other_home L homes scope.index op (binary_asks scope want op x y w) want b x y) rest) rest))
   loose_code L homes scope w want b n (Shift left e k) rest =
       loose_code L homes scope (shift_asks scope want left e k w) want b n e (at_type want (λ t. shift_code (shift_settles scope want left e k w) left k t (reg_of L (b + term_size scope.index e)) (home L homes scope.index b e) rest) rest)
   loose_code L homes scope w want b n (Conversion e t) rest =
@@ -212,6 +253,12 @@ value_code L homes scope want b n e rest = loose_code L homes scope Whole want b
 abbrev pub one_of_code : Layout → Homes → Scope → (b n : ℕ) → Term → (p q : ℕ) → List Entry → List Entry
 one_of_code L homes scope b n c p q rest =
     choice_code (flag_condition scope c) (flags_code L homes scope b (n + 2) c) (jump_code L homes scope false n b (n + 2) c) (reg_of L (b + term_size scope.index c)) p q n rest
+
+-- both sides of an operator, of which so much is asked for
+abbrev pub sides_code : Layout → Homes → Scope → Extent → Option Ty → (b n : ℕ) → BinaryOp → (x y : Term) → List Entry → List Entry
+sides_code L homes scope w want b n op x y rest =
+    side_code None (is_led L homes scope.index op w want b x y) (loose_code L homes scope w want b n x) (parts_code L homes scope w want b n x)
+    (side_code (added_number op want y) (is_fused op w want y) (loose_code L homes scope w want (b + term_size scope.index x) (n + labels scope.index x) y) (parts_code L homes scope w want (b + term_size scope.index x) (n + labels scope.index x) y) rest)
 
 -- an index, as a part of a read
 abbrev pub index_labels : Option (List ℕ) → Term → ℕ

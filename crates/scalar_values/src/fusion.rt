@@ -1,12 +1,24 @@
-//! Which right sides stand in the word of an operator.
+//! Which sides stand in the word of an operator.
 
-ghost use Rattle.std.specs.Prelude.{◌≡◌};
-ghost use Rattle.kernel_tree.specs.Plain.{term_of};
+ghost use Rattle.std.specs.Prelude.{◌≡◌, ◌+◌, ◌<◌, ◌^◌};
+ghost use Rattle.kernel_tree.specs.Plain.{Operation, term_of};
+ghost use Rattle.kernel_tree.specs.Items.{term_size};
+ghost use Rattle.kernel_scope.specs.Scopes.{scope_of};
+ghost use Rattle.scalar_words.specs.View.{homes_of};
 ghost use Rattle.scalar_values.specs.Code as code;
+ghost use Rattle.scalar_values.specs.Sides.{side_view};
 
 use crate::extent::{Extent, within_type};
+use crate::instructions::{added_number, shift_count};
+use crate::operations::signed_side;
+use crate::registers::{expr_size, home_of};
+use crate::side::Side;
+use a64_code::{Reg, zero};
+use kernel_scope::Scope;
 use kernel_tree::{BinaryOp, Expr, Ty};
+use scalar_words::Home;
 use scalar_words::instructions::is_narrow;
+use scalar_words::places::Places;
 
 // Whether a result that may have left the extended form is not extended.
 fn stays(extent: Extent, want: Option<Ty>) -> bool
@@ -59,5 +71,109 @@ pub fn is_fused(op: BinaryOp, extent: Extent, want: Option<Ty>, expr: &Expr) -> 
         }
         Expr::Shift { left_shift, .. } => takes_shift(op) & shift_stays(*left_shift, extent, want),
         _ => false,
+    }
+}
+
+// Whether the sides of an operator may change places.
+fn is_commutative(op: BinaryOp) -> bool
+    ensures { result ≡ code.is_commutative op }
+{
+    !matches!(op, BinaryOp::Sub)
+}
+
+// Whether nothing of a right side stands in the word.
+fn stands_alone(op: BinaryOp, extent: Extent, want: Option<Ty>, right: &Expr) -> bool
+    ensures { result ≡ code.stands_alone op extent want (term_of right.now) }
+{
+    added_number(op, want, right).is_none() && !is_fused(op, extent, want, right)
+}
+
+// Whether none of so many items from one on is made in a register.
+fn is_spared(places: &Places, item: usize, count: usize, register: Reg) -> bool
+    requires { item + count < 2 ^ 32 }
+    ensures { result ≡ code.is_spared places.now item count register.number }
+{
+    if count == 0 {
+        return true;
+    }
+    let made = item < places.last_use(item) && places.reg(item).number == register.number;
+    !made && is_spared(places, item + 1, count - 1, register)
+}
+
+// The same of each register of which a word takes the value.
+fn side_lasts(places: &Places, item: usize, count: usize, side: Side) -> bool
+    requires { item + count < 2 ^ 32 }
+    ensures { result ≡ code.side_lasts places.now item count (side_view side) }
+{
+    match side {
+        Side::Number(_) => true,
+        Side::Register(r) => is_spared(places, item, count, r),
+        Side::Product(p, q) => {
+            is_spared(places, item, count, p) && is_spared(places, item, count, q)
+        }
+        Side::Moved { register, .. } => is_spared(places, item, count, register),
+    }
+}
+
+/// What a word takes of a value that stands in it, whose items begin at one.
+pub fn part_side(
+    places: &Places,
+    homes: &[Home],
+    scope: &Scope,
+    want: Option<Ty>,
+    expr: &Expr,
+    item: usize,
+) -> Side
+    requires { item + term_size (scope_of scope.now).index (term_of expr.now) < 2 ^ 32 }
+    ensures { side_view result ≡ code.part_side places.now (homes_of homes.now) (scope_of scope.now).index want item
+        (term_of expr.now) }
+{
+    match expr {
+        Expr::Binary { left, right, .. } => {
+            let second = item + expr_size(scope, left);
+            let p = home_of(places, homes, scope, left, item);
+            let q = home_of(places, homes, scope, right, second);
+            Side::Product(p, q)
+        }
+        Expr::Shift {
+            left_shift,
+            arg,
+            count,
+        } => Side::Moved {
+            left: *left_shift,
+            signed: signed_side(want),
+            count: shift_count(*count),
+            register: home_of(places, homes, scope, arg, item),
+        },
+        _ => Side::Register(zero()),
+    }
+}
+
+/// Whether the left side of an operator, the items of which begin at one, stands in its word.
+#[tactic(auto, unfolding(crate::specs::Code::is_led))]
+pub fn is_led(
+    places: &Places,
+    homes: &[Home],
+    scope: &Scope,
+    op: BinaryOp,
+    extent: Extent,
+    want: Option<Ty>,
+    left: &Expr,
+    right: &Expr,
+    item: usize,
+) -> bool
+    requires { item + term_size (scope_of scope.now).index (Operation op (term_of left.now)
+        (term_of right.now)) < 2 ^ 32 }
+    ensures led { result ≡ code.is_led places.now (homes_of homes.now) (scope_of scope.now).index op extent want item
+        (term_of left.now) (term_of right.now) }
+    ensures parts { code.HasParts result (term_of left.now) }
+{
+    let fused = is_commutative(op) && is_fused(op, extent, want, left);
+    if fused && stands_alone(op, extent, want, right) {
+        let side = part_side(places, homes, scope, want, left, item);
+        let after = item + expr_size(scope, left);
+        side_lasts(places, after, expr_size(scope, right), side)
+    } else {
+        false
     }
 }
