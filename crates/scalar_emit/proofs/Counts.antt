@@ -67,7 +67,7 @@ module _ (L : Layout) where
         let want = option_and_then accumulator_type (lookup s x) in
         let o = operator_of op in
         let j = binary_extent o Whole want in
-        within (omega arith) (side_words (added_number o want e) (is_fused o j want e) (4 * term_size s.index e) _ _ _ _ (operator_code_words (right_side L hs s.index o j want b e) (binary_leaves o) want o _ _ rest k h) (λ g. loose_words L hs e s j want b n _ _ g) (λ g. parts_words L hs e s j want b n _ _ g))
+        within (omega arith) (side_words (added_number o want e) (is_fused s o j want e) (4 * term_size s.index e) _ _ _ _ (operator_code_words (right_side L hs s o j want b e) (binary_leaves o) want o _ _ rest k h) (λ g. loose_words L hs e s j want b n _ _ g) (λ g. parts_words L hs e s j want b n _ _ g))
     action_words (Choose c blk d) hs s exit b n rest k h =
         within (omega arith) (jump_words L hs c s false _ b _ _ _ (block_words blk hs s exit _ _ _ _ (otherwise_words d hs (left s (after_block s blk)) exit n _ _ rest k h)))
     action_words (Leave c) hs s exit b n rest k h = within (omega arith) (jump_words L hs c s true exit b n _ _ h)

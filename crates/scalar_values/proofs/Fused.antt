@@ -13,6 +13,7 @@ use Rattle.kernel_tree.specs.declared.ops.Ty.{Ty}
 use Rattle.kernel_tree.specs.declared.ops.BinaryOp.{BinaryOp}
 use Rattle.kernel_tree.specs.Plain.{Term, Literal, Variable, Element, Unary, Operation, Shift, Conversion, Choice, Comparison, Both, Either, Not}
 use Rattle.kernel_tree.specs.Items.{term_size}
+use Rattle.kernel_tree.specs.Typing.{Scope}
 use Rattle.kernel_tree.specs.Wrap.{wrap, is_signed}
 use Rattle.kernel_meaning.specs.Operators.{word, binary_on, shift_on, shift_count}
 use Rattle.kernel_meaning.specs.TypeValues.{IsOf, binary_leaves}
@@ -29,8 +30,9 @@ use Rattle.scalar_words.proofs.Words.{in_range}
 use Rattle.scalar_words.proofs.WordsRuns.{Sets, wide_wrap}
 use Rattle.scalar_values.specs.declared.extent.Extent.{Extent}
 use Rattle.scalar_values.specs.Extents.{Whole, within_type, operand_extent, asked_extent, settles}
+use Rattle.scalar_values.specs.Leaving.{binary_settles, shift_settles}
 use Rattle.scalar_values.specs.ItemWords.{Side, Number, Register, Product, Moved, shift_kind, operator_code}
-use Rattle.scalar_values.specs.Code.{added_number, takes_product, takes_shift, is_product, stays, shift_stays, is_fused, part_side, side_by, right_side, side_code, is_commutative, stands_alone, is_spared, side_lasts, is_led}
+use Rattle.scalar_values.specs.Code.{added_number, takes_product, takes_shift, is_product, stays, is_fused, part_side, side_by, right_side, side_code, is_commutative, makes_way, stands_alone, is_spared, side_lasts, is_led}
 use Rattle.scalar_values.proofs.Loads.{Gives, no_value, a_value}
 use Rattle.scalar_values.proofs.Loose.{settled, loose_binary, loose_shift}
 use Rattle.scalar_values.proofs.Numbers.{IsSum, added_sum}
@@ -63,16 +65,17 @@ never true h = absurd cc
 never false h = absurd cc
 
 -- the word of a result that is not extended
-settled_by : (l : Bool) (T : Ty) (z : ℤ) → (l || not (is_narrow T)) ≡ true → word (settled l true (Some T) z) ≡ word z
-settled_by true T z h = refl
-settled_by false T z h = wide_wrap T z (wide (is_narrow T) h)
+settled_by : (l leaves : Bool) (w : Extent) (T : Ty) (z : ℤ) → stays (settles l true leaves) (Some T) ≡ true → (operand_extent l true leaves w (Some T) ≡ Whole → leaves ≡ false → word (wrap T z) ≡ word z) → word (settled l true (Some T) z) ≡ word z
+settled_by true leaves w T z h kept = refl
+settled_by false false w T z h kept = kept refl refl
+settled_by false true w T z h kept = wide_wrap T z (wide (is_narrow T) h)
   where
     wide : (b : Bool) → not b ≡ true → b ≡ false
     wide true h = absurd cc
     wide false h = refl
 
-pub settled_same : (w : Extent) (T : Ty) (z : ℤ) → stays w (Some T) ≡ true → word (settled (within_type w T) true (Some T) z) ≡ word z
-settled_same w T z h = settled_by (within_type w T) T z h
+pub settled_same : (leaves : Bool) (w : Extent) (T : Ty) (z : ℤ) → stays (settles (within_type w T) true leaves) (Some T) ≡ true → (asked_extent true leaves w (Some T) ≡ Whole → leaves ≡ false → word (wrap T z) ≡ word z) → word (settled (within_type w T) true (Some T) z) ≡ word z
+settled_same leaves w T z h kept = settled_by (within_type w T) leaves w T z h kept
 
 right_extent : (l : Bool) (w : Extent) (T : Ty) → operand_extent l false false w (Some T) ≡ Whole
 right_extent true w T = refl
@@ -82,10 +85,10 @@ right_settled : (l : Bool) (T : Ty) (z : ℤ) → settled l false (Some T) z ≡
 right_settled true T z = refl
 right_settled false T z = refl
 
-pub moved_same : (left leaves : Bool) (z : ℤ) (w : Extent) (T : Ty) (x : ℤ) → (leaves ≡ true → left ≡ true) → shift_stays left w (Some T) ≡ true → (asked_extent left leaves w (Some T) ≡ Whole → IsOf T x) → shifted_word (shift_kind left (is_signed T)) (word x) (shift_count z) ≡ word (loose_shift left z w (Some T) x)
-moved_same true leaves z w T x only still range = word-shl x (shift_count z) ∙ sym (settled_same w T (shift_on true (shift_count z) x) still)
-moved_same false true z w T x only still range = absurd (let e = only refl in cc)
-moved_same false false z w T x only still range =
+pub moved_same : (left leaves : Bool) (z : ℤ) (w : Extent) (T : Ty) (x : ℤ) → (leaves ≡ true → left ≡ true) → stays (settles (within_type w T) left leaves) (Some T) ≡ true → (asked_extent left leaves w (Some T) ≡ Whole → IsOf T x) → (asked_extent left leaves w (Some T) ≡ Whole → leaves ≡ false → word (wrap T (shift_on left (shift_count z) x)) ≡ word (shift_on left (shift_count z) x)) → shifted_word (shift_kind left (is_signed T)) (word x) (shift_count z) ≡ word (loose_shift left z w (Some T) x)
+moved_same true leaves z w T x only still range kept = word-shl x (shift_count z) ∙ sym (settled_same leaves w T (shift_on true (shift_count z) x) still kept)
+moved_same false true z w T x only still range kept = absurd (let e = only refl in cc)
+moved_same false false z w T x only still range kept =
     let rx = range (right_extent (within_type w T) w T) in
     shifted-word false (is_signed T) (shift_count z) x (in_range T x rx) ∙ sym (shift-kept false (shift_count z) T x rx refl) ∙ sym (ap word (right_settled (within_type w T) T (shift_on false (shift_count z) x)))
 
@@ -95,22 +98,22 @@ taken_by op (Some v) fused r part sums takes = sums v refl
 taken_by op None true r part sums takes = takes refl
 taken_by op None false r part sums takes = tt
 
-pub part_taken : (op : BinaryOp) (L : Layout) (hs : Homes) (i : Option (List ℕ)) (w : Extent) (T : Ty) (b : ℕ) (e : Term) → is_fused op w (Some T) e ≡ true → IsTaken op (part_side L hs i (Some T) b e)
-part_taken op L hs i w T b (Operation o x y) f = both_left (takes_product op) (is_product o && stays w (Some T)) f
-part_taken op L hs i w T b (Shift left e z) f = both_left (takes_shift op) (shift_stays left w (Some T)) f
-part_taken op L hs i w T b (Literal z) f = absurd cc
-part_taken op L hs i w T b (Variable x) f = absurd cc
-part_taken op L hs i w T b (Element a e) f = absurd cc
-part_taken op L hs i w T b (Unary o e) f = absurd cc
-part_taken op L hs i w T b (Conversion e t) f = absurd cc
-part_taken op L hs i w T b (Choice c x y) f = absurd cc
-part_taken op L hs i w T b (Comparison o x y) f = absurd cc
-part_taken op L hs i w T b (Both x y) f = absurd cc
-part_taken op L hs i w T b (Either x y) f = absurd cc
-part_taken op L hs i w T b (Not e) f = absurd cc
+pub part_taken : (op : BinaryOp) (L : Layout) (hs : Homes) (s : Scope) (w : Extent) (T : Ty) (b : ℕ) (e : Term) → is_fused s op w (Some T) e ≡ true → IsTaken op (part_side L hs s.index (Some T) b e)
+part_taken op L hs s w T b (Operation o x y) f = both_left (takes_product op) (is_product o && stays (binary_settles s (Some T) o x y w) (Some T)) f
+part_taken op L hs s w T b (Shift left e z) f = both_left (takes_shift op) (stays (shift_settles s (Some T) left e z w) (Some T)) f
+part_taken op L hs s w T b (Literal z) f = absurd cc
+part_taken op L hs s w T b (Variable x) f = absurd cc
+part_taken op L hs s w T b (Element a e) f = absurd cc
+part_taken op L hs s w T b (Unary o e) f = absurd cc
+part_taken op L hs s w T b (Conversion e t) f = tt
+part_taken op L hs s w T b (Choice c x y) f = absurd cc
+part_taken op L hs s w T b (Comparison o x y) f = absurd cc
+part_taken op L hs s w T b (Both x y) f = absurd cc
+part_taken op L hs s w T b (Either x y) f = absurd cc
+part_taken op L hs s w T b (Not e) f = absurd cc
 
-pub right_taken : (op : BinaryOp) (L : Layout) (hs : Homes) (i : Option (List ℕ)) (w : Extent) (T : Ty) (b : ℕ) (e : Term) → IsTaken op (right_side L hs i op w (Some T) b e)
-right_taken op L hs i w T b e = taken_by op (added_number op (Some T) e) (is_fused op w (Some T) e) _ _ (added_sum op (Some T) e) (part_taken op L hs i w T b e)
+pub right_taken : (op : BinaryOp) (L : Layout) (hs : Homes) (s : Scope) (w : Extent) (T : Ty) (b : ℕ) (e : Term) → IsTaken op (right_side L hs s op w (Some T) b e)
+right_taken op L hs s w T b e = taken_by op (added_number op (Some T) e) (is_fused s op w (Some T) e) _ _ (added_sum op (Some T) e) (part_taken op L hs s w T b e)
 
 -- ---- left sides
 
@@ -120,32 +123,31 @@ by_led P true f g = f refl
 by_led P false f g = g refl
 
 -- what is known of a left side that does
-pub record Led (L : Layout) (op : BinaryOp) (w : Extent) (want : Option Ty) (b2 n : ℕ) (x y : Term) (part : Side) : Type 0 where
+pub record Led (L : Layout) (s : Scope) (op : BinaryOp) (w : Extent) (want : Option Ty) (b2 n : ℕ) (x y : Term) (part : Side) : Type 0 where
   pub turns : is_commutative op ≡ true
-  pub fused : is_fused op w want x ≡ true
-  pub alone : stands_alone op w want y ≡ true
+  pub fused : is_fused s op w want x ≡ true
+  pub alone : stands_alone s op w want x y ≡ true
   pub lasts : side_lasts L b2 n part ≡ true
 
-pub led_is : (L : Layout) (hs : Homes) (i : Option (List ℕ)) (op : BinaryOp) (w : Extent) (want : Option Ty) (b : ℕ) (x y : Term) → is_led L hs i op w want b x y ≡ true → Led L op w want (b + term_size i x) (term_size i y) x y (part_side L hs i want b x)
+pub led_is : (L : Layout) (hs : Homes) (s : Scope) (op : BinaryOp) (w : Extent) (want : Option Ty) (b : ℕ) (x y : Term) → is_led L hs s op w want b x y ≡ true → Led L s op w want (b + term_size s.index x) (term_size s.index y) x y (part_side L hs s.index want b x)
 unfolding is_led
-led_is L hs i op w want b x y h =
-    let p = both_left (is_commutative op && is_fused op w want x) _ h in
-    let q = both_right (is_commutative op && is_fused op w want x) _ h in
+led_is L hs s op w want b x y h =
+    let p = both_left (is_commutative op && is_fused s op w want x) _ h in
+    let q = both_right (is_commutative op && is_fused s op w want x) _ h in
     record {
-      turns = both_left (is_commutative op) (is_fused op w want x) p;
-      fused = both_right (is_commutative op) (is_fused op w want x) p;
-      alone = both_left (stands_alone op w want y) _ q;
-      lasts = both_right (stands_alone op w want y) _ q;
+      turns = both_left (is_commutative op) (is_fused s op w want x) p;
+      fused = both_right (is_commutative op) (is_fused s op w want x) p;
+      alone = both_left (stands_alone s op w want x y) _ q;
+      lasts = both_right (stands_alone s op w want x y) _ q;
     }
 
 -- the code of a right side of which nothing stands in the word
-alone_by : (number : Option ℕ) (fused : Bool) (whole parts : List Entry → List Entry) (rest : List Entry) → (is_none number && not fused) ≡ true → side_code number fused whole parts rest ≡ whole rest
-alone_by (Some v) fused whole parts rest h = absurd cc
-alone_by None true whole parts rest h = absurd cc
-alone_by None false whole parts rest h = refl
+alone_by : (number : Option ℕ) (more : Bool) (whole parts : List Entry → List Entry) (rest : List Entry) → (is_none number && more) ≡ true → side_code number false whole parts rest ≡ whole rest
+alone_by (Some v) more whole parts rest h = absurd cc
+alone_by None more whole parts rest h = refl
 
-pub alone_code : (op : BinaryOp) (w : Extent) (want : Option Ty) (y : Term) (whole parts : List Entry → List Entry) (rest : List Entry) → stands_alone op w want y ≡ true → side_code (added_number op want y) (is_fused op w want y) whole parts rest ≡ whole rest
-alone_code op w want y whole parts rest h = alone_by (added_number op want y) (is_fused op w want y) whole parts rest h
+pub alone_code : (s : Scope) (op : BinaryOp) (w : Extent) (want : Option Ty) (x y : Term) (whole parts : List Entry → List Entry) (rest : List Entry) → stands_alone s op w want x y ≡ true → side_code (added_number op want y) false whole parts rest ≡ whole rest
+alone_code s op w want x y whole parts rest h = alone_by (added_number op want y) (makes_way x y || not (is_fused s op w want y)) whole parts rest h
 
 -- sides that change places
 pub binary_on-turned : (op : BinaryOp) (x y : ℤ) → is_commutative op ≡ true → binary_on op y x ≡ binary_on op x y

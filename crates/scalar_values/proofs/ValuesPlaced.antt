@@ -1,5 +1,5 @@
 -- Each label of an expression is placed once.
-use Rattle.std.proofs.Common.{◌≢◌, ℕ, ◌+◌, ◌<◌, ◌≤◌, Bool, true, false, List, ◌∷◌, Option, Some, None, arith}
+use Rattle.std.proofs.Common.{◌≢◌, ℕ, ◌+◌, ◌<◌, ◌≤◌, ◌&&◌, Bool, true, false, List, ◌∷◌, Option, Some, None, arith}
 use Rattle.std.specs.Prelude.{ℤ, not}
 use Rattle.kernel_tree.specs.declared.ops.Ty.{Ty}
 use Rattle.kernel_tree.specs.declared.ops.UnaryOp.{UnaryOp}
@@ -95,9 +95,9 @@ module _ (L : Layout) (hs : Homes) where
     loose_unplaced (Unary op x) s w want l b n rest h u = loose_unplaced x s (unary_asks s want op x w) want l b n _ h (unary_put (Unplaced l) (unplaced_put l) (unary_settles s want op x w) want op _ _ rest u)
     loose_unplaced (Operation op x y) s w want l b n rest h u =
         let k1 = binary_asks s want op x y w in
-        let v = operator_put (Unplaced l) (unplaced_put l) (taken_side L hs s.index op k1 want b x y) (binary_settles s want op x y w) want op _ _ rest u in
-        let after = side_unplaced l (added_number op want y) (is_fused op k1 want y) _ _ _ (loose_unplaced y s k1 want l _ _ _ (λ k. omega arith) v) (parts_unplaced y s k1 want l _ _ _ (λ k. omega arith) v) v in
-        side_unplaced l None (is_led L hs s.index op k1 want b x y) _ _ _ (loose_unplaced x s k1 want l b n _ (λ k. omega arith) after) (parts_unplaced x s k1 want l b n _ (λ k. omega arith) after) after
+        let v = operator_put (Unplaced l) (unplaced_put l) (taken_side L hs s op k1 want b x y) (binary_settles s want op x y w) want op _ _ rest u in
+        let after = side_unplaced l (added_number op want y) (not (is_led L hs s op k1 want b x y) && is_fused s op k1 want y) _ _ _ (loose_unplaced y s k1 want l _ _ _ (λ k. omega arith) v) (parts_unplaced y s k1 want l _ _ _ (λ k. omega arith) v) v in
+        side_unplaced l None (is_led L hs s op k1 want b x y) _ _ _ (loose_unplaced x s k1 want l b n _ (λ k. omega arith) after) (parts_unplaced x s k1 want l b n _ (λ k. omega arith) after) after
     loose_unplaced (Shift left x z) s w want l b n rest h u = loose_unplaced x s (shift_asks s want left x z w) want l b n _ h (shift_put (Unplaced l) (unplaced_put l) (shift_settles s want left x z w) want left z _ _ rest u)
     loose_unplaced (Conversion x t) s w want l b n rest h u = loose_unplaced x s (converted_extent w (own s x) t) (own s x) l b n _ h (cast_put (Unplaced l) (unplaced_put l) (within_type w t) (own s x) t _ _ rest u)
     loose_unplaced (Choice c x y) s w want l b n rest h u =
@@ -115,7 +115,7 @@ module _ (L : Layout) (hs : Homes) where
     parts_unplaced (Variable x) s w want l b n rest h u = u
     parts_unplaced (Element a i) s w want l b n rest h u = u
     parts_unplaced (Unary op e) s w want l b n rest h u = u
-    parts_unplaced (Conversion e t) s w want l b n rest h u = u
+    parts_unplaced (Conversion e t) s w want l b n rest h u = loose_unplaced e s (converted_extent w (own s e) t) (own s e) l b n rest h u
     parts_unplaced (Choice c x y) s w want l b n rest h u = u
     parts_unplaced (Comparison op x y) s w want l b n rest h u = u
     parts_unplaced (Both x y) s w want l b n rest h u = u
@@ -208,10 +208,10 @@ module _ (L : Layout) (hs : Homes) where
         let number = added_number op want y in
         let ends = binary_settles s want op x y w in
         let k1 = binary_asks s want op x y w in
-        let fused = is_fused op k1 want y in
-        let side = taken_side L hs s.index op k1 want b x y in
+        let fused = not (is_led L hs s op k1 want b x y) && is_fused s op k1 want y in
+        let side = taken_side L hs s op k1 want b x y in
         let once = operator_put Once once_put side ends want op _ _ rest h in
-        led_once (is_led L hs s.index op k1 want b x y) _ _ _ n (n + labels s.index x)
+        led_once (is_led L hs s op k1 want b x y) _ _ _ n (n + labels s.index x)
         (λ l lo hi. let v = operator_put (Unplaced l) (unplaced_put l) side ends want op _ _ rest (f l lo (omega arith)) in side_unplaced l number fused _ _ _ (loose_unplaced L hs y s k1 want l _ _ _ (λ k. omega arith) v) (parts_unplaced L hs y s k1 want l _ _ _ (λ k. omega arith) v) v)
         (side_once number fused _ _ _ (loose_once y s k1 want _ _ _ (λ l lo hi. operator_put (Unplaced l) (unplaced_put l) side ends want op _ _ rest (f l (omega arith) (omega arith))) once)
         (parts_once y s k1 want _ _ _ (λ l lo hi. operator_put (Unplaced l) (unplaced_put l) side ends want op _ _ rest (f l (omega arith) (omega arith))) once) once)
@@ -237,7 +237,7 @@ module _ (L : Layout) (hs : Homes) where
     parts_once (Variable x) s w want b n rest f h = h
     parts_once (Element a i) s w want b n rest f h = h
     parts_once (Unary op e) s w want b n rest f h = h
-    parts_once (Conversion e t) s w want b n rest f h = h
+    parts_once (Conversion e t) s w want b n rest f h = loose_once e s (converted_extent w (own s e) t) (own s e) b n rest f h
     parts_once (Choice c x y) s w want b n rest f h = h
     parts_once (Comparison op x y) s w want b n rest f h = h
     parts_once (Both x y) s w want b n rest f h = h

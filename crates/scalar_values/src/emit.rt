@@ -274,9 +274,9 @@ fn emit_sides(
     requires fits { item.old + term_size (scope_of scope.now).index (Operation op (term_of left.now)
         (term_of right.now)) < 2 ^ 32 }
     ensures side { IfOk result (λ r. side_view r.0 ≡ code.taken_side places.now (homes_of homes.now)
-        (scope_of scope.now).index op extent want item.old (term_of left.now) (term_of right.now)) }
+        (scope_of scope.now) op extent want item.old (term_of left.now) (term_of right.now)) }
     ensures other { IfOk result (λ r. r.1.number ≡ code.other_home places.now (homes_of homes.now)
-        (scope_of scope.now).index op extent want item.old (term_of left.now) (term_of right.now)) }
+        (scope_of scope.now) op extent want item.old (term_of left.now) (term_of right.now)) }
     ensures item { OnOk result (item.new ≡ item.old + term_size (scope_of scope.now).index (term_of left.now)
         + term_size (scope_of scope.now).index (term_of right.now)) }
     ensures labels { OnOk result (draft.new.labels
@@ -313,18 +313,19 @@ pub fn emit_side(
     requires kind { IsValue (term_of expr.now) }
     requires fits { item.old + term_size (scope_of scope.now).index (term_of expr.now) < 2 ^ 32 }
     ensures side { IfOk result (λ s. side_view s ≡ code.right_side places.now (homes_of homes.now)
-        (scope_of scope.now).index op extent want item.old (term_of expr.now)) }
+        (scope_of scope.now) op extent want item.old (term_of expr.now)) }
     ensures item { OnOk result (item.new ≡ item.old + term_size (scope_of scope.now).index (term_of expr.now)) }
     ensures labels { OnOk result (draft.new.labels
         ≡ draft.old.labels + code.labels (scope_of scope.now).index (term_of expr.now)) }
     ensures code { OnOk result (Appends draft.old draft.new
-        (code.side_code (code.added_number op want (term_of expr.now)) (code.is_fused op extent want (term_of expr.now))
+        (code.side_code (code.added_number op want (term_of expr.now)) (code.is_fused (scope_of scope.now) op extent want
+        (term_of expr.now))
         (code.loose_code places.now (homes_of homes.now) (scope_of scope.now) extent want item.old draft.old.labels
         (term_of expr.now))
         (code.parts_code places.now (homes_of homes.now) (scope_of scope.now) extent want item.old draft.old.labels
         (term_of expr.now)))) }
 {
-    let fused = is_fused(op, extent, want, expr);
+    let fused = is_fused(scope, op, extent, want, expr);
     match added_number(op, want, expr) {
         Some(number) => {
             *item += 1;
@@ -380,6 +381,11 @@ fn emit_parts(
         } => {
             let asked = shift_asks(scope, want, *left_shift, arg, *count, extent);
             emit_loose(draft, places, homes, scope, asked, want, arg, item)?;
+        }
+        Expr::Cast { arg, ty } => {
+            let from = own_type(scope, arg);
+            let asked = converted_extent(extent, from, *ty);
+            emit_loose(draft, places, homes, scope, asked, from, arg, item)?;
         }
         _ => unreachable!(),
     }

@@ -8,33 +8,27 @@ ghost use Rattle.scalar_words.specs.View.{homes_of};
 ghost use Rattle.scalar_values.specs.Code as code;
 ghost use Rattle.scalar_values.specs.Sides.{side_view};
 
-use crate::extent::{Extent, within_type};
+use crate::extent::{Extent, fits_at, within_type};
 use crate::instructions::{added_number, shift_count};
+use crate::leaving::{binary_settles, shift_settles};
 use crate::operations::signed_side;
 use crate::registers::{expr_size, home_of};
 use crate::side::Side;
 use a64_code::{Reg, zero};
-use kernel_scope::Scope;
+use kernel_scope::{Scope, own_type};
 use kernel_tree::{BinaryOp, Expr, Ty};
 use scalar_words::Home;
 use scalar_words::instructions::is_narrow;
 use scalar_words::places::Places;
 
-// Whether a result that may have left the extended form is not extended.
-fn stays(extent: Extent, want: Option<Ty>) -> bool
-    ensures { result ≡ code.stays extent want }
+// Whether a result is not extended, by whether it would be at types that are narrower than 64 bits.
+fn stays(ends: bool, want: Option<Ty>) -> bool
+    ensures { result ≡ code.stays ends want }
 {
     match want {
         None => false,
-        Some(ty) => within_type(extent, ty) | !is_narrow(ty),
+        Some(ty) => !(ends && is_narrow(ty)),
     }
-}
-
-// The same of a shift.
-fn shift_stays(left: bool, extent: Extent, want: Option<Ty>) -> bool
-    ensures { result ≡ code.shift_stays left extent want }
-{
-    if left { stays(extent, want) } else { true }
 }
 
 // Whether the word of an operator may take a product.
@@ -61,15 +55,35 @@ fn is_product(op: BinaryOp) -> bool
 }
 
 /// Whether the right side of an operator, of which so much is asked for, stands in its word.
-pub fn is_fused(op: BinaryOp, extent: Extent, want: Option<Ty>, expr: &Expr) -> bool
-    ensures fused { result ≡ code.is_fused op extent want (term_of expr.now) }
+pub fn is_fused(scope: &Scope, op: BinaryOp, extent: Extent, want: Option<Ty>, expr: &Expr) -> bool
+    ensures fused { result ≡ code.is_fused (scope_of scope.now) op extent want (term_of expr.now) }
     ensures parts { code.HasParts result (term_of expr.now) }
 {
     match expr {
-        Expr::Binary { op: inner, .. } => {
-            takes_product(op) & (is_product(*inner) & stays(extent, want))
+        Expr::Binary {
+            op: inner,
+            left,
+            right,
+        } => {
+            takes_product(op)
+                && (is_product(*inner)
+                    && stays(
+                        binary_settles(scope, want, *inner, left, right, extent),
+                        want,
+                    ))
         }
-        Expr::Shift { left_shift, .. } => takes_shift(op) & shift_stays(*left_shift, extent, want),
+        Expr::Shift {
+            left_shift,
+            arg,
+            count,
+        } => {
+            takes_shift(op)
+                && stays(
+                    shift_settles(scope, want, *left_shift, arg, *count, extent),
+                    want,
+                )
+        }
+        Expr::Cast { arg, ty } => { within_type(extent, *ty) || fits_at(own_type(scope, arg), *ty) }
         _ => false,
     }
 }
@@ -81,11 +95,31 @@ fn is_commutative(op: BinaryOp) -> bool
     !matches!(op, BinaryOp::Sub)
 }
 
-// Whether nothing of a right side stands in the word.
-fn stands_alone(op: BinaryOp, extent: Extent, want: Option<Ty>, right: &Expr) -> bool
-    ensures { result ≡ code.stands_alone op extent want (term_of right.now) }
+// Whether a right side makes way for a left one: a cast, and of two casts the one that is of no name.
+fn makes_way(left: &Expr, right: &Expr) -> bool
+    ensures { result ≡ code.makes_way (term_of left.now) (term_of right.now) }
 {
-    added_number(op, want, right).is_none() && !is_fused(op, extent, want, right)
+    match right {
+        Expr::Cast { arg, .. } => {
+            !(matches!(left, Expr::Cast { .. }) && matches!(&**arg, Expr::Var(_)))
+        }
+        _ => false,
+    }
+}
+
+// Whether nothing of a right side need stand in the word.
+fn stands_alone(
+    scope: &Scope,
+    op: BinaryOp,
+    extent: Extent,
+    want: Option<Ty>,
+    left: &Expr,
+    right: &Expr,
+) -> bool
+    ensures { result ≡ code.stands_alone (scope_of scope.now) op extent want (term_of left.now) (term_of right.now) }
+{
+    added_number(op, want, right).is_none()
+        && (makes_way(left, right) || !is_fused(scope, op, extent, want, right))
 }
 
 // Whether none of so many items from one on is made in a register.
@@ -145,6 +179,7 @@ pub fn part_side(
             count: shift_count(*count),
             register: home_of(places, homes, scope, arg, item),
         },
+        Expr::Cast { arg, .. } => Side::Register(home_of(places, homes, scope, arg, item)),
         _ => Side::Register(zero()),
     }
 }
@@ -164,12 +199,12 @@ pub fn is_led(
 ) -> bool
     requires { item + term_size (scope_of scope.now).index (Operation op (term_of left.now)
         (term_of right.now)) < 2 ^ 32 }
-    ensures led { result ≡ code.is_led places.now (homes_of homes.now) (scope_of scope.now).index op extent want item
+    ensures led { result ≡ code.is_led places.now (homes_of homes.now) (scope_of scope.now) op extent want item
         (term_of left.now) (term_of right.now) }
     ensures parts { code.HasParts result (term_of left.now) }
 {
-    let fused = is_commutative(op) && is_fused(op, extent, want, left);
-    if fused && stands_alone(op, extent, want, right) {
+    let fused = is_commutative(op) && is_fused(scope, op, extent, want, left);
+    if fused && stands_alone(scope, op, extent, want, left, right) {
         let side = part_side(places, homes, scope, want, left, item);
         let after = item + expr_size(scope, left);
         side_lasts(places, after, expr_size(scope, right), side)
