@@ -46,13 +46,14 @@ low_wrap t n v low h =
 
 -- no values of items
 abbrev bare : Layout
-bare = record { regs = []; untils = [] }
+bare = record { regs = []; untils = []; constants = [] }
 
 bare_assigned : Assigned bare
 bare_assigned = record {
   low = λ p made. absurd (omega (arith, made));
   high = λ p made. absurd (omega (arith, made));
   apart = λ p q lt live made. absurd (omega (arith, made));
+  constants = λ z r e. absurd cc;
 }
 
 -- One general register has the value now; besides it, those from X26 on and Z31 alone may differ.

@@ -38,7 +38,8 @@ use Rattle.scalar_words.proofs.WordsRuns.{extension_is, wide_wrap, copied_sets}
 use Rattle.kernel_meaning.specs.TypeValues.{IsOf}
 use Rattle.scalar_values.proofs.Ranges.{value-range}
 use Rattle.scalar_words.proofs.Constants.{word_back}
-use Rattle.scalar_values.proofs.ValueRuns.{value_runs, value_back}
+use Rattle.scalar_values.proofs.ValueRuns.{give_more, value_runs, value_back}
+use Rattle.scalar_values.proofs.CodedSizes.{coded_few}
 use Rattle.kernel_meaning.proofs.NameRanges.{ranged_more}
 use Rattle.kernel_meaning.proofs.StartRanges.{given_ranged}
 use Rattle.scalar_emit.proofs.StmtRuns.{held_more, held_others}
@@ -143,21 +144,21 @@ HighVars R j [] = Unit {0}
 HighVars R j (v ∷ vs) = (counted_x (R j) ≤ 25) × HighVars R (j + 1) vs
 
 -- the initial values: with the names of the accumulators, or stopped by a fault
-pub data Starts (D : Laid) (w : Fixed) (c : List Entry) (s : State) (rest : List Entry) (hs : Homes) (ls : List Local) (p : ℕ) (m : Memory) (most : ℕ) : Option Names → Type 0 where
+pub data Starts (D : Laid) {M : Layout} (w : Fixed M) (c : List Entry) (s : State) (rest : List Entry) (hs : Homes) (ls : List Local) (p : ℕ) (m : Memory) (most : ℕ) : Option Names → Type 0 where
   cannot : Starts D w c s rest hs ls p m most None
   starts : {names : Names} (end : State) → Goes D c s rest end most → At w hs ls names m p end → frame_of end ≡ frame_of s → Starts D w c s rest hs ls p m most (Some names)
 
-starts_after : {D : Laid} {w : Fixed} {c e rest : List Entry} {s t : State} {hs : Homes} {ls : List Local} {p a b : ℕ} {m : Memory} {o : Option Names} (most : ℕ) → a + b ≤ most → Goes D c s e t a → frame_of t ≡ frame_of s → Starts D w e t rest hs ls p m b o → Starts D w c s rest hs ls p m most o
+starts_after : {D : Laid} {M : Layout} {w : Fixed M} {c e rest : List Entry} {s t : State} {hs : Homes} {ls : List Local} {p a b : ℕ} {m : Memory} {o : Option Names} (most : ℕ) → a + b ≤ most → Goes D c s e t a → frame_of t ≡ frame_of s → Starts D w e t rest hs ls p m b o → Starts D w c s rest hs ls p m most o
 starts_after most le g f cannot = cannot
 starts_after most le g f (starts end k at h) = starts end (chain most le g k) at (h ∙ f)
 
-starts_at : {D : Laid} {w : Fixed} {c rest : List Entry} {s : State} {hs : Homes} {ls : List Local} {p most : ℕ} {m : Memory} {o : Option Names} (q : ℕ) → p ≡ q → Starts D w c s rest hs ls p m most o → Starts D w c s rest hs ls q m most o
+starts_at : {D : Laid} {M : Layout} {w : Fixed M} {c rest : List Entry} {s : State} {hs : Homes} {ls : List Local} {p most : ℕ} {m : Memory} {o : Option Names} (q : ℕ) → p ≡ q → Starts D w c s rest hs ls p m most o → Starts D w c s rest hs ls q m most o
 starts_at q e cannot = cannot
 starts_at {w = w} {hs = hs} {ls = ls} {m = m} q e (starts {names = names} end k at h) = starts end k (subst (λ p. At w hs ls names m p end) e at) h
 
 module _ (D : Laid) (L : Layout) (fit : Assigned L) (R : ℕ → ℕ) where
   -- one more accumulator has its value
-  at_var : {w : Fixed} {hs : Homes} (s : Scope) {names : Names} {m : Memory} {st end : State} (j q : ℕ) (v : Accumulator) (x : ℤ) → AreSafe L q hs → Others hs (counted_x (R j)) (q + 1) → IsOf v.type x
+  at_var : {w : Fixed L} {hs : Homes} (s : Scope) {names : Names} {m : Memory} {st end : State} (j q : ℕ) (v : Accumulator) (x : ℤ) → AreSafe L q hs → Others hs (counted_x (R j)) (q + 1) → IsOf v.type x
       → At w hs s.visible names m q st → Changes st end (counted_x (R j)) → x_at end (counted_x (R j)) ≡ word x → At w (hs ++ var_home R j v ∷ []) (after_var s v).visible (with_name v.name names x) m (q + 1) end
   at_var {hs = hs} s {names = names} {m = m} {st = st} {end = end} j q v x safe others range at k is =
       let d = counted_x (R j) in
@@ -174,7 +175,7 @@ module _ (D : Laid) (L : Layout) (fit : Assigned L) (R : ℕ → ℕ) where
       }
 
   -- an initial value into its register, and then the other accumulators
-  vars_step : (o : Option ℤ) (v : Accumulator) (vs : List Accumulator) {w : Fixed} {hs : Homes} (s : Scope) {names : Names} {m : Memory} {st : State} (j b n : ℕ) (rest : List Entry) → AreSafeVars L R hs s j b (v ∷ vs) → counted_x (R j) ≤ 25 → FitsVars L R hs s j b (v ∷ vs) → At w hs s.visible names m b st
+  vars_step : (o : Option ℤ) (v : Accumulator) (vs : List Accumulator) {w : Fixed L} {hs : Homes} (s : Scope) {names : Names} {m : Memory} {st : State} (j b n : ℕ) (rest : List Entry) → AreSafeVars L R hs s j b (v ∷ vs) → counted_x (R j) ≤ 25 → FitsVars L R hs s j b (v ∷ vs) → At w hs s.visible names m b st
       → value s (Some v.type) v.init m names ≡ o
       → Gives D L (vars_code L R hs s j b n (v ∷ vs) rest) st (word_code (copy_word (counted_x (R j)) (home L hs s.index b v.init)) (vars_code L R (hs ++ var_home R j v ∷ []) (after_var s v) (j + 1) (b + term_size s.index v.init + 1) (n + labels s.index v.init) vs rest)) b (b + term_size s.index v.init) (home L hs s.index b v.init) m (4 * term_size s.index v.init) o
       → ((x : ℤ) (st : State) → At w (hs ++ var_home R j v ∷ []) (after_var s v).visible (with_name v.name names x) m (b + term_size s.index v.init + 1) st
@@ -196,13 +197,13 @@ module _ (D : Laid) (L : Layout) (fit : Assigned L) (R : ℕ → ℕ) where
   vars_first [] hs s j b h = h
   vars_first (v ∷ vs) hs s j b h = h.0
 
-  pub vars_runs : (vs : List Accumulator) {w : Fixed} {hs : Homes} (s : Scope) {names : Names} {m : Memory} {st : State} (j b n : ℕ) (rest : List Entry) → AreSafeVars L R hs s j b vs → HighVars R j vs → FitsVars L R hs s j b vs → At w hs s.visible names m b st → Resolves D (vars_code L R hs s j b n vs rest)
+  pub vars_runs : (vs : List Accumulator) {w : Fixed L} {hs : Homes} (s : Scope) {names : Names} {m : Memory} {st : State} (j b n : ℕ) (rest : List Entry) → AreSafeVars L R hs s j b vs → HighVars R j vs → FitsVars L R hs s j b vs → At w hs s.visible names m b st → Resolves D (vars_code L R hs s j b n vs rest)
       → Starts D w (vars_code L R hs s j b n vs rest) st rest (hs ++ var_homes R j vs) (after_vars s vs).visible (b + vars_size s.index vs) m (4 * vars_size s.index vs) (initial s vs m names)
   vars_runs [] {w = w} {hs = hs} s {names = names} {m = m} {st = st} j b n rest safe high fits at res =
       starts_at (b + 0) (omega arith) (starts st (stay 0) (subst (λ hs. At w hs s.visible names m b st) (sym (append-nil hs)) at) refl)
   vars_runs (v ∷ vs) {hs = hs} s {names = names} {m = m} j b n rest safe high fits at res =
       vars_step (value s (Some v.type) v.init m names) v vs s j b n rest safe high.0 fits at refl
-      (value_runs D L fit v.init s v.type b (b + term_size s.index v.init) n _ (omega arith) safe.0 at fits.0 res)
+      (give_more D L (4 * term_size s.index v.init) (let h = coded_few v.init L.constants s.index in omega (arith, h)) (value_runs D L fit v.init s v.type b (b + term_size s.index v.init) n _ (omega arith) safe.0 at fits.0 res))
       (λ x st at1. vars_runs vs (after_var s v) (j + 1) (b + term_size s.index v.init + 1) (n + labels s.index v.init) rest safe.2 high.1 fits.1 at1 (word_back D (copy_word (counted_x (R j)) (home L hs s.index b v.init)) _ (value_back D L fit v.init hs s (Some v.type) b n _ res)))
 
 -- ---- X9
@@ -223,10 +224,10 @@ held_like [] (n ∷ ns) p s t f h = absurd h
 held_like (x ∷ hs) [] p s t f h = absurd h
 held_like (x ∷ hs) (n ∷ ns) p s t f h = (h.0, (λ l. f x.register ∙ h.1 l), held_like hs ns p s t f h.2)
 
-at_zero : {hs : Homes} {ls : List Local} {names : Names} {m : Memory} {p : ℕ} {s : State} (args : List ℕ) → At (fixed_at 0 args) hs ls names m p s → At (fixed_at 0 args) hs ls names m p (wrote s 9 0)
-at_zero {hs = hs} {names = names} {p = p} {s = s} args at =
+at_zero : {M : Layout} {w : Fixed M} {hs : Homes} {ls : List Local} {names : Names} {m : Memory} {p : ℕ} {s : State} → w.index ≡ 0 → At w hs ls names m p s → At w hs ls names m p (wrote s 9 0)
+at_zero {hs = hs} {names = names} {p = p} {s = s} e at =
     let z = at.sized in
-    let f = same_zero s (omega (arith, z)) at.nine in
+    let f = same_zero s (omega (arith, z)) (at.nine ∙ e) in
     record {
       sized = wrote_sized s 9 0 ∙ at.sized;
       nine = f 9 ∙ at.nine;
@@ -237,9 +238,9 @@ at_zero {hs = hs} {names = names} {p = p} {s = s} args at =
       held = held_like hs names p s (wrote s 9 0) f at.held;
     }
 
-starts_zero : {D : Laid} {c rest : List Entry} {s : State} {hs : Homes} {ls : List Local} {p most : ℕ} {m : Memory} {o : Option Names} (args : List ℕ) → Starts D (fixed_at 0 args) c s (zero_index rest) hs ls p m most o → Starts D (fixed_at 0 args) c s rest hs ls p m (most + 1) o
-starts_zero args cannot = cannot
-starts_zero {most = most} args (starts end k at f) = starts (wrote end 9 0) (chain (most + 1) (omega arith) k (put_goes {i = word_of movz (9 ∷ 0 ∷ 0 ∷ [])} refl)) (at_zero args at) f
+starts_zero : {D : Laid} {M : Layout} {w : Fixed M} {c rest : List Entry} {s : State} {hs : Homes} {ls : List Local} {p most : ℕ} {m : Memory} {o : Option Names} → w.index ≡ 0 → Starts D w c s (zero_index rest) hs ls p m most o → Starts D w c s rest hs ls p m (most + 1) o
+starts_zero e cannot = cannot
+starts_zero {most = most} e (starts end k at f) = starts (wrote end 9 0) (chain (most + 1) (omega arith) k (put_goes {i = word_of movz (9 ∷ 0 ∷ 0 ∷ [])} refl)) (at_zero e at) f
 
 -- ---- kernels
 
@@ -299,14 +300,14 @@ past_arguments : (args : List ℕ) (n : ℕ) → length args ≤ n → slice_ind
 past_arguments args n le = get_or_past args n 0 le
 
 -- the names with which the loop starts
-begun : {D : Laid} {R : ℕ → ℕ} {k : Program} {c rest : List Entry} {s : State} {args words : List ℕ} {m : Memory} {most : ℕ} {o : Option Names} (names : Names) → AreSteady (kernel_homes R k) → started k args m ≡ o → o ≡ Some names → Starts D (fixed_at 0 words) c s rest (kernel_homes R k) (var_scope k).visible (loop_start k) m most o → Begins R k D c s rest args m most
-begun names steady e f cannot = absurd cc
-begun {R = R} {k = k} {m = m} names steady e f (starts {names = found} end g at h) = record {
+begun : {D : Laid} {R : ℕ → ℕ} {k : Program} {M : Layout} {w : Fixed M} {c rest : List Entry} {s : State} {args : List ℕ} {m : Memory} {most : ℕ} {o : Option Names} (names : Names) → AreSteady (kernel_homes R k) → w.index ≡ 0 → started k args m ≡ o → o ≡ Some names → Starts D w c s rest (kernel_homes R k) (var_scope k).visible (loop_start k) m most o → Begins R k D c s rest args m most
+begun names steady none e f cannot = absurd cc
+begun {R = R} {k = k} {m = m} names steady none e f (starts {names = found} end g at h) = record {
   names = found;
   starts = e;
   end = end;
   goes = g;
-  at = record { sized = at.sized; index = at.nine; ranged = at.ranged; held = all_held (kernel_homes R k) found (loop_start k) end steady at.held; memory = at.memory; good = at.good };
+  at = record { sized = at.sized; index = at.nine ∙ none; ranged = at.ranged; held = all_held (kernel_homes R k) found (loop_start k) end steady at.held; memory = at.memory; good = at.good };
   frame = h;
 }
 
@@ -317,7 +318,8 @@ begin_runs R k checked few fits D n rest args m st has res =
     let short = has.few in
     let following = vars_code L R (param_homes 0 k.params) (param_scope k) 0 (length k.params) n k.vars (zero_index rest) in
     let a = arguments_runs D k.params 0 args st following (omega (arith, few, z)) (are_given k.params 0 args st has.words has.held) in
-    let at : At (fixed_at 0 a.end.x) (param_homes 0 k.params) (param_scope k).visible (argument_names k.params args) m (length k.params) a.end = record {
+    let w : Fixed L = fixed_at 0 a.end.x (λ z r e. absurd cc) in
+    let at : At w (param_homes 0 k.params) (param_scope k).visible (argument_names k.params args) m (length k.params) a.end = record {
       sized = a.sized ∙ has.sized;
       nine = a.high 9 (omega (arith, few)) ∙ has.held 9 ∙ past_arguments args 9 (omega (arith, short));
       args = λ r lt. refl;
@@ -331,4 +333,4 @@ begin_runs R k checked few fits D n rest args m st has res =
     let i = ap (λ i. vars_size i k.vars) (param_index k) in
     let steps : length k.params + (4 * vars_size (param_scope k).index k.vars + 1) ≤ begin_steps k = omega (arith, i) in
     let known = all_start k args m checked in
-    begun known.0 fits.steady refl known.1 (starts_after (begin_steps k) steps a.goes a.frame (starts_at (loop_start k) (ap (λ n. length k.params + n) i) (starts_zero a.end.x v)))
+    begun known.0 fits.steady refl refl known.1 (starts_after (begin_steps k) steps a.goes a.frame (starts_at (loop_start k) (ap (λ n. length k.params + n) i) (starts_zero refl v)))

@@ -19,7 +19,10 @@ use Rattle.scalar_words.specs.Words.{copy_word, settle_word, word_code}
 use Rattle.scalar_values.specs.ItemWords.{index_word, store_code}
 use Rattle.scalar_values.specs.Code.{added_number, is_fused, right_side}
 use Rattle.scalar_emit.specs.Statements.{after_homes, block_labels, put_code, action_code, block_code, otherwise_code}
-use Rattle.scalar_emit.specs.Loop.{answer_code, with_index, loop_code}
+use Rattle.scalar_emit.specs.LoopNumbers.{loop_layout}
+use Rattle.scalar_emit.specs.Loop.{answer_code, with_index, bare, loop_code}
+use Rattle.scalar_emit.proofs.SetupRuns.{numbers_words}
+use Rattle.scalar_emit.proofs.HoldBlocks.{few_numbers}
 use Rattle.scalar_words.specs.KernelRegisters.{counted_x, var_home, layout_of_kernel, param_homes, kernel_homes}
 use Rattle.scalar_emit.specs.Kernel.{argument_code, arguments_code, vars_code, zero_index, begin_code, turns_code, scalar_code}
 use Rattle.kernel_scope.specs.Scopes.{after_var}
@@ -88,10 +91,6 @@ module _ (L : Layout) where
   answer_words hs s b n None rest k h = omega (arith, h)
   answer_words hs s b n (Some a) rest k h = within (omega arith) (loose_words L hs a.value s Whole (Some a.type) b n _ _ (one_word (copy_word 0 (home L hs s.index b a.value)) _ _ (one_more (one_more h))))
 
-  loop_words : (hs : Homes) (s : Scope) (t : PlainLoop) (b n b2 : ℕ) (o : Option Returned) (rest : List Entry) (k : ℕ) → size rest ≤ k → size (loop_code L hs s t b n b2 o rest) ≤ 4 * (1 + block_size s.index t.body) + 4 * answer_size s.index o + 4 + k
-  loop_words hs s t b n b2 o rest k h =
-      within (omega arith) (one_more (one_more (block_words t.body (with_index hs t) (in_loop s t) (n + 1) (b + 1) (n + 3) _ _ (one_more (one_more (one_more (answer_words (with_index hs t) (after_turns s (Some t)) b2 (n + 3 + block_labels s.index t.body) o rest k h)))))))
-
   -- ---- before the loop
 
   vars_words : (R : ℕ → ℕ) (hs : Homes) (s : Scope) (j b n : ℕ) (vs : List Accumulator) (rest : List Entry) (k : ℕ) → size rest ≤ k → size (vars_code L R hs s j b n vs rest) ≤ 4 * vars_size s.index vs + k
@@ -99,10 +98,16 @@ module _ (L : Layout) where
   vars_words R hs s j b n (v ∷ vs) rest k h =
       within (omega arith) (loose_words L hs v.init s Whole (Some v.type) b n _ _ (one_word (copy_word (counted_x (R j)) (home L hs s.index b v.init)) _ _ (vars_words R (hs ++ var_home R j v ∷ []) (after_var s v) (j + 1) _ _ vs rest k h)))
 
+-- ---- the loop
+
+loop_words : (L : Layout) (hs : Homes) (s : Scope) (t : PlainLoop) (b n b2 : ℕ) (o : Option Returned) (rest : List Entry) (k : ℕ) → size rest ≤ k → size (loop_code L hs s t b n b2 o rest) ≤ 4 * (1 + block_size s.index t.body) + 4 * answer_size s.index o + 4 + 4 * length L.constants + k
+loop_words L hs s t b n b2 o rest k h =
+    within (omega arith) (one_more (one_more (numbers_words L.constants _ _ (block_words L t.body (with_index hs t) (in_loop s t) (n + 1) (b + 1) (n + 3) _ _ (one_more (one_more (one_more (answer_words (bare L) (with_index hs t) (after_turns s (Some t)) b2 (n + 3 + block_labels s.index t.body) o rest k h))))))))
+
 -- ---- kernels
 
-turns_words : (L : Layout) (hs : Homes) (s : Scope) (i : Option (List ℕ)) (t : Option PlainLoop) (b n b2 : ℕ) (o : Option Returned) (rest : List Entry) (k : ℕ) → s.index ≡ i → i ≡ option_map index_of t → size rest ≤ k → size (turns_code L hs s t b n b2 o rest) ≤ 4 * turns_size t + 4 * answer_size i o + 4 + k
-turns_words L hs s i None b n b2 o rest k e f h = let q = ap (λ i. answer_size i o) e in within (omega (arith, q)) (answer_words L hs s b2 (n + 1) o rest k h)
+turns_words : (L : Layout) (hs : Homes) (s : Scope) (i : Option (List ℕ)) (t : Option PlainLoop) (b n b2 : ℕ) (o : Option Returned) (rest : List Entry) (k : ℕ) → s.index ≡ i → i ≡ option_map index_of t → size rest ≤ k → size (turns_code L hs s t b n b2 o rest) ≤ 4 * turns_size t + 4 * answer_size i o + 4 + 4 * length L.constants + k
+turns_words L hs s i None b n b2 o rest k e f h = let q = ap (λ i. answer_size i o) e in within (omega (arith, q)) (answer_words (bare L) hs s b2 (n + 1) o rest k h)
 turns_words L hs s i (Some t) b n b2 o rest k e f h =
     let q = ap (λ i. answer_size i o) e in
     let r = ap (λ i. block_size i t.body) (e ∙ f) in
@@ -115,7 +120,8 @@ begin_words R k n rest =
 
 pub scalar_words : (R : ℕ → ℕ) (k : Program) (n : ℕ) (rest : List Entry) → size (scalar_code R k n rest) ≤ 64 + 16 * size_of k + size rest
 scalar_words R k n rest =
-    within (omega arith) (turns_words (layout_of_kernel R k) (kernel_homes R k) (var_scope k) (loop_index k) k.turns (loop_start k) n (loop_end k) k.answer rest (size rest) (scope_index k) refl (omega arith))
+    let few = few_numbers k in
+    within (omega (arith, few)) (turns_words (loop_layout R k) (kernel_homes R k) (var_scope k) (loop_index k) k.turns (loop_start k) n (loop_end k) k.answer rest (size rest) (scope_index k) refl (omega arith))
 
 -- ---- words that are appended
 

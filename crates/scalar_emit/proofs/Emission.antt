@@ -15,12 +15,16 @@ use Rattle.scalar_values.specs.ItemWords.{Side, operator_code}
 use Rattle.scalar_values.specs.Code.{added_number, is_fused, right_side, side_code, parts_code, loose_code}
 use Rattle.label_fix.specs.DraftRun.{Entry}
 use Rattle.scalar_words.specs.declared.home.Home.{Home as Kept}
-use Rattle.scalar_words.specs.Layout.{Layout, Homes, register_at}
+use Rattle.kernel_meaning.specs.Operators.{word}
+use Rattle.scalar_words.specs.declared.constant.Constant.{Constant as Number}
+use Rattle.scalar_words.specs.Words.{const_code}
+use Rattle.scalar_words.specs.Layout.{Constant, Layout, Homes, with_constants, register_at}
 use Rattle.scalar_emit.specs.Statements.{block_homes, block_labels, update_code}
-use Rattle.scalar_emit.specs.Loop.{turn_code, leave_code}
+use Rattle.scalar_emit.specs.LoopNumbers.{held_numbers, loop_layout}
+use Rattle.scalar_emit.specs.Loop.{numbers_code, turn_code, leave_code}
 use Rattle.scalar_words.specs.KernelRegisters.{layout_of_kernel, param_homes, kernel_homes}
 use Rattle.scalar_emit.specs.Kernel.{arguments_code, vars_code, zero_index, begin_code, straight_code, turns_code, scalar_code}
-use Rattle.scalar_words.specs.View.{home_of, homes_of}
+use Rattle.scalar_words.specs.View.{constants_of, home_of, homes_of}
 use Rattle.scalar_emit.proofs.StmtRuns.{homes_block}
 
 -- ---- after a block
@@ -51,19 +55,30 @@ begin_is R k L hs s first n m ps vs rest d e f g h i j = rw (d, e, f, g, h, i, j
 
 -- ---- the loop and what follows it
 
-pub scalar_is : (R : ℕ → ℕ) (k : Program) (L : Layout) (l : PlainLoop) (b n b2 n2 : ℕ) (rest : List Entry) → L ≡ layout_of_kernel R k → k.turns ≡ Some l → b ≡ loop_start k → b2 ≡ loop_end k → n2 ≡ n + 3 + block_labels (loop_index k) l.body → turn_code L (kernel_homes R k) (var_scope k) l b n (leave_code L (kernel_homes R k) (var_scope k) l b2 n2 k.answer rest) ≡ scalar_code R k n rest
-scalar_is R k L l b n b2 n2 rest d e f g h =
+pub scalar_is : (R : ℕ → ℕ) (k : Program) (N L : Layout) (l : PlainLoop) (b n b2 n2 : ℕ) (rest : List Entry) → N ≡ loop_layout R k → L ≡ layout_of_kernel R k → k.turns ≡ Some l → b ≡ loop_start k → b2 ≡ loop_end k → n2 ≡ n + 3 + block_labels (loop_index k) l.body → turn_code N (kernel_homes R k) (var_scope k) l b n (leave_code L (kernel_homes R k) (var_scope k) l b2 n2 k.answer rest) ≡ scalar_code R k n rest
+scalar_is R k N L l b n b2 n2 rest c d e f g h =
     let i : n2 ≡ n + 3 + block_labels (var_scope k).index l.body = h ∙ ap (λ j. n + 3 + block_labels j l.body) (sym (scope_index k)) in
-    rw (d, f, g, i) (ap (λ t. turns_code (layout_of_kernel R k) (kernel_homes R k) (var_scope k) t (loop_start k) n (loop_end k) k.answer rest) (sym e))
+    rw (c, d, f, g, i) (ap (λ t. turns_code (loop_layout R k) (kernel_homes R k) (var_scope k) t (loop_start k) n (loop_end k) k.answer rest) (sym e))
 
 pub straight_is : (R : ℕ → ℕ) (k : Program) (L : Layout) (b n : ℕ) (rest : List Entry) → L ≡ layout_of_kernel R k → k.turns ≡ None → b ≡ loop_start k → straight_code L (kernel_homes R k) (var_scope k) n b k.answer rest ≡ scalar_code R k n rest
 straight_is R k L b n rest d e f =
     let z = ap turns_size e in
     let g : b ≡ loop_end k = omega (arith, f, z) in
-    rw (d, g) (ap (λ t. turns_code (layout_of_kernel R k) (kernel_homes R k) (var_scope k) t (loop_start k) n (loop_end k) k.answer rest) (sym e))
+    rw (d, g) (ap (λ t. turns_code (loop_layout R k) (kernel_homes R k) (var_scope k) t (loop_start k) n (loop_end k) k.answer rest) (sym e))
 
 -- ---- updates
 
 pub update_is : (L : Layout) (hs : Homes) (s : Scope) (b n : ℕ) (x : List ℕ) (op : BinaryOp) (want : Option Ty) (asked : Extent) (e : Term) (side : Side) (leaves : Bool) (d : ℕ) (rest : List Entry) → asked ≡ binary_extent op Whole want → side ≡ right_side L hs s op asked want b e → leaves ≡ binary_leaves op → d ≡ register_at hs x
     → side_code (added_number op want e) (is_fused s op asked want e) (loose_code L hs s asked want b n e) (parts_code L hs s asked want b n e) (at_type want (λ t. operator_code side leaves op t d d rest) rest) ≡ update_code L hs s b n x op want e rest
 update_is L hs s b n x op want asked e side leaves d rest e1 e2 e3 e4 = rw (e2, e3, e4, e1) refl
+
+-- ---- numbers that are held
+
+pub number_step : (cs ds : List Number) (c : Number) (v : ℕ) (rest : List Entry) → cs ≡ c ∷ ds → v ≡ word c.number → const_code c.register.number v (numbers_code (constants_of ds) rest) ≡ numbers_code (constants_of cs) rest
+number_step cs ds c v rest e f = ap (λ w. const_code c.register.number w (numbers_code (constants_of ds) rest)) f ∙ ap (λ (xs : List Number). numbers_code (constants_of xs) rest) (sym e)
+
+pub held_is : (R : ℕ → ℕ) (k : Program) (N L : Layout) → N ≡ with_constants L (held_numbers k) → L ≡ layout_of_kernel R k → N ≡ loop_layout R k
+held_is R k N L e f = e ∙ ap (λ (M : Layout). with_constants M (held_numbers k)) f
+
+pub bare_is : (R : ℕ → ℕ) (k : Program) (L N : Layout) (cs : List Constant) → L ≡ with_constants N cs → cs ≡ [] → N ≡ loop_layout R k → L ≡ layout_of_kernel R k
+bare_is R k L N cs e none f = e ∙ ap (with_constants N) none ∙ ap (λ (M : Layout). with_constants M []) f

@@ -1,11 +1,15 @@
--- The code of a worked kernel.
+-- The code of worked kernels.
 use Rattle.std.proofs.Common.{◌≡◌, ℕ, List, [], ◌∷◌, Some, None, refl}
 use Rattle.std.specs.Prelude.{pos, slice_index}
-use Rattle.kernel_tree.specs.Plain.{Literal, Variable, Element, Operation, Comparison, Define, Put, Choose, Leave, Block, Done, Then, Else, Program}
-use Rattle.a64_code.specs.Table.{add_imm, sub_imm, subs, subs_imm, movz, ldrsb_register, strb_register, svc}
+use Rattle.kernel_tree.specs.Plain.{Literal, Variable, Element, Operation, Conversion, Comparison, Define, Put, Choose, Leave, Block, Done, Then, Else, Program}
+use Rattle.a64_code.specs.Table.{add_imm, sub_imm, subs, subs_imm, movz, movk, csel, ldrb_register, ldrsb_register, strb_register, svc}
 use Rattle.loop_form.specs.Entries.{item_type}
 use Rattle.loop_form.specs.Listing.{last_use_from}
+use Rattle.scalar_values.specs.Code.{is_led}
 use Rattle.label_fix.specs.DraftRun.{Branch, Place, Always, If, Zero, ins}
+use Rattle.scalar_words.specs.Layout.{Constant}
+use Rattle.scalar_emit.specs.LoopNumbers.{held_numbers}
+use Rattle.scalar_emit.specs.Loop.{numbers_code}
 use Rattle.scalar_emit.specs.Kernel.{begin_code, begin_labels, scalar_code, scalar_labels}
 use Rattle.kernel_tree.specs.declared.ops.Ty.TheVariants as ty
 use Rattle.kernel_tree.specs.declared.ops.BinaryOp.TheVariants as binary
@@ -84,3 +88,73 @@ worked-loops = refl
 
 worked-labels : (begin_labels worked ≡ 0) × (scalar_labels worked ≡ 5)
 worked-labels = (refl, refl)
+
+-- ---- literals that are held
+
+-- let x = a[i] as u16 + 40; a[i] = min(x, 255) as u8;
+abbrev bright-body : Block
+bright-body =
+    Then (Define x None (Operation binary.Add (Conversion (Element a (Variable i)) ty.U16) (Literal (pos 40))))
+    (Then (Put a (Variable i) (Conversion (Operation binary.Min (Variable x) (Literal (pos 255))) ty.U8)) Done)
+
+-- kernel x(a: [u8], n: u64) { for i in 0..n { .. } }
+abbrev bright : Program
+bright = record {
+  name = x;
+  params = record { name = a; shape = shape.Array ty.U8 } ∷ record { name = n; shape = shape.Scalar ty.U64 } ∷ [];
+  vars = [];
+  turns = Some (record { index = i; bound = n; body = bright-body });
+  answer = None;
+}
+
+-- Its items: 0 a, 1 n, 2 for, 3 the read, 4 the cast, 5 the literal 40, 6 +, 7 let, 8 the name x, 9 the literal 255, 10 min,
+-- 11 the cast, 12 the store.
+abbrev bright-registers : ℕ → ℕ
+bright-registers j = slice_index (0 ∷ 0 ∷ 1 ∷ 0 ∷ 0 ∷ 1 ∷ 0 ∷ 0 ∷ []) j
+
+-- the word of + holds 40, and X8 holds 255
+bright-loops : scalar_code bright-registers bright 0 [] ≡
+    Place 0
+    ∷ ins subs (31 ∷ 9 ∷ 0 ∷ 1 ∷ 0 ∷ [])
+    ∷ Branch (If 2) 1
+    ∷ ins movz (8 ∷ 255 ∷ 0 ∷ [])
+    ∷ Place 2
+    ∷ ins ldrb_register (10 ∷ 0 ∷ 9 ∷ [])
+    ∷ ins add_imm (10 ∷ 10 ∷ 40 ∷ 0 ∷ [])
+    ∷ ins subs (31 ∷ 10 ∷ 0 ∷ 8 ∷ 0 ∷ [])
+    ∷ ins csel (10 ∷ 8 ∷ 8 ∷ 10 ∷ [])
+    ∷ ins strb_register (10 ∷ 0 ∷ 9 ∷ [])
+    ∷ ins add_imm (9 ∷ 9 ∷ 1 ∷ 0 ∷ [])
+    ∷ ins subs (31 ∷ 9 ∷ 0 ∷ 1 ∷ 0 ∷ [])
+    ∷ Branch (If 3) 2
+    ∷ Place 1
+    ∷ ins movz (0 ∷ 0 ∷ 0 ∷ [])
+    ∷ ins movz (8 ∷ 93 ∷ 0 ∷ [])
+    ∷ ins svc (0 ∷ [])
+    ∷ []
+unfolding item_type last_use_from is_led
+bright-loops = refl
+
+-- y[i] = x[i] * 1000003 + 123456789 + 1000003;
+abbrev lits : Program
+lits = record {
+  name = n;
+  params = record { name = a; shape = shape.Array ty.U32 } ∷ record { name = x; shape = shape.Array ty.U32 } ∷ record { name = n; shape = shape.Scalar ty.U64 } ∷ [];
+  vars = [];
+  turns = Some (record {
+    index = i;
+    bound = n;
+    body = Then (Put a (Variable i) (Operation binary.Add (Operation binary.Add (Operation binary.Mul (Element x (Variable i)) (Literal (pos 1000003))) (Literal (pos 123456789))) (Literal (pos 1000003)))) Done;
+  });
+  answer = None;
+}
+
+abbrev lits-numbers : List Constant
+lits-numbers = record { number = pos 1000003; register = 8 } ∷ record { number = pos 123456789; register = 7 } ∷ []
+
+-- each number once, in the order of the items
+lits-holds : held_numbers lits ≡ lits-numbers
+lits-holds = refl
+
+lits-loads : numbers_code lits-numbers [] ≡ ins movz (8 ∷ 16963 ∷ 0 ∷ []) ∷ ins movk (8 ∷ 15 ∷ 1 ∷ []) ∷ ins movz (7 ∷ 52501 ∷ 0 ∷ []) ∷ ins movk (7 ∷ 1883 ∷ 1 ∷ []) ∷ []
+lits-loads = refl

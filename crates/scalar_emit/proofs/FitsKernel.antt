@@ -14,9 +14,11 @@ use Rattle.kernel_tree.proofs.Names.{bytes_same, NoName, index_alone}
 use Rattle.loop_form.specs.Entries.{Entry, term_entries, params_entries, vars_entries, turns_entries, answer_entries, loop_entries, entries_of}
 use Rattle.loop_form.proofs.Numbers.{params-listed, vars-listed, term-listed, loop-listed}
 use Rattle.loop_form.proofs.NameUses.{AreUsesCounted, counted_left, counted_right, all_counted}
-use Rattle.scalar_words.specs.Layout.{Layout, Home, Homes, is_home, register_of, LastsAt}
+use Rattle.scalar_words.specs.Layout.{Layout, Home, Homes, with_constants, is_home, register_of, LastsAt}
 use Rattle.scalar_values.specs.Fits.{IndexAt}
-use Rattle.scalar_emit.specs.Loop.{index_home, with_index, FitsAnswer, FitsLoop}
+use Rattle.scalar_emit.specs.LoopNumbers.{held_numbers, loop_layout}
+use Rattle.scalar_emit.specs.Loop.{index_home, with_index, bare, FitsAnswer, FitsLoop}
+use Rattle.scalar_emit.proofs.HoldBlocks.{numbers_next, numbers_few, spread_with, kernel_clear}
 use Rattle.scalar_words.specs.KernelRegisters.{counted_x, x_last_use, layout_of_kernel, param_homes, var_home, var_homes, kernel_homes, AreChosen}
 use Rattle.scalar_emit.specs.Kernel.{FitsVars}
 use Rattle.scalar_emit.specs.KernelFits.{AreSafeVars, KernelFits}
@@ -112,34 +114,43 @@ module _ (R : ℕ → ℕ) (k : Program) (L : Layout) (all : List Entry) where
         let es = term_entries k b q a.value in
         value_stands k R L all v tk false hs b are (no_reads hs) a.value a.type b q _ f (sits_first all L.untils es _ b [] h) (counted_left all es _ c)
 
-    -- ---- the loop
+-- ---- the loop
 
-    loop_fits : (l : PlainLoop) (tk : List (List ℕ)) (b b2 : ℕ) (rest : List ℕ) → loop_index k ≡ Some l.index → NoHome l.index (kernel_homes R k) → b ≤ b2 → turns_faults (scope_at k (locals_of k.params ++ accs_of k.vars) tk false) b (Some l) ≡ [] → answer_faults (after_turns (scope_at k (locals_of k.params ++ accs_of k.vars) tk false) (Some l)) b2 k.answer ≡ []
-        → Sits L.untils b (untils all (turns_entries k b (Some l)) rest) → AreUsesCounted all (turns_entries k b (Some l)) → Sits L.untils b2 (untils all (answer_entries k b2 k.answer) []) → AreUsesCounted all (answer_entries k b2 k.answer)
-        → FitsLoop L (kernel_homes R k) (scope_at k (locals_of k.params ++ accs_of k.vars) tk false) l b b2 k.answer
-    loop_fits l tk b b2 rest ix alone le f fa h c ha ca =
-        let v = locals_of k.params ++ accs_of k.vars in
-        let hs = kernel_homes R k in
-        let S = scope_at k v tk false in
-        let known = bound_known b (lookup S l.bound) (nil-left (bound_faults b (lookup S l.bound)) _ f) in
-        let body = nil-right (twice b S l.index) _ (nil-right (bound_faults b (lookup S l.bound)) _ f) in
-        let at = is_at k R L all b 0 v hs l.bound (binding.Scalar U64) (kernel_are R k L all b) known in
-        let reg = register_is k R L all b hs l.bound (binding.Scalar U64) at in
-        let param = at.what.1 in
-        let low = slice_get_within k.params at.home.register _ param in
-        let index : (p : ℕ) → IndexAt (with_index hs l) (loop_index k) p = λ p. subst (λ o. IndexAt (with_index hs l) o p) (sym ix) (index_at l.index hs p alone) in
-        let are : (p : ℕ) → AreHomes k R L all p 0 (v ++ local l.index binding.Index ∷ []) (with_index hs l) = λ p. homes_on k R L all p 0 v (local l.index binding.Index ∷ []) hs (index_home l.index ∷ []) (kernel_are R k L all p) (refl, (refl, refl), tt) in
-        record {
-          bound = subst (λ o. LastsAt o b) (sym at.is) (steady_at at.home b at.what.0);
-          bound_low = omega (arith, reg, low, few);
-          body = block_fits k R L all few spread l.body (v ++ local l.index binding.Index ∷ []) (insert_name tk l.index) true (with_index hs l) (b + 1) rest (are (b + 1)) (λ e p. index p) refl body (sits_next L.untils b _ _ h) c.1;
-          nine = others-append (param_homes 0 k.params) (var_homes R 0 k.vars) 9 b (params_nine 0 b k.params (omega (arith, few))) (vars_nine R 0 b k.vars);
-          answered = answer_fits k.answer (v ++ local l.index binding.Index ∷ []) (insert_name tk l.index) (with_index hs l) b2 (are b2) fa ha ca;
-          following = le;
-        }
-      where
-        steady_at : (h : Home) (p : ℕ) → h.last_use ≡ None → LastsAt (Some h) p
-        steady_at h p u = subst (λ o. LastsAt (Some (record { name = h.name; register = h.register; last_use = o })) p) (sym u) tt
+module _ (R : ℕ → ℕ) (k : Program) (L : Layout) (all : List Entry) (few : length k.params ≤ 8) (spread : Spread R L (length k.vars)) where
+  loop_fits : (l : PlainLoop) (tk : List (List ℕ)) (b b2 : ℕ) (rest : List ℕ) → k.turns ≡ Some l → loop_index k ≡ Some l.index → NoHome l.index (kernel_homes R k) → b ≤ b2 → turns_faults (scope_at k (locals_of k.params ++ accs_of k.vars) tk false) b (Some l) ≡ [] → answer_faults (after_turns (scope_at k (locals_of k.params ++ accs_of k.vars) tk false) (Some l)) b2 k.answer ≡ []
+      → Sits L.untils b (untils all (turns_entries k b (Some l)) rest) → AreUsesCounted all (turns_entries k b (Some l)) → Sits L.untils b2 (untils all (answer_entries k b2 k.answer) []) → AreUsesCounted all (answer_entries k b2 k.answer)
+      → FitsLoop (with_constants L (held_numbers k)) (kernel_homes R k) (scope_at k (locals_of k.params ++ accs_of k.vars) tk false) l b b2 k.answer
+  loop_fits l tk b b2 rest turns ix alone le f fa h c ha ca =
+      let N = with_constants L (held_numbers k) in
+      let p = length k.params in
+      let inner : Spread R N (length k.vars) = spread_with R L (length k.vars) p (held_numbers k) (numbers_next k) spread in
+      let v = locals_of k.params ++ accs_of k.vars in
+      let hs = kernel_homes R k in
+      let S = scope_at k v tk false in
+      let known = bound_known b (lookup S l.bound) (nil-left (bound_faults b (lookup S l.bound)) _ f) in
+      let body = nil-right (twice b S l.index) _ (nil-right (bound_faults b (lookup S l.bound)) _ f) in
+      let at = is_at k R L all b 0 v hs l.bound (binding.Scalar U64) (kernel_are R k L all b) known in
+      let reg = register_is k R L all b hs l.bound (binding.Scalar U64) at in
+      let param = at.what.1 in
+      let low = slice_get_within k.params at.home.register _ param in
+      let index : (p : ℕ) → IndexAt (with_index hs l) (loop_index k) p = λ p. subst (λ o. IndexAt (with_index hs l) o p) (sym ix) (index_at l.index hs p alone) in
+      let inside : AreHomes k R N all (b + 1) 0 (v ++ local l.index binding.Index ∷ []) (with_index hs l) = homes_on k R N all (b + 1) 0 v (local l.index binding.Index ∷ []) hs (index_home l.index ∷ []) (kernel_are R k N all (b + 1)) (refl, (refl, refl), tt) in
+      let are : (p : ℕ) → AreHomes k R (bare N) all p 0 (v ++ local l.index binding.Index ∷ []) (with_index hs l) = λ p. homes_on k R (bare N) all p 0 v (local l.index binding.Index ∷ []) hs (index_home l.index ∷ []) (kernel_are R k (bare N) all p) (refl, (refl, refl), tt) in
+      record {
+        bound = subst (λ o. LastsAt o b) (sym at.is) (steady_at at.home b at.what.0);
+        bound_low = omega (arith, reg, low, few);
+        body = block_fits k R N all few inner l.body (v ++ local l.index binding.Index ∷ []) (insert_name tk l.index) true (with_index hs l) (b + 1) rest inside (λ e p. index p) refl body (sits_next L.untils b _ _ h) c.1;
+        nine = others-append (param_homes 0 k.params) (var_homes R 0 k.vars) 9 b (params_nine 0 b k.params (omega (arith, few))) (vars_nine R 0 b k.vars);
+        params = p;
+        next = numbers_next k;
+        clear = kernel_clear R k;
+        few = numbers_few k l turns;
+        answered = answer_fits R k (bare N) all few (spread_with R N (length k.vars) p [] tt inner) k.answer (v ++ local l.index binding.Index ∷ []) (insert_name tk l.index) (with_index hs l) b2 (are b2) fa ha ca;
+        following = le;
+      }
+    where
+      steady_at : (h : Home) (p : ℕ) → h.last_use ≡ None → LastsAt (Some h) p
+      steady_at h p u = subst (λ o. LastsAt (Some (record { name = h.name; register = h.register; last_use = o })) p) (sym u) tt
 
 -- ---- the kernel
 
@@ -195,7 +206,7 @@ module _ (R : ℕ → ℕ) (k : Program) (checked : check_fault k ≡ None) (few
       subst (λ s. AreSafeVars L R (param_homes 0 k.params) s 0 (length k.params) k.vars) (sym (param_scope_is k))
       (vars_safe R k L all few spread k.vars (locals_of k.params) (param_scope k).taken (param_homes 0 k.params) 0 (length k.params) (first_are R k L all (length k.params)) (numbers_params 0 k.params) (omega arith))
 
-  turns_fit : (l : PlainLoop) → k.turns ≡ Some l → FitsLoop L (kernel_homes R k) (var_scope k) l (loop_start k) (loop_end k) k.answer
+  turns_fit : (l : PlainLoop) → k.turns ≡ Some l → FitsLoop (loop_layout R k) (kernel_homes R k) (var_scope k) l (loop_start k) (loop_end k) k.answer
   turns_fit l e =
       let s = var_scope_is k in
       let ix : loop_index k ≡ Some l.index = ap (option_map index_of) e in
@@ -203,8 +214,8 @@ module _ (R : ℕ → ℕ) (k : Program) (checked : check_fault k ≡ None) (few
       let a0 : answer_faults (after_turns (var_scope k) (Some l)) (loop_end k) k.answer ≡ [] = subst (λ o. answer_faults (after_turns (var_scope k) o) (loop_end k) k.answer ≡ []) e (answer_faultless k checked) in
       let h : Sits us (loop_start k) (untils all (turns_entries k (loop_start k) (Some l)) (untils all xs [])) = subst (λ o. Sits us (loop_start k) (untils all (turns_entries k (loop_start k) o) (untils all xs []))) e (sits_first all us ls xs (loop_start k) [] at_loop) in
       let u : AreUsesCounted all (turns_entries k (loop_start k) (Some l)) = subst (λ o. AreUsesCounted all (turns_entries k (loop_start k) o)) e (counted_left all ls xs counted_loop) in
-      subst (λ s. FitsLoop L (kernel_homes R k) s l (loop_start k) (loop_end k) k.answer) (sym s)
-      (loop_fits R k L all few spread l (var_scope k).taken (loop_start k) (loop_end k) _ ix (index_homeless R k l checked e) (omega arith) (subst (λ s. turns_faults s (loop_start k) (Some l) ≡ []) s f0) (subst (λ s. answer_faults (after_turns s (Some l)) (loop_end k) k.answer ≡ []) s a0) h u at_answer (counted_right all ls xs counted_loop))
+      subst (λ s. FitsLoop (loop_layout R k) (kernel_homes R k) s l (loop_start k) (loop_end k) k.answer) (sym s)
+      (loop_fits R k L all few spread l (var_scope k).taken (loop_start k) (loop_end k) _ e ix (index_homeless R k l checked e) (omega arith) (subst (λ s. turns_faults s (loop_start k) (Some l) ≡ []) s f0) (subst (λ s. answer_faults (after_turns s (Some l)) (loop_end k) k.answer ≡ []) s a0) h u at_answer (counted_right all ls xs counted_loop))
 
   straight_fit : k.turns ≡ None → FitsAnswer L (kernel_homes R k) (var_scope k) (loop_end k) k.answer
   straight_fit e =

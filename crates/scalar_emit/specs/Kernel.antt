@@ -11,7 +11,8 @@ use Rattle.scalar_values.specs.ValueRegisters.{home}
 use Rattle.scalar_words.specs.Words.{settle_word, copy_word, word_code}
 use Rattle.scalar_values.specs.Code.{labels, value_code}
 use Rattle.scalar_values.specs.Fits.{Fits}
-use Rattle.scalar_emit.specs.Loop.{answer_code, answer_labels, loop_code, loop_labels}
+use Rattle.scalar_emit.specs.LoopNumbers.{loop_layout}
+use Rattle.scalar_emit.specs.Loop.{answer_code, answer_labels, bare, loop_code, loop_labels}
 use Rattle.a64_code.specs.Table.{movz}
 use Rattle.scalar_words.specs.KernelRegisters.{counted_x, layout_of_kernel, param_homes, var_home, kernel_homes}
 use Rattle.kernel_tree.specs.declared.ast.Shape.TheVariants as shape
@@ -69,14 +70,14 @@ straight_code L hs s n b answer rest = Place n ∷ answer_code L hs s b (n + 1) 
 -- a loop before the answer.
 abbrev pub turns_code : Layout → Homes → Scope → Option PlainLoop → (b n b2 : ℕ) → Option Returned → List Line → List Line
 turns_code L hs s (Some l) b n b2 answer rest = loop_code L hs s l b n b2 answer rest
-turns_code L hs s None b n b2 answer rest = straight_code L hs s n b2 answer rest
+turns_code L hs s None b n b2 answer rest = straight_code (bare L) hs s n b2 answer rest
 
 abbrev pub turns_labels : Option (List ℕ) → Option PlainLoop → Option Returned → ℕ
 turns_labels i (Some l) answer = loop_labels i l answer
 turns_labels i None answer = 1 + answer_labels i answer
 
 abbrev pub scalar_code : (ℕ → ℕ) → Program → ℕ → List Line → List Line
-scalar_code R k n rest = turns_code (layout_of_kernel R k) (kernel_homes R k) (var_scope k) k.turns (loop_start k) n (loop_end k) k.answer rest
+scalar_code R k n rest = turns_code (loop_layout R k) (kernel_homes R k) (var_scope k) k.turns (loop_start k) n (loop_end k) k.answer rest
 
 abbrev pub scalar_labels : Program → ℕ
 scalar_labels k = turns_labels (loop_index k) k.turns k.answer

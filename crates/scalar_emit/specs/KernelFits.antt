@@ -7,6 +7,7 @@ use Rattle.scalar_words.specs.Layout.{Layout, Homes}
 use Rattle.scalar_words.specs.Safe.{Others, Assigned, AreSafe, AreSteady}
 use Rattle.scalar_emit.specs.Loop.{FitsAnswer, FitsLoop}
 use Rattle.scalar_words.specs.KernelRegisters.{counted_x, layout_of_kernel, param_homes, var_home, kernel_homes, IsBound}
+use Rattle.scalar_emit.specs.LoopNumbers.{loop_layout}
 use Rattle.scalar_emit.specs.Kernel.{FitsVars}
 use Rattle.kernel_tree.specs.declared.fault.Binding.TheVariants as binding
 
@@ -29,7 +30,7 @@ VarsAreSafe R k = AreSafeVars (layout_of_kernel R k) R (param_homes 0 k.params) 
 -- ---- the loop, and the returned expression
 
 abbrev pub LoopFits : (ℕ → ℕ) → Program → PlainLoop → Type 0
-LoopFits R k l = FitsLoop (layout_of_kernel R k) (kernel_homes R k) (var_scope k) l (loop_start k) (loop_end k) k.answer
+LoopFits R k l = FitsLoop (loop_layout R k) (kernel_homes R k) (var_scope k) l (loop_start k) (loop_end k) k.answer
 
 -- the returned expression of a kernel without a loop
 abbrev pub AnswerFits : (ℕ → ℕ) → Program → Type 0

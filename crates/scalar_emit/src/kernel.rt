@@ -12,7 +12,9 @@ ghost use Rattle.loop_form.specs.View.{program};
 ghost use Rattle.scalar_emit.specs.Statements.{block_labels, block_code};
 ghost use Rattle.scalar_words.specs.KernelRegisters.{register_in};
 ghost use Rattle.scalar_words.specs.Drafts.{Appends, AppendsWords};
-ghost use Rattle.scalar_words.specs.View.{homes_of};
+ghost use Rattle.scalar_words.specs.View.{constants_of, homes_of};
+ghost use Rattle.scalar_words.specs.Layout.{with_constants};
+ghost use Rattle.scalar_emit.specs.LoopNumbers as numbers;
 ghost use Rattle.kernel_tree.specs.Items as items;
 ghost use Rattle.kernel_tree.specs.Typing as typing;
 ghost use Rattle.label_fix.specs.DraftRun as plain;
@@ -21,6 +23,7 @@ ghost use Rattle.scalar_emit.specs.Kernel as kernels;
 ghost use Rattle.scalar_words.specs.KernelRegisters as registers;
 
 use crate::branches::branch_ahead;
+use crate::numbers::{emit_numbers, hold_block};
 use crate::statements::emit_block;
 use a64_code::{AddSubOp, Cond, Reg, zero};
 use kernel_scope::{Scope, declare, empty, loop_index};
@@ -38,7 +41,7 @@ use scalar_words::laws::each_has_a_register;
 use scalar_words::names::{declare_names, declare_params, declare_var};
 use scalar_words::operations::{emit_copy, emit_settle};
 use scalar_words::places::{Places, counted_register, places_of};
-use scalar_words::{Home, register_at};
+use scalar_words::{Constant, Home, register_at};
 use std::alloc::{AllocError, Global};
 use word_rows::Bits;
 
@@ -341,17 +344,23 @@ fn emit_bound(draft: &mut Draft, bound: Reg) -> Result<(), AllocError>
     Ok(())
 }
 
-// The head of a loop, and its first test.
-fn emit_entry(draft: &mut Draft, bound: Reg) -> Result<LoopLabels, AllocError>
+// The head of a loop: its first test, and the numbers that are held.
+fn emit_entry(
+    draft: &mut Draft,
+    bound: Reg,
+    constants: &[Constant],
+) -> Result<LoopLabels, AllocError>
     ensures head { IfOk result (λ l. l.head ≡ draft.old.labels) }
     ensures exit { IfOk result (λ l. l.exit ≡ draft.old.labels + 1) }
     ensures top { IfOk result (λ l. l.top ≡ draft.old.labels + 2) }
     ensures labels { OnOk result (draft.new.labels ≡ draft.old.labels + 3) }
-    ensures code { OnOk result (Appends draft.old draft.new (loops.entry_code bound.number draft.old.labels)) }
+    ensures code { OnOk result (Appends draft.old draft.new (loops.entry_code bound.number draft.old.labels
+        (constants_of constants.now))) }
 {
     let head = emit_head(draft)?;
     emit_bound(draft, bound)?;
     let exit = branch_ahead(draft, BranchKind::If(Cond::Hs))?;
+    emit_numbers(draft, constants)?;
     let top = emit_head(draft)?;
     Ok(LoopLabels { head, exit, top })
 }
@@ -399,7 +408,7 @@ fn emit_loop<'a>(
         (turns_of turns.now) item.old draft.old.labels)) }
 {
     let bound = register_at(homes, &turns.bound);
-    let LoopLabels { head, exit, top } = emit_entry(draft, bound)?;
+    let LoopLabels { head, exit, top } = emit_entry(draft, bound, places.constants())?;
     declare_index(scope, homes, turns)?;
     *item += 1;
     emit_body(draft, places, homes, scope, exit, turns, item)?;
@@ -597,11 +606,29 @@ fn emit_straight(
     straight_named(draft, places, regs, &mut homes, &mut scope, kernel, item)
 }
 
+// The numbers of a loop are held.
+fn hold_numbers(
+    alloc: Global,
+    places: &mut Places,
+    kernel: &Kernel,
+    turns: &Loop,
+) -> Result<(), AllocError>
+    requires params { length (program_of kernel.now).params ≤ 8 }
+    requires turns { (program_of kernel.now).turns ≡ Some (turns_of turns.now) }
+    ensures { OnOk result (places.new ≡ with_constants places.old (numbers.held_numbers (program_of kernel.now))) }
+{
+    let scope = empty(alloc, Some(turns.index.text()));
+    let mut constants = Vec::new(alloc);
+    hold_block(&mut constants, kernel.params.len(), &scope, &turns.body)?;
+    places.hold(constants);
+    Ok(())
+}
+
 // The code of a kernel's loop and of what follows it; answers the label of its head, or before the returned value.
 fn emit_rest(
     alloc: Global,
     draft: &mut Draft,
-    places: &Places,
+    places: &mut Places,
     regs: &Assigned,
     kernel: &Kernel,
     item: usize,
@@ -611,7 +638,7 @@ fn emit_rest(
     requires params { length (program_of kernel.now).params ≤ 8 }
     requires kinds { KernelKinds (program_of kernel.now) }
     requires few { items.size_of (program_of kernel.now) ≤ 1000 }
-    requires places { places.now ≡ registers.layout_of_kernel (register_in regs.now) (program_of kernel.now) }
+    requires places { places.old ≡ registers.layout_of_kernel (register_in regs.now) (program_of kernel.now) }
     requires start { item ≡ items.loop_start (program_of kernel.now) }
     ensures head { IfOk result (λ l. l ≡ draft.old.labels) }
     ensures labels { OnOk result (draft.new.labels ≡ draft.old.labels + kernels.scalar_labels (program_of kernel.now)) }
@@ -625,7 +652,9 @@ fn emit_rest(
         }
         Some(turns) => {
             let mut next = item;
+            hold_numbers(alloc, places, kernel, turns)?;
             let head = emit_turns(alloc, draft, places, regs, kernel, turns, &mut next)?;
+            places.hold(Vec::new(alloc));
             emit_following(alloc, draft, places, regs, kernel, turns, next)?;
             Ok(head)
         }
@@ -661,9 +690,9 @@ pub fn emit_scalar(
     few_params(kernel);
     right_kinds(kernel);
     each_has_a_register(kernel, regs);
-    let places = places_of(alloc, kernel, listing, regs)?;
+    let mut places = places_of(alloc, kernel, listing, regs)?;
     let tree = kernel.kernel();
     let item = tree.params.len() + vars_size_of(kernel, &tree.vars) as usize;
-    let at_iteration = emit_rest(alloc, draft, &places, regs, tree, item)?;
+    let at_iteration = emit_rest(alloc, draft, &mut places, regs, tree, item)?;
     Ok(ScalarEntry { at_iteration })
 }

@@ -1,13 +1,15 @@
 -- Registers fit an expression of a checked kernel: what its typing and its listing say.
-use Rattle.std.proofs.Common.{◌≡◌, ℕ, zero, suc, ◌+◌, ◌≤◌, Bool, List, [], ◌∷◌, ◌++◌, drop, Option, Some, None, refl, sym, ap, ◌∙◌, subst, arith}
+use Rattle.std.proofs.Common.{◌≡◌, ℕ, zero, suc, ◌+◌, ◌≤◌, Bool, true, List, [], ◌∷◌, ◌++◌, drop, Option, Some, None, refl, sym, ap, ◌∙◌, subst, arith}
 use Rattle.std.specs.Prelude.{ℤ, pos, negsuc, unsigned_abs, nat_le, slice_index}
-use Rattle.std.proofs.lemmas.Bool.{leb-true}
+use Rattle.std.proofs.lemmas.Bool.{leb-true, ltb-true}
 use Rattle.kernel_tree.specs.declared.ops.Ty.{Ty}
 use Rattle.kernel_tree.specs.declared.fault.Found.{Found}
 use Rattle.kernel_tree.specs.Plain.{Term, Literal, Variable, Element, Unary, Operation, Shift, Conversion, Choice, Comparison, Both, Either, Not, Program}
 use Rattle.kernel_tree.specs.Items.{term_size, index_items, index_size, stream_offset, loop_index}
 use Rattle.kernel_tree.specs.Limits.{most_offset}
-use Rattle.kernel_tree.specs.Typing.{Scope, Local, Value, Condition, lookup, own, first, index_type, side_type, faults, as_value, as_condition, mismatch, read_faults, index_faults, inner_faults, offset_faults, untyped}
+use Rattle.kernel_tree.specs.Wrap.{wrap, bits_of, is_signed}
+use Rattle.kernel_meaning.proofs.TypeRanges.{InBits, is_of, wrap-of}
+use Rattle.kernel_tree.specs.Typing.{fits as literal_fits, literal_faults, Scope, Local, Value, Condition, lookup, own, first, index_type, side_type, faults, as_value, as_condition, mismatch, read_faults, index_faults, inner_faults, offset_faults, untyped}
 use Rattle.kernel_tree.proofs.Faultless.{nil-left, nil-right, never}
 use Rattle.kernel_tree.proofs.NoFault.{is_empty, no_mismatch, no_name, no_read}
 use Rattle.loop_form.specs.Entries.{Content, IsLiteral, IsName, IsRead, IsLet, IsStore, IsUpdate, IsPlain, Entry, inner_entries, term_entries}
@@ -26,6 +28,28 @@ no_untyped item (Some t) e = tt
 pub some_of : (o : Option Ty) → IsSome o → (T : Ty) × (o ≡ Some T)
 some_of None h = absurd h
 some_of (Some T) h = (T, refl)
+
+-- a literal without fault is a value of the type that is wanted
+literal_in : (t : Ty) (z : ℤ) → literal_fits t z ≡ true → InBits (is_signed t) (bits_of t) z
+literal_in ty.I8 (pos n) e = let h = ltb-true n _ e in omega (arith, h)
+literal_in ty.I8 (negsuc n) e = let h = ltb-true n _ e in omega (arith, h)
+literal_in ty.I16 (pos n) e = let h = ltb-true n _ e in omega (arith, h)
+literal_in ty.I16 (negsuc n) e = let h = ltb-true n _ e in omega (arith, h)
+literal_in ty.I32 (pos n) e = let h = ltb-true n _ e in omega (arith, h)
+literal_in ty.I32 (negsuc n) e = let h = ltb-true n _ e in omega (arith, h)
+literal_in ty.I64 (pos n) e = let h = ltb-true n _ e in omega (arith, h)
+literal_in ty.I64 (negsuc n) e = let h = ltb-true n _ e in omega (arith, h)
+literal_in ty.U8 (pos n) e = let h = ltb-true n _ e in omega (arith, h)
+literal_in ty.U8 (negsuc n) e = absurd cc
+literal_in ty.U16 (pos n) e = let h = ltb-true n _ e in omega (arith, h)
+literal_in ty.U16 (negsuc n) e = absurd cc
+literal_in ty.U32 (pos n) e = let h = ltb-true n _ e in omega (arith, h)
+literal_in ty.U32 (negsuc n) e = absurd cc
+literal_in ty.U64 (pos n) e = let h = ltb-true n _ e in omega (arith, h)
+literal_in ty.U64 (negsuc n) e = absurd cc
+
+literal_same : (item : ℕ) (t : Ty) (z : ℤ) → literal_faults item (Some t) z ≡ [] → wrap t z ≡ z
+literal_same item t z e = wrap-of t z (is_of t z (literal_in t z (is_empty (literal_fits t z) _ _ e)))
 
 first_is : (o : Option Ty) (t : Ty) → (T : Ty) × (first o (Some t) ≡ Some T)
 first_is None t = (t, refl)
@@ -139,7 +163,7 @@ module _ (k : Program) (L : Layout) (all : List Entry) (hs : Homes) (v : List Lo
 
   mutual
     pub value_fits : (t : Term) (T : Ty) (f b user : ℕ) (rest : List ℕ) → faults S f (Value (Some T)) t ≡ [] → Sits L.untils b (untils all (term_entries k b user t) rest) → AreUsed hs i (term_entries k b user t) → Fits L hs S (Some T) b user t
-    value_fits (Literal n) T f b user rest e h u = drop_head L.untils b _ rest h
+    value_fits (Literal n) T f b user rest e h u = (drop_head L.untils b _ rest h, literal_same f T n (nil-right (as_value f (Value (Some T))) _ e))
     value_fits (Variable x) T f b user rest e h u = (u.0, no_name f T (lookup S x) (nil-right (as_value f (Value (Some T))) _ e))
     value_fits (Element a j) T f b user rest e h u =
         let o = stream_offset i j in

@@ -1,5 +1,6 @@
 -- The code of an index that is computed.
 use Rattle.std.proofs.Common.{◌≡◌, ℕ, List, Some, None, refl, ap, ◌∙◌}
+use Rattle.machine_model.specs.InstructionTable.{Listed}
 use Rattle.std.specs.Prelude.{ℤ, Option, option_map}
 use Rattle.kernel_tree.specs.declared.ops.Ty.{Ty}
 use Rattle.scalar_values.specs.Extents.{Whole}
@@ -10,7 +11,8 @@ use Rattle.kernel_tree.specs.Items.{term_size, index_size, index_items, stream_o
 use Rattle.kernel_tree.specs.Typing.{Scope, index_type}
 use Rattle.machine_model.specs.InstructionTable.{Listed}
 use Rattle.label_fix.specs.DraftRun.{Entry}
-use Rattle.scalar_words.specs.Layout.{Layout, Homes}
+use Rattle.scalar_words.specs.Layout.{Constant, Layout, Homes}
+use Rattle.scalar_values.specs.HeldNumbers.{hold_index}
 
 -- ---- indexes
 
@@ -37,3 +39,13 @@ all_by (Some c) n h = absurd cc
 
 pub all_items : (i : Option (List ℕ)) (e : Term) → option_map index_word (stream_offset i e) ≡ None → term_size i e ≡ index_items i e
 all_items i e h = all_by (stream_offset i e) (term_size i e) h
+
+-- ---- numbers of indexes
+
+pub held_stream : (o : Option ℤ) (w : Option Listed) (more : List Constant → List Constant) (cs : List Constant) → option_map index_word o ≡ Some w → cs ≡ hold_index o more cs
+held_stream None w more cs h = absurd cc
+held_stream (Some c) w more cs h = refl
+
+pub held_computed : (o : Option ℤ) (more : List Constant → List Constant) (cs : List Constant) → option_map index_word o ≡ None → more cs ≡ hold_index o more cs
+held_computed None more cs h = refl
+held_computed (Some c) more cs h = absurd cc

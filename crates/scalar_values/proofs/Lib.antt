@@ -1,4 +1,8 @@
 pub mod Loads
+pub mod CodedSizes
+pub mod Literals
+pub mod NumberCounts
+pub mod HoldTerms
 pub mod Comparisons
 pub mod Loose
 pub mod Numbers

@@ -12,8 +12,6 @@ use Rattle.kernel_tree.specs.Typing.{Scope}
 use Rattle.kernel_meaning.specs.Eval.{Names, value}
 use Rattle.scalar_values.specs.declared.extent.Extent.{Extent}
 use Rattle.scalar_values.proofs.Loose.{loose}
-use Rattle.scalar_words.specs.Layout.{Layout, Homes, reg_of}
-use Rattle.scalar_values.specs.ValueRegisters.{home}
 use Rattle.scalar_values.specs.ItemWords.{immediate, held_addend}
 use Rattle.scalar_values.specs.Code.{labels, IsLiteral, compared_number, added_number}
 use Rattle.kernel_tree.specs.declared.ops.BinaryOp.TheVariants as binary
@@ -47,20 +45,6 @@ literal_labels i (Comparison op x y) h = absurd h
 literal_labels i (Both x y) h = absurd h
 literal_labels i (Either x y) h = absurd h
 literal_labels i (Not e) h = absurd h
-
-pub literal_home : (L : Layout) (hs : Homes) (i : Option (List ℕ)) (b : ℕ) (e : Term) → IsLiteral (literal_value e) → home L hs i b e ≡ reg_of L b
-literal_home L hs i b (Literal z) h = refl
-literal_home L hs i b (Variable x) h = absurd h
-literal_home L hs i b (Element a j) h = absurd h
-literal_home L hs i b (Unary op e) h = absurd h
-literal_home L hs i b (Operation op x y) h = absurd h
-literal_home L hs i b (Shift left e n) h = absurd h
-literal_home L hs i b (Conversion e t) h = absurd h
-literal_home L hs i b (Choice c x y) h = absurd h
-literal_home L hs i b (Comparison op x y) h = absurd h
-literal_home L hs i b (Both x y) h = absurd h
-literal_home L hs i b (Either x y) h = absurd h
-literal_home L hs i b (Not e) h = absurd h
 
 literal_is : (e : Term) (z : ℤ) → literal_value e ≡ Some z → e ≡ Literal z
 literal_is (Literal c) z h = cc

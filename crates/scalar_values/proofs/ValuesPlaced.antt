@@ -15,7 +15,7 @@ use Rattle.scalar_values.specs.Extents.{Whole, within_type, converted_extent}
 use Rattle.scalar_values.specs.Leaving.{unary_asks, binary_asks, shift_asks, unary_settles, binary_settles, shift_settles}
 use Rattle.label_fix.specs.DraftRun.{Entry, Put, Place}
 use Rattle.label_fix.proofs.LabelsOnce.{Unplaced, Once}
-use Rattle.scalar_words.specs.Layout.{Layout, Homes, reg_of}
+use Rattle.scalar_words.specs.Layout.{Layout, Homes, reg_of, constant_at}
 use Rattle.scalar_values.specs.ValueRegisters.{home}
 use Rattle.scalar_words.specs.Words.{condition, copy_word, settle_word, word_code, at_type}
 use Rattle.scalar_values.specs.ItemWords.{Side, Number, Register, Product, Moved, zero_test, tested_code, pick_code, placed_code, operator_code, convert_word, index_word, load_code, unary_code, abs_code, shift_code}
@@ -89,7 +89,7 @@ choice_unplaced l None flags jump d p q n rest ne nf f g u = g _ (pick_unplaced 
 module _ (L : Layout) (hs : Homes) where
   mutual
     pub loose_unplaced : (e : Term) (s : Scope) (w : Extent) (want : Option Ty) (l b n : ℕ) (rest : List Entry) → (n ≤ l → n + labels s.index e ≤ l) → Unplaced l rest → Unplaced l (loose_code L hs s w want b n e rest)
-    loose_unplaced (Literal z) s w want l b n rest h u = const_put (Unplaced l) (unplaced_put l) (reg_of L b) (word (wrapped want z)) rest u
+    loose_unplaced (Literal z) s w want l b n rest h u = right_unplaced l (constant_at L z) _ rest (const_put (Unplaced l) (unplaced_put l) (reg_of L b) (word (wrapped want z)) rest u) u
     loose_unplaced (Variable x) s w want l b n rest h u = u
     loose_unplaced (Element a j) s w want l b n rest h u = number_unplaced l (stream_offset s.index j) n (labels s.index j) _ _ h (λ k r v. loose_unplaced j s Whole (index_type s j) l b n r k v) (load_put (Unplaced l) (unplaced_put l) _ _ _ _ rest u)
     loose_unplaced (Unary op x) s w want l b n rest h u = loose_unplaced x s (unary_asks s want op x w) want l b n _ h (unary_put (Unplaced l) (unplaced_put l) (unary_settles s want op x w) want op _ _ rest u)
@@ -198,7 +198,7 @@ choice_once None flags jump d p q n m rest f g j h =
 module _ (L : Layout) (hs : Homes) where
   mutual
     pub loose_once : (e : Term) (s : Scope) (w : Extent) (want : Option Ty) (b n : ℕ) (rest : List Entry) → Fresh n (n + labels s.index e) rest → Once rest → Once (loose_code L hs s w want b n e rest)
-    loose_once (Literal z) s w want b n rest f h = const_put Once once_put (reg_of L b) (word (wrapped want z)) rest h
+    loose_once (Literal z) s w want b n rest f h = right_once (constant_at L z) _ rest (const_put Once once_put (reg_of L b) (word (wrapped want z)) rest h) h
     loose_once (Variable x) s w want b n rest f h = h
     loose_once (Element a j) s w want b n rest f h =
         let loaded = load_put Once once_put _ _ _ _ rest h in

@@ -10,7 +10,7 @@ use Rattle.kernel_tree.specs.Wrap.{is_signed}
 use Rattle.kernel_tree.specs.Typing.{Scope, lookup, own, element_type, index_type, side_type}
 use Rattle.kernel_meaning.specs.Operators.{word, wrapped, shift_count}
 use Rattle.label_fix.specs.DraftRun.{Entry, Put, ins}
-use Rattle.scalar_words.specs.Layout.{Layout, Homes, reg_of, last_use_at, register_at}
+use Rattle.scalar_words.specs.Layout.{Layout, Homes, reg_of, last_use_at, constant_at, register_at}
 use Rattle.scalar_values.specs.ValueRegisters.{home}
 use Rattle.scalar_values.specs.declared.extent.Extent.{Extent}
 use Rattle.scalar_values.specs.Extents.{Whole, within_type, fits_at, converted_extent}
@@ -181,10 +181,13 @@ taken_side L homes s op w want b x y = if is_led L homes s op w want b x y then 
 abbrev pub other_home : Layout → Homes → Scope → BinaryOp → Extent → Option Ty → (b : ℕ) → Term → Term → ℕ
 other_home L homes s op w want b x y = if is_led L homes s op w want b x y then home L homes s.index (b + term_size s.index x) y else home L homes s.index b x
 
--- no code for a right side that a word holds
+-- no code for a right side that a word holds, and none for a literal whose number a register holds
 abbrev pub right_code : Option ℕ → (List Entry → List Entry) → List Entry → List Entry
 right_code (Some v) inner rest = rest
 right_code None inner rest = inner rest
+
+abbrev pub literal_code : Layout → Option Ty → (b : ℕ) → ℤ → List Entry → List Entry
+literal_code L want b z rest = right_code (constant_at L z) (const_code (reg_of L b) (word (wrapped want z))) rest
 
 -- ---- conditions
 
@@ -201,7 +204,7 @@ choice_code None flags jump d p q n rest = jump (pick_code d p q n rest)
 abbrev mutual
   -- a value into its register, of which so much is asked for
   pub loose_code : Layout → Homes → Scope → Extent → Option Ty → (b n : ℕ) → Term → List Entry → List Entry
-  loose_code L homes scope w want b n (Literal z) rest = const_code (reg_of L b) (word (wrapped want z)) rest
+  loose_code L homes scope w want b n (Literal z) rest = literal_code L want b z rest
   loose_code L homes scope w want b n (Variable x) rest = rest
   loose_code L homes scope w want b n (Element a e) rest =
       number_code (stream_offset scope.index e) (loose_code L homes scope Whole (index_type scope e) b n e)

@@ -1,9 +1,11 @@
--- When registers fit an expression: each value is kept until the item that uses it, and each place wants what stands there.
+-- When registers fit an expression: each value is kept until the item that uses it, and each place wants what stands there;
+-- a literal is a value of the type that is wanted.
 use Rattle.std.specs.Prelude.{◌≡◌, ℕ, ◌+◌, ◌<◌, ◌^◌, ℤ, pos, negsuc, List, Option, Some, None, option_and_then}
 use Rattle.kernel_tree.specs.declared.ops.Ty.{Ty}
 use Rattle.kernel_tree.specs.Plain.{Term, Literal, Variable, Element, Unary, Operation, Shift, Conversion, Choice, Comparison, Both, Either, Not}
 use Rattle.kernel_tree.specs.Items.{term_size, index_items, stream_offset}
 use Rattle.kernel_tree.specs.Typing.{Scope, lookup, own, element_type, value_type, index_type, side_type}
+use Rattle.kernel_meaning.specs.Operators.{wrapped}
 use Rattle.scalar_words.specs.Layout.{Layout, Homes, register_at, NameLasts, last_use_at}
 
 abbrev pub IsSome : Option Ty → Type 0
@@ -28,7 +30,7 @@ FitsIndex None stream computed = computed
 abbrev mutual
   -- a value whose items begin at b, and which item `user` uses
   pub Fits : Layout → Homes → Scope → Option Ty → (b user : ℕ) → Term → Type 0
-  Fits L hs s want b user (Literal n) = last_use_at L b ≡ user
+  Fits L hs s want b user (Literal n) = (last_use_at L b ≡ user) × (wrapped want n ≡ n)
   Fits L hs s want b user (Variable x) = NameLasts hs x user × (option_and_then value_type (lookup s x) ≡ want)
   Fits L hs s want b user (Element a e) =
       (option_and_then element_type (lookup s a) ≡ want) × FitsIndex (stream_offset s.index e) (IndexAt hs s.index (b + index_items s.index e)) (Fits L hs s (index_type s e) b (b + index_items s.index e) e)

@@ -5,3 +5,4 @@ pub mod Leaving
 pub mod Code
 pub mod Fits
 pub mod Sides
+pub mod HeldNumbers

@@ -1,8 +1,8 @@
 -- Where the value of an expression is kept.
-use Rattle.std.specs.Prelude.{ℕ, ◌+◌, List, Option}
+use Rattle.std.specs.Prelude.{ℕ, ◌+◌, ℤ, List, Option, unwrap_or}
 use Rattle.kernel_tree.specs.Plain.{Term, Literal, Variable, Element, Unary, Operation, Shift, Conversion, Choice, Comparison, Both, Either, Not}
 use Rattle.kernel_tree.specs.Items.{term_size, index_items}
-use Rattle.scalar_words.specs.Layout.{Layout, reg_of, Homes, register_at}
+use Rattle.scalar_words.specs.Layout.{Layout, reg_of, constant_at, Homes, register_at}
 
 -- the last item of an expression whose items begin at b
 abbrev pub last_item : Option (List ℕ) → ℕ → Term → ℕ
@@ -19,10 +19,14 @@ last_item i b (Both x y) = b + term_size i x + term_size i y
 last_item i b (Either x y) = b + term_size i x + 1 + term_size i y
 last_item i b (Not e) = b + term_size i e
 
+-- a literal stands in the register that holds its number, or else in that of its item
+abbrev pub literal_home : Layout → (b : ℕ) → ℤ → ℕ
+literal_home L b z = unwrap_or (constant_at L z) (reg_of L b)
+
 -- the register of a value
 abbrev pub home : Layout → Homes → Option (List ℕ) → ℕ → Term → ℕ
 home L homes i b (Variable x) = register_at homes x
-home L homes i b (Literal n) = reg_of L b
+home L homes i b (Literal n) = literal_home L b n
 home L homes i b (Element a e) = reg_of L (last_item i b (Element a e))
 home L homes i b (Unary op e) = reg_of L (last_item i b (Unary op e))
 home L homes i b (Operation op x y) = reg_of L (last_item i b (Operation op x y))

@@ -2,7 +2,7 @@
 
 ghost use Rattle.std.specs.Prelude.{◌≡◌, ◌+◌, ◌<◌, ◌^◌, true, ◌∷◌, ◌++◌, None, IfOk, OnOk};
 ghost use Rattle.kernel_tree.specs.Plain.{Unary, Element, Operation, Shift, Conversion, Choice, Comparison, Both, Either, Not, name_of, term_of};
-ghost use Rattle.kernel_tree.specs.Items.{term_size, index_items};
+ghost use Rattle.kernel_tree.specs.Items.{literal_value, term_size, index_items};
 ghost use Rattle.kernel_tree.specs.Kinds.{IsValue, IsTruth};
 ghost use Rattle.kernel_scope.specs.Scopes.{scope_of};
 ghost use Rattle.scalar_words.specs.Drafts.{Appends};
@@ -12,8 +12,6 @@ ghost use Rattle.scalar_values.specs.ValueRegisters as placed;
 ghost use Rattle.scalar_words.specs.Layout as layout;
 ghost use Rattle.scalar_values.specs.Code as code;
 ghost use Rattle.scalar_values.specs.Sides.{side_view};
-ghost use Rattle.kernel_meaning.specs.Operators as operators;
-ghost use Rattle.scalar_words.specs.Words as words;
 
 use crate::extent::{
     Extent, asked_extent, binary_joins, converted_extent, settles, unary_joins, within, within_type,
@@ -25,7 +23,7 @@ use crate::operations::{
     emit_branch, emit_chosen, emit_load, emit_offset, emit_pick, emit_placed, want_cast,
     want_operator, want_shift, want_unary,
 };
-use crate::registers::{take, take_held};
+use crate::registers::{take, take_held, take_literal};
 use crate::side::Side;
 use a64_code::Reg;
 use kernel_meaning::{word, wrapped};
@@ -37,7 +35,7 @@ use scalar_words::places::Places;
 use scalar_words::{Home, register_at};
 use std::alloc::AllocError;
 
-// A literal, wrapped to the type that is wanted, into the register of its item.
+// A literal, wrapped to the type that is wanted, into the register of its item, where no register holds it.
 fn emit_literal(
     draft: &mut Draft,
     places: &Places,
@@ -46,15 +44,19 @@ fn emit_literal(
     item: &mut usize,
 ) -> Result<Reg, AllocError>
     requires { item.old < 2 ^ 32 }
-    ensures register { IfOk result (λ r. r.number ≡ layout.reg_of places.now item.old) }
+    ensures register { IfOk result (λ r. r.number ≡ placed.literal_home places.now item.old value) }
     ensures item { OnOk result (item.new ≡ item.old + 1) }
     ensures labels { OnOk result (draft.new.labels ≡ draft.old.labels) }
-    ensures code { OnOk result (Appends draft.old draft.new
-        (words.const_code (layout.reg_of places.now item.old) (operators.word (operators.wrapped want value)))) }
+    ensures code { OnOk result (Appends draft.old draft.new (code.literal_code places.now want item.old value)) }
 {
-    let r = take(places, item);
-    emit_const(draft, r, word(wrapped(want, value)))?;
-    Ok(r)
+    let own = take(places, item);
+    match places.constant(value) {
+        Some(held) => Ok(held),
+        None => {
+            emit_const(draft, own, word(wrapped(want, value)))?;
+            Ok(own)
+        }
+    }
 }
 
 /// The code of an expression of which a type is wanted and so much is asked for, and the register of its value.
@@ -420,7 +422,7 @@ fn emit_right(
         item.old draft.old.labels (term_of expr.now)))) }
 {
     match number {
-        Some(_) => Ok(take(places, item)),
+        Some(_) => Ok(take_literal(places, homes, scope, expr, item)),
         None => emit_loose(draft, places, homes, scope, extent, want, expr, item),
     }
 }

@@ -125,15 +125,15 @@ pub fn turned(sense: bool, op: CompareOp, signed: bool) -> Cond
     }
 }
 
-// A number below 4,096.
-fn immediate(number: u64) -> Option<u64>
+/// A number below 4,096.
+pub fn immediate(number: u64) -> Option<u64>
     ensures { result ≡ words.immediate number }
 {
     if number < 4096 { Some(number) } else { None }
 }
 
-// The number that the word of an operator holds as its right side.
-fn held_addend(op: BinaryOp, number: u64) -> Option<u64>
+/// The number that the word of an operator holds as its right side, by the word of the literal.
+pub fn held_addend(op: BinaryOp, number: u64) -> Option<u64>
     ensures { result ≡ words.held_addend op number }
 {
     let small = number < 4096 || number > 0xffff_ffff_ffff_f000;

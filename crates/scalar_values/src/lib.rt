@@ -4,6 +4,7 @@
 pub mod emit;
 pub mod extent;
 mod fusion;
+pub mod hold;
 pub mod instructions;
 mod leaving;
 pub mod operations;

@@ -2,11 +2,12 @@
 
 ghost use Rattle.std.specs.Prelude.{◌≡◌, ◌+◌, ◌<◌, ◌^◌};
 ghost use Rattle.kernel_tree.specs.Plain.{name_of, term_of};
-ghost use Rattle.kernel_tree.specs.Items.{term_size, index_items};
+ghost use Rattle.kernel_tree.specs.Items.{term_size, index_items, literal_value};
 ghost use Rattle.kernel_scope.specs.Scopes.{scope_of};
 ghost use Rattle.scalar_words.specs.View.{homes_of};
 ghost use Rattle.scalar_values.specs.ValueRegisters as placed;
 ghost use Rattle.scalar_words.specs.Layout as layout;
+ghost use Rattle.scalar_values.specs.Code as code;
 
 use crate::instructions::index_word;
 use a64_code::{Reg, zero};
@@ -34,6 +35,40 @@ pub fn take_held(homes: &[Home], name: &Name, item: &mut usize) -> Reg
 {
     *item += 1;
     register_at(homes, name)
+}
+
+// The register in which a literal stands.
+fn number_home(places: &Places, value: i128, item: usize) -> Reg
+    ensures { result.number ≡ placed.literal_home places.now item value }
+{
+    match places.constant(value) {
+        Some(held) => held,
+        None => places.reg(item),
+    }
+}
+
+/// The register in which an expression that is a literal stands, after which the next item stands.
+pub fn take_literal(
+    places: &Places,
+    homes: &[Home],
+    scope: &Scope,
+    expr: &Expr,
+    item: &mut usize,
+) -> Reg
+    requires literal { code.IsLiteral (literal_value (term_of expr.now)) }
+    requires fits { item.old < 2 ^ 32 }
+    ensures register { result.number
+        ≡ placed.home places.now (homes_of homes.now) (scope_of scope.now).index item.old (term_of expr.now) }
+    ensures item { item.new ≡ item.old + 1 }
+{
+    match expr {
+        Expr::Lit(value) => {
+            let r = number_home(places, *value, *item);
+            *item += 1;
+            r
+        }
+        _ => unreachable!(),
+    }
 }
 
 // The items of an index.
@@ -79,7 +114,7 @@ pub fn home_of(places: &Places, homes: &[Home], scope: &Scope, expr: &Expr, item
         (term_of expr.now) }
 {
     match expr {
-        Expr::Lit(_) => places.reg(item),
+        Expr::Lit(value) => number_home(places, *value, item),
         Expr::Var(name) => register_at(homes, name),
         Expr::Read { index, .. } => places.reg(item + index_size(scope, index)),
         Expr::Unary { arg, .. } | Expr::Shift { arg, .. } | Expr::Cast { arg, .. } => {

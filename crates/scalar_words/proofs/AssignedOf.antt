@@ -90,6 +90,7 @@ assigned_of R accs all num c = record {
       counted-apart (R (accs + k.m)) (R (accs + j.m))
       (c.apart k.m j.m p k.span j.span ne k.is j.is (let a = k.from in omega (arith, a)) (let a = k.last_use' in omega (arith, a, made)) (let a = j.from in omega (arith, a, lt)) (let a = j.last_use' in omega (arith, a, live)))
       (sym k.register ∙ e ∙ j.register);
+  constants = λ z r e. absurd cc;
 }
   where
     some_same : {s t : Interval} → Some s ≡ Some t → s ≡ t

@@ -1,6 +1,6 @@
 -- What stretches of code keep, and what stands in the registers.
 use Rattle.std.proofs.Common.{◌≡◌, ◌≢◌, ℕ, suc, ◌^◌, ◌<◌, ◌≤◌, Bool, true, false, List, [], ◌∷◌, length, Option, Some, None, cond, refl, sym, ap, ◌∙◌, subst, arith, length-set, get_or-set_same, get_or-set_other}
-use Rattle.std.specs.Prelude.{slice_index, unwrap_or, option_map, bytes_eq}
+use Rattle.std.specs.Prelude.{ℤ, slice_index, unwrap_or, option_map, bytes_eq}
 use Rattle.std.specs.List.{find}
 use Rattle.guest_types.specs.Memory.{Memory, IsMemory}
 use Rattle.machine_model.specs.Machine.{State, x_at, with_x, next}
@@ -12,7 +12,7 @@ use Rattle.kernel_tree.specs.Typing.{Local}
 pub use Rattle.scalar_words.specs.Safe.{Assigned, IsSafe, AreSafe}
 pub use Rattle.kernel_meaning.specs.Ranges.{TypeRange, AreRanged}
 pub use Rattle.scalar_words.specs.Iterations.{Frame, frame_of}
-use Rattle.scalar_words.specs.Layout.{Layout, reg_of, IsMade, Home, Homes, is_home, register_of, register_at, Lasts, LastsAt, NameLasts}
+use Rattle.scalar_words.specs.Layout.{Layout, reg_of, constant_at, IsMade, Home, Homes, is_home, register_of, register_at, Lasts, LastsAt, NameLasts}
 
 -- the state after a word that writes one register
 abbrev pub wrote : State → ℕ → ℕ → State
@@ -57,12 +57,17 @@ Held [] (n ∷ ns) p s = ⊥
 Held (h ∷ hs) [] p s = ⊥
 Held (h ∷ hs) (n ∷ ns) p s = (n.name ≡ h.name) × (Lasts h.last_use p → x_at s h.register ≡ word n.value) × Held hs ns p s
 
--- what stays in an iteration: its number, and the arguments
-pub record Fixed : Type 0 where
+-- registers have the numbers that they hold
+abbrev pub IsLoaded : Layout → List ℕ → Type 0
+IsLoaded L args = (z : ℤ) (r : ℕ) → constant_at L z ≡ Some r → slice_index args r ≡ word z
+
+-- what stays in an iteration: its number, and the registers below X9, with the arguments and the numbers that are held
+pub record Fixed (L : Layout) : Type 0 where
   pub index : ℕ
   pub args : List ℕ
+  pub loaded : IsLoaded L args
 
-pub record At (w : Fixed) (homes : Homes) (ls : List Local) (names : Names) (m : Memory) (p : ℕ) (s : State) : Type 0 where
+pub record At {L : Layout} (w : Fixed L) (homes : Homes) (ls : List Local) (names : Names) (m : Memory) (p : ℕ) (s : State) : Type 0 where
   pub sized : length s.x ≡ 31
   pub nine : x_at s 9 ≡ w.index
   pub args : (r : ℕ) → r < 9 → x_at s r ≡ slice_index w.args r
@@ -137,7 +142,7 @@ module _ (L : Layout) where
   held_kept (x ∷ hs) (n ∷ ns) b e s t le safe k h =
       (h.0, (λ lasts. k.others x.register (safe.0.high (lasts_less x.last_use e b le lasts)) (λ p lo up made. safe.0.apart p lo (lasts_less x.last_use e (suc p) (omega arith) lasts) made) ∙ h.1 (lasts_less x.last_use e b le lasts)), held_kept hs ns b e s t le safe.1 k h.2)
 
-  pub at_kept : (fit : Assigned L) {w : Fixed} {homes : Homes} {ls : List Local} {names : Names} {m : Memory} {s t : State} (b e : ℕ) → b ≤ e → AreSafe L b homes → At w homes ls names m b s → Kept L s t b e → At w homes ls names m e t
+  pub at_kept : (fit : Assigned L) {M : Layout} {w : Fixed M} {homes : Homes} {ls : List Local} {names : Names} {m : Memory} {s t : State} (b e : ℕ) → b ≤ e → AreSafe L b homes → At w homes ls names m b s → Kept L s t b e → At w homes ls names m e t
   at_kept fit {homes = homes} {names = names} {s = s} {t = t} b e le safe at k = record {
     sized = k.sized ∙ at.sized;
     nine = k.others 9 (omega arith) (λ p lo up made eq. absurd (omega (arith, fit.low p made))) ∙ at.nine;

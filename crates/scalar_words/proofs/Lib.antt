@@ -1,4 +1,5 @@
 pub mod RegisterAmong
+pub mod RegisterHolding
 pub mod Words
 pub mod LayoutStates
 pub mod WordsRuns

@@ -1,11 +1,18 @@
 -- Where values are kept.
-use Rattle.std.specs.Prelude.{ℕ, ◌<◌, ◌≤◌, List, Option, Some, None, option_map, unwrap_or, slice_index, Bool, bytes_eq}
+use Rattle.std.specs.Prelude.{ℕ, ◌<◌, ◌≤◌, ℤ, List, Option, Some, None, option_map, unwrap_or, slice_index, Bool, bytes_eq}
 use Rattle.std.specs.List.{find}
+use Rattle.loop_form.specs.Needs.{same_number}
 
--- by item: the register of its value, and the item that uses it last
+-- a number that a register holds while iterations last
+pub record Constant : Type 0 where
+  pub number : ℤ
+  pub register : ℕ
+
+-- by item: the register of its value, and the item that uses it last; and the numbers that are held
 pub record Layout : Type 0 where
   pub regs : List ℕ
   pub untils : List ℕ
+  pub constants : List Constant
 
 abbrev pub reg_of : Layout → ℕ → ℕ
 reg_of L p = slice_index L.regs p
@@ -16,6 +23,27 @@ last_use_at L p = slice_index L.untils p
 -- an item with a value that is used after it
 abbrev pub IsMade : Layout → ℕ → Type 0
 IsMade L p = p < last_use_at L p
+
+-- ---- numbers that are held
+
+abbrev pub is_constant : ℤ → Constant → Bool
+is_constant z c = same_number c.number z
+
+abbrev pub constant_register : Constant → ℕ
+constant_register c = c.register
+
+-- the register that holds a number
+abbrev pub constant_in : List Constant → ℤ → Option ℕ
+constant_in cs z = option_map constant_register (find (is_constant z) cs)
+
+abbrev pub constant_at : Layout → ℤ → Option ℕ
+constant_at L z = constant_in L.constants z
+
+-- a layout that holds these numbers
+abbrev pub with_constants : Layout → List Constant → Layout
+with_constants L cs = record { regs = L.regs; untils = L.untils; constants = cs }
+
+-- ---- names
 
 -- a visible name: the register that holds its value, and the item until which it does, if not throughout
 pub record Home : Type 0 where

@@ -1,6 +1,7 @@
 //! The registers of a kernel's values and names, and the words of constants and of operators with two operands.
 #![tactic(auto)]
 
+mod constant;
 mod home;
 pub mod instructions;
 pub mod laws;
@@ -8,6 +9,7 @@ pub mod names;
 pub mod operations;
 pub mod places;
 
+pub use constant::{Constant, constant_in};
 pub use home::{Home, register_at, register_named};
 pub use names::kernel_homes;
 pub use operations::{emit_binary, emit_const, emit_settle, update_operator};

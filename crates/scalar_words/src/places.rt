@@ -1,14 +1,16 @@
 //! Where the values of items are kept.
 
-ghost use Rattle.std.specs.Prelude.{◌≡◌, ℕ, ◌+◌, ◌<◌, ◌≤◌, ◌^◌, List, [], ◌∷◌, ◌++◌, IfOk, OnOk, length, map, unwrap_or};
+ghost use Rattle.std.specs.Prelude.{◌≡◌, ℕ, ◌+◌, ◌<◌, ◌≤◌, ◌^◌, List, [], ◌∷◌, ◌++◌, IfOk, OnOk, length, map, option_map, unwrap_or};
 ghost use Rattle.loop_form.specs.Listing.{listing_of};
 ghost use Rattle.loop_form.specs.View.{program};
 ghost use Rattle.reg_assign.specs.declared.interval.RegClass.TheVariants.{X};
 ghost use Rattle.reg_assign.specs.Registers.{IsAssignment};
 ghost use Rattle.loop_form.specs.Registers.{FitsKernel};
-ghost use Rattle.scalar_words.specs.Layout.{reg_of, last_use_at};
+ghost use Rattle.scalar_words.specs.Layout.{reg_of, last_use_at, constant_at, with_constants};
+ghost use Rattle.scalar_words.specs.View.{constants_of, register_number};
 ghost use Rattle.scalar_words.specs.KernelRegisters.{counted_x, register_in, one_reg, one_value, count_values, item_regs, item_last_use, layout_of_kernel};
 
+use crate::constant::{Constant, constant_in};
 use crate::laws::each_has_a_register;
 use a64_code::Reg;
 use kernel_tree::Checked;
@@ -19,11 +21,12 @@ use std::alloc::{AllocError, Global};
 use std::marker::Model;
 use word_rows::Bits;
 
-/// The register and the last use of each item.
+/// The register and the last use of each item, and the registers that hold numbers.
 #[derive(Drop)]
 pub struct Places {
     regs: Vec<Reg>,
     untils: Vec<usize>,
+    constants: Vec<Constant>,
 }
 
 impl Model for Places {
@@ -32,7 +35,7 @@ impl Model for Places {
 
     ghost Value = { Layout };
 
-    ghost view = { λ p. layout_of p.regs.items p.untils.items };
+    ghost view = { λ p. layout_of p.regs.items p.untils.items p.constants.items };
 }
 
 impl Places {
@@ -54,6 +57,27 @@ impl Places {
             Some(r) => *r,
             None => 0,
         }
+    }
+
+    /// The register that holds a number.
+    pub fn constant(&self, number: i128) -> Option<Reg>
+        ensures { option_map register_number result ≡ constant_at self.now number }
+    {
+        constant_in(&self.constants, number)
+    }
+
+    /// The numbers that are held.
+    pub fn constants(&self) -> &[Constant]
+        ensures { constants_of result.now ≡ self.now.constants }
+    {
+        &self.constants
+    }
+
+    /// These numbers are held, and no others.
+    pub fn hold(&mut self, constants: Vec<Constant>)
+        ensures { self.new ≡ with_constants self.old (constants_of constants.items) }
+    {
+        self.constants = constants;
     }
 }
 
@@ -89,6 +113,7 @@ fn add_item(
         → places.new.regs ++ more interval.new
         ≡ places.old.regs ++ one_reg (register_in regs.now) interval.old last_use more) }
     ensures untils { OnOk result (places.new.untils ≡ places.old.untils ++ unwrap_or last_use 0 ∷ []) }
+    ensures constants { OnOk result (places.new.constants ≡ places.old.constants) }
     ensures next { OnOk result (interval.new ≡ interval.old + one_value last_use) }
 {
     match last_use {
@@ -118,10 +143,12 @@ fn place_items(
     requires room { first ≤ 1000 }
     ensures regs { IfOk result (λ p. p.regs ≡ item_regs (register_in regs.now) first items.now) }
     ensures untils { IfOk result (λ p. p.untils ≡ map item_last_use items.now) }
+    ensures constants { IfOk result (λ p. p.constants ≡ []) }
 {
     let mut places = Places {
         regs: Vec::new(alloc),
         untils: Vec::new(alloc),
+        constants: Vec::new(alloc),
     };
     let mut interval = first;
     for item in items {

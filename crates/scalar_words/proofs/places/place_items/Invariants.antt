@@ -1,4 +1,4 @@
-use Rattle.std.proofs.Common.{◌≡◌, ◌+◌, ◌≤◌, ◌++◌, drop, length, map}
+use Rattle.std.proofs.Common.{◌≡◌, ◌+◌, ◌≤◌, ◌++◌, [], drop, length, map}
 use Rattle.scalar_words.specs.KernelRegisters.{register_in, count_values, item_regs, item_last_use}
 use Rattle.scalar_words.proofs.places.place_items.Given as goal
 
@@ -7,5 +7,6 @@ invariant-loop-item l = record {
   within : l.interval + count_values (drop l.item-index l.items) ≤ length l.regs.registers;
   room : l.interval ≤ l.first + l.item-index;
   regs : l.places.regs ++ item_regs (register_in l.regs) l.interval (drop l.item-index l.items) ≡ item_regs (register_in l.regs) l.first l.items;
+  constants : l.places.constants ≡ [];
   untils : l.places.untils ++ map item_last_use (drop l.item-index l.items) ≡ map item_last_use l.items;
 }

@@ -1,0 +1,11 @@
+use Rattle.std.proofs.Common.{◌≡◌, List, ◌++◌, drop}
+use Rattle.label_fix.specs.DraftRun as plain
+use Rattle.scalar_words.specs.View.{constants_of}
+use Rattle.scalar_emit.specs.Loop.{numbers_code}
+use Rattle.scalar_emit.proofs.numbers.emit_numbers.Given as goal
+
+abbrev pub invariant-loop-constant : goal.invariant-loop-constant
+invariant-loop-constant l = record {
+  labels : l.draft.labels ≡ l.fn.draft.labels;
+  code : (rest : List plain.Entry) → l.draft.entries ++ numbers_code (constants_of (drop l.constant-index l.constants)) rest ≡ l.fn.draft.entries ++ numbers_code (constants_of l.constants) rest;
+}
