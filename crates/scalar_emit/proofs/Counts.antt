@@ -5,11 +5,11 @@ use Rattle.kernel_tree.specs.declared.ops.Ty.{Ty}
 use Rattle.kernel_tree.specs.declared.ast.Shape.{Shape}
 use Rattle.kernel_tree.specs.Plain.{Action, Define, Put as PutTo, Update, Choose, Leave, Block, Done, Then, Otherwise, Nothing, Else, Parameter, Accumulator, PlainLoop, Returned, Program}
 use Rattle.kernel_tree.specs.Items.{term_size, action_size, block_size, otherwise_size, vars_size, turns_size, answer_size, index_of, stream_offset, loop_index, size_of, loop_start, loop_end}
-use Rattle.kernel_tree.specs.Typing.{Scope, lookup, own, first, accumulator_type, after_action, after_block, left, in_loop, after_turns, param_scope, var_scope}
+use Rattle.kernel_tree.specs.Typing.{Scope, lookup, own, first, element_type, accumulator_type, after_action, after_block, left, in_loop, after_turns, param_scope, var_scope}
 use Rattle.kernel_tree.proofs.Scopes.{index_after, param_index, scope_index}
 use Rattle.kernel_meaning.specs.Operators.{operator_of}
 use Rattle.kernel_meaning.specs.TypeValues.{binary_leaves}
-use Rattle.scalar_values.specs.Extents.{binary_extent}
+use Rattle.scalar_values.specs.Extents.{extent_at, binary_extent}
 use Rattle.scalar_values.specs.declared.extent.Extent.TheVariants.{Whole}
 use Rattle.label_fix.specs.DraftRun.{Entry}
 use Rattle.label_fix.specs.Finished.{size}
@@ -18,7 +18,7 @@ use Rattle.scalar_values.specs.ValueRegisters.{home}
 use Rattle.scalar_words.specs.Words.{copy_word, settle_word, word_code}
 use Rattle.scalar_values.specs.ItemWords.{index_word, store_code}
 use Rattle.scalar_values.specs.Code.{added_number, is_fused, right_side}
-use Rattle.scalar_emit.specs.Statements.{after_homes, block_labels, put_code, action_code, block_code, otherwise_code}
+use Rattle.scalar_emit.specs.Statements.{after_homes, block_labels, is_bare, put_code, action_code, block_code, otherwise_code}
 use Rattle.scalar_emit.specs.LoopNumbers.{loop_layout}
 use Rattle.scalar_emit.specs.Loop.{answer_code, with_index, bare, loop_code}
 use Rattle.scalar_emit.proofs.SetupRuns.{numbers_words}
@@ -65,12 +65,14 @@ module _ (L : Layout) where
     action_words (Define x t e) hs s exit b n rest k h =
         let q = b + term_size s.index e in
         within (omega arith) (loose_words L hs e s Whole (first t (own s e)) b n _ _ (let_words (nat_lt q (last_use_at L q)) _ _ rest k h))
-    action_words (PutTo a i e) hs s exit b n rest k h = within (omega arith) (loose_words L hs e s _ _ b n _ _ (put_words (stream_offset s.index i) _ _ _ rest k h))
+    action_words (PutTo a i e) hs s exit b n rest k h =
+        let T = option_and_then element_type (lookup s a) in
+        within (omega arith) (side_words None (is_bare s (extent_at T) e) (4 * term_size s.index e) _ _ _ _ (put_words (stream_offset s.index i) _ _ _ rest k h) (λ g. loose_words L hs e s _ _ b n _ _ g) (λ g. parts_words L hs e s _ _ b n _ _ g))
     action_words (Update x op e) hs s exit b n rest k h =
         let want = option_and_then accumulator_type (lookup s x) in
         let o = operator_of op in
         let j = binary_extent o Whole want in
-        within (omega arith) (side_words (added_number o want e) (is_fused o j want e) (4 * term_size s.index e) _ _ _ _ (operator_code_words (right_side L hs s.index o j want b e) (binary_leaves o) want o _ _ rest k h) (λ g. loose_words L hs e s j want b n _ _ g) (λ g. parts_words L hs e s j want b n _ _ g))
+        within (omega arith) (side_words (added_number o want e) (is_fused s o j want e) (4 * term_size s.index e) _ _ _ _ (operator_code_words (right_side L hs s o j want b e) (binary_leaves o) want o _ _ rest k h) (λ g. loose_words L hs e s j want b n _ _ g) (λ g. parts_words L hs e s j want b n _ _ g))
     action_words (Choose c blk d) hs s exit b n rest k h =
         within (omega arith) (jump_words L hs c s false _ b _ _ _ (block_words blk hs s exit _ _ _ _ (otherwise_words d hs (left s (after_block s blk)) exit n _ _ rest k h)))
     action_words (Leave c) hs s exit b n rest k h = within (omega arith) (jump_words L hs c s true exit b n _ _ h)

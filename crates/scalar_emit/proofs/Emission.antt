@@ -68,8 +68,8 @@ straight_is R k L b n rest d e f =
 
 -- ---- updates
 
-pub update_is : (L : Layout) (hs : Homes) (s : Scope) (b n : ℕ) (x : List ℕ) (op : BinaryOp) (want : Option Ty) (asked : Extent) (e : Term) (side : Side) (leaves : Bool) (d : ℕ) (rest : List Entry) → asked ≡ binary_extent op Whole want → side ≡ right_side L hs s.index op asked want b e → leaves ≡ binary_leaves op → d ≡ register_at hs x
-    → side_code (added_number op want e) (is_fused op asked want e) (loose_code L hs s asked want b n e) (parts_code L hs s asked want b n e) (at_type want (λ t. operator_code side leaves op t d d rest) rest) ≡ update_code L hs s b n x op want e rest
+pub update_is : (L : Layout) (hs : Homes) (s : Scope) (b n : ℕ) (x : List ℕ) (op : BinaryOp) (want : Option Ty) (asked : Extent) (e : Term) (side : Side) (leaves : Bool) (d : ℕ) (rest : List Entry) → asked ≡ binary_extent op Whole want → side ≡ right_side L hs s op asked want b e → leaves ≡ binary_leaves op → d ≡ register_at hs x
+    → side_code (added_number op want e) (is_fused s op asked want e) (loose_code L hs s asked want b n e) (parts_code L hs s asked want b n e) (at_type want (λ t. operator_code side leaves op t d d rest) rest) ≡ update_code L hs s b n x op want e rest
 update_is L hs s b n x op want asked e side leaves d rest e1 e2 e3 e4 = rw (e2, e3, e4, e1) refl
 
 -- ---- numbers that are held

@@ -5,6 +5,7 @@ use Rattle.kernel_tree.specs.Plain.{Literal, Variable, Element, Operation, Conve
 use Rattle.a64_code.specs.Table.{add_imm, sub_imm, subs, subs_imm, movz, movk, csel, ldrb_register, ldrsb_register, strb_register, svc}
 use Rattle.loop_form.specs.Entries.{item_type}
 use Rattle.loop_form.specs.Listing.{last_use_from}
+use Rattle.scalar_values.specs.Code.{is_led}
 use Rattle.label_fix.specs.DraftRun.{Branch, Place, Always, If, Zero, ins}
 use Rattle.scalar_words.specs.Layout.{Constant}
 use Rattle.scalar_emit.specs.LoopNumbers.{held_numbers}
@@ -131,7 +132,7 @@ bright-loops : scalar_code bright-registers bright 0 [] ≡
     ∷ ins movz (8 ∷ 93 ∷ 0 ∷ [])
     ∷ ins svc (0 ∷ [])
     ∷ []
-unfolding item_type last_use_from
+unfolding item_type last_use_from is_led
 bright-loops = refl
 
 -- y[i] = x[i] * 1000003 + 123456789 + 1000003;

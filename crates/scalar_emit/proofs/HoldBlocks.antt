@@ -1,14 +1,13 @@
 -- The numbers that are held for a loop: each has the next register, and they are no more than the literals that have no words
 -- for it.
-use Rattle.std.proofs.Common.{◌≡◌, ℕ, ◌+◌, ◌<◌, ◌≤◌, List, [], ◌∷◌, ◌++◌, length, Option, Some, None, inl, inr, refl, ap, subst, arith}
-use Rattle.std.specs.Prelude.{ℤ}
+use Rattle.std.proofs.Common.{◌≡◌, ℕ, ◌+◌, ◌≤◌, List, [], ◌∷◌, ◌++◌, length, Option, Some, None, inl, inr, refl, ap, subst, arith}
 use Rattle.kernel_tree.specs.Plain.{Action, Define, Put, Update, Choose, Leave, Block, Done, Then, Otherwise, Nothing, Else, Parameter, Accumulator, PlainLoop, Program}
-use Rattle.kernel_tree.specs.Items.{term_size, action_size, block_size, otherwise_size, loop_index}
+use Rattle.kernel_tree.specs.Items.{action_size, block_size, otherwise_size, loop_index}
 use Rattle.kernel_meaning.specs.Operators.{operator_of}
-use Rattle.scalar_words.specs.Layout.{Constant, Layout, Homes, constant_in, with_constants}
+use Rattle.scalar_words.specs.Layout.{Constant, Layout, Homes, with_constants}
 use Rattle.scalar_words.specs.KernelRegisters.{param_homes, var_homes, kernel_homes}
 use Rattle.scalar_words.proofs.AssignedOf.{counted-low}
-use Rattle.scalar_words.proofs.LayoutStates.{Assigned, AreSafe, IsSafe}
+use Rattle.scalar_words.proofs.LayoutStates.{Assigned, AreSafe}
 use Rattle.scalar_words.proofs.NameHomes.{Spread}
 use Rattle.scalar_values.specs.HeldNumbers.{AreNext, addend_of, hold_term}
 use Rattle.scalar_values.proofs.HoldTerms.{Within, Holds, holds_same, holds_on, IsFew, term_held, term_few, side_holds, side_is_few, next_low}

@@ -1,5 +1,5 @@
 -- What the words do that load the numbers of a loop.
-use Rattle.std.proofs.Common.{◌≡◌, ℕ, ◌+◌, ◌*◌, ◌<◌, ◌≤◌, Bool, true, false, cond, List, [], ◌∷◌, length, Option, Some, None, inl, inr, refl, sym, ap, ◌∙◌, arith, ⊎_elim}
+use Rattle.std.proofs.Common.{◌≡◌, ℕ, ◌+◌, ◌*◌, ◌<◌, ◌≤◌, Bool, true, false, cond, List, [], ◌∷◌, length, Option, Some, refl, sym, ap, ◌∙◌, arith, ⊎_elim}
 use Rattle.std.specs.Prelude.{ℤ, option_map, slice_index}
 use Rattle.std.specs.List.{find}
 use Rattle.guest_types.specs.Memory.{Memory}
@@ -13,7 +13,7 @@ use Rattle.label_fix.specs.DraftRun.{Entry, Put, Laid}
 use Rattle.label_fix.specs.Finished.{size}
 use Rattle.label_fix.proofs.StretchSteps.{Goes, Resolves, stay, chain}
 use Rattle.scalar_words.specs.Layout.{Constant, Layout, Homes, is_constant, constant_register, constant_in}
-use Rattle.scalar_words.proofs.LayoutStates.{IsLoaded, Fixed, Held, At}
+use Rattle.scalar_words.proofs.LayoutStates.{Fixed, Held, At}
 use Rattle.scalar_words.proofs.Constants.{const_back, const_fills}
 use Rattle.scalar_words.proofs.Pieces.{const_put}
 use Rattle.scalar_words.proofs.WordCounts.{within, const_words}

@@ -1,6 +1,6 @@
 -- Which literals a loop holds in registers of their own.
 use Rattle.std.specs.Prelude.{ℕ, ◌+◌, List, [], length, Option, Some, None}
-use Rattle.kernel_tree.specs.Plain.{Term, Action, Define, Put, Update, Choose, Leave, Block, Done, Then, Otherwise, Nothing, Else, PlainLoop, Program}
+use Rattle.kernel_tree.specs.Plain.{Action, Define, Put, Update, Choose, Leave, Block, Done, Then, Otherwise, Nothing, Else, PlainLoop, Program}
 use Rattle.kernel_tree.specs.Items.{loop_index}
 use Rattle.kernel_meaning.specs.Operators.{operator_of}
 use Rattle.scalar_words.specs.Layout.{Constant, Layout, with_constants}

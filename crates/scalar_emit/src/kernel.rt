@@ -34,7 +34,7 @@ use label_fix::{BranchKind, Draft, Label};
 use loop_form::laws::few_items;
 use loop_form::{Item, vars_size_of};
 use reg_assign::Assigned;
-use scalar_values::emit::emit_value;
+use scalar_values::emit_value;
 use scalar_values::instructions::{exit_call, index, next_iteration, small};
 use scalar_words::instructions::add_sub;
 use scalar_words::laws::each_has_a_register;

@@ -1,6 +1,6 @@
 //! Emits the code of statements.
 
-ghost use Rattle.std.specs.Prelude.{◌≡◌, ◌+◌, ◌<◌, ◌^◌, true, OnOk};
+ghost use Rattle.std.specs.Prelude.{◌≡◌, ◌+◌, ◌<◌, ◌^◌, true, IfOk, OnOk};
 ghost use Rattle.kernel_tree.specs.Plain.{Define, Put, Update, Choose, Leave, Nothing, Else, name_of, term_of, action_of, block_of};
 ghost use Rattle.kernel_tree.specs.Parts.{part_action};
 ghost use Rattle.kernel_tree.specs.Items.{term_size, action_size, block_size, otherwise_size, stream_offset};
@@ -22,10 +22,12 @@ use kernel_scope::{
 };
 use kernel_tree::{BinaryOp, Expr, Name, Part, Stmt, Ty, UpdateOp, parts};
 use label_fix::{Draft, Label};
-use scalar_values::emit::{emit_jump, emit_loose, emit_side, emit_value};
-use scalar_values::extent::{Extent, binary_extent, extent_at};
+use scalar_values::extent::{
+    Extent, binary_extent, converted_extent, extent_at, fits_at, within_type,
+};
 use scalar_values::instructions::{index_word, store};
 use scalar_values::operations::{emit_offset, want_operator};
+use scalar_values::{emit_jump, emit_loose, emit_side, emit_value};
 use scalar_words::operations::{emit_copy, update_operator};
 use scalar_words::places::Places;
 use scalar_words::{Home, register_at};
@@ -163,6 +165,41 @@ fn emit_put(
     }
 }
 
+// What is stored, of which so much is asked for; answers its register, or that of the operand of a cast that is no word.
+fn emit_stored(
+    draft: &mut Draft,
+    places: &Places,
+    homes: &[Home],
+    scope: &Scope,
+    extent: Extent,
+    want: Option<Ty>,
+    value: &Expr,
+    item: &mut usize,
+) -> Result<Reg, AllocError>
+    requires kind { IsValue (term_of value.now) }
+    requires fits { item.old + term_size (scope_of scope.now).index (term_of value.now) < 2 ^ 32 }
+    ensures register { IfOk result (λ r. r.number
+        ≡ statements.stored_home places.now (homes_of homes.now) (scope_of scope.now) extent item.old
+        (term_of value.now)) }
+    ensures item { OnOk result (item.new ≡ item.old + term_size (scope_of scope.now).index (term_of value.now)) }
+    ensures labels { OnOk result (draft.new.labels
+        ≡ draft.old.labels + code.labels (scope_of scope.now).index (term_of value.now)) }
+    ensures code { OnOk result (Appends draft.old draft.new
+        (statements.stored_code places.now (homes_of homes.now) (scope_of scope.now) extent want item.old
+        draft.old.labels (term_of value.now))) }
+{
+    if let Expr::Cast { arg, ty } = value {
+        let from = own_type(scope, arg);
+        if within_type(extent, *ty) || fits_at(from, *ty) {
+            let asked = converted_extent(extent, from, *ty);
+            let r = emit_loose(draft, places, homes, scope, asked, from, arg, item)?;
+            *item += 1;
+            return Ok(r);
+        }
+    }
+    emit_loose(draft, places, homes, scope, extent, want, value, item)
+}
+
 fn emit_store(
     draft: &mut Draft,
     places: &Places,
@@ -187,7 +224,7 @@ fn emit_store(
 {
     let ty = lookup(scope, array).and_then(element_type);
     let extent = extent_at(ty);
-    let from = emit_loose(draft, places, homes, scope, extent, ty, value, item)?;
+    let from = emit_stored(draft, places, homes, scope, extent, ty, value, item)?;
     emit_put(draft, scope, index, ty, from, register_at(homes, array))?;
     *item += 1;
     Ok(())

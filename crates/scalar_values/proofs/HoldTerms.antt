@@ -1,14 +1,14 @@
 -- The numbers that are held for an expression: each has the next register, none is lost, and they are no more than the literals
 -- that then have no words.
 use Rattle.std.proofs.Common.{◌≡◌, ℕ, ◌+◌, ◌-◌, ◌<◌, ◌≤◌, ◌&&◌, Bool, true, false, cond, List, [], ◌∷◌, ◌++◌, length, Option, Some, None, refl, sym, ap, subst, arith, length-append}
-use Rattle.std.specs.Prelude.{ℤ, pos, negsuc, nat_lt, nat_le, nat_eq, option_map}
+use Rattle.std.specs.Prelude.{ℤ, pos, negsuc, nat_lt, nat_le, option_map}
 use Rattle.std.specs.List.{find}
 use Rattle.std.proofs.lemmas.Bool.{ltb-true, leb-true, eqb-true, eq-eqb}
 use Rattle.kernel_tree.specs.Plain.{Term, Literal, Variable, Element, Unary, Operation, Shift, Conversion, Choice, Comparison, Both, Either, Not}
 use Rattle.kernel_tree.specs.Items.{term_size, index_size, stream_offset}
 use Rattle.loop_form.specs.Needs.{same_number}
 use Rattle.scalar_words.specs.Layout.{Constant, is_constant, constant_register, constant_in}
-use Rattle.scalar_values.specs.HeldNumbers.{AreNext, has_room, add_number, new_number, hold_number, addend_of, immediate_of, hold_side, hold_index, hold_term, literal_items, coded_size}
+use Rattle.scalar_values.specs.HeldNumbers.{AreNext, has_room, add_number, new_number, addend_of, immediate_of, hold_side, hold_index, hold_term, literal_items, coded_size}
 use Rattle.scalar_values.proofs.CodedSizes.{literal_few, coded_few}
 
 -- ---- numbers that are found

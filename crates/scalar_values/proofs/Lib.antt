@@ -7,6 +7,7 @@ pub mod Comparisons
 pub mod Loose
 pub mod Numbers
 pub mod Operators
+pub mod Fused
 pub mod Staying
 pub mod Ranges
 pub mod Jumps

@@ -17,7 +17,7 @@ use Rattle.kernel_meaning.specs.Ranges.{AreRanged}
 use Rattle.kernel_meaning.specs.Eval.{Names, on_both, chosen, choose_value, value, holds}
 use Rattle.kernel_meaning.proofs.Residues.{word-add, word-mul, word-below, residue-8, residue-16, residue-32}
 use Rattle.kernel_meaning.proofs.TypeRanges.{wrap-of, of-fits}
-use Rattle.kernel_meaning.proofs.ValueRanges.{IsTyped, value_range}
+use Rattle.kernel_meaning.proofs.ValueRanges.{value_range}
 use Rattle.value_bounds.proofs.InBounds.{AreTyped, is_typed}
 use Rattle.scalar_values.specs.declared.extent.Extent.{Extent}
 use Rattle.scalar_values.specs.Extents.{Low8, Low16, Low32, Whole, extent_of, within_type, within, unary_joins, operand_extent, asked_extent, binary_extent, fits_at, cast_extent, converted_extent}

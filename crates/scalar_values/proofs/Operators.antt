@@ -12,7 +12,7 @@ use Rattle.kernel_tree.specs.declared.ops.UnaryOp.{UnaryOp}
 use Rattle.kernel_tree.specs.declared.ops.BinaryOp.{BinaryOp}
 use Rattle.kernel_tree.specs.Wrap.{wrap, is_signed}
 use Rattle.kernel_meaning.specs.Operators.{word, unary_on, binary_on, shift_on, shift_count}
-use Rattle.kernel_meaning.specs.TypeValues.{IsOf, fits, unary_leaves, binary_leaves}
+use Rattle.kernel_meaning.specs.TypeValues.{IsOf, fits, binary_leaves}
 use Rattle.kernel_meaning.proofs.Residues.{word-below, word-add, word-shl}
 use Rattle.kernel_meaning.proofs.ExtendedForm.{unary-kept, binary-kept, shift-kept}
 use Rattle.std.specs.Int.{w64, cast_signed, cast_unsigned, int_shr}

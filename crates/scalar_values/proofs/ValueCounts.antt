@@ -1,5 +1,5 @@
 -- How many words an expression has: at most four for each item.
-use Rattle.std.proofs.Common.{ℕ, ◌+◌, ◌*◌, ◌≤◌, Bool, true, false, List, ◌∷◌, Option, Some, None, arith}
+use Rattle.std.proofs.Common.{ℕ, ◌+◌, ◌*◌, ◌≤◌, ◌&&◌, Bool, true, false, List, ◌∷◌, Option, Some, None, arith}
 use Rattle.std.specs.Prelude.{ℤ, not, option_and_then}
 use Rattle.kernel_tree.specs.declared.ops.Ty.{Ty}
 use Rattle.kernel_tree.specs.declared.ops.UnaryOp.{UnaryOp}
@@ -9,17 +9,15 @@ use Rattle.kernel_tree.specs.Items.{index_size, term_size, stream_offset}
 use Rattle.kernel_tree.specs.Wrap.{is_signed}
 use Rattle.kernel_tree.specs.Typing.{Scope, lookup, own, element_type, index_type, side_type, left}
 use Rattle.kernel_meaning.specs.Operators.{word, wrapped}
-use Rattle.kernel_meaning.specs.TypeValues.{binary_leaves}
 use Rattle.scalar_values.specs.declared.extent.Extent.{Extent}
-use Rattle.scalar_values.specs.Extents.{Whole, within_type, within as within_at, unary_joins, converted_extent, settles}
+use Rattle.scalar_values.specs.Extents.{Whole, within_type, converted_extent}
 use Rattle.scalar_values.specs.Leaving.{unary_asks, binary_asks, shift_asks, unary_settles, binary_settles, shift_settles}
-use Rattle.scalar_words.specs.Operands.{binary_joins}
 use Rattle.label_fix.specs.DraftRun.{Entry, Place}
 use Rattle.label_fix.specs.Finished.{size}
 use Rattle.scalar_words.specs.Layout.{Layout, Homes, reg_of, constant_at}
 use Rattle.scalar_words.specs.Words.{copy_word, settle_word, word_code, condition, at_type}
 use Rattle.scalar_values.specs.ItemWords.{Side, Number, Register, Product, Moved, convert_word, index_word, load_code, operator_code, unary_code, abs_code, shift_code, zero_test, tested_code, pick_code, placed_code}
-use Rattle.scalar_values.specs.Code.{number_code, signed_side, compared_number, added_number, is_fused, right_side, side_code, parts_code, right_code, flag_condition, choice_code, loose_code, flags_code, jump_code}
+use Rattle.scalar_values.specs.Code.{number_code, signed_side, compared_number, added_number, is_fused, is_led, taken_side, side_code, parts_code, right_code, flag_condition, choice_code, loose_code, flags_code, jump_code}
 use Rattle.scalar_words.proofs.WordCounts.{within, one_word, operation_words, const_words}
 use Rattle.kernel_tree.specs.declared.ops.UnaryOp.TheVariants as unary
 
@@ -95,8 +93,10 @@ module _ (L : Layout) (hs : Homes) where
     loose_words (Unary op x) s w want b n rest k h = within (omega arith) (loose_words x s (unary_asks s want op x w) want b n _ _ (unary_words (unary_settles s want op x w) want op _ _ rest k h))
     loose_words (Operation op x y) s w want b n rest k h =
         let j = binary_asks s want op x y w in
-        let side = right_side L hs s.index op j want (b + term_size s.index x) y in
-        within (omega arith) (loose_words x s j want b n _ _ (side_words (added_number op want y) (is_fused op j want y) (4 * term_size s.index y) _ _ _ _ (operator_code_words side (binary_settles s want op x y w) want op _ _ rest k h) (λ g. loose_words y s j want _ _ _ _ g) (λ g. parts_words y s j want _ _ _ _ g)))
+        let side = taken_side L hs s op j want b x y in
+        within (omega arith) (side_words None (is_led L hs s op j want b x y) (4 * term_size s.index x) _ _ _ _
+        (side_words (added_number op want y) (not (is_led L hs s op j want b x y) && is_fused s op j want y) (4 * term_size s.index y) _ _ _ _ (operator_code_words side (binary_settles s want op x y w) want op _ _ rest k h) (λ g. loose_words y s j want _ _ _ _ g) (λ g. parts_words y s j want _ _ _ _ g))
+        (λ g. loose_words x s j want b n _ _ g) (λ g. parts_words x s j want b n _ _ g))
     loose_words (Shift left x z) s w want b n rest k h = within (omega arith) (loose_words x s (shift_asks s want left x z w) want b n _ _ (shift_words (shift_settles s want left x z w) want left z _ _ rest k h))
     loose_words (Conversion x t) s w want b n rest k h = within (omega arith) (loose_words x s (converted_extent w (own s x) t) (own s x) b n _ _ (cast_words (within_type w t) (own s x) t _ _ rest k h))
     loose_words (Choice c x y) s w want b n rest k h =
@@ -113,7 +113,7 @@ module _ (L : Layout) (hs : Homes) where
     parts_words (Variable x) s w want b n rest k h = omega (arith, h)
     parts_words (Element a i) s w want b n rest k h = omega (arith, h)
     parts_words (Unary op e) s w want b n rest k h = omega (arith, h)
-    parts_words (Conversion e t) s w want b n rest k h = omega (arith, h)
+    parts_words (Conversion e t) s w want b n rest k h = within (omega arith) (loose_words e s (converted_extent w (own s e) t) (own s e) b n _ _ h)
     parts_words (Choice c x y) s w want b n rest k h = omega (arith, h)
     parts_words (Comparison op x y) s w want b n rest k h = omega (arith, h)
     parts_words (Both x y) s w want b n rest k h = omega (arith, h)

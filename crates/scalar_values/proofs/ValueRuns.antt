@@ -14,10 +14,9 @@ use Rattle.kernel_tree.specs.Plain.{Term, Literal, Variable, Element, Unary, Ope
 use Rattle.kernel_tree.specs.Items.{term_size, index_size, stream_offset}
 use Rattle.kernel_tree.specs.Wrap.{wrap, is_signed}
 use Rattle.kernel_tree.specs.Typing.{Scope, Local, lookup, own, first, element_type, index_type, side_type}
-use Rattle.kernel_meaning.specs.Operators.{word, wrapped, compare_on, shift_on, shift_count}
+use Rattle.kernel_meaning.specs.Operators.{word, wrapped, binary_on, compare_on, shift_on, shift_count}
 use Rattle.kernel_meaning.specs.TypeValues.{IsOf, binary_leaves}
-use Rattle.kernel_meaning.proofs.Residues.{word-mul, word-shl}
-use Rattle.kernel_meaning.proofs.ExtendedForm.{shift-kept}
+use Rattle.kernel_meaning.proofs.Residues.{word-mul}
 use Rattle.kernel_meaning.specs.Eval.{Names, value_at, iteration, element_number, read_element, on_both, chosen, choose_value, value, holds}
 use Rattle.a64_code.specs.Table.{csel}
 use Rattle.label_fix.specs.DraftRun.{Entry, Put, Branch, Place, Always, Laid, following, address_of, word_of, ins}
@@ -25,27 +24,28 @@ use Rattle.label_fix.proofs.StretchSteps.{Goes, Stops, Resolves, stay, chain, go
 use Rattle.scalar_values.specs.HeldNumbers.{coded_size}
 use Rattle.scalar_values.proofs.Literals.{literal_high, literal_apart, literal_runs}
 use Rattle.scalar_values.proofs.Comparisons.{IsSide, compare_goes}
-use Rattle.scalar_values.proofs.Numbers.{IsSum, compared_right, compared_small, added_right, added_sum}
+use Rattle.scalar_values.proofs.Numbers.{compared_right, compared_small, added_right}
 pub use Rattle.scalar_values.proofs.Jumps.{kept_jump, led, Turned, Turns, no_turn, turns, branch_goes, both_turn, over_turn, turns_more, not_turns}
 use Rattle.scalar_words.proofs.Compare.{compared}
 use Rattle.scalar_words.specs.Layout.{Layout, Home, Homes, is_home, reg_of, constant_at, IsMade, register_at, LastsAt, NameLasts}
 use Rattle.scalar_values.specs.ValueRegisters.{home}
 use Rattle.scalar_values.specs.ItemWords.{Side, Number, Register, Product, Moved, shift_kind, load_code, operator_code, unary_code, abs_code, shift_code, index_word, index_register, convert_word, compare_word, zero_test, tested_code, pick_code, placed_code}
-use Rattle.scalar_words.specs.Words.{operation_code, word_code, copy_word, settle_word, is_narrow, condition, at_type}
-use Rattle.scalar_values.specs.Code.{labels, number_code, number_register, signed_side, compared_number, added_number, takes_product, takes_shift, is_product, stays, shift_stays, is_fused, part_side, side_by, right_side, side_code, parts_code, right_code, flag_condition, choice_code, loose_code, value_code, flags_code, jump_code}
+use Rattle.scalar_words.specs.Words.{operation_code, word_code, copy_word, settle_word, condition, at_type}
+use Rattle.scalar_values.specs.Code.{labels, number_code, number_register, signed_side, compared_number, added_number, takes_product, takes_shift, stays, is_fused, part_side, side_by, right_side, side_code, is_led, taken_side, parts_code, right_code, flag_condition, choice_code, loose_code, value_code, flags_code, jump_code}
 use Rattle.scalar_values.specs.Fits.{Fits, FitsTruth, FitsIndex, IndexAt, IsSome}
 use Rattle.scalar_words.proofs.LayoutStates.{AreRanged, Assigned, Kept, AreSafe, Held, Fixed, At, wrote, wrote_same, kept_none, kept_more, kept_item, kept_changes, kept_on, kept_both, at_kept, lasts_less, safe_later, name_held, name_found}
-use Rattle.scalar_words.proofs.WordsRuns.{Gets, gets, more, wide_wrap, copied_sets}
+use Rattle.scalar_words.proofs.WordsRuns.{Gets, gets, more, copied_sets}
 use Rattle.scalar_values.proofs.Loads.{Gives, no_value, a_value, load_runs, index_runs}
 use Rattle.scalar_words.proofs.Constants.{word_back, const_back}
-use Rattle.scalar_values.proofs.Operators.{IsOperand, IsTaken, shifted-word, operation_runs, unary_runs, shift_runs, cast_runs}
+use Rattle.scalar_values.proofs.Operators.{IsOperand, operation_runs, unary_runs, shift_runs, cast_runs}
+pub use Rattle.scalar_values.proofs.Fused.{Sided, no_side, a_side, right_taken}
+use Rattle.scalar_values.proofs.Fused.{Pairs, no_left, no_right, pair, both_right, never, settled_same, moved_same, part_taken, by_led, led_is, alone_code, on_both-turned, IsHigh, led_pairs, turned_runs}
 use Rattle.scalar_values.proofs.Staying.{and_true, unary_keeps, binary_keeps, shift_keeps}
 use Rattle.scalar_words.proofs.Words.{InRange, in_range}
 use Rattle.scalar_values.specs.declared.extent.Extent.{Extent}
-use Rattle.scalar_values.specs.Extents.{Whole, extent_of, operand_extent, within_type, within, unary_joins, asked_extent, binary_extent, fits_at, converted_extent, settles}
+use Rattle.scalar_values.specs.Extents.{Whole, within_type, asked_extent, fits_at, converted_extent, settles}
 use Rattle.scalar_values.specs.Leaving.{unary_may_leave, binary_may_leave, shift_may_leave, unary_asks, binary_asks, shift_asks, unary_settles, binary_settles, shift_settles}
-use Rattle.scalar_words.specs.Operands.{binary_joins}
-use Rattle.scalar_values.proofs.Loose.{settled, loose_binary, loose_unary, loose_shift, loose_cast, loose, whole_is}
+use Rattle.scalar_values.proofs.Loose.{loose_binary, loose_unary, loose_shift, loose_cast, loose, whole_is}
 use Rattle.scalar_values.proofs.Ranges.{value-range, fits_types}
 use Rattle.kernel_tree.specs.declared.ops.Ty.TheVariants as ty
 use Rattle.kernel_tree.specs.declared.ops.BinaryOp.TheVariants as binary
@@ -81,6 +81,13 @@ loose_value w L hs s names m e T b user v fits ranged is whole =
 loose_range : (w : Extent) (L : Layout) (hs : Homes) (s : Scope) (names : Names) (m : Memory) (e : Term) (T : Ty) (b user : ℕ) (v : ℤ) → Fits L hs s (Some T) b user e → AreRanged s.visible names → loose s w (Some T) e m names ≡ Some v → w ≡ Whole → IsOf T v
 loose_range w L hs s names m e T b user v fits ranged is whole = value-range L hs s names m e T b user v fits ranged (loose_value w L hs s names m e T b user v fits ranged is whole)
 
+-- an operator whose result is known to stay in the extended form
+operator_keeps : (L : Layout) (user : ℕ) (x y : Term) (hs : Homes) (s : Scope) (names : Names) (m : Memory) (op : BinaryOp) (w : Extent) (T : Ty) (b : ℕ) (u v : ℤ) → AreRanged s.visible names → Fits L hs s (Some T) b user (Operation op x y) → loose s w (Some T) x m names ≡ Some u → loose s w (Some T) y m names ≡ Some v → w ≡ Whole → binary_may_leave s (Some T) op x y ≡ false → word (wrap T (binary_on op u v)) ≡ word (binary_on op u v)
+operator_keeps L user x y hs s names m op w T b u v ranged h is js e out =
+    let b1 = b + term_size s.index x in let c = b1 + term_size s.index y in
+    binary_keeps s m names ranged T op x y u v (fits_types x L hs s (Some T) b c h.1) (fits_types y L hs s (Some T) b1 c h.2) (loose_value w L hs s names m x T b c u h.1 ranged is e) (loose_value w L hs s names m y T b1 c v h.2 ranged js e)
+    (loose_range w L hs s names m x T b c u h.1 ranged is e) (loose_range w L hs s names m y T b1 c v h.2 ranged js e) out
+
 first_some : (o : Option Ty) (t : Ty) → IsSome (first o (Some t))
 first_some None t = tt
 first_some (Some u) t = tt
@@ -105,85 +112,15 @@ chosen_second : (x : ℤ) (c : Option Bool) → chosen (Some x) None c ≡ None
 chosen_second x None = refl
 chosen_second x (Some v) = refl
 
--- a right side, or a fault of a read
-pub data Sided (D : Laid) (L : Layout) (c : List Entry) (s : State) (rest : List Entry) (b e : ℕ) (Q : State → ℤ → Type 0) (m : Memory) (most : ℕ) : Option ℤ → Type 0 where
-  no_side : Stops D c s Read m most → Sided D L c s rest b e Q m most None
-  a_side : {y : ℤ} (end : State) → Goes D c s rest end most → Kept L s end b e → Q end y → Sided D L c s rest b e Q m most (Some y)
-
--- a value in a register and a right side, or a fault of a read
-data Pairs (D : Laid) (L : Layout) (c : List Entry) (s : State) (rest : List Entry) (b e hx : ℕ) (Q : State → ℤ → Type 0) (m : Memory) (most : ℕ) : Option ℤ → Option ℤ → Type 0 where
-  no_left : {o : Option ℤ} → Stops D c s Read m most → Pairs D L c s rest b e hx Q m most None o
-  no_right : {x : ℤ} → Stops D c s Read m most → Pairs D L c s rest b e hx Q m most (Some x) None
-  pair : {x y : ℤ} (end : State) → Goes D c s rest end most → Kept L s end b e → x_at end hx ≡ word x → Q end y → Pairs D L c s rest b e hx Q m most (Some x) (Some y)
-
 -- the flags of a comparison, or a fault of a read
 data Flagged (D : Laid) (L : Layout) (c : List Entry) (s : State) (rest : List Entry) (b e k : ℕ) (m : Memory) (most : ℕ) : Option Bool → Type 0 where
   no_flags : Stops D c s Read m most → Flagged D L c s rest b e k m most None
   a_flag : {v : Bool} (end : State) → Goes D c s rest end most → Kept L s end b e → flags_hold k end.flags ≡ v → Flagged D L c s rest b e k m most (Some v)
 
--- ---- products and shifts in the word of an operator
-
-both_left : (a b : Bool) → (a && b) ≡ true → a ≡ true
-both_left true b h = refl
-both_left false b h = absurd cc
-
-both_right : (a b : Bool) → (a && b) ≡ true → b ≡ true
-both_right true b h = h
-both_right false b h = absurd cc
-
-never : (a : Bool) → (a && false) ≡ true → ⊥
-never true h = absurd cc
-never false h = absurd cc
-
--- the word of a result that is not extended
-settled_by : (l : Bool) (T : Ty) (z : ℤ) → (l || not (is_narrow T)) ≡ true → word (settled l true (Some T) z) ≡ word z
-settled_by true T z h = refl
-settled_by false T z h = wide_wrap T z (wide (is_narrow T) h)
-  where
-    wide : (b : Bool) → not b ≡ true → b ≡ false
-    wide true h = absurd cc
-    wide false h = refl
-
-settled_same : (w : Extent) (T : Ty) (z : ℤ) → stays w (Some T) ≡ true → word (settled (within_type w T) true (Some T) z) ≡ word z
-settled_same w T z h = settled_by (within_type w T) T z h
-
-right_extent : (l : Bool) (w : Extent) (T : Ty) → operand_extent l false false w (Some T) ≡ Whole
-right_extent true w T = refl
-right_extent false w T = refl
-
-right_settled : (l : Bool) (T : Ty) (z : ℤ) → settled l false (Some T) z ≡ wrap T z
-right_settled true T z = refl
-right_settled false T z = refl
-
-moved_same : (left leaves : Bool) (z : ℤ) (w : Extent) (T : Ty) (x : ℤ) → (leaves ≡ true → left ≡ true) → shift_stays left w (Some T) ≡ true → (asked_extent left leaves w (Some T) ≡ Whole → IsOf T x) → shifted_word (shift_kind left (is_signed T)) (word x) (shift_count z) ≡ word (loose_shift left z w (Some T) x)
-moved_same true leaves z w T x only still range = word-shl x (shift_count z) ∙ sym (settled_same w T (shift_on true (shift_count z) x) still)
-moved_same false true z w T x only still range = absurd (let e = only refl in cc)
-moved_same false false z w T x only still range =
-    let rx = range (right_extent (within_type w T) w T) in
-    shifted-word false (is_signed T) (shift_count z) x (in_range T x rx) ∙ sym (shift-kept false (shift_count z) T x rx refl) ∙ sym (ap word (right_settled (within_type w T) T (shift_on false (shift_count z) x)))
-
--- an operator's word takes its right side
-taken_by : (op : BinaryOp) (number : Option ℕ) (fused : Bool) (r : ℕ) (part : Side) → ((v : ℕ) → number ≡ Some v → IsSum op v) → (fused ≡ true → IsTaken op part) → IsTaken op (side_by number fused r part)
-taken_by op (Some v) fused r part sums takes = sums v refl
-taken_by op None true r part sums takes = takes refl
-taken_by op None false r part sums takes = tt
-
-part_taken : (op : BinaryOp) (L : Layout) (hs : Homes) (i : Option (List ℕ)) (w : Extent) (T : Ty) (b : ℕ) (e : Term) → is_fused op w (Some T) e ≡ true → IsTaken op (part_side L hs i (Some T) b e)
-part_taken op L hs i w T b (Operation o x y) f = both_left (takes_product op) (is_product o && stays w (Some T)) f
-part_taken op L hs i w T b (Shift left e z) f = both_left (takes_shift op) (shift_stays left w (Some T)) f
-part_taken op L hs i w T b (Literal z) f = absurd cc
-part_taken op L hs i w T b (Variable x) f = absurd cc
-part_taken op L hs i w T b (Element a e) f = absurd cc
-part_taken op L hs i w T b (Unary o e) f = absurd cc
-part_taken op L hs i w T b (Conversion e t) f = absurd cc
-part_taken op L hs i w T b (Choice c x y) f = absurd cc
-part_taken op L hs i w T b (Comparison o x y) f = absurd cc
-part_taken op L hs i w T b (Both x y) f = absurd cc
-part_taken op L hs i w T b (Either x y) f = absurd cc
-part_taken op L hs i w T b (Not e) f = absurd cc
-
-pub right_taken : (op : BinaryOp) (L : Layout) (hs : Homes) (i : Option (List ℕ)) (w : Extent) (T : Ty) (b : ℕ) (e : Term) → IsTaken op (right_side L hs i op w (Some T) b e)
-right_taken op L hs i w T b e = taken_by op (added_number op (Some T) e) (is_fused op w (Some T) e) _ _ (added_sum op (Some T) e) (part_taken op L hs i w T b e)
+bare_same : (low fit : Bool) (t : Ty) (x : ℤ) → (low || fit) ≡ true → x ≡ loose_cast low fit t x
+bare_same true fit t x h = refl
+bare_same false true t x h = refl
+bare_same false false t x h = absurd cc
 
 which : (v : Bool) (x y : ℤ) → (if v then word x else word y) ≡ word (choose_value v x y)
 which true x y = refl
@@ -232,18 +169,24 @@ module _ (D : Laid) (L : Layout) (fit : Assigned L) where
   plain_sided (a_value g) = a_side g.end g.goes g.kept g.value
 
   -- two values as a product, which is not extended
-  product_sided : {c rest : List Entry} {s : State} {b e hp hq : ℕ} {m : Memory} {m1 : ℕ} {o1 o2 : Option ℤ} (w : Extent) (T : Ty) (e2 most : ℕ) → e ≤ e2 → m1 ≤ most → stays w (Some T) ≡ true → Pairs D L c s rest b e hp (IsOperand (Register hq)) m m1 o1 o2 → Sided D L c s rest b e2 (IsOperand (Product hp hq)) m most (on_both (loose_binary binary.Mul w (Some T)) o1 o2)
-  product_sided w T e2 most le l1 still (no_left g) = no_side (stop_more most l1 g)
-  product_sided w T e2 most le l1 still (no_right g) = no_side (stop_more most l1 g)
-  product_sided w T e2 most le l1 still (pair {x = u} {y = v} end goes kept left right) =
-      a_side end (go_more most l1 goes) (kept_more L e2 le kept) (ap₂ (λ p q. p * q % 2 ^ 64) left right ∙ sym (word-mul u v) ∙ sym (settled_same w T (u *ℤ v) still))
+  product_sided : {c rest : List Entry} {s : State} {b e hp hq : ℕ} {m : Memory} {m1 : ℕ} {o1 o2 : Option ℤ} (leaves : Bool) (w : Extent) (T : Ty) (e2 most : ℕ) → e ≤ e2 → m1 ≤ most → stays (settles (within_type w T) true leaves) (Some T) ≡ true → ((u v : ℤ) → o1 ≡ Some u → o2 ≡ Some v → asked_extent true leaves w (Some T) ≡ Whole → leaves ≡ false → word (wrap T (u *ℤ v)) ≡ word (u *ℤ v)) → Pairs D L c s rest b e hp (IsOperand (Register hq)) m m1 o1 o2 → Sided D L c s rest b e2 (IsOperand (Product hp hq)) m most (on_both (loose_binary binary.Mul w (Some T)) o1 o2)
+  product_sided leaves w T e2 most le l1 still kept (no_left g) = no_side (stop_more most l1 g)
+  product_sided leaves w T e2 most le l1 still kept (no_right g) = no_side (stop_more most l1 g)
+  product_sided leaves w T e2 most le l1 still kept (pair {x = u} {y = v} end goes held left right) =
+      a_side end (go_more most l1 goes) (kept_more L e2 le held) (ap₂ (λ p q. p * q % 2 ^ 64) left right ∙ sym (word-mul u v) ∙ sym (settled_same leaves w T (u *ℤ v) still (kept u v refl refl)))
+
+  -- the operand of a cast that is no word
+  cast_sided : {c rest : List Entry} {s : State} {b e r : ℕ} {m : Memory} {m1 : ℕ} {o : Option ℤ} (low fit : Bool) (t : Ty) (e2 most : ℕ) → e ≤ e2 → m1 ≤ most → (low || fit) ≡ true → Gives D L c s rest b e r m m1 o → Sided D L c s rest b e2 (IsOperand (Register r)) m most (option_map (loose_cast low fit t) o)
+  cast_sided low fit t e2 most le l1 bare (no_value g) = no_side (stop_more most l1 g)
+  cast_sided low fit t e2 most le l1 bare (a_value {v = x} g) = a_side g.end (go_more most l1 g.goes) (kept_more L e2 le g.kept) (g.value ∙ ap word (bare_same low fit t x bare))
 
   -- a value as one that the word shifts
-  moved_sided : {c rest : List Entry} {s : State} {b e r : ℕ} {m : Memory} {m1 : ℕ} {o : Option ℤ} (left leaves : Bool) (z : ℤ) (w : Extent) (T : Ty) (e2 most : ℕ) → e ≤ e2 → m1 ≤ most → (leaves ≡ true → left ≡ true) → shift_stays left w (Some T) ≡ true → ((x : ℤ) → o ≡ Some x → asked_extent left leaves w (Some T) ≡ Whole → IsOf T x) → Gives D L c s rest b e r m m1 o
+  moved_sided : {c rest : List Entry} {s : State} {b e r : ℕ} {m : Memory} {m1 : ℕ} {o : Option ℤ} (left leaves : Bool) (z : ℤ) (w : Extent) (T : Ty) (e2 most : ℕ) → e ≤ e2 → m1 ≤ most → (leaves ≡ true → left ≡ true) → stays (settles (within_type w T) left leaves) (Some T) ≡ true → ((x : ℤ) → o ≡ Some x → asked_extent left leaves w (Some T) ≡ Whole → IsOf T x)
+      → ((x : ℤ) → o ≡ Some x → asked_extent left leaves w (Some T) ≡ Whole → leaves ≡ false → word (wrap T (shift_on left (shift_count z) x)) ≡ word (shift_on left (shift_count z) x)) → Gives D L c s rest b e r m m1 o
       → Sided D L c s rest b e2 (IsOperand (Moved (shift_kind left (is_signed T)) (shift_count z) r)) m most (option_map (loose_shift left z w (Some T)) o)
-  moved_sided left leaves z w T e2 most le l1 only still range (no_value g) = no_side (stop_more most l1 g)
-  moved_sided left leaves z w T e2 most le l1 only still range (a_value {v = x} g) =
-      a_side g.end (go_more most l1 g.goes) (kept_more L e2 le g.kept) (ap (λ k. shifted_word (shift_kind left (is_signed T)) k (shift_count z)) g.value ∙ moved_same left leaves z w T x only still (range x refl))
+  moved_sided left leaves z w T e2 most le l1 only still range kept (no_value g) = no_side (stop_more most l1 g)
+  moved_sided left leaves z w T e2 most le l1 only still range kept (a_value {v = x} g) =
+      a_side g.end (go_more most l1 g.goes) (kept_more L e2 le g.kept) (ap (λ k. shifted_word (shift_kind left (is_signed T)) k (shift_count z)) g.value ∙ moved_same left leaves z w T x only still (range x refl) (kept x refl))
 
   -- a right side, by what the word takes of it
   sided_by : (whole parts : List Entry → List Entry) {t : State} {rest : List Entry} {b e : ℕ} {m : Memory} {most : ℕ} (o : Option ℤ) (number : Option ℕ) (fused : Bool) (r : ℕ) (part : Side) → ((v : ℕ) → number ≡ Some v → (y : ℤ) × ((o ≡ Some y) × (v ≡ word y))) → Resolves D (side_code number fused whole parts rest)
@@ -377,6 +320,23 @@ module _ (D : Laid) (L : Layout) (fit : Assigned L) where
   home_apart (Either x y) hs s want b user le h safe p lo up made = absurd h
   home_apart (Not e) hs s want b user le h safe p lo up made = absurd h
 
+  -- the registers of a side that stands in the operator's word
+  part_high : (e : Term) (hs : Homes) (s : Scope) (op : BinaryOp) (w : Extent) (T : Ty) (b user : ℕ) → is_fused s op w (Some T) e ≡ true → Fits L hs s (Some T) b user e → AreSafe L b hs → IsHigh (part_side L hs s.index (Some T) b e)
+  part_high (Operation o x y) hs s op w T b user f h safe =
+      let b1 = b + term_size s.index x in
+      (home_high x hs s (Some T) b (b1 + term_size s.index y) (omega arith) h.1 safe, home_high y hs s (Some T) b1 (b1 + term_size s.index y) (omega arith) h.2 (safe_later L hs b b1 (omega arith) safe))
+  part_high (Shift left e z) hs s op w T b user f h safe = home_high e hs s (Some T) b (b + term_size s.index e) (omega arith) h.1 safe
+  part_high (Literal z) hs s op w T b user f h safe = absurd cc
+  part_high (Variable x) hs s op w T b user f h safe = absurd cc
+  part_high (Element a i) hs s op w T b user f h safe = absurd cc
+  part_high (Unary o e) hs s op w T b user f h safe = absurd cc
+  part_high (Conversion e t) hs s op w T b user f h safe = home_high e hs s (own s e) b (b + term_size s.index e) (omega arith) h.2 safe
+  part_high (Choice c x y) hs s op w T b user f h safe = absurd cc
+  part_high (Comparison o x y) hs s op w T b user f h safe = absurd cc
+  part_high (Both x y) hs s op w T b user f h safe = absurd cc
+  part_high (Either x y) hs s op w T b user f h safe = absurd cc
+  part_high (Not e) hs s op w T b user f h safe = absurd cc
+
   -- labels after a stretch of code
   number_back : (o : Option ℤ) (inner : List Entry → List Entry) (rest : List Entry) → (Resolves D (inner rest) → Resolves D rest) → Resolves D (number_code o inner rest) → Resolves D rest
   number_back (Some c) inner rest f h = word_back D (index_word c) rest h
@@ -475,8 +435,9 @@ module _ (D : Laid) (L : Layout) (fit : Assigned L) where
     loose_back (Unary op e) hs s w want b n rest h = unary_back (unary_settles s want op e w) want op _ _ rest (loose_back e hs s (unary_asks s want op e w) want b n _ h)
     loose_back (Operation op x y) hs s w want b n rest h =
         let k = binary_asks s want op x y w in
-        operator_back (right_side L hs s.index op k want (b + term_size s.index x) y) (binary_settles s want op x y w) want op _ _ rest
-        (side_back (added_number op want y) (is_fused op k want y) _ _ _ (loose_back y hs s k want _ _ _) (parts_back y hs s k want _ _ _) (loose_back x hs s k want b n _ h))
+        operator_back (taken_side L hs s op k want b x y) (binary_settles s want op x y w) want op _ _ rest
+        (side_back (added_number op want y) (not (is_led L hs s op k want b x y) && is_fused s op k want y) _ _ _ (loose_back y hs s k want _ _ _) (parts_back y hs s k want _ _ _)
+        (side_back None (is_led L hs s op k want b x y) _ _ _ (loose_back x hs s k want b n _) (parts_back x hs s k want b n _) h))
     loose_back (Shift left e z) hs s w want b n rest h = shift_back (shift_settles s want left e z w) want left z _ _ rest (loose_back e hs s (shift_asks s want left e z w) want b n _ h)
     loose_back (Conversion e t) hs s w want b n rest h = cast_back (within_type w t) (own s e) t _ _ rest (loose_back e hs s (converted_extent w (own s e) t) (own s e) b n _ h)
     loose_back (Choice c x y) hs s w want b n rest h = choice_back (flag_condition s c) _ _ _ _ _ _ rest (λ r. flags_back c hs s _ _ r) (λ r. jump_back c hs s false _ _ _ r) (loose_back y hs s w want _ _ _ (loose_back x hs s w want b n _ h))
@@ -492,7 +453,7 @@ module _ (D : Laid) (L : Layout) (fit : Assigned L) where
     parts_back (Variable x) hs s w want b n rest h = h
     parts_back (Element a i) hs s w want b n rest h = h
     parts_back (Unary op e) hs s w want b n rest h = h
-    parts_back (Conversion e t) hs s w want b n rest h = h
+    parts_back (Conversion e t) hs s w want b n rest h = loose_back e hs s (converted_extent w (own s e) t) (own s e) b n rest h
     parts_back (Choice c x y) hs s w want b n rest h = h
     parts_back (Comparison op x y) hs s w want b n rest h = h
     parts_back (Both x y) hs s w want b n rest h = h
@@ -624,19 +585,46 @@ module _ (D : Laid) (L : Layout) (fit : Assigned L) where
         (loose_runs e s k1 T b _ n _ (omega arith) safe at h.1 res)
         (λ t x is k ex. gets D L (b + term_size s.index e) _ _ (omega arith) (omega arith) (omega (arith, h.2)) (unary_runs D L fit op (unary_may_leave s (Some T) op e) w T x _ _ (k.sized ∙ at.sized) (home_high e hs s (Some T) b (b + term_size s.index e) (omega arith) h.1 safe) (fit.high _ (omega (arith, h.2))) (loose_range k1 L hs s names m e T b _ x h.1 at.ranged is)
         (λ whole stays. unary_keeps s m names at.ranged T op e x (fits_types e L hs s (Some T) b _ h.1) (loose_value k1 L hs s names m e T b _ x h.1 at.ranged is whole) (loose_range k1 L hs s names m e T b _ x h.1 at.ranged is whole) stays) ex))
-    loose_runs (Operation op x y) {hs = hs} s {names = names} {m = m} w T b user n rest le safe at h res =
-        let b1 = b + term_size s.index x in let c = b1 + term_size s.index y in
+    loose_runs (Operation op x y) {hs = hs} s {names = names} {m = m} {st = st} w T b user n rest le safe at h res =
+        let i = s.index in
+        let b1 = b + term_size i x in let c = b1 + term_size i y in let e1 = b + (term_size i x + term_size i y + 1) in
         let k1 = binary_asks s (Some T) op x y w in
+        let leaves = binary_may_leave s (Some T) op x y in
+        let most = 4 * (coded_size L.constants i x + coded_size L.constants i y + 1) in
         let hx = home_high x hs s (Some T) b c (omega arith) h.1 safe in
-        op_runs (loose_binary op w (Some T)) (4 * (coded_size L.constants s.index x + coded_size L.constants s.index y + 1)) (omega arith) (omega arith) (omega arith)
-        (pair_runs (4 * coded_size L.constants s.index x + 4 * coded_size L.constants s.index y) (omega arith) (omega arith) (omega arith) hx (λ p lo up made. home_apart x hs s (Some T) b c (omega arith) h.1 safe p lo up made)
-        (loose_runs x s k1 T b c n _ (omega arith) safe at h.1 res)
-        (λ t k. sided_by _ _ (loose s k1 (Some T) y m names) (added_number op (Some T) y) (is_fused op k1 (Some T) y) (home L hs s.index b1 y) (part_side L hs s.index (Some T) b1 y) (added_right op s k1 (Some T) y m names) (loose_back x hs s k1 (Some T) b n _ res)
-        (λ r. loose_runs y s k1 T b1 c _ _ (omega arith) (safe_later L hs b b1 (omega arith) safe) (at_kept L fit b b1 (omega arith) safe at k) h.2 r)
-        (λ f r. parts_runs y s op k1 T b1 c _ _ (omega arith) f (safe_later L hs b b1 (omega arith) safe) (at_kept L fit b b1 (omega arith) safe at k) h.2 r)))
-        (λ t u v is js k ex ey. gets D L c c (b + (term_size s.index x + term_size s.index y + 1)) (omega arith) (omega arith) (omega (arith, h.3)) (operation_runs D L fit (right_side L hs s.index op k1 (Some T) b1 y) op (binary_may_leave s (Some T) op x y) w T u v _ _ (k.sized ∙ at.sized) hx (fit.high _ (omega (arith, h.3))) (λ e. and_true (binary_leaves op) _ e) (λ e. (loose_range k1 L hs s names m x T b c u h.1 at.ranged is e, loose_range k1 L hs s names m y T b1 c v h.2 at.ranged js e))
-        (λ e stays. binary_keeps s m names at.ranged T op x y u v (fits_types x L hs s (Some T) b c h.1) (fits_types y L hs s (Some T) b1 c h.2) (loose_value k1 L hs s names m x T b c u h.1 at.ranged is e) (loose_value k1 L hs s names m y T b1 c v h.2 at.ranged js e)
-        (loose_range k1 L hs s names m x T b c u h.1 at.ranged is e) (loose_range k1 L hs s names m y T b1 c v h.2 at.ranged js e) stays) (right_taken op L hs s.index k1 T b1 y) ex ey))
+        let safe1 = safe_later L hs b b1 (omega arith) safe in
+        let vx = loose s k1 (Some T) x m names in let vy = loose s k1 (Some T) y m names in
+        let part = part_side L hs i (Some T) b x in
+        let right = right_side L hs s op k1 (Some T) b1 y in
+        let number = added_number op (Some T) y in
+        let fused = is_fused s op k1 (Some T) y in
+        let whole = loose_code L hs s k1 (Some T) b1 (n + labels i x) y in
+        let parts = parts_code L hs s k1 (Some T) b1 (n + labels i x) y in
+        let ends = binary_settles s (Some T) op x y w in
+        let code = λ (l : Bool). side_code None l (loose_code L hs s k1 (Some T) b n x) (parts_code L hs s k1 (Some T) b n x) (side_code number (not l && fused) whole parts (operator_code (if l then part else right) ends op T (reg_of L c) (if l then home L hs i b1 y else home L hs i b x) rest)) in
+        by_led (λ l. Resolves D (code l) → Gives D L (code l) st rest b e1 (reg_of L c) m most (on_both (loose_binary op w (Some T)) vx vy)) (is_led L hs s op k1 (Some T) b x y)
+        (λ led r.
+        let known = led_is L hs s op k1 (Some T) b x y led in
+        let hy = home_high y hs s (Some T) b1 c (omega arith) h.2 safe1 in
+        let last = operator_code part ends op T (reg_of L c) (home L hs i b1 y) rest in
+        let same : side_code number false whole parts last ≡ whole last = alone_code s op k1 (Some T) x y whole parts last known.alone in
+        subst (λ o. Gives D L (code true) st rest b e1 (reg_of L c) m most o) (on_both-turned (loose_binary op w (Some T)) vx vy)
+        (op_runs (λ v u. loose_binary op w (Some T) u v) most (omega arith) (omega arith) (omega arith)
+        (led_pairs D L fit part (term_size i y) (4 * coded_size L.constants i x + 4 * coded_size L.constants i y) (omega arith) (omega arith) refl (part_high x hs s op k1 T b c known.fused h.1 safe) known.lasts
+        (parts_runs x s op k1 T b c n _ (omega arith) known.fused safe at h.1 r)
+        (λ t k. subst (λ es. Gives D L es t last b1 c (home L hs i b1 y) m (4 * coded_size L.constants i y) vy) (sym same) (loose_runs y s k1 T b1 c _ _ (omega arith) safe1 (at_kept L fit b b1 (omega arith) safe at k) h.2 (subst (λ es. Resolves D es) same (parts_back x hs s k1 (Some T) b n _ r)))))
+        (λ t v u js is k ey ex. gets D L c c e1 (omega arith) (omega arith) (omega (arith, h.3)) (turned_runs D L fit part op leaves w T u v _ _ known.turns (k.sized ∙ at.sized) hy (fit.high _ (omega (arith, h.3))) (λ e. and_true (binary_leaves op) _ e)
+        (λ e. (loose_range k1 L hs s names m x T b c u h.1 at.ranged is e, loose_range k1 L hs s names m y T b1 c v h.2 at.ranged js e)) (operator_keeps L user x y hs s names m op k1 T b u v at.ranged h is js) (part_taken op L hs s k1 T b x known.fused) ex ey))))
+        (λ straight r.
+        op_runs (loose_binary op w (Some T)) most (omega arith) (omega arith) (omega arith)
+        (pair_runs (4 * coded_size L.constants i x + 4 * coded_size L.constants i y) (omega arith) (omega arith) (omega arith) hx (λ p lo up made. home_apart x hs s (Some T) b c (omega arith) h.1 safe p lo up made)
+        (loose_runs x s k1 T b c n _ (omega arith) safe at h.1 r)
+        (λ t k. sided_by whole parts vy number fused (home L hs i b1 y) (part_side L hs i (Some T) b1 y) (added_right op s k1 (Some T) y m names) (loose_back x hs s k1 (Some T) b n _ r)
+        (λ q. loose_runs y s k1 T b1 c _ _ (omega arith) safe1 (at_kept L fit b b1 (omega arith) safe at k) h.2 q)
+        (λ f q. parts_runs y s op k1 T b1 c _ _ (omega arith) f safe1 (at_kept L fit b b1 (omega arith) safe at k) h.2 q)))
+        (λ t u v is js k ex ey. gets D L c c e1 (omega arith) (omega arith) (omega (arith, h.3)) (operation_runs D L fit right op leaves w T u v _ _ (k.sized ∙ at.sized) hx (fit.high _ (omega (arith, h.3))) (λ e. and_true (binary_leaves op) _ e)
+        (λ e. (loose_range k1 L hs s names m x T b c u h.1 at.ranged is e, loose_range k1 L hs s names m y T b1 c v h.2 at.ranged js e)) (operator_keeps L user x y hs s names m op k1 T b u v at.ranged h is js) (right_taken op L hs s k1 T b1 y) ex ey)))
+        res
     loose_runs (Shift left e z) {hs = hs} s {names = names} {m = m} w T b user n rest le safe at h res =
         let k1 = shift_asks s (Some T) left e z w in
         map_runs (loose_shift left z w (Some T)) (4 * (coded_size L.constants s.index e + 1)) (omega arith) (omega arith) (omega arith)
@@ -677,20 +665,22 @@ module _ (D : Laid) (L : Layout) (fit : Assigned L) where
     loose_runs (Not e) s w T b user n rest le safe at h res = absurd h
 
     -- the parts of a right side that stands in the operator's word
-    pub parts_runs : (e : Term) {W : Fixed L} {hs : Homes} (s : Scope) {names : Names} {m : Memory} {st : State} (op : BinaryOp) (w : Extent) (T : Ty) (b user n : ℕ) (rest : List Entry) → b + term_size s.index e ≤ user → is_fused op w (Some T) e ≡ true → AreSafe L b hs → At W hs s.visible names m b st → Fits L hs s (Some T) b user e
+    pub parts_runs : (e : Term) {W : Fixed L} {hs : Homes} (s : Scope) {names : Names} {m : Memory} {st : State} (op : BinaryOp) (w : Extent) (T : Ty) (b user n : ℕ) (rest : List Entry) → b + term_size s.index e ≤ user → is_fused s op w (Some T) e ≡ true → AreSafe L b hs → At W hs s.visible names m b st → Fits L hs s (Some T) b user e
         → Resolves D (parts_code L hs s w (Some T) b n e rest)
         → Sided D L (parts_code L hs s w (Some T) b n e rest) st rest b (b + term_size s.index e) (IsOperand (part_side L hs s.index (Some T) b e)) m (4 * coded_size L.constants s.index e) (loose s w (Some T) e m names)
     parts_runs (Operation binary.Mul x y) {hs = hs} s {names = names} {m = m} op w T b user n rest le f safe at h res =
         let b1 = b + term_size s.index x in let c = b1 + term_size s.index y in
         let k = binary_asks s (Some T) binary.Mul x y w in
-        product_sided w T (b + (term_size s.index x + term_size s.index y + 1)) (4 * (coded_size L.constants s.index x + coded_size L.constants s.index y + 1)) (omega arith) (omega arith) (both_right (takes_product op) (stays w (Some T)) f)
+        product_sided (binary_may_leave s (Some T) binary.Mul x y) w T (b + (term_size s.index x + term_size s.index y + 1)) (4 * (coded_size L.constants s.index x + coded_size L.constants s.index y + 1)) (omega arith) (omega arith) (both_right (takes_product op) (stays (binary_settles s (Some T) binary.Mul x y w) (Some T)) f)
+        (λ u v is js e out. operator_keeps L user x y hs s names m binary.Mul k T b u v at.ranged h is js e out)
         (pair_runs (4 * coded_size L.constants s.index x + 4 * coded_size L.constants s.index y) (omega arith) (omega arith) (omega arith) (home_high x hs s (Some T) b c (omega arith) h.1 safe) (λ p lo up made. home_apart x hs s (Some T) b c (omega arith) h.1 safe p lo up made)
         (loose_runs x s k T b c n _ (omega arith) safe at h.1 res)
         (λ t kept. plain_sided (loose_runs y s k T b1 c _ _ (omega arith) (safe_later L hs b b1 (omega arith) safe) (at_kept L fit b b1 (omega arith) safe at kept) h.2 (loose_back x hs s k (Some T) b n _ res))))
     parts_runs (Shift left e z) {hs = hs} s {names = names} {m = m} op w T b user n rest le f safe at h res =
         let k = shift_asks s (Some T) left e z w in
-        moved_sided left (shift_may_leave s (Some T) left e z) z w T (b + (term_size s.index e + 1)) (4 * (coded_size L.constants s.index e + 1)) (omega arith) (omega arith) (λ q. and_true left _ q) (both_right (takes_shift op) (shift_stays left w (Some T)) f)
+        moved_sided left (shift_may_leave s (Some T) left e z) z w T (b + (term_size s.index e + 1)) (4 * (coded_size L.constants s.index e + 1)) (omega arith) (omega arith) (λ q. and_true left _ q) (both_right (takes_shift op) (stays (shift_settles s (Some T) left e z w) (Some T)) f)
         (λ x is whole. loose_range k L hs s names m e T b _ x h.1 at.ranged is whole)
+        (λ x is whole out. shift_keeps s m names at.ranged T left e z x (fits_types e L hs s (Some T) b _ h.1) (loose_value k L hs s names m e T b _ x h.1 at.ranged is whole) (loose_range k L hs s names m e T b _ x h.1 at.ranged is whole) out)
         (loose_runs e s k T b _ n _ (omega arith) safe at h.1 res)
     parts_runs (Operation binary.Add x y) s op w T b user n rest le f safe at h res = absurd (never (takes_product op) f)
     parts_runs (Operation binary.Sub x y) s op w T b user n rest le f safe at h res = absurd (never (takes_product op) f)
@@ -703,7 +693,12 @@ module _ (D : Laid) (L : Layout) (fit : Assigned L) where
     parts_runs (Variable x) s op w T b user n rest le f safe at h res = absurd cc
     parts_runs (Element a i) s op w T b user n rest le f safe at h res = absurd cc
     parts_runs (Unary o e) s op w T b user n rest le f safe at h res = absurd cc
-    parts_runs (Conversion e t) s op w T b user n rest le f safe at h res = absurd cc
+    parts_runs (Conversion e t) {hs = hs} s {names = names} {m = m} {st = st} op w T b user n rest le f safe at h res =
+        let q = some_type (own s e) h.1 in
+        let k = converted_extent w (own s e) t in
+        let c = b + term_size s.index e in
+        let inner : LooseRuns D L e hs s names m st k b c n rest (own s e) = subst (λ o. LooseRuns D L e hs s names m st k b c n rest o) (sym q.1) (loose_runs e s k q.0 b c n rest (omega arith) safe at) in
+        cast_sided (within_type w t) (fits_at (own s e) t) t (b + (term_size s.index e + 1)) (4 * (coded_size L.constants s.index e + 1)) (omega arith) (omega arith) f (inner h.2 res)
     parts_runs (Choice c x y) s op w T b user n rest le f safe at h res = absurd cc
     parts_runs (Comparison o x y) s op w T b user n rest le f safe at h res = absurd cc
     parts_runs (Both x y) s op w T b user n rest le f safe at h res = absurd cc
@@ -784,10 +779,10 @@ module _ (D : Laid) (L : Layout) (fit : Assigned L) where
 
   -- the right side of an operator
   pub side_runs : (e : Term) {W : Fixed L} {hs : Homes} (s : Scope) {names : Names} {m : Memory} {st : State} (op : BinaryOp) (w : Extent) (T : Ty) (b user n : ℕ) (rest : List Entry) → b + term_size s.index e ≤ user → AreSafe L b hs → At W hs s.visible names m b st → Fits L hs s (Some T) b user e
-      → Resolves D (side_code (added_number op (Some T) e) (is_fused op w (Some T) e) (loose_code L hs s w (Some T) b n e) (parts_code L hs s w (Some T) b n e) rest)
-      → Sided D L (side_code (added_number op (Some T) e) (is_fused op w (Some T) e) (loose_code L hs s w (Some T) b n e) (parts_code L hs s w (Some T) b n e) rest) st rest b (b + term_size s.index e) (IsOperand (right_side L hs s.index op w (Some T) b e)) m (4 * coded_size L.constants s.index e) (loose s w (Some T) e m names)
+      → Resolves D (side_code (added_number op (Some T) e) (is_fused s op w (Some T) e) (loose_code L hs s w (Some T) b n e) (parts_code L hs s w (Some T) b n e) rest)
+      → Sided D L (side_code (added_number op (Some T) e) (is_fused s op w (Some T) e) (loose_code L hs s w (Some T) b n e) (parts_code L hs s w (Some T) b n e) rest) st rest b (b + term_size s.index e) (IsOperand (right_side L hs s op w (Some T) b e)) m (4 * coded_size L.constants s.index e) (loose s w (Some T) e m names)
   side_runs e {hs = hs} s {names = names} {m = m} op w T b user n rest le safe at h res =
-      sided_by _ _ (loose s w (Some T) e m names) (added_number op (Some T) e) (is_fused op w (Some T) e) (home L hs s.index b e) (part_side L hs s.index (Some T) b e) (added_right op s w (Some T) e m names) res
+      sided_by _ _ (loose s w (Some T) e m names) (added_number op (Some T) e) (is_fused s op w (Some T) e) (home L hs s.index b e) (part_side L hs s.index (Some T) b e) (added_right op s w (Some T) e m names) res
       (λ r. loose_runs e s w T b user n rest le safe at h r) (λ f r. parts_runs e s op w T b user n rest le f safe at h r)
 
   -- a value itself

@@ -1,5 +1,5 @@
 -- Each label of an expression is placed once.
-use Rattle.std.proofs.Common.{◌≢◌, ℕ, ◌+◌, ◌<◌, ◌≤◌, Bool, true, false, List, ◌∷◌, Option, Some, None, arith}
+use Rattle.std.proofs.Common.{◌≢◌, ℕ, ◌+◌, ◌<◌, ◌≤◌, ◌&&◌, Bool, true, false, List, ◌∷◌, Option, Some, None, arith}
 use Rattle.std.specs.Prelude.{ℤ, not}
 use Rattle.kernel_tree.specs.declared.ops.Ty.{Ty}
 use Rattle.kernel_tree.specs.declared.ops.UnaryOp.{UnaryOp}
@@ -9,19 +9,17 @@ use Rattle.kernel_tree.specs.Items.{term_size, stream_offset}
 use Rattle.kernel_tree.specs.Wrap.{is_signed}
 use Rattle.kernel_tree.specs.Typing.{Scope, own, index_type, side_type, left}
 use Rattle.kernel_meaning.specs.Operators.{word, wrapped}
-use Rattle.kernel_meaning.specs.TypeValues.{binary_leaves}
 use Rattle.machine_model.specs.InstructionTable.{Listed}
 use Rattle.scalar_values.specs.declared.extent.Extent.{Extent}
-use Rattle.scalar_values.specs.Extents.{Whole, within_type, within, unary_joins, converted_extent, settles}
+use Rattle.scalar_values.specs.Extents.{Whole, within_type, converted_extent}
 use Rattle.scalar_values.specs.Leaving.{unary_asks, binary_asks, shift_asks, unary_settles, binary_settles, shift_settles}
-use Rattle.scalar_words.specs.Operands.{binary_joins}
 use Rattle.label_fix.specs.DraftRun.{Entry, Put, Place}
 use Rattle.label_fix.proofs.LabelsOnce.{Unplaced, Once}
 use Rattle.scalar_words.specs.Layout.{Layout, Homes, reg_of, constant_at}
 use Rattle.scalar_values.specs.ValueRegisters.{home}
 use Rattle.scalar_words.specs.Words.{condition, copy_word, settle_word, word_code, at_type}
 use Rattle.scalar_values.specs.ItemWords.{Side, Number, Register, Product, Moved, zero_test, tested_code, pick_code, placed_code, operator_code, convert_word, index_word, load_code, unary_code, abs_code, shift_code}
-use Rattle.scalar_values.specs.Code.{inner_labels, labels, number_code, signed_side, compared_number, added_number, is_fused, right_side, side_code, parts_code, right_code, flag_condition, choice_code, loose_code, flags_code, jump_code}
+use Rattle.scalar_values.specs.Code.{inner_labels, labels, number_code, signed_side, compared_number, added_number, is_fused, is_led, taken_side, side_code, parts_code, right_code, flag_condition, choice_code, loose_code, flags_code, jump_code}
 use Rattle.scalar_words.proofs.Pieces.{word_put, operation_put, const_put, unplaced_put, once_put}
 use Rattle.kernel_tree.specs.declared.ops.UnaryOp.TheVariants as unary
 
@@ -97,8 +95,9 @@ module _ (L : Layout) (hs : Homes) where
     loose_unplaced (Unary op x) s w want l b n rest h u = loose_unplaced x s (unary_asks s want op x w) want l b n _ h (unary_put (Unplaced l) (unplaced_put l) (unary_settles s want op x w) want op _ _ rest u)
     loose_unplaced (Operation op x y) s w want l b n rest h u =
         let k1 = binary_asks s want op x y w in
-        let v = operator_put (Unplaced l) (unplaced_put l) (right_side L hs s.index op k1 want (b + term_size s.index x) y) (binary_settles s want op x y w) want op _ _ rest u in
-        loose_unplaced x s k1 want l b n _ (λ k. omega arith) (side_unplaced l (added_number op want y) (is_fused op k1 want y) _ _ _ (loose_unplaced y s k1 want l _ _ _ (λ k. omega arith) v) (parts_unplaced y s k1 want l _ _ _ (λ k. omega arith) v) v)
+        let v = operator_put (Unplaced l) (unplaced_put l) (taken_side L hs s op k1 want b x y) (binary_settles s want op x y w) want op _ _ rest u in
+        let after = side_unplaced l (added_number op want y) (not (is_led L hs s op k1 want b x y) && is_fused s op k1 want y) _ _ _ (loose_unplaced y s k1 want l _ _ _ (λ k. omega arith) v) (parts_unplaced y s k1 want l _ _ _ (λ k. omega arith) v) v in
+        side_unplaced l None (is_led L hs s op k1 want b x y) _ _ _ (loose_unplaced x s k1 want l b n _ (λ k. omega arith) after) (parts_unplaced x s k1 want l b n _ (λ k. omega arith) after) after
     loose_unplaced (Shift left x z) s w want l b n rest h u = loose_unplaced x s (shift_asks s want left x z w) want l b n _ h (shift_put (Unplaced l) (unplaced_put l) (shift_settles s want left x z w) want left z _ _ rest u)
     loose_unplaced (Conversion x t) s w want l b n rest h u = loose_unplaced x s (converted_extent w (own s x) t) (own s x) l b n _ h (cast_put (Unplaced l) (unplaced_put l) (within_type w t) (own s x) t _ _ rest u)
     loose_unplaced (Choice c x y) s w want l b n rest h u =
@@ -116,7 +115,7 @@ module _ (L : Layout) (hs : Homes) where
     parts_unplaced (Variable x) s w want l b n rest h u = u
     parts_unplaced (Element a i) s w want l b n rest h u = u
     parts_unplaced (Unary op e) s w want l b n rest h u = u
-    parts_unplaced (Conversion e t) s w want l b n rest h u = u
+    parts_unplaced (Conversion e t) s w want l b n rest h u = loose_unplaced e s (converted_extent w (own s e) t) (own s e) l b n rest h u
     parts_unplaced (Choice c x y) s w want l b n rest h u = u
     parts_unplaced (Comparison op x y) s w want l b n rest h u = u
     parts_unplaced (Both x y) s w want l b n rest h u = u
@@ -169,6 +168,11 @@ side_once (Some v) fused whole parts rest f g h = h
 side_once None true whole parts rest f g h = g
 side_once None false whole parts rest f g h = f
 
+-- the code of a left side
+led_once : (led : Bool) (whole parts : List Entry → List Entry) (rest : List Entry) (lo hi : ℕ) → Fresh lo hi rest → Once rest → (Fresh lo hi rest → Once rest → Once (whole rest)) → (Fresh lo hi rest → Once rest → Once (parts rest)) → Once (side_code None led whole parts rest)
+led_once true whole parts rest lo hi f h w p = p f h
+led_once false whole parts rest lo hi f h w p = w f h
+
 right_once : (number : Option ℕ) (inner : List Entry → List Entry) (rest : List Entry) → Once (inner rest) → Once rest → Once (right_code number inner rest)
 right_once (Some v) inner rest f h = h
 right_once None inner rest f h = f
@@ -204,12 +208,14 @@ module _ (L : Layout) (hs : Homes) where
         let number = added_number op want y in
         let ends = binary_settles s want op x y w in
         let k1 = binary_asks s want op x y w in
-        let fused = is_fused op k1 want y in
-        let side = right_side L hs s.index op k1 want (b + term_size s.index x) y in
+        let fused = not (is_led L hs s op k1 want b x y) && is_fused s op k1 want y in
+        let side = taken_side L hs s op k1 want b x y in
         let once = operator_put Once once_put side ends want op _ _ rest h in
-        loose_once x s k1 want b n _ (λ l lo hi. let v = operator_put (Unplaced l) (unplaced_put l) side ends want op _ _ rest (f l lo (omega arith)) in side_unplaced l number fused _ _ _ (loose_unplaced L hs y s k1 want l _ _ _ (λ k. omega arith) v) (parts_unplaced L hs y s k1 want l _ _ _ (λ k. omega arith) v) v)
+        led_once (is_led L hs s op k1 want b x y) _ _ _ n (n + labels s.index x)
+        (λ l lo hi. let v = operator_put (Unplaced l) (unplaced_put l) side ends want op _ _ rest (f l lo (omega arith)) in side_unplaced l number fused _ _ _ (loose_unplaced L hs y s k1 want l _ _ _ (λ k. omega arith) v) (parts_unplaced L hs y s k1 want l _ _ _ (λ k. omega arith) v) v)
         (side_once number fused _ _ _ (loose_once y s k1 want _ _ _ (λ l lo hi. operator_put (Unplaced l) (unplaced_put l) side ends want op _ _ rest (f l (omega arith) (omega arith))) once)
         (parts_once y s k1 want _ _ _ (λ l lo hi. operator_put (Unplaced l) (unplaced_put l) side ends want op _ _ rest (f l (omega arith) (omega arith))) once) once)
+        (λ g o. loose_once x s k1 want b n _ g o) (λ g o. parts_once x s k1 want b n _ g o)
     loose_once (Shift left x z) s w want b n rest f h = loose_once x s (shift_asks s want left x z w) want b n _ (λ l lo hi. shift_put (Unplaced l) (unplaced_put l) (shift_settles s want left x z w) want left z _ _ rest (f l lo hi)) (shift_put Once once_put (shift_settles s want left x z w) want left z _ _ rest h)
     loose_once (Conversion x t) s w want b n rest f h = loose_once x s (converted_extent w (own s x) t) (own s x) b n _ (λ l lo hi. cast_put (Unplaced l) (unplaced_put l) (within_type w t) (own s x) t _ _ rest (f l lo hi)) (cast_put Once once_put (within_type w t) (own s x) t _ _ rest h)
     loose_once (Choice c x y) s w want b n rest f h =
@@ -231,7 +237,7 @@ module _ (L : Layout) (hs : Homes) where
     parts_once (Variable x) s w want b n rest f h = h
     parts_once (Element a i) s w want b n rest f h = h
     parts_once (Unary op e) s w want b n rest f h = h
-    parts_once (Conversion e t) s w want b n rest f h = h
+    parts_once (Conversion e t) s w want b n rest f h = loose_once e s (converted_extent w (own s e) t) (own s e) b n rest f h
     parts_once (Choice c x y) s w want b n rest f h = h
     parts_once (Comparison op x y) s w want b n rest f h = h
     parts_once (Both x y) s w want b n rest f h = h

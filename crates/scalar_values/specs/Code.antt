@@ -1,5 +1,5 @@
 -- The code of expressions, before the entries that follow it. b is the first item, n the next label.
-use Rattle.std.specs.Prelude.{ℕ, ◌+◌, ℤ, Bool, true, false, not, ◌&&◌, ◌||◌, List, [], ◌∷◌, Option, Some, None, option_and_then, if◌then◌else◌}
+use Rattle.std.specs.Prelude.{ℕ, zero, suc, ◌+◌, ℤ, Bool, true, false, not, ◌&&◌, ◌||◌, List, [], ◌∷◌, Option, Some, None, is_none, option_and_then, nat_eq, nat_lt, if◌then◌else◌}
 use Rattle.kernel_tree.specs.declared.ops.Ty.{Ty}
 use Rattle.kernel_tree.specs.declared.ops.BinaryOp.{BinaryOp}
 use Rattle.kernel_tree.specs.declared.ops.BinaryOp.TheVariants as binary
@@ -10,10 +10,10 @@ use Rattle.kernel_tree.specs.Wrap.{is_signed}
 use Rattle.kernel_tree.specs.Typing.{Scope, lookup, own, element_type, index_type, side_type}
 use Rattle.kernel_meaning.specs.Operators.{word, wrapped, shift_count}
 use Rattle.label_fix.specs.DraftRun.{Entry, Put, ins}
-use Rattle.scalar_words.specs.Layout.{Layout, Homes, reg_of, constant_at, register_at}
+use Rattle.scalar_words.specs.Layout.{Layout, Homes, reg_of, last_use_at, constant_at, register_at}
 use Rattle.scalar_values.specs.ValueRegisters.{home}
 use Rattle.scalar_values.specs.declared.extent.Extent.{Extent}
-use Rattle.scalar_values.specs.Extents.{Whole, within_type, converted_extent}
+use Rattle.scalar_values.specs.Extents.{Whole, within_type, fits_at, converted_extent}
 use Rattle.scalar_values.specs.Leaving.{unary_asks, binary_asks, shift_asks, unary_settles, binary_settles, shift_settles}
 use Rattle.scalar_words.specs.Words.{const_code, word_code, condition, is_narrow, at_type}
 use Rattle.scalar_values.specs.ItemWords.{Side, Number, Register, Product, Moved, shift_kind, convert_word, index_word, index_register, load_code, unary_code, shift_code, immediate, held_addend, operator_code, compare_word, branch_code, pick_code, placed_code}
@@ -88,24 +88,27 @@ abbrev pub is_product : BinaryOp → Bool
 is_product binary.Mul = true
 is_product _ = false
 
--- a result of which so much is asked for, and which its operator may leave in another form than the extended one, is not extended
-abbrev pub stays : Extent → Option Ty → Bool
-stays w None = false
-stays w (Some t) = within_type w t || not (is_narrow t)
+-- a result is not extended, by whether it would be at types that are narrower than 64 bits
+abbrev pub stays : (ends : Bool) → Option Ty → Bool
+stays ends None = false
+stays ends (Some t) = not (ends && is_narrow t)
 
-abbrev pub shift_stays : Bool → Extent → Option Ty → Bool
-shift_stays true w want = stays w want
-shift_stays false w want = true
+-- the right side of an operator, of which so much is asked for, stands in its word: a product or a shift, or the operand of a cast that
+-- is no word, as no more is asked of it than its type has or its type has each value of the operand's
+abbrev pub is_fused : Scope → BinaryOp → Extent → Option Ty → Term → Bool
+is_fused s op w want (Operation o p q) = takes_product op && (is_product o && stays (binary_settles s want o p q w) want)
+is_fused s op w want (Shift left e z) = takes_shift op && stays (shift_settles s want left e z w) want
+is_fused s op w want (Conversion e t) = within_type w t || fits_at (own s e) t
+is_fused s op w want _ = false
 
--- the right side of an operator, of which so much is asked for, stands in its word
-abbrev pub is_fused : BinaryOp → Extent → Option Ty → Term → Bool
-is_fused op w want (Operation o p q) = takes_product op && (is_product o && stays w want)
-is_fused op w want (Shift left e z) = takes_shift op && shift_stays left w want
-is_fused op w want _ = false
+abbrev pub IsShift : Term → Type 0
+IsShift (Shift left e z) = Unit {0}
+IsShift _ = ⊥
 
 abbrev pub HasParts : Bool → Term → Type 0
 HasParts true (Operation o p q) = Unit {0}
 HasParts true (Shift left e z) = Unit {0}
+HasParts true (Conversion e t) = Unit {0}
 HasParts true _ = ⊥
 HasParts false e = Unit {0}
 
@@ -113,6 +116,7 @@ HasParts false e = Unit {0}
 abbrev pub part_side : Layout → Homes → Option (List ℕ) → Option Ty → (b : ℕ) → Term → Side
 part_side L homes i want b (Operation o p q) = Product (home L homes i b p) (home L homes i (b + term_size i p) q)
 part_side L homes i want b (Shift left e z) = Moved (shift_kind left (signed_side want)) (shift_count z) (home L homes i b e)
+part_side L homes i want b (Conversion e t) = Register (home L homes i b e)
 part_side L homes i want b _ = Register 31
 
 abbrev pub side_by : Option ℕ → (fused : Bool) → (r : ℕ) → Side → Side
@@ -120,8 +124,8 @@ side_by (Some v) fused r part = Number v
 side_by None true r part = part
 side_by None false r part = Register r
 
-abbrev pub right_side : Layout → Homes → Option (List ℕ) → BinaryOp → Extent → Option Ty → (b : ℕ) → Term → Side
-right_side L homes i op w want b y = side_by (added_number op want y) (is_fused op w want y) (home L homes i b y) (part_side L homes i want b y)
+abbrev pub right_side : Layout → Homes → Scope → BinaryOp → Extent → Option Ty → (b : ℕ) → Term → Side
+right_side L homes s op w want b y = side_by (added_number op want y) (is_fused s op w want y) (home L homes s.index b y) (part_side L homes s.index want b y)
 
 -- the code of a right side: none where the word holds it as a number, that of its parts where it stands in the word, and else
 -- its own
@@ -129,6 +133,53 @@ abbrev pub side_code : Option ℕ → (fused : Bool) → (whole parts : List Ent
 side_code (Some v) fused whole parts rest = rest
 side_code None true whole parts rest = parts rest
 side_code None false whole parts rest = whole rest
+
+-- ---- left sides that stand in the word of an operator
+
+-- the sides may change places
+abbrev pub is_commutative : BinaryOp → Bool
+is_commutative binary.Sub = false
+is_commutative _ = true
+
+-- a right side that makes way for a left one: a cast, and of two casts the one that is of no name
+abbrev pub is_cast : Term → Bool
+is_cast (Conversion e t) = true
+is_cast _ = false
+
+abbrev pub is_name : Term → Bool
+is_name (Variable x) = true
+is_name _ = false
+
+abbrev pub makes_way : (x y : Term) → Bool
+makes_way x (Conversion e t) = not (is_cast x && is_name e)
+makes_way x _ = false
+
+-- nothing of a right side need stand in the word
+abbrev pub stands_alone : Scope → BinaryOp → Extent → Option Ty → (x y : Term) → Bool
+stands_alone s op w want x y = is_none (added_number op want y) && (makes_way x y || not (is_fused s op w want y))
+
+-- no item of n from b on is made in register r
+abbrev pub is_spared : Layout → (b n r : ℕ) → Bool
+is_spared L b zero r = true
+is_spared L b (suc n) r = not (nat_lt b (last_use_at L b) && nat_eq (reg_of L b) r) && is_spared L (b + 1) n r
+
+-- nor in one that a word takes
+abbrev pub side_lasts : Layout → (b n : ℕ) → Side → Bool
+side_lasts L b n (Number v) = true
+side_lasts L b n (Register r) = is_spared L b n r
+side_lasts L b n (Product p q) = is_spared L b n p && is_spared L b n q
+side_lasts L b n (Moved kind k r) = is_spared L b n r
+
+-- the left side stands in the word: the right side does not, and its code leaves alone what the word takes
+unfoldable pub is_led : Layout → Homes → Scope → BinaryOp → Extent → Option Ty → (b : ℕ) → Term → Term → Bool
+is_led L homes s op w want b x y = (is_commutative op && is_fused s op w want x) && (stands_alone s op w want x y && side_lasts L (b + term_size s.index x) (term_size s.index y) (part_side L homes s.index want b x))
+
+-- what the word takes of one side, and the register of the other
+abbrev pub taken_side : Layout → Homes → Scope → BinaryOp → Extent → Option Ty → (b : ℕ) → Term → Term → Side
+taken_side L homes s op w want b x y = if is_led L homes s op w want b x y then part_side L homes s.index want b x else right_side L homes s op w want (b + term_size s.index x) y
+
+abbrev pub other_home : Layout → Homes → Scope → BinaryOp → Extent → Option Ty → (b : ℕ) → Term → Term → ℕ
+other_home L homes s op w want b x y = if is_led L homes s op w want b x y then home L homes s.index (b + term_size s.index x) y else home L homes s.index b x
 
 -- no code for a right side that a word holds, and none for a literal whose number a register holds
 abbrev pub right_code : Option ℕ → (List Entry → List Entry) → List Entry → List Entry
@@ -161,10 +212,13 @@ abbrev mutual
   loose_code L homes scope w want b n (Unary op e) rest =
       loose_code L homes scope (unary_asks scope want op e w) want b n e (at_type want (λ t. unary_code (unary_settles scope want op e w) op t (reg_of L (b + term_size scope.index e)) (home L homes scope.index b e) rest) rest)
   loose_code L homes scope w want b n (Operation op x y) rest =
-      loose_code L homes scope (binary_asks scope want op x y w) want b n x (side_code (added_number op want y) (is_fused op (binary_asks scope want op x y w) want y)
+      side_code None (is_led L homes scope op (binary_asks scope want op x y w) want b x y)
+      (loose_code L homes scope (binary_asks scope want op x y w) want b n x)
+      (parts_code L homes scope (binary_asks scope want op x y w) want b n x)
+      (side_code (added_number op want y) (not (is_led L homes scope op (binary_asks scope want op x y w) want b x y) && is_fused scope op (binary_asks scope want op x y w) want y)
       (loose_code L homes scope (binary_asks scope want op x y w) want (b + term_size scope.index x) (n + labels scope.index x) y)
       (parts_code L homes scope (binary_asks scope want op x y w) want (b + term_size scope.index x) (n + labels scope.index x) y)
-      (at_type want (λ t. operator_code (right_side L homes scope.index op (binary_asks scope want op x y w) want (b + term_size scope.index x) y) (binary_settles scope want op x y w) op t (reg_of L (b + term_size scope.index x + term_size scope.index y)) (home L homes scope.index b x) rest) rest))
+      (at_type want (λ t. operator_code (taken_side L homes scope op (binary_asks scope want op x y w) want b x y) (binary_settles scope want op x y w) op t (reg_of L (b + term_size scope.index x + term_size scope.index y)) (other_home L homes scope op (binary_asks scope want op x y w) want b x y) rest) rest))
   loose_code L homes scope w want b n (Shift left e k) rest =
       loose_code L homes scope (shift_asks scope want left e k w) want b n e (at_type want (λ t. shift_code (shift_settles scope want left e k w) left k t (reg_of L (b + term_size scope.index e)) (home L homes scope.index b e) rest) rest)
   loose_code L homes scope w want b n (Conversion e t) rest =
@@ -186,6 +240,7 @@ abbrev mutual
   parts_code L homes scope w want b n (Operation op p q) rest =
       loose_code L homes scope (binary_asks scope want op p q w) want b n p (loose_code L homes scope (binary_asks scope want op p q w) want (b + term_size scope.index p) (n + labels scope.index p) q rest)
   parts_code L homes scope w want b n (Shift left e z) rest = loose_code L homes scope (shift_asks scope want left e z w) want b n e rest
+  parts_code L homes scope w want b n (Conversion e t) rest = loose_code L homes scope (converted_extent w (own scope e) t) (own scope e) b n e rest
   parts_code L homes scope w want b n _ rest = rest
 
   -- a comparison, whose truth is in the flags
@@ -215,6 +270,12 @@ value_code L homes scope want b n e rest = loose_code L homes scope Whole want b
 abbrev pub one_of_code : Layout → Homes → Scope → (b n : ℕ) → Term → (p q : ℕ) → List Entry → List Entry
 one_of_code L homes scope b n c p q rest =
     choice_code (flag_condition scope c) (flags_code L homes scope b (n + 2) c) (jump_code L homes scope false n b (n + 2) c) (reg_of L (b + term_size scope.index c)) p q n rest
+
+-- both sides of an operator, of which so much is asked for
+abbrev pub sides_code : Layout → Homes → Scope → Extent → Option Ty → (b n : ℕ) → BinaryOp → (x y : Term) → List Entry → List Entry
+sides_code L homes scope w want b n op x y rest =
+    side_code None (is_led L homes scope op w want b x y) (loose_code L homes scope w want b n x) (parts_code L homes scope w want b n x)
+    (side_code (added_number op want y) (not (is_led L homes scope op w want b x y) && is_fused scope op w want y) (loose_code L homes scope w want (b + term_size scope.index x) (n + labels scope.index x) y) (parts_code L homes scope w want (b + term_size scope.index x) (n + labels scope.index x) y) rest)
 
 -- an index, as a part of a read
 abbrev pub index_labels : Option (List ℕ) → Term → ℕ

@@ -16,13 +16,14 @@ ghost use Rattle.scalar_values.specs.Sides.{side_view};
 use crate::extent::{
     Extent, asked_extent, binary_joins, converted_extent, settles, unary_joins, within, within_type,
 };
-use crate::fusion::is_fused;
-use crate::instructions::{added_number, compare_word, compared_number, index_word, shift_count};
-use crate::leaving::{binary_may_leave, shift_may_leave, unary_may_leave};
+use crate::fusion::{is_fused, is_led, part_side};
+use crate::instructions::{added_number, compare_word, compared_number, index_word};
+use crate::leaving::{binary_asks, binary_may_leave, shift_asks, shift_may_leave, unary_may_leave};
 use crate::operations::{
-    emit_branch, emit_chosen, emit_load, emit_offset, emit_pick, emit_placed, signed_side,
-    want_cast, want_operator, want_shift, want_unary,
+    emit_branch, emit_chosen, emit_load, emit_offset, emit_pick, emit_placed, want_cast,
+    want_operator, want_shift, want_unary,
 };
+use crate::registers::{take, take_held, take_literal};
 use crate::side::Side;
 use a64_code::Reg;
 use kernel_meaning::{word, wrapped};
@@ -33,27 +34,6 @@ use scalar_words::operations::emit_const;
 use scalar_words::places::Places;
 use scalar_words::{Home, register_at};
 use std::alloc::AllocError;
-
-// The register of an item's value, after which the next item stands.
-fn take(places: &Places, item: &mut usize) -> Reg
-    requires { item.old < 2 ^ 32 }
-    ensures register { result.number ≡ layout.reg_of places.now item.old }
-    ensures item { item.new ≡ item.old + 1 }
-{
-    let r = places.reg(*item);
-    *item += 1;
-    r
-}
-
-// The register in which a name is held, after which the next item stands.
-fn take_held(homes: &[Home], name: &Name, item: &mut usize) -> Reg
-    requires { item.old < 2 ^ 32 }
-    ensures register { result.number ≡ layout.register_at (homes_of homes.now) (name_of name.now) }
-    ensures item { item.new ≡ item.old + 1 }
-{
-    *item += 1;
-    register_at(homes, name)
-}
 
 // A literal, wrapped to the type that is wanted, into the register of its item, where no register holds it.
 fn emit_literal(
@@ -77,63 +57,6 @@ fn emit_literal(
             Ok(own)
         }
     }
-}
-
-// The register in which a literal stands, after which the next item stands.
-fn take_number(places: &Places, value: i128, item: &mut usize) -> Reg
-    requires { item.old < 2 ^ 32 }
-    ensures register { result.number ≡ placed.literal_home places.now item.old value }
-    ensures item { item.new ≡ item.old + 1 }
-{
-    let own = take(places, item);
-    match places.constant(value) {
-        Some(held) => held,
-        None => own,
-    }
-}
-
-// The same of an expression that is a literal.
-fn take_literal(
-    places: &Places,
-    homes: &[Home],
-    scope: &Scope,
-    expr: &Expr,
-    item: &mut usize,
-) -> Reg
-    requires literal { code.IsLiteral (literal_value (term_of expr.now)) }
-    requires fits { item.old < 2 ^ 32 }
-    ensures register { result.number
-        ≡ placed.home places.now (homes_of homes.now) (scope_of scope.now).index item.old (term_of expr.now) }
-    ensures item { item.new ≡ item.old + 1 }
-{
-    match expr {
-        Expr::Lit(value) => take_number(places, *value, item),
-        _ => unreachable!(),
-    }
-}
-
-/// The code of an expression of which a type is wanted, and the register of its value.
-pub fn emit_value(
-    draft: &mut Draft,
-    places: &Places,
-    homes: &[Home],
-    scope: &Scope,
-    want: Option<Ty>,
-    expr: &Expr,
-    item: &mut usize,
-) -> Result<Reg, AllocError>
-    requires kind { IsValue (term_of expr.now) }
-    requires fits { item.old + term_size (scope_of scope.now).index (term_of expr.now) < 2 ^ 32 }
-    ensures register { IfOk result (λ r. r.number
-        ≡ placed.home places.now (homes_of homes.now) (scope_of scope.now).index item.old (term_of expr.now)) }
-    ensures item { OnOk result (item.new ≡ item.old + term_size (scope_of scope.now).index (term_of expr.now)) }
-    ensures labels { OnOk result (draft.new.labels
-        ≡ draft.old.labels + code.labels (scope_of scope.now).index (term_of expr.now)) }
-    ensures code { OnOk result (Appends draft.old draft.new
-        (code.value_code places.now (homes_of homes.now) (scope_of scope.now) want item.old draft.old.labels
-        (term_of expr.now))) }
-{
-    emit_loose(draft, places, homes, scope, Extent::Whole, want, expr, item)
 }
 
 /// The code of an expression of which a type is wanted and so much is asked for, and the register of its value.
@@ -165,22 +88,7 @@ pub fn emit_loose(
         Expr::Unary { op, arg } => emit_one(
             draft, places, homes, scope, extent, want, *op, arg, item,
         ),
-        Expr::Shift {
-            left_shift,
-            arg,
-            count,
-        } => emit_moved(
-            draft,
-            places,
-            homes,
-            scope,
-            extent,
-            want,
-            *left_shift,
-            arg,
-            *count,
-            item,
-        ),
+        Expr::Shift { .. } => emit_moved(draft, places, homes, scope, extent, want, expr, item),
         Expr::Cast { arg, ty } => emit_converted(
             draft, places, homes, scope, extent, arg, *ty, item,
         ),
@@ -213,8 +121,10 @@ fn emit_one(
     requires kind { IsValue (term_of arg.now) }
     requires fits { item.old + term_size (scope_of scope.now).index (Unary op (term_of arg.now)) < 2 ^ 32 }
     ensures register { IfOk result (λ r. r.number
-        ≡ placed.home places.now (homes_of homes.now) (scope_of scope.now).index item.old (Unary op (term_of arg.now))) }
-    ensures item { OnOk result (item.new ≡ item.old + term_size (scope_of scope.now).index (Unary op (term_of arg.now))) }
+        ≡ placed.home places.now (homes_of homes.now) (scope_of scope.now).index item.old
+        (Unary op (term_of arg.now))) }
+    ensures item { OnOk result (item.new
+        ≡ item.old + term_size (scope_of scope.now).index (Unary op (term_of arg.now))) }
     ensures labels { OnOk result (draft.new.labels
         ≡ draft.old.labels + code.labels (scope_of scope.now).index (Unary op (term_of arg.now))) }
     ensures code { OnOk result (Appends draft.old draft.new
@@ -239,29 +149,37 @@ fn emit_moved(
     scope: &Scope,
     extent: Extent,
     want: Option<Ty>,
-    left_shift: bool,
-    arg: &Expr,
-    count: i128,
+    expr: &Expr,
     item: &mut usize,
 ) -> Result<Reg, AllocError>
-    requires kind { IsValue (term_of arg.now) }
-    requires fits { item.old + term_size (scope_of scope.now).index (Shift left_shift (term_of arg.now) count) < 2 ^ 32 }
+    requires kind { IsValue (term_of expr.now) }
+    requires shift { code.IsShift (term_of expr.now) }
+    requires fits { item.old + term_size (scope_of scope.now).index (term_of expr.now) < 2 ^ 32 }
     ensures register { IfOk result (λ r. r.number
-        ≡ placed.home places.now (homes_of homes.now) (scope_of scope.now).index item.old (Shift left_shift (term_of arg.now) count)) }
-    ensures item { OnOk result (item.new ≡ item.old + term_size (scope_of scope.now).index (Shift left_shift (term_of arg.now) count)) }
+        ≡ placed.home places.now (homes_of homes.now) (scope_of scope.now).index item.old (term_of expr.now)) }
+    ensures item { OnOk result (item.new ≡ item.old + term_size (scope_of scope.now).index (term_of expr.now)) }
     ensures labels { OnOk result (draft.new.labels
-        ≡ draft.old.labels + code.labels (scope_of scope.now).index (Shift left_shift (term_of arg.now) count)) }
+        ≡ draft.old.labels + code.labels (scope_of scope.now).index (term_of expr.now)) }
     ensures code { OnOk result (Appends draft.old draft.new
         (code.loose_code places.now (homes_of homes.now) (scope_of scope.now) extent want item.old draft.old.labels
-        (Shift left_shift (term_of arg.now) count))) }
+        (term_of expr.now))) }
 {
-    let may_leave = shift_may_leave(scope, want, left_shift, arg, count);
-    let asked = asked_extent(left_shift, may_leave, extent, want);
-    let a = emit_loose(draft, places, homes, scope, asked, want, arg, item)?;
-    let r = take(places, item);
-    let leaves = settles(within(extent, want), left_shift, may_leave);
-    want_shift(draft, leaves, left_shift, count, want, r, a)?;
-    Ok(r)
+    match expr {
+        Expr::Shift {
+            left_shift,
+            arg,
+            count,
+        } => {
+            let may_leave = shift_may_leave(scope, want, *left_shift, arg, *count);
+            let asked = asked_extent(*left_shift, may_leave, extent, want);
+            let a = emit_loose(draft, places, homes, scope, asked, want, arg, item)?;
+            let r = take(places, item);
+            let leaves = settles(within(extent, want), *left_shift, may_leave);
+            want_shift(draft, leaves, *left_shift, *count, want, r, a)?;
+            Ok(r)
+        }
+        _ => unreachable!(),
+    }
 }
 
 // A cast, whose operand is of its own type.
@@ -279,8 +197,10 @@ fn emit_converted(
     requires kind { IsValue (term_of arg.now) }
     requires fits { item.old + term_size (scope_of scope.now).index (Conversion (term_of arg.now) ty) < 2 ^ 32 }
     ensures register { IfOk result (λ r. r.number
-        ≡ placed.home places.now (homes_of homes.now) (scope_of scope.now).index item.old (Conversion (term_of arg.now) ty)) }
-    ensures item { OnOk result (item.new ≡ item.old + term_size (scope_of scope.now).index (Conversion (term_of arg.now) ty)) }
+        ≡ placed.home places.now (homes_of homes.now) (scope_of scope.now).index item.old
+        (Conversion (term_of arg.now) ty)) }
+    ensures item { OnOk result (item.new
+        ≡ item.old + term_size (scope_of scope.now).index (Conversion (term_of arg.now) ty)) }
     ensures labels { OnOk result (draft.new.labels
         ≡ draft.old.labels + code.labels (scope_of scope.now).index (Conversion (term_of arg.now) ty)) }
     ensures code { OnOk result (Appends draft.old draft.new
@@ -327,12 +247,56 @@ fn emit_two(
 {
     let may_leave = binary_may_leave(scope, want, op, left, right);
     let asked = asked_extent(binary_joins(op), may_leave, extent, want);
-    let a = emit_loose(draft, places, homes, scope, asked, want, left, item)?;
-    let side = emit_side(draft, places, homes, scope, op, asked, want, right, item)?;
+    let sides = emit_sides(
+        draft, places, homes, scope, op, asked, want, left, right, item,
+    )?;
     let r = take(places, item);
     let leaves = settles(within(extent, want), binary_joins(op), may_leave);
-    want_operator(draft, op, side, leaves, want, r, a)?;
+    want_operator(draft, op, sides.0, leaves, want, r, sides.1)?;
     Ok(r)
+}
+
+// Both sides of an operator, of which so much is asked for; answers what its word takes of one, and the register of the
+// other.
+#[cycle(terms)]
+fn emit_sides(
+    draft: &mut Draft,
+    places: &Places,
+    homes: &[Home],
+    scope: &Scope,
+    op: BinaryOp,
+    extent: Extent,
+    want: Option<Ty>,
+    left: &Expr,
+    right: &Expr,
+    item: &mut usize,
+) -> Result<(Side, Reg), AllocError>
+    requires left { IsValue (term_of left.now) }
+    requires right { IsValue (term_of right.now) }
+    requires fits { item.old + term_size (scope_of scope.now).index (Operation op (term_of left.now)
+        (term_of right.now)) < 2 ^ 32 }
+    ensures side { IfOk result (λ r. side_view r.0 ≡ code.taken_side places.now (homes_of homes.now)
+        (scope_of scope.now) op extent want item.old (term_of left.now) (term_of right.now)) }
+    ensures other { IfOk result (λ r. r.1.number ≡ code.other_home places.now (homes_of homes.now)
+        (scope_of scope.now) op extent want item.old (term_of left.now) (term_of right.now)) }
+    ensures item { OnOk result (item.new ≡ item.old + term_size (scope_of scope.now).index (term_of left.now)
+        + term_size (scope_of scope.now).index (term_of right.now)) }
+    ensures labels { OnOk result (draft.new.labels
+        ≡ draft.old.labels + code.labels (scope_of scope.now).index (Operation op (term_of left.now)
+        (term_of right.now))) }
+    ensures code { OnOk result (Appends draft.old draft.new
+        (code.sides_code places.now (homes_of homes.now) (scope_of scope.now) extent want item.old draft.old.labels op
+        (term_of left.now) (term_of right.now))) }
+{
+    if is_led(places, homes, scope, op, extent, want, left, right, *item) {
+        let side = emit_parts(draft, places, homes, scope, extent, want, left, item)?;
+        let r = emit_loose(draft, places, homes, scope, extent, want, right, item)?;
+        Ok((side, r))
+    } else {
+        let r = emit_loose(draft, places, homes, scope, extent, want, left, item)?;
+        let side = emit_side(draft, places, homes, scope, op, extent, want, right, item)?;
+        Ok((side, r))
+    }
 }
 
 /// The right side of an operator, of which so much is asked for; answers what the operator's word takes of it.
@@ -351,18 +315,19 @@ pub fn emit_side(
     requires kind { IsValue (term_of expr.now) }
     requires fits { item.old + term_size (scope_of scope.now).index (term_of expr.now) < 2 ^ 32 }
     ensures side { IfOk result (λ s. side_view s ≡ code.right_side places.now (homes_of homes.now)
-        (scope_of scope.now).index op extent want item.old (term_of expr.now)) }
+        (scope_of scope.now) op extent want item.old (term_of expr.now)) }
     ensures item { OnOk result (item.new ≡ item.old + term_size (scope_of scope.now).index (term_of expr.now)) }
     ensures labels { OnOk result (draft.new.labels
         ≡ draft.old.labels + code.labels (scope_of scope.now).index (term_of expr.now)) }
     ensures code { OnOk result (Appends draft.old draft.new
-        (code.side_code (code.added_number op want (term_of expr.now)) (code.is_fused op extent want (term_of expr.now))
+        (code.side_code (code.added_number op want (term_of expr.now)) (code.is_fused (scope_of scope.now) op extent want
+        (term_of expr.now))
         (code.loose_code places.now (homes_of homes.now) (scope_of scope.now) extent want item.old draft.old.labels
         (term_of expr.now))
         (code.parts_code places.now (homes_of homes.now) (scope_of scope.now) extent want item.old draft.old.labels
         (term_of expr.now)))) }
 {
-    let fused = is_fused(op, extent, want, expr);
+    let fused = is_fused(scope, op, extent, want, expr);
     match added_number(op, want, expr) {
         Some(number) => {
             *item += 1;
@@ -404,33 +369,30 @@ fn emit_parts(
         (code.parts_code places.now (homes_of homes.now) (scope_of scope.now) extent want item.old draft.old.labels
         (term_of expr.now))) }
 {
+    let side = part_side(places, homes, scope, want, expr, *item);
     match expr {
         Expr::Binary { op, left, right } => {
-            let may_leave = binary_may_leave(scope, want, *op, left, right);
-            let asked = asked_extent(binary_joins(*op), may_leave, extent, want);
-            let p = emit_loose(draft, places, homes, scope, asked, want, left, item)?;
-            let q = emit_loose(draft, places, homes, scope, asked, want, right, item)?;
-            *item += 1;
-            Ok(Side::Product(p, q))
+            let asked = binary_asks(scope, want, *op, left, right, extent);
+            emit_loose(draft, places, homes, scope, asked, want, left, item)?;
+            emit_loose(draft, places, homes, scope, asked, want, right, item)?;
         }
         Expr::Shift {
             left_shift,
             arg,
             count,
         } => {
-            let may_leave = shift_may_leave(scope, want, *left_shift, arg, *count);
-            let asked = asked_extent(*left_shift, may_leave, extent, want);
-            let register = emit_loose(draft, places, homes, scope, asked, want, arg, item)?;
-            *item += 1;
-            Ok(Side::Moved {
-                left: *left_shift,
-                signed: signed_side(want),
-                count: shift_count(*count),
-                register,
-            })
+            let asked = shift_asks(scope, want, *left_shift, arg, *count, extent);
+            emit_loose(draft, places, homes, scope, asked, want, arg, item)?;
+        }
+        Expr::Cast { arg, ty } => {
+            let from = own_type(scope, arg);
+            let asked = converted_extent(extent, from, *ty);
+            emit_loose(draft, places, homes, scope, asked, from, arg, item)?;
         }
         _ => unreachable!(),
     }
+    *item += 1;
+    Ok(side)
 }
 
 // The right side of a comparison, which takes no code where its word holds it as a number; answers the register of its
@@ -456,8 +418,8 @@ fn emit_right(
     ensures labels { OnOk result (draft.new.labels
         ≡ draft.old.labels + code.labels (scope_of scope.now).index (term_of expr.now)) }
     ensures code { OnOk result (Appends draft.old draft.new
-        (code.right_code number (code.loose_code places.now (homes_of homes.now) (scope_of scope.now) extent want item.old
-        draft.old.labels (term_of expr.now)))) }
+        (code.right_code number (code.loose_code places.now (homes_of homes.now) (scope_of scope.now) extent want
+        item.old draft.old.labels (term_of expr.now)))) }
 {
     match number {
         Some(_) => Ok(take_literal(places, homes, scope, expr, item)),
@@ -595,7 +557,8 @@ fn emit_flags(
     ensures item { OnOk result (item.new ≡ item.old + term_size (scope_of scope.now).index (Comparison op
         (term_of left.now) (term_of right.now))) }
     ensures labels { OnOk result (draft.new.labels
-        ≡ draft.old.labels + code.labels (scope_of scope.now).index (Comparison op (term_of left.now) (term_of right.now))) }
+        ≡ draft.old.labels + code.labels (scope_of scope.now).index
+        (Comparison op (term_of left.now) (term_of right.now))) }
     ensures code { OnOk result (Appends draft.old draft.new
         (code.flags_code places.now (homes_of homes.now) (scope_of scope.now) item.old draft.old.labels
         (Comparison op (term_of left.now) (term_of right.now)))) }
@@ -667,11 +630,13 @@ fn emit_comparison(
     requires given { to < draft.old.labels }
     requires left { IsValue (term_of left.now) }
     requires right { IsValue (term_of right.now) }
-    requires fits { item.old + term_size (scope_of scope.now).index (Comparison op (term_of left.now) (term_of right.now)) < 2 ^ 32 }
+    requires fits { item.old + term_size (scope_of scope.now).index
+        (Comparison op (term_of left.now) (term_of right.now)) < 2 ^ 32 }
     ensures item { OnOk result (item.new ≡ item.old + term_size (scope_of scope.now).index
         (Comparison op (term_of left.now) (term_of right.now))) }
     ensures labels { OnOk result (draft.new.labels
-        ≡ draft.old.labels + code.labels (scope_of scope.now).index (Comparison op (term_of left.now) (term_of right.now))) }
+        ≡ draft.old.labels + code.labels (scope_of scope.now).index
+        (Comparison op (term_of left.now) (term_of right.now))) }
     ensures code { OnOk result (Appends draft.old draft.new
         (code.jump_code places.now (homes_of homes.now) (scope_of scope.now) sense to item.old draft.old.labels
         (Comparison op (term_of left.now) (term_of right.now)))) }
@@ -732,7 +697,8 @@ fn emit_both(
     requires given { to < draft.old.labels }
     requires left { IsTruth (term_of left.now) }
     requires right { IsTruth (term_of right.now) }
-    requires fits { item.old + term_size (scope_of scope.now).index (Both (term_of left.now) (term_of right.now)) < 2 ^ 32 }
+    requires fits { item.old + term_size (scope_of scope.now).index
+        (Both (term_of left.now) (term_of right.now)) < 2 ^ 32 }
     ensures item { OnOk result (item.new ≡ item.old + term_size (scope_of scope.now).index
         (Both (term_of left.now) (term_of right.now))) }
     ensures labels { OnOk result (draft.new.labels
@@ -766,7 +732,8 @@ fn emit_either(
     requires given { to < draft.old.labels }
     requires left { IsTruth (term_of left.now) }
     requires right { IsTruth (term_of right.now) }
-    requires fits { item.old + term_size (scope_of scope.now).index (Either (term_of left.now) (term_of right.now)) < 2 ^ 32 }
+    requires fits { item.old + term_size (scope_of scope.now).index
+        (Either (term_of left.now) (term_of right.now)) < 2 ^ 32 }
     ensures item { OnOk result (item.new ≡ item.old + term_size (scope_of scope.now).index
         (Either (term_of left.now) (term_of right.now))) }
     ensures labels { OnOk result (draft.new.labels

@@ -103,8 +103,8 @@ pub fn binary_extent(op: BinaryOp, extent: Extent, want: Option<Ty>) -> Extent
     asked_extent(binary_joins(op), binary_leaves(op), extent, want)
 }
 
-// Whether a type has each value of another one.
-fn fits_at(from: Option<Ty>, ty: Ty) -> bool
+/// Whether a type has each value of another one.
+pub fn fits_at(from: Option<Ty>, ty: Ty) -> bool
     ensures { result ≡ extents.fits_at from ty }
 {
     match from {

@@ -1,28 +1,34 @@
-//! Which right sides stand in the word of an operator.
+//! Which sides stand in the word of an operator.
 
-ghost use Rattle.std.specs.Prelude.{◌≡◌};
-ghost use Rattle.kernel_tree.specs.Plain.{term_of};
+ghost use Rattle.std.specs.Prelude.{◌≡◌, ◌+◌, ◌<◌, ◌^◌};
+ghost use Rattle.kernel_tree.specs.Plain.{Operation, term_of};
+ghost use Rattle.kernel_tree.specs.Items.{term_size};
+ghost use Rattle.kernel_scope.specs.Scopes.{scope_of};
+ghost use Rattle.scalar_words.specs.View.{homes_of};
 ghost use Rattle.scalar_values.specs.Code as code;
+ghost use Rattle.scalar_values.specs.Sides.{side_view};
 
-use crate::extent::{Extent, within_type};
+use crate::extent::{Extent, fits_at, within_type};
+use crate::instructions::{added_number, shift_count};
+use crate::leaving::{binary_settles, shift_settles};
+use crate::operations::signed_side;
+use crate::registers::{expr_size, home_of};
+use crate::side::Side;
+use a64_code::{Reg, zero};
+use kernel_scope::{Scope, own_type};
 use kernel_tree::{BinaryOp, Expr, Ty};
+use scalar_words::Home;
 use scalar_words::instructions::is_narrow;
+use scalar_words::places::Places;
 
-// Whether a result that may have left the extended form is not extended.
-fn stays(extent: Extent, want: Option<Ty>) -> bool
-    ensures { result ≡ code.stays extent want }
+// Whether a result is not extended, by whether it would be at types that are narrower than 64 bits.
+fn stays(ends: bool, want: Option<Ty>) -> bool
+    ensures { result ≡ code.stays ends want }
 {
     match want {
         None => false,
-        Some(ty) => within_type(extent, ty) | !is_narrow(ty),
+        Some(ty) => !(ends && is_narrow(ty)),
     }
-}
-
-// The same of a shift.
-fn shift_stays(left: bool, extent: Extent, want: Option<Ty>) -> bool
-    ensures { result ≡ code.shift_stays left extent want }
-{
-    if left { stays(extent, want) } else { true }
 }
 
 // Whether the word of an operator may take a product.
@@ -49,15 +55,160 @@ fn is_product(op: BinaryOp) -> bool
 }
 
 /// Whether the right side of an operator, of which so much is asked for, stands in its word.
-pub fn is_fused(op: BinaryOp, extent: Extent, want: Option<Ty>, expr: &Expr) -> bool
-    ensures fused { result ≡ code.is_fused op extent want (term_of expr.now) }
+pub fn is_fused(scope: &Scope, op: BinaryOp, extent: Extent, want: Option<Ty>, expr: &Expr) -> bool
+    ensures fused { result ≡ code.is_fused (scope_of scope.now) op extent want (term_of expr.now) }
     ensures parts { code.HasParts result (term_of expr.now) }
 {
     match expr {
-        Expr::Binary { op: inner, .. } => {
-            takes_product(op) & (is_product(*inner) & stays(extent, want))
+        Expr::Binary {
+            op: inner,
+            left,
+            right,
+        } => {
+            takes_product(op)
+                && (is_product(*inner)
+                    && stays(
+                        binary_settles(scope, want, *inner, left, right, extent),
+                        want,
+                    ))
         }
-        Expr::Shift { left_shift, .. } => takes_shift(op) & shift_stays(*left_shift, extent, want),
+        Expr::Shift {
+            left_shift,
+            arg,
+            count,
+        } => {
+            takes_shift(op)
+                && stays(
+                    shift_settles(scope, want, *left_shift, arg, *count, extent),
+                    want,
+                )
+        }
+        Expr::Cast { arg, ty } => { within_type(extent, *ty) || fits_at(own_type(scope, arg), *ty) }
         _ => false,
+    }
+}
+
+// Whether the sides of an operator may change places.
+fn is_commutative(op: BinaryOp) -> bool
+    ensures { result ≡ code.is_commutative op }
+{
+    !matches!(op, BinaryOp::Sub)
+}
+
+// Whether a right side makes way for a left one: a cast, and of two casts the one that is of no name.
+fn makes_way(left: &Expr, right: &Expr) -> bool
+    ensures { result ≡ code.makes_way (term_of left.now) (term_of right.now) }
+{
+    match right {
+        Expr::Cast { arg, .. } => {
+            !(matches!(left, Expr::Cast { .. }) && matches!(&**arg, Expr::Var(_)))
+        }
+        _ => false,
+    }
+}
+
+// Whether nothing of a right side need stand in the word.
+fn stands_alone(
+    scope: &Scope,
+    op: BinaryOp,
+    extent: Extent,
+    want: Option<Ty>,
+    left: &Expr,
+    right: &Expr,
+) -> bool
+    ensures { result ≡ code.stands_alone (scope_of scope.now) op extent want (term_of left.now) (term_of right.now) }
+{
+    added_number(op, want, right).is_none()
+        && (makes_way(left, right) || !is_fused(scope, op, extent, want, right))
+}
+
+// Whether none of so many items from one on is made in a register.
+fn is_spared(places: &Places, item: usize, count: usize, register: Reg) -> bool
+    requires { item + count < 2 ^ 32 }
+    ensures { result ≡ code.is_spared places.now item count register.number }
+{
+    if count == 0 {
+        return true;
+    }
+    let made = item < places.last_use(item) && places.reg(item).number == register.number;
+    !made && is_spared(places, item + 1, count - 1, register)
+}
+
+// The same of each register of which a word takes the value.
+fn side_lasts(places: &Places, item: usize, count: usize, side: Side) -> bool
+    requires { item + count < 2 ^ 32 }
+    ensures { result ≡ code.side_lasts places.now item count (side_view side) }
+{
+    match side {
+        Side::Number(_) => true,
+        Side::Register(r) => is_spared(places, item, count, r),
+        Side::Product(p, q) => {
+            is_spared(places, item, count, p) && is_spared(places, item, count, q)
+        }
+        Side::Moved { register, .. } => is_spared(places, item, count, register),
+    }
+}
+
+/// What a word takes of a value that stands in it, whose items begin at one.
+pub fn part_side(
+    places: &Places,
+    homes: &[Home],
+    scope: &Scope,
+    want: Option<Ty>,
+    expr: &Expr,
+    item: usize,
+) -> Side
+    requires { item + term_size (scope_of scope.now).index (term_of expr.now) < 2 ^ 32 }
+    ensures { side_view result ≡ code.part_side places.now (homes_of homes.now) (scope_of scope.now).index want item
+        (term_of expr.now) }
+{
+    match expr {
+        Expr::Binary { left, right, .. } => {
+            let second = item + expr_size(scope, left);
+            let p = home_of(places, homes, scope, left, item);
+            let q = home_of(places, homes, scope, right, second);
+            Side::Product(p, q)
+        }
+        Expr::Shift {
+            left_shift,
+            arg,
+            count,
+        } => Side::Moved {
+            left: *left_shift,
+            signed: signed_side(want),
+            count: shift_count(*count),
+            register: home_of(places, homes, scope, arg, item),
+        },
+        Expr::Cast { arg, .. } => Side::Register(home_of(places, homes, scope, arg, item)),
+        _ => Side::Register(zero()),
+    }
+}
+
+/// Whether the left side of an operator, the items of which begin at one, stands in its word.
+#[tactic(auto, unfolding(crate::specs::Code::is_led))]
+pub fn is_led(
+    places: &Places,
+    homes: &[Home],
+    scope: &Scope,
+    op: BinaryOp,
+    extent: Extent,
+    want: Option<Ty>,
+    left: &Expr,
+    right: &Expr,
+    item: usize,
+) -> bool
+    requires { item + term_size (scope_of scope.now).index (Operation op (term_of left.now)
+        (term_of right.now)) < 2 ^ 32 }
+    ensures led { result ≡ code.is_led places.now (homes_of homes.now) (scope_of scope.now) op extent want item
+        (term_of left.now) (term_of right.now) }
+    ensures parts { code.HasParts result (term_of left.now) }
+{
+    let fused = is_commutative(op) && is_fused(scope, op, extent, want, left);
+    if fused && stands_alone(scope, op, extent, want, left, right) {
+        let side = part_side(places, homes, scope, want, left, item);
+        let after = item + expr_size(scope, left);
+        side_lasts(places, after, expr_size(scope, right), side)
+    } else {
+        false
     }
 }

@@ -5,6 +5,7 @@ ghost use Rattle.kernel_tree.specs.Plain.{term_of};
 ghost use Rattle.kernel_scope.specs.Scopes.{scope_of};
 ghost use Rattle.scalar_values.specs.Leaving as leaving;
 
+use crate::extent::{Extent, asked_extent, binary_joins, settles, within};
 use kernel_meaning::{binary_leaves, unary_leaves};
 use kernel_scope::Scope;
 use kernel_tree::{BinaryOp, Expr, Ty, UnaryOp};
@@ -51,4 +52,64 @@ pub fn shift_may_leave(
     ensures { result ≡ leaving.shift_may_leave (scope_of scope.now) want left_shift (term_of arg.now) count }
 {
     left_shift && !shift_stays(scope, want, left_shift, arg, count)
+}
+
+/// What is asked of the operands of an operator on two values, of which so much is asked for.
+pub fn binary_asks(
+    scope: &Scope,
+    want: Option<Ty>,
+    op: BinaryOp,
+    left: &Expr,
+    right: &Expr,
+    extent: Extent,
+) -> Extent
+    ensures { result ≡ leaving.binary_asks (scope_of scope.now) want op (term_of left.now) (term_of right.now) extent }
+{
+    let may_leave = binary_may_leave(scope, want, op, left, right);
+    asked_extent(binary_joins(op), may_leave, extent, want)
+}
+
+/// The same of a shift.
+pub fn shift_asks(
+    scope: &Scope,
+    want: Option<Ty>,
+    left_shift: bool,
+    arg: &Expr,
+    count: i128,
+    extent: Extent,
+) -> Extent
+    ensures { result ≡ leaving.shift_asks (scope_of scope.now) want left_shift (term_of arg.now) count extent }
+{
+    let may_leave = shift_may_leave(scope, want, left_shift, arg, count);
+    asked_extent(left_shift, may_leave, extent, want)
+}
+
+/// Whether the result of an operator on two values, of which so much is asked for, is extended.
+pub fn binary_settles(
+    scope: &Scope,
+    want: Option<Ty>,
+    op: BinaryOp,
+    left: &Expr,
+    right: &Expr,
+    extent: Extent,
+) -> bool
+    ensures { result ≡ leaving.binary_settles (scope_of scope.now) want op (term_of left.now) (term_of right.now) extent }
+{
+    let may_leave = binary_may_leave(scope, want, op, left, right);
+    settles(within(extent, want), binary_joins(op), may_leave)
+}
+
+/// The same of a shift.
+pub fn shift_settles(
+    scope: &Scope,
+    want: Option<Ty>,
+    left_shift: bool,
+    arg: &Expr,
+    count: i128,
+    extent: Extent,
+) -> bool
+    ensures { result ≡ leaving.shift_settles (scope_of scope.now) want left_shift (term_of arg.now) count extent }
+{
+    let may_leave = shift_may_leave(scope, want, left_shift, arg, count);
+    settles(within(extent, want), left_shift, may_leave)
 }

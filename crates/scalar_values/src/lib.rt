@@ -8,8 +8,11 @@ pub mod hold;
 pub mod instructions;
 mod leaving;
 pub mod operations;
+mod registers;
 mod side;
+mod value;
 
-pub use emit::{emit_jump, emit_loose, emit_side, emit_value};
+pub use emit::{emit_jump, emit_loose, emit_side};
 pub use extent::Extent;
 pub use side::Side;
+pub use value::emit_value;

@@ -12,13 +12,16 @@ abbrev pub decreases-emit_one : goal.decreases-emit_one
 decreases-emit_one l = 4 * term_depth (term_of l.arg.now) + 2
 
 abbrev pub decreases-emit_moved : goal.decreases-emit_moved
-decreases-emit_moved l = 4 * term_depth (term_of l.arg.now) + 2
+decreases-emit_moved l = 4 * term_depth (term_of l.expr.now)
 
 abbrev pub decreases-emit_converted : goal.decreases-emit_converted
 decreases-emit_converted l = 4 * term_depth (term_of l.arg.now) + 2
 
 abbrev pub decreases-emit_two : goal.decreases-emit_two
-decreases-emit_two l = 4 * max (term_depth (term_of l.left.now)) (term_depth (term_of l.right.now)) + 3
+decreases-emit_two l = 4 * max (term_depth (term_of l.left.now)) (term_depth (term_of l.right.now)) + 4
+
+abbrev pub decreases-emit_sides : goal.decreases-emit_sides
+decreases-emit_sides l = 4 * max (term_depth (term_of l.left.now)) (term_depth (term_of l.right.now)) + 3
 
 abbrev pub decreases-emit_read : goal.decreases-emit_read
 decreases-emit_read l = 4 * term_depth (term_of l.index.now) + 3

@@ -1,0 +1,132 @@
+//! The registers of values.
+
+ghost use Rattle.std.specs.Prelude.{◌≡◌, ◌+◌, ◌<◌, ◌^◌};
+ghost use Rattle.kernel_tree.specs.Plain.{name_of, term_of};
+ghost use Rattle.kernel_tree.specs.Items.{term_size, index_items, literal_value};
+ghost use Rattle.kernel_scope.specs.Scopes.{scope_of};
+ghost use Rattle.scalar_words.specs.View.{homes_of};
+ghost use Rattle.scalar_values.specs.ValueRegisters as placed;
+ghost use Rattle.scalar_words.specs.Layout as layout;
+ghost use Rattle.scalar_values.specs.Code as code;
+
+use crate::instructions::index_word;
+use a64_code::{Reg, zero};
+use kernel_scope::Scope;
+use kernel_tree::{Expr, Name};
+use scalar_words::places::Places;
+use scalar_words::{Home, register_at};
+
+/// The register of an item's value, after which the next item stands.
+pub fn take(places: &Places, item: &mut usize) -> Reg
+    requires { item.old < 2 ^ 32 }
+    ensures register { result.number ≡ layout.reg_of places.now item.old }
+    ensures item { item.new ≡ item.old + 1 }
+{
+    let r = places.reg(*item);
+    *item += 1;
+    r
+}
+
+/// The register in which a name is held, after which the next item stands.
+pub fn take_held(homes: &[Home], name: &Name, item: &mut usize) -> Reg
+    requires { item.old < 2 ^ 32 }
+    ensures register { result.number ≡ layout.register_at (homes_of homes.now) (name_of name.now) }
+    ensures item { item.new ≡ item.old + 1 }
+{
+    *item += 1;
+    register_at(homes, name)
+}
+
+// The register in which a literal stands.
+fn number_home(places: &Places, value: i128, item: usize) -> Reg
+    ensures { result.number ≡ placed.literal_home places.now item value }
+{
+    match places.constant(value) {
+        Some(held) => held,
+        None => places.reg(item),
+    }
+}
+
+/// The register in which an expression that is a literal stands, after which the next item stands.
+pub fn take_literal(
+    places: &Places,
+    homes: &[Home],
+    scope: &Scope,
+    expr: &Expr,
+    item: &mut usize,
+) -> Reg
+    requires literal { code.IsLiteral (literal_value (term_of expr.now)) }
+    requires fits { item.old < 2 ^ 32 }
+    ensures register { result.number
+        ≡ placed.home places.now (homes_of homes.now) (scope_of scope.now).index item.old (term_of expr.now) }
+    ensures item { item.new ≡ item.old + 1 }
+{
+    match expr {
+        Expr::Lit(value) => {
+            let r = number_home(places, *value, *item);
+            *item += 1;
+            r
+        }
+        _ => unreachable!(),
+    }
+}
+
+// The items of an index.
+#[cycle(sizes)]
+#[tactic(auto, using(crate::proofs::IndexCode::no_items, crate::proofs::IndexCode::all_items))]
+fn index_size(scope: &Scope, index: &Expr) -> usize
+    requires { index_items (scope_of scope.now).index (term_of index.now) < 2 ^ 32 }
+    ensures { result ≡ index_items (scope_of scope.now).index (term_of index.now) }
+{
+    match index_word(scope, index) {
+        Some(_) => 0,
+        None => expr_size(scope, index),
+    }
+}
+
+/// The items of an expression.
+#[cycle(sizes)]
+pub fn expr_size(scope: &Scope, expr: &Expr) -> usize
+    requires { term_size (scope_of scope.now).index (term_of expr.now) < 2 ^ 32 }
+    ensures { result ≡ term_size (scope_of scope.now).index (term_of expr.now) }
+{
+    match expr {
+        Expr::Lit(_) | Expr::Var(_) => 1,
+        Expr::Read { index, .. } => index_size(scope, index) + 1,
+        Expr::Unary { arg, .. }
+        | Expr::Shift { arg, .. }
+        | Expr::Cast { arg, .. }
+        | Expr::Not { arg } => expr_size(scope, arg) + 1,
+        Expr::Binary { left, right, .. }
+        | Expr::Compare { left, right, .. }
+        | Expr::And { left, right } => expr_size(scope, left) + expr_size(scope, right) + 1,
+        Expr::Or { left, right } => expr_size(scope, left) + 1 + expr_size(scope, right) + 1,
+        Expr::Select { cond, yes, no } => {
+            expr_size(scope, yes) + expr_size(scope, no) + expr_size(scope, cond) + 1
+        }
+    }
+}
+
+/// The register of the value of an expression, whose items begin at one.
+pub fn home_of(places: &Places, homes: &[Home], scope: &Scope, expr: &Expr, item: usize) -> Reg
+    requires { item + term_size (scope_of scope.now).index (term_of expr.now) < 2 ^ 32 }
+    ensures { result.number ≡ placed.home places.now (homes_of homes.now) (scope_of scope.now).index item
+        (term_of expr.now) }
+{
+    match expr {
+        Expr::Lit(value) => number_home(places, *value, item),
+        Expr::Var(name) => register_at(homes, name),
+        Expr::Read { index, .. } => places.reg(item + index_size(scope, index)),
+        Expr::Unary { arg, .. } | Expr::Shift { arg, .. } | Expr::Cast { arg, .. } => {
+            places.reg(item + expr_size(scope, arg))
+        }
+        Expr::Binary { left, right, .. } => {
+            places.reg(item + expr_size(scope, left) + expr_size(scope, right))
+        }
+        Expr::Select { cond, yes, no } => {
+            let sides = item + expr_size(scope, yes) + expr_size(scope, no);
+            places.reg(sides + expr_size(scope, cond))
+        }
+        _ => zero(),
+    }
+}
