@@ -181,8 +181,10 @@ fn gathered(pages: &Pages, from: Gather, e: usize) -> Option<Result<u64, u64>> {
     if e >= 2 {
         return None;
     }
-    match gather(pages, LoadRow { dtype: 12 }, base, &offsets, vl, &pg) {
-        Ok(z) => Some(Ok(z.element(Width::D, e))),
+    let row = LoadRow { dtype: 12 };
+    let mut z = ZReg { bytes: [255; 256] };
+    match gather(pages, row, base, &offsets, vl, &pg, &mut z) {
+        Ok(()) => Some(Ok(z.element(Width::D, e))),
         Err(fault) => Some(Err(fault.address)),
     }
 }
