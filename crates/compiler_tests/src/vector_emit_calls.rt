@@ -155,6 +155,59 @@ fn leaves_at_either_condition(rt: HostRuntime) -> Result<(), Fail> {
     Ok(())
 }
 
+// A chunk of seventeen instructions: whilelo, setffr, four for each array, incp, ptest and the branch.
+#[test]
+fn leaves_at_one_of_three_conditions(rt: HostRuntime) -> Result<(), Fail> {
+    let words = words_of(
+        rt.alloc(),
+        "kernel three(a: [u8], b: [u8], c: [u8], n: u64) -> u64 { for i in 0..n { break if a[i] == 0 || b[i] == 0 || c[i] == 0; } return i; }",
+    )?;
+    assert!(rt;
+        words.as_slice()
+            == [
+                0x2518_e3e1,
+                0xd280_001a,
+                0x0520_3b40,
+                0x2523_1d20,
+                0x252c_9000,
+                0xa409_6001,
+                0x2518_f000,
+                0x2400_a022,
+                0x2590_4040,
+                0xa409_6021,
+                0x2518_f000,
+                0x2400_a024,
+                0x2590_4080,
+                0xa409_6041,
+                0x2518_f000,
+                0x2400_a024,
+                0x2590_4080,
+                0x252c_8809,
+                0x2550_c000,
+                0x54ff_fe01,
+                0xeb03_013f,
+                0x5400_01e2,
+                0xd280_003a,
+                0x253a_1fe0,
+                0xa409_4001,
+                0x2400_a022,
+                0x2590_4040,
+                0xa409_4021,
+                0x2400_a024,
+                0x2590_4080,
+                0xa409_4041,
+                0x2400_a024,
+                0x2590_4080,
+                0x252c_8809,
+                0x2550_c000,
+                0x54ff_fc01,
+                0x1400_0001,
+            ]
+            .as_slice()
+    );
+    Ok(())
+}
+
 // ptrue p1.b; movz x26, #0; dup z0.b,
 // w26; whilelo p0.b, x9, x3; b.eq end; chunk: ld1b {z1.b}, p0/z, [x0, x9]; cmpne p2.b, p0/z, z1.b, z0.b; ld1b
 // {z1.b}, p2/z, [x2, x9]; st1b {z1.b}, p2, [x1, x9]; incp x9, p0.b; whilelo p0.b, x9, x3; b.ne chunk; end: b
