@@ -203,7 +203,7 @@ module _ (D : Laid) (L : Layout) (fit : Assigned L) (R : ℕ → ℕ) where
       starts_at (b + 0) (omega arith) (starts st (stay 0) (subst (λ hs. At w hs s.visible names m b st) (sym (append-nil hs)) at) refl)
   vars_runs (v ∷ vs) {hs = hs} s {names = names} {m = m} j b n rest safe high fits at res =
       vars_step (value s (Some v.type) v.init m names) v vs s j b n rest safe high.0 fits at refl
-      (give_more D L (4 * term_size s.index v.init) (let h = coded_few v.init L.constants s.index in omega (arith, h)) (value_runs D L fit v.init s v.type b (b + term_size s.index v.init) n _ (omega arith) safe.0 at fits.0 res))
+      (give_more D L (4 * term_size s.index v.init) (coded_few v.init L.constants s.index) (value_runs D L fit v.init s v.type b (b + term_size s.index v.init) n _ (omega arith) safe.0 at fits.0 res))
       (λ x st at1. vars_runs vs (after_var s v) (j + 1) (b + term_size s.index v.init + 1) (n + labels s.index v.init) rest safe.2 high.1 fits.1 at1 (word_back D (copy_word (counted_x (R j)) (home L hs s.index b v.init)) _ (value_back D L fit v.init hs s (Some v.type) b n _ res)))
 
 -- ---- X9

@@ -13,16 +13,17 @@ use Rattle.scalar_values.specs.Extents.{extent_at, binary_extent}
 use Rattle.scalar_values.specs.declared.extent.Extent.TheVariants.{Whole}
 use Rattle.label_fix.specs.DraftRun.{Entry}
 use Rattle.label_fix.specs.Finished.{size}
-use Rattle.scalar_words.specs.Layout.{Layout, Homes, last_use_at}
+use Rattle.scalar_words.specs.Layout.{Layout, Homes, last_use_at, register_at}
 use Rattle.scalar_values.specs.ValueRegisters.{home}
 use Rattle.scalar_words.specs.Words.{copy_word, settle_word, word_code}
 use Rattle.scalar_values.specs.ItemWords.{index_word, store_code}
-use Rattle.scalar_values.specs.Code.{added_number, is_fused, right_side}
-use Rattle.scalar_emit.specs.Statements.{after_homes, block_labels, is_bare, put_code, action_code, block_code, otherwise_code}
+use Rattle.scalar_values.specs.Code.{place_of, added_number, is_fused, right_side}
+use Rattle.scalar_emit.specs.Statements.{after_homes, block_labels, is_bare, put_code, placed_put, action_code, block_code, otherwise_code}
 use Rattle.scalar_emit.specs.LoopNumbers.{loop_layout}
 use Rattle.scalar_emit.specs.Loop.{answer_code, with_index, bare, loop_code}
 use Rattle.scalar_emit.proofs.SetupRuns.{numbers_words}
-use Rattle.scalar_emit.proofs.HoldBlocks.{few_numbers}
+use Rattle.scalar_emit.proofs.HoldBlocks.{few_words}
+use Rattle.scalar_values.specs.HeldNumbers.{loading_words}
 use Rattle.scalar_words.specs.KernelRegisters.{counted_x, var_home, layout_of_kernel, param_homes, kernel_homes}
 use Rattle.scalar_emit.specs.Kernel.{argument_code, arguments_code, vars_code, zero_index, begin_code, turns_code, scalar_code}
 use Rattle.kernel_scope.specs.Scopes.{after_var}
@@ -42,6 +43,10 @@ let_words false r from rest k h = omega (arith, h)
 put_words : (o : Option ℤ) (t : Option Ty) (from p : ℕ) (rest : List Entry) (k : ℕ) → size rest ≤ k → size (put_code o t from p rest) ≤ 2 + k
 put_words None t from p rest k h = omega (arith, h)
 put_words (Some c) t from p rest k h = within (omega arith) (one_word (index_word c) _ _ (store_words t from p _ rest k h))
+
+placed_words : (place : Option ℕ) (inner : List Entry → List Entry) (t : Option Ty) (from : ℕ) (rest : List Entry) (k : ℕ) → size rest ≤ k → (size rest ≤ k → size (inner rest) ≤ 2 + k) → size (placed_put place inner t from rest) ≤ 2 + k
+placed_words (Some r) inner t from rest k h f = within (omega arith) (store_words t from r 9 rest k h)
+placed_words None inner t from rest k h f = f h
 
 argument_words : (x : Shape) (n : ℕ) (rest : List Entry) (k : ℕ) → size rest ≤ k → size (argument_code x n rest) ≤ 1 + k
 argument_words (shape.Scalar t) n rest k h = one_word (settle_word true t n) rest k h
@@ -67,7 +72,7 @@ module _ (L : Layout) where
         within (omega arith) (loose_words L hs e s Whole (first t (own s e)) b n _ _ (let_words (nat_lt q (last_use_at L q)) _ _ rest k h))
     action_words (PutTo a i e) hs s exit b n rest k h =
         let T = option_and_then element_type (lookup s a) in
-        within (omega arith) (side_words None (is_bare s (extent_at T) e) (4 * term_size s.index e) _ _ _ _ (put_words (stream_offset s.index i) _ _ _ rest k h) (λ g. loose_words L hs e s _ _ b n _ _ g) (λ g. parts_words L hs e s _ _ b n _ _ g))
+        within (omega arith) (side_words None (is_bare s (extent_at T) e) (4 * term_size s.index e) _ _ _ _ (placed_words (place_of L (register_at hs a) T (stream_offset s.index i)) _ _ _ rest k h (λ h. put_words (stream_offset s.index i) _ _ _ rest k h)) (λ g. loose_words L hs e s _ _ b n _ _ g) (λ g. parts_words L hs e s _ _ b n _ _ g))
     action_words (Update x op e) hs s exit b n rest k h =
         let want = option_and_then accumulator_type (lookup s x) in
         let o = operator_of op in
@@ -102,13 +107,13 @@ module _ (L : Layout) where
 
 -- ---- the loop
 
-loop_words : (L : Layout) (hs : Homes) (s : Scope) (t : PlainLoop) (b n b2 : ℕ) (o : Option Returned) (rest : List Entry) (k : ℕ) → size rest ≤ k → size (loop_code L hs s t b n b2 o rest) ≤ 4 * (1 + block_size s.index t.body) + 4 * answer_size s.index o + 4 + 4 * length L.constants + k
+loop_words : (L : Layout) (hs : Homes) (s : Scope) (t : PlainLoop) (b n b2 : ℕ) (o : Option Returned) (rest : List Entry) (k : ℕ) → size rest ≤ k → size (loop_code L hs s t b n b2 o rest) ≤ 4 * (1 + block_size s.index t.body) + 4 * answer_size s.index o + 4 + loading_words L.constants + k
 loop_words L hs s t b n b2 o rest k h =
     within (omega arith) (one_more (one_more (numbers_words L.constants _ _ (block_words L t.body (with_index hs t) (in_loop s t) (n + 1) (b + 1) (n + 3) _ _ (one_more (one_more (one_more (answer_words (bare L) (with_index hs t) (after_turns s (Some t)) b2 (n + 3 + block_labels s.index t.body) o rest k h))))))))
 
 -- ---- kernels
 
-turns_words : (L : Layout) (hs : Homes) (s : Scope) (i : Option (List ℕ)) (t : Option PlainLoop) (b n b2 : ℕ) (o : Option Returned) (rest : List Entry) (k : ℕ) → s.index ≡ i → i ≡ option_map index_of t → size rest ≤ k → size (turns_code L hs s t b n b2 o rest) ≤ 4 * turns_size t + 4 * answer_size i o + 4 + 4 * length L.constants + k
+turns_words : (L : Layout) (hs : Homes) (s : Scope) (i : Option (List ℕ)) (t : Option PlainLoop) (b n b2 : ℕ) (o : Option Returned) (rest : List Entry) (k : ℕ) → s.index ≡ i → i ≡ option_map index_of t → size rest ≤ k → size (turns_code L hs s t b n b2 o rest) ≤ 4 * turns_size t + 4 * answer_size i o + 4 + loading_words L.constants + k
 turns_words L hs s i None b n b2 o rest k e f h = let q = ap (λ i. answer_size i o) e in within (omega (arith, q)) (answer_words (bare L) hs s b2 (n + 1) o rest k h)
 turns_words L hs s i (Some t) b n b2 o rest k e f h =
     let q = ap (λ i. answer_size i o) e in
@@ -122,7 +127,7 @@ begin_words R k n rest =
 
 pub scalar_words : (R : ℕ → ℕ) (k : Program) (n : ℕ) (rest : List Entry) → size (scalar_code R k n rest) ≤ 64 + 16 * size_of k + size rest
 scalar_words R k n rest =
-    let few = few_numbers k in
+    let few = few_words R k in
     within (omega (arith, few)) (turns_words (loop_layout R k) (kernel_homes R k) (var_scope k) (loop_index k) k.turns (loop_start k) n (loop_end k) k.answer rest (size rest) (scope_index k) refl (omega arith))
 
 -- ---- words that are appended

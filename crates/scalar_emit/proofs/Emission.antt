@@ -15,16 +15,14 @@ use Rattle.scalar_values.specs.ItemWords.{Side, operator_code}
 use Rattle.scalar_values.specs.Code.{added_number, is_fused, right_side, side_code, parts_code, loose_code}
 use Rattle.label_fix.specs.DraftRun.{Entry}
 use Rattle.scalar_words.specs.declared.home.Home.{Home as Kept}
-use Rattle.kernel_meaning.specs.Operators.{word}
 use Rattle.scalar_words.specs.declared.constant.Constant.{Constant as Number}
-use Rattle.scalar_words.specs.Words.{const_code}
 use Rattle.scalar_words.specs.Layout.{Constant, Layout, Homes, with_constants, register_at}
 use Rattle.scalar_emit.specs.Statements.{block_homes, block_labels, update_code}
 use Rattle.scalar_emit.specs.LoopNumbers.{held_numbers, loop_layout}
-use Rattle.scalar_emit.specs.Loop.{numbers_code, turn_code, leave_code}
+use Rattle.scalar_emit.specs.Loop.{key_code, numbers_code, turn_code, leave_code}
 use Rattle.scalar_words.specs.KernelRegisters.{layout_of_kernel, param_homes, kernel_homes}
 use Rattle.scalar_emit.specs.Kernel.{arguments_code, vars_code, zero_index, begin_code, straight_code, turns_code, scalar_code}
-use Rattle.scalar_words.specs.View.{constants_of, home_of, homes_of}
+use Rattle.scalar_words.specs.View.{key_of, constants_of, home_of, homes_of}
 use Rattle.scalar_emit.proofs.StmtRuns.{homes_block}
 
 -- ---- after a block
@@ -74,11 +72,11 @@ update_is L hs s b n x op want asked e side leaves d rest e1 e2 e3 e4 = rw (e2, 
 
 -- ---- numbers that are held
 
-pub number_step : (cs ds : List Number) (c : Number) (v : ℕ) (rest : List Entry) → cs ≡ c ∷ ds → v ≡ word c.number → const_code c.register.number v (numbers_code (constants_of ds) rest) ≡ numbers_code (constants_of cs) rest
-number_step cs ds c v rest e f = ap (λ w. const_code c.register.number w (numbers_code (constants_of ds) rest)) f ∙ ap (λ (xs : List Number). numbers_code (constants_of xs) rest) (sym e)
+pub number_step : (cs ds : List Number) (c : Number) (rest : List Entry) → cs ≡ c ∷ ds → key_code (key_of c.key) c.register.number (numbers_code (constants_of ds) rest) ≡ numbers_code (constants_of cs) rest
+number_step cs ds c rest e = ap (λ (xs : List Number). numbers_code (constants_of xs) rest) (sym e)
 
-pub held_is : (R : ℕ → ℕ) (k : Program) (N L : Layout) → N ≡ with_constants L (held_numbers k) → L ≡ layout_of_kernel R k → N ≡ loop_layout R k
-held_is R k N L e f = e ∙ ap (λ (M : Layout). with_constants M (held_numbers k)) f
+pub held_is : (R : ℕ → ℕ) (k : Program) (N L : Layout) → N ≡ with_constants L (held_numbers R k) → L ≡ layout_of_kernel R k → N ≡ loop_layout R k
+held_is R k N L e f = e ∙ ap (λ (M : Layout). with_constants M (held_numbers R k)) f
 
 pub bare_is : (R : ℕ → ℕ) (k : Program) (L N : Layout) (cs : List Constant) → L ≡ with_constants N cs → cs ≡ [] → N ≡ loop_layout R k → L ≡ layout_of_kernel R k
 bare_is R k L N cs e none f = e ∙ ap (with_constants N) none ∙ ap (λ (M : Layout). with_constants M []) f

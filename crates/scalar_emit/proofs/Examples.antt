@@ -7,7 +7,7 @@ use Rattle.loop_form.specs.Entries.{item_type}
 use Rattle.loop_form.specs.Listing.{last_use_from}
 use Rattle.scalar_values.specs.Code.{is_led}
 use Rattle.label_fix.specs.DraftRun.{Branch, Place, Always, If, Zero, ins}
-use Rattle.scalar_words.specs.Layout.{Constant}
+use Rattle.scalar_words.specs.Layout.{OfNumber, Constant}
 use Rattle.scalar_emit.specs.LoopNumbers.{held_numbers}
 use Rattle.scalar_emit.specs.Loop.{numbers_code}
 use Rattle.scalar_emit.specs.Kernel.{begin_code, begin_labels, scalar_code, scalar_labels}
@@ -60,19 +60,19 @@ worked-loops : scalar_code registers worked 0 [] ≡
     Place 0
     ∷ ins subs (31 ∷ 9 ∷ 0 ∷ 1 ∷ 0 ∷ [])
     ∷ Branch (If 2) 1
+    ∷ ins add_imm (8 ∷ 0 ∷ 1 ∷ 0 ∷ [])
+    ∷ ins sub_imm (7 ∷ 0 ∷ 1 ∷ 0 ∷ [])
     ∷ Place 2
     ∷ ins ldrsb_register (10 ∷ 0 ∷ 9 ∷ [])
     ∷ Branch (Zero 10) 1
     ∷ ins ldrsb_register (10 ∷ 0 ∷ 9 ∷ [])
     ∷ ins subs_imm (31 ∷ 10 ∷ 1 ∷ 0 ∷ [])
     ∷ Branch (If 10) 3
-    ∷ ins add_imm (26 ∷ 9 ∷ 1 ∷ 0 ∷ [])
-    ∷ ins ldrsb_register (10 ∷ 0 ∷ 26 ∷ [])
+    ∷ ins ldrsb_register (10 ∷ 8 ∷ 9 ∷ [])
     ∷ ins strb_register (10 ∷ 0 ∷ 9 ∷ [])
     ∷ Branch Always 4
     ∷ Place 3
-    ∷ ins sub_imm (26 ∷ 9 ∷ 1 ∷ 0 ∷ [])
-    ∷ ins ldrsb_register (10 ∷ 0 ∷ 26 ∷ [])
+    ∷ ins ldrsb_register (10 ∷ 7 ∷ 9 ∷ [])
     ∷ ins strb_register (10 ∷ 0 ∷ 9 ∷ [])
     ∷ Place 4
     ∷ ins add_imm (9 ∷ 9 ∷ 1 ∷ 0 ∷ [])
@@ -150,11 +150,43 @@ lits = record {
 }
 
 abbrev lits-numbers : List Constant
-lits-numbers = record { number = pos 1000003; register = 8 } ∷ record { number = pos 123456789; register = 7 } ∷ []
+lits-numbers = record { key = OfNumber (pos 1000003); register = 8 } ∷ record { key = OfNumber (pos 123456789); register = 7 } ∷ []
 
 -- each number once, in the order of the items
-lits-holds : held_numbers lits ≡ lits-numbers
+lits-holds : held_numbers registers lits ≡ lits-numbers
 lits-holds = refl
 
 lits-loads : numbers_code lits-numbers [] ≡ ins movz (8 ∷ 16963 ∷ 0 ∷ []) ∷ ins movk (8 ∷ 15 ∷ 1 ∷ []) ∷ ins movz (7 ∷ 52501 ∷ 0 ∷ []) ∷ ins movk (7 ∷ 1883 ∷ 1 ∷ []) ∷ []
 lits-loads = refl
+
+-- ---- addresses that are held
+
+-- kernel x(a: [u8], n: u64) { for i in 0..n { a[i + 1] = a[i]; } }
+abbrev spread : Program
+spread = record {
+  name = x;
+  params = record { name = a; shape = shape.Array ty.U8 } ∷ record { name = n; shape = shape.Scalar ty.U64 } ∷ [];
+  vars = [];
+  turns = Some (record { index = i; bound = n; body = Then (Put a (Operation binary.Add (Variable i) (Literal (pos 1))) (Element a (Variable i))) Done });
+  answer = None;
+}
+
+-- X8 holds the address of a[1]
+spread-loops : scalar_code registers spread 0 [] ≡
+    Place 0
+    ∷ ins subs (31 ∷ 9 ∷ 0 ∷ 1 ∷ 0 ∷ [])
+    ∷ Branch (If 2) 1
+    ∷ ins add_imm (8 ∷ 0 ∷ 1 ∷ 0 ∷ [])
+    ∷ Place 2
+    ∷ ins ldrb_register (10 ∷ 0 ∷ 9 ∷ [])
+    ∷ ins strb_register (10 ∷ 8 ∷ 9 ∷ [])
+    ∷ ins add_imm (9 ∷ 9 ∷ 1 ∷ 0 ∷ [])
+    ∷ ins subs (31 ∷ 9 ∷ 0 ∷ 1 ∷ 0 ∷ [])
+    ∷ Branch (If 3) 2
+    ∷ Place 1
+    ∷ ins movz (0 ∷ 0 ∷ 0 ∷ [])
+    ∷ ins movz (8 ∷ 93 ∷ 0 ∷ [])
+    ∷ ins svc (0 ∷ [])
+    ∷ []
+unfolding item_type last_use_from
+spread-loops = refl

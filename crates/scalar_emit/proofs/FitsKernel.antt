@@ -1,11 +1,11 @@
 -- Registers fit a checked kernel.
-use Rattle.std.proofs.Common.{◌≡◌, ℕ, ◌+◌, ◌<◌, ◌≤◌, true, false, cond, List, [], ◌∷◌, ◌++◌, length, drop, map, Option, Some, None, refl, sym, ap, ◌∙◌, subst, arith}
+use Rattle.std.proofs.Common.{◌≡◌, ℕ, ◌+◌, ◌*◌, ◌<◌, ◌≤◌, true, false, cond, List, [], ◌∷◌, ◌++◌, length, drop, map, Option, Some, None, refl, sym, ap, ◌∙◌, subst, arith}
 use Rattle.std.specs.Prelude.{option_map, unwrap_or}
 use Rattle.std.specs.List.{find}
 use Rattle.std.proofs.lemmas.Option.{slice_get_within}
 use Rattle.kernel_tree.specs.declared.ops.Ty.TheVariants.{U64}
 use Rattle.kernel_tree.specs.Plain.{Parameter, Accumulator, PlainLoop, Returned, Program}
-use Rattle.kernel_tree.specs.Items.{term_size, vars_size, turns_size, index_of, loop_index, loop_start, loop_end}
+use Rattle.kernel_tree.specs.Items.{term_size, block_size, vars_size, turns_size, index_of, loop_index, loop_start, loop_end}
 use Rattle.kernel_tree.specs.Typing.{Local, local, Value, lookup, insert_name, after_turns, faults, twice, vars_faults, bound_faults, turns_faults, answer_faults, param_scope, var_scope, check_fault}
 use Rattle.kernel_tree.specs.Scopes.{locals_of, accs_of}
 use Rattle.kernel_tree.proofs.Faultless.{nil-left, nil-right, vars_faultless, turns_faultless, answer_faultless}
@@ -16,7 +16,9 @@ use Rattle.loop_form.proofs.Numbers.{params-listed, vars-listed, term-listed, lo
 use Rattle.loop_form.proofs.NameUses.{AreUsesCounted, counted_left, counted_right, all_counted}
 use Rattle.scalar_words.specs.Layout.{Layout, Home, Homes, with_constants, is_home, register_of, LastsAt}
 use Rattle.scalar_values.specs.Fits.{IndexAt}
-use Rattle.scalar_emit.specs.LoopNumbers.{held_numbers, loop_layout}
+use Rattle.scalar_emit.specs.LoopNumbers.{held_numbers, loop_layout, coded_block}
+use Rattle.scalar_values.specs.HeldNumbers.{loading_words}
+use Rattle.kernel_tree.proofs.Scopes.{scope_index}
 use Rattle.scalar_emit.specs.Loop.{index_home, with_index, bare, FitsAnswer, FitsLoop}
 use Rattle.scalar_emit.proofs.HoldBlocks.{numbers_next, numbers_few, spread_with, kernel_clear}
 use Rattle.scalar_words.specs.KernelRegisters.{counted_x, x_last_use, layout_of_kernel, param_homes, var_home, var_homes, kernel_homes, AreChosen}
@@ -119,11 +121,11 @@ module _ (R : ℕ → ℕ) (k : Program) (L : Layout) (all : List Entry) where
 module _ (R : ℕ → ℕ) (k : Program) (L : Layout) (all : List Entry) (few : length k.params ≤ 8) (spread : Spread R L (length k.vars)) where
   loop_fits : (l : PlainLoop) (tk : List (List ℕ)) (b b2 : ℕ) (rest : List ℕ) → k.turns ≡ Some l → loop_index k ≡ Some l.index → NoHome l.index (kernel_homes R k) → b ≤ b2 → turns_faults (scope_at k (locals_of k.params ++ accs_of k.vars) tk false) b (Some l) ≡ [] → answer_faults (after_turns (scope_at k (locals_of k.params ++ accs_of k.vars) tk false) (Some l)) b2 k.answer ≡ []
       → Sits L.untils b (untils all (turns_entries k b (Some l)) rest) → AreUsesCounted all (turns_entries k b (Some l)) → Sits L.untils b2 (untils all (answer_entries k b2 k.answer) []) → AreUsesCounted all (answer_entries k b2 k.answer)
-      → FitsLoop (with_constants L (held_numbers k)) (kernel_homes R k) (scope_at k (locals_of k.params ++ accs_of k.vars) tk false) l b b2 k.answer
+      → FitsLoop (with_constants L (held_numbers R k)) (kernel_homes R k) (scope_at k (locals_of k.params ++ accs_of k.vars) tk false) l b b2 k.answer
   loop_fits l tk b b2 rest turns ix alone le f fa h c ha ca =
-      let N = with_constants L (held_numbers k) in
+      let N = with_constants L (held_numbers R k) in
       let p = length k.params in
-      let inner : Spread R N (length k.vars) = spread_with R L (length k.vars) p (held_numbers k) (numbers_next k) spread in
+      let inner : Spread R N (length k.vars) = spread_with R L (length k.vars) p (held_numbers R k) (numbers_next R k) spread in
       let v = locals_of k.params ++ accs_of k.vars in
       let hs = kernel_homes R k in
       let S = scope_at k v tk false in
@@ -142,9 +144,9 @@ module _ (R : ℕ → ℕ) (k : Program) (L : Layout) (all : List Entry) (few : 
         body = block_fits k R N all few inner l.body (v ++ local l.index binding.Index ∷ []) (insert_name tk l.index) true (with_index hs l) (b + 1) rest inside (λ e p. index p) refl body (sits_next L.untils b _ _ h) c.1;
         nine = others-append (param_homes 0 k.params) (var_homes R 0 k.vars) 9 b (params_nine 0 b k.params (omega (arith, few))) (vars_nine R 0 b k.vars);
         params = p;
-        next = numbers_next k;
+        next = numbers_next R k;
         clear = kernel_clear R k;
-        few = numbers_few k l turns;
+        few = subst (λ i. loading_words (held_numbers R k) + coded_block (held_numbers R k) i l.body ≤ 4 * block_size i l.body) (scope_index k) (numbers_few R k l turns);
         answered = answer_fits R k (bare N) all few (spread_with R N (length k.vars) p [] tt inner) k.answer (v ++ local l.index binding.Index ∷ []) (insert_name tk l.index) (with_index hs l) b2 (are b2) fa ha ca;
         following = le;
       }

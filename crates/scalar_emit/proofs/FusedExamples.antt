@@ -121,10 +121,10 @@ sweep-loops : scalar_code sweep-registers sweep 0 [] ≡
     Place 0
     ∷ ins subs (31 ∷ 9 ∷ 0 ∷ 4 ∷ 0 ∷ [])
     ∷ Branch (If 2) 1
+    ∷ ins add_imm (8 ∷ 1 ∷ 6 ∷ 0 ∷ [])
     ∷ Place 2
     ∷ ins ldrsh_register (12 ∷ 0 ∷ 1 ∷ 9 ∷ [])
-    ∷ ins add_imm (26 ∷ 9 ∷ 6 ∷ 0 ∷ [])
-    ∷ ins ldrb_register (13 ∷ 1 ∷ 26 ∷ [])
+    ∷ ins ldrb_register (13 ∷ 8 ∷ 9 ∷ [])
     ∷ ins madd (12 ∷ 12 ∷ 13 ∷ 3 ∷ [])
     ∷ ins sbfm (12 ∷ 12 ∷ 31 ∷ 0 ∷ [])
     ∷ ins subs_imm (31 ∷ 12 ∷ 384 ∷ 0 ∷ [])

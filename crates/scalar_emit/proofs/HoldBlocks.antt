@@ -1,91 +1,100 @@
--- The numbers that are held for a loop: each has the next register, and they are no more than the literals that have no words
--- for it.
-use Rattle.std.proofs.Common.{◌≡◌, ℕ, ◌+◌, ◌≤◌, List, [], ◌∷◌, ◌++◌, length, Option, Some, None, inl, inr, refl, ap, subst, arith}
+-- What is held for a loop: each has the next register, and no more words load it than are saved.
+use Rattle.std.proofs.Common.{◌≡◌, ℕ, ◌+◌, ◌*◌, ◌≤◌, List, [], ◌∷◌, ◌++◌, length, Option, Some, None, inl, inr, sym, ap, subst, arith}
 use Rattle.kernel_tree.specs.Plain.{Action, Define, Put, Update, Choose, Leave, Block, Done, Then, Otherwise, Nothing, Else, Parameter, Accumulator, PlainLoop, Program}
-use Rattle.kernel_tree.specs.Items.{action_size, block_size, otherwise_size, loop_index}
+use Rattle.kernel_tree.specs.Items.{action_size, block_size, otherwise_size, stream_offset}
+use Rattle.kernel_tree.specs.Typing.{Scope, var_scope}
 use Rattle.kernel_meaning.specs.Operators.{operator_of}
-use Rattle.scalar_words.specs.Layout.{Constant, Layout, Homes, with_constants}
+use Rattle.scalar_words.specs.Layout.{Key, OfNumber, OfAddress, Constant, Layout, Homes, with_constants}
 use Rattle.scalar_words.specs.KernelRegisters.{param_homes, var_homes, kernel_homes}
 use Rattle.scalar_words.proofs.AssignedOf.{counted-low}
 use Rattle.scalar_words.proofs.LayoutStates.{Assigned, AreSafe}
 use Rattle.scalar_words.proofs.NameHomes.{Spread}
-use Rattle.scalar_values.specs.HeldNumbers.{AreNext, addend_of, hold_term}
-use Rattle.scalar_values.proofs.HoldTerms.{Within, Holds, holds_same, holds_on, IsFew, term_held, term_few, side_holds, side_is_few, next_low}
+use Rattle.scalar_values.specs.HeldNumbers.{AreNext, addend_of, hold_term, key_words, loading_words}
+use Rattle.scalar_values.proofs.HoldTerms.{Within, Holds, holds_same, holds_on, IsFew, term_held, term_few, side_holds, side_is_few, element_held, element_few, next_low}
 use Rattle.scalar_emit.specs.LoopNumbers.{hold_action, hold_block, hold_otherwise, turns_numbers, held_numbers, coded_action, coded_block, coded_otherwise}
 use Rattle.scalar_emit.specs.Loop.{AreClear}
 
 mutual
-  action_held : (a : Action) (p : ℕ) (i : Option (List ℕ)) (cs : List Constant) → Holds p cs (hold_action p i a cs)
-  action_held (Define x t e) p i cs = term_held e p i cs
-  action_held (Put a o e) p i cs = term_held e p i cs
-  action_held (Update x op e) p i cs = side_holds (addend_of (operator_of op) e) e p i cs
-  action_held (Choose c b d) p i cs = holds_on (holds_on (term_held c p i cs) (block_held b p i (hold_term p i c cs))) (otherwise_held d p i (hold_block p i b (hold_term p i c cs)))
-  action_held (Leave c) p i cs = term_held c p i cs
+  action_held : (a : Action) (p : ℕ) (hs : Homes) (s : Scope) (cs : List Constant) → Holds p cs (hold_action p hs s a cs)
+  action_held (Define x t e) p hs s cs = term_held e p hs s cs
+  action_held (Put a o e) p hs s cs = holds_on (term_held e p hs s cs) (element_held p hs s a (stream_offset s.index o) (hold_term p hs s e cs))
+  action_held (Update x op e) p hs s cs = side_holds (addend_of (operator_of op) e) e p hs s cs
+  action_held (Choose c b d) p hs s cs = holds_on (holds_on (term_held c p hs s cs) (block_held b p hs s (hold_term p hs s c cs))) (otherwise_held d p hs s (hold_block p hs s b (hold_term p hs s c cs)))
+  action_held (Leave c) p hs s cs = term_held c p hs s cs
 
-  pub block_held : (b : Block) (p : ℕ) (i : Option (List ℕ)) (cs : List Constant) → Holds p cs (hold_block p i b cs)
-  block_held Done p i cs = holds_same p cs
-  block_held (Then s b) p i cs = holds_on (action_held s p i cs) (block_held b p i (hold_action p i s cs))
+  pub block_held : (b : Block) (p : ℕ) (hs : Homes) (s : Scope) (cs : List Constant) → Holds p cs (hold_block p hs s b cs)
+  block_held Done p hs s cs = holds_same p cs
+  block_held (Then a b) p hs s cs = holds_on (action_held a p hs s cs) (block_held b p hs s (hold_action p hs s a cs))
 
-  otherwise_held : (d : Otherwise) (p : ℕ) (i : Option (List ℕ)) (cs : List Constant) → Holds p cs (hold_otherwise p i d cs)
-  otherwise_held Nothing p i cs = holds_same p cs
-  otherwise_held (Else b) p i cs = block_held b p i cs
+  otherwise_held : (d : Otherwise) (p : ℕ) (hs : Homes) (s : Scope) (cs : List Constant) → Holds p cs (hold_otherwise p hs s d cs)
+  otherwise_held Nothing p hs s cs = holds_same p cs
+  otherwise_held (Else b) p hs s cs = block_held b p hs s cs
 
 mutual
-  action_few : (a : Action) (p : ℕ) (i : Option (List ℕ)) (cs all : List Constant) → Within (hold_action p i a cs) all → IsFew cs (hold_action p i a cs) (coded_action all i a) (action_size i a)
-  action_few (Define x t e) p i cs all w = let k = term_few e p i cs all w in omega (arith, k)
-  action_few (Put a o e) p i cs all w = let k = term_few e p i cs all w in omega (arith, k)
-  action_few (Update x op e) p i cs all w = let k = side_is_few (addend_of (operator_of op) e) e p i cs all w in omega (arith, k)
-  action_few (Choose c b d) p i cs all w =
-      let ds = hold_term p i c cs in
-      let es = hold_block p i b ds in
-      let hd = otherwise_held d p i es in
-      let hb = block_held b p i ds in
-      let k = term_few c p i cs all (λ z q. w z (hd.more z (hb.more z q))) in
-      let j = block_few b p i ds all (λ z q. w z (hd.more z q)) in
-      let h = otherwise_few d p i es all w in
+  action_few : (a : Action) (p : ℕ) (hs : Homes) (s : Scope) (cs all : List Constant) → Within (hold_action p hs s a cs) all → IsFew cs (hold_action p hs s a cs) (coded_action all s.index a) (4 * action_size s.index a)
+  action_few (Define x t e) p hs s cs all w = let k = term_few e p hs s cs all w in omega (arith, k)
+  action_few (Put a o e) p hs s cs all w =
+      let h = element_held p hs s a (stream_offset s.index o) (hold_term p hs s e cs) in
+      let k = term_few e p hs s cs all (λ z q. w z (h.more z q)) in
+      let j = element_few p hs s a (stream_offset s.index o) (hold_term p hs s e cs) in
+      omega (arith, k, j)
+  action_few (Update x op e) p hs s cs all w = let k = side_is_few (addend_of (operator_of op) e) e p hs s cs all w in omega (arith, k)
+  action_few (Choose c b d) p hs s cs all w =
+      let ds = hold_term p hs s c cs in
+      let es = hold_block p hs s b ds in
+      let hd = otherwise_held d p hs s es in
+      let hb = block_held b p hs s ds in
+      let k = term_few c p hs s cs all (λ z q. w z (hd.more z (hb.more z q))) in
+      let j = block_few b p hs s ds all (λ z q. w z (hd.more z q)) in
+      let h = otherwise_few d p hs s es all w in
       omega (arith, k, j, h)
-  action_few (Leave c) p i cs all w = let k = term_few c p i cs all w in omega (arith, k)
+  action_few (Leave c) p hs s cs all w = let k = term_few c p hs s cs all w in omega (arith, k)
 
-  block_few : (b : Block) (p : ℕ) (i : Option (List ℕ)) (cs all : List Constant) → Within (hold_block p i b cs) all → IsFew cs (hold_block p i b cs) (coded_block all i b) (block_size i b)
-  block_few Done p i cs all w = omega arith
-  block_few (Then s b) p i cs all w =
-      let hb = block_held b p i (hold_action p i s cs) in
-      let k = action_few s p i cs all (λ z q. w z (hb.more z q)) in
-      let j = block_few b p i (hold_action p i s cs) all w in
+  block_few : (b : Block) (p : ℕ) (hs : Homes) (s : Scope) (cs all : List Constant) → Within (hold_block p hs s b cs) all → IsFew cs (hold_block p hs s b cs) (coded_block all s.index b) (4 * block_size s.index b)
+  block_few Done p hs s cs all w = omega arith
+  block_few (Then a b) p hs s cs all w =
+      let hb = block_held b p hs s (hold_action p hs s a cs) in
+      let k = action_few a p hs s cs all (λ z q. w z (hb.more z q)) in
+      let j = block_few b p hs s (hold_action p hs s a cs) all w in
       omega (arith, k, j)
 
-  otherwise_few : (d : Otherwise) (p : ℕ) (i : Option (List ℕ)) (cs all : List Constant) → Within (hold_otherwise p i d cs) all → IsFew cs (hold_otherwise p i d cs) (coded_otherwise all i d) (otherwise_size i d)
-  otherwise_few Nothing p i cs all w = omega arith
-  otherwise_few (Else b) p i cs all w = let k = block_few b p i cs all w in omega (arith, k)
+  otherwise_few : (d : Otherwise) (p : ℕ) (hs : Homes) (s : Scope) (cs all : List Constant) → Within (hold_otherwise p hs s d cs) all → IsFew cs (hold_otherwise p hs s d cs) (coded_otherwise all s.index d) (4 * otherwise_size s.index d)
+  otherwise_few Nothing p hs s cs all w = omega arith
+  otherwise_few (Else b) p hs s cs all w = let k = block_few b p hs s cs all w in omega (arith, k)
 
 -- ---- a kernel
 
-turns_next : (p : ℕ) (i : Option (List ℕ)) (o : Option PlainLoop) → AreNext p 0 (turns_numbers p i o)
-turns_next p i None = tt
-turns_next p i (Some l) = (block_held l.body p i []).next tt
+turns_next : (p : ℕ) (hs : Homes) (s : Scope) (o : Option PlainLoop) → AreNext p 0 (turns_numbers p hs s o)
+turns_next p hs s None = tt
+turns_next p hs s (Some l) = (block_held l.body p hs s []).next tt
 
-pub numbers_next : (k : Program) → AreNext (length k.params) 0 (held_numbers k)
-numbers_next k = turns_next (length k.params) (loop_index k) k.turns
+pub numbers_next : (R : ℕ → ℕ) (k : Program) → AreNext (length k.params) 0 (held_numbers R k)
+numbers_next R k = turns_next (length k.params) (kernel_homes R k) (var_scope k) k.turns
 
-pub loop_numbers : (k : Program) (l : PlainLoop) → k.turns ≡ Some l → held_numbers k ≡ turns_numbers (length k.params) (loop_index k) (Some l)
-loop_numbers k l e = ap (turns_numbers (length k.params) (loop_index k)) e
-
-pub numbers_few : (k : Program) (l : PlainLoop) → k.turns ≡ Some l → length (held_numbers k) + coded_block (held_numbers k) (loop_index k) l.body ≤ block_size (loop_index k) l.body
-numbers_few k l e =
-    let cs = turns_numbers (length k.params) (loop_index k) (Some l) in
-    let f = block_few l.body (length k.params) (loop_index k) [] cs (λ z q. q) in
-    subst (λ ds. length ds + coded_block ds (loop_index k) l.body ≤ block_size (loop_index k) l.body) (ap (turns_numbers (length k.params) (loop_index k)) (back k l e)) (omega (arith, f))
-  where
-    back : (k : Program) (l : PlainLoop) → k.turns ≡ Some l → Some l ≡ k.turns
-    back k l e = subst (λ o. o ≡ k.turns) e refl
+pub numbers_few : (R : ℕ → ℕ) (k : Program) (l : PlainLoop) → k.turns ≡ Some l → loading_words (held_numbers R k) + coded_block (held_numbers R k) (var_scope k).index l.body ≤ 4 * block_size (var_scope k).index l.body
+numbers_few R k l e =
+    let p = length k.params in
+    let hs = kernel_homes R k in
+    let s = var_scope k in
+    let cs = turns_numbers p hs s (Some l) in
+    let f = block_few l.body p hs s [] cs (λ z q. q) in
+    subst (λ ds. loading_words ds + coded_block ds (var_scope k).index l.body ≤ 4 * block_size (var_scope k).index l.body) (ap (turns_numbers p hs s) (sym e)) (omega (arith, f))
 
 next_count : (p n : ℕ) (cs : List Constant) → n ≤ 9 → AreNext p n cs → length cs + n ≤ 9
 next_count p n [] le h = omega (arith, le)
-next_count p n (c ∷ cs) le h = let here = h.0 in let k = next_count p (n + 1) cs (omega (arith, here)) h.2 in omega (arith, k)
+next_count p n (c ∷ cs) le h = let here = h.0 in let k = next_count p (n + 1) cs (omega (arith, here)) h.3 in omega (arith, k)
+
+key_four : (z : Key) → key_words z ≤ 4
+key_four (OfNumber z) = omega arith
+key_four (OfAddress q c) = omega arith
+
+load_four : (cs : List Constant) → loading_words cs ≤ 4 * length cs
+load_four [] = omega arith
+load_four (c ∷ cs) = let a = key_four c.key in let b = load_four cs in omega (arith, a, b)
 
 -- at most nine registers
-pub few_numbers : (k : Program) → length (held_numbers k) ≤ 9
-few_numbers k = let h = next_count (length k.params) 0 (held_numbers k) (omega arith) (numbers_next k) in omega (arith, h)
+pub few_words : (R : ℕ → ℕ) (k : Program) → loading_words (held_numbers R k) ≤ 36
+few_words R k = let h = next_count (length k.params) 0 (held_numbers R k) (omega arith) (numbers_next R k) in let f = load_four (held_numbers R k) in omega (arith, h, f)
 
 -- ---- registers that fit, with the numbers
 

@@ -108,13 +108,13 @@ module _ (R : ℕ → ℕ) (k : Program) (fit : KernelFits R k) where
   comes D n rest i names m s res le at =
       let L = loop_layout R k in
       let p = length k.params in
-      let next = numbers_next k in
+      let next = numbers_next R k in
       let hs = kernel_homes R k in
       let j = scope_index k in
       let a = ap (λ j. answer_size j k.answer) j in
       let t = turn_size (var_scope k).index k.turns j in
       comes_within (4 * turns_size k.turns) (end_steps k) (omega (arith, t)) (omega (arith, a))
-      (turns_run D L (assigned_with (layout_of_kernel R k) p (held_numbers k) next fit.assigned) hs (var_scope k) fit.steady (λ b. safe_with (layout_of_kernel R k) (held_numbers k) b hs (fit.safe b)) k.turns (loop_start k) n (loop_end k) k.answer rest s.x i names m s (fits_turns L hs (var_scope k) (loop_start k) (loop_end k) k.answer k.turns fit.looped fit.straight) res le (λ p. at_head L R k i names m s p at))
+      (turns_run D L (assigned_with (layout_of_kernel R k) p (held_numbers R k) next fit.assigned) hs (var_scope k) fit.steady (λ b. safe_with (layout_of_kernel R k) (held_numbers R k) b hs (fit.safe b)) k.turns (loop_start k) n (loop_end k) k.answer rest s.x i names m s (fits_turns L hs (var_scope k) (loop_start k) (loop_end k) k.answer k.turns fit.looped fit.straight) res le (λ p. at_head L R k i names m s p at))
 
   pub scalar_runs : ScalarRuns R k
   scalar_runs = record {

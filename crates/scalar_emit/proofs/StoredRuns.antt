@@ -1,5 +1,5 @@
 -- What the code of a value that is stored does.
-use Rattle.std.proofs.Common.{◌≡◌, ℕ, ◌+◌, ◌*◌, ◌≤◌, true, List, Option, Some, None, sym, subst, arith}
+use Rattle.std.proofs.Common.{◌≡◌, ℕ, ◌+◌, ◌≤◌, true, List, Option, Some, None, sym, subst, arith}
 use Rattle.std.specs.Prelude.{ℤ, if◌then◌else◌}
 use Rattle.guest_types.specs.Memory.{Memory}
 use Rattle.machine_model.specs.Machine.{State}
@@ -12,7 +12,7 @@ use Rattle.label_fix.specs.DraftRun.{Entry, Laid}
 use Rattle.label_fix.proofs.StretchSteps.{Resolves}
 use Rattle.scalar_words.specs.Layout.{Layout, Homes}
 use Rattle.scalar_words.proofs.LayoutStates.{Assigned, AreSafe, Fixed, At}
-use Rattle.scalar_values.specs.HeldNumbers.{coded_size}
+use Rattle.scalar_values.specs.HeldNumbers.{coded_words}
 use Rattle.scalar_values.specs.ValueRegisters.{home}
 use Rattle.scalar_values.specs.ItemWords.{Register}
 use Rattle.scalar_values.specs.Code.{side_code, loose_code, parts_code}
@@ -33,7 +33,7 @@ module _ (D : Laid) (L : Layout) (fit : Assigned L) where
 
   -- the operand of a cast that is no word
   bare_runs : (e : Term) {W : Fixed L} {hs : Homes} (s : Scope) {names : Names} {m : Memory} {st : State} (w : Extent) (T : Ty) (b user n : ℕ) (rest : List Entry) → b + term_size s.index e ≤ user → is_bare s w e ≡ true → AreSafe L b hs → At W hs s.visible names m b st → Fits L hs s (Some T) b user e
-      → Resolves D (parts_code L hs s w (Some T) b n e rest) → Gives D L (parts_code L hs s w (Some T) b n e rest) st rest b (b + term_size s.index e) (operand_home L hs s.index b e) m (4 * coded_size L.constants s.index e) (loose s w (Some T) e m names)
+      → Resolves D (parts_code L hs s w (Some T) b n e rest) → Gives D L (parts_code L hs s w (Some T) b n e rest) st rest b (b + term_size s.index e) (operand_home L hs s.index b e) m (coded_words L.constants s.index e) (loose s w (Some T) e m names)
   bare_runs (Conversion e t) s w T b user n rest le f safe at h res = sided_gives (parts_runs D L fit (Conversion e t) s binary.Mul w T b user n rest le f safe at h res)
   bare_runs (Literal z) s w T b user n rest le f safe at h res = absurd cc
   bare_runs (Variable x) s w T b user n rest le f safe at h res = absurd cc
@@ -67,12 +67,12 @@ module _ (D : Laid) (L : Layout) (fit : Assigned L) where
 
   abbrev pub StoredRuns : Term → Homes → Scope → Names → Memory → State → Extent → (b user n : ℕ) → List Entry → Option Ty → Type 0
   StoredRuns e hs s names m st w b user n rest want =
-      Fits L hs s want b user e → Resolves D (stored_code L hs s w want b n e rest) → Gives D L (stored_code L hs s w want b n e rest) st rest b (b + term_size s.index e) (stored_home L hs s w b e) m (4 * coded_size L.constants s.index e) (loose s w want e m names)
+      Fits L hs s want b user e → Resolves D (stored_code L hs s w want b n e rest) → Gives D L (stored_code L hs s w want b n e rest) st rest b (b + term_size s.index e) (stored_home L hs s w b e) m (coded_words L.constants s.index e) (loose s w want e m names)
 
   stored_runs : (e : Term) {W : Fixed L} (hs : Homes) (s : Scope) (names : Names) (m : Memory) (st : State) (w : Extent) (T : Ty) (b user n : ℕ) (rest : List Entry) → b + term_size s.index e ≤ user → AreSafe L b hs → At W hs s.visible names m b st → StoredRuns e hs s names m st w b user n rest (Some T)
   stored_runs e hs s names m st w T b user n rest le safe at h res =
       by_led (λ l. Resolves D (side_code None l (loose_code L hs s w (Some T) b n e) (parts_code L hs s w (Some T) b n e) rest)
-      → Gives D L (side_code None l (loose_code L hs s w (Some T) b n e) (parts_code L hs s w (Some T) b n e) rest) st rest b (b + term_size s.index e) (if l then operand_home L hs s.index b e else home L hs s.index b e) m (4 * coded_size L.constants s.index e) (loose s w (Some T) e m names))
+      → Gives D L (side_code None l (loose_code L hs s w (Some T) b n e) (parts_code L hs s w (Some T) b n e) rest) st rest b (b + term_size s.index e) (if l then operand_home L hs s.index b e else home L hs s.index b e) m (coded_words L.constants s.index e) (loose s w (Some T) e m names))
       (is_bare s w e) (λ f r. bare_runs e s w T b user n rest le f safe at h r) (λ f r. loose_runs D L fit e s w T b user n rest le safe at h r) res
 
   pub stored_at_want : {W : Fixed L} (e : Term) (hs : Homes) (s : Scope) (names : Names) (m : Memory) (st : State) (w : Extent) (want : Option Ty) (T : Ty) (b user n : ℕ) (rest : List Entry) → want ≡ Some T → b + term_size s.index e ≤ user → AreSafe L b hs → At W hs s.visible names m b st → StoredRuns e hs s names m st w b user n rest want

@@ -344,7 +344,7 @@ fn emit_bound(draft: &mut Draft, bound: Reg) -> Result<(), AllocError>
     Ok(())
 }
 
-// The head of a loop: its first test, and the numbers that are held.
+// The head of a loop: its first test, and what is held.
 fn emit_entry(
     draft: &mut Draft,
     bound: Reg,
@@ -606,22 +606,56 @@ fn emit_straight(
     straight_named(draft, places, regs, &mut homes, &mut scope, kernel, item)
 }
 
-// The numbers of a loop are held.
+// What a loop holds, with no name declared yet.
+fn hold_named<'a>(
+    alloc: Global,
+    places: &mut Places,
+    regs: &Assigned,
+    homes: &mut Vec<Home<'a>>,
+    scope: &mut Scope<'a>,
+    kernel: &'a Kernel,
+    turns: &'a Loop,
+) -> Result<(), AllocError>
+    requires assigned { IsAssignment 15 regs.now }
+    requires vars { length (program_of kernel.now).vars ≤ length regs.now.registers }
+    requires params { length (program_of kernel.now).params ≤ 8 }
+    requires turns { (program_of kernel.now).turns ≡ Some (turns_of turns.now) }
+    requires scope { scope_of scope.old ≡ typing.empty (items.loop_index (program_of kernel.now)) }
+    requires homes { homes.old.items ≡ [] }
+    ensures { OnOk result (places.new
+        ≡ with_constants places.old (numbers.held_numbers (register_in regs.now) (program_of kernel.now))) }
+{
+    declare_names(scope, homes, regs, kernel)?;
+    let mut constants = Vec::new(alloc);
+    hold_block(
+        &mut constants,
+        kernel.params.len(),
+        homes,
+        scope,
+        &turns.body,
+    )?;
+    places.hold(constants);
+    Ok(())
+}
+
+// What a loop holds.
 fn hold_numbers(
     alloc: Global,
     places: &mut Places,
+    regs: &Assigned,
     kernel: &Kernel,
     turns: &Loop,
 ) -> Result<(), AllocError>
+    requires assigned { IsAssignment 15 regs.now }
+    requires vars { length (program_of kernel.now).vars ≤ length regs.now.registers }
     requires params { length (program_of kernel.now).params ≤ 8 }
     requires turns { (program_of kernel.now).turns ≡ Some (turns_of turns.now) }
-    ensures { OnOk result (places.new ≡ with_constants places.old (numbers.held_numbers (program_of kernel.now))) }
+    ensures { OnOk result (places.new
+        ≡ with_constants places.old (numbers.held_numbers (register_in regs.now) (program_of kernel.now))) }
 {
-    let scope = empty(alloc, Some(turns.index.text()));
-    let mut constants = Vec::new(alloc);
-    hold_block(&mut constants, kernel.params.len(), &scope, &turns.body)?;
-    places.hold(constants);
-    Ok(())
+    let mut scope = empty(alloc, Some(turns.index.text()));
+    let mut homes = Vec::new(alloc);
+    hold_named(alloc, places, regs, &mut homes, &mut scope, kernel, turns)
 }
 
 // The code of a kernel's loop and of what follows it; answers the label of its head, or before the returned value.
@@ -652,7 +686,7 @@ fn emit_rest(
         }
         Some(turns) => {
             let mut next = item;
-            hold_numbers(alloc, places, kernel, turns)?;
+            hold_numbers(alloc, places, regs, kernel, turns)?;
             let head = emit_turns(alloc, draft, places, regs, kernel, turns, &mut next)?;
             places.hold(Vec::new(alloc));
             emit_following(alloc, draft, places, regs, kernel, turns, next)?;

@@ -25,8 +25,9 @@ use label_fix::{Draft, Label};
 use scalar_values::extent::{
     Extent, binary_extent, converted_extent, extent_at, fits_at, within_type,
 };
-use scalar_values::instructions::{index_word, store};
+use scalar_values::instructions::{index as loop_variable, index_word, store};
 use scalar_values::operations::{emit_offset, want_operator};
+use scalar_values::place::place_of;
 use scalar_values::{emit_jump, emit_loose, emit_side, emit_value};
 use scalar_words::operations::{emit_copy, update_operator};
 use scalar_words::places::Places;
@@ -225,7 +226,10 @@ fn emit_store(
     let ty = lookup(scope, array).and_then(element_type);
     let extent = extent_at(ty);
     let from = emit_stored(draft, places, homes, scope, extent, ty, value, item)?;
-    emit_put(draft, scope, index, ty, from, register_at(homes, array))?;
+    match place_of(places, homes, scope, array, index) {
+        Some(place) => emit_into(draft, ty, from, place, loop_variable())?,
+        None => emit_put(draft, scope, index, ty, from, register_at(homes, array))?,
+    }
     *item += 1;
     Ok(())
 }

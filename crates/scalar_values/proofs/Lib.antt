@@ -1,7 +1,9 @@
 pub mod Loads
 pub mod CodedSizes
 pub mod Literals
+pub mod Places
 pub mod NumberCounts
+pub mod NearOffsets
 pub mod HoldTerms
 pub mod Comparisons
 pub mod Loose

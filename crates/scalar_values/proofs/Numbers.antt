@@ -85,7 +85,7 @@ immediate_is : (v w : ℕ) (b : Bool) → nat_lt v 4096 ≡ b → (if b then Som
 immediate_is v w true e h = let same : v ≡ w = cc in (sym same, omega (arith, same, ltb-true v 4096 e))
 immediate_is v w false e h = absurd cc
 
-addend_is : (v w : ℕ) (a b : Bool) → nat_lt v 4096 ≡ a → nat_lt 18446744073709547520 v ≡ b → (if a || b then Some v else None) ≡ Some w → (w ≡ v) × IsAddend w
+pub addend_is : (v w : ℕ) (a b : Bool) → nat_lt v 4096 ≡ a → nat_lt 18446744073709547520 v ≡ b → (if a || b then Some v else None) ≡ Some w → (w ≡ v) × IsAddend w
 addend_is v w true b e f h = let same : v ≡ w = cc in (sym same, inl (omega (arith, same, ltb-true v 4096 e)))
 addend_is v w false true e f h = let same : v ≡ w = cc in (sym same, inr (omega (arith, same, ltb-true 18446744073709547520 v f)))
 addend_is v w false false e f h = absurd cc

@@ -154,7 +154,7 @@ module _ (D : Laid) (L : Layout) (fit : Assigned L) where
   binary_runs op t x y a c d sized hi rx ry ex ey = set_more 4 (omega arith) (binary_sets D L fit op t x y a c d sized hi rx ry ex ey)
 
   -- d = a and a number more
-  number_goes : (v a d : ℕ) (s : State) (b : Bool) → nat_lt v 4096 ≡ b → v < 2 ^ 64 → IsAddend v → a ≤ 25 → d ≤ 25 → effect (add_word v d a) s ≡ Went (wrote s d (sum (x_at s a) v))
+  pub number_goes : (v a d : ℕ) (s : State) (b : Bool) → nat_lt v 4096 ≡ b → v < 2 ^ 64 → IsAddend v → a ≤ 25 → d ≤ 25 → effect (add_word v d a) s ≡ Went (wrote s d (sum (x_at s a) v))
   number_goes v a d s true e lt small la hi =
       let low : v % 4096 * 2 ^ (12 * 0) ≡ v = omega (arith, nat_lt-true v 4096 e) in
       ap (λ t. effect (if t then word_of add_imm (d ∷ a ∷ v % 4096 ∷ 0 ∷ []) else word_of sub_imm (d ∷ a ∷ (4096 - v % 4096) % 4096 ∷ 0 ∷ [])) s) e

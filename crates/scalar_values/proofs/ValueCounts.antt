@@ -14,10 +14,10 @@ use Rattle.scalar_values.specs.Extents.{Whole, within_type, converted_extent}
 use Rattle.scalar_values.specs.Leaving.{unary_asks, binary_asks, shift_asks, unary_settles, binary_settles, shift_settles}
 use Rattle.label_fix.specs.DraftRun.{Entry, Place}
 use Rattle.label_fix.specs.Finished.{size}
-use Rattle.scalar_words.specs.Layout.{Layout, Homes, reg_of, constant_at}
+use Rattle.scalar_words.specs.Layout.{OfNumber, Layout, Homes, reg_of, constant_at, register_at}
 use Rattle.scalar_words.specs.Words.{copy_word, settle_word, word_code, condition, at_type}
 use Rattle.scalar_values.specs.ItemWords.{Side, Number, Register, Product, Moved, convert_word, index_word, load_code, operator_code, unary_code, abs_code, shift_code, zero_test, tested_code, pick_code, placed_code}
-use Rattle.scalar_values.specs.Code.{number_code, signed_side, compared_number, added_number, is_fused, is_led, taken_side, side_code, parts_code, right_code, flag_condition, choice_code, loose_code, flags_code, jump_code}
+use Rattle.scalar_values.specs.Code.{number_code, place_of, signed_side, compared_number, added_number, is_fused, is_led, taken_side, side_code, parts_code, right_code, flag_condition, choice_code, loose_code, flags_code, jump_code}
 use Rattle.scalar_words.proofs.WordCounts.{within, one_word, operation_words, const_words}
 use Rattle.kernel_tree.specs.declared.ops.UnaryOp.TheVariants as unary
 
@@ -86,10 +86,10 @@ number_words None m inner rest k h f = let g = f h in omega (arith, g)
 module _ (L : Layout) (hs : Homes) where
   mutual
     pub loose_words : (e : Term) (s : Scope) (w : Extent) (want : Option Ty) (b n : ℕ) (rest : List Entry) (k : ℕ) → size rest ≤ k → size (loose_code L hs s w want b n e rest) ≤ 4 * term_size s.index e + k
-    loose_words (Literal z) s w want b n rest k h = within (omega arith) (right_words (constant_at L z) 4 _ rest k h (λ g. const_words (reg_of L b) (word (wrapped want z)) rest k g))
+    loose_words (Literal z) s w want b n rest k h = within (omega arith) (right_words (constant_at L (OfNumber z)) 4 _ rest k h (λ g. const_words (reg_of L b) (word (wrapped want z)) rest k g))
     loose_words (Variable x) s w want b n rest k h = omega (arith, h)
     loose_words (Element a j) s w want b n rest k h =
-        within (omega arith) (number_words (stream_offset s.index j) (term_size s.index j) _ _ _ (load_words (option_and_then element_type (lookup s a)) _ _ _ rest k h) (λ g. loose_words j s Whole (index_type s j) b n _ _ g))
+        within (omega arith) (right_words (place_of L (register_at hs a) (option_and_then element_type (lookup s a)) (stream_offset s.index j)) (4 * index_size (stream_offset s.index j) (term_size s.index j) + 1) _ _ (1 + k) (load_words (option_and_then element_type (lookup s a)) _ _ _ rest k h) (λ u. number_words (stream_offset s.index j) (term_size s.index j) _ _ _ u (λ g. loose_words j s Whole (index_type s j) b n _ _ g)))
     loose_words (Unary op x) s w want b n rest k h = within (omega arith) (loose_words x s (unary_asks s want op x w) want b n _ _ (unary_words (unary_settles s want op x w) want op _ _ rest k h))
     loose_words (Operation op x y) s w want b n rest k h =
         let j = binary_asks s want op x y w in

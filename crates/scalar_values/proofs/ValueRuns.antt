@@ -1,7 +1,6 @@
 -- What the code of expressions does.
 use Rattle.std.proofs.Common.{◌≡◌, ◌≢◌, ℕ, ◌+◌, ◌*◌, ◌%◌, ◌^◌, ◌<◌, ◌≤◌, ◌&&◌, ◌||◌, Bool, true, false, List, [], ◌∷◌, length, Option, Some, None, refl, sym, ap, ap₂, ◌∙◌, subst, arith}
 use Rattle.std.specs.Prelude.{ℤ, ◌+ℤ◌, ◌*ℤ◌, option_map, option_and_then, not, if◌then◌else◌}
-use Rattle.std.specs.List.{find}
 use Rattle.guest_types.specs.Memory.{Memory}
 use Rattle.machine_model.specs.Machine.{State, x_at, jump}
 use Rattle.machine_model.specs.declared.outcome.StopKind.TheVariants.{Read}
@@ -21,19 +20,20 @@ use Rattle.kernel_meaning.specs.Eval.{Names, value_at, iteration, element_number
 use Rattle.a64_code.specs.Table.{csel}
 use Rattle.label_fix.specs.DraftRun.{Entry, Put, Branch, Place, Always, Laid, following, address_of, word_of, ins}
 use Rattle.label_fix.proofs.StretchSteps.{Goes, Stops, Resolves, stay, chain, go_more, put_goes, stop_after, stop_more, taken_goes, pass}
-use Rattle.scalar_values.specs.HeldNumbers.{coded_size}
+use Rattle.scalar_values.specs.HeldNumbers.{element_words, coded_words}
+use Rattle.scalar_values.proofs.Places.{name_less, index_is, some_words, placed_nine, element_with, placed_runs}
 use Rattle.scalar_values.proofs.Literals.{literal_high, literal_apart, literal_runs}
 use Rattle.scalar_values.proofs.Comparisons.{IsSide, compare_goes}
 use Rattle.scalar_values.proofs.Numbers.{compared_right, compared_small, added_right}
 pub use Rattle.scalar_values.proofs.Jumps.{kept_jump, led, Turned, Turns, no_turn, turns, branch_goes, both_turn, over_turn, turns_more, not_turns}
 use Rattle.scalar_words.proofs.Compare.{compared}
-use Rattle.scalar_words.specs.Layout.{Layout, Home, Homes, is_home, reg_of, constant_at, IsMade, register_at, LastsAt, NameLasts}
+use Rattle.scalar_words.specs.Layout.{OfNumber, Layout, Homes, reg_of, constant_at, IsMade, register_at, NameLasts}
 use Rattle.scalar_values.specs.ValueRegisters.{home}
 use Rattle.scalar_values.specs.ItemWords.{Side, Number, Register, Product, Moved, shift_kind, load_code, operator_code, unary_code, abs_code, shift_code, index_word, index_register, convert_word, compare_word, zero_test, tested_code, pick_code, placed_code}
 use Rattle.scalar_words.specs.Words.{operation_code, word_code, copy_word, settle_word, condition, at_type}
-use Rattle.scalar_values.specs.Code.{labels, number_code, number_register, signed_side, compared_number, added_number, takes_product, takes_shift, stays, is_fused, part_side, side_by, right_side, side_code, is_led, taken_side, parts_code, right_code, flag_condition, choice_code, loose_code, value_code, flags_code, jump_code}
+use Rattle.scalar_values.specs.Code.{labels, number_code, number_register, place_of, signed_side, compared_number, added_number, takes_product, takes_shift, stays, is_fused, part_side, side_by, right_side, side_code, is_led, taken_side, parts_code, right_code, flag_condition, choice_code, loose_code, value_code, flags_code, jump_code}
 use Rattle.scalar_values.specs.Fits.{Fits, FitsTruth, FitsIndex, IndexAt, IsSome}
-use Rattle.scalar_words.proofs.LayoutStates.{AreRanged, Assigned, Kept, AreSafe, Held, Fixed, At, wrote, wrote_same, kept_none, kept_more, kept_item, kept_changes, kept_on, kept_both, at_kept, lasts_less, safe_later, name_held, name_found}
+use Rattle.scalar_words.proofs.LayoutStates.{AreRanged, Assigned, Kept, AreSafe, Fixed, At, wrote, wrote_same, kept_none, kept_more, kept_item, kept_changes, kept_on, kept_both, at_kept, safe_later, name_held, name_found}
 use Rattle.scalar_words.proofs.WordsRuns.{Gets, gets, more, copied_sets}
 use Rattle.scalar_values.proofs.Loads.{Gives, no_value, a_value, load_runs, index_runs}
 use Rattle.scalar_words.proofs.Constants.{word_back, const_back}
@@ -51,27 +51,20 @@ use Rattle.kernel_tree.specs.declared.ops.Ty.TheVariants as ty
 use Rattle.kernel_tree.specs.declared.ops.BinaryOp.TheVariants as binary
 use Rattle.kernel_tree.specs.declared.ops.UnaryOp.TheVariants as unary
 
-name_less_in : (h : Option Home) (p q : ℕ) → q ≤ p → LastsAt h p → LastsAt h q
-name_less_in None p q le h = h
-name_less_in (Some h) p q le k = lasts_less h.last_use p q le k
-
-pub name_less : (hs : Homes) (x : List ℕ) (p q : ℕ) → q ≤ p → NameLasts hs x p → NameLasts hs x q
-name_less hs x p q le h = name_less_in (find (is_home x) hs) p q le h
-
 -- what the code of an expression does where a type is wanted of it
 abbrev pub Runs : Laid → Layout → Term → Homes → Scope → Names → Memory → State → (b user n : ℕ) → List Entry → Option Ty → Type 0
 Runs D L e hs s names m st b user n rest want =
-    Fits L hs s want b user e → Resolves D (value_code L hs s want b n e rest) → Gives D L (value_code L hs s want b n e rest) st rest b (b + term_size s.index e) (home L hs s.index b e) m (4 * coded_size L.constants s.index e) (value s want e m names)
+    Fits L hs s want b user e → Resolves D (value_code L hs s want b n e rest) → Gives D L (value_code L hs s want b n e rest) st rest b (b + term_size s.index e) (home L hs s.index b e) m (coded_words L.constants s.index e) (value s want e m names)
 
 -- the same where so much is asked for
 abbrev pub LooseRuns : Laid → Layout → Term → Homes → Scope → Names → Memory → State → Extent → (b user n : ℕ) → List Entry → Option Ty → Type 0
 LooseRuns D L e hs s names m st w b user n rest want =
-    Fits L hs s want b user e → Resolves D (loose_code L hs s w want b n e rest) → Gives D L (loose_code L hs s w want b n e rest) st rest b (b + term_size s.index e) (home L hs s.index b e) m (4 * coded_size L.constants s.index e) (loose s w want e m names)
+    Fits L hs s want b user e → Resolves D (loose_code L hs s w want b n e rest) → Gives D L (loose_code L hs s w want b n e rest) st rest b (b + term_size s.index e) (home L hs s.index b e) m (coded_words L.constants s.index e) (loose s w want e m names)
 
 -- where the whole value is asked for, it is the value
 exact : {D : Laid} {L : Layout} {st : State} {rest : List Entry} (hs : Homes) (b user n : ℕ) (e : Term) (s : Scope) (names : Names) (m : Memory) (want : Option Ty) → AreRanged s.visible names → LooseRuns D L e hs s names m st Whole b user n rest want → Runs D L e hs s names m st b user n rest want
 exact {D = D} {L = L} {st = st} {rest = rest} hs b user n e s names m want ranged k fits res =
-    subst (λ o. Gives D L (value_code L hs s want b n e rest) st rest b (b + term_size s.index e) (home L hs s.index b e) m (4 * coded_size L.constants s.index e) o) (whole_is s m names ranged e want (fits_types e L hs s want b user fits)) (k fits res)
+    subst (λ o. Gives D L (value_code L hs s want b n e rest) st rest b (b + term_size s.index e) (home L hs s.index b e) m (coded_words L.constants s.index e) o) (whole_is s m names ranged e want (fits_types e L hs s want b user fits)) (k fits res)
 
 -- an operand of which the whole value is asked for is the value, and of its type
 loose_value : (w : Extent) (L : Layout) (hs : Homes) (s : Scope) (names : Names) (m : Memory) (e : Term) (T : Ty) (b user : ℕ) (v : ℤ) → Fits L hs s (Some T) b user e → AreRanged s.visible names → loose s w (Some T) e m names ≡ Some v → w ≡ Whole → value s (Some T) e m names ≡ Some v
@@ -94,11 +87,6 @@ first_some (Some u) t = tt
 
 index_some : (s : Scope) (i : Term) → IsSome (index_type s i)
 index_some s i = first_some (own s i) ty.U64
-
--- the loop variable
-pub index_is : (hs : Homes) (i : Option (List ℕ)) (names : Names) (p b : ℕ) (st : State) → b ≤ p → IndexAt hs i p → length st.x ≡ 31 → Held hs names b st → x_at st 9 ≡ word (iteration i names)
-index_is hs None names p b st le h sized held = absurd h
-index_is hs (Some x) names p b st le h sized held = ap (x_at st) (sym h.0) ∙ name_held hs names x b st sized held (name_less hs x p b le h.1)
 
 pub give_more : (D : Laid) (L : Layout) {c rest : List Entry} {s : State} {b e r m1 : ℕ} {m : Memory} {o : Option ℤ} (most : ℕ) → m1 ≤ most → Gives D L c s rest b e r m m1 o → Gives D L c s rest b e r m most o
 give_more D L most le (no_value k) = no_value (stop_more most le k)
@@ -293,7 +281,7 @@ module _ (D : Laid) (L : Layout) (fit : Assigned L) where
 
   -- the register of a value: in range, and kept until the item that uses it
   pub home_high : (e : Term) (hs : Homes) (s : Scope) (want : Option Ty) (b user : ℕ) → b + term_size s.index e ≤ user → Fits L hs s want b user e → AreSafe L b hs → home L hs s.index b e ≤ 25
-  home_high (Literal n) hs s want b user le h safe = literal_high D L fit (constant_at L n) n b user refl (omega arith) h.0
+  home_high (Literal n) hs s want b user le h safe = literal_high D L fit (constant_at L (OfNumber n)) n b user refl (omega arith) h.0
   home_high (Variable x) hs s want b user le h safe = (name_found L hs x b user (omega arith) safe h.0).high
   home_high (Element a e) hs s want b user le h safe = fit.high _ (omega (arith, h.3))
   home_high (Unary op e) hs s want b user le h safe = fit.high _ (omega (arith, h.2))
@@ -307,7 +295,7 @@ module _ (D : Laid) (L : Layout) (fit : Assigned L) where
   home_high (Not e) hs s want b user le h safe = absurd h
 
   pub home_apart : (e : Term) (hs : Homes) (s : Scope) (want : Option Ty) (b user : ℕ) → b + term_size s.index e ≤ user → Fits L hs s want b user e → AreSafe L b hs → (p : ℕ) → b + term_size s.index e ≤ p → p < user → IsMade L p → reg_of L p ≢ home L hs s.index b e
-  home_apart (Literal n) hs s want b user le h safe p lo up made = literal_apart D L fit (constant_at L n) n b user p refl h.0 (omega arith) up made
+  home_apart (Literal n) hs s want b user le h safe p lo up made = literal_apart D L fit (constant_at L (OfNumber n)) n b user p refl h.0 (omega arith) up made
   home_apart (Variable x) hs s want b user le h safe p lo up made = (name_found L hs x b user (omega arith) safe h.0).apart p (omega arith) up made
   home_apart (Element a e) hs s want b user le h safe p lo up made = fit.apart p _ (omega arith) (omega (arith, h.3)) made
   home_apart (Unary op e) hs s want b user le h safe p lo up made = fit.apart p _ (omega arith) (omega (arith, h.2)) made
@@ -429,9 +417,9 @@ module _ (D : Laid) (L : Layout) (fit : Assigned L) where
 
   mutual
     pub loose_back : (e : Term) (hs : Homes) (s : Scope) (w : Extent) (want : Option Ty) (b n : ℕ) (rest : List Entry) → Resolves D (loose_code L hs s w want b n e rest) → Resolves D rest
-    loose_back (Literal z) hs s w want b n rest h = right_back (constant_at L z) _ rest (const_back D (reg_of L b) (word (wrapped want z)) rest) h
+    loose_back (Literal z) hs s w want b n rest h = right_back (constant_at L (OfNumber z)) _ rest (const_back D (reg_of L b) (word (wrapped want z)) rest) h
     loose_back (Variable x) hs s w want b n rest h = h
-    loose_back (Element a i) hs s w want b n rest h = load_back _ _ _ _ rest (number_back (stream_offset s.index i) _ _ (loose_back i hs s Whole (index_type s i) b n _) h)
+    loose_back (Element a i) hs s w want b n rest h = load_back _ _ _ _ rest (right_back (place_of L (register_at hs a) (option_and_then element_type (lookup s a)) (stream_offset s.index i)) _ _ (number_back (stream_offset s.index i) _ _ (loose_back i hs s Whole (index_type s i) b n _)) h)
     loose_back (Unary op e) hs s w want b n rest h = unary_back (unary_settles s want op e w) want op _ _ rest (loose_back e hs s (unary_asks s want op e w) want b n _ h)
     loose_back (Operation op x y) hs s w want b n rest h =
         let k = binary_asks s want op x y w in
@@ -497,29 +485,29 @@ module _ (D : Laid) (L : Layout) (fit : Assigned L) where
   element_runs : {w : Fixed L} {hs : Homes} (s : Scope) {names : Names} {m : Memory} {st : State} (a : List ℕ) (i : Term) (T : Ty) (b n : ℕ) (rest : List Entry) (o : Option ℤ) → stream_offset s.index i ≡ o → option_and_then element_type (lookup s a) ≡ Some T → FitsIndex o (IndexAt hs s.index (b + index_size o (term_size s.index i))) (Fits L hs s (index_type s i) b (b + index_size o (term_size s.index i)) i) → NameLasts hs a (b + index_size o (term_size s.index i)) → IsMade L (b + index_size o (term_size s.index i)) → AreSafe L b hs → At w hs s.visible names m b st
       → Resolves D (number_code o (value_code L hs s (index_type s i) b n i) (load_code (option_and_then element_type (lookup s a)) (reg_of L (b + index_size o (term_size s.index i))) (register_at hs a) (number_register o (home L hs s.index b i)) rest))
       → ((rest : List Entry) → Runs D L i hs s names m st b (b + term_size s.index i) n rest (index_type s i))
-      → Gives D L (number_code o (value_code L hs s (index_type s i) b n i) (load_code (option_and_then element_type (lookup s a)) (reg_of L (b + index_size o (term_size s.index i))) (register_at hs a) (number_register o (home L hs s.index b i)) rest)) st rest b (b + (index_size o (term_size s.index i) + 1)) (reg_of L (b + index_size o (term_size s.index i))) m (4 * (index_size o (coded_size L.constants s.index i) + 1))
+      → Gives D L (number_code o (value_code L hs s (index_type s i) b n i) (load_code (option_and_then element_type (lookup s a)) (reg_of L (b + index_size o (term_size s.index i))) (register_at hs a) (number_register o (home L hs s.index b i)) rest)) st rest b (b + (index_size o (term_size s.index i) + 1)) (reg_of L (b + index_size o (term_size s.index i))) m ((element_words o (coded_words L.constants s.index i)))
       (option_and_then (read_element (option_and_then element_type (lookup s a)) m (value_at names a)) (element_number o (iteration s.index names) (value s (index_type s i) i m names)))
   element_runs {hs = hs} s {names = names} {m = m} {st = st} a i T b n rest (Some c) is type fits lasts made safe at res inner =
       let r = index_register (index_word c) in
       let last = load_code (option_and_then element_type (lookup s a)) (reg_of L (b + 0)) (register_at hs a) r rest in
       let g = index_runs D L fit {rest = last} (iteration s.index names) c b (b + 0) at.sized (index_is hs s.index names (b + 0) b st (omega arith) fits.1 at.sized at.held) fits.0 in
       let e : b + 0 + 1 ≡ b + (0 + 1) = omega arith in
-      subst (λ q. Gives D L (word_code (index_word c) last) st rest b q (reg_of L (b + 0)) m 4 (read_element (option_and_then element_type (lookup s a)) m (value_at names a) (iteration s.index names +ℤ c))) e
-      (give_more D L 4 (omega arith) (read_runs T (option_and_then element_type (lookup s a)) a (b + 0) r (iteration s.index names +ℤ c) type lasts (omega arith) safe made at g.goes g.kept g.value))
+      subst (λ q. Gives D L (word_code (index_word c) last) st rest b q (reg_of L (b + 0)) m 2 (read_element (option_and_then element_type (lookup s a)) m (value_at names a) (iteration s.index names +ℤ c))) e
+      (give_more D L 2 (omega arith) (read_runs T (option_and_then element_type (lookup s a)) a (b + 0) r (iteration s.index names +ℤ c) type lasts (omega arith) safe made at g.goes g.kept g.value))
   element_runs {hs = hs} s {names = names} {m = m} {st = st} a i T b n rest None is type fits lasts made safe at res inner =
       computed (value s (index_type s i) i m names) (inner last fits res)
     where
       last : List Entry
       last = load_code (option_and_then element_type (lookup s a)) (reg_of L (b + term_size s.index i)) (register_at hs a) (home L hs s.index b i) rest
 
-      computed : (o : Option ℤ) → Gives D L (value_code L hs s (index_type s i) b n i last) st last b (b + term_size s.index i) (home L hs s.index b i) m (4 * coded_size L.constants s.index i) o
-          → Gives D L (value_code L hs s (index_type s i) b n i last) st rest b (b + (term_size s.index i + 1)) (reg_of L (b + term_size s.index i)) m (4 * (coded_size L.constants s.index i + 1)) (option_and_then (read_element (option_and_then element_type (lookup s a)) m (value_at names a)) o)
+      computed : (o : Option ℤ) → Gives D L (value_code L hs s (index_type s i) b n i last) st last b (b + term_size s.index i) (home L hs s.index b i) m (coded_words L.constants s.index i) o
+          → Gives D L (value_code L hs s (index_type s i) b n i last) st rest b (b + (term_size s.index i + 1)) (reg_of L (b + term_size s.index i)) m ((coded_words L.constants s.index i + 4)) (option_and_then (read_element (option_and_then element_type (lookup s a)) m (value_at names a)) o)
       computed None (no_value k) = no_value (stop_more _ (omega arith) k)
       computed (Some x) (a_value k) =
           let p = b + term_size s.index i in
           let e : p + 1 ≡ b + (term_size s.index i + 1) = omega arith in
-          subst (λ q. Gives D L (value_code L hs s (index_type s i) b n i last) st rest b q (reg_of L p) m (4 * (coded_size L.constants s.index i + 1)) (read_element (option_and_then element_type (lookup s a)) m (value_at names a) x)) e
-          (give_more D L (4 * (coded_size L.constants s.index i + 1)) (omega arith) (read_runs T (option_and_then element_type (lookup s a)) a p (home L hs s.index b i) x type lasts (omega arith) safe made at k.goes k.kept k.value))
+          subst (λ q. Gives D L (value_code L hs s (index_type s i) b n i last) st rest b q (reg_of L p) m ((coded_words L.constants s.index i + 4)) (read_element (option_and_then element_type (lookup s a)) m (value_at names a) x)) e
+          (give_more D L ((coded_words L.constants s.index i + 4)) (omega arith) (read_runs T (option_and_then element_type (lookup s a)) a p (home L hs s.index b i) x type lasts (omega arith) safe made at k.goes k.kept k.value))
 
   -- the sides of a comparison are in range
   sides_range : (x y : Term) (hs : Homes) (s : Scope) (names : Names) (m : Memory) (b : ℕ) (u v : ℤ) → AreRanged s.visible names
@@ -542,7 +530,7 @@ module _ (D : Laid) (L : Layout) (fit : Assigned L) where
       → ((T : Ty) (t : State) → Kept L st t b (b + term_size s.index x) → Runs D L y hs s names m t (b + term_size s.index x) (b + term_size s.index x + term_size s.index y) (n + labels s.index x) rest (Some T))
       → Resolves D (value_code L hs s (side_type s x y) b n x (right_code (compared_number (side_type s x y) y) (value_code L hs s (side_type s x y) (b + term_size s.index x) (n + labels s.index x) y) rest))
       → Pairs D L (value_code L hs s (side_type s x y) b n x (right_code (compared_number (side_type s x y) y) (value_code L hs s (side_type s x y) (b + term_size s.index x) (n + labels s.index x) y) rest)) st rest b (b + term_size s.index x + term_size s.index y)
-      (home L hs s.index b x) (IsSide (compared_number (side_type s x y) y) (home L hs s.index (b + term_size s.index x) y)) m (4 * coded_size L.constants s.index x + 4 * coded_size L.constants s.index y) (value s (side_type s x y) x m names) (value s (side_type s x y) y m names)
+      (home L hs s.index b x) (IsSide (compared_number (side_type s x y) y) (home L hs s.index (b + term_size s.index x) y)) m (coded_words L.constants s.index x + coded_words L.constants s.index y) (value s (side_type s x y) x m names) (value s (side_type s x y) y m names)
   sides_run x y hs s names {m = m} {st = st} b n rest safe h left right res =
       let q = some_type (side_type s x y) h.0 in
       let want = side_type s x y in
@@ -550,7 +538,7 @@ module _ (D : Laid) (L : Layout) (fit : Assigned L) where
       let number = compared_number want y in
       let codey = right_code number (value_code L hs s want b1 (n + labels s.index x) y) rest in
       let runx : Runs D L x hs s names m st b c n codey want = subst (λ w. Runs D L x hs s names m st b c n codey w) (sym q.1) (left q.0 codey) in
-      pair_runs (4 * coded_size L.constants s.index x + 4 * coded_size L.constants s.index y) (omega arith) (omega arith) (omega arith)
+      pair_runs (coded_words L.constants s.index x + coded_words L.constants s.index y) (omega arith) (omega arith) (omega arith)
       (home_high x hs s want b c (omega arith) h.1 safe) (λ p lo up made. home_apart x hs s want b c (omega arith) h.1 safe p lo up made)
       (runx h.1 res)
       (λ t k. right_runs _ (value s want y m names) number (compared_right s want y m names) (value_back x hs s want b n _ res)
@@ -559,29 +547,37 @@ module _ (D : Laid) (L : Layout) (fit : Assigned L) where
   -- one of two registers, by a condition
   pick_runs : (c : Term) (hs : Homes) (s : Scope) (names : Names) {m : Memory} {st : State} (x y : ℤ) (n b e hx hy : ℕ) (rest : List Entry) (o : Option ℕ) → b + term_size s.index c < e → length st.x ≡ 31 → IsMade L (b + term_size s.index c) → hx ≤ 25 → hy ≤ 25
       → ((q : ℕ) → b ≤ q → q < b + term_size s.index c → IsMade L q → reg_of L q ≢ hx) → ((q : ℕ) → b ≤ q → q < b + term_size s.index c → IsMade L q → reg_of L q ≢ hy) → x_at st hx ≡ word x → x_at st hy ≡ word y
-      → ((k : ℕ) (rest : List Entry) → o ≡ Some k → Resolves D (flags_code L hs s b (n + 2) c rest) → Flagged D L (flags_code L hs s b (n + 2) c rest) st rest b (b + term_size s.index c) k m (4 * coded_size L.constants s.index c) (holds s c m names))
-      → ((rest : List Entry) → Resolves D (jump_code L hs s false n b (n + 2) c rest) → Turns D L (jump_code L hs s false n b (n + 2) c rest) st n rest b (b + term_size s.index c) m (4 * coded_size L.constants s.index c) false (holds s c m names))
+      → ((k : ℕ) (rest : List Entry) → o ≡ Some k → Resolves D (flags_code L hs s b (n + 2) c rest) → Flagged D L (flags_code L hs s b (n + 2) c rest) st rest b (b + term_size s.index c) k m (coded_words L.constants s.index c) (holds s c m names))
+      → ((rest : List Entry) → Resolves D (jump_code L hs s false n b (n + 2) c rest) → Turns D L (jump_code L hs s false n b (n + 2) c rest) st n rest b (b + term_size s.index c) m (coded_words L.constants s.index c) false (holds s c m names))
       → Resolves D (choice_code o (flags_code L hs s b (n + 2) c) (jump_code L hs s false n b (n + 2) c) (reg_of L (b + term_size s.index c)) hx hy n rest)
-      → Gives D L (choice_code o (flags_code L hs s b (n + 2) c) (jump_code L hs s false n b (n + 2) c) (reg_of L (b + term_size s.index c)) hx hy n rest) st rest b e (reg_of L (b + term_size s.index c)) m (4 * (coded_size L.constants s.index c + 1)) (chosen (Some x) (Some y) (holds s c m names))
+      → Gives D L (choice_code o (flags_code L hs s b (n + 2) c) (jump_code L hs s false n b (n + 2) c) (reg_of L (b + term_size s.index c)) hx hy n rest) st rest b e (reg_of L (b + term_size s.index c)) m ((coded_words L.constants s.index c + 4)) (chosen (Some x) (Some y) (holds s c m names))
   pick_runs c hs s names x y n b e hx hy rest (Some k) lt sized made ix iy ax ay ex ey flags turn res =
-      flag_picks x y (4 * (coded_size L.constants s.index c + 1)) (omega arith) (omega arith) lt made sized ix iy ax ay ex ey (flags k _ refl res)
+      flag_picks x y ((coded_words L.constants s.index c + 4)) (omega arith) (omega arith) lt made sized ix iy ax ay ex ey (flags k _ refl res)
   pick_runs c hs s names x y n b e hx hy rest None lt sized made ix iy ax ay ex ey flags turn res =
       let r = pick_back (reg_of L (b + term_size s.index c)) hx hy n rest (jump_back c hs s false n b (n + 2) _ res) in
-      jump_picks x y (4 * (coded_size L.constants s.index c + 1)) (omega arith) (omega arith) lt made sized ix iy ax ay ex ey r.0 r.1.0 (turn _ res)
+      jump_picks x y ((coded_words L.constants s.index c + 4)) (omega arith) (omega arith) lt made sized ix iy ax ay ex ey r.0 r.1.0 (turn _ res)
 
   -- what the code of an expression does
   mutual
     pub loose_runs : (e : Term) {W : Fixed L} {hs : Homes} (s : Scope) {names : Names} {m : Memory} {st : State} (w : Extent) (T : Ty) (b user n : ℕ) (rest : List Entry) → b + term_size s.index e ≤ user → AreSafe L b hs → At W hs s.visible names m b st → LooseRuns D L e hs s names m st w b user n rest (Some T)
-    loose_runs (Literal z) {W = W} s w T b user n rest le safe at h res = literal_runs D L fit (constant_at L z) {W = W} z T b user refl (omega arith) at h.0 h.1
+    loose_runs (Literal z) {W = W} s w T b user n rest le safe at h res = literal_runs D L fit (constant_at L (OfNumber z)) {W = W} z T b user refl (omega arith) at h.0 h.1
     loose_runs (Variable x) {hs = hs} s {names = names} {st = st} w T b user n rest le safe at h res =
         a_value (record { end = st; goes = stay 4; kept = kept_none L st b (b + 1); value = name_held hs names x b st at.sized at.held (name_less hs x user b (omega arith) h.0) })
     loose_runs (Element a i) {hs = hs} s {names = names} {m = m} {st = st} w T b user n rest le safe at h res =
         let q = some_type (index_type s i) (index_some s i) in
-        element_runs s a i T b n rest (stream_offset s.index i) refl h.0 h.1 h.2 (omega (arith, h.3)) safe at res
-        (λ rest2. subst (λ w. Runs D L i hs s names m st b (b + term_size s.index i) n rest2 w) (sym q.1) (exact hs b (b + term_size s.index i) n i s names m (Some q.0) at.ranged (loose_runs i s Whole q.0 b (b + term_size s.index i) n rest2 (omega arith) safe at)))
+        let o = stream_offset s.index i in
+        let ot = option_and_then element_type (lookup s a) in
+        let p = b + index_size o (term_size s.index i) in
+        let e : p + 1 ≡ b + (index_size o (term_size s.index i) + 1) = omega arith in
+        element_with D L fit (place_of L (register_at hs a) ot o) _ (λ x y. load_code ot (reg_of L p) x y rest) res
+        (λ r. element_runs s a i T b n rest o refl h.0 h.1 h.2 (omega (arith, h.3)) safe at r
+        (λ rest2. subst (λ w. Runs D L i hs s names m st b (b + term_size s.index i) n rest2 w) (sym q.1) (exact hs b (b + term_size s.index i) n i s names m (Some q.0) at.ranged (loose_runs i s Whole q.0 b (b + term_size s.index i) n rest2 (omega arith) safe at))))
+        (λ r is. subst (λ k. Gives D L (load_code ot (reg_of L p) r 9 rest) st rest b k (reg_of L p) m (element_words o (coded_words L.constants s.index i)) (option_and_then (read_element ot m (value_at names a)) (element_number o (iteration s.index names) (value s (index_type s i) i m names)))) e
+        (give_more D L _ (some_words o (coded_words L.constants s.index i)) (placed_runs D L fit a T ot o (iteration s.index names) r p b h.0 is (name_less hs a p b (omega arith) h.2) (omega arith) (omega (arith, h.3)) (placed_nine L _ o (iteration s.index names) r hs s a ot p b st names is h.1 (omega arith) at.sized at.held) at
+        (λ o. element_number o (iteration s.index names) (value s (index_type s i) i m names)) (λ c f. ap (λ o. element_number o (iteration s.index names) (value s (index_type s i) i m names)) f))))
     loose_runs (Unary op e) {hs = hs} s {names = names} {m = m} w T b user n rest le safe at h res =
         let k1 = unary_asks s (Some T) op e w in
-        map_runs (loose_unary op w (Some T)) (4 * (coded_size L.constants s.index e + 1)) (omega arith) (omega arith) (omega arith)
+        map_runs (loose_unary op w (Some T)) ((coded_words L.constants s.index e + 4)) (omega arith) (omega arith) (omega arith)
         (loose_runs e s k1 T b _ n _ (omega arith) safe at h.1 res)
         (λ t x is k ex. gets D L (b + term_size s.index e) _ _ (omega arith) (omega arith) (omega (arith, h.2)) (unary_runs D L fit op (unary_may_leave s (Some T) op e) w T x _ _ (k.sized ∙ at.sized) (home_high e hs s (Some T) b (b + term_size s.index e) (omega arith) h.1 safe) (fit.high _ (omega (arith, h.2))) (loose_range k1 L hs s names m e T b _ x h.1 at.ranged is)
         (λ whole stays. unary_keeps s m names at.ranged T op e x (fits_types e L hs s (Some T) b _ h.1) (loose_value k1 L hs s names m e T b _ x h.1 at.ranged is whole) (loose_range k1 L hs s names m e T b _ x h.1 at.ranged is whole) stays) ex))
@@ -590,7 +586,7 @@ module _ (D : Laid) (L : Layout) (fit : Assigned L) where
         let b1 = b + term_size i x in let c = b1 + term_size i y in let e1 = b + (term_size i x + term_size i y + 1) in
         let k1 = binary_asks s (Some T) op x y w in
         let leaves = binary_may_leave s (Some T) op x y in
-        let most = 4 * (coded_size L.constants i x + coded_size L.constants i y + 1) in
+        let most = (coded_words L.constants i x + coded_words L.constants i y + 4) in
         let hx = home_high x hs s (Some T) b c (omega arith) h.1 safe in
         let safe1 = safe_later L hs b b1 (omega arith) safe in
         let vx = loose s k1 (Some T) x m names in let vy = loose s k1 (Some T) y m names in
@@ -610,14 +606,14 @@ module _ (D : Laid) (L : Layout) (fit : Assigned L) where
         let same : side_code number false whole parts last ≡ whole last = alone_code s op k1 (Some T) x y whole parts last known.alone in
         subst (λ o. Gives D L (code true) st rest b e1 (reg_of L c) m most o) (on_both-turned (loose_binary op w (Some T)) vx vy)
         (op_runs (λ v u. loose_binary op w (Some T) u v) most (omega arith) (omega arith) (omega arith)
-        (led_pairs D L fit part (term_size i y) (4 * coded_size L.constants i x + 4 * coded_size L.constants i y) (omega arith) (omega arith) refl (part_high x hs s op k1 T b c known.fused h.1 safe) known.lasts
+        (led_pairs D L fit part (term_size i y) (coded_words L.constants i x + coded_words L.constants i y) (omega arith) (omega arith) refl (part_high x hs s op k1 T b c known.fused h.1 safe) known.lasts
         (parts_runs x s op k1 T b c n _ (omega arith) known.fused safe at h.1 r)
-        (λ t k. subst (λ es. Gives D L es t last b1 c (home L hs i b1 y) m (4 * coded_size L.constants i y) vy) (sym same) (loose_runs y s k1 T b1 c _ _ (omega arith) safe1 (at_kept L fit b b1 (omega arith) safe at k) h.2 (subst (λ es. Resolves D es) same (parts_back x hs s k1 (Some T) b n _ r)))))
+        (λ t k. subst (λ es. Gives D L es t last b1 c (home L hs i b1 y) m (coded_words L.constants i y) vy) (sym same) (loose_runs y s k1 T b1 c _ _ (omega arith) safe1 (at_kept L fit b b1 (omega arith) safe at k) h.2 (subst (λ es. Resolves D es) same (parts_back x hs s k1 (Some T) b n _ r)))))
         (λ t v u js is k ey ex. gets D L c c e1 (omega arith) (omega arith) (omega (arith, h.3)) (turned_runs D L fit part op leaves w T u v _ _ known.turns (k.sized ∙ at.sized) hy (fit.high _ (omega (arith, h.3))) (λ e. and_true (binary_leaves op) _ e)
         (λ e. (loose_range k1 L hs s names m x T b c u h.1 at.ranged is e, loose_range k1 L hs s names m y T b1 c v h.2 at.ranged js e)) (operator_keeps L user x y hs s names m op k1 T b u v at.ranged h is js) (part_taken op L hs s k1 T b x known.fused) ex ey))))
         (λ straight r.
         op_runs (loose_binary op w (Some T)) most (omega arith) (omega arith) (omega arith)
-        (pair_runs (4 * coded_size L.constants i x + 4 * coded_size L.constants i y) (omega arith) (omega arith) (omega arith) hx (λ p lo up made. home_apart x hs s (Some T) b c (omega arith) h.1 safe p lo up made)
+        (pair_runs (coded_words L.constants i x + coded_words L.constants i y) (omega arith) (omega arith) (omega arith) hx (λ p lo up made. home_apart x hs s (Some T) b c (omega arith) h.1 safe p lo up made)
         (loose_runs x s k1 T b c n _ (omega arith) safe at h.1 r)
         (λ t k. sided_by whole parts vy number fused (home L hs i b1 y) (part_side L hs i (Some T) b1 y) (added_right op s k1 (Some T) y m names) (loose_back x hs s k1 (Some T) b n _ r)
         (λ q. loose_runs y s k1 T b1 c _ _ (omega arith) safe1 (at_kept L fit b b1 (omega arith) safe at k) h.2 q)
@@ -627,7 +623,7 @@ module _ (D : Laid) (L : Layout) (fit : Assigned L) where
         res
     loose_runs (Shift left e z) {hs = hs} s {names = names} {m = m} w T b user n rest le safe at h res =
         let k1 = shift_asks s (Some T) left e z w in
-        map_runs (loose_shift left z w (Some T)) (4 * (coded_size L.constants s.index e + 1)) (omega arith) (omega arith) (omega arith)
+        map_runs (loose_shift left z w (Some T)) ((coded_words L.constants s.index e + 4)) (omega arith) (omega arith) (omega arith)
         (loose_runs e s k1 T b _ n _ (omega arith) safe at h.1 res)
         (λ t x is k ex. gets D L (b + term_size s.index e) _ _ (omega arith) (omega arith) (omega (arith, h.2)) (shift_runs D L fit left (shift_may_leave s (Some T) left e z) z w T x _ _ (k.sized ∙ at.sized) (fit.high _ (omega (arith, h.2))) (λ q. and_true left _ q) (loose_range k1 L hs s names m e T b _ x h.1 at.ranged is)
         (λ whole stays. shift_keeps s m names at.ranged T left e z x (fits_types e L hs s (Some T) b _ h.1) (loose_value k1 L hs s names m e T b _ x h.1 at.ranged is whole) (loose_range k1 L hs s names m e T b _ x h.1 at.ranged is whole) stays) ex))
@@ -638,7 +634,7 @@ module _ (D : Laid) (L : Layout) (fit : Assigned L) where
         let low = within_type w t in
         let code = at_type (own s e) (λ u. word_code (convert_word low u t (reg_of L c) (home L hs s.index b e)) rest) rest in
         let inner : LooseRuns D L e hs s names m st k1 b c n code (own s e) = subst (λ o. LooseRuns D L e hs s names m st k1 b c n code o) (sym q.1) (loose_runs e s k1 q.0 b c n code (omega arith) safe at) in
-        map_runs (loose_cast low (fits_at (own s e) t) t) (4 * (coded_size L.constants s.index e + 1)) (omega arith) (omega arith) (omega arith) (inner h.2 res)
+        map_runs (loose_cast low (fits_at (own s e) t) t) ((coded_words L.constants s.index e + 4)) (omega arith) (omega arith) (omega arith) (inner h.2 res)
         (λ u x is k ex.
         subst (λ o. Gets D L (at_type o (λ v. word_code (convert_word low v t (reg_of L c) (home L hs s.index b e)) rest) rest) u rest c (b + (term_size s.index e + 1)) (reg_of L c) (loose_cast low (fits_at o t) t x) 4) (sym q.1)
         (cast_runs D L fit low q.0 t x (home L hs s.index b e) c c (b + (term_size s.index e + 1)) (k.sized ∙ at.sized) (omega arith) (omega arith) (omega (arith, h.3)) ex))
@@ -650,7 +646,7 @@ module _ (D : Laid) (L : Layout) (fit : Assigned L) where
         let hx = home_high x hs s (Some T) b p (omega arith) h.0 safe in
         let safe1 = safe_later L hs b b1 (omega arith) safe in
         let hy = home_high y hs s (Some T) b1 p (omega arith) h.1 safe1 in
-        choose_runs (holds s c m names) (4 * (coded_size L.constants i x + coded_size L.constants i y + coded_size L.constants i c + 1)) (omega arith) (omega arith) (omega arith) (omega arith) hx
+        choose_runs (holds s c m names) ((coded_words L.constants i x + coded_words L.constants i y + coded_words L.constants i c + 4)) (omega arith) (omega arith) (omega arith) (omega arith) hx
         (λ q lo up made. home_apart x hs s (Some T) b p (omega arith) h.0 safe q (omega arith) (omega arith) made)
         (loose_runs x s w T b p n _ (omega arith) safe at h.0 res)
         (λ t k. loose_runs y s w T b1 p _ _ (omega arith) safe1 (at_kept L fit b b1 (omega arith) safe at k) h.1 ry)
@@ -667,18 +663,18 @@ module _ (D : Laid) (L : Layout) (fit : Assigned L) where
     -- the parts of a right side that stands in the operator's word
     pub parts_runs : (e : Term) {W : Fixed L} {hs : Homes} (s : Scope) {names : Names} {m : Memory} {st : State} (op : BinaryOp) (w : Extent) (T : Ty) (b user n : ℕ) (rest : List Entry) → b + term_size s.index e ≤ user → is_fused s op w (Some T) e ≡ true → AreSafe L b hs → At W hs s.visible names m b st → Fits L hs s (Some T) b user e
         → Resolves D (parts_code L hs s w (Some T) b n e rest)
-        → Sided D L (parts_code L hs s w (Some T) b n e rest) st rest b (b + term_size s.index e) (IsOperand (part_side L hs s.index (Some T) b e)) m (4 * coded_size L.constants s.index e) (loose s w (Some T) e m names)
+        → Sided D L (parts_code L hs s w (Some T) b n e rest) st rest b (b + term_size s.index e) (IsOperand (part_side L hs s.index (Some T) b e)) m (coded_words L.constants s.index e) (loose s w (Some T) e m names)
     parts_runs (Operation binary.Mul x y) {hs = hs} s {names = names} {m = m} op w T b user n rest le f safe at h res =
         let b1 = b + term_size s.index x in let c = b1 + term_size s.index y in
         let k = binary_asks s (Some T) binary.Mul x y w in
-        product_sided (binary_may_leave s (Some T) binary.Mul x y) w T (b + (term_size s.index x + term_size s.index y + 1)) (4 * (coded_size L.constants s.index x + coded_size L.constants s.index y + 1)) (omega arith) (omega arith) (both_right (takes_product op) (stays (binary_settles s (Some T) binary.Mul x y w) (Some T)) f)
+        product_sided (binary_may_leave s (Some T) binary.Mul x y) w T (b + (term_size s.index x + term_size s.index y + 1)) ((coded_words L.constants s.index x + coded_words L.constants s.index y + 4)) (omega arith) (omega arith) (both_right (takes_product op) (stays (binary_settles s (Some T) binary.Mul x y w) (Some T)) f)
         (λ u v is js e out. operator_keeps L user x y hs s names m binary.Mul k T b u v at.ranged h is js e out)
-        (pair_runs (4 * coded_size L.constants s.index x + 4 * coded_size L.constants s.index y) (omega arith) (omega arith) (omega arith) (home_high x hs s (Some T) b c (omega arith) h.1 safe) (λ p lo up made. home_apart x hs s (Some T) b c (omega arith) h.1 safe p lo up made)
+        (pair_runs (coded_words L.constants s.index x + coded_words L.constants s.index y) (omega arith) (omega arith) (omega arith) (home_high x hs s (Some T) b c (omega arith) h.1 safe) (λ p lo up made. home_apart x hs s (Some T) b c (omega arith) h.1 safe p lo up made)
         (loose_runs x s k T b c n _ (omega arith) safe at h.1 res)
         (λ t kept. plain_sided (loose_runs y s k T b1 c _ _ (omega arith) (safe_later L hs b b1 (omega arith) safe) (at_kept L fit b b1 (omega arith) safe at kept) h.2 (loose_back x hs s k (Some T) b n _ res))))
     parts_runs (Shift left e z) {hs = hs} s {names = names} {m = m} op w T b user n rest le f safe at h res =
         let k = shift_asks s (Some T) left e z w in
-        moved_sided left (shift_may_leave s (Some T) left e z) z w T (b + (term_size s.index e + 1)) (4 * (coded_size L.constants s.index e + 1)) (omega arith) (omega arith) (λ q. and_true left _ q) (both_right (takes_shift op) (stays (shift_settles s (Some T) left e z w) (Some T)) f)
+        moved_sided left (shift_may_leave s (Some T) left e z) z w T (b + (term_size s.index e + 1)) ((coded_words L.constants s.index e + 4)) (omega arith) (omega arith) (λ q. and_true left _ q) (both_right (takes_shift op) (stays (shift_settles s (Some T) left e z w) (Some T)) f)
         (λ x is whole. loose_range k L hs s names m e T b _ x h.1 at.ranged is whole)
         (λ x is whole out. shift_keeps s m names at.ranged T left e z x (fits_types e L hs s (Some T) b _ h.1) (loose_value k L hs s names m e T b _ x h.1 at.ranged is whole) (loose_range k L hs s names m e T b _ x h.1 at.ranged is whole) out)
         (loose_runs e s k T b _ n _ (omega arith) safe at h.1 res)
@@ -698,7 +694,7 @@ module _ (D : Laid) (L : Layout) (fit : Assigned L) where
         let k = converted_extent w (own s e) t in
         let c = b + term_size s.index e in
         let inner : LooseRuns D L e hs s names m st k b c n rest (own s e) = subst (λ o. LooseRuns D L e hs s names m st k b c n rest o) (sym q.1) (loose_runs e s k q.0 b c n rest (omega arith) safe at) in
-        cast_sided (within_type w t) (fits_at (own s e) t) t (b + (term_size s.index e + 1)) (4 * (coded_size L.constants s.index e + 1)) (omega arith) (omega arith) f (inner h.2 res)
+        cast_sided (within_type w t) (fits_at (own s e) t) t (b + (term_size s.index e + 1)) ((coded_words L.constants s.index e + 4)) (omega arith) (omega arith) f (inner h.2 res)
     parts_runs (Choice c x y) s op w T b user n rest le f safe at h res = absurd cc
     parts_runs (Comparison o x y) s op w T b user n rest le f safe at h res = absurd cc
     parts_runs (Both x y) s op w T b user n rest le f safe at h res = absurd cc
@@ -707,14 +703,14 @@ module _ (D : Laid) (L : Layout) (fit : Assigned L) where
 
     -- a comparison, whose truth is in the flags
     flags_run : (e : Term) {w : Fixed L} {hs : Homes} (s : Scope) {names : Names} {m : Memory} {st : State} (b n k : ℕ) (rest : List Entry) → flag_condition s e ≡ Some k → AreSafe L b hs → At w hs s.visible names m b st → FitsTruth L hs s b e → Resolves D (flags_code L hs s b n e rest)
-        → Flagged D L (flags_code L hs s b n e rest) st rest b (b + term_size s.index e) k m (4 * coded_size L.constants s.index e) (holds s e m names)
+        → Flagged D L (flags_code L hs s b n e rest) st rest b (b + term_size s.index e) k m (coded_words L.constants s.index e) (holds s e m names)
     flags_run (Comparison op x y) {hs = hs} s {names = names} {m = m} {st = st} b n k rest is safe at h res =
         let want = side_type s x y in
         let b1 = b + term_size s.index x in let c = b1 + term_size s.index y in
         let number = compared_number want y in
         let same : condition op (signed_side want) ≡ k = cc in
-        subst (λ k. Flagged D L (flags_code L hs s b n (Comparison op x y) rest) st rest b (b + (term_size s.index x + term_size s.index y + 1)) k m (4 * (coded_size L.constants s.index x + coded_size L.constants s.index y + 1)) (holds s (Comparison op x y) m names)) same
-        (op_flags number (home L hs s.index b1 y) op (signed_side want) (4 * (coded_size L.constants s.index x + coded_size L.constants s.index y + 1)) (omega arith) (omega arith) (omega arith) (home_high x hs s want b c (omega arith) h.1 safe) (compared_small want y)
+        subst (λ k. Flagged D L (flags_code L hs s b n (Comparison op x y) rest) st rest b (b + (term_size s.index x + term_size s.index y + 1)) k m ((coded_words L.constants s.index x + coded_words L.constants s.index y + 4)) (holds s (Comparison op x y) m names)) same
+        (op_flags number (home L hs s.index b1 y) op (signed_side want) ((coded_words L.constants s.index x + coded_words L.constants s.index y + 4)) (omega arith) (omega arith) (omega arith) (home_high x hs s want b c (omega arith) h.1 safe) (compared_small want y)
         (sides_run x y hs s names b n _ safe h (λ T r. exact hs b c n x s names m (Some T) at.ranged (loose_runs x s Whole T b c n r (omega arith) safe at)) (λ T t k. exact hs b1 c (n + labels s.index x) y s names m (Some T) at.ranged (loose_runs y s Whole T b1 c _ _ (omega arith) (safe_later L hs b b1 (omega arith) safe) (at_kept L fit b b1 (omega arith) safe at k))) res) (λ u v is js. sides_range x y hs s names m b u v at.ranged h is js))
     flags_run (Literal z) s b n k rest is safe at h res = absurd cc
     flags_run (Variable x) s b n k rest is safe at h res = absurd cc
@@ -730,44 +726,44 @@ module _ (D : Laid) (L : Layout) (fit : Assigned L) where
 
     -- what the code of a condition does
     pub jump_runs : (e : Term) {w : Fixed L} {hs : Homes} (s : Scope) {names : Names} {m : Memory} {st : State} (sense : Bool) (to b n : ℕ) (rest : List Entry) → AreSafe L b hs → At w hs s.visible names m b st → FitsTruth L hs s b e → Resolves D (jump_code L hs s sense to b n e rest)
-        → Turns D L (jump_code L hs s sense to b n e rest) st to rest b (b + term_size s.index e) m (4 * coded_size L.constants s.index e) sense (holds s e m names)
+        → Turns D L (jump_code L hs s sense to b n e rest) st to rest b (b + term_size s.index e) m (coded_words L.constants s.index e) sense (holds s e m names)
     jump_runs (Comparison op x y) {hs = hs} s {names = names} {m = m} {st = st} sense to b n rest safe at h res =
         let want = side_type s x y in
         let b1 = b + term_size s.index x in let c = b1 + term_size s.index y in
         let hx = home_high x hs s want b c (omega arith) h.1 safe in
-        op_turns (compare_on op) (4 * (coded_size L.constants s.index x + coded_size L.constants s.index y + 1)) (omega arith) (omega arith) (omega arith)
+        op_turns (compare_on op) ((coded_words L.constants s.index x + coded_words L.constants s.index y + 4)) (omega arith) (omega arith) (omega arith)
         (sides_run x y hs s names b n _ safe h (λ T r. exact hs b c n x s names m (Some T) at.ranged (loose_runs x s Whole T b c n r (omega arith) safe at)) (λ T t k. exact hs b1 c (n + labels s.index x) y s names m (Some T) at.ranged (loose_runs y s Whole T b1 c _ _ (omega arith) (safe_later L hs b b1 (omega arith) safe) (at_kept L fit b b1 (omega arith) safe at k))) res)
         (λ t u v is js ex ey. let r = sides_range x y hs s names m b u v at.ranged h is js in branch_goes D L fit to rest op (compared_number want y) sense (signed_side want) u v (home L hs s.index b x) (home L hs s.index b1 y) c (b + (term_size s.index x + term_size s.index y + 1)) (compared_small want y) hx r.0 r.1 ex ey)
     jump_runs (Both x y) {hs = hs} s true to b n rest safe at h res =
         let b1 = b + term_size s.index x in
         let r1 = jump_back x hs s false n b (n + 1) _ res in
         let r2 = jump_back y hs s true to b1 _ _ r1 in
-        over_turn D L fit false (4 * (coded_size L.constants s.index x + coded_size L.constants s.index y + 1)) (omega arith) (omega arith) (omega arith) (omega arith) r2.0
+        over_turn D L fit false ((coded_words L.constants s.index x + coded_words L.constants s.index y + 4)) (omega arith) (omega arith) (omega arith) (omega arith) r2.0
         (jump_runs x s false n b (n + 1) _ safe at h.0 res)
         (λ t k. jump_runs y s true to b1 _ _ (safe_later L hs b b1 (omega arith) safe) (at_kept L fit b b1 (omega arith) safe at k) h.1 r1)
     jump_runs (Both x y) {hs = hs} s false to b n rest safe at h res =
         let b1 = b + term_size s.index x in
         let r1 = jump_back x hs s false to b (n + 1) _ res in
-        both_turn D L fit false (4 * (coded_size L.constants s.index x + coded_size L.constants s.index y + 1)) (omega arith) (omega arith) (omega arith) (omega arith)
+        both_turn D L fit false ((coded_words L.constants s.index x + coded_words L.constants s.index y + 4)) (omega arith) (omega arith) (omega arith) (omega arith)
         (jump_runs x s false to b (n + 1) _ safe at h.0 res)
         (λ t k. jump_runs y s false to b1 _ _ (safe_later L hs b b1 (omega arith) safe) (at_kept L fit b b1 (omega arith) safe at k) h.1 r1)
     jump_runs (Either x y) {hs = hs} s true to b n rest safe at h res =
         let b1 = b + term_size s.index x in
         let b2 = b1 + 1 in
         let r1 = jump_back x hs s true to b (n + 1) _ res in
-        both_turn D L fit true (4 * (coded_size L.constants s.index x + 1 + coded_size L.constants s.index y + 1)) (omega arith) (omega arith) (omega arith) (omega arith)
-        (turns_more D L fit b2 (4 * coded_size L.constants s.index x) (omega arith) (omega arith) (jump_runs x s true to b (n + 1) _ safe at h.0 res))
+        both_turn D L fit true ((coded_words L.constants s.index x + 4 + coded_words L.constants s.index y + 4)) (omega arith) (omega arith) (omega arith) (omega arith)
+        (turns_more D L fit b2 (coded_words L.constants s.index x) (omega arith) (omega arith) (jump_runs x s true to b (n + 1) _ safe at h.0 res))
         (λ t k. jump_runs y s true to b2 _ _ (safe_later L hs b b2 (omega arith) safe) (at_kept L fit b b2 (omega arith) safe at k) h.1 r1)
     jump_runs (Either x y) {hs = hs} s false to b n rest safe at h res =
         let b1 = b + term_size s.index x in
         let b2 = b1 + 1 in
         let r1 = jump_back x hs s true n b (n + 1) _ res in
         let r2 = jump_back y hs s false to b2 _ _ r1 in
-        over_turn D L fit true (4 * (coded_size L.constants s.index x + 1 + coded_size L.constants s.index y + 1)) (omega arith) (omega arith) (omega arith) (omega arith) r2.0
-        (turns_more D L fit b2 (4 * coded_size L.constants s.index x) (omega arith) (omega arith) (jump_runs x s true n b (n + 1) _ safe at h.0 res))
+        over_turn D L fit true ((coded_words L.constants s.index x + 4 + coded_words L.constants s.index y + 4)) (omega arith) (omega arith) (omega arith) (omega arith) r2.0
+        (turns_more D L fit b2 (coded_words L.constants s.index x) (omega arith) (omega arith) (jump_runs x s true n b (n + 1) _ safe at h.0 res))
         (λ t k. jump_runs y s false to b2 _ _ (safe_later L hs b b2 (omega arith) safe) (at_kept L fit b b2 (omega arith) safe at k) h.1 r1)
     jump_runs (Not e) s sense to b n rest safe at h res =
-        turns_more D L fit _ (4 * (coded_size L.constants s.index e + 1)) (omega arith) (omega arith) (not_turns D L fit sense (jump_runs e s (not sense) to b n rest safe at h res))
+        turns_more D L fit _ ((coded_words L.constants s.index e + 4)) (omega arith) (omega arith) (not_turns D L fit sense (jump_runs e s (not sense) to b n rest safe at h res))
     jump_runs (Literal z) s sense to b n rest safe at h res = absurd h
     jump_runs (Variable x) s sense to b n rest safe at h res = absurd h
     jump_runs (Element a i) s sense to b n rest safe at h res = absurd h
@@ -780,7 +776,7 @@ module _ (D : Laid) (L : Layout) (fit : Assigned L) where
   -- the right side of an operator
   pub side_runs : (e : Term) {W : Fixed L} {hs : Homes} (s : Scope) {names : Names} {m : Memory} {st : State} (op : BinaryOp) (w : Extent) (T : Ty) (b user n : ℕ) (rest : List Entry) → b + term_size s.index e ≤ user → AreSafe L b hs → At W hs s.visible names m b st → Fits L hs s (Some T) b user e
       → Resolves D (side_code (added_number op (Some T) e) (is_fused s op w (Some T) e) (loose_code L hs s w (Some T) b n e) (parts_code L hs s w (Some T) b n e) rest)
-      → Sided D L (side_code (added_number op (Some T) e) (is_fused s op w (Some T) e) (loose_code L hs s w (Some T) b n e) (parts_code L hs s w (Some T) b n e) rest) st rest b (b + term_size s.index e) (IsOperand (right_side L hs s op w (Some T) b e)) m (4 * coded_size L.constants s.index e) (loose s w (Some T) e m names)
+      → Sided D L (side_code (added_number op (Some T) e) (is_fused s op w (Some T) e) (loose_code L hs s w (Some T) b n e) (parts_code L hs s w (Some T) b n e) rest) st rest b (b + term_size s.index e) (IsOperand (right_side L hs s op w (Some T) b e)) m (coded_words L.constants s.index e) (loose s w (Some T) e m names)
   side_runs e {hs = hs} s {names = names} {m = m} op w T b user n rest le safe at h res =
       sided_by _ _ (loose s w (Some T) e m names) (added_number op (Some T) e) (is_fused s op w (Some T) e) (home L hs s.index b e) (part_side L hs s.index (Some T) b e) (added_right op s w (Some T) e m names) res
       (λ r. loose_runs e s w T b user n rest le safe at h r) (λ f r. parts_runs e s op w T b user n rest le f safe at h r)

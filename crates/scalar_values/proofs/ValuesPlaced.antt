@@ -1,13 +1,13 @@
 -- Each label of an expression is placed once.
 use Rattle.std.proofs.Common.{◌≢◌, ℕ, ◌+◌, ◌<◌, ◌≤◌, ◌&&◌, Bool, true, false, List, ◌∷◌, Option, Some, None, arith}
-use Rattle.std.specs.Prelude.{ℤ, not}
+use Rattle.std.specs.Prelude.{ℤ, not, option_and_then}
 use Rattle.kernel_tree.specs.declared.ops.Ty.{Ty}
 use Rattle.kernel_tree.specs.declared.ops.UnaryOp.{UnaryOp}
 use Rattle.kernel_tree.specs.declared.ops.BinaryOp.{BinaryOp}
 use Rattle.kernel_tree.specs.Plain.{Term, Literal, Variable, Element, Unary, Operation, Shift, Conversion, Choice, Comparison, Both, Either, Not}
 use Rattle.kernel_tree.specs.Items.{term_size, stream_offset}
 use Rattle.kernel_tree.specs.Wrap.{is_signed}
-use Rattle.kernel_tree.specs.Typing.{Scope, own, index_type, side_type, left}
+use Rattle.kernel_tree.specs.Typing.{Scope, lookup, own, element_type, index_type, side_type, left}
 use Rattle.kernel_meaning.specs.Operators.{word, wrapped}
 use Rattle.machine_model.specs.InstructionTable.{Listed}
 use Rattle.scalar_values.specs.declared.extent.Extent.{Extent}
@@ -15,11 +15,11 @@ use Rattle.scalar_values.specs.Extents.{Whole, within_type, converted_extent}
 use Rattle.scalar_values.specs.Leaving.{unary_asks, binary_asks, shift_asks, unary_settles, binary_settles, shift_settles}
 use Rattle.label_fix.specs.DraftRun.{Entry, Put, Place}
 use Rattle.label_fix.proofs.LabelsOnce.{Unplaced, Once}
-use Rattle.scalar_words.specs.Layout.{Layout, Homes, reg_of, constant_at}
+use Rattle.scalar_words.specs.Layout.{OfNumber, Layout, Homes, reg_of, constant_at, register_at}
 use Rattle.scalar_values.specs.ValueRegisters.{home}
 use Rattle.scalar_words.specs.Words.{condition, copy_word, settle_word, word_code, at_type}
 use Rattle.scalar_values.specs.ItemWords.{Side, Number, Register, Product, Moved, zero_test, tested_code, pick_code, placed_code, operator_code, convert_word, index_word, load_code, unary_code, abs_code, shift_code}
-use Rattle.scalar_values.specs.Code.{inner_labels, labels, number_code, signed_side, compared_number, added_number, is_fused, is_led, taken_side, side_code, parts_code, right_code, flag_condition, choice_code, loose_code, flags_code, jump_code}
+use Rattle.scalar_values.specs.Code.{inner_labels, labels, number_code, place_of, signed_side, compared_number, added_number, is_fused, is_led, taken_side, side_code, parts_code, right_code, flag_condition, choice_code, loose_code, flags_code, jump_code}
 use Rattle.scalar_words.proofs.Pieces.{word_put, operation_put, const_put, unplaced_put, once_put}
 use Rattle.kernel_tree.specs.declared.ops.UnaryOp.TheVariants as unary
 
@@ -89,9 +89,11 @@ choice_unplaced l None flags jump d p q n rest ne nf f g u = g _ (pick_unplaced 
 module _ (L : Layout) (hs : Homes) where
   mutual
     pub loose_unplaced : (e : Term) (s : Scope) (w : Extent) (want : Option Ty) (l b n : ℕ) (rest : List Entry) → (n ≤ l → n + labels s.index e ≤ l) → Unplaced l rest → Unplaced l (loose_code L hs s w want b n e rest)
-    loose_unplaced (Literal z) s w want l b n rest h u = right_unplaced l (constant_at L z) _ rest (const_put (Unplaced l) (unplaced_put l) (reg_of L b) (word (wrapped want z)) rest u) u
+    loose_unplaced (Literal z) s w want l b n rest h u = right_unplaced l (constant_at L (OfNumber z)) _ rest (const_put (Unplaced l) (unplaced_put l) (reg_of L b) (word (wrapped want z)) rest u) u
     loose_unplaced (Variable x) s w want l b n rest h u = u
-    loose_unplaced (Element a j) s w want l b n rest h u = number_unplaced l (stream_offset s.index j) n (labels s.index j) _ _ h (λ k r v. loose_unplaced j s Whole (index_type s j) l b n r k v) (load_put (Unplaced l) (unplaced_put l) _ _ _ _ rest u)
+    loose_unplaced (Element a j) s w want l b n rest h u =
+        let loaded = load_put (Unplaced l) (unplaced_put l) _ _ _ _ rest u in
+        right_unplaced l (place_of L (register_at hs a) (option_and_then element_type (lookup s a)) (stream_offset s.index j)) _ _ (number_unplaced l (stream_offset s.index j) n (labels s.index j) _ _ h (λ k r v. loose_unplaced j s Whole (index_type s j) l b n r k v) loaded) loaded
     loose_unplaced (Unary op x) s w want l b n rest h u = loose_unplaced x s (unary_asks s want op x w) want l b n _ h (unary_put (Unplaced l) (unplaced_put l) (unary_settles s want op x w) want op _ _ rest u)
     loose_unplaced (Operation op x y) s w want l b n rest h u =
         let k1 = binary_asks s want op x y w in
@@ -198,11 +200,11 @@ choice_once None flags jump d p q n m rest f g j h =
 module _ (L : Layout) (hs : Homes) where
   mutual
     pub loose_once : (e : Term) (s : Scope) (w : Extent) (want : Option Ty) (b n : ℕ) (rest : List Entry) → Fresh n (n + labels s.index e) rest → Once rest → Once (loose_code L hs s w want b n e rest)
-    loose_once (Literal z) s w want b n rest f h = right_once (constant_at L z) _ rest (const_put Once once_put (reg_of L b) (word (wrapped want z)) rest h) h
+    loose_once (Literal z) s w want b n rest f h = right_once (constant_at L (OfNumber z)) _ rest (const_put Once once_put (reg_of L b) (word (wrapped want z)) rest h) h
     loose_once (Variable x) s w want b n rest f h = h
     loose_once (Element a j) s w want b n rest f h =
         let loaded = load_put Once once_put _ _ _ _ rest h in
-        number_once (stream_offset s.index j) n (labels s.index j) _ _ (λ l lo hi. load_put (Unplaced l) (unplaced_put l) _ _ _ _ rest (f l lo hi)) (λ g. loose_once j s Whole (index_type s j) b n _ g loaded) loaded
+        right_once (place_of L (register_at hs a) (option_and_then element_type (lookup s a)) (stream_offset s.index j)) _ _ (number_once (stream_offset s.index j) n (labels s.index j) _ _ (λ l lo hi. load_put (Unplaced l) (unplaced_put l) _ _ _ _ rest (f l lo hi)) (λ g. loose_once j s Whole (index_type s j) b n _ g loaded) loaded) loaded
     loose_once (Unary op x) s w want b n rest f h = loose_once x s (unary_asks s want op x w) want b n _ (λ l lo hi. unary_put (Unplaced l) (unplaced_put l) (unary_settles s want op x w) want op _ _ rest (f l lo hi)) (unary_put Once once_put (unary_settles s want op x w) want op _ _ rest h)
     loose_once (Operation op x y) s w want b n rest f h =
         let number = added_number op want y in

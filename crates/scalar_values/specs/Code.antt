@@ -1,5 +1,5 @@
 -- The code of expressions, before the entries that follow it. b is the first item, n the next label.
-use Rattle.std.specs.Prelude.{ℕ, zero, suc, ◌+◌, ℤ, Bool, true, false, not, ◌&&◌, ◌||◌, List, [], ◌∷◌, Option, Some, None, is_none, option_and_then, nat_eq, nat_lt, if◌then◌else◌}
+use Rattle.std.specs.Prelude.{ℕ, zero, suc, ◌+◌, ℤ, pos, ◌*ℤ◌, unsigned_abs, Bool, true, false, not, ◌&&◌, ◌||◌, List, [], ◌∷◌, Option, Some, None, is_none, option_and_then, nat_eq, nat_lt, unwrap_or, if◌then◌else◌}
 use Rattle.kernel_tree.specs.declared.ops.Ty.{Ty}
 use Rattle.kernel_tree.specs.declared.ops.BinaryOp.{BinaryOp}
 use Rattle.kernel_tree.specs.declared.ops.BinaryOp.TheVariants as binary
@@ -10,7 +10,8 @@ use Rattle.kernel_tree.specs.Wrap.{is_signed}
 use Rattle.kernel_tree.specs.Typing.{Scope, lookup, own, element_type, index_type, side_type}
 use Rattle.kernel_meaning.specs.Operators.{word, wrapped, shift_count}
 use Rattle.label_fix.specs.DraftRun.{Entry, Put, ins}
-use Rattle.scalar_words.specs.Layout.{Layout, Homes, reg_of, last_use_at, constant_at, register_at}
+use Rattle.scalar_words.specs.Layout.{Key, OfNumber, OfAddress, Layout, Homes, reg_of, last_use_at, constant_at, register_at}
+use Rattle.kernel_meaning.specs.Eval.{byte_count}
 use Rattle.scalar_values.specs.ValueRegisters.{home}
 use Rattle.scalar_values.specs.declared.extent.Extent.{Extent}
 use Rattle.scalar_values.specs.Extents.{Whole, within_type, fits_at, converted_extent}
@@ -187,7 +188,32 @@ right_code (Some v) inner rest = rest
 right_code None inner rest = inner rest
 
 abbrev pub literal_code : Layout → Option Ty → (b : ℕ) → ℤ → List Entry → List Entry
-literal_code L want b z rest = right_code (constant_at L z) (const_code (reg_of L b) (word (wrapped want z))) rest
+literal_code L want b z rest = right_code (constant_at L (OfNumber z)) (const_code (reg_of L b) (word (wrapped want z))) rest
+
+-- a small offset
+abbrev pub near_one : ℤ → Option ℤ
+near_one c = if nat_lt (unsigned_abs c) 512 then Some c else None
+
+abbrev pub near : Option ℤ → Option ℤ
+near o = option_and_then near_one o
+
+-- what would hold the address of an element at an offset from the loop variable, less the bytes up to the variable's own
+abbrev pub key_at : (array : ℕ) → Option Ty → Option ℤ → Option Key
+key_at q None o = None
+key_at q (Some t) None = None
+key_at q (Some t) (Some c) = Some (OfAddress q (pos (byte_count t) *ℤ c))
+
+abbrev pub moved_key : (array : ℕ) → Option Ty → Option ℤ → Option Key
+moved_key q t o = key_at q t (near o)
+
+-- the register that holds it
+abbrev pub place_of : Layout → (array : ℕ) → Option Ty → Option ℤ → Option ℕ
+place_of L q t o = option_and_then (constant_at L) (moved_key q t o)
+
+-- then the loop variable is the index
+abbrev pub placed_index : Option ℕ → ℕ → ℕ
+placed_index (Some r) x = 9
+placed_index None x = x
 
 -- ---- conditions
 
@@ -207,8 +233,9 @@ abbrev mutual
   loose_code L homes scope w want b n (Literal z) rest = literal_code L want b z rest
   loose_code L homes scope w want b n (Variable x) rest = rest
   loose_code L homes scope w want b n (Element a e) rest =
-      number_code (stream_offset scope.index e) (loose_code L homes scope Whole (index_type scope e) b n e)
-      (load_code (option_and_then element_type (lookup scope a)) (reg_of L (b + index_items scope.index e)) (register_at homes a) (number_register (stream_offset scope.index e) (home L homes scope.index b e)) rest)
+      right_code (place_of L (register_at homes a) (option_and_then element_type (lookup scope a)) (stream_offset scope.index e)) (number_code (stream_offset scope.index e) (loose_code L homes scope Whole (index_type scope e) b n e))
+      (load_code (option_and_then element_type (lookup scope a)) (reg_of L (b + index_items scope.index e)) (unwrap_or (place_of L (register_at homes a) (option_and_then element_type (lookup scope a)) (stream_offset scope.index e)) (register_at homes a))
+      (placed_index (place_of L (register_at homes a) (option_and_then element_type (lookup scope a)) (stream_offset scope.index e)) (number_register (stream_offset scope.index e) (home L homes scope.index b e))) rest)
   loose_code L homes scope w want b n (Unary op e) rest =
       loose_code L homes scope (unary_asks scope want op e w) want b n e (at_type want (λ t. unary_code (unary_settles scope want op e w) op t (reg_of L (b + term_size scope.index e)) (home L homes scope.index b e) rest) rest)
   loose_code L homes scope w want b n (Operation op x y) rest =

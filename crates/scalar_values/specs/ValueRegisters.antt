@@ -2,7 +2,7 @@
 use Rattle.std.specs.Prelude.{ℕ, ◌+◌, ℤ, List, Option, unwrap_or}
 use Rattle.kernel_tree.specs.Plain.{Term, Literal, Variable, Element, Unary, Operation, Shift, Conversion, Choice, Comparison, Both, Either, Not}
 use Rattle.kernel_tree.specs.Items.{term_size, index_items}
-use Rattle.scalar_words.specs.Layout.{Layout, reg_of, constant_at, Homes, register_at}
+use Rattle.scalar_words.specs.Layout.{OfNumber, Layout, reg_of, constant_at, Homes, register_at}
 
 -- the last item of an expression whose items begin at b
 abbrev pub last_item : Option (List ℕ) → ℕ → Term → ℕ
@@ -21,7 +21,7 @@ last_item i b (Not e) = b + term_size i e
 
 -- a literal stands in the register that holds its number, or else in that of its item
 abbrev pub literal_home : Layout → (b : ℕ) → ℤ → ℕ
-literal_home L b z = unwrap_or (constant_at L z) (reg_of L b)
+literal_home L b z = unwrap_or (constant_at L (OfNumber z)) (reg_of L b)
 
 -- the register of a value
 abbrev pub home : Layout → Homes → Option (List ℕ) → ℕ → Term → ℕ

@@ -2,7 +2,7 @@
 
 ghost use Rattle.std.specs.Prelude.{◌≡◌, ◌+◌, ◌<◌, ◌^◌, true, ◌∷◌, ◌++◌, None, IfOk, OnOk};
 ghost use Rattle.kernel_tree.specs.Plain.{Unary, Element, Operation, Shift, Conversion, Choice, Comparison, Both, Either, Not, name_of, term_of};
-ghost use Rattle.kernel_tree.specs.Items.{literal_value, term_size, index_items};
+ghost use Rattle.kernel_tree.specs.Items.{term_size, index_items};
 ghost use Rattle.kernel_tree.specs.Kinds.{IsValue, IsTruth};
 ghost use Rattle.kernel_scope.specs.Scopes.{scope_of};
 ghost use Rattle.scalar_words.specs.Drafts.{Appends};
@@ -17,47 +17,25 @@ use crate::extent::{
     Extent, asked_extent, binary_joins, converted_extent, settles, unary_joins, within, within_type,
 };
 use crate::fusion::{is_fused, is_led, part_side};
-use crate::instructions::{added_number, compare_word, compared_number, index_word};
+use crate::instructions::{
+    added_number, compare_word, compared_number, index as loop_variable, index_word,
+};
 use crate::leaving::{binary_asks, binary_may_leave, shift_asks, shift_may_leave, unary_may_leave};
+use crate::literal::emit_literal;
 use crate::operations::{
     emit_branch, emit_chosen, emit_load, emit_offset, emit_pick, emit_placed, want_cast,
     want_operator, want_shift, want_unary,
 };
+use crate::place::place_of;
 use crate::registers::{take, take_held, take_literal};
 use crate::side::Side;
 use a64_code::Reg;
-use kernel_meaning::{word, wrapped};
 use kernel_scope::{Scope, element_type, first, lookup, own_type, side_type};
 use kernel_tree::{BinaryOp, CompareOp, Expr, Name, Ty, UnaryOp};
 use label_fix::{Draft, Label};
-use scalar_words::operations::emit_const;
 use scalar_words::places::Places;
 use scalar_words::{Home, register_at};
 use std::alloc::AllocError;
-
-// A literal, wrapped to the type that is wanted, into the register of its item, where no register holds it.
-fn emit_literal(
-    draft: &mut Draft,
-    places: &Places,
-    want: Option<Ty>,
-    value: i128,
-    item: &mut usize,
-) -> Result<Reg, AllocError>
-    requires { item.old < 2 ^ 32 }
-    ensures register { IfOk result (λ r. r.number ≡ placed.literal_home places.now item.old value) }
-    ensures item { OnOk result (item.new ≡ item.old + 1) }
-    ensures labels { OnOk result (draft.new.labels ≡ draft.old.labels) }
-    ensures code { OnOk result (Appends draft.old draft.new (code.literal_code places.now want item.old value)) }
-{
-    let own = take(places, item);
-    match places.constant(value) {
-        Some(held) => Ok(held),
-        None => {
-            emit_const(draft, own, word(wrapped(want, value)))?;
-            Ok(own)
-        }
-    }
-}
 
 /// The code of an expression of which a type is wanted and so much is asked for, and the register of its value.
 #[cycle(terms)]
@@ -429,6 +407,7 @@ fn emit_right(
 
 // An element, by its index.
 #[cycle(terms)]
+#[tactic(auto, using(crate::proofs::NearOffsets::no_items))]
 fn emit_read(
     draft: &mut Draft,
     places: &Places,
@@ -453,11 +432,20 @@ fn emit_read(
         (code.loose_code places.now (homes_of homes.now) (scope_of scope.now) extent None item.old draft.old.labels
         (Element (name_of array.now) (term_of index.now)))) }
 {
-    let x = emit_number(draft, places, homes, scope, index, item)?;
-    let r = take(places, item);
     let ty = lookup(scope, array).and_then(element_type);
-    emit_load(draft, ty, r, register_at(homes, array), x)?;
-    Ok(r)
+    match place_of(places, homes, scope, array, index) {
+        Some(place) => {
+            let r = take(places, item);
+            emit_load(draft, ty, r, place, loop_variable())?;
+            Ok(r)
+        }
+        None => {
+            let x = emit_number(draft, places, homes, scope, index, item)?;
+            let r = take(places, item);
+            emit_load(draft, ty, r, register_at(homes, array), x)?;
+            Ok(r)
+        }
+    }
 }
 
 // One of two values, by a condition, which is evaluated after both.

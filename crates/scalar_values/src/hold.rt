@@ -1,21 +1,22 @@
-//! Which literals are held in registers of their own while iterations last.
+//! What is held in registers of its own while iterations last.
 
 ghost use Rattle.std.specs.Prelude.{◌≡◌, ◌<◌, ◌≤◌, true, length, OnOk, Option, option_map};
 ghost use Rattle.kernel_tree.specs.Plain.{Operation, Choice, Comparison, Element, name_of, term_of};
 ghost use Rattle.kernel_scope.specs.Scopes.{scope_of};
-ghost use Rattle.scalar_words.specs.View.{constants_of};
+ghost use Rattle.scalar_words.specs.View.{constants_of, homes_of, key_of};
 ghost use Rattle.kernel_tree.specs.Items as items;
 ghost use Rattle.scalar_values.specs.HeldNumbers as numbers;
 
-use crate::instructions::{held_addend, immediate, index_word};
+use crate::instructions::{addend, held_addend, immediate, index_word, is_same_number};
+use crate::place::{moved_key, near_offset};
 use kernel_meaning::word;
-use kernel_scope::{Scope, literal_value};
-use kernel_tree::{BinaryOp, Expr};
-use scalar_words::{Constant, constant_in};
+use kernel_scope::{Scope, element_type, literal_value, lookup};
+use kernel_tree::{BinaryOp, Expr, Name};
+use scalar_words::{Constant, Home, Key, constant_in, register_at};
 use std::alloc::AllocError;
 use word_rows::Bits;
 
-// Whether one more number has a register, after so many parameters.
+// Whether one more has a register, after so many parameters.
 #[tactic(auto, using(crate::proofs::NumberCounts::count_constants))]
 fn has_room(params: usize, constants: &[Constant]) -> bool
     requires { params ≤ 8 }
@@ -25,35 +26,88 @@ fn has_room(params: usize, constants: &[Constant]) -> bool
     count < 5 && params + count <= 8
 }
 
-// One more number, in the next register.
+// One more, in the next register.
 #[tactic(auto, using(crate::proofs::NumberCounts::count_constants))]
-fn add_number(constants: &mut Vec<Constant>, number: i128) -> Result<(), AllocError>
+fn add_key(constants: &mut Vec<Constant>, key: Key) -> Result<(), AllocError>
     requires { length (constants_of constants.old.items) < 5 }
     ensures { OnOk result (constants_of constants.new.items
-        ≡ numbers.add_number true number (constants_of constants.old.items)) }
+        ≡ numbers.add_key true (key_of key) (constants_of constants.old.items)) }
 {
     let register = Bits {
         number: 8 - constants.len() as u32,
     };
-    constants.push(Constant { number, register })?;
+    constants.push(Constant { key, register })?;
     Ok(())
 }
 
-// One more number, where no register holds it.
-fn hold_number(constants: &mut Vec<Constant>, params: usize, number: i128) -> Result<(), AllocError>
+// One more, where no register holds it.
+fn hold_key(constants: &mut Vec<Constant>, params: usize, key: Key) -> Result<(), AllocError>
     requires { params ≤ 8 }
     ensures { OnOk result (constants_of constants.new.items
-        ≡ numbers.hold_number params number (constants_of constants.old.items)) }
+        ≡ numbers.hold_key params (key_of key) (constants_of constants.old.items)) }
 {
-    match constant_in(constants, number) {
+    match constant_in(constants, key) {
         Some(_) => Ok(()),
         None => {
             if has_room(params, constants) {
-                add_number(constants, number)?;
+                add_key(constants, key)?;
             }
             Ok(())
         }
     }
+}
+
+// Whether an address is worth a register, and may be held.
+fn is_reached(params: usize, key: Key) -> bool
+    ensures { result ≡ numbers.is_reached params (key_of key) }
+{
+    match key {
+        Key::Number(_) => true,
+        Key::Address { array, by } => {
+            (array.number as usize) < params
+                && (addend(word(by)).is_some() && !is_same_number(by, 0))
+        }
+    }
+}
+
+// An address, where it is worth a register.
+fn hold_moved(
+    constants: &mut Vec<Constant>,
+    params: usize,
+    key: Option<Key>,
+) -> Result<(), AllocError>
+    requires { params ≤ 8 }
+    ensures { OnOk result (constants_of constants.new.items
+        ≡ numbers.hold_moved params (option_map key_of key) (constants_of constants.old.items)) }
+{
+    match key {
+        None => Ok(()),
+        Some(key) => {
+            if is_reached(params, key) {
+                hold_key(constants, params, key)?;
+            }
+            Ok(())
+        }
+    }
+}
+
+/// The address of an element, by its array and index.
+pub fn hold_element(
+    constants: &mut Vec<Constant>,
+    params: usize,
+    homes: &[Home],
+    scope: &Scope,
+    array: &Name,
+    index: &Expr,
+) -> Result<(), AllocError>
+    requires { params ≤ 8 }
+    ensures { OnOk result (constants_of constants.new.items
+        ≡ numbers.hold_element params (homes_of homes.now) (scope_of scope.now) (name_of array.now)
+        (items.stream_offset (scope_of scope.now).index (term_of index.now)) (constants_of constants.old.items)) }
+{
+    let ty = lookup(scope, array).and_then(element_type);
+    let key = moved_key(register_at(homes, array), ty, near_offset(scope, index));
+    hold_moved(constants, params, key)
 }
 
 /// The number that the word of an operator holds as its right side, whatever the type of the literal.
@@ -72,39 +126,44 @@ fn immediate_of(expr: &Expr) -> Option<u64>
     immediate(word(value))
 }
 
-/// The numbers of an expression, after those that are held before it.
+/// What is held for an expression, after what is held before it.
 #[cycle(terms)]
 pub fn hold_term(
     constants: &mut Vec<Constant>,
     params: usize,
+    homes: &[Home],
     scope: &Scope,
     expr: &Expr,
 ) -> Result<(), AllocError>
     requires { params ≤ 8 }
     ensures { OnOk result (constants_of constants.new.items
-        ≡ numbers.hold_term params (scope_of scope.now).index (term_of expr.now) (constants_of constants.old.items)) }
+        ≡ numbers.hold_term params (homes_of homes.now) (scope_of scope.now) (term_of expr.now)
+        (constants_of constants.old.items)) }
 {
     match expr {
-        Expr::Lit(value) => hold_number(constants, params, *value),
+        Expr::Lit(value) => hold_key(constants, params, Key::Number(*value)),
         Expr::Var(_) => Ok(()),
-        Expr::Read { index, .. } => hold_index(constants, params, scope, index),
-        Expr::Unary { arg, .. } => hold_term(constants, params, scope, arg),
-        Expr::Shift { arg, .. } => hold_term(constants, params, scope, arg),
-        Expr::Cast { arg, .. } => hold_term(constants, params, scope, arg),
-        Expr::Not { arg } => hold_term(constants, params, scope, arg),
+        Expr::Read { array, index } => {
+            hold_index(constants, params, homes, scope, index)?;
+            hold_element(constants, params, homes, scope, array, index)
+        }
+        Expr::Unary { arg, .. } => hold_term(constants, params, homes, scope, arg),
+        Expr::Shift { arg, .. } => hold_term(constants, params, homes, scope, arg),
+        Expr::Cast { arg, .. } => hold_term(constants, params, homes, scope, arg),
+        Expr::Not { arg } => hold_term(constants, params, homes, scope, arg),
         Expr::Binary { op, left, right } => {
             let number = addend_of(*op, right);
-            hold_sides(constants, params, scope, left, number, right)
+            hold_sides(constants, params, homes, scope, left, number, right)
         }
         Expr::Compare { left, right, .. } => {
             let number = immediate_of(right);
-            hold_sides(constants, params, scope, left, number, right)
+            hold_sides(constants, params, homes, scope, left, number, right)
         }
-        Expr::And { left, right } => hold_both(constants, params, scope, left, right),
-        Expr::Or { left, right } => hold_both(constants, params, scope, left, right),
+        Expr::And { left, right } => hold_both(constants, params, homes, scope, left, right),
+        Expr::Or { left, right } => hold_both(constants, params, homes, scope, left, right),
         Expr::Select { cond, yes, no } => {
-            hold_both(constants, params, scope, yes, no)?;
-            hold_term(constants, params, scope, cond)
+            hold_both(constants, params, homes, scope, yes, no)?;
+            hold_term(constants, params, homes, scope, cond)
         }
     }
 }
@@ -114,17 +173,19 @@ pub fn hold_term(
 fn hold_both(
     constants: &mut Vec<Constant>,
     params: usize,
+    homes: &[Home],
     scope: &Scope,
     left: &Expr,
     right: &Expr,
 ) -> Result<(), AllocError>
     requires { params ≤ 8 }
     ensures { OnOk result (constants_of constants.new.items
-        ≡ numbers.hold_term params (scope_of scope.now).index (term_of right.now)
-        (numbers.hold_term params (scope_of scope.now).index (term_of left.now) (constants_of constants.old.items))) }
+        ≡ numbers.hold_term params (homes_of homes.now) (scope_of scope.now) (term_of right.now)
+        (numbers.hold_term params (homes_of homes.now) (scope_of scope.now) (term_of left.now)
+        (constants_of constants.old.items))) }
 {
-    hold_term(constants, params, scope, left)?;
-    hold_term(constants, params, scope, right)
+    hold_term(constants, params, homes, scope, left)?;
+    hold_term(constants, params, homes, scope, right)
 }
 
 // Two sides, of which a word may hold the second as a number.
@@ -132,6 +193,7 @@ fn hold_both(
 fn hold_sides(
     constants: &mut Vec<Constant>,
     params: usize,
+    homes: &[Home],
     scope: &Scope,
     left: &Expr,
     number: Option<u64>,
@@ -139,13 +201,15 @@ fn hold_sides(
 ) -> Result<(), AllocError>
     requires { params ≤ 8 }
     ensures { OnOk result (constants_of constants.new.items
-        ≡ numbers.hold_side number (numbers.hold_term params (scope_of scope.now).index (term_of right.now))
-        (numbers.hold_term params (scope_of scope.now).index (term_of left.now) (constants_of constants.old.items))) }
+        ≡ numbers.hold_side number
+        (numbers.hold_term params (homes_of homes.now) (scope_of scope.now) (term_of right.now))
+        (numbers.hold_term params (homes_of homes.now) (scope_of scope.now) (term_of left.now)
+        (constants_of constants.old.items))) }
 {
-    hold_term(constants, params, scope, left)?;
+    hold_term(constants, params, homes, scope, left)?;
     match number {
         Some(_) => Ok(()),
-        None => hold_term(constants, params, scope, right),
+        None => hold_term(constants, params, homes, scope, right),
     }
 }
 
@@ -155,16 +219,18 @@ fn hold_sides(
 fn hold_index(
     constants: &mut Vec<Constant>,
     params: usize,
+    homes: &[Home],
     scope: &Scope,
     index: &Expr,
 ) -> Result<(), AllocError>
     requires { params ≤ 8 }
     ensures { OnOk result (constants_of constants.new.items
         ≡ numbers.hold_index (items.stream_offset (scope_of scope.now).index (term_of index.now))
-        (numbers.hold_term params (scope_of scope.now).index (term_of index.now)) (constants_of constants.old.items)) }
+        (numbers.hold_term params (homes_of homes.now) (scope_of scope.now) (term_of index.now))
+        (constants_of constants.old.items)) }
 {
     match index_word(scope, index) {
         Some(_) => Ok(()),
-        None => hold_term(constants, params, scope, index),
+        None => hold_term(constants, params, homes, scope, index),
     }
 }

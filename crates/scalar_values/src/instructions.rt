@@ -3,6 +3,7 @@
 ghost use Rattle.std.specs.Prelude.{◌≡◌, ◌<◌, ◌≤◌, true, neg_ℤ, option_map, option_and_then, ◌∷◌, []};
 ghost use Rattle.kernel_tree.specs.Plain.{term_of};
 ghost use Rattle.kernel_scope.specs.Scopes.{scope_of};
+ghost use Rattle.loop_form.specs.Needs.{same_number};
 ghost use Rattle.label_fix.specs.Draft.{word_view};
 ghost use Rattle.label_fix.specs.Finished.{is_plain};
 ghost use Rattle.kernel_tree.specs.Items as items;
@@ -132,15 +133,32 @@ pub fn immediate(number: u64) -> Option<u64>
     if number < 4096 { Some(number) } else { None }
 }
 
+/// A number that a word adds: below 4,096, or above 2^64 - 4,096.
+pub fn addend(number: u64) -> Option<u64>
+    ensures { result ≡ words.addend number }
+{
+    if number < 4096 || number > 0xffff_ffff_ffff_f000 {
+        Some(number)
+    } else {
+        None
+    }
+}
+
 /// The number that the word of an operator holds as its right side, by the word of the literal.
 pub fn held_addend(op: BinaryOp, number: u64) -> Option<u64>
     ensures { result ≡ words.held_addend op number }
 {
-    let small = number < 4096 || number > 0xffff_ffff_ffff_f000;
     match op {
-        BinaryOp::Add | BinaryOp::Sub => if small { Some(number) } else { None },
+        BinaryOp::Add | BinaryOp::Sub => addend(number),
         _ => None,
     }
+}
+
+/// Whether two numbers are the same.
+pub fn is_same_number(number: i128, other: i128) -> bool
+    ensures { result ≡ same_number number other }
+{
+    number == other
 }
 
 /// The number that a comparison holds as its right side.
@@ -161,7 +179,8 @@ pub fn added_number(op: BinaryOp, want: Option<Ty>, expr: &Expr) -> Option<u64>
     held_addend(op, word(wrapped(want, value)))
 }
 
-fn add_word(number: u64, d: Reg, a: Reg) -> Word
+/// A register and a number more.
+pub fn add_word(number: u64, d: Reg, a: Reg) -> Word
     ensures plain { is_plain (word_view result) ≡ true }
     ensures word { word_view result ≡ words.add_word number d.number a.number }
 {

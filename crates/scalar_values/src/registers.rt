@@ -14,7 +14,7 @@ use a64_code::{Reg, zero};
 use kernel_scope::Scope;
 use kernel_tree::{Expr, Name};
 use scalar_words::places::Places;
-use scalar_words::{Home, register_at};
+use scalar_words::{Home, Key, register_at};
 
 /// The register of an item's value, after which the next item stands.
 pub fn take(places: &Places, item: &mut usize) -> Reg
@@ -41,7 +41,7 @@ pub fn take_held(homes: &[Home], name: &Name, item: &mut usize) -> Reg
 fn number_home(places: &Places, value: i128, item: usize) -> Reg
     ensures { result.number ≡ placed.literal_home places.now item value }
 {
-    match places.constant(value) {
+    match places.constant(Key::Number(value)) {
         Some(held) => held,
         None => places.reg(item),
     }

@@ -1,6 +1,6 @@
 -- What stretches of code keep, and what stands in the registers.
 use Rattle.std.proofs.Common.{◌≡◌, ◌≢◌, ℕ, suc, ◌^◌, ◌<◌, ◌≤◌, Bool, true, false, List, [], ◌∷◌, length, Option, Some, None, cond, refl, sym, ap, ◌∙◌, subst, arith, length-set, get_or-set_same, get_or-set_other}
-use Rattle.std.specs.Prelude.{ℤ, slice_index, unwrap_or, option_map, bytes_eq}
+use Rattle.std.specs.Prelude.{pos, ◌+ℤ◌, slice_index, unwrap_or, option_map, bytes_eq}
 use Rattle.std.specs.List.{find}
 use Rattle.guest_types.specs.Memory.{Memory, IsMemory}
 use Rattle.machine_model.specs.Machine.{State, x_at, with_x, next}
@@ -12,7 +12,7 @@ use Rattle.kernel_tree.specs.Typing.{Local}
 pub use Rattle.scalar_words.specs.Safe.{Assigned, IsSafe, AreSafe}
 pub use Rattle.kernel_meaning.specs.Ranges.{TypeRange, AreRanged}
 pub use Rattle.scalar_words.specs.Iterations.{Frame, frame_of}
-use Rattle.scalar_words.specs.Layout.{Layout, reg_of, constant_at, IsMade, Home, Homes, is_home, register_of, register_at, Lasts, LastsAt, NameLasts}
+use Rattle.scalar_words.specs.Layout.{Key, OfNumber, OfAddress, Layout, reg_of, constant_at, IsMade, Home, Homes, is_home, register_of, register_at, Lasts, LastsAt, NameLasts}
 
 -- the state after a word that writes one register
 abbrev pub wrote : State → ℕ → ℕ → State
@@ -57,11 +57,16 @@ Held [] (n ∷ ns) p s = ⊥
 Held (h ∷ hs) [] p s = ⊥
 Held (h ∷ hs) (n ∷ ns) p s = (n.name ≡ h.name) × (Lasts h.last_use p → x_at s h.register ≡ word n.value) × Held hs ns p s
 
--- registers have the numbers that they hold
-abbrev pub IsLoaded : Layout → List ℕ → Type 0
-IsLoaded L args = (z : ℤ) (r : ℕ) → constant_at L z ≡ Some r → slice_index args r ≡ word z
+-- the word of what is held, by the arguments
+abbrev pub key_word : List ℕ → Key → ℕ
+key_word args (OfNumber z) = word z
+key_word args (OfAddress q c) = word (pos (slice_index args q) +ℤ c)
 
--- what stays in an iteration: its number, and the registers below X9, with the arguments and the numbers that are held
+-- registers have what they hold
+abbrev pub IsLoaded : Layout → List ℕ → Type 0
+IsLoaded L args = (z : Key) (r : ℕ) → constant_at L z ≡ Some r → slice_index args r ≡ key_word args z
+
+-- what stays in an iteration: its number, and the registers below X9, with the arguments and what is held
 pub record Fixed (L : Layout) : Type 0 where
   pub index : ℕ
   pub args : List ℕ

@@ -1,14 +1,18 @@
 -- Where values are kept.
-use Rattle.std.specs.Prelude.{ℕ, ◌<◌, ◌≤◌, ℤ, List, Option, Some, None, option_map, unwrap_or, slice_index, Bool, bytes_eq}
+use Rattle.std.specs.Prelude.{ℕ, ◌<◌, ◌≤◌, ℤ, List, Option, Some, None, option_map, unwrap_or, slice_index, nat_eq, Bool, false, ◌&&◌, bytes_eq}
 use Rattle.std.specs.List.{find}
 use Rattle.loop_form.specs.Needs.{same_number}
 
--- a number that a register holds while iterations last
+-- what a register may hold while iterations last: a number, or the address in another register and so many bytes more
+pub data Key : Type 0 where
+  OfNumber : ℤ → Key
+  OfAddress : (array : ℕ) → (by : ℤ) → Key
+
 pub record Constant : Type 0 where
-  pub number : ℤ
+  pub key : Key
   pub register : ℕ
 
--- by item: the register of its value, and the item that uses it last; and the numbers that are held
+-- by item: the register of its value, and the item that uses it last; and what is held
 pub record Layout : Type 0 where
   pub regs : List ℕ
   pub untils : List ℕ
@@ -24,22 +28,32 @@ last_use_at L p = slice_index L.untils p
 abbrev pub IsMade : Layout → ℕ → Type 0
 IsMade L p = p < last_use_at L p
 
--- ---- numbers that are held
+-- ---- what is held
 
-abbrev pub is_constant : ℤ → Constant → Bool
-is_constant z c = same_number c.number z
+abbrev pub same_key : Key → Key → Bool
+same_key (OfNumber y) (OfNumber z) = same_number y z
+same_key (OfAddress q c) (OfAddress r d) = nat_eq q r && same_number c d
+same_key _ _ = false
+
+abbrev pub is_constant : Key → Constant → Bool
+is_constant z c = same_key c.key z
 
 abbrev pub constant_register : Constant → ℕ
 constant_register c = c.register
 
--- the register that holds a number
-abbrev pub constant_in : List Constant → ℤ → Option ℕ
+-- the register that holds it
+abbrev pub constant_in : List Constant → Key → Option ℕ
 constant_in cs z = option_map constant_register (find (is_constant z) cs)
 
-abbrev pub constant_at : Layout → ℤ → Option ℕ
+abbrev pub constant_at : Layout → Key → Option ℕ
 constant_at L z = constant_in L.constants z
 
--- a layout that holds these numbers
+-- an address is that of an argument
+abbrev pub IsGiven : ℕ → Key → Type 0
+IsGiven p (OfNumber z) = Unit {0}
+IsGiven p (OfAddress q c) = q < p
+
+-- a layout that holds these
 abbrev pub with_constants : Layout → List Constant → Layout
 with_constants L cs = record { regs = L.regs; untils = L.untils; constants = cs }
 

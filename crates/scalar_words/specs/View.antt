@@ -1,18 +1,23 @@
 -- What contracts see of the layout and of the homes.
-use Rattle.std.specs.Prelude.{ℕ, ℤ, List, map, Option, Some, None, option_map, Bool, bytes_eq}
+use Rattle.std.specs.Prelude.{ℕ, List, map, Option, Some, None, option_map, Bool, bytes_eq}
 use Rattle.std.specs.List.{find}
 use Rattle.word_rows.specs.declared.Bits.{Bits}
 use Rattle.kernel_scope.specs.Scopes.{lent_text}
-use Rattle.loop_form.specs.Needs.{same_number}
 use Rattle.scalar_words.specs.declared.constant.Constant.{Constant}
+use Rattle.scalar_words.specs.declared.constant.Key.{Key}
+use Rattle.scalar_words.specs.declared.constant.Key.TheVariants as key
 use Rattle.scalar_words.specs.declared.home.Home.{Home}
 use Rattle.scalar_words.specs.Layout as plain
 
 abbrev pub register_number : Bits 5 → ℕ
 register_number r = r.number
 
+abbrev pub key_of : Key → plain.Key
+key_of (key.Number z) = plain.OfNumber z
+key_of (key.Address array by) = plain.OfAddress array.number by
+
 abbrev pub constant_of : Constant → plain.Constant
-constant_of c = record { number = c.number; register = c.register.number }
+constant_of c = record { key = key_of c.key; register = c.register.number }
 
 abbrev pub constants_of : List Constant → List plain.Constant
 constants_of cs = map constant_of cs
@@ -20,14 +25,14 @@ constants_of cs = map constant_of cs
 abbrev pub layout_of : List (Bits 5) → List ℕ → List Constant → plain.Layout
 layout_of regs untils constants = record { regs = map register_number regs; untils = untils; constants = constants_of constants }
 
-abbrev pub numbered : ℤ → Constant → Bool
-numbered z c = same_number c.number z
+abbrev pub keyed : plain.Key → Constant → Bool
+keyed z c = plain.same_key (key_of c.key) z
 
 abbrev pub register_of : Constant → Bits 5
 register_of c = c.register
 
-abbrev pub register_holding : List Constant → ℤ → Option (Bits 5)
-register_holding cs z = option_map register_of (find (numbered z) cs)
+abbrev pub register_holding : List Constant → plain.Key → Option (Bits 5)
+register_holding cs z = option_map register_of (find (keyed z) cs)
 
 abbrev pub home_of : Home → plain.Home
 home_of h = record { name = lent_text h.name; register = h.register.number; last_use = h.last_use }

@@ -1,38 +1,63 @@
-//! Numbers that registers hold while iterations last.
+//! What registers hold while iterations last.
 
 ghost use Rattle.std.specs.Prelude.{◌≡◌, option_map};
 ghost use Rattle.loop_form.specs.Needs.{same_number};
-ghost use Rattle.scalar_words.specs.View.{constants_of, register_holding, register_number};
-ghost use Rattle.scalar_words.specs.Layout.{constant_in};
+ghost use Rattle.scalar_words.specs.View.{key_of, constants_of, register_holding, register_number};
+ghost use Rattle.scalar_words.specs.Layout.{same_key, constant_in};
 
 use a64_code::Reg;
 
-/// A number that a register holds while iterations last.
+/// A number, or the address in a register and so many bytes more.
+#[derive(Clone, Copy)]
+pub enum Key {
+    Number(i128),
+    Address { array: Reg, by: i128 },
+}
+
+/// What a register holds while iterations last.
 #[derive(Clone, Copy)]
 pub struct Constant {
-    pub number: i128,
+    pub key: Key,
     pub register: Reg,
 }
 
-fn is_same(number: i128, other: i128) -> bool
+fn is_same_number(number: i128, other: i128) -> bool
     ensures { result ≡ same_number number other }
 {
     number == other
 }
 
-fn register_holding(constants: &[Constant], number: i128) -> Option<Reg>
-    ensures { result ≡ register_holding constants.now number }
+fn is_same(key: Key, other: Key) -> bool
+    ensures { result ≡ same_key (key_of key) (key_of other) }
+{
+    match key {
+        Key::Number(number) => match other {
+            Key::Number(second) => is_same_number(number, second),
+            Key::Address { .. } => false,
+        },
+        Key::Address { array, by } => match other {
+            Key::Number(_) => false,
+            Key::Address {
+                array: second,
+                by: distance,
+            } => array.number == second.number && is_same_number(by, distance),
+        },
+    }
+}
+
+fn register_holding(constants: &[Constant], key: Key) -> Option<Reg>
+    ensures { result ≡ register_holding constants.now (key_of key) }
 {
     constants
         .iter()
-        .find(|constant| is_same(constant.number, number))
+        .find(|constant| is_same(constant.key, key))
         .map(|constant| constant.register)
 }
 
-/// The register that holds a number.
+/// The register that holds it.
 #[tactic(auto, using(crate::proofs::RegisterHolding::register_holding_is))]
-pub fn constant_in(constants: &[Constant], number: i128) -> Option<Reg>
-    ensures { option_map register_number result ≡ constant_in (constants_of constants.now) number }
+pub fn constant_in(constants: &[Constant], key: Key) -> Option<Reg>
+    ensures { option_map register_number result ≡ constant_in (constants_of constants.now) (key_of key) }
 {
-    register_holding(constants, number)
+    register_holding(constants, key)
 }

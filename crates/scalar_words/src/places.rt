@@ -7,10 +7,10 @@ ghost use Rattle.reg_assign.specs.declared.interval.RegClass.TheVariants.{X};
 ghost use Rattle.reg_assign.specs.Registers.{IsAssignment};
 ghost use Rattle.loop_form.specs.Registers.{FitsKernel};
 ghost use Rattle.scalar_words.specs.Layout.{reg_of, last_use_at, constant_at, with_constants};
-ghost use Rattle.scalar_words.specs.View.{constants_of, register_number};
+ghost use Rattle.scalar_words.specs.View.{constants_of, key_of, register_number};
 ghost use Rattle.scalar_words.specs.KernelRegisters.{counted_x, register_in, one_reg, one_value, count_values, item_regs, item_last_use, layout_of_kernel};
 
-use crate::constant::{Constant, constant_in};
+use crate::constant::{Constant, Key, constant_in};
 use crate::laws::each_has_a_register;
 use a64_code::Reg;
 use kernel_tree::Checked;
@@ -21,7 +21,7 @@ use std::alloc::{AllocError, Global};
 use std::marker::Model;
 use word_rows::Bits;
 
-/// The register and the last use of each item, and the registers that hold numbers.
+/// The register and the last use of each item, and the registers that hold numbers and addresses.
 #[derive(Drop)]
 pub struct Places {
     regs: Vec<Reg>,
@@ -59,21 +59,21 @@ impl Places {
         }
     }
 
-    /// The register that holds a number.
-    pub fn constant(&self, number: i128) -> Option<Reg>
-        ensures { option_map register_number result ≡ constant_at self.now number }
+    /// The register that holds a number, or an address.
+    pub fn constant(&self, key: Key) -> Option<Reg>
+        ensures { option_map register_number result ≡ constant_at self.now (key_of key) }
     {
-        constant_in(&self.constants, number)
+        constant_in(&self.constants, key)
     }
 
-    /// The numbers that are held.
+    /// What is held.
     pub fn constants(&self) -> &[Constant]
         ensures { constants_of result.now ≡ self.now.constants }
     {
         &self.constants
     }
 
-    /// These numbers are held, and no others.
+    /// These are held, and no others.
     pub fn hold(&mut self, constants: Vec<Constant>)
         ensures { self.new ≡ with_constants self.old (constants_of constants.items) }
     {

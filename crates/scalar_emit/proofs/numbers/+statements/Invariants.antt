@@ -2,7 +2,7 @@ use Rattle.std.proofs.Common.{◌≡◌, ◌+◌, ◌*◌, ◌≤◌, drop}
 use Rattle.kernel_tree.specs.Plain.{action_of, block_of}
 use Rattle.kernel_tree.specs.Limits.{action_depth, block_depth}
 use Rattle.kernel_scope.specs.Scopes.{scope_of}
-use Rattle.scalar_words.specs.View.{constants_of}
+use Rattle.scalar_words.specs.View.{constants_of, homes_of}
 use Rattle.scalar_emit.specs.LoopNumbers.{hold_block}
 use Rattle.scalar_emit.proofs.numbers.+statements.Given as goal
 
@@ -10,7 +10,7 @@ use Rattle.scalar_emit.proofs.numbers.+statements.Given as goal
 abbrev pub invariant-hold_block-loop-stmt : goal.invariant-hold_block-loop-stmt
 invariant-hold_block-loop-stmt l = record {
   depth : block_depth (block_of (drop l.stmt-index l.block)) ≤ block_depth (block_of l.block);
-  constants : hold_block l.params (scope_of l.scope).index (block_of (drop l.stmt-index l.block)) (constants_of l.constants.items) ≡ hold_block l.params (scope_of l.scope).index (block_of l.block) (constants_of l.fn.constants.items);
+  constants : hold_block l.params (homes_of l.homes) (scope_of l.scope) (block_of (drop l.stmt-index l.block)) (constants_of l.constants.items) ≡ hold_block l.params (homes_of l.homes) (scope_of l.scope) (block_of l.block) (constants_of l.fn.constants.items);
 }
 
 -- a block stands above its statements

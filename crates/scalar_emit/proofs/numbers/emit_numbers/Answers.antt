@@ -13,8 +13,8 @@ loop-constant-preserved c =
     let more = drop (l.constant-index + 1) cs in
     let e = next-entry cs l.constant-index c.constant-item.result c.loop-constant-test.true c.constant-item.is in
     record {
-      labels = c.in_ok-emit_const.ensures.labels ∙ l.invariant.labels;
-      code = λ rest. c.in_ok-emit_const.ensures.code (numbers_code (constants_of more) rest)
-          ∙ ap (λ (es : List Entry). l.draft.entries ++ es) (number_step (drop l.constant-index cs) more c.constant-item.result c.number_word.result rest e c.number_word.ensures)
+      labels = c.in_ok-emit_key.ensures.labels ∙ l.invariant.labels;
+      code = λ rest. c.in_ok-emit_key.ensures.code (numbers_code (constants_of more) rest)
+          ∙ ap (λ (es : List Entry). l.draft.entries ++ es) (number_step (drop l.constant-index cs) more c.constant-item.result rest e)
           ∙ l.invariant.code rest;
     }

@@ -1,0 +1,40 @@
+//! Emits the code of literals.
+
+ghost use Rattle.std.specs.Prelude.{◌≡◌, ◌+◌, ◌<◌, ◌^◌, IfOk, OnOk};
+ghost use Rattle.scalar_words.specs.Drafts.{Appends};
+ghost use Rattle.scalar_values.specs.ValueRegisters as placed;
+ghost use Rattle.scalar_values.specs.Code as code;
+
+use crate::registers::take;
+use a64_code::Reg;
+use kernel_meaning::{word, wrapped};
+use kernel_tree::Ty;
+use label_fix::Draft;
+use scalar_words::Key;
+use scalar_words::operations::emit_const;
+use scalar_words::places::Places;
+use std::alloc::AllocError;
+
+/// A literal, wrapped to the type that is wanted, into the register of its item, where no register holds it.
+pub fn emit_literal(
+    draft: &mut Draft,
+    places: &Places,
+    want: Option<Ty>,
+    value: i128,
+    item: &mut usize,
+) -> Result<Reg, AllocError>
+    requires { item.old < 2 ^ 32 }
+    ensures register { IfOk result (λ r. r.number ≡ placed.literal_home places.now item.old value) }
+    ensures item { OnOk result (item.new ≡ item.old + 1) }
+    ensures labels { OnOk result (draft.new.labels ≡ draft.old.labels) }
+    ensures code { OnOk result (Appends draft.old draft.new (code.literal_code places.now want item.old value)) }
+{
+    let own = take(places, item);
+    match places.constant(Key::Number(value)) {
+        Some(held) => Ok(held),
+        None => {
+            emit_const(draft, own, word(wrapped(want, value)))?;
+            Ok(own)
+        }
+    }
+}
