@@ -1,19 +1,19 @@
 -- A text read word by word: its blanks and its numbers.
 use Rattle.std.proofs.Common.{◌≡◌, ℕ, List, [], ◌∷◌, ◌++◌, Bool, true, false, None, refl, sym, ap, ap₂, ◌∙◌, append_assoc, eqb}
-use Rattle.std.proofs.lemmas.Bool.{eqb-true}
+use Rattle.std.proofs.lemmas.Bool.{eqb-true, and_parts, not-true}
 use Rattle.std.specs.Prelude.{◌&&◌, not, bytes_eq}
 use Rattle.std.specs.List.{list_all}
 use Rattle.std.proofs.lemmas.List.{append-nil}
 use Rattle.number_text.specs.Numbers.{decimal_of}
 use Rattle.asm_forms.specs.Blanks.{is_word_byte, meanings, meaning_in, blank_of, over_words, blanked_word, numbers_of_word, byte_kept, no_number}
-use Rattle.sve_asm.proofs.Words.{IsBlanked, and_true}
+use Rattle.sve_asm.proofs.Words.{IsBlanked}
 
 pub bytes_same : (a b : List ℕ) → bytes_eq a b ≡ true → a ≡ b
 bytes_same [] [] h = refl
 bytes_same [] (y ∷ b) h = cc
 bytes_same (x ∷ a) [] h = cc
 bytes_same (x ∷ a) (y ∷ b) h =
-    let p = and_true (eqb x y) (bytes_eq a b) h in
+    let p = and_parts (eqb x y) (bytes_eq a b) h in
     ap₂ (λ (u : ℕ) (v : List ℕ). u ∷ v) (eqb-true x y p.0) (bytes_same a b p.1)
 
 -- no word goes on at the front of the text
@@ -27,20 +27,17 @@ closes [] = false
 closes (b ∷ []) = not (is_word_byte b)
 closes (b ∷ c ∷ text) = closes (c ∷ text)
 
-no_word : (b : ℕ) → not (is_word_byte b) ≡ true → is_word_byte b ≡ false
-no_word b h = elim (is_word_byte b) as (λ x. not x ≡ true → x ≡ false) [ true ↦ λ e. cc | false ↦ λ e. refl ] h
-
 goes_on : (f : List ℕ → List ℕ) (g : ℕ → List ℕ) (w p text : List ℕ) → list_all is_word_byte w ≡ true → over_words f g p (w ++ text) ≡ over_words f g (p ++ w) text
 unfolding over_words
 goes_on f g [] p text h = rw append-nil refl
 goes_on f g (b ∷ w) p text h =
-    let q = and_true (is_word_byte b) (list_all is_word_byte w) h in
+    let q = and_parts (is_word_byte b) (list_all is_word_byte w) h in
     rw q.0 (goes_on f g w (p ++ b ∷ []) text q.1 ∙ ap (λ x. over_words f g x text) (append_assoc p (b ∷ []) w))
 
 stops : (f : List ℕ → List ℕ) (g : ℕ → List ℕ) (p text : List ℕ) → f [] ≡ [] → ends text ≡ true → over_words f g p text ≡ f p ++ over_words f g [] text
 unfolding over_words
 stops f g p [] e h = sym (rw (e, append-nil) refl)
-stops f g p (b ∷ text) e h = rw (no_word b h, e) (append_assoc (f p) (g b) (over_words f g [] text))
+stops f g p (b ∷ text) e h = rw (not-true (is_word_byte b) h, e) (append_assoc (f p) (g b) (over_words f g [] text))
 
 one_more : (f : List ℕ → List ℕ) (g : ℕ → List ℕ) (b : ℕ) (c p text : List ℕ) (x : Bool) → is_word_byte b ≡ x
     → ((q : List ℕ) → over_words f g q (c ++ text) ≡ over_words f g q c ++ over_words f g [] text)
@@ -52,7 +49,7 @@ one_more f g b c p text false w ih = rw (w, ih []) (sym (append_assoc (f p ++ g 
 parts : (f : List ℕ → List ℕ) (g : ℕ → List ℕ) (c p text : List ℕ) → f [] ≡ [] → closes c ≡ true → over_words f g p (c ++ text) ≡ over_words f g p c ++ over_words f g [] text
 unfolding over_words
 parts f g [] p text e h = cc
-parts f g (b ∷ []) p text e h = rw (no_word b h, e, append-nil) refl
+parts f g (b ∷ []) p text e h = rw (not-true (is_word_byte b) h, e, append-nil) refl
 parts f g (b ∷ d ∷ c) p text e h = one_more f g b (d ∷ c) p text (is_word_byte b) refl (λ q. parts f g (d ∷ c) q text e h)
 
 -- the blanks and the numbers of a text
@@ -97,8 +94,8 @@ is_plain c = closes c && (bytes_eq (over_words blanked_word byte_kept [] c) c &&
 
 pub reads-plain : (c : List ℕ) {text blanks numbers : List ℕ} → is_plain c ≡ true → Reads text blanks numbers → Reads (c ++ text) (c ++ blanks) numbers
 reads-plain c {text} {blanks} {numbers} h r =
-    let p = and_true (closes c) (bytes_eq (over_words blanked_word byte_kept [] c) c && bytes_eq (over_words numbers_of_word no_number [] c) []) h in
-    let q = and_true (bytes_eq (over_words blanked_word byte_kept [] c) c) (bytes_eq (over_words numbers_of_word no_number [] c) []) p.1 in
+    let p = and_parts (closes c) (bytes_eq (over_words blanked_word byte_kept [] c) c && bytes_eq (over_words numbers_of_word no_number [] c) []) h in
+    let q = and_parts (bytes_eq (over_words blanked_word byte_kept [] c) c) (bytes_eq (over_words numbers_of_word no_number [] c) []) p.1 in
     let b = bytes_same (over_words blanked_word byte_kept [] c) c q.0 in
     let n = bytes_same (over_words numbers_of_word no_number [] c) [] q.1 in
     let r = reads-bytes c p.0 r in

@@ -1,6 +1,7 @@
 -- The forms of a row's texts, one for each value of what stands there only sometimes.
-use Rattle.std.proofs.Common.{◌≡◌, ℕ, zero, suc, ◌+◌, ◌*◌, ◌/◌, ◌^◌, ◌<◌, ◌≤◌, List, [], ◌∷◌, ◌++◌, Bool, true, false, Some, refl, sym, ap, ◌∙◌, arith, eqb}
+use Rattle.std.proofs.Common.{◌≡◌, ℕ, zero, suc, ◌+◌, ◌*◌, ◌/◌, ◌^◌, ◌<◌, ◌≤◌, List, [], ◌∷◌, ◌++◌, true, false, Some, refl, sym, ap, subst, ◌∙◌, arith, eqb, mul-zero}
 use Rattle.std.specs.Prelude.{codes, nat_lt, nat_le, ◌==◌, if◌then◌else◌}
+use Rattle.std.proofs.lemmas.Bool.{eqb-true}
 use Rattle.std.proofs.lemmas.Bool.Decides.{nat_tests}
 use Rattle.list_text.specs.Parts.{x_register, w_register, x_or_sp, w_or_sp, cond_name, size_letter, signed_constant, comma, z_register}
 use Rattle.list_text.specs.A64Text as text
@@ -12,26 +13,23 @@ use Rattle.word_rows.specs.Field.{bits}
 use Rattle.asm_forms.specs.Rules.{dot}
 use Rattle.sve_code.specs.Numbers.{left_amount, right_amount}
 use Rattle.sve_asm.proofs.Sums.{mod_below}
+use Rattle.sve_asm.proofs.Words.{IsBlanked, by_test}
 use Rattle.sve_asm.proofs.ByWords.{reads-none}
+use Rattle.sve_asm.proofs.Pieces.{x-blanked, w-blanked, x_or_sp-blanked, w_or_sp-blanked, b-blanked, h-blanked, s-blanked, d-blanked}
 use Rattle.sve_asm.proofs.Spelled.{is_mnemonic, spelled}
-use Rattle.sve_asm.proofs.ScalarForms.{form_imm_sp, form_imm_sp_lsl, form_imm_x, form_imm_x_lsl, form_unshifted, form_shifted_lsl, form_shifted_lsr, form_shifted_asr, form_shifted_ror, form_wide, form_wide_lsl, form_branch, form_branch_back, form_branch_if, form_branch_if_back, form_compare, form_compare_back}
-use Rattle.sve_asm.proofs.AccessForms.{form_no_offset_w1, form_offset_w1, form_no_offset_w2, form_offset_w2, form_no_offset_w4, form_offset_w4, form_no_offset_x1, form_offset_x1, form_no_offset_x2, form_offset_x2, form_no_offset_x4, form_offset_x4, form_no_offset_x8, form_offset_x8, form_index_unscaled_w1, form_index_w1, form_index_unscaled_w2, form_index_w2, form_index_unscaled_x1, form_index_x1, form_index_unscaled_x2, form_index_x2, form_index_unscaled_x3, form_index_x3}
-use Rattle.sve_asm.proofs.PredicateForms.{form_dup_x, form_dup_w, form_series_x, form_series_w, form_series_back_x, form_series_back_w}
-use Rattle.sve_asm.proofs.VectorForms.{form_left_b, form_left_h, form_left_s, form_left_d, form_right_b, form_right_h, form_right_s, form_right_d, form_reduce_b, form_reduce_h, form_reduce_s, form_reduce_d}
+use Rattle.sve_asm.proofs.ScalarForms.{form_imm, form_imm_lsl, form_unshifted, form_shifted_lsl, form_shifted_lsr, form_shifted_asr, form_shifted_ror, form_wide, form_wide_lsl, form_branch, form_branch_back, form_branch_if, form_branch_if_back, form_compare, form_compare_back}
+use Rattle.sve_asm.proofs.AccessForms.{form_no_offset, form_offset, form_index, form_index_lsl}
+use Rattle.sve_asm.proofs.PredicateForms.{form_dup, form_series, form_series_back}
+use Rattle.sve_asm.proofs.VectorForms.{form_left, form_right, form_reduce}
 
-pub imm_sp : (m : List ℕ) (b0 b1 w a b n s : ℕ) → is_mnemonic m ≡ true → form_of m (codes " x, x, #0") ≡ Some (Factors (1 ∷ 32 ∷ 1024 ∷ []), b0)
-    → form_of m (codes " x, x, #0, l #0") ≡ Some (Factors (1 ∷ 32 ∷ 1024 ∷ []), b1) → b1 ≡ b0 + 4194304 → a < 32 → b < 32 → n < 4096 → s < 2 → w < 2 ^ 32
-    → b0 + a * 1 + b * 32 + n * 1024 + s * 4194304 ≡ w → candidate (text.add_sub_immediate (m ++ codes " ") x_or_sp (a ∷ b ∷ n ∷ s ∷ [])) ≡ Some w
-imm_sp m b0 b1 w a b n zero h f g d ha hb hn hs hw e = form_imm_sp m b0 w a b n h f ha hb hn hw (omega arith)
-imm_sp m b0 b1 w a b n (suc zero) h f g d ha hb hn hs hw e = form_imm_sp_lsl m b1 w a b n h g ha hb hn hw (omega arith)
-imm_sp m b0 b1 w a b n (suc (suc s)) h f g d ha hb hn hs hw e = absurd (omega arith)
-
-pub imm_x : (m : List ℕ) (b0 b1 w a b n s : ℕ) → is_mnemonic m ≡ true → form_of m (codes " x, x, #0") ≡ Some (Factors (1 ∷ 32 ∷ 1024 ∷ []), b0)
-    → form_of m (codes " x, x, #0, l #0") ≡ Some (Factors (1 ∷ 32 ∷ 1024 ∷ []), b1) → b1 ≡ b0 + 4194304 → a < 32 → b < 32 → n < 4096 → s < 2 → w < 2 ^ 32
-    → b0 + a * 1 + b * 32 + n * 1024 + s * 4194304 ≡ w → candidate (text.add_sub_immediate (m ++ codes " ") x_register (a ∷ b ∷ n ∷ s ∷ [])) ≡ Some w
-imm_x m b0 b1 w a b n zero h f g d ha hb hn hs hw e = form_imm_x m b0 w a b n h f ha hb hn hw (omega arith)
-imm_x m b0 b1 w a b n (suc zero) h f g d ha hb hn hs hw e = form_imm_x_lsl m b1 w a b n h g ha hb hn hw (omega arith)
-imm_x m b0 b1 w a b n (suc (suc s)) h f g d ha hb hn hs hw e = absurd (omega arith)
+-- an immediate, where R is the text of the result
+pub imm : (R : ℕ → List ℕ) → ((n : ℕ) → n < 32 → IsBlanked (R n) 120 n) → (m : List ℕ) (b0 b1 w a b n s : ℕ) → is_mnemonic m ≡ true
+    → form_of m (codes " x, x, #0") ≡ Some (Factors (1 ∷ 32 ∷ 1024 ∷ []), b0) → form_of m (codes " x, x, #0, l #0") ≡ Some (Factors (1 ∷ 32 ∷ 1024 ∷ []), b1)
+    → b1 ≡ b0 + 4194304 → a < 32 → b < 32 → n < 4096 → s < 2 → w < 2 ^ 32
+    → b0 + a * 1 + b * 32 + n * 1024 + s * 4194304 ≡ w → candidate (text.add_sub_immediate (m ++ codes " ") R (a ∷ b ∷ n ∷ s ∷ [])) ≡ Some w
+imm R is m b0 b1 w a b n zero h f g d ha hb hn hs hw e = form_imm R is m b0 w a b n h f ha hb hn hw (omega arith)
+imm R is m b0 b1 w a b n (suc zero) h f g d ha hb hn hs hw e = form_imm_lsl R is m b1 w a b n h g ha hb hn hw (omega arith)
+imm R is m b0 b1 w a b n (suc (suc s)) h f g d ha hb hn hs hw e = absurd (omega arith)
 
 not_zero : (n : ℕ) → eqb (suc n) 0 ≡ false
 not_zero n = grind (arith, nat_tests)
@@ -55,11 +53,6 @@ pub wide : (m : List ℕ) (base w a n k : ℕ) → is_mnemonic m ≡ true → fo
 wide m base w a n zero h f g ha hn hk hw e = form_wide m base w a n h f ha hn hw (omega arith)
 wide m base w a n (suc k) h f g ha hn hk hw e = form_wide_lsl m base w a n (suc k) h g ha hn hk (times_not_zero 16 k (omega arith)) hw (omega arith)
 
--- one of two, by a test
-pub by_test : {P : Type 0} (x : Bool) → (x ≡ true → P) → (x ≡ false → P) → P
-by_test true here there = here refl
-by_test false here there = there refl
-
 pub branch : (m : List ℕ) (b0 b1 w n : ℕ) → is_mnemonic m ≡ true → form_of m (codes " #0") ≡ Some (Quarter 1, b0)
     → form_of m (codes " #-0") ≡ Some (Quarter 18446744073709551615, b1) → b1 ≡ b0 + 67108864 → n < 67108864 → w < 2 ^ 32 → b0 + n * 1 ≡ w
     → candidate ((m ++ codes " ") ++ signed_constant 4 26 n) ≡ Some w
@@ -78,88 +71,39 @@ pub compare : (m : List ℕ) (b0 b1 w a n : ℕ) → is_mnemonic m ≡ true → 
 compare m b0 b1 w a n h f g d ha hn hw e =
     by_test (nat_lt n 262144) (λ q. form_compare m b0 w a n h f ha hn q hw (omega arith)) (λ q. form_compare_back m b1 w a n h g ha hn q hw (omega arith))
 
-pub offset_w1 : (m : List ℕ) (base w a b n : ℕ) → is_mnemonic m ≡ true → form_of m (codes " w, [x]") ≡ Some (Factors (1 ∷ 32 ∷ []), base)
-    → form_of m (codes " w, [x, #0]") ≡ Some (Factors (1 ∷ 32 ∷ 1024 ∷ []), base) → a < 32 → b < 32 → n < 4096 → w < 2 ^ 32
-    → base + a * 1 + b * 32 + n * 1024 ≡ w → candidate (text.load_store_immediate (m ++ codes " ") w_register 1 (a ∷ b ∷ n ∷ [])) ≡ Some w
-offset_w1 m base w a b zero h f g ha hb hn hw e = form_no_offset_w1 m base w a b h f ha hb hw (omega arith)
-offset_w1 m base w a b (suc n) h f g ha hb hn hw e = form_offset_w1 m base w a b (suc n) h g ha hb hn (times_not_zero 1 n (omega arith)) hw (omega arith)
+-- an access at an offset of n elements of k bytes
+pub offset : (R : ℕ → List ℕ) (l k f : ℕ) → ((n : ℕ) → n < 32 → IsBlanked (R n) l n) → ((n : ℕ) → n < 4096 → (k * n < 32768) × (f * (k * n) ≡ n * 1024))
+    → (m : List ℕ) (base w a b n : ℕ) → is_mnemonic m ≡ true → form_of m (32 ∷ l ∷ codes ", [x]") ≡ Some (Factors (1 ∷ 32 ∷ []), base)
+    → form_of m (32 ∷ l ∷ codes ", [x, #0]") ≡ Some (Factors (1 ∷ 32 ∷ f ∷ []), base) → a < 32 → b < 32 → n < 4096 → w < 2 ^ 32
+    → base + a * 1 + b * 32 + n * 1024 ≡ w → candidate (text.load_store_immediate (m ++ codes " ") R k (a ∷ b ∷ n ∷ [])) ≡ Some w
+offset R l k f is scale m base w a b n h g i ha hb hn hw e =
+    let s = scale n hn in
+    by_test (eqb (k * n) 0)
+    (λ q. let none : n * 1024 ≡ 0 = sym s.1 ∙ ap (λ x. f * x) (eqb-true _ _ q) ∙ mul-zero f in form_no_offset R l is m base w a b (k * n) h g ha hb q hw (omega arith))
+    (λ q. form_offset R l is m base w a b n (k * n) f h i ha hb s.0 s.1 q hw e)
 
-pub offset_w2 : (m : List ℕ) (base w a b n : ℕ) → is_mnemonic m ≡ true → form_of m (codes " w, [x]") ≡ Some (Factors (1 ∷ 32 ∷ []), base)
-    → form_of m (codes " w, [x, #0]") ≡ Some (Factors (1 ∷ 32 ∷ 512 ∷ []), base) → a < 32 → b < 32 → n < 4096 → w < 2 ^ 32
-    → base + a * 1 + b * 32 + n * 1024 ≡ w → candidate (text.load_store_immediate (m ++ codes " ") w_register 2 (a ∷ b ∷ n ∷ [])) ≡ Some w
-offset_w2 m base w a b zero h f g ha hb hn hw e = form_no_offset_w2 m base w a b h f ha hb hw (omega arith)
-offset_w2 m base w a b (suc n) h f g ha hb hn hw e = form_offset_w2 m base w a b (suc n) h g ha hb hn (times_not_zero 2 n (omega arith)) hw (omega arith)
+-- an access at an index, which is shifted by k
+pub indexed : (R : ℕ → List ℕ) (l k : ℕ) → ((n : ℕ) → n < 32 → IsBlanked (R n) l n) → eqb (k * 0) 0 ≡ true → eqb (k * 1) 0 ≡ false → k * 1 < 64
+    → (m : List ℕ) (b0 b1 w a b s c : ℕ) → is_mnemonic m ≡ true → form_of m (32 ∷ l ∷ codes ", [x, x]") ≡ Some (Factors (1 ∷ 32 ∷ 65536 ∷ []), b0)
+    → form_of m (32 ∷ l ∷ codes ", [x, x, l #0]") ≡ Some (Factors (1 ∷ 32 ∷ 65536 ∷ []), b1) → b1 ≡ b0 + 4096 → a < 32 → b < 32 → s < 2 → c < 32 → w < 2 ^ 32
+    → b0 + a * 1 + b * 32 + s * 4096 + c * 65536 ≡ w → candidate (text.load_store_register (m ++ codes " ") R k (a ∷ b ∷ s ∷ c ∷ [])) ≡ Some w
+indexed R l k is none some small m b0 b1 w a b zero c h f g d ha hb hs hc hw e = form_index R l is m b0 w a b c (k * 0) h f ha hb hc none hw (omega arith)
+indexed R l k is none some small m b0 b1 w a b (suc zero) c h f g d ha hb hs hc hw e = form_index_lsl R l is m b1 w a b c (k * 1) h g ha hb hc small some hw (omega arith)
+indexed R l k is none some small m b0 b1 w a b (suc (suc s)) c h f g d ha hb hs hc hw e = absurd (omega arith)
 
-pub offset_w4 : (m : List ℕ) (base w a b n : ℕ) → is_mnemonic m ≡ true → form_of m (codes " w, [x]") ≡ Some (Factors (1 ∷ 32 ∷ []), base)
-    → form_of m (codes " w, [x, #0]") ≡ Some (Factors (1 ∷ 32 ∷ 256 ∷ []), base) → a < 32 → b < 32 → n < 4096 → w < 2 ^ 32
-    → base + a * 1 + b * 32 + n * 1024 ≡ w → candidate (text.load_store_immediate (m ++ codes " ") w_register 4 (a ∷ b ∷ n ∷ [])) ≡ Some w
-offset_w4 m base w a b zero h f g ha hb hn hw e = form_no_offset_w4 m base w a b h f ha hb hw (omega arith)
-offset_w4 m base w a b (suc n) h f g ha hb hn hw e = form_offset_w4 m base w a b (suc n) h g ha hb hn (times_not_zero 4 n (omega arith)) hw (omega arith)
-
-pub offset_x1 : (m : List ℕ) (base w a b n : ℕ) → is_mnemonic m ≡ true → form_of m (codes " x, [x]") ≡ Some (Factors (1 ∷ 32 ∷ []), base)
-    → form_of m (codes " x, [x, #0]") ≡ Some (Factors (1 ∷ 32 ∷ 1024 ∷ []), base) → a < 32 → b < 32 → n < 4096 → w < 2 ^ 32
-    → base + a * 1 + b * 32 + n * 1024 ≡ w → candidate (text.load_store_immediate (m ++ codes " ") x_register 1 (a ∷ b ∷ n ∷ [])) ≡ Some w
-offset_x1 m base w a b zero h f g ha hb hn hw e = form_no_offset_x1 m base w a b h f ha hb hw (omega arith)
-offset_x1 m base w a b (suc n) h f g ha hb hn hw e = form_offset_x1 m base w a b (suc n) h g ha hb hn (times_not_zero 1 n (omega arith)) hw (omega arith)
-
-pub offset_x2 : (m : List ℕ) (base w a b n : ℕ) → is_mnemonic m ≡ true → form_of m (codes " x, [x]") ≡ Some (Factors (1 ∷ 32 ∷ []), base)
-    → form_of m (codes " x, [x, #0]") ≡ Some (Factors (1 ∷ 32 ∷ 512 ∷ []), base) → a < 32 → b < 32 → n < 4096 → w < 2 ^ 32
-    → base + a * 1 + b * 32 + n * 1024 ≡ w → candidate (text.load_store_immediate (m ++ codes " ") x_register 2 (a ∷ b ∷ n ∷ [])) ≡ Some w
-offset_x2 m base w a b zero h f g ha hb hn hw e = form_no_offset_x2 m base w a b h f ha hb hw (omega arith)
-offset_x2 m base w a b (suc n) h f g ha hb hn hw e = form_offset_x2 m base w a b (suc n) h g ha hb hn (times_not_zero 2 n (omega arith)) hw (omega arith)
-
-pub offset_x4 : (m : List ℕ) (base w a b n : ℕ) → is_mnemonic m ≡ true → form_of m (codes " x, [x]") ≡ Some (Factors (1 ∷ 32 ∷ []), base)
-    → form_of m (codes " x, [x, #0]") ≡ Some (Factors (1 ∷ 32 ∷ 256 ∷ []), base) → a < 32 → b < 32 → n < 4096 → w < 2 ^ 32
-    → base + a * 1 + b * 32 + n * 1024 ≡ w → candidate (text.load_store_immediate (m ++ codes " ") x_register 4 (a ∷ b ∷ n ∷ [])) ≡ Some w
-offset_x4 m base w a b zero h f g ha hb hn hw e = form_no_offset_x4 m base w a b h f ha hb hw (omega arith)
-offset_x4 m base w a b (suc n) h f g ha hb hn hw e = form_offset_x4 m base w a b (suc n) h g ha hb hn (times_not_zero 4 n (omega arith)) hw (omega arith)
-
-pub offset_x8 : (m : List ℕ) (base w a b n : ℕ) → is_mnemonic m ≡ true → form_of m (codes " x, [x]") ≡ Some (Factors (1 ∷ 32 ∷ []), base)
-    → form_of m (codes " x, [x, #0]") ≡ Some (Factors (1 ∷ 32 ∷ 128 ∷ []), base) → a < 32 → b < 32 → n < 4096 → w < 2 ^ 32
-    → base + a * 1 + b * 32 + n * 1024 ≡ w → candidate (text.load_store_immediate (m ++ codes " ") x_register 8 (a ∷ b ∷ n ∷ [])) ≡ Some w
-offset_x8 m base w a b zero h f g ha hb hn hw e = form_no_offset_x8 m base w a b h f ha hb hw (omega arith)
-offset_x8 m base w a b (suc n) h f g ha hb hn hw e = form_offset_x8 m base w a b (suc n) h g ha hb hn (times_not_zero 8 n (omega arith)) hw (omega arith)
-
-pub indexed_w1 : (m : List ℕ) (b0 b1 w a b s c : ℕ) → is_mnemonic m ≡ true → form_of m (codes " w, [x, x]") ≡ Some (Factors (1 ∷ 32 ∷ 65536 ∷ []), b0)
-    → form_of m (codes " w, [x, x, l #0]") ≡ Some (Factors (1 ∷ 32 ∷ 65536 ∷ []), b1) → b1 ≡ b0 + 4096 → a < 32 → b < 32 → s < 2 → c < 32 → w < 2 ^ 32
-    → b0 + a * 1 + b * 32 + s * 4096 + c * 65536 ≡ w → candidate (text.load_store_register (m ++ codes " ") w_register 1 (a ∷ b ∷ s ∷ c ∷ [])) ≡ Some w
-indexed_w1 m b0 b1 w a b zero c h f g d ha hb hs hc hw e = form_index_unscaled_w1 m b0 w a b c h f ha hb hc hw (omega arith)
-indexed_w1 m b0 b1 w a b (suc zero) c h f g d ha hb hs hc hw e = form_index_w1 m b1 w a b c h g ha hb hc hw (omega arith)
-indexed_w1 m b0 b1 w a b (suc (suc s)) c h f g d ha hb hs hc hw e = absurd (omega arith)
-
-pub indexed_w2 : (m : List ℕ) (b0 b1 w a b s c : ℕ) → is_mnemonic m ≡ true → form_of m (codes " w, [x, x]") ≡ Some (Factors (1 ∷ 32 ∷ 65536 ∷ []), b0)
-    → form_of m (codes " w, [x, x, l #0]") ≡ Some (Factors (1 ∷ 32 ∷ 65536 ∷ []), b1) → b1 ≡ b0 + 4096 → a < 32 → b < 32 → s < 2 → c < 32 → w < 2 ^ 32
-    → b0 + a * 1 + b * 32 + s * 4096 + c * 65536 ≡ w → candidate (text.load_store_register (m ++ codes " ") w_register 2 (a ∷ b ∷ s ∷ c ∷ [])) ≡ Some w
-indexed_w2 m b0 b1 w a b zero c h f g d ha hb hs hc hw e = form_index_unscaled_w2 m b0 w a b c h f ha hb hc hw (omega arith)
-indexed_w2 m b0 b1 w a b (suc zero) c h f g d ha hb hs hc hw e = form_index_w2 m b1 w a b c h g ha hb hc hw (omega arith)
-indexed_w2 m b0 b1 w a b (suc (suc s)) c h f g d ha hb hs hc hw e = absurd (omega arith)
-
-pub indexed_x1 : (m : List ℕ) (b0 b1 w a b s c : ℕ) → is_mnemonic m ≡ true → form_of m (codes " x, [x, x]") ≡ Some (Factors (1 ∷ 32 ∷ 65536 ∷ []), b0)
-    → form_of m (codes " x, [x, x, l #0]") ≡ Some (Factors (1 ∷ 32 ∷ 65536 ∷ []), b1) → b1 ≡ b0 + 4096 → a < 32 → b < 32 → s < 2 → c < 32 → w < 2 ^ 32
-    → b0 + a * 1 + b * 32 + s * 4096 + c * 65536 ≡ w → candidate (text.load_store_register (m ++ codes " ") x_register 1 (a ∷ b ∷ s ∷ c ∷ [])) ≡ Some w
-indexed_x1 m b0 b1 w a b zero c h f g d ha hb hs hc hw e = form_index_unscaled_x1 m b0 w a b c h f ha hb hc hw (omega arith)
-indexed_x1 m b0 b1 w a b (suc zero) c h f g d ha hb hs hc hw e = form_index_x1 m b1 w a b c h g ha hb hc hw (omega arith)
-indexed_x1 m b0 b1 w a b (suc (suc s)) c h f g d ha hb hs hc hw e = absurd (omega arith)
-
-pub indexed_x2 : (m : List ℕ) (b0 b1 w a b s c : ℕ) → is_mnemonic m ≡ true → form_of m (codes " x, [x, x]") ≡ Some (Factors (1 ∷ 32 ∷ 65536 ∷ []), b0)
-    → form_of m (codes " x, [x, x, l #0]") ≡ Some (Factors (1 ∷ 32 ∷ 65536 ∷ []), b1) → b1 ≡ b0 + 4096 → a < 32 → b < 32 → s < 2 → c < 32 → w < 2 ^ 32
-    → b0 + a * 1 + b * 32 + s * 4096 + c * 65536 ≡ w → candidate (text.load_store_register (m ++ codes " ") x_register 2 (a ∷ b ∷ s ∷ c ∷ [])) ≡ Some w
-indexed_x2 m b0 b1 w a b zero c h f g d ha hb hs hc hw e = form_index_unscaled_x2 m b0 w a b c h f ha hb hc hw (omega arith)
-indexed_x2 m b0 b1 w a b (suc zero) c h f g d ha hb hs hc hw e = form_index_x2 m b1 w a b c h g ha hb hc hw (omega arith)
-indexed_x2 m b0 b1 w a b (suc (suc s)) c h f g d ha hb hs hc hw e = absurd (omega arith)
-
-pub indexed_x3 : (m : List ℕ) (b0 b1 w a b s c : ℕ) → is_mnemonic m ≡ true → form_of m (codes " x, [x, x]") ≡ Some (Factors (1 ∷ 32 ∷ 65536 ∷ []), b0)
-    → form_of m (codes " x, [x, x, l #0]") ≡ Some (Factors (1 ∷ 32 ∷ 65536 ∷ []), b1) → b1 ≡ b0 + 4096 → a < 32 → b < 32 → s < 2 → c < 32 → w < 2 ^ 32
-    → b0 + a * 1 + b * 32 + s * 4096 + c * 65536 ≡ w → candidate (text.load_store_register (m ++ codes " ") x_register 3 (a ∷ b ∷ s ∷ c ∷ [])) ≡ Some w
-indexed_x3 m b0 b1 w a b zero c h f g d ha hb hs hc hw e = form_index_unscaled_x3 m b0 w a b c h f ha hb hc hw (omega arith)
-indexed_x3 m b0 b1 w a b (suc zero) c h f g d ha hb hs hc hw e = form_index_x3 m b1 w a b c h g ha hb hc hw (omega arith)
-indexed_x3 m b0 b1 w a b (suc (suc s)) c h f g d ha hb hs hc hw e = absurd (omega arith)
-
-pub dup_any : (m : List ℕ) (base w a b s : ℕ) → is_mnemonic m ≡ true → form_of m (codes " z.T, x") ≡ Some ((Factors (1 ∷ 4194304 ∷ 32 ∷ [])), base) → form_of m (codes " z.T, w") ≡ Some ((Factors (1 ∷ 4194304 ∷ 32 ∷ [])), base)
-    → a < 32 → b < 32 → s < 4 → w < 2 ^ 32 → base + a * 1 + b * 32 + s * 4194304 ≡ w
+pub dup_any : (m : List ℕ) (base w a b s : ℕ) → is_mnemonic m ≡ true → form_of m (codes " z.T, x") ≡ Some (Factors (1 ∷ 4194304 ∷ 32 ∷ []), base)
+    → form_of m (codes " z.T, w") ≡ Some (Factors (1 ∷ 4194304 ∷ 32 ∷ []), base) → a < 32 → b < 32 → s < 4 → w < 2 ^ 32 → base + a * 1 + b * 32 + s * 4194304 ≡ w
     → candidate ((((m ++ codes " ") ++ z_register s a) ++ comma) ++ (if s == 3 then x_or_sp b else w_or_sp b)) ≡ Some w
 dup_any m base w a b s h f g ha hb hs hw e =
-    by_test (s == 3) (λ q. form_dup_x m base w a b s h f ha hb hs q hw e) (λ q. form_dup_w m base w a b s h g ha hb hs q hw e)
+    by_test (s == 3) (λ q. rw q (form_dup x_or_sp 120 x_or_sp-blanked m base w a b s h f ha hb hs hw e)) (λ q. rw q (form_dup w_or_sp 119 w_or_sp-blanked m base w a b s h g ha hb hs hw e))
+
+series : (R : ℕ → List ℕ) (l : ℕ) → ((n : ℕ) → n < 32 → IsBlanked (R n) l n) → (m : List ℕ) (b0 b1 w a b n s : ℕ) → is_mnemonic m ≡ true
+    → form_of m (codes " z.T, " ++ (l ∷ codes ", #0")) ≡ Some (Factors (1 ∷ 4194304 ∷ 32 ∷ 65536 ∷ []), b0)
+    → form_of m (codes " z.T, " ++ (l ∷ codes ", #-0")) ≡ Some (Factors (1 ∷ 4194304 ∷ 32 ∷ 18446744073709486080 ∷ []), b1) → b1 ≡ b0 + 2097152
+    → a < 32 → b < 32 → n < 32 → s < 4 → w < 2 ^ 32 → b0 + a * 1 + b * 32 + n * 65536 + s * 4194304 ≡ w
+    → candidate ((((((m ++ codes " ") ++ z_register s a) ++ comma) ++ R b) ++ comma) ++ signed_constant 1 5 n) ≡ Some w
+series R l is m b0 b1 w a b n s h f g d ha hb hn hs hw e =
+    by_test (nat_lt n 16) (λ q. form_series R l is m b0 w a b n s h f ha hb hn hs q hw e) (λ q. form_series_back R l is m b1 w a b n s h g ha hb hn hs q hw (omega arith))
 
 pub series_any : (m : List ℕ) (b0 b1 w a b n s : ℕ) → is_mnemonic m ≡ true → form_of m (codes " z.T, x, #0") ≡ Some (Factors (1 ∷ 4194304 ∷ 32 ∷ 65536 ∷ []), b0)
     → form_of m (codes " z.T, w, #0") ≡ Some (Factors (1 ∷ 4194304 ∷ 32 ∷ 65536 ∷ []), b0)
@@ -168,67 +112,41 @@ pub series_any : (m : List ℕ) (b0 b1 w a b n s : ℕ) → is_mnemonic m ≡ tr
     → a < 32 → b < 32 → n < 32 → s < 4 → w < 2 ^ 32 → b0 + a * 1 + b * 32 + n * 65536 + s * 4194304 ≡ w
     → candidate ((((((m ++ codes " ") ++ z_register s a) ++ comma) ++ (if s == 3 then x_register b else w_register b)) ++ comma) ++ signed_constant 1 5 n) ≡ Some w
 series_any m b0 b1 w a b n s h f1 f2 f3 f4 d ha hb hn hs hw e =
-    by_test (s == 3)
-    (λ q. by_test (nat_lt n 16) (λ r. form_series_x m b0 w a b n s h f1 ha hb hn hs q r hw e) (λ r. form_series_back_x m b1 w a b n s h f3 ha hb hn hs q r hw (omega arith)))
-    (λ q. by_test (nat_lt n 16) (λ r. form_series_w m b0 w a b n s h f2 ha hb hn hs q r hw e) (λ r. form_series_back_w m b1 w a b n s h f4 ha hb hn hs q r hw (omega arith)))
+    by_test (s == 3) (λ q. rw q (series x_register 120 x-blanked m b0 b1 w a b n s h f1 f3 d ha hb hn hs hw e))
+    (λ q. rw q (series w_register 119 w-blanked m b0 b1 w a b n s h f2 f4 d ha hb hn hs hw e))
 
 pub left_any : (m : List ℕ) (base w a b i t u : ℕ) → is_mnemonic m ≡ true → form_of m (codes " z.T, z.T, #0") ≡ Some (LeftShift, base)
     → a < 32 → b < 32 → i < 8 → t < 4 → u < 4 → w < 2 ^ 32 → 8 ≤ 32 * u + 8 * t + i → base + a * 1 + b * 32 + i * 65536 + t * 524288 + u * 4194304 ≡ w
     → candidate (sve.shift_immediate (m ++ codes " ") left_amount (a ∷ b ∷ i ∷ t ∷ u ∷ [])) ≡ Some w
-left_any m base w a b i t u h f ha hb hi ht hu hw low e =
-    by_test (nat_lt (32 * u + 8 * t + i) 16) (λ q0. form_left_b m base w a b (32 * u + 8 * t + i) h f ha hb (grind (arith, nat_tests)) q0 hw low (omega arith))
-    (λ q0. by_test (nat_lt (32 * u + 8 * t + i) 32) (λ q1. form_left_h m base w a b (32 * u + 8 * t + i) h f ha hb (grind (arith, nat_tests)) q0 q1 hw (grind (arith, nat_tests)) (omega arith))
-    (λ q1. by_test (nat_lt (32 * u + 8 * t + i) 64) (λ q2. form_left_s m base w a b (32 * u + 8 * t + i) h f ha hb (grind (arith, nat_tests)) q0 q1 q2 hw (grind (arith, nat_tests)) (omega arith))
-    (λ q2. form_left_d m base w a b (32 * u + 8 * t + i) h f ha hb (omega arith) q0 q1 q2 hw (grind (arith, nat_tests)) (omega arith))))
+left_any m base w a b i t u h f ha hb hi ht hu hw low e = form_left m base w a b (32 * u + 8 * t + i) h f ha hb (omega arith) hw low (omega arith)
 
 pub right_any : (m : List ℕ) (base w a b i t u : ℕ) → is_mnemonic m ≡ true → form_of m (codes " z.T, z.T, #0") ≡ Some (RightShift, base)
     → a < 32 → b < 32 → i < 8 → t < 4 → u < 4 → w < 2 ^ 32 → 8 ≤ 32 * u + 8 * t + i → base + a * 1 + b * 32 + i * 65536 + t * 524288 + u * 4194304 ≡ w
     → candidate (sve.shift_immediate (m ++ codes " ") right_amount (a ∷ b ∷ i ∷ t ∷ u ∷ [])) ≡ Some w
-right_any m base w a b i t u h f ha hb hi ht hu hw low e =
-    by_test (nat_lt (32 * u + 8 * t + i) 16) (λ q0. form_right_b m base w a b (32 * u + 8 * t + i) h f ha hb (grind (arith, nat_tests)) q0 hw low (omega arith))
-    (λ q0. by_test (nat_lt (32 * u + 8 * t + i) 32) (λ q1. form_right_h m base w a b (32 * u + 8 * t + i) h f ha hb (grind (arith, nat_tests)) q0 q1 hw (grind (arith, nat_tests)) (omega arith))
-    (λ q1. by_test (nat_lt (32 * u + 8 * t + i) 64) (λ q2. form_right_s m base w a b (32 * u + 8 * t + i) h f ha hb (grind (arith, nat_tests)) q0 q1 q2 hw (grind (arith, nat_tests)) (omega arith))
-    (λ q2. form_right_d m base w a b (32 * u + 8 * t + i) h f ha hb (omega arith) q0 q1 q2 hw (grind (arith, nat_tests)) (omega arith))))
+right_any m base w a b i t u h f ha hb hi ht hu hw low e = form_right m base w a b (32 * u + 8 * t + i) h f ha hb (omega arith) hw low (omega arith)
 
 pub reduce_any : (m : List ℕ) (base w a b c s : ℕ) → is_mnemonic m ≡ true → form_of m (codes " v, p, z.T") ≡ Some (Factors (1 ∷ 1024 ∷ 32 ∷ 4194304 ∷ []), base)
     → a < 32 → b < 32 → c < 16 → s < 4 → w < 2 ^ 32 → base + a * 1 + b * 32 + c * 1024 + s * 4194304 ≡ w
     → candidate (sve.reduction (m ++ codes " ") (size_letter s) (a ∷ b ∷ c ∷ s ∷ [])) ≡ Some w
-reduce_any m base w a b c zero h f ha hb hc hs hw e = form_reduce_b m base w a b c h f ha hb hc hw (omega arith)
-reduce_any m base w a b c (suc zero) h f ha hb hc hs hw e = form_reduce_h m base w a b c h f ha hb hc hw (omega arith)
-reduce_any m base w a b c (suc (suc zero)) h f ha hb hc hs hw e = form_reduce_s m base w a b c h f ha hb hc hw (omega arith)
-reduce_any m base w a b c (suc (suc (suc zero))) h f ha hb hc hs hw e = form_reduce_d m base w a b c h f ha hb hc hw (omega arith)
+reduce_any m base w a b c zero h f ha hb hc hs hw e = form_reduce (codes "b") b-blanked m base w a b c 0 h f ha hb hc (omega arith) hw e
+reduce_any m base w a b c (suc zero) h f ha hb hc hs hw e = form_reduce (codes "h") h-blanked m base w a b c 1 h f ha hb hc (omega arith) hw e
+reduce_any m base w a b c (suc (suc zero)) h f ha hb hc hs hw e = form_reduce (codes "s") s-blanked m base w a b c 2 h f ha hb hc (omega arith) hw e
+reduce_any m base w a b c (suc (suc (suc zero))) h f ha hb hc hs hw e = form_reduce (codes "d") d-blanked m base w a b c 3 h f ha hb hc (omega arith) hw e
 reduce_any m base w a b c (suc (suc (suc (suc s)))) h f ha hb hc hs hw e = absurd (omega arith)
 
-pub each16 : (P : ℕ → Type 0) → P 0 → P 1 → P 2 → P 3 → P 4 → P 5 → P 6 → P 7 → P 8 → P 9 → P 10 → P 11 → P 12 → P 13 → P 14 → P 15 → (d : ℕ) → d < 16 → P d
-each16 P p0 p1 p2 p3 p4 p5 p6 p7 p8 p9 p10 p11 p12 p13 p14 p15 zero l = p0
-each16 P p0 p1 p2 p3 p4 p5 p6 p7 p8 p9 p10 p11 p12 p13 p14 p15 (suc zero) l = p1
-each16 P p0 p1 p2 p3 p4 p5 p6 p7 p8 p9 p10 p11 p12 p13 p14 p15 (suc (suc zero)) l = p2
-each16 P p0 p1 p2 p3 p4 p5 p6 p7 p8 p9 p10 p11 p12 p13 p14 p15 (suc (suc (suc zero))) l = p3
-each16 P p0 p1 p2 p3 p4 p5 p6 p7 p8 p9 p10 p11 p12 p13 p14 p15 (suc (suc (suc (suc zero)))) l = p4
-each16 P p0 p1 p2 p3 p4 p5 p6 p7 p8 p9 p10 p11 p12 p13 p14 p15 (suc (suc (suc (suc (suc zero))))) l = p5
-each16 P p0 p1 p2 p3 p4 p5 p6 p7 p8 p9 p10 p11 p12 p13 p14 p15 (suc (suc (suc (suc (suc (suc zero)))))) l = p6
-each16 P p0 p1 p2 p3 p4 p5 p6 p7 p8 p9 p10 p11 p12 p13 p14 p15 (suc (suc (suc (suc (suc (suc (suc zero))))))) l = p7
-each16 P p0 p1 p2 p3 p4 p5 p6 p7 p8 p9 p10 p11 p12 p13 p14 p15 (suc (suc (suc (suc (suc (suc (suc (suc zero)))))))) l = p8
-each16 P p0 p1 p2 p3 p4 p5 p6 p7 p8 p9 p10 p11 p12 p13 p14 p15 (suc (suc (suc (suc (suc (suc (suc (suc (suc zero))))))))) l = p9
-each16 P p0 p1 p2 p3 p4 p5 p6 p7 p8 p9 p10 p11 p12 p13 p14 p15 (suc (suc (suc (suc (suc (suc (suc (suc (suc (suc zero)))))))))) l = p10
-each16 P p0 p1 p2 p3 p4 p5 p6 p7 p8 p9 p10 p11 p12 p13 p14 p15 (suc (suc (suc (suc (suc (suc (suc (suc (suc (suc (suc zero))))))))))) l = p11
-each16 P p0 p1 p2 p3 p4 p5 p6 p7 p8 p9 p10 p11 p12 p13 p14 p15 (suc (suc (suc (suc (suc (suc (suc (suc (suc (suc (suc (suc zero)))))))))))) l = p12
-each16 P p0 p1 p2 p3 p4 p5 p6 p7 p8 p9 p10 p11 p12 p13 p14 p15 (suc (suc (suc (suc (suc (suc (suc (suc (suc (suc (suc (suc (suc zero))))))))))))) l = p13
-each16 P p0 p1 p2 p3 p4 p5 p6 p7 p8 p9 p10 p11 p12 p13 p14 p15 (suc (suc (suc (suc (suc (suc (suc (suc (suc (suc (suc (suc (suc (suc zero)))))))))))))) l = p14
-each16 P p0 p1 p2 p3 p4 p5 p6 p7 p8 p9 p10 p11 p12 p13 p14 p15 (suc (suc (suc (suc (suc (suc (suc (suc (suc (suc (suc (suc (suc (suc (suc zero))))))))))))))) l = p15
-each16 P p0 p1 p2 p3 p4 p5 p6 p7 p8 p9 p10 p11 p12 p13 p14 p15 (suc (suc (suc (suc (suc (suc (suc (suc (suc (suc (suc (suc (suc (suc (suc (suc d)))))))))))))))) l = absurd (omega arith)
+-- a fact of each number below n, the greatest first
+abbrev pub Each : (ℕ → Type 0) → ℕ → Type 0
+Each P zero = Unit {0}
+Each P (suc n) = P n × Each P n
 
-pub each4 : (P : ℕ → Type 0) → P 0 → P 1 → P 2 → P 3 → (d : ℕ) → d < 4 → P d
-each4 P p0 p1 p2 p3 zero l = p0
-each4 P p0 p1 p2 p3 (suc zero) l = p1
-each4 P p0 p1 p2 p3 (suc (suc zero)) l = p2
-each4 P p0 p1 p2 p3 (suc (suc (suc zero))) l = p3
-each4 P p0 p1 p2 p3 (suc (suc (suc (suc d)))) l = absurd (omega arith)
+pub each : (P : ℕ → Type 0) (n : ℕ) → Each P n → (d : ℕ) → d < n → P d
+each P zero p d l = absurd (omega arith)
+each P (suc n) p d l = by_test (eqb d n) (λ q. subst P (sym (eqb-true d n q)) p.0) (λ q. each P n p.1 d (grind (arith, nat_tests)))
 
 -- ---- a word whose text has no operands
 pub whole_word : (m : List ℕ) (base w : ℕ) → is_mnemonic m ≡ true → form_of m [] ≡ Some (Factors [], base) → w < 2 ^ 32 → base ≡ w → candidate m ≡ Some w
 unfolding dot
-whole_word m base w h f hw e = ap candidate (sym (append-nil m)) ∙ spelled m [] [] [] (Factors []) base w h refl reads-none f refl (omega arith)
+whole_word m base w h f hw e = spelled m h f reads-none refl refl (sym (append-nil m)) (omega arith)
 
 -- ---- the numbers of fields
 pub bits_below : (w low width : ℕ) → bits w low width < 2 ^ width

@@ -3,14 +3,13 @@ use Rattle.std.proofs.Common.{◌≡◌, ℕ, suc, ◌+◌, ◌<◌, ◌^◌, Li
 use Rattle.std.proofs.lemmas.Option.{same_Some}
 use Rattle.std.specs.Prelude.{codes, nat_lt, nat_le, nat_eq, not, ◌&&◌, bytes_eq, if◌then◌else◌}
 use Rattle.std.specs.List.{list_all, prefix_len}
-use Rattle.std.proofs.lemmas.Bool.{eqb-true}
+use Rattle.std.proofs.lemmas.Bool.{eqb-true, and_parts}
 use Rattle.std.proofs.lemmas.List.Folds.{list_all-append}
 use Rattle.number_text.specs.Numbers.{given, following, number_of, hexadecimal_of, decimal_of, are_digits, small_value, is_digit, is_hex_digit}
 use Rattle.list_text.specs.Text.{word_text}
 use Rattle.asm_forms.specs.Blanks.{is_word_byte, over_words, blanked, blanked_word, byte_kept, numbers_of}
 use Rattle.asm_forms.specs.Rules.{Sum, Form, form_in, form_of, first_of, data_processing, branches, offset_accesses, indexed_accesses, predicates, counts, vectors, vector_accesses}
 use Rattle.asm_forms.specs.Reading.{candidate, by_form, if_word, listed_candidate, unlisted_candidate, mnemonic_of, operands_of}
-use Rattle.sve_asm.proofs.Words.{and_true}
 use Rattle.sve_asm.proofs.ByWords.{bytes_same}
 use Rattle.sve_asm.proofs.Complete.{text-back}
 
@@ -36,7 +35,7 @@ form_in-clean : (fs : List Form) (m k : List ℕ) (x : Sum × ℕ) → all_clean
 unfolding form_in
 form_in-clean [] m k x c e = cc
 form_in-clean (f ∷ fs) m k x c e =
-    let p = and_true (is_clean f.operands) (all_clean fs) c in
+    let p = and_parts (is_clean f.operands) (all_clean fs) c in
     form_step f fs m k x (bytes_eq f.operands k) refl p.0 (form_in-clean fs m k x p.1) e
 
 first_clean : (k : List ℕ) (a b : Option (Sum × ℕ)) (x : Sum × ℕ) → ((y : Sum × ℕ) → a ≡ Some y → is_clean k ≡ true) → (b ≡ Some x → is_clean k ≡ true) → first_of a b ≡ Some x → is_clean k ≡ true
@@ -64,7 +63,7 @@ word_clean b h = by (nat_eq b 10) refl h
     by false e h = refl
 
 all_append : (a b : List ℕ) → is_clean (a ++ b) ≡ true → (is_clean a ≡ true) × (is_clean b ≡ true)
-all_append a b h = and_true (is_clean a) (is_clean b) (sym (list_all-append is_clean_byte a b) ∙ h)
+all_append a b h = and_parts (is_clean a) (is_clean b) (sym (list_all-append is_clean_byte a b) ∙ h)
 
 over_step : (p text : List ℕ) (b : ℕ) (x : Bool) → is_word_byte b ≡ x
     → ((q : List ℕ) → is_clean (over_words blanked_word byte_kept q text) ≡ true → is_clean text ≡ true)
@@ -75,7 +74,7 @@ over_step p text b false w ih h =
     let k : is_clean ((blanked_word p ++ b ∷ []) ++ over_words blanked_word byte_kept [] text) ≡ true = rw w at h in
     let q = all_append (blanked_word p ++ b ∷ []) (over_words blanked_word byte_kept [] text) k in
     let s = all_append (blanked_word p) (b ∷ []) q.0 in
-    let t = and_true (is_clean_byte b) true s.1 in
+    let t = and_parts (is_clean_byte b) true s.1 in
     rw t.0 (ih [] q.1)
 
 over_clean : (p text : List ℕ) → is_clean (over_words blanked_word byte_kept p text) ≡ true → is_clean text ≡ true
@@ -142,10 +141,10 @@ decimal_clean b h = by (nat_eq b 10) refl
 
 digits_clean : (is : ℕ → Bool) (ds : List ℕ) → ((b : ℕ) → is b ≡ true → is_clean_byte b ≡ true) → list_all is ds ≡ true → is_clean ds ≡ true
 digits_clean is [] f h = refl
-digits_clean is (d ∷ ds) f h = let p = and_true (is d) (list_all is ds) h in rw (f d p.0) (digits_clean is ds f p.1)
+digits_clean is (d ∷ ds) f h = let p = and_parts (is d) (list_all is ds) h in rw (f d p.0) (digits_clean is ds f p.1)
 
 of_digits : (is : ℕ → Bool) (ds : List ℕ) (o : Option ℕ) (w : ℕ) → ((b : ℕ) → is b ≡ true → is_clean_byte b ≡ true) → (x : Bool) → are_digits is ds ≡ x → (if x then o else None) ≡ Some w → is_clean ds ≡ true
-of_digits is ds o w f true e h = digits_clean is ds f (and_true (nat_lt 0 (length ds)) (list_all is ds) e).1
+of_digits is ds o w f true e h = digits_clean is ds f (and_parts (nat_lt 0 (length ds)) (list_all is ds) e).1
 of_digits is ds o w f false e h = cc
 
 hexadecimal_clean : (ds : List ℕ) (w : ℕ) → hexadecimal_of ds ≡ Some w → is_clean ds ≡ true

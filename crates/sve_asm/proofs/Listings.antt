@@ -1,9 +1,9 @@
 -- A listing, read back.
-use Rattle.std.proofs.Common.{◌≡◌, ℕ, suc, ◌+◌, ◌/◌, ◌%◌, ◌<◌, ◌≤◌, ◌^◌, List, [], ◌∷◌, ◌++◌, length, Bool, true, false, Some, None, Ok, refl, ap, ap₂, ◌∙◌, arith, append_assoc, length-append}
+use Rattle.std.proofs.Common.{◌≡◌, ℕ, suc, ◌+◌, ◌/◌, ◌%◌, ◌<◌, ◌≤◌, ◌^◌, List, [], ◌∷◌, ◌++◌, length, true, false, Some, None, Ok, refl, ap, ap₂, ◌∙◌, arith, append_assoc, length-append}
 use Rattle.std.specs.Prelude.{codes, nat_lt, nat_le, nat_eq, not}
 use Rattle.std.specs.List.{list_all, AllByRecursion}
 use Rattle.std.proofs.lemmas.Bool.Decides.{nat_tests}
-use Rattle.std.proofs.lemmas.Bool.{eq-eqb}
+use Rattle.std.proofs.lemmas.Bool.{eq-eqb, and_parts, not-true}
 use Rattle.std.proofs.lemmas.List.{append-nil}
 use Rattle.std.proofs.lemmas.List.Elements.{All-from_recursion}
 use Rattle.std.proofs.lemmas.List.Splits.{slice_split_at}
@@ -19,21 +19,17 @@ use Rattle.asm_forms.specs.Blanks.{over_words, blank_of, meanings, meaning_in}
 use Rattle.asm_forms.specs.Rules.{form_of, form_in, base_of, data_processing, branches, offset_accesses, indexed_accesses, predicates, counts, vectors, vector_accesses}
 use Rattle.sve_asm.specs.WordOf.{word_of}
 use Rattle.sve_asm.specs.Lines.{is_low_hex, is_listing, beside, worded, Word, asm_line_of, after_line, after_lines, go_on, words_of}
-use Rattle.sve_asm.proofs.Words.{and_true, below, below-at}
+use Rattle.sve_asm.proofs.Words.{below, below-at}
 use Rattle.sve_asm.proofs.Cases.{bits_below}
 use Rattle.sve_asm.proofs.Clean.{is_clean, is_clean_byte, text-clean}
 use Rattle.sve_asm.proofs.Complete.{text-back, unlisted-back}
 use Rattle.sve_asm.proofs.Spelling.{read-back}
 
-not_false : (x : Bool) → not x ≡ true → x ≡ false
-not_false true e = cc
-not_false false e = refl
-
 -- ---- lines
 -- a line before a line feed
 none_like : (line : List ℕ) → is_clean line ≡ true → AllByRecursion (λ b. is_byte 10 b ≡ false) line
 none_like [] h = tt
-none_like (b ∷ line) h = let p = and_true (is_clean_byte b) (is_clean line) h in (not_false (nat_eq b 10) p.0, none_like line p.1)
+none_like (b ∷ line) h = let p = and_parts (is_clean_byte b) (is_clean line) h in (not-true (nat_eq b 10) p.0, none_like line p.1)
 
 pub first-line : (line rest : List ℕ) → is_clean line ≡ true → parts_at 10 (line ++ 10 ∷ rest) ≡ line ∷ parts_at 10 rest
 first-line line rest h = slice_split_at (is_byte 10) line 10 rest (All-from_recursion (λ b. is_byte 10 b ≡ false) line (none_like line h)) refl
@@ -110,7 +106,7 @@ line-worded high low word text small h e =
 line-said : (high low word : ℕ) (text : List ℕ) → word < 2 ^ 32 → 0 < length text → word_of text ≡ Some word → asm_line_of (line_with high low word text) ≡ Some (Word word)
 unfolding asm_line_of
 line-said high low word text small h e =
-    let m : nat_eq (hex_digit (bits high 28 4)) 35 ≡ false = not_false (nat_eq (hex_digit (bits high 28 4)) 35) (digit-is high 28).mark in
+    let m : nat_eq (hex_digit (bits high 28 4)) 35 ≡ false = not-true (nat_eq (hex_digit (bits high 28 4)) 35) (digit-is high 28).mark in
     rw m (line-worded high low word text small h e)
 
 no_empty : candidate [] ≡ None

@@ -1,11 +1,11 @@
 -- The parts of an instruction's text as words.
-use Rattle.std.proofs.Common.{◌≡◌, ℕ, ◌<◌, true, refl, None}
+use Rattle.std.proofs.Common.{◌≡◌, ℕ, ◌<◌, refl, None}
 use Rattle.std.specs.Prelude.{decimal, codes, ◌++◌, List}
 use Rattle.std.specs.Fmt.{digits}
 use Rattle.number_text.specs.Numbers.{decimal_of}
 use Rattle.list_text.specs.Parts.{x_register, w_register, x_or_sp, w_or_sp, cond_name, size_letter, p_register}
 use Rattle.asm_forms.specs.Blanks.{meanings, meaning_in, blank_of}
-use Rattle.sve_asm.proofs.Words.{IsBlanked, below, is_blanked, blanked-small}
+use Rattle.sve_asm.proofs.Words.{IsBlanked, below, blanked-small}
 
 -- a register of vectors, and of vectors seen as scalars of one size
 abbrev pub z_word : ℕ → List ℕ
@@ -26,96 +26,57 @@ s_word n = codes "s" ++ decimal n
 abbrev pub d_word : ℕ → List ℕ
 d_word n = codes "d" ++ decimal n
 
-x_small : below 32 (is_blanked x_register 120) ≡ true
-unfolding below blank_of meanings meaning_in decimal_of digits
-x_small = refl
-
 pub x-blanked : (n : ℕ) → n < 32 → IsBlanked (x_register n) 120 n
-x-blanked = blanked-small x_register 120 32 x_small
-
-w_small : below 32 (is_blanked w_register 119) ≡ true
 unfolding below blank_of meanings meaning_in decimal_of digits
-w_small = refl
+x-blanked = blanked-small x_register 120 32 refl
 
 pub w-blanked : (n : ℕ) → n < 32 → IsBlanked (w_register n) 119 n
-w-blanked = blanked-small w_register 119 32 w_small
-
-x_or_sp_small : below 32 (is_blanked x_or_sp 120) ≡ true
 unfolding below blank_of meanings meaning_in decimal_of digits
-x_or_sp_small = refl
+w-blanked = blanked-small w_register 119 32 refl
 
 pub x_or_sp-blanked : (n : ℕ) → n < 32 → IsBlanked (x_or_sp n) 120 n
-x_or_sp-blanked = blanked-small x_or_sp 120 32 x_or_sp_small
-
-w_or_sp_small : below 32 (is_blanked w_or_sp 119) ≡ true
 unfolding below blank_of meanings meaning_in decimal_of digits
-w_or_sp_small = refl
+x_or_sp-blanked = blanked-small x_or_sp 120 32 refl
 
 pub w_or_sp-blanked : (n : ℕ) → n < 32 → IsBlanked (w_or_sp n) 119 n
-w_or_sp-blanked = blanked-small w_or_sp 119 32 w_or_sp_small
-
-p_small : below 16 (is_blanked p_register 112) ≡ true
 unfolding below blank_of meanings meaning_in decimal_of digits
-p_small = refl
+w_or_sp-blanked = blanked-small w_or_sp 119 32 refl
 
 pub p-blanked : (n : ℕ) → n < 16 → IsBlanked (p_register n) 112 n
-p-blanked = blanked-small p_register 112 16 p_small
-
-z_small : below 32 (is_blanked z_word 122) ≡ true
 unfolding below blank_of meanings meaning_in decimal_of digits
-z_small = refl
+p-blanked = blanked-small p_register 112 16 refl
 
 pub z-blanked : (n : ℕ) → n < 32 → IsBlanked (z_word n) 122 n
-z-blanked = blanked-small z_word 122 32 z_small
-
-v_small : below 32 (is_blanked v_word 118) ≡ true
 unfolding below blank_of meanings meaning_in decimal_of digits
-v_small = refl
+z-blanked = blanked-small z_word 122 32 refl
 
 pub v-blanked : (n : ℕ) → n < 32 → IsBlanked (v_word n) 118 n
-v-blanked = blanked-small v_word 118 32 v_small
-
-b_small : below 32 (is_blanked b_word 118) ≡ true
 unfolding below blank_of meanings meaning_in decimal_of digits
-b_small = refl
+v-blanked = blanked-small v_word 118 32 refl
 
 pub b-blanked : (n : ℕ) → n < 32 → IsBlanked (b_word n) 118 n
-b-blanked = blanked-small b_word 118 32 b_small
-
-h_small : below 32 (is_blanked h_word 118) ≡ true
 unfolding below blank_of meanings meaning_in decimal_of digits
-h_small = refl
+b-blanked = blanked-small b_word 118 32 refl
 
 pub h-blanked : (n : ℕ) → n < 32 → IsBlanked (h_word n) 118 n
-h-blanked = blanked-small h_word 118 32 h_small
-
-s_small : below 32 (is_blanked s_word 118) ≡ true
 unfolding below blank_of meanings meaning_in decimal_of digits
-s_small = refl
+h-blanked = blanked-small h_word 118 32 refl
 
 pub s-blanked : (n : ℕ) → n < 32 → IsBlanked (s_word n) 118 n
-s-blanked = blanked-small s_word 118 32 s_small
-
-d_small : below 32 (is_blanked d_word 118) ≡ true
 unfolding below blank_of meanings meaning_in decimal_of digits
-d_small = refl
+s-blanked = blanked-small s_word 118 32 refl
 
 pub d-blanked : (n : ℕ) → n < 32 → IsBlanked (d_word n) 118 n
-d-blanked = blanked-small d_word 118 32 d_small
-
-cond_small : below 15 (is_blanked cond_name 99) ≡ true
 unfolding below blank_of meanings meaning_in decimal_of digits
-cond_small = refl
+d-blanked = blanked-small d_word 118 32 refl
 
 pub cond-blanked : (n : ℕ) → n < 15 → IsBlanked (cond_name n) 99 n
-cond-blanked = blanked-small cond_name 99 15 cond_small
-
-size_small : below 4 (is_blanked size_letter 84) ≡ true
 unfolding below blank_of meanings meaning_in decimal_of digits
-size_small = refl
+cond-blanked = blanked-small cond_name 99 15 refl
 
 pub size-blanked : (n : ℕ) → n < 4 → IsBlanked (size_letter n) 84 n
-size-blanked = blanked-small size_letter 84 4 size_small
+unfolding below blank_of meanings meaning_in decimal_of digits
+size-blanked = blanked-small size_letter 84 4 refl
 
 pub lsl-blanked : IsBlanked (codes "lsl") 108 0
 unfolding blank_of meanings meaning_in

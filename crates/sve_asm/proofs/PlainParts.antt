@@ -1,10 +1,10 @@
--- Parts of a text that have no number in them, and how such parts are joined.
-use Rattle.std.proofs.Common.{◌≡◌, ℕ, List, ◌++◌, true, refl, append_assoc}
+-- Parts of a text that have no number in them stand in front of what is read; and how such parts are joined.
+use Rattle.std.proofs.Common.{◌≡◌, ℕ, List, ◌++◌, refl, append_assoc}
 use Rattle.std.specs.Prelude.{codes}
 use Rattle.number_text.specs.Numbers.{decimal_of}
 use Rattle.asm_forms.specs.Blanks.{over_words, meanings, meaning_in, blank_of}
 use Rattle.asm_forms.specs.Rules.{dot}
-use Rattle.sve_asm.proofs.ByWords.{is_plain}
+use Rattle.sve_asm.proofs.ByWords.{Reads, reads-plain}
 
 pub assoc_index : (m s r o x c y l h d z : List ℕ) → ((m ++ s) ++ r) ++ (((((o ++ x) ++ c) ++ y) ++ (l ++ (h ++ d))) ++ z)
     ≡ m ++ (s ++ (r ++ (o ++ (x ++ (c ++ (y ++ (l ++ (h ++ (d ++ z)))))))))
@@ -35,66 +35,66 @@ pub assoc_store_lsl : (m o zz a dot s k pp c q x g y l h d z : List ℕ)
     ≡ m ++ (o ++ (zz ++ (a ++ (dot ++ (s ++ (k ++ (pp ++ (c ++ (q ++ (x ++ (g ++ (y ++ (l ++ (h ++ (d ++ z)))))))))))))))
 assoc_store_lsl m o zz a dot s k pp c q x g y l h d z = simp append_assoc
 
-pub plain_space : is_plain (codes " ") ≡ true
+pub over_space : {text blanks numbers : List ℕ} → Reads text blanks numbers → Reads (codes " " ++ text) (codes " " ++ blanks) numbers
 unfolding over_words blank_of meanings meaning_in decimal_of
-plain_space = refl
+over_space r = reads-plain (codes " ") refl r
 
-pub plain_comma : is_plain (codes ", ") ≡ true
+pub over_comma : {text blanks numbers : List ℕ} → Reads text blanks numbers → Reads (codes ", " ++ text) (codes ", " ++ blanks) numbers
 unfolding over_words blank_of meanings meaning_in decimal_of
-plain_comma = refl
+over_comma r = reads-plain (codes ", ") refl r
 
-pub plain_comma_number : is_plain (codes ", #") ≡ true
+pub over_comma_number : {text blanks numbers : List ℕ} → Reads text blanks numbers → Reads (codes ", #" ++ text) (codes ", #" ++ blanks) numbers
 unfolding over_words blank_of meanings meaning_in decimal_of
-plain_comma_number = refl
+over_comma_number r = reads-plain (codes ", #") refl r
 
-pub plain_number : is_plain (codes " #") ≡ true
+pub over_number : {text blanks numbers : List ℕ} → Reads text blanks numbers → Reads (codes " #" ++ text) (codes " #" ++ blanks) numbers
 unfolding over_words blank_of meanings meaning_in decimal_of
-plain_number = refl
+over_number r = reads-plain (codes " #") refl r
 
-pub plain_negative : is_plain (codes " #-") ≡ true
+pub over_negative : {text blanks numbers : List ℕ} → Reads text blanks numbers → Reads (codes " #-" ++ text) (codes " #-" ++ blanks) numbers
 unfolding over_words blank_of meanings meaning_in decimal_of
-plain_negative = refl
+over_negative r = reads-plain (codes " #-") refl r
 
-pub plain_dot : is_plain (codes ".") ≡ true
+pub over_dot : {text blanks numbers : List ℕ} → Reads text blanks numbers → Reads (codes "." ++ text) (codes "." ++ blanks) numbers
 unfolding over_words blank_of meanings meaning_in decimal_of
-plain_dot = refl
+over_dot r = reads-plain (codes ".") refl r
 
-pub plain_comma_negative : is_plain (codes ", #-") ≡ true
+pub over_comma_negative : {text blanks numbers : List ℕ} → Reads text blanks numbers → Reads (codes ", #-" ++ text) (codes ", #-" ++ blanks) numbers
 unfolding over_words blank_of meanings meaning_in decimal_of
-plain_comma_negative = refl
+over_comma_negative r = reads-plain (codes ", #-") refl r
 
-pub plain_open : is_plain (codes "[") ≡ true
+pub over_open : {text blanks numbers : List ℕ} → Reads text blanks numbers → Reads (codes "[" ++ text) (codes "[" ++ blanks) numbers
 unfolding over_words blank_of meanings meaning_in decimal_of
-plain_open = refl
+over_open r = reads-plain (codes "[") refl r
 
-pub plain_close : is_plain (codes "]") ≡ true
+pub over_close : {text blanks numbers : List ℕ} → Reads text blanks numbers → Reads (codes "]" ++ text) (codes "]" ++ blanks) numbers
 unfolding over_words blank_of meanings meaning_in decimal_of
-plain_close = refl
+over_close r = reads-plain (codes "]") refl r
 
-pub plain_comma_open : is_plain (codes ", [") ≡ true
+pub over_comma_open : {text blanks numbers : List ℕ} → Reads text blanks numbers → Reads (codes ", [" ++ text) (codes ", [" ++ blanks) numbers
 unfolding over_words blank_of meanings meaning_in decimal_of
-plain_comma_open = refl
+over_comma_open r = reads-plain (codes ", [") refl r
 
-pub plain_zeroing : is_plain (codes "/z, ") ≡ true
+pub over_zeroing : {text blanks numbers : List ℕ} → Reads text blanks numbers → Reads (codes "/z, " ++ text) (codes "/z, " ++ blanks) numbers
 unfolding over_words blank_of meanings meaning_in decimal_of
-plain_zeroing = refl
+over_zeroing r = reads-plain (codes "/z, ") refl r
 
-pub plain_slash : is_plain (codes "/") ≡ true
+pub over_slash : {text blanks numbers : List ℕ} → Reads text blanks numbers → Reads (codes "/" ++ text) (codes "/" ++ blanks) numbers
 unfolding over_words blank_of meanings meaning_in decimal_of
-plain_slash = refl
+over_slash r = reads-plain (codes "/") refl r
 
-pub plain_merging : is_plain (codes "/m, ") ≡ true
+pub over_merging : {text blanks numbers : List ℕ} → Reads text blanks numbers → Reads (codes "/m, " ++ text) (codes "/m, " ++ blanks) numbers
 unfolding over_words blank_of meanings meaning_in decimal_of
-plain_merging = refl
+over_merging r = reads-plain (codes "/m, ") refl r
 
-pub plain_list_open : is_plain (codes " {") ≡ true
+pub over_list_open : {text blanks numbers : List ℕ} → Reads text blanks numbers → Reads (codes " {" ++ text) (codes " {" ++ blanks) numbers
 unfolding over_words blank_of meanings meaning_in decimal_of
-plain_list_open = refl
+over_list_open r = reads-plain (codes " {") refl r
 
-pub plain_list_close : is_plain (codes "}, ") ≡ true
+pub over_list_close : {text blanks numbers : List ℕ} → Reads text blanks numbers → Reads (codes "}, " ++ text) (codes "}, " ++ blanks) numbers
 unfolding over_words blank_of meanings meaning_in decimal_of
-plain_list_close = refl
+over_list_close r = reads-plain (codes "}, ") refl r
 
-pub plain_zeroing_open : is_plain (codes "/z, [") ≡ true
+pub over_zeroing_open : {text blanks numbers : List ℕ} → Reads text blanks numbers → Reads (codes "/z, [" ++ text) (codes "/z, [" ++ blanks) numbers
 unfolding over_words blank_of meanings meaning_in decimal_of
-plain_zeroing_open = refl
+over_zeroing_open r = reads-plain (codes "/z, [") refl r

@@ -7,6 +7,7 @@ use Rattle.std.specs.Str.Parse.{AllDigits, digits_value_after}
 use Rattle.std.proofs.lemmas.Bool.Decides.{nat_tests}
 use Rattle.std.proofs.lemmas.Fmt.{decimal_is_IsNumeral}
 use Rattle.std.proofs.lemmas.Str.Parse.{tells_digits}
+use Rattle.std.proofs.lemmas.Bool.{and_parts}
 use Rattle.number_text.specs.Numbers.{is_digit, digit_value, appended, value_of, decimal_of}
 use Rattle.asm_forms.specs.Blanks.{is_word_byte, Meaning, meanings, meaning_in, blank_of}
 
@@ -14,10 +15,6 @@ use Rattle.asm_forms.specs.Blanks.{is_word_byte, Meaning, meanings, meaning_in, 
 unfoldable pub below : ℕ → (ℕ → Bool) → Bool
 below zero test = true
 below (suc n) test = test n && below n test
-
-pub and_true : (a b : Bool) → (a && b) ≡ true → (a ≡ true) × (b ≡ true)
-and_true true b h = (refl, h)
-and_true false b h = cc
 
 at_last : (n k : ℕ) (test : ℕ → Bool) (b : Bool) → eqb k n ≡ b → test n ≡ true → (k < n → test k ≡ true) → k < suc n → test k ≡ true
 at_last n k test true e h rest l = let s : k ≡ n = grind (arith, nat_tests) in rw s h
@@ -27,8 +24,13 @@ pub below-at : (n : ℕ) (test : ℕ → Bool) → below n test ≡ true → (k 
 unfolding below
 below-at zero test h k l = absurd (omega arith)
 below-at (suc n) test h k l =
-    let p = and_true (test n) (below n test) h in
+    let p = and_parts (test n) (below n test) h in
     at_last n k test (eqb k n) refl p.0 (λ m. below-at n test p.1 k m) l
+
+-- one of two, by a test
+pub by_test : {P : Type 0} (x : Bool) → (x ≡ true → P) → (x ≡ false → P) → P
+by_test true here there = here refl
+by_test false here there = there refl
 
 -- ---- what stands for a word
 abbrev pub has_blank : ℕ → ℕ → Option (ℕ × ℕ) → Bool
@@ -38,7 +40,7 @@ has_blank b n (Some p) = (p.0 == b) && (p.1 == n)
 pub blank-is : (b n : ℕ) (o : Option (ℕ × ℕ)) → has_blank b n o ≡ true → o ≡ Some (b, n)
 blank-is b n None h = cc
 blank-is b n (Some p) h =
-    let q = and_true (p.0 == b) (p.1 == n) h in
+    let q = and_parts (p.0 == b) (p.1 == n) h in
     let x : p.0 ≡ b = grind (arith, nat_tests) in
     let y : p.1 ≡ n = grind (arith, nat_tests) in
     ap₂ (λ (u v : ℕ). Some (u, v)) x y
@@ -54,7 +56,7 @@ pub record IsBlanked (text : List ℕ) (b n : ℕ) : Type 0 where
 
 pub blanked-small : (text : ℕ → List ℕ) (b m : ℕ) → below m (is_blanked text b) ≡ true → (n : ℕ) → n < m → IsBlanked (text n) b n
 blanked-small text b m h n l =
-    let p = and_true (list_all is_word_byte (text n)) (has_blank b n (blank_of (text n))) (below-at m (is_blanked text b) h n l) in
+    let p = and_parts (list_all is_word_byte (text n)) (has_blank b n (blank_of (text n))) (below-at m (is_blanked text b) h n l) in
     record { word = p.0; blank = blank-is b n (blank_of (text n)) p.1 }
 
 -- ---- digits
@@ -110,7 +112,7 @@ no_meaning : (ms : List Meaning) (d : ℕ) (ds : List ℕ) → all_begin_above m
 unfolding meaning_in
 no_meaning [] d ds h u = refl
 no_meaning (m ∷ ms) d ds h u =
-    let p = and_true (begins_above m.word) (all_begin_above ms) h in
+    let p = and_parts (begins_above m.word) (all_begin_above ms) h in
     rw (not_same m.word d ds p.0 u) (no_meaning ms d ds p.1 u)
 
 with_meaning : all_begin_above meanings ≡ true

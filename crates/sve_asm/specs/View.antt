@@ -1,6 +1,5 @@
 -- What contracts see of refusals and of lines.
-use Rattle.std.specs.Prelude.{ℕ, ◌≡◌, ◌+◌, List, Option, Some, None, length, Result, Err}
-use Rattle.std.specs.Borrow.{Bor}
+use Rattle.std.specs.Prelude.{ℕ, ◌≡◌, List, Result, Err}
 use Rattle.sve_asm.specs.declared.fault.AsmFault.{AsmFault}
 use Rattle.sve_asm.specs.declared.fault.AsmFault.TheVariants.{TooLong, BadLine, Differs, TooManyWords, Memory}
 use Rattle.sve_asm.specs.declared.line.Said.{Said}

@@ -19,7 +19,8 @@ const MOST_WORDS: usize = 65_536;
 // Adds what a line says to the words.
 fn add_line(words: &mut Vec<u32>, line: u32, said: Option<Said>) -> Result<(), AsmFault>
     ensures added { OnOk result (after_line line (option_map line_view said) words.old.items ≡ Ok words.new.items) }
-    ensures refused { IfErr result (λ fault. Refuses (after_line line (option_map line_view said) words.old.items) fault) }
+    ensures refused { IfErr result (λ fault.
+        Refuses (after_line line (option_map line_view said) words.old.items) fault) }
     ensures few { OnOk result (length words.old.items ≤ 65536 → length words.new.items ≤ 65536) }
 {
     match said {
