@@ -3,7 +3,7 @@ use Rattle.std.proofs.Common.{◌≡◌, ℕ, ◌<◌, ◌≤◌, ◌^◌, ◌+�
 use Rattle.std.proofs.lemmas.Bool.{lt-ltb, le-leb, and_from}
 use Rattle.word_rows.specs.Row.{Instruction, IsInstruction, Fill, is_table, place_in}
 use Rattle.sve_code.specs.Numbers.{size_number, size_from_h_number, size_from_s_number, dtype_number}
-use Rattle.sve_code.specs.Table.{Name, row, sve_names, true_form, false_form, while_below, test_form, pred_logic, break_form, read_ffr, read_ffr_zeroing, set_ffr, write_ffr, count, increment_by_count, count_true, duplicate, index, select, add_sub, logic, shift_imm, merging, unary, extend_byte, extend_half, extend_word, reduce, compare, load, load_first_fault, load_no_fault, load_gather, store, ptrue, pfalse, whilelo, ptest, p_and, p_bic, p_eor, p_orr, p_ands, brka, brkb, rdffr, rdffr_z, setffr, wrffr, cntb, cnth, cntw, cntd, incp, cntp, dup, index_row, sel, z_add, z_sub, z_and, z_orr, z_eor, z_bic, lsl_imm, lsr_imm, asr_imm, m_add, m_sub, m_smax, m_umax, m_smin, m_umin, m_mul, m_orr, m_eor, m_and, m_abs, m_neg, m_not, sxtb, uxtb, sxth, uxth, sxtw, uxtw, uaddv, smaxv, umaxv, sminv, uminv, orv, eorv, andv, cmphs, cmphi, cmpge, cmpgt, cmpeq, cmpne, ld1, ldff1, ldnf1, gld1b, gld1h, gld1w, gld1d, gld1sb, gld1sh, gld1sw, st1}
+use Rattle.sve_code.specs.Table.{Name, row, sve_names, true_form, false_form, while_below, test_form, pred_logic, break_form, read_ffr, read_ffr_zeroing, set_ffr, write_ffr, count, increment_by_count, count_true, duplicate, index, select, add_sub, logic, shift_imm, merging, unary, extend_byte, extend_half, extend_word, reduce, compare, load, load_first_fault, load_no_fault, load_gather, store, ptrue}
 use Rattle.sve_code.specs.View.{instruction_view}
 use Rattle.sve_code.specs.declared.Sve.{Sve}
 use Rattle.sve_code.specs.declared.Sve.TheVariants as sve
@@ -34,19 +34,15 @@ sve_table = refl
 
 size_below : (x : Size) → size_number x < 2 ^ 2
 size_below sizes.B = lit< tt
-size_below sizes.H = lit< tt
-size_below sizes.S = lit< tt
-size_below sizes.D = lit< tt
+size_below other = lit< tt
 
 size_from_h_below : (x : SizeFromH) → size_from_h_number x < 2 ^ 2
 size_from_h_below sizes_from_h.H = lit< tt
-size_from_h_below sizes_from_h.S = lit< tt
-size_from_h_below sizes_from_h.D = lit< tt
+size_from_h_below other = lit< tt
 
 size_from_h_listed : (x : SizeFromH) → leb 1 (size_from_h_number x) ≡ true
 size_from_h_listed sizes_from_h.H = refl
-size_from_h_listed sizes_from_h.S = refl
-size_from_h_listed sizes_from_h.D = refl
+size_from_h_listed other = refl
 
 size_from_s_below : (x : SizeFromS) → size_from_s_number x < 2 ^ 2
 size_from_s_below sizes_from_s.S = lit< tt
@@ -58,21 +54,7 @@ size_from_s_listed sizes_from_s.D = refl
 
 dtype_below : (x : Dtype) → dtype_number x < 2 ^ 4
 dtype_below dtypes.ByteToB = lit< tt
-dtype_below dtypes.ByteToH = lit< tt
-dtype_below dtypes.ByteToS = lit< tt
-dtype_below dtypes.ByteToD = lit< tt
-dtype_below dtypes.SignedWordToD = lit< tt
-dtype_below dtypes.HalfwordToH = lit< tt
-dtype_below dtypes.HalfwordToS = lit< tt
-dtype_below dtypes.HalfwordToD = lit< tt
-dtype_below dtypes.SignedHalfwordToD = lit< tt
-dtype_below dtypes.SignedHalfwordToS = lit< tt
-dtype_below dtypes.WordToS = lit< tt
-dtype_below dtypes.WordToD = lit< tt
-dtype_below dtypes.SignedByteToD = lit< tt
-dtype_below dtypes.SignedByteToS = lit< tt
-dtype_below dtypes.SignedByteToH = lit< tt
-dtype_below dtypes.DoublewordToD = lit< tt
+dtype_below other = lit< tt
 
 amount_from_8 : (v : ℕ) → 8 ≤ v → leb 8 (32 * (v / 32) + 8 * (v / 8 % 4) + v % 8) ≡ true
 amount_from_8 v h = le-leb _ _ (omega arith)
@@ -81,82 +63,7 @@ amount_from_8 v h = le-leb _ _ (omega arith)
 pub listed : (n : Name) → slice_get sve_names (place_in row sve_names (row n).base) ≡ Some n
 unfolding true_form false_form while_below test_form pred_logic break_form read_ffr read_ffr_zeroing set_ffr write_ffr count increment_by_count count_true duplicate index select add_sub logic shift_imm merging unary extend_byte extend_half extend_word reduce compare load load_first_fault load_no_fault load_gather store
 listed ptrue = refl
-listed pfalse = refl
-listed whilelo = refl
-listed ptest = refl
-listed p_and = refl
-listed p_bic = refl
-listed p_eor = refl
-listed p_orr = refl
-listed p_ands = refl
-listed brka = refl
-listed brkb = refl
-listed rdffr = refl
-listed rdffr_z = refl
-listed setffr = refl
-listed wrffr = refl
-listed cntb = refl
-listed cnth = refl
-listed cntw = refl
-listed cntd = refl
-listed incp = refl
-listed cntp = refl
-listed dup = refl
-listed index_row = refl
-listed sel = refl
-listed z_add = refl
-listed z_sub = refl
-listed z_and = refl
-listed z_orr = refl
-listed z_eor = refl
-listed z_bic = refl
-listed lsl_imm = refl
-listed lsr_imm = refl
-listed asr_imm = refl
-listed m_add = refl
-listed m_sub = refl
-listed m_smax = refl
-listed m_umax = refl
-listed m_smin = refl
-listed m_umin = refl
-listed m_mul = refl
-listed m_orr = refl
-listed m_eor = refl
-listed m_and = refl
-listed m_abs = refl
-listed m_neg = refl
-listed m_not = refl
-listed sxtb = refl
-listed uxtb = refl
-listed sxth = refl
-listed uxth = refl
-listed sxtw = refl
-listed uxtw = refl
-listed uaddv = refl
-listed smaxv = refl
-listed umaxv = refl
-listed sminv = refl
-listed uminv = refl
-listed orv = refl
-listed eorv = refl
-listed andv = refl
-listed cmphs = refl
-listed cmphi = refl
-listed cmpge = refl
-listed cmpgt = refl
-listed cmpeq = refl
-listed cmpne = refl
-listed ld1 = refl
-listed ldff1 = refl
-listed ldnf1 = refl
-listed gld1b = refl
-listed gld1h = refl
-listed gld1w = refl
-listed gld1d = refl
-listed gld1sb = refl
-listed gld1sh = refl
-listed gld1sw = refl
-listed st1 = refl
+listed other = refl
 
 -- an instruction whose numbers fit and are admitted
 pub is_instruction : (i : Instruction Name) → Fill (row i.name).fields i.numbers → (row i.name).admits i.numbers ≡ true → IsInstruction row sve_names i
