@@ -5,7 +5,7 @@ use Rattle.std.proofs.lemmas.List.{get_or-set_other}
 use Rattle.guest_types.specs.declared.memory.AccessFault.{AccessFault}
 use Rattle.guest_types.specs.Memory.{Memory, loaded, stored}
 use Rattle.guest_types.proofs.Stores.{fetched-stored, can_read-stored, can_write-stored}
-use Rattle.a64_code.specs.Table.{add_imm, sub_imm, subs_imm, add, sub, subs, land, orr, eor, orn, movz, movk, movn, madd, msub, lslv, lsrv, asrv, sbfm, ubfm, csel, csinc, b, b_cond, cbz, cbnz, ret, svc, brk, nop, umov, ldrb, ldrsb, strb, ldrh, ldr_w, ldr_x, ldrsh, ldrsw, strh, str_w, str_x, ldrb_register, ldrsb_register, strb_register, ldrh_register, ldr_w_register, ldr_x_register, ldrsh_register, ldrsw_register, strh_register, str_w_register, str_x_register, Name}
+use Rattle.a64_code.specs.Table.{add_imm, sub_imm, subs_imm, subs, b, b_cond, cbz, cbnz, ret, svc, brk, nop, ldrb, ldrsb, strb, ldrh, ldr_w, ldr_x, ldrsh, ldrsw, strh, str_w, str_x, ldrb_register, ldrsb_register, strb_register, ldrh_register, ldr_w_register, ldr_x_register, ldrsh_register, ldrsw_register, strh_register, str_w_register, str_x_register, Name}
 use Rattle.machine_model.specs.declared.outcome.StopKind.TheVariants.{Read, Write, Call}
 use Rattle.machine_model.specs.Arithmetic.{holds, target, difference}
 use Rattle.machine_model.specs.Machine.{State, Step, Went, Ended, Stopped, x_at, with_x, jump, next}
@@ -67,25 +67,7 @@ pub scalar_leaves : (n : Name) (ns : List ℕ) (s t : State) → act n ns s ≡ 
 scalar_leaves add_imm ns s t e = writes_or_sp s t (arg ns 0) _ e
 scalar_leaves sub_imm ns s t e = writes_or_sp s t (arg ns 0) _ e
 scalar_leaves subs_imm ns s t e = with_flags s t (arg ns 0) _ _ e
-scalar_leaves add ns s t e = writes s t (arg ns 0) _ e
-scalar_leaves sub ns s t e = writes s t (arg ns 0) _ e
 scalar_leaves subs ns s t e = with_flags s t (arg ns 0) _ _ e
-scalar_leaves land ns s t e = writes s t (arg ns 0) _ e
-scalar_leaves orr ns s t e = writes s t (arg ns 0) _ e
-scalar_leaves eor ns s t e = writes s t (arg ns 0) _ e
-scalar_leaves orn ns s t e = writes s t (arg ns 0) _ e
-scalar_leaves movz ns s t e = writes s t (arg ns 0) _ e
-scalar_leaves movk ns s t e = writes s t (arg ns 0) _ e
-scalar_leaves movn ns s t e = writes s t (arg ns 0) _ e
-scalar_leaves madd ns s t e = writes s t (arg ns 0) _ e
-scalar_leaves msub ns s t e = writes s t (arg ns 0) _ e
-scalar_leaves lslv ns s t e = writes s t (arg ns 0) _ e
-scalar_leaves lsrv ns s t e = writes s t (arg ns 0) _ e
-scalar_leaves asrv ns s t e = writes s t (arg ns 0) _ e
-scalar_leaves sbfm ns s t e = writes s t (arg ns 0) _ e
-scalar_leaves ubfm ns s t e = writes s t (arg ns 0) _ e
-scalar_leaves csel ns s t e = writes s t (arg ns 0) _ e
-scalar_leaves csinc ns s t e = writes s t (arg ns 0) _ e
 scalar_leaves b ns s t e = jumps s t (target s.pc 26 (arg ns 0)) e
 scalar_leaves b_cond ns s t e = jumps_if (holds (arg ns 0) s.flags) s t (target s.pc 19 (arg ns 1)) e
 scalar_leaves cbz ns s t e = jumps_if (nat_eq (x_at s (arg ns 0)) 0) s t (target s.pc 19 (arg ns 1)) e
@@ -94,7 +76,6 @@ scalar_leaves ret ns s t e = jumps s t (x_at s (arg ns 0)) e
 scalar_leaves svc ns s t e = calls (nat_eq (arg ns 0) 0 && nat_eq (x_at s 8) 93) s t e
 scalar_leaves brk ns s t e = absurd cc
 scalar_leaves nop ns s t e = goes_on s t e
-scalar_leaves umov ns s t e = writes s t (arg ns 0) _ e
 scalar_leaves ldrb ns s t e = loads s t (arg ns 0) (at_offset 1 ns s) 1 as_it_is e
 scalar_leaves ldrsb ns s t e = loads s t (arg ns 0) (at_offset 1 ns s) 1 from_byte e
 scalar_leaves strb ns s t e = stores s t (arg ns 0) (at_offset 1 ns s) 1 e
@@ -117,3 +98,4 @@ scalar_leaves ldrsw_register ns s t e = loads s t (arg ns 0) (at_scaled 2 ns s) 
 scalar_leaves strh_register ns s t e = stores s t (arg ns 0) (at_scaled 1 ns s) 2 e
 scalar_leaves str_w_register ns s t e = stores s t (arg ns 0) (at_scaled 2 ns s) 4 e
 scalar_leaves str_x_register ns s t e = stores s t (arg ns 0) (at_scaled 3 ns s) 8 e
+scalar_leaves other ns s t e = writes s t (arg ns 0) _ e

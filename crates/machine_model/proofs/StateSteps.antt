@@ -323,9 +323,7 @@ one_put s t d w v h e =
   where
     one_fits : (vl : ℕ) (w : Width) → IsLength vl → width_bytes w * 1 ≤ vl / 8
     one_fits vl B h = omega arith
-    one_fits vl H h = omega arith
-    one_fits vl S h = omega arith
-    one_fits vl D h = omega arith
+    one_fits vl other h = omega arith
 
 pub truths_put : (s t : State) (d : ℕ) (w : Width) (f : ℕ → Bool) → IsState s → put_truths s d w f ≡ Went t → IsState t
 truths_put s t d w f h e =
@@ -388,9 +386,7 @@ store_put s t (StoreFault fault m) is h e = absurd cc
 
 pub lanes_small : (vl : ℕ) (w : Width) → IsLength vl → lanes vl w < 257
 lanes_small vl B h = omega arith
-lanes_small vl H h = omega arith
-lanes_small vl S h = omega arith
-lanes_small vl D h = omega arith
+lanes_small vl other h = omega arith
 
 in_64 : (n : ℕ) → n < 257 → n < 2 ^ 64
 in_64 n h = omega arith

@@ -60,9 +60,6 @@ byte_at_of bytes segment a more h k =
 
 -- ---- four bytes as a word
 
-value_at : Memory → ℕ → ℕ → ℕ
-value_at memory a size = number_at memory a size
-
 number_one : (memory : Memory) (a size b : ℕ) → a + 1 < 2 ^ 64 → byte_at memory a ≡ Some b → number_at memory a (suc size) ≡ b + 256 * number_at memory (a + 1) size
 number_one memory a size b h e =
     let m : next_address a ≡ a + 1 = mod-eq_of_lt h in
