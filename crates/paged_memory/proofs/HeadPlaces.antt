@@ -41,13 +41,6 @@ head-read heads i h l e = ap (λ (h : Head). h.perm) (get_or_read heads i h l e 
 pub start-read : (heads : List Head) (i : ℕ) (h : Head) → i < length heads → h ≡ get_or heads i h → h.start ≡ start_at heads i
 start-read heads i h l e = ap (λ (h : Head). h.start) (get_or_read heads i h l e no_head)
 
--- they are all there
-pub start-inside : (heads read : List Head) (bs : List ℕ) (n i : ℕ) (h : Head) → read ≡ heads → IsLaidOut heads bs → StandsAt read n i → h ≡ get_or heads i h → h.start + 4096 ≤ length bs
-start-inside heads read bs n i h same laid here e =
-    let l = (stands heads read n i same here).below in
-    let is = start-read heads i h l e in
-    omega (arith, is, (within heads bs i laid l))
-
 -- ---- bytes
 
 pub byte-none : (m : Memory) (a : ℕ) → page_at m (a / 4096) ≡ None → None ≡ byte_at m a

@@ -12,7 +12,7 @@ use Rattle.paged_memory.specs.Loans.{place_in}
 use Rattle.paged_memory.specs.Numbers.{with_number}
 use Rattle.paged_memory.specs.Epochs.{bytes_at, with_page}
 use Rattle.paged_memory.proofs.Bytes.{length-with_number}
-use Rattle.paged_memory.proofs.Parts.{put_at, length-put_at}
+use Rattle.paged_memory.proofs.Parts.{put_at}
 use Rattle.paged_memory.proofs.Places.{page_of, start_at, page_at-stands, within, length-page_of, length-memory_of}
 use Rattle.paged_memory.proofs.PageLaws.{with_page-stands, bytes_at-memory_of, place_in-stands, with_span-place, put_number-place, laid-same}
 use Rattle.paged_memory.proofs.OnePage.{writable-within}
@@ -60,7 +60,3 @@ with_span-stands heads bs a i w laid stands fits =
     with_span-place m a w is.1
     ∙ ap₂ (λ p bytes. with_page p (put_at (a % 4096) w bytes) m) (sym is.0) is.2
     ∙ sym (with_page-stands heads bs i (a % 4096) w laid stands.below fits)
-
-pub laid-put_at : (heads : List Head) (bs : List ℕ) (i o : ℕ) (w : List ℕ) → IsLaidOut heads bs → i < length heads → o + length w ≤ 4096 → IsLaidOut heads (put_at (start_at heads i + o) w bs)
-laid-put_at heads bs i o w laid l fits =
-    laid-same heads bs (put_at (start_at heads i + o) w bs) laid (length-put_at (start_at heads i + o) w bs (omega (arith, fits, (within heads bs i laid l))))

@@ -1,20 +1,11 @@
 -- Runs of pages.
-use Rattle.std.proofs.Common.{◌≡◌, ◌≢◌, ℕ, ◌+◌, ◌<◌, ◌≤◌, List, [], ◌∷◌, ◌++◌, None, refl, sym, ap, ◌∙◌, subst, arith}
+use Rattle.std.proofs.Common.{◌≡◌, ◌≢◌, ℕ, ◌+◌, ◌<◌, ◌≤◌, List, [], ◌∷◌, ◌++◌, None, sym, ap, ◌∙◌, subst, arith}
 use Rattle.std.proofs.lemmas.List.{length_push}
-use Rattle.std.proofs.lemmas.List.Elements.{All-nil, All-weaker, All-push}
+use Rattle.std.proofs.lemmas.List.Elements.{All-weaker, All-push}
 use Rattle.guest_types.specs.declared.memory.Perm.{Perm}
 use Rattle.guest_types.specs.Memory.{Page, Memory, IsPage, page_at, DoNotMeet}
-use Rattle.guest_types.proofs.Merges.{empty_memory, IsMemory-push, page_at-absent}
+use Rattle.guest_types.proofs.Merges.{IsMemory-push, page_at-absent}
 use Rattle.paged_memory.specs.Runs.{BeginsWith, IsRun}
-
-pub run-none : (from : ℕ) (perm : Perm) (front : List ℕ) → IsRun from 0 perm front []
-run-none from perm front = record {
-  memory = empty_memory;
-  whole = refl;
-  above = All-nil (λ (page : Page). from ≤ page.page);
-  below = All-nil (λ (page : Page). page.page < from + 0);
-  alike = All-nil (BeginsWith perm front);
-}
 
 pub run-push : (from count : ℕ) (perm : Perm) (front : List ℕ) (memory : Memory) (p : Page) → IsRun from count perm front memory → IsPage p → p.page ≡ from + count → BeginsWith perm front p → IsRun from (count + 1) perm front (memory ++ p ∷ [])
 run-push from count perm front memory p run is e alike = record {

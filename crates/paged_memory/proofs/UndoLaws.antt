@@ -122,10 +122,6 @@ past_of-note es e m none few =
 
 -- ---- writes to pages that are saved
 
-pub past_of-same : (es : List Saved) (m new : Memory) → undone_first es m ≡ undone_first es new → past_of es m ≡ past_of es new
-past_of-same [] m new same = refl
-past_of-same (e ∷ es) m new same = ap (λ b. past_of es b ++ b ∷ []) same
-
 pub saved-numbers : (es : List Saved) (m new : Memory) (n : ℕ) → page_numbers new ≡ page_numbers m → IsSaved es m n → IsSaved es new n
 saved-numbers es m new n same saved below =
     let place = place_in-numbers m new n same in
