@@ -1,13 +1,13 @@
 -- Registers at the four widths, element by element.
-use Rattle.std.proofs.Common.{◌≡◌, ◌≢◌, ℕ, zero, suc, ◌+◌, ◌-◌, ◌*◌, ◌/◌, ◌%◌, ◌<◌, ◌≤◌, Bool, true, false, ◌&&◌, cond, eqb, ltb, List, ◌∷◌, ◌++◌, length, get_or, replicate, refl, sym, ap, ◌∙◌, subst, arith, append_assoc}
-use Rattle.std.proofs.lemmas.Bool.{cond-true, cond-false, eq-eqb, ne_eqb, lt-ltb, le-ltb, ltb-true, and_left, and_right}
+use Rattle.std.proofs.Common.{◌≡◌, ℕ, zero, suc, ◌+◌, ◌-◌, ◌*◌, ◌/◌, ◌%◌, ◌<◌, ◌≤◌, Bool, true, false, ◌&&◌, eqb, ltb, List, ◌∷◌, ◌++◌, length, get_or, replicate, refl, sym, ap, ◌∙◌, arith, append_assoc}
+use Rattle.std.proofs.lemmas.Bool.{eq-eqb, lt-ltb, ltb-true}
 use Rattle.std.proofs.lemmas.List.{append-nil, replicate-append-replicate}
 use Rattle.std.proofs.Math.Nat.{add-suc, add-zero, mul-suc, mul-le-mul_left, mul-mod_right, mul-div_cancel_left, div-one}
 use Rattle.guest_types.specs.declared.length.Width.{Width}
-use Rattle.guest_types.specs.declared.length.Width.TheVariants.{B, H, S, D}
+use Rattle.guest_types.specs.declared.length.Width.TheVariants.{B}
 use Rattle.guest_types.specs.Length.{IsLength, width_bytes, lanes, all_lanes, modulus}
-use Rattle.guest_types.specs.Elements.{bytes_of, elements, register, at, bit, bits_of, active, element_bit, predicate, written_bit, with_active}
-use Rattle.guest_types.proofs.Registers.{element-register, length-register, register-ext, elements-of}
+use Rattle.guest_types.specs.Elements.{bytes_of, elements, register, at, bit, bits_of, active, element_bit, predicate}
+use Rattle.guest_types.proofs.Registers.{element-register, elements-of}
 use Rattle.guest_types.proofs.Predicates.{bits-ext, bit-bits_of, bits-small, length-bits_of}
 use Rattle.guest_types.proofs.Widths.{modulus-is, whole-register, some-bytes, lane-inside}
 
@@ -16,15 +16,11 @@ use Rattle.guest_types.proofs.Widths.{modulus-is, whole-register, some-bytes, la
 -- the elements of a vector length fill its bytes
 pub width_bytes-lanes : (vl : ℕ) (w : Width) → IsLength vl → width_bytes w * lanes vl w ≡ vl / 8
 width_bytes-lanes vl B h = omega arith
-width_bytes-lanes vl H h = omega arith
-width_bytes-lanes vl S h = omega arith
-width_bytes-lanes vl D h = omega arith
+width_bytes-lanes vl other h = omega arith
 
 pub lanes-bound : (vl : ℕ) (w : Width) → IsLength vl → (2 ≤ lanes vl w) × (lanes vl w ≤ all_lanes w)
 lanes-bound vl B h = (omega arith, omega arith)
-lanes-bound vl H h = (omega arith, omega arith)
-lanes-bound vl S h = (omega arith, omega arith)
-lanes-bound vl D h = (omega arith, omega arith)
+lanes-bound vl other h = (omega arith, omega arith)
 
 lanes_fit : (w : Width) (n : ℕ) → n ≤ all_lanes w → width_bytes w * n ≤ 256
 lanes_fit w n h = omega (arith, whole-register w, mul-le-mul_left (width_bytes w) h)
@@ -59,54 +55,12 @@ register-zeros k f n (suc d) fits none =
     ∙ zeros_more (elements k f (n + d)) k (256 - k * (n + suc d)) (256 - k * (n + d)) room
     ∙ rest
 
--- where the elements past the vector length are zero, the whole register is made of those below it
-pub register-all_lanes : (w : Width) (f : ℕ → ℕ) (n : ℕ) → n ≤ all_lanes w → ((e : ℕ) → n ≤ e → e < all_lanes w → f e ≡ 0) → register (width_bytes w) f (all_lanes w) ≡ register (width_bytes w) f n
-register-all_lanes w f n below none =
-    let whole : all_lanes w ≡ n + (all_lanes w - n) = omega arith in
-    ap (register (width_bytes w) f) whole
-    ∙ register-zeros (width_bytes w) f n (all_lanes w - n) (subst (λ m. width_bytes w * m ≤ 256) whole (lanes_fit w (all_lanes w) (omega arith)))
-    (λ e least most. none e least (omega arith))
-
--- f below n, and zero from there on
-first_of : (ℕ → ℕ) → ℕ → ℕ → ℕ
-first_of f n e = cond (ltb e n) (f e) 0
-
-first_of-below : (f : ℕ → ℕ) (n e : ℕ) → e < n → f e ≡ first_of f n e
-unfolding first_of
-first_of-below f n e l = sym (cond-true _ _ _ (lt-ltb e n l))
-
-first_of-past : (f : ℕ → ℕ) (n e : ℕ) → n ≤ e → first_of f n e ≡ 0
-unfolding first_of
-first_of-past f n e l = cond-false _ _ _ (le-ltb e n l)
-
--- an element that was not made is zero
-pub at-register_past : (w : Width) (f : ℕ → ℕ) (n e : ℕ) → n ≤ e → e < all_lanes w → at w (register (width_bytes w) f n) e ≡ 0
-at-register_past w f n e past inside =
-    let same : register (width_bytes w) f n ≡ register (width_bytes w) (first_of f n) (all_lanes w) =
-    register-ext (width_bytes w) f (first_of f n) n (first_of-below f n)
-    ∙ sym (register-all_lanes w (first_of f n) n (omega arith) (λ i least below. first_of-past f n i least)) in
-    ap (λ z. at w z e) same ∙ at-register w (first_of f n) (all_lanes w) e inside ∙ ap (λ v. v % modulus w) (first_of-past f n e past) ∙ zero_mod w
-  where
-    zero_mod : (w : Width) → 0 % modulus w ≡ 0
-    zero_mod B = refl
-    zero_mod H = refl
-    zero_mod S = refl
-    zero_mod D = refl
-
-pub length-register_at : (w : Width) (f : ℕ → ℕ) (n : ℕ) → n ≤ all_lanes w → length (register (width_bytes w) f n) ≡ 256
-length-register_at w f n h = length-register (width_bytes w) f n (lanes_fit w n h)
-
 -- a register is made of its own elements
 pub register-of : (w : Width) (z : List ℕ) → length z ≡ 256 → ((i : ℕ) → get_or z i 0 < 256) → z ≡ register (width_bytes w) (at w z) (all_lanes w)
 register-of w z long small =
     elements-of (width_bytes w) (at w z) (all_lanes w) z (long ∙ sym (whole-register w)) small (λ e l. refl)
     ∙ sym (append-nil (elements (width_bytes w) (at w z) (all_lanes w)))
     ∙ ap (λ r. elements (width_bytes w) (at w z) (all_lanes w) ++ replicate r 0) (let none : 0 ≡ 256 - width_bytes w * all_lanes w = omega (arith, whole-register w) in none)
-
--- registers with the same elements are one
-pub register-same : (w : Width) (z y : List ℕ) → length z ≡ 256 → length y ≡ 256 → ((i : ℕ) → get_or z i 0 < 256) → ((i : ℕ) → get_or y i 0 < 256) → ((e : ℕ) → e < all_lanes w → at w z e ≡ at w y e) → z ≡ y
-register-same w z y lz ly sz sy same =
-    register-of w z lz sz ∙ register-ext (width_bytes w) (at w z) (at w y) (all_lanes w) same ∙ sym (register-of w y ly sy)
 
 -- ---- elements of a predicate that was made
 
@@ -132,14 +86,6 @@ active-predicate w h n e below inside =
     ∙ ap (λ b. b && ltb (k * e) (k * n) && h (k * e / k)) (eq-eqb (k * e % k) 0 group)
     ∙ ap (λ b. b && h (k * e / k)) (lt-ltb (k * e) (k * n) up) ∙ ap h place
 
--- an element that was not made is false
-pub active-predicate_past : (w : Width) (h : ℕ → Bool) (n e : ℕ) → n ≤ e → e < all_lanes w → active w (predicate (width_bytes w) h n) e ≡ false
-active-predicate_past w h n e past inside =
-    let k = width_bytes w in
-    let low = lane-inside w e (all_lanes w) inside (lanes_fit w (all_lanes w) (omega arith)) in
-    bit-predicate k h n (k * e) low
-    ∙ and_left _ _ (and_right (eqb (k * e % k) 0) (ltb (k * e) (k * n)) (le-ltb (k * e) (k * n) (mul-le-mul_left k past)))
-
 and_same : (a b x y : Bool) → (b ≡ true → x ≡ y) → (a && b && x) ≡ (a && b && y)
 and_same true true x y same = same refl
 and_same true false x y same = refl
@@ -147,36 +93,10 @@ and_same false b x y same = refl
 
 lane_of : (w : Width) (j n : ℕ) → j < width_bytes w * n → j / width_bytes w < n
 lane_of B j n h = omega (arith, div-one j)
-lane_of H j n h = omega arith
-lane_of S j n h = omega arith
-lane_of D j n h = omega arith
+lane_of other j n h = omega arith
 
 pub predicate-ext : (w : Width) (h g : ℕ → Bool) (n : ℕ) → ((e : ℕ) → e < n → h e ≡ g e) → predicate (width_bytes w) h n ≡ predicate (width_bytes w) g n
 predicate-ext w h g n same =
     let k = width_bytes w in
     bits_of-ext (element_bit k h n) (element_bit k g n) 32 (λ j l.
     and_same (eqb (j % k) 0) (ltb j (k * n)) (h (j / k)) (g (j / k)) (λ e. same (j / k) (lane_of w j n (ltb-true j (k * n) e))))
-
--- a register of bits is made of its own bits
-pub predicate-of : (p : List ℕ) → length p ≡ 32 → ((i : ℕ) → get_or p i 0 < 256) → p ≡ bits_of (bit p) 32
-predicate-of p long small = bits-ext (bit p) 32 p long small (λ j l. refl)
-
--- ---- an element of a predicate that was written
-
-pub bit-with_active : (k : ℕ) (p : List ℕ) (e : ℕ) (value : Bool) (j : ℕ) → j < 256 → bit (with_active k p e value) j ≡ written_bit k p e value j
-bit-with_active k p e value j l = bit-bits_of (written_bit k p e value) 32 j l
-
-pub active-with_active_same : (w : Width) (p : List ℕ) (e : ℕ) (value : Bool) → e < all_lanes w → active w (with_active (width_bytes w) p e value) e ≡ value
-active-with_active_same w p e value inside =
-    let k = width_bytes w in
-    let low = lane-inside w e (all_lanes w) inside (lanes_fit w (all_lanes w) (omega arith)) in
-    bit-with_active k p e value (k * e) low
-    ∙ cond-true _ _ _ (eq-eqb (k * e / k) e (mul-div_cancel_left e (some-bytes w)))
-    ∙ ap (λ b. b && value) (eq-eqb (k * e % k) 0 (mul-mod_right k e))
-
-pub active-with_active_other : (w : Width) (p : List ℕ) (e c : ℕ) (value : Bool) → c < all_lanes w → c ≢ e → active w (with_active (width_bytes w) p e value) c ≡ active w p c
-active-with_active_other w p e c value inside ne =
-    let k = width_bytes w in
-    let low = lane-inside w c (all_lanes w) inside (lanes_fit w (all_lanes w) (omega arith)) in
-    let place : k * c / k ≡ c = mul-div_cancel_left c (some-bytes w) in
-    bit-with_active k p e value (k * c) low ∙ cond-false _ _ _ (ne_eqb (k * c / k) e (λ q. ne (sym place ∙ q)))

@@ -180,16 +180,6 @@ pub length-merged : (memory other : Memory) → length (merged memory other) ≡
 length-merged [] other = omega arith
 length-merged (p ∷ ps) other = length_before p (merged ps) (length ps) other (length-merged ps)
 
-all_before : (P : Page → Type 0) (p : Page) (rest : Memory → Memory) (other : Memory) → P p → ((o : Memory) → All P o → All P (rest o)) → All P other → All P (merged_before p rest other)
-all_before P p rest [] here h each = All-cons P p (rest []) here (h [] each)
-all_before P p rest (q ∷ qs) here h each =
-    let more = all_before P p rest qs here h (All-tail P q qs each) in
-    merge_step (All P) p q rest qs (λ l. All-cons P q (merged_before p rest qs) (All-head P q qs each) more) (λ l. All-cons P p (rest (q ∷ qs)) here (h (q ∷ qs) each))
-
-pub All-merged : (P : Page → Type 0) (memory other : Memory) → All P memory → All P other → All P (merged memory other)
-All-merged P [] other each others = others
-All-merged P (p ∷ ps) other each others = all_before P p (merged ps) other (All-head P p ps each) (λ o. All-merged P ps o (All-tail P p ps each)) others
-
 ordered_before : (low : ℕ) (p : Page) (ps other : Memory) → low ≤ p.page → IsPage p → ((o : Memory) → Ordered (suc p.page) o → DoNotMeet ps o → Ordered (suc p.page) (merged ps o)) → Ordered low other → DoNotMeet (p ∷ ps) other → Ordered low (merged_before p (merged ps) other)
 ordered_before low p ps [] least is rest o apart = (least, is, rest [] tt (DoNotMeet-left_tail p ps [] apart))
 ordered_before low p ps (q ∷ qs) least is rest o apart =

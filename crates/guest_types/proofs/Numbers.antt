@@ -1,6 +1,5 @@
 -- Numbers and their bytes.
-use Rattle.std.proofs.Common.{◌≡◌, ℕ, zero, suc, ◌+◌, ◌*◌, ◌/◌, ◌%◌, ◌^◌, ◌<◌, ◌≤◌, List, [], ◌∷◌, ◌++◌, length, get_or, drop, refl, sym, ap, ◌∙◌, arith, add-one}
-use Rattle.std.proofs.lemmas.List.{drop_more}
+use Rattle.std.proofs.Common.{◌≡◌, ℕ, zero, suc, ◌+◌, ◌*◌, ◌/◌, ◌%◌, ◌^◌, ◌<◌, ◌≤◌, List, [], ◌∷◌, ◌++◌, length, refl, sym, ap, ◌∙◌, arith, add-one}
 use Rattle.std.proofs.Math.Nat.{pow-suc, pow-le-pow_right, one-le-pow, div-one, mod-one, mul_comm, div-div-eq-div-mul, add-mul-mod_self_left, mod-eq_of_lt, div-eq_of_lt, add-mul-div_left}
 use lib.Arith.{mod-mul}
 use lib.Lanes.{Each1}
@@ -61,7 +60,3 @@ bytes_of-mod k x = ap (bytes_of k) (sym (number-bytes_of k x)) ∙ ap (λ n. byt
     below : (k x : ℕ) → Each1 (λ b. b < 256) (bytes_of k x)
     below zero x = tt
     below (suc k) x = (omega arith, below k (x / 256))
-
--- a step of the loop that reads from the top
-pub number-step : (bs : List ℕ) (i : ℕ) → i < length bs → number_of_bytes (drop i bs) ≡ get_or bs i 0 + 256 * number_of_bytes (drop (i + 1) bs)
-number-step bs i h = ap number_of_bytes (drop_more bs i 0 h)

@@ -67,12 +67,6 @@ register-more k f n a b ys ea eb ey =
     put-next (elements k f n) ys a b (256 - k * n) (length-elements k f n ∙ sym ea)
     ∙ ap₂ (λ l r. l ++ replicate r 0) (ap (λ l. elements k f n ++ l) ey ∙ sym (elements-more k f n)) (omega (arith, ap (λ j. k * j) (add-one n), mul-suc k n))
 
--- the step of a loop that writes m elements at once
-pub register-block : (k : ℕ) (f : ℕ → ℕ) (n m a b : ℕ) (ys : List ℕ) → a ≡ k * n → b ≡ k * m → ys ≡ elements k (λ e. f (n + e)) m → put_mid a b (register k f n) ys ≡ register k f (n + m)
-register-block k f n m a b ys ea eb ey =
-    put-next (elements k f n) ys a b (256 - k * n) (length-elements k f n ∙ sym ea)
-    ∙ ap₂ (λ l r. l ++ replicate r 0) (ap (λ l. elements k f n ++ l) ey ∙ sym (elements-split k f n m)) (omega (arith, mul-add k n m))
-
 -- the step of a loop that puts element n
 pub put-register : (k : ℕ) (f : ℕ → ℕ) (n x : ℕ) → x ≡ f n → with_element k (register k f n) n x ≡ register k f (n + 1)
 put-register k f n x e = register-more k f n (k * n) k (bytes_of k x) refl refl (ap (bytes_of k) e)

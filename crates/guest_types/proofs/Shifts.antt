@@ -11,9 +11,7 @@ use Rattle.guest_types.specs.Lanes.{shifted}
 
 pub modulus-power : (w : Width) → modulus w ≡ 2 ^ width_bits w
 modulus-power B = refl
-modulus-power H = refl
-modulus-power S = refl
-modulus-power D = refl
+modulus-power other = refl
 
 pub or-below : (w : Width) (a b : ℕ) → a < modulus w → b < modulus w → bit_or a b < modulus w
 or-below B a b = or_lt 8 a b
@@ -56,9 +54,7 @@ ones-above w c top h e =
 
 halves : (w : Width) (a top : ℕ) → top + 1 ≡ modulus w → top / 2 < a → modulus w / 2 ≤ a
 halves B a top e h = omega arith
-halves H a top e h = omega arith
-halves S a top e h = omega arith
-halves D a top e h = omega arith
+halves other a top e h = omega arith
 
 -- a shift of a negative element fills with ones
 pub shifted-negative : (w : Width) (a c top low fill : ℕ) → top + 1 ≡ modulus w → low ≡ a / 2 ^ c → fill ≡ top / 2 ^ c → c ≤ width_bits w → top / 2 < a → low + (top - fill) ≡ shifted Asr (modulus w) a c

@@ -1,29 +1,21 @@
 -- Loads and stores within one page, by the bytes that stand there.
-use Rattle.std.proofs.Common.{◌≡◌, ℕ, zero, suc, ◌+◌, ◌*◌, ◌/◌, ◌%◌, ◌^◌, ◌<◌, ◌≤◌, Bool, true, false, cond, ◌&&◌, List, [], ◌∷◌, ◌++◌, take, drop, length, get_or, set, Option, Some, None, Result, Ok, Err, refl, sym, ap, ap₂, ◌∙◌, arith, append_assoc}
+use Rattle.std.proofs.Common.{◌≡◌, ℕ, zero, suc, ◌+◌, ◌*◌, ◌/◌, ◌%◌, ◌^◌, ◌<◌, ◌≤◌, Bool, true, false, cond, List, [], ◌∷◌, ◌++◌, take, drop, length, get_or, set, Option, Some, None, Ok, refl, sym, ap, ap₂, ◌∙◌, arith, append_assoc}
 use Rattle.std.specs.Prelude.{nat_eq, nat_le, is_some, option_map, unwrap_or}
 use Rattle.std.specs.List.{All}
-use Rattle.std.proofs.lemmas.Bool.{cond-true, cond-false, leb-true}
+use Rattle.std.proofs.lemmas.Bool.{cond-true, cond-false, leb-true, and_parts}
 use Rattle.std.proofs.lemmas.List.{take_more_set, drop-set-lt, drop-drop, drop_more, take-append-drop}
 use Rattle.std.proofs.lemmas.List.Elements.{All-head, All-tail}
-use Rattle.guest_types.specs.declared.memory.AccessFault.{AccessFault}
-use Rattle.guest_types.specs.Memory.{Page, Memory, IsPage, IsMemory, page_at, byte_of, byte_or_zero, number_at, next_address, first_fault, can_read, can_write, may_write, put_byte, put_number, with_byte, loaded, stored}
+use Rattle.guest_types.specs.Memory.{Page, Memory, IsPage, IsMemory, page_at, byte_of, byte_or_zero, number_at, next_address, first_fault, can_read, can_write, may_write, put_byte, put_number, with_byte, stored}
 use Rattle.guest_types.specs.Elements.{number_of_bytes, bytes_of}
 use Rattle.guest_types.specs.Spans.{in_one_page, has_span, has_span_mut, bytes_or_none, span_of, with_bytes, with_span}
 use Rattle.guest_types.proofs.Writes.{All-page_at, IsMemory-put_byte}
 use Rattle.guest_types.proofs.Stores.{stored-done}
-use lib.Lanes.{Each1}
-use Rattle.guest_types.proofs.Numbers.{bytes_of-number}
 
 -- ---- one page, or the next
 
-both_true : (a b : Bool) → (a && b) ≡ true → (a ≡ true) × (b ≡ true)
-both_true true true e = (refl, refl)
-both_true true false e = cc
-both_true false b e = cc
-
 pub in_one_page-fits : (a n : ℕ) → in_one_page a n ≡ true → (1 ≤ n) × (a % 4096 + n ≤ 4096)
 in_one_page-fits a n e =
-    let parts = both_true (nat_le 1 n) (nat_le (a % 4096 + n) 4096) e in
+    let parts = and_parts (nat_le 1 n) (nat_le (a % 4096 + n) 4096) e in
     (leb-true 1 n parts.0, leb-true (a % 4096 + n) 4096 parts.1)
 
 -- a test that looks at the page alone
@@ -43,13 +35,13 @@ writable memory n = may_write (page_at memory n)
 pub read_faults-span : (memory : Memory) (a n : ℕ) → a < 2 ^ 64 → has_span memory a n ≡ true → first_fault (can_read memory) a n ≡ None
 unfolding readable
 read_faults-span memory a n low has =
-    let parts = both_true (in_one_page a n) (can_read memory a) has in
+    let parts = and_parts (in_one_page a n) (can_read memory a) has in
     faults_none (readable memory) a n low (in_one_page-fits a n parts.0).1 parts.1
 
 pub write_faults-span : (memory : Memory) (a n : ℕ) → a < 2 ^ 64 → has_span_mut memory a n ≡ true → first_fault (can_write memory) a n ≡ None
 unfolding writable
 write_faults-span memory a n low has =
-    let parts = both_true (in_one_page a n) (can_write memory a) has in
+    let parts = and_parts (in_one_page a n) (can_write memory a) has in
     faults_none (writable memory) a n low (in_one_page-fits a n parts.0).1 parts.1
 
 -- ---- reads
@@ -74,18 +66,12 @@ number_at-span memory a n is low has = go (page_at memory (a / 4096)) refl
   where
     go : (o : Option Page) → page_at memory (a / 4096) ≡ o → number_at memory a n ≡ number_of_bytes (span_of memory a n)
     go None found =
-        let parts = both_true (in_one_page a n) (can_read memory a) has in
+        let parts = and_parts (in_one_page a n) (can_read memory a) has in
         let clash : false ≡ true = sym (ap is_some found) ∙ parts.1 in cc
     go (Some p) found =
-        let parts = both_true (in_one_page a n) (can_read memory a) has in
+        let parts = and_parts (in_one_page a n) (can_read memory a) has in
         number_in_page memory a n p low (in_one_page-fits a n parts.0).1 found (All-page_at IsPage memory (a / 4096) p is.pages found).whole
         ∙ ap (λ o. number_of_bytes (take n (drop (a % 4096) (bytes_or_none o)))) (sym found)
-
-pub loaded-span : (memory : Memory) (a n : ℕ) → IsMemory memory → a < 2 ^ 64 → has_span memory a n ≡ true → loaded memory a n ≡ Ok (number_of_bytes (span_of memory a n))
-loaded-span memory a n is low has =
-    ap₂ (λ o x. elim o as (λ _. Result ℕ AccessFault) [ None ↦ Ok x | Some fault ↦ Err (record { address = fault; write = false }) ])
-    (read_faults-span memory a n low has)
-    (number_at-span memory a n is low has)
 
 -- ---- writes
 
@@ -143,10 +129,5 @@ put_number-span memory a (suc (suc n)) v is low fits =
 
 pub stored-span : (memory : Memory) (a n v : ℕ) → IsMemory memory → a < 2 ^ 64 → has_span_mut memory a n ≡ true → stored memory a n v ≡ Ok (with_span memory a (bytes_of n v))
 stored-span memory a n v is low has =
-    let parts = both_true (in_one_page a n) (can_write memory a) has in
+    let parts = and_parts (in_one_page a n) (can_write memory a) has in
     stored-done memory a n v (write_faults-span memory a n low has) ∙ ap Ok (put_number-span memory a n v is low (in_one_page-fits a n parts.0).1)
-
--- bytes written in one page are the number that they spell, written there
-pub with_span-number : (memory : Memory) (a : ℕ) (bytes : List ℕ) → IsMemory memory → a < 2 ^ 64 → a % 4096 + length bytes ≤ 4096 → Each1 (λ b. b < 256) bytes → with_span memory a bytes ≡ put_number memory a (length bytes) (number_of_bytes bytes)
-with_span-number memory a bytes is low fits small =
-    ap (with_span memory a) (sym (bytes_of-number bytes small)) ∙ sym (put_number-span memory a (length bytes) (number_of_bytes bytes) is low fits)

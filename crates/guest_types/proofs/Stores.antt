@@ -1,14 +1,13 @@
 -- What a number written changes, and what it leaves.
-use Rattle.std.proofs.Common.{◌≡◌, ◌≢◌, ℕ, zero, suc, ◌+◌, ◌*◌, ◌/◌, ◌%◌, ◌^◌, ◌<◌, ◌≤◌, Bool, true, false, cond, Option, Some, None, Result, Ok, Err, refl, sym, ap, ap₂, ◌∙◌, subst, arith}
+use Rattle.std.proofs.Common.{◌≡◌, ◌≢◌, ℕ, zero, suc, ◌+◌, ◌*◌, ◌/◌, ◌%◌, ◌^◌, ◌<◌, Bool, true, false, cond, Option, Some, None, Result, Ok, Err, refl, sym, ap, ap₂, ◌∙◌, subst, arith}
 use Rattle.std.specs.Prelude.{is_some, nat_eq, option_map, option_and_then, unwrap_or, if◌then◌else◌}
 use Rattle.std.proofs.lemmas.Bool.{cond-true, cond-false, eqb-true}
-use Rattle.std.proofs.Math.Nat.{pow-suc, mod-one, one-le-pow}
-use lib.Arith.{mod-mul}
+use Rattle.std.proofs.Math.Nat.{pow-suc}
 use Rattle.guest_types.specs.declared.memory.AccessFault.{AccessFault}
 use Rattle.guest_types.specs.declared.memory.Perm.{Perm}
-use Rattle.guest_types.specs.declared.memory.Perm.TheVariants.{Read, ReadWrite, ReadExec}
-use Rattle.guest_types.specs.Memory.{Page, Memory, IsPage, IsMemory, page_at, page_numbers, put_byte, with_byte, put_number, byte_at, number_at, next_address, first_fault, can_read, can_write, may_write, is_writable, is_executable, loaded, stored, fetched, Disjoint, byte_or_zero, byte_of}
-use Rattle.guest_types.proofs.Writes.{after_write, page_at-put_byte, byte_at-put_byte_same, byte_at-put_byte_other, can_read-put_byte, can_write-put_byte, page_numbers-put_byte, IsMemory-put_byte, put_byte-put_byte_other, All-page_at, page_at-number}
+use Rattle.guest_types.specs.declared.memory.Perm.TheVariants.{Read}
+use Rattle.guest_types.specs.Memory.{Page, Memory, IsPage, IsMemory, page_at, put_byte, with_byte, put_number, byte_at, number_at, next_address, first_fault, can_read, can_write, may_write, is_writable, is_executable, loaded, stored, fetched, Disjoint, byte_or_zero, byte_of}
+use Rattle.guest_types.proofs.Writes.{after_write, page_at-put_byte, byte_at-put_byte_other, can_read-put_byte, can_write-put_byte, IsMemory-put_byte, put_byte-put_byte_other, All-page_at, page_at-number}
 
 -- ---- addresses apart
 
@@ -46,10 +45,6 @@ pub can_write-put_number : (memory : Memory) (a n v c : ℕ) → can_write (put_
 can_write-put_number memory a zero v c = refl
 can_write-put_number memory a (suc n) v c = can_write-put_number (put_byte memory a (v % 256)) (next_address a) n (v / 256) c ∙ can_write-put_byte memory a (v % 256) c
 
-pub page_numbers-put_number : (memory : Memory) (a n v : ℕ) → page_numbers (put_number memory a n v) ≡ page_numbers memory
-page_numbers-put_number memory a zero v = refl
-page_numbers-put_number memory a (suc n) v = page_numbers-put_number (put_byte memory a (v % 256)) (next_address a) n (v / 256) ∙ page_numbers-put_byte memory a (v % 256)
-
 pub IsMemory-put_number : (memory : Memory) (a n v : ℕ) → IsMemory memory → IsMemory (put_number memory a n v)
 IsMemory-put_number memory a zero v is = is
 IsMemory-put_number memory a (suc n) v is = IsMemory-put_number (put_byte memory a (v % 256)) (next_address a) n (v / 256) (IsMemory-put_byte memory a (v % 256) is (omega arith))
@@ -71,9 +66,6 @@ can_read-stored memory m a n v c h = ap (λ m. can_read m c) (stored-Ok memory m
 
 pub can_write-stored : (memory m : Memory) (a n v c : ℕ) → stored memory a n v ≡ Ok m → can_write m c ≡ can_write memory c
 can_write-stored memory m a n v c h = ap (λ m. can_write m c) (stored-Ok memory m a n v h).1 ∙ can_write-put_number memory a n v c
-
-pub page_numbers-stored : (memory m : Memory) (a n v : ℕ) → stored memory a n v ≡ Ok m → page_numbers m ≡ page_numbers memory
-page_numbers-stored memory m a n v h = ap page_numbers (stored-Ok memory m a n v h).1 ∙ page_numbers-put_number memory a n v
 
 pub IsMemory-stored : (memory m : Memory) (a n v : ℕ) → stored memory a n v ≡ Ok m → IsMemory memory → IsMemory m
 IsMemory-stored memory m a n v h is = subst IsMemory (sym (stored-Ok memory m a n v h).1) (IsMemory-put_number memory a n v is)
@@ -148,21 +140,6 @@ byte_at-apart memory a (suc n) v c h =
 pub byte_at-put_number_other : (memory : Memory) (a n v c : ℕ) → a < 2 ^ 64 → c < 2 ^ 64 → Disjoint a n c 1 → byte_at (put_number memory a n v) c ≡ byte_at memory c
 byte_at-put_number_other memory a n v c la lc h = byte_at-apart memory a n v c (AllMiss-from a n c 1 la lc h)
 
-pub number_at-put_number_same : (memory : Memory) (a n v : ℕ) → IsMemory memory → a < 2 ^ 64 → n ≤ 2 ^ 64 → first_fault (can_read memory) a n ≡ None → number_at (put_number memory a n v) a n ≡ v % 256 ^ n
-number_at-put_number_same memory a zero v is low short readable = sym (mod-one v)
-number_at-put_number_same memory a (suc n) v is low short readable = go (can_read memory a) refl readable (number_at-put_number_same (put_byte memory a (v % 256)) (next_address a) n (v / 256) (IsMemory-put_byte memory a (v % 256) is (omega arith)) (omega arith) (omega arith))
-  where
-    go : (t : Bool) → can_read memory a ≡ t → cond t (first_fault (can_read memory) (next_address a) n) (Some a) ≡ None → (first_fault (can_read (put_byte memory a (v % 256))) (next_address a) n ≡ None → number_at (put_number (put_byte memory a (v % 256)) (next_address a) n (v / 256)) (next_address a) n ≡ v / 256 % 256 ^ n) → number_at (put_number memory a (suc n) v) a (suc n) ≡ v % 256 ^ suc n
-    go false e readable rest = cc
-    go true e readable rest =
-        let apart : Disjoint (next_address a) n a 1 = λ i j li lj h. omega arith in
-        let here : byte_at (put_number (put_byte memory a (v % 256)) (next_address a) n (v / 256)) a ≡ Some (v % 256) =
-        byte_at-put_number_other (put_byte memory a (v % 256)) (next_address a) n (v / 256) a (omega arith) low apart ∙ byte_at-put_byte_same memory a (v % 256) is e in
-        let some : 0 < 256 ^ n = omega (arith, one-le-pow n 256 (omega arith)) in
-        let split : v % 256 ^ suc n ≡ (v / 256 % 256 ^ n) * 256 + v % 256 = ap (λ n. v % n) (pow-suc 256 n) ∙ mod-mul v {m = 256 ^ n} {c = 256} some (omega arith) in
-        ap₂ (λ low rest. low + 256 * rest) (ap (λ o. unwrap_or o 0) here) (rest (first_fault-ext (can_read (put_byte memory a (v % 256))) (can_read memory) (next_address a) n (λ c. can_read-put_byte memory a (v % 256) c) ∙ readable))
-        ∙ omega (arith, split)
-
 -- what is writable is readable
 reads_where_written : (o : Option Page) → may_write o ≡ true → is_some o ≡ true
 reads_where_written None h = cc
@@ -180,8 +157,7 @@ read_where_written memory a (suc n) h = go (can_write memory a) refl h (read_whe
 
 not_both : (p : Perm) → is_writable p ≡ true → is_executable p ≡ true → ⊥
 not_both Read w x = cc
-not_both ReadWrite w x = cc
-not_both ReadExec w x = cc
+not_both other w x = cc
 
 misses_word : (a pc : ℕ) → pc < 2 ^ 64 → pc % 4 ≡ 0 → pc / 4096 ≢ a / 4096 → Misses a pc 4
 misses_word a pc low whole ne =
@@ -230,15 +206,6 @@ pub fetched-stored : (memory m : Memory) (a n v pc : ℕ) → pc < 2 ^ 64 → st
 fetched-stored memory m a n v pc low h =
     ap (λ m. fetched m pc) (stored-Ok memory m a n v h).1 ∙ fetched-put_number memory a n v pc low (stored-Ok memory m a n v h).0
 
--- a load of the bytes of a store gives the number that was stored
-pub loaded-stored_same : (memory m : Memory) (a n v : ℕ) → IsMemory memory → a < 2 ^ 64 → n ≤ 2 ^ 64 → stored memory a n v ≡ Ok m → loaded m a n ≡ Ok (v % 256 ^ n)
-loaded-stored_same memory m a n v is low short h =
-    let done = stored-Ok memory m a n v h in
-    let readable = read_where_written memory a n done.0 in
-    ap₂ (λ o x. elim o as (λ _. Result ℕ AccessFault) [ None ↦ Ok x | Some fault ↦ Err (record { address = fault; write = false }) ])
-    (read_faults-stored memory m a n v a n h ∙ readable)
-    (ap (λ m. number_at m a n) done.1 ∙ number_at-put_number_same memory a n v is low short readable)
-
 -- ---- bounds
 
 -- a mapped address is below 2^48
@@ -280,9 +247,6 @@ loaded-done memory a n h = ap (λ o. elim o as (λ _. Result ℕ AccessFault) [ 
 -- where a byte is not readable, or not writable, the access is refused with the first such byte's address
 pub loaded-fault : (memory : Memory) (a n f : ℕ) → first_fault (can_read memory) a n ≡ Some f → loaded memory a n ≡ Err (record { address = f; write = false })
 loaded-fault memory a n f h = ap (λ o. elim o as (λ _. Result ℕ AccessFault) [ None ↦ Ok (number_at memory a n) | Some fault ↦ Err (record { address = fault; write = false }) ]) h
-
-pub stored-fault : (memory : Memory) (a n v f : ℕ) → first_fault (can_write memory) a n ≡ Some f → stored memory a n v ≡ Err (record { address = f; write = true })
-stored-fault memory a n v f h = ap (λ o. elim o as (λ _. Result Memory AccessFault) [ None ↦ Ok (put_number memory a n v) | Some fault ↦ Err (record { address = fault; write = true }) ]) h
 
 pub loaded-below : (memory : Memory) (a n v : ℕ) → IsMemory memory → loaded memory a n ≡ Ok v → v < 256 ^ n
 loaded-below memory a n v is h = subst (λ x. x < 256 ^ n) (sym (loaded-Ok memory a n v h).1) (number_at-below memory a n is)

@@ -8,20 +8,16 @@ use lib.Lanes.{chunk}
 use Rattle.guest_types.specs.Elements.{element}
 use Rattle.guest_types.specs.Length.{width_bytes, modulus, all_lanes}
 use Rattle.guest_types.specs.declared.length.Width.{Width}
-use Rattle.guest_types.specs.declared.length.Width.TheVariants.{B, H, S, D}
+use Rattle.guest_types.specs.declared.length.Width.TheVariants.{B}
 use Rattle.guest_types.proofs.Numbers.{number-below}
 
 pub modulus-is : (w : Width) → modulus w ≡ 256 ^ width_bytes w
 modulus-is B = refl
-modulus-is H = refl
-modulus-is S = refl
-modulus-is D = refl
+modulus-is other = refl
 
 pub whole-register : (w : Width) → width_bytes w * all_lanes w ≡ 256
 whole-register B = refl
-whole-register H = refl
-whole-register S = refl
-whole-register D = refl
+whole-register other = refl
 
 pub element-below : (w : Width) (z : List ℕ) (e : ℕ) → ((i : ℕ) → Fits w8 (get_or z i 0)) → element (width_bytes w) z e < modulus w
 element-below w z e h =
@@ -33,12 +29,8 @@ element-below w z e h =
 
 pub some-bytes : (w : Width) → 0 < width_bytes w
 some-bytes B = omega arith
-some-bytes H = omega arith
-some-bytes S = omega arith
-some-bytes D = omega arith
+some-bytes other = omega arith
 
 pub lane-inside : (w : Width) (e n : ℕ) → e < n → width_bytes w * n ≤ 256 → width_bytes w * e < 256
 lane-inside B e n l h = omega arith
-lane-inside H e n l h = omega arith
-lane-inside S e n l h = omega arith
-lane-inside D e n l h = omega arith
+lane-inside other e n l h = omega arith
