@@ -4,7 +4,7 @@ use Rattle.std.specs.Prelude.{IsTrue, ◌&&◌, is_none, decimal}
 use Rattle.std.specs.List.{prefix_len, list_all, fold}
 use Rattle.std.specs.Char.{digit_value as std_value}
 use Rattle.std.specs.Str.Parse.{AllDigits, digits_value_after}
-use Rattle.std.proofs.lemmas.Bool.{ltb-true}
+use Rattle.std.proofs.lemmas.Bool.{ltb-true, and_parts}
 use Rattle.std.proofs.lemmas.Bool.Decides.{nat_tests}
 use Rattle.std.proofs.lemmas.Fmt.{decimal_is_IsNumeral_wide}
 use Rattle.std.proofs.lemmas.Str.Parse.{tells_digits}
@@ -83,14 +83,10 @@ mark_scans _ at (Some s) = refl
 
 -- ---- runs of bytes of one kind
 
-pub and_true : (a b : Bool) → (a && b) ≡ true → (a ≡ true) × (b ≡ true)
-and_true true b h = (refl, h)
-and_true false b h = absurd cc
-
 pub prefix_len-all : (p : ℕ → Bool) (xs : List ℕ) (s : List ℕ) → list_all p xs ≡ true → prefix_len p s ≡ 0 → prefix_len p (xs ++ s) ≡ length xs
 prefix_len-all p [] s h e = e
 prefix_len-all p (x ∷ xs) s h e =
-    let q = and_true (p x) (list_all p xs) h in
+    let q = and_parts (p x) (list_all p xs) h in
     let i = prefix_len-all p xs s q.1 e in
     rw q.0 (omega arith)
 
@@ -124,9 +120,9 @@ name_stops (Some s) = refl
 
 name_piece : (b : ℕ) (t : List ℕ) (o : Option (List ℕ)) → is_name (b ∷ t) ≡ true → piece b (t ++ tail_of o) ≡ Token (IsName (b ∷ t)) (length t)
 name_piece b t o h =
-    let e = and_true (is_run (b ∷ t)) (is_none (reserved_type (b ∷ t)) && is_none (reserved_mark (b ∷ t))) h in
-    let r = and_true (is_letter b) (list_all is_name_byte t) e.0 in
-    let n = and_true (is_none (reserved_type (b ∷ t))) (is_none (reserved_mark (b ∷ t))) e.1 in
+    let e = and_parts (is_run (b ∷ t)) (is_none (reserved_type (b ∷ t)) && is_none (reserved_mark (b ∷ t))) h in
+    let r = and_parts (is_letter b) (list_all is_name_byte t) e.0 in
+    let n = and_parts (is_none (reserved_type (b ∷ t))) (is_none (reserved_mark (b ∷ t))) e.1 in
     letter_piece b (t ++ tail_of o) r.0
     ∙ ap (run_from b (t ++ tail_of o)) (prefix_len-all is_name_byte t (tail_of o) r.1 (name_stops o))
     ∙ ap₂ (λ (x s : List ℕ). run_piece (b ∷ x) s (length t)) (take-append_seam t (tail_of o)) (drop-append_seam t (tail_of o))
@@ -188,7 +184,7 @@ no_hex b x (d ∷ rest) h = rw h (never (eqb b 48) (is_hex_digit d))
 decimal_begins : (b : ℕ) (t : List ℕ) (o : Option (List ℕ)) → list_all is_digit t ≡ true → begins_hex b (t ++ tail_of o) ≡ false
 decimal_begins b [] None h = refl
 decimal_begins b [] (Some s) h = no_hex b 32 s refl
-decimal_begins b (d ∷ t) o h = no_hex b d (t ++ tail_of o) (no_x d (digit_most d (and_true (is_digit d) (list_all is_digit t) h).0))
+decimal_begins b (d ∷ t) o h = no_hex b d (t ++ tail_of o) (no_x d (digit_most d (and_parts (is_digit d) (list_all is_digit t) h).0))
 
 number_piece-is : (n b : ℕ) (t : List ℕ) (o : Option (List ℕ)) → is_digit b ≡ true → list_all is_digit t ≡ true → value_of 10 (b ∷ t) ≡ n → IsTrue (ltb n (2 ^ 127)) → piece b (t ++ tail_of o) ≡ Token (IsNumber n) (length t)
 number_piece-is n b t o p q v small =
@@ -202,7 +198,7 @@ number_piece-is n b t o p q v small =
 digits_scan : (n : ℕ) (ds : List ℕ) → 0 < length ds → AllDigits 10 ds → value_of 10 ds ≡ n → IsTrue (ltb n (2 ^ 127)) → Scans (IsNumber n) ds
 digits_scan n [] l h v s at o = absurd (omega arith)
 digits_scan n (d ∷ ds) l h v s at o =
-    let a = and_true (is_digit d) (list_all is_digit ds) (all_digits (d ∷ ds) h) in
+    let a = and_parts (is_digit d) (list_all is_digit ds) (all_digits (d ∷ ds) h) in
     scans-from (IsNumber n) d ds (λ o. number_piece-is n d ds o a.0 a.1 v s) at o
 
 number_scans : (n : ℕ) → IsTrue (ltb n (2 ^ 127)) → Scans (IsNumber n) (decimal n)

@@ -34,13 +34,7 @@ type_from (suc (suc (suc (suc (suc (suc (suc n))))))) = ty.U64
 pub type_back : (t : Ty) → type_from (number_of_type t) ≡ t
 unfolding type_from
 type_back ty.I8 = refl
-type_back ty.I16 = refl
-type_back ty.I32 = refl
-type_back ty.I64 = refl
-type_back ty.U8 = refl
-type_back ty.U16 = refl
-type_back ty.U32 = refl
-type_back ty.U64 = refl
+type_back other = refl
 
 pub no_mismatch : (item : ℕ) (want t : Ty) → mismatch item (Some want) t ≡ [] → want ≡ t
 no_mismatch item want t e = sym (type_back want) ∙ ap type_from (eqb-true _ _ (is_empty (nat_eq (number_of_type want) (number_of_type t)) _ _ e)) ∙ type_back t
@@ -103,10 +97,7 @@ stream_some item (Some c) e = refl
 pub bound_known : (item : ℕ) (o : Option Binding) → bound_faults item o ≡ [] → o ≡ Some (binding.Scalar ty.U64)
 bound_known item None e = absurd cc
 bound_known item (Some (binding.Scalar t)) e = ap (λ u. Some (binding.Scalar u)) (sym (no_mismatch item ty.U64 t e))
-bound_known item (Some (binding.Array t)) e = absurd cc
-bound_known item (Some (binding.Accumulator t)) e = absurd cc
-bound_known item (Some (binding.Value t)) e = absurd cc
-bound_known item (Some binding.Index) e = absurd cc
+bound_known item other e = absurd cc
 
 pub bound_scalar : (k : Program) (l : PlainLoop) → check_fault k ≡ None → k.turns ≡ Some l → lookup (var_scope k) l.bound ≡ Some (binding.Scalar ty.U64)
 bound_scalar k l e t = bound_known (loop_start k) (lookup (var_scope k) l.bound) (bound_faultless k l e t)

@@ -21,11 +21,7 @@ use Rattle.kernel_tree.specs.Grammar.{Spells, number, name, element, group, pair
 -- whether a word opens an index
 abbrev opens_index : Word → Bool
 opens_index (IsMark m) = same m mark.OpenBracket
-opens_index (IsName x) = false
-opens_index (IsNumber n) = false
-opens_index (IsType t) = false
-opens_index (IsCompare op) = false
-opens_index (IsUpdate op) = false
+opens_index other = false
 
 abbrev Looser : ℕ → Option Operator → Type 0
 Looser level None = Unit {0}
@@ -45,11 +41,7 @@ no_index_mark _ o e = refl
 
 no_index : (w : Word) (o : Operator) → operator_of w ≡ Some o → opens_index w ≡ false
 no_index (IsMark m) o e = no_index_mark m o e
-no_index (IsName x) o e = refl
-no_index (IsNumber n) o e = refl
-no_index (IsType t) o e = refl
-no_index (IsCompare op) o e = refl
-no_index (IsUpdate op) o e = refl
+no_index other o e = refl
 
 weaker : (level : ℕ) (o : Option Operator) → Looser (suc level) o → Looser level o
 weaker level None h = tt
@@ -158,9 +150,7 @@ Unary_view [] e rest = ⊥
 Unary_view (IsNumber n ∷ from) e rest = (e ≡ Literal (pos n)) × (rest ≡ from)
 Unary_view (IsName x ∷ from) e rest = ((e ≡ Variable x) × (rest ≡ from)) ⊎ ElementView x from e rest
 Unary_view (IsMark m ∷ from) e rest = MarkView m from e rest
-Unary_view (IsType t ∷ from) e rest = ⊥
-Unary_view (IsCompare op ∷ from) e rest = ⊥
-Unary_view (IsUpdate op ∷ from) e rest = ⊥
+Unary_view other e rest = ⊥
 
 abbrev View : ℕ → List Word → Term → List Word → Type 0
 View zero words e rest = Unary_view words e rest

@@ -3,7 +3,7 @@ use Rattle.std.proofs.Common.{◌≡◌, ℕ, List, [], ◌∷◌, Bool, false, 
 use Rattle.kernel_tree.specs.declared.ops.Ty.{Ty}
 use Rattle.kernel_tree.specs.declared.mark.Mark.{Mark}
 use Rattle.kernel_tree.specs.declared.mark.Mark.TheVariants as mark
-use Rattle.kernel_tree.specs.Word.{Word, IsName, IsNumber, IsType, IsCompare, IsUpdate, IsMark}
+use Rattle.kernel_tree.specs.Word.{Word, IsType, IsMark}
 use Rattle.kernel_tree.specs.Plain.{Term, Action, Define, Put, Update, Choose, Leave, Block, Then, Nothing, Else, Parameter, Accumulator, PlainLoop, Returned, Program, same}
 use Rattle.kernel_tree.specs.Grammar.{Spells, SpellsType, untyped, typed, SpellsAction, define, put, update, choose, choose_else, leave, SpellsBlock, done, then, SpellsParam, scalar, array, SpellsSome, last, more, SpellsParams, none, some, SpellsVars, no_var, var, SpellsLoop, no_loop, loop, Tree, procedure, function}
 use Rattle.kernel_tree.proofs.OneTerm.{one_term}
@@ -12,11 +12,7 @@ use Rattle.kernel_tree.proofs.OneTerm.{one_term}
 abbrev begins_with : Mark → List Word → Bool
 begins_with m [] = false
 begins_with m (IsMark k ∷ rest) = same k m
-begins_with m (IsName x ∷ rest) = false
-begins_with m (IsNumber n ∷ rest) = false
-begins_with m (IsType t ∷ rest) = false
-begins_with m (IsCompare op ∷ rest) = false
-begins_with m (IsUpdate op ∷ rest) = false
+begins_with m other = false
 
 tail_is : (v w : Word) (xs ys : List Word) → v ∷ xs ≡ w ∷ ys → xs ≡ ys
 tail_is v w xs ys p = cc
@@ -45,11 +41,7 @@ type_once words t u r s typed typed = (refl, refl)
 
 action_front : {whole : Bool} {words : List Word} {s : Action} {r : List Word} → SpellsAction whole words s r → (begins_with mark.CloseBrace words ≡ false) × (begins_with mark.Else words ≡ false)
 action_front (define d f) = (refl, refl)
-action_front (put d f) = (refl, refl)
-action_front (update d) = (refl, refl)
-action_front (choose d f) = (refl, refl)
-action_front (choose_else d f g) = (refl, refl)
-action_front (leave d) = (refl, refl)
+action_front other = (refl, refl)
 
 block_front : {whole : Bool} {words : List Word} {b : Block} {r : List Word} → SpellsBlock whole words b r → begins_with mark.Else words ≡ false
 block_front done = refl

@@ -20,41 +20,12 @@ following-three xs ys zs f h = never (nil-right zs _ (nil-right ys _ (nil-right 
 index-value : (i : Option (List ℕ)) (a : Term) (o : Option ℤ) (c : ℤ) → (if is_index_term i a then o else None) ≡ Some c → IsValue a
 index-value i (Literal n) o c h = absurd cc
 index-value i (Variable x) o c h = tt
-index-value i (Element d j) o c h = absurd cc
-index-value i (Unary op e) o c h = absurd cc
-index-value i (Operation p x y) o c h = absurd cc
-index-value i (Shift l e n) o c h = absurd cc
-index-value i (Conversion e t) o c h = absurd cc
-index-value i (Choice d x y) o c h = absurd cc
-index-value i (Comparison p x y) o c h = absurd cc
-index-value i (Both x y) o c h = absurd cc
-index-value i (Either x y) o c h = absurd cc
-index-value i (Not e) o c h = absurd cc
+index-value i other o c h = absurd cc
 
 offset-value : (t : Bool) (op : BinaryOp) (b : Term) (c : ℤ) → (if t then option_and_then (moved_by op) (literal_value b) else None) ≡ Some c → IsValue b
 offset-value t op (Literal n) c h = tt
-offset-value true op (Variable x) c h = absurd cc
-offset-value false op (Variable x) c h = absurd cc
-offset-value true op (Element d i) c h = absurd cc
-offset-value false op (Element d i) c h = absurd cc
-offset-value true op (Unary u e) c h = absurd cc
-offset-value false op (Unary u e) c h = absurd cc
-offset-value true op (Operation p x y) c h = absurd cc
-offset-value false op (Operation p x y) c h = absurd cc
-offset-value true op (Shift l e n) c h = absurd cc
-offset-value false op (Shift l e n) c h = absurd cc
-offset-value true op (Conversion e t) c h = absurd cc
-offset-value false op (Conversion e t) c h = absurd cc
-offset-value true op (Choice d x y) c h = absurd cc
-offset-value false op (Choice d x y) c h = absurd cc
-offset-value true op (Comparison p x y) c h = absurd cc
-offset-value false op (Comparison p x y) c h = absurd cc
-offset-value true op (Both x y) c h = absurd cc
-offset-value false op (Both x y) c h = absurd cc
-offset-value true op (Either x y) c h = absurd cc
-offset-value false op (Either x y) c h = absurd cc
-offset-value true op (Not e) c h = absurd cc
-offset-value false op (Not e) c h = absurd cc
+offset-value true op b c h = absurd cc
+offset-value false op b c h = absurd cc
 
 stream-value : (i : Option (List ℕ)) (e : Term) (c : ℤ) → stream_offset i e ≡ Some c → IsValue e
 stream-value i (Literal n) c h = absurd cc
@@ -62,13 +33,7 @@ stream-value i (Variable x) c h = tt
 stream-value i (Element d j) c h = absurd cc
 stream-value i (Unary op e) c h = absurd cc
 stream-value i (Operation p x y) c h = (index-value i x (option_and_then (moved_by p) (literal_value y)) c h, offset-value (is_index_term i x) p y c h)
-stream-value i (Shift l e n) c h = absurd cc
-stream-value i (Conversion e t) c h = absurd cc
-stream-value i (Choice d x y) c h = absurd cc
-stream-value i (Comparison p x y) c h = absurd cc
-stream-value i (Both x y) c h = absurd cc
-stream-value i (Either x y) c h = absurd cc
-stream-value i (Not e) c h = absurd cc
+stream-value i other c h = absurd cc
 
 index-kinds : (o : Option ℤ) (i : Option (List ℕ)) (e : Term) (fs : List Found) → stream_offset i e ≡ o → (fs ≡ [] → IsValue e) → inner_faults o fs ≡ [] → IsValue e
 index-kinds None i e fs q f h = f h

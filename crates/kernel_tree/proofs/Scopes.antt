@@ -2,7 +2,7 @@
 use Rattle.std.proofs.Common.{◌≡◌, ℕ, false, List, [], ◌∷◌, ◌++◌, Option, Some, None, refl, sym, ap, ◌∙◌, append-nil, append_assoc}
 use Rattle.kernel_tree.specs.declared.ops.Ty.{Ty}
 use Rattle.kernel_tree.specs.declared.fault.Binding.TheVariants as binding
-use Rattle.kernel_tree.specs.Plain.{Action, Define, Put, Update, Choose, Leave, Parameter, Accumulator, PlainLoop, Program}
+use Rattle.kernel_tree.specs.Plain.{Action, Define, Parameter, Accumulator, PlainLoop, Program}
 use Rattle.kernel_tree.specs.Items.{loop_index}
 use Rattle.kernel_tree.specs.Typing.{Scope, own, first, declared, defined, after_action, binding_of_shape, empty, after_params, after_vars, after_turns, param_scope, var_scope}
 use Rattle.kernel_tree.specs.Scopes.{param_local, var_local, locals_of, accs_of}
@@ -52,10 +52,7 @@ index_defined s x (Some t) = refl
 
 pub index_after : (s : Scope) (a : Action) → (after_action s a).index ≡ s.index
 index_after s (Define x t e) = index_defined s x (first t (own s e))
-index_after s (Put a i e) = refl
-index_after s (Update x op e) = refl
-index_after s (Choose c b d) = refl
-index_after s (Leave c) = refl
+index_after s other = refl
 
 -- ---- outside the loop
 

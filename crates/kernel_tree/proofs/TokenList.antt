@@ -14,10 +14,7 @@ both false b p q = absurd cc
 token_is : (t : Token) → IsTrue (is_token (word_of t))
 token_is (token.Name x) = x.is_name
 token_is (token.Number n) = lt-ltb n.value (2 ^ 127) n.in_range
-token_is (token.Type t) = refl
-token_is (token.Compare op) = refl
-token_is (token.Update op) = refl
-token_is (token.Mark m) = refl
+token_is other = refl
 
 pub tokens_are : (ts : List Token) → IsTrue (are_tokens (words_of ts))
 tokens_are [] = refl

@@ -1,6 +1,7 @@
 -- What a tree of tokens holds: names that are names, numbers in range, breaks in the loop's own block alone.
-use Rattle.std.proofs.Common.{◌≡◌, ℕ, zero, suc, ◌≤◌, List, [], ◌∷◌, length, Bool, true, false, Option, Some, None, refl, arith}
-use Rattle.std.specs.Prelude.{ℤ, pos, negsuc, neg_ℤ, IsTrue, ◌&&◌, ◌^◌, nat_lt, unsigned_abs}
+use Rattle.std.proofs.Common.{ℕ, zero, suc, ◌≤◌, List, [], ◌∷◌, length, Bool, true, false, Option, Some, None, refl, arith}
+use Rattle.std.specs.Prelude.{ℤ, pos, negsuc, neg_ℤ, IsTrue, ◌^◌, nat_lt, unsigned_abs}
+use Rattle.std.proofs.lemmas.Bool.{and_parts}
 use Rattle.kernel_tree.specs.declared.mark.Joint.{Joint}
 use Rattle.kernel_tree.specs.declared.mark.Joint.TheVariants as joint
 use Rattle.kernel_tree.specs.declared.mark.Sign.{Sign}
@@ -15,13 +16,9 @@ abbrev pub Tokens : List Word → Type 0
 Tokens [] = Unit {0}
 Tokens (w ∷ ws) = IsTrue (is_token w) × Tokens ws
 
-pub both_true : (a b : Bool) → (a && b) ≡ true → (a ≡ true) × (b ≡ true)
-both_true true b h = (refl, h)
-both_true false b h = absurd cc
-
 pub tokens_from : (ws : List Word) → IsTrue (are_tokens ws) → Tokens ws
 tokens_from [] h = tt
-tokens_from (w ∷ ws) h = let e = both_true (is_token w) (are_tokens ws) h in (e.0, tokens_from ws e.1)
+tokens_from (w ∷ ws) h = let e = and_parts (is_token w) (are_tokens ws) h in (e.0, tokens_from ws e.1)
 
 -- ---- expressions
 
@@ -45,13 +42,11 @@ Well (Not e) = Well e
 
 well_joined : (j : Joint) (a b : Term) → Well a → Well b → Well (joined j a b)
 well_joined (joint.Dual op) a b p q = (p, q)
-well_joined joint.Both a b p q = (p, q)
-well_joined joint.Either a b p q = (p, q)
+well_joined other a b p q = (p, q)
 
 well_signed : (s : Sign) (e : Term) → Well e → Well (signed s e)
 well_signed sign.Minus e p = p
-well_signed sign.Flip e p = p
-well_signed sign.Not e p = p
+well_signed other e p = p
 
 well_negative : (n : ℕ) → IsTrue (nat_lt n (2 ^ 127)) → Well (Literal (neg_ℤ (pos n)))
 well_negative zero p = p
