@@ -42,21 +42,15 @@ small-bytes (suc k) x (suc t) small l = ap (λ n. get_or (bytes_of k n) t 0) (le
 -- where a byte stands among elements
 lane-in : (w : Width) (j : ℕ) → j < 32 → j / width_bytes w < block_lanes w
 lane-in B j l = omega (arith, div-one j)
-lane-in H j l = omega arith
-lane-in S j l = omega arith
-lane-in D j l = omega arith
+lane-in other j l = omega arith
 
 rest-in : (w : Width) (j : ℕ) → j % width_bytes w < width_bytes w
 rest-in B j = omega (arith, mod-one j)
-rest-in H j = omega arith
-rest-in S j = omega arith
-rest-in D j = omega arith
+rest-in other j = omega arith
 
 whole-place : (w : Width) (j : ℕ) → width_bytes w * (j / width_bytes w) + j % width_bytes w ≡ j
 whole-place B j = omega (arith, div-one j, mod-one j)
-whole-place H j = omega arith
-whole-place S j = omega arith
-whole-place D j = omega arith
+whole-place other j = omega arith
 
 byte-of-elements : (w : Width) (f : ℕ → ℕ) (j : ℕ) → j < 32 → f (j / width_bytes w) < 256 → get_or (elements (width_bytes w) f (block_lanes w)) j 0 ≡ cond (starts (width_bytes w) j) (f (j / width_bytes w)) 0
 byte-of-elements w f j l small =
@@ -178,9 +172,7 @@ starts-block D i j = ap (λ r. eqb r 0) (let same : (32 * i + j) % 8 ≡ j % 8 =
 
 lane-block : (w : Width) (i j : ℕ) → (32 * i + j) / width_bytes w ≡ block_lanes w * i + j / width_bytes w
 lane-block B i j = omega (arith, div-one (32 * i + j), div-one j)
-lane-block H i j = omega arith
-lane-block S i j = omega arith
-lane-block D i j = omega arith
+lane-block other i j = omega arith
 
 regroup : (s b l h : Bool) → (s && (b && l) && h) ≡ (s && l && (b && h))
 regroup true true true h = refl

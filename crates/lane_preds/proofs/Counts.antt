@@ -6,7 +6,7 @@ use Rattle.std.proofs.lemmas.List.{get_or-map, length-map}
 use Rattle.std.proofs.lemmas.Simd.{ones-mask_l, sum_bound, Each1-from_get_or}
 use lib.Lanes.{zip2, sum_l, Each1}
 use Rattle.guest_types.specs.declared.length.Width.{Width}
-use Rattle.guest_types.specs.declared.length.Width.TheVariants.{B, H, S, D}
+use Rattle.guest_types.specs.declared.length.Width.TheVariants.{B}
 use Rattle.guest_types.specs.Length.{width_bytes, all_lanes}
 use Rattle.guest_types.specs.Elements.{bit, active, element_bit, predicate}
 use Rattle.guest_types.specs.Lanes.{folded, plus, count_at, count_of, all_at}
@@ -39,18 +39,13 @@ module _ (w : Width) (g : ℕ → Bool) (n : ℕ) where
   number : ℕ → ℕ
   number j = cond (element_bit (width_bytes w) g n j) 1 0
 
-  lane-number : ℕ → ℕ
-  lane-number e = cond (g e) 1 0
-
   -- the bits of the first m elements
   fold-lanes : (m : ℕ) → m ≤ n → folded plus 0 (λ j. cond (element_bit (width_bytes w) g n j) 1 0) (width_bytes w * m) ≡ folded plus 0 (λ e. cond (g e) 1 0) m
   fold-lanes zero l = ap (folded plus 0 (λ j. cond (element_bit (width_bytes w) g n j) 1 0)) (nothing w) ∙ folded-none plus 0 (λ j. cond (element_bit (width_bytes w) g n j) 1 0) ∙ sym (folded-none plus 0 (λ e. cond (g e) 1 0))
     where
       nothing : (w : Width) → width_bytes w * 0 ≡ 0
       nothing B = refl
-      nothing H = refl
-      nothing S = refl
-      nothing D = refl
+      nothing other = refl
   fold-lanes (suc m) l =
       let f : ℕ → ℕ = λ j. cond (element_bit (width_bytes w) g n j) 1 0 in
       let next : suc m ≡ m + 1 = omega arith in
@@ -62,15 +57,11 @@ module _ (w : Width) (g : ℕ → Bool) (n : ℕ) where
     where
       wider : (w : Width) (m : ℕ) → width_bytes w * suc m ≡ width_bytes w * m + 1 + (width_bytes w - 1)
       wider B m = omega arith
-      wider H m = omega arith
-      wider S m = omega arith
-      wider D m = omega arith
+      wider other m = omega arith
 
       between : (w : Width) (m e j : ℕ) → width_bytes w * m + 1 ≤ j → j < width_bytes w * m + 1 + (width_bytes w - 1) → width_bytes w * e ≡ j → ⊥
       between B m e j a b same = omega arith
-      between H m e j a b same = omega arith
-      between S m e j a b same = omega arith
-      between D m e j a b same = omega arith
+      between other m e j a b same = omega arith
 
   pub fold-elements : n ≤ all_lanes w → folded plus 0 (λ j. cond (element_bit (width_bytes w) g n j) 1 0) 256 ≡ folded plus 0 (λ e. cond (g e) 1 0) n
   fold-elements fits =
@@ -83,15 +74,11 @@ module _ (w : Width) (g : ℕ → Bool) (n : ℕ) where
     where
       under : (w : Width) (n : ℕ) → n ≤ all_lanes w → width_bytes w * n ≤ 256
       under B n l = omega arith
-      under H n l = omega arith
-      under S n l = omega arith
-      under D n l = omega arith
+      under other n l = omega arith
 
       past : (w : Width) (e n j : ℕ) → e < n → width_bytes w * n ≤ j → width_bytes w * e ≡ j → ⊥
       past B e n j u a same = omega arith
-      past H e n j u a same = omega arith
-      past S e n j u a same = omega arith
-      past D e n j u a same = omega arith
+      past other e n j u a same = omega arith
 
 -- the elements that are true in both predicates
 pub count-is : (w : Width) (n : ℕ) (pg p s x y : List ℕ) → n ≤ all_lanes w → s ≡ predicate (width_bytes w) all_at n → IsBits (bit pg) x → IsBits (bit p) y → bit_count (zip2 bit_and s (zip2 bit_and x y)) ≡ count_of w n pg p
@@ -108,9 +95,7 @@ count-is w n pg p s x y fits is hx hy =
   where
     low : (w : Width) (e n : ℕ) → e < n → n ≤ all_lanes w → width_bytes w * e < 256
     low B e n l f = omega arith
-    low H e n l f = omega arith
-    low S e n l f = omega arith
-    low D e n l f = omega arith
+    low other e n l f = omega arith
 
 -- ---- the bits of a byte
 

@@ -6,7 +6,7 @@ use Rattle.std.proofs.Math.Nat.{mul-mod_right, mul-div_cancel_left}
 use lib.Lanes.{zip2}
 use mir.Val.{bool_byte}
 use Rattle.guest_types.specs.declared.length.Width.{Width}
-use Rattle.guest_types.specs.declared.length.Width.TheVariants.{B, H, S, D}
+use Rattle.guest_types.specs.declared.length.Width.TheVariants.{B}
 use Rattle.guest_types.specs.Length.{width_bytes, all_lanes}
 use Rattle.guest_types.specs.Elements.{bit, active, element_bit, predicate, first_true, last_true, true_at, both, pred_test, nzcv}
 use Rattle.guest_types.specs.Lanes.{all_at, while_at}
@@ -14,7 +14,7 @@ use Rattle.guest_types.proofs.Widths.{some-bytes, whole-register, lane-inside}
 use Rattle.lane_blocks.proofs.Bits.{IsBits, bits-same, bits-and, bits-made}
 use Rattle.lane_preds.specs.Bits.{starts, first_set, last_set}
 use Rattle.lane_preds.proofs.Places.{FirstOf, Nowhere, First, first-of, LastOf, Never, Last, last-of, first-is, first-nowhere, last-is, last-never}
-use Rattle.lane_preds.proofs.Patterns.{lane-of, below-lanes}
+use Rattle.lane_preds.proofs.Patterns.{lane-of, below-lanes, and-assoc}
 
 -- the bits of the elements that are true
 pub elements-of-mask : (w : Width) (n : ℕ) (g : ℕ → Bool) (p s x : List ℕ) → ((e : ℕ) → bit p (width_bytes w * e) ≡ g e) → s ≡ predicate (width_bytes w) all_at n → IsBits (bit p) x → IsBits (element_bit (width_bytes w) g n) (zip2 bit_and s x)
@@ -80,9 +80,7 @@ module _ (w : Width) (g : ℕ → Bool) (n : ℕ) (x : List ℕ) (fits : n ≤ a
     where
       scaled : (w : Width) (e f : ℕ) → width_bytes w * e < width_bytes w * f → e < f
       scaled B e f l = omega arith
-      scaled H e f l = omega arith
-      scaled S e f l = omega arith
-      scaled D e f l = omega arith
+      scaled other e f l = omega arith
 
   pub first-element : first_set x ≡ option_map (bit_place w) (first_true g n 0)
   unfolding first_set
@@ -96,9 +94,7 @@ module _ (w : Width) (g : ℕ → Bool) (n : ℕ) (x : List ℕ) (fits : n ≤ a
     where
       scaled : (w : Width) (e f : ℕ) → width_bytes w * e < width_bytes w * f → e < f
       scaled B e f l = omega arith
-      scaled H e f l = omega arith
-      scaled S e f l = omega arith
-      scaled D e f l = omega arith
+      scaled other e f l = omega arith
 
   pub last-element : last_set x ≡ option_map (bit_place w) (last_true g n)
   unfolding last_set
@@ -122,10 +118,6 @@ flag-number false true true = refl
 flag-number false true false = refl
 flag-number false false true = refl
 flag-number false false false = refl
-
-and-inside : (t a b : Bool) → ((t && a) && b) ≡ (t && (a && b))
-and-inside true a b = refl
-and-inside false a b = refl
 
 -- the number of the flags, from what the code finds of a mask and an outcome
 pub flags-are : (w : Width) (n : ℕ) (mask outcome s x y : List ℕ) (a b : Bool) (o : Option ℕ) → n ≤ all_lanes w → s ≡ predicate (width_bytes w) all_at n → IsBits (bit mask) x → IsBits (bit outcome) y
@@ -151,7 +143,7 @@ flags-are w n mask outcome s x y a b o fits is hx hy is_a is_b is_o =
     go g t true j on =
         let k = width_bytes w in
         ap (λ b. element_bit k g n j && b) (ap (bit outcome) (lane-of w j on))
-        ∙ and-inside (starts k j && ltb j (k * n)) (g (j / k)) (active w outcome (j / k))
+        ∙ and-assoc (starts k j && ltb j (k * n)) (g (j / k)) (active w outcome (j / k))
     go g t false j off =
         let none : (starts (width_bytes w) j && ltb j (width_bytes w * n)) ≡ false = and_left _ _ off in
         and_left _ _ (and_left _ _ none) ∙ sym (and_left _ _ none)

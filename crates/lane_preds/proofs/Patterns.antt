@@ -2,7 +2,7 @@
 use Rattle.std.proofs.Common.{◌≡◌, ℕ, zero, suc, ◌+◌, ◌-◌, ◌*◌, ◌/◌, ◌%◌, ◌<◌, ◌≤◌, List, Bool, true, false, not, cond, eqb, ltb, ◌&&◌, ◌||◌, min, length, get_or, map, replicate, bit_and, bit_or, bit_xor, refl, sym, ap, ap₂, ◌∙◌, subst, arith, inl, inr, w8}
 use Rattle.std.specs.Prelude.{Option, Some, None}
 use Rattle.std.specs.Int.{bit_at, bit_not}
-use Rattle.std.proofs.lemmas.Bool.{cases_lt, cases_eq, eqb-true, lt-ltb, le-ltb, and_left, and_right, or_right}
+use Rattle.std.proofs.lemmas.Bool.{cases_lt, cases_eq, eqb-true, lt-ltb, le-ltb, and_left, and_right, or_right, agree_below_at}
 use Rattle.std.proofs.Math.Nat.{mod-one, div-one}
 use mir.Val.{bool_byte}
 use lib.Lanes.{zip2}
@@ -32,61 +32,15 @@ start_byte H = 85
 start_byte S = 17
 start_byte D = 1
 
-start_bit_B : (t : ℕ) → t < 8 → eqb (bit_at (start_byte B) t) 1 ≡ eqb (t % 1) 0
-start_bit_B zero l = refl
-start_bit_B (suc zero) l = refl
-start_bit_B (suc (suc zero)) l = refl
-start_bit_B (suc (suc (suc zero))) l = refl
-start_bit_B (suc (suc (suc (suc zero)))) l = refl
-start_bit_B (suc (suc (suc (suc (suc zero))))) l = refl
-start_bit_B (suc (suc (suc (suc (suc (suc zero)))))) l = refl
-start_bit_B (suc (suc (suc (suc (suc (suc (suc zero))))))) l = refl
-start_bit_B (suc (suc (suc (suc (suc (suc (suc (suc t)))))))) l = absurd (omega arith)
-
-start_bit_H : (t : ℕ) → t < 8 → eqb (bit_at (start_byte H) t) 1 ≡ eqb (t % 2) 0
-start_bit_H zero l = refl
-start_bit_H (suc zero) l = refl
-start_bit_H (suc (suc zero)) l = refl
-start_bit_H (suc (suc (suc zero))) l = refl
-start_bit_H (suc (suc (suc (suc zero)))) l = refl
-start_bit_H (suc (suc (suc (suc (suc zero))))) l = refl
-start_bit_H (suc (suc (suc (suc (suc (suc zero)))))) l = refl
-start_bit_H (suc (suc (suc (suc (suc (suc (suc zero))))))) l = refl
-start_bit_H (suc (suc (suc (suc (suc (suc (suc (suc t)))))))) l = absurd (omega arith)
-
-start_bit_S : (t : ℕ) → t < 8 → eqb (bit_at (start_byte S) t) 1 ≡ eqb (t % 4) 0
-start_bit_S zero l = refl
-start_bit_S (suc zero) l = refl
-start_bit_S (suc (suc zero)) l = refl
-start_bit_S (suc (suc (suc zero))) l = refl
-start_bit_S (suc (suc (suc (suc zero)))) l = refl
-start_bit_S (suc (suc (suc (suc (suc zero))))) l = refl
-start_bit_S (suc (suc (suc (suc (suc (suc zero)))))) l = refl
-start_bit_S (suc (suc (suc (suc (suc (suc (suc zero))))))) l = refl
-start_bit_S (suc (suc (suc (suc (suc (suc (suc (suc t)))))))) l = absurd (omega arith)
-
-start_bit_D : (t : ℕ) → t < 8 → eqb (bit_at (start_byte D) t) 1 ≡ eqb (t % 8) 0
-start_bit_D zero l = refl
-start_bit_D (suc zero) l = refl
-start_bit_D (suc (suc zero)) l = refl
-start_bit_D (suc (suc (suc zero))) l = refl
-start_bit_D (suc (suc (suc (suc zero)))) l = refl
-start_bit_D (suc (suc (suc (suc (suc zero))))) l = refl
-start_bit_D (suc (suc (suc (suc (suc (suc zero)))))) l = refl
-start_bit_D (suc (suc (suc (suc (suc (suc (suc zero))))))) l = refl
-start_bit_D (suc (suc (suc (suc (suc (suc (suc (suc t)))))))) l = absurd (omega arith)
-
 start-bit : (w : Width) (i t : ℕ) → t < 8 → eqb (bit_at (start_byte w) t) 1 ≡ starts (width_bytes w) (8 * i + t)
-start-bit B i t l = start_bit_B t l ∙ ap (λ r. eqb r 0) (mod-one t ∙ sym (mod-one (8 * i + t)))
-start-bit H i t l = start_bit_H t l ∙ ap (λ r. eqb r 0) (let same : t % 2 ≡ (8 * i + t) % 2 = omega arith in same)
-start-bit S i t l = start_bit_S t l ∙ ap (λ r. eqb r 0) (let same : t % 4 ≡ (8 * i + t) % 4 = omega arith in same)
-start-bit D i t l = start_bit_D t l ∙ ap (λ r. eqb r 0) (let same : t % 8 ≡ (8 * i + t) % 8 = omega arith in same)
+start-bit B i t l = agree_below_at (λ t. eqb (bit_at (start_byte B) t) 1) (λ t. eqb (t % 1) 0) 8 t refl l ∙ ap (λ r. eqb r 0) (mod-one t ∙ sym (mod-one (8 * i + t)))
+start-bit H i t l = agree_below_at (λ t. eqb (bit_at (start_byte H) t) 1) (λ t. eqb (t % 2) 0) 8 t refl l ∙ ap (λ r. eqb r 0) (let same : t % 2 ≡ (8 * i + t) % 2 = omega arith in same)
+start-bit S i t l = agree_below_at (λ t. eqb (bit_at (start_byte S) t) 1) (λ t. eqb (t % 4) 0) 8 t refl l ∙ ap (λ r. eqb r 0) (let same : t % 4 ≡ (8 * i + t) % 4 = omega arith in same)
+start-bit D i t l = agree_below_at (λ t. eqb (bit_at (start_byte D) t) 1) (λ t. eqb (t % 8) 0) 8 t refl l ∙ ap (λ r. eqb r 0) (let same : t % 8 ≡ (8 * i + t) % 8 = omega arith in same)
 
 start-small : (w : Width) → start_byte w < 256
 start-small B = omega arith
-start-small H = omega arith
-start-small S = omega arith
-start-small D = omega arith
+start-small other = omega arith
 
 pub starts-is : (w : Width) → replicate 32 (start_byte w) ≡ bits_of (starts (width_bytes w)) 32
 starts-is w = bits-lanes (starts (width_bytes w)) (lanes-splat 32 (start_byte w)) (λ i. start-small w) (start-bit w)
@@ -118,15 +72,11 @@ below-lanes w e n =
   where
     scaled : (w : Width) (e n : ℕ) → e < n → width_bytes w * e < width_bytes w * n
     scaled B e n l = omega arith
-    scaled H e n l = omega arith
-    scaled S e n l = omega arith
-    scaled D e n l = omega arith
+    scaled other e n l = omega arith
 
     scaled_le : (w : Width) (e n : ℕ) → e ≤ n → width_bytes w * e ≤ width_bytes w * n
     scaled_le B e n l = omega arith
-    scaled_le H e n l = omega arith
-    scaled_le S e n l = omega arith
-    scaled_le D e n l = omega arith
+    scaled_le other e n l = omega arith
 
 pub and-assoc : (a b c : Bool) → ((a && b) && c) ≡ (a && (b && c))
 and-assoc true b c = refl

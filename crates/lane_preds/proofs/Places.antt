@@ -125,9 +125,6 @@ nonzero-false b e = go (eqb b 0) refl e
     go false f h = cc
 
 module _ (x : List ℕ) (long : length x ≡ 32) where
-  tests : List Bool
-  tests = map is_nonzero x
-
   nonzero-below : nonzero_bytes x < 2 ^ 32
   nonzero-below = subst (λ n. mask_l (map is_nonzero x) < 2 ^ n) (length-map x is_nonzero ∙ long) (mask_l-lt (map is_nonzero x))
 
