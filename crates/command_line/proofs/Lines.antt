@@ -15,7 +15,7 @@ use Rattle.command_line.specs.declared.place.OptionName.TheVariants.{Vl, Steps, 
 use Rattle.command_line.specs.declared.place.Place.{Place}
 use Rattle.command_line.specs.declared.place.Place.TheVariants as place
 use Rattle.clap.specs.Walk.{nothing_held}
-use Rattle.command_line.proofs.Splits.{text_given, positional_words}
+use Rattle.command_line.proofs.Splits.{text_given, positional_words, or_none}
 use Rattle.command_line.proofs.Opens.{next_alone, next_joined, gives-end, gives-plain, gives-alone, gives-joined}
 use Rattle.command_line.proofs.Sorts.{Sorted, ends, plain, alone, joined, other, sorted, word_of, name_is, joined_is, same_bytes, unwrapped}
 
@@ -52,17 +52,9 @@ reads o g =
     (keep number_of o.steps g.steps))
     (keep number_of o.vl g.vl)
 
-reads_all : (g : Given) → reads no_options g ≡ options_in g
-unfolding reads options_in
-reads_all g = refl
-
 kept_none : {A : Type 0} (spelt : List ℕ → Option A) (x : Option A) → keep spelt x None ≡ Some x
 kept_none spelt None = refl
 kept_none spelt (Some x) = refl
-
-or_none : {A : Type 0} (o : Option A) → option_or o None ≡ o
-or_none None = refl
-or_none (Some x) = refl
 
 reads_none : (o : Options) (g : Given) → g.vl ≡ None → g.steps ≡ None → g.map ≡ None → g.dump ≡ None → g.suppress ≡ None → reads o g ≡ Some o
 unfolding reads
@@ -124,38 +116,23 @@ same _ _ = false
 
 has_vl : (m : OptionName) (o : Options) (k : ℕ) → has m (record o { vl = Some k }) ≡ (if same Vl m then true else has m o)
 has_vl Vl o k = refl
-has_vl Steps o k = refl
-has_vl Map o k = refl
-has_vl Dump o k = refl
-has_vl Suppress o k = refl
+has_vl also o k = refl
 
 has_steps : (m : OptionName) (o : Options) (k : ℕ) → has m (record o { steps = Some k }) ≡ (if same Steps m then true else has m o)
 has_steps Vl o k = refl
-has_steps Steps o k = refl
-has_steps Map o k = refl
-has_steps Dump o k = refl
-has_steps Suppress o k = refl
+has_steps also o k = refl
 
 has_map : (m : OptionName) (o : Options) (k : List ℕ) → has m (record o { map = Some k }) ≡ (if same Map m then true else has m o)
 has_map Vl o k = refl
-has_map Steps o k = refl
-has_map Map o k = refl
-has_map Dump o k = refl
-has_map Suppress o k = refl
+has_map also o k = refl
 
 has_dump : (m : OptionName) (o : Options) (k : Extent) → has m (record o { dump = Some k }) ≡ (if same Dump m then true else has m o)
 has_dump Vl o k = refl
-has_dump Steps o k = refl
-has_dump Map o k = refl
-has_dump Dump o k = refl
-has_dump Suppress o k = refl
+has_dump also o k = refl
 
 has_suppress : (m : OptionName) (o : Options) (k : ℕ) → has m (record o { suppress = Some k }) ≡ (if same Suppress m then true else has m o)
 has_suppress Vl o k = refl
-has_suppress Steps o k = refl
-has_suppress Map o k = refl
-has_suppress Dump o k = refl
-has_suppress Suppress o k = refl
+has_suppress also o k = refl
 
 taken_has : {A : Type 0} (m n : OptionName) (o p : Options) (f : A → Options) (x : Option A) → ((k : A) → has m (f k) ≡ (if same n m then true else has m o)) → option_map f x ≡ Some p
     → has m p ≡ (if same n m then true else has m o)
@@ -175,37 +152,15 @@ has_after Suppress m o p v e = taken_has m Suppress o p (λ k. record o { suppre
 again : (n : OptionName) (o : Options) (v : List ℕ) → has n o ≡ true → with_name n o v ≡ None
 unfolding with_vl with_steps with_map with_dump with_suppress
 again Vl o v h = rw h refl
-again Steps o v h = rw h refl
-again Map o v h = rw h refl
-again Dump o v h = rw h refl
-again Suppress o v h = rw h refl
+again also o v h = rw h refl
 
 allows_after : (left : Allowed) (n m : OptionName) → allows (without left n) m ≡ (if same n m then false else allows left m)
 allows_after left Vl Vl = refl
-allows_after left Vl Steps = refl
-allows_after left Vl Map = refl
-allows_after left Vl Dump = refl
-allows_after left Vl Suppress = refl
 allows_after left Steps Vl = refl
-allows_after left Steps Steps = refl
-allows_after left Steps Map = refl
-allows_after left Steps Dump = refl
-allows_after left Steps Suppress = refl
 allows_after left Map Vl = refl
-allows_after left Map Steps = refl
-allows_after left Map Map = refl
-allows_after left Map Dump = refl
-allows_after left Map Suppress = refl
 allows_after left Dump Vl = refl
-allows_after left Dump Steps = refl
-allows_after left Dump Map = refl
-allows_after left Dump Dump = refl
-allows_after left Dump Suppress = refl
 allows_after left Suppress Vl = refl
-allows_after left Suppress Steps = refl
-allows_after left Suppress Map = refl
-allows_after left Suppress Dump = refl
-allows_after left Suppress Suppress = refl
+allows_after left n m = refl
 
 abbrev unit : Bool → ℕ
 unit b = if b then 1 else 0
@@ -229,10 +184,7 @@ taking n o p = option_map (λ k. (k, p.1)) (with_name n o p.0)
 alone_at : (n : OptionName) (o : Options) (words : Words) → option_at o (word_of n ∷ words) ≡ given (value_following words) (taking n o) (Some (o, word_of n ∷ words))
 unfolding option_at value_at parted
 alone_at Vl o words = refl
-alone_at Steps o words = refl
-alone_at Map o words = refl
-alone_at Dump o words = refl
-alone_at Suppress o words = refl
+alone_at also o words = refl
 
 parted_is : (n : OptionName) (v : List ℕ) → parted 61 (word_of n ++ (61 ∷ v)) ≡ Some (word_of n, v)
 unfolding parted
@@ -252,10 +204,7 @@ joined_at Suppress v o words f = rw (parted_is Suppress v, f) refl
 
 name_is_own : (m : OptionName) → name_of (word_of m) ≡ Some m
 name_is_own Vl = refl
-name_is_own Steps = refl
-name_is_own Map = refl
-name_is_own Dump = refl
-name_is_own Suppress = refl
+name_is_own also = refl
 
 not_named : (n : OptionName) (word : List ℕ) → name_of word ≡ None → bytes_eq word (word_of n) ≡ false
 not_named n word e = go (bytes_eq word (word_of n)) refl
@@ -302,10 +251,7 @@ end_names word t = rw (same_bytes word (codes "--") t) (refl, refl)
 
 not_plain : (n : OptionName) (rest : List ℕ) → is_plain (word_of n ++ rest) ≡ false
 not_plain Vl rest = refl
-not_plain Steps rest = refl
-not_plain Map rest = refl
-not_plain Dump rest = refl
-not_plain Suppress rest = refl
+not_plain also rest = refl
 
 pub plain_names : (word : List ℕ) → is_plain word ≡ true → (name_of word ≡ None) × (joined_of word ≡ None)
 plain_names word p = (by_name (name_of word) refl, by_joined (joined_of word) refl)
@@ -546,10 +492,7 @@ module _ (F : Options → Words → Option Line) where
             where
               same_name : (m : OptionName) → same m m ≡ true
               same_name Vl = refl
-              same_name Steps = refl
-              same_name Map = refl
-              same_name Dump = refl
-              same_name Suppress = refl
+              same_name also = refl
 
           go : (w : Option Options) → with_name n o v ≡ w → option_and_then (λ p. chain k p.0 p.1) (option_map {U = Options × Words} (λ q. (q, rest)) w) ≡ None
           go None w = refl
@@ -563,10 +506,7 @@ module _ (F : Options → Words → Option Line) where
         where
           words_same : (m : OptionName) (x : List ℕ) (y : Given) → (with_value m x y).words ≡ y.words
           words_same Vl x y = refl
-          words_same Steps x y = refl
-          words_same Map x y = refl
-          words_same Dump x y = refl
-          words_same Suppress x y = refl
+          words_same also x y = refl
 
       chain_go : (k : ℕ) → Fits left o (suc k) → allows left n ≡ true → (w : Option Options) → with_name n o v ≡ w
           → option_and_then (λ p. chain k p.0 p.1) (option_map {U = Options × Words} (λ q. (q, rest)) w) ≡ option_and_then (λ p. line p (given_from (place.Options (without left n)) rest)) w
@@ -697,10 +637,7 @@ module _ (F : Options → Words → Option Line) where
 
       unset_go : (n : OptionName) → has n no_options ≡ false
       unset_go Vl = refl
-      unset_go Steps = refl
-      unset_go Map = refl
-      unset_go Dump = refl
-      unset_go Suppress = refl
+      unset_go also = refl
 
       fits : Fits a no_options 5
       fits = record { count = room_go a.vl a.steps a.map a.dump a.suppress; unset = λ n e. unset_go n; closed = λ n e. inr (c n e) }
@@ -732,10 +669,7 @@ run_is words = lines run_with run_allows words closed
   where
     closed : (n : OptionName) → allows run_allows n ≡ false → (o : Options) (ws : Words) → has n o ≡ true → run_with o ws ≡ None
     closed Vl e = absurd (true≢false e)
-    closed Steps e = absurd (true≢false e)
-    closed Map e = absurd (true≢false e)
-    closed Dump e = absurd (true≢false e)
-    closed Suppress e = absurd (true≢false e)
+    closed also e = absurd (true≢false e)
 
 no_choice : (b : Bool) → ◌≡◌ {A = Option Line} (if b then None else None) None
 no_choice true = refl
@@ -747,10 +681,8 @@ eval_is words = lines eval_with eval_allows words closed
   where
     closed : (n : OptionName) → allows eval_allows n ≡ false → (o : Options) (ws : Words) → has n o ≡ true → eval_with o ws ≡ None
     closed Vl e = λ o ws h. rw h refl
-    closed Steps e = absurd (true≢false e)
-    closed Map e = absurd (true≢false e)
-    closed Dump e = absurd (true≢false e)
     closed Suppress e = λ o ws h. rw h (no_choice (is_some o.vl))
+    closed also e = absurd (true≢false e)
 
 pub debug_is : (words : Words) → debug_of words ≡ line_by debug_with (given_of debug_allows words)
 unfolding debug_of debug_with
@@ -772,11 +704,8 @@ unfolding pipe_of pipe_with
 pipe_is words = lines pipe_with pipe_allows words closed
   where
     closed : (n : OptionName) → allows pipe_allows n ≡ false → (o : Options) (ws : Words) → has n o ≡ true → pipe_with o ws ≡ None
-    closed Vl e = absurd (true≢false e)
-    closed Steps e = absurd (true≢false e)
-    closed Map e = absurd (true≢false e)
-    closed Dump e = absurd (true≢false e)
     closed Suppress e = λ o ws h. rw h refl
+    closed also e = absurd (true≢false e)
 
 -- the positional words of a command that has no options
 pub words_alone : (words : Words) → positional words ≡ option_map (λ (g : Given). g.words) (given_of no_allows words)
@@ -790,10 +719,7 @@ words_alone (word ∷ words) = by_sort (sorted word)
 
     no_allowed : (n : OptionName) → allows no_allows n ≡ false
     no_allowed Vl = refl
-    no_allowed Steps = refl
-    no_allowed Map = refl
-    no_allowed Dump = refl
-    no_allowed Suppress = refl
+    no_allowed also = refl
 
     nothing_here : is_end word ≡ false → is_plain word ≡ false → given_from (place.Options no_allows) (word ∷ words) ≡ None
         → positional (word ∷ words) ≡ option_map (λ (g : Given). g.words) (given_of no_allows (word ∷ words))

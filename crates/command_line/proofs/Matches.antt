@@ -3,7 +3,7 @@ use Rattle.std.proofs.Common.{refl, sym, ap, ap₂, subst, true≢false, arith, 
 use Rattle.std.specs.Prelude.{option_map, option_and_then, unwrap_or, slice_get, is_some, ◌&&◌, String, string_bytes}
 use Rattle.std.specs.List.{fold, list_all}
 use Rattle.std.specs.Option.{option_map_or}
-use Rattle.std.proofs.lemmas.Bool.{eqb-true}
+use Rattle.std.proofs.lemmas.Bool.{eqb-true, and_from}
 use Rattle.std.proofs.lemmas.List.{length-map}
 use Rattle.clap.specs.Lexer.{usize_max}
 use Rattle.clap.specs.Words.{Row, Rule, Text, App, matches_of, takes, found_of, first_of, all_of, rows_of}
@@ -22,7 +22,7 @@ use Rattle.command_line.specs.declared.place.OptionName.{OptionName}
 use Rattle.command_line.specs.declared.place.OptionName.TheVariants.{Vl, Steps, Map, Dump, Suppress}
 use Rattle.command_line.specs.declared.place.Place.{Place}
 use Rattle.command_line.proofs.Commands.{option_text, rules, app, built_is, simple, words_are, no_defaults, defaults_pass, valid}
-use Rattle.command_line.proofs.Splits.{text_given, option_found, words_found, both_true}
+use Rattle.command_line.proofs.Splits.{text_given, option_found, words_found}
 use Rattle.command_line.proofs.Opens.{Open, Ends, opened}
 
 -- ---- the words that stand are those that give something
@@ -114,8 +114,8 @@ module _ (name : Text) (a : Allowed) (words : Words) (g : Given) (few : length w
 
   -- and the parse fails for want of memory alone
   pub takes_all : takes (command_taking name a) words ≡ true
-  takes_all = both_true _ _ (simple name a) (ap₂ (λ (x : App) (ws : Words). built_takes x nothing_held ws) (built_is name a) (words_are name a words)
+  takes_all = and_from _ _ (simple name a) (ap₂ (λ (x : App) (ws : Words). built_takes x nothing_held ws) (built_is name a) (words_are name a words)
       ∙ leaf_takes (app name a) nothing_held words refl level)
     where
       level : level_passes (app name a).top [] nothing_held words false ≡ true
-      level = both_true _ _ ends.passes (both_true _ _ ends.settles (both_true _ _ (defaults_pass a) (valid name a (finished (rules a) (walk (rules a) [] nothing_held words).held))))
+      level = and_from _ _ ends.passes (and_from _ _ ends.settles (and_from _ _ (defaults_pass a) (valid name a (finished (rules a) (walk (rules a) [] nothing_held words).held))))

@@ -3,7 +3,7 @@ use Rattle.std.proofs.Common.{refl, sym, ap, ap₂, subst, true≢false, arith, 
 use Rattle.std.specs.Prelude.{option_and_then, bytes_eq, nat_le}
 use Rattle.std.specs.List.{fold}
 use Rattle.std.specs.Option.{option_or, option_map_or}
-use Rattle.std.proofs.lemmas.Bool.{le-leb}
+use Rattle.std.proofs.lemmas.Bool.{le-leb, and_from, not-true}
 use Rattle.std.proofs.lemmas.Option.{none-some}
 use Rattle.std.proofs.lemmas.List.Folds.{find-append}
 use Rattle.number_text.specs.Numbers.{given}
@@ -20,38 +20,19 @@ use Rattle.command_line.specs.declared.place.Place.{Place}
 use Rattle.command_line.specs.declared.place.Place.TheVariants as place
 use Rattle.command_line.proofs.Commands.{option_text, option_built, words_built, rules, shape, words_by_id}
 use Rattle.command_line.proofs.Sorts.{Sorted, ends, plain, alone, joined, other, sorted, name_is, joined_is, same_bytes, unwrapped}
-use Rattle.command_line.proofs.Walks.{row, found_in, option_used, words_used, id_is, not_true, waiting_for, alone_step, joined_step, value_step, in_words, trailing_from, end_first, literal_first, plain_first, alone_turns, use_passes-option, joined_turns, value_turns, end_first_turns, literal_first_turns, plain_first_turns}
-use Rattle.command_line.proofs.Splits.{text_given, option_found, words_found, Follows, follows, both_true, or_none, or_assoc, Pushes, no_value, literal_words, positional_words, literal_next}
+use Rattle.command_line.proofs.Walks.{row, found_in, option_used, words_used, id_is, waiting_for, alone_step, joined_step, value_step, in_words, trailing_from, end_first, literal_first, plain_first, alone_turns, use_passes-option, joined_turns, value_turns, end_first_turns, literal_first_turns, plain_first_turns}
+use Rattle.command_line.proofs.Splits.{text_given, option_found, words_found, Follows, follows, or_none, or_assoc, Pushes, no_value, literal_words, positional_words, literal_next}
 
 -- ---- names
 
 -- an option that may still come after this one is another
 free_after : (left : Allowed) (n m : OptionName) → allows (without left n) m ≡ true → (allows left m ≡ true) × (bytes_eq (option_text n) (option_text m) ≡ false)
 free_after left Vl Vl e = absurd (true≢false (sym e))
-free_after left Vl Steps e = (e, refl)
-free_after left Vl Map e = (e, refl)
-free_after left Vl Dump e = (e, refl)
-free_after left Vl Suppress e = (e, refl)
-free_after left Steps Vl e = (e, refl)
 free_after left Steps Steps e = absurd (true≢false (sym e))
-free_after left Steps Map e = (e, refl)
-free_after left Steps Dump e = (e, refl)
-free_after left Steps Suppress e = (e, refl)
-free_after left Map Vl e = (e, refl)
-free_after left Map Steps e = (e, refl)
 free_after left Map Map e = absurd (true≢false (sym e))
-free_after left Map Dump e = (e, refl)
-free_after left Map Suppress e = (e, refl)
-free_after left Dump Vl e = (e, refl)
-free_after left Dump Steps e = (e, refl)
-free_after left Dump Map e = (e, refl)
 free_after left Dump Dump e = absurd (true≢false (sym e))
-free_after left Dump Suppress e = (e, refl)
-free_after left Suppress Vl e = (e, refl)
-free_after left Suppress Steps e = (e, refl)
-free_after left Suppress Map e = (e, refl)
-free_after left Suppress Dump e = (e, refl)
 free_after left Suppress Suppress e = absurd (true≢false (sym e))
+free_after left n m e = (e, refl)
 
 abbrev one : OptionName → Text → List Row
 one n v = row (option_text n) (v ∷ []) ∷ []
@@ -59,58 +40,27 @@ one n v = row (option_text n) (v ∷ []) ∷ []
 -- a value is found under its own name alone
 found_one : (n m : OptionName) (v : Text) (g : Given) → option_or (found_in (option_text m) (one n v)) (option_found m (text_given m g)) ≡ option_found m (text_given m (with_value n v g))
 found_one Vl Vl v g = refl
-found_one Vl Steps v g = refl
-found_one Vl Map v g = refl
-found_one Vl Dump v g = refl
-found_one Vl Suppress v g = refl
 found_one Steps Vl v g = refl
-found_one Steps Steps v g = refl
-found_one Steps Map v g = refl
-found_one Steps Dump v g = refl
-found_one Steps Suppress v g = refl
 found_one Map Vl v g = refl
-found_one Map Steps v g = refl
-found_one Map Map v g = refl
-found_one Map Dump v g = refl
-found_one Map Suppress v g = refl
 found_one Dump Vl v g = refl
-found_one Dump Steps v g = refl
-found_one Dump Map v g = refl
-found_one Dump Dump v g = refl
-found_one Dump Suppress v g = refl
 found_one Suppress Vl v g = refl
-found_one Suppress Steps v g = refl
-found_one Suppress Map v g = refl
-found_one Suppress Dump v g = refl
-found_one Suppress Suppress v g = refl
+found_one n m v g = refl
 
 not_words : (n : OptionName) (v : Text) → found_in (codes "words") (one n v) ≡ None
 not_words Vl v = refl
-not_words Steps v = refl
-not_words Map v = refl
-not_words Dump v = refl
-not_words Suppress v = refl
+not_words also v = refl
 
 words_not : (n : OptionName) (x : Text) (xs : Words) → found_in (option_text n) (row (codes "words") (x ∷ xs) ∷ []) ≡ None
 words_not Vl x xs = refl
-words_not Steps x xs = refl
-words_not Map x xs = refl
-words_not Dump x xs = refl
-words_not Suppress x xs = refl
+words_not also x xs = refl
 
 same_words : (n : OptionName) (v : Text) (g : Given) → (with_value n v g).words ≡ g.words
 same_words Vl v g = refl
-same_words Steps v g = refl
-same_words Map v g = refl
-same_words Dump v g = refl
-same_words Suppress v g = refl
+same_words also v g = refl
 
 not_pending : (n : OptionName) (v : Text) → is_pending words_built (Some (option_text n, v ∷ [])) ≡ false
 not_pending Vl v = refl
-not_pending Steps v = refl
-not_pending Map v = refl
-not_pending Dump v = refl
-not_pending Suppress v = refl
+not_pending also v = refl
 
 -- ---- the walk where options may come
 
@@ -153,7 +103,7 @@ unfolding walk_passes
 ends_step a name rows more w after word words g r step turn e same ws =
     let walk : fold (walked (rules a) []) (walked (rules a) [] w word) words ≡ fold (walked (rules a) []) after words = ap (λ (x : Walk). fold (walked (rules a) []) x words) step in
     record {
-      passes = both_true _ _ turn (ap (λ (x : Walk). walk_passes (shape name a) [] x words) step ∙ e.passes);
+      passes = and_from _ _ turn (ap (λ (x : Walk). walk_passes (shape name a) [] x words) step ∙ e.passes);
       settles = ap (λ (x : Walk). settle_passes (rules a) false x.held) walk ∙ e.settles;
       options = λ n. ap (λ (x : Walk). found_in (option_text n) (settled (rules a) x.held).rows) walk ∙ e.options n ∙ same n;
       words_are = ap (λ (x : Walk). found_in (codes "words") (settled (rules a) x.held).rows) walk ∙ e.words_are ∙ ap words_found ws;
@@ -188,10 +138,7 @@ ends_words a name h w x words r p e few = record {
   where
     value_is : (n : OptionName) → text_given n (with_word x r) ≡ text_given n r
     value_is Vl = refl
-    value_is Steps = refl
-    value_is Map = refl
-    value_is Dump = refl
-    value_is Suppress = refl
+    value_is also = refl
 
     rows_are : (settled (rules a) (record h { pending = Some (codes "words", x ∷ r.words) })).rows ≡ h.rows ++ row (codes "words") (x ∷ r.words) ∷ []
     rows_are = rw (words_by_id a) (words_used x r.words h.rows e)
@@ -288,7 +235,7 @@ module _ (a : Allowed) (name : Text) where
   plain_first_turn : (h : Held) (word : Text) → is_plain word ≡ true → is_pending words_built h.pending ≡ false → settle_passes (rules a) false h ≡ true
       → (walked (rules a) [] (walk_from h) word ≡ in_words a false positional (word ∷ []) (settled (rules a) h)) × (turn_passes (shape name a) [] (walk_from h) word ≡ true)
   plain_first_turn h [] p q s = absurd (true≢false (sym p))
-  plain_first_turn h (b ∷ bs) p q s = (plain_first a h b bs (not_true _ p) q, plain_first_turns a name h b bs (not_true _ p) s)
+  plain_first_turn h (b ∷ bs) p q s = (plain_first a h b bs (not-true _ p) q, plain_first_turns a name h b bs (not-true _ p) s)
 
   options_open : (word : Text) (words : Words) → Opened words → (left : Allowed) (h : Held) (g : Given) → Open a left h → suc (length words) ≤ usize_max
       → given_from (place.Options left) (word ∷ words) ≡ Some g → Ends a name (settled (rules a) h).rows (walk_from h) (word ∷ words) g

@@ -1,10 +1,11 @@
 -- A walk of `clap` over words that may follow a command finds what the words give.
 use Rattle.std.proofs.Common.{refl, sym, ap, true≢false, arith, ◌∙◌, ◌≡◌, suc, ◌≤◌, [], ◌∷◌, ◌++◌, length, Bool, true, false, codes, Option, Some, None, if◌then◌else◌}
-use Rattle.std.specs.Prelude.{option_map, option_and_then, ◌&&◌}
+use Rattle.std.specs.Prelude.{option_map, option_and_then}
 use Rattle.std.specs.List.{fold}
 use Rattle.std.specs.Option.{option_or}
 use Rattle.std.proofs.lemmas.Option.{none-some}
 use Rattle.std.proofs.lemmas.List.{append-nil, append_assoc}
+use Rattle.std.proofs.lemmas.Bool.{and_from, not-true}
 use Rattle.clap.specs.Words.{Row, Text}
 use Rattle.clap.specs.Walk.{Held, Walk, Waiting, walked, positional}
 use Rattle.clap.specs.Takes.{turn_passes, walk_passes}
@@ -17,7 +18,7 @@ use Rattle.command_line.specs.declared.place.Place.{Place}
 use Rattle.command_line.specs.declared.place.Place.TheVariants as place
 use Rattle.command_line.proofs.Commands.{option_text, rules, shape}
 use Rattle.command_line.proofs.Sorts.{same_bytes, unwrapped}
-use Rattle.command_line.proofs.Walks.{row, not_true, in_words, literal_step, plain_step, end_step, literal_turns, plain_turns, end_turns}
+use Rattle.command_line.proofs.Walks.{row, in_words, literal_step, plain_step, end_step, literal_turns, plain_turns, end_turns}
 
 -- ---- what the words give
 
@@ -57,9 +58,6 @@ follows p word words g e = by_place (next p word) refl e
 
 -- ---- booleans and options
 
-pub both_true : (a b : Bool) → a ≡ true → b ≡ true → (a && b) ≡ true
-both_true a b e f = rw (e, f) refl
-
 pub or_none : {A : Type 0} (o : Option A) → option_or o None ≡ o
 or_none None = refl
 or_none (Some x) = refl
@@ -88,17 +86,11 @@ pub record Pushes (a : Allowed) (name : Text) (w : Walk) (words found : Words) (
 
 pub no_value : (n : OptionName) → text_given n nothing ≡ None
 no_value Vl = refl
-no_value Steps = refl
-no_value Map = refl
-no_value Dump = refl
-no_value Suppress = refl
+no_value other = refl
 
 same_value : (n : OptionName) (word : Text) (g : Given) → text_given n (with_word word g) ≡ text_given n g
 same_value Vl word g = refl
-same_value Steps word g = refl
-same_value Map word g = refl
-same_value Dump word g = refl
-same_value Suppress word g = refl
+same_value other word g = refl
 
 module _ (a : Allowed) (name : Text) where
   pushes_none : (w : Walk) (found : Words) (h : Held) (g : Given) → w.held ≡ record h { pending = Some (codes "words", found) } → nothing ≡ g → Pushes a name w [] found h g
@@ -117,7 +109,7 @@ module _ (a : Allowed) (name : Text) where
     held = ap (λ (x : Walk). (fold (walked (rules a) []) x words).held) step ∙ p.held
         ∙ ap (λ (xs : Words). record h { pending = Some (codes "words", xs) }) (append_assoc found (word ∷ []) r.words)
         ∙ ap (λ (x : Given). record h { pending = Some (codes "words", found ++ x.words) }) e;
-    passes = both_true _ _ turn (ap (λ (x : Walk). walk_passes (shape name a) [] x words) step ∙ p.passes);
+    passes = and_from _ _ turn (ap (λ (x : Walk). walk_passes (shape name a) [] x words) step ∙ p.passes);
     none = λ n. ap (text_given n) (sym e) ∙ same_value n word r ∙ p.none n;
     count = let c = p.count in let q : suc (length r.words) ≡ length g.words = ap (λ (x : Given). length x.words) e in omega arith;
   }
@@ -127,7 +119,7 @@ module _ (a : Allowed) (name : Text) where
   unfolding walk_passes
   pushes_end w after word words found h g r step turn p e = record {
     held = ap (λ (x : Walk). (fold (walked (rules a) []) x words).held) step ∙ p.held ∙ ap (λ (x : Given). record h { pending = Some (codes "words", found ++ x.words) }) e;
-    passes = both_true _ _ turn (ap (λ (x : Walk). walk_passes (shape name a) [] x words) step ∙ p.passes);
+    passes = and_from _ _ turn (ap (λ (x : Walk). walk_passes (shape name a) [] x words) step ∙ p.passes);
     none = λ n. ap (text_given n) (sym e) ∙ p.none n;
     count = let c = p.count in let q : length r.words ≡ length g.words = ap (λ (x : Given). length x.words) e in omega arith;
   }
@@ -182,7 +174,7 @@ module _ (a : Allowed) (name : Text) where
       → (walked (rules a) [] (in_words a false positional found h) word ≡ in_words a false positional (found ++ word ∷ []) h)
       × (turn_passes (shape name a) [] (in_words a false positional found h) word ≡ true)
   plain_turn [] found h p = absurd (true≢false (sym p))
-  plain_turn (b ∷ bs) found h p = (plain_step a found h b bs (not_true _ p), plain_turns a name found h b bs (not_true _ p))
+  plain_turn (b ∷ bs) found h p = (plain_step a found h b bs (not-true _ p), plain_turns a name found h b bs (not-true _ p))
 
   end_turn : (word : Text) (found : Words) (h : Held) → word ≡ codes "--"
       → (walked (rules a) [] (in_words a false positional found h) word ≡ in_words a true positional found h)

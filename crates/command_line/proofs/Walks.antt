@@ -1,9 +1,10 @@
 -- What a walk of `clap` over one more word of a command does.
-use Rattle.std.proofs.Common.{refl, sym, ap, true≢false, ◌∙◌, ◌≡◌, ℕ, List, [], ◌∷◌, ◌++◌, Bool, true, false, not, nat_eq, codes, Option, Some, None, if◌then◌else◌}
+use Rattle.std.proofs.Common.{refl, sym, ap, true≢false, ◌∙◌, ◌≡◌, ℕ, List, [], ◌∷◌, ◌++◌, Bool, true, false, nat_eq, codes, Option, Some, None, if◌then◌else◌}
 use Rattle.clap.specs.Lexer.{long_of, short_of, long_of_rest, short_of_rest, strip_byte}
 use Rattle.std.specs.Prelude.{option_and_then, bytes_eq, find, ◌&&◌, ◌||◌}
 use Rattle.std.proofs.lemmas.Option.{none-some}
 use Rattle.std.proofs.lemmas.List.{append-nil}
+use Rattle.std.proofs.lemmas.Bool.{not-true}
 use Rattle.clap.specs.Words.{Row, Rule, Text}
 use Rattle.clap.specs.Walk.{Held, Walk, Waiting, at_row, used, settled, reacted, walked, walk_from, word_met, plain_word, more_values, with_values, idle, option, positional, arg_by_id, arg_by_long, is_pending, has_row}
 use Rattle.clap.specs.Takes.{turn_passes, settle_passes, use_passes}
@@ -64,10 +65,6 @@ id_is n a e = by_id n a ∙ ap (λ b. if b then Some (option_built n) else None)
 
 -- ---- one more word
 
-pub not_true : (b : Bool) → not b ≡ true → b ≡ false
-not_true true e = absurd (true≢false (sym e))
-not_true false e = refl
-
 pub long_none : (b : ℕ) (bs : Text) → nat_eq b 45 ≡ false → long_of (b ∷ bs) ≡ None
 long_none b bs e = ap (λ t. option_and_then long_of_rest (option_and_then (strip_byte 45) (if t then Some bs else None))) e
 
@@ -78,8 +75,7 @@ short_none b bs e = ap (λ t. option_and_then short_of_rest (if t then Some bs e
 pub plain_met : (c : List Rule) (waiting : Waiting) (position b : ℕ) (bs : Text) (h : Held) → nat_eq b 45 ≡ false
     → word_met c [] false waiting position (b ∷ bs) h ≡ plain_word c waiting (b ∷ bs) h
 plain_met c idle position b bs h e = rw (long_none b bs e, short_none b bs e, e) refl
-plain_met c (option id) position b bs h e = rw (long_none b bs e, short_none b bs e, e) refl
-plain_met c positional position b bs h e = rw (long_none b bs e, short_none b bs e, e) refl
+plain_met c other position b bs h e = rw (long_none b bs e, short_none b bs e, e) refl
 
 abbrev pub waiting_for : OptionName → Held → Walk
 waiting_for n h = record (walk_from (record h { pending = Some (option_text n, []) })) { waiting = option (option_text n) }
@@ -106,11 +102,11 @@ module _ (a : Allowed) where
       → walked (rules a) [] (waiting_for n h) v ≡ walk_from (record h { pending = Some (option_text n, v ∷ []) })
   unfolding walked
   value_step n [] h e p = absurd (true≢false (sym p))
-  value_step Vl (b ∷ bs) h e p = rw (plain_met (rules a) (option (codes "vl")) 1 b bs (record h { pending = Some (codes "vl", []) }) (not_true _ p), id_is Vl a e) refl
-  value_step Steps (b ∷ bs) h e p = rw (plain_met (rules a) (option (codes "steps")) 1 b bs (record h { pending = Some (codes "steps", []) }) (not_true _ p), id_is Steps a e) refl
-  value_step Map (b ∷ bs) h e p = rw (plain_met (rules a) (option (codes "map")) 1 b bs (record h { pending = Some (codes "map", []) }) (not_true _ p), id_is Map a e) refl
-  value_step Dump (b ∷ bs) h e p = rw (plain_met (rules a) (option (codes "dump")) 1 b bs (record h { pending = Some (codes "dump", []) }) (not_true _ p), id_is Dump a e) refl
-  value_step Suppress (b ∷ bs) h e p = rw (plain_met (rules a) (option (codes "suppress")) 1 b bs (record h { pending = Some (codes "suppress", []) }) (not_true _ p), id_is Suppress a e) refl
+  value_step Vl (b ∷ bs) h e p = rw (plain_met (rules a) (option (codes "vl")) 1 b bs (record h { pending = Some (codes "vl", []) }) (not-true _ p), id_is Vl a e) refl
+  value_step Steps (b ∷ bs) h e p = rw (plain_met (rules a) (option (codes "steps")) 1 b bs (record h { pending = Some (codes "steps", []) }) (not-true _ p), id_is Steps a e) refl
+  value_step Map (b ∷ bs) h e p = rw (plain_met (rules a) (option (codes "map")) 1 b bs (record h { pending = Some (codes "map", []) }) (not-true _ p), id_is Map a e) refl
+  value_step Dump (b ∷ bs) h e p = rw (plain_met (rules a) (option (codes "dump")) 1 b bs (record h { pending = Some (codes "dump", []) }) (not-true _ p), id_is Dump a e) refl
+  value_step Suppress (b ∷ bs) h e p = rw (plain_met (rules a) (option (codes "suppress")) 1 b bs (record h { pending = Some (codes "suppress", []) }) (not-true _ p), id_is Suppress a e) refl
 
   -- ---- positional words
 
@@ -177,7 +173,7 @@ module _ (a : Allowed) where
   pub value_turns : (name : Text) (n : OptionName) (v : Text) (h : Held) → allows a n ≡ true → is_plain v ≡ true → turns name (waiting_for n h) v ≡ true
   value_turns name n [] h e p = absurd (true≢false (sym p))
   value_turns name n (b ∷ bs) h e p =
-      let q = not_true _ p in
+      let q = not-true _ p in
       rw (plain_met (rules a) (option (option_text n)) 1 b bs (record h { pending = Some (option_text n, []) }) q, long_none b bs q, short_none b bs q, q) refl
 
   pub literal_turns : (name : Text) (waiting : Waiting) (found : List Text) (h : Held) (word : Text) → turns name (in_words true waiting found h) word ≡ true
