@@ -1,9 +1,9 @@
 -- Which operators keep the extended form: done on words of values of a type, they give the word of a value of the type.
-use Rattle.std.proofs.Common.{◌≡◌, ℕ, ◌-◌, ◌/◌, ◌%◌, ◌^◌, ◌<◌, ℤ, pos, negsuc, Bool, true, false, refl, sym, ap, ap₂, ◌∙◌, subst, arith, ltb, bit_and, bit_or, bit_xor, ◌⊎◌, inl, inr, ⊎_elim}
-use Rattle.std.specs.Prelude.{int_lt, not, unsigned_abs}
+use Rattle.std.proofs.Common.{◌≡◌, ℕ, ◌-◌, ◌/◌, ◌%◌, ◌^◌, ◌<◌, ℤ, pos, negsuc, Bool, true, false, sym, ap, ap₂, ◌∙◌, subst, arith, ltb, bit_and, bit_or, bit_xor, ◌⊎◌, inl, inr, ⊎_elim}
+use Rattle.std.specs.Prelude.{int_lt, unsigned_abs}
 use Rattle.std.specs.Int.{w8, w16, w32, w64, cast_signed, int_min, int_max}
 use Rattle.std.specs.Int.Bits.{and_zero_l, and_zero_r, and_self, or_zero_l, or_zero_r, or_self, xor_zero_l, xor_zero_r, xor_self}
-use Rattle.std.proofs.lemmas.Bool.{lt-ltb, le-ltb}
+use Rattle.std.proofs.lemmas.Bool.{lt-ltb, le-ltb, not-false}
 use Rattle.std.proofs.lemmas.Nat.{and_shr, or_shr, xor_shr, and_le_l, or_lt, xor_lt}
 use Rattle.std.proofs.Math.Nat.{mod-eq_of_lt}
 use Rattle.kernel_tree.specs.declared.ops.Ty.{Ty}
@@ -106,10 +106,7 @@ word-uniform ty.I32 r h (inl e) = zeros_32 r h e
 word-uniform ty.I32 r h (inr e) = ones_32 r h e
 word-uniform ty.I64 r h (inl e) = zeros_64 r h e
 word-uniform ty.I64 r h (inr e) = ones_64 r h e
-word-uniform ty.U8 r h e = omega (arith, h, e)
-word-uniform ty.U16 r h e = omega (arith, h, e)
-word-uniform ty.U32 r h e = omega (arith, h, e)
-word-uniform ty.U64 r h e = omega (arith, h, e)
+word-uniform other r h e = omega (arith, h, e)
 
 -- ---- operators
 
@@ -133,22 +130,16 @@ xor-kept t x y h k =
 
 -- an operator that does not leave the extended form has the word of its result at the type
 pub binary-kept : (op : BinaryOp) (t : Ty) (x y : ℤ) → IsOf t x → IsOf t y → binary_leaves op ≡ false → word (wrap t (binary_on op x y)) ≡ word (binary_on op x y)
-binary-kept binary.Add t x y h k e = absurd cc
-binary-kept binary.Sub t x y h k e = absurd cc
-binary-kept binary.Mul t x y h k e = absurd cc
 binary-kept binary.And t x y h k e = and-kept t x y h k
 binary-kept binary.Or t x y h k e = or-kept t x y h k
 binary-kept binary.Xor t x y h k e = xor-kept t x y h k
 binary-kept binary.Min t x y h k e = ap word (wrap-of t (int_min x y) (of-cond t (int_lt y x) y x k h))
 binary-kept binary.Max t x y h k e = ap word (wrap-of t (int_max x y) (of-cond t (int_lt y x) x y h k))
-
-not_false : (b : Bool) → not b ≡ false → b ≡ true
-not_false true e = refl
-not_false false e = absurd cc
+binary-kept other t x y h k e = absurd cc
 
 pub unary-kept : (op : UnaryOp) (t : Ty) (x : ℤ) → IsOf t x → unary_leaves op t ≡ false → word (wrap t (unary_on op x)) ≡ word (unary_on op x)
 unary-kept unary.Neg t x h e = absurd cc
-unary-kept unary.Flip t x h e = ap word (wrap-of t _ (of-flip t x (not_false (is_signed t) e) h))
+unary-kept unary.Flip t x h e = ap word (wrap-of t _ (of-flip t x (not-false (is_signed t) e) h))
 unary-kept unary.Abs t x h e = let same = abs-unsigned t x e h in ap word (wrap-of t (pos (unsigned_abs x)) (subst (IsOf t) (sym same) h))
 
 pub shift-kept : (left : Bool) (c : ℕ) (t : Ty) (x : ℤ) → IsOf t x → shift_leaves left ≡ false → word (wrap t (shift_on left c x)) ≡ word (shift_on left c x)

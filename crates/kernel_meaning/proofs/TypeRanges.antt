@@ -18,40 +18,20 @@ InBits false k (pos n) = n < 2 ^ k
 InBits false k (negsuc n) = ⊥
 
 pub in_bits : (t : Ty) (v : ℤ) → IsOf t v → InBits (is_signed t) (bits_of t) v
-in_bits ty.I8 (pos n) h = let a = h.0 in let b = h.1 in omega (arith, ints)
 in_bits ty.I8 (negsuc n) h = let a = h.0 in let b = h.1 in omega (arith, ints)
-in_bits ty.I16 (pos n) h = let a = h.0 in let b = h.1 in omega (arith, ints)
 in_bits ty.I16 (negsuc n) h = let a = h.0 in let b = h.1 in omega (arith, ints)
-in_bits ty.I32 (pos n) h = let a = h.0 in let b = h.1 in omega (arith, ints)
 in_bits ty.I32 (negsuc n) h = let a = h.0 in let b = h.1 in omega (arith, ints)
-in_bits ty.I64 (pos n) h = let a = h.0 in let b = h.1 in omega (arith, ints)
 in_bits ty.I64 (negsuc n) h = let a = h.0 in let b = h.1 in omega (arith, ints)
-in_bits ty.U8 (pos n) h = let a = h.0 in let b = h.1 in omega (arith, ints)
-in_bits ty.U8 (negsuc n) h = let a = h.0 in absurd (omega (arith, ints))
-in_bits ty.U16 (pos n) h = let a = h.0 in let b = h.1 in omega (arith, ints)
-in_bits ty.U16 (negsuc n) h = let a = h.0 in absurd (omega (arith, ints))
-in_bits ty.U32 (pos n) h = let a = h.0 in let b = h.1 in omega (arith, ints)
-in_bits ty.U32 (negsuc n) h = let a = h.0 in absurd (omega (arith, ints))
-in_bits ty.U64 (pos n) h = let a = h.0 in let b = h.1 in omega (arith, ints)
-in_bits ty.U64 (negsuc n) h = let a = h.0 in absurd (omega (arith, ints))
+in_bits t (negsuc n) h = let a = h.0 in absurd (omega (arith, ints))
+in_bits t v h = let a = h.0 in let b = h.1 in omega (arith, ints)
 
 pub is_of : (t : Ty) (v : ℤ) → InBits (is_signed t) (bits_of t) v → IsOf t v
-is_of ty.I8 (pos n) h = (omega (arith, ints), omega (arith, ints, h))
 is_of ty.I8 (negsuc n) h = (omega (arith, ints, h), omega (arith, ints))
-is_of ty.I16 (pos n) h = (omega (arith, ints), omega (arith, ints, h))
 is_of ty.I16 (negsuc n) h = (omega (arith, ints, h), omega (arith, ints))
-is_of ty.I32 (pos n) h = (omega (arith, ints), omega (arith, ints, h))
 is_of ty.I32 (negsuc n) h = (omega (arith, ints, h), omega (arith, ints))
-is_of ty.I64 (pos n) h = (omega (arith, ints), omega (arith, ints, h))
 is_of ty.I64 (negsuc n) h = (omega (arith, ints, h), omega (arith, ints))
-is_of ty.U8 (pos n) h = (omega (arith, ints), omega (arith, ints, h))
-is_of ty.U8 (negsuc n) h = absurd h
-is_of ty.U16 (pos n) h = (omega (arith, ints), omega (arith, ints, h))
-is_of ty.U16 (negsuc n) h = absurd h
-is_of ty.U32 (pos n) h = (omega (arith, ints), omega (arith, ints, h))
-is_of ty.U32 (negsuc n) h = absurd h
-is_of ty.U64 (pos n) h = (omega (arith, ints), omega (arith, ints, h))
-is_of ty.U64 (negsuc n) h = absurd h
+is_of t (negsuc n) h = absurd h
+is_of t v h = (omega (arith, ints), omega (arith, ints, h))
 
 -- in more bits
 pub widened : (sg : Bool) (k j : ℕ) (v : ℤ) → k ≤ j → InBits sg k v → InBits sg j v

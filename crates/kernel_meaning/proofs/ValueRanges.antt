@@ -26,10 +26,7 @@ IsTyped s T (Operation op a b) = Unit {0}
 IsTyped s T (Shift left e n) = Unit {0}
 IsTyped s T (Conversion e t) = T ≡ t
 IsTyped s T (Choice c a b) = IsTyped s T a × IsTyped s T b
-IsTyped s T (Comparison op a b) = ⊥
-IsTyped s T (Both a b) = ⊥
-IsTyped s T (Either a b) = ⊥
-IsTyped s T (Not e) = ⊥
+IsTyped s T other = ⊥
 
 -- so it has where no rule fails
 pub typed : (e : Term) (s : Scope) (from : ℕ) (T : Ty) → faults s from (Value (Some T)) e ≡ [] → IsTyped s T e
@@ -92,6 +89,4 @@ value_range (Conversion x t) s T m names v is r e = map_range T (λ z. z) (value
 value_range (Choice c x y) s T m names v is r e =
     choose_range T (holds s c m names) (value s (Some T) x m names) (value s (Some T) y m names) v (λ u q. value_range x s T m names u is.0 r q) (λ u q. value_range y s T m names u is.1 r q) e
 value_range (Comparison op x y) s T m names v is r e = absurd is
-value_range (Both x y) s T m names v is r e = absurd is
-value_range (Either x y) s T m names v is r e = absurd is
-value_range (Not x) s T m names v is r e = absurd is
+value_range other s T m names v is r e = absurd is
