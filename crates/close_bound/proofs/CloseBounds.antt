@@ -1,5 +1,5 @@
 -- The close bound is no more than the other one.
-use Rattle.std.proofs.Common.{◌≡◌, ℕ, zero, suc, ◌+◌, ◌*◌, ◌≤◌, Bool, true, false, List, [], ◌∷◌, length, Option, Some, None, ℤ, pos, negsuc, ap, arith, length-append}
+use Rattle.std.proofs.Common.{◌≡◌, ℕ, zero, suc, ◌+◌, ◌*◌, ◌≤◌, Bool, true, false, List, [], ◌∷◌, length, Option, Some, None, ℤ, pos, ap, arith, length-append}
 use Rattle.std.specs.Prelude.{if◌then◌else◌, ◌||◌, filter}
 use Rattle.std.specs.Int.{div_ceil}
 use Rattle.std.proofs.Math.Nat.{mul-le-mul_left, mul-le-mul_right}
@@ -13,8 +13,8 @@ use Rattle.reg_assign.specs.declared.interval.RegClass.TheVariants.{Z}
 use Rattle.loop_form.specs.declared.stream.Stream.{Stream}
 use Rattle.loop_form.specs.declared.reach.Reach.{Reach}
 use Rattle.loop_form.specs.Lanes.{width_of, lane_width_of}
-use Rattle.loop_form.specs.LoopItems.{Op, Load, Gather, Apply, Combine, Move, Cast, Copy, Pick, Store, Add, Test, Invert, Same, Any, Quit, Item, loop_items_of}
-use Rattle.loop_form.specs.Needs.{Throughout, Scalar, Constant, Index, Accumulating, throughout}
+use Rattle.loop_form.specs.LoopItems.{Op, Load, Store, Item, loop_items_of}
+use Rattle.loop_form.specs.Needs.{Throughout, Scalar, throughout}
 use Rattle.loop_form.specs.Reaches.{reaches_of}
 use Rattle.loop_form.specs.Streams.{streams_of, is_of}
 use Rattle.dependence.specs.declared.used.Used.{Used}
@@ -28,42 +28,16 @@ use Rattle.close_bound.proofs.HeldCounts.{few_held}
 
 offset_few : (c : ℤ) → offset_steps c ≤ 1
 offset_few (pos zero) = omega arith
-offset_few (pos (suc c)) = omega arith
-offset_few (negsuc c) = omega arith
+offset_few other = omega arith
 
 pub lane_few : (op : Op) → lane_steps op ≤ 3
 lane_few (Load a base t c) = let k = offset_few c in omega (arith, k)
 lane_few (Store a base t c v) = let k = offset_few c in omega (arith, k)
-lane_few (Gather a base t reach u x) = omega arith
-lane_few (Combine op t x y) = omega arith
-lane_few (Apply op t x) = omega arith
-lane_few (Move left n t x) = omega arith
-lane_few (Cast s t x) = omega arith
-lane_few (Copy t x) = omega arith
-lane_few (Pick t c x y) = omega arith
-lane_few (Add x op t v) = omega arith
-lane_few (Test op t x y) = omega arith
-lane_few (Invert c) = omega arith
-lane_few (Same c) = omega arith
-lane_few (Any c d) = omega arith
-lane_few (Quit c) = omega arith
+lane_few other = omega arith
 
 pub lane_some : (op : Op) → 1 ≤ lane_steps op
 lane_some (Load a base t c) = omega arith
-lane_some (Store a base t c v) = omega arith
-lane_some (Gather a base t reach u x) = omega arith
-lane_some (Combine op t x y) = omega arith
-lane_some (Apply op t x) = omega arith
-lane_some (Move left n t x) = omega arith
-lane_some (Cast s t x) = omega arith
-lane_some (Copy t x) = omega arith
-lane_some (Pick t c x y) = omega arith
-lane_some (Add x op t v) = omega arith
-lane_some (Test op t x y) = omega arith
-lane_some (Invert c) = omega arith
-lane_some (Same c) = omega arith
-lane_some (Any c d) = omega arith
-lane_some (Quit c) = omega arith
+lane_some other = omega arith
 
 pub early_few : (mask : Option ℕ) (op : Op) → early_steps mask op ≤ 6
 early_few None op = let k = lane_few op in omega (arith, k)
@@ -92,9 +66,7 @@ pass_few k = let a = items_few (has_break k) (loop_items_of k) in let b = around
 
 one_held : (t : Throughout) → laid_steps t + joined_steps t ≤ 11
 one_held (Scalar x) = omega arith
-one_held (Constant t n) = omega arith
-one_held Index = omega arith
-one_held (Accumulating x) = omega arith
+one_held other = omega arith
 
 held_few : (ts : List Throughout) → held_steps ts ≤ 11 * length ts
 held_few [] = omega arith
