@@ -3,7 +3,7 @@ use Rattle.std.proofs.Common.{◌≡◌, ℕ, zero, suc, ◌+◌, ◌*◌, ◌%�
 use Rattle.std.proofs.lemmas.Nat.{mul-mod}
 use Rattle.std.proofs.Math.Nat.{mod-mod, add-mod, add-mod-mod, add-mul, add_comm}
 use Rattle.guest_types.specs.declared.length.Width.{Width}
-use Rattle.guest_types.specs.declared.length.Width.TheVariants.{B, H, S, D}
+use Rattle.guest_types.specs.declared.length.Width.TheVariants.{B}
 use Rattle.guest_types.specs.Length.{width_bytes, modulus}
 use Rattle.guest_types.specs.Elements.{elements, bytes_of}
 use Rattle.guest_types.specs.Lanes.{index_at}
@@ -36,9 +36,7 @@ counted_whole m from by e = ap (λ n. n % m) (add_comm (e * by % m) from) ∙ ad
 -- an element counted from the start of block i
 wrapped : (w : Width) (from p q : ℕ) → ((from + p % 2 ^ 64) % 2 ^ 64 + q) % modulus w ≡ (from + (p + q)) % modulus w
 wrapped B from p q = omega arith
-wrapped H from p q = omega arith
-wrapped S from p q = omega arith
-wrapped D from p q = omega arith
+wrapped other from p q = omega arith
 
 pub block-index : (w : Width) (from by i start : ℕ) → start ≡ (from + block_lanes w * i * by % 2 ^ 64) % 2 ^ 64 → index_block_of w start by ≡ elements (width_bytes w) (λ e. index_at from by (block_lanes w * i + e)) (block_lanes w)
 block-index w from by i start is =

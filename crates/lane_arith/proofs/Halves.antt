@@ -34,15 +34,11 @@ part-front i k n x y long fits = sym (chunk-take i k n (x ++ y) fits) ∙ ap (ch
 
 room : (w : Width) (h e : ℕ) → h + e < block_lanes w → width_bytes w * h + (width_bytes w * e + width_bytes w) ≤ 32
 room B h e l = omega arith
-room H h e l = omega arith
-room S h e l = omega arith
-room D h e l = omega arith
+room other h e l = omega arith
 
 place : (w : Width) (h e : ℕ) → width_bytes w * h + width_bytes w * e ≡ width_bytes w * (h + e)
 place B h e = omega arith
-place H h e = omega arith
-place S h e = omega arith
-place D h e = omega arith
+place other h e = omega arith
 
 -- its elements are those from the h-th on
 at-above : (w : Width) (x : List ℕ) (n h e : ℕ) → length x ≡ 32 → width_bytes w * h ≡ n → h + e < block_lanes w → at w (from_byte n x) e ≡ at w x (h + e)
@@ -68,21 +64,15 @@ pub record IsHalf (w : Width) (n : ℕ) : Type 0 where
 
 half-16 : (w : Width) → IsHalf w 16
 half-16 B = record { whole = refl; twice = refl; inside = omega arith }
-half-16 H = record { whole = refl; twice = refl; inside = omega arith }
-half-16 S = record { whole = refl; twice = refl; inside = omega arith }
-half-16 D = record { whole = refl; twice = refl; inside = omega arith }
+half-16 other = record { whole = refl; twice = refl; inside = omega arith }
 
 half-8 : (w : Width) → IsHalf w 8
 half-8 B = record { whole = refl; twice = refl; inside = omega arith }
-half-8 H = record { whole = refl; twice = refl; inside = omega arith }
-half-8 S = record { whole = refl; twice = refl; inside = omega arith }
-half-8 D = record { whole = refl; twice = refl; inside = omega arith }
+half-8 other = record { whole = refl; twice = refl; inside = omega arith }
 
 half-4 : (w : Width) → width_bytes w ≤ 4 → IsHalf w 4
-half-4 B narrow = record { whole = refl; twice = refl; inside = omega arith }
-half-4 H narrow = record { whole = refl; twice = refl; inside = omega arith }
-half-4 S narrow = record { whole = refl; twice = refl; inside = omega arith }
 half-4 D narrow = absurd (omega arith)
+half-4 other narrow = record { whole = refl; twice = refl; inside = omega arith }
 
 half-2 : (w : Width) → width_bytes w ≤ 2 → IsHalf w 2
 half-2 B narrow = record { whole = refl; twice = refl; inside = omega arith }
@@ -144,6 +134,4 @@ one-element op w x sx =
   where
     one : (w : Width) → width_bytes w / width_bytes w ≡ 1
     one B = refl
-    one H = refl
-    one S = refl
-    one D = refl
+    one other = refl

@@ -33,12 +33,6 @@ folded-ext op start f g zero same = folded-none op start f ∙ sym (folded-none 
 folded-ext op start f g (suc n) same =
     folded-suc op start f n ∙ ap₂ op (folded-ext op start f g n (λ e l. same e (omega arith))) (same n (omega arith)) ∙ sym (folded-suc op start g n)
 
--- a fold of another operation that gives the same
-pub folded-op : (op other : ℕ → ℕ → ℕ) (start : ℕ) (f : ℕ → ℕ) (n : ℕ) → ((a b : ℕ) → op a b ≡ other a b) → folded op start f n ≡ folded other start f n
-folded-op op other start f zero same = folded-none op start f ∙ sym (folded-none other start f)
-folded-op op other start f (suc n) same =
-    folded-suc op start f n ∙ same (folded op start f n) (f n) ∙ ap (λ a. other a (f n)) (folded-op op other start f n same) ∙ sym (folded-suc other start f n)
-
 module _ (op : ℕ → ℕ → ℕ) (start m : ℕ) (joins : Joins op start m) where
   pub folded-below : (f : ℕ → ℕ) (n : ℕ) → ((e : ℕ) → f e < m) → folded op start f n < m
   folded-below f zero small = subst (λ x. x < m) (sym (folded-none op start f)) joins.inside
@@ -125,27 +119,19 @@ keyed op f key start m inside closed same pick comm assoc unit = record {
 
 bias-same : (w : Width) (a b : ℕ) → a < modulus w → b < modulus w → biased (modulus w) a ≡ biased (modulus w) b → a ≡ b
 bias-same B a b p q e = omega arith
-bias-same H a b p q e = omega arith
-bias-same S a b p q e = omega arith
-bias-same D a b p q e = omega arith
+bias-same other a b p q e = omega arith
 
 least-bias : (w : Width) (a : ℕ) → biased (modulus w) (modulus w / 2) ≤ biased (modulus w) a
 least-bias B a = omega arith
-least-bias H a = omega arith
-least-bias S a = omega arith
-least-bias D a = omega arith
+least-bias other a = omega arith
 
 most-bias : (w : Width) (a : ℕ) → biased (modulus w) a ≤ biased (modulus w) (modulus w / 2 - 1)
 most-bias B a = omega arith
-most-bias H a = omega arith
-most-bias S a = omega arith
-most-bias D a = omega arith
+most-bias other a = omega arith
 
 start-inside : (w : Width) → (modulus w / 2 < modulus w) × (modulus w / 2 - 1 < modulus w) × (modulus w - 1 < modulus w) × (0 < modulus w)
 start-inside B = (omega arith, omega arith, omega arith, omega arith)
-start-inside H = (omega arith, omega arith, omega arith, omega arith)
-start-inside S = (omega arith, omega arith, omega arith, omega arith)
-start-inside D = (omega arith, omega arith, omega arith, omega arith)
+start-inside other = (omega arith, omega arith, omega arith, omega arith)
 
 pick-max : (m a b : ℕ) → biased m (joined SMax m a b) ≡ max (biased m a) (biased m b)
 pick-max m a b =
@@ -223,23 +209,13 @@ element-joins UAdd w a p = wide w a p
   where
     wide : (w : Width) (a : ℕ) → a < modulus w → a < 2 ^ 64
     wide B a p = omega arith
-    wide H a p = omega arith
-    wide S a p = omega arith
-    wide D a p = omega arith
+    wide other a p = omega arith
 element-joins SMax w a p = p
-element-joins UMax w a p = p
-element-joins SMin w a p = p
-element-joins UMin w a p = p
-element-joins Or w a p = p
-element-joins Xor w a p = p
-element-joins And w a p = p
+element-joins other w a p = p
 
 pub identity-element : (op : ReduceOp) (w : Width) → identity op (modulus w) < modulus w
-identity-element UAdd w = (start-inside w).3
 identity-element SMax w = (start-inside w).0
-identity-element UMax w = (start-inside w).3
 identity-element SMin w = (start-inside w).1
 identity-element UMin w = (start-inside w).2
-identity-element Or w = (start-inside w).3
-identity-element Xor w = (start-inside w).3
 identity-element And w = (start-inside w).2
+identity-element other w = (start-inside w).3

@@ -5,7 +5,7 @@ use Rattle.std.proofs.lemmas.Nat.{and_le_l}
 use Rattle.std.proofs.Math.Nat.{mod-lt}
 use lib.Lanes.{Each1}
 use Rattle.guest_types.specs.declared.length.Width.{Width}
-use Rattle.guest_types.specs.declared.length.Width.TheVariants.{B, H, S, D}
+use Rattle.guest_types.specs.declared.length.Width.TheVariants.{B}
 use Rattle.guest_types.specs.declared.operation.LaneOp.{LaneOp}
 use Rattle.guest_types.specs.declared.operation.LaneOp.TheVariants.{Add, Sub, Mul, And, Or, Xor, Bic, SMin, SMax, UMin, UMax}
 use Rattle.guest_types.specs.Length.{modulus}
@@ -21,9 +21,7 @@ by-op {n} {xs} w a b is h = subst (λ o. IsLanes n (binary_at o w a b) xs) (sym 
 
 pub some-values : (w : Width) → 0 < modulus w
 some-values B = omega arith
-some-values H = omega arith
-some-values S = omega arith
-some-values D = omega arith
+some-values other = omega arith
 
 -- an operation of elements is an element
 pub lane-below : (op : LaneOp) (w : Width) (a b : ℕ) → a < modulus w → b < modulus w → lane op (modulus w) a b < modulus w

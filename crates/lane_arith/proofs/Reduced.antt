@@ -4,7 +4,7 @@ use Rattle.std.proofs.lemmas.Bool.{cond_both, cond-false, lt-ltb, le-ltb, and_ri
 use Rattle.std.proofs.Math.Nat.{mul-suc}
 use lib.Lanes.{Each1, fold_l}
 use Rattle.guest_types.specs.declared.length.Width.{Width}
-use Rattle.guest_types.specs.declared.length.Width.TheVariants.{B, H, S, D}
+use Rattle.guest_types.specs.declared.length.Width.TheVariants.{B}
 use Rattle.guest_types.specs.declared.operation.LaneOp.{LaneOp}
 use Rattle.guest_types.specs.declared.operation.ReduceOp.{ReduceOp}
 use Rattle.guest_types.specs.declared.operation.ReduceOp.TheVariants.{UAdd}
@@ -92,21 +92,15 @@ module _ (op : ReduceOp) (w : Width) (vl : ℕ) (pg z start : List ℕ) (valid :
     where
       low : (w : Width) (e i : ℕ) → i ≤ 8 → e < block_lanes w * i → width_bytes w * e < 256
       low B e i a b = omega arith
-      low H e i a b = omega arith
-      low S e i a b = omega arith
-      low D e i a b = omega arith
+      low other e i a b = omega arith
 
       past : (w : Width) (e m n : ℕ) → width_bytes w * n ≡ m → n ≤ e → m ≤ width_bytes w * e
       past B e m n a b = omega arith
-      past H e m n a b = omega arith
-      past S e m n a b = omega arith
-      past D e m n a b = omega arith
+      past other e m n a b = omega arith
 
       under : (w : Width) (e m n : ℕ) → width_bytes w * n ≡ m → e < n → width_bytes w * e < m
       under B e m n a b = omega arith
-      under H e m n a b = omega arith
-      under S e m n a b = omega arith
-      under D e m n a b = omega arith
+      under other e m n a b = omega arith
 
   -- ---- a sum that grows by that of each block
 

@@ -1,15 +1,15 @@
 -- Shifts and extensions of one vector, lane by lane.
-use Rattle.std.proofs.Common.{◌≡◌, ℕ, ◌+◌, ◌-◌, ◌*◌, ◌/◌, ◌%◌, ◌^◌, ◌<◌, ◌≤◌, cond, ltb, List, refl, sym, ap, ◌∙◌, subst, arith, bit_and}
+use Rattle.std.proofs.Common.{◌≡◌, ℕ, ◌+◌, ◌-◌, ◌/◌, ◌%◌, ◌^◌, ◌<◌, ◌≤◌, cond, ltb, List, sym, ap, ◌∙◌, subst, arith, bit_and}
 use Rattle.std.proofs.lemmas.Bool.{cond_both}
 use Rattle.std.proofs.lemmas.Nat.{and_mask, pow-add, le-div}
-use Rattle.std.proofs.Math.Nat.{mod-lt, mod-eq_of_lt, div-div-eq-div-mul, div-le_self, div-mul-le_self, pow-le-pow_right, one-le-pow}
+use Rattle.std.proofs.Math.Nat.{mod-lt, mod-eq_of_lt, div-div-eq-div-mul, div-mul-le_self, pow-le-pow_right, one-le-pow}
 use Rattle.guest_types.specs.declared.length.Width.{Width}
 use Rattle.guest_types.specs.declared.operation.ShiftOp.{ShiftOp}
-use Rattle.guest_types.specs.declared.operation.ShiftOp.TheVariants.{Lsl, Lsr, Asr}
+use Rattle.guest_types.specs.declared.operation.ShiftOp.TheVariants.{Asr}
 use Rattle.guest_types.specs.declared.operation.LaneUnary.{LaneUnary}
 use Rattle.guest_types.specs.declared.operation.LaneUnary.TheVariants.{Abs, Neg, Not, SxtB, UxtB, SxtH, UxtH, SxtW, UxtW}
 use Rattle.guest_types.specs.Length.{width_bits, modulus}
-use Rattle.guest_types.specs.Lanes.{sign_extended, unary, source_bits, shifted, shift_at, ShiftFits}
+use Rattle.guest_types.specs.Lanes.{sign_extended, unary, source_bits, shifted, shift_at}
 use Rattle.guest_types.proofs.Shifts.{modulus-power, ones-above}
 use Rattle.lane_blocks.proofs.Lanes.{IsLanes}
 use Rattle.lane_arith.specs.Blocks.{unary_at}
@@ -45,14 +45,6 @@ filled w x c top low fill inside is_top some short is_low is_fill =
     cond_both (ltb x (modulus w / 2)) 0 (modulus w - modulus w / 2 ^ c) (λ n. x / 2 ^ c + n < modulus w)
     (λ _. omega (arith, below, least, is_top))
     (λ _. omega (arith, below, ones.0, is_top)))
-
-pub shifted-below : (op : ShiftOp) (w : Width) (x c : ℕ) → x < modulus w → ShiftFits op w c → shifted op (modulus w) x c < modulus w
-shifted-below Lsl w x c inside fits = mod-lt (x * 2 ^ c) (some-values w)
-shifted-below Lsr w x c inside fits = omega (arith, div-le_self x (2 ^ c))
-shifted-below Asr w x c inside fits =
-    let top : ℕ = modulus w - 1 in
-    let is_top : top + 1 ≡ modulus w = omega (arith, some-values w) in
-    subst (λ n. n < modulus w) (filled w x c top (top / 2 ^ c) (top - top / 2 ^ c) inside is_top fits.0 fits.1 refl refl) (mod-lt (x / 2 ^ (c - 1) / 2 ^ 1 + cond (ltb x (modulus w / 2)) 0 (top - top / 2 ^ c)) (some-values w))
 
 -- ---- extensions
 
