@@ -1,9 +1,9 @@
 -- Runs of bytes at the front of a text.
 use Rattle.std.proofs.Common.{◌≡◌, ℕ, suc, ◌+◌, ◌-◌, ◌<◌, ◌≤◌, Bool, true, false, List, [], ◌∷◌, take, drop, length, get_or, refl, sym, ap, ◌∙◌, arith, add-one}
-use Rattle.std.specs.Prelude.{◌&&◌, IsTrue, All}
+use Rattle.std.specs.Prelude.{IsTrue, All}
 use Rattle.std.specs.List.{prefix_len, list_all}
 use Rattle.std.specs.Str.{IsAscii}
-use Rattle.std.proofs.lemmas.Bool.{cond-false}
+use Rattle.std.proofs.lemmas.Bool.{cond-false, and_from, and_parts}
 use Rattle.std.proofs.lemmas.Bool.Decides.{nat_tests}
 use Rattle.std.proofs.lemmas.Str.Ascii.{IsAscii-from_all}
 use Rattle.std.proofs.lemmas.List.Sums.{prefix_len-le-length}
@@ -12,7 +12,6 @@ use Rattle.std.proofs.lemmas.List.Elements.{All-nil, All-cons}
 use Rattle.kernel_tree.specs.Tokens.{is_letter, is_name_byte, is_run, run_piece, begins_hex, literal, number_piece, decimal_from, hex_from}
 use Rattle.number_text.specs.Numbers.{is_digit, is_hex_digit, value_of}
 use Rattle.kernel_tokens.specs.Fronts.{at_front, at_letter, run_front_of}
-use Rattle.kernel_tree.proofs.Well.{both_true as both}
 
 pub within : {X : Type 0} (p : X → Bool) (xs : List X) → prefix_len p xs ≤ length xs
 within p xs = prefix_len-le-length p xs
@@ -25,11 +24,11 @@ letter_low b h = grind (arith, nat_tests)
 
 all_low : (w : List ℕ) → list_all is_name_byte w ≡ true → All (λ b. b < 128) w
 all_low [] h = All-nil (λ b. b < 128)
-all_low (b ∷ w) h = let p = both (is_name_byte b) (list_all is_name_byte w) h in All-cons (λ b. b < 128) b w (name_byte_low b p.0) (all_low w p.1)
+all_low (b ∷ w) h = let p = and_parts (is_name_byte b) (list_all is_name_byte w) h in All-cons (λ b. b < 128) b w (name_byte_low b p.0) (all_low w p.1)
 
 run_low : (w : List ℕ) → is_run w ≡ true → All (λ b. b < 128) w
 run_low [] h = All-nil (λ b. b < 128)
-run_low (b ∷ w) h = let p = both (is_letter b) (list_all is_name_byte w) h in All-cons (λ b. b < 128) b w (letter_low b p.0) (all_low w p.1)
+run_low (b ∷ w) h = let p = and_parts (is_letter b) (list_all is_name_byte w) h in All-cons (λ b. b < 128) b w (letter_low b p.0) (all_low w p.1)
 
 -- name bytes are ASCII
 pub run_ascii : (w : List ℕ) → IsTrue (is_run w) → IsAscii w
@@ -52,14 +51,10 @@ pub front_all : (p : ℕ → Bool) (xs : List ℕ) → list_all p (take (prefix_
 front_all p [] = refl
 front_all p (x ∷ xs) = front_by p x xs (p x) refl (front_all p xs)
 
-pub both_true : (a b : Bool) → a ≡ true → b ≡ true → (a && b) ≡ true
-both_true true b h k = k
-both_true false b h k = absurd cc
-
 -- the run at the front of a text that begins with a letter
 pub run_is : (text : List ℕ) → IsTrue (at_letter text) → IsTrue (is_run (take (1 + prefix_len is_name_byte (drop 1 text)) text))
 run_is [] h = absurd cc
-run_is (b ∷ rest) h = ap is_run (take-front (prefix_len is_name_byte rest) b rest) ∙ both_true (is_letter b) (list_all is_name_byte (take (prefix_len is_name_byte rest) rest)) h (front_all is_name_byte rest)
+run_is (b ∷ rest) h = ap is_run (take-front (prefix_len is_name_byte rest) b rest) ∙ and_from (is_letter b) (list_all is_name_byte (take (prefix_len is_name_byte rest) rest)) h (front_all is_name_byte rest)
 
 pub run_at : (text : List ℕ) → 0 < length text → run_piece (take (1 + prefix_len is_name_byte (drop 1 text)) text) (drop (1 + prefix_len is_name_byte (drop 1 text)) text) (length (take (1 + prefix_len is_name_byte (drop 1 text)) text) - 1) ≡ at_front run_front_of text
 run_at [] h = absurd (omega arith)

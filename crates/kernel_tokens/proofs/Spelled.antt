@@ -2,6 +2,7 @@
 use Rattle.std.proofs.Common.{◌≡◌, ℕ, zero, suc, ◌+◌, ◌^◌, Bool, true, false, cond, List, [], ◌∷◌, take, drop, Option, Some, None, Result, Ok, Err, refl, subst}
 use Rattle.std.specs.Prelude.{◌&&◌, ◌==◌, IsTrue, nat_lt, codes, bytes_eq}
 use Rattle.std.specs.List.{prefix_len, list_all}
+use Rattle.std.proofs.lemmas.Bool.{and_from}
 use Rattle.kernel_tree.specs.declared.ops.Ty.{Ty}
 use Rattle.kernel_tree.specs.declared.ops.CompareOp.TheVariants as compare
 use Rattle.kernel_tree.specs.declared.ops.UpdateOp.TheVariants as update
@@ -10,7 +11,7 @@ use Rattle.kernel_tree.specs.declared.mark.Mark.TheVariants as mark
 use Rattle.kernel_tree.specs.Word.{Word, IsNumber, IsCompare, IsUpdate, IsMark}
 use Rattle.kernel_tree.specs.Tokens.{Piece, Gap, Token, NoToken, piece, before, by_piece, scan, tokens_of, begins, begins_hex, by_reserved, reserved_type, reserved_mark, run_word, is_run, is_token, are_tokens, is_blank, is_letter, is_name_byte, is_in_line, literal, hex_from, decimal_from, number_piece, pair, single, symbol_of, symbol_piece, run_piece, run_from}
 use Rattle.number_text.specs.Numbers.{is_digit, is_hex_digit, value_of}
-use Rattle.kernel_tokens.proofs.Runs.{both_true, front_all}
+use Rattle.kernel_tokens.proofs.Runs.{front_all}
 
 -- what stands at the front of a text is no token, or one that some text has
 abbrev IsSpelled : Piece → Type 0
@@ -50,7 +51,7 @@ run_spelled w after k r =
 letter_spelled : (b : ℕ) (rest : List ℕ) (t : Bool) (q : Piece) → is_letter b ≡ t → Spelled q → Spelled (cond t (run_from b rest (prefix_len is_name_byte rest)) q)
 letter_spelled b rest true q e h =
     run_spelled (b ∷ take (prefix_len is_name_byte rest) rest) (drop (prefix_len is_name_byte rest) rest) (prefix_len is_name_byte rest)
-    (both_true (is_letter b) (list_all is_name_byte (take (prefix_len is_name_byte rest) rest)) e (front_all is_name_byte rest))
+    (and_from (is_letter b) (list_all is_name_byte (take (prefix_len is_name_byte rest) rest)) e (front_all is_name_byte rest))
 letter_spelled b rest false q e h = h
 
 -- ---- numbers
@@ -153,7 +154,7 @@ no_words at v e = cc
 
 before_spelled : (w : Word) (r : Result (List Word) ℕ) (words : List Word) → IsTrue (is_token w) → ((vs : List Word) → r ≡ Ok vs → IsTrue (are_tokens vs)) → before w r ≡ Ok words → IsTrue (are_tokens words)
 before_spelled w (Ok vs) words h all e =
-    subst (λ (l : List Word). IsTrue (are_tokens l)) (same_words (w ∷ vs) words e) (both_true (is_token w) (are_tokens vs) h (all vs refl))
+    subst (λ (l : List Word). IsTrue (are_tokens l)) (same_words (w ∷ vs) words e) (and_from (is_token w) (are_tokens vs) h (all vs refl))
 before_spelled w (Err at) words h all e = absurd (no_words at words e)
 
 by_piece_spelled : (p : Piece) (next : ℕ → Result (List Word) ℕ) (at : ℕ) (words : List Word) → IsSpelled p → ((k : ℕ) (vs : List Word) → next k ≡ Ok vs → IsTrue (are_tokens vs)) → by_piece p next at ≡ Ok words → IsTrue (are_tokens words)
