@@ -3,12 +3,12 @@ use Rattle.std.proofs.Common.{◌≡◌, ℕ, ◌+◌, ◌-◌, ◌<◌, ◌^◌
 use Rattle.std.specs.Prelude.{decimal}
 use Rattle.std.specs.List.{prefix_len, list_all}
 use Rattle.std.specs.Str.Parse.{AllDigits}
-use Rattle.std.proofs.lemmas.Bool.{lt-ltb}
+use Rattle.std.proofs.lemmas.Bool.{lt-ltb, and_parts}
 use Rattle.std.proofs.lemmas.Fmt.{decimal_is_IsNumeral}
 use Rattle.std.proofs.Math.Seq.{take-append_seam}
 use Rattle.kernel_tree.specs.Word.{Word, IsNumber}
 use Rattle.kernel_tree.specs.Tokens.{begins_hex, Token, piece, literal, decimal_from, before, scan}
-use Rattle.kernel_tree.proofs.Lexed.{moved, scan-skip, scan-token, and_true, prefix_len-all, digit_most, no_x, all_digits, value_is, digit_piece, no_hex}
+use Rattle.kernel_tree.proofs.Lexed.{moved, scan-skip, scan-token, prefix_len-all, digit_most, no_x, all_digits, value_is, digit_piece, no_hex}
 use Rattle.number_text.specs.Numbers.{is_digit, value_of}
 
 -- a byte that ends a decimal number
@@ -21,7 +21,7 @@ digit_stops c s h = rw h.digit refl
 
 decimal_begins : (b : ℕ) (t : List ℕ) (c : ℕ) (s : List ℕ) → Stops c → list_all is_digit t ≡ true → begins_hex b (t ++ c ∷ s) ≡ false
 decimal_begins b [] c s h e = no_hex b c s h.cross
-decimal_begins b (d ∷ t) c s h e = no_hex b d (t ++ c ∷ s) (no_x d (digit_most d (and_true (is_digit d) (list_all is_digit t) e).0))
+decimal_begins b (d ∷ t) c s h e = no_hex b d (t ++ c ∷ s) (no_x d (digit_most d (and_parts (is_digit d) (list_all is_digit t) e).0))
 
 number_piece-is : (n b : ℕ) (t : List ℕ) (c : ℕ) (s : List ℕ) → Stops c → is_digit b ≡ true → list_all is_digit t ≡ true → value_of 10 (b ∷ t) ≡ n → ltb n (2 ^ 127) ≡ true → piece b (t ++ c ∷ s) ≡ Token (IsNumber n) (length t)
 number_piece-is n b t c s h p q v small =
@@ -35,7 +35,7 @@ number_piece-is n b t c s h p q v small =
 digits_scan : (n : ℕ) (ds : List ℕ) (c : ℕ) (s : List ℕ) (at : ℕ) → Stops c → 0 < length ds → AllDigits 10 ds → value_of 10 ds ≡ n → ltb n (2 ^ 127) ≡ true → scan 0 at (ds ++ c ∷ s) ≡ before (IsNumber n) (scan 0 (moved (length ds) at) (c ∷ s))
 digits_scan n [] c s at h l a v small = absurd (omega arith)
 digits_scan n (d ∷ ds) c s at h l a v small =
-    let e = and_true (is_digit d) (list_all is_digit ds) (all_digits (d ∷ ds) a) in
+    let e = and_parts (is_digit d) (list_all is_digit ds) (all_digits (d ∷ ds) a) in
     scan-token d (ds ++ c ∷ s) at (IsNumber n) (length ds) (number_piece-is n d ds c s h e.0 e.1 v small)
     ∙ ap (before (IsNumber n)) (scan-skip ds (at + 1) (c ∷ s))
 
