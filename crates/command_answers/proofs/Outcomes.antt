@@ -11,15 +11,12 @@ use Rattle.command_answers.specs.Works.{done_by, done_of}
 
 pub same_done : (o : OutcomeAnswer) (memory : Memory) (pc steps : ℕ) → done_by (outcome_of o memory pc steps) ≡ done_of o
 same_done (outcomes.End result) memory pc steps = refl
-same_done (outcomes.Stop stop) memory pc steps = refl
-same_done outcomes.Spent memory pc steps = refl
+same_done other memory pc steps = refl
 
 pub same_text : (o : OutcomeAnswer) (memory : Memory) (pc steps : ℕ) → outcome_text (outcome_of o memory pc steps) ≡ text_of_outcome o pc steps
 same_text (outcomes.End result) memory pc steps = refl
-same_text (outcomes.Stop stop) memory pc steps = refl
-same_text outcomes.Spent memory pc steps = refl
+same_text other memory pc steps = refl
 
 pub same_memory : (o : OutcomeAnswer) (memory : Memory) (pc steps : ℕ) → memory_left (outcome_of o memory pc steps) ≡ memory
 same_memory (outcomes.End result) memory pc steps = refl
-same_memory (outcomes.Stop stop) memory pc steps = refl
-same_memory outcomes.Spent memory pc steps = refl
+same_memory other memory pc steps = refl

@@ -1,11 +1,10 @@
 -- Files that are read, and what is wanted after them.
 use mathlib.Core.Logic.{⊎_elim}
-use Rattle.std.proofs.Common.{◌≡◌, ◌≢◌, ℕ, ◌≤◌, Bool, true, false, List, Option, Some, None, Result, Ok, Err, inl, inr, refl, sym, ap, ◌∙◌, subst}
-use Rattle.std.specs.Prelude.{IfSome, IfOk, IsSome, IsTrue, IsErrAnd, OnOk, nat_lt, length, if◌then◌else◌}
+use Rattle.std.proofs.Common.{◌≡◌, ℕ, Bool, true, false, List, Option, Some, None, Result, Ok, Err, inl, inr, refl, sym, ap, ◌∙◌, subst}
+use Rattle.std.specs.Prelude.{IfSome, IsErrAnd, OnOk, nat_lt, length, if◌then◌else◌}
 use Rattle.io_edges.specs.Files.{Rose, content, Writes}
 use Rattle.io_edges.specs.declared.files.FileError.{FileError}
 use Rattle.io_edges.specs.declared.files.TheConstants.{MAX_FILE}
-use Rattle.io_edges.proofs.Puts.{later_rose}
 use Rattle.refusals.specs.declared.refusal.Refusal.{Refusal}
 use Rattle.refusals.specs.declared.refusal.Refusal.TheVariants.{TooLong, Memory, File}
 use Rattle.command_answers.specs.Answer.{Held, Expected, Answer, answer_of, IsFileAnswer, IsAnswer}
@@ -61,18 +60,6 @@ not_read x y rose (Some h) wanted found next refusal result is e answer =
     (answer_first x y (and_then (wanted h) next) refusal (refused_first x y x y (wanted h) next refusal (λ r. r) (subst (IsFileAnswer x y (wanted h)) is answer))))
 
 -- ---- one after another
-
--- an answer over fewer failures is one over more
-widened : {T : Type 0} (x y z : ℕ) (wanted result : Result T Refusal) → x ≤ y → IsFileAnswer y z wanted result → IsFileAnswer x z wanted result
-widened x y z wanted result more h = ⊎_elim (λ e. inl e) (λ other. inr (⊎_elim (λ e. inl e) (λ p. inr (p.0, later_rose x y z more p.1)) other)) h
-
--- what is answered after something was read
-pub in_turn : {T U : Type 0} (x y z : ℕ) (held : Option Held) (wanted : Held → Result T Refusal) (read : T) (found : Result T Refusal) (next : Held → T → Result U Refusal) (result : Result U Refusal) → x ≤ y → found ≡ Ok read → IfSome held (λ h. IsFileAnswer x y (wanted h) found) → IfSome held (λ h. IsFileAnswer y z (next h read) result)
-    → IfSome held (λ h. IsFileAnswer x z (and_then (wanted h) (next h)) result)
-in_turn x y z None wanted read found next result more is answer also = tt
-in_turn x y z (Some h) wanted read found next result more is answer also =
-    subst (λ r. IsFileAnswer x z (and_then r (next h)) result) (read_is x y (wanted h) read (subst (IsFileAnswer x y (wanted h)) is answer))
-    (widened x y z (next h read) result more also)
 
 -- what is answered where it could not be read
 pub stops_there : {T U : Type 0} (x y : ℕ) (held : Option Held) (wanted : Held → Result T Refusal) (found : Result T Refusal) (next : Held → T → Result U Refusal) (refusal : Refusal) (result : Result U Refusal) → found ≡ Err refusal → result ≡ Err refusal → IfSome held (λ h. IsFileAnswer x y (wanted h) found)

@@ -5,7 +5,7 @@ use Rattle.std.specs.Prelude.{IsTrue, OnOk}
 use Rattle.io_edges.specs.declared.sink.Failed.{Failed}
 use Rattle.io_edges.specs.Sink.{PutsText}
 use Rattle.refusals.specs.declared.refusal.Refusal.{Refusal}
-use Rattle.refusals.specs.declared.refusal.Refusal.TheVariants.{Usage, TooManyLive, Kernel, TooLong, Elf, Map, Asm, Pipe, Memory, File, Output}
+use Rattle.refusals.specs.declared.refusal.Refusal.TheVariants.{Usage, Memory, File, Output}
 use Rattle.refusals.specs.declared.refusal.Done.{Done}
 use Rattle.refusals.specs.declared.refusal.Done.TheVariants as done
 use Rattle.refusals.specs.Lines.{line_of_refusal}
@@ -23,16 +23,7 @@ status_is x y s rose wanted result is h =
 
 not_done : (refusal : Refusal) → IsTrue (is_done (status_of_refusal refusal)) → ⊥
 not_done Usage h = absurd cc
-not_done (TooManyLive class need) h = absurd cc
-not_done (Kernel fault) h = absurd cc
-not_done TooLong h = absurd cc
-not_done (Elf fault) h = absurd cc
-not_done (Map fault) h = absurd cc
-not_done (Asm fault) h = absurd cc
-not_done (Pipe fault) h = absurd cc
-not_done Memory h = absurd cc
-not_done File h = absurd cc
-not_done Output h = absurd cc
+not_done other h = absurd cc
 
 pub prints_by : (old new : Option (List ℕ)) (text : List ℕ) (s : ℕ) (result : Answer) → s ≡ status_of result → Prints old new text result → PrintsBy old new text s
 prints_by None new text s result is h = tt
@@ -45,8 +36,7 @@ prints_by (Some bytes) new text s result is h = (λ t. all result h.0 (subst (λ
 -- nothing is told where the command is done
 nothing_told : (own : List ℕ) (how : Done) → error_line_by own (status_of_done how) ≡ []
 nothing_told own done.Ended = refl
-nothing_told own done.Stopped = refl
-nothing_told own done.Spent = refl
+nothing_told own other = refl
 
 gains_nothing : (old : Option (List ℕ)) (n : ℕ) → Gains old old n n []
 gains_nothing None n = tt
@@ -58,16 +48,7 @@ line_done old n s own how is = subst (Gains old old n n) (sym (ap (error_line_by
 -- the line of a refusal is told
 own_line : (refusal : Refusal) → error_line_by (line_of_refusal refusal) (status_of_refusal refusal) ≡ line_of_refusal refusal
 own_line Usage = refl
-own_line (TooManyLive class need) = refl
-own_line (Kernel fault) = refl
-own_line TooLong = refl
-own_line (Elf fault) = refl
-own_line (Map fault) = refl
-own_line (Asm fault) = refl
-own_line (Pipe fault) = refl
-own_line Memory = refl
-own_line File = refl
-own_line Output = refl
+own_line other = refl
 
 same_refusal : (a b : Refusal) → ◌≡◌ {A = Answer} (Err a) (Err b) → a ≡ b
 same_refusal a b e = cc

@@ -2,7 +2,7 @@ use Rattle.std.proofs.Common.{◌≡◌, Ok, refl, ap, ap₂, sym, ◌∙◌, su
 use Rattle.std.specs.Prelude.{IfSome, option_map, string_bytes}
 use Rattle.command_answers.specs.Answer.{IsFileAnswer}
 use Rattle.command_answers.specs.Reads.{and_then, file_of, map_of, bytes_in, files_in}
-use Rattle.command_answers.proofs.Reading.{in_turn, stops_there, is_err}
+use Rattle.command_answers.proofs.Reading.{stops_there, is_err}
 use Rattle.command_answers.proofs.files.read_task.Goals as goal
 
 pub returns-in_err-file-clause-answer : goal.returns-in_err-file-clause-answer
