@@ -67,14 +67,6 @@ abbrev pub put_bit : List ℕ → ℕ → Bool → List ℕ
 put_bit bs j true = slice_set bs (j / 8) (bit_or (slice_index bs (j / 8)) (2 ^ (j % 8)))
 put_bit bs j false = bs
 
--- bit j after element e of k bytes was written, which zeroes the other bits of its group
-abbrev pub written_bit : ℕ → List ℕ → ℕ → Bool → ℕ → Bool
-written_bit k bs e value j = if nat_eq (j / k) e then nat_eq (j % k) 0 && value else bit bs j
-
--- that predicate register
-abbrev pub with_active : ℕ → List ℕ → ℕ → Bool → List ℕ
-with_active k bs e value = bits_of (written_bit k bs e value) 32
-
 -- the first of `left` elements from e on at which a test is true
 abbrev pub first_true : (ℕ → Bool) → (left e : ℕ) → Option ℕ
 first_true test zero e = None
