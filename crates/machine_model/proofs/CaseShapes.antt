@@ -7,7 +7,7 @@ use Rattle.guest_types.specs.Memory.{Page, Memory}
 use Rattle.guest_types.specs.Elements.{Flags}
 use Rattle.machine_model.specs.declared.outcome.StopKind.{StopKind}
 use Rattle.machine_model.specs.Machine.{State, Step, Went, Stopped, jump}
-use Rattle.machine_model.specs.OneStep.{step, suppresses}
+use Rattle.machine_model.specs.OneStep.{suppresses}
 use Rattle.machine_model.specs.Written.{word_bytes}
 
 abbrev pub zeros : ℕ → List ℕ
@@ -62,12 +62,6 @@ faults kind at s change = record { before = s; after = Stopped kind 20488 at (ch
 
 abbrev pub cutting : Case → Case
 cutting c = record c { cut = true }
-
-abbrev pub step_of : Case → Step
-step_of c = step c.before
-
-abbrev pub after_of : Case → Step
-after_of c = c.after
 
 abbrev pub cuts : Case → Bool
 cuts c = suppresses c.before

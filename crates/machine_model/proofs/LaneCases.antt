@@ -1,13 +1,7 @@
 -- States before and after one SVE instruction over registers, as a model made outside of svec has them.
-use Rattle.std.proofs.Common.{◌≡◌, List, [], ◌∷◌, true, false, refl, map}
-use Rattle.guest_types.specs.Elements.{bits_of, elements}
-use Rattle.guest_types.specs.Lanes.{broken, folded}
-use Rattle.word_rows.specs.Row.{reads}
-use Rattle.a64_code.specs.Table as a64
-use Rattle.sve_code.specs.Table as sve
+use Rattle.std.proofs.Common.{List, [], ◌∷◌, true, false}
 use Rattle.machine_model.specs.Machine.{with_x, with_z, with_p, with_ffr, with_flags}
-use Rattle.machine_model.specs.OneStep.{reads_word}
-use Rattle.machine_model.proofs.CaseShapes.{Case, zeros, flags_from, state, goes, step_of, after_of}
+use Rattle.machine_model.proofs.CaseShapes.{Case, zeros, flags_from, state, goes}
 
 -- WHILELO vl 128 {'size': 1, 'Rm': 4, 'Rn': 3, 'Pd': 1}
 abbrev case_2 : Case
@@ -119,7 +113,3 @@ case_140 = goes (state (0x24d88572 ∷ []) [] 384 4300630516628113264 (flags_fro
 
 abbrev cases : List Case
 cases = case_2 ∷ case_5 ∷ case_6 ∷ case_149 ∷ case_92 ∷ case_93 ∷ case_95 ∷ case_16 ∷ case_147 ∷ case_23 ∷ case_25 ∷ case_76 ∷ case_102 ∷ case_108 ∷ case_35 ∷ case_38 ∷ case_41 ∷ case_116 ∷ case_51 ∷ case_124 ∷ case_46 ∷ case_78 ∷ case_72 ∷ case_73 ∷ case_63 ∷ case_65 ∷ case_140 ∷ []
-
-stepped : map step_of cases ≡ map after_of cases
-unfolding reads_word reads a64.add_sub_imm a64.add_sub_shifted a64.logical a64.move_wide a64.multiply_add a64.shift_variable a64.bitfield a64.select a64.branch a64.branch_if a64.branch_zero a64.ret_form a64.exception a64.nop_form a64.umov_form a64.byte_imm a64.wide_imm a64.byte_register a64.wide_register sve.true_form sve.false_form sve.while_below sve.test_form sve.pred_logic sve.break_form sve.read_ffr sve.read_ffr_zeroing sve.set_ffr sve.write_ffr sve.count sve.increment_by_count sve.count_true sve.duplicate sve.index sve.select sve.add_sub sve.logic sve.shift_imm sve.merging sve.unary sve.extend_byte sve.extend_half sve.extend_word sve.reduce sve.compare sve.load sve.load_first_fault sve.load_no_fault sve.load_gather sve.store elements bits_of folded broken
-stepped = refl
