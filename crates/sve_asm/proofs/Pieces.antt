@@ -106,14 +106,6 @@ pub b_size-blanked : IsBlanked (codes "b") 84 0
 unfolding blank_of meanings meaning_in
 b_size-blanked = record { word = refl; blank = refl }
 
-pub h_size-blanked : IsBlanked (codes "h") 84 1
-unfolding blank_of meanings meaning_in
-h_size-blanked = record { word = refl; blank = refl }
-
-pub s_size-blanked : IsBlanked (codes "s") 84 2
-unfolding blank_of meanings meaning_in
-s_size-blanked = record { word = refl; blank = refl }
-
 pub d_size-blanked : IsBlanked (codes "d") 84 3
 unfolding blank_of meanings meaning_in
 d_size-blanked = record { word = refl; blank = refl }
