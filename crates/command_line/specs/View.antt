@@ -13,10 +13,6 @@ use Rattle.command_line.specs.Line.{Words, Line, Task, Extent, CompileLine, Chec
 abbrev pub texts : {A : Type 0} → List (String A) → Words
 texts words = map string_bytes words
 
--- the words of a vector
-abbrev pub texts_in : {A B : Type 0} → Vec (String A) B → Words
-texts_in words = texts words.items
-
 abbrev pub both_left : Bor (List ℕ) × Bor (List ℕ) → List ℕ × List ℕ
 both_left x = (x.0.now, x.1.now)
 
