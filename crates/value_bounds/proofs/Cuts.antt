@@ -17,9 +17,6 @@ value_of t z e =
     let high = parts.1 in
     (omega (arith, ints), omega (arith, ints))
 
-pub of_value : (t : Ty) (z : ℤ) → IsOf t z → is_value t z ≡ true
-of_value t z h = let a = h.0 in let b = h.1 in grind (arith, ints)
-
 -- cut to 128 bits
 abbrev pub cut : ℤ → ℤ
 cut z = saturate_signed w128 z
@@ -27,13 +24,7 @@ cut z = saturate_signed w128 z
 -- values of types are small
 small : (t : Ty) (z : ℤ) → IsOf t z → (negsuc (2 ^ 63) ≤ℤ z) × (z ≤ℤ pos (2 ^ 64))
 small ty.I8 z h = let a = h.0 in let b = h.1 in (omega (arith, ints), omega (arith, ints))
-small ty.I16 z h = let a = h.0 in let b = h.1 in (omega (arith, ints), omega (arith, ints))
-small ty.I32 z h = let a = h.0 in let b = h.1 in (omega (arith, ints), omega (arith, ints))
-small ty.I64 z h = let a = h.0 in let b = h.1 in (omega (arith, ints), omega (arith, ints))
-small ty.U8 z h = let a = h.0 in let b = h.1 in (omega (arith, ints), omega (arith, ints))
-small ty.U16 z h = let a = h.0 in let b = h.1 in (omega (arith, ints), omega (arith, ints))
-small ty.U32 z h = let a = h.0 in let b = h.1 in (omega (arith, ints), omega (arith, ints))
-small ty.U64 z h = let a = h.0 in let b = h.1 in (omega (arith, ints), omega (arith, ints))
+small other z h = let a = h.0 in let b = h.1 in (omega (arith, ints), omega (arith, ints))
 
 uncut : (z : ℤ) → (negsuc (2 ^ 63) ≤ℤ z) × (z ≤ℤ pos (2 ^ 64)) → cut z ≡ z
 uncut (pos n) h = let b = h.1 in ap pos (omega (arith, ints))
@@ -95,10 +86,6 @@ held z = cast_signed w128 (cast_unsigned w128 z)
 -- a result that is cut
 pub cut_of : (f : ℤ → ℤ → ℤ) (u x y : ℤ) → FitsSigned w128 u → FitsSigned w128 x → FitsSigned w128 y → u ≡ cut (f (held x) (held y)) → held u ≡ cut (f x y)
 cut_of f u x y fu fx fy e = to_z-of_z w128 u fu ∙ e ∙ ap₂ (λ a b. cut (f a b)) (to_z-of_z w128 x fx) (to_z-of_z w128 y fy)
-
--- the same of one that is not
-pub held_of : (f : ℤ → ℤ → ℤ) (u x y : ℤ) → FitsSigned w128 u → FitsSigned w128 x → FitsSigned w128 y → u ≡ f (held x) (held y) → held u ≡ f x y
-held_of f u x y fu fx fy e = to_z-of_z w128 u fu ∙ e ∙ ap₂ f (to_z-of_z w128 x fx) (to_z-of_z w128 y fy)
 
 pub negative : (z : ℤ) → pos 0 -ℤ z ≡ neg_ℤ z
 negative z = omega (arith, ints)

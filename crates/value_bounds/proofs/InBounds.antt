@@ -135,10 +135,7 @@ AreTyped s want (Operation op x y) = AreTyped s want x × AreTyped s want y
 AreTyped s want (Shift left e n) = AreTyped s want e
 AreTyped s want (Conversion e t) = (Some t ≡ want) × IsSome (own s e) × AreTyped s (own s e) e
 AreTyped s want (Choice c x y) = AreTyped s want x × AreTyped s want y
-AreTyped s want (Comparison op x y) = ⊥
-AreTyped s want (Both x y) = ⊥
-AreTyped s want (Either x y) = ⊥
-AreTyped s want (Not e) = ⊥
+AreTyped s want other = ⊥
 
 pub is_typed : (e : Term) (s : Scope) (t : Ty) → AreTyped s (Some t) e → IsTyped s t e
 is_typed (Literal n) s t h = tt
@@ -149,10 +146,7 @@ is_typed (Operation op x y) s t h = tt
 is_typed (Shift left e n) s t h = tt
 is_typed (Conversion e u) s t h = let same = h.0 in cc
 is_typed (Choice c x y) s t h = (is_typed x s t h.0, is_typed y s t h.1)
-is_typed (Comparison op x y) s t h = absurd h
-is_typed (Both x y) s t h = absurd h
-is_typed (Either x y) s t h = absurd h
-is_typed (Not e) s t h = absurd h
+is_typed other s t h = absurd h
 
 -- so they have where no rule fails
 pub are_typed : (e : Term) (s : Scope) (from : ℕ) (want : Option Ty) → IsSome want → faults s from (Value want) e ≡ [] → AreTyped s want e
