@@ -9,7 +9,7 @@ use Rattle.std.specs.Int.{div_ceil}
 use Rattle.std.specs.Prelude.{ℤ, ◌≤ℤ◌, ◌⊎◌, not, ◌&&◌, ◌||◌, nat_le, nat_lt, int_le, slice_index, if◌then◌else◌}
 use Rattle.std.specs.List.{list_any, list_all}
 use Rattle.guest_types.specs.declared.length.Width.{Width}
-use Rattle.guest_types.specs.declared.length.Width.TheVariants.{B, H, S, D}
+use Rattle.guest_types.specs.declared.length.Width.TheVariants.{B}
 use Rattle.guest_types.specs.Length.{IsLength, lanes}
 use Rattle.kernel_tree.specs.Plain.{Program}
 use Rattle.kernel_tree.specs.Items.{size_of}
@@ -80,9 +80,7 @@ tested k args = decides_by args (slice_index args (bound_place k)) (used_of k)
 
 lanes_some : (vl : ℕ) (w : Width) → 128 ≤ vl → 1 ≤ lanes vl w
 lanes_some vl B h = omega arith
-lanes_some vl H h = omega arith
-lanes_some vl S h = omega arith
-lanes_some vl D h = omega arith
+lanes_some vl other h = omega arith
 
 some_at_once : (k : Program) (args : List ℕ) (vl : ℕ) → 128 ≤ vl → 1 ≤ at_once k args vl
 some_at_once k args vl h = elim (runs_in_chunks k args) as (λ c. 1 ≤ (if c then lanes vl (lane_width_of k) else 1)) [ true ↦ lanes_some vl (lane_width_of k) h | false ↦ omega arith ]

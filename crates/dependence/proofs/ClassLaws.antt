@@ -1,9 +1,10 @@
 -- What class Vector says of a kernel: none of the reasons against it applies.
 use Rattle.std.proofs.Common.{◌≡◌, ℕ, Bool, true, false, cond, List, [], ◌∷◌, ◌++◌, Option, Some, None, refl, sym, ap, ◌∙◌}
-use Rattle.std.specs.Prelude.{is_none, ◌&&◌, ◌||◌}
+use Rattle.std.specs.Prelude.{is_none, ◌&&◌}
 use Rattle.std.specs.List.{list_any}
+use Rattle.std.proofs.lemmas.Bool.{or_parts}
 use Rattle.guest_types.specs.declared.length.Width.{Width}
-use Rattle.guest_types.specs.declared.length.Width.TheVariants.{B, H, S, D}
+use Rattle.guest_types.specs.declared.length.Width.TheVariants.{D}
 use Rattle.kernel_tree.specs.Plain.{Term, Program}
 use Rattle.kernel_tree.specs.Items.{stream_offset, loop_index}
 use Rattle.loop_form.specs.Entries.{IsRead, Entry, loop_entries}
@@ -50,14 +51,6 @@ class_facts k e =
 
 -- ---- reads at computed indexes
 
-left_false : (b c : Bool) → (b || c) ≡ false → b ≡ false
-left_false true c e = absurd cc
-left_false false c e = refl
-
-right_false : (b c : Bool) → (b || c) ≡ false → c ≡ false
-right_false true c e = absurd cc
-right_false false c e = e
-
 -- what class Vector says of a read of an array at a computed index, with the items after it
 pub record GatherFacts (k : Program) (all following : List Entry) (a : List ℕ) (e : Entry) : Type 0 where
   pub wide : lane_width_of k ≡ D
@@ -66,10 +59,8 @@ pub record GatherFacts (k : Program) (all following : List Entry) (a : List ℕ)
   pub reached : list_any is_storing all ≡ true → is_none (reach_of k e) ≡ false
 
 widest_lane : (w : Width) → is_narrow w ≡ false → w ≡ D
-widest_lane B e = absurd cc
-widest_lane H e = absurd cc
-widest_lane S e = absurd cc
 widest_lane D e = refl
+widest_lane other e = absurd cc
 
 implied : (b c : Bool) → (b && c) ≡ false → b ≡ true → c ≡ false
 implied true c e h = e
@@ -77,13 +68,13 @@ implied false c e h = absurd cc
 
 unbarred : (k : Program) (all following : List Entry) (a : List ℕ) (e : Entry) → is_barred_read k all following a e ≡ false → GatherFacts k all following a e
 unbarred k all following a e h =
-    let h2 = right_false (is_narrow (lane_width_of k)) _ h in
-    let h3 = right_false (list_any is_break following) _ h2 in
-    let h4 = right_false (list_any (stores_to a) all) _ h3 in
+    let h2 = (or_parts (is_narrow (lane_width_of k)) _ h).1 in
+    let h3 = (or_parts (list_any is_break following) _ h2).1 in
+    let h4 = (or_parts (list_any (stores_to a) all) _ h3).1 in
     record {
-      wide = widest_lane (lane_width_of k) (left_false (is_narrow (lane_width_of k)) _ h);
-      unbroken = left_false (list_any is_break following) _ h2;
-      unstored = left_false (list_any (stores_to a) all) _ h3;
+      wide = widest_lane (lane_width_of k) (or_parts (is_narrow (lane_width_of k)) _ h).0;
+      unbroken = (or_parts (list_any is_break following) _ h2).0;
+      unstored = (or_parts (list_any (stores_to a) all) _ h3).0;
       reached = implied (list_any is_storing all) (is_none (reach_of k e)) h4;
     }
 
@@ -93,5 +84,5 @@ barred_here k all following e a i is computed h = ap (λ b. b && is_barred_read 
 -- a read at a computed index among the items that are left
 pub gather_facts : (k : Program) (all before following : List Entry) (e : Entry) (a : List ℕ) (i : Term) → e.content ≡ IsRead a i → is_none (stream_offset (loop_index k) i) ≡ true → computed_index k all (before ++ e ∷ following) ≡ false → GatherFacts k all following a e
 unfolding computed_index
-gather_facts k all [] following e a i is computed h = unbarred k all following a e (barred_here k all following e a i is computed (left_false (is_barred k all following e) (computed_index k all following) h))
-gather_facts k all (f ∷ before) following e a i is computed h = gather_facts k all before following e a i is computed (right_false (is_barred k all (before ++ e ∷ following) f) (computed_index k all (before ++ e ∷ following)) h)
+gather_facts k all [] following e a i is computed h = unbarred k all following a e (barred_here k all following e a i is computed (or_parts (is_barred k all following e) (computed_index k all following) h).0)
+gather_facts k all (f ∷ before) following e a i is computed h = gather_facts k all before following e a i is computed (or_parts (is_barred k all (before ++ e ∷ following) f) (computed_index k all (before ++ e ∷ following)) h).1

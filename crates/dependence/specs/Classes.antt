@@ -85,10 +85,6 @@ abbrev pub computed_content : Option (List ℕ) → Content → Bool
 computed_content i (IsRead a e) = is_none (stream_offset i e)
 computed_content i _ = false
 
--- a read by a computed index
-abbrev pub is_computed : Option (List ℕ) → Entry → Bool
-is_computed i e = computed_content i e.content
-
 abbrev pub store_content : Content → Bool
 store_content (IsStore a i) = true
 store_content _ = false
