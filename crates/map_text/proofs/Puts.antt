@@ -1,8 +1,8 @@
 -- Bytes put one after another.
-use Rattle.std.proofs.Common.{◌≡◌, ℕ, ◌+◌, ◌<◌, ◌≤◌, true, false, List, [], ◌∷◌, length, drop, get_or, None, ap, ◌∙◌, sym, refl, subst, arith, add-one}
+use Rattle.std.proofs.Common.{◌≡◌, ℕ, ◌+◌, ◌<◌, ◌≤◌, true, List, [], ◌∷◌, length, drop, get_or, ap, ◌∙◌, sym, refl, subst, arith, add-one}
 use Rattle.std.specs.Prelude.{option_map}
 use Rattle.std.proofs.Math.Seq.{drop-cons}
-use Rattle.std.proofs.lemmas.Bool.{cond-true, cond-false}
+use Rattle.std.proofs.lemmas.Bool.{cond-true}
 use Rattle.guest_types.specs.Memory.{Memory, can_read, put_byte, next_address}
 use Rattle.guest_types.proofs.Writes.{page_at-put_byte, page_numbers-put_byte, IsMemory-put_byte, after_write}
 use Rattle.guest_types.proofs.Merges.{empty_memory}
@@ -17,10 +17,6 @@ next memory address i bytes l = ap (put_bytes memory address) (drop-cons bytes i
 pub put_more : (memory : Memory) (address i : ℕ) (bytes : List ℕ) → i < length bytes → can_read memory address ≡ true → put_bytes memory address (drop i bytes) ≡ put_bytes (put_byte memory address (get_or bytes i 0)) (next_address address) (drop (i + 1) bytes)
 unfolding put_bytes
 put_more memory address i bytes l readable = next memory address i bytes l ∙ cond-true _ _ _ readable
-
-pub put_none : (memory : Memory) (address i : ℕ) (bytes : List ℕ) → i < length bytes → can_read memory address ≡ false → put_bytes memory address (drop i bytes) ≡ None
-unfolding put_bytes
-put_none memory address i bytes l not = next memory address i bytes l ∙ cond-false _ _ _ not
 
 pub beside-put_byte : (image memory : Memory) (a b : ℕ) → b < 256 → IsBeside image memory → IsBeside image (put_byte memory a b)
 beside-put_byte image memory a b small is = record {
