@@ -1,7 +1,7 @@
 -- Loads that may stop early, element by element.
 use Rattle.std.proofs.Common.{◌≡◌, ℕ, zero, suc, ◌+◌, ◌-◌, ◌*◌, ◌<◌, ◌≤◌, Bool, true, false, ◌&&◌, ◌||◌, cond, List, Option, Some, None, inl, inr, refl, sym, ap, ap₂, ◌∙◌, subst, arith, add-one}
 use Rattle.std.specs.Prelude.{nat_le, unwrap_or}
-use Rattle.std.proofs.lemmas.Bool.{cases_lt, cond-true, cond-false, lt-ltb, le-ltb, le-leb, lt-leb, and_left, and_parts, false≢true}
+use Rattle.std.proofs.lemmas.Bool.{cases_lt, cond-true, cond-false, lt-ltb, le-ltb, le-leb, lt-leb, and_left, and_parts, false≢true, and_right}
 use Rattle.std.proofs.Math.Nat.{mul-le-mul_left, add-zero}
 use Rattle.guest_types.specs.Length.{width_bytes, all_lanes}
 use Rattle.guest_types.specs.Memory.{Memory}
@@ -18,6 +18,7 @@ use Rattle.lane_memory.specs.Readings.{form_of, place_of, on_of, on_from, faults
 use Rattle.lane_memory.specs.Loads.{LoadLeft, left_by_early}
 use Rattle.lane_memory.proofs.FirstTrue.{first_true-some, first_true-none, first_true-from, first_true-ext}
 use Rattle.lane_memory.proofs.FfrCleared.{clear-there}
+use Rattle.lane_memory.proofs.KeepLaws.{and_true}
 
 -- ---- the first suppressed element
 
@@ -85,18 +86,10 @@ module _ (s0 : StopList) (free faults : ℕ → Bool) (lanes e : ℕ) where
 -- ---- the elements from one on are free
 
 pub on_from-below : (r : Reading) (pg : List ℕ) (from j : ℕ) → j < from → on_from r pg from j ≡ false
-on_from-below r pg from j l = and_false (on_of r pg j) (nat_le from j) (lt-leb from j l)
-  where
-    and_false : (a b : Bool) → b ≡ false → (a && b) ≡ false
-    and_false true b e = e
-    and_false false b e = refl
+on_from-below r pg from j l = and_right (on_of r pg j) (nat_le from j) (lt-leb from j l)
 
 pub on_from-above : (r : Reading) (pg : List ℕ) (from j : ℕ) → from ≤ j → on_from r pg from j ≡ on_of r pg j
 on_from-above r pg from j l = ap (λ t. on_of r pg j && t) (le-leb from j l) ∙ and_true (on_of r pg j)
-  where
-    and_true : (b : Bool) → (b && true) ≡ b
-    and_true true = refl
-    and_true false = refl
 
 -- with the empty list only a fault suppresses
 pub first-never : (r : Reading) (memory : Memory) (s : StopList) (pg : List ℕ) (from lanes : ℕ) → s ≡ never → from ≤ lanes → first_true (refused_of r memory pg) (lanes - from) from ≡ first_true (suppressed_at (on_from r pg from) (faults_of r memory) (stop_at s)) lanes 0

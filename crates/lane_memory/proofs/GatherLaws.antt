@@ -1,7 +1,7 @@
 -- The elements of a gather, one by one, and the whole.
-use Rattle.std.proofs.Common.{◌≡◌, ℕ, Bool, true, false, ◌&&◌, List, Option, Some, None, Result, Ok, Err, refl, sym, ap, ap₂, ◌∙◌}
+use Rattle.std.proofs.Common.{◌≡◌, ℕ, true, false, List, Option, Some, None, Result, Ok, Err, refl, sym, ap, ap₂, ◌∙◌}
 use Rattle.std.specs.Prelude.{is_some, IfOk, OnOk}
-use Rattle.std.proofs.lemmas.Bool.{cond-true, cond-false, and_left}
+use Rattle.std.proofs.lemmas.Bool.{cond-true, and_right}
 use Rattle.guest_types.specs.declared.length.Width.{Width}
 use Rattle.guest_types.specs.declared.length.Width.TheVariants.{D}
 use Rattle.guest_types.specs.declared.memory.AccessFault.{AccessFault}
@@ -16,22 +16,7 @@ use Rattle.lane_memory.specs.Readings.{form_of}
 use Rattle.lane_memory.specs.Loads.{LoadLeft, left_by_plain}
 use Rattle.lane_memory.specs.Gathers.{gather_address, gather_of, gather_place, gathered_of, gather_refused}
 
-and_both : (a b : Bool) → a ≡ true → b ≡ true → (a && b) ≡ true
-and_both true b e f = f
-and_both false b e f = absurd cc
-
-and_right : (a b : Bool) → b ≡ false → (a && b) ≡ false
-and_right true b e = e
-and_right false b e = refl
-
 module _ (r : Reading) (memory : Memory) (offsets pg : List ℕ) (e : ℕ) where
-  -- an element that is not active
-  pub off-lane : active D pg e ≡ false → 0 ≡ gathered_of r memory offsets pg e
-  off-lane off = sym (cond-false _ _ _ off)
-
-  pub off-free : active D pg e ≡ false → gather_refused r memory offsets pg e ≡ false
-  off-free off = and_left (active D pg e) (lane_faults (form_of r) memory (gather_place r offsets) e) off
-
   -- one that was read
   pub on-lane : (a n v x : ℕ) → active D pg e ≡ true → a ≡ gather_place r offsets e → n ≡ width_bytes r.memory → Ok v ≡ loaded memory a n → x ≡ extended (form_of r) v → x ≡ gathered_of r memory offsets pg e
   on-lane a n v x on place size read is =
@@ -50,13 +35,6 @@ module _ (r : Reading) (memory : Memory) (offsets pg : List ℕ) (e : ℕ) where
 
   pub on-fault : (a n : ℕ) (fault : AccessFault) → a ≡ gather_place r offsets e → n ≡ width_bytes r.memory → Err fault ≡ loaded memory a n → read_fault (lane_fault (form_of r) memory (gather_place r offsets) e) ≡ Some fault
   on-fault a n fault place size err = ap read_fault (sym (ap₂ (first_fault (can_read memory)) place size)) ∙ fault_by a n fault (first_fault (can_read memory) a n) refl (sym err)
-
-  some_fault : (o : Option ℕ) (fault : AccessFault) → read_fault o ≡ Some fault → is_some o ≡ true
-  some_fault None fault h = absurd cc
-  some_fault (Some f) fault h = refl
-
-  pub on-refused : (fault : AccessFault) → active D pg e ≡ true → read_fault (lane_fault (form_of r) memory (gather_place r offsets) e) ≡ Some fault → gather_refused r memory offsets pg e ≡ true
-  on-refused fault on h = and_both (active D pg e) (lane_faults (form_of r) memory (gather_place r offsets) e) on (some_fault (lane_fault (form_of r) memory (gather_place r offsets) e) fault h)
 
 -- ---- the whole
 

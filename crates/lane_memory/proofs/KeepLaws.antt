@@ -6,7 +6,7 @@ use Rattle.std.proofs.lemmas.List.{take_at, drop-drop, drop-take, take-take, app
 use Rattle.std.proofs.Math.Seq.{drop-append-add}
 use Rattle.std.proofs.Math.Nat.{mul_assoc, mul-le-mul_left}
 use Rattle.guest_types.specs.declared.length.Width.{Width}
-use Rattle.guest_types.specs.declared.length.Width.TheVariants.{B, H, S, D}
+use Rattle.guest_types.specs.declared.length.Width.TheVariants.{B}
 use Rattle.guest_types.specs.Length.{width_bytes, all_lanes}
 use Rattle.guest_types.specs.Elements.{number_of_bytes, bytes_of, at, active, elements, register}
 use Rattle.guest_types.specs.Lanes.{select_at}
@@ -72,9 +72,7 @@ merged-more w pg z old i was now mask part other block h l bits bytes others is 
 
 lane_of_byte : (w : Width) (e n : ℕ) → width_bytes w * e < 32 * n → (e < block_lanes w * n) × (width_bytes w * e + width_bytes w ≤ 32 * n)
 lane_of_byte B e n h = (omega arith, omega arith)
-lane_of_byte H e n h = (omega arith, omega arith)
-lane_of_byte S e n h = (omega arith, omega arith)
-lane_of_byte D e n h = (omega arith, omega arith)
+lane_of_byte other e n h = (omega arith, omega arith)
 
 -- the bytes of an element of the blocks
 pub built-chunk : (w : Width) (f : ℕ → ℕ) (old : List ℕ) (n : ℕ) (z : List ℕ) (e : ℕ) → Built w f old n z → width_bytes w * e < 32 * n → chunk (width_bytes w * e) (width_bytes w) z ≡ bytes_of (width_bytes w) (f e)
@@ -99,15 +97,11 @@ kept-whole w pg old n z now h is =
 -- the blocks that so many elements fill
 pub enough : (w : Width) (n : ℕ) → n ≤ block_lanes w * ((width_bytes w * n + 31) / 32)
 enough B n = omega arith
-enough H n = omega arith
-enough S n = omega arith
-enough D n = omega arith
+enough other n = omega arith
 
 pub few : (w : Width) (n : ℕ) → n ≤ all_lanes w → (width_bytes w * n + 31) / 32 ≤ 8
 few B n h = omega arith
-few H n h = omega arith
-few S n h = omega arith
-few D n h = omega arith
+few other n h = omega arith
 
 active-below : (w : Width) (pg : List ℕ) (n e : ℕ) → e < all_lanes w → active w (below_of pg (width_bytes w * n)) e ≡ (active w pg e && nat_lt (width_bytes w * e) (width_bytes w * n))
 active-below w pg n e inside =
@@ -120,9 +114,7 @@ and_true false = refl
 
 pub scaled_lt : (w : Width) (e n : ℕ) → e < n → width_bytes w * e < width_bytes w * n
 scaled_lt B e n h = omega arith
-scaled_lt H e n h = omega arith
-scaled_lt S e n h = omega arith
-scaled_lt D e n h = omega arith
+scaled_lt other e n h = omega arith
 
 pub masked-below : (w : Width) (pg z kept : List ℕ) (n blocks : ℕ) → n ≤ all_lanes w → kept ≡ below_of pg (width_bytes w * n) → blocks ≡ (width_bytes w * n + 31) / 32 → masked_of w kept z (block_lanes w * blocks) ≡ masked_of w pg z n
 masked-below w pg z kept n blocks fits is count =

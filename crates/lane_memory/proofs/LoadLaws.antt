@@ -1,7 +1,7 @@
 -- What the parts of a load say of the whole.
-use Rattle.std.proofs.Common.{◌≡◌, ℕ, zero, suc, ◌+◌, ◌<◌, ◌≤◌, Bool, true, false, ◌&&◌, ◌||◌, cond, List, Option, Some, None, Ok, Err, inl, inr, refl, sym, ap, ap₂, ◌∙◌, arith}
+use Rattle.std.proofs.Common.{◌≡◌, ℕ, zero, suc, ◌+◌, ◌<◌, ◌≤◌, Bool, true, false, ◌&&◌, ◌||◌, cond, List, Option, Some, None, Ok, inl, inr, refl, sym, ap, ap₂, ◌∙◌, arith}
 use Rattle.std.specs.Prelude.{is_some}
-use Rattle.std.proofs.lemmas.Bool.{cases_lt, lt-ltb, le-ltb, le-leb, lt-leb, and_left, and_parts, false≢true}
+use Rattle.std.proofs.lemmas.Bool.{cases_lt, lt-ltb, le-ltb, le-leb, lt-leb, and_left, and_parts, false≢true, and_right}
 use Rattle.guest_types.specs.declared.memory.AccessFault.{AccessFault}
 use Rattle.guest_types.specs.declared.row.LoadMode.{LoadMode}
 use Rattle.guest_types.specs.Length.{width_bytes, lanes}
@@ -14,6 +14,7 @@ use Rattle.lane_memory.specs.Readings.{form_of, place_of, on_of, on_from, faults
 use Rattle.lane_memory.specs.Loads.{LoadLeft, left_by, left_by_early, left_by_first, load_of}
 use Rattle.lane_memory.proofs.FirstTrue.{first_true-some, first_true-none, first_true-absent, first_true-ext}
 use Rattle.lane_memory.proofs.EarlySteps.{on_from-below}
+use Rattle.lane_memory.proofs.KeepLaws.{and_true}
 
 -- ---- no fault
 
@@ -51,12 +52,8 @@ free-read r memory pg n from free = first_true-absent (refused_of r memory pg) f
           | inl before ↦ and_left (on_of r pg j) (faults_of r memory j) (f.before j (omega arith) before)
           | inr least ↦
               let same : i ≡ j = omega arith in
-              and_false (on_of r pg j) (faults_of r memory j) (ap (faults_of r memory) (sym same) ∙ no_read_fault (lane_fault (form_of r) memory (place_of r) i) h)
+              and_right (on_of r pg j) (faults_of r memory j) (ap (faults_of r memory) (sym same) ∙ no_read_fault (lane_fault (form_of r) memory (place_of r) i) h)
         ]
-      where
-        and_false : (a b : Bool) → b ≡ false → (a && b) ≡ false
-        and_false true b e = e
-        and_false false b e = refl
 
 -- the free elements are those that the sentence names
 free-same : (r : Reading) (pg : List ℕ) (n from : ℕ) (o : Option ℕ) → from ≡ place_after o n → (j : ℕ) → j < n → on_from r pg from j ≡ later_than o (on_of r pg) j
@@ -98,20 +95,11 @@ first-done r memory stops pg n from ffr left free h =
     unless_none (fault_at (form_of r) memory (place_of r) first) (form_of r) memory stops (on_of r pg) (later_than first (on_of r pg)) (place_of r) n ffr free.no_fault
     ∙ ap Ok (sym (early-ext (form_of r) memory stops (on_of r pg) (on_from r pg from) (later_than first (on_of r pg)) (place_of r) n ffr (free-same r pg n from first free.place)) ∙ h)
 
--- or what refuses it
-pub first-refused : (r : Reading) (memory : Memory) (stops : StopList) (pg : List ℕ) (n : ℕ) (ffr : List ℕ) (fault : AccessFault) → fault_at (form_of r) memory (place_of r) (first_true (on_of r pg) n 0) ≡ Some fault → first_fault_early (form_of r) memory stops (on_of r pg) (place_of r) n ffr ≡ Err fault
-first-refused r memory stops pg n ffr fault h =
-    ap (λ o. unless_fault o (early_load (form_of r) memory stops (on_of r pg) (later_than (first_true (on_of r pg) n 0) (on_of r pg)) (place_of r) n ffr)) h
-
 -- ---- LDNF1
 
 pub all-free : (r : Reading) (memory : Memory) (stops : StopList) (pg : List ℕ) (n : ℕ) (ffr : List ℕ) (left : LoadLeft) → left_by_early (early_load (form_of r) memory stops (on_of r pg) (on_from r pg 0) (place_of r) n ffr) ≡ left → left_by_early (early_load (form_of r) memory stops (on_of r pg) (on_of r pg) (place_of r) n ffr) ≡ left
 all-free r memory stops pg n ffr left h =
     early-ext (form_of r) memory stops (on_of r pg) (on_of r pg) (on_from r pg 0) (place_of r) n ffr (λ j l. sym (ap (λ t. on_of r pg j && t) (le-leb 0 j (omega arith)) ∙ and_true (on_of r pg j))) ∙ h
-  where
-    and_true : (b : Bool) → (b && true) ≡ b
-    and_true true = refl
-    and_true false = refl
 
 -- ---- the operands
 

@@ -5,7 +5,7 @@ use Rattle.std.proofs.lemmas.List.{drop-drop, drop-take, take-take}
 use Rattle.std.proofs.Math.Nat.{mul-suc, mul-le-mul_left}
 use lib.Lanes.{chunk}
 use Rattle.guest_types.specs.declared.length.Width.{Width}
-use Rattle.guest_types.specs.declared.length.Width.TheVariants.{B, H, S, D}
+use Rattle.guest_types.specs.declared.length.Width.TheVariants.{B}
 use Rattle.guest_types.specs.Length.{width_bytes}
 use Rattle.guest_types.specs.Memory.{Memory, IsMemory, page_at, can_read, first_fault, number_at}
 use Rattle.guest_types.specs.Elements.{number_of_bytes}
@@ -20,9 +20,7 @@ address-low base index k e = omega arith
 -- the address of a later element in the same page
 pub address-step : (base index : ℕ) (w : Width) (e i : ℕ) → let k = width_bytes w in lane_address base index k e % 4096 + k * i < 4096 → lane_address base index k (e + i) ≡ lane_address base index k e + k * i
 address-step base index B e i h = omega arith
-address-step base index H e i h = omega arith
-address-step base index S e i h = omega arith
-address-step base index D e i h = omega arith
+address-step base index other e i h = omega arith
 
 -- part of what stands in one page
 in_part : (a k n i : ℕ) → 0 < k → i < n → in_one_page a (k * n) ≡ true → (in_one_page (a + k * i) k ≡ true) × ((a + k * i) / 4096 ≡ a / 4096) × ((a + k * i) % 4096 ≡ a % 4096 + k * i)

@@ -1,14 +1,14 @@
 -- Elements that were read, one by one and a part of a page at once.
-use Rattle.std.proofs.Common.{◌≡◌, ℕ, zero, suc, ◌+◌, ◌-◌, ◌*◌, ◌/◌, ◌%◌, ◌^◌, ◌<◌, ◌≤◌, inl, inr, Bool, true, false, ◌&&◌, cond, List, ◌++◌, length, take, drop, get_or, Ok, refl, sym, ap, ap₂, ◌∙◌, subst, arith}
+use Rattle.std.proofs.Common.{◌≡◌, ℕ, zero, suc, ◌+◌, ◌-◌, ◌*◌, ◌/◌, ◌%◌, ◌^◌, ◌<◌, ◌≤◌, inl, inr, Bool, true, false, cond, List, ◌++◌, length, take, drop, get_or, Ok, refl, sym, ap, ap₂, ◌∙◌, subst, arith}
 use Rattle.std.specs.Prelude.{nat_lt, is_some}
-use Rattle.std.proofs.lemmas.Bool.{cases_lt, cond-true, cond-false, and_left, false≢true}
+use Rattle.std.proofs.lemmas.Bool.{cases_lt, cond-true, cond-false, and_left, false≢true, and_right}
 use Rattle.std.proofs.lemmas.List.{drop-drop, length-take}
 use Rattle.std.proofs.lemmas.Simd.{Each1-from_get_or}
 use Rattle.std.proofs.lemmas.List.{get_or-take, get_or-drop}
 use Rattle.std.proofs.Math.Nat.{mod-eq_of_lt, pow-le-pow_right, mul-suc, mul-le-mul_left}
 use lib.Lanes.{chunk, Each1}
 use Rattle.guest_types.specs.declared.length.Width.{Width}
-use Rattle.guest_types.specs.declared.length.Width.TheVariants.{B, H, S, D}
+use Rattle.guest_types.specs.declared.length.Width.TheVariants.{B}
 use Rattle.guest_types.specs.Length.{width_bytes, modulus, all_lanes}
 use Rattle.guest_types.specs.Memory.{Memory, IsMemory, loaded, number_at}
 use Rattle.guest_types.specs.Elements.{number_of_bytes, bytes_of, at, elements, register}
@@ -78,9 +78,6 @@ copied-whole r part from n old new same size fits long small is =
 
 -- ---- one element more
 
-pub copied-none : (r : Reading) (part : List ℕ) (from : ℕ) (z : List ℕ) → IsCopied r part from 0 z z
-copied-none r part from z = record { copied = λ i l. absurd (omega arith); kept = λ i apart. refl }
-
 pub copied-more : (r : Reading) (part : List ℕ) (from i : ℕ) (old was now : List ℕ) (v x : ℕ) → IsCopied r part from i old was → length was ≡ 256 → from + i < all_lanes r.element
     → v ≡ number_in part (width_bytes r.memory * i) (width_bytes r.memory) → x ≡ extended (form_of r) v → now ≡ with_number was (width_bytes r.element * (from + i)) (width_bytes r.element) x → IsCopied r part from (i + 1) old now
 copied-more r part from i old was now v x h long inside read is written =
@@ -115,10 +112,6 @@ read-one r memory pg e a n v x old new long inside place size read is written =
       read = λ on. ap (λ z. at w z e) written ∙ at-one w old e x long inside ∙ ap (λ y. y % modulus w) (is ∙ ap (extended (form_of r)) number);
       kept = λ i l. ap (λ z. at w z i) written ∙ at-other w old e x i long inside (inl l);
     }
-
--- where it is not active nothing is asked
-pub read-none : (r : Reading) (memory : Memory) (pg : List ℕ) (e : ℕ) (z : List ℕ) → on_of r pg e ≡ false → IsRead r memory pg e z z
-read-none r memory pg e z off = record { read = λ on. absurd (false≢true (sym off ∙ on)); kept = λ i l. refl }
 
 -- ---- the active elements as far as the loop has come
 
@@ -166,9 +159,7 @@ filled r memory pg z lanes from to range h = register-mod r.element (masked_at r
   where
     zero_mod : (w : Width) → 0 ≡ 0 % modulus w
     zero_mod B = refl
-    zero_mod H = refl
-    zero_mod S = refl
-    zero_mod D = refl
+    zero_mod other = refl
 
     each : (e : ℕ) → e < lanes → masked_at r.element pg z e ≡ lane_of r memory pg e % modulus r.element
     each e l = go (on_of r pg e) refl
@@ -188,11 +179,7 @@ part-free r memory pg e n a len j place size has least most =
     let i = j - e in
     let span : has_span memory (place_of r e) (width_bytes r.memory * n) ≡ true = sym (ap₂ (has_span memory) place size) ∙ has in
     let free : faults_of r memory (e + i) ≡ false = ap is_some (part-read memory r.base r.index r.memory e n i (omega arith) span) in
-    and_false (on_of r pg j) (faults_of r memory j) (ap (faults_of r memory) (let q : j ≡ e + i = omega arith in q) ∙ free)
-  where
-    and_false : (a b : Bool) → b ≡ false → (a && b) ≡ false
-    and_false true b e = e
-    and_false false b e = refl
+    and_right (on_of r pg j) (faults_of r memory j) (ap (faults_of r memory) (let q : j ≡ e + i = omega arith in q) ∙ free)
 
 pub refused-inactive : (r : Reading) (memory : Memory) (pg : List ℕ) (j : ℕ) → on_of r pg j ≡ false → refused_of r memory pg j ≡ false
 refused-inactive r memory pg j off = and_left (on_of r pg j) (faults_of r memory j) off

@@ -65,7 +65,8 @@ pub fn load_early(
     requires read { first_true (refused_of reading pages.now.memory pg.now.bits) from 0 ≡ None }
     ensures { let on = on_of reading pg.now.bits in
         let free = on_from reading pg.now.bits from in
-        left_by_early (early_load (form_of reading) pages.now.memory stops.old on free (place_of reading) lanes ffr.old.bits)
+        left_by_early
+        (early_load (form_of reading) pages.now.memory stops.old on free (place_of reading) lanes ffr.old.bits)
         ≡ record { z = out.new.bytes; ffr = ffr.new.bits; stops = stops.new } }
 {
     let first = first_suppressed(pages, reading, pg, from, lanes, stops);

@@ -33,9 +33,11 @@ fn read(pages: &Pages, reading: Reading, offsets: &ZReg, e: usize) -> Result<u64
     requires { e < 32 }
     ensures done { (pg : List ℕ) → active D pg e ≡ true
         → IfOk result (λ v. v ≡ gathered_of reading pages.now.memory offsets.now.bytes pg e) }
-    ensures free { (pg : List ℕ) → OnOk result (gather_refused reading pages.now.memory offsets.now.bytes pg e ≡ false) }
+    ensures free { (pg : List ℕ)
+        → OnOk result (gather_refused reading pages.now.memory offsets.now.bytes pg e ≡ false) }
     ensures fault { IfErr result (λ fault.
-        read_fault (lane_fault (form_of reading) pages.now.memory (gather_place reading offsets.now.bytes) e) ≡ Some fault) }
+        read_fault (lane_fault (form_of reading) pages.now.memory (gather_place reading offsets.now.bytes) e)
+        ≡ Some fault) }
 {
     pages.is_memory();
     let address = place(reading, offsets, e);
@@ -60,7 +62,8 @@ fn lane(
     ensures free { OnOk result (gather_refused reading pages.now.memory offsets.now.bytes pg.now.bits e ≡ false) }
     ensures refused { OnErr result (gather_refused reading pages.now.memory offsets.now.bytes pg.now.bits e ≡ true) }
     ensures fault { IfErr result (λ fault.
-        read_fault (lane_fault (form_of reading) pages.now.memory (gather_place reading offsets.now.bytes) e) ≡ Some fault) }
+        read_fault (lane_fault (form_of reading) pages.now.memory (gather_place reading offsets.now.bytes) e)
+        ≡ Some fault) }
 {
     if pg.is_active(Width::D, e) {
         return read(pages, reading, offsets, e);
@@ -79,9 +82,11 @@ fn gathered(
     requires { lanes ≤ 32 }
     ensures done { IfOk result (λ z. z.bytes
         ≡ register (width_bytes D) (gathered_of reading pages.now.memory offsets.now.bytes pg.now.bits) lanes) }
-    ensures free { let first = first_true (gather_refused reading pages.now.memory offsets.now.bytes pg.now.bits) lanes 0 in
+    ensures free { let first = first_true (gather_refused reading pages.now.memory offsets.now.bytes pg.now.bits)
+        lanes 0 in
         OnOk result (first ≡ None) }
-    ensures fault { let first = first_true (gather_refused reading pages.now.memory offsets.now.bytes pg.now.bits) lanes 0 in
+    ensures fault { let first = first_true (gather_refused reading pages.now.memory offsets.now.bytes pg.now.bits)
+        lanes 0 in
         IfErr result (λ fault.
         fault_at (form_of reading) pages.now.memory (gather_place reading offsets.now.bytes) first ≡ Some fault) }
 {

@@ -45,7 +45,8 @@ fn load_plain(
         plain_load (form_of reading) pages.now.memory (on_of reading pg.now.bits) (place_of reading) lanes ffr
         ≡ Ok (record { z = out.new.bytes; ffr = ffr })) }
     ensures refused { (ffr : List ℕ) → IfErr result (λ fault.
-        plain_load (form_of reading) pages.now.memory (on_of reading pg.now.bits) (place_of reading) lanes ffr ≡ Err fault) }
+        plain_load (form_of reading) pages.now.memory (on_of reading pg.now.bits) (place_of reading) lanes ffr
+        ≡ Err fault) }
     ensures unchanged { OnErr result (out.new ≡ out.old) }
 {
     if fill_at_once(pages, reading, pg, lanes, out) {
@@ -87,7 +88,8 @@ fn load_first_fault(
     requires { lanes ≤ all_lanes reading.element }
     ensures done { let on = on_of reading pg.now.bits in
         OnOk result (
-        left_by_first (first_fault_early (form_of reading) pages.now.memory stops.old on (place_of reading) lanes ffr.old.bits)
+        left_by_first
+        (first_fault_early (form_of reading) pages.now.memory stops.old on (place_of reading) lanes ffr.old.bits)
         ≡ Ok (record { z = out.new.bytes; ffr = ffr.new.bits; stops = stops.new })) }
     ensures refused { let on = on_of reading pg.now.bits in
         IfErr result (λ fault. first_fault_early (form_of reading) pages.now.memory stops.old on
@@ -113,9 +115,11 @@ fn load_any(
     stops: &mut Suppress,
     out: &mut ZReg,
 ) -> Result<(), AccessFault>
-    ensures done { let left = load_of mode row.dtype base index vl pages.now.memory stops.old pg.now.bits ffr.old.bits in
+    ensures done { let left = load_of mode row.dtype base index vl pages.now.memory stops.old
+        pg.now.bits ffr.old.bits in
         OnOk result (left ≡ Ok (record { z = out.new.bytes; ffr = ffr.new.bits; stops = stops.new })) }
-    ensures refused { let left = load_of mode row.dtype base index vl pages.now.memory stops.old pg.now.bits ffr.old.bits in
+    ensures refused { let left = load_of mode row.dtype base index vl pages.now.memory stops.old
+        pg.now.bits ffr.old.bits in
         IfErr result (λ fault. left ≡ Err fault) }
     ensures unchanged { OnErr result ((out.new ≡ out.old) × (ffr.new ≡ ffr.old) × (stops.new ≡ stops.old)) }
 {
@@ -198,9 +202,11 @@ pub fn load_into(
     stops: &mut Suppress,
     out: &mut ZReg,
 ) -> Result<(), AccessFault>
-    ensures done { let left = load_of mode row.dtype base index vl pages.now.memory stops.old pg.now.bits ffr.old.bits in
+    ensures done { let left = load_of mode row.dtype base index vl pages.now.memory stops.old
+        pg.now.bits ffr.old.bits in
         OnOk result (left ≡ Ok (record { z = out.new.bytes; ffr = ffr.new.bits; stops = stops.new })) }
-    ensures refused { let left = load_of mode row.dtype base index vl pages.now.memory stops.old pg.now.bits ffr.old.bits in
+    ensures refused { let left = load_of mode row.dtype base index vl pages.now.memory stops.old
+        pg.now.bits ffr.old.bits in
         IfErr result (λ fault. left ≡ Err fault) }
     ensures unchanged { OnErr result ((out.new ≡ out.old) × (ffr.new ≡ ffr.old) × (stops.new ≡ stops.old)) }
 {
@@ -227,9 +233,11 @@ pub fn load(
     ffr: &mut PReg,
     stops: &mut Suppress,
 ) -> Result<ZReg, AccessFault>
-    ensures done { let left = load_of mode row.dtype base index vl pages.now.memory stops.old pg.now.bits ffr.old.bits in
+    ensures done { let left = load_of mode row.dtype base index vl pages.now.memory stops.old
+        pg.now.bits ffr.old.bits in
         IfOk result (λ z. left ≡ Ok (record { z = z.bytes; ffr = ffr.new.bits; stops = stops.new })) }
-    ensures refused { let left = load_of mode row.dtype base index vl pages.now.memory stops.old pg.now.bits ffr.old.bits in
+    ensures refused { let left = load_of mode row.dtype base index vl pages.now.memory stops.old
+        pg.now.bits ffr.old.bits in
         IfErr result (λ fault. left ≡ Err fault) }
     ensures unchanged { OnErr result ((ffr.new ≡ ffr.old) × (stops.new ≡ stops.old)) }
 {
