@@ -1,26 +1,22 @@
 -- Pages in common.
-use Rattle.std.proofs.Common.{◌≡◌, ℕ, zero, suc, ◌+◌, ◌<◌, ◌≤◌, [], ◌∷◌, length, drop, get_or, Bool, true, false, None, refl, sym, ap, ap₂, ◌∙◌, subst, arith}
+use Rattle.std.proofs.Common.{◌≡◌, ℕ, zero, suc, ◌+◌, ◌<◌, ◌≤◌, [], ◌∷◌, length, drop, get_or, false, None, refl, sym, ap, ap₂, ◌∙◌, subst, arith}
 use Rattle.std.specs.Prelude.{nat_eq, ◌||◌}
 use Rattle.std.specs.List.{AllByRecursion}
-use Rattle.std.proofs.lemmas.Bool.{eq-eqb, ne_eqb}
+use Rattle.std.proofs.lemmas.Bool.{ne_eqb, or_parts}
 use Rattle.std.proofs.lemmas.List.{drop_more}
 use Rattle.std.proofs.lemmas.List.Elements.{All-from_recursion}
 use Rattle.guest_types.specs.Memory.{Page, Memory, IsMemory, DoNotMeet, page_at}
 use Rattle.guest_types.proofs.Merges.{Ordered, Ordered-from_IsMemory}
 use Rattle.pipe_run.specs.PipeRun.{has_page, have_common}
 
-or_false : (a b : Bool) → (a || b) ≡ false → (a ≡ false) × (b ≡ false)
-or_false true b h = cc
-or_false false b h = (refl, h)
-
 absent : (pages : Memory) (n : ℕ) → has_page pages n ≡ false → page_at pages n ≡ None
 absent [] n h = refl
-absent (page ∷ pages) n h = let p = or_false (nat_eq page.page n) (has_page pages n) h in rw p.0 (absent pages n p.1)
+absent (page ∷ pages) n h = let p = or_parts (nat_eq page.page n) (has_page pages n) h in rw p.0 (absent pages n p.1)
 
 none_common : (image pages : Memory) → have_common image pages ≡ false → AllByRecursion (λ page. page_at pages page.page ≡ None) image
 none_common [] pages h = tt
 none_common (page ∷ image) pages h =
-    let p = or_false (has_page pages page.page) (have_common image pages) h in (absent pages page.page p.0, none_common image pages p.1)
+    let p = or_parts (has_page pages page.page) (have_common image pages) h in (absent pages page.page p.0, none_common image pages p.1)
 
 pub apart : (image pages : Memory) → have_common image pages ≡ false → DoNotMeet image pages
 apart image pages h = All-from_recursion (λ page. page_at pages page.page ≡ None) image (none_common image pages h)
@@ -45,10 +41,6 @@ past_map low (first ∷ image) page pages h l =
     let least = h.0 in
     ap (λ b. (b || has_page pages first.page) || have_common image (page ∷ pages)) (ne_eqb page.page first.page (λ e. omega (arith, least, e, l)))
     ∙ ap (λ b. has_page pages first.page || b) (past_map (suc first.page) image page pages h.2 (omega (arith, least, l)))
-
--- both begin with the same page
-pub meet : (first page : Page) (image pages : Memory) → first.page ≡ page.page → have_common (first ∷ image) (page ∷ pages) ≡ true
-meet first page image pages e = ap (λ b. (b || has_page pages first.page) || have_common image (page ∷ pages)) (eq-eqb page.page first.page (sym e))
 
 -- no page is left of a map
 pub no_pages : (image : Memory) → have_common image [] ≡ false
@@ -101,17 +93,11 @@ module _ (image pages : Memory) (i j : ℕ) (x y : Page) (met : Met image pages 
         ∙ sym (past_map x.page (x ∷ drop (i + 1) image) y (drop (j + 1) pages) (omega arith, xs.1, xs.2) l) ∙ both;
   }
 
-  pub met_same : x.page ≡ y.page → have_common image pages ≡ true
-  met_same e = sym both ∙ meet x y (drop (i + 1) image) (drop (j + 1) pages) e
-
 none_left : (pages : Memory) (i : ℕ) → length pages ≤ i → drop i pages ≡ []
 none_left [] zero h = refl
 none_left [] (suc i) h = refl
 none_left (page ∷ pages) zero h = absurd (omega arith)
 none_left (page ∷ pages) (suc i) h = none_left pages i (omega arith)
-
-pub met_image_over : (image pages : Memory) (i j : ℕ) → Met image pages i j → length image ≤ i → have_common image pages ≡ false
-met_image_over image pages i j met h = sym met.same ∙ ap (λ m. have_common m (drop j pages)) (none_left image i h)
 
 pub met_pages_over : (image pages : Memory) (i j : ℕ) → Met image pages i j → length pages ≤ j → have_common image pages ≡ false
 met_pages_over image pages i j met h = sym met.same ∙ ap (have_common (drop i image)) (none_left pages j h) ∙ no_pages (drop i image)

@@ -11,8 +11,7 @@ use Rattle.machine_model.specs.Run.{Outcome, memory_left, run, start, start_of, 
 
 pub left-of : (r : Answer) (memory : Memory) (pc steps : ℕ) → memory_left (outcome_of r memory pc steps) ≡ memory
 left-of (answers.End result) memory pc steps = refl
-left-of (answers.Stop stop) memory pc steps = refl
-left-of answers.Spent memory pc steps = refl
+left-of other memory pc steps = refl
 
 -- the outcome by the memory that it left
 pub outcome-is : (o : Outcome) (r : Answer) (memory : Memory) (pc steps : ℕ) → o ≡ outcome_of r memory pc steps → o ≡ outcome_of r (memory_left o) pc steps
