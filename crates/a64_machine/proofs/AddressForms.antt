@@ -2,9 +2,9 @@
 use Rattle.std.proofs.Common.{◌≡◌, ℕ, ◌*◌, ◌^◌, ◌%◌, ◌<◌, [], ◌∷◌, refl, sym, subst, ap, ap₂, ◌∙◌, arith}
 use Rattle.std.proofs.lemmas.Bool.{ne_eqb, cond-false}
 use Rattle.a64_code.specs.declared.LoadStoreByteOp.{LoadStoreByteOp}
-use Rattle.a64_code.specs.declared.LoadStoreByteOp.TheVariants.{Ldrb, Ldrsb, Strb}
+use Rattle.a64_code.specs.declared.LoadStoreByteOp.TheVariants.{Ldrb}
 use Rattle.a64_code.specs.declared.LoadStoreOp.{LoadStoreOp}
-use Rattle.a64_code.specs.declared.LoadStoreOp.TheVariants.{Ldrh, LdrW, LdrX, Ldrsh, Ldrsw, Strh, StrW, StrX}
+use Rattle.a64_code.specs.declared.LoadStoreOp.TheVariants.{Ldrh}
 use Rattle.a64_code.specs.View.{byte_imm_name, wide_imm_name, byte_register_name, wide_register_name}
 use Rattle.machine_model.specs.Arithmetic.{sum}
 use Rattle.machine_model.specs.Machine.{State, Step, x_at, x_or_sp}
@@ -16,37 +16,23 @@ use Rattle.a64_machine.specs.Accesses.{byte_access, access, logarithm}
 byte_immediate_here : (op : LoadStoreByteOp) (rt rn imm : ℕ) (s : State)
     → act (byte_imm_name op) (rt ∷ rn ∷ imm ∷ []) s ≡ byte_access op s rt (sum (x_or_sp s rn) (imm * 2 ^ 0))
 byte_immediate_here Ldrb rt rn imm s = refl
-byte_immediate_here Ldrsb rt rn imm s = refl
-byte_immediate_here Strb rt rn imm s = refl
+byte_immediate_here other rt rn imm s = refl
 
 wide_immediate_here : (op : LoadStoreOp) (rt rn imm : ℕ) (s : State)
     → act (wide_imm_name op) (rt ∷ rn ∷ imm ∷ []) s ≡ access op s rt (sum (x_or_sp s rn) (imm * 2 ^ logarithm op))
 wide_immediate_here Ldrh rt rn imm s = refl
-wide_immediate_here LdrW rt rn imm s = refl
-wide_immediate_here LdrX rt rn imm s = refl
-wide_immediate_here Ldrsh rt rn imm s = refl
-wide_immediate_here Ldrsw rt rn imm s = refl
-wide_immediate_here Strh rt rn imm s = refl
-wide_immediate_here StrW rt rn imm s = refl
-wide_immediate_here StrX rt rn imm s = refl
+wide_immediate_here other rt rn imm s = refl
 
 byte_register_here : (op : LoadStoreByteOp) (rt rn rm : ℕ) (s : State)
     → act (byte_register_name op) (rt ∷ rn ∷ rm ∷ []) s ≡ byte_access op s rt (sum (x_or_sp s rn) (x_at s rm))
 byte_register_here Ldrb rt rn rm s = refl
-byte_register_here Ldrsb rt rn rm s = refl
-byte_register_here Strb rt rn rm s = refl
+byte_register_here other rt rn rm s = refl
 
 wide_register_here : (op : LoadStoreOp) (rt rn scaled rm : ℕ) (s : State)
     → act (wide_register_name op) (rt ∷ rn ∷ scaled ∷ rm ∷ []) s
     ≡ access op s rt (sum (x_or_sp s rn) (x_at s rm * 2 ^ (logarithm op * scaled) % 2 ^ 64))
 wide_register_here Ldrh rt rn scaled rm s = refl
-wide_register_here LdrW rt rn scaled rm s = refl
-wide_register_here LdrX rt rn scaled rm s = refl
-wide_register_here Ldrsh rt rn scaled rm s = refl
-wide_register_here Ldrsw rt rn scaled rm s = refl
-wide_register_here Strh rt rn scaled rm s = refl
-wide_register_here StrW rt rn scaled rm s = refl
-wide_register_here StrX rt rn scaled rm s = refl
+wide_register_here other rt rn scaled rm s = refl
 
 -- the answer to what the model says is the answer to what equals it
 pub answer_as : (m n : Step) (r : StepAnswer) (before after : State) → n ≡ m → IsAnswer m r before after → IsAnswer n r before after
@@ -78,13 +64,7 @@ general_base s n lt = cond-false _ _ _ (ne_eqb n 31 (λ e. omega arith))
 
 offset_fits : (op : LoadStoreOp) (imm : ℕ) → imm < 2 ^ 12 → imm * 2 ^ logarithm op % 2 ^ 64 ≡ imm * 2 ^ logarithm op
 offset_fits Ldrh imm lt = omega arith
-offset_fits LdrW imm lt = omega arith
-offset_fits LdrX imm lt = omega arith
-offset_fits Ldrsh imm lt = omega arith
-offset_fits Ldrsw imm lt = omega arith
-offset_fits Strh imm lt = omega arith
-offset_fits StrW imm lt = omega arith
-offset_fits StrX imm lt = omega arith
+offset_fits other imm lt = omega arith
 
 pub ready_wide_immediate : (op : LoadStoreOp) (rt rn imm base unit : ℕ) (s : State) → base < 31 → base ≡ rn → imm < 2 ^ 12 → unit ≡ logarithm op
     → act (wide_imm_name op) (rt ∷ rn ∷ imm ∷ []) s ≡ access op s rt (sum (x_at s base) (imm * 2 ^ unit % 2 ^ 64))

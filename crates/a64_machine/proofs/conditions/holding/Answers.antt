@@ -9,41 +9,21 @@ use Rattle.a64_machine.proofs.conditions.holding.Goals as goal
 abbrev flags : (n z c v : Bool) → Flags
 flags n z c v = record { n = n; z = z; c = c; v = v }
 
+-- a fact of both truths
+record Both (P : Bool → Type 0) : Type 0 where
+  pub yes : P true
+  pub no : P false
+
+both : {P : Bool → Type 0} → P true → P false → Both P
+both y n = record { yes = y; no = n }
+
+either : {P : Bool → Type 0} → Both P → (b : Bool) → P b
+either p true = p.yes
+either p false = p.no
+
 -- what is so of each of the sixteen is so of all
-each : (P : Flags → Type 0)
-    → P (flags false false false false)
-    → P (flags false false false true)
-    → P (flags false false true false)
-    → P (flags false false true true)
-    → P (flags false true false false)
-    → P (flags false true false true)
-    → P (flags false true true false)
-    → P (flags false true true true)
-    → P (flags true false false false)
-    → P (flags true false false true)
-    → P (flags true false true false)
-    → P (flags true false true true)
-    → P (flags true true false false)
-    → P (flags true true false true)
-    → P (flags true true true false)
-    → P (flags true true true true)
-    → (n z c v : Bool) → P (flags n z c v)
-each P p0 p1 p2 p3 p4 p5 p6 p7 p8 p9 p10 p11 p12 p13 p14 p15 false false false false = p0
-each P p0 p1 p2 p3 p4 p5 p6 p7 p8 p9 p10 p11 p12 p13 p14 p15 false false false true = p1
-each P p0 p1 p2 p3 p4 p5 p6 p7 p8 p9 p10 p11 p12 p13 p14 p15 false false true false = p2
-each P p0 p1 p2 p3 p4 p5 p6 p7 p8 p9 p10 p11 p12 p13 p14 p15 false false true true = p3
-each P p0 p1 p2 p3 p4 p5 p6 p7 p8 p9 p10 p11 p12 p13 p14 p15 false true false false = p4
-each P p0 p1 p2 p3 p4 p5 p6 p7 p8 p9 p10 p11 p12 p13 p14 p15 false true false true = p5
-each P p0 p1 p2 p3 p4 p5 p6 p7 p8 p9 p10 p11 p12 p13 p14 p15 false true true false = p6
-each P p0 p1 p2 p3 p4 p5 p6 p7 p8 p9 p10 p11 p12 p13 p14 p15 false true true true = p7
-each P p0 p1 p2 p3 p4 p5 p6 p7 p8 p9 p10 p11 p12 p13 p14 p15 true false false false = p8
-each P p0 p1 p2 p3 p4 p5 p6 p7 p8 p9 p10 p11 p12 p13 p14 p15 true false false true = p9
-each P p0 p1 p2 p3 p4 p5 p6 p7 p8 p9 p10 p11 p12 p13 p14 p15 true false true false = p10
-each P p0 p1 p2 p3 p4 p5 p6 p7 p8 p9 p10 p11 p12 p13 p14 p15 true false true true = p11
-each P p0 p1 p2 p3 p4 p5 p6 p7 p8 p9 p10 p11 p12 p13 p14 p15 true true false false = p12
-each P p0 p1 p2 p3 p4 p5 p6 p7 p8 p9 p10 p11 p12 p13 p14 p15 true true false true = p13
-each P p0 p1 p2 p3 p4 p5 p6 p7 p8 p9 p10 p11 p12 p13 p14 p15 true true true false = p14
-each P p0 p1 p2 p3 p4 p5 p6 p7 p8 p9 p10 p11 p12 p13 p14 p15 true true true true = p15
+each : (P : Flags → Type 0) → Both (λ n. Both (λ z. Both (λ c. Both (λ v. P (flags n z c v))))) → (n z c v : Bool) → P (flags n z c v)
+each P p n z c v = either (either (either (either p n) z) c) v
 
 -- a number has the bits of the flags by which a condition holds
 abbrev IsHolding : (cond mask : ℕ) → Flags → Type 0
@@ -53,46 +33,46 @@ by_cond : (cond is : Cond) (mask : ℕ) (f : Flags) → cond ≡ is → IsHoldin
 by_cond cond is mask f e h = h ∙ ap (λ k. holds (cond_number k) f) (sym e)
 
 pub returns-in-Eq : goal.returns-in-Eq
-returns-in-Eq c f = by_cond c.args.cond _ 0xf0f0 f c.in-Eq.is (each (IsHolding 0 0xf0f0) refl refl refl refl refl refl refl refl refl refl refl refl refl refl refl refl f.n f.z f.c f.v)
+returns-in-Eq c f = by_cond c.args.cond _ 0xf0f0 f c.in-Eq.is (each (IsHolding 0 0xf0f0) (both (both (both (both refl refl) (both refl refl)) (both (both refl refl) (both refl refl))) (both (both (both refl refl) (both refl refl)) (both (both refl refl) (both refl refl)))) f.n f.z f.c f.v)
 
 pub returns-in-Ne : goal.returns-in-Ne
-returns-in-Ne c f = by_cond c.args.cond _ 0x0f0f f c.in-Ne.is (each (IsHolding 1 0x0f0f) refl refl refl refl refl refl refl refl refl refl refl refl refl refl refl refl f.n f.z f.c f.v)
+returns-in-Ne c f = by_cond c.args.cond _ 0x0f0f f c.in-Ne.is (each (IsHolding 1 0x0f0f) (both (both (both (both refl refl) (both refl refl)) (both (both refl refl) (both refl refl))) (both (both (both refl refl) (both refl refl)) (both (both refl refl) (both refl refl)))) f.n f.z f.c f.v)
 
 pub returns-in-Hs : goal.returns-in-Hs
-returns-in-Hs c f = by_cond c.args.cond _ 0xcccc f c.in-Hs.is (each (IsHolding 2 0xcccc) refl refl refl refl refl refl refl refl refl refl refl refl refl refl refl refl f.n f.z f.c f.v)
+returns-in-Hs c f = by_cond c.args.cond _ 0xcccc f c.in-Hs.is (each (IsHolding 2 0xcccc) (both (both (both (both refl refl) (both refl refl)) (both (both refl refl) (both refl refl))) (both (both (both refl refl) (both refl refl)) (both (both refl refl) (both refl refl)))) f.n f.z f.c f.v)
 
 pub returns-in-Lo : goal.returns-in-Lo
-returns-in-Lo c f = by_cond c.args.cond _ 0x3333 f c.in-Lo.is (each (IsHolding 3 0x3333) refl refl refl refl refl refl refl refl refl refl refl refl refl refl refl refl f.n f.z f.c f.v)
+returns-in-Lo c f = by_cond c.args.cond _ 0x3333 f c.in-Lo.is (each (IsHolding 3 0x3333) (both (both (both (both refl refl) (both refl refl)) (both (both refl refl) (both refl refl))) (both (both (both refl refl) (both refl refl)) (both (both refl refl) (both refl refl)))) f.n f.z f.c f.v)
 
 pub returns-in-Mi : goal.returns-in-Mi
-returns-in-Mi c f = by_cond c.args.cond _ 0xff00 f c.in-Mi.is (each (IsHolding 4 0xff00) refl refl refl refl refl refl refl refl refl refl refl refl refl refl refl refl f.n f.z f.c f.v)
+returns-in-Mi c f = by_cond c.args.cond _ 0xff00 f c.in-Mi.is (each (IsHolding 4 0xff00) (both (both (both (both refl refl) (both refl refl)) (both (both refl refl) (both refl refl))) (both (both (both refl refl) (both refl refl)) (both (both refl refl) (both refl refl)))) f.n f.z f.c f.v)
 
 pub returns-in-Pl : goal.returns-in-Pl
-returns-in-Pl c f = by_cond c.args.cond _ 0x00ff f c.in-Pl.is (each (IsHolding 5 0x00ff) refl refl refl refl refl refl refl refl refl refl refl refl refl refl refl refl f.n f.z f.c f.v)
+returns-in-Pl c f = by_cond c.args.cond _ 0x00ff f c.in-Pl.is (each (IsHolding 5 0x00ff) (both (both (both (both refl refl) (both refl refl)) (both (both refl refl) (both refl refl))) (both (both (both refl refl) (both refl refl)) (both (both refl refl) (both refl refl)))) f.n f.z f.c f.v)
 
 pub returns-in-Vs : goal.returns-in-Vs
-returns-in-Vs c f = by_cond c.args.cond _ 0xaaaa f c.in-Vs.is (each (IsHolding 6 0xaaaa) refl refl refl refl refl refl refl refl refl refl refl refl refl refl refl refl f.n f.z f.c f.v)
+returns-in-Vs c f = by_cond c.args.cond _ 0xaaaa f c.in-Vs.is (each (IsHolding 6 0xaaaa) (both (both (both (both refl refl) (both refl refl)) (both (both refl refl) (both refl refl))) (both (both (both refl refl) (both refl refl)) (both (both refl refl) (both refl refl)))) f.n f.z f.c f.v)
 
 pub returns-in-Vc : goal.returns-in-Vc
-returns-in-Vc c f = by_cond c.args.cond _ 0x5555 f c.in-Vc.is (each (IsHolding 7 0x5555) refl refl refl refl refl refl refl refl refl refl refl refl refl refl refl refl f.n f.z f.c f.v)
+returns-in-Vc c f = by_cond c.args.cond _ 0x5555 f c.in-Vc.is (each (IsHolding 7 0x5555) (both (both (both (both refl refl) (both refl refl)) (both (both refl refl) (both refl refl))) (both (both (both refl refl) (both refl refl)) (both (both refl refl) (both refl refl)))) f.n f.z f.c f.v)
 
 pub returns-in-Hi : goal.returns-in-Hi
-returns-in-Hi c f = by_cond c.args.cond _ 0x0c0c f c.in-Hi.is (each (IsHolding 8 0x0c0c) refl refl refl refl refl refl refl refl refl refl refl refl refl refl refl refl f.n f.z f.c f.v)
+returns-in-Hi c f = by_cond c.args.cond _ 0x0c0c f c.in-Hi.is (each (IsHolding 8 0x0c0c) (both (both (both (both refl refl) (both refl refl)) (both (both refl refl) (both refl refl))) (both (both (both refl refl) (both refl refl)) (both (both refl refl) (both refl refl)))) f.n f.z f.c f.v)
 
 pub returns-in-Ls : goal.returns-in-Ls
-returns-in-Ls c f = by_cond c.args.cond _ 0xf3f3 f c.in-Ls.is (each (IsHolding 9 0xf3f3) refl refl refl refl refl refl refl refl refl refl refl refl refl refl refl refl f.n f.z f.c f.v)
+returns-in-Ls c f = by_cond c.args.cond _ 0xf3f3 f c.in-Ls.is (each (IsHolding 9 0xf3f3) (both (both (both (both refl refl) (both refl refl)) (both (both refl refl) (both refl refl))) (both (both (both refl refl) (both refl refl)) (both (both refl refl) (both refl refl)))) f.n f.z f.c f.v)
 
 pub returns-in-Ge : goal.returns-in-Ge
-returns-in-Ge c f = by_cond c.args.cond _ 0xaa55 f c.in-Ge.is (each (IsHolding 10 0xaa55) refl refl refl refl refl refl refl refl refl refl refl refl refl refl refl refl f.n f.z f.c f.v)
+returns-in-Ge c f = by_cond c.args.cond _ 0xaa55 f c.in-Ge.is (each (IsHolding 10 0xaa55) (both (both (both (both refl refl) (both refl refl)) (both (both refl refl) (both refl refl))) (both (both (both refl refl) (both refl refl)) (both (both refl refl) (both refl refl)))) f.n f.z f.c f.v)
 
 pub returns-in-Lt : goal.returns-in-Lt
-returns-in-Lt c f = by_cond c.args.cond _ 0x55aa f c.in-Lt.is (each (IsHolding 11 0x55aa) refl refl refl refl refl refl refl refl refl refl refl refl refl refl refl refl f.n f.z f.c f.v)
+returns-in-Lt c f = by_cond c.args.cond _ 0x55aa f c.in-Lt.is (each (IsHolding 11 0x55aa) (both (both (both (both refl refl) (both refl refl)) (both (both refl refl) (both refl refl))) (both (both (both refl refl) (both refl refl)) (both (both refl refl) (both refl refl)))) f.n f.z f.c f.v)
 
 pub returns-in-Gt : goal.returns-in-Gt
-returns-in-Gt c f = by_cond c.args.cond _ 0x0a05 f c.in-Gt.is (each (IsHolding 12 0x0a05) refl refl refl refl refl refl refl refl refl refl refl refl refl refl refl refl f.n f.z f.c f.v)
+returns-in-Gt c f = by_cond c.args.cond _ 0x0a05 f c.in-Gt.is (each (IsHolding 12 0x0a05) (both (both (both (both refl refl) (both refl refl)) (both (both refl refl) (both refl refl))) (both (both (both refl refl) (both refl refl)) (both (both refl refl) (both refl refl)))) f.n f.z f.c f.v)
 
 pub returns-in-Le : goal.returns-in-Le
-returns-in-Le c f = by_cond c.args.cond _ 0xf5fa f c.in-Le.is (each (IsHolding 13 0xf5fa) refl refl refl refl refl refl refl refl refl refl refl refl refl refl refl refl f.n f.z f.c f.v)
+returns-in-Le c f = by_cond c.args.cond _ 0xf5fa f c.in-Le.is (each (IsHolding 13 0xf5fa) (both (both (both (both refl refl) (both refl refl)) (both (both refl refl) (both refl refl))) (both (both (both refl refl) (both refl refl)) (both (both refl refl) (both refl refl)))) f.n f.z f.c f.v)
 
 pub returns-in-Al : goal.returns-in-Al
-returns-in-Al c f = by_cond c.args.cond _ 0xffff f c.in-Al.is (each (IsHolding 14 0xffff) refl refl refl refl refl refl refl refl refl refl refl refl refl refl refl refl f.n f.z f.c f.v)
+returns-in-Al c f = by_cond c.args.cond _ 0xffff f c.in-Al.is (each (IsHolding 14 0xffff) (both (both (both (both refl refl) (both refl refl)) (both (both refl refl) (both refl refl))) (both (both (both refl refl) (both refl refl)) (both (both refl refl) (both refl refl)))) f.n f.z f.c f.v)
