@@ -6,7 +6,7 @@ use Rattle.sve_asm.specs.declared.fault.AsmFault.TheVariants as assembling
 use Rattle.sve_asm.specs.Lines.{words_of}
 use Rattle.sve_asm.specs.View.{Refuses}
 use Rattle.refusals.specs.declared.refusal.Refusal.{Refusal}
-use Rattle.refusals.specs.declared.refusal.Refusal.TheVariants.{Usage, TooManyLive, Kernel, TooLong, Elf, Map, Asm, Pipe, Memory, File, Output}
+use Rattle.refusals.specs.declared.refusal.Refusal.TheVariants.{Asm, Memory}
 use Rattle.refusals.specs.Statuses.{of_asm}
 use Rattle.command_answers.specs.Answer.{Held, Expected, Answer, answer_of, expected_text, IsFileAnswer}
 use Rattle.command_answers.specs.Outputs.{Prints}
@@ -18,15 +18,7 @@ use Rattle.program_commands.specs.Commands.{assembled_by, assemble_text, expecte
 pub asm_refused : (x z : ℕ) (wanted : Expected) (refusal : Refusal) (result : Answer) → result ≡ Err refusal → RefusesAsm wanted refusal → IsFileAnswer x z (answer_of wanted) result
 asm_refused x z wanted Memory result is h = inr (inl is)
 asm_refused x z wanted (Asm fault) result is h = inl (is ∙ sym (ap answer_of h))
-asm_refused x z wanted (Pipe fault) result is h = absurd h
-asm_refused x z wanted Usage result is h = absurd h
-asm_refused x z wanted (TooManyLive class need) result is h = absurd h
-asm_refused x z wanted (Kernel fault) result is h = absurd h
-asm_refused x z wanted TooLong result is h = absurd h
-asm_refused x z wanted (Elf fault) result is h = absurd h
-asm_refused x z wanted (Map fault) result is h = absurd h
-asm_refused x z wanted File result is h = absurd h
-asm_refused x z wanted Output result is h = absurd h
+asm_refused x z wanted other result is h = absurd h
 
 pub refuses_asm : {T : Type 0} (text : List ℕ) (fault : AsmFault) (result : Result T Refusal) → IsErrAnd result (λ r. r ≡ of_asm fault) → Refuses (words_of text) fault → IfErr result (RefusesAsm (assemble_text text))
 unfolding assemble_text
@@ -34,11 +26,8 @@ refuses_asm text fault (Ok x) is h = tt
 refuses_asm text fault (Err r) is h = subst (RefusesAsm (assembled_by (words_of text))) (sym is) (by fault h)
   where
     by : (fault : AsmFault) → Refuses (words_of text) fault → RefusesAsm (assembled_by (words_of text)) (of_asm fault)
-    by assembling.TooLong h = ap assembled_by h
-    by (assembling.BadLine line) h = ap assembled_by h
-    by (assembling.Differs line want found) h = ap assembled_by h
-    by assembling.TooManyWords h = ap assembled_by h
     by assembling.Memory h = tt
+    by other h = ap assembled_by h
 
 -- ---- nothing is put on the output
 

@@ -1,6 +1,6 @@
 -- What a debugging session comes to, by the files that were read, the program that was loaded, and what was answered.
 use mathlib.Core.Logic.{⊎_elim}
-use Rattle.std.proofs.Common.{◌≡◌, ◌≢◌, ◌⊎◌, ℕ, ◌≤◌, List, Option, Some, None, Result, Ok, Err, inl, inr, refl, sym, ap, ◌∙◌, subst}
+use Rattle.std.proofs.Common.{◌≡◌, ◌≢◌, ◌⊎◌, ℕ, List, Option, Some, None, Result, Ok, Err, inl, inr, refl, sym, ap, ◌∙◌, subst}
 use Rattle.std.specs.Prelude.{IfSome, IfOk, IsErrAnd}
 use Rattle.guest_types.specs.EarlyLoads.{StopList}
 use Rattle.guest_types.specs.Memory.{Memory as Pages}
@@ -14,12 +14,12 @@ use Rattle.sve_debug.specs.declared.session.SessionFault.{SessionFault}
 use Rattle.sve_debug.specs.declared.session.SessionFault.TheVariants as sessions
 use Rattle.sve_debug.specs.Sessions.{Tells, AsItCame}
 use Rattle.refusals.specs.declared.refusal.Refusal.{Refusal}
-use Rattle.refusals.specs.declared.refusal.Refusal.TheVariants.{Usage, TooManyLive, Kernel, TooLong, Elf, Map, Asm, Pipe, Memory, File, Output}
+use Rattle.refusals.specs.declared.refusal.Refusal.TheVariants.{Elf, Map, Memory, File, Output}
 use Rattle.refusals.specs.declared.refusal.Done.TheVariants as done
 use Rattle.command_answers.specs.Answer.{Held, Expected, Answer, answer_of, expected_text, IsFileAnswer, IsAnswer}
 use Rattle.refusals.specs.Statuses.{of_session}
 use Rattle.command_answers.specs.Reads.{and_then, task_files, IsOfRead}
-use Rattle.program_commands.specs.Commands.{debug_program, expected_of_debug, expected_of_run, IsOfDebug}
+use Rattle.program_commands.specs.Commands.{expected_of_debug, expected_of_run, IsOfDebug}
 use Rattle.command_answers.specs.Works.{RefusesProgram}
 use Rattle.command_answers.specs.Outputs.{Prints}
 use Rattle.program_commands.specs.Ready.{AnswersAsItCame, DebugsAsItCame}
@@ -50,14 +50,7 @@ refused_answer : (x y : ℕ) (rose : Type 0) (wanted : Expected) (refusal : Refu
 refused_answer x y rose wanted Memory result is h = inl (inr (inl is))
 refused_answer x y rose wanted (Elf fault) result is h = inl (inl (is ∙ sym (ap answer_of h)))
 refused_answer x y rose wanted (Map fault) result is h = inl (inl (is ∙ sym (ap answer_of h)))
-refused_answer x y rose wanted Usage result is h = absurd h
-refused_answer x y rose wanted (Asm fault) result is h = absurd h
-refused_answer x y rose wanted (Pipe fault) result is h = absurd h
-refused_answer x y rose wanted (TooManyLive class need) result is h = absurd h
-refused_answer x y rose wanted (Kernel fault) result is h = absurd h
-refused_answer x y rose wanted TooLong result is h = absurd h
-refused_answer x y rose wanted File result is h = absurd h
-refused_answer x y rose wanted Output result is h = absurd h
+refused_answer x y rose wanted other result is h = absurd h
 
 pub refused_program : (x y : ℕ) (rose : Type 0) (left : Option (List ℕ)) (wanted : List ℕ → Expected) (refusal : Refusal) (result : Answer) → IsErrAnd result (λ r. r ≡ refusal) → ((input : List ℕ) → RefusesProgram (wanted input) refusal) → IfSome left (λ input. IsAnswer x y rose (answer_of (wanted input)) result)
 refused_program x y rose None wanted refusal result is h = tt
@@ -68,40 +61,19 @@ refusal_of : (wanted : Expected) (refusal : Refusal) → RefusesProgram wanted r
 refusal_of wanted Memory h = tt
 refusal_of wanted (Elf fault) h = tt
 refusal_of wanted (Map fault) h = tt
-refusal_of wanted Usage h = absurd h
-refusal_of wanted (Asm fault) h = absurd h
-refusal_of wanted (Pipe fault) h = absurd h
-refusal_of wanted (TooManyLive class need) h = absurd h
-refusal_of wanted (Kernel fault) h = absurd h
-refusal_of wanted TooLong h = absurd h
-refusal_of wanted File h = absurd h
-refusal_of wanted Output h = absurd h
+refusal_of wanted other h = absurd h
 
 no_failed_file : (wanted : Expected) (refusal : Refusal) → RefusesProgram wanted refusal → ◌≡◌ {A = Answer} (Err refusal) (Err File) → ⊥
 no_failed_file wanted Memory h e = absurd cc
 no_failed_file wanted (Elf fault) h e = absurd cc
 no_failed_file wanted (Map fault) h e = absurd cc
-no_failed_file wanted Usage h e = absurd h
-no_failed_file wanted (Asm fault) h e = absurd h
-no_failed_file wanted (Pipe fault) h e = absurd h
-no_failed_file wanted (TooManyLive class need) h e = absurd h
-no_failed_file wanted (Kernel fault) h e = absurd h
-no_failed_file wanted TooLong h e = absurd h
-no_failed_file wanted File h e = absurd h
-no_failed_file wanted Output h e = absurd h
+no_failed_file wanted other h e = absurd h
 
 no_failed_output : (wanted : Expected) (refusal : Refusal) → RefusesProgram wanted refusal → ◌≡◌ {A = Answer} (Err refusal) (Err Output) → ⊥
 no_failed_output wanted Memory h e = absurd cc
 no_failed_output wanted (Elf fault) h e = absurd cc
 no_failed_output wanted (Map fault) h e = absurd cc
-no_failed_output wanted Usage h e = absurd h
-no_failed_output wanted (Asm fault) h e = absurd h
-no_failed_output wanted (Pipe fault) h e = absurd h
-no_failed_output wanted (TooManyLive class need) h e = absurd h
-no_failed_output wanted (Kernel fault) h e = absurd h
-no_failed_output wanted TooLong h e = absurd h
-no_failed_output wanted File h e = absurd h
-no_failed_output wanted Output h e = absurd h
+no_failed_output wanted other h e = absurd h
 
 pub program_of_debug : (wanted : Expected) (refusal : Refusal) (result : Answer) → IsErrAnd result (λ r. r ≡ refusal) → RefusesProgram wanted refusal → IsOfDebug result
 program_of_debug wanted refusal result is h = subst IsOfDebug (sym (is_err refusal result is)) (refusal_of wanted refusal h)

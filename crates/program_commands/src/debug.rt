@@ -64,7 +64,8 @@ pub fn debug<F: Files, I: Source, S: Sink>(
         → Rose (S.faults out.old) (S.faults out.new) ⊎ Rose (I.faults input.old) (I.faults input.new) }
     ensures as_it_comes { result ≡ Err Refusal.Output → (Rose (S.faults out.old) (S.faults out.new) → ⊥)
         → IfSome (I.left input.old) (λ bytes. IfSome (F.held files.old)
-        (λ held. DebugsAsItCame held vl (task_view task.now) bytes (I.left input.new) (S.taken out.old) (S.taken out.new))) }
+        (λ held. DebugsAsItCame held vl (task_view task.now) bytes (I.left input.new)
+        (S.taken out.old) (S.taken out.new))) }
     ensures steady { IsTrue (F.steady files.old)
         → IfSome (F.held files.old) (λ held. IsTaskHeld held (task_view task.now)
         → result ≢ Err Refusal.File) }
