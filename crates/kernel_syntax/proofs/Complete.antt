@@ -1,35 +1,19 @@
 -- What is spelled so is read, where no more can belong to it.
-use Rattle.std.proofs.Common.{◌≡◌, ℕ, zero, suc, ◌-◌, ◌<◌, ◌≤◌, List, ◌∷◌, length, Some, None, Ok, refl, sym, arith, ◌⊎◌, inl, inr}
+use Rattle.std.proofs.Common.{◌≡◌, ℕ, zero, suc, ◌-◌, ◌≤◌, List, ◌∷◌, length, Some, None, Ok, refl, sym, arith, ◌⊎◌, inl, inr}
 use Rattle.std.proofs.lemmas.Bool.{eq-eqb}
 use Rattle.std.proofs.lemmas.Bool.Decides.{eqb_tells}
+use Rattle.kernel_tree.proofs.OneTerm.{shorter}
 use Rattle.kernel_tree.specs.declared.ops.Ty.{Ty}
 use Rattle.kernel_tree.specs.declared.mark.Mark.{Mark}
 use Rattle.kernel_tree.specs.declared.mark.Mark.TheVariants as mark
 use Rattle.kernel_tree.specs.declared.mark.Operator.{Operator}
 use Rattle.kernel_tree.specs.declared.mark.Operator.TheVariants.{Joined, Compared, Shifted, As}
-use Rattle.kernel_tree.specs.Word.{Word, IsName, IsNumber, IsType, IsCompare, IsUpdate, IsMark}
+use Rattle.kernel_tree.specs.Word.{Word, IsNumber, IsType, IsMark}
 use Rattle.kernel_tree.specs.Plain.{Term}
 use Rattle.kernel_tree.specs.Grammar.{Spells, number, name, element, group, pair, absolute, choice, negative, prefix, up, conversion, shift, operation, comparison, operator_of, operator_of_mark, level_of}
 use Rattle.kernel_syntax.specs.Reading.{following, past, type_at, count_at, operator_at, chain_at, term_before, name_by, pair_by, absolute_by, choice_by, signed_by, unary_at}
 use Rattle.kernel_syntax.proofs.Chain.{Goes, begins, ends, goes_joined, goes_shifted, goes_as, ends_compared}
 use Rattle.kernel_syntax.proofs.Sound.{joined_is_no_8, other_is_no_8}
-
--- each expression takes a word
-pub shorter : {level : ℕ} {words : List Word} {e : Term} {rest : List Word} → Spells level words e rest → length rest < length words
-shorter number = omega arith
-shorter name = omega arith
-shorter (element d) = omega (arith, shorter d)
-shorter (group d) = omega (arith, shorter d)
-shorter (pair o a b) = omega (arith, shorter a, shorter b)
-shorter (absolute d) = omega (arith, shorter d)
-shorter (choice c a b) = omega (arith, shorter c, shorter a, shorter b)
-shorter negative = omega arith
-shorter (prefix o n d) = omega (arith, shorter d)
-shorter (up d) = omega (arith, shorter d)
-shorter (conversion d o l) = omega (arith, shorter d)
-shorter (shift d o l) = omega (arith, shorter d)
-shorter (operation a o l b) = omega (arith, shorter a, shorter b)
-shorter (comparison a o l b) = omega (arith, shorter a, shorter b)
 
 -- nothing at the front goes on with an expression of a level
 pub record Stops (level : ℕ) (rest : List Word) : Type 0 where
@@ -52,11 +36,7 @@ no_bracket_mark _ o rest p = refl
 no_bracket : (w : Word) (o : Operator) (rest : List Word) → operator_of w ≡ Some o → following mark.OpenBracket (w ∷ rest) ≡ None
 unfolding following
 no_bracket (IsMark m) o rest p = no_bracket_mark m o rest p
-no_bracket (IsName x) o rest p = refl
-no_bracket (IsNumber n) o rest p = refl
-no_bracket (IsType t) o rest p = refl
-no_bracket (IsCompare op) o rest p = refl
-no_bracket (IsUpdate op) o rest p = refl
+no_bracket other o rest p = refl
 
 pub stops_before : (level : ℕ) (w : Word) (o : Operator) (rest : List Word) → operator_of w ≡ Some o → level_of o ≡ suc level → Stops level (w ∷ rest)
 stops_before level w o rest p q = record { operators = λ l h. no_operator level l w o rest p q h; bracket = no_bracket w o rest p }
@@ -98,23 +78,14 @@ count_there n rest = refl
 
 pub reads : {level : ℕ} {words : List Word} {e : Term} {rest : List Word} → Spells level words e rest → (room : ℕ) → length words ≤ room → Reads room level words e rest
 unfolding unary_at name_by pair_by absolute_by choice_by signed_by following past
-reads number zero h = λ s. absurd (omega arith)
 reads number (suc room) h = λ s. refl
-reads name zero h = λ s. absurd (omega arith)
 reads (name {x = x} {rest = rest}) (suc room) h = λ s. rw (s.bracket) refl
-reads (element d) zero h = λ s. absurd (omega arith)
 reads (element {x = x} {i = i} {from = from} {rest = rest} d) (suc room) h = λ s. rw (before_reads room mark.CloseBracket from i rest refl refl refl (reads d room (omega arith))) refl
-reads (group d) zero h = λ s. absurd (omega arith)
 reads (group {e = e} {from = from} {rest = rest} d) (suc room) h = λ s. before_reads room mark.CloseParen from e rest refl refl refl (reads d room (omega arith))
-reads (pair o a b) zero h = λ s. absurd (omega arith)
 reads (pair {a = a} {b = b} {from = from} {next = next} {rest = rest} o d1 d2) (suc room) h = λ s. rw (o, before_reads room mark.Comma from a next refl refl refl (reads d1 room (omega arith)), before_reads room mark.CloseParen next b rest refl refl refl (reads d2 room (omega (arith, shorter d1)))) refl
-reads (absolute d) zero h = λ s. absurd (omega arith)
 reads (absolute {e = e} {from = from} {rest = rest} d) (suc room) h = λ s. rw (before_reads room mark.CloseParen from e rest refl refl refl (reads d room (omega arith))) refl
-reads (choice c a b) zero h = λ s. absurd (omega arith)
 reads (choice {c = c} {a = a} {b = b} {from = from} {next = next} {last = last} {rest = rest} d1 d2 d3) (suc room) h = λ s. rw (before_reads room mark.Comma from c next refl refl refl (reads d1 room (omega arith)), before_reads room mark.Comma next a last refl refl refl (reads d2 room (omega (arith, shorter d1))), before_reads room mark.CloseParen last b rest refl refl refl (reads d3 room (omega (arith, shorter d1, shorter d2)))) refl
-reads negative zero h = λ s. absurd (omega arith)
 reads negative (suc room) h = λ s. refl
-reads (prefix o n d) zero h = λ s. absurd (omega arith)
 reads (prefix {e = e} {from = from} {rest = rest} o n d) (suc room) h = λ s. rw (o, n, reads d room (omega arith) s) refl
 reads (up {level = level} {e = e} {from = from} {rest = rest} d) room h = λ s.
     let p : suc level - 1 ≡ level = omega arith in
@@ -136,6 +107,7 @@ reads (comparison {level = level} {op = op} {w = w} {a = a} {b = b} {from = from
     let right = finish room level next b rest (reads d2 room (omega (arith, shorter d1))) s in
     let g = begins (unary_at room) (suc level) from a (w ∷ next) (omega arith) (rw p left) in
     inr (sym l, ends_compared (unary_at room) (suc level) from a (w ∷ next) g op next b rest (sym (operator_there (suc level) w (Compared op) next o l)) (rw p right))
+reads other zero h = λ s. absurd (omega arith)
 
 -- an expression and the mark after it, with room for as many as there are words
 pub spells_before : (m : Mark) (words : List Word) (e : Term) (rest : List Word) (room : ℕ) → operator_of_mark m ≡ None → following mark.OpenBracket (IsMark m ∷ rest) ≡ None → past m (IsMark m ∷ rest) ≡ Ok rest → length words ≤ room → Spells 10 words e (IsMark m ∷ rest) → term_before (chain_at (unary_at room) 10) m words ≡ Ok (e, rest)

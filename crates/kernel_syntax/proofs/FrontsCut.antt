@@ -4,7 +4,7 @@ use Rattle.kernel_tree.specs.declared.ops.Ty.{Ty}
 use Rattle.kernel_tree.specs.declared.mark.Mark.TheVariants as mark
 use Rattle.kernel_tree.specs.declared.mark.Sign.{Sign}
 use Rattle.kernel_tree.specs.declared.mark.Sign.TheVariants as sign
-use Rattle.kernel_tree.specs.Word.{Word, IsName, IsNumber, IsType, IsCompare, IsUpdate, IsMark}
+use Rattle.kernel_tree.specs.Word.{Word, IsName, IsNumber, IsType, IsUpdate, IsMark}
 use Rattle.kernel_tree.specs.Plain.{Term, Action, Block, Parameter, Accumulator, PlainLoop}
 use Rattle.kernel_tree.specs.Grammar.{Spells, SpellsType, SpellsAction, SpellsBlock, SpellsParam, SpellsSome, SpellsParams, SpellsVars, SpellsLoop, number, name, element, group, pair, absolute, choice, negative, prefix, up, conversion, shift, operation, comparison, untyped, typed, define, put, update, choose, choose_else, leave, done, then, scalar, array, last, more, none, some, no_var, var, no_loop, loop, number_following}
 use Rattle.kernel_tree.specs.Front.{Fronts, TypeFronts, ActionFronts, BlockFronts, ParamFronts, SomeFronts, VarFronts, LoopFronts, BodyFronts, KernelFronts, nothing, above, in_element, end_element, in_group, end_group, at_pair, first_pair, comma_pair, second_pair, end_pair, at_absolute, in_absolute, end_absolute, at_choice, first_choice, comma_choice, second_choice, next_choice, third_choice, end_choice, in_sign, at_operator, at_type, at_count, in_operation, in_comparison, no_type, at_type_word, no_action, define_name, define_type, define_equals, define_value, define_end, at_target, put_index, put_bracket, put_equals, put_value, put_end, update_value, update_end, choose_condition, choose_brace, choose_block, else_brace, else_block, leave_if, leave_condition, leave_end, whole_action, in_action, next_action, whole_block, no_param, param_colon, param_shape, param_element, param_bracket, whole_param, in_param, next_param, no_var_yet, var_name, var_colon, var_type, var_equals, var_value, var_end, next_var, no_loop_yet, loop_name, loop_in, loop_zero, loop_range, loop_bound, loop_brace, loop_block, in_vars, in_loop, end_body, in_answer, end_answer, at_brace, end_function, no_kernel, kernel_name, kernel_paren, in_params, kernel_tail, kernel_type, kernel_brace, in_procedure, in_function}
@@ -20,11 +20,7 @@ uncut sign.Flip pre bad n = refl
 uncut sign.Not pre bad n = refl
 uncut sign.Minus [] bad n = refl
 uncut sign.Minus (IsNumber k ∷ pre) bad n = absurd cc
-uncut sign.Minus (IsName x ∷ pre) bad n = refl
-uncut sign.Minus (IsType t ∷ pre) bad n = refl
-uncut sign.Minus (IsCompare op ∷ pre) bad n = refl
-uncut sign.Minus (IsUpdate op ∷ pre) bad n = refl
-uncut sign.Minus (IsMark m ∷ pre) bad n = refl
+uncut sign.Minus other bad n = refl
 
 cut_spells : (bad : List Word) {level : ℕ} {words : List Word} {e : Term} {rest : List Word} → Spells level words e rest → (end : List Word) → rest ≡ end ++ bad → Cut (λ pre. Spells level pre e end) bad words
 cut_spells bad (number {n = n}) end same = record { pre = IsNumber n ∷ end; whole = ap (λ (z : List Word). IsNumber n ∷ z) same; here = number }

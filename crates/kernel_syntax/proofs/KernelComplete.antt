@@ -5,11 +5,12 @@ use Rattle.kernel_tree.specs.declared.mark.Mark.TheVariants as mark
 use Rattle.kernel_tree.specs.Word.{Word, IsType, IsMark}
 use Rattle.kernel_tree.specs.Plain.{Term, Action, Block, Parameter, Accumulator, PlainLoop, Program}
 use Rattle.kernel_tree.specs.Grammar.{Spells, SpellsType, untyped, typed, SpellsAction, define, put, update, choose, choose_else, leave, SpellsBlock, done, then, SpellsParam, scalar, array, SpellsSome, last, more, SpellsParams, none, some, SpellsVars, no_var, var, SpellsLoop, no_loop, loop, Tree, procedure, function}
+use Rattle.kernel_tree.proofs.OneTerm.{shorter}
 use Rattle.kernel_syntax.specs.Reading.{following, past, name_at, type_at}
 use Rattle.kernel_syntax.specs.Statements.{term_at, type_part, define_at, put_at, update_at, target_at, leave_at, choose_by, statement_by, block_by, block_at}
 use Rattle.kernel_syntax.specs.Headers.{shape_at, param_at, some_at, params_at, var_at, vars_by, vars_at, zero_at, turns_at, loop_at, tail_at, answer_by, kernel_at}
-use Rattle.kernel_syntax.proofs.Sound.{ok_is, not_err}
-use Rattle.kernel_syntax.proofs.Complete.{shorter, spells_before}
+use Rattle.kernel_syntax.proofs.Sound.{not_err}
+use Rattle.kernel_syntax.proofs.Complete.{spells_before}
 
 pub semicolon_reads : (words : List Word) (e : Term) (rest : List Word) → Spells 10 words e (IsMark mark.Semicolon ∷ rest) → term_at mark.Semicolon words ≡ Ok (e, rest)
 unfolding term_at past following
@@ -27,20 +28,12 @@ before_else : (whole : Bool) (b : Block) (words rest : List Word) → SpellsBloc
 unfolding following
 before_else whole b words rest done = refl
 before_else whole b words rest (then (define t e) d) = refl
-before_else whole b words rest (then (put i e) d) = refl
-before_else whole b words rest (then (update e) d) = refl
-before_else whole b words rest (then (choose c a) d) = refl
-before_else whole b words rest (then (choose_else c a e) d) = refl
-before_else whole b words rest (then (leave c) d) = refl
+before_else whole b words rest other = refl
 
 pub action_closes : (whole : Bool) (s : Action) (words rest : List Word) → SpellsAction whole words s rest → following mark.CloseBrace words ≡ None
 unfolding following
 action_closes whole s words rest (define t e) = refl
-action_closes whole s words rest (put i e) = refl
-action_closes whole s words rest (update e) = refl
-action_closes whole s words rest (choose c a) = refl
-action_closes whole s words rest (choose_else c a e) = refl
-action_closes whole s words rest (leave c) = refl
+action_closes whole s words rest other = refl
 
 pub type_reads : (words : List Word) (t : Option Ty) (rest : List Word) → SpellsType words t rest → following mark.Colon rest ≡ None → type_part words ≡ Ok (t, rest)
 unfolding type_part following type_at
@@ -105,18 +98,13 @@ some_reads (more {p = p} {from = from} {next = next} d ds) = rw (param_reads fro
 some_opens : {others : ℕ} {words : List Word} {ps : List Parameter} {rest : List Word} → SpellsSome others words ps rest → following mark.CloseParen words ≡ None
 unfolding following
 some_opens (last scalar) = refl
-some_opens (last array) = refl
 some_opens (more scalar ds) = refl
-some_opens (more array ds) = refl
+some_opens other = refl
 
 pub params_reads : (words : List Word) (ps : List Parameter) (rest : List Word) → SpellsParams words ps rest → params_at words ≡ Ok (ps, rest)
 unfolding params_at following
 params_reads words ps rest none = refl
 params_reads words ps rest (some d) = rw (some_opens d) (some_reads d)
-
-vars_shorter : {words : List Word} {vs : List Accumulator} {rest : List Word} → SpellsVars words vs rest → length rest ≤ length words
-vars_shorter no_var = omega arith
-vars_shorter (var e ds) = omega (arith, shorter e, vars_shorter ds)
 
 vars_goes : {words : List Word} {vs : List Accumulator} {rest : List Word} → SpellsVars words vs rest → following mark.Var rest ≡ None → (k : ℕ) → length words < k → vars_by k words ≡ Ok (vs, rest)
 unfolding vars_by var_at name_at type_at past following
@@ -146,10 +134,6 @@ tree_reads words k (procedure {ps = ps} {vs = vs} {l = l} {from = from} {body = 
     rw (params_reads from ps (IsMark mark.OpenBrace ∷ body) p, vars_reads body vs next v (ends_vars next l (IsMark mark.CloseBrace ∷ []) s refl), loop_reads next l (IsMark mark.CloseBrace ∷ []) s refl) refl
 tree_reads words k (function {ps = ps} {t = t} {vs = vs} {l = l} {e = e} {from = from} {body = body} {next = next} {last = end} p v s d) =
     rw (params_reads from ps (IsMark mark.Arrow ∷ IsType t ∷ IsMark mark.OpenBrace ∷ body) p, vars_reads body vs next v (ends_vars next l (IsMark mark.Return ∷ end) s refl), loop_reads next l (IsMark mark.Return ∷ end) s refl, semicolon_reads end e (IsMark mark.CloseBrace ∷ []) d) refl
-
--- a token list has at most one tree
-pub one_tree : (words : List Word) (k j : Program) → Tree words k → Tree words j → k ≡ j
-one_tree words k j s t = ok_is k j (sym (tree_reads words k s) ∙ tree_reads words j t)
 
 pub no_tree : (words : List Word) (left : ℕ) → kernel_at words ≡ Err left → (k : Program) → Tree words k → ⊥
 no_tree words left h k t = not_err left k (sym h ∙ tree_reads words k t)

@@ -1,7 +1,7 @@
 -- What reading comes to.
-use Rattle.std.proofs.Common.{◌≡◌, ℕ, suc, ◌<◌, ◌≤◌, true, false, List, [], ◌∷◌, length, Option, Some, None, Result, Ok, Err, sym, ap, ◌∙◌, arith, inl, inr}
+use Rattle.std.proofs.Common.{◌≡◌, ℕ, suc, ◌≤◌, false, List, [], ◌∷◌, length, Option, Some, None, Result, Ok, Err, sym, ap, ◌∙◌, arith, inl, inr}
 use Rattle.std.specs.Prelude.{nat_lt, option_map, IfOk}
-use Rattle.std.proofs.lemmas.Bool.{cond-true, cond-false, lt-ltb}
+use Rattle.std.proofs.lemmas.Bool.{cond-true, cond-false}
 use Rattle.std.proofs.lemmas.Bool.Decides.{leb_tells}
 use Rattle.std.proofs.lemmas.List.{length-map}
 use Rattle.kernel_tree.specs.declared.ast.Kernel.{Kernel}
@@ -16,20 +16,11 @@ use Rattle.kernel_syntax.specs.Headers.{alone}
 use Rattle.kernel_syntax.specs.Nesting.{deep_place}
 use Rattle.kernel_syntax.specs.Refusals.{words_fault, tokens_fault, limit_fault, IsReadFrom, WordsGive, TextGives}
 
-above_is : (a b : ℕ) → a < b → nat_lt a b ≡ true
-above_is a b h = lt-ltb a b h
-
 within_is : (a b : ℕ) → b ≤ a → nat_lt a b ≡ false
 within_is a b h = elim (leb_tells (suc a) b) [ inl t ↦ absurd (omega (arith, t.1)) | inr f ↦ f.0 ]
 
-pub long_words : (ts : List Token) → 4096 < length ts → words_fault (words_of ts) ≡ Some faults.TooLong
-long_words ts h = cond-true _ _ _ (above_is 4096 (length (words_of ts)) (omega (arith, length-map ts word_of)))
-
 pub deep_words : (ts : List Token) (o : Option ℕ) → length ts ≤ 4096 → o ≡ deep_place (words_of ts) → words_fault (words_of ts) ≡ option_map faults.TooDeep o
 deep_words ts o h e = cond-false _ _ _ (within_is 4096 (length (words_of ts)) (omega (arith, length-map ts word_of))) ∙ ap (option_map faults.TooDeep) (sym e)
-
-pub long_text : (text : List ℕ) → 65536 < length text → limit_fault text ≡ Some faults.TooLong
-long_text text h = cond-true _ _ _ (above_is 65536 (length text) h)
 
 pub short_text : (text : List ℕ) (r : Result (List Word) ℕ) → length text ≤ 65536 → tokens_of text ≡ r → limit_fault text ≡ tokens_fault r
 short_text text r h e = cond-false _ _ _ (within_is 65536 (length text) h) ∙ ap tokens_fault e

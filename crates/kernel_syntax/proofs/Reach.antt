@@ -16,10 +16,11 @@ use Rattle.kernel_tree.specs.Word.{Word, IsName, IsNumber, IsType, IsMark}
 use Rattle.kernel_tree.specs.Plain.{Term, Literal, Element, Unary, Operation, Shift, Conversion, Choice, Comparison}
 use Rattle.kernel_tree.specs.Grammar.{Spells, number, name, element, group, pair, absolute, choice, negative, prefix, up, conversion, shift, operation, comparison, operator_of, level_of, joined, opening_of_mark, signed, number_following}
 use Rattle.kernel_tree.specs.Front.{Fronts, nothing, above, in_element, end_element, in_group, end_group, at_pair, first_pair, comma_pair, second_pair, end_pair, at_absolute, in_absolute, end_absolute, at_choice, first_choice, comma_choice, second_choice, next_choice, third_choice, end_choice, in_sign, at_operator, at_type, at_count, in_operation, in_comparison}
+use Rattle.kernel_tree.proofs.OneTerm.{shorter}
 use Rattle.kernel_syntax.specs.Reading.{◌>>=◌, given, Outcome, following, past, type_at, count_at, by_operator, more, chain_at, term_before, name_by, pair_by, absolute_by, choice_by, signed_by, unary_at}
 use Rattle.kernel_syntax.proofs.Chain.{Goes, begins, step}
 use Rattle.kernel_syntax.proofs.Sound.{joined_is_no_8, other_is_no_8, number-is}
-use Rattle.kernel_syntax.proofs.Complete.{shorter, finish, goes_of, before_reads, reads, stops_before, operator_there, type_there, count_there}
+use Rattle.kernel_syntax.proofs.Complete.{finish, goes_of, before_reads, reads, stops_before, operator_there, type_there, count_there}
 use Rattle.kernel_syntax.proofs.Within.{Passes, passes_bind, passes_is, passes_same, term_passes, type_passes, count_passes, more_passes, name_goes, pair_goes, absolute_goes, choice_goes, unary_goes, reads_go}
 
 abbrev pub any : ℕ → List Word → Outcome
@@ -196,78 +197,51 @@ name_reaches room x rest = name_goes (chain_at (unary_at room) 10) (unary_at roo
 
 reach : {level : ℕ} {words : List Word} {e : Term} {rest : List Word} → Spells level words e rest → (room : ℕ) → length words ≤ room → Passes (chain_at (unary_at room) level words) (length rest)
 unfolding unary_at name_by pair_by absolute_by choice_by signed_by following past
-reach number zero h = absurd (omega arith)
 reach (number {n = n} {rest = rest}) (suc room) h = whole_reads (IsNumber n ∷ rest) (Literal (pos n)) rest room refl
-reach name zero h = absurd (omega arith)
 reach (name {x = x} {rest = rest}) (suc room) h = reaches_unary (suc room) (IsName x ∷ rest) (length rest) (name_reaches room x rest)
-reach (element d) zero h = absurd (omega arith)
 reach (element {x = x} {i = i} {from = from} {rest = rest} d) (suc room) h = whole_reads (IsName x ∷ IsMark mark.OpenBracket ∷ from) (Element x i) rest room (rw (before_reads room mark.CloseBracket from i rest refl refl refl (reads d room (omega arith))) refl)
-reach (group d) zero h = absurd (omega arith)
 reach (group {e = e} {from = from} {rest = rest} d) (suc room) h = whole_reads (IsMark mark.OpenParen ∷ from) (e) rest room (before_reads room mark.CloseParen from e rest refl refl refl (reads d room (omega arith)))
-reach (pair o a b) zero h = absurd (omega arith)
 reach (pair {op = op} {m = m} {a = a} {b = b} {from = from} {next = next} {rest = rest} o d1 d2) (suc room) h = whole_reads (IsMark m ∷ IsMark mark.OpenParen ∷ from) (Operation op a b) rest room (rw (o, before_reads room mark.Comma from a next refl refl refl (reads d1 room (omega arith)), before_reads room mark.CloseParen next b rest refl refl refl (reads d2 room (omega (arith, shorter d1)))) refl)
-reach (absolute d) zero h = absurd (omega arith)
 reach (absolute {e = e} {from = from} {rest = rest} d) (suc room) h = whole_reads (IsMark mark.Abs ∷ IsMark mark.OpenParen ∷ from) (Unary unary.Abs e) rest room (rw (before_reads room mark.CloseParen from e rest refl refl refl (reads d room (omega arith))) refl)
-reach (choice c a b) zero h = absurd (omega arith)
 reach (choice {c = c} {a = a} {b = b} {from = from} {next = next} {last = last} {rest = rest} d1 d2 d3) (suc room) h = whole_reads (IsMark mark.Select ∷ IsMark mark.OpenParen ∷ from) (Choice c a b) rest room (rw (before_reads room mark.Comma from c next refl refl refl (reads d1 room (omega arith)), before_reads room mark.Comma next a last refl refl refl (reads d2 room (omega (arith, shorter d1))), before_reads room mark.CloseParen last b rest refl refl refl (reads d3 room (omega (arith, shorter d1, shorter d2)))) refl)
-reach negative zero h = absurd (omega arith)
 reach (negative {n = n} {rest = rest}) (suc room) h = whole_reads (IsMark mark.Minus ∷ IsNumber n ∷ rest) (Literal (neg_ℤ (pos n))) rest room refl
-reach (prefix o n d) zero h = absurd (omega arith)
 reach (prefix {s = s} {m = m} {from = from} {rest = rest} o n d) (suc room) h = reaches_unary (suc room) (IsMark m ∷ from) (length rest) (sign_reaches room (length rest) m s from o (omega arith) (unary_reaches room from (length rest) (reach d room (omega arith))))
 reach (up {level = level} {from = from} {rest = rest} d) room h = above_reaches room level from (length rest) (reach d room h)
 reach (conversion {level = level} {e = e} {t = t} {w = w} {from = from} {rest = rest} d o l) room h = typed_reaches room level from (length rest) e w (IsType t ∷ rest) d o l h (passes_is (type_at (IsType t ∷ rest)) (t, rest) (length rest) (type_there t rest) (omega arith))
 reach (shift {level = level} {left = left} {e = e} {n = n} {w = w} {from = from} {rest = rest} d o l) room h = counted_reaches room level from (length rest) e w (IsNumber n ∷ rest) left d o l h (passes_is (count_at (IsNumber n ∷ rest)) (n, rest) (length rest) (count_there n rest) (omega arith))
 reach (operation {level = level} {j = j} {w = w} {a = a} {from = from} {next = next} {rest = rest} d1 o l d2) room h = joined_reaches room level from (length rest) a w next j d1 o l h (reach d2 room (omega (arith, shorter d1)))
 reach (comparison {level = level} {op = op} {w = w} {a = a} {from = from} {next = next} {rest = rest} d1 o l d2) room h = compared_reaches room level from (length rest) a w next op d1 o l h (reach d2 room (omega (arith, shorter d1)))
+reach other zero h = absurd (omega arith)
 
 pub fronts_reach : {level : ℕ} {words bad : List Word} → Fronts level words bad → (room : ℕ) → length words ≤ room → Passes (chain_at (unary_at room) level words) (length bad)
 fronts_reach (nothing {level = level} {bad = bad}) room h = reads_go room level bad (length bad) (omega arith)
 fronts_reach (above {level = level} {from = from} {bad = bad} f) room h = above_reaches room level from (length bad) (fronts_reach f room h)
-fronts_reach (in_element f) zero h = absurd (omega arith)
 fronts_reach (in_element {x = x} {from = from} {bad = bad} f) (suc room) h = reaches_unary (suc room) _ (length bad) (element_reaches room (length bad) x from (fronts_reach f room (omega arith)))
-fronts_reach (end_element d) zero h = absurd (omega arith)
 fronts_reach (end_element {x = x} {from = from} {bad = bad} d) (suc room) h = reaches_unary (suc room) _ (length bad) (element_reaches room (length bad) x from (reach d room (omega arith)))
-fronts_reach (in_group f) zero h = absurd (omega arith)
 fronts_reach (in_group {from = from} {bad = bad} f) (suc room) h = reaches_unary (suc room) _ (length bad) (group_reaches room (length bad) from (fronts_reach f room (omega arith)))
-fronts_reach (end_group d) zero h = absurd (omega arith)
 fronts_reach (end_group {from = from} {bad = bad} d) (suc room) h = reaches_unary (suc room) _ (length bad) (group_reaches room (length bad) from (reach d room (omega arith)))
-fronts_reach (at_pair o) zero h = absurd (omega arith)
 fronts_reach (at_pair {op = op} {m = m} {bad = bad} o) (suc room) h = reaches_unary (suc room) _ (length bad) (at_pair_reaches room (length bad) m op bad o (omega arith))
-fronts_reach (first_pair o f) zero h = absurd (omega arith)
 fronts_reach (first_pair {op = op} {m = m} {from = from} {bad = bad} o f) (suc room) h = reaches_unary (suc room) _ (length bad) (first_pair_reaches room (length bad) m op from o (fronts_reach f room (omega arith)))
-fronts_reach (comma_pair o d) zero h = absurd (omega arith)
 fronts_reach (comma_pair {op = op} {m = m} {from = from} {bad = bad} o d) (suc room) h = reaches_unary (suc room) _ (length bad) (first_pair_reaches room (length bad) m op from o (reach d room (omega arith)))
-fronts_reach (second_pair o d f) zero h = absurd (omega arith)
 fronts_reach (second_pair {op = op} {m = m} {a = a} {from = from} {next = next} {bad = bad} o d f) (suc room) h = reaches_unary (suc room) _ (length bad) (second_pair_reaches room (length bad) m op from a next o (omega arith) d (fronts_reach f room (omega (arith, shorter d))))
-fronts_reach (end_pair o d f) zero h = absurd (omega arith)
 fronts_reach (end_pair {op = op} {m = m} {a = a} {from = from} {next = next} {bad = bad} o d f) (suc room) h = reaches_unary (suc room) _ (length bad) (second_pair_reaches room (length bad) m op from a next o (omega arith) d (reach f room (omega (arith, shorter d))))
-fronts_reach at_absolute zero h = absurd (omega arith)
 fronts_reach (at_absolute {bad = bad}) (suc room) h = reaches_unary (suc room) _ (length bad) (at_absolute_reaches room (length bad) bad (omega arith))
-fronts_reach (in_absolute f) zero h = absurd (omega arith)
 fronts_reach (in_absolute {from = from} {bad = bad} f) (suc room) h = reaches_unary (suc room) _ (length bad) (absolute_reaches room (length bad) from (fronts_reach f room (omega arith)))
-fronts_reach (end_absolute d) zero h = absurd (omega arith)
 fronts_reach (end_absolute {from = from} {bad = bad} d) (suc room) h = reaches_unary (suc room) _ (length bad) (absolute_reaches room (length bad) from (reach d room (omega arith)))
-fronts_reach at_choice zero h = absurd (omega arith)
 fronts_reach (at_choice {bad = bad}) (suc room) h = reaches_unary (suc room) _ (length bad) (at_choice_reaches room (length bad) bad (omega arith))
-fronts_reach (first_choice f) zero h = absurd (omega arith)
 fronts_reach (first_choice {from = from} {bad = bad} f) (suc room) h = reaches_unary (suc room) _ (length bad) (first_choice_reaches room (length bad) from (fronts_reach f room (omega arith)))
-fronts_reach (comma_choice d) zero h = absurd (omega arith)
 fronts_reach (comma_choice {from = from} {bad = bad} d) (suc room) h = reaches_unary (suc room) _ (length bad) (first_choice_reaches room (length bad) from (reach d room (omega arith)))
-fronts_reach (second_choice d f) zero h = absurd (omega arith)
 fronts_reach (second_choice {c = c} {from = from} {next = next} {bad = bad} d f) (suc room) h = reaches_unary (suc room) _ (length bad) (second_choice_reaches room (length bad) from c next (omega arith) d (fronts_reach f room (omega (arith, shorter d))))
-fronts_reach (next_choice d f) zero h = absurd (omega arith)
 fronts_reach (next_choice {c = c} {from = from} {next = next} {bad = bad} d f) (suc room) h = reaches_unary (suc room) _ (length bad) (second_choice_reaches room (length bad) from c next (omega arith) d (reach f room (omega (arith, shorter d))))
-fronts_reach (third_choice d g f) zero h = absurd (omega arith)
 fronts_reach (third_choice {c = c} {a = a} {from = from} {next = next} {last = last} {bad = bad} d g f) (suc room) h = reaches_unary (suc room) _ (length bad) (third_choice_reaches room (length bad) from c next a last (omega arith) (omega (arith, shorter d)) d g (fronts_reach f room (omega (arith, shorter d, shorter g))))
-fronts_reach (end_choice d g f) zero h = absurd (omega arith)
 fronts_reach (end_choice {c = c} {a = a} {from = from} {next = next} {last = last} {bad = bad} d g f) (suc room) h = reaches_unary (suc room) _ (length bad) (third_choice_reaches room (length bad) from c next a last (omega arith) (omega (arith, shorter d)) d g (reach f room (omega (arith, shorter d, shorter g))))
-fronts_reach (in_sign o f) zero h = absurd (omega arith)
 fronts_reach (in_sign {s = s} {m = m} {from = from} {bad = bad} o f) (suc room) h = reaches_unary (suc room) _ (length bad) (sign_reaches room (length bad) m s from o (omega arith) (unary_reaches room from (length bad) (fronts_reach f room (omega arith))))
 fronts_reach (at_operator d) room h = reach d room h
 fronts_reach (at_type {level = level} {e = e} {w = w} {from = from} {bad = bad} d o l) room h = typed_reaches room level from (length bad) e w bad d o l h (type_passes bad (length bad) (omega arith))
 fronts_reach (at_count {level = level} {left = left} {e = e} {w = w} {from = from} {bad = bad} d o l) room h = counted_reaches room level from (length bad) e w bad left d o l h (count_passes bad (length bad) (omega arith))
 fronts_reach (in_operation {level = level} {j = j} {w = w} {a = a} {from = from} {next = next} {bad = bad} d o l f) room h = joined_reaches room level from (length bad) a w next j d o l h (fronts_reach f room (omega (arith, shorter d)))
 fronts_reach (in_comparison {level = level} {op = op} {w = w} {a = a} {from = from} {next = next} {bad = bad} d o l f) room h = compared_reaches room level from (length bad) a w next op d o l h (fronts_reach f room (omega (arith, shorter d)))
+fronts_reach other zero h = absurd (omega arith)
 
 -- an expression and the mark after it, with room for as many as there are words
 pub spelled_reaches : {words : List Word} {e : Term} {rest : List Word} → Spells 10 words e rest → (m : Mark) → Passes (term_before (chain_at (unary_at (length words)) 10) m words) (length rest)

@@ -34,8 +34,7 @@ wraps_none whole = record { same = go whole }
 
 no_number : (s : Sign) (m : Mark) (rest : List Word) → number_following s (IsMark m ∷ rest) ≡ None
 no_number sign.Minus m rest = refl
-no_number sign.Flip m rest = refl
-no_number sign.Not m rest = refl
+no_number other m rest = refl
 
 not_none : {A : Type 0} (x : A) → None ≡ Some x → ⊥
 not_none x e = cc

@@ -60,47 +60,27 @@ needed_is (Some x) n y e = ap Some (ok_is x y e)
 pub mark-is : (words : List Word) (x : Mark × List Word) → mark_at words ≡ Some x → words ≡ IsMark x.0 ∷ x.1
 mark-is [] x e = absurd cc
 mark-is (IsMark n ∷ words) x e = ap (λ (x : Mark × List Word). IsMark x.0 ∷ x.1) (some_is (n, words) x e)
-mark-is (IsName y ∷ words) x e = absurd cc
-mark-is (IsNumber n ∷ words) x e = absurd cc
-mark-is (IsType t ∷ words) x e = absurd cc
-mark-is (IsCompare op ∷ words) x e = absurd cc
-mark-is (IsUpdate op ∷ words) x e = absurd cc
+mark-is other x e = absurd cc
 
 name_front-is : (words : List Word) (x : List ℕ × List Word) → name_front words ≡ Some x → words ≡ IsName x.0 ∷ x.1
 name_front-is [] x e = absurd cc
 name_front-is (IsName y ∷ words) x e = ap (λ (x : List ℕ × List Word). IsName x.0 ∷ x.1) (some_is (y, words) x e)
-name_front-is (IsMark m ∷ words) x e = absurd cc
-name_front-is (IsNumber n ∷ words) x e = absurd cc
-name_front-is (IsType t ∷ words) x e = absurd cc
-name_front-is (IsCompare op ∷ words) x e = absurd cc
-name_front-is (IsUpdate op ∷ words) x e = absurd cc
+name_front-is other x e = absurd cc
 
 type_front-is : (words : List Word) (x : Ty × List Word) → type_front words ≡ Some x → words ≡ IsType x.0 ∷ x.1
 type_front-is [] x e = absurd cc
 type_front-is (IsType t ∷ words) x e = ap (λ (x : Ty × List Word). IsType x.0 ∷ x.1) (some_is (t, words) x e)
-type_front-is (IsName y ∷ words) x e = absurd cc
-type_front-is (IsMark m ∷ words) x e = absurd cc
-type_front-is (IsNumber n ∷ words) x e = absurd cc
-type_front-is (IsCompare op ∷ words) x e = absurd cc
-type_front-is (IsUpdate op ∷ words) x e = absurd cc
+type_front-is other x e = absurd cc
 
 pub update-is : (words : List Word) (x : UpdateOp × List Word) → update_front words ≡ Some x → words ≡ IsUpdate x.0 ∷ x.1
 update-is [] x e = absurd cc
 update-is (IsUpdate op ∷ words) x e = ap (λ (x : UpdateOp × List Word). IsUpdate x.0 ∷ x.1) (some_is (op, words) x e)
-update-is (IsName y ∷ words) x e = absurd cc
-update-is (IsMark m ∷ words) x e = absurd cc
-update-is (IsNumber n ∷ words) x e = absurd cc
-update-is (IsType t ∷ words) x e = absurd cc
-update-is (IsCompare op ∷ words) x e = absurd cc
+update-is other x e = absurd cc
 
 pub number-is : (words : List Word) (x : ℕ × List Word) → number_at words ≡ Some x → words ≡ IsNumber x.0 ∷ x.1
 number-is [] x e = absurd cc
 number-is (IsNumber n ∷ words) x e = ap (λ (x : ℕ × List Word). IsNumber x.0 ∷ x.1) (some_is (n, words) x e)
-number-is (IsName y ∷ words) x e = absurd cc
-number-is (IsMark m ∷ words) x e = absurd cc
-number-is (IsType t ∷ words) x e = absurd cc
-number-is (IsCompare op ∷ words) x e = absurd cc
-number-is (IsUpdate op ∷ words) x e = absurd cc
+number-is other x e = absurd cc
 
 pub following-is : (m : Mark) (words rest : List Word) → following m words ≡ Some rest → words ≡ IsMark m ∷ rest
 unfolding following
