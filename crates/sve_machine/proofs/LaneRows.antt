@@ -67,9 +67,7 @@ add_sub_row op zd zn zm size r r2 o w eo ew e =
 
 bitwise_here : (op : BitwiseOp) (zd zn zm : ℕ) (r : VectorState) → Leaves (logic_name op) (zd ∷ zn ∷ zm ∷ []) r (put_lanes r zd D (binary_at (bitwise_op op) D (z_of r zn) (z_of r zm)))
 bitwise_here bitwise_ops.And zd zn zm r core memory = refl
-bitwise_here bitwise_ops.Orr zd zn zm r core memory = refl
-bitwise_here bitwise_ops.Eor zd zn zm r core memory = refl
-bitwise_here bitwise_ops.Bic zd zn zm r core memory = refl
+bitwise_here other zd zn zm r core memory = refl
 
 pub bitwise_row : (op : BitwiseOp) (zd zn zm : ℕ) (r r2 : VectorState) (o : LaneOp) → o ≡ bitwise_op op → r2 ≡ put_lanes r zd D (binary_at o D (z_of r zn) (z_of r zm)) → Leaves (logic_name op) (zd ∷ zn ∷ zm ∷ []) r r2
 bitwise_row op zd zn zm r r2 o eo e = left_as (logic_name op) (zd ∷ zn ∷ zm ∷ []) r _ r2 (e ∙ ap (λ a. put_lanes r zd D (binary_at a D (z_of r zn) (z_of r zm))) eo) (bitwise_here op zd zn zm r)
@@ -82,15 +80,7 @@ select_row zd zn pg zm size r r2 w ew e = left_as sel (zd ∷ zn ∷ pg ∷ zm �
 
 merging_here : (op : BinaryPredicatedOp) (zdn zm pg size : ℕ) (r : VectorState) → Leaves (merging_name op) (zdn ∷ zm ∷ pg ∷ size ∷ []) r (put_lanes r zdn (width_of_size size) (merge_at (merging_op op) (width_of_size size) (p_of r pg) (z_of r zdn) (z_of r zm)))
 merging_here binary_predicated_ops.Add zdn zm pg size r core memory = refl
-merging_here binary_predicated_ops.Sub zdn zm pg size r core memory = refl
-merging_here binary_predicated_ops.Smax zdn zm pg size r core memory = refl
-merging_here binary_predicated_ops.Umax zdn zm pg size r core memory = refl
-merging_here binary_predicated_ops.Smin zdn zm pg size r core memory = refl
-merging_here binary_predicated_ops.Umin zdn zm pg size r core memory = refl
-merging_here binary_predicated_ops.Mul zdn zm pg size r core memory = refl
-merging_here binary_predicated_ops.Orr zdn zm pg size r core memory = refl
-merging_here binary_predicated_ops.Eor zdn zm pg size r core memory = refl
-merging_here binary_predicated_ops.And zdn zm pg size r core memory = refl
+merging_here other zdn zm pg size r core memory = refl
 
 pub merging_row : (op : BinaryPredicatedOp) (zdn zm pg size : ℕ) (r r2 : VectorState) (o : LaneOp) (w : Width) → o ≡ merging_op op → w ≡ width_of_size size → r2 ≡ put_lanes r zdn w (merge_at o w (p_of r pg) (z_of r zdn) (z_of r zm)) → Leaves (merging_name op) (zdn ∷ zm ∷ pg ∷ size ∷ []) r r2
 merging_row op zdn zm pg size r r2 o w eo ew e =
@@ -98,8 +88,7 @@ merging_row op zdn zm pg size r r2 o w eo ew e =
 
 unary_here : (op : UnaryPredicatedOp) (zd zn pg size : ℕ) (r : VectorState) → Leaves (unary_name op) (zd ∷ zn ∷ pg ∷ size ∷ []) r (put_lanes r zd (width_of_size size) (merge_one_at (unary_op op) (width_of_size size) (p_of r pg) (z_of r zd) (z_of r zn)))
 unary_here unary_predicated_ops.Abs zd zn pg size r core memory = refl
-unary_here unary_predicated_ops.Neg zd zn pg size r core memory = refl
-unary_here unary_predicated_ops.Not zd zn pg size r core memory = refl
+unary_here other zd zn pg size r core memory = refl
 
 pub unary_row : (op : UnaryPredicatedOp) (zd zn pg size : ℕ) (r r2 : VectorState) (o : LaneUnary) (w : Width) → o ≡ unary_op op → w ≡ width_of_size size → r2 ≡ put_lanes r zd w (merge_one_at o w (p_of r pg) (z_of r zd) (z_of r zn)) → Leaves (unary_name op) (zd ∷ zn ∷ pg ∷ size ∷ []) r r2
 unary_row op zd zn pg size r r2 o w eo ew e =
@@ -134,8 +123,7 @@ joined v = omega arith
 
 shift_here : (op : ShiftImmediateOp) (zd zn imm3 tszl tszh : ℕ) (r : VectorState) → let v = 32 * tszh + 8 * tszl + imm3 in Leaves (shift_imm_name op) (zd ∷ zn ∷ imm3 ∷ tszl ∷ tszh ∷ []) r (put_lanes r zd (width_of_size (shift_size v)) (shift_at (shift_op op) (width_of_size (shift_size v)) (z_of r zn) (shift_count op v)))
 shift_here shift_immediate_ops.Lsl zd zn imm3 tszl tszh r core memory = refl
-shift_here shift_immediate_ops.Lsr zd zn imm3 tszl tszh r core memory = refl
-shift_here shift_immediate_ops.Asr zd zn imm3 tszl tszh r core memory = refl
+shift_here other zd zn imm3 tszl tszh r core memory = refl
 
 pub shift_row : (op : ShiftImmediateOp) (zd zn v : ℕ) (r r2 : VectorState) (o : ShiftOp) (w : Width) (count : ℕ) → o ≡ shift_op op → w ≡ width_of_size (shift_size v) → count ≡ shift_count op v → r2 ≡ put_lanes r zd w (shift_at o w (z_of r zn) count) → Leaves (shift_imm_name op) (zd ∷ zn ∷ (v % 8) ∷ (v / 8 % 4) ∷ (v / 32) ∷ []) r r2
 shift_row op zd zn v r r2 o w count eo ew ec e =
@@ -151,17 +139,14 @@ shift_row op zd zn v r r2 o w count eo ew ec e =
 
 positive : (w : Width) → 0 < width_bits w
 positive widths.B = omega arith
-positive widths.H = omega arith
-positive widths.S = omega arith
-positive widths.D = omega arith
+positive other = omega arith
 
 pub unary_narrow : (op : UnaryPredicatedOp) (o : LaneUnary) (w : Width) → o ≡ unary_op op → source_bits o < width_bits w
 unary_narrow op o w e = subst (λ a. source_bits a < width_bits w) (sym e) (some op w)
   where
     some : (op : UnaryPredicatedOp) (w : Width) → source_bits (unary_op op) < width_bits w
     some unary_predicated_ops.Abs w = positive w
-    some unary_predicated_ops.Neg w = positive w
-    some unary_predicated_ops.Not w = positive w
+    some other w = positive w
 
 pub byte_narrow : (op : ExtendOp) (size : SizeFromH) (o : LaneUnary) (w : Width) (n : ℕ) → o ≡ byte_extension op → w ≡ width_of_size n → n ≡ size_from_h_number size → source_bits o < width_bits w
 byte_narrow op size o w n eo ew en = let e : w ≡ width_of_size (size_from_h_number size) = ew ∙ ap width_of_size en in subst (λ a. source_bits a < width_bits w) (sym eo) (subst (λ b. source_bits (byte_extension op) < width_bits b) (sym e) (some op size))
@@ -206,13 +191,7 @@ index_row_is zd rn imm5 size core r r2 w v by ew ev eb e memory =
 
 reduction_here : (op : ReductionOp) (zd zn pg size : ℕ) (r : VectorState) → let w = width_of_size size in Leaves (reduce_name op) (zd ∷ zn ∷ pg ∷ size ∷ []) r (put_z r zd (reduced (reduction_width op w) (reduce_of (reduction_op op) w (lanes r.vl w) (p_of r pg) (z_of r zn))))
 reduction_here reduction_ops.Uaddv zd zn pg size r core memory = refl
-reduction_here reduction_ops.Smaxv zd zn pg size r core memory = refl
-reduction_here reduction_ops.Umaxv zd zn pg size r core memory = refl
-reduction_here reduction_ops.Sminv zd zn pg size r core memory = refl
-reduction_here reduction_ops.Uminv zd zn pg size r core memory = refl
-reduction_here reduction_ops.Orv zd zn pg size r core memory = refl
-reduction_here reduction_ops.Eorv zd zn pg size r core memory = refl
-reduction_here reduction_ops.Andv zd zn pg size r core memory = refl
+reduction_here other zd zn pg size r core memory = refl
 
 pub reduction_row : (op : ReductionOp) (zd zn pg size : ℕ) (r r2 : VectorState) (o : ReduceOp) (w wide : Width) (p z out : List ℕ) (v : ℕ) → o ≡ reduction_op op → w ≡ width_of_size size → wide ≡ reduction_width op w → p ≡ p_of r pg → z ≡ z_of r zn → v ≡ reduce_of o w (lanes r.vl w) p z → out ≡ reduced wide v → r2 ≡ put_z r zd out → Leaves (reduce_name op) (zd ∷ zn ∷ pg ∷ size ∷ []) r r2
 reduction_row op zd zn pg size r r2 o w wide p z out v eo ew ewide ep ez ev eout e =
@@ -225,9 +204,7 @@ reduction_row op zd zn pg size r r2 o w wide p z out v eo ew ewide ep ez ev eout
 -- the shape of that register
 one_fits : (vl : ℕ) (w : Width) → IsLength vl → width_bytes w * 1 ≤ vl / 8
 one_fits vl widths.B h = omega arith
-one_fits vl widths.H h = omega arith
-one_fits vl widths.S h = omega arith
-one_fits vl widths.D h = omega arith
+one_fits vl other h = omega arith
 
 pub one_shape : (vl : ℕ) (w : Width) (v : ℕ) (out : List ℕ) → IsLength vl → out ≡ reduced w v → IsVector vl out
 one_shape vl w v out h e = subst (IsVector vl) (sym e) (vector_made vl (width_bytes w) (dup_at v) 1 h (one_fits vl w h))

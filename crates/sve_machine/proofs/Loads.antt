@@ -7,7 +7,7 @@ use Rattle.guest_types.specs.declared.row.LoadMode.TheVariants.{Plain, FirstFaul
 use Rattle.guest_types.specs.Length.{IsLength, width_bytes, lanes}
 use Rattle.guest_types.specs.Memory.{Memory}
 use Rattle.guest_types.specs.Elements.{active, first_true, both, register}
-use Rattle.guest_types.specs.LaneMemory.{store_of, LoadForm, load_form, plain_load, lane_address, or_fault, fault_at, lane_faults, loaded_lane, kept_lane, is_clear, cleared_from}
+use Rattle.guest_types.specs.LaneMemory.{LoadForm, load_form, plain_load, lane_address, or_fault, fault_at, lane_faults, loaded_lane, kept_lane, is_clear, cleared_from}
 use Rattle.guest_types.specs.EarlyLoads.{StopList, EarlyLoad, unless_fault, early_load, later_than, suppressed_at, stop_at, non_fault_early}
 use Rattle.machine_model.specs.States.{IsVector, IsPredicate}
 use Rattle.machine_model.proofs.StateSteps.{vector_made, fills, cleared_is}
@@ -22,7 +22,7 @@ use Rattle.machine_model.specs.VectorEffects.{do_vector}
 use Rattle.machine_model.specs.VectorEffects as effects
 use Rattle.a64_machine.specs.declared.core_state.Core.{Core}
 use Rattle.sve_machine.specs.VectorStates.{IsVectorState, vector_state_of, z_bytes, p_bits, p_of, z_of, put_load}
-use Rattle.sve_code.specs.Table.{ld1, ldff1, ldnf1, st1}
+use Rattle.sve_code.specs.Table.{ld1, ldff1, ldnf1}
 use Rattle.sve_code.specs.declared.GatherOp.{GatherOp}
 use Rattle.sve_code.specs.declared.GatherOp.TheVariants as gather_ops
 use Rattle.sve_code.specs.View.{load_gather_name}
@@ -157,7 +157,3 @@ gather_row gather_ops.Ld1d zt rn pg zm r core memory = gathered_is zt rn pg zm 1
 gather_row gather_ops.Ld1sb zt rn pg zm r core memory = gathered_is zt rn pg zm 12 r core memory
 gather_row gather_ops.Ld1sh zt rn pg zm r core memory = gathered_is zt rn pg zm 8 r core memory
 gather_row gather_ops.Ld1sw zt rn pg zm r core memory = gathered_is zt rn pg zm 4 r core memory
-
--- ST1 at its operands
-pub store_row : (zt rn pg rm size msz : ℕ) (r : VectorState) (core : Core) (memory : Memory) → let s = state_of core memory r in do_vector (row_of st1 (zt ∷ rn ∷ pg ∷ rm ∷ size ∷ msz ∷ [])) s ≡ effects.after_store (store_of msz size (x_or_sp s rn) (x_at s rm) r.vl (p_of r pg) (z_of r zt) memory) s
-store_row zt rn pg rm size msz r core memory = refl

@@ -1,6 +1,5 @@
 -- Memories and rests beside each other.
-use Rattle.std.proofs.Common.{◌≡◌, ℕ, zero, suc, ◌+◌, ◌-◌, ◌<◌, List, [], ◌∷◌, ◌++◌, length, take, drop, get_or, Option, Some, None, refl, sym, ap, ap₂, ◌∙◌, subst, arith, length-append}
-use Rattle.std.proofs.lemmas.List.{length-drop}
+use Rattle.std.proofs.Common.{◌≡◌, ℕ, zero, suc, ◌+◌, ◌-◌, ◌<◌, List, [], ◌∷◌, ◌++◌, length, take, drop, get_or, Option, Some, None, refl, sym, ap, ap₂, ◌∙◌, subst, arith}
 use Rattle.guest_types.specs.Memory.{Memory}
 use Rattle.machine_model.specs.Debugged.{Past}
 use Rattle.guest_types.specs.Kept.{kept_more}
@@ -43,14 +42,6 @@ past_by-more ms rs m r same =
     ∙ past_by-drop (length rs + 1 - 8) (ms ++ m ∷ []) (rs ++ r ∷ [])
     ∙ ap (drop (length rs + 1 - 8)) (past_by-push ms rs m r same)
     ∙ ap (λ k. drop k (past_by ms rs ++ past_at m r ∷ [])) (let e : length rs + 1 - 8 ≡ length (past_by ms rs) + 1 - 8 = omega (arith, count) in e)
-
-pub length-more : (ms : List Memory) (rs : List Snapshot) (m : Memory) (r : Snapshot) → length ms ≡ length rs → length (kept_more m ms) ≡ length (kept_more r rs)
-length-more ms rs m r same =
-    let left = length-append ms (m ∷ []) in
-    let right = length-append rs (r ∷ []) in
-    length-drop (length ms + 1 - 8) (ms ++ m ∷ [])
-    ∙ (let e : length (ms ++ m ∷ []) - (length ms + 1 - 8) ≡ length (rs ++ r ∷ []) - (length rs + 1 - 8) = omega (arith, left, right, same) in e)
-    ∙ sym (length-drop (length rs + 1 - 8) (rs ++ r ∷ []))
 
 pub past_by-at : (ms : List Memory) (rs : List Snapshot) (n : ℕ) (m : Memory) (r : Snapshot) (d : Past) → n < length (past_by ms rs) → ((e : Memory) → get_or ms n e ≡ m) → ((e : Snapshot) → get_or rs n e ≡ r) → get_or (past_by ms rs) n d ≡ past_at m r
 past_by-at [] rs n m r d l memory rest = absurd (omega (arith, l))

@@ -157,10 +157,7 @@ test_row pn pg core core2 r m out em eo kept fl memory =
 
 logic_here : (op : PredicateLogicalOp) (pd pn pg pm : ℕ) (core : Core) (r : VectorState) (memory : Memory) → let f = logic_at (logic_op op) (p_of r pg) (p_of r pn) (p_of r pm) in do_vector (row_of (pred_logic_name op) (pd ∷ pn ∷ pg ∷ pm ∷ [])) (state_of core memory r) ≡ Went (next (with_flags (with_p (state_of core memory r) pd (predicate 1 f (lanes r.vl B))) (logic_flags op (flags_in core.nzcv) (pred_test (bit (p_of r pg)) f (lanes r.vl B)))))
 logic_here predicate_logical_ops.And pd pn pg pm core r memory = refl
-logic_here predicate_logical_ops.Bic pd pn pg pm core r memory = refl
-logic_here predicate_logical_ops.Eor pd pn pg pm core r memory = refl
-logic_here predicate_logical_ops.Orr pd pn pg pm core r memory = refl
-logic_here predicate_logical_ops.Ands pd pn pg pm core r memory = refl
+logic_here other pd pn pg pm core r memory = refl
 
 pub logic_row : (op : PredicateLogicalOp) (pd pn pg pm : ℕ) (core core2 : Core) (r r2 : VectorState) (o : PredOp) (m out : List ℕ) → IsLength r.vl → o ≡ logic_op op → m ≡ p_of r pg → IsTruths r B (logic_at o (p_of r pg) (p_of r pn) (p_of r pm)) out → r2 ≡ put_p r pd out → core2 ≡ record core { nzcv = core2.nzcv } → flags_in core2.nzcv ≡ logic_flags op (flags_in core.nzcv) (pred_test (active B m) (active B out) (lanes r.vl B)) → CoreLeaves (pred_logic_name op) (pd ∷ pn ∷ pg ∷ pm ∷ []) core r core2 r2
 logic_row op pd pn pg pm core core2 r r2 o m out sized eo em truths e kept fl =
@@ -193,9 +190,7 @@ write_ffr_row pn r r2 out e is core memory = ap (λ x. Went (next (state_of core
 
 count_here : (op : ElementCountOp) (rd : ℕ) (core : Core) (r : VectorState) (memory : Memory) → do_vector (row_of (count_name op) (rd ∷ [])) (state_of core memory r) ≡ Went (next (with_x (state_of core memory r) rd (lanes r.vl (count_width op))))
 count_here element_count_ops.Cntb rd core r memory = refl
-count_here element_count_ops.Cnth rd core r memory = refl
-count_here element_count_ops.Cntw rd core r memory = refl
-count_here element_count_ops.Cntd rd core r memory = refl
+count_here other rd core r memory = refl
 
 pub count_row : (op : ElementCountOp) (rd : ℕ) (core core2 : Core) (r : VectorState) (v : ℕ) → core2 ≡ record core { x = slice_set core.x rd v } → v ≡ lanes r.vl (count_width op) → CoreLeaves (count_name op) (rd ∷ []) core r core2 r
 count_row op rd core core2 r v kept is = x_row (count_name op) (rd ∷ []) core core2 r rd (lanes r.vl (count_width op)) v (λ memory. count_here op rd core r memory) kept is
@@ -215,11 +210,7 @@ cntp_row rd pn pg size core core2 r w m p v ew em ep ev kept =
 
 compare_here : (op : VectorCompareOp) (pd zn pg zm size : ℕ) (core : Core) (r : VectorState) (memory : Memory) → let w = width_of_size size in let f = compare_at (comparison op) w (p_of r pg) (z_of r zn) (z_of r zm) in do_vector (row_of (compare_name op) (pd ∷ zn ∷ pg ∷ zm ∷ size ∷ [])) (state_of core memory r) ≡ Went (next (with_flags (with_p (state_of core memory r) pd (predicate (width_bytes w) f (lanes r.vl w))) (pred_test (active w (p_of r pg)) f (lanes r.vl w))))
 compare_here vector_compare_ops.Hs pd zn pg zm size core r memory = refl
-compare_here vector_compare_ops.Hi pd zn pg zm size core r memory = refl
-compare_here vector_compare_ops.Ge pd zn pg zm size core r memory = refl
-compare_here vector_compare_ops.Gt pd zn pg zm size core r memory = refl
-compare_here vector_compare_ops.Eq pd zn pg zm size core r memory = refl
-compare_here vector_compare_ops.Ne pd zn pg zm size core r memory = refl
+compare_here other pd zn pg zm size core r memory = refl
 
 pub compare_row : (op : VectorCompareOp) (pd zn pg zm size : ℕ) (core core2 : Core) (r r2 : VectorState) (o : LaneCompare) (w : Width) (m out : List ℕ) → IsLength r.vl → o ≡ comparison op → w ≡ width_of_size size → m ≡ p_of r pg → IsTruths r w (compare_at o w (p_of r pg) (z_of r zn) (z_of r zm)) out → r2 ≡ put_p r pd out → core2 ≡ record core { nzcv = core2.nzcv } → flags_in core2.nzcv ≡ pred_test (active w m) (active w out) (lanes r.vl w) → CoreLeaves (compare_name op) (pd ∷ zn ∷ pg ∷ zm ∷ size ∷ []) core r core2 r2
 compare_row op pd zn pg zm size core core2 r r2 o w m out sized eo ew em truths e kept fl =

@@ -11,7 +11,7 @@ use Rattle.guest_types.specs.EarlyLoads.{StopList}
 use Rattle.machine_model.specs.States.{IsVector, IsPredicate}
 use Rattle.machine_model.proofs.StateSteps.{zero_vector, zero_predicate}
 use Rattle.a64_machine.specs.Cores.{VectorState}
-use Rattle.sve_machine.specs.VectorStates.{IsVectorState, vector_state_of, z_bytes, p_bits, z_of, p_of, put_z, put_p, put_ffr, zeros}
+use Rattle.sve_machine.specs.VectorStates.{IsVectorState, vector_state_of, z_bytes, p_bits, z_of, p_of, put_z, put_p, zeros}
 
 pub zeros_are : (vl : ℕ) (stops : StopList) → IsLength vl → IsVectorState (zeros vl stops)
 zeros_are vl stops sized = record {
@@ -41,16 +41,6 @@ p_put r d bits h v = record {
   p_count = length-set r.p d bits ∙ h.p_count;
   p_each = All-set (IsPredicate r.vl) r.p d bits v h.p_each;
   ffr_is = h.ffr_is;
-}
-
-pub ffr_put : (r : VectorState) (bits : List ℕ) → IsVectorState r → IsPredicate r.vl bits → IsVectorState (put_ffr r bits)
-ffr_put r bits h v = record {
-  sized = h.sized;
-  z_count = h.z_count;
-  z_each = h.z_each;
-  p_count = h.p_count;
-  p_each = h.p_each;
-  ffr_is = v;
 }
 
 pub z_shape : (r : VectorState) (n : ℕ) → IsVectorState r → n < 32 → IsVector r.vl (z_of r n)

@@ -40,7 +40,8 @@ pub fn stop(kind: StopKind, pc: u64, at: u64, answer: &mut Step) -> bool
 fn fill(pages: &Pages, kept: &mut [Entry; 1024], pc: u64, answer: &mut Step) -> bool
     requires kept { All (Keeps pages.now.memory) kept.old }
     ensures kept { All (Keeps pages.now.memory) kept.new }
-    ensures found { (d : Entry) → IsTrue result → Holds pages.now.memory pc (slice_index_or kept.new (pc / 4 % 1024) d) }
+    ensures found { (d : Entry) → IsTrue result
+        → Holds pages.now.memory pc (slice_index_or kept.new (pc / 4 % 1024) d) }
     ensures stopped { (s : State) → result ≡ false → s.memory ≡ pages.now.memory → s.pc ≡ pc
         → IsAnswer (step s) answer.new s s }
 {
@@ -65,7 +66,8 @@ fn fill(pages: &Pages, kept: &mut [Entry; 1024], pc: u64, answer: &mut Step) -> 
 pub fn look_up(pages: &Pages, kept: &mut [Entry; 1024], pc: u64, answer: &mut Step) -> bool
     requires kept { All (Keeps pages.now.memory) kept.old }
     ensures kept { All (Keeps pages.now.memory) kept.new }
-    ensures found { (d : Entry) → IsTrue result → Holds pages.now.memory pc (slice_index_or kept.new (pc / 4 % 1024) d) }
+    ensures found { (d : Entry) → IsTrue result
+        → Holds pages.now.memory pc (slice_index_or kept.new (pc / 4 % 1024) d) }
     ensures stopped { (s : State) → result ≡ false → s.memory ≡ pages.now.memory → s.pc ≡ pc
         → IsAnswer (step s) answer.new s s }
 {

@@ -71,7 +71,8 @@ fn load(
         IsAnswer
         (after_load (put_load (load_of mode (dtype_number dtype) base index r.vl pages.now.memory r.stops
         (p_of r pg.number) r.ffr) zt.number r) core.old pages.now.memory)
-        (said result answer.new) (state_of core.old pages.now.memory r) (state_of core.new pages.now.memory vectors.new) }
+        (said result answer.new) (state_of core.old pages.now.memory r)
+        (state_of core.new pages.now.memory vectors.new) }
 {
     let row = load_row(dtype);
     match vectors.load(pages, mode, row, base, index, zt.number, pg.number) {
@@ -214,7 +215,8 @@ fn gather(
         IsAnswer
         (after_load (put_load (gather_of row.dtype base r.vl pages.now.memory r.stops (z_of r zm.number)
         (p_of r pg.number) r.ffr) zt.number r) core.old pages.now.memory)
-        (said result answer.new) (state_of core.old pages.now.memory r) (state_of core.new pages.now.memory vectors.new) }
+        (said result answer.new) (state_of core.old pages.now.memory r)
+        (state_of core.new pages.now.memory vectors.new) }
 {
     match vectors.gather(pages, row, base, zm.number, zt.number, pg.number) {
         Ok(()) => {
