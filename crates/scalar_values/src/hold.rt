@@ -1,7 +1,7 @@
 //! What is held in registers of its own while iterations last.
 
 ghost use Rattle.std.specs.Prelude.{◌≡◌, ◌<◌, ◌≤◌, true, length, OnOk, Option, option_map};
-ghost use Rattle.kernel_tree.specs.Plain.{Operation, Choice, Comparison, Element, name_of, term_of};
+ghost use Rattle.kernel_tree.specs.Plain.{name_of, term_of};
 ghost use Rattle.kernel_scope.specs.Scopes.{scope_of};
 ghost use Rattle.scalar_words.specs.View.{constants_of, homes_of, key_of};
 ghost use Rattle.kernel_tree.specs.Items as items;
