@@ -1,8 +1,10 @@
 -- The items of a loop among those of its kernel.
-use Rattle.std.proofs.Common.{◌≡◌, ℕ, ◌+◌, ◌≤◌, List, [], ◌∷◌, ◌++◌, length, map, take, drop, refl, sym, ap, ◌∙◌, arith}
+use Rattle.std.proofs.Common.{◌≡◌, ℕ, zero, suc, ◌+◌, ◌≤◌, List, [], ◌∷◌, ◌++◌, length, map, take, drop, Some, None, refl, sym, ap, ◌∙◌, arith}
+use Rattle.std.specs.Prelude.{slice_get, slice_index, unwrap_or}
 use Rattle.std.proofs.lemmas.List.{length-append, length-map, append_assoc}
 use Rattle.kernel_tree.specs.Plain.{Parameter, Accumulator, Program}
 use Rattle.kernel_tree.specs.Items.{term_size, vars_size, loop_index, loop_start, loop_end}
+use Rattle.loop_form.specs.declared.item.Item.{Item}
 use Rattle.loop_form.specs.declared.item.ItemKind.TheVariants as kind
 use Rattle.loop_form.specs.Entries.{Entry, IsPlain, entry, term_entries, params_entries, vars_entries, answer_entries, entries_of, loop_entries}
 use Rattle.loop_form.specs.Listing.{item_of, listing_of}
@@ -78,3 +80,15 @@ value_uses k = ap (map z_last) (loop_part k) ∙ values_last (entries_of k) (loo
 
 pub truth_uses : (k : Program) → map p_last (take (length (loop_entries k)) (drop (loop_start k) (listing_of k))) ≡ map (last_in P (entries_of k)) (loop_entries k)
 truth_uses k = ap (map p_last) (loop_part k) ∙ truths_last (entries_of k) (loop_entries k)
+
+-- ---- the last use of the item at a place
+
+pub last_of_none : (f : Item → ℕ) (items : List Item) (n : ℕ) → slice_get items n ≡ None → slice_index (map f items) n ≡ 0
+last_of_none f [] n e = refl
+last_of_none f (it ∷ items) zero e = absurd cc
+last_of_none f (it ∷ items) (suc n) e = last_of_none f items n e
+
+pub last_of_some : (f : Item → ℕ) (items : List Item) (n : ℕ) (made : Item) → slice_get items n ≡ Some made → slice_index (map f items) n ≡ f made
+last_of_some f [] n made e = absurd cc
+last_of_some f (it ∷ items) zero made e = ap (λ o. f (unwrap_or o it)) e
+last_of_some f (it ∷ items) (suc n) made e = last_of_some f items n made e

@@ -11,4 +11,4 @@ pub mod VectorPlaced
 pub mod VectorJoin
 pub mod VectorFiles
 pub mod VectorEmitted
-pub mod Enough
+pub mod Tried

@@ -11,13 +11,14 @@ ghost use Rattle.promises.specs.Faithful.{FreeFaithful, FreeEnds, CloseFaithful}
 ghost use Rattle.promises.specs.Refusals.{too_many, IsRefusal};
 
 use crate::emit::{emit_iterations, emit_lanes};
-use crate::registers::{check_needs, scalar_registers, vector_registers};
+use crate::registers::{scalar_registers, vector_registers};
 use dependence::reason::Class;
 use kernel_tree::Checked;
 use kernel_tree::laws::few_params;
 use loop_class::class;
+use loop_lists::loop_facts;
 use promises::{CompileFault, faithful_files, scalar_files};
-use std::alloc::{AllocError, Global};
+use std::alloc::Global;
 
 /// The words of a compiled kernel, in their order from the first to be executed.
 #[derive(Drop)]
@@ -37,17 +38,17 @@ pub fn compile_kernel(alloc: Global, kernel: &Checked) -> Result<Code, CompileFa
 {
     few_params(kernel);
     faithful_files();
-    check_needs(alloc, kernel)?;
     let words = words_of_class(alloc, kernel)?;
     Ok(Code { words })
 }
 
 #[tactic(auto, unfolding(loop_form::specs::View::program))]
-fn words_of_class(alloc: Global, kernel: &Checked) -> Result<Vec<u32>, AllocError>
-    requires { too_many (program kernel.now) ≡ None }
+fn words_of_class(alloc: Global, kernel: &Checked) -> Result<Vec<u32>, CompileFault>
     ensures close { IfOk result (λ words. CloseFaithful (program kernel.now) (file_of words.items)) }
     ensures ends { IfOk result (λ words. FreeEnds (program kernel.now) (file_of words.items)) }
     ensures short { IfOk result (λ words. length words.items ≤ 1000 + 60 * size_of (program kernel.now)) }
+    ensures enough { OnOk result (too_many (program kernel.now) ≡ None) }
+    ensures refusal { IfErr result (IsRefusal (program kernel.now)) }
 {
     match class(kernel) {
         Class::Vector => vector_words(alloc, kernel),
@@ -55,12 +56,13 @@ fn words_of_class(alloc: Global, kernel: &Checked) -> Result<Vec<u32>, AllocErro
     }
 }
 
-fn scalar_words(alloc: Global, kernel: &Checked) -> Result<Vec<u32>, AllocError>
-    requires enough { too_many (program kernel.now) ≡ None }
-    requires class { is_vector (class_of (program kernel.now)) ≡ false }
+fn scalar_words(alloc: Global, kernel: &Checked) -> Result<Vec<u32>, CompileFault>
+    requires { is_vector (class_of (program kernel.now)) ≡ false }
     ensures close { IfOk result (λ words. CloseFaithful (program kernel.now) (file_of words.items)) }
     ensures ends { IfOk result (λ words. FreeEnds (program kernel.now) (file_of words.items)) }
     ensures short { IfOk result (λ words. length words.items ≤ 1000 + 60 * size_of (program kernel.now)) }
+    ensures enough { OnOk result (too_many (program kernel.now) ≡ None) }
+    ensures refusal { IfErr result (IsRefusal (program kernel.now)) }
 {
     few_params(kernel);
     faithful_files();
@@ -70,14 +72,16 @@ fn scalar_words(alloc: Global, kernel: &Checked) -> Result<Vec<u32>, AllocError>
     Ok(words)
 }
 
-fn vector_words(alloc: Global, kernel: &Checked) -> Result<Vec<u32>, AllocError>
-    requires enough { too_many (program kernel.now) ≡ None }
-    requires class { class_of (program kernel.now) ≡ Vector }
+fn vector_words(alloc: Global, kernel: &Checked) -> Result<Vec<u32>, CompileFault>
+    requires { class_of (program kernel.now) ≡ Vector }
     ensures close { IfOk result (λ words. CloseFaithful (program kernel.now) (file_of words.items)) }
     ensures ends { IfOk result (λ words. FreeEnds (program kernel.now) (file_of words.items)) }
     ensures short { IfOk result (λ words. length words.items ≤ 1000 + 60 * size_of (program kernel.now)) }
+    ensures enough { OnOk result (too_many (program kernel.now) ≡ None) }
+    ensures refusal { IfErr result (IsRefusal (program kernel.now)) }
 {
     let regs = vector_registers(alloc, kernel)?;
-    let words = emit_lanes(alloc, kernel, &regs)?;
+    let facts = loop_facts(alloc, kernel)?;
+    let words = emit_lanes(alloc, &facts, &regs)?;
     Ok(words)
 }

@@ -12,6 +12,7 @@ ghost use Rattle.promises.specs.Faithful.{FreeEnds, CloseFaithful, CloseSlowFait
 
 use kernel_tree::Checked;
 use label_fix::{BranchKind, Draft};
+use loop_form::LoopFacts;
 use loop_form::laws::few_items;
 use loop_lists::listing;
 use overlap_guard::{guard, meets_apart};
@@ -46,31 +47,31 @@ pub fn emit_iterations(
 /// it ends in scalar code, and so does the guard before it where they do not.
 pub fn emit_lanes(
     alloc: Global,
-    kernel: &Checked,
+    facts: &LoopFacts<'_>,
     regs: &VectorRegs,
 ) -> Result<Vec<u32>, AllocError>
-    requires class { class_of (program kernel.now) ≡ Vector }
-    requires vectors { FitsKernel (program kernel.now) Z regs.now.z }
-    requires predicates { FitsKernel (program kernel.now) P regs.now.p }
-    requires scalars { FitsKernel (program kernel.now) X regs.now.x }
-    ensures close { IfOk result (λ words. CloseFaithful (program kernel.now) (file_of words.items)) }
-    ensures ends { IfOk result (λ words. FreeEnds (program kernel.now) (file_of words.items)) }
-    ensures short { IfOk result (λ words. length words.items ≤ 1000 + 60 * size_of (program kernel.now)) }
+    requires class { class_of (program facts.now.kernel.now) ≡ Vector }
+    requires vectors { FitsKernel (program facts.now.kernel.now) Z regs.now.z }
+    requires predicates { FitsKernel (program facts.now.kernel.now) P regs.now.p }
+    requires scalars { FitsKernel (program facts.now.kernel.now) X regs.now.x }
+    ensures close { IfOk result (λ words. CloseFaithful (program facts.now.kernel.now) (file_of words.items)) }
+    ensures ends { IfOk result (λ words. FreeEnds (program facts.now.kernel.now) (file_of words.items)) }
+    ensures short { IfOk result (λ words. length words.items ≤ 1000 + 60 * size_of (program facts.now.kernel.now)) }
 {
+    let kernel = facts.kernel;
     few_items(kernel);
     begin_runs(kernel, &regs.x);
     scalar_runs(kernel, &regs.x);
     meets_apart(kernel);
     vector_runs();
-    let items = listing(alloc, kernel)?;
     let mut draft = Draft::new(alloc);
     let vector = draft.label()?;
-    emit_begin(alloc, kernel, &items, &regs.x, &mut draft)?;
+    emit_begin(alloc, kernel, &facts.listing, &regs.x, &mut draft)?;
     draft.branch(BranchKind::Always, vector)?;
-    let scalar = emit_scalar(alloc, kernel, &items, &regs.x, &mut draft)?.at_iteration;
+    let scalar = emit_scalar(alloc, kernel, &facts.listing, &regs.x, &mut draft)?.at_iteration;
     draft.place(vector)?;
     guard(kernel, scalar, &mut draft)?;
-    emit_vector(alloc, kernel, regs, scalar, &mut draft)?;
+    emit_vector(alloc, facts, regs, scalar, &mut draft)?;
     let words = draft.finish()?;
     have_32_bits(&words);
     Ok(words)

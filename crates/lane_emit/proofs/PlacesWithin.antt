@@ -1,17 +1,17 @@
 -- The places of intervals are among those of the registers.
-use Rattle.std.proofs.Common.{◌≡◌, ℕ, suc, ◌+◌, ◌-◌, ◌≤◌, Bool, true, false, cond, List, [], ◌∷◌, length, map, Option, Some, None, refl, ap, arith}
+use Rattle.std.proofs.Common.{◌≡◌, ℕ, suc, ◌+◌, ◌-◌, ◌≤◌, Bool, true, false, cond, List, [], ◌∷◌, length, Option, Some, None, refl, ap, arith}
 use Rattle.std.specs.Prelude.{slice_get}
 use Rattle.std.proofs.lemmas.Option.{slice_get_within}
-use Rattle.std.proofs.lemmas.List.{length-map, length-append}
 use Rattle.kernel_tree.specs.Plain.{Program}
 use Rattle.kernel_tree.specs.Items.{loop_start}
 use Rattle.reg_assign.specs.declared.interval.RegClass.{RegClass}
 use Rattle.reg_assign.specs.declared.interval.RegClass.TheVariants.{Z}
 use Rattle.reg_assign.specs.Registers.{Assignment}
-use Rattle.loop_form.specs.Needs.{Throughout, throughout, whole, values, intervals}
+use Rattle.loop_form.specs.Needs.{Throughout, throughout, intervals}
 use Rattle.loop_form.specs.Places.{value_places, first_counted, IsValueOf}
 use Rattle.loop_form.specs.Registers.{FitsKernel}
 use Rattle.loop_form.proofs.PlaceLaws.{place-value}
+use Rattle.loop_form.proofs.IntervalRegisters.{held_few}
 use Rattle.lane_emit.specs.LoopRegisters.{IsWithin, flat, item_place, is_same, next_place, place_in}
 
 pub item_within : (k : Program) (class : RegClass) (a : Assignment) (q : ℕ) → FitsKernel k class a → IsWithin (length a.registers) (item_place k class q)
@@ -41,9 +41,4 @@ more m n None le h = tt
 more m n (Some i) le h = omega (arith, le, h)
 
 pub held_within : (k : Program) (a : Assignment) (t : Throughout) → FitsKernel k Z a → IsWithin (length a.registers) (place_in t (throughout k Z))
-held_within k a t f =
-    let each = f.assigned.each in
-    let same = ap length f.intervals in
-    let count = length-append (map (whole k) (throughout k Z)) (values k Z) in
-    let first = length-map (throughout k Z) (whole k) in
-    more (length (throughout k Z)) (length a.registers) (place_in t (throughout k Z)) (omega (arith, each, same, count, first)) (place_within t (throughout k Z))
+held_within k a t f = more (length (throughout k Z)) (length a.registers) (place_in t (throughout k Z)) (held_few k Z a f) (place_within t (throughout k Z))

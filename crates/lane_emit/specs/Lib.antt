@@ -5,4 +5,3 @@ pub mod ItemCode
 pub mod View
 pub mod LoopRegisters
 pub mod RegistersView
-pub mod KernelCode

@@ -8,7 +8,7 @@ use Rattle.lane_emit.specs.LoopRegisters.{loop_registers}
 
 -- the kernel, and the registers of its vector and of its predicate intervals
 abbrev pub kernel_in : LaneRegisters → Program
-kernel_in r = program r.kernel.now
+kernel_in r = program r.facts.now.kernel.now
 
 abbrev pub vectors_in : LaneRegisters → Assignment
 vectors_in r = r.regs.now.z

@@ -9,7 +9,7 @@ mod words;
 
 ghost use Rattle.lane_emit.specs.ItemCode.{LanesRight};
 
-pub use emit::{emit_item, emit_lanes};
+pub use emit::emit_item;
 pub use registers::{LaneRegisters, lane_registers};
 pub use words::{extend_byte, extend_halfword, shift_left, size, wide};
 

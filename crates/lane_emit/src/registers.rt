@@ -1,43 +1,28 @@
 //! The registers of a loop's values.
 
-ghost use Rattle.std.specs.Prelude.{◌≡◌, ◌+◌, ◌-◌, length, slice_get, is_some, IfOk};
+ghost use Rattle.std.specs.Prelude.{◌≡◌, ◌+◌, ◌-◌, length, slice_get, is_some};
 ghost use Rattle.reg_assign.specs.declared.interval.RegClass.TheVariants as class;
 ghost use Rattle.reg_assign.specs.Registers.{IsAssignment};
-ghost use Rattle.kernel_tree.specs.Items.{loop_start};
 ghost use Rattle.loop_form.specs.declared.loop_item.Source.TheVariants as operand;
-ghost use Rattle.loop_form.specs.Entries.{loop_entries};
-ghost use Rattle.loop_form.specs.HeldView.{view, view_of};
+ghost use Rattle.loop_form.specs.HeldView.{view_of};
 ghost use Rattle.loop_form.specs.Needs as needs;
-ghost use Rattle.loop_form.specs.Places as places;
 ghost use Rattle.loop_form.specs.Registers.{FitsKernel};
 ghost use Rattle.loop_form.specs.View.{program};
 ghost use Rattle.lane_emit.specs.LoopRegisters.{IsWithin, flat, register_of, place_in, held_place, sum_place, source_register};
 
 use crate::held_place::place_among;
-use kernel_tree::Checked;
-use loop_form::laws::{few_items, placed_values};
-use loop_form::{Held, Source, vars_size_of};
-use loop_lists::{throughout, value_places};
-use reg_assign::{Assigned, RegClass, VectorRegs};
-use std::alloc::{AllocError, Global};
+use loop_form::{Held, LoopFacts, Source};
+use reg_assign::{Assigned, VectorRegs};
 use sve_code::{GoverningReg, VectorReg};
 use word_rows::Bits;
 
 /// The vector and predicate registers of a loop's values: those that its intervals were given.
 #[derive(Drop)]
 pub struct LaneRegisters<'a> {
-    pub kernel: &'a Checked,
+    pub facts: &'a LoopFacts<'a>,
     pub regs: &'a VectorRegs,
-    first: u32,
-    held: Vec<Held<'a>>,
-    values: Vec<Option<u32>>,
-    truths: Vec<Option<u32>>,
-    pub ghost begins: { first ≡ loop_start (program kernel.now) },
-    pub ghost throughout: { view held.items ≡ needs.throughout (program kernel.now) class.Z },
-    pub ghost valued: { values.items ≡ places.value_places (program kernel.now) class.Z },
-    pub ghost tested: { truths.items ≡ places.value_places (program kernel.now) class.P },
-    pub ghost vectors: { FitsKernel (program kernel.now) class.Z regs.now.z },
-    pub ghost predicates: { FitsKernel (program kernel.now) class.P regs.now.p },
+    pub ghost vectors: { FitsKernel (program facts.now.kernel.now) class.Z regs.now.z },
+    pub ghost predicates: { FitsKernel (program facts.now.kernel.now) class.P regs.now.p },
 }
 
 // ---- by the place of an interval
@@ -82,27 +67,12 @@ fn predicate_at(regs: &Assigned, place: Option<usize>) -> GoverningReg
 impl<'a> LaneRegisters<'a> {
     ghost use Rattle.lane_emit.specs.RegistersView.{kernel_in, vectors_in, registers_of};
 
-    /// The number of the loop's first item, which is its `for`.
-    pub fn first(&self) -> u32
-        ensures { result ≡ loop_start (kernel_in self.now) }
-    {
-        self.first
-    }
-
-    /// How many items the loop has.
-    pub fn count(&self) -> usize
-        ensures { result ≡ length (loop_entries (kernel_in self.now)) }
-    {
-        placed_values(self.kernel, RegClass::Z);
-        self.values.len()
-    }
-
     // The vector register of what is held throughout.
     fn held_register(&self, wanted: Held<'_>) -> VectorReg
         ensures { let place = place_in (view_of wanted.entry) (needs.throughout (kernel_in self.now) class.Z) in
             result.number ≡ register_of 31 (vectors_in self.now) place }
     {
-        let place = place_among(&self.held, wanted);
+        let place = place_among(&self.facts.held, wanted);
         vector_at(&self.regs.z, place)
     }
 
@@ -111,7 +81,7 @@ impl<'a> LaneRegisters<'a> {
     fn param(&self, place: u32) -> VectorReg
         ensures { result.number ≡ source_register (kernel_in self.now) (vectors_in self.now) (operand.Outer place) }
     {
-        match self.kernel.kernel().params.get(place as usize) {
+        match self.facts.kernel.kernel().params.get(place as usize) {
             None => Bits { number: 31 },
             Some(param) => self.held_register(Held::Scalar(param.name.text())),
         }
@@ -121,7 +91,7 @@ impl<'a> LaneRegisters<'a> {
     pub fn z(&self, item: u32) -> VectorReg
         ensures { result.number ≡ (registers_of self.now).z item }
     {
-        let place = place_of_item(&self.values, self.first, item);
+        let place = place_of_item(&self.facts.values, self.facts.first, item);
         vector_at(&self.regs.z, place)
     }
 
@@ -129,7 +99,7 @@ impl<'a> LaneRegisters<'a> {
     pub fn p(&self, item: u32) -> GoverningReg
         ensures { result.number ≡ (registers_of self.now).p item }
     {
-        let place = place_of_item(&self.truths, self.first, item);
+        let place = place_of_item(&self.facts.truths, self.facts.first, item);
         predicate_at(&self.regs.p, place)
     }
 
@@ -156,34 +126,16 @@ impl<'a> LaneRegisters<'a> {
     pub fn is_index_held(&self) -> bool
         ensures { result ≡ is_some (held_place (kernel_in self.now) operand.LoopIndex) }
     {
-        place_among(&self.held, Held::Index).is_some()
+        place_among(&self.facts.held, Held::Index).is_some()
     }
 }
 
 /// The registers of a kernel's loop, by those that its intervals were given.
-#[tactic(auto, unfolding(loop_form::specs::View::program))]
-pub fn lane_registers<'a>(
-    alloc: Global,
-    kernel: &'a Checked,
-    regs: &'a VectorRegs,
-) -> Result<LaneRegisters<'a>, AllocError>
-    requires vectors { FitsKernel (program kernel.now) class.Z regs.now.z }
-    requires predicates { FitsKernel (program kernel.now) class.P regs.now.p }
-    ensures kernel { IfOk result (λ registers. registers.kernel.now ≡ kernel.now) }
-    ensures regs { IfOk result (λ registers. registers.regs.now ≡ regs.now) }
+pub fn lane_registers<'a>(facts: &'a LoopFacts<'a>, regs: &'a VectorRegs) -> LaneRegisters<'a>
+    requires vectors { FitsKernel (program facts.now.kernel.now) class.Z regs.now.z }
+    requires predicates { FitsKernel (program facts.now.kernel.now) class.P regs.now.p }
+    ensures facts { result.facts.now ≡ facts.now }
+    ensures regs { result.regs.now ≡ regs.now }
 {
-    few_items(kernel);
-    let tree = kernel.kernel();
-    let first = tree.params.len() as u32 + vars_size_of(kernel, &tree.vars);
-    let held = throughout(alloc, kernel, RegClass::Z)?;
-    let values = value_places(alloc, kernel, RegClass::Z)?;
-    let truths = value_places(alloc, kernel, RegClass::P)?;
-    Ok(LaneRegisters {
-        kernel,
-        regs,
-        first,
-        held,
-        values,
-        truths,
-    })
+    LaneRegisters { facts, regs }
 }

@@ -7,11 +7,11 @@ ghost use Rattle.kernel_tree.specs.Plain.{accumulators_of};
 ghost use Rattle.reg_assign.specs.Registers.{IsAssignment};
 ghost use Rattle.loop_form.specs.Lanes as lanes;
 ghost use Rattle.loop_form.specs.Needs.{updates};
-ghost use Rattle.loop_form.specs.View.{content_of, entries_view};
-ghost use Rattle.chunk_emit.specs.KernelLayout.{operator_in, operator_of};
+ghost use Rattle.loop_form.specs.View.{program, content_of, entries_view};
+ghost use Rattle.chunk_emit.specs.KernelLayout.{operator_in, operator_of, update_of};
 
 use kernel_tree::{Ty, UpdateOp, Var};
-use loop_form::{Content, Entry, is_update_of};
+use loop_form::{Content, Entry, LoopFacts, is_update_of, var_type};
 use reg_assign::Assigned;
 use sve_code::VectorReg;
 use word_rows::Bits;
@@ -26,8 +26,8 @@ fn operator(entry: &Entry<'_>) -> UpdateOp
     }
 }
 
-/// The operator of the first update of an accumulator.
-pub fn first_operator(entries: &[Entry<'_>], name: &str) -> UpdateOp
+// The operator of the first update of an accumulator among some items.
+fn operator_among(entries: &[Entry<'_>], name: &str) -> UpdateOp
     ensures { result ≡ operator_of (find (updates name.now) (entries_view entries.now)) }
 {
     for entry in entries {
@@ -38,16 +38,18 @@ pub fn first_operator(entries: &[Entry<'_>], name: &str) -> UpdateOp
     UpdateOp::Add
 }
 
+/// The operator of the first update of an accumulator.
+pub fn first_operator(facts: &LoopFacts<'_>, name: &str) -> UpdateOp
+    ensures { result ≡ update_of (program facts.now.kernel.now) name.now }
+{
+    operator_among(&facts.entries, name)
+}
+
 /// The type of an accumulator.
 pub fn type_of(vars: &[Var], name: &str) -> Ty
     ensures { result ≡ unwrap_or (lanes.var_type name.now (accumulators_of vars.now)) U64 }
 {
-    for var in vars {
-        if var.name.text() == name {
-            return var.ty;
-        }
-    }
-    Ty::U64
+    var_type(vars, name).unwrap_or(Ty::U64)
 }
 
 /// The vector register of an interval, by the numbers of the registers of all of them.

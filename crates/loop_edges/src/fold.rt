@@ -3,11 +3,9 @@
 ghost use Rattle.std.specs.Prelude.{◌≡◌, ◌≤◌, length, OnOk};
 ghost use Rattle.reg_assign.specs.declared.interval.RegClass.TheVariants as class;
 ghost use Rattle.reg_assign.specs.Registers.{IsAssignment};
-ghost use Rattle.loop_form.specs.Entries as plain;
 ghost use Rattle.loop_form.specs.HeldView.{view_of, view};
-ghost use Rattle.loop_form.specs.Lanes as lanes;
 ghost use Rattle.loop_form.specs.Registers.{FitsKernel};
-ghost use Rattle.loop_form.specs.View.{program, entries_view};
+ghost use Rattle.loop_form.specs.View.{program};
 ghost use Rattle.scalar_words.specs.Drafts.{Appends};
 ghost use Rattle.scalar_words.specs.KernelRegisters as kernels;
 ghost use Rattle.scalar_words.specs.KernelRegisters.{register_in};
@@ -17,11 +15,10 @@ ghost use Rattle.loop_edges.specs.EdgeCode as code;
 use crate::accumulators::{counted_vector, first_operator, type_of};
 use a64_code::{A64, Reg};
 use guest_types::length::Width;
-use kernel_tree::{Checked, Ty, UpdateOp};
+use kernel_tree::{Ty, UpdateOp};
 use label_fix::{Draft, Word};
-use loop_form::laws::ordered_intervals;
-use loop_form::{Entry, Held};
-use loop_lists::{intervals, lane_width, loop_entries, throughout};
+use loop_form::laws::held_registers;
+use loop_form::{Held, LoopFacts};
 use reductions::reduce_word;
 use reg_assign::{Assigned, RegClass, VectorRegs};
 use scalar_words::{Home, emit_binary, emit_settle, kernel_homes, register_named, update_operator};
@@ -57,27 +54,23 @@ fn emit_join(
 #[tactic(auto, unfolding(loop_form::specs::View::program))]
 fn emit_one(
     draft: &mut Draft,
-    kernel: &Checked,
-    entries: &[Entry<'_>],
-    width: Width,
+    facts: &LoopFacts<'_>,
     homes: &[Home<'_>],
     regs: &Assigned,
     z: VectorReg,
     value: Held<'_>,
 ) -> Result<(), AllocError>
-    requires entries { entries_view entries.now ≡ plain.loop_entries (program kernel.now) }
-    requires width { width ≡ lanes.lane_width_of (program kernel.now) }
-    requires homes { homes_of homes.now ≡ kernels.kernel_homes (register_in regs.now) (program kernel.now) }
+    requires { homes_of homes.now ≡ kernels.kernel_homes (register_in regs.now) (program facts.now.kernel.now) }
     ensures labels { OnOk result (draft.new.labels ≡ draft.old.labels) }
     ensures code { OnOk result (Appends draft.old draft.new
-        (code.fold_one (register_in regs.now) (program kernel.now) z.number (view_of value.entry))) }
+        (code.fold_one (register_in regs.now) (program facts.now.kernel.now) z.number (view_of value.entry))) }
 {
     match value {
         Held::Scalar(_) | Held::Constant(..) | Held::Index => Ok(()),
         Held::Accumulating(name) => {
-            let op = first_operator(entries, name);
-            let ty = type_of(&kernel.kernel().vars, name);
-            emit_join(draft, width, op, ty, z, register_named(homes, name))?;
+            let op = first_operator(facts, name);
+            let ty = type_of(&facts.kernel.kernel().vars, name);
+            emit_join(draft, facts.width, op, ty, z, register_named(homes, name))?;
             Ok(())
         }
     }
@@ -86,26 +79,22 @@ fn emit_one(
 // The values from the first one on, each in the register of its interval.
 fn emit_values(
     draft: &mut Draft,
-    kernel: &Checked,
-    entries: &[Entry<'_>],
-    width: Width,
+    facts: &LoopFacts<'_>,
     homes: &[Home<'_>],
     regs: &VectorRegs,
     values: &[Held<'_>],
 ) -> Result<(), AllocError>
-    requires entries { entries_view entries.now ≡ plain.loop_entries (program kernel.now) }
-    requires width { width ≡ lanes.lane_width_of (program kernel.now) }
-    requires homes { homes_of homes.now ≡ kernels.kernel_homes (register_in regs.now.x) (program kernel.now) }
+    requires homes { homes_of homes.now ≡ kernels.kernel_homes (register_in regs.now.x) (program facts.now.kernel.now) }
     requires assigned { IsAssignment 30 regs.now.z }
     requires within { length values.now ≤ length regs.now.z.registers }
     ensures labels { OnOk result (draft.new.labels ≡ draft.old.labels) }
     ensures code { OnOk result (Appends draft.old draft.new
-        (code.folds_code (register_in regs.now.x) (program kernel.now) regs.now.z 0 (view values.now))) }
+        (code.folds_code (register_in regs.now.x) (program facts.now.kernel.now) regs.now.z 0 (view values.now))) }
 {
     let mut place = 0;
     for value in values {
         let z = counted_vector(&regs.z, place);
-        emit_one(draft, kernel, entries, width, homes, &regs.x, z, *value)?;
+        emit_one(draft, facts, homes, &regs.x, z, *value)?;
         place += 1;
     }
     Ok(())
@@ -117,21 +106,17 @@ fn emit_values(
 pub fn emit_fold(
     alloc: Global,
     draft: &mut Draft,
-    kernel: &Checked,
+    facts: &LoopFacts<'_>,
     regs: &VectorRegs,
 ) -> Result<(), AllocError>
-    requires z_fits { FitsKernel (program kernel.now) class.Z regs.now.z }
-    requires x_fits { FitsKernel (program kernel.now) class.X regs.now.x }
+    requires z_fits { FitsKernel (program facts.now.kernel.now) class.Z regs.now.z }
+    requires x_fits { FitsKernel (program facts.now.kernel.now) class.X regs.now.x }
     ensures labels { OnOk result (draft.new.labels ≡ draft.old.labels) }
     ensures code { OnOk result (Appends draft.old draft.new
-        (code.fold_code (register_in regs.now.x) (program kernel.now) regs.now.z)) }
+        (code.fold_code (register_in regs.now.x) (program facts.now.kernel.now) regs.now.z)) }
 {
-    ordered_intervals(kernel, RegClass::Z);
-    let homes = kernel_homes(alloc, kernel, &regs.x)?;
-    let values = throughout(alloc, kernel, RegClass::Z)?;
-    let spans = intervals(alloc, kernel, RegClass::Z)?;
-    let entries = loop_entries(kernel);
-    let width = lane_width(kernel);
-    emit_values(draft, kernel, &entries, width, &homes, regs, &values)?;
+    held_registers(facts.kernel, RegClass::Z, &regs.z);
+    let homes = kernel_homes(alloc, facts.kernel, &regs.x)?;
+    emit_values(draft, facts, &homes, regs, &facts.held)?;
     Ok(())
 }

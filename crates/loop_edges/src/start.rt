@@ -6,11 +6,9 @@ ghost use Rattle.machine_model.specs.InstructionTable.{Vector};
 ghost use Rattle.kernel_tree.specs.Plain.{parameters_of};
 ghost use Rattle.reg_assign.specs.declared.interval.RegClass.TheVariants as class;
 ghost use Rattle.reg_assign.specs.Registers.{IsAssignment};
-ghost use Rattle.loop_form.specs.Entries as plain;
 ghost use Rattle.loop_form.specs.HeldView.{view_of, view};
-ghost use Rattle.loop_form.specs.Lanes as lanes;
 ghost use Rattle.loop_form.specs.Registers.{FitsKernel};
-ghost use Rattle.loop_form.specs.View.{program, entries_view};
+ghost use Rattle.loop_form.specs.View.{program};
 ghost use Rattle.loop_form.specs.Streams.{place_of};
 ghost use Rattle.label_fix.specs.Draft.{word_view};
 ghost use Rattle.lane_emit.specs.Stretch.{word};
@@ -24,15 +22,14 @@ use a64_code::Reg;
 use guest_types::length::Width;
 use kernel_meaning::{greatest, least, word, wrapped};
 use kernel_tree::laws::few_params;
-use kernel_tree::{Checked, Param, Ty, UpdateOp};
+use kernel_tree::{Param, Ty, UpdateOp};
 use label_fix::{Draft, Word};
-use loop_form::laws::ordered_intervals;
-use loop_form::{Entry, Held};
-use loop_lists::{intervals, lane_width, loop_entries, throughout};
+use loop_form::laws::held_registers;
+use loop_form::{Held, LoopFacts, param_place};
 use reductions::start_word;
 use reg_assign::{Assigned, RegClass, VectorRegs};
 use scalar_words::emit_const;
-use std::alloc::{AllocError, Global};
+use std::alloc::AllocError;
 use sve_code::{Size, Sve, VectorReg};
 use word_rows::Bits;
 
@@ -55,14 +52,10 @@ pub fn register_of(params: &[Param], name: &str) -> Reg
     requires { length params.now ≤ 8 }
     ensures { result.number ≡ unwrap_or (place_of name.now (parameters_of params.now)) 0 }
 {
-    let mut place = 0;
-    for param in params {
-        if param.name.text() == name {
-            return Bits { number: place };
-        }
-        place += 1;
+    match param_place(params, name) {
+        None => Bits { number: 0 },
+        Some(place) => Bits { number: place },
     }
-    Bits { number: 0 }
 }
 
 // ---- code
@@ -89,30 +82,29 @@ fn emit_number(draft: &mut Draft, width: Width, z: VectorReg, value: u64) -> Res
 #[tactic(auto, unfolding(loop_form::specs::View::program))]
 fn emit_value(
     draft: &mut Draft,
-    kernel: &Checked,
-    entries: &[Entry<'_>],
-    width: Width,
+    facts: &LoopFacts<'_>,
     z: VectorReg,
     value: Held<'_>,
 ) -> Result<(), AllocError>
-    requires params { length (program kernel.now).params ≤ 8 }
-    requires entries { entries_view entries.now ≡ plain.loop_entries (program kernel.now) }
-    requires width { width ≡ lanes.lane_width_of (program kernel.now) }
+    requires { length (program facts.now.kernel.now).params ≤ 8 }
     ensures labels { OnOk result (draft.new.labels ≡ draft.old.labels) }
     ensures code { OnOk result (Appends draft.old draft.new
-        (code.hold_code (program kernel.now) z.number (view_of value.entry))) }
+        (code.hold_code (program facts.now.kernel.now) z.number (view_of value.entry))) }
 {
+    let tree = facts.kernel.kernel();
     match value {
         Held::Scalar(name) => {
-            let x = register_of(&kernel.kernel().params, name);
-            draft.put(spread(width, z, x))?;
+            let x = register_of(&tree.params, name);
+            draft.put(spread(facts.width, z, x))?;
         }
-        Held::Constant(ty, number) => emit_number(draft, width, z, word(wrapped(ty, number)))?,
+        Held::Constant(ty, number) => {
+            emit_number(draft, facts.width, z, word(wrapped(ty, number)))?;
+        }
         Held::Index => {}
         Held::Accumulating(name) => {
-            let op = first_operator(entries, name);
-            let ty = type_of(&kernel.kernel().vars, name);
-            emit_number(draft, width, z, word(identity(op, ty)))?;
+            let op = first_operator(facts, name);
+            let ty = type_of(&tree.vars, name);
+            emit_number(draft, facts.width, z, word(identity(op, ty)))?;
         }
     }
     Ok(())
@@ -121,31 +113,20 @@ fn emit_value(
 // The values from the first one on, each in the register of its interval.
 fn emit_values(
     draft: &mut Draft,
-    kernel: &Checked,
-    entries: &[Entry<'_>],
-    width: Width,
+    facts: &LoopFacts<'_>,
     regs: &Assigned,
     values: &[Held<'_>],
 ) -> Result<(), AllocError>
-    requires params { length (program kernel.now).params ≤ 8 }
-    requires entries { entries_view entries.now ≡ plain.loop_entries (program kernel.now) }
-    requires width { width ≡ lanes.lane_width_of (program kernel.now) }
+    requires params { length (program facts.now.kernel.now).params ≤ 8 }
     requires assigned { IsAssignment 30 regs.now }
     requires within { length values.now ≤ length regs.now.registers }
     ensures labels { OnOk result (draft.new.labels ≡ draft.old.labels) }
     ensures code { OnOk result (Appends draft.old draft.new
-        (code.holds_code (program kernel.now) regs.now 0 (view values.now))) }
+        (code.holds_code (program facts.now.kernel.now) regs.now 0 (view values.now))) }
 {
     let mut place = 0;
     for value in values {
-        emit_value(
-            draft,
-            kernel,
-            entries,
-            width,
-            counted_vector(regs, place),
-            *value,
-        )?;
+        emit_value(draft, facts, counted_vector(regs, place), *value)?;
         place += 1;
     }
     Ok(())
@@ -154,25 +135,21 @@ fn emit_values(
 /// The code before the loop of chunks: PTRUE of P1, and each value that is held throughout in all elements of its register.
 #[tactic(auto, unfolding(loop_form::specs::View::program))]
 pub fn emit_start(
-    alloc: Global,
     draft: &mut Draft,
-    kernel: &Checked,
+    facts: &LoopFacts<'_>,
     regs: &VectorRegs,
 ) -> Result<(), AllocError>
-    requires fits { FitsKernel (program kernel.now) class.Z regs.now.z }
+    requires fits { FitsKernel (program facts.now.kernel.now) class.Z regs.now.z }
     ensures labels { OnOk result (draft.new.labels ≡ draft.old.labels) }
-    ensures code { OnOk result (Appends draft.old draft.new (code.start_code (program kernel.now) regs.now.z)) }
+    ensures code { OnOk result (Appends draft.old draft.new
+        (code.start_code (program facts.now.kernel.now) regs.now.z)) }
 {
-    few_params(kernel);
-    ordered_intervals(kernel, RegClass::Z);
-    let values = throughout(alloc, kernel, RegClass::Z)?;
-    let spans = intervals(alloc, kernel, RegClass::Z)?;
-    let entries = loop_entries(kernel);
-    let width = lane_width(kernel);
+    few_params(facts.kernel);
+    held_registers(facts.kernel, RegClass::Z, &regs.z);
     draft.put(Word::V(Sve::Ptrue {
         pd: Bits { number: 1 },
         size: Size::B,
     }))?;
-    emit_values(draft, kernel, &entries, width, &regs.z, &values)?;
+    emit_values(draft, facts, &regs.z, &facts.held)?;
     Ok(())
 }

@@ -8,10 +8,11 @@ ghost use Rattle.loop_form.specs.Near.{AreNear, NearTurns};
 ghost use Rattle.loop_form.specs.Needs.{throughout, counted, intervals, need};
 ghost use Rattle.loop_form.specs.Numbers.{Numbered, AreForward};
 ghost use Rattle.loop_form.specs.Places.{value_places, ArePlaced};
+ghost use Rattle.loop_form.specs.Registers.{FitsKernel};
 ghost use Rattle.loop_form.specs.View.{program};
 
 use kernel_tree::Checked;
-use reg_assign::RegClass;
+use reg_assign::{Assigned, RegClass};
 
 /// A checked kernel has at most 1,000 items, and so at most as many parameters and accumulators.
 pub fn few_items(kernel: &Checked)
@@ -55,4 +56,10 @@ pub fn ordered_intervals(kernel: &Checked, class: RegClass)
     ensures forward { AreForward (intervals (program kernel.now) class) }
     ensures few { length (intervals (program kernel.now) class) < 2 ^ 32 }
     ensures need { need_of (intervals (program kernel.now) class) ≡ need (program kernel.now) class }
+{}
+
+/// Registers that fit its intervals of a class have one for each value that is held throughout: theirs are the first.
+pub fn held_registers(kernel: &Checked, class: RegClass, regs: &Assigned)
+    requires { FitsKernel (program kernel.now) class regs.now }
+    ensures { length (throughout (program kernel.now) class) ≤ length regs.now.registers }
 {}

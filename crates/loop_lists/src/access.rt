@@ -2,7 +2,7 @@
 
 ghost use Rattle.std.specs.Prelude.{◌≡◌, ◌≤◌, length, filter_map, IfOk};
 ghost use Rattle.arrayvec.specs.ArrayVec.{array_vec_len};
-ghost use Rattle.kernel_tree.specs.Plain.{term_of, parameters_of, program_of};
+ghost use Rattle.kernel_tree.specs.Plain.{term_of, program_of};
 ghost use Rattle.kernel_tree.specs.Items.{stream_offset, loop_index};
 ghost use Rattle.kernel_tree.specs.Checked.{kernel_of};
 ghost use Rattle.loop_form.specs.Near.{IsNear, HasNear, AreNear};
@@ -10,25 +10,10 @@ ghost use Rattle.loop_form.specs.View.{program, content_of, entry_of, entries_vi
 ghost use Rattle.loop_form.specs.Streams.{place_of, access, stream_of, streams_of};
 
 use crate::entry_list::loop_entries;
-use kernel_tree::{Checked, Expr, Param};
+use kernel_tree::{Checked, Expr};
 use loop_form::stream::Streams;
-use loop_form::{Content, Entry, Stream, offset};
+use loop_form::{Content, Entry, Stream, offset, param_place};
 use std::alloc::{AllocError, Global};
-
-/// The place of a parameter.
-pub fn place(params: &[Param], name: &str) -> Option<u32>
-    requires { length params.now ≤ 1000 }
-    ensures { result ≡ place_of name.now (parameters_of params.now) }
-{
-    let mut place = 0;
-    for param in params {
-        if param.name.text() == name {
-            return Some(place);
-        }
-        place += 1;
-    }
-    None
-}
 
 // The access of an array with an index, where it is a stream index.
 #[tactic(auto, unfolding(loop_form::specs::View::program))]
@@ -37,7 +22,7 @@ fn access(kernel: &Checked, array: &str, index: &Expr, store: bool, item: u32) -
     ensures { let k = program kernel.now in result
         ≡ access (place_of array.now k.params) (stream_offset (loop_index k) (term_of index.now)) store item }
 {
-    let param = place(&kernel.kernel().params, array)?;
+    let param = param_place(&kernel.kernel().params, array)?;
     let offset = offset(kernel, index)?;
     Some(Stream {
         param,

@@ -205,6 +205,20 @@ fn push_of_loop<'a>(
     push_updated(held, entries, &tree.vars)
 }
 
+/// What is held in Z registers throughout, by the items of the loop.
+pub fn held_in_loop<'a>(
+    alloc: Global,
+    kernel: &'a Checked,
+    entries: &[Entry<'_>],
+) -> Result<Vec<Held<'a>>, AllocError>
+    requires { entries_view entries.now ≡ loop_entries (program kernel.now) }
+    ensures { IfOk result (λ held. view held.items ≡ throughout (program kernel.now) Z) }
+{
+    let mut held = Vec::new(alloc);
+    push_of_loop(kernel, &mut held, entries)?;
+    Ok(held)
+}
+
 // What is held in the registers of a class.
 #[tactic(auto, unfolding(loop_form::specs::View::program))]
 fn push_of_class<'a>(
@@ -221,15 +235,11 @@ fn push_of_class<'a>(
     }
 }
 
-/// What is held in the registers of a class throughout, in the order of its intervals, of which these are the first: in
-/// X registers all accumulators, and in Z registers, by the items of the loop alone, the scalar parameters that are
-/// named, each literal of a type, the loop variable where it is named, and the accumulators that are updated.
+// What is held in the registers of a class throughout, in the order of its intervals, of which these are the first: in
+// X registers all accumulators, and in Z registers, by the items of the loop alone, the scalar parameters that are
+// named, each literal of a type, the loop variable where it is named, and the accumulators that are updated.
 #[tactic(auto, unfolding(loop_form::specs::View::program))]
-pub fn throughout(
-    alloc: Global,
-    kernel: &Checked,
-    class: RegClass,
-) -> Result<Vec<Held<'_>>, AllocError>
+fn throughout(alloc: Global, kernel: &Checked, class: RegClass) -> Result<Vec<Held<'_>>, AllocError>
     ensures { IfOk result (λ held. view held.items ≡ throughout (program_of (kernel_of kernel.now)) class) }
 {
     let mut held = Vec::new(alloc);

@@ -125,7 +125,8 @@ fn item(all: &[Entry<'_>], entry: &Entry<'_>) -> Item
     }
 }
 
-fn items(alloc: Global, all: &[Entry<'_>]) -> Result<Vec<Item>, AllocError>
+/// Items with their values.
+pub fn items(alloc: Global, all: &[Entry<'_>]) -> Result<Vec<Item>, AllocError>
     ensures { IfOk result (λ items. items.items ≡ map (item_of (entries_view all.now)) (entries_view all.now)) }
 {
     let mut items = Vec::new(alloc);

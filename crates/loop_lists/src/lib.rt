@@ -3,6 +3,7 @@
 
 mod access;
 mod entry_list;
+mod facts;
 mod held_throughout;
 mod item_list;
 mod need_count;
@@ -14,10 +15,10 @@ mod widest_type;
 
 pub use access::{accesses, streams};
 pub use entry_list::{entries, loop_entries};
-pub use held_throughout::{is_named, throughout};
+pub use facts::loop_facts;
+pub use held_throughout::is_named;
 pub use item_list::listing;
 pub use need_count::needs;
-pub use places::value_places;
 pub use reached::{entry_reach, index_reach, reaches};
 pub use values::intervals;
 pub use widest_type::{lane_width, type_width};

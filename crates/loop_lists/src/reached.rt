@@ -6,11 +6,10 @@ ghost use Rattle.kernel_tree.specs.Plain.{term_of};
 ghost use Rattle.loop_form.specs.View.{program, content_of, entry_of, entries_view};
 ghost use Rattle.loop_form.specs.Reaches.{source_type, reach_of_type, read_reach, reach_of, has_number, index_reach, reach_at, reaches_of};
 
-use crate::access::place;
 use crate::entry_list::loop_entries;
 use kernel_tree::{Checked, Expr, Ty};
 use loop_form::reach::Reaches;
-use loop_form::{Content, Entry, Reach, is_stream, type_reach, widens};
+use loop_form::{Content, Entry, Reach, is_stream, param_place, type_reach, widens};
 
 // The type that an index's value comes from.
 #[tactic(auto, unfolding(loop_form::specs::View::program, loop_form::specs::Entries::item_type))]
@@ -79,7 +78,7 @@ fn reach_in(kernel: &Checked, entry: &Entry<'_>) -> Option<Reach>
 {
     match entry.content {
         Content::Read { array, index } => {
-            let param = place(&kernel.kernel().params, array)?;
+            let param = param_place(&kernel.kernel().params, array)?;
             let reach = reach_of_index(kernel, index, entry.item)?;
             Some(Reach { param, reach })
         }

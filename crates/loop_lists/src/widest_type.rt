@@ -1,16 +1,16 @@
 //! The width of a loop's lanes.
 
 ghost use Rattle.std.specs.Prelude.{◌≡◌};
-ghost use Rattle.kernel_tree.specs.Plain.{parameters_of, accumulators_of, program_of};
+ghost use Rattle.kernel_tree.specs.Plain.{parameters_of, program_of};
 ghost use Rattle.kernel_tree.specs.Checked.{kernel_of};
 ghost use Rattle.kernel_tree.specs.Typing.{element_type, binding_of_shape};
-ghost use Rattle.loop_form.specs.Lanes.{width_of, wider, type_of_array, var_type, target_type, widest, lane_width_of};
+ghost use Rattle.loop_form.specs.Lanes.{width_of, wider, type_of_array, target_type, widest, lane_width_of};
 ghost use Rattle.loop_form.specs.View.{program, content_of, entries_view};
 
 use crate::entry_list::loop_entries;
 use guest_types::length::Width;
-use kernel_tree::{Checked, Param, Shape, Ty, Var};
-use loop_form::{Content, Entry};
+use kernel_tree::{Checked, Param, Shape, Ty};
+use loop_form::{Content, Entry, var_type};
 
 /// The width of the values of a type.
 pub fn type_width(ty: Ty) -> Width
@@ -62,18 +62,6 @@ fn array_element(params: &[Param], array: &str) -> Option<Ty>
     None
 }
 
-// The type of an accumulator.
-fn accumulator(vars: &[Var], name: &str) -> Option<Ty>
-    ensures { result ≡ var_type name.now (accumulators_of vars.now) }
-{
-    for var in vars {
-        if var.name.text() == name {
-            return Some(var.ty);
-        }
-    }
-    None
-}
-
 // The type of what a statement stores or updates.
 #[tactic(auto, unfolding(loop_form::specs::View::program))]
 fn target(kernel: &Checked, content: Content<'_>) -> Option<Ty>
@@ -81,13 +69,14 @@ fn target(kernel: &Checked, content: Content<'_>) -> Option<Ty>
 {
     match content {
         Content::Store { array, .. } => array_element(&kernel.kernel().params, array),
-        Content::Update { name, .. } => accumulator(&kernel.kernel().vars, name),
+        Content::Update { name, .. } => var_type(&kernel.kernel().vars, name),
         _ => None,
     }
 }
 
+/// The width of the widest type among some items.
 #[tactic(auto, unfolding(loop_form::specs::Lanes::widest))]
-fn widest_of(kernel: &Checked, entries: &[Entry<'_>]) -> Width
+pub fn widest_of(kernel: &Checked, entries: &[Entry<'_>]) -> Width
     ensures { result ≡ widest (program kernel.now) Width.B (entries_view entries.now) }
 {
     let mut width = Width::B;

@@ -26,9 +26,8 @@ use a64_code::{A64, AddSubOp, AddSubShift, Cond, Reg};
 use chunk_emit::{LoopLayout, loop_layout};
 use chunk_pass::{emit_chunk, emit_plain, emit_turn, lanes};
 use first_fault::{has_break, writable_items};
-use kernel_tree::Checked;
 use label_fix::{BranchKind, Draft, Label, Word};
-use loop_form::LoopItem;
+use loop_form::{LoopFacts, LoopItem};
 use loop_items::loop_items;
 use reg_assign::VectorRegs;
 use std::alloc::{AllocError, Global};
@@ -210,20 +209,20 @@ fn emit_by(
 /// The passes of a kernel's loop, with two labels: before a pass, and after the loop.
 pub fn emit_passes(
     alloc: Global,
-    kernel: &Checked,
+    facts: &LoopFacts<'_>,
     regs: &VectorRegs,
     draft: &mut Draft,
 ) -> Result<(), AllocError>
-    requires class { class_of (program kernel.now) ≡ Vector }
-    requires vectors { FitsKernel (program kernel.now) class.Z regs.now.z }
-    requires predicates { FitsKernel (program kernel.now) class.P regs.now.p }
+    requires class { class_of (program facts.now.kernel.now) ≡ Vector }
+    requires vectors { FitsKernel (program facts.now.kernel.now) class.Z regs.now.z }
+    requires predicates { FitsKernel (program facts.now.kernel.now) class.P regs.now.p }
     ensures labels { OnOk result (draft.new.labels ≡ draft.old.labels + 2) }
-    ensures code { let passes = code.passes_code (program kernel.now) regs.now.z regs.now.p in
+    ensures code { let passes = code.passes_code (program facts.now.kernel.now) regs.now.z regs.now.p in
         OnOk result (Appends draft.old draft.new (passes draft.old.labels)) }
 {
-    writable_items(kernel, regs);
-    let layout = loop_layout(alloc, kernel, regs)?;
-    let items = loop_items(alloc, kernel)?;
-    emit_by(alloc, &layout, bound(kernel), &items, draft)?;
+    writable_items(facts.kernel, regs);
+    let layout = loop_layout(facts, regs);
+    let items = loop_items(alloc, facts.kernel)?;
+    emit_by(alloc, &layout, bound(facts.kernel), &items, draft)?;
     Ok(())
 }

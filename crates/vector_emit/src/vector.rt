@@ -12,9 +12,9 @@ ghost use Rattle.scalar_words.specs.KernelRegisters.{register_in};
 ghost use Rattle.vector_emit.specs.VectorCode.{vector_code};
 
 use crate::passes::emit_passes;
-use kernel_tree::Checked;
 use label_fix::{BranchKind, Draft, Label};
 use loop_edges::{emit_fold, emit_start};
+use loop_form::LoopFacts;
 use reg_assign::VectorRegs;
 use std::alloc::{AllocError, Global};
 
@@ -22,25 +22,25 @@ use std::alloc::{AllocError, Global};
 /// at a label.
 pub fn emit_vector(
     alloc: Global,
-    kernel: &Checked,
+    facts: &LoopFacts<'_>,
     regs: &VectorRegs,
     scalar: Label,
     draft: &mut Draft,
 ) -> Result<(), AllocError>
-    requires class { class_of (program kernel.now) ≡ Vector }
-    requires vectors { FitsKernel (program kernel.now) class.Z regs.now.z }
-    requires predicates { FitsKernel (program kernel.now) class.P regs.now.p }
-    requires scalars { FitsKernel (program kernel.now) class.X regs.now.x }
+    requires class { class_of (program facts.now.kernel.now) ≡ Vector }
+    requires vectors { FitsKernel (program facts.now.kernel.now) class.Z regs.now.z }
+    requires predicates { FitsKernel (program facts.now.kernel.now) class.P regs.now.p }
+    requires scalars { FitsKernel (program facts.now.kernel.now) class.X regs.now.x }
     requires given { scalar < draft.old.labels }
     ensures labels { OnOk result (draft.new.labels ≡ draft.old.labels + 2) }
-    ensures words { OnOk result (AppendsWords draft.old draft.new (200 + 32 * size_of (program kernel.now))) }
+    ensures words { OnOk result (AppendsWords draft.old draft.new (200 + 32 * size_of (program facts.now.kernel.now))) }
     ensures code { let r = register_in regs.now.x in
-        let whole = vector_code r (program kernel.now) regs.now.z regs.now.p scalar in
+        let whole = vector_code r (program facts.now.kernel.now) regs.now.z regs.now.p scalar in
         OnOk result (Appends draft.old draft.new (whole draft.old.labels)) }
 {
-    emit_start(alloc, draft, kernel, regs)?;
-    emit_passes(alloc, kernel, regs, draft)?;
-    emit_fold(alloc, draft, kernel, regs)?;
+    emit_start(draft, facts, regs)?;
+    emit_passes(alloc, facts, regs, draft)?;
+    emit_fold(alloc, draft, facts, regs)?;
     draft.branch(BranchKind::Always, scalar)?;
     Ok(())
 }

@@ -23,18 +23,18 @@ spelled kernel = kernel.tree
 -- the listing that is handed on
 pub emit_begin-requires-clause-listed : goal.emit_begin-requires-clause-listed
 unfolding program
-emit_begin-requires-clause-listed c = c.deref.ensures.value ∙ c.in_ok-items.ensures
+emit_begin-requires-clause-listed c = c.deref.ensures.value ∙ c.args.facts.now.listed
 
 pub emit_scalar-requires-clause-listed : goal.emit_scalar-requires-clause-listed
 unfolding program
-emit_scalar-requires-clause-listed c = c.deref-2.ensures.value ∙ c.in_ok-items.ensures
+emit_scalar-requires-clause-listed c = c.deref-2.ensures.value ∙ c.args.facts.now.listed
 
 pub emit_vector-requires-clause-given : goal.emit_vector-requires-clause-given
-emit_vector-requires-clause-given c = label_given (program c.args.kernel.now) _ _ _ _ _ c.in_ok-scalar.ensures.entry c.in_ok-scalar.ensures.labels c.in_ok-place.ensures.labels c.in_ok-guard.ensures.labels
+emit_vector-requires-clause-given c = label_given (program c.args.facts.now.kernel.now) _ _ _ _ _ c.in_ok-scalar.ensures.entry c.in_ok-scalar.ensures.labels c.in_ok-place.ensures.labels c.in_ok-guard.ensures.labels
 
 pub finish-requires : goal.finish-requires
 finish-requires c =
-    let k = program c.args.kernel.now in
+    let k = program c.args.facts.now.kernel.now in
     let R = register_in c.args.regs.now.x in
     let d : Emitted R k c.args.regs.now.z c.args.regs.now.p c.in_ok-vector.vector c.in_ok-scalar.field-0.at_iteration c.new-draft.result.labels c.label.new.self.labels c.emit_begin.new.draft.labels c.branch-draft.new.self.labels c.emit_scalar.new.draft.labels c.place.new.self.labels c.guard.new.draft.labels
     c.new-draft.result.entries c.label.new.self.entries c.emit_begin.new.draft.entries c.branch-draft.new.self.entries c.emit_scalar.new.draft.entries c.place.new.self.entries c.guard.new.draft.entries c.emit_vector.new.draft.entries =
@@ -57,13 +57,13 @@ finish-requires c =
       guard = c.in_ok-guard.ensures.code;
       lanes = c.in_ok-emit_vector.ensures.code;
     } in
-    let arrays = few-arrays k (sound c.args.kernel.now) (few_params k (spelled c.args.kernel.now)) in
+    let arrays = few-arrays k (sound c.args.facts.now.kernel.now) (few_params k (spelled c.args.facts.now.kernel.now)) in
     let few = few_words d arrays.few c.in_ok-emit_begin.ensures.words c.in_ok-scalar.ensures.words in
     record { few = omega (arith, few, c.few_items.ensures.size) }
 
 pub returns-clause-short : goal.returns-clause-short
 returns-clause-short c =
-    let k = program c.args.kernel.now in
+    let k = program c.args.facts.now.kernel.now in
     let R = register_in c.args.regs.now.x in
     let d : Emitted R k c.args.regs.now.z c.args.regs.now.p c.in_ok-vector.vector c.in_ok-scalar.field-0.at_iteration c.new-draft.result.labels c.label.new.self.labels c.emit_begin.new.draft.labels c.branch-draft.new.self.labels c.emit_scalar.new.draft.labels c.place.new.self.labels c.guard.new.draft.labels
     c.new-draft.result.entries c.label.new.self.entries c.emit_begin.new.draft.entries c.branch-draft.new.self.entries c.emit_scalar.new.draft.entries c.place.new.self.entries c.guard.new.draft.entries c.emit_vector.new.draft.entries =
@@ -86,14 +86,14 @@ returns-clause-short c =
       guard = c.in_ok-guard.ensures.code;
       lanes = c.in_ok-emit_vector.ensures.code;
     } in
-    let arrays = few-arrays k (sound c.args.kernel.now) (few_params k (spelled c.args.kernel.now)) in
+    let arrays = few-arrays k (sound c.args.facts.now.kernel.now) (few_params k (spelled c.args.facts.now.kernel.now)) in
     let few = few_words d arrays.few c.in_ok-emit_begin.ensures.words c.in_ok-scalar.ensures.words in
     let n = ap length c.in_ok-words.ensures.words in
     omega (arith, few, n, words_length c.emit_vector.new.draft.entries)
 
 pub returns-clause-close : goal.returns-clause-close
 returns-clause-close c =
-    let k = program c.args.kernel.now in
+    let k = program c.args.facts.now.kernel.now in
     let R = register_in c.args.regs.now.x in
     let d : Emitted R k c.args.regs.now.z c.args.regs.now.p c.in_ok-vector.vector c.in_ok-scalar.field-0.at_iteration c.new-draft.result.labels c.label.new.self.labels c.emit_begin.new.draft.labels c.branch-draft.new.self.labels c.emit_scalar.new.draft.labels c.place.new.self.labels c.guard.new.draft.labels
     c.new-draft.result.entries c.label.new.self.entries c.emit_begin.new.draft.entries c.branch-draft.new.self.entries c.emit_scalar.new.draft.entries c.place.new.self.entries c.guard.new.draft.entries c.emit_vector.new.draft.entries =
@@ -116,14 +116,14 @@ returns-clause-close c =
       guard = c.in_ok-guard.ensures.code;
       lanes = c.in_ok-emit_vector.ensures.code;
     } in
-    let arrays = few-arrays k (sound c.args.kernel.now) (few_params k (spelled c.args.kernel.now)) in
+    let arrays = few-arrays k (sound c.args.facts.now.kernel.now) (few_params k (spelled c.args.facts.now.kernel.now)) in
     let few = few_words d arrays.few c.in_ok-emit_begin.ensures.words c.in_ok-scalar.ensures.words in
     let small : All (λ w. w < 2 ^ 32) c.in_ok-words.words.items = subst (λ ws. All (λ w. w < 2 ^ 32) ws) c.deref-3.ensures.value c.have_32_bits.ensures in
     let joined : IsJoined k c.args.regs.now.z c.args.regs.now.p c.args.regs.now.x = record {
-      spelled = spelled c.args.kernel.now;
-      sound = sound c.args.kernel.now;
+      spelled = spelled c.args.facts.now.kernel.now;
+      sound = sound c.args.facts.now.kernel.now;
       vector = c.requires.class;
-      few = few_params k (spelled c.args.kernel.now);
+      few = few_params k (spelled c.args.facts.now.kernel.now);
       near = arrays.place;
       z = c.requires.vectors;
       p = c.requires.predicates;
@@ -137,7 +137,7 @@ returns-clause-close c =
 
 pub returns-clause-ends : goal.returns-clause-ends
 returns-clause-ends c =
-    let k = program c.args.kernel.now in
+    let k = program c.args.facts.now.kernel.now in
     let R = register_in c.args.regs.now.x in
     let d : Emitted R k c.args.regs.now.z c.args.regs.now.p c.in_ok-vector.vector c.in_ok-scalar.field-0.at_iteration c.new-draft.result.labels c.label.new.self.labels c.emit_begin.new.draft.labels c.branch-draft.new.self.labels c.emit_scalar.new.draft.labels c.place.new.self.labels c.guard.new.draft.labels
     c.new-draft.result.entries c.label.new.self.entries c.emit_begin.new.draft.entries c.branch-draft.new.self.entries c.emit_scalar.new.draft.entries c.place.new.self.entries c.guard.new.draft.entries c.emit_vector.new.draft.entries =
@@ -160,14 +160,14 @@ returns-clause-ends c =
       guard = c.in_ok-guard.ensures.code;
       lanes = c.in_ok-emit_vector.ensures.code;
     } in
-    let arrays = few-arrays k (sound c.args.kernel.now) (few_params k (spelled c.args.kernel.now)) in
+    let arrays = few-arrays k (sound c.args.facts.now.kernel.now) (few_params k (spelled c.args.facts.now.kernel.now)) in
     let few = few_words d arrays.few c.in_ok-emit_begin.ensures.words c.in_ok-scalar.ensures.words in
     let small : All (λ w. w < 2 ^ 32) c.in_ok-words.words.items = subst (λ ws. All (λ w. w < 2 ^ 32) ws) c.deref-3.ensures.value c.have_32_bits.ensures in
     let joined : IsJoined k c.args.regs.now.z c.args.regs.now.p c.args.regs.now.x = record {
-      spelled = spelled c.args.kernel.now;
-      sound = sound c.args.kernel.now;
+      spelled = spelled c.args.facts.now.kernel.now;
+      sound = sound c.args.facts.now.kernel.now;
       vector = c.requires.class;
-      few = few_params k (spelled c.args.kernel.now);
+      few = few_params k (spelled c.args.facts.now.kernel.now);
       near = arrays.place;
       z = c.requires.vectors;
       p = c.requires.predicates;

@@ -29,7 +29,7 @@ loop-value-preserved c = record {
   place = ap (λ n. n + 1) c.loop-value.invariant.place;
   labels = c.in_ok-emit_one.ensures.labels ∙ c.loop-value.invariant.labels;
   code = λ rest.
-      value_more (register_in c.args.regs.now.x) (program c.args.kernel.now) c.args.regs.now.z c.args.values.now c.loop-value.value-index c.loop-value.place c.counted_vector-z.result.number _ c.loop-value.draft.entries c.emit_one.new.draft.entries
+      value_more (register_in c.args.regs.now.x) (program c.args.facts.now.kernel.now) c.args.regs.now.z c.args.values.now c.loop-value.value-index c.loop-value.place c.counted_vector-z.result.number _ c.loop-value.draft.entries c.emit_one.new.draft.entries
       c.loop-value-test.true c.counted_vector-z.ensures c.in_ok-emit_one.ensures.code rest
       ∙ c.loop-value.invariant.code rest;
 }

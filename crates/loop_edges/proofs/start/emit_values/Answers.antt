@@ -8,7 +8,7 @@ use Rattle.loop_edges.proofs.start.emit_values.Goals as goal
 pub loop-value-preserved : goal.loop-value-preserved
 loop-value-preserved c =
     let l = c.loop-value in
-    let k = program c.args.kernel.now in
+    let k = program c.args.facts.now.kernel.now in
     let a = c.args.regs.now in
     record {
       place = ap (λ n. n + 1) l.invariant.place;

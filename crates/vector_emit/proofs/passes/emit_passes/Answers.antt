@@ -2,6 +2,7 @@ use Rattle.std.proofs.Common.{◌≡◌, ℕ, ◌++◌, sym, ap, ◌∙◌, subs
 use Rattle.std.specs.List.{list_any}
 use Rattle.kernel_tree.specs.Plain.{Program}
 use Rattle.reg_assign.specs.declared.assigned.VectorRegs.{VectorRegs}
+use Rattle.loop_form.specs.declared.facts.LoopFacts.{LoopFacts}
 use Rattle.loop_form.specs.Lanes.{lane_width_of}
 use Rattle.loop_form.specs.LoopItems.{loop_items_of}
 use Rattle.loop_form.specs.LoopView.{view}
@@ -15,28 +16,28 @@ use Rattle.vector_emit.proofs.passes.emit_passes.Goals as goal
 pub emit_by-requires-clause-region : goal.emit_by-requires-clause-region
 unfolding program
 emit_by-requires-clause-region c =
-    let k : Program = program c.args.kernel.now in
+    let k : Program = program c.args.facts.now.kernel.now in
     let items : view c.deref.result.now ≡ loop_items_of k = ap view c.deref.ensures.value ∙ c.in_ok-items.ensures in
-    let same : k ≡ program c.in_ok-layout.layout.registers.kernel.now = ap program (sym c.in_ok-layout.ensures.kernel) in
+    let same : k ≡ program c.loop_layout-layout.result.registers.facts.now.kernel.now = ap (λ (f : LoopFacts). program f.kernel.now) (sym c.loop_layout-layout.ensures.facts) in
     subst (λ p. AreWritable (lane_width_of p) (region_of (view c.deref.result.now))) same (subst (λ its. AreWritable (lane_width_of k) (region_of its)) (sym items) c.writable_items.ensures.region)
 
 pub emit_by-requires-clause-rest : goal.emit_by-requires-clause-rest
 unfolding program
 emit_by-requires-clause-rest c =
-    let k : Program = program c.args.kernel.now in
+    let k : Program = program c.args.facts.now.kernel.now in
     let items : view c.deref.result.now ≡ loop_items_of k = ap view c.deref.ensures.value ∙ c.in_ok-items.ensures in
-    let same : k ≡ program c.in_ok-layout.layout.registers.kernel.now = ap program (sym c.in_ok-layout.ensures.kernel) in
+    let same : k ≡ program c.loop_layout-layout.result.registers.facts.now.kernel.now = ap (λ (f : LoopFacts). program f.kernel.now) (sym c.loop_layout-layout.ensures.facts) in
     subst (λ p. AreWritable (lane_width_of p) (rest_of (view c.deref.result.now))) same (subst (λ its. AreWritable (lane_width_of k) (rest_of its)) (sym items) c.writable_items.ensures.rest)
 
 pub returns-clause-code : goal.returns-clause-code
 unfolding program
 returns-clause-code c rest =
-    let k : Program = program c.args.kernel.now in
-    let r = c.in_ok-layout.layout.registers in
+    let k : Program = program c.args.facts.now.kernel.now in
+    let r = c.loop_layout-layout.result.registers in
     let n : ℕ = c.args.draft.now.labels in
     let items : view c.deref.result.now ≡ loop_items_of k = ap view c.deref.ensures.value ∙ c.in_ok-items.ensures in
-    let same : program r.kernel.now ≡ k = ap program c.in_ok-layout.ensures.kernel in
+    let same : program r.facts.now.kernel.now ≡ k = ap (λ (f : LoopFacts). program f.kernel.now) c.loop_layout-layout.ensures.facts in
     c.in_ok-emit_by.ensures.code rest
-    ∙ ap (λ its. c.args.draft.now.entries ++ passes_by (list_any is_quit its) (program r.kernel.now) (vectors_in r) (predicates_in r) its n rest) items
+    ∙ ap (λ its. c.args.draft.now.entries ++ passes_by (list_any is_quit its) (program r.facts.now.kernel.now) (vectors_in r) (predicates_in r) its n rest) items
     ∙ ap (λ p. c.args.draft.now.entries ++ passes_by (list_any is_quit (loop_items_of k)) p (vectors_in r) (predicates_in r) (loop_items_of k) n rest) same
-    ∙ ap (λ (v : VectorRegs). c.args.draft.now.entries ++ passes_by (list_any is_quit (loop_items_of k)) k v.z v.p (loop_items_of k) n rest) c.in_ok-layout.ensures.regs
+    ∙ ap (λ (v : VectorRegs). c.args.draft.now.entries ++ passes_by (list_any is_quit (loop_items_of k)) k v.z v.p (loop_items_of k) n rest) c.loop_layout-layout.ensures.regs

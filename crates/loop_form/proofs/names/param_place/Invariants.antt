@@ -1,7 +1,7 @@
 use Rattle.std.proofs.Common.{◌≡◌, drop}
 use Rattle.kernel_tree.specs.Plain.{parameters_of}
 use Rattle.loop_form.specs.Streams.{place_from}
-use Rattle.loop_lists.proofs.access.place.Given as goal
+use Rattle.loop_form.proofs.names.param_place.Given as goal
 
 abbrev pub invariant-loop-param : goal.invariant-loop-param
 invariant-loop-param l = record {

@@ -1,0 +1,87 @@
+-- Classes of registers that are tried one after another.
+use Rattle.std.proofs.Common.{◌≡◌, ℕ, ◌<◌, ◌≤◌, Bool, true, false, cond, List, [], ◌∷◌, Option, Some, None, refl, sym, ap, ◌∙◌, subst, arith}
+use Rattle.std.proofs.lemmas.Bool.{lt-ltb, le-ltb}
+use Rattle.kernel_tree.specs.Plain.{Program}
+use Rattle.reg_assign.specs.declared.interval.RegClass.{RegClass}
+use Rattle.reg_assign.specs.declared.interval.RegClass.TheVariants.{Z, P, X}
+use Rattle.loop_form.specs.declared.need.Needs.{Needs}
+use Rattle.loop_form.specs.Needs.{need, needs_of}
+use Rattle.loop_form.specs.Registers.{counted_registers}
+use Rattle.dependence.specs.declared.reason.Class.{Class}
+use Rattle.dependence.specs.declared.reason.Class.TheVariants.{Vector, Scalar}
+use Rattle.dependence.specs.Bound.{is_vector}
+use Rattle.dependence.specs.Classes.{class_of}
+use Rattle.promises.specs.declared.fault.CompileFault.{CompileFault}
+use Rattle.promises.specs.declared.fault.CompileFault.TheVariants.{TooManyLive, Memory}
+use Rattle.promises.specs.Refusals.{tried, need_in, exceeds, exceeded, too_many, IsRefusalIn, IsRefusal}
+
+-- ---- one class
+
+need_here : (k : Program) (class : RegClass) → need_in (needs_of k) class ≡ need k class
+need_here k Z = refl
+need_here k P = refl
+need_here k X = refl
+
+pub enough_of : (k : Program) (class : RegClass) → need k class ≤ counted_registers class → exceeded (needs_of k) (class ∷ []) ≡ None
+enough_of k class le = ap (λ over. cond over (Some class) None) (le-ltb (counted_registers class) (need_in (needs_of k) class) (let e = need_here k class in omega (arith, e, le)))
+
+pub exceeded_of : (k : Program) (class : RegClass) → counted_registers class < need k class → exceeded (needs_of k) (class ∷ []) ≡ Some class
+exceeded_of k class lt = ap (λ over. cond over (Some class) None) (lt-ltb (counted_registers class) (need_in (needs_of k) class) (let e = need_here k class in omega (arith, e, lt)))
+
+pub refusal_of : (k : Program) (class c : RegClass) (n : ℕ) → c ≡ class → n ≡ need k class → counted_registers class < n → IsRefusalIn (needs_of k) (class ∷ []) (TooManyLive c n)
+refusal_of k class c n same is lt = subst (λ d. IsRefusalIn (needs_of k) (class ∷ []) (TooManyLive d n)) (sym same) (exceeded_of k class (omega (arith, is, lt)), is ∙ sym (need_here k class))
+
+-- ---- more classes
+
+none_of : (needs : Needs) (class : RegClass) (classes : List RegClass) → exceeded needs (class ∷ []) ≡ None → exceeded needs classes ≡ None → exceeded needs (class ∷ classes) ≡ None
+none_of needs class classes first rest = go (exceeds needs class) first
+  where
+    go : (over : Bool) → cond over (Some class) None ≡ None → cond over (Some class) (exceeded needs classes) ≡ None
+    go true e = absurd cc
+    go false e = rest
+
+-- the first class is refused
+refused_first : (needs : Needs) (class : RegClass) (classes : List RegClass) (fault : CompileFault) → IsRefusalIn needs (class ∷ []) fault → IsRefusalIn needs (class ∷ classes) fault
+refused_first needs class classes (TooManyLive c n) h = (go (exceeds needs class) h.0, h.1)
+  where
+    go : (over : Bool) → cond over (Some class) None ≡ Some c → cond over (Some class) (exceeded needs classes) ≡ Some c
+    go true e = e
+    go false e = absurd cc
+refused_first needs class classes Memory h = tt
+
+-- the first class has registers enough, and one of the others is refused
+refused_later : (needs : Needs) (class : RegClass) (classes : List RegClass) (fault : CompileFault) → exceeded needs (class ∷ []) ≡ None → IsRefusalIn needs classes fault → IsRefusalIn needs (class ∷ classes) fault
+refused_later needs class classes (TooManyLive c n) none h = (go (exceeds needs class) none ∙ h.0, h.1)
+  where
+    go : (over : Bool) → cond over (Some class) None ≡ None → cond over (Some class) (exceeded needs classes) ≡ exceeded needs classes
+    go true e = absurd cc
+    go false e = refl
+refused_later needs class classes Memory none h = tt
+
+-- ---- of a kernel
+
+tried_in_scalar : (o : Class) → is_vector o ≡ false → tried o ≡ X ∷ []
+tried_in_scalar Vector e = absurd cc
+tried_in_scalar (Scalar why) e = refl
+
+pub scalar_enough : (k : Program) → is_vector (class_of k) ≡ false → exceeded (needs_of k) (X ∷ []) ≡ None → too_many k ≡ None
+scalar_enough k is none = ap (exceeded (needs_of k)) (tried_in_scalar (class_of k) is) ∙ none
+
+pub scalar_refused : (k : Program) (fault : CompileFault) → is_vector (class_of k) ≡ false → IsRefusalIn (needs_of k) (X ∷ []) fault → IsRefusal k fault
+scalar_refused k fault is h = subst (λ cs. IsRefusalIn (needs_of k) cs fault) (sym (tried_in_scalar (class_of k) is)) h
+
+pub vector_enough : (k : Program) → class_of k ≡ Vector → exceeded (needs_of k) (Z ∷ []) ≡ None → exceeded (needs_of k) (P ∷ []) ≡ None → exceeded (needs_of k) (X ∷ []) ≡ None → too_many k ≡ None
+vector_enough k is z p x = ap (λ o. exceeded (needs_of k) (tried o)) is ∙ none_of (needs_of k) Z (P ∷ X ∷ []) z (none_of (needs_of k) P (X ∷ []) p x)
+
+in_vector : (k : Program) (fault : CompileFault) → class_of k ≡ Vector → IsRefusalIn (needs_of k) (Z ∷ P ∷ X ∷ []) fault → IsRefusal k fault
+in_vector k fault is h = subst (λ o. IsRefusalIn (needs_of k) (tried o) fault) (sym is) h
+
+-- at the first class, at the second one, and at the third one
+pub refused_at_z : (k : Program) (fault : CompileFault) → class_of k ≡ Vector → IsRefusalIn (needs_of k) (Z ∷ []) fault → IsRefusal k fault
+refused_at_z k fault is h = in_vector k fault is (refused_first (needs_of k) Z (P ∷ X ∷ []) fault h)
+
+pub refused_at_p : (k : Program) (fault : CompileFault) → class_of k ≡ Vector → exceeded (needs_of k) (Z ∷ []) ≡ None → IsRefusalIn (needs_of k) (P ∷ []) fault → IsRefusal k fault
+refused_at_p k fault is z h = in_vector k fault is (refused_later (needs_of k) Z (P ∷ X ∷ []) fault z (refused_first (needs_of k) P (X ∷ []) fault h))
+
+pub refused_at_x : (k : Program) (fault : CompileFault) → class_of k ≡ Vector → exceeded (needs_of k) (Z ∷ []) ≡ None → exceeded (needs_of k) (P ∷ []) ≡ None → IsRefusalIn (needs_of k) (X ∷ []) fault → IsRefusal k fault
+refused_at_x k fault is z p h = in_vector k fault is (refused_later (needs_of k) Z (P ∷ X ∷ []) fault z (refused_later (needs_of k) P (X ∷ []) fault p h))
