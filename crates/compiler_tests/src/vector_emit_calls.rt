@@ -52,7 +52,7 @@ fn words_of(alloc: Global, text: &str) -> Result<Vec<u32>, Fail> {
             let facts = loop_facts(alloc, &kernel)?;
             emit_vector(alloc, &facts, &regs, scalar, &mut draft)?;
             draft.place(scalar)?;
-            few_items(&kernel);
+            few_items(facts.kernel);
             let words = draft.finish()?;
             Ok(words)
         }

@@ -10,5 +10,5 @@ abbrev pub invariant-loop-value : goal.invariant-loop-value
 invariant-loop-value l = record {
   place : l.place ≡ l.value-index;
   labels : l.draft.labels ≡ l.fn.draft.labels;
-  code : (rest : List Entry) → l.draft.entries ++ folds_code (register_in l.regs.x) (program l.facts.kernel) l.regs.z l.place (view (drop l.value-index l.values)) rest ≡ l.fn.draft.entries ++ folds_code (register_in l.regs.x) (program l.facts.kernel) l.regs.z 0 (view l.values) rest;
+  code : (rest : List Entry) → l.draft.entries ++ folds_code (register_in l.regs.x) (program l.facts.kernel.now) l.regs.z l.place (view (drop l.value-index l.values)) rest ≡ l.fn.draft.entries ++ folds_code (register_in l.regs.x) (program l.facts.kernel.now) l.regs.z 0 (view l.values) rest;
 }
