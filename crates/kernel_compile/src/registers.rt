@@ -20,7 +20,11 @@ use std::alloc::Global;
 
 // The registers of the intervals of a class. It is refused where more of its values are live than there are registers for.
 #[tactic(auto, unfolding(loop_form::specs::View::program))]
-fn class_registers(alloc: Global, kernel: &Checked, class: RegClass) -> Result<Assigned, CompileFault>
+fn class_registers(
+    alloc: Global,
+    kernel: &Checked,
+    class: RegClass,
+) -> Result<Assigned, CompileFault>
     ensures fits { IfOk result (FitsKernel (program kernel.now) class) }
     ensures enough { OnOk result (exceeded (needs_of (program kernel.now)) (class ∷ []) ≡ None) }
     ensures refusal { IfErr result (IsRefusalIn (needs_of (program kernel.now)) (class ∷ [])) }
