@@ -13,7 +13,7 @@ use label_fix::Draft;
 use loop_class::class;
 use loop_form::counted_registers;
 use loop_form::laws::{few_items, ordered_intervals};
-use loop_lists::{intervals, loop_facts};
+use loop_lists::intervals;
 use reg_assign::{Assigned, RegClass, VectorRegs, assign};
 use std::alloc::Global;
 use std::test::Fail;
@@ -49,10 +49,9 @@ fn words_of(alloc: Global, text: &str) -> Result<Vec<u32>, Fail> {
     let scalar = draft.label()?;
     match class(&kernel) {
         Class::Vector => {
-            let facts = loop_facts(alloc, &kernel)?;
-            emit_vector(alloc, &facts, &regs, scalar, &mut draft)?;
+            emit_vector(alloc, &kernel, &regs, scalar, &mut draft)?;
             draft.place(scalar)?;
-            few_items(facts.kernel);
+            few_items(&kernel);
             let words = draft.finish()?;
             Ok(words)
         }

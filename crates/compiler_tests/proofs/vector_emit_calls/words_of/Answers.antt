@@ -2,14 +2,12 @@ use Rattle.std.proofs.Common.{◌≡◌, [], ◌∷◌, ap, sym, ◌∙◌, arit
 use Rattle.label_fix.specs.DraftRun.{Place}
 use Rattle.label_fix.specs.Finished.{size}
 use Rattle.label_fix.proofs.PlacedRuns.{size-append}
-use Rattle.kernel_tree.specs.declared.checked.Checked.{Checked}
 use Rattle.loop_form.specs.View.{program}
-use Rattle.dependence.specs.Classes.{class_of}
 use Rattle.compiler_tests.proofs.vector_emit_calls.words_of.Goals as goal
 
 pub emit_vector-requires-clause-class : goal.emit_vector-requires-clause-class
 unfolding program
-emit_vector-requires-clause-class c = ap (λ (kernel : Checked). class_of (program kernel)) c.in_ok-facts-in-Vector.ensures ∙ sym c.class.ensures ∙ c.in-Vector.is
+emit_vector-requires-clause-class c = sym c.class.ensures ∙ c.in-Vector.is
 
 pub finish-requires : goal.finish-requires
 finish-requires c = record {
