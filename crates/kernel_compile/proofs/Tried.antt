@@ -1,37 +1,17 @@
 -- Classes of registers that are tried one after another.
-use Rattle.std.proofs.Common.{◌≡◌, ℕ, ◌<◌, ◌≤◌, Bool, true, false, cond, List, [], ◌∷◌, Option, Some, None, refl, sym, ap, ◌∙◌, subst, arith}
-use Rattle.std.proofs.lemmas.Bool.{lt-ltb, le-ltb}
+use Rattle.std.proofs.Common.{◌≡◌, Bool, true, false, cond, List, [], ◌∷◌, Some, None, refl, sym, ap, ◌∙◌, subst}
 use Rattle.kernel_tree.specs.Plain.{Program}
 use Rattle.reg_assign.specs.declared.interval.RegClass.{RegClass}
 use Rattle.reg_assign.specs.declared.interval.RegClass.TheVariants.{Z, P, X}
 use Rattle.loop_form.specs.declared.need.Needs.{Needs}
-use Rattle.loop_form.specs.Needs.{need, needs_of}
-use Rattle.loop_form.specs.Registers.{counted_registers}
+use Rattle.loop_form.specs.Needs.{needs_of}
 use Rattle.dependence.specs.declared.reason.Class.{Class}
 use Rattle.dependence.specs.declared.reason.Class.TheVariants.{Vector, Scalar}
 use Rattle.dependence.specs.Bound.{is_vector}
 use Rattle.dependence.specs.Classes.{class_of}
 use Rattle.promises.specs.declared.fault.CompileFault.{CompileFault}
 use Rattle.promises.specs.declared.fault.CompileFault.TheVariants.{TooManyLive, Memory}
-use Rattle.promises.specs.Refusals.{tried, need_in, exceeds, exceeded, too_many, IsRefusalIn, IsRefusal}
-
--- ---- one class
-
-need_here : (k : Program) (class : RegClass) → need_in (needs_of k) class ≡ need k class
-need_here k Z = refl
-need_here k P = refl
-need_here k X = refl
-
-pub enough_of : (k : Program) (class : RegClass) → need k class ≤ counted_registers class → exceeded (needs_of k) (class ∷ []) ≡ None
-enough_of k class le = ap (λ over. cond over (Some class) None) (le-ltb (counted_registers class) (need_in (needs_of k) class) (let e = need_here k class in omega (arith, e, le)))
-
-pub exceeded_of : (k : Program) (class : RegClass) → counted_registers class < need k class → exceeded (needs_of k) (class ∷ []) ≡ Some class
-exceeded_of k class lt = ap (λ over. cond over (Some class) None) (lt-ltb (counted_registers class) (need_in (needs_of k) class) (let e = need_here k class in omega (arith, e, lt)))
-
-pub refusal_of : (k : Program) (class c : RegClass) (n : ℕ) → c ≡ class → n ≡ need k class → counted_registers class < n → IsRefusalIn (needs_of k) (class ∷ []) (TooManyLive c n)
-refusal_of k class c n same is lt = subst (λ d. IsRefusalIn (needs_of k) (class ∷ []) (TooManyLive d n)) (sym same) (exceeded_of k class (omega (arith, is, lt)), is ∙ sym (need_here k class))
-
--- ---- more classes
+use Rattle.promises.specs.Refusals.{tried, exceeds, exceeded, too_many, IsRefusalIn, IsRefusal}
 
 none_of : (needs : Needs) (class : RegClass) (classes : List RegClass) → exceeded needs (class ∷ []) ≡ None → exceeded needs classes ≡ None → exceeded needs (class ∷ classes) ≡ None
 none_of needs class classes first rest = go (exceeds needs class) first

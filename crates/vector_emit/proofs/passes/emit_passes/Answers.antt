@@ -13,6 +13,10 @@ use Rattle.first_fault.specs.Split.{is_quit, region_of, rest_of}
 use Rattle.vector_emit.specs.VectorCode.{passes_by}
 use Rattle.vector_emit.proofs.passes.emit_passes.Goals as goal
 
+pub loop_layout-layout-requires-clause-items : goal.loop_layout-layout-requires-clause-items
+unfolding program
+loop_layout-layout-requires-clause-items c = ap view c.deref.ensures.value ∙ c.in_ok-items.ensures
+
 pub emit_by-requires-clause-region : goal.emit_by-requires-clause-region
 unfolding program
 emit_by-requires-clause-region c =
