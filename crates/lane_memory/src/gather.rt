@@ -125,9 +125,11 @@ fn gathered_by_size(
     requires { lanes ≤ 32 }
     ensures done { OnOk result (out.new.bytes
         ≡ register (width_bytes D) (gathered_of reading pages.now.memory offsets.now.bytes pg.now.bits) lanes) }
-    ensures free { let first = first_true (gather_refused reading pages.now.memory offsets.now.bytes pg.now.bits) lanes 0 in
+    ensures free { let first = first_true (gather_refused reading pages.now.memory offsets.now.bytes pg.now.bits)
+        lanes 0 in
         OnOk result (first ≡ None) }
-    ensures fault { let first = first_true (gather_refused reading pages.now.memory offsets.now.bytes pg.now.bits) lanes 0 in
+    ensures fault { let first = first_true (gather_refused reading pages.now.memory offsets.now.bytes pg.now.bits)
+        lanes 0 in
         IfErr result (λ fault.
         fault_at (form_of reading) pages.now.memory (gather_place reading offsets.now.bytes) first ≡ Some fault) }
 {

@@ -7,12 +7,12 @@ ghost use Rattle.scalar_words.specs.View.{constants_of, homes_of, key_of};
 ghost use Rattle.kernel_tree.specs.Items as items;
 ghost use Rattle.scalar_values.specs.HeldNumbers as numbers;
 
-use crate::instructions::{addend, held_addend, immediate, index_word, is_same_number};
+use crate::instructions::{addend, held_addend, immediate, index_word};
 use crate::place::{moved_key, near_offset};
 use kernel_meaning::word;
 use kernel_scope::{Scope, element_type, literal_value, lookup};
 use kernel_tree::{BinaryOp, Expr, Name};
-use scalar_words::{Constant, Home, Key, constant_in, register_at};
+use scalar_words::{Constant, Home, Key, constant_in, is_same_number, register_at};
 use std::alloc::AllocError;
 use word_rows::Bits;
 

@@ -3,7 +3,6 @@
 ghost use Rattle.std.specs.Prelude.{◌≡◌, ◌<◌, ◌≤◌, true, neg_ℤ, option_map, option_and_then, ◌∷◌, []};
 ghost use Rattle.kernel_tree.specs.Plain.{term_of};
 ghost use Rattle.kernel_scope.specs.Scopes.{scope_of};
-ghost use Rattle.loop_form.specs.Needs.{same_number};
 ghost use Rattle.label_fix.specs.Draft.{word_view};
 ghost use Rattle.label_fix.specs.Finished.{is_plain};
 ghost use Rattle.kernel_tree.specs.Items as items;
@@ -154,13 +153,6 @@ pub fn held_addend(op: BinaryOp, number: u64) -> Option<u64>
     }
 }
 
-/// Whether two numbers are the same.
-pub fn is_same_number(number: i128, other: i128) -> bool
-    ensures { result ≡ same_number number other }
-{
-    number == other
-}
-
 /// The number that a comparison holds as its right side.
 pub fn compared_number(want: Option<Ty>, expr: &Expr) -> Option<u64>
     ensures number { result ≡ code.compared_number want (term_of expr.now) }
@@ -225,7 +217,8 @@ pub fn product_word(op: BinaryOp, d: Reg, a: Reg, p: Reg, q: Reg) -> Word
 }
 
 fn multiply_add(op: MultiplyOp, d: Reg, p: Reg, a: Reg, q: Reg) -> Word
-    ensures { word_view result ≡ plain.word_of (seen.multiply_add_name op) (d.number ∷ p.number ∷ a.number ∷ q.number ∷ []) }
+    ensures { word_view result
+        ≡ plain.word_of (seen.multiply_add_name op) (d.number ∷ p.number ∷ a.number ∷ q.number ∷ []) }
 {
     Word::A(A64::MultiplyAdd {
         op,
@@ -247,7 +240,8 @@ pub fn shift_word(
     r: Reg,
 ) -> Word
     ensures plain { is_plain (word_view result) ≡ true }
-    ensures word { word_view result ≡ words.shift_word op d.number a.number (words.shift_kind left signed) count.number r.number }
+    ensures word { word_view result
+        ≡ words.shift_word op d.number a.number (words.shift_kind left signed) count.number r.number }
 {
     let shift = shift_of(left, signed);
     match op {

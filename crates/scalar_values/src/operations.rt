@@ -77,7 +77,8 @@ fn emit_settled(
 // The absolute value.
 fn emit_abs(draft: &mut Draft, leaves: bool, ty: Ty, d: Reg, a: Reg) -> Result<(), AllocError>
     ensures labels { OnOk result (draft.new.labels ≡ draft.old.labels) }
-    ensures code { OnOk result (Appends draft.old draft.new (words.abs_code leaves (wrap.is_signed ty) ty d.number a.number)) }
+    ensures code { OnOk result (Appends draft.old draft.new
+        (words.abs_code leaves (wrap.is_signed ty) ty d.number a.number)) }
 {
     if is_signed(ty) {
         draft.put(add_sub(AddSubOp::Subs, scratch(), zero(), a))?;

@@ -21,7 +21,8 @@ pub struct Constant {
     pub register: Reg,
 }
 
-fn is_same_number(number: i128, other: i128) -> bool
+/// Whether two numbers are the same.
+pub fn is_same_number(number: i128, other: i128) -> bool
     ensures { result ≡ same_number number other }
 {
     number == other

@@ -9,7 +9,7 @@ pub mod names;
 pub mod operations;
 pub mod places;
 
-pub use constant::{Constant, Key, constant_in};
+pub use constant::{Constant, Key, constant_in, is_same_number};
 pub use home::{Home, register_at, register_named};
 pub use names::kernel_homes;
 pub use operations::{emit_binary, emit_const, emit_settle, update_operator};

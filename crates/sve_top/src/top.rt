@@ -171,7 +171,8 @@ fn do_command<F: Files, I: Source, S: Sink>(
         (S.faults out.old) (S.faults out.new) (I.faults input.old) (I.faults input.new) }
     ensures steady { IsTrue (F.steady files.old)
         → IfSome (F.held files.old) (λ held. IsHeld held (command_view command.now) → result ≢ Err Refusal.File) }
-    ensures as_it_comes { AsItComes (Some (command_view command.now)) (F.held files.old) (I.left input.old) (I.left input.new)
+    ensures as_it_comes { AsItComes (Some (command_view command.now)) (F.held files.old)
+        (I.left input.old) (I.left input.new)
         (S.taken out.old) (S.taken out.new) (S.faults out.old) (S.faults out.new) (result ≡ Err Refusal.Output) }
     ensures printed { WhereTold (F.held files.old) (I.left input.old) (Some (command_view command.now))
         (λ work. Prints (S.taken out.old) (S.taken out.new) (expected_text work) result) }
