@@ -1,8 +1,8 @@
 //! Emits the guard.
 
-ghost use Rattle.std.specs.Prelude.{◌≡◌, ◌<◌, ◌≤◌, ◌+◌, ◌*◌, pos, ◌*ℤ◌, unsigned_abs, List, ◌∷◌, ◌++◌, ◌||◌, OnOk};
+ghost use Rattle.std.specs.Prelude.{◌≡◌, ◌<◌, ◌≤◌, ◌+◌, ◌*◌, pos, ◌*ℤ◌, unsigned_abs, ◌||◌, OnOk};
 ghost use Rattle.std.specs.List.{list_any};
-ghost use Rattle.label_fix.specs.DraftRun as plain;
+ghost use Rattle.label_fix.specs.Emits.{Emits};
 ghost use Rattle.dependence.specs.declared.used.Extent.{Extent};
 ghost use Rattle.dependence.specs.Apart.{is_stored, used_of};
 ghost use Rattle.loop_form.specs.View.{program};
@@ -35,10 +35,8 @@ fn register(place: u32) -> Reg
 // X26 by an amount, where there is any.
 fn emit_step(draft: &mut Draft, op: AddSubOp, by: u32, sh: bool) -> Result<(), AllocError>
     requires { by < 4096 }
-    ensures labels { OnOk result (draft.new.labels ≡ draft.old.labels) }
-    ensures code { OnOk result ((rest : List plain.Entry)
-        → draft.new.entries ++ rest ≡ draft.old.entries
-        ++ guard.step_code (add_sub_imm_name op) by (flag_number sh) rest) }
+    ensures { OnOk result (Emits draft.old draft.new draft.old.labels
+        (guard.step_code (add_sub_imm_name op) by (flag_number sh))) }
 {
     if by != 0 {
         draft.put(step(op, tested(), tested(), by, sh))?;
@@ -47,9 +45,8 @@ fn emit_step(draft: &mut Draft, op: AddSubOp, by: u32, sh: bool) -> Result<(), A
 }
 
 fn emit_steps(draft: &mut Draft, op: AddSubOp, by: u32) -> Result<(), AllocError>
-    ensures labels { OnOk result (draft.new.labels ≡ draft.old.labels) }
-    ensures code { OnOk result ((rest : List plain.Entry)
-        → draft.new.entries ++ rest ≡ draft.old.entries ++ guard.steps_code (add_sub_imm_name op) by rest) }
+    ensures { OnOk result (Emits draft.old draft.new draft.old.labels
+        (guard.steps_code (add_sub_imm_name op) by)) }
 {
     emit_step(draft, op, by % 4096, false)?;
     emit_step(draft, op, by / 4096 % 4096, true)?;
@@ -58,9 +55,8 @@ fn emit_steps(draft: &mut Draft, op: AddSubOp, by: u32) -> Result<(), AllocError
 
 // X26 and a number.
 fn emit_shift(draft: &mut Draft, by: i32) -> Result<(), AllocError>
-    ensures labels { OnOk result (draft.new.labels ≡ draft.old.labels) }
-    ensures code { OnOk result ((rest : List plain.Entry)
-        → draft.new.entries ++ rest ≡ draft.old.entries ++ guard.shift_code by rest) }
+    ensures { OnOk result (Emits draft.old draft.new draft.old.labels
+        (guard.shift_code by)) }
 {
     if by >= 0 {
         emit_steps(draft, AddSubOp::Add, by.unsigned_abs())
@@ -108,10 +104,8 @@ fn emit_both(
     requires register { place < 32 }
     requires near { unsigned_abs greatest ≤ most_offset }
     requires far { reach ≤ 65536 }
-    ensures labels { OnOk result (draft.new.labels ≡ draft.old.labels) }
-    ensures code { OnOk result ((rest : List plain.Entry)
-        → draft.new.entries ++ rest ≡ draft.old.entries
-        ++ guard.extent_code bound.number place width (Extent.Both greatest reach) rest) }
+    ensures { OnOk result (Emits draft.old draft.new draft.old.labels
+        (guard.extent_code bound.number place width (Extent.Both greatest reach))) }
 {
     draft.put(element_at(bound, register(place), width))?;
     emit_shift(draft, bytes_of(width, greatest))?;
@@ -124,10 +118,8 @@ fn emit_both(
 // The end of a parameter's elements, but for what is left over.
 fn emit_end(draft: &mut Draft, bound: Reg, u: Used) -> Result<(), AllocError>
     requires { IsFit u }
-    ensures labels { OnOk result (draft.new.labels ≡ draft.old.labels) }
-    ensures code { OnOk result ((rest : List plain.Entry)
-        → draft.new.entries ++ rest ≡ draft.old.entries
-        ++ guard.extent_code bound.number u.place u.width u.extent rest) }
+    ensures { OnOk result (Emits draft.old draft.new draft.old.labels
+        (guard.extent_code bound.number u.place u.width u.extent)) }
 {
     match u.extent {
         Extent::Streams { .. } => draft.put(element_at(bound, register(u.place), u.width)),
@@ -166,9 +158,8 @@ fn gap(u: Used, v: Used) -> i32
 fn emit_below(draft: &mut Draft, bound: Reg, u: Used, v: Used) -> Result<(), AllocError>
     requires first { IsFit u }
     requires second { IsFit v }
-    ensures labels { OnOk result (draft.new.labels ≡ draft.old.labels) }
-    ensures code { OnOk result ((rest : List plain.Entry)
-        → draft.new.entries ++ rest ≡ draft.old.entries ++ guard.below_code bound.number u v rest) }
+    ensures { OnOk result (Emits draft.old draft.new draft.old.labels
+        (guard.below_code bound.number u v)) }
 {
     emit_end(draft, bound, u)?;
     emit_shift(draft, gap(u, v))?;
@@ -200,10 +191,8 @@ fn is_mixed(u: Used, v: Used) -> bool
 fn emit_none(draft: &mut Draft, bound: Reg, ok: Label, u: Used, v: Used) -> Result<(), AllocError>
     requires register { bound.number < 32 }
     requires passed { ok < draft.old.labels }
-    ensures labels { OnOk result (draft.new.labels ≡ draft.old.labels) }
-    ensures code { OnOk result ((rest : List plain.Entry)
-        → draft.new.entries ++ rest ≡ draft.old.entries
-        ++ guard.none_if (guard.is_mixed u v) bound.number ok rest) }
+    ensures { OnOk result (Emits draft.old draft.new draft.old.labels
+        (guard.none_if (guard.is_mixed u v) bound.number ok)) }
 {
     if is_mixed(u, v) {
         draft.branch(BranchKind::Zero(bound.number), ok)?;
@@ -225,9 +214,8 @@ fn emit_tests(
     requires second { IsFit v }
     requires failed { fail < draft.old.labels }
     requires passed { ok < draft.old.labels }
-    ensures labels { OnOk result (draft.new.labels ≡ draft.old.labels) }
-    ensures code { OnOk result ((rest : List plain.Entry)
-        → draft.new.entries ++ rest ≡ draft.old.entries ++ guard.pair_code bound.number fail ok u v rest) }
+    ensures { OnOk result (Emits draft.old draft.new draft.old.labels
+        (guard.pair_code bound.number fail ok u v)) }
 {
     emit_below(draft, bound, u, v)?;
     draft.branch(BranchKind::If(Cond::Hs), ok)?;
@@ -250,10 +238,8 @@ fn emit_labelled(
     requires first { IsFit u }
     requires second { IsFit v }
     requires failed { fail < draft.old.labels }
-    ensures labels { OnOk result (draft.new.labels ≡ draft.old.labels + 1) }
-    ensures code { OnOk result ((rest : List plain.Entry)
-        → draft.new.entries ++ rest ≡ draft.old.entries
-        ++ guard.pair_code bound.number fail draft.old.labels u v rest) }
+    ensures { OnOk result (Emits draft.old draft.new (draft.old.labels + 1)
+        (guard.pair_code bound.number fail draft.old.labels u v)) }
 {
     let ok = draft.label()?;
     emit_tests(draft, bound, fail, ok, u, v)?;
@@ -266,10 +252,8 @@ fn emit_pair(draft: &mut Draft, bound: Reg, fail: Label, u: Used, v: Used) -> Re
     requires first { IsFit u }
     requires second { IsFit v }
     requires failed { fail < draft.old.labels }
-    ensures labels { OnOk result (draft.new.labels ≡ guard.label_if (u.stored || v.stored) draft.old.labels) }
-    ensures code { OnOk result ((rest : List plain.Entry)
-        → draft.new.entries ++ rest ≡ draft.old.entries
-        ++ guard.pair_if (u.stored || v.stored) bound.number fail draft.old.labels u v rest) }
+    ensures { OnOk result (Emits draft.old draft.new (guard.label_if (u.stored || v.stored) draft.old.labels)
+        (guard.pair_if (u.stored || v.stored) bound.number fail draft.old.labels u v)) }
 {
     if u.stored || v.stored {
         emit_labelled(draft, bound, fail, u, v)?;
@@ -289,10 +273,8 @@ fn emit_with(
     requires others { AreFit others.now }
     requires failed { fail < draft.old.labels }
     ensures failed { OnOk result (fail < draft.new.labels) }
-    ensures labels { OnOk result (draft.new.labels ≡ guard.label_with draft.old.labels u others.now) }
-    ensures code { OnOk result ((rest : List plain.Entry)
-        → draft.new.entries ++ rest ≡ draft.old.entries
-        ++ guard.with_code bound.number fail draft.old.labels u others.now rest) }
+    ensures emits { OnOk result (Emits draft.old draft.new (guard.label_with draft.old.labels u others.now)
+        (guard.with_code bound.number fail draft.old.labels u others.now)) }
 {
     for v in others {
         emit_pair(draft, bound, fail, u, *v)?;
@@ -303,9 +285,8 @@ fn emit_with(
 // The test of a base.
 fn emit_base(draft: &mut Draft, place: u32) -> Result<(), AllocError>
     requires { place < 32 }
-    ensures labels { OnOk result (draft.new.labels ≡ draft.old.labels) }
-    ensures code { OnOk result ((rest : List plain.Entry)
-        → draft.new.entries ++ rest ≡ draft.old.entries ++ guard.base_code place rest) }
+    ensures { OnOk result (Emits draft.old draft.new draft.old.labels
+        (guard.base_code place)) }
 {
     draft.put(step(AddSubOp::Sub, part(), register(place), 16, true))?;
     draft.put(with_top(tested(), part(), 48))?;
@@ -316,9 +297,8 @@ fn emit_base(draft: &mut Draft, place: u32) -> Result<(), AllocError>
 fn emit_bases(draft: &mut Draft, fail: Label, used: &[Used]) -> Result<(), AllocError>
     requires fit { AreFit used.now }
     requires failed { fail < draft.old.labels }
-    ensures labels { OnOk result (draft.new.labels ≡ draft.old.labels) }
-    ensures code { OnOk result ((rest : List plain.Entry)
-        → draft.new.entries ++ rest ≡ draft.old.entries ++ guard.bases_code fail used.now rest) }
+    ensures { OnOk result (Emits draft.old draft.new draft.old.labels
+        (guard.bases_code fail used.now)) }
 {
     for u in used {
         emit_base(draft, u.place)?;
@@ -331,10 +311,8 @@ fn emit_pairs(draft: &mut Draft, bound: Reg, fail: Label, used: &[Used]) -> Resu
     requires register { bound.number < 32 }
     requires fit { AreFit used.now }
     requires failed { fail < draft.old.labels }
-    ensures labels { OnOk result (draft.new.labels ≡ guard.label_pairs draft.old.labels used.now) }
-    ensures code { OnOk result ((rest : List plain.Entry)
-        → draft.new.entries ++ rest ≡ draft.old.entries
-        ++ guard.pairs_code bound.number fail draft.old.labels used.now rest) }
+    ensures { OnOk result (Emits draft.old draft.new (guard.label_pairs draft.old.labels used.now)
+        (guard.pairs_code bound.number fail draft.old.labels used.now)) }
 {
     let mut following = 0;
     for u in used {
@@ -348,10 +326,8 @@ fn emit_spread(draft: &mut Draft, bound: Reg, fail: Label, used: &[Used]) -> Res
     requires register { bound.number < 32 }
     requires fit { AreFit used.now }
     requires failed { fail < draft.old.labels }
-    ensures labels { OnOk result (draft.new.labels ≡ guard.label_pairs draft.old.labels used.now) }
-    ensures code { OnOk result ((rest : List plain.Entry)
-        → draft.new.entries ++ rest ≡ draft.old.entries
-        ++ guard.spread_code bound.number fail draft.old.labels used.now rest) }
+    ensures { OnOk result (Emits draft.old draft.new (guard.label_pairs draft.old.labels used.now)
+        (guard.spread_code bound.number fail draft.old.labels used.now)) }
 {
     draft.put(with_top(zero(), bound, 40))?;
     emit_bases(draft, fail, used)?;
@@ -387,11 +363,8 @@ pub fn emit_used(
     requires register { bound.number < 32 }
     requires fit { AreFit used.now }
     requires failed { fail < draft.old.labels }
-    ensures labels { OnOk result (draft.new.labels
-        ≡ guard.label_by (guard.is_free used.now) draft.old.labels used.now) }
-    ensures code { OnOk result ((rest : List plain.Entry)
-        → draft.new.entries ++ rest ≡ draft.old.entries
-        ++ guard.code_by (guard.is_free used.now) bound.number fail draft.old.labels used.now rest) }
+    ensures { OnOk result (Emits draft.old draft.new (guard.label_by (guard.is_free used.now) draft.old.labels used.now)
+        (guard.code_by (guard.is_free used.now) bound.number fail draft.old.labels used.now)) }
 {
     if !is_free(used) {
         emit_spread(draft, bound, fail, used)?;
@@ -402,12 +375,8 @@ pub fn emit_used(
 /// The guard: code that goes on exactly where Apart holds, and else to a label.
 pub fn guard(kernel: &Checked, fail: Label, draft: &mut Draft) -> Result<(), AllocError>
     requires failed { fail < draft.old.labels }
-    ensures labels { OnOk result (draft.new.labels
-        ≡ guard.label_by (guard.is_free (used_of (program kernel.now))) draft.old.labels
-        (used_of (program kernel.now))) }
-    ensures code { OnOk result ((rest : List plain.Entry)
-        → draft.new.entries ++ rest ≡ draft.old.entries
-        ++ guard.guard_code (program kernel.now) fail draft.old.labels rest) }
+    ensures { OnOk result (Emits draft.old draft.new (guard.label_by (guard.is_free (used_of (program kernel.now))) draft.old.labels (used_of (program kernel.now)))
+        (guard.guard_code (program kernel.now) fail draft.old.labels)) }
 {
     fit_arrays(kernel);
     near_bound(kernel);
