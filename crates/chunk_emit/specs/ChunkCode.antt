@@ -9,7 +9,6 @@ use Rattle.a64_code.specs.Table as a64
 use Rattle.sve_code.specs.Table.{Name, ld1, gld1b, gld1h, gld1w, gld1d, gld1sb, gld1sh, gld1sw, st1, lsl_imm, uxtb, uxth}
 use Rattle.machine_model.specs.InstructionTable.{Listed, Scalar, Vector}
 use Rattle.kernel_meaning.specs.TypeValues.{fits}
-use Rattle.label_fix.specs.DraftRun.{Entry, Put}
 use Rattle.loop_form.specs.declared.loop_item.Source.{Source}
 use Rattle.loop_form.specs.declared.loop_item.Source.TheVariants.{Constant, Outer, LoopIndex, Made}
 use Rattle.loop_form.specs.LoopItems.{Op, Load, Gather, Cast, Store, Add, Item}
@@ -18,6 +17,7 @@ use Rattle.lane_emit.specs.LaneCode.{size_of, shift_word}
 use Rattle.lane_emit.specs.ItemCode.{mask_register, op_code}
 use Rattle.reductions.specs.AccumulatorLanes.{update_code}
 use Rattle.chunk_emit.specs.Registers.{Layout, z_of, base_of, is_used}
+pub use Rattle.label_fix.specs.Emits.{puts}
 
 -- ---- places of elements
 
@@ -160,8 +160,3 @@ items_words w l [] = []
 items_words w l (it ∷ []) = item_words w l it
 items_words w l (it ∷ next ∷ items) =
     either_words w l next (past_cast it.item it.op next.op) (item_words w l it ++ items_words w l (next ∷ items)) (items_words w l items)
-
--- instructions, and the entries after them
-abbrev pub puts : List Listed → List Entry → List Entry
-puts [] rest = rest
-puts (i ∷ is) rest = Put i ∷ puts is rest

@@ -1,14 +1,9 @@
--- What contracts see of the layout of a kernel's loop, and of code that calls append to a draft.
-use Rattle.std.specs.Prelude.{◌≡◌, List, ◌++◌}
+-- What contracts see of the layout of a kernel's loop.
 use Rattle.guest_types.specs.declared.length.Width.{Width}
-use Rattle.machine_model.specs.InstructionTable.{Listed}
-use Rattle.label_fix.specs.DraftRun.{Entry}
-use Rattle.label_fix.specs.Draft.{Drafted}
 use Rattle.loop_form.specs.Lanes.{lane_width_of}
 use Rattle.lane_emit.specs.RegistersView.{kernel_in, vectors_in, predicates_in}
 use Rattle.chunk_emit.specs.declared.layout.LoopLayout.{LoopLayout}
 use Rattle.chunk_emit.specs.Registers.{Layout}
-use Rattle.chunk_emit.specs.ChunkCode.{puts}
 use Rattle.chunk_emit.specs.KernelLayout.{layout_of_loop}
 
 abbrev pub layout_in : LoopLayout → Layout
@@ -16,7 +11,3 @@ layout_in l = layout_of_loop (kernel_in l.registers) (vectors_in l.registers) (p
 
 abbrev pub width_in : LoopLayout → Width
 width_in l = lane_width_of (kernel_in l.registers)
-
--- a call appends instructions, before whatever follows
-abbrev pub AppendsPuts : List Listed → (old new : Drafted) → Type 0
-AppendsPuts words old new = (rest : List Entry) → new.entries ++ rest ≡ old.entries ++ puts words rest

@@ -1,8 +1,8 @@
 //! The code of items over the lanes of a chunk.
 
-ghost use Rattle.std.specs.Prelude.{◌≡◌, ◌<◌, ◌≤◌, List, [], ◌∷◌, ◌++◌, unsigned_abs, OnOk, if◌then◌else◌};
-ghost use Rattle.machine_model.specs.InstructionTable.{Listed, Vector};
-ghost use Rattle.label_fix.specs.DraftRun as plain;
+ghost use Rattle.std.specs.Prelude.{◌≡◌, ◌<◌, ◌≤◌, [], ◌∷◌, unsigned_abs, OnOk, if◌then◌else◌};
+ghost use Rattle.machine_model.specs.InstructionTable.{Vector};
+ghost use Rattle.label_fix.specs.Emits.{Emits, EmitsBefore, puts};
 ghost use Rattle.loop_form.specs.LoopView.{op_of, view_of};
 ghost use Rattle.sve_code.specs.View.{instruction_view};
 ghost use Rattle.lane_emit.specs.ItemCode as lane;
@@ -12,7 +12,7 @@ ghost use Rattle.reductions.specs.AccumulatorLanes.{update_code};
 ghost use Rattle.chunk_emit.specs.Registers as layouts;
 ghost use Rattle.chunk_emit.specs.ChunkCode as code;
 ghost use Rattle.chunk_emit.specs.Writable.{IsPlace, IsWritable};
-ghost use Rattle.chunk_emit.specs.View.{AppendsPuts, layout_in, width_in};
+ghost use Rattle.chunk_emit.specs.View.{layout_in, width_in};
 
 use crate::layout::LoopLayout;
 use crate::words::{
@@ -31,8 +31,7 @@ use word_rows::Bits;
 
 /// Vector instructions.
 pub fn put_all(words: &[Sve], draft: &mut Draft) -> Result<(), AllocError>
-    ensures labels { OnOk result (draft.new.labels ≡ draft.old.labels) }
-    ensures code { OnOk result (AppendsPuts (code.vectors (words_of words.now)) draft.old draft.new) }
+    ensures { OnOk result (Emits draft.old draft.new draft.old.labels (puts (code.vectors (words_of words.now)))) }
 {
     for word in words {
         draft.put(Word::V(*word))?;
@@ -43,10 +42,7 @@ pub fn put_all(words: &[Sve], draft: &mut Draft) -> Result<(), AllocError>
 /// The index of an element: X26 = X9 and an offset, where it is not 0.
 pub fn emit_index(offset: i32, draft: &mut Draft) -> Result<(), AllocError>
     requires { unsigned_abs offset < 4096 }
-    ensures labels { OnOk result (draft.new.labels ≡ draft.old.labels) }
-    ensures code { OnOk result ((words : List Listed) (rest : List plain.Entry)
-        → draft.new.entries ++ code.puts words rest
-        ≡ draft.old.entries ++ code.puts (code.with_index offset words) rest) }
+    ensures { OnOk result (EmitsBefore draft.old draft.new draft.old.labels (code.with_index offset)) }
 {
     if offset != 0 {
         draft.put(index_word(offset))?;
@@ -75,10 +71,9 @@ fn emit_load(
     draft: &mut Draft,
 ) -> Result<(), AllocError>
     requires { IsPlace base offset }
-    ensures labels { OnOk result (draft.new.labels ≡ draft.old.labels) }
-    ensures code { let word = code.load_word (width_in layout.now) ty (layouts.z_of (layout_in layout.now) item)
+    ensures { let word = code.load_word (width_in layout.now) ty (layouts.z_of (layout_in layout.now) item)
         mask.number (layouts.base_of base) (code.index_of offset) in
-        OnOk result (AppendsPuts (code.with_index offset (Vector word ∷ [])) draft.old draft.new) }
+        OnOk result (Emits draft.old draft.new draft.old.labels (puts (code.with_index offset (Vector word ∷ [])))) }
 {
     let d = layout.registers.z(item);
     let word = load(
@@ -103,9 +98,8 @@ fn emit_elements(
     index: VectorReg,
     draft: &mut Draft,
 ) -> Result<(), AllocError>
-    ensures labels { OnOk result (draft.new.labels ≡ draft.old.labels) }
-    ensures code { let words = code.gather_by (code.memory_size ty) ty d.number mask.number base.number index.number in
-        OnOk result (AppendsPuts (code.vectors words) draft.old draft.new) }
+    ensures { let words = code.gather_by (code.memory_size ty) ty d.number mask.number base.number index.number in
+        OnOk result (Emits draft.old draft.new draft.old.labels (puts (code.vectors words))) }
 {
     let shift = index_shift(ty);
     if shift == 0 {
@@ -129,10 +123,9 @@ fn emit_gather(
     draft: &mut Draft,
 ) -> Result<(), AllocError>
     requires { layouts.base_of base < 32 }
-    ensures labels { OnOk result (draft.new.labels ≡ draft.old.labels) }
-    ensures code { let words = code.gather_code ty reach (layouts.z_of (layout_in layout.now) item) mask.number
+    ensures { let words = code.gather_code ty reach (layouts.z_of (layout_in layout.now) item) mask.number
         (layouts.base_of base) ((layout_in layout.now).registers.source index) in
-        OnOk result (AppendsPuts (code.vectors words) draft.old draft.new) }
+        OnOk result (Emits draft.old draft.new draft.old.labels (puts (code.vectors words))) }
 {
     let d = layout.registers.z(item);
     let x = layout.registers.source(index);
@@ -158,10 +151,9 @@ fn emit_store(
 ) -> Result<(), AllocError>
     requires place { IsPlace base offset }
     requires narrow { code.memory_size ty ≤ size_of (width_in layout.now) }
-    ensures labels { OnOk result (draft.new.labels ≡ draft.old.labels) }
-    ensures code { let word = code.store_word (width_in layout.now) ty ((layout_in layout.now).registers.source value)
+    ensures { let word = code.store_word (width_in layout.now) ty ((layout_in layout.now).registers.source value)
         mask.number (layouts.base_of base) (code.index_of offset) in
-        OnOk result (AppendsPuts (code.with_index offset (Vector word ∷ [])) draft.old draft.new) }
+        OnOk result (Emits draft.old draft.new draft.old.labels (puts (code.with_index offset (Vector word ∷ [])))) }
 {
     let v = layout.registers.source(value);
     let word = store(
@@ -187,10 +179,9 @@ fn emit_update(
     value: Source,
     draft: &mut Draft,
 ) -> Result<(), AllocError>
-    ensures labels { OnOk result (draft.new.labels ≡ draft.old.labels) }
-    ensures code { let words = update_code (width_in layout.now) op ty ((layout_in layout.now).sum name.now)
+    ensures { let words = update_code (width_in layout.now) op ty ((layout_in layout.now).sum name.now)
         mask.number ((layout_in layout.now).registers.source value) in
-        OnOk result (AppendsPuts (code.vectors words) draft.old draft.new) }
+        OnOk result (Emits draft.old draft.new draft.old.labels (puts (code.vectors words))) }
 {
     let sum = layout.registers.sum(name);
     let v = layout.registers.source(value);
@@ -228,11 +219,10 @@ fn emit_pure(
     op: &LoopOp<'_>,
     draft: &mut Draft,
 ) -> Result<(), AllocError>
-    ensures labels { OnOk result (draft.new.labels ≡ draft.old.labels) }
-    ensures code { let l = layout_in layout.now in
+    ensures { let l = layout_in layout.now in
         let words = lane.op_code (width_in layout.now) l.registers item mask.number (op_of op.now) in
-        OnOk result (AppendsPuts (if layouts.is_used l (op_of op.now) item then code.vectors words else [])
-        draft.old draft.new) }
+        OnOk result (Emits draft.old draft.new draft.old.labels
+        (puts (if layouts.is_used l (op_of op.now) item then code.vectors words else []))) }
 {
     if is_used(layout, item, op) {
         let words = emit_item(alloc, layout.width(), &layout.registers, item, mask, op)?;
@@ -251,10 +241,9 @@ fn emit_op(
     draft: &mut Draft,
 ) -> Result<(), AllocError>
     requires { IsWritable (width_in layout.now) (op_of op.now) }
-    ensures labels { OnOk result (draft.new.labels ≡ draft.old.labels) }
-    ensures code { let words = code.op_words (width_in layout.now) (layout_in layout.now) item mask.number
+    ensures { let words = code.op_words (width_in layout.now) (layout_in layout.now) item mask.number
         (op_of op.now) in
-        OnOk result (AppendsPuts words draft.old draft.new) }
+        OnOk result (Emits draft.old draft.new draft.old.labels (puts words)) }
 {
     match *op {
         LoopOp::Load {
@@ -300,9 +289,8 @@ pub fn emit_one(
     draft: &mut Draft,
 ) -> Result<(), AllocError>
     requires { IsWritable (width_in layout.now) (view_of item.now).op }
-    ensures labels { OnOk result (draft.new.labels ≡ draft.old.labels) }
-    ensures code { let words = code.item_words (width_in layout.now) (layout_in layout.now) (view_of item.now) in
-        OnOk result (AppendsPuts words draft.old draft.new) }
+    ensures { let words = code.item_words (width_in layout.now) (layout_in layout.now) (view_of item.now) in
+        OnOk result (Emits draft.old draft.new draft.old.labels (puts words)) }
 {
     let mask = mask_of(layout, item.mask);
     emit_op(alloc, layout, item.item, mask, &item.op, draft)?;

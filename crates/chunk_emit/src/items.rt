@@ -2,11 +2,12 @@
 
 ghost use Rattle.std.specs.Prelude.{◌≡◌, ◌+◌, ◌<◌, List, ◌++◌, length, drop, slice_get, OnOk, IfOk, option_map};
 ghost use Rattle.label_fix.specs.DraftRun.{Entry};
+ghost use Rattle.label_fix.specs.Emits.{Emits, puts};
 ghost use Rattle.loop_form.specs.LoopView.{op_of, view_of, view};
 ghost use Rattle.chunk_emit.specs.ChunkCode as code;
 ghost use Rattle.chunk_emit.specs.Steps as steps;
 ghost use Rattle.chunk_emit.specs.Writable.{AreWritable};
-ghost use Rattle.chunk_emit.specs.View.{AppendsPuts, layout_in, width_in};
+ghost use Rattle.chunk_emit.specs.View.{layout_in, width_in};
 
 use crate::emit::emit_one;
 use crate::layout::LoopLayout;
@@ -85,8 +86,8 @@ fn emit_at(
     ensures labels { OnOk result (draft.new.labels ≡ draft.old.labels) }
     ensures code { let left = steps.left_words (width_in layout.now) (layout_in layout.now) in
         IfOk result (λ took. (rest : List Entry)
-        → draft.new.entries ++ code.puts (left took (view (drop (place + 1) items.now))) rest
-        ≡ draft.old.entries ++ code.puts (left done (view (drop place items.now))) rest) }
+        → draft.new.entries ++ puts (left took (view (drop (place + 1) items.now))) rest
+        ≡ draft.old.entries ++ puts (left done (view (drop place items.now))) rest) }
 {
     if done {
         return Ok(false);
@@ -104,9 +105,8 @@ pub fn emit_items(
     draft: &mut Draft,
 ) -> Result<(), AllocError>
     requires { AreWritable (width_in layout.now) (view items.now) }
-    ensures labels { OnOk result (draft.new.labels ≡ draft.old.labels) }
-    ensures code { let words = code.items_words (width_in layout.now) (layout_in layout.now) (view items.now) in
-        OnOk result (AppendsPuts words draft.old draft.new) }
+    ensures { let words = code.items_words (width_in layout.now) (layout_in layout.now) (view items.now) in
+        OnOk result (Emits draft.old draft.new draft.old.labels (puts words)) }
 {
     let mut done = false;
     for place in 0..items.len() {

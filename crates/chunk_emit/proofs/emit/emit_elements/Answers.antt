@@ -14,8 +14,12 @@ shifted (suc n) t d m b x some = refl
 two_words : (t : Ty) (n d m b x : ℕ) → n ≡ memory_size t → n ≢ 0 → shift_word lsl_imm d x (64 + n) ∷ gather_word t d m b d ∷ [] ≡ gather_by (memory_size t) t d m b x
 two_words t n d m b x is some = sym (shifted n t d m b x some) ∙ ap (λ k. gather_by k t d m b x) is
 
-pub returns-in_ok-put-3-clause-code : goal.returns-in_ok-put-3-clause-code
-returns-in_ok-put-3-clause-code c rest =
+pub returns-in_ok-put-3 : goal.returns-in_ok-put-3
+returns-in_ok-put-3 c =
     let both = two_words c.args.ty c.index_shift-shift.result c.args.d.number c.args.mask.number c.args.base.number c.args.index.number c.index_shift-shift.ensures c.if-shift-eq0.false in
-    c.in_ok-put-3.ensures.code rest ∙ c.in_ok-put-2.ensures.code (puts (word_view c.gather-else-shift-eq0.result ∷ []) rest)
-    ∙ ap (λ ws. c.args.draft.now.entries ++ puts ws rest) (ap₂ (λ a b. Vector a ∷ b ∷ []) c.shift_left.ensures c.gather-else-shift-eq0.ensures ∙ ap vectors both)
+    record {
+      labels = c.in_ok-put-3.ensures.labels ∙ c.in_ok-put-2.ensures.labels;
+      code = λ rest.
+          c.in_ok-put-3.ensures.code rest ∙ c.in_ok-put-2.ensures.code (puts (word_view c.gather-else-shift-eq0.result ∷ []) rest)
+          ∙ ap (λ ws. c.args.draft.now.entries ++ puts ws rest) (ap₂ (λ a b. Vector a ∷ b ∷ []) c.shift_left.ensures c.gather-else-shift-eq0.ensures ∙ ap vectors both);
+    }

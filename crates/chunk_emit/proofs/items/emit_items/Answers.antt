@@ -10,5 +10,9 @@ loop-place-preserved c = record {
   code = λ rest. c.in_ok-done.ensures.code rest ∙ c.loop-place.invariant.code rest;
 }
 
-pub returns-clause-code : goal.returns-clause-code
-returns-clause-code c rest = ap (λ e. c.loop-place.draft.entries ++ e) (none_left (width_in c.args.layout.now) (layout_in c.args.layout.now) c.loop-place.done c.args.items.now c.loop-place.place rest c.loop-place-test.false) ∙ c.loop-place.invariant.code rest
+pub returns : goal.returns
+returns c = record {
+  labels = c.loop-place.invariant.labels;
+  code = λ rest.
+      ap (λ e. c.loop-place.draft.entries ++ e) (none_left (width_in c.args.layout.now) (layout_in c.args.layout.now) c.loop-place.done c.args.items.now c.loop-place.place rest c.loop-place-test.false) ∙ c.loop-place.invariant.code rest;
+}
