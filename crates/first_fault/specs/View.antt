@@ -1,11 +1,7 @@
 -- What contracts see of the break region's code.
-use Rattle.std.specs.Prelude.{◌≡◌, ℕ, suc, ◌+◌, List, [], ◌∷◌, ◌++◌, if◌then◌else◌}
+use Rattle.std.specs.Prelude.{ℕ, suc, ◌+◌, List, [], ◌∷◌, if◌then◌else◌}
 use Rattle.std.specs.List.{list_any}
-use Rattle.machine_model.specs.InstructionTable.{Listed}
-use Rattle.label_fix.specs.DraftRun.{Entry}
-use Rattle.label_fix.specs.Draft.{Drafted}
 use Rattle.loop_form.specs.LoopItems.{Item}
-use Rattle.chunk_emit.specs.ChunkCode.{puts}
 use Rattle.first_fault.specs.declared.mode.Mode.{Mode}
 use Rattle.first_fault.specs.declared.mode.Mode.TheVariants as mode
 use Rattle.first_fault.specs.RegionCode as plain
@@ -14,10 +10,6 @@ use Rattle.first_fault.specs.Split.{is_quit}
 abbrev pub mode_of : Mode → plain.Mode
 mode_of mode.Early = plain.Early
 mode_of mode.Single = plain.Single
-
--- a call appends instructions that stand before others
-abbrev pub AppendsBefore : (List Listed → List Listed) → (old new : Drafted) → Type 0
-AppendsBefore before old new = (words : List Listed) (rest : List Entry) → new.entries ++ puts words rest ≡ old.entries ++ puts (before words) rest
 
 -- how many items the break region has
 abbrev pub region_size : List Item → ℕ

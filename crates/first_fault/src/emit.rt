@@ -1,15 +1,15 @@
 //! The code of the break region.
 
-ghost use Rattle.std.specs.Prelude.{◌≡◌, ◌<◌, List, [], ◌∷◌, ◌++◌, OnOk, if◌then◌else◌};
-ghost use Rattle.label_fix.specs.DraftRun.{Entry};
+ghost use Rattle.std.specs.Prelude.{◌≡◌, ◌<◌, [], ◌∷◌, OnOk, if◌then◌else◌};
+ghost use Rattle.label_fix.specs.Emits.{Emits, EmitsBefore, puts};
 ghost use Rattle.loop_form.specs.LoopView.{op_of, view_of, view};
 ghost use Rattle.lane_emit.specs.ItemCode as lane;
 ghost use Rattle.chunk_emit.specs.Registers as layouts;
 ghost use Rattle.chunk_emit.specs.ChunkCode as code;
 ghost use Rattle.chunk_emit.specs.Writable.{IsPlace, IsWritable, AreWritable};
-ghost use Rattle.chunk_emit.specs.View.{AppendsPuts, layout_in, width_in};
+ghost use Rattle.chunk_emit.specs.View.{layout_in, width_in};
 ghost use Rattle.first_fault.specs.RegionCode as region;
-ghost use Rattle.first_fault.specs.View.{mode_of, AppendsBefore};
+ghost use Rattle.first_fault.specs.View.{mode_of};
 
 use crate::mode::Mode;
 use crate::words::{address, first_fault, leave, narrow, non_fault, read_faults, set_faults};
@@ -30,8 +30,8 @@ fn emit_narrow(
     mask: Option<u32>,
     draft: &mut Draft,
 ) -> Result<(), AllocError>
-    ensures labels { OnOk result (draft.new.labels ≡ draft.old.labels) }
-    ensures code { OnOk result (AppendsBefore (region.narrow_words (layout_in layout.now) mask) draft.old draft.new) }
+    ensures { OnOk result (EmitsBefore draft.old draft.new draft.old.labels
+        (region.narrow_words (layout_in layout.now) mask)) }
 {
     if let Some(item) = mask {
         draft.put(narrow(layout.registers.p(item)))?;
@@ -49,10 +49,9 @@ fn emit_early(
     index: OffsetReg,
     draft: &mut Draft,
 ) -> Result<(), AllocError>
-    ensures labels { OnOk result (draft.new.labels ≡ draft.old.labels) }
-    ensures code { let words = region.load_words region.Early (width_in layout.now) (layout_in layout.now) item mask ty
+    ensures { let words = region.load_words region.Early (width_in layout.now) (layout_in layout.now) item mask ty
         base.number index.number in
-        OnOk result (AppendsPuts words draft.old draft.new) }
+        OnOk result (Emits draft.old draft.new draft.old.labels (puts words)) }
 {
     let d = layout.registers.z(item);
     match mask {
@@ -80,10 +79,9 @@ fn emit_plain(
     index: OffsetReg,
     draft: &mut Draft,
 ) -> Result<(), AllocError>
-    ensures labels { OnOk result (draft.new.labels ≡ draft.old.labels) }
-    ensures code { let words = region.load_words region.Single (width_in layout.now) (layout_in layout.now) item mask ty
+    ensures { let words = region.load_words region.Single (width_in layout.now) (layout_in layout.now) item mask ty
         base.number index.number in
-        OnOk result (AppendsPuts words draft.old draft.new) }
+        OnOk result (Emits draft.old draft.new draft.old.labels (puts words)) }
 {
     let d = layout.registers.z(item);
     let m = mask_of(layout, mask);
@@ -101,11 +99,10 @@ fn emit_read(
     index: OffsetReg,
     draft: &mut Draft,
 ) -> Result<(), AllocError>
-    ensures labels { OnOk result (draft.new.labels ≡ draft.old.labels) }
-    ensures code { let words = region.load_words (mode_of mode) (width_in layout.now)
+    ensures { let words = region.load_words (mode_of mode) (width_in layout.now)
         (layout_in layout.now) item mask ty
         base.number index.number in
-        OnOk result (AppendsPuts words draft.old draft.new) }
+        OnOk result (Emits draft.old draft.new draft.old.labels (puts words)) }
 {
     match mode {
         Mode::Early => emit_early(layout, item, mask, ty, base, index, draft)?,
@@ -126,11 +123,11 @@ fn emit_load(
     draft: &mut Draft,
 ) -> Result<(), AllocError>
     requires { IsPlace base offset }
-    ensures labels { OnOk result (draft.new.labels ≡ draft.old.labels) }
-    ensures code { let l = layout_in layout.now in
+    ensures { let l = layout_in layout.now in
         let read = region.load_words (mode_of mode) (width_in layout.now) l item mask ty (layouts.base_of base)
         (code.index_of offset) in
-        OnOk result (AppendsPuts (region.narrow_words l mask (code.with_index offset read)) draft.old draft.new) }
+        OnOk result (Emits draft.old draft.new draft.old.labels
+        (puts (region.narrow_words l mask (code.with_index offset read)))) }
 {
     let array = base_register(base);
     let index = index_register(offset);
@@ -147,13 +144,13 @@ fn emit_used(
     item: &LoopItem<'_>,
     draft: &mut Draft,
 ) -> Result<(), AllocError>
-    ensures labels { OnOk result (draft.new.labels ≡ draft.old.labels) }
-    ensures code { let l = layout_in layout.now in
+    ensures { let l = layout_in layout.now in
         let it = view_of item.now in
         let words = lane.op_code (width_in layout.now) l.registers it.item
         (lane.mask_register l.registers it.mask) it.op in
         let all = region.narrow_words l it.mask (code.vectors words) in
-        OnOk result (AppendsPuts (if layouts.is_used l it.op it.item then all else []) draft.old draft.new) }
+        OnOk result (Emits draft.old draft.new draft.old.labels
+        (puts (if layouts.is_used l it.op it.item then all else []))) }
 {
     if is_used(layout, item.item, &item.op) {
         emit_narrow(layout, item.mask, draft)?;
@@ -180,11 +177,10 @@ fn emit_step(
     draft: &mut Draft,
 ) -> Result<(), AllocError>
     requires { IsWritable (width_in layout.now) (view_of item.now).op }
-    ensures labels { OnOk result (draft.new.labels ≡ draft.old.labels) }
-    ensures code { let it = view_of item.now in
+    ensures { let it = view_of item.now in
         let words = region.step_words (mode_of mode) (width_in layout.now)
         (layout_in layout.now) it.item it.mask it.op in
-        OnOk result (AppendsPuts words draft.old draft.new) }
+        OnOk result (Emits draft.old draft.new draft.old.labels (puts words)) }
 {
     match item.op {
         LoopOp::Load {
@@ -208,10 +204,9 @@ fn emit_region(
     draft: &mut Draft,
 ) -> Result<(), AllocError>
     requires { AreWritable (width_in layout.now) (view items.now) }
-    ensures labels { OnOk result (draft.new.labels ≡ draft.old.labels) }
-    ensures code { let words = region.region_words (mode_of mode) (width_in layout.now) (layout_in layout.now)
+    ensures { let words = region.region_words (mode_of mode) (width_in layout.now) (layout_in layout.now)
         (view items.now) in
-        OnOk result (AppendsPuts words draft.old draft.new) }
+        OnOk result (Emits draft.old draft.new draft.old.labels (puts words)) }
 {
     for item in items {
         emit_step(alloc, mode, layout, item, draft)?;
@@ -227,9 +222,8 @@ pub fn emit_exits(
     draft: &mut Draft,
 ) -> Result<(), AllocError>
     requires { AreWritable (width_in layout.now) (view items.now) }
-    ensures labels { OnOk result (draft.new.labels ≡ draft.old.labels) }
-    ensures code { let words = region.exits_words (width_in layout.now) (layout_in layout.now) (view items.now) in
-        OnOk result (AppendsPuts words draft.old draft.new) }
+    ensures { let words = region.exits_words (width_in layout.now) (layout_in layout.now) (view items.now) in
+        OnOk result (Emits draft.old draft.new draft.old.labels (puts words)) }
 {
     draft.put(set_faults())?;
     emit_region(alloc, Mode::Early, layout, items, draft)?;
@@ -244,9 +238,8 @@ pub fn emit_single(
     draft: &mut Draft,
 ) -> Result<(), AllocError>
     requires { AreWritable (width_in layout.now) (view items.now) }
-    ensures labels { OnOk result (draft.new.labels ≡ draft.old.labels) }
-    ensures code { let words = region.single_words (width_in layout.now) (layout_in layout.now) (view items.now) in
-        OnOk result (AppendsPuts words draft.old draft.new) }
+    ensures { let words = region.single_words (width_in layout.now) (layout_in layout.now) (view items.now) in
+        OnOk result (Emits draft.old draft.new draft.old.labels (puts words)) }
 {
     emit_region(alloc, Mode::Single, layout, items, draft)?;
     Ok(())

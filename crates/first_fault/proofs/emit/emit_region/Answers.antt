@@ -15,6 +15,9 @@ loop-item-preserved c = record {
       ∙ c.loop-item.invariant.code rest;
 }
 
-pub returns-clause-code : goal.returns-clause-code
-returns-clause-code c rest =
-    ap (λ e. c.loop-item.draft.entries ++ e) (none_left (mode_of c.args.mode) (width_in c.args.layout.now) (layout_in c.args.layout.now) c.args.items.now c.loop-item.item-index rest c.loop-item-test.false) ∙ c.loop-item.invariant.code rest
+pub returns : goal.returns
+returns c = record {
+  labels = c.loop-item.invariant.labels;
+  code = λ rest.
+      ap (λ e. c.loop-item.draft.entries ++ e) (none_left (mode_of c.args.mode) (width_in c.args.layout.now) (layout_in c.args.layout.now) c.args.items.now c.loop-item.item-index rest c.loop-item-test.false) ∙ c.loop-item.invariant.code rest;
+}
