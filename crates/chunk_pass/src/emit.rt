@@ -1,10 +1,10 @@
 //! The code of a pass of the loop.
 
-ghost use Rattle.std.specs.Prelude.{◌≡◌, List, [], ◌∷◌, ◌++◌, OnOk, if◌then◌else◌};
-ghost use Rattle.label_fix.specs.DraftRun.{Entry};
+ghost use Rattle.std.specs.Prelude.{◌≡◌, [], ◌∷◌, OnOk, if◌then◌else◌};
+ghost use Rattle.label_fix.specs.Emits.{Emits, puts};
 ghost use Rattle.loop_form.specs.LoopView.{view};
 ghost use Rattle.chunk_emit.specs.Writable.{AreWritable};
-ghost use Rattle.chunk_emit.specs.View.{AppendsPuts, layout_in, width_in};
+ghost use Rattle.chunk_emit.specs.View.{layout_in, width_in};
 ghost use Rattle.first_fault.specs.Split.{region_of, rest_of};
 ghost use Rattle.chunk_pass.specs.PassCode as pass;
 
@@ -18,8 +18,7 @@ use std::alloc::{AllocError, Global};
 
 // The loop variable, where it has a register.
 fn emit_turns(layout: &LoopLayout<'_>, draft: &mut Draft) -> Result<(), AllocError>
-    ensures labels { OnOk result (draft.new.labels ≡ draft.old.labels) }
-    ensures code { OnOk result (AppendsPuts (pass.index_words (layout_in layout.now)) draft.old draft.new) }
+    ensures { OnOk result (Emits draft.old draft.new draft.old.labels (puts (pass.index_words (layout_in layout.now)))) }
 {
     if layout.registers.is_index_held() {
         let d = layout.registers.source(Source::LoopIndex);
@@ -38,10 +37,9 @@ pub fn emit_chunk(
 ) -> Result<(), AllocError>
     requires region { AreWritable (width_in layout.now) (region_of (view items.now)) }
     requires rest { AreWritable (width_in layout.now) (rest_of (view items.now)) }
-    ensures labels { OnOk result (draft.new.labels ≡ draft.old.labels) }
-    ensures code { let words = pass.chunk_words (width_in layout.now) (layout_in layout.now) bound.number
+    ensures { let words = pass.chunk_words (width_in layout.now) (layout_in layout.now) bound.number
         (view items.now) in
-        OnOk result (AppendsPuts words draft.old draft.new) }
+        OnOk result (Emits draft.old draft.new draft.old.labels (puts words)) }
 {
     draft.put(lanes(layout.width(), bound))?;
     emit_turns(layout, draft)?;
@@ -60,9 +58,8 @@ pub fn emit_turn(
 ) -> Result<(), AllocError>
     requires region { AreWritable (width_in layout.now) (region_of (view items.now)) }
     requires rest { AreWritable (width_in layout.now) (rest_of (view items.now)) }
-    ensures labels { OnOk result (draft.new.labels ≡ draft.old.labels) }
-    ensures code { let words = pass.turn_words (width_in layout.now) (layout_in layout.now) (view items.now) in
-        OnOk result (AppendsPuts words draft.old draft.new) }
+    ensures { let words = pass.turn_words (width_in layout.now) (layout_in layout.now) (view items.now) in
+        OnOk result (Emits draft.old draft.new draft.old.labels (puts words)) }
 {
     draft.put(one())?;
     draft.put(first_lane(layout.width()))?;
@@ -80,9 +77,8 @@ pub fn emit_plain(
     draft: &mut Draft,
 ) -> Result<(), AllocError>
     requires { AreWritable (width_in layout.now) (view items.now) }
-    ensures labels { OnOk result (draft.new.labels ≡ draft.old.labels) }
-    ensures code { let words = pass.plain_words (width_in layout.now) (layout_in layout.now) (view items.now) in
-        OnOk result (AppendsPuts words draft.old draft.new) }
+    ensures { let words = pass.plain_words (width_in layout.now) (layout_in layout.now) (view items.now) in
+        OnOk result (Emits draft.old draft.new draft.old.labels (puts words)) }
 {
     emit_turns(layout, draft)?;
     emit_items(alloc, layout, items, draft)?;

@@ -20,22 +20,26 @@ emit_exits-requires c =
     let items : List Item = view c.args.items.now in
     subst (AreWritable w) (sym c.region.ensures) c.requires.region
 
-pub returns-clause-code : goal.returns-clause-code
-returns-clause-code c rest =
+pub returns : goal.returns
+returns c =
     let w : Width = width_in c.args.layout.now in
     let l : Layout = layout_in c.args.layout.now in
     let items : List Item = view c.args.items.now in
-    let last : List Entry = Put (advance_word w) ∷ rest in
-    let following : List Entry = puts (items_words w l (rest_of items)) last in
-    let read : List Entry = puts (exits_words w l (region_of items)) following in
-    let turned : List Entry = puts (index_words l) read in
-    c.in_ok-put-2.ensures.code rest
-    ∙ ap (λ x. c.emit_items.new.draft.entries ++ Put x ∷ rest) (c.advance.ensures ∙ ap advance_word c.width-2.ensures)
-    ∙ c.in_ok-emit_items.ensures.code last
-    ∙ ap (λ its. c.emit_exits.new.draft.entries ++ puts (items_words w l its) last) c.rest.ensures
-    ∙ c.in_ok-emit_exits.ensures.code following
-    ∙ ap (λ its. c.emit_turns.new.draft.entries ++ puts (exits_words w l its) following) c.region.ensures
-    ∙ c.in_ok-emit_turns.ensures.code read
-    ∙ c.in_ok-put.ensures.code turned
-    ∙ ap (λ x. c.args.draft.now.entries ++ Put x ∷ turned) (c.lanes.ensures ∙ ap (λ v. lanes_word v c.args.bound.number) c.width.ensures)
-    ∙ ap (λ e. c.args.draft.now.entries ++ e) (sym (chunk_puts w l c.args.bound.number items rest))
+    record {
+      labels = c.in_ok-put-2.ensures.labels ∙ c.in_ok-emit_items.ensures.labels ∙ c.in_ok-emit_exits.ensures.labels ∙ c.in_ok-emit_turns.ensures.labels ∙ c.in_ok-put.ensures.labels;
+      code = λ rest.
+          let last : List Entry = Put (advance_word w) ∷ rest in
+          let following : List Entry = puts (items_words w l (rest_of items)) last in
+          let read : List Entry = puts (exits_words w l (region_of items)) following in
+          let turned : List Entry = puts (index_words l) read in
+          c.in_ok-put-2.ensures.code rest
+          ∙ ap (λ x. c.emit_items.new.draft.entries ++ Put x ∷ rest) (c.advance.ensures ∙ ap advance_word c.width-2.ensures)
+          ∙ c.in_ok-emit_items.ensures.code last
+          ∙ ap (λ its. c.emit_exits.new.draft.entries ++ puts (items_words w l its) last) c.rest.ensures
+          ∙ c.in_ok-emit_exits.ensures.code following
+          ∙ ap (λ its. c.emit_turns.new.draft.entries ++ puts (exits_words w l its) following) c.region.ensures
+          ∙ c.in_ok-emit_turns.ensures.code read
+          ∙ c.in_ok-put.ensures.code turned
+          ∙ ap (λ x. c.args.draft.now.entries ++ Put x ∷ turned) (c.lanes.ensures ∙ ap (λ v. lanes_word v c.args.bound.number) c.width.ensures)
+          ∙ ap (λ e. c.args.draft.now.entries ++ e) (sym (chunk_puts w l c.args.bound.number items rest));
+    }

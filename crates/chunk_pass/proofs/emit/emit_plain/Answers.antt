@@ -10,14 +10,18 @@ use Rattle.chunk_pass.specs.PassCode.{advance_word}
 use Rattle.chunk_pass.proofs.PassPuts.{plain_puts}
 use Rattle.chunk_pass.proofs.emit.emit_plain.Goals as goal
 
-pub returns-clause-code : goal.returns-clause-code
-returns-clause-code c rest =
+pub returns : goal.returns
+returns c =
     let w : Width = width_in c.args.layout.now in
     let l : Layout = layout_in c.args.layout.now in
     let items : List Item = view c.args.items.now in
-    let last : List Entry = Put (advance_word w) ∷ rest in
-    c.in_ok-put.ensures.code rest
-    ∙ ap (λ x. c.emit_items.new.draft.entries ++ Put x ∷ rest) (c.advance.ensures ∙ ap advance_word c.width.ensures)
-    ∙ c.in_ok-emit_items.ensures.code last
-    ∙ c.in_ok-emit_turns.ensures.code (puts (items_words w l items) last)
-    ∙ ap (λ e. c.args.draft.now.entries ++ e) (sym (plain_puts w l items rest))
+    record {
+      labels = c.in_ok-put.ensures.labels ∙ c.in_ok-emit_items.ensures.labels ∙ c.in_ok-emit_turns.ensures.labels;
+      code = λ rest.
+          let last : List Entry = Put (advance_word w) ∷ rest in
+          c.in_ok-put.ensures.code rest
+          ∙ ap (λ x. c.emit_items.new.draft.entries ++ Put x ∷ rest) (c.advance.ensures ∙ ap advance_word c.width.ensures)
+          ∙ c.in_ok-emit_items.ensures.code last
+          ∙ c.in_ok-emit_turns.ensures.code (puts (items_words w l items) last)
+          ∙ ap (λ e. c.args.draft.now.entries ++ e) (sym (plain_puts w l items rest));
+    }

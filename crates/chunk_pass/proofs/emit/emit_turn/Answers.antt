@@ -24,22 +24,26 @@ emit_single-requires c =
     let items : List Item = view c.args.items.now in
     subst (AreWritable w) (sym c.region.ensures) c.requires.region
 
-pub returns-clause-code : goal.returns-clause-code
-returns-clause-code c rest =
+pub returns : goal.returns
+returns c =
     let w : Width = width_in c.args.layout.now in
     let l : Layout = layout_in c.args.layout.now in
     let items : List Item = view c.args.items.now in
-    let last : List Entry = Put (advance_word w) ∷ rest in
-    let following : List Entry = puts (items_words w l (rest_of items)) last in
-    let read : List Entry = puts (single_words w l (region_of items)) following in
-    c.in_ok-put-3.ensures.code rest
-    ∙ ap (λ x. c.emit_items.new.draft.entries ++ Put x ∷ rest) (c.advance.ensures ∙ ap advance_word c.width-2.ensures)
-    ∙ c.in_ok-emit_items.ensures.code last
-    ∙ ap (λ its. c.emit_single.new.draft.entries ++ puts (items_words w l its) last) c.rest.ensures
-    ∙ c.in_ok-emit_single.ensures.code following
-    ∙ ap (λ its. c.put-2.new.self.entries ++ puts (single_words w l its) following) c.region.ensures
-    ∙ c.in_ok-put-2.ensures.code read
-    ∙ ap (λ x. c.put.new.self.entries ++ Put x ∷ read) (c.first_lane.ensures ∙ ap (λ v. Vector (word whilelo (0 ∷ 31 ∷ 26 ∷ size_of v ∷ []))) c.width.ensures)
-    ∙ c.in_ok-put.ensures.code (Put (Vector (word whilelo (0 ∷ 31 ∷ 26 ∷ size_of w ∷ []))) ∷ read)
-    ∙ ap (λ x. c.args.draft.now.entries ++ Put x ∷ Put (Vector (word whilelo (0 ∷ 31 ∷ 26 ∷ size_of w ∷ []))) ∷ read) c.one.ensures
-    ∙ ap (λ e. c.args.draft.now.entries ++ e) (sym (turn_puts w l items rest))
+    record {
+      labels = c.in_ok-put-3.ensures.labels ∙ c.in_ok-emit_items.ensures.labels ∙ c.in_ok-emit_single.ensures.labels ∙ c.in_ok-put-2.ensures.labels ∙ c.in_ok-put.ensures.labels;
+      code = λ rest.
+          let last : List Entry = Put (advance_word w) ∷ rest in
+          let following : List Entry = puts (items_words w l (rest_of items)) last in
+          let read : List Entry = puts (single_words w l (region_of items)) following in
+          c.in_ok-put-3.ensures.code rest
+          ∙ ap (λ x. c.emit_items.new.draft.entries ++ Put x ∷ rest) (c.advance.ensures ∙ ap advance_word c.width-2.ensures)
+          ∙ c.in_ok-emit_items.ensures.code last
+          ∙ ap (λ its. c.emit_single.new.draft.entries ++ puts (items_words w l its) last) c.rest.ensures
+          ∙ c.in_ok-emit_single.ensures.code following
+          ∙ ap (λ its. c.put-2.new.self.entries ++ puts (single_words w l its) following) c.region.ensures
+          ∙ c.in_ok-put-2.ensures.code read
+          ∙ ap (λ x. c.put.new.self.entries ++ Put x ∷ read) (c.first_lane.ensures ∙ ap (λ v. Vector (word whilelo (0 ∷ 31 ∷ 26 ∷ size_of v ∷ []))) c.width.ensures)
+          ∙ c.in_ok-put.ensures.code (Put (Vector (word whilelo (0 ∷ 31 ∷ 26 ∷ size_of w ∷ []))) ∷ read)
+          ∙ ap (λ x. c.args.draft.now.entries ++ Put x ∷ Put (Vector (word whilelo (0 ∷ 31 ∷ 26 ∷ size_of w ∷ []))) ∷ read) c.one.ensures
+          ∙ ap (λ e. c.args.draft.now.entries ++ e) (sym (turn_puts w l items rest));
+    }
