@@ -6,7 +6,7 @@ ghost use Rattle.reg_assign.specs.Registers.{IsAssignment};
 ghost use Rattle.loop_form.specs.HeldView.{view_of, view};
 ghost use Rattle.loop_form.specs.Registers.{FitsKernel};
 ghost use Rattle.loop_form.specs.View.{program};
-ghost use Rattle.scalar_words.specs.Drafts.{Appends};
+ghost use Rattle.label_fix.specs.Emits.{Emits};
 ghost use Rattle.scalar_words.specs.KernelRegisters as kernels;
 ghost use Rattle.scalar_words.specs.KernelRegisters.{register_in};
 ghost use Rattle.scalar_words.specs.View.{homes_of};
@@ -35,8 +35,7 @@ fn emit_join(
     z: VectorReg,
     x: Reg,
 ) -> Result<(), AllocError>
-    ensures labels { OnOk result (draft.new.labels ≡ draft.old.labels) }
-    ensures code { OnOk result (Appends draft.old draft.new (code.join_code width op ty z.number x.number)) }
+    ensures { OnOk result (Emits draft.old draft.new draft.old.labels (code.join_code width op ty z.number x.number)) }
 {
     let reduced = Bits { number: 31 };
     let value = Bits { number: 27 };
@@ -61,8 +60,7 @@ fn emit_one(
     value: Held<'_>,
 ) -> Result<(), AllocError>
     requires { homes_of homes.now ≡ kernels.kernel_homes (register_in regs.now) (program facts.now.kernel.now) }
-    ensures labels { OnOk result (draft.new.labels ≡ draft.old.labels) }
-    ensures code { OnOk result (Appends draft.old draft.new
+    ensures { OnOk result (Emits draft.old draft.new draft.old.labels
         (code.fold_one (register_in regs.now) (program facts.now.kernel.now) z.number (view_of value.entry))) }
 {
     match value {
@@ -87,8 +85,7 @@ fn emit_values(
     requires homes { homes_of homes.now ≡ kernels.kernel_homes (register_in regs.now.x) (program facts.now.kernel.now) }
     requires assigned { IsAssignment 30 regs.now.z }
     requires within { length values.now ≤ length regs.now.z.registers }
-    ensures labels { OnOk result (draft.new.labels ≡ draft.old.labels) }
-    ensures code { OnOk result (Appends draft.old draft.new
+    ensures { OnOk result (Emits draft.old draft.new draft.old.labels
         (code.folds_code (register_in regs.now.x) (program facts.now.kernel.now) regs.now.z 0 (view values.now))) }
 {
     let mut place = 0;
@@ -111,8 +108,7 @@ pub fn emit_fold(
 ) -> Result<(), AllocError>
     requires z_fits { FitsKernel (program facts.now.kernel.now) class.Z regs.now.z }
     requires x_fits { FitsKernel (program facts.now.kernel.now) class.X regs.now.x }
-    ensures labels { OnOk result (draft.new.labels ≡ draft.old.labels) }
-    ensures code { OnOk result (Appends draft.old draft.new
+    ensures { OnOk result (Emits draft.old draft.new draft.old.labels
         (code.fold_code (register_in regs.now.x) (program facts.now.kernel.now) regs.now.z)) }
 {
     held_registers(facts.kernel, RegClass::Z, &regs.z);

@@ -14,7 +14,7 @@ ghost use Rattle.label_fix.specs.Draft.{word_view};
 ghost use Rattle.lane_emit.specs.Stretch.{word};
 ghost use Rattle.lane_emit.specs.LaneCode.{size_of};
 ghost use Rattle.reductions.specs.Joins as joins;
-ghost use Rattle.scalar_words.specs.Drafts.{Appends};
+ghost use Rattle.label_fix.specs.Emits.{Emits};
 ghost use Rattle.loop_edges.specs.EdgeCode as code;
 
 use crate::accumulators::{counted_vector, first_operator, type_of};
@@ -69,8 +69,7 @@ fn spread(width: Width, z: VectorReg, x: Reg) -> Word
 
 // A number in all elements of a vector register.
 fn emit_number(draft: &mut Draft, width: Width, z: VectorReg, value: u64) -> Result<(), AllocError>
-    ensures labels { OnOk result (draft.new.labels ≡ draft.old.labels) }
-    ensures code { OnOk result (Appends draft.old draft.new (code.number_code width z.number value)) }
+    ensures { OnOk result (Emits draft.old draft.new draft.old.labels (code.number_code width z.number value)) }
 {
     let scratch = Bits { number: 26 };
     emit_const(draft, scratch, value)?;
@@ -87,8 +86,7 @@ fn emit_value(
     value: Held<'_>,
 ) -> Result<(), AllocError>
     requires { length (program facts.now.kernel.now).params ≤ 8 }
-    ensures labels { OnOk result (draft.new.labels ≡ draft.old.labels) }
-    ensures code { OnOk result (Appends draft.old draft.new
+    ensures { OnOk result (Emits draft.old draft.new draft.old.labels
         (code.hold_code (program facts.now.kernel.now) z.number (view_of value.entry))) }
 {
     let tree = facts.kernel.kernel();
@@ -120,8 +118,7 @@ fn emit_values(
     requires params { length (program facts.now.kernel.now).params ≤ 8 }
     requires assigned { IsAssignment 30 regs.now }
     requires within { length values.now ≤ length regs.now.registers }
-    ensures labels { OnOk result (draft.new.labels ≡ draft.old.labels) }
-    ensures code { OnOk result (Appends draft.old draft.new
+    ensures { OnOk result (Emits draft.old draft.new draft.old.labels
         (code.holds_code (program facts.now.kernel.now) regs.now 0 (view values.now))) }
 {
     let mut place = 0;
@@ -140,8 +137,7 @@ pub fn emit_start(
     regs: &VectorRegs,
 ) -> Result<(), AllocError>
     requires fits { FitsKernel (program facts.now.kernel.now) class.Z regs.now.z }
-    ensures labels { OnOk result (draft.new.labels ≡ draft.old.labels) }
-    ensures code { OnOk result (Appends draft.old draft.new
+    ensures { OnOk result (Emits draft.old draft.new draft.old.labels
         (code.start_code (program facts.now.kernel.now) regs.now.z)) }
 {
     few_params(facts.kernel);
