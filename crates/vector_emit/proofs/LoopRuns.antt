@@ -73,14 +73,14 @@ jump_at {R = R} {k = k} {cur = cur} {s = s} pc at = record { sized = at.sized; i
 -- x words before the passes, the passes, and what follows
 module _ (b : Bool) (L U edges x following : ℕ) (some : 0 < L) (around : x + following ≤ edges) {d : Laid} {c e : List Entry} {s t : State} (before : Goes d c s e t x) where
   abbrev InPace : ℕ → ℕ → Type 0
-  InPace bg n = 1 * n < 1 + edges + U * (div_ceil bg L + spare b * (1 + 0)) + U * spare b * cuts d n c s
+  InPace bg n = n < 1 + edges + U * (div_ceil bg L + spare b * (1 + 0)) + U * spare b * cuts d n c s
 
   early : (bg n : ℕ) → n ≤ before.count → InPace bg n
   early bg n le =
       let f = before.within in
       let h = in_all b L U edges 0 bg n 0 0 0 (cuts d n c s) some (omega arith) (omega (arith, le, f, around)) (omega arith) (none_spent b L U 0 0 some) in
       let e : n + 0 + 0 ≡ n = omega arith in
-      subst (λ k. 1 * k < 1 + edges + U * (div_ceil bg L + spare b * (1 + 0)) + U * spare b * cuts d n c s) e h
+      subst (λ k. k < 1 + edges + U * (div_ceil bg L + spare b * (1 + 0)) + U * spare b * cuts d n c s) e h
 
   -- k words after n words of the passes
   late : (bg j n k : ℕ) → j ≤ bg → k ≤ following → Spends b L U 0 j n (cuts d n e t) → InPace bg (before.count + (n + k))
@@ -90,7 +90,7 @@ module _ (b : Bool) (L U edges x following : ℕ) (some : 0 < L) (around : x + f
       let more = cuts_more d n k e t in
       let h = in_all b L U edges j bg before.count n k (cuts d n e t) (cuts d (before.count + (n + k)) c s) some le (omega (arith, f, few, around)) (omega (arith, told, more)) spent in
       let e : before.count + n + k ≡ before.count + (n + k) = omega arith in
-      subst (λ y. 1 * y < 1 + edges + U * (div_ceil bg L + spare b * (1 + 0)) + U * spare b * cuts d (before.count + (n + k)) c s) e h
+      subst (λ y. y < 1 + edges + U * (div_ceil bg L + spare b * (1 + 0)) + U * spare b * cuts d (before.count + (n + k)) c s) e h
 
   whole : (bg j count : ℕ) → j ≤ bg → ((n : ℕ) → n ≤ count → Spends b L U 0 j n (cuts d n e t)) → (n : ℕ) → n ≤ before.count + count → InPace bg n
   whole bg j count le pace = split (InPace bg) before.count count (early bg) (λ n below. (let e : n + 0 ≡ n = omega arith in subst (λ n. InPace bg (before.count + n)) e (late bg j n 0 le (omega arith) (pace n below))))

@@ -170,7 +170,7 @@ few_passes L bg j P x some le few =
     around D up all = omega (arith, up, all, few, le)
 
 -- x words before the passes, n of the passes and k after them
-pub in_all : (b : Bool) (L U edges j bg x n k q r : ℕ) → 0 < L → j ≤ bg → x + k ≤ edges → q ≤ r → Spends b L U 0 j n q → 1 * (x + n + k) < 1 + edges + U * (div_ceil bg L + spare b * (1 + 0)) + U * spare b * r
+pub in_all : (b : Bool) (L U edges j bg x n k q r : ℕ) → 0 < L → j ≤ bg → x + k ≤ edges → q ≤ r → Spends b L U 0 j n q → x + n + k < 1 + edges + U * (div_ceil bg L + spare b * (1 + 0)) + U * spare b * r
 in_all b L U edges j bg x n k q r some le around more s =
     let f = s.few in
     let passes = few_passes L bg j s.passes (extra b q) some le (omega (arith, f)) in
@@ -179,7 +179,7 @@ in_all b L U edges j bg x n k q r some le around more s =
     let w = s.within in
     counted (div_ceil bg L) (spare b) up cut w
   where
-    counted : (D e : ℕ) → U * s.passes ≤ U * (D + e * (1 + q)) → U * (e * (1 + q)) ≤ U * (e * (1 + r)) → n ≤ U * s.passes → 1 * (x + n + k) < 1 + edges + U * (D + e * (1 + 0)) + U * e * r
+    counted : (D e : ℕ) → U * s.passes ≤ U * (D + e * (1 + q)) → U * (e * (1 + q)) ≤ U * (e * (1 + r)) → n ≤ U * s.passes → x + n + k < 1 + edges + U * (D + e * (1 + 0)) + U * e * r
     counted D e up cut w = omega (arith, up, cut, w, around)
 
 -- no word of the passes

@@ -37,8 +37,8 @@ pub record Near (g : Ground) (bg : ℕ) (left faulted : Memory) : Type 0 where
 -- Each is within a pace, whose base counts the iterations that were begun, and within `most` words, whatever free elements are
 -- suppressed.
 pub data Follows (g : Ground) (d : Laid) (c : List Entry) (s : State) (unit : ℕ) (base most : ℕ → ℕ) : Run → Type 0 where
-  ends_so : {m : Memory} {r bg : ℕ} → (end : EndsPaced d c s m r 1 unit (base bg)) → end.count ≤ most bg → Follows g d c s unit base most (End m r bg)
-  faults_so : {m : Memory} {bg : ℕ} (kind : StopKind) (left : Memory) → IsAccess kind → Near g bg left m → (stop : StopsPaced d c s kind left 1 unit (base bg)) → stop.count ≤ most bg
+  ends_so : {m : Memory} {r bg : ℕ} → (end : EndsPaced d c s m r unit (base bg)) → end.count ≤ most bg → Follows g d c s unit base most (End m r bg)
+  faults_so : {m : Memory} {bg : ℕ} (kind : StopKind) (left : Memory) → IsAccess kind → Near g bg left m → (stop : StopsPaced d c s kind left unit (base bg)) → stop.count ≤ most bg
       → Follows g d c s unit base most (Fault m bg)
 
 -- the words before and after the passes, and of the end of the run

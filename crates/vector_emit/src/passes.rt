@@ -12,7 +12,7 @@ ghost use Rattle.loop_form.specs.View.{program};
 ghost use Rattle.dependence.specs.Apart.{bound_place};
 ghost use Rattle.dependence.specs.Classes.{class_of};
 ghost use Rattle.dependence.specs.declared.reason.Class.TheVariants.{Vector};
-ghost use Rattle.scalar_words.specs.Drafts.{Appends};
+ghost use Rattle.label_fix.specs.Emits.{Emits};
 ghost use Rattle.label_fix.specs.DraftRun.{ins};
 ghost use Rattle.lane_emit.specs.RegistersView.{kernel_in, vectors_in, predicates_in};
 ghost use Rattle.chunk_emit.specs.Writable.{AreWritable};
@@ -72,9 +72,8 @@ fn emit_chunk_part(
     requires rest { AreWritable (width_in layout.now) (rest_of (view items.now)) }
     requires head { head < draft.old.labels }
     requires end { end < draft.old.labels }
-    ensures labels { OnOk result (draft.new.labels ≡ draft.old.labels) }
-    ensures code { let part = parts.chunk_part (width_in layout.now) (layout_in layout.now) bound.number in
-        OnOk result (Appends draft.old draft.new (part (view items.now) head end)) }
+    ensures { let part = parts.chunk_part (width_in layout.now) (layout_in layout.now) bound.number in
+        OnOk result (Emits draft.old draft.new draft.old.labels (part (view items.now) head end)) }
 {
     draft.place(head)?;
     emit_chunk(alloc, layout, bound, items, draft)?;
@@ -98,9 +97,8 @@ fn emit_turn_part(
     requires rest { AreWritable (width_in layout.now) (rest_of (view items.now)) }
     requires head { head < draft.old.labels }
     requires end { end < draft.old.labels }
-    ensures labels { OnOk result (draft.new.labels ≡ draft.old.labels) }
-    ensures code { let part = parts.turn_part (width_in layout.now) (layout_in layout.now) in
-        OnOk result (Appends draft.old draft.new (part (view items.now) head end)) }
+    ensures { let part = parts.turn_part (width_in layout.now) (layout_in layout.now) in
+        OnOk result (Emits draft.old draft.new draft.old.labels (part (view items.now) head end)) }
 {
     emit_turn(alloc, layout, items, draft)?;
     draft.put(any_lane())?;
@@ -122,9 +120,8 @@ fn emit_plain_part(
     requires writable { AreWritable (width_in layout.now) (view items.now) }
     requires head { head < draft.old.labels }
     requires end { end < draft.old.labels }
-    ensures labels { OnOk result (draft.new.labels ≡ draft.old.labels) }
-    ensures code { let part = parts.plain_part (width_in layout.now) (layout_in layout.now) bound.number in
-        OnOk result (Appends draft.old draft.new (part (view items.now) head end)) }
+    ensures { let part = parts.plain_part (width_in layout.now) (layout_in layout.now) bound.number in
+        OnOk result (Emits draft.old draft.new draft.old.labels (part (view items.now) head end)) }
 {
     draft.place(head)?;
     emit_plain(alloc, layout, items, draft)?;
@@ -145,10 +142,9 @@ fn emit_breaking(
     requires bound { bound.number ≡ bound_place (kernel_in layout.now.registers) }
     requires region { AreWritable (width_in layout.now) (region_of (view items.now)) }
     requires rest { AreWritable (width_in layout.now) (rest_of (view items.now)) }
-    ensures labels { OnOk result (draft.new.labels ≡ draft.old.labels + 2) }
-    ensures code { let r = layout.now.registers in
+    ensures { let r = layout.now.registers in
         let passes = code.breaking_code (kernel_in r) (vectors_in r) (predicates_in r) (view items.now) in
-        OnOk result (Appends draft.old draft.new (passes draft.old.labels)) }
+        OnOk result (Emits draft.old draft.new (draft.old.labels + 2) (passes draft.old.labels)) }
 {
     let head = draft.label()?;
     let end = draft.label()?;
@@ -167,10 +163,9 @@ fn emit_straight(
 ) -> Result<(), AllocError>
     requires bound { bound.number ≡ bound_place (kernel_in layout.now.registers) }
     requires writable { AreWritable (width_in layout.now) (view items.now) }
-    ensures labels { OnOk result (draft.new.labels ≡ draft.old.labels + 2) }
-    ensures code { let r = layout.now.registers in
+    ensures { let r = layout.now.registers in
         let passes = code.straight_code (kernel_in r) (vectors_in r) (predicates_in r) (view items.now) in
-        OnOk result (Appends draft.old draft.new (passes draft.old.labels)) }
+        OnOk result (Emits draft.old draft.new (draft.old.labels + 2) (passes draft.old.labels)) }
 {
     let head = draft.label()?;
     let end = draft.label()?;
@@ -191,11 +186,10 @@ fn emit_by(
     requires bound { bound.number ≡ bound_place (kernel_in layout.now.registers) }
     requires region { AreWritable (width_in layout.now) (region_of (view items.now)) }
     requires rest { AreWritable (width_in layout.now) (rest_of (view items.now)) }
-    ensures labels { OnOk result (draft.new.labels ≡ draft.old.labels + 2) }
-    ensures code { let r = layout.now.registers in
+    ensures { let r = layout.now.registers in
         let by = code.passes_by (list_any is_quit (view items.now)) in
         let passes = by (kernel_in r) (vectors_in r) (predicates_in r) (view items.now) in
-        OnOk result (Appends draft.old draft.new (passes draft.old.labels)) }
+        OnOk result (Emits draft.old draft.new (draft.old.labels + 2) (passes draft.old.labels)) }
 {
     if has_break(items) {
         emit_breaking(alloc, layout, bound, items, draft)?;
@@ -216,9 +210,8 @@ pub fn emit_passes(
     requires class { class_of (program facts.now.kernel.now) ≡ Vector }
     requires vectors { FitsKernel (program facts.now.kernel.now) class.Z regs.now.z }
     requires predicates { FitsKernel (program facts.now.kernel.now) class.P regs.now.p }
-    ensures labels { OnOk result (draft.new.labels ≡ draft.old.labels + 2) }
-    ensures code { let passes = code.passes_code (program facts.now.kernel.now) regs.now.z regs.now.p in
-        OnOk result (Appends draft.old draft.new (passes draft.old.labels)) }
+    ensures { let passes = code.passes_code (program facts.now.kernel.now) regs.now.z regs.now.p in
+        OnOk result (Emits draft.old draft.new (draft.old.labels + 2) (passes draft.old.labels)) }
 {
     writable_items(facts.kernel, regs);
     let items = loop_items(alloc, facts.kernel)?;

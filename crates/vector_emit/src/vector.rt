@@ -7,7 +7,8 @@ ghost use Rattle.loop_form.specs.Registers.{FitsKernel};
 ghost use Rattle.loop_form.specs.View.{program};
 ghost use Rattle.dependence.specs.Classes.{class_of};
 ghost use Rattle.dependence.specs.declared.reason.Class.TheVariants.{Vector};
-ghost use Rattle.scalar_words.specs.Drafts.{Appends, AppendsWords};
+ghost use Rattle.label_fix.specs.Emits.{Emits};
+ghost use Rattle.scalar_words.specs.Drafts.{AppendsWords};
 ghost use Rattle.scalar_words.specs.KernelRegisters.{register_in};
 ghost use Rattle.vector_emit.specs.VectorCode.{vector_code};
 
@@ -32,11 +33,10 @@ pub fn emit_vector(
     requires predicates { FitsKernel (program facts.now.kernel.now) class.P regs.now.p }
     requires scalars { FitsKernel (program facts.now.kernel.now) class.X regs.now.x }
     requires given { scalar < draft.old.labels }
-    ensures labels { OnOk result (draft.new.labels ≡ draft.old.labels + 2) }
     ensures words { OnOk result (AppendsWords draft.old draft.new (200 + 32 * size_of (program facts.now.kernel.now))) }
-    ensures code { let r = register_in regs.now.x in
+    ensures emits { let r = register_in regs.now.x in
         let whole = vector_code r (program facts.now.kernel.now) regs.now.z regs.now.p scalar in
-        OnOk result (Appends draft.old draft.new (whole draft.old.labels)) }
+        OnOk result (Emits draft.old draft.new (draft.old.labels + 2) (whole draft.old.labels)) }
 {
     emit_start(draft, facts, regs)?;
     emit_passes(alloc, facts, regs, draft)?;

@@ -33,15 +33,19 @@ emit_by-requires-clause-rest c =
     let same : k ≡ program c.loop_layout-layout.result.registers.facts.now.kernel.now = ap (λ (f : LoopFacts). program f.kernel.now) (sym c.loop_layout-layout.ensures.facts) in
     subst (λ p. AreWritable (lane_width_of p) (rest_of (view c.deref-2.result.now))) same (subst (λ its. AreWritable (lane_width_of k) (rest_of its)) (sym items) c.writable_items.ensures.rest)
 
-pub returns-clause-code : goal.returns-clause-code
+pub returns : goal.returns
 unfolding program
-returns-clause-code c rest =
+returns c =
     let k : Program = program c.args.facts.now.kernel.now in
     let r = c.loop_layout-layout.result.registers in
     let n : ℕ = c.args.draft.now.labels in
     let items : view c.deref-2.result.now ≡ loop_items_of k = ap view c.deref-2.ensures.value ∙ c.in_ok-items.ensures in
     let same : program r.facts.now.kernel.now ≡ k = ap (λ (f : LoopFacts). program f.kernel.now) c.loop_layout-layout.ensures.facts in
-    c.in_ok-emit_by.ensures.code rest
-    ∙ ap (λ its. c.args.draft.now.entries ++ passes_by (list_any is_quit its) (program r.facts.now.kernel.now) (vectors_in r) (predicates_in r) its n rest) items
-    ∙ ap (λ p. c.args.draft.now.entries ++ passes_by (list_any is_quit (loop_items_of k)) p (vectors_in r) (predicates_in r) (loop_items_of k) n rest) same
-    ∙ ap (λ (v : VectorRegs). c.args.draft.now.entries ++ passes_by (list_any is_quit (loop_items_of k)) k v.z v.p (loop_items_of k) n rest) c.loop_layout-layout.ensures.regs
+    record {
+      labels = c.in_ok-emit_by.ensures.labels;
+      code = λ rest.
+          c.in_ok-emit_by.ensures.code rest
+          ∙ ap (λ its. c.args.draft.now.entries ++ passes_by (list_any is_quit its) (program r.facts.now.kernel.now) (vectors_in r) (predicates_in r) its n rest) items
+          ∙ ap (λ p. c.args.draft.now.entries ++ passes_by (list_any is_quit (loop_items_of k)) p (vectors_in r) (predicates_in r) (loop_items_of k) n rest) same
+          ∙ ap (λ (v : VectorRegs). c.args.draft.now.entries ++ passes_by (list_any is_quit (loop_items_of k)) k v.z v.p (loop_items_of k) n rest) c.loop_layout-layout.ensures.regs;
+    }
