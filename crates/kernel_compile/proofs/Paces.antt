@@ -10,36 +10,32 @@ use Rattle.label_fix.specs.DraftRun.{Entry, Laid, draft_run}
 use Rattle.label_fix.specs.Cuts.{cuts}
 use Rattle.label_fix.specs.Stretches.{Goes, Paced, StopsPaced, EndsPaced}
 
-paced_after : {d : Laid} {c e : List Entry} {s t : State} {most : ℕ} (count scale unit base : ℕ) → 1 ≤ scale → (g : Goes d c s e t most) → Paced d e t count scale unit base → Paced d c s (g.count + count) scale unit (scale * most + base)
-paced_after {d = d} {c = c} {e = e} {s = s} {t = t} {most = most} count scale unit base some g p n lt =
+paced_after : {d : Laid} {c e : List Entry} {s t : State} {most : ℕ} (count unit base : ℕ) → (g : Goes d c s e t most) → Paced d e t count unit base → Paced d c s (g.count + count) unit (most + base)
+paced_after {d = d} {c = c} {e = e} {s = s} {t = t} {most = most} count unit base g p n lt =
     ⊎_elim
-    (λ (before : n < g.count).
-    let a = mul-le-mul_left scale g.within in
-    let b : scale * (n + 1) ≤ scale * g.count = mul-le-mul_left scale (let h : n + 1 ≤ g.count = omega arith in h) in
-    omega (arith, some, a, b))
+    (λ (before : n < g.count). let a = g.within in omega (arith, before, a))
     (λ (following : g.count ≤ n).
     let j = n - g.count in
     let same : g.count + j ≡ n = omega arith in
     let q = p j (omega (arith, lt)) in
     let told : cuts d j e t ≤ cuts d n c s = subst (λ m. cuts d j e t ≤ cuts d m c s) same (g.tells j) in
-    let a = mul-le-mul_left scale g.within in
+    let a = g.within in
     let b = mul-le-mul_left unit told in
-    let f : scale * (g.count + j) ≡ scale * n = ap (λ m. scale * m) same in
-    omega (arith, q, a, b, f))
+    omega (arith, q, a, b, same))
     (cases_lt n g.count)
 
-pub end_paced : {d : Laid} {c e : List Entry} {s t : State} {most : ℕ} {m : Memory} {result scale unit base : ℕ} → 1 ≤ scale → Goes d c s e t most → EndsPaced d e t m result scale unit base → EndsPaced d c s m result scale unit (scale * most + base)
-end_paced {d = d} {c = c} {s = s} {m = m} {result = result} {scale = scale} {unit = unit} {base = base} some a b = record {
+pub end_paced : {d : Laid} {c e : List Entry} {s t : State} {most : ℕ} {m : Memory} {result unit base : ℕ} → Goes d c s e t most → EndsPaced d e t m result unit base → EndsPaced d c s m result unit (most + base)
+end_paced {d = d} {c = c} {s = s} {m = m} {result = result} {unit = unit} {base = base} a b = record {
   count = a.count + b.count;
   by = λ k taken.
       let e : a.count + b.count + k ≡ a.count + (b.count + k) = omega arith in
       let f : taken + a.count + b.count ≡ taken + (a.count + b.count) = omega arith in
       ap (λ j. draft_run d j taken c s) e ∙ a.by (b.count + k) taken ∙ b.by k (taken + a.count) ∙ ap (λ n. End m result n) f;
-  paced = paced_after b.count scale unit base some a b.paced;
+  paced = paced_after b.count unit base a b.paced;
 }
 
-pub stop_paced : {d : Laid} {c e : List Entry} {s t : State} {most : ℕ} {kind : StopKind} {m : Memory} {scale unit base : ℕ} → 1 ≤ scale → Goes d c s e t most → StopsPaced d e t kind m scale unit base → StopsPaced d c s kind m scale unit (scale * most + base)
-stop_paced {d = d} {c = c} {s = s} {kind = kind} {m = m} {scale = scale} {unit = unit} {base = base} some a b = record {
+pub stop_paced : {d : Laid} {c e : List Entry} {s t : State} {most : ℕ} {kind : StopKind} {m : Memory} {unit base : ℕ} → Goes d c s e t most → StopsPaced d e t kind m unit base → StopsPaced d c s kind m unit (most + base)
+stop_paced {d = d} {c = c} {s = s} {kind = kind} {m = m} {unit = unit} {base = base} a b = record {
   count = a.count + b.count;
   pc = b.pc;
   at = b.at;
@@ -47,20 +43,20 @@ stop_paced {d = d} {c = c} {s = s} {kind = kind} {m = m} {scale = scale} {unit =
       let e : a.count + b.count + k ≡ a.count + (b.count + k) = omega arith in
       let f : taken + a.count + b.count ≡ taken + (a.count + b.count) = omega arith in
       ap (λ j. draft_run d j taken c s) e ∙ a.by (b.count + k) taken ∙ b.by k (taken + a.count) ∙ ap (λ n. Stop kind b.pc b.at m n) f;
-  paced = paced_after b.count scale unit base some a b.paced;
+  paced = paced_after b.count unit base a b.paced;
 }
 
-pub end_count : {d : Laid} {c e : List Entry} {s t : State} {most : ℕ} {m : Memory} {result scale unit base : ℕ} (some : 1 ≤ scale) (a : Goes d c s e t most) (b : EndsPaced d e t m result scale unit base) → (end_paced some a b).count ≡ a.count + b.count
+pub end_count : {d : Laid} {c e : List Entry} {s t : State} {most : ℕ} {m : Memory} {result unit base : ℕ} (a : Goes d c s e t most) (b : EndsPaced d e t m result unit base) → (end_paced a b).count ≡ a.count + b.count
 unfolding end_paced
-end_count some a b = refl
+end_count a b = refl
 
-pub stop_count : {d : Laid} {c e : List Entry} {s t : State} {most : ℕ} {kind : StopKind} {m : Memory} {scale unit base : ℕ} (some : 1 ≤ scale) (a : Goes d c s e t most) (b : StopsPaced d e t kind m scale unit base) → (stop_paced some a b).count ≡ a.count + b.count
+pub stop_count : {d : Laid} {c e : List Entry} {s t : State} {most : ℕ} {kind : StopKind} {m : Memory} {unit base : ℕ} (a : Goes d c s e t most) (b : StopsPaced d e t kind m unit base) → (stop_paced a b).count ≡ a.count + b.count
 unfolding stop_paced
-stop_count some a b = refl
+stop_count a b = refl
 
 -- ---- the bound
 
 -- a run within a pace that gives no more words has come to its end
-pub enough : (d : Laid) (c : List Entry) (s : State) (count unit base steps : ℕ) → base + unit * cuts d steps c s ≤ steps → Paced d c s count 1 unit base → count ≤ steps
+pub enough : (d : Laid) (c : List Entry) (s : State) (count unit base steps : ℕ) → base + unit * cuts d steps c s ≤ steps → Paced d c s count unit base → count ≤ steps
 enough d c s count unit base steps few paced =
     ⊎_elim (λ (short : steps < count). (let lt = paced steps short in absurd (omega (arith, lt, few)))) (λ (long : count ≤ steps). long) (cases_lt steps count)

@@ -133,13 +133,13 @@ in_bound U D e r q base rest out last steps few within le = let up : U * e * r �
 
 -- so many steps are not fewer than the words of such a run
 in_steps : {g : Ground} {D : Laid} {c e o : List Entry} {s t : State} {vl : ℕ} {m : Memory} → Entered g D c e o s t vl m → (bg count steps : ℕ) → Suffices g.kernel g.args vl bg (cuts D steps c s) steps
-    → Paced D c s count 1 (vector_unit g) (1 * reach_steps g.kernel + vector_base g bg) → count ≤ reach_steps g.kernel + vector_most g bg → count ≤ steps
+    → Paced D c s count (vector_unit g) (reach_steps g.kernel + vector_base g bg) → count ≤ reach_steps g.kernel + vector_most g bg → count ≤ steps
 in_steps {g = g} {D = D} {c = c} {s = s} {vl = vl} x bg count steps (by_close q cut le) paced few =
     let k = g.kernel in
     let whole = close_as k g.args vl bg q steps true x.chunks le in
     let here : outside_steps k + (pass_steps k * passes k (most_lanes g) bg q + last_steps (has_break k) k) ≤ steps = subst (λ n. outside_steps k + (pass_steps k * passes k n bg q + last_steps (has_break k) k) ≤ steps) x.lanes whole in
-    enough D c s count (vector_unit g) (1 * reach_steps k + vector_base g bg) steps
-    (in_bound (pass_steps k) (div_ceil bg (most_lanes g)) (spare (has_break k)) (cuts D steps c s) q (1 * reach_steps k) (edge_steps k) (outside_steps k) (last_steps (has_break k) k) steps cut (omega arith) here) paced
+    enough D c s count (vector_unit g) (reach_steps k + vector_base g bg) steps
+    (in_bound (pass_steps k) (div_ceil bg (most_lanes g)) (spare (has_break k)) (cuts D steps c s) q (reach_steps k) (edge_steps k) (outside_steps k) (last_steps (has_break k) k) steps cut (omega arith) here) paced
 in_steps {g = g} x bg count steps (by_turns q le) paced few =
     let k = g.kernel in
     let out = outside_few k x.params in
@@ -150,12 +150,12 @@ in_steps {g = g} x bg count steps (by_turns q le) paced few =
 follows_chunk : {g : Ground} {D : Laid} {c e o : List Entry} {s t : State} {vl steps K F : ℕ} {m : Memory} {r : scalar.Run} → Entered g D c e o s t vl m → vectors.Follows g D e t (vector_unit g) (vector_base g) (vector_most g) r → Comes D o t K F 0 r
     → Suffices g.kernel g.args vl (begun r) (cuts D steps c s) steps → Follows g.kernel g.args vl r (draft_run D steps 0 c s)
 follows_chunk {g = g} {D = D} {c = c} {s = s} {vl = vl} {steps = steps} x (vectors.ends_so {m = left} {r = result} {bg = bg} w most) h le =
-    let all = end_paced (omega arith) x.goes w in
-    let few = in_steps x bg all.count steps le all.paced (let n = end_count (omega arith) x.goes w in let f = x.goes.within in omega (arith, n, f, most)) in
+    let all = end_paced x.goes w in
+    let few = in_steps x bg all.count steps le all.paced (let n = end_count x.goes w in let f = x.goes.within in omega (arith, n, f, most)) in
     ends_within D c s g.kernel g.args vl steps left result bg all.count few all.by
 follows_chunk {g = g} {D = D} {c = c} {s = s} {t = t} {vl = vl} {steps = steps} {m = m} x (vectors.faults_so {m = faulted} {bg = bg} kind left access near w most) h le =
-    let all = stop_paced (omega arith) x.goes w in
-    let few = in_steps x bg all.count steps le all.paced (let n = stop_count (omega arith) x.goes w in let f = x.goes.within in omega (arith, n, f, most)) in
+    let all = stop_paced x.goes w in
+    let few = in_steps x bg all.count steps le all.paced (let n = stop_count x.goes w in let f = x.goes.within in omega (arith, n, f, most)) in
     let f : all.count + (steps - all.count) ≡ steps = omega (arith, few) in
     let stops : draft_run D steps 0 c s ≡ Stop kind all.pc all.at left (0 + all.count) = ap (λ j. draft_run D j 0 c s) (sym f) ∙ all.by (steps - all.count) 0 in
     record {

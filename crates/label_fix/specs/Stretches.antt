@@ -50,20 +50,20 @@ pub record Ends (d : Laid) (c : List Entry) (s : State) (m : Memory) (result mos
 -- ---- paces
 
 -- Of a run of `count` words: before each of them, fewer were taken than the base and a unit for each free element that was
--- suppressed so far, by a scale.
-abbrev pub Paced : Laid → List Entry → State → (count scale unit base : ℕ) → Type 0
-Paced d c s count scale unit base = (n : ℕ) → n < count → scale * n < base + unit * cuts d n c s
+-- suppressed so far.
+abbrev pub Paced : Laid → List Entry → State → (count unit base : ℕ) → Type 0
+Paced d c s count unit base = (n : ℕ) → n < count → n < base + unit * cuts d n c s
 
 -- the run comes to a stop of this kind that leaves this memory, within a pace
-pub record StopsPaced (d : Laid) (c : List Entry) (s : State) (kind : StopKind) (m : Memory) (scale unit base : ℕ) : Type 0 where
+pub record StopsPaced (d : Laid) (c : List Entry) (s : State) (kind : StopKind) (m : Memory) (unit base : ℕ) : Type 0 where
   pub count : ℕ
   pub pc : ℕ
   pub at : ℕ
   pub by : (k taken : ℕ) → draft_run d (count + k) taken c s ≡ Stop kind pc at m (taken + count)
-  pub paced : Paced d c s count scale unit base
+  pub paced : Paced d c s count unit base
 
 -- the run comes to the end, within a pace
-pub record EndsPaced (d : Laid) (c : List Entry) (s : State) (m : Memory) (result scale unit base : ℕ) : Type 0 where
+pub record EndsPaced (d : Laid) (c : List Entry) (s : State) (m : Memory) (result unit base : ℕ) : Type 0 where
   pub count : ℕ
   pub by : (k taken : ℕ) → draft_run d (count + k) taken c s ≡ End m result (taken + count)
-  pub paced : Paced d c s count scale unit base
+  pub paced : Paced d c s count unit base

@@ -55,7 +55,7 @@ finish-requires c =
       place = c.in_ok-place.ensures.code;
       guarded = c.in_ok-guard.ensures.labels;
       guard = c.in_ok-guard.ensures.code;
-      lanes = c.in_ok-emit_vector.ensures.code;
+      lanes = c.in_ok-emit_vector.ensures.emits.code;
     } in
     let arrays = few-arrays k (sound c.args.facts.now.kernel.now) (few_params k (spelled c.args.facts.now.kernel.now)) in
     let few = few_words d arrays.few c.in_ok-emit_begin.ensures.words c.in_ok-scalar.ensures.words in
@@ -84,7 +84,7 @@ returns-clause-short c =
       place = c.in_ok-place.ensures.code;
       guarded = c.in_ok-guard.ensures.labels;
       guard = c.in_ok-guard.ensures.code;
-      lanes = c.in_ok-emit_vector.ensures.code;
+      lanes = c.in_ok-emit_vector.ensures.emits.code;
     } in
     let arrays = few-arrays k (sound c.args.facts.now.kernel.now) (few_params k (spelled c.args.facts.now.kernel.now)) in
     let few = few_words d arrays.few c.in_ok-emit_begin.ensures.words c.in_ok-scalar.ensures.words in
@@ -114,7 +114,7 @@ returns-clause-close c =
       place = c.in_ok-place.ensures.code;
       guarded = c.in_ok-guard.ensures.labels;
       guard = c.in_ok-guard.ensures.code;
-      lanes = c.in_ok-emit_vector.ensures.code;
+      lanes = c.in_ok-emit_vector.ensures.emits.code;
     } in
     let arrays = few-arrays k (sound c.args.facts.now.kernel.now) (few_params k (spelled c.args.facts.now.kernel.now)) in
     let few = few_words d arrays.few c.in_ok-emit_begin.ensures.words c.in_ok-scalar.ensures.words in
@@ -158,7 +158,7 @@ returns-clause-ends c =
       place = c.in_ok-place.ensures.code;
       guarded = c.in_ok-guard.ensures.labels;
       guard = c.in_ok-guard.ensures.code;
-      lanes = c.in_ok-emit_vector.ensures.code;
+      lanes = c.in_ok-emit_vector.ensures.emits.code;
     } in
     let arrays = few-arrays k (sound c.args.facts.now.kernel.now) (few_params k (spelled c.args.facts.now.kernel.now)) in
     let few = few_words d arrays.few c.in_ok-emit_begin.ensures.words c.in_ok-scalar.ensures.words in
