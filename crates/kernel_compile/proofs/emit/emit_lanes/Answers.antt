@@ -4,11 +4,12 @@ use Rattle.kernel_tree.specs.Grammar.{IsTree}
 use Rattle.kernel_tree.specs.Typing.{check_fault}
 use Rattle.kernel_tree.proofs.Spelled.{few_params}
 use Rattle.loop_form.specs.View.{program}
+use Rattle.machine_model.specs.Written.{file_of}
 use Rattle.label_fix.proofs.PlacedRuns.{words_length}
 use Rattle.overlap_guard.proofs.Bound.{few-arrays}
 use Rattle.scalar_words.specs.KernelRegisters.{register_in}
 use Rattle.kernel_compile.proofs.VectorJoin.{IsJoined}
-use Rattle.kernel_compile.proofs.VectorFiles.{vector_file}
+use Rattle.kernel_compile.proofs.VectorFiles.{Promised, vector_file}
 use Rattle.kernel_compile.proofs.VectorEmitted.{Emitted, is_whole, label_given, few_words}
 use Rattle.kernel_compile.proofs.emit.emit_lanes.Goals as goal
 
@@ -61,63 +62,42 @@ finish-requires c =
     let few = few_words d arrays.few c.in_ok-emit_begin.ensures.words c.in_ok-scalar.ensures.words in
     record { few = omega (arith, few, c.few_items.ensures.size) }
 
+-- the drafts, one after another
+drafts : (c : goal.After-have_32_bits)
+    → Emitted (register_in c.args.regs.now.x) (program c.args.facts.now.kernel.now) c.args.regs.now.z c.args.regs.now.p c.in_ok-vector.vector c.in_ok-scalar.field-0.at_iteration c.new-draft.result.labels c.label.new.self.labels c.emit_begin.new.draft.labels c.branch-draft.new.self.labels c.emit_scalar.new.draft.labels c.place.new.self.labels c.guard.new.draft.labels c.new-draft.result.entries c.label.new.self.entries c.emit_begin.new.draft.entries c.branch-draft.new.self.entries c.emit_scalar.new.draft.entries c.place.new.self.entries c.guard.new.draft.entries c.emit_vector.new.draft.entries
+drafts c = record {
+  none = c.new-draft.ensures.entries;
+  first = c.new-draft.ensures.labels;
+  label = c.in_ok-vector.ensures.next;
+  one = c.in_ok-vector.ensures.count;
+  same = c.in_ok-vector.ensures.entries;
+  begun = c.in_ok-emit_begin.ensures.labels;
+  begin = c.in_ok-emit_begin.ensures.code;
+  branched = c.in_ok-branch.ensures.labels;
+  branch = c.in_ok-branch.ensures.code;
+  entry = c.in_ok-scalar.ensures.entry;
+  looped = c.in_ok-scalar.ensures.labels;
+  loop = c.in_ok-scalar.ensures.code;
+  placed = c.in_ok-place.ensures.labels;
+  place = c.in_ok-place.ensures.code;
+  guarded = c.in_ok-guard.ensures.labels;
+  guard = c.in_ok-guard.ensures.code;
+  lanes = c.in_ok-emit_vector.ensures.emits.code;
+}
+
 pub returns-clause-short : goal.returns-clause-short
 returns-clause-short c =
     let k = program c.args.facts.now.kernel.now in
-    let R = register_in c.args.regs.now.x in
-    let d : Emitted R k c.args.regs.now.z c.args.regs.now.p c.in_ok-vector.vector c.in_ok-scalar.field-0.at_iteration c.new-draft.result.labels c.label.new.self.labels c.emit_begin.new.draft.labels c.branch-draft.new.self.labels c.emit_scalar.new.draft.labels c.place.new.self.labels c.guard.new.draft.labels
-    c.new-draft.result.entries c.label.new.self.entries c.emit_begin.new.draft.entries c.branch-draft.new.self.entries c.emit_scalar.new.draft.entries c.place.new.self.entries c.guard.new.draft.entries c.emit_vector.new.draft.entries =
-    record {
-      none = c.new-draft.ensures.entries;
-      first = c.new-draft.ensures.labels;
-      label = c.in_ok-vector.ensures.next;
-      one = c.in_ok-vector.ensures.count;
-      same = c.in_ok-vector.ensures.entries;
-      begun = c.in_ok-emit_begin.ensures.labels;
-      begin = c.in_ok-emit_begin.ensures.code;
-      branched = c.in_ok-branch.ensures.labels;
-      branch = c.in_ok-branch.ensures.code;
-      entry = c.in_ok-scalar.ensures.entry;
-      looped = c.in_ok-scalar.ensures.labels;
-      loop = c.in_ok-scalar.ensures.code;
-      placed = c.in_ok-place.ensures.labels;
-      place = c.in_ok-place.ensures.code;
-      guarded = c.in_ok-guard.ensures.labels;
-      guard = c.in_ok-guard.ensures.code;
-      lanes = c.in_ok-emit_vector.ensures.emits.code;
-    } in
     let arrays = few-arrays k (sound c.args.facts.now.kernel.now) (few_params k (spelled c.args.facts.now.kernel.now)) in
-    let few = few_words d arrays.few c.in_ok-emit_begin.ensures.words c.in_ok-scalar.ensures.words in
+    let few = few_words (drafts c) arrays.few c.in_ok-emit_begin.ensures.words c.in_ok-scalar.ensures.words in
     let n = ap length c.in_ok-words.ensures.words in
     omega (arith, few, n, words_length c.emit_vector.new.draft.entries)
 
-pub returns-clause-close : goal.returns-clause-close
-returns-clause-close c =
+promised : (c : goal.After-have_32_bits) → Promised (program c.args.facts.now.kernel.now) (file_of c.in_ok-words.words.items)
+promised c =
     let k = program c.args.facts.now.kernel.now in
-    let R = register_in c.args.regs.now.x in
-    let d : Emitted R k c.args.regs.now.z c.args.regs.now.p c.in_ok-vector.vector c.in_ok-scalar.field-0.at_iteration c.new-draft.result.labels c.label.new.self.labels c.emit_begin.new.draft.labels c.branch-draft.new.self.labels c.emit_scalar.new.draft.labels c.place.new.self.labels c.guard.new.draft.labels
-    c.new-draft.result.entries c.label.new.self.entries c.emit_begin.new.draft.entries c.branch-draft.new.self.entries c.emit_scalar.new.draft.entries c.place.new.self.entries c.guard.new.draft.entries c.emit_vector.new.draft.entries =
-    record {
-      none = c.new-draft.ensures.entries;
-      first = c.new-draft.ensures.labels;
-      label = c.in_ok-vector.ensures.next;
-      one = c.in_ok-vector.ensures.count;
-      same = c.in_ok-vector.ensures.entries;
-      begun = c.in_ok-emit_begin.ensures.labels;
-      begin = c.in_ok-emit_begin.ensures.code;
-      branched = c.in_ok-branch.ensures.labels;
-      branch = c.in_ok-branch.ensures.code;
-      entry = c.in_ok-scalar.ensures.entry;
-      looped = c.in_ok-scalar.ensures.labels;
-      loop = c.in_ok-scalar.ensures.code;
-      placed = c.in_ok-place.ensures.labels;
-      place = c.in_ok-place.ensures.code;
-      guarded = c.in_ok-guard.ensures.labels;
-      guard = c.in_ok-guard.ensures.code;
-      lanes = c.in_ok-emit_vector.ensures.emits.code;
-    } in
     let arrays = few-arrays k (sound c.args.facts.now.kernel.now) (few_params k (spelled c.args.facts.now.kernel.now)) in
-    let few = few_words d arrays.few c.in_ok-emit_begin.ensures.words c.in_ok-scalar.ensures.words in
+    let few = few_words (drafts c) arrays.few c.in_ok-emit_begin.ensures.words c.in_ok-scalar.ensures.words in
     let small : All (λ w. w < 2 ^ 32) c.in_ok-words.words.items = subst (λ ws. All (λ w. w < 2 ^ 32) ws) c.deref-3.ensures.value c.have_32_bits.ensures in
     let joined : IsJoined k c.args.regs.now.z c.args.regs.now.p c.args.regs.now.x = record {
       spelled = spelled c.args.facts.now.kernel.now;
@@ -133,48 +113,10 @@ returns-clause-close c =
       meets = c.meets_apart.ensures;
       vectors = c.vector_runs.ensures;
     } in
-    (vector_file k c.args.regs.now.z c.args.regs.now.p c.args.regs.now.x c.emit_vector.new.draft.labels _ _ _ c.emit_vector.new.draft.entries c.in_ok-words.words.items joined (is_whole d) c.in_ok-words.ensures.fit (omega (arith, few, c.few_items.ensures.size)) c.in_ok-words.ensures.words small).close
+    vector_file k c.args.regs.now.z c.args.regs.now.p c.args.regs.now.x c.emit_vector.new.draft.labels _ _ _ c.emit_vector.new.draft.entries c.in_ok-words.words.items joined (is_whole (drafts c)) c.in_ok-words.ensures.fit (omega (arith, few, c.few_items.ensures.size)) c.in_ok-words.ensures.words small
+
+pub returns-clause-close : goal.returns-clause-close
+returns-clause-close c = (promised c).close
 
 pub returns-clause-ends : goal.returns-clause-ends
-returns-clause-ends c =
-    let k = program c.args.facts.now.kernel.now in
-    let R = register_in c.args.regs.now.x in
-    let d : Emitted R k c.args.regs.now.z c.args.regs.now.p c.in_ok-vector.vector c.in_ok-scalar.field-0.at_iteration c.new-draft.result.labels c.label.new.self.labels c.emit_begin.new.draft.labels c.branch-draft.new.self.labels c.emit_scalar.new.draft.labels c.place.new.self.labels c.guard.new.draft.labels
-    c.new-draft.result.entries c.label.new.self.entries c.emit_begin.new.draft.entries c.branch-draft.new.self.entries c.emit_scalar.new.draft.entries c.place.new.self.entries c.guard.new.draft.entries c.emit_vector.new.draft.entries =
-    record {
-      none = c.new-draft.ensures.entries;
-      first = c.new-draft.ensures.labels;
-      label = c.in_ok-vector.ensures.next;
-      one = c.in_ok-vector.ensures.count;
-      same = c.in_ok-vector.ensures.entries;
-      begun = c.in_ok-emit_begin.ensures.labels;
-      begin = c.in_ok-emit_begin.ensures.code;
-      branched = c.in_ok-branch.ensures.labels;
-      branch = c.in_ok-branch.ensures.code;
-      entry = c.in_ok-scalar.ensures.entry;
-      looped = c.in_ok-scalar.ensures.labels;
-      loop = c.in_ok-scalar.ensures.code;
-      placed = c.in_ok-place.ensures.labels;
-      place = c.in_ok-place.ensures.code;
-      guarded = c.in_ok-guard.ensures.labels;
-      guard = c.in_ok-guard.ensures.code;
-      lanes = c.in_ok-emit_vector.ensures.emits.code;
-    } in
-    let arrays = few-arrays k (sound c.args.facts.now.kernel.now) (few_params k (spelled c.args.facts.now.kernel.now)) in
-    let few = few_words d arrays.few c.in_ok-emit_begin.ensures.words c.in_ok-scalar.ensures.words in
-    let small : All (λ w. w < 2 ^ 32) c.in_ok-words.words.items = subst (λ ws. All (λ w. w < 2 ^ 32) ws) c.deref-3.ensures.value c.have_32_bits.ensures in
-    let joined : IsJoined k c.args.regs.now.z c.args.regs.now.p c.args.regs.now.x = record {
-      spelled = spelled c.args.facts.now.kernel.now;
-      sound = sound c.args.facts.now.kernel.now;
-      vector = c.requires.class;
-      few = few_params k (spelled c.args.facts.now.kernel.now);
-      near = arrays.place;
-      z = c.requires.vectors;
-      p = c.requires.predicates;
-      x = c.requires.scalars;
-      begins = c.begin_runs.ensures;
-      runs = c.scalar_runs.ensures;
-      meets = c.meets_apart.ensures;
-      vectors = c.vector_runs.ensures;
-    } in
-    (vector_file k c.args.regs.now.z c.args.regs.now.p c.args.regs.now.x c.emit_vector.new.draft.labels _ _ _ c.emit_vector.new.draft.entries c.in_ok-words.words.items joined (is_whole d) c.in_ok-words.ensures.fit (omega (arith, few, c.few_items.ensures.size)) c.in_ok-words.ensures.words small).ends
+returns-clause-ends c = (promised c).ends
