@@ -143,10 +143,7 @@ defined_room s x (Some t) = omega (arith, length-append s.visible (local x (bind
 
 action_room : (s : Scope) (a : Action) → length (after_action s a).visible ≤ length s.visible + action_lets a
 action_room s (Define x t e) = defined_room s x (first t (own s e))
-action_room s (Put a i e) = omega arith
-action_room s (Update x op e) = omega arith
-action_room s (Choose c b d) = omega arith
-action_room s (Leave c) = omega arith
+action_room s other = omega arith
 
 -- ---- statements
 
