@@ -124,10 +124,8 @@ then-same r s t _ _ rest others (Faults m) g next = Faults m
 abbrev mutual
   pub action_lets : Action → ℕ
   action_lets (Define x t e) = 1
-  action_lets (Put a i e) = 0
-  action_lets (Update x op e) = 0
   action_lets (Choose c b d) = block_lets b + otherwise_lets d
-  action_lets (Leave c) = 0
+  action_lets other = 0
 
   pub block_lets : Block → ℕ
   block_lets Done = 0
