@@ -13,10 +13,8 @@ use Rattle.kernel_eval.specs.Resolve.{most_slots, place}
 -- each visible name has its value in the slot of its place
 abbrev pub Held : List Local → Names → Slots → Type 0
 Held [] [] vs = Unit {0}
-Held [] (n ∷ ns) vs = ⊥
-Held (l ∷ ls) [] vs = ⊥
-Held (l ∷ ls) (n ∷ ns) [] = ⊥
 Held (l ∷ ls) (n ∷ ns) (v ∷ vs) = (n.name ≡ l.name) × (v ≡ n.value) × Held ls ns vs
+Held other ns vs = ⊥
 
 value_step : (b : Bool) (l : Local) (n : Named) (ls : List Local) (ns : Names) (v : ℤ) (vs : Slots) (x : List ℕ) → has_name x l ≡ b → n.name ≡ l.name → v ≡ n.value → slot_at vs (place ls x) ≡ value_at ns x → slot_at (v ∷ vs) (place (l ∷ ls) x) ≡ value_at (n ∷ ns) x
 value_step true l n ls ns v vs x e same is rest =
@@ -27,10 +25,8 @@ value_step false l n ls ns v vs x e same is rest =
 -- the slot of a name has its value
 pub value-held : (ls : List Local) (ns : Names) (vs : Slots) (x : List ℕ) → Held ls ns vs → length vs ≤ most_slots → slot_at vs (place ls x) ≡ value_at ns x
 value-held [] [] vs x h le = get_or_past vs most_slots (pos 0) le
-value-held [] (n ∷ ns) vs x h le = absurd h
-value-held (l ∷ ls) [] vs x h le = absurd h
-value-held (l ∷ ls) (n ∷ ns) [] x h le = absurd h
 value-held (l ∷ ls) (n ∷ ns) (v ∷ vs) x h le = value_step (has_name x l) l n ls ns v vs x refl h.0 h.1 (value-held ls ns vs x h.2 (omega arith))
+value-held other ns vs x h le = absurd h
 
 assigned_step : (b : Bool) (l : Local) (n : Named) (ls : List Local) (ns : Names) (v : ℤ) (vs : Slots) (x : List ℕ) (z : ℤ) → has_name x l ≡ b → Held (l ∷ ls) (n ∷ ns) (v ∷ vs) → Held ls (assigned x z ns) (set vs (place ls x) z) → Held (l ∷ ls) (assigned x z (n ∷ ns)) (set (v ∷ vs) (place (l ∷ ls) x) z)
 assigned_step true l n ls ns v vs x z e h rest =
@@ -45,19 +41,15 @@ assigned_step false l n ls ns v vs x z e h rest =
 -- a name with another value
 pub assigned-held : (ls : List Local) (ns : Names) (vs : Slots) (x : List ℕ) (z : ℤ) → Held ls ns vs → Held ls (assigned x z ns) (set vs (place ls x) z)
 assigned-held [] [] vs x z h = tt
-assigned-held [] (n ∷ ns) vs x z h = absurd h
-assigned-held (l ∷ ls) [] vs x z h = absurd h
-assigned-held (l ∷ ls) (n ∷ ns) [] x z h = absurd h
 assigned-held (l ∷ ls) (n ∷ ns) (v ∷ vs) x z h = assigned_step (has_name x l) l n ls ns v vs x z refl h (assigned-held ls ns vs x z h.2)
+assigned-held other ns vs x z h = absurd h
 
 -- a name more
 pub named-held : (ls : List Local) (ns : Names) (vs : Slots) (x : List ℕ) (b : Binding) (z : ℤ) → Held ls ns vs → length ls < length vs → Held (ls ++ local x b ∷ []) (with_name x ns z) (set vs (length ls) z)
 named-held [] [] [] x b z h lt = absurd (omega arith)
 named-held [] [] (v ∷ vs) x b z h lt = (refl, refl, tt)
-named-held [] (n ∷ ns) vs x b z h lt = absurd h
-named-held (l ∷ ls) [] vs x b z h lt = absurd h
-named-held (l ∷ ls) (n ∷ ns) [] x b z h lt = absurd h
 named-held (l ∷ ls) (n ∷ ns) (v ∷ vs) x b z h lt = (h.0, h.1, named-held ls ns vs x b z h.2 (omega arith))
+named-held other ns vs x b z h lt = absurd h
 
 -- the first names
 pub cut-held : (ls more : List Local) (ns : Names) (vs : Slots) → Held (ls ++ more) ns vs → Held ls (take (length ls) ns) vs
@@ -69,7 +61,5 @@ cut-held (l ∷ ls) more (n ∷ ns) (v ∷ vs) h = (h.0, h.1, cut-held ls more n
 -- there are as many names as are visible
 pub held-length : (ls : List Local) (ns : Names) (vs : Slots) → Held ls ns vs → length ns ≡ length ls
 held-length [] [] vs h = refl
-held-length [] (n ∷ ns) vs h = absurd h
-held-length (l ∷ ls) [] vs h = absurd h
-held-length (l ∷ ls) (n ∷ ns) [] h = absurd h
 held-length (l ∷ ls) (n ∷ ns) (v ∷ vs) h = ap suc (held-length ls ns vs h.2)
+held-length other ns vs h = absurd h

@@ -2,7 +2,7 @@
 use Rattle.std.proofs.Common.{◌≡◌, ℕ, ◌+◌, ◌-◌, ◌<◌, ◌≤◌, List, [], ◌∷◌, Bool, true, false, cond, Option, Some, None, length, refl, sym, ap, subst, ◌∙◌, arith, ltb}
 use Rattle.std.specs.Prelude.{pos, nat_lt, min}
 use Rattle.std.proofs.lemmas.Bool.{ltb-true, ltb-false}
-use Rattle.kernel_tree.specs.Plain.{Action, Define, Put, Update, Choose, Leave, Block, Done, Then, Otherwise, Nothing, Else, Accumulator, PlainLoop, Returned, Program}
+use Rattle.kernel_tree.specs.Plain.{Action, Choose, Block, Done, Then, Otherwise, Nothing, Else, Accumulator, PlainLoop, Returned, Program}
 use Rattle.kernel_tree.specs.Items.{action_size, block_size, otherwise_size, vars_size, turns_size, loop_index, size_of}
 use Rattle.kernel_tree.specs.Limits.{most_items}
 use Rattle.kernel_tree.specs.Typing.{Scope, after_turns, var_scope, check_fault, Refusal, TooLarge}
@@ -93,11 +93,8 @@ run-outcome k args limit m outcome after h = named-outcome k limit m (started k 
 
 mutual
   action_within : (a : Action) (i : Option (List ℕ)) → action_lets a ≤ action_size i a
-  action_within (Define x t e) i = omega arith
-  action_within (Put a o e) i = omega arith
-  action_within (Update x op e) i = omega arith
   action_within (Choose c b d) i = omega (arith, block_within b i, otherwise_within d i)
-  action_within (Leave c) i = omega arith
+  action_within other i = omega arith
 
   block_within : (b : Block) (i : Option (List ℕ)) → block_lets b ≤ block_size i b
   block_within Done i = omega arith

@@ -124,10 +124,8 @@ then-same r s t _ _ rest others (Faults m) g next = Faults m
 abbrev mutual
   pub action_lets : Action → ℕ
   action_lets (Define x t e) = 1
-  action_lets (Put a i e) = 0
-  action_lets (Update x op e) = 0
   action_lets (Choose c b d) = block_lets b + otherwise_lets d
-  action_lets (Leave c) = 0
+  action_lets other = 0
 
   pub block_lets : Block → ℕ
   block_lets Done = 0
@@ -143,10 +141,7 @@ defined_room s x (Some t) = omega (arith, length-append s.visible (local x (bind
 
 action_room : (s : Scope) (a : Action) → length (after_action s a).visible ≤ length s.visible + action_lets a
 action_room s (Define x t e) = defined_room s x (first t (own s e))
-action_room s (Put a i e) = omega arith
-action_room s (Update x op e) = omega arith
-action_room s (Choose c b d) = omega arith
-action_room s (Leave c) = omega arith
+action_room s other = omega arith
 
 -- ---- statements
 

@@ -37,10 +37,6 @@ pub data Alike : Option ℤ → Option ℤ → Type 0 where
   Neither : Alike None None
   Words : (x y : ℤ) → word x ≡ word y → Alike (Some x) (Some y)
 
-alike_same : (o : Option ℤ) → Alike o o
-alike_same None = Neither
-alike_same (Some x) = Words x x refl
-
 read-alike : (t : Option Ty) (memory : Memory) (base : ℤ) (o p : Option ℤ) → Alike o p → option_and_then (read_element t memory base) o ≡ option_and_then (read_element t memory base) p
 read-alike t memory base _ _ Neither = refl
 read-alike None memory base _ _ (Words x y e) = refl

@@ -34,25 +34,20 @@ abbrev mutual
   tree_value (Shift left n t e) memory slots = option_map (shift_value left n t) (tree_value e memory slots)
   tree_value (Cast t e) memory slots = option_map (wrap t) (tree_value e memory slots)
   tree_value (Select c a b) memory slots = chosen (tree_value a memory slots) (tree_value b memory slots) (tree_holds c memory slots)
-  tree_value (Compare op a b) memory slots = Some (pos 0)
-  tree_value (And a b) memory slots = Some (pos 0)
-  tree_value (Or a b) memory slots = Some (pos 0)
-  tree_value (Not e) memory slots = Some (pos 0)
+  tree_value other memory slots = Some (pos 0)
 
   pub tree_holds : Tree → Memory → Slots → Option Bool
   tree_holds (Compare op a b) memory slots = on_both (compare_on op) (tree_value a memory slots) (tree_value b memory slots)
   tree_holds (And a b) memory slots = and_then (tree_holds a memory slots) (tree_holds b memory slots)
   tree_holds (Or a b) memory slots = or_else (tree_holds a memory slots) (tree_holds b memory slots)
   tree_holds (Not e) memory slots = option_map not (tree_holds e memory slots)
-  tree_holds (Constant z) memory slots = Some false
-  tree_holds (Slot n) memory slots = Some false
-  tree_holds (Stream base t n c) memory slots = Some false
-  tree_holds (Element base t e) memory slots = Some false
-  tree_holds (Unary op t e) memory slots = Some false
-  tree_holds (Binary op t a b) memory slots = Some false
-  tree_holds (Shift left n t e) memory slots = Some false
-  tree_holds (Cast t e) memory slots = Some false
-  tree_holds (Select c a b) memory slots = Some false
+  tree_holds other memory slots = Some false
+
+-- the value of an element of an array, and 0 of another tree
+abbrev pub element_value : Tree → Memory → Slots → Option ℤ
+element_value (Stream base t n c) memory slots = tree_value (Stream base t n c) memory slots
+element_value (Element base t e) memory slots = tree_value (Element base t e) memory slots
+element_value other memory slots = Some (pos 0)
 
 -- the code's answer with the memory and the slots that it leaves
 abbrev pub block_end_of : CodeEnd → Memory → Slots → BlockEnd Slots

@@ -79,11 +79,8 @@ followed (Then t rest) ts = Then t (followed rest ts)
 -- how deep the tasks of a list lie in each other
 abbrev mutual
   pub task_depth : Task → ℕ
-  task_depth (Set n e) = 1
-  task_depth (Put base t n c e) = 1
-  task_depth (Store base t i e) = 1
   task_depth (If c one other) = max (tasks_depth one) (tasks_depth other) + 1
-  task_depth (Break c) = 1
+  task_depth other = 1
 
   pub tasks_depth : Tasks → ℕ
   tasks_depth Done = 0

@@ -17,14 +17,13 @@ pub fn slot_at(slots: &[i128], slot: usize) -> i128
     if slot < slots.len() { slots[slot] } else { 0 }
 }
 
-/// The value of an expression, and None where a read faults.
+// An element of an array, 0 where the expression is none, and None where a read faults.
+#[inline(always)]
 #[cycle(values)]
-pub fn value<M: GuestMemory>(node: &Node, memory: &M, slots: &[i128]) -> Option<i128>
-    ensures { result ≡ meaning.tree_value (tree_of node.now) (M.memory memory.now) slots.now }
+fn element<M: GuestMemory>(node: &Node, memory: &M, slots: &[i128]) -> Option<i128>
+    ensures { result ≡ meaning.element_value (tree_of node.now) (M.memory memory.now) slots.now }
 {
     match node {
-        Node::Constant(value) => Some(*value),
-        Node::Slot(slot) => Some(slot_at(slots, *slot)),
         Node::Stream {
             base,
             ty,
@@ -35,13 +34,21 @@ pub fn value<M: GuestMemory>(node: &Node, memory: &M, slots: &[i128]) -> Option<
             read(memory, *ty, slot_at(slots, *base), Some(number))
         }
         Node::Element { base, ty, number } => {
-            read(
-                memory,
-                *ty,
-                slot_at(slots, *base),
-                value(number, memory, slots),
-            )
+            let number = value(number, memory, slots);
+            read(memory, *ty, slot_at(slots, *base), number)
         }
+        _ => Some(0),
+    }
+}
+
+/// The value of an expression, and None where a read faults.
+#[cycle(values)]
+pub fn value<M: GuestMemory>(node: &Node, memory: &M, slots: &[i128]) -> Option<i128>
+    ensures { result ≡ meaning.tree_value (tree_of node.now) (M.memory memory.now) slots.now }
+{
+    match node {
+        Node::Constant(value) => Some(*value),
+        Node::Slot(slot) => Some(slot_at(slots, *slot)),
         Node::Unary { op, ty, arg } => unary(*op, *ty, value(arg, memory, slots)),
         Node::Binary {
             op,
@@ -66,7 +73,7 @@ pub fn value<M: GuestMemory>(node: &Node, memory: &M, slots: &[i128]) -> Option<
             value(yes, memory, slots),
             value(no, memory, slots),
         ),
-        _ => Some(0),
+        _ => element(node, memory, slots),
     }
 }
 

@@ -60,27 +60,9 @@ literal_spells place (negsuc n) rest = wrapped place (λ r. IsMark mark.Minus �
 no_number : (e : Term) (r : List Word) → number_at (print_term e site.Negated r) ≡ None
 unfolding opened number_opened
 no_number (Literal (pos n)) r = refl
-no_number (Literal (negsuc n)) r = refl
-no_number (Variable x) r = refl
-no_number (Element a i) r = refl
 no_number (Unary unary.Neg e) r = refl
-no_number (Unary unary.Flip e) r = refl
-no_number (Unary unary.Abs e) r = refl
 no_number (Operation binary.Add a b) r = refl
-no_number (Operation binary.Sub a b) r = refl
-no_number (Operation binary.Mul a b) r = refl
-no_number (Operation binary.And a b) r = refl
-no_number (Operation binary.Or a b) r = refl
-no_number (Operation binary.Xor a b) r = refl
-no_number (Operation binary.Min a b) r = refl
-no_number (Operation binary.Max a b) r = refl
-no_number (Shift left e n) r = refl
-no_number (Conversion e t) r = refl
-no_number (Choice c a b) r = refl
-no_number (Comparison op a b) r = refl
-no_number (Both a b) r = refl
-no_number (Either a b) r = refl
-no_number (Not e) r = refl
+no_number other r = refl
 
 abbrev Printed : Term → (Place → List Word → List Word) → Type 0
 Printed e print = (place : Place) (rest : List Word) → Spells (level_at place) (print place rest) e rest

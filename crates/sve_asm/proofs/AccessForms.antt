@@ -8,7 +8,7 @@ use Rattle.sve_asm.proofs.Words.{IsBlanked, decimal-blanked}
 use Rattle.sve_asm.proofs.ByWords.{reads-blank, reads-none}
 use Rattle.sve_asm.proofs.Pieces.{x-blanked, x_or_sp-blanked, lsl-blanked}
 use Rattle.sve_asm.proofs.Spelled.{is_mnemonic, spelled}
-use Rattle.sve_asm.proofs.PlainParts.{assoc_index, over_space, over_comma, over_comma_number, over_number, over_close, over_comma_open}
+use Rattle.sve_asm.proofs.PlainParts.{assoc_index, over, Space, Comma, CommaNumber, Number, Close, CommaOpen}
 
 assoc_offset : (m s r o x c h d z : List ℕ) → ((m ++ s) ++ r) ++ (((o ++ x) ++ (c ++ (h ++ d))) ++ z) ≡ m ++ (s ++ (r ++ (o ++ (x ++ (c ++ (h ++ (d ++ z)))))))
 assoc_offset m s r o x c h d z = simp append_assoc
@@ -25,7 +25,7 @@ pub form_no_offset : (R : ℕ → List ℕ) (l : ℕ) → ((n : ℕ) → n < 32 
     → candidate (((m ++ codes " ") ++ R a) ++ at_offset b v) ≡ Some w
 unfolding dot
 form_no_offset R l is m base w a b v h f ha hb q hw e =
-    spelled m h f (over_space (reads-blank (is a ha) refl (over_comma_open (reads-blank (x_or_sp-blanked b hb) refl (over_close reads-none)))))
+    spelled m h f (over Space (reads-blank (is a ha) refl (over CommaOpen (reads-blank (x_or_sp-blanked b hb) refl (over Close reads-none)))))
     refl refl (rw q (assoc_none m (codes " ") (R a) (codes ", [") (x_or_sp b) [] (codes "]"))) (omega arith)
 
 pub form_offset : (R : ℕ → List ℕ) (l : ℕ) → ((n : ℕ) → n < 32 → IsBlanked (R n) l n) → (m : List ℕ) (base w a b n v k : ℕ) → is_mnemonic m ≡ true
@@ -33,8 +33,8 @@ pub form_offset : (R : ℕ → List ℕ) (l : ℕ) → ((n : ℕ) → n < 32 →
     → w < 2 ^ 32 → base + a * 1 + b * 32 + n * 1024 ≡ w → candidate (((m ++ codes " ") ++ R a) ++ at_offset b v) ≡ Some w
 unfolding dot
 form_offset R l is m base w a b n v k h f ha hb hv scale q hw e =
-    spelled m h f (over_space (reads-blank (is a ha) refl (over_comma_open (reads-blank (x_or_sp-blanked b hb) refl
-    (over_comma_number (reads-blank (decimal-blanked v (omega arith)) refl (over_close reads-none)))))))
+    spelled m h f (over Space (reads-blank (is a ha) refl (over CommaOpen (reads-blank (x_or_sp-blanked b hb) refl
+    (over CommaNumber (reads-blank (decimal-blanked v (omega arith)) refl (over Close reads-none)))))))
     refl refl (rw q (assoc_offset m (codes " ") (R a) (codes ", [") (x_or_sp b) comma (codes "#") (decimal v) (codes "]"))) (rw scale (omega arith))
 
 pub form_index : (R : ℕ → List ℕ) (l : ℕ) → ((n : ℕ) → n < 32 → IsBlanked (R n) l n) → (m : List ℕ) (base w a b c v : ℕ) → is_mnemonic m ≡ true
@@ -42,8 +42,8 @@ pub form_index : (R : ℕ → List ℕ) (l : ℕ) → ((n : ℕ) → n < 32 → 
     → w < 2 ^ 32 → base + a * 1 + b * 32 + c * 65536 ≡ w → candidate (((m ++ codes " ") ++ R a) ++ at_register b c v) ≡ Some w
 unfolding dot
 form_index R l is m base w a b c v h f ha hb hc q hw e =
-    spelled m h f (over_space (reads-blank (is a ha) refl (over_comma_open (reads-blank (x_or_sp-blanked b hb) refl
-    (over_comma (reads-blank (x-blanked c hc) refl (over_close reads-none)))))))
+    spelled m h f (over Space (reads-blank (is a ha) refl (over CommaOpen (reads-blank (x_or_sp-blanked b hb) refl
+    (over Comma (reads-blank (x-blanked c hc) refl (over Close reads-none)))))))
     refl refl (rw q (assoc_plain m (codes " ") (R a) (codes ", [") (x_or_sp b) comma (x_register c) [] (codes "]"))) (omega arith)
 
 pub form_index_lsl : (R : ℕ → List ℕ) (l : ℕ) → ((n : ℕ) → n < 32 → IsBlanked (R n) l n) → (m : List ℕ) (base w a b c v : ℕ) → is_mnemonic m ≡ true
@@ -51,6 +51,6 @@ pub form_index_lsl : (R : ℕ → List ℕ) (l : ℕ) → ((n : ℕ) → n < 32 
     → w < 2 ^ 32 → base + a * 1 + b * 32 + c * 65536 ≡ w → candidate (((m ++ codes " ") ++ R a) ++ at_register b c v) ≡ Some w
 unfolding dot
 form_index_lsl R l is m base w a b c v h f ha hb hc hv q hw e =
-    spelled m h f (over_space (reads-blank (is a ha) refl (over_comma_open (reads-blank (x_or_sp-blanked b hb) refl (over_comma (reads-blank (x-blanked c hc) refl
-    (over_comma (reads-blank lsl-blanked refl (over_number (reads-blank (decimal-blanked v (omega arith)) refl (over_close reads-none)))))))))))
+    spelled m h f (over Space (reads-blank (is a ha) refl (over CommaOpen (reads-blank (x_or_sp-blanked b hb) refl (over Comma (reads-blank (x-blanked c hc) refl
+    (over Comma (reads-blank lsl-blanked refl (over Number (reads-blank (decimal-blanked v (omega arith)) refl (over Close reads-none)))))))))))
     refl refl (rw q (assoc_index m (codes " ") (R a) (codes ", [") (x_or_sp b) comma (x_register c) (codes ", lsl ") (codes "#") (decimal v) (codes "]"))) (omega arith)

@@ -1,10 +1,10 @@
 -- Parts of a text that have no number in them stand in front of what is read; and how such parts are joined.
-use Rattle.std.proofs.Common.{◌≡◌, ℕ, List, ◌++◌, refl, append_assoc}
+use Rattle.std.proofs.Common.{◌≡◌, ℕ, List, ◌++◌, true, refl, append_assoc}
 use Rattle.std.specs.Prelude.{codes}
 use Rattle.number_text.specs.Numbers.{decimal_of}
 use Rattle.asm_forms.specs.Blanks.{over_words, meanings, meaning_in, blank_of}
 use Rattle.asm_forms.specs.Rules.{dot}
-use Rattle.sve_asm.proofs.ByWords.{Reads, reads-plain}
+use Rattle.sve_asm.proofs.ByWords.{Reads, is_plain, reads-plain}
 
 pub assoc_index : (m s r o x c y l h d z : List ℕ) → ((m ++ s) ++ r) ++ (((((o ++ x) ++ c) ++ y) ++ (l ++ (h ++ d))) ++ z)
     ≡ m ++ (s ++ (r ++ (o ++ (x ++ (c ++ (y ++ (l ++ (h ++ (d ++ z)))))))))
@@ -35,66 +35,48 @@ pub assoc_store_lsl : (m o zz a dot s k pp c q x g y l h d z : List ℕ)
     ≡ m ++ (o ++ (zz ++ (a ++ (dot ++ (s ++ (k ++ (pp ++ (c ++ (q ++ (x ++ (g ++ (y ++ (l ++ (h ++ (d ++ z)))))))))))))))
 assoc_store_lsl m o zz a dot s k pp c q x g y l h d z = simp append_assoc
 
-pub over_space : {text blanks numbers : List ℕ} → Reads text blanks numbers → Reads (codes " " ++ text) (codes " " ++ blanks) numbers
-unfolding over_words blank_of meanings meaning_in decimal_of
-over_space r = reads-plain (codes " ") refl r
+-- what stands between the words of an instruction that have numbers
+pub data Part : Type 0 where
+  Space : Part
+  Comma : Part
+  CommaNumber : Part
+  Number : Part
+  Negative : Part
+  Dot : Part
+  CommaNegative : Part
+  Open : Part
+  Close : Part
+  CommaOpen : Part
+  Zeroing : Part
+  Slash : Part
+  Merging : Part
+  ListOpen : Part
+  ListClose : Part
+  ZeroingOpen : Part
 
-pub over_comma : {text blanks numbers : List ℕ} → Reads text blanks numbers → Reads (codes ", " ++ text) (codes ", " ++ blanks) numbers
-unfolding over_words blank_of meanings meaning_in decimal_of
-over_comma r = reads-plain (codes ", ") refl r
+abbrev pub text_of : Part → List ℕ
+text_of Space = codes " "
+text_of Comma = codes ", "
+text_of CommaNumber = codes ", #"
+text_of Number = codes " #"
+text_of Negative = codes " #-"
+text_of Dot = codes "."
+text_of CommaNegative = codes ", #-"
+text_of Open = codes "["
+text_of Close = codes "]"
+text_of CommaOpen = codes ", ["
+text_of Zeroing = codes "/z, "
+text_of Slash = codes "/"
+text_of Merging = codes "/m, "
+text_of ListOpen = codes " {"
+text_of ListClose = codes "}, "
+text_of ZeroingOpen = codes "/z, ["
 
-pub over_comma_number : {text blanks numbers : List ℕ} → Reads text blanks numbers → Reads (codes ", #" ++ text) (codes ", #" ++ blanks) numbers
+plain-part : (part : Part) → is_plain (text_of part) ≡ true
 unfolding over_words blank_of meanings meaning_in decimal_of
-over_comma_number r = reads-plain (codes ", #") refl r
+plain-part Space = refl
+plain-part other = refl
 
-pub over_number : {text blanks numbers : List ℕ} → Reads text blanks numbers → Reads (codes " #" ++ text) (codes " #" ++ blanks) numbers
-unfolding over_words blank_of meanings meaning_in decimal_of
-over_number r = reads-plain (codes " #") refl r
-
-pub over_negative : {text blanks numbers : List ℕ} → Reads text blanks numbers → Reads (codes " #-" ++ text) (codes " #-" ++ blanks) numbers
-unfolding over_words blank_of meanings meaning_in decimal_of
-over_negative r = reads-plain (codes " #-") refl r
-
-pub over_dot : {text blanks numbers : List ℕ} → Reads text blanks numbers → Reads (codes "." ++ text) (codes "." ++ blanks) numbers
-unfolding over_words blank_of meanings meaning_in decimal_of
-over_dot r = reads-plain (codes ".") refl r
-
-pub over_comma_negative : {text blanks numbers : List ℕ} → Reads text blanks numbers → Reads (codes ", #-" ++ text) (codes ", #-" ++ blanks) numbers
-unfolding over_words blank_of meanings meaning_in decimal_of
-over_comma_negative r = reads-plain (codes ", #-") refl r
-
-pub over_open : {text blanks numbers : List ℕ} → Reads text blanks numbers → Reads (codes "[" ++ text) (codes "[" ++ blanks) numbers
-unfolding over_words blank_of meanings meaning_in decimal_of
-over_open r = reads-plain (codes "[") refl r
-
-pub over_close : {text blanks numbers : List ℕ} → Reads text blanks numbers → Reads (codes "]" ++ text) (codes "]" ++ blanks) numbers
-unfolding over_words blank_of meanings meaning_in decimal_of
-over_close r = reads-plain (codes "]") refl r
-
-pub over_comma_open : {text blanks numbers : List ℕ} → Reads text blanks numbers → Reads (codes ", [" ++ text) (codes ", [" ++ blanks) numbers
-unfolding over_words blank_of meanings meaning_in decimal_of
-over_comma_open r = reads-plain (codes ", [") refl r
-
-pub over_zeroing : {text blanks numbers : List ℕ} → Reads text blanks numbers → Reads (codes "/z, " ++ text) (codes "/z, " ++ blanks) numbers
-unfolding over_words blank_of meanings meaning_in decimal_of
-over_zeroing r = reads-plain (codes "/z, ") refl r
-
-pub over_slash : {text blanks numbers : List ℕ} → Reads text blanks numbers → Reads (codes "/" ++ text) (codes "/" ++ blanks) numbers
-unfolding over_words blank_of meanings meaning_in decimal_of
-over_slash r = reads-plain (codes "/") refl r
-
-pub over_merging : {text blanks numbers : List ℕ} → Reads text blanks numbers → Reads (codes "/m, " ++ text) (codes "/m, " ++ blanks) numbers
-unfolding over_words blank_of meanings meaning_in decimal_of
-over_merging r = reads-plain (codes "/m, ") refl r
-
-pub over_list_open : {text blanks numbers : List ℕ} → Reads text blanks numbers → Reads (codes " {" ++ text) (codes " {" ++ blanks) numbers
-unfolding over_words blank_of meanings meaning_in decimal_of
-over_list_open r = reads-plain (codes " {") refl r
-
-pub over_list_close : {text blanks numbers : List ℕ} → Reads text blanks numbers → Reads (codes "}, " ++ text) (codes "}, " ++ blanks) numbers
-unfolding over_words blank_of meanings meaning_in decimal_of
-over_list_close r = reads-plain (codes "}, ") refl r
-
-pub over_zeroing_open : {text blanks numbers : List ℕ} → Reads text blanks numbers → Reads (codes "/z, [" ++ text) (codes "/z, [" ++ blanks) numbers
-unfolding over_words blank_of meanings meaning_in decimal_of
-over_zeroing_open r = reads-plain (codes "/z, [") refl r
+-- such a part in front of a text
+pub over : (part : Part) {text blanks numbers : List ℕ} → Reads text blanks numbers → Reads (text_of part ++ text) (text_of part ++ blanks) numbers
+over part r = reads-plain (text_of part) (plain-part part) r

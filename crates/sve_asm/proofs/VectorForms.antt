@@ -12,18 +12,18 @@ use Rattle.sve_asm.proofs.Words.{IsBlanked, by_test, decimal-blanked}
 use Rattle.sve_asm.proofs.ByWords.{reads-blank, reads-last}
 use Rattle.sve_asm.proofs.Pieces.{p-blanked, z-blanked, size-blanked, d_size-blanked}
 use Rattle.sve_asm.proofs.Spelled.{is_mnemonic, spelled}
-use Rattle.sve_asm.proofs.PlainParts.{over_space, over_comma, over_comma_number, over_dot, over_zeroing, over_merging}
+use Rattle.sve_asm.proofs.PlainParts.{over, Space, Comma, CommaNumber, Dot, Zeroing, Merging}
 
 pub form_vectors : (m : List ℕ) (base w a b c s : ℕ) → is_mnemonic m ≡ true → form_of m (codes " z.T, z.T, z.T") ≡ Some (Factors (1 ∷ 4194304 ∷ 32 ∷ 0 ∷ 65536 ∷ []), base) → a < 32 → b < 32 → c < 32 → s < 4 → w < 2 ^ 32 → base + a * 1 + b * 32 + c * 65536 + s * 4194304 ≡ w → candidate (sve.vectors (m ++ codes " ") (a ∷ b ∷ c ∷ s ∷ [])) ≡ Some w
 unfolding dot
 form_vectors m base w a b c s h f ha hb hc hs hw e =
-    spelled m h f (over_space (reads-blank (z-blanked a ha) refl (over_dot (reads-blank (size-blanked s hs) refl (over_comma (reads-blank (z-blanked b hb) refl (over_dot (reads-blank (size-blanked s hs) refl (over_comma (reads-blank (z-blanked c hc) refl (over_dot (reads-last (size-blanked s hs)))))))))))))
+    spelled m h f (over Space (reads-blank (z-blanked a ha) refl (over Dot (reads-blank (size-blanked s hs) refl (over Comma (reads-blank (z-blanked b hb) refl (over Dot (reads-blank (size-blanked s hs) refl (over Comma (reads-blank (z-blanked c hc) refl (over Dot (reads-last (size-blanked s hs)))))))))))))
     refl refl (simp (append_assoc, append-nil)) (omega arith)
 
 pub form_bitwise : (m : List ℕ) (base w a b c : ℕ) → is_mnemonic m ≡ true → form_of m (codes " z.T, z.T, z.T") ≡ Some (Factors (1 ∷ 0 ∷ 32 ∷ 0 ∷ 65536 ∷ []), base) → a < 32 → b < 32 → c < 32 → w < 2 ^ 32 → base + a * 1 + b * 32 + c * 65536 ≡ w → candidate (sve.bitwise (m ++ codes " ") (a ∷ b ∷ c ∷ [])) ≡ Some w
 unfolding dot
 form_bitwise m base w a b c h f ha hb hc hw e =
-    spelled m h f (over_space (reads-blank (z-blanked a ha) refl (over_dot (reads-blank d_size-blanked refl (over_comma (reads-blank (z-blanked b hb) refl (over_dot (reads-blank d_size-blanked refl (over_comma (reads-blank (z-blanked c hc) refl (over_dot (reads-last d_size-blanked))))))))))))
+    spelled m h f (over Space (reads-blank (z-blanked a ha) refl (over Dot (reads-blank d_size-blanked refl (over Comma (reads-blank (z-blanked b hb) refl (over Dot (reads-blank d_size-blanked refl (over Comma (reads-blank (z-blanked c hc) refl (over Dot (reads-last d_size-blanked))))))))))))
     refl refl (simp (append_assoc, append-nil)) (omega arith)
 
 assoc_shift : (m s z a d t c b h n : List ℕ) → (((((m ++ s) ++ ((z ++ a) ++ (d ++ t))) ++ c) ++ ((z ++ b) ++ (d ++ t))) ++ c) ++ (h ++ n)
@@ -50,7 +50,7 @@ unfolding left_shift
 form_left m base w a b v h f ha hb hv hw low e =
     let s = left_value v low hv in
     let t = size-blanked (shift_size v) (size_small v) in
-    spelled m h f (over_space (reads-blank (z-blanked a ha) refl (over_dot (reads-blank t refl (over_comma (reads-blank (z-blanked b hb) refl (over_dot (reads-blank t refl (over_comma_number (reads-last (decimal-blanked (left_amount v) (omega arith))))))))))))
+    spelled m h f (over Space (reads-blank (z-blanked a ha) refl (over Dot (reads-blank t refl (over Comma (reads-blank (z-blanked b hb) refl (over Dot (reads-blank t refl (over CommaNumber (reads-last (decimal-blanked (left_amount v) (omega arith))))))))))))
     refl refl (assoc_shift m (codes " ") (codes "z") (decimal a) (codes ".") (size_letter (shift_size v)) comma (decimal b) (codes "#") (decimal (left_amount v))) (rw (s.0, s.1) (omega arith))
 
 pub form_right : (m : List ℕ) (base w a b v : ℕ) → is_mnemonic m ≡ true → form_of m (codes " z.T, z.T, #0") ≡ Some (RightShift, base) → a < 32 → b < 32 → v < 128 → w < 2 ^ 32 → 8 ≤ v
@@ -59,25 +59,25 @@ unfolding right_shift
 form_right m base w a b v h f ha hb hv hw low e =
     let s = right_value v low hv in
     let t = size-blanked (shift_size v) (size_small v) in
-    spelled m h f (over_space (reads-blank (z-blanked a ha) refl (over_dot (reads-blank t refl (over_comma (reads-blank (z-blanked b hb) refl (over_dot (reads-blank t refl (over_comma_number (reads-last (decimal-blanked (right_amount v) (grind (arith, nat_tests)))))))))))))
+    spelled m h f (over Space (reads-blank (z-blanked a ha) refl (over Dot (reads-blank t refl (over Comma (reads-blank (z-blanked b hb) refl (over Dot (reads-blank t refl (over CommaNumber (reads-last (decimal-blanked (right_amount v) (grind (arith, nat_tests)))))))))))))
     refl refl (assoc_shift m (codes " ") (codes "z") (decimal a) (codes ".") (size_letter (shift_size v)) comma (decimal b) (codes "#") (decimal (right_amount v))) (rw (s.0, s.1) (omega arith))
 
 pub form_binary : (m : List ℕ) (base w a b c s : ℕ) → is_mnemonic m ≡ true → form_of m (codes " z.T, p/m, z.T, z.T") ≡ Some (Factors (1 ∷ 4194304 ∷ 1024 ∷ 0 ∷ 0 ∷ 32 ∷ []), base) → a < 32 → b < 32 → c < 16 → s < 4 → w < 2 ^ 32 → base + a * 1 + b * 32 + c * 1024 + s * 4194304 ≡ w → candidate (sve.binary_predicated (m ++ codes " ") (a ∷ b ∷ c ∷ s ∷ [])) ≡ Some w
 unfolding dot
 form_binary m base w a b c s h f ha hb hc hs hw e =
-    spelled m h f (over_space (reads-blank (z-blanked a ha) refl (over_dot (reads-blank (size-blanked s hs) refl (over_comma (reads-blank (p-blanked c hc) refl (over_merging (reads-blank (z-blanked a ha) refl (over_dot (reads-blank (size-blanked s hs) refl (over_comma (reads-blank (z-blanked b hb) refl (over_dot (reads-last (size-blanked s hs)))))))))))))))
+    spelled m h f (over Space (reads-blank (z-blanked a ha) refl (over Dot (reads-blank (size-blanked s hs) refl (over Comma (reads-blank (p-blanked c hc) refl (over Merging (reads-blank (z-blanked a ha) refl (over Dot (reads-blank (size-blanked s hs) refl (over Comma (reads-blank (z-blanked b hb) refl (over Dot (reads-last (size-blanked s hs)))))))))))))))
     refl refl (simp (append_assoc, append-nil)) (omega arith)
 
 pub form_unary : (m : List ℕ) (base w a b c s : ℕ) → is_mnemonic m ≡ true → form_of m (codes " z.T, p/m, z.T") ≡ Some (Factors (1 ∷ 4194304 ∷ 1024 ∷ 32 ∷ []), base) → a < 32 → b < 32 → c < 16 → s < 4 → w < 2 ^ 32 → base + a * 1 + b * 32 + c * 1024 + s * 4194304 ≡ w → candidate (sve.unary_predicated (m ++ codes " ") (a ∷ b ∷ c ∷ s ∷ [])) ≡ Some w
 unfolding dot
 form_unary m base w a b c s h f ha hb hc hs hw e =
-    spelled m h f (over_space (reads-blank (z-blanked a ha) refl (over_dot (reads-blank (size-blanked s hs) refl (over_comma (reads-blank (p-blanked c hc) refl (over_merging (reads-blank (z-blanked b hb) refl (over_dot (reads-last (size-blanked s hs)))))))))))
+    spelled m h f (over Space (reads-blank (z-blanked a ha) refl (over Dot (reads-blank (size-blanked s hs) refl (over Comma (reads-blank (p-blanked c hc) refl (over Merging (reads-blank (z-blanked b hb) refl (over Dot (reads-last (size-blanked s hs)))))))))))
     refl refl (simp (append_assoc, append-nil)) (omega arith)
 
 pub form_extend : (m : List ℕ) (base w a b c : ℕ) → is_mnemonic m ≡ true → form_of m (codes " z.T, p/m, z.T") ≡ Some (Factors (1 ∷ 0 ∷ 1024 ∷ 32 ∷ []), base) → a < 32 → b < 32 → c < 16 → w < 2 ^ 32 → base + a * 1 + b * 32 + c * 1024 ≡ w → candidate (sve.extend_word (m ++ codes " ") (a ∷ b ∷ c ∷ [])) ≡ Some w
 unfolding dot
 form_extend m base w a b c h f ha hb hc hw e =
-    spelled m h f (over_space (reads-blank (z-blanked a ha) refl (over_dot (reads-blank d_size-blanked refl (over_comma (reads-blank (p-blanked c hc) refl (over_merging (reads-blank (z-blanked b hb) refl (over_dot (reads-last d_size-blanked))))))))))
+    spelled m h f (over Space (reads-blank (z-blanked a ha) refl (over Dot (reads-blank d_size-blanked refl (over Comma (reads-blank (p-blanked c hc) refl (over Merging (reads-blank (z-blanked b hb) refl (over Dot (reads-last d_size-blanked))))))))))
     refl refl (simp (append_assoc, append-nil)) (omega arith)
 
 -- L is the letter of the scalar
@@ -86,11 +86,11 @@ pub form_reduce : (L : List ℕ) → ((n : ℕ) → n < 32 → IsBlanked (L ++ d
     → base + a * 1 + b * 32 + c * 1024 + s * 4194304 ≡ w → candidate (sve.reduction (m ++ codes " ") L (a ∷ b ∷ c ∷ s ∷ [])) ≡ Some w
 unfolding dot
 form_reduce L is m base w a b c s h f ha hb hc hs hw e =
-    spelled m h f (over_space (reads-blank (is a ha) refl (over_comma (reads-blank (p-blanked c hc) refl (over_comma (reads-blank (z-blanked b hb) refl (over_dot (reads-last (size-blanked s hs)))))))))
+    spelled m h f (over Space (reads-blank (is a ha) refl (over Comma (reads-blank (p-blanked c hc) refl (over Comma (reads-blank (z-blanked b hb) refl (over Dot (reads-last (size-blanked s hs)))))))))
     refl refl (simp (append_assoc, append-nil)) (omega arith)
 
 pub form_compare_z : (m : List ℕ) (base w a b c d s : ℕ) → is_mnemonic m ≡ true → form_of m (codes " p.T, p/z, z.T, z.T") ≡ Some (Factors (1 ∷ 4194304 ∷ 1024 ∷ 32 ∷ 0 ∷ 65536 ∷ []), base) → a < 16 → b < 32 → c < 16 → d < 32 → s < 4 → w < 2 ^ 32 → base + a * 1 + b * 32 + c * 1024 + d * 65536 + s * 4194304 ≡ w → candidate (sve.compare_vectors (m ++ codes " ") (a ∷ b ∷ c ∷ d ∷ s ∷ [])) ≡ Some w
 unfolding dot
 form_compare_z m base w a b c d s h f ha hb hc hd hs hw e =
-    spelled m h f (over_space (reads-blank (p-blanked a ha) refl (over_dot (reads-blank (size-blanked s hs) refl (over_comma (reads-blank (p-blanked c hc) refl (over_zeroing (reads-blank (z-blanked b hb) refl (over_dot (reads-blank (size-blanked s hs) refl (over_comma (reads-blank (z-blanked d hd) refl (over_dot (reads-last (size-blanked s hs)))))))))))))))
+    spelled m h f (over Space (reads-blank (p-blanked a ha) refl (over Dot (reads-blank (size-blanked s hs) refl (over Comma (reads-blank (p-blanked c hc) refl (over Zeroing (reads-blank (z-blanked b hb) refl (over Dot (reads-blank (size-blanked s hs) refl (over Comma (reads-blank (z-blanked d hd) refl (over Dot (reads-last (size-blanked s hs)))))))))))))))
     refl refl (simp (append_assoc, append-nil)) (omega arith)

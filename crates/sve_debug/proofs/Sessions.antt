@@ -10,7 +10,7 @@ use Rattle.text_parts.specs.Parts.{is_byte, lines_of}
 use Rattle.machine_model.specs.Machine.{State}
 use Rattle.io_edges.specs.Sink.{GainsPart}
 use Rattle.sve_debug.specs.declared.command.Command.{Command}
-use Rattle.sve_debug.specs.declared.command.Command.TheVariants.{Step, Go, Back, Break, Show, Quit}
+use Rattle.sve_debug.specs.declared.command.Command.TheVariants.{Quit}
 use Rattle.sve_debug.specs.declared.session.SessionFault.{SessionFault}
 use Rattle.sve_debug.specs.Held.{Held, Stands}
 use Rattle.sve_debug.specs.Lines.{command_of}
@@ -28,11 +28,7 @@ text_by o d bad = elim o [ Some command ↦ command_text command d (after_comman
 quit_text : (o : Option Command) (d : Session) (bad : List ℕ) → is_quit o ≡ true → text_by o d bad ≡ []
 quit_text None d bad h = absurd cc
 quit_text (Some Quit) d bad h = refl
-quit_text (Some (Step n)) d bad h = absurd cc
-quit_text (Some (Go n)) d bad h = absurd cc
-quit_text (Some (Back n)) d bad h = absurd cc
-quit_text (Some (Break a)) d bad h = absurd cc
-quit_text (Some (Show p)) d bad h = absurd cc
+quit_text other d bad h = absurd cc
 
 -- a line that ends the session has no text
 pub no_text : (line : List ℕ) (d : Session) → quits line ≡ true → line_text line d ≡ []
