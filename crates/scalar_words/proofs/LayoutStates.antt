@@ -72,6 +72,19 @@ pub record Fixed (L : Layout) : Type 0 where
   pub args : List ℕ
   pub loaded : IsLoaded L args
 
+-- what stands in a register of a name's value: the value itself, or the low bits of a type
+abbrev pub Tells : Option Ty → ℤ → ℤ → Type 0
+Tells None z v = z ≡ v
+Tells (Some t) z v = word z % 2 ^ bits_of t ≡ word v % 2 ^ bits_of t
+
+-- and of the values of all names, by those that are held loosely
+abbrev pub Told : List Loose → (stand names : Names) → Type 0
+Told ls [] [] = Unit {0}
+Told ls [] (n ∷ ns) = ⊥
+Told ls (z ∷ zs) [] = ⊥
+Told ls (z ∷ zs) (n ∷ ns) = (z.name ≡ n.name) × Tells (loose_in ls n.name) z.value n.value × Told ls zs ns
+
+-- the registers have what stands of the names
 pub record At {L : Layout} (w : Fixed L) (homes : Homes) (ls : List Local) (names : Names) (m : Memory) (p : ℕ) (s : State) : Type 0 where
   pub sized : length s.x ≡ 31
   pub nine : x_at s 9 ≡ w.index
@@ -79,7 +92,9 @@ pub record At {L : Layout} (w : Fixed L) (homes : Homes) (ls : List Local) (name
   pub ranged : AreRanged ls names
   pub memory : s.memory ≡ m
   pub good : IsMemory m
-  pub held : Held homes names p s
+  pub stand : Names
+  pub told : Told L.loose stand names
+  pub held : Held homes stand p s
 
 pub lasts_less : (o : Option ℕ) (p q : ℕ) → q ≤ p → Lasts o p → Lasts o q
 lasts_less None p q le h = tt

@@ -1,6 +1,7 @@
 -- Where values are kept.
 use Rattle.std.specs.Prelude.{ℕ, ◌<◌, ◌≤◌, ℤ, List, Option, Some, None, option_map, unwrap_or, slice_index, nat_eq, Bool, false, ◌&&◌, bytes_eq}
 use Rattle.std.specs.List.{find}
+use Rattle.kernel_tree.specs.declared.ops.Ty.{Ty}
 use Rattle.loop_form.specs.Needs.{same_number}
 
 -- what a register may hold while iterations last: a number, or the address in another register and so many bytes more
@@ -12,11 +13,17 @@ pub record Constant : Type 0 where
   pub key : Key
   pub register : ℕ
 
--- by item: the register of its value, and the item that uses it last; and what is held
+-- an accumulator of which no more than the low bits of its type stand in its register while iterations last
+pub record Loose : Type 0 where
+  pub name : List ℕ
+  pub type : Ty
+
+-- by item: the register of its value, and the item that uses it last; what is held; and the accumulators that are held loosely
 pub record Layout : Type 0 where
   pub regs : List ℕ
   pub untils : List ℕ
   pub constants : List Constant
+  pub loose : List Loose
 
 abbrev pub reg_of : Layout → ℕ → ℕ
 reg_of L p = slice_index L.regs p
@@ -55,7 +62,23 @@ IsGiven p (OfAddress q c) = q < p
 
 -- a layout that holds these
 abbrev pub with_constants : Layout → List Constant → Layout
-with_constants L cs = record { regs = L.regs; untils = L.untils; constants = cs }
+with_constants L cs = record { regs = L.regs; untils = L.untils; constants = cs; loose = L.loose }
+
+-- ---- accumulators that are held loosely
+
+abbrev pub is_loose : List ℕ → Loose → Bool
+is_loose x l = bytes_eq l.name x
+
+abbrev pub loose_type : Loose → Ty
+loose_type l = l.type
+
+-- the type whose low bits of a name's value stand in its register; None where the value itself does
+abbrev pub loose_in : List Loose → List ℕ → Option Ty
+loose_in ls x = option_map loose_type (find (is_loose x) ls)
+
+-- a layout that holds these loosely
+abbrev pub with_loose : Layout → List Loose → Layout
+with_loose L ls = record { regs = L.regs; untils = L.untils; constants = L.constants; loose = ls }
 
 -- ---- names
 

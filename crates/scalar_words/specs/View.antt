@@ -7,6 +7,7 @@ use Rattle.scalar_words.specs.declared.constant.Constant.{Constant}
 use Rattle.scalar_words.specs.declared.constant.Key.{Key}
 use Rattle.scalar_words.specs.declared.constant.Key.TheVariants as key
 use Rattle.scalar_words.specs.declared.home.Home.{Home}
+use Rattle.scalar_words.specs.declared.loose.Loose.{Loose}
 use Rattle.scalar_words.specs.Layout as plain
 
 abbrev pub register_number : Bits 5 → ℕ
@@ -22,8 +23,14 @@ constant_of c = record { key = key_of c.key; register = c.register.number }
 abbrev pub constants_of : List Constant → List plain.Constant
 constants_of cs = map constant_of cs
 
-abbrev pub layout_of : List (Bits 5) → List ℕ → List Constant → plain.Layout
-layout_of regs untils constants = record { regs = map register_number regs; untils = untils; constants = constants_of constants }
+abbrev pub loose_of : Loose → plain.Loose
+loose_of l = record { name = lent_text l.name; type = l.ty }
+
+abbrev pub looses_of : List Loose → List plain.Loose
+looses_of ls = map loose_of ls
+
+abbrev pub layout_of : List (Bits 5) → List ℕ → List Constant → List Loose → plain.Layout
+layout_of regs untils constants loose = record { regs = map register_number regs; untils = untils; constants = constants_of constants; loose = looses_of loose }
 
 abbrev pub keyed : plain.Key → Constant → Bool
 keyed z c = plain.same_key (key_of c.key) z

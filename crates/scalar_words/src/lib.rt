@@ -3,6 +3,7 @@
 
 mod constant;
 mod home;
+mod loose;
 pub mod instructions;
 pub mod laws;
 pub mod names;
@@ -11,6 +12,7 @@ pub mod places;
 
 pub use constant::{Constant, Key, constant_in, is_same_number};
 pub use home::{Home, register_at, register_named};
+pub use loose::{Loose, loose_type};
 pub use names::kernel_homes;
 pub use operations::{emit_binary, emit_const, emit_settle, update_operator};
 pub use places::Places;

@@ -1,0 +1,23 @@
+//! Accumulators that are held loosely.
+
+ghost use Rattle.std.specs.Prelude.{◌≡◌, option_map};
+ghost use Rattle.kernel_tree.specs.Plain.{name_of};
+ghost use Rattle.scalar_words.specs.Layout.{loose_in};
+ghost use Rattle.scalar_words.specs.View.{looses_of};
+
+use kernel_tree::{Name, Ty};
+
+/// An accumulator of which no more than the low bits of its type stand in its register while iterations last.
+#[derive(Drop)]
+pub struct Loose<'a> {
+    pub name: &'a str,
+    pub ty: Ty,
+}
+
+/// The type whose low bits of a name's value stand in its register; None where the value itself does.
+pub fn loose_type(loose: &[Loose], name: &Name) -> Option<Ty>
+    ensures { result ≡ loose_in (looses_of loose.now) (name_of name.now) }
+{
+    let text = name.text();
+    loose.iter().find(|it| it.name == text).map(|it| it.ty)
+}
