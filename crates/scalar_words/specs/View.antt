@@ -1,6 +1,7 @@
 -- What contracts see of the layout and of the homes.
 use Rattle.std.specs.Prelude.{ℕ, List, map, Option, Some, None, option_map, Bool, bytes_eq}
 use Rattle.std.specs.List.{find}
+use Rattle.kernel_tree.specs.declared.ops.Ty.{Ty}
 use Rattle.word_rows.specs.declared.Bits.{Bits}
 use Rattle.kernel_scope.specs.Scopes.{lent_text}
 use Rattle.scalar_words.specs.declared.constant.Constant.{Constant}
@@ -28,6 +29,15 @@ loose_of l = record { name = lent_text l.name; type = l.ty }
 
 abbrev pub looses_of : List Loose → List plain.Loose
 looses_of ls = map loose_of ls
+
+abbrev pub called : List ℕ → Loose → Bool
+called x l = bytes_eq (lent_text l.name) x
+
+abbrev pub type_in : Loose → Ty
+type_in l = l.ty
+
+abbrev pub type_among : List Loose → List ℕ → Option Ty
+type_among ls x = option_map type_in (find (called x) ls)
 
 abbrev pub layout_of : List (Bits 5) → List ℕ → List Constant → List Loose → plain.Layout
 layout_of regs untils constants loose = record { regs = map register_number regs; untils = untils; constants = constants_of constants; loose = looses_of loose }

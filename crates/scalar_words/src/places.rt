@@ -100,7 +100,7 @@ impl<'a> Places<'a> {
 
     /// These are held loosely, and no others.
     pub fn loosen(&mut self, loose: Vec<Loose<'a>>)
-        ensures { self.new ≡ with_loose self.old (looses_of loose.items) }
+        ensures { self.new ≡ with_loose self.old (looses_of loose.entry.items) }
     {
         self.loose = loose;
     }
