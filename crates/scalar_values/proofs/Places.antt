@@ -14,28 +14,19 @@ use Rattle.kernel_meaning.specs.Eval.{Names, value_at, byte_count, address, read
 use Rattle.kernel_meaning.proofs.Residues.{word-below}
 use Rattle.label_fix.specs.DraftRun.{Entry, Laid}
 use Rattle.label_fix.proofs.StretchSteps.{Resolves}
-use Rattle.std.specs.List.{find}
 use Rattle.kernel_tree.specs.Typing.{Scope}
 use Rattle.kernel_meaning.specs.Eval.{iteration}
 use Rattle.scalar_values.specs.Fits.{IndexAt, FitsIndex}
 use Rattle.scalar_values.specs.HeldNumbers.{element_words}
-use Rattle.scalar_words.specs.Layout.{OfAddress, Layout, Home, Homes, is_home, LastsAt, reg_of, constant_at, register_at, IsMade, NameLasts}
-use Rattle.scalar_words.proofs.LayoutStates.{Assigned, Held, Fixed, At, lasts_less, name_held}
+use Rattle.scalar_words.specs.Layout.{OfAddress, Layout, Homes, reg_of, constant_at, register_at, IsMade, NameLasts}
+use Rattle.scalar_words.proofs.LayoutStates.{Assigned, Held, Fixed, Told}
+use Rattle.scalar_words.proofs.Told.{Standing}
+use Rattle.scalar_values.specs.Covers.{is_whole, index_covers}
+pub use Rattle.scalar_values.proofs.WholeNames.{name_less, index_is}
+use Rattle.scalar_values.proofs.WholeNames.{whole_held, whole_index}
 use Rattle.scalar_values.specs.ItemWords.{load_code}
 use Rattle.scalar_values.specs.Code.{key_at, place_of, placed_index, right_code}
 use Rattle.scalar_values.proofs.Loads.{Gives, word-sum, load_runs}
-
-name_less_in : (h : Option Home) (p q : ℕ) → q ≤ p → LastsAt h p → LastsAt h q
-name_less_in None p q le h = h
-name_less_in (Some h) p q le k = lasts_less h.last_use p q le k
-
-pub name_less : (hs : Homes) (x : List ℕ) (p q : ℕ) → q ≤ p → NameLasts hs x p → NameLasts hs x q
-name_less hs x p q le h = name_less_in (find (is_home x) hs) p q le h
-
--- the loop variable
-pub index_is : (hs : Homes) (i : Option (List ℕ)) (names : Names) (p b : ℕ) (st : State) → b ≤ p → IndexAt hs i p → length st.x ≡ 31 → Held hs names b st → x_at st 9 ≡ word (iteration i names)
-index_is hs None names p b st le h sized held = absurd h
-index_is hs (Some x) names p b st le h sized held = ap (x_at st) (sym h.0) ∙ name_held hs names x b st sized held (name_less hs x p b le h.1)
 
 pub some_words : (o : Option ℤ) (n : ℕ) → 1 ≤ element_words o n
 some_words (Some c) n = omega arith
@@ -76,13 +67,13 @@ pub record AtPlace (W : List ℕ) (names : Names) (a : List ℕ) (T : Ty) (o : O
   pub low : r ≤ 25
   pub value : x_at s r ≡ word (value_at names a +ℤ pos (byte_count T) *ℤ c)
 
-pub place_at : {L : Layout} {w : Fixed L} {hs : Homes} {ls : List Local} {names : Names} {m : Memory} {p : ℕ} {s : State} (fit : Assigned L) (a : List ℕ) (T : Ty) (o : Option ℤ) (r : ℕ) → place_of L (register_at hs a) (Some T) o ≡ Some r → NameLasts hs a p → At w hs ls names m p s → AtPlace w.args names a T o s r
-place_at {L = L} {w = w} {hs = hs} {names = names} {p = p} {s = s} fit a T o r e lasts at =
+pub place_at : {L : Layout} {w : Fixed L} {hs : Homes} {ls : List Local} {stand names : Names} {m : Memory} {p : ℕ} {s : State} (fit : Assigned L) (a : List ℕ) (T : Ty) (o : Option ℤ) (r : ℕ) → is_whole L.loose a ≡ true → place_of L (register_at hs a) (Some T) o ≡ Some r → NameLasts hs a p → Standing w hs ls stand names m p s → AtPlace w.args names a T o s r
+place_at {L = L} {w = w} {hs = hs} {stand = stand} {names = names} {p = p} {s = s} fit a T o r whole e lasts at =
     let q = register_at hs a in
     let k = is_place L q T o r e in
     let by = pos (byte_count T) *ℤ k.c in
     let low = fit.constants (OfAddress q by) r k.held in
-    let base : slice_index w.args q ≡ word (value_at names a) = sym (at.args q low.1) ∙ name_held hs names a p s at.sized at.held lasts in
+    let base : slice_index w.args q ≡ word (value_at names a) = sym (at.args q low.1) ∙ whole_held L.loose hs a stand names p s whole at.told at.sized at.held lasts in
     let same : word (pos (slice_index w.args q)) ≡ word (value_at names a) = ap (λ n. word (pos n)) base ∙ mod-eq_of_lt (word-below (value_at names a)) in
     record {
       c = k.c;
@@ -99,11 +90,11 @@ module _ (D : Laid) (L : Layout) (fit : Assigned L) where
   element_with None inner load res f g = f res
   element_with (Some p) inner load res f g = g p refl
 
-  pub placed_runs : {w : Fixed L} {hs : Homes} {ls : List Local} {names : Names} {m : Memory} {st : State} {rest : List Entry} (a : List ℕ) (T : Ty) (ot : Option Ty) (o : Option ℤ) (x : ℤ) (r p b : ℕ) → ot ≡ Some T → place_of L (register_at hs a) ot o ≡ Some r → NameLasts hs a b → b ≤ p → IsMade L p → x_at st 9 ≡ word x → At w hs ls names m b st
+  pub placed_runs : {w : Fixed L} {hs : Homes} {ls : List Local} {stand names : Names} {m : Memory} {st : State} {rest : List Entry} (a : List ℕ) (T : Ty) (ot : Option Ty) (o : Option ℤ) (x : ℤ) (r p b : ℕ) → is_whole L.loose a ≡ true → ot ≡ Some T → place_of L (register_at hs a) ot o ≡ Some r → NameLasts hs a b → b ≤ p → IsMade L p → x_at st 9 ≡ word x → Standing w hs ls stand names m b st
       → (number : Option ℤ → Option ℤ) → ((c : ℤ) → o ≡ Some c → number o ≡ Some (x +ℤ c))
       → Gives D L (load_code ot (reg_of L p) r 9 rest) st rest b (p + 1) (reg_of L p) m 1 (option_and_then (read_element ot m (value_at names a)) (number o))
-  placed_runs {w = w} {hs = hs} {names = names} {m = m} {st = st} {rest = rest} a T ot o x r p b type e lasts le made nine at number is =
-      let k = place_at fit a T o r (subst (λ t. place_of L (register_at hs a) t o ≡ Some r) type e) lasts at in
+  placed_runs {w = w} {hs = hs} {names = names} {m = m} {st = st} {rest = rest} a T ot o x r p b whole type e lasts le made nine at number is =
+      let k = place_at fit a T o r whole (subst (λ t. place_of L (register_at hs a) t o ≡ Some r) type e) lasts at in
       let base = value_at names a in
       let load = load_runs D L fit {rest = rest} T (base +ℤ pos (byte_count T) *ℤ k.c) x r 9 p b (p + 1) at.sized le (omega arith) made at.good at.memory k.low k.value nine in
       let there = subst (λ n. Gives D L (load_code (Some T) (reg_of L p) r 9 rest) st rest b (p + 1) (reg_of L p) m 1 (read_value T (loaded m n (byte_count T)))) (address_moved T base k.c x) load in
@@ -111,7 +102,8 @@ module _ (D : Laid) (L : Layout) (fit : Assigned L) where
       subst (λ i. Gives D L (load_code ot (reg_of L p) r 9 rest) st rest b (p + 1) (reg_of L p) m 1 (option_and_then (read_element ot m base) i)) (sym (is k.c k.offset)) typed
 
 -- the loop variable, where there is a place for an offset from it
-pub placed_nine : (L : Layout) (A : Type 0) (o : Option ℤ) (x : ℤ) (r : ℕ) (hs : Homes) (s : Scope) (a : List ℕ) (ot : Option Ty) (p b : ℕ) (st : State) (names : Names) → place_of L (register_at hs a) ot o ≡ Some r → FitsIndex o (IndexAt hs s.index p) A → b ≤ p → length st.x ≡ 31 → Held hs names b st → x_at st 9 ≡ word (iteration s.index names)
-placed_nine L A (Some c) x r hs s a ot p b st names e h le sized held = index_is hs s.index names p b st le h.1 sized held
-placed_nine L A None x r hs s a None p b st names e h le sized held = absurd cc
-placed_nine L A None x r hs s a (Some t) p b st names e h le sized held = absurd cc
+pub placed_nine : (L : Layout) (A : Type 0) (o : Option ℤ) (r : ℕ) (hs : Homes) (s : Scope) (a : List ℕ) (ot : Option Ty) (p b : ℕ) (st : State) (stand names : Names) (computed : Bool) → index_covers L.loose s.index o computed ≡ true → Told L.loose stand names → place_of L (register_at hs a) ot o ≡ Some r → FitsIndex o (IndexAt hs s.index p) A → b ≤ p → length st.x ≡ 31 → Held hs stand b st
+    → x_at st 9 ≡ word (iteration s.index names)
+placed_nine L A (Some c) r hs s a ot p b st stand names computed whole told e h le sized held = whole_index L.loose hs s.index stand names p b st whole told le h.1 sized held
+placed_nine L A None r hs s a None p b st stand names computed whole told e h le sized held = absurd cc
+placed_nine L A None r hs s a (Some t) p b st stand names computed whole told e h le sized held = absurd cc

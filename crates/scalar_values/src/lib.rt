@@ -1,6 +1,7 @@
 //! The code of expressions and conditions.
 #![tactic(auto)]
 
+pub mod covers;
 pub mod emit;
 pub mod extent;
 mod fusion;
@@ -14,6 +15,7 @@ mod registers;
 mod side;
 mod value;
 
+pub use covers::{covers, covers_index, covers_truth, held_extent, is_enough, is_whole};
 pub use emit::{emit_jump, emit_loose, emit_side};
 pub use extent::Extent;
 pub use side::Side;
