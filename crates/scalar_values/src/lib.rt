@@ -15,7 +15,6 @@ mod registers;
 mod side;
 mod value;
 
-pub use covers::{covers, covers_index, covers_truth, held_extent, is_enough, is_whole};
 pub use emit::{emit_jump, emit_loose, emit_side};
 pub use extent::Extent;
 pub use side::Side;
