@@ -99,7 +99,7 @@ module _ (D : Laid) (L : Layout) (fit : Assigned L) (hs : Homes) (s : Scope) (st
       (subst (λ x. Comes D (test_code L hs s l b n b2 answer rest) st (turn_steps s.index (Some l)) (4 * answer_size s.index answer + 3 + 2) i (finish s l answer x (iterations s l (bound_of l names - i) i m names))) is q))
   turns_run None b n b2 answer rest args i names m st fits res e at =
       subst (λ es. Comes D es st 0 (4 * answer_size s.index answer + 5) i (ended m 0 (returned s answer m names))) (sym res.0)
-      (comes_within 0 (4 * answer_size s.index answer + 5) (omega arith) (omega arith) (answer_runs D (bare L) (assigned_with L 0 [] [] tt fit) s rest 0 i 0 0 b2 (n + 1) answer (omega (arith, e)) (safe_with L [] [] b2 hs (safe b2)) (at b2) fits res.1))
+      (comes_within 0 (4 * answer_size s.index answer + 5) (omega arith) (omega arith) (answer_runs D (bare L) (assigned_with L 0 [] [] tt fit) s rest 0 i 0 0 b2 (n + 1) answer refl (omega (arith, e)) (safe_with L [] [] b2 hs (safe b2)) (at b2) fits res.1))
 
 -- ---- kernels
 
