@@ -67,7 +67,7 @@ module _ (D : Laid) (L : Layout) (fit : Assigned L) where
   placed_back true n rest h = h.1
   placed_back false n rest h = h
 
-  pick_back : (d p q n : ℕ) (rest : List Entry) → Resolves D (pick_code d p q n rest) → (following D n ≡ word_code (copy_word d q) (Place (n + 1) ∷ rest)) × ((following D (n + 1) ≡ rest) × Resolves D rest)
+  pub pick_back : (d p q n : ℕ) (rest : List Entry) → Resolves D (pick_code d p q n rest) → (following D n ≡ word_code (copy_word d q) (Place (n + 1) ∷ rest)) × ((following D (n + 1) ≡ rest) × Resolves D rest)
   pick_back d p q n rest h =
       let k = word_back D (copy_word d p) _ h in
       (k.0, word_back D (copy_word d q) _ k.1)

@@ -446,7 +446,7 @@ module _ (D : Laid) (L : Layout) (fit : Assigned L) where
         let computed = covers L.loose s Whole (index_type s i) i in
         let e : p + 1 ≡ b + (index_size o (term_size s.index i) + 1) = omega arith in
         element_with D L fit (place_of L (register_at hs a) ot o) _ (λ x y. load_code ot (reg_of L p) x y rest) res
-        (λ r. element_runs s a i T b n rest o computed k.0 k.1 refl h.0 h.1 h.2 (omega (arith, h.3)) safe at r
+        (λ r. element_runs s a i T b n rest o computed k.0 k.1 h.0 h.1 h.2 (omega (arith, h.3)) safe at r
         (λ none rest2. let inner = covers_at L.loose s Whole i (index_type s i) q.0 q.1 (computed_covers L.loose s.index o computed none k.1) in subst (λ w. Runs D L i hs s names m st b (b + term_size s.index i) n rest2 w) (sym q.1) (exact hs b (b + term_size s.index i) n i s stand names m (Some q.0) at.ranged at.told inner (loose_standing i s Whole q.0 b (b + term_size s.index i) n rest2 (omega arith) inner safe at))))
         (λ r is. subst (λ q. Gives D L (load_code ot (reg_of L p) r 9 rest) st rest b q (reg_of L p) m (element_words o (coded_words L.constants s.index i)) (option_and_then (read_element ot m (value_at names a)) (element_number o (iteration s.index names) (value s (index_type s i) i m names)))) e
         (give_more D L _ (some_words o (coded_words L.constants s.index i)) (placed_runs D L fit a T ot o (iteration s.index names) r p b k.0 h.0 is (name_less hs a p b (omega arith) h.2) (omega arith) (omega (arith, h.3)) (placed_nine L _ o r hs s a ot p b st stand names computed k.1 at.told is h.1 (omega arith) at.sized at.held) at
@@ -675,10 +675,6 @@ module _ (D : Laid) (L : Layout) (fit : Assigned L) where
       → Resolves D (parts_code L hs s w (Some T) b n e rest)
       → Sided D L (parts_code L hs s w (Some T) b n e rest) st rest b (b + term_size s.index e) (IsOperand (part_side L hs s.index (Some T) b e)) m (coded_words L.constants s.index e) (loose s w (Some T) e m at.stand names)
   parts_runs e s op w T b user n rest le cov f safe at h res = parts_standing e s op w T b user n rest le cov f safe (standing at) h res
-
-  pub flags_run : (e : Term) {w : Fixed L} {hs : Homes} (s : Scope) {names : Names} {m : Memory} {st : State} (b n k : ℕ) (rest : List Entry) → flag_condition s e ≡ Some k → covers_truth L.loose s e ≡ true → AreSafe L b hs → At w hs s.visible names m b st → FitsTruth L hs s b e → Resolves D (flags_code L hs s b n e rest)
-      → Flagged D L (flags_code L hs s b n e rest) st rest b (b + term_size s.index e) k m (coded_words L.constants s.index e) (holds s e m names)
-  flags_run e s b n k rest is cov safe at h res = flags_standing e s b n k rest is cov safe (standing at) h res
 
   -- what the code of a condition does
   pub jump_runs : (e : Term) {w : Fixed L} {hs : Homes} (s : Scope) {names : Names} {m : Memory} {st : State} (sense : Bool) (to b n : ℕ) (rest : List Entry) → covers_truth L.loose s e ≡ true → AreSafe L b hs → At w hs s.visible names m b st → FitsTruth L hs s b e → Resolves D (jump_code L hs s sense to b n e rest)
