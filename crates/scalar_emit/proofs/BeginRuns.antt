@@ -32,12 +32,16 @@ use Rattle.scalar_emit.specs.KernelFits.{AreSafeVars, KernelFits}
 use Rattle.scalar_words.specs.Iterations.{AreHeld}
 use Rattle.scalar_emit.specs.Runs.{Begins, begin_steps, BeginRuns}
 use Rattle.scalar_words.proofs.AssignedOf.{counted-low}
-use Rattle.scalar_words.proofs.LayoutStates.{Assigned, Changes, AreSafe, Held, Fixed, At, frame_of, wrote, wrote_same, wrote_other, wrote_sized, kept_none, at_kept, safe_later}
+use Rattle.scalar_words.proofs.LayoutStates.{Assigned, Changes, AreSafe, Held, Fixed, Told, At, frame_of, wrote, wrote_same, wrote_other, wrote_sized, kept_none, at_kept, safe_later}
 use Rattle.scalar_values.proofs.Loads.{Gives, a_value}
 use Rattle.scalar_words.proofs.WordsRuns.{extension_is, wide_wrap, copied_sets}
 use Rattle.kernel_meaning.specs.TypeValues.{IsOf}
 use Rattle.scalar_values.proofs.Ranges.{value-range}
 use Rattle.scalar_words.proofs.Constants.{word_back}
+use Rattle.scalar_words.proofs.Told.{told_same, told_more, told_none}
+use Rattle.scalar_values.specs.Covers.{covers}
+use Rattle.scalar_values.specs.declared.extent.Extent.TheVariants.{Whole}
+use Rattle.scalar_values.proofs.CoversNone.{covers_none}
 use Rattle.scalar_values.proofs.ValueRuns.{give_more, value_runs, value_back}
 use Rattle.scalar_values.proofs.CodedSizes.{coded_few}
 use Rattle.kernel_meaning.proofs.NameRanges.{ranged_more}
@@ -171,7 +175,9 @@ module _ (D : Laid) (L : Layout) (fit : Assigned L) (R : ℕ → ℕ) where
         ranged = ranged_more s.visible names (local v.name (binding.Accumulator v.type)) x next.ranged range;
         memory = k.memory ∙ next.memory;
         good = next.good;
-        held = held_more hs names (var_home R j v) x (q + 1) end (held_others D L fit hs names d (q + 1) st end (safe_later L hs q (q + 1) (omega arith) safe) next.held k others) (λ l. is);
+        stand = with_name v.name next.stand x;
+        told = told_more L.loose next.stand names v.name x next.told;
+        held = held_more hs next.stand (var_home R j v) x (q + 1) end (held_others D L fit hs next.stand d (q + 1) st end (safe_later L hs q (q + 1) (omega arith) safe) next.held k others) (λ l. is);
       }
 
   -- an initial value into its register, and then the other accumulators
@@ -197,14 +203,15 @@ module _ (D : Laid) (L : Layout) (fit : Assigned L) (R : ℕ → ℕ) where
   vars_first [] hs s j b h = h
   vars_first (v ∷ vs) hs s j b h = h.0
 
-  pub vars_runs : (vs : List Accumulator) {w : Fixed L} {hs : Homes} (s : Scope) {names : Names} {m : Memory} {st : State} (j b n : ℕ) (rest : List Entry) → AreSafeVars L R hs s j b vs → HighVars R j vs → FitsVars L R hs s j b vs → At w hs s.visible names m b st → Resolves D (vars_code L R hs s j b n vs rest)
+  pub vars_runs : (vs : List Accumulator) {w : Fixed L} {hs : Homes} (s : Scope) {names : Names} {m : Memory} {st : State} (j b n : ℕ) (rest : List Entry) → L.loose ≡ [] → AreSafeVars L R hs s j b vs → HighVars R j vs → FitsVars L R hs s j b vs → At w hs s.visible names m b st → Resolves D (vars_code L R hs s j b n vs rest)
       → Starts D w (vars_code L R hs s j b n vs rest) st rest (hs ++ var_homes R j vs) (after_vars s vs).visible (b + vars_size s.index vs) m (4 * vars_size s.index vs) (initial s vs m names)
-  vars_runs [] {w = w} {hs = hs} s {names = names} {m = m} {st = st} j b n rest safe high fits at res =
+  vars_runs [] {w = w} {hs = hs} s {names = names} {m = m} {st = st} j b n rest none safe high fits at res =
       starts_at (b + 0) (omega arith) (starts st (stay 0) (subst (λ hs. At w hs s.visible names m b st) (sym (append-nil hs)) at) refl)
-  vars_runs (v ∷ vs) {hs = hs} s {names = names} {m = m} j b n rest safe high fits at res =
+  vars_runs (v ∷ vs) {hs = hs} s {names = names} {m = m} j b n rest none safe high fits at res =
+      let covered : covers L.loose s Whole (Some v.type) v.init ≡ true = subst (λ ls. covers ls s Whole (Some v.type) v.init ≡ true) (sym none) (covers_none v.init s Whole (Some v.type)) in
       vars_step (value s (Some v.type) v.init m names) v vs s j b n rest safe high.0 fits at refl
-      (give_more D L (4 * term_size s.index v.init) (coded_few v.init L.constants s.index) (value_runs D L fit v.init s v.type b (b + term_size s.index v.init) n _ (omega arith) safe.0 at fits.0 res))
-      (λ x st at1. vars_runs vs (after_var s v) (j + 1) (b + term_size s.index v.init + 1) (n + labels s.index v.init) rest safe.2 high.1 fits.1 at1 (word_back D (copy_word (counted_x (R j)) (home L hs s.index b v.init)) _ (value_back D L fit v.init hs s (Some v.type) b n _ res)))
+      (give_more D L (4 * term_size s.index v.init) (coded_few v.init L.constants s.index) (value_runs D L fit v.init s v.type b (b + term_size s.index v.init) n _ (omega arith) covered safe.0 at fits.0 res))
+      (λ x st at1. vars_runs vs (after_var s v) (j + 1) (b + term_size s.index v.init + 1) (n + labels s.index v.init) rest none safe.2 high.1 fits.1 at1 (word_back D (copy_word (counted_x (R j)) (home L hs s.index b v.init)) _ (value_back D L fit v.init hs s (Some v.type) b n _ res)))
 
 -- ---- X9
 
@@ -235,7 +242,9 @@ at_zero {hs = hs} {names = names} {p = p} {s = s} e at =
       ranged = at.ranged;
       memory = at.memory;
       good = at.good;
-      held = held_like hs names p s (wrote s 9 0) f at.held;
+      stand = at.stand;
+      told = at.told;
+      held = held_like hs at.stand p s (wrote s 9 0) f at.held;
     }
 
 starts_zero : {D : Laid} {M : Layout} {w : Fixed M} {c rest : List Entry} {s : State} {hs : Homes} {ls : List Local} {p most : ℕ} {m : Memory} {o : Option Names} → w.index ≡ 0 → Starts D w c s (zero_index rest) hs ls p m most o → Starts D w c s rest hs ls p m (most + 1) o
@@ -300,14 +309,14 @@ past_arguments : (args : List ℕ) (n : ℕ) → length args ≤ n → slice_ind
 past_arguments args n le = get_or_past args n 0 le
 
 -- the names with which the loop starts
-begun : {D : Laid} {R : ℕ → ℕ} {k : Program} {M : Layout} {w : Fixed M} {c rest : List Entry} {s : State} {args : List ℕ} {m : Memory} {most : ℕ} {o : Option Names} (names : Names) → AreSteady (kernel_homes R k) → w.index ≡ 0 → started k args m ≡ o → o ≡ Some names → Starts D w c s rest (kernel_homes R k) (var_scope k).visible (loop_start k) m most o → Begins R k D c s rest args m most
-begun names steady none e f cannot = absurd cc
-begun {R = R} {k = k} {m = m} names steady none e f (starts {names = found} end g at h) = record {
+begun : {D : Laid} {R : ℕ → ℕ} {k : Program} {M : Layout} {w : Fixed M} {c rest : List Entry} {s : State} {args : List ℕ} {m : Memory} {most : ℕ} {o : Option Names} (names : Names) → M.loose ≡ [] → AreSteady (kernel_homes R k) → w.index ≡ 0 → started k args m ≡ o → o ≡ Some names → Starts D w c s rest (kernel_homes R k) (var_scope k).visible (loop_start k) m most o → Begins R k D c s rest args m most
+begun names bare steady none e f cannot = absurd cc
+begun {R = R} {k = k} {M = M} {m = m} names bare steady none e f (starts {names = found} end g at h) = record {
   names = found;
   starts = e;
   end = end;
   goes = g;
-  at = record { sized = at.sized; index = at.nine ∙ none; ranged = at.ranged; held = all_held (kernel_homes R k) found (loop_start k) end steady at.held; memory = at.memory; good = at.good };
+  at = record { sized = at.sized; index = at.nine ∙ none; ranged = at.ranged; held = all_held (kernel_homes R k) found (loop_start k) end steady (subst (λ ns. Held (kernel_homes R k) ns (loop_start k) end) (told_none at.stand found (subst (λ ls. Told ls at.stand found) bare at.told)) at.held); memory = at.memory; good = at.good };
   frame = h;
 }
 
@@ -326,11 +335,13 @@ begin_runs R k checked few fits D n rest args m st has res =
       ranged = given_ranged k.params (empty (loop_index k)) [] args tt;
       memory = a.memory ∙ has.memory;
       good = has.good;
+      stand = argument_names k.params args;
+      told = told_same [] (argument_names k.params args);
       held = held_given 0 k.params args (length k.params) a.end a.wrapped;
     } in
     let high = high_vars L R 0 0 k.vars (safe_right L 0 (param_homes 0 k.params) (var_homes R 0 k.vars) (fits.safe 0)) in
-    let v = vars_runs D L fits.assigned R k.vars (param_scope k) 0 (length k.params) n (zero_index rest) fits.vars_safe high fits.vars at (arguments_back D 0 k.params following res) in
+    let v = vars_runs D L fits.assigned R k.vars (param_scope k) 0 (length k.params) n (zero_index rest) refl fits.vars_safe high fits.vars at (arguments_back D 0 k.params following res) in
     let i = ap (λ i. vars_size i k.vars) (param_index k) in
     let steps : length k.params + (4 * vars_size (param_scope k).index k.vars + 1) ≤ begin_steps k = omega (arith, i) in
     let known = all_start k args m checked in
-    begun known.0 fits.steady refl refl known.1 (starts_after (begin_steps k) steps a.goes a.frame (starts_at (loop_start k) (ap (λ n. length k.params + n) i) (starts_zero refl v)))
+    begun known.0 refl fits.steady refl refl known.1 (starts_after (begin_steps k) steps a.goes a.frame (starts_at (loop_start k) (ap (λ n. length k.params + n) i) (starts_zero refl v)))

@@ -14,12 +14,14 @@ use Rattle.kernel_tree.proofs.Names.{bytes_same, NoName, index_alone}
 use Rattle.loop_form.specs.Entries.{Entry, term_entries, params_entries, vars_entries, turns_entries, answer_entries, loop_entries, entries_of}
 use Rattle.loop_form.proofs.Numbers.{params-listed, vars-listed, term-listed, loop-listed}
 use Rattle.loop_form.proofs.NameUses.{AreUsesCounted, counted_left, counted_right, all_counted}
-use Rattle.scalar_words.specs.Layout.{Layout, Home, Homes, with_constants, is_home, register_of, LastsAt}
+use Rattle.scalar_words.specs.Layout.{Loose, Layout, Home, Homes, with_constants, with_loose, is_home, register_of, LastsAt}
 use Rattle.scalar_values.specs.Fits.{IndexAt}
+use Rattle.scalar_emit.specs.Loosening.{covers_block, turns_loose, held_loosely}
 use Rattle.scalar_emit.specs.LoopNumbers.{held_numbers, loop_layout, coded_block}
+use Rattle.scalar_emit.proofs.LooseBlocks.{AreTypedAt, loop_covered, loop_typed}
 use Rattle.scalar_values.specs.HeldNumbers.{loading_words}
 use Rattle.kernel_tree.proofs.Scopes.{scope_index}
-use Rattle.scalar_emit.specs.Loop.{index_home, with_index, bare, FitsAnswer, FitsLoop}
+use Rattle.scalar_emit.specs.Loop.{index_home, with_index, bare, NoHome, FitsAnswer, FitsLoop}
 use Rattle.scalar_emit.proofs.HoldBlocks.{numbers_next, numbers_few, spread_with, kernel_clear}
 use Rattle.scalar_words.specs.KernelRegisters.{counted_x, x_last_use, layout_of_kernel, param_homes, var_home, var_homes, kernel_homes, AreChosen}
 use Rattle.scalar_emit.specs.Kernel.{FitsVars}
@@ -28,26 +30,11 @@ use Rattle.scalar_words.proofs.SpreadOf.{spread_of}
 use Rattle.scalar_values.proofs.FitsOf.{Sits, untils}
 use Rattle.scalar_words.proofs.NameHomes.{Spread, numbers, AreHomes, homes_later, homes_on, is_at, register_is, others_new, are_safe}
 use Rattle.scalar_emit.proofs.FitsBlocks.{sits_first, sits_second, sits_next, IsIndexed, value_stands, block_fits}
+use Rattle.scalar_emit.proofs.LooseHomes.{no_home-append, no_param_home, no_var_home, AreApart, vars_apart, held_loose}
 use Rattle.scalar_words.proofs.KernelNames.{names_fit, scope_at, param_scope_is, var_scope_is, others-append, params_nine, vars_nine, numbers_on, numbers_params, first_are, kernel_are}
 use Rattle.kernel_tree.specs.declared.fault.Binding.TheVariants as binding
 
 -- ---- the loop variable's name is no other's
-
-abbrev NoHome : List ℕ → Homes → Type 0
-NoHome x [] = Unit {0}
-NoHome x (h ∷ hs) = (is_home x h ≡ false) × NoHome x hs
-
-no_home-append : (x : List ℕ) (hs gs : Homes) → NoHome x hs → NoHome x gs → NoHome x (hs ++ gs)
-no_home-append x [] gs h k = k
-no_home-append x (y ∷ hs) gs h k = (h.0, no_home-append x hs gs h.1 k)
-
-no_param_home : (x : List ℕ) (n : ℕ) (ps : List Parameter) → NoName x (locals_of ps) → NoHome x (param_homes n ps)
-no_param_home x n [] h = tt
-no_param_home x n (p ∷ ps) h = (h.0, no_param_home x (n + 1) ps h.1)
-
-no_var_home : (x : List ℕ) (R : ℕ → ℕ) (j : ℕ) (vs : List Accumulator) → NoName x (accs_of vs) → NoHome x (var_homes R j vs)
-no_var_home x R j [] h = tt
-no_var_home x R j (v ∷ vs) h = (h.0, no_var_home x R (j + 1) vs h.1)
 
 index_homeless : (R : ℕ → ℕ) (k : Program) (l : PlainLoop) → check_fault k ≡ None → k.turns ≡ Some l → NoHome l.index (kernel_homes R k)
 index_homeless R k l e loop =
@@ -119,13 +106,13 @@ module _ (R : ℕ → ℕ) (k : Program) (L : Layout) (all : List Entry) where
 -- ---- the loop
 
 module _ (R : ℕ → ℕ) (k : Program) (L : Layout) (all : List Entry) (few : length k.params ≤ 8) (spread : Spread R L (length k.vars)) where
-  loop_fits : (l : PlainLoop) (tk : List (List ℕ)) (b b2 : ℕ) (rest : List ℕ) → k.turns ≡ Some l → loop_index k ≡ Some l.index → NoHome l.index (kernel_homes R k) → b ≤ b2 → turns_faults (scope_at k (locals_of k.params ++ accs_of k.vars) tk false) b (Some l) ≡ [] → answer_faults (after_turns (scope_at k (locals_of k.params ++ accs_of k.vars) tk false) (Some l)) b2 k.answer ≡ []
+  loop_fits : (l : PlainLoop) (tk : List (List ℕ)) (b b2 : ℕ) (rest : List ℕ) → AreApart k.vars → k.turns ≡ Some l → held_loosely k ≡ turns_loose (scope_at k (locals_of k.params ++ accs_of k.vars) tk false) (Some l) → loop_index k ≡ Some l.index → NoHome l.index (kernel_homes R k) → b ≤ b2 → turns_faults (scope_at k (locals_of k.params ++ accs_of k.vars) tk false) b (Some l) ≡ [] → answer_faults (after_turns (scope_at k (locals_of k.params ++ accs_of k.vars) tk false) (Some l)) b2 k.answer ≡ []
       → Sits L.untils b (untils all (turns_entries k b (Some l)) rest) → AreUsesCounted all (turns_entries k b (Some l)) → Sits L.untils b2 (untils all (answer_entries k b2 k.answer) []) → AreUsesCounted all (answer_entries k b2 k.answer)
-      → FitsLoop (with_constants L (held_numbers R k)) (kernel_homes R k) (scope_at k (locals_of k.params ++ accs_of k.vars) tk false) l b b2 k.answer
-  loop_fits l tk b b2 rest turns ix alone le f fa h c ha ca =
-      let N = with_constants L (held_numbers R k) in
+      → FitsLoop (with_loose (with_constants L (held_numbers R k)) (held_loosely k)) (kernel_homes R k) (scope_at k (locals_of k.params ++ accs_of k.vars) tk false) l b b2 k.answer
+  loop_fits l tk b b2 rest apart turns loose ix alone le f fa h c ha ca =
+      let N = with_loose (with_constants L (held_numbers R k)) (held_loosely k) in
       let p = length k.params in
-      let inner : Spread R N (length k.vars) = spread_with R L (length k.vars) p (held_numbers R k) (numbers_next R k) spread in
+      let inner : Spread R N (length k.vars) = spread_with R L (length k.vars) p (held_numbers R k) (held_loosely k) (numbers_next R k) spread in
       let v = locals_of k.params ++ accs_of k.vars in
       let hs = kernel_homes R k in
       let S = scope_at k v tk false in
@@ -146,8 +133,10 @@ module _ (R : ℕ → ℕ) (k : Program) (L : Layout) (all : List Entry) (few : 
         params = p;
         next = numbers_next R k;
         clear = kernel_clear R k;
-        few = subst (λ i. loading_words (held_numbers R k) + coded_block (held_numbers R k) i l.body ≤ 4 * block_size i l.body) (scope_index k) (numbers_few R k l turns);
-        answered = answer_fits R k (bare N) all few (spread_with R N (length k.vars) p [] tt inner) k.answer (v ++ local l.index binding.Index ∷ []) (insert_name tk l.index) (with_index hs l) b2 (are b2) fa ha ca;
+        few = subst (λ i. length (held_loosely k) + loading_words (held_numbers R k) + coded_block (held_numbers R k) i l.body ≤ 4 * block_size i l.body) (scope_index k) (numbers_few R k l turns);
+        covered = subst (λ ls. covers_block ls (in_loop S l) l.body ≡ true) (sym loose) (loop_covered l S);
+        loosely = held_loose k R N all few inner apart tk b (kernel_are R k N all b) l (held_loosely k) (subst (AreTypedAt (in_loop S l)) (sym loose) (loop_typed l S));
+        answered = answer_fits R k (bare N) all few (spread_with R N (length k.vars) p [] [] tt inner) k.answer (v ++ local l.index binding.Index ∷ []) (insert_name tk l.index) (with_index hs l) b2 (are b2) fa ha ca;
         following = le;
       }
     where
@@ -217,7 +206,7 @@ module _ (R : ℕ → ℕ) (k : Program) (checked : check_fault k ≡ None) (few
       let h : Sits us (loop_start k) (untils all (turns_entries k (loop_start k) (Some l)) (untils all xs [])) = subst (λ o. Sits us (loop_start k) (untils all (turns_entries k (loop_start k) o) (untils all xs []))) e (sits_first all us ls xs (loop_start k) [] at_loop) in
       let u : AreUsesCounted all (turns_entries k (loop_start k) (Some l)) = subst (λ o. AreUsesCounted all (turns_entries k (loop_start k) o)) e (counted_left all ls xs counted_loop) in
       subst (λ s. FitsLoop (loop_layout R k) (kernel_homes R k) s l (loop_start k) (loop_end k) k.answer) (sym s)
-      (loop_fits R k L all few spread l (var_scope k).taken (loop_start k) (loop_end k) _ e ix (index_homeless R k l checked e) (omega arith) (subst (λ s. turns_faults s (loop_start k) (Some l) ≡ []) s f0) (subst (λ s. answer_faults (after_turns s (Some l)) (loop_end k) k.answer ≡ []) s a0) h u at_answer (counted_right all ls xs counted_loop))
+      (loop_fits R k L all few spread l (var_scope k).taken (loop_start k) (loop_end k) _ (vars_apart k checked) e (ap (turns_loose (var_scope k)) e ∙ ap (λ s. turns_loose s (Some l)) s) ix (index_homeless R k l checked e) (omega arith) (subst (λ s. turns_faults s (loop_start k) (Some l) ≡ []) s f0) (subst (λ s. answer_faults (after_turns s (Some l)) (loop_end k) k.answer ≡ []) s a0) h u at_answer (counted_right all ls xs counted_loop))
 
   straight_fit : k.turns ≡ None → FitsAnswer L (kernel_homes R k) (var_scope k) (loop_end k) k.answer
   straight_fit e =

@@ -17,6 +17,7 @@ use Rattle.kernel_meaning.proofs.Residues.{word-below}
 use Rattle.label_fix.specs.DraftRun.{Entry, Place, Laid, following}
 use Rattle.label_fix.proofs.StretchSteps.{Goes, Resolves, stay, end_after, stop_after, stop_more, pass}
 use Rattle.scalar_words.specs.Layout.{Layout, Homes, register_at}
+use Rattle.scalar_emit.specs.Loosening.{held_loosely}
 use Rattle.scalar_emit.specs.LoopNumbers.{held_numbers, loop_layout}
 use Rattle.scalar_emit.specs.Loop.{answer_code, bare, test_code, loop_code, FitsAnswer, FitsLoop}
 use Rattle.scalar_words.specs.KernelRegisters.{layout_of_kernel, kernel_homes, register_in}
@@ -26,6 +27,7 @@ use Rattle.scalar_words.specs.Safe.{AreSteady}
 use Rattle.scalar_words.specs.Iterations.{AreHeld, AtIteration, Comes, ends_so, faults_so}
 use Rattle.scalar_emit.specs.Runs.{end_steps, ScalarRuns}
 use Rattle.scalar_words.proofs.LayoutStates.{Assigned, AreSafe, Held, At, name_held}
+use Rattle.scalar_words.proofs.Told.{told_same, told_none}
 use Rattle.scalar_emit.proofs.HoldBlocks.{numbers_next, assigned_with, safe_with}
 use Rattle.scalar_emit.proofs.LoopRuns.{fixed_at, none_loaded, answer_runs, loop_runs}
 use Rattle.scalar_words.proofs.ChosenOf.{chosen_all}
@@ -57,6 +59,8 @@ at_head L R k i names m s p at = record {
   ranged = at.ranged;
   memory = at.memory;
   good = at.good;
+  stand = names;
+  told = told_same [] names;
   held = held_all (kernel_homes R k) names p s at.held;
 }
 
@@ -85,7 +89,8 @@ module _ (D : Laid) (L : Layout) (fit : Assigned L) (hs : Homes) (s : Scope) (st
   turns_run (Some l) b n b2 answer rest args i names m st fits res le at =
       let r = register_at hs l.bound in
       let a = at b in
-      let is : slice_index args r ≡ bound_of l names = sym (a.args r fits.bound_low) ∙ name_held hs names l.bound b st a.sized a.held fits.bound in
+      let same = told_none a.stand names a.told in
+      let is : slice_index args r ≡ bound_of l names = sym (a.args r fits.bound_low) ∙ name_held hs a.stand l.bound b st a.sized a.held fits.bound ∙ ap (bound_of l) same in
       let small : slice_index args r < 2 ^ 64 = omega (arith, is, word-below (value_at names l.bound)) in
       let sum : i + (bound_of l names - i) ≡ slice_index args r = omega (arith, is, le) in
       let q = loop_runs D L fit hs s l b n b2 answer rest fits steady (safe b) res args small (bound_of l names - i) i names m st sum a in
@@ -94,7 +99,7 @@ module _ (D : Laid) (L : Layout) (fit : Assigned L) (hs : Homes) (s : Scope) (st
       (subst (λ x. Comes D (test_code L hs s l b n b2 answer rest) st (turn_steps s.index (Some l)) (4 * answer_size s.index answer + 3 + 2) i (finish s l answer x (iterations s l (bound_of l names - i) i m names))) is q))
   turns_run None b n b2 answer rest args i names m st fits res e at =
       subst (λ es. Comes D es st 0 (4 * answer_size s.index answer + 5) i (ended m 0 (returned s answer m names))) (sym res.0)
-      (comes_within 0 (4 * answer_size s.index answer + 5) (omega arith) (omega arith) (answer_runs D (bare L) (assigned_with L 0 [] tt fit) s rest 0 i 0 0 b2 (n + 1) answer (omega (arith, e)) (safe_with L [] b2 hs (safe b2)) (at b2) fits res.1))
+      (comes_within 0 (4 * answer_size s.index answer + 5) (omega arith) (omega arith) (answer_runs D (bare L) (assigned_with L 0 [] [] tt fit) s rest 0 i 0 0 b2 (n + 1) answer refl (omega (arith, e)) (safe_with L [] [] b2 hs (safe b2)) (at b2) fits res.1))
 
 -- ---- kernels
 
@@ -114,7 +119,7 @@ module _ (R : ℕ → ℕ) (k : Program) (fit : KernelFits R k) where
       let a = ap (λ j. answer_size j k.answer) j in
       let t = turn_size (var_scope k).index k.turns j in
       comes_within (4 * turns_size k.turns) (end_steps k) (omega (arith, t)) (omega (arith, a))
-      (turns_run D L (assigned_with (layout_of_kernel R k) p (held_numbers R k) next fit.assigned) hs (var_scope k) fit.steady (λ b. safe_with (layout_of_kernel R k) (held_numbers R k) b hs (fit.safe b)) k.turns (loop_start k) n (loop_end k) k.answer rest s.x i names m s (fits_turns L hs (var_scope k) (loop_start k) (loop_end k) k.answer k.turns fit.looped fit.straight) res le (λ p. at_head L R k i names m s p at))
+      (turns_run D L (assigned_with (layout_of_kernel R k) p (held_numbers R k) (held_loosely k) next fit.assigned) hs (var_scope k) fit.steady (λ b. safe_with (layout_of_kernel R k) (held_numbers R k) (held_loosely k) b hs (fit.safe b)) k.turns (loop_start k) n (loop_end k) k.answer rest s.x i names m s (fits_turns L hs (var_scope k) (loop_start k) (loop_end k) k.answer k.turns fit.looped fit.straight) res le (λ p. at_head L R k i names m s p at))
 
   pub scalar_runs : ScalarRuns R k
   scalar_runs = record {

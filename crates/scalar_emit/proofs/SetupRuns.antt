@@ -1,5 +1,5 @@
 -- What the words do that load what a loop holds.
-use Rattle.std.proofs.Common.{◌≡◌, ◌≢◌, ℕ, ◌+◌, ◌<◌, ◌≤◌, Bool, true, false, cond, List, [], ◌∷◌, length, Option, Some, refl, sym, ap, ◌∙◌, arith, ⊎_elim}
+use Rattle.std.proofs.Common.{◌≡◌, ◌≢◌, ℕ, ◌+◌, ◌<◌, ◌≤◌, Bool, true, false, cond, List, [], ◌∷◌, length, Option, Some, refl, sym, ap, ◌∙◌, subst, arith, ⊎_elim}
 use Rattle.std.specs.Prelude.{ℤ, pos, ◌+ℤ◌, option_map, slice_index, nat_lt}
 use Rattle.std.specs.List.{find}
 use Rattle.guest_types.specs.Memory.{Memory}
@@ -14,7 +14,8 @@ use Rattle.label_fix.specs.DraftRun.{Entry, Put, Laid}
 use Rattle.label_fix.specs.Finished.{size}
 use Rattle.label_fix.proofs.StretchSteps.{Goes, Resolves, stay, chain, go_more, put_goes}
 use Rattle.scalar_words.specs.Layout.{Key, OfNumber, OfAddress, Constant, Layout, Homes, is_constant, constant_register, constant_in}
-use Rattle.scalar_words.proofs.LayoutStates.{Assigned, key_word, Fixed, Held, At, wrote, wrote_same, wrote_other, wrote_sized}
+use Rattle.scalar_words.proofs.LayoutStates.{Assigned, key_word, Fixed, Held, Told, At, wrote, wrote_same, wrote_other, wrote_sized}
+use Rattle.scalar_words.proofs.Told.{told_same, told_none}
 use Rattle.scalar_words.proofs.Constants.{const_back, const_fills}
 use Rattle.scalar_words.proofs.Pieces.{const_put}
 use Rattle.scalar_words.proofs.WordCounts.{within, const_words}
@@ -127,13 +128,15 @@ held_clear p (x ∷ hs) (n ∷ ns) q s t clear low high h =
     (h.0, (λ l. ⊎_elim (λ (a : x.register < p). low x.register a) (λ (a : 9 ≤ x.register). high x.register (omega (arith, a))) clear.0 ∙ h.1 l), held_clear p hs ns q s t clear.1 low high h.2)
 
 -- names and numbers after them
-pub at_loaded : {M N : Layout} {D : Laid} {w : Fixed M} {c rest : List Entry} {hs : Homes} {ls : List Local} {names : Names} {m : Memory} {q p : ℕ} {s : State} (v : Fixed N) (cs : List Constant) (k : Loads D c s rest p 0 cs) → v.index ≡ w.index → v.args ≡ k.end.x → AreClear p hs → At w hs ls names m q s → At v hs ls names m q k.end
-at_loaded {hs = hs} {names = names} {q = q} {p = p} {s = s} v cs k e f clear at = record {
+pub at_loaded : {M N : Layout} {D : Laid} {w : Fixed M} {c rest : List Entry} {hs : Homes} {ls : List Local} {names : Names} {m : Memory} {q p : ℕ} {s : State} (v : Fixed N) (cs : List Constant) (k : Loads D c s rest p 0 cs) → M.loose ≡ [] → v.index ≡ w.index → v.args ≡ k.end.x → AreClear p hs → At w hs ls names m q s → At v hs ls names m q k.end
+at_loaded {M = M} {N = N} {hs = hs} {names = names} {q = q} {p = p} {s = s} v cs k none e f clear at = record {
   sized = k.sized ∙ at.sized;
   nine = k.high 9 (omega arith) ∙ at.nine ∙ sym e;
   args = λ r lt. ap (λ xs. slice_index xs r) (sym f);
   ranged = at.ranged;
   memory = k.memory ∙ at.memory;
   good = at.good;
-  held = held_clear p hs names q s k.end clear k.low k.high at.held;
+  stand = at.stand;
+  told = subst (λ zs. Told N.loose zs names) (sym (told_none at.stand names (subst (λ ls. Told ls at.stand names) none at.told))) (told_same N.loose names);
+  held = held_clear p hs at.stand q s k.end clear k.low k.high at.held;
 }

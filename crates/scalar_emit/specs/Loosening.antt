@@ -10,7 +10,8 @@ use Rattle.kernel_meaning.specs.Operators.{operator_of}
 use Rattle.kernel_meaning.specs.TypeValues.{binary_leaves}
 use Rattle.scalar_words.specs.Layout.{Loose, loose_in}
 use Rattle.scalar_words.specs.Words.{is_narrow}
-use Rattle.scalar_values.specs.Extents.{Whole, extent_at}
+use Rattle.scalar_values.specs.declared.extent.Extent.TheVariants.{Whole}
+use Rattle.scalar_values.specs.Extents.{extent_at}
 use Rattle.scalar_values.specs.Covers.{is_enough, is_whole, index_covers, covers, covers_truth}
 use Rattle.scalar_emit.specs.Statements.{update_extent}
 
