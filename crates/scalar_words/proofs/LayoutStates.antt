@@ -68,23 +68,27 @@ key_word args (OfAddress q c) = word (pos (slice_index args q) +ℤ c)
 abbrev pub IsLoaded : Layout → List ℕ → Type 0
 IsLoaded L args = (z : Key) (r : ℕ) → constant_at L z ≡ Some r → slice_index args r ≡ key_word args z
 
--- what stays in an iteration: its number, and the registers below X9, with the arguments and what is held
+-- what stays in an iteration: what stands in X9, how many iterations the loop has, and the registers below X9, with the
+-- arguments and what is held
 pub record Fixed (L : Layout) : Type 0 where
   pub index : ℕ
+  pub count : ℕ
   pub args : List ℕ
   pub loaded : IsLoaded L args
 
--- what stands in a register of a name's value: the value itself, or the low bits of a type
-abbrev pub Tells : Option Ty → ℤ → ℤ → Type 0
-Tells None z v = z ≡ v
-Tells (Some t) z v = word z % 2 ^ bits_of t ≡ word v % 2 ^ bits_of t
+-- what stands in a register of a name's value, in a loop of so many iterations
+abbrev pub Tells : (count : ℕ) → Option Form → ℤ → ℤ → Type 0
+Tells count None z v = z ≡ v
+Tells count (Some (LowBits t)) z v = word z % 2 ^ bits_of t ≡ word v % 2 ^ bits_of t
+Tells count (Some (Ahead t)) z v = z ≡ v +ℤ pos (byte_count t * count)
+Tells count (Some Behind) z v = z ≡ v -ℤ pos count
 
 -- and of the values of all names, by those that are held loosely
-abbrev pub Told : List Loose → (stand names : Names) → Type 0
-Told ls [] [] = Unit {0}
-Told ls [] (n ∷ ns) = ⊥
-Told ls (z ∷ zs) [] = ⊥
-Told ls (z ∷ zs) (n ∷ ns) = (z.name ≡ n.name) × Tells (loose_in ls n.name) z.value n.value × Told ls zs ns
+abbrev pub Told : List Loose → (count : ℕ) → (stand names : Names) → Type 0
+Told ls count [] [] = Unit {0}
+Told ls count [] (n ∷ ns) = ⊥
+Told ls count (z ∷ zs) [] = ⊥
+Told ls count (z ∷ zs) (n ∷ ns) = (z.name ≡ n.name) × Tells count (loose_in ls n.name) z.value n.value × Told ls count zs ns
 
 -- the registers have what stands of the names
 pub record At {L : Layout} (w : Fixed L) (homes : Homes) (ls : List Local) (names : Names) (m : Memory) (p : ℕ) (s : State) : Type 0 where
@@ -95,7 +99,7 @@ pub record At {L : Layout} (w : Fixed L) (homes : Homes) (ls : List Local) (name
   pub memory : s.memory ≡ m
   pub good : IsMemory m
   pub stand : Names
-  pub told : Told L.loose stand names
+  pub told : Told L.loose w.count stand names
   pub held : Held homes stand p s
 
 pub lasts_less : (o : Option ℕ) (p q : ℕ) → q ≤ p → Lasts o p → Lasts o q

@@ -13,12 +13,19 @@ pub record Constant : Type 0 where
   pub key : Key
   pub register : ℕ
 
--- an accumulator of which no more than the low bits of its type stand in its register while iterations last
+-- what stands in a name's register while iterations last, where it is not the value itself: an integer with the low bits of the
+-- value of a type; an array's address, ahead by as many elements of a type as the loop has iterations; a number, behind by as many
+pub data Form : Type 0 where
+  LowBits : Ty → Form
+  Ahead : Ty → Form
+  Behind : Form
+
 pub record Loose : Type 0 where
   pub name : List ℕ
-  pub type : Ty
+  pub form : Form
 
--- by item: the register of its value, and the item that uses it last; what is held; and the accumulators that are held loosely
+-- by item: the register of its value, and the item that uses it last; what is held; and the names whose registers do not hold
+-- the value itself
 pub record Layout : Type 0 where
   pub regs : List ℕ
   pub untils : List ℕ
@@ -64,17 +71,17 @@ IsGiven p (OfAddress q c) = q < p
 abbrev pub with_constants : Layout → List Constant → Layout
 with_constants L cs = record { regs = L.regs; untils = L.untils; constants = cs; loose = L.loose }
 
--- ---- accumulators that are held loosely
+-- ---- names that are held loosely
 
 abbrev pub is_loose : List ℕ → Loose → Bool
 is_loose x l = bytes_eq l.name x
 
-abbrev pub loose_type : Loose → Ty
-loose_type l = l.type
+abbrev pub loose_form : Loose → Form
+loose_form l = l.form
 
--- the type whose low bits of a name's value stand in its register; None where the value itself does
-abbrev pub loose_in : List Loose → List ℕ → Option Ty
-loose_in ls x = option_map loose_type (find (is_loose x) ls)
+-- what stands in a name's register; None where the value itself does
+abbrev pub loose_in : List Loose → List ℕ → Option Form
+loose_in ls x = option_map loose_form (find (is_loose x) ls)
 
 -- a layout that holds these loosely
 abbrev pub with_loose : Layout → List Loose → Layout

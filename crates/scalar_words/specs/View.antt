@@ -9,6 +9,8 @@ use Rattle.scalar_words.specs.declared.constant.Key.{Key}
 use Rattle.scalar_words.specs.declared.constant.Key.TheVariants as key
 use Rattle.scalar_words.specs.declared.home.Home.{Home}
 use Rattle.scalar_words.specs.declared.loose.Loose.{Loose}
+use Rattle.scalar_words.specs.declared.loose.Form.{Form}
+use Rattle.scalar_words.specs.declared.loose.Form.TheVariants as form
 use Rattle.scalar_words.specs.Layout as plain
 
 abbrev pub register_number : Bits 5 → ℕ
@@ -24,8 +26,13 @@ constant_of c = record { key = key_of c.key; register = c.register.number }
 abbrev pub constants_of : List Constant → List plain.Constant
 constants_of cs = map constant_of cs
 
+abbrev pub form_of : Form → plain.Form
+form_of (form.LowBits t) = plain.LowBits t
+form_of (form.Ahead t) = plain.Ahead t
+form_of form.Behind = plain.Behind
+
 abbrev pub loose_of : Loose → plain.Loose
-loose_of l = record { name = lent_text l.name; type = l.ty }
+loose_of l = record { name = lent_text l.name; form = form_of l.form }
 
 abbrev pub looses_of : List Loose → List plain.Loose
 looses_of ls = map loose_of ls
