@@ -1,20 +1,19 @@
 -- What stretches of code keep, and what stands in the registers.
-use Rattle.std.proofs.Common.{◌≡◌, ◌≢◌, ℕ, suc, ◌^◌, ◌<◌, ◌≤◌, Bool, true, false, List, [], ◌∷◌, length, ◌%◌, Option, Some, None, cond, refl, sym, ap, ◌∙◌, subst, arith, length-set, get_or-set_same, get_or-set_other}
-use Rattle.std.specs.Prelude.{ℤ, pos, ◌+ℤ◌, slice_index, unwrap_or, option_map, bytes_eq}
+use Rattle.std.proofs.Common.{◌≡◌, ◌≢◌, ℕ, suc, ◌*◌, ◌^◌, ◌<◌, ◌≤◌, Bool, true, false, List, [], ◌∷◌, length, ◌%◌, Option, Some, None, cond, refl, sym, ap, ◌∙◌, subst, arith, length-set, get_or-set_same, get_or-set_other}
+use Rattle.std.specs.Prelude.{ℤ, pos, ◌+ℤ◌, ◌-ℤ◌, slice_index, unwrap_or, option_map, bytes_eq}
 use Rattle.std.specs.List.{find}
 use Rattle.guest_types.specs.Memory.{Memory, IsMemory}
 use Rattle.machine_model.specs.Machine.{State, x_at, with_x, next}
 use Rattle.machine_model.specs.States.{IsState}
 use Rattle.machine_model.proofs.StateSteps.{moved, x_kept}
 use Rattle.kernel_meaning.specs.Operators.{word}
-use Rattle.kernel_meaning.specs.Eval.{Named, Names, is_named, value_at}
-use Rattle.kernel_tree.specs.declared.ops.Ty.{Ty}
+use Rattle.kernel_meaning.specs.Eval.{Named, Names, is_named, value_at, byte_count}
 use Rattle.kernel_tree.specs.Typing.{Local}
 use Rattle.kernel_tree.specs.Wrap.{bits_of}
 pub use Rattle.scalar_words.specs.Safe.{Assigned, IsSafe, AreSafe}
 pub use Rattle.kernel_meaning.specs.Ranges.{TypeRange, AreRanged}
 pub use Rattle.scalar_words.specs.Iterations.{Frame, frame_of}
-use Rattle.scalar_words.specs.Layout.{Key, OfNumber, OfAddress, Loose, loose_in, Layout, reg_of, constant_at, IsMade, Home, Homes, is_home, register_of, register_at, Lasts, LastsAt, NameLasts}
+use Rattle.scalar_words.specs.Layout.{Key, OfNumber, OfAddress, Form, LowBits, Ahead, Behind, Loose, loose_in, Layout, reg_of, constant_at, IsMade, Home, Homes, is_home, register_of, register_at, Lasts, LastsAt, NameLasts}
 
 -- the state after a word that writes one register
 abbrev pub wrote : State → ℕ → ℕ → State

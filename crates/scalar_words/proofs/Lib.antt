@@ -1,6 +1,6 @@
 pub mod RegisterAmong
 pub mod RegisterHolding
-pub mod TypeAmong
+pub mod FormAmong
 pub mod Words
 pub mod LayoutStates
 pub mod Told

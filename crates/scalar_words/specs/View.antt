@@ -1,7 +1,6 @@
 -- What contracts see of the layout and of the homes.
 use Rattle.std.specs.Prelude.{ℕ, List, map, Option, Some, None, option_map, Bool, bytes_eq}
 use Rattle.std.specs.List.{find}
-use Rattle.kernel_tree.specs.declared.ops.Ty.{Ty}
 use Rattle.word_rows.specs.declared.Bits.{Bits}
 use Rattle.kernel_scope.specs.Scopes.{lent_text}
 use Rattle.scalar_words.specs.declared.constant.Constant.{Constant}
@@ -40,11 +39,11 @@ looses_of ls = map loose_of ls
 abbrev pub called : List ℕ → Loose → Bool
 called x l = bytes_eq (lent_text l.name) x
 
-abbrev pub type_in : Loose → Ty
-type_in l = l.ty
+abbrev pub form_in : Loose → Form
+form_in l = l.form
 
-abbrev pub type_among : List Loose → List ℕ → Option Ty
-type_among ls x = option_map type_in (find (called x) ls)
+abbrev pub form_among : List Loose → List ℕ → Option Form
+form_among ls x = option_map form_in (find (called x) ls)
 
 abbrev pub layout_of : List (Bits 5) → List ℕ → List Constant → List Loose → plain.Layout
 layout_of regs untils constants loose = record { regs = map register_number regs; untils = untils; constants = constants_of constants; loose = looses_of loose }

@@ -8,14 +8,14 @@ ghost use Rattle.reg_assign.specs.declared.interval.RegClass.TheVariants.{X};
 ghost use Rattle.reg_assign.specs.Registers.{IsAssignment};
 ghost use Rattle.loop_form.specs.Registers.{FitsKernel};
 ghost use Rattle.scalar_words.specs.Layout.{reg_of, last_use_at, constant_at, with_constants, loose_in, with_loose};
-ghost use Rattle.scalar_words.specs.View.{constants_of, looses_of, key_of, register_number};
+ghost use Rattle.scalar_words.specs.View.{constants_of, looses_of, form_of, key_of, register_number};
 ghost use Rattle.scalar_words.specs.KernelRegisters.{counted_x, register_in, one_reg, one_value, count_values, item_regs, item_last_use, layout_of_kernel};
 
 use crate::constant::{Constant, Key, constant_in};
 use crate::laws::each_has_a_register;
-use crate::loose::{Loose, loose_type};
+use crate::loose::{Form, Loose, loose_form};
 use a64_code::Reg;
-use kernel_tree::{Checked, Name, Ty};
+use kernel_tree::{Checked, Name};
 use loop_form::Item;
 use loop_form::laws::few_items;
 use reg_assign::Assigned;
@@ -23,8 +23,8 @@ use std::alloc::{AllocError, Global};
 use std::marker::Model;
 use word_rows::Bits;
 
-/// The register and the last use of each item, the registers that hold numbers and addresses, and the accumulators that are
-/// held loosely.
+/// The register and the last use of each item, the registers that hold numbers and addresses, and the names that are held
+/// loosely.
 #[derive(Drop)]
 pub struct Places<'a> {
     regs: Vec<Reg>,
@@ -84,14 +84,14 @@ impl<'a> Places<'a> {
         self.constants = constants;
     }
 
-    /// The type whose low bits of a name's value stand in its register; None where the value itself does.
-    pub fn loose_type(&self, name: &Name) -> Option<Ty>
-        ensures { result ≡ loose_in self.now.loose (name_of name.now) }
+    /// What stands in a name's register; None where the value itself does.
+    pub fn loose_form(&self, name: &Name) -> Option<Form>
+        ensures { option_map form_of result ≡ loose_in self.now.loose (name_of name.now) }
     {
-        loose_type(&self.loose, name)
+        loose_form(&self.loose, name)
     }
 
-    /// The accumulators that are held loosely.
+    /// The names that are held loosely.
     pub fn loose(&self) -> &[Loose<'a>]
         ensures { looses_of result.now ≡ self.now.loose }
     {
