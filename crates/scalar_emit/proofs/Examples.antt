@@ -64,20 +64,21 @@ worked-loops : scalar_code registers worked 0 [] ≡
     ∷ ins sub_imm (7 ∷ 0 ∷ 1 ∷ 0 ∷ [])
     ∷ Place 2
     ∷ ins ldrsb_register (10 ∷ 0 ∷ 9 ∷ [])
-    ∷ Branch (Zero 10) 1
+    ∷ Branch (Zero 10) 3
     ∷ ins ldrsb_register (10 ∷ 0 ∷ 9 ∷ [])
     ∷ ins subs_imm (31 ∷ 10 ∷ 1 ∷ 0 ∷ [])
-    ∷ Branch (If 10) 3
+    ∷ Branch (If 10) 4
     ∷ ins ldrsb_register (10 ∷ 8 ∷ 9 ∷ [])
     ∷ ins strb_register (10 ∷ 0 ∷ 9 ∷ [])
-    ∷ Branch Always 4
-    ∷ Place 3
+    ∷ Branch Always 5
+    ∷ Place 4
     ∷ ins ldrsb_register (10 ∷ 7 ∷ 9 ∷ [])
     ∷ ins strb_register (10 ∷ 0 ∷ 9 ∷ [])
-    ∷ Place 4
+    ∷ Place 5
     ∷ ins add_imm (9 ∷ 9 ∷ 1 ∷ 0 ∷ [])
     ∷ ins subs (31 ∷ 9 ∷ 0 ∷ 1 ∷ 0 ∷ [])
     ∷ Branch (If 3) 2
+    ∷ Place 3
     ∷ Place 1
     ∷ ins movz (0 ∷ 0 ∷ 0 ∷ [])
     ∷ ins movz (8 ∷ 93 ∷ 0 ∷ [])
@@ -86,7 +87,7 @@ worked-loops : scalar_code registers worked 0 [] ≡
 unfolding item_type last_use_from
 worked-loops = refl
 
-worked-labels : (begin_labels worked ≡ 0) × (scalar_labels worked ≡ 5)
+worked-labels : (begin_labels worked ≡ 0) × (scalar_labels worked ≡ 6)
 worked-labels = (refl, refl)
 
 -- ---- literals that are held
@@ -127,6 +128,7 @@ bright-loops : scalar_code bright-registers bright 0 [] ≡
     ∷ ins add_imm (9 ∷ 9 ∷ 1 ∷ 0 ∷ [])
     ∷ ins subs (31 ∷ 9 ∷ 0 ∷ 1 ∷ 0 ∷ [])
     ∷ Branch (If 3) 2
+    ∷ Place 3
     ∷ Place 1
     ∷ ins movz (0 ∷ 0 ∷ 0 ∷ [])
     ∷ ins movz (8 ∷ 93 ∷ 0 ∷ [])
@@ -183,6 +185,7 @@ spread-loops : scalar_code registers spread 0 [] ≡
     ∷ ins add_imm (9 ∷ 9 ∷ 1 ∷ 0 ∷ [])
     ∷ ins subs (31 ∷ 9 ∷ 0 ∷ 1 ∷ 0 ∷ [])
     ∷ Branch (If 3) 2
+    ∷ Place 3
     ∷ Place 1
     ∷ ins movz (0 ∷ 0 ∷ 0 ∷ [])
     ∷ ins movz (8 ∷ 93 ∷ 0 ∷ [])

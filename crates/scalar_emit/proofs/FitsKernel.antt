@@ -6,7 +6,7 @@ use Rattle.std.proofs.lemmas.Option.{slice_get_within}
 use Rattle.kernel_tree.specs.declared.ops.Ty.TheVariants.{U64}
 use Rattle.kernel_tree.specs.Plain.{Parameter, Accumulator, PlainLoop, Returned, Program}
 use Rattle.kernel_tree.specs.Items.{term_size, block_size, vars_size, turns_size, index_of, loop_index, loop_start, loop_end}
-use Rattle.kernel_tree.specs.Typing.{Local, local, Value, lookup, insert_name, after_turns, faults, twice, vars_faults, bound_faults, turns_faults, answer_faults, param_scope, var_scope, check_fault}
+use Rattle.kernel_tree.specs.Typing.{Local, local, Value, lookup, insert_name, in_loop, after_turns, faults, twice, vars_faults, bound_faults, turns_faults, answer_faults, param_scope, var_scope, check_fault}
 use Rattle.kernel_tree.specs.Scopes.{locals_of, accs_of}
 use Rattle.kernel_tree.proofs.Faultless.{nil-left, nil-right, vars_faultless, turns_faultless, answer_faultless}
 use Rattle.kernel_tree.proofs.NoFault.{bound_known}

@@ -25,15 +25,15 @@ use Rattle.kernel_tree.specs.declared.ast.Shape.TheVariants as shape
 
 -- ---- names that no others have
 
-no_home-append : (x : List ℕ) (hs gs : Homes) → NoHome x hs → NoHome x gs → NoHome x (hs ++ gs)
+pub no_home-append : (x : List ℕ) (hs gs : Homes) → NoHome x hs → NoHome x gs → NoHome x (hs ++ gs)
 no_home-append x [] gs h k = k
 no_home-append x (y ∷ hs) gs h k = (h.0, no_home-append x hs gs h.1 k)
 
-no_param_home : (x : List ℕ) (n : ℕ) (ps : List Parameter) → NoName x (locals_of ps) → NoHome x (param_homes n ps)
+pub no_param_home : (x : List ℕ) (n : ℕ) (ps : List Parameter) → NoName x (locals_of ps) → NoHome x (param_homes n ps)
 no_param_home x n [] h = tt
 no_param_home x n (p ∷ ps) h = (h.0, no_param_home x (n + 1) ps h.1)
 
-no_var_home : (x : List ℕ) (R : ℕ → ℕ) (j : ℕ) (vs : List Accumulator) → NoName x (accs_of vs) → NoHome x (var_homes R j vs)
+pub no_var_home : (x : List ℕ) (R : ℕ → ℕ) (j : ℕ) (vs : List Accumulator) → NoName x (accs_of vs) → NoHome x (var_homes R j vs)
 no_var_home x R j [] h = tt
 no_var_home x R j (v ∷ vs) h = (h.0, no_var_home x R (j + 1) vs h.1)
 
@@ -67,8 +67,8 @@ vars_apart k e = (free_apart k.vars (param_scope k) _ (vars_faultless k e)).1
 
 -- the name of an accumulator
 once_step : (b : Bool) (x : List ℕ) (R : ℕ → ℕ) (j : ℕ) (v : Accumulator) (vs : List Accumulator) → bytes_eq v.name x ≡ b → NoName v.name (accs_of vs) → IsOnce (var_homes R (j + 1) vs) x → cond b (NoHome x (var_homes R (j + 1) vs)) (IsOnce (var_homes R (j + 1) vs) x)
-once_step true x R j v vs e no more = subst (λ y. NoHome y (var_homes R (j + 1) vs)) (bytes_told v.name x e) (no_var_home v.name R (j + 1) vs no)
-once_step false x R j v vs e no more = more
+once_step true x R j v vs e free more = subst (λ y. NoHome y (var_homes R (j + 1) vs)) (bytes_told v.name x e) (no_var_home v.name R (j + 1) vs free)
+once_step false x R j v vs e free more = more
 
 vars_once : (x : List ℕ) (R : ℕ → ℕ) (j : ℕ) (vs : List Accumulator) → AreApart vs → IsOnce (var_homes R j vs) x
 vars_once x R j [] h = tt
@@ -89,8 +89,8 @@ params_other x [] ls T h = tt
 params_other x (p ∷ ps) ls T h = shape_step (bytes_eq p.name x) x p ps ls T refl h (params_other x ps ls T)
 
 once_on : (hs gs : Homes) (x : List ℕ) → NoHome x hs → IsOnce gs x → IsOnce (hs ++ gs) x
-once_on [] gs x no h = h
-once_on (y ∷ hs) gs x no h = subst (λ b. cond b (NoHome x (hs ++ gs)) (IsOnce (hs ++ gs) x)) (sym no.0) (once_on hs gs x no.1 h)
+once_on [] gs x free h = h
+once_on (y ∷ hs) gs x free h = subst (λ b. cond b (NoHome x (hs ++ gs)) (IsOnce (hs ++ gs) x)) (sym free.0) (once_on hs gs x free.1 h)
 
 kernel_once : (R : ℕ → ℕ) (k : Program) (x : List ℕ) (T : Ty) → AreApart k.vars → option_and_then accumulator_type (option_map binding_of (find (has_name x) (locals_of k.params ++ accs_of k.vars))) ≡ Some T → IsOnce (kernel_homes R k) x
 kernel_once R k x T apart h = once_on (param_homes 0 k.params) (var_homes R 0 k.vars) x (no_param_home x 0 k.params (params_other x k.params (accs_of k.vars) T h)) (vars_once x R 0 k.vars apart)

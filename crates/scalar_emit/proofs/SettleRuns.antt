@@ -49,22 +49,22 @@ tells_other : (l : Loose) (ls : List Loose) (x : List ℕ) (z v : ℤ) → bytes
 tells_other l ls x z v e h = subst (λ b. Tells (option_map loose_type (cond b (Some l) (find (is_loose x) ls))) z v) (bytes_swap x l.name e) h
 
 told_unnamed : (hs : Homes) (l : Loose) (ls : List Loose) (zs ns : Names) (p : ℕ) (s : State) → NoHome l.name hs → Held hs zs p s → Told (l ∷ ls) zs ns → Told ls zs ns
-told_unnamed [] l ls [] [] p s no held h = tt
-told_unnamed [] l ls [] (n ∷ ns) p s no held h = absurd h
-told_unnamed [] l ls (z ∷ zs) ns p s no held h = absurd held
-told_unnamed (x ∷ hs) l ls [] ns p s no held h = absurd held
-told_unnamed (x ∷ hs) l ls (z ∷ zs) [] p s no held h = absurd h
-told_unnamed (x ∷ hs) l ls (z ∷ zs) (n ∷ ns) p s no held h =
-    let other : bytes_eq n.name l.name ≡ false = ap (λ y. bytes_eq y l.name) (sym h.0 ∙ held.0) ∙ no.0 in
-    (h.0, tells_other l ls n.name z.value n.value other h.1, told_unnamed hs l ls zs ns p s no.1 held.2 h.2)
+told_unnamed [] l ls [] [] p s free held h = tt
+told_unnamed [] l ls [] (n ∷ ns) p s free held h = absurd h
+told_unnamed [] l ls (z ∷ zs) ns p s free held h = absurd held
+told_unnamed (x ∷ hs) l ls [] ns p s free held h = absurd held
+told_unnamed (x ∷ hs) l ls (z ∷ zs) [] p s free held h = absurd h
+told_unnamed (x ∷ hs) l ls (z ∷ zs) (n ∷ ns) p s free held h =
+    let other : bytes_eq n.name l.name ≡ false = ap (λ y. bytes_eq y l.name) (sym h.0 ∙ held.0) ∙ free.0 in
+    (h.0, tells_other l ls n.name z.value n.value other h.1, told_unnamed hs l ls zs ns p s free.1 held.2 h.2)
 
 settled_step : (b : Bool) (x : Home) (hs : Homes) (l : Loose) (ls : List Loose) (z n : Named) (zs ns : Names) (p : ℕ) (s : State) → is_home l.name x ≡ b → IsOnce (x ∷ hs) l.name → Held (x ∷ hs) (z ∷ zs) p s → Told (l ∷ ls) (z ∷ zs) (n ∷ ns)
     → (IsOnce hs l.name → Told ls (assigned l.name (value_at ns l.name) zs) ns) → Told ls (assigned l.name (value_at (n ∷ ns) l.name) (z ∷ zs)) (n ∷ ns)
 settled_step true x hs l ls z n zs ns p s e once held h rest =
     let ez : is_named l.name z ≡ true = ap (λ y. bytes_eq y l.name) held.0 ∙ e in
     let en : is_named l.name n ≡ true = ap (λ y. bytes_eq y l.name) (sym h.0) ∙ ez in
-    let no : NoHome l.name hs = subst (λ b. cond b (NoHome l.name hs) (IsOnce hs l.name)) e once in
-    let tail = told_unnamed hs l ls zs ns p s no held.2 h.2 in
+    let free : NoHome l.name hs = subst (λ b. cond b (NoHome l.name hs) (IsOnce hs l.name)) e once in
+    let tail = told_unnamed hs l ls zs ns p s free held.2 h.2 in
     let value : value_at (n ∷ ns) l.name ≡ n.value = rw en refl in
     subst (λ c. Told ls (cond c (named z.name (value_at (n ∷ ns) l.name) ∷ zs) (z ∷ assigned l.name (value_at (n ∷ ns) l.name) zs)) (n ∷ ns)) (sym ez)
     (h.0, tells_same (loose_in ls n.name) (value_at (n ∷ ns) l.name) n.value value, tail)

@@ -127,7 +127,11 @@ held_clear p (x ∷ hs) [] q s t clear low high h = absurd h
 held_clear p (x ∷ hs) (n ∷ ns) q s t clear low high h =
     (h.0, (λ l. ⊎_elim (λ (a : x.register < p). low x.register a) (λ (a : 9 ≤ x.register). high x.register (omega (arith, a))) clear.0 ∙ h.1 l), held_clear p hs ns q s t clear.1 low high h.2)
 
--- names and numbers after them
+-- names after them
+pub held_loaded : {D : Laid} {c rest : List Entry} {p : ℕ} {s : State} (hs : Homes) (q : ℕ) (ns : Names) (cs : List Constant) (k : Loads D c s rest p 0 cs) → AreClear p hs → Held hs ns q s → Held hs ns q k.end
+held_loaded {p = p} {s = s} hs q ns cs k clear h = held_clear p hs ns q s k.end clear k.low k.high h
+
+-- and what is known of them
 pub at_loaded : {M N : Layout} {D : Laid} {w : Fixed M} {c rest : List Entry} {hs : Homes} {ls : List Local} {names : Names} {m : Memory} {q p : ℕ} {s : State} (v : Fixed N) (cs : List Constant) (k : Loads D c s rest p 0 cs) → M.loose ≡ [] → v.index ≡ w.index → v.args ≡ k.end.x → AreClear p hs → At w hs ls names m q s → At v hs ls names m q k.end
 at_loaded {M = M} {N = N} {hs = hs} {names = names} {q = q} {p = p} {s = s} v cs k none e f clear at = record {
   sized = k.sized ∙ at.sized;
@@ -138,5 +142,5 @@ at_loaded {M = M} {N = N} {hs = hs} {names = names} {q = q} {p = p} {s = s} v cs
   good = at.good;
   stand = at.stand;
   told = subst (λ zs. Told N.loose zs names) (sym (told_none at.stand names (subst (λ ls. Told ls at.stand names) none at.told))) (told_same N.loose names);
-  held = held_clear p hs at.stand q s k.end clear k.low k.high at.held;
+  held = held_loaded hs q at.stand cs k clear at.held;
 }

@@ -43,14 +43,21 @@ fn covers_store(loose: &[Loose], scope: &Scope, array: &Name, index: &Expr, valu
         && (covers_index(loose, scope, index) && covers(loose, scope, extent_at(want), want, value))
 }
 
+// What an update asks of its accumulator and of its value.
+fn update_extent(loose: &[Loose], name: &Name, op: BinaryOp, want: Option<Ty>) -> Extent
+    ensures { result ≡ statements.update_extent (looses_of loose.now) (name_of name.now) op want }
+{
+    let held = held_extent(loose_type(loose, name));
+    binary_extent(op, held, want)
+}
+
 fn covers_update(loose: &[Loose], scope: &Scope, name: &Name, op: UpdateOp, value: &Expr) -> bool
     ensures { result ≡ loosening.covers_action (looses_of loose.now) (scope_of scope.now)
         (Update (name_of name.now) op (term_of value.now)) }
 {
     let want = lookup(scope, name).and_then(accumulator_type);
-    let held = loose_type(loose, name);
-    let asked = binary_extent(update_operator(op), held_extent(held), want);
-    is_enough(held, asked) && covers(loose, scope, asked, want, value)
+    let asked = update_extent(loose, name, update_operator(op), want);
+    is_enough(loose_type(loose, name), asked) && covers(loose, scope, asked, want, value)
 }
 
 fn covers_let<'a>(
@@ -74,7 +81,7 @@ fn covers_let<'a>(
 // A statement with no block, which defines no name.
 fn covers_effect(loose: &[Loose], scope: &Scope, part: Part) -> bool
     requires effect { is_effect (part_action part) ≡ true }
-    ensures { result ≡ loosening.covers_action (looses_of loose.now) (scope_of scope.now) (part_action part) }
+    ensures { result ≡ loosening.covers_action (looses_of loose.now) (scope_of scope.now) (part_action part.entry) }
 {
     match part {
         Part::Store {

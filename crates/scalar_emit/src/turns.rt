@@ -8,6 +8,7 @@ ghost use Rattle.scalar_emit.specs.Statements.{block_labels, block_code, block_h
 ghost use Rattle.scalar_words.specs.Drafts.{Appends};
 ghost use Rattle.scalar_words.specs.View.{constants_of, homes_of, looses_of};
 ghost use Rattle.kernel_tree.specs.Items as items;
+ghost use Rattle.kernel_tree.specs.Typing as typing;
 ghost use Rattle.label_fix.specs.DraftRun as plain;
 ghost use Rattle.scalar_emit.specs.Loop as loops;
 
@@ -52,6 +53,38 @@ fn emit_body<'a>(
 {
     scope.inside = true;
     emit_block(draft, places, homes, scope, last, &turns.body, item)?;
+    Ok(())
+}
+
+// The statements of a loop, after which the names before it are visible.
+fn emit_inside<'a>(
+    draft: &mut Draft,
+    places: &Places,
+    homes: &mut Vec<Home<'a>>,
+    scope: &mut Scope<'a>,
+    last: Label,
+    turns: &'a Loop,
+    item: &mut usize,
+) -> Result<(), AllocError>
+    requires last { last < draft.old.labels }
+    requires kinds { BlockKinds (block_of turns.now.body.items) }
+    requires fits { item.old + (1 + items.block_size (scope_of scope.old).index (block_of turns.now.body.items)) < 2 ^
+        32 }
+    ensures homes { OnOk result (homes_of homes.new.items ≡ homes_of homes.old.items) }
+    ensures item { OnOk result (item.new ≡ item.old +
+        (1 + items.block_size (scope_of scope.old).index (block_of turns.now.body.items))) }
+    ensures labels { OnOk result (draft.new.labels
+        ≡ draft.old.labels + block_labels (scope_of scope.old).index (block_of turns.now.body.items)) }
+    ensures code { OnOk result (Appends draft.old draft.new
+        (block_code places.now (loops.with_index (homes_of homes.old.items) (turns_of turns.now))
+        (typing.in_loop (scope_of scope.old) (turns_of turns.now)) last (item.old + 1) draft.old.labels
+        (block_of turns.now.body.items))) }
+{
+    let known = homes.len();
+    declare_index(scope, homes, turns)?;
+    *item += 1;
+    emit_body(draft, places, homes, scope, last, turns, item)?;
+    homes.truncate(known);
     Ok(())
 }
 
@@ -172,12 +205,8 @@ pub fn emit_loop<'a>(
         (turns_of turns.now) item.old draft.old.labels)) }
 {
     let bound = register_at(homes, &turns.bound);
-    let known = homes.len();
     let labels = emit_entry(draft, bound, places.constants())?;
-    declare_index(scope, homes, turns)?;
-    *item += 1;
-    emit_body(draft, places, homes, scope, labels.last, turns, item)?;
-    homes.truncate(known);
+    emit_inside(draft, places, homes, scope, labels.last, turns, item)?;
     emit_again(draft, homes, places.loose(), bound, labels)?;
     Ok(labels.head)
 }
