@@ -369,8 +369,8 @@ module _ (D : Laid) (L : Layout) (fit : Assigned L) where
       let last = load_code ot (reg_of L (b + 0)) (register_at hs a) r rest in
       let g = index_runs D L fit {rest = last} x c b (b + 0) at.sized (index_is hs s.index stand (b + 0) b st (omega arith) fits.1 at.sized at.held) fits.0 in
       let e : b + 0 + 1 ≡ b + (0 + 1) = omega arith in
-      let read = give_more D L 2 (omega arith) (read_runs T ot a (b + 0) r (x +ℤ c) type lasts (omega arith) safe made at g.goes g.kept g.value) in
-      let there = subst (λ o. Gives D L (word_code (index_word c) last) st rest b (b + 0 + 1) (reg_of L (b + 0)) m 2 o) (together_read L.loose w.count hs s.index a ot T m stand names c b (b + 0) (b + 0) st type cov lasts fits.1 at.held at.told) read in
+      let there = subst (λ o. Gives D L (word_code (index_word c) last) st rest b (b + 0 + 1) (reg_of L (b + 0)) m 2 o) (together_read L.loose w.count hs s.index a ot T m stand names c b (b + 0) (b + 0) st type cov lasts fits.1 at.held at.told)
+      (give_more D L 2 (omega arith) (read_runs T ot a (b + 0) r (x +ℤ c) type lasts (omega arith) safe made at g.goes g.kept g.value)) in
       subst (λ q. Gives D L (word_code (index_word c) last) st rest b q (reg_of L (b + 0)) m 2 (read_element ot m (value_at names a) (iteration s.index names +ℤ c))) e there
   element_runs {w = w} {hs = hs} s {stand = stand} {names = names} {m = m} {st = st} a i T b n rest None computed cov type fits lasts made safe at res inner =
       found (value s (index_type s i) i m names) (inner refl last fits res)

@@ -36,10 +36,6 @@ pub index_is : (hs : Homes) (i : Option (List ℕ)) (names : Names) (p b : ℕ) 
 index_is hs None names p b st le h sized held = absurd h
 index_is hs (Some x) names p b st le h sized held = ap (x_at st) (sym h.0) ∙ name_held hs names x b st sized held (name_less hs x p b le h.1)
 
--- an index at an offset from it
-pub stream_covers : (ls : List Loose) (i : Option (List ℕ)) (array : Option Form) (want : Option Ty) (o : Option ℤ) (c : ℤ) (computed : Bool) → o ≡ Some c → index_covers ls i array want o computed ≡ true → stands_together array (index_form ls i) want ≡ true
-stream_covers ls i array want o c computed e h = subst (λ o. index_covers ls i array want o computed ≡ true) e h
-
 -- an index that is computed
 pub computed_covers : (ls : List Loose) (i : Option (List ℕ)) (array : Option Form) (want : Option Ty) (o : Option ℤ) (computed : Bool) → o ≡ None → index_covers ls i array want o computed ≡ true → (is_none array ≡ true) × (computed ≡ true)
 computed_covers ls i array want o computed e h = and_parts (is_none array) computed (subst (λ o. index_covers ls i array want o computed ≡ true) e h)
