@@ -20,7 +20,7 @@ use Rattle.scalar_emit.specs.Statements.{update_extent}
 
 abbrev mutual
   pub covers_action : List Loose → Scope → Action → Bool
-  covers_action ls s (Define x t e) = covers ls s Whole (first t (own s e)) e
+  covers_action ls s (Define x t e) = is_whole ls x && covers ls s Whole (first t (own s e)) e
   covers_action ls s (Put a i e) =
       index_covers ls s.index (loose_in ls a) (option_and_then element_type (lookup s a)) (stream_offset s.index i) (covers ls s Whole (index_type s i) i)
       && covers ls s (extent_at (option_and_then element_type (lookup s a))) (option_and_then element_type (lookup s a)) e
