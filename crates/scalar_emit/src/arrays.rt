@@ -4,11 +4,13 @@ ghost use Rattle.std.specs.Prelude.{◌≡◌, Some, OnOk};
 ghost use Rattle.kernel_tree.specs.Plain.{Put, name_of, term_of, action_of, block_of};
 ghost use Rattle.kernel_scope.specs.Scopes.{scope_of};
 ghost use Rattle.scalar_words.specs.View.{looses_of};
+ghost use Rattle.kernel_tree.specs.Items as items;
 ghost use Rattle.scalar_emit.specs.Loosening as loosening;
 
 use kernel_scope::{Scope, element_type, lookup};
 use kernel_tree::{Expr, Name, Part, Stmt, Ty, parts};
 use scalar_values::covers::is_whole;
+use scalar_values::instructions::index_word;
 use scalar_words::{Form, Loose};
 use std::alloc::AllocError;
 
@@ -50,16 +52,12 @@ fn add_array<'a>(
 
 // Those of an expression, after others.
 #[cycle(terms)]
-fn add_term<'a>(
-    loose: &mut Vec<Loose<'a>>,
-    scope: &Scope,
-    expr: &'a Expr,
-) -> Result<(), AllocError>
+fn add_term<'a>(loose: &mut Vec<Loose<'a>>, scope: &Scope, expr: &'a Expr) -> Result<(), AllocError>
     ensures { OnOk result (looses_of loose.new.items
         ≡ loosening.term_arrays (scope_of scope.now) (term_of expr.now) (looses_of loose.old.items)) }
 {
     match expr {
-        Expr::Read { array, .. } => add_array(loose, scope, array),
+        Expr::Read { array, index } => add_element(loose, scope, array, index),
         Expr::Unary { arg, .. } => add_term(loose, scope, arg),
         Expr::Shift { arg, .. } => add_term(loose, scope, arg),
         Expr::Cast { arg, .. } => add_term(loose, scope, arg),
@@ -73,6 +71,26 @@ fn add_term<'a>(
             add_term(loose, scope, cond)
         }
         _ => Ok(()),
+    }
+}
+
+// The array of an element at an offset from the loop variable, or those of a computed index.
+#[cycle(terms)]
+#[tactic(auto, using(crate::proofs::ArrayWalk::element_streamed, crate::proofs::ArrayWalk::element_computed))]
+fn add_element<'a>(
+    loose: &mut Vec<Loose<'a>>,
+    scope: &Scope,
+    array: &'a Name,
+    index: &'a Expr,
+) -> Result<(), AllocError>
+    ensures { OnOk result (looses_of loose.new.items
+        ≡ loosening.element_arrays (items.stream_offset (scope_of scope.now).index (term_of index.now))
+        (loosening.with_array (scope_of scope.now) (name_of array.now) (looses_of loose.old.items))
+        (loosening.term_arrays (scope_of scope.now) (term_of index.now) (looses_of loose.old.items))) }
+{
+    match index_word(scope, index) {
+        Some(_) => add_array(loose, scope, array),
+        None => add_term(loose, scope, index),
     }
 }
 
@@ -108,11 +126,7 @@ fn add_store<'a>(
 }
 
 #[cycle(statements)]
-fn add_stmt<'a>(
-    loose: &mut Vec<Loose<'a>>,
-    scope: &Scope,
-    stmt: &'a Stmt,
-) -> Result<(), AllocError>
+fn add_stmt<'a>(loose: &mut Vec<Loose<'a>>, scope: &Scope, stmt: &'a Stmt) -> Result<(), AllocError>
     ensures { OnOk result (looses_of loose.new.items
         ≡ loosening.action_arrays (scope_of scope.now) (action_of stmt.now) (looses_of loose.old.items)) }
 {

@@ -73,7 +73,7 @@ fn covers_let<'a>(
         (Define (name_of name.now) ty (term_of value.now))) }
 {
     let want = first(ty, own_type(scope, value));
-    let covered = covers(loose, scope, Extent::Whole, want, value);
+    let covered = is_whole(loose, name) && covers(loose, scope, Extent::Whole, want, value);
     define(scope, name, want)?;
     Ok(covered)
 }
@@ -400,10 +400,7 @@ fn keep_ahead<'a>(kept: &mut Vec<Loose<'a>>, held: &Loose<'a>) -> Result<(), All
 }
 
 /// Those that stand ahead after the loop.
-pub fn after_loop<'a>(
-    alloc: Global,
-    loose: &[Loose<'a>],
-) -> Result<Vec<Loose<'a>>, AllocError>
+pub fn after_loop<'a>(alloc: Global, loose: &[Loose<'a>]) -> Result<Vec<Loose<'a>>, AllocError>
     ensures { IfOk result (λ v. looses_of v.entry.items ≡ loosening.after_loop (looses_of loose.now)) }
 {
     let mut kept = Vec::new(alloc);

@@ -10,3 +10,6 @@ decreases-add_term l = 2 * term_depth (term_of l.expr.now)
 
 abbrev pub decreases-add_both : goal.decreases-add_both
 decreases-add_both l = 2 * max (term_depth (term_of l.left.now)) (term_depth (term_of l.right.now)) + 1
+
+abbrev pub decreases-add_element : goal.decreases-add_element
+decreases-add_element l = 2 * term_depth (term_of l.index.now) + 1
