@@ -1,26 +1,26 @@
 -- Where no name is held loosely, any expression may ask for whole values.
 use Rattle.std.proofs.Common.{◌≡◌, ℕ, List, [], Bool, true, Option, Some, None, refl}
-use Rattle.std.specs.Prelude.{ℤ}
+use Rattle.std.specs.Prelude.{ℤ, option_and_then}
 use Rattle.std.proofs.lemmas.Bool.{and_from}
 use Rattle.kernel_tree.specs.declared.ops.Ty.{Ty}
 use Rattle.kernel_tree.specs.Plain.{Term, Literal, Variable, Element, Unary, Operation, Shift, Conversion, Choice, Comparison, Both, Either, Not}
 use Rattle.kernel_tree.specs.Items.{stream_offset}
-use Rattle.kernel_tree.specs.Typing.{Scope, own, index_type, side_type}
+use Rattle.kernel_tree.specs.Typing.{Scope, lookup, own, element_type, index_type, side_type}
 use Rattle.scalar_values.specs.declared.extent.Extent.{Extent}
 use Rattle.scalar_values.specs.Extents.{Whole, converted_extent}
 use Rattle.scalar_values.specs.Leaving.{unary_asks, binary_asks, shift_asks}
 use Rattle.scalar_values.specs.Covers.{index_covers, covers, covers_truth}
 
-index_by : (i : Option (List ℕ)) (o : Option ℤ) (computed : Bool) → computed ≡ true → index_covers [] i o computed ≡ true
-index_by None (Some c) computed h = refl
-index_by (Some x) (Some c) computed h = refl
-index_by i None computed h = h
+index_by : (i : Option (List ℕ)) (want : Option Ty) (o : Option ℤ) (computed : Bool) → computed ≡ true → index_covers [] i None want o computed ≡ true
+index_by None want (Some c) computed h = refl
+index_by (Some x) want (Some c) computed h = refl
+index_by i want None computed h = h
 
 mutual
   pub covers_none : (e : Term) (s : Scope) (w : Extent) (want : Option Ty) → covers [] s w want e ≡ true
   covers_none (Literal z) s w want = refl
   covers_none (Variable x) s w want = refl
-  covers_none (Element a i) s w want = index_by s.index (stream_offset s.index i) _ (covers_none i s Whole (index_type s i))
+  covers_none (Element a i) s w want = index_by s.index (option_and_then element_type (lookup s a)) (stream_offset s.index i) _ (covers_none i s Whole (index_type s i))
   covers_none (Unary op e) s w want = covers_none e s (unary_asks s want op e w) want
   covers_none (Operation op x y) s w want = and_from _ _ (covers_none x s (binary_asks s want op x y w) want) (covers_none y s (binary_asks s want op x y w) want)
   covers_none (Shift left e n) s w want = covers_none e s (shift_asks s want left e n w) want

@@ -2,6 +2,7 @@ pub mod Loads
 pub mod CodedSizes
 pub mod Literals
 pub mod WholeNames
+pub mod Together
 pub mod Places
 pub mod NumberCounts
 pub mod NearOffsets

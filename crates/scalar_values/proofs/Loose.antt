@@ -23,9 +23,9 @@ use Rattle.scalar_values.specs.declared.extent.Extent.{Extent}
 use Rattle.scalar_values.specs.Extents.{Low8, Low16, Low32, Whole, extent_of, within_type, within, unary_joins, operand_extent, asked_extent, binary_extent, fits_at, cast_extent, converted_extent}
 use Rattle.scalar_values.specs.Leaving.{unary_may_leave, binary_may_leave, shift_may_leave, unary_asks, binary_asks, shift_asks}
 use Rattle.scalar_words.specs.Operands.{binary_joins}
-use Rattle.scalar_words.specs.Layout.{Loose, loose_in}
+use Rattle.scalar_words.specs.Layout.{Form, LowBits, Ahead, Behind, Loose, loose_in}
 use Rattle.scalar_words.proofs.LayoutStates.{Tells, Told}
-use Rattle.scalar_words.proofs.Told.{told_at}
+use Rattle.scalar_words.proofs.Told.{tells_itself, told_at}
 use Rattle.scalar_values.specs.Covers.{is_enough, covers}
 use Rattle.kernel_tree.specs.declared.ops.Ty.TheVariants as ty
 use Rattle.kernel_tree.specs.declared.ops.UnaryOp.TheVariants as unary
@@ -355,18 +355,30 @@ bits_same ty.I64 = refl
 bits_same ty.U64 = refl
 
 -- what stands in the register of a name agrees with its value, where no more is asked for
-pub name_agrees : (o : Option Ty) (w : Extent) (z v : ℤ) → is_enough o w ≡ true → Tells o z v → Agrees w z v
-name_agrees None w z v h tells = same w z v tells
-name_agrees (Some t) w z v h tells = low_agrees w t z v h (lower w t z v h (subst (λ k. Alike k z v) (bits_same t) tells))
+pub name_agrees : (c : ℕ) (o : Option Form) (w : Extent) (z v : ℤ) → is_enough o w ≡ true → Tells c o z v → Agrees w z v
+name_agrees c None w z v h tells = same w z v tells
+name_agrees c (Some (LowBits t)) w z v h tells = low_agrees w t z v h (lower w t z v h (subst (λ k. Alike k z v) (bits_same t) tells))
+name_agrees c (Some (Ahead t)) w z v h tells = absurd cc
+name_agrees c (Some Behind) w z v h tells = absurd cc
 
-module _ (s : Scope) (m : Memory) (names : Names) (ranged : AreRanged s.visible names) (ls : List Loose) (stand : Names) (told : Told ls stand names) where
+enough_itself : (o : Option Form) (w : Extent) → is_enough o w ≡ true → tells_itself o ≡ true
+enough_itself None w h = refl
+enough_itself (Some (LowBits t)) w h = refl
+enough_itself (Some (Ahead t)) w h = h
+enough_itself (Some Behind) w h = h
+
+-- the same of a name
+pub named_agrees : (ls : List Loose) (c : ℕ) (stand names : Names) (x : List ℕ) (w : Extent) → is_enough (loose_in ls x) w ≡ true → Told ls c stand names → Agrees w (value_at stand x) (value_at names x)
+named_agrees ls c stand names x w h told = name_agrees c (loose_in ls x) w (value_at stand x) (value_at names x) h (told_at ls c stand names x (enough_itself (loose_in ls x) w h) told)
+
+module _ (s : Scope) (m : Memory) (names : Names) (ranged : AreRanged s.visible names) (ls : List Loose) (count : ℕ) (stand : Names) (told : Told ls count stand names) where
   of_type : (want : Option Ty) (e : Term) (u : ℤ) → AreTyped s want e → value s want e m names ≡ Some u → RangeAt want u
   of_type None e u t is = tt
   of_type (Some T) e u t is = value_range e s T m names u (is_typed e s T t) ranged is
 
   pub agrees : (e : Term) (w : Extent) (want : Option Ty) → covers ls s w want e ≡ true → AreTyped s want e → Agreed w (loose s w want e m stand names) (value s want e m names)
   agrees (Literal n) w want k c = all-same w (value s want (Literal n) m names) (value s want (Literal n) m names) refl
-  agrees (Variable x) w want k c = name_agrees (loose_in ls x) w (value_at stand x) (value_at names x) k (told_at ls stand names x told)
+  agrees (Variable x) w want k c = named_agrees ls count stand names x w k told
   agrees (Element a i) w want k c = all-same w (value s want (Element a i) m names) (value s want (Element a i) m names) refl
   agrees (Unary op e) w want k c = map_agreed w (unary_asks s want op e w) _ _ _ _ (λ x u is p. unary_agrees op (unary_may_leave s want op e) w want x u p) (agrees e (unary_asks s want op e w) want k c)
   agrees (Operation op x y) w want k c =

@@ -22,14 +22,15 @@ use Rattle.a64_code.specs.Table.{csel}
 use Rattle.label_fix.specs.DraftRun.{Entry, Put, Branch, Place, Always, Laid, following, address_of, word_of, ins}
 use Rattle.label_fix.proofs.StretchSteps.{Goes, Stops, Resolves, stay, chain, go_more, put_goes, stop_after, stop_more, taken_goes, pass}
 use Rattle.scalar_values.specs.HeldNumbers.{element_words, coded_words}
-use Rattle.scalar_values.proofs.WholeNames.{name_less, whole_held, whole_index, computed_covers}
-use Rattle.scalar_values.proofs.Places.{some_words, placed_nine, element_with, placed_runs}
+use Rattle.scalar_values.proofs.WholeNames.{name_less, index_is, whole_at, computed_covers}
+use Rattle.scalar_values.proofs.Together.{together_read}
+use Rattle.scalar_values.proofs.Places.{some_words, element_with, placed_runs}
 use Rattle.scalar_values.proofs.Literals.{literal_high, literal_apart, literal_runs}
 use Rattle.scalar_values.proofs.Comparisons.{IsSide, compare_goes}
 use Rattle.scalar_values.proofs.Numbers.{compared_right, compared_small, added_right}
 pub use Rattle.scalar_values.proofs.Jumps.{kept_jump, led, Turned, Turns, no_turn, turns, branch_goes, both_turn, over_turn, turns_more, not_turns}
 use Rattle.scalar_words.proofs.Compare.{compared}
-use Rattle.scalar_words.specs.Layout.{OfNumber, Loose, Layout, Homes, reg_of, constant_at, IsMade, register_at, NameLasts}
+use Rattle.scalar_words.specs.Layout.{OfNumber, Loose, loose_in, Layout, Homes, reg_of, constant_at, IsMade, register_at, NameLasts}
 use Rattle.scalar_values.specs.ValueRegisters.{home}
 use Rattle.scalar_values.specs.ItemWords.{Side, Number, Register, Product, Moved, shift_kind, load_code, operator_code, unary_code, abs_code, shift_code, index_word, index_register, convert_word, compare_word, zero_test, tested_code, pick_code, placed_code}
 use Rattle.scalar_words.specs.Words.{operation_code, word_code, copy_word, settle_word, condition, at_type}
@@ -67,26 +68,26 @@ LooseRuns D L e hs s stand names m st w b user n rest want =
     Fits L hs s want b user e → Resolves D (loose_code L hs s w want b n e rest) → Gives D L (loose_code L hs s w want b n e rest) st rest b (b + term_size s.index e) (home L hs s.index b e) m (coded_words L.constants s.index e) (loose s w want e m stand names)
 
 -- where the whole value is asked for, it is the value
-exact : {D : Laid} {L : Layout} {st : State} {rest : List Entry} (hs : Homes) (b user n : ℕ) (e : Term) (s : Scope) (stand names : Names) (m : Memory) (want : Option Ty) → AreRanged s.visible names → Told L.loose stand names → covers L.loose s Whole want e ≡ true → LooseRuns D L e hs s stand names m st Whole b user n rest want → Runs D L e hs s names m st b user n rest want
-exact {D = D} {L = L} {st = st} {rest = rest} hs b user n e s stand names m want ranged told cov k fits res =
-    subst (λ o. Gives D L (value_code L hs s want b n e rest) st rest b (b + term_size s.index e) (home L hs s.index b e) m (coded_words L.constants s.index e) o) (whole_is s m names ranged L.loose stand told e want cov (fits_types e L hs s want b user fits)) (k fits res)
+exact : {D : Laid} {L : Layout} {st : State} {rest : List Entry} (count : ℕ) (hs : Homes) (b user n : ℕ) (e : Term) (s : Scope) (stand names : Names) (m : Memory) (want : Option Ty) → AreRanged s.visible names → Told L.loose count stand names → covers L.loose s Whole want e ≡ true → LooseRuns D L e hs s stand names m st Whole b user n rest want → Runs D L e hs s names m st b user n rest want
+exact {D = D} {L = L} {st = st} {rest = rest} count hs b user n e s stand names m want ranged told cov k fits res =
+    subst (λ o. Gives D L (value_code L hs s want b n e rest) st rest b (b + term_size s.index e) (home L hs s.index b e) m (coded_words L.constants s.index e) o) (whole_is s m names ranged L.loose count stand told e want cov (fits_types e L hs s want b user fits)) (k fits res)
 
 -- an operand of which the whole value is asked for is the value, and of its type
-loose_value : (w : Extent) (L : Layout) (hs : Homes) (s : Scope) (stand names : Names) (m : Memory) (e : Term) (T : Ty) (b user : ℕ) (v : ℤ) → Fits L hs s (Some T) b user e → AreRanged s.visible names → Told L.loose stand names → covers L.loose s w (Some T) e ≡ true → loose s w (Some T) e m stand names ≡ Some v → w ≡ Whole → value s (Some T) e m names ≡ Some v
-loose_value w L hs s stand names m e T b user v fits ranged told cov is whole =
-    sym (whole_is s m names ranged L.loose stand told e (Some T) (subst (λ w. covers L.loose s w (Some T) e ≡ true) whole cov) (fits_types e L hs s (Some T) b user fits)) ∙ subst (λ w. loose s w (Some T) e m stand names ≡ Some v) whole is
+loose_value : (count : ℕ) (w : Extent) (L : Layout) (hs : Homes) (s : Scope) (stand names : Names) (m : Memory) (e : Term) (T : Ty) (b user : ℕ) (v : ℤ) → Fits L hs s (Some T) b user e → AreRanged s.visible names → Told L.loose count stand names → covers L.loose s w (Some T) e ≡ true → loose s w (Some T) e m stand names ≡ Some v → w ≡ Whole → value s (Some T) e m names ≡ Some v
+loose_value count w L hs s stand names m e T b user v fits ranged told cov is whole =
+    sym (whole_is s m names ranged L.loose count stand told e (Some T) (subst (λ w. covers L.loose s w (Some T) e ≡ true) whole cov) (fits_types e L hs s (Some T) b user fits)) ∙ subst (λ w. loose s w (Some T) e m stand names ≡ Some v) whole is
 
-loose_range : (w : Extent) (L : Layout) (hs : Homes) (s : Scope) (stand names : Names) (m : Memory) (e : Term) (T : Ty) (b user : ℕ) (v : ℤ) → Fits L hs s (Some T) b user e → AreRanged s.visible names → Told L.loose stand names → covers L.loose s w (Some T) e ≡ true → loose s w (Some T) e m stand names ≡ Some v → w ≡ Whole → IsOf T v
-loose_range w L hs s stand names m e T b user v fits ranged told cov is whole = value-range L hs s names m e T b user v fits ranged (loose_value w L hs s stand names m e T b user v fits ranged told cov is whole)
+loose_range : (count : ℕ) (w : Extent) (L : Layout) (hs : Homes) (s : Scope) (stand names : Names) (m : Memory) (e : Term) (T : Ty) (b user : ℕ) (v : ℤ) → Fits L hs s (Some T) b user e → AreRanged s.visible names → Told L.loose count stand names → covers L.loose s w (Some T) e ≡ true → loose s w (Some T) e m stand names ≡ Some v → w ≡ Whole → IsOf T v
+loose_range count w L hs s stand names m e T b user v fits ranged told cov is whole = value-range L hs s names m e T b user v fits ranged (loose_value count w L hs s stand names m e T b user v fits ranged told cov is whole)
 
 -- an operator whose result is known to stay in the extended form
-operator_keeps : (L : Layout) (user : ℕ) (x y : Term) (hs : Homes) (s : Scope) (stand names : Names) (m : Memory) (op : BinaryOp) (w : Extent) (T : Ty) (b : ℕ) (u v : ℤ) → AreRanged s.visible names → Told L.loose stand names → (covers L.loose s w (Some T) x && covers L.loose s w (Some T) y) ≡ true → Fits L hs s (Some T) b user (Operation op x y) → loose s w (Some T) x m stand names ≡ Some u → loose s w (Some T) y m stand names ≡ Some v → w ≡ Whole → binary_may_leave s (Some T) op x y ≡ false
+operator_keeps : (count : ℕ) (L : Layout) (user : ℕ) (x y : Term) (hs : Homes) (s : Scope) (stand names : Names) (m : Memory) (op : BinaryOp) (w : Extent) (T : Ty) (b : ℕ) (u v : ℤ) → AreRanged s.visible names → Told L.loose count stand names → (covers L.loose s w (Some T) x && covers L.loose s w (Some T) y) ≡ true → Fits L hs s (Some T) b user (Operation op x y) → loose s w (Some T) x m stand names ≡ Some u → loose s w (Some T) y m stand names ≡ Some v → w ≡ Whole → binary_may_leave s (Some T) op x y ≡ false
     → word (wrap T (binary_on op u v)) ≡ word (binary_on op u v)
-operator_keeps L user x y hs s stand names m op w T b u v ranged told cov h is js e out =
+operator_keeps count L user x y hs s stand names m op w T b u v ranged told cov h is js e out =
     let b1 = b + term_size s.index x in let c = b1 + term_size s.index y in
     let k = and_parts (covers L.loose s w (Some T) x) _ cov in
-    binary_keeps s m names ranged T op x y u v (fits_types x L hs s (Some T) b c h.1) (fits_types y L hs s (Some T) b1 c h.2) (loose_value w L hs s stand names m x T b c u h.1 ranged told k.0 is e) (loose_value w L hs s stand names m y T b1 c v h.2 ranged told k.1 js e)
-    (loose_range w L hs s stand names m x T b c u h.1 ranged told k.0 is e) (loose_range w L hs s stand names m y T b1 c v h.2 ranged told k.1 js e) out
+    binary_keeps s m names ranged T op x y u v (fits_types x L hs s (Some T) b c h.1) (fits_types y L hs s (Some T) b1 c h.2) (loose_value count w L hs s stand names m x T b c u h.1 ranged told k.0 is e) (loose_value count w L hs s stand names m y T b1 c v h.2 ranged told k.1 js e)
+    (loose_range count w L hs s stand names m x T b c u h.1 ranged told k.0 is e) (loose_range count w L hs s stand names m y T b1 c v h.2 ranged told k.1 js e) out
 
 covers_at : (ls : List Loose) (s : Scope) (w : Extent) (e : Term) (want : Option Ty) (T : Ty) → want ≡ Some T → covers ls s w want e ≡ true → covers ls s w (Some T) e ≡ true
 covers_at ls s w e want T is h = subst (λ o. covers ls s w o e ≡ true) is h
@@ -340,15 +341,15 @@ module _ (D : Laid) (L : Layout) (fit : Assigned L) where
   some_type None h = absurd h
   some_type (Some T) h = (T, refl)
 
-  -- the rest of a read after its index
-  read_runs : {w : Fixed L} {c rest : List Entry} {st t : State} {m : Memory} {hs : Homes} {ls : List Local} {stand names : Names} {b most : ℕ} (T : Ty) (ot : Option Ty) (a : List ℕ) (p r : ℕ) (x : ℤ) → is_whole L.loose a ≡ true → ot ≡ Some T → NameLasts hs a p → b ≤ p → AreSafe L b hs → IsMade L p → Standing w hs ls stand names m b st → Goes D c st (load_code ot (reg_of L p) (register_at hs a) r rest) t most → Kept L st t b p → x_at t r ≡ word x → Gives D L c st rest b (p + 1) (reg_of L p) m (most + 1) (read_element ot m (value_at names a) x)
-  read_runs {c = c} {rest = rest} {st = st} {t = t} {m = m} {hs = hs} {stand = stand} {names = names} {b = b} {most = most} T ot a p r x whole e lasts le safe made at g kept is =
+  -- the rest of a read after its index, by what stands in the register of the array
+  read_runs : {w : Fixed L} {c rest : List Entry} {st t : State} {m : Memory} {hs : Homes} {ls : List Local} {stand names : Names} {b most : ℕ} (T : Ty) (ot : Option Ty) (a : List ℕ) (p r : ℕ) (x : ℤ) → ot ≡ Some T → NameLasts hs a p → b ≤ p → AreSafe L b hs → IsMade L p → Standing w hs ls stand names m b st → Goes D c st (load_code ot (reg_of L p) (register_at hs a) r rest) t most → Kept L st t b p → x_at t r ≡ word x → Gives D L c st rest b (p + 1) (reg_of L p) m (most + 1) (read_element ot m (value_at stand a) x)
+  read_runs {c = c} {rest = rest} {st = st} {t = t} {m = m} {hs = hs} {stand = stand} {b = b} {most = most} T ot a p r x e lasts le safe made at g kept is =
       let d = reg_of L p in
       let q = register_at hs a in
       let there = standing_kept L fit b p le safe at kept in
       let found = name_found L hs a b p le safe lasts in
-      let load = load_runs D L fit {rest = rest} T (value_at names a) x q r p b (p + 1) there.sized le (omega arith) made there.good there.memory found.high (whole_held L.loose hs a stand names p t whole there.told there.sized there.held lasts) is in
-      subst (λ o. Gives D L c st rest b (p + 1) d m (most + 1) (read_element o m (value_at names a) x)) (sym e)
+      let load = load_runs D L fit {rest = rest} T (value_at stand a) x q r p b (p + 1) there.sized le (omega arith) made there.good there.memory found.high (name_held hs stand a p t there.sized there.held lasts) is in
+      subst (λ o. Gives D L c st rest b (p + 1) d m (most + 1) (read_element o m (value_at stand a) x)) (sym e)
       (on (subst (λ o. Goes D c st (load_code o d q r rest) t most) e g) load)
     where
       on : {o : Option ℤ} {e2 : List Entry} → Goes D c st e2 t most → Gives D L e2 t rest b (p + 1) (reg_of L p) m 1 o → Gives D L c st rest b (p + 1) (reg_of L p) m (most + 1) o
@@ -356,23 +357,29 @@ module _ (D : Laid) (L : Layout) (fit : Assigned L) where
       on g (a_value k) = a_value (record { end = k.end; goes = chain (most + 1) (omega arith) g k.goes; kept = kept_on L b (p + 1) (omega arith) (omega arith) (omega arith) (omega arith) kept k.kept; value = k.value })
 
   -- an index, and a read of the element
-  element_runs : {w : Fixed L} {hs : Homes} (s : Scope) {stand names : Names} {m : Memory} {st : State} (a : List ℕ) (i : Term) (T : Ty) (b n : ℕ) (rest : List Entry) (o : Option ℤ) (computed : Bool) → is_whole L.loose a ≡ true → index_covers L.loose s.index o computed ≡ true → option_and_then element_type (lookup s a) ≡ Some T → FitsIndex o (IndexAt hs s.index (b + index_size o (term_size s.index i))) (Fits L hs s (index_type s i) b (b + index_size o (term_size s.index i)) i) → NameLasts hs a (b + index_size o (term_size s.index i)) → IsMade L (b + index_size o (term_size s.index i)) → AreSafe L b hs → Standing w hs s.visible stand names m b st
+  element_runs : {w : Fixed L} {hs : Homes} (s : Scope) {stand names : Names} {m : Memory} {st : State} (a : List ℕ) (i : Term) (T : Ty) (b n : ℕ) (rest : List Entry) (o : Option ℤ) (computed : Bool) → index_covers L.loose s.index (loose_in L.loose a) (option_and_then element_type (lookup s a)) o computed ≡ true → option_and_then element_type (lookup s a) ≡ Some T → FitsIndex o (IndexAt hs s.index (b + index_size o (term_size s.index i))) (Fits L hs s (index_type s i) b (b + index_size o (term_size s.index i)) i) → NameLasts hs a (b + index_size o (term_size s.index i)) → IsMade L (b + index_size o (term_size s.index i)) → AreSafe L b hs → Standing w hs s.visible stand names m b st
       → Resolves D (number_code o (value_code L hs s (index_type s i) b n i) (load_code (option_and_then element_type (lookup s a)) (reg_of L (b + index_size o (term_size s.index i))) (register_at hs a) (number_register o (home L hs s.index b i)) rest))
       → (o ≡ None → (rest : List Entry) → Runs D L i hs s names m st b (b + term_size s.index i) n rest (index_type s i))
       → Gives D L (number_code o (value_code L hs s (index_type s i) b n i) (load_code (option_and_then element_type (lookup s a)) (reg_of L (b + index_size o (term_size s.index i))) (register_at hs a) (number_register o (home L hs s.index b i)) rest)) st rest b (b + (index_size o (term_size s.index i) + 1)) (reg_of L (b + index_size o (term_size s.index i))) m ((element_words o (coded_words L.constants s.index i)))
       (option_and_then (read_element (option_and_then element_type (lookup s a)) m (value_at names a)) (element_number o (iteration s.index names) (value s (index_type s i) i m names)))
-  element_runs {hs = hs} s {stand = stand} {names = names} {m = m} {st = st} a i T b n rest (Some c) computed whole index type fits lasts made safe at res inner =
+  element_runs {w = w} {hs = hs} s {stand = stand} {names = names} {m = m} {st = st} a i T b n rest (Some c) computed cov type fits lasts made safe at res inner =
       let r = index_register (index_word c) in
-      let last = load_code (option_and_then element_type (lookup s a)) (reg_of L (b + 0)) (register_at hs a) r rest in
-      let g = index_runs D L fit {rest = last} (iteration s.index names) c b (b + 0) at.sized (whole_index L.loose hs s.index stand names (b + 0) b st index at.told (omega arith) fits.1 at.sized at.held) fits.0 in
+      let ot = option_and_then element_type (lookup s a) in
+      let x = iteration s.index stand in
+      let last = load_code ot (reg_of L (b + 0)) (register_at hs a) r rest in
+      let g = index_runs D L fit {rest = last} x c b (b + 0) at.sized (index_is hs s.index stand (b + 0) b st (omega arith) fits.1 at.sized at.held) fits.0 in
       let e : b + 0 + 1 ≡ b + (0 + 1) = omega arith in
-      subst (λ q. Gives D L (word_code (index_word c) last) st rest b q (reg_of L (b + 0)) m 2 (read_element (option_and_then element_type (lookup s a)) m (value_at names a) (iteration s.index names +ℤ c))) e
-      (give_more D L 2 (omega arith) (read_runs T (option_and_then element_type (lookup s a)) a (b + 0) r (iteration s.index names +ℤ c) whole type lasts (omega arith) safe made at g.goes g.kept g.value))
-  element_runs {hs = hs} s {names = names} {m = m} {st = st} a i T b n rest None computed whole index type fits lasts made safe at res inner =
+      let there = subst (λ o. Gives D L (word_code (index_word c) last) st rest b (b + 0 + 1) (reg_of L (b + 0)) m 2 o) (together_read L.loose w.count hs s.index a ot T m stand names c b (b + 0) (b + 0) st type cov lasts fits.1 at.held at.told)
+      (give_more D L 2 (omega arith) (read_runs T ot a (b + 0) r (x +ℤ c) type lasts (omega arith) safe made at g.goes g.kept g.value)) in
+      subst (λ q. Gives D L (word_code (index_word c) last) st rest b q (reg_of L (b + 0)) m 2 (read_element ot m (value_at names a) (iteration s.index names +ℤ c))) e there
+  element_runs {w = w} {hs = hs} s {stand = stand} {names = names} {m = m} {st = st} a i T b n rest None computed cov type fits lasts made safe at res inner =
       found (value s (index_type s i) i m names) (inner refl last fits res)
     where
       last : List Entry
       last = load_code (option_and_then element_type (lookup s a)) (reg_of L (b + term_size s.index i)) (register_at hs a) (home L hs s.index b i) rest
+
+      base : value_at stand a ≡ value_at names a
+      base = whole_at L.loose w.count a stand names (and_parts (is_whole L.loose a) computed cov).0 at.told
 
       found : (o : Option ℤ) → Gives D L (value_code L hs s (index_type s i) b n i last) st last b (b + term_size s.index i) (home L hs s.index b i) m (coded_words L.constants s.index i) o
           → Gives D L (value_code L hs s (index_type s i) b n i last) st rest b (b + (term_size s.index i + 1)) (reg_of L (b + term_size s.index i)) m ((coded_words L.constants s.index i + 4)) (option_and_then (read_element (option_and_then element_type (lookup s a)) m (value_at names a)) o)
@@ -380,8 +387,9 @@ module _ (D : Laid) (L : Layout) (fit : Assigned L) where
       found (Some x) (a_value k) =
           let p = b + term_size s.index i in
           let e : p + 1 ≡ b + (term_size s.index i + 1) = omega arith in
+          let read = give_more D L ((coded_words L.constants s.index i + 4)) (omega arith) (read_runs T (option_and_then element_type (lookup s a)) a p (home L hs s.index b i) x type lasts (omega arith) safe made at k.goes k.kept k.value) in
           subst (λ q. Gives D L (value_code L hs s (index_type s i) b n i last) st rest b q (reg_of L p) m ((coded_words L.constants s.index i + 4)) (read_element (option_and_then element_type (lookup s a)) m (value_at names a) x)) e
-          (give_more D L ((coded_words L.constants s.index i + 4)) (omega arith) (read_runs T (option_and_then element_type (lookup s a)) a p (home L hs s.index b i) x whole type lasts (omega arith) safe made at k.goes k.kept k.value))
+          (subst (λ z. Gives D L (value_code L hs s (index_type s i) b n i last) st rest b (p + 1) (reg_of L p) m ((coded_words L.constants s.index i + 4)) (read_element (option_and_then element_type (lookup s a)) m z x)) base read)
 
   -- the sides of a comparison are in range
   sides_range : (x y : Term) (hs : Homes) (s : Scope) (names : Names) (m : Memory) (b : ℕ) (u v : ℤ) → AreRanged s.visible names
@@ -442,21 +450,19 @@ module _ (D : Laid) (L : Layout) (fit : Assigned L) where
         let o = stream_offset s.index i in
         let ot = option_and_then element_type (lookup s a) in
         let p = b + index_size o (term_size s.index i) in
-        let k = and_parts (is_whole L.loose a) _ cov in
         let computed = covers L.loose s Whole (index_type s i) i in
         let e : p + 1 ≡ b + (index_size o (term_size s.index i) + 1) = omega arith in
         element_with D L fit (place_of L (register_at hs a) ot o) _ (λ x y. load_code ot (reg_of L p) x y rest) res
-        (λ r. element_runs s a i T b n rest o computed k.0 k.1 h.0 h.1 h.2 (omega (arith, h.3)) safe at r
-        (λ none rest2. let inner = covers_at L.loose s Whole i (index_type s i) q.0 q.1 (computed_covers L.loose s.index o computed none k.1) in subst (λ w. Runs D L i hs s names m st b (b + term_size s.index i) n rest2 w) (sym q.1) (exact hs b (b + term_size s.index i) n i s stand names m (Some q.0) at.ranged at.told inner (loose_standing i s Whole q.0 b (b + term_size s.index i) n rest2 (omega arith) inner safe at))))
+        (λ r. element_runs s a i T b n rest o computed cov h.0 h.1 h.2 (omega (arith, h.3)) safe at r
+        (λ none rest2. let inner = covers_at L.loose s Whole i (index_type s i) q.0 q.1 (computed_covers L.loose s.index (loose_in L.loose a) ot o computed none cov).1 in subst (λ w. Runs D L i hs s names m st b (b + term_size s.index i) n rest2 w) (sym q.1) (exact _ hs b (b + term_size s.index i) n i s stand names m (Some q.0) at.ranged at.told inner (loose_standing i s Whole q.0 b (b + term_size s.index i) n rest2 (omega arith) inner safe at))))
         (λ r is. subst (λ q. Gives D L (load_code ot (reg_of L p) r 9 rest) st rest b q (reg_of L p) m (element_words o (coded_words L.constants s.index i)) (option_and_then (read_element ot m (value_at names a)) (element_number o (iteration s.index names) (value s (index_type s i) i m names)))) e
-        (give_more D L _ (some_words o (coded_words L.constants s.index i)) (placed_runs D L fit a T ot o (iteration s.index names) r p b k.0 h.0 is (name_less hs a p b (omega arith) h.2) (omega arith) (omega (arith, h.3)) (placed_nine L _ o r hs s a ot p b st stand names computed k.1 at.told is h.1 (omega arith) at.sized at.held) at
-        (λ o. element_number o (iteration s.index names) (value s (index_type s i) i m names)) (λ c f. ap (λ o. element_number o (iteration s.index names) (value s (index_type s i) i m names)) f))))
+        (give_more D L _ (some_words o (coded_words L.constants s.index i)) (placed_runs D L fit s.index a T ot o (value s (index_type s i) i m names) computed (Fits L hs s (index_type s i) b p i) r p b cov h.0 is (name_less hs a p b (omega arith) h.2) h.1 (omega arith) (omega (arith, h.3)) at)))
     loose_standing (Unary op e) {hs = hs} s {stand = stand} {names = names} {m = m} w T b user n rest le cov safe at h res =
         let k1 = unary_asks s (Some T) op e w in
         map_runs (loose_unary op w (Some T)) ((coded_words L.constants s.index e + 4)) (omega arith) (omega arith) (omega arith)
         (loose_standing e s k1 T b _ n _ (omega arith) cov safe at h.1 res)
-        (λ t x is k ex. gets D L (b + term_size s.index e) _ _ (omega arith) (omega arith) (omega (arith, h.2)) (unary_runs D L fit op (unary_may_leave s (Some T) op e) w T x _ _ (k.sized ∙ at.sized) (home_high e hs s (Some T) b (b + term_size s.index e) (omega arith) h.1 safe) (fit.high _ (omega (arith, h.2))) (loose_range k1 L hs s stand names m e T b _ x h.1 at.ranged at.told cov is)
-        (λ whole stays. unary_keeps s m names at.ranged T op e x (fits_types e L hs s (Some T) b _ h.1) (loose_value k1 L hs s stand names m e T b _ x h.1 at.ranged at.told cov is whole) (loose_range k1 L hs s stand names m e T b _ x h.1 at.ranged at.told cov is whole) stays) ex))
+        (λ t x is k ex. gets D L (b + term_size s.index e) _ _ (omega arith) (omega arith) (omega (arith, h.2)) (unary_runs D L fit op (unary_may_leave s (Some T) op e) w T x _ _ (k.sized ∙ at.sized) (home_high e hs s (Some T) b (b + term_size s.index e) (omega arith) h.1 safe) (fit.high _ (omega (arith, h.2))) (loose_range _ k1 L hs s stand names m e T b _ x h.1 at.ranged at.told cov is)
+        (λ whole stays. unary_keeps s m names at.ranged T op e x (fits_types e L hs s (Some T) b _ h.1) (loose_value _ k1 L hs s stand names m e T b _ x h.1 at.ranged at.told cov is whole) (loose_range _ k1 L hs s stand names m e T b _ x h.1 at.ranged at.told cov is whole) stays) ex))
     loose_standing (Operation op x y) {hs = hs} s {stand = stand} {names = names} {m = m} {st = st} w T b user n rest le cov safe at h res =
         let i = s.index in
         let b1 = b + term_size i x in let c = b1 + term_size i y in let e1 = b + (term_size i x + term_size i y + 1) in
@@ -487,7 +493,7 @@ module _ (D : Laid) (L : Layout) (fit : Assigned L) where
         (parts_standing x s op k1 T b c n _ (omega arith) both.0 known.fused safe at h.1 r)
         (λ t k. subst (λ es. Gives D L es t last b1 c (home L hs i b1 y) m (coded_words L.constants i y) vy) (sym same) (loose_standing y s k1 T b1 c _ _ (omega arith) both.1 safe1 (standing_kept L fit b b1 (omega arith) safe at k) h.2 (subst (λ es. Resolves D es) same (parts_back D L fit x hs s k1 (Some T) b n _ r)))))
         (λ t v u js is k ey ex. gets D L c c e1 (omega arith) (omega arith) (omega (arith, h.3)) (turned_runs D L fit part op leaves w T u v _ _ known.turns (k.sized ∙ at.sized) hy (fit.high _ (omega (arith, h.3))) (λ e. and_true (binary_leaves op) _ e)
-        (λ e. (loose_range k1 L hs s stand names m x T b c u h.1 at.ranged at.told both.0 is e, loose_range k1 L hs s stand names m y T b1 c v h.2 at.ranged at.told both.1 js e)) (operator_keeps L user x y hs s stand names m op k1 T b u v at.ranged at.told cov h is js) (part_taken op L hs s k1 T b x known.fused) ex ey))))
+        (λ e. (loose_range _ k1 L hs s stand names m x T b c u h.1 at.ranged at.told both.0 is e, loose_range _ k1 L hs s stand names m y T b1 c v h.2 at.ranged at.told both.1 js e)) (operator_keeps _ L user x y hs s stand names m op k1 T b u v at.ranged at.told cov h is js) (part_taken op L hs s k1 T b x known.fused) ex ey))))
         (λ straight r.
         op_runs (loose_binary op w (Some T)) most (omega arith) (omega arith) (omega arith)
         (pair_runs (coded_words L.constants i x + coded_words L.constants i y) (omega arith) (omega arith) (omega arith) hx (λ p lo up made. home_apart x hs s (Some T) b c (omega arith) h.1 safe p lo up made)
@@ -496,14 +502,14 @@ module _ (D : Laid) (L : Layout) (fit : Assigned L) where
         (λ q. loose_standing y s k1 T b1 c _ _ (omega arith) both.1 safe1 (standing_kept L fit b b1 (omega arith) safe at k) h.2 q)
         (λ f q. parts_standing y s op k1 T b1 c _ _ (omega arith) both.1 f safe1 (standing_kept L fit b b1 (omega arith) safe at k) h.2 q)))
         (λ t u v is js k ex ey. gets D L c c e1 (omega arith) (omega arith) (omega (arith, h.3)) (operation_runs D L fit right op leaves w T u v _ _ (k.sized ∙ at.sized) hx (fit.high _ (omega (arith, h.3))) (λ e. and_true (binary_leaves op) _ e)
-        (λ e. (loose_range k1 L hs s stand names m x T b c u h.1 at.ranged at.told both.0 is e, loose_range k1 L hs s stand names m y T b1 c v h.2 at.ranged at.told both.1 js e)) (operator_keeps L user x y hs s stand names m op k1 T b u v at.ranged at.told cov h is js) (right_taken op L hs s k1 T b1 y) ex ey)))
+        (λ e. (loose_range _ k1 L hs s stand names m x T b c u h.1 at.ranged at.told both.0 is e, loose_range _ k1 L hs s stand names m y T b1 c v h.2 at.ranged at.told both.1 js e)) (operator_keeps _ L user x y hs s stand names m op k1 T b u v at.ranged at.told cov h is js) (right_taken op L hs s k1 T b1 y) ex ey)))
         res
     loose_standing (Shift left e z) {hs = hs} s {stand = stand} {names = names} {m = m} w T b user n rest le cov safe at h res =
         let k1 = shift_asks s (Some T) left e z w in
         map_runs (loose_shift left z w (Some T)) ((coded_words L.constants s.index e + 4)) (omega arith) (omega arith) (omega arith)
         (loose_standing e s k1 T b _ n _ (omega arith) cov safe at h.1 res)
-        (λ t x is k ex. gets D L (b + term_size s.index e) _ _ (omega arith) (omega arith) (omega (arith, h.2)) (shift_runs D L fit left (shift_may_leave s (Some T) left e z) z w T x _ _ (k.sized ∙ at.sized) (fit.high _ (omega (arith, h.2))) (λ q. and_true left _ q) (loose_range k1 L hs s stand names m e T b _ x h.1 at.ranged at.told cov is)
-        (λ whole stays. shift_keeps s m names at.ranged T left e z x (fits_types e L hs s (Some T) b _ h.1) (loose_value k1 L hs s stand names m e T b _ x h.1 at.ranged at.told cov is whole) (loose_range k1 L hs s stand names m e T b _ x h.1 at.ranged at.told cov is whole) stays) ex))
+        (λ t x is k ex. gets D L (b + term_size s.index e) _ _ (omega arith) (omega arith) (omega (arith, h.2)) (shift_runs D L fit left (shift_may_leave s (Some T) left e z) z w T x _ _ (k.sized ∙ at.sized) (fit.high _ (omega (arith, h.2))) (λ q. and_true left _ q) (loose_range _ k1 L hs s stand names m e T b _ x h.1 at.ranged at.told cov is)
+        (λ whole stays. shift_keeps s m names at.ranged T left e z x (fits_types e L hs s (Some T) b _ h.1) (loose_value _ k1 L hs s stand names m e T b _ x h.1 at.ranged at.told cov is whole) (loose_range _ k1 L hs s stand names m e T b _ x h.1 at.ranged at.told cov is whole) stays) ex))
     loose_standing (Conversion e t) {hs = hs} s {stand = stand} {names = names} {m = m} {st = st} w T b user n rest le cov safe at h res =
         let q = some_type (own s e) h.1 in
         let c = b + term_size s.index e in
@@ -549,15 +555,15 @@ module _ (D : Laid) (L : Layout) (fit : Assigned L) where
         let k = binary_asks s (Some T) binary.Mul x y w in
         let both = and_parts (covers L.loose s k (Some T) x) _ cov in
         product_sided (binary_may_leave s (Some T) binary.Mul x y) w T (b + (term_size s.index x + term_size s.index y + 1)) ((coded_words L.constants s.index x + coded_words L.constants s.index y + 4)) (omega arith) (omega arith) (both_right (takes_product op) (stays (binary_settles s (Some T) binary.Mul x y w) (Some T)) f)
-        (λ u v is js e out. operator_keeps L user x y hs s stand names m binary.Mul k T b u v at.ranged at.told cov h is js e out)
+        (λ u v is js e out. operator_keeps _ L user x y hs s stand names m binary.Mul k T b u v at.ranged at.told cov h is js e out)
         (pair_runs (coded_words L.constants s.index x + coded_words L.constants s.index y) (omega arith) (omega arith) (omega arith) (home_high x hs s (Some T) b c (omega arith) h.1 safe) (λ p lo up made. home_apart x hs s (Some T) b c (omega arith) h.1 safe p lo up made)
         (loose_standing x s k T b c n _ (omega arith) both.0 safe at h.1 res)
         (λ t kept. plain_sided (loose_standing y s k T b1 c _ _ (omega arith) both.1 (safe_later L hs b b1 (omega arith) safe) (standing_kept L fit b b1 (omega arith) safe at kept) h.2 (loose_back D L fit x hs s k (Some T) b n _ res))))
     parts_standing (Shift left e z) {hs = hs} s {stand = stand} {names = names} {m = m} op w T b user n rest le cov f safe at h res =
         let k = shift_asks s (Some T) left e z w in
         moved_sided left (shift_may_leave s (Some T) left e z) z w T (b + (term_size s.index e + 1)) ((coded_words L.constants s.index e + 4)) (omega arith) (omega arith) (λ q. and_true left _ q) (both_right (takes_shift op) (stays (shift_settles s (Some T) left e z w) (Some T)) f)
-        (λ x is whole. loose_range k L hs s stand names m e T b _ x h.1 at.ranged at.told cov is whole)
-        (λ x is whole out. shift_keeps s m names at.ranged T left e z x (fits_types e L hs s (Some T) b _ h.1) (loose_value k L hs s stand names m e T b _ x h.1 at.ranged at.told cov is whole) (loose_range k L hs s stand names m e T b _ x h.1 at.ranged at.told cov is whole) out)
+        (λ x is whole. loose_range _ k L hs s stand names m e T b _ x h.1 at.ranged at.told cov is whole)
+        (λ x is whole out. shift_keeps s m names at.ranged T left e z x (fits_types e L hs s (Some T) b _ h.1) (loose_value _ k L hs s stand names m e T b _ x h.1 at.ranged at.told cov is whole) (loose_range _ k L hs s stand names m e T b _ x h.1 at.ranged at.told cov is whole) out)
         (loose_standing e s k T b _ n _ (omega arith) cov safe at h.1 res)
     parts_standing (Operation binary.Add x y) s op w T b user n rest le cov f safe at h res = absurd (never (takes_product op) f)
     parts_standing (Operation binary.Sub x y) s op w T b user n rest le cov f safe at h res = absurd (never (takes_product op) f)
@@ -596,7 +602,7 @@ module _ (D : Laid) (L : Layout) (fit : Assigned L) where
         let same : condition op (signed_side want) ≡ k = cc in
         subst (λ k. Flagged D L (flags_code L hs s b n (Comparison op x y) rest) st rest b (b + (term_size s.index x + term_size s.index y + 1)) k m ((coded_words L.constants s.index x + coded_words L.constants s.index y + 4)) (holds s (Comparison op x y) m names)) same
         (op_flags number (home L hs s.index b1 y) op (signed_side want) ((coded_words L.constants s.index x + coded_words L.constants s.index y + 4)) (omega arith) (omega arith) (omega arith) (home_high x hs s want b c (omega arith) h.1 safe) (compared_small want y)
-        (sides_run x y hs s names b n _ safe h (λ T r e. exact hs b c n x s stand names m (Some T) at.ranged at.told (left T e) (loose_standing x s Whole T b c n r (omega arith) (left T e) safe at)) (λ T t e k. exact hs b1 c (n + labels s.index x) y s stand names m (Some T) at.ranged at.told (right T e) (loose_standing y s Whole T b1 c _ _ (omega arith) (right T e) (safe_later L hs b b1 (omega arith) safe) (standing_kept L fit b b1 (omega arith) safe at k))) res) (λ u v is js. sides_range x y hs s names m b u v at.ranged h is js))
+        (sides_run x y hs s names b n _ safe h (λ T r e. exact _ hs b c n x s stand names m (Some T) at.ranged at.told (left T e) (loose_standing x s Whole T b c n r (omega arith) (left T e) safe at)) (λ T t e k. exact _ hs b1 c (n + labels s.index x) y s stand names m (Some T) at.ranged at.told (right T e) (loose_standing y s Whole T b1 c _ _ (omega arith) (right T e) (safe_later L hs b b1 (omega arith) safe) (standing_kept L fit b b1 (omega arith) safe at k))) res) (λ u v is js. sides_range x y hs s names m b u v at.ranged h is js))
     flags_standing (Literal z) s b n k rest is cov safe at h res = absurd cc
     flags_standing (Variable x) s b n k rest is cov safe at h res = absurd cc
     flags_standing (Element a i) s b n k rest is cov safe at h res = absurd cc
@@ -620,7 +626,7 @@ module _ (D : Laid) (L : Layout) (fit : Assigned L) where
         let b1 = b + term_size s.index x in let c = b1 + term_size s.index y in
         let hx = home_high x hs s want b c (omega arith) h.1 safe in
         op_turns (compare_on op) ((coded_words L.constants s.index x + coded_words L.constants s.index y + 4)) (omega arith) (omega arith) (omega arith)
-        (sides_run x y hs s names b n _ safe h (λ T r e. exact hs b c n x s stand names m (Some T) at.ranged at.told (left T e) (loose_standing x s Whole T b c n r (omega arith) (left T e) safe at)) (λ T t e k. exact hs b1 c (n + labels s.index x) y s stand names m (Some T) at.ranged at.told (right T e) (loose_standing y s Whole T b1 c _ _ (omega arith) (right T e) (safe_later L hs b b1 (omega arith) safe) (standing_kept L fit b b1 (omega arith) safe at k))) res)
+        (sides_run x y hs s names b n _ safe h (λ T r e. exact _ hs b c n x s stand names m (Some T) at.ranged at.told (left T e) (loose_standing x s Whole T b c n r (omega arith) (left T e) safe at)) (λ T t e k. exact _ hs b1 c (n + labels s.index x) y s stand names m (Some T) at.ranged at.told (right T e) (loose_standing y s Whole T b1 c _ _ (omega arith) (right T e) (safe_later L hs b b1 (omega arith) safe) (standing_kept L fit b b1 (omega arith) safe at k))) res)
         (λ t u v is js ex ey. let r = sides_range x y hs s names m b u v at.ranged h is js in branch_goes D L fit to rest op (compared_number want y) sense (signed_side want) u v (home L hs s.index b x) (home L hs s.index b1 y) c (b + (term_size s.index x + term_size s.index y + 1)) (compared_small want y) hx r.0 r.1 ex ey)
     jump_standing (Both x y) {hs = hs} s true to b n rest cov safe at h res =
         let both = and_parts (covers_truth L.loose s x) _ cov in
@@ -691,4 +697,4 @@ module _ (D : Laid) (L : Layout) (fit : Assigned L) where
 
   -- a value itself
   pub value_runs : (e : Term) {w : Fixed L} {hs : Homes} (s : Scope) {names : Names} {m : Memory} {st : State} (T : Ty) (b user n : ℕ) (rest : List Entry) → b + term_size s.index e ≤ user → covers L.loose s Whole (Some T) e ≡ true → AreSafe L b hs → At w hs s.visible names m b st → Runs D L e hs s names m st b user n rest (Some T)
-  value_runs e {hs = hs} s {names = names} {m = m} T b user n rest le cov safe at = exact hs b user n e s at.stand names m (Some T) at.ranged at.told cov (loose_runs e s Whole T b user n rest le cov safe at)
+  value_runs e {hs = hs} s {names = names} {m = m} T b user n rest le cov safe at = exact _ hs b user n e s at.stand names m (Some T) at.ranged at.told cov (loose_runs e s Whole T b user n rest le cov safe at)
