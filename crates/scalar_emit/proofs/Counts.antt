@@ -12,14 +12,14 @@ use Rattle.scalar_values.specs.Extents.{extent_at}
 use Rattle.scalar_values.specs.declared.extent.Extent.TheVariants.{Whole}
 use Rattle.label_fix.specs.DraftRun.{Entry}
 use Rattle.label_fix.specs.Finished.{size}
-use Rattle.scalar_words.specs.Layout.{Loose, Layout, Homes, last_use_at, register_at}
+use Rattle.scalar_words.specs.Layout.{Form, LowBits, Ahead, Behind, Loose, loose_in, Layout, Homes, last_use_at, register_at}
 use Rattle.scalar_values.specs.ValueRegisters.{home}
 use Rattle.scalar_words.specs.Words.{copy_word, settle_word, word_code}
 use Rattle.scalar_values.specs.ItemWords.{index_word, store_code}
 use Rattle.scalar_values.specs.Code.{place_of, added_number, is_fused, right_side}
 use Rattle.scalar_emit.specs.Statements.{after_homes, block_labels, is_bare, put_code, placed_put, update_extent, update_settles, action_code, block_code, otherwise_code}
 use Rattle.scalar_emit.specs.LoopNumbers.{loop_layout}
-use Rattle.scalar_emit.specs.Loop.{answer_code, with_index, bare, settle_code, loop_code}
+use Rattle.scalar_emit.specs.Loop.{answer_code, with_index, bare, enter_word, enter_code, settle_form, settle_code, back_code, loop_code}
 use Rattle.scalar_emit.proofs.SetupRuns.{numbers_words}
 use Rattle.scalar_emit.proofs.HoldBlocks.{few_words}
 use Rattle.scalar_emit.proofs.LooseBlocks.{few_loose}
@@ -107,17 +107,29 @@ module _ (L : Layout) where
 
 -- ---- the loop
 
-settle_words : (hs : Homes) (ls : List Loose) (rest : List Entry) (k : ℕ) → size rest ≤ k → size (settle_code hs ls rest) ≤ length ls + k
-settle_words hs [] rest k h = omega (arith, h)
-settle_words hs (l ∷ ls) rest k h = within (omega arith) (one_word (settle_word true l.type (register_at hs l.name)) _ _ (settle_words hs ls rest k h))
+enter_words : (r : ℕ) (hs : Homes) (ls : List Loose) (rest : List Entry) (k : ℕ) → size rest ≤ k → size (enter_code r hs ls rest) ≤ length ls + k
+enter_words r hs [] rest k h = omega (arith, h)
+enter_words r hs (l ∷ ls) rest k h = within (omega arith) (one_word (enter_word r (register_at hs l.name) l.form) _ _ (enter_words r hs ls rest k h))
 
-loop_words : (L : Layout) (hs : Homes) (s : Scope) (t : PlainLoop) (b n b2 : ℕ) (o : Option Returned) (rest : List Entry) (k : ℕ) → size rest ≤ k → size (loop_code L hs s t b n b2 o rest) ≤ 4 * (1 + block_size s.index t.body) + 4 * answer_size s.index o + 4 + (length L.loose + loading_words L.constants) + k
+settle_words : (r : ℕ) (hs : Homes) (ls : List Loose) (rest : List Entry) (k : ℕ) → size rest ≤ k → size (settle_code r hs ls rest) ≤ length ls + k
+settle_words r hs [] rest k h = omega (arith, h)
+settle_words r hs (l ∷ ls) rest k h = within (omega arith) (one_word (settle_form r (register_at hs l.name) l.form) _ _ (settle_words r hs ls rest k h))
+
+back_words : (f : Option Form) (r n : ℕ) (rest : List Entry) (k : ℕ) → size rest ≤ k → size (back_code f r n rest) ≤ 2 + k
+back_words None r n rest k h = omega (arith, h)
+back_words (Some (LowBits t)) r n rest k h = omega (arith, h)
+back_words (Some (Ahead t)) r n rest k h = omega (arith, h)
+back_words (Some Behind) r n rest k h = omega (arith, h)
+
+loop_words : (L : Layout) (hs : Homes) (s : Scope) (t : PlainLoop) (b n b2 : ℕ) (o : Option Returned) (rest : List Entry) (k : ℕ) → size rest ≤ k → size (loop_code L hs s t b n b2 o rest) ≤ 4 * (1 + block_size s.index t.body) + 4 * answer_size s.index o + 4 + (2 * length L.loose + loading_words L.constants) + k
 loop_words L hs s t b n b2 o rest k h =
-    within (omega arith) (one_more (one_more (numbers_words L.constants _ _ (block_words L t.body (with_index hs t) (in_loop s t) (n + 3) (b + 1) (n + 4) _ _ (one_more (one_more (one_more (settle_words hs L.loose _ _ (answer_words (bare L) (with_index hs t) (after_turns s (Some t)) b2 (n + 4 + block_labels s.index t.body) o rest k h)))))))))
+    let hs1 = with_index hs t in
+    let r = register_at hs t.bound in
+    within (omega arith) (one_more (one_more (enter_words r hs1 L.loose _ _ (numbers_words L.constants _ _ (block_words L t.body hs1 (in_loop s t) (n + 3) (b + 1) (n + 4) _ _ (one_more (back_words (loose_in L.loose t.index) r n _ _ (settle_words r hs1 L.loose _ _ (answer_words (bare L) hs1 (after_turns s (Some t)) b2 (n + 4 + block_labels s.index t.body) o rest k h)))))))))
 
 -- ---- kernels
 
-turns_words : (L : Layout) (hs : Homes) (s : Scope) (i : Option (List ℕ)) (t : Option PlainLoop) (b n b2 : ℕ) (o : Option Returned) (rest : List Entry) (k : ℕ) → s.index ≡ i → i ≡ option_map index_of t → size rest ≤ k → size (turns_code L hs s t b n b2 o rest) ≤ 4 * turns_size t + 4 * answer_size i o + 4 + (length L.loose + loading_words L.constants) + k
+turns_words : (L : Layout) (hs : Homes) (s : Scope) (i : Option (List ℕ)) (t : Option PlainLoop) (b n b2 : ℕ) (o : Option Returned) (rest : List Entry) (k : ℕ) → s.index ≡ i → i ≡ option_map index_of t → size rest ≤ k → size (turns_code L hs s t b n b2 o rest) ≤ 4 * turns_size t + 4 * answer_size i o + 4 + (2 * length L.loose + loading_words L.constants) + k
 turns_words L hs s i None b n b2 o rest k e f h = let q = ap (λ i. answer_size i o) e in within (omega (arith, q)) (answer_words (bare L) hs s b2 (n + 1) o rest k h)
 turns_words L hs s i (Some t) b n b2 o rest k e f h =
     let q = ap (λ i. answer_size i o) e in

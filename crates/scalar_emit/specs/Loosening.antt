@@ -1,7 +1,7 @@
 -- Which names a loop holds loosely. It counts from i - n up to zero, with the addresses of its arrays ahead, where it reads its
 -- variable as an offset alone. Accumulators that an update would have to extend are extended after it, where nothing in it asks
 -- for more than the low bits of their type.
-use Rattle.std.specs.Prelude.{ℕ, List, [], ◌∷◌, ◌++◌, Bool, true, false, ◌&&◌, Option, Some, None, option_and_then, if◌then◌else◌}
+use Rattle.std.specs.Prelude.{ℕ, ℤ, List, [], ◌∷◌, ◌++◌, Bool, true, false, ◌&&◌, Option, Some, None, option_and_then, if◌then◌else◌}
 use Rattle.kernel_tree.specs.declared.ops.Ty.{Ty}
 use Rattle.kernel_tree.specs.declared.ops.BinaryOp.{BinaryOp}
 use Rattle.kernel_tree.specs.Plain.{Action, Define, Put, Update, Choose, Leave, Block, Done, Then, Otherwise, Nothing, Else, PlainLoop, Returned, Program, Term, Literal, Variable, Element, Unary, Operation, Shift, Conversion, Choice, Comparison, Both, Either, Not}
@@ -82,11 +82,16 @@ put_ahead whole a want ls = ls
 abbrev pub with_array : Scope → List ℕ → List Loose → List Loose
 with_array s a ls = put_ahead (is_whole ls a) a (option_and_then element_type (lookup s a)) ls
 
--- the arrays of expressions and statements, after others
+-- an element at an offset from the loop variable, or one of a computed index, whose own elements count
+abbrev pub element_arrays : Option ℤ → (streamed computed : List Loose) → List Loose
+element_arrays (Some c) ls ms = ls
+element_arrays None ls ms = ms
+
+-- the arrays with elements at offsets from the loop variable, of expressions and statements, after others
 abbrev pub term_arrays : Scope → Term → List Loose → List Loose
 term_arrays s (Literal z) ls = ls
 term_arrays s (Variable x) ls = ls
-term_arrays s (Element a e) ls = with_array s a ls
+term_arrays s (Element a e) ls = element_arrays (stream_offset s.index e) (with_array s a ls) (term_arrays s e ls)
 term_arrays s (Unary op e) ls = term_arrays s e ls
 term_arrays s (Operation op x y) ls = term_arrays s y (term_arrays s x ls)
 term_arrays s (Shift left e n) ls = term_arrays s e ls

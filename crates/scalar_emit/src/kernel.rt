@@ -22,7 +22,7 @@ ghost use Rattle.scalar_emit.specs.Loop as loops;
 ghost use Rattle.scalar_emit.specs.Kernel as kernels;
 ghost use Rattle.scalar_words.specs.KernelRegisters as registers;
 
-use crate::loosening::loosen_accumulators;
+use crate::loosening::{after_loop, loosen_names};
 use crate::numbers::hold_block;
 use crate::turns::emit_loop;
 use crate::variable::declare_index;
@@ -537,10 +537,11 @@ fn emit_rest<'a>(
         Some(turns) => {
             let mut next = item;
             hold_numbers(alloc, places, regs, kernel, turns)?;
-            loosen_accumulators(alloc, places, regs, kernel, turns)?;
+            loosen_names(alloc, places, regs, kernel, turns)?;
             let head = emit_turns(alloc, draft, places, regs, kernel, turns, &mut next)?;
             places.hold(Vec::new(alloc));
-            places.loosen(Vec::new(alloc));
+            let ahead = after_loop(alloc, places.loose())?;
+            places.loosen(ahead);
             emit_following(alloc, draft, places, regs, kernel, turns, next)?;
             Ok(head)
         }

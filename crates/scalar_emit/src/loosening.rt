@@ -1,12 +1,12 @@
-//! Which accumulators a loop holds loosely.
+//! Which names a loop holds loosely: its variable and its arrays where it counts to zero, and accumulators.
 
-ghost use Rattle.std.specs.Prelude.{◌≡◌, ◌≤◌, true, [], ◌∷◌, ◌++◌, Some, None, IfOk, OnOk, length, option_and_then};
-ghost use Rattle.kernel_tree.specs.Plain.{Define, Put, Update, Choose, Nothing, Else, name_of, term_of, action_of, block_of, turns_of, program_of};
+ghost use Rattle.std.specs.Prelude.{◌≡◌, ◌≤◌, List, true, [], ◌∷◌, ◌++◌, Some, None, IfOk, OnOk, length, option_map, option_and_then};
+ghost use Rattle.kernel_tree.specs.Plain.{Define, Put, Update, Choose, Nothing, Else, name_of, term_of, action_of, block_of, turns_of, returned_of, program_of};
 ghost use Rattle.kernel_tree.specs.Parts.{part_action};
 ghost use Rattle.kernel_scope.specs.Scopes.{scope_of};
 ghost use Rattle.reg_assign.specs.Registers.{IsAssignment};
-ghost use Rattle.scalar_words.specs.View.{loose_of, looses_of};
-ghost use Rattle.scalar_words.specs.Layout.{with_loose};
+ghost use Rattle.scalar_words.specs.View.{form_of, loose_of, looses_of};
+ghost use Rattle.scalar_words.specs.Layout.{Behind, Loose, with_loose};
 ghost use Rattle.scalar_emit.specs.Statements.{is_effect};
 ghost use Rattle.kernel_meaning.specs.Operators as operators;
 ghost use Rattle.kernel_tree.specs.Items as items;
@@ -15,13 +15,14 @@ ghost use Rattle.scalar_emit.specs.Loop as loops;
 ghost use Rattle.scalar_emit.specs.Loosening as loosening;
 ghost use Rattle.scalar_emit.specs.Statements as statements;
 
+use crate::arrays::add_block;
 use crate::variable::declare_index;
 use kernel_meaning::binary_leaves;
 use kernel_scope::{
     Scope, accumulator_type, define, element_type, empty, first, leave, lookup, own_type,
     visible_count,
 };
-use kernel_tree::{BinaryOp, Expr, Kernel, Loop, Name, Part, Stmt, Ty, UpdateOp, parts};
+use kernel_tree::{Answer, BinaryOp, Expr, Kernel, Loop, Name, Part, Stmt, Ty, UpdateOp, parts};
 use reg_assign::Assigned;
 use scalar_values::covers::{covers, covers_index, covers_truth, held_extent, is_enough, is_whole};
 use scalar_values::extent::{Extent, binary_extent, extent_at};
@@ -29,7 +30,7 @@ use scalar_words::instructions::is_narrow;
 use scalar_words::names::declare_names;
 use scalar_words::operations::update_operator;
 use scalar_words::places::Places;
-use scalar_words::{Home, Loose, loose_type};
+use scalar_words::{Form, Home, Loose, loose_form};
 use std::alloc::{AllocError, Global};
 
 // ---- whether statements ask no more of a name than stands in its register
@@ -39,15 +40,14 @@ fn covers_store(loose: &[Loose], scope: &Scope, array: &Name, index: &Expr, valu
         (Put (name_of array.now) (term_of index.now) (term_of value.now)) }
 {
     let want = lookup(scope, array).and_then(element_type);
-    is_whole(loose, array)
-        && (covers_index(loose, scope, index) && covers(loose, scope, extent_at(want), want, value))
+    covers_index(loose, scope, array, index) && covers(loose, scope, extent_at(want), want, value)
 }
 
 // What an update asks of its accumulator and of its value.
 fn update_extent(loose: &[Loose], name: &Name, op: BinaryOp, want: Option<Ty>) -> Extent
     ensures { result ≡ statements.update_extent (looses_of loose.now) (name_of name.now) op want }
 {
-    let held = held_extent(loose_type(loose, name));
+    let held = held_extent(loose_form(loose, name));
     binary_extent(op, held, want)
 }
 
@@ -57,7 +57,7 @@ fn covers_update(loose: &[Loose], scope: &Scope, name: &Name, op: UpdateOp, valu
 {
     let want = lookup(scope, name).and_then(accumulator_type);
     let asked = update_extent(loose, name, update_operator(op), want);
-    is_enough(loose_type(loose, name), asked) && covers(loose, scope, asked, want, value)
+    is_enough(loose_form(loose, name), asked) && covers(loose, scope, asked, want, value)
 }
 
 fn covers_let<'a>(
@@ -73,7 +73,7 @@ fn covers_let<'a>(
         (Define (name_of name.now) ty (term_of value.now))) }
 {
     let want = first(ty, own_type(scope, value));
-    let covered = covers(loose, scope, Extent::Whole, want, value);
+    let covered = is_whole(loose, name) && covers(loose, scope, Extent::Whole, want, value);
     define(scope, name, want)?;
     Ok(covered)
 }
@@ -266,7 +266,8 @@ fn loosen_name<'a>(
 {
     let count = loose.len();
     let name = name.text();
-    loose.push(Loose { name, ty })?;
+    let form = Form::LowBits(ty);
+    loose.push(Loose { name, form })?;
     if !covers_body(alloc, regs, kernel, turns, loose)? {
         loose.truncate(count);
     }
@@ -363,7 +364,139 @@ fn loosen_block<'a>(
     Ok(())
 }
 
-// The accumulators of a loop, with no name declared yet.
+// ---- counting to zero
+
+// The loop variable behind, and the arrays of the loop ahead.
+fn moved_names<'a>(
+    alloc: Global,
+    scope: &Scope,
+    turns: &'a Loop,
+) -> Result<Vec<Loose<'a>>, AllocError>
+    ensures { IfOk result (λ v. looses_of v.entry.items
+        ≡ loosening.moved_names (scope_of scope.now) (turns_of turns.now)) }
+{
+    let mut loose = Vec::new(alloc);
+    let name = turns.index.text();
+    let form = Form::Behind;
+    loose.push(Loose { name, form })?;
+    add_block(&mut loose, scope, &turns.body)?;
+    Ok(loose)
+}
+
+// One that stands ahead after the loop.
+fn keep_ahead<'a>(kept: &mut Vec<Loose<'a>>, held: &Loose<'a>) -> Result<(), AllocError>
+    ensures { OnOk result ((rest : List Loose) → looses_of kept.new.items ++ rest
+        ≡ looses_of kept.old.items ++ loosening.keep_ahead (form_of held.now.form) (loose_of held.now) rest) }
+{
+    let name = held.name;
+    match held.form {
+        Form::Ahead(ty) => {
+            let form = Form::Ahead(ty);
+            kept.push(Loose { name, form })?;
+            Ok(())
+        }
+        _ => Ok(()),
+    }
+}
+
+/// Those that stand ahead after the loop.
+pub fn after_loop<'a>(alloc: Global, loose: &[Loose<'a>]) -> Result<Vec<Loose<'a>>, AllocError>
+    ensures { IfOk result (λ v. looses_of v.entry.items ≡ loosening.after_loop (looses_of loose.now)) }
+{
+    let mut kept = Vec::new(alloc);
+    for held in loose {
+        keep_ahead(&mut kept, held)?;
+    }
+    Ok(kept)
+}
+
+fn covers_answer(loose: &[Loose], scope: &Scope, answer: &Option<Answer>) -> bool
+    ensures { result ≡ loosening.covers_answer (looses_of loose.now) (scope_of scope.now)
+        (option_map returned_of answer.now) }
+{
+    match answer {
+        None => true,
+        Some(answer) => covers(loose, scope, Extent::Whole, Some(answer.ty), &answer.value),
+    }
+}
+
+// Whether a loop counts to zero, with no name declared yet.
+fn moves_named<'a>(
+    scope: &mut Scope<'a>,
+    homes: &mut Vec<Home<'a>>,
+    regs: &Assigned,
+    kernel: &'a Kernel,
+    turns: &'a Loop,
+    loose: &[Loose],
+    kept: &[Loose],
+) -> Result<bool, AllocError>
+    requires assigned { IsAssignment 15 regs.now }
+    requires vars { length (program_of kernel.now).vars ≤ length regs.now.registers }
+    requires params { length (program_of kernel.now).params ≤ 8 }
+    requires scope { scope_of scope.old ≡ typing.empty (items.loop_index (program_of kernel.now)) }
+    requires homes { homes.old.items ≡ [] }
+    requires kept { looses_of kept.now ≡ loosening.after_loop (looses_of loose.now) }
+    ensures { IfOk result (λ t. t ≡ loosening.may_move (looses_of loose.now)
+        (typing.var_scope (program_of kernel.now)) (turns_of turns.now) (program_of kernel.now).answer) }
+{
+    declare_names(scope, homes, regs, kernel)?;
+    declare_index(scope, homes, turns)?;
+    let answered = covers_answer(kept, scope, &kernel.answer);
+    scope.inside = true;
+    let covered = covers_block(loose, scope, &turns.body)?;
+    Ok(covered && answered)
+}
+
+// Whether a loop counts to zero, with these names held so.
+fn may_move(
+    alloc: Global,
+    regs: &Assigned,
+    kernel: &Kernel,
+    turns: &Loop,
+    loose: &[Loose],
+) -> Result<bool, AllocError>
+    requires assigned { IsAssignment 15 regs.now }
+    requires vars { length (program_of kernel.now).vars ≤ length regs.now.registers }
+    requires params { length (program_of kernel.now).params ≤ 8 }
+    requires turns { (program_of kernel.now).turns ≡ Some (turns_of turns.now) }
+    ensures { IfOk result (λ t. t ≡ loosening.may_move (looses_of loose.now)
+        (typing.var_scope (program_of kernel.now)) (turns_of turns.now) (program_of kernel.now).answer) }
+{
+    let kept = after_loop(alloc, loose)?;
+    let mut scope = empty(alloc, Some(turns.index.text()));
+    let mut homes = Vec::new(alloc);
+    moves_named(&mut scope, &mut homes, regs, kernel, turns, loose, &kept)
+}
+
+// The loop variable and the arrays, where the loop counts to zero.
+fn counted_down<'a>(
+    alloc: Global,
+    regs: &Assigned,
+    kernel: &'a Kernel,
+    turns: &'a Loop,
+    scope: &Scope,
+) -> Result<Vec<Loose<'a>>, AllocError>
+    requires assigned { IsAssignment 15 regs.now }
+    requires vars { length (program_of kernel.now).vars ≤ length regs.now.registers }
+    requires params { length (program_of kernel.now).params ≤ 8 }
+    requires turns { (program_of kernel.now).turns ≡ Some (turns_of turns.now) }
+    requires scope { scope_of scope.now
+        ≡ typing.in_loop (typing.var_scope (program_of kernel.now)) (turns_of turns.now) }
+    ensures { IfOk result (λ v. looses_of v.entry.items
+        ≡ loosening.counted_down (typing.var_scope (program_of kernel.now)) (turns_of turns.now)
+        (program_of kernel.now).answer) }
+{
+    let moved = moved_names(alloc, scope, turns)?;
+    if may_move(alloc, regs, kernel, turns, &moved)? {
+        Ok(moved)
+    } else {
+        Ok(Vec::new(alloc))
+    }
+}
+
+// ---- the whole
+
+// The names of a loop, with no name declared yet.
 fn loosen_named<'a>(
     alloc: Global,
     places: &mut Places<'a>,
@@ -384,14 +517,14 @@ fn loosen_named<'a>(
     declare_names(scope, homes, regs, kernel)?;
     declare_index(scope, homes, turns)?;
     scope.inside = true;
-    let mut loose = Vec::new(alloc);
+    let mut loose = counted_down(alloc, regs, kernel, turns, scope)?;
     loosen_block(alloc, regs, kernel, turns, scope, &mut loose, &turns.body)?;
     places.loosen(loose);
     Ok(())
 }
 
-/// The accumulators that a loop holds loosely.
-pub fn loosen_accumulators<'a>(
+/// The names that a loop holds loosely.
+pub fn loosen_names<'a>(
     alloc: Global,
     places: &mut Places<'a>,
     regs: &Assigned,

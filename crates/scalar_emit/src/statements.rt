@@ -285,7 +285,7 @@ fn emit_joined(
         (statements.update_code places.now (homes_of homes.now) (scope_of scope.now) item.old draft.old.labels
         (name_of name.now) op want (term_of value.now))) }
 {
-    let held = held_extent(places.loose_type(name));
+    let held = held_extent(places.loose_form(name));
     let extent = binary_extent(op, held, want);
     let side = emit_side(draft, places, homes, scope, op, extent, want, value, item)?;
     let leaves = settles(within(held, want), binary_joins(op), binary_leaves(op));

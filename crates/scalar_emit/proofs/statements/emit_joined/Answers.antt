@@ -14,7 +14,7 @@ pub returns-clause-code : goal.returns-clause-code
 returns-clause-code c rest =
     let L = c.args.places.now in
     let x = name_of c.args.name.now in
-    let held = c.held_extent-held.ensures ∙ ap held_extent c.loose_type.ensures in
+    let held = c.held_extent-held.ensures ∙ ap held_extent c.loose_form.ensures in
     let extent = c.binary_extent-extent.ensures ∙ ap (λ (w : Extent). binary_extent c.args.op w c.args.want) held in
     let low = c.within.ensures ∙ ap (λ (w : Extent). within w c.args.want) held in
     let leaves = c.settles-leaves.ensures ∙ rw (low, c.binary_joins.ensures, c.binary_leaves.ensures) refl in

@@ -7,5 +7,5 @@ use Rattle.scalar_emit.proofs.turns.emit_extended.Given as goal
 abbrev pub invariant-loop-held : goal.invariant-loop-held
 invariant-loop-held l = record {
   labels : l.draft.labels ≡ l.fn.draft.labels;
-  code : (rest : List plain.Entry) → l.draft.entries ++ settle_code (homes_of l.homes) (looses_of (drop l.held-index l.loose)) rest ≡ l.fn.draft.entries ++ settle_code (homes_of l.homes) (looses_of l.loose) rest;
+  code : (rest : List plain.Entry) → l.draft.entries ++ settle_code l.bound.number (homes_of l.homes) (looses_of (drop l.held-index l.loose)) rest ≡ l.fn.draft.entries ++ settle_code l.bound.number (homes_of l.homes) (looses_of l.loose) rest;
 }
