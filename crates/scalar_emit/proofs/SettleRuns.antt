@@ -1,34 +1,36 @@
--- What the extensions after a loop do: the values of all names stand in their registers again.
-use Rattle.std.proofs.Common.{◌≡◌, ℕ, ◌+◌, ◌%◌, ◌^◌, ◌<◌, ◌≤◌, Bool, true, false, cond, List, [], ◌∷◌, length, Option, Some, None, refl, sym, ap, ◌∙◌, subst, arith}
-use Rattle.std.specs.Prelude.{ℤ, option_map, bytes_eq}
-use Rattle.std.specs.List.{find}
-use Rattle.guest_types.specs.Memory.{Memory}
+-- What the words after the last iteration do: the values of all names but arrays stand in their registers again.
+use Rattle.std.proofs.Common.{◌≡◌, ℕ, ◌+◌, ◌%◌, ◌^◌, ◌<◌, ◌≤◌, List, [], ◌∷◌, ◌++◌, length, Some, None, false, refl, sym, ap, ap₂, ◌∙◌, subst, arith, append_assoc}
+use Rattle.std.specs.Prelude.{ℤ, pos, ◌+ℤ◌, ◌-ℤ◌}
+use Rattle.std.proofs.lemmas.Int.{ints}
+use Rattle.std.proofs.Math.Nat.{mod-eq_of_lt}
 use Rattle.machine_model.specs.Machine.{State, x_at}
+use Rattle.machine_model.specs.Arithmetic.{sum, shifted_word}
+use Rattle.a64_code.specs.Table.{add}
 use Rattle.kernel_tree.specs.declared.ops.Ty.{Ty}
+use Rattle.kernel_tree.specs.declared.ops.Ty.TheVariants as ty
 use Rattle.kernel_tree.specs.Typing.{Scope, lookup}
 use Rattle.kernel_tree.specs.Wrap.{wrap, bits_of}
-use Rattle.kernel_tree.proofs.Names.{bytes_same, bytes_swap, bytes_told}
 use Rattle.kernel_meaning.specs.Operators.{word}
-use Rattle.kernel_meaning.specs.Eval.{Named, Names, is_named, value_at}
-use Rattle.kernel_meaning.specs.Iterate.{named, assigned}
+use Rattle.kernel_meaning.specs.Eval.{Names, value_at}
+use Rattle.kernel_meaning.specs.Iterate.{assigned}
 use Rattle.kernel_meaning.specs.TypeValues.{IsOf}
 use Rattle.kernel_meaning.proofs.TypeRanges.{wrap-of}
 use Rattle.kernel_meaning.proofs.NameRanges.{name_range, acc_value}
-use Rattle.label_fix.specs.DraftRun.{Entry, Laid}
-use Rattle.label_fix.proofs.StretchSteps.{Goes, Resolves, stay, chain}
-use Rattle.scalar_words.specs.Layout.{Loose, loose_type, is_loose, loose_in, Layout, Home, Homes, is_home, register_at}
-use Rattle.scalar_words.specs.Words.{settle_word}
-use Rattle.scalar_words.specs.Safe.{Only}
+use Rattle.label_fix.specs.DraftRun.{Entry, Laid, word_of}
+use Rattle.label_fix.proofs.StretchSteps.{Goes, Resolves, stay, go_more, chain}
+use Rattle.scalar_words.specs.Layout.{Form, LowBits, Ahead, Behind, Loose, loose_in, Layout, Homes, register_at, NameLasts}
+use Rattle.scalar_words.specs.Words.{word_code}
 use Rattle.scalar_words.proofs.LayoutStates.{Assigned, AreSafe, Held, Tells, Told, AreRanged, TypeRange, name_held, name_found}
-use Rattle.scalar_words.proofs.Told.{tells_same, told_at, told_none}
-use Rattle.scalar_words.proofs.WordsRuns.{extended_sets}
+use Rattle.scalar_words.proofs.Told.{told_found}
+use Rattle.scalar_words.proofs.WordsRuns.{Sets, extended_sets}
 use Rattle.scalar_words.proofs.Constants.{word_back}
+use Rattle.scalar_values.proofs.Loads.{word-sum}
 use Rattle.scalar_values.proofs.Loose.{wrap-alike}
-use Rattle.scalar_emit.specs.Loop.{settle_code, NoHome, IsOnce, AreHeldLoosely}
+use Rattle.scalar_emit.specs.Loosening.{keep_ahead, after_loop}
+use Rattle.scalar_emit.specs.Loop.{settle_form, settle_code, IsFormed, AreHeldLoosely}
 use Rattle.scalar_emit.proofs.StmtRuns.{held_assigned}
-use Rattle.kernel_tree.specs.declared.ops.Ty.TheVariants as ty
-
--- ---- one accumulator fewer
+use Rattle.scalar_emit.proofs.LooseNames.{AreOnce, first_in, before_none, after_none, past, without, once_without, told_changed, settling_words, all_settling}
+use Rattle.scalar_emit.proofs.EnterRuns.{AreUnlike, wrote_sets, bound_apart}
 
 type_wraps : (t : Ty) (z v : ℤ) → word z % 2 ^ bits_of t ≡ word v % 2 ^ bits_of t → wrap t z ≡ wrap t v
 type_wraps ty.I8 z v e = wrap-alike ty.I8 z v e
@@ -40,93 +42,82 @@ type_wraps ty.U32 z v e = wrap-alike ty.U32 z v e
 type_wraps ty.I64 z v e = wrap-alike ty.I64 z v e
 type_wraps ty.U64 z v e = wrap-alike ty.U64 z v e
 
--- its own type
-first_in : (l : Loose) (ls : List Loose) → loose_in (l ∷ ls) l.name ≡ Some l.type
-first_in l ls = ap (λ b. option_map loose_type (cond b (Some l) (find (is_loose l.name) ls))) (bytes_same l.name)
-
--- what is told of another name, is told without it
-tells_other : (l : Loose) (ls : List Loose) (x : List ℕ) (z v : ℤ) → bytes_eq x l.name ≡ false → Tells (loose_in (l ∷ ls) x) z v → Tells (loose_in ls x) z v
-tells_other l ls x z v e h = subst (λ b. Tells (option_map loose_type (cond b (Some l) (find (is_loose x) ls))) z v) (bytes_swap x l.name e) h
-
-told_unnamed : (hs : Homes) (l : Loose) (ls : List Loose) (zs ns : Names) (p : ℕ) (s : State) → NoHome l.name hs → Held hs zs p s → Told (l ∷ ls) zs ns → Told ls zs ns
-told_unnamed [] l ls [] [] p s free held h = tt
-told_unnamed [] l ls [] (n ∷ ns) p s free held h = absurd h
-told_unnamed [] l ls (z ∷ zs) ns p s free held h = absurd held
-told_unnamed (x ∷ hs) l ls [] ns p s free held h = absurd held
-told_unnamed (x ∷ hs) l ls (z ∷ zs) [] p s free held h = absurd h
-told_unnamed (x ∷ hs) l ls (z ∷ zs) (n ∷ ns) p s free held h =
-    let other : bytes_eq n.name l.name ≡ false = ap (λ y. bytes_eq y l.name) (sym h.0 ∙ held.0) ∙ free.0 in
-    (h.0, tells_other l ls n.name z.value n.value other h.1, told_unnamed hs l ls zs ns p s free.1 held.2 h.2)
-
-settled_step : (b : Bool) (x : Home) (hs : Homes) (l : Loose) (ls : List Loose) (z n : Named) (zs ns : Names) (p : ℕ) (s : State) → is_home l.name x ≡ b → IsOnce (x ∷ hs) l.name → Held (x ∷ hs) (z ∷ zs) p s → Told (l ∷ ls) (z ∷ zs) (n ∷ ns)
-    → (IsOnce hs l.name → Told ls (assigned l.name (value_at ns l.name) zs) ns) → Told ls (assigned l.name (value_at (n ∷ ns) l.name) (z ∷ zs)) (n ∷ ns)
-settled_step true x hs l ls z n zs ns p s e once held h rest =
-    let ez : is_named l.name z ≡ true = ap (λ y. bytes_eq y l.name) held.0 ∙ e in
-    let en : is_named l.name n ≡ true = ap (λ y. bytes_eq y l.name) (sym h.0) ∙ ez in
-    let free : NoHome l.name hs = subst (λ b. cond b (NoHome l.name hs) (IsOnce hs l.name)) e once in
-    let tail = told_unnamed hs l ls zs ns p s free held.2 h.2 in
-    let value : value_at (n ∷ ns) l.name ≡ n.value = rw en refl in
-    subst (λ c. Told ls (cond c (named z.name (value_at (n ∷ ns) l.name) ∷ zs) (z ∷ assigned l.name (value_at (n ∷ ns) l.name) zs)) (n ∷ ns)) (sym ez)
-    (h.0, tells_same (loose_in ls n.name) (value_at (n ∷ ns) l.name) n.value value, tail)
-settled_step false x hs l ls z n zs ns p s e once held h rest =
-    let ez : is_named l.name z ≡ false = ap (λ y. bytes_eq y l.name) held.0 ∙ e in
-    let en : is_named l.name n ≡ false = ap (λ y. bytes_eq y l.name) (sym h.0) ∙ ez in
-    let more : IsOnce hs l.name = subst (λ b. cond b (NoHome l.name hs) (IsOnce hs l.name)) e once in
-    let value : value_at (n ∷ ns) l.name ≡ value_at ns l.name = rw en refl in
-    subst (λ c. Told ls (cond c (named z.name (value_at (n ∷ ns) l.name) ∷ zs) (z ∷ assigned l.name (value_at (n ∷ ns) l.name) zs)) (n ∷ ns)) (sym ez)
-    (h.0, tells_other l ls n.name z.value n.value en h.1, subst (λ v. Told ls (assigned l.name v zs) ns) (sym value) (rest more))
-
-told_settled : (hs : Homes) (l : Loose) (ls : List Loose) (zs ns : Names) (p : ℕ) (s : State) → IsOnce hs l.name → Held hs zs p s → Told (l ∷ ls) zs ns → Told ls (assigned l.name (value_at ns l.name) zs) ns
-told_settled [] l ls [] [] p s once held h = tt
-told_settled [] l ls [] (n ∷ ns) p s once held h = absurd h
-told_settled [] l ls (z ∷ zs) ns p s once held h = absurd held
-told_settled (x ∷ hs) l ls [] ns p s once held h = absurd held
-told_settled (x ∷ hs) l ls (z ∷ zs) [] p s once held h = absurd h
-told_settled (x ∷ hs) l ls (z ∷ zs) (n ∷ ns) p s once held h = settled_step (is_home l.name x) x hs l ls z n zs ns p s refl once held h (λ o. told_settled hs l ls zs ns p s o held.2 h.2)
-
--- ---- the extensions
-
 module _ (D : Laid) where
-  pub settle_back : (hs : Homes) (ls : List Loose) (rest : List Entry) → Resolves D (settle_code hs ls rest) → Resolves D rest
-  settle_back hs [] rest h = h
-  settle_back hs (l ∷ ls) rest h = settle_back hs ls rest (word_back D (settle_word true l.type (register_at hs l.name)) _ h)
+  pub settle_back : (r : ℕ) (hs : Homes) (ls : List Loose) (rest : List Entry) → Resolves D (settle_code r hs ls rest) → Resolves D rest
+  settle_back r hs [] rest h = h
+  settle_back r hs (l ∷ ls) rest h = settle_back r hs ls rest (word_back D (settle_form r (register_at hs l.name) l.form) _ h)
 
-  -- the values stand in the registers
-  pub record Settles (c : List Entry) (s : State) (rest : List Entry) (hs : Homes) (ns : Names) (p most : ℕ) : Type 0 where
+  -- the values stand in the registers, but for those of arrays
+  pub record Settles (c : List Entry) (s : State) (rest : List Entry) (hs : Homes) (ls : List Loose) (ns : Names) (p n most : ℕ) : Type 0 where
     pub end : State
     pub goes : Goes D c s rest end most
     pub memory : end.memory ≡ s.memory
     pub sized : length end.x ≡ length s.x
-    pub low : (r : ℕ) → r < 10 → x_at end r ≡ x_at s r
     pub stand : Names
-    pub told : Told [] stand ns
+    pub told : Told ls n stand ns
     pub held : Held hs stand p end
 
-module _ (D : Laid) (L : Layout) (fit : Assigned L) (hs : Homes) (sc : Scope) (p : ℕ) (safe : AreSafe L p hs) where
-  pub settle_runs : (ls : List Loose) (rest : List Entry) (zs ns : Names) (s : State) → length s.x ≡ 31 → AreHeldLoosely hs sc p ls → AreRanged sc.visible ns → Told ls zs ns → Held hs zs p s → Settles D (settle_code hs ls rest) s rest hs ns p (length ls)
-  settle_runs [] rest zs ns s sized are ranged told held = record { end = s; goes = stay 0; memory = refl; sized = refl; low = λ r lt. refl; stand = zs; told = told; held = held }
-  settle_runs (l ∷ ls) rest zs ns s sized are ranged told held =
-      let one = are.0 in
-      let lasts = one.1 in
-      let r = register_at hs l.name in
-      let high = one.2 in
-      let found = name_found L hs l.name p p (omega arith) safe lasts in
-      let z = value_at zs l.name in
-      let v = value_at ns l.name in
-      let acc = name_held hs zs l.name p s sized held lasts in
-      let type = acc_value l.type (lookup sc l.name) one.0 in
-      let range : IsOf l.type v = subst (λ o. TypeRange o v) type (name_range sc.visible ns l.name ranged) in
-      let tells : Tells (Some l.type) z v = subst (λ o. Tells o z v) (first_in l ls) (told_at (l ∷ ls) zs ns l.name told) in
-      let k = extended_sets D L fit {rest = settle_code hs ls rest} {s = s} l.type r z sized (let hi = found.high in omega (arith, hi)) acc in
-      let value : x_at k.end r ≡ word v = k.value ∙ ap word (type_wraps l.type z v tells ∙ wrap-of l.type v range) in
-      let f = settle_runs ls rest (assigned l.name v zs) ns k.end (k.changes.sized ∙ sized) are.1 ranged (told_settled hs l ls zs ns p s one.4 held told) (held_assigned D L fit hs zs l.name v r p s k.end safe held k.changes value one.3) in
+module _ (D : Laid) (L : Layout) (fit : Assigned L) (hs : Homes) (sc : Scope) (p : ℕ) (safe : AreSafe L p hs) (y : List ℕ) (r n : ℕ) (lasts : NameLasts hs y p) (same : register_at hs y ≡ r) (small : n < 2 ^ 64) where
+  bound_high : r ≤ 25
+  bound_high = let f = (name_found L hs y p p (omega arith) safe lasts).high in omega (arith, f, same)
+
+  -- a value that stands in its register again, and the rest
+  settle_more : (l : Loose) (ls done : List Loose) (rest : List Entry) (zs ns : Names) (s : State) {c : List Entry} (most : ℕ) → length s.x ≡ 31 → AreHeldLoosely hs sc p (l ∷ ls) → AreUnlike y (l ∷ ls) → AreOnce (done ++ l ∷ ls) → x_at s r ≡ n → Told (done ++ l ∷ ls) n zs ns → Held hs zs p s
+      → Sets D c s (settle_code r hs ls rest) (register_at hs l.name) (value_at ns l.name) most
+      → ((zs : Names) (s : State) → length s.x ≡ 31 → AreOnce (done ++ ls) → x_at s r ≡ n → Told (done ++ ls) n zs ns → Held hs zs p s → Settles D (settle_code r hs ls rest) s rest hs (done ++ after_loop ls) ns p n (all_settling ls))
+      → Settles D c s rest hs (done ++ after_loop ls) ns p n (most + all_settling ls)
+  settle_more l ls done rest zs ns s most sized are unlike once bound told held k more =
+      let x = l.name in
+      let q = register_at hs x in
+      let v = value_at ns x in
+      let only = are.0.1.1 in
+      let none : loose_in (done ++ ls) x ≡ None = past done ls x (before_none done l ls once) ∙ after_none done l ls once in
+      let tells : Tells n (loose_in (done ++ ls) x) v v = subst (λ o. Tells n o v v) (sym none) refl in
+      let told1 = told_changed (done ++ l ∷ ls) (done ++ ls) n x v hs zs ns p s (λ w e. without done l ls w e) are.0.2 held told tells in
+      let f = more (assigned x v zs) k.end (k.changes.sized ∙ sized) (once_without done l ls once) (k.changes.others r bound_high (bound_apart D L fit hs sc p safe y r n lasts same small x unlike.0 only) ∙ bound) told1 (held_assigned D L fit hs zs x v q p s k.end safe held k.changes k.value only) in
       record {
         end = f.end;
-        goes = chain (length (l ∷ ls)) (omega arith) k.goes f.goes;
+        goes = chain (most + all_settling ls) (omega arith) k.goes f.goes;
         memory = f.memory ∙ k.changes.memory;
         sized = f.sized ∙ k.changes.sized;
-        low = λ q lt. f.low q lt ∙ k.changes.others q (omega (arith, lt)) (λ e. absurd (omega (arith, e, lt, high)));
         stand = f.stand;
         told = f.told;
         held = f.held;
       }
+
+  settle_one : (f : Form) (l : Loose) (ls done : List Loose) (rest : List Entry) (zs ns : Names) (s : State) → l.form ≡ f → length s.x ≡ 31 → AreHeldLoosely hs sc p (l ∷ ls) → AreUnlike y (l ∷ ls) → AreOnce (done ++ l ∷ ls) → x_at s r ≡ n → AreRanged sc.visible ns → Told (done ++ l ∷ ls) n zs ns → Held hs zs p s
+      → ((done : List Loose) (zs : Names) (s : State) → length s.x ≡ 31 → AreOnce (done ++ ls) → x_at s r ≡ n → Told (done ++ ls) n zs ns → Held hs zs p s → Settles D (settle_code r hs ls rest) s rest hs (done ++ after_loop ls) ns p n (all_settling ls))
+      → Settles D (word_code (settle_form r (register_at hs l.name) f) (settle_code r hs ls rest)) s rest hs (done ++ keep_ahead f l (after_loop ls)) ns p n (settling_words f + all_settling ls)
+  settle_one (LowBits t) l ls done rest zs ns s e sized are unlike once bound ranged told held more =
+      let x = l.name in
+      let z = value_at zs x in
+      let v = value_at ns x in
+      let found = name_found L hs x p p (omega arith) safe are.0.1.0 in
+      let type = acc_value t (lookup sc x) (subst (IsFormed sc x) e are.0.0) in
+      let range : IsOf t v = subst (λ o. TypeRange o v) type (name_range sc.visible ns x ranged) in
+      let tells : Tells n (Some (LowBits t)) z v = subst (λ o. Tells n o z v) (past done (l ∷ ls) x (before_none done l ls once) ∙ first_in l ls ∙ ap Some e) (told_found (done ++ l ∷ ls) n hs zs ns x p p s held are.0.1.0 told) in
+      let k = extended_sets D L fit {rest = settle_code r hs ls rest} {s = s} t (register_at hs x) z sized (let hi = found.high in omega (arith, hi)) (name_held hs zs x p s sized held are.0.1.0) in
+      settle_more l ls done rest zs ns s 1 sized are unlike once bound told held
+      (record { end = k.end; goes = k.goes; changes = k.changes; value = k.value ∙ ap word (type_wraps t z v tells ∙ wrap-of t v range); shaped = k.shaped }) (more done)
+  settle_one (Ahead t) l ls done rest zs ns s e sized are unlike once bound ranged told held more =
+      let f = more (done ++ l ∷ []) zs s sized (subst AreOnce (sym (append_assoc done (l ∷ []) ls)) once) bound (subst (λ ds. Told ds n zs ns) (sym (append_assoc done (l ∷ []) ls)) told) held in
+      record { end = f.end; goes = go_more (settling_words (Ahead t) + all_settling ls) (omega arith) f.goes; memory = f.memory; sized = f.sized; stand = f.stand; told = subst (λ ds. Told ds n f.stand ns) (append_assoc done (l ∷ []) (after_loop ls)) f.told; held = f.held }
+  settle_one Behind l ls done rest zs ns s e sized are unlike once bound ranged told held more =
+      let x = l.name in
+      let q = register_at hs x in
+      let z = value_at zs x in
+      let v = value_at ns x in
+      let found = name_found L hs x p p (omega arith) safe are.0.1.0 in
+      let tells : Tells n (Some Behind) z v = subst (λ o. Tells n o z v) (past done (l ∷ ls) x (before_none done l ls once) ∙ first_in l ls ∙ ap Some e) (told_found (done ++ l ∷ ls) n hs zs ns x p p s held are.0.1.0 told) in
+      let back : z +ℤ pos n ≡ v = omega (arith, ints, tells) in
+      let low : word (pos n) ≡ n = mod-eq_of_lt small in
+      let plain : shifted_word 0 n 0 ≡ n = omega (arith, small) in
+      let value : sum (x_at s q) (shifted_word 0 (x_at s r) 0) ≡ word v = ap₂ (λ a b. sum a (shifted_word 0 b 0)) (name_held hs zs x p s sized held are.0.1.0) bound ∙ ap (sum (word z)) (plain ∙ sym low) ∙ sym (word-sum z (pos n)) ∙ ap word back in
+      settle_more l ls done rest zs ns s 1 sized are unlike once bound told held
+      (wrote_sets D {i = word_of add (q ∷ q ∷ 0 ∷ r ∷ 0 ∷ [])} q (sum (x_at s q) (shifted_word 0 (x_at s r) 0)) v sized found.high refl value) (more done)
+
+  pub settle_runs : (ls done : List Loose) (rest : List Entry) (zs ns : Names) (s : State) → length s.x ≡ 31 → AreHeldLoosely hs sc p ls → AreUnlike y ls → AreOnce (done ++ ls) → x_at s r ≡ n → AreRanged sc.visible ns → Told (done ++ ls) n zs ns → Held hs zs p s → Settles D (settle_code r hs ls rest) s rest hs (done ++ after_loop ls) ns p n (all_settling ls)
+  settle_runs [] done rest zs ns s sized are unlike once bound ranged told held = record { end = s; goes = stay 0; memory = refl; sized = refl; stand = zs; told = told; held = held }
+  settle_runs (l ∷ ls) done rest zs ns s sized are unlike once bound ranged told held =
+      settle_one l.form l ls done rest zs ns s refl sized are unlike once bound ranged told held
+      (λ done1 zs1 s1 sized1 once1 bound1 told1 held1. settle_runs ls done1 rest zs1 ns s1 sized1 are.1 unlike.1 once1 bound1 ranged told1 held1)
