@@ -19,7 +19,7 @@ use Rattle.kernel_meaning.specs.Iterate.{with_name}
 use Rattle.kernel_meaning.specs.ScalarRun.{argument, argument_names, initial, started}
 use Rattle.label_fix.specs.DraftRun.{Entry, Laid, word_of}
 use Rattle.label_fix.proofs.StretchSteps.{Goes, Resolves, stay, chain, put_goes, go_more}
-use Rattle.scalar_words.specs.Layout.{Layout, Homes, Lasts}
+use Rattle.scalar_words.specs.Layout.{loose_in, Layout, Homes, Lasts}
 use Rattle.scalar_values.specs.ValueRegisters.{home}
 use Rattle.scalar_words.specs.Words.{copy_word, word_code, settle_word, is_narrow, extending}
 use Rattle.scalar_values.specs.Code.{labels}
@@ -32,12 +32,16 @@ use Rattle.scalar_emit.specs.KernelFits.{AreSafeVars, KernelFits}
 use Rattle.scalar_words.specs.Iterations.{AreHeld}
 use Rattle.scalar_emit.specs.Runs.{Begins, begin_steps, BeginRuns}
 use Rattle.scalar_words.proofs.AssignedOf.{counted-low}
-use Rattle.scalar_words.proofs.LayoutStates.{Assigned, Changes, AreSafe, Held, Fixed, At, frame_of, wrote, wrote_same, wrote_other, wrote_sized, kept_none, at_kept, safe_later}
+use Rattle.scalar_words.proofs.LayoutStates.{Assigned, Changes, AreSafe, Held, Fixed, Told, At, frame_of, wrote, wrote_same, wrote_other, wrote_sized, kept_none, at_kept, safe_later}
 use Rattle.scalar_values.proofs.Loads.{Gives, a_value}
 use Rattle.scalar_words.proofs.WordsRuns.{extension_is, wide_wrap, copied_sets}
 use Rattle.kernel_meaning.specs.TypeValues.{IsOf}
 use Rattle.scalar_values.proofs.Ranges.{value-range}
 use Rattle.scalar_words.proofs.Constants.{word_back}
+use Rattle.scalar_words.proofs.Told.{tells_itself, told_same, told_more, told_none}
+use Rattle.scalar_values.specs.Covers.{covers}
+use Rattle.scalar_values.specs.declared.extent.Extent.TheVariants.{Whole}
+use Rattle.scalar_values.proofs.CoversNone.{covers_none}
 use Rattle.scalar_values.proofs.ValueRuns.{give_more, value_runs, value_back}
 use Rattle.scalar_values.proofs.CodedSizes.{coded_few}
 use Rattle.kernel_meaning.proofs.NameRanges.{ranged_more}
@@ -158,9 +162,9 @@ starts_at {w = w} {hs = hs} {ls = ls} {m = m} q e (starts {names = names} end k 
 
 module _ (D : Laid) (L : Layout) (fit : Assigned L) (R : ℕ → ℕ) where
   -- one more accumulator has its value
-  at_var : {w : Fixed L} {hs : Homes} (s : Scope) {names : Names} {m : Memory} {st end : State} (j q : ℕ) (v : Accumulator) (x : ℤ) → AreSafe L q hs → Others hs (counted_x (R j)) (q + 1) → IsOf v.type x
+  at_var : {w : Fixed L} {hs : Homes} (s : Scope) {names : Names} {m : Memory} {st end : State} (j q : ℕ) (v : Accumulator) (x : ℤ) → L.loose ≡ [] → AreSafe L q hs → Others hs (counted_x (R j)) (q + 1) → IsOf v.type x
       → At w hs s.visible names m q st → Changes st end (counted_x (R j)) → x_at end (counted_x (R j)) ≡ word x → At w (hs ++ var_home R j v ∷ []) (after_var s v).visible (with_name v.name names x) m (q + 1) end
-  at_var {hs = hs} s {names = names} {m = m} {st = st} {end = end} j q v x safe others range at k is =
+  at_var {w = w} {hs = hs} s {names = names} {m = m} {st = st} {end = end} j q v x none safe others range at k is =
       let d = counted_x (R j) in
       let up = counted-low (R j) in
       let next = at_kept L fit q (q + 1) (omega arith) safe at (kept_none L st q (q + 1)) in
@@ -171,24 +175,26 @@ module _ (D : Laid) (L : Layout) (fit : Assigned L) (R : ℕ → ℕ) where
         ranged = ranged_more s.visible names (local v.name (binding.Accumulator v.type)) x next.ranged range;
         memory = k.memory ∙ next.memory;
         good = next.good;
-        held = held_more hs names (var_home R j v) x (q + 1) end (held_others D L fit hs names d (q + 1) st end (safe_later L hs q (q + 1) (omega arith) safe) next.held k others) (λ l. is);
+        stand = with_name v.name next.stand x;
+        told = told_more L.loose w.count next.stand names v.name x (ap (λ ls. tells_itself (loose_in ls v.name)) none) next.told;
+        held = held_more hs next.stand (var_home R j v) x (q + 1) end (held_others D L fit hs next.stand d (q + 1) st end (safe_later L hs q (q + 1) (omega arith) safe) next.held k others) (λ l. is);
       }
 
   -- an initial value into its register, and then the other accumulators
-  vars_step : (o : Option ℤ) (v : Accumulator) (vs : List Accumulator) {w : Fixed L} {hs : Homes} (s : Scope) {names : Names} {m : Memory} {st : State} (j b n : ℕ) (rest : List Entry) → AreSafeVars L R hs s j b (v ∷ vs) → counted_x (R j) ≤ 25 → FitsVars L R hs s j b (v ∷ vs) → At w hs s.visible names m b st
+  vars_step : (o : Option ℤ) (v : Accumulator) (vs : List Accumulator) {w : Fixed L} {hs : Homes} (s : Scope) {names : Names} {m : Memory} {st : State} (j b n : ℕ) (rest : List Entry) → L.loose ≡ [] → AreSafeVars L R hs s j b (v ∷ vs) → counted_x (R j) ≤ 25 → FitsVars L R hs s j b (v ∷ vs) → At w hs s.visible names m b st
       → value s (Some v.type) v.init m names ≡ o
       → Gives D L (vars_code L R hs s j b n (v ∷ vs) rest) st (word_code (copy_word (counted_x (R j)) (home L hs s.index b v.init)) (vars_code L R (hs ++ var_home R j v ∷ []) (after_var s v) (j + 1) (b + term_size s.index v.init + 1) (n + labels s.index v.init) vs rest)) b (b + term_size s.index v.init) (home L hs s.index b v.init) m (4 * term_size s.index v.init) o
       → ((x : ℤ) (st : State) → At w (hs ++ var_home R j v ∷ []) (after_var s v).visible (with_name v.name names x) m (b + term_size s.index v.init + 1) st
       → Starts D w (vars_code L R (hs ++ var_home R j v ∷ []) (after_var s v) (j + 1) (b + term_size s.index v.init + 1) (n + labels s.index v.init) vs rest) st rest ((hs ++ var_home R j v ∷ []) ++ var_homes R (j + 1) vs) (after_vars (after_var s v) vs).visible (b + term_size s.index v.init + 1 + vars_size s.index vs) m (4 * vars_size s.index vs) (initial (after_var s v) vs m (with_name v.name names x)))
       → Starts D w (vars_code L R hs s j b n (v ∷ vs) rest) st rest (hs ++ var_homes R j (v ∷ vs)) (after_vars (after_var s v) vs).visible (b + (term_size s.index v.init + 1 + vars_size s.index vs)) m (4 * (term_size s.index v.init + 1 + vars_size s.index vs)) (option_and_then (initial (after_var s v) vs m) (option_map (with_name v.name names) o))
-  vars_step None v vs s j b n rest safe hi fits at e g on = cannot
-  vars_step (Some x) v vs {w = w} {hs = hs} s {names = names} {m = m} j b n rest safe hi fits at e (a_value g) on =
+  vars_step None v vs s j b n rest none safe hi fits at e g on = cannot
+  vars_step (Some x) v vs {w = w} {hs = hs} s {names = names} {m = m} j b n rest none safe hi fits at e (a_value g) on =
       let q = b + term_size s.index v.init in
       let following = vars_code L R (hs ++ var_home R j v ∷ []) (after_var s v) (j + 1) (b + term_size s.index v.init + 1) (n + labels s.index v.init) vs rest in
       let k = copied_sets D L fit {rest = following} {s = g.end} (counted_x (R j)) (home L hs s.index b v.init) x (g.kept.sized ∙ at.sized) (omega (arith, hi)) g.value in
       let here = at_kept L fit b q (omega arith) safe.0 at g.kept in
       let range = value-range L hs s names m v.init v.type b q x fits.0 at.ranged e in
-      let at1 = at_var s j q v x (safe_later L hs b q (omega arith) safe.0) safe.1 range here k.changes k.value in
+      let at1 = at_var s j q v x none (safe_later L hs b q (omega arith) safe.0) safe.1 range here k.changes k.value in
       let r = on x k.end at1 in
       starts_after (4 * (term_size s.index v.init + 1 + vars_size s.index vs)) (omega arith) (chain (4 * term_size s.index v.init + 1) (omega arith) g.goes k.goes) (k.changes.frame ∙ g.kept.frame)
       (starts_at (b + (term_size s.index v.init + 1 + vars_size s.index vs)) (omega arith) (subst (λ hs. Starts D w following k.end rest hs (after_vars (after_var s v) vs).visible (q + 1 + vars_size s.index vs) m (4 * vars_size s.index vs) (initial (after_var s v) vs m (with_name v.name names x))) (append_assoc hs (var_home R j v ∷ []) (var_homes R (j + 1) vs)) r))
@@ -197,14 +203,15 @@ module _ (D : Laid) (L : Layout) (fit : Assigned L) (R : ℕ → ℕ) where
   vars_first [] hs s j b h = h
   vars_first (v ∷ vs) hs s j b h = h.0
 
-  pub vars_runs : (vs : List Accumulator) {w : Fixed L} {hs : Homes} (s : Scope) {names : Names} {m : Memory} {st : State} (j b n : ℕ) (rest : List Entry) → AreSafeVars L R hs s j b vs → HighVars R j vs → FitsVars L R hs s j b vs → At w hs s.visible names m b st → Resolves D (vars_code L R hs s j b n vs rest)
+  pub vars_runs : (vs : List Accumulator) {w : Fixed L} {hs : Homes} (s : Scope) {names : Names} {m : Memory} {st : State} (j b n : ℕ) (rest : List Entry) → L.loose ≡ [] → AreSafeVars L R hs s j b vs → HighVars R j vs → FitsVars L R hs s j b vs → At w hs s.visible names m b st → Resolves D (vars_code L R hs s j b n vs rest)
       → Starts D w (vars_code L R hs s j b n vs rest) st rest (hs ++ var_homes R j vs) (after_vars s vs).visible (b + vars_size s.index vs) m (4 * vars_size s.index vs) (initial s vs m names)
-  vars_runs [] {w = w} {hs = hs} s {names = names} {m = m} {st = st} j b n rest safe high fits at res =
+  vars_runs [] {w = w} {hs = hs} s {names = names} {m = m} {st = st} j b n rest none safe high fits at res =
       starts_at (b + 0) (omega arith) (starts st (stay 0) (subst (λ hs. At w hs s.visible names m b st) (sym (append-nil hs)) at) refl)
-  vars_runs (v ∷ vs) {hs = hs} s {names = names} {m = m} j b n rest safe high fits at res =
-      vars_step (value s (Some v.type) v.init m names) v vs s j b n rest safe high.0 fits at refl
-      (give_more D L (4 * term_size s.index v.init) (coded_few v.init L.constants s.index) (value_runs D L fit v.init s v.type b (b + term_size s.index v.init) n _ (omega arith) safe.0 at fits.0 res))
-      (λ x st at1. vars_runs vs (after_var s v) (j + 1) (b + term_size s.index v.init + 1) (n + labels s.index v.init) rest safe.2 high.1 fits.1 at1 (word_back D (copy_word (counted_x (R j)) (home L hs s.index b v.init)) _ (value_back D L fit v.init hs s (Some v.type) b n _ res)))
+  vars_runs (v ∷ vs) {hs = hs} s {names = names} {m = m} j b n rest none safe high fits at res =
+      let covered : covers L.loose s Whole (Some v.type) v.init ≡ true = subst (λ ls. covers ls s Whole (Some v.type) v.init ≡ true) (sym none) (covers_none v.init s Whole (Some v.type)) in
+      vars_step (value s (Some v.type) v.init m names) v vs s j b n rest none safe high.0 fits at refl
+      (give_more D L (4 * term_size s.index v.init) (coded_few v.init L.constants s.index) (value_runs D L fit v.init s v.type b (b + term_size s.index v.init) n _ (omega arith) covered safe.0 at fits.0 res))
+      (λ x st at1. vars_runs vs (after_var s v) (j + 1) (b + term_size s.index v.init + 1) (n + labels s.index v.init) rest none safe.2 high.1 fits.1 at1 (word_back D (copy_word (counted_x (R j)) (home L hs s.index b v.init)) _ (value_back D L fit v.init hs s (Some v.type) b n _ res)))
 
 -- ---- X9
 
@@ -235,7 +242,9 @@ at_zero {hs = hs} {names = names} {p = p} {s = s} e at =
       ranged = at.ranged;
       memory = at.memory;
       good = at.good;
-      held = held_like hs names p s (wrote s 9 0) f at.held;
+      stand = at.stand;
+      told = at.told;
+      held = held_like hs at.stand p s (wrote s 9 0) f at.held;
     }
 
 starts_zero : {D : Laid} {M : Layout} {w : Fixed M} {c rest : List Entry} {s : State} {hs : Homes} {ls : List Local} {p most : ℕ} {m : Memory} {o : Option Names} → w.index ≡ 0 → Starts D w c s (zero_index rest) hs ls p m most o → Starts D w c s rest hs ls p m (most + 1) o
@@ -300,14 +309,14 @@ past_arguments : (args : List ℕ) (n : ℕ) → length args ≤ n → slice_ind
 past_arguments args n le = get_or_past args n 0 le
 
 -- the names with which the loop starts
-begun : {D : Laid} {R : ℕ → ℕ} {k : Program} {M : Layout} {w : Fixed M} {c rest : List Entry} {s : State} {args : List ℕ} {m : Memory} {most : ℕ} {o : Option Names} (names : Names) → AreSteady (kernel_homes R k) → w.index ≡ 0 → started k args m ≡ o → o ≡ Some names → Starts D w c s rest (kernel_homes R k) (var_scope k).visible (loop_start k) m most o → Begins R k D c s rest args m most
-begun names steady none e f cannot = absurd cc
-begun {R = R} {k = k} {m = m} names steady none e f (starts {names = found} end g at h) = record {
+begun : {D : Laid} {R : ℕ → ℕ} {k : Program} {M : Layout} {w : Fixed M} {c rest : List Entry} {s : State} {args : List ℕ} {m : Memory} {most : ℕ} {o : Option Names} (names : Names) → M.loose ≡ [] → AreSteady (kernel_homes R k) → w.index ≡ 0 → started k args m ≡ o → o ≡ Some names → Starts D w c s rest (kernel_homes R k) (var_scope k).visible (loop_start k) m most o → Begins R k D c s rest args m most
+begun names bare steady none e f cannot = absurd cc
+begun {R = R} {k = k} {M = M} {w = w} {m = m} names bare steady none e f (starts {names = found} end g at h) = record {
   names = found;
   starts = e;
   end = end;
   goes = g;
-  at = record { sized = at.sized; index = at.nine ∙ none; ranged = at.ranged; held = all_held (kernel_homes R k) found (loop_start k) end steady at.held; memory = at.memory; good = at.good };
+  at = record { sized = at.sized; index = at.nine ∙ none; ranged = at.ranged; held = all_held (kernel_homes R k) found (loop_start k) end steady (subst (λ ns. Held (kernel_homes R k) ns (loop_start k) end) (told_none w.count at.stand found (subst (λ ls. Told ls w.count at.stand found) bare at.told)) at.held); memory = at.memory; good = at.good };
   frame = h;
 }
 
@@ -318,7 +327,7 @@ begin_runs R k checked few fits D n rest args m st has res =
     let short = has.few in
     let following = vars_code L R (param_homes 0 k.params) (param_scope k) 0 (length k.params) n k.vars (zero_index rest) in
     let a = arguments_runs D k.params 0 args st following (omega (arith, few, z)) (are_given k.params 0 args st has.words has.held) in
-    let w : Fixed L = fixed_at 0 a.end.x (λ z r e. absurd cc) in
+    let w : Fixed L = fixed_at 0 0 a.end.x (λ z r e. absurd cc) in
     let at : At w (param_homes 0 k.params) (param_scope k).visible (argument_names k.params args) m (length k.params) a.end = record {
       sized = a.sized ∙ has.sized;
       nine = a.high 9 (omega (arith, few)) ∙ has.held 9 ∙ past_arguments args 9 (omega (arith, short));
@@ -326,11 +335,13 @@ begin_runs R k checked few fits D n rest args m st has res =
       ranged = given_ranged k.params (empty (loop_index k)) [] args tt;
       memory = a.memory ∙ has.memory;
       good = has.good;
+      stand = argument_names k.params args;
+      told = told_same [] 0 (argument_names k.params args) (λ x. refl);
       held = held_given 0 k.params args (length k.params) a.end a.wrapped;
     } in
     let high = high_vars L R 0 0 k.vars (safe_right L 0 (param_homes 0 k.params) (var_homes R 0 k.vars) (fits.safe 0)) in
-    let v = vars_runs D L fits.assigned R k.vars (param_scope k) 0 (length k.params) n (zero_index rest) fits.vars_safe high fits.vars at (arguments_back D 0 k.params following res) in
+    let v = vars_runs D L fits.assigned R k.vars (param_scope k) 0 (length k.params) n (zero_index rest) refl fits.vars_safe high fits.vars at (arguments_back D 0 k.params following res) in
     let i = ap (λ i. vars_size i k.vars) (param_index k) in
     let steps : length k.params + (4 * vars_size (param_scope k).index k.vars + 1) ≤ begin_steps k = omega (arith, i) in
     let known = all_start k args m checked in
-    begun known.0 fits.steady refl refl known.1 (starts_after (begin_steps k) steps a.goes a.frame (starts_at (loop_start k) (ap (λ n. length k.params + n) i) (starts_zero refl v)))
+    begun known.0 refl fits.steady refl refl known.1 (starts_after (begin_steps k) steps a.goes a.frame (starts_at (loop_start k) (ap (λ n. length k.params + n) i) (starts_zero refl v)))

@@ -8,21 +8,21 @@ use Rattle.kernel_tree.specs.Items.{term_size, action_size, block_size, otherwis
 use Rattle.kernel_tree.specs.Typing.{Scope, lookup, own, first, element_type, accumulator_type, after_action, after_block, left, in_loop, after_turns, param_scope, var_scope}
 use Rattle.kernel_tree.proofs.Scopes.{index_after, param_index, scope_index}
 use Rattle.kernel_meaning.specs.Operators.{operator_of}
-use Rattle.kernel_meaning.specs.TypeValues.{binary_leaves}
-use Rattle.scalar_values.specs.Extents.{extent_at, binary_extent}
+use Rattle.scalar_values.specs.Extents.{extent_at}
 use Rattle.scalar_values.specs.declared.extent.Extent.TheVariants.{Whole}
 use Rattle.label_fix.specs.DraftRun.{Entry}
 use Rattle.label_fix.specs.Finished.{size}
-use Rattle.scalar_words.specs.Layout.{Layout, Homes, last_use_at, register_at}
+use Rattle.scalar_words.specs.Layout.{Form, LowBits, Ahead, Behind, Loose, loose_in, Layout, Homes, last_use_at, register_at}
 use Rattle.scalar_values.specs.ValueRegisters.{home}
 use Rattle.scalar_words.specs.Words.{copy_word, settle_word, word_code}
 use Rattle.scalar_values.specs.ItemWords.{index_word, store_code}
 use Rattle.scalar_values.specs.Code.{place_of, added_number, is_fused, right_side}
-use Rattle.scalar_emit.specs.Statements.{after_homes, block_labels, is_bare, put_code, placed_put, action_code, block_code, otherwise_code}
+use Rattle.scalar_emit.specs.Statements.{after_homes, block_labels, is_bare, put_code, placed_put, update_extent, update_settles, action_code, block_code, otherwise_code}
 use Rattle.scalar_emit.specs.LoopNumbers.{loop_layout}
-use Rattle.scalar_emit.specs.Loop.{answer_code, with_index, bare, loop_code}
+use Rattle.scalar_emit.specs.Loop.{answer_code, with_index, bare, enter_word, enter_code, settle_form, settle_code, back_code, loop_code}
 use Rattle.scalar_emit.proofs.SetupRuns.{numbers_words}
 use Rattle.scalar_emit.proofs.HoldBlocks.{few_words}
+use Rattle.scalar_emit.proofs.LooseBlocks.{few_loose}
 use Rattle.scalar_values.specs.HeldNumbers.{loading_words}
 use Rattle.scalar_words.specs.KernelRegisters.{counted_x, var_home, layout_of_kernel, param_homes, kernel_homes}
 use Rattle.scalar_emit.specs.Kernel.{argument_code, arguments_code, vars_code, zero_index, begin_code, turns_code, scalar_code}
@@ -76,8 +76,8 @@ module _ (L : Layout) where
     action_words (Update x op e) hs s exit b n rest k h =
         let want = option_and_then accumulator_type (lookup s x) in
         let o = operator_of op in
-        let j = binary_extent o Whole want in
-        within (omega arith) (side_words (added_number o want e) (is_fused s o j want e) (4 * term_size s.index e) _ _ _ _ (operator_code_words (right_side L hs s o j want b e) (binary_leaves o) want o _ _ rest k h) (λ g. loose_words L hs e s j want b n _ _ g) (λ g. parts_words L hs e s j want b n _ _ g))
+        let j = update_extent L.loose x o want in
+        within (omega arith) (side_words (added_number o want e) (is_fused s o j want e) (4 * term_size s.index e) _ _ _ _ (operator_code_words (right_side L hs s o j want b e) (update_settles L.loose x o want) want o _ _ rest k h) (λ g. loose_words L hs e s j want b n _ _ g) (λ g. parts_words L hs e s j want b n _ _ g))
     action_words (Choose c blk d) hs s exit b n rest k h =
         within (omega arith) (jump_words L hs c s false _ b _ _ _ (block_words blk hs s exit _ _ _ _ (otherwise_words d hs (left s (after_block s blk)) exit n _ _ rest k h)))
     action_words (Leave c) hs s exit b n rest k h = within (omega arith) (jump_words L hs c s true exit b n _ _ h)
@@ -107,13 +107,29 @@ module _ (L : Layout) where
 
 -- ---- the loop
 
-loop_words : (L : Layout) (hs : Homes) (s : Scope) (t : PlainLoop) (b n b2 : ℕ) (o : Option Returned) (rest : List Entry) (k : ℕ) → size rest ≤ k → size (loop_code L hs s t b n b2 o rest) ≤ 4 * (1 + block_size s.index t.body) + 4 * answer_size s.index o + 4 + loading_words L.constants + k
+enter_words : (r : ℕ) (hs : Homes) (ls : List Loose) (rest : List Entry) (k : ℕ) → size rest ≤ k → size (enter_code r hs ls rest) ≤ length ls + k
+enter_words r hs [] rest k h = omega (arith, h)
+enter_words r hs (l ∷ ls) rest k h = within (omega arith) (one_word (enter_word r (register_at hs l.name) l.form) _ _ (enter_words r hs ls rest k h))
+
+settle_words : (r : ℕ) (hs : Homes) (ls : List Loose) (rest : List Entry) (k : ℕ) → size rest ≤ k → size (settle_code r hs ls rest) ≤ length ls + k
+settle_words r hs [] rest k h = omega (arith, h)
+settle_words r hs (l ∷ ls) rest k h = within (omega arith) (one_word (settle_form r (register_at hs l.name) l.form) _ _ (settle_words r hs ls rest k h))
+
+back_words : (f : Option Form) (r n : ℕ) (rest : List Entry) (k : ℕ) → size rest ≤ k → size (back_code f r n rest) ≤ 2 + k
+back_words None r n rest k h = omega (arith, h)
+back_words (Some (LowBits t)) r n rest k h = omega (arith, h)
+back_words (Some (Ahead t)) r n rest k h = omega (arith, h)
+back_words (Some Behind) r n rest k h = omega (arith, h)
+
+loop_words : (L : Layout) (hs : Homes) (s : Scope) (t : PlainLoop) (b n b2 : ℕ) (o : Option Returned) (rest : List Entry) (k : ℕ) → size rest ≤ k → size (loop_code L hs s t b n b2 o rest) ≤ 4 * (1 + block_size s.index t.body) + 4 * answer_size s.index o + 4 + (2 * length L.loose + loading_words L.constants) + k
 loop_words L hs s t b n b2 o rest k h =
-    within (omega arith) (one_more (one_more (numbers_words L.constants _ _ (block_words L t.body (with_index hs t) (in_loop s t) (n + 1) (b + 1) (n + 3) _ _ (one_more (one_more (one_more (answer_words (bare L) (with_index hs t) (after_turns s (Some t)) b2 (n + 3 + block_labels s.index t.body) o rest k h))))))))
+    let hs1 = with_index hs t in
+    let r = register_at hs t.bound in
+    within (omega arith) (one_more (one_more (enter_words r hs1 L.loose _ _ (numbers_words L.constants _ _ (block_words L t.body hs1 (in_loop s t) (n + 3) (b + 1) (n + 4) _ _ (one_more (back_words (loose_in L.loose t.index) r n _ _ (settle_words r hs1 L.loose _ _ (answer_words (bare L) hs1 (after_turns s (Some t)) b2 (n + 4 + block_labels s.index t.body) o rest k h)))))))))
 
 -- ---- kernels
 
-turns_words : (L : Layout) (hs : Homes) (s : Scope) (i : Option (List ℕ)) (t : Option PlainLoop) (b n b2 : ℕ) (o : Option Returned) (rest : List Entry) (k : ℕ) → s.index ≡ i → i ≡ option_map index_of t → size rest ≤ k → size (turns_code L hs s t b n b2 o rest) ≤ 4 * turns_size t + 4 * answer_size i o + 4 + loading_words L.constants + k
+turns_words : (L : Layout) (hs : Homes) (s : Scope) (i : Option (List ℕ)) (t : Option PlainLoop) (b n b2 : ℕ) (o : Option Returned) (rest : List Entry) (k : ℕ) → s.index ≡ i → i ≡ option_map index_of t → size rest ≤ k → size (turns_code L hs s t b n b2 o rest) ≤ 4 * turns_size t + 4 * answer_size i o + 4 + (2 * length L.loose + loading_words L.constants) + k
 turns_words L hs s i None b n b2 o rest k e f h = let q = ap (λ i. answer_size i o) e in within (omega (arith, q)) (answer_words (bare L) hs s b2 (n + 1) o rest k h)
 turns_words L hs s i (Some t) b n b2 o rest k e f h =
     let q = ap (λ i. answer_size i o) e in
@@ -128,7 +144,8 @@ begin_words R k n rest =
 pub scalar_words : (R : ℕ → ℕ) (k : Program) (n : ℕ) (rest : List Entry) → size (scalar_code R k n rest) ≤ 64 + 16 * size_of k + size rest
 scalar_words R k n rest =
     let few = few_words R k in
-    within (omega (arith, few)) (turns_words (loop_layout R k) (kernel_homes R k) (var_scope k) (loop_index k) k.turns (loop_start k) n (loop_end k) k.answer rest (size rest) (scope_index k) refl (omega arith))
+    let loose = few_loose k in
+    within (omega (arith, few, loose)) (turns_words (loop_layout R k) (kernel_homes R k) (var_scope k) (loop_index k) k.turns (loop_start k) n (loop_end k) k.answer rest (size rest) (scope_index k) refl (omega arith))
 
 -- ---- words that are appended
 

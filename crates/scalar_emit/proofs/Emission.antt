@@ -1,28 +1,28 @@
 -- What emission keeps of names.
-use Rattle.std.proofs.Common.{◌≡◌, Bool, ℕ, zero, suc, ◌+◌, List, [], ◌∷◌, ◌++◌, length, take, Option, Some, None, refl, sym, ap, ◌∙◌, arith}
+use Rattle.std.proofs.Common.{◌≡◌, Bool, true, ℕ, zero, suc, ◌+◌, List, [], ◌∷◌, ◌++◌, length, take, Option, Some, None, refl, sym, ap, ◌∙◌, arith, append_assoc}
 use Rattle.kernel_tree.specs.Plain.{Term, Block, Parameter, Accumulator, PlainLoop, Program}
 use Rattle.kernel_tree.specs.Items.{turns_size, loop_index, loop_start, loop_end}
 use Rattle.kernel_tree.specs.Typing.{Scope, first, param_scope, var_scope}
 use Rattle.kernel_tree.proofs.Scopes.{scope_index}
 use Rattle.kernel_tree.specs.declared.ops.Ty.{Ty}
 use Rattle.kernel_tree.specs.declared.ops.BinaryOp.{BinaryOp}
-use Rattle.kernel_meaning.specs.TypeValues.{binary_leaves}
-use Rattle.scalar_words.specs.Words.{at_type}
+use Rattle.scalar_words.specs.Words.{word_code, at_type}
 use Rattle.scalar_values.specs.declared.extent.Extent.{Extent}
-use Rattle.scalar_values.specs.declared.extent.Extent.TheVariants.{Whole}
-use Rattle.scalar_values.specs.Extents.{binary_extent}
 use Rattle.scalar_values.specs.ItemWords.{Side, operator_code}
 use Rattle.scalar_values.specs.Code.{added_number, is_fused, right_side, side_code, parts_code, loose_code}
 use Rattle.label_fix.specs.DraftRun.{Entry}
 use Rattle.scalar_words.specs.declared.home.Home.{Home as Kept}
 use Rattle.scalar_words.specs.declared.constant.Constant.{Constant as Number}
-use Rattle.scalar_words.specs.Layout.{Constant, Layout, Homes, with_constants, register_at}
-use Rattle.scalar_emit.specs.Statements.{block_homes, block_labels, update_code}
+use Rattle.scalar_words.specs.declared.loose.Loose.{Loose as Held}
+use Rattle.scalar_words.specs.Layout.{Constant, Loose, Layout, Homes, with_constants, with_loose, register_at}
+use Rattle.scalar_emit.specs.Statements.{block_homes, block_labels, update_extent, update_settles, update_code}
+use Rattle.scalar_emit.specs.Loosening.{turns_loose, after_loop, held_loosely}
 use Rattle.scalar_emit.specs.LoopNumbers.{held_numbers, loop_layout}
-use Rattle.scalar_emit.specs.Loop.{key_code, numbers_code, turn_code, leave_code}
+use Rattle.scalar_emit.specs.Loop.{bare, key_code, numbers_code, enter_word, enter_code, settle_form, settle_code, turn_code, leave_code}
 use Rattle.scalar_words.specs.KernelRegisters.{layout_of_kernel, param_homes, kernel_homes}
 use Rattle.scalar_emit.specs.Kernel.{arguments_code, vars_code, zero_index, begin_code, straight_code, turns_code, scalar_code}
-use Rattle.scalar_words.specs.View.{key_of, constants_of, home_of, homes_of}
+use Rattle.kernel_scope.specs.Scopes.{lent_text}
+use Rattle.scalar_words.specs.View.{form_of, key_of, constants_of, looses_of, home_of, homes_of}
 use Rattle.scalar_emit.proofs.StmtRuns.{homes_block}
 
 -- ---- after a block
@@ -53,20 +53,25 @@ begin_is R k L hs s first n m ps vs rest d e f g h i j = rw (d, e, f, g, h, i, j
 
 -- ---- the loop and what follows it
 
-pub scalar_is : (R : ℕ → ℕ) (k : Program) (N L : Layout) (l : PlainLoop) (b n b2 n2 : ℕ) (rest : List Entry) → N ≡ loop_layout R k → L ≡ layout_of_kernel R k → k.turns ≡ Some l → b ≡ loop_start k → b2 ≡ loop_end k → n2 ≡ n + 3 + block_labels (loop_index k) l.body → turn_code N (kernel_homes R k) (var_scope k) l b n (leave_code L (kernel_homes R k) (var_scope k) l b2 n2 k.answer rest) ≡ scalar_code R k n rest
+pub scalar_is : (R : ℕ → ℕ) (k : Program) (N L : Layout) (l : PlainLoop) (b n b2 n2 : ℕ) (rest : List Entry) → N ≡ loop_layout R k → L ≡ bare (loop_layout R k) → k.turns ≡ Some l → b ≡ loop_start k → b2 ≡ loop_end k → n2 ≡ n + 4 + block_labels (loop_index k) l.body → turn_code N (kernel_homes R k) (var_scope k) l b n (leave_code L (kernel_homes R k) (var_scope k) l b2 n2 k.answer rest) ≡ scalar_code R k n rest
 scalar_is R k N L l b n b2 n2 rest c d e f g h =
-    let i : n2 ≡ n + 3 + block_labels (var_scope k).index l.body = h ∙ ap (λ j. n + 3 + block_labels j l.body) (sym (scope_index k)) in
+    let i : n2 ≡ n + 4 + block_labels (var_scope k).index l.body = h ∙ ap (λ j. n + 4 + block_labels j l.body) (sym (scope_index k)) in
     rw (c, d, f, g, i) (ap (λ t. turns_code (loop_layout R k) (kernel_homes R k) (var_scope k) t (loop_start k) n (loop_end k) k.answer rest) (sym e))
+
+-- a kernel without a loop holds nothing
+none_left : (R : ℕ → ℕ) (k : Program) → k.turns ≡ None → layout_of_kernel R k ≡ bare (loop_layout R k)
+none_left R k e = ap (λ t. with_loose (layout_of_kernel R k) (after_loop (turns_loose (var_scope k) t k.answer))) (sym e)
 
 pub straight_is : (R : ℕ → ℕ) (k : Program) (L : Layout) (b n : ℕ) (rest : List Entry) → L ≡ layout_of_kernel R k → k.turns ≡ None → b ≡ loop_start k → straight_code L (kernel_homes R k) (var_scope k) n b k.answer rest ≡ scalar_code R k n rest
 straight_is R k L b n rest d e f =
     let z = ap turns_size e in
     let g : b ≡ loop_end k = omega (arith, f, z) in
-    rw (d, g) (ap (λ t. turns_code (loop_layout R k) (kernel_homes R k) (var_scope k) t (loop_start k) n (loop_end k) k.answer rest) (sym e))
+    let h = d ∙ none_left R k e in
+    rw (h, g) (ap (λ t. turns_code (loop_layout R k) (kernel_homes R k) (var_scope k) t (loop_start k) n (loop_end k) k.answer rest) (sym e))
 
 -- ---- updates
 
-pub update_is : (L : Layout) (hs : Homes) (s : Scope) (b n : ℕ) (x : List ℕ) (op : BinaryOp) (want : Option Ty) (asked : Extent) (e : Term) (side : Side) (leaves : Bool) (d : ℕ) (rest : List Entry) → asked ≡ binary_extent op Whole want → side ≡ right_side L hs s op asked want b e → leaves ≡ binary_leaves op → d ≡ register_at hs x
+pub update_is : (L : Layout) (hs : Homes) (s : Scope) (b n : ℕ) (x : List ℕ) (op : BinaryOp) (want : Option Ty) (asked : Extent) (e : Term) (side : Side) (leaves : Bool) (d : ℕ) (rest : List Entry) → asked ≡ update_extent L.loose x op want → side ≡ right_side L hs s op asked want b e → leaves ≡ update_settles L.loose x op want → d ≡ register_at hs x
     → side_code (added_number op want e) (is_fused s op asked want e) (loose_code L hs s asked want b n e) (parts_code L hs s asked want b n e) (at_type want (λ t. operator_code side leaves op t d d rest) rest) ≡ update_code L hs s b n x op want e rest
 update_is L hs s b n x op want asked e side leaves d rest e1 e2 e3 e4 = rw (e2, e3, e4, e1) refl
 
@@ -75,8 +80,18 @@ update_is L hs s b n x op want asked e side leaves d rest e1 e2 e3 e4 = rw (e2, 
 pub number_step : (cs ds : List Number) (c : Number) (rest : List Entry) → cs ≡ c ∷ ds → key_code (key_of c.key) c.register.number (numbers_code (constants_of ds) rest) ≡ numbers_code (constants_of cs) rest
 number_step cs ds c rest e = ap (λ (xs : List Number). numbers_code (constants_of xs) rest) (sym e)
 
-pub held_is : (R : ℕ → ℕ) (k : Program) (N L : Layout) → N ≡ with_constants L (held_numbers R k) → L ≡ layout_of_kernel R k → N ≡ loop_layout R k
-held_is R k N L e f = e ∙ ap (λ (M : Layout). with_constants M (held_numbers R k)) f
+pub held_is : (R : ℕ → ℕ) (k : Program) (N M L : Layout) → N ≡ with_loose M (held_loosely k) → M ≡ with_constants L (held_numbers R k) → L ≡ layout_of_kernel R k → N ≡ loop_layout R k
+held_is R k N M L d e f = d ∙ ap (λ (K : Layout). with_loose K (held_loosely k)) (e ∙ ap (λ (K : Layout). with_constants K (held_numbers R k)) f)
 
-pub bare_is : (R : ℕ → ℕ) (k : Program) (L N : Layout) (cs : List Constant) → L ≡ with_constants N cs → cs ≡ [] → N ≡ loop_layout R k → L ≡ layout_of_kernel R k
-bare_is R k L N cs e none f = e ∙ ap (with_constants N) none ∙ ap (λ (M : Layout). with_constants M []) f
+pub bare_is : (R : ℕ → ℕ) (k : Program) (L M N : Layout) (cs : List Constant) (ls : List Loose) → L ≡ with_loose M ls → ls ≡ after_loop M.loose → M ≡ with_constants N cs → cs ≡ [] → N ≡ loop_layout R k → L ≡ bare (loop_layout R k)
+bare_is R k L M N cs ls d left e none f =
+    let m : M ≡ with_constants N [] = e ∙ ap (with_constants N) none in
+    d ∙ ap (with_loose M) left ∙ ap (λ (K : Layout). with_loose K (after_loop K.loose)) (m ∙ ap (λ (K : Layout). with_constants K []) f)
+
+-- ---- names that are held loosely
+
+pub enter_step : (r : ℕ) (hs : Homes) (ls ms : List Held) (l : Held) (d : ℕ) (rest : List Entry) → ls ≡ l ∷ ms → d ≡ register_at hs (lent_text l.name) → word_code (enter_word r d (form_of l.form)) (enter_code r hs (looses_of ms) rest) ≡ enter_code r hs (looses_of ls) rest
+enter_step r hs ls ms l d rest e f = ap (λ q. word_code (enter_word r q (form_of l.form)) (enter_code r hs (looses_of ms) rest)) f ∙ ap (λ (xs : List Held). enter_code r hs (looses_of xs) rest) (sym e)
+
+pub settle_step : (r : ℕ) (hs : Homes) (ls ms : List Held) (l : Held) (d : ℕ) (rest : List Entry) → ls ≡ l ∷ ms → d ≡ register_at hs (lent_text l.name) → word_code (settle_form r d (form_of l.form)) (settle_code r hs (looses_of ms) rest) ≡ settle_code r hs (looses_of ls) rest
+settle_step r hs ls ms l d rest e f = ap (λ q. word_code (settle_form r q (form_of l.form)) (settle_code r hs (looses_of ms) rest)) f ∙ ap (λ (xs : List Held). settle_code r hs (looses_of xs) rest) (sym e)

@@ -2,11 +2,11 @@
 use Rattle.std.proofs.Common.{◌≡◌, ℕ, List, [], ◌∷◌, Some, None, refl}
 use Rattle.std.specs.Prelude.{pos, slice_index}
 use Rattle.kernel_tree.specs.Plain.{Literal, Variable, Element, Operation, Conversion, Comparison, Define, Put, Choose, Leave, Block, Done, Then, Else, Program}
-use Rattle.a64_code.specs.Table.{add_imm, sub_imm, subs, subs_imm, movz, movk, csel, ldrb_register, ldrsb_register, strb_register, svc}
+use Rattle.a64_code.specs.Table.{add, sub, add_imm, sub_imm, subs, subs_imm, movz, movk, csel, ldrb_register, ldrsb_register, strb_register, svc}
 use Rattle.loop_form.specs.Entries.{item_type}
 use Rattle.loop_form.specs.Listing.{last_use_from}
 use Rattle.scalar_values.specs.Code.{is_led}
-use Rattle.label_fix.specs.DraftRun.{Branch, Place, Always, If, Zero, ins}
+use Rattle.label_fix.specs.DraftRun.{Branch, Place, Always, If, Zero, NotZero, ins}
 use Rattle.scalar_words.specs.Layout.{OfNumber, Constant}
 use Rattle.scalar_emit.specs.LoopNumbers.{held_numbers}
 use Rattle.scalar_emit.specs.Loop.{numbers_code}
@@ -60,24 +60,27 @@ worked-loops : scalar_code registers worked 0 [] ≡
     Place 0
     ∷ ins subs (31 ∷ 9 ∷ 0 ∷ 1 ∷ 0 ∷ [])
     ∷ Branch (If 2) 1
+    ∷ ins sub (9 ∷ 9 ∷ 0 ∷ 1 ∷ 0 ∷ [])
+    ∷ ins add (0 ∷ 0 ∷ 0 ∷ 1 ∷ 0 ∷ [])
     ∷ ins add_imm (8 ∷ 0 ∷ 1 ∷ 0 ∷ [])
     ∷ ins sub_imm (7 ∷ 0 ∷ 1 ∷ 0 ∷ [])
     ∷ Place 2
     ∷ ins ldrsb_register (10 ∷ 0 ∷ 9 ∷ [])
-    ∷ Branch (Zero 10) 1
+    ∷ Branch (Zero 10) 3
     ∷ ins ldrsb_register (10 ∷ 0 ∷ 9 ∷ [])
     ∷ ins subs_imm (31 ∷ 10 ∷ 1 ∷ 0 ∷ [])
-    ∷ Branch (If 10) 3
+    ∷ Branch (If 10) 4
     ∷ ins ldrsb_register (10 ∷ 8 ∷ 9 ∷ [])
     ∷ ins strb_register (10 ∷ 0 ∷ 9 ∷ [])
-    ∷ Branch Always 4
-    ∷ Place 3
+    ∷ Branch Always 5
+    ∷ Place 4
     ∷ ins ldrsb_register (10 ∷ 7 ∷ 9 ∷ [])
     ∷ ins strb_register (10 ∷ 0 ∷ 9 ∷ [])
-    ∷ Place 4
+    ∷ Place 5
     ∷ ins add_imm (9 ∷ 9 ∷ 1 ∷ 0 ∷ [])
-    ∷ ins subs (31 ∷ 9 ∷ 0 ∷ 1 ∷ 0 ∷ [])
-    ∷ Branch (If 3) 2
+    ∷ Branch (NotZero 9) 2
+    ∷ Place 3
+    ∷ ins add (9 ∷ 9 ∷ 0 ∷ 1 ∷ 0 ∷ [])
     ∷ Place 1
     ∷ ins movz (0 ∷ 0 ∷ 0 ∷ [])
     ∷ ins movz (8 ∷ 93 ∷ 0 ∷ [])
@@ -86,7 +89,7 @@ worked-loops : scalar_code registers worked 0 [] ≡
 unfolding item_type last_use_from
 worked-loops = refl
 
-worked-labels : (begin_labels worked ≡ 0) × (scalar_labels worked ≡ 5)
+worked-labels : (begin_labels worked ≡ 0) × (scalar_labels worked ≡ 6)
 worked-labels = (refl, refl)
 
 -- ---- literals that are held
@@ -117,6 +120,8 @@ bright-loops : scalar_code bright-registers bright 0 [] ≡
     Place 0
     ∷ ins subs (31 ∷ 9 ∷ 0 ∷ 1 ∷ 0 ∷ [])
     ∷ Branch (If 2) 1
+    ∷ ins sub (9 ∷ 9 ∷ 0 ∷ 1 ∷ 0 ∷ [])
+    ∷ ins add (0 ∷ 0 ∷ 0 ∷ 1 ∷ 0 ∷ [])
     ∷ ins movz (8 ∷ 255 ∷ 0 ∷ [])
     ∷ Place 2
     ∷ ins ldrb_register (10 ∷ 0 ∷ 9 ∷ [])
@@ -125,8 +130,9 @@ bright-loops : scalar_code bright-registers bright 0 [] ≡
     ∷ ins csel (10 ∷ 8 ∷ 8 ∷ 10 ∷ [])
     ∷ ins strb_register (10 ∷ 0 ∷ 9 ∷ [])
     ∷ ins add_imm (9 ∷ 9 ∷ 1 ∷ 0 ∷ [])
-    ∷ ins subs (31 ∷ 9 ∷ 0 ∷ 1 ∷ 0 ∷ [])
-    ∷ Branch (If 3) 2
+    ∷ Branch (NotZero 9) 2
+    ∷ Place 3
+    ∷ ins add (9 ∷ 9 ∷ 0 ∷ 1 ∷ 0 ∷ [])
     ∷ Place 1
     ∷ ins movz (0 ∷ 0 ∷ 0 ∷ [])
     ∷ ins movz (8 ∷ 93 ∷ 0 ∷ [])
@@ -176,13 +182,16 @@ spread-loops : scalar_code registers spread 0 [] ≡
     Place 0
     ∷ ins subs (31 ∷ 9 ∷ 0 ∷ 1 ∷ 0 ∷ [])
     ∷ Branch (If 2) 1
+    ∷ ins sub (9 ∷ 9 ∷ 0 ∷ 1 ∷ 0 ∷ [])
+    ∷ ins add (0 ∷ 0 ∷ 0 ∷ 1 ∷ 0 ∷ [])
     ∷ ins add_imm (8 ∷ 0 ∷ 1 ∷ 0 ∷ [])
     ∷ Place 2
     ∷ ins ldrb_register (10 ∷ 0 ∷ 9 ∷ [])
     ∷ ins strb_register (10 ∷ 8 ∷ 9 ∷ [])
     ∷ ins add_imm (9 ∷ 9 ∷ 1 ∷ 0 ∷ [])
-    ∷ ins subs (31 ∷ 9 ∷ 0 ∷ 1 ∷ 0 ∷ [])
-    ∷ Branch (If 3) 2
+    ∷ Branch (NotZero 9) 2
+    ∷ Place 3
+    ∷ ins add (9 ∷ 9 ∷ 0 ∷ 1 ∷ 0 ∷ [])
     ∷ Place 1
     ∷ ins movz (0 ∷ 0 ∷ 0 ∷ [])
     ∷ ins movz (8 ∷ 93 ∷ 0 ∷ [])

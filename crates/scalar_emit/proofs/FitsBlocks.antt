@@ -21,7 +21,8 @@ use Rattle.scalar_values.specs.Fits.{Fits, FitsTruth, IndexAt, IsSome}
 use Rattle.scalar_emit.specs.Statements.{let_home, defined_homes, after_homes, FitsPut, FitsAction, FitsBlock, FitsOtherwise}
 use Rattle.scalar_words.proofs.AssignedOf.{counted-low}
 use Rattle.scalar_values.proofs.FitsOf.{some_of, no_untyped, no_offset, Sits, drop_head, AreUsed, untils, untils_on, value_fits, truth_fits}
-use Rattle.scalar_words.proofs.NameHomes.{Spread, LetHome, AreHomes, homes_later, homes_on, IsAt, is_at, name_lasts, array_lasts, is_var, only_of}
+use Rattle.scalar_emit.proofs.LooseHomes.{var_lasts}
+use Rattle.scalar_words.proofs.NameHomes.{Spread, LetHome, AreHomes, homes_later, homes_on, is_at, name_lasts, array_lasts, is_var, only_of}
 use Rattle.kernel_tree.specs.declared.fault.Binding.TheVariants as binding
 
 used_on : (hs : Homes) (i : Option (List ℕ)) (xs ys : List Entry) → AreUsed hs i xs → AreUsed hs i ys → AreUsed hs i (xs ++ ys)
@@ -275,17 +276,7 @@ module _ (k : Program) (R : ℕ → ℕ) (L : Layout) (all : List Entry) where
         let n = is_var k R L all few spread b 0 v hs x kind.type are w in
         let reg = n.register' in
         let at = is_at k R L all b 0 v hs x kind.bd are kind.known in
-        (r.0, r.1, var_lasts kind.bd kind.type kind.kind at, (let l = counted-low (R n.number) in omega (arith, l, reg)), only_of k R L all few spread b 0 (q + 1) v hs x kind.type are (omega arith) (register_at hs x) w refl)
-      where
-        var_lasts : (bd : Binding) (T : Ty) → accumulator_type bd ≡ Some T → IsAt k R L all b hs x bd → NameLasts hs x (b + term_size i e)
-        var_lasts (binding.Scalar t) T e2 at = absurd cc
-        var_lasts (binding.Array t) T e2 at = absurd cc
-        var_lasts (binding.Accumulator t) T e2 at = subst (λ o. LastsAt o (b + term_size i e)) (sym at.is) (steady at.home at.what.0)
-          where
-            steady : (h : Home) → h.last_use ≡ None → LastsAt (Some h) (b + term_size i e)
-            steady h u = subst (λ o. LastsAt (Some (record { name = h.name; register = h.register; last_use = o })) (b + term_size i e)) (sym u) tt
-        var_lasts (binding.Value t) T e2 at = absurd cc
-        var_lasts binding.Index T e2 at = absurd cc
+        (r.0, r.1, var_lasts k R L all hs b q x kind.bd kind.type kind.kind at, (let l = counted-low (R n.number) in omega (arith, l, reg)), only_of k R L all few spread b 0 (q + 1) v hs x kind.type are (omega arith) (register_at hs x) w refl)
 
     mutual
       pub action_fits : (a : Action) (v : List Local) (tk : List (List ℕ)) (ins : Bool) (hs : Homes) (b : ℕ) (rest : List ℕ) → AreHomes k R L all b 0 v hs → IsIndexed ins hs → ins ≡ true → action_faults (scope v tk ins) b a ≡ [] → Sits L.untils b (untils all (action_entries k b a) rest) → AreUsesCounted all (action_entries k b a) → FitsAction L hs (scope v tk ins) b a

@@ -56,6 +56,7 @@ total-layout : layout_of_kernel total_registers total ≡ record {
   regs = 0 ∷ 0 ∷ 11 ∷ 0 ∷ 0 ∷ 11 ∷ 11 ∷ 0 ∷ 11 ∷ 0 ∷ 0 ∷ 0 ∷ [];
   untils = 0 ∷ 0 ∷ 3 ∷ 0 ∷ 0 ∷ 6 ∷ 8 ∷ 0 ∷ 9 ∷ 0 ∷ 0 ∷ 0 ∷ [];
   constants = [];
+  loose = [];
 }
 unfolding item_type last_use_from
 total-layout = refl

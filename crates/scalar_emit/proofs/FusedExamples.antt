@@ -41,7 +41,7 @@ t = 116 ∷ []
 abbrev y : List ℕ
 y = 121 ∷ []
 
--- ---- a product and a number that are held
+-- ---- a product and a number that are held; the accumulator is extended once, after the loop
 
 -- kernel s(a: [u32], n: u64) { var s: u32 = 1; for i in 0..n { s += s * 1664524 + 1013904223; a[i] = s; } }
 abbrev lcg : Program
@@ -73,11 +73,12 @@ lcg-loops : scalar_code lcg-registers lcg 0 [] ≡
     ∷ Place 2
     ∷ ins madd (11 ∷ 10 ∷ 7 ∷ 8 ∷ [])
     ∷ ins add (10 ∷ 10 ∷ 0 ∷ 11 ∷ 0 ∷ [])
-    ∷ ins ubfm (10 ∷ 10 ∷ 31 ∷ 0 ∷ [])
     ∷ ins str_w_register (10 ∷ 0 ∷ 1 ∷ 9 ∷ [])
     ∷ ins add_imm (9 ∷ 9 ∷ 1 ∷ 0 ∷ [])
     ∷ ins subs (31 ∷ 9 ∷ 0 ∷ 1 ∷ 0 ∷ [])
     ∷ Branch (If 3) 2
+    ∷ Place 3
+    ∷ ins ubfm (10 ∷ 10 ∷ 31 ∷ 0 ∷ [])
     ∷ Place 1
     ∷ ins movz (0 ∷ 0 ∷ 0 ∷ [])
     ∷ ins movz (8 ∷ 93 ∷ 0 ∷ [])
@@ -128,21 +129,22 @@ sweep-loops : scalar_code sweep-registers sweep 0 [] ≡
     ∷ ins madd (12 ∷ 12 ∷ 13 ∷ 3 ∷ [])
     ∷ ins sbfm (12 ∷ 12 ∷ 31 ∷ 0 ∷ [])
     ∷ ins subs_imm (31 ∷ 12 ∷ 384 ∷ 0 ∷ [])
-    ∷ Branch (If 12) 4
+    ∷ Branch (If 12) 5
     ∷ ins ldrb_register (13 ∷ 1 ∷ 9 ∷ [])
     ∷ ins subs_imm (31 ∷ 13 ∷ 7 ∷ 0 ∷ [])
-    ∷ Branch (If 1) 3
-    ∷ Place 4
+    ∷ Branch (If 1) 4
+    ∷ Place 5
     ∷ ins str_w_register (12 ∷ 2 ∷ 1 ∷ 9 ∷ [])
     ∷ ins add (10 ∷ 10 ∷ 0 ∷ 12 ∷ 0 ∷ [])
-    ∷ Branch Always 5
-    ∷ Place 3
+    ∷ Branch Always 6
+    ∷ Place 4
     ∷ ins subs (31 ∷ 11 ∷ 0 ∷ 12 ∷ 0 ∷ [])
     ∷ ins csel (11 ∷ 11 ∷ 12 ∷ 12 ∷ [])
-    ∷ Place 5
+    ∷ Place 6
     ∷ ins add_imm (9 ∷ 9 ∷ 1 ∷ 0 ∷ [])
     ∷ ins subs (31 ∷ 9 ∷ 0 ∷ 4 ∷ 0 ∷ [])
     ∷ Branch (If 3) 2
+    ∷ Place 3
     ∷ Place 1
     ∷ ins add (12 ∷ 10 ∷ 0 ∷ 11 ∷ 0 ∷ [])
     ∷ ins orr (0 ∷ 31 ∷ 0 ∷ 12 ∷ 0 ∷ [])

@@ -1,10 +1,12 @@
 -- What is held for a loop: each has the next register, and no more words load it than are saved.
-use Rattle.std.proofs.Common.{◌≡◌, ℕ, ◌+◌, ◌*◌, ◌≤◌, List, [], ◌∷◌, ◌++◌, length, Option, Some, None, inl, inr, sym, ap, subst, arith}
+use Rattle.std.proofs.Common.{◌≡◌, ℕ, ◌+◌, ◌*◌, ◌≤◌, List, [], ◌∷◌, ◌++◌, length, Option, Some, None, inl, inr, sym, ap, ◌∙◌, subst, arith}
 use Rattle.kernel_tree.specs.Plain.{Action, Define, Put, Update, Choose, Leave, Block, Done, Then, Otherwise, Nothing, Else, Parameter, Accumulator, PlainLoop, Program}
-use Rattle.kernel_tree.specs.Items.{action_size, block_size, otherwise_size, stream_offset}
+use Rattle.std.specs.Prelude.{option_map}
+use Rattle.kernel_tree.specs.Items.{action_size, block_size, otherwise_size, stream_offset, index_of}
 use Rattle.kernel_tree.specs.Typing.{Scope, var_scope}
+use Rattle.kernel_tree.proofs.Scopes.{scope_index}
 use Rattle.kernel_meaning.specs.Operators.{operator_of}
-use Rattle.scalar_words.specs.Layout.{Key, OfNumber, OfAddress, Constant, Layout, Homes, with_constants}
+use Rattle.scalar_words.specs.Layout.{Key, OfNumber, OfAddress, Constant, Loose, Layout, Homes, with_constants, with_loose}
 use Rattle.scalar_words.specs.KernelRegisters.{param_homes, var_homes, kernel_homes}
 use Rattle.scalar_words.proofs.AssignedOf.{counted-low}
 use Rattle.scalar_words.proofs.LayoutStates.{Assigned, AreSafe}
@@ -12,7 +14,9 @@ use Rattle.scalar_words.proofs.NameHomes.{Spread}
 use Rattle.scalar_values.specs.HeldNumbers.{AreNext, addend_of, hold_term, key_words, loading_words}
 use Rattle.scalar_values.proofs.HoldTerms.{Within, Holds, holds_same, holds_on, IsFew, term_held, term_few, side_holds, side_is_few, element_held, element_few, next_low}
 use Rattle.scalar_emit.specs.LoopNumbers.{hold_action, hold_block, hold_otherwise, turns_numbers, held_numbers, coded_action, coded_block, coded_otherwise}
-use Rattle.scalar_emit.specs.Loop.{AreClear}
+use Rattle.scalar_emit.specs.Loosening.{turns_loose, held_loosely}
+use Rattle.scalar_emit.specs.Loop.{moving_words, AreClear}
+use Rattle.scalar_emit.proofs.LooseBlocks.{action_streams, block_streams, otherwise_streams, action_updates, block_updates, otherwise_updates, loop_few}
 
 mutual
   action_held : (a : Action) (p : ℕ) (hs : Homes) (s : Scope) (cs : List Constant) → Holds p cs (hold_action p hs s a cs)
@@ -31,7 +35,7 @@ mutual
   otherwise_held (Else b) p hs s cs = block_held b p hs s cs
 
 mutual
-  action_few : (a : Action) (p : ℕ) (hs : Homes) (s : Scope) (cs all : List Constant) → Within (hold_action p hs s a cs) all → IsFew cs (hold_action p hs s a cs) (coded_action all s.index a) (4 * action_size s.index a)
+  action_few : (a : Action) (p : ℕ) (hs : Homes) (s : Scope) (cs all : List Constant) → Within (hold_action p hs s a cs) all → IsFew cs (hold_action p hs s a cs) (action_streams s.index a + action_updates a + coded_action all s.index a) (4 * action_size s.index a)
   action_few (Define x t e) p hs s cs all w = let k = term_few e p hs s cs all w in omega (arith, k)
   action_few (Put a o e) p hs s cs all w =
       let h = element_held p hs s a (stream_offset s.index o) (hold_term p hs s e cs) in
@@ -50,7 +54,7 @@ mutual
       omega (arith, k, j, h)
   action_few (Leave c) p hs s cs all w = let k = term_few c p hs s cs all w in omega (arith, k)
 
-  block_few : (b : Block) (p : ℕ) (hs : Homes) (s : Scope) (cs all : List Constant) → Within (hold_block p hs s b cs) all → IsFew cs (hold_block p hs s b cs) (coded_block all s.index b) (4 * block_size s.index b)
+  block_few : (b : Block) (p : ℕ) (hs : Homes) (s : Scope) (cs all : List Constant) → Within (hold_block p hs s b cs) all → IsFew cs (hold_block p hs s b cs) (block_streams s.index b + block_updates b + coded_block all s.index b) (4 * block_size s.index b)
   block_few Done p hs s cs all w = omega arith
   block_few (Then a b) p hs s cs all w =
       let hb = block_held b p hs s (hold_action p hs s a cs) in
@@ -58,7 +62,7 @@ mutual
       let j = block_few b p hs s (hold_action p hs s a cs) all w in
       omega (arith, k, j)
 
-  otherwise_few : (d : Otherwise) (p : ℕ) (hs : Homes) (s : Scope) (cs all : List Constant) → Within (hold_otherwise p hs s d cs) all → IsFew cs (hold_otherwise p hs s d cs) (coded_otherwise all s.index d) (4 * otherwise_size s.index d)
+  otherwise_few : (d : Otherwise) (p : ℕ) (hs : Homes) (s : Scope) (cs all : List Constant) → Within (hold_otherwise p hs s d cs) all → IsFew cs (hold_otherwise p hs s d cs) (otherwise_streams s.index d + otherwise_updates d + coded_otherwise all s.index d) (4 * otherwise_size s.index d)
   otherwise_few Nothing p hs s cs all w = omega arith
   otherwise_few (Else b) p hs s cs all w = let k = block_few b p hs s cs all w in omega (arith, k)
 
@@ -71,14 +75,16 @@ turns_next p hs s (Some l) = (block_held l.body p hs s []).next tt
 pub numbers_next : (R : ℕ → ℕ) (k : Program) → AreNext (length k.params) 0 (held_numbers R k)
 numbers_next R k = turns_next (length k.params) (kernel_homes R k) (var_scope k) k.turns
 
-pub numbers_few : (R : ℕ → ℕ) (k : Program) (l : PlainLoop) → k.turns ≡ Some l → loading_words (held_numbers R k) + coded_block (held_numbers R k) (var_scope k).index l.body ≤ 4 * block_size (var_scope k).index l.body
+pub numbers_few : (R : ℕ → ℕ) (k : Program) (l : PlainLoop) → k.turns ≡ Some l → moving_words (held_loosely k) + loading_words (held_numbers R k) + coded_block (held_numbers R k) (var_scope k).index l.body ≤ 4 * block_size (var_scope k).index l.body
 numbers_few R k l e =
     let p = length k.params in
     let hs = kernel_homes R k in
     let s = var_scope k in
     let cs = turns_numbers p hs s (Some l) in
     let f = block_few l.body p hs s [] cs (λ z q. q) in
-    subst (λ ds. loading_words ds + coded_block ds (var_scope k).index l.body ≤ 4 * block_size (var_scope k).index l.body) (ap (turns_numbers p hs s) (sym e)) (omega (arith, f))
+    let n = loop_few l s k.answer (scope_index k ∙ ap (option_map index_of) e) in
+    subst (λ ds. moving_words (held_loosely k) + loading_words ds + coded_block ds (var_scope k).index l.body ≤ 4 * block_size (var_scope k).index l.body) (ap (turns_numbers p hs s) (sym e))
+    (subst (λ ls. moving_words ls + loading_words cs + coded_block cs (var_scope k).index l.body ≤ 4 * block_size (var_scope k).index l.body) (ap (λ o. turns_loose s o k.answer) (sym e)) (omega (arith, f, n)))
 
 next_count : (p n : ℕ) (cs : List Constant) → n ≤ 9 → AreNext p n cs → length cs + n ≤ 9
 next_count p n [] le h = omega (arith, le)
@@ -96,17 +102,17 @@ load_four (c ∷ cs) = let a = key_four c.key in let b = load_four cs in omega (
 pub few_words : (R : ℕ → ℕ) (k : Program) → loading_words (held_numbers R k) ≤ 36
 few_words R k = let h = next_count (length k.params) 0 (held_numbers R k) (omega arith) (numbers_next R k) in let f = load_four (held_numbers R k) in omega (arith, h, f)
 
--- ---- registers that fit, with the numbers
+-- ---- registers that fit, with the numbers and what is held loosely
 
-pub assigned_with : (L : Layout) (p : ℕ) (cs : List Constant) → AreNext p 0 cs → Assigned L → Assigned (with_constants L cs)
-assigned_with L p cs next fit = record { low = fit.low; high = fit.high; apart = fit.apart; constants = λ z r e. next_low p 0 cs z r next e }
+pub assigned_with : (L : Layout) (p : ℕ) (cs : List Constant) (ls : List Loose) → AreNext p 0 cs → Assigned L → Assigned (with_loose (with_constants L cs) ls)
+assigned_with L p cs ls next fit = record { low = fit.low; high = fit.high; apart = fit.apart; constants = λ z r e. next_low p 0 cs z r next e }
 
-pub safe_with : (L : Layout) (cs : List Constant) (p : ℕ) (hs : Homes) → AreSafe L p hs → AreSafe (with_constants L cs) p hs
-safe_with L cs p [] h = tt
-safe_with L cs p (x ∷ hs) h = (record { high = h.0.high; apart = h.0.apart }, safe_with L cs p hs h.1)
+pub safe_with : (L : Layout) (cs : List Constant) (ls : List Loose) (p : ℕ) (hs : Homes) → AreSafe L p hs → AreSafe (with_loose (with_constants L cs) ls) p hs
+safe_with L cs ls p [] h = tt
+safe_with L cs ls p (x ∷ hs) h = (record { high = h.0.high; apart = h.0.apart }, safe_with L cs ls p hs h.1)
 
-pub spread_with : (R : ℕ → ℕ) (L : Layout) (accs p : ℕ) (cs : List Constant) → AreNext p 0 cs → Spread R L accs → Spread R (with_constants L cs) accs
-spread_with R L accs p cs next s = record { fit = assigned_with L p cs next s.fit; high = s.high; free = s.free; differ = s.differ }
+pub spread_with : (R : ℕ → ℕ) (L : Layout) (accs p : ℕ) (cs : List Constant) (ls : List Loose) → AreNext p 0 cs → Spread R L accs → Spread R (with_loose (with_constants L cs) ls) accs
+spread_with R L accs p cs ls next s = record { fit = assigned_with L p cs ls next s.fit; high = s.high; free = s.free; differ = s.differ }
 
 params_clear : (p n : ℕ) (ps : List Parameter) → n + length ps ≤ p → AreClear p (param_homes n ps)
 params_clear p n [] h = tt

@@ -16,7 +16,8 @@ use Rattle.kernel_meaning.specs.ScalarRun.{Run, bound_of, iterations, finish, re
 use Rattle.kernel_meaning.proofs.Residues.{word-below}
 use Rattle.label_fix.specs.DraftRun.{Entry, Place, Laid, following}
 use Rattle.label_fix.proofs.StretchSteps.{Goes, Resolves, stay, end_after, stop_after, stop_more, pass}
-use Rattle.scalar_words.specs.Layout.{Layout, Homes, register_at}
+use Rattle.scalar_words.specs.Layout.{Layout, Homes, register_at, with_loose}
+use Rattle.scalar_emit.specs.Loosening.{turns_loose, after_loop, covers_answer, held_loosely}
 use Rattle.scalar_emit.specs.LoopNumbers.{held_numbers, loop_layout}
 use Rattle.scalar_emit.specs.Loop.{answer_code, bare, test_code, loop_code, FitsAnswer, FitsLoop}
 use Rattle.scalar_words.specs.KernelRegisters.{layout_of_kernel, kernel_homes, register_in}
@@ -26,8 +27,11 @@ use Rattle.scalar_words.specs.Safe.{AreSteady}
 use Rattle.scalar_words.specs.Iterations.{AreHeld, AtIteration, Comes, ends_so, faults_so}
 use Rattle.scalar_emit.specs.Runs.{end_steps, ScalarRuns}
 use Rattle.scalar_words.proofs.LayoutStates.{Assigned, AreSafe, Held, At, name_held}
+use Rattle.scalar_words.proofs.Told.{told_same, told_none}
+use Rattle.scalar_values.specs.declared.extent.Extent.TheVariants.{Whole}
+use Rattle.scalar_values.proofs.CoversNone.{covers_none}
 use Rattle.scalar_emit.proofs.HoldBlocks.{numbers_next, assigned_with, safe_with}
-use Rattle.scalar_emit.proofs.LoopRuns.{fixed_at, none_loaded, answer_runs, loop_runs}
+use Rattle.scalar_emit.proofs.LoopRuns.{fixed_at, plain, plain_loaded, at_bare, answer_runs, loop_runs}
 use Rattle.scalar_words.proofs.ChosenOf.{chosen_all}
 use Rattle.scalar_emit.proofs.FitsKernel.{kernel_fits}
 
@@ -49,7 +53,7 @@ held_all [] (n ∷ ns) p s h = absurd h
 held_all (x ∷ hs) [] p s h = absurd h
 held_all (x ∷ hs) (n ∷ ns) p s h = (h.0, (λ l. h.1), held_all hs ns p s h.2)
 
-at_head : (L : Layout) (R : ℕ → ℕ) (k : Program) (i : ℕ) (names : Names) (m : Memory) (s : State) (p : ℕ) → AtIteration R k i names m s → At (fixed_at {L = bare L} i s.x (none_loaded L s.x)) (kernel_homes R k) (var_scope k).visible names m p s
+at_head : (L : Layout) (R : ℕ → ℕ) (k : Program) (i : ℕ) (names : Names) (m : Memory) (s : State) (p : ℕ) → AtIteration R k i names m s → At (fixed_at {L = plain L} i 0 s.x (plain_loaded L s.x)) (kernel_homes R k) (var_scope k).visible names m p s
 at_head L R k i names m s p at = record {
   sized = at.sized;
   nine = at.index;
@@ -57,6 +61,8 @@ at_head L R k i names m s p at = record {
   ranged = at.ranged;
   memory = at.memory;
   good = at.good;
+  stand = names;
+  told = told_same [] 0 names (λ x. refl);
   held = held_all (kernel_homes R k) names p s at.held;
 }
 
@@ -64,9 +70,9 @@ at_head L R k i names m s p at = record {
 
 abbrev FitsTurns : Layout → Homes → Scope → Option PlainLoop → (b b2 : ℕ) → Option Returned → Type 0
 FitsTurns L hs s (Some l) b b2 answer = FitsLoop L hs s l b b2 answer
-FitsTurns L hs s None b b2 answer = FitsAnswer (bare L) hs s b2 answer
+FitsTurns L hs s None b b2 answer = FitsAnswer (bare L) hs s b2 answer × (covers_answer (bare L).loose s answer ≡ true)
 
-fits_turns : (L : Layout) (hs : Homes) (s : Scope) (b b2 : ℕ) (answer : Option Returned) (turns : Option PlainLoop) → ((l : PlainLoop) → turns ≡ Some l → FitsLoop L hs s l b b2 answer) → (turns ≡ None → FitsAnswer (bare L) hs s b2 answer) → FitsTurns L hs s turns b b2 answer
+fits_turns : (L : Layout) (hs : Homes) (s : Scope) (b b2 : ℕ) (answer : Option Returned) (turns : Option PlainLoop) → ((l : PlainLoop) → turns ≡ Some l → FitsLoop L hs s l b b2 answer) → (turns ≡ None → FitsAnswer (bare L) hs s b2 answer × (covers_answer (bare L).loose s answer ≡ true)) → FitsTurns L hs s turns b b2 answer
 fits_turns L hs s b b2 answer (Some l) f g = f l refl
 fits_turns L hs s b b2 answer None f g = g refl
 
@@ -80,21 +86,22 @@ turn_size i (Some l) e = let z = ap (λ j. block_size j l.body) e in omega (arit
 turn_size i None e = omega arith
 
 module _ (D : Laid) (L : Layout) (fit : Assigned L) (hs : Homes) (s : Scope) (steady : AreSteady hs) (safe : (b : ℕ) → AreSafe L b hs) where
-  turns_run : (turns : Option PlainLoop) (b n b2 : ℕ) (answer : Option Returned) (rest : List Entry) (args : List ℕ) (i : ℕ) (names : Names) (m : Memory) (st : State) → FitsTurns L hs s turns b b2 answer → Resolves D (turns_code L hs s turns b n b2 answer rest) → IsWithin turns i names → ((p : ℕ) → At (fixed_at {L = bare L} i args (none_loaded L args)) hs s.visible names m p st)
+  turns_run : (turns : Option PlainLoop) (b n b2 : ℕ) (answer : Option Returned) (rest : List Entry) (args : List ℕ) (i : ℕ) (names : Names) (m : Memory) (st : State) → s.index ≡ option_map index_of turns → FitsTurns L hs s turns b b2 answer → Resolves D (turns_code L hs s turns b n b2 answer rest) → IsWithin turns i names → ((p : ℕ) → At (fixed_at {L = plain L} i 0 args (plain_loaded L args)) hs s.visible names m p st)
       → Comes D (following D n) st (turn_steps s.index turns) (4 * answer_size s.index answer + 5) i (turns_from s turns answer i m names)
-  turns_run (Some l) b n b2 answer rest args i names m st fits res le at =
+  turns_run (Some l) b n b2 answer rest args i names m st index fits res le at =
       let r = register_at hs l.bound in
       let a = at b in
-      let is : slice_index args r ≡ bound_of l names = sym (a.args r fits.bound_low) ∙ name_held hs names l.bound b st a.sized a.held fits.bound in
+      let same = told_none 0 a.stand names a.told in
+      let is : slice_index args r ≡ bound_of l names = sym (a.args r fits.bound_low) ∙ name_held hs a.stand l.bound b st a.sized a.held fits.bound ∙ ap (bound_of l) same in
       let small : slice_index args r < 2 ^ 64 = omega (arith, is, word-below (value_at names l.bound)) in
       let sum : i + (bound_of l names - i) ≡ slice_index args r = omega (arith, is, le) in
-      let q = loop_runs D L fit hs s l b n b2 answer rest fits steady (safe b) res args small (bound_of l names - i) i names m st sum a in
+      let q = loop_runs D L fit hs s l b n b2 answer rest fits steady (safe b) index res args small (bound_of l names - i) i names m st sum a in
       subst (λ es. Comes D es st (turn_steps s.index (Some l)) (4 * answer_size s.index answer + 5) i (turns_from s (Some l) answer i m names)) (sym res.0)
       (comes_within (turn_steps s.index (Some l)) (4 * answer_size s.index answer + 5) (omega arith) (omega arith)
       (subst (λ x. Comes D (test_code L hs s l b n b2 answer rest) st (turn_steps s.index (Some l)) (4 * answer_size s.index answer + 3 + 2) i (finish s l answer x (iterations s l (bound_of l names - i) i m names))) is q))
-  turns_run None b n b2 answer rest args i names m st fits res e at =
+  turns_run None b n b2 answer rest args i names m st index fits res e at =
       subst (λ es. Comes D es st 0 (4 * answer_size s.index answer + 5) i (ended m 0 (returned s answer m names))) (sym res.0)
-      (comes_within 0 (4 * answer_size s.index answer + 5) (omega arith) (omega arith) (answer_runs D (bare L) (assigned_with L 0 [] tt fit) s rest 0 i 0 0 b2 (n + 1) answer (omega (arith, e)) (safe_with L [] b2 hs (safe b2)) (at b2) fits res.1))
+      (comes_within 0 (4 * answer_size s.index answer + 5) (omega arith) (omega arith) (answer_runs D (bare L) (assigned_with L 0 [] (after_loop L.loose) tt fit) s rest 0 i 0 0 b2 (n + 1) answer fits.1 (omega (arith, e)) (safe_with L [] (after_loop L.loose) b2 hs (safe b2)) (at_bare L (at b2)) fits.0 res.1))
 
 -- ---- kernels
 
@@ -102,7 +109,17 @@ head_first : (D : Laid) (L : Layout) (hs : Homes) (s : Scope) (turns : Option Pl
 head_first D L hs s (Some l) b n b2 answer rest st res = subst (λ es. Goes D (loop_code L hs s l b n b2 answer rest) st es st 0) (sym res.0) pass
 head_first D L hs s None b n b2 answer rest st res = subst (λ es. Goes D (Place n ∷ answer_code (bare L) hs s b2 (n + 1) answer rest) st es st 0) (sym res.0) pass
 
+covers_nothing : (s : Scope) (answer : Option Returned) → covers_answer [] s answer ≡ true
+covers_nothing s None = refl
+covers_nothing s (Some a) = covers_none a.value s Whole (Some a.type)
+
 module _ (R : ℕ → ℕ) (k : Program) (fit : KernelFits R k) where
+  -- without a loop no name is held loosely
+  straight : k.turns ≡ None → FitsAnswer (bare (loop_layout R k)) (kernel_homes R k) (var_scope k) (loop_end k) k.answer × (covers_answer (after_loop (held_loosely k)) (var_scope k) k.answer ≡ true)
+  straight e =
+      let none : after_loop (held_loosely k) ≡ [] = ap (λ t. after_loop (turns_loose (var_scope k) t k.answer)) e in
+      (subst (λ ls. FitsAnswer (with_loose (layout_of_kernel R k) ls) (kernel_homes R k) (var_scope k) (loop_end k) k.answer) (sym none) (fit.straight e), subst (λ ls. covers_answer ls (var_scope k) k.answer ≡ true) (sym none) (covers_nothing (var_scope k) k.answer))
+
   comes : (D : Laid) (n : ℕ) (rest : List Entry) (i : ℕ) (names : Names) (m : Memory) (s : State) → Resolves D (scalar_code R k n rest) → IsWithin k.turns i names → AtIteration R k i names m s
       → Comes D (following D n) s (4 * turns_size k.turns) (end_steps k) i (run_from k i m names)
   comes D n rest i names m s res le at =
@@ -114,7 +131,7 @@ module _ (R : ℕ → ℕ) (k : Program) (fit : KernelFits R k) where
       let a = ap (λ j. answer_size j k.answer) j in
       let t = turn_size (var_scope k).index k.turns j in
       comes_within (4 * turns_size k.turns) (end_steps k) (omega (arith, t)) (omega (arith, a))
-      (turns_run D L (assigned_with (layout_of_kernel R k) p (held_numbers R k) next fit.assigned) hs (var_scope k) fit.steady (λ b. safe_with (layout_of_kernel R k) (held_numbers R k) b hs (fit.safe b)) k.turns (loop_start k) n (loop_end k) k.answer rest s.x i names m s (fits_turns L hs (var_scope k) (loop_start k) (loop_end k) k.answer k.turns fit.looped fit.straight) res le (λ p. at_head L R k i names m s p at))
+      (turns_run D L (assigned_with (layout_of_kernel R k) p (held_numbers R k) (held_loosely k) next fit.assigned) hs (var_scope k) fit.steady (λ b. safe_with (layout_of_kernel R k) (held_numbers R k) (held_loosely k) b hs (fit.safe b)) k.turns (loop_start k) n (loop_end k) k.answer rest s.x i names m s j (fits_turns L hs (var_scope k) (loop_start k) (loop_end k) k.answer k.turns fit.looped straight) res le (λ p. at_head L R k i names m s p at))
 
   pub scalar_runs : ScalarRuns R k
   scalar_runs = record {

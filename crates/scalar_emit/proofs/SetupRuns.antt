@@ -1,20 +1,18 @@
 -- What the words do that load what a loop holds.
 use Rattle.std.proofs.Common.{◌≡◌, ◌≢◌, ℕ, ◌+◌, ◌<◌, ◌≤◌, Bool, true, false, cond, List, [], ◌∷◌, length, Option, Some, refl, sym, ap, ◌∙◌, arith, ⊎_elim}
-use Rattle.std.specs.Prelude.{ℤ, pos, ◌+ℤ◌, option_map, slice_index, nat_lt}
+use Rattle.std.specs.Prelude.{ℤ, pos, ◌+ℤ◌, option_map, nat_lt}
 use Rattle.std.specs.List.{find}
-use Rattle.guest_types.specs.Memory.{Memory}
 use Rattle.machine_model.specs.Machine.{State, x_at}
 use Rattle.machine_model.specs.Arithmetic.{sum}
 use Rattle.machine_model.specs.InstructionTable.{Listed}
-use Rattle.kernel_tree.specs.Typing.{Local}
 use Rattle.kernel_meaning.specs.Operators.{word}
 use Rattle.kernel_meaning.specs.Eval.{Names}
 use Rattle.kernel_meaning.proofs.Residues.{word-below}
 use Rattle.label_fix.specs.DraftRun.{Entry, Put, Laid}
 use Rattle.label_fix.specs.Finished.{size}
-use Rattle.label_fix.proofs.StretchSteps.{Goes, Resolves, stay, chain, go_more, put_goes}
+use Rattle.label_fix.proofs.StretchSteps.{Goes, Resolves, stay, chain, put_goes}
 use Rattle.scalar_words.specs.Layout.{Key, OfNumber, OfAddress, Constant, Layout, Homes, is_constant, constant_register, constant_in}
-use Rattle.scalar_words.proofs.LayoutStates.{Assigned, key_word, Fixed, Held, At, wrote, wrote_same, wrote_other, wrote_sized}
+use Rattle.scalar_words.proofs.LayoutStates.{Assigned, key_word, Held, wrote, wrote_same, wrote_other, wrote_sized}
 use Rattle.scalar_words.proofs.Constants.{const_back, const_fills}
 use Rattle.scalar_words.proofs.Pieces.{const_put}
 use Rattle.scalar_words.proofs.WordCounts.{within, const_words}
@@ -76,7 +74,7 @@ key_loads D L fit p (OfAddress q c) d s rest few hi sized is =
     let n = sum (x_at s q) (word c) in
     record {
       end = wrote s d n;
-      goes = go_more 2 (omega arith) (put_goes {i = add_word (word c) d q} (number_goes D L fit (word c) q d s (nat_lt (word c) 4096) refl (word-below c) put low hi));
+      goes = put_goes {i = add_word (word c) d q} (number_goes D L fit (word c) q d s (nat_lt (word c) 4096) refl (word-below c) put low hi);
       value = wrote_same s d n (omega (arith, sized, hi)) ∙ address_sum (x_at s q) c;
       others = λ r ne. wrote_other s d n r ne;
       sized = wrote_sized s d n;
@@ -126,14 +124,6 @@ held_clear p (x ∷ hs) [] q s t clear low high h = absurd h
 held_clear p (x ∷ hs) (n ∷ ns) q s t clear low high h =
     (h.0, (λ l. ⊎_elim (λ (a : x.register < p). low x.register a) (λ (a : 9 ≤ x.register). high x.register (omega (arith, a))) clear.0 ∙ h.1 l), held_clear p hs ns q s t clear.1 low high h.2)
 
--- names and numbers after them
-pub at_loaded : {M N : Layout} {D : Laid} {w : Fixed M} {c rest : List Entry} {hs : Homes} {ls : List Local} {names : Names} {m : Memory} {q p : ℕ} {s : State} (v : Fixed N) (cs : List Constant) (k : Loads D c s rest p 0 cs) → v.index ≡ w.index → v.args ≡ k.end.x → AreClear p hs → At w hs ls names m q s → At v hs ls names m q k.end
-at_loaded {hs = hs} {names = names} {q = q} {p = p} {s = s} v cs k e f clear at = record {
-  sized = k.sized ∙ at.sized;
-  nine = k.high 9 (omega arith) ∙ at.nine ∙ sym e;
-  args = λ r lt. ap (λ xs. slice_index xs r) (sym f);
-  ranged = at.ranged;
-  memory = k.memory ∙ at.memory;
-  good = at.good;
-  held = held_clear p hs names q s k.end clear k.low k.high at.held;
-}
+-- names after them
+pub held_loaded : {D : Laid} {c rest : List Entry} {p : ℕ} {s : State} (hs : Homes) (q : ℕ) (ns : Names) (cs : List Constant) (k : Loads D c s rest p 0 cs) → AreClear p hs → Held hs ns q s → Held hs ns q k.end
+held_loaded {p = p} {s = s} hs q ns cs k clear h = held_clear p hs ns q s k.end clear k.low k.high h

@@ -1,4 +1,5 @@
 pub mod Statements
+pub mod Loosening
 pub mod LoopNumbers
 pub mod Loop
 pub mod Kernel

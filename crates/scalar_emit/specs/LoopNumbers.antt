@@ -4,9 +4,10 @@ use Rattle.kernel_tree.specs.Plain.{Action, Define, Put, Update, Choose, Leave, 
 use Rattle.kernel_tree.specs.Items.{stream_offset}
 use Rattle.kernel_tree.specs.Typing.{Scope, var_scope}
 use Rattle.kernel_meaning.specs.Operators.{operator_of}
-use Rattle.scalar_words.specs.Layout.{Constant, Layout, Homes, with_constants}
+use Rattle.scalar_words.specs.Layout.{Constant, Layout, Homes, with_constants, with_loose}
 use Rattle.scalar_words.specs.KernelRegisters.{layout_of_kernel, kernel_homes}
 use Rattle.scalar_values.specs.HeldNumbers.{addend_of, hold_side, hold_term, hold_element, coded_words}
+use Rattle.scalar_emit.specs.Loosening.{held_loosely}
 
 -- what is held after statements, with so many parameters, by the names before the loop
 abbrev mutual
@@ -35,7 +36,7 @@ held_numbers R k = turns_numbers (length k.params) (kernel_homes R k) (var_scope
 
 -- the registers while iterations last
 abbrev pub loop_layout : (ℕ → ℕ) → Program → Layout
-loop_layout R k = with_constants (layout_of_kernel R k) (held_numbers R k)
+loop_layout R k = with_loose (with_constants (layout_of_kernel R k) (held_numbers R k)) (held_loosely k)
 
 -- ---- words where they stand
 
@@ -44,7 +45,7 @@ abbrev mutual
   pub coded_action : List Constant → Option (List ℕ) → Action → ℕ
   coded_action cs i (Define x t e) = coded_words cs i e + 4
   coded_action cs i (Put a o e) = coded_words cs i e + 2
-  coded_action cs i (Update x op e) = coded_words cs i e + 4
+  coded_action cs i (Update x op e) = coded_words cs i e + 3
   coded_action cs i (Choose c b d) = coded_words cs i c + 4 + coded_block cs i b + coded_otherwise cs i d + 4
   coded_action cs i (Leave c) = coded_words cs i c + 4
 

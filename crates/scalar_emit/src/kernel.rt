@@ -12,7 +12,7 @@ ghost use Rattle.loop_form.specs.View.{program};
 ghost use Rattle.scalar_emit.specs.Statements.{block_labels, block_code};
 ghost use Rattle.scalar_words.specs.KernelRegisters.{register_in};
 ghost use Rattle.scalar_words.specs.Drafts.{Appends, AppendsWords};
-ghost use Rattle.scalar_words.specs.View.{constants_of, homes_of};
+ghost use Rattle.scalar_words.specs.View.{homes_of};
 ghost use Rattle.scalar_words.specs.Layout.{with_constants};
 ghost use Rattle.scalar_emit.specs.LoopNumbers as numbers;
 ghost use Rattle.kernel_tree.specs.Items as items;
@@ -22,49 +22,26 @@ ghost use Rattle.scalar_emit.specs.Loop as loops;
 ghost use Rattle.scalar_emit.specs.Kernel as kernels;
 ghost use Rattle.scalar_words.specs.KernelRegisters as registers;
 
-use crate::branches::branch_ahead;
-use crate::numbers::{emit_numbers, hold_block};
-use crate::statements::emit_block;
-use a64_code::{AddSubOp, Cond, Reg, zero};
-use kernel_scope::{Scope, declare, empty, loop_index};
-use kernel_tree::fault::Binding;
+use crate::loosening::{after_loop, loosen_names};
+use crate::numbers::hold_block;
+use crate::turns::emit_loop;
+use crate::variable::declare_index;
+use kernel_scope::{Scope, empty, loop_index};
 use kernel_tree::laws::{few_params, right_kinds};
 use kernel_tree::{Answer, Checked, Kernel, Loop, Param, Shape, Var};
-use label_fix::{BranchKind, Draft, Label};
+use label_fix::{Draft, Label};
 use loop_form::laws::few_items;
 use loop_form::{Item, vars_size_of};
 use reg_assign::Assigned;
 use scalar_values::emit_value;
-use scalar_values::instructions::{exit_call, index, next_iteration, small};
-use scalar_words::instructions::add_sub;
+use scalar_values::instructions::{exit_call, small};
+use scalar_words::Home;
 use scalar_words::laws::each_has_a_register;
 use scalar_words::names::{declare_names, declare_params, declare_var};
 use scalar_words::operations::{emit_copy, emit_settle};
 use scalar_words::places::{Places, counted_register, places_of};
-use scalar_words::{Constant, Home, register_at};
 use std::alloc::{AllocError, Global};
 use word_rows::Bits;
-
-// The loop variable.
-fn declare_index<'a>(
-    scope: &mut Scope<'a>,
-    homes: &mut Vec<Home<'a>>,
-    turns: &'a Loop,
-) -> Result<(), AllocError>
-    ensures scope { OnOk result (scope_of scope.new
-        ≡ typing.after_turns (scope_of scope.old) (Some (turns_of turns.now))) }
-    ensures index { OnOk result ((scope_of scope.new).index ≡ (scope_of scope.old).index) }
-    ensures homes { OnOk result (homes_of homes.new.items
-        ≡ loops.with_index (homes_of homes.old.items) (turns_of turns.now)) }
-{
-    homes.push(Home {
-        name: turns.index.text(),
-        register: index(),
-        last_use: None,
-    })?;
-    declare(scope, &turns.index, Binding::Index)?;
-    Ok(())
-}
 
 // ---- before the loop
 
@@ -289,133 +266,6 @@ fn emit_answer(
     }
 }
 
-// The statements of a loop whose variable is declared.
-fn emit_body<'a>(
-    draft: &mut Draft,
-    places: &Places,
-    homes: &mut Vec<Home<'a>>,
-    scope: &mut Scope<'a>,
-    exit: Label,
-    turns: &'a Loop,
-    item: &mut usize,
-) -> Result<(), AllocError>
-    requires exit { exit < draft.old.labels }
-    requires kinds { BlockKinds (block_of turns.now.body.items) }
-    requires fits { item.old + items.block_size (scope_of scope.old).index (block_of turns.now.body.items) < 2 ^ 32 }
-    ensures item { OnOk result (item.new ≡ item.old + items.block_size (scope_of scope.old).index
-        (block_of turns.now.body.items)) }
-    ensures labels { OnOk result (draft.new.labels
-        ≡ draft.old.labels + block_labels (scope_of scope.old).index (block_of turns.now.body.items)) }
-    ensures code { OnOk result (Appends draft.old draft.new
-        (block_code places.now (homes_of homes.old.items)
-        (loops.inside_of (scope_of scope.old)) exit item.old draft.old.labels (block_of turns.now.body.items))) }
-{
-    scope.inside = true;
-    emit_block(draft, places, homes, scope, exit, &turns.body, item)?;
-    Ok(())
-}
-
-// The labels of a loop: at its head, after it, and before its statements.
-#[derive(Clone, Copy)]
-struct LoopLabels {
-    head: Label,
-    exit: Label,
-    top: Label,
-}
-
-// The head of a loop.
-fn emit_head(draft: &mut Draft) -> Result<Label, AllocError>
-    ensures head { IfOk result (λ l. l ≡ draft.old.labels) }
-    ensures labels { OnOk result (draft.new.labels ≡ draft.old.labels + 1) }
-    ensures code { OnOk result ((rest : List plain.Entry)
-        → draft.new.entries ++ rest ≡ draft.old.entries ++ plain.Place draft.old.labels ∷ rest) }
-{
-    let head = draft.label()?;
-    draft.place(head)?;
-    Ok(head)
-}
-
-// The comparison of a loop's variable with the register of its bound.
-fn emit_bound(draft: &mut Draft, bound: Reg) -> Result<(), AllocError>
-    ensures labels { OnOk result (draft.new.labels ≡ draft.old.labels) }
-    ensures code { OnOk result (Appends draft.old draft.new (loops.bound_code bound.number)) }
-{
-    draft.put(add_sub(AddSubOp::Subs, zero(), index(), bound))?;
-    Ok(())
-}
-
-// The head of a loop: its first test, and what is held.
-fn emit_entry(
-    draft: &mut Draft,
-    bound: Reg,
-    constants: &[Constant],
-) -> Result<LoopLabels, AllocError>
-    ensures head { IfOk result (λ l. l.head ≡ draft.old.labels) }
-    ensures exit { IfOk result (λ l. l.exit ≡ draft.old.labels + 1) }
-    ensures top { IfOk result (λ l. l.top ≡ draft.old.labels + 2) }
-    ensures labels { OnOk result (draft.new.labels ≡ draft.old.labels + 3) }
-    ensures code { OnOk result (Appends draft.old draft.new (loops.entry_code bound.number draft.old.labels
-        (constants_of constants.now))) }
-{
-    let head = emit_head(draft)?;
-    emit_bound(draft, bound)?;
-    let exit = branch_ahead(draft, BranchKind::If(Cond::Hs))?;
-    emit_numbers(draft, constants)?;
-    let top = emit_head(draft)?;
-    Ok(LoopLabels { head, exit, top })
-}
-
-// The end of an iteration, and of the loop.
-fn emit_again(
-    draft: &mut Draft,
-    bound: Reg,
-    head: Label,
-    exit: Label,
-    top: Label,
-) -> Result<(), AllocError>
-    requires exit { exit ≡ head + 1 }
-    requires top { top ≡ head + 2 }
-    requires given { top < draft.old.labels }
-    ensures labels { OnOk result (draft.new.labels ≡ draft.old.labels) }
-    ensures code { OnOk result (Appends draft.old draft.new (loops.again_code bound.number head)) }
-{
-    draft.put(next_iteration())?;
-    emit_bound(draft, bound)?;
-    draft.branch(BranchKind::If(Cond::Lo), top)?;
-    draft.place(exit)?;
-    Ok(())
-}
-
-// The loop from its head to its end; answers the label of the head.
-fn emit_loop<'a>(
-    draft: &mut Draft,
-    places: &Places,
-    homes: &mut Vec<Home<'a>>,
-    scope: &mut Scope<'a>,
-    turns: &'a Loop,
-    item: &mut usize,
-) -> Result<Label, AllocError>
-    requires kinds { BlockKinds (block_of turns.now.body.items) }
-    requires fits { item.old + (1 + items.block_size (scope_of scope.old).index (block_of turns.now.body.items)) < 2 ^
-        32 }
-    ensures head { IfOk result (λ l. l ≡ draft.old.labels) }
-    ensures item { OnOk result (item.new ≡ item.old +
-        (1 + items.block_size (scope_of scope.old).index (block_of turns.now.body.items))) }
-    ensures labels { OnOk result (draft.new.labels
-        ≡ draft.old.labels + 3 + block_labels (scope_of scope.old).index (block_of turns.now.body.items)) }
-    ensures code { OnOk result (Appends draft.old draft.new
-        (loops.turn_code places.now (homes_of homes.old.items) (scope_of scope.old)
-        (turns_of turns.now) item.old draft.old.labels)) }
-{
-    let bound = register_at(homes, &turns.bound);
-    let LoopLabels { head, exit, top } = emit_entry(draft, bound, places.constants())?;
-    declare_index(scope, homes, turns)?;
-    *item += 1;
-    emit_body(draft, places, homes, scope, exit, turns, item)?;
-    emit_again(draft, bound, head, exit, top)?;
-    Ok(head)
-}
-
 // The loop of a kernel, with no name declared yet.
 fn turns_named<'a>(
     draft: &mut Draft,
@@ -438,7 +288,7 @@ fn turns_named<'a>(
     ensures head { IfOk result (λ l. l ≡ draft.old.labels) }
     ensures item { OnOk result (item.new ≡ item.old + items.turns_size (Some (turns_of turns.now))) }
     ensures labels { OnOk result (draft.new.labels
-        ≡ draft.old.labels + 3 + block_labels (items.loop_index (program_of kernel.now))
+        ≡ draft.old.labels + 4 + block_labels (items.loop_index (program_of kernel.now))
         (block_of turns.now.body.items)) }
     ensures code { OnOk result (Appends draft.old draft.new
         (loops.turn_code places.now (registers.kernel_homes (register_in regs.now) (program_of kernel.now))
@@ -468,7 +318,7 @@ fn emit_turns(
     ensures head { IfOk result (λ l. l ≡ draft.old.labels) }
     ensures item { OnOk result (item.new ≡ item.old + items.turns_size (Some (turns_of turns.now))) }
     ensures labels { OnOk result (draft.new.labels
-        ≡ draft.old.labels + 3 + block_labels (items.loop_index (program_of kernel.now))
+        ≡ draft.old.labels + 4 + block_labels (items.loop_index (program_of kernel.now))
         (block_of turns.now.body.items)) }
     ensures code { OnOk result (Appends draft.old draft.new
         (loops.turn_code places.now (registers.kernel_homes (register_in regs.now) (program_of kernel.now))
@@ -659,12 +509,12 @@ fn hold_numbers(
 }
 
 // The code of a kernel's loop and of what follows it; answers the label of its head, or before the returned value.
-fn emit_rest(
+fn emit_rest<'a>(
     alloc: Global,
     draft: &mut Draft,
-    places: &mut Places,
+    places: &mut Places<'a>,
     regs: &Assigned,
-    kernel: &Kernel,
+    kernel: &'a Kernel,
     item: usize,
 ) -> Result<Label, AllocError>
     requires assigned { IsAssignment 15 regs.now }
@@ -687,8 +537,11 @@ fn emit_rest(
         Some(turns) => {
             let mut next = item;
             hold_numbers(alloc, places, regs, kernel, turns)?;
+            loosen_names(alloc, places, regs, kernel, turns)?;
             let head = emit_turns(alloc, draft, places, regs, kernel, turns, &mut next)?;
             places.hold(Vec::new(alloc));
+            let ahead = after_loop(alloc, places.loose())?;
+            places.loosen(ahead);
             emit_following(alloc, draft, places, regs, kernel, turns, next)?;
             Ok(head)
         }

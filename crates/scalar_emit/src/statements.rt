@@ -22,8 +22,10 @@ use kernel_scope::{
 };
 use kernel_tree::{BinaryOp, Expr, Name, Part, Stmt, Ty, UpdateOp, parts};
 use label_fix::{Draft, Label};
+use scalar_values::covers::held_extent;
 use scalar_values::extent::{
-    Extent, binary_extent, converted_extent, extent_at, fits_at, within_type,
+    Extent, binary_extent, binary_joins, converted_extent, extent_at, fits_at, settles, within,
+    within_type,
 };
 use scalar_values::instructions::{index as loop_variable, index_word, store};
 use scalar_values::operations::{emit_offset, want_operator};
@@ -283,10 +285,12 @@ fn emit_joined(
         (statements.update_code places.now (homes_of homes.now) (scope_of scope.now) item.old draft.old.labels
         (name_of name.now) op want (term_of value.now))) }
 {
-    let extent = binary_extent(op, Extent::Whole, want);
+    let held = held_extent(places.loose_form(name));
+    let extent = binary_extent(op, held, want);
     let side = emit_side(draft, places, homes, scope, op, extent, want, value, item)?;
-    let held = register_at(homes, name);
-    want_operator(draft, op, side, binary_leaves(op), want, held, held)?;
+    let leaves = settles(within(held, want), binary_joins(op), binary_leaves(op));
+    let register = register_at(homes, name);
+    want_operator(draft, op, side, leaves, want, register, register)?;
     *item += 1;
     Ok(())
 }

@@ -14,7 +14,7 @@ use Rattle.scalar_words.specs.Layout.{Key, OfNumber, OfAddress, Constant, Homes,
 use Rattle.scalar_values.specs.ItemWords.{addend}
 use Rattle.scalar_values.specs.Code.{near, key_at, moved_key}
 use Rattle.scalar_values.specs.HeldNumbers.{IsReached, AreNext, has_room, add_key, new_key, is_some, is_reached, hold_if, hold_moved, hold_element, addend_of, immediate_of, hold_side, hold_index, hold_term, key_words, loading_words, literal_words, element_words, coded_words}
-use Rattle.scalar_values.proofs.CodedSizes.{literal_few, coded_few}
+use Rattle.scalar_values.proofs.CodedSizes.{literal_few, element_moves, term_moves, moved_few}
 
 -- ---- numbers that are found
 
@@ -188,20 +188,20 @@ number_few p z cs all None e w = room (has_room p cs) w
         omega (arith, k, n)
     room false w = let k = literal_few (constant_in all (OfNumber z)) in omega (arith, k)
 
--- an address takes two words at most
-address_step : (b : Bool) (z : Key) (cs : List Constant) → key_words z ≤ 2 → loading_words (add_key b z cs) ≤ loading_words cs + 2
+-- an address takes one word
+address_step : (b : Bool) (z : Key) (cs : List Constant) → key_words z ≤ 1 → loading_words (add_key b z cs) ≤ loading_words cs + 1
 address_step true z cs le = let n = loading_on cs (record { key = z; register = 8 - length cs }) in omega (arith, n, le)
 address_step false z cs le = omega arith
 
-address_new : (o : Option ℕ) (p : ℕ) (z : Key) (cs : List Constant) → key_words z ≤ 2 → loading_words (new_key o p z cs) ≤ loading_words cs + 2
+address_new : (o : Option ℕ) (p : ℕ) (z : Key) (cs : List Constant) → key_words z ≤ 1 → loading_words (new_key o p z cs) ≤ loading_words cs + 1
 address_new (Some r) p z cs le = omega arith
 address_new None p z cs le = address_step (has_room p cs) z cs le
 
-address_if : (b : Bool) (p : ℕ) (z : Key) (cs : List Constant) → key_words z ≤ 2 → loading_words (hold_if b p z cs) ≤ loading_words cs + 2
+address_if : (b : Bool) (p : ℕ) (z : Key) (cs : List Constant) → key_words z ≤ 1 → loading_words (hold_if b p z cs) ≤ loading_words cs + 1
 address_if true p z cs le = address_new (constant_in cs z) p z cs le
 address_if false p z cs le = omega arith
 
-key_few : (p q : ℕ) (t : Option Ty) (o : Option ℤ) (cs : List Constant) → loading_words (hold_moved p (key_at q t o) cs) ≤ loading_words cs + 2
+key_few : (p q : ℕ) (t : Option Ty) (o : Option ℤ) (cs : List Constant) → loading_words (hold_moved p (key_at q t o) cs) ≤ loading_words cs + 1
 key_few p q None o cs = omega arith
 key_few p q (Some t) None cs = omega arith
 key_few p q (Some t) (Some c) cs = address_if (is_reached p (OfAddress q (pos (byte_count t) *ℤ c))) p (OfAddress q (pos (byte_count t) *ℤ c)) cs (omega arith)
@@ -210,15 +210,15 @@ key_none : (p q : ℕ) (t : Option Ty) (cs : List Constant) → loading_words (h
 key_none p q None cs = omega arith
 key_none p q (Some t) cs = omega arith
 
-pub element_few : (p : ℕ) (hs : Homes) (s : Scope) (a : List ℕ) (o : Option ℤ) (cs : List Constant) → loading_words (hold_element p hs s a o cs) ≤ loading_words cs + 2
+pub element_few : (p : ℕ) (hs : Homes) (s : Scope) (a : List ℕ) (o : Option ℤ) (cs : List Constant) → loading_words (hold_element p hs s a o cs) ≤ loading_words cs + 1
 element_few p hs s a o cs = key_few p (register_at hs a) (option_and_then element_type (lookup s a)) (near o) cs
 
-side_few : (o : Option ℕ) (e : Term) (p : ℕ) (hs : Homes) (s : Scope) (cs all : List Constant) → Within (hold_side o (hold_term p hs s e) cs) all → (Within (hold_term p hs s e cs) all → IsFew cs (hold_term p hs s e cs) (coded_words all s.index e) (4 * term_size s.index e)) → IsFew cs (hold_side o (hold_term p hs s e) cs) (coded_words all s.index e) (4 * term_size s.index e)
-side_few (Some v) e p hs s cs all w f = let k = coded_few e all s.index in omega (arith, k)
+side_few : (o : Option ℕ) (e : Term) (p : ℕ) (hs : Homes) (s : Scope) (cs all : List Constant) → Within (hold_side o (hold_term p hs s e) cs) all → (Within (hold_term p hs s e cs) all → IsFew cs (hold_term p hs s e cs) (term_moves s.index e + coded_words all s.index e) (4 * term_size s.index e)) → IsFew cs (hold_side o (hold_term p hs s e) cs) (term_moves s.index e + coded_words all s.index e) (4 * term_size s.index e)
+side_few (Some v) e p hs s cs all w f = let k = moved_few e all s.index in omega (arith, k)
 side_few None e p hs s cs all w f = f w
 
-read_few : (o : Option ℤ) (a : List ℕ) (e : Term) (p : ℕ) (hs : Homes) (s : Scope) (cs all : List Constant) → Within (hold_element p hs s a o (hold_index o (hold_term p hs s e) cs)) all → (Within (hold_term p hs s e cs) all → IsFew cs (hold_term p hs s e cs) (coded_words all s.index e) (4 * term_size s.index e))
-    → IsFew cs (hold_element p hs s a o (hold_index o (hold_term p hs s e) cs)) (element_words o (coded_words all s.index e)) (4 * (index_size o (term_size s.index e) + 1))
+read_few : (o : Option ℤ) (a : List ℕ) (e : Term) (p : ℕ) (hs : Homes) (s : Scope) (cs all : List Constant) → Within (hold_element p hs s a o (hold_index o (hold_term p hs s e) cs)) all → (Within (hold_term p hs s e cs) all → IsFew cs (hold_term p hs s e cs) (term_moves s.index e + coded_words all s.index e) (4 * term_size s.index e))
+    → IsFew cs (hold_element p hs s a o (hold_index o (hold_term p hs s e) cs)) (element_moves o (term_moves s.index e) + element_words o (coded_words all s.index e)) (4 * (index_size o (term_size s.index e) + 1))
 read_few (Some c) a e p hs s cs all w f = let k = element_few p hs s a (Some c) cs in omega (arith, k)
 read_few None a e p hs s cs all w f =
     let h = element_held p hs s a None (hold_term p hs s e cs) in
@@ -226,8 +226,8 @@ read_few None a e p hs s cs all w f =
     let j = key_none p (register_at hs a) (option_and_then element_type (lookup s a)) (hold_term p hs s e cs) in
     omega (arith, k, j)
 
-pub term_few : (e : Term) (p : ℕ) (hs : Homes) (s : Scope) (cs all : List Constant) → Within (hold_term p hs s e cs) all → IsFew cs (hold_term p hs s e cs) (coded_words all s.index e) (4 * term_size s.index e)
-term_few (Literal z) p hs s cs all w = number_few p z cs all (constant_in cs (OfNumber z)) refl w
+pub term_few : (e : Term) (p : ℕ) (hs : Homes) (s : Scope) (cs all : List Constant) → Within (hold_term p hs s e cs) all → IsFew cs (hold_term p hs s e cs) (term_moves s.index e + coded_words all s.index e) (4 * term_size s.index e)
+term_few (Literal z) p hs s cs all w = let k = number_few p z cs all (constant_in cs (OfNumber z)) refl w in omega (arith, k)
 term_few (Variable x) p hs s cs all w = omega arith
 term_few (Element a e) p hs s cs all w = read_few (stream_offset s.index e) a e p hs s cs all w (term_few e p hs s cs all)
 term_few (Unary op e) p hs s cs all w = let k = term_few e p hs s cs all w in omega (arith, k)
@@ -264,5 +264,5 @@ term_few (Either x y) p hs s cs all w =
     omega (arith, k, j)
 term_few (Not e) p hs s cs all w = let k = term_few e p hs s cs all w in omega (arith, k)
 
-pub side_is_few : (o : Option ℕ) (e : Term) (p : ℕ) (hs : Homes) (s : Scope) (cs all : List Constant) → Within (hold_side o (hold_term p hs s e) cs) all → IsFew cs (hold_side o (hold_term p hs s e) cs) (coded_words all s.index e) (4 * term_size s.index e)
+pub side_is_few : (o : Option ℕ) (e : Term) (p : ℕ) (hs : Homes) (s : Scope) (cs all : List Constant) → Within (hold_side o (hold_term p hs s e) cs) all → IsFew cs (hold_side o (hold_term p hs s e) cs) (term_moves s.index e + coded_words all s.index e) (4 * term_size s.index e)
 side_is_few o e p hs s cs all w = side_few o e p hs s cs all w (term_few e p hs s cs all)

@@ -1,7 +1,7 @@
 -- The code of an index that is computed.
 use Rattle.std.proofs.Common.{◌≡◌, ℕ, List, Some, None, refl, ap, ◌∙◌}
 use Rattle.machine_model.specs.InstructionTable.{Listed}
-use Rattle.std.specs.Prelude.{ℤ, Option, option_map}
+use Rattle.std.specs.Prelude.{ℤ, Bool, Option, option_map, is_none, ◌&&◌}
 use Rattle.kernel_tree.specs.declared.ops.Ty.{Ty}
 use Rattle.scalar_values.specs.Extents.{Whole}
 use Rattle.scalar_values.specs.ItemWords.{index_word}
@@ -9,10 +9,10 @@ use Rattle.scalar_values.specs.Code.{number_code, loose_code, index_code}
 use Rattle.kernel_tree.specs.Plain.{Term}
 use Rattle.kernel_tree.specs.Items.{term_size, index_size, index_items, stream_offset}
 use Rattle.kernel_tree.specs.Typing.{Scope, index_type}
-use Rattle.machine_model.specs.InstructionTable.{Listed}
 use Rattle.label_fix.specs.DraftRun.{Entry}
-use Rattle.scalar_words.specs.Layout.{Constant, Layout, Homes}
+use Rattle.scalar_words.specs.Layout.{Constant, Form, Loose, Layout, Homes}
 use Rattle.scalar_values.specs.HeldNumbers.{hold_index}
+use Rattle.scalar_values.specs.Covers.{index_form, stands_together, index_covers}
 
 -- ---- indexes
 
@@ -49,3 +49,13 @@ held_stream (Some c) w more cs h = refl
 pub held_computed : (o : Option ℤ) (more : List Constant → List Constant) (cs : List Constant) → option_map index_word o ≡ None → more cs ≡ hold_index o more cs
 held_computed None more cs h = refl
 held_computed (Some c) more cs h = absurd cc
+
+-- ---- names of indexes
+
+pub covers_stream : (ls : List Loose) (i : Option (List ℕ)) (array : Option Form) (want : Option Ty) (o : Option ℤ) (w : Option Listed) (computed : Bool) → option_map index_word o ≡ Some w → stands_together array (index_form ls i) want ≡ index_covers ls i array want o computed
+covers_stream ls i array want None w computed h = absurd cc
+covers_stream ls i array want (Some c) w computed h = refl
+
+pub covers_computed : (ls : List Loose) (i : Option (List ℕ)) (array : Option Form) (want : Option Ty) (o : Option ℤ) (computed : Bool) → option_map index_word o ≡ None → (is_none array && computed) ≡ index_covers ls i array want o computed
+covers_computed ls i array want None computed h = refl
+covers_computed ls i array want (Some c) computed h = absurd cc

@@ -1,6 +1,8 @@
 pub mod Loads
 pub mod CodedSizes
 pub mod Literals
+pub mod WholeNames
+pub mod Together
 pub mod Places
 pub mod NumberCounts
 pub mod NearOffsets
@@ -13,7 +15,9 @@ pub mod Fused
 pub mod Staying
 pub mod Ranges
 pub mod Jumps
+pub mod CodeBack
 pub mod ValueRuns
+pub mod CoversNone
 pub mod FitsOf
 pub mod ValueCounts
 pub mod ValuesPlaced

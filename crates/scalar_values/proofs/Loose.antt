@@ -1,8 +1,8 @@
 -- What is computed of a value of which only low bits are asked for, and that it agrees with the value in these.
-use Rattle.std.proofs.Common.{◌≡◌, ℕ, zero, suc, ◌+◌, ◌-◌, ◌*◌, ◌%◌, ◌^◌, ◌<◌, Bool, true, false, Option, Some, None, refl, sym, ap, ap₂, ◌∙◌, subst, arith, ltb}
+use Rattle.std.proofs.Common.{◌≡◌, ℕ, zero, suc, ◌+◌, ◌-◌, ◌*◌, ◌%◌, ◌^◌, ◌<◌, Bool, true, false, List, Option, Some, None, refl, sym, ap, ap₂, ◌∙◌, subst, arith, ltb}
 use Rattle.std.specs.Prelude.{ℤ, pos, negsuc, ◌+ℤ◌, ◌-ℤ◌, ◌*ℤ◌, neg_ℤ, option_map, bit_and, bit_or, bit_xor}
 use Rattle.std.proofs.lemmas.Nat.{mul-mod, and_mod, or_mod, xor_mod}
-use Rattle.std.proofs.lemmas.Bool.{ltb-true, ltb-false}
+use Rattle.std.proofs.lemmas.Bool.{ltb-true, ltb-false, and_parts}
 use Rattle.std.specs.Int.{w8, w16, w32, w64, cast_signed}
 use Rattle.guest_types.specs.Memory.{Memory}
 use Rattle.kernel_tree.specs.declared.ops.Ty.{Ty}
@@ -10,11 +10,11 @@ use Rattle.kernel_tree.specs.declared.ops.UnaryOp.{UnaryOp}
 use Rattle.kernel_tree.specs.declared.ops.BinaryOp.{BinaryOp}
 use Rattle.kernel_tree.specs.Plain.{Term, Literal, Variable, Element, Unary, Operation, Shift, Conversion, Choice, Comparison, Both, Either, Not}
 use Rattle.kernel_tree.specs.Typing.{Scope, own}
-use Rattle.kernel_tree.specs.Wrap.{wrap, residue}
+use Rattle.kernel_tree.specs.Wrap.{wrap, residue, bits_of}
 use Rattle.kernel_meaning.specs.Operators.{word, wrapped, unary_on, binary_on, shift_on, shift_count, unary_value, binary_value, shift_value}
 use Rattle.kernel_meaning.specs.TypeValues.{IsOf, binary_leaves}
 use Rattle.kernel_meaning.specs.Ranges.{AreRanged}
-use Rattle.kernel_meaning.specs.Eval.{Names, on_both, chosen, choose_value, value, holds}
+use Rattle.kernel_meaning.specs.Eval.{Names, value_at, on_both, chosen, choose_value, value, holds}
 use Rattle.kernel_meaning.proofs.Residues.{word-add, word-mul, word-below, residue-8, residue-16, residue-32}
 use Rattle.kernel_meaning.proofs.TypeRanges.{wrap-of, of-fits}
 use Rattle.kernel_meaning.proofs.ValueRanges.{value_range}
@@ -23,6 +23,10 @@ use Rattle.scalar_values.specs.declared.extent.Extent.{Extent}
 use Rattle.scalar_values.specs.Extents.{Low8, Low16, Low32, Whole, extent_of, within_type, within, unary_joins, operand_extent, asked_extent, binary_extent, fits_at, cast_extent, converted_extent}
 use Rattle.scalar_values.specs.Leaving.{unary_may_leave, binary_may_leave, shift_may_leave, unary_asks, binary_asks, shift_asks}
 use Rattle.scalar_words.specs.Operands.{binary_joins}
+use Rattle.scalar_words.specs.Layout.{Form, LowBits, Ahead, Behind, Loose, loose_in}
+use Rattle.scalar_words.proofs.LayoutStates.{Tells, Told}
+use Rattle.scalar_words.proofs.Told.{tells_itself, told_at}
+use Rattle.scalar_values.specs.Covers.{is_enough, covers}
 use Rattle.kernel_tree.specs.declared.ops.Ty.TheVariants as ty
 use Rattle.kernel_tree.specs.declared.ops.UnaryOp.TheVariants as unary
 use Rattle.kernel_tree.specs.declared.ops.BinaryOp.TheVariants as binary
@@ -322,45 +326,79 @@ same-all (Some x) (Some v) p = ap Some p
 
 -- ---- expressions
 
--- what the code of an expression computes, where so much is asked for
-abbrev pub loose : Scope → Extent → Option Ty → Term → Memory → Names → Option ℤ
-loose s w want (Unary op e) m names = option_map (loose_unary op w want) (loose s (unary_asks s want op e w) want e m names)
-loose s w want (Operation op x y) m names = on_both (loose_binary op w want) (loose s (binary_asks s want op x y w) want x m names) (loose s (binary_asks s want op x y w) want y m names)
-loose s w want (Shift left e n) m names = option_map (loose_shift left n w want) (loose s (shift_asks s want left e n w) want e m names)
-loose s w want (Conversion e t) m names = option_map (loose_cast (within_type w t) (fits_at (own s e) t) t) (loose s (converted_extent w (own s e) t) (own s e) e m names)
-loose s w want (Choice c x y) m names = chosen (loose s w want x m names) (loose s w want y m names) (holds s c m names)
-loose s w want (Literal z) m names = value s want (Literal z) m names
-loose s w want (Variable x) m names = value s want (Variable x) m names
-loose s w want (Element a i) m names = value s want (Element a i) m names
-loose s w want (Comparison op x y) m names = value s want (Comparison op x y) m names
-loose s w want (Both x y) m names = value s want (Both x y) m names
-loose s w want (Either x y) m names = value s want (Either x y) m names
-loose s w want (Not e) m names = value s want (Not e) m names
+-- what the code of an expression computes, where so much is asked for, by what stands in the registers of names; names from
+-- which only whole values are asked are read by their values
+abbrev pub loose : Scope → Extent → Option Ty → Term → Memory → (stand names : Names) → Option ℤ
+loose s w want (Variable x) m stand names = value s want (Variable x) m stand
+loose s w want (Unary op e) m stand names = option_map (loose_unary op w want) (loose s (unary_asks s want op e w) want e m stand names)
+loose s w want (Operation op x y) m stand names = on_both (loose_binary op w want) (loose s (binary_asks s want op x y w) want x m stand names) (loose s (binary_asks s want op x y w) want y m stand names)
+loose s w want (Shift left e n) m stand names = option_map (loose_shift left n w want) (loose s (shift_asks s want left e n w) want e m stand names)
+loose s w want (Conversion e t) m stand names = option_map (loose_cast (within_type w t) (fits_at (own s e) t) t) (loose s (converted_extent w (own s e) t) (own s e) e m stand names)
+loose s w want (Choice c x y) m stand names = chosen (loose s w want x m stand names) (loose s w want y m stand names) (holds s c m names)
+loose s w want (Literal z) m stand names = value s want (Literal z) m names
+loose s w want (Element a i) m stand names = value s want (Element a i) m names
+loose s w want (Comparison op x y) m stand names = value s want (Comparison op x y) m names
+loose s w want (Both x y) m stand names = value s want (Both x y) m names
+loose s w want (Either x y) m stand names = value s want (Either x y) m names
+loose s w want (Not e) m stand names = value s want (Not e) m names
 
-module _ (s : Scope) (m : Memory) (names : Names) (ranged : AreRanged s.visible names) where
+-- ---- names
+
+bits_same : (t : Ty) → bits_of t ≡ bits (extent_of t)
+bits_same ty.I8 = refl
+bits_same ty.U8 = refl
+bits_same ty.I16 = refl
+bits_same ty.U16 = refl
+bits_same ty.I32 = refl
+bits_same ty.U32 = refl
+bits_same ty.I64 = refl
+bits_same ty.U64 = refl
+
+-- what stands in the register of a name agrees with its value, where no more is asked for
+pub name_agrees : (c : ℕ) (o : Option Form) (w : Extent) (z v : ℤ) → is_enough o w ≡ true → Tells c o z v → Agrees w z v
+name_agrees c None w z v h tells = same w z v tells
+name_agrees c (Some (LowBits t)) w z v h tells = low_agrees w t z v h (lower w t z v h (subst (λ k. Alike k z v) (bits_same t) tells))
+name_agrees c (Some (Ahead t)) w z v h tells = absurd cc
+name_agrees c (Some Behind) w z v h tells = absurd cc
+
+enough_itself : (o : Option Form) (w : Extent) → is_enough o w ≡ true → tells_itself o ≡ true
+enough_itself None w h = refl
+enough_itself (Some (LowBits t)) w h = refl
+enough_itself (Some (Ahead t)) w h = h
+enough_itself (Some Behind) w h = h
+
+-- the same of a name
+pub named_agrees : (ls : List Loose) (c : ℕ) (stand names : Names) (x : List ℕ) (w : Extent) → is_enough (loose_in ls x) w ≡ true → Told ls c stand names → Agrees w (value_at stand x) (value_at names x)
+named_agrees ls c stand names x w h told = name_agrees c (loose_in ls x) w (value_at stand x) (value_at names x) h (told_at ls c stand names x (enough_itself (loose_in ls x) w h) told)
+
+module _ (s : Scope) (m : Memory) (names : Names) (ranged : AreRanged s.visible names) (ls : List Loose) (count : ℕ) (stand : Names) (told : Told ls count stand names) where
   of_type : (want : Option Ty) (e : Term) (u : ℤ) → AreTyped s want e → value s want e m names ≡ Some u → RangeAt want u
   of_type None e u t is = tt
   of_type (Some T) e u t is = value_range e s T m names u (is_typed e s T t) ranged is
 
-  pub agrees : (e : Term) (w : Extent) (want : Option Ty) → AreTyped s want e → Agreed w (loose s w want e m names) (value s want e m names)
-  agrees (Literal n) w want c = all-same w (value s want (Literal n) m names) (value s want (Literal n) m names) refl
-  agrees (Variable x) w want c = all-same w (value s want (Variable x) m names) (value s want (Variable x) m names) refl
-  agrees (Element a i) w want c = all-same w (value s want (Element a i) m names) (value s want (Element a i) m names) refl
-  agrees (Unary op e) w want c = map_agreed w (unary_asks s want op e w) _ _ _ _ (λ x u is p. unary_agrees op (unary_may_leave s want op e) w want x u p) (agrees e (unary_asks s want op e w) want c)
-  agrees (Operation op x y) w want c = both_agreed w (binary_asks s want op x y w) _ _ _ _ _ _ (operation_agrees op (binary_may_leave s want op x y) w want) (agrees x (binary_asks s want op x y w) want c.0) (agrees y (binary_asks s want op x y w) want c.1)
-  agrees (Shift left e n) w want c = map_agreed w (shift_asks s want left e n w) _ _ _ _ (λ x u is p. shift_agrees left (shift_may_leave s want left e n) n w want x u p) (agrees e (shift_asks s want left e n w) want c)
-  agrees (Conversion e t) w want c =
+  pub agrees : (e : Term) (w : Extent) (want : Option Ty) → covers ls s w want e ≡ true → AreTyped s want e → Agreed w (loose s w want e m stand names) (value s want e m names)
+  agrees (Literal n) w want k c = all-same w (value s want (Literal n) m names) (value s want (Literal n) m names) refl
+  agrees (Variable x) w want k c = named_agrees ls count stand names x w k told
+  agrees (Element a i) w want k c = all-same w (value s want (Element a i) m names) (value s want (Element a i) m names) refl
+  agrees (Unary op e) w want k c = map_agreed w (unary_asks s want op e w) _ _ _ _ (λ x u is p. unary_agrees op (unary_may_leave s want op e) w want x u p) (agrees e (unary_asks s want op e w) want k c)
+  agrees (Operation op x y) w want k c =
+      let a = binary_asks s want op x y w in
+      both_agreed w a _ _ _ _ _ _ (operation_agrees op (binary_may_leave s want op x y) w want) (agrees x a want (and_parts (covers ls s a want x) _ k).0 c.0) (agrees y a want (and_parts (covers ls s a want x) _ k).1 c.1)
+  agrees (Shift left e n) w want k c = map_agreed w (shift_asks s want left e n w) _ _ _ _ (λ x u is p. shift_agrees left (shift_may_leave s want left e n) n w want x u p) (agrees e (shift_asks s want left e n w) want k c)
+  agrees (Conversion e t) w want h c =
       let k = converted_extent w (own s e) t in
-      map_agreed w k _ _ _ _ (λ x u is p. cast_agrees w (own s e) t x u (of_type (own s e) e u c.2 is) p) (agrees e k (own s e) c.2)
-  agrees (Choice c x y) w want h = chosen_agreed w _ _ _ _ (holds s c m names) (agrees x w want h.0) (agrees y w want h.1)
-  agrees (Comparison op x y) w want c = all-same w (value s want (Comparison op x y) m names) (value s want (Comparison op x y) m names) refl
-  agrees (Both x y) w want c = all-same w (value s want (Both x y) m names) (value s want (Both x y) m names) refl
-  agrees (Either x y) w want c = all-same w (value s want (Either x y) m names) (value s want (Either x y) m names) refl
-  agrees (Not e) w want c = all-same w (value s want (Not e) m names) (value s want (Not e) m names) refl
+      map_agreed w k _ _ _ _ (λ x u is p. cast_agrees w (own s e) t x u (of_type (own s e) e u c.2 is) p) (agrees e k (own s e) h c.2)
+  agrees (Choice c x y) w want k h =
+      let rest = (and_parts (covers ls s w want x) _ k).1 in
+      chosen_agreed w _ _ _ _ (holds s c m names) (agrees x w want (and_parts (covers ls s w want x) _ k).0 h.0) (agrees y w want (and_parts (covers ls s w want y) _ rest).0 h.1)
+  agrees (Comparison op x y) w want k c = all-same w (value s want (Comparison op x y) m names) (value s want (Comparison op x y) m names) refl
+  agrees (Both x y) w want k c = all-same w (value s want (Both x y) m names) (value s want (Both x y) m names) refl
+  agrees (Either x y) w want k c = all-same w (value s want (Either x y) m names) (value s want (Either x y) m names) refl
+  agrees (Not e) w want k c = all-same w (value s want (Not e) m names) (value s want (Not e) m names) refl
 
   -- where the whole value is asked for
-  pub whole_is : (e : Term) (want : Option Ty) → AreTyped s want e → loose s Whole want e m names ≡ value s want e m names
-  whole_is e want c = same-all _ _ (agrees e Whole want c)
+  pub whole_is : (e : Term) (want : Option Ty) → covers ls s Whole want e ≡ true → AreTyped s want e → loose s Whole want e m stand names ≡ value s want e m names
+  whole_is e want k c = same-all _ _ (agrees e Whole want k c)
 
 -- what is asked for agrees, where both are there
 pub agrees_at : (w : Extent) (o q : Option ℤ) (z : ℤ) → Agreed w o q → o ≡ Some z → (v : ℤ) × ((q ≡ Some v) × Agrees w z v)

@@ -117,10 +117,10 @@ compared_small want e v h =
     let q = found immediate want e (literal_value e) v refl h in
     (immediate_is (word (wrapped want q.0)) v (nat_lt (word (wrapped want q.0)) 4096) refl q.1.1).1
 
-pub added_right : (op : BinaryOp) (s : Scope) (w : Extent) (want : Option Ty) (e : Term) (m : Memory) (names : Names) (v : ℕ) → added_number op want e ≡ Some v → (y : ℤ) × ((loose s w want e m names ≡ Some y) × (v ≡ word y))
-added_right op s w want e m names v h =
+pub added_right : (op : BinaryOp) (s : Scope) (w : Extent) (want : Option Ty) (e : Term) (m : Memory) (stand names : Names) (v : ℕ) → added_number op want e ≡ Some v → (y : ℤ) × ((loose s w want e m stand names ≡ Some y) × (v ≡ word y))
+added_right op s w want e m stand names v h =
     let q = found (held_addend op) want e (literal_value e) v refl h in
-    (wrapped want q.0, (ap (λ e. loose s w want e m names) q.1.0, (held_is op (word (wrapped want q.0)) v q.1.1).0))
+    (wrapped want q.0, (ap (λ e. loose s w want e m stand names) q.1.0, (held_is op (word (wrapped want q.0)) v q.1.1).0))
 
 pub added_sum : (op : BinaryOp) (want : Option Ty) (e : Term) (v : ℕ) → added_number op want e ≡ Some v → IsSum op v
 added_sum op want e v h =

@@ -150,9 +150,6 @@ module _ (D : Laid) (L : Layout) (fit : Assigned L) where
         shaped = λ shape. w.shaped (moved _ (flags_kept (with_x s 26 v) (flags_of (x_at s 31) (shifted_word 0 (x_at s a) 0)) (x_kept s 26 v shape (omega arith))));
       }
 
-  binary_runs : {rest : List Entry} {s : State} (op : BinaryOp) (t : Ty) (x y : ℤ) (a c d : ℕ) → length s.x ≡ 31 → d ≤ 25 → IsOf t x → IsOf t y → x_at s a ≡ word x → x_at s c ≡ word y → Sets D (binary_code op t d a c rest) s rest d (wrap t (binary_on op x y)) 4
-  binary_runs op t x y a c d sized hi rx ry ex ey = set_more 4 (omega arith) (binary_sets D L fit op t x y a c d sized hi rx ry ex ey)
-
   -- d = a and a number more
   pub number_goes : (v a d : ℕ) (s : State) (b : Bool) → nat_lt v 4096 ≡ b → v < 2 ^ 64 → IsAddend v → a ≤ 25 → d ≤ 25 → effect (add_word v d a) s ≡ Went (wrote s d (sum (x_at s a) v))
   number_goes v a d s true e lt small la hi =
@@ -216,20 +213,20 @@ module _ (D : Laid) (L : Layout) (fit : Assigned L) where
 
   -- an operator that joins low bits, by what its word takes as its right side
   joined_runs : {rest : List Entry} {s : State} (side : Side) (op : BinaryOp) (leaves : Bool) (t u : Ty) (x y : ℤ) (a d : ℕ) → binary_joins op ≡ true → length s.x ≡ 31 → a ≤ 25 → d ≤ 25 → IsTaken op side → (leaves ≡ false → word (wrap u (binary_on op x y)) ≡ word (binary_on op x y)) → settle_word leaves u d ≡ settle_word leaves t d → x_at s a ≡ word x → IsOperand side s y
-      → Sets D (operator_code side leaves op t d a rest) s rest d (wrap u (binary_on op x y)) 4
+      → Sets D (operator_code side leaves op t d a rest) s rest d (wrap u (binary_on op x y)) 3
   joined_runs {rest = rest} {s = s} (Register c) op leaves t u x y a d j sized la hi takes kept same ex ey =
-      subst (λ w. Sets D (operation_code op (is_signed t) d a c (word_code w rest)) s rest d (wrap u (binary_on op x y)) 4) same (set_more 4 (omega arith) (joined_sets D L fit op leaves (is_signed t) u x y a c d j sized hi kept ex ey))
+      subst (λ w. Sets D (operation_code op (is_signed t) d a c (word_code w rest)) s rest d (wrap u (binary_on op x y)) 3) same (set_more 3 (omega arith) (joined_sets D L fit op leaves (is_signed t) u x y a c d j sized hi kept ex ey))
   joined_runs {rest = rest} {s = s} (Number v) op leaves t u x y a d j sized la hi takes kept same ex ey =
-      subst (λ w. Sets D (Put (sum_word op v d a) ∷ word_code w rest) s rest d (wrap u (binary_on op x y)) 4) same (set_more 4 (omega arith) (sum_sets v op leaves u x y a d takes sized la hi kept ex ey))
+      subst (λ w. Sets D (Put (sum_word op v d a) ∷ word_code w rest) s rest d (wrap u (binary_on op x y)) 3) same (set_more 3 (omega arith) (sum_sets v op leaves u x y a d takes sized la hi kept ex ey))
   joined_runs {rest = rest} {s = s} (Product p q) op leaves t u x y a d j sized la hi takes kept same ex ey =
-      subst (λ w. Sets D (Put (product_word op d a p q) ∷ word_code w rest) s rest d (wrap u (binary_on op x y)) 4) same (set_more 4 (omega arith) (product_sets op leaves u x y a p q d takes sized hi kept ex ey))
+      subst (λ w. Sets D (Put (product_word op d a p q) ∷ word_code w rest) s rest d (wrap u (binary_on op x y)) 3) same (set_more 3 (omega arith) (product_sets op leaves u x y a p q d takes sized hi kept ex ey))
   joined_runs {rest = rest} {s = s} (Moved kind n r) op leaves t u x y a d j sized la hi takes kept same ex ey =
-      subst (λ w. Sets D (Put (shift_word op d a kind n r) ∷ word_code w rest) s rest d (wrap u (binary_on op x y)) 4) same (set_more 4 (omega arith) (moved_sets op leaves u x y a kind n r d takes sized hi kept ex ey))
+      subst (λ w. Sets D (Put (shift_word op d a kind n r) ∷ word_code w rest) s rest d (wrap u (binary_on op x y)) 3) same (set_more 3 (omega arith) (moved_sets op leaves u x y a kind n r d takes sized hi kept ex ey))
 
   -- one that does not, at values of its type
   chosen_runs : {rest : List Entry} {s : State} (side : Side) (op : BinaryOp) (t : Ty) (x y : ℤ) (a d : ℕ) → binary_leaves op ≡ false → length s.x ≡ 31 → a ≤ 25 → d ≤ 25 → IsTaken op side → IsOf t x → IsOf t y → x_at s a ≡ word x → IsOperand side s y
-      → Sets D (operator_code side (binary_leaves op) op t d a rest) s rest d (wrap t (binary_on op x y)) 4
-  chosen_runs (Register c) op t x y a d un sized la hi takes rx ry ex ey = binary_runs op t x y a c d sized hi rx ry ex ey
+      → Sets D (operator_code side (binary_leaves op) op t d a rest) s rest d (wrap t (binary_on op x y)) 3
+  chosen_runs (Register c) op t x y a d un sized la hi takes rx ry ex ey = binary_sets D L fit op t x y a c d sized hi rx ry ex ey
   chosen_runs side binary.Add t x y a d un sized la hi takes rx ry ex ey = absurd cc
   chosen_runs side binary.Sub t x y a d un sized la hi takes rx ry ex ey = absurd cc
   chosen_runs side binary.Mul t x y a d un sized la hi takes rx ry ex ey = absurd cc
@@ -248,26 +245,32 @@ module _ (D : Laid) (L : Layout) (fit : Assigned L) where
   set_as e g = record { end = g.end; goes = g.goes; changes = g.changes; value = g.value ∙ e; shaped = g.shaped }
 
   -- an operator of which so much is asked for, and whose result is known to stay in the extended form or not
-  pub operation_runs : {rest : List Entry} {s : State} (side : Side) (op : BinaryOp) (leaves : Bool) (w : Extent) (t : Ty) (x y : ℤ) (a d : ℕ) → length s.x ≡ 31 → a ≤ 25 → d ≤ 25 → (leaves ≡ true → binary_leaves op ≡ true)
+  operation_few : {rest : List Entry} {s : State} (side : Side) (op : BinaryOp) (leaves : Bool) (w : Extent) (t : Ty) (x y : ℤ) (a d : ℕ) → length s.x ≡ 31 → a ≤ 25 → d ≤ 25 → (leaves ≡ true → binary_leaves op ≡ true)
       → (asked_extent (binary_joins op) leaves w (Some t) ≡ Whole → IsOf t x × IsOf t y) → (asked_extent (binary_joins op) leaves w (Some t) ≡ Whole → leaves ≡ false → word (wrap t (binary_on op x y)) ≡ word (binary_on op x y))
       → IsTaken op side → x_at s a ≡ word x → IsOperand side s y
-      → Sets D (operator_code side (settles (within_type w t) (binary_joins op) leaves) op t d a rest) s rest d (loose_binary op w (Some t) x y) 4
-  operation_runs {rest = rest} {s = s} side op leaves w t x y a d sized la hi only range kept takes ex ey = by (within_type w t) (binary_joins op) leaves refl refl only range kept
+      → Sets D (operator_code side (settles (within_type w t) (binary_joins op) leaves) op t d a rest) s rest d (loose_binary op w (Some t) x y) 3
+  operation_few {rest = rest} {s = s} side op leaves w t x y a d sized la hi only range kept takes ex ey = by (within_type w t) (binary_joins op) leaves refl refl only range kept
     where
       by : (l j b : Bool) → within_type w t ≡ l → binary_joins op ≡ j → (b ≡ true → binary_leaves op ≡ true) → (operand_extent l j b w (Some t) ≡ Whole → IsOf t x × IsOf t y) → (operand_extent l j b w (Some t) ≡ Whole → b ≡ false → word (wrap t (binary_on op x y)) ≡ word (binary_on op x y))
-          → Sets D (operator_code side (settles l j b) op t d a rest) s rest d (settled l j (Some t) (binary_on op x y)) 4
+          → Sets D (operator_code side (settles l j b) op t d a rest) s rest d (settled l j (Some t) (binary_on op x y)) 3
       by true true b el ej f r k = set_as (wide_wrap ty.U64 (binary_on op x y) refl) (joined_runs side op false t ty.U64 x y a d ej sized la hi takes (λ e. wide_wrap ty.U64 (binary_on op x y) refl) refl ex ey)
       by false true true el ej f r k = joined_runs side op true t t x y a d ej sized la hi takes (λ e. absurd cc) refl ex ey
       by false true false el ej f r k = joined_runs side op false t t x y a d ej sized la hi takes (k refl) refl ex ey
       by true false true el ej f r k = absurd (only_joins op ej (f refl))
       by false false true el ej f r k = absurd (only_joins op ej (f refl))
-      by true false false el ej f r k = let in_type = r refl in let un = unjoined op ej in subst (λ b. Sets D (operator_code side b op t d a rest) s rest d (wrap t (binary_on op x y)) 4) un (chosen_runs side op t x y a d un sized la hi takes in_type.0 in_type.1 ex ey)
-      by false false false el ej f r k = let in_type = r refl in let un = unjoined op ej in subst (λ b. Sets D (operator_code side b op t d a rest) s rest d (wrap t (binary_on op x y)) 4) un (chosen_runs side op t x y a d un sized la hi takes in_type.0 in_type.1 ex ey)
+      by true false false el ej f r k = let in_type = r refl in let un = unjoined op ej in subst (λ b. Sets D (operator_code side b op t d a rest) s rest d (wrap t (binary_on op x y)) 3) un (chosen_runs side op t x y a d un sized la hi takes in_type.0 in_type.1 ex ey)
+      by false false false el ej f r k = let in_type = r refl in let un = unjoined op ej in subst (λ b. Sets D (operator_code side b op t d a rest) s rest d (wrap t (binary_on op x y)) 3) un (chosen_runs side op t x y a d un sized la hi takes in_type.0 in_type.1 ex ey)
+
+  pub operation_runs : {rest : List Entry} {s : State} (side : Side) (op : BinaryOp) (leaves : Bool) (w : Extent) (t : Ty) (x y : ℤ) (a d : ℕ) → length s.x ≡ 31 → a ≤ 25 → d ≤ 25 → (leaves ≡ true → binary_leaves op ≡ true)
+      → (asked_extent (binary_joins op) leaves w (Some t) ≡ Whole → IsOf t x × IsOf t y) → (asked_extent (binary_joins op) leaves w (Some t) ≡ Whole → leaves ≡ false → word (wrap t (binary_on op x y)) ≡ word (binary_on op x y))
+      → IsTaken op side → x_at s a ≡ word x → IsOperand side s y
+      → Sets D (operator_code side (settles (within_type w t) (binary_joins op) leaves) op t d a rest) s rest d (loose_binary op w (Some t) x y) 4
+  operation_runs side op leaves w t x y a d sized la hi only range kept takes ex ey = set_more 4 (omega arith) (operation_few side op leaves w t x y a d sized la hi only range kept takes ex ey)
 
   -- one of whose operands nothing is known but their type
   pub operator_runs : {rest : List Entry} {s : State} (side : Side) (op : BinaryOp) (w : Extent) (t : Ty) (x y : ℤ) (a d : ℕ) → length s.x ≡ 31 → a ≤ 25 → d ≤ 25 → (binary_extent op w (Some t) ≡ Whole → IsOf t x × IsOf t y) → IsTaken op side → x_at s a ≡ word x → IsOperand side s y
-      → Sets D (operator_code side (settles (within_type w t) (binary_joins op) (binary_leaves op)) op t d a rest) s rest d (loose_binary op w (Some t) x y) 4
-  operator_runs side op w t x y a d sized la hi range takes ex ey = operation_runs side op (binary_leaves op) w t x y a d sized la hi (λ e. e) range (λ e out. let k = range e in binary-kept op t x y k.0 k.1 out) takes ex ey
+      → Sets D (operator_code side (settles (within_type w t) (binary_joins op) (binary_leaves op)) op t d a rest) s rest d (loose_binary op w (Some t) x y) 3
+  operator_runs side op w t x y a d sized la hi range takes ex ey = operation_few side op (binary_leaves op) w t x y a d sized la hi (λ e. e) range (λ e out. let k = range e in binary-kept op t x y k.0 k.1 out) takes ex ey
 
   -- the negative, and the complement, of any integer
   neg_sets : {rest : List Entry} {s : State} (leaves : Bool) (t : Ty) (x : ℤ) (a d : ℕ) → length s.x ≡ 31 → d ≤ 25 → (leaves ≡ false → word (wrap t (neg_ℤ x)) ≡ word (neg_ℤ x)) → x_at s a ≡ word x → Sets D (unary_code leaves unary.Neg t d a rest) s rest d (wrap t (neg_ℤ x)) 2

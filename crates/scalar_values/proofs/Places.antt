@@ -10,32 +10,21 @@ use Rattle.kernel_tree.specs.declared.ops.Ty.{Ty}
 use Rattle.kernel_tree.specs.declared.ops.Ty.TheVariants as ty
 use Rattle.kernel_tree.specs.Typing.{Local}
 use Rattle.kernel_meaning.specs.Operators.{word}
-use Rattle.kernel_meaning.specs.Eval.{Names, value_at, byte_count, address, read_element, read_value}
+use Rattle.kernel_meaning.specs.Eval.{Names, value_at, iteration, byte_count, address, element_number, read_element, read_value}
 use Rattle.kernel_meaning.proofs.Residues.{word-below}
 use Rattle.label_fix.specs.DraftRun.{Entry, Laid}
 use Rattle.label_fix.proofs.StretchSteps.{Resolves}
-use Rattle.std.specs.List.{find}
-use Rattle.kernel_tree.specs.Typing.{Scope}
-use Rattle.kernel_meaning.specs.Eval.{iteration}
 use Rattle.scalar_values.specs.Fits.{IndexAt, FitsIndex}
 use Rattle.scalar_values.specs.HeldNumbers.{element_words}
-use Rattle.scalar_words.specs.Layout.{OfAddress, Layout, Home, Homes, is_home, LastsAt, reg_of, constant_at, register_at, IsMade, NameLasts}
-use Rattle.scalar_words.proofs.LayoutStates.{Assigned, Held, Fixed, At, lasts_less, name_held}
+use Rattle.scalar_words.specs.Layout.{OfAddress, Loose, loose_in, Layout, Homes, reg_of, constant_at, register_at, IsMade, NameLasts}
+use Rattle.scalar_words.proofs.LayoutStates.{Assigned, Held, Fixed, Told, name_held}
+use Rattle.scalar_words.proofs.Told.{Standing}
+use Rattle.scalar_values.specs.Covers.{index_form, stands_together, index_covers}
+pub use Rattle.scalar_values.proofs.WholeNames.{name_less, index_is}
+pub use Rattle.scalar_values.proofs.Together.{together_address}
 use Rattle.scalar_values.specs.ItemWords.{load_code}
 use Rattle.scalar_values.specs.Code.{key_at, place_of, placed_index, right_code}
 use Rattle.scalar_values.proofs.Loads.{Gives, word-sum, load_runs}
-
-name_less_in : (h : Option Home) (p q : ℕ) → q ≤ p → LastsAt h p → LastsAt h q
-name_less_in None p q le h = h
-name_less_in (Some h) p q le k = lasts_less h.last_use p q le k
-
-pub name_less : (hs : Homes) (x : List ℕ) (p q : ℕ) → q ≤ p → NameLasts hs x p → NameLasts hs x q
-name_less hs x p q le h = name_less_in (find (is_home x) hs) p q le h
-
--- the loop variable
-pub index_is : (hs : Homes) (i : Option (List ℕ)) (names : Names) (p b : ℕ) (st : State) → b ≤ p → IndexAt hs i p → length st.x ≡ 31 → Held hs names b st → x_at st 9 ≡ word (iteration i names)
-index_is hs None names p b st le h sized held = absurd h
-index_is hs (Some x) names p b st le h sized held = ap (x_at st) (sym h.0) ∙ name_held hs names x b st sized held (name_less hs x p b le h.1)
 
 pub some_words : (o : Option ℤ) (n : ℕ) → 1 ≤ element_words o n
 some_words (Some c) n = omega arith
@@ -69,27 +58,34 @@ is_place : (L : Layout) (q : ℕ) (T : Ty) (o : Option ℤ) (r : ℕ) → place_
 is_place L q T None r e = absurd cc
 is_place L q T (Some c) r e = near_place L q T c r (nat_lt (unsigned_abs c) 512) e
 
--- a register with a place has an address
-pub record AtPlace (W : List ℕ) (names : Names) (a : List ℕ) (T : Ty) (o : Option ℤ) (s : State) (r : ℕ) : Type 0 where
+-- a register with a place has an address, by what stands in the register of the array
+pub record AtPlace (stand : Names) (a : List ℕ) (T : Ty) (o : Option ℤ) (s : State) (r : ℕ) : Type 0 where
   pub c : ℤ
   pub offset : o ≡ Some c
   pub low : r ≤ 25
-  pub value : x_at s r ≡ word (value_at names a +ℤ pos (byte_count T) *ℤ c)
+  pub value : x_at s r ≡ word (value_at stand a +ℤ pos (byte_count T) *ℤ c)
 
-pub place_at : {L : Layout} {w : Fixed L} {hs : Homes} {ls : List Local} {names : Names} {m : Memory} {p : ℕ} {s : State} (fit : Assigned L) (a : List ℕ) (T : Ty) (o : Option ℤ) (r : ℕ) → place_of L (register_at hs a) (Some T) o ≡ Some r → NameLasts hs a p → At w hs ls names m p s → AtPlace w.args names a T o s r
-place_at {L = L} {w = w} {hs = hs} {names = names} {p = p} {s = s} fit a T o r e lasts at =
+pub place_at : {L : Layout} {w : Fixed L} {hs : Homes} {ls : List Local} {stand names : Names} {m : Memory} {p : ℕ} {s : State} (fit : Assigned L) (a : List ℕ) (T : Ty) (o : Option ℤ) (r : ℕ) → place_of L (register_at hs a) (Some T) o ≡ Some r → NameLasts hs a p → Standing w hs ls stand names m p s → AtPlace stand a T o s r
+place_at {L = L} {w = w} {hs = hs} {stand = stand} {p = p} {s = s} fit a T o r e lasts at =
     let q = register_at hs a in
     let k = is_place L q T o r e in
     let by = pos (byte_count T) *ℤ k.c in
     let low = fit.constants (OfAddress q by) r k.held in
-    let base : slice_index w.args q ≡ word (value_at names a) = sym (at.args q low.1) ∙ name_held hs names a p s at.sized at.held lasts in
-    let same : word (pos (slice_index w.args q)) ≡ word (value_at names a) = ap (λ n. word (pos n)) base ∙ mod-eq_of_lt (word-below (value_at names a)) in
+    let base : slice_index w.args q ≡ word (value_at stand a) = sym (at.args q low.1) ∙ name_held hs stand a p s at.sized at.held lasts in
+    let same : word (pos (slice_index w.args q)) ≡ word (value_at stand a) = ap (λ n. word (pos n)) base ∙ mod-eq_of_lt (word-below (value_at stand a)) in
     record {
       c = k.c;
       offset = k.offset;
       low = (let l = low.0 in omega (arith, l));
-      value = at.args r low.0 ∙ w.loaded (OfAddress q by) r k.held ∙ word-sum (pos (slice_index w.args q)) by ∙ ap (λ n. sum n (word by)) same ∙ sym (word-sum (value_at names a) by);
+      value = at.args r low.0 ∙ w.loaded (OfAddress q by) r k.held ∙ word-sum (pos (slice_index w.args q)) by ∙ ap (λ n. sum n (word by)) same ∙ sym (word-sum (value_at stand a) by);
     }
+
+-- the address of an element with a place, by what that register and the loop variable's hold
+pub placed_address : (ls : List Loose) (count : ℕ) (hs : Homes) (i : Option (List ℕ)) (a : List ℕ) (T : Ty) (stand names : Names) (c d : ℤ) (p q r : ℕ) (st : State) → Some c ≡ Some d → stands_together (loose_in ls a) (index_form ls i) (Some T) ≡ true → NameLasts hs a q → IndexAt hs i r → Held hs stand p st → Told ls count stand names
+    → address T (value_at stand a +ℤ pos (byte_count T) *ℤ d) (iteration i stand) ≡ address T (value_at names a) (iteration i names +ℤ c)
+placed_address ls count hs i a T stand names c d p q r st e h lasts at held told =
+    let same : d ≡ c = cc in
+    address_moved T (value_at stand a) d (iteration i stand) ∙ ap (λ k. address T (value_at stand a) (iteration i stand +ℤ k)) same ∙ together_address ls count hs i a T stand names c p q r st h lasts at held told
 
 module _ (D : Laid) (L : Layout) (fit : Assigned L) where
   -- a read, by whether a register has its place
@@ -99,19 +95,13 @@ module _ (D : Laid) (L : Layout) (fit : Assigned L) where
   element_with None inner load res f g = f res
   element_with (Some p) inner load res f g = g p refl
 
-  pub placed_runs : {w : Fixed L} {hs : Homes} {ls : List Local} {names : Names} {m : Memory} {st : State} {rest : List Entry} (a : List ℕ) (T : Ty) (ot : Option Ty) (o : Option ℤ) (x : ℤ) (r p b : ℕ) → ot ≡ Some T → place_of L (register_at hs a) ot o ≡ Some r → NameLasts hs a b → b ≤ p → IsMade L p → x_at st 9 ≡ word x → At w hs ls names m b st
-      → (number : Option ℤ → Option ℤ) → ((c : ℤ) → o ≡ Some c → number o ≡ Some (x +ℤ c))
-      → Gives D L (load_code ot (reg_of L p) r 9 rest) st rest b (p + 1) (reg_of L p) m 1 (option_and_then (read_element ot m (value_at names a)) (number o))
-  placed_runs {w = w} {hs = hs} {names = names} {m = m} {st = st} {rest = rest} a T ot o x r p b type e lasts le made nine at number is =
-      let k = place_at fit a T o r (subst (λ t. place_of L (register_at hs a) t o ≡ Some r) type e) lasts at in
-      let base = value_at names a in
-      let load = load_runs D L fit {rest = rest} T (base +ℤ pos (byte_count T) *ℤ k.c) x r 9 p b (p + 1) at.sized le (omega arith) made at.good at.memory k.low k.value nine in
-      let there = subst (λ n. Gives D L (load_code (Some T) (reg_of L p) r 9 rest) st rest b (p + 1) (reg_of L p) m 1 (read_value T (loaded m n (byte_count T)))) (address_moved T base k.c x) load in
-      let typed = subst (λ t. Gives D L (load_code t (reg_of L p) r 9 rest) st rest b (p + 1) (reg_of L p) m 1 (read_element t m base (x +ℤ k.c))) (sym type) there in
-      subst (λ i. Gives D L (load_code ot (reg_of L p) r 9 rest) st rest b (p + 1) (reg_of L p) m 1 (option_and_then (read_element ot m base) i)) (sym (is k.c k.offset)) typed
-
--- the loop variable, where there is a place for an offset from it
-pub placed_nine : (L : Layout) (A : Type 0) (o : Option ℤ) (x : ℤ) (r : ℕ) (hs : Homes) (s : Scope) (a : List ℕ) (ot : Option Ty) (p b : ℕ) (st : State) (names : Names) → place_of L (register_at hs a) ot o ≡ Some r → FitsIndex o (IndexAt hs s.index p) A → b ≤ p → length st.x ≡ 31 → Held hs names b st → x_at st 9 ≡ word (iteration s.index names)
-placed_nine L A (Some c) x r hs s a ot p b st names e h le sized held = index_is hs s.index names p b st le h.1 sized held
-placed_nine L A None x r hs s a None p b st names e h le sized held = absurd cc
-placed_nine L A None x r hs s a (Some t) p b st names e h le sized held = absurd cc
+  pub placed_runs : {w : Fixed L} {hs : Homes} {ls : List Local} {stand names : Names} {m : Memory} {st : State} {rest : List Entry} (i : Option (List ℕ)) (a : List ℕ) (T : Ty) (ot : Option Ty) (o computed : Option ℤ) (covered : Bool) (A : Type 0) (r p b : ℕ) → index_covers L.loose i (loose_in L.loose a) ot o covered ≡ true → ot ≡ Some T → place_of L (register_at hs a) ot o ≡ Some r → NameLasts hs a b → FitsIndex o (IndexAt hs i p) A → b ≤ p → IsMade L p → Standing w hs ls stand names m b st
+      → Gives D L (load_code ot (reg_of L p) r 9 rest) st rest b (p + 1) (reg_of L p) m 1 (option_and_then (read_element ot m (value_at names a)) (element_number o (iteration i names) computed))
+  placed_runs i a T None None computed covered A r p b h type e lasts fits le made at = absurd cc
+  placed_runs i a T (Some t) None computed covered A r p b h type e lasts fits le made at = absurd cc
+  placed_runs {w = w} {hs = hs} {stand = stand} {names = names} {m = m} {st = st} {rest = rest} i a T ot (Some c) computed covered A r p b h type e lasts fits le made at =
+      let k = place_at fit a T (Some c) r (subst (λ t. place_of L (register_at hs a) t (Some c) ≡ Some r) type e) lasts at in
+      let load = load_runs D L fit {rest = rest} T (value_at stand a +ℤ pos (byte_count T) *ℤ k.c) (iteration i stand) r 9 p b (p + 1) at.sized le (omega arith) made at.good at.memory k.low k.value (index_is hs i stand p b st le fits.1 at.sized at.held) in
+      let there = placed_address L.loose w.count hs i a T stand names c k.c b b p st k.offset (subst (λ t. stands_together (loose_in L.loose a) (index_form L.loose i) t ≡ true) type h) lasts fits.1 at.held at.told in
+      let typed = subst (λ n. Gives D L (load_code (Some T) (reg_of L p) r 9 rest) st rest b (p + 1) (reg_of L p) m 1 (read_value T (loaded m n (byte_count T)))) there load in
+      subst (λ t. Gives D L (load_code t (reg_of L p) r 9 rest) st rest b (p + 1) (reg_of L p) m 1 (read_element t m (value_at names a) (iteration i names +ℤ c))) (sym type) typed

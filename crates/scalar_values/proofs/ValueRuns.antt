@@ -1,6 +1,7 @@
 -- What the code of expressions does.
 use Rattle.std.proofs.Common.{◌≡◌, ◌≢◌, ℕ, ◌+◌, ◌*◌, ◌%◌, ◌^◌, ◌<◌, ◌≤◌, ◌&&◌, ◌||◌, Bool, true, false, List, [], ◌∷◌, length, Option, Some, None, refl, sym, ap, ap₂, ◌∙◌, subst, arith}
 use Rattle.std.specs.Prelude.{ℤ, ◌+ℤ◌, ◌*ℤ◌, option_map, option_and_then, not, if◌then◌else◌}
+use Rattle.std.proofs.lemmas.Bool.{and_parts}
 use Rattle.guest_types.specs.Memory.{Memory}
 use Rattle.machine_model.specs.Machine.{State, x_at, jump}
 use Rattle.machine_model.specs.declared.outcome.StopKind.TheVariants.{Read}
@@ -21,22 +22,27 @@ use Rattle.a64_code.specs.Table.{csel}
 use Rattle.label_fix.specs.DraftRun.{Entry, Put, Branch, Place, Always, Laid, following, address_of, word_of, ins}
 use Rattle.label_fix.proofs.StretchSteps.{Goes, Stops, Resolves, stay, chain, go_more, put_goes, stop_after, stop_more, taken_goes, pass}
 use Rattle.scalar_values.specs.HeldNumbers.{element_words, coded_words}
-use Rattle.scalar_values.proofs.Places.{name_less, index_is, some_words, placed_nine, element_with, placed_runs}
+use Rattle.scalar_values.proofs.WholeNames.{name_less, index_is, whole_at, computed_covers}
+use Rattle.scalar_values.proofs.Together.{together_read}
+use Rattle.scalar_values.proofs.Places.{some_words, element_with, placed_runs}
 use Rattle.scalar_values.proofs.Literals.{literal_high, literal_apart, literal_runs}
 use Rattle.scalar_values.proofs.Comparisons.{IsSide, compare_goes}
 use Rattle.scalar_values.proofs.Numbers.{compared_right, compared_small, added_right}
 pub use Rattle.scalar_values.proofs.Jumps.{kept_jump, led, Turned, Turns, no_turn, turns, branch_goes, both_turn, over_turn, turns_more, not_turns}
 use Rattle.scalar_words.proofs.Compare.{compared}
-use Rattle.scalar_words.specs.Layout.{OfNumber, Layout, Homes, reg_of, constant_at, IsMade, register_at, NameLasts}
+use Rattle.scalar_words.specs.Layout.{OfNumber, Loose, loose_in, Layout, Homes, reg_of, constant_at, IsMade, register_at, NameLasts}
 use Rattle.scalar_values.specs.ValueRegisters.{home}
 use Rattle.scalar_values.specs.ItemWords.{Side, Number, Register, Product, Moved, shift_kind, load_code, operator_code, unary_code, abs_code, shift_code, index_word, index_register, convert_word, compare_word, zero_test, tested_code, pick_code, placed_code}
 use Rattle.scalar_words.specs.Words.{operation_code, word_code, copy_word, settle_word, condition, at_type}
 use Rattle.scalar_values.specs.Code.{labels, number_code, number_register, place_of, signed_side, compared_number, added_number, takes_product, takes_shift, stays, is_fused, part_side, side_by, right_side, side_code, is_led, taken_side, parts_code, right_code, flag_condition, choice_code, loose_code, value_code, flags_code, jump_code}
 use Rattle.scalar_values.specs.Fits.{Fits, FitsTruth, FitsIndex, IndexAt, IsSome}
-use Rattle.scalar_words.proofs.LayoutStates.{AreRanged, Assigned, Kept, AreSafe, Fixed, At, wrote, wrote_same, kept_none, kept_more, kept_item, kept_changes, kept_on, kept_both, at_kept, safe_later, name_held, name_found}
+use Rattle.scalar_values.specs.Covers.{is_whole, index_covers, covers, covers_truth}
+use Rattle.scalar_words.proofs.LayoutStates.{AreRanged, Assigned, Kept, AreSafe, Fixed, At, Told, wrote, wrote_same, kept_none, kept_more, kept_item, kept_changes, kept_on, kept_both, safe_later, name_held, name_found}
+use Rattle.scalar_words.proofs.Told.{Standing, standing, standing_kept}
 use Rattle.scalar_words.proofs.WordsRuns.{Gets, gets, more, copied_sets}
 use Rattle.scalar_values.proofs.Loads.{Gives, no_value, a_value, load_runs, index_runs}
-use Rattle.scalar_words.proofs.Constants.{word_back, const_back}
+pub use Rattle.scalar_values.proofs.CodeBack.{operator_back, side_back, right_back, loose_back, parts_back, jump_back, value_back}
+use Rattle.scalar_values.proofs.CodeBack.{pick_back}
 use Rattle.scalar_values.proofs.Operators.{IsOperand, operation_runs, unary_runs, shift_runs, cast_runs}
 pub use Rattle.scalar_values.proofs.Fused.{Sided, no_side, a_side, right_taken}
 use Rattle.scalar_values.proofs.Fused.{Pairs, no_left, no_right, pair, both_right, never, settled_same, moved_same, part_taken, by_led, led_is, alone_code, on_both-turned, IsHigh, led_pairs, turned_runs}
@@ -56,30 +62,35 @@ abbrev pub Runs : Laid → Layout → Term → Homes → Scope → Names → Mem
 Runs D L e hs s names m st b user n rest want =
     Fits L hs s want b user e → Resolves D (value_code L hs s want b n e rest) → Gives D L (value_code L hs s want b n e rest) st rest b (b + term_size s.index e) (home L hs s.index b e) m (coded_words L.constants s.index e) (value s want e m names)
 
--- the same where so much is asked for
-abbrev pub LooseRuns : Laid → Layout → Term → Homes → Scope → Names → Memory → State → Extent → (b user n : ℕ) → List Entry → Option Ty → Type 0
-LooseRuns D L e hs s names m st w b user n rest want =
-    Fits L hs s want b user e → Resolves D (loose_code L hs s w want b n e rest) → Gives D L (loose_code L hs s w want b n e rest) st rest b (b + term_size s.index e) (home L hs s.index b e) m (coded_words L.constants s.index e) (loose s w want e m names)
+-- the same where so much is asked for, by what stands in the registers of names
+abbrev pub LooseRuns : Laid → Layout → Term → Homes → Scope → (stand names : Names) → Memory → State → Extent → (b user n : ℕ) → List Entry → Option Ty → Type 0
+LooseRuns D L e hs s stand names m st w b user n rest want =
+    Fits L hs s want b user e → Resolves D (loose_code L hs s w want b n e rest) → Gives D L (loose_code L hs s w want b n e rest) st rest b (b + term_size s.index e) (home L hs s.index b e) m (coded_words L.constants s.index e) (loose s w want e m stand names)
 
 -- where the whole value is asked for, it is the value
-exact : {D : Laid} {L : Layout} {st : State} {rest : List Entry} (hs : Homes) (b user n : ℕ) (e : Term) (s : Scope) (names : Names) (m : Memory) (want : Option Ty) → AreRanged s.visible names → LooseRuns D L e hs s names m st Whole b user n rest want → Runs D L e hs s names m st b user n rest want
-exact {D = D} {L = L} {st = st} {rest = rest} hs b user n e s names m want ranged k fits res =
-    subst (λ o. Gives D L (value_code L hs s want b n e rest) st rest b (b + term_size s.index e) (home L hs s.index b e) m (coded_words L.constants s.index e) o) (whole_is s m names ranged e want (fits_types e L hs s want b user fits)) (k fits res)
+exact : {D : Laid} {L : Layout} {st : State} {rest : List Entry} (count : ℕ) (hs : Homes) (b user n : ℕ) (e : Term) (s : Scope) (stand names : Names) (m : Memory) (want : Option Ty) → AreRanged s.visible names → Told L.loose count stand names → covers L.loose s Whole want e ≡ true → LooseRuns D L e hs s stand names m st Whole b user n rest want → Runs D L e hs s names m st b user n rest want
+exact {D = D} {L = L} {st = st} {rest = rest} count hs b user n e s stand names m want ranged told cov k fits res =
+    subst (λ o. Gives D L (value_code L hs s want b n e rest) st rest b (b + term_size s.index e) (home L hs s.index b e) m (coded_words L.constants s.index e) o) (whole_is s m names ranged L.loose count stand told e want cov (fits_types e L hs s want b user fits)) (k fits res)
 
 -- an operand of which the whole value is asked for is the value, and of its type
-loose_value : (w : Extent) (L : Layout) (hs : Homes) (s : Scope) (names : Names) (m : Memory) (e : Term) (T : Ty) (b user : ℕ) (v : ℤ) → Fits L hs s (Some T) b user e → AreRanged s.visible names → loose s w (Some T) e m names ≡ Some v → w ≡ Whole → value s (Some T) e m names ≡ Some v
-loose_value w L hs s names m e T b user v fits ranged is whole =
-    sym (whole_is s m names ranged e (Some T) (fits_types e L hs s (Some T) b user fits)) ∙ subst (λ w. loose s w (Some T) e m names ≡ Some v) whole is
+loose_value : (count : ℕ) (w : Extent) (L : Layout) (hs : Homes) (s : Scope) (stand names : Names) (m : Memory) (e : Term) (T : Ty) (b user : ℕ) (v : ℤ) → Fits L hs s (Some T) b user e → AreRanged s.visible names → Told L.loose count stand names → covers L.loose s w (Some T) e ≡ true → loose s w (Some T) e m stand names ≡ Some v → w ≡ Whole → value s (Some T) e m names ≡ Some v
+loose_value count w L hs s stand names m e T b user v fits ranged told cov is whole =
+    sym (whole_is s m names ranged L.loose count stand told e (Some T) (subst (λ w. covers L.loose s w (Some T) e ≡ true) whole cov) (fits_types e L hs s (Some T) b user fits)) ∙ subst (λ w. loose s w (Some T) e m stand names ≡ Some v) whole is
 
-loose_range : (w : Extent) (L : Layout) (hs : Homes) (s : Scope) (names : Names) (m : Memory) (e : Term) (T : Ty) (b user : ℕ) (v : ℤ) → Fits L hs s (Some T) b user e → AreRanged s.visible names → loose s w (Some T) e m names ≡ Some v → w ≡ Whole → IsOf T v
-loose_range w L hs s names m e T b user v fits ranged is whole = value-range L hs s names m e T b user v fits ranged (loose_value w L hs s names m e T b user v fits ranged is whole)
+loose_range : (count : ℕ) (w : Extent) (L : Layout) (hs : Homes) (s : Scope) (stand names : Names) (m : Memory) (e : Term) (T : Ty) (b user : ℕ) (v : ℤ) → Fits L hs s (Some T) b user e → AreRanged s.visible names → Told L.loose count stand names → covers L.loose s w (Some T) e ≡ true → loose s w (Some T) e m stand names ≡ Some v → w ≡ Whole → IsOf T v
+loose_range count w L hs s stand names m e T b user v fits ranged told cov is whole = value-range L hs s names m e T b user v fits ranged (loose_value count w L hs s stand names m e T b user v fits ranged told cov is whole)
 
 -- an operator whose result is known to stay in the extended form
-operator_keeps : (L : Layout) (user : ℕ) (x y : Term) (hs : Homes) (s : Scope) (names : Names) (m : Memory) (op : BinaryOp) (w : Extent) (T : Ty) (b : ℕ) (u v : ℤ) → AreRanged s.visible names → Fits L hs s (Some T) b user (Operation op x y) → loose s w (Some T) x m names ≡ Some u → loose s w (Some T) y m names ≡ Some v → w ≡ Whole → binary_may_leave s (Some T) op x y ≡ false → word (wrap T (binary_on op u v)) ≡ word (binary_on op u v)
-operator_keeps L user x y hs s names m op w T b u v ranged h is js e out =
+operator_keeps : (count : ℕ) (L : Layout) (user : ℕ) (x y : Term) (hs : Homes) (s : Scope) (stand names : Names) (m : Memory) (op : BinaryOp) (w : Extent) (T : Ty) (b : ℕ) (u v : ℤ) → AreRanged s.visible names → Told L.loose count stand names → (covers L.loose s w (Some T) x && covers L.loose s w (Some T) y) ≡ true → Fits L hs s (Some T) b user (Operation op x y) → loose s w (Some T) x m stand names ≡ Some u → loose s w (Some T) y m stand names ≡ Some v → w ≡ Whole → binary_may_leave s (Some T) op x y ≡ false
+    → word (wrap T (binary_on op u v)) ≡ word (binary_on op u v)
+operator_keeps count L user x y hs s stand names m op w T b u v ranged told cov h is js e out =
     let b1 = b + term_size s.index x in let c = b1 + term_size s.index y in
-    binary_keeps s m names ranged T op x y u v (fits_types x L hs s (Some T) b c h.1) (fits_types y L hs s (Some T) b1 c h.2) (loose_value w L hs s names m x T b c u h.1 ranged is e) (loose_value w L hs s names m y T b1 c v h.2 ranged js e)
-    (loose_range w L hs s names m x T b c u h.1 ranged is e) (loose_range w L hs s names m y T b1 c v h.2 ranged js e) out
+    let k = and_parts (covers L.loose s w (Some T) x) _ cov in
+    binary_keeps s m names ranged T op x y u v (fits_types x L hs s (Some T) b c h.1) (fits_types y L hs s (Some T) b1 c h.2) (loose_value count w L hs s stand names m x T b c u h.1 ranged told k.0 is e) (loose_value count w L hs s stand names m y T b1 c v h.2 ranged told k.1 js e)
+    (loose_range count w L hs s stand names m x T b c u h.1 ranged told k.0 is e) (loose_range count w L hs s stand names m y T b1 c v h.2 ranged told k.1 js e) out
+
+covers_at : (ls : List Loose) (s : Scope) (w : Extent) (e : Term) (want : Option Ty) (T : Ty) → want ≡ Some T → covers ls s w want e ≡ true → covers ls s w (Some T) e ≡ true
+covers_at ls s w e want T is h = subst (λ o. covers ls s w o e ≡ true) is h
 
 first_some : (o : Option Ty) (t : Ty) → IsSome (first o (Some t))
 first_some None t = tt
@@ -325,189 +336,60 @@ module _ (D : Laid) (L : Layout) (fit : Assigned L) where
   part_high (Either x y) hs s op w T b user f h safe = absurd cc
   part_high (Not e) hs s op w T b user f h safe = absurd cc
 
-  -- labels after a stretch of code
-  number_back : (o : Option ℤ) (inner : List Entry → List Entry) (rest : List Entry) → (Resolves D (inner rest) → Resolves D rest) → Resolves D (number_code o inner rest) → Resolves D rest
-  number_back (Some c) inner rest f h = word_back D (index_word c) rest h
-  number_back None inner rest f h = f h
-
-  load_back : (o : Option Ty) (d p r : ℕ) (rest : List Entry) → Resolves D (load_code o d p r rest) → Resolves D rest
-  load_back None d p r rest h = h
-  load_back (Some t) d p r rest h = h
-
-  operation_back : (op : BinaryOp) (signed : Bool) (d a c : ℕ) (rest : List Entry) → Resolves D (operation_code op signed d a c rest) → Resolves D rest
-  operation_back binary.Add signed d a c rest h = h
-  operation_back binary.Sub signed d a c rest h = h
-  operation_back binary.Mul signed d a c rest h = h
-  operation_back binary.And signed d a c rest h = h
-  operation_back binary.Or signed d a c rest h = h
-  operation_back binary.Xor signed d a c rest h = h
-  operation_back binary.Min signed d a c rest h = h
-  operation_back binary.Max signed d a c rest h = h
-
-  pub operator_back : (side : Side) (leaves : Bool) (want : Option Ty) (op : BinaryOp) (d a : ℕ) (rest : List Entry) → Resolves D (at_type want (λ t. operator_code side leaves op t d a rest) rest) → Resolves D rest
-  operator_back side leaves None op d a rest h = h
-  operator_back (Number v) leaves (Some t) op d a rest h = word_back D (settle_word leaves t d) rest h
-  operator_back (Register c) leaves (Some t) op d a rest h = word_back D (settle_word leaves t d) rest (operation_back op (is_signed t) d a c _ h)
-  operator_back (Product p q) leaves (Some t) op d a rest h = word_back D (settle_word leaves t d) rest h
-  operator_back (Moved kind n r) leaves (Some t) op d a rest h = word_back D (settle_word leaves t d) rest h
-
-  pub side_back : (number : Option ℕ) (fused : Bool) (whole parts : List Entry → List Entry) (rest : List Entry) → (Resolves D (whole rest) → Resolves D rest) → (Resolves D (parts rest) → Resolves D rest) → Resolves D (side_code number fused whole parts rest) → Resolves D rest
-  side_back (Some v) fused whole parts rest f g h = h
-  side_back None true whole parts rest f g h = g h
-  side_back None false whole parts rest f g h = f h
-
-  pub right_back : (number : Option ℕ) (inner : List Entry → List Entry) (rest : List Entry) → (Resolves D (inner rest) → Resolves D rest) → Resolves D (right_code number inner rest) → Resolves D rest
-  right_back (Some v) inner rest f h = h
-  right_back None inner rest f h = f h
-
-  tested_back : (o : Option Bool) (sense : Bool) (number : Option ℕ) (a c k to : ℕ) (rest : List Entry) → Resolves D (tested_code o sense number a c k to rest) → Resolves D rest
-  tested_back (Some is) sense number a c k to rest h = h
-  tested_back None sense number a c k to rest h = h
-
-  placed_back : (wanted : Bool) (n : ℕ) (rest : List Entry) → Resolves D (placed_code wanted n rest) → Resolves D rest
-  placed_back true n rest h = h.1
-  placed_back false n rest h = h
-
-  pick_back : (d p q n : ℕ) (rest : List Entry) → Resolves D (pick_code d p q n rest) → (following D n ≡ word_code (copy_word d q) (Place (n + 1) ∷ rest)) × ((following D (n + 1) ≡ rest) × Resolves D rest)
-  pick_back d p q n rest h =
-      let k = word_back D (copy_word d p) _ h in
-      (k.0, word_back D (copy_word d q) _ k.1)
-
-  choice_back : (o : Option ℕ) (flags jump : List Entry → List Entry) (d p q n : ℕ) (rest : List Entry) → ((rest : List Entry) → Resolves D (flags rest) → Resolves D rest) → ((rest : List Entry) → Resolves D (jump rest) → Resolves D rest) → Resolves D (choice_code o flags jump d p q n rest) → Resolves D rest
-  choice_back (Some k) flags jump d p q n rest f g h = f _ h
-  choice_back None flags jump d p q n rest f g h = (pick_back d p q n rest (g _ h)).1.1
-
-  abs_back : (leaves b : Bool) (t : Ty) (d a : ℕ) (rest : List Entry) → Resolves D (abs_code leaves b t d a rest) → Resolves D rest
-  abs_back leaves true t d a rest h = word_back D (settle_word leaves t d) rest h
-  abs_back leaves false t d a rest h = word_back D (copy_word d a) rest h
-
-  cast_back : (low : Bool) (from : Option Ty) (t : Ty) (d a : ℕ) (rest : List Entry) → Resolves D (at_type from (λ u. word_code (convert_word low u t d a) rest) rest) → Resolves D rest
-  cast_back low None t d a rest h = h
-  cast_back low (Some u) t d a rest h = word_back D (convert_word low u t d a) rest h
-
-  unary_back : (leaves : Bool) (want : Option Ty) (op : UnaryOp) (d a : ℕ) (rest : List Entry) → Resolves D (at_type want (λ t. unary_code leaves op t d a rest) rest) → Resolves D rest
-  unary_back leaves None op d a rest h = h
-  unary_back leaves (Some t) unary.Neg d a rest h = word_back D (settle_word leaves t d) rest h
-  unary_back leaves (Some t) unary.Flip d a rest h = word_back D (settle_word leaves t d) rest h
-  unary_back leaves (Some t) unary.Abs d a rest h = abs_back leaves (is_signed t) t d a rest h
-
-  shift_back : (leaves : Bool) (want : Option Ty) (left : Bool) (n : ℤ) (d a : ℕ) (rest : List Entry) → Resolves D (at_type want (λ t. shift_code leaves left n t d a rest) rest) → Resolves D rest
-  shift_back leaves None left n d a rest h = h
-  shift_back leaves (Some t) left n d a rest h = word_back D (settle_word leaves t d) rest h
-
   -- what an operand has as its type
   pub some_type : (o : Option Ty) → IsSome o → (T : Ty) × (o ≡ Some T)
   some_type None h = absurd h
   some_type (Some T) h = (T, refl)
 
-  -- the rest of a read after its index
-  read_runs : {w : Fixed L} {c rest : List Entry} {st t : State} {m : Memory} {hs : Homes} {ls : List Local} {names : Names} {b most : ℕ} (T : Ty) (ot : Option Ty) (a : List ℕ) (p r : ℕ) (x : ℤ) → ot ≡ Some T → NameLasts hs a p → b ≤ p → AreSafe L b hs → IsMade L p → At w hs ls names m b st → Goes D c st (load_code ot (reg_of L p) (register_at hs a) r rest) t most → Kept L st t b p → x_at t r ≡ word x → Gives D L c st rest b (p + 1) (reg_of L p) m (most + 1) (read_element ot m (value_at names a) x)
-  read_runs {c = c} {rest = rest} {st = st} {t = t} {m = m} {hs = hs} {names = names} {b = b} {most = most} T ot a p r x e lasts le safe made at g kept is =
+  -- the rest of a read after its index, by what stands in the register of the array
+  read_runs : {w : Fixed L} {c rest : List Entry} {st t : State} {m : Memory} {hs : Homes} {ls : List Local} {stand names : Names} {b most : ℕ} (T : Ty) (ot : Option Ty) (a : List ℕ) (p r : ℕ) (x : ℤ) → ot ≡ Some T → NameLasts hs a p → b ≤ p → AreSafe L b hs → IsMade L p → Standing w hs ls stand names m b st → Goes D c st (load_code ot (reg_of L p) (register_at hs a) r rest) t most → Kept L st t b p → x_at t r ≡ word x → Gives D L c st rest b (p + 1) (reg_of L p) m (most + 1) (read_element ot m (value_at stand a) x)
+  read_runs {c = c} {rest = rest} {st = st} {t = t} {m = m} {hs = hs} {stand = stand} {b = b} {most = most} T ot a p r x e lasts le safe made at g kept is =
       let d = reg_of L p in
       let q = register_at hs a in
-      let there = at_kept L fit b p le safe at kept in
+      let there = standing_kept L fit b p le safe at kept in
       let found = name_found L hs a b p le safe lasts in
-      let load = load_runs D L fit {rest = rest} T (value_at names a) x q r p b (p + 1) there.sized le (omega arith) made there.good there.memory found.high (name_held hs names a p t there.sized there.held lasts) is in
-      subst (λ o. Gives D L c st rest b (p + 1) d m (most + 1) (read_element o m (value_at names a) x)) (sym e)
+      let load = load_runs D L fit {rest = rest} T (value_at stand a) x q r p b (p + 1) there.sized le (omega arith) made there.good there.memory found.high (name_held hs stand a p t there.sized there.held lasts) is in
+      subst (λ o. Gives D L c st rest b (p + 1) d m (most + 1) (read_element o m (value_at stand a) x)) (sym e)
       (on (subst (λ o. Goes D c st (load_code o d q r rest) t most) e g) load)
     where
       on : {o : Option ℤ} {e2 : List Entry} → Goes D c st e2 t most → Gives D L e2 t rest b (p + 1) (reg_of L p) m 1 o → Gives D L c st rest b (p + 1) (reg_of L p) m (most + 1) o
       on g (no_value k) = no_value (stop_after (most + 1) (omega arith) g k)
       on g (a_value k) = a_value (record { end = k.end; goes = chain (most + 1) (omega arith) g k.goes; kept = kept_on L b (p + 1) (omega arith) (omega arith) (omega arith) (omega arith) kept k.kept; value = k.value })
 
-  mutual
-    pub loose_back : (e : Term) (hs : Homes) (s : Scope) (w : Extent) (want : Option Ty) (b n : ℕ) (rest : List Entry) → Resolves D (loose_code L hs s w want b n e rest) → Resolves D rest
-    loose_back (Literal z) hs s w want b n rest h = right_back (constant_at L (OfNumber z)) _ rest (const_back D (reg_of L b) (word (wrapped want z)) rest) h
-    loose_back (Variable x) hs s w want b n rest h = h
-    loose_back (Element a i) hs s w want b n rest h = load_back _ _ _ _ rest (right_back (place_of L (register_at hs a) (option_and_then element_type (lookup s a)) (stream_offset s.index i)) _ _ (number_back (stream_offset s.index i) _ _ (loose_back i hs s Whole (index_type s i) b n _)) h)
-    loose_back (Unary op e) hs s w want b n rest h = unary_back (unary_settles s want op e w) want op _ _ rest (loose_back e hs s (unary_asks s want op e w) want b n _ h)
-    loose_back (Operation op x y) hs s w want b n rest h =
-        let k = binary_asks s want op x y w in
-        operator_back (taken_side L hs s op k want b x y) (binary_settles s want op x y w) want op _ _ rest
-        (side_back (added_number op want y) (not (is_led L hs s op k want b x y) && is_fused s op k want y) _ _ _ (loose_back y hs s k want _ _ _) (parts_back y hs s k want _ _ _)
-        (side_back None (is_led L hs s op k want b x y) _ _ _ (loose_back x hs s k want b n _) (parts_back x hs s k want b n _) h))
-    loose_back (Shift left e z) hs s w want b n rest h = shift_back (shift_settles s want left e z w) want left z _ _ rest (loose_back e hs s (shift_asks s want left e z w) want b n _ h)
-    loose_back (Conversion e t) hs s w want b n rest h = cast_back (within_type w t) (own s e) t _ _ rest (loose_back e hs s (converted_extent w (own s e) t) (own s e) b n _ h)
-    loose_back (Choice c x y) hs s w want b n rest h = choice_back (flag_condition s c) _ _ _ _ _ _ rest (λ r. flags_back c hs s _ _ r) (λ r. jump_back c hs s false _ _ _ r) (loose_back y hs s w want _ _ _ (loose_back x hs s w want b n _ h))
-    loose_back (Comparison op x y) hs s w want b n rest h = h
-    loose_back (Both x y) hs s w want b n rest h = h
-    loose_back (Either x y) hs s w want b n rest h = h
-    loose_back (Not e) hs s w want b n rest h = h
-
-    pub parts_back : (e : Term) (hs : Homes) (s : Scope) (w : Extent) (want : Option Ty) (b n : ℕ) (rest : List Entry) → Resolves D (parts_code L hs s w want b n e rest) → Resolves D rest
-    parts_back (Operation op x y) hs s w want b n rest h = loose_back y hs s (binary_asks s want op x y w) want _ _ rest (loose_back x hs s (binary_asks s want op x y w) want b n _ h)
-    parts_back (Shift left e z) hs s w want b n rest h = loose_back e hs s (shift_asks s want left e z w) want b n rest h
-    parts_back (Literal z) hs s w want b n rest h = h
-    parts_back (Variable x) hs s w want b n rest h = h
-    parts_back (Element a i) hs s w want b n rest h = h
-    parts_back (Unary op e) hs s w want b n rest h = h
-    parts_back (Conversion e t) hs s w want b n rest h = loose_back e hs s (converted_extent w (own s e) t) (own s e) b n rest h
-    parts_back (Choice c x y) hs s w want b n rest h = h
-    parts_back (Comparison op x y) hs s w want b n rest h = h
-    parts_back (Both x y) hs s w want b n rest h = h
-    parts_back (Either x y) hs s w want b n rest h = h
-    parts_back (Not e) hs s w want b n rest h = h
-
-    flags_back : (e : Term) (hs : Homes) (s : Scope) (b n : ℕ) (rest : List Entry) → Resolves D (flags_code L hs s b n e rest) → Resolves D rest
-    flags_back (Comparison op x y) hs s b n rest h = right_back (compared_number (side_type s x y) y) _ (Put (compare_word (compared_number (side_type s x y) y) (home L hs s.index b x) (home L hs s.index (b + term_size s.index x) y)) ∷ rest) (loose_back y hs s Whole (side_type s x y) _ _ _) (loose_back x hs s Whole (side_type s x y) b n _ h)
-    flags_back (Literal z) hs s b n rest h = h
-    flags_back (Variable x) hs s b n rest h = h
-    flags_back (Element a i) hs s b n rest h = h
-    flags_back (Unary op e) hs s b n rest h = h
-    flags_back (Operation op x y) hs s b n rest h = h
-    flags_back (Shift left e z) hs s b n rest h = h
-    flags_back (Conversion e t) hs s b n rest h = h
-    flags_back (Choice c x y) hs s b n rest h = h
-    flags_back (Both x y) hs s b n rest h = h
-    flags_back (Either x y) hs s b n rest h = h
-    flags_back (Not e) hs s b n rest h = h
-
-    pub jump_back : (e : Term) (hs : Homes) (s : Scope) (sense : Bool) (to b n : ℕ) (rest : List Entry) → Resolves D (jump_code L hs s sense to b n e rest) → Resolves D rest
-    jump_back (Comparison op x y) hs s sense to b n rest h =
-        tested_back (zero_test op (compared_number (side_type s x y) y)) sense (compared_number (side_type s x y) y) _ _ (condition op (signed_side (side_type s x y))) to rest
-        (right_back (compared_number (side_type s x y) y) _ _ (loose_back y hs s Whole (side_type s x y) _ _ _) (loose_back x hs s Whole (side_type s x y) b n _ h))
-    jump_back (Both x y) hs s sense to b n rest h = placed_back sense n rest (jump_back y hs s sense to _ _ _ (jump_back x hs s false _ b _ _ h))
-    jump_back (Either x y) hs s sense to b n rest h = placed_back (not sense) n rest (jump_back y hs s sense to _ _ _ (jump_back x hs s true _ b _ _ h))
-    jump_back (Not e) hs s sense to b n rest h = jump_back e hs s (not sense) to b n rest h
-    jump_back (Literal z) hs s sense to b n rest h = h
-    jump_back (Variable x) hs s sense to b n rest h = h
-    jump_back (Element a i) hs s sense to b n rest h = h
-    jump_back (Unary op e) hs s sense to b n rest h = h
-    jump_back (Operation op x y) hs s sense to b n rest h = h
-    jump_back (Shift left e z) hs s sense to b n rest h = h
-    jump_back (Conversion e t) hs s sense to b n rest h = h
-    jump_back (Choice c x y) hs s sense to b n rest h = h
-
-  pub value_back : (e : Term) (hs : Homes) (s : Scope) (want : Option Ty) (b n : ℕ) (rest : List Entry) → Resolves D (value_code L hs s want b n e rest) → Resolves D rest
-  value_back e hs s want b n rest h = loose_back e hs s Whole want b n rest h
-
   -- an index, and a read of the element
-  element_runs : {w : Fixed L} {hs : Homes} (s : Scope) {names : Names} {m : Memory} {st : State} (a : List ℕ) (i : Term) (T : Ty) (b n : ℕ) (rest : List Entry) (o : Option ℤ) → stream_offset s.index i ≡ o → option_and_then element_type (lookup s a) ≡ Some T → FitsIndex o (IndexAt hs s.index (b + index_size o (term_size s.index i))) (Fits L hs s (index_type s i) b (b + index_size o (term_size s.index i)) i) → NameLasts hs a (b + index_size o (term_size s.index i)) → IsMade L (b + index_size o (term_size s.index i)) → AreSafe L b hs → At w hs s.visible names m b st
+  element_runs : {w : Fixed L} {hs : Homes} (s : Scope) {stand names : Names} {m : Memory} {st : State} (a : List ℕ) (i : Term) (T : Ty) (b n : ℕ) (rest : List Entry) (o : Option ℤ) (computed : Bool) → index_covers L.loose s.index (loose_in L.loose a) (option_and_then element_type (lookup s a)) o computed ≡ true → option_and_then element_type (lookup s a) ≡ Some T → FitsIndex o (IndexAt hs s.index (b + index_size o (term_size s.index i))) (Fits L hs s (index_type s i) b (b + index_size o (term_size s.index i)) i) → NameLasts hs a (b + index_size o (term_size s.index i)) → IsMade L (b + index_size o (term_size s.index i)) → AreSafe L b hs → Standing w hs s.visible stand names m b st
       → Resolves D (number_code o (value_code L hs s (index_type s i) b n i) (load_code (option_and_then element_type (lookup s a)) (reg_of L (b + index_size o (term_size s.index i))) (register_at hs a) (number_register o (home L hs s.index b i)) rest))
-      → ((rest : List Entry) → Runs D L i hs s names m st b (b + term_size s.index i) n rest (index_type s i))
+      → (o ≡ None → (rest : List Entry) → Runs D L i hs s names m st b (b + term_size s.index i) n rest (index_type s i))
       → Gives D L (number_code o (value_code L hs s (index_type s i) b n i) (load_code (option_and_then element_type (lookup s a)) (reg_of L (b + index_size o (term_size s.index i))) (register_at hs a) (number_register o (home L hs s.index b i)) rest)) st rest b (b + (index_size o (term_size s.index i) + 1)) (reg_of L (b + index_size o (term_size s.index i))) m ((element_words o (coded_words L.constants s.index i)))
       (option_and_then (read_element (option_and_then element_type (lookup s a)) m (value_at names a)) (element_number o (iteration s.index names) (value s (index_type s i) i m names)))
-  element_runs {hs = hs} s {names = names} {m = m} {st = st} a i T b n rest (Some c) is type fits lasts made safe at res inner =
+  element_runs {w = w} {hs = hs} s {stand = stand} {names = names} {m = m} {st = st} a i T b n rest (Some c) computed cov type fits lasts made safe at res inner =
       let r = index_register (index_word c) in
-      let last = load_code (option_and_then element_type (lookup s a)) (reg_of L (b + 0)) (register_at hs a) r rest in
-      let g = index_runs D L fit {rest = last} (iteration s.index names) c b (b + 0) at.sized (index_is hs s.index names (b + 0) b st (omega arith) fits.1 at.sized at.held) fits.0 in
+      let ot = option_and_then element_type (lookup s a) in
+      let x = iteration s.index stand in
+      let last = load_code ot (reg_of L (b + 0)) (register_at hs a) r rest in
+      let g = index_runs D L fit {rest = last} x c b (b + 0) at.sized (index_is hs s.index stand (b + 0) b st (omega arith) fits.1 at.sized at.held) fits.0 in
       let e : b + 0 + 1 ≡ b + (0 + 1) = omega arith in
-      subst (λ q. Gives D L (word_code (index_word c) last) st rest b q (reg_of L (b + 0)) m 2 (read_element (option_and_then element_type (lookup s a)) m (value_at names a) (iteration s.index names +ℤ c))) e
-      (give_more D L 2 (omega arith) (read_runs T (option_and_then element_type (lookup s a)) a (b + 0) r (iteration s.index names +ℤ c) type lasts (omega arith) safe made at g.goes g.kept g.value))
-  element_runs {hs = hs} s {names = names} {m = m} {st = st} a i T b n rest None is type fits lasts made safe at res inner =
-      computed (value s (index_type s i) i m names) (inner last fits res)
+      let there = subst (λ o. Gives D L (word_code (index_word c) last) st rest b (b + 0 + 1) (reg_of L (b + 0)) m 2 o) (together_read L.loose w.count hs s.index a ot T m stand names c b (b + 0) (b + 0) st type cov lasts fits.1 at.held at.told)
+      (give_more D L 2 (omega arith) (read_runs T ot a (b + 0) r (x +ℤ c) type lasts (omega arith) safe made at g.goes g.kept g.value)) in
+      subst (λ q. Gives D L (word_code (index_word c) last) st rest b q (reg_of L (b + 0)) m 2 (read_element ot m (value_at names a) (iteration s.index names +ℤ c))) e there
+  element_runs {w = w} {hs = hs} s {stand = stand} {names = names} {m = m} {st = st} a i T b n rest None computed cov type fits lasts made safe at res inner =
+      found (value s (index_type s i) i m names) (inner refl last fits res)
     where
       last : List Entry
       last = load_code (option_and_then element_type (lookup s a)) (reg_of L (b + term_size s.index i)) (register_at hs a) (home L hs s.index b i) rest
 
-      computed : (o : Option ℤ) → Gives D L (value_code L hs s (index_type s i) b n i last) st last b (b + term_size s.index i) (home L hs s.index b i) m (coded_words L.constants s.index i) o
+      base : value_at stand a ≡ value_at names a
+      base = whole_at L.loose w.count a stand names (and_parts (is_whole L.loose a) computed cov).0 at.told
+
+      found : (o : Option ℤ) → Gives D L (value_code L hs s (index_type s i) b n i last) st last b (b + term_size s.index i) (home L hs s.index b i) m (coded_words L.constants s.index i) o
           → Gives D L (value_code L hs s (index_type s i) b n i last) st rest b (b + (term_size s.index i + 1)) (reg_of L (b + term_size s.index i)) m ((coded_words L.constants s.index i + 4)) (option_and_then (read_element (option_and_then element_type (lookup s a)) m (value_at names a)) o)
-      computed None (no_value k) = no_value (stop_more _ (omega arith) k)
-      computed (Some x) (a_value k) =
+      found None (no_value k) = no_value (stop_more _ (omega arith) k)
+      found (Some x) (a_value k) =
           let p = b + term_size s.index i in
           let e : p + 1 ≡ b + (term_size s.index i + 1) = omega arith in
+          let read = give_more D L ((coded_words L.constants s.index i + 4)) (omega arith) (read_runs T (option_and_then element_type (lookup s a)) a p (home L hs s.index b i) x type lasts (omega arith) safe made at k.goes k.kept k.value) in
           subst (λ q. Gives D L (value_code L hs s (index_type s i) b n i last) st rest b q (reg_of L p) m ((coded_words L.constants s.index i + 4)) (read_element (option_and_then element_type (lookup s a)) m (value_at names a) x)) e
-          (give_more D L ((coded_words L.constants s.index i + 4)) (omega arith) (read_runs T (option_and_then element_type (lookup s a)) a p (home L hs s.index b i) x type lasts (omega arith) safe made at k.goes k.kept k.value))
+          (subst (λ z. Gives D L (value_code L hs s (index_type s i) b n i last) st rest b (p + 1) (reg_of L p) m ((coded_words L.constants s.index i + 4)) (read_element (option_and_then element_type (lookup s a)) m z x)) base read)
 
   -- the sides of a comparison are in range
   sides_range : (x y : Term) (hs : Homes) (s : Scope) (names : Names) (m : Memory) (b : ℕ) (u v : ℤ) → AreRanged s.visible names
@@ -526,8 +408,8 @@ module _ (D : Laid) (L : Layout) (fit : Assigned L) where
   -- the two sides of a comparison
   sides_run : (x y : Term) (hs : Homes) (s : Scope) (names : Names) {m : Memory} {st : State} (b n : ℕ) (rest : List Entry) → AreSafe L b hs
       → IsSome (side_type s x y) × Fits L hs s (side_type s x y) b (b + term_size s.index x + term_size s.index y) x × Fits L hs s (side_type s x y) (b + term_size s.index x) (b + term_size s.index x + term_size s.index y) y
-      → ((T : Ty) (rest : List Entry) → Runs D L x hs s names m st b (b + term_size s.index x + term_size s.index y) n rest (Some T))
-      → ((T : Ty) (t : State) → Kept L st t b (b + term_size s.index x) → Runs D L y hs s names m t (b + term_size s.index x) (b + term_size s.index x + term_size s.index y) (n + labels s.index x) rest (Some T))
+      → ((T : Ty) (rest : List Entry) → side_type s x y ≡ Some T → Runs D L x hs s names m st b (b + term_size s.index x + term_size s.index y) n rest (Some T))
+      → ((T : Ty) (t : State) → side_type s x y ≡ Some T → Kept L st t b (b + term_size s.index x) → Runs D L y hs s names m t (b + term_size s.index x) (b + term_size s.index x + term_size s.index y) (n + labels s.index x) rest (Some T))
       → Resolves D (value_code L hs s (side_type s x y) b n x (right_code (compared_number (side_type s x y) y) (value_code L hs s (side_type s x y) (b + term_size s.index x) (n + labels s.index x) y) rest))
       → Pairs D L (value_code L hs s (side_type s x y) b n x (right_code (compared_number (side_type s x y) y) (value_code L hs s (side_type s x y) (b + term_size s.index x) (n + labels s.index x) y) rest)) st rest b (b + term_size s.index x + term_size s.index y)
       (home L hs s.index b x) (IsSide (compared_number (side_type s x y) y) (home L hs s.index (b + term_size s.index x) y)) m (coded_words L.constants s.index x + coded_words L.constants s.index y) (value s (side_type s x y) x m names) (value s (side_type s x y) y m names)
@@ -537,12 +419,12 @@ module _ (D : Laid) (L : Layout) (fit : Assigned L) where
       let b1 = b + term_size s.index x in let c = b1 + term_size s.index y in
       let number = compared_number want y in
       let codey = right_code number (value_code L hs s want b1 (n + labels s.index x) y) rest in
-      let runx : Runs D L x hs s names m st b c n codey want = subst (λ w. Runs D L x hs s names m st b c n codey w) (sym q.1) (left q.0 codey) in
+      let runx : Runs D L x hs s names m st b c n codey want = subst (λ w. Runs D L x hs s names m st b c n codey w) (sym q.1) (left q.0 codey q.1) in
       pair_runs (coded_words L.constants s.index x + coded_words L.constants s.index y) (omega arith) (omega arith) (omega arith)
       (home_high x hs s want b c (omega arith) h.1 safe) (λ p lo up made. home_apart x hs s want b c (omega arith) h.1 safe p lo up made)
       (runx h.1 res)
-      (λ t k. right_runs _ (value s want y m names) number (compared_right s want y m names) (value_back x hs s want b n _ res)
-      (λ r. subst (λ w. Runs D L y hs s names m t b1 c (n + labels s.index x) rest w) (sym q.1) (right q.0 t k) h.2 r))
+      (λ t k. right_runs _ (value s want y m names) number (compared_right s want y m names) (value_back D L fit x hs s want b n _ res)
+      (λ r. subst (λ w. Runs D L y hs s names m t b1 c (n + labels s.index x) rest w) (sym q.1) (right q.0 t q.1 k) h.2 r))
 
   -- one of two registers, by a condition
   pick_runs : (c : Term) (hs : Homes) (s : Scope) (names : Names) {m : Memory} {st : State} (x y : ℤ) (n b e hx hy : ℕ) (rest : List Entry) (o : Option ℕ) → b + term_size s.index c < e → length st.x ≡ 31 → IsMade L (b + term_size s.index c) → hx ≤ 25 → hy ≤ 25
@@ -554,42 +436,43 @@ module _ (D : Laid) (L : Layout) (fit : Assigned L) where
   pick_runs c hs s names x y n b e hx hy rest (Some k) lt sized made ix iy ax ay ex ey flags turn res =
       flag_picks x y ((coded_words L.constants s.index c + 4)) (omega arith) (omega arith) lt made sized ix iy ax ay ex ey (flags k _ refl res)
   pick_runs c hs s names x y n b e hx hy rest None lt sized made ix iy ax ay ex ey flags turn res =
-      let r = pick_back (reg_of L (b + term_size s.index c)) hx hy n rest (jump_back c hs s false n b (n + 2) _ res) in
+      let r = pick_back D L fit (reg_of L (b + term_size s.index c)) hx hy n rest (jump_back D L fit c hs s false n b (n + 2) _ res) in
       jump_picks x y ((coded_words L.constants s.index c + 4)) (omega arith) (omega arith) lt made sized ix iy ax ay ex ey r.0 r.1.0 (turn _ res)
 
   -- what the code of an expression does
   mutual
-    pub loose_runs : (e : Term) {W : Fixed L} {hs : Homes} (s : Scope) {names : Names} {m : Memory} {st : State} (w : Extent) (T : Ty) (b user n : ℕ) (rest : List Entry) → b + term_size s.index e ≤ user → AreSafe L b hs → At W hs s.visible names m b st → LooseRuns D L e hs s names m st w b user n rest (Some T)
-    loose_runs (Literal z) {W = W} s w T b user n rest le safe at h res = literal_runs D L fit (constant_at L (OfNumber z)) {W = W} z T b user refl (omega arith) at h.0 h.1
-    loose_runs (Variable x) {hs = hs} s {names = names} {st = st} w T b user n rest le safe at h res =
-        a_value (record { end = st; goes = stay 4; kept = kept_none L st b (b + 1); value = name_held hs names x b st at.sized at.held (name_less hs x user b (omega arith) h.0) })
-    loose_runs (Element a i) {hs = hs} s {names = names} {m = m} {st = st} w T b user n rest le safe at h res =
+    pub loose_standing : (e : Term) {W : Fixed L} {hs : Homes} (s : Scope) {stand names : Names} {m : Memory} {st : State} (w : Extent) (T : Ty) (b user n : ℕ) (rest : List Entry) → b + term_size s.index e ≤ user → covers L.loose s w (Some T) e ≡ true → AreSafe L b hs → Standing W hs s.visible stand names m b st → LooseRuns D L e hs s stand names m st w b user n rest (Some T)
+    loose_standing (Literal z) {W = W} s w T b user n rest le cov safe at h res = literal_runs D L fit (constant_at L (OfNumber z)) {W = W} z T b user refl (omega arith) at h.0 h.1
+    loose_standing (Variable x) {hs = hs} s {stand = stand} {st = st} w T b user n rest le cov safe at h res =
+        a_value (record { end = st; goes = stay 4; kept = kept_none L st b (b + 1); value = name_held hs stand x b st at.sized at.held (name_less hs x user b (omega arith) h.0) })
+    loose_standing (Element a i) {hs = hs} s {stand = stand} {names = names} {m = m} {st = st} w T b user n rest le cov safe at h res =
         let q = some_type (index_type s i) (index_some s i) in
         let o = stream_offset s.index i in
         let ot = option_and_then element_type (lookup s a) in
         let p = b + index_size o (term_size s.index i) in
+        let computed = covers L.loose s Whole (index_type s i) i in
         let e : p + 1 ≡ b + (index_size o (term_size s.index i) + 1) = omega arith in
         element_with D L fit (place_of L (register_at hs a) ot o) _ (λ x y. load_code ot (reg_of L p) x y rest) res
-        (λ r. element_runs s a i T b n rest o refl h.0 h.1 h.2 (omega (arith, h.3)) safe at r
-        (λ rest2. subst (λ w. Runs D L i hs s names m st b (b + term_size s.index i) n rest2 w) (sym q.1) (exact hs b (b + term_size s.index i) n i s names m (Some q.0) at.ranged (loose_runs i s Whole q.0 b (b + term_size s.index i) n rest2 (omega arith) safe at))))
-        (λ r is. subst (λ k. Gives D L (load_code ot (reg_of L p) r 9 rest) st rest b k (reg_of L p) m (element_words o (coded_words L.constants s.index i)) (option_and_then (read_element ot m (value_at names a)) (element_number o (iteration s.index names) (value s (index_type s i) i m names)))) e
-        (give_more D L _ (some_words o (coded_words L.constants s.index i)) (placed_runs D L fit a T ot o (iteration s.index names) r p b h.0 is (name_less hs a p b (omega arith) h.2) (omega arith) (omega (arith, h.3)) (placed_nine L _ o (iteration s.index names) r hs s a ot p b st names is h.1 (omega arith) at.sized at.held) at
-        (λ o. element_number o (iteration s.index names) (value s (index_type s i) i m names)) (λ c f. ap (λ o. element_number o (iteration s.index names) (value s (index_type s i) i m names)) f))))
-    loose_runs (Unary op e) {hs = hs} s {names = names} {m = m} w T b user n rest le safe at h res =
+        (λ r. element_runs s a i T b n rest o computed cov h.0 h.1 h.2 (omega (arith, h.3)) safe at r
+        (λ none rest2. let inner = covers_at L.loose s Whole i (index_type s i) q.0 q.1 (computed_covers L.loose s.index (loose_in L.loose a) ot o computed none cov).1 in subst (λ w. Runs D L i hs s names m st b (b + term_size s.index i) n rest2 w) (sym q.1) (exact _ hs b (b + term_size s.index i) n i s stand names m (Some q.0) at.ranged at.told inner (loose_standing i s Whole q.0 b (b + term_size s.index i) n rest2 (omega arith) inner safe at))))
+        (λ r is. subst (λ q. Gives D L (load_code ot (reg_of L p) r 9 rest) st rest b q (reg_of L p) m (element_words o (coded_words L.constants s.index i)) (option_and_then (read_element ot m (value_at names a)) (element_number o (iteration s.index names) (value s (index_type s i) i m names)))) e
+        (give_more D L _ (some_words o (coded_words L.constants s.index i)) (placed_runs D L fit s.index a T ot o (value s (index_type s i) i m names) computed (Fits L hs s (index_type s i) b p i) r p b cov h.0 is (name_less hs a p b (omega arith) h.2) h.1 (omega arith) (omega (arith, h.3)) at)))
+    loose_standing (Unary op e) {hs = hs} s {stand = stand} {names = names} {m = m} w T b user n rest le cov safe at h res =
         let k1 = unary_asks s (Some T) op e w in
         map_runs (loose_unary op w (Some T)) ((coded_words L.constants s.index e + 4)) (omega arith) (omega arith) (omega arith)
-        (loose_runs e s k1 T b _ n _ (omega arith) safe at h.1 res)
-        (λ t x is k ex. gets D L (b + term_size s.index e) _ _ (omega arith) (omega arith) (omega (arith, h.2)) (unary_runs D L fit op (unary_may_leave s (Some T) op e) w T x _ _ (k.sized ∙ at.sized) (home_high e hs s (Some T) b (b + term_size s.index e) (omega arith) h.1 safe) (fit.high _ (omega (arith, h.2))) (loose_range k1 L hs s names m e T b _ x h.1 at.ranged is)
-        (λ whole stays. unary_keeps s m names at.ranged T op e x (fits_types e L hs s (Some T) b _ h.1) (loose_value k1 L hs s names m e T b _ x h.1 at.ranged is whole) (loose_range k1 L hs s names m e T b _ x h.1 at.ranged is whole) stays) ex))
-    loose_runs (Operation op x y) {hs = hs} s {names = names} {m = m} {st = st} w T b user n rest le safe at h res =
+        (loose_standing e s k1 T b _ n _ (omega arith) cov safe at h.1 res)
+        (λ t x is k ex. gets D L (b + term_size s.index e) _ _ (omega arith) (omega arith) (omega (arith, h.2)) (unary_runs D L fit op (unary_may_leave s (Some T) op e) w T x _ _ (k.sized ∙ at.sized) (home_high e hs s (Some T) b (b + term_size s.index e) (omega arith) h.1 safe) (fit.high _ (omega (arith, h.2))) (loose_range _ k1 L hs s stand names m e T b _ x h.1 at.ranged at.told cov is)
+        (λ whole stays. unary_keeps s m names at.ranged T op e x (fits_types e L hs s (Some T) b _ h.1) (loose_value _ k1 L hs s stand names m e T b _ x h.1 at.ranged at.told cov is whole) (loose_range _ k1 L hs s stand names m e T b _ x h.1 at.ranged at.told cov is whole) stays) ex))
+    loose_standing (Operation op x y) {hs = hs} s {stand = stand} {names = names} {m = m} {st = st} w T b user n rest le cov safe at h res =
         let i = s.index in
         let b1 = b + term_size i x in let c = b1 + term_size i y in let e1 = b + (term_size i x + term_size i y + 1) in
         let k1 = binary_asks s (Some T) op x y w in
+        let both = and_parts (covers L.loose s k1 (Some T) x) _ cov in
         let leaves = binary_may_leave s (Some T) op x y in
         let most = (coded_words L.constants i x + coded_words L.constants i y + 4) in
         let hx = home_high x hs s (Some T) b c (omega arith) h.1 safe in
         let safe1 = safe_later L hs b b1 (omega arith) safe in
-        let vx = loose s k1 (Some T) x m names in let vy = loose s k1 (Some T) y m names in
+        let vx = loose s k1 (Some T) x m stand names in let vy = loose s k1 (Some T) y m stand names in
         let part = part_side L hs i (Some T) b x in
         let right = right_side L hs s op k1 (Some T) b1 y in
         let number = added_number op (Some T) y in
@@ -607,180 +490,211 @@ module _ (D : Laid) (L : Layout) (fit : Assigned L) where
         subst (λ o. Gives D L (code true) st rest b e1 (reg_of L c) m most o) (on_both-turned (loose_binary op w (Some T)) vx vy)
         (op_runs (λ v u. loose_binary op w (Some T) u v) most (omega arith) (omega arith) (omega arith)
         (led_pairs D L fit part (term_size i y) (coded_words L.constants i x + coded_words L.constants i y) (omega arith) (omega arith) refl (part_high x hs s op k1 T b c known.fused h.1 safe) known.lasts
-        (parts_runs x s op k1 T b c n _ (omega arith) known.fused safe at h.1 r)
-        (λ t k. subst (λ es. Gives D L es t last b1 c (home L hs i b1 y) m (coded_words L.constants i y) vy) (sym same) (loose_runs y s k1 T b1 c _ _ (omega arith) safe1 (at_kept L fit b b1 (omega arith) safe at k) h.2 (subst (λ es. Resolves D es) same (parts_back x hs s k1 (Some T) b n _ r)))))
+        (parts_standing x s op k1 T b c n _ (omega arith) both.0 known.fused safe at h.1 r)
+        (λ t k. subst (λ es. Gives D L es t last b1 c (home L hs i b1 y) m (coded_words L.constants i y) vy) (sym same) (loose_standing y s k1 T b1 c _ _ (omega arith) both.1 safe1 (standing_kept L fit b b1 (omega arith) safe at k) h.2 (subst (λ es. Resolves D es) same (parts_back D L fit x hs s k1 (Some T) b n _ r)))))
         (λ t v u js is k ey ex. gets D L c c e1 (omega arith) (omega arith) (omega (arith, h.3)) (turned_runs D L fit part op leaves w T u v _ _ known.turns (k.sized ∙ at.sized) hy (fit.high _ (omega (arith, h.3))) (λ e. and_true (binary_leaves op) _ e)
-        (λ e. (loose_range k1 L hs s names m x T b c u h.1 at.ranged is e, loose_range k1 L hs s names m y T b1 c v h.2 at.ranged js e)) (operator_keeps L user x y hs s names m op k1 T b u v at.ranged h is js) (part_taken op L hs s k1 T b x known.fused) ex ey))))
+        (λ e. (loose_range _ k1 L hs s stand names m x T b c u h.1 at.ranged at.told both.0 is e, loose_range _ k1 L hs s stand names m y T b1 c v h.2 at.ranged at.told both.1 js e)) (operator_keeps _ L user x y hs s stand names m op k1 T b u v at.ranged at.told cov h is js) (part_taken op L hs s k1 T b x known.fused) ex ey))))
         (λ straight r.
         op_runs (loose_binary op w (Some T)) most (omega arith) (omega arith) (omega arith)
         (pair_runs (coded_words L.constants i x + coded_words L.constants i y) (omega arith) (omega arith) (omega arith) hx (λ p lo up made. home_apart x hs s (Some T) b c (omega arith) h.1 safe p lo up made)
-        (loose_runs x s k1 T b c n _ (omega arith) safe at h.1 r)
-        (λ t k. sided_by whole parts vy number fused (home L hs i b1 y) (part_side L hs i (Some T) b1 y) (added_right op s k1 (Some T) y m names) (loose_back x hs s k1 (Some T) b n _ r)
-        (λ q. loose_runs y s k1 T b1 c _ _ (omega arith) safe1 (at_kept L fit b b1 (omega arith) safe at k) h.2 q)
-        (λ f q. parts_runs y s op k1 T b1 c _ _ (omega arith) f safe1 (at_kept L fit b b1 (omega arith) safe at k) h.2 q)))
+        (loose_standing x s k1 T b c n _ (omega arith) both.0 safe at h.1 r)
+        (λ t k. sided_by whole parts vy number fused (home L hs i b1 y) (part_side L hs i (Some T) b1 y) (added_right op s k1 (Some T) y m stand names) (loose_back D L fit x hs s k1 (Some T) b n _ r)
+        (λ q. loose_standing y s k1 T b1 c _ _ (omega arith) both.1 safe1 (standing_kept L fit b b1 (omega arith) safe at k) h.2 q)
+        (λ f q. parts_standing y s op k1 T b1 c _ _ (omega arith) both.1 f safe1 (standing_kept L fit b b1 (omega arith) safe at k) h.2 q)))
         (λ t u v is js k ex ey. gets D L c c e1 (omega arith) (omega arith) (omega (arith, h.3)) (operation_runs D L fit right op leaves w T u v _ _ (k.sized ∙ at.sized) hx (fit.high _ (omega (arith, h.3))) (λ e. and_true (binary_leaves op) _ e)
-        (λ e. (loose_range k1 L hs s names m x T b c u h.1 at.ranged is e, loose_range k1 L hs s names m y T b1 c v h.2 at.ranged js e)) (operator_keeps L user x y hs s names m op k1 T b u v at.ranged h is js) (right_taken op L hs s k1 T b1 y) ex ey)))
+        (λ e. (loose_range _ k1 L hs s stand names m x T b c u h.1 at.ranged at.told both.0 is e, loose_range _ k1 L hs s stand names m y T b1 c v h.2 at.ranged at.told both.1 js e)) (operator_keeps _ L user x y hs s stand names m op k1 T b u v at.ranged at.told cov h is js) (right_taken op L hs s k1 T b1 y) ex ey)))
         res
-    loose_runs (Shift left e z) {hs = hs} s {names = names} {m = m} w T b user n rest le safe at h res =
+    loose_standing (Shift left e z) {hs = hs} s {stand = stand} {names = names} {m = m} w T b user n rest le cov safe at h res =
         let k1 = shift_asks s (Some T) left e z w in
         map_runs (loose_shift left z w (Some T)) ((coded_words L.constants s.index e + 4)) (omega arith) (omega arith) (omega arith)
-        (loose_runs e s k1 T b _ n _ (omega arith) safe at h.1 res)
-        (λ t x is k ex. gets D L (b + term_size s.index e) _ _ (omega arith) (omega arith) (omega (arith, h.2)) (shift_runs D L fit left (shift_may_leave s (Some T) left e z) z w T x _ _ (k.sized ∙ at.sized) (fit.high _ (omega (arith, h.2))) (λ q. and_true left _ q) (loose_range k1 L hs s names m e T b _ x h.1 at.ranged is)
-        (λ whole stays. shift_keeps s m names at.ranged T left e z x (fits_types e L hs s (Some T) b _ h.1) (loose_value k1 L hs s names m e T b _ x h.1 at.ranged is whole) (loose_range k1 L hs s names m e T b _ x h.1 at.ranged is whole) stays) ex))
-    loose_runs (Conversion e t) {hs = hs} s {names = names} {m = m} {st = st} w T b user n rest le safe at h res =
+        (loose_standing e s k1 T b _ n _ (omega arith) cov safe at h.1 res)
+        (λ t x is k ex. gets D L (b + term_size s.index e) _ _ (omega arith) (omega arith) (omega (arith, h.2)) (shift_runs D L fit left (shift_may_leave s (Some T) left e z) z w T x _ _ (k.sized ∙ at.sized) (fit.high _ (omega (arith, h.2))) (λ q. and_true left _ q) (loose_range _ k1 L hs s stand names m e T b _ x h.1 at.ranged at.told cov is)
+        (λ whole stays. shift_keeps s m names at.ranged T left e z x (fits_types e L hs s (Some T) b _ h.1) (loose_value _ k1 L hs s stand names m e T b _ x h.1 at.ranged at.told cov is whole) (loose_range _ k1 L hs s stand names m e T b _ x h.1 at.ranged at.told cov is whole) stays) ex))
+    loose_standing (Conversion e t) {hs = hs} s {stand = stand} {names = names} {m = m} {st = st} w T b user n rest le cov safe at h res =
         let q = some_type (own s e) h.1 in
         let c = b + term_size s.index e in
         let k1 = converted_extent w (own s e) t in
+        let inside = covers_at L.loose s k1 e (own s e) q.0 q.1 cov in
         let low = within_type w t in
         let code = at_type (own s e) (λ u. word_code (convert_word low u t (reg_of L c) (home L hs s.index b e)) rest) rest in
-        let inner : LooseRuns D L e hs s names m st k1 b c n code (own s e) = subst (λ o. LooseRuns D L e hs s names m st k1 b c n code o) (sym q.1) (loose_runs e s k1 q.0 b c n code (omega arith) safe at) in
+        let inner : LooseRuns D L e hs s stand names m st k1 b c n code (own s e) = subst (λ o. LooseRuns D L e hs s stand names m st k1 b c n code o) (sym q.1) (loose_standing e s k1 q.0 b c n code (omega arith) inside safe at) in
         map_runs (loose_cast low (fits_at (own s e) t) t) ((coded_words L.constants s.index e + 4)) (omega arith) (omega arith) (omega arith) (inner h.2 res)
         (λ u x is k ex.
         subst (λ o. Gets D L (at_type o (λ v. word_code (convert_word low v t (reg_of L c) (home L hs s.index b e)) rest) rest) u rest c (b + (term_size s.index e + 1)) (reg_of L c) (loose_cast low (fits_at o t) t x) 4) (sym q.1)
         (cast_runs D L fit low q.0 t x (home L hs s.index b e) c c (b + (term_size s.index e + 1)) (k.sized ∙ at.sized) (omega arith) (omega arith) (omega (arith, h.3)) ex))
-    loose_runs (Choice c x y) {hs = hs} s {names = names} {m = m} {st = st} w T b user n rest le safe at h res =
+    loose_standing (Choice c x y) {hs = hs} s {stand = stand} {names = names} {m = m} {st = st} w T b user n rest le cov safe at h res =
         let i = s.index in
         let b1 = b + term_size i x in let b2 = b1 + term_size i y in let p = b2 + term_size i c in
-        let ry = loose_back x hs s w (Some T) b n _ res in
-        let rc = loose_back y hs s w (Some T) b1 _ _ ry in
+        let first = and_parts (covers L.loose s w (Some T) x) _ cov in
+        let second = and_parts (covers L.loose s w (Some T) y) _ first.1 in
+        let ry = loose_back D L fit x hs s w (Some T) b n _ res in
+        let rc = loose_back D L fit y hs s w (Some T) b1 _ _ ry in
         let hx = home_high x hs s (Some T) b p (omega arith) h.0 safe in
         let safe1 = safe_later L hs b b1 (omega arith) safe in
         let hy = home_high y hs s (Some T) b1 p (omega arith) h.1 safe1 in
         choose_runs (holds s c m names) ((coded_words L.constants i x + coded_words L.constants i y + coded_words L.constants i c + 4)) (omega arith) (omega arith) (omega arith) (omega arith) hx
         (λ q lo up made. home_apart x hs s (Some T) b p (omega arith) h.0 safe q (omega arith) (omega arith) made)
-        (loose_runs x s w T b p n _ (omega arith) safe at h.0 res)
-        (λ t k. loose_runs y s w T b1 p _ _ (omega arith) safe1 (at_kept L fit b b1 (omega arith) safe at k) h.1 ry)
+        (loose_standing x s w T b p n _ (omega arith) first.0 safe at h.0 res)
+        (λ t k. loose_standing y s w T b1 p _ _ (omega arith) second.0 safe1 (standing_kept L fit b b1 (omega arith) safe at k) h.1 ry)
         (λ t u v k eu ev. pick_runs c hs s names u v (n + labels i x + labels i y) b2 (b + (term_size i x + term_size i y + term_size i c + 1)) (home L hs i b x) (home L hs i b1 y) rest (flag_condition s c) (omega arith) (k.sized ∙ at.sized) (omega (arith, h.3)) hx hy
         (λ q lo up made. home_apart x hs s (Some T) b p (omega arith) h.0 safe q (omega arith) up made)
         (λ q lo up made. home_apart y hs s (Some T) b1 p (omega arith) h.1 safe1 q (omega arith) up made) eu ev
-        (λ j r is res. flags_run c s b2 _ j r is (safe_later L hs b b2 (omega arith) safe) (at_kept L fit b b2 (omega arith) safe at k) h.2 res)
-        (λ r res. jump_runs c s false _ b2 _ r (safe_later L hs b b2 (omega arith) safe) (at_kept L fit b b2 (omega arith) safe at k) h.2 res) rc)
-    loose_runs (Comparison op x y) s w T b user n rest le safe at h res = absurd h
-    loose_runs (Both x y) s w T b user n rest le safe at h res = absurd h
-    loose_runs (Either x y) s w T b user n rest le safe at h res = absurd h
-    loose_runs (Not e) s w T b user n rest le safe at h res = absurd h
+        (λ j r is res. flags_standing c s b2 _ j r is second.1 (safe_later L hs b b2 (omega arith) safe) (standing_kept L fit b b2 (omega arith) safe at k) h.2 res)
+        (λ r res. jump_standing c s false _ b2 _ r second.1 (safe_later L hs b b2 (omega arith) safe) (standing_kept L fit b b2 (omega arith) safe at k) h.2 res) rc)
+    loose_standing (Comparison op x y) s w T b user n rest le cov safe at h res = absurd h
+    loose_standing (Both x y) s w T b user n rest le cov safe at h res = absurd h
+    loose_standing (Either x y) s w T b user n rest le cov safe at h res = absurd h
+    loose_standing (Not e) s w T b user n rest le cov safe at h res = absurd h
 
     -- the parts of a right side that stands in the operator's word
-    pub parts_runs : (e : Term) {W : Fixed L} {hs : Homes} (s : Scope) {names : Names} {m : Memory} {st : State} (op : BinaryOp) (w : Extent) (T : Ty) (b user n : ℕ) (rest : List Entry) → b + term_size s.index e ≤ user → is_fused s op w (Some T) e ≡ true → AreSafe L b hs → At W hs s.visible names m b st → Fits L hs s (Some T) b user e
+    pub parts_standing : (e : Term) {W : Fixed L} {hs : Homes} (s : Scope) {stand names : Names} {m : Memory} {st : State} (op : BinaryOp) (w : Extent) (T : Ty) (b user n : ℕ) (rest : List Entry) → b + term_size s.index e ≤ user → covers L.loose s w (Some T) e ≡ true → is_fused s op w (Some T) e ≡ true → AreSafe L b hs → Standing W hs s.visible stand names m b st → Fits L hs s (Some T) b user e
         → Resolves D (parts_code L hs s w (Some T) b n e rest)
-        → Sided D L (parts_code L hs s w (Some T) b n e rest) st rest b (b + term_size s.index e) (IsOperand (part_side L hs s.index (Some T) b e)) m (coded_words L.constants s.index e) (loose s w (Some T) e m names)
-    parts_runs (Operation binary.Mul x y) {hs = hs} s {names = names} {m = m} op w T b user n rest le f safe at h res =
+        → Sided D L (parts_code L hs s w (Some T) b n e rest) st rest b (b + term_size s.index e) (IsOperand (part_side L hs s.index (Some T) b e)) m (coded_words L.constants s.index e) (loose s w (Some T) e m stand names)
+    parts_standing (Operation binary.Mul x y) {hs = hs} s {stand = stand} {names = names} {m = m} op w T b user n rest le cov f safe at h res =
         let b1 = b + term_size s.index x in let c = b1 + term_size s.index y in
         let k = binary_asks s (Some T) binary.Mul x y w in
+        let both = and_parts (covers L.loose s k (Some T) x) _ cov in
         product_sided (binary_may_leave s (Some T) binary.Mul x y) w T (b + (term_size s.index x + term_size s.index y + 1)) ((coded_words L.constants s.index x + coded_words L.constants s.index y + 4)) (omega arith) (omega arith) (both_right (takes_product op) (stays (binary_settles s (Some T) binary.Mul x y w) (Some T)) f)
-        (λ u v is js e out. operator_keeps L user x y hs s names m binary.Mul k T b u v at.ranged h is js e out)
+        (λ u v is js e out. operator_keeps _ L user x y hs s stand names m binary.Mul k T b u v at.ranged at.told cov h is js e out)
         (pair_runs (coded_words L.constants s.index x + coded_words L.constants s.index y) (omega arith) (omega arith) (omega arith) (home_high x hs s (Some T) b c (omega arith) h.1 safe) (λ p lo up made. home_apart x hs s (Some T) b c (omega arith) h.1 safe p lo up made)
-        (loose_runs x s k T b c n _ (omega arith) safe at h.1 res)
-        (λ t kept. plain_sided (loose_runs y s k T b1 c _ _ (omega arith) (safe_later L hs b b1 (omega arith) safe) (at_kept L fit b b1 (omega arith) safe at kept) h.2 (loose_back x hs s k (Some T) b n _ res))))
-    parts_runs (Shift left e z) {hs = hs} s {names = names} {m = m} op w T b user n rest le f safe at h res =
+        (loose_standing x s k T b c n _ (omega arith) both.0 safe at h.1 res)
+        (λ t kept. plain_sided (loose_standing y s k T b1 c _ _ (omega arith) both.1 (safe_later L hs b b1 (omega arith) safe) (standing_kept L fit b b1 (omega arith) safe at kept) h.2 (loose_back D L fit x hs s k (Some T) b n _ res))))
+    parts_standing (Shift left e z) {hs = hs} s {stand = stand} {names = names} {m = m} op w T b user n rest le cov f safe at h res =
         let k = shift_asks s (Some T) left e z w in
         moved_sided left (shift_may_leave s (Some T) left e z) z w T (b + (term_size s.index e + 1)) ((coded_words L.constants s.index e + 4)) (omega arith) (omega arith) (λ q. and_true left _ q) (both_right (takes_shift op) (stays (shift_settles s (Some T) left e z w) (Some T)) f)
-        (λ x is whole. loose_range k L hs s names m e T b _ x h.1 at.ranged is whole)
-        (λ x is whole out. shift_keeps s m names at.ranged T left e z x (fits_types e L hs s (Some T) b _ h.1) (loose_value k L hs s names m e T b _ x h.1 at.ranged is whole) (loose_range k L hs s names m e T b _ x h.1 at.ranged is whole) out)
-        (loose_runs e s k T b _ n _ (omega arith) safe at h.1 res)
-    parts_runs (Operation binary.Add x y) s op w T b user n rest le f safe at h res = absurd (never (takes_product op) f)
-    parts_runs (Operation binary.Sub x y) s op w T b user n rest le f safe at h res = absurd (never (takes_product op) f)
-    parts_runs (Operation binary.And x y) s op w T b user n rest le f safe at h res = absurd (never (takes_product op) f)
-    parts_runs (Operation binary.Or x y) s op w T b user n rest le f safe at h res = absurd (never (takes_product op) f)
-    parts_runs (Operation binary.Xor x y) s op w T b user n rest le f safe at h res = absurd (never (takes_product op) f)
-    parts_runs (Operation binary.Min x y) s op w T b user n rest le f safe at h res = absurd (never (takes_product op) f)
-    parts_runs (Operation binary.Max x y) s op w T b user n rest le f safe at h res = absurd (never (takes_product op) f)
-    parts_runs (Literal z) s op w T b user n rest le f safe at h res = absurd cc
-    parts_runs (Variable x) s op w T b user n rest le f safe at h res = absurd cc
-    parts_runs (Element a i) s op w T b user n rest le f safe at h res = absurd cc
-    parts_runs (Unary o e) s op w T b user n rest le f safe at h res = absurd cc
-    parts_runs (Conversion e t) {hs = hs} s {names = names} {m = m} {st = st} op w T b user n rest le f safe at h res =
+        (λ x is whole. loose_range _ k L hs s stand names m e T b _ x h.1 at.ranged at.told cov is whole)
+        (λ x is whole out. shift_keeps s m names at.ranged T left e z x (fits_types e L hs s (Some T) b _ h.1) (loose_value _ k L hs s stand names m e T b _ x h.1 at.ranged at.told cov is whole) (loose_range _ k L hs s stand names m e T b _ x h.1 at.ranged at.told cov is whole) out)
+        (loose_standing e s k T b _ n _ (omega arith) cov safe at h.1 res)
+    parts_standing (Operation binary.Add x y) s op w T b user n rest le cov f safe at h res = absurd (never (takes_product op) f)
+    parts_standing (Operation binary.Sub x y) s op w T b user n rest le cov f safe at h res = absurd (never (takes_product op) f)
+    parts_standing (Operation binary.And x y) s op w T b user n rest le cov f safe at h res = absurd (never (takes_product op) f)
+    parts_standing (Operation binary.Or x y) s op w T b user n rest le cov f safe at h res = absurd (never (takes_product op) f)
+    parts_standing (Operation binary.Xor x y) s op w T b user n rest le cov f safe at h res = absurd (never (takes_product op) f)
+    parts_standing (Operation binary.Min x y) s op w T b user n rest le cov f safe at h res = absurd (never (takes_product op) f)
+    parts_standing (Operation binary.Max x y) s op w T b user n rest le cov f safe at h res = absurd (never (takes_product op) f)
+    parts_standing (Literal z) s op w T b user n rest le cov f safe at h res = absurd cc
+    parts_standing (Variable x) s op w T b user n rest le cov f safe at h res = absurd cc
+    parts_standing (Element a i) s op w T b user n rest le cov f safe at h res = absurd cc
+    parts_standing (Unary o e) s op w T b user n rest le cov f safe at h res = absurd cc
+    parts_standing (Conversion e t) {hs = hs} s {stand = stand} {names = names} {m = m} {st = st} op w T b user n rest le cov f safe at h res =
         let q = some_type (own s e) h.1 in
         let k = converted_extent w (own s e) t in
         let c = b + term_size s.index e in
-        let inner : LooseRuns D L e hs s names m st k b c n rest (own s e) = subst (λ o. LooseRuns D L e hs s names m st k b c n rest o) (sym q.1) (loose_runs e s k q.0 b c n rest (omega arith) safe at) in
+        let inside = covers_at L.loose s k e (own s e) q.0 q.1 cov in
+        let inner : LooseRuns D L e hs s stand names m st k b c n rest (own s e) = subst (λ o. LooseRuns D L e hs s stand names m st k b c n rest o) (sym q.1) (loose_standing e s k q.0 b c n rest (omega arith) inside safe at) in
         cast_sided (within_type w t) (fits_at (own s e) t) t (b + (term_size s.index e + 1)) ((coded_words L.constants s.index e + 4)) (omega arith) (omega arith) f (inner h.2 res)
-    parts_runs (Choice c x y) s op w T b user n rest le f safe at h res = absurd cc
-    parts_runs (Comparison o x y) s op w T b user n rest le f safe at h res = absurd cc
-    parts_runs (Both x y) s op w T b user n rest le f safe at h res = absurd cc
-    parts_runs (Either x y) s op w T b user n rest le f safe at h res = absurd cc
-    parts_runs (Not e) s op w T b user n rest le f safe at h res = absurd cc
+    parts_standing (Choice c x y) s op w T b user n rest le cov f safe at h res = absurd cc
+    parts_standing (Comparison o x y) s op w T b user n rest le cov f safe at h res = absurd cc
+    parts_standing (Both x y) s op w T b user n rest le cov f safe at h res = absurd cc
+    parts_standing (Either x y) s op w T b user n rest le cov f safe at h res = absurd cc
+    parts_standing (Not e) s op w T b user n rest le cov f safe at h res = absurd cc
 
     -- a comparison, whose truth is in the flags
-    flags_run : (e : Term) {w : Fixed L} {hs : Homes} (s : Scope) {names : Names} {m : Memory} {st : State} (b n k : ℕ) (rest : List Entry) → flag_condition s e ≡ Some k → AreSafe L b hs → At w hs s.visible names m b st → FitsTruth L hs s b e → Resolves D (flags_code L hs s b n e rest)
+    flags_standing : (e : Term) {w : Fixed L} {hs : Homes} (s : Scope) {stand names : Names} {m : Memory} {st : State} (b n k : ℕ) (rest : List Entry) → flag_condition s e ≡ Some k → covers_truth L.loose s e ≡ true → AreSafe L b hs → Standing w hs s.visible stand names m b st → FitsTruth L hs s b e → Resolves D (flags_code L hs s b n e rest)
         → Flagged D L (flags_code L hs s b n e rest) st rest b (b + term_size s.index e) k m (coded_words L.constants s.index e) (holds s e m names)
-    flags_run (Comparison op x y) {hs = hs} s {names = names} {m = m} {st = st} b n k rest is safe at h res =
+    flags_standing (Comparison op x y) {hs = hs} s {stand = stand} {names = names} {m = m} {st = st} b n k rest is cov safe at h res =
         let want = side_type s x y in
+        let both = and_parts (covers L.loose s Whole want x) _ cov in
+        let left = λ (T : Ty) (e : want ≡ Some T). covers_at L.loose s Whole x want T e both.0 in
+        let right = λ (T : Ty) (e : want ≡ Some T). covers_at L.loose s Whole y want T e both.1 in
         let b1 = b + term_size s.index x in let c = b1 + term_size s.index y in
         let number = compared_number want y in
         let same : condition op (signed_side want) ≡ k = cc in
         subst (λ k. Flagged D L (flags_code L hs s b n (Comparison op x y) rest) st rest b (b + (term_size s.index x + term_size s.index y + 1)) k m ((coded_words L.constants s.index x + coded_words L.constants s.index y + 4)) (holds s (Comparison op x y) m names)) same
         (op_flags number (home L hs s.index b1 y) op (signed_side want) ((coded_words L.constants s.index x + coded_words L.constants s.index y + 4)) (omega arith) (omega arith) (omega arith) (home_high x hs s want b c (omega arith) h.1 safe) (compared_small want y)
-        (sides_run x y hs s names b n _ safe h (λ T r. exact hs b c n x s names m (Some T) at.ranged (loose_runs x s Whole T b c n r (omega arith) safe at)) (λ T t k. exact hs b1 c (n + labels s.index x) y s names m (Some T) at.ranged (loose_runs y s Whole T b1 c _ _ (omega arith) (safe_later L hs b b1 (omega arith) safe) (at_kept L fit b b1 (omega arith) safe at k))) res) (λ u v is js. sides_range x y hs s names m b u v at.ranged h is js))
-    flags_run (Literal z) s b n k rest is safe at h res = absurd cc
-    flags_run (Variable x) s b n k rest is safe at h res = absurd cc
-    flags_run (Element a i) s b n k rest is safe at h res = absurd cc
-    flags_run (Unary op e) s b n k rest is safe at h res = absurd cc
-    flags_run (Operation op x y) s b n k rest is safe at h res = absurd cc
-    flags_run (Shift left e z) s b n k rest is safe at h res = absurd cc
-    flags_run (Conversion e t) s b n k rest is safe at h res = absurd cc
-    flags_run (Choice c x y) s b n k rest is safe at h res = absurd cc
-    flags_run (Both x y) s b n k rest is safe at h res = absurd cc
-    flags_run (Either x y) s b n k rest is safe at h res = absurd cc
-    flags_run (Not e) s b n k rest is safe at h res = absurd cc
+        (sides_run x y hs s names b n _ safe h (λ T r e. exact _ hs b c n x s stand names m (Some T) at.ranged at.told (left T e) (loose_standing x s Whole T b c n r (omega arith) (left T e) safe at)) (λ T t e k. exact _ hs b1 c (n + labels s.index x) y s stand names m (Some T) at.ranged at.told (right T e) (loose_standing y s Whole T b1 c _ _ (omega arith) (right T e) (safe_later L hs b b1 (omega arith) safe) (standing_kept L fit b b1 (omega arith) safe at k))) res) (λ u v is js. sides_range x y hs s names m b u v at.ranged h is js))
+    flags_standing (Literal z) s b n k rest is cov safe at h res = absurd cc
+    flags_standing (Variable x) s b n k rest is cov safe at h res = absurd cc
+    flags_standing (Element a i) s b n k rest is cov safe at h res = absurd cc
+    flags_standing (Unary op e) s b n k rest is cov safe at h res = absurd cc
+    flags_standing (Operation op x y) s b n k rest is cov safe at h res = absurd cc
+    flags_standing (Shift left e z) s b n k rest is cov safe at h res = absurd cc
+    flags_standing (Conversion e t) s b n k rest is cov safe at h res = absurd cc
+    flags_standing (Choice c x y) s b n k rest is cov safe at h res = absurd cc
+    flags_standing (Both x y) s b n k rest is cov safe at h res = absurd cc
+    flags_standing (Either x y) s b n k rest is cov safe at h res = absurd cc
+    flags_standing (Not e) s b n k rest is cov safe at h res = absurd cc
 
     -- what the code of a condition does
-    pub jump_runs : (e : Term) {w : Fixed L} {hs : Homes} (s : Scope) {names : Names} {m : Memory} {st : State} (sense : Bool) (to b n : ℕ) (rest : List Entry) → AreSafe L b hs → At w hs s.visible names m b st → FitsTruth L hs s b e → Resolves D (jump_code L hs s sense to b n e rest)
+    pub jump_standing : (e : Term) {w : Fixed L} {hs : Homes} (s : Scope) {stand names : Names} {m : Memory} {st : State} (sense : Bool) (to b n : ℕ) (rest : List Entry) → covers_truth L.loose s e ≡ true → AreSafe L b hs → Standing w hs s.visible stand names m b st → FitsTruth L hs s b e → Resolves D (jump_code L hs s sense to b n e rest)
         → Turns D L (jump_code L hs s sense to b n e rest) st to rest b (b + term_size s.index e) m (coded_words L.constants s.index e) sense (holds s e m names)
-    jump_runs (Comparison op x y) {hs = hs} s {names = names} {m = m} {st = st} sense to b n rest safe at h res =
+    jump_standing (Comparison op x y) {hs = hs} s {stand = stand} {names = names} {m = m} {st = st} sense to b n rest cov safe at h res =
         let want = side_type s x y in
+        let both = and_parts (covers L.loose s Whole want x) _ cov in
+        let left = λ (T : Ty) (e : want ≡ Some T). covers_at L.loose s Whole x want T e both.0 in
+        let right = λ (T : Ty) (e : want ≡ Some T). covers_at L.loose s Whole y want T e both.1 in
         let b1 = b + term_size s.index x in let c = b1 + term_size s.index y in
         let hx = home_high x hs s want b c (omega arith) h.1 safe in
         op_turns (compare_on op) ((coded_words L.constants s.index x + coded_words L.constants s.index y + 4)) (omega arith) (omega arith) (omega arith)
-        (sides_run x y hs s names b n _ safe h (λ T r. exact hs b c n x s names m (Some T) at.ranged (loose_runs x s Whole T b c n r (omega arith) safe at)) (λ T t k. exact hs b1 c (n + labels s.index x) y s names m (Some T) at.ranged (loose_runs y s Whole T b1 c _ _ (omega arith) (safe_later L hs b b1 (omega arith) safe) (at_kept L fit b b1 (omega arith) safe at k))) res)
+        (sides_run x y hs s names b n _ safe h (λ T r e. exact _ hs b c n x s stand names m (Some T) at.ranged at.told (left T e) (loose_standing x s Whole T b c n r (omega arith) (left T e) safe at)) (λ T t e k. exact _ hs b1 c (n + labels s.index x) y s stand names m (Some T) at.ranged at.told (right T e) (loose_standing y s Whole T b1 c _ _ (omega arith) (right T e) (safe_later L hs b b1 (omega arith) safe) (standing_kept L fit b b1 (omega arith) safe at k))) res)
         (λ t u v is js ex ey. let r = sides_range x y hs s names m b u v at.ranged h is js in branch_goes D L fit to rest op (compared_number want y) sense (signed_side want) u v (home L hs s.index b x) (home L hs s.index b1 y) c (b + (term_size s.index x + term_size s.index y + 1)) (compared_small want y) hx r.0 r.1 ex ey)
-    jump_runs (Both x y) {hs = hs} s true to b n rest safe at h res =
+    jump_standing (Both x y) {hs = hs} s true to b n rest cov safe at h res =
+        let both = and_parts (covers_truth L.loose s x) _ cov in
         let b1 = b + term_size s.index x in
-        let r1 = jump_back x hs s false n b (n + 1) _ res in
-        let r2 = jump_back y hs s true to b1 _ _ r1 in
+        let r1 = jump_back D L fit x hs s false n b (n + 1) _ res in
+        let r2 = jump_back D L fit y hs s true to b1 _ _ r1 in
         over_turn D L fit false ((coded_words L.constants s.index x + coded_words L.constants s.index y + 4)) (omega arith) (omega arith) (omega arith) (omega arith) r2.0
-        (jump_runs x s false n b (n + 1) _ safe at h.0 res)
-        (λ t k. jump_runs y s true to b1 _ _ (safe_later L hs b b1 (omega arith) safe) (at_kept L fit b b1 (omega arith) safe at k) h.1 r1)
-    jump_runs (Both x y) {hs = hs} s false to b n rest safe at h res =
+        (jump_standing x s false n b (n + 1) _ both.0 safe at h.0 res)
+        (λ t k. jump_standing y s true to b1 _ _ both.1 (safe_later L hs b b1 (omega arith) safe) (standing_kept L fit b b1 (omega arith) safe at k) h.1 r1)
+    jump_standing (Both x y) {hs = hs} s false to b n rest cov safe at h res =
+        let both = and_parts (covers_truth L.loose s x) _ cov in
         let b1 = b + term_size s.index x in
-        let r1 = jump_back x hs s false to b (n + 1) _ res in
+        let r1 = jump_back D L fit x hs s false to b (n + 1) _ res in
         both_turn D L fit false ((coded_words L.constants s.index x + coded_words L.constants s.index y + 4)) (omega arith) (omega arith) (omega arith) (omega arith)
-        (jump_runs x s false to b (n + 1) _ safe at h.0 res)
-        (λ t k. jump_runs y s false to b1 _ _ (safe_later L hs b b1 (omega arith) safe) (at_kept L fit b b1 (omega arith) safe at k) h.1 r1)
-    jump_runs (Either x y) {hs = hs} s true to b n rest safe at h res =
+        (jump_standing x s false to b (n + 1) _ both.0 safe at h.0 res)
+        (λ t k. jump_standing y s false to b1 _ _ both.1 (safe_later L hs b b1 (omega arith) safe) (standing_kept L fit b b1 (omega arith) safe at k) h.1 r1)
+    jump_standing (Either x y) {hs = hs} s true to b n rest cov safe at h res =
+        let both = and_parts (covers_truth L.loose s x) _ cov in
         let b1 = b + term_size s.index x in
         let b2 = b1 + 1 in
-        let r1 = jump_back x hs s true to b (n + 1) _ res in
+        let r1 = jump_back D L fit x hs s true to b (n + 1) _ res in
         both_turn D L fit true ((coded_words L.constants s.index x + 4 + coded_words L.constants s.index y + 4)) (omega arith) (omega arith) (omega arith) (omega arith)
-        (turns_more D L fit b2 (coded_words L.constants s.index x) (omega arith) (omega arith) (jump_runs x s true to b (n + 1) _ safe at h.0 res))
-        (λ t k. jump_runs y s true to b2 _ _ (safe_later L hs b b2 (omega arith) safe) (at_kept L fit b b2 (omega arith) safe at k) h.1 r1)
-    jump_runs (Either x y) {hs = hs} s false to b n rest safe at h res =
+        (turns_more D L fit b2 (coded_words L.constants s.index x) (omega arith) (omega arith) (jump_standing x s true to b (n + 1) _ both.0 safe at h.0 res))
+        (λ t k. jump_standing y s true to b2 _ _ both.1 (safe_later L hs b b2 (omega arith) safe) (standing_kept L fit b b2 (omega arith) safe at k) h.1 r1)
+    jump_standing (Either x y) {hs = hs} s false to b n rest cov safe at h res =
+        let both = and_parts (covers_truth L.loose s x) _ cov in
         let b1 = b + term_size s.index x in
         let b2 = b1 + 1 in
-        let r1 = jump_back x hs s true n b (n + 1) _ res in
-        let r2 = jump_back y hs s false to b2 _ _ r1 in
+        let r1 = jump_back D L fit x hs s true n b (n + 1) _ res in
+        let r2 = jump_back D L fit y hs s false to b2 _ _ r1 in
         over_turn D L fit true ((coded_words L.constants s.index x + 4 + coded_words L.constants s.index y + 4)) (omega arith) (omega arith) (omega arith) (omega arith) r2.0
-        (turns_more D L fit b2 (coded_words L.constants s.index x) (omega arith) (omega arith) (jump_runs x s true n b (n + 1) _ safe at h.0 res))
-        (λ t k. jump_runs y s false to b2 _ _ (safe_later L hs b b2 (omega arith) safe) (at_kept L fit b b2 (omega arith) safe at k) h.1 r1)
-    jump_runs (Not e) s sense to b n rest safe at h res =
-        turns_more D L fit _ ((coded_words L.constants s.index e + 4)) (omega arith) (omega arith) (not_turns D L fit sense (jump_runs e s (not sense) to b n rest safe at h res))
-    jump_runs (Literal z) s sense to b n rest safe at h res = absurd h
-    jump_runs (Variable x) s sense to b n rest safe at h res = absurd h
-    jump_runs (Element a i) s sense to b n rest safe at h res = absurd h
-    jump_runs (Unary op e) s sense to b n rest safe at h res = absurd h
-    jump_runs (Operation op x y) s sense to b n rest safe at h res = absurd h
-    jump_runs (Shift left e z) s sense to b n rest safe at h res = absurd h
-    jump_runs (Conversion e t) s sense to b n rest safe at h res = absurd h
-    jump_runs (Choice c x y) s sense to b n rest safe at h res = absurd h
+        (turns_more D L fit b2 (coded_words L.constants s.index x) (omega arith) (omega arith) (jump_standing x s true n b (n + 1) _ both.0 safe at h.0 res))
+        (λ t k. jump_standing y s false to b2 _ _ both.1 (safe_later L hs b b2 (omega arith) safe) (standing_kept L fit b b2 (omega arith) safe at k) h.1 r1)
+    jump_standing (Not e) s sense to b n rest cov safe at h res =
+        turns_more D L fit _ ((coded_words L.constants s.index e + 4)) (omega arith) (omega arith) (not_turns D L fit sense (jump_standing e s (not sense) to b n rest cov safe at h res))
+    jump_standing (Literal z) s sense to b n rest cov safe at h res = absurd h
+    jump_standing (Variable x) s sense to b n rest cov safe at h res = absurd h
+    jump_standing (Element a i) s sense to b n rest cov safe at h res = absurd h
+    jump_standing (Unary op e) s sense to b n rest cov safe at h res = absurd h
+    jump_standing (Operation op x y) s sense to b n rest cov safe at h res = absurd h
+    jump_standing (Shift left e z) s sense to b n rest cov safe at h res = absurd h
+    jump_standing (Conversion e t) s sense to b n rest cov safe at h res = absurd h
+    jump_standing (Choice c x y) s sense to b n rest cov safe at h res = absurd h
+
+  -- ---- the same of registers that have what stands of the names
+
+  -- what the code of an expression does
+  pub loose_runs : (e : Term) {W : Fixed L} {hs : Homes} (s : Scope) {names : Names} {m : Memory} {st : State} (w : Extent) (T : Ty) (b user n : ℕ) (rest : List Entry) → b + term_size s.index e ≤ user → covers L.loose s w (Some T) e ≡ true → AreSafe L b hs → (at : At W hs s.visible names m b st) → LooseRuns D L e hs s at.stand names m st w b user n rest (Some T)
+  loose_runs e s w T b user n rest le cov safe at = loose_standing e s w T b user n rest le cov safe (standing at)
+
+  pub parts_runs : (e : Term) {W : Fixed L} {hs : Homes} (s : Scope) {names : Names} {m : Memory} {st : State} (op : BinaryOp) (w : Extent) (T : Ty) (b user n : ℕ) (rest : List Entry) → b + term_size s.index e ≤ user → covers L.loose s w (Some T) e ≡ true → is_fused s op w (Some T) e ≡ true → AreSafe L b hs → (at : At W hs s.visible names m b st) → Fits L hs s (Some T) b user e
+      → Resolves D (parts_code L hs s w (Some T) b n e rest)
+      → Sided D L (parts_code L hs s w (Some T) b n e rest) st rest b (b + term_size s.index e) (IsOperand (part_side L hs s.index (Some T) b e)) m (coded_words L.constants s.index e) (loose s w (Some T) e m at.stand names)
+  parts_runs e s op w T b user n rest le cov f safe at h res = parts_standing e s op w T b user n rest le cov f safe (standing at) h res
+
+  -- what the code of a condition does
+  pub jump_runs : (e : Term) {w : Fixed L} {hs : Homes} (s : Scope) {names : Names} {m : Memory} {st : State} (sense : Bool) (to b n : ℕ) (rest : List Entry) → covers_truth L.loose s e ≡ true → AreSafe L b hs → At w hs s.visible names m b st → FitsTruth L hs s b e → Resolves D (jump_code L hs s sense to b n e rest)
+      → Turns D L (jump_code L hs s sense to b n e rest) st to rest b (b + term_size s.index e) m (coded_words L.constants s.index e) sense (holds s e m names)
+  jump_runs e s sense to b n rest cov safe at h res = jump_standing e s sense to b n rest cov safe (standing at) h res
 
   -- the right side of an operator
-  pub side_runs : (e : Term) {W : Fixed L} {hs : Homes} (s : Scope) {names : Names} {m : Memory} {st : State} (op : BinaryOp) (w : Extent) (T : Ty) (b user n : ℕ) (rest : List Entry) → b + term_size s.index e ≤ user → AreSafe L b hs → At W hs s.visible names m b st → Fits L hs s (Some T) b user e
+  pub side_runs : (e : Term) {W : Fixed L} {hs : Homes} (s : Scope) {names : Names} {m : Memory} {st : State} (op : BinaryOp) (w : Extent) (T : Ty) (b user n : ℕ) (rest : List Entry) → b + term_size s.index e ≤ user → covers L.loose s w (Some T) e ≡ true → AreSafe L b hs → (at : At W hs s.visible names m b st) → Fits L hs s (Some T) b user e
       → Resolves D (side_code (added_number op (Some T) e) (is_fused s op w (Some T) e) (loose_code L hs s w (Some T) b n e) (parts_code L hs s w (Some T) b n e) rest)
-      → Sided D L (side_code (added_number op (Some T) e) (is_fused s op w (Some T) e) (loose_code L hs s w (Some T) b n e) (parts_code L hs s w (Some T) b n e) rest) st rest b (b + term_size s.index e) (IsOperand (right_side L hs s op w (Some T) b e)) m (coded_words L.constants s.index e) (loose s w (Some T) e m names)
-  side_runs e {hs = hs} s {names = names} {m = m} op w T b user n rest le safe at h res =
-      sided_by _ _ (loose s w (Some T) e m names) (added_number op (Some T) e) (is_fused s op w (Some T) e) (home L hs s.index b e) (part_side L hs s.index (Some T) b e) (added_right op s w (Some T) e m names) res
-      (λ r. loose_runs e s w T b user n rest le safe at h r) (λ f r. parts_runs e s op w T b user n rest le f safe at h r)
+      → Sided D L (side_code (added_number op (Some T) e) (is_fused s op w (Some T) e) (loose_code L hs s w (Some T) b n e) (parts_code L hs s w (Some T) b n e) rest) st rest b (b + term_size s.index e) (IsOperand (right_side L hs s op w (Some T) b e)) m (coded_words L.constants s.index e) (loose s w (Some T) e m at.stand names)
+  side_runs e {hs = hs} s {names = names} {m = m} op w T b user n rest le cov safe at h res =
+      sided_by _ _ (loose s w (Some T) e m at.stand names) (added_number op (Some T) e) (is_fused s op w (Some T) e) (home L hs s.index b e) (part_side L hs s.index (Some T) b e) (added_right op s w (Some T) e m at.stand names) res
+      (λ r. loose_runs e s w T b user n rest le cov safe at h r) (λ f r. parts_runs e s op w T b user n rest le cov f safe at h r)
 
   -- a value itself
-  pub value_runs : (e : Term) {w : Fixed L} {hs : Homes} (s : Scope) {names : Names} {m : Memory} {st : State} (T : Ty) (b user n : ℕ) (rest : List Entry) → b + term_size s.index e ≤ user → AreSafe L b hs → At w hs s.visible names m b st → Runs D L e hs s names m st b user n rest (Some T)
-  value_runs e {hs = hs} s {names = names} {m = m} T b user n rest le safe at = exact hs b user n e s names m (Some T) at.ranged (loose_runs e s Whole T b user n rest le safe at)
+  pub value_runs : (e : Term) {w : Fixed L} {hs : Homes} (s : Scope) {names : Names} {m : Memory} {st : State} (T : Ty) (b user n : ℕ) (rest : List Entry) → b + term_size s.index e ≤ user → covers L.loose s Whole (Some T) e ≡ true → AreSafe L b hs → At w hs s.visible names m b st → Runs D L e hs s names m st b user n rest (Some T)
+  value_runs e {hs = hs} s {names = names} {m = m} T b user n rest le cov safe at = exact _ hs b user n e s at.stand names m (Some T) at.ranged at.told cov (loose_runs e s Whole T b user n rest le cov safe at)

@@ -99,7 +99,7 @@ hold_term p hs s (Not e) cs = hold_term p hs s e cs
 -- at most so many words load them
 abbrev pub key_words : Key → ℕ
 key_words (OfNumber z) = 4
-key_words (OfAddress q c) = 2
+key_words (OfAddress q c) = 1
 
 abbrev pub loading_words : List Constant → ℕ
 loading_words [] = 0

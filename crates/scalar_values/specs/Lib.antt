@@ -4,5 +4,6 @@ pub mod Extents
 pub mod Leaving
 pub mod Code
 pub mod Fits
+pub mod Covers
 pub mod Sides
 pub mod HeldNumbers

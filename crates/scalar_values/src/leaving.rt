@@ -5,7 +5,7 @@ ghost use Rattle.kernel_tree.specs.Plain.{term_of};
 ghost use Rattle.kernel_scope.specs.Scopes.{scope_of};
 ghost use Rattle.scalar_values.specs.Leaving as leaving;
 
-use crate::extent::{Extent, asked_extent, binary_joins, settles, within};
+use crate::extent::{Extent, asked_extent, binary_joins, settles, unary_joins, within};
 use kernel_meaning::{binary_leaves, unary_leaves};
 use kernel_scope::Scope;
 use kernel_tree::{BinaryOp, Expr, Ty, UnaryOp};
@@ -54,7 +54,21 @@ pub fn shift_may_leave(
     left_shift && !shift_stays(scope, want, left_shift, arg, count)
 }
 
-/// What is asked of the operands of an operator on two values, of which so much is asked for.
+/// What is asked of the operand of an operator on one value, of which so much is asked for.
+pub fn unary_asks(
+    scope: &Scope,
+    want: Option<Ty>,
+    op: UnaryOp,
+    arg: &Expr,
+    extent: Extent,
+) -> Extent
+    ensures { result ≡ leaving.unary_asks (scope_of scope.now) want op (term_of arg.now) extent }
+{
+    let may_leave = unary_may_leave(scope, want, op, arg);
+    asked_extent(unary_joins(op), may_leave, extent, want)
+}
+
+/// The same of an operator on two values.
 pub fn binary_asks(
     scope: &Scope,
     want: Option<Ty>,

@@ -1,6 +1,7 @@
 //! The code of expressions and conditions.
 #![tactic(auto)]
 
+pub mod covers;
 pub mod emit;
 pub mod extent;
 mod fusion;

@@ -1,18 +1,19 @@
 -- What stretches of code keep, and what stands in the registers.
-use Rattle.std.proofs.Common.{◌≡◌, ◌≢◌, ℕ, suc, ◌^◌, ◌<◌, ◌≤◌, Bool, true, false, List, [], ◌∷◌, length, Option, Some, None, cond, refl, sym, ap, ◌∙◌, subst, arith, length-set, get_or-set_same, get_or-set_other}
-use Rattle.std.specs.Prelude.{pos, ◌+ℤ◌, slice_index, unwrap_or, option_map, bytes_eq}
+use Rattle.std.proofs.Common.{◌≡◌, ◌≢◌, ℕ, suc, ◌*◌, ◌^◌, ◌<◌, ◌≤◌, Bool, true, false, List, [], ◌∷◌, length, ◌%◌, Option, Some, None, cond, refl, sym, ap, ◌∙◌, subst, arith, length-set, get_or-set_same, get_or-set_other}
+use Rattle.std.specs.Prelude.{ℤ, pos, ◌+ℤ◌, ◌-ℤ◌, slice_index, unwrap_or, option_map, bytes_eq}
 use Rattle.std.specs.List.{find}
 use Rattle.guest_types.specs.Memory.{Memory, IsMemory}
 use Rattle.machine_model.specs.Machine.{State, x_at, with_x, next}
 use Rattle.machine_model.specs.States.{IsState}
 use Rattle.machine_model.proofs.StateSteps.{moved, x_kept}
 use Rattle.kernel_meaning.specs.Operators.{word}
-use Rattle.kernel_meaning.specs.Eval.{Named, Names, is_named, value_at}
+use Rattle.kernel_meaning.specs.Eval.{Named, Names, is_named, value_at, byte_count}
 use Rattle.kernel_tree.specs.Typing.{Local}
+use Rattle.kernel_tree.specs.Wrap.{bits_of}
 pub use Rattle.scalar_words.specs.Safe.{Assigned, IsSafe, AreSafe}
 pub use Rattle.kernel_meaning.specs.Ranges.{TypeRange, AreRanged}
 pub use Rattle.scalar_words.specs.Iterations.{Frame, frame_of}
-use Rattle.scalar_words.specs.Layout.{Key, OfNumber, OfAddress, Layout, reg_of, constant_at, IsMade, Home, Homes, is_home, register_of, register_at, Lasts, LastsAt, NameLasts}
+use Rattle.scalar_words.specs.Layout.{Key, OfNumber, OfAddress, Form, LowBits, Ahead, Behind, Loose, loose_in, Layout, reg_of, constant_at, IsMade, Home, Homes, is_home, register_of, register_at, Lasts, LastsAt, NameLasts}
 
 -- the state after a word that writes one register
 abbrev pub wrote : State → ℕ → ℕ → State
@@ -66,12 +67,29 @@ key_word args (OfAddress q c) = word (pos (slice_index args q) +ℤ c)
 abbrev pub IsLoaded : Layout → List ℕ → Type 0
 IsLoaded L args = (z : Key) (r : ℕ) → constant_at L z ≡ Some r → slice_index args r ≡ key_word args z
 
--- what stays in an iteration: its number, and the registers below X9, with the arguments and what is held
+-- what stays in an iteration: what stands in X9, how many iterations the loop has, and the registers below X9, with the
+-- arguments and what is held
 pub record Fixed (L : Layout) : Type 0 where
   pub index : ℕ
+  pub count : ℕ
   pub args : List ℕ
   pub loaded : IsLoaded L args
 
+-- what stands in a register of a name's value, in a loop of so many iterations
+abbrev pub Tells : (count : ℕ) → Option Form → ℤ → ℤ → Type 0
+Tells count None z v = z ≡ v
+Tells count (Some (LowBits t)) z v = word z % 2 ^ bits_of t ≡ word v % 2 ^ bits_of t
+Tells count (Some (Ahead t)) z v = z ≡ v +ℤ pos (byte_count t * count)
+Tells count (Some Behind) z v = z ≡ v -ℤ pos count
+
+-- and of the values of all names, by those that are held loosely
+abbrev pub Told : List Loose → (count : ℕ) → (stand names : Names) → Type 0
+Told ls count [] [] = Unit {0}
+Told ls count [] (n ∷ ns) = ⊥
+Told ls count (z ∷ zs) [] = ⊥
+Told ls count (z ∷ zs) (n ∷ ns) = (z.name ≡ n.name) × Tells count (loose_in ls n.name) z.value n.value × Told ls count zs ns
+
+-- the registers have what stands of the names
 pub record At {L : Layout} (w : Fixed L) (homes : Homes) (ls : List Local) (names : Names) (m : Memory) (p : ℕ) (s : State) : Type 0 where
   pub sized : length s.x ≡ 31
   pub nine : x_at s 9 ≡ w.index
@@ -79,7 +97,9 @@ pub record At {L : Layout} (w : Fixed L) (homes : Homes) (ls : List Local) (name
   pub ranged : AreRanged ls names
   pub memory : s.memory ≡ m
   pub good : IsMemory m
-  pub held : Held homes names p s
+  pub stand : Names
+  pub told : Told L.loose w.count stand names
+  pub held : Held homes stand p s
 
 pub lasts_less : (o : Option ℕ) (p q : ℕ) → q ≤ p → Lasts o p → Lasts o q
 lasts_less None p q le h = tt
@@ -155,7 +175,9 @@ module _ (L : Layout) where
     ranged = at.ranged;
     memory = k.memory ∙ at.memory;
     good = at.good;
-    held = held_kept homes names b e s t le safe k at.held;
+    stand = at.stand;
+    told = at.told;
+    held = held_kept homes at.stand b e s t le safe k at.held;
   }
 
   -- the register of a visible name

@@ -12,7 +12,7 @@ use Rattle.reg_assign.specs.Registers.{Assignment}
 use Rattle.loop_form.specs.Needs.{throughout, accumulating_of, span, spans_of, whole}
 use Rattle.loop_form.specs.Registers.{FitsKernel}
 use Rattle.loop_form.specs.Listing.{item_of, last_use_in, listing_of}
-use Rattle.scalar_words.specs.Layout.{Constant, Layout}
+use Rattle.scalar_words.specs.Layout.{Constant, Loose, Layout}
 use Rattle.scalar_words.specs.KernelRegisters.{counted_x, x_last_use, one_reg, one_value, count_values, regs_from, item_regs, item_last_use, layout_of_kernel}
 
 one_same : (R : ℕ → ℕ) (j : ℕ) (o : Option ℕ) (f g : ℕ → List ℕ) → ((n : ℕ) → f n ≡ g n) → one_reg R j o f ≡ one_reg R j o g
@@ -27,16 +27,16 @@ untils_listed : (all es : List Entry) → map item_last_use (map (item_of all) e
 untils_listed all [] = refl
 untils_listed all (e ∷ es) = ap (λ l. x_last_use all e ∷ l) (untils_listed all es)
 
-abbrev made : List Constant → List ℕ → List ℕ → Layout
-made constants regs untils = record { regs = regs; untils = untils; constants = constants }
+abbrev made : List Constant → List Loose → List ℕ → List ℕ → Layout
+made constants loose regs untils = record { regs = regs; untils = untils; constants = constants; loose = loose }
 
-pub layout_is : (R : ℕ → ℕ) (k : Program) (p : Layout) (j : ℕ) (items : List Item) → items ≡ listing_of k → j ≡ length k.vars → p.regs ≡ item_regs R j items → p.untils ≡ map item_last_use items → p.constants ≡ [] → p ≡ layout_of_kernel R k
-layout_is R k p j items e f g h none =
+pub layout_is : (R : ℕ → ℕ) (k : Program) (p : Layout) (j : ℕ) (items : List Item) → items ≡ listing_of k → j ≡ length k.vars → p.regs ≡ item_regs R j items → p.untils ≡ map item_last_use items → p.constants ≡ [] → p.loose ≡ [] → p ≡ layout_of_kernel R k
+layout_is R k p j items e f g h none exact =
     let all = entries_of k in
-    ap₂ (made p.constants)
+    ap₂ (made p.constants p.loose)
     (g ∙ ap₂ (item_regs R) f e ∙ regs_listed R all (length k.vars) all)
     (h ∙ ap (map item_last_use) e ∙ untils_listed all all)
-    ∙ ap (λ cs. made cs (layout_of_kernel R k).regs (layout_of_kernel R k).untils) none
+    ∙ ap₂ (λ cs ls. made cs ls (layout_of_kernel R k).regs (layout_of_kernel R k).untils) none exact
 
 pub count_params : (ps : List Param) → length (parameters_of ps) ≡ length ps
 count_params [] = refl

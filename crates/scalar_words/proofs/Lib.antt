@@ -1,7 +1,9 @@
 pub mod RegisterAmong
 pub mod RegisterHolding
+pub mod FormAmong
 pub mod Words
 pub mod LayoutStates
+pub mod Told
 pub mod WordsRuns
 pub mod Constants
 pub mod Compare

@@ -1,6 +1,7 @@
 -- Where values are kept.
 use Rattle.std.specs.Prelude.{ℕ, ◌<◌, ◌≤◌, ℤ, List, Option, Some, None, option_map, unwrap_or, slice_index, nat_eq, Bool, false, ◌&&◌, bytes_eq}
 use Rattle.std.specs.List.{find}
+use Rattle.kernel_tree.specs.declared.ops.Ty.{Ty}
 use Rattle.loop_form.specs.Needs.{same_number}
 
 -- what a register may hold while iterations last: a number, or the address in another register and so many bytes more
@@ -12,11 +13,24 @@ pub record Constant : Type 0 where
   pub key : Key
   pub register : ℕ
 
--- by item: the register of its value, and the item that uses it last; and what is held
+-- what stands in a name's register while iterations last, where it is not the value itself: an integer with the low bits of the
+-- value of a type; an array's address, ahead by as many elements of a type as the loop has iterations; a number, behind by as many
+pub data Form : Type 0 where
+  LowBits : Ty → Form
+  Ahead : Ty → Form
+  Behind : Form
+
+pub record Loose : Type 0 where
+  pub name : List ℕ
+  pub form : Form
+
+-- by item: the register of its value, and the item that uses it last; what is held; and the names whose registers do not hold
+-- the value itself
 pub record Layout : Type 0 where
   pub regs : List ℕ
   pub untils : List ℕ
   pub constants : List Constant
+  pub loose : List Loose
 
 abbrev pub reg_of : Layout → ℕ → ℕ
 reg_of L p = slice_index L.regs p
@@ -55,7 +69,23 @@ IsGiven p (OfAddress q c) = q < p
 
 -- a layout that holds these
 abbrev pub with_constants : Layout → List Constant → Layout
-with_constants L cs = record { regs = L.regs; untils = L.untils; constants = cs }
+with_constants L cs = record { regs = L.regs; untils = L.untils; constants = cs; loose = L.loose }
+
+-- ---- names that are held loosely
+
+abbrev pub is_loose : List ℕ → Loose → Bool
+is_loose x l = bytes_eq l.name x
+
+abbrev pub loose_form : Loose → Form
+loose_form l = l.form
+
+-- what stands in a name's register; None where the value itself does
+abbrev pub loose_in : List Loose → List ℕ → Option Form
+loose_in ls x = option_map loose_form (find (is_loose x) ls)
+
+-- a layout that holds these loosely
+abbrev pub with_loose : Layout → List Loose → Layout
+with_loose L ls = record { regs = L.regs; untils = L.untils; constants = L.constants; loose = ls }
 
 -- ---- names
 

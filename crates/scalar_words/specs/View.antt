@@ -7,6 +7,9 @@ use Rattle.scalar_words.specs.declared.constant.Constant.{Constant}
 use Rattle.scalar_words.specs.declared.constant.Key.{Key}
 use Rattle.scalar_words.specs.declared.constant.Key.TheVariants as key
 use Rattle.scalar_words.specs.declared.home.Home.{Home}
+use Rattle.scalar_words.specs.declared.loose.Loose.{Loose}
+use Rattle.scalar_words.specs.declared.loose.Form.{Form}
+use Rattle.scalar_words.specs.declared.loose.Form.TheVariants as form
 use Rattle.scalar_words.specs.Layout as plain
 
 abbrev pub register_number : Bits 5 → ℕ
@@ -22,8 +25,28 @@ constant_of c = record { key = key_of c.key; register = c.register.number }
 abbrev pub constants_of : List Constant → List plain.Constant
 constants_of cs = map constant_of cs
 
-abbrev pub layout_of : List (Bits 5) → List ℕ → List Constant → plain.Layout
-layout_of regs untils constants = record { regs = map register_number regs; untils = untils; constants = constants_of constants }
+abbrev pub form_of : Form → plain.Form
+form_of (form.LowBits t) = plain.LowBits t
+form_of (form.Ahead t) = plain.Ahead t
+form_of form.Behind = plain.Behind
+
+abbrev pub loose_of : Loose → plain.Loose
+loose_of l = record { name = lent_text l.name; form = form_of l.form }
+
+abbrev pub looses_of : List Loose → List plain.Loose
+looses_of ls = map loose_of ls
+
+abbrev pub called : List ℕ → Loose → Bool
+called x l = bytes_eq (lent_text l.name) x
+
+abbrev pub form_in : Loose → Form
+form_in l = l.form
+
+abbrev pub form_among : List Loose → List ℕ → Option Form
+form_among ls x = option_map form_in (find (called x) ls)
+
+abbrev pub layout_of : List (Bits 5) → List ℕ → List Constant → List Loose → plain.Layout
+layout_of regs untils constants loose = record { regs = map register_number regs; untils = untils; constants = constants_of constants; loose = looses_of loose }
 
 abbrev pub keyed : plain.Key → Constant → Bool
 keyed z c = plain.same_key (key_of c.key) z

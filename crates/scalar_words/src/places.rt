@@ -3,17 +3,19 @@
 ghost use Rattle.std.specs.Prelude.{◌≡◌, ℕ, ◌+◌, ◌<◌, ◌≤◌, ◌^◌, List, [], ◌∷◌, ◌++◌, IfOk, OnOk, length, map, option_map, unwrap_or};
 ghost use Rattle.loop_form.specs.Listing.{listing_of};
 ghost use Rattle.loop_form.specs.View.{program};
+ghost use Rattle.kernel_tree.specs.Plain.{name_of};
 ghost use Rattle.reg_assign.specs.declared.interval.RegClass.TheVariants.{X};
 ghost use Rattle.reg_assign.specs.Registers.{IsAssignment};
 ghost use Rattle.loop_form.specs.Registers.{FitsKernel};
-ghost use Rattle.scalar_words.specs.Layout.{reg_of, last_use_at, constant_at, with_constants};
-ghost use Rattle.scalar_words.specs.View.{constants_of, key_of, register_number};
+ghost use Rattle.scalar_words.specs.Layout.{reg_of, last_use_at, constant_at, with_constants, loose_in, with_loose};
+ghost use Rattle.scalar_words.specs.View.{constants_of, looses_of, form_of, key_of, register_number};
 ghost use Rattle.scalar_words.specs.KernelRegisters.{counted_x, register_in, one_reg, one_value, count_values, item_regs, item_last_use, layout_of_kernel};
 
 use crate::constant::{Constant, Key, constant_in};
 use crate::laws::each_has_a_register;
+use crate::loose::{Form, Loose, loose_form};
 use a64_code::Reg;
-use kernel_tree::Checked;
+use kernel_tree::{Checked, Name};
 use loop_form::Item;
 use loop_form::laws::few_items;
 use reg_assign::Assigned;
@@ -21,24 +23,26 @@ use std::alloc::{AllocError, Global};
 use std::marker::Model;
 use word_rows::Bits;
 
-/// The register and the last use of each item, and the registers that hold numbers and addresses.
+/// The register and the last use of each item, the registers that hold numbers and addresses, and the names that are held
+/// loosely.
 #[derive(Drop)]
-pub struct Places {
+pub struct Places<'a> {
     regs: Vec<Reg>,
     untils: Vec<usize>,
     constants: Vec<Constant>,
+    loose: Vec<Loose<'a>>,
 }
 
-impl Model for Places {
+impl<'a> Model for Places<'a> {
     ghost use Rattle.scalar_words.specs.Layout.{Layout};
     ghost use Rattle.scalar_words.specs.View.{layout_of};
 
     ghost Value = { Layout };
 
-    ghost view = { λ p. layout_of p.regs.items p.untils.items p.constants.items };
+    ghost view = { λ p. layout_of p.regs.items p.untils.items p.constants.items p.loose.items };
 }
 
-impl Places {
+impl<'a> Places<'a> {
     /// The register of an item.
     pub fn reg(&self, item: usize) -> Reg
         ensures { result.number ≡ reg_of self.now item }
@@ -79,6 +83,27 @@ impl Places {
     {
         self.constants = constants;
     }
+
+    /// What stands in a name's register; None where the value itself does.
+    pub fn loose_form(&self, name: &Name) -> Option<Form>
+        ensures { option_map form_of result ≡ loose_in self.now.loose (name_of name.now) }
+    {
+        loose_form(&self.loose, name)
+    }
+
+    /// The names that are held loosely.
+    pub fn loose(&self) -> &[Loose<'a>]
+        ensures { looses_of result.now ≡ self.now.loose }
+    {
+        &self.loose
+    }
+
+    /// These are held loosely, and no others.
+    pub fn loosen(&mut self, loose: Vec<Loose<'a>>)
+        ensures { self.new ≡ with_loose self.old (looses_of loose.entry.items) }
+    {
+        self.loose = loose;
+    }
 }
 
 /// The register of an interval, by the numbers of the registers of all of them: X10 to X17 and X19 to X25 are counted.
@@ -114,6 +139,7 @@ fn add_item(
         ≡ places.old.regs ++ one_reg (register_in regs.now) interval.old last_use more) }
     ensures untils { OnOk result (places.new.untils ≡ places.old.untils ++ unwrap_or last_use 0 ∷ []) }
     ensures constants { OnOk result (places.new.constants ≡ places.old.constants) }
+    ensures loose { OnOk result (places.new.loose ≡ places.old.loose) }
     ensures next { OnOk result (interval.new ≡ interval.old + one_value last_use) }
 {
     match last_use {
@@ -132,23 +158,25 @@ fn add_item(
 }
 
 // Items the first interval of which has this number.
-fn place_items(
+fn place_items<'a>(
     alloc: Global,
     regs: &Assigned,
     first: usize,
     items: &[Item],
-) -> Result<Places, AllocError>
+) -> Result<Places<'a>, AllocError>
     requires assigned { IsAssignment 15 regs.now }
     requires within { first + count_values items.now ≤ length regs.now.registers }
     requires room { first ≤ 1000 }
     ensures regs { IfOk result (λ p. p.regs ≡ item_regs (register_in regs.now) first items.now) }
     ensures untils { IfOk result (λ p. p.untils ≡ map item_last_use items.now) }
     ensures constants { IfOk result (λ p. p.constants ≡ []) }
+    ensures loose { IfOk result (λ p. p.loose ≡ []) }
 {
     let mut places = Places {
         regs: Vec::new(alloc),
         untils: Vec::new(alloc),
         constants: Vec::new(alloc),
+        loose: Vec::new(alloc),
     };
     let mut interval = first;
     for item in items {
@@ -159,12 +187,12 @@ fn place_items(
 
 /// The registers and last uses of a kernel's items, by its listing and the registers of its intervals of class X.
 #[tactic(auto, unfolding(loop_form::specs::View::program))]
-pub fn places_of(
+pub fn places_of<'a>(
     alloc: Global,
     kernel: &Checked,
     items: &[Item],
     regs: &Assigned,
-) -> Result<Places, AllocError>
+) -> Result<Places<'a>, AllocError>
     requires fits { FitsKernel (program kernel.now) X regs.now }
     requires listed { items.now ≡ listing_of (program kernel.now) }
     ensures { IfOk result (λ p. p ≡ layout_of_kernel (register_in regs.now) (program kernel.now)) }

@@ -6,6 +6,7 @@ use Rattle.kernel_tree.specs.Items.{turns_size, loop_end}
 use Rattle.label_fix.specs.DraftRun.{Entry}
 use Rattle.scalar_words.specs.KernelRegisters.{register_in}
 use Rattle.scalar_words.specs.View.{constants_of}
+use Rattle.scalar_emit.specs.Loosening.{after_loop}
 use Rattle.scalar_emit.proofs.Emission.{scalar_is, straight_is, held_is, bare_is}
 use Rattle.scalar_emit.proofs.kernel.emit_rest.Goals as goal
 
@@ -15,12 +16,12 @@ returns-in_ok-emit_following-in-Some-clause-code c rest =
     let R = register_in c.args.regs.now in
     let turns = ap (λ (o : Option Loop). option_map turns_of o) c.in-Some.is in
     let end : c.emit_turns.new.item ≡ loop_end k = c.in_ok-head-in-Some.ensures.item ∙ ap₂ (λ m n. m + n) c.requires.start (ap turns_size (sym turns)) in
-    let held = held_is R k c.hold_numbers.new.places c.args.places.now c.in_ok-hold_numbers-in-Some.ensures c.requires.places in
-    let left = bare_is R k c.hold.new.self c.hold_numbers.new.places _ c.hold.ensures (ap constants_of c.new.ensures.items) held in
+    let held = held_is R k c.loosen_names.new.places c.hold_numbers.new.places c.args.places.now c.in_ok-loosen_names-in-Some.ensures c.in_ok-hold_numbers-in-Some.ensures c.requires.places in
+    let left = bare_is R k c.loosen.new.self c.hold.new.self c.loosen_names.new.places _ _ c.loosen.ensures (c.in_ok-ahead.ensures ∙ ap after_loop c.loose.ensures) c.hold.ensures (ap constants_of c.new.ensures.items) held in
     c.in_ok-emit_following-in-Some.ensures.code rest
     ∙ c.in_ok-head-in-Some.ensures.code _
     ∙ ap (λ (es : List Entry). c.args.draft.now.entries ++ es)
-    (scalar_is R k c.hold_numbers.new.places c.hold.new.self (turns_of c.in-Some.turns) c.args.item c.args.draft.now.labels c.emit_turns.new.item c.emit_turns.new.draft.labels rest held left turns c.requires.start end c.in_ok-head-in-Some.ensures.labels)
+    (scalar_is R k c.loosen_names.new.places c.loosen.new.self (turns_of c.in-Some.turns) c.args.item c.args.draft.now.labels c.emit_turns.new.item c.emit_turns.new.draft.labels rest held left turns c.requires.start end c.in_ok-head-in-Some.ensures.labels)
 
 pub returns-in_ok-head-in-None-clause-code : goal.returns-in_ok-head-in-None-clause-code
 returns-in_ok-head-in-None-clause-code c rest =

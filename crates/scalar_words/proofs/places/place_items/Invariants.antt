@@ -8,5 +8,6 @@ invariant-loop-item l = record {
   room : l.interval ≤ l.first + l.item-index;
   regs : l.places.regs ++ item_regs (register_in l.regs) l.interval (drop l.item-index l.items) ≡ item_regs (register_in l.regs) l.first l.items;
   constants : l.places.constants ≡ [];
+  loose : l.places.loose ≡ [];
   untils : l.places.untils ++ map item_last_use (drop l.item-index l.items) ≡ map item_last_use l.items;
 }

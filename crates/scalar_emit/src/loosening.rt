@@ -1,0 +1,543 @@
+//! Which names a loop holds loosely: its variable and its arrays where it counts to zero, and accumulators.
+
+ghost use Rattle.std.specs.Prelude.{◌≡◌, ◌≤◌, List, true, [], ◌∷◌, ◌++◌, Some, None, IfOk, OnOk, length, option_map, option_and_then};
+ghost use Rattle.kernel_tree.specs.Plain.{Define, Put, Update, Choose, Nothing, Else, name_of, term_of, action_of, block_of, turns_of, returned_of, program_of};
+ghost use Rattle.kernel_tree.specs.Parts.{part_action};
+ghost use Rattle.kernel_scope.specs.Scopes.{scope_of};
+ghost use Rattle.reg_assign.specs.Registers.{IsAssignment};
+ghost use Rattle.scalar_words.specs.View.{form_of, loose_of, looses_of};
+ghost use Rattle.scalar_words.specs.Layout.{Behind, Loose, with_loose};
+ghost use Rattle.scalar_emit.specs.Statements.{is_effect};
+ghost use Rattle.kernel_meaning.specs.Operators as operators;
+ghost use Rattle.kernel_tree.specs.Items as items;
+ghost use Rattle.kernel_tree.specs.Typing as typing;
+ghost use Rattle.scalar_emit.specs.Loop as loops;
+ghost use Rattle.scalar_emit.specs.Loosening as loosening;
+ghost use Rattle.scalar_emit.specs.Statements as statements;
+
+use crate::arrays::add_block;
+use crate::variable::declare_index;
+use kernel_meaning::binary_leaves;
+use kernel_scope::{
+    Scope, accumulator_type, define, element_type, empty, first, leave, lookup, own_type,
+    visible_count,
+};
+use kernel_tree::{Answer, BinaryOp, Expr, Kernel, Loop, Name, Part, Stmt, Ty, UpdateOp, parts};
+use reg_assign::Assigned;
+use scalar_values::covers::{covers, covers_index, covers_truth, held_extent, is_enough, is_whole};
+use scalar_values::extent::{Extent, binary_extent, extent_at};
+use scalar_words::instructions::is_narrow;
+use scalar_words::names::declare_names;
+use scalar_words::operations::update_operator;
+use scalar_words::places::Places;
+use scalar_words::{Form, Home, Loose, loose_form};
+use std::alloc::{AllocError, Global};
+
+// ---- whether statements ask no more of a name than stands in its register
+
+fn covers_store(loose: &[Loose], scope: &Scope, array: &Name, index: &Expr, value: &Expr) -> bool
+    ensures { result ≡ loosening.covers_action (looses_of loose.now) (scope_of scope.now)
+        (Put (name_of array.now) (term_of index.now) (term_of value.now)) }
+{
+    let want = lookup(scope, array).and_then(element_type);
+    covers_index(loose, scope, array, index) && covers(loose, scope, extent_at(want), want, value)
+}
+
+// What an update asks of its accumulator and of its value.
+fn update_extent(loose: &[Loose], name: &Name, op: BinaryOp, want: Option<Ty>) -> Extent
+    ensures { result ≡ statements.update_extent (looses_of loose.now) (name_of name.now) op want }
+{
+    let held = held_extent(loose_form(loose, name));
+    binary_extent(op, held, want)
+}
+
+fn covers_update(loose: &[Loose], scope: &Scope, name: &Name, op: UpdateOp, value: &Expr) -> bool
+    ensures { result ≡ loosening.covers_action (looses_of loose.now) (scope_of scope.now)
+        (Update (name_of name.now) op (term_of value.now)) }
+{
+    let want = lookup(scope, name).and_then(accumulator_type);
+    let asked = update_extent(loose, name, update_operator(op), want);
+    is_enough(loose_form(loose, name), asked) && covers(loose, scope, asked, want, value)
+}
+
+fn covers_let<'a>(
+    loose: &[Loose],
+    scope: &mut Scope<'a>,
+    name: &'a Name,
+    ty: Option<Ty>,
+    value: &Expr,
+) -> Result<bool, AllocError>
+    ensures scope { OnOk result (scope_of scope.new
+        ≡ typing.after_action (scope_of scope.old) (Define (name_of name.now) ty (term_of value.now))) }
+    ensures covers { IfOk result (λ t. t ≡ loosening.covers_action (looses_of loose.now) (scope_of scope.old)
+        (Define (name_of name.now) ty (term_of value.now))) }
+{
+    let want = first(ty, own_type(scope, value));
+    let covered = is_whole(loose, name) && covers(loose, scope, Extent::Whole, want, value);
+    define(scope, name, want)?;
+    Ok(covered)
+}
+
+// A statement with no block, which defines no name.
+fn covers_effect(loose: &[Loose], scope: &Scope, part: Part) -> bool
+    requires effect { is_effect (part_action part) ≡ true }
+    ensures { result ≡ loosening.covers_action (looses_of loose.now) (scope_of scope.now) (part_action part.entry) }
+{
+    match part {
+        Part::Store {
+            array,
+            index,
+            value,
+        } => covers_store(loose, scope, array, index, value),
+        Part::Update { name, op, value } => covers_update(loose, scope, name, op, value),
+        Part::Break { cond } => covers_truth(loose, scope, cond),
+        _ => unreachable!(),
+    }
+}
+
+#[cycle(statements)]
+fn covers_stmt<'a>(
+    loose: &[Loose],
+    scope: &mut Scope<'a>,
+    stmt: &'a Stmt,
+) -> Result<bool, AllocError>
+    ensures scope { OnOk result (scope_of scope.new ≡ typing.after_action (scope_of scope.old) (action_of stmt.now)) }
+    ensures covers { IfOk result (λ t. t ≡ loosening.covers_action (looses_of loose.now) (scope_of scope.old)
+        (action_of stmt.now)) }
+{
+    match parts(stmt) {
+        Part::If { cond, block } => covers_if(loose, scope, cond, block),
+        Part::IfElse { cond, block, other } => covers_if_else(loose, scope, cond, block, other),
+        Part::Let { name, ty, value } => covers_let(loose, scope, name, ty, value),
+        part => Ok(covers_effect(loose, scope, part)),
+    }
+}
+
+#[cycle(statements)]
+fn covers_if<'a>(
+    loose: &[Loose],
+    scope: &mut Scope<'a>,
+    cond: &Expr,
+    block: &'a [Stmt],
+) -> Result<bool, AllocError>
+    ensures scope { OnOk result (scope_of scope.new
+        ≡ typing.after_action (scope_of scope.old) (Choose (term_of cond.now) (block_of block.now) Nothing)) }
+    ensures covers { IfOk result (λ t. t ≡ loosening.covers_action (looses_of loose.now) (scope_of scope.old)
+        (Choose (term_of cond.now) (block_of block.now) Nothing)) }
+{
+    let truth = covers_truth(loose, scope, cond);
+    let inner = covers_inner(loose, scope, block)?;
+    Ok(truth && inner)
+}
+
+#[cycle(statements)]
+fn covers_if_else<'a>(
+    loose: &[Loose],
+    scope: &mut Scope<'a>,
+    cond: &Expr,
+    block: &'a [Stmt],
+    other: &'a [Stmt],
+) -> Result<bool, AllocError>
+    ensures scope { OnOk result (scope_of scope.new
+        ≡ typing.after_action (scope_of scope.old)
+        (Choose (term_of cond.now) (block_of block.now) (Else (block_of other.now)))) }
+    ensures covers { IfOk result (λ t. t ≡ loosening.covers_action (looses_of loose.now) (scope_of scope.old)
+        (Choose (term_of cond.now) (block_of block.now) (Else (block_of other.now)))) }
+{
+    let truth = covers_truth(loose, scope, cond);
+    let inner = covers_inner(loose, scope, block)?;
+    let rest = covers_inner(loose, scope, other)?;
+    Ok(truth && (inner && rest))
+}
+
+// A block, after which its names are visible no more.
+#[cycle(statements)]
+fn covers_inner<'a>(
+    loose: &[Loose],
+    scope: &mut Scope<'a>,
+    block: &'a [Stmt],
+) -> Result<bool, AllocError>
+    ensures scope { OnOk result (scope_of scope.new
+        ≡ typing.left (scope_of scope.old) (typing.after_block (scope_of scope.old) (block_of block.now))) }
+    ensures covers { IfOk result (λ t. t ≡ loosening.covers_block (looses_of loose.now) (scope_of scope.old)
+        (block_of block.now)) }
+{
+    let visible = visible_count(scope);
+    let covered = covers_block(loose, scope, block)?;
+    leave(scope, visible);
+    Ok(covered)
+}
+
+// Statements, after which their names stay visible.
+#[cycle(statements)]
+fn covers_block<'a>(
+    loose: &[Loose],
+    scope: &mut Scope<'a>,
+    block: &'a [Stmt],
+) -> Result<bool, AllocError>
+    ensures scope { OnOk result (scope_of scope.new ≡ typing.after_block (scope_of scope.old) (block_of block.now)) }
+    ensures covers { IfOk result (λ t. t ≡ loosening.covers_block (looses_of loose.now) (scope_of scope.old)
+        (block_of block.now)) }
+{
+    let mut covered = true;
+    for stmt in block {
+        let here = covers_stmt(loose, scope, stmt)?;
+        covered = covered && here;
+    }
+    Ok(covered)
+}
+
+// The statements of a loop, with no name declared yet.
+fn body_named<'a>(
+    scope: &mut Scope<'a>,
+    homes: &mut Vec<Home<'a>>,
+    regs: &Assigned,
+    kernel: &'a Kernel,
+    turns: &'a Loop,
+    loose: &[Loose],
+) -> Result<bool, AllocError>
+    requires assigned { IsAssignment 15 regs.now }
+    requires vars { length (program_of kernel.now).vars ≤ length regs.now.registers }
+    requires params { length (program_of kernel.now).params ≤ 8 }
+    requires scope { scope_of scope.old ≡ typing.empty (items.loop_index (program_of kernel.now)) }
+    requires homes { homes.old.items ≡ [] }
+    ensures { IfOk result (λ t. t ≡ loosening.covers_block (looses_of loose.now)
+        (typing.in_loop (typing.var_scope (program_of kernel.now)) (turns_of turns.now))
+        (block_of turns.now.body.items)) }
+{
+    declare_names(scope, homes, regs, kernel)?;
+    declare_index(scope, homes, turns)?;
+    scope.inside = true;
+    let covered = covers_block(loose, scope, &turns.body)?;
+    Ok(covered)
+}
+
+// The statements of a loop.
+fn covers_body(
+    alloc: Global,
+    regs: &Assigned,
+    kernel: &Kernel,
+    turns: &Loop,
+    loose: &[Loose],
+) -> Result<bool, AllocError>
+    requires assigned { IsAssignment 15 regs.now }
+    requires vars { length (program_of kernel.now).vars ≤ length regs.now.registers }
+    requires params { length (program_of kernel.now).params ≤ 8 }
+    requires turns { (program_of kernel.now).turns ≡ Some (turns_of turns.now) }
+    ensures { IfOk result (λ t. t ≡ loosening.covers_block (looses_of loose.now)
+        (typing.in_loop (typing.var_scope (program_of kernel.now)) (turns_of turns.now))
+        (block_of turns.now.body.items)) }
+{
+    let mut scope = empty(alloc, Some(turns.index.text()));
+    let mut homes = Vec::new(alloc);
+    body_named(&mut scope, &mut homes, regs, kernel, turns, loose)
+}
+
+// ---- the accumulators
+
+// The type of an accumulator that an update would have to extend.
+fn gained(loose: &[Loose], name: &Name, op: BinaryOp, want: Option<Ty>) -> Option<Ty>
+    ensures { result ≡ loosening.gained (looses_of loose.now) (name_of name.now) op want }
+{
+    if binary_leaves(op) && is_whole(loose, name) {
+        want.filter(|ty| is_narrow(*ty))
+    } else {
+        None
+    }
+}
+
+// One more, where the statements of the loop ask for no more of it.
+fn loosen_name<'a>(
+    alloc: Global,
+    regs: &Assigned,
+    kernel: &'a Kernel,
+    turns: &'a Loop,
+    loose: &mut Vec<Loose<'a>>,
+    name: &'a Name,
+    ty: Ty,
+) -> Result<(), AllocError>
+    requires assigned { IsAssignment 15 regs.now }
+    requires vars { length (program_of kernel.now).vars ≤ length regs.now.registers }
+    requires params { length (program_of kernel.now).params ≤ 8 }
+    requires turns { (program_of kernel.now).turns ≡ Some (turns_of turns.now) }
+    ensures { OnOk result (looses_of loose.new.items
+        ≡ loosening.loosened (typing.in_loop (typing.var_scope (program_of kernel.now)) (turns_of turns.now))
+        (block_of turns.now.body.items) (name_of name.now) (Some ty) (looses_of loose.old.items)) }
+{
+    let count = loose.len();
+    let name = name.text();
+    let form = Form::LowBits(ty);
+    loose.push(Loose { name, form })?;
+    if !covers_body(alloc, regs, kernel, turns, loose)? {
+        loose.truncate(count);
+    }
+    Ok(())
+}
+
+// The accumulator of an update.
+fn loosen_update<'a>(
+    alloc: Global,
+    regs: &Assigned,
+    kernel: &'a Kernel,
+    turns: &'a Loop,
+    scope: &Scope,
+    loose: &mut Vec<Loose<'a>>,
+    name: &'a Name,
+    op: UpdateOp,
+) -> Result<(), AllocError>
+    requires assigned { IsAssignment 15 regs.now }
+    requires vars { length (program_of kernel.now).vars ≤ length regs.now.registers }
+    requires params { length (program_of kernel.now).params ≤ 8 }
+    requires turns { (program_of kernel.now).turns ≡ Some (turns_of turns.now) }
+    requires scope { scope_of scope.now
+        ≡ typing.in_loop (typing.var_scope (program_of kernel.now)) (turns_of turns.now) }
+    ensures { OnOk result (looses_of loose.new.items
+        ≡ loosening.loosened (scope_of scope.now) (block_of turns.now.body.items) (name_of name.now)
+        (loosening.gained (looses_of loose.old.items) (name_of name.now) (operators.operator_of op)
+        (option_and_then typing.accumulator_type (typing.lookup (scope_of scope.now) (name_of name.now))))
+        (looses_of loose.old.items)) }
+{
+    let want = lookup(scope, name).and_then(accumulator_type);
+    match gained(loose, name, update_operator(op), want) {
+        None => Ok(()),
+        Some(ty) => loosen_name(alloc, regs, kernel, turns, loose, name, ty),
+    }
+}
+
+#[cycle(walk)]
+fn loosen_stmt<'a>(
+    alloc: Global,
+    regs: &Assigned,
+    kernel: &'a Kernel,
+    turns: &'a Loop,
+    scope: &Scope,
+    loose: &mut Vec<Loose<'a>>,
+    stmt: &'a Stmt,
+) -> Result<(), AllocError>
+    requires assigned { IsAssignment 15 regs.now }
+    requires vars { length (program_of kernel.now).vars ≤ length regs.now.registers }
+    requires params { length (program_of kernel.now).params ≤ 8 }
+    requires turns { (program_of kernel.now).turns ≡ Some (turns_of turns.now) }
+    requires scope { scope_of scope.now
+        ≡ typing.in_loop (typing.var_scope (program_of kernel.now)) (turns_of turns.now) }
+    ensures { OnOk result (looses_of loose.new.items
+        ≡ loosening.loosen_action (scope_of scope.now) (block_of turns.now.body.items) (action_of stmt.now)
+        (looses_of loose.old.items)) }
+{
+    match parts(stmt) {
+        Part::If { block, .. } => loosen_block(alloc, regs, kernel, turns, scope, loose, block),
+        Part::IfElse { block, other, .. } => {
+            loosen_block(alloc, regs, kernel, turns, scope, loose, block)?;
+            loosen_block(alloc, regs, kernel, turns, scope, loose, other)
+        }
+        Part::Update { name, op, .. } => {
+            loosen_update(alloc, regs, kernel, turns, scope, loose, name, op)
+        }
+        _ => Ok(()),
+    }
+}
+
+// Those of statements, after those that are held loosely before them.
+#[cycle(walk)]
+fn loosen_block<'a>(
+    alloc: Global,
+    regs: &Assigned,
+    kernel: &'a Kernel,
+    turns: &'a Loop,
+    scope: &Scope,
+    loose: &mut Vec<Loose<'a>>,
+    block: &'a [Stmt],
+) -> Result<(), AllocError>
+    requires assigned { IsAssignment 15 regs.now }
+    requires vars { length (program_of kernel.now).vars ≤ length regs.now.registers }
+    requires params { length (program_of kernel.now).params ≤ 8 }
+    requires turns { (program_of kernel.now).turns ≡ Some (turns_of turns.now) }
+    requires scope { scope_of scope.now
+        ≡ typing.in_loop (typing.var_scope (program_of kernel.now)) (turns_of turns.now) }
+    ensures { OnOk result (looses_of loose.new.items
+        ≡ loosening.loosen_block (scope_of scope.now) (block_of turns.now.body.items) (block_of block.now)
+        (looses_of loose.old.items)) }
+{
+    for stmt in block {
+        loosen_stmt(alloc, regs, kernel, turns, scope, loose, stmt)?;
+    }
+    Ok(())
+}
+
+// ---- counting to zero
+
+// The loop variable behind, and the arrays of the loop ahead.
+fn moved_names<'a>(
+    alloc: Global,
+    scope: &Scope,
+    turns: &'a Loop,
+) -> Result<Vec<Loose<'a>>, AllocError>
+    ensures { IfOk result (λ v. looses_of v.entry.items
+        ≡ loosening.moved_names (scope_of scope.now) (turns_of turns.now)) }
+{
+    let mut loose = Vec::new(alloc);
+    let name = turns.index.text();
+    let form = Form::Behind;
+    loose.push(Loose { name, form })?;
+    add_block(&mut loose, scope, &turns.body)?;
+    Ok(loose)
+}
+
+// One that stands ahead after the loop.
+fn keep_ahead<'a>(kept: &mut Vec<Loose<'a>>, held: &Loose<'a>) -> Result<(), AllocError>
+    ensures { OnOk result ((rest : List Loose) → looses_of kept.new.items ++ rest
+        ≡ looses_of kept.old.items ++ loosening.keep_ahead (form_of held.now.form) (loose_of held.now) rest) }
+{
+    let name = held.name;
+    match held.form {
+        Form::Ahead(ty) => {
+            let form = Form::Ahead(ty);
+            kept.push(Loose { name, form })?;
+            Ok(())
+        }
+        _ => Ok(()),
+    }
+}
+
+/// Those that stand ahead after the loop.
+pub fn after_loop<'a>(alloc: Global, loose: &[Loose<'a>]) -> Result<Vec<Loose<'a>>, AllocError>
+    ensures { IfOk result (λ v. looses_of v.entry.items ≡ loosening.after_loop (looses_of loose.now)) }
+{
+    let mut kept = Vec::new(alloc);
+    for held in loose {
+        keep_ahead(&mut kept, held)?;
+    }
+    Ok(kept)
+}
+
+fn covers_answer(loose: &[Loose], scope: &Scope, answer: &Option<Answer>) -> bool
+    ensures { result ≡ loosening.covers_answer (looses_of loose.now) (scope_of scope.now)
+        (option_map returned_of answer.now) }
+{
+    match answer {
+        None => true,
+        Some(answer) => covers(loose, scope, Extent::Whole, Some(answer.ty), &answer.value),
+    }
+}
+
+// Whether a loop counts to zero, with no name declared yet.
+fn moves_named<'a>(
+    scope: &mut Scope<'a>,
+    homes: &mut Vec<Home<'a>>,
+    regs: &Assigned,
+    kernel: &'a Kernel,
+    turns: &'a Loop,
+    loose: &[Loose],
+    kept: &[Loose],
+) -> Result<bool, AllocError>
+    requires assigned { IsAssignment 15 regs.now }
+    requires vars { length (program_of kernel.now).vars ≤ length regs.now.registers }
+    requires params { length (program_of kernel.now).params ≤ 8 }
+    requires scope { scope_of scope.old ≡ typing.empty (items.loop_index (program_of kernel.now)) }
+    requires homes { homes.old.items ≡ [] }
+    requires kept { looses_of kept.now ≡ loosening.after_loop (looses_of loose.now) }
+    ensures { IfOk result (λ t. t ≡ loosening.may_move (looses_of loose.now)
+        (typing.var_scope (program_of kernel.now)) (turns_of turns.now) (program_of kernel.now).answer) }
+{
+    declare_names(scope, homes, regs, kernel)?;
+    declare_index(scope, homes, turns)?;
+    let answered = covers_answer(kept, scope, &kernel.answer);
+    scope.inside = true;
+    let covered = covers_block(loose, scope, &turns.body)?;
+    Ok(covered && answered)
+}
+
+// Whether a loop counts to zero, with these names held so.
+fn may_move(
+    alloc: Global,
+    regs: &Assigned,
+    kernel: &Kernel,
+    turns: &Loop,
+    loose: &[Loose],
+) -> Result<bool, AllocError>
+    requires assigned { IsAssignment 15 regs.now }
+    requires vars { length (program_of kernel.now).vars ≤ length regs.now.registers }
+    requires params { length (program_of kernel.now).params ≤ 8 }
+    requires turns { (program_of kernel.now).turns ≡ Some (turns_of turns.now) }
+    ensures { IfOk result (λ t. t ≡ loosening.may_move (looses_of loose.now)
+        (typing.var_scope (program_of kernel.now)) (turns_of turns.now) (program_of kernel.now).answer) }
+{
+    let kept = after_loop(alloc, loose)?;
+    let mut scope = empty(alloc, Some(turns.index.text()));
+    let mut homes = Vec::new(alloc);
+    moves_named(&mut scope, &mut homes, regs, kernel, turns, loose, &kept)
+}
+
+// The loop variable and the arrays, where the loop counts to zero.
+fn counted_down<'a>(
+    alloc: Global,
+    regs: &Assigned,
+    kernel: &'a Kernel,
+    turns: &'a Loop,
+    scope: &Scope,
+) -> Result<Vec<Loose<'a>>, AllocError>
+    requires assigned { IsAssignment 15 regs.now }
+    requires vars { length (program_of kernel.now).vars ≤ length regs.now.registers }
+    requires params { length (program_of kernel.now).params ≤ 8 }
+    requires turns { (program_of kernel.now).turns ≡ Some (turns_of turns.now) }
+    requires scope { scope_of scope.now
+        ≡ typing.in_loop (typing.var_scope (program_of kernel.now)) (turns_of turns.now) }
+    ensures { IfOk result (λ v. looses_of v.entry.items
+        ≡ loosening.counted_down (typing.var_scope (program_of kernel.now)) (turns_of turns.now)
+        (program_of kernel.now).answer) }
+{
+    let moved = moved_names(alloc, scope, turns)?;
+    if may_move(alloc, regs, kernel, turns, &moved)? {
+        Ok(moved)
+    } else {
+        Ok(Vec::new(alloc))
+    }
+}
+
+// ---- the whole
+
+// The names of a loop, with no name declared yet.
+fn loosen_named<'a>(
+    alloc: Global,
+    places: &mut Places<'a>,
+    regs: &Assigned,
+    homes: &mut Vec<Home<'a>>,
+    scope: &mut Scope<'a>,
+    kernel: &'a Kernel,
+    turns: &'a Loop,
+) -> Result<(), AllocError>
+    requires assigned { IsAssignment 15 regs.now }
+    requires vars { length (program_of kernel.now).vars ≤ length regs.now.registers }
+    requires params { length (program_of kernel.now).params ≤ 8 }
+    requires turns { (program_of kernel.now).turns ≡ Some (turns_of turns.now) }
+    requires scope { scope_of scope.old ≡ typing.empty (items.loop_index (program_of kernel.now)) }
+    requires homes { homes.old.items ≡ [] }
+    ensures { OnOk result (places.new ≡ with_loose places.old (loosening.held_loosely (program_of kernel.now))) }
+{
+    declare_names(scope, homes, regs, kernel)?;
+    declare_index(scope, homes, turns)?;
+    scope.inside = true;
+    let mut loose = counted_down(alloc, regs, kernel, turns, scope)?;
+    loosen_block(alloc, regs, kernel, turns, scope, &mut loose, &turns.body)?;
+    places.loosen(loose);
+    Ok(())
+}
+
+/// The names that a loop holds loosely.
+pub fn loosen_names<'a>(
+    alloc: Global,
+    places: &mut Places<'a>,
+    regs: &Assigned,
+    kernel: &'a Kernel,
+    turns: &'a Loop,
+) -> Result<(), AllocError>
+    requires assigned { IsAssignment 15 regs.now }
+    requires vars { length (program_of kernel.now).vars ≤ length regs.now.registers }
+    requires params { length (program_of kernel.now).params ≤ 8 }
+    requires turns { (program_of kernel.now).turns ≡ Some (turns_of turns.now) }
+    ensures { OnOk result (places.new ≡ with_loose places.old (loosening.held_loosely (program_of kernel.now))) }
+{
+    let mut scope = empty(alloc, Some(turns.index.text()));
+    let mut homes = Vec::new(alloc);
+    loosen_named(alloc, places, regs, &mut homes, &mut scope, kernel, turns)
+}

@@ -1,0 +1,327 @@
+//! Emits a loop.
+
+ghost use Rattle.std.specs.Prelude.{◌≡◌, ◌+◌, ◌<◌, ◌^◌, List, ◌∷◌, ◌++◌, OnOk, IfOk, option_map};
+ghost use Rattle.label_fix.specs.Draft.{word_view};
+ghost use Rattle.a64_code.specs.Table as table;
+ghost use Rattle.kernel_tree.specs.Plain.{turns_of, block_of};
+ghost use Rattle.kernel_tree.specs.Kinds.{BlockKinds};
+ghost use Rattle.kernel_scope.specs.Scopes.{scope_of};
+ghost use Rattle.scalar_emit.specs.Statements.{block_labels, block_code, block_homes};
+ghost use Rattle.scalar_words.specs.Drafts.{Appends};
+ghost use Rattle.scalar_words.specs.View.{form_of, homes_of, looses_of};
+ghost use Rattle.scalar_words.specs.Words.{word_code};
+ghost use Rattle.kernel_tree.specs.Items as items;
+ghost use Rattle.label_fix.specs.DraftRun as plain;
+ghost use Rattle.scalar_emit.specs.Loop as loops;
+
+use crate::branches::branch_ahead;
+use crate::numbers::emit_numbers;
+use crate::statements::emit_block;
+use crate::variable::declare_index;
+use a64_code::{A64, AddSubOp, AddSubShift, Cond, Reg, zero};
+use kernel_scope::Scope;
+use kernel_tree::{Loop, Ty};
+use label_fix::{BranchKind, Draft, Label, Word};
+use scalar_values::instructions::{index, next_iteration};
+use scalar_words::instructions::add_sub;
+use scalar_words::operations::emit_settle;
+use scalar_words::places::Places;
+use scalar_words::{Form, Home, Loose, register_at, register_named};
+use std::alloc::AllocError;
+use word_rows::Bits;
+
+// The statements of a loop whose variable is declared.
+fn emit_body<'a>(
+    draft: &mut Draft,
+    places: &Places,
+    homes: &mut Vec<Home<'a>>,
+    scope: &mut Scope<'a>,
+    last: Label,
+    turns: &'a Loop,
+    item: &mut usize,
+) -> Result<(), AllocError>
+    requires last { last < draft.old.labels }
+    requires kinds { BlockKinds (block_of turns.now.body.items) }
+    requires fits { item.old + items.block_size (scope_of scope.old).index (block_of turns.now.body.items) < 2 ^ 32 }
+    ensures homes { OnOk result (homes_of homes.new.items
+        ≡ block_homes places.now (homes_of homes.old.items) (loops.inside_of (scope_of scope.old)) item.old
+        (block_of turns.now.body.items)) }
+    ensures item { OnOk result (item.new ≡ item.old + items.block_size (scope_of scope.old).index
+        (block_of turns.now.body.items)) }
+    ensures labels { OnOk result (draft.new.labels
+        ≡ draft.old.labels + block_labels (scope_of scope.old).index (block_of turns.now.body.items)) }
+    ensures code { OnOk result (Appends draft.old draft.new
+        (block_code places.now (homes_of homes.old.items)
+        (loops.inside_of (scope_of scope.old)) last item.old draft.old.labels (block_of turns.now.body.items))) }
+{
+    scope.inside = true;
+    emit_block(draft, places, homes, scope, last, &turns.body, item)?;
+    Ok(())
+}
+
+// The same, after which the names before them are visible.
+fn emit_inside<'a>(
+    draft: &mut Draft,
+    places: &Places,
+    homes: &mut Vec<Home<'a>>,
+    scope: &mut Scope<'a>,
+    last: Label,
+    turns: &'a Loop,
+    item: &mut usize,
+) -> Result<(), AllocError>
+    requires last { last < draft.old.labels }
+    requires kinds { BlockKinds (block_of turns.now.body.items) }
+    requires fits { item.old + items.block_size (scope_of scope.old).index (block_of turns.now.body.items) < 2 ^ 32 }
+    ensures homes { OnOk result (homes_of homes.new.items ≡ homes_of homes.old.items) }
+    ensures item { OnOk result (item.new ≡ item.old + items.block_size (scope_of scope.old).index
+        (block_of turns.now.body.items)) }
+    ensures labels { OnOk result (draft.new.labels
+        ≡ draft.old.labels + block_labels (scope_of scope.old).index (block_of turns.now.body.items)) }
+    ensures code { OnOk result (Appends draft.old draft.new
+        (block_code places.now (homes_of homes.old.items)
+        (loops.inside_of (scope_of scope.old)) last item.old draft.old.labels (block_of turns.now.body.items))) }
+{
+    let known = homes.len();
+    emit_body(draft, places, homes, scope, last, turns, item)?;
+    homes.truncate(known);
+    Ok(())
+}
+
+// The labels of a loop: at its head, after it, before its statements, and after its last iteration.
+#[derive(Clone, Copy)]
+struct LoopLabels {
+    head: Label,
+    exit: Label,
+    top: Label,
+    last: Label,
+}
+
+// The head of a loop.
+fn emit_head(draft: &mut Draft) -> Result<Label, AllocError>
+    ensures head { IfOk result (λ l. l ≡ draft.old.labels) }
+    ensures labels { OnOk result (draft.new.labels ≡ draft.old.labels + 1) }
+    ensures code { OnOk result ((rest : List plain.Entry)
+        → draft.new.entries ++ rest ≡ draft.old.entries ++ plain.Place draft.old.labels ∷ rest) }
+{
+    let head = draft.label()?;
+    draft.place(head)?;
+    Ok(head)
+}
+
+// The comparison of a loop's variable with the register of its bound.
+fn emit_bound(draft: &mut Draft, bound: Reg) -> Result<(), AllocError>
+    ensures labels { OnOk result (draft.new.labels ≡ draft.old.labels) }
+    ensures code { OnOk result (Appends draft.old draft.new (loops.bound_code bound.number)) }
+{
+    draft.put(add_sub(AddSubOp::Subs, zero(), index(), bound))?;
+    Ok(())
+}
+
+// How far an element of a type shifts its number.
+fn element_shift(ty: Ty) -> Bits<6>
+    ensures { result.number ≡ loops.element_shift ty }
+{
+    match ty {
+        Ty::I8 | Ty::U8 => Bits { number: 0 },
+        Ty::I16 | Ty::U16 => Bits { number: 1 },
+        Ty::I32 | Ty::U32 => Bits { number: 2 },
+        Ty::I64 | Ty::U64 => Bits { number: 3 },
+    }
+}
+
+// A register ahead by as many elements of a type as another has.
+fn ahead_word(ty: Ty, to: Reg, bound: Reg) -> Word
+    ensures { word_view result ≡ plain.word_of table.add
+        (to.number ∷ to.number ∷ loops.element_shift ty ∷ bound.number ∷ 0 ∷ []) }
+{
+    Word::A(A64::AddSubShifted {
+        op: AddSubOp::Add,
+        rd: to,
+        rn: to,
+        imm6: element_shift(ty),
+        rm: bound,
+        shift: AddSubShift::Lsl,
+    })
+}
+
+// What is to stand in a register before the first iteration.
+fn emit_form(draft: &mut Draft, bound: Reg, to: Reg, form: Form) -> Result<(), AllocError>
+    ensures labels { OnOk result (draft.new.labels ≡ draft.old.labels) }
+    ensures code { OnOk result (Appends draft.old draft.new
+        (word_code (loops.enter_word bound.number to.number (form_of form)))) }
+{
+    match form {
+        Form::LowBits(_) => Ok(()),
+        Form::Ahead(ty) => {
+            draft.put(ahead_word(ty, to, bound))?;
+            Ok(())
+        }
+        Form::Behind => {
+            draft.put(add_sub(AddSubOp::Sub, to, to, bound))?;
+            Ok(())
+        }
+    }
+}
+
+// The same of the names that are held loosely.
+fn emit_moves(
+    draft: &mut Draft,
+    bound: Reg,
+    homes: &[Home],
+    loose: &[Loose],
+) -> Result<(), AllocError>
+    ensures labels { OnOk result (draft.new.labels ≡ draft.old.labels) }
+    ensures code { OnOk result (Appends draft.old draft.new
+        (loops.enter_code bound.number (homes_of homes.now) (looses_of loose.now))) }
+{
+    for held in loose {
+        emit_form(draft, bound, register_named(homes, held.name), held.form)?;
+    }
+    Ok(())
+}
+
+// The head of a loop: its first test, and what stands in registers while iterations last.
+fn emit_entry(
+    draft: &mut Draft,
+    places: &Places,
+    homes: &[Home],
+    bound: Reg,
+) -> Result<LoopLabels, AllocError>
+    ensures head { IfOk result (λ l. l.head ≡ draft.old.labels) }
+    ensures exit { IfOk result (λ l. l.exit ≡ draft.old.labels + 1) }
+    ensures top { IfOk result (λ l. l.top ≡ draft.old.labels + 2) }
+    ensures last { IfOk result (λ l. l.last ≡ draft.old.labels + 3) }
+    ensures labels { OnOk result (draft.new.labels ≡ draft.old.labels + 4) }
+    ensures code { OnOk result (Appends draft.old draft.new (loops.entry_code bound.number draft.old.labels
+        (homes_of homes.now) places.now)) }
+{
+    let head = emit_head(draft)?;
+    emit_bound(draft, bound)?;
+    let exit = branch_ahead(draft, BranchKind::If(Cond::Hs))?;
+    emit_moves(draft, bound, homes, places.loose())?;
+    emit_numbers(draft, places.constants())?;
+    let top = emit_head(draft)?;
+    let last = draft.label()?;
+    Ok(LoopLabels {
+        head,
+        exit,
+        top,
+        last,
+    })
+}
+
+// What stands in a register after the last iteration.
+fn emit_settled(draft: &mut Draft, bound: Reg, to: Reg, form: Form) -> Result<(), AllocError>
+    ensures labels { OnOk result (draft.new.labels ≡ draft.old.labels) }
+    ensures code { OnOk result (Appends draft.old draft.new
+        (word_code (loops.settle_form bound.number to.number (form_of form)))) }
+{
+    match form {
+        Form::LowBits(ty) => emit_settle(draft, true, ty, to),
+        Form::Ahead(_) => Ok(()),
+        Form::Behind => {
+            draft.put(add_sub(AddSubOp::Add, to, to, bound))?;
+            Ok(())
+        }
+    }
+}
+
+// The same of the names that were held loosely.
+fn emit_extended(
+    draft: &mut Draft,
+    bound: Reg,
+    homes: &[Home],
+    loose: &[Loose],
+) -> Result<(), AllocError>
+    ensures labels { OnOk result (draft.new.labels ≡ draft.old.labels) }
+    ensures code { OnOk result (Appends draft.old draft.new
+        (loops.settle_code bound.number (homes_of homes.now) (looses_of loose.now))) }
+{
+    for held in loose {
+        emit_settled(draft, bound, register_named(homes, held.name), held.form)?;
+    }
+    Ok(())
+}
+
+// Back to another iteration, below the bound or where the loop variable is not zero.
+fn emit_back(
+    draft: &mut Draft,
+    form: Option<Form>,
+    bound: Reg,
+    labels: LoopLabels,
+) -> Result<(), AllocError>
+    requires top { labels.top ≡ labels.head + 2 }
+    requires given { labels.top < draft.old.labels }
+    ensures labels { OnOk result (draft.new.labels ≡ draft.old.labels) }
+    ensures code { OnOk result (Appends draft.old draft.new
+        (loops.back_code (option_map form_of form) bound.number labels.head)) }
+{
+    match form {
+        Some(Form::Behind) => {
+            draft.branch(BranchKind::NotZero(9), labels.top)?;
+            Ok(())
+        }
+        _ => {
+            emit_bound(draft, bound)?;
+            draft.branch(BranchKind::If(Cond::Lo), labels.top)?;
+            Ok(())
+        }
+    }
+}
+
+// The end of an iteration, and of the loop.
+fn emit_again(
+    draft: &mut Draft,
+    form: Option<Form>,
+    homes: &[Home],
+    loose: &[Loose],
+    bound: Reg,
+    labels: LoopLabels,
+) -> Result<(), AllocError>
+    requires exit { labels.exit ≡ labels.head + 1 }
+    requires top { labels.top ≡ labels.head + 2 }
+    requires last { labels.last ≡ labels.head + 3 }
+    requires given { labels.last < draft.old.labels }
+    ensures labels { OnOk result (draft.new.labels ≡ draft.old.labels) }
+    ensures code { OnOk result (Appends draft.old draft.new
+        (loops.again_code (option_map form_of form) bound.number labels.head (homes_of homes.now)
+        (looses_of loose.now))) }
+{
+    draft.put(next_iteration())?;
+    emit_back(draft, form, bound, labels)?;
+    draft.place(labels.last)?;
+    emit_extended(draft, bound, homes, loose)?;
+    draft.place(labels.exit)?;
+    Ok(())
+}
+
+/// The loop from its head to its end; answers the label of the head.
+pub fn emit_loop<'a>(
+    draft: &mut Draft,
+    places: &Places,
+    homes: &mut Vec<Home<'a>>,
+    scope: &mut Scope<'a>,
+    turns: &'a Loop,
+    item: &mut usize,
+) -> Result<Label, AllocError>
+    requires kinds { BlockKinds (block_of turns.now.body.items) }
+    requires fits { item.old + (1 + items.block_size (scope_of scope.old).index (block_of turns.now.body.items)) < 2 ^
+        32 }
+    ensures head { IfOk result (λ l. l ≡ draft.old.labels) }
+    ensures item { OnOk result (item.new ≡ item.old +
+        (1 + items.block_size (scope_of scope.old).index (block_of turns.now.body.items))) }
+    ensures labels { OnOk result (draft.new.labels
+        ≡ draft.old.labels + 4 + block_labels (scope_of scope.old).index (block_of turns.now.body.items)) }
+    ensures code { OnOk result (Appends draft.old draft.new
+        (loops.turn_code places.now (homes_of homes.old.items) (scope_of scope.old)
+        (turns_of turns.now) item.old draft.old.labels)) }
+{
+    let bound = register_at(homes, &turns.bound);
+    declare_index(scope, homes, turns)?;
+    let labels = emit_entry(draft, places, homes, bound)?;
+    *item += 1;
+    emit_inside(draft, places, homes, scope, labels.last, turns, item)?;
+    let form = places.loose_form(&turns.index);
+    emit_again(draft, form, homes, places.loose(), bound, labels)?;
+    Ok(labels.head)
+}
