@@ -124,7 +124,7 @@ once_of (y ∷ hs) x h = once_step (is_home x y) x y hs refl h.0 (once_of hs x h
 
 -- ---- homes in different registers
 
-abbrev NoRegister : ℕ → Homes → Type 0
+abbrev pub NoRegister : ℕ → Homes → Type 0
 NoRegister r [] = Unit {0}
 NoRegister r (h ∷ hs) = (h.register ≢ r) × NoRegister r hs
 

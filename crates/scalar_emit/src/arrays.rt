@@ -1,7 +1,7 @@
 //! The arrays of a loop, whose registers stand ahead where it counts to zero.
 
-ghost use Rattle.std.specs.Prelude.{◌≡◌, Some, OnOk};
-ghost use Rattle.kernel_tree.specs.Plain.{Put, name_of, term_of, action_of, block_of};
+ghost use Rattle.std.specs.Prelude.{◌≡◌, true, OnOk};
+ghost use Rattle.kernel_tree.specs.Plain.{name_of, term_of, action_of, block_of};
 ghost use Rattle.kernel_scope.specs.Scopes.{scope_of};
 ghost use Rattle.scalar_words.specs.View.{looses_of};
 ghost use Rattle.kernel_tree.specs.Items as items;

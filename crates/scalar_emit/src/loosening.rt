@@ -6,7 +6,8 @@ ghost use Rattle.kernel_tree.specs.Parts.{part_action};
 ghost use Rattle.kernel_scope.specs.Scopes.{scope_of};
 ghost use Rattle.reg_assign.specs.Registers.{IsAssignment};
 ghost use Rattle.scalar_words.specs.View.{form_of, loose_of, looses_of};
-ghost use Rattle.scalar_words.specs.Layout.{Behind, Loose, with_loose};
+ghost use Rattle.scalar_words.specs.Layout.{with_loose};
+ghost use Rattle.scalar_words.specs.Layout as layout;
 ghost use Rattle.scalar_emit.specs.Statements.{is_effect};
 ghost use Rattle.kernel_meaning.specs.Operators as operators;
 ghost use Rattle.kernel_tree.specs.Items as items;
@@ -372,7 +373,7 @@ fn moved_names<'a>(
     scope: &Scope,
     turns: &'a Loop,
 ) -> Result<Vec<Loose<'a>>, AllocError>
-    ensures { IfOk result (λ v. looses_of v.entry.items
+    ensures { IfOk result (λ v. looses_of v.items
         ≡ loosening.moved_names (scope_of scope.now) (turns_of turns.now)) }
 {
     let mut loose = Vec::new(alloc);
@@ -385,7 +386,7 @@ fn moved_names<'a>(
 
 // One that stands ahead after the loop.
 fn keep_ahead<'a>(kept: &mut Vec<Loose<'a>>, held: &Loose<'a>) -> Result<(), AllocError>
-    ensures { OnOk result ((rest : List Loose) → looses_of kept.new.items ++ rest
+    ensures { OnOk result ((rest : List layout.Loose) → looses_of kept.new.items ++ rest
         ≡ looses_of kept.old.items ++ loosening.keep_ahead (form_of held.now.form) (loose_of held.now) rest) }
 {
     let name = held.name;
@@ -401,7 +402,7 @@ fn keep_ahead<'a>(kept: &mut Vec<Loose<'a>>, held: &Loose<'a>) -> Result<(), All
 
 /// Those that stand ahead after the loop.
 pub fn after_loop<'a>(alloc: Global, loose: &[Loose<'a>]) -> Result<Vec<Loose<'a>>, AllocError>
-    ensures { IfOk result (λ v. looses_of v.entry.items ≡ loosening.after_loop (looses_of loose.now)) }
+    ensures { IfOk result (λ v. looses_of v.items ≡ loosening.after_loop (looses_of loose.now)) }
 {
     let mut kept = Vec::new(alloc);
     for held in loose {
@@ -482,7 +483,7 @@ fn counted_down<'a>(
     requires turns { (program_of kernel.now).turns ≡ Some (turns_of turns.now) }
     requires scope { scope_of scope.now
         ≡ typing.in_loop (typing.var_scope (program_of kernel.now)) (turns_of turns.now) }
-    ensures { IfOk result (λ v. looses_of v.entry.items
+    ensures { IfOk result (λ v. looses_of v.items
         ≡ loosening.counted_down (typing.var_scope (program_of kernel.now)) (turns_of turns.now)
         (program_of kernel.now).answer) }
 {

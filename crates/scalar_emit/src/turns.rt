@@ -1,15 +1,16 @@
 //! Emits a loop.
 
-ghost use Rattle.std.specs.Prelude.{◌≡◌, ◌+◌, ◌<◌, ◌^◌, List, ◌∷◌, ◌++◌, OnOk, IfOk, option_map};
+ghost use Rattle.std.specs.Prelude.{◌≡◌, ◌+◌, ◌<◌, ◌^◌, List, [], ◌∷◌, ◌++◌, OnOk, IfOk, option_map};
 ghost use Rattle.label_fix.specs.Draft.{word_view};
 ghost use Rattle.a64_code.specs.Table as table;
-ghost use Rattle.kernel_tree.specs.Plain.{turns_of, block_of};
+ghost use Rattle.kernel_tree.specs.Plain.{name_of, turns_of, block_of};
 ghost use Rattle.kernel_tree.specs.Kinds.{BlockKinds};
 ghost use Rattle.kernel_scope.specs.Scopes.{scope_of};
 ghost use Rattle.scalar_emit.specs.Statements.{block_labels, block_code, block_homes};
 ghost use Rattle.scalar_words.specs.Drafts.{Appends};
 ghost use Rattle.scalar_words.specs.View.{form_of, homes_of, looses_of};
 ghost use Rattle.scalar_words.specs.Words.{word_code};
+ghost use Rattle.scalar_words.specs.Layout.{loose_in};
 ghost use Rattle.kernel_tree.specs.Items as items;
 ghost use Rattle.label_fix.specs.DraftRun as plain;
 ghost use Rattle.scalar_emit.specs.Loop as loops;
@@ -248,22 +249,23 @@ fn emit_back(
     draft: &mut Draft,
     form: Option<Form>,
     bound: Reg,
-    labels: LoopLabels,
+    head: Label,
+    top: Label,
 ) -> Result<(), AllocError>
-    requires top { labels.top ≡ labels.head + 2 }
-    requires given { labels.top < draft.old.labels }
+    requires top { top ≡ head + 2 }
+    requires given { top < draft.old.labels }
     ensures labels { OnOk result (draft.new.labels ≡ draft.old.labels) }
     ensures code { OnOk result (Appends draft.old draft.new
-        (loops.back_code (option_map form_of form) bound.number labels.head)) }
+        (loops.back_code (option_map form_of form) bound.number head)) }
 {
     match form {
         Some(Form::Behind) => {
-            draft.branch(BranchKind::NotZero(9), labels.top)?;
+            draft.branch(BranchKind::NotZero(9), top)?;
             Ok(())
         }
         _ => {
             emit_bound(draft, bound)?;
-            draft.branch(BranchKind::If(Cond::Lo), labels.top)?;
+            draft.branch(BranchKind::If(Cond::Lo), top)?;
             Ok(())
         }
     }
@@ -272,26 +274,30 @@ fn emit_back(
 // The end of an iteration, and of the loop.
 fn emit_again(
     draft: &mut Draft,
-    form: Option<Form>,
+    places: &Places,
     homes: &[Home],
-    loose: &[Loose],
+    turns: &Loop,
     bound: Reg,
-    labels: LoopLabels,
+    head: Label,
+    exit: Label,
+    top: Label,
+    last: Label,
 ) -> Result<(), AllocError>
-    requires exit { labels.exit ≡ labels.head + 1 }
-    requires top { labels.top ≡ labels.head + 2 }
-    requires last { labels.last ≡ labels.head + 3 }
-    requires given { labels.last < draft.old.labels }
+    requires exit { exit ≡ head + 1 }
+    requires top { top ≡ head + 2 }
+    requires last { last ≡ head + 3 }
+    requires given { last < draft.old.labels }
     ensures labels { OnOk result (draft.new.labels ≡ draft.old.labels) }
     ensures code { OnOk result (Appends draft.old draft.new
-        (loops.again_code (option_map form_of form) bound.number labels.head (homes_of homes.now)
-        (looses_of loose.now))) }
+        (loops.again_code (loose_in places.now.loose (name_of turns.now.index)) bound.number head
+        (homes_of homes.now) places.now.loose)) }
 {
     draft.put(next_iteration())?;
-    emit_back(draft, form, bound, labels)?;
-    draft.place(labels.last)?;
-    emit_extended(draft, bound, homes, loose)?;
-    draft.place(labels.exit)?;
+    let form = places.loose_form(&turns.index);
+    emit_back(draft, form, bound, head, top)?;
+    draft.place(last)?;
+    emit_extended(draft, bound, homes, places.loose())?;
+    draft.place(exit)?;
     Ok(())
 }
 
@@ -319,9 +325,14 @@ pub fn emit_loop<'a>(
     let bound = register_at(homes, &turns.bound);
     declare_index(scope, homes, turns)?;
     let labels = emit_entry(draft, places, homes, bound)?;
+    let LoopLabels {
+        head,
+        exit,
+        top,
+        last,
+    } = labels;
     *item += 1;
-    emit_inside(draft, places, homes, scope, labels.last, turns, item)?;
-    let form = places.loose_form(&turns.index);
-    emit_again(draft, form, homes, places.loose(), bound, labels)?;
-    Ok(labels.head)
+    emit_inside(draft, places, homes, scope, last, turns, item)?;
+    emit_again(draft, places, homes, turns, bound, head, exit, top, last)?;
+    Ok(head)
 }
