@@ -25,7 +25,7 @@ use Rattle.scalar_words.proofs.Compare.{compared}
 use Rattle.label_fix.specs.DraftRun.{Entry, Put, Laid, ins, effect, word_of}
 use Rattle.label_fix.proofs.StretchSteps.{put_goes, chain}
 use Rattle.scalar_words.specs.Layout.{Layout, reg_of, IsMade}
-use Rattle.scalar_words.specs.Words.{binary_code, operation_code, word_code, copy_word, extend_word, settle_word}
+use Rattle.scalar_words.specs.Words.{operation_code, word_code, copy_word, extend_word, settle_word}
 use Rattle.scalar_values.specs.ItemWords.{Side, Number, Register, Product, Moved, product_word, shift_word, operator_code, add_word, sub_word, sum_word, unary_code, abs_code, shift_code, shift_kind, convert_word}
 use Rattle.scalar_values.specs.declared.extent.Extent.{Extent}
 use Rattle.scalar_values.specs.Extents.{Whole, within_type, unary_joins, operand_extent, asked_extent, binary_extent, settles}

@@ -9,12 +9,11 @@ use Rattle.machine_model.specs.Arithmetic.{shifted_word, holds as flags_hold}
 use Rattle.kernel_tree.specs.declared.ops.CompareOp.{CompareOp}
 use Rattle.kernel_tree.specs.declared.ops.Ty.{Ty}
 use Rattle.kernel_tree.specs.declared.ops.BinaryOp.{BinaryOp}
-use Rattle.kernel_tree.specs.declared.ops.UnaryOp.{UnaryOp}
 use Rattle.kernel_tree.specs.Plain.{Term, Literal, Variable, Element, Unary, Operation, Shift, Conversion, Choice, Comparison, Both, Either, Not}
 use Rattle.kernel_tree.specs.Items.{term_size, index_size, stream_offset}
 use Rattle.kernel_tree.specs.Wrap.{wrap, is_signed}
 use Rattle.kernel_tree.specs.Typing.{Scope, Local, lookup, own, first, element_type, index_type, side_type}
-use Rattle.kernel_meaning.specs.Operators.{word, wrapped, binary_on, compare_on, shift_on, shift_count}
+use Rattle.kernel_meaning.specs.Operators.{word, binary_on, compare_on, shift_on, shift_count}
 use Rattle.kernel_meaning.specs.TypeValues.{IsOf, binary_leaves}
 use Rattle.kernel_meaning.proofs.Residues.{word-mul}
 use Rattle.kernel_meaning.specs.Eval.{Names, value_at, iteration, element_number, read_element, on_both, chosen, choose_value, value, holds}
@@ -32,9 +31,9 @@ pub use Rattle.scalar_values.proofs.Jumps.{kept_jump, led, Turned, Turns, no_tur
 use Rattle.scalar_words.proofs.Compare.{compared}
 use Rattle.scalar_words.specs.Layout.{OfNumber, Loose, loose_in, Layout, Homes, reg_of, constant_at, IsMade, register_at, NameLasts}
 use Rattle.scalar_values.specs.ValueRegisters.{home}
-use Rattle.scalar_values.specs.ItemWords.{Side, Number, Register, Product, Moved, shift_kind, load_code, operator_code, unary_code, abs_code, shift_code, index_word, index_register, convert_word, compare_word, zero_test, tested_code, pick_code, placed_code}
-use Rattle.scalar_words.specs.Words.{operation_code, word_code, copy_word, settle_word, condition, at_type}
-use Rattle.scalar_values.specs.Code.{labels, number_code, number_register, place_of, signed_side, compared_number, added_number, takes_product, takes_shift, stays, is_fused, part_side, side_by, right_side, side_code, is_led, taken_side, parts_code, right_code, flag_condition, choice_code, loose_code, value_code, flags_code, jump_code}
+use Rattle.scalar_values.specs.ItemWords.{Side, Number, Register, Product, Moved, shift_kind, load_code, operator_code, index_word, index_register, convert_word, compare_word, pick_code}
+use Rattle.scalar_words.specs.Words.{word_code, copy_word, condition, at_type}
+use Rattle.scalar_values.specs.Code.{labels, number_code, number_register, place_of, signed_side, compared_number, added_number, takes_product, takes_shift, stays, is_fused, part_side, side_by, right_side, side_code, is_led, parts_code, right_code, flag_condition, choice_code, loose_code, value_code, flags_code, jump_code}
 use Rattle.scalar_values.specs.Fits.{Fits, FitsTruth, FitsIndex, IndexAt, IsSome}
 use Rattle.scalar_values.specs.Covers.{is_whole, index_covers, covers, covers_truth}
 use Rattle.scalar_words.proofs.LayoutStates.{AreRanged, Assigned, Kept, AreSafe, Fixed, At, Told, wrote, wrote_same, kept_none, kept_more, kept_item, kept_changes, kept_on, kept_both, safe_later, name_held, name_found}
@@ -50,12 +49,11 @@ use Rattle.scalar_values.proofs.Staying.{and_true, unary_keeps, binary_keeps, sh
 use Rattle.scalar_words.proofs.Words.{InRange, in_range}
 use Rattle.scalar_values.specs.declared.extent.Extent.{Extent}
 use Rattle.scalar_values.specs.Extents.{Whole, within_type, asked_extent, fits_at, converted_extent, settles}
-use Rattle.scalar_values.specs.Leaving.{unary_may_leave, binary_may_leave, shift_may_leave, unary_asks, binary_asks, shift_asks, unary_settles, binary_settles, shift_settles}
+use Rattle.scalar_values.specs.Leaving.{unary_may_leave, binary_may_leave, shift_may_leave, unary_asks, binary_asks, shift_asks, binary_settles, shift_settles}
 use Rattle.scalar_values.proofs.Loose.{loose_binary, loose_unary, loose_shift, loose_cast, loose, whole_is}
 use Rattle.scalar_values.proofs.Ranges.{value-range, fits_types}
 use Rattle.kernel_tree.specs.declared.ops.Ty.TheVariants as ty
 use Rattle.kernel_tree.specs.declared.ops.BinaryOp.TheVariants as binary
-use Rattle.kernel_tree.specs.declared.ops.UnaryOp.TheVariants as unary
 
 -- what the code of an expression does where a type is wanted of it
 abbrev pub Runs : Laid → Layout → Term → Homes → Scope → Names → Memory → State → (b user n : ℕ) → List Entry → Option Ty → Type 0

@@ -7,11 +7,11 @@ use Rattle.machine_model.specs.Machine.{State, x_at}
 use Rattle.kernel_tree.specs.declared.ops.Ty.{Ty}
 use Rattle.kernel_meaning.specs.Operators.{word}
 use Rattle.kernel_meaning.specs.Eval.{Names, value_at, iteration}
-use Rattle.scalar_words.specs.Layout.{Form, Loose, loose_in, Home, Homes, is_home, LastsAt, register_at, NameLasts}
+use Rattle.scalar_words.specs.Layout.{Form, Loose, loose_in, Home, Homes, is_home, LastsAt, NameLasts}
 use Rattle.scalar_words.proofs.LayoutStates.{Held, Tells, Told, lasts_less, name_held}
 use Rattle.scalar_words.proofs.Told.{tells_itself, told_at}
 use Rattle.scalar_values.specs.Fits.{IndexAt}
-use Rattle.scalar_values.specs.Covers.{index_form, stands_together, is_whole, index_covers}
+use Rattle.scalar_values.specs.Covers.{is_whole, index_covers}
 
 whole_tells : (count : ℕ) (o : Option Form) (z v : ℤ) → is_none o ≡ true → Tells count o z v → z ≡ v
 whole_tells count None z v h is = is
