@@ -14,14 +14,14 @@ use Rattle.kernel_tree.proofs.Names.{bytes_same, NoName, index_alone}
 use Rattle.loop_form.specs.Entries.{Entry, term_entries, params_entries, vars_entries, turns_entries, answer_entries, loop_entries, entries_of}
 use Rattle.loop_form.proofs.Numbers.{params-listed, vars-listed, term-listed, loop-listed}
 use Rattle.loop_form.proofs.NameUses.{AreUsesCounted, counted_left, counted_right, all_counted}
-use Rattle.scalar_words.specs.Layout.{Loose, Layout, Home, Homes, with_constants, with_loose, is_home, register_of, LastsAt}
+use Rattle.scalar_words.specs.Layout.{Loose, Layout, Home, Homes, with_constants, with_loose, is_home, register_of, LastsAt, NameLasts}
 use Rattle.scalar_values.specs.Fits.{IndexAt}
-use Rattle.scalar_emit.specs.Loosening.{covers_block, turns_loose, held_loosely}
+use Rattle.scalar_emit.specs.Loosening.{covers_block, after_loop, covers_answer, turns_loose, held_loosely}
 use Rattle.scalar_emit.specs.LoopNumbers.{held_numbers, loop_layout, coded_block}
-use Rattle.scalar_emit.proofs.LooseBlocks.{AreTypedAt, loop_covered, loop_typed}
+use Rattle.scalar_emit.proofs.LooseBlocks.{loop_covered, loop_answered, loop_formed, loop_once}
 use Rattle.scalar_values.specs.HeldNumbers.{loading_words}
 use Rattle.kernel_tree.proofs.Scopes.{scope_index}
-use Rattle.scalar_emit.specs.Loop.{index_home, with_index, bare, NoHome, FitsAnswer, FitsLoop}
+use Rattle.scalar_emit.specs.Loop.{index_home, with_index, bare, NoHome, moving_words, AreHeldLoosely, FitsAnswer, FitsLoop}
 use Rattle.scalar_emit.proofs.HoldBlocks.{numbers_next, numbers_few, spread_with, kernel_clear}
 use Rattle.scalar_words.specs.KernelRegisters.{counted_x, x_last_use, layout_of_kernel, param_homes, var_home, var_homes, kernel_homes, AreChosen}
 use Rattle.scalar_emit.specs.Kernel.{FitsVars}
@@ -30,7 +30,7 @@ use Rattle.scalar_words.proofs.SpreadOf.{spread_of}
 use Rattle.scalar_values.proofs.FitsOf.{Sits, untils}
 use Rattle.scalar_words.proofs.NameHomes.{Spread, numbers, AreHomes, homes_later, homes_on, is_at, register_is, others_new, are_safe}
 use Rattle.scalar_emit.proofs.FitsBlocks.{sits_first, sits_second, sits_next, IsIndexed, value_stands, block_fits}
-use Rattle.scalar_emit.proofs.LooseHomes.{no_home-append, no_param_home, no_var_home, AreApart, vars_apart, held_loose}
+use Rattle.scalar_emit.proofs.LooseHomes.{no_home-append, no_param_home, no_var_home, AreNamed, AreDistinct, held_loose, loop_named, loop_distinct}
 use Rattle.scalar_words.proofs.KernelNames.{names_fit, scope_at, param_scope_is, var_scope_is, others-append, params_nine, vars_nine, numbers_on, numbers_params, first_are, kernel_are}
 use Rattle.kernel_tree.specs.declared.fault.Binding.TheVariants as binding
 
@@ -105,11 +105,16 @@ module _ (R : ℕ → ℕ) (k : Program) (L : Layout) (all : List Entry) where
 
 -- ---- the loop
 
+-- a name, where there is one, is held up to an item
+abbrev IndexLasts : Homes → Option (List ℕ) → ℕ → Type 0
+IndexLasts hs None p = Unit {0}
+IndexLasts hs (Some x) p = NameLasts hs x p
+
 module _ (R : ℕ → ℕ) (k : Program) (L : Layout) (all : List Entry) (few : length k.params ≤ 8) (spread : Spread R L (length k.vars)) where
-  loop_fits : (l : PlainLoop) (tk : List (List ℕ)) (b b2 : ℕ) (rest : List ℕ) → AreApart k.vars → k.turns ≡ Some l → held_loosely k ≡ turns_loose (scope_at k (locals_of k.params ++ accs_of k.vars) tk false) (Some l) → loop_index k ≡ Some l.index → NoHome l.index (kernel_homes R k) → b ≤ b2 → turns_faults (scope_at k (locals_of k.params ++ accs_of k.vars) tk false) b (Some l) ≡ [] → answer_faults (after_turns (scope_at k (locals_of k.params ++ accs_of k.vars) tk false) (Some l)) b2 k.answer ≡ []
+  loop_fits : (l : PlainLoop) (tk : List (List ℕ)) (b b2 : ℕ) (rest : List ℕ) → AreNamed (with_index (kernel_homes R k) l) → k.turns ≡ Some l → held_loosely k ≡ turns_loose (scope_at k (locals_of k.params ++ accs_of k.vars) tk false) (Some l) k.answer → loop_index k ≡ Some l.index → NoHome l.index (kernel_homes R k) → b ≤ b2 → turns_faults (scope_at k (locals_of k.params ++ accs_of k.vars) tk false) b (Some l) ≡ [] → answer_faults (after_turns (scope_at k (locals_of k.params ++ accs_of k.vars) tk false) (Some l)) b2 k.answer ≡ []
       → Sits L.untils b (untils all (turns_entries k b (Some l)) rest) → AreUsesCounted all (turns_entries k b (Some l)) → Sits L.untils b2 (untils all (answer_entries k b2 k.answer) []) → AreUsesCounted all (answer_entries k b2 k.answer)
       → FitsLoop (with_loose (with_constants L (held_numbers R k)) (held_loosely k)) (kernel_homes R k) (scope_at k (locals_of k.params ++ accs_of k.vars) tk false) l b b2 k.answer
-  loop_fits l tk b b2 rest apart turns loose ix alone le f fa h c ha ca =
+  loop_fits l tk b b2 rest named turns loose ix alone le f fa h c ha ca =
       let N = with_loose (with_constants L (held_numbers R k)) (held_loosely k) in
       let p = length k.params in
       let inner : Spread R N (length k.vars) = spread_with R L (length k.vars) p (held_numbers R k) (held_loosely k) (numbers_next R k) spread in
@@ -125,18 +130,23 @@ module _ (R : ℕ → ℕ) (k : Program) (L : Layout) (all : List Entry) (few : 
       let index : (p : ℕ) → IndexAt (with_index hs l) (loop_index k) p = λ p. subst (λ o. IndexAt (with_index hs l) o p) (sym ix) (index_at l.index hs p alone) in
       let inside : AreHomes k R N all (b + 1) 0 (v ++ local l.index binding.Index ∷ []) (with_index hs l) = homes_on k R N all (b + 1) 0 v (local l.index binding.Index ∷ []) hs (index_home l.index ∷ []) (kernel_are R k N all (b + 1)) (refl, (refl, refl), tt) in
       let are : (p : ℕ) → AreHomes k R (bare N) all p 0 (v ++ local l.index binding.Index ∷ []) (with_index hs l) = λ p. homes_on k R (bare N) all p 0 v (local l.index binding.Index ∷ []) hs (index_home l.index ∷ []) (kernel_are R k (bare N) all p) (refl, (refl, refl), tt) in
+      let outside : AreHomes k R N all b 0 (v ++ local l.index binding.Index ∷ []) (with_index hs l) = homes_on k R N all b 0 v (local l.index binding.Index ∷ []) hs (index_home l.index ∷ []) (kernel_are R k N all b) (refl, (refl, refl), tt) in
       record {
         bound = subst (λ o. LastsAt o b) (sym at.is) (steady_at at.home b at.what.0);
         bound_low = omega (arith, reg, low, few);
+        bound_known = known;
+        free = alone;
         body = block_fits k R N all few inner l.body (v ++ local l.index binding.Index ∷ []) (insert_name tk l.index) true (with_index hs l) (b + 1) rest inside (λ e p. index p) refl body (sits_next L.untils b _ _ h) c.1;
         nine = others-append (param_homes 0 k.params) (var_homes R 0 k.vars) 9 b (params_nine 0 b k.params (omega (arith, few))) (vars_nine R 0 b k.vars);
         params = p;
         next = numbers_next R k;
         clear = kernel_clear R k;
-        few = subst (λ i. length (held_loosely k) + loading_words (held_numbers R k) + coded_block (held_numbers R k) i l.body ≤ 4 * block_size i l.body) (scope_index k) (numbers_few R k l turns);
-        covered = subst (λ ls. covers_block ls (in_loop S l) l.body ≡ true) (sym loose) (loop_covered l S);
-        loosely = held_loose k R N all few inner apart tk b (kernel_are R k N all b) l (held_loosely k) (subst (AreTypedAt (in_loop S l)) (sym loose) (loop_typed l S));
-        answered = answer_fits R k (bare N) all few (spread_with R N (length k.vars) p [] [] tt inner) k.answer (v ++ local l.index binding.Index ∷ []) (insert_name tk l.index) (with_index hs l) b2 (are b2) fa ha ca;
+        few = subst (λ i. moving_words (held_loosely k) + loading_words (held_numbers R k) + coded_block (held_numbers R k) i l.body ≤ 4 * block_size i l.body) (scope_index k) (numbers_few R k l turns);
+        covered = subst (λ ls. covers_block ls (in_loop S l) l.body ≡ true) (sym loose) (loop_covered l S k.answer ix);
+        loosely = subst (AreHeldLoosely (with_index hs l) (in_loop S l) b) (sym loose)
+            (held_loose k R N all (with_index hs l) (in_loop S l) b outside (λ x e. subst (λ o. IndexLasts (with_index hs l) o b) (sym ix ∙ e) (index_at l.index hs b alone).1) named (loop_distinct R k N l few inner) (turns_loose S (Some l) k.answer) (loop_formed l S k.answer ix) (loop_once l S k.answer ix));
+        answer_covered = subst (λ ls. covers_answer (after_loop ls) (after_turns S (Some l)) k.answer ≡ true) (sym loose) (loop_answered l S k.answer ix);
+        answered = answer_fits R k (bare N) all few (spread_with R N (length k.vars) p [] (after_loop (held_loosely k)) tt inner) k.answer (v ++ local l.index binding.Index ∷ []) (insert_name tk l.index) (with_index hs l) b2 (are b2) fa ha ca;
         following = le;
       }
     where
@@ -206,7 +216,7 @@ module _ (R : ℕ → ℕ) (k : Program) (checked : check_fault k ≡ None) (few
       let h : Sits us (loop_start k) (untils all (turns_entries k (loop_start k) (Some l)) (untils all xs [])) = subst (λ o. Sits us (loop_start k) (untils all (turns_entries k (loop_start k) o) (untils all xs []))) e (sits_first all us ls xs (loop_start k) [] at_loop) in
       let u : AreUsesCounted all (turns_entries k (loop_start k) (Some l)) = subst (λ o. AreUsesCounted all (turns_entries k (loop_start k) o)) e (counted_left all ls xs counted_loop) in
       subst (λ s. FitsLoop (loop_layout R k) (kernel_homes R k) s l (loop_start k) (loop_end k) k.answer) (sym s)
-      (loop_fits R k L all few spread l (var_scope k).taken (loop_start k) (loop_end k) _ (vars_apart k checked) e (ap (turns_loose (var_scope k)) e ∙ ap (λ s. turns_loose s (Some l)) s) ix (index_homeless R k l checked e) (omega arith) (subst (λ s. turns_faults s (loop_start k) (Some l) ≡ []) s f0) (subst (λ s. answer_faults (after_turns s (Some l)) (loop_end k) k.answer ≡ []) s a0) h u at_answer (counted_right all ls xs counted_loop))
+      (loop_fits R k L all few spread l (var_scope k).taken (loop_start k) (loop_end k) _ (loop_named R k l checked (index_homeless R k l checked e)) e (ap (λ o. turns_loose (var_scope k) o k.answer) e ∙ ap (λ s. turns_loose s (Some l) k.answer) s) ix (index_homeless R k l checked e) (omega arith) (subst (λ s. turns_faults s (loop_start k) (Some l) ≡ []) s f0) (subst (λ s. answer_faults (after_turns s (Some l)) (loop_end k) k.answer ≡ []) s a0) h u at_answer (counted_right all ls xs counted_loop))
 
   straight_fit : k.turns ≡ None → FitsAnswer L (kernel_homes R k) (var_scope k) (loop_end k) k.answer
   straight_fit e =

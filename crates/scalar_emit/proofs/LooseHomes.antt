@@ -1,27 +1,26 @@
--- Accumulators that a loop holds loosely have registers of their own.
-use Rattle.std.proofs.Common.{◌≡◌, ℕ, ◌+◌, ◌≤◌, Bool, true, false, cond, List, [], ◌∷◌, ◌++◌, length, Option, Some, None, refl, sym, subst, arith}
-use Rattle.std.specs.Prelude.{option_map, option_and_then, bytes_eq}
+-- Names that a loop holds loosely have registers of their own.
+use Rattle.std.proofs.Common.{◌≡◌, ◌≢◌, ℕ, ◌+◌, ◌<◌, ◌≤◌, Bool, true, false, cond, List, [], ◌∷◌, ◌++◌, length, Option, Some, None, refl, sym, ◌∙◌, subst, arith}
+use Rattle.std.specs.Prelude.{option_map, option_and_then, unwrap_or, bytes_eq}
 use Rattle.std.specs.List.{find}
 use Rattle.kernel_tree.specs.declared.ops.Ty.{Ty}
 use Rattle.kernel_tree.specs.declared.fault.Binding.{Binding}
-use Rattle.kernel_tree.specs.declared.ast.Shape.{Shape}
 use Rattle.kernel_tree.specs.Plain.{Parameter, Accumulator, PlainLoop, Program}
-use Rattle.kernel_tree.specs.Items.{term_size}
+use Rattle.kernel_tree.specs.Items.{term_size, loop_index}
 use Rattle.kernel_tree.specs.Scopes.{locals_of, accs_of}
-use Rattle.kernel_tree.specs.Typing.{Scope, Local, local, Value, has_name, binding_of, binding_of_shape, accumulator_type, insert_name, declared, in_loop, faults, twice, vars_faults, param_scope, check_fault}
-use Rattle.kernel_tree.proofs.Faultless.{nil-left, nil-right, vars_faultless}
+use Rattle.kernel_tree.specs.Typing.{Scope, Local, local, Value, binding_of_shape, lookup, element_type, accumulator_type, insert_name, declared, in_loop, faults, twice, vars_faults, params_faults, empty, param_scope, check_fault}
+use Rattle.kernel_tree.proofs.Faultless.{nil-left, nil-right, params_faultless, vars_faultless}
 use Rattle.kernel_tree.proofs.NoFault.{not_added}
-use Rattle.kernel_tree.proofs.Names.{bytes_swap, bytes_told, NoName, Untaken, untaken_before}
+use Rattle.kernel_tree.proofs.Names.{bytes_swap, bytes_told, NoName, NoneNamed, vars_named, Untaken, untaken_before}
 use Rattle.loop_form.specs.Entries.{Entry}
-use Rattle.scalar_words.specs.KernelRegisters.{param_homes, var_homes, kernel_homes}
-use Rattle.scalar_words.specs.Layout.{Loose, Layout, Home, Homes, is_home, register_at, LastsAt, NameLasts}
+use Rattle.scalar_words.specs.KernelRegisters.{counted_x, param_homes, var_homes, kernel_homes}
+use Rattle.scalar_words.specs.Layout.{Form, LowBits, Ahead, Behind, Loose, Layout, Home, Homes, is_home, register_of, register_at, Lasts, LastsAt, NameLasts}
+use Rattle.scalar_words.specs.Safe.{Others, OnlyIf, Only}
 use Rattle.scalar_words.proofs.AssignedOf.{counted-low}
 use Rattle.scalar_words.proofs.KernelNames.{scope_at}
-use Rattle.scalar_words.proofs.NameHomes.{Spread, AreHomes, IsAt, is_at, is_var, only_of}
-use Rattle.scalar_emit.specs.Loop.{NoHome, IsOnce, AreHeldLoosely}
-use Rattle.scalar_emit.proofs.LooseBlocks.{AreTypedAt}
+use Rattle.scalar_words.proofs.NameHomes.{Spread, AreHomes, IsAt, is_at, array_lasts}
+use Rattle.scalar_emit.specs.Loop.{index_home, with_index, NoHome, IsOnce, IsFormed, AreHeldLoosely}
+use Rattle.scalar_emit.proofs.LooseBlocks.{AreFormed, AreNamedOnce}
 use Rattle.kernel_tree.specs.declared.fault.Binding.TheVariants as binding
-use Rattle.kernel_tree.specs.declared.ast.Shape.TheVariants as shape
 
 -- ---- names that no others have
 
@@ -65,61 +64,135 @@ free_apart (v ∷ vs) s from e =
 pub vars_apart : (k : Program) → check_fault k ≡ None → AreApart k.vars
 vars_apart k e = (free_apart k.vars (param_scope k) _ (vars_faultless k e)).1
 
--- the name of an accumulator
-once_step : (b : Bool) (x : List ℕ) (R : ℕ → ℕ) (j : ℕ) (v : Accumulator) (vs : List Accumulator) → bytes_eq v.name x ≡ b → NoName v.name (accs_of vs) → IsOnce (var_homes R (j + 1) vs) x → cond b (NoHome x (var_homes R (j + 1) vs)) (IsOnce (var_homes R (j + 1) vs) x)
-once_step true x R j v vs e free more = subst (λ y. NoHome y (var_homes R (j + 1) vs)) (bytes_told v.name x e) (no_var_home v.name R (j + 1) vs free)
-once_step false x R j v vs e free more = more
+-- parameters of different names
+abbrev pub ParamsApart : List Parameter → Type 0
+ParamsApart [] = Unit {0}
+ParamsApart (p ∷ ps) = NoName p.name (locals_of ps) × ParamsApart ps
 
-vars_once : (x : List ℕ) (R : ℕ → ℕ) (j : ℕ) (vs : List Accumulator) → AreApart vs → IsOnce (var_homes R j vs) x
-vars_once x R j [] h = tt
-vars_once x R j (v ∷ vs) h = once_step (bytes_eq v.name x) x R j v vs refl h.0 (vars_once x R (j + 1) vs h.1)
+abbrev ParamsFree : List (List ℕ) → List Parameter → Type 0
+ParamsFree taken [] = Unit {0}
+ParamsFree taken (p ∷ ps) = Untaken p.name taken × ParamsFree taken ps
 
--- and of no parameter
-shape_step : (b : Bool) (x : List ℕ) (p : Parameter) (ps : List Parameter) (ls : List Local) (T : Ty) → bytes_eq p.name x ≡ b → option_and_then accumulator_type (option_map binding_of (cond b (Some (local p.name (binding_of_shape p.shape))) (find (has_name x) (locals_of ps ++ ls)))) ≡ Some T
-    → (option_and_then accumulator_type (option_map binding_of (find (has_name x) (locals_of ps ++ ls))) ≡ Some T → NoName x (locals_of ps)) → NoName x (locals_of (p ∷ ps))
-shape_step true x p ps ls T e h rest = absurd (no_shape p.shape T h)
-  where
-    no_shape : (s : Shape) (T : Ty) → accumulator_type (binding_of_shape s) ≡ Some T → ⊥
-    no_shape (shape.Scalar t) T h = absurd cc
-    no_shape (shape.Array t) T h = absurd cc
-shape_step false x p ps ls T e h rest = (e, rest h)
+params_before : (y : List ℕ) (taken : List (List ℕ)) (ps : List Parameter) → ParamsFree (insert_name taken y) ps → ParamsFree taken ps × NoName y (locals_of ps)
+params_before y taken [] h = (tt, tt)
+params_before y taken (p ∷ ps) h =
+    let one = untaken_before p.name y taken h.0 in
+    let more = params_before y taken ps h.1 in
+    ((one.0, more.0), (bytes_swap y p.name one.1, more.1))
 
-params_other : (x : List ℕ) (ps : List Parameter) (ls : List Local) (T : Ty) → option_and_then accumulator_type (option_map binding_of (find (has_name x) (locals_of ps ++ ls))) ≡ Some T → NoName x (locals_of ps)
-params_other x [] ls T h = tt
-params_other x (p ∷ ps) ls T h = shape_step (bytes_eq p.name x) x p ps ls T refl h (params_other x ps ls T)
+params_free : (ps : List Parameter) (s : Scope) (from : ℕ) → params_faults s from ps ≡ [] → ParamsFree s.taken ps × ParamsApart ps
+params_free [] s from e = (tt, tt)
+params_free (p ∷ ps) s from e =
+    let more = params_free ps (declared s p.name (binding_of_shape p.shape)) (from + 1) (nil-right (twice from s p.name) _ e) in
+    let free = params_before p.name s.taken ps more.0 in
+    ((not_added _ _ (nil-left (twice from s p.name) _ e), free.0), (free.1, more.1))
 
-once_on : (hs gs : Homes) (x : List ℕ) → NoHome x hs → IsOnce gs x → IsOnce (hs ++ gs) x
-once_on [] gs x free h = h
-once_on (y ∷ hs) gs x free h = subst (λ b. cond b (NoHome x (hs ++ gs)) (IsOnce (hs ++ gs) x)) (sym free.0) (once_on hs gs x free.1 h)
+-- ---- homes of different names
 
-kernel_once : (R : ℕ → ℕ) (k : Program) (x : List ℕ) (T : Ty) → AreApart k.vars → option_and_then accumulator_type (option_map binding_of (find (has_name x) (locals_of k.params ++ accs_of k.vars))) ≡ Some T → IsOnce (kernel_homes R k) x
-kernel_once R k x T apart h = once_on (param_homes 0 k.params) (var_homes R 0 k.vars) x (no_param_home x 0 k.params (params_other x k.params (accs_of k.vars) T h)) (vars_once x R 0 k.vars apart)
+abbrev pub AreNamed : Homes → Type 0
+AreNamed [] = Unit {0}
+AreNamed (h ∷ hs) = NoHome h.name hs × AreNamed hs
 
--- ---- accumulators
+param_vars : (p : Parameter) (ps : List Parameter) (vs : List Accumulator) → NoneNamed (p ∷ ps) vs → NoName p.name (accs_of vs) × NoneNamed ps vs
+param_vars p ps [] h = (tt, tt)
+param_vars p ps (v ∷ vs) h = let k = param_vars p ps vs h.1 in ((bytes_swap p.name v.name h.0.0, k.0), (h.0.1, k.1))
 
--- a type that an accumulator has with the loop variable, it has without it
-acc_step : (b : Bool) (x i : List ℕ) (y : Local) (ls : List Local) (T : Ty) → has_name x y ≡ b → (option_and_then accumulator_type (option_map binding_of (find (has_name x) (ls ++ local i binding.Index ∷ []))) ≡ Some T → option_and_then accumulator_type (option_map binding_of (find (has_name x) ls)) ≡ Some T)
-    → option_and_then accumulator_type (option_map binding_of (cond b (Some y) (find (has_name x) (ls ++ local i binding.Index ∷ [])))) ≡ Some T → option_and_then accumulator_type (option_map binding_of (cond b (Some y) (find (has_name x) ls))) ≡ Some T
-acc_step true x i y ls T e rest h = h
-acc_step false x i y ls T e rest h = rest h
+vars_homes_named : (R : ℕ → ℕ) (j : ℕ) (vs : List Accumulator) → AreApart vs → AreNamed (var_homes R j vs)
+vars_homes_named R j [] h = tt
+vars_homes_named R j (v ∷ vs) h = (no_var_home v.name R (j + 1) vs h.0, vars_homes_named R (j + 1) vs h.1)
 
-none_acc : (b : Bool) (i : List ℕ) (T : Ty) → option_and_then accumulator_type (option_map binding_of (cond b (Some (local i binding.Index)) None)) ≡ Some T → None ≡ Some T
-none_acc true i T h = h
-none_acc false i T h = h
+homes_named : (R : ℕ → ℕ) (n : ℕ) (ps : List Parameter) (vs : List Accumulator) → ParamsApart ps → AreApart vs → NoneNamed ps vs → AreNamed (param_homes n ps ++ var_homes R 0 vs)
+homes_named R n [] vs h k none = vars_homes_named R 0 vs k
+homes_named R n (p ∷ ps) vs h k none =
+    let parts = param_vars p ps vs none in
+    (no_home-append p.name (param_homes (n + 1) ps) (var_homes R 0 vs) (no_param_home p.name (n + 1) ps h.0) (no_var_home p.name R 0 vs parts.0), homes_named R (n + 1) ps vs h.1 k parts.1)
 
-acc_outside : (x i : List ℕ) (ls : List Local) (T : Ty) → option_and_then accumulator_type (option_map binding_of (find (has_name x) (ls ++ local i binding.Index ∷ []))) ≡ Some T → option_and_then accumulator_type (option_map binding_of (find (has_name x) ls)) ≡ Some T
-acc_outside x i [] T h = none_acc (has_name x (local i binding.Index)) i T h
-acc_outside x i (y ∷ ls) T h = acc_step (has_name x y) x i y ls T refl (acc_outside x i ls T) h
+pub kernel_named : (R : ℕ → ℕ) (k : Program) → check_fault k ≡ None → AreNamed (kernel_homes R k)
+kernel_named R k e = homes_named R 0 k.params k.vars (params_free k.params (empty (loop_index k)) 0 (params_faultless k e)).1 (vars_apart k e) (vars_named k e)
 
--- what a name stands for
-record IsOne (o : Option Binding) (T : Ty) : Type 0 where
+named_last : (hs : Homes) (g : Home) → AreNamed hs → NoHome g.name hs → AreNamed (hs ++ g ∷ [])
+named_last [] g h free = (tt, tt)
+named_last (y ∷ hs) g h free = (no_home-append y.name hs (g ∷ []) h.0 (bytes_swap y.name g.name free.0, tt), named_last hs g h.1 free.1)
+
+once_step : (b : Bool) (x : List ℕ) (y : Home) (hs : Homes) → bytes_eq y.name x ≡ b → NoHome y.name hs → IsOnce hs x → cond b (NoHome x hs) (IsOnce hs x)
+once_step true x y hs e free more = subst (λ z. NoHome z hs) (bytes_told y.name x e) free
+once_step false x y hs e free more = more
+
+once_of : (hs : Homes) (x : List ℕ) → AreNamed hs → IsOnce hs x
+once_of [] x h = tt
+once_of (y ∷ hs) x h = once_step (is_home x y) x y hs refl h.0 (once_of hs x h.1)
+
+-- ---- homes in different registers
+
+abbrev NoRegister : ℕ → Homes → Type 0
+NoRegister r [] = Unit {0}
+NoRegister r (h ∷ hs) = (h.register ≢ r) × NoRegister r hs
+
+abbrev pub AreDistinct : Homes → Type 0
+AreDistinct [] = Unit {0}
+AreDistinct (h ∷ hs) = NoRegister h.register hs × AreDistinct hs
+
+no_register-append : (r : ℕ) (hs gs : Homes) → NoRegister r hs → NoRegister r gs → NoRegister r (hs ++ gs)
+no_register-append r [] gs h k = k
+no_register-append r (y ∷ hs) gs h k = (h.0, no_register-append r hs gs h.1 k)
+
+distinct_last : (hs : Homes) (g : Home) → AreDistinct hs → NoRegister g.register hs → AreDistinct (hs ++ g ∷ [])
+distinct_last [] g h free = (tt, tt)
+distinct_last (y ∷ hs) g h free = (no_register-append y.register hs (g ∷ []) h.0 ((λ e. free.0 (sym e)), tt), distinct_last hs g h.1 free.1)
+
+param_registers : (r n : ℕ) (ps : List Parameter) → (n ≤ r → n + length ps ≤ r) → NoRegister r (param_homes n ps)
+param_registers r n [] f = tt
+param_registers r n (p ∷ ps) f = ((λ e. absurd (let g = f (omega (arith, e)) in omega (arith, e, g))), param_registers r (n + 1) ps (λ le. let g = f (omega (arith, le)) in omega (arith, g)))
+
+var_registers : (R : ℕ → ℕ) (r j : ℕ) (vs : List Accumulator) → r < 10 → NoRegister r (var_homes R j vs)
+var_registers R r j [] lt = tt
+var_registers R r j (v ∷ vs) lt = ((λ e. absurd (let c = counted-low (R j) in omega (arith, c, e, lt))), var_registers R r (j + 1) vs lt)
+
+module _ (R : ℕ → ℕ) (L : Layout) (accs : ℕ) (spread : Spread R L accs) where
+  number_apart : (i j : ℕ) (vs : List Accumulator) → i < j → j + length vs ≤ accs → NoRegister (counted_x (R i)) (var_homes R j vs)
+  number_apart i j [] lt le = tt
+  number_apart i j (v ∷ vs) lt le = (spread.differ j i (omega (arith, le)) (omega (arith, lt, le)) (λ e. absurd (omega (arith, e, lt))), number_apart i (j + 1) vs (omega (arith, lt)) (omega (arith, le)))
+
+  vars_distinct : (j : ℕ) (vs : List Accumulator) → j + length vs ≤ accs → AreDistinct (var_homes R j vs)
+  vars_distinct j [] le = tt
+  vars_distinct j (v ∷ vs) le = (number_apart j (j + 1) vs (omega arith) (omega (arith, le)), vars_distinct (j + 1) vs (omega (arith, le)))
+
+  homes_distinct : (n : ℕ) (ps : List Parameter) (vs : List Accumulator) → n + length ps ≤ 9 → length vs ≤ accs → AreDistinct (param_homes n ps ++ var_homes R 0 vs)
+  homes_distinct n [] vs few le = vars_distinct 0 vs (omega (arith, le))
+  homes_distinct n (p ∷ ps) vs few le =
+      (no_register-append n (param_homes (n + 1) ps) (var_homes R 0 vs) (param_registers n (n + 1) ps (λ e. absurd (omega (arith, e)))) (var_registers R n 0 vs (omega (arith, few))), homes_distinct (n + 1) ps vs (omega (arith, few)) le)
+
+others_from : (hs : Homes) (r p : ℕ) → NoRegister r hs → Others hs r p
+others_from [] r p h = tt
+others_from (y ∷ hs) r p h = ((λ lasts. h.0), others_from hs r p h.1)
+
+found_step : (b : Bool) (y : Home) (hs : Homes) (x : List ℕ) (p r : ℕ) → y.register ≢ r → LastsAt (cond b (Some y) (find (is_home x) hs)) p → (NameLasts hs x p → register_at hs x ≢ r) → unwrap_or (option_map register_of (cond b (Some y) (find (is_home x) hs))) 31 ≢ r
+found_step true y hs x p r ne lasts more = ne
+found_step false y hs x p r ne lasts more = more lasts
+
+found_other : (hs : Homes) (x : List ℕ) (p r : ℕ) → NoRegister r hs → NameLasts hs x p → register_at hs x ≢ r
+found_other [] x p r h lasts = absurd lasts
+found_other (y ∷ hs) x p r h lasts = found_step (is_home x y) y hs x p r h.0 lasts (found_other hs x p r h.1)
+
+only_step : (b : Bool) (y : Home) (hs : Homes) (x : List ℕ) (p : ℕ) → NoRegister y.register hs → LastsAt (cond b (Some y) (find (is_home x) hs)) p → (NameLasts hs x p → Only hs x (register_at hs x) p)
+    → OnlyIf b y hs (unwrap_or (option_map register_of (cond b (Some y) (find (is_home x) hs))) 31) p (Only hs x (unwrap_or (option_map register_of (cond b (Some y) (find (is_home x) hs))) 31) p)
+only_step true y hs x p free lasts more = (refl, others_from hs y.register p free)
+only_step false y hs x p free lasts more = ((λ l e. found_other hs x p y.register free lasts (sym e)), more lasts)
+
+only_from : (hs : Homes) (x : List ℕ) (p : ℕ) → AreDistinct hs → NameLasts hs x p → Only hs x (register_at hs x) p
+only_from [] x p h lasts = tt
+only_from (y ∷ hs) x p h lasts = only_step (is_home x y) y hs x p h.0 lasts (only_from hs x p h.1)
+
+-- ---- what a name stands for
+
+record IsOne (f : Binding → Option Ty) (o : Option Binding) (T : Ty) : Type 0 where
   bd : Binding
   known : o ≡ Some bd
-  kind : accumulator_type bd ≡ Some T
+  kind : f bd ≡ Some T
 
-one_of : (o : Option Binding) (T : Ty) → option_and_then accumulator_type o ≡ Some T → IsOne o T
-one_of None T e = absurd cc
-one_of (Some bd) T e = record { bd = bd; known = refl; kind = e }
+one_of : (f : Binding → Option Ty) (o : Option Binding) (T : Ty) → option_and_then f o ≡ Some T → IsOne f o T
+one_of f None T e = absurd cc
+one_of f (Some bd) T e = record { bd = bd; known = refl; kind = e }
 
 steady : (h : Home) (p : ℕ) → h.last_use ≡ None → LastsAt (Some h) p
 steady h p u = subst (λ o. LastsAt (Some (record { name = h.name; register = h.register; last_use = o })) p) (sym u) tt
@@ -133,15 +206,29 @@ module _ (k : Program) (R : ℕ → ℕ) (L : Layout) (all : List Entry) where
   var_lasts hs b p x (binding.Value t) T e at = absurd cc
   var_lasts hs b p x binding.Index T e at = absurd cc
 
-  module _ (few : length k.params ≤ 8) (spread : Spread R L (length k.vars)) (apart : AreApart k.vars) where
-    pub held_loose : (tk : List (List ℕ)) (b : ℕ) → AreHomes k R L all b 0 (locals_of k.params ++ accs_of k.vars) (kernel_homes R k) → (l : PlainLoop) (ls : List Loose) → AreTypedAt (in_loop (scope_at k (locals_of k.params ++ accs_of k.vars) tk false) l) ls → AreHeldLoosely (kernel_homes R k) (scope_at k (locals_of k.params ++ accs_of k.vars) tk false) b ls
-    held_loose tk b are l [] h = tt
-    held_loose tk b are l (x ∷ ls) h =
-        let v = locals_of k.params ++ accs_of k.vars in
-        let hs = kernel_homes R k in
-        let w = acc_outside x.name l.index v x.type h.0 in
-        let one = one_of (option_map binding_of (find (has_name x.name) v)) x.type w in
-        let n = is_var k R L all few spread b 0 v hs x.name x.type are w in
-        let reg = n.register' in
-        let at = is_at k R L all b 0 v hs x.name one.bd are one.known in
-        ((w, var_lasts hs b b x.name one.bd x.type one.kind at, (let c = counted-low (R n.number) in omega (arith, c, reg)), only_of k R L all few spread b 0 b v hs x.name x.type are (omega arith) (register_at hs x.name) w refl, kernel_once R k x.name x.type apart w), held_loose tk b are l ls h.1)
+  -- names in a scope of a loop
+  module _ (hs : Homes) (s : Scope) (b : ℕ) (are : AreHomes k R L all b 0 s.visible hs) (index : (x : List ℕ) → s.index ≡ Some x → NameLasts hs x b) (named : AreNamed hs) (distinct : AreDistinct hs) where
+    form_lasts : (f : Form) (x : List ℕ) → IsFormed s x f → NameLasts hs x b
+    form_lasts (LowBits t) x is =
+        let one = one_of accumulator_type (lookup s x) t is in
+        var_lasts hs b b x one.bd t one.kind (is_at k R L all b 0 s.visible hs x one.bd are one.known)
+    form_lasts (Ahead t) x is =
+        let one = one_of element_type (lookup s x) t is in
+        array_lasts k R L all b b hs x one.bd t one.kind (is_at k R L all b 0 s.visible hs x one.bd are one.known)
+    form_lasts Behind x is = index x is
+
+    pub held_loose : (ls : List Loose) → AreFormed s ls → AreNamedOnce ls → AreHeldLoosely hs s b ls
+    held_loose [] h o = tt
+    held_loose (x ∷ ls) h o =
+        let lasts = form_lasts x.form x.name h.0 in
+        ((h.0, (lasts, only_from hs x.name b distinct lasts), once_of hs x.name named, o.0), held_loose ls h.1 o.1)
+
+-- ---- the homes in a loop
+
+pub loop_named : (R : ℕ → ℕ) (k : Program) (l : PlainLoop) → check_fault k ≡ None → NoHome l.index (kernel_homes R k) → AreNamed (with_index (kernel_homes R k) l)
+loop_named R k l e alone = named_last (kernel_homes R k) (index_home l.index) (kernel_named R k e) alone
+
+pub loop_distinct : (R : ℕ → ℕ) (k : Program) (L : Layout) (l : PlainLoop) → length k.params ≤ 8 → Spread R L (length k.vars) → AreDistinct (with_index (kernel_homes R k) l)
+loop_distinct R k L l few spread =
+    distinct_last (kernel_homes R k) (index_home l.index) (homes_distinct R L (length k.vars) spread 0 k.params k.vars (omega (arith, few)) (omega arith))
+    (no_register-append 9 (param_homes 0 k.params) (var_homes R 0 k.vars) (param_registers 9 0 k.params (λ e. omega (arith, few))) (var_registers R 9 0 k.vars (omega arith)))

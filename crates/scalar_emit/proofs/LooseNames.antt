@@ -143,13 +143,15 @@ only_apart [] x y r p ne o lasts = absurd lasts
 only_apart (h ∷ hs) x y r p ne o lasts = only_step (is_home x h) h hs x y r p refl ne o (only_apart hs x y r p ne) lasts
 
 more_step : (b : Bool) (h : Home) (hs gs : Homes) (y : List ℕ) (p : ℕ) → is_home y h ≡ b → (NameLasts hs y p → NameLasts gs y p × (register_at gs y ≡ register_at hs y)) → NameLasts (h ∷ hs) y p → NameLasts (h ∷ gs) y p × (register_at (h ∷ gs) y ≡ register_at (h ∷ hs) y)
-more_step true h hs gs y p e f l =
-    (subst (λ c. LastsAt (cond c (Some h) (find (is_home y) gs)) p) (sym e) (subst (λ c. LastsAt (cond c (Some h) (find (is_home y) hs)) p) e l),
-    ap (λ c. unwrap_or (option_map register_of (cond c (Some h) (find (is_home y) gs))) 31) e ∙ sym (ap (λ c. unwrap_or (option_map register_of (cond c (Some h) (find (is_home y) hs))) 31) e))
+more_step true h hs gs y p e f l = (
+  subst (λ c. LastsAt (cond c (Some h) (find (is_home y) gs)) p) (sym e) (subst (λ c. LastsAt (cond c (Some h) (find (is_home y) hs)) p) e l),
+  ap (λ c. unwrap_or (option_map register_of (cond c (Some h) (find (is_home y) gs))) 31) e ∙ sym (ap (λ c. unwrap_or (option_map register_of (cond c (Some h) (find (is_home y) hs))) 31) e),
+)
 more_step false h hs gs y p e f l =
-    let k = f (subst (λ c. LastsAt (cond c (Some h) (find (is_home y) hs)) p) e l) in
-    (subst (λ c. LastsAt (cond c (Some h) (find (is_home y) gs)) p) (sym e) k.0,
-    ap (λ c. unwrap_or (option_map register_of (cond c (Some h) (find (is_home y) gs))) 31) e ∙ k.1 ∙ sym (ap (λ c. unwrap_or (option_map register_of (cond c (Some h) (find (is_home y) hs))) 31) e))
+    let k = f (subst (λ c. LastsAt (cond c (Some h) (find (is_home y) hs)) p) e l) in (
+      subst (λ c. LastsAt (cond c (Some h) (find (is_home y) gs)) p) (sym e) k.0,
+      ap (λ c. unwrap_or (option_map register_of (cond c (Some h) (find (is_home y) gs))) 31) e ∙ k.1 ∙ sym (ap (λ c. unwrap_or (option_map register_of (cond c (Some h) (find (is_home y) hs))) 31) e),
+    )
 
 -- a name among more homes
 pub found_more : (hs gs : Homes) (y : List ℕ) (p : ℕ) → NameLasts hs y p → NameLasts (hs ++ gs) y p × (register_at (hs ++ gs) y ≡ register_at hs y)
