@@ -1,8 +1,7 @@
 -- What the words before the first iteration do: arrays stand ahead, and the loop variable behind.
-use Rattle.std.proofs.Common.{◌≡◌, ◌≢◌, ℕ, ◌+◌, ◌*◌, ◌%◌, ◌^◌, ◌<◌, ◌≤◌, true, false, List, [], ◌∷◌, ◌++◌, length, Some, refl, sym, ap, ap₂, ◌∙◌, subst, arith, append-nil, append_assoc}
+use Rattle.std.proofs.Common.{◌≡◌, ◌≢◌, ℕ, ◌*◌, ◌%◌, ◌^◌, ◌<◌, ◌≤◌, true, false, List, [], ◌∷◌, ◌++◌, length, Some, refl, sym, ap, ap₂, ◌∙◌, subst, arith, append-nil, append_assoc}
 use Rattle.std.specs.Prelude.{ℤ, pos, ◌+ℤ◌, ◌-ℤ◌, bytes_eq}
 use Rattle.std.proofs.Math.Nat.{mod-eq_of_lt}
-use Rattle.guest_types.specs.Memory.{Memory}
 use Rattle.machine_model.specs.InstructionTable.{Listed}
 use Rattle.machine_model.specs.Machine.{State, Went, x_at}
 use Rattle.machine_model.specs.Arithmetic.{sum, difference, shifted_word}
@@ -27,7 +26,7 @@ use Rattle.scalar_words.proofs.Binary.{word-difference}
 use Rattle.scalar_words.proofs.WordsRuns.{Sets}
 use Rattle.scalar_words.proofs.Constants.{word_back}
 use Rattle.scalar_values.proofs.Loads.{word-sum}
-use Rattle.scalar_emit.specs.Loop.{element_shift, enter_word, enter_code, IsOnce, IsFormed, AreHeldLoosely}
+use Rattle.scalar_emit.specs.Loop.{element_shift, enter_word, enter_code, AreHeldLoosely}
 use Rattle.scalar_emit.proofs.StmtRuns.{held_assigned}
 use Rattle.scalar_emit.proofs.LooseNames.{AreOnce, first_in, before_none, past, added, told_changed, only_apart, entering_words, all_entering}
 

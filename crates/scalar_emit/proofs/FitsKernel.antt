@@ -4,17 +4,17 @@ use Rattle.std.specs.Prelude.{option_map, unwrap_or}
 use Rattle.std.specs.List.{find}
 use Rattle.std.proofs.lemmas.Option.{slice_get_within}
 use Rattle.kernel_tree.specs.declared.ops.Ty.TheVariants.{U64}
-use Rattle.kernel_tree.specs.Plain.{Parameter, Accumulator, PlainLoop, Returned, Program}
+use Rattle.kernel_tree.specs.Plain.{Accumulator, PlainLoop, Returned, Program}
 use Rattle.kernel_tree.specs.Items.{term_size, block_size, vars_size, turns_size, index_of, loop_index, loop_start, loop_end}
 use Rattle.kernel_tree.specs.Typing.{Local, local, Value, lookup, insert_name, in_loop, after_turns, faults, twice, vars_faults, bound_faults, turns_faults, answer_faults, param_scope, var_scope, check_fault}
 use Rattle.kernel_tree.specs.Scopes.{locals_of, accs_of}
 use Rattle.kernel_tree.proofs.Faultless.{nil-left, nil-right, vars_faultless, turns_faultless, answer_faultless}
 use Rattle.kernel_tree.proofs.NoFault.{bound_known}
-use Rattle.kernel_tree.proofs.Names.{bytes_same, NoName, index_alone}
+use Rattle.kernel_tree.proofs.Names.{bytes_same, index_alone}
 use Rattle.loop_form.specs.Entries.{Entry, term_entries, params_entries, vars_entries, turns_entries, answer_entries, loop_entries, entries_of}
 use Rattle.loop_form.proofs.Numbers.{params-listed, vars-listed, term-listed, loop-listed}
 use Rattle.loop_form.proofs.NameUses.{AreUsesCounted, counted_left, counted_right, all_counted}
-use Rattle.scalar_words.specs.Layout.{Loose, Layout, Home, Homes, with_constants, with_loose, is_home, register_of, LastsAt, NameLasts}
+use Rattle.scalar_words.specs.Layout.{Layout, Home, Homes, with_constants, with_loose, is_home, register_of, LastsAt, NameLasts}
 use Rattle.scalar_values.specs.Fits.{IndexAt}
 use Rattle.scalar_emit.specs.Loosening.{covers_block, after_loop, covers_answer, turns_loose, held_loosely}
 use Rattle.scalar_emit.specs.LoopNumbers.{held_numbers, loop_layout, coded_block}
@@ -30,7 +30,7 @@ use Rattle.scalar_words.proofs.SpreadOf.{spread_of}
 use Rattle.scalar_values.proofs.FitsOf.{Sits, untils}
 use Rattle.scalar_words.proofs.NameHomes.{Spread, numbers, AreHomes, homes_later, homes_on, is_at, register_is, others_new, are_safe}
 use Rattle.scalar_emit.proofs.FitsBlocks.{sits_first, sits_second, sits_next, IsIndexed, value_stands, block_fits}
-use Rattle.scalar_emit.proofs.LooseHomes.{no_home-append, no_param_home, no_var_home, AreNamed, AreDistinct, held_loose, loop_named, loop_distinct}
+use Rattle.scalar_emit.proofs.LooseHomes.{no_home-append, no_param_home, no_var_home, AreNamed, held_loose, loop_named, loop_distinct}
 use Rattle.scalar_words.proofs.KernelNames.{names_fit, scope_at, param_scope_is, var_scope_is, others-append, params_nine, vars_nine, numbers_on, numbers_params, first_are, kernel_are}
 use Rattle.kernel_tree.specs.declared.fault.Binding.TheVariants as binding
 

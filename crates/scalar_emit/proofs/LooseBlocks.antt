@@ -1,13 +1,12 @@
 -- The names that a loop holds loosely: its statements and the answer ask for no more of them, each is what its form says and is
 -- named once, and for each that takes a word there is an element, a store or an update.
-use Rattle.std.proofs.Common.{◌≡◌, ℕ, ◌+◌, ◌*◌, ◌≤◌, Bool, true, false, cond, List, [], ◌∷◌, ◌++◌, length, Option, Some, None, refl, sym, ap, ◌∙◌, subst, arith}
+use Rattle.std.proofs.Common.{◌≡◌, ℕ, ◌+◌, ◌*◌, ◌≤◌, Bool, true, false, cond, List, [], ◌∷◌, ◌++◌, length, Option, Some, None, refl, ap, ◌∙◌, arith}
 use Rattle.std.specs.Prelude.{ℤ, is_none, option_map, option_and_then, ◌&&◌, if◌then◌else◌, bytes_eq}
 use Rattle.std.specs.List.{find}
 use Rattle.std.proofs.lemmas.Bool.{and_from}
 use Rattle.kernel_tree.specs.declared.ops.Ty.{Ty}
-use Rattle.kernel_tree.specs.declared.ops.BinaryOp.{BinaryOp}
 use Rattle.kernel_tree.specs.Plain.{Term, Literal, Variable, Element, Unary, Operation, Shift, Conversion, Choice, Comparison, Both, Either, Not, Action, Define, Put, Update, Choose, Leave, Block, Done, Then, Otherwise, Nothing, Else, PlainLoop, Returned, Program}
-use Rattle.kernel_tree.specs.Items.{term_size, action_size, block_size, otherwise_size, turns_size, size_of, stream_offset, index_of}
+use Rattle.kernel_tree.specs.Items.{action_size, block_size, otherwise_size, turns_size, size_of, stream_offset, index_of}
 use Rattle.kernel_tree.specs.Typing.{Scope, lookup, own, first, element_type, accumulator_type, index_type, in_loop, after_turns, var_scope, after_action, after_block, left}
 use Rattle.kernel_tree.proofs.Names.{bytes_swap}
 use Rattle.kernel_tree.proofs.Scopes.{scope_index}
@@ -17,7 +16,7 @@ use Rattle.scalar_words.specs.Layout.{LowBits, Ahead, Behind, Form, Loose, loose
 use Rattle.scalar_words.specs.Words.{is_narrow}
 use Rattle.scalar_values.specs.declared.extent.Extent.TheVariants.{Whole}
 use Rattle.scalar_values.specs.Extents.{extent_at}
-use Rattle.scalar_values.specs.Covers.{is_whole, index_covers, covers}
+use Rattle.scalar_values.specs.Covers.{is_whole, index_covers}
 use Rattle.scalar_values.proofs.CodedSizes.{element_moves, term_moves, moved_few}
 use Rattle.scalar_values.proofs.CoversNone.{covers_none, covers_truth_none}
 use Rattle.scalar_emit.specs.Statements.{update_extent}

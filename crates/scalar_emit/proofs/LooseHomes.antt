@@ -1,5 +1,5 @@
 -- Names that a loop holds loosely have registers of their own.
-use Rattle.std.proofs.Common.{◌≡◌, ◌≢◌, ℕ, ◌+◌, ◌<◌, ◌≤◌, Bool, true, false, cond, List, [], ◌∷◌, ◌++◌, length, Option, Some, None, refl, sym, ◌∙◌, subst, arith}
+use Rattle.std.proofs.Common.{◌≡◌, ◌≢◌, ℕ, ◌+◌, ◌<◌, ◌≤◌, Bool, true, false, cond, List, [], ◌∷◌, ◌++◌, length, Option, Some, None, refl, sym, subst, arith}
 use Rattle.std.specs.Prelude.{option_map, option_and_then, unwrap_or, bytes_eq}
 use Rattle.std.specs.List.{find}
 use Rattle.kernel_tree.specs.declared.ops.Ty.{Ty}
@@ -7,16 +7,15 @@ use Rattle.kernel_tree.specs.declared.fault.Binding.{Binding}
 use Rattle.kernel_tree.specs.Plain.{Parameter, Accumulator, PlainLoop, Program}
 use Rattle.kernel_tree.specs.Items.{term_size, loop_index}
 use Rattle.kernel_tree.specs.Scopes.{locals_of, accs_of}
-use Rattle.kernel_tree.specs.Typing.{Scope, Local, local, Value, binding_of_shape, lookup, element_type, accumulator_type, insert_name, declared, in_loop, faults, twice, vars_faults, params_faults, empty, param_scope, check_fault}
+use Rattle.kernel_tree.specs.Typing.{Scope, Value, binding_of_shape, lookup, element_type, accumulator_type, insert_name, declared, faults, twice, vars_faults, params_faults, empty, param_scope, check_fault}
 use Rattle.kernel_tree.proofs.Faultless.{nil-left, nil-right, params_faultless, vars_faultless}
 use Rattle.kernel_tree.proofs.NoFault.{not_added}
 use Rattle.kernel_tree.proofs.Names.{bytes_swap, bytes_told, NoName, NoneNamed, vars_named, Untaken, untaken_before}
 use Rattle.loop_form.specs.Entries.{Entry}
 use Rattle.scalar_words.specs.KernelRegisters.{counted_x, param_homes, var_homes, kernel_homes}
-use Rattle.scalar_words.specs.Layout.{Form, LowBits, Ahead, Behind, Loose, Layout, Home, Homes, is_home, register_of, register_at, Lasts, LastsAt, NameLasts}
+use Rattle.scalar_words.specs.Layout.{Form, LowBits, Ahead, Behind, Loose, Layout, Home, Homes, is_home, register_of, register_at, LastsAt, NameLasts}
 use Rattle.scalar_words.specs.Safe.{Others, OnlyIf, Only}
 use Rattle.scalar_words.proofs.AssignedOf.{counted-low}
-use Rattle.scalar_words.proofs.KernelNames.{scope_at}
 use Rattle.scalar_words.proofs.NameHomes.{Spread, AreHomes, IsAt, is_at, array_lasts}
 use Rattle.scalar_emit.specs.Loop.{index_home, with_index, NoHome, IsOnce, IsFormed, AreHeldLoosely}
 use Rattle.scalar_emit.proofs.LooseBlocks.{AreFormed, AreNamedOnce}

@@ -1,5 +1,5 @@
 -- Names that are held loosely, one more or one fewer, and their registers.
-use Rattle.std.proofs.Common.{◌≡◌, ◌≢◌, ℕ, suc, ◌+◌, ◌*◌, ◌≤◌, Bool, true, false, cond, List, [], ◌∷◌, ◌++◌, length, take, Option, Some, None, refl, sym, ap, ◌∙◌, subst, arith, append-nil}
+use Rattle.std.proofs.Common.{◌≡◌, ◌≢◌, ℕ, ◌+◌, ◌*◌, ◌≤◌, Bool, true, false, cond, List, [], ◌∷◌, ◌++◌, length, take, Option, Some, None, refl, sym, ap, ◌∙◌, subst, arith, append-nil}
 use Rattle.std.specs.Prelude.{ℤ, pos, ◌+ℤ◌, ◌-ℤ◌, option_map, option_and_then, unwrap_or, bytes_eq}
 use Rattle.std.specs.List.{find}
 use Rattle.std.proofs.lemmas.Int.{ints}
@@ -8,11 +8,10 @@ use Rattle.kernel_tree.specs.declared.ops.Ty.{Ty}
 use Rattle.kernel_tree.specs.declared.ops.Ty.TheVariants as ty
 use Rattle.kernel_tree.specs.declared.fault.Binding.{Binding}
 use Rattle.kernel_tree.specs.declared.fault.Binding.TheVariants as binding
-use Rattle.kernel_tree.specs.Plain.{PlainLoop}
-use Rattle.kernel_tree.specs.Typing.{Scope, Local, local, has_name, binding_of, lookup, element_type, accumulator_type, in_loop}
+use Rattle.kernel_tree.specs.Typing.{Scope, Local, local, has_name, binding_of, lookup, element_type, accumulator_type}
 use Rattle.kernel_tree.proofs.Names.{bytes_same, bytes_swap, bytes_told}
 use Rattle.kernel_meaning.specs.Operators.{word}
-use Rattle.kernel_meaning.specs.Eval.{Named, Names, is_named, value_at, byte_count}
+use Rattle.kernel_meaning.specs.Eval.{Named, Names, is_named, value_at}
 use Rattle.kernel_meaning.specs.Iterate.{named, assigned}
 use Rattle.kernel_meaning.specs.Ranges.{AreRanged}
 use Rattle.scalar_words.specs.Layout.{Form, LowBits, Ahead, Behind, Loose, loose_form, is_loose, loose_in, Home, Homes, is_home, register_of, register_at, Lasts, LastsAt, NameLasts}
