@@ -302,11 +302,13 @@ take_first (x ∷ xs) ys = ap (λ zs. x ∷ zs) (take_first xs ys)
 
 -- ---- words
 
+-- before the first iteration
 abbrev pub entering_words : Form → ℕ
 entering_words (LowBits t) = 0
 entering_words (Ahead t) = 1
 entering_words Behind = 1
 
+-- and after the last one
 abbrev pub settling_words : Form → ℕ
 settling_words (LowBits t) = 1
 settling_words (Ahead t) = 0
@@ -320,6 +322,7 @@ abbrev pub all_settling : List Loose → ℕ
 all_settling [] = 0
 all_settling (l ∷ ls) = settling_words l.form + all_settling ls
 
+-- what the loop variable saves in an iteration, where it stands behind
 abbrev behind_words : Form → ℕ
 behind_words (LowBits t) = 0
 behind_words (Ahead t) = 0
