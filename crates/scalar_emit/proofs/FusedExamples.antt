@@ -1,11 +1,11 @@
 -- The code of worked kernels, in which products and casts have no words of their own.
 use Rattle.std.proofs.Common.{◌≡◌, ℕ, List, [], ◌∷◌, Some, None, refl}
 use Rattle.std.specs.Prelude.{pos, slice_index}
-use Rattle.a64_code.specs.Table.{add, add_imm, subs, subs_imm, movz, movk, madd, orr, csel, sbfm, ubfm, ldrsh_register, ldrb_register, str_w_register, svc}
+use Rattle.a64_code.specs.Table.{add, add_imm, sub, subs, subs_imm, movz, movk, madd, orr, csel, sbfm, ubfm, ldrsh_register, ldrb_register, str_w_register, svc}
 use Rattle.kernel_tree.specs.Plain.{Term, Literal, Variable, Element, Operation, Conversion, Comparison, Either, Define, Put, Update, Choose, Block, Done, Then, Else, Program}
 use Rattle.loop_form.specs.Entries.{item_type}
 use Rattle.loop_form.specs.Listing.{last_use_from}
-use Rattle.label_fix.specs.DraftRun.{Branch, Place, Always, If, ins}
+use Rattle.label_fix.specs.DraftRun.{Branch, Place, Always, If, NotZero, ins}
 use Rattle.scalar_values.specs.Code.{is_led}
 use Rattle.scalar_emit.specs.Kernel.{scalar_code}
 use Rattle.kernel_tree.specs.declared.ops.Ty.TheVariants as ty
@@ -66,6 +66,8 @@ lcg-loops : scalar_code lcg-registers lcg 0 [] ≡
     Place 0
     ∷ ins subs (31 ∷ 9 ∷ 0 ∷ 1 ∷ 0 ∷ [])
     ∷ Branch (If 2) 1
+    ∷ ins sub (9 ∷ 9 ∷ 0 ∷ 1 ∷ 0 ∷ [])
+    ∷ ins add (0 ∷ 0 ∷ 2 ∷ 1 ∷ 0 ∷ [])
     ∷ ins movz (8 ∷ 26124 ∷ 0 ∷ [])
     ∷ ins movk (8 ∷ 25 ∷ 1 ∷ [])
     ∷ ins movz (7 ∷ 62303 ∷ 0 ∷ [])
@@ -75,9 +77,9 @@ lcg-loops : scalar_code lcg-registers lcg 0 [] ≡
     ∷ ins add (10 ∷ 10 ∷ 0 ∷ 11 ∷ 0 ∷ [])
     ∷ ins str_w_register (10 ∷ 0 ∷ 1 ∷ 9 ∷ [])
     ∷ ins add_imm (9 ∷ 9 ∷ 1 ∷ 0 ∷ [])
-    ∷ ins subs (31 ∷ 9 ∷ 0 ∷ 1 ∷ 0 ∷ [])
-    ∷ Branch (If 3) 2
+    ∷ Branch (NotZero 9) 2
     ∷ Place 3
+    ∷ ins add (9 ∷ 9 ∷ 0 ∷ 1 ∷ 0 ∷ [])
     ∷ ins ubfm (10 ∷ 10 ∷ 31 ∷ 0 ∷ [])
     ∷ Place 1
     ∷ ins movz (0 ∷ 0 ∷ 0 ∷ [])
@@ -122,6 +124,10 @@ sweep-loops : scalar_code sweep-registers sweep 0 [] ≡
     Place 0
     ∷ ins subs (31 ∷ 9 ∷ 0 ∷ 4 ∷ 0 ∷ [])
     ∷ Branch (If 2) 1
+    ∷ ins sub (9 ∷ 9 ∷ 0 ∷ 4 ∷ 0 ∷ [])
+    ∷ ins add (0 ∷ 0 ∷ 1 ∷ 4 ∷ 0 ∷ [])
+    ∷ ins add (1 ∷ 1 ∷ 0 ∷ 4 ∷ 0 ∷ [])
+    ∷ ins add (2 ∷ 2 ∷ 2 ∷ 4 ∷ 0 ∷ [])
     ∷ ins add_imm (8 ∷ 1 ∷ 6 ∷ 0 ∷ [])
     ∷ Place 2
     ∷ ins ldrsh_register (12 ∷ 0 ∷ 1 ∷ 9 ∷ [])
@@ -142,9 +148,9 @@ sweep-loops : scalar_code sweep-registers sweep 0 [] ≡
     ∷ ins csel (11 ∷ 11 ∷ 12 ∷ 12 ∷ [])
     ∷ Place 6
     ∷ ins add_imm (9 ∷ 9 ∷ 1 ∷ 0 ∷ [])
-    ∷ ins subs (31 ∷ 9 ∷ 0 ∷ 4 ∷ 0 ∷ [])
-    ∷ Branch (If 3) 2
+    ∷ Branch (NotZero 9) 2
     ∷ Place 3
+    ∷ ins add (9 ∷ 9 ∷ 0 ∷ 4 ∷ 0 ∷ [])
     ∷ Place 1
     ∷ ins add (12 ∷ 10 ∷ 0 ∷ 11 ∷ 0 ∷ [])
     ∷ ins orr (0 ∷ 31 ∷ 0 ∷ 12 ∷ 0 ∷ [])
