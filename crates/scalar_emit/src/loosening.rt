@@ -6,7 +6,8 @@ ghost use Rattle.kernel_tree.specs.Parts.{part_action};
 ghost use Rattle.kernel_scope.specs.Scopes.{scope_of};
 ghost use Rattle.reg_assign.specs.Registers.{IsAssignment};
 ghost use Rattle.scalar_words.specs.View.{form_of, loose_of, looses_of};
-ghost use Rattle.scalar_words.specs.Layout.{with_loose};
+ghost use Rattle.scalar_words.specs.Layout.{loose_in, with_loose};
+ghost use Rattle.scalar_values.specs.Covers as asked;
 ghost use Rattle.scalar_words.specs.Layout as layout;
 ghost use Rattle.scalar_emit.specs.Statements.{is_effect};
 ghost use Rattle.kernel_meaning.specs.Operators as operators;
@@ -52,13 +53,20 @@ fn update_extent(loose: &[Loose], name: &Name, op: BinaryOp, want: Option<Ty>) -
     binary_extent(op, held, want)
 }
 
+// Whether a name tells as much as is asked of it.
+fn tells_enough(loose: &[Loose], name: &Name, extent: Extent) -> bool
+    ensures { result ≡ asked.is_enough (loose_in (looses_of loose.now) (name_of name.now)) extent }
+{
+    is_enough(loose_form(loose, name), extent)
+}
+
 fn covers_update(loose: &[Loose], scope: &Scope, name: &Name, op: UpdateOp, value: &Expr) -> bool
     ensures { result ≡ loosening.covers_action (looses_of loose.now) (scope_of scope.now)
         (Update (name_of name.now) op (term_of value.now)) }
 {
     let want = lookup(scope, name).and_then(accumulator_type);
     let asked = update_extent(loose, name, update_operator(op), want);
-    is_enough(loose_form(loose, name), asked) && covers(loose, scope, asked, want, value)
+    tells_enough(loose, name, asked) && covers(loose, scope, asked, want, value)
 }
 
 fn covers_let<'a>(

@@ -17,7 +17,7 @@ returns-in_ok-emit_following-in-Some-clause-code c rest =
     let turns = ap (λ (o : Option Loop). option_map turns_of o) c.in-Some.is in
     let end : c.emit_turns.new.item ≡ loop_end k = c.in_ok-head-in-Some.ensures.item ∙ ap₂ (λ m n. m + n) c.requires.start (ap turns_size (sym turns)) in
     let held = held_is R k c.loosen_names.new.places c.hold_numbers.new.places c.args.places.now c.in_ok-loosen_names-in-Some.ensures c.in_ok-hold_numbers-in-Some.ensures c.requires.places in
-    let left = bare_is R k c.loosen.new.self c.hold.new.self c.loosen_names.new.places _ _ c.loosen.ensures (c.in_ok-ahead.ensures ∙ ap after_loop c.loose.ensures) c.hold.ensures (ap constants_of c.new.ensures.items) held in
+    let left = bare_is R k c.loosen.new.self c.hold.new.self c.loosen_names.new.places _ _ c.loosen.ensures (c.in_ok-ahead-in-Some.ensures ∙ ap after_loop c.loose.ensures) c.hold.ensures (ap constants_of c.new.ensures.items) held in
     c.in_ok-emit_following-in-Some.ensures.code rest
     ∙ c.in_ok-head-in-Some.ensures.code _
     ∙ ap (λ (es : List Entry). c.args.draft.now.entries ++ es)
