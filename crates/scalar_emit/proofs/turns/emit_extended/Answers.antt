@@ -1,0 +1,22 @@
+use Rattle.std.proofs.Common.{◌+◌, List, ◌++◌, drop, refl, ap, ◌∙◌}
+use Rattle.label_fix.specs.DraftRun.{Entry}
+use Rattle.loop_form.proofs.LoopLists.{next-entry}
+use Rattle.scalar_words.specs.View.{homes_of, looses_of}
+use Rattle.scalar_emit.specs.Loop.{settle_code}
+use Rattle.scalar_emit.proofs.Emission.{settle_step}
+use Rattle.scalar_emit.proofs.turns.emit_extended.Goals as goal
+
+pub loop-held-preserved : goal.loop-held-preserved
+loop-held-preserved c =
+    let l = c.loop-held in
+    let ls = c.args.loose.now in
+    let hs = homes_of c.args.homes.now in
+    let r = c.args.bound.number in
+    let more = drop (l.held-index + 1) ls in
+    let e = next-entry ls l.held-index c.held-item.result c.loop-held-test.true c.held-item.is in
+    record {
+      labels = c.in_ok-emit_left.ensures.labels ∙ l.invariant.labels;
+      code = λ rest. c.in_ok-emit_left.ensures.code (settle_code r hs (looses_of more) rest)
+          ∙ ap (λ (es : List Entry). l.draft.entries ++ es) (settle_step r hs (drop l.held-index ls) more c.held-item.result _ rest e refl)
+          ∙ l.invariant.code rest;
+    }
