@@ -1,5 +1,5 @@
 -- What emission keeps of names.
-use Rattle.std.proofs.Common.{◌≡◌, Bool, true, ℕ, zero, suc, ◌+◌, List, [], ◌∷◌, ◌++◌, length, take, Option, Some, None, refl, sym, ap, ◌∙◌, arith, append_assoc}
+use Rattle.std.proofs.Common.{◌≡◌, Bool, true, ℕ, zero, suc, ◌+◌, ◌<◌, List, [], ◌∷◌, ◌++◌, length, take, drop, get_or, drop-cons, add-one, Option, Some, None, refl, sym, ap, ◌∙◌, arith, append_assoc}
 use Rattle.kernel_tree.specs.Plain.{Term, Block, Parameter, Accumulator, PlainLoop, Program}
 use Rattle.kernel_tree.specs.Items.{turns_size, loop_index, loop_start, loop_end}
 use Rattle.kernel_tree.specs.Typing.{Scope, first, param_scope, var_scope}
@@ -90,8 +90,16 @@ bare_is R k L M N cs ls d left e none f =
 
 -- ---- names that are held loosely
 
-pub enter_step : (r : ℕ) (hs : Homes) (ls ms : List Held) (l : Held) (d : ℕ) (rest : List Entry) → ls ≡ l ∷ ms → d ≡ register_at hs (lent_text l.name) → word_code (enter_word r d (form_of l.form)) (enter_code r hs (looses_of ms) rest) ≡ enter_code r hs (looses_of ls) rest
-enter_step r hs ls ms l d rest e f = ap (λ q. word_code (enter_word r q (form_of l.form)) (enter_code r hs (looses_of ms) rest)) f ∙ ap (λ (xs : List Held). enter_code r hs (looses_of xs) rest) (sym e)
+-- what is left of them from a place on
+here : (ls : List Held) (i : ℕ) (l : Held) → i < length ls → drop i ls ≡ get_or ls i l ∷ drop (i + 1) ls
+here ls i l lt = drop-cons ls i l lt ∙ ap (λ n. get_or ls i l ∷ drop n ls) (sym (add-one i))
 
-pub settle_step : (r : ℕ) (hs : Homes) (ls ms : List Held) (l : Held) (d : ℕ) (rest : List Entry) → ls ≡ l ∷ ms → d ≡ register_at hs (lent_text l.name) → word_code (settle_form r d (form_of l.form)) (settle_code r hs (looses_of ms) rest) ≡ settle_code r hs (looses_of ls) rest
-settle_step r hs ls ms l d rest e f = ap (λ q. word_code (settle_form r q (form_of l.form)) (settle_code r hs (looses_of ms) rest)) f ∙ ap (λ (xs : List Held). settle_code r hs (looses_of xs) rest) (sym e)
+pub enter_step : (r : ℕ) (hs : Homes) (ls : List Held) (i : ℕ) (l : Held) (d : ℕ) (rest : List Entry) → i < length ls → d ≡ register_at hs (lent_text (get_or ls i l).name) → word_code (enter_word r d (form_of (get_or ls i l).form)) (enter_code r hs (looses_of (drop (i + 1) ls)) rest) ≡ enter_code r hs (looses_of (drop i ls)) rest
+enter_step r hs ls i l d rest lt f =
+    ap (λ q. word_code (enter_word r q (form_of (get_or ls i l).form)) (enter_code r hs (looses_of (drop (i + 1) ls)) rest)) f
+    ∙ ap (λ (xs : List Held). enter_code r hs (looses_of xs) rest) (sym (here ls i l lt))
+
+pub settle_step : (r : ℕ) (hs : Homes) (ls : List Held) (i : ℕ) (l : Held) (d : ℕ) (rest : List Entry) → i < length ls → d ≡ register_at hs (lent_text (get_or ls i l).name) → word_code (settle_form r d (form_of (get_or ls i l).form)) (settle_code r hs (looses_of (drop (i + 1) ls)) rest) ≡ settle_code r hs (looses_of (drop i ls)) rest
+settle_step r hs ls i l d rest lt f =
+    ap (λ q. word_code (settle_form r q (form_of (get_or ls i l).form)) (settle_code r hs (looses_of (drop (i + 1) ls)) rest)) f
+    ∙ ap (λ (xs : List Held). settle_code r hs (looses_of xs) rest) (sym (here ls i l lt))

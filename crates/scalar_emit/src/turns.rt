@@ -5,12 +5,12 @@ ghost use Rattle.label_fix.specs.Draft.{word_view};
 ghost use Rattle.a64_code.specs.Table as table;
 ghost use Rattle.kernel_tree.specs.Plain.{name_of, turns_of, block_of};
 ghost use Rattle.kernel_tree.specs.Kinds.{BlockKinds};
-ghost use Rattle.kernel_scope.specs.Scopes.{lent_text, scope_of};
+ghost use Rattle.kernel_scope.specs.Scopes.{scope_of};
 ghost use Rattle.scalar_emit.specs.Statements.{block_labels, block_code, block_homes};
 ghost use Rattle.scalar_words.specs.Drafts.{Appends};
 ghost use Rattle.scalar_words.specs.View.{form_of, homes_of, looses_of};
 ghost use Rattle.scalar_words.specs.Words.{word_code};
-ghost use Rattle.scalar_words.specs.Layout.{loose_in, register_at};
+ghost use Rattle.scalar_words.specs.Layout.{loose_in};
 ghost use Rattle.kernel_tree.specs.Items as items;
 ghost use Rattle.label_fix.specs.DraftRun as plain;
 ghost use Rattle.scalar_emit.specs.Loop as loops;
@@ -164,16 +164,6 @@ fn emit_form(draft: &mut Draft, bound: Reg, to: Reg, form: Form) -> Result<(), A
     }
 }
 
-// The same of a name.
-fn emit_move(draft: &mut Draft, bound: Reg, homes: &[Home], held: &Loose) -> Result<(), AllocError>
-    ensures labels { OnOk result (draft.new.labels ≡ draft.old.labels) }
-    ensures code { OnOk result (Appends draft.old draft.new
-        (word_code (loops.enter_word bound.number (register_at (homes_of homes.now) (lent_text held.now.name))
-        (form_of held.now.form)))) }
-{
-    emit_form(draft, bound, register_named(homes, held.name), held.form)
-}
-
 // The same of the names that are held loosely.
 fn emit_moves(
     draft: &mut Draft,
@@ -186,7 +176,7 @@ fn emit_moves(
         (loops.enter_code bound.number (homes_of homes.now) (looses_of loose.now))) }
 {
     for held in loose {
-        emit_move(draft, bound, homes, held)?;
+        emit_form(draft, bound, register_named(homes, held.name), held.form)?;
     }
     Ok(())
 }
@@ -237,16 +227,6 @@ fn emit_settled(draft: &mut Draft, bound: Reg, to: Reg, form: Form) -> Result<()
     }
 }
 
-// The same of a name.
-fn emit_left(draft: &mut Draft, bound: Reg, homes: &[Home], held: &Loose) -> Result<(), AllocError>
-    ensures labels { OnOk result (draft.new.labels ≡ draft.old.labels) }
-    ensures code { OnOk result (Appends draft.old draft.new
-        (word_code (loops.settle_form bound.number (register_at (homes_of homes.now) (lent_text held.now.name))
-        (form_of held.now.form)))) }
-{
-    emit_settled(draft, bound, register_named(homes, held.name), held.form)
-}
-
 // The same of the names that were held loosely.
 fn emit_extended(
     draft: &mut Draft,
@@ -259,7 +239,7 @@ fn emit_extended(
         (loops.settle_code bound.number (homes_of homes.now) (looses_of loose.now))) }
 {
     for held in loose {
-        emit_left(draft, bound, homes, held)?;
+        emit_settled(draft, bound, register_named(homes, held.name), held.form)?;
     }
     Ok(())
 }
