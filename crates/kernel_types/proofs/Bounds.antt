@@ -18,19 +18,23 @@ index_at_most (Some c) n = omega arith
 
 joined_size : (i : Option (List ℕ)) (j : Joint) (a b : Term) → term_size i (joined j a b) ≤ term_size i a + term_size i b + 2
 joined_size i (joint.Dual op) a b = omega arith
-joined_size i other a b = omega arith
+joined_size i joint.Both a b = omega arith
+joined_size i joint.Either a b = omega arith
 
 signed_size : (i : Option (List ℕ)) (s : Sign) (e : Term) → term_size i (signed s e) ≡ term_size i e + 1
 signed_size i sign.Minus e = refl
-signed_size i other e = refl
+signed_size i sign.Flip e = refl
+signed_size i sign.Not e = refl
 
 joined_depth : (j : Joint) (a b : Term) → term_depth (joined j a b) ≡ max (term_depth a) (term_depth b) + 1
 joined_depth (joint.Dual op) a b = refl
-joined_depth other a b = refl
+joined_depth joint.Both a b = refl
+joined_depth joint.Either a b = refl
 
 signed_depth : (s : Sign) (e : Term) → term_depth (signed s e) ≡ term_depth e + 1
 signed_depth sign.Minus e = refl
-signed_depth other e = refl
+signed_depth sign.Flip e = refl
+signed_depth sign.Not e = refl
 
 -- ---- sizes
 

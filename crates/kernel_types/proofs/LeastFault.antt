@@ -12,8 +12,10 @@ abbrev key : Found → ℕ
 key f = 16 * f.item + order_of f.fault
 
 pub sooner-assoc : (o p q : Option Found) → sooner (sooner o p) q ≡ sooner o (sooner p q)
+sooner-assoc None p q = refl
+sooner-assoc (Some f) None q = refl
+sooner-assoc (Some f) (Some g) None = refl
 sooner-assoc (Some f) (Some g) (Some h) = three (ltb (key g) (key f)) (ltb (key h) (key g)) (ltb (key h) (key f)) refl refl refl
-sooner-assoc o p q = refl
   where
     three : (gf hg hf : Bool) → is_before g f ≡ gf → is_before h g ≡ hg → is_before h f ≡ hf → sooner (sooner (Some f) (Some g)) (Some h) ≡ sooner (Some f) (sooner (Some g) (Some h))
     three true true true p q r = rw (p, q, r) refl
