@@ -46,7 +46,7 @@ low_wrap t n v low h =
 
 -- no values of items
 abbrev bare : Layout
-bare = record { regs = []; untils = []; constants = [] }
+bare = record { regs = []; untils = []; constants = []; loose = [] }
 
 bare_assigned : Assigned bare
 bare_assigned = record {
