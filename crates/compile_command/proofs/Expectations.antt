@@ -6,9 +6,9 @@ use Rattle.promises.specs.declared.fault.CompileFault.{CompileFault}
 use Rattle.promises.specs.declared.fault.CompileFault.TheVariants as compiling
 use Rattle.promises.specs.Refusals.{too_many, IsRefusal}
 use Rattle.kernel_tree.specs.Plain.{Program}
-use Rattle.kernel_front.specs.Verdict.{Verdict, Limited, NoKernel, Refused, Sound, IsVerdict}
+use Rattle.kernel_front.specs.Verdict.{Verdict, Sound, IsVerdict}
 use Rattle.refusals.specs.declared.refusal.Refusal.{Refusal}
-use Rattle.refusals.specs.declared.refusal.Refusal.TheVariants.{Usage, TooManyLive, Kernel, TooLong, Elf, Map, Asm, Pipe, Memory, File, Output}
+use Rattle.refusals.specs.declared.refusal.Refusal.TheVariants.{TooManyLive, Memory}
 use Rattle.command_answers.specs.Answer.{Held, Expected, Answer, expected_text}
 use Rattle.command_answers.specs.Outputs.{Prints}
 use Rattle.command_answers.specs.Reads.{file_of, AfterRead}
@@ -31,15 +31,7 @@ compile_refusal text k refusal (Err r) v is h = subst (RefusesText (CompileExpec
     by : (refusal : Refusal) → RefusesCompile k refusal → RefusesText (CompileExpects text) refusal
     by Memory h = tt
     by (TooManyLive class need) h = λ work w. subst (ByVerdict compiled text) h (sound_text compiled text k v)
-    by Usage h = absurd h
-    by (Kernel fault) h = absurd h
-    by TooLong h = absurd h
-    by (Elf fault) h = absurd h
-    by (Map fault) h = absurd h
-    by (Asm fault) h = absurd h
-    by (Pipe fault) h = absurd h
-    by File h = absurd h
-    by Output h = absurd h
+    by other h = absurd h
 
 -- what is wanted of `compile` has no text
 no_own_text : (k : Program) (o : Option RegClass) → expected_text (compiled_by k o) ≡ []
@@ -47,10 +39,8 @@ no_own_text k None = refl
 no_own_text k (Some class) = refl
 
 no_text : (v : Verdict) (work : Expected) → IsExpectedOf compiled v work → expected_text work ≡ []
-no_text (Limited fault) work w = ap expected_text w.is_refused
-no_text (NoKernel token) work w = ap expected_text w.is_refused
-no_text (Refused refusal) work w = ap expected_text w.is_refused
 no_text (Sound k) work w = ap expected_text w ∙ no_own_text k (too_many k)
+no_text other work w = ap expected_text w.is_refused
 
 pub compile_silent : (r : Result (List ℕ) Refusal) (work : Expected) → AfterRead r CompileExpects work → expected_text work ≡ []
 compile_silent (Ok text) work w = no_text w.verdict work w.wanted

@@ -5,7 +5,7 @@ use Rattle.command_line.specs.Line.{Task}
 use Rattle.kernel_tree.specs.Plain.{Program}
 use Rattle.kernel_front.specs.Verdict.{Sound, IsVerdict}
 use Rattle.refusals.specs.declared.refusal.Refusal.{Refusal}
-use Rattle.refusals.specs.declared.refusal.Refusal.TheVariants.{Usage, TooManyLive, Kernel, TooLong, Elf, Map, Asm, Pipe, Memory, File, Output}
+use Rattle.refusals.specs.declared.refusal.Refusal.TheVariants.{TooManyLive, Kernel, Elf, Map, Memory}
 use Rattle.command_answers.specs.Answer.{Held, Expected, Answer, answer_of, IsFileAnswer}
 use Rattle.command_answers.specs.Reads.{file_of, task_files, AfterRead}
 use Rattle.command_answers.specs.Works.{WhereExpected, RefusesProgram}
@@ -26,14 +26,7 @@ refused_one x z wanted next read refusal result e is h = λ work w. by refusal i
     by Memory is h work n w = (work, w, inr (inl is))
     by (TooManyLive class need) is h work n w = (Err (TooManyLive class need), subst (λ r. AfterRead r next (Err (TooManyLive class need))) e (h work n), inl is)
     by (Kernel fault) is h work n w = (Err (Kernel fault), subst (λ r. AfterRead r next (Err (Kernel fault))) e (h work n), inl is)
-    by Usage is h work n w = absurd h
-    by TooLong is h work n w = absurd h
-    by (Elf fault) is h work n w = absurd h
-    by (Map fault) is h work n w = absurd h
-    by (Asm fault) is h work n w = absurd h
-    by (Pipe fault) is h work n w = absurd h
-    by File is h work n w = absurd h
-    by Output is h work n w = absurd h
+    by other is h work n w = absurd h
 
 pub text_refused : (x y z : ℕ) (held : Option Held) (from bytes : List ℕ) (next : List ℕ → Expected → Type 0) (found : Result (List ℕ) Refusal) (refusal : Refusal) (result : Answer) → found ≡ Ok bytes → IsErrAnd result (λ r. r ≡ refusal) → IfSome held (λ h. IsFileAnswer x y (file_of h from) found) → RefusesText (next bytes) refusal → IfSome held (λ h. WhereExpected (AfterRead (file_of h from) next) (λ work. IsFileAnswer x z (answer_of work) result))
 text_refused x y z None from bytes next found refusal result is err read h = tt
@@ -50,27 +43,13 @@ eval_refusal sound text k refusal (Err r) v is h of = subst (RefusesEval (ByVerd
     by Memory h of = tt
     by (Map fault) h of = subst (ByVerdict sound text) h (sound_text sound text k v)
     by (Elf fault) h of = absurd of
-    by Usage h of = absurd h
-    by (TooManyLive class need) h of = absurd h
-    by (Kernel fault) h of = absurd h
-    by TooLong h of = absurd h
-    by (Asm fault) h of = absurd h
-    by (Pipe fault) h of = absurd h
-    by File h of = absurd h
-    by Output h of = absurd h
+    by other h of = absurd h
 
 refused_two : (x z : ℕ) (wanted : Result (List ℕ × List ℕ) Refusal) (next : List ℕ × List ℕ → Expected → Type 0) (read : List ℕ × List ℕ) (refusal : Refusal) (result : Answer) → Ok read ≡ wanted → result ≡ Err refusal → RefusesEval (next read) refusal → WhereExpected (AfterRead wanted next) (λ work. IsFileAnswer x z (answer_of work) result)
 refused_two x z wanted next read Memory result e is h = refused_one x z wanted next read Memory result e is h
 refused_two x z wanted next read (Kernel fault) result e is h = refused_one x z wanted next read (Kernel fault) result e is h
 refused_two x z wanted next read (Map fault) result e is h = λ work w. (Err (Map fault), subst (λ r. AfterRead r next (Err (Map fault))) e h, inl is)
-refused_two x z wanted next read (TooManyLive class need) result e is h = absurd h
-refused_two x z wanted next read Usage result e is h = absurd h
-refused_two x z wanted next read TooLong result e is h = absurd h
-refused_two x z wanted next read (Asm fault) result e is h = absurd h
-refused_two x z wanted next read (Pipe fault) result e is h = absurd h
-refused_two x z wanted next read (Elf fault) result e is h = absurd h
-refused_two x z wanted next read File result e is h = absurd h
-refused_two x z wanted next read Output result e is h = absurd h
+refused_two x z wanted next read other result e is h = absurd h
 
 -- a kernel or a map that was read and is refused
 pub eval_not_run : (x y : ℕ) (held : Option Held) (task : Task) (read : List ℕ × List ℕ) (found : Result (List ℕ × List ℕ) Refusal) (next : List ℕ × List ℕ → Expected → Type 0) (refusal : Refusal) (result : Answer) → found ≡ Ok read → IfSome held (λ h. IsFileAnswer x y (task_files h task) found) → IsErrAnd result (λ r. r ≡ refusal) → RefusesEval (next read) refusal → IfSome held (λ h. WhereExpected (AfterRead (task_files h task) next) (λ work. IsFileAnswer x y (answer_of work) result))

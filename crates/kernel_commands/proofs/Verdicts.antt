@@ -49,13 +49,7 @@ record Explained (v : Verdict) (f : KernelFault) : Type 0 where
 failing : (item : ℕ) (x : Fault) → Explained (Refused (Fails (record { item = item; fault = x }))) (kernels.Broken (typing_at item x))
 unfolding typing_at
 failing item fault.Unknown = record { explains = (Fails (record { item = item; fault = fault.Unknown }), refl, refl); of_text = tt }
-failing item fault.Twice = record { explains = (Fails (record { item = item; fault = fault.Twice }), refl, refl); of_text = tt }
-failing item fault.WrongKind = record { explains = (Fails (record { item = item; fault = fault.WrongKind }), refl, refl); of_text = tt }
-failing item (fault.Mismatch want found) = record { explains = (Fails (record { item = item; fault = fault.Mismatch want found }), refl, refl); of_text = tt }
-failing item fault.Untyped = record { explains = (Fails (record { item = item; fault = fault.Untyped }), refl, refl); of_text = tt }
-failing item fault.LiteralRange = record { explains = (Fails (record { item = item; fault = fault.LiteralRange }), refl, refl); of_text = tt }
-failing item fault.ShiftRange = record { explains = (Fails (record { item = item; fault = fault.ShiftRange }), refl, refl); of_text = tt }
-failing item fault.OffsetRange = record { explains = (Fails (record { item = item; fault = fault.OffsetRange }), refl, refl); of_text = tt }
+failing item other = record { explains = (Fails (record { item = item; fault = other }), refl, refl); of_text = tt }
 
 refused : (r : Typing) → Explained (Refused r) (kernels.Broken (typing_of r))
 unfolding typing_of
@@ -65,12 +59,9 @@ refused (Fails found) = failing found.item found.fault
 
 -- a limit that a text passes is one of three
 abbrev pub IsLimit : Option ReadFault → Type 0
-IsLimit None = Unit {0}
-IsLimit (Some reading.TooLong) = Unit {0}
-IsLimit (Some (reading.BadByte at)) = Unit {0}
-IsLimit (Some (reading.TooDeep token)) = Unit {0}
 IsLimit (Some (reading.Syntax token)) = ⊥
 IsLimit (Some reading.Memory) = ⊥
+IsLimit other = Unit {0}
 
 either_limit : (t : Bool) (o p : Option ReadFault) → IsLimit o → IsLimit p → IsLimit (cond t o p)
 either_limit true o p h k = h
@@ -91,11 +82,9 @@ text_limit : (text : List ℕ) → IsLimit (limit_fault text)
 text_limit text = either_limit (nat_lt most_bytes (length text)) (Some reading.TooLong) (tokens_fault (tokens_of text)) tt (tokens_limit (tokens_of text))
 
 limited : (f : ReadFault) → IsLimit (Some f) → Explained (Limited f) (kernels.Unread f)
-limited reading.TooLong h = record { explains = refl; of_text = tt }
-limited (reading.BadByte at) h = record { explains = refl; of_text = tt }
-limited (reading.TooDeep token) h = record { explains = refl; of_text = tt }
 limited (reading.Syntax token) h = absurd h
 limited reading.Memory h = absurd h
+limited other h = record { explains = refl; of_text = tt }
 
 -- ---- some work
 
@@ -129,33 +118,20 @@ no_refusal : (f : ReadFault) (r : Typing) → Limited f ≡ Refused r → ⊥
 no_refusal f r e = cc
 
 limited_only : (f : ReadFault) (x : KernelFault) → Explains (Limited f) x → IsOfText x → x ≡ kernels.Unread f
-limited_only f (kernels.Unread reading.TooLong) e t = ap kernels.Unread (same_limit f reading.TooLong e)
-limited_only f (kernels.Unread (reading.BadByte at)) e t = ap kernels.Unread (same_limit f (reading.BadByte at) e)
-limited_only f (kernels.Unread (reading.TooDeep token)) e t = ap kernels.Unread (same_limit f (reading.TooDeep token) e)
-limited_only f (kernels.Unread (reading.Syntax token)) e t = absurd cc
 limited_only f (kernels.Unread reading.Memory) e t = absurd t
-limited_only f (kernels.Broken (typing.Unknown item)) e t = absurd (no_refusal f e.0 e.1)
-limited_only f (kernels.Broken (typing.Twice item)) e t = absurd (no_refusal f e.0 e.1)
-limited_only f (kernels.Broken (typing.WrongKind item)) e t = absurd (no_refusal f e.0 e.1)
-limited_only f (kernels.Broken (typing.Mismatch item want found)) e t = absurd (no_refusal f e.0 e.1)
-limited_only f (kernels.Broken (typing.Untyped item)) e t = absurd (no_refusal f e.0 e.1)
-limited_only f (kernels.Broken (typing.LiteralRange item)) e t = absurd (no_refusal f e.0 e.1)
-limited_only f (kernels.Broken (typing.ShiftRange item)) e t = absurd (no_refusal f e.0 e.1)
-limited_only f (kernels.Broken (typing.OffsetRange item)) e t = absurd (no_refusal f e.0 e.1)
-limited_only f (kernels.Broken (typing.TooLarge size)) e t = absurd (no_refusal f e.0 e.1)
-limited_only f (kernels.Broken (typing.TooDeep depth)) e t = absurd (no_refusal f e.0 e.1)
+limited_only f (kernels.Unread (reading.Syntax token)) e t = absurd cc
+limited_only f (kernels.Unread other) e t = ap kernels.Unread (same_limit f other e)
 limited_only f (kernels.Broken typing.Memory) e t = absurd t
+limited_only f other e t = absurd (no_refusal f e.0 e.1)
 
 settles : (r s z : Typing) → Refused r ≡ Refused s → Some s ≡ Some z → z ≡ r
 settles r s z e f = cc
 
 refused_only : (r : Typing) (x : KernelFault) → Explains (Refused r) x → IsOfText x → x ≡ kernels.Broken (typing_of r)
 unfolding typing_of typing_at
-refused_only r (kernels.Unread reading.TooLong) e t = absurd cc
-refused_only r (kernels.Unread (reading.BadByte at)) e t = absurd cc
-refused_only r (kernels.Unread (reading.TooDeep token)) e t = absurd cc
-refused_only r (kernels.Unread (reading.Syntax token)) e t = absurd cc
 refused_only r (kernels.Unread reading.Memory) e t = absurd t
+refused_only r (kernels.Unread other) e t = absurd cc
+refused_only r (kernels.Broken typing.Memory) e t = absurd t
 refused_only r (kernels.Broken (typing.Unknown item)) e t = ap (λ z. kernels.Broken (typing_of z)) (settles r e.0 (Fails (record { item = item; fault = fault.Unknown })) e.1 e.2)
 refused_only r (kernels.Broken (typing.Twice item)) e t = ap (λ z. kernels.Broken (typing_of z)) (settles r e.0 (Fails (record { item = item; fault = fault.Twice })) e.1 e.2)
 refused_only r (kernels.Broken (typing.WrongKind item)) e t = ap (λ z. kernels.Broken (typing_of z)) (settles r e.0 (Fails (record { item = item; fault = fault.WrongKind })) e.1 e.2)
@@ -166,7 +142,6 @@ refused_only r (kernels.Broken (typing.ShiftRange item)) e t = ap (λ z. kernels
 refused_only r (kernels.Broken (typing.OffsetRange item)) e t = ap (λ z. kernels.Broken (typing_of z)) (settles r e.0 (Fails (record { item = item; fault = fault.OffsetRange })) e.1 e.2)
 refused_only r (kernels.Broken (typing.TooLarge size)) e t = ap (λ z. kernels.Broken (typing_of z)) (settles r e.0 (TooLarge size) e.1 e.2)
 refused_only r (kernels.Broken (typing.TooDeep depth)) e t = ap (λ z. kernels.Broken (typing_of z)) (settles r e.0 (TooDeep depth) e.1 e.2)
-refused_only r (kernels.Broken typing.Memory) e t = absurd t
 
 no_kernel_refused : (n : ℕ) (r : Typing) → NoKernel n ≡ Refused r → ⊥
 no_kernel_refused n r e = cc
@@ -175,22 +150,11 @@ same_token : (n token : ℕ) → NoKernel n ≡ NoKernel token → token ≡ n
 same_token n token e = cc
 
 syntax_only : (n : ℕ) (x : KernelFault) → Explains (NoKernel n) x → IsOfText x → x ≡ kernels.Unread (reading.Syntax n)
-syntax_only n (kernels.Unread reading.TooLong) e t = absurd cc
-syntax_only n (kernels.Unread (reading.BadByte at)) e t = absurd cc
-syntax_only n (kernels.Unread (reading.TooDeep token)) e t = absurd cc
 syntax_only n (kernels.Unread (reading.Syntax token)) e t = ap (λ k. kernels.Unread (reading.Syntax k)) (same_token n token e)
 syntax_only n (kernels.Unread reading.Memory) e t = absurd t
-syntax_only n (kernels.Broken (typing.Unknown item)) e t = absurd (no_kernel_refused n e.0 e.1)
-syntax_only n (kernels.Broken (typing.Twice item)) e t = absurd (no_kernel_refused n e.0 e.1)
-syntax_only n (kernels.Broken (typing.WrongKind item)) e t = absurd (no_kernel_refused n e.0 e.1)
-syntax_only n (kernels.Broken (typing.Mismatch item want found)) e t = absurd (no_kernel_refused n e.0 e.1)
-syntax_only n (kernels.Broken (typing.Untyped item)) e t = absurd (no_kernel_refused n e.0 e.1)
-syntax_only n (kernels.Broken (typing.LiteralRange item)) e t = absurd (no_kernel_refused n e.0 e.1)
-syntax_only n (kernels.Broken (typing.ShiftRange item)) e t = absurd (no_kernel_refused n e.0 e.1)
-syntax_only n (kernels.Broken (typing.OffsetRange item)) e t = absurd (no_kernel_refused n e.0 e.1)
-syntax_only n (kernels.Broken (typing.TooLarge size)) e t = absurd (no_kernel_refused n e.0 e.1)
-syntax_only n (kernels.Broken (typing.TooDeep depth)) e t = absurd (no_kernel_refused n e.0 e.1)
+syntax_only n (kernels.Unread other) e t = absurd cc
 syntax_only n (kernels.Broken typing.Memory) e t = absurd t
+syntax_only n other e t = absurd (no_kernel_refused n e.0 e.1)
 
 refused_work : (v : Verdict) (x : KernelFault) (a b : Expected) → ((y : KernelFault) → Explains v y → IsOfText y → y ≡ x) → IsRefusedFor v a → IsRefusedFor v b → a ≡ b
 refused_work v x a b only h k =

@@ -6,7 +6,7 @@ use Rattle.std.specs.Int.{int_min, int_max}
 use Rattle.std.proofs.lemmas.Bool.{eqb-true, eq-eqb}
 use Rattle.std.proofs.lemmas.Int.{ints, clamps}
 use Rattle.guest_types.specs.declared.length.Width.{Width}
-use Rattle.guest_types.specs.declared.length.Width.TheVariants.{B, H, S, D}
+use Rattle.guest_types.specs.declared.length.Width.TheVariants.{B}
 use Rattle.guest_types.specs.Length.{width_bytes}
 use Rattle.kernel_tree.specs.declared.ops.Ty.{Ty}
 use Rattle.kernel_tree.specs.declared.ast.Shape.{Shape}
@@ -335,13 +335,7 @@ base_given (q ∷ ps) args (suc p) t e = base_given ps (drop 1 args) p t e ∙ a
 
 same_bytes : (t : Ty) → byte_count t ≡ width_bytes (width_of t)
 same_bytes ty.I8 = refl
-same_bytes ty.U8 = refl
-same_bytes ty.I16 = refl
-same_bytes ty.U16 = refl
-same_bytes ty.I32 = refl
-same_bytes ty.U32 = refl
-same_bytes ty.I64 = refl
-same_bytes ty.U64 = refl
+same_bytes other = refl
 
 -- an address that lies so many elements after another
 abbrev scaled : ℕ → Width → ℤ → ℤ
@@ -349,15 +343,11 @@ scaled b w x = pos b +ℤ pos (width_bytes w) *ℤ x
 
 scaled_le : (b : ℕ) (w : Width) (x y : ℤ) → x ≤ℤ y → scaled b w x ≤ℤ scaled b w y
 scaled_le b B x y h = omega (arith, ints, h)
-scaled_le b H x y h = omega (arith, ints, h)
-scaled_le b S x y h = omega (arith, ints, h)
-scaled_le b D x y h = omega (arith, ints, h)
+scaled_le b other x y h = omega (arith, ints, h)
 
 scaled_zero : (b : ℕ) (w : Width) → scaled b w (pos 0) ≡ pos b
 scaled_zero b B = omega (arith, ints)
-scaled_zero b H = omega (arith, ints)
-scaled_zero b S = omega (arith, ints)
-scaled_zero b D = omega (arith, ints)
+scaled_zero b other = omega (arith, ints)
 
 module _ (k : Program) (args : List ℕ) where
   begin_same : (p : ℕ) (t : Ty) → type_of_place k.params p ≡ Some t → begin_of k args p ≡ scaled (slice_index args p) (width_of t) (least_offset (offsets_of p (streams_of k)))

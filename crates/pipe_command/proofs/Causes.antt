@@ -17,7 +17,7 @@ use Rattle.pipe_script.specs.Script.{script_of}
 use Rattle.pipe_script.specs.View.{Refuses as RefusesScript}
 use Rattle.pipe_run.specs.PipeRun.{misfit}
 use Rattle.refusals.specs.declared.refusal.Refusal.{Refusal}
-use Rattle.refusals.specs.declared.refusal.Refusal.TheVariants.{Usage, TooManyLive, Kernel, TooLong, Elf, Map, Asm, Pipe, Memory, File, Output}
+use Rattle.refusals.specs.declared.refusal.Refusal.TheVariants.{Usage, TooManyLive, Kernel, Elf, Asm, Memory, File, Output}
 use Rattle.refusals.specs.Statuses.{of_elf, of_map, of_pipe}
 use Rattle.command_answers.specs.Answer.{Held, Answer, IsFileAnswer}
 use Rattle.command_answers.specs.Reads.{and_then}
@@ -32,13 +32,7 @@ not_loaded bytes pages line fault e = ap (λ l. and_then (loaded l) (λ image. f
 
 pub elf_refused : (bytes : List ℕ) (pages : Pages) (line : ℕ) (fault : ElfFault) → RefusesElf (load bytes) fault → Refuses (image_in pages line bytes) (of_elf fault)
 elf_refused bytes pages line elf.Memory h = inl refl
-elf_refused bytes pages line (elf.Short need have) h = inr (not_loaded bytes pages line (elf.Short need have) h)
-elf_refused bytes pages line elf.NotElf h = inr (not_loaded bytes pages line elf.NotElf h)
-elf_refused bytes pages line elf.NotAarch64 h = inr (not_loaded bytes pages line elf.NotAarch64 h)
-elf_refused bytes pages line elf.NotStatic h = inr (not_loaded bytes pages line elf.NotStatic h)
-elf_refused bytes pages line (elf.BadSegment index) h = inr (not_loaded bytes pages line (elf.BadSegment index) h)
-elf_refused bytes pages line elf.SegmentsClash h = inr (not_loaded bytes pages line elf.SegmentsClash h)
-elf_refused bytes pages line elf.TooManyPages h = inr (not_loaded bytes pages line elf.TooManyPages h)
+elf_refused bytes pages line other h = inr (not_loaded bytes pages line other h)
 
 -- an image that was loaded, by whether the map fits beside it
 pub image_is : (bytes : List ℕ) (pages : Pages) (line : ℕ) (image : Image) (fault : Option PipeFault) → load bytes ≡ Ok image → misfit line image.pages pages ≡ fault → image_in pages line bytes ≡ fitted image fault
@@ -46,53 +40,34 @@ image_is bytes pages line image fault e f = ap (λ l. and_then (loaded l) (λ im
 
 pub fit_refused : (bytes : List ℕ) (pages : Pages) (line : ℕ) (image : Image) (fault : PipeFault) → load bytes ≡ Ok image → misfit line image.pages pages ≡ Some fault → Refuses (image_in pages line bytes) (of_pipe fault)
 fit_refused bytes pages line image pipes.Memory e f = inl refl
-fit_refused bytes pages line image pipes.TooLong e f = inr (image_is bytes pages line image (Some pipes.TooLong) e f)
-fit_refused bytes pages line image (pipes.BadLine at) e f = inr (image_is bytes pages line image (Some (pipes.BadLine at)) e f)
-fit_refused bytes pages line image (pipes.Clash at) e f = inr (image_is bytes pages line image (Some (pipes.Clash at)) e f)
-fit_refused bytes pages line image (pipes.TooManyPages at) e f = inr (image_is bytes pages line image (Some (pipes.TooManyPages at)) e f)
+fit_refused bytes pages line image other e f = inr (image_is bytes pages line image (Some other) e f)
 
 pub script_refused : (script : List ℕ) (fault : PipeFault) → RefusesScript (script_of script) fault → Refuses (entries_of script) (of_pipe fault)
 script_refused script pipes.Memory h = inl refl
-script_refused script pipes.TooLong h = inr (ap read_as h)
-script_refused script (pipes.BadLine line) h = inr (ap read_as h)
 script_refused script (pipes.Clash line) h = absurd h
 script_refused script (pipes.TooManyPages line) h = absurd h
+script_refused script other h = inr (ap read_as h)
 
 pub map_refused : (text : List ℕ) (none : Pages) (fault : MapFault) → none ≡ [] → RefusesMap (pages_of text none) fault → Refuses (map_alone text) (of_map fault)
 map_refused text none fault empty h = by fault (subst (λ n. RefusesMap (pages_of text n) fault) empty h)
   where
     by : (fault : MapFault) → RefusesMap (pages_of text []) fault → Refuses (map_alone text) (of_map fault)
     by maps.Memory h = inl refl
-    by (maps.BadLine line) h = inr (ap mapped h)
-    by (maps.Clash line) h = inr (ap mapped h)
-    by (maps.Unmapped line) h = inr (ap mapped h)
-    by maps.TooManyPages h = inr (ap mapped h)
+    by other h = inr (ap mapped h)
 
 -- ---- what comes of which command
 
 pub elf_content : (fault : ElfFault) → IsOfContent (of_elf fault)
 elf_content elf.Memory = tt
-elf_content (elf.Short need have) = tt
-elf_content elf.NotElf = tt
-elf_content elf.NotAarch64 = tt
-elf_content elf.NotStatic = tt
-elf_content (elf.BadSegment index) = tt
-elf_content elf.SegmentsClash = tt
-elf_content elf.TooManyPages = tt
+elf_content other = tt
 
 pub pipe_content : (fault : PipeFault) → IsOfContent (of_pipe fault)
 pipe_content pipes.Memory = tt
-pipe_content pipes.TooLong = tt
-pipe_content (pipes.BadLine line) = tt
-pipe_content (pipes.Clash line) = tt
-pipe_content (pipes.TooManyPages line) = tt
+pipe_content other = tt
 
 pub map_content : (fault : MapFault) → IsOfContent (of_map fault)
 map_content maps.Memory = tt
-map_content (maps.BadLine line) = tt
-map_content (maps.Clash line) = tt
-map_content (maps.Unmapped line) = tt
-map_content maps.TooManyPages = tt
+map_content other = tt
 
 pub by_content : {T : Type 0} (fault : Refusal) (result : Result T Refusal) → IsErrAnd result (λ r. r ≡ fault) → IsOfContent fault → IfErr result IsOfContent
 by_content fault (Ok x) is h = absurd is
@@ -102,27 +77,17 @@ pub of_files : (refusal : Refusal) → IsOfFiles refusal → IsOfPipe (Err refus
 of_files Usage h = absurd h
 of_files (TooManyLive class need) h = absurd h
 of_files (Kernel fault) h = absurd h
-of_files TooLong h = tt
-of_files (Elf fault) h = tt
-of_files (Map fault) h = tt
 of_files (Asm fault) h = absurd h
-of_files (Pipe fault) h = tt
-of_files Memory h = tt
-of_files File h = tt
 of_files Output h = absurd h
+of_files other h = tt
 
 not_output : (refusal : Refusal) → IsOfFiles refusal → refusal ≢ Output
 not_output Usage h e = absurd h
 not_output (TooManyLive class need) h e = absurd h
 not_output (Kernel fault) h e = absurd h
-not_output TooLong h e = absurd cc
-not_output (Elf fault) h e = absurd cc
-not_output (Map fault) h e = absurd cc
 not_output (Asm fault) h e = absurd h
-not_output (Pipe fault) h e = absurd cc
-not_output Memory h e = absurd cc
-not_output File h e = absurd cc
 not_output Output h e = absurd h
+not_output other h e = absurd cc
 
 -- no output failed
 pub files_not_output : (refusal : Refusal) (result : Answer) → result ≡ Err refusal → IsOfFiles refusal → result ≢ Err Output

@@ -1,7 +1,6 @@
 -- The lines of a script, loaded one after another.
 use Rattle.std.proofs.Common.{◌≡◌, ℕ, zero, suc, ◌+◌, ◌<◌, ◌≤◌, length, drop, get_or, arith, List, [], ◌∷◌, ◌++◌, Option, Some, None, Result, Ok, Err, inl, refl, sym, ap, ◌∙◌, subst, append_assoc, append-nil}
 use Rattle.std.specs.Prelude.{IfSome, IsSome}
-use Rattle.std.specs.List.{AllByRecursion}
 use Rattle.std.proofs.lemmas.List.{drop_more}
 use Rattle.io_edges.specs.Files.{content}
 use Rattle.io_edges.proofs.Puts.{later_rose}
@@ -16,7 +15,7 @@ use Rattle.command_answers.specs.Reads.{and_then}
 use Rattle.command_answers.proofs.Reading.{read_is, refused_first}
 use Rattle.pipe_command.specs.Pipes.{image_of, with_line, lines_of, AreHeld}
 use Rattle.pipe_command.specs.declared.loaded.LoadedLine.{LoadedLine}
-use Rattle.pipe_command.specs.View.{line_view, lines_view, IsFitting}
+use Rattle.pipe_command.specs.View.{line_view, lines_view}
 
 -- some lines, and those after them
 abbrev pub with_before : List Line → Result (List Line) Refusal → Result (List Line) Refusal
@@ -98,10 +97,6 @@ all_held None all = tt
 all_held (Some held) all = λ a. a
 
 -- ---- the map fits beside each line
-
-pub fits_more : (pages : Pages) (lines : List Line) (line : Line) → AllByRecursion (IsFitting pages) lines → IsFitting pages line → AllByRecursion (IsFitting pages) (lines ++ line ∷ [])
-fits_more pages [] line all h = (h, tt)
-fits_more pages (first ∷ lines) line all h = (all.0, fits_more pages lines line all.1 h)
 
 pub held_map : (held : Option Held) (A : Held → Type 0) (P Q : Type 0) → (P → Q) → IfSome held (λ h. A h → P) → IfSome held (λ h. A h → Q)
 held_map None A P Q f h = tt

@@ -199,10 +199,6 @@ module _ (D : Laid) (L : Layout) (fit : Assigned L) (R : ℕ → ℕ) where
       starts_after (4 * (term_size s.index v.init + 1 + vars_size s.index vs)) (omega arith) (chain (4 * term_size s.index v.init + 1) (omega arith) g.goes k.goes) (k.changes.frame ∙ g.kept.frame)
       (starts_at (b + (term_size s.index v.init + 1 + vars_size s.index vs)) (omega arith) (subst (λ hs. Starts D w following k.end rest hs (after_vars (after_var s v) vs).visible (q + 1 + vars_size s.index vs) m (4 * vars_size s.index vs) (initial (after_var s v) vs m (with_name v.name names x))) (append_assoc hs (var_home R j v ∷ []) (var_homes R (j + 1) vs)) r))
 
-  vars_first : (vs : List Accumulator) (hs : Homes) (s : Scope) (j b : ℕ) → AreSafeVars L R hs s j b vs → AreSafe L b hs
-  vars_first [] hs s j b h = h
-  vars_first (v ∷ vs) hs s j b h = h.0
-
   pub vars_runs : (vs : List Accumulator) {w : Fixed L} {hs : Homes} (s : Scope) {names : Names} {m : Memory} {st : State} (j b n : ℕ) (rest : List Entry) → L.loose ≡ [] → AreSafeVars L R hs s j b vs → HighVars R j vs → FitsVars L R hs s j b vs → At w hs s.visible names m b st → Resolves D (vars_code L R hs s j b n vs rest)
       → Starts D w (vars_code L R hs s j b n vs rest) st rest (hs ++ var_homes R j vs) (after_vars s vs).visible (b + vars_size s.index vs) m (4 * vars_size s.index vs) (initial s vs m names)
   vars_runs [] {w = w} {hs = hs} s {names = names} {m = m} {st = st} j b n rest none safe high fits at res =

@@ -47,13 +47,7 @@ wrote_sets D {s = s} d v u sized hi does is = record {
 
 shifted_bytes : (t : Ty) (n : ℕ) → shifted_word 0 n (element_shift t) ≡ word (pos (byte_count t * n))
 shifted_bytes ty.I8 n = omega arith
-shifted_bytes ty.U8 n = omega arith
-shifted_bytes ty.I16 n = omega arith
-shifted_bytes ty.U16 n = omega arith
-shifted_bytes ty.I32 n = omega arith
-shifted_bytes ty.U32 n = omega arith
-shifted_bytes ty.I64 n = omega arith
-shifted_bytes ty.U64 n = omega arith
+shifted_bytes other n = omega arith
 
 -- what is to stand in a register that has a value
 abbrev entered : Form → (count : ℕ) → ℤ → ℤ

@@ -7,7 +7,7 @@ use Rattle.kernel_tree.specs.declared.fault.Binding.{Binding}
 use Rattle.kernel_tree.specs.Plain.{Parameter, Accumulator, PlainLoop, Program}
 use Rattle.kernel_tree.specs.Items.{term_size, loop_index}
 use Rattle.kernel_tree.specs.Scopes.{locals_of, accs_of}
-use Rattle.kernel_tree.specs.Typing.{Scope, Value, binding_of_shape, lookup, element_type, accumulator_type, insert_name, declared, faults, twice, vars_faults, params_faults, empty, param_scope, check_fault}
+use Rattle.kernel_tree.specs.Typing.{Scope, Local, Value, binding_of_shape, lookup, element_type, accumulator_type, insert_name, declared, faults, twice, vars_faults, params_faults, empty, param_scope, check_fault}
 use Rattle.kernel_tree.proofs.Faultless.{nil-left, nil-right, params_faultless, vars_faultless}
 use Rattle.kernel_tree.proofs.NoFault.{not_added}
 use Rattle.kernel_tree.proofs.Names.{bytes_swap, bytes_told, NoName, NoneNamed, vars_named, Untaken, untaken_before}
@@ -35,55 +35,37 @@ pub no_var_home : (x : List ℕ) (R : ℕ → ℕ) (j : ℕ) (vs : List Accumula
 no_var_home x R j [] h = tt
 no_var_home x R j (v ∷ vs) h = (h.0, no_var_home x R (j + 1) vs h.1)
 
--- accumulators of different names
-abbrev pub AreApart : List Accumulator → Type 0
-AreApart [] = Unit {0}
-AreApart (v ∷ vs) = NoName v.name (accs_of vs) × AreApart vs
+-- locals of different names
+abbrev pub HaveOwnNames : List Local → Type 0
+HaveOwnNames [] = Unit {0}
+HaveOwnNames (v ∷ vs) = NoName v.name vs × HaveOwnNames vs
 
-abbrev AreFree : List (List ℕ) → List Accumulator → Type 0
+-- locals whose names are not taken
+abbrev AreFree : List (List ℕ) → List Local → Type 0
 AreFree taken [] = Unit {0}
 AreFree taken (v ∷ vs) = Untaken v.name taken × AreFree taken vs
 
-free_before : (y : List ℕ) (taken : List (List ℕ)) (vs : List Accumulator) → AreFree (insert_name taken y) vs → AreFree taken vs × NoName y (accs_of vs)
+free_before : (y : List ℕ) (taken : List (List ℕ)) (vs : List Local) → AreFree (insert_name taken y) vs → AreFree taken vs × NoName y vs
 free_before y taken [] h = (tt, tt)
 free_before y taken (v ∷ vs) h =
     let one = untaken_before v.name y taken h.0 in
     let more = free_before y taken vs h.1 in
     ((one.0, more.0), (bytes_swap y v.name one.1, more.1))
 
-free_apart : (vs : List Accumulator) (s : Scope) (from : ℕ) → vars_faults s from vs ≡ [] → AreFree s.taken vs × AreApart vs
-free_apart [] s from e = (tt, tt)
-free_apart (v ∷ vs) s from e =
+vars_free : (vs : List Accumulator) (s : Scope) (from : ℕ) → vars_faults s from vs ≡ [] → AreFree s.taken (accs_of vs) × HaveOwnNames (accs_of vs)
+vars_free [] s from e = (tt, tt)
+vars_free (v ∷ vs) s from e =
     let item : ℕ = from + term_size s.index v.init in
     let r = nil-right (faults s from (Value (Some v.type)) v.init) _ e in
-    let more = free_apart vs (declared s v.name (binding.Accumulator v.type)) (item + 1) (nil-right (twice item s v.name) _ r) in
-    let free = free_before v.name s.taken vs more.0 in
+    let more = vars_free vs (declared s v.name (binding.Accumulator v.type)) (item + 1) (nil-right (twice item s v.name) _ r) in
+    let free = free_before v.name s.taken (accs_of vs) more.0 in
     ((not_added _ _ (nil-left (twice item s v.name) _ r), free.0), (free.1, more.1))
 
-pub vars_apart : (k : Program) → check_fault k ≡ None → AreApart k.vars
-vars_apart k e = (free_apart k.vars (param_scope k) _ (vars_faultless k e)).1
-
--- parameters of different names
-abbrev pub ParamsApart : List Parameter → Type 0
-ParamsApart [] = Unit {0}
-ParamsApart (p ∷ ps) = NoName p.name (locals_of ps) × ParamsApart ps
-
-abbrev ParamsFree : List (List ℕ) → List Parameter → Type 0
-ParamsFree taken [] = Unit {0}
-ParamsFree taken (p ∷ ps) = Untaken p.name taken × ParamsFree taken ps
-
-params_before : (y : List ℕ) (taken : List (List ℕ)) (ps : List Parameter) → ParamsFree (insert_name taken y) ps → ParamsFree taken ps × NoName y (locals_of ps)
-params_before y taken [] h = (tt, tt)
-params_before y taken (p ∷ ps) h =
-    let one = untaken_before p.name y taken h.0 in
-    let more = params_before y taken ps h.1 in
-    ((one.0, more.0), (bytes_swap y p.name one.1, more.1))
-
-params_free : (ps : List Parameter) (s : Scope) (from : ℕ) → params_faults s from ps ≡ [] → ParamsFree s.taken ps × ParamsApart ps
+params_free : (ps : List Parameter) (s : Scope) (from : ℕ) → params_faults s from ps ≡ [] → AreFree s.taken (locals_of ps) × HaveOwnNames (locals_of ps)
 params_free [] s from e = (tt, tt)
 params_free (p ∷ ps) s from e =
     let more = params_free ps (declared s p.name (binding_of_shape p.shape)) (from + 1) (nil-right (twice from s p.name) _ e) in
-    let free = params_before p.name s.taken ps more.0 in
+    let free = free_before p.name s.taken (locals_of ps) more.0 in
     ((not_added _ _ (nil-left (twice from s p.name) _ e), free.0), (free.1, more.1))
 
 -- ---- homes of different names
@@ -96,18 +78,18 @@ param_vars : (p : Parameter) (ps : List Parameter) (vs : List Accumulator) → N
 param_vars p ps [] h = (tt, tt)
 param_vars p ps (v ∷ vs) h = let k = param_vars p ps vs h.1 in ((bytes_swap p.name v.name h.0.0, k.0), (h.0.1, k.1))
 
-vars_homes_named : (R : ℕ → ℕ) (j : ℕ) (vs : List Accumulator) → AreApart vs → AreNamed (var_homes R j vs)
+vars_homes_named : (R : ℕ → ℕ) (j : ℕ) (vs : List Accumulator) → HaveOwnNames (accs_of vs) → AreNamed (var_homes R j vs)
 vars_homes_named R j [] h = tt
 vars_homes_named R j (v ∷ vs) h = (no_var_home v.name R (j + 1) vs h.0, vars_homes_named R (j + 1) vs h.1)
 
-homes_named : (R : ℕ → ℕ) (n : ℕ) (ps : List Parameter) (vs : List Accumulator) → ParamsApart ps → AreApart vs → NoneNamed ps vs → AreNamed (param_homes n ps ++ var_homes R 0 vs)
+homes_named : (R : ℕ → ℕ) (n : ℕ) (ps : List Parameter) (vs : List Accumulator) → HaveOwnNames (locals_of ps) → HaveOwnNames (accs_of vs) → NoneNamed ps vs → AreNamed (param_homes n ps ++ var_homes R 0 vs)
 homes_named R n [] vs h k none = vars_homes_named R 0 vs k
 homes_named R n (p ∷ ps) vs h k none =
     let parts = param_vars p ps vs none in
     (no_home-append p.name (param_homes (n + 1) ps) (var_homes R 0 vs) (no_param_home p.name (n + 1) ps h.0) (no_var_home p.name R 0 vs parts.0), homes_named R (n + 1) ps vs h.1 k parts.1)
 
 pub kernel_named : (R : ℕ → ℕ) (k : Program) → check_fault k ≡ None → AreNamed (kernel_homes R k)
-kernel_named R k e = homes_named R 0 k.params k.vars (params_free k.params (empty (loop_index k)) 0 (params_faultless k e)).1 (vars_apart k e) (vars_named k e)
+kernel_named R k e = homes_named R 0 k.params k.vars (params_free k.params (empty (loop_index k)) 0 (params_faultless k e)).1 (vars_free k.vars (param_scope k) _ (vars_faultless k e)).1 (vars_named k e)
 
 named_last : (hs : Homes) (g : Home) → AreNamed hs → NoHome g.name hs → AreNamed (hs ++ g ∷ [])
 named_last [] g h free = (tt, tt)

@@ -1,6 +1,7 @@
 //! Branches to labels that are placed further on.
 
-ghost use Rattle.std.specs.Prelude.{◌≡◌, ◌+◌, ◌<◌, ◌^◌, true, List, ◌∷◌, ◌++◌, IfOk, OnOk};
+ghost use Rattle.std.specs.Prelude.{◌≡◌, ◌+◌, ◌<◌, ◌^◌, true, ◌∷◌, IfOk, OnOk};
+ghost use Rattle.label_fix.specs.Emits.{Emits};
 ghost use Rattle.label_fix.specs.Draft.{kind_view};
 ghost use Rattle.label_fix.specs.Finished.{has_register};
 ghost use Rattle.label_fix.specs.DraftRun as plain;
@@ -12,9 +13,8 @@ use std::alloc::AllocError;
 pub fn branch_ahead(draft: &mut Draft, kind: BranchKind) -> Result<Label, AllocError>
     requires { has_register (kind_view kind) ≡ true }
     ensures label { IfOk result (λ l. l ≡ draft.old.labels) }
-    ensures labels { OnOk result (draft.new.labels ≡ draft.old.labels + 1) }
-    ensures code { OnOk result ((rest : List plain.Entry)
-        → draft.new.entries ++ rest ≡ draft.old.entries ++ plain.Branch (kind_view kind) draft.old.labels ∷ rest) }
+    ensures emits { OnOk result (Emits draft.old draft.new (draft.old.labels + 1)
+        (λ rest. plain.Branch (kind_view kind) draft.old.labels ∷ rest)) }
 {
     let ahead = draft.label()?;
     draft.branch(kind, ahead)?;
@@ -26,9 +26,7 @@ pub fn land(draft: &mut Draft, label: Label, item: &mut usize) -> Result<(), All
     requires given { label < draft.old.labels }
     requires room { item.old < 2 ^ 32 }
     ensures item { OnOk result (item.new ≡ item.old + 1) }
-    ensures labels { OnOk result (draft.new.labels ≡ draft.old.labels) }
-    ensures code { OnOk result ((rest : List plain.Entry)
-        → draft.new.entries ++ rest ≡ draft.old.entries ++ plain.Place label ∷ rest) }
+    ensures emits { OnOk result (Emits draft.old draft.new draft.old.labels (λ rest. plain.Place label ∷ rest)) }
 {
     draft.place(label)?;
     *item += 1;
@@ -41,10 +39,8 @@ pub fn switch_over(draft: &mut Draft, label: Label, item: &mut usize) -> Result<
     requires room { item.old < 2 ^ 32 }
     ensures label { IfOk result (λ l. l ≡ draft.old.labels) }
     ensures item { OnOk result (item.new ≡ item.old + 1) }
-    ensures labels { OnOk result (draft.new.labels ≡ draft.old.labels + 1) }
-    ensures code { OnOk result ((rest : List plain.Entry)
-        → draft.new.entries ++ rest ≡ draft.old.entries
-        ++ plain.Branch plain.Always draft.old.labels ∷ plain.Place label ∷ rest) }
+    ensures emits { OnOk result (Emits draft.old draft.new (draft.old.labels + 1)
+        (λ rest. plain.Branch plain.Always draft.old.labels ∷ plain.Place label ∷ rest)) }
 {
     let end = branch_ahead(draft, BranchKind::Always)?;
     land(draft, label, item)?;

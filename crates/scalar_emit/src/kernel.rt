@@ -1,6 +1,6 @@
 //! Emits the code of a kernel: what stands before its loop, the loop, and the end.
 
-ghost use Rattle.std.specs.Prelude.{◌≡◌, ◌+◌, ◌*◌, ◌<◌, ◌≤◌, ◌^◌, None, Some, List, [], ◌∷◌, ◌++◌, OnOk, IfOk, length, option_map};
+ghost use Rattle.std.specs.Prelude.{◌≡◌, ◌+◌, ◌*◌, ◌<◌, ◌≤◌, ◌^◌, None, Some, [], ◌∷◌, ◌++◌, OnOk, IfOk, length, option_map};
 ghost use Rattle.kernel_tree.specs.Plain.{term_of, parameters_of, accumulator_of, accumulators_of, turns_of, returned_of, block_of, program_of};
 ghost use Rattle.kernel_tree.specs.Kinds.{IsValue, VarsKinds, BlockKinds, AnswerKinds, KernelKinds};
 ghost use Rattle.kernel_scope.specs.Scopes.{scope_of, after_var};
@@ -9,15 +9,15 @@ ghost use Rattle.reg_assign.specs.Registers.{IsAssignment};
 ghost use Rattle.loop_form.specs.Registers.{FitsKernel};
 ghost use Rattle.loop_form.specs.Listing.{listing_of};
 ghost use Rattle.loop_form.specs.View.{program};
-ghost use Rattle.scalar_emit.specs.Statements.{block_labels, block_code};
+ghost use Rattle.scalar_emit.specs.Statements.{block_labels};
 ghost use Rattle.scalar_words.specs.KernelRegisters.{register_in};
-ghost use Rattle.scalar_words.specs.Drafts.{Appends, AppendsWords};
+ghost use Rattle.label_fix.specs.Emits.{Emits};
+ghost use Rattle.scalar_words.specs.Drafts.{AppendsWords};
 ghost use Rattle.scalar_words.specs.View.{homes_of};
 ghost use Rattle.scalar_words.specs.Layout.{with_constants};
 ghost use Rattle.scalar_emit.specs.LoopNumbers as numbers;
 ghost use Rattle.kernel_tree.specs.Items as items;
 ghost use Rattle.kernel_tree.specs.Typing as typing;
-ghost use Rattle.label_fix.specs.DraftRun as plain;
 ghost use Rattle.scalar_emit.specs.Loop as loops;
 ghost use Rattle.scalar_emit.specs.Kernel as kernels;
 ghost use Rattle.scalar_words.specs.KernelRegisters as registers;
@@ -47,8 +47,7 @@ use word_rows::Bits;
 
 fn emit_argument(draft: &mut Draft, place: u32, shape: Shape) -> Result<(), AllocError>
     requires { place < 8 }
-    ensures labels { OnOk result (draft.new.labels ≡ draft.old.labels) }
-    ensures code { OnOk result (Appends draft.old draft.new (kernels.argument_code shape place)) }
+    ensures { OnOk result (Emits draft.old draft.new draft.old.labels (kernels.argument_code shape place)) }
 {
     match shape {
         Shape::Array(_) => Ok(()),
@@ -62,8 +61,8 @@ fn emit_argument(draft: &mut Draft, place: u32, shape: Shape) -> Result<(), Allo
 // The scalar arguments, wrapped to their types.
 fn emit_arguments(draft: &mut Draft, params: &[Param]) -> Result<(), AllocError>
     requires { length params.now ≤ 8 }
-    ensures labels { OnOk result (draft.new.labels ≡ draft.old.labels) }
-    ensures code { OnOk result (Appends draft.old draft.new (kernels.arguments_code 0 (parameters_of params.now))) }
+    ensures { OnOk result (Emits draft.old draft.new draft.old.labels
+        (kernels.arguments_code 0 (parameters_of params.now))) }
 {
     let mut place = 0;
     for param in params {
@@ -92,11 +91,10 @@ fn emit_var<'a>(
         ≡ homes_of homes.old.items ++ registers.var_home (register_in regs.now) place (accumulator_of var.now) ∷ []) }
     ensures item { OnOk result (item.new ≡ item.old + items.term_size (scope_of scope.old).index
         (term_of var.now.init) + 1) }
-    ensures labels { OnOk result (draft.new.labels
-        ≡ draft.old.labels + kernels.var_labels (scope_of scope.old).index (accumulator_of var.now)) }
-    ensures code { OnOk result (Appends draft.old draft.new
-        (kernels.var_code places.now (register_in regs.now) (homes_of homes.old.items)
-        (scope_of scope.old) place item.old draft.old.labels (accumulator_of var.now))) }
+    ensures emits { OnOk result (Emits draft.old draft.new
+        (draft.old.labels + kernels.var_labels (scope_of scope.old).index (accumulator_of var.now))
+        (kernels.var_code places.now (register_in regs.now) (homes_of homes.old.items) (scope_of scope.old) place
+        item.old draft.old.labels (accumulator_of var.now))) }
 {
     let from = emit_value(draft, places, homes, scope, Some(var.ty), &var.init, item)?;
     emit_copy(draft, counted_register(regs, place), from)?;
@@ -119,11 +117,10 @@ fn emit_vars<'a>(
     requires within { length vars.now ≤ length regs.now.registers }
     requires kinds { VarsKinds (accumulators_of vars.now) }
     requires fits { item + items.vars_size (scope_of scope.old).index (accumulators_of vars.now) < 2 ^ 32 }
-    ensures labels { OnOk result (draft.new.labels
-        ≡ draft.old.labels + kernels.vars_labels (scope_of scope.old).index (accumulators_of vars.now)) }
-    ensures code { OnOk result (Appends draft.old draft.new
-        (kernels.vars_code places.now (register_in regs.now) (homes_of homes.old.items)
-        (scope_of scope.old) 0 item draft.old.labels (accumulators_of vars.now))) }
+    ensures { OnOk result (Emits draft.old draft.new
+        (draft.old.labels + kernels.vars_labels (scope_of scope.old).index (accumulators_of vars.now))
+        (kernels.vars_code places.now (register_in regs.now) (homes_of homes.old.items) (scope_of scope.old) 0 item
+        draft.old.labels (accumulators_of vars.now))) }
 {
     let mut next = item;
     let mut place = 0;
@@ -151,8 +148,7 @@ fn emit_first<'a>(
     requires places { places.now ≡ registers.layout_of_kernel (register_in regs.now) (program_of kernel.now) }
     requires scope { scope_of scope.old ≡ typing.empty (items.loop_index (program_of kernel.now)) }
     requires homes { homes.old.items ≡ [] }
-    ensures labels { OnOk result (draft.new.labels ≡ draft.old.labels + kernels.begin_labels (program_of kernel.now)) }
-    ensures code { OnOk result (Appends draft.old draft.new
+    ensures { OnOk result (Emits draft.old draft.new (draft.old.labels + kernels.begin_labels (program_of kernel.now))
         (kernels.begin_code (register_in regs.now) (program_of kernel.now) draft.old.labels)) }
 {
     declare_params(scope, homes, &kernel.params)?;
@@ -177,8 +173,7 @@ fn emit_before(
     requires kinds { VarsKinds (program_of kernel.now).vars }
     requires few { items.size_of (program_of kernel.now) ≤ 1000 }
     requires places { places.now ≡ registers.layout_of_kernel (register_in regs.now) (program_of kernel.now) }
-    ensures labels { OnOk result (draft.new.labels ≡ draft.old.labels + kernels.begin_labels (program_of kernel.now)) }
-    ensures code { OnOk result (Appends draft.old draft.new
+    ensures { OnOk result (Emits draft.old draft.new (draft.old.labels + kernels.begin_labels (program_of kernel.now))
         (kernels.begin_code (register_in regs.now) (program_of kernel.now) draft.old.labels)) }
 {
     let mut scope = empty(alloc, loop_index(&kernel.body));
@@ -199,8 +194,8 @@ pub fn emit_begin(
     requires fits { FitsKernel (program kernel.now) X regs.now }
     requires listed { listing.now ≡ listing_of (program kernel.now) }
     ensures words { OnOk result (AppendsWords draft.old draft.new (40 + 8 * items.size_of (program kernel.now))) }
-    ensures labels { OnOk result (draft.new.labels ≡ draft.old.labels + kernels.begin_labels (program kernel.now)) }
-    ensures code { OnOk result (Appends draft.old draft.new
+    ensures emits { OnOk result (Emits draft.old draft.new
+        (draft.old.labels + kernels.begin_labels (program kernel.now))
         (kernels.begin_code (register_in regs.now) (program kernel.now) draft.old.labels)) }
 {
     few_items(kernel);
@@ -217,8 +212,7 @@ pub fn emit_begin(
 
 // The end of a run, with its result in X0.
 fn emit_exit(draft: &mut Draft) -> Result<(), AllocError>
-    ensures labels { OnOk result (draft.new.labels ≡ draft.old.labels) }
-    ensures code { OnOk result (Appends draft.old draft.new (loops.exit_code)) }
+    ensures { OnOk result (Emits draft.old draft.new draft.old.labels (loops.exit_code)) }
 {
     draft.put(small(8, 93))?;
     draft.put(exit_call())?;
@@ -236,9 +230,8 @@ fn emit_answer(
 ) -> Result<(), AllocError>
     requires kind { AnswerKinds (option_map returned_of answer.now) }
     requires fits { item + items.answer_size (scope_of scope.now).index (option_map returned_of answer.now) < 2 ^ 32 }
-    ensures labels { OnOk result (draft.new.labels
-        ≡ draft.old.labels + loops.answer_labels (scope_of scope.now).index (option_map returned_of answer.now)) }
-    ensures code { OnOk result (Appends draft.old draft.new
+    ensures { OnOk result (Emits draft.old draft.new
+        (draft.old.labels + loops.answer_labels (scope_of scope.now).index (option_map returned_of answer.now))
         (loops.answer_code places.now (homes_of homes.now) (scope_of scope.now) item draft.old.labels
         (option_map returned_of answer.now))) }
 {
@@ -287,10 +280,9 @@ fn turns_named<'a>(
     requires homes { homes.old.items ≡ [] }
     ensures head { IfOk result (λ l. l ≡ draft.old.labels) }
     ensures item { OnOk result (item.new ≡ item.old + items.turns_size (Some (turns_of turns.now))) }
-    ensures labels { OnOk result (draft.new.labels
-        ≡ draft.old.labels + 4 + block_labels (items.loop_index (program_of kernel.now))
-        (block_of turns.now.body.items)) }
-    ensures code { OnOk result (Appends draft.old draft.new
+    ensures emits { OnOk result (Emits draft.old draft.new
+        (draft.old.labels + 4 + block_labels (items.loop_index (program_of kernel.now))
+        (block_of turns.now.body.items))
         (loops.turn_code places.now (registers.kernel_homes (register_in regs.now) (program_of kernel.now))
         (typing.var_scope (program_of kernel.now)) (turns_of turns.now) item.old draft.old.labels)) }
 {
@@ -317,10 +309,9 @@ fn emit_turns(
     requires fits { item.old + items.turns_size (Some (turns_of turns.now)) < 2 ^ 32 }
     ensures head { IfOk result (λ l. l ≡ draft.old.labels) }
     ensures item { OnOk result (item.new ≡ item.old + items.turns_size (Some (turns_of turns.now))) }
-    ensures labels { OnOk result (draft.new.labels
-        ≡ draft.old.labels + 4 + block_labels (items.loop_index (program_of kernel.now))
-        (block_of turns.now.body.items)) }
-    ensures code { OnOk result (Appends draft.old draft.new
+    ensures emits { OnOk result (Emits draft.old draft.new
+        (draft.old.labels + 4 + block_labels (items.loop_index (program_of kernel.now))
+        (block_of turns.now.body.items))
         (loops.turn_code places.now (registers.kernel_homes (register_in regs.now) (program_of kernel.now))
         (typing.var_scope (program_of kernel.now)) (turns_of turns.now) item.old draft.old.labels)) }
 {
@@ -351,10 +342,9 @@ fn following_named<'a>(
         (program_of kernel.now).answer < 2 ^ 32 }
     requires scope { scope_of scope.old ≡ typing.empty (items.loop_index (program_of kernel.now)) }
     requires homes { homes.old.items ≡ [] }
-    ensures labels { OnOk result (draft.new.labels
-        ≡ draft.old.labels + loops.answer_labels (items.loop_index (program_of kernel.now))
-        (program_of kernel.now).answer) }
-    ensures code { OnOk result (Appends draft.old draft.new
+    ensures { OnOk result (Emits draft.old draft.new
+        (draft.old.labels + loops.answer_labels (items.loop_index (program_of kernel.now))
+        (program_of kernel.now).answer)
         (loops.leave_code places.now (registers.kernel_homes (register_in regs.now) (program_of kernel.now))
         (typing.var_scope (program_of kernel.now)) (turns_of turns.now) item draft.old.labels
         (program_of kernel.now).answer)) }
@@ -382,10 +372,9 @@ fn emit_following(
     requires kind { AnswerKinds (program_of kernel.now).answer }
     requires fits { item + items.answer_size (items.loop_index (program_of kernel.now))
         (program_of kernel.now).answer < 2 ^ 32 }
-    ensures labels { OnOk result (draft.new.labels
-        ≡ draft.old.labels + loops.answer_labels (items.loop_index (program_of kernel.now))
-        (program_of kernel.now).answer) }
-    ensures code { OnOk result (Appends draft.old draft.new
+    ensures { OnOk result (Emits draft.old draft.new
+        (draft.old.labels + loops.answer_labels (items.loop_index (program_of kernel.now))
+        (program_of kernel.now).answer)
         (loops.leave_code places.now (registers.kernel_homes (register_in regs.now) (program_of kernel.now))
         (typing.var_scope (program_of kernel.now)) (turns_of turns.now) item draft.old.labels
         (program_of kernel.now).answer)) }
@@ -417,8 +406,8 @@ fn straight_named<'a>(
     requires scope { scope_of scope.old ≡ typing.empty (items.loop_index (program_of kernel.now)) }
     requires homes { homes.old.items ≡ [] }
     ensures head { IfOk result (λ l. l ≡ draft.old.labels) }
-    ensures labels { OnOk result (draft.new.labels ≡ draft.old.labels + kernels.scalar_labels (program_of kernel.now)) }
-    ensures code { OnOk result (Appends draft.old draft.new
+    ensures emits { OnOk result (Emits draft.old draft.new
+        (draft.old.labels + kernels.scalar_labels (program_of kernel.now))
         (kernels.straight_code places.now (registers.kernel_homes (register_in regs.now) (program_of kernel.now))
         (typing.var_scope (program_of kernel.now)) draft.old.labels item (program_of kernel.now).answer)) }
 {
@@ -446,8 +435,8 @@ fn emit_straight(
     requires fits { item + items.answer_size (items.loop_index (program_of kernel.now))
         (program_of kernel.now).answer < 2 ^ 32 }
     ensures head { IfOk result (λ l. l ≡ draft.old.labels) }
-    ensures labels { OnOk result (draft.new.labels ≡ draft.old.labels + kernels.scalar_labels (program_of kernel.now)) }
-    ensures code { OnOk result (Appends draft.old draft.new
+    ensures emits { OnOk result (Emits draft.old draft.new
+        (draft.old.labels + kernels.scalar_labels (program_of kernel.now))
         (kernels.straight_code places.now (registers.kernel_homes (register_in regs.now) (program_of kernel.now))
         (typing.var_scope (program_of kernel.now)) draft.old.labels item (program_of kernel.now).answer)) }
 {
@@ -525,8 +514,8 @@ fn emit_rest<'a>(
     requires places { places.old ≡ registers.layout_of_kernel (register_in regs.now) (program_of kernel.now) }
     requires start { item ≡ items.loop_start (program_of kernel.now) }
     ensures head { IfOk result (λ l. l ≡ draft.old.labels) }
-    ensures labels { OnOk result (draft.new.labels ≡ draft.old.labels + kernels.scalar_labels (program_of kernel.now)) }
-    ensures code { OnOk result (Appends draft.old draft.new
+    ensures emits { OnOk result (Emits draft.old draft.new
+        (draft.old.labels + kernels.scalar_labels (program_of kernel.now))
         (kernels.scalar_code (register_in regs.now) (program_of kernel.now) draft.old.labels)) }
 {
     match &kernel.body {
@@ -569,8 +558,8 @@ pub fn emit_scalar(
     requires listed { listing.now ≡ listing_of (program kernel.now) }
     ensures words { OnOk result (AppendsWords draft.old draft.new (64 + 16 * items.size_of (program kernel.now))) }
     ensures entry { IfOk result (λ e. e.at_iteration ≡ draft.old.labels) }
-    ensures labels { OnOk result (draft.new.labels ≡ draft.old.labels + kernels.scalar_labels (program kernel.now)) }
-    ensures code { OnOk result (Appends draft.old draft.new
+    ensures emits { OnOk result (Emits draft.old draft.new
+        (draft.old.labels + kernels.scalar_labels (program kernel.now))
         (kernels.scalar_code (register_in regs.now) (program kernel.now) draft.old.labels)) }
 {
     few_items(kernel);

@@ -7,7 +7,7 @@ ghost use Rattle.kernel_tree.specs.Items.{term_size, action_size, block_size, ot
 ghost use Rattle.kernel_tree.specs.Kinds.{IsValue, IsTruth, ActionKinds, BlockKinds};
 ghost use Rattle.kernel_scope.specs.Scopes.{scope_of};
 ghost use Rattle.scalar_emit.specs.Statements.{is_effect};
-ghost use Rattle.scalar_words.specs.Drafts.{Appends};
+ghost use Rattle.label_fix.specs.Emits.{Emits};
 ghost use Rattle.scalar_words.specs.View.{homes_of};
 ghost use Rattle.kernel_tree.specs.Typing as typing;
 ghost use Rattle.scalar_values.specs.Code as code;
@@ -38,8 +38,8 @@ use std::alloc::AllocError;
 
 // The value of a `let` into its register, where something reads it.
 fn emit_kept(draft: &mut Draft, places: &Places, item: usize, from: Reg) -> Result<(), AllocError>
-    ensures labels { OnOk result (draft.new.labels ≡ draft.old.labels) }
-    ensures code { OnOk result (Appends draft.old draft.new (statements.let_code places.now item from.number)) }
+    ensures { OnOk result (Emits draft.old draft.new draft.old.labels
+        (statements.let_code places.now item from.number)) }
 {
     if item < places.last_use(item) {
         emit_copy(draft, places.reg(item), from)?;
@@ -87,8 +87,8 @@ fn emit_defined<'a>(
     ensures homes { OnOk result (homes_of homes.new.items
         ≡ statements.defined_homes places.now item.old (homes_of homes.old.items) (name_of name.now) ty) }
     ensures item { OnOk result (item.new ≡ item.old + 1) }
-    ensures labels { OnOk result (draft.new.labels ≡ draft.old.labels) }
-    ensures code { OnOk result (Appends draft.old draft.new (statements.let_code places.now item.old from.number)) }
+    ensures emits { OnOk result (Emits draft.old draft.new draft.old.labels
+        (statements.let_code places.now item.old from.number)) }
 {
     emit_kept(draft, places, *item, from)?;
     settle(homes, places, *item, name, ty)?;
@@ -117,10 +117,9 @@ fn emit_let<'a>(
         (Define (name_of name.now) ty (term_of value.now))) }
     ensures item { OnOk result (item.new ≡ item.old + action_size (scope_of scope.old).index
         (Define (name_of name.now) ty (term_of value.now))) }
-    ensures labels { OnOk result (draft.new.labels
-        ≡ draft.old.labels + statements.action_labels (scope_of scope.old).index
-        (Define (name_of name.now) ty (term_of value.now))) }
-    ensures code { OnOk result (Appends draft.old draft.new
+    ensures emits { OnOk result (Emits draft.old draft.new
+        (draft.old.labels + statements.action_labels (scope_of scope.old).index
+        (Define (name_of name.now) ty (term_of value.now)))
         (statements.action_code places.now (homes_of homes.old.items) (scope_of scope.old) 0 item.old draft.old.labels
         (Define (name_of name.now) ty (term_of value.now)))) }
 {
@@ -132,8 +131,8 @@ fn emit_let<'a>(
 
 // The word of a store, where the elements have a type.
 fn emit_into(draft: &mut Draft, ty: Option<Ty>, from: Reg, p: Reg, r: Reg) -> Result<(), AllocError>
-    ensures labels { OnOk result (draft.new.labels ≡ draft.old.labels) }
-    ensures code { OnOk result (Appends draft.old draft.new (words.store_code ty from.number p.number r.number)) }
+    ensures { OnOk result (Emits draft.old draft.new draft.old.labels
+        (words.store_code ty from.number p.number r.number)) }
 {
     match ty {
         None => Ok(()),
@@ -153,8 +152,7 @@ fn emit_put(
     from: Reg,
     p: Reg,
 ) -> Result<(), AllocError>
-    ensures labels { OnOk result (draft.new.labels ≡ draft.old.labels) }
-    ensures code { OnOk result (Appends draft.old draft.new
+    ensures { OnOk result (Emits draft.old draft.new draft.old.labels
         (statements.put_code (stream_offset (scope_of scope.now).index (term_of number.now)) ty from.number
         p.number)) }
 {
@@ -185,9 +183,8 @@ fn emit_stored(
         ≡ statements.stored_home places.now (homes_of homes.now) (scope_of scope.now) extent item.old
         (term_of value.now)) }
     ensures item { OnOk result (item.new ≡ item.old + term_size (scope_of scope.now).index (term_of value.now)) }
-    ensures labels { OnOk result (draft.new.labels
-        ≡ draft.old.labels + code.labels (scope_of scope.now).index (term_of value.now)) }
-    ensures code { OnOk result (Appends draft.old draft.new
+    ensures emits { OnOk result (Emits draft.old draft.new
+        (draft.old.labels + code.labels (scope_of scope.now).index (term_of value.now))
         (statements.stored_code places.now (homes_of homes.now) (scope_of scope.now) extent want item.old
         draft.old.labels (term_of value.now))) }
 {
@@ -218,10 +215,9 @@ fn emit_store(
         (Put (name_of array.now) (term_of index.now) (term_of value.now)) < 2 ^ 32 }
     ensures item { OnOk result (item.new ≡ item.old + action_size (scope_of scope.now).index
         (Put (name_of array.now) (term_of index.now) (term_of value.now))) }
-    ensures labels { OnOk result (draft.new.labels
-        ≡ draft.old.labels + statements.action_labels (scope_of scope.now).index
-        (Put (name_of array.now) (term_of index.now) (term_of value.now))) }
-    ensures code { OnOk result (Appends draft.old draft.new
+    ensures emits { OnOk result (Emits draft.old draft.new
+        (draft.old.labels + statements.action_labels (scope_of scope.now).index
+        (Put (name_of array.now) (term_of index.now) (term_of value.now)))
         (statements.action_code places.now (homes_of homes.now) (scope_of scope.now) 0 item.old draft.old.labels
         (Put (name_of array.now) (term_of index.now) (term_of value.now)))) }
 {
@@ -251,10 +247,9 @@ fn emit_update(
         (Update (name_of name.now) op (term_of value.now)) < 2 ^ 32 }
     ensures item { OnOk result (item.new ≡ item.old + action_size (scope_of scope.now).index
         (Update (name_of name.now) op (term_of value.now))) }
-    ensures labels { OnOk result (draft.new.labels
-        ≡ draft.old.labels + statements.action_labels (scope_of scope.now).index
-        (Update (name_of name.now) op (term_of value.now))) }
-    ensures code { OnOk result (Appends draft.old draft.new
+    ensures emits { OnOk result (Emits draft.old draft.new
+        (draft.old.labels + statements.action_labels (scope_of scope.now).index
+        (Update (name_of name.now) op (term_of value.now)))
         (statements.action_code places.now (homes_of homes.now) (scope_of scope.now) 0 item.old draft.old.labels
         (Update (name_of name.now) op (term_of value.now)))) }
 {
@@ -279,9 +274,8 @@ fn emit_joined(
     requires kind { IsValue (term_of value.now) }
     requires fits { item.old + (term_size (scope_of scope.now).index (term_of value.now) + 1) < 2 ^ 32 }
     ensures item { OnOk result (item.new ≡ item.old + (term_size (scope_of scope.now).index (term_of value.now) + 1)) }
-    ensures labels { OnOk result (draft.new.labels
-        ≡ draft.old.labels + code.labels (scope_of scope.now).index (term_of value.now)) }
-    ensures code { OnOk result (Appends draft.old draft.new
+    ensures emits { OnOk result (Emits draft.old draft.new
+        (draft.old.labels + code.labels (scope_of scope.now).index (term_of value.now))
         (statements.update_code places.now (homes_of homes.now) (scope_of scope.now) item.old draft.old.labels
         (name_of name.now) op want (term_of value.now))) }
 {
@@ -309,9 +303,8 @@ fn emit_break(
     requires fits { item.old + action_size (scope_of scope.now).index (Leave (term_of cond.now)) < 2 ^ 32 }
     ensures item { OnOk result (item.new ≡ item.old + action_size (scope_of scope.now).index
         (Leave (term_of cond.now))) }
-    ensures labels { OnOk result (draft.new.labels
-        ≡ draft.old.labels + statements.action_labels (scope_of scope.now).index (Leave (term_of cond.now))) }
-    ensures code { OnOk result (Appends draft.old draft.new
+    ensures emits { OnOk result (Emits draft.old draft.new
+        (draft.old.labels + statements.action_labels (scope_of scope.now).index (Leave (term_of cond.now)))
         (statements.action_code places.now (homes_of homes.now) (scope_of scope.now) exit item.old draft.old.labels
         (Leave (term_of cond.now)))) }
 {
@@ -335,11 +328,10 @@ fn emit_effect<'a>(
     requires kinds { ActionKinds (part_action part) }
     requires fits { item.old + action_size (scope_of scope.now).index (part_action part) < 2 ^ 32 }
     ensures item { OnOk result (item.new ≡ item.old + action_size (scope_of scope.now).index (part_action part.entry)) }
-    ensures labels { OnOk result (draft.new.labels
-        ≡ draft.old.labels + statements.action_labels (scope_of scope.now).index (part_action part.entry)) }
-    ensures code { OnOk result (Appends draft.old draft.new
-        (statements.action_code places.now (homes_of homes.now)
-        (scope_of scope.now) exit item.old draft.old.labels (part_action part.entry))) }
+    ensures emits { OnOk result (Emits draft.old draft.new
+        (draft.old.labels + statements.action_labels (scope_of scope.now).index (part_action part.entry))
+        (statements.action_code places.now (homes_of homes.now) (scope_of scope.now) exit item.old draft.old.labels
+        (part_action part.entry))) }
 {
     match part {
         Part::Store {
@@ -373,11 +365,10 @@ fn emit_stmt<'a>(
         ≡ statements.after_homes places.now (homes_of homes.old.items) (scope_of scope.old) item.old
         (action_of stmt.now)) }
     ensures item { OnOk result (item.new ≡ item.old + action_size (scope_of scope.old).index (action_of stmt.now)) }
-    ensures labels { OnOk result (draft.new.labels
-        ≡ draft.old.labels + statements.action_labels (scope_of scope.old).index (action_of stmt.now)) }
-    ensures code { OnOk result (Appends draft.old draft.new
-        (statements.action_code places.now (homes_of homes.old.items)
-        (scope_of scope.old) exit item.old draft.old.labels (action_of stmt.now))) }
+    ensures emits { OnOk result (Emits draft.old draft.new
+        (draft.old.labels + statements.action_labels (scope_of scope.old).index (action_of stmt.now))
+        (statements.action_code places.now (homes_of homes.old.items) (scope_of scope.old) exit item.old
+        draft.old.labels (action_of stmt.now))) }
 {
     match parts(stmt) {
         Part::If { cond, block } => emit_if(draft, places, homes, scope, exit, cond, block, item),
@@ -415,12 +406,11 @@ fn emit_if<'a>(
     ensures homes { OnOk result (homes_of homes.new.items ≡ homes_of homes.old.items) }
     ensures item { OnOk result (item.new ≡ item.old + action_size (scope_of scope.old).index
         (Choose (term_of cond.now) (block_of block.now) Nothing)) }
-    ensures labels { OnOk result (draft.new.labels
-        ≡ draft.old.labels + statements.action_labels (scope_of scope.old).index
-        (Choose (term_of cond.now) (block_of block.now) Nothing)) }
-    ensures code { OnOk result (Appends draft.old draft.new
-        (statements.action_code places.now (homes_of homes.old.items)
-        (scope_of scope.old) exit item.old draft.old.labels (Choose (term_of cond.now) (block_of block.now) Nothing))) }
+    ensures emits { OnOk result (Emits draft.old draft.new
+        (draft.old.labels + statements.action_labels (scope_of scope.old).index
+        (Choose (term_of cond.now) (block_of block.now) Nothing))
+        (statements.action_code places.now (homes_of homes.old.items) (scope_of scope.old) exit item.old
+        draft.old.labels (Choose (term_of cond.now) (block_of block.now) Nothing))) }
 {
     let other = draft.label()?;
     emit_jump(draft, places, homes, scope, false, other, cond, item)?;
@@ -454,13 +444,11 @@ fn emit_if_else<'a>(
     ensures homes { OnOk result (homes_of homes.new.items ≡ homes_of homes.old.items) }
     ensures item { OnOk result (item.new ≡ item.old + action_size (scope_of scope.old).index
         (Choose (term_of cond.now) (block_of block.now) (Else (block_of second.now)))) }
-    ensures labels { OnOk result (draft.new.labels
-        ≡ draft.old.labels + statements.action_labels (scope_of scope.old).index
-        (Choose (term_of cond.now) (block_of block.now) (Else (block_of second.now)))) }
-    ensures code { OnOk result (Appends draft.old draft.new
-        (statements.action_code places.now (homes_of homes.old.items)
-        (scope_of scope.old) exit item.old draft.old.labels
-        (Choose (term_of cond.now) (block_of block.now) (Else (block_of second.now))))) }
+    ensures emits { OnOk result (Emits draft.old draft.new
+        (draft.old.labels + statements.action_labels (scope_of scope.old).index
+        (Choose (term_of cond.now) (block_of block.now) (Else (block_of second.now))))
+        (statements.action_code places.now (homes_of homes.old.items) (scope_of scope.old) exit item.old
+        draft.old.labels (Choose (term_of cond.now) (block_of block.now) (Else (block_of second.now))))) }
 {
     let other = draft.label()?;
     emit_jump(draft, places, homes, scope, false, other, cond, item)?;
@@ -491,11 +479,10 @@ fn emit_else<'a>(
     ensures homes { OnOk result (homes_of homes.new.items ≡ homes_of homes.old.items) }
     ensures item { OnOk result (item.new ≡ item.old + otherwise_size (scope_of scope.old).index
         (Else (block_of second.now)) + 1) }
-    ensures labels { OnOk result (draft.new.labels
-        ≡ draft.old.labels + statements.otherwise_labels (scope_of scope.old).index (Else (block_of second.now))) }
-    ensures code { OnOk result (Appends draft.old draft.new
-        (statements.otherwise_code places.now (homes_of homes.old.items)
-        (scope_of scope.old) exit other item.old draft.old.labels (Else (block_of second.now)))) }
+    ensures emits { OnOk result (Emits draft.old draft.new
+        (draft.old.labels + statements.otherwise_labels (scope_of scope.old).index (Else (block_of second.now)))
+        (statements.otherwise_code places.now (homes_of homes.old.items) (scope_of scope.old) exit other item.old
+        draft.old.labels (Else (block_of second.now)))) }
 {
     let end = switch_over(draft, other, item)?;
     emit_inner(draft, places, homes, scope, exit, second, item)?;
@@ -521,11 +508,10 @@ fn emit_inner<'a>(
         ≡ typing.left (scope_of scope.old) (typing.after_block (scope_of scope.old) (block_of block.now))) }
     ensures homes { OnOk result (homes_of homes.new.items ≡ homes_of homes.old.items) }
     ensures item { OnOk result (item.new ≡ item.old + block_size (scope_of scope.old).index (block_of block.now)) }
-    ensures labels { OnOk result (draft.new.labels
-        ≡ draft.old.labels + statements.block_labels (scope_of scope.old).index (block_of block.now)) }
-    ensures code { OnOk result (Appends draft.old draft.new
-        (statements.block_code places.now (homes_of homes.old.items) (scope_of scope.old) exit item.old draft.old.labels
-        (block_of block.now))) }
+    ensures emits { OnOk result (Emits draft.old draft.new
+        (draft.old.labels + statements.block_labels (scope_of scope.old).index (block_of block.now))
+        (statements.block_code places.now (homes_of homes.old.items) (scope_of scope.old) exit item.old
+        draft.old.labels (block_of block.now))) }
 {
     let visible = visible_count(scope);
     let known = homes.len();
@@ -554,11 +540,10 @@ pub fn emit_block<'a>(
         ≡ statements.block_homes places.now (homes_of homes.old.items) (scope_of scope.old) item.old
         (block_of block.now)) }
     ensures item { OnOk result (item.new ≡ item.old + block_size (scope_of scope.old).index (block_of block.now)) }
-    ensures labels { OnOk result (draft.new.labels
-        ≡ draft.old.labels + statements.block_labels (scope_of scope.old).index (block_of block.now)) }
-    ensures code { OnOk result (Appends draft.old draft.new
-        (statements.block_code places.now (homes_of homes.old.items) (scope_of scope.old) exit item.old draft.old.labels
-        (block_of block.now))) }
+    ensures emits { OnOk result (Emits draft.old draft.new
+        (draft.old.labels + statements.block_labels (scope_of scope.old).index (block_of block.now))
+        (statements.block_code places.now (homes_of homes.old.items) (scope_of scope.old) exit item.old
+        draft.old.labels (block_of block.now))) }
 {
     for stmt in block {
         emit_stmt(draft, places, homes, scope, exit, stmt, item)?;

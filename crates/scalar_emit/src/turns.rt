@@ -1,13 +1,13 @@
 //! Emits a loop.
 
-ghost use Rattle.std.specs.Prelude.{◌≡◌, ◌+◌, ◌<◌, ◌^◌, List, [], ◌∷◌, ◌++◌, OnOk, IfOk, option_map};
+ghost use Rattle.std.specs.Prelude.{◌≡◌, ◌+◌, ◌<◌, ◌^◌, [], ◌∷◌, OnOk, IfOk, option_map};
 ghost use Rattle.label_fix.specs.Draft.{word_view};
 ghost use Rattle.a64_code.specs.Table as table;
 ghost use Rattle.kernel_tree.specs.Plain.{name_of, turns_of, block_of};
 ghost use Rattle.kernel_tree.specs.Kinds.{BlockKinds};
 ghost use Rattle.kernel_scope.specs.Scopes.{scope_of};
 ghost use Rattle.scalar_emit.specs.Statements.{block_labels, block_code, block_homes};
-ghost use Rattle.scalar_words.specs.Drafts.{Appends};
+ghost use Rattle.label_fix.specs.Emits.{Emits};
 ghost use Rattle.scalar_words.specs.View.{form_of, homes_of, looses_of};
 ghost use Rattle.scalar_words.specs.Words.{word_code};
 ghost use Rattle.scalar_words.specs.Layout.{loose_in};
@@ -49,11 +49,10 @@ fn emit_body<'a>(
         (block_of turns.now.body.items)) }
     ensures item { OnOk result (item.new ≡ item.old + items.block_size (scope_of scope.old).index
         (block_of turns.now.body.items)) }
-    ensures labels { OnOk result (draft.new.labels
-        ≡ draft.old.labels + block_labels (scope_of scope.old).index (block_of turns.now.body.items)) }
-    ensures code { OnOk result (Appends draft.old draft.new
-        (block_code places.now (homes_of homes.old.items)
-        (loops.inside_of (scope_of scope.old)) last item.old draft.old.labels (block_of turns.now.body.items))) }
+    ensures emits { OnOk result (Emits draft.old draft.new
+        (draft.old.labels + block_labels (scope_of scope.old).index (block_of turns.now.body.items))
+        (block_code places.now (homes_of homes.old.items) (loops.inside_of (scope_of scope.old)) last item.old
+        draft.old.labels (block_of turns.now.body.items))) }
 {
     scope.inside = true;
     emit_block(draft, places, homes, scope, last, &turns.body, item)?;
@@ -76,11 +75,10 @@ fn emit_inside<'a>(
     ensures homes { OnOk result (homes_of homes.new.items ≡ homes_of homes.old.items) }
     ensures item { OnOk result (item.new ≡ item.old + items.block_size (scope_of scope.old).index
         (block_of turns.now.body.items)) }
-    ensures labels { OnOk result (draft.new.labels
-        ≡ draft.old.labels + block_labels (scope_of scope.old).index (block_of turns.now.body.items)) }
-    ensures code { OnOk result (Appends draft.old draft.new
-        (block_code places.now (homes_of homes.old.items)
-        (loops.inside_of (scope_of scope.old)) last item.old draft.old.labels (block_of turns.now.body.items))) }
+    ensures emits { OnOk result (Emits draft.old draft.new
+        (draft.old.labels + block_labels (scope_of scope.old).index (block_of turns.now.body.items))
+        (block_code places.now (homes_of homes.old.items) (loops.inside_of (scope_of scope.old)) last item.old
+        draft.old.labels (block_of turns.now.body.items))) }
 {
     let known = homes.len();
     emit_body(draft, places, homes, scope, last, turns, item)?;
@@ -100,9 +98,8 @@ struct LoopLabels {
 // The head of a loop.
 fn emit_head(draft: &mut Draft) -> Result<Label, AllocError>
     ensures head { IfOk result (λ l. l ≡ draft.old.labels) }
-    ensures labels { OnOk result (draft.new.labels ≡ draft.old.labels + 1) }
-    ensures code { OnOk result ((rest : List plain.Entry)
-        → draft.new.entries ++ rest ≡ draft.old.entries ++ plain.Place draft.old.labels ∷ rest) }
+    ensures emits { OnOk result (Emits draft.old draft.new (draft.old.labels + 1)
+        (λ rest. plain.Place draft.old.labels ∷ rest)) }
 {
     let head = draft.label()?;
     draft.place(head)?;
@@ -111,8 +108,7 @@ fn emit_head(draft: &mut Draft) -> Result<Label, AllocError>
 
 // The comparison of a loop's variable with the register of its bound.
 fn emit_bound(draft: &mut Draft, bound: Reg) -> Result<(), AllocError>
-    ensures labels { OnOk result (draft.new.labels ≡ draft.old.labels) }
-    ensures code { OnOk result (Appends draft.old draft.new (loops.bound_code bound.number)) }
+    ensures { OnOk result (Emits draft.old draft.new draft.old.labels (loops.bound_code bound.number)) }
 {
     draft.put(add_sub(AddSubOp::Subs, zero(), index(), bound))?;
     Ok(())
@@ -147,8 +143,7 @@ fn ahead_word(ty: Ty, to: Reg, bound: Reg) -> Word
 
 // What is to stand in a register before the first iteration.
 fn emit_form(draft: &mut Draft, bound: Reg, to: Reg, form: Form) -> Result<(), AllocError>
-    ensures labels { OnOk result (draft.new.labels ≡ draft.old.labels) }
-    ensures code { OnOk result (Appends draft.old draft.new
+    ensures { OnOk result (Emits draft.old draft.new draft.old.labels
         (word_code (loops.enter_word bound.number to.number (form_of form)))) }
 {
     match form {
@@ -171,8 +166,7 @@ fn emit_moves(
     homes: &[Home],
     loose: &[Loose],
 ) -> Result<(), AllocError>
-    ensures labels { OnOk result (draft.new.labels ≡ draft.old.labels) }
-    ensures code { OnOk result (Appends draft.old draft.new
+    ensures { OnOk result (Emits draft.old draft.new draft.old.labels
         (loops.enter_code bound.number (homes_of homes.now) (looses_of loose.now))) }
 {
     for held in loose {
@@ -192,9 +186,8 @@ fn emit_entry(
     ensures exit { IfOk result (λ l. l.exit ≡ draft.old.labels + 1) }
     ensures top { IfOk result (λ l. l.top ≡ draft.old.labels + 2) }
     ensures last { IfOk result (λ l. l.last ≡ draft.old.labels + 3) }
-    ensures labels { OnOk result (draft.new.labels ≡ draft.old.labels + 4) }
-    ensures code { OnOk result (Appends draft.old draft.new (loops.entry_code bound.number draft.old.labels
-        (homes_of homes.now) places.now)) }
+    ensures emits { OnOk result (Emits draft.old draft.new (draft.old.labels + 4)
+        (loops.entry_code bound.number draft.old.labels (homes_of homes.now) places.now)) }
 {
     let head = emit_head(draft)?;
     emit_bound(draft, bound)?;
@@ -213,8 +206,7 @@ fn emit_entry(
 
 // What stands in a register after the last iteration.
 fn emit_settled(draft: &mut Draft, bound: Reg, to: Reg, form: Form) -> Result<(), AllocError>
-    ensures labels { OnOk result (draft.new.labels ≡ draft.old.labels) }
-    ensures code { OnOk result (Appends draft.old draft.new
+    ensures { OnOk result (Emits draft.old draft.new draft.old.labels
         (word_code (loops.settle_form bound.number to.number (form_of form)))) }
 {
     match form {
@@ -234,8 +226,7 @@ fn emit_extended(
     homes: &[Home],
     loose: &[Loose],
 ) -> Result<(), AllocError>
-    ensures labels { OnOk result (draft.new.labels ≡ draft.old.labels) }
-    ensures code { OnOk result (Appends draft.old draft.new
+    ensures { OnOk result (Emits draft.old draft.new draft.old.labels
         (loops.settle_code bound.number (homes_of homes.now) (looses_of loose.now))) }
 {
     for held in loose {
@@ -254,8 +245,7 @@ fn emit_back(
 ) -> Result<(), AllocError>
     requires top { top ≡ head + 2 }
     requires given { top < draft.old.labels }
-    ensures labels { OnOk result (draft.new.labels ≡ draft.old.labels) }
-    ensures code { OnOk result (Appends draft.old draft.new
+    ensures { OnOk result (Emits draft.old draft.new draft.old.labels
         (loops.back_code (option_map form_of form) bound.number head)) }
 {
     match form {
@@ -287,10 +277,9 @@ fn emit_again(
     requires top { top ≡ head + 2 }
     requires last { last ≡ head + 3 }
     requires given { last < draft.old.labels }
-    ensures labels { OnOk result (draft.new.labels ≡ draft.old.labels) }
-    ensures code { OnOk result (Appends draft.old draft.new
-        (loops.again_code (loose_in places.now.loose (name_of turns.now.index)) bound.number head
-        (homes_of homes.now) places.now.loose)) }
+    ensures { OnOk result (Emits draft.old draft.new draft.old.labels
+        (loops.again_code (loose_in places.now.loose (name_of turns.now.index)) bound.number head (homes_of homes.now)
+        places.now.loose)) }
 {
     draft.put(next_iteration())?;
     let form = places.loose_form(&turns.index);
@@ -316,11 +305,10 @@ pub fn emit_loop<'a>(
     ensures head { IfOk result (λ l. l ≡ draft.old.labels) }
     ensures item { OnOk result (item.new ≡ item.old +
         (1 + items.block_size (scope_of scope.old).index (block_of turns.now.body.items))) }
-    ensures labels { OnOk result (draft.new.labels
-        ≡ draft.old.labels + 4 + block_labels (scope_of scope.old).index (block_of turns.now.body.items)) }
-    ensures code { OnOk result (Appends draft.old draft.new
-        (loops.turn_code places.now (homes_of homes.old.items) (scope_of scope.old)
-        (turns_of turns.now) item.old draft.old.labels)) }
+    ensures emits { OnOk result (Emits draft.old draft.new
+        (draft.old.labels + 4 + block_labels (scope_of scope.old).index (block_of turns.now.body.items))
+        (loops.turn_code places.now (homes_of homes.old.items) (scope_of scope.old) (turns_of turns.now) item.old
+        draft.old.labels)) }
 {
     let bound = register_at(homes, &turns.bound);
     declare_index(scope, homes, turns)?;

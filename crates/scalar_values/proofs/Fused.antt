@@ -11,7 +11,7 @@ use Rattle.machine_model.specs.declared.outcome.StopKind.TheVariants.{Read}
 use Rattle.machine_model.specs.Arithmetic.{shifted_word}
 use Rattle.kernel_tree.specs.declared.ops.Ty.{Ty}
 use Rattle.kernel_tree.specs.declared.ops.BinaryOp.{BinaryOp}
-use Rattle.kernel_tree.specs.Plain.{Term, Literal, Variable, Element, Unary, Operation, Shift, Conversion, Choice, Comparison, Both, Either, Not}
+use Rattle.kernel_tree.specs.Plain.{Term, Literal, Variable, Element, Unary, Operation, Shift, Conversion}
 use Rattle.kernel_tree.specs.Items.{term_size}
 use Rattle.kernel_tree.specs.Typing.{Scope}
 use Rattle.kernel_tree.specs.Wrap.{wrap, is_signed}
@@ -106,11 +106,7 @@ part_taken op L hs s w T b (Variable x) f = absurd cc
 part_taken op L hs s w T b (Element a e) f = absurd cc
 part_taken op L hs s w T b (Unary o e) f = absurd cc
 part_taken op L hs s w T b (Conversion e t) f = tt
-part_taken op L hs s w T b (Choice c x y) f = absurd cc
-part_taken op L hs s w T b (Comparison o x y) f = absurd cc
-part_taken op L hs s w T b (Both x y) f = absurd cc
-part_taken op L hs s w T b (Either x y) f = absurd cc
-part_taken op L hs s w T b (Not e) f = absurd cc
+part_taken op L hs s w T b other f = absurd cc
 
 pub right_taken : (op : BinaryOp) (L : Layout) (hs : Homes) (s : Scope) (w : Extent) (T : Ty) (b : ℕ) (e : Term) → IsTaken op (right_side L hs s op w (Some T) b e)
 right_taken op L hs s w T b e = taken_by op (added_number op (Some T) e) (is_fused s op w (Some T) e) _ _ (added_sum op (Some T) e) (part_taken op L hs s w T b e)

@@ -47,21 +47,14 @@ abbrev pub load_extended : Ty → ℕ → ℕ
 load_extended ty.I8 n = from_byte n
 load_extended ty.I16 n = from_half n
 load_extended ty.I32 n = from_word n
-load_extended ty.I64 n = n
-load_extended ty.U8 n = n
-load_extended ty.U16 n = n
-load_extended ty.U32 n = n
-load_extended ty.U64 n = n
+load_extended other n = n
 
 pub load_extended-wrap : (t : Ty) (n : ℕ) → n < 256 ^ byte_count t → load_extended t n ≡ word (wrap t (pos n))
 load_extended-wrap ty.I8 n h = loaded_8 (ltb n (2 ^ 7)) n refl (omega arith)
 load_extended-wrap ty.I16 n h = loaded_16 (ltb n (2 ^ 15)) n refl (omega arith)
 load_extended-wrap ty.I32 n h = loaded_32 (ltb n (2 ^ 31)) n refl (omega arith)
 load_extended-wrap ty.I64 n h = signed_64 (ltb n (2 ^ 63)) n refl (omega arith)
-load_extended-wrap ty.U8 n h = omega (arith, h)
-load_extended-wrap ty.U16 n h = omega (arith, h)
-load_extended-wrap ty.U32 n h = omega (arith, h)
-load_extended-wrap ty.U64 n h = omega (arith, h)
+load_extended-wrap other n h = omega (arith, h)
 
 -- ---- sums and products
 
@@ -89,22 +82,11 @@ scaled ty.U64 x = shifted_word 0 x 3
 scaled-bytes : (t : Ty) (x : ℕ) → x < 2 ^ 64 → scaled t x ≡ byte_count t * x % 2 ^ 64
 scaled-bytes ty.I8 x h = omega (arith, h)
 scaled-bytes ty.U8 x h = omega (arith, h)
-scaled-bytes ty.I16 x h = omega arith
-scaled-bytes ty.U16 x h = omega arith
-scaled-bytes ty.I32 x h = omega arith
-scaled-bytes ty.U32 x h = omega arith
-scaled-bytes ty.I64 x h = omega arith
-scaled-bytes ty.U64 x h = omega arith
+scaled-bytes other x h = omega arith
 
 count-below : (t : Ty) → byte_count t < 2 ^ 64
 count-below ty.I8 = omega arith
-count-below ty.U8 = omega arith
-count-below ty.I16 = omega arith
-count-below ty.U16 = omega arith
-count-below ty.I32 = omega arith
-count-below ty.U32 = omega arith
-count-below ty.I64 = omega arith
-count-below ty.U64 = omega arith
+count-below other = omega arith
 
 -- the address of an element, by the words of the array's address and of the element's number
 pub address_is : (t : Ty) (base x : ℤ) (b n : ℕ) → b ≡ word base → n ≡ word x → sum b (scaled t n) ≡ address t base x
@@ -116,13 +98,7 @@ address_is t base x b n e f =
 
 load_does : (t : Ty) (d p r : ℕ) (s : State) → effect (load t d p r) s ≡ load_to s d (sum (x_or_sp s p) (scaled t (x_at s r))) (byte_count t) (load_extended t)
 load_does ty.I8 d p r s = refl
-load_does ty.U8 d p r s = refl
-load_does ty.I16 d p r s = refl
-load_does ty.U16 d p r s = refl
-load_does ty.I32 d p r s = refl
-load_does ty.U32 d p r s = refl
-load_does ty.I64 d p r s = refl
-load_does ty.U64 d p r s = refl
+load_does other d p r s = refl
 
 pub not_sp : (s : State) (p : ℕ) → p ≤ 25 → x_or_sp s p ≡ x_at s p
 not_sp s p le = cond-false _ _ _ (ne_eqb p 31 (λ e. absurd (omega arith)))

@@ -86,15 +86,11 @@ alike Whole z v h = ap (λ n. word n % 2 ^ 64) h
 -- low bits of a number below 2^64 or not
 cut : (w : Extent) (n : ℕ) → n % 2 ^ 64 % 2 ^ bits w ≡ n % 2 ^ bits w
 cut Low8 n = omega arith
-cut Low16 n = omega arith
-cut Low32 n = omega arith
-cut Whole n = omega arith
+cut other n = omega arith
 
 sum-low : (w : Extent) (a b c d : ℕ) → a % 2 ^ bits w ≡ c % 2 ^ bits w → b % 2 ^ bits w ≡ d % 2 ^ bits w → (a + b) % 2 ^ bits w ≡ (c + d) % 2 ^ bits w
 sum-low Low8 a b c d p q = omega (arith, p, q)
-sum-low Low16 a b c d p q = omega (arith, p, q)
-sum-low Low32 a b c d p q = omega (arith, p, q)
-sum-low Whole a b c d p q = omega (arith, p, q)
+sum-low other a b c d p q = omega (arith, p, q)
 
 add-alike : (w : Extent) (x y u v : ℤ) → Alike (bits w) x u → Alike (bits w) y v → Alike (bits w) (x +ℤ y) (u +ℤ v)
 add-alike w x y u v p q =
@@ -113,9 +109,7 @@ word-neg (negsuc n) = omega arith
 
 neg-low : (w : Extent) (a c : ℕ) → a < 2 ^ 64 → c < 2 ^ 64 → a % 2 ^ bits w ≡ c % 2 ^ bits w → (2 ^ 64 - a) % 2 ^ bits w ≡ (2 ^ 64 - c) % 2 ^ bits w
 neg-low Low8 a c la lc p = omega (arith, p, la, lc)
-neg-low Low16 a c la lc p = omega (arith, p, la, lc)
-neg-low Low32 a c la lc p = omega (arith, p, la, lc)
-neg-low Whole a c la lc p = omega (arith, p, la, lc)
+neg-low other a c la lc p = omega (arith, p, la, lc)
 
 neg-alike : (w : Extent) (x u : ℤ) → Alike (bits w) x u → Alike (bits w) (neg_ℤ x) (neg_ℤ u)
 neg-alike w x u p =
@@ -346,13 +340,7 @@ loose s w want (Not e) m stand names = value s want (Not e) m names
 
 bits_same : (t : Ty) → bits_of t ≡ bits (extent_of t)
 bits_same ty.I8 = refl
-bits_same ty.U8 = refl
-bits_same ty.I16 = refl
-bits_same ty.U16 = refl
-bits_same ty.I32 = refl
-bits_same ty.U32 = refl
-bits_same ty.I64 = refl
-bits_same ty.U64 = refl
+bits_same other = refl
 
 -- what stands in the register of a name agrees with its value, where no more is asked for
 pub name_agrees : (c : ℕ) (o : Option Form) (w : Extent) (z v : ℤ) → is_enough o w ≡ true → Tells c o z v → Agrees w z v
@@ -401,10 +389,5 @@ module _ (s : Scope) (m : Memory) (names : Names) (ranged : AreRanged s.visible 
   whole_is e want k c = same-all _ _ (agrees e Whole want k c)
 
 -- what is asked for agrees, where both are there
-pub agrees_at : (w : Extent) (o q : Option ℤ) (z : ℤ) → Agreed w o q → o ≡ Some z → (v : ℤ) × ((q ≡ Some v) × Agrees w z v)
-agrees_at w None q z p e = absurd cc
-agrees_at w (Some x) None z p e = absurd p
-agrees_at w (Some x) (Some v) z p e = let f : x ≡ z = cc in (v, (refl, subst (λ k. Agrees w k v) f p))
-
 pub whole_same : (w : Extent) (z v : ℤ) → w ≡ Whole → Agrees w z v → z ≡ v
 whole_same w z v e p = subst (λ k. Agrees k z v) e p

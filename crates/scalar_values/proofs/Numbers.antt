@@ -1,11 +1,11 @@
 -- Right sides that a word holds as a number.
 use Rattle.std.proofs.Common.{◌≡◌, ℕ, ◌<◌, Bool, true, false, ◌||◌, ◌⊎◌, Option, Some, None, inl, inr, refl, sym, ap, arith}
-use Rattle.std.specs.Prelude.{ℤ, List, nat_lt, option_and_then, if◌then◌else◌}
+use Rattle.std.specs.Prelude.{ℤ, nat_lt, option_and_then, if◌then◌else◌}
 use Rattle.std.proofs.lemmas.Bool.{ltb-true}
 use Rattle.kernel_tree.specs.declared.ops.Ty.{Ty}
 use Rattle.kernel_tree.specs.declared.ops.BinaryOp.{BinaryOp}
-use Rattle.kernel_tree.specs.Plain.{Term, Literal, Variable, Element, Unary, Operation, Shift, Conversion, Choice, Comparison, Both, Either, Not}
-use Rattle.kernel_tree.specs.Items.{literal_value, term_size}
+use Rattle.kernel_tree.specs.Plain.{Term, Literal}
+use Rattle.kernel_tree.specs.Items.{literal_value}
 use Rattle.kernel_meaning.specs.Operators.{word, wrapped}
 use Rattle.guest_types.specs.Memory.{Memory}
 use Rattle.kernel_tree.specs.Typing.{Scope}
@@ -13,52 +13,14 @@ use Rattle.kernel_meaning.specs.Eval.{Names, value}
 use Rattle.scalar_values.specs.declared.extent.Extent.{Extent}
 use Rattle.scalar_values.proofs.Loose.{loose}
 use Rattle.scalar_values.specs.ItemWords.{immediate, held_addend}
-use Rattle.scalar_values.specs.Code.{labels, IsLiteral, compared_number, added_number}
+use Rattle.scalar_values.specs.Code.{compared_number, added_number}
 use Rattle.kernel_tree.specs.declared.ops.BinaryOp.TheVariants as binary
 
 -- ---- literals
 
-pub literal_size : (i : Option (List ℕ)) (e : Term) → IsLiteral (literal_value e) → term_size i e ≡ 1
-literal_size i (Literal z) h = refl
-literal_size i (Variable x) h = absurd h
-literal_size i (Element a j) h = absurd h
-literal_size i (Unary op e) h = absurd h
-literal_size i (Operation op x y) h = absurd h
-literal_size i (Shift left e n) h = absurd h
-literal_size i (Conversion e t) h = absurd h
-literal_size i (Choice c x y) h = absurd h
-literal_size i (Comparison op x y) h = absurd h
-literal_size i (Both x y) h = absurd h
-literal_size i (Either x y) h = absurd h
-literal_size i (Not e) h = absurd h
-
-pub literal_labels : (i : Option (List ℕ)) (e : Term) → IsLiteral (literal_value e) → labels i e ≡ 0
-literal_labels i (Literal z) h = refl
-literal_labels i (Variable x) h = absurd h
-literal_labels i (Element a j) h = absurd h
-literal_labels i (Unary op e) h = absurd h
-literal_labels i (Operation op x y) h = absurd h
-literal_labels i (Shift left e n) h = absurd h
-literal_labels i (Conversion e t) h = absurd h
-literal_labels i (Choice c x y) h = absurd h
-literal_labels i (Comparison op x y) h = absurd h
-literal_labels i (Both x y) h = absurd h
-literal_labels i (Either x y) h = absurd h
-literal_labels i (Not e) h = absurd h
-
 literal_is : (e : Term) (z : ℤ) → literal_value e ≡ Some z → e ≡ Literal z
 literal_is (Literal c) z h = cc
-literal_is (Variable x) z h = absurd cc
-literal_is (Element a j) z h = absurd cc
-literal_is (Unary op e) z h = absurd cc
-literal_is (Operation op x y) z h = absurd cc
-literal_is (Shift left e n) z h = absurd cc
-literal_is (Conversion e t) z h = absurd cc
-literal_is (Choice c x y) z h = absurd cc
-literal_is (Comparison op x y) z h = absurd cc
-literal_is (Both x y) z h = absurd cc
-literal_is (Either x y) z h = absurd cc
-literal_is (Not e) z h = absurd cc
+literal_is other z h = absurd cc
 
 -- a number that stands for a literal
 found : (f : ℕ → Option ℕ) (want : Option Ty) (e : Term) (o : Option ℤ) (w : ℕ) → literal_value e ≡ o → option_and_then (λ z. f (word (wrapped want z))) o ≡ Some w → (z : ℤ) × ((e ≡ Literal z) × (f (word (wrapped want z)) ≡ Some w))
@@ -74,12 +36,7 @@ IsAddend v = (v < 4096) ⊎ (18446744073709547520 < v)
 abbrev pub IsSum : BinaryOp → ℕ → Type 0
 IsSum binary.Add v = IsAddend v
 IsSum binary.Sub v = IsAddend v
-IsSum binary.Mul v = ⊥
-IsSum binary.And v = ⊥
-IsSum binary.Or v = ⊥
-IsSum binary.Xor v = ⊥
-IsSum binary.Min v = ⊥
-IsSum binary.Max v = ⊥
+IsSum other v = ⊥
 
 immediate_is : (v w : ℕ) (b : Bool) → nat_lt v 4096 ≡ b → (if b then Some v else None) ≡ Some w → (w ≡ v) × (w < 4096)
 immediate_is v w true e h = let same : v ≡ w = cc in (sym same, omega (arith, same, ltb-true v 4096 e))
@@ -93,12 +50,7 @@ addend_is v w false false e f h = absurd cc
 held_is : (op : BinaryOp) (v w : ℕ) → held_addend op v ≡ Some w → (w ≡ v) × IsSum op w
 held_is binary.Add v w h = addend_is v w (nat_lt v 4096) (nat_lt 18446744073709547520 v) refl refl h
 held_is binary.Sub v w h = addend_is v w (nat_lt v 4096) (nat_lt 18446744073709547520 v) refl refl h
-held_is binary.Mul v w h = absurd cc
-held_is binary.And v w h = absurd cc
-held_is binary.Or v w h = absurd cc
-held_is binary.Xor v w h = absurd cc
-held_is binary.Min v w h = absurd cc
-held_is binary.Max v w h = absurd cc
+held_is other v w h = absurd cc
 
 -- the value of a right side that a word holds
 abbrev pub IsRight : Scope → Option Ty → Term → Memory → Names → ℕ → Type 0

@@ -107,13 +107,7 @@ IsTaken op (Moved kind n r) = takes_shift op ≡ true
 
 only_joins : (op : BinaryOp) → binary_joins op ≡ false → binary_leaves op ≡ true → ⊥
 only_joins binary.Add j b = absurd cc
-only_joins binary.Sub j b = absurd cc
-only_joins binary.Mul j b = absurd cc
-only_joins binary.And j b = absurd cc
-only_joins binary.Or j b = absurd cc
-only_joins binary.Xor j b = absurd cc
-only_joins binary.Min j b = absurd cc
-only_joins binary.Max j b = absurd cc
+only_joins other j b = absurd cc
 
 unjoined : (op : BinaryOp) → binary_joins op ≡ false → binary_leaves op ≡ false
 unjoined binary.Add j = absurd cc

@@ -32,13 +32,7 @@ some_words None n = omega arith
 
 moved : (t : Ty) (base c x : ℤ) → base +ℤ pos (byte_count t) *ℤ c +ℤ pos (byte_count t) *ℤ x ≡ base +ℤ pos (byte_count t) *ℤ (x +ℤ c)
 moved ty.I8 base c x = omega (arith, ints)
-moved ty.U8 base c x = omega (arith, ints)
-moved ty.I16 base c x = omega (arith, ints)
-moved ty.U16 base c x = omega (arith, ints)
-moved ty.I32 base c x = omega (arith, ints)
-moved ty.U32 base c x = omega (arith, ints)
-moved ty.I64 base c x = omega (arith, ints)
-moved ty.U64 base c x = omega (arith, ints)
+moved other base c x = omega (arith, ints)
 
 -- an element at an offset is one of an array that begins so many bytes further on
 pub address_moved : (t : Ty) (base c x : ℤ) → address t (base +ℤ pos (byte_count t) *ℤ c) x ≡ address t base (x +ℤ c)

@@ -3,7 +3,7 @@ use Rattle.std.proofs.Common.{◌≡◌, ℕ, Option, Some, None}
 use Rattle.std.specs.Prelude.{ℤ}
 use Rattle.guest_types.specs.Memory.{Memory}
 use Rattle.kernel_tree.specs.declared.ops.Ty.{Ty}
-use Rattle.kernel_tree.specs.Plain.{Term, Literal, Variable, Element, Unary, Operation, Shift, Conversion, Choice, Comparison, Both, Either, Not}
+use Rattle.kernel_tree.specs.Plain.{Term, Literal, Variable, Element, Unary, Operation, Shift, Conversion, Choice}
 use Rattle.kernel_tree.specs.Typing.{Scope, own}
 use Rattle.kernel_meaning.specs.TypeValues.{IsOf}
 use Rattle.kernel_meaning.specs.Eval.{Names, value}
@@ -23,10 +23,7 @@ fits_typed (Operation op x y) L hs s T b user fits = tt
 fits_typed (Shift left x n) L hs s T b user fits = tt
 fits_typed (Conversion x t) L hs s T b user fits = let same : Some t ≡ Some T = fits.0 in cc
 fits_typed (Choice c x y) L hs s T b user fits = (fits_typed x L hs s T _ _ fits.0, fits_typed y L hs s T _ _ fits.1)
-fits_typed (Comparison op x y) L hs s T b user fits = absurd fits
-fits_typed (Both x y) L hs s T b user fits = absurd fits
-fits_typed (Either x y) L hs s T b user fits = absurd fits
-fits_typed (Not x) L hs s T b user fits = absurd fits
+fits_typed other L hs s T b user fits = absurd fits
 
 pub value-range : (L : Layout) (hs : Homes) (s : Scope) (names : Names) (m : Memory) (e : Term) (T : Ty) (b user : ℕ) (v : ℤ) → Fits L hs s (Some T) b user e → AreRanged s.visible names → value s (Some T) e m names ≡ Some v → IsOf T v
 value-range L hs s names m e T b user v fits r is = value_range e s T m names v (fits_typed e L hs s T b user fits) r is
@@ -45,7 +42,4 @@ fits_types (Operation op x y) L hs s want b user fits = (fits_types x L hs s wan
 fits_types (Shift left x n) L hs s want b user fits = fits_types x L hs s want _ _ fits.1
 fits_types (Conversion x t) L hs s want b user fits = (fits.0, same_some (own s x) fits.1, fits_types x L hs s (own s x) _ _ fits.2)
 fits_types (Choice c x y) L hs s want b user fits = (fits_types x L hs s want _ _ fits.0, fits_types y L hs s want _ _ fits.1)
-fits_types (Comparison op x y) L hs s want b user fits = absurd fits
-fits_types (Both x y) L hs s want b user fits = absurd fits
-fits_types (Either x y) L hs s want b user fits = absurd fits
-fits_types (Not x) L hs s want b user fits = absurd fits
+fits_types other L hs s want b user fits = absurd fits

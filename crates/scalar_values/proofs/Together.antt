@@ -18,13 +18,7 @@ use Rattle.scalar_values.specs.Covers.{index_form, stands_together}
 -- so many elements ahead, and as many behind
 both_moved : (t : Ty) (count : ℕ) (a i k : ℤ) → a +ℤ pos (byte_count t * count) +ℤ pos (byte_count t) *ℤ (i -ℤ pos count +ℤ k) ≡ a +ℤ pos (byte_count t) *ℤ (i +ℤ k)
 both_moved ty.I8 count a i k = omega (arith, ints)
-both_moved ty.U8 count a i k = omega (arith, ints)
-both_moved ty.I16 count a i k = omega (arith, ints)
-both_moved ty.U16 count a i k = omega (arith, ints)
-both_moved ty.I32 count a i k = omega (arith, ints)
-both_moved ty.U32 count a i k = omega (arith, ints)
-both_moved ty.I64 count a i k = omega (arith, ints)
-both_moved ty.U64 count a i k = omega (arith, ints)
+both_moved other count a i k = omega (arith, ints)
 
 ahead : (t T : Ty) (count : ℕ) (z v y i k : ℤ) → byte_count t ≡ byte_count T → z ≡ v +ℤ pos (byte_count t * count) → y ≡ i -ℤ pos count → address T z (y +ℤ k) ≡ address T v (i +ℤ k)
 ahead t T count z v y i k same e f = ap₂ (λ a x. address T a (x +ℤ k)) (e ∙ ap (λ n. v +ℤ pos (n * count)) same) f ∙ ap word (both_moved T count v i k)

@@ -5,7 +5,7 @@ ghost use Rattle.kernel_tree.specs.Plain.{Unary, Element, Operation, Shift, Conv
 ghost use Rattle.kernel_tree.specs.Items.{term_size, index_items};
 ghost use Rattle.kernel_tree.specs.Kinds.{IsValue, IsTruth};
 ghost use Rattle.kernel_scope.specs.Scopes.{scope_of};
-ghost use Rattle.scalar_words.specs.Drafts.{Appends};
+ghost use Rattle.label_fix.specs.Emits.{Emits};
 ghost use Rattle.scalar_words.specs.View.{homes_of};
 ghost use Rattle.scalar_values.specs.ValueRegisters as placed;
 ghost use Rattle.scalar_words.specs.Layout as layout;
@@ -53,9 +53,8 @@ pub fn emit_loose(
     ensures register { IfOk result (λ r. r.number
         ≡ placed.home places.now (homes_of homes.now) (scope_of scope.now).index item.old (term_of expr.now)) }
     ensures item { OnOk result (item.new ≡ item.old + term_size (scope_of scope.now).index (term_of expr.now)) }
-    ensures labels { OnOk result (draft.new.labels
-        ≡ draft.old.labels + code.labels (scope_of scope.now).index (term_of expr.now)) }
-    ensures code { OnOk result (Appends draft.old draft.new
+    ensures emits { OnOk result (Emits draft.old draft.new
+        (draft.old.labels + code.labels (scope_of scope.now).index (term_of expr.now))
         (code.loose_code places.now (homes_of homes.now) (scope_of scope.now) extent want item.old draft.old.labels
         (term_of expr.now))) }
 {
@@ -102,9 +101,8 @@ fn emit_one(
         (Unary op (term_of arg.now))) }
     ensures item { OnOk result (item.new
         ≡ item.old + term_size (scope_of scope.now).index (Unary op (term_of arg.now))) }
-    ensures labels { OnOk result (draft.new.labels
-        ≡ draft.old.labels + code.labels (scope_of scope.now).index (Unary op (term_of arg.now))) }
-    ensures code { OnOk result (Appends draft.old draft.new
+    ensures emits { OnOk result (Emits draft.old draft.new
+        (draft.old.labels + code.labels (scope_of scope.now).index (Unary op (term_of arg.now)))
         (code.loose_code places.now (homes_of homes.now) (scope_of scope.now) extent want item.old draft.old.labels
         (Unary op (term_of arg.now)))) }
 {
@@ -135,9 +133,8 @@ fn emit_moved(
     ensures register { IfOk result (λ r. r.number
         ≡ placed.home places.now (homes_of homes.now) (scope_of scope.now).index item.old (term_of expr.now)) }
     ensures item { OnOk result (item.new ≡ item.old + term_size (scope_of scope.now).index (term_of expr.now)) }
-    ensures labels { OnOk result (draft.new.labels
-        ≡ draft.old.labels + code.labels (scope_of scope.now).index (term_of expr.now)) }
-    ensures code { OnOk result (Appends draft.old draft.new
+    ensures emits { OnOk result (Emits draft.old draft.new
+        (draft.old.labels + code.labels (scope_of scope.now).index (term_of expr.now))
         (code.loose_code places.now (homes_of homes.now) (scope_of scope.now) extent want item.old draft.old.labels
         (term_of expr.now))) }
 {
@@ -178,9 +175,8 @@ fn emit_converted(
         (Conversion (term_of arg.now) ty)) }
     ensures item { OnOk result (item.new
         ≡ item.old + term_size (scope_of scope.now).index (Conversion (term_of arg.now) ty)) }
-    ensures labels { OnOk result (draft.new.labels
-        ≡ draft.old.labels + code.labels (scope_of scope.now).index (Conversion (term_of arg.now) ty)) }
-    ensures code { OnOk result (Appends draft.old draft.new
+    ensures emits { OnOk result (Emits draft.old draft.new
+        (draft.old.labels + code.labels (scope_of scope.now).index (Conversion (term_of arg.now) ty))
         (code.loose_code places.now (homes_of homes.now) (scope_of scope.now) extent None item.old draft.old.labels
         (Conversion (term_of arg.now) ty))) }
 {
@@ -215,10 +211,9 @@ fn emit_two(
         (term_of left.now) (term_of right.now))) }
     ensures item { OnOk result (item.new ≡ item.old + term_size (scope_of scope.now).index (Operation op
         (term_of left.now) (term_of right.now))) }
-    ensures labels { OnOk result (draft.new.labels
-        ≡ draft.old.labels + code.labels (scope_of scope.now).index (Operation op (term_of left.now)
-        (term_of right.now))) }
-    ensures code { OnOk result (Appends draft.old draft.new
+    ensures emits { OnOk result (Emits draft.old draft.new
+        (draft.old.labels + code.labels (scope_of scope.now).index
+        (Operation op (term_of left.now) (term_of right.now)))
         (code.loose_code places.now (homes_of homes.now) (scope_of scope.now) extent want item.old draft.old.labels
         (Operation op (term_of left.now) (term_of right.now)))) }
 {
@@ -258,10 +253,9 @@ fn emit_sides(
         (scope_of scope.now) op extent want item.old (term_of left.now) (term_of right.now)) }
     ensures item { OnOk result (item.new ≡ item.old + term_size (scope_of scope.now).index (term_of left.now)
         + term_size (scope_of scope.now).index (term_of right.now)) }
-    ensures labels { OnOk result (draft.new.labels
-        ≡ draft.old.labels + code.labels (scope_of scope.now).index (Operation op (term_of left.now)
-        (term_of right.now))) }
-    ensures code { OnOk result (Appends draft.old draft.new
+    ensures emits { OnOk result (Emits draft.old draft.new
+        (draft.old.labels + code.labels (scope_of scope.now).index
+        (Operation op (term_of left.now) (term_of right.now)))
         (code.sides_code places.now (homes_of homes.now) (scope_of scope.now) extent want item.old draft.old.labels op
         (term_of left.now) (term_of right.now))) }
 {
@@ -294,13 +288,11 @@ pub fn emit_side(
     ensures side { IfOk result (λ s. side_view s ≡ code.right_side places.now (homes_of homes.now)
         (scope_of scope.now) op extent want item.old (term_of expr.now)) }
     ensures item { OnOk result (item.new ≡ item.old + term_size (scope_of scope.now).index (term_of expr.now)) }
-    ensures labels { OnOk result (draft.new.labels
-        ≡ draft.old.labels + code.labels (scope_of scope.now).index (term_of expr.now)) }
-    ensures code { OnOk result (Appends draft.old draft.new
-        (code.side_code (code.added_number op want (term_of expr.now)) (code.is_fused (scope_of scope.now) op extent want
-        (term_of expr.now))
-        (code.loose_code places.now (homes_of homes.now) (scope_of scope.now) extent want item.old draft.old.labels
-        (term_of expr.now))
+    ensures emits { OnOk result (Emits draft.old draft.new
+        (draft.old.labels + code.labels (scope_of scope.now).index (term_of expr.now))
+        (code.side_code (code.added_number op want (term_of expr.now))
+        (code.is_fused (scope_of scope.now) op extent want (term_of expr.now)) (code.loose_code places.now
+        (homes_of homes.now) (scope_of scope.now) extent want item.old draft.old.labels (term_of expr.now))
         (code.parts_code places.now (homes_of homes.now) (scope_of scope.now) extent want item.old draft.old.labels
         (term_of expr.now)))) }
 {
@@ -340,9 +332,8 @@ fn emit_parts(
     ensures side { IfOk result (λ s. side_view s ≡ code.part_side places.now (homes_of homes.now)
         (scope_of scope.now).index want item.old (term_of expr.now)) }
     ensures item { OnOk result (item.new ≡ item.old + term_size (scope_of scope.now).index (term_of expr.now)) }
-    ensures labels { OnOk result (draft.new.labels
-        ≡ draft.old.labels + code.labels (scope_of scope.now).index (term_of expr.now)) }
-    ensures code { OnOk result (Appends draft.old draft.new
+    ensures emits { OnOk result (Emits draft.old draft.new
+        (draft.old.labels + code.labels (scope_of scope.now).index (term_of expr.now))
         (code.parts_code places.now (homes_of homes.now) (scope_of scope.now) extent want item.old draft.old.labels
         (term_of expr.now))) }
 {
@@ -392,9 +383,8 @@ fn emit_right(
     ensures register { IfOk result (λ r. r.number
         ≡ placed.home places.now (homes_of homes.now) (scope_of scope.now).index item.old (term_of expr.now)) }
     ensures item { OnOk result (item.new ≡ item.old + term_size (scope_of scope.now).index (term_of expr.now)) }
-    ensures labels { OnOk result (draft.new.labels
-        ≡ draft.old.labels + code.labels (scope_of scope.now).index (term_of expr.now)) }
-    ensures code { OnOk result (Appends draft.old draft.new
+    ensures emits { OnOk result (Emits draft.old draft.new
+        (draft.old.labels + code.labels (scope_of scope.now).index (term_of expr.now))
         (code.right_code number (code.loose_code places.now (homes_of homes.now) (scope_of scope.now) extent want
         item.old draft.old.labels (term_of expr.now)))) }
 {
@@ -425,9 +415,8 @@ fn emit_read(
         (name_of array.now) (term_of index.now))) }
     ensures item { OnOk result (item.new ≡ item.old + term_size (scope_of scope.now).index (Element
         (name_of array.now) (term_of index.now))) }
-    ensures labels { OnOk result (draft.new.labels
-        ≡ draft.old.labels + code.labels (scope_of scope.now).index (Element (name_of array.now) (term_of index.now))) }
-    ensures code { OnOk result (Appends draft.old draft.new
+    ensures emits { OnOk result (Emits draft.old draft.new
+        (draft.old.labels + code.labels (scope_of scope.now).index (Element (name_of array.now) (term_of index.now)))
         (code.loose_code places.now (homes_of homes.now) (scope_of scope.now) extent None item.old draft.old.labels
         (Element (name_of array.now) (term_of index.now)))) }
 {
@@ -471,10 +460,9 @@ fn emit_select(
         (term_of yes.now) (term_of no.now))) }
     ensures item { OnOk result (item.new ≡ item.old + term_size (scope_of scope.now).index (Choice
         (term_of cond.now) (term_of yes.now) (term_of no.now))) }
-    ensures labels { OnOk result (draft.new.labels
-        ≡ draft.old.labels + code.labels (scope_of scope.now).index (Choice (term_of cond.now) (term_of yes.now)
-        (term_of no.now))) }
-    ensures code { OnOk result (Appends draft.old draft.new
+    ensures emits { OnOk result (Emits draft.old draft.new
+        (draft.old.labels + code.labels (scope_of scope.now).index
+        (Choice (term_of cond.now) (term_of yes.now) (term_of no.now)))
         (code.loose_code places.now (homes_of homes.now) (scope_of scope.now) extent want item.old draft.old.labels
         (Choice (term_of cond.now) (term_of yes.now) (term_of no.now)))) }
 {
@@ -501,9 +489,8 @@ fn emit_one_of(
         ≡ layout.reg_of places.now (item.old + term_size (scope_of scope.now).index (term_of cond.now))) }
     ensures item { OnOk result (item.new
         ≡ item.old + term_size (scope_of scope.now).index (term_of cond.now) + 1) }
-    ensures labels { OnOk result (draft.new.labels
-        ≡ draft.old.labels + (2 + code.labels (scope_of scope.now).index (term_of cond.now))) }
-    ensures code { OnOk result (Appends draft.old draft.new
+    ensures emits { OnOk result (Emits draft.old draft.new
+        (draft.old.labels + (2 + code.labels (scope_of scope.now).index (term_of cond.now)))
         (code.one_of_code places.now (homes_of homes.now) (scope_of scope.now) item.old draft.old.labels
         (term_of cond.now) a.number b.number)) }
 {
@@ -543,10 +530,9 @@ fn emit_flags(
         (term_of right.now)) < 2 ^ 32 }
     ensures item { OnOk result (item.new ≡ item.old + term_size (scope_of scope.now).index (Comparison op
         (term_of left.now) (term_of right.now))) }
-    ensures labels { OnOk result (draft.new.labels
-        ≡ draft.old.labels + code.labels (scope_of scope.now).index
-        (Comparison op (term_of left.now) (term_of right.now))) }
-    ensures code { OnOk result (Appends draft.old draft.new
+    ensures emits { OnOk result (Emits draft.old draft.new
+        (draft.old.labels + code.labels (scope_of scope.now).index
+        (Comparison op (term_of left.now) (term_of right.now)))
         (code.flags_code places.now (homes_of homes.now) (scope_of scope.now) item.old draft.old.labels
         (Comparison op (term_of left.now) (term_of right.now)))) }
 {
@@ -579,9 +565,8 @@ pub fn emit_jump(
     requires fits { item.old + term_size (scope_of scope.now).index (term_of expr.now) < 2 ^ 32 }
     ensures item { OnOk result (item.new ≡ item.old + term_size (scope_of scope.now).index
         (term_of expr.now)) }
-    ensures labels { OnOk result (draft.new.labels
-        ≡ draft.old.labels + code.labels (scope_of scope.now).index (term_of expr.now)) }
-    ensures code { OnOk result (Appends draft.old draft.new
+    ensures emits { OnOk result (Emits draft.old draft.new
+        (draft.old.labels + code.labels (scope_of scope.now).index (term_of expr.now))
         (code.jump_code places.now (homes_of homes.now) (scope_of scope.now) sense to item.old draft.old.labels
         (term_of expr.now))) }
 {
@@ -621,10 +606,9 @@ fn emit_comparison(
         (Comparison op (term_of left.now) (term_of right.now)) < 2 ^ 32 }
     ensures item { OnOk result (item.new ≡ item.old + term_size (scope_of scope.now).index
         (Comparison op (term_of left.now) (term_of right.now))) }
-    ensures labels { OnOk result (draft.new.labels
-        ≡ draft.old.labels + code.labels (scope_of scope.now).index
-        (Comparison op (term_of left.now) (term_of right.now))) }
-    ensures code { OnOk result (Appends draft.old draft.new
+    ensures emits { OnOk result (Emits draft.old draft.new
+        (draft.old.labels + code.labels (scope_of scope.now).index
+        (Comparison op (term_of left.now) (term_of right.now)))
         (code.jump_code places.now (homes_of homes.now) (scope_of scope.now) sense to item.old draft.old.labels
         (Comparison op (term_of left.now) (term_of right.now)))) }
 {
@@ -657,9 +641,8 @@ fn emit_contrary(
     requires fits { item.old + term_size (scope_of scope.now).index (Not (term_of arg.now)) < 2 ^ 32 }
     ensures item { OnOk result (item.new ≡ item.old + term_size (scope_of scope.now).index
         (Not (term_of arg.now))) }
-    ensures labels { OnOk result (draft.new.labels
-        ≡ draft.old.labels + code.labels (scope_of scope.now).index (Not (term_of arg.now))) }
-    ensures code { OnOk result (Appends draft.old draft.new
+    ensures emits { OnOk result (Emits draft.old draft.new
+        (draft.old.labels + code.labels (scope_of scope.now).index (Not (term_of arg.now)))
         (code.jump_code places.now (homes_of homes.now) (scope_of scope.now) sense to item.old draft.old.labels
         (Not (term_of arg.now)))) }
 {
@@ -688,9 +671,8 @@ fn emit_both(
         (Both (term_of left.now) (term_of right.now)) < 2 ^ 32 }
     ensures item { OnOk result (item.new ≡ item.old + term_size (scope_of scope.now).index
         (Both (term_of left.now) (term_of right.now))) }
-    ensures labels { OnOk result (draft.new.labels
-        ≡ draft.old.labels + code.labels (scope_of scope.now).index (Both (term_of left.now) (term_of right.now))) }
-    ensures code { OnOk result (Appends draft.old draft.new
+    ensures emits { OnOk result (Emits draft.old draft.new
+        (draft.old.labels + code.labels (scope_of scope.now).index (Both (term_of left.now) (term_of right.now)))
         (code.jump_code places.now (homes_of homes.now) (scope_of scope.now) sense to item.old draft.old.labels
         (Both (term_of left.now) (term_of right.now)))) }
 {
@@ -723,9 +705,8 @@ fn emit_either(
         (Either (term_of left.now) (term_of right.now)) < 2 ^ 32 }
     ensures item { OnOk result (item.new ≡ item.old + term_size (scope_of scope.now).index
         (Either (term_of left.now) (term_of right.now))) }
-    ensures labels { OnOk result (draft.new.labels
-        ≡ draft.old.labels + code.labels (scope_of scope.now).index (Either (term_of left.now) (term_of right.now))) }
-    ensures code { OnOk result (Appends draft.old draft.new
+    ensures emits { OnOk result (Emits draft.old draft.new
+        (draft.old.labels + code.labels (scope_of scope.now).index (Either (term_of left.now) (term_of right.now)))
         (code.jump_code places.now (homes_of homes.now) (scope_of scope.now) sense to item.old draft.old.labels
         (Either (term_of left.now) (term_of right.now)))) }
 {
@@ -755,9 +736,8 @@ fn emit_number(
     ensures register { IfOk result (λ r. r.number
         ≡ code.index_home places.now (homes_of homes.now) (scope_of scope.now) item.old (term_of number.now)) }
     ensures item { OnOk result (item.new ≡ item.old + index_items (scope_of scope.now).index (term_of number.now)) }
-    ensures labels { OnOk result (draft.new.labels
-        ≡ draft.old.labels + code.index_labels (scope_of scope.now).index (term_of number.now)) }
-    ensures code { OnOk result (Appends draft.old draft.new
+    ensures emits { OnOk result (Emits draft.old draft.new
+        (draft.old.labels + code.index_labels (scope_of scope.now).index (term_of number.now))
         (code.index_code places.now (homes_of homes.now) (scope_of scope.now) item.old draft.old.labels
         (term_of number.now))) }
 {

@@ -1,7 +1,7 @@
 //! Emits the code of literals.
 
 ghost use Rattle.std.specs.Prelude.{◌≡◌, ◌+◌, ◌<◌, ◌^◌, IfOk, OnOk};
-ghost use Rattle.scalar_words.specs.Drafts.{Appends};
+ghost use Rattle.label_fix.specs.Emits.{Emits};
 ghost use Rattle.scalar_values.specs.ValueRegisters as placed;
 ghost use Rattle.scalar_values.specs.Code as code;
 
@@ -26,8 +26,8 @@ pub fn emit_literal(
     requires { item.old < 2 ^ 32 }
     ensures register { IfOk result (λ r. r.number ≡ placed.literal_home places.now item.old value) }
     ensures item { OnOk result (item.new ≡ item.old + 1) }
-    ensures labels { OnOk result (draft.new.labels ≡ draft.old.labels) }
-    ensures code { OnOk result (Appends draft.old draft.new (code.literal_code places.now want item.old value)) }
+    ensures emits { OnOk result (Emits draft.old draft.new draft.old.labels
+        (code.literal_code places.now want item.old value)) }
 {
     let own = take(places, item);
     match places.constant(Key::Number(value)) {

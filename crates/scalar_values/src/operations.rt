@@ -1,8 +1,8 @@
 //! Emits the code of operators, loads and branches, whose operands are in registers.
 
-ghost use Rattle.std.specs.Prelude.{◌≡◌, ◌<◌, ◌+◌, true, List, [], ◌∷◌, ◌++◌, IfOk, OnOk, option_map};
+ghost use Rattle.std.specs.Prelude.{◌≡◌, ◌<◌, ◌+◌, true, [], ◌∷◌, IfOk, OnOk, option_map};
 ghost use Rattle.label_fix.specs.Draft.{word_view, kind_view};
-ghost use Rattle.scalar_words.specs.Drafts.{Appends};
+ghost use Rattle.label_fix.specs.Emits.{Emits};
 ghost use Rattle.label_fix.specs.Finished.{is_plain, has_register};
 ghost use Rattle.a64_code.specs.Table as table;
 ghost use Rattle.kernel_tree.specs.Wrap as wrap;
@@ -27,8 +27,7 @@ use std::alloc::AllocError;
 
 // A register extended by a type into another one.
 fn emit_extend(draft: &mut Draft, ty: Ty, d: Reg, a: Reg) -> Result<(), AllocError>
-    ensures labels { OnOk result (draft.new.labels ≡ draft.old.labels) }
-    ensures code { OnOk result (Appends draft.old draft.new
+    ensures { OnOk result (Emits draft.old draft.new draft.old.labels
         (common.word_code (common.extend_word ty d.number a.number))) }
 {
     if is_narrow(ty) {
@@ -42,8 +41,7 @@ fn emit_extend(draft: &mut Draft, ty: Ty, d: Reg, a: Reg) -> Result<(), AllocErr
 
 // A value of one type as one of another.
 fn emit_cast(draft: &mut Draft, from: Ty, ty: Ty, d: Reg, a: Reg) -> Result<(), AllocError>
-    ensures labels { OnOk result (draft.new.labels ≡ draft.old.labels) }
-    ensures code { OnOk result (Appends draft.old draft.new
+    ensures { OnOk result (Emits draft.old draft.new draft.old.labels
         (common.word_code (words.cast_word from ty d.number a.number))) }
 {
     if fits(from, ty) {
@@ -64,10 +62,8 @@ fn emit_settled(
     d: Reg,
 ) -> Result<(), AllocError>
     requires { is_plain (word_view word) ≡ true }
-    ensures labels { OnOk result (draft.new.labels ≡ draft.old.labels) }
-    ensures code { OnOk result ((rest : List plain.Entry)
-        → draft.new.entries ++ rest ≡ draft.old.entries
-        ++ plain.Put (word_view word) ∷ common.word_code (common.settle_word leaves ty d.number) rest) }
+    ensures { OnOk result (Emits draft.old draft.new draft.old.labels
+        (λ rest. plain.Put (word_view word) ∷ common.word_code (common.settle_word leaves ty d.number) rest)) }
 {
     draft.put(word)?;
     emit_settle(draft, leaves, ty, d)?;
@@ -76,8 +72,7 @@ fn emit_settled(
 
 // The absolute value.
 fn emit_abs(draft: &mut Draft, leaves: bool, ty: Ty, d: Reg, a: Reg) -> Result<(), AllocError>
-    ensures labels { OnOk result (draft.new.labels ≡ draft.old.labels) }
-    ensures code { OnOk result (Appends draft.old draft.new
+    ensures { OnOk result (Emits draft.old draft.new draft.old.labels
         (words.abs_code leaves (wrap.is_signed ty) ty d.number a.number)) }
 {
     if is_signed(ty) {
@@ -100,8 +95,8 @@ fn emit_unary(
     d: Reg,
     a: Reg,
 ) -> Result<(), AllocError>
-    ensures labels { OnOk result (draft.new.labels ≡ draft.old.labels) }
-    ensures code { OnOk result (Appends draft.old draft.new (words.unary_code leaves op ty d.number a.number)) }
+    ensures { OnOk result (Emits draft.old draft.new draft.old.labels
+        (words.unary_code leaves op ty d.number a.number)) }
 {
     match op {
         UnaryOp::Neg => {
@@ -128,8 +123,8 @@ fn emit_shift(
     d: Reg,
     a: Reg,
 ) -> Result<(), AllocError>
-    ensures labels { OnOk result (draft.new.labels ≡ draft.old.labels) }
-    ensures code { OnOk result (Appends draft.old draft.new (words.shift_code leaves left count ty d.number a.number)) }
+    ensures { OnOk result (Emits draft.old draft.new draft.old.labels
+        (words.shift_code leaves left count ty d.number a.number)) }
 {
     draft.put(shifted(left, is_signed(ty), shift_count(count), d, a))?;
     emit_settle(draft, leaves, ty, d)?;
@@ -158,8 +153,7 @@ pub fn emit_branch(
     to: Label,
 ) -> Result<(), AllocError>
     requires { to < draft.old.labels }
-    ensures labels { OnOk result (draft.new.labels ≡ draft.old.labels) }
-    ensures code { OnOk result (Appends draft.old draft.new
+    ensures { OnOk result (Emits draft.old draft.new draft.old.labels
         (words.branch_code op sense (code.signed_side want) number a.number b.number to)) }
 {
     let signed = signed_side(want);
@@ -204,10 +198,9 @@ pub fn emit_chosen(
     a: Reg,
     b: Reg,
 ) -> Result<(), AllocError>
-    ensures labels { OnOk result (draft.new.labels ≡ draft.old.labels) }
-    ensures code { OnOk result ((rest : List plain.Entry)
-        → draft.new.entries ++ rest ≡ draft.old.entries
-        ++ plain.ins table.csel (d.number ∷ a.number ∷ common.condition op (code.signed_side want) ∷ b.number ∷ []) ∷ rest) }
+    ensures { OnOk result (Emits draft.old draft.new draft.old.labels
+        (λ rest. plain.ins table.csel
+        (d.number ∷ a.number ∷ common.condition op (code.signed_side want) ∷ b.number ∷ []) ∷ rest)) }
 {
     draft.put(select(SelectOp::Csel, d, a, condition(op, signed_side(want)), b))?;
     Ok(())
@@ -224,8 +217,8 @@ pub fn emit_pick(
 ) -> Result<(), AllocError>
     requires next { end ≡ other + 1 }
     requires given { end < draft.old.labels }
-    ensures labels { OnOk result (draft.new.labels ≡ draft.old.labels) }
-    ensures code { OnOk result (Appends draft.old draft.new (words.pick_code d.number a.number b.number other)) }
+    ensures { OnOk result (Emits draft.old draft.new draft.old.labels
+        (words.pick_code d.number a.number b.number other)) }
 {
     emit_copy(draft, d, a)?;
     draft.branch(BranchKind::Always, end)?;
@@ -238,8 +231,7 @@ pub fn emit_pick(
 /// The place of a label, where it is wanted.
 pub fn emit_placed(draft: &mut Draft, wanted: bool, label: Label) -> Result<(), AllocError>
     requires { label < draft.old.labels }
-    ensures labels { OnOk result (draft.new.labels ≡ draft.old.labels) }
-    ensures code { OnOk result (Appends draft.old draft.new (words.placed_code wanted label)) }
+    ensures { OnOk result (Emits draft.old draft.new draft.old.labels (words.placed_code wanted label)) }
 {
     if wanted {
         draft.place(label)?;
@@ -257,8 +249,7 @@ fn emit_operator(
     d: Reg,
     a: Reg,
 ) -> Result<(), AllocError>
-    ensures labels { OnOk result (draft.new.labels ≡ draft.old.labels) }
-    ensures code { OnOk result (Appends draft.old draft.new
+    ensures { OnOk result (Emits draft.old draft.new draft.old.labels
         (words.operator_code (side_view side) leaves op ty d.number a.number)) }
 {
     match side {
@@ -300,10 +291,9 @@ pub fn want_operator(
     d: Reg,
     a: Reg,
 ) -> Result<(), AllocError>
-    ensures labels { OnOk result (draft.new.labels ≡ draft.old.labels) }
-    ensures code { OnOk result ((rest : List plain.Entry)
-        → draft.new.entries ++ rest ≡ draft.old.entries
-        ++ common.at_type want (λ t. words.operator_code (side_view side) leaves op t d.number a.number rest) rest) }
+    ensures { OnOk result (Emits draft.old draft.new draft.old.labels
+        (λ rest. common.at_type want (λ t. words.operator_code (side_view side) leaves op t d.number a.number rest)
+        rest)) }
 {
     match want {
         None => Ok(()),
@@ -320,10 +310,8 @@ pub fn want_unary(
     d: Reg,
     a: Reg,
 ) -> Result<(), AllocError>
-    ensures labels { OnOk result (draft.new.labels ≡ draft.old.labels) }
-    ensures code { OnOk result ((rest : List plain.Entry)
-        → draft.new.entries ++ rest ≡ draft.old.entries
-        ++ common.at_type want (λ t. words.unary_code leaves op t d.number a.number rest) rest) }
+    ensures { OnOk result (Emits draft.old draft.new draft.old.labels
+        (λ rest. common.at_type want (λ t. words.unary_code leaves op t d.number a.number rest) rest)) }
 {
     match want {
         None => Ok(()),
@@ -341,10 +329,8 @@ pub fn want_shift(
     d: Reg,
     a: Reg,
 ) -> Result<(), AllocError>
-    ensures labels { OnOk result (draft.new.labels ≡ draft.old.labels) }
-    ensures code { OnOk result ((rest : List plain.Entry)
-        → draft.new.entries ++ rest ≡ draft.old.entries
-        ++ common.at_type want (λ t. words.shift_code leaves left count t d.number a.number rest) rest) }
+    ensures { OnOk result (Emits draft.old draft.new draft.old.labels
+        (λ rest. common.at_type want (λ t. words.shift_code leaves left count t d.number a.number rest) rest)) }
 {
     match want {
         None => Ok(()),
@@ -364,8 +350,7 @@ fn emit_convert(
     d: Reg,
     a: Reg,
 ) -> Result<(), AllocError>
-    ensures labels { OnOk result (draft.new.labels ≡ draft.old.labels) }
-    ensures code { OnOk result (Appends draft.old draft.new
+    ensures { OnOk result (Emits draft.old draft.new draft.old.labels
         (common.word_code (words.convert_word low from ty d.number a.number))) }
 {
     if low {
@@ -386,10 +371,9 @@ pub fn want_cast(
     d: Reg,
     a: Reg,
 ) -> Result<(), AllocError>
-    ensures labels { OnOk result (draft.new.labels ≡ draft.old.labels) }
-    ensures code { OnOk result ((rest : List plain.Entry)
-        → draft.new.entries ++ rest ≡ draft.old.entries
-        ++ common.at_type from (λ s. common.word_code (words.convert_word low s ty d.number a.number) rest) rest) }
+    ensures { OnOk result (Emits draft.old draft.new draft.old.labels
+        (λ rest. common.at_type from (λ s. common.word_code (words.convert_word low s ty d.number a.number) rest)
+        rest)) }
 {
     match from {
         None => Ok(()),
@@ -401,8 +385,8 @@ pub fn want_cast(
 pub fn emit_offset(draft: &mut Draft, moved: Option<Word>) -> Result<Reg, AllocError>
     requires plain { words.IsPlainIf (option_map word_view moved) }
     ensures register { IfOk result (λ r. r.number ≡ words.index_register (option_map word_view moved)) }
-    ensures labels { OnOk result (draft.new.labels ≡ draft.old.labels) }
-    ensures code { OnOk result (Appends draft.old draft.new (common.word_code (option_map word_view moved))) }
+    ensures emits { OnOk result (Emits draft.old draft.new draft.old.labels
+        (common.word_code (option_map word_view moved))) }
 {
     match moved {
         None => Ok(index()),
@@ -421,8 +405,8 @@ pub fn emit_load(
     p: Reg,
     r: Reg,
 ) -> Result<(), AllocError>
-    ensures labels { OnOk result (draft.new.labels ≡ draft.old.labels) }
-    ensures code { OnOk result (Appends draft.old draft.new (words.load_code ty d.number p.number r.number)) }
+    ensures { OnOk result (Emits draft.old draft.new draft.old.labels
+        (words.load_code ty d.number p.number r.number)) }
 {
     match ty {
         None => Ok(()),

@@ -5,7 +5,7 @@ ghost use Rattle.kernel_tree.specs.Plain.{term_of};
 ghost use Rattle.kernel_tree.specs.Items.{term_size};
 ghost use Rattle.kernel_tree.specs.Kinds.{IsValue};
 ghost use Rattle.kernel_scope.specs.Scopes.{scope_of};
-ghost use Rattle.scalar_words.specs.Drafts.{Appends};
+ghost use Rattle.label_fix.specs.Emits.{Emits};
 ghost use Rattle.scalar_words.specs.View.{homes_of};
 ghost use Rattle.scalar_values.specs.ValueRegisters as placed;
 ghost use Rattle.scalar_values.specs.Code as code;
@@ -35,9 +35,8 @@ pub fn emit_value(
     ensures register { IfOk result (λ r. r.number
         ≡ placed.home places.now (homes_of homes.now) (scope_of scope.now).index item.old (term_of expr.now)) }
     ensures item { OnOk result (item.new ≡ item.old + term_size (scope_of scope.now).index (term_of expr.now)) }
-    ensures labels { OnOk result (draft.new.labels
-        ≡ draft.old.labels + code.labels (scope_of scope.now).index (term_of expr.now)) }
-    ensures code { OnOk result (Appends draft.old draft.new
+    ensures emits { OnOk result (Emits draft.old draft.new
+        (draft.old.labels + code.labels (scope_of scope.now).index (term_of expr.now))
         (code.value_code places.now (homes_of homes.now) (scope_of scope.now) want item.old draft.old.labels
         (term_of expr.now))) }
 {

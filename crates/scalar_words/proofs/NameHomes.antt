@@ -70,10 +70,7 @@ after_other j n binding.Index lt = tt
 
 next_more : (j : ℕ) (bd : Binding) → j ≤ next_number j bd
 next_more j (binding.Scalar t) = omega arith
-next_more j (binding.Array t) = omega arith
-next_more j (binding.Accumulator t) = omega arith
-next_more j (binding.Value t) = omega arith
-next_more j binding.Index = omega arith
+next_more j other = omega arith
 
 numbers_more : (j : ℕ) (ls : List Local) → j ≤ numbers j ls
 numbers_more j [] = omega arith

@@ -22,13 +22,7 @@ one_word (Some i) rest k h = omega (arith, h)
 
 pub operation_words : (op : BinaryOp) (signed : Bool) (d a c : ℕ) (rest : List Entry) (k : ℕ) → size rest ≤ k → size (operation_code op signed d a c rest) ≤ 2 + k
 operation_words binary.Add signed d a c rest k h = omega (arith, h)
-operation_words binary.Sub signed d a c rest k h = omega (arith, h)
-operation_words binary.Mul signed d a c rest k h = omega (arith, h)
-operation_words binary.And signed d a c rest k h = omega (arith, h)
-operation_words binary.Or signed d a c rest k h = omega (arith, h)
-operation_words binary.Xor signed d a c rest k h = omega (arith, h)
-operation_words binary.Min signed d a c rest k h = omega (arith, h)
-operation_words binary.Max signed d a c rest k h = omega (arith, h)
+operation_words other signed d a c rest k h = omega (arith, h)
 
 -- the words of an operator at a type
 pub operator_words : (op : BinaryOp) (t : Ty) (d a c : ℕ) (rest : List Entry) (k : ℕ) → size rest ≤ k → size (binary_code op t d a c rest) ≤ 3 + k

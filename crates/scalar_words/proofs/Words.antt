@@ -19,13 +19,7 @@ InRange signed v = InBits signed 64 v
 
 bits-few : (t : Ty) → bits_of t ≤ 64
 bits-few ty.I8 = omega arith
-bits-few ty.U8 = omega arith
-bits-few ty.I16 = omega arith
-bits-few ty.U16 = omega arith
-bits-few ty.I32 = omega arith
-bits-few ty.U32 = omega arith
-bits-few ty.I64 = omega arith
-bits-few ty.U64 = omega arith
+bits-few other = omega arith
 
 pub in_range : (t : Ty) (v : ℤ) → IsOf t v → InRange (is_signed t) v
 in_range t v h = widened (is_signed t) (bits_of t) 64 v (bits-few t) (in_bits t v h)

@@ -46,13 +46,7 @@ set_more most le g = record { end = g.end; goes = go_more most le g.goes; change
 -- what a word of extension does
 pub extension_is : (t : Ty) (d a : ℕ) (s : State) (D : Laid) (rest : List Entry) → Goes D (extension t d a ∷ rest) s rest (wrote s d (extended t (x_at s a))) 1
 extension_is ty.I8 d a s D rest = put_goes refl
-extension_is ty.I16 d a s D rest = put_goes refl
-extension_is ty.I32 d a s D rest = put_goes refl
-extension_is ty.I64 d a s D rest = put_goes refl
-extension_is ty.U8 d a s D rest = put_goes refl
-extension_is ty.U16 d a s D rest = put_goes refl
-extension_is ty.U32 d a s D rest = put_goes refl
-extension_is ty.U64 d a s D rest = put_goes refl
+extension_is other d a s D rest = put_goes refl
 
 pub more : (D : Laid) (L : Layout) {c rest : List Entry} {s : State} {b e r m : ℕ} {v : ℤ} (most : ℕ) → m ≤ most → Gets D L c s rest b e r v m → Gets D L c s rest b e r v most
 more D L most le g = record { end = g.end; goes = go_more most le g.goes; kept = g.kept; value = g.value }
@@ -88,12 +82,7 @@ wide_wrap ty.I64 z e =
     let f : residue 64 z ≡ word z % 2 ^ 64 = residue-64 z in
     ap (λ r. word (cast_signed w64 r)) f ∙ sym (signed_64 (ltb (word z) (2 ^ 63)) (word z) refl (word-below z))
 wide_wrap ty.U64 z e = let f = residue-64 z in omega (arith, f, word-below z)
-wide_wrap ty.I8 z e = absurd cc
-wide_wrap ty.I16 z e = absurd cc
-wide_wrap ty.I32 z e = absurd cc
-wide_wrap ty.U8 z e = absurd cc
-wide_wrap ty.U16 z e = absurd cc
-wide_wrap ty.U32 z e = absurd cc
+wide_wrap other z e = absurd cc
 
 -- the word of a result that no extension follows
 unsettled : (leaves : Bool) (t : Ty) (z : ℤ) → (leaves && is_narrow t) ≡ false → (leaves ≡ false → word (wrap t z) ≡ word z) → word (wrap t z) ≡ word z

@@ -1,13 +1,8 @@
--- What a call appends to a draft.
-use Rattle.std.specs.Prelude.{◌≡◌, ℕ, ◌+◌, ◌≤◌, List, ◌++◌}
+-- How many words a call appends to a draft.
+use Rattle.std.specs.Prelude.{ℕ, ◌+◌, ◌≤◌}
 use Rattle.label_fix.specs.Draft.{Drafted}
-use Rattle.label_fix.specs.DraftRun.{Entry}
 use Rattle.label_fix.specs.Finished.{size}
 
--- code, given before the entries that follow it
-abbrev pub Appends : Drafted → Drafted → (List Entry → List Entry) → Type 0
-Appends old new code = (rest : List Entry) → new.entries ++ rest ≡ old.entries ++ code rest
-
--- at most so many words
+-- at most so many
 abbrev pub AppendsWords : Drafted → Drafted → ℕ → Type 0
 AppendsWords old new most = size new.entries ≤ size old.entries + most

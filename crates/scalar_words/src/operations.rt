@@ -1,8 +1,7 @@
 //! Emits the code of constants and of operators with two operands, which are in registers.
 
-ghost use Rattle.std.specs.Prelude.{◌≡◌, ◌<◌, ◌+◌, List, [], ◌∷◌, ◌++◌, OnOk, ◌^◌};
-ghost use Rattle.scalar_words.specs.Drafts.{Appends};
-ghost use Rattle.label_fix.specs.DraftRun as plain;
+ghost use Rattle.std.specs.Prelude.{◌≡◌, ◌<◌, OnOk};
+ghost use Rattle.label_fix.specs.Emits.{Emits};
 ghost use Rattle.scalar_words.specs.Words as words;
 ghost use Rattle.scalar_words.specs.Operands as operands;
 ghost use Rattle.kernel_meaning.specs.Operators as operators;
@@ -18,8 +17,8 @@ use std::alloc::AllocError;
 
 /// A register into another one, where they differ.
 pub fn emit_copy(draft: &mut Draft, d: Reg, a: Reg) -> Result<(), AllocError>
-    ensures labels { OnOk result (draft.new.labels ≡ draft.old.labels) }
-    ensures code { OnOk result (Appends draft.old draft.new (words.word_code (words.copy_word d.number a.number))) }
+    ensures { OnOk result (Emits draft.old draft.new draft.old.labels
+        (words.word_code (words.copy_word d.number a.number))) }
 {
     if d.number == a.number {
         Ok(())
@@ -31,8 +30,7 @@ pub fn emit_copy(draft: &mut Draft, d: Reg, a: Reg) -> Result<(), AllocError>
 
 /// What an operation gave in a register, extended in place where it may have left the extended form.
 pub fn emit_settle(draft: &mut Draft, leaves: bool, ty: Ty, d: Reg) -> Result<(), AllocError>
-    ensures labels { OnOk result (draft.new.labels ≡ draft.old.labels) }
-    ensures code { OnOk result (Appends draft.old draft.new
+    ensures { OnOk result (Emits draft.old draft.new draft.old.labels
         (words.word_code (words.settle_word leaves ty d.number))) }
 {
     if leaves && is_narrow(ty) {
@@ -51,8 +49,7 @@ fn emit_start(
 ) -> Result<(), AllocError>
     requires half { half < 65536 }
     requires place { place < 4 }
-    ensures labels { OnOk result (draft.new.labels ≡ draft.old.labels) }
-    ensures code { OnOk result (Appends draft.old draft.new (words.start_code ones d.number half place)) }
+    ensures { OnOk result (Emits draft.old draft.new draft.old.labels (words.start_code ones d.number half place)) }
 {
     if ones {
         draft.put(wide(MoveWideOp::Movn, d, 65535 - half, place))?;
@@ -67,8 +64,7 @@ fn emit_start(
 fn emit_half(draft: &mut Draft, ones: bool, d: Reg, half: u32, place: u32) -> Result<(), AllocError>
     requires half { half < 65536 }
     requires place { place < 4 }
-    ensures labels { OnOk result (draft.new.labels ≡ draft.old.labels) }
-    ensures code { OnOk result (Appends draft.old draft.new
+    ensures { OnOk result (Emits draft.old draft.new draft.old.labels
         (words.word_code (words.half_word d.number (words.filler ones) half place))) }
 {
     if half == filler(ones) {
@@ -83,11 +79,9 @@ fn emit_half(draft: &mut Draft, ones: bool, d: Reg, half: u32, place: u32) -> Re
 fn emit_last_two(draft: &mut Draft, ones: bool, d: Reg, h2: u32, h3: u32) -> Result<(), AllocError>
     requires h2 { h2 < 65536 }
     requires h3 { h3 < 65536 }
-    ensures labels { OnOk result (draft.new.labels ≡ draft.old.labels) }
-    ensures code { OnOk result ((rest : List plain.Entry)
-        → draft.new.entries ++ rest ≡ draft.old.entries
-        ++ words.word_code (words.half_word d.number (words.filler ones) h2 2)
-        (words.word_code (words.half_word d.number (words.filler ones) h3 3) rest)) }
+    ensures { OnOk result (Emits draft.old draft.new draft.old.labels
+        (λ rest. words.word_code (words.half_word d.number (words.filler ones) h2 2)
+        (words.word_code (words.half_word d.number (words.filler ones) h3 3) rest))) }
 {
     emit_half(draft, ones, d, h2, 2)?;
     emit_half(draft, ones, d, h3, 3)?;
@@ -108,8 +102,7 @@ fn emit_halves(
     requires h1 { h1 < 65536 }
     requires h2 { h2 < 65536 }
     requires h3 { h3 < 65536 }
-    ensures labels { OnOk result (draft.new.labels ≡ draft.old.labels) }
-    ensures code { OnOk result (Appends draft.old draft.new (words.halves_code ones d.number h0 h1 h2 h3)) }
+    ensures { OnOk result (Emits draft.old draft.new draft.old.labels (words.halves_code ones d.number h0 h1 h2 h3)) }
 {
     let filler = filler(ones);
     if h0 != filler {
@@ -136,8 +129,7 @@ fn emit_halves(
 
 /// A constant into a register, by the fewest words.
 pub fn emit_const(draft: &mut Draft, d: Reg, value: u64) -> Result<(), AllocError>
-    ensures labels { OnOk result (draft.new.labels ≡ draft.old.labels) }
-    ensures code { OnOk result (Appends draft.old draft.new (words.const_code d.number value)) }
+    ensures { OnOk result (Emits draft.old draft.new draft.old.labels (words.const_code d.number value)) }
 {
     let h0 = (value % 65536) as u32;
     let h1 = (value / 65536 % 65536) as u32;
@@ -149,8 +141,7 @@ pub fn emit_const(draft: &mut Draft, d: Reg, value: u64) -> Result<(), AllocErro
 
 // The comparison that comes before the word of a minimum or a maximum.
 fn emit_ordering(draft: &mut Draft, op: BinaryOp, a: Reg, b: Reg) -> Result<(), AllocError>
-    ensures labels { OnOk result (draft.new.labels ≡ draft.old.labels) }
-    ensures code { OnOk result (Appends draft.old draft.new (operands.test_code op a.number b.number)) }
+    ensures { OnOk result (Emits draft.old draft.new draft.old.labels (operands.test_code op a.number b.number)) }
 {
     if matches!(op, BinaryOp::Min | BinaryOp::Max) {
         draft.put(add_sub(AddSubOp::Subs, zero(), a, b))?;
@@ -167,8 +158,7 @@ pub fn emit_operation(
     a: Reg,
     b: Reg,
 ) -> Result<(), AllocError>
-    ensures labels { OnOk result (draft.new.labels ≡ draft.old.labels) }
-    ensures code { OnOk result (Appends draft.old draft.new
+    ensures { OnOk result (Emits draft.old draft.new draft.old.labels
         (words.operation_code op signed d.number a.number b.number)) }
 {
     emit_ordering(draft, op, a, b)?;
@@ -185,8 +175,8 @@ pub fn emit_binary(
     a: Reg,
     b: Reg,
 ) -> Result<(), AllocError>
-    ensures labels { OnOk result (draft.new.labels ≡ draft.old.labels) }
-    ensures code { OnOk result (Appends draft.old draft.new (words.binary_code op ty d.number a.number b.number)) }
+    ensures { OnOk result (Emits draft.old draft.new draft.old.labels
+        (words.binary_code op ty d.number a.number b.number)) }
 {
     emit_operation(draft, op, is_signed(ty), d, a, b)?;
     emit_settle(draft, binary_leaves(op), ty, d)?;

@@ -2,8 +2,8 @@
 use mathlib.Core.Logic.{⊎_elim}
 use Rattle.std.proofs.Common.{◌≡◌, ◌≢◌, ◌⊎◌, ℕ, zero, suc, List, [], ◌++◌, take, Option, Some, None, Ok, Err, inl, inr, refl, sym, ap, ◌∙◌, subst}
 use Rattle.std.specs.Prelude.{IfSome, IsTrue}
-use Rattle.command_line.specs.Line.{Line, CompileLine, CheckLine, EvalLine, ListLine, RunLine, DebugLine, SweepLine, AsmLine, PipeLine}
-use Rattle.refusals.specs.declared.refusal.Refusal.TheVariants.{Usage, TooManyLive, Kernel, TooLong, Elf, Map, Asm, Pipe, Memory, File, Output}
+use Rattle.command_line.specs.Line.{Line, SweepLine}
+use Rattle.refusals.specs.declared.refusal.Refusal.TheVariants.{Usage, Memory, File, Output}
 use Rattle.refusals.specs.declared.refusal.Done.{Done}
 use Rattle.refusals.specs.declared.refusal.Done.TheVariants as done
 use Rattle.command_answers.specs.Answer.{Held, Expected, Answer, answer_of, expected_text, status_of}
@@ -17,20 +17,9 @@ use Rattle.sve_top.specs.Complete.{ComesTo, Completes}
 
 -- only a file that failed gives 8
 not_eight : (result : Answer) → result ≢ Err File → status_of result ≢ 8
-not_eight (Ok done.Ended) ne e = absurd cc
-not_eight (Ok done.Stopped) ne e = absurd cc
-not_eight (Ok done.Spent) ne e = absurd cc
-not_eight (Err Usage) ne e = absurd cc
-not_eight (Err (TooManyLive class need)) ne e = absurd cc
-not_eight (Err (Kernel fault)) ne e = absurd cc
-not_eight (Err TooLong) ne e = absurd cc
-not_eight (Err (Elf fault)) ne e = absurd cc
-not_eight (Err (Map fault)) ne e = absurd cc
-not_eight (Err (Asm fault)) ne e = absurd cc
-not_eight (Err (Pipe fault)) ne e = absurd cc
-not_eight (Err Memory) ne e = absurd cc
 not_eight (Err File) ne e = ne refl
-not_eight (Err Output) ne e = absurd cc
+not_eight (Ok done.Ended) ne e = absurd cc
+not_eight other ne e = absurd cc
 
 take_none : (n : ℕ) → ◌≡◌ {A = List ℕ} (take n []) []
 take_none zero = refl
@@ -43,8 +32,7 @@ whole_text (Ok success) (Some bytes) new s is prints = prints.0 (subst (λ n. Is
   where
     told : (how : Done) → IsTrue (is_done (status_of_done how))
     told done.Ended = refl
-    told done.Stopped = refl
-    told done.Spent = refl
+    told other = refl
 whole_text (Err refusal) (Some bytes) new s is prints = prints.1.2 ∙ ap (λ t. Some (bytes ++ t)) (take_none prints.1.0)
 
 comes_to : (line : Option Line) (work : Expected) (before after : Outside) (s : ℕ) → s ≢ 8 → (StreamsRose line before after → ⊥) → Does line work before after s → ComesTo work before.printed after.printed s
@@ -59,31 +47,16 @@ sweep_ends rose (Ok how) of file cause none = inl (ap status_of_done of)
 sweep_ends rose (Err Memory) of file cause none = inr refl
 sweep_ends rose (Err File) of file cause none = absurd (file refl)
 sweep_ends rose (Err Output) of file cause none = absurd (none (cause refl))
-sweep_ends rose (Err Usage) of file cause none = absurd of
-sweep_ends rose (Err (TooManyLive class need)) of file cause none = absurd of
-sweep_ends rose (Err (Kernel fault)) of file cause none = absurd of
-sweep_ends rose (Err TooLong) of file cause none = absurd of
-sweep_ends rose (Err (Elf fault)) of file cause none = absurd of
-sweep_ends rose (Err (Map fault)) of file cause none = absurd of
-sweep_ends rose (Err (Asm fault)) of file cause none = absurd of
-sweep_ends rose (Err (Pipe fault)) of file cause none = absurd of
+sweep_ends rose other of file cause none = absurd of
 
 of_work : (held : Held) (input : List ℕ) (line : Option Line) (before after : Outside) (s : ℕ) → s ≢ 8 → (StreamsRose line before after → ⊥) → SomeExpected (Expects held input line) (λ work. Does line work before after s) → SomeExpected (Expects held input line) (λ work. ComesTo work before.printed after.printed s)
 of_work held input line before after s file stream w = (w.0, w.1, comes_to line w.0 before after s file stream w.2)
 
 completes_held : (h : Held) (input : List ℕ) (line : Option Line) (before after : Outside) (s : ℕ) (result : Answer) → s ≡ status_of result → IsOf line result → result ≢ Err File → (result ≡ Err Output → StreamsRose line before after) → (StreamsRose line before after → ⊥)
     → (IsSettled line → SomeExpected (Expects h input line) (λ work. Does line work before after s)) → Completes h input line before.printed after.printed s
-completes_held h input None before after s result is of file cause none does = of_work h input None before after s (λ e. not_eight result file (sym is ∙ e)) none (does tt)
-completes_held h input (Some (CompileLine from to)) before after s result is of file cause none does = of_work h input (Some (CompileLine from to)) before after s (λ e. not_eight result file (sym is ∙ e)) none (does tt)
-completes_held h input (Some (CheckLine from)) before after s result is of file cause none does = of_work h input (Some (CheckLine from)) before after s (λ e. not_eight result file (sym is ∙ e)) none (does tt)
-completes_held h input (Some (EvalLine task)) before after s result is of file cause none does = of_work h input (Some (EvalLine task)) before after s (λ e. not_eight result file (sym is ∙ e)) none (does tt)
-completes_held h input (Some (ListLine from)) before after s result is of file cause none does = of_work h input (Some (ListLine from)) before after s (λ e. not_eight result file (sym is ∙ e)) none (does tt)
-completes_held h input (Some (RunLine vl suppress task)) before after s result is of file cause none does = of_work h input (Some (RunLine vl suppress task)) before after s (λ e. not_eight result file (sym is ∙ e)) none (does tt)
-completes_held h input (Some (DebugLine vl task)) before after s result is of file cause none does = of_work h input (Some (DebugLine vl task)) before after s (λ e. not_eight result file (sym is ∙ e)) none (does tt)
-completes_held h input (Some (AsmLine from to)) before after s result is of file cause none does = of_work h input (Some (AsmLine from to)) before after s (λ e. not_eight result file (sym is ∙ e)) none (does tt)
-completes_held h input (Some (PipeLine vl task)) before after s result is of file cause none does = of_work h input (Some (PipeLine vl task)) before after s (λ e. not_eight result file (sym is ∙ e)) none (does tt)
 completes_held h input (Some (SweepLine number to)) before after s result is of file cause none does =
     subst (λ n. (n ≡ 0) ⊎ (n ≡ 7)) (sym is) (sweep_ends (StreamsRose (Some (SweepLine number to)) before after) result of file cause none)
+completes_held h input other before after s result is of file cause none does = of_work h input other before after s (λ e. not_eight result file (sym is ∙ e)) none (does tt)
 
 -- a line that is no command has no file to fail
 no_file : (h : Held) (line : Option Line) (result : Answer) → IsOf line result → IfSome line (λ l. IsHeld h l → result ≢ Err File) → IfSome line (λ l. IsHeld h l) → result ≢ Err File

@@ -1,8 +1,8 @@
 -- What is told of a command by its line.
 use Rattle.std.proofs.Common.{◌≡◌, ◌≢◌, List, ℕ, Option, Some, None, Ok, Err, refl, sym, ap, ◌∙◌, subst}
 use Rattle.std.specs.Prelude.{IfSome, IsErrAnd}
-use Rattle.command_line.specs.Line.{Line, CompileLine, CheckLine, EvalLine, ListLine, RunLine, DebugLine, SweepLine, AsmLine, PipeLine}
-use Rattle.refusals.specs.declared.refusal.Refusal.TheVariants.{Usage, TooManyLive, Kernel, TooLong, Elf, Map, Asm, Pipe, Memory, File, Output}
+use Rattle.command_line.specs.Line.{Line, DebugLine, SweepLine}
+use Rattle.refusals.specs.declared.refusal.Refusal.TheVariants.{Memory, Output}
 use Rattle.refusals.specs.declared.refusal.Done.TheVariants as done
 use Rattle.command_answers.specs.Answer.{Held, Expected, Answer, status_of}
 use Rattle.sweep_command.proofs.Sweeps.{memory_swept}
@@ -23,16 +23,8 @@ of_every_line (Some h) left line P all = λ input taken. λ work w. (work, w, al
 
 -- want of memory before the words were read, whatever they are
 pub nothing_swept : (line : Option Line) (held : Option Held) (printed : Option (List ℕ)) (result : Answer) → IsErrAnd result (λ r. r ≡ Memory) → Swept line held printed printed (status_of result)
-nothing_swept None held printed result is = tt
-nothing_swept (Some (CompileLine from to)) held printed result is = tt
-nothing_swept (Some (CheckLine from)) held printed result is = tt
-nothing_swept (Some (EvalLine task)) held printed result is = tt
-nothing_swept (Some (ListLine from)) held printed result is = tt
-nothing_swept (Some (RunLine vl suppress task)) held printed result is = tt
-nothing_swept (Some (DebugLine vl task)) held printed result is = tt
-nothing_swept (Some (AsmLine from to)) held printed result is = tt
-nothing_swept (Some (PipeLine vl task)) held printed result is = tt
 nothing_swept (Some (SweepLine number to)) held printed result is = memory_swept number to held printed result is
+nothing_swept other held printed result is = tt
 
 not_memory : (result : Answer) → IsErrAnd result (λ r. r ≡ Memory) → result ≢ Err Output
 not_memory (Ok how) is e = absurd is
@@ -43,43 +35,16 @@ not_memory (Err r) is e = absurd (differ (ap (λ x. Err x) (sym is) ∙ e))
 
 -- only an output or an input that failed gives 9
 output_alone : (result : Answer) → status_of result ≡ 9 → result ≡ Err Output
-output_alone (Ok done.Ended) e = absurd cc
-output_alone (Ok done.Stopped) e = absurd cc
-output_alone (Ok done.Spent) e = absurd cc
-output_alone (Err Usage) e = absurd cc
-output_alone (Err (TooManyLive class need)) e = absurd cc
-output_alone (Err (Kernel fault)) e = absurd cc
-output_alone (Err TooLong) e = absurd cc
-output_alone (Err (Elf fault)) e = absurd cc
-output_alone (Err (Map fault)) e = absurd cc
-output_alone (Err (Asm fault)) e = absurd cc
-output_alone (Err (Pipe fault)) e = absurd cc
-output_alone (Err Memory) e = absurd cc
-output_alone (Err File) e = absurd cc
 output_alone (Err Output) e = refl
+output_alone (Ok done.Ended) e = absurd cc
+output_alone other e = absurd cc
 
 -- want of memory before the words were read is no failure of an output
 pub no_session : (line : Option Line) (held : Option Held) (input left old new : Option (List ℕ)) (before now : ℕ) (result : Answer) → IsErrAnd result (λ r. r ≡ Memory) → AsItComes line held input left old new before now (result ≡ Err Output)
-no_session None held input left old new before now result is = tt
-no_session (Some (CompileLine from to)) held input left old new before now result is = tt
-no_session (Some (CheckLine from)) held input left old new before now result is = tt
-no_session (Some (EvalLine task)) held input left old new before now result is = tt
-no_session (Some (ListLine from)) held input left old new before now result is = tt
-no_session (Some (RunLine vl suppress task)) held input left old new before now result is = tt
 no_session (Some (DebugLine vl task)) held input left old new before now result is = λ e. absurd (not_memory result is e)
-no_session (Some (AsmLine from to)) held input left old new before now result is = tt
-no_session (Some (PipeLine vl task)) held input left old new before now result is = tt
-no_session (Some (SweepLine number to)) held input left old new before now result is = tt
+no_session other held input left old new before now result is = tt
 
 -- the same by the status
 pub by_status : (line : Option Line) (held : Option Held) (input left old new : Option (List ℕ)) (before now s : ℕ) (result : Answer) → s ≡ status_of result → AsItComes line held input left old new before now (result ≡ Err Output) → AsItComes line held input left old new before now (s ≡ 9)
-by_status None held input left old new before now s result is h = tt
-by_status (Some (CompileLine from to)) held input left old new before now s result is h = tt
-by_status (Some (CheckLine from)) held input left old new before now s result is h = tt
-by_status (Some (EvalLine task)) held input left old new before now s result is h = tt
-by_status (Some (ListLine from)) held input left old new before now s result is h = tt
-by_status (Some (RunLine vl suppress task)) held input left old new before now s result is h = tt
 by_status (Some (DebugLine vl task)) held input left old new before now s result is h = λ e. h (output_alone result (sym is ∙ e))
-by_status (Some (AsmLine from to)) held input left old new before now s result is h = tt
-by_status (Some (PipeLine vl task)) held input left old new before now s result is h = tt
-by_status (Some (SweepLine number to)) held input left old new before now s result is h = tt
+by_status other held input left old new before now s result is h = tt

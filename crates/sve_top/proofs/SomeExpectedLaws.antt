@@ -25,14 +25,9 @@ some_expected held input (Some (AsmLine from to)) s = (expected_of_asm held from
 some_expected held input (Some (PipeLine vl task)) s = (expected_of_pipe held vl task, refl)
 
 pub one_expected : (held : Held) (input : List ℕ) (line : Option Line) (a b : Expected) → IsSettled line → Expects held input line a → Expects held input line b → a ≡ b
-one_expected held input None a b s p q = p ∙ sym q
 one_expected held input (Some (CompileLine from to)) a b s p q = one_after (file_of held from) CompileExpects a b (λ text. one_by_verdict compiled text a b) p q
 one_expected held input (Some (CheckLine from)) a b s p q = one_after (file_of held from) CheckExpects a b (λ text. one_by_verdict checked text a b) p q
 one_expected held input (Some (EvalLine task)) a b s p q =
     one_after (task_files held task) (λ files. EvalExpects task files.0 files.1) a b (λ files. one_by_verdict (eval_kernel task files.1) files.0 a b) p q
-one_expected held input (Some (ListLine from)) a b s p q = p ∙ sym q
-one_expected held input (Some (RunLine vl suppress task)) a b s p q = p ∙ sym q
-one_expected held input (Some (DebugLine vl task)) a b s p q = p ∙ sym q
 one_expected held input (Some (SweepLine number to)) a b s p q = absurd s
-one_expected held input (Some (AsmLine from to)) a b s p q = p ∙ sym q
-one_expected held input (Some (PipeLine vl task)) a b s p q = p ∙ sym q
+one_expected held input other a b s p q = p ∙ sym q

@@ -27,24 +27,12 @@ use Rattle.sweep_run.specs.SweepText.{IsSweepFile}
 -- ---- reading and checking
 
 unread_of : (k : Program) (cause : ReadFault) → Explains (Sound k) (Unread cause) → cause ≡ reading.Memory
-unread_of k reading.TooLong h = absurd cc
-unread_of k (reading.BadByte at) h = absurd cc
-unread_of k (reading.TooDeep token) h = absurd cc
-unread_of k (reading.Syntax token) h = absurd cc
 unread_of k reading.Memory h = refl
+unread_of k other h = absurd cc
 
 broken_of : (k : Program) (cause : TypeFault) → Explains (Sound k) (Broken cause) → cause ≡ typing.Memory
-broken_of k (typing.Unknown item) h = absurd (let e = h.1 in cc)
-broken_of k (typing.Twice item) h = absurd (let e = h.1 in cc)
-broken_of k (typing.WrongKind item) h = absurd (let e = h.1 in cc)
-broken_of k (typing.Mismatch item want found) h = absurd (let e = h.1 in cc)
-broken_of k (typing.Untyped item) h = absurd (let e = h.1 in cc)
-broken_of k (typing.LiteralRange item) h = absurd (let e = h.1 in cc)
-broken_of k (typing.ShiftRange item) h = absurd (let e = h.1 in cc)
-broken_of k (typing.OffsetRange item) h = absurd (let e = h.1 in cc)
-broken_of k (typing.TooLarge size) h = absurd (let e = h.1 in cc)
-broken_of k (typing.TooDeep depth) h = absurd (let e = h.1 in cc)
 broken_of k typing.Memory h = refl
+broken_of k other h = absurd (let e = h.1 in cc)
 
 -- what a fault explains of each verdict
 abbrev ExplainsAll : ℕ → KernelFault → Type 0
@@ -81,14 +69,8 @@ pub loads : (number : ℕ) (file : List ℕ) → (f : IsSweepFile number file) �
 loads number file f = ap load f.file_is ∙ load-file_of f.words f.few
 
 loaded_of : (i : Image) (fault : ElfFault) → Refuses (Ok i) fault → fault ≡ loading.Memory
-loaded_of i (loading.Short need have) h = absurd cc
-loaded_of i loading.NotElf h = absurd cc
-loaded_of i loading.NotAarch64 h = absurd cc
-loaded_of i loading.NotStatic h = absurd cc
-loaded_of i (loading.BadSegment index) h = absurd cc
-loaded_of i loading.SegmentsClash h = absurd cc
-loaded_of i loading.TooManyPages h = absurd cc
 loaded_of i loading.Memory h = refl
+loaded_of i other h = absurd cc
 
 pub loaded : (number : ℕ) (file : List ℕ) (fault : ElfFault) → IsSweepFile number file → Refuses (load file) fault → fault ≡ loading.Memory
 loaded number file fault f h =

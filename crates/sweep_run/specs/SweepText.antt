@@ -1,8 +1,8 @@
 -- What a sweep writes and prints.
-use Rattle.std.specs.Prelude.{◌≡◌, ℕ, ◌≤◌, List, [], length, flat_map, Option, Some, None}
+use Rattle.std.specs.Prelude.{◌≡◌, ℕ, ◌≤◌, List, [], length, flat_map, Option, Some}
 use Rattle.std.specs.List.{range_with_len}
 use Rattle.machine_model.specs.Machine.{State}
-use Rattle.machine_model.specs.Run.{Outcome, End, Stop, Spent, run, machine_run}
+use Rattle.machine_model.specs.Run.{Outcome, End, run, machine_run}
 use Rattle.machine_model.specs.Written.{file_of}
 use Rattle.promises.specs.Faithful.{FreeFaithful, FreeEnds, CloseFaithful}
 use Rattle.sweep_kernel.specs.Numbers.{arguments_of}
@@ -23,9 +23,7 @@ pub record IsSweepFile (number : ℕ) (file : List ℕ) : Type 0 where
 -- the line of a run at a length, where it ends
 abbrev pub line_of : (vl : ℕ) → Option Outcome → List ℕ
 line_of vl (Some (End memory result steps)) = length_line vl result steps (sum_of memory)
-line_of vl (Some (Stop kind pc at memory steps)) = []
-line_of vl (Some (Spent pc memory steps)) = []
-line_of vl None = []
+line_of vl other = []
 
 -- the line of a run from a state on
 unfoldable pub run_line : (vl : ℕ) → State → List ℕ

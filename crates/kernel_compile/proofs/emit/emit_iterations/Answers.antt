@@ -30,7 +30,7 @@ pub returns-clause-faithful : goal.returns-clause-faithful
 returns-clause-faithful c =
     let k = program c.args.kernel.now in
     let R = register_in c.args.regs.now in
-    let e = emitted R k _ _ _ _ _ c.new-draft.ensures.entries c.new-draft.ensures.labels c.in_ok-emit_begin.ensures.labels c.in_ok-emit_begin.ensures.code c.in_ok-emit_scalar.ensures.code in
+    let e = emitted R k _ _ _ _ _ c.new-draft.ensures.entries c.new-draft.ensures.labels c.in_ok-emit_begin.ensures.emits.labels c.in_ok-emit_begin.ensures.emits.code c.in_ok-emit_scalar.ensures.emits.code in
     let none = ap size c.new-draft.ensures.entries in
     let small : All (λ w. w < 2 ^ 32) c.in_ok-words.words.items = subst (λ ws. All (λ w. w < 2 ^ 32) ws) c.deref-3.ensures.value c.have_32_bits.ensures in
     compiled R k c.begin_runs.ensures c.scalar_runs.ensures c.emit_scalar.new.draft.labels _ c.emit_scalar.new.draft.entries _ c.in_ok-words.words.items e.following e.begun_by e.placed c.in_ok-words.ensures.fit

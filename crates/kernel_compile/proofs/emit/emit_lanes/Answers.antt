@@ -31,7 +31,7 @@ unfolding program
 emit_scalar-requires-clause-listed c = c.deref-2.ensures.value ∙ c.args.facts.now.listed
 
 pub emit_vector-requires-clause-given : goal.emit_vector-requires-clause-given
-emit_vector-requires-clause-given c = label_given (program c.args.facts.now.kernel.now) _ _ _ _ _ c.in_ok-scalar.ensures.entry c.in_ok-scalar.ensures.labels c.in_ok-place.ensures.labels c.in_ok-guard.ensures.labels
+emit_vector-requires-clause-given c = label_given (program c.args.facts.now.kernel.now) _ _ _ _ _ c.in_ok-scalar.ensures.entry c.in_ok-scalar.ensures.emits.labels c.in_ok-place.ensures.labels c.in_ok-guard.ensures.labels
 
 pub finish-requires : goal.finish-requires
 finish-requires c =
@@ -45,13 +45,13 @@ finish-requires c =
       label = c.in_ok-vector.ensures.next;
       one = c.in_ok-vector.ensures.count;
       same = c.in_ok-vector.ensures.entries;
-      begun = c.in_ok-emit_begin.ensures.labels;
-      begin = c.in_ok-emit_begin.ensures.code;
+      begun = c.in_ok-emit_begin.ensures.emits.labels;
+      begin = c.in_ok-emit_begin.ensures.emits.code;
       branched = c.in_ok-branch.ensures.labels;
       branch = c.in_ok-branch.ensures.code;
       entry = c.in_ok-scalar.ensures.entry;
-      looped = c.in_ok-scalar.ensures.labels;
-      loop = c.in_ok-scalar.ensures.code;
+      looped = c.in_ok-scalar.ensures.emits.labels;
+      loop = c.in_ok-scalar.ensures.emits.code;
       placed = c.in_ok-place.ensures.labels;
       place = c.in_ok-place.ensures.code;
       guarded = c.in_ok-guard.ensures.labels;
@@ -71,13 +71,13 @@ drafts c = record {
   label = c.in_ok-vector.ensures.next;
   one = c.in_ok-vector.ensures.count;
   same = c.in_ok-vector.ensures.entries;
-  begun = c.in_ok-emit_begin.ensures.labels;
-  begin = c.in_ok-emit_begin.ensures.code;
+  begun = c.in_ok-emit_begin.ensures.emits.labels;
+  begin = c.in_ok-emit_begin.ensures.emits.code;
   branched = c.in_ok-branch.ensures.labels;
   branch = c.in_ok-branch.ensures.code;
   entry = c.in_ok-scalar.ensures.entry;
-  looped = c.in_ok-scalar.ensures.labels;
-  loop = c.in_ok-scalar.ensures.code;
+  looped = c.in_ok-scalar.ensures.emits.labels;
+  loop = c.in_ok-scalar.ensures.emits.code;
   placed = c.in_ok-place.ensures.labels;
   place = c.in_ok-place.ensures.code;
   guarded = c.in_ok-guard.ensures.labels;

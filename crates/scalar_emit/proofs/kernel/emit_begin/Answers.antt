@@ -4,19 +4,23 @@ use Rattle.kernel_tree.specs.Plain.{program_of}
 use Rattle.kernel_tree.specs.Items.{size_of}
 use Rattle.loop_form.specs.View.{program}
 use Rattle.scalar_words.specs.KernelRegisters.{register_in}
-use Rattle.scalar_emit.specs.Kernel.{begin_code}
+use Rattle.scalar_emit.specs.Kernel.{begin_labels, begin_code}
 use Rattle.scalar_emit.proofs.Counts.{begin_words, words_added}
 use Rattle.scalar_emit.proofs.kernel.emit_begin.Goals as goal
 
-pub returns-clause-code : goal.returns-clause-code
+pub returns-clause-emits : goal.returns-clause-emits
 unfolding program
-returns-clause-code c rest =
+returns-clause-emits c =
     let R = register_in c.args.regs.now in
-    c.in_ok-emit_before.ensures.code rest ∙ ap (λ (t : Kernel). c.args.draft.now.entries ++ begin_code R (program_of t) c.args.draft.now.labels rest) c.kernel-tree.ensures
+    let n = c.args.draft.now.labels in
+    record {
+      labels = c.in_ok-emit_before.ensures.labels ∙ ap (λ (t : Kernel). n + begin_labels (program_of t)) c.kernel-tree.ensures;
+      code = λ rest. c.in_ok-emit_before.ensures.code rest ∙ ap (λ (t : Kernel). c.args.draft.now.entries ++ begin_code R (program_of t) n rest) c.kernel-tree.ensures;
+    }
 
 pub returns-clause-words : goal.returns-clause-words
 returns-clause-words c =
     let k = program c.args.kernel.now in
     let R = register_in c.args.regs.now in
     let n = c.args.draft.now.labels in
-    words_added c.args.draft.now.entries c.emit_before.new.draft.entries (begin_code R k n []) (40 + 8 * size_of k) (returns-clause-code c []) (begin_words R k n [])
+    words_added c.args.draft.now.entries c.emit_before.new.draft.entries (begin_code R k n []) (40 + 8 * size_of k) ((returns-clause-emits c).code []) (begin_words R k n [])

@@ -1,4 +1,5 @@
-use Rattle.std.proofs.Common.{◌≡◌, ◌+◌, ◌++◌, List, Option, sym, ap, ap₂, ◌∙◌}
+use Rattle.std.proofs.lemmas.Grind.{common_steps}
+use Rattle.std.proofs.Common.{◌≡◌, ◌+◌, ◌++◌, List, Option, sym, ap, ap₂, ◌∙◌, arith}
 use Rattle.std.specs.Prelude.{option_map}
 use Rattle.kernel_tree.specs.declared.ast.Loop.{Loop}
 use Rattle.kernel_tree.specs.Plain.{turns_of, program_of}
@@ -10,24 +11,30 @@ use Rattle.scalar_emit.specs.Loosening.{after_loop}
 use Rattle.scalar_emit.proofs.Emission.{scalar_is, straight_is, held_is, bare_is}
 use Rattle.scalar_emit.proofs.kernel.emit_rest.Goals as goal
 
-pub returns-in_ok-emit_following-in-Some-clause-code : goal.returns-in_ok-emit_following-in-Some-clause-code
-returns-in_ok-emit_following-in-Some-clause-code c rest =
+pub returns-in_ok-emit_following-in-Some-clause-emits : goal.returns-in_ok-emit_following-in-Some-clause-emits
+returns-in_ok-emit_following-in-Some-clause-emits c =
     let k = program_of c.args.kernel.now in
     let R = register_in c.args.regs.now in
     let turns = ap (λ (o : Option Loop). option_map turns_of o) c.in-Some.is in
     let end : c.emit_turns.new.item ≡ loop_end k = c.in_ok-head-in-Some.ensures.item ∙ ap₂ (λ m n. m + n) c.requires.start (ap turns_size (sym turns)) in
     let held = held_is R k c.loosen_names.new.places c.hold_numbers.new.places c.args.places.now c.in_ok-loosen_names-in-Some.ensures c.in_ok-hold_numbers-in-Some.ensures c.requires.places in
     let left = bare_is R k c.loosen.new.self c.hold.new.self c.loosen_names.new.places _ _ c.loosen.ensures (c.in_ok-ahead-in-Some.ensures ∙ ap after_loop c.loose.ensures) c.hold.ensures (ap constants_of c.new.ensures.items) held in
-    c.in_ok-emit_following-in-Some.ensures.code rest
-    ∙ c.in_ok-head-in-Some.ensures.code _
-    ∙ ap (λ (es : List Entry). c.args.draft.now.entries ++ es)
-    (scalar_is R k c.loosen_names.new.places c.loosen.new.self (turns_of c.in-Some.turns) c.args.item c.args.draft.now.labels c.emit_turns.new.item c.emit_turns.new.draft.labels rest held left turns c.requires.start end c.in_ok-head-in-Some.ensures.labels)
+    record {
+      labels = grind (arith, common_steps);
+      code = λ rest. c.in_ok-emit_following-in-Some.ensures.code rest
+          ∙ c.in_ok-head-in-Some.ensures.emits.code _
+          ∙ ap (λ (es : List Entry). c.args.draft.now.entries ++ es)
+          (scalar_is R k c.loosen_names.new.places c.loosen.new.self (turns_of c.in-Some.turns) c.args.item c.args.draft.now.labels c.emit_turns.new.item c.emit_turns.new.draft.labels rest held left turns c.requires.start end c.in_ok-head-in-Some.ensures.emits.labels);
+    }
 
-pub returns-in_ok-head-in-None-clause-code : goal.returns-in_ok-head-in-None-clause-code
-returns-in_ok-head-in-None-clause-code c rest =
+pub returns-in_ok-head-in-None-clause-emits : goal.returns-in_ok-head-in-None-clause-emits
+returns-in_ok-head-in-None-clause-emits c =
     let k = program_of c.args.kernel.now in
     let R = register_in c.args.regs.now in
     let turns = ap (λ (o : Option Loop). option_map turns_of o) c.in-None.is in
-    c.in_ok-head-in-None.ensures.code rest
-    ∙ ap (λ (es : List Entry). c.args.draft.now.entries ++ es)
-    (straight_is R k c.args.places.now c.args.item c.args.draft.now.labels rest c.requires.places turns c.requires.start)
+    record {
+      labels = grind (arith, common_steps);
+      code = λ rest. c.in_ok-head-in-None.ensures.code rest
+          ∙ ap (λ (es : List Entry). c.args.draft.now.entries ++ es)
+          (straight_is R k c.args.places.now c.args.item c.args.draft.now.labels rest c.requires.places turns c.requires.start);
+    }

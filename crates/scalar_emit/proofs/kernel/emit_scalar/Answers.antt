@@ -5,7 +5,7 @@ use Rattle.kernel_tree.specs.Plain.{accumulators_of, program_of}
 use Rattle.kernel_tree.specs.Items.{loop_index, vars_size, size_of}
 use Rattle.loop_form.specs.View.{program}
 use Rattle.scalar_words.specs.KernelRegisters.{register_in}
-use Rattle.scalar_emit.specs.Kernel.{scalar_code}
+use Rattle.scalar_emit.specs.Kernel.{scalar_labels, scalar_code}
 use Rattle.scalar_emit.proofs.Counts.{scalar_words, words_added}
 use Rattle.scalar_words.proofs.Layouts.{count_params}
 use Rattle.scalar_emit.proofs.kernel.emit_scalar.Goals as goal
@@ -19,15 +19,19 @@ emit_rest-requires-clause-start c =
     let vars = c.vars_size_of.ensures ∙ ap₂ (λ (t : Kernel) (vs : List Var). vars_size (loop_index (program_of t)) (accumulators_of vs)) (sym c.kernel-tree.ensures) c.deref.ensures.value in
     ap₂ (λ m n. m + n) params vars
 
-pub returns-clause-code : goal.returns-clause-code
+pub returns-clause-emits : goal.returns-clause-emits
 unfolding program
-returns-clause-code c rest =
+returns-clause-emits c =
     let R = register_in c.args.regs.now in
-    c.in_ok-at_iteration.ensures.code rest ∙ ap (λ (t : Kernel). c.args.draft.now.entries ++ scalar_code R (program_of t) c.args.draft.now.labels rest) c.kernel-tree.ensures
+    let n = c.args.draft.now.labels in
+    record {
+      labels = c.in_ok-at_iteration.ensures.emits.labels ∙ ap (λ (t : Kernel). n + scalar_labels (program_of t)) c.kernel-tree.ensures;
+      code = λ rest. c.in_ok-at_iteration.ensures.emits.code rest ∙ ap (λ (t : Kernel). c.args.draft.now.entries ++ scalar_code R (program_of t) n rest) c.kernel-tree.ensures;
+    }
 
 pub returns-clause-words : goal.returns-clause-words
 returns-clause-words c =
     let k = program c.args.kernel.now in
     let R = register_in c.args.regs.now in
     let n = c.args.draft.now.labels in
-    words_added c.args.draft.now.entries c.emit_rest.new.draft.entries (scalar_code R k n []) (64 + 16 * size_of k) (returns-clause-code c []) (scalar_words R k n [])
+    words_added c.args.draft.now.entries c.emit_rest.new.draft.entries (scalar_code R k n []) (64 + 16 * size_of k) ((returns-clause-emits c).code []) (scalar_words R k n [])
