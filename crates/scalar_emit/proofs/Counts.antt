@@ -12,7 +12,7 @@ use Rattle.scalar_values.specs.Extents.{extent_at}
 use Rattle.scalar_values.specs.declared.extent.Extent.TheVariants.{Whole}
 use Rattle.label_fix.specs.DraftRun.{Entry}
 use Rattle.label_fix.specs.Finished.{size}
-use Rattle.scalar_words.specs.Layout.{Form, Loose, loose_in, Layout, Homes, last_use_at, register_at}
+use Rattle.scalar_words.specs.Layout.{Form, LowBits, Ahead, Behind, Loose, loose_in, Layout, Homes, last_use_at, register_at}
 use Rattle.scalar_values.specs.ValueRegisters.{home}
 use Rattle.scalar_words.specs.Words.{copy_word, settle_word, word_code}
 use Rattle.scalar_values.specs.ItemWords.{index_word, store_code}
@@ -117,7 +117,9 @@ settle_words r hs (l ∷ ls) rest k h = within (omega arith) (one_word (settle_f
 
 back_words : (f : Option Form) (r n : ℕ) (rest : List Entry) (k : ℕ) → size rest ≤ k → size (back_code f r n rest) ≤ 2 + k
 back_words None r n rest k h = omega (arith, h)
-back_words other r n rest k h = omega (arith, h)
+back_words (Some (LowBits t)) r n rest k h = omega (arith, h)
+back_words (Some (Ahead t)) r n rest k h = omega (arith, h)
+back_words (Some Behind) r n rest k h = omega (arith, h)
 
 loop_words : (L : Layout) (hs : Homes) (s : Scope) (t : PlainLoop) (b n b2 : ℕ) (o : Option Returned) (rest : List Entry) (k : ℕ) → size rest ≤ k → size (loop_code L hs s t b n b2 o rest) ≤ 4 * (1 + block_size s.index t.body) + 4 * answer_size s.index o + 4 + (2 * length L.loose + loading_words L.constants) + k
 loop_words L hs s t b n b2 o rest k h =

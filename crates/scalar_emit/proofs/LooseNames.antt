@@ -239,7 +239,9 @@ index_after hs s p x (l ∷ ls) known h = kept_step l.form s l (after_loop ls) x
 -- what stands in X9 at an iteration
 abbrev pub standing_at : Option Form → (count i : ℕ) → ℤ
 standing_at (Some Behind) count i = pos i -ℤ pos count
-standing_at other count i = pos i
+standing_at None count i = pos i
+standing_at (Some (LowBits t)) count i = pos i
+standing_at (Some (Ahead t)) count i = pos i
 
 pub standing_tells : (f : Option Form) (c i : ℕ) → IsCounted f → Tells c f (standing_at f c i) (pos i)
 standing_tells None c i h = refl
@@ -255,14 +257,24 @@ tells_standing (Some Behind) c i u h e = e
 
 pub standing_next : (f : Option Form) (c i : ℕ) → standing_at f c (i + 1) ≡ standing_at f c i +ℤ pos 1
 standing_next None c i = omega (arith, ints)
-standing_next other c i = omega (arith, ints)
+standing_next (Some (LowBits t)) c i = omega (arith, ints)
+standing_next (Some (Ahead t)) c i = omega (arith, ints)
+standing_next (Some Behind) c i = omega (arith, ints)
 
 -- ---- names before and after a loop
 
 tells_still : (o : Option Form) (v : ℤ) → Tells 0 o v v
 tells_still None v = refl
 tells_still (Some (LowBits t)) v = refl
-tells_still other v = omega (arith, ints)
+tells_still (Some (Ahead ty.I8)) v = omega (arith, ints)
+tells_still (Some (Ahead ty.U8)) v = omega (arith, ints)
+tells_still (Some (Ahead ty.I16)) v = omega (arith, ints)
+tells_still (Some (Ahead ty.U16)) v = omega (arith, ints)
+tells_still (Some (Ahead ty.I32)) v = omega (arith, ints)
+tells_still (Some (Ahead ty.U32)) v = omega (arith, ints)
+tells_still (Some (Ahead ty.I64)) v = omega (arith, ints)
+tells_still (Some (Ahead ty.U64)) v = omega (arith, ints)
+tells_still (Some Behind) v = omega (arith, ints)
 
 -- nothing has moved in a loop of no iterations
 pub told_still : (ls : List Loose) (ns : Names) → Told ls 0 ns ns
@@ -333,7 +345,8 @@ back_words (Some Behind) = 1
 
 form_sum : (f : Form) → entering_words f + settling_words f ≡ form_words f + 2 * behind_words f
 form_sum (LowBits t) = refl
-form_sum other = refl
+form_sum (Ahead t) = refl
+form_sum Behind = refl
 
 all_sum : (ls : List Loose) → all_entering ls + all_settling ls ≡ moving_words ls + 2 * all_behind ls
 all_sum [] = refl
@@ -356,7 +369,9 @@ all_saved hs s p x (l ∷ ls) at h = saved_step (is_loose x l) s l ls x refl at 
 
 back_few : (f : Option Form) → 2 * saved_words f + back_words f ≤ 3
 back_few None = omega arith
-back_few other = omega arith
+back_few (Some (LowBits t)) = omega arith
+back_few (Some (Ahead t)) = omega arith
+back_few (Some Behind) = omega arith
 
 -- what goes before and after the iterations, with the end of one of them
 pub moving_few : (hs : Homes) (s : Scope) (p : ℕ) (x : List ℕ) (ls : List Loose) → s.index ≡ Some x → AreHeldLoosely hs s p ls → all_entering ls + all_settling ls + back_words (loose_in ls x) ≤ moving_words ls + 3

@@ -33,8 +33,8 @@ returns-in_ok-head-in-None-clause-emits c =
     let R = register_in c.args.regs.now in
     let turns = ap (λ (o : Option Loop). option_map turns_of o) c.in-None.is in
     record {
-      labels = grind (arith, common_steps);
-      code = λ rest. c.in_ok-head-in-None.ensures.code rest
+      labels = c.in_ok-head-in-None.ensures.emits.labels;
+      code = λ rest. c.in_ok-head-in-None.ensures.emits.code rest
           ∙ ap (λ (es : List Entry). c.args.draft.now.entries ++ es)
           (straight_is R k c.args.places.now c.args.item c.args.draft.now.labels rest c.requires.places turns c.requires.start);
     }
